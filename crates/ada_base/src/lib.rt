@@ -1,0 +1,11 @@
+//! What the whole compiler speaks of: places in a text, the reasons of exceptions, and the operations
+//! on integers.
+#![tactic(auto)]
+
+pub mod operation;
+pub mod place;
+pub mod reason;
+
+pub use operation::{Base, Op};
+pub use place::Place;
+pub use reason::Reason;
