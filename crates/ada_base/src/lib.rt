@@ -5,7 +5,9 @@
 pub mod operation;
 pub mod place;
 pub mod reason;
+pub mod token;
 
 pub use operation::{Base, Op};
 pub use place::Place;
 pub use reason::Reason;
+pub use token::{Kind, Span, Token};
