@@ -1,13 +1,6 @@
-// A library with one function.
+//! What programs mean. So far: the texts of the first form, and the run of one.
 #![tactic(auto)]
 
-ghost use Rattle.std.specs.Prelude.{◌≡◌};
-ghost use Rattle.ada_meaning.specs.Echo.{echo_of};
+pub mod first_form;
 
-// The `ensures` clause is the contract: what `echo` returns is `echo_of` of its argument, a definition
-// in `specs/Echo.antt`, which a caller's clause can cite too.
-pub fn echo(x: usize) -> usize
-    ensures { result ≡ echo_of x }
-{
-    x
-}
+pub use first_form::{Declaration, Expression, FirstForm, Letter, Operand, Statement, Variable};

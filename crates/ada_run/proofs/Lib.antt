@@ -1,0 +1,4 @@
+pub mod Digits
+pub mod Exact
+pub mod Joining
+pub mod Pieces

@@ -1,0 +1,20 @@
+-- The answers of compile.
+use Rattle.std.specs.Prelude.{◌≡◌, ℕ, List, Option, None, ⊤}
+use Rattle.ada_base.specs.declared.place.Place.{Place}
+use Rattle.ada_meaning.specs.Accepted.{Fault, NotBuilt, UnknownName, IsFaultOf}
+use Rattle.ada_run.specs.declared.compile.Refusal.{Refusal}
+use Rattle.ada_run.specs.declared.compile.Refusal.TheVariants.{Refused, OutOfMemory}
+
+-- the first place of a text
+abbrev pub beginning : Place
+beginning = record { line = 1; column = 1 }
+
+-- the code and the note of a fault, each at the beginning of the text so far
+abbrev pub refusal_of : Fault → Refusal
+refusal_of NotBuilt = Refused 13 beginning None 19
+refusal_of UnknownName = Refused 5 beginning None 5
+
+-- a refusal of the text: that of its fault, or want of memory
+abbrev pub IsRefusalOf : List ℕ → Refusal → Type 0
+IsRefusalOf text OutOfMemory = ⊤
+IsRefusalOf text (Refused code at other note) = (fault : Fault) × IsFaultOf text fault × (Refused code at other note ≡ refusal_of fault)
