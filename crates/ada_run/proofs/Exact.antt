@@ -1,6 +1,7 @@
 -- Reading is exact: what is read is spelled so, and what is spelled so is read, up to the whole text.
 use Rattle.std.proofs.Common.{◌≡◌, ◌≢◌, ◌⊎◌, ℕ, zero, suc, ◌+◌, ◌-◌, ◌<◌, ◌≤◌, Bool, true, false, cond, ◌&&◌, eqb, leb, List, [], ◌∷◌, ◌++◌, length, Option, Some, None, refl, sym, ap, ◌∙◌, subst, inl, inr, append_assoc, arith, length-append}
-use Rattle.std.specs.Prelude.{codes}
+use Rattle.std.specs.Prelude.{codes, bytes_eq}
+use Rattle.std.proofs.lemmas.Slice.Eq.{bytes_eq-Decides}
 use Rattle.std.proofs.lemmas.Bool.{and_parts, eqb-true, leb-true, lt-leb}
 use Rattle.std.specs.List.{list_all}
 use Rattle.std.specs.Char.{is_ascii_digit}
@@ -15,7 +16,7 @@ use Rattle.ada_meaning.specs.declared.first_form.Expression.{Expression}
 use Rattle.ada_meaning.specs.declared.first_form.Expression.TheVariants.{Alone, Sum, Difference}
 use Rattle.ada_meaning.specs.declared.first_form.Statement.{Statement}
 use Rattle.ada_meaning.specs.declared.first_form.Statement.TheVariants.{Assign, Print}
-use Rattle.ada_run.specs.Reading.{◌>>=◌, choose, after, letter_at, numeral_at, operand_at, expression_at, print_at, assignment_at, statement_at, declaration_at, joined_at, program_at}
+use Rattle.ada_run.specs.Reading.{◌>>=◌, choose, after, letter_at, numeral_at, operand_at, expression_at, print_at, assignment_at, statement_at, declaration_at, joined_at, line_at, program_at}
 use Rattle.ada_run.proofs.Pieces.{some_is, IsFront, then, Took, bind_some, choose_some, cond_some, after_takes, after_again, after_other, letter_takes, letter_again, Stops, numeral_takes, numeral_again}
 
 -- ---- declarations
@@ -226,48 +227,48 @@ joined_few IsItem (x ∷ y ∷ ys) front (first, back, spelled, is, joined) =
 
 -- ---- the whole text
 
-none_left : (rest : List ℕ) → eqb (length rest) 0 ≡ true → rest ≡ []
-none_left [] e = refl
-none_left (b ∷ rest) e = absurd (let same = eqb-true (length (b ∷ rest)) 0 e in omega arith)
+line_takes : {A : Type 0} (IsItem : List ℕ → A → Type 0) (item : List ℕ → Option (A × List ℕ)) → ((bytes : List ℕ) (x : A) (rest : List ℕ) → item bytes ≡ Some (x, rest) → Took IsItem bytes (x, rest)) → (before bytes : List ℕ) (xs : List A) (rest : List ℕ) → line_at before item bytes ≡ Some (xs, rest) → (line : List ℕ) × IsFront bytes (before ++ line) rest × AreJoined IsItem line xs
+unfolding line_at
+line_takes IsItem item item_takes before bytes xs rest e =
+    let a = bind_some (after before bytes) _ (xs, rest) e in
+    let joined = joined_takes IsItem item item_takes (length a.0) a.0 xs rest a.2 in
+    (joined.0, then (after_takes before bytes a.0 a.1) joined.1, joined.2)
+
+line_again : {A : Type 0} (IsItem : List ℕ → A → Type 0) (item : List ℕ → Option (A × List ℕ)) → ((front : List ℕ) (x : A) (rest : List ℕ) → IsItem front x → item (front ++ rest) ≡ Some (x, rest)) → (before line : List ℕ) (xs : List A) (rest : List ℕ) → AreJoined IsItem line xs → line_at before item (before ++ (line ++ 10 ∷ rest)) ≡ Some (xs, 10 ∷ rest)
+unfolding line_at
+line_again IsItem item item_again before line xs rest joined =
+    let few : length xs ≤ length (line ++ 10 ∷ rest) = omega (arith, joined_few IsItem xs line joined, length-append line (10 ∷ rest)) in
+    rw (after_again before (line ++ 10 ∷ rest)) (joined_again IsItem item item_again (length (line ++ 10 ∷ rest)) xs line (10 ∷ rest) joined (after_other 32 [] 10 rest refl) few)
 
 pub program_takes : (text : List ℕ) (p : Program) → program_at text ≡ Some p → IsFirstForm text p
 unfolding program_at
 program_takes text p e =
-    let a = bind_some (after opening text) _ p e in
-    let ds = bind_some (joined_at (length a.0) declaration_at a.0) _ p a.2 in
-    let m = bind_some (after middle ds.0.1) _ p ds.2 in
-    let ss = bind_some (joined_at (length m.0) statement_at m.0) _ p m.2 in
-    let z = bind_some (after closing ss.0.1) _ p ss.2 in
-    let whole = cond_some (eqb (length z.0) 0 && are_distinct ds.0.0) (record { declarations = ds.0.0; statements = ss.0.0 }) p z.2 in
-    let tests = and_parts (eqb (length z.0) 0) (are_distinct ds.0.0) whole.0 in
-    let opened = after_takes opening text a.0 a.1 in
-    let declared = joined_takes IsDeclaration declaration_at declaration_takes (length a.0) a.0 ds.0.0 ds.0.1 ds.1 in
-    let begun = after_takes middle ds.0.1 m.0 m.1 in
-    let stated = joined_takes IsStatement statement_at statement_takes (length m.0) m.0 ss.0.0 ss.0.1 ss.1 in
-    let closed = after_takes closing ss.0.1 z.0 z.1 in
-    let all : IsFront text (opening ++ (declared.0 ++ (middle ++ (stated.0 ++ closing)))) z.0 = then opened (then declared.1 (then begun (then stated.1 closed))) in
+    let ds = bind_some (line_at opening declaration_at text) _ p e in
+    let ss = bind_some (line_at middle statement_at ds.0.1) _ p ds.2 in
+    let whole = cond_some (bytes_eq ss.0.1 closing && are_distinct ds.0.0) (record { declarations = ds.0.0; statements = ss.0.0 }) p ss.2 in
+    let tests = and_parts (bytes_eq ss.0.1 closing) (are_distinct ds.0.0) whole.0 in
+    let closed : ss.0.1 ≡ closing = (bytes_eq-Decides ss.0.1 closing).0 tests.0 in
+    let declared = line_takes IsDeclaration declaration_at declaration_takes opening text ds.0.0 ds.0.1 ds.1 in
+    let stated = line_takes IsStatement statement_at statement_takes middle ds.0.1 ss.0.0 ss.0.1 ss.1 in
     subst (IsFirstForm text) whole.1 (record {
       declared = declared.0;
       stated = stated.0;
-      lines = all.whole ∙ ap (λ (r : List ℕ). (opening ++ (declared.0 ++ (middle ++ (stated.0 ++ closing)))) ++ r) (none_left z.0 tests.0) ∙ append-nil (opening ++ (declared.0 ++ (middle ++ (stated.0 ++ closing))));
+      lines = lines text declared.0 ds.0.1 stated.0 ss.0.1 declared.1 stated.1 closed;
       declarations = declared.2;
       statements = stated.2;
       distinct = tests.1;
-    })
-
-closing_again : after closing closing ≡ Some []
-closing_again = subst (λ (bytes : List ℕ). after closing bytes ≡ Some []) (append-nil closing) (after_again closing [])
+    }) where
+  lines : (text declared behind stated rest : List ℕ) → IsFront text (opening ++ declared) behind → IsFront behind (middle ++ stated) rest → rest ≡ closing → text ≡ opening ++ (declared ++ (middle ++ (stated ++ closing)))
+  lines text declared behind stated rest first second closed = first.whole ∙ rw (second.whole, closed) (simp append_assoc)
 
 pub program_again : (text : List ℕ) (p : Program) → IsFirstForm text p → program_at text ≡ Some p
 unfolding program_at
 program_again text p form =
-    let ds = form.declared in
-    let ss = form.stated in
-    let after_ds : List ℕ = middle ++ (ss ++ closing) in
-    let few_ds : length p.declarations ≤ length (ds ++ after_ds) = omega (arith, joined_few IsDeclaration p.declarations ds form.declarations, length-append ds after_ds) in
-    let few_ss : length p.statements ≤ length (ss ++ closing) = omega (arith, joined_few IsStatement p.statements ss form.statements, length-append ss closing) in
-    rw (form.lines, after_again opening (ds ++ after_ds),
-      joined_again IsDeclaration declaration_at declaration_again (length (ds ++ after_ds)) p.declarations ds after_ds form.declarations (after_other 32 [] 10 _ refl) few_ds,
-      after_again middle (ss ++ closing),
-      joined_again IsStatement statement_at statement_again (length (ss ++ closing)) p.statements ss closing form.statements (after_other 32 [] 10 _ refl) few_ss,
-      closing_again, form.distinct) refl
+    rw (form.lines, line_again IsDeclaration declaration_at declaration_again opening form.declared p.declarations _ form.declarations,
+      line_again IsStatement statement_at statement_again middle form.stated p.statements _ form.statements,
+      form.distinct) refl
+
+-- the program of the parts
+pub assembled : (text : List ℕ) (ds : List Declaration) (behind : List ℕ) (ss : List Statement) (rest : List ℕ) (p : Program) → line_at opening declaration_at text ≡ Some (ds, behind) → line_at middle statement_at behind ≡ Some (ss, rest) → bytes_eq rest closing ≡ true → are_distinct ds ≡ true → p.declarations ≡ ds → p.statements ≡ ss → program_at text ≡ Some p
+unfolding program_at
+assembled text ds behind ss rest p declared stated closed distinct ds-is ss-is = rw (declared, stated, closed, distinct, ← ds-is, ← ss-is) refl

@@ -2,3 +2,4 @@ pub mod Digits
 pub mod Exact
 pub mod Joining
 pub mod Pieces
+pub mod Verdicts

@@ -2,8 +2,8 @@
 use Rattle.std.specs.Prelude.{◌≡◌, ℕ, List, Option, None, ⊤}
 use Rattle.ada_base.specs.declared.place.Place.{Place}
 use Rattle.ada_meaning.specs.Accepted.{Fault, NotBuilt, UnknownName, IsFaultOf}
-use Rattle.ada_run.specs.declared.compile.Refusal.{Refusal}
-use Rattle.ada_run.specs.declared.compile.Refusal.TheVariants.{Refused, OutOfMemory}
+use Rattle.ada_run.specs.declared.compiler.Refusal.{Refusal}
+use Rattle.ada_run.specs.declared.compiler.Refusal.TheVariants.{Refused, OutOfMemory}
 
 -- the first place of a text
 abbrev pub beginning : Place

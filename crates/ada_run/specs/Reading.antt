@@ -1,6 +1,6 @@
 -- Reading a program of the first form from left to right. Each reader gives what it read and the bytes behind
 -- it, or nothing.
-use Rattle.std.specs.Prelude.{◌≡◌, ℕ, zero, suc, List, [], ◌∷◌, ◌++◌, length, drop, codes, Option, Some, None, Result, Ok, Err, Bool, true, ◌&&◌, nat_le, nat_lt, nat_eq, ◌==◌, take, if◌then◌else◌, ⊤}
+use Rattle.std.specs.Prelude.{◌≡◌, ℕ, zero, suc, List, [], ◌∷◌, ◌++◌, length, drop, codes, Option, Some, None, Result, Ok, Err, Bool, true, ◌&&◌, nat_le, nat_lt, nat_eq, bytes_eq, take, if◌then◌else◌, ⊤}
 use Rattle.std.specs.List.{starts_with, prefix_len}
 use Rattle.std.specs.Char.{is_ascii_digit}
 use Rattle.ada_meaning.specs.Program.{Program}
@@ -14,8 +14,8 @@ use Rattle.ada_meaning.specs.declared.first_form.Expression.TheVariants.{Alone, 
 use Rattle.ada_meaning.specs.declared.first_form.Statement.{Statement}
 use Rattle.ada_meaning.specs.declared.first_form.Statement.TheVariants.{Assign, Print}
 
-use Rattle.ada_run.specs.declared.compile.Unread.{Unread}
-use Rattle.ada_run.specs.declared.compile.Unread.TheVariants.{OtherForm, OutOfMemory}
+use Rattle.ada_run.specs.declared.compiler.Unread.{Unread}
+use Rattle.ada_run.specs.declared.compiler.Unread.TheVariants.{OtherForm, OutOfMemory}
 
 infixl 10 ◌>>=◌
 abbrev pub ◌>>=◌ : {A B : Type 0} → Option A → (A → Option B) → Option B
@@ -87,11 +87,11 @@ joined_at (suc n) item bytes = item bytes >>= λ x.
     choose (after (codes " ") x.1) (λ rest. joined_at n item rest >>= λ others. Some (x.0 ∷ others.0, others.1))
     (Some (x.0 ∷ [], x.1))
 
+-- items behind a fixed text
+unfoldable pub line_at : {A : Type 0} → List ℕ → (List ℕ → Option (A × List ℕ)) → List ℕ → Option (List A × List ℕ)
+line_at before item bytes = after before bytes >>= λ rest. joined_at (length rest) item rest
+
 -- the whole text
 unfoldable pub program_at : List ℕ → Option Program
-program_at text = after opening text >>= λ declared.
-    joined_at (length declared) declaration_at declared >>= λ ds.
-    after middle ds.1 >>= λ stated.
-    joined_at (length stated) statement_at stated >>= λ ss.
-    after closing ss.1 >>= λ rest.
-    if length rest == 0 && are_distinct ds.0 then Some (record { declarations = ds.0; statements = ss.0 }) else None
+program_at text = line_at opening declaration_at text >>= λ ds. line_at middle statement_at ds.1 >>= λ ss.
+    if bytes_eq ss.1 closing && are_distinct ds.0 then Some (record { declarations = ds.0; statements = ss.0 }) else None

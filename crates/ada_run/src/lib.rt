@@ -1,5 +1,7 @@
 //! From a text to its run.
 #![tactic(auto)]
 
-mod compile;
+mod compiler;
 mod reading;
+
+pub use compiler::{Refusal, Unit, compile};

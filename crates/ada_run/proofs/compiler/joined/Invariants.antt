@@ -1,7 +1,7 @@
 use Rattle.std.proofs.Common.{◌≡◌, ◌-◌, length}
 use Rattle.ada_run.specs.Reading.{joined_at}
 use Rattle.ada_run.proofs.Joining.{with_front}
-use Rattle.ada_run.proofs.compile.joined.Given as goal
+use Rattle.ada_run.proofs.compiler.joined.Given as goal
 
 -- the items so far and those that are still read are those of all the bytes
 abbrev pub invariant-loop-item : goal.invariant-loop-item

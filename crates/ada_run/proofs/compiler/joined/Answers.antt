@@ -1,7 +1,7 @@
 use Rattle.std.proofs.Common.{◌≡◌, ◌-◌, length, sym, ◌∙◌, arith, Some, None}
 use Rattle.ada_run.specs.Reading.{joined_at, after}
 use Rattle.ada_run.proofs.Joining.{with_front, goes_on, ends, lacks, stops}
-use Rattle.ada_run.proofs.compile.joined.Goals as goal
+use Rattle.ada_run.proofs.compiler.joined.Goals as goal
 
 pub returns-in_default : goal.returns-in_default
 returns-in_default g c =

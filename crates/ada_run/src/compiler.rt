@@ -1,10 +1,12 @@
-ghost use Rattle.std.specs.Prelude.{◌≡◌, ℕ, List, Option, IfOk, IfErr, length};
-ghost use Rattle.ada_meaning.specs.Program.{declares, operand_declared, expression_declared, statement_declared, AreDeclared};
+ghost use Rattle.std.specs.Prelude.{◌≡◌, ℕ, List, Option, None, IfOk, IfErr, length};
+ghost use Rattle.std.specs.List.{list_all};
+ghost use Rattle.ada_meaning.specs.Program.{declares, operand_declared, expression_declared, statement_declared};
 ghost use Rattle.ada_meaning.specs.FirstForm.{are_distinct};
 ghost use Rattle.ada_meaning.specs.Accepted.{IsAccepted};
-ghost use Rattle.ada_run.specs.Reading.{Finds, Gives, declaration_at, statement_at, joined_at, program_at};
-ghost use Rattle.ada_run.specs.Compile.{IsRefusalOf};
-ghost use Rattle.ada_run.specs.declared.compile.Unread.TheVariants as unread;
+ghost use Rattle.ada_run.specs.Reading.{Finds, Gives, declaration_at, statement_at, joined_at, line_at, program_at};
+ghost use Rattle.ada_run.specs.Compile.{IsRefusalOf, beginning};
+ghost use Rattle.ada_run.specs.declared.compiler.Refusal.TheVariants.{Refused};
+ghost use Rattle.ada_run.specs.declared.compiler.Unread.TheVariants as unread;
 
 use crate::reading;
 use ada_base::Place;
@@ -137,4 +139,80 @@ fn has_distinct_names(declarations: &[Declaration]) -> bool
         rest = others;
     }
     true
+}
+
+/// The items behind a fixed text.
+#[tactic(auto, unfolding(crate::specs::Reading::line_at))]
+fn line<'a, T: Item>(
+    alloc: Global,
+    before: &[u8],
+    bytes: &'a [u8],
+) -> Result<(Vec<T>, &'a [u8]), Unread>
+    ensures { Gives (λ x. (x.0.items, x.1.now)) result (line_at before.now T.reading bytes.now) }
+{
+    match reading::rest_after(bytes, before) {
+        Some(rest) => joined(alloc, rest),
+        None => Err(Unread::OtherForm),
+    }
+}
+
+const OPENING: &[u8] = b"with Ada.Text_IO; use Ada.Text_IO;\nprocedure Main is\n";
+const MIDDLE: &[u8] = b"\nbegin\n";
+const CLOSING: &[u8] = b"\nend Main;\n";
+
+/// The program that a text of the first form is.
+#[tactic(auto, unfolding(crate::specs::Reading::program_at))]
+fn first_form(alloc: Global, text: &[u8]) -> Result<FirstForm, Unread>
+    ensures { Gives (λ program. program) result (program_at text.now) }
+{
+    let (declarations, behind) = line(alloc, OPENING, text)?;
+    let (statements, behind) = line(alloc, MIDDLE, behind)?;
+    if behind != CLOSING || !has_distinct_names(&declarations) {
+        return Err(Unread::OtherForm);
+    }
+    Ok(FirstForm::new(declarations, statements))
+}
+
+/// Whether each letter that a program uses is declared.
+fn is_program_declared(program: &FirstForm) -> bool
+    ensures { result ≡ list_all (statement_declared program.now.declarations) program.now.statements }
+{
+    let declarations = program.declarations();
+    program
+        .statements()
+        .iter()
+        .all(|s| is_statement_declared(declarations, *s))
+}
+
+const BEGINNING: Place = Place { line: 1, column: 1 };
+
+/// Compiles a text. A text that isn't accepted is refused: with `E13 not built yet` where it isn't of
+/// the first form, and else with `E05 unknown name` where it uses a letter that isn't declared, both at
+/// the text's beginning.
+pub fn compile(alloc: Global, text: &[u8]) -> Result<Unit, Refusal>
+    ensures accepted { IfOk result (λ unit. IsAccepted text.now unit.program) }
+    ensures refused { IfErr result (IsRefusalOf text.now) }
+{
+    match first_form(alloc, text) {
+        Ok(program) => {
+            if is_program_declared(&program) {
+                Ok(Unit { program })
+            } else {
+                Err(refused(5, 5))
+            }
+        }
+        Err(Unread::OtherForm) => Err(refused(13, 19)),
+        Err(Unread::OutOfMemory) => Err(Refusal::OutOfMemory),
+    }
+}
+
+fn refused(code: u8, note: u8) -> Refusal
+    ensures { result ≡ Refused code beginning None note }
+{
+    Refusal::Refused {
+        code,
+        at: BEGINNING,
+        other: None,
+        note,
+    }
 }
