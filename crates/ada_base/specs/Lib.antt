@@ -1,2 +1,3 @@
+pub mod Division
 pub mod Image
 pub mod Operation

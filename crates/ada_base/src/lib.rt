@@ -7,7 +7,7 @@ pub mod place;
 pub mod reason;
 pub mod token;
 
-pub use operation::{Base, Op};
+pub use operation::{Base, Op, apply, division_law};
 pub use place::Place;
 pub use reason::Reason;
 pub use token::{Kind, Span, Token};

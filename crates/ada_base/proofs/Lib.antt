@@ -1,0 +1,3 @@
+pub mod Divisions
+pub mod Powers
+pub mod Ranges
