@@ -1,5 +1,5 @@
 -- What is held grows by one piece after another.
-use Rattle.std.proofs.Common.{ℕ, List, [], ◌++◌, append_assoc, refl, sym, ap, ◌∙◌}
+use Rattle.std.proofs.Common.{◌≡◌, ℕ, List, [], ◌++◌, append_assoc, refl, sym, ap, ◌∙◌}
 use Rattle.std.proofs.lemmas.List.{append-nil}
 use Rattle.std.specs.Prelude.{Option, Some}
 use Rattle.ada_port.specs.Ports.{Grows, GrowsByPrefix}
@@ -32,3 +32,8 @@ GrowsByPrefix-longer q g =
           let k = g.told held e in
           (k.0, k.1 ++ q, ap (λ x. x ++ q) k.2 ∙ append_assoc k.0 k.1 q, k.3);
     }
+
+-- what is held has grown by the front of a piece
+pub GrowsByPrefix-front : {held piece new : List ℕ} (front back : List ℕ) → piece ≡ front ++ back → new ≡ held ++ front → GrowsByPrefix (Some held) (Some new) piece
+GrowsByPrefix-front {held} front back parts grown =
+    record { told = λ told e. (front, back, parts, ap Some (grown ∙ ap (λ x. x ++ front) cc)) }

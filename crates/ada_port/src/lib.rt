@@ -3,18 +3,18 @@
 #![tactic(auto)]
 
 mod counts;
-//pub mod files;
+pub mod files;
 pub mod ports;
 pub mod pulses;
 pub mod shelves;
 pub mod sinks;
 pub mod sources;
-//pub mod streams;
+pub mod streams;
 
-//pub use files::FileShelf;
+pub use files::FileShelf;
 pub use ports::{Failed, Pulse, Shelf, ShelfFault, Sink, Source};
 pub use pulses::Quiet;
 pub use shelves::{MemShelf, ShelfText, SureShelf};
 pub use sinks::{MemSink, SinkFail, SureSink};
 pub use sources::SureSource;
-//pub use streams::{ErrSink, StdSink};
+pub use streams::{ErrSink, StdSink};

@@ -1,7 +1,7 @@
 ghost use Rattle.std.specs.Prelude.{◌≡◌, ℕ, List, Option, IfOk, IfSome};
 ghost use Rattle.ada_port.specs.Ports.{Counts, CountsFetch, Puts, Takes, fetched};
 
-use std::alloc::Global;
+use std::alloc::{AllocError, Global};
 use thiserror::Error;
 
 /// A source could not be asked, or a sink could not take a piece.
@@ -16,6 +16,16 @@ pub enum ShelfFault {
     Failed,
     #[error("out of memory")]
     OutOfMemory,
+}
+
+impl From<AllocError> for ShelfFault {
+    ghost use Rattle.ada_port.specs.declared.ports.ShelfFault.TheVariants.{OutOfMemory};
+
+    ghost from_gives = { λ _ fault. fault ≡ OutOfMemory };
+
+    fn from(_: AllocError) -> ShelfFault {
+        ShelfFault::OutOfMemory
+    }
 }
 
 /// Where texts are fetched by their names.

@@ -1,4 +1,5 @@
-ghost use Rattle.std.specs.Prelude.{◌≡◌, ◌↔◌, ℕ, List, IfOk, IfErr, IfSome, IsTrue, map, option_copied};
+ghost use Rattle.std.specs.Prelude.{◌≡◌, ◌↔◌, ℕ, List, IfOk, IfSome, IsTrue, find, map, option_copied, string_bytes};
+ghost use Rattle.std.specs.Str.{bytes_eq};
 ghost use Rattle.ada_port.specs.Ports.{CountsFetch, fetched};
 ghost use Rattle.ada_port.specs.Shelves.{fetch_fails, after_fetch, named, text_of};
 
@@ -71,7 +72,7 @@ impl MemShelf {
             return Err(ShelfFault::Failed);
         }
         match text_of(&self.texts, name) {
-            Some(text) => copy_of(alloc, text),
+            Some(text) => Ok(copy_of(alloc, text)?),
             None => Err(ShelfFault::Failed),
         }
     }
@@ -143,7 +144,7 @@ impl Shelf for SureShelf {
         ensures cause { CountsFetch 0 0 result }
         ensures same { self.new ≡ self.old }
     {
-        copy_of(alloc, &self.text)
+        Ok(copy_of(alloc, &self.text)?)
     }
 
     fn faults(&self) -> u64 {
@@ -151,24 +152,25 @@ impl Shelf for SureShelf {
     }
 }
 
-// The text of a name: the first of that name counts.
+// The text of a name: of two entries for it the first counts.
 fn text_of<'a>(texts: &'a [ShelfText], name: &str) -> Option<&'a [u8]>
     ensures { option_copied result ≡ text_of (map named texts.now) name.now }
 {
-    texts
-        .iter()
-        .find(|text| text.name.as_str() == name)
-        .map(|text| text.bytes.as_slice())
+    let entry = entry_of(texts, name)?;
+    Some(&entry.bytes)
+}
+
+fn entry_of<'a>(texts: &'a [ShelfText], name: &str) -> Option<&'a ShelfText>
+    ensures { option_copied result ≡ find (λ t. bytes_eq (string_bytes t.name) name.now) texts.now }
+{
+    texts.iter().find(|text| text.name.as_str() == name)
 }
 
 // All the bytes of a text, or as many as a fetch gives.
-fn copy_of(alloc: Global, text: &[u8]) -> Result<Vec<u8>, ShelfFault>
-    ensures bytes { IfOk result (λ bytes. bytes.items ≡ fetched text.now) }
-    ensures memory { IfErr result (λ fault. fault ≡ ShelfFault.OutOfMemory) }
+#[tactic(auto, using(std::proofs::lemmas::List::take_min))]
+fn copy_of(alloc: Global, text: &[u8]) -> Result<Vec<u8>, AllocError>
+    ensures { IfOk result (λ bytes. bytes.items ≡ fetched text.now) }
 {
-    let most = text.len().min(MOST_BYTES);
-    match Vec::from_slice(alloc, &text[..most]) {
-        Ok(bytes) => Ok(bytes),
-        Err(AllocError) => Err(ShelfFault::OutOfMemory),
-    }
+    let most = MOST_BYTES.min(text.len());
+    Vec::from_slice(alloc, &text[..most])
 }

@@ -1,4 +1,4 @@
-ghost use Rattle.std.specs.Prelude.{◌≡◌, ◌↔◌, ◌+◌, ◌-◌, ◌^◌, ◌≤◌, min, ℕ, List, [], length, take, Option, None, Some, IfOk, IsErr, IsOk, IsTrue};
+ghost use Rattle.std.specs.Prelude.{◌≡◌, ◌↔◌, ◌+◌, ◌-◌, ◌^◌, ◌≤◌, ◌++◌, min, ℕ, List, [], length, take, Option, None, Some, IfOk, IsErr, IsOk, IsTrue};
 ghost use Rattle.ada_port.specs.Ports.{Counts, Puts};
 ghost use Rattle.ada_port.specs.Sinks.{after_put, is_too_long, let_pass, listed, put_fails};
 
@@ -83,8 +83,7 @@ impl MemSink {
     fn is_too_long(&self, piece: &[u8]) -> bool
         ensures { result ≡ is_too_long self.now piece.now }
     {
-        let left = self.room.saturating_sub(self.bytes.len() as u64);
-        left < piece.len() as u64
+        self.room < (self.bytes.len() + piece.len()) as u64
     }
 
     // Appends bytes for which there is room.
