@@ -2,16 +2,13 @@ ghost use Rattle.std.specs.Prelude.{◌≡◌, ◌≤◌, ℕ, List, Option, Non
 ghost use Rattle.ada_port.specs.Ports.{CountsFetch};
 
 use crate::counts::raise;
-use crate::ports::{Shelf, ShelfFault};
+use crate::ports::{MOST_BYTES, Shelf, ShelfFault};
 use std::alloc::Global;
 use std::fs::File;
 use std::io;
 use std::io::{ErrorKind, Read};
 use std::marker::Model;
 use std::rt::Files;
-
-/// The most bytes that a fetch gives: one more than a text may have.
-const MOST_BYTES: usize = 1_048_577;
 
 const BUFFER_BYTES: usize = 4096;
 

@@ -4,6 +4,9 @@ ghost use Rattle.ada_port.specs.Ports.{Counts, CountsFetch, Puts, Takes, fetched
 use std::alloc::{AllocError, Global};
 use thiserror::Error;
 
+// The most bytes that a fetch gives: one more than a text may have.
+pub(crate) const MOST_BYTES: usize = 1_048_577;
+
 /// A source could not be asked, or a sink could not take a piece.
 #[derive(Clone, Copy, Debug, PartialEq, Eq, Error)]
 #[error("the device failed")]

@@ -4,12 +4,9 @@ ghost use Rattle.ada_port.specs.Ports.{CountsFetch, fetched};
 ghost use Rattle.ada_port.specs.Shelves.{fetch_fails, after_fetch, named, text_of};
 
 use crate::counts::raise;
-use crate::ports::{Shelf, ShelfFault};
+use crate::ports::{MOST_BYTES, Shelf, ShelfFault};
 use std::alloc::{AllocError, Global};
 use std::marker::Model;
-
-/// The most bytes that a fetch gives: one more than a text may have.
-const MOST_BYTES: usize = 1_048_577;
 
 /// One text on a shelf.
 #[derive(Drop)]
