@@ -18,3 +18,6 @@ pub use shelves::{MemShelf, ShelfText, SureShelf};
 pub use sinks::{MemSink, SinkFail, SureSink};
 pub use sources::SureSource;
 pub use streams::{ErrSink, StdSink};
+
+#[cfg(test)]
+mod tests;
