@@ -1,1 +1,4 @@
 pub mod Ports
+pub mod Counts
+pub mod Shelves
+pub mod Sinks

@@ -2,6 +2,22 @@
 //! input comes from, where output goes, and who is told that a thread begins.
 #![tactic(auto)]
 
+mod counts;
+pub mod files;
 pub mod ports;
+pub mod pulses;
+pub mod shelves;
+pub mod sinks;
+pub mod sources;
+pub mod streams;
 
+pub use files::FileShelf;
 pub use ports::{Failed, Pulse, Shelf, ShelfFault, Sink, Source};
+pub use pulses::Quiet;
+pub use shelves::{MemShelf, ShelfText, SureShelf};
+pub use sinks::{MemSink, SinkFail, SureSink};
+pub use sources::SureSource;
+pub use streams::{ErrSink, StdSink};
+
+#[cfg(test)]
+mod tests;

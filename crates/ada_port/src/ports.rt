@@ -1,8 +1,11 @@
 ghost use Rattle.std.specs.Prelude.{◌≡◌, ℕ, List, Option, IfOk, IfSome};
 ghost use Rattle.ada_port.specs.Ports.{Counts, CountsFetch, Puts, Takes, fetched};
 
-use std::alloc::Global;
+use std::alloc::{AllocError, Global};
 use thiserror::Error;
+
+// The most bytes that a fetch gives: one more than a text may have.
+pub(crate) const MOST_BYTES: usize = 1_048_577;
 
 /// A source could not be asked, or a sink could not take a piece.
 #[derive(Clone, Copy, Debug, PartialEq, Eq, Error)]
@@ -16,6 +19,16 @@ pub enum ShelfFault {
     Failed,
     #[error("out of memory")]
     OutOfMemory,
+}
+
+impl From<AllocError> for ShelfFault {
+    ghost use Rattle.ada_port.specs.declared.ports.ShelfFault.TheVariants.{OutOfMemory};
+
+    ghost from_gives = { λ _ fault. fault ≡ OutOfMemory };
+
+    fn from(_: AllocError) -> ShelfFault {
+        ShelfFault::OutOfMemory
+    }
 }
 
 /// Where texts are fetched by their names.

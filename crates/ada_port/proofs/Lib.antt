@@ -1,0 +1,4 @@
+pub mod Growth
+pub mod Faults
+mod Texts
+mod Passing

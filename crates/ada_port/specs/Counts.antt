@@ -1,0 +1,6 @@
+-- Counts of calls and of faults, as the objects in memory keep them.
+use Rattle.std.specs.Prelude.{ℕ, ◌+◌, ◌-◌, ◌^◌, min}
+
+-- the next count; at the greatest u64 it stands still
+abbrev pub raised : ℕ → ℕ
+raised count = min (count + 1) (2 ^ 64 - 1)

@@ -1,0 +1,37 @@
+-- A shelf in memory.
+use Rattle.std.specs.Prelude.{ℕ, Bool, List, Option, Result, Ok, Err, ◌==◌, ◌||◌, is_none, find, option_map, string_bytes}
+use Rattle.std.specs.List.{list_any}
+use Rattle.std.specs.Str.{bytes_eq}
+use Rattle.ada_port.specs.Counts.{raised}
+use Rattle.ada_port.specs.declared.ports.ShelfFault.{ShelfFault}
+use Rattle.ada_port.specs.declared.ports.ShelfFault.TheVariants as fault
+use Rattle.ada_port.specs.declared.shelves.ShelfText.{ShelfText}
+
+-- a text and its name
+pub record NamedText : Type 0 where
+  pub name : List ℕ
+  pub bytes : List ℕ
+
+abbrev pub named : ShelfText → NamedText
+named t = record { name = string_bytes t.name; bytes = t.bytes.items }
+
+-- the texts on a shelf, the numbers of the calls that fail, and how many calls were made and failed so far
+pub record ShelfState : Type 0 where
+  pub texts : List NamedText
+  pub fails : List ℕ
+  pub calls : ℕ
+  pub faults : ℕ
+
+-- the text of a name: of two texts with one name the first counts
+abbrev pub text_of : List NamedText → List ℕ → Option (List ℕ)
+text_of texts name = option_map (λ t. t.bytes) (find (λ t. bytes_eq t.name name) texts)
+
+-- whether a fetch fails: its call is listed, or no text has the name
+abbrev pub fetch_fails : ShelfState → List ℕ → Bool
+fetch_fails s name = list_any (λ call. call == s.calls) s.fails || is_none (text_of s.texts name)
+
+-- after a fetch: every call counts, and a failed one is a fault; nothing else changes
+abbrev pub after_fetch : {T : Type 0} → ShelfState → Result T ShelfFault → ShelfState
+after_fetch s (Ok _) = record s { calls = raised s.calls }
+after_fetch s (Err fault.OutOfMemory) = record s { calls = raised s.calls }
+after_fetch s (Err fault.Failed) = record s { calls = raised s.calls; faults = raised s.faults }

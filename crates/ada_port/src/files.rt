@@ -1,0 +1,84 @@
+ghost use Rattle.std.specs.Prelude.{◌≡◌, ◌≤◌, ℕ, List, Option, None, IfOk, IfSome, OnOk, length, vec_len};
+ghost use Rattle.ada_port.specs.Ports.{CountsFetch};
+
+use crate::counts::raise;
+use crate::ports::{MOST_BYTES, Shelf, ShelfFault};
+use std::alloc::Global;
+use std::fs::File;
+use std::io;
+use std::io::{ErrorKind, Read};
+use std::marker::Model;
+use std::rt::Files;
+
+const BUFFER_BYTES: usize = 4096;
+
+/// The files of the system, each fetched by its path. Contracts see the count of faults and nothing of
+/// what a file holds.
+#[derive(Drop)]
+pub struct FileShelf<R: Files + Drop> {
+    files: R,
+    failed: u64,
+}
+
+impl<R: Files + Drop> Model for FileShelf<R> {
+    ghost use Rattle.std.specs.Prelude.{ℕ};
+
+    ghost Value = { ℕ };
+
+    ghost view = { λ s. s.failed };
+}
+
+impl<R: Files + Drop> FileShelf<R> {
+    /// A shelf of these files.
+    pub fn new(files: R) -> FileShelf<R>
+        ensures { result ≡ 0 }
+    {
+        FileShelf { files, failed: 0 }
+    }
+}
+
+impl<R: Files + Drop> Shelf for FileShelf<R> {
+    ghost use Rattle.std.specs.Prelude.{None};
+
+    ghost text = { λ _ _. None };
+
+    ghost faults = { λ s. s };
+
+    /// Reads the file of that path. `Failed` comes where the system can't open or read it.
+    fn fetch(&mut self, alloc: Global, name: &str) -> Result<Vec<u8>, ShelfFault> {
+        let text = read_text(&self.files, alloc, name);
+        if matches!(text, Err(ShelfFault::Failed)) {
+            self.failed = raise(self.failed);
+        }
+        text
+    }
+
+    fn faults(&self) -> u64 {
+        self.failed
+    }
+}
+
+// All the bytes of a file, or as many as a fetch gives.
+fn read_text<R: Files>(files: &R, alloc: Global, name: &str) -> Result<Vec<u8>, ShelfFault>
+    ensures { IfOk result (λ bytes. vec_len bytes ≤ MOST_BYTES) }
+{
+    let mut file = File::open(files, name).map_err(fault_of)?;
+    let mut text = Vec::new(alloc);
+    let mut buffer = [0; BUFFER_BYTES];
+    while text.len() < MOST_BYTES {
+        let room = BUFFER_BYTES.min(MOST_BYTES - text.len());
+        let count = file.read(&mut buffer[..room]).map_err(fault_of)?;
+        if count == 0 {
+            break;
+        }
+        text.extend_from_slice(&buffer[..count])?;
+    }
+    Ok(text)
+}
+
+fn fault_of(error: io::Error) -> ShelfFault {
+    match error.kind() {
+        ErrorKind::OutOfMemory => ShelfFault::OutOfMemory,
+        _ => ShelfFault::Failed,
+    }
+}

@@ -1,0 +1,173 @@
+ghost use Rattle.std.specs.Prelude.{◌≡◌, ◌↔◌, ℕ, List, IfOk, IfSome, IsTrue, find, map, option_copied, string_bytes};
+ghost use Rattle.std.specs.Str.{bytes_eq};
+ghost use Rattle.ada_port.specs.Ports.{CountsFetch, fetched};
+ghost use Rattle.ada_port.specs.Shelves.{fetch_fails, after_fetch, named, text_of};
+
+use crate::counts::raise;
+use crate::ports::{MOST_BYTES, Shelf, ShelfFault};
+use std::alloc::{AllocError, Global};
+use std::marker::Model;
+
+/// One text on a shelf.
+#[derive(Drop)]
+pub struct ShelfText {
+    /// The name that it is fetched by.
+    pub name: String,
+    /// Its bytes, which need not be text.
+    pub bytes: Vec<u8>,
+}
+
+/// Texts in memory, of which each has a name. A fetch fails exactly where the number of its call is
+/// listed or no text has the name.
+#[derive(Drop)]
+pub struct MemShelf {
+    texts: Vec<ShelfText>,
+    fails: Vec<u64>,
+    calls: u64,
+    failed: u64,
+}
+
+impl Model for MemShelf {
+    ghost use Rattle.std.specs.Prelude.{map};
+    ghost use Rattle.ada_port.specs.Shelves.{ShelfState, named};
+
+    ghost Value = { ShelfState };
+
+    ghost view = {
+        λ s. record {
+            texts = map named s.texts.items;
+            fails = s.fails.items;
+            calls = s.calls;
+            faults = s.failed
+        }
+    };
+}
+
+impl MemShelf {
+    /// A shelf with these texts, whose calls with the listed numbers, counted from 0, fail. Of two
+    /// texts with one name the first counts.
+    pub fn new(texts: Vec<ShelfText>, fails: Vec<u64>) -> MemShelf
+        ensures texts { result.texts ≡ map named texts.items }
+        ensures fails { result.fails ≡ fails.items }
+        ensures calls { result.calls ≡ 0 }
+        ensures faults { result.faults ≡ 0 }
+    {
+        MemShelf {
+            texts,
+            fails,
+            calls: 0,
+            failed: 0,
+        }
+    }
+
+    // The answer of the next call.
+    fn answer(&self, alloc: Global, name: &str) -> Result<Vec<u8>, ShelfFault>
+        ensures fails { (result ≡ Err ShelfFault.Failed) ↔ IsTrue (fetch_fails self.now name.now) }
+        ensures bytes { IfOk result (λ bytes. IfSome (text_of self.now.texts name.now) (λ told. bytes.items ≡ fetched told)) }
+    {
+        if self.fails.contains(&self.calls) {
+            return Err(ShelfFault::Failed);
+        }
+        match text_of(&self.texts, name) {
+            Some(text) => Ok(copy_of(alloc, text)?),
+            None => Err(ShelfFault::Failed),
+        }
+    }
+}
+
+impl Shelf for MemShelf {
+    ghost text = { λ s name. text_of s.texts name };
+
+    ghost faults = { λ s. s.faults };
+
+    /// Fetches the text of a name. `Failed` comes exactly where the call is listed or no text has the
+    /// name. Every call counts, also one that runs out of memory.
+    fn fetch(&mut self, alloc: Global, name: &str) -> Result<Vec<u8>, ShelfFault>
+        ensures bytes { IfOk result (λ bytes. IfSome (text_of self.old.texts name.now) (λ told. bytes.items ≡ fetched told)) }
+        ensures told { (other : List ℕ) → text_of self.new.texts other ≡ text_of self.old.texts other }
+        ensures cause { CountsFetch self.old.faults self.new.faults result }
+
+        // The shelf in memory says more: exactly when a fetch fails, and all that the call changes.
+        ensures fails { (result ≡ Err ShelfFault.Failed) ↔ IsTrue (fetch_fails self.old name.now) }
+        ensures state { self.new ≡ after_fetch self.old result }
+    {
+        let answer = self.answer(alloc, name);
+        self.calls = raise(self.calls);
+        if matches!(answer, Err(ShelfFault::Failed)) {
+            self.failed = raise(self.failed);
+        }
+        answer
+    }
+
+    fn faults(&self) -> u64 {
+        self.failed
+    }
+}
+
+/// One text in memory for every name, which never fails. Contracts see its bytes.
+#[derive(Drop)]
+pub struct SureShelf {
+    text: Vec<u8>,
+}
+
+impl Model for SureShelf {
+    ghost use Rattle.std.specs.Prelude.{List, ℕ};
+
+    ghost Value = { List ℕ };
+
+    ghost view = { λ s. s.text.items };
+}
+
+impl SureShelf {
+    /// A shelf that has this text for every name.
+    pub fn new(text: Vec<u8>) -> SureShelf
+        ensures { result ≡ text.items }
+    {
+        SureShelf { text }
+    }
+}
+
+impl Shelf for SureShelf {
+    ghost use Rattle.std.specs.Prelude.{Some};
+
+    ghost text = { λ s _. Some s };
+
+    ghost faults = { λ _. 0 };
+
+    /// Fetches the text. It fails for want of memory alone.
+    fn fetch(&mut self, alloc: Global, name: &str) -> Result<Vec<u8>, ShelfFault>
+        ensures bytes { IfOk result (λ bytes. bytes.items ≡ fetched self.old) }
+        ensures told { List ℕ → Some self.new ≡ Some self.old }
+        ensures cause { CountsFetch 0 0 result }
+        ensures same { self.new ≡ self.old }
+    {
+        Ok(copy_of(alloc, &self.text)?)
+    }
+
+    fn faults(&self) -> u64 {
+        0
+    }
+}
+
+// The text of a name: of two entries for it the first counts.
+fn text_of<'a>(texts: &'a [ShelfText], name: &str) -> Option<&'a [u8]>
+    ensures { option_copied result ≡ text_of (map named texts.now) name.now }
+{
+    let entry = entry_of(texts, name)?;
+    Some(&entry.bytes)
+}
+
+fn entry_of<'a>(texts: &'a [ShelfText], name: &str) -> Option<&'a ShelfText>
+    ensures { option_copied result ≡ find (λ t. bytes_eq (string_bytes t.name) name.now) texts.now }
+{
+    texts.iter().find(|text| text.name.as_str() == name)
+}
+
+// All the bytes of a text, or as many as a fetch gives.
+#[tactic(auto, using(std::proofs::lemmas::List::take_min))]
+fn copy_of(alloc: Global, text: &[u8]) -> Result<Vec<u8>, AllocError>
+    ensures { IfOk result (λ bytes. bytes.items ≡ fetched text.now) }
+{
+    let most = MOST_BYTES.min(text.len());
+    Vec::from_slice(alloc, &text[..most])
+}

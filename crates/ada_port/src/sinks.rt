@@ -1,0 +1,199 @@
+ghost use Rattle.std.specs.Prelude.{◌≡◌, ◌↔◌, ◌+◌, ◌-◌, ◌^◌, ◌≤◌, ◌++◌, min, ℕ, List, [], length, take, Option, None, Some, IfOk, IsErr, IsOk, IsTrue};
+ghost use Rattle.ada_port.specs.Ports.{Counts, Puts};
+ghost use Rattle.ada_port.specs.Sinks.{after_put, is_too_long, let_pass, listed, put_fails};
+
+use crate::counts::raise;
+use crate::ports::{Failed, Sink};
+use std::alloc::{AllocError, Global};
+use std::marker::Model;
+
+/// A put that fails, and how much of its piece is appended all the same.
+#[derive(Clone, Copy, Debug)]
+pub struct SinkFail {
+    /// The number of the call, counted from 0.
+    pub call: u64,
+    /// How many bytes of the piece pass: all of them where it has fewer.
+    pub pass: u64,
+}
+
+/// Output that is kept in memory that was reserved before. A put fails exactly where the number of its
+/// call is listed or its piece doesn't fit.
+#[derive(Drop)]
+pub struct MemSink {
+    bytes: Vec<u8>,
+    room: u64,
+    fails: Vec<SinkFail>,
+    calls: u64,
+    failed: u64,
+}
+
+impl Model for MemSink {
+    ghost use Rattle.std.specs.Prelude.{◌≤◌, vec_capacity};
+    ghost use Rattle.ada_port.specs.Sinks.{SinkState};
+
+    ghost Value = { SinkState };
+
+    ghost view = {
+        λ s. record {
+            held = s.bytes.items;
+            room = s.room;
+            fails = s.fails.items;
+            calls = s.calls;
+            faults = s.failed
+        }
+    };
+
+    ghost invariant = { λ s. s.room ≤ vec_capacity s.bytes };
+}
+
+impl MemSink {
+    /// An empty sink with room for so many bytes, whose listed puts fail. Of two entries for one call
+    /// the first counts.
+    pub fn new(alloc: Global, room: u64, fails: Vec<SinkFail>) -> Result<MemSink, AllocError>
+        ensures { IfOk result (λ sink. sink ≡ record { held = []; room = room; fails = fails.items; calls = 0; faults = 0 }) }
+    {
+        let Ok(capacity) = usize::try_from(room) else {
+            return Err(AllocError);
+        };
+        let bytes = Vec::with_capacity(alloc, capacity)?;
+        Ok(MemSink {
+            bytes,
+            room,
+            fails,
+            calls: 0,
+            failed: 0,
+        })
+    }
+
+    /// The bytes that were appended so far.
+    pub fn bytes(&self) -> &[u8]
+        ensures { result.now ≡ self.now.held }
+    {
+        self.bytes.as_slice()
+    }
+
+    // The entry of the next call.
+    fn listed(&self) -> Option<SinkFail>
+        ensures { result ≡ listed self.now }
+    {
+        let call = self.calls;
+        self.fails.iter().copied().find(|fail| fail.call == call)
+    }
+
+    fn is_too_long(&self, piece: &[u8]) -> bool
+        ensures { result ≡ is_too_long self.now piece.now }
+    {
+        self.room < (self.bytes.len() + piece.len()) as u64
+    }
+
+    // Appends bytes for which there is room.
+    fn append(&mut self, bytes: &[u8])
+        requires { length self.old.held + length bytes.now ≤ self.old.room }
+        ensures { self.new ≡ record self.old { held = self.old.held ++ bytes.now } }
+    {
+        let _ = self.bytes.extend_from_slice(bytes);
+    }
+}
+
+impl Sink for MemSink {
+    ghost use Rattle.std.specs.Prelude.{Some};
+
+    ghost holds = { λ s. Some s.held };
+
+    ghost faults = { λ s. s.faults };
+
+    /// Appends a piece. `Failed` comes exactly where the call is listed or the piece doesn't fit. Of a
+    /// listed piece that fits as many bytes are appended as its entry says; of one that doesn't fit
+    /// none are.
+    fn put(&mut self, piece: &[u8]) -> Result<(), Failed>
+        ensures bytes { Puts (Some self.old.held) (Some self.new.held) piece.now result }
+        ensures cause { Counts self.old.faults self.new.faults result }
+
+        // The sink in memory says more: exactly when a put fails, and all that the call changes.
+        ensures fails { IsErr result ↔ IsTrue (put_fails self.old piece.now) }
+        ensures state { self.new ≡ after_put self.old piece.now result }
+    {
+        let listed = self.listed();
+        let fits = !self.is_too_long(piece);
+        self.calls = raise(self.calls);
+        if fits {
+            self.append(let_pass(listed, piece));
+        }
+        if fits && listed.is_none() {
+            return Ok(());
+        }
+        self.failed = raise(self.failed);
+        Err(Failed)
+    }
+
+    fn faults(&self) -> u64 {
+        self.failed
+    }
+}
+
+// What passes of a piece.
+fn let_pass(listed: Option<SinkFail>, piece: &[u8]) -> &[u8]
+    ensures { result.now ≡ let_pass listed piece.now }
+{
+    match listed {
+        None => piece,
+        Some(fail) => {
+            let pass = fail.pass.min(piece.len() as u64) as usize;
+            &piece[..pass]
+        }
+    }
+}
+
+/// Output of which only the number of bytes is kept, which never fails. Contracts see that number,
+/// which stands still at the greatest u64.
+#[derive(Drop)]
+pub struct SureSink {
+    count: u64,
+}
+
+impl Model for SureSink {
+    ghost use Rattle.std.specs.Prelude.{ℕ};
+
+    ghost Value = { ℕ };
+
+    ghost view = { λ s. s.count };
+}
+
+impl SureSink {
+    /// A sink to which nothing was put.
+    pub fn new() -> SureSink
+        ensures { result ≡ 0 }
+    {
+        SureSink { count: 0 }
+    }
+
+    /// How many bytes were put, up to the greatest number.
+    pub fn count(&self) -> u64
+        ensures { result ≡ self.now }
+    {
+        self.count
+    }
+}
+
+impl Sink for SureSink {
+    ghost use Rattle.std.specs.Prelude.{None};
+
+    ghost holds = { λ _. None };
+
+    ghost faults = { λ _. 0 };
+
+    /// Counts the bytes of a piece. It never fails.
+    fn put(&mut self, piece: &[u8]) -> Result<(), Failed>
+        ensures bytes { Puts None None piece.now result }
+        ensures cause { Counts 0 0 result }
+        ensures never { IsOk result }
+        ensures count { self.new ≡ min (self.old + length piece.now) (2 ^ 64 - 1) }
+    {
+        self.count = self.count.saturating_add(piece.len() as u64);
+        Ok(())
+    }
+
+    fn faults(&self) -> u64 {
+        0
+    }
+}

@@ -1,0 +1,174 @@
+use crate::{
+    ErrSink, Failed, FileShelf, MemShelf, MemSink, Pulse, Quiet, Shelf, ShelfFault, ShelfText, Sink,
+    SinkFail, Source, StdSink, SureShelf, SureSink, SureSource,
+};
+use std::alloc::{AllocError, Global};
+use std::env;
+use std::fs;
+use std::test::Fail;
+
+fn text(alloc: Global, name: &str, bytes: &str) -> Result<ShelfText, AllocError> {
+    Ok(ShelfText {
+        name: String::from_str(alloc, name)?,
+        bytes: Vec::from_slice(alloc, bytes.as_bytes())?,
+    })
+}
+
+// A call through the trait, as a generic caller makes it, and the count after it.
+fn fetched<S: Shelf>(
+    shelf: &mut S,
+    alloc: Global,
+    name: &str,
+) -> (Result<Vec<u8>, ShelfFault>, u64) {
+    let answer = shelf.fetch(alloc, name);
+    (answer, shelf.faults())
+}
+
+fn put<S: Sink>(sink: &mut S, piece: &str) -> (Result<(), Failed>, u64) {
+    let answer = sink.put(piece.as_bytes());
+    (answer, sink.faults())
+}
+
+fn next<S: Source>(source: &mut S) -> (Result<Option<u8>, Failed>, u64) {
+    let answer = source.next();
+    (answer, source.faults())
+}
+
+fn begins<P: Pulse + Sync>(pulse: &P, thread: u32) {
+    pulse.begins(thread);
+}
+
+#[test]
+fn shelf_in_memory_fails_where_listed_or_absent(rt: HostRuntime) -> Result<(), Fail> {
+    let alloc = rt.alloc();
+    let texts = vec![in alloc;
+        text(alloc, "a.ada", "one")?,
+        text(alloc, "b.ada", "two")?,
+        text(alloc, "a.ada", "three")?
+    ]?;
+    let mut shelf = MemShelf::new(texts, vec![in alloc; 1, 1, 4]?);
+    let calls = [
+        ("a.ada", Some("one"), 0),
+        ("b.ada", None, 1),
+        ("b.ada", Some("two"), 1),
+        ("c.ada", None, 2),
+        ("a.ada", None, 3),
+        ("a.ada", Some("one"), 3),
+        ("a.ad", None, 4),
+    ];
+    for (name, text, faults) in calls {
+        match (fetched(&mut shelf, alloc, name), text) {
+            ((Ok(bytes), count), Some(want)) => {
+                assert_eq!(rt; bytes.as_slice(), want.as_bytes(), "{name}");
+                assert_eq!(rt; count, faults, "{name}");
+            }
+            ((Err(fault), count), None) => {
+                assert_eq!(rt; fault, ShelfFault::Failed, "{name}");
+                assert_eq!(rt; count, faults, "{name}");
+            }
+            _ => panic!(rt; "{name} at {faults}"),
+        }
+    }
+    Ok(())
+}
+
+#[test]
+fn shelf_that_is_sure_gives_at_most_so_many_bytes(rt: HostRuntime) -> Result<(), Fail> {
+    let alloc = rt.alloc();
+    for (held, given) in [(0, 0), (3, 3), (1_048_577, 1_048_577), (1_048_578, 1_048_577)] {
+        let mut shelf = SureShelf::new(vec![in alloc; b'x'; held]?);
+        let (answer, faults) = fetched(&mut shelf, alloc, "any name");
+        assert_eq!(rt; answer?.len(), given, "of {held}");
+        assert_eq!(rt; faults, 0);
+    }
+    Ok(())
+}
+
+#[test]
+fn source_that_is_sure_gives_each_byte_once(rt: HostRuntime) -> Result<(), Fail> {
+    let alloc = rt.alloc();
+    let mut source = SureSource::new(vec![in alloc; b'a', b'b']?);
+    for want in [Some(b'a'), Some(b'b'), None, None] {
+        let (byte, faults) = next(&mut source);
+        assert_eq!(rt; byte?, want);
+        assert_eq!(rt; faults, 0);
+    }
+    Ok(())
+}
+
+#[test]
+fn sink_in_memory_fails_where_listed_or_full(rt: HostRuntime) -> Result<(), Fail> {
+    let alloc = rt.alloc();
+    let fails = vec![in alloc;
+        SinkFail { call: 1, pass: 1 },
+        SinkFail { call: 1, pass: 2 },
+        SinkFail { call: 5, pass: 9 },
+        SinkFail { call: 8, pass: 1 }
+    ]?;
+    let mut sink = MemSink::new(alloc, 6, fails)?;
+    let calls = [
+        ("ab", Ok(()), "ab", 0),
+        ("cd", Err(Failed), "abc", 1),
+        ("de", Ok(()), "abcde", 1),
+        ("fg", Err(Failed), "abcde", 2),
+        ("", Ok(()), "abcde", 2),
+        ("f", Err(Failed), "abcdef", 3),
+        ("g", Err(Failed), "abcdef", 4),
+        ("", Ok(()), "abcdef", 4),
+        ("gh", Err(Failed), "abcdef", 5),
+    ];
+    for (piece, answer, held, faults) in calls {
+        assert_eq!(rt; put(&mut sink, piece), (answer, faults), "{piece} for {held}");
+        assert_eq!(rt; sink.bytes(), held.as_bytes());
+    }
+    Ok(())
+}
+
+#[test]
+fn sink_that_is_sure_counts_bytes(rt: HostRuntime) {
+    let mut sink = SureSink::new();
+    for (piece, count) in [("abc", 3), ("", 3), ("d", 4)] {
+        assert_eq!(rt; put(&mut sink, piece), (Ok(()), 0));
+        assert_eq!(rt; sink.count(), count);
+    }
+}
+
+#[test]
+fn quiet_is_told_of_a_thread() {
+    begins(&Quiet::new(), 3);
+}
+
+#[test]
+fn shelf_of_files_reads_what_was_written(rt: HostRuntime) -> Result<(), Fail> {
+    let alloc = rt.alloc();
+    let folder = env::temp_dir(&rt)?;
+    let id = std::process::id(rt.process());
+    let path = format!(in alloc; "{}/ada_port_{id}.ada", folder.display())?;
+    let mut shelf = FileShelf::new(rt);
+
+    let (answer, faults) = fetched(&mut shelf, alloc, path.as_str());
+    assert_eq!(rt; answer, Err(ShelfFault::Failed));
+    assert_eq!(rt; faults, 1);
+
+    for (held, given) in [(0, 0), (5000, 5000), (1_048_578, 1_048_577)] {
+        let bytes = vec![in alloc; b'x'; held]?;
+        fs::write(&rt, path.as_str(), bytes.as_slice())?;
+        let (answer, faults) = fetched(&mut shelf, alloc, path.as_str());
+        assert_eq!(rt; answer?.len(), given, "of {held}");
+        assert_eq!(rt; faults, 1);
+    }
+    fs::remove_file(&rt, path.as_str())?;
+    Ok(())
+}
+
+#[test]
+fn standard_output_takes_a_piece(rt: HostRuntime) {
+    let mut sink = StdSink::new(rt.stdout());
+    assert_eq!(rt; put(&mut sink, "a piece\n"), (Ok(()), 0));
+}
+
+#[test]
+fn standard_error_takes_a_piece(rt: HostRuntime) {
+    let mut sink = ErrSink::new(rt.stderr());
+    assert_eq!(rt; put(&mut sink, "a piece\n"), (Ok(()), 0));
+}
