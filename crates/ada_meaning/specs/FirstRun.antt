@@ -36,11 +36,12 @@ abbrev pub value_in : List Variable → Letter → ℤ
 value_in [] letter = pos 0
 value_in (v ∷ others) letter = if v.name.code == letter.code then v.value else value_in others letter
 
--- the variables after an assignment (5.2)
+-- a variable, and all of them, after the assignment of a value to the one of this name (5.2)
+abbrev pub changed : Letter → ℤ → Variable → Variable
+changed letter value v = record { name = v.name; value = if v.name.code == letter.code then value else v.value }
+
 abbrev pub assigned : List Variable → Letter → ℤ → List Variable
-assigned [] letter value = []
-assigned (v ∷ others) letter value =
-    if v.name.code == letter.code then record { name = v.name; value = value } ∷ others else v ∷ assigned others letter value
+assigned variables letter value = map (changed letter value) variables
 
 abbrev pub operand_value : List Variable → Operand → ℤ
 operand_value variables (Name letter) = value_in variables letter

@@ -3,5 +3,7 @@
 
 mod compiler;
 mod reading;
+mod runner;
 
 pub use compiler::{Refusal, Unit, compile};
+pub use runner::RunEnd;
