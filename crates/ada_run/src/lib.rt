@@ -6,4 +6,4 @@ mod reading;
 mod runner;
 
 pub use compiler::{Refusal, Unit, compile};
-pub use runner::RunEnd;
+pub use runner::{RunEnd, execute};
