@@ -3,7 +3,7 @@ ghost use Rattle.ada_port.specs.Ports.{Counts, Puts};
 
 use crate::counts::raise;
 use crate::ports::{Failed, Sink};
-use std::io::{Stderr, Stdout};
+use std::io::{Stderr, Stdout, Write};
 use std::marker::Model;
 
 /// The standard output. Contracts see its count of faults and nothing of what it holds.
@@ -39,7 +39,7 @@ impl Sink for StdSink {
 
     /// Writes a piece. `Failed` comes where the system takes no further byte of it.
     fn put(&mut self, piece: &[u8]) -> Result<(), Failed> {
-        let written = write_through(&self.to, piece);
+        let written = write_through(&mut self.to, piece);
         if written.is_err() {
             self.failed = raise(self.failed);
         }
@@ -84,7 +84,7 @@ impl Sink for ErrSink {
 
     /// Writes a piece. `Failed` comes where the system takes no further byte of it.
     fn put(&mut self, piece: &[u8]) -> Result<(), Failed> {
-        let written = write_through(&self.to, piece);
+        let written = write_through(&mut self.to, piece);
         if written.is_err() {
             self.failed = raise(self.failed);
         }
@@ -97,13 +97,18 @@ impl Sink for ErrSink {
 }
 
 // Writes all of a piece at once. A buffer would answer `Ok` for bytes that may still be refused.
-fn write_through<P: Print>(to: &P, piece: &[u8]) -> Result<(), Failed> {
+fn write_through<W: Write>(to: &mut W, piece: &[u8]) -> Result<(), Failed>
+    ensures { Puts (W.contents to.old) (W.contents to.new) piece.now result }
+{
     let mut rest = piece;
     while !rest.is_empty() {
-        match to.write_some(rest) {
+        match to.write(rest) {
             Ok(0) | Err(_) => return Err(Failed),
             Ok(written) => rest = &rest[written..],
         }
     }
-    Ok(())
+    match to.flush() {
+        Ok(()) => Ok(()),
+        Err(_) => Err(Failed),
+    }
 }
