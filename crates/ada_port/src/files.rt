@@ -64,7 +64,7 @@ fn read_file<R: Files>(files: &R, alloc: Global, name: &str) -> Result<Vec<u8>, 
 }
 
 // All the bytes that are left, or as many as a fetch gives.
-fn read_text<F: Read>(file: &mut F, alloc: Global) -> Result<Vec<u8>, ShelfFault>
+pub(crate) fn read_text<F: Read>(file: &mut F, alloc: Global) -> Result<Vec<u8>, ShelfFault>
     ensures most { IfOk result (λ text. vec_len text ≤ MOST_BYTES) }
     ensures bytes { IfOk result (λ text. IfSome (F.remaining file.old) (λ left. text.items ≡ fetched left)) }
 {

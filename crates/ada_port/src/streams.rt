@@ -97,7 +97,7 @@ impl Sink for ErrSink {
 }
 
 // Writes all of a piece at once. A buffer would answer `Ok` for bytes that may still be refused.
-fn write_through<W: Write>(to: &mut W, piece: &[u8]) -> Result<(), Failed>
+pub(crate) fn write_through<W: Write>(to: &mut W, piece: &[u8]) -> Result<(), Failed>
     ensures { Puts (W.contents to.old) (W.contents to.new) piece.now result }
 {
     let mut rest = piece;

@@ -1,3 +1,7 @@
+ghost use Rattle.std.specs.Prelude.{◌≡◌, IfOk};
+
+use crate::files::read_text;
+use crate::streams::write_through;
 use crate::{
     ErrSink, Failed, FileShelf, MemShelf, MemSink, Pulse, Quiet, Shelf, ShelfFault, ShelfText, Sink,
     SinkFail, Source, StdSink, SureShelf, SureSink, SureSource,
@@ -5,6 +9,8 @@ use crate::{
 use std::alloc::{AllocError, Global};
 use std::env;
 use std::fs;
+use std::io;
+use std::io::{ErrorKind, Read, Write};
 use std::test::Fail;
 
 fn text(alloc: Global, name: &str, bytes: &str) -> Result<ShelfText, AllocError> {
@@ -169,4 +175,83 @@ fn standard_output_takes_a_piece(rt: HostRuntime) {
 fn standard_error_takes_a_piece(rt: HostRuntime) {
     let mut sink = ErrSink::new(rt.stderr());
     assert_eq!(rt; put(&mut sink, "a piece\n"), (Ok(()), 0));
+}
+
+// Reads and writes a byte at a time, so many of them, and then this answer at every call.
+#[derive(Drop)]
+struct Halting {
+    bytes: Vec<u8>,
+    left: usize,
+    halt: Result<usize, ErrorKind>,
+}
+
+impl Halting {
+    fn halt(&self) -> io::Result<usize>
+        ensures { IfOk result (λ count. count ≡ 0) }
+    {
+        match self.halt {
+            Ok(_) => Ok(0),
+            Err(kind) => Err(io::Error::from(kind)),
+        }
+    }
+}
+
+impl Read for Halting {
+    fn read(&mut self, buf: &mut [u8]) -> io::Result<usize> {
+        if self.left == 0 || buf.is_empty() {
+            return self.halt();
+        }
+        self.left -= 1;
+        buf[0] = b'x';
+        Ok(1)
+    }
+}
+
+impl Write for Halting {
+    fn write(&mut self, buf: &[u8]) -> io::Result<usize> {
+        if self.left == 0 || buf.is_empty() {
+            return self.halt();
+        }
+        self.left -= 1;
+        self.bytes.push(buf[0])?;
+        Ok(1)
+    }
+
+    fn flush(&mut self) -> io::Result<()> {
+        Ok(())
+    }
+}
+
+#[test]
+fn reading_ends_as_the_reader_does(rt: HostRuntime) {
+    let cases = [
+        (Ok(0), Ok(3)),
+        (Err(ErrorKind::BrokenPipe), Err(ShelfFault::Failed)),
+        (Err(ErrorKind::OutOfMemory), Err(ShelfFault::OutOfMemory)),
+    ];
+    for (halt, want) in cases {
+        let bytes = Vec::new(rt.alloc());
+        let mut reader = Halting {
+            bytes,
+            left: 3,
+            halt,
+        };
+        let answer = read_text(&mut reader, rt.alloc()).map(|text| text.len());
+        assert_eq!(rt; answer, want);
+    }
+}
+
+#[test]
+fn writing_fails_where_no_byte_is_taken(rt: HostRuntime) {
+    let cases = [
+        (4, Ok(0), "abcd", Ok(())),
+        (3, Ok(0), "abc", Err(Failed)),
+        (3, Err(ErrorKind::BrokenPipe), "abc", Err(Failed)),
+    ];
+    for (left, halt, held, want) in cases {
+        let bytes = Vec::new(rt.alloc());
+        let mut writer = Halting { bytes, left, halt };
+        assert_eq!(rt; write_through(&mut writer, b"abcd"), want, "at {left}");
+        assert_eq!(rt; writer.bytes.as_slice(), held.as_bytes());
+    }
 }
