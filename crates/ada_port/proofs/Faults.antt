@@ -1,6 +1,6 @@
 -- Counts of faults over several calls.
-use Rattle.std.proofs.Common.{◌≡◌, ℕ, ◌+◌, ◌-◌, ◌≤◌, ◌^◌, min, Result, Ok, Err, arith, subst, sym}
-use Rattle.ada_port.specs.Ports.{Counts, CountsFetch, Rises, Rose}
+use Rattle.std.proofs.Common.{◌≡◌, ℕ, ◌-◌, ◌≤◌, ◌^◌, Result, Ok, Err, arith, subst, sym}
+use Rattle.ada_port.specs.Ports.{Counts, CountsFetch, Rises}
 use Rattle.ada_port.specs.declared.ports.Failed.{Failed}
 use Rattle.ada_port.specs.declared.ports.ShelfFault.{ShelfFault}
 use Rattle.ada_port.specs.declared.ports.ShelfFault.TheVariants as fault

@@ -1,5 +1,5 @@
 -- What writers and readers that tell their bytes do, in the words of sinks and shelves.
-use Rattle.std.proofs.Common.{◌≡◌, ℕ, ◌≤◌, ◌<◌, ◌-◌, List, [], ◌∷◌, ◌++◌, length, take, drop, Option, Some, None, IfSome, Result, Ok, Err, append_assoc, length-drop, subst, take-append-drop, refl, sym, ap, ◌∙◌, arith}
+use Rattle.std.proofs.Common.{◌≡◌, ℕ, ◌≤◌, ◌<◌, ◌-◌, List, [], ◌++◌, length, take, drop, Option, Some, None, IfSome, Result, Ok, Err, append_assoc, length-drop, subst, take-append-drop, refl, sym, ap, ◌∙◌, arith}
 use Rattle.std.proofs.lemmas.List.{append-nil, take-append-le, take_all}
 use Rattle.std.specs.Io.KnownBytes.{Appends, Keeps, Consumes, IsAtEnd, ReadConsumes}
 use Rattle.ada_port.specs.Ports.{Grows, GrowsByPrefix, fetched}
@@ -29,7 +29,7 @@ Written-more {rest = rest} n w a =
     record {
       front = w.front ++ take n rest;
       parts = w.parts ∙ ap (λ x. w.front ++ x) (sym (take-append-drop n rest)) ∙ sym (append_assoc w.front (take n rest) (drop n rest));
-      grown = Grows-append w.grown (Grows-from_Appends a)
+      grown = Grows-append w.grown (Grows-from_Appends a);
     }
 
 -- the same, with what is left as a slice from n on
@@ -42,8 +42,8 @@ pub Written-prefix : {old mid new : Option (List ℕ)} {piece rest : List ℕ} �
 Written-prefix {rest = rest} w g =
     record {
       told = λ held e.
-        let h = (Grows-append w.grown g).told held e in
-        (w.front, rest, w.parts, h ∙ ap (λ x. Some (held ++ x)) (append-nil w.front))
+          let h = (Grows-append w.grown g).told held e in
+          (w.front, rest, w.parts, h ∙ ap (λ x. Some (held ++ x)) (append-nil w.front));
     }
 
 -- where nothing is left, all of the piece is
@@ -51,8 +51,8 @@ pub Written-all : {old mid new : Option (List ℕ)} {piece : List ℕ} → Writt
 Written-all w g =
     record {
       told = λ held e.
-        let h = (Grows-append w.grown g).told held e in
-        h ∙ ap (λ x. Some (held ++ x)) (append-nil w.front ∙ sym (append-nil w.front) ∙ sym w.parts)
+          let h = (Grows-append w.grown g).told held e in
+          h ∙ ap (λ x. Some (held ++ x)) (append-nil w.front ∙ sym (append-nil w.front) ∙ sym w.parts);
     }
 
 -- a read that gives no byte though there is room for one: none is left

@@ -33,14 +33,12 @@ impl Model for MemShelf {
 
     ghost Value = { ShelfState };
 
-    ghost view = {
-        λ s. record {
-            texts = map named s.texts.items;
-            fails = s.fails.items;
-            calls = s.calls;
-            faults = s.failed
-        }
-    };
+    ghost view = { λ s. record {
+      texts = map named s.texts.items;
+      fails = s.fails.items;
+      calls = s.calls;
+      faults = s.failed;
+    } };
 }
 
 impl MemShelf {

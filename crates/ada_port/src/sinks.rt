@@ -33,15 +33,13 @@ impl Model for MemSink {
 
     ghost Value = { SinkState };
 
-    ghost view = {
-        λ s. record {
-            held = s.bytes.items;
-            room = s.room;
-            fails = s.fails.items;
-            calls = s.calls;
-            faults = s.failed
-        }
-    };
+    ghost view = { λ s. record {
+      held = s.bytes.items;
+      room = s.room;
+      fails = s.fails.items;
+      calls = s.calls;
+      faults = s.failed;
+    } };
 
     ghost invariant = { λ s. s.room ≤ vec_capacity s.bytes };
 }

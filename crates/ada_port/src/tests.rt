@@ -3,15 +3,13 @@ ghost use Rattle.std.specs.Prelude.{◌≡◌, IfOk};
 use crate::files::read_text;
 use crate::streams::write_through;
 use crate::{
-    ErrSink, Failed, FileShelf, MemShelf, MemSink, Pulse, Quiet, Shelf, ShelfFault, ShelfText, Sink,
-    SinkFail, Source, StdSink, SureShelf, SureSink, SureSource,
+    ErrSink, Failed, FileShelf, MemShelf, MemSink, Pulse, Quiet, Shelf, ShelfFault, ShelfText,
+    Sink, SinkFail, Source, StdSink, SureShelf, SureSink, SureSource,
 };
 use std::alloc::{AllocError, Global};
-use std::env;
-use std::fs;
-use std::io;
 use std::io::{ErrorKind, Read, Write};
 use std::test::Fail;
+use std::{env, fs, io};
 
 fn text(alloc: Global, name: &str, bytes: &str) -> Result<ShelfText, AllocError> {
     Ok(ShelfText {
@@ -50,7 +48,7 @@ fn shelf_in_memory_fails_where_listed_or_absent(rt: HostRuntime) -> Result<(), F
     let texts = vec![in alloc;
         text(alloc, "a.ada", "one")?,
         text(alloc, "b.ada", "two")?,
-        text(alloc, "a.ada", "three")?
+        text(alloc, "a.ada", "three")?,
     ]?;
     let mut shelf = MemShelf::new(texts, vec![in alloc; 1, 1, 4]?);
     let calls = [
@@ -79,7 +77,12 @@ fn shelf_in_memory_fails_where_listed_or_absent(rt: HostRuntime) -> Result<(), F
 #[test]
 fn shelf_that_is_sure_gives_at_most_so_many_bytes(rt: HostRuntime) -> Result<(), Fail> {
     let alloc = rt.alloc();
-    for (held, given) in [(0, 0), (3, 3), (1_048_577, 1_048_577), (1_048_578, 1_048_577)] {
+    for (held, given) in [
+        (0, 0),
+        (3, 3),
+        (1_048_577, 1_048_577),
+        (1_048_578, 1_048_577),
+    ] {
         let mut shelf = SureShelf::new(vec![in alloc; b'x'; held]?);
         let (answer, faults) = fetched(&mut shelf, alloc, "any name");
         assert_eq!(rt; answer?.len(), given, "of {held}");
@@ -107,7 +110,7 @@ fn sink_in_memory_fails_where_listed_or_full(rt: HostRuntime) -> Result<(), Fail
         SinkFail { call: 1, pass: 1 },
         SinkFail { call: 1, pass: 2 },
         SinkFail { call: 5, pass: 9 },
-        SinkFail { call: 8, pass: 1 }
+        SinkFail { call: 8, pass: 1 },
     ]?;
     let mut sink = MemSink::new(alloc, 6, fails)?;
     let calls = [
@@ -122,7 +125,11 @@ fn sink_in_memory_fails_where_listed_or_full(rt: HostRuntime) -> Result<(), Fail
         ("gh", Err(Failed), "abcdef", 5),
     ];
     for (piece, answer, held, faults) in calls {
-        assert_eq!(rt; put(&mut sink, piece), (answer, faults), "{piece} for {held}");
+        assert_eq!(rt;
+            put(&mut sink, piece),
+            (answer, faults),
+            "{piece} for {held}"
+        );
         assert_eq!(rt; sink.bytes(), held.as_bytes());
     }
     Ok(())

@@ -6,7 +6,7 @@ abbrev pub invariant-loop-buffer : goal.invariant-loop-buffer
 invariant-loop-buffer g l =
     record {
       most : vec_len l.text ≤ 1048577;
-      taken : Consumes (g.F.Read.remaining l.initial.file) (g.F.Read.remaining l.file) l.text.items
+      taken : Consumes (g.F.Read.remaining l.initial.file) (g.F.Read.remaining l.file) l.text.items;
     }
 
 abbrev pub decreases-loop-buffer : goal.decreases-loop-buffer
