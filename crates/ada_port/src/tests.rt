@@ -1,10 +1,9 @@
 ghost use Rattle.std.specs.Prelude.{◌≡◌, IfOk};
 
 use crate::files::read_text;
-use crate::streams::write_through;
 use crate::{
     ErrSink, Failed, FileShelf, MemShelf, MemSink, Pulse, Quiet, Shelf, ShelfFault, ShelfText,
-    Sink, SinkFail, Source, StdSink, SureShelf, SureSink, SureSource,
+    Sink, SinkFail, Source, StdSink, StreamSink, SureShelf, SureSink, SureSource,
 };
 use std::alloc::{AllocError, Global};
 use std::io::{ErrorKind, Read, Write};
@@ -184,10 +183,9 @@ fn standard_error_takes_a_piece(rt: HostRuntime) {
     assert_eq!(rt; put(&mut sink, "a piece\n"), (Ok(()), 0));
 }
 
-// Reads and writes a byte at a time, so many of them, and then this answer at every call.
+// Reads and takes a byte at a time, so many of them, and then gives this answer at every call.
 #[derive(Drop)]
 struct Halting {
-    bytes: Vec<u8>,
     left: usize,
     halt: Result<usize, ErrorKind>,
 }
@@ -220,7 +218,6 @@ impl Write for Halting {
             return self.halt();
         }
         self.left -= 1;
-        self.bytes.push(buf[0])?;
         Ok(1)
     }
 
@@ -237,12 +234,7 @@ fn reading_ends_as_the_reader_does(rt: HostRuntime) {
         (Err(ErrorKind::OutOfMemory), Err(ShelfFault::OutOfMemory)),
     ];
     for (halt, want) in cases {
-        let bytes = Vec::new(rt.alloc());
-        let mut reader = Halting {
-            bytes,
-            left: 3,
-            halt,
-        };
+        let mut reader = Halting { left: 3, halt };
         let answer = read_text(&mut reader, rt.alloc()).map(|text| text.len());
         assert_eq!(rt; answer, want);
     }
@@ -251,14 +243,12 @@ fn reading_ends_as_the_reader_does(rt: HostRuntime) {
 #[test]
 fn writing_fails_where_no_byte_is_taken(rt: HostRuntime) {
     let cases = [
-        (4, Ok(0), "abcd", Ok(())),
-        (3, Ok(0), "abc", Err(Failed)),
-        (3, Err(ErrorKind::BrokenPipe), "abc", Err(Failed)),
+        (4, Ok(0), Ok(()), 0),
+        (3, Ok(0), Err(Failed), 1),
+        (3, Err(ErrorKind::BrokenPipe), Err(Failed), 1),
     ];
-    for (left, halt, held, want) in cases {
-        let bytes = Vec::new(rt.alloc());
-        let mut writer = Halting { bytes, left, halt };
-        assert_eq!(rt; write_through(&mut writer, b"abcd"), want, "at {left}");
-        assert_eq!(rt; writer.bytes.as_slice(), held.as_bytes());
+    for (left, halt, answer, faults) in cases {
+        let mut sink = StreamSink::new(Halting { left, halt });
+        assert_eq!(rt; put(&mut sink, "abcd"), (answer, faults), "at {left}");
     }
 }
