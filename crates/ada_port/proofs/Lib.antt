@@ -2,3 +2,4 @@ pub mod Growth
 pub mod Faults
 mod Texts
 mod Passing
+mod Transfers

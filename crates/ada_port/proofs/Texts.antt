@@ -1,6 +1,5 @@
 -- Texts and their names.
-use Rattle.std.proofs.Common.{◌≡◌, ℕ, Bool, true, false, cond, List, [], ◌∷◌, length, take, min, ◌≤◌, map, Option, Some, None, Result, Ok, Err, IsErrAnd, find, refl, arith, sym, ◌∙◌, ap}
-use Rattle.std.proofs.lemmas.List.{take_all}
+use Rattle.std.proofs.Common.{◌≡◌, Bool, true, false, cond, List, [], ◌∷◌, map, Some, Result, Ok, Err, IsErrAnd, find, refl, ap}
 use Rattle.std.specs.Option.{option_map}
 
 -- a search after a map is one before it

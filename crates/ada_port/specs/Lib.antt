@@ -2,3 +2,4 @@ pub mod Ports
 pub mod Counts
 pub mod Shelves
 pub mod Sinks
+pub mod Streams

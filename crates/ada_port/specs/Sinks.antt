@@ -1,5 +1,5 @@
 -- A sink in memory.
-use Rattle.std.specs.Prelude.{ℕ, ◌+◌, ◌<◌, Bool, ◌||◌, ◌==◌, List, [], ◌++◌, length, take, Option, Some, None, is_some, find, Result, Ok, Err, nat_lt, if◌then◌else◌}
+use Rattle.std.specs.Prelude.{ℕ, ◌+◌, Bool, ◌||◌, ◌==◌, List, [], ◌++◌, length, take, Option, Some, None, is_some, find, Result, Ok, Err, nat_lt, if◌then◌else◌}
 use Rattle.ada_port.specs.Counts.{raised}
 use Rattle.ada_port.specs.declared.ports.Failed.{Failed}
 use Rattle.ada_port.specs.declared.sinks.SinkFail.{SinkFail}

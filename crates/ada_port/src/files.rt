@@ -1,5 +1,5 @@
 ghost use Rattle.std.specs.Prelude.{◌≡◌, ◌≤◌, ℕ, List, Option, None, IfOk, IfSome, OnOk, length, vec_len};
-ghost use Rattle.ada_port.specs.Ports.{CountsFetch};
+ghost use Rattle.ada_port.specs.Ports.{CountsFetch, fetched};
 
 use crate::counts::raise;
 use crate::ports::{MOST_BYTES, Shelf, ShelfFault};
@@ -46,7 +46,7 @@ impl<R: Files + Drop> Shelf for FileShelf<R> {
 
     /// Reads the file of that path. `Failed` comes where the system can't open or read it.
     fn fetch(&mut self, alloc: Global, name: &str) -> Result<Vec<u8>, ShelfFault> {
-        let text = read_text(&self.files, alloc, name);
+        let text = read_file(&self.files, alloc, name);
         if matches!(text, Err(ShelfFault::Failed)) {
             self.failed = raise(self.failed);
         }
@@ -58,11 +58,16 @@ impl<R: Files + Drop> Shelf for FileShelf<R> {
     }
 }
 
-// All the bytes of a file, or as many as a fetch gives.
-fn read_text<R: Files>(files: &R, alloc: Global, name: &str) -> Result<Vec<u8>, ShelfFault>
-    ensures { IfOk result (λ bytes. vec_len bytes ≤ MOST_BYTES) }
-{
+fn read_file<R: Files>(files: &R, alloc: Global, name: &str) -> Result<Vec<u8>, ShelfFault> {
     let mut file = File::open(files, name).map_err(fault_of)?;
+    read_text(&mut file, alloc)
+}
+
+// All the bytes that are left, or as many as a fetch gives.
+pub(crate) fn read_text<F: Read>(file: &mut F, alloc: Global) -> Result<Vec<u8>, ShelfFault>
+    ensures most { IfOk result (λ text. vec_len text ≤ MOST_BYTES) }
+    ensures bytes { IfOk result (λ text. IfSome (F.remaining file.old) (λ left. text.items ≡ fetched left)) }
+{
     let mut text = Vec::new(alloc);
     let mut buffer = [0; BUFFER_BYTES];
     while text.len() < MOST_BYTES {

@@ -17,7 +17,7 @@ pub use pulses::Quiet;
 pub use shelves::{MemShelf, ShelfText, SureShelf};
 pub use sinks::{MemSink, SinkFail, SureSink};
 pub use sources::SureSource;
-pub use streams::{ErrSink, StdSink};
+pub use streams::{ErrSink, StdSink, StreamSink};
 
 #[cfg(test)]
 mod tests;

@@ -1,4 +1,4 @@
-ghost use Rattle.std.specs.Prelude.{◌≡◌, ◌↔◌, ℕ, List, IfOk, IfSome, IsTrue, find, map, option_copied, string_bytes};
+ghost use Rattle.std.specs.Prelude.{◌≡◌, ◌↔◌, ℕ, List, IfErr, IfOk, IfSome, IsTrue, find, map, option_copied, string_bytes};
 ghost use Rattle.std.specs.Str.{bytes_eq};
 ghost use Rattle.ada_port.specs.Ports.{CountsFetch, fetched};
 ghost use Rattle.ada_port.specs.Shelves.{fetch_fails, after_fetch, named, text_of};
@@ -33,24 +33,19 @@ impl Model for MemShelf {
 
     ghost Value = { ShelfState };
 
-    ghost view = {
-        λ s. record {
-            texts = map named s.texts.items;
-            fails = s.fails.items;
-            calls = s.calls;
-            faults = s.failed
-        }
-    };
+    ghost view = { λ s. record {
+      texts = map named s.texts.items;
+      fails = s.fails.items;
+      calls = s.calls;
+      faults = s.failed;
+    } };
 }
 
 impl MemShelf {
     /// A shelf with these texts, whose calls with the listed numbers, counted from 0, fail. Of two
     /// texts with one name the first counts.
     pub fn new(texts: Vec<ShelfText>, fails: Vec<u64>) -> MemShelf
-        ensures texts { result.texts ≡ map named texts.items }
-        ensures fails { result.fails ≡ fails.items }
-        ensures calls { result.calls ≡ 0 }
-        ensures faults { result.faults ≡ 0 }
+        ensures { result ≡ record { texts = map named texts.items; fails = fails.items; calls = 0; faults = 0 } }
     {
         MemShelf {
             texts,
@@ -139,6 +134,7 @@ impl Shelf for SureShelf {
         ensures bytes { IfOk result (λ bytes. bytes.items ≡ fetched self.old) }
         ensures told { List ℕ → Some self.new ≡ Some self.old }
         ensures cause { CountsFetch 0 0 result }
+        ensures memory { IfErr result (λ fault. fault ≡ ShelfFault.OutOfMemory) }
         ensures same { self.new ≡ self.old }
     {
         Ok(copy_of(alloc, &self.text)?)

@@ -33,15 +33,13 @@ impl Model for MemSink {
 
     ghost Value = { SinkState };
 
-    ghost view = {
-        λ s. record {
-            held = s.bytes.items;
-            room = s.room;
-            fails = s.fails.items;
-            calls = s.calls;
-            faults = s.failed
-        }
-    };
+    ghost view = { λ s. record {
+      held = s.bytes.items;
+      room = s.room;
+      fails = s.fails.items;
+      calls = s.calls;
+      faults = s.failed;
+    } };
 
     ghost invariant = { λ s. s.room ≤ vec_capacity s.bytes };
 }
@@ -52,10 +50,7 @@ impl MemSink {
     pub fn new(alloc: Global, room: u64, fails: Vec<SinkFail>) -> Result<MemSink, AllocError>
         ensures { IfOk result (λ sink. sink ≡ record { held = []; room = room; fails = fails.items; calls = 0; faults = 0 }) }
     {
-        let Ok(capacity) = usize::try_from(room) else {
-            return Err(AllocError);
-        };
-        let bytes = Vec::with_capacity(alloc, capacity)?;
+        let bytes = Vec::with_capacity(alloc, room as usize)?;
         Ok(MemSink {
             bytes,
             room,

@@ -1,45 +1,49 @@
-ghost use Rattle.std.specs.Prelude.{◌≡◌, None};
-ghost use Rattle.ada_port.specs.Ports.{Counts, Puts};
+ghost use Rattle.std.specs.Prelude.{◌≡◌};
+ghost use Rattle.ada_port.specs.Ports.{Puts};
 
 use crate::counts::raise;
 use crate::ports::{Failed, Sink};
-use std::io::{Stderr, Stdout};
+use std::io::{Stderr, Stdout, Write};
 use std::marker::Model;
 
-/// The standard output. Contracts see its count of faults and nothing of what it holds.
+/// The standard output, made as `StdSink::new(rt.stdout())`. It tells nothing of what it holds.
+pub type StdSink = StreamSink<Stdout>;
+
+/// The standard error, made as `ErrSink::new(rt.stderr())`. It tells nothing of what it holds.
+pub type ErrSink = StreamSink<Stderr>;
+
+/// Output that goes to a writer. It tells what it holds where the writer does.
 #[derive(Drop)]
-pub struct StdSink {
-    to: Stdout,
+pub struct StreamSink<W: Write + Drop> {
+    to: W,
     failed: u64,
 }
 
-impl Model for StdSink {
-    ghost use Rattle.std.specs.Prelude.{ℕ};
+impl<W: Write + Drop> Model for StreamSink<W> {
+    ghost use Rattle.ada_port.specs.Streams.{StreamState};
 
-    ghost Value = { ℕ };
+    ghost Value = { StreamState };
 
-    ghost view = { λ s. s.failed };
+    ghost view = { λ s. record { held = W.contents s.to; faults = s.failed } };
 }
 
-impl StdSink {
-    /// A sink that writes to this standard output.
-    pub fn new(to: Stdout) -> StdSink
-        ensures { result ≡ 0 }
+impl<W: Write + Drop> StreamSink<W> {
+    /// A sink that writes to this writer, and has not failed yet.
+    pub fn new(to: W) -> StreamSink<W>
+        ensures { result ≡ record { held = W.contents to; faults = 0 } }
     {
-        StdSink { to, failed: 0 }
+        StreamSink { to, failed: 0 }
     }
 }
 
-impl Sink for StdSink {
-    ghost use Rattle.std.specs.Prelude.{None};
+impl<W: Write + Drop> Sink for StreamSink<W> {
+    ghost holds = { λ s. s.held };
 
-    ghost holds = { λ _. None };
+    ghost faults = { λ s. s.faults };
 
-    ghost faults = { λ s. s };
-
-    /// Writes a piece. `Failed` comes where the system takes no further byte of it.
+    /// Writes a piece. `Failed` comes where the writer fails or takes no further byte of it.
     fn put(&mut self, piece: &[u8]) -> Result<(), Failed> {
-        let written = write_through(&self.to, piece);
+        let written = write_through(&mut self.to, piece);
         if written.is_err() {
             self.failed = raise(self.failed);
         }
@@ -51,59 +55,20 @@ impl Sink for StdSink {
     }
 }
 
-/// The standard error. Contracts see its count of faults and nothing of what it holds.
-#[derive(Drop)]
-pub struct ErrSink {
-    to: Stderr,
-    failed: u64,
-}
-
-impl Model for ErrSink {
-    ghost use Rattle.std.specs.Prelude.{ℕ};
-
-    ghost Value = { ℕ };
-
-    ghost view = { λ s. s.failed };
-}
-
-impl ErrSink {
-    /// A sink that writes to this standard error.
-    pub fn new(to: Stderr) -> ErrSink
-        ensures { result ≡ 0 }
-    {
-        ErrSink { to, failed: 0 }
-    }
-}
-
-impl Sink for ErrSink {
-    ghost use Rattle.std.specs.Prelude.{None};
-
-    ghost holds = { λ _. None };
-
-    ghost faults = { λ s. s };
-
-    /// Writes a piece. `Failed` comes where the system takes no further byte of it.
-    fn put(&mut self, piece: &[u8]) -> Result<(), Failed> {
-        let written = write_through(&self.to, piece);
-        if written.is_err() {
-            self.failed = raise(self.failed);
-        }
-        written
-    }
-
-    fn faults(&self) -> u64 {
-        self.failed
-    }
-}
-
-// Writes all of a piece at once. A buffer would answer `Ok` for bytes that may still be refused.
-fn write_through<P: Print>(to: &P, piece: &[u8]) -> Result<(), Failed> {
+// Writes all of a piece before it answers, also where a program puts a million small ones: a buffer
+// would answer `Ok` for bytes that may still be refused.
+fn write_through<W: Write>(to: &mut W, piece: &[u8]) -> Result<(), Failed>
+    ensures { Puts (W.contents to.old) (W.contents to.new) piece.now result }
+{
     let mut rest = piece;
     while !rest.is_empty() {
-        match to.write_some(rest) {
+        match to.write(rest) {
             Ok(0) | Err(_) => return Err(Failed),
             Ok(written) => rest = &rest[written..],
         }
     }
-    Ok(())
+    match to.flush() {
+        Ok(()) => Ok(()),
+        Err(_) => Err(Failed),
+    }
 }

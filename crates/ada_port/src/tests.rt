@@ -1,11 +1,14 @@
+ghost use Rattle.std.specs.Prelude.{◌≡◌, IfOk};
+
+use crate::files::read_text;
 use crate::{
-    ErrSink, Failed, FileShelf, MemShelf, MemSink, Pulse, Quiet, Shelf, ShelfFault, ShelfText, Sink,
-    SinkFail, Source, StdSink, SureShelf, SureSink, SureSource,
+    ErrSink, Failed, FileShelf, MemShelf, MemSink, Pulse, Quiet, Shelf, ShelfFault, ShelfText,
+    Sink, SinkFail, Source, StdSink, StreamSink, SureShelf, SureSink, SureSource,
 };
 use std::alloc::{AllocError, Global};
-use std::env;
-use std::fs;
+use std::io::{ErrorKind, Read, Write};
 use std::test::Fail;
+use std::{env, fs, io};
 
 fn text(alloc: Global, name: &str, bytes: &str) -> Result<ShelfText, AllocError> {
     Ok(ShelfText {
@@ -44,7 +47,7 @@ fn shelf_in_memory_fails_where_listed_or_absent(rt: HostRuntime) -> Result<(), F
     let texts = vec![in alloc;
         text(alloc, "a.ada", "one")?,
         text(alloc, "b.ada", "two")?,
-        text(alloc, "a.ada", "three")?
+        text(alloc, "a.ada", "three")?,
     ]?;
     let mut shelf = MemShelf::new(texts, vec![in alloc; 1, 1, 4]?);
     let calls = [
@@ -57,16 +60,14 @@ fn shelf_in_memory_fails_where_listed_or_absent(rt: HostRuntime) -> Result<(), F
         ("a.ad", None, 4),
     ];
     for (name, text, faults) in calls {
-        match (fetched(&mut shelf, alloc, name), text) {
-            ((Ok(bytes), count), Some(want)) => {
-                assert_eq!(rt; bytes.as_slice(), want.as_bytes(), "{name}");
-                assert_eq!(rt; count, faults, "{name}");
-            }
-            ((Err(fault), count), None) => {
+        let (answer, count) = fetched(&mut shelf, alloc, name);
+        assert_eq!(rt; count, faults, "{name}");
+        match answer {
+            Ok(bytes) => assert_eq!(rt; Some(bytes.as_slice()), text.map(|text| text.as_bytes())),
+            Err(fault) => {
                 assert_eq!(rt; fault, ShelfFault::Failed, "{name}");
-                assert_eq!(rt; count, faults, "{name}");
+                assert!(rt; text.is_none(), "{name} at {faults}");
             }
-            _ => panic!(rt; "{name} at {faults}"),
         }
     }
     Ok(())
@@ -75,7 +76,12 @@ fn shelf_in_memory_fails_where_listed_or_absent(rt: HostRuntime) -> Result<(), F
 #[test]
 fn shelf_that_is_sure_gives_at_most_so_many_bytes(rt: HostRuntime) -> Result<(), Fail> {
     let alloc = rt.alloc();
-    for (held, given) in [(0, 0), (3, 3), (1_048_577, 1_048_577), (1_048_578, 1_048_577)] {
+    for (held, given) in [
+        (0, 0),
+        (3, 3),
+        (1_048_577, 1_048_577),
+        (1_048_578, 1_048_577),
+    ] {
         let mut shelf = SureShelf::new(vec![in alloc; b'x'; held]?);
         let (answer, faults) = fetched(&mut shelf, alloc, "any name");
         assert_eq!(rt; answer?.len(), given, "of {held}");
@@ -103,7 +109,7 @@ fn sink_in_memory_fails_where_listed_or_full(rt: HostRuntime) -> Result<(), Fail
         SinkFail { call: 1, pass: 1 },
         SinkFail { call: 1, pass: 2 },
         SinkFail { call: 5, pass: 9 },
-        SinkFail { call: 8, pass: 1 }
+        SinkFail { call: 8, pass: 1 },
     ]?;
     let mut sink = MemSink::new(alloc, 6, fails)?;
     let calls = [
@@ -118,7 +124,11 @@ fn sink_in_memory_fails_where_listed_or_full(rt: HostRuntime) -> Result<(), Fail
         ("gh", Err(Failed), "abcdef", 5),
     ];
     for (piece, answer, held, faults) in calls {
-        assert_eq!(rt; put(&mut sink, piece), (answer, faults), "{piece} for {held}");
+        assert_eq!(rt;
+            put(&mut sink, piece),
+            (answer, faults),
+            "{piece} for {held}"
+        );
         assert_eq!(rt; sink.bytes(), held.as_bytes());
     }
     Ok(())
@@ -171,4 +181,74 @@ fn standard_output_takes_a_piece(rt: HostRuntime) {
 fn standard_error_takes_a_piece(rt: HostRuntime) {
     let mut sink = ErrSink::new(rt.stderr());
     assert_eq!(rt; put(&mut sink, "a piece\n"), (Ok(()), 0));
+}
+
+// Reads and takes a byte at a time, so many of them, and then gives this answer at every call.
+#[derive(Drop)]
+struct Halting {
+    left: usize,
+    halt: Result<usize, ErrorKind>,
+}
+
+impl Halting {
+    fn halt(&self) -> io::Result<usize>
+        ensures { IfOk result (λ count. count ≡ 0) }
+    {
+        match self.halt {
+            Ok(_) => Ok(0),
+            Err(kind) => Err(io::Error::from(kind)),
+        }
+    }
+}
+
+impl Read for Halting {
+    fn read(&mut self, buf: &mut [u8]) -> io::Result<usize> {
+        if self.left == 0 || buf.is_empty() {
+            return self.halt();
+        }
+        self.left -= 1;
+        buf[0] = b'x';
+        Ok(1)
+    }
+}
+
+impl Write for Halting {
+    fn write(&mut self, buf: &[u8]) -> io::Result<usize> {
+        if self.left == 0 || buf.is_empty() {
+            return self.halt();
+        }
+        self.left -= 1;
+        Ok(1)
+    }
+
+    fn flush(&mut self) -> io::Result<()> {
+        Ok(())
+    }
+}
+
+#[test]
+fn reading_ends_as_the_reader_does(rt: HostRuntime) {
+    let cases = [
+        (Ok(0), Ok(3)),
+        (Err(ErrorKind::BrokenPipe), Err(ShelfFault::Failed)),
+        (Err(ErrorKind::OutOfMemory), Err(ShelfFault::OutOfMemory)),
+    ];
+    for (halt, want) in cases {
+        let mut reader = Halting { left: 3, halt };
+        let answer = read_text(&mut reader, rt.alloc()).map(|text| text.len());
+        assert_eq!(rt; answer, want);
+    }
+}
+
+#[test]
+fn writing_fails_where_no_byte_is_taken(rt: HostRuntime) {
+    let cases = [
+        (4, Ok(0), Ok(()), 0),
+        (3, Ok(0), Err(Failed), 1),
+        (3, Err(ErrorKind::BrokenPipe), Err(Failed), 1),
+    ];
+    for (left, halt, answer, faults) in cases {
+        let mut sink = StreamSink::new(Halting { left, halt });
+        assert_eq!(rt; put(&mut sink, "abcd"), (answer, faults), "at {left}");
+    }
 }

@@ -1,4 +1,4 @@
-use Rattle.std.proofs.Common.{rules, ◌≡◌, false}
+use Rattle.std.proofs.Common.{rules}
 use Rattle.ada_port.proofs.shelves.text_of.Goals as goal
 use Rattle.ada_port.proofs.Texts.{find-map}
 
