@@ -1,17 +1,17 @@
-ghost use Rattle.std.specs.Prelude.{◌≡◌, ℕ, List, Option, None, IfOk, IfErr, length};
+ghost use Rattle.std.specs.Prelude.{◌≡◌, ℕ, List, Option, None, IfOk, IfErr, length, string_bytes};
 ghost use Rattle.std.specs.List.{list_all};
 ghost use Rattle.ada_meaning.specs.Program.{declares, operand_declared, expression_declared, statement_declared};
 ghost use Rattle.ada_meaning.specs.FirstForm.{are_distinct};
 ghost use Rattle.ada_meaning.specs.Accepted.{IsAccepted};
 ghost use Rattle.ada_run.specs.Reading.{Finds, Gives, declaration_at, statement_at, joined_at, line_at, program_at};
-ghost use Rattle.ada_run.specs.Compile.{IsRefusalOf, beginning};
+ghost use Rattle.ada_run.specs.Compile.{IsRefusalOf, beginning, line_of, note_text};
 ghost use Rattle.ada_run.specs.declared.compiler.Refusal.TheVariants.{Refused};
 ghost use Rattle.ada_run.specs.declared.compiler.Unread.TheVariants as unread;
 
 use crate::reading;
 use ada_base::Place;
 use ada_meaning::{Declaration, Expression, FirstForm, Letter, Operand, Statement};
-use std::alloc::{AllocFailed, Global};
+use std::alloc::{AllocError, AllocFailed, Global};
 
 /// What a text is compiled to: so far its program.
 #[derive(Debug, Drop)]
@@ -30,6 +30,36 @@ pub enum Refusal {
         note: u8,
     },
     OutOfMemory,
+}
+
+impl Refusal {
+    /// What is said of a refusal of the text in this file: the file, the fault's line and column, and
+    /// the note's text, as `t.ada:1:1: E05 unknown name`.
+    pub fn line(&self, alloc: Global, file: &str, text: &[u8]) -> Result<String, AllocError>
+        requires { IsRefusalOf text.now self.now }
+        ensures { IfOk result (λ line. string_bytes line ≡ line_of file.now self.now) }
+    {
+        let _ = text;
+        match self {
+            Refusal::Refused { at, note, .. } => {
+                let line = at.line;
+                let column = at.column;
+                let said = text_of_note(*note);
+                format!(in alloc; "{file}:{line}:{column}: {said}")
+            }
+            Refusal::OutOfMemory => String::from_str(alloc, "out of memory"),
+        }
+    }
+}
+
+fn text_of_note(note: u8) -> &'static str
+    ensures { result.now ≡ note_text note }
+{
+    if note == 5 {
+        "E05 unknown name"
+    } else {
+        "E13 not built yet"
+    }
 }
 
 /// Why no program was read.
