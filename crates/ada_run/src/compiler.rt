@@ -1,7 +1,7 @@
 ghost use Rattle.std.specs.Prelude.{◌≡◌, ℕ, List, Option, None, IfOk, IfErr, length, string_bytes};
 ghost use Rattle.std.specs.List.{list_all};
-ghost use Rattle.ada_meaning.specs.Program.{declares, operand_declared, expression_declared, statement_declared};
-ghost use Rattle.ada_meaning.specs.FirstForm.{are_distinct};
+ghost use Rattle.ada_meaning.specs.Program.{declares, operand_declared, expression_declared, statement_declared, Program};
+ghost use Rattle.ada_meaning.specs.FirstForm.{are_distinct, IsFirstForm};
 ghost use Rattle.ada_meaning.specs.Accepted.{IsAccepted};
 ghost use Rattle.ada_run.specs.Reading.{Finds, Gives, declaration_at, statement_at, joined_at, line_at, program_at};
 ghost use Rattle.ada_run.specs.Compile.{IsRefusalOf, beginning, line_of, note_text};
@@ -234,6 +234,12 @@ pub fn compile(alloc: Global, text: &[u8]) -> Result<Unit, Refusal>
         Err(Unread::OtherForm) => Err(refused(13, 19)),
         Err(Unread::OutOfMemory) => Err(Refusal::OutOfMemory),
     }
+}
+
+/// A text has at most one program of the first form.
+pub fn one_program()
+    ensures { (text : List ℕ) (p q : Program) → IsFirstForm text p → IsFirstForm text q → p ≡ q }
+{
 }
 
 fn refused(code: u8, note: u8) -> Refusal

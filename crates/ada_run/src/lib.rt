@@ -5,5 +5,5 @@ mod compiler;
 mod reading;
 mod runner;
 
-pub use compiler::{Refusal, Unit, compile};
+pub use compiler::{Refusal, Unit, compile, one_program};
 pub use runner::{RunEnd, execute};

@@ -1,0 +1,2 @@
+-- The causes of the statuses.
+use Rattle.std.specs.Prelude.{◌≡◌}
