@@ -5,7 +5,13 @@ use Rattle.ada_cmd.specs.declared.status.Status.{Status}
 use Rattle.ada_cmd.specs.declared.status.Status.TheVariants as status
 use Rattle.ada_cmd.specs.Words.{Command}
 use Rattle.ada_cmd.specs.Words as words
-use Rattle.ada_cmd.specs.Due.{Due, IsDue, ended}
+use Rattle.ada_base.specs.declared.reason.Reason.{Reason}
+use Rattle.ada_run.specs.Compile.{line_of}
+use Rattle.ada_run.specs.declared.compiler.Refusal.{Refusal}
+use Rattle.ada_run.specs.declared.compiler.Refusal.TheVariants as refusal
+use Rattle.ada_run.specs.declared.runner.RunEnd.{RunEnd}
+use Rattle.ada_run.specs.declared.runner.RunEnd.TheVariants as run_end
+use Rattle.ada_cmd.specs.Due.{Due, IsDue, IsTextDue, ended, unhandled_line}
 
 abbrev pub number_of : Status → ℕ
 number_of status.Done = 0
@@ -22,6 +28,9 @@ pub record Sight : Type 0 where
   pub holds : Option (List ℕ)
   pub before : ℕ
   pub now : ℕ
+
+abbrev pub sight : Option (List ℕ) → Option (List ℕ) → ℕ → ℕ → Sight
+sight held holds before now = record { held = held; holds = holds; before = before; now = now }
 
 -- all the bytes were put
 pub record Took (sink : Sight) (bytes : List ℕ) : Type 0 where
@@ -49,7 +58,29 @@ abbrev pub memory_line : List ℕ
 memory_line = ended (codes "out of memory")
 
 abbrev pub unreadable_line : List ℕ → List ℕ
-unreadable_line file = ended (file ++ codes ": cannot be read")
+unreadable_line file = file ++ ended (codes ": cannot be read")
+
+-- memory may run out before a line is there
+abbrev pub SaysOrLacks : Status → List ℕ → Status → Sight → Type 0
+SaysOrLacks due line given err = Says due line given err ⊎ Says status.OutOfMemory memory_line given err
+
+abbrev pub SaysRaised : Reason → Status → Sight → Type 0
+SaysRaised why given err = SaysOrLacks status.Raised (unhandled_line why) given err
+
+-- how a run ended
+abbrev pub SaysEnd : RunEnd → Status → Sight → Type 0
+SaysEnd (run_end.Ended cells) given err = (given ≡ status.Done) × Took err []
+SaysEnd (run_end.Raised why) given err = SaysRaised why given err
+SaysEnd run_end.WriteFault given err = Says status.WriteFault write_fault_line given err
+SaysEnd run_end.NoMemory given err = Says status.OutOfMemory memory_line given err
+
+abbrev pub SaysRefusal : List ℕ → Refusal → Status → Sight → Type 0
+SaysRefusal file refusal.OutOfMemory given err = Says status.OutOfMemory memory_line given err
+SaysRefusal file (refusal.Refused code at other note) given err =
+    SaysOrLacks status.Refused (ended (line_of file (refusal.Refused code at other note))) given err
+
+abbrev pub SaysUnreadable : List ℕ → Status → Sight → Type 0
+SaysUnreadable file given err = SaysOrLacks status.ShelfFault (unreadable_line file) given err
 
 -- what became of the answer that is due
 pub data Gives (due : Due) (given : Status) (out err : Sight) : Type 0 where
@@ -57,9 +88,15 @@ pub data Gives (due : Due) (given : Status) (out err : Sight) : Type 0 where
   OutFailed : Broke out due.output → Says status.WriteFault write_fault_line given err → Gives due given out err
   NoMemory : TookFront out due.output → Says status.OutOfMemory memory_line given err → Gives due given out err
 
+-- what became of a text: the answer that is due to it was given, or memory ran out before it was known
+abbrev pub GivesText : List ℕ → List ℕ → Status → Sight → Sight → Type 0
+GivesText file text given out err =
+    ((due : Due) × IsTextDue file text due × Gives due given out err)
+    ⊎ (Took out [] × Says status.OutOfMemory memory_line given err)
+
 -- what became of the words: the answer that is due was given, or the shelf failed, or memory ran out before the
 -- text was known
 pub data Answers (command : Command) (shelf : List ℕ → Option (List ℕ)) (before now : ℕ) (given : Status) (out err : Sight) : Type 0 where
   Given : (due : Due) → IsDue command shelf due → now ≡ before → Gives due given out err → Answers command shelf before now given out err
-  ShelfFailed : (file : List ℕ) → command ≡ words.Run file → Rises before now → Took out [] → Says status.ShelfFault (unreadable_line file) given err → Answers command shelf before now given out err
+  ShelfFailed : (file : List ℕ) → command ≡ words.Run file → Rises before now → Took out [] → SaysUnreadable file given err → Answers command shelf before now given out err
   Unread : now ≡ before → Took out [] → Says status.OutOfMemory memory_line given err → Answers command shelf before now given out err

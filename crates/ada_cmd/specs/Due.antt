@@ -1,5 +1,5 @@
 -- The answer that is due where nothing fails: a status, what is put to out, and the line on err.
-use Rattle.std.specs.Prelude.{◌≡◌, ◌⊎◌, ℕ, List, [], ◌∷◌, ◌++◌, codes, decimal, Option, Some, None, ⊤}
+use Rattle.std.specs.Prelude.{◌≡◌, ◌⊎◌, ℕ, List, [], ◌∷◌, ◌++◌, codes, decimal, Option, IfSome}
 use Rattle.ada_base.specs.declared.reason.Reason.{Reason}
 use Rattle.ada_base.specs.declared.reason.Reason.TheVariants as reason
 use Rattle.ada_port.specs.Ports.{fetched}
@@ -58,8 +58,7 @@ IsTextDue file text due =
 
 -- the text that was fetched, of what is told
 abbrev pub IsFetched : Option (List ℕ) → List ℕ → Type 0
-IsFetched None text = ⊤
-IsFetched (Some told) text = text ≡ fetched told
+IsFetched told text = IfSome told (λ whole. text ≡ fetched whole)
 
 -- the answer that is due to the words, where the shelf has these texts
 abbrev pub IsDue : Command → (List ℕ → Option (List ℕ)) → Due → Type 0
