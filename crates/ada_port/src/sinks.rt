@@ -1,4 +1,4 @@
-ghost use Rattle.std.specs.Prelude.{◌≡◌, ◌↔◌, ◌+◌, ◌-◌, ◌^◌, ◌≤◌, ◌++◌, min, ℕ, List, [], length, take, Option, None, Some, IfOk, IsErr, IsOk, IsTrue};
+ghost use Rattle.std.specs.Prelude.{◌≡◌, ◌↔◌, ◌+◌, ◌-◌, ◌^◌, ◌≤◌, ◌++◌, min, [], length, IfOk, IsErr, IsOk, IsTrue};
 ghost use Rattle.ada_port.specs.Ports.{Counts, Puts};
 ghost use Rattle.ada_port.specs.Sinks.{after_put, entry_of, is_too_long, passing_part, put_fails};
 
