@@ -2,5 +2,5 @@
 use Rattle.std.specs.Prelude.{ℕ, ◌+◌, ◌-◌, ◌^◌, min}
 
 -- the next count; at the greatest u64 it stands still
-abbrev pub raised : ℕ → ℕ
-raised count = min (count + 1) (2 ^ 64 - 1)
+abbrev pub next_count : ℕ → ℕ
+next_count count = min (count + 1) (2 ^ 64 - 1)

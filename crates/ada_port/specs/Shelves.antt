@@ -2,7 +2,7 @@
 use Rattle.std.specs.Prelude.{ℕ, Bool, List, Option, Result, Ok, Err, ◌==◌, ◌||◌, is_none, find, option_map, string_bytes}
 use Rattle.std.specs.List.{list_any}
 use Rattle.std.specs.Str.{bytes_eq}
-use Rattle.ada_port.specs.Counts.{raised}
+use Rattle.ada_port.specs.Counts.{next_count}
 use Rattle.ada_port.specs.declared.ports.ShelfFault.{ShelfFault}
 use Rattle.ada_port.specs.declared.ports.ShelfFault.TheVariants as fault
 use Rattle.ada_port.specs.declared.shelves.ShelfText.{ShelfText}
@@ -12,8 +12,8 @@ pub record NamedText : Type 0 where
   pub name : List ℕ
   pub bytes : List ℕ
 
-abbrev pub named : ShelfText → NamedText
-named t = record { name = string_bytes t.name; bytes = t.bytes.items }
+abbrev pub named_text : ShelfText → NamedText
+named_text t = record { name = string_bytes t.name; bytes = t.bytes.items }
 
 -- the texts on a shelf, the numbers of the calls that fail, and how many calls were made and failed so far
 pub record ShelfState : Type 0 where
@@ -32,6 +32,6 @@ fetch_fails s name = list_any (λ call. call == s.calls) s.fails || is_none (tex
 
 -- after a fetch: every call counts, and a failed one is a fault; nothing else changes
 abbrev pub after_fetch : {T : Type 0} → ShelfState → Result T ShelfFault → ShelfState
-after_fetch s (Ok _) = record s { calls = raised s.calls }
-after_fetch s (Err fault.OutOfMemory) = record s { calls = raised s.calls }
-after_fetch s (Err fault.Failed) = record s { calls = raised s.calls; faults = raised s.faults }
+after_fetch s (Ok _) = record s { calls = next_count s.calls }
+after_fetch s (Err fault.OutOfMemory) = record s { calls = next_count s.calls }
+after_fetch s (Err fault.Failed) = record s { calls = next_count s.calls; faults = next_count s.faults }

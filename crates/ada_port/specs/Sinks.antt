@@ -1,6 +1,6 @@
 -- A sink in memory.
 use Rattle.std.specs.Prelude.{ℕ, ◌+◌, Bool, ◌||◌, ◌==◌, List, [], ◌++◌, length, take, Option, Some, None, is_some, find, Result, Ok, Err, nat_lt, if◌then◌else◌}
-use Rattle.ada_port.specs.Counts.{raised}
+use Rattle.ada_port.specs.Counts.{next_count}
 use Rattle.ada_port.specs.declared.ports.Failed.{Failed}
 use Rattle.ada_port.specs.declared.sinks.SinkFail.{SinkFail}
 
@@ -13,8 +13,8 @@ pub record SinkState : Type 0 where
   pub faults : ℕ
 
 -- the entry of the next call: of two entries for one call the first counts
-abbrev pub listed : SinkState → Option SinkFail
-listed s = find (λ f. f.call == s.calls) s.fails
+abbrev pub entry_of : SinkState → Option SinkFail
+entry_of s = find (λ f. f.call == s.calls) s.fails
 
 -- whether a piece is longer than the room that is left
 abbrev pub is_too_long : SinkState → List ℕ → Bool
@@ -22,18 +22,18 @@ is_too_long s piece = nat_lt s.room (length s.held + length piece)
 
 -- whether a put fails: its call is listed, or the piece doesn't fit
 abbrev pub put_fails : SinkState → List ℕ → Bool
-put_fails s piece = is_some (listed s) || is_too_long s piece
+put_fails s piece = is_some (entry_of s) || is_too_long s piece
 
 -- what the entry of a call lets pass: all of the piece, or so many of its bytes
-abbrev pub let_pass : Option SinkFail → List ℕ → List ℕ
-let_pass None piece = piece
-let_pass (Some fail) piece = take fail.pass piece
+abbrev pub passing_part : Option SinkFail → List ℕ → List ℕ
+passing_part None piece = piece
+passing_part (Some fail) piece = take fail.pass piece
 
 -- the part of a piece that is appended: none of one that doesn't fit, whether or not its call is listed
-abbrev pub appended : SinkState → List ℕ → List ℕ
-appended s piece = if is_too_long s piece then [] else let_pass (listed s) piece
+abbrev pub appended_part : SinkState → List ℕ → List ℕ
+appended_part s piece = if is_too_long s piece then [] else passing_part (entry_of s) piece
 
 -- after a put: every call counts, and a failed one is a fault
 abbrev pub after_put : {T : Type 0} → SinkState → List ℕ → Result T Failed → SinkState
-after_put s piece (Ok _) = record s { held = s.held ++ appended s piece; calls = raised s.calls }
-after_put s piece (Err _) = record s { held = s.held ++ appended s piece; calls = raised s.calls; faults = raised s.faults }
+after_put s piece (Ok _) = record s { held = s.held ++ appended_part s piece; calls = next_count s.calls }
+after_put s piece (Err _) = record s { held = s.held ++ appended_part s piece; calls = next_count s.calls; faults = next_count s.faults }

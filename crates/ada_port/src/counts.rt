@@ -1,9 +1,9 @@
 // Counts of calls and of faults.
 ghost use Rattle.std.specs.Prelude.{◌≡◌};
-ghost use Rattle.ada_port.specs.Counts.{raised};
+ghost use Rattle.ada_port.specs.Counts.{next_count};
 
 pub(crate) fn raise(count: u64) -> u64
-    ensures { result ≡ raised count }
+    ensures { result ≡ next_count count }
 {
     count.saturating_add(1)
 }

@@ -1,5 +1,5 @@
-ghost use Rattle.std.specs.Prelude.{◌≡◌, ◌≤◌, ℕ, List, Option, None, IfOk, IfSome, OnOk, length, vec_len};
-ghost use Rattle.ada_port.specs.Ports.{CountsFetch, fetched};
+ghost use Rattle.std.specs.Prelude.{◌≡◌, ◌≤◌, IfOk, IfSome, vec_len};
+ghost use Rattle.ada_port.specs.Ports.{fetched};
 
 use crate::counts::raise;
 use crate::ports::{MOST_BYTES, Shelf, ShelfFault};
@@ -44,7 +44,8 @@ impl<R: Files + Drop> Shelf for FileShelf<R> {
 
     ghost faults = { λ s. s };
 
-    /// Reads the file of that path. `Failed` comes where the system can't open or read it.
+    /// Reads the file of that path. `Failed` comes where the system can't open or read it, and
+    /// `OutOfMemory` where it or the allocator has no memory left.
     fn fetch(&mut self, alloc: Global, name: &str) -> Result<Vec<u8>, ShelfFault> {
         let text = read_file(&self.files, alloc, name);
         if matches!(text, Err(ShelfFault::Failed)) {

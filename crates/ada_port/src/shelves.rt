@@ -1,7 +1,7 @@
 ghost use Rattle.std.specs.Prelude.{◌≡◌, ◌↔◌, ℕ, List, IfErr, IfOk, IfSome, IsTrue, find, map, option_copied, string_bytes};
 ghost use Rattle.std.specs.Str.{bytes_eq};
 ghost use Rattle.ada_port.specs.Ports.{CountsFetch, fetched};
-ghost use Rattle.ada_port.specs.Shelves.{fetch_fails, after_fetch, named, text_of};
+ghost use Rattle.ada_port.specs.Shelves.{fetch_fails, after_fetch, named_text, text_of};
 
 use crate::counts::raise;
 use crate::ports::{MOST_BYTES, Shelf, ShelfFault};
@@ -29,12 +29,12 @@ pub struct MemShelf {
 
 impl Model for MemShelf {
     ghost use Rattle.std.specs.Prelude.{map};
-    ghost use Rattle.ada_port.specs.Shelves.{ShelfState, named};
+    ghost use Rattle.ada_port.specs.Shelves.{ShelfState, named_text};
 
     ghost Value = { ShelfState };
 
     ghost view = { λ s. record {
-      texts = map named s.texts.items;
+      texts = map named_text s.texts.items;
       fails = s.fails.items;
       calls = s.calls;
       faults = s.failed;
@@ -45,7 +45,7 @@ impl MemShelf {
     /// A shelf with these texts, whose calls with the listed numbers, counted from 0, fail. Of two
     /// texts with one name the first counts.
     pub fn new(texts: Vec<ShelfText>, fails: Vec<u64>) -> MemShelf
-        ensures { result ≡ record { texts = map named texts.items; fails = fails.items; calls = 0; faults = 0 } }
+        ensures { result ≡ record { texts = map named_text texts.items; fails = fails.items; calls = 0; faults = 0 } }
     {
         MemShelf {
             texts,
@@ -147,7 +147,7 @@ impl Shelf for SureShelf {
 
 // The text of a name: of two entries for it the first counts.
 fn text_of<'a>(texts: &'a [ShelfText], name: &str) -> Option<&'a [u8]>
-    ensures { option_copied result ≡ text_of (map named texts.now) name.now }
+    ensures { option_copied result ≡ text_of (map named_text texts.now) name.now }
 {
     let entry = entry_of(texts, name)?;
     Some(&entry.bytes)

@@ -1,6 +1,6 @@
-ghost use Rattle.std.specs.Prelude.{◌≡◌, ◌↔◌, ◌+◌, ◌-◌, ◌^◌, ◌≤◌, ◌++◌, min, ℕ, List, [], length, take, Option, None, Some, IfOk, IsErr, IsOk, IsTrue};
+ghost use Rattle.std.specs.Prelude.{◌≡◌, ◌↔◌, ◌+◌, ◌-◌, ◌^◌, ◌≤◌, ◌++◌, min, [], length, IfOk, IsErr, IsOk, IsTrue};
 ghost use Rattle.ada_port.specs.Ports.{Counts, Puts};
-ghost use Rattle.ada_port.specs.Sinks.{after_put, is_too_long, let_pass, listed, put_fails};
+ghost use Rattle.ada_port.specs.Sinks.{after_put, entry_of, is_too_long, passing_part, put_fails};
 
 use crate::counts::raise;
 use crate::ports::{Failed, Sink};
@@ -68,8 +68,8 @@ impl MemSink {
     }
 
     // The entry of the next call.
-    fn listed(&self) -> Option<SinkFail>
-        ensures { result ≡ listed self.now }
+    fn entry(&self) -> Option<SinkFail>
+        ensures { result ≡ entry_of self.now }
     {
         let call = self.calls;
         self.fails.iter().copied().find(|fail| fail.call == call)
@@ -108,13 +108,13 @@ impl Sink for MemSink {
         ensures fails { IsErr result ↔ IsTrue (put_fails self.old piece.now) }
         ensures state { self.new ≡ after_put self.old piece.now result }
     {
-        let listed = self.listed();
+        let entry = self.entry();
         let fits = !self.is_too_long(piece);
         self.calls = raise(self.calls);
         if fits {
-            self.append(let_pass(listed, piece));
+            self.append(passing_part(entry, piece));
         }
-        if fits && listed.is_none() {
+        if fits && entry.is_none() {
             return Ok(());
         }
         self.failed = raise(self.failed);
@@ -127,10 +127,10 @@ impl Sink for MemSink {
 }
 
 // What passes of a piece.
-fn let_pass(listed: Option<SinkFail>, piece: &[u8]) -> &[u8]
-    ensures { result.now ≡ let_pass listed piece.now }
+fn passing_part(entry: Option<SinkFail>, piece: &[u8]) -> &[u8]
+    ensures { result.now ≡ passing_part entry piece.now }
 {
-    match listed {
+    match entry {
         None => piece,
         Some(fail) => {
             let pass = fail.pass.min(piece.len() as u64) as usize;

@@ -1,4 +1,4 @@
-ghost use Rattle.std.specs.Prelude.{◌≡◌, IsOk, ◌∷◌, ℕ, List, Option, [], ◌++◌};
+ghost use Rattle.std.specs.Prelude.{◌≡◌, IsOk};
 ghost use Rattle.ada_port.specs.Ports.{Counts, Takes};
 
 use crate::ports::{Failed, Source};
