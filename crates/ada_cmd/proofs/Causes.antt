@@ -85,12 +85,12 @@ named_due command shelf file told due names is =
 pub runs : (command : Command) (shelf : List ℕ → Option (List ℕ)) (before now : ℕ) (given : Status) (out err : Sight) → Answers command shelf before now given out err → (file told : List ℕ) (program : Program) → Names command shelf file told → IsAccepted (fetched told) program → Meets (run_due (first_run program)) before now (number_of given) out err
 runs command shelf before now given out err answers file told program names accepted =
     meets command shelf before now given out err (run_due (first_run program)) answers
-      (named_due command shelf file told (run_due (first_run program)) names (inl (program, accepted, refl)))
+    (named_due command shelf file told (run_due (first_run program)) names (inl (program, accepted, refl)))
 
 pub refuses : (command : Command) (shelf : List ℕ → Option (List ℕ)) (before now : ℕ) (given : Status) (out err : Sight) → Answers command shelf before now given out err → (file told : List ℕ) (fault : Fault) → Names command shelf file told → IsFaultOf (fetched told) fault → Meets (refused_due file fault) before now (number_of given) out err
 refuses command shelf before now given out err answers file told fault names is =
     meets command shelf before now given out err (refused_due file fault) answers
-      (named_due command shelf file told (refused_due file fault) names (inr (fault, is, refl)))
+    (named_due command shelf file told (refused_due file fault) names (inr (fault, is, refl)))
 
 pub wrong_words : (command : Command) (shelf : List ℕ → Option (List ℕ)) (before now : ℕ) (given : Status) (out err : Sight) → Answers command shelf before now given out err → command ≡ words.Usage → Meets usage_due before now (number_of given) out err
 wrong_words command shelf before now given out err answers wrong =
@@ -165,51 +165,55 @@ done command shelf before now given out err answers zero-is =
     let is_done : given ≡ status.Done = same_status given status.Done zero-is in
     let own = own_due command shelf before now given out err (subst IsOwn (sym is_done) tt) answers in
     go command own.0 own.1 (sym own.2 ∙ is_done) where
-  go : (command : Command) (due : Due) → IsDue command shelf due → due.status ≡ status.Done → HasEnding command shelf Ended
-  go words.Usage due is e = absurd (different (sym (ap (λ (d : Due). d.status) is) ∙ e)) where
-    different : status.Usage ≡ status.Done → ⊥
-    different e = absurd cc
-  go (words.Run file) due (text, fetch, inl (program, accepted, is)) e =
-      (file, text, program, refl, fetch, accepted, done_ends ((first_run program).ending) ((first_run program).output) (sym (ap (λ (d : Due). d.status) is) ∙ e))
-  go (words.Run file) due (text, fetch, inr (fault, is_fault, is)) e = absurd (different (sym (ap (λ (d : Due). d.status) is) ∙ e)) where
-    different : status.Refused ≡ status.Done → ⊥
-    different e = absurd cc
+      go : (command : Command) (due : Due) → IsDue command shelf due → due.status ≡ status.Done → HasEnding command shelf Ended
+      go words.Usage due is e = absurd (different (sym (ap (λ (d : Due). d.status) is) ∙ e)) where
+        different : status.Usage ≡ status.Done → ⊥
+        different e = absurd cc
+      go (words.Run file) due (text, fetch, inl (program, accepted, is)) e =
+          (file, text, program, refl, fetch, accepted, done_ends ((first_run program).ending) ((first_run program).output) (sym (ap (λ (d : Due). d.status) is) ∙ e))
+      go (words.Run file) due (text, fetch, inr (fault, is_fault, is)) e = absurd (different (sym (ap (λ (d : Due). d.status) is) ∙ e)) where
+        different : status.Refused ≡ status.Done → ⊥
+        different e = absurd cc
 
 pub raised : (command : Command) (shelf : List ℕ → Option (List ℕ)) (before now : ℕ) (given : Status) (out err : Sight) → Answers command shelf before now given out err → number_of given ≡ 4 → (why : Reason) × HasEnding command shelf (Raised why)
 raised command shelf before now given out err answers four-is =
     let is_raised : given ≡ status.Raised = same_status given status.Raised four-is in
     let own = own_due command shelf before now given out err (subst IsOwn (sym is_raised) tt) answers in
     go command own.0 own.1 (sym own.2 ∙ is_raised) where
-  go : (command : Command) (due : Due) → IsDue command shelf due → due.status ≡ status.Raised → (why : Reason) × HasEnding command shelf (Raised why)
-  go words.Usage due is e = absurd (different (sym (ap (λ (d : Due). d.status) is) ∙ e)) where
-    different : status.Usage ≡ status.Raised → ⊥
-    different e = absurd cc
-  go (words.Run file) due (text, fetch, inl (program, accepted, is)) e =
-      let ends = raised_ends ((first_run program).ending) ((first_run program).output) (sym (ap (λ (d : Due). d.status) is) ∙ e) in
-      (ends.0, (file, text, program, refl, fetch, accepted, ends.1))
-  go (words.Run file) due (text, fetch, inr (fault, is_fault, is)) e = absurd (different (sym (ap (λ (d : Due). d.status) is) ∙ e)) where
-    different : status.Refused ≡ status.Raised → ⊥
-    different e = absurd cc
+      go : (command : Command) (due : Due) → IsDue command shelf due → due.status ≡ status.Raised → (why : Reason) × HasEnding command shelf (Raised why)
+      go words.Usage due is e = absurd (different (sym (ap (λ (d : Due). d.status) is) ∙ e)) where
+        different : status.Usage ≡ status.Raised → ⊥
+        different e = absurd cc
+      go (words.Run file) due (text, fetch, inl (program, accepted, is)) e =
+          let ends = raised_ends ((first_run program).ending) ((first_run program).output) (sym (ap (λ (d : Due). d.status) is) ∙ e) in
+          (ends.0, (file, text, program, refl, fetch, accepted, ends.1))
+      go (words.Run file) due (text, fetch, inr (fault, is_fault, is)) e = absurd (different (sym (ap (λ (d : Due). d.status) is) ∙ e)) where
+        different : status.Refused ≡ status.Raised → ⊥
+        different e = absurd cc
 
 pub refused : (command : Command) (shelf : List ℕ → Option (List ℕ)) (before now : ℕ) (given : Status) (out err : Sight) → Answers command shelf before now given out err → number_of given ≡ 1 → IsNotAccepted command shelf
 refused command shelf before now given out err answers one-is =
     let is_refused : given ≡ status.Refused = same_status given status.Refused one-is in
     let own = own_due command shelf before now given out err (subst IsOwn (sym is_refused) tt) answers in
     go command own.0 own.1 (sym own.2 ∙ is_refused) where
-  go : (command : Command) (due : Due) → IsDue command shelf due → due.status ≡ status.Refused → IsNotAccepted command shelf
-  go words.Usage due is e = absurd (different (sym (ap (λ (d : Due). d.status) is) ∙ e)) where
-    different : status.Usage ≡ status.Refused → ⊥
-    different e = absurd cc
-  go (words.Run file) due (text, fetch, inl (program, accepted, is)) e =
-      elim (run_status ((first_run program).ending) ((first_run program).output)) [
-        | inl is_done ↦ absurd (done_refused (sym is_done ∙ sym (ap (λ (d : Due). d.status) is) ∙ e))
-        | inr is_raised ↦ absurd (raised_refused (sym is_raised ∙ sym (ap (λ (d : Due). d.status) is) ∙ e))
-      ] where
-    done_refused : status.Done ≡ status.Refused → ⊥
-    done_refused e = absurd cc
-    raised_refused : status.Raised ≡ status.Refused → ⊥
-    raised_refused e = absurd cc
-  go (words.Run file) due (text, fetch, inr (fault, is_fault, is)) e =
-      (file, refl, λ told program has accepted.
-        let same : text ≡ fetched told = subst (λ (o : Option (List ℕ)). IfSome o (λ whole. text ≡ fetched whole)) has fetch in
-        no_fault (fetched told) program fault accepted (subst (λ (t : List ℕ). IsFaultOf t fault) same is_fault))
+      go : (command : Command) (due : Due) → IsDue command shelf due → due.status ≡ status.Refused → IsNotAccepted command shelf
+      go words.Usage due is e = absurd (different (sym (ap (λ (d : Due). d.status) is) ∙ e)) where
+        different : status.Usage ≡ status.Refused → ⊥
+        different e = absurd cc
+      go (words.Run file) due (text, fetch, inl (program, accepted, is)) e =
+          elim (run_status ((first_run program).ending) ((first_run program).output)) [
+            | inl is_done ↦ absurd (done_refused (sym is_done ∙ sym (ap (λ (d : Due). d.status) is) ∙ e))
+            | inr is_raised ↦ absurd (raised_refused (sym is_raised ∙ sym (ap (λ (d : Due). d.status) is) ∙ e))
+          ] where
+            done_refused : status.Done ≡ status.Refused → ⊥
+            done_refused e = absurd cc
+
+            raised_refused : status.Raised ≡ status.Refused → ⊥
+            raised_refused e = absurd cc
+      go (words.Run file) due (text, fetch, inr (fault, is_fault, is)) e = (
+        file,
+        refl,
+        λ told program has accepted.
+            let same : text ≡ fetched told = subst (λ (o : Option (List ℕ)). IfSome o (λ whole. text ≡ fetched whole)) has fetch in
+            no_fault (fetched told) program fault accepted (subst (λ (t : List ℕ). IsFaultOf t fault) same is_fault),
+      )

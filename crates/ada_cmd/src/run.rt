@@ -58,8 +58,8 @@ fn say_raised<E: Sink>(alloc: Global, reason: Reason, err: &mut E) -> Status
 fn run_unit<O: Sink, E: Sink>(alloc: Global, unit: &Unit, out: &mut O, err: &mut E) -> Status
     requires { (text : List ℕ) × IsAccepted text unit.now.program }
     ensures { Gives (run_due (first_run unit.now.program)) result
-      (sight (O.holds out.old) (O.holds out.new) (O.faults out.old) (O.faults out.new))
-      (sight (E.holds err.old) (E.holds err.new) (E.faults err.old) (E.faults err.new)) }
+        (sight (O.holds out.old) (O.holds out.new) (O.faults out.old) (O.faults out.new))
+        (sight (E.holds err.old) (E.holds err.new) (E.faults err.old) (E.faults err.new)) }
 {
     let end = execute(alloc, unit, out);
     say_end(alloc, &end, err)
@@ -74,8 +74,8 @@ fn run_text<O: Sink, E: Sink>(
     err: &mut E,
 ) -> Status
     ensures { GivesText file.now text.now result
-      (sight (O.holds out.old) (O.holds out.new) (O.faults out.old) (O.faults out.new))
-      (sight (E.holds err.old) (E.holds err.new) (E.faults err.old) (E.faults err.new)) }
+        (sight (O.holds out.old) (O.holds out.new) (O.faults out.old) (O.faults out.new))
+        (sight (E.holds err.old) (E.holds err.new) (E.faults err.old) (E.faults err.new)) }
 {
     match compile(alloc, text) {
         Ok(unit) => run_unit(alloc, &unit, out, err),
@@ -125,8 +125,8 @@ pub fn run_file<F: Shelf, O: Sink, E: Sink>(
     err: &mut E,
 ) -> Status
     ensures { Answers (Run file.now) (F.text shelf.old) (F.faults shelf.old) (F.faults shelf.new) result
-      (sight (O.holds out.old) (O.holds out.new) (O.faults out.old) (O.faults out.new))
-      (sight (E.holds err.old) (E.holds err.new) (E.faults err.old) (E.faults err.new)) }
+        (sight (O.holds out.old) (O.holds out.new) (O.faults out.old) (O.faults out.new))
+        (sight (E.holds err.old) (E.holds err.new) (E.faults err.old) (E.faults err.new)) }
 {
     match shelf.fetch(alloc, file) {
         Ok(text) => run_text(alloc, file, &text, out, err),

@@ -27,14 +27,7 @@ const USAGE: &[u8] =
 /// The words are right where they are `run FILE`. The text is fetched, compiled and run; what it writes
 /// goes to out, and a line to err says why the status isn't 0. Once a sink has failed it is not asked
 /// again. Nothing is asked of the input so far.
-pub fn run_words<
-    R: Threads + Sync,
-    F: Shelf,
-    I: Source,
-    O: Sink,
-    E: Sink,
-    P: Pulse + Sync,
->(
+pub fn run_words<R: Threads + Sync, F: Shelf, I: Source, O: Sink, E: Sink, P: Pulse + Sync>(
     rt: &R,
     alloc: Global,
     words: &[String],
@@ -45,27 +38,27 @@ pub fn run_words<
     pulse: &P,
 ) -> u8
     ensures answer { Answered (command_of (map string_bytes words.now)) (F.text shelf.old)
-      (F.faults shelf.old) (F.faults shelf.new) result
-      (sight (O.holds out.old) (O.holds out.new) (O.faults out.old) (O.faults out.new))
-      (sight (E.holds err.old) (E.holds err.new) (E.faults err.old) (E.faults err.new)) }
+        (F.faults shelf.old) (F.faults shelf.new) result
+        (sight (O.holds out.old) (O.holds out.new) (O.faults out.old) (O.faults out.new))
+        (sight (E.holds err.old) (E.holds err.new) (E.faults err.old) (E.faults err.new)) }
 
     // An accepted text is run, a text with a fault is refused, and wrong words get the usage line.
     ensures runs { (file told : List ℕ) (program : Program) →
-      Names (command_of (map string_bytes words.now)) (F.text shelf.old) file told →
-      IsAccepted (fetched told) program →
-      Meets (run_due (first_run program)) (F.faults shelf.old) (F.faults shelf.new) result
-      (sight (O.holds out.old) (O.holds out.new) (O.faults out.old) (O.faults out.new))
-      (sight (E.holds err.old) (E.holds err.new) (E.faults err.old) (E.faults err.new)) }
+        Names (command_of (map string_bytes words.now)) (F.text shelf.old) file told →
+        IsAccepted (fetched told) program →
+        Meets (run_due (first_run program)) (F.faults shelf.old) (F.faults shelf.new) result
+        (sight (O.holds out.old) (O.holds out.new) (O.faults out.old) (O.faults out.new))
+        (sight (E.holds err.old) (E.holds err.new) (E.faults err.old) (E.faults err.new)) }
     ensures refuses { (file told : List ℕ) (fault : Fault) →
-      Names (command_of (map string_bytes words.now)) (F.text shelf.old) file told →
-      IsFaultOf (fetched told) fault →
-      Meets (refused_due file fault) (F.faults shelf.old) (F.faults shelf.new) result
-      (sight (O.holds out.old) (O.holds out.new) (O.faults out.old) (O.faults out.new))
-      (sight (E.holds err.old) (E.holds err.new) (E.faults err.old) (E.faults err.new)) }
+        Names (command_of (map string_bytes words.now)) (F.text shelf.old) file told →
+        IsFaultOf (fetched told) fault →
+        Meets (refused_due file fault) (F.faults shelf.old) (F.faults shelf.new) result
+        (sight (O.holds out.old) (O.holds out.new) (O.faults out.old) (O.faults out.new))
+        (sight (E.holds err.old) (E.holds err.new) (E.faults err.old) (E.faults err.new)) }
     ensures wrong_words { command_of (map string_bytes words.now) ≡ Usage →
-      Meets usage_due (F.faults shelf.old) (F.faults shelf.new) result
-      (sight (O.holds out.old) (O.holds out.new) (O.faults out.old) (O.faults out.new))
-      (sight (E.holds err.old) (E.holds err.new) (E.faults err.old) (E.faults err.new)) }
+        Meets usage_due (F.faults shelf.old) (F.faults shelf.new) result
+        (sight (O.holds out.old) (O.holds out.new) (O.faults out.old) (O.faults out.new))
+        (sight (E.holds err.old) (E.holds err.new) (E.faults err.old) (E.faults err.new)) }
 
     // Each status comes by its cause alone.
     ensures done { result ≡ 0 → HasEnding (command_of (map string_bytes words.now)) (F.text shelf.old) Ended }
@@ -95,9 +88,9 @@ fn answer_words<F: Shelf, O: Sink, E: Sink>(
     err: &mut E,
 ) -> Status
     ensures { Answers (command_of (map string_bytes words.now)) (F.text shelf.old)
-      (F.faults shelf.old) (F.faults shelf.new) result
-      (sight (O.holds out.old) (O.holds out.new) (O.faults out.old) (O.faults out.new))
-      (sight (E.holds err.old) (E.holds err.new) (E.faults err.old) (E.faults err.new)) }
+        (F.faults shelf.old) (F.faults shelf.new) result
+        (sight (O.holds out.old) (O.holds out.new) (O.faults out.old) (O.faults out.new))
+        (sight (E.holds err.old) (E.holds err.new) (E.faults err.old) (E.faults err.new)) }
 {
     match file_of(words) {
         Some(file) => run_file(alloc, file, shelf, out, err),

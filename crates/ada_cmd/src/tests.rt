@@ -1,0 +1,202 @@
+use crate::top::run_words;
+use ada_port::{MemShelf, MemSink, Quiet, ShelfText, SinkFail, SureSource};
+use std::alloc::{AllocError, Global};
+use std::test::Fail;
+use std::thread::Threads;
+
+const FIRST: &str = "with Ada.Text_IO; use Ada.Text_IO;\nprocedure Main is\n\
+    X : Integer := 2;\nbegin\nX := X + 3; Put_Line (Integer'Image (X));\nend Main;\n";
+
+const OVERFLOW: &str = "with Ada.Text_IO; use Ada.Text_IO;\nprocedure Main is\n\
+    X : Integer := 2147483647;\nbegin\nX := X + 1;\nend Main;\n";
+
+const TWICE: &str = "with Ada.Text_IO; use Ada.Text_IO;\nprocedure Main is\n\
+    X : Integer := 2;\nbegin\n\
+    Put_Line (Integer'Image (X)); Put_Line (Integer'Image (X));\nend Main;\n";
+
+const NEGATIVE: &str = "with Ada.Text_IO; use Ada.Text_IO;\nprocedure Main is\n\
+    A : Integer := 0000000007; B : Integer := 0;\nbegin\n\
+    B := A - 10; Put_Line (Integer'Image (B)); A := B; B := 4 - A; \
+    Put_Line (Integer'Image (A)); Put_Line (Integer'Image (B));\nend Main;\n";
+
+const UNDECLARED: &str = "with Ada.Text_IO; use Ada.Text_IO;\nprocedure Main is\n\
+    X : Integer := 2;\nbegin\nX := X + Y;\nend Main;\n";
+
+const DECLARED_TWICE: &str = "with Ada.Text_IO; use Ada.Text_IO;\nprocedure Main is\n\
+    X : Integer := 2; X : Integer := 3;\nbegin\nX := 1;\nend Main;\n";
+
+const TOO_LARGE: &str = "with Ada.Text_IO; use Ada.Text_IO;\nprocedure Main is\n\
+    X : Integer := 2147483648;\nbegin\nX := 1;\nend Main;\n";
+
+const USAGE: &str = "usage: ada_cmd MODE FILE [--workers N] [--chunks PLAN] [--turns K] [--vars]\n";
+
+const NOT_BUILT: &str = "t.ada:1:1: E13 not built yet\n";
+
+const UNKNOWN: &str = "t.ada:1:1: E05 unknown name\n";
+
+// What the objects around a call do: which fetch fails, and which put on out and on err fails after how
+// many bytes.
+#[derive(Clone, Copy)]
+struct Faults {
+    fetch: Option<u64>,
+    out: Option<(u64, u64)>,
+    err: Option<(u64, u64)>,
+}
+
+const NONE: Faults = Faults {
+    fetch: None,
+    out: None,
+    err: None,
+};
+
+#[derive(Drop)]
+struct Given {
+    status: u8,
+    out: MemSink,
+    err: MemSink,
+}
+
+fn sink(alloc: Global, fail: Option<(u64, u64)>) -> Result<MemSink, AllocError> {
+    let mut fails = Vec::new(alloc);
+    if let Some((call, pass)) = fail {
+        fails.push(SinkFail { call, pass })?;
+    }
+    MemSink::new(alloc, 200, fails)
+}
+
+fn shelf(alloc: Global, text: &[u8], fail: Option<u64>) -> Result<MemShelf, AllocError> {
+    let mut fails = Vec::new(alloc);
+    if let Some(call) = fail {
+        fails.push(call)?;
+    }
+    let text = ShelfText {
+        name: String::from_str(alloc, "t.ada")?,
+        bytes: Vec::from_slice(alloc, text)?,
+    };
+    Ok(MemShelf::new(vec![in alloc; text]?, fails))
+}
+
+fn answer<R: Threads + Sync>(
+    rt: &R,
+    alloc: Global,
+    words: &str,
+    text: &[u8],
+    faults: Faults,
+) -> Result<Given, AllocError> {
+    let words: Vec<String> = words
+        .split_whitespace()
+        .map(|word| String::from_str(alloc, word))
+        .try_collect(alloc)?;
+    let mut shelf = shelf(alloc, text, faults.fetch)?;
+    let mut input = SureSource::new(Vec::new(alloc));
+    let mut out = sink(alloc, faults.out)?;
+    let mut err = sink(alloc, faults.err)?;
+    let pulse = Quiet::new();
+    let status = run_words(
+        rt, alloc, &words, &mut shelf, &mut input, &mut out, &mut err, &pulse,
+    );
+    Ok(Given { status, out, err })
+}
+
+#[test]
+fn each_call_has_its_output_its_line_and_its_status(rt: HostRuntime) -> Result<(), Fail> {
+    let shelf_fails = Faults {
+        fetch: Some(0),
+        ..NONE
+    };
+    let second_put_fails = Faults {
+        out: Some((1, 1)),
+        ..NONE
+    };
+    let err_fails = Faults {
+        err: Some((0, 3)),
+        ..NONE
+    };
+    let both_fail = Faults {
+        out: Some((0, 2)),
+        err: Some((0, 5)),
+        ..NONE
+    };
+    let cases = [
+        ("run t.ada", FIRST, NONE, " 5\n", "", 0),
+        (
+            "run t.ada",
+            OVERFLOW,
+            NONE,
+            "",
+            "unhandled CONSTRAINT_ERROR\n",
+            4,
+        ),
+        ("run t.ada", NEGATIVE, NONE, "-3\n-3\n 7\n", "", 0),
+        ("run t.ada", UNDECLARED, NONE, "", UNKNOWN, 1),
+        ("run t.ada", DECLARED_TWICE, NONE, "", NOT_BUILT, 1),
+        ("run t.ada", TOO_LARGE, NONE, "", NOT_BUILT, 1),
+        ("run t.ada", "", NONE, "", NOT_BUILT, 1),
+        ("run", FIRST, NONE, "", USAGE, 2),
+        ("run t.ada --workers 65", FIRST, NONE, "", USAGE, 2),
+        ("Run t.ada", FIRST, NONE, "", USAGE, 2),
+        ("", FIRST, NONE, "", USAGE, 2),
+        (
+            "run t.ada",
+            FIRST,
+            shelf_fails,
+            "",
+            "t.ada: cannot be read\n",
+            3,
+        ),
+        ("run u.ada", FIRST, NONE, "", "u.ada: cannot be read\n", 3),
+        (
+            "run t.ada",
+            TWICE,
+            second_put_fails,
+            " 2\n ",
+            "write fault\n",
+            7,
+        ),
+        ("run t.ada", OVERFLOW, err_fails, "", "unh", 7),
+        ("run", FIRST, err_fails, "", "usa", 7),
+        ("run t.ada", UNDECLARED, err_fails, "", "t.a", 7),
+        ("run t.ada", TWICE, both_fail, " 2", "write", 7),
+    ];
+    for (words, text, faults, out, err, status) in cases {
+        let given = answer(&rt, rt.alloc(), words, text.as_bytes(), faults)?;
+        assert_eq!(rt; given.out.bytes(), out.as_bytes(), "{words}: {text}");
+        assert_eq!(rt; given.err.bytes(), err.as_bytes(), "{words}: {text}");
+        assert_eq!(rt; given.status, status, "{words}: {text}");
+    }
+    Ok(())
+}
+
+// Of the first text, with another byte in one place. A letter `Y` leaves a text of the first form where
+// a variable stands or an operand; a digit leaves one where a digit stands.
+#[test]
+fn one_byte_decides(rt: HostRuntime) -> Result<(), Fail> {
+    let alloc = rt.alloc();
+    for place in 0..FIRST.len() {
+        let mut text = Vec::from_slice(alloc, FIRST.as_bytes())?;
+        text[place] = b'Y';
+        let given = answer(&rt, alloc, "run t.ada", &text, NONE)?;
+        let expected = match place {
+            53 | 77 | 82 | 86 | 114 => UNKNOWN,
+            _ => NOT_BUILT,
+        };
+        assert_eq!(rt; given.status, 1, "a letter at {place}");
+        assert_eq!(rt;
+            given.err.bytes(),
+            expected.as_bytes(),
+            "a letter at {place}"
+        );
+        text[place] = b'7';
+        let given = answer(&rt, alloc, "run t.ada", &text, NONE)?;
+        let (status, out, err) = match place {
+            68 => (0, " 10\n", ""),
+            86 => (0, " 9\n", ""),
+            82 => (0, " 10\n", ""),
+            _ => (1, "", NOT_BUILT),
+        };
+        assert_eq!(rt; given.status, status, "a digit at {place}");
+        assert_eq!(rt; given.out.bytes(), out.as_bytes(), "a digit at {place}");
+        assert_eq!(rt; given.err.bytes(), err.as_bytes(), "a digit at {place}");
+    }
+    Ok(())
+}
