@@ -35,8 +35,8 @@ fn place_after(before: &str) -> Place
             column += 1;
         }
     }
-    Place {
-        line,
-        column,
-    }
+    Place { line, column }
 }
+
+#[cfg(test)]
+mod tests;

@@ -1,11 +1,10 @@
 ghost use Rattle.std.specs.Prelude.{◌≡◌, ◌<◌, ◌↔◌, IsTrue, length, string_bytes};
 ghost use Rattle.ada_base.specs.Tokens.{IsWhole, slice_at, place_of_token, AreSame};
 
-use std::marker::Model;
-
 use crate::folding::folds_alike;
 use crate::place::{Place, place_of};
 use crate::token::Token;
+use std::marker::Model;
 
 /// The tokens of a text (2.2). Contracts see the text by its bytes, and the list of the tokens. Each span lies
 /// in the text at characters' edges, and the last token and no other is the end of the text.
@@ -33,10 +32,15 @@ impl Tokens {
         ensures text { result.text ≡ string_bytes text }
         ensures items { result.items ≡ items.items }
     {
-        Tokens {
-            text,
-            items,
-        }
+        Tokens { text, items }
+    }
+
+    /// The text and the list of the tokens, given back.
+    pub fn into_parts(self) -> (String, Vec<Token>)
+        ensures text { string_bytes result.0 ≡ self.text }
+        ensures items { result.1.items ≡ self.items }
+    {
+        (self.text, self.items)
     }
 
     /// The whole text.
@@ -82,3 +86,6 @@ impl Tokens {
         folds_alike(self.slice(a), self.slice(b))
     }
 }
+
+#[cfg(test)]
+mod tests;
