@@ -1,6 +1,7 @@
 use crate::top::run_words;
 use ada_port::{MemShelf, MemSink, Quiet, ShelfText, SinkFail, SureSource};
 use std::alloc::{AllocError, Global};
+use std::process::Abort;
 use std::test::Fail;
 use std::thread::Threads;
 
@@ -98,71 +99,71 @@ fn answer<R: Threads + Sync>(
     Ok(Given { status, out, err })
 }
 
+fn expect<R: Threads + Sync + Abort>(
+    rt: &R,
+    alloc: Global,
+    (words, text, faults): (&str, &str, Faults),
+    (out, err, status): (&str, &str, u8),
+) -> Result<(), AllocError> {
+    let given = answer(rt, alloc, words, text.as_bytes(), faults)?;
+    assert_eq!(rt; given.out.bytes(), out.as_bytes(), "{words}: {text}");
+    assert_eq!(rt; given.err.bytes(), err.as_bytes(), "{words}: {text}");
+    assert_eq!(rt; given.status, status, "{words}: {text}");
+    Ok(())
+}
+
 #[test]
-fn each_call_has_its_output_its_line_and_its_status(rt: HostRuntime) -> Result<(), Fail> {
-    let shelf_fails = Faults {
+fn each_text_has_its_output_its_line_and_its_status(rt: HostRuntime) -> Result<(), Fail> {
+    let cases = [
+        ("run t.ada", FIRST, " 5\n", "", 0),
+        ("run t.ada", OVERFLOW, "", "unhandled CONSTRAINT_ERROR\n", 4),
+        ("run t.ada", NEGATIVE, "-3\n-3\n 7\n", "", 0),
+        ("run t.ada", UNDECLARED, "", UNKNOWN, 1),
+        ("run t.ada", DECLARED_TWICE, "", NOT_BUILT, 1),
+        ("run t.ada", TOO_LARGE, "", NOT_BUILT, 1),
+        ("run t.ada", "", "", NOT_BUILT, 1),
+        ("run", FIRST, "", USAGE, 2),
+        ("run t.ada --workers 65", FIRST, "", USAGE, 2),
+        ("Run t.ada", FIRST, "", USAGE, 2),
+        ("", FIRST, "", USAGE, 2),
+        ("run u.ada", FIRST, "", "u.ada: cannot be read\n", 3),
+    ];
+    for (words, text, out, err, status) in cases {
+        expect(&rt, rt.alloc(), (words, text, NONE), (out, err, status))?;
+    }
+    Ok(())
+}
+
+// A failed call isn't made good, and of a sink that failed a prefix stands.
+#[test]
+fn each_fault_has_its_status(rt: HostRuntime) -> Result<(), Fail> {
+    let fetch = Faults {
         fetch: Some(0),
         ..NONE
     };
-    let second_put_fails = Faults {
+    let second_put = Faults {
         out: Some((1, 1)),
         ..NONE
     };
-    let err_fails = Faults {
+    let line = Faults {
         err: Some((0, 3)),
         ..NONE
     };
-    let both_fail = Faults {
+    let both = Faults {
         out: Some((0, 2)),
         err: Some((0, 5)),
         ..NONE
     };
     let cases = [
-        ("run t.ada", FIRST, NONE, " 5\n", "", 0),
-        (
-            "run t.ada",
-            OVERFLOW,
-            NONE,
-            "",
-            "unhandled CONSTRAINT_ERROR\n",
-            4,
-        ),
-        ("run t.ada", NEGATIVE, NONE, "-3\n-3\n 7\n", "", 0),
-        ("run t.ada", UNDECLARED, NONE, "", UNKNOWN, 1),
-        ("run t.ada", DECLARED_TWICE, NONE, "", NOT_BUILT, 1),
-        ("run t.ada", TOO_LARGE, NONE, "", NOT_BUILT, 1),
-        ("run t.ada", "", NONE, "", NOT_BUILT, 1),
-        ("run", FIRST, NONE, "", USAGE, 2),
-        ("run t.ada --workers 65", FIRST, NONE, "", USAGE, 2),
-        ("Run t.ada", FIRST, NONE, "", USAGE, 2),
-        ("", FIRST, NONE, "", USAGE, 2),
-        (
-            "run t.ada",
-            FIRST,
-            shelf_fails,
-            "",
-            "t.ada: cannot be read\n",
-            3,
-        ),
-        ("run u.ada", FIRST, NONE, "", "u.ada: cannot be read\n", 3),
-        (
-            "run t.ada",
-            TWICE,
-            second_put_fails,
-            " 2\n ",
-            "write fault\n",
-            7,
-        ),
-        ("run t.ada", OVERFLOW, err_fails, "", "unh", 7),
-        ("run", FIRST, err_fails, "", "usa", 7),
-        ("run t.ada", UNDECLARED, err_fails, "", "t.a", 7),
-        ("run t.ada", TWICE, both_fail, " 2", "write", 7),
+        ("run t.ada", FIRST, fetch, "", "t.ada: cannot be read\n", 3),
+        ("run t.ada", TWICE, second_put, " 2\n ", "write fault\n", 7),
+        ("run t.ada", OVERFLOW, line, "", "unh", 7),
+        ("run", FIRST, line, "", "usa", 7),
+        ("run t.ada", UNDECLARED, line, "", "t.a", 7),
+        ("run t.ada", TWICE, both, " 2", "write", 7),
     ];
     for (words, text, faults, out, err, status) in cases {
-        let given = answer(&rt, rt.alloc(), words, text.as_bytes(), faults)?;
-        assert_eq!(rt; given.out.bytes(), out.as_bytes(), "{words}: {text}");
-        assert_eq!(rt; given.err.bytes(), err.as_bytes(), "{words}: {text}");
-        assert_eq!(rt; given.status, status, "{words}: {text}");
+        expect(&rt, rt.alloc(), (words, text, faults), (out, err, status))?;
     }
     Ok(())
 }

@@ -112,6 +112,7 @@ fn assignment(bytes: &[u8]) -> Option<(Statement, &[u8])>
     Some((Statement::Assign(target, value), rest))
 }
 
+/// The statement that the bytes begin with, and what stands behind it.
 #[tactic(auto, unfolding(crate::specs::Reading::statement_at))]
 pub fn statement(bytes: &[u8]) -> Option<(Statement, &[u8])>
     ensures { Finds (λ x. (x.0, x.1.now)) result (statement_at bytes.now) }
@@ -122,6 +123,7 @@ pub fn statement(bytes: &[u8]) -> Option<(Statement, &[u8])>
     }
 }
 
+/// The declaration that the bytes begin with, and what stands behind it.
 #[tactic(auto, unfolding(crate::specs::Reading::declaration_at))]
 pub fn declaration(bytes: &[u8]) -> Option<(Declaration, &[u8])>
     ensures { Finds (λ x. (x.0, x.1.now)) result (declaration_at bytes.now) }
