@@ -1,7 +1,5 @@
 -- What is said of a run, of a refusal and of a fetch makes the answer of the top call.
-use Rattle.std.proofs.Common.{◌≡◌, ℕ, List, [], ◌++◌, Option, Some, refl, sym, ap, subst, inl, inr, ◌∙◌}
-use Rattle.std.specs.Prelude.{IfSome}
-use Rattle.ada_port.specs.Ports.{Grows, Rises, fetched}
+use Rattle.std.proofs.Common.{◌≡◌, ℕ, List, [], Option, refl, sym, subst, inl, inr}
 use Rattle.ada_port.proofs.Growth.{Grows-none, GrowsByPrefix-from_Grows}
 use Rattle.ada_meaning.specs.FirstRun.{Run, Ending, Ended, Raised}
 use Rattle.ada_run.specs.Compile.{IsRefusalOf, line_of, refusal_of}
@@ -13,8 +11,8 @@ use Rattle.ada_run.specs.declared.runner.RunEnd.TheVariants as run_end
 use Rattle.ada_cmd.specs.declared.status.Status.{Status}
 use Rattle.ada_cmd.specs.declared.status.Status.TheVariants as status
 use Rattle.ada_cmd.specs.Words as words
-use Rattle.ada_cmd.specs.Due.{Due, IsTextDue, IsFetched, run_due, run_due_by, refused_due, ended}
-use Rattle.ada_cmd.specs.Answer.{Sight, sight, Took, TookFront, Broke, Says, SaysEnd, SaysRefusal, SaysUnreadable, Gives, Whole, OutFailed, NoMemory, GivesText, Answers, Given, ShelfFailed, Unread, memory_line}
+use Rattle.ada_cmd.specs.Due.{IsFetched, run_due, run_due_by, refused_due, ended}
+use Rattle.ada_cmd.specs.Answer.{Sight, sight, Took, Says, SaysEnd, SaysRefusal, Gives, Whole, OutFailed, NoMemory, GivesText, Answers, Given, Unread}
 
 -- a sink that was not asked
 pub unasked : (told : Option (List ℕ)) (faults : ℕ) → Took (sight told told faults faults) []

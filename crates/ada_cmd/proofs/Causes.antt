@@ -1,19 +1,19 @@
 -- The causes of the statuses, from what became of the words.
-use Rattle.std.proofs.Common.{◌≡◌, ◌⊎◌, ◌+◌, ◌<◌, ◌≤◌, ℕ, zero, suc, List, [], ◌++◌, Option, Some, None, refl, sym, ap, subst, inl, inr, ◌∙◌, arith}
+use Rattle.std.proofs.Common.{◌≡◌, ◌⊎◌, ℕ, zero, suc, List, [], Option, Some, refl, sym, ap, subst, inl, inr, ◌∙◌}
 use Rattle.std.specs.Prelude.{IfSome}
 use Rattle.ada_base.specs.declared.reason.Reason.{Reason}
-use Rattle.ada_port.specs.Ports.{Grows, GrowsByPrefix, Rises, Rose, fetched}
-use Rattle.ada_port.proofs.Growth.{Grows-none, GrowsByPrefix-none, GrowsByPrefix-from_Grows, GrowsByPrefix-longer}
+use Rattle.ada_port.specs.Ports.{Grows, GrowsByPrefix, fetched}
+use Rattle.ada_port.proofs.Growth.{GrowsByPrefix-from_Grows, GrowsByPrefix-longer}
 use Rattle.ada_meaning.specs.Program.{Program}
 use Rattle.ada_meaning.specs.Accepted.{IsAccepted, Fault, NotBuilt, UnknownName, IsFaultOf}
-use Rattle.ada_meaning.specs.FirstRun.{Run, first_run, Ending, Ended, Raised}
+use Rattle.ada_meaning.specs.FirstRun.{first_run, Ending, Ended, Raised}
 use Rattle.ada_run.proofs.Verdicts.{one_program}
 use Rattle.ada_cmd.specs.declared.status.Status.{Status}
 use Rattle.ada_cmd.specs.declared.status.Status.TheVariants as status
 use Rattle.ada_cmd.specs.Words.{Command}
 use Rattle.ada_cmd.specs.Words as words
-use Rattle.ada_cmd.specs.Due.{Due, IsTextDue, IsFetched, IsDue, run_due, run_due_by, refused_due, usage_due}
-use Rattle.ada_cmd.specs.Answer.{Sight, sight, Took, TookFront, Broke, Says, Gives, Whole, OutFailed, NoMemory, Answers, Given, ShelfFailed, Unread, number_of}
+use Rattle.ada_cmd.specs.Due.{Due, IsTextDue, IsDue, run_due, run_due_by, refused_due, usage_due}
+use Rattle.ada_cmd.specs.Answer.{Sight, Took, Says, Gives, Whole, OutFailed, NoMemory, Answers, Given, ShelfFailed, Unread, number_of}
 use Rattle.ada_cmd.specs.Causes.{Meets, InFull, ShelfFault, WriteFault, OutOfMemory, Names, HasEnding, IsNotAccepted}
 
 -- ---- one answer is due to a text that is told

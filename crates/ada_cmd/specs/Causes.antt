@@ -1,6 +1,5 @@
 -- The causes of the statuses, each in both directions.
 use Rattle.std.specs.Prelude.{◌≡◌, ◌⊎◌, ℕ, List, [], Option, Some}
-use Rattle.ada_base.specs.declared.reason.Reason.{Reason}
 use Rattle.ada_port.specs.Ports.{Grows, GrowsByPrefix, Rose, fetched}
 use Rattle.ada_meaning.specs.Program.{Program}
 use Rattle.ada_meaning.specs.Accepted.{IsAccepted}

@@ -1,5 +1,5 @@
 -- A program of the first form.
-use Rattle.std.specs.Prelude.{◌≡◌, ℕ, Bool, true, ◌&&◌, ◌==◌, List, [], ◌∷◌, map, IsTrue}
+use Rattle.std.specs.Prelude.{Bool, true, ◌&&◌, ◌==◌, List, IsTrue}
 use Rattle.std.specs.List.{list_any, list_all}
 use Rattle.ada_meaning.specs.declared.first_form.Letter.{Letter}
 use Rattle.ada_meaning.specs.declared.first_form.Declaration.{Declaration}

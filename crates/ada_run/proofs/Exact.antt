@@ -1,11 +1,10 @@
 -- Reading is exact: what is read is spelled so, and what is spelled so is read, up to the whole text.
-use Rattle.std.proofs.Common.{◌≡◌, ◌≢◌, ◌⊎◌, ℕ, zero, suc, ◌+◌, ◌-◌, ◌<◌, ◌≤◌, Bool, true, false, cond, ◌&&◌, eqb, leb, List, [], ◌∷◌, ◌++◌, length, Option, Some, None, refl, sym, ap, ◌∙◌, subst, inl, inr, append_assoc, arith, length-append}
+use Rattle.std.proofs.Common.{◌≡◌, ℕ, zero, suc, ◌+◌, ◌<◌, ◌≤◌, Bool, true, false, cond, ◌&&◌, eqb, leb, List, [], ◌∷◌, ◌++◌, length, Option, Some, None, refl, ap, ◌∙◌, subst, inl, inr, append_assoc, arith, length-append}
 use Rattle.std.specs.Prelude.{codes, bytes_eq}
 use Rattle.std.proofs.lemmas.Slice.Eq.{bytes_eq-Decides}
-use Rattle.std.proofs.lemmas.Bool.{and_parts, eqb-true, leb-true, lt-leb}
+use Rattle.std.proofs.lemmas.Bool.{and_parts, leb-true, lt-leb}
 use Rattle.std.specs.List.{list_all}
 use Rattle.std.specs.Char.{is_ascii_digit}
-use Rattle.std.proofs.lemmas.List.{append-nil}
 use Rattle.ada_meaning.specs.Program.{Program}
 use Rattle.ada_meaning.specs.FirstForm.{IsName, IsNumeral, IsDeclaration, IsOperand, IsExpression, IsStatement, AreJoined, IsFirstForm, are_distinct, opening, middle, closing}
 use Rattle.ada_meaning.specs.declared.first_form.Letter.{Letter}
@@ -16,7 +15,7 @@ use Rattle.ada_meaning.specs.declared.first_form.Expression.{Expression}
 use Rattle.ada_meaning.specs.declared.first_form.Expression.TheVariants.{Alone, Sum, Difference}
 use Rattle.ada_meaning.specs.declared.first_form.Statement.{Statement}
 use Rattle.ada_meaning.specs.declared.first_form.Statement.TheVariants.{Assign, Print}
-use Rattle.ada_run.specs.Reading.{◌>>=◌, choose, after, letter_at, numeral_at, operand_at, expression_at, print_at, assignment_at, statement_at, declaration_at, joined_at, line_at, program_at}
+use Rattle.ada_run.specs.Reading.{after, letter_at, numeral_at, operand_at, expression_at, print_at, assignment_at, statement_at, declaration_at, joined_at, line_at, program_at}
 use Rattle.ada_run.proofs.Pieces.{some_is, IsFront, then, Took, bind_some, choose_some, cond_some, after_takes, after_again, after_other, letter_takes, letter_again, Stops, numeral_takes, numeral_again}
 
 -- ---- declarations
@@ -33,19 +32,23 @@ declaration_takes bytes d rest e =
     let digits = numeral_takes a.0 n.0.0 n.0.1 n.1 in
     let semicolon = after_takes (codes ";") n.0.1 z.0 z.1 in
     let P : Declaration × List ℕ → Type 0 = Took IsDeclaration bytes in
-    subst P (some_is _ _ z.2)
-    (name.0 ++ (codes " : Integer := " ++ (digits.0 ++ codes ";")),
+    subst P (some_is _ _ z.2) (
+      name.0 ++ (codes " : Integer := " ++ (digits.0 ++ codes ";")),
       then name.1 (then colon (then digits.1 semicolon)),
-      (name.0, digits.0, refl, name.2, digits.2))
+      (name.0, digits.0, refl, name.2, digits.2),
+    )
 
 pub declaration_again : (front : List ℕ) (d : Declaration) (rest : List ℕ) → IsDeclaration front d → declaration_at (front ++ rest) ≡ Some (d, rest)
 unfolding declaration_at
 declaration_again front d rest (name, digits, spelled, is_name, is_numeral) =
     let regrouped : front ++ rest ≡ name ++ (codes " : Integer := " ++ (digits ++ (codes ";" ++ rest))) = rw spelled (simp append_assoc) in
-    rw (regrouped, letter_again name d.variable (codes " : Integer := " ++ (digits ++ (codes ";" ++ rest))) is_name,
+    rw (
+      regrouped,
+      letter_again name d.variable (codes " : Integer := " ++ (digits ++ (codes ";" ++ rest))) is_name,
       after_again (codes " : Integer := ") (digits ++ (codes ";" ++ rest)),
       numeral_again digits d.value (codes ";" ++ rest) is_numeral refl,
-      after_again (codes ";") rest) refl
+      after_again (codes ";") rest,
+    ) refl
 
 -- ---- operands and expressions
 
@@ -65,12 +68,12 @@ operand_takes bytes x rest e =
     let P : Operand × List ℕ → Type 0 = Took IsOperand bytes in
     elim (choose_some (letter_at bytes) _ _ (x, rest) e) [
       | inl v ↦
-        let name = letter_takes bytes v.0.0 v.0.1 v.1 in
-        subst P (some_is _ _ v.2) (name.0, name.1, name.2)
+          let name = letter_takes bytes v.0.0 v.0.1 v.1 in
+          subst P (some_is _ _ v.2) (name.0, name.1, name.2)
       | inr absent ↦
-        let n = bind_some (numeral_at bytes) _ (x, rest) absent.1 in
-        let digits = numeral_takes bytes n.0.0 n.0.1 n.1 in
-        subst P (some_is _ _ n.2) (digits.0, digits.1, digits.2)
+          let n = bind_some (numeral_at bytes) _ (x, rest) absent.1 in
+          let digits = numeral_takes bytes n.0.0 n.0.1 n.1 in
+          subst P (some_is _ _ n.2) (digits.0, digits.1, digits.2)
     ]
 
 pub operand_again : (front : List ℕ) (x : Operand) (rest : List ℕ) → IsOperand front x → Stops rest → operand_at (front ++ rest) ≡ Some (x, rest)
@@ -86,19 +89,19 @@ expression_takes bytes x rest e =
     let left = operand_takes bytes a.0.0 a.0.1 a.1 in
     elim (choose_some (after (codes " + ") a.0.1) _ _ (x, rest) a.2) [
       | inl plus ↦
-        let b = bind_some (operand_at plus.0) _ (x, rest) plus.2 in
-        let sign = after_takes (codes " + ") a.0.1 plus.0 plus.1 in
-        let right = operand_takes plus.0 b.0.0 b.0.1 b.1 in
-        subst P (some_is _ _ b.2) (left.0 ++ (codes " + " ++ right.0), then left.1 (then sign right.1), (left.0, right.0, refl, left.2, right.2))
+          let b = bind_some (operand_at plus.0) _ (x, rest) plus.2 in
+          let sign = after_takes (codes " + ") a.0.1 plus.0 plus.1 in
+          let right = operand_takes plus.0 b.0.0 b.0.1 b.1 in
+          subst P (some_is _ _ b.2) (left.0 ++ (codes " + " ++ right.0), then left.1 (then sign right.1), (left.0, right.0, refl, left.2, right.2))
       | inr no_plus ↦
-        elim (choose_some (after (codes " - ") a.0.1) _ _ (x, rest) no_plus.1) [
-          | inl minus ↦
-            let b = bind_some (operand_at minus.0) _ (x, rest) minus.2 in
-            let sign = after_takes (codes " - ") a.0.1 minus.0 minus.1 in
-            let right = operand_takes minus.0 b.0.0 b.0.1 b.1 in
-            subst P (some_is _ _ b.2) (left.0 ++ (codes " - " ++ right.0), then left.1 (then sign right.1), (left.0, right.0, refl, left.2, right.2))
-          | inr no_minus ↦ subst P (some_is _ _ no_minus.1) (left.0, left.1, left.2)
-        ]
+          elim (choose_some (after (codes " - ") a.0.1) _ _ (x, rest) no_plus.1) [
+            | inl minus ↦
+                let b = bind_some (operand_at minus.0) _ (x, rest) minus.2 in
+                let sign = after_takes (codes " - ") a.0.1 minus.0 minus.1 in
+                let right = operand_takes minus.0 b.0.0 b.0.1 b.1 in
+                subst P (some_is _ _ b.2) (left.0 ++ (codes " - " ++ right.0), then left.1 (then sign right.1), (left.0, right.0, refl, left.2, right.2))
+            | inr no_minus ↦ subst P (some_is _ _ no_minus.1) (left.0, left.1, left.2)
+          ]
     ]
 
 -- a minus sign is no plus sign
@@ -113,13 +116,22 @@ expression_again front (Alone a) rest is =
     rw (operand_again front a (59 ∷ rest) is refl, after_other 32 (43 ∷ 32 ∷ []) 59 rest refl, after_other 32 (45 ∷ 32 ∷ []) 59 rest refl) refl
 expression_again front (Sum a b) rest (left, right, spelled, is_left, is_right) =
     let regrouped : front ++ 59 ∷ rest ≡ left ++ (codes " + " ++ (right ++ 59 ∷ rest)) = rw spelled (simp append_assoc) in
-    rw (regrouped, operand_again left a (codes " + " ++ (right ++ 59 ∷ rest)) is_left refl,
-      after_again (codes " + ") (right ++ 59 ∷ rest), operand_again right b (59 ∷ rest) is_right refl) refl
+    rw (
+      regrouped,
+      operand_again left a (codes " + " ++ (right ++ 59 ∷ rest)) is_left refl,
+      after_again (codes " + ") (right ++ 59 ∷ rest),
+      operand_again right b (59 ∷ rest) is_right refl,
+    ) refl
 expression_again front (Difference a b) rest (left, right, spelled, is_left, is_right) =
     let regrouped : front ++ 59 ∷ rest ≡ left ++ (codes " - " ++ (right ++ 59 ∷ rest)) = rw spelled (simp append_assoc) in
     let no_plus : after (codes " + ") (codes " - " ++ (right ++ 59 ∷ rest)) ≡ None = other_sign (right ++ 59 ∷ rest) in
-    rw (regrouped, operand_again left a (codes " - " ++ (right ++ 59 ∷ rest)) is_left refl, no_plus,
-      after_again (codes " - ") (right ++ 59 ∷ rest), operand_again right b (59 ∷ rest) is_right refl) refl
+    rw (
+      regrouped,
+      operand_again left a (codes " - " ++ (right ++ 59 ∷ rest)) is_left refl,
+      no_plus,
+      after_again (codes " - ") (right ++ 59 ∷ rest),
+      operand_again right b (59 ∷ rest) is_right refl,
+    ) refl
 
 -- ---- statements
 
@@ -145,10 +157,11 @@ assignment_takes bytes x rest e =
     let right = expression_takes a.0 n.0.0 n.0.1 n.1 in
     let semicolon = after_takes (codes ";") n.0.1 z.0 z.1 in
     let P : Statement × List ℕ → Type 0 = Took IsStatement bytes in
-    subst P (some_is _ _ z.2)
-    (name.0 ++ (codes " := " ++ (right.0 ++ codes ";")),
+    subst P (some_is _ _ z.2) (
+      name.0 ++ (codes " := " ++ (right.0 ++ codes ";")),
       then name.1 (then becomes (then right.1 semicolon)),
-      (name.0, right.0, refl, name.2, right.2))
+      (name.0, right.0, refl, name.2, right.2),
+    )
 
 pub statement_takes : (bytes : List ℕ) (x : Statement) (rest : List ℕ) → statement_at bytes ≡ Some (x, rest) → Took IsStatement bytes (x, rest)
 unfolding statement_at
@@ -165,9 +178,12 @@ print_again name letter rest is_name = rw (letter_again name letter (codes "));"
 assignment_again : (name right : List ℕ) (target : Letter) (x : Expression) (rest : List ℕ) → IsName name target → IsExpression right x → assignment_at (name ++ (codes " := " ++ (right ++ 59 ∷ rest))) ≡ Some (Assign target x, rest)
 unfolding assignment_at
 assignment_again name right target x rest is_name is_right =
-    rw (letter_again name target (codes " := " ++ (right ++ 59 ∷ rest)) is_name,
-      after_again (codes " := ") (right ++ 59 ∷ rest), expression_again right x rest is_right,
-      after_again (codes ";") rest) refl
+    rw (
+      letter_again name target (codes " := " ++ (right ++ 59 ∷ rest)) is_name,
+      after_again (codes " := ") (right ++ 59 ∷ rest),
+      expression_again right x rest is_right,
+      after_again (codes ";") rest,
+    ) refl
 
 -- an assignment doesn't begin as a Put_Line
 no_put : (name : List ℕ) (letter : Letter) (rest : List ℕ) → IsName name letter → after (codes "Put_Line (Integer'Image (") (name ++ (codes " := " ++ rest)) ≡ None
@@ -201,10 +217,10 @@ joined_takes {A} IsItem item item_takes (suc n) bytes xs rest e =
     let first = item_takes bytes x.0.0 x.0.1 x.1 in
     elim (choose_some (after (codes " ") x.0.1) _ _ (xs, rest) x.2) [
       | inl space ↦
-        let others = bind_some (joined_at n item space.0) _ (xs, rest) space.2 in
-        let back = joined_takes IsItem item item_takes n space.0 others.0.0 others.0.1 others.1 in
-        let gap = after_takes (codes " ") x.0.1 space.0 space.1 in
-        subst P (some_is _ _ others.2) (first.0 ++ (codes " " ++ back.0), then first.1 (then gap back.1), one_more IsItem first.0 back.0 x.0.0 others.0.0 first.2 back.2)
+          let others = bind_some (joined_at n item space.0) _ (xs, rest) space.2 in
+          let back = joined_takes IsItem item item_takes n space.0 others.0.0 others.0.1 others.1 in
+          let gap = after_takes (codes " ") x.0.1 space.0 space.1 in
+          subst P (some_is _ _ others.2) (first.0 ++ (codes " " ++ back.0), then first.1 (then gap back.1), one_more IsItem first.0 back.0 x.0.0 others.0.0 first.2 back.2)
       | inr absent ↦ subst P (some_is _ _ absent.1) (first.0, first.1, first.2)
     ]
 
@@ -215,8 +231,12 @@ joined_again IsItem item item_again zero (x ∷ xs) front rest joined ends enoug
 joined_again IsItem item item_again (suc n) (x ∷ []) front rest joined ends enough = rw (item_again front x rest joined, ends) refl
 joined_again IsItem item item_again (suc n) (x ∷ y ∷ ys) front rest (first, back, spelled, is, joined) ends enough =
     let regrouped : front ++ rest ≡ first ++ (codes " " ++ (back ++ rest)) = rw spelled (append_assoc first (32 ∷ back) rest) in
-    rw (regrouped, item_again first x (codes " " ++ (back ++ rest)) is, after_again (codes " ") (back ++ rest),
-      joined_again IsItem item item_again n (y ∷ ys) back rest joined ends (omega arith)) refl
+    rw (
+      regrouped,
+      item_again first x (codes " " ++ (back ++ rest)) is,
+      after_again (codes " ") (back ++ rest),
+      joined_again IsItem item item_again n (y ∷ ys) back rest joined ends (omega arith),
+    ) refl
 
 -- there are at most as many items as bytes and one more
 joined_few : {A : Type 0} (IsItem : List ℕ → A → Type 0) (xs : List A) (front : List ℕ) → AreJoined IsItem front xs → length xs ≤ length front + 1
@@ -258,15 +278,18 @@ program_takes text p e =
       statements = stated.2;
       distinct = tests.1;
     }) where
-  lines : (text declared behind stated rest : List ℕ) → IsFront text (opening ++ declared) behind → IsFront behind (middle ++ stated) rest → rest ≡ closing → text ≡ opening ++ (declared ++ (middle ++ (stated ++ closing)))
-  lines text declared behind stated rest first second closed = first.whole ∙ rw (second.whole, closed) (simp append_assoc)
+      lines : (text declared behind stated rest : List ℕ) → IsFront text (opening ++ declared) behind → IsFront behind (middle ++ stated) rest → rest ≡ closing → text ≡ opening ++ (declared ++ (middle ++ (stated ++ closing)))
+      lines text declared behind stated rest first second closed = first.whole ∙ rw (second.whole, closed) (simp append_assoc)
 
 pub program_again : (text : List ℕ) (p : Program) → IsFirstForm text p → program_at text ≡ Some p
 unfolding program_at
 program_again text p form =
-    rw (form.lines, line_again IsDeclaration declaration_at declaration_again opening form.declared p.declarations _ form.declarations,
+    rw (
+      form.lines,
+      line_again IsDeclaration declaration_at declaration_again opening form.declared p.declarations _ form.declarations,
       line_again IsStatement statement_at statement_again middle form.stated p.statements _ form.statements,
-      form.distinct) refl
+      form.distinct,
+    ) refl
 
 -- the program of the parts
 pub assembled : (text : List ℕ) (ds : List Declaration) (behind : List ℕ) (ss : List Statement) (rest : List ℕ) (p : Program) → line_at opening declaration_at text ≡ Some (ds, behind) → line_at middle statement_at behind ≡ Some (ss, rest) → bytes_eq rest closing ≡ true → are_distinct ds ≡ true → p.declarations ≡ ds → p.statements ≡ ss → program_at text ≡ Some p

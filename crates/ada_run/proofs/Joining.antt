@@ -1,7 +1,7 @@
 -- Items that are read one after the other, as a loop reads them.
-use Rattle.std.proofs.Common.{◌≡◌, ℕ, zero, suc, ◌-◌, ◌+◌, ◌<◌, List, [], ◌∷◌, ◌++◌, Option, Some, None, refl, sym, ap, ◌∙◌, subst, append_assoc, arith}
+use Rattle.std.proofs.Common.{◌≡◌, ℕ, suc, ◌-◌, ◌+◌, ◌<◌, List, [], ◌∷◌, ◌++◌, Option, Some, None, refl, ap, append_assoc, arith}
 use Rattle.std.specs.Prelude.{codes}
-use Rattle.ada_run.specs.Reading.{◌>>=◌, choose, after, joined_at}
+use Rattle.ada_run.specs.Reading.{◌>>=◌, after, joined_at}
 
 -- what was read before, and what is still read
 abbrev pub with_front : {A : Type 0} → List A → Option (List A × List ℕ) → Option (List A × List ℕ)

@@ -1,12 +1,12 @@
 -- Fixed texts, letters and numerals: what is read is spelled so, and what is spelled so is read.
-use Rattle.std.proofs.Common.{◌≡◌, ◌≢◌, ◌⊎◌, ℕ, zero, suc, ◌+◌, ◌-◌, ◌*◌, ◌<◌, ◌≤◌, Bool, true, false, cond, ◌&&◌, eqb, ltb, leb, List, [], ◌∷◌, ◌++◌, length, take, drop, Option, Some, None, refl, sym, ap, ◌∙◌, subst, inl, inr, append_assoc, arith}
-use Rattle.std.specs.Prelude.{codes, nat_eq, nat_le, nat_lt}
+use Rattle.std.proofs.Common.{◌≡◌, ◌⊎◌, ℕ, suc, ◌+◌, Bool, true, false, cond, ◌&&◌, eqb, ltb, leb, List, [], ◌∷◌, ◌++◌, length, take, drop, Option, Some, None, refl, sym, ap, ◌∙◌, subst, inl, inr, append_assoc, arith}
+use Rattle.std.specs.Prelude.{nat_eq}
 use Rattle.std.specs.List.{starts_with, prefix_len, list_all}
 use Rattle.std.specs.Char.{is_ascii_digit}
 use Rattle.std.proofs.lemmas.Bool.{and_parts, leb-true, ltb-true, lt-ltb, le-leb, eq-eqb}
 use Rattle.std.proofs.lemmas.Bool.Decides.{Decides-eqb}
 use Rattle.std.proofs.lemmas.Slice.Eq.{starts_is}
-use Rattle.std.proofs.lemmas.List.{take-append-drop, take_at, drop_at, length-take}
+use Rattle.std.proofs.lemmas.List.{take-append-drop, take_at, drop_at}
 use Rattle.std.proofs.lemmas.List.Folds.{length-prefix_len, prefix_len-append}
 use Rattle.ada_meaning.specs.FirstForm.{IsName, IsNumeral, value_of}
 use Rattle.ada_meaning.specs.declared.first_form.Letter.{Letter}
@@ -110,19 +110,30 @@ numeral_takes bytes n rest e =
     let bounds = and_parts (ltb 0 count) (leb count 10) tests.0 in
     let len : length digits ≡ count = length-prefix_len is_ascii_digit bytes in
     let P : ℕ × List ℕ → Type 0 = Took IsNumeral bytes in
-    subst P found.1 (digits, record { whole = sym (take-append-drop count bytes) }, record {
-      each = front_passes is_ascii_digit bytes;
-      some = let positive = ltb-true 0 count bounds.0 in omega arith;
-      few = let few = leb-true count 10 bounds.1 in omega arith;
-      value = refl;
-      small = leb-true (value_of digits) 2147483647 tests.1;
-    })
+    subst P found.1 (
+      digits,
+      record { whole = sym (take-append-drop count bytes) },
+      record {
+        each = front_passes is_ascii_digit bytes;
+        some = let positive = ltb-true 0 count bounds.0 in omega arith;
+        few = let few = leb-true count 10 bounds.1 in omega arith;
+        value = refl;
+        small = leb-true (value_of digits) 2147483647 tests.1;
+      },
+    )
 
 pub numeral_again : (front : List ℕ) (n : ℕ) (rest : List ℕ) → IsNumeral front n → Stops rest → numeral_at (front ++ rest) ≡ Some (n, rest)
 unfolding numeral_at
 numeral_again front n rest numeral stops =
     let own : prefix_len is_ascii_digit front ≡ length front = all_counted is_ascii_digit front numeral.each in
     let count : digit_count (front ++ rest) ≡ length front =
-      prefix_len-append is_ascii_digit front rest ∙ rw (own, eq-eqb (length front) (length front) refl, stops) (omega arith) in
-    rw (count, take_at front rest (length front) refl, drop_at front rest (length front) refl, numeral.value,
-      lt-ltb 0 (length front) numeral.some, le-leb (length front) 10 numeral.few, le-leb n 2147483647 numeral.small) refl
+    prefix_len-append is_ascii_digit front rest ∙ rw (own, eq-eqb (length front) (length front) refl, stops) (omega arith) in
+    rw (
+      count,
+      take_at front rest (length front) refl,
+      drop_at front rest (length front) refl,
+      numeral.value,
+      lt-ltb 0 (length front) numeral.some,
+      le-leb (length front) 10 numeral.few,
+      le-leb n 2147483647 numeral.small,
+    ) refl

@@ -1,5 +1,5 @@
 -- Numbers stay in Integer's base range.
-use Rattle.std.proofs.Common.{◌≡◌, ℕ, Bool, true, false, cond, ◌&&◌, eqb, leb, List, [], ◌∷◌, ◌++◌, map, ℤ, pos, refl, sym, subst, ◌∙◌, inl, inr}
+use Rattle.std.proofs.Common.{◌≡◌, ℕ, Bool, true, false, cond, eqb, leb, List, [], ◌∷◌, ℤ, pos, refl}
 use Rattle.std.specs.Prelude.{IsTrue}
 use Rattle.std.specs.List.{list_all}
 use Rattle.std.proofs.lemmas.Bool.{and_parts, and_from, le-leb}
@@ -7,7 +7,7 @@ use Rattle.ada_base.specs.Operation.{is_in_base}
 use Rattle.ada_base.specs.declared.operation.Base.TheVariants.{Narrow}
 use Rattle.ada_meaning.specs.Program.{Program}
 use Rattle.ada_meaning.specs.FirstForm.{IsDeclaration, IsOperand, IsExpression, IsStatement, AreJoined, IsFirstForm}
-use Rattle.ada_meaning.specs.FirstRun.{value_in, changed, assigned, initial}
+use Rattle.ada_meaning.specs.FirstRun.{value_in, assigned, initial}
 use Rattle.ada_meaning.specs.declared.first_form.Letter.{Letter}
 use Rattle.ada_meaning.specs.declared.first_form.Declaration.{Declaration}
 use Rattle.ada_meaning.specs.declared.first_form.Operand.{Operand}
@@ -33,9 +33,9 @@ assigned_in_range [] name value all own = refl
 assigned_in_range (v ∷ others) name value all own =
     let parts = and_parts (is_in_base Narrow v.value) (are_in_range others) all in
     let head : IsTrue (is_in_base Narrow (cond (eqb v.name.code name.code) value v.value)) =
-      elim (eqb v.name.code name.code) as (λ b. IsTrue (is_in_base Narrow (cond b value v.value))) [ true ↦ own | false ↦ parts.0 ] in
+    elim (eqb v.name.code name.code) as (λ b. IsTrue (is_in_base Narrow (cond b value v.value))) [ true ↦ own | false ↦ parts.0 ] in
     and_from (is_in_base Narrow (cond (eqb v.name.code name.code) value v.value)) (are_in_range (assigned others name value)) head
-      (assigned_in_range others name value parts.1 own)
+    (assigned_in_range others name value parts.1 own)
 
 -- what a text of the first form declares and states is in range
 

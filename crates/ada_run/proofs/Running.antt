@@ -1,11 +1,9 @@
 -- A run, statement after statement.
-use Rattle.std.proofs.Common.{◌≡◌, ℕ, List, [], ◌∷◌, ◌++◌, Option, Some, None, Ok, Err, Result, ℤ, refl, sym, ap, ◌∙◌, subst, append_assoc, ◌+◌, ◌<◌, length, get_or, drop}
+use Rattle.std.proofs.Common.{◌≡◌, ℕ, List, [], ◌++◌, Option, Some, Ok, Err, Result, ℤ, refl, sym, ap, ◌∙◌, subst, append_assoc, ◌+◌, ◌<◌, length, get_or, drop}
 use Rattle.std.proofs.lemmas.List.{append-nil, drop_more}
-use Rattle.std.specs.Prelude.{IsTrue}
 use Rattle.ada_port.specs.Ports.{Grows, GrowsByPrefix}
-use Rattle.ada_port.proofs.Growth.{Grows-none, Grows-append, GrowsByPrefix-none, GrowsByPrefix-append, GrowsByPrefix-longer, GrowsByPrefix-from_Grows}
-use Rattle.ada_base.specs.declared.reason.Reason.{Reason}
-use Rattle.ada_meaning.specs.FirstRun.{Run, Ended, Raised, run_from, after_output, image_line, value_in, expression_value, assigned}
+use Rattle.ada_port.proofs.Growth.{Grows-none, Grows-append, GrowsByPrefix-none, GrowsByPrefix-append, GrowsByPrefix-longer}
+use Rattle.ada_meaning.specs.FirstRun.{Run, Ended, run_from, after_output, image_line, value_in, expression_value, assigned}
 use Rattle.ada_meaning.specs.declared.first_form.Letter.{Letter}
 use Rattle.ada_meaning.specs.declared.first_form.Expression.{Expression}
 use Rattle.ada_meaning.specs.declared.first_form.Statement.{Statement}
@@ -44,7 +42,7 @@ pub Runs-step : {statements : List Statement} {old middle new : List Variable} {
 Runs-step {statements} {middle = middle} {new = new} i none lt runs goes =
     let others : List Statement = drop (i + 1) statements in
     let next : run_from middle (drop i statements) ≡ after_output goes.bytes (run_from new others) =
-      ap (run_from middle) (drop_more statements i none lt) ∙ goes.others others in
+    ap (run_from middle) (drop_more statements i none lt) ∙ goes.others others in
     record {
       bytes = runs.bytes ++ goes.bytes;
       grown = Grows-append runs.grown goes.grown;
@@ -68,5 +66,5 @@ behind before between now run_end.NoMemory bytes run grown ends = GrowsByPrefix-
 pub Runs-stop : {statements : List Statement} {old middle : List Variable} {before between now : Option (List ℕ)} (end : RunEnd) (i : ℕ) (none : Statement) → i < length statements → Runs statements (drop i statements) old middle before between → Stops end (get_or statements i none) middle between now → EndsAs end (run_from old statements) before now
 Runs-stop {statements} {middle = middle} {before = before} {between = between} {now = now} end i none lt runs stops =
     let next : EndsAs end (run_from middle (drop i statements)) between now =
-      subst (λ (rest : List Statement). EndsAs end (run_from middle rest) between now) (sym (drop_more statements i none lt)) (stops.whatever (drop (i + 1) statements)) in
+    subst (λ (rest : List Statement). EndsAs end (run_from middle rest) between now) (sym (drop_more statements i none lt)) (stops.whatever (drop (i + 1) statements)) in
     subst (λ (run : Run). EndsAs end run before now) (sym runs.left) (behind before between now end runs.bytes (run_from middle (drop i statements)) runs.grown next)

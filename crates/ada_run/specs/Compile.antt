@@ -1,5 +1,5 @@
 -- The answers of compile.
-use Rattle.std.specs.Prelude.{◌≡◌, ℕ, List, ◌∷◌, ◌++◌, ◌==◌, if◌then◌else◌, codes, decimal, Option, None, ⊤}
+use Rattle.std.specs.Prelude.{◌≡◌, ℕ, List, ◌∷◌, ◌++◌, ◌==◌, if◌then◌else◌, codes, decimal, None, ⊤}
 use Rattle.ada_base.specs.declared.place.Place.{Place}
 use Rattle.ada_meaning.specs.Accepted.{Fault, NotBuilt, UnknownName, IsFaultOf}
 use Rattle.ada_run.specs.declared.compiler.Refusal.{Refusal}

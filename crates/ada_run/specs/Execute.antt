@@ -1,5 +1,5 @@
 -- The answers of execute.
-use Rattle.std.specs.Prelude.{◌≡◌, ℕ, List, ◌∷◌, Option, ℤ, Bool, true, ◌&&◌, nat_le, map, Result, Ok, Err, IsTrue, ⊤}
+use Rattle.std.specs.Prelude.{◌≡◌, ℕ, List, ◌∷◌, Option, ℤ, Bool, true, ◌&&◌, nat_le, map, Result, Ok, Err}
 use Rattle.std.specs.List.{list_all}
 use Rattle.ada_base.specs.Operation.{is_in_base}
 use Rattle.ada_base.specs.declared.operation.Base.TheVariants.{Narrow}

@@ -1,6 +1,6 @@
 -- Reading a program of the first form from left to right. Each reader gives what it read and the bytes behind
 -- it, or nothing.
-use Rattle.std.specs.Prelude.{◌≡◌, ℕ, zero, suc, List, [], ◌∷◌, ◌++◌, length, drop, codes, Option, Some, None, Result, Ok, Err, Bool, true, ◌&&◌, nat_le, nat_lt, nat_eq, bytes_eq, take, if◌then◌else◌, ⊤}
+use Rattle.std.specs.Prelude.{◌≡◌, ℕ, zero, suc, List, [], ◌∷◌, length, drop, codes, Option, Some, None, Result, Ok, Err, ◌&&◌, nat_le, nat_lt, nat_eq, bytes_eq, take, if◌then◌else◌, ⊤}
 use Rattle.std.specs.List.{starts_with, prefix_len}
 use Rattle.std.specs.Char.{is_ascii_digit}
 use Rattle.ada_meaning.specs.Program.{Program}
@@ -13,7 +13,6 @@ use Rattle.ada_meaning.specs.declared.first_form.Expression.{Expression}
 use Rattle.ada_meaning.specs.declared.first_form.Expression.TheVariants.{Alone, Sum, Difference}
 use Rattle.ada_meaning.specs.declared.first_form.Statement.{Statement}
 use Rattle.ada_meaning.specs.declared.first_form.Statement.TheVariants.{Assign, Print}
-
 use Rattle.ada_run.specs.declared.compiler.Unread.{Unread}
 use Rattle.ada_run.specs.declared.compiler.Unread.TheVariants.{OtherForm, OutOfMemory}
 

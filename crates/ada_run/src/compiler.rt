@@ -122,9 +122,7 @@ fn joined<T: Item>(alloc: Global, bytes: &[u8]) -> Result<(Vec<T>, &[u8]), Unrea
 fn is_declared(declarations: &[Declaration], letter: Letter) -> bool
     ensures { result ≡ declares declarations.now letter }
 {
-    declarations
-        .iter()
-        .any(|d| d.variable.code == letter.code)
+    declarations.iter().any(|d| d.variable.code == letter.code)
 }
 
 fn is_operand_declared(declarations: &[Declaration], operand: Operand) -> bool
@@ -187,7 +185,9 @@ fn line<'a, T: Item>(
 }
 
 const OPENING: &[u8] = b"with Ada.Text_IO; use Ada.Text_IO;\nprocedure Main is\n";
+
 const MIDDLE: &[u8] = b"\nbegin\n";
+
 const CLOSING: &[u8] = b"\nend Main;\n";
 
 /// The program that a text of the first form is.
@@ -239,8 +239,7 @@ pub fn compile(alloc: Global, text: &[u8]) -> Result<Unit, Refusal>
 /// A text has at most one program of the first form.
 pub fn one_program()
     ensures { (text : List ℕ) (p q : Program) → IsFirstForm text p → IsFirstForm text q → p ≡ q }
-{
-}
+{}
 
 fn refused(code: u8, note: u8) -> Refusal
     ensures { result ≡ Refused code beginning None note }

@@ -1,7 +1,6 @@
-use Rattle.std.proofs.Common.{refl, sym, subst}
-use Rattle.ada_cmd.specs.Words.{Command, Usage}
+use Rattle.std.proofs.Common.{refl}
 use Rattle.ada_cmd.specs.Due.{usage_due}
-use Rattle.ada_cmd.specs.Answer.{Answers, Given, Whole, sight}
+use Rattle.ada_cmd.specs.Answer.{Given, Whole}
 use Rattle.ada_cmd.proofs.Answering.{unasked}
 use Rattle.ada_cmd.proofs.top.answer_words.Goals as goal
 

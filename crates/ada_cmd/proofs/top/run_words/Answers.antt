@@ -1,4 +1,3 @@
-use Rattle.std.proofs.Common.{refl, sym, ◌∙◌}
 use Rattle.ada_cmd.proofs.Causes as causes
 use Rattle.ada_cmd.proofs.top.run_words.Goals as goal
 

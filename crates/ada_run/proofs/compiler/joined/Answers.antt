@@ -1,6 +1,5 @@
-use Rattle.std.proofs.Common.{◌≡◌, ◌-◌, length, sym, ◌∙◌, arith, Some, None}
-use Rattle.ada_run.specs.Reading.{joined_at, after}
-use Rattle.ada_run.proofs.Joining.{with_front, goes_on, ends, lacks, stops}
+use Rattle.std.proofs.Common.{◌≡◌, ◌-◌, length, sym, ◌∙◌, arith}
+use Rattle.ada_run.proofs.Joining.{goes_on, ends, lacks, stops}
 use Rattle.ada_run.proofs.compiler.joined.Goals as goal
 
 pub returns-in_default : goal.returns-in_default
@@ -16,7 +15,7 @@ pub loop-item-preserved : goal.loop-item-preserved
 loop-item-preserved g c =
     rw c.in_ok-push.ensures.items
     (sym (goes_on g.T.Item.reading c.loop-item.items.items (length c.args.bytes.now) c.loop-item._item c.loop-item.rest.now c.in-Some.item c.in-Some.behind.now c.in-Some-rest_after.next.now (omega arith) c.in-Some.ensures c.in-Some-rest_after.ensures)
-      ∙ c.loop-item.invariant)
+    ∙ c.loop-item.invariant)
 
 pub returns : goal.returns
 returns g c =

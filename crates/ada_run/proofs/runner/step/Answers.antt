@@ -9,7 +9,7 @@ use Rattle.ada_run.proofs.runner.step.Goals as goal
 pub returns-in-Some-clause-in_range : goal.returns-in-Some-clause-in_range
 returns-in-Some-clause-in_range g c =
     let own : IsTrue (are_in_range (assigned c.args.variables.now c.in-Assign.target c.in-Some.value)) =
-      assigned_in_range c.args.variables.now c.in-Assign.target c.in-Some.value c.requires.variables c.in-Some.ensures.in_range in
+    assigned_in_range c.args.variables.now c.in-Assign.target c.in-Some.value c.requires.variables c.in-Some.ensures.in_range in
     search (rules, own)
 
 pub returns-in-Print-clause-steps : goal.returns-in-Print-clause-steps
