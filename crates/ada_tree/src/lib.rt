@@ -2,7 +2,7 @@
 #![tactic(auto)]
 
 ghost use Rattle.std.specs.Prelude.{◌≡◌, ◌<◌, Some, slice_get};
-ghost use Rattle.ada_tree.specs.Words.{words};
+ghost use Rattle.ada_tree.specs.Words.{words, marks};
 
 /// The reserved word with a number, in lower case (2.9).
 #[tactic(auto, unfolding(crate::specs::Words::words))]
@@ -85,5 +85,44 @@ pub fn word_text(number: u8) -> &'static str
         71 => "while",
         72 => "with",
         _ => "xor",
+    }
+}
+
+/// The mark with a number (2.2).
+#[tactic(auto, unfolding(crate::specs::Words::marks))]
+pub fn mark_text(number: u8) -> &'static str
+    requires { number < 29 }
+    ensures { slice_get marks number ≡ Some result.now }
+{
+    match number {
+        0 => "=>",
+        1 => "..",
+        2 => "**",
+        3 => ":=",
+        4 => "/=",
+        5 => ">=",
+        6 => "<=",
+        7 => "<<",
+        8 => ">>",
+        9 => "<>",
+        10 => "&",
+        11 => "'",
+        12 => "(",
+        13 => ")",
+        14 => "*",
+        15 => "+",
+        16 => ",",
+        17 => "-",
+        18 => ".",
+        19 => "/",
+        20 => ":",
+        21 => ";",
+        22 => "<",
+        23 => "=",
+        24 => ">",
+        25 => "|",
+        26 => "[",
+        27 => "]",
+        _ => "@",
     }
 }
