@@ -98,11 +98,13 @@ after_numeral n (c ∷ cs) = if c == 35 then based_at n cs else (if (c == 46) &&
 unfoldable pub number_at : List ℕ → Option (Found × List ℕ)
 number_at cs = numeral_at 10 cs >>= λ x. after_numeral x.0 x.1
 
--- what follows a string literal, from its first quotation mark on
-abbrev pub beyond_quoted : List ℕ → Option (List ℕ)
-beyond_quoted [] = None
-beyond_quoted (c ∷ []) = if c == 34 then Some [] else None
-beyond_quoted (c ∷ d ∷ cs) = if c == 34 then (if d == 34 then beyond_quoted cs else Some (d ∷ cs)) else (if is_control c then None else beyond_quoted (d ∷ cs))
+-- What follows a string literal, from the character after its first quotation mark on. `ended` is whether a
+-- quotation mark stands before, which ends the literal unless another one follows.
+abbrev pub beyond_quoted : Bool → List ℕ → Option (List ℕ)
+beyond_quoted ended [] = if ended then Some [] else None
+beyond_quoted ended (c ∷ cs) =
+    if c == 34 then beyond_quoted (not ended) cs
+    else (if ended then Some (c ∷ cs) else (if is_control c then None else beyond_quoted false cs))
 
 -- the same characters, after a change of the first ones
 abbrev pub same_by : (ℕ → ℕ) → List ℕ → List ℕ → Bool
@@ -176,7 +178,7 @@ candidate_at admitted [] = Some (Other End, [])
 candidate_at admitted (c ∷ cs) =
     if is_xid_start c then name_at (c ∷ cs)
     else (if is_digit 10 c then number_at (c ∷ cs)
-    else (if c == 34 then text_or_none (beyond_quoted cs)
+    else (if c == 34 then text_or_none (beyond_quoted false cs)
     else (if c == 39 then letter_at admitted cs
     else mark_at (c ∷ cs))))
 

@@ -34,19 +34,14 @@ fn is_word(name: &[char], word: &str, case: Case) -> bool
 {
     let mut left = name;
     let mut wanted = word.as_bytes();
-    loop {
-        match (left, wanted) {
-            ([], []) => return true,
-            ([c, cs @ ..], [d, ds @ ..]) => {
-                if case.of(*c) as u32 != *d as u32 {
-                    return false;
-                }
-                left = cs;
-                wanted = ds;
-            }
+    while let [c, cs @ ..] = left {
+        match wanted {
+            [d, ds @ ..] if case.of(*c) as u32 == *d as u32 => wanted = ds,
             _ => return false,
         }
+        left = cs;
     }
+    wanted.is_empty()
 }
 
 #[tactic(auto, unfolding(crate::specs::Reading::word_number))]

@@ -1,4 +1,5 @@
 //! String literals (2.6).
+ghost use Rattle.std.specs.Prelude.{false};
 ghost use Rattle.ada_lexer.specs.Reading.{beyond_quoted};
 ghost use Rattle.ada_lexer.specs.Reads.{Leaves};
 
@@ -7,15 +8,20 @@ use crate::characters::is_control;
 /// What follows a string literal, from the character after its first quotation mark on. None where it isn't
 /// closed on its line.
 pub fn beyond_quoted(characters: &[char]) -> Option<&[char]>
-    ensures { Leaves result (beyond_quoted characters.now) }
+    ensures { Leaves result (beyond_quoted false characters.now) }
 {
     let mut left = characters;
-    loop {
-        match left {
-            ['"', '"', rest @ ..] => left = rest,
-            ['"', rest @ ..] => return Some(rest),
-            [c, rest @ ..] if !is_control(*c) => left = rest,
-            _ => return None,
+    // Whether a quotation mark stands before, which ends the literal unless another one follows.
+    let mut ended = false;
+    while let [c, rest @ ..] = left {
+        if *c == '"' {
+            ended = !ended;
+        } else if ended {
+            return Some(left);
+        } else if is_control(*c) {
+            return None;
         }
+        left = rest;
     }
+    if ended { Some(left) } else { None }
 }
