@@ -8,3 +8,4 @@ mod mark;
 mod name;
 mod number;
 mod quoted;
+mod token;
