@@ -1,3 +1,5 @@
+pub mod Blank
+pub mod Numerals
 pub mod Powers
 pub mod Runs
 pub mod Tables
