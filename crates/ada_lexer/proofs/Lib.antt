@@ -3,3 +3,4 @@ pub mod Numerals
 pub mod Powers
 pub mod Runs
 pub mod Tables
+pub mod Values
