@@ -1,6 +1,9 @@
 pub mod Blank
 pub mod Numerals
+pub mod IntegerLaw
+pub mod NumberLaw
 pub mod Powers
 pub mod Runs
+pub mod Sound
 pub mod Tables
 pub mod Values

@@ -1,8 +1,8 @@
 -- Numerals and exponents are read as they are spelled.
-use Rattle.std.proofs.Common.{◌≡◌, ℕ, zero, suc, ◌+◌, ◌*◌, ◌^◌, ◌<◌, ◌≤◌, min, Bool, true, false, cond, not, ◌&&◌, ◌||◌, ◌==◌, nat_lt, List, [], ◌∷◌, ◌++◌, length, Option, Some, None, refl, sym, ap, ◌∙◌, subst, append_assoc, arith, length-append, lit≤}
+use Rattle.std.proofs.Common.{◌≡◌, ℕ, zero, suc, ◌+◌, ◌*◌, ◌^◌, ◌<◌, ◌≤◌, min, Bool, true, false, cond, not, ◌&&◌, ◌||◌, ◌==◌, nat_lt, List, [], ◌∷◌, ◌++◌, length, Option, Some, None, refl, sym, ap, ◌∙◌, subst, append_assoc, arith, length-append, lit≤, ⊎_elim}
 use Rattle.std.specs.List.{list_all}
 use Rattle.std.specs.Char.{digit_value}
-use Rattle.std.proofs.lemmas.Bool.{eqb-true, and_parts, or_from, or_parts, not-true, and_right, false_from_ne_true, cond_both, true≢false}
+use Rattle.std.proofs.lemmas.Bool.{eqb-true, and_parts, or_from, or_parts, or_cases, and_right, false_from_ne_true, cond_both, true≢false}
 use Rattle.ada_tree.specs.Characters.{is_digit, is_underscore}
 use Rattle.ada_tree.specs.Numbers.{IsNumeral, IsSign, IsExponent, is_digit_or_underscore, begins_with_digit, underscores_between, value_after, value_of, is_exponent_letter}
 use Rattle.ada_tree.specs.Numbers.IsSign.{NoSign, Plus, Minus}
@@ -159,7 +159,7 @@ beyond_sign_digits {minus} (d ∷ digits) rest NoSign h =
 abbrev pub continues : ℕ → Bool
 continues c = is_digit_or_underscore 10 c || is_exponent_letter c
 
-continues_parts : (rest : List ℕ) → goes_on continues rest ≡ false → (goes_on (is_digit_or_underscore 10) rest ≡ false) × (goes_on is_exponent_letter rest ≡ false)
+pub continues_parts : (rest : List ℕ) → goes_on continues rest ≡ false → (goes_on (is_digit_or_underscore 10) rest ≡ false) × (goes_on is_exponent_letter rest ≡ false)
 continues_parts [] h = (refl, refl)
 continues_parts (c ∷ rest) h = or_parts (is_digit_or_underscore 10 c) (is_exponent_letter c) h
 
@@ -177,3 +177,7 @@ exponent_longest {minus} more value rest NoExponent found =
     omega (arith, ap length e.parts, length-append e.tail rest)
 exponent_longest {minus} more value rest (Exponent letter sign digits h s n) found =
     numeral_longest 10 (lit≤ tt) digits more value rest n (rw (h, append_assoc sign digits more, beyond_sign_digits digits more s n.first) at found)
+
+-- the letter of an exponent is no decimal digit and no underscore
+pub exponent_letter : (c : ℕ) → is_exponent_letter c ≡ true → is_digit_or_underscore 10 c ≡ false
+exponent_letter c h = ⊎_elim (λ e. rw (eqb-true c 69 e) refl) (λ e. rw (eqb-true c 101 e) refl) (or_cases (c == 69) (c == 101) h)

@@ -75,9 +75,12 @@ times base n (suc k) = times base (limited (n * base)) k
 unfoldable pub scaled : ℕ → ℕ → ℕ → ℕ
 scaled base n exponent = times base n (min exponent 128)
 
+abbrev pub with_power : ℕ → ℕ → ℕ × List ℕ → Option (Found × List ℕ)
+with_power base n x = Some (Found.Number (scaled base n x.0), x.1)
+
 -- a number with its exponent, if one follows
 unfoldable pub scaled_at : ℕ → ℕ → List ℕ → Option (Found × List ℕ)
-scaled_at base n cs = exponent_at false cs >>= λ x. Some (Found.Number (scaled base n x.0), x.1)
+scaled_at base n cs = exponent_at false cs >>= with_power base n
 
 -- a based literal, from the first # on
 unfoldable pub based_at : ℕ → List ℕ → Option (Found × List ℕ)
@@ -86,9 +89,12 @@ based_at base cs =
     then (numeral_at base cs >>= λ x. beyond_one 35 x.1 >>= λ rest. scaled_at base x.0 rest)
     else None
 
+abbrev pub as_real : ℕ × List ℕ → Option (Found × List ℕ)
+as_real x = Some (Other Real, x.1)
+
 -- a real literal, from its point on
 unfoldable pub real_at : List ℕ → Option (Found × List ℕ)
-real_at cs = numeral_at 10 cs >>= λ x. exponent_at true x.1 >>= λ y. Some (Other Real, y.1)
+real_at cs = numeral_at 10 cs >>= λ x. exponent_at true x.1 >>= as_real
 
 -- the rest of a numeric literal that begins with this number
 unfoldable pub after_numeral : ℕ → List ℕ → Option (Found × List ℕ)

@@ -52,4 +52,4 @@ pub data IsInteger : List ℕ → ℕ → Type 0 where
 
 -- a real literal (2.4.1). A based one is left out of the language
 pub data IsReal : List ℕ → Type 0 where
-  Real : (whole fraction tail : List ℕ) (e : ℕ) → IsNumeral 10 whole → IsNumeral 10 fraction → IsExponent true tail e → IsReal (whole ++ 46 ∷ (fraction ++ tail))
+  RealLiteral : (whole fraction tail : List ℕ) (e : ℕ) → IsNumeral 10 whole → IsNumeral 10 fraction → IsExponent true tail e → IsReal (whole ++ 46 ∷ (fraction ++ tail))
