@@ -1,8 +1,10 @@
 pub mod Blank
 pub mod Numerals
 pub mod IntegerLaw
+pub mod NameLaw
 pub mod NumberLaw
 pub mod Powers
+pub mod QuotedLaw
 pub mod Runs
 pub mod Sound
 pub mod Tables
