@@ -1,6 +1,7 @@
 pub mod Blank
 pub mod Numerals
 pub mod IntegerLaw
+pub mod MarkLaw
 pub mod NameLaw
 pub mod NumberLaw
 pub mod Powers
