@@ -1,6 +1,7 @@
 pub mod Blank
 pub mod Numerals
 pub mod IntegerLaw
+pub mod LetterLaw
 pub mod MarkLaw
 pub mod NameLaw
 pub mod NumberLaw
@@ -9,4 +10,5 @@ pub mod QuotedLaw
 pub mod Runs
 pub mod Sound
 pub mod Tables
+pub mod TokenLaw
 pub mod Values
