@@ -1,2 +1,6 @@
+pub mod Division
+pub mod Folding
 pub mod Image
 pub mod Operation
+pub mod Place
+pub mod Tokens
