@@ -9,6 +9,7 @@ pub mod Powers
 pub mod QuotedLaw
 pub mod Runs
 pub mod Sound
+pub mod Spots
 pub mod Tables
 pub mod TokenLaw
 pub mod Values

@@ -1,5 +1,5 @@
 -- What the lexer reads at the front of a list of characters: a value, and the characters after it.
-use Rattle.std.specs.Prelude.{◌≡◌, ℕ, ◌+◌, ◌*◌, ◌^◌, Bool, true, false, ◌&&◌, ◌||◌, not, ◌==◌, nat_le, min, zero, suc, ℤ, pos, List, [], ◌∷◌, map, Option, Some, None, if◌then◌else◌}
+use Rattle.std.specs.Prelude.{◌≡◌, ℕ, ◌+◌, ◌*◌, ◌^◌, Bool, true, false, ◌&&◌, ◌||◌, not, ◌==◌, nat_le, nat_lt, min, zero, suc, ℤ, pos, List, [], ◌∷◌, map, Option, Some, None, if◌then◌else◌}
 use Rattle.std.specs.Char.{to_ascii_lowercase, digit_value}
 use Rattle.unicode.specs.CaseFolding.{simple_fold}
 use Rattle.unicode_ident.specs.Ident.{is_xid_start, is_xid_continue}
@@ -199,3 +199,8 @@ unless_run_on (found, rest) = if can_follow (kind_found found) rest then Some (f
 -- the kind of the token that begins here, and what follows it
 unfoldable pub token_at : Bool → List ℕ → Option (Found × List ℕ)
 token_at admitted cs = candidate_at admitted cs >>= unless_run_on
+
+-- the kind of a token, if its value isn't too wide
+abbrev pub kept : Found → Option Kind
+kept (Found.Number n) = if nat_lt n wide then Some (Number (pos n)) else None
+kept (Other kind) = Some kind

@@ -6,6 +6,8 @@ mod found;
 mod gap;
 mod mark;
 mod name;
+mod next;
 mod number;
 mod quoted;
+mod stop;
 mod token;

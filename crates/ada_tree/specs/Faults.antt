@@ -1,13 +1,13 @@
 -- The first lexical fault of a text.
-use Rattle.std.specs.Prelude.{◌≡◌, ◌≢◌, ◌<◌, ◌≤◌, ℕ, ◌+◌, ◌^◌, ℤ, pos, ◌<ℤ◌, List, [], ◌∷◌, ◌++◌, length, drop, take, Option, All, encode_utf8, encode_utf8_all}
+use Rattle.std.specs.Prelude.{◌≡◌, ◌≢◌, ◌<◌, ◌≤◌, ℕ, ◌+◌, ◌^◌, ℤ, pos, ◌<ℤ◌, List, [], ◌∷◌, ◌++◌, length, drop, take, All, encode_utf8, encode_utf8_all}
 use Rattle.std.specs.Char.{IsScalar}
-use Rattle.std.specs.Str.{IsUtf8}
+use Rattle.std.specs.Str.{IsUtf8, chars}
 use Rattle.ada_base.specs.declared.place.Place.{Place}
 use Rattle.ada_base.specs.declared.token.Kind.{Kind}
 use Rattle.ada_base.specs.declared.token.Kind.TheVariants.{Ident, Word, Number, Text, Letter, Real, Mark, End}
 use Rattle.ada_base.specs.declared.token.Token.{Token}
+use Rattle.ada_base.specs.Place.{place_at}
 use Rattle.ada_tree.specs.Gaps.{IsGap}
-use Rattle.ada_tree.specs.Places.{place_of}
 use Rattle.ada_tree.specs.Spelling.{IsTokenAt}
 use Rattle.ada_tree.specs.Tokens.{Spot, start_of, IsNext, AreNext}
 
@@ -37,50 +37,53 @@ IsNarrow Real = Unit {0}
 IsNarrow (Mark n) = Unit {0}
 IsNarrow End = Unit {0}
 
+-- the tokens, the End included, are within the limits
+pub record KeepLimits (tokens : List Token) : Type 0 where
+  pub few : length tokens ≤ token_limit + 1
+  pub narrow : All (λ token. IsNarrow token.kind) tokens
+
 -- a byte at which no UTF-8 character begins, after characters
 pub record BeginsNoCharacter (text : List ℕ) (at : ℕ) : Type 0 where
   pub inside : at < length text
   pub front : IsUtf8 (take at text)
   pub nothing : (c : ℕ) (rest : List ℕ) → IsScalar c → drop at text ≡ encode_utf8 c ++ rest → ⊥
 
--- the text has tokens up to a place, and no fault before it
-pub record Reaches (text : List ℕ) (tokens : List Token) (spot : Spot) : Type 0 where
-  pub short : length text ≤ byte_limit
-  pub utf8 : IsUtf8 text
-  pub next : AreNext (start_of text) tokens spot
+-- the tokens are the first ones of these characters up to a place, and none of them is a fault
+pub record Reaches (characters : List ℕ) (tokens : List Token) (spot : Spot) : Type 0 where
+  pub next : AreNext (start_of characters) tokens spot
   pub few : length tokens ≤ token_limit
   pub narrow : All (λ token. IsNarrow token.kind) tokens
 
--- no token stands next after a place: neither white space nor a comment begins after the gap, and no token
+-- after this gap no token begins
 pub record HasNoNext (spot : Spot) (gap : List ℕ) : Type 0 where
   pub rest : List ℕ
   pub parts : spot.ahead ≡ gap ++ rest
   pub between : IsGap gap rest
   pub nothing : (kind : Kind) (slice more : List ℕ) → rest ≡ slice ++ more → IsTokenAt spot.before kind slice more → ⊥
 
-pub record IsBadToken (text : List ℕ) (at : ℕ) : Type 0 where
+pub record IsBadToken (characters : List ℕ) (at : ℕ) : Type 0 where
   pub tokens : List Token
   pub spot : Spot
-  pub reaches : Reaches text tokens spot
+  pub reaches : Reaches characters tokens spot
   pub gap : List ℕ
-  pub nothing : HasNoNext spot gap
+  pub no_next : HasNoNext spot gap
   pub start : at ≡ spot.at + length (encode_utf8_all gap)
 
-pub record IsWideLiteral (text : List ℕ) (at : ℕ) : Type 0 where
+pub record IsWideLiteral (characters : List ℕ) (at : ℕ) : Type 0 where
   pub tokens : List Token
   pub spot : Spot
-  pub reaches : Reaches text tokens spot
+  pub reaches : Reaches characters tokens spot
   pub token : Token
   pub rest : List ℕ
   pub next : IsNext spot token rest
   pub wide : IsNarrow token.kind → ⊥
   pub start : at ≡ token.span.start
 
--- the token with the number of the limit, counted from 0, isn't the End
-pub record IsTooLong (text : List ℕ) (at : ℕ) : Type 0 where
+-- the token whose number, counted from 0, is the limit isn't the End
+pub record IsTooLong (characters : List ℕ) (at : ℕ) : Type 0 where
   pub tokens : List Token
   pub spot : Spot
-  pub reaches : Reaches text tokens spot
+  pub reaches : Reaches characters tokens spot
   pub full : length tokens ≡ token_limit
   pub token : Token
   pub rest : List ℕ
@@ -89,17 +92,16 @@ pub record IsTooLong (text : List ℕ) (at : ℕ) : Type 0 where
   pub more : token.kind ≢ End
   pub start : at ≡ token.span.start
 
+-- a text that is read as characters
+pub record IsReadable (text : List ℕ) : Type 0 where
+  pub short : length text ≤ byte_limit
+  pub utf8 : IsUtf8 text
+
 -- The fault of a text, by the order of the checks: its bytes are counted, it is read as UTF-8, and then the
 -- tokens are judged from the first one on. The count of too many tokens includes the one that is too many.
 abbrev pub IsFirstFault : List ℕ → Fault → Type 0
 IsFirstFault text (TooBig bytes) = (byte_limit < length text) × (bytes ≡ length text)
 IsFirstFault text (NotUtf8 at) = (length text ≤ byte_limit) × BeginsNoCharacter text at
-IsFirstFault text (BadToken place) = (at : ℕ) × IsBadToken text at × (place ≡ place_of text at)
-IsFirstFault text (WideLiteral place) = (at : ℕ) × IsWideLiteral text at × (place ≡ place_of text at)
-IsFirstFault text (TooLong count place) = (at : ℕ) × IsTooLong text at × (count ≡ token_limit + 1) × (place ≡ place_of text at)
-
--- a text and its tokens, the End included, are within the limits
-pub record KeepsLimits (text : List ℕ) (tokens : List Token) : Type 0 where
-  pub short : length text ≤ byte_limit
-  pub few : length tokens ≤ token_limit + 1
-  pub narrow : All (λ token. IsNarrow token.kind) tokens
+IsFirstFault text (BadToken place) = IsReadable text × (at : ℕ) × IsBadToken (chars text) at × (place ≡ place_at text at)
+IsFirstFault text (WideLiteral place) = IsReadable text × (at : ℕ) × IsWideLiteral (chars text) at × (place ≡ place_at text at)
+IsFirstFault text (TooLong count place) = IsReadable text × (at : ℕ) × IsTooLong (chars text) at × (count ≡ token_limit + 1) × (place ≡ place_at text at)

@@ -2,7 +2,6 @@ pub mod Characters
 pub mod Faults
 pub mod Gaps
 pub mod Numbers
-pub mod Places
 pub mod Spelling
 pub mod Tokens
 pub mod Words

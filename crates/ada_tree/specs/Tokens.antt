@@ -14,8 +14,9 @@ pub record Spot : Type 0 where
   pub at : ℕ
   pub ahead : List ℕ
 
-unfoldable pub start_of : List ℕ → Spot
-start_of text = record { before = None; at = 0; ahead = chars text }
+-- the place before the first token
+abbrev pub start_of : List ℕ → Spot
+start_of characters = record { before = None; at = 0; ahead = characters }
 
 -- the place after a token
 abbrev pub after : Token → List ℕ → Spot
@@ -37,12 +38,16 @@ abbrev pub AreNext : Spot → List Token → Spot → Type 0
 AreNext spot [] last = spot ≡ last
 AreNext spot (token ∷ tokens) last = (rest : List ℕ) × IsNext spot token rest × (token.kind ≢ End) × AreNext (after token rest) tokens last
 
--- the tokens of a text: the End is the last of them, and stands at the end of the text
-pub record AreTokensOf (text : List ℕ) (tokens : List Token) : Type 0 where
+-- the tokens of characters: the End is the last of them, and stands where the characters end
+pub record AreTokens (characters : List ℕ) (tokens : List Token) : Type 0 where
   pub others : List Token
   pub last : Token
   pub spot : Spot
   pub parts : tokens ≡ others ++ last ∷ []
-  pub next : AreNext (start_of text) others spot
+  pub next : AreNext (start_of characters) others spot
   pub final : IsNext spot last []
   pub is_end : last.kind ≡ End
+
+-- the tokens of a text, which is given by its bytes
+abbrev pub AreTokensOf : List ℕ → List Token → Type 0
+AreTokensOf text tokens = AreTokens (chars text) tokens
