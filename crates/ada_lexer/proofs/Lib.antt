@@ -7,6 +7,7 @@ pub mod NameLaw
 pub mod NumberLaw
 pub mod Powers
 pub mod QuotedLaw
+pub mod Reaching
 pub mod Runs
 pub mod Sound
 pub mod Spots

@@ -7,8 +7,8 @@ use Rattle.ada_lexer.specs.declared.stop.Stop.{Stop}
 use Rattle.ada_lexer.specs.declared.stop.Stop.TheVariants.{BadToken, WideLiteral, TooLong, OutOfMemory}
 use Rattle.ada_tree.specs.Gaps.{IsGap}
 use Rattle.ada_tree.specs.Spelling.{IsTokenAt}
-use Rattle.ada_tree.specs.Tokens.{Spot, IsNext, AreTokens}
-use Rattle.ada_tree.specs.Faults.{IsNarrow, HasNoNext, KeepLimits, IsBadToken, IsWideLiteral, IsTooLong}
+use Rattle.ada_tree.specs.Tokens.{Spot, IsNext}
+use Rattle.ada_tree.specs.Faults.{IsNarrow, HasNoNext, IsBadToken, IsWideLiteral, IsTooLong}
 
 abbrev pub spot_at : Option Kind → ℕ → List ℕ → Spot
 spot_at before at ahead = record { before = before; at = at; ahead = ahead }
@@ -43,10 +43,9 @@ Stands spot (Err (WideLiteral at)) = (token : Token) × (rest : List ℕ) × IsN
 Stands spot (Err (TooLong at)) = ⊥
 Stands spot (Err OutOfMemory) = ⊥
 
--- the tokens of characters that keep the limits, or why there are none
-abbrev pub Judged : List ℕ → Result (List Token) Stop → Type 0
-Judged characters (Ok tokens) = AreTokens characters tokens × KeepLimits tokens
-Judged characters (Err (BadToken at)) = IsBadToken characters at
-Judged characters (Err (WideLiteral at)) = IsWideLiteral characters at
-Judged characters (Err (TooLong at)) = IsTooLong characters at
-Judged characters (Err OutOfMemory) = Unit {0}
+-- the fault of characters at which the lexer stopped
+abbrev pub StopsAt : List ℕ → Stop → Type 0
+StopsAt characters (BadToken at) = IsBadToken characters at
+StopsAt characters (WideLiteral at) = IsWideLiteral characters at
+StopsAt characters (TooLong at) = IsTooLong characters at
+StopsAt characters OutOfMemory = Unit {0}

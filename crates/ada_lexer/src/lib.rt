@@ -11,3 +11,4 @@ mod number;
 mod quoted;
 mod stop;
 mod token;
+mod tokens;
