@@ -1,7 +1,6 @@
 -- The first lexical fault of a text.
-use Rattle.std.specs.Prelude.{◌≡◌, ◌≢◌, ◌<◌, ◌≤◌, ℕ, ◌+◌, ◌^◌, ℤ, pos, ◌<ℤ◌, List, [], ◌∷◌, ◌++◌, length, drop, take, All, encode_utf8, encode_utf8_all}
-use Rattle.std.specs.Char.{IsScalar}
-use Rattle.std.specs.Str.{IsUtf8, chars}
+use Rattle.std.specs.Prelude.{◌≡◌, ◌≢◌, ◌<◌, ◌≤◌, ℕ, ◌+◌, ◌^◌, ℤ, pos, ◌<ℤ◌, List, [], ◌∷◌, ◌++◌, length, drop, take, All, encode_utf8_all}
+use Rattle.std.specs.Str.{IsUtf8, StartsWithNoChar, chars}
 use Rattle.ada_base.specs.declared.place.Place.{Place}
 use Rattle.ada_base.specs.declared.token.Kind.{Kind}
 use Rattle.ada_base.specs.declared.token.Kind.TheVariants.{Ident, Word, Number, Text, Letter, Real, Mark, End}
@@ -13,11 +12,11 @@ use Rattle.ada_tree.specs.Tokens.{Spot, start_of, IsNext, AreNext}
 
 -- what a text may be refused for before it is parsed
 pub data Fault : Type 0 where
-  TooBig : ℕ → Fault
-  NotUtf8 : ℕ → Fault
-  BadToken : Place → Fault
-  WideLiteral : Place → Fault
-  TooLong : ℕ → Place → Fault
+  TooManyBytes : (bytes : ℕ) → Fault
+  NoCharacter : (at : ℕ) → Fault
+  NoToken : (at : Place) → Fault
+  TooWide : (at : Place) → Fault
+  TooManyTokens : (count : ℕ) (at : Place) → Fault
 
 -- the most bytes of a text, and the most tokens before its End
 abbrev pub byte_limit : ℕ
@@ -46,7 +45,7 @@ pub record KeepLimits (tokens : List Token) : Type 0 where
 pub record BeginsNoCharacter (text : List ℕ) (at : ℕ) : Type 0 where
   pub inside : at < length text
   pub front : IsUtf8 (take at text)
-  pub nothing : (c : ℕ) (rest : List ℕ) → IsScalar c → drop at text ≡ encode_utf8 c ++ rest → ⊥
+  pub nothing : StartsWithNoChar (drop at text)
 
 -- the tokens are the first ones of these characters up to a place, and none of them is a fault
 pub record Reaches (characters : List ℕ) (tokens : List Token) (spot : Spot) : Type 0 where
@@ -100,8 +99,8 @@ pub record IsReadable (text : List ℕ) : Type 0 where
 -- The fault of a text, by the order of the checks: its bytes are counted, it is read as UTF-8, and then the
 -- tokens are judged from the first one on. The count of too many tokens includes the one that is too many.
 abbrev pub IsFirstFault : List ℕ → Fault → Type 0
-IsFirstFault text (TooBig bytes) = (byte_limit < length text) × (bytes ≡ length text)
-IsFirstFault text (NotUtf8 at) = (length text ≤ byte_limit) × BeginsNoCharacter text at
-IsFirstFault text (BadToken place) = IsReadable text × (at : ℕ) × IsBadToken (chars text) at × (place ≡ place_at text at)
-IsFirstFault text (WideLiteral place) = IsReadable text × (at : ℕ) × IsWideLiteral (chars text) at × (place ≡ place_at text at)
-IsFirstFault text (TooLong count place) = IsReadable text × (at : ℕ) × IsTooLong (chars text) at × (count ≡ token_limit + 1) × (place ≡ place_at text at)
+IsFirstFault text (TooManyBytes bytes) = (byte_limit < length text) × (bytes ≡ length text)
+IsFirstFault text (NoCharacter at) = (length text ≤ byte_limit) × BeginsNoCharacter text at
+IsFirstFault text (NoToken place) = IsReadable text × (at : ℕ) × IsBadToken (chars text) at × (place ≡ place_at text at)
+IsFirstFault text (TooWide place) = IsReadable text × (at : ℕ) × IsWideLiteral (chars text) at × (place ≡ place_at text at)
+IsFirstFault text (TooManyTokens count place) = IsReadable text × (at : ℕ) × IsTooLong (chars text) at × (count ≡ token_limit + 1) × (place ≡ place_at text at)

@@ -1,0 +1,58 @@
+ghost use Rattle.std.specs.Prelude.{◌≡◌, ◌≤◌, length, MatchResult};
+ghost use Rattle.std.specs.Str.{chars};
+ghost use Rattle.ada_tree.specs.Faults.{byte_limit, BeginsNoCharacter};
+ghost use Rattle.ada_lexer.specs.Lexed.{AreLexed, Tells};
+ghost use Rattle.ada_lexer.specs.Stop.{StopsAt};
+
+use crate::fault::LexFault;
+use crate::stop::Stop;
+use crate::tokens::tokens_in;
+use ada_base::{Tokens, place_of};
+use std::alloc::Global;
+
+/// The most bytes of a text.
+pub const MOST_BYTES: usize = 1_048_576;
+
+fn fault_at(text: &str, stop: Stop) -> LexFault
+    requires short { length text.now ≤ byte_limit }
+    requires stops { StopsAt (chars text.now) stop }
+    ensures { Tells text.now result }
+{
+    match stop {
+        Stop::BadToken { at } => LexFault::BadToken { at: place_of(text, at) },
+        Stop::WideLiteral { at } => LexFault::WideLiteral { at: place_of(text, at) },
+        Stop::TooLong { at } => LexFault::TooLong { count: 200_001, at: place_of(text, at) },
+        Stop::OutOfMemory => LexFault::OutOfMemory,
+    }
+}
+
+fn text_tokens(alloc: Global, text: &str) -> Result<Tokens, LexFault>
+    requires { length text.now ≤ byte_limit }
+    ensures { MatchResult result (AreLexed text.now) (Tells text.now) }
+{
+    let Ok(characters) = text.chars().collect::<Vec<char>>(alloc) else {
+        return Err(LexFault::OutOfMemory);
+    };
+    let items = match tokens_in(alloc, &characters) {
+        Ok(items) => items,
+        Err(stop) => return Err(fault_at(text, stop)),
+    };
+    match String::from_str(alloc, text) {
+        Ok(text) => Ok(Tokens::new(text, items)),
+        Err(_) => Err(LexFault::OutOfMemory),
+    }
+}
+
+/// The tokens of a text, which is given by its bytes, or its first lexical fault (2.2). What is lent stays as
+/// it is.
+pub fn lex(alloc: Global, text: &[u8]) -> Result<Tokens, LexFault>
+    ensures { MatchResult result (AreLexed text.now) (Tells text.now) }
+{
+    if text.len() > MOST_BYTES {
+        return Err(LexFault::TooBig { bytes: text.len() as u64 });
+    }
+    match str::from_utf8(text) {
+        Ok(text) => text_tokens(alloc, text),
+        Err(fault) => Err(LexFault::NotUtf8 { at: fault.valid_up_to() as u32 }),
+    }
+}
