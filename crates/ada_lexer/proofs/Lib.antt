@@ -1,4 +1,5 @@
 pub mod Blank
+pub mod Edges
 pub mod Numerals
 pub mod IntegerLaw
 pub mod LetterLaw
