@@ -1,16 +1,19 @@
 -- Tokens and faults stand at edges of characters.
-use Rattle.std.proofs.Common.{◌≡◌, ◌≢◌, ◌↔◌, ℕ, zero, suc, ◌+◌, ◌-◌, ◌^◌, ◌<◌, ◌≤◌, Bool, true, false, ◌&&◌, List, [], ◌∷◌, ◌++◌, length, take, Option, Some, None, refl, sym, ap, ◌∙◌, subst, append_assoc, arith, length-append, lit<}
-use Rattle.std.specs.Prelude.{encode_utf8_all, All, slice_index_or}
-use Rattle.std.specs.Str.{chars, IsUtf8, IsCharBoundary}
+use Rattle.std.proofs.Common.{◌≡◌, ◌≢◌, ◌↔◌, ℕ, zero, suc, ◌+◌, ◌-◌, ◌^◌, ◌<◌, ◌≤◌, Bool, true, false, ◌&&◌, List, [], ◌∷◌, ◌++◌, length, take, drop, Option, Some, None, refl, sym, ap, ◌∙◌, subst, append_assoc, arith, length-append, lit<}
+use Rattle.std.specs.Prelude.{encode_utf8, encode_utf8_all, All, slice_index_or}
+use Rattle.std.specs.Str.{chars, IsUtf8, IsCharBoundary, IsValidUpTo, StartsWithNoChar}
 use Rattle.std.proofs.Math.Utf8.{scalars}
+use Rattle.std.proofs.Math.Seq.{take-append_seam}
 use Rattle.std.proofs.lemmas.Bool.{and_parts}
+use Rattle.std.proofs.lemmas.List.{take-append-drop, length-take-le}
 use Rattle.std.proofs.lemmas.List.Elements.{All-nil, All-cons, All-append}
-use Rattle.std.proofs.lemmas.Str.{encodes-append, encodes-chars, scalars-chars, IsCharBoundary-at_seam}
+use Rattle.std.proofs.lemmas.Str.{encodes-append, encodes-chars, scalars-chars, IsCharBoundary-at_seam, length-encode, len_utf8_bounds, IsUtf8-append, IsUtf8-encode}
 use Rattle.ada_base.specs.declared.token.Kind.{Kind}
 use Rattle.ada_base.specs.declared.token.Kind.TheVariants.{End}
 use Rattle.ada_base.specs.declared.token.Token.{Token}
-use Rattle.ada_base.specs.Tokens.{LiesIn, EndsOnce, IsWhole}
-use Rattle.ada_tree.specs.Faults.{KeepLimits, IsBadToken, IsWideLiteral, IsTooLong, byte_limit, token_limit}
+use Rattle.ada_base.specs.Tokens.{Tokenized, LiesIn, EndsOnce, IsWhole}
+use Rattle.ada_tree.specs.Faults.{KeepLimits, BeginsNoCharacter, IsBadToken, IsWideLiteral, IsTooLong, byte_limit, token_limit}
+use Rattle.ada_lexer.specs.Lexed.{AreLexed}
 use Rattle.ada_tree.specs.Tokens.{Spot, start_of, after, IsNext, AreNext, AreTokens}
 
 -- these characters of the text are ahead at the byte `at`
@@ -94,3 +97,23 @@ pub long_edge : (text : List ℕ) (at : ℕ) → IsUtf8 text → IsTooLong (char
 long_edge text at u b =
     let there = reached text (start_of (chars text)) b.tokens b.spot (at_start text u) b.reaches.next in
     rw b.start (edge text _ _ (begins text b.spot b.token b.rest there b.next))
+
+-- where no front is UTF-8 that is longer, no character begins
+pub begins_none : (bytes : List ℕ) (n : ℕ) → IsValidUpTo bytes n → BeginsNoCharacter bytes n
+begins_none bytes n v = record { inside = v.short; front = v.front; nothing = none } where
+  none : StartsWithNoChar (drop n bytes)
+  none c rest scalar e =
+      let whole : bytes ≡ (take n bytes ++ encode_utf8 c) ++ rest = sym (take-append-drop n bytes) ∙ (ap (λ s. take n bytes ++ s) e ∙ sym (append_assoc (take n bytes) (encode_utf8 c) rest)) in
+      let size : length (take n bytes ++ encode_utf8 c) ≡ n + length (encode_utf8 c) = length-append (take n bytes) (encode_utf8 c) ∙ ap (λ k. k + length (encode_utf8 c)) (length-take-le n bytes (omega (arith, v.short))) in
+      let front : take (n + length (encode_utf8 c)) bytes ≡ take n bytes ++ encode_utf8 c = ap (λ k. take k bytes) (sym size) ∙ (ap (take (length (take n bytes ++ encode_utf8 c))) whole ∙ take-append_seam (take n bytes ++ encode_utf8 c) rest) in
+      let some : 1 ≤ length (encode_utf8 c) = omega (arith, length-encode c, (len_utf8_bounds c).0) in
+      v.longest (n + length (encode_utf8 c)) (omega (arith, some)) (subst IsUtf8 (sym front) (IsUtf8-append (take n bytes) (encode_utf8 c) v.front (IsUtf8-encode c scalar)))
+
+pub are_lexed : (text : List ℕ) (tokens : Tokenized) (bytes : List ℕ) (items : List Token) → length text ≤ byte_limit → IsUtf8 text → AreTokens (chars text) items → KeepLimits items → bytes ≡ text → tokens.text ≡ bytes → tokens.items ≡ items → AreLexed text tokens
+are_lexed text tokens bytes items short u t k same text_is items_is =
+    record {
+      text_is = text_is ∙ same;
+      readable = record { short = short; utf8 = u };
+      tokens_of = subst (AreTokens (chars text)) (sym items_is) t;
+      limits = subst KeepLimits (sym items_is) k;
+    }

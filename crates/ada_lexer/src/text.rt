@@ -1,4 +1,4 @@
-ghost use Rattle.std.specs.Prelude.{◌≡◌, ◌≤◌, length, MatchResult};
+ghost use Rattle.std.specs.Prelude.{◌≡◌, ◌≤◌, length, IfOk, MatchResult};
 ghost use Rattle.std.specs.Str.{chars};
 ghost use Rattle.ada_tree.specs.Faults.{byte_limit, BeginsNoCharacter};
 ghost use Rattle.ada_lexer.specs.Lexed.{AreLexed, Tells};
@@ -8,7 +8,7 @@ use crate::fault::LexFault;
 use crate::stop::Stop;
 use crate::tokens::tokens_in;
 use ada_base::{Tokens, place_of};
-use std::alloc::Global;
+use std::alloc::{AllocError, Global};
 
 /// The most bytes of a text.
 pub const MOST_BYTES: usize = 1_048_576;
@@ -26,11 +26,17 @@ fn fault_at(text: &str, stop: Stop) -> LexFault
     }
 }
 
+fn characters_of(alloc: Global, text: &str) -> Result<Vec<char>, AllocError>
+    ensures { IfOk result (λ characters. characters.items ≡ chars text.now) }
+{
+    text.chars().collect(alloc)
+}
+
 fn text_tokens(alloc: Global, text: &str) -> Result<Tokens, LexFault>
     requires { length text.now ≤ byte_limit }
     ensures { MatchResult result (AreLexed text.now) (Tells text.now) }
 {
-    let Ok(characters) = text.chars().collect::<Vec<char>>(alloc) else {
+    let Ok(characters) = characters_of(alloc, text) else {
         return Err(LexFault::OutOfMemory);
     };
     let items = match tokens_in(alloc, &characters) {
