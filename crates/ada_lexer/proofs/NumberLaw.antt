@@ -111,7 +111,7 @@ based_found base cs found rest h =
     subst (λ b. ReadsBased b found cs rest) same (based_within (limited base) cs found rest bounds.0 bounds.1 h)
 
 -- a # is no digit of a base up to 16, and no underscore
-hash_ends : (base : ℕ) → base ≤ 16 → is_digit_or_underscore base 35 ≡ false
+pub hash_ends : (base : ℕ) → base ≤ 16 → is_digit_or_underscore base 35 ≡ false
 hash_ends base high = or_from _ _ (le-ltb 36 base (omega arith)) refl
 
 pub based_read : (base : ℕ) {tail : List ℕ} {size : ℕ} (digits rest : List ℕ) → 2 ≤ base → base ≤ 16 → IsNumeral base digits → IsExponent false tail size → goes_on continues rest ≡ false → based_at (limited base) (digits ++ 35 ∷ (tail ++ rest)) ≡ Some (Found.Number (limited (value_of base digits * base ^ size)), rest)

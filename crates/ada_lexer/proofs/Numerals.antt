@@ -146,7 +146,7 @@ exponent_found minus (c ∷ cs) value rest h = go (is_exponent_letter c) refl h 
       }
 
 -- a sign is skipped where a digit follows it
-beyond_sign_digits : {minus : Bool} {sign : List ℕ} (digits rest : List ℕ) → IsSign minus sign → begins_with_digit 10 digits ≡ true → beyond_sign minus (sign ++ (digits ++ rest)) ≡ digits ++ rest
+pub beyond_sign_digits : {minus : Bool} {sign : List ℕ} (digits rest : List ℕ) → IsSign minus sign → begins_with_digit 10 digits ≡ true → beyond_sign minus (sign ++ (digits ++ rest)) ≡ digits ++ rest
 beyond_sign_digits digits rest Plus h = refl
 beyond_sign_digits digits rest Minus h = refl
 beyond_sign_digits {minus} [] rest NoSign h = cc
