@@ -6,6 +6,7 @@ pub mod LetterLaw
 pub mod MarkLaw
 pub mod NameLaw
 pub mod NumberLaw
+pub mod OneList
 pub mod OneValue
 pub mod Powers
 pub mod QuotedLaw
