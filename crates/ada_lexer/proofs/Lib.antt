@@ -1,3 +1,4 @@
+pub mod Answered
 pub mod Blank
 pub mod Edges
 pub mod Numerals
@@ -6,6 +7,7 @@ pub mod LetterLaw
 pub mod MarkLaw
 pub mod NameLaw
 pub mod NumberLaw
+pub mod OneFault
 pub mod OneList
 pub mod OneValue
 pub mod Powers

@@ -32,3 +32,13 @@ Tells text (BadToken at) = IsFirstFault text (NoToken at)
 Tells text (WideLiteral at) = IsFirstFault text (TooWide at)
 Tells text (TooLong count at) = IsFirstFault text (TooManyTokens count at)
 Tells text OutOfMemory = ⊤
+
+-- the result is these tokens, unless memory ran out
+abbrev pub GivesTokens : Result Tokenized LexFault → List Token → Type 0
+GivesTokens (Ok tokens) items = tokens.items ≡ items
+GivesTokens (Err fault) items = fault ≡ OutOfMemory
+
+-- the result is this fault, unless memory ran out
+abbrev pub GivesFault : Result Tokenized LexFault → Fault → Type 0
+GivesFault (Ok tokens) fault = ⊥
+GivesFault (Err told) fault = (told ≡ OutOfMemory) ⊎ (fault_of told ≡ Some fault)

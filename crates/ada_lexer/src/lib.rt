@@ -16,4 +16,4 @@ mod token;
 mod tokens;
 
 pub use fault::LexFault;
-pub use text::lex;
+pub use text::{lex, one_answer};

@@ -1,7 +1,9 @@
-ghost use Rattle.std.specs.Prelude.{◌≡◌, ◌≤◌, length, IfOk, MatchResult};
+ghost use Rattle.std.specs.Prelude.{◌≡◌, ◌≤◌, ℕ, List, length, IfOk, IfErr, MatchResult};
 ghost use Rattle.std.specs.Str.{chars};
-ghost use Rattle.ada_tree.specs.Faults.{byte_limit, BeginsNoCharacter};
-ghost use Rattle.ada_lexer.specs.Lexed.{AreLexed, Tells};
+ghost use Rattle.ada_tree.specs.Faults.{byte_limit, Fault, IsFirstFault, IsReadable, KeepLimits};
+ghost use Rattle.ada_lexer.specs.Lexed.{AreLexed, Tells, GivesTokens, GivesFault};
+ghost use Rattle.ada_tree.specs.Tokens.{AreTokensOf};
+ghost use Rattle.ada_base.specs.declared.token.Token.{Token};
 ghost use Rattle.ada_lexer.specs.Stop.{StopsAt};
 
 use crate::fault::LexFault;
@@ -49,9 +51,7 @@ fn text_tokens(alloc: Global, text: &str) -> Result<Tokens, LexFault>
     }
 }
 
-/// The tokens of a text, which is given by its bytes, or its first lexical fault (2.2). What is lent stays as
-/// it is.
-pub fn lex(alloc: Global, text: &[u8]) -> Result<Tokens, LexFault>
+fn judge(alloc: Global, text: &[u8]) -> Result<Tokens, LexFault>
     ensures { MatchResult result (AreLexed text.now) (Tells text.now) }
 {
     if text.len() > MOST_BYTES {
@@ -61,4 +61,25 @@ pub fn lex(alloc: Global, text: &[u8]) -> Result<Tokens, LexFault>
         Ok(text) => text_tokens(alloc, text),
         Err(fault) => Err(LexFault::NotUtf8 { at: fault.valid_up_to() as u32 }),
     }
+}
+
+/// The tokens of a text, which is given by its bytes, or its first lexical fault (2.2).
+pub fn lex(alloc: Global, text: &[u8]) -> Result<Tokens, LexFault>
+    ensures tokens { IfOk result (AreLexed text.now) }
+    ensures fault { IfErr result (Tells text.now) }
+
+    // A text that has tokens within the limits gets them, and one that has a first fault gets that.
+    ensures all_tokens { (items : List Token) → IsReadable text.now → AreTokensOf text.now items → KeepLimits items → GivesTokens result items }
+    ensures all_faults { (first : Fault) → IsFirstFault text.now first → GivesFault result first }
+{
+    judge(alloc, text)
+}
+
+/// A text has at most one token list, at most one first fault, and not both where the tokens are within the
+/// limits.
+pub fn one_answer()
+    ensures tokens { (text : List ℕ) (items others : List Token) → AreTokensOf text items → AreTokensOf text others → items ≡ others }
+    ensures fault { (text : List ℕ) (first other : Fault) → IsFirstFault text first → IsFirstFault text other → first ≡ other }
+    ensures not_both { (text : List ℕ) (items : List Token) (first : Fault) → IsReadable text → AreTokensOf text items → KeepLimits items → IsFirstFault text first → ⊥ }
+{
 }

@@ -1,6 +1,8 @@
-use Rattle.std.proofs.Common.{arith}
-use Rattle.ada_lexer.proofs.Edges.{begins_none}
+use Rattle.ada_lexer.proofs.Answered.{gives_tokens, gives_fault}
 use Rattle.ada_lexer.proofs.text.lex.Goals as goal
 
-pub returns-in-Err : goal.returns-in-Err
-returns-in-Err c = (omega (arith, c.if-text-gt-MOST_BYTES.false), rw c.valid_up_to.ensures (begins_none _ _ c.in-Err.ensures.cases.1))
+pub returns-clause-all_tokens : goal.returns-clause-all_tokens
+returns-clause-all_tokens c = gives_tokens _ _ c.judge.ensures
+
+pub returns-clause-all_faults : goal.returns-clause-all_faults
+returns-clause-all_faults c = gives_fault _ _ c.judge.ensures
