@@ -1,0 +1,92 @@
+-- A text has one first fault at most, and none if it has tokens within the limits.
+use Rattle.std.proofs.Common.{◌≡◌, ◌⊎◌, inl, inr, ⊎_elim, ℕ, ◌+◌, ◌-◌, ◌<◌, ◌≤◌, Bool, true, List, [], ◌∷◌, ◌++◌, length, take, drop, Option, Some, None, Result, Ok, Err, refl, sym, ap, ◌∙◌, subst, arith, length-append, length-drop, append_assoc}
+use Rattle.std.specs.Prelude.{encode_utf8, encode_utf8_all, MatchResult}
+use Rattle.std.specs.Char.{IsScalar}
+use Rattle.std.specs.Str.{IsUtf8, StartsWithNoChar, chars}
+use Rattle.std.proofs.Math.Utf8.{scalars}
+use Rattle.std.proofs.Math.Seq.{take-add, take-append_seam}
+use Rattle.std.proofs.lemmas.Bool.{and_parts, cases_order}
+use Rattle.std.proofs.lemmas.List.{take-append-drop, drop-take, length-take-le}
+use Rattle.std.proofs.lemmas.Str.{IsCharBoundary-from_take, IsUtf8-drop}
+use Rattle.ada_base.specs.declared.token.Token.{Token}
+use Rattle.ada_base.specs.Place.{place_at}
+use Rattle.ada_tree.specs.Faults.{Fault, IsFirstFault, IsReadable, BeginsNoCharacter, KeepLimits, IsBadToken, IsWideLiteral, IsTooLong, byte_limit, token_limit}
+use Rattle.ada_tree.specs.Faults.Fault.{TooManyBytes, NoCharacter, NoToken, TooWide, TooManyTokens}
+use Rattle.ada_tree.specs.Tokens.{AreTokensOf}
+use Rattle.ada_lexer.proofs.OneList.{one_bad, one_wide, one_long, bad_or_wide, bad_or_long, wide_or_long, tokens_or_bad, tokens_or_wide, tokens_or_long}
+
+record BeginsCharacter (bytes : List ℕ) : Type 0 where
+  character : ℕ
+  rest : List ℕ
+  scalar : IsScalar character
+  parts : bytes ≡ encode_utf8 character ++ rest
+
+-- UTF-8 that isn't empty begins with a character
+begins : (bytes cs : List ℕ) → scalars cs ≡ true → encode_utf8_all cs ≡ bytes → 0 < length bytes → BeginsCharacter bytes
+begins bytes [] s e some = absurd (omega (arith, some, ap length e))
+begins bytes (c ∷ cs) s e some = record { character = c; rest = encode_utf8_all cs; scalar = (and_parts _ (scalars cs) s).0; parts = sym e }
+
+-- after characters a text of UTF-8 goes on with a character
+goes_on : (text : List ℕ) (at : ℕ) → IsUtf8 text → IsUtf8 (take at text) → at < length text → BeginsCharacter (drop at text)
+goes_on text at whole front below =
+    let tail = IsUtf8-drop text at whole (IsCharBoundary-from_take text at whole (omega (arith, below)) front) in
+    begins (drop at text) tail.0 tail.1.0 tail.1.1 (omega (arith, length-drop at text, below))
+
+readable : (text : List ℕ) (at : ℕ) → IsUtf8 text → BeginsNoCharacter text at → ⊥
+readable text at whole none =
+    let c = goes_on text at whole none.front none.inside in
+    none.nothing c.character c.rest c.scalar c.parts
+
+-- a later byte can't be the first
+earlier : (text : List ℕ) (at later : ℕ) → at < later → BeginsNoCharacter text at → BeginsNoCharacter text later → ⊥
+earlier text at later below none other = go (later - at) (omega (arith, below)) where
+  go : (k : ℕ) → later ≡ at + k → ⊥
+  go k e =
+      let size : length (take at text) ≡ at = length-take-le at text (omega (arith, none.inside)) in
+      let whole : take later text ≡ take at text ++ take k (drop at text) = ap (λ n. take n text) e ∙ take-add at k text in
+      let front : take at (take later text) ≡ take at text = ap (λ n. take n (take later text)) (sym size) ∙ (ap (take (length (take at text))) whole ∙ take-append_seam (take at text) (take k (drop at text))) in
+      let tail : drop at (take later text) ≡ take k (drop at text) = ap (λ n. drop at (take n text)) e ∙ drop-take at k text in
+      let long : length (take later text) ≡ later = length-take-le later text (omega (arith, other.inside)) in
+      let c = goes_on (take later text) at other.front (subst IsUtf8 (sym front) none.front) (omega (arith, long, below)) in
+      let parts : drop at text ≡ encode_utf8 c.character ++ (c.rest ++ drop k (drop at text)) =
+          sym (take-append-drop k (drop at text)) ∙ (ap (λ s. s ++ drop k (drop at text)) (sym tail ∙ c.parts) ∙ append_assoc (encode_utf8 c.character) c.rest (drop k (drop at text))) in
+      none.nothing c.character (c.rest ++ drop k (drop at text)) c.scalar parts
+
+one_character : (text : List ℕ) (m n : ℕ) → BeginsNoCharacter text m → BeginsNoCharacter text n → m ≡ n
+one_character text m n b d = ⊎_elim (λ e. e) (⊎_elim (λ less. absurd (earlier text m n less b d)) (λ more. absurd (earlier text n m more d b))) (cases_order m n)
+
+pub one_fault : (text : List ℕ) (f g : Fault) → IsFirstFault text f → IsFirstFault text g → f ≡ g
+one_fault text (TooManyBytes m) (TooManyBytes n) h k = ap TooManyBytes (h.1 ∙ sym k.1)
+one_fault text (TooManyBytes m) (NoCharacter n) h k = absurd (omega (arith, h.0, k.0))
+one_fault text (TooManyBytes m) (NoToken n) h k = absurd (omega (arith, h.0, k.0.short))
+one_fault text (TooManyBytes m) (TooWide n) h k = absurd (omega (arith, h.0, k.0.short))
+one_fault text (TooManyBytes m) (TooManyTokens c n) h k = absurd (omega (arith, h.0, k.0.short))
+one_fault text (NoCharacter m) (TooManyBytes n) h k = absurd (omega (arith, h.0, k.0))
+one_fault text (NoCharacter m) (NoCharacter n) h k = ap NoCharacter (one_character text m n h.1 k.1)
+one_fault text (NoCharacter m) (NoToken n) h k = absurd (readable text m k.0.utf8 h.1)
+one_fault text (NoCharacter m) (TooWide n) h k = absurd (readable text m k.0.utf8 h.1)
+one_fault text (NoCharacter m) (TooManyTokens c n) h k = absurd (readable text m k.0.utf8 h.1)
+one_fault text (NoToken m) (TooManyBytes n) h k = absurd (omega (arith, k.0, h.0.short))
+one_fault text (NoToken m) (NoCharacter n) h k = absurd (readable text n h.0.utf8 k.1)
+one_fault text (NoToken m) (NoToken n) h k = ap NoToken (h.3 ∙ (ap (place_at text) (one_bad (chars text) h.1 k.1 h.2 k.2) ∙ sym k.3))
+one_fault text (NoToken m) (TooWide n) h k = absurd (bad_or_wide (chars text) h.1 k.1 h.2 k.2)
+one_fault text (NoToken m) (TooManyTokens c n) h k = absurd (bad_or_long (chars text) h.1 k.1 h.2 k.2)
+one_fault text (TooWide m) (TooManyBytes n) h k = absurd (omega (arith, k.0, h.0.short))
+one_fault text (TooWide m) (NoCharacter n) h k = absurd (readable text n h.0.utf8 k.1)
+one_fault text (TooWide m) (NoToken n) h k = absurd (bad_or_wide (chars text) k.1 h.1 k.2 h.2)
+one_fault text (TooWide m) (TooWide n) h k = ap TooWide (h.3 ∙ (ap (place_at text) (one_wide (chars text) h.1 k.1 h.2 k.2) ∙ sym k.3))
+one_fault text (TooWide m) (TooManyTokens c n) h k = absurd (wide_or_long (chars text) h.1 k.1 h.2 k.2)
+one_fault text (TooManyTokens c m) (TooManyBytes n) h k = absurd (omega (arith, k.0, h.0.short))
+one_fault text (TooManyTokens c m) (NoCharacter n) h k = absurd (readable text n h.0.utf8 k.1)
+one_fault text (TooManyTokens c m) (NoToken n) h k = absurd (bad_or_long (chars text) k.1 h.1 k.2 h.2)
+one_fault text (TooManyTokens c m) (TooWide n) h k = absurd (wide_or_long (chars text) k.1 h.1 k.2 h.2)
+one_fault text (TooManyTokens c m) (TooManyTokens d n) h k =
+    let places : m ≡ n = h.4 ∙ (ap (place_at text) (one_long (chars text) h.1 k.1 h.2 k.2) ∙ sym k.4) in
+    ap (λ x. TooManyTokens x m) (h.3 ∙ sym k.3) ∙ ap (TooManyTokens d) places
+
+pub no_fault : (text : List ℕ) (items : List Token) (f : Fault) → IsReadable text → AreTokensOf text items → KeepLimits items → IsFirstFault text f → ⊥
+no_fault text items (TooManyBytes m) r t k h = absurd (omega (arith, h.0, r.short))
+no_fault text items (NoCharacter m) r t k h = readable text m r.utf8 h.1
+no_fault text items (NoToken m) r t k h = tokens_or_bad (chars text) items t k h.1 h.2
+no_fault text items (TooWide m) r t k h = tokens_or_wide (chars text) items t k h.1 h.2
+no_fault text items (TooManyTokens c m) r t k h = tokens_or_long (chars text) items t k h.1 h.2
