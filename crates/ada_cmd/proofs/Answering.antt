@@ -43,8 +43,8 @@ gives_refusal file text refusal.OutOfMemory given told faults err is says = inr 
 gives_refusal file text (refusal.Refused code at other note) given told faults err is (inr lacks) = inr (unasked told faults, lacks)
 gives_refusal file text (refusal.Refused code at other note) given told faults err (fault, is_fault, same) (inl says) =
     let P : Refusal → Type 0 = λ r. Says status.Refused (ended (line_of file r)) given err in
-    let said : P (refusal_of fault) = subst P same says in
-    inl (refused_due file fault, inr (fault, is_fault, refl), Whole (unasked told faults) said)
+    let said : P (refusal_of text fault) = subst P same says in
+    inl (refused_due file text fault, inr (fault, is_fault, refl), Whole (unasked told faults) said)
 
 pub answers_text : (file : List ℕ) (shelf : List ℕ → Option (List ℕ)) (before now : ℕ) (text : List ℕ) (given : Status) (out err : Sight) → IsFetched (shelf file) text → now ≡ before → GivesText file text given out err → Answers (words.Run file) shelf before now given out err
 answers_text file shelf before now text given out err fetch same (inl (due, is, gives)) = Given due (text, fetch, is) same gives

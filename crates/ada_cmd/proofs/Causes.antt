@@ -5,9 +5,9 @@ use Rattle.ada_base.specs.declared.reason.Reason.{Reason}
 use Rattle.ada_port.specs.Ports.{Grows, GrowsByPrefix, fetched}
 use Rattle.ada_port.proofs.Growth.{GrowsByPrefix-from_Grows, GrowsByPrefix-longer}
 use Rattle.ada_meaning.specs.Program.{Program}
-use Rattle.ada_meaning.specs.Accepted.{IsAccepted, Fault, NotBuilt, UnknownName, IsFaultOf}
+use Rattle.ada_meaning.specs.Accepted.{IsAccepted, Fault, IsFaultOf}
 use Rattle.ada_meaning.specs.FirstRun.{first_run, Ending, Ended, Raised}
-use Rattle.ada_run.proofs.Verdicts.{one_program}
+use Rattle.ada_run.proofs.Verdicts.{one_program, no_fault, one_fault}
 use Rattle.ada_cmd.specs.declared.status.Status.{Status}
 use Rattle.ada_cmd.specs.declared.status.Status.TheVariants as status
 use Rattle.ada_cmd.specs.Words.{Command}
@@ -18,23 +18,12 @@ use Rattle.ada_cmd.specs.Causes.{Meets, InFull, ShelfFault, WriteFault, OutOfMem
 
 -- ---- one answer is due to a text that is told
 
--- an accepted text has no fault, and a text has at most one
-no_fault : (text : List ℕ) (p : Program) (f : Fault) → IsAccepted text p → IsFaultOf text f → ⊥
-no_fault text p NotBuilt accepted other = other p accepted.form
-no_fault text p UnknownName accepted unknown = unknown.1 p accepted
-
-one_fault : (text : List ℕ) (f g : Fault) → IsFaultOf text f → IsFaultOf text g → f ≡ g
-one_fault text NotBuilt NotBuilt a b = refl
-one_fault text NotBuilt UnknownName a b = absurd (a b.0.0 b.0.1)
-one_fault text UnknownName NotBuilt a b = absurd (b a.0.0 a.0.1)
-one_fault text UnknownName UnknownName a b = refl
-
 text_due_once : (file text : List ℕ) (a b : Due) → IsTextDue file text a → IsTextDue file text b → a ≡ b
 text_due_once file text a b (inl (p, is_p, a-is)) (inl (q, is_q, b-is)) =
     a-is ∙ ap (λ program. run_due (first_run program)) (one_program text p q is_p.form is_q.form) ∙ sym b-is
 text_due_once file text a b (inl (p, is_p, a-is)) (inr (f, is_f, b-is)) = absurd (no_fault text p f is_p is_f)
 text_due_once file text a b (inr (f, is_f, a-is)) (inl (p, is_p, b-is)) = absurd (no_fault text p f is_p is_f)
-text_due_once file text a b (inr (f, is_f, a-is)) (inr (g, is_g, b-is)) = a-is ∙ ap (refused_due file) (one_fault text f g is_f is_g) ∙ sym b-is
+text_due_once file text a b (inr (f, is_f, a-is)) (inr (g, is_g, b-is)) = a-is ∙ ap (refused_due file text) (one_fault text f g is_f is_g) ∙ sym b-is
 
 -- the due answer, where the text is told
 abbrev IsToldDue : Command → (List ℕ → Option (List ℕ)) → Due → Type 0
@@ -87,10 +76,10 @@ runs command shelf before now given out err answers file told program names acce
     meets command shelf before now given out err (run_due (first_run program)) answers
     (named_due command shelf file told (run_due (first_run program)) names (inl (program, accepted, refl)))
 
-pub refuses : (command : Command) (shelf : List ℕ → Option (List ℕ)) (before now : ℕ) (given : Status) (out err : Sight) → Answers command shelf before now given out err → (file told : List ℕ) (fault : Fault) → Names command shelf file told → IsFaultOf (fetched told) fault → Meets (refused_due file fault) before now (number_of given) out err
+pub refuses : (command : Command) (shelf : List ℕ → Option (List ℕ)) (before now : ℕ) (given : Status) (out err : Sight) → Answers command shelf before now given out err → (file told : List ℕ) (fault : Fault) → Names command shelf file told → IsFaultOf (fetched told) fault → Meets (refused_due file (fetched told) fault) before now (number_of given) out err
 refuses command shelf before now given out err answers file told fault names is =
-    meets command shelf before now given out err (refused_due file fault) answers
-    (named_due command shelf file told (refused_due file fault) names (inr (fault, is, refl)))
+    meets command shelf before now given out err (refused_due file (fetched told) fault) answers
+    (named_due command shelf file told (refused_due file (fetched told) fault) names (inr (fault, is, refl)))
 
 pub wrong_words : (command : Command) (shelf : List ℕ → Option (List ℕ)) (before now : ℕ) (given : Status) (out err : Sight) → Answers command shelf before now given out err → command ≡ words.Usage → Meets usage_due before now (number_of given) out err
 wrong_words command shelf before now given out err answers wrong =

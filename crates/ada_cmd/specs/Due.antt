@@ -47,14 +47,14 @@ run_due_by (Raised why) output = record { status = status.Raised; output = outpu
 abbrev pub run_due : Run → Due
 run_due run = run_due_by run.ending run.output
 
-abbrev pub refused_due : List ℕ → Fault → Due
-refused_due file fault = record { status = status.Refused; output = []; line = ended (line_of file (refusal_of fault)) }
+abbrev pub refused_due : List ℕ → List ℕ → Fault → Due
+refused_due file text fault = record { status = status.Refused; output = []; line = ended (line_of file (refusal_of text fault)) }
 
 -- the answer that is due to a text: that of its program's run where it is accepted, and else its fault
 abbrev pub IsTextDue : List ℕ → List ℕ → Due → Type 0
 IsTextDue file text due =
     ((program : Program) × IsAccepted text program × (due ≡ run_due (first_run program)))
-    ⊎ ((fault : Fault) × IsFaultOf text fault × (due ≡ refused_due file fault))
+    ⊎ ((fault : Fault) × IsFaultOf text fault × (due ≡ refused_due file text fault))
 
 -- the text that was fetched, of what is told
 abbrev pub IsFetched : Option (List ℕ) → List ℕ → Type 0

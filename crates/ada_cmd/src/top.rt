@@ -52,7 +52,7 @@ pub fn run_words<R: Threads + Sync, F: Shelf, I: Source, O: Sink, E: Sink, P: Pu
     ensures refuses { (file told : List ℕ) (fault : Fault) →
         Names (command_of (map string_bytes words.now)) (F.text shelf.old) file told →
         IsFaultOf (fetched told) fault →
-        Meets (refused_due file fault) (F.faults shelf.old) (F.faults shelf.new) result
+        Meets (refused_due file (fetched told) fault) (F.faults shelf.old) (F.faults shelf.new) result
         (sight (O.holds out.old) (O.holds out.new) (O.faults out.old) (O.faults out.new))
         (sight (E.holds err.old) (E.holds err.new) (E.faults err.old) (E.faults err.new)) }
     ensures wrong_words { command_of (map string_bytes words.now) ≡ Usage →

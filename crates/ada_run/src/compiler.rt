@@ -1,15 +1,20 @@
-ghost use Rattle.std.specs.Prelude.{◌≡◌, ℕ, List, Option, None, IfOk, IfErr, length, string_bytes};
+ghost use Rattle.std.specs.Prelude.{◌≡◌, ◌≤◌, take, ℕ, List, Option, None, IfOk, IfErr, length, string_bytes};
 ghost use Rattle.std.specs.List.{list_all};
 ghost use Rattle.ada_meaning.specs.Program.{declares, operand_declared, expression_declared, statement_declared, Program};
 ghost use Rattle.ada_meaning.specs.FirstForm.{are_distinct, IsFirstForm};
-ghost use Rattle.ada_meaning.specs.Accepted.{IsAccepted};
+ghost use Rattle.std.specs.Str.{IsUtf8};
+ghost use Rattle.ada_base.specs.Place.{place_at};
+ghost use Rattle.ada_tree.specs.Faults.{byte_limit};
+ghost use Rattle.ada_lexer.specs.Lexed.{Tells};
+ghost use Rattle.ada_meaning.specs.Accepted.{IsAccepted, HasTokens};
 ghost use Rattle.ada_run.specs.Reading.{Finds, Gives, declaration_at, statement_at, joined_at, line_at, program_at};
 ghost use Rattle.ada_run.specs.Compile.{IsRefusalOf, beginning, line_of, note_text};
 ghost use Rattle.ada_run.specs.declared.compiler.Refusal.TheVariants.{Refused};
 ghost use Rattle.ada_run.specs.declared.compiler.Unread.TheVariants as unread;
 
 use crate::reading;
-use ada_base::Place;
+use ada_base::{Place, place_of};
+use ada_lexer::{LexFault, lex};
 use ada_meaning::{Declaration, Expression, FirstForm, Letter, Operand, Statement};
 use std::alloc::{AllocError, AllocFailed, Global};
 
@@ -55,10 +60,12 @@ impl Refusal {
 fn text_of_note(note: u8) -> &'static str
     ensures { result.now ≡ note_text note }
 {
-    if note == 5 {
-        "E05 unknown name"
-    } else {
-        "E13 not built yet"
+    match note {
+        1 => "E01 text is not UTF-8",
+        2 => "E02 no token begins here",
+        5 => "E05 unknown name",
+        18 => "E12 limit passed",
+        _ => "E13 not built yet",
     }
 }
 
@@ -216,10 +223,22 @@ fn is_program_declared(program: &FirstForm) -> bool
 
 const BEGINNING: Place = Place { line: 1, column: 1 };
 
-/// Compiles a text. A text that isn't accepted is refused: with `E13 not built yet` where it isn't of
-/// the first form, and else with `E05 unknown name` where it uses a letter that isn't declared, both at
-/// the text's beginning.
+/// Compiles a text. A text that isn't accepted is refused by its one fault: its first lexical fault with
+/// its place (`E01`, `E02`, `E12`), else `E13 not built yet` where it isn't of the first form, and else
+/// `E05 unknown name` where it uses a letter that isn't declared, both at the text's beginning.
 pub fn compile(alloc: Global, text: &[u8]) -> Result<Unit, Refusal>
+    ensures accepted { IfOk result (λ unit. IsAccepted text.now unit.program) }
+    ensures refused { IfErr result (IsRefusalOf text.now) }
+{
+    match lex(alloc, text) {
+        Ok(_tokens) => compile_tokens(alloc, text),
+        Err(fault) => Err(lexical_refusal(text, fault)),
+    }
+}
+
+/// Compiles a text that has tokens.
+fn compile_tokens(alloc: Global, text: &[u8]) -> Result<Unit, Refusal>
+    requires { HasTokens text.now }
     ensures accepted { IfOk result (λ unit. IsAccepted text.now unit.program) }
     ensures refused { IfErr result (IsRefusalOf text.now) }
 {
@@ -228,11 +247,39 @@ pub fn compile(alloc: Global, text: &[u8]) -> Result<Unit, Refusal>
             if is_program_declared(&program) {
                 Ok(Unit { program })
             } else {
-                Err(refused(5, 5))
+                Err(refused(5, BEGINNING, 5))
             }
         }
-        Err(Unread::OtherForm) => Err(refused(13, 19)),
+        Err(Unread::OtherForm) => Err(refused(13, BEGINNING, 19)),
         Err(Unread::OutOfMemory) => Err(Refusal::OutOfMemory),
+    }
+}
+
+/// The refusal of a text for its first lexical fault.
+fn lexical_refusal(text: &[u8], fault: LexFault) -> Refusal
+    requires { Tells text.now fault }
+    ensures { IsRefusalOf text.now result }
+{
+    match fault {
+        LexFault::TooBig { bytes: _bytes } => refused(12, BEGINNING, 18),
+        LexFault::NotUtf8 { at } => refused(1, place_of_byte(text, at as usize), 1),
+        LexFault::BadToken { at } => refused(2, at, 2),
+        LexFault::WideLiteral { at } => refused(12, at, 18),
+        LexFault::TooLong { count: _count, at } => refused(12, at, 18),
+        LexFault::OutOfMemory => Refusal::OutOfMemory,
+    }
+}
+
+/// The place of a byte that follows UTF-8 characters.
+fn place_of_byte(text: &[u8], at: usize) -> Place
+    requires within { at ≤ length text.now }
+    requires short { length text.now ≤ byte_limit }
+    requires front { IsUtf8 (take at text.now) }
+    ensures { result ≡ place_at text.now at }
+{
+    match str::from_utf8(&text[..at]) {
+        Ok(front) => place_of(front, front.len()),
+        Err(_) => unreachable!(),
     }
 }
 
@@ -241,12 +288,12 @@ pub fn one_program()
     ensures { (text : List ℕ) (p q : Program) → IsFirstForm text p → IsFirstForm text q → p ≡ q }
 {}
 
-fn refused(code: u8, note: u8) -> Refusal
-    ensures { result ≡ Refused code beginning None note }
+fn refused(code: u8, at: Place, note: u8) -> Refusal
+    ensures { result ≡ Refused code at None note }
 {
     Refusal::Refused {
         code,
-        at: BEGINNING,
+        at,
         other: None,
         note,
     }
