@@ -168,36 +168,114 @@ fn each_fault_has_its_status(rt: HostRuntime) -> Result<(), Fail> {
     Ok(())
 }
 
-// Of the first text, with another byte in one place. A letter `Y` leaves a text of the first form where
-// a variable stands or an operand; a digit leaves one where a digit stands.
+// A first lexical fault is told with its place. The texts without one are of another form.
 #[test]
-fn one_byte_decides(rt: HostRuntime) -> Result<(), Fail> {
+fn each_lexical_fault_has_its_place(rt: HostRuntime) -> Result<(), Fail> {
+    let alloc = rt.alloc();
+    let spaces = |count: usize| vec![in alloc; b' '; count];
+    let semicolons = |count: usize| vec![in alloc; b';'; count];
+    let cases = [
+        (b"\xff".to_vec(alloc)?, "1:1: E01 text is not UTF-8"),
+        (
+            b"X\n\tY\xc3\xa9\xc3".to_vec(alloc)?,
+            "2:4: E01 text is not UTF-8",
+        ),
+        (b"a__b".to_vec(alloc)?, "1:1: E02 no token begins here"),
+        (
+            b"X -- #\r\n\xc3\xa9 #".to_vec(alloc)?,
+            "2:3: E02 no token begins here",
+        ),
+        (
+            b"X := 1E-3;".to_vec(alloc)?,
+            "1:6: E02 no token begins here",
+        ),
+        (
+            b"170141183460469231731687303715884105727".to_vec(alloc)?,
+            "1:1: E13 not built yet",
+        ),
+        (
+            b" 170141183460469231731687303715884105728".to_vec(alloc)?,
+            "1:2: E12 limit passed",
+        ),
+        (spaces(1_048_576)?, "1:1: E13 not built yet"),
+        (spaces(1_048_577)?, "1:1: E12 limit passed"),
+        (semicolons(200_000)?, "1:1: E13 not built yet"),
+        (semicolons(200_001)?, "1:200001: E12 limit passed"),
+    ];
+    for (text, line) in cases {
+        let given = answer(&rt, alloc, "run t.ada", &text, NONE)?;
+        let expected = format!(in alloc; "t.ada:{line}\n")?;
+        assert_eq!(rt; given.err.bytes(), expected.as_bytes());
+        assert_eq!(rt; given.out.bytes(), b"".as_slice(), "{line}");
+        assert_eq!(rt; given.status, 1, "{line}");
+    }
+    Ok(())
+}
+
+fn no_token_line(alloc: Global, place: usize) -> Result<String, AllocError> {
+    let front = &FIRST.as_bytes()[..place.min(FIRST.len())];
+    let line = front.iter().filter(|b| **b == b'\n').count();
+    let start = front
+        .iter()
+        .rposition(|b| *b == b'\n')
+        .map_or(0, |at| at + 1);
+    let column = place.saturating_sub(start);
+    format!(in alloc;
+        "t.ada:{}:{}: E02 no token begins here\n",
+        line.saturating_add(1),
+        column.saturating_add(1)
+    )
+}
+
+// Of the first text, with a letter in one place. It leaves a text of the first form where a variable or
+// an operand stands. Behind a digit it leaves no token.
+#[test]
+fn one_letter_decides(rt: HostRuntime) -> Result<(), Fail> {
     let alloc = rt.alloc();
     for place in 0..FIRST.len() {
         let mut text = Vec::from_slice(alloc, FIRST.as_bytes())?;
         text[place] = b'Y';
         let given = answer(&rt, alloc, "run t.ada", &text, NONE)?;
         let expected = match place {
-            53 | 77 | 82 | 86 | 114 => UNKNOWN,
-            _ => NOT_BUILT,
+            53 | 77 | 82 | 86 | 114 => String::from_str(alloc, UNKNOWN)?,
+            69 | 87 => no_token_line(alloc, place - 1)?,
+            _ => String::from_str(alloc, NOT_BUILT)?,
         };
-        assert_eq!(rt; given.status, 1, "a letter at {place}");
-        assert_eq!(rt;
-            given.err.bytes(),
-            expected.as_bytes(),
-            "a letter at {place}"
-        );
+        assert_eq!(rt; given.status, 1, "at {place}");
+        assert_eq!(rt; given.err.bytes(), expected.as_bytes(), "at {place}");
+    }
+    Ok(())
+}
+
+// The same with a digit. It leaves no token where one begins with a letter behind it.
+#[test]
+fn one_digit_decides(rt: HostRuntime) -> Result<(), Fail> {
+    let alloc = rt.alloc();
+    let first = FIRST.as_bytes();
+    for place in 0..FIRST.len() {
+        let mut text = Vec::from_slice(alloc, first)?;
         text[place] = b'7';
         let given = answer(&rt, alloc, "run t.ada", &text, NONE)?;
-        let (status, out, err) = match place {
-            68 => (0, " 10\n", ""),
-            86 => (0, " 9\n", ""),
-            82 => (0, " 10\n", ""),
-            _ => (1, "", NOT_BUILT),
+        let goes_on = place > 0
+            && first
+                .get(place - 1)
+                .is_some_and(|b| b.is_ascii_alphanumeric() || *b == b'_');
+        let letter_follows = first
+            .get(place + 1)
+            .is_some_and(|b| b.is_ascii_alphabetic());
+        let line = if letter_follows && !goes_on {
+            no_token_line(alloc, place)?
+        } else {
+            String::from_str(alloc, NOT_BUILT)?
         };
-        assert_eq!(rt; given.status, status, "a digit at {place}");
-        assert_eq!(rt; given.out.bytes(), out.as_bytes(), "a digit at {place}");
-        assert_eq!(rt; given.err.bytes(), err.as_bytes(), "a digit at {place}");
+        let (status, out, err) = match place {
+            68 | 82 => (0, " 10\n", ""),
+            86 => (0, " 9\n", ""),
+            _ => (1, "", line.as_str()),
+        };
+        assert_eq!(rt; given.status, status, "at {place}");
+        assert_eq!(rt; given.out.bytes(), out.as_bytes(), "at {place}");
+        assert_eq!(rt; given.err.bytes(), err.as_bytes(), "at {place}");
     }
     Ok(())
 }
