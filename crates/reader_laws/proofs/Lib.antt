@@ -1,0 +1,4 @@
+pub mod Words
+pub mod KindSets
+pub mod Answers
+pub mod Sequences
