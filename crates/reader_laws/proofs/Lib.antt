@@ -2,3 +2,8 @@ pub mod Words
 pub mod KindSets
 pub mod Answers
 pub mod Sequences
+pub mod Renamings
+pub mod Singles
+pub mod Choices
+pub mod Images
+pub mod Depths

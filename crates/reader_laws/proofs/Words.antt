@@ -1,5 +1,5 @@
 -- Words, their symbols and their numbers.
-use Rattle.std.proofs.Common.{◌≡◌, ℕ, zero, suc, ◌+◌, ◌<◌, ◌≤◌, List, [], ◌∷◌, ◌++◌, length, ◌⊎◌, inl, inr, refl, sym, ap, ◌∙◌, subst, append_assoc, arith}
+use Rattle.std.proofs.Common.{◌≡◌, ℕ, zero, suc, ◌+◌, ◌<◌, ◌≤◌, List, [], ◌∷◌, ◌++◌, length, ◌⊎◌, inl, inr, refl, sym, ap, ◌∙◌, subst, append_assoc, arith, length-append}
 use Rattle.reader_laws.specs.Symbols.{Symbol, numbered, Nested, Word, symbols_of}
 use Rattle.reader_laws.specs.Exact.{AllWithin}
 
@@ -52,3 +52,7 @@ not_within limit w f c b e within deep = inside f (subst (AllWithin limit) e wit
   inside : (f : Word) → AllWithin limit (f ++ c ∷ b) → ⊥
   inside [] k = omega (arith, k.0, deep)
   inside (x ∷ f) k = inside f k.1
+
+-- no list is a longer one
+pub no_growth : (r front : List Symbol) (y : Symbol) (ys : List Symbol) → r ≡ front ++ ((y ∷ ys) ++ r) → ⊥
+no_growth r front y ys e = omega (arith, ap length e, length-append front ((y ∷ ys) ++ r), length-append (y ∷ ys) r)
