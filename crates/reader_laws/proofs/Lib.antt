@@ -7,3 +7,4 @@ pub mod Singles
 pub mod Choices
 pub mod Images
 pub mod Depths
+pub mod Repetitions

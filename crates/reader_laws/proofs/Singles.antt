@@ -11,15 +11,18 @@ use Rattle.reader_laws.proofs.Answers.{refused_found, deep_found, deep_refused, 
 use Rattle.reader_laws.proofs.KindSets.{true_false, both, is_member-left, is_member-right, is_member-append, is_subset-is_member, are_disjoint-is_member, is_member-none, are_disjoint-none}
 use Rattle.reader_laws.proofs.Words.{no_growth}
 
+pub steady_pure : {A : Type 0} (c : A) → Steady (Pure c) (pure c)
+steady_pure c = record {
+  suffix = λ ts. ([], refl);
+  local = λ xs r r' o y ys e. same_rest (Found c) xs r r' o y ys e;
+  sound = λ ts a rest e. ([], (sym (found_is c a (ap (λ z. z.0) e)), refl), ap (λ z. z.1) e);
+  refused = λ ts back e. absurd (refused_found c (sym (ap (λ z. z.0) e)));
+  deep = λ ts back e. absurd (deep_found c (sym (ap (λ z. z.0) e)));
+}
+
 pub exact_pure : {limit : ℕ} {A : Type 0} (c : A) → Exact limit no_kind (Pure c) (pure c)
 exact_pure {limit} {A} c = record {
-  steady = record {
-    suffix = λ ts. ([], refl);
-    local = λ xs r r' o y ys e. same_rest (Found c) xs r r' o y ys e;
-    sound = λ ts a rest e. ([], (sym (found_is c a (ap (λ z. z.0) e)), refl), ap (λ z. z.1) e);
-    refused = λ ts back e. absurd (refused_found c (sym (ap (λ z. z.0) e)));
-    deep = λ ts back e. absurd (deep_found c (sym (ap (λ z. z.0) e)));
-  };
+  steady = steady_pure c;
   starts = λ a w l. inr (l.1, refl);
   whole = λ a w rest l st. inl (subst (AllWithin limit) (sym l.1) tt, ap (λ (z : A). (Found z, symbols_of w ++ rest)) (sym l.0) ∙ ap (λ (z : Word). (Found a, symbols_of z ++ rest)) l.1);
 }
