@@ -8,3 +8,6 @@ pub mod Choices
 pub mod Images
 pub mod Depths
 pub mod Repetitions
+pub mod Rules
+pub mod Verdicts
+pub mod OneTree

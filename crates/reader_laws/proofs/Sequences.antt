@@ -13,6 +13,15 @@ cons_of : (f : List Symbol) (y : Symbol) (ys : List Symbol) → (z : Symbol) × 
 cons_of [] y ys = (y, ys, refl)
 cons_of (z ∷ f) y ys = (z, f ++ y ∷ ys, refl)
 
+-- what begins a word of the first begins one of the sequence
+pub begins_then : {A B : Type 0} (L : A → Language) (M : A → B → Language) → ((a : A) → Inhabited (M a)) → (front : List Symbol) → Begins L front → Begins (Then L M) front
+begins_then L M sample front begins next =
+    let (a, u, xs, l, e) = begins next in
+    let (b, v, ys, m, f) = sample a (next + length xs) in
+    (b, u ++ v, xs ++ ys, (a, u, v, refl, l, m),
+     symbols_of-append u v ∙ ap (λ z. z ++ symbols_of v) e ∙ ap (λ z. (front ++ numbered next xs) ++ z) f
+     ∙ append_assoc front (numbered next xs) (numbered (next + length xs) ys) ∙ ap (λ z. front ++ z) (sym (numbered-append next xs ys)))
+
 module _ {A B : Type 0} (L : A → Language) (M : A → B → Language) (p : Reader A) (q : A → Reader B) (hp : Steady L p) (hq : (a : A) → Steady (M a) (q a)) where
   suffix_then : (ts : List Symbol) (x : Answer A × List Symbol) → p ts ≡ x → (front : List Symbol) × (ts ≡ front ++ (read_on x.0 q x.1).1)
   suffix_then ts (Found a, m) e =
@@ -47,12 +56,7 @@ module _ {A B : Type 0} (L : A → Language) (M : A → B → Language) (p : Rea
 
   module _ (sample : (a : A) → Inhabited (M a)) where
     begins_first : (front : List Symbol) → Begins L front → Begins (Then L M) front
-    begins_first front begins next =
-        let (a, u, xs, l, e) = begins next in
-        let (b, v, ys, m, f) = sample a (next + length xs) in
-        (b, u ++ v, xs ++ ys, (a, u, v, refl, l, m),
-         symbols_of-append u v ∙ ap (λ z. z ++ symbols_of v) e ∙ ap (λ z. (front ++ numbered next xs) ++ z) f
-         ∙ append_assoc front (numbered next xs) (numbered (next + length xs) ys) ∙ ap (λ z. front ++ z) (sym (numbered-append next xs ys)))
+    begins_first = begins_then L M sample
 
     begins_next : (a : A) (u : Word) (front : List Symbol) → L a u → Begins (M a) front → Begins (Then L M) (symbols_of u ++ front)
     begins_next a u front l begins next =
@@ -132,4 +136,3 @@ exact_then {limit} {s} {t} {L} {M} {p} {q} hp hq sample d = record {
           (hp.whole a u (symbols_of v ++ rest) l (stops_between s t d v rest ((hq a).starts b v m) st))
           ((hq a).whole b v rest m (is_member-append t.follow_last (when t.nullable s.follow_last) (next_kind rest) st).0)));
 }
-
