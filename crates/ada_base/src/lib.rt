@@ -2,11 +2,13 @@
 //! on integers.
 #![tactic(auto)]
 
+pub mod items;
 pub mod operation;
 pub mod place;
 pub mod reason;
 pub mod token;
 
+pub use items::{Boxed, Items};
 pub use operation::{Base, Op};
 pub use place::Place;
 pub use reason::Reason;

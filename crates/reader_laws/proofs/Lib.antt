@@ -11,3 +11,4 @@ pub mod Repetitions
 pub mod Rules
 pub mod Verdicts
 pub mod OneTree
+pub mod FirstFaults
