@@ -12,3 +12,5 @@ pub mod Rules
 pub mod Verdicts
 pub mod OneTree
 pub mod FirstFaults
+pub mod CursorPlaces
+pub mod Turns

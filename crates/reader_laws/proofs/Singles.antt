@@ -1,5 +1,5 @@
 -- The readers of nothing and of one symbol.
-use Rattle.std.proofs.Common.{◌≡◌, ℕ, zero, suc, ◌+◌, ◌<◌, ◌≤◌, List, [], ◌∷◌, ◌++◌, length, Bool, true, false, if◌then◌else◌, ◌==◌, ◌&&◌, ◌⊎◌, Option, Some, None, inl, inr, refl, sym, ap, ◌∙◌, subst, append_assoc, append-nil, arith, length-append}
+use Rattle.std.proofs.Common.{◌≡◌, ℕ, zero, suc, ◌+◌, ◌<◌, ◌≤◌, List, [], ◌∷◌, ◌++◌, length, Bool, true, false, if◌then◌else◌, ◌==◌, ◌&&◌, ◌||◌, ◌⊎◌, Option, Some, None, inl, inr, refl, sym, ap, ◌∙◌, subst, append_assoc, append-nil, arith, length-append}
 use Rattle.std.proofs.lemmas.Bool.Decides.{Decides-eqb}
 use Rattle.std.proofs.lemmas.List.{append_cancel_right}
 use Rattle.reader_laws.specs.Symbols.{Symbol, numbered, Nested, Word, symbols_of, is_member, next_kind}
@@ -102,7 +102,7 @@ module _ (limit d : ℕ) (within : d ≤ limit) (k : ℕ) where
   pub exact_symbol : Exact limit (one_kind k) (Leaf d k) (symbol k)
   exact_symbol = record {
     steady = record { suffix = symbol_suffix; local = symbol_local; sound = symbol_sound; refused = symbol_refused; deep = λ ts back e. absurd (symbol_deep ts back e) };
-    starts = λ a w l. inl (record { symbol = record { number = a; kind = k }; depth = d }, [], l, ap (λ z. if z then true else false) itself);
+    starts = λ a w l. inl (record { symbol = record { number = a; kind = k }; depth = d }, [], l, ap (λ z. z || false) itself);
     whole = λ a w rest l st. inl (subst (AllWithin limit) (sym l) (within, tt), ap (λ (z : Word). symbol k (symbols_of z ++ rest)) l ∙ symbol_is k (record { number = a; kind = k }) rest refl);
   } where
     itself : (k == k) ≡ true

@@ -4,3 +4,7 @@ pub mod Languages
 pub mod Sets
 pub mod Exact
 pub mod Faults
+pub mod Ahead
+pub mod Gives
+pub mod Settled
+pub mod Repeats
