@@ -14,3 +14,5 @@ pub mod OneTree
 pub mod FirstFaults
 pub mod CursorPlaces
 pub mod Turns
+pub mod Judging
+pub mod Fits

@@ -8,3 +8,5 @@ pub mod Ahead
 pub mod Gives
 pub mod Settled
 pub mod Repeats
+pub mod Example
+pub mod ExampleReaders

@@ -7,6 +7,7 @@
 #![tactic(auto)]
 
 pub mod cursor;
+pub mod example;
 
 pub mod fault;
 pub mod repetition;

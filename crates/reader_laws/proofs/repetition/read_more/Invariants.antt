@@ -8,4 +8,4 @@ use Rattle.reader_laws.proofs.repetition.read_more.Given as goal
 abbrev pub invariant-loop-turn : goal.invariant-loop-turn
 invariant-loop-turn g l =
     (p : Reader _) → ReadsItems (goal.F-post g l.item) p
-    → behind l.found.items (turns l.first p (l._turn-end - l._turn) l.tokens) ≡ behind l.fn.found.items (many [] (λ x xs. x ∷ xs) l.fn.first p l.fn.tokens)
+    → behind l.found (turns l.first p (l._turn-end - l._turn) l.tokens) ≡ behind l.fn.found (many [] (λ x xs. x ∷ xs) l.fn.first p l.fn.tokens)
