@@ -125,3 +125,39 @@ pub fn parse(alloc: Global, kinds: &[u8], limit: u32) -> Result<Items<Range>, Re
     let found = read_ranges(alloc, &mut tokens, limit);
     settle(kinds, &tokens, found)
 }
+
+#[cfg(test)]
+mod tests {
+    use super::*;
+
+    fn summary(answer: &Result<Items<Range>, Refusal>) -> (u8, u32) {
+        match answer {
+            Ok(found) => (0, found.len() as u32),
+            Err(Refusal::Unexpected(place)) => (1, *place),
+            Err(Refusal::TooDeep(place)) => (2, *place),
+            Err(Refusal::OutOfMemory) => (3, 0),
+        }
+    }
+
+    // the number of ranges after 0, the place of a fault after 1, and of what is too deep after 2
+    #[test]
+    fn lists_have_their_ranges_or_their_first_fault(rt: HostRuntime) {
+        let cases: [(&[u8], u32, (u8, u32)); 12] = [
+            (&[1], 0, (0, 1)),
+            (&[1, 4, 1], 0, (0, 1)),
+            (&[1, 5, 1, 4, 1], 0, (0, 2)),
+            (&[2, 2, 1, 3, 3], 2, (0, 1)),
+            (&[2, 2, 1, 3, 3], 1, (2, 1)),
+            (&[2, 2, 5], 2, (1, 2)),
+            (&[], 2, (1, 0)),
+            (&[1, 4], 2, (1, 2)),
+            (&[1, 1], 2, (1, 1)),
+            (&[2, 1, 4, 1, 3], 2, (1, 2)),
+            (&[1, 5], 2, (1, 2)),
+            (&[2], 0, (2, 0)),
+        ];
+        for (kinds, limit, want) in cases {
+            assert_eq!(rt; summary(&parse(rt.alloc(), kinds, limit)), want, "of {kinds:?}");
+        }
+    }
+}
