@@ -4,3 +4,4 @@ pub mod Image
 pub mod Operation
 pub mod Place
 pub mod Tokens
+pub mod formers

@@ -1,0 +1,12 @@
+pub mod Symbols
+pub mod Readers
+pub mod Languages
+pub mod Sets
+pub mod Exact
+pub mod Faults
+pub mod Ahead
+pub mod Gives
+pub mod Settled
+pub mod Repeats
+pub mod Example
+pub mod ExampleReaders

@@ -1,0 +1,17 @@
+//! The laws of readers: what a reader of tokens that is made of a few combinators gives, and which
+//! conditions, each decided by computation, make it exact for a grammar.
+//!
+//! The laws are in `proofs/`, over the definitions in `specs/`. The code here is what a parser needs so that
+//! its functions give what such a reader gives: a cursor over tokens, a loop, and the answer in the end.
+//! `example` is a whole parser.
+#![tactic(auto)]
+
+pub mod cursor;
+pub mod example;
+
+pub mod fault;
+pub mod repetition;
+
+pub use cursor::Cursor;
+pub use fault::{Fault, Refusal, settle};
+pub use repetition::read_more;
