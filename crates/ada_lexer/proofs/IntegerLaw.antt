@@ -126,10 +126,10 @@ integer_longest more found rest (Decimal digits tail e n (Exponent letter sign d
     let apart = letter_apart letter l in
     let x : IsExponent false (letter ∷ (sign ++ ds)) (value_of 10 ds) = Exponent letter sign ds l s m in
     scaled_longest 10 (value_of 10 digits) (lit≤ tt) more found rest x
-      (rw (append_assoc digits (letter ∷ (sign ++ ds)) more, numeral_read 10 (lit≤ tt) digits ((letter ∷ (sign ++ ds)) ++ more) n (exponent_letter letter l), apart.0, apart.1) at h)
+    (rw (append_assoc digits (letter ∷ (sign ++ ds)) more, numeral_read 10 (lit≤ tt) digits ((letter ∷ (sign ++ ds)) ++ more) n (exponent_letter letter l), apart.0, apart.1) at h)
 integer_longest more found rest (Based base digits tail e n low high m x) h =
     based_longest (value_of 10 base) digits more found rest low high m x
-      (rw (regroup_based base digits tail more, numeral_read 10 (lit≤ tt) base (35 ∷ (digits ++ 35 ∷ (tail ++ more))) n refl) at h)
+    (rw (regroup_based base digits tail more, numeral_read 10 (lit≤ tt) base (35 ∷ (digits ++ 35 ∷ (tail ++ more))) n refl) at h)
 
 digit_first : (digits more : List ℕ) → IsNumeral 10 digits → begins_with_digit 10 (digits ++ more) ≡ true
 digit_first [] more n = absurd (true≢false (sym n.first))
@@ -139,7 +139,7 @@ pub real_spelled_longest : {s : List ℕ} (more : List ℕ) (found : Found) (res
 unfolding number_at after_numeral
 real_spelled_longest more found rest (RealLiteral whole fraction tail e n m x) h =
     real_longest fraction more found rest m x
-      (rw (regroup_real whole fraction tail more, numeral_read 10 (lit≤ tt) whole (46 ∷ (fraction ++ (tail ++ more))) n refl, digit_first fraction (tail ++ more) m) at h)
+    (rw (regroup_real whole fraction tail more, numeral_read 10 (lit≤ tt) whole (46 ∷ (fraction ++ (tail ++ more))) n refl, digit_first fraction (tail ++ more) m) at h)
 
 -- what follows is a point and a digit
 abbrev pub begins_fraction : List ℕ → Bool
@@ -177,13 +177,13 @@ integer_read rest (Decimal digits tail e n (Exponent letter sign ds l s m)) ends
     let apart = letter_apart letter l in
     let x : IsExponent false (letter ∷ (sign ++ ds)) (value_of 10 ds) = Exponent letter sign ds l s m in
     rw (append_assoc digits (letter ∷ (sign ++ ds)) rest, numeral_read 10 (lit≤ tt) digits ((letter ∷ (sign ++ ds)) ++ rest) n (exponent_letter letter l), apart.0, apart.1)
-      (scaled_read 10 (value_of 10 digits) (lit≤ tt) rest x ends)
+    (scaled_read 10 (value_of 10 digits) (lit≤ tt) rest x ends)
 integer_read rest (Based base digits tail e n low high m x) ends hash longest =
     rw (regroup_based base digits tail rest, numeral_read 10 (lit≤ tt) base (35 ∷ (digits ++ 35 ∷ (tail ++ rest))) n refl)
-      (based_read (value_of 10 base) digits rest low high m x ends)
+    (based_read (value_of 10 base) digits rest low high m x ends)
 
 pub real_spelled_read : {s : List ℕ} (rest : List ℕ) → IsReal s → goes_on continues rest ≡ false → number_at (s ++ rest) ≡ Some (Other Real, rest)
 unfolding number_at after_numeral
 real_spelled_read rest (RealLiteral whole fraction tail e n m x) ends =
     rw (regroup_real whole fraction tail rest, numeral_read 10 (lit≤ tt) whole (46 ∷ (fraction ++ (tail ++ rest))) n refl, digit_first fraction (tail ++ rest) m)
-      (real_read fraction rest m x ends)
+    (real_read fraction rest m x ends)

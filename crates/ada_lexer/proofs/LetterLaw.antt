@@ -58,8 +58,8 @@ exponent_among_all c h = ⊎_elim (λ e. rw (eqb-true c 69 e) upper_e) (λ e. rw
 pub number_ends : (c : ℕ) → is_letter_or_digit c ≡ false → is_underscore c ≡ false → continues c ≡ false
 number_ends c other underscore =
     or_from _ _
-      (or_from _ _ (false_from_ne_true _ (λ digit. true≢false (sym (digit_among_all c digit) ∙ other))) underscore)
-      (false_from_ne_true _ (λ letter. true≢false (sym (exponent_among_all c letter) ∙ other)))
+    (or_from _ _ (false_from_ne_true _ (λ digit. true≢false (sym (digit_among_all c digit) ∙ other))) underscore)
+    (false_from_ne_true _ (λ letter. true≢false (sym (exponent_among_all c letter) ∙ other)))
 
 tick_sound : (before : Option Kind) (cs : List ℕ) (found : Found) (rest : List ℕ) → ◌≡◌ {A = Option (Found × List ℕ)} (Some (Other (Mark 11), cs)) (Some (found, rest)) → Sound before found (39 ∷ cs) rest
 tick_sound before cs found rest h =

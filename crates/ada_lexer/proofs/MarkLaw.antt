@@ -54,22 +54,22 @@ record FoundMark (cs : List ℕ) (k : ℕ) (ms : List (List ℕ)) (found : Found
 mark_first : (cs : List ℕ) (k : ℕ) (m : List ℕ) (ms : List (List ℕ)) (found : Found) (rest : List ℕ) → list_all (λ later. nat_le (length later) (length m)) ms ≡ true → cs ≡ m ++ rest → found ≡ Other (Mark k) → FoundMark cs k (m ∷ ms) found rest
 mark_first cs k m ms found rest longest parts same =
     record { index = 0; mark = m; here = refl; found_is = same ∙ ap (λ n. Other (Mark n)) (sym (add-zero k)); parts = parts; longest = others } where
-  others : (j : ℕ) (l r : List ℕ) → slice_get (m ∷ ms) j ≡ Some l → cs ≡ l ++ r → length rest ≤ length r
-  others zero l r at e =
-      let same : length m ≡ length l = ap length (some_list at) in
-      omega (arith, ap length parts, ap length e, length-append m rest, length-append l r)
-  others (suc j) l r at e =
-      let short : length l ≤ length m = leb-true _ _ (passes_at (λ later. nat_le (length later) (length m)) ms j l longest at) in
-      omega (arith, ap length parts, ap length e, length-append m rest, length-append l r)
+      others : (j : ℕ) (l r : List ℕ) → slice_get (m ∷ ms) j ≡ Some l → cs ≡ l ++ r → length rest ≤ length r
+      others zero l r at e =
+          let same : length m ≡ length l = ap length (some_list at) in
+          omega (arith, ap length parts, ap length e, length-append m rest, length-append l r)
+      others (suc j) l r at e =
+          let short : length l ≤ length m = leb-true _ _ (passes_at (λ later. nat_le (length later) (length m)) ms j l longest at) in
+          omega (arith, ap length parts, ap length e, length-append m rest, length-append l r)
 
 mark_later : (cs : List ℕ) (k : ℕ) (m : List ℕ) (ms : List (List ℕ)) (found : Found) (rest : List ℕ) → beyond_text m cs ≡ None → FoundMark cs (k + 1) ms found rest → FoundMark cs k (m ∷ ms) found rest
 mark_later cs k m ms found rest none f =
     record { index = suc f.index; mark = f.mark; here = f.here; found_is = f.found_is ∙ ap (λ n. Other (Mark n)) (omega arith); parts = f.parts; longest = others } where
-  others : (j : ℕ) (l r : List ℕ) → slice_get (m ∷ ms) j ≡ Some l → cs ≡ l ++ r → length rest ≤ length r
-  others zero l r at e =
-      let here : beyond_text m cs ≡ Some r = rw (e, sym (some_list at)) (text_read m r) in
-      absurd (let no : None ≡ Some r = sym none ∙ here in cc)
-  others (suc j) l r at e = f.longest j l r at e
+      others : (j : ℕ) (l r : List ℕ) → slice_get (m ∷ ms) j ≡ Some l → cs ≡ l ++ r → length rest ≤ length r
+      others zero l r at e =
+          let here : beyond_text m cs ≡ Some r = rw (e, sym (some_list at)) (text_read m r) in
+          absurd (let no : None ≡ Some r = sym none ∙ here in cc)
+      others (suc j) l r at e = f.longest j l r at e
 
 mark_from_found : (cs : List ℕ) (k : ℕ) (ms : List (List ℕ)) (found : Found) (rest : List ℕ) → falling ms ≡ true → mark_from cs k ms ≡ Some (found, rest) → FoundMark cs k ms found rest
 unfolding falling

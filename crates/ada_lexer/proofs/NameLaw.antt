@@ -130,6 +130,7 @@ unfolding name_at
 name_found before cs found rest first h = go (underscores_between name) refl h where
   name : List ℕ
   name = run is_xid_continue cs
+
   go : (b : Bool) → underscores_between name ≡ b → cond b (with_rest (beyond is_xid_continue cs) (kind_of_name name)) None ≡ Some (found, rest) → Sound before found cs rest
   go false test e = cc
   go true test e =

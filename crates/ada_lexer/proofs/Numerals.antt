@@ -77,6 +77,7 @@ module _ (base : ℕ) (one : 1 ≤ base) where
   numeral_found cs value rest h = go (begins_with_digit base digits && underscores_between digits) refl h where
     digits : List ℕ
     digits = run (is_digit_or_underscore base) cs
+
     go : (b : Bool) → (begins_with_digit base digits && underscores_between digits) ≡ b → cond {A = Option (ℕ × List ℕ)} b (Some (number_after base 0 digits, beyond (is_digit_or_underscore base) cs)) None ≡ Some (value, rest) → ReadsNumeral base value cs rest
     go true test e =
         let both = and_parts (begins_with_digit base digits) (underscores_between digits) test in

@@ -49,7 +49,7 @@ earlier text at later below none other = go (later - at) (omega (arith, below)) 
       let long : length (take later text) ≡ later = length-take-le later text (omega (arith, other.inside)) in
       let c = goes_on (take later text) at other.front (subst IsUtf8 (sym front) none.front) (omega (arith, long, below)) in
       let parts : drop at text ≡ encode_utf8 c.character ++ (c.rest ++ drop k (drop at text)) =
-          sym (take-append-drop k (drop at text)) ∙ (ap (λ s. s ++ drop k (drop at text)) (sym tail ∙ c.parts) ∙ append_assoc (encode_utf8 c.character) c.rest (drop k (drop at text))) in
+      sym (take-append-drop k (drop at text)) ∙ (ap (λ s. s ++ drop k (drop at text)) (sym tail ∙ c.parts) ∙ append_assoc (encode_utf8 c.character) c.rest (drop k (drop at text))) in
       none.nothing c.character (c.rest ++ drop k (drop at text)) c.scalar parts
 
 one_character : (text : List ℕ) (m n : ℕ) → BeginsNoCharacter text m → BeginsNoCharacter text n → m ≡ n

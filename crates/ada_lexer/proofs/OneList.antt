@@ -97,7 +97,7 @@ one_token : (spot : Spot) (t u : Token) (r q : List ℕ) → IsNext spot t r →
 one_token spot t u r q n m =
     let gaps = one_gap spot.ahead n.gap m.gap (n.slice ++ r) (m.slice ++ q) n.parts m.parts n.between m.between in
     let read : ◌≡◌ {A = Option (Found × List ℕ)} (Some (found_of t.kind, r)) (Some (found_of u.kind, q)) =
-        sym (token_read spot.before t.kind n.slice r n.token_there) ∙ (ap (token_at (admits_letter spot.before)) gaps.1 ∙ token_read spot.before u.kind m.slice q m.token_there) in
+    sym (token_read spot.before t.kind n.slice r n.token_there) ∙ (ap (token_at (admits_letter spot.before)) gaps.1 ∙ token_read spot.before u.kind m.slice q m.token_there) in
     let pair : (found_of t.kind ≡ found_of u.kind) × (r ≡ q) = some_pair read in
     let slices = same_front n.slice m.slice r q (omega (arith, ap length gaps.1, length-append n.slice r, length-append m.slice q, ap length pair.1)) gaps.1 in
     let kinds = one_kind spot.before t.kind u.kind n.slice m.slice pair.0 n.token_there.spelled m.token_there.spelled slices.0 in
@@ -150,13 +150,13 @@ Halts tokens spot = (token : Token) (rest : List ℕ) → IsNext spot token rest
 halted : (tokens others : List Token) (spot : Spot) → Halts tokens spot → GoesOn spot tokens others → length others ≤ token_limit → All (λ t. IsNarrow t.kind) others → ⊥
 halted tokens others spot halts g few narrow =
     halts g.token g.rest g.next
-      (All-middle tokens g.token g.more (subst (All (λ t. IsNarrow t.kind)) g.parts narrow))
-      g.not_end
-      (omega (arith, few, ap length g.parts, length-append tokens (g.token ∷ g.more)))
+    (All-middle tokens g.token g.more (subst (All (λ t. IsNarrow t.kind)) g.parts narrow))
+    g.not_end
+    (omega (arith, few, ap length g.parts, length-append tokens (g.token ∷ g.more)))
   where
-  All-middle : (ts : List Token) (t : Token) (more : List Token) → All (λ x. IsNarrow x.kind) (ts ++ t ∷ more) → IsNarrow t.kind
-  All-middle [] t more h = All-head (λ x. IsNarrow x.kind) t more h
-  All-middle (u ∷ ts) t more h = All-middle ts t more (All-tail (λ x. IsNarrow x.kind) u (ts ++ t ∷ more) h)
+    All-middle : (ts : List Token) (t : Token) (more : List Token) → All (λ x. IsNarrow x.kind) (ts ++ t ∷ more) → IsNarrow t.kind
+    All-middle [] t more h = All-head (λ x. IsNarrow x.kind) t more h
+    All-middle (u ∷ ts) t more h = All-middle ts t more (All-tail (λ x. IsNarrow x.kind) u (ts ++ t ∷ more) h)
 
 record SameReach (ts us : List Token) (a b : Spot) : Type 0 where
   tokens : ts ≡ us
@@ -205,9 +205,9 @@ reaches_of characters ts t k =
       narrow = All-front (λ x. IsNarrow x.kind) t.others (t.last ∷ []) (subst (All (λ x. IsNarrow x.kind)) t.parts k.narrow);
     }
   where
-  All-front : (P : Token → Type 0) (xs ys : List Token) → All P (xs ++ ys) → All P xs
-  All-front P [] ys h = All-nil P
-  All-front P (x ∷ xs) ys h = All-cons P x xs (All-head P x (xs ++ ys) h) (All-front P xs ys (All-tail P x (xs ++ ys) h))
+    All-front : (P : Token → Type 0) (xs ys : List Token) → All P (xs ++ ys) → All P xs
+    All-front P [] ys h = All-nil P
+    All-front P (x ∷ xs) ys h = All-cons P x xs (All-head P x (xs ++ ys) h) (All-front P xs ys (All-tail P x (xs ++ ys) h))
 
 module _ (characters : List ℕ) where
   pub one_bad : (m n : ℕ) → IsBadToken characters m → IsBadToken characters n → m ≡ n

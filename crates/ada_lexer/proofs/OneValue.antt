@@ -17,9 +17,10 @@ beyond_whole base d r n ends = beyond_after _ d r n.each ∙ beyond_stop_here _ 
 
 -- a numeral and what follows it are told apart in one way
 one_numeral : (base : ℕ) (d e r q : List ℕ) → IsNumeral base d → IsNumeral base e → goes_on (is_digit_or_underscore base) r ≡ false → goes_on (is_digit_or_underscore base) q ≡ false → d ++ r ≡ e ++ q → (d ≡ e) × (r ≡ q)
-one_numeral base d e r q n m hr hq p =
-    (sym (run_whole base d r n hr) ∙ (ap (run (is_digit_or_underscore base)) p ∙ run_whole base e q m hq),
-     sym (beyond_whole base d r n hr) ∙ (ap (beyond (is_digit_or_underscore base)) p ∙ beyond_whole base e q m hq))
+one_numeral base d e r q n m hr hq p = (
+  sym (run_whole base d r n hr) ∙ (ap (run (is_digit_or_underscore base)) p ∙ run_whole base e q m hq),
+  sym (beyond_whole base d r n hr) ∙ (ap (beyond (is_digit_or_underscore base)) p ∙ beyond_whole base e q m hq),
+)
 
 tail_begins : {minus : Bool} {tail : List ℕ} {e : ℕ} → IsExponent minus tail e → goes_on (is_digit_or_underscore 10) tail ≡ false
 tail_begins NoExponent = refl

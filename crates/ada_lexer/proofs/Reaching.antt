@@ -35,6 +35,7 @@ nothing_follows kind (c ∷ rest) e h = absurd (true≢false (sym h ∙ ap (λ k
 
 pub all_tokens : (characters : List ℕ) (tokens new : List Token) (spot : Spot) (token : Token) (rest : List ℕ) → Reaches characters tokens spot → IsNext spot token rest → IsNarrow token.kind → token.kind ≡ End → new ≡ tokens ++ token ∷ [] → AreTokens characters new × KeepLimits new
 all_tokens characters tokens new spot token rest r next narrow is_end e =
-    let none : rest ≡ [] = nothing_follows token.kind rest is_end next.token_there.ends in
-    (record { others = tokens; last = token; spot = spot; parts = e; next = r.next; final = subst (IsNext spot token) none next; is_end = is_end },
-     rw e record { few = omega (arith, r.few, length-append tokens (token ∷ [])); narrow = All-push (λ t. IsNarrow t.kind) tokens token r.narrow narrow })
+    let none : rest ≡ [] = nothing_follows token.kind rest is_end next.token_there.ends in (
+      record { others = tokens; last = token; spot = spot; parts = e; next = r.next; final = subst (IsNext spot token) none next; is_end = is_end },
+      rw e record { few = omega (arith, r.few, length-append tokens (token ∷ [])); narrow = All-push (λ t. IsNarrow t.kind) tokens token r.narrow narrow },
+    )

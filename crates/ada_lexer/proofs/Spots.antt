@@ -54,6 +54,7 @@ narrow_cases v = ⊎_elim below above (cases_lt v wide) where
       let same : limited v ≡ v = min-eq_left (omega arith) in
       let less : pos v <ℤ pos (2 ^ 127) = omega (arith, ints) in
       rw (same, lt-ltb v wide h) (refl, less)
+
   above : wide ≤ v → MatchOption (kept (found_of (Number (pos v)))) (IsNarrow (Number (pos v)) → ⊥) (λ k. (k ≡ Number (pos v)) × IsNarrow (Number (pos v)))
   above h =
       let most : limited v ≡ wide = min-eq_right h in
@@ -86,8 +87,8 @@ taken before cs found rest kind bytes h kind_is count =
       whole = rw bytes_is (bytes_parts t.slice rest cs t.parts);
     }
   where
-  kind_told : (k : Kind) → kind ≡ kept (found_of k) → MatchOption (kept (found_of k)) (IsNarrow k → ⊥) (λ j. (j ≡ k) × IsNarrow k) → MatchOption kind (IsNarrow k → ⊥) (λ j. (j ≡ k) × IsNarrow k)
-  kind_told k e h = subst (λ (o : Option Kind). MatchOption o (IsNarrow k → ⊥) (λ j. (j ≡ k) × IsNarrow k)) (sym e) h
+    kind_told : (k : Kind) → kind ≡ kept (found_of k) → MatchOption (kept (found_of k)) (IsNarrow k → ⊥) (λ j. (j ≡ k) × IsNarrow k) → MatchOption kind (IsNarrow k → ⊥) (λ j. (j ≡ k) × IsNarrow k)
+    kind_told k e h = subst (λ (o : Option Kind). MatchOption o (IsNarrow k → ⊥) (λ j. (j ≡ k) × IsNarrow k)) (sym e) h
 
 pub none_taken : (before : Option Kind) (cs : List ℕ) → token_at (admits_letter before) cs ≡ None → (kind : Kind) (slice rest : List ℕ) → cs ≡ slice ++ rest → IsTokenAt before kind slice rest → ⊥
 none_taken before cs h kind slice rest parts t =
@@ -101,19 +102,21 @@ not_narrow (Some k) e kind h = cc
 
 -- a literal that is too wide stands next
 pub wide_next : (before : Option Kind) (at : ℕ) (cs here : List ℕ) (gap bytes : ℕ) (rest : List ℕ) (told : Option Kind) → told ≡ None → SkipsGap cs here gap → TakesToken before here told bytes rest → (token : Token) × (rest : List ℕ) × IsNext (spot_at before at cs) token rest × (IsNarrow token.kind → ⊥) × (at + gap ≡ token.span.start)
-wide_next before at cs here gap bytes rest told none g t =
-    (record { kind = t.kind; span = record { start = at + gap; end = at + gap + bytes } }, rest,
-     record {
-       gap = g.gap;
-       slice = t.slice;
-       parts = g.parts ∙ ap (λ s. g.gap ++ s) t.parts;
-       between = subst (IsGap g.gap) t.parts g.between;
-       token_there = t.token;
-       start = ap (λ n. at + n) g.bytes_is;
-       end = ap (λ n. at + gap + n) t.bytes_is;
-     },
-     not_narrow told none t.kind t.told_is,
-     refl)
+wide_next before at cs here gap bytes rest told none g t = (
+  record { kind = t.kind; span = record { start = at + gap; end = at + gap + bytes } },
+  rest,
+  record {
+    gap = g.gap;
+    slice = t.slice;
+    parts = g.parts ∙ ap (λ s. g.gap ++ s) t.parts;
+    between = subst (IsGap g.gap) t.parts g.between;
+    token_there = t.token;
+    start = ap (λ n. at + n) g.bytes_is;
+    end = ap (λ n. at + gap + n) t.bytes_is;
+  },
+  not_narrow told none t.kind t.told_is,
+  refl,
+)
 
 -- what is read, where a character literal may stand or not after the token before
 pub told_read : (admitted : Bool) (before : Option Kind) (cs : List ℕ) (x : Option (Found × List ℕ)) → admitted ≡ admits_letter before → token_at admitted cs ≡ x → token_at (admits_letter before) cs ≡ x

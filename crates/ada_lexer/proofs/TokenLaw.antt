@@ -115,6 +115,7 @@ longest_from before c s r found rest h Letter (a, (d, plain, e)) =
 longest_from before c s r found rest h (Mark n) at = go (c == 39) refl where
   first : BeginsMark c s
   first = begins_mark n c s at
+
   go : (t : Bool) → (c == 39) ≡ t → length rest ≤ length r
   go true tick =
       let there : c ≡ 39 = eqb-true c 39 tick in
@@ -148,8 +149,8 @@ tick_from before n c s rest t at there none =
     let alone = tick_read before rest (λ d r e a plain. absurd (longer d r e a plain (t.longest Letter (39 ∷ d ∷ 39 ∷ []) r (whole ∙ ap (λ x. 39 ∷ x) e) (a, (d, plain, refl))))) in
     ap (candidate_at (admits_letter before)) whole ∙ (at_tick (admits_letter before) rest ∙ (alone ∙ ap (λ m. Some (Other (Mark m), rest)) (sym number)))
   where
-  longer : (d : ℕ) (r : List ℕ) → rest ≡ d ∷ 39 ∷ r → admits_letter before ≡ true → is_control d ≡ false → 3 ≤ length (c ∷ s) → ⊥
-  longer d r e a plain h = absurd (omega (arith, ap length none))
+    longer : (d : ℕ) (r : List ℕ) → rest ≡ d ∷ 39 ∷ r → admits_letter before ≡ true → is_control d ≡ false → 3 ≤ length (c ∷ s) → ⊥
+    longer d r e a plain h = absurd (omega (arith, ap length none))
 
 read_from : (before : Option Kind) (c : ℕ) (s rest : List ℕ) (kind : Kind) → IsTokenAt before kind (c ∷ s) rest → IsSpelling before kind (c ∷ s) → goes_on (runs_on kind) rest ≡ false → candidate_at (admits_letter before) (c ∷ (s ++ rest)) ≡ Some (found_of kind, rest)
 read_from before c s rest Ident t spelled ends = at_name _ c (s ++ rest) spelled.0.first ∙ identifier_read before (c ∷ s) rest spelled ends
@@ -168,6 +169,7 @@ read_from before c s rest Letter t (a, (d, plain, e)) ends =
 read_from before c s rest (Mark n) t at ends = go (c == 39) refl where
   first : BeginsMark c s
   first = begins_mark n c s at
+
   go : (b : Bool) → (c == 39) ≡ b → candidate_at (admits_letter before) (c ∷ (s ++ rest)) ≡ Some (Other (Mark n), rest)
   go true tick = tick_from before n c s rest t at (eqb-true c 39 tick) (first.alone tick)
   go false tick = at_mark _ c (s ++ rest) first.no_letter first.no_digit first.no_quote tick ∙ mark_read n (c ∷ s) rest at (λ m l r other p. t.longest (Mark m) l r p other)
@@ -244,8 +246,8 @@ token_found before cs found rest h = go (candidate_at (admits_letter before) cs)
           spelled = s.spelled;
           ends = ends;
           longest = λ other t more p spelled.
-            let short = candidate_longest before cs found rest read other t more (s.parts ∙ p) spelled in
-            omega (arith, ap length p, length-append s.slice rest, length-append t more);
+              let short = candidate_longest before cs found rest read other t more (s.parts ∙ p) spelled in
+              omega (arith, ap length p, length-append s.slice rest, length-append t more);
         };
         found_is = s.found_is;
       }

@@ -12,6 +12,7 @@ limit_step : (w n d base : ℕ) → 1 ≤ base → min (min n w * base + d) w �
 limit_step w n d base one = ⊎_elim below above (cases_lt n w) where
   below : n < w → min (min n w * base + d) w ≡ min (n * base + d) w
   below h = ap (λ m. min (m * base + d) w) (min-eq_left (omega arith))
+
   above : w ≤ n → min (min n w * base + d) w ≡ min (n * base + d) w
   above h =
       let low : w * 1 ≤ w * base = mul-le-mul_left w one in
@@ -24,6 +25,7 @@ number_after-limited base n [] one = refl
 number_after-limited base n (c ∷ s) one = go (is_underscore c) (number_after-limited base n s one) (number_after-limited base (n * base + digit_value c) s one) where
   digit : number_after base (limited (limited n * base + digit_value c)) s ≡ number_after base (limited (n * base + digit_value c)) s
   digit = ap (λ m. number_after base m s) (limit_step wide n (digit_value c) base one)
+
   go : (b : Bool) → number_after base (limited n) s ≡ limited (value_after base n s) → number_after base (limited (n * base + digit_value c)) s ≡ limited (value_after base (n * base + digit_value c) s) → cond b (number_after base (limited n) s) (number_after base (limited (limited n * base + digit_value c)) s) ≡ limited (cond b (value_after base n s) (value_after base (n * base + digit_value c) s))
   go true same next = same
   go false same next = digit ∙ next
@@ -52,6 +54,7 @@ enough : (w low base n e : ℕ) → 2 ≤ base → w ≤ 2 ^ low → min (n * ba
 enough w low base n e two reach = ⊎_elim below above (cases_lt e low) where
   below : e < low → min (n * base ^ min e low) w ≡ min (n * base ^ e) w
   below h = ap (λ k. min (n * base ^ k) w) (min-eq_left (omega arith))
+
   above : low ≤ e → min (n * base ^ min e low) w ≡ min (n * base ^ e) w
   above h = ap (λ k. min (n * base ^ k) w) (min-eq_right h) ∙ go n where
     go : (m : ℕ) → min (m * base ^ low) w ≡ min (m * base ^ e) w

@@ -17,3 +17,6 @@ mod tokens;
 
 pub use fault::LexFault;
 pub use text::{lex, one_answer};
+
+#[cfg(test)]
+mod tests;

@@ -68,11 +68,7 @@ fn take(characters: &[char], before: Option<Kind>) -> Option<(Option<Kind>, usiz
 
 /// The token that stands next, `at` being the number of bytes before the characters and `before` the kind of
 /// the token before, and the characters after it.
-pub fn next(
-    characters: &[char],
-    at: usize,
-    before: Option<Kind>,
-) -> Result<(Token, &[char]), Stop>
+pub fn next(characters: &[char], at: usize, before: Option<Kind>) -> Result<(Token, &[char]), Stop>
     requires { at + length (encode_utf8_all characters.now) ≤ byte_limit }
     ensures { Stands (spot_at before at characters.now) result }
 {
@@ -83,7 +79,10 @@ pub fn next(
         Some((None, _, _)) => Err(Stop::WideLiteral { at: start }),
         Some((Some(kind), bytes, rest)) => {
             let end = start + bytes;
-            let span = Span { start: start as u32, end: end as u32 };
+            let span = Span {
+                start: start as u32,
+                end: end as u32,
+            };
             Ok((Token { kind, span }, rest))
         }
     }

@@ -15,7 +15,10 @@ fn next(value: u128, base: u32, digit: u32) -> u128
     requires { base ≤ 16 }
     ensures { result ≡ limited (value * base + digit) }
 {
-    value.saturating_mul(base as u128).saturating_add(digit as u128).min(WIDE)
+    value
+        .saturating_mul(base as u128)
+        .saturating_add(digit as u128)
+        .min(WIDE)
 }
 
 fn value_of(digits: &[char], base: u32) -> u128

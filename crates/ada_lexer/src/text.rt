@@ -21,9 +21,16 @@ fn fault_at(text: &str, stop: Stop) -> LexFault
     ensures { Tells text.now result }
 {
     match stop {
-        Stop::BadToken { at } => LexFault::BadToken { at: place_of(text, at) },
-        Stop::WideLiteral { at } => LexFault::WideLiteral { at: place_of(text, at) },
-        Stop::TooLong { at } => LexFault::TooLong { count: 200_001, at: place_of(text, at) },
+        Stop::BadToken { at } => LexFault::BadToken {
+            at: place_of(text, at),
+        },
+        Stop::WideLiteral { at } => LexFault::WideLiteral {
+            at: place_of(text, at),
+        },
+        Stop::TooLong { at } => LexFault::TooLong {
+            count: 200_001,
+            at: place_of(text, at),
+        },
         Stop::OutOfMemory => LexFault::OutOfMemory,
     }
 }
@@ -55,11 +62,15 @@ fn judge(alloc: Global, text: &[u8]) -> Result<Tokens, LexFault>
     ensures { MatchResult result (AreLexed text.now) (Tells text.now) }
 {
     if text.len() > MOST_BYTES {
-        return Err(LexFault::TooBig { bytes: text.len() as u64 });
+        return Err(LexFault::TooBig {
+            bytes: text.len() as u64,
+        });
     }
     match str::from_utf8(text) {
         Ok(text) => text_tokens(alloc, text),
-        Err(fault) => Err(LexFault::NotUtf8 { at: fault.valid_up_to() as u32 }),
+        Err(fault) => Err(LexFault::NotUtf8 {
+            at: fault.valid_up_to() as u32,
+        }),
     }
 }
 
@@ -81,5 +92,4 @@ pub fn one_answer()
     ensures tokens { (text : List ℕ) (items others : List Token) → AreTokensOf text items → AreTokensOf text others → items ≡ others }
     ensures fault { (text : List ℕ) (first other : Fault) → IsFirstFault text first → IsFirstFault text other → first ≡ other }
     ensures not_both { (text : List ℕ) (items : List Token) (first : Fault) → IsReadable text → AreTokensOf text items → KeepLimits items → IsFirstFault text first → ⊥ }
-{
-}
+{}

@@ -47,7 +47,9 @@ pub fn tokens_in(alloc: Global, characters: &[char]) -> Result<Vec<Token>, Stop>
             return Ok(tokens);
         }
         if tokens.len() == MOST_TOKENS {
-            return Err(Stop::TooLong { at: token.span.start as usize });
+            return Err(Stop::TooLong {
+                at: token.span.start as usize,
+            });
         }
         keep(&mut tokens, token)?;
         rest = after;
