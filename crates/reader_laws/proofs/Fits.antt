@@ -63,17 +63,30 @@ bracket_first limit depth over v w (x, is, (u, u', e, (n, i), l)) =
 bracket_begins : (depth : ℕ) (t : Symbol) → is_member (kind.open_bracket ∷ []) t.kind ≡ true → Begins (InBracket depth) (t ∷ [])
 bracket_begins depth t opens next =
     let inner : Nested = record { symbol = record { number = next; kind = kind.number }; depth = suc depth } in
-    let last : Nested = record { symbol = record { number = suc next; kind = kind.close_bracket }; depth = suc depth } in
-    (deeper (alone next), record { symbol = t; depth = suc depth } ∷ inner ∷ last ∷ [], kind.number ∷ kind.close_bracket ∷ [],
-     (alone next, refl, (record { symbol = t; depth = suc depth } ∷ [], inner ∷ last ∷ [], refl, (t.number, ap (λ k. record { symbol = record { number = t.number; kind = k }; depth = suc depth } ∷ []) is_bracket),
-         (inner ∷ [], last ∷ [], refl, refl, (suc next, refl)))), refl) where
-  is_bracket : t.kind ≡ kind.open_bracket
-  is_bracket = at (kind.open_bracket == t.kind) ((Decides-eqb kind.open_bracket t.kind).0) opens where
-    at : (b : Bool) → (b ≡ true → kind.open_bracket ≡ t.kind) → (b || false) ≡ true → t.kind ≡ kind.open_bracket
-    at true f e = sym (f refl)
-    at false f e = absurd (no e) where
-      no : false ≡ true → ⊥
-      no q = cc
+    let last : Nested = record { symbol = record { number = suc next; kind = kind.close_bracket }; depth = suc depth } in (
+      deeper (alone next),
+      record { symbol = t; depth = suc depth } ∷ inner ∷ last ∷ [],
+      kind.number ∷ kind.close_bracket ∷ [],
+      (
+        alone next,
+        refl,
+        (
+          record { symbol = t; depth = suc depth } ∷ [],
+          inner ∷ last ∷ [],
+          refl,
+          (t.number, ap (λ k. record { symbol = record { number = t.number; kind = k }; depth = suc depth } ∷ []) is_bracket),
+          (inner ∷ [], last ∷ [], refl, refl, (suc next, refl)),
+        ),
+      ),
+      refl,
+    ) where
+      is_bracket : t.kind ≡ kind.open_bracket
+      is_bracket = at (kind.open_bracket == t.kind) ((Decides-eqb kind.open_bracket t.kind).0) opens where
+        at : (b : Bool) → (b ≡ true → kind.open_bracket ≡ t.kind) → (b || false) ≡ true → t.kind ≡ kind.open_bracket
+        at true f e = sym (f refl)
+        at false f e = absurd (no e) where
+          no : false ≡ true → ⊥
+          no q = cc
 
 bracket_inhabited : (depth : ℕ) → Inhabited (InBracket depth)
 bracket_inhabited depth next =
@@ -172,6 +185,7 @@ pub needs_depth : (limit depth k : ℕ) → Exact limit (one_kind k) (Leaf depth
 needs_depth limit depth k exact = at (exact.whole 0 (record { symbol = record { number = 0; kind = k }; depth = depth } ∷ []) [] refl refl) where
   found : symbol k (record { number = 0; kind = k } ∷ []) ≡ (Found 0, [])
   found = ap (λ (b : Bool). let r : Answer ℕ × List Symbol = if b then (Found 0, []) else (Refused, record { number = 0; kind = k } ∷ []) in r) ((Decides-eqb k k).1 refl)
+
   at : Reads limit 0 (record { symbol = record { number = 0; kind = k }; depth = depth } ∷ []) [] (symbol k (record { number = 0; kind = k } ∷ [])) → depth ≤ limit
   at (inl (within, _)) = within.0
   at (inr (f, c, b, e, w, over, deep)) = absurd (deep_found 0 (ap (λ z. z.0) (sym deep ∙ found)))
@@ -181,11 +195,14 @@ pub needs_follow_last : (limit : ℕ) → Exact limit (record { first = 1 ∷ []
 needs_follow_last limit exact = at (exact.whole [] [] (t ∷ []) refl refl) where
   t : Symbol
   t = record { number = 0; kind = 1 }
+
   no_rest : [] ≡ t ∷ [] → ⊥
   no_rest q = cc
+
   no_part : (f : Word) (c : Nested) (b : Word) → [] ≡ f ++ c ∷ b → ⊥
   no_part [] c b q = cc
   no_part (x ∷ f) c b q = cc
+
   at : Reads limit [] [] (t ∷ []) (many [] (λ x xs. x ∷ xs) (1 ∷ []) (symbol 1) (t ∷ [])) → ⊥
   at (inl (_, e)) = no_rest (ap (λ z. z.1) e)
   at (inr (f, c, b, e, _, _, _)) = no_part f c b e

@@ -33,9 +33,9 @@ module _ {limit : ℕ} {A S : Type 0} {s : Sets} {L : A ⊎ S → Language} {p :
   steady_in (suc n) =
       steady_as M
       (steady_or ks
-          (steady_then L (λ x. Next more M x) p (step more (repeat_for none more n ks p)) h.steady
-              (steady_step n (steady_in n)) inhabited_next)
-          (steady_pure none))
+      (steady_then L (λ x. Next more M x) p (step more (repeat_for none more n ks p)) h.steady
+      (steady_step n (steady_in n)) inhabited_next)
+      (steady_pure none))
       join
 
   module _ (not_null : s.nullable ≡ false) (sub : is_subset s.first ks ≡ true) (apart : are_disjoint s.follow_last s.first ≡ true) (no_end : is_member ks 0 ≡ false) where
@@ -84,11 +84,11 @@ module _ {limit : ℕ} {A S : Type 0} {s : Sets} {L : A ⊎ S → Language} {p :
           subst (λ z. Reads limit z w rest (repeat_for none more (suc n) ks p (symbols_of w ++ rest))) (sym eq)
           (subst (λ z. Reads limit (more a ys) z rest (repeat_for none more (suc n) ks p (symbols_of z ++ rest))) (sym e)
           (one_whole n (inl a) (more a ys) u v rest l (next_stops v rest (starts_repeat ys v m') (is_member-append s.follow_last ks (next_kind rest) st).0)
-              (reads_image limit (more a) ys v rest (repeat_for none more n ks p (symbols_of v ++ rest)) (f ys v short m' st))))
+          (reads_image limit (more a) ys v rest (repeat_for none more n ks p (symbols_of v ++ rest)) (f ys v short m' st))))
       at (inl (inr y, u, v, e, l, (eq, nl))) f =
           subst (λ z. Reads limit xs z rest (repeat_for none more (suc n) ks p (symbols_of z ++ rest))) (sym e)
           (one_whole n (inr y) xs u v rest l (next_stops v rest (inr (nl, refl)) (is_member-append s.follow_last ks (next_kind rest) st).0)
-              ((exact_pure y).whole xs v rest (eq, nl) refl))
+          ((exact_pure y).whole xs v rest (eq, nl) refl))
 
     -- more turns than tokens change no_kind
     fuel : (n : ℕ) (ts : List Symbol) → length ts ≤ n → repeat_for none more n ks p ts ≡ repeat_for none more (suc n) ks p ts
@@ -104,6 +104,7 @@ module _ {limit : ℕ} {A S : Type 0} {s : Sets} {L : A ⊎ S → Language} {p :
           ap (λ z. read_on z.0 (λ rest. pure (more a rest)) z.1) (f m short)
       go_on (Refused, m) e f = refl
       go_on (TooDeep, m) e f = refl
+
       at : (b : Bool) (x : Answer (A ⊎ S) × List Symbol) → p ts ≡ x → ((m : List Symbol) → length m ≤ n → repeat_for none more n ks p m ≡ repeat_for none more (suc n) ks p m) → (if b then read_on x.0 (step more (repeat_for none more n ks p)) x.1 else (Found none, ts)) ≡ (if b then read_on x.0 (step more (repeat_for none more (suc n) ks p)) x.1 else (Found none, ts))
       at true x e f = go_on x e f
       at false x e f = refl
@@ -146,8 +147,10 @@ exact_many {limit} {A} {S} {s} {L} {p} none more M join part ks h = exact_repeat
   joined : (xs : S) (w : Word) → Repeated none more (Image inl L) M xs w → M xs w
   joined xs w (inl (x, u, v, e, (a, is, l), next)) = join xs w (inl (a, u, v, e, l, subst (λ z. Next more M z xs v) is next))
   joined xs w (inr empty) = join xs w (inr empty)
+
   regroup_part : (xs : S) (w : Word) → Or (Then L (λ a. Image (more a) M)) (Pure none) xs w → Repeated none more (Image inl L) M xs w
   regroup_part xs w (inl (a, u, v, e, l, k)) = inl (inl a, u, v, e, (a, refl, l), k)
   regroup_part xs w (inr empty) = inr empty
+
   parted : (xs : S) (w : Word) → M xs w → Repeated none more (Image inl L) M xs w
   parted xs w m = regroup_part xs w (part xs w m)

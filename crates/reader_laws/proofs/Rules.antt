@@ -75,6 +75,7 @@ list {limit} {A} {s} {L} ks h not_empty taken apart no_end = record {
   join : (xs : List A) (w : Word) → Or (Then L (λ x. Image (λ (ys : List A). x ∷ ys) (Many L))) (Pure []) xs w → Many L xs w
   join xs w (inl (x, u, v, e, l, (ys, is, m))) = subst (λ z. Many L z w) (sym is) (u, v, e, l, m)
   join xs w (inr (is, e)) = subst (λ z. Many L z w) (sym is) e
+
   part : (xs : List A) (w : Word) → Many L xs w → Or (Then L (λ x. Image (λ (ys : List A). x ∷ ys) (Many L))) (Pure []) xs w
   part [] w e = inr (refl, e)
   part (x ∷ xs) w (u, v, e, l, m) = inl (x, u, v, e, l, (xs, refl, m))

@@ -17,10 +17,14 @@ cons_of (z ∷ f) y ys = (z, f ++ y ∷ ys, refl)
 pub begins_then : {A B : Type 0} (L : A → Language) (M : A → B → Language) → ((a : A) → Inhabited (M a)) → (front : List Symbol) → Begins L front → Begins (Then L M) front
 begins_then L M sample front begins next =
     let (a, u, xs, l, e) = begins next in
-    let (b, v, ys, m, f) = sample a (next + length xs) in
-    (b, u ++ v, xs ++ ys, (a, u, v, refl, l, m),
-     symbols_of-append u v ∙ ap (λ z. z ++ symbols_of v) e ∙ ap (λ z. (front ++ numbered next xs) ++ z) f
-     ∙ append_assoc front (numbered next xs) (numbered (next + length xs) ys) ∙ ap (λ z. front ++ z) (sym (numbered-append next xs ys)))
+    let (b, v, ys, m, f) = sample a (next + length xs) in (
+      b,
+      u ++ v,
+      xs ++ ys,
+      (a, u, v, refl, l, m),
+      symbols_of-append u v ∙ ap (λ z. z ++ symbols_of v) e ∙ ap (λ z. (front ++ numbered next xs) ++ z) f
+          ∙ append_assoc front (numbered next xs) (numbered (next + length xs) ys) ∙ ap (λ z. front ++ z) (sym (numbered-append next xs ys)),
+    )
 
 module _ {A B : Type 0} (L : A → Language) (M : A → B → Language) (p : Reader A) (q : A → Reader B) (hp : Steady L p) (hq : (a : A) → Steady (M a) (q a)) where
   suffix_then : (ts : List Symbol) (x : Answer A × List Symbol) → p ts ≡ x → (front : List Symbol) × (ts ≡ front ++ (read_on x.0 q x.1).1)
@@ -84,9 +88,14 @@ module _ {A B : Type 0} (L : A → Language) (M : A → B → Language) (p : Rea
     deep_then : (ts back : List Symbol) (x : Answer A × List Symbol) → p ts ≡ x → read_on x.0 q x.1 ≡ (TooDeep, back) → SinksWell (Then L M) ts back
     deep_then ts back (Found a, m) e h =
         let s = hp.sound ts a m e in
-        let k = (hq a).deep m back h in
-        (symbols_of s.0 ++ k.0, k.1, k.2, s.2 ∙ ap (λ z. symbols_of s.0 ++ z) k.3 ∙ sym (append_assoc (symbols_of s.0) k.0 back), k.4,
-         subst (Begins (Then L M)) (sym (append_assoc (symbols_of s.0) k.0 (k.1 ∷ []))) (begins_next a s.0 (k.0 ++ k.1 ∷ []) s.1 k.5))
+        let k = (hq a).deep m back h in (
+          symbols_of s.0 ++ k.0,
+          k.1,
+          k.2,
+          s.2 ∙ ap (λ z. symbols_of s.0 ++ z) k.3 ∙ sym (append_assoc (symbols_of s.0) k.0 back),
+          k.4,
+          subst (Begins (Then L M)) (sym (append_assoc (symbols_of s.0) k.0 (k.1 ∷ []))) (begins_next a s.0 (k.0 ++ k.1 ∷ []) s.1 k.5),
+        )
     deep_then ts back (TooDeep, m) e h =
         let k = hp.deep ts back (e ∙ ap (λ v. (TooDeep, v.1)) h) in
         (k.0, k.1, k.2, k.3, k.4, begins_first (k.0 ++ k.1 ∷ []) k.5)
@@ -102,7 +111,7 @@ module _ {A B : Type 0} (L : A → Language) (M : A → B → Language) (p : Rea
     }
 
 -- what two readers do with a word of two parts
-pub reads_then : (limit : ℕ) {A B : Type 0} (q : A → Reader B) (a : A) (b : B) (u v : Word) (rest : List Symbol) (x : Answer A × List Symbol) 
+pub reads_then : (limit : ℕ) {A B : Type 0} (q : A → Reader B) (a : A) (b : B) (u v : Word) (rest : List Symbol) (x : Answer A × List Symbol)
     → Reads limit a u (symbols_of v ++ rest) x → Reads limit b v rest (q a (symbols_of v ++ rest)) → Reads limit b (u ++ v) rest (read_on x.0 q x.1)
 reads_then limit q a b u v rest x (inl (sh, e)) (inl (sh', e')) = inl (AllWithin-append limit u v sh sh', ap (λ z. read_on z.0 q z.1) e ∙ e')
 reads_then limit q a b u v rest x (inl (sh, e)) (inr (f, c, w, eq, sf, dp, e')) =
@@ -124,7 +133,7 @@ starts_then s t u v (inr (e, n)) (inr (e', n')) = inr (ap (λ z. z ++ v) e ∙ e
 
 -- a sequence is read exactly where no reader of the first goes on with what begins the second
 pub exact_then : {limit : ℕ} {A B : Type 0} {s t : Sets} {L : A → Language} {M : A → B → Language} {p : Reader A} {q : A → Reader B}
-    → Exact limit s L p → ((a : A) → Exact limit t (M a) (q a)) → ((a : A) → Inhabited (M a)) 
+    → Exact limit s L p → ((a : A) → Exact limit t (M a) (q a)) → ((a : A) → Inhabited (M a))
     → are_disjoint s.follow_last t.first ≡ true → Exact limit (then_sets s t) (Then L M) (p >>= q)
 exact_then {limit} {s} {t} {L} {M} {p} {q} hp hq sample d = record {
   steady = steady_then L M p q hp.steady (λ a. (hq a).steady) sample;
@@ -133,6 +142,6 @@ exact_then {limit} {s} {t} {L} {M} {p} {q} hp hq sample d = record {
       subst (λ z. Reads limit b z rest ((p >>= q) (symbols_of z ++ rest))) (sym e)
       (subst (λ z. Reads limit b (u ++ v) rest ((p >>= q) z)) (sym (regroup u v rest))
       (reads_then limit q a b u v rest (p (symbols_of u ++ (symbols_of v ++ rest)))
-          (hp.whole a u (symbols_of v ++ rest) l (stops_between s t d v rest ((hq a).starts b v m) st))
-          ((hq a).whole b v rest m (is_member-append t.follow_last (when t.nullable s.follow_last) (next_kind rest) st).0)));
+      (hp.whole a u (symbols_of v ++ rest) l (stops_between s t d v rest ((hq a).starts b v m) st))
+      ((hq a).whole b v rest m (is_member-append t.follow_last (when t.nullable s.follow_last) (next_kind rest) st).0)));
 }

@@ -79,10 +79,12 @@ module _ (limit d : ℕ) (within : d ≤ limit) (k : ℕ) where
   symbol_sound (t ∷ ts) a rest e = at (t.kind == k) ((Decides-eqb t.kind k).0) e where
     at : (b : Bool) → (b ≡ true → t.kind ≡ k) → answer_at b t ts ≡ (Found a, rest) → (w : Word) × Leaf d k a w × (t ∷ ts ≡ symbols_of w ++ rest)
     at true f e =
-        let number_is = found_is t.number a (ap (λ z. z.0) e) in
-        (record { symbol = t; depth = d } ∷ [],
-         ap (λ (z : ℕ). record { symbol = record { number = z; kind = t.kind }; depth = d } ∷ []) number_is
-         ∙ ap (λ (z : ℕ). record { symbol = record { number = a; kind = z }; depth = d } ∷ []) (f refl), ap (λ z. t ∷ z.1) e)
+        let number_is = found_is t.number a (ap (λ z. z.0) e) in (
+          record { symbol = t; depth = d } ∷ [],
+          ap (λ (z : ℕ). record { symbol = record { number = z; kind = t.kind }; depth = d } ∷ []) number_is
+              ∙ ap (λ (z : ℕ). record { symbol = record { number = a; kind = z }; depth = d } ∷ []) (f refl),
+          ap (λ z. t ∷ z.1) e,
+        )
     at false f e = absurd (refused_found a (ap (λ z. z.0) e))
 
   symbol_refused : (ts back : List Symbol) → symbol k ts ≡ (Refused, back) → RefusesWell (Leaf d k) ts back

@@ -26,6 +26,7 @@ split_before : (ks : List ℕ) (front : List Symbol) (t : Symbol) (back : List S
 split_before ks front t back e = let (xs, ys, split, fronts, backs) = numbered-split 0 ks front (t ∷ back) e in at xs ys split fronts backs where
   no_more : t ∷ back ≡ [] → ⊥
   no_more q = cc
+
   at : (xs ys : List ℕ) → ks ≡ xs ++ ys → front ≡ numbered 0 xs → t ∷ back ≡ numbered (0 + length xs) ys
       → (xs : List ℕ) × (k : ℕ) × (ys : List ℕ) × (ks ≡ xs ++ k ∷ ys) × (front ≡ numbered 0 xs) × (t ≡ after xs k)
   at xs [] split fronts backs = absurd (no_more backs)
@@ -73,6 +74,7 @@ module _ {limit : ℕ} {A : Type 0} {s : Sets} {L : A → Language} {p : Reader 
   none_refused front t back e a w rest l eq = at (on_word a w l) where
     here : p (symbols_of w) ≡ (Refused, t ∷ rest)
     here = ap p eq ∙ same_end front t back rest Refused e
+
     at : Reads limit a w [] (p (symbols_of w)) → ⊥
     at (inl (within, k)) = refused_found a (ap (λ z. z.0) (sym here ∙ k))
     at (inr (f, c, b, ew, within, over, k)) = deep_refused (ap (λ z. z.0) (sym k ∙ here))
@@ -82,8 +84,10 @@ module _ {limit : ℕ} {A : Type 0} {s : Sets} {L : A → Language} {p : Reader 
   none_left front t back x e a w rest l eq = at (on_word a w l) where
     here : p (symbols_of w) ≡ (Found x, t ∷ rest)
     here = ap p eq ∙ same_end front t back rest (Found x) e
+
     no_more : t ∷ rest ≡ [] → ⊥
     no_more q = cc
+
     at : Reads limit a w [] (p (symbols_of w)) → ⊥
     at (inl (within, k)) = no_more (ap (λ z. z.1) (sym here ∙ k))
     at (inr (f, c, b, ew, within, over, k)) = deep_found x (ap (λ z. z.0) (sym k ∙ here))
@@ -100,12 +104,13 @@ module _ {limit : ℕ} {A : Type 0} {s : Sets} {L : A → Language} {p : Reader 
   deep_there front t back e a w rest l eq = at (on_word a w l) where
     here : p (symbols_of w) ≡ (TooDeep, t ∷ rest)
     here = ap p eq ∙ same_end front t back rest TooDeep e
+
     at : Reads limit a w [] (p (symbols_of w)) → SinksAt limit w (length front)
     at (inl (within, k)) = absurd (deep_found a (ap (λ z. z.0) (sym here ∙ k)))
     at (inr (f, c, b, ew, within, over, k)) =
         let q : c.symbol ∷ (symbols_of b ++ []) ≡ t ∷ rest = ap (λ z. z.1) (sym k ∙ here) in
         let whole : symbols_of f ++ (t ∷ rest) ≡ front ++ (t ∷ rest) =
-            ap (λ z. symbols_of f ++ z) (sym q) ∙ ap (λ z. symbols_of f ++ (c.symbol ∷ z)) (append-nil (symbols_of b)) ∙ sym (symbols_of-append f (c ∷ b)) ∙ ap symbols_of (sym ew) ∙ eq in
+        ap (λ z. symbols_of f ++ z) (sym q) ∙ ap (λ z. symbols_of f ++ (c.symbol ∷ z)) (append-nil (symbols_of b)) ∙ sym (symbols_of-append f (c ∷ b)) ∙ ap symbols_of (sym ew) ∙ eq in
         (f, c, b, ew, sym (length-symbols_of f) ∙ ap length (append_cancel_right (symbols_of f) front (t ∷ rest) whole), within, over)
 
   begins : (front : List Symbol) → ((front ≡ []) ⊎ Begins L front) → Begins L front
@@ -117,33 +122,43 @@ module _ {limit : ℕ} {A : Type 0} {s : Sets} {L : A → Language} {p : Reader 
   sinks ks place deep = at (on_word a w l) where
     front : List Symbol
     front = numbered 0 deep.front
+
     t : Symbol
     t = after deep.front deep.kind
+
     a : A
     a = deep.begins.0
+
     more : List ℕ
     more = deep.begins.1
+
     w : Word
     w = deep.begins.2.0
+
     l : L a w
     l = deep.begins.2.1
+
     spelled : symbols_of w ≡ numbered 0 (deep.front ++ deep.kind ∷ more)
     spelled = deep.begins.2.2 ∙ ap (numbered 0) (append_assoc deep.front (deep.kind ∷ []) more)
+
     later : List Symbol
     later = numbered (suc (length deep.front)) more
+
     back : List Symbol
     back = numbered (suc (length deep.front)) deep.rest
+
     there : SinksAt limit w place
     there = deep.sinks a w more l spelled
+
     at : Reads limit a w [] (p (symbols_of w)) → (rest : List Symbol) × (p (numbered 0 ks) ≡ (TooDeep, rest))
     at (inl (within, k)) = absurd (not_within limit w there.0 there.1 there.2 there.3 within there.6)
     at (inr (f, c, b, ew, within, over, k)) =
         let same = one_deep limit f there.0 c there.1 b there.2 (sym ew ∙ there.3) within there.5 over there.6 in
         let long : length (symbols_of f) ≡ length front = length-symbols_of f ∙ same ∙ there.4 ∙ sym deep.at ∙ sym (length-numbered 0 deep.front) in
         let (fronts, backs) = same_split (symbols_of f) front (c.symbol ∷ symbols_of b) (t ∷ later) long
-            (sym (symbols_of-append f (c ∷ b)) ∙ ap symbols_of (sym ew) ∙ spelled ∙ numbered-front deep.front (deep.kind ∷ more)) in
+        (sym (symbols_of-append f (c ∷ b)) ∙ ap symbols_of (sym ew) ∙ spelled ∙ numbered-front deep.front (deep.kind ∷ more)) in
         let here : p (front ++ t ∷ later) ≡ (TooDeep, t ∷ later) =
-            ap p (sym (spelled ∙ numbered-front deep.front (deep.kind ∷ more))) ∙ k ∙ ap (λ z. (TooDeep, c.symbol ∷ z)) (append-nil (symbols_of b)) ∙ ap (λ z. (TooDeep, z)) backs in
+        ap p (sym (spelled ∙ numbered-front deep.front (deep.kind ∷ more))) ∙ k ∙ ap (λ z. (TooDeep, c.symbol ∷ z)) (append-nil (symbols_of b)) ∙ ap (λ z. (TooDeep, z)) backs in
         (t ∷ back, ap p (ap (numbered 0) deep.split ∙ numbered-front deep.front (deep.kind ∷ deep.rest)) ∙ same_end front t later back TooDeep here)
 
   -- the reader's verdict is never that a list is too deep where it answers something else
@@ -168,7 +183,7 @@ module _ {limit : ℕ} {A : Type 0} {s : Sets} {L : A → Language} {p : Reader 
     begins = begins_kinds L xs (subst (Begins L) fronts begun);
     ends = λ (a, more, (w, l, e)). none a w (numbered (suc (length xs)) more) l
         (e ∙ ap (numbered 0) (append_assoc xs (k ∷ []) more) ∙ numbered-front xs (k ∷ more) ∙ ap (λ z. z ++ after xs k ∷ numbered (suc (length xs)) more) (sym fronts)
-         ∙ ap (λ z. front ++ z ∷ numbered (suc (length xs)) more) (sym here));
+        ∙ ap (λ z. front ++ z ∷ numbered (suc (length xs)) more) (sym here));
   }
 
   fault_at_end : (ks : List ℕ) → p (numbered 0 ks) ≡ (Refused, []) → IsFirstFault L ks (length ks)
@@ -198,8 +213,8 @@ module _ {limit : ℕ} {A : Type 0} {s : Sets} {L : A → Language} {p : Reader 
         sinks = λ a w more l spelled.
             subst (SinksAt limit w) (ap length fronts ∙ length-numbered 0 xs ∙ place)
             (deep_there front t back (ap p (sym split) ∙ e) a w (numbered (suc (length xs)) more) l
-                (spelled ∙ numbered-front xs (k ∷ more) ∙ ap (λ z. z ++ after xs k ∷ numbered (suc (length xs)) more) (sym fronts)
-                 ∙ ap (λ z. front ++ z ∷ numbered (suc (length xs)) more) (sym here)));
+            (spelled ∙ numbered-front xs (k ∷ more) ∙ ap (λ z. z ++ after xs k ∷ numbered (suc (length xs)) more) (sym fronts)
+            ∙ ap (λ z. front ++ z ∷ numbered (suc (length xs)) more) (sym here)));
       }
 
   within : (a : A) (w : Word) → L a w → p (symbols_of w) ≡ (Found a, []) → AllWithin limit w

@@ -24,7 +24,7 @@ abbrev pub Reads : ℕ → {A : Type 0} → A → Word → List Symbol → Answe
 Reads limit a w rest answer =
     (AllWithin limit w × (answer ≡ (Found a, rest)))
     ⊎ ((f : Word) × (c : Nested) × (b : Word) × (w ≡ f ++ c ∷ b) × AllWithin limit f × (limit < c.depth)
-       × (answer ≡ (TooDeep, c.symbol ∷ (symbols_of b ++ rest))))
+    × (answer ≡ (TooDeep, c.symbol ∷ (symbols_of b ++ rest))))
 
 -- what holds of a reader whatever the sets: it drops nothing, its answer hangs on the symbols up to the next one
 -- alone, what it finds is derived, and where it stops it has come as far as some word goes

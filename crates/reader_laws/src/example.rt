@@ -14,9 +14,13 @@ use ada_base::Items;
 use std::alloc::Global;
 
 const NUMBER: u8 = 1;
+
 const OPEN: u8 = 2;
+
 const CLOSE: u8 = 3;
+
 const DOTS: u8 = 4;
+
 const COMMA: u8 = 5;
 
 /// A number in brackets: how many, and the number of its token.
@@ -157,7 +161,11 @@ mod tests {
             (&[2], 0, (2, 0)),
         ];
         for (kinds, limit, want) in cases {
-            assert_eq!(rt; summary(&parse(rt.alloc(), kinds, limit)), want, "of {kinds:?}");
+            assert_eq!(rt;
+                summary(&parse(rt.alloc(), kinds, limit)),
+                want,
+                "of {kinds:?}"
+            );
         }
     }
 }

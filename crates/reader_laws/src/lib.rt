@@ -8,7 +8,6 @@
 
 pub mod cursor;
 pub mod example;
-
 pub mod fault;
 pub mod repetition;
 

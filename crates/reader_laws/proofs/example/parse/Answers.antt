@@ -12,5 +12,5 @@ pub returns : goal.returns
 returns c =
     rw c.settle.ensures
     (judged c.args.limit spec.ranges c.args.kinds.now (reader.ranges c.args.limit (numbered 0 c.args.kinds.now)) c.read_ranges-found.result c.read_ranges-found.new.tokens
-        (right c.args.limit c.args.kinds.now)
-        (subst (λ ts. Gives (reader.ranges c.args.limit ts) c.read_ranges-found.result c.read_ranges-found.new.tokens) c.new-tokens.ensures c.read_ranges-found.ensures))
+    (right c.args.limit c.args.kinds.now)
+    (subst (λ ts. Gives (reader.ranges c.args.limit ts) c.read_ranges-found.result c.read_ranges-found.new.tokens) c.new-tokens.ensures c.read_ranges-found.ensures))

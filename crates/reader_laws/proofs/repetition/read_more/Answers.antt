@@ -16,8 +16,8 @@ returns-in_err-item g c p reads =
     let gives = reads.reads _ _ c.item.result c.item.ensures in
     let from = err_from_is_err_and c.from_residual.result c.from_residual.ensures.1 in
     rw (from.1, from.2) (subst (λ z. Gives z (Err c.in_err-item.field-0.0) c.item.new.arg2) (c.loop-turn.invariant p reads)
-        (turn_fault c.args.first.now p c.loop-turn.found c.left-turn-end.result c.loop-turn._turn c.loop-turn.tokens c.loop-turn-test.true goes c.item.new.arg2 c.in_err-item.field-0.0
-            (subst (λ r. Gives (p c.loop-turn.tokens) r c.item.new.arg2) c.in_err-item.was gives)))
+    (turn_fault c.args.first.now p c.loop-turn.found c.left-turn-end.result c.loop-turn._turn c.loop-turn.tokens c.loop-turn-test.true goes c.item.new.arg2 c.in_err-item.field-0.0
+    (subst (λ r. Gives (p c.loop-turn.tokens) r c.item.new.arg2) c.in_err-item.was gives)))
 
 pub loop-turn-preserved : goal.loop-turn-preserved
 loop-turn-preserved g c p reads =
@@ -25,5 +25,5 @@ loop-turn-preserved g c p reads =
     let gives = reads.reads _ _ c.item.result c.item.ensures in
     rw c.in_ok-push.ensures.ok
     (sym (turn_found c.args.first.now p c.loop-turn.found c.left-turn-end.result c.loop-turn._turn c.loop-turn.tokens c.loop-turn-test.true goes c.in_ok-item.field-0 c.item.new.arg2
-        (subst (λ r. Gives (p c.loop-turn.tokens) r c.item.new.arg2) c.in_ok-item.was gives))
-     ∙ c.loop-turn.invariant p reads)
+    (subst (λ r. Gives (p c.loop-turn.tokens) r c.item.new.arg2) c.in_ok-item.was gives))
+    ∙ c.loop-turn.invariant p reads)
