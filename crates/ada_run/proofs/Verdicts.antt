@@ -1,7 +1,6 @@
 -- What reading a text says of it: its program, or its fault.
-use Rattle.std.proofs.Common.{◌≡◌, Bool, true, false, Some, None, Option, ℕ, List, length, take, sym, ◌∙◌, refl, subst, ap}
+use Rattle.std.proofs.Common.{◌≡◌, true, false, Some, None, Option, ℕ, List, sym, ◌∙◌, refl, subst, ap}
 use Rattle.std.specs.List.{list_all}
-use Rattle.ada_base.specs.declared.place.Place.{Place}
 use Rattle.ada_base.specs.Tokens.{Tokenized}
 use Rattle.ada_tree.specs.Faults.{IsFirstFault}
 use Rattle.ada_tree.specs.Faults.Fault.{TooManyBytes, NoCharacter, NoToken, TooWide, TooManyTokens}
@@ -62,16 +61,16 @@ refuses text fault r is e = subst (IsRefusalOf text) (sym e) (own fault is) wher
 pub refuses_unknown : (text : List ℕ) (p : Program) (r : Refusal) → HasTokens text → program_at text ≡ Some p → list_all (statement_declared p.declarations) p.statements ≡ false → r ≡ Refused 5 beginning None 5 → IsRefusalOf text r
 refuses_unknown text p r has read undeclared is =
     let unknown : (q : Program) → IsAccepted text q → ⊥ = λ q accepted.
-      let same : q ≡ p = one_program text q p accepted.form (program_takes text p read) in
-      let all : AreDeclared p = subst AreDeclared same accepted.declared in
-      false_true (sym undeclared ∙ all) in
+    let same : q ≡ p = one_program text q p accepted.form (program_takes text p read) in
+    let all : AreDeclared p = subst AreDeclared same accepted.declared in
+    false_true (sym undeclared ∙ all) in
     refuses text UnknownName r (has, (p, program_takes text p read), unknown) is where
-  false_true : false ≡ true → ⊥
-  false_true e = absurd cc
+      false_true : false ≡ true → ⊥
+      false_true e = absurd cc
 
 pub refuses_form : (text : List ℕ) (r : Refusal) → HasTokens text → program_at text ≡ None → r ≡ Refused 13 beginning None 19 → IsRefusalOf text r
 refuses_form text r has read is =
     let other : (p : Program) → IsFirstForm text p → ⊥ = λ p form. none_some p (sym read ∙ program_again text p form) in
     refuses text NotBuilt r (has, other) is where
-  none_some : (p : Program) → let n : Option Program = None in n ≡ Some p → ⊥
-  none_some p e = absurd cc
+      none_some : (p : Program) → let n : Option Program = None in n ≡ Some p → ⊥
+      none_some p e = absurd cc

@@ -1,5 +1,5 @@
 -- The answers of compile.
-use Rattle.std.specs.Prelude.{◌≡◌, ℕ, List, ◌∷◌, ◌++◌, ◌==◌, if◌then◌else◌, codes, decimal, Option, None, ⊤}
+use Rattle.std.specs.Prelude.{◌≡◌, ℕ, List, ◌∷◌, ◌++◌, ◌==◌, if◌then◌else◌, codes, decimal, None, ⊤}
 use Rattle.ada_base.specs.declared.place.Place.{Place}
 use Rattle.ada_base.specs.Place.{place_at}
 use Rattle.ada_tree.specs.Faults.Fault.{TooManyBytes, NoCharacter, NoToken, TooWide, TooManyTokens}
