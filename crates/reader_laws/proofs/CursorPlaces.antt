@@ -1,7 +1,7 @@
 -- The symbols from a place of a list on.
-use Rattle.std.proofs.Common.{◌≡◌, ℕ, suc, ◌+◌, ◌-◌, ◌<◌, ◌≤◌, List, [], ◌∷◌, length, drop, get_or, refl, ap, ◌∙◌, sym, drop-cons, length-drop}
+use Rattle.std.proofs.Common.{◌≡◌, ℕ, suc, ◌-◌, ◌<◌, ◌≤◌, List, [], ◌∷◌, length, drop, get_or, ap, ◌∙◌, sym, drop-cons, length-drop}
 use Rattle.std.proofs.lemmas.List.{drop_all}
-use Rattle.reader_laws.specs.Symbols.{Symbol, numbered}
+use Rattle.reader_laws.specs.Symbols.{numbered}
 use Rattle.reader_laws.specs.Settled.{place_in}
 use Rattle.reader_laws.proofs.Words.{length-numbered}
 

@@ -1,14 +1,11 @@
 -- The reader that stops at what would be too deep.
-use Rattle.std.proofs.Common.{◌≡◌, ℕ, zero, suc, ◌+◌, ◌<◌, ◌≤◌, List, [], ◌∷◌, ◌++◌, length, Bool, true, false, if◌then◌else◌, ◌==◌, ◌&&◌, ◌⊎◌, Option, Some, None, inl, inr, refl, sym, ap, ◌∙◌, subst, append_assoc, append-nil, arith, length-append}
-use Rattle.std.proofs.lemmas.Bool.Decides.{Decides-eqb}
-use Rattle.std.proofs.lemmas.List.{append_cancel_right}
-use Rattle.reader_laws.specs.Symbols.{Symbol, numbered, Nested, Word, symbols_of, is_member, next_kind}
-use Rattle.reader_laws.specs.Readers.{Answer, Found, Refused, TooDeep, Reader, read_on, ◌>>=◌, pure, refuse, symbol, by_next, given, too_deep, ◌<$>◌}
-use Rattle.reader_laws.specs.Languages.{Language, Leaf, Empty, Then, Or, Pure, Image, Given, Begins, Inhabited}
-use Rattle.reader_laws.specs.Sets.{Sets, Starts, Stops, are_disjoint, is_subset, when, one_kind, no_kind, then_sets, or_sets, covers}
-use Rattle.reader_laws.specs.Exact.{AllWithin, RefusesWell, SinksWell, Reads, Steady, Exact}
+use Rattle.std.proofs.Common.{◌≡◌, ℕ, ◌<◌, List, [], ◌∷◌, ◌++◌, Bool, true, false, if◌then◌else◌, inl, inr, refl, sym, ap, ◌∙◌}
+use Rattle.reader_laws.specs.Symbols.{Symbol, Nested, Word, symbols_of, is_member, next_kind}
+use Rattle.reader_laws.specs.Readers.{Answer, Found, Refused, TooDeep, too_deep}
+use Rattle.reader_laws.specs.Languages.{Language, Begins}
+use Rattle.reader_laws.specs.Sets.{Sets}
+use Rattle.reader_laws.specs.Exact.{RefusesWell, SinksWell, Exact}
 use Rattle.reader_laws.proofs.Answers.{refused_found, deep_found, deep_refused, same_rest}
-use Rattle.reader_laws.proofs.KindSets.{true_false, both, is_member-left, is_member-right, is_member-append, is_subset-is_member, are_disjoint-is_member, is_member-none, are_disjoint-none}
 use Rattle.reader_laws.proofs.Words.{no_growth}
 
 -- what is answered at what would be too deep, or isn't

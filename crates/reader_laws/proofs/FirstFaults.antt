@@ -1,8 +1,7 @@
 -- What follows from the definitions of faults alone: a list has a tree, or one first fault.
-use Rattle.std.proofs.Common.{◌≡◌, ℕ, zero, suc, ◌+◌, ◌<◌, ◌≤◌, List, [], ◌∷◌, ◌++◌, length, inl, inr, refl, sym, ap, ◌∙◌, subst, append_assoc, append-nil, arith}
-use Rattle.reader_laws.specs.Symbols.{Word, numbered}
+use Rattle.std.proofs.Common.{◌≡◌, ℕ, ◌<◌, List, [], ◌∷◌, ◌++◌, length, refl, sym, ap, ◌∙◌, subst, append_assoc, append-nil, arith}
+use Rattle.reader_laws.specs.Symbols.{numbered}
 use Rattle.reader_laws.specs.Languages.{Language}
-use Rattle.reader_laws.specs.Exact.{AllWithin}
 use Rattle.reader_laws.specs.Faults.{Derives, DerivesWithin, IsBeginning, NoneGoesOn, IsFirstFault, IsFirstTooDeep}
 use Rattle.reader_laws.proofs.Words.{head_is, not_within}
 

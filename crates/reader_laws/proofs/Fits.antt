@@ -1,12 +1,12 @@
 -- The laws fit a grammar with brackets, a choice and a repetition: its readers are exact at each limit. What a
 -- wrong depth and a wrong set would say is false.
-use Rattle.std.proofs.Common.{◌≡◌, ℕ, zero, suc, ◌+◌, ◌<◌, ◌≤◌, List, [], ◌∷◌, ◌++◌, Bool, true, false, ◌||◌, ◌==◌, if◌then◌else◌, ◌⊎◌, inl, inr, refl, sym, ap, ◌∙◌, subst, append-nil, arith}
+use Rattle.std.proofs.Common.{◌≡◌, ℕ, zero, suc, ◌+◌, ◌<◌, ◌≤◌, List, [], ◌∷◌, ◌++◌, Bool, true, false, ◌||◌, ◌==◌, if◌then◌else◌, inl, inr, refl, sym, ap, ◌∙◌, subst, append-nil, arith}
 use Rattle.std.proofs.lemmas.Bool.Decides.{Decides-eqb}
-use Rattle.reader_laws.specs.Symbols.{Symbol, numbered, Nested, Word, symbols_of, is_member}
-use Rattle.reader_laws.specs.Readers.{Reader, Answer, Found, Refused, TooDeep, ◌>>=◌, ◌>>◌, ◌<$>◌, symbol, many}
+use Rattle.reader_laws.specs.Symbols.{Symbol, numbered, Nested, Word, is_member}
+use Rattle.reader_laws.specs.Readers.{Reader, Answer, Found, Refused, ◌<$>◌, symbol, many}
 use Rattle.reader_laws.specs.Languages.{Language, ◌⋅◌, Leaf, Quoted, Many, Then, Or, Pure, Image, Begins, Inhabited}
-use Rattle.reader_laws.specs.Sets.{Sets, are_disjoint, one_kind, repeat_sets}
-use Rattle.reader_laws.specs.Exact.{AllWithin, Reads, Exact, Rule}
+use Rattle.reader_laws.specs.Sets.{Sets, are_disjoint, one_kind}
+use Rattle.reader_laws.specs.Exact.{Reads, Exact, Rule}
 use Rattle.reader_laws.specs.Faults.{Derives, Verdict}
 use Rattle.reader_laws.specs.Example as kind
 use Rattle.reader_laws.specs.Example.{bracketed, value, range, more_range, ranges}
@@ -17,7 +17,7 @@ use Rattle.reader_laws.specs.declared.example.Range.{Range}
 use Rattle.reader_laws.specs.declared.example.Range.TheVariants.{One, Between}
 use Rattle.reader_laws.proofs.Answers.{deep_found}
 use Rattle.reader_laws.proofs.Depths.{BeginsTooDeep, exact_too_deep}
-use Rattle.reader_laws.proofs.Rules.{read, give, seq, or, to, same, is, list}
+use Rattle.reader_laws.proofs.Rules.{read, give, seq, or, to, is, list}
 use Rattle.reader_laws.proofs.Verdicts.{verdict}
 use Rattle.reader_laws.proofs.OneTree.{one_tree}
 

@@ -1,15 +1,10 @@
 -- A function of what a reader finds.
-use Rattle.std.proofs.Common.{◌≡◌, ℕ, zero, suc, ◌+◌, ◌<◌, ◌≤◌, List, [], ◌∷◌, ◌++◌, length, Bool, true, false, if◌then◌else◌, ◌==◌, ◌&&◌, ◌⊎◌, Option, Some, None, inl, inr, refl, sym, ap, ◌∙◌, subst, append_assoc, append-nil, arith, length-append}
-use Rattle.std.proofs.lemmas.Bool.Decides.{Decides-eqb}
-use Rattle.std.proofs.lemmas.List.{append_cancel_right}
-use Rattle.reader_laws.specs.Symbols.{Symbol, numbered, Nested, Word, symbols_of, is_member, next_kind}
-use Rattle.reader_laws.specs.Readers.{Answer, Found, Refused, TooDeep, Reader, read_on, ◌>>=◌, pure, refuse, symbol, by_next, given, too_deep, ◌<$>◌}
-use Rattle.reader_laws.specs.Languages.{Language, Leaf, Empty, Then, Or, Pure, Image, Given, Begins, Inhabited}
-use Rattle.reader_laws.specs.Sets.{Sets, Starts, Stops, are_disjoint, is_subset, when, one_kind, no_kind, then_sets, or_sets, covers}
-use Rattle.reader_laws.specs.Exact.{AllWithin, RefusesWell, SinksWell, Reads, Steady, Exact}
-use Rattle.reader_laws.proofs.Answers.{refused_found, deep_found, deep_refused, found_is}
-use Rattle.reader_laws.proofs.KindSets.{true_false, both, is_member-left, is_member-right, is_member-append, is_subset-is_member, are_disjoint-is_member, is_member-none, are_disjoint-none}
-use Rattle.reader_laws.proofs.Words.{symbols_of-append, regroup}
+use Rattle.std.proofs.Common.{ℕ, List, ◌++◌, inl, inr, sym, ap, ◌∙◌, subst, append-nil}
+use Rattle.reader_laws.specs.Symbols.{Symbol, Word, symbols_of}
+use Rattle.reader_laws.specs.Readers.{Answer, Reader, read_on, pure, ◌<$>◌}
+use Rattle.reader_laws.specs.Languages.{Language, Pure, Image}
+use Rattle.reader_laws.specs.Sets.{Sets}
+use Rattle.reader_laws.specs.Exact.{Reads, Steady, Exact}
 use Rattle.reader_laws.proofs.Renamings.{steady_as}
 use Rattle.reader_laws.proofs.Sequences.{steady_then}
 use Rattle.reader_laws.proofs.Singles.{steady_pure, inhabited_pure}

@@ -1,7 +1,7 @@
 -- From a reader's verdict to the answer for a whole list.
-use Rattle.std.proofs.Common.{◌≡◌, ℕ, suc, ◌-◌, ◌<◌, List, [], ◌∷◌, length, Result, Ok, Err, subst, ap, arith}
-use Rattle.reader_laws.specs.Symbols.{Symbol, numbered}
-use Rattle.reader_laws.specs.Readers.{Answer, Found, Refused, TooDeep}
+use Rattle.std.proofs.Common.{◌≡◌, ℕ, suc, ◌-◌, ◌<◌, List, [], ◌∷◌, Result, Ok, Err, subst, ap, arith}
+use Rattle.reader_laws.specs.Symbols.{Symbol}
+use Rattle.reader_laws.specs.Readers.{Answer}
 use Rattle.reader_laws.specs.Languages.{Language}
 use Rattle.reader_laws.specs.Faults.{Verdict}
 use Rattle.reader_laws.specs.Gives.{Gives}

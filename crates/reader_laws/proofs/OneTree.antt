@@ -1,12 +1,12 @@
 -- A list of kinds has at most one tree, however deep.
-use Rattle.std.proofs.Common.{◌≡◌, ℕ, zero, suc, ◌+◌, ◌<◌, ◌≤◌, List, [], ◌∷◌, ◌++◌, length, Bool, true, false, ◌⊎◌, inl, inr, refl, sym, ap, ◌∙◌, arith, append-nil, subst}
-use Rattle.reader_laws.specs.Symbols.{Symbol, numbered, Nested, Word, symbols_of, is_member}
-use Rattle.reader_laws.specs.Readers.{Answer, Found, TooDeep, Reader}
+use Rattle.std.proofs.Common.{◌≡◌, ℕ, ◌+◌, ◌≤◌, List, [], ◌∷◌, false, inl, inr, sym, ap, ◌∙◌, arith}
+use Rattle.reader_laws.specs.Symbols.{Word, symbols_of, is_member}
+use Rattle.reader_laws.specs.Readers.{Reader}
 use Rattle.reader_laws.specs.Languages.{Language}
 use Rattle.reader_laws.specs.Sets.{Sets}
 use Rattle.reader_laws.specs.Exact.{AllWithin, Reads, Rule}
 use Rattle.reader_laws.specs.Faults.{Derives}
-use Rattle.reader_laws.proofs.Answers.{deep_found, found_is}
+use Rattle.reader_laws.proofs.Answers.{found_is}
 use Rattle.reader_laws.proofs.Words.{not_within}
 use Rattle.reader_laws.proofs.Verdicts.{on_word}
 

@@ -1,15 +1,11 @@
 -- The same words under another name, and larger sets.
-use Rattle.std.proofs.Common.{◌≡◌, ℕ, zero, suc, ◌+◌, ◌<◌, ◌≤◌, List, [], ◌∷◌, ◌++◌, length, Bool, true, false, if◌then◌else◌, ◌==◌, ◌&&◌, ◌⊎◌, Option, Some, None, inl, inr, refl, sym, ap, ◌∙◌, subst, append_assoc, append-nil, arith, length-append}
-use Rattle.std.proofs.lemmas.Bool.Decides.{Decides-eqb}
-use Rattle.std.proofs.lemmas.List.{append_cancel_right}
-use Rattle.reader_laws.specs.Symbols.{Symbol, numbered, Nested, Word, symbols_of, is_member, next_kind}
-use Rattle.reader_laws.specs.Readers.{Answer, Found, Refused, TooDeep, Reader, read_on, ◌>>=◌, pure, refuse, symbol, by_next, given, too_deep, ◌<$>◌}
-use Rattle.reader_laws.specs.Languages.{Language, Leaf, Empty, Then, Or, Pure, Image, Given, Begins, Inhabited}
-use Rattle.reader_laws.specs.Sets.{Sets, Starts, Stops, are_disjoint, is_subset, when, one_kind, no_kind, then_sets, or_sets, covers}
-use Rattle.reader_laws.specs.Exact.{AllWithin, RefusesWell, SinksWell, Reads, Steady, Exact}
-use Rattle.reader_laws.proofs.Answers.{refused_found, deep_found, deep_refused, found_is}
-use Rattle.reader_laws.proofs.KindSets.{true_false, both, is_member-left, is_member-right, is_member-append, is_subset-is_member, are_disjoint-is_member, is_member-none, are_disjoint-none}
-use Rattle.reader_laws.proofs.Words.{symbols_of-append, regroup}
+use Rattle.std.proofs.Common.{◌≡◌, ℕ, List, [], ◌∷◌, ◌++◌, true, if◌then◌else◌, ◌&&◌, ◌⊎◌, inl, inr, subst}
+use Rattle.reader_laws.specs.Symbols.{Symbol, Word, next_kind}
+use Rattle.reader_laws.specs.Readers.{Reader}
+use Rattle.reader_laws.specs.Languages.{Language, Begins}
+use Rattle.reader_laws.specs.Sets.{Sets, Starts, is_subset, covers}
+use Rattle.reader_laws.specs.Exact.{RefusesWell, SinksWell, Steady, Exact}
+use Rattle.reader_laws.proofs.KindSets.{both, is_subset-is_member, is_member-none}
 
 -- larger languages: what begins a word of the smaller one begins one of these
 pub begins_as : {A : Type 0} {L M : A → Language} → ((a : A) (w : Word) → L a w → M a w) → (front : List Symbol) → Begins L front → Begins M front

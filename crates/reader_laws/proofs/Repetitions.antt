@@ -1,12 +1,12 @@
 -- Repetition, which each item may end, and repetition of items that never do.
-use Rattle.std.proofs.Common.{◌≡◌, ℕ, zero, suc, ◌+◌, ◌<◌, ◌≤◌, List, [], ◌∷◌, ◌++◌, length, Bool, true, false, if◌then◌else◌, ◌⊎◌, inl, inr, refl, sym, ap, ◌∙◌, subst, arith, length-append}
+use Rattle.std.proofs.Common.{◌≡◌, ℕ, zero, suc, ◌+◌, ◌≤◌, List, [], ◌∷◌, ◌++◌, length, Bool, true, false, if◌then◌else◌, ◌⊎◌, inl, inr, refl, sym, ap, ◌∙◌, subst, arith, length-append}
 use Rattle.reader_laws.specs.Symbols.{Symbol, Nested, Word, symbols_of, is_member, next_kind}
-use Rattle.reader_laws.specs.Readers.{Answer, Found, Refused, TooDeep, Reader, read_on, ◌>>=◌, pure, by_next, ◌<$>◌, step, repeat_for, repeat, many}
+use Rattle.reader_laws.specs.Readers.{Answer, Found, Refused, TooDeep, Reader, read_on, ◌>>=◌, pure, step, repeat_for, repeat, many}
 use Rattle.reader_laws.specs.Languages.{Language, Then, Or, Pure, Image, Next, Repeated, Inhabited}
 use Rattle.reader_laws.specs.Sets.{Sets, Starts, Stops, are_disjoint, is_subset, repeat_sets}
 use Rattle.reader_laws.specs.Exact.{AllWithin, Reads, Steady, Exact}
 use Rattle.reader_laws.proofs.KindSets.{true_false, is_member-append, is_subset-is_member, are_disjoint-is_member}
-use Rattle.reader_laws.proofs.Words.{symbols_of-append, regroup, length-symbols_of}
+use Rattle.reader_laws.proofs.Words.{regroup, length-symbols_of}
 use Rattle.reader_laws.proofs.Renamings.{steady_as}
 use Rattle.reader_laws.proofs.Singles.{steady_pure, exact_pure, inhabited_pure}
 use Rattle.reader_laws.proofs.Sequences.{steady_then, reads_then}

@@ -1,11 +1,10 @@
 -- Rules, made of rules: each condition is an equation of sets that computes.
-use Rattle.std.proofs.Common.{◌≡◌, ℕ, ◌≤◌, List, [], ◌∷◌, ◌++◌, length, Bool, true, false, ◌⊎◌, Option, inl, inr, refl, sym, ap, ◌∙◌, subst, append_assoc, ◌+◌}
-use Rattle.reader_laws.specs.Symbols.{Symbol, numbered, Word, symbols_of, is_member}
-use Rattle.reader_laws.specs.Readers.{Reader, ◌>>=◌, pure, symbol, by_next, given, ◌<$>◌, repeat, many}
-use Rattle.reader_laws.specs.Languages.{Language, Leaf, Many, Then, Or, Pure, Image, Given, Repeated, Begins, Inhabited}
+use Rattle.std.proofs.Common.{◌≡◌, ℕ, ◌≤◌, List, [], ◌∷◌, true, false, ◌⊎◌, inl, inr, refl, sym, subst}
+use Rattle.reader_laws.specs.Symbols.{Word, is_member}
+use Rattle.reader_laws.specs.Readers.{Reader, ◌>>=◌, pure, symbol, by_next, ◌<$>◌, repeat, many}
+use Rattle.reader_laws.specs.Languages.{Language, Leaf, Many, Then, Or, Pure, Image, Repeated}
 use Rattle.reader_laws.specs.Sets.{Sets, are_disjoint, is_subset, one_kind, no_kind, then_sets, or_sets, repeat_sets, covers}
 use Rattle.reader_laws.specs.Exact.{Exact, Rule}
-use Rattle.reader_laws.proofs.Words.{symbols_of-append, numbered-append}
 use Rattle.reader_laws.proofs.Renamings.{exact_as, exact_in, begins_as}
 use Rattle.reader_laws.proofs.Singles.{exact_pure, exact_symbol, inhabited_pure, inhabited_leaf}
 use Rattle.reader_laws.proofs.Sequences.{exact_then, begins_then}

@@ -1,10 +1,10 @@
 -- One reader and then the one that its value names.
-use Rattle.std.proofs.Common.{◌≡◌, ℕ, ◌+◌, ◌<◌, ◌≤◌, List, [], ◌∷◌, ◌++◌, length, Bool, true, false, ◌&&◌, ◌⊎◌, inl, inr, refl, sym, ap, ◌∙◌, subst, append_assoc}
-use Rattle.reader_laws.specs.Symbols.{Symbol, numbered, Nested, Word, symbols_of, is_member, next_kind}
+use Rattle.std.proofs.Common.{◌≡◌, ℕ, ◌+◌, List, [], ◌∷◌, ◌++◌, length, true, false, ◌&&◌, ◌⊎◌, inl, inr, refl, sym, ap, ◌∙◌, subst, append_assoc}
+use Rattle.reader_laws.specs.Symbols.{Symbol, numbered, Word, symbols_of, is_member, next_kind}
 use Rattle.reader_laws.specs.Readers.{Answer, Found, Refused, TooDeep, Reader, read_on, ◌>>=◌}
 use Rattle.reader_laws.specs.Languages.{Language, Then, Begins, Inhabited}
 use Rattle.reader_laws.specs.Sets.{Sets, Starts, Stops, are_disjoint, when, then_sets}
-use Rattle.reader_laws.specs.Exact.{AllWithin, RefusesWell, SinksWell, Reads, Steady, Exact}
+use Rattle.reader_laws.specs.Exact.{RefusesWell, SinksWell, Reads, Steady, Exact}
 use Rattle.reader_laws.proofs.Answers.{refused_found, deep_found, deep_refused}
 use Rattle.reader_laws.proofs.KindSets.{is_member-left, is_member-right, is_member-append, are_disjoint-is_member}
 use Rattle.reader_laws.proofs.Words.{symbols_of-append, regroup, numbered-append, AllWithin-append}

@@ -1,14 +1,12 @@
 -- The readers of nothing and of one symbol.
-use Rattle.std.proofs.Common.{◌≡◌, ℕ, zero, suc, ◌+◌, ◌<◌, ◌≤◌, List, [], ◌∷◌, ◌++◌, length, Bool, true, false, if◌then◌else◌, ◌==◌, ◌&&◌, ◌||◌, ◌⊎◌, Option, Some, None, inl, inr, refl, sym, ap, ◌∙◌, subst, append_assoc, append-nil, arith, length-append}
+use Rattle.std.proofs.Common.{◌≡◌, ℕ, ◌≤◌, List, [], ◌∷◌, ◌++◌, Bool, true, false, if◌then◌else◌, ◌==◌, ◌||◌, Option, Some, None, inl, inr, refl, sym, ap, ◌∙◌, subst}
 use Rattle.std.proofs.lemmas.Bool.Decides.{Decides-eqb}
-use Rattle.std.proofs.lemmas.List.{append_cancel_right}
-use Rattle.reader_laws.specs.Symbols.{Symbol, numbered, Nested, Word, symbols_of, is_member, next_kind}
-use Rattle.reader_laws.specs.Readers.{Answer, Found, Refused, TooDeep, Reader, read_on, ◌>>=◌, pure, refuse, symbol, by_next, given, too_deep, ◌<$>◌}
-use Rattle.reader_laws.specs.Languages.{Language, Leaf, Empty, Then, Or, Pure, Image, Given, Begins, Inhabited}
-use Rattle.reader_laws.specs.Sets.{Sets, Starts, Stops, are_disjoint, is_subset, when, one_kind, no_kind, then_sets, or_sets, covers}
-use Rattle.reader_laws.specs.Exact.{AllWithin, RefusesWell, SinksWell, Reads, Steady, Exact}
+use Rattle.reader_laws.specs.Symbols.{Symbol, Word, symbols_of}
+use Rattle.reader_laws.specs.Readers.{Answer, Found, Refused, TooDeep, Reader, pure, refuse, symbol, given}
+use Rattle.reader_laws.specs.Languages.{Language, Leaf, Pure, Given, Inhabited}
+use Rattle.reader_laws.specs.Sets.{Sets, one_kind, no_kind}
+use Rattle.reader_laws.specs.Exact.{AllWithin, RefusesWell, Steady, Exact}
 use Rattle.reader_laws.proofs.Answers.{refused_found, deep_found, deep_refused, found_is, same_rest}
-use Rattle.reader_laws.proofs.KindSets.{true_false, both, is_member-left, is_member-right, is_member-append, is_subset-is_member, are_disjoint-is_member, is_member-none, are_disjoint-none}
 use Rattle.reader_laws.proofs.Words.{no_growth}
 
 pub steady_pure : {A : Type 0} (c : A) → Steady (Pure c) (pure c)

@@ -1,5 +1,5 @@
 -- The turns of a loop that reads items.
-use Rattle.std.proofs.Common.{◌≡◌, ℕ, zero, suc, ◌+◌, ◌-◌, ◌<◌, ◌≤◌, List, [], ◌∷◌, ◌++◌, Bool, true, false, if◌then◌else◌, ◌⊎◌, inl, inr, refl, ap, ◌∙◌, sym, arith, append_assoc, append-nil, Result, Err}
+use Rattle.std.proofs.Common.{◌≡◌, ℕ, suc, ◌+◌, ◌-◌, ◌<◌, ◌≤◌, List, [], ◌∷◌, ◌++◌, Bool, true, false, if◌then◌else◌, ◌⊎◌, inl, refl, ap, ◌∙◌, sym, arith, append_assoc, append-nil, Err}
 use Rattle.reader_laws.specs.Symbols.{Symbol, is_member, next_kind}
 use Rattle.reader_laws.specs.Readers.{Answer, Found, Refused, TooDeep, Reader, read_on, pure, ◌<$>◌, step, repeat_for}
 use Rattle.reader_laws.specs.Gives.{Gives, behind}

@@ -1,12 +1,12 @@
 -- An exact reader gives the right verdict on a list of kinds.
-use Rattle.std.proofs.Common.{◌≡◌, ℕ, zero, suc, ◌+◌, ◌<◌, ◌≤◌, List, [], ◌∷◌, ◌++◌, length, Bool, true, false, ◌⊎◌, inl, inr, refl, sym, ap, ◌∙◌, subst, append_assoc, append-nil, arith, length-append}
+use Rattle.std.proofs.Common.{◌≡◌, ℕ, suc, ◌+◌, ◌<◌, List, [], ◌∷◌, ◌++◌, length, false, ◌⊎◌, inl, inr, refl, sym, ap, ◌∙◌, subst, append_assoc, append-nil, arith}
 use Rattle.std.proofs.lemmas.List.{append_cancel_right}
 use Rattle.reader_laws.specs.Symbols.{Symbol, numbered, Nested, Word, symbols_of, is_member}
 use Rattle.reader_laws.specs.Readers.{Answer, Found, Refused, TooDeep, Reader}
 use Rattle.reader_laws.specs.Languages.{Language, Begins}
-use Rattle.reader_laws.specs.Sets.{Sets, Stops}
-use Rattle.reader_laws.specs.Exact.{AllWithin, Reads, Steady, Exact, Rule}
-use Rattle.reader_laws.specs.Faults.{Derives, DerivesWithin, IsBeginning, NoneGoesOn, IsFirstFault, SinksAt, IsFirstTooDeep, IsUnexpected, Verdict}
+use Rattle.reader_laws.specs.Sets.{Sets}
+use Rattle.reader_laws.specs.Exact.{AllWithin, Reads, Rule}
+use Rattle.reader_laws.specs.Faults.{IsBeginning, IsFirstFault, SinksAt, IsFirstTooDeep, Verdict}
 use Rattle.reader_laws.proofs.Answers.{refused_found, deep_found, deep_refused}
 use Rattle.reader_laws.proofs.Words.{symbols_of-append, length-symbols_of, numbered-append, length-numbered, numbered-split, head_is, not_within}
 

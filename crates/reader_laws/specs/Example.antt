@@ -4,7 +4,6 @@
 --     value  = number | "(" value ")" .
 -- The depth at a token is the number of brackets that are open there, itself included.
 use Rattle.std.specs.Prelude.{ℕ, zero, suc, List, [], ◌∷◌}
-use Rattle.reader_laws.specs.Readers.{Reader, ◌>>=◌, ◌>>◌, ◌<$>◌, pure, symbol, by_next, many, too_deep}
 use Rattle.reader_laws.specs.Languages.{Language, ◌⋅◌, Leaf, Quoted, Many}
 use Rattle.reader_laws.specs.declared.example.Value.{Value}
 use Rattle.reader_laws.specs.declared.example.Range.{Range}

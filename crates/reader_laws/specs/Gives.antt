@@ -1,7 +1,7 @@
 -- What a function that reads ensures.
 use Rattle.std.specs.Prelude.{◌≡◌, List, Result, Ok, Err, ◌++◌}
 use Rattle.reader_laws.specs.Symbols.{Symbol}
-use Rattle.reader_laws.specs.Readers.{Answer, Found, Refused, TooDeep, Reader, read_on, pure}
+use Rattle.reader_laws.specs.Readers.{Answer, Found, Refused, TooDeep, read_on, pure}
 use Rattle.reader_laws.specs.declared.fault.Fault.{Fault}
 use Rattle.reader_laws.specs.declared.fault.Fault.TheVariants as fault
 

@@ -1,7 +1,7 @@
 -- Languages of words: a rule of a grammar is one for each value, with the words that this value derives.
 use Rattle.std.specs.Prelude.{◌≡◌, ℕ, List, [], ◌∷◌, ◌++◌, ◌⊎◌, Option, Some, None}
 use Rattle.std.proofs.Common.{inl, inr}
-use Rattle.reader_laws.specs.Symbols.{Symbol, numbered, Nested, Word, symbols_of}
+use Rattle.reader_laws.specs.Symbols.{Symbol, numbered, Word, symbols_of}
 
 abbrev pub Language : Type 1
 Language = Word → Type 0

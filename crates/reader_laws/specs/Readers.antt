@@ -1,5 +1,5 @@
 -- Readers of symbols, and the combinators that they are made of.
-use Rattle.std.specs.Prelude.{ℕ, zero, suc, List, [], ◌∷◌, length, Bool, true, false, if◌then◌else◌, ◌==◌, ◌⊎◌, Option, Some, None}
+use Rattle.std.specs.Prelude.{ℕ, zero, suc, List, [], ◌∷◌, length, if◌then◌else◌, ◌==◌, ◌⊎◌, Option, Some, None}
 use Rattle.std.proofs.Common.{inl, inr}
 use Rattle.reader_laws.specs.Symbols.{Symbol, next_kind, is_member}
 

@@ -1,5 +1,5 @@
 -- The answer for a whole list.
-use Rattle.std.specs.Prelude.{◌≡◌, ℕ, List, [], ◌∷◌, length, Result, Ok, Err}
+use Rattle.std.specs.Prelude.{ℕ, List, [], ◌∷◌, length, Result, Ok, Err}
 use Rattle.reader_laws.specs.Symbols.{Symbol}
 use Rattle.reader_laws.specs.Languages.{Language}
 use Rattle.reader_laws.specs.Faults.{DerivesWithin, IsUnexpected, IsFirstTooDeep}

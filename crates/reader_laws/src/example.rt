@@ -134,11 +134,11 @@ pub fn parse(alloc: Global, kinds: &[u8], limit: u32) -> Result<Items<Range>, Re
 mod tests {
     use super::*;
 
-    fn summary(answer: &Result<Items<Range>, Refusal>) -> (u8, u32) {
+    fn summary(answer: &Result<Items<Range>, Refusal>) -> (u8, usize) {
         match answer {
-            Ok(found) => (0, found.len() as u32),
-            Err(Refusal::Unexpected(place)) => (1, *place),
-            Err(Refusal::TooDeep(place)) => (2, *place),
+            Ok(found) => (0, found.len()),
+            Err(Refusal::Unexpected(place)) => (1, *place as usize),
+            Err(Refusal::TooDeep(place)) => (2, *place as usize),
             Err(Refusal::OutOfMemory) => (3, 0),
         }
     }
@@ -146,7 +146,7 @@ mod tests {
     // the number of ranges after 0, the place of a fault after 1, and of what is too deep after 2
     #[test]
     fn lists_have_their_ranges_or_their_first_fault(rt: HostRuntime) {
-        let cases: [(&[u8], u32, (u8, u32)); 12] = [
+        let cases: [(&[u8], u32, (u8, usize)); 12] = [
             (&[1], 0, (0, 1)),
             (&[1, 4, 1], 0, (0, 1)),
             (&[1, 5, 1, 4, 1], 0, (0, 2)),

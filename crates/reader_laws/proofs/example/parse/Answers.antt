@@ -3,7 +3,6 @@ use Rattle.reader_laws.specs.Example as spec
 use Rattle.reader_laws.specs.ExampleReaders as reader
 use Rattle.reader_laws.specs.Symbols.{numbered}
 use Rattle.reader_laws.specs.Gives.{Gives}
-use Rattle.reader_laws.specs.Settled.{Judged}
 use Rattle.reader_laws.proofs.Judging.{judged}
 use Rattle.reader_laws.proofs.Fits.{right}
 use Rattle.reader_laws.proofs.example.parse.Goals as goal

@@ -1,6 +1,6 @@
-use Rattle.std.proofs.Common.{◌≡◌, [], ◌∷◌, ◌++◌, true, false, Result, Ok, Err, sym, ap, ◌∙◌, subst}
+use Rattle.std.proofs.Common.{◌≡◌, true, false, Err, sym, ◌∙◌, subst}
 use Rattle.std.proofs.lemmas.Result.{err_from_is_err_and}
-use Rattle.reader_laws.specs.Symbols.{is_member, next_kind}
+use Rattle.reader_laws.specs.Symbols.{is_member}
 use Rattle.reader_laws.specs.Gives.{Gives}
 use Rattle.reader_laws.proofs.Turns.{turn_ends, turn_found, turn_fault}
 use Rattle.reader_laws.proofs.repetition.read_more.Goals as goal
