@@ -1,11 +1,10 @@
 -- What the lexer reads at the front of a list of characters: a value, and the characters after it.
-use Rattle.std.specs.Prelude.{◌≡◌, ℕ, ◌+◌, ◌*◌, ◌^◌, Bool, true, false, ◌&&◌, ◌||◌, not, ◌==◌, nat_le, nat_lt, min, zero, suc, ℤ, pos, List, [], ◌∷◌, map, Option, Some, None, if◌then◌else◌}
+use Rattle.std.specs.Prelude.{ℕ, ◌+◌, ◌*◌, ◌^◌, Bool, true, false, ◌&&◌, ◌||◌, not, ◌==◌, nat_le, nat_lt, min, zero, suc, pos, List, [], ◌∷◌, Option, Some, None, if◌then◌else◌}
 use Rattle.std.specs.Char.{to_ascii_lowercase, digit_value}
 use Rattle.unicode.specs.CaseFolding.{simple_fold}
 use Rattle.unicode_ident.specs.Ident.{is_xid_start, is_xid_continue}
 use Rattle.ada_base.specs.declared.token.Kind.{Kind}
 use Rattle.ada_base.specs.declared.token.Kind.TheVariants.{Ident, Word, Number, Text, Letter, Real, Mark, End}
-use Rattle.ada_lexer.specs.declared.found.Found.TheVariants as Found
 use Rattle.ada_lexer.specs.declared.found.Found.TheVariants.{Other}
 use Rattle.ada_lexer.specs.declared.found.Found.{Found}
 use Rattle.ada_tree.specs.Characters.{is_control, is_digit, is_underscore, is_white}

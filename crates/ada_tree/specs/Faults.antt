@@ -1,5 +1,5 @@
 -- The first lexical fault of a text.
-use Rattle.std.specs.Prelude.{◌≡◌, ◌≢◌, ◌<◌, ◌≤◌, ℕ, ◌+◌, ◌^◌, ℤ, pos, ◌<ℤ◌, List, [], ◌∷◌, ◌++◌, length, drop, take, All, encode_utf8_all}
+use Rattle.std.specs.Prelude.{◌≡◌, ◌≢◌, ◌<◌, ◌≤◌, ℕ, ◌+◌, ◌^◌, pos, ◌<ℤ◌, List, ◌++◌, length, drop, take, All, encode_utf8_all}
 use Rattle.std.specs.Str.{IsUtf8, StartsWithNoChar, chars}
 use Rattle.ada_base.specs.declared.place.Place.{Place}
 use Rattle.ada_base.specs.declared.token.Kind.{Kind}
