@@ -1,5 +1,5 @@
 -- What `lex` answers, for each text that has tokens or a fault.
-use Rattle.std.proofs.Common.{◌≡◌, inl, inr, ℕ, List, Some, Result, Ok, Err, refl, sym, ap}
+use Rattle.std.proofs.Common.{inl, inr, ℕ, List, Some, Result, Ok, Err, refl, ap}
 use Rattle.std.specs.Prelude.{MatchResult}
 use Rattle.ada_base.specs.declared.token.Token.{Token}
 use Rattle.ada_base.specs.Tokens.{Tokenized}

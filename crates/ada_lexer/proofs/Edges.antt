@@ -1,5 +1,5 @@
 -- Tokens and faults stand at edges of characters.
-use Rattle.std.proofs.Common.{◌≡◌, ◌≢◌, ◌↔◌, ℕ, zero, suc, ◌+◌, ◌-◌, ◌^◌, ◌<◌, ◌≤◌, Bool, true, false, ◌&&◌, List, [], ◌∷◌, ◌++◌, length, take, drop, Option, Some, None, refl, sym, ap, ◌∙◌, subst, append_assoc, arith, length-append, lit<}
+use Rattle.std.proofs.Common.{◌≡◌, ◌↔◌, ℕ, zero, suc, ◌+◌, ◌<◌, ◌≤◌, true, List, [], ◌∷◌, ◌++◌, length, take, drop, refl, sym, ap, ◌∙◌, subst, append_assoc, arith, length-append}
 use Rattle.std.specs.Prelude.{encode_utf8, encode_utf8_all, All, slice_index_or}
 use Rattle.std.specs.Str.{chars, IsUtf8, IsCharBoundary, IsValidUpTo, StartsWithNoChar}
 use Rattle.std.proofs.Math.Utf8.{scalars}
@@ -8,11 +8,10 @@ use Rattle.std.proofs.lemmas.Bool.{and_parts}
 use Rattle.std.proofs.lemmas.List.{take-append-drop, length-take-le}
 use Rattle.std.proofs.lemmas.List.Elements.{All-nil, All-cons, All-append}
 use Rattle.std.proofs.lemmas.Str.{encodes-append, encodes-chars, scalars-chars, IsCharBoundary-at_seam, length-encode, len_utf8_bounds, IsUtf8-append, IsUtf8-encode}
-use Rattle.ada_base.specs.declared.token.Kind.{Kind}
 use Rattle.ada_base.specs.declared.token.Kind.TheVariants.{End}
 use Rattle.ada_base.specs.declared.token.Token.{Token}
-use Rattle.ada_base.specs.Tokens.{Tokenized, LiesIn, EndsOnce, IsWhole}
-use Rattle.ada_tree.specs.Faults.{KeepLimits, BeginsNoCharacter, IsBadToken, IsWideLiteral, IsTooLong, byte_limit, token_limit}
+use Rattle.ada_base.specs.Tokens.{Tokenized, LiesIn, IsWhole}
+use Rattle.ada_tree.specs.Faults.{KeepLimits, BeginsNoCharacter, IsBadToken, IsWideLiteral, IsTooLong, byte_limit}
 use Rattle.ada_lexer.specs.Lexed.{AreLexed}
 use Rattle.ada_tree.specs.Tokens.{Spot, start_of, after, IsNext, AreNext, AreTokens}
 

@@ -1,21 +1,19 @@
 -- A number at the front is found as it is spelled.
-use Rattle.std.proofs.Common.{◌≡◌, ℕ, ℤ, pos, zero, suc, ◌+◌, ◌*◌, ◌^◌, ◌<◌, ◌≤◌, min, Bool, true, false, cond, not, ◌&&◌, ◌||◌, ◌==◌, List, [], ◌∷◌, ◌++◌, length, Option, Some, None, refl, sym, ap, ◌∙◌, subst, append_assoc, arith, length-append, lit≤, ⊎_elim}
+use Rattle.std.proofs.Common.{◌≡◌, ℕ, pos, suc, ◌*◌, ◌^◌, ◌≤◌, Bool, true, false, cond, ◌&&◌, ◌==◌, List, [], ◌∷◌, ◌++◌, length, Option, Some, None, refl, sym, ap, ◌∙◌, subst, append_assoc, arith, length-append, lit≤, ⊎_elim}
 use Rattle.std.proofs.lemmas.List.{append-nil}
-use Rattle.std.proofs.lemmas.Bool.{eqb-true, and_parts, or_parts, or_cases, and_right, true≢false, false_from_ne_true}
+use Rattle.std.proofs.lemmas.Bool.{eqb-true, and_parts, or_cases, and_right, true≢false, false_from_ne_true}
 use Rattle.ada_base.specs.declared.token.Kind.{Kind}
 use Rattle.ada_base.specs.declared.token.Kind.TheVariants.{Number, Real}
 use Rattle.ada_lexer.specs.declared.found.Found.{Found}
-use Rattle.ada_lexer.specs.declared.found.Found.TheVariants as Found
 use Rattle.ada_lexer.specs.declared.found.Found.TheVariants.{Other}
-use Rattle.ada_tree.specs.Numbers.{IsNumeral, IsExponent, IsInteger, IsReal, is_digit_or_underscore, is_exponent_letter, begins_with_digit, value_of}
+use Rattle.ada_tree.specs.Numbers.{IsNumeral, IsExponent, IsInteger, IsReal, is_exponent_letter, begins_with_digit, value_of}
 use Rattle.ada_tree.specs.Numbers.IsExponent.{NoExponent, Exponent}
 use Rattle.ada_tree.specs.Numbers.IsInteger.{Decimal, Based}
 use Rattle.ada_tree.specs.Numbers.IsReal.{RealLiteral}
 use Rattle.ada_tree.specs.Characters.{is_digit}
-use Rattle.ada_tree.specs.Spelling.{IsSpelling}
 use Rattle.ada_lexer.proofs.NumberLaw.{scaled_found, scaled_read, scaled_longest, based_found, based_read, based_longest, real_found, real_read, real_longest}
 use Rattle.ada_lexer.proofs.Numerals.{goes_on, continues, continues_parts, exponent_letter, numeral_found, numeral_read, numeral_longest}
-use Rattle.ada_lexer.proofs.Sound.{found_of, Sound}
+use Rattle.ada_lexer.proofs.Sound.{Sound}
 use Rattle.ada_lexer.specs.Reading.{limited, numeral_at, scaled_at, based_at, real_at, after_numeral, number_at, ◌>>=◌}
 
 -- regrouping of what has a character in the middle, by what follows

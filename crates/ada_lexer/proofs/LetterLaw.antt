@@ -1,22 +1,20 @@
 -- Character literals are read as they are spelled, and what the first characters of tokens are.
-use Rattle.std.proofs.Common.{◌≡◌, ℕ, zero, suc, ◌+◌, ◌<◌, ◌≤◌, Bool, true, false, cond, not, ◌&&◌, ◌||◌, ◌==◌, nat_lt, nat_le, List, [], ◌∷◌, ◌++◌, length, Option, Some, None, slice_get, refl, sym, ap, ◌∙◌, subst, arith, ⊎_elim}
-use Rattle.std.specs.Char.{is_ascii_alphabetic, digit_value}
-use Rattle.std.proofs.lemmas.Bool.{eqb-true, eq-eqb, and_parts, and_from, or_cases, or_parts, or_from, true≢false, le-ltb, ltb-true, not-true, cases_lt, false_from_ne_true, agree_below, agree_below_at, cond_both}
+use Rattle.std.proofs.Common.{◌≡◌, ℕ, suc, ◌<◌, ◌≤◌, Bool, true, false, cond, not, ◌&&◌, ◌||◌, ◌==◌, List, [], ◌∷◌, length, Option, Some, refl, sym, ap, ◌∙◌, arith, ⊎_elim}
+use Rattle.std.specs.Char.{is_ascii_alphabetic}
+use Rattle.std.proofs.lemmas.Bool.{eqb-true, and_parts, or_cases, or_from, true≢false, le-ltb, not-true, cases_lt, false_from_ne_true, agree_below, agree_below_at}
 use Rattle.unicode_ident.specs.Ident.{is_xid_start}
 use Rattle.unicode_ident.proofs.IdentLemmas.{is_xid_start-ascii}
-use Rattle.unicode.specs.GeneralCategory.{general_category}
 use Rattle.ucd_category.proofs.Computing.{ucd_category}
 use Rattle.ada_base.specs.declared.token.Kind.{Kind}
 use Rattle.ada_base.specs.declared.token.Kind.TheVariants.{Letter, Mark}
 use Rattle.ada_lexer.specs.declared.found.Found.{Found}
 use Rattle.ada_lexer.specs.declared.found.Found.TheVariants.{Other}
 use Rattle.ada_tree.specs.Characters.{is_control, is_digit, is_letter_or_digit, is_underscore}
-use Rattle.ada_tree.specs.Numbers.{is_exponent_letter, is_digit_or_underscore}
-use Rattle.ada_tree.specs.Spelling.{IsSpelling, IsLetter, admits_letter}
-use Rattle.ada_tree.specs.Words.{marks}
+use Rattle.ada_tree.specs.Numbers.{is_exponent_letter}
+use Rattle.ada_tree.specs.Spelling.{admits_letter}
 use Rattle.ada_lexer.proofs.MarkLaw.{tick_mark}
 use Rattle.ada_lexer.proofs.Numerals.{some_pair, continues}
-use Rattle.ada_lexer.proofs.Sound.{found_of, Sound}
+use Rattle.ada_lexer.proofs.Sound.{Sound}
 use Rattle.ada_lexer.specs.Reading.{letter_at}
 
 digit_below : (c : ℕ) → is_digit 10 c ≡ true → c < 128

@@ -1,22 +1,21 @@
 -- Marks and character literals are read as they are spelled.
-use Rattle.std.proofs.Common.{◌≡◌, ℕ, zero, suc, ◌+◌, ◌<◌, ◌≤◌, Bool, true, false, cond, not, ◌&&◌, ◌||◌, ◌==◌, nat_lt, nat_le, List, [], ◌∷◌, ◌++◌, length, Option, Some, None, slice_get, refl, sym, ap, ◌∙◌, subst, append_assoc, arith, length-append, add-zero, zero-add, ⊎_elim}
+use Rattle.std.proofs.Common.{◌≡◌, ℕ, zero, suc, ◌+◌, ◌≤◌, Bool, true, false, cond, not, ◌&&◌, ◌||◌, ◌==◌, nat_lt, nat_le, List, [], ◌∷◌, ◌++◌, length, Option, Some, None, slice_get, refl, sym, ap, ◌∙◌, arith, length-append, add-zero, zero-add, ⊎_elim}
 use Rattle.std.specs.List.{list_all}
 use Rattle.std.specs.Char.{is_ascii_alphabetic}
 use Rattle.std.proofs.lemmas.List.{nil_from_length}
-use Rattle.std.proofs.lemmas.Bool.{eqb-true, eq-eqb, and_parts, and_from, or_cases, true≢false, leb-true, ltb-true, false_from_ne_true, not-true}
+use Rattle.std.proofs.lemmas.Bool.{eqb-true, eq-eqb, and_parts, or_cases, true≢false, leb-true, ltb-true, not-true}
 use Rattle.unicode_ident.specs.Ident.{is_xid_start}
 use Rattle.unicode_ident.proofs.IdentLemmas.{is_xid_start-ascii}
 use Rattle.ada_base.specs.declared.token.Kind.{Kind}
-use Rattle.ada_base.specs.declared.token.Kind.TheVariants.{Letter, Mark}
+use Rattle.ada_base.specs.declared.token.Kind.TheVariants.{Mark}
 use Rattle.ada_lexer.specs.declared.found.Found.{Found}
 use Rattle.ada_lexer.specs.declared.found.Found.TheVariants.{Other}
-use Rattle.ada_tree.specs.Characters.{is_control, is_digit}
-use Rattle.ada_tree.specs.Spelling.{IsSpelling, IsLetter, admits_letter}
+use Rattle.ada_tree.specs.Characters.{is_digit}
 use Rattle.ada_tree.specs.Words.{marks}
 use Rattle.ada_lexer.proofs.NameLaw.{one_place, distinct}
 use Rattle.ada_lexer.proofs.Numerals.{some_pair}
-use Rattle.ada_lexer.proofs.Sound.{found_of, Sound}
-use Rattle.ada_lexer.specs.Reading.{beyond_text, mark_or, mark_from, mark_at, letter_at}
+use Rattle.ada_lexer.proofs.Sound.{Sound}
+use Rattle.ada_lexer.specs.Reading.{beyond_text, mark_or, mark_from, mark_at}
 
 some_list : {a b : List ℕ} → ◌≡◌ {A = Option (List ℕ)} (Some a) (Some b) → a ≡ b
 some_list h = cc

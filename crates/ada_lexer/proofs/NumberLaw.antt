@@ -1,20 +1,14 @@
 -- Numeric literals are read as they are spelled.
-use Rattle.std.proofs.Common.{◌≡◌, ℕ, ℤ, pos, zero, suc, ◌+◌, ◌*◌, ◌^◌, ◌<◌, ◌≤◌, min, Bool, true, false, cond, not, ◌&&◌, ◌||◌, ◌==◌, nat_lt, nat_le, List, [], ◌∷◌, ◌++◌, length, Option, Some, None, refl, sym, ap, ◌∙◌, subst, append_assoc, arith, length-append, lit≤}
-use Rattle.std.proofs.lemmas.Bool.{eqb-true, and_parts, or_parts, leb-true, and_from, le-leb, le-ltb, or_from, true≢false}
-use Rattle.ada_base.specs.declared.token.Kind.{Kind}
-use Rattle.ada_base.specs.declared.token.Kind.TheVariants.{Number, Real}
+use Rattle.std.proofs.Common.{◌≡◌, ℕ, ◌*◌, ◌^◌, ◌≤◌, Bool, true, false, cond, ◌&&◌, ◌==◌, nat_le, List, [], ◌∷◌, ◌++◌, length, Option, Some, None, refl, sym, ap, ◌∙◌, subst, arith, length-append, lit≤}
+use Rattle.std.proofs.lemmas.Bool.{eqb-true, and_parts, leb-true, and_from, le-leb, le-ltb, or_from, true≢false}
+use Rattle.ada_base.specs.declared.token.Kind.TheVariants.{Real}
 use Rattle.ada_lexer.specs.declared.found.Found.{Found}
-use Rattle.ada_lexer.specs.declared.found.Found.TheVariants as Found
 use Rattle.ada_lexer.specs.declared.found.Found.TheVariants.{Other}
-use Rattle.ada_tree.specs.Numbers.{IsNumeral, IsExponent, IsInteger, IsReal, is_digit_or_underscore, begins_with_digit, value_of}
+use Rattle.ada_tree.specs.Numbers.{IsNumeral, IsExponent, is_digit_or_underscore, value_of}
 use Rattle.ada_tree.specs.Numbers.IsExponent.{NoExponent, Exponent}
-use Rattle.ada_tree.specs.Numbers.IsInteger.{Decimal, Based}
-use Rattle.ada_tree.specs.Numbers.IsReal.{RealLiteral}
-use Rattle.ada_tree.specs.Spelling.{IsSpelling}
-use Rattle.ada_lexer.proofs.Numerals.{some_pair, continues_parts, exponent_letter, goes_on, continues, ReadsNumeral, numeral_found, numeral_read, numeral_longest, ReadsExponent, exponent_found, exponent_read, exponent_longest}
-use Rattle.ada_lexer.proofs.Sound.{found_of, Sound}
+use Rattle.ada_lexer.proofs.Numerals.{some_pair, continues_parts, exponent_letter, goes_on, continues, numeral_found, numeral_read, numeral_longest, exponent_found, exponent_read, exponent_longest}
 use Rattle.ada_lexer.proofs.Values.{scaled-limited}
-use Rattle.ada_lexer.specs.Reading.{limited, numeral_at, exponent_at, scaled, with_power, as_real, scaled_at, beyond_one, based_at, real_at, after_numeral, number_at, ◌>>=◌}
+use Rattle.ada_lexer.specs.Reading.{limited, numeral_at, exponent_at, scaled, with_power, as_real, scaled_at, beyond_one, based_at, real_at, ◌>>=◌}
 
 pub record ReadsScaled (base n : ℕ) (found : Found) (cs rest : List ℕ) : Type 0 where
   pub tail : List ℕ

@@ -1,15 +1,14 @@
 -- Numerals and exponents are read as they are spelled.
-use Rattle.std.proofs.Common.{◌≡◌, ℕ, zero, suc, ◌+◌, ◌*◌, ◌^◌, ◌<◌, ◌≤◌, min, Bool, true, false, cond, not, ◌&&◌, ◌||◌, ◌==◌, nat_lt, List, [], ◌∷◌, ◌++◌, length, Option, Some, None, refl, sym, ap, ◌∙◌, subst, append_assoc, arith, length-append, lit≤, ⊎_elim}
+use Rattle.std.proofs.Common.{◌≡◌, ℕ, suc, ◌≤◌, Bool, true, false, cond, ◌&&◌, ◌||◌, ◌==◌, List, [], ◌∷◌, ◌++◌, length, Option, Some, None, refl, sym, ap, ◌∙◌, append_assoc, arith, length-append, lit≤, ⊎_elim}
 use Rattle.std.specs.List.{list_all}
-use Rattle.std.specs.Char.{digit_value}
-use Rattle.std.proofs.lemmas.Bool.{eqb-true, and_parts, or_from, or_parts, or_cases, and_right, false_from_ne_true, cond_both, true≢false}
-use Rattle.ada_tree.specs.Characters.{is_digit, is_underscore}
-use Rattle.ada_tree.specs.Numbers.{IsNumeral, IsSign, IsExponent, is_digit_or_underscore, begins_with_digit, underscores_between, value_after, value_of, is_exponent_letter}
+use Rattle.std.proofs.lemmas.Bool.{eqb-true, and_parts, or_parts, or_cases, and_right, false_from_ne_true, true≢false}
+use Rattle.ada_tree.specs.Characters.{is_digit}
+use Rattle.ada_tree.specs.Numbers.{IsNumeral, IsSign, IsExponent, is_digit_or_underscore, begins_with_digit, underscores_between, value_of, is_exponent_letter}
 use Rattle.ada_tree.specs.Numbers.IsSign.{NoSign, Plus, Minus}
 use Rattle.ada_tree.specs.Numbers.IsExponent.{NoExponent, Exponent}
 use Rattle.std.proofs.lemmas.List.{append-nil}
-use Rattle.ada_lexer.proofs.Values.{number_of, scaled-limited}
-use Rattle.ada_lexer.specs.Reading.{run, beyond, wide, limited, number_after, numeral_at, beyond_sign, exponent_at, times, scaled, ◌>>=◌}
+use Rattle.ada_lexer.proofs.Values.{number_of}
+use Rattle.ada_lexer.specs.Reading.{run, beyond, limited, number_after, numeral_at, beyond_sign, exponent_at}
 
 -- the first character passes
 abbrev pub goes_on : (ℕ → Bool) → List ℕ → Bool

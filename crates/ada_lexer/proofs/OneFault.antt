@@ -1,8 +1,8 @@
 -- A text has one first fault at most, and none if it has tokens within the limits.
-use Rattle.std.proofs.Common.{◌≡◌, ◌⊎◌, inl, inr, ⊎_elim, ℕ, ◌+◌, ◌-◌, ◌<◌, ◌≤◌, Bool, true, List, [], ◌∷◌, ◌++◌, length, take, drop, Option, Some, None, Result, Ok, Err, refl, sym, ap, ◌∙◌, subst, arith, length-append, length-drop, append_assoc}
-use Rattle.std.specs.Prelude.{encode_utf8, encode_utf8_all, MatchResult}
+use Rattle.std.proofs.Common.{◌≡◌, ⊎_elim, ℕ, ◌+◌, ◌-◌, ◌<◌, true, List, [], ◌∷◌, ◌++◌, length, take, drop, sym, ap, ◌∙◌, subst, arith, length-drop, append_assoc}
+use Rattle.std.specs.Prelude.{encode_utf8, encode_utf8_all}
 use Rattle.std.specs.Char.{IsScalar}
-use Rattle.std.specs.Str.{IsUtf8, StartsWithNoChar, chars}
+use Rattle.std.specs.Str.{IsUtf8, chars}
 use Rattle.std.proofs.Math.Utf8.{scalars}
 use Rattle.std.proofs.Math.Seq.{take-add, take-append_seam}
 use Rattle.std.proofs.lemmas.Bool.{and_parts, cases_order}
@@ -10,7 +10,7 @@ use Rattle.std.proofs.lemmas.List.{take-append-drop, drop-take, length-take-le}
 use Rattle.std.proofs.lemmas.Str.{IsCharBoundary-from_take, IsUtf8-drop}
 use Rattle.ada_base.specs.declared.token.Token.{Token}
 use Rattle.ada_base.specs.Place.{place_at}
-use Rattle.ada_tree.specs.Faults.{Fault, IsFirstFault, IsReadable, BeginsNoCharacter, KeepLimits, IsBadToken, IsWideLiteral, IsTooLong, byte_limit, token_limit}
+use Rattle.ada_tree.specs.Faults.{Fault, IsFirstFault, IsReadable, BeginsNoCharacter, KeepLimits}
 use Rattle.ada_tree.specs.Faults.Fault.{TooManyBytes, NoCharacter, NoToken, TooWide, TooManyTokens}
 use Rattle.ada_tree.specs.Tokens.{AreTokensOf}
 use Rattle.ada_lexer.proofs.OneList.{one_bad, one_wide, one_long, bad_or_wide, bad_or_long, wide_or_long, tokens_or_bad, tokens_or_wide, tokens_or_long}

@@ -1,5 +1,5 @@
 -- A text has one token list at most, and one first fault at most, and not both.
-use Rattle.std.proofs.Common.{◌≡◌, ◌≢◌, ◌⊎◌, inl, inr, ⊎_elim, ℕ, ℤ, pos, negsuc, ◌+◌, ◌<◌, ◌≤◌, Bool, true, false, List, [], ◌∷◌, ◌++◌, length, Option, Some, None, refl, sym, ap, ◌∙◌, subst, arith, length-append, append_assoc}
+use Rattle.std.proofs.Common.{◌≡◌, ◌≢◌, ◌⊎◌, inl, inr, ℕ, pos, ◌+◌, ◌<◌, ◌≤◌, Bool, true, false, List, [], ◌∷◌, ◌++◌, length, Option, Some, refl, sym, ap, ◌∙◌, subst, arith, length-append}
 use Rattle.std.specs.Prelude.{encode_utf8_all, All}
 use Rattle.std.proofs.lemmas.List.Elements.{All-nil, All-cons, All-head, All-tail}
 use Rattle.ada_base.specs.declared.token.Kind.{Kind}
@@ -7,11 +7,10 @@ use Rattle.ada_base.specs.declared.token.Kind.TheVariants.{Ident, Word, Number, 
 use Rattle.ada_base.specs.declared.token.Token.{Token}
 use Rattle.ada_lexer.specs.declared.found.Found.{Found}
 use Rattle.ada_lexer.specs.declared.found.Found.TheVariants.{Other}
-use Rattle.ada_lexer.specs.declared.found.Found.TheVariants as Found
 use Rattle.ada_tree.specs.Faults.{IsNarrow, KeepLimits, Reaches, HasNoNext, IsBadToken, IsWideLiteral, IsTooLong, token_limit}
 use Rattle.ada_tree.specs.Gaps.{IsGap}
 use Rattle.ada_tree.specs.Numbers.{IsInteger}
-use Rattle.ada_tree.specs.Spelling.{IsSpelling, IsTokenAt, admits_letter}
+use Rattle.ada_tree.specs.Spelling.{IsSpelling, admits_letter}
 use Rattle.ada_tree.specs.Tokens.{Spot, start_of, after, IsNext, AreNext, AreTokens}
 use Rattle.ada_lexer.proofs.Blank.{skips}
 use Rattle.ada_lexer.proofs.MarkLaw.{same_front}

@@ -1,11 +1,11 @@
 -- Tokens one after another.
-use Rattle.std.proofs.Common.{◌≡◌, ◌≢◌, ℕ, ◌+◌, ◌<◌, ◌≤◌, Bool, true, false, List, [], ◌∷◌, ◌++◌, length, Option, Some, None, refl, sym, ap, ◌∙◌, subst, arith, length-append, true≢false}
-use Rattle.std.specs.Prelude.{encode_utf8_all, All}
+use Rattle.std.proofs.Common.{◌≡◌, ◌≢◌, ℕ, ◌+◌, true, List, [], ◌∷◌, ◌++◌, length, Option, Some, refl, sym, ap, ◌∙◌, subst, arith, length-append, true≢false}
+use Rattle.std.specs.Prelude.{encode_utf8_all}
 use Rattle.std.proofs.lemmas.List.Elements.{All-push}
 use Rattle.ada_base.specs.declared.token.Kind.{Kind}
 use Rattle.ada_base.specs.declared.token.Kind.TheVariants.{End}
 use Rattle.ada_base.specs.declared.token.Token.{Token}
-use Rattle.ada_tree.specs.Faults.{IsNarrow, KeepLimits, Reaches, HasNoNext, IsBadToken, IsWideLiteral, IsTooLong, token_limit, byte_limit}
+use Rattle.ada_tree.specs.Faults.{IsNarrow, KeepLimits, Reaches, token_limit}
 use Rattle.ada_tree.specs.Spelling.{can_follow}
 use Rattle.ada_tree.specs.Tokens.{Spot, start_of, after, IsNext, AreNext, AreTokens}
 use Rattle.ada_lexer.proofs.Spots.{bytes_parts}

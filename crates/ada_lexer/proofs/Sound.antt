@@ -1,9 +1,8 @@
 -- What is found is spelled so.
-use Rattle.std.proofs.Common.{◌≡◌, ℕ, ℤ, pos, negsuc, List, ◌++◌, Option}
+use Rattle.std.proofs.Common.{◌≡◌, ℕ, pos, negsuc, List, ◌++◌, Option}
 use Rattle.ada_base.specs.declared.token.Kind.{Kind}
 use Rattle.ada_base.specs.declared.token.Kind.TheVariants.{Ident, Word, Number, Text, Letter, Real, Mark, End}
 use Rattle.ada_lexer.specs.declared.found.Found.{Found}
-use Rattle.ada_lexer.specs.declared.found.Found.TheVariants as Found
 use Rattle.ada_lexer.specs.declared.found.Found.TheVariants.{Other}
 use Rattle.ada_tree.specs.Spelling.{IsSpelling}
 use Rattle.ada_lexer.specs.Reading.{limited}

@@ -1,5 +1,5 @@
 -- Bytes before and between tokens.
-use Rattle.std.proofs.Common.{◌≡◌, ℕ, ℤ, pos, negsuc, ◌^◌, ◌+◌, ◌-◌, ◌<◌, ◌≤◌, Bool, true, false, cond, nat_lt, List, [], ◌∷◌, ◌++◌, length, take, drop, Option, Some, None, refl, sym, ap, ◌∙◌, subst, arith, length-append, ⊎_elim}
+use Rattle.std.proofs.Common.{◌≡◌, ℕ, pos, ◌^◌, ◌+◌, ◌<◌, ◌≤◌, Bool, false, List, ◌++◌, length, take, drop, Option, Some, None, refl, sym, ap, ◌∙◌, subst, arith, length-append, ⊎_elim}
 use Rattle.std.specs.Prelude.{encode_utf8_all, MatchOption, ◌<ℤ◌}
 use Rattle.std.proofs.lemmas.List.{take-append-drop}
 use Rattle.std.proofs.lemmas.Str.{encodes-append}
@@ -14,9 +14,9 @@ use Rattle.ada_tree.specs.Faults.{IsNarrow}
 use Rattle.ada_tree.specs.Tokens.{IsNext}
 use Rattle.ada_tree.specs.Gaps.{IsGap}
 use Rattle.ada_tree.specs.Spelling.{IsSpelling, IsTokenAt, admits_letter}
-use Rattle.ada_lexer.proofs.Blank.{Blank, blank}
+use Rattle.ada_lexer.proofs.Blank.{blank}
 use Rattle.ada_lexer.proofs.Sound.{found_of}
-use Rattle.ada_lexer.proofs.TokenLaw.{FoundToken, token_found, token_read}
+use Rattle.ada_lexer.proofs.TokenLaw.{token_found, token_read}
 use Rattle.ada_lexer.specs.Reading.{beyond_gap, token_at, kept, limited, wide}
 use Rattle.ada_lexer.specs.Stop.{SkipsGap, TakesToken, spot_at}
 

@@ -1,5 +1,5 @@
 -- Loops over the tables of reserved words and of marks.
-use Rattle.std.proofs.Common.{◌≡◌, ℕ, zero, suc, ◌+◌, ◌≤◌, Bool, true, false, cond, List, [], ◌∷◌, length, drop, Option, Some, None, slice_get, refl, sym, ap, ◌∙◌, add-one, arith, rules}
+use Rattle.std.proofs.Common.{◌≡◌, ℕ, zero, suc, ◌+◌, ◌≤◌, true, false, List, [], ◌∷◌, length, drop, Some, None, slice_get, refl, add-one}
 use Rattle.std.proofs.Math.ListN.{drop_of_length-le}
 use Rattle.ada_tree.specs.Words.{words, marks}
 use Rattle.ada_lexer.specs.Reading.{same_by, number_from, beyond_text, mark_from, mark_or}

@@ -1,25 +1,24 @@
 -- A token is found exactly where one stands.
-use Rattle.std.proofs.Common.{◌≡◌, ◌≢◌, ℕ, ℤ, pos, negsuc, zero, suc, ◌+◌, ◌<◌, ◌≤◌, Bool, true, false, cond, not, ◌&&◌, ◌||◌, ◌==◌, List, [], ◌∷◌, ◌++◌, length, Option, Some, None, slice_get, refl, sym, ap, ◌∙◌, subst, append_assoc, arith, length-append, lit<}
-use Rattle.std.proofs.lemmas.Bool.{eqb-true, eq-eqb, and_parts, or_parts, true≢false, not-true, not-false, false_from_ne_true}
-use Rattle.unicode_ident.specs.Ident.{is_xid_start, is_xid_continue}
+use Rattle.std.proofs.Common.{◌≡◌, ℕ, pos, negsuc, ◌≤◌, Bool, true, false, cond, ◌||◌, ◌==◌, List, [], ◌∷◌, ◌++◌, length, Option, Some, None, slice_get, refl, sym, ap, ◌∙◌, append_assoc, arith, length-append, lit<}
+use Rattle.std.proofs.lemmas.Bool.{eqb-true, or_parts, true≢false, not-true}
+use Rattle.unicode_ident.specs.Ident.{is_xid_start}
 use Rattle.unicode_ident.proofs.IdentLemmas.{is_xid_start-ascii}
 use Rattle.ada_base.specs.declared.token.Kind.{Kind}
 use Rattle.ada_base.specs.declared.token.Kind.TheVariants.{Ident, Word, Number, Text, Letter, Real, Mark, End}
 use Rattle.ada_lexer.specs.declared.found.Found.{Found}
-use Rattle.ada_lexer.specs.declared.found.Found.TheVariants as Found
 use Rattle.ada_lexer.specs.declared.found.Found.TheVariants.{Other}
 use Rattle.ada_tree.specs.Characters.{is_control, is_digit, is_letter_or_digit, is_underscore}
 use Rattle.ada_tree.specs.Numbers.{IsInteger, IsReal, IsNumeral, begins_with_digit}
 use Rattle.ada_tree.specs.Numbers.IsInteger.{Decimal, Based}
 use Rattle.ada_tree.specs.Numbers.IsReal.{RealLiteral}
-use Rattle.ada_tree.specs.Spelling.{IsSpelling, IsIdentifier, IsQuoted, IsTokenAt, begins_identifier, admits_letter, runs_on, can_follow}
+use Rattle.ada_tree.specs.Spelling.{IsSpelling, IsTokenAt, admits_letter, runs_on, can_follow}
 use Rattle.ada_tree.specs.Words.{marks}
 use Rattle.ada_lexer.proofs.IntegerLaw.{number_found, integer_longest, integer_read, real_spelled_longest, real_spelled_read}
 use Rattle.ada_lexer.proofs.LetterLaw.{digit_no_letter, number_ends, letter_found, letter_read, letter_shorter, tick_read}
 use Rattle.ada_lexer.proofs.MarkLaw.{BeginsMark, mark_found, mark_longest, mark_read, begins_mark, no_empty_mark, tick_number}
 use Rattle.ada_lexer.proofs.NameLaw.{name_found, name_longest, identifier_read, word_read}
 use Rattle.ada_lexer.proofs.Numerals.{some_pair, goes_on, continues}
-use Rattle.ada_lexer.proofs.QuotedLaw.{is_quote, text_found, text_longest, text_read}
+use Rattle.ada_lexer.proofs.QuotedLaw.{text_found, text_longest, text_read}
 use Rattle.ada_lexer.proofs.Sound.{found_of, Sound}
 use Rattle.ada_lexer.specs.Reading.{limited, name_at, number_at, beyond_quoted, text_or_none, letter_at, mark_at, candidate_at, kind_found, unless_run_on, token_at, ◌>>=◌}
 

@@ -1,6 +1,6 @@
 -- A value that is kept up to a limit is the value, up to that limit.
-use Rattle.std.proofs.Common.{◌≡◌, ℕ, zero, suc, ◌+◌, ◌*◌, ◌^◌, ◌<◌, ◌≤◌, min, Bool, true, false, cond, ◌⊎◌, ⊎_elim, List, [], ◌∷◌, refl, sym, ap, ◌∙◌, arith, zero-mul, add-zero, lit≤}
-use Rattle.std.proofs.Math.Nat.{mul-suc, pow-zero, pow-succ', mul-one, mul_assoc, mul-le-mul, mul-le-mul_left, pow-le-pow_left, min-eq_left, min-eq_right, pow-le-pow_right, mul-le-mul_right, one-mul, le_refl}
+use Rattle.std.proofs.Common.{◌≡◌, ℕ, zero, suc, ◌+◌, ◌*◌, ◌^◌, ◌<◌, ◌≤◌, min, Bool, true, false, cond, ⊎_elim, List, [], ◌∷◌, refl, sym, ap, ◌∙◌, arith, zero-mul, add-zero, lit≤}
+use Rattle.std.proofs.Math.Nat.{pow-zero, pow-succ', mul-one, mul_assoc, mul-le-mul, mul-le-mul_left, pow-le-pow_left, min-eq_left, min-eq_right, pow-le-pow_right, mul-le-mul_right, one-mul, le_refl}
 use Rattle.std.specs.Char.{digit_value}
 use Rattle.std.proofs.lemmas.Bool.{cases_lt}
 use Rattle.ada_tree.specs.Characters.{is_underscore}

@@ -1,14 +1,13 @@
 -- What the lexer reads at the front of a list of characters: a value, and the characters after it.
-use Rattle.std.specs.Prelude.{◌≡◌, ℕ, ◌+◌, ◌*◌, ◌^◌, Bool, true, false, ◌&&◌, ◌||◌, not, ◌==◌, nat_le, nat_lt, min, zero, suc, ℤ, pos, List, [], ◌∷◌, map, Option, Some, None, if◌then◌else◌}
+use Rattle.std.specs.Prelude.{ℕ, ◌+◌, ◌*◌, ◌^◌, Bool, true, false, ◌&&◌, ◌||◌, not, ◌==◌, nat_le, nat_lt, min, zero, suc, pos, List, [], ◌∷◌, Option, Some, None, if◌then◌else◌}
 use Rattle.std.specs.Char.{to_ascii_lowercase, digit_value}
 use Rattle.unicode.specs.CaseFolding.{simple_fold}
 use Rattle.unicode_ident.specs.Ident.{is_xid_start, is_xid_continue}
 use Rattle.ada_base.specs.declared.token.Kind.{Kind}
 use Rattle.ada_base.specs.declared.token.Kind.TheVariants.{Ident, Word, Number, Text, Letter, Real, Mark, End}
-use Rattle.ada_lexer.specs.declared.found.Found.TheVariants as Found
 use Rattle.ada_lexer.specs.declared.found.Found.TheVariants.{Other}
 use Rattle.ada_lexer.specs.declared.found.Found.{Found}
-use Rattle.ada_tree.specs.Characters.{is_control, is_digit, is_underscore, is_white}
+use Rattle.ada_tree.specs.Characters.{is_control, is_digit, is_underscore, is_white, line_feed, plus_sign, hyphen, number_sign, point, quotation_mark, apostrophe}
 use Rattle.ada_tree.specs.Gaps.{begins_comment}
 use Rattle.ada_tree.specs.Numbers.{underscores_between, is_digit_or_underscore, begins_with_digit, is_exponent_letter}
 use Rattle.ada_tree.specs.Spelling.{can_follow}
@@ -26,8 +25,10 @@ beyond p (c ∷ cs) = if p c then beyond p cs else c ∷ cs
 -- what follows white space and comments; `inside` is whether a comment has begun
 abbrev pub beyond_gap : Bool → List ℕ → List ℕ
 beyond_gap inside [] = []
-beyond_gap true (c ∷ cs) = if c == 10 then beyond_gap false cs else beyond_gap true cs
-beyond_gap false (c ∷ cs) = if is_white c then beyond_gap false cs else (if begins_comment (c ∷ cs) then beyond_gap true cs else c ∷ cs)
+beyond_gap true (c ∷ cs) = if c == line_feed then beyond_gap false cs else beyond_gap true cs
+beyond_gap false (c ∷ cs) =
+    if is_white c then beyond_gap false cs
+    else (if begins_comment (c ∷ cs) then beyond_gap true cs else c ∷ cs)
 
 infixl 10 ◌>>=◌
 abbrev pub ◌>>=◌ : {A B : Type 0} → Option A → (A → Option B) → Option B
@@ -44,22 +45,26 @@ limited n = min n wide
 -- the number after further digits
 abbrev pub number_after : ℕ → ℕ → List ℕ → ℕ
 number_after base n [] = n
-number_after base n (c ∷ cs) = if is_underscore c then number_after base n cs else number_after base (limited (n * base + digit_value c)) cs
+number_after base n (c ∷ cs) =
+    if is_underscore c then number_after base n cs else number_after base (limited (n * base + digit_value c)) cs
 
 -- a numeral and its value
 unfoldable pub numeral_at : ℕ → List ℕ → Option (ℕ × List ℕ)
 numeral_at base cs =
     let digits = run (is_digit_or_underscore base) cs in
-    if begins_with_digit base digits && underscores_between digits then Some (number_after base 0 digits, beyond (is_digit_or_underscore base) cs) else None
+    if begins_with_digit base digits && underscores_between digits
+    then Some (number_after base 0 digits, beyond (is_digit_or_underscore base) cs)
+    else None
 
 abbrev pub beyond_sign : Bool → List ℕ → List ℕ
 beyond_sign minus [] = []
-beyond_sign minus (c ∷ cs) = if (c == 43) || (minus && (c == 45)) then cs else c ∷ cs
+beyond_sign minus (c ∷ cs) = if (c == plus_sign) || (minus && (c == hyphen)) then cs else c ∷ cs
 
 -- an exponent, or none
 unfoldable pub exponent_at : Bool → List ℕ → Option (ℕ × List ℕ)
 exponent_at minus [] = Some (0, [])
-exponent_at minus (c ∷ cs) = if is_exponent_letter c then numeral_at 10 (beyond_sign minus cs) else Some (0, c ∷ cs)
+exponent_at minus (c ∷ cs) =
+    if is_exponent_letter c then numeral_at 10 (beyond_sign minus cs) else Some (0, c ∷ cs)
 
 -- what follows a character, which has to be there
 abbrev pub beyond_one : ℕ → List ℕ → Option (List ℕ)
@@ -86,7 +91,7 @@ scaled_at base n cs = exponent_at false cs >>= with_power base n
 unfoldable pub based_at : ℕ → List ℕ → Option (Found × List ℕ)
 based_at base cs =
     if nat_le 2 base && nat_le base 16
-    then (numeral_at base cs >>= λ x. beyond_one 35 x.1 >>= λ rest. scaled_at base x.0 rest)
+    then (numeral_at base cs >>= λ x. beyond_one number_sign x.1 >>= λ rest. scaled_at base x.0 rest)
     else None
 
 abbrev pub as_real : ℕ × List ℕ → Option (Found × List ℕ)
@@ -99,7 +104,9 @@ real_at cs = numeral_at 10 cs >>= λ x. exponent_at true x.1 >>= as_real
 -- the rest of a numeric literal that begins with this number
 unfoldable pub after_numeral : ℕ → List ℕ → Option (Found × List ℕ)
 after_numeral n [] = scaled_at 10 n []
-after_numeral n (c ∷ cs) = if c == 35 then based_at n cs else (if (c == 46) && begins_with_digit 10 cs then real_at cs else scaled_at 10 n (c ∷ cs))
+after_numeral n (c ∷ cs) =
+    if c == number_sign then based_at n cs
+    else (if (c == point) && begins_with_digit 10 cs then real_at cs else scaled_at 10 n (c ∷ cs))
 
 unfoldable pub number_at : List ℕ → Option (Found × List ℕ)
 number_at cs = numeral_at 10 cs >>= λ x. after_numeral x.0 x.1
@@ -109,7 +116,7 @@ number_at cs = numeral_at 10 cs >>= λ x. after_numeral x.0 x.1
 abbrev pub beyond_quoted : Bool → List ℕ → Option (List ℕ)
 beyond_quoted ended [] = if ended then Some [] else None
 beyond_quoted ended (c ∷ cs) =
-    if c == 34 then beyond_quoted (not ended) cs
+    if c == quotation_mark then beyond_quoted (not ended) cs
     else (if ended then Some (c ∷ cs) else (if is_control c then None else beyond_quoted false cs))
 
 -- the same characters, after a change of the first ones
@@ -172,7 +179,9 @@ mark_at cs = mark_from cs 0 marks
 abbrev pub letter_at : Bool → List ℕ → Option (Found × List ℕ)
 letter_at admitted [] = Some (Other (Mark 11), [])
 letter_at admitted (c ∷ []) = Some (Other (Mark 11), c ∷ [])
-letter_at admitted (c ∷ d ∷ cs) = if admitted && ((d == 39) && not (is_control c)) then Some (Other Letter, cs) else Some (Other (Mark 11), c ∷ d ∷ cs)
+letter_at admitted (c ∷ d ∷ cs) =
+    if admitted && ((d == apostrophe) && not (is_control c)) then Some (Other Letter, cs)
+    else Some (Other (Mark 11), c ∷ d ∷ cs)
 
 abbrev pub text_or_none : Option (List ℕ) → Option (Found × List ℕ)
 text_or_none None = None
@@ -184,8 +193,8 @@ candidate_at admitted [] = Some (Other End, [])
 candidate_at admitted (c ∷ cs) =
     if is_xid_start c then name_at (c ∷ cs)
     else (if is_digit 10 c then number_at (c ∷ cs)
-    else (if c == 34 then text_or_none (beyond_quoted false cs)
-    else (if c == 39 then letter_at admitted cs
+    else (if c == quotation_mark then text_or_none (beyond_quoted false cs)
+    else (if c == apostrophe then letter_at admitted cs
     else mark_at (c ∷ cs))))
 
 -- its kind, but for the value of a number

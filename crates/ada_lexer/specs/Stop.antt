@@ -22,7 +22,8 @@ pub record SkipsGap (characters after : List ℕ) (bytes : ℕ) : Type 0 where
   pub whole : bytes + length (encode_utf8_all after) ≡ length (encode_utf8_all characters)
 
 -- a token of so many bytes stands at the front, and its kind is told unless its value is too wide
-pub record TakesToken (before : Option Kind) (characters : List ℕ) (told : Option Kind) (bytes : ℕ) (rest : List ℕ) : Type 0 where
+pub record TakesToken (before : Option Kind) (characters : List ℕ) (told : Option Kind) (bytes : ℕ)
+    (rest : List ℕ) : Type 0 where
   pub kind : Kind
   pub slice : List ℕ
   pub parts : characters ≡ slice ++ rest
@@ -32,14 +33,18 @@ pub record TakesToken (before : Option Kind) (characters : List ℕ) (told : Opt
   pub whole : bytes + length (encode_utf8_all rest) ≡ length (encode_utf8_all characters)
 
 abbrev pub Takes : Option Kind → List ℕ → Option (Option Kind × ℕ × Bor (List ℕ)) → Type 0
-Takes before characters None = (kind : Kind) (slice rest : List ℕ) → characters ≡ slice ++ rest → IsTokenAt before kind slice rest → ⊥
+Takes before characters None =
+    (kind : Kind) (slice rest : List ℕ) → characters ≡ slice ++ rest → IsTokenAt before kind slice rest → ⊥
 Takes before characters (Some found) = TakesToken before characters found.0 found.1 found.2.now
 
 -- a token that stands next after a place and can be kept, and the rest; or why there is none
 abbrev pub Stands : Spot → Result (Token × Bor (List ℕ)) Stop → Type 0
 Stands spot (Ok found) = IsNext spot found.0 found.1.now × IsNarrow found.0.kind
-Stands spot (Err (BadToken at)) = (gap : List ℕ) × HasNoNext spot gap × (at ≡ spot.at + length (encode_utf8_all gap))
-Stands spot (Err (WideLiteral at)) = (token : Token) × (rest : List ℕ) × IsNext spot token rest × (IsNarrow token.kind → ⊥) × (at ≡ token.span.start)
+Stands spot (Err (BadToken at)) =
+    (gap : List ℕ) × HasNoNext spot gap × (at ≡ spot.at + length (encode_utf8_all gap))
+Stands spot (Err (WideLiteral at)) =
+    (token : Token) × (rest : List ℕ) × IsNext spot token rest × (IsNarrow token.kind → ⊥)
+    × (at ≡ token.span.start)
 Stands spot (Err (TooLong at)) = ⊥
 Stands spot (Err OutOfMemory) = ⊥
 

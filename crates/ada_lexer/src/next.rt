@@ -27,7 +27,8 @@ fn byte_length(characters: &[char]) -> usize
 fn bytes_before(characters: &[char], rest: &[char]) -> usize
     requires shorter { length rest.now ≤ length characters.now }
     requires small { length (encode_utf8_all characters.now) ≤ byte_limit }
-    ensures { (front : List ℕ) → characters.now ≡ front ++ rest.now → result ≡ length (encode_utf8_all front) }
+    ensures { (front : List ℕ) → characters.now ≡ front ++ rest.now
+        → result ≡ length (encode_utf8_all front) }
 {
     byte_length(&characters[..characters.len() - rest.len()])
 }

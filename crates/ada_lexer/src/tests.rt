@@ -46,6 +46,20 @@ fn lexed(alloc: Global, text: &[u8]) -> Result<String, AllocError> {
     Ok(shown)
 }
 
+// Lexes the text of each row, up to ⇒, and compares what comes with what stands after it. Each row ends at ¶.
+// Gives the number of rows.
+fn check(rt: &impl Abort, alloc: Global, table: &str) -> Result<u32, AllocError> {
+    let mut rows: u32 = 0;
+    for row in table.split('¶') {
+        if let Some((text, want)) = row.split_once('⇒') {
+            let came = lexed(alloc, text.as_bytes())?;
+            assert_eq!(rt; came.as_str(), want, "at {text}");
+            rows = rows.saturating_add(1);
+        }
+    }
+    Ok(rows)
+}
+
 #[test]
 fn each_mark_has_its_number(rt: HostRuntime) -> Result<(), AllocError> {
     let text = "=> .. ** := /= >= <= << >> <> & ' ( ) * + , - . / : ; < = > | [ ] @";
@@ -53,25 +67,20 @@ fn each_mark_has_its_number(rt: HostRuntime) -> Result<(), AllocError> {
         "m0 m1 m2 m3 m4 m5 m6 m7 m8 m9 m10 m11 m12 m13 m14 m15 m16 m17 m18 m19 m20 m21 m22 m23 \
          m24 m25 m26 m27 m28 end";
     assert_eq!(rt; lexed(rt.alloc(), text.as_bytes())?.as_str(), want);
-    for (text, want) in [
-        ("****", "m2 m2 end"),
-        ("***", "m2 m14 end"),
-        ("=>=", "m0 m23 end"),
-        (":=>", "m3 m24 end"),
-        ("...", "m1 m18 end"),
-        ("<<>", "m7 m24 end"),
-        ("<>>", "m9 m24 end"),
-        (">>=", "m8 m23 end"),
-        ("/==", "m4 m23 end"),
-        ("-=-", "m17 m23 m17 end"),
-        ("|&|", "m25 m10 m25 end"),
-    ] {
-        assert_eq!(rt;
-            lexed(rt.alloc(), text.as_bytes())?.as_str(),
-            want,
-            "at {text}"
-        );
-    }
+    let table = "\
+        ****⇒m2 m2 end¶\
+        ***⇒m2 m14 end¶\
+        =>=⇒m0 m23 end¶\
+        :=>⇒m3 m24 end¶\
+        ...⇒m1 m18 end¶\
+        <<>⇒m7 m24 end¶\
+        <>>⇒m9 m24 end¶\
+        >>=⇒m8 m23 end¶\
+        /==⇒m4 m23 end¶\
+        -=-⇒m17 m23 m17 end¶\
+        |&|⇒m25 m10 m25 end¶\
+        ";
+    assert_eq!(rt; check(&rt, rt.alloc(), table)?, 11);
     Ok(())
 }
 
@@ -109,240 +118,204 @@ fn each_word_has_its_number_in_any_case(rt: HostRuntime) -> Result<(), AllocErro
 
 #[test]
 fn numbers_have_their_values(rt: HostRuntime) -> Result<(), AllocError> {
-    for (text, want) in [
-        ("0", "0 end"),
-        ("007", "7 end"),
-        ("1_000_000", "1000000 end"),
-        ("1E3", "1000 end"),
-        ("1e+3", "1000 end"),
-        ("12E0_1", "120 end"),
-        ("5E0", "5 end"),
-        ("0E999999999", "0 end"),
-        ("2#1010#", "10 end"),
-        ("3#12#", "5 end"),
-        ("16#FF#", "255 end"),
-        ("16#fF#e+1", "4080 end"),
-        ("16#F_F#", "255 end"),
-        ("16#E#E1", "224 end"),
-        ("1_6#a#", "10 end"),
-        ("016#F#", "15 end"),
-        ("10#99#", "99 end"),
-        ("2#1#E10", "1024 end"),
-        ("2#1#E126", "85070591730234615865843651857942052864 end"),
-        ("17E37", "170000000000000000000000000000000000000 end"),
-        (
-            "170141183460469231731687303715884105727",
-            "170141183460469231731687303715884105727 end",
-        ),
-        (
-            "16#7FFF_FFFF_FFFF_FFFF_FFFF_FFFF_FFFF_FFFF#",
-            "170141183460469231731687303715884105727 end",
-        ),
-        ("170141183460469231731687303715884105728", "wide 1:1"),
-        ("16#8000_0000_0000_0000_0000_0000_0000_0000#", "wide 1:1"),
-        ("340282366920938463463374607431768211456", "wide 1:1"),
-        ("2#1#E127", "wide 1:1"),
-        ("2#1#E128", "wide 1:1"),
-        ("1E39", "wide 1:1"),
-        ("171E36", "wide 1:1"),
-        ("1E999999999", "wide 1:1"),
-        ("1E340282366920938463463374607431768211456", "wide 1:1"),
-        ("1..2", "1 m1 2 end"),
-        ("1...2", "1 m1 m18 2 end"),
-        ("1.", "1 m18 end"),
-        ("1.E3", "1 m18 id end"),
-        ("1-1", "1 m17 1 end"),
-        ("2**8", "2 m2 8 end"),
-        ("1.5", "real end"),
-        ("1_0.0_1", "real end"),
-        ("1.5E-3", "real end"),
-        ("1.5e+3", "real end"),
-        ("1.5E3", "real end"),
-        ("1.5..2", "real m1 2 end"),
-        ("1.5.3", "real m18 3 end"),
-    ] {
-        assert_eq!(rt;
-            lexed(rt.alloc(), text.as_bytes())?.as_str(),
-            want,
-            "at {text}"
-        );
-    }
+    let table = "\
+        0⇒0 end¶\
+        007⇒7 end¶\
+        1_000_000⇒1000000 end¶\
+        1E3⇒1000 end¶\
+        1e+3⇒1000 end¶\
+        12E0_1⇒120 end¶\
+        5E0⇒5 end¶\
+        0E999999999⇒0 end¶\
+        2#1010#⇒10 end¶\
+        3#12#⇒5 end¶\
+        16#FF#⇒255 end¶\
+        16#fF#e+1⇒4080 end¶\
+        16#F_F#⇒255 end¶\
+        16#E#E1⇒224 end¶\
+        1_6#a#⇒10 end¶\
+        016#F#⇒15 end¶\
+        10#99#⇒99 end¶\
+        2#1#E10⇒1024 end¶\
+        2#1#E126⇒85070591730234615865843651857942052864 end¶\
+        17E37⇒170000000000000000000000000000000000000 end¶\
+        170141183460469231731687303715884105727⇒170141183460469231731687303715884105727 end¶\
+        16#7FFF_FFFF_FFFF_FFFF_FFFF_FFFF_FFFF_FFFF#⇒170141183460469231731687303715884105727 end¶\
+        170141183460469231731687303715884105728⇒wide 1:1¶\
+        16#8000_0000_0000_0000_0000_0000_0000_0000#⇒wide 1:1¶\
+        340282366920938463463374607431768211456⇒wide 1:1¶\
+        2#1#E127⇒wide 1:1¶\
+        2#1#E128⇒wide 1:1¶\
+        1E39⇒wide 1:1¶\
+        171E36⇒wide 1:1¶\
+        1E999999999⇒wide 1:1¶\
+        1E340282366920938463463374607431768211456⇒wide 1:1¶\
+        1..2⇒1 m1 2 end¶\
+        1...2⇒1 m1 m18 2 end¶\
+        1.⇒1 m18 end¶\
+        1.E3⇒1 m18 id end¶\
+        1-1⇒1 m17 1 end¶\
+        2**8⇒2 m2 8 end¶\
+        1.5⇒real end¶\
+        1_0.0_1⇒real end¶\
+        1.5E-3⇒real end¶\
+        1.5e+3⇒real end¶\
+        1.5E3⇒real end¶\
+        1.5..2⇒real m1 2 end¶\
+        1.5.3⇒real m18 3 end¶\
+        ";
+    assert_eq!(rt; check(&rt, rt.alloc(), table)?, 44);
     Ok(())
 }
 
 #[test]
 fn what_is_no_number_is_bad_at_its_start(rt: HostRuntime) -> Result<(), AllocError> {
-    for text in [
-        "1E-3",
-        "1__2",
-        "1_",
-        "12a",
-        "1_a",
-        "1\u{e9}",
-        "1\u{663}",
-        "1#",
-        "16#1.8#",
-        "16#G#",
-        "2#2#",
-        "16##",
-        "16#1",
-        "16#_1#",
-        "16#1_#",
-        "16#1#E",
-        "16#1#E-1",
-        "16#1#1",
-        "16#1##",
-        "0#0#",
-        "1#0#",
-        "17#0#",
-        "1E",
-        "1E+",
-        "1EE1",
-        "1E1_",
-        "1.5E",
-        "1.5E+",
-        "1.5x",
-        "1.5_",
-        "1.5#",
-        "1.5E1E1",
-        "1E999999999x",
-    ] {
-        assert_eq!(rt;
-            lexed(rt.alloc(), text.as_bytes())?.as_str(),
-            "bad 1:1",
-            "at {text}"
-        );
-    }
+    let table = "\
+        1E-3⇒bad 1:1¶\
+        1__2⇒bad 1:1¶\
+        1_⇒bad 1:1¶\
+        12a⇒bad 1:1¶\
+        1_a⇒bad 1:1¶\
+        1\u{e9}⇒bad 1:1¶\
+        1\u{663}⇒bad 1:1¶\
+        1#⇒bad 1:1¶\
+        16#1.8#⇒bad 1:1¶\
+        16#G#⇒bad 1:1¶\
+        2#2#⇒bad 1:1¶\
+        16##⇒bad 1:1¶\
+        16#1⇒bad 1:1¶\
+        16#_1#⇒bad 1:1¶\
+        16#1_#⇒bad 1:1¶\
+        16#1#E⇒bad 1:1¶\
+        16#1#E-1⇒bad 1:1¶\
+        16#1#1⇒bad 1:1¶\
+        16#1##⇒bad 1:1¶\
+        0#0#⇒bad 1:1¶\
+        1#0#⇒bad 1:1¶\
+        17#0#⇒bad 1:1¶\
+        1E⇒bad 1:1¶\
+        1E+⇒bad 1:1¶\
+        1EE1⇒bad 1:1¶\
+        1E1_⇒bad 1:1¶\
+        1.5E⇒bad 1:1¶\
+        1.5E+⇒bad 1:1¶\
+        1.5x⇒bad 1:1¶\
+        1.5_⇒bad 1:1¶\
+        1.5#⇒bad 1:1¶\
+        1.5E1E1⇒bad 1:1¶\
+        1E999999999x⇒bad 1:1¶\
+        ";
+    assert_eq!(rt; check(&rt, rt.alloc(), table)?, 33);
     Ok(())
 }
 
 #[test]
 fn identifiers_in_any_script(rt: HostRuntime) -> Result<(), AllocError> {
-    for (text, want) in [
-        ("a", "id end"),
-        ("X1_y", "id end"),
-        ("Gr\u{f6}\u{df}e", "id end"),
-        ("\u{3a9}\u{3bc}\u{3ad}\u{3b3}\u{3b1}", "id end"),
-        ("e\u{301}", "id end"),
-        ("\u{65e5}\u{672c}", "id end"),
-        ("a\u{b7}b", "id end"),
-        ("\u{212a}", "id end"),
-        ("ranges", "id end"),
-        ("x'range", "id m11 w51 end"),
-        ("x'access", "id m11 w4 end"),
-        ("a__b", "bad 1:1"),
-        ("ab_", "bad 1:1"),
-        ("a_;", "bad 1:1"),
-        ("_a", "bad 1:1"),
-        ("; \u{301}e", "bad 1:3"),
-        ("ab\u{17f}", "bad 1:1"),
-        ("x ta\u{17f}\u{212a}", "bad 1:3"),
-    ] {
-        assert_eq!(rt;
-            lexed(rt.alloc(), text.as_bytes())?.as_str(),
-            want,
-            "at {text}"
-        );
-    }
+    let table = "\
+        a⇒id end¶\
+        X1_y⇒id end¶\
+        Gr\u{f6}\u{df}e⇒id end¶\
+        \u{3a9}\u{3bc}\u{3ad}\u{3b3}\u{3b1}⇒id end¶\
+        e\u{301}⇒id end¶\
+        \u{65e5}\u{672c}⇒id end¶\
+        a\u{b7}b⇒id end¶\
+        \u{212a}⇒id end¶\
+        ranges⇒id end¶\
+        x'range⇒id m11 w51 end¶\
+        x'access⇒id m11 w4 end¶\
+        a__b⇒bad 1:1¶\
+        ab_⇒bad 1:1¶\
+        a_;⇒bad 1:1¶\
+        _a⇒bad 1:1¶\
+        ; \u{301}e⇒bad 1:3¶\
+        ab\u{17f}⇒bad 1:1¶\
+        x ta\u{17f}\u{212a}⇒bad 1:3¶\
+        ";
+    assert_eq!(rt; check(&rt, rt.alloc(), table)?, 18);
     Ok(())
 }
 
 #[test]
 fn strings_end_at_a_single_quotation_mark(rt: HostRuntime) -> Result<(), AllocError> {
-    for (text, want) in [
-        ("\"\"", "text end"),
-        ("\"a\"", "text end"),
-        ("\"a\"\"b\"", "text end"),
-        ("\"\"\"\"", "text end"),
-        ("\"\"\"a\"\"\"", "text end"),
-        ("\"a\" \"b\"", "text text end"),
-        ("\"a\"&\"b\"", "text m10 text end"),
-        ("\"--\"", "text end"),
-        ("\"\u{e9}'\"", "text end"),
-        ("\"", "bad 1:1"),
-        ("x \"ab\n\"", "bad 1:3"),
-        ("x \"ab", "bad 1:3"),
-        ("\"a\"\"b", "bad 1:1"),
-        ("\"\"\"", "bad 1:1"),
-        ("\"a\tb\"", "bad 1:1"),
-        ("\"a\u{85}b\"", "bad 1:1"),
-    ] {
-        assert_eq!(rt;
-            lexed(rt.alloc(), text.as_bytes())?.as_str(),
-            want,
-            "at {text}"
-        );
-    }
+    let table = "\
+        \"\"⇒text end¶\
+        \"a\"⇒text end¶\
+        \"a\"\"b\"⇒text end¶\
+        \"\"\"\"⇒text end¶\
+        \"\"\"a\"\"\"⇒text end¶\
+        \"a\" \"b\"⇒text text end¶\
+        \"a\"&\"b\"⇒text m10 text end¶\
+        \"--\"⇒text end¶\
+        \"\u{e9}'\"⇒text end¶\
+        \"⇒bad 1:1¶\
+        x \"ab\n\"⇒bad 1:3¶\
+        x \"ab⇒bad 1:3¶\
+        \"a\"\"b⇒bad 1:1¶\
+        \"\"\"⇒bad 1:1¶\
+        \"a\tb\"⇒bad 1:1¶\
+        \"a\u{85}b\"⇒bad 1:1¶\
+        ";
+    assert_eq!(rt; check(&rt, rt.alloc(), table)?, 16);
     Ok(())
 }
 
 #[test]
 fn a_character_literal_depends_on_the_token_before(rt: HostRuntime) -> Result<(), AllocError> {
-    for (text, want) in [
-        ("'a'", "letter end"),
-        ("x'a'", "id m11 id m11 end"),
-        ("range'a'", "w51 m11 id m11 end"),
-        ("begin'a'", "w10 letter end"),
-        ("1'a'", "1 letter end"),
-        ("1.5'a'", "real letter end"),
-        ("\"s\"'a'", "text m11 id m11 end"),
-        ("'b''a'", "letter letter end"),
-        (")'a'", "m13 m11 id m11 end"),
-        ("]'a'", "m27 m11 id m11 end"),
-        ("('a')", "m12 letter m13 end"),
-        ("['a']", "m26 letter m27 end"),
-        ("x -- y\n'a'", "id m11 id m11 end"),
-        ("X'Y'Z'", "id m11 id m11 id m11 end"),
-        ("'''", "letter end"),
-        ("''''", "letter m11 end"),
-        ("' '", "letter end"),
-        ("'\"'", "letter end"),
-        ("'\u{e9}'", "letter end"),
-        ("''", "m11 m11 end"),
-        ("'\t'", "m11 m11 end"),
-        ("'ab'", "m11 id m11 end"),
-    ] {
-        assert_eq!(rt;
-            lexed(rt.alloc(), text.as_bytes())?.as_str(),
-            want,
-            "at {text}"
-        );
-    }
+    let table = "\
+        'a'⇒letter end¶\
+        x'a'⇒id m11 id m11 end¶\
+        range'a'⇒w51 m11 id m11 end¶\
+        begin'a'⇒w10 letter end¶\
+        1'a'⇒1 letter end¶\
+        1.5'a'⇒real letter end¶\
+        \"s\"'a'⇒text m11 id m11 end¶\
+        'b''a'⇒letter letter end¶\
+        )'a'⇒m13 m11 id m11 end¶\
+        ]'a'⇒m27 m11 id m11 end¶\
+        ('a')⇒m12 letter m13 end¶\
+        ['a']⇒m26 letter m27 end¶\
+        x -- y\n'a'⇒id m11 id m11 end¶\
+        X'Y'Z'⇒id m11 id m11 id m11 end¶\
+        '''⇒letter end¶\
+        ''''⇒letter m11 end¶\
+        ' '⇒letter end¶\
+        '\"'⇒letter end¶\
+        '\u{e9}'⇒letter end¶\
+        ''⇒m11 m11 end¶\
+        '\t'⇒m11 m11 end¶\
+        'ab'⇒m11 id m11 end¶\
+        ";
+    assert_eq!(rt; check(&rt, rt.alloc(), table)?, 22);
     Ok(())
 }
 
 #[test]
 fn white_space_and_comments_part_tokens(rt: HostRuntime) -> Result<(), AllocError> {
-    for (text, want) in [
-        ("", "end"),
-        (" \t\n\u{b}\u{c}\r", "end"),
-        ("a--b", "id end"),
-        ("--", "end"),
-        ("---", "end"),
-        ("a---b\nc", "id id end"),
-        ("a -- \u{1}\"'\nb", "id id end"),
-        ("-- x\ry\nz", "id end"),
-        ("- -", "m17 m17 end"),
-        ("a-b", "id m17 id end"),
-        ("a\u{a0}b", "bad 1:2"),
-        ("a\u{1}", "bad 1:2"),
-        ("a\u{85}", "bad 1:2"),
-        ("a ?", "bad 1:3"),
-        ("a #", "bad 1:3"),
-        ("$", "bad 1:1"),
-        ("{", "bad 1:1"),
-        ("a\n\t?", "bad 2:2"),
-        ("\u{e9} ?", "bad 1:3"),
-        ("\r\r?", "bad 1:3"),
-        ("-- \u{e9}\n 1E39 ?", "wide 2:2"),
-        ("? 1E39", "bad 1:1"),
-    ] {
-        assert_eq!(rt;
-            lexed(rt.alloc(), text.as_bytes())?.as_str(),
-            want,
-            "at {text}"
-        );
-    }
+    let table = "\
+        ⇒end¶\
+        \x20\t\n\u{b}\u{c}\r⇒end¶\
+        a--b⇒id end¶\
+        --⇒end¶\
+        ---⇒end¶\
+        a---b\nc⇒id id end¶\
+        a -- \u{1}\"'\nb⇒id id end¶\
+        -- x\ry\nz⇒id end¶\
+        - -⇒m17 m17 end¶\
+        a-b⇒id m17 id end¶\
+        a\u{a0}b⇒bad 1:2¶\
+        a\u{1}⇒bad 1:2¶\
+        a\u{85}⇒bad 1:2¶\
+        a ?⇒bad 1:3¶\
+        a #⇒bad 1:3¶\
+        $⇒bad 1:1¶\
+        {⇒bad 1:1¶\
+        a\n\t?⇒bad 2:2¶\
+        \u{e9} ?⇒bad 1:3¶\
+        \r\r?⇒bad 1:3¶\
+        -- \u{e9}\n 1E39 ?⇒wide 2:2¶\
+        ? 1E39⇒bad 1:1¶\
+        ";
+    assert_eq!(rt; check(&rt, rt.alloc(), table)?, 22);
     Ok(())
 }
 
@@ -427,20 +400,17 @@ fn texts_up_to_the_limit_of_bytes(rt: HostRuntime) -> Result<(), AllocError> {
 
 #[test]
 fn texts_up_to_the_limit_of_tokens(rt: HostRuntime) -> Result<(), AllocError> {
-    let mut text = repeated(rt.alloc(), b"x'y;\n", 49_999)?;
-    text.extend_from_slice(b"x;;")?;
+    let mut text = repeated(rt.alloc(), b"(;);\n", 49_999)?;
+    text.extend_from_slice(b"(;;")?;
     assert_eq!(rt; count(rt.alloc(), &text), 200_000);
     text.extend_from_slice(b";")?;
     assert_eq!(rt; count(rt.alloc(), &text), 200_001);
-    text.extend_from_slice(b" ;")?;
+    text.extend_from_slice(b" ;?")?;
     assert_eq!(rt; lexed(rt.alloc(), &text)?.as_str(), "long 200001 50000:6");
-    text.extend_from_slice(b"?")?;
-    assert_eq!(rt; lexed(rt.alloc(), &text)?.as_str(), "long 200001 50000:6");
-    let mut bad = repeated(rt.alloc(), b"; ", 200_000)?;
-    bad.extend_from_slice(b"?")?;
-    assert_eq!(rt; lexed(rt.alloc(), &bad)?.as_str(), "bad 1:400001");
-    let mut wide = repeated(rt.alloc(), b"1 ", 200_000)?;
-    wide.extend_from_slice(b"1E39")?;
-    assert_eq!(rt; lexed(rt.alloc(), &wide)?.as_str(), "wide 1:400001");
+    for (last, want) in [("?", "bad 1:200001"), ("1E39", "wide 1:200001")] {
+        let mut text = repeated(rt.alloc(), b";", 200_000)?;
+        text.extend_from_slice(last.as_bytes())?;
+        assert_eq!(rt; lexed(rt.alloc(), &text)?.as_str(), want);
+    }
     Ok(())
 }

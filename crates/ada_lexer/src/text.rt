@@ -80,7 +80,8 @@ pub fn lex(alloc: Global, text: &[u8]) -> Result<Tokens, LexFault>
     ensures fault { IfErr result (Tells text.now) }
 
     // A text that has tokens within the limits gets them, and one that has a first fault gets that.
-    ensures all_tokens { (items : List Token) → IsReadable text.now → AreTokensOf text.now items → KeepLimits items → GivesTokens result items }
+    ensures all_tokens { (items : List Token) → IsReadable text.now → AreTokensOf text.now items
+        → KeepLimits items → GivesTokens result items }
     ensures all_faults { (first : Fault) → IsFirstFault text.now first → GivesFault result first }
 {
     judge(alloc, text)
@@ -89,7 +90,10 @@ pub fn lex(alloc: Global, text: &[u8]) -> Result<Tokens, LexFault>
 /// A text has at most one token list, at most one first fault, and not both where the tokens are within the
 /// limits.
 pub fn one_answer()
-    ensures tokens { (text : List ℕ) (items others : List Token) → AreTokensOf text items → AreTokensOf text others → items ≡ others }
-    ensures fault { (text : List ℕ) (first other : Fault) → IsFirstFault text first → IsFirstFault text other → first ≡ other }
-    ensures not_both { (text : List ℕ) (items : List Token) (first : Fault) → IsReadable text → AreTokensOf text items → KeepLimits items → IsFirstFault text first → ⊥ }
+    ensures tokens { (text : List ℕ) (items others : List Token) →
+        AreTokensOf text items → AreTokensOf text others → items ≡ others }
+    ensures fault { (text : List ℕ) (first other : Fault) →
+        IsFirstFault text first → IsFirstFault text other → first ≡ other }
+    ensures not_both { (text : List ℕ) (items : List Token) (first : Fault) →
+        IsReadable text → AreTokensOf text items → KeepLimits items → IsFirstFault text first → ⊥ }
 {}

@@ -31,7 +31,9 @@ fn keep(tokens: &mut Vec<Token>, token: Token) -> Result<(), Stop>
 /// The tokens of the characters, or the first fault and its byte.
 pub fn tokens_in(alloc: Global, characters: &[char]) -> Result<Vec<Token>, Stop>
     requires { length (encode_utf8_all characters.now) ≤ byte_limit }
-    ensures { MatchResult result (λ tokens. AreTokens characters.now tokens.items × KeepLimits tokens.items) (StopsAt characters.now) }
+    ensures { MatchResult result
+        (λ tokens. AreTokens characters.now tokens.items × KeepLimits tokens.items)
+        (StopsAt characters.now) }
 {
     let mut tokens = Vec::new(alloc);
     let mut rest = characters;

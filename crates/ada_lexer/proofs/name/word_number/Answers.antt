@@ -1,6 +1,5 @@
 use Rattle.std.proofs.Common.{◌∙◌, sym, arith}
 use Rattle.ada_tree.specs.Words.{words}
-use Rattle.ada_lexer.specs.Case.{change_of}
 use Rattle.ada_lexer.specs.Reading.{word_number}
 use Rattle.ada_lexer.proofs.Tables.{number_found, number_passed, number_none, words_length}
 use Rattle.ada_lexer.proofs.name.word_number.Goals as goal

@@ -1,4 +1,4 @@
-use Rattle.std.proofs.Common.{◌∙◌, subst, arith}
+use Rattle.std.proofs.Common.{◌∙◌}
 use Rattle.std.proofs.lemmas.Str.{encodes-chars}
 use Rattle.ada_lexer.proofs.Edges.{are_whole, are_lexed}
 use Rattle.ada_lexer.proofs.text.text_tokens.Goals as goal

@@ -1,5 +1,5 @@
 use Rattle.std.proofs.Common.{◌+◌, ◌-◌, ◌≤◌, length}
-use Rattle.std.specs.Prelude.{encode_utf8_all, vec_len}
+use Rattle.std.specs.Prelude.{encode_utf8_all}
 use Rattle.ada_tree.specs.Faults.{Reaches, byte_limit}
 use Rattle.ada_lexer.specs.Stop.{spot_at}
 use Rattle.ada_lexer.proofs.tokens.tokens_in.Given as goal
