@@ -4,7 +4,7 @@ use Rattle.std.specs.Option.{option_and_then}
 use Rattle.reader_laws.specs.Symbols.{Word}
 use Rattle.reader_laws.specs.Languages.{Language, Leaf, Image}
 use Rattle.ada_tree.specs.Kinds as kind
-use Rattle.ada_grammar.specs.Layers.{ExprLayer, RelLayer, SimpleLayer, TermLayer, FactorLayer, PrimaryLayer, NameLayer}
+use Rattle.ada_tree.specs.Layers.{ExprLayer, RelLayer, SimpleLayer, TermLayer, FactorLayer, PrimaryLayer, NameLayer}
 use Rattle.ada_grammar.specs.Bare.{rel_of, simple_of, unsigned_of, factor_of, primary_of, name_of, identifier_of, primary_name, factor_name, term_name, bare_name, name_identifier, bare_identifier, rel_identifier, expr_identifier}
 use Rattle.ada_tree.specs.Expressions as of
 use Rattle.ada_tree.specs.Names as named

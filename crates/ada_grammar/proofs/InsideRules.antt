@@ -9,7 +9,7 @@ use Rattle.reader_laws.proofs.Rules.{read, give, seq, or, to, is, list, loop}
 use Rattle.ada_tree.specs.Kinds as kind
 use Rattle.ada_tree.specs.Patterns.{words_of, free, each_after}
 use Rattle.ada_grammar.specs.Opened.{Opened}
-use Rattle.ada_grammar.specs.Layers.{AssocLayer, ManyLayer}
+use Rattle.ada_tree.specs.Layers.{AssocLayer, ManyLayer}
 use Rattle.ada_tree.specs.Names as named
 use Rattle.ada_tree.specs.Spellings as spell
 use Rattle.ada_grammar.specs.ExpressionReaders as base

@@ -7,7 +7,7 @@ use Rattle.reader_laws.specs.Readers.{Reader}
 use Rattle.reader_laws.specs.Sets.{Sets}
 use Rattle.reader_laws.specs.Exact.{Rule}
 use Rattle.reader_laws.proofs.Rules.{same}
-use Rattle.ada_grammar.specs.Layers.{ExprLayer, ConjunctLayer, RelLayer, BoundsLayer, SimpleLayer, AddingLayer, TermLayer, MultiplyingLayer, FactorLayer, PrimaryLayer, IfExprLayer, ElsifLayer, NameLayer, PartLayer, ArgLayer, RangeLayer, ChoiceLayer, AggregateLayer, ManyLayer, OthersValueLayer, AssocLayer, ReductionLayer, ParallelLayer, ChunkLayer, IterLayer}
+use Rattle.ada_tree.specs.Layers.{ExprLayer, ConjunctLayer, RelLayer, BoundsLayer, SimpleLayer, AddingLayer, TermLayer, MultiplyingLayer, FactorLayer, PrimaryLayer, IfExprLayer, ElsifLayer, NameLayer, PartLayer, ArgLayer, RangeLayer, ChoiceLayer, AggregateLayer, ManyLayer, OthersValueLayer, AssocLayer, ReductionLayer, ParallelLayer, ChunkLayer, IterLayer}
 use Rattle.ada_tree.specs.Patterns.{Spelling, words_of}
 use Rattle.ada_tree.specs.Forms.{Joined, ExprForm, ConjunctForm, RelForm, BoundsForm, SimpleForm, AddingForm, TermForm, MultiplyingForm, FactorForm, PrimaryForm, IfExprForm, ElsifForm, NameForm, PartForm, ArgForm, RangeForm, ChoiceForm, AggregateForm, ManyForm, OthersValueForm, AssocForm, ReductionForm, ParallelForm, ChunkForm, IterForm}
 use Rattle.ada_tree.specs.Expressions as of

@@ -8,7 +8,7 @@ use Rattle.reader_laws.specs.Exact.{Rule}
 use Rattle.reader_laws.proofs.Rules.{read, give, seq, or, to, is}
 use Rattle.ada_tree.specs.Kinds as kind
 use Rattle.ada_grammar.specs.Opened.{Opened}
-use Rattle.ada_grammar.specs.Layers.{IterLayer}
+use Rattle.ada_tree.specs.Layers.{IterLayer}
 use Rattle.ada_tree.specs.Names as named
 use Rattle.ada_tree.specs.Spellings as spell
 use Rattle.ada_grammar.specs.ExpressionReaders as base

@@ -18,7 +18,7 @@ use Rattle.ada_grammar.specs.Levels.{levels}
 use Rattle.ada_grammar.specs.ExpressionReaders as base
 use Rattle.ada_grammar.specs.StatementReaders as reader
 use Rattle.ada_grammar.specs.StatementReaders.{stmt_kinds, count_of}
-use Rattle.ada_grammar.specs.Layers.{ChunkLayer}
+use Rattle.ada_tree.specs.Layers.{ChunkLayer}
 use Rattle.ada_tree.specs.declared.expressions.Adding.TheOpen as part
 use Rattle.ada_tree.specs.declared.expressions.Adding.TheViews as parts
 use Rattle.ada_tree.specs.declared.statements.Stmt.TheOpen as layer

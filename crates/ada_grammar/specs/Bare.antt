@@ -8,7 +8,7 @@ use Rattle.ada_tree.specs.declared.expressions.Term.{Term}
 use Rattle.ada_tree.specs.declared.expressions.Factor.{Factor}
 use Rattle.ada_tree.specs.declared.expressions.Primary.{Primary}
 use Rattle.ada_tree.specs.declared.names.Name.{Name}
-use Rattle.ada_grammar.specs.Layers.{ExprLayer, RelLayer, SimpleLayer, TermLayer, FactorLayer, PrimaryLayer, NameLayer}
+use Rattle.ada_tree.specs.Layers.{ExprLayer, RelLayer, SimpleLayer, TermLayer, FactorLayer, PrimaryLayer, NameLayer}
 use Rattle.ada_tree.specs.declared.expressions.Adding.TheOpen as layer
 use Rattle.ada_tree.specs.declared.expressions.Adding.TheViews as views
 

@@ -36,7 +36,7 @@ use Rattle.ada_grammar.specs.declared.readings.Inside.TheVariants as inside'
 use Rattle.ada_grammar.specs.declared.readings.Tail.{Tail}
 use Rattle.ada_grammar.specs.declared.readings.Values.{Values}
 use Rattle.ada_tree.specs.declared.expressions.Adding.TheOpen as layer
-use Rattle.ada_grammar.specs.Layers.{IterLayer}
+use Rattle.ada_tree.specs.Layers.{IterLayer}
 
 -- the reader that a value names, and another where there is none
 abbrev pub choose : {A B : Type 0} → Option A → (A → Reader B) → Reader B → Reader B

@@ -3,7 +3,7 @@ use Rattle.std.specs.Prelude.{ℕ, zero, suc, List, [], ◌∷◌, Option, Some,
 use Rattle.reader_laws.specs.Readers.{Reader, ◌>>=◌, ◌>>◌, ◌<$>◌, pure, symbol, by_next, given, too_deep}
 use Rattle.ada_tree.specs.Kinds as kind
 use Rattle.ada_grammar.specs.Bare.{name_identifier}
-use Rattle.ada_grammar.specs.Layers.{ChunkLayer}
+use Rattle.ada_tree.specs.Layers.{ChunkLayer}
 use Rattle.ada_grammar.specs.Levels.{levels}
 use Rattle.ada_grammar.specs.ExpressionReaders.{items, expr, name}
 use Rattle.ada_grammar.specs.BracketReaders.{choice, next_choice, filter, iter, parallel}

@@ -2,10 +2,12 @@ pub mod Characters
 pub mod Declarations
 pub mod Expressions
 pub mod Faults
+pub mod FirstTokens
 pub mod Forms
 pub mod Gaps
 pub mod Grammar
 pub mod Kinds
+pub mod Layers
 pub mod Names
 pub mod Numbers
 pub mod Patterns
