@@ -1,5 +1,5 @@
 -- A text has one first fault at most, and none if it has tokens within the limits.
-use Rattle.std.proofs.Common.{◌≡◌, ⊎_elim, ℕ, ◌+◌, ◌-◌, ◌<◌, true, List, [], ◌∷◌, ◌++◌, length, take, drop, sym, ap, ◌∙◌, subst, arith, length-drop, append_assoc}
+use Rattle.std.proofs.Common.{◌≡◌, ⊎_elim, ℕ, ◌+◌, ◌-◌, ◌<◌, ◌≤◌, true, List, [], ◌∷◌, ◌++◌, length, take, drop, sym, ap, ◌∙◌, subst, arith, length-drop, append_assoc}
 use Rattle.std.specs.Prelude.{encode_utf8, encode_utf8_all}
 use Rattle.std.specs.Char.{IsScalar}
 use Rattle.std.specs.Str.{IsUtf8, chars}
@@ -37,20 +37,30 @@ readable text at whole none =
     let c = goes_on text at whole none.front none.inside in
     none.nothing c.character c.rest c.scalar c.parts
 
+take_front : (bytes : List ℕ) (n k : ℕ) → n ≤ length bytes → take n (take (n + k) bytes) ≡ take n bytes
+take_front bytes n k short =
+    let size : length (take n bytes) ≡ n = length-take-le n bytes short in
+    ap (take n) (take-add n k bytes) ∙ seam (take n bytes) (take k (drop n bytes)) n size
+  where
+    seam : (xs ys : List ℕ) (m : ℕ) → length xs ≡ m → take m (xs ++ ys) ≡ xs
+    seam xs ys m e = ap (λ j. take j (xs ++ ys)) (sym e) ∙ take-append_seam xs ys
+
+begins_before : (bytes : List ℕ) (k c : ℕ) (rest : List ℕ) → take k bytes ≡ encode_utf8 c ++ rest → bytes ≡ encode_utf8 c ++ (rest ++ drop k bytes)
+begins_before bytes k c rest e = sym (take-append-drop k bytes) ∙ (ap (λ s. s ++ drop k bytes) e ∙ append_assoc (encode_utf8 c) rest (drop k bytes))
+
 -- a later byte can't be the first
+after_first : (text : List ℕ) (at k : ℕ) → 0 < k → BeginsNoCharacter text at → BeginsNoCharacter text (at + k) → ⊥
+after_first text at k some none other =
+    let front : IsUtf8 (take at (take (at + k) text)) = subst IsUtf8 (sym (take_front text at k (omega (arith, none.inside)))) none.front in
+    let long : length (take (at + k) text) ≡ at + k = length-take-le (at + k) text (omega (arith, other.inside)) in
+    let c = goes_on (take (at + k) text) at other.front front (omega (arith, long, some)) in
+    let tail = begins_before (drop at text) k c.character c.rest (sym (drop-take at k text) ∙ c.parts) in
+    none.nothing c.character (c.rest ++ drop k (drop at text)) c.scalar tail
+
 earlier : (text : List ℕ) (at later : ℕ) → at < later → BeginsNoCharacter text at → BeginsNoCharacter text later → ⊥
-earlier text at later below none other = go (later - at) (omega (arith, below)) where
-  go : (k : ℕ) → later ≡ at + k → ⊥
-  go k e =
-      let size : length (take at text) ≡ at = length-take-le at text (omega (arith, none.inside)) in
-      let whole : take later text ≡ take at text ++ take k (drop at text) = ap (λ n. take n text) e ∙ take-add at k text in
-      let front : take at (take later text) ≡ take at text = ap (λ n. take n (take later text)) (sym size) ∙ (ap (take (length (take at text))) whole ∙ take-append_seam (take at text) (take k (drop at text))) in
-      let tail : drop at (take later text) ≡ take k (drop at text) = ap (λ n. drop at (take n text)) e ∙ drop-take at k text in
-      let long : length (take later text) ≡ later = length-take-le later text (omega (arith, other.inside)) in
-      let c = goes_on (take later text) at other.front (subst IsUtf8 (sym front) none.front) (omega (arith, long, below)) in
-      let parts : drop at text ≡ encode_utf8 c.character ++ (c.rest ++ drop k (drop at text)) =
-      sym (take-append-drop k (drop at text)) ∙ (ap (λ s. s ++ drop k (drop at text)) (sym tail ∙ c.parts) ∙ append_assoc (encode_utf8 c.character) c.rest (drop k (drop at text))) in
-      none.nothing c.character (c.rest ++ drop k (drop at text)) c.scalar parts
+earlier text at later below none other =
+    let step : later ≡ at + (later - at) = omega (arith, below) in
+    after_first text at (later - at) (omega (arith, below)) none (subst (BeginsNoCharacter text) step other)
 
 one_character : (text : List ℕ) (m n : ℕ) → BeginsNoCharacter text m → BeginsNoCharacter text n → m ≡ n
 one_character text m n b d = ⊎_elim (λ e. e) (⊎_elim (λ less. absurd (earlier text m n less b d)) (λ more. absurd (earlier text n m more d b))) (cases_order m n)

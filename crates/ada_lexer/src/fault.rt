@@ -1,3 +1,4 @@
+//! Lexical faults.
 use ada_base::Place;
 use thiserror::Error;
 

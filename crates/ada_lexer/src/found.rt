@@ -1,3 +1,4 @@
+//! What is found at a place.
 use ada_base::Kind;
 
 /// What is found where a token begins: an integer literal by its value, which is 2^127 where it is more

@@ -1,3 +1,4 @@
+//! Where the lexer stops.
 /// Why there are no more tokens, with the byte at which the characters stop that are read.
 #[derive(Clone, Copy, Debug, PartialEq, Eq)]
 pub enum Stop {

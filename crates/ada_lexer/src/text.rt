@@ -1,3 +1,4 @@
+//! The tokens of a text.
 ghost use Rattle.std.specs.Prelude.{◌≡◌, ◌≤◌, ℕ, List, length, IfOk, IfErr, MatchResult};
 ghost use Rattle.std.specs.Str.{chars};
 ghost use Rattle.ada_tree.specs.Faults.{byte_limit, Fault, IsFirstFault, IsReadable, KeepLimits};
@@ -74,12 +75,11 @@ fn judge(alloc: Global, text: &[u8]) -> Result<Tokens, LexFault>
     }
 }
 
-/// The tokens of a text, which is given by its bytes, or its first lexical fault (2.2).
+/// The tokens of a text, which is given by its bytes, or its first lexical fault (2.2). A text that has tokens
+/// within the limits gets them, and one that has a first fault gets that, unless memory runs out.
 pub fn lex(alloc: Global, text: &[u8]) -> Result<Tokens, LexFault>
     ensures tokens { IfOk result (AreLexed text.now) }
     ensures fault { IfErr result (Tells text.now) }
-
-    // A text that has tokens within the limits gets them, and one that has a first fault gets that.
     ensures all_tokens { (items : List Token) → IsReadable text.now → AreTokensOf text.now items
         → KeepLimits items → GivesTokens result items }
     ensures all_faults { (first : Fault) → IsFirstFault text.now first → GivesFault result first }

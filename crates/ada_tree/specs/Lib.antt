@@ -1,7 +1,17 @@
 pub mod Characters
+pub mod Declarations
+pub mod Expressions
 pub mod Faults
+pub mod Forms
 pub mod Gaps
+pub mod Grammar
+pub mod Kinds
+pub mod Names
 pub mod Numbers
+pub mod Patterns
 pub mod Spelling
+pub mod Spellings
+pub mod Statements
 pub mod Tokens
+pub mod Units
 pub mod Words

@@ -1,0 +1,9 @@
+pub mod Bare
+pub mod BracketReaders
+pub mod DeclarationReaders
+pub mod ExpressionReaders
+pub mod Layers
+pub mod Levels
+pub mod Opened
+pub mod StatementReaders
+pub mod UnitReaders

@@ -1,0 +1,18 @@
+ghost use Rattle.std.specs.Prelude.{◌≡◌, ℕ, List};
+ghost use Rattle.reader_laws.specs.Symbols.{numbered};
+ghost use Rattle.reader_laws.specs.Faults.{Verdict};
+ghost use Rattle.ada_tree.specs.Grammar.{Derives, ProgramWords};
+ghost use Rattle.ada_tree.specs.declared.units.Tree.{Tree};
+ghost use Rattle.ada_grammar.specs.UnitReaders.{program};
+
+/// A list of kinds of tokens has at most one tree, however deep it is.
+pub fn one_tree()
+    ensures { (kinds : List ℕ) (a b : Tree) → Derives kinds a → Derives kinds b → a ≡ b }
+{}
+
+/// What the reader of programs answers to a list of kinds is right at each limit of depth: the tree that
+/// derives it within the limit exactly where there is one, and else the first fault or the first token that
+/// is too deep, whichever stands first.
+pub fn exact_readers()
+    ensures { (limit : ℕ) (kinds : List ℕ) → Verdict limit ProgramWords kinds (program limit (numbered 0 kinds)) }
+{}

@@ -1,0 +1,24 @@
+-- The grammar as a relation between lists of kinds of tokens and trees, without the End, and the first fault of a
+-- list. The end of a list is a place too: that of its length.
+use Rattle.std.specs.Prelude.{ℕ, List}
+use Rattle.reader_laws.specs.Faults as lists
+use Rattle.reader_laws.specs.Languages.{Language}
+use Rattle.ada_tree.specs.Patterns.{words_of}
+use Rattle.ada_tree.specs.Units.{program}
+use Rattle.ada_tree.specs.declared.units.Tree.{Tree}
+
+-- the words of a program, around which nothing is open
+abbrev pub ProgramWords : Tree → Language
+ProgramWords tree = words_of (program tree 0)
+
+-- the tree derives these kinds
+abbrev pub Derives : List ℕ → Tree → Type 0
+Derives = lists.Derives ProgramWords
+
+-- the place of the least kind such that no program's kinds begin with the kinds up to it
+abbrev pub IsFirstFault : List ℕ → ℕ → Type 0
+IsFirstFault = lists.IsFirstFault ProgramWords
+
+-- the place of the first kind that stands deeper than the limit
+abbrev pub IsFirstTooDeep : ℕ → List ℕ → ℕ → Type 0
+IsFirstTooDeep limit = lists.IsFirstTooDeep limit ProgramWords
