@@ -1,13 +1,13 @@
 //! The first token of each node that doesn't hold its number: it is that of the node's first part.
 
+ghost use Rattle.std.specs.Prelude.{◌≡◌};
+ghost use Rattle.ada_tree.specs.FirstTokens as first_token;
+
 use crate::declarations::{Decl, Mode, ObjectType};
 use crate::expressions::{Bounds, Expr, Factor, Primary, Rel, Sign, Simple, Term};
 use crate::names::{Aggregate, Arg, Assoc, Choice, Chunk, Iter, Many, Range};
 use crate::statements::{Body, Handled, Scheme, Stmt, Stmts};
 use crate::units::{Sub, Tree, Unit};
-
-ghost use Rattle.std.specs.Prelude.{◌≡◌};
-ghost use Rattle.ada_tree.specs.FirstTokens as first_token;
 
 impl Tree {
     /// The number of its first token: that of the policy, of the first clause or of the main procedure.
@@ -42,7 +42,8 @@ impl Sub {
         ensures { result ≡ first_token.sub self.now }
     {
         match self {
-            Sub::Procedure { at, .. } | Sub::Function { at, .. } | Sub::Expression { at, .. } => *at,
+            Sub::Procedure { at, .. } | Sub::Function { at, .. } | Sub::Expression { at, .. } =>
+                *at,
         }
     }
 }
@@ -123,10 +124,12 @@ impl Stmt {
             Stmt::Assign { target, .. } => target.first,
             Stmt::Call(name) => name.first,
             Stmt::Loop {
-                label: Some(label), ..
+                label: Some(label),
+                ..
             } => *label,
             Stmt::Loop {
-                scheme: Some(scheme), ..
+                scheme: Some(scheme),
+                ..
             } => scheme.first_token(),
             Stmt::Loop { at, .. } => *at,
             Stmt::Block { declare, at, .. } => match declare {
