@@ -21,9 +21,41 @@ use Rattle.ada_grammar.specs.Levels as level
 use Rattle.ada_grammar.specs.StatementReaders as statement
 use Rattle.ada_grammar.specs.UnitReaders as unit
 
--- all that an answer is computed with
+-- all that an answer is computed with: the readers of each file, and what opens a layer
+bare_parts : Unit {0}
+unfolding bare.bare_name bare.bare_identifier bare.expr_identifier
+bare_parts = tt
+
+bracket_parts : Unit {0}
+unfolding bracket.range_from bracket.range bracket.arg bracket.next_arg bracket.choice_from bracket.choice bracket.next_choice bracket.chosen bracket.each bracket.assoc bracket.next_assoc bracket.others_value bracket.tail_turn bracket.tail bracket.several_from bracket.named_from bracket.inside bracket.elsif bracket.if_expr bracket.call bracket.round bracket.filter bracket.iter bracket.parallel bracket.chunk_from bracket.chunk bracket.values_from bracket.values bracket.reduction_from bracket.each_end bracket.values_end bracket.square
+bracket_parts = tt
+
+declaration_parts : Unit {0}
+unfolding declaration.next_identifier declaration.ids declaration.mode declaration.formal declaration.next_formal declaration.open_formals declaration.formals declaration.next_range declaration.open_indexes declaration.indexes declaration.indic declaration.array declaration.comp declaration.object_type declaration.definition declaration.initial declaration.typed declaration.object_from declaration.decl
+declaration_parts = tt
+
+expression_parts : Unit {0}
+unfolding expression.sign expression.comparison expression.part expression.name expression.primary expression.factor expression.multiplying expression.term expression.adding expression.unsigned expression.simple expression.within expression.rel_from expression.rel expression.conjunct expression.short_conjunct expression.after_and expression.after_or expression.expr_from expression.expr expression.bounds
+expression_parts = tt
+
+level_parts : Unit {0}
+unfolding level.levels
+level_parts = tt
+
+statement_parts : Unit {0}
+unfolding statement.next_pack_part statement.pack statement.next_choice_of_packs statement.handled statement.maybe_identifier statement.stmts statement.arm statement.alt statement.handler statement.body statement.otherwise statement.null statement.exit statement.return statement.raise statement.conditional statement.selection statement.loop_from statement.while_from statement.for_from statement.labelled statement.block_from statement.declaring statement.next_stmts statement.do_from statement.parallel_from statement.named statement.open_stmt statement.stmt
+statement_parts = tt
+
+unit_parts : Unit {0}
+unfolding unit.open_policy_name unit.policy_name unit.policy unit.clause_word unit.next_pack unit.clause unit.aspect unit.open_result unit.result unit.procedure unit.function_body unit.function_from unit.function unit.open_sub unit.sub unit.unit unit.main unit.program
+unit_parts = tt
+
+layer_parts : Unit {0}
+unfolding views.out-Expr views.out-Rel views.out-Factor views.out-Primary views.out-Iter views.out-Chunk denote.Hole.Carrier.out
+layer_parts = tt
+
 unfoldable pub all_readers : Unit {0}
-unfolding bare.bare_name bare.bare_identifier bare.expr_identifier bracket.range_from bracket.range bracket.arg bracket.next_arg bracket.choice_from bracket.choice bracket.next_choice bracket.chosen bracket.each bracket.assoc bracket.next_assoc bracket.others_value bracket.tail_turn bracket.tail bracket.several_from bracket.named_from bracket.inside bracket.elsif bracket.if_expr bracket.call bracket.round bracket.filter bracket.iter bracket.parallel bracket.chunk_from bracket.chunk bracket.values_from bracket.values bracket.reduction_from bracket.each_end bracket.values_end bracket.square declaration.next_identifier declaration.ids declaration.mode declaration.formal declaration.next_formal declaration.open_formals declaration.formals declaration.next_range declaration.open_indexes declaration.indexes declaration.indic declaration.array declaration.comp declaration.object_type declaration.definition declaration.initial declaration.typed declaration.object_from declaration.decl expression.sign expression.comparison expression.part expression.name expression.primary expression.factor expression.multiplying expression.term expression.adding expression.unsigned expression.simple expression.within expression.rel_from expression.rel expression.conjunct expression.short_conjunct expression.after_and expression.after_or expression.expr_from expression.expr expression.bounds level.levels statement.next_pack_part statement.pack statement.next_choice_of_packs statement.handled statement.maybe_identifier statement.stmts statement.arm statement.alt statement.handler statement.body statement.otherwise statement.null statement.exit statement.return statement.raise statement.conditional statement.selection statement.loop_from statement.while_from statement.for_from statement.labelled statement.block_from statement.declaring statement.next_stmts statement.do_from statement.parallel_from statement.named statement.open_stmt statement.stmt unit.open_policy_name unit.policy_name unit.policy unit.clause_word unit.next_pack unit.clause unit.aspect unit.open_result unit.result unit.procedure unit.function_body unit.function_from unit.function unit.open_sub unit.sub unit.unit unit.main unit.program views.out-Expr views.out-Rel views.out-Factor views.out-Primary views.out-Iter views.out-Chunk denote.Hole.Carrier.out
+unfolding bare_parts bracket_parts declaration_parts expression_parts level_parts statement_parts unit_parts layer_parts
 all_readers = tt
 
 -- more levels than any example has

@@ -1,8 +1,9 @@
 -- The trees of the examples of expressions derive their kinds, and the near misses are at fault where they say.
-use Rattle.std.proofs.Common.{refl}
+use Rattle.std.proofs.Common.{refl, ap}
 use Rattle.ada_grammar.specs.Examples.{IsDerived, IsMissed}
 use Rattle.ada_grammar.specs.ExpressionExamples as expression
-use Rattle.ada_grammar.proofs.Answering.{all_readers, derived, missed}
+use Rattle.ada_grammar.proofs.ExampleSteps.{named_argument_read, number_argument_refused}
+use Rattle.ada_grammar.proofs.Answering.{all_readers, derived, missed, fault_in}
 
 pub expr_derived : IsDerived expression.expr_example
 unfolding all_readers
@@ -70,11 +71,11 @@ name_missed = missed expression.name_near_miss refl
 
 pub arg_derived : IsDerived expression.arg_example
 unfolding all_readers
-arg_derived = derived expression.arg_example refl
+arg_derived = derived expression.arg_example named_argument_read
 
 pub arg_missed : IsMissed expression.arg_near_miss
 unfolding all_readers
-arg_missed = missed expression.arg_near_miss refl
+arg_missed = missed expression.arg_near_miss (ap (fault_in expression.arg_near_miss.kinds) number_argument_refused)
 
 pub reduction_derived : IsDerived expression.reduction_example
 unfolding all_readers

@@ -20,6 +20,7 @@ pub mod UnitParts
 pub mod UnitRules
 pub mod ExampleNodes
 pub mod Answering
+pub mod ExampleSteps
 pub mod DeclarationExamples
 pub mod ExpressionExamples
 pub mod StatementExamples

@@ -8,6 +8,7 @@ use Rattle.ada_tree.specs.declared.statements.Scheme.TheVariants as scheme'
 use Rattle.ada_grammar.specs.ExampleNodes.{number, bounds, stmts, doing}
 use Rattle.ada_grammar.specs.Examples.{IsDerived, IsMissed}
 use Rattle.ada_grammar.specs.StatementExamples as statement
+use Rattle.ada_grammar.proofs.ExampleSteps.{each_chunk_read}
 use Rattle.ada_grammar.proofs.Answering.{all_readers, derived, derived_by, missed}
 
 pub body_derived : IsDerived statement.body_example
@@ -68,7 +69,7 @@ scheme_missed = missed statement.scheme_near_miss refl
 
 pub chunk_derived : IsDerived statement.chunk_example
 unfolding all_readers
-chunk_derived = derived statement.chunk_example refl
+chunk_derived = derived statement.chunk_example each_chunk_read
 
 pub chunk_missed : IsMissed statement.chunk_near_miss
 unfolding all_readers
