@@ -18,3 +18,11 @@ pub mod StmtRules
 pub mod StmtLevels
 pub mod UnitParts
 pub mod UnitRules
+pub mod ExampleNodes
+pub mod Answering
+pub mod ExampleSteps
+pub mod DeclarationExamples
+pub mod ExpressionExamples
+pub mod StatementExamples
+pub mod UnitExamples
+pub mod Examples

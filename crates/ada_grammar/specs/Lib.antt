@@ -6,3 +6,9 @@ pub mod Levels
 pub mod Opened
 pub mod StatementReaders
 pub mod UnitReaders
+pub mod DeclarationExamples
+pub mod ExampleNodes
+pub mod Examples
+pub mod ExpressionExamples
+pub mod StatementExamples
+pub mod UnitExamples

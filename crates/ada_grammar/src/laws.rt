@@ -1,9 +1,10 @@
-ghost use Rattle.std.specs.Prelude.{◌≡◌, ℕ, List};
+ghost use Rattle.std.specs.Prelude.{◌≡◌, ℕ, List, All};
 ghost use Rattle.reader_laws.specs.Symbols.{numbered};
 ghost use Rattle.reader_laws.specs.Faults.{Verdict};
 ghost use Rattle.ada_tree.specs.Grammar.{Derives, ProgramWords};
 ghost use Rattle.ada_tree.specs.declared.units.Tree.{Tree};
 ghost use Rattle.ada_grammar.specs.UnitReaders.{program};
+ghost use Rattle.ada_grammar.specs.Examples.{IsDerived, IsMissed, examples, near_misses};
 
 /// A list of kinds of tokens has at most one tree, however deep it is.
 pub fn one_tree()
@@ -15,4 +16,12 @@ pub fn one_tree()
 /// is too deep, whichever stands first.
 pub fn exact_readers()
     ensures { (limit : ℕ) (kinds : List ℕ) → Verdict limit ProgramWords kinds (program limit (numbered 0 kinds)) }
+{}
+
+/// For each rule of the grammar, a program whose tree was written by hand: the tree derives its kinds. And for
+/// each a list of kinds with one token changed, left out or added: it is no program, and its first fault is at
+/// the place that was found by hand.
+pub fn known_trees()
+    ensures derived { All IsDerived examples }
+    ensures missed { All IsMissed near_misses }
 {}

@@ -1,0 +1,101 @@
+-- The examples of the grammar are derived, and the near misses missed.
+use Rattle.std.specs.Prelude.{List, [], ◌∷◌, All}
+use Rattle.std.proofs.lemmas.List.Elements.{All-nil, All-cons}
+use Rattle.ada_grammar.specs.Examples.{IsDerived, IsMissed, examples, near_misses}
+use Rattle.ada_grammar.proofs.DeclarationExamples as declaration
+use Rattle.ada_grammar.proofs.ExpressionExamples as expression
+use Rattle.ada_grammar.proofs.StatementExamples as statement
+use Rattle.ada_grammar.proofs.UnitExamples as unit
+
+-- one after another
+abbrev Each : {A : Type 0} → (A → Type 0) → List A → Type 0
+Each P [] = Unit {0}
+Each P (x ∷ xs) = P x × Each P xs
+
+infixr 12 ◌&◌
+abbrev ◌&◌ : {A B : Type 0} → A → B → A × B
+x & y = (x, y)
+
+all_of : {A : Type 0} (P : A → Type 0) (xs : List A) → Each P xs → All P xs
+all_of P [] h = All-nil P
+all_of P (x ∷ xs) h = All-cons P x xs h.0 (all_of P xs h.1)
+
+pub all_derived : All IsDerived examples
+all_derived =
+    all_of IsDerived examples
+    (unit.program_derived
+    & unit.policy_derived
+    & unit.pack_derived
+    & unit.main_derived
+    & unit.aspect_derived
+    & unit.sub_derived
+    & declaration.formals_derived
+    & declaration.formal_derived
+    & declaration.ids_derived
+    & declaration.decl_derived
+    & declaration.indic_derived
+    & declaration.array_derived
+    & declaration.comp_derived
+    & statement.body_derived
+    & statement.handler_derived
+    & statement.stmts_derived
+    & statement.stmt_derived
+    & statement.alt_derived
+    & statement.choice_derived
+    & statement.scheme_derived
+    & statement.chunk_derived
+    & statement.iter_derived
+    & statement.range_derived
+    & expression.expr_derived
+    & expression.rel_derived
+    & expression.simple_derived
+    & expression.term_derived
+    & expression.factor_derived
+    & expression.primary_derived
+    & expression.ifexpr_derived
+    & expression.name_derived
+    & expression.arg_derived
+    & expression.reduction_derived
+    & expression.aggregate_derived
+    & expression.many_derived
+    & expression.assoc_derived & tt)
+
+pub all_missed : All IsMissed near_misses
+all_missed =
+    all_of IsMissed near_misses
+    (unit.program_missed
+    & unit.policy_missed
+    & unit.pack_missed
+    & unit.main_missed
+    & unit.aspect_missed
+    & unit.sub_missed
+    & declaration.formals_missed
+    & declaration.formal_missed
+    & declaration.ids_missed
+    & declaration.decl_missed
+    & declaration.indic_missed
+    & declaration.array_missed
+    & declaration.comp_missed
+    & statement.body_missed
+    & statement.handler_missed
+    & statement.stmts_missed
+    & statement.stmt_missed
+    & statement.alt_missed
+    & statement.choice_missed
+    & statement.scheme_missed
+    & statement.chunk_missed
+    & statement.iter_missed
+    & statement.range_missed
+    & expression.expr_missed
+    & expression.rel_missed
+    & expression.simple_missed
+    & expression.term_missed
+    & expression.factor_missed
+    & expression.primary_missed
+    & expression.ifexpr_missed
+    & expression.name_missed
+    & expression.arg_missed
+    & expression.reduction_missed
+    & expression.aggregate_missed
+    & expression.many_missed
+    & expression.assoc_missed & tt)

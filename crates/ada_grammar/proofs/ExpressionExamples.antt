@@ -1,0 +1,110 @@
+-- The trees of the examples of expressions derive their kinds, and the near misses are at fault where they say.
+use Rattle.std.proofs.Common.{refl, ap}
+use Rattle.ada_grammar.specs.Examples.{IsDerived, IsMissed}
+use Rattle.ada_grammar.specs.ExpressionExamples as expression
+use Rattle.ada_grammar.proofs.ExampleSteps.{named_argument_read, number_argument_refused}
+use Rattle.ada_grammar.proofs.Answering.{all_readers, derived, missed, fault_in}
+
+pub expr_derived : IsDerived expression.expr_example
+unfolding all_readers
+expr_derived = derived expression.expr_example refl
+
+pub expr_missed : IsMissed expression.expr_near_miss
+unfolding all_readers
+expr_missed = missed expression.expr_near_miss refl
+
+pub rel_derived : IsDerived expression.rel_example
+unfolding all_readers
+rel_derived = derived expression.rel_example refl
+
+pub rel_missed : IsMissed expression.rel_near_miss
+unfolding all_readers
+rel_missed = missed expression.rel_near_miss refl
+
+pub simple_derived : IsDerived expression.simple_example
+unfolding all_readers
+simple_derived = derived expression.simple_example refl
+
+pub simple_missed : IsMissed expression.simple_near_miss
+unfolding all_readers
+simple_missed = missed expression.simple_near_miss refl
+
+pub term_derived : IsDerived expression.term_example
+unfolding all_readers
+term_derived = derived expression.term_example refl
+
+pub term_missed : IsMissed expression.term_near_miss
+unfolding all_readers
+term_missed = missed expression.term_near_miss refl
+
+pub factor_derived : IsDerived expression.factor_example
+unfolding all_readers
+factor_derived = derived expression.factor_example refl
+
+pub factor_missed : IsMissed expression.factor_near_miss
+unfolding all_readers
+factor_missed = missed expression.factor_near_miss refl
+
+pub primary_derived : IsDerived expression.primary_example
+unfolding all_readers
+primary_derived = derived expression.primary_example refl
+
+pub primary_missed : IsMissed expression.primary_near_miss
+unfolding all_readers
+primary_missed = missed expression.primary_near_miss refl
+
+pub ifexpr_derived : IsDerived expression.ifexpr_example
+unfolding all_readers
+ifexpr_derived = derived expression.ifexpr_example refl
+
+pub ifexpr_missed : IsMissed expression.ifexpr_near_miss
+unfolding all_readers
+ifexpr_missed = missed expression.ifexpr_near_miss refl
+
+pub name_derived : IsDerived expression.name_example
+unfolding all_readers
+name_derived = derived expression.name_example refl
+
+pub name_missed : IsMissed expression.name_near_miss
+unfolding all_readers
+name_missed = missed expression.name_near_miss refl
+
+pub arg_derived : IsDerived expression.arg_example
+unfolding all_readers
+arg_derived = derived expression.arg_example named_argument_read
+
+pub arg_missed : IsMissed expression.arg_near_miss
+unfolding all_readers
+arg_missed = missed expression.arg_near_miss (ap (fault_in expression.arg_near_miss.kinds) number_argument_refused)
+
+pub reduction_derived : IsDerived expression.reduction_example
+unfolding all_readers
+reduction_derived = derived expression.reduction_example refl
+
+pub reduction_missed : IsMissed expression.reduction_near_miss
+unfolding all_readers
+reduction_missed = missed expression.reduction_near_miss refl
+
+pub aggregate_derived : IsDerived expression.aggregate_example
+unfolding all_readers
+aggregate_derived = derived expression.aggregate_example refl
+
+pub aggregate_missed : IsMissed expression.aggregate_near_miss
+unfolding all_readers
+aggregate_missed = missed expression.aggregate_near_miss refl
+
+pub many_derived : IsDerived expression.many_example
+unfolding all_readers
+many_derived = derived expression.many_example refl
+
+pub many_missed : IsMissed expression.many_near_miss
+unfolding all_readers
+many_missed = missed expression.many_near_miss refl
+
+pub assoc_derived : IsDerived expression.assoc_example
+unfolding all_readers
+assoc_derived = derived expression.assoc_example refl
+
+pub assoc_missed : IsMissed expression.assoc_near_miss
+unfolding all_readers
+assoc_missed = missed expression.assoc_near_miss refl
