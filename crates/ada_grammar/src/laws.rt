@@ -1,14 +1,16 @@
 ghost use Rattle.std.specs.Prelude.{◌≡◌, ℕ, List, All};
 ghost use Rattle.reader_laws.specs.Symbols.{numbered};
 ghost use Rattle.reader_laws.specs.Faults.{Verdict};
-ghost use Rattle.ada_tree.specs.Grammar.{Derives, ProgramWords};
+ghost use Rattle.ada_base.specs.declared.token.Token.{Token};
+ghost use Rattle.ada_tree.specs.Grammar.{Derives, IsTreeOf, ProgramWords};
 ghost use Rattle.ada_tree.specs.declared.units.Tree.{Tree};
 ghost use Rattle.ada_grammar.specs.UnitReaders.{program};
 ghost use Rattle.ada_grammar.specs.Examples.{IsDerived, IsMissed, examples, near_misses};
 
-/// A list of kinds of tokens has at most one tree, however deep it is.
+/// A list of kinds of tokens has at most one tree, however deep it is, and so has a text's list of tokens.
 pub fn one_tree()
-    ensures { (kinds : List ℕ) (a b : Tree) → Derives kinds a → Derives kinds b → a ≡ b }
+    ensures kinds { (kinds : List ℕ) (a b : Tree) → Derives kinds a → Derives kinds b → a ≡ b }
+    ensures tokens { (tokens : List Token) (a b : Tree) → IsTreeOf tokens a → IsTreeOf tokens b → a ≡ b }
 {}
 
 /// What the reader of programs answers to a list of kinds is right at each limit of depth: the tree that

@@ -3,7 +3,9 @@
 use Rattle.std.specs.Prelude.{ℕ, List}
 use Rattle.reader_laws.specs.Faults as lists
 use Rattle.reader_laws.specs.Languages.{Language}
+use Rattle.ada_base.specs.declared.token.Token.{Token}
 use Rattle.ada_tree.specs.Patterns.{words_of}
+use Rattle.ada_tree.specs.TokenKinds.{kinds_of}
 use Rattle.ada_tree.specs.Units.{program}
 use Rattle.ada_tree.specs.declared.units.Tree.{Tree}
 
@@ -14,6 +16,10 @@ ProgramWords tree = words_of (program tree 0)
 -- the tree derives these kinds
 abbrev pub Derives : List ℕ → Tree → Type 0
 Derives = lists.Derives ProgramWords
+
+-- the tree is that of a text's tokens, the End with them
+abbrev pub IsTreeOf : List Token → Tree → Type 0
+IsTreeOf tokens = Derives (kinds_of tokens)
 
 -- the place of the least kind such that no program's kinds begin with the kinds up to it
 abbrev pub IsFirstFault : List ℕ → ℕ → Type 0

@@ -14,6 +14,7 @@ pub mod Patterns
 pub mod Spelling
 pub mod Spellings
 pub mod Statements
+pub mod TokenKinds
 pub mod Tokens
 pub mod Units
 pub mod Words
