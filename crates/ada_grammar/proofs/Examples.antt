@@ -64,6 +64,7 @@ all_derived =
     & expression.or_else_derived
     & expression.rel_derived
     & expression.compared_derived
+    & expression.member_derived
     & expression.simple_derived
     & expression.term_derived
     & expression.factor_derived
@@ -128,6 +129,7 @@ all_missed =
     & expression.or_else_missed
     & expression.rel_missed
     & expression.compared_missed
+    & expression.member_missed
     & expression.simple_missed
     & expression.term_missed
     & expression.factor_missed

@@ -2,7 +2,7 @@
 use Rattle.std.proofs.Common.{refl, ap}
 use Rattle.ada_grammar.specs.Examples.{IsDerived, IsMissed}
 use Rattle.ada_grammar.specs.ExpressionExamples as expression
-use Rattle.ada_grammar.proofs.ExampleSteps.{named_argument_read, number_argument_refused}
+use Rattle.ada_grammar.proofs.ExampleSteps.{named_argument_read, number_argument_refused, member_read}
 use Rattle.ada_grammar.proofs.Answering.{all_readers, derived, missed, fault_in}
 
 pub expr_derived : IsDerived expression.expr_example
@@ -212,3 +212,11 @@ parallel_derived = derived expression.parallel_example refl
 pub parallel_missed : IsMissed expression.parallel_near_miss
 unfolding all_readers
 parallel_missed = missed expression.parallel_near_miss refl
+
+pub member_derived : IsDerived expression.member_example
+unfolding all_readers
+member_derived = derived expression.member_example member_read
+
+pub member_missed : IsMissed expression.member_near_miss
+unfolding all_readers
+member_missed = missed expression.member_near_miss refl

@@ -642,3 +642,22 @@ parallel_near_miss = record {
       ∷ kind.comma ∷ kind.numeral ∷ kind.close_round ∷ []);
   place = 15;
 }
+
+-- rel: procedure P is begin A := B in T; end;
+abbrev pub member_example : Example
+member_example = record {
+  kinds =
+      kinds_of_value
+      (kind.identifier ∷ kind.in_word ∷ kind.identifier ∷ []);
+  tree =
+      doing_value (expr'.And (rel'.Of (simple (variable 6)) None 7 8) []);
+}
+
+-- a number in place of the subtype
+abbrev pub member_near_miss : NearMiss
+member_near_miss = record {
+  kinds =
+      kinds_of_value
+      (kind.identifier ∷ kind.in_word ∷ kind.numeral ∷ []);
+  place = 9;
+}
