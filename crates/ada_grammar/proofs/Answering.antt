@@ -5,13 +5,10 @@ use Rattle.reader_laws.specs.Readers.{Answer, Found, Refused, TooDeep}
 use Rattle.reader_laws.specs.Faults as lists
 use Rattle.ada_tree.specs.Grammar.{IsFirstFault, ProgramWords}
 use Rattle.ada_tree.specs.declared.expressions.Adding.TheViews as views
-use Rattle.ada_tree.specs.declared.expressions.Simple.{Simple}
-use Rattle.ada_tree.specs.declared.names.Name.{Name}
 use Rattle.ada_tree.specs.declared.units.Tree.{Tree}
-use Rattle.ada_grammar.specs.ExampleNodes.{Example, NearMiss, simple, variable, identifier}
+use Rattle.ada_grammar.specs.ExampleNodes.{Example, NearMiss}
 use Rattle.ada_grammar.specs.Examples.{IsDerived, IsMissed}
 use Rattle.ada_grammar.proofs.Bares.{some_is, none_is}
-use Rattle.ada_grammar.proofs.ExampleNodes.{bare_name-variable}
 use Rattle.ada_grammar.proofs.UnitRules.{right}
 use Rattle.ada_grammar.specs.Bare as bare
 use Rattle.ada_grammar.specs.BracketReaders as bracket
@@ -65,13 +62,10 @@ limit = 8
 abbrev pub answer_to : List ℕ → Answer Tree × List Symbol
 answer_to kinds = unit.program limit (numbered 0 kinds)
 
--- the name that a sum is, where it is one
-abbrev pub name_or : Option Name → Name
-name_or None = identifier 0
-name_or (Some n) = n
-
-abbrev pub name_in : Simple → Name
-name_in s = name_or (bare.bare_name s)
+-- a value where there is one, and another where there is none
+abbrev pub value_or : {A : Type 0} → A → Option A → A
+value_or other None = other
+value_or other (Some a) = a
 
 -- the place where an answer says that the first fault is
 abbrev pub fault_in : List ℕ → Answer Tree × List Symbol → Option ℕ
@@ -84,9 +78,9 @@ fault_in kinds (TooDeep, back) = None
 pub derived : (e : Example) → answer_to e.kinds ≡ (Found e.tree, []) → IsDerived e
 derived e h = let (w, l, s, within) = subst (lists.Verdict limit ProgramWords e.kinds) h (right limit e.kinds) in (w, l, s)
 
--- where the reader finds a name in a sum that is that name
-pub derived_by : (e : Example) (f : Name → Tree) (n : ℕ) → answer_to e.kinds ≡ (Found (f (name_in (simple (variable n)))), []) → f (identifier n) ≡ e.tree → IsDerived e
-derived_by e f n h is = derived e (h ∙ ap (λ o. (Found (f (name_or o)), [])) (bare_name-variable n) ∙ ap (λ y. (Found y, [])) is)
+-- the same where the reader takes a part out of another, and that there is one follows from a lemma
+pub derived_by : {A : Type 0} {found : Option A} {a : A} (e : Example) (f : A → Tree) (other : A) → found ≡ Some a → answer_to e.kinds ≡ (Found (f (value_or other found)), []) → f a ≡ e.tree → IsDerived e
+derived_by e f other is h same = derived e (h ∙ ap (λ o. (Found (f (value_or other o)), [])) is ∙ ap (λ y. (Found y, [])) same)
 
 pub missed : (m : NearMiss) → fault_in m.kinds (answer_to m.kinds) ≡ Some m.place → IsMissed m
 missed m h = at (answer_to m.kinds) (right limit m.kinds) h where

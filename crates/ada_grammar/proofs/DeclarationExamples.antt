@@ -4,9 +4,10 @@ use Rattle.std.specs.Prelude.{[], ◌∷◌, None}
 use Rattle.ada_tree.specs.declared.names.Range.TheVariants as range'
 use Rattle.ada_tree.specs.declared.declarations.Definition.TheVariants as defined
 use Rattle.ada_tree.specs.declared.declarations.Decl.TheVariants as declared
-use Rattle.ada_grammar.specs.ExampleNodes.{number, bounds, declaring}
+use Rattle.ada_grammar.specs.ExampleNodes.{number, identifier, bounds, declaring}
 use Rattle.ada_grammar.specs.Examples.{IsDerived, IsMissed}
 use Rattle.ada_grammar.specs.DeclarationExamples as declaration
+use Rattle.ada_grammar.proofs.ExampleNodes.{bare_name-variable}
 use Rattle.ada_grammar.proofs.Answering.{all_readers, derived, derived_by, missed}
 
 pub decl_derived : IsDerived declaration.decl_example
@@ -27,7 +28,10 @@ indic_missed = missed declaration.indic_near_miss refl
 
 pub array_derived : IsDerived declaration.array_example
 unfolding all_readers
-array_derived = derived_by declaration.array_example (λ n. declaring (declared.Type 3 4 (defined.Array (record { at = 6; first = range'.Bounded (bounds (number 8) (number 10)); more = range'.Named n None ∷ []; component = record { mark = 15; range = None } }))) 18) 12 refl refl
+array_derived =
+    derived_by declaration.array_example
+    (λ n. declaring (declared.Type 3 4 (defined.Array (record { at = 6; first = range'.Bounded (bounds (number 8) (number 10)); more = range'.Named n None ∷ []; component = record { mark = 15; range = None } }))) 18)
+    (identifier 0) (bare_name-variable 12) refl refl
 
 pub array_missed : IsMissed declaration.array_near_miss
 unfolding all_readers
@@ -64,3 +68,27 @@ formals_derived = derived declaration.formals_example refl
 pub formals_missed : IsMissed declaration.formals_near_miss
 unfolding all_readers
 formals_missed = missed declaration.formals_near_miss refl
+
+pub object_derived : IsDerived declaration.object_example
+unfolding all_readers
+object_derived = derived declaration.object_example refl
+
+pub object_missed : IsMissed declaration.object_near_miss
+unfolding all_readers
+object_missed = missed declaration.object_near_miss refl
+
+pub exception_derived : IsDerived declaration.exception_example
+unfolding all_readers
+exception_derived = derived declaration.exception_example refl
+
+pub exception_missed : IsMissed declaration.exception_near_miss
+unfolding all_readers
+exception_missed = missed declaration.exception_near_miss refl
+
+pub integer_derived : IsDerived declaration.integer_example
+unfolding all_readers
+integer_derived = derived declaration.integer_example refl
+
+pub integer_missed : IsMissed declaration.integer_near_miss
+unfolding all_readers
+integer_missed = missed declaration.integer_near_miss refl

@@ -12,7 +12,9 @@ use Rattle.ada_tree.specs.declared.expressions.Primary.{Primary}
 use Rattle.ada_tree.specs.declared.expressions.Primary.TheVariants as primary'
 use Rattle.ada_tree.specs.declared.names.Name.{Name}
 use Rattle.ada_tree.specs.declared.names.Range.{Range}
+use Rattle.ada_tree.specs.declared.names.Chunk.TheVariants as chunk'
 use Rattle.ada_tree.specs.declared.names.Iter.TheVariants as iter'
+use Rattle.ada_grammar.specs.StatementReaders.{count_of}
 use Rattle.ada_grammar.specs.Bare.{rel_of, simple_of, unsigned_of, factor_of, primary_of, name_of, identifier_of, primary_name, factor_name, term_name, bare_name, name_identifier, bare_identifier, rel_identifier, expr_identifier}
 use Rattle.ada_grammar.specs.ExampleNodes.{factor, term, simple, rel, expr, number, identifier, variable}
 
@@ -35,6 +37,9 @@ out_expr r = sym (ap views.out-Expr (expr'.rolls-And r [])) ∙ views.out-roll-E
 
 pub out_iter : (index : ℕ) (range : Range) → views.out-Iter (iter'.In index None range None) ≡ layer.In index None range None
 out_iter index range = sym (ap views.out-Iter (iter'.rolls-In index None range None)) ∙ views.out-roll-Iter (layer.In index None range None)
+
+pub count_of-count : (s : Simple) → count_of (views.out-Chunk (chunk'.Count s)) ≡ Some s
+count_of-count s = ap count_of (sym (ap views.out-Chunk (chunk'.rolls-Count s)) ∙ views.out-roll-Chunk (layer.Count s))
 
 -- ---- a sum that is one primary
 

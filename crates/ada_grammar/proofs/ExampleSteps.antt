@@ -1,9 +1,12 @@
 -- Examples in which the reader asks whether an expression is an identifier alone, step by step.
 use Rattle.std.proofs.Common.{◌≡◌, ℕ, suc, List, [], ◌∷◌, Some, None, refl, ap}
 use Rattle.reader_laws.specs.Symbols.{Symbol, numbered}
-use Rattle.reader_laws.specs.Readers.{Found, Refused, ◌>>=◌, ◌>>◌, ◌<$>◌, symbol, given}
+use Rattle.reader_laws.specs.Readers.{Found, Refused, ◌>>=◌, ◌>>◌, ◌<$>◌, pure, symbol, given}
 use Rattle.ada_tree.specs.Kinds as kind
 use Rattle.ada_tree.specs.declared.expressions.Adding.TheViews.{roll-Arg, roll-Name, roll-Parallel}
+use Rattle.ada_tree.specs.declared.expressions.Expr.{Expr}
+use Rattle.ada_tree.specs.declared.expressions.Expr.TheVariants as expr'
+use Rattle.ada_tree.specs.declared.expressions.Rel.TheVariants as rel'
 use Rattle.ada_tree.specs.declared.names.Chunk.{Chunk}
 use Rattle.ada_tree.specs.declared.names.Chunk.TheVariants as chunk'
 use Rattle.ada_tree.specs.declared.names.Range.TheVariants as range'
@@ -17,7 +20,7 @@ use Rattle.ada_grammar.specs.ExpressionReaders as expression
 use Rattle.ada_grammar.specs.BracketReaders as bracket
 use Rattle.ada_grammar.specs.StatementReaders as statement
 use Rattle.ada_grammar.specs.UnitReaders as unit
-use Rattle.ada_grammar.specs.ExampleNodes.{expr, number, variable, argument, bounds, stmts, doing}
+use Rattle.ada_grammar.specs.ExampleNodes.{simple, expr, number, variable, identifier, argument, bounds, stmts, doing, doing_value}
 use Rattle.ada_grammar.proofs.ExampleNodes.{expr_identifier-variable, expr_identifier-number, bare_identifier-variable}
 use Rattle.ada_grammar.proofs.Answering.{all_readers}
 
@@ -108,3 +111,25 @@ number_argument_refused = statement_refused _ _ (call_refused _ _ argument_refus
 
 pub each_chunk_read : unit.program 8 (opening (record { number = 4; kind = kind.parallel_word } ∷ numbered 5 (kind.open_round ∷ kind.identifier ∷ each_chunk))) ≡ (Found (doing (over (chunk'.Each 6 (range'.Bounded (bounds (number 8) (number 10)))))), [])
 each_chunk_read = statement_read _ _ 24 (parallel_read _ _ chunk_read)
+
+-- B in T, from token 6 on
+abbrev after_member : List ℕ
+after_member = kind.semicolon ∷ kind.end_word ∷ kind.semicolon ∷ []
+
+abbrev member : Expr
+member = expr'.And (rel'.Of (simple (variable 6)) None 7 8) []
+
+membership_read : expression.expr (level.levels 7) (numbered 6 (kind.identifier ∷ kind.in_word ∷ kind.identifier ∷ after_member)) ≡ (Found member, numbered 9 after_member)
+unfolding all_readers
+membership_read =
+    ap (λ o. (given o (λ mark. pure (rel'.Of (simple (variable 6)) None 7 mark)) >>= expression.expr_from (level.levels 7)) (numbered 9 after_member))
+    (bare_identifier-variable 8)
+
+-- the assignment of a value that is read
+assignment_read : (ts : List Symbol) (x : Expr) → expression.expr (level.levels 7) ts ≡ (Found x, numbered 9 after_member)
+    → statement.stmt 8 (record { number = 4; kind = kind.identifier } ∷ record { number = 5; kind = kind.assign } ∷ ts) ≡ (Found (stmt'.Assign (identifier 4) x), closing 10)
+unfolding statement.stmt statement.open_stmt statement.named expression.name
+assignment_read ts x h = rw h refl
+
+pub member_read : unit.program 8 (opening (record { number = 4; kind = kind.identifier } ∷ record { number = 5; kind = kind.assign } ∷ numbered 6 (kind.identifier ∷ kind.in_word ∷ kind.identifier ∷ after_member))) ≡ (Found (doing_value member), [])
+member_read = statement_read _ _ 10 (assignment_read _ _ membership_read)

@@ -29,10 +29,14 @@ all_derived =
     & unit.main_derived
     & unit.aspect_derived
     & unit.sub_derived
+    & unit.procedure_derived
     & declaration.formals_derived
     & declaration.formal_derived
     & declaration.ids_derived
     & declaration.decl_derived
+    & declaration.object_derived
+    & declaration.exception_derived
+    & declaration.integer_derived
     & declaration.indic_derived
     & declaration.array_derived
     & declaration.comp_derived
@@ -40,25 +44,46 @@ all_derived =
     & statement.handler_derived
     & statement.stmts_derived
     & statement.stmt_derived
+    & statement.exit_derived
+    & statement.raise_derived
+    & statement.elsif_derived
+    & statement.label_derived
+    & statement.block_derived
+    & statement.both_derived
     & statement.alt_derived
     & statement.choice_derived
     & statement.scheme_derived
     & statement.chunk_derived
     & statement.iter_derived
+    & statement.of_derived
     & statement.range_derived
     & expression.expr_derived
+    & expression.and_derived
+    & expression.or_derived
+    & expression.xor_derived
+    & expression.or_else_derived
     & expression.rel_derived
+    & expression.compared_derived
+    & expression.member_derived
     & expression.simple_derived
     & expression.term_derived
     & expression.factor_derived
+    & expression.abs_derived
+    & expression.not_derived
     & expression.primary_derived
+    & expression.target_derived
     & expression.ifexpr_derived
     & expression.name_derived
+    & expression.range_of_derived
     & expression.arg_derived
     & expression.reduction_derived
+    & expression.parallel_derived
     & expression.aggregate_derived
+    & expression.square_derived
     & expression.many_derived
-    & expression.assoc_derived & tt)
+    & expression.others_derived
+    & expression.assoc_derived
+    & expression.each_derived & tt)
 
 pub all_missed : All IsMissed near_misses
 all_missed =
@@ -69,10 +94,14 @@ all_missed =
     & unit.main_missed
     & unit.aspect_missed
     & unit.sub_missed
+    & unit.procedure_missed
     & declaration.formals_missed
     & declaration.formal_missed
     & declaration.ids_missed
     & declaration.decl_missed
+    & declaration.object_missed
+    & declaration.exception_missed
+    & declaration.integer_missed
     & declaration.indic_missed
     & declaration.array_missed
     & declaration.comp_missed
@@ -80,22 +109,43 @@ all_missed =
     & statement.handler_missed
     & statement.stmts_missed
     & statement.stmt_missed
+    & statement.exit_missed
+    & statement.raise_missed
+    & statement.elsif_missed
+    & statement.label_missed
+    & statement.block_missed
+    & statement.both_missed
     & statement.alt_missed
     & statement.choice_missed
     & statement.scheme_missed
     & statement.chunk_missed
     & statement.iter_missed
+    & statement.of_missed
     & statement.range_missed
     & expression.expr_missed
+    & expression.and_missed
+    & expression.or_missed
+    & expression.xor_missed
+    & expression.or_else_missed
     & expression.rel_missed
+    & expression.compared_missed
+    & expression.member_missed
     & expression.simple_missed
     & expression.term_missed
     & expression.factor_missed
+    & expression.abs_missed
+    & expression.not_missed
     & expression.primary_missed
+    & expression.target_missed
     & expression.ifexpr_missed
     & expression.name_missed
+    & expression.range_of_missed
     & expression.arg_missed
     & expression.reduction_missed
+    & expression.parallel_missed
     & expression.aggregate_missed
+    & expression.square_missed
     & expression.many_missed
-    & expression.assoc_missed & tt)
+    & expression.others_missed
+    & expression.assoc_missed
+    & expression.each_missed & tt)

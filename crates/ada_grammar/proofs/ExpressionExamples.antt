@@ -2,7 +2,7 @@
 use Rattle.std.proofs.Common.{refl, ap}
 use Rattle.ada_grammar.specs.Examples.{IsDerived, IsMissed}
 use Rattle.ada_grammar.specs.ExpressionExamples as expression
-use Rattle.ada_grammar.proofs.ExampleSteps.{named_argument_read, number_argument_refused}
+use Rattle.ada_grammar.proofs.ExampleSteps.{named_argument_read, number_argument_refused, member_read}
 use Rattle.ada_grammar.proofs.Answering.{all_readers, derived, missed, fault_in}
 
 pub expr_derived : IsDerived expression.expr_example
@@ -108,3 +108,115 @@ assoc_derived = derived expression.assoc_example refl
 pub assoc_missed : IsMissed expression.assoc_near_miss
 unfolding all_readers
 assoc_missed = missed expression.assoc_near_miss refl
+
+pub and_derived : IsDerived expression.and_example
+unfolding all_readers
+and_derived = derived expression.and_example refl
+
+pub and_missed : IsMissed expression.and_near_miss
+unfolding all_readers
+and_missed = missed expression.and_near_miss refl
+
+pub or_derived : IsDerived expression.or_example
+unfolding all_readers
+or_derived = derived expression.or_example refl
+
+pub or_missed : IsMissed expression.or_near_miss
+unfolding all_readers
+or_missed = missed expression.or_near_miss refl
+
+pub xor_derived : IsDerived expression.xor_example
+unfolding all_readers
+xor_derived = derived expression.xor_example refl
+
+pub xor_missed : IsMissed expression.xor_near_miss
+unfolding all_readers
+xor_missed = missed expression.xor_near_miss refl
+
+pub or_else_derived : IsDerived expression.or_else_example
+unfolding all_readers
+or_else_derived = derived expression.or_else_example refl
+
+pub or_else_missed : IsMissed expression.or_else_near_miss
+unfolding all_readers
+or_else_missed = missed expression.or_else_near_miss refl
+
+pub compared_derived : IsDerived expression.compared_example
+unfolding all_readers
+compared_derived = derived expression.compared_example refl
+
+pub compared_missed : IsMissed expression.compared_near_miss
+unfolding all_readers
+compared_missed = missed expression.compared_near_miss refl
+
+pub abs_derived : IsDerived expression.abs_example
+unfolding all_readers
+abs_derived = derived expression.abs_example refl
+
+pub abs_missed : IsMissed expression.abs_near_miss
+unfolding all_readers
+abs_missed = missed expression.abs_near_miss refl
+
+pub not_derived : IsDerived expression.not_example
+unfolding all_readers
+not_derived = derived expression.not_example refl
+
+pub not_missed : IsMissed expression.not_near_miss
+unfolding all_readers
+not_missed = missed expression.not_near_miss refl
+
+pub target_derived : IsDerived expression.target_example
+unfolding all_readers
+target_derived = derived expression.target_example refl
+
+pub target_missed : IsMissed expression.target_near_miss
+unfolding all_readers
+target_missed = missed expression.target_near_miss refl
+
+pub range_of_derived : IsDerived expression.range_of_example
+unfolding all_readers
+range_of_derived = derived expression.range_of_example refl
+
+pub range_of_missed : IsMissed expression.range_of_near_miss
+unfolding all_readers
+range_of_missed = missed expression.range_of_near_miss refl
+
+pub square_derived : IsDerived expression.square_example
+unfolding all_readers
+square_derived = derived expression.square_example refl
+
+pub square_missed : IsMissed expression.square_near_miss
+unfolding all_readers
+square_missed = missed expression.square_near_miss refl
+
+pub others_derived : IsDerived expression.others_example
+unfolding all_readers
+others_derived = derived expression.others_example refl
+
+pub others_missed : IsMissed expression.others_near_miss
+unfolding all_readers
+others_missed = missed expression.others_near_miss refl
+
+pub each_derived : IsDerived expression.each_example
+unfolding all_readers
+each_derived = derived expression.each_example refl
+
+pub each_missed : IsMissed expression.each_near_miss
+unfolding all_readers
+each_missed = missed expression.each_near_miss refl
+
+pub parallel_derived : IsDerived expression.parallel_example
+unfolding all_readers
+parallel_derived = derived expression.parallel_example refl
+
+pub parallel_missed : IsMissed expression.parallel_near_miss
+unfolding all_readers
+parallel_missed = missed expression.parallel_near_miss refl
+
+pub member_derived : IsDerived expression.member_example
+unfolding all_readers
+member_derived = derived expression.member_example member_read
+
+pub member_missed : IsMissed expression.member_near_miss
+unfolding all_readers
+member_missed = missed expression.member_near_miss refl

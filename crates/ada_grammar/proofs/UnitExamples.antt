@@ -51,3 +51,11 @@ sub_derived = derived unit.sub_example refl
 pub sub_missed : IsMissed unit.sub_near_miss
 unfolding all_readers
 sub_missed = missed unit.sub_near_miss refl
+
+pub procedure_derived : IsDerived unit.procedure_example
+unfolding all_readers
+procedure_derived = derived unit.procedure_example refl
+
+pub procedure_missed : IsMissed unit.procedure_near_miss
+unfolding all_readers
+procedure_missed = missed unit.procedure_near_miss refl

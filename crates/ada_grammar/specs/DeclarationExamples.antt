@@ -199,3 +199,67 @@ formals_near_miss = record {
       ∷ kind.semicolon ∷ kind.end_word ∷ kind.semicolon ∷ []);
   place = 9;
 }
+
+-- decl: procedure P is A : constant Integer range 1 .. 9 := 5; begin null; end;
+abbrev pub object_example : Example
+object_example = record {
+  kinds =
+      kinds_of_unit
+      (kind.identifier ∷ kind.colon ∷ kind.constant_word ∷ kind.identifier ∷ kind.range_word ∷ kind.numeral
+      ∷ kind.dots ∷ kind.numeral ∷ kind.assign ∷ kind.numeral ∷ kind.semicolon ∷ []);
+  tree =
+      declaring
+      (declared.Object (ids 3 []) (Some 5)
+      (object.Indic (record { mark = 6; range = Some (bounds (number 8) (number 10)) }))
+      (Some (expr (number 12)))) 15;
+}
+
+-- "=" in place of ":="
+abbrev pub object_near_miss : NearMiss
+object_near_miss = record {
+  kinds =
+      kinds_of_unit
+      (kind.identifier ∷ kind.colon ∷ kind.constant_word ∷ kind.identifier ∷ kind.range_word ∷ kind.numeral
+      ∷ kind.dots ∷ kind.numeral ∷ kind.equal ∷ kind.numeral ∷ kind.semicolon ∷ []);
+  place = 11;
+}
+
+-- decl: procedure P is E : exception; begin null; end;
+abbrev pub exception_example : Example
+exception_example = record {
+  kinds =
+      kinds_of_unit
+      (kind.identifier ∷ kind.colon ∷ kind.exception_word ∷ kind.semicolon ∷ []);
+  tree =
+      declaring (declared.Exception (ids 3 [])) 8;
+}
+
+-- an exception that is constant
+abbrev pub exception_near_miss : NearMiss
+exception_near_miss = record {
+  kinds =
+      kinds_of_unit
+      (kind.identifier ∷ kind.colon ∷ kind.constant_word ∷ kind.exception_word ∷ kind.semicolon ∷ []);
+  place = 6;
+}
+
+-- decl: procedure P is type T is range 1 .. 9; begin null; end;
+abbrev pub integer_example : Example
+integer_example = record {
+  kinds =
+      kinds_of_unit
+      (kind.type_word ∷ kind.identifier ∷ kind.is_word ∷ kind.range_word ∷ kind.numeral ∷ kind.dots
+      ∷ kind.numeral ∷ kind.semicolon ∷ []);
+  tree =
+      declaring (declared.Type 3 4 (defined.Range (bounds (number 7) (number 9)))) 12;
+}
+
+-- the name left out
+abbrev pub integer_near_miss : NearMiss
+integer_near_miss = record {
+  kinds =
+      kinds_of_unit
+      (kind.type_word ∷ kind.is_word ∷ kind.range_word ∷ kind.numeral ∷ kind.dots ∷ kind.numeral
+      ∷ kind.semicolon ∷ []);
+  place = 4;
+}

@@ -2,16 +2,19 @@
 -- and a near miss.
 use Rattle.std.specs.Prelude.{[], ◌∷◌, Some, None}
 use Rattle.ada_tree.specs.Kinds as kind
-use Rattle.ada_tree.specs.declared.expressions.Adding.TheViews.{roll-Parallel}
+use Rattle.ada_tree.specs.declared.expressions.Adding.TheViews.{roll-Name, roll-Parallel}
+use Rattle.ada_tree.specs.declared.names.Part.TheVariants as part'
 use Rattle.ada_tree.specs.declared.names.Range.TheVariants as range'
 use Rattle.ada_tree.specs.declared.names.Choice.TheVariants as choice'
 use Rattle.ada_tree.specs.declared.names.Chunk.TheVariants as chunk'
 use Rattle.ada_tree.specs.declared.names.Iter.TheVariants as iter'
+use Rattle.ada_tree.specs.declared.declarations.ObjectType.TheVariants as object
+use Rattle.ada_tree.specs.declared.declarations.Decl.TheVariants as declared
 use Rattle.ada_tree.specs.declared.statements.Stmt.TheVariants as stmt'
-use Rattle.ada_tree.specs.declared.statements.Stmt.TheViews.{roll-Body, roll-Alt, roll-Handler}
+use Rattle.ada_tree.specs.declared.statements.Stmt.TheViews.{roll-Body, roll-Alt, roll-Arm, roll-Handler}
 use Rattle.ada_tree.specs.declared.statements.Scheme.TheVariants as scheme'
 use Rattle.ada_tree.specs.declared.statements.Handled.TheVariants as handled'
-use Rattle.ada_grammar.specs.ExampleNodes.{simple, expr, number, identifier, variable, bounds, stmts, body, program, kinds_of_stmts, doing, Example, NearMiss}
+use Rattle.ada_grammar.specs.ExampleNodes.{simple, expr, number, identifier, variable, bounds, argument, ids, stmts, body, program, kinds_of_stmts, doing, Example, NearMiss}
 
 -- body: procedure P is begin null; exception when others => null; end;
 abbrev pub body_example : Example
@@ -297,4 +300,168 @@ range_near_miss = record {
       ∷ kind.dots ∷ kind.numeral ∷ kind.loop_word ∷ kind.null_word ∷ kind.semicolon ∷ kind.end_word
       ∷ kind.loop_word ∷ kind.semicolon ∷ []);
   place = 8;
+}
+
+-- stmt: procedure P is begin exit L when B; end;
+abbrev pub exit_example : Example
+exit_example = record {
+  kinds =
+      kinds_of_stmts
+      (kind.exit_word ∷ kind.identifier ∷ kind.when_word ∷ kind.identifier ∷ kind.semicolon ∷ []);
+  tree =
+      doing (stmt'.Exit 4 (Some 5) (Some (expr (variable 7))));
+}
+
+-- "when" left out
+abbrev pub exit_near_miss : NearMiss
+exit_near_miss = record {
+  kinds =
+      kinds_of_stmts
+      (kind.exit_word ∷ kind.identifier ∷ kind.identifier ∷ kind.semicolon ∷ []);
+  place = 6;
+}
+
+-- stmt: procedure P is begin raise A.B; end;
+abbrev pub raise_example : Example
+raise_example = record {
+  kinds =
+      kinds_of_stmts
+      (kind.raise_word ∷ kind.identifier ∷ kind.point ∷ kind.identifier ∷ kind.semicolon ∷ []);
+  tree =
+      doing (stmt'.Raise 4 (Some (record { first = 5; more = 7 ∷ [] })));
+}
+
+-- a number in place of the first identifier
+abbrev pub raise_near_miss : NearMiss
+raise_near_miss = record {
+  kinds =
+      kinds_of_stmts
+      (kind.raise_word ∷ kind.numeral ∷ kind.point ∷ kind.identifier ∷ kind.semicolon ∷ []);
+  place = 5;
+}
+
+-- stmt: procedure P is begin if B then null; elsif C then return; end if; end;
+abbrev pub elsif_example : Example
+elsif_example = record {
+  kinds =
+      kinds_of_stmts
+      (kind.if_word ∷ kind.identifier ∷ kind.then_word ∷ kind.null_word ∷ kind.semicolon ∷ kind.elsif_word
+      ∷ kind.identifier ∷ kind.then_word ∷ kind.return_word ∷ kind.semicolon ∷ kind.end_word ∷ kind.if_word
+      ∷ kind.semicolon ∷ []);
+  tree =
+      doing
+      (stmt'.If 4 (expr (variable 5)) (stmts (stmt'.Null 7) [])
+      (roll-Arm (record { at = 9; condition = expr (variable 10); stmts = stmts (stmt'.Return 12 None) [] })
+      ∷ []) None);
+}
+
+-- the second "then" left out
+abbrev pub elsif_near_miss : NearMiss
+elsif_near_miss = record {
+  kinds =
+      kinds_of_stmts
+      (kind.if_word ∷ kind.identifier ∷ kind.then_word ∷ kind.null_word ∷ kind.semicolon ∷ kind.elsif_word
+      ∷ kind.identifier ∷ kind.return_word ∷ kind.semicolon ∷ kind.end_word ∷ kind.if_word ∷ kind.semicolon
+      ∷ []);
+  place = 11;
+}
+
+-- stmt: procedure P is begin L : loop exit; end loop L; end;
+abbrev pub label_example : Example
+label_example = record {
+  kinds =
+      kinds_of_stmts
+      (kind.identifier ∷ kind.colon ∷ kind.loop_word ∷ kind.exit_word ∷ kind.semicolon ∷ kind.end_word
+      ∷ kind.loop_word ∷ kind.identifier ∷ kind.semicolon ∷ []);
+  tree =
+      doing (stmt'.Loop (Some 4) None 6 (stmts (stmt'.Exit 7 None None) []) 9 (Some 11));
+}
+
+-- the colon left out
+abbrev pub label_near_miss : NearMiss
+label_near_miss = record {
+  kinds =
+      kinds_of_stmts
+      (kind.identifier ∷ kind.loop_word ∷ kind.exit_word ∷ kind.semicolon ∷ kind.end_word ∷ kind.loop_word
+      ∷ kind.identifier ∷ kind.semicolon ∷ []);
+  place = 5;
+}
+
+-- stmt: procedure P is begin declare A : Integer; begin null; end; end;
+abbrev pub block_example : Example
+block_example = record {
+  kinds =
+      kinds_of_stmts
+      (kind.declare_word ∷ kind.identifier ∷ kind.colon ∷ kind.identifier ∷ kind.semicolon ∷ kind.begin_word
+      ∷ kind.null_word ∷ kind.semicolon ∷ kind.end_word ∷ kind.semicolon ∷ []);
+  tree =
+      doing
+      (stmt'.Block
+      (Some
+      (record {
+        at = 4;
+        decls = declared.Object (ids 5 []) None (object.Indic (record { mark = 7; range = None })) None ∷ [];
+      })) 9 (body (stmts (stmt'.Null 10) [])));
+}
+
+-- the first semicolon left out
+abbrev pub block_near_miss : NearMiss
+block_near_miss = record {
+  kinds =
+      kinds_of_stmts
+      (kind.declare_word ∷ kind.identifier ∷ kind.colon ∷ kind.identifier ∷ kind.begin_word ∷ kind.null_word
+      ∷ kind.semicolon ∷ kind.end_word ∷ kind.semicolon ∷ []);
+  place = 8;
+}
+
+-- stmt: procedure P is begin parallel (2) do null; and return; end do; end;
+abbrev pub both_example : Example
+both_example = record {
+  kinds =
+      kinds_of_stmts
+      (kind.parallel_word ∷ kind.open_round ∷ kind.numeral ∷ kind.close_round ∷ kind.do_word ∷ kind.null_word
+      ∷ kind.semicolon ∷ kind.and_word ∷ kind.return_word ∷ kind.semicolon ∷ kind.end_word ∷ kind.do_word
+      ∷ kind.semicolon ∷ []);
+  tree =
+      doing
+      (stmt'.Parallel 4 (Some (simple (number 6))) (stmts (stmt'.Null 9) []) (stmts (stmt'.Return 12 None) [])
+      []);
+}
+
+-- "and" left out
+abbrev pub both_near_miss : NearMiss
+both_near_miss = record {
+  kinds =
+      kinds_of_stmts
+      (kind.parallel_word ∷ kind.open_round ∷ kind.numeral ∷ kind.close_round ∷ kind.do_word ∷ kind.null_word
+      ∷ kind.semicolon ∷ kind.return_word ∷ kind.semicolon ∷ kind.end_word ∷ kind.do_word ∷ kind.semicolon ∷ []);
+  place = 13;
+}
+
+-- iter: procedure P is begin for X of A (1) when B loop null; end loop; end;
+abbrev pub of_example : Example
+of_example = record {
+  kinds =
+      kinds_of_stmts
+      (kind.for_word ∷ kind.identifier ∷ kind.of_word ∷ kind.identifier ∷ kind.open_round ∷ kind.numeral
+      ∷ kind.close_round ∷ kind.when_word ∷ kind.identifier ∷ kind.loop_word ∷ kind.null_word ∷ kind.semicolon
+      ∷ kind.end_word ∷ kind.loop_word ∷ kind.semicolon ∷ []);
+  tree =
+      doing
+      (stmt'.Loop None
+      (Some
+      (scheme'.For None 4
+      (iter'.Of 5 (roll-Name (record { first = 7; parts = part'.Call 8 (argument (number 9)) [] ∷ [] }))
+      (Some (expr (variable 12)))))) 13 (stmts (stmt'.Null 14) []) 16 None);
+}
+
+-- "when" left out
+abbrev pub of_near_miss : NearMiss
+of_near_miss = record {
+  kinds =
+      kinds_of_stmts
+      (kind.for_word ∷ kind.identifier ∷ kind.of_word ∷ kind.identifier ∷ kind.open_round ∷ kind.numeral
+      ∷ kind.close_round ∷ kind.identifier ∷ kind.loop_word ∷ kind.null_word ∷ kind.semicolon ∷ kind.end_word
+      ∷ kind.loop_word ∷ kind.semicolon ∷ []);
+  place = 11;
 }

@@ -206,3 +206,31 @@ sub_near_miss = record {
       ∷ kind.open_round ∷ kind.numeral ∷ kind.close_round ∷ kind.semicolon ∷ []);
   place = 5;
 }
+
+-- sub: procedure P is procedure Q with Nonblocking is A : Integer; begin null; end Q; begin null; end;
+abbrev pub procedure_example : Example
+procedure_example = record {
+  kinds =
+      kinds_of_unit
+      (kind.procedure_word ∷ kind.identifier ∷ kind.with_word ∷ kind.identifier ∷ kind.is_word ∷ kind.identifier
+      ∷ kind.colon ∷ kind.identifier ∷ kind.semicolon ∷ kind.begin_word ∷ kind.null_word ∷ kind.semicolon
+      ∷ kind.end_word ∷ kind.identifier ∷ kind.semicolon ∷ []);
+  tree =
+      program
+      (unit'.Sub
+      (sub'.Procedure 3 4 None (Some (record { at = 5; name = 6; value = None }))
+      (declared.Object (ids 8 []) None (object.Indic (record { mark = 10; range = None })) None ∷ [])
+      (body (stmts (stmt'.Null 13) [])) (Some 16))
+      ∷ []) (body (stmts (stmt'.Null 19) []));
+}
+
+-- a subprogram in a subprogram
+abbrev pub procedure_near_miss : NearMiss
+procedure_near_miss = record {
+  kinds =
+      kinds_of_unit
+      (kind.procedure_word ∷ kind.identifier ∷ kind.with_word ∷ kind.identifier ∷ kind.is_word
+      ∷ kind.procedure_word ∷ kind.colon ∷ kind.identifier ∷ kind.semicolon ∷ kind.begin_word ∷ kind.null_word
+      ∷ kind.semicolon ∷ kind.end_word ∷ kind.identifier ∷ kind.semicolon ∷ []);
+  place = 8;
+}

@@ -20,9 +20,9 @@ pub fn exact_readers()
     ensures { (limit : ℕ) (kinds : List ℕ) → Verdict limit ProgramWords kinds (program limit (numbered 0 kinds)) }
 {}
 
-/// For each rule of the grammar, a program whose tree was written by hand: the tree derives its kinds. And for
-/// each a list of kinds with one token changed, left out or added: it is no program, and its first fault is at
-/// the place that was found by hand.
+/// Examples of each rule of the grammar, and of most of its alternatives: the tree, which was written by hand,
+/// derives the kinds. And for each of them kinds in which one token is another, left out or added: they are no
+/// program, and their first fault is at the place that was found by hand.
 pub fn known_trees()
     ensures derived { All IsDerived examples }
     ensures missed { All IsMissed near_misses }
