@@ -9,7 +9,7 @@ ghost use Rattle.ada_lexer.specs.Stop.{StopsAt};
 
 use crate::fault::LexFault;
 use crate::stop::Stop;
-use crate::tokens::tokens_in;
+use crate::tokens::{MOST_TOKENS, tokens_in};
 use ada_base::{Tokens, place_of};
 use std::alloc::{AllocError, Global};
 
@@ -29,7 +29,7 @@ fn fault_at(text: &str, stop: Stop) -> LexFault
             at: place_of(text, at),
         },
         Stop::TooLong { at } => LexFault::TooLong {
-            count: 200_001,
+            count: MOST_TOKENS as u32 + 1,
             at: place_of(text, at),
         },
         Stop::OutOfMemory => LexFault::OutOfMemory,

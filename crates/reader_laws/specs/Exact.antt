@@ -1,14 +1,9 @@
 -- What a reader has to do with a language.
 use Rattle.std.specs.Prelude.{◌≡◌, ℕ, ◌<◌, ◌≤◌, List, [], ◌∷◌, ◌++◌, ◌⊎◌}
-use Rattle.reader_laws.specs.Symbols.{Symbol, Nested, Word, symbols_of}
+use Rattle.ada_base.specs.Symbols.{Symbol, Nested, Word, symbols_of}
 use Rattle.reader_laws.specs.Readers.{Answer, Found, Refused, TooDeep, Reader}
-use Rattle.reader_laws.specs.Languages.{Language, Begins, Inhabited}
+use Rattle.ada_base.specs.Languages.{Language, Begins, Inhabited}
 use Rattle.reader_laws.specs.Sets.{Sets, Starts, Stops}
-
--- no symbol of a word stands deeper than the limit
-abbrev pub AllWithin : ℕ → Word → Type 0
-AllWithin limit [] = Unit {0}
-AllWithin limit (c ∷ w) = (c.depth ≤ limit) × AllWithin limit w
 
 -- the symbols up to where the reader refused begin a word, or are none
 abbrev pub RefusesWell : {A : Type 0} → (A → Language) → List Symbol → List Symbol → Type 0

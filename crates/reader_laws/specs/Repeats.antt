@@ -1,7 +1,7 @@
 -- What a loop that reads items ensures.
 use Rattle.std.specs.Prelude.{ℕ, List, [], ◌∷◌, Result}
 use denote.Ref.{MutBor}
-use Rattle.reader_laws.specs.Symbols.{Symbol}
+use Rattle.ada_base.specs.Symbols.{Symbol}
 use Rattle.reader_laws.specs.Readers.{Reader, many}
 use Rattle.reader_laws.specs.Gives.{Gives, behind}
 use Rattle.reader_laws.specs.declared.fault.Fault.{Fault}

@@ -4,7 +4,7 @@ ghost use Rattle.std.specs.Prelude.{◌≡◌, ◌<◌, ◌^◌, length};
 ghost use Rattle.reader_laws.specs.Gives.{Gives};
 ghost use Rattle.reader_laws.specs.Readers as reader;
 ghost use Rattle.reader_laws.specs.Settled.{place_in};
-ghost use Rattle.reader_laws.specs.Symbols.{numbered, next_kind};
+ghost use Rattle.ada_base.specs.Symbols.{numbered, next_kind};
 
 use crate::fault::Fault;
 use std::marker::Model;
@@ -18,7 +18,7 @@ pub struct Cursor<'a> {
 
 impl<'a> Model for Cursor<'a> {
     ghost use Rattle.std.specs.Prelude.{List};
-    ghost use Rattle.reader_laws.specs.Symbols.{Symbol};
+    ghost use Rattle.ada_base.specs.Symbols.{Symbol};
     ghost use Rattle.reader_laws.specs.Ahead.{code, ahead, IsReady};
 
     ghost Value = { List Symbol };

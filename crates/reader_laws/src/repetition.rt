@@ -1,7 +1,7 @@
 //! A loop that reads items.
 
 ghost use Rattle.std.specs.Prelude.{◌≡◌};
-ghost use Rattle.reader_laws.specs.Symbols.{is_member};
+ghost use Rattle.ada_base.specs.Symbols.{is_member};
 ghost use Rattle.reader_laws.specs.Repeats.{GivesMore};
 
 use crate::cursor::Cursor;

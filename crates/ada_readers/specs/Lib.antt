@@ -1,0 +1,14 @@
+pub mod Bare
+pub mod BracketReaders
+pub mod DeclarationReaders
+pub mod ExpressionReaders
+pub mod Levels
+pub mod Opened
+pub mod StatementReaders
+pub mod UnitReaders
+pub mod DeclarationExamples
+pub mod ExampleNodes
+pub mod Examples
+pub mod ExpressionExamples
+pub mod StatementExamples
+pub mod UnitExamples
