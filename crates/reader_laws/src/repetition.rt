@@ -9,7 +9,7 @@ use crate::fault::Fault;
 use ada_base::Items;
 
 /// Whether a kind is one of these.
-pub fn is_one_of(kinds: &[u8], kind: u8) -> bool
+pub fn is_one_of(kinds: &[u16], kind: u16) -> bool
     ensures { result ≡ is_member kinds.now kind }
 {
     kinds.iter().any(|x| *x == kind)
@@ -20,7 +20,7 @@ pub fn is_one_of(kinds: &[u8], kind: u8) -> bool
 pub fn read_more<T: Drop, F: Fn(&mut Cursor<'_>) -> Result<T, Fault>>(
     found: Items<T>,
     tokens: &mut Cursor<'_>,
-    first: &[u8],
+    first: &[u16],
     item: F,
 ) -> Result<Items<T>, Fault>
     requires { F.IsAlwaysCallable item }
