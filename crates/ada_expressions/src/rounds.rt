@@ -1,0 +1,128 @@
+//! Round brackets: of calls, of primaries, and of chunk specifications.
+
+ghost use Rattle.std.specs.Prelude.{◌≡◌, IfOk};
+ghost use Rattle.reader_laws.specs.Gives.{Gives};
+ghost use Rattle.ada_readers.specs.BracketReaders as reader;
+
+use crate::associations::{read_each, read_more_assocs};
+use crate::bare::bare_identifier;
+use crate::conditionals::read_if_expr;
+use crate::insides::read_inside;
+use crate::kinds::{CLOSE_ROUND, FOR, IF, IN, OPEN_ROUND};
+use crate::opening::Opening;
+use crate::ranges::{read_arg, read_more_args, read_range};
+use crate::sums::read_simple;
+use ada_base::Boxed;
+use ada_readers::readings::Inside;
+use ada_tree::{Aggregate, Chunk, Many, Part, Primary, Simple};
+use reader_laws::{Cursor, Fault};
+use std::alloc::{AllocError, Global};
+
+/// A call's arguments in their brackets (6.4).
+#[tactic(auto, unfolding(ada_readers::specs::BracketReaders::call))]
+pub fn read_call<O: Opening>(
+    alloc: Global,
+    inner: &O,
+    tokens: &mut Cursor<'_>,
+) -> Result<Part, Fault>
+    requires { O.ready inner.now }
+    ensures { Gives (reader.call (O.opened inner.now) tokens.old) result tokens.new }
+{
+    let bracket = tokens.take(OPEN_ROUND)?;
+    let first = Boxed::new(alloc, read_arg(alloc, inner, tokens)?)?;
+    let more = read_more_args(alloc, inner, tokens)?;
+    tokens.take(CLOSE_ROUND)?;
+    Ok(Part::Call {
+        bracket,
+        first,
+        more,
+    })
+}
+
+/// The primary that round brackets make of what stands in them.
+fn rounded(alloc: Global, bracket: u32, inside: Inside) -> Result<Primary, AllocError>
+    ensures { IfOk result (λ primary. primary ≡ reader.rounded bracket inside) }
+{
+    match inside {
+        Inside::Alone(expr) => Ok(Primary::Group {
+            bracket,
+            expr: Boxed::new(alloc, expr)?,
+        }),
+        Inside::Several(many) => {
+            let aggregate = Aggregate::Round { bracket, many };
+            Ok(Primary::Aggregate(Boxed::new(alloc, aggregate)?))
+        }
+    }
+}
+
+/// A primary that begins with a round bracket.
+#[tactic(auto, unfolding(ada_readers::specs::BracketReaders::round))]
+pub fn read_round<O: Opening>(
+    alloc: Global,
+    inner: &O,
+    tokens: &mut Cursor<'_>,
+) -> Result<Primary, Fault>
+    requires { O.ready inner.now }
+    ensures { Gives (reader.round (O.opened inner.now) tokens.old) result tokens.new }
+{
+    let bracket = tokens.take(OPEN_ROUND)?;
+    match tokens.peek() {
+        IF => {
+            let expr = Boxed::new(alloc, read_if_expr(alloc, inner, tokens)?)?;
+            tokens.take(CLOSE_ROUND)?;
+            Ok(Primary::If { bracket, expr })
+        }
+        FOR => {
+            let first = read_each(alloc, inner, tokens)?;
+            let more = read_more_assocs(alloc, inner, tokens)?;
+            tokens.take(CLOSE_ROUND)?;
+            let many = Many::Named { first, more };
+            let aggregate = Aggregate::Round { bracket, many };
+            Ok(Primary::Aggregate(Boxed::new(alloc, aggregate)?))
+        }
+        _ => {
+            let inside = read_inside(alloc, inner, tokens)?;
+            tokens.take(CLOSE_ROUND)?;
+            Ok(rounded(alloc, bracket, inside)?)
+        }
+    }
+}
+
+/// A chunk specification, after its first sum.
+#[tactic(auto, unfolding(ada_readers::specs::BracketReaders::chunk_from))]
+fn read_chunk_from<O: Opening>(
+    alloc: Global,
+    inner: &O,
+    tokens: &mut Cursor<'_>,
+    count: Simple,
+) -> Result<Chunk, Fault>
+    requires { O.ready inner.now }
+    ensures { Gives (reader.chunk_from (O.opened inner.now) count tokens.old) result tokens.new }
+{
+    if tokens.peek() != IN {
+        return Ok(Chunk::Count(count));
+    }
+    let Some(index) = bare_identifier(&count) else {
+        return Err(Fault::Unexpected);
+    };
+    tokens.take(IN)?;
+    let range = read_range(alloc, inner, tokens)?;
+    Ok(Chunk::Each { index, range })
+}
+
+/// A chunk specification in its brackets (5.5).
+#[tactic(auto, unfolding(ada_readers::specs::BracketReaders::chunk))]
+pub fn read_chunk<O: Opening>(
+    alloc: Global,
+    inner: &O,
+    tokens: &mut Cursor<'_>,
+) -> Result<Chunk, Fault>
+    requires { O.ready inner.now }
+    ensures { Gives (reader.chunk (O.opened inner.now) tokens.old) result tokens.new }
+{
+    tokens.take(OPEN_ROUND)?;
+    let count = read_simple(alloc, inner, tokens)?;
+    let chunk = read_chunk_from(alloc, inner, tokens, count)?;
+    tokens.take(CLOSE_ROUND)?;
+    Ok(chunk)
+}
