@@ -1,7 +1,11 @@
 //! What opens a bracket, where so many levels may still open.
 
+ghost use Rattle.std.specs.Prelude.{[], ◌∷◌};
 ghost use Rattle.reader_laws.specs.Gives.{Gives};
-ghost use Rattle.ada_readers.specs.Levels.{levels};
+ghost use Rattle.ada_tree.specs.Kinds as kind;
+ghost use Rattle.ada_readers.specs.Levels as level;
+ghost use Rattle.ada_readers.specs.ExpressionReaders as expression;
+ghost use Rattle.ada_readers.specs.BracketReaders as bracket;
 
 use crate::kinds::{OPEN_ROUND, OPEN_SQUARE};
 use crate::opening::Openers;
@@ -14,10 +18,10 @@ use std::alloc::Global;
 /// A primary that begins with a round bracket.
 #[cycle(levels)]
 #[tactic(auto, unfolding(ada_readers::specs::Levels::levels))]
-pub fn round(alloc: Global, tokens: &mut Cursor<'_>, depth: u32) -> Result<Primary, Fault>
-    ensures { Gives ((levels depth).round tokens.old) result tokens.new }
+pub fn round(alloc: Global, tokens: &mut Cursor<'_>, levels: u32) -> Result<Primary, Fault>
+    ensures { Gives ((level.levels levels).round tokens.old) result tokens.new }
 {
-    if depth == 0 {
+    if levels == 0 {
         if tokens.peek() == OPEN_ROUND {
             return Err(Fault::TooDeep);
         }
@@ -25,7 +29,7 @@ pub fn round(alloc: Global, tokens: &mut Cursor<'_>, depth: u32) -> Result<Prima
     }
     let inner = Openers {
         alloc,
-        levels: depth - 1,
+        levels: levels - 1,
         round,
         square,
         call,
@@ -37,10 +41,10 @@ pub fn round(alloc: Global, tokens: &mut Cursor<'_>, depth: u32) -> Result<Prima
 /// A primary that begins with a square bracket.
 #[cycle(levels)]
 #[tactic(auto, unfolding(ada_readers::specs::Levels::levels))]
-pub fn square(alloc: Global, tokens: &mut Cursor<'_>, depth: u32) -> Result<Primary, Fault>
-    ensures { Gives ((levels depth).square tokens.old) result tokens.new }
+pub fn square(alloc: Global, tokens: &mut Cursor<'_>, levels: u32) -> Result<Primary, Fault>
+    ensures { Gives ((level.levels levels).square tokens.old) result tokens.new }
 {
-    if depth == 0 {
+    if levels == 0 {
         if tokens.peek() == OPEN_SQUARE {
             return Err(Fault::TooDeep);
         }
@@ -48,7 +52,7 @@ pub fn square(alloc: Global, tokens: &mut Cursor<'_>, depth: u32) -> Result<Prim
     }
     let inner = Openers {
         alloc,
-        levels: depth - 1,
+        levels: levels - 1,
         round,
         square,
         call,
@@ -60,10 +64,10 @@ pub fn square(alloc: Global, tokens: &mut Cursor<'_>, depth: u32) -> Result<Prim
 /// The round brackets of a call, an index or a conversion.
 #[cycle(levels)]
 #[tactic(auto, unfolding(ada_readers::specs::Levels::levels))]
-pub fn call(alloc: Global, tokens: &mut Cursor<'_>, depth: u32) -> Result<Part, Fault>
-    ensures { Gives ((levels depth).call tokens.old) result tokens.new }
+pub fn call(alloc: Global, tokens: &mut Cursor<'_>, levels: u32) -> Result<Part, Fault>
+    ensures { Gives ((level.levels levels).call tokens.old) result tokens.new }
 {
-    if depth == 0 {
+    if levels == 0 {
         if tokens.peek() == OPEN_ROUND {
             return Err(Fault::TooDeep);
         }
@@ -71,7 +75,7 @@ pub fn call(alloc: Global, tokens: &mut Cursor<'_>, depth: u32) -> Result<Part, 
     }
     let inner = Openers {
         alloc,
-        levels: depth - 1,
+        levels: levels - 1,
         round,
         square,
         call,
@@ -83,10 +87,10 @@ pub fn call(alloc: Global, tokens: &mut Cursor<'_>, depth: u32) -> Result<Part, 
 /// A chunk specification in its brackets.
 #[cycle(levels)]
 #[tactic(auto, unfolding(ada_readers::specs::Levels::levels))]
-pub fn chunk(alloc: Global, tokens: &mut Cursor<'_>, depth: u32) -> Result<Chunk, Fault>
-    ensures { Gives ((levels depth).chunk tokens.old) result tokens.new }
+pub fn chunk(alloc: Global, tokens: &mut Cursor<'_>, levels: u32) -> Result<Chunk, Fault>
+    ensures { Gives ((level.levels levels).chunk tokens.old) result tokens.new }
 {
-    if depth == 0 {
+    if levels == 0 {
         if tokens.peek() == OPEN_ROUND {
             return Err(Fault::TooDeep);
         }
@@ -94,7 +98,7 @@ pub fn chunk(alloc: Global, tokens: &mut Cursor<'_>, depth: u32) -> Result<Chunk
     }
     let inner = Openers {
         alloc,
-        levels: depth - 1,
+        levels: levels - 1,
         round,
         square,
         call,

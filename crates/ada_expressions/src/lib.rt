@@ -11,6 +11,7 @@ pub mod kinds;
 pub mod levels;
 pub mod names;
 pub mod opening;
+pub mod parts;
 pub mod ranges;
 pub mod relations;
 pub mod rounds;
