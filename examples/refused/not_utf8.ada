@@ -1,0 +1,7 @@
+with Ada.Text_IO; use Ada.Text_IO;
+procedure Main is
+-- ÿ
+X : Integer := 2;
+begin
+Put_Line (Integer'Image (X));
+end Main;
