@@ -1,0 +1,5 @@
+pub mod Breaks
+pub mod Joins
+pub mod Listed
+pub mod Spoken
+pub mod Tables
