@@ -2,7 +2,7 @@
 use Rattle.std.proofs.Common.{◌≡◌, ℕ, ◌<◌, ◌≤◌, Bool, true, false, not, ◌&&◌, ◌||◌, ◌==◌, List, [], ◌∷◌, ◌++◌, refl, sym, ap, ◌∙◌, arith, lit<, ⊎_elim}
 use Rattle.std.specs.List.{list_all}
 use Rattle.std.specs.Char.{is_ascii_alphabetic}
-use Rattle.std.specs.Prelude.{encode_utf8, encode_utf8_all, nat_lt}
+use Rattle.std.specs.Prelude.{encode_utf8, encode_utf8_all, nat_lt, nat_le}
 use Rattle.std.proofs.Math.Utf8.{scalar, scalars}
 use Rattle.std.proofs.lemmas.Str.{encode_ascii}
 use Rattle.std.proofs.lemmas.List.Folds.{list_all-append}
@@ -75,12 +75,24 @@ implied p q all c below h =
 abbrev pub is_edge : ℕ → Bool
 is_edge c = is_white c || ((c == 45) || ((c == 34) || (c == 39)))
 
-white_below : (c : ℕ) → is_white c ≡ true → c < 128
-white_below c h = ⊎_elim (λ both. let high = leb-true c 13 (and_parts _ _ both).1 in omega (arith, high)) (λ e. omega (arith, eqb-true c 32 e)) (or_cases _ _ h)
+module _ (c : ℕ) where
+  equal_below : (n : ℕ) → n < 128 → (c == n) ≡ true → c < 128
+  equal_below n small e = let same : c ≡ n = eqb-true c n e in omega arith
 
-edge_below : (c : ℕ) → is_edge c ≡ true → c < 128
-edge_below c h =
-    ⊎_elim (white_below c) (λ a. ⊎_elim (λ e. omega (arith, eqb-true c 45 e)) (λ b. ⊎_elim (λ e. omega (arith, eqb-true c 34 e)) (λ e. omega (arith, eqb-true c 39 e)) (or_cases _ _ b)) (or_cases _ _ a)) (or_cases _ _ h)
+  range_below : (nat_le 9 c && nat_le c 13) ≡ true → c < 128
+  range_below h = let high : c ≤ 13 = leb-true c 13 (and_parts _ _ h).1 in omega arith
+
+  white_below : is_white c ≡ true → c < 128
+  white_below h = ⊎_elim range_below (equal_below 32 (lit< tt)) (or_cases _ _ h)
+
+  quote_below : ((c == 34) || (c == 39)) ≡ true → c < 128
+  quote_below h = ⊎_elim (equal_below 34 (lit< tt)) (equal_below 39 (lit< tt)) (or_cases _ _ h)
+
+  mark_below : ((c == 45) || ((c == 34) || (c == 39))) ≡ true → c < 128
+  mark_below h = ⊎_elim (equal_below 45 (lit< tt)) quote_below (or_cases _ _ h)
+
+  edge_below : is_edge c ≡ true → c < 128
+  edge_below h = ⊎_elim white_below mark_below (or_cases _ _ h)
 
 no_edge : (p : ℕ → Bool) → agree_below (λ x. not (p x) || not (is_edge x)) (λ x. true) 128 ≡ true → (c : ℕ) → (c < 128 → p c ≡ true) → is_edge c ≡ false
 no_edge p all c h = false_from_ne_true _ (λ edge. let below = edge_below c edge in true≢false (sym edge ∙ not-true _ (implied p (λ x. not (is_edge x)) all c below (h below))))
@@ -94,7 +106,7 @@ digit_no_edge c h = no_edge (is_digit 10) refl c (λ below. h)
 
 -- a list with a character that fails a test
 pub breaks_none : (p : ℕ → Bool) (a m : List ℕ) (c : ℕ) → list_all p (a ++ c ∷ m) ≡ true → p c ≡ false → ⊥
-breaks_none p a m c h no = true≢false (sym (and_parts (p c) _ (and_parts (list_all p a) _ (sym (list_all-append p a (c ∷ m)) ∙ h)).1).0 ∙ no)
+breaks_none p a m c h fails = true≢false (sym (and_parts (p c) _ (and_parts (list_all p a) _ (sym (list_all-append p a (c ∷ m)) ∙ h)).1).0 ∙ fails)
 
 pub all_by : (p q : ℕ → Bool) → ((c : ℕ) → p c ≡ true → q c ≡ true) → (s : List ℕ) → list_all p s ≡ true → list_all q s ≡ true
 all_by p q step [] h = refl

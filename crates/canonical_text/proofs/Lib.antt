@@ -1,5 +1,10 @@
 pub mod Breaks
+pub mod Built
+pub mod Gathered
 pub mod Joins
 pub mod Listed
+pub mod Numbers
+pub mod Pieces
+pub mod SameTokens
 pub mod Spoken
 pub mod Tables

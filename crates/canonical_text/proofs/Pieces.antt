@@ -136,25 +136,25 @@ split (y ∷ a) (x ∷ b) w r q e = ⊎_elim (λ short. inl (omega (arith, short
   longer (m, h) = inr (m, (let first : y ≡ x = cc in cc))
 
 without : (p : ℕ → Bool) (slice : List ℕ) (w : ℕ) (r s q : List ℕ) → list_all p s ≡ true → p w ≡ false → slice ++ w ∷ r ≡ s ++ q → length s ≤ length slice
-without p slice w r s q all no e = ⊎_elim (λ short. short) longer (split slice s w r q e) where
+without p slice w r s q all fails e = ⊎_elim (λ short. short) longer (split slice s w r q e) where
   longer : ((m : List ℕ) × (s ≡ slice ++ w ∷ m)) → length s ≤ length slice
-  longer (m, h) = absurd (breaks_none p slice m w (ap (list_all p) (sym h) ∙ all) no)
+  longer (m, h) = absurd (breaks_none p slice m w (ap (list_all p) (sym h) ∙ all) fails)
 
 quoted_longest : {a b : List ℕ} → IsQuoted a → IsQuoted b → (w : ℕ) (r q : List ℕ) → (w == 34) ≡ false → a ++ 34 ∷ w ∷ r ≡ b ++ 34 ∷ q → length b ≤ length a
-quoted_longest NothingQuoted NothingQuoted w r q no e = omega arith
-quoted_longest NothingQuoted (Character d t plain allowed y) w r q no e = let h : 34 ≡ d = cc in absurd (true≢false (sym (eq-eqb d 34 (sym h)) ∙ plain))
-quoted_longest NothingQuoted (Doubled t y) w r q no e = let h : w ≡ 34 = cc in absurd (true≢false (sym (eq-eqb w 34 h) ∙ no))
-quoted_longest (Character c s plain allowed x) NothingQuoted w r q no e = omega arith
-quoted_longest (Character c s plain allowed x) (Character d t plain' allowed' y) w r q no e =
+quoted_longest NothingQuoted NothingQuoted w r q plain_w e = omega arith
+quoted_longest NothingQuoted (Character d t plain allowed y) w r q plain_w e = let h : 34 ≡ d = cc in absurd (true≢false (sym (eq-eqb d 34 (sym h)) ∙ plain))
+quoted_longest NothingQuoted (Doubled t y) w r q plain_w e = let h : w ≡ 34 = cc in absurd (true≢false (sym (eq-eqb w 34 h) ∙ plain_w))
+quoted_longest (Character c s plain allowed x) NothingQuoted w r q plain_w e = omega arith
+quoted_longest (Character c s plain allowed x) (Character d t plain' allowed' y) w r q plain_w e =
     let others : s ++ 34 ∷ w ∷ r ≡ t ++ 34 ∷ q = cc in
-    let k = quoted_longest x y w r q no others in
+    let k = quoted_longest x y w r q plain_w others in
     omega (arith, k)
-quoted_longest (Character c s plain allowed x) (Doubled t y) w r q no e = let h : c ≡ 34 = cc in absurd (true≢false (sym (eq-eqb c 34 h) ∙ plain))
-quoted_longest (Doubled s x) NothingQuoted w r q no e = omega arith
-quoted_longest (Doubled s x) (Character d t plain allowed y) w r q no e = let h : 34 ≡ d = cc in absurd (true≢false (sym (eq-eqb d 34 (sym h)) ∙ plain))
-quoted_longest (Doubled s x) (Doubled t y) w r q no e =
+quoted_longest (Character c s plain allowed x) (Doubled t y) w r q plain_w e = let h : c ≡ 34 = cc in absurd (true≢false (sym (eq-eqb c 34 h) ∙ plain))
+quoted_longest (Doubled s x) NothingQuoted w r q plain_w e = omega arith
+quoted_longest (Doubled s x) (Character d t plain allowed y) w r q plain_w e = let h : 34 ≡ d = cc in absurd (true≢false (sym (eq-eqb d 34 (sym h)) ∙ plain))
+quoted_longest (Doubled s x) (Doubled t y) w r q plain_w e =
     let others : s ++ 34 ∷ w ∷ r ≡ t ++ 34 ∷ q = cc in
-    let k = quoted_longest x y w r q no others in
+    let k = quoted_longest x y w r q plain_w others in
     omega (arith, k)
 
 abbrev pub begins_tick : List ℕ → Bool
@@ -186,9 +186,9 @@ module _ (p : Piece) (w : ℕ) (r : List ℕ) (is : IsPiece p) (b : IsBreak w) w
       omega (arith, k, ap length g.parts, ap length there)
     where
       go : (o : List ℕ) → o ++ w ∷ r ≡ d ∷ 39 ∷ q → begins_tick r ≡ false → 3 ≤ suc (length o)
-      go [] h no = let tail : r ≡ 39 ∷ q = cc in absurd (true≢false (sym (ap begins_tick tail) ∙ no))
-      go (x ∷ []) h no = let tick : w ≡ 39 = cc in absurd (true≢false (sym (eq-eqb w 39 tick) ∙ b.no_tick))
-      go (x ∷ y ∷ o) h no = omega arith
+      go [] h none = let tail : r ≡ 39 ∷ q = cc in absurd (true≢false (sym (ap begins_tick tail) ∙ none))
+      go (x ∷ []) h none = let tick : w ≡ 39 = cc in absurd (true≢false (sym (eq-eqb w 39 tick) ∙ b.no_tick))
+      go (x ∷ y ∷ o) h none = omega arith
 
   longest : (before : Option Kind) → (kind_number p.kind ≡ tick → begins_tick r ≡ false) → (other : Kind) (s q : List ℕ) → p.slice ++ w ∷ r ≡ s ++ q → IsSpelling before other s → length s ≤ length p.slice
   longest before apart Ident s q e (shape, x, y) = without is_xid_continue p.slice w r s q shape.each b.no_name e

@@ -79,7 +79,7 @@ lower_name (c ∷ s) h =
         between = none_between _ lower_plain (c ∷ s) each;
       };
       lower = lower_same (c ∷ s) each;
-      small = all_by _ is_small (λ d both. (and_parts (is_small d) _ both).0) (c ∷ s) each;
+      small = all_by (λ d. is_small d && is_lower d) is_small (λ d both. (and_parts (is_small d) (is_lower d) both).0) (c ∷ s) each;
     }
 
 pub word_at : (n : ℕ) (s : List ℕ) → slice_get words n ≡ Some s → IsWordText s
@@ -115,8 +115,8 @@ mark_text (c ∷ t) h =
       first = c;
       others = t;
       parts = refl;
-      plain = all_by _ (λ d. not (is_white d)) (λ d both. (and_parts (is_small d) _ both).1) (c ∷ t) parts.0;
-      small = all_by _ is_small (λ d both. (and_parts (is_small d) _ both).0) (c ∷ t) parts.0;
+      plain = all_by (λ d. is_small d && not (is_white d)) (λ d. not (is_white d)) (λ d both. (and_parts (is_small d) (not (is_white d)) both).1) (c ∷ t) parts.0;
+      small = all_by (λ d. is_small d && not (is_white d)) is_small (λ d both. (and_parts (is_small d) (not (is_white d)) both).0) (c ∷ t) parts.0;
       no_quote = not-true _ rest.0;
       alone = λ hyphen. ⊎_elim (λ no. absurd (true≢false (sym hyphen ∙ not-true _ no))) (λ empty. nil_from_length t (eqb-true _ 0 empty)) (or_cases _ _ rest.1);
     }
@@ -143,7 +143,7 @@ tick_place k [] i s h at tick = cc
 tick_place k (m ∷ ms) zero s h at tick =
     let here : begins_tick m ≡ true = ap begins_tick (some_same at) ∙ tick in
     ⊎_elim (λ no. absurd (true≢false (sym here ∙ not-true _ no))) (λ e. add-zero k ∙ eqb-true k 11 e) (or_cases _ _ (and_parts _ _ h).0)
-tick_place k (m ∷ ms) (suc i) s h at tick = let later = tick_place (k + 1) ms i s (and_parts _ _ h).1 at tick in omega (arith, later)
+tick_place k (m ∷ ms) (suc i) s h at tick = let later : k + 1 + i ≡ 11 = tick_place (k + 1) ms i s (and_parts _ _ h).1 at tick in omega arith
 
 pub tick_number : (n c : ℕ) (s : List ℕ) → slice_get marks n ≡ Some (c ∷ s) → (c == 39) ≡ true → n ≡ 11
 tick_number n c s at tick = let e = tick_place 0 marks n (c ∷ s) all_ticks at tick in omega (arith, e)
