@@ -2,7 +2,7 @@
 use Rattle.std.proofs.Common.{◌≡◌, ℕ, ◌<◌, ◌≤◌, Bool, true, false, not, ◌&&◌, ◌||◌, ◌==◌, List, [], ◌∷◌, ◌++◌, refl, sym, ap, ◌∙◌, arith, lit<, ⊎_elim}
 use Rattle.std.specs.List.{list_all}
 use Rattle.std.specs.Char.{is_ascii_alphabetic}
-use Rattle.std.specs.Prelude.{encode_utf8, encode_utf8_all, nat_lt, nat_le}
+use Rattle.std.specs.Prelude.{encode_utf8_all, nat_lt, nat_le}
 use Rattle.std.proofs.Math.Utf8.{scalar, scalars}
 use Rattle.std.proofs.lemmas.Str.{encode_ascii}
 use Rattle.std.proofs.lemmas.List.Folds.{list_all-append}
@@ -80,7 +80,7 @@ module _ (c : ℕ) where
   equal_below n small e = let same : c ≡ n = eqb-true c n e in omega arith
 
   range_below : (nat_le 9 c && nat_le c 13) ≡ true → c < 128
-  range_below h = let high : c ≤ 13 = leb-true c 13 (and_parts _ _ h).1 in omega arith
+  range_below h = let high : c ≤ 13 = leb-true c 13 (and_parts (nat_le 9 c) (nat_le c 13) h).1 in omega arith
 
   white_below : is_white c ≡ true → c < 128
   white_below h = ⊎_elim range_below (equal_below 32 (lit< tt)) (or_cases _ _ h)

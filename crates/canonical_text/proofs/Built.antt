@@ -1,5 +1,5 @@
 -- The tokens of a canonical text.
-use Rattle.std.proofs.Common.{◌≡◌, ◌≢◌, ℕ, ◌+◌, ◌≤◌, Bool, true, false, not, ◌&&◌, ◌==◌, List, [], ◌∷◌, ◌++◌, map, length, Option, Some, None, refl, sym, ap, ◌∙◌, append_assoc, arith, lit<, length-append}
+use Rattle.std.proofs.Common.{◌≡◌, ℕ, ◌+◌, true, false, ◌==◌, List, [], ◌∷◌, ◌++◌, map, length, Option, Some, None, refl, sym, ap, ◌∙◌, append_assoc, arith, lit<, length-append}
 use Rattle.std.specs.Prelude.{encode_utf8_all, All}
 use Rattle.std.specs.List.{join_with_byte}
 use Rattle.std.proofs.Math.Utf8.{scalar, scalars}
@@ -15,7 +15,7 @@ use Rattle.ada_tree.specs.Gaps.IsGap.{Nothing, White}
 use Rattle.ada_tree.specs.Kinds.{tick}
 use Rattle.ada_tree.specs.Spelling.{IsTokenAt}
 use Rattle.ada_tree.specs.TokenKinds.{kind_number}
-use Rattle.ada_tree.specs.Tokens.{Spot, start_of, after, IsNext, AreNext}
+use Rattle.ada_tree.specs.Tokens.{Spot, start_of, IsNext, AreNext}
 use Rattle.canonical_text.specs.Spoken.{ticks_followed}
 use Rattle.canonical_text.proofs.Breaks.{space_breaks, line_breaks, small_bytes}
 use Rattle.canonical_text.proofs.Pieces.{Piece, IsPiece, is_plain, piece_begins, no_gap, begins_tick, token_there}

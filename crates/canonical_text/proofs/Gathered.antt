@@ -1,5 +1,5 @@
 -- The pieces that the canonical text has for the tokens of a text.
-use Rattle.std.proofs.Common.{◌≡◌, ◌≢◌, ℕ, pos, ◌+◌, ◌-◌, ◌^◌, ◌<◌, Bool, true, List, [], ◌∷◌, ◌++◌, map, length, take, drop, Option, Some, slice_get, refl, sym, ap, ◌∙◌, subst, append_assoc, arith, length-append}
+use Rattle.std.proofs.Common.{◌≡◌, ◌≢◌, ℕ, pos, ◌+◌, ◌-◌, ◌^◌, ◌<◌, true, List, [], ◌∷◌, ◌++◌, map, length, take, drop, Option, Some, slice_get, refl, sym, ap, ◌∙◌, subst, append_assoc, arith, length-append}
 use Rattle.std.specs.Prelude.{encode_utf8_all, decimal, All, unwrap_or, slice_range, ◌<ℤ◌}
 use Rattle.std.specs.Fmt.{signed_decimal}
 use Rattle.std.specs.Char.{to_ascii_lowercase}
@@ -17,7 +17,7 @@ use Rattle.ada_base.specs.declared.token.Token.{Token}
 use Rattle.ada_tree.specs.Faults.{IsNarrow}
 use Rattle.ada_tree.specs.Spelling.{IsSpelling}
 use Rattle.ada_tree.specs.TokenKinds.{kind_number}
-use Rattle.ada_tree.specs.Tokens.{Spot, after, IsNext, AreNext}
+use Rattle.ada_tree.specs.Tokens.{Spot, after, AreNext}
 use Rattle.ada_tree.specs.Words.{words, marks}
 use Rattle.canonical_text.specs.Canonical.{entry, written, written_in}
 use Rattle.canonical_text.specs.Spoken.{is_spoken}

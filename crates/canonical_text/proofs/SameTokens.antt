@@ -1,19 +1,19 @@
 -- The canonical text has the tokens again.
-use Rattle.std.proofs.Common.{◌≡◌, ℕ, ◌+◌, ◌≤◌, List, [], ◌∷◌, ◌++◌, map, length, refl, sym, ap, ◌∙◌, subst, arith, length-append}
+use Rattle.std.proofs.Common.{◌≡◌, ◌≤◌, List, [], ◌∷◌, ◌++◌, map, length, refl, sym, ap, ◌∙◌, subst, arith, length-append}
 use Rattle.std.specs.Prelude.{encode_utf8_all, All}
 use Rattle.std.specs.List.{list_all, join_with_byte}
-use Rattle.std.specs.Str.{chars, IsUtf8}
+use Rattle.std.specs.Str.{chars}
 use Rattle.std.proofs.lemmas.List.{length-map}
 use Rattle.std.proofs.lemmas.List.Elements.{All-nil, All-cons, All-head, All-tail}
 use Rattle.std.proofs.lemmas.Str.{chars-encodes}
 use Rattle.ada_base.specs.declared.token.Token.{Token}
 use Rattle.ada_base.specs.Tokens.{Tokenized}
-use Rattle.ada_tree.specs.Faults.{IsNarrow, IsReadable, KeepLimits, byte_limit, token_limit}
+use Rattle.ada_tree.specs.Faults.{IsNarrow, IsReadable, KeepLimits, byte_limit}
 use Rattle.ada_tree.specs.TokenKinds.{kind_number, kinds_of}
 use Rattle.ada_tree.specs.Tokens.{start_of, AreTokens, AreTokensOf}
 use Rattle.canonical_text.specs.Canonical.{canonical, written_in, before_end, HasKinds}
 use Rattle.canonical_text.specs.Spoken.{is_spoken, ticks_followed, AreSpoken}
-use Rattle.canonical_text.proofs.Built.{AllPieces, kinds, whole, Built, build_whole, bytes_of, whole_bytes, whole_scalars}
+use Rattle.canonical_text.proofs.Built.{whole, Built, build_whole, whole_bytes, whole_scalars}
 use Rattle.canonical_text.proofs.Gathered.{Gathered, gather, at_start}
 use Rattle.canonical_text.proofs.Joins.{before_last}
 

@@ -1,14 +1,14 @@
 -- The texts of reserved words and of marks.
-use Rattle.std.proofs.Common.{◌≡◌, ℕ, zero, suc, ◌+◌, ◌<◌, Bool, true, false, not, ◌&&◌, ◌||◌, ◌==◌, nat_le, nat_lt, List, [], ◌∷◌, ◌++◌, map, length, Some, slice_get, refl, sym, ap, ◌∙◌, arith, add-zero, ⊎_elim}
+use Rattle.std.proofs.Common.{◌≡◌, ℕ, zero, suc, ◌+◌, ◌<◌, Bool, true, false, not, ◌&&◌, ◌||◌, ◌==◌, nat_le, List, [], ◌∷◌, map, length, Some, slice_get, refl, sym, ap, ◌∙◌, arith, add-zero, ⊎_elim}
 use Rattle.std.specs.List.{list_all}
 use Rattle.std.specs.Char.{is_ascii_alphabetic, to_ascii_lowercase}
-use Rattle.std.proofs.lemmas.Bool.{eqb-true, and_parts, and_from, or_cases, true≢false, not-true, ltb-true, and_left}
+use Rattle.std.proofs.lemmas.Bool.{eqb-true, and_parts, or_cases, true≢false, not-true, ltb-true}
 use Rattle.std.proofs.lemmas.List.{nil_from_length}
 use Rattle.unicode_ident.specs.Ident.{is_xid_start, is_xid_continue}
 use Rattle.unicode_ident.proofs.IdentLemmas.{is_xid_start-ascii, is_xid_start-is_xid_continue}
 use Rattle.ada_tree.specs.Characters.{is_white, is_underscore}
 use Rattle.ada_tree.specs.Numbers.{underscores_between}
-use Rattle.ada_tree.specs.Spelling.{IsIdentifier, begins_identifier}
+use Rattle.ada_tree.specs.Spelling.{IsIdentifier}
 use Rattle.ada_tree.specs.Words.{words, marks}
 use Rattle.canonical_text.proofs.Breaks.{implied, all_by, is_small}
 
@@ -143,7 +143,7 @@ tick_place k [] i s h at tick = cc
 tick_place k (m ∷ ms) zero s h at tick =
     let here : begins_tick m ≡ true = ap begins_tick (some_same at) ∙ tick in
     ⊎_elim (λ no. absurd (true≢false (sym here ∙ not-true _ no))) (λ e. add-zero k ∙ eqb-true k 11 e) (or_cases _ _ (and_parts _ _ h).0)
-tick_place k (m ∷ ms) (suc i) s h at tick = let later : k + 1 + i ≡ 11 = tick_place (k + 1) ms i s (and_parts _ _ h).1 at tick in omega arith
+tick_place k (m ∷ ms) (suc i) s h at tick = let later : k + 1 + i ≡ 11 = tick_place (k + 1) ms i s (and_parts (not (begins_tick m) || (k == 11)) (tick_alone (k + 1) ms) h).1 at tick in omega arith
 
 pub tick_number : (n c : ℕ) (s : List ℕ) → slice_get marks n ≡ Some (c ∷ s) → (c == 39) ≡ true → n ≡ 11
 tick_number n c s at tick = let e = tick_place 0 marks n (c ∷ s) all_ticks at tick in omega (arith, e)

@@ -1,6 +1,7 @@
 //! The canonical text of a list of tokens, and that it has the same tokens again.
 #![tactic(auto)]
-ghost use Rattle.std.specs.Prelude.{◌≡◌, ◌≤◌, ◌++◌, length, string_bytes, IfOk, OnOk};
+
+ghost use Rattle.std.specs.Prelude.{◌≡◌, ◌≤◌, ◌++◌, length, string_bytes, All, IfOk, OnOk};
 ghost use Rattle.ada_base.specs.Tokens.{Tokenized};
 ghost use Rattle.ada_tree.specs.Faults.{byte_limit, IsReadable, KeepLimits};
 ghost use Rattle.ada_tree.specs.TokenKinds.{kinds_of};
@@ -24,10 +25,8 @@ fn append(text: &mut String, kind: Kind, spelled: &str) -> Result<(), AllocError
     }
 }
 
-/// The canonical text of tokens: reserved words in lower case, numbers in plain decimal, marks as they are, and
-/// identifiers and strings as they are spelled, with one space between two tokens and a line feed after the last.
-pub fn canonical_text(alloc: Global, tokens: &Tokens) -> Result<String, AllocError>
-    requires { AreTokensOf tokens.now.text tokens.now.items }
+fn joined(alloc: Global, tokens: &Tokens) -> Result<String, AllocError>
+    requires { All (λ token. IsListed token.kind) tokens.now.items }
     ensures { IfOk result (λ text. string_bytes text ≡ canonical tokens.now) }
 {
     let mut text = String::new(alloc);
@@ -43,10 +42,23 @@ pub fn canonical_text(alloc: Global, tokens: &Tokens) -> Result<String, AllocErr
     Ok(text)
 }
 
-/// The canonical text of a program's tokens has tokens of the same kinds, in the same order, and keeps the limits
-/// where it isn't too long.
+/// The canonical text of a text's tokens: reserved words in lower case, numbers in plain decimal, marks as they are,
+/// and identifiers and literals as they are spelled (2.2), with one space between two tokens and one line feed
+/// after the last. The error is for want of memory.
+pub fn canonical_text(alloc: Global, tokens: &Tokens) -> Result<String, AllocError>
+    requires { AreTokensOf tokens.now.text tokens.now.items }
+    ensures { IfOk result (λ text. string_bytes text ≡ canonical tokens.now) }
+{
+    joined(alloc, tokens)
+}
+
+/// The canonical text of a program's tokens has tokens of the same kinds in the same order. It is UTF-8, and keeps
+/// the limits of a text unless it has too many bytes.
 pub fn same_tokens()
     ensures { (t : Tokenized) → IsReadable t.text → AreTokensOf t.text t.items → KeepLimits t.items
         → AreSpoken (kinds_of t.items) → length (canonical t) ≤ byte_limit
         → HasKinds (canonical t) (kinds_of t.items) }
 {}
+
+#[cfg(test)]
+mod tests;
