@@ -1,6 +1,6 @@
 -- The tokens of a canonical text.
-use Rattle.std.proofs.Common.{◌≡◌, ℕ, ◌+◌, true, false, ◌==◌, List, [], ◌∷◌, ◌++◌, map, length, Option, Some, None, refl, sym, ap, ◌∙◌, append_assoc, arith, lit<, length-append}
-use Rattle.std.specs.Prelude.{encode_utf8_all, All}
+use Rattle.std.proofs.Common.{◌≡◌, ℕ, ◌+◌, true, false, ◌==◌, List, [], ◌∷◌, ◌++◌, map, length, Option, Some, None, refl, sym, ap, subst, ◌∙◌, append_assoc, arith, lit<, length-append}
+use Rattle.std.specs.Prelude.{encode_utf8_all, All, slice_range}
 use Rattle.std.specs.List.{join_with_byte}
 use Rattle.std.proofs.Math.Utf8.{scalar, scalars}
 use Rattle.std.proofs.lemmas.Bool.{eq-eqb, and_parts, and_from, true≢false, not-true, false_from_ne_true}
@@ -16,8 +16,10 @@ use Rattle.ada_tree.specs.Kinds.{tick}
 use Rattle.ada_tree.specs.Spelling.{IsTokenAt}
 use Rattle.ada_tree.specs.TokenKinds.{kind_number}
 use Rattle.ada_tree.specs.Tokens.{Spot, start_of, IsNext, AreNext}
+use Rattle.canonical_text.specs.Canonical.{written, written_in}
 use Rattle.canonical_text.specs.Spoken.{ticks_followed}
 use Rattle.canonical_text.proofs.Breaks.{space_breaks, line_breaks, small_bytes}
+use Rattle.canonical_text.proofs.Places.{StandsAt, moved, cut}
 use Rattle.canonical_text.proofs.Pieces.{Piece, IsPiece, is_plain, piece_begins, no_gap, begins_tick, token_there}
 
 abbrev pub AllPieces : List Piece → Type 0
@@ -56,6 +58,9 @@ ticks_after : (p : Piece) (ps : List Piece) → ticks_followed (kinds (p ∷ ps)
 ticks_after p [] h = refl
 ticks_after p (q ∷ ps) h = (and_parts _ _ h).1
 
+abbrev pub bytes_of : Piece → List ℕ
+bytes_of p = encode_utf8_all p.slice
+
 -- tokens of these pieces from a place on, the End after them
 pub record Built (spot : Spot) (ps : List Piece) : Type 0 where
   pub tokens : List Token
@@ -65,6 +70,8 @@ pub record Built (spot : Spot) (ps : List Piece) : Type 0 where
   pub final : IsNext end last []
   pub is_end : last.kind ≡ End
   pub kinds_are : map (λ (t : Token). kind_number t.kind) tokens ≡ kinds ps
+  pub same : map (λ (t : Token). t.kind) tokens ≡ map (λ (p : Piece). p.kind) ps
+  pub bytes_are : (text : List ℕ) → StandsAt text spot.at spot.ahead → map (written_in text) tokens ≡ map bytes_of ps
   pub narrow : All (λ t. IsNarrow t.kind) (tokens ++ last ∷ [])
 
 end_there : (before : Option Kind) → IsTokenAt before End [] []
@@ -90,6 +97,8 @@ finish before at =
       };
       is_end = refl;
       kinds_are = refl;
+      same = refl;
+      bytes_are = λ text s. refl;
       narrow = All-cons (λ (t : Token). IsNarrow t.kind) last [] tt (All-nil (λ (t : Token). IsNarrow t.kind));
     }
 
@@ -111,8 +120,18 @@ placed spot gap p ps parts between there is later =
       final = b.final;
       is_end = b.is_end;
       kinds_are = ap (λ ks. kind_number p.kind ∷ ks) b.kinds_are;
+      same = ap (λ ks. p.kind ∷ ks) b.same;
+      bytes_are = bytes token b.tokens b.bytes_are refl refl refl;
       narrow = All-cons (λ (t : Token). IsNarrow t.kind) token (b.tokens ++ b.last ∷ []) is.narrow b.narrow;
     }
+  where
+    bytes : (token : Token) (tokens : List Token) → ((text : List ℕ) → StandsAt text token.span.end (after_piece ps) → map (written_in text) tokens ≡ map bytes_of ps) → token.kind ≡ p.kind → token.span.start ≡ spot.at + length (encode_utf8_all gap) → token.span.end ≡ token.span.start + length (encode_utf8_all p.slice) → (text : List ℕ) → StandsAt text spot.at spot.ahead → map (written_in text) (token ∷ tokens) ≡ map bytes_of (p ∷ ps)
+    bytes token tokens others kind_is start_is end_is text s =
+        let begin : StandsAt text token.span.start (p.slice ++ after_piece ps) = subst (λ at. StandsAt text at (p.slice ++ after_piece ps)) (sym start_is) (moved text spot.at spot.ahead gap (p.slice ++ after_piece ps) s parts) in
+        let end : StandsAt text token.span.end (after_piece ps) = subst (λ at. StandsAt text at (after_piece ps)) (sym end_is) (moved text token.span.start (p.slice ++ after_piece ps) p.slice (after_piece ps) begin refl) in
+        let here : slice_range text token.span.start token.span.end ≡ bytes_of p = ap (slice_range text token.span.start) end_is ∙ cut text token.span.start p.slice (after_piece ps) begin in
+        let first : written_in text token ≡ bytes_of p = ap (λ k. written k (slice_range text token.span.start token.span.end)) kind_is ∙ (ap (written p.kind) here ∙ is.stays) in
+        ap (λ b. b ∷ map (written_in text) tokens) first ∙ ap (λ bs. bytes_of p ∷ bs) (others text end)
 
 build : (ps : List Piece) (before : Option Kind) (at : ℕ) → AllPieces ps → ticks_followed (kinds ps) ≡ true → Built (record { before = before; at = at; ahead = after_piece ps }) ps
 build [] before at all ticks = finish before at
@@ -142,9 +161,6 @@ after_scalars (p ∷ ps) (is, others) = scalars_join p.slice (after_piece ps) is
 pub whole_scalars : (ps : List Piece) → AllPieces ps → scalars (whole ps) ≡ true
 whole_scalars [] all = refl
 whole_scalars (p ∷ ps) (is, others) = scalars_join p.slice (after_piece ps) is.are_scalars (after_scalars ps others)
-
-abbrev pub bytes_of : Piece → List ℕ
-bytes_of p = encode_utf8_all p.slice
 
 piece_bytes : (p : Piece) (ps : List Piece) → encode_utf8_all (p.slice ++ after_piece ps) ≡ join_with_byte 32 (map bytes_of (p ∷ ps)) ++ 10 ∷ []
 piece_bytes p [] = encodes-append p.slice (10 ∷ []) ∙ ap (λ s. bytes_of p ++ s) (small_bytes (10 ∷ []) refl)

@@ -1,16 +1,13 @@
 -- The pieces that the canonical text has for the tokens of a text.
-use Rattle.std.proofs.Common.{◌≡◌, ◌≢◌, ℕ, pos, ◌+◌, ◌-◌, ◌^◌, ◌<◌, true, List, [], ◌∷◌, ◌++◌, map, length, take, drop, Option, Some, slice_get, refl, sym, ap, ◌∙◌, subst, append_assoc, arith, length-append}
+use Rattle.std.proofs.Common.{◌≡◌, ◌≢◌, ℕ, pos, ◌^◌, ◌<◌, true, List, [], ◌∷◌, ◌++◌, map, Option, Some, slice_get, refl, sym, ap, ◌∙◌, subst, arith}
 use Rattle.std.specs.Prelude.{encode_utf8_all, decimal, All, unwrap_or, slice_range, ◌<ℤ◌}
 use Rattle.std.specs.Fmt.{signed_decimal}
 use Rattle.std.specs.Char.{to_ascii_lowercase}
 use Rattle.std.specs.List.{list_all}
-use Rattle.std.specs.Str.{chars, IsUtf8}
-use Rattle.std.proofs.Math.Utf8.{scalar, scalars}
-use Rattle.std.proofs.Math.Seq.{take-append_seam, drop-append_seam}
-use Rattle.std.proofs.lemmas.Bool.{and_parts, and_from, true≢false}
+use Rattle.std.proofs.Math.Utf8.{scalars}
+use Rattle.std.proofs.lemmas.Bool.{and_parts, true≢false}
 use Rattle.std.proofs.lemmas.Int.{ints}
 use Rattle.std.proofs.lemmas.List.Elements.{All-head, All-tail}
-use Rattle.std.proofs.lemmas.Str.{encodes-append, encodes-chars, scalars-chars}
 use Rattle.ada_base.specs.declared.token.Kind.{Kind}
 use Rattle.ada_base.specs.declared.token.Kind.TheVariants.{Ident, Word, Number, Text, Letter, Real, Mark, End}
 use Rattle.ada_base.specs.declared.token.Token.{Token}
@@ -25,6 +22,7 @@ use Rattle.canonical_text.proofs.Breaks.{small_bytes, small_scalars}
 use Rattle.canonical_text.proofs.Built.{AllPieces, kinds, bytes_of}
 use Rattle.canonical_text.proofs.Numbers.{decimal_is}
 use Rattle.canonical_text.proofs.Pieces.{Piece, IsPiece}
+use Rattle.canonical_text.proofs.Places.{StandsAt, scalars_parts, moved, cut}
 use Rattle.canonical_text.proofs.Tables.{word_at, mark_at}
 
 entry_at : (texts : List (List ℕ)) (n : ℕ) (s : List ℕ) → slice_get texts n ≡ Some s → entry texts n ≡ s
@@ -41,77 +39,48 @@ narrow_value z v e h = let less : pos v <ℤ pos (2 ^ 127) = subst (λ x. x <ℤ
 
 piece_of : (before : Option Kind) (kind : Kind) (slice : List ℕ) → IsSpelling before kind slice → is_spoken (kind_number kind) ≡ true → kind ≢ End → IsNarrow kind → scalars slice ≡ true → PieceOf kind slice
 piece_of before Ident slice spelled spoken more narrow s =
-    record { own = slice; is = record { spelled = λ b. spelled; plain = refl; narrow = tt; are_scalars = s }; bytes = refl }
+    record { own = slice; is = record { spelled = λ b. spelled; plain = refl; narrow = tt; are_scalars = s; stays = refl }; bytes = refl }
 piece_of before (Word n) slice (shape, at) spoken more narrow s =
     let w = word_at n (map to_ascii_lowercase slice) at in
+    let same : encode_utf8_all (map to_ascii_lowercase slice) ≡ entry words n = small_bytes (map to_ascii_lowercase slice) w.small ∙ sym (entry_at words n (map to_ascii_lowercase slice) at) in
     record {
       own = map to_ascii_lowercase slice;
-      is = record { spelled = λ b. (w.shape, at ∙ ap Some (sym w.lower)); plain = refl; narrow = tt; are_scalars = small_scalars (map to_ascii_lowercase slice) w.small };
-      bytes = small_bytes (map to_ascii_lowercase slice) w.small ∙ sym (entry_at words n (map to_ascii_lowercase slice) at);
+      is = record { spelled = λ b. (w.shape, at ∙ ap Some (sym w.lower)); plain = refl; narrow = tt; are_scalars = small_scalars (map to_ascii_lowercase slice) w.small; stays = sym same };
+      bytes = same;
     }
 piece_of before (Number z) slice (v, i, e) spoken more narrow s =
     let d = decimal_is v (narrow_value z v e narrow) in
+    let same : encode_utf8_all (decimal v) ≡ signed_decimal z = small_bytes (decimal v) d.small ∙ sym (ap signed_decimal e) in
     record {
       own = decimal v;
-      is = record { spelled = λ b. (v, d.integer, e); plain = refl; narrow = narrow; are_scalars = small_scalars (decimal v) d.small };
-      bytes = small_bytes (decimal v) d.small ∙ sym (ap signed_decimal e);
+      is = record { spelled = λ b. (v, d.integer, e); plain = refl; narrow = narrow; are_scalars = small_scalars (decimal v) d.small; stays = sym same };
+      bytes = same;
     }
 piece_of before Text slice spelled spoken more narrow s =
-    record { own = slice; is = record { spelled = λ b. spelled; plain = refl; narrow = tt; are_scalars = s }; bytes = refl }
+    record { own = slice; is = record { spelled = λ b. spelled; plain = refl; narrow = tt; are_scalars = s; stays = refl }; bytes = refl }
 piece_of before Letter slice spelled spoken more narrow s = absurd (true≢false (sym spoken))
 piece_of before Real slice spelled spoken more narrow s = absurd (true≢false (sym spoken))
 piece_of before (Mark n) slice at spoken more narrow s =
     let m = mark_at n slice at in
+    let same : encode_utf8_all slice ≡ entry marks n = small_bytes slice m.small ∙ sym (entry_at marks n slice at) in
     record {
       own = slice;
-      is = record { spelled = λ b. at; plain = refl; narrow = tt; are_scalars = s };
-      bytes = small_bytes slice m.small ∙ sym (entry_at marks n slice at);
+      is = record { spelled = λ b. at; plain = refl; narrow = tt; are_scalars = s; stays = sym same };
+      bytes = same;
     }
 piece_of before End slice spelled spoken more narrow s = absurd (more refl)
 
 -- ---- along the text
 
--- these characters of the text are ahead at the byte `at`
-pub record StandsAt (text : List ℕ) (at : ℕ) (ahead : List ℕ) : Type 0 where
-  pub front : List ℕ
-  pub parts : text ≡ front ++ encode_utf8_all ahead
-  pub at_is : at ≡ length front
-  pub are_scalars : scalars ahead ≡ true
-
-scalars_parts : (a b : List ℕ) → scalars (a ++ b) ≡ true → (scalars a ≡ true) × (scalars b ≡ true)
-scalars_parts [] b h = (refl, h)
-scalars_parts (c ∷ a) b h = let first = and_parts (scalar c) _ h in let others = scalars_parts a b first.1 in (and_from _ _ first.0 others.0, others.1)
-
-pub at_start : (text : List ℕ) → IsUtf8 text → StandsAt text 0 (chars text)
-at_start text u = record { front = []; parts = sym (encodes-chars text u); at_is = refl; are_scalars = scalars-chars text u }
-
-moved : (text : List ℕ) (at : ℕ) (ahead front more : List ℕ) → StandsAt text at ahead → ahead ≡ front ++ more → StandsAt text (at + length (encode_utf8_all front)) more
-moved text at ahead front more s e =
-    record {
-      front = s.front ++ encode_utf8_all front;
-      parts = s.parts ∙ (ap (λ x. s.front ++ encode_utf8_all x) e ∙ (ap (λ x. s.front ++ x) (encodes-append front more) ∙ sym (append_assoc s.front (encode_utf8_all front) (encode_utf8_all more))));
-      at_is = ap (λ n. n + length (encode_utf8_all front)) s.at_is ∙ sym (length-append s.front (encode_utf8_all front));
-      are_scalars = (scalars_parts front more (ap scalars (sym e) ∙ s.are_scalars)).1;
-    }
-
-cut : (text : List ℕ) (at : ℕ) (slice rest : List ℕ) → StandsAt text at (slice ++ rest) → slice_range text at (at + length (encode_utf8_all slice)) ≡ encode_utf8_all slice
-cut text at slice rest s =
-    let whole : text ≡ s.front ++ (encode_utf8_all slice ++ encode_utf8_all rest) = s.parts ∙ ap (λ x. s.front ++ x) (encodes-append slice rest) in
-    let count : at + length (encode_utf8_all slice) - at ≡ length (encode_utf8_all slice) = omega arith in
-    ap (λ n. take n (drop at text)) count
-    ∙ (ap (λ n. take (length (encode_utf8_all slice)) (drop n text)) s.at_is
-    ∙ (ap (λ x. take (length (encode_utf8_all slice)) (drop (length s.front) x)) whole
-    ∙ (ap (take (length (encode_utf8_all slice))) (drop-append_seam s.front (encode_utf8_all slice ++ encode_utf8_all rest))
-    ∙ take-append_seam (encode_utf8_all slice) (encode_utf8_all rest))))
-
 pub record Gathered (text : List ℕ) (tokens : List Token) : Type 0 where
   pub pieces : List Piece
   pub are : AllPieces pieces
   pub kinds_are : kinds pieces ≡ map (λ (t : Token). kind_number t.kind) tokens
+  pub same : map (λ (p : Piece). p.kind) pieces ≡ map (λ (t : Token). t.kind) tokens
   pub bytes_are : map bytes_of pieces ≡ map (written_in text) tokens
 
 pub gather : (text : List ℕ) (spot : Spot) (tokens : List Token) (last : Spot) → StandsAt text spot.at spot.ahead → AreNext spot tokens last → All (λ t. IsNarrow t.kind) tokens → list_all is_spoken (map (λ (t : Token). kind_number t.kind) tokens) ≡ true → Gathered text tokens
-gather text spot [] last s e narrow spoken = record { pieces = []; are = tt; kinds_are = refl; bytes_are = refl }
+gather text spot [] last s e narrow spoken = record { pieces = []; are = tt; kinds_are = refl; same = refl; bytes_are = refl }
 gather text spot (t ∷ tokens) last s (rest, n, more, later) narrow spoken =
     let P : Token → Type 0 = λ x. IsNarrow x.kind in
     let told = and_parts (is_spoken (kind_number t.kind)) _ spoken in
@@ -125,5 +94,6 @@ gather text spot (t ∷ tokens) last s (rest, n, more, later) narrow spoken =
       pieces = record { kind = t.kind; slice = own.own } ∷ g.pieces;
       are = (own.is, g.are);
       kinds_are = ap (λ ks. kind_number t.kind ∷ ks) g.kinds_are;
+      same = ap (λ ks. t.kind ∷ ks) g.same;
       bytes_are = ap (λ b. b ∷ map bytes_of g.pieces) first ∙ ap (λ bs. written_in text t ∷ bs) g.bytes_are;
     }

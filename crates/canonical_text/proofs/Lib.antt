@@ -5,6 +5,7 @@ pub mod Joins
 pub mod Listed
 pub mod Numbers
 pub mod Pieces
+pub mod Places
 pub mod SameTokens
 pub mod Spoken
 pub mod Tables

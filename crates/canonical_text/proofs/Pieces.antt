@@ -1,5 +1,6 @@
 -- Tokens as the canonical text has them, and that each is the longest spelling where it stands.
 use Rattle.std.proofs.Common.{◌≡◌, ◌⊎◌, inl, inr, ℕ, suc, ◌≤◌, Bool, true, false, not, ◌==◌, List, [], ◌∷◌, ◌++◌, length, Option, Some, None, refl, sym, ap, ◌∙◌, subst, append_assoc, arith, length-append, ⊎_elim}
+use Rattle.std.specs.Prelude.{encode_utf8_all}
 use Rattle.std.specs.List.{list_all}
 use Rattle.std.proofs.Math.Utf8.{scalars}
 use Rattle.std.proofs.lemmas.Bool.{eq-eqb, and_parts, and_left, and_right, or_parts, or_from, true≢false, not-true, not_from_true, not_from_false, false_from_ne_true}
@@ -14,6 +15,7 @@ use Rattle.ada_tree.specs.Numbers.{begins_with_digit}
 use Rattle.ada_tree.specs.Spelling.{IsQuoted, IsSpelling, IsTokenAt, can_follow}
 use Rattle.ada_tree.specs.Spelling.IsQuoted.{NothingQuoted, Character, Doubled}
 use Rattle.ada_tree.specs.TokenKinds.{kind_number}
+use Rattle.canonical_text.specs.Canonical.{written}
 use Rattle.canonical_text.proofs.Breaks.{IsBreak, is_edge, is_of_number, start_no_edge, digit_no_edge, breaks_none}
 use Rattle.canonical_text.proofs.Numbers.{integer_all, integer_first, real_all}
 use Rattle.canonical_text.proofs.Tables.{mark_at, tick_number}
@@ -38,6 +40,7 @@ pub record IsPiece (p : Piece) : Type 0 where
   pub plain : is_plain p.kind ≡ true
   pub narrow : IsNarrow p.kind
   pub are_scalars : scalars p.slice ≡ true
+  pub stays : written p.kind (encode_utf8_all p.slice) ≡ encode_utf8_all p.slice
 
 -- ---- what a piece begins with
 

@@ -47,10 +47,13 @@ IsListed (Word n) = n < 74
 IsListed (Mark n) = n < 29
 IsListed _ = ⊤
 
--- a text within the limits, whose tokens have these kinds
-pub record HasKinds (text kinds : List ℕ) : Type 0 where
+-- The canonical text has the same tokens again: it keeps the limits of a text, each of its tokens is of the same kind
+-- as the one in its place in the text before, the value of a number included, and it is its own canonical text.
+pub record IsTokenizedAgain (t : Tokenized) : Type 0 where
   pub items : List Token
-  pub readable : IsReadable text
-  pub tokens : AreTokensOf text items
+  pub readable : IsReadable (canonical t)
+  pub tokens : AreTokensOf (canonical t) items
   pub limits : KeepLimits items
-  pub kinds_are : kinds_of items ≡ kinds
+  pub same : map (λ (token : Token). token.kind) items ≡ map (λ (token : Token). token.kind) t.items
+  pub kinds_are : kinds_of items ≡ kinds_of t.items
+  pub stays : canonical (record { text = canonical t; items = items }) ≡ canonical t

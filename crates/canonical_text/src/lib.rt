@@ -6,7 +6,7 @@ ghost use Rattle.ada_base.specs.Tokens.{Tokenized};
 ghost use Rattle.ada_tree.specs.Faults.{byte_limit, IsReadable, KeepLimits};
 ghost use Rattle.ada_tree.specs.TokenKinds.{kinds_of};
 ghost use Rattle.ada_tree.specs.Tokens.{AreTokensOf};
-ghost use Rattle.canonical_text.specs.Canonical.{canonical, written, IsListed, HasKinds};
+ghost use Rattle.canonical_text.specs.Canonical.{canonical, written, IsListed, IsTokenizedAgain};
 ghost use Rattle.canonical_text.specs.Spoken.{AreSpoken};
 
 use ada_base::{Kind, Tokens};
@@ -52,12 +52,12 @@ pub fn canonical_text(alloc: Global, tokens: &Tokens) -> Result<String, AllocErr
     joined(alloc, tokens)
 }
 
-/// The canonical text of a program's tokens has tokens of the same kinds in the same order. It is UTF-8, and keeps
-/// the limits of a text unless it has too many bytes.
+/// The canonical text of a program's tokens has tokens of the same kinds in the same order, and is its own canonical
+/// text. It is UTF-8, and keeps the limits of a text unless it has too many bytes.
 pub fn same_tokens()
     ensures { (t : Tokenized) → IsReadable t.text → AreTokensOf t.text t.items → KeepLimits t.items
         → AreSpoken (kinds_of t.items) → length (canonical t) ≤ byte_limit
-        → HasKinds (canonical t) (kinds_of t.items) }
+        → IsTokenizedAgain t }
 {}
 
 #[cfg(test)]
