@@ -1,0 +1,11 @@
+pub mod Breaks
+pub mod Built
+pub mod Gathered
+pub mod Joins
+pub mod Listed
+pub mod Numbers
+pub mod Pieces
+pub mod Places
+pub mod SameTokens
+pub mod Spoken
+pub mod Tables
