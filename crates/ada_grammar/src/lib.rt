@@ -1,2 +1,0 @@
-//! The parser and the printer.
-#![tactic(auto)]
