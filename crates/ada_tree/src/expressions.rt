@@ -166,7 +166,6 @@ pub enum Factor {
 }
 
 /// `primary`
-#[derive(Drop)]
 #[cycle(exprs)]
 pub enum Primary {
     /// `num`
@@ -185,6 +184,32 @@ pub enum Primary {
     Aggregate(Boxed<Aggregate>),
     /// `reduction`
     Reduction(Boxed<Reduction>),
+}
+
+// Each way from an expression back to one goes through a primary: with its drop proved here, crates that hold
+// trees have no cycle of drops to prove.
+impl Drop for Primary {
+    #[cycle(exprs)]
+    fn drop(self) {
+        match self {
+            Primary::Number(_) | Primary::Text(_) | Primary::Target(_) => {}
+            Primary::Named(name) => {
+                let _name = name.into_inner();
+            }
+            Primary::Group { bracket: _, expr } => {
+                let _expr = expr.into_inner();
+            }
+            Primary::If { bracket: _, expr } => {
+                let _expr = expr.into_inner();
+            }
+            Primary::Aggregate(aggregate) => {
+                let _aggregate = aggregate.into_inner();
+            }
+            Primary::Reduction(reduction) => {
+                let _reduction = reduction.into_inner();
+            }
+        }
+    }
 }
 
 /// `ifexpr = "if" expr "then" expr {"elsif" expr "then" expr} "else" expr` (4.5.7), with the token of `if`.

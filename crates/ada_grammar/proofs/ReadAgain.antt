@@ -1,0 +1,24 @@
+-- The canonical text of a program has the tree again.
+use Rattle.std.proofs.Common.{◌≤◌, length, sym, subst}
+use Rattle.ada_base.specs.Derivations.{DerivesWithin}
+use Rattle.ada_base.specs.Tokens.{Tokenized}
+use Rattle.ada_tree.specs.Faults.{byte_limit}
+use Rattle.ada_tree.specs.Grammar.{ProgramWords}
+use Rattle.ada_tree.specs.Parsed.{depth_limit}
+use Rattle.ada_tree.specs.TokenKinds.{kinds_of}
+use Rattle.ada_tree.specs.declared.units.Tree.{Tree}
+use Rattle.canonical_text.specs.Canonical.{canonical}
+use Rattle.canonical_text.proofs.SameTokens.{tokenized_again}
+use Rattle.ada_grammar.specs.Printed.{IsPrintable, IsReadAgain}
+use Rattle.ada_grammar.proofs.SpokenUnits.{spoken}
+
+pub read_again : (t : Tokenized) (tree : Tree) → IsPrintable t tree → length (canonical t) ≤ byte_limit → IsReadAgain t tree
+read_again t tree p short =
+    let again = tokenized_again t p.readable p.tokens p.limits (spoken (kinds_of t.items) tree p.parsed) short in
+    record {
+      items = again.items;
+      readable = again.readable;
+      tokens = again.tokens;
+      limits = again.limits;
+      parsed = subst (λ ks. DerivesWithin depth_limit ProgramWords ks tree) (sym again.kinds_are) p.parsed;
+    }
