@@ -1,0 +1,11 @@
+use Rattle.std.proofs.Common.{rules, [], ◌∷◌}
+use Rattle.ada_tree.specs.Kinds as kind
+use Rattle.ada_readers.specs.ExpressionReaders.{items}
+use Rattle.ada_readers.specs.DeclarationReaders as reader
+use Rattle.ada_grammar.proofs.Loops.{alone}
+use Rattle.ada_grammar.proofs.declarations.read_more_ranges.Goals as goal
+
+pub returns : goal.returns
+returns c =
+    alone (items (kind.comma ∷ []) (reader.next_range c.args.levels) c.args.tokens.now) c.read_more.result c.read_more.new.tokens c.new.ensures
+    (c.read_more.ensures (reader.next_range c.args.levels) (record { reads = λ old new result e. search rules }))

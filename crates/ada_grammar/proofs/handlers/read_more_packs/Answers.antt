@@ -1,0 +1,11 @@
+use Rattle.std.proofs.Common.{rules, [], ◌∷◌}
+use Rattle.ada_tree.specs.Kinds as kind
+use Rattle.ada_readers.specs.ExpressionReaders.{items}
+use Rattle.ada_readers.specs.StatementReaders as reader
+use Rattle.ada_grammar.proofs.Loops.{alone}
+use Rattle.ada_grammar.proofs.handlers.read_more_packs.Goals as goal
+
+pub returns : goal.returns
+returns c =
+    alone (items (kind.bar ∷ []) reader.next_choice_of_packs c.args.tokens.now) c.read_more.result c.read_more.new.tokens c.new.ensures
+    (c.read_more.ensures reader.next_choice_of_packs (record { reads = λ old new result e. search rules }))
