@@ -175,7 +175,7 @@ pub enum Primary {
     /// `"@"`, the target of the assignment that it stands in (5.2.1).
     Target(u32),
     /// `name`
-    Named(Name),
+    Named(Boxed<Name>),
     /// `"(" expr ")"`, with the bracket's token.
     Group { bracket: u32, expr: Boxed<Expr> },
     /// `"(" ifexpr ")"`, with the bracket's token.
@@ -193,7 +193,9 @@ impl Drop for Primary {
     fn drop(self) {
         match self {
             Primary::Number(_) | Primary::Text(_) | Primary::Target(_) => {}
-            Primary::Named(_name) => {}
+            Primary::Named(name) => {
+                let _name = name.into_inner();
+            }
             Primary::Group { bracket: _, expr } => {
                 let _expr = expr.into_inner();
             }

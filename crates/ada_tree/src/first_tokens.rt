@@ -288,7 +288,7 @@ impl Primary {
     {
         match self {
             Primary::Number(at) | Primary::Text(at) | Primary::Target(at) => *at,
-            Primary::Named(name) => name.first,
+            Primary::Named(name) => name.get().first,
             Primary::Group { bracket, .. } | Primary::If { bracket, .. } => *bracket,
             Primary::Aggregate(aggregate) => aggregate.get().first_token(),
             Primary::Reduction(reduction) => reduction.get().bracket,

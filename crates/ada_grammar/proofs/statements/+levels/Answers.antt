@@ -1,8 +1,0 @@
-use Rattle.std.proofs.Common.{arith}
-use Rattle.reader_laws.proofs.Judging.{level_below}
-use Rattle.ada_readers.specs.StatementReaders.{stmt}
-use Rattle.ada_grammar.proofs.statements.+levels.Goals as goal
-
-pub stmt-returns : goal.stmt-returns
-unfolding stmt
-stmt-returns t c = rw (level_below (λ n. stmt n c.args.tokens.now) c.args.levels (omega arith)) c.read_open_stmt.ensures
