@@ -79,9 +79,9 @@ module _ (n : ℕ) {next : Reader Stmt} (below : Speaks next) where
   unfolding reader.exit
   exit = seq (one kind.exit_word refl) (λ at. seq maybe_identifier (λ m. seq (brackets.filter (levelled n)) (λ c. end _)))
 
-  return : Speaks (reader.return n next)
-  unfolding reader.return
-  return = seq (one kind.return_word refl) (λ at. or _ (end _) (seq (parts.expr (levelled n)) (λ e. end _)))
+  returning : Speaks (reader.returning n next)
+  unfolding reader.returning
+  returning = seq (one kind.return_word refl) (λ at. or _ (end _) (seq (parts.expr (levelled n)) (λ e. end _)))
 
   raise : Speaks (reader.raise n next)
   unfolding reader.raise
@@ -162,7 +162,7 @@ module _ (n : ℕ) {next : Reader Stmt} (below : Speaks next) where
   open_stmt : Speaks (reader.open_stmt n next)
   unfolding reader.open_stmt
   open_stmt =
-      pick (kind.null_word ∷ []) null (pick (kind.identifier ∷ []) named (pick (kind.exit_word ∷ []) exit (pick (kind.return_word ∷ []) return
+      pick (kind.null_word ∷ []) null (pick (kind.identifier ∷ []) named (pick (kind.exit_word ∷ []) exit (pick (kind.return_word ∷ []) returning
       (pick (kind.raise_word ∷ []) raise (pick (kind.if_word ∷ []) conditional (pick (kind.case_word ∷ []) selection
       (pick (kind.while_word ∷ []) (while_from None) (pick (kind.for_word ∷ []) (for_from None None) (pick (kind.parallel_word ∷ []) parallel_from
       (pick (kind.loop_word ∷ []) (loop_from None None) (pick (kind.declare_word ∷ []) declaring (block_from None))))))))))))

@@ -40,7 +40,7 @@ unfolding level.levels
 level_parts = tt
 
 statement_parts : Unit {0}
-unfolding statement.next_pack_part statement.pack statement.next_choice_of_packs statement.handled statement.maybe_identifier statement.stmts statement.arm statement.alt statement.handler statement.body statement.otherwise statement.null statement.exit statement.return statement.raise statement.conditional statement.selection statement.loop_from statement.while_from statement.for_from statement.labelled statement.block_from statement.declaring statement.next_stmts statement.do_from statement.parallel_from statement.named statement.open_stmt statement.stmt
+unfolding statement.next_pack_part statement.pack statement.next_choice_of_packs statement.handled statement.maybe_identifier statement.stmts statement.arm statement.alt statement.handler statement.body statement.otherwise statement.null statement.exit statement.returning statement.raise statement.conditional statement.selection statement.loop_from statement.while_from statement.for_from statement.labelled statement.block_from statement.declaring statement.next_stmts statement.do_from statement.parallel_from statement.named statement.open_stmt statement.stmt
 statement_parts = tt
 
 unit_parts : Unit {0}

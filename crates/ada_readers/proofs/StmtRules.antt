@@ -149,8 +149,8 @@ module _ (limit n around : ℕ) (levelled : n + suc around ≡ limit) (next : Re
   unfolding reader.exit
   rule_exit = is (one_kind kind.exit_word) ExitCases (seq (one kind.exit_word) (λ at. seq maybe_id (λ m. seq (inside.rule_when limit n depth levelled next rule_next) (λ c. semicolon (stmt'.Exit at m c)) refl) refl) refl) (λ x w l. l) (λ x w l. l) refl
 
-  rule_return : Rule limit (one_kind kind.return_word) ReturnCases (reader.return n next)
-  unfolding reader.return
+  rule_return : Rule limit (one_kind kind.return_word) ReturnCases (reader.returning n next)
+  unfolding reader.returning
   rule_return = is (one_kind kind.return_word) ReturnCases (seq (one kind.return_word) (λ at. or (kind.semicolon ∷ []) (semicolon (stmt'.Return at None)) (seq expr (λ e. semicolon (stmt'.Return at (Some e))) refl).exact refl refl refl) refl) (λ x w l. l) (λ x w l. l) refl
 
   rule_raise : Rule limit (one_kind kind.raise_word) RaiseCases (reader.raise n next)

@@ -85,8 +85,8 @@ module _ (n : ℕ) (next : Reader Stmt) where
   unfoldable pub exit : Reader Stmt
   exit = symbol kind.exit_word >>= (λ at. maybe_identifier >>= (λ m. filter (levels n) >>= (λ c. (λ _. stmt'.Exit at m c) <$> symbol kind.semicolon)))
 
-  unfoldable pub return : Reader Stmt
-  return = symbol kind.return_word >>= (λ at.
+  unfoldable pub returning : Reader Stmt
+  returning = symbol kind.return_word >>= (λ at.
       by_next (kind.semicolon ∷ []) ((λ _. stmt'.Return at None) <$> symbol kind.semicolon)
       (expr (levels n) >>= (λ e. (λ _. stmt'.Return at (Some e)) <$> symbol kind.semicolon)))
 
@@ -161,7 +161,7 @@ module _ (n : ℕ) (next : Reader Stmt) where
       by_next (kind.null_word ∷ []) null
       (by_next (kind.identifier ∷ []) named
       (by_next (kind.exit_word ∷ []) exit
-      (by_next (kind.return_word ∷ []) return
+      (by_next (kind.return_word ∷ []) returning
       (by_next (kind.raise_word ∷ []) raise
       (by_next (kind.if_word ∷ []) conditional
       (by_next (kind.case_word ∷ []) selection
