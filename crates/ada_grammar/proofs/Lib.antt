@@ -1,4 +1,3 @@
-mod KindLists
 mod ReadAgain
 mod Speaking
 mod SpokenBrackets
@@ -6,4 +5,3 @@ mod SpokenDeclarations
 mod SpokenExpressions
 mod SpokenStatements
 mod SpokenUnits
-mod Verdicts

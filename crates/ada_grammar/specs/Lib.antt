@@ -1,4 +1,1 @@
-pub mod Parsed
 pub mod Printed
-pub mod Records
-pub mod StatementEnds

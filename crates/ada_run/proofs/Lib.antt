@@ -1,6 +1,7 @@
+pub mod Digits
 pub mod Exact
-pub mod Gathering
-pub mod Options
+pub mod Joining
+pub mod Pieces
 pub mod Ranges
 pub mod Running
 pub mod Verdicts

@@ -2,13 +2,8 @@
 #![tactic(auto)]
 
 mod compiler;
-mod refusal;
+mod reading;
 mod runner;
-mod walk;
 
-pub use compiler::{Unit, compile, one_program};
-pub use refusal::Refusal;
+pub use compiler::{Refusal, Unit, compile, one_program};
 pub use runner::{RunEnd, execute};
-
-#[cfg(test)]
-mod tests;

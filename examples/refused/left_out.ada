@@ -1,6 +1,0 @@
-with Ada.Text_IO; use Ada.Text_IO;
-procedure Main is
-task T;
-begin
-null;
-end Main;
