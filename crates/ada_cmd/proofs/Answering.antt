@@ -4,8 +4,8 @@ use Rattle.ada_port.proofs.Growth.{Grows-none, GrowsByPrefix-from_Grows}
 use Rattle.ada_meaning.specs.FirstRun.{Run, Ending, Ended, Raised}
 use Rattle.ada_run.specs.Compile.{IsRefusalOf, line_of, refusal_of}
 use Rattle.ada_run.specs.Execute.{EndsAs, CountsRun}
-use Rattle.ada_run.specs.declared.compiler.Refusal.{Refusal}
-use Rattle.ada_run.specs.declared.compiler.Refusal.TheVariants as refusal
+use Rattle.ada_run.specs.declared.refusal.Refusal.{Refusal}
+use Rattle.ada_run.specs.declared.refusal.Refusal.TheVariants as refusal
 use Rattle.ada_run.specs.declared.runner.RunEnd.{RunEnd}
 use Rattle.ada_run.specs.declared.runner.RunEnd.TheVariants as run_end
 use Rattle.ada_cmd.specs.declared.status.Status.{Status}
@@ -40,8 +40,8 @@ gives_run run run_end.NoMemory given out err ends counts says = NoMemory (record
 
 pub gives_refusal : (file text : List ℕ) (r : Refusal) (given : Status) (told : Option (List ℕ)) (faults : ℕ) (err : Sight) → IsRefusalOf text r → SaysRefusal file r given err → GivesText file text given (sight told told faults faults) err
 gives_refusal file text refusal.OutOfMemory given told faults err is says = inr (unasked told faults, says)
-gives_refusal file text (refusal.Refused code at other note) given told faults err is (inr lacks) = inr (unasked told faults, lacks)
-gives_refusal file text (refusal.Refused code at other note) given told faults err (fault, is_fault, same) (inl says) =
+gives_refusal file text (refusal.Refused code at other note left_out) given told faults err is (inr lacks) = inr (unasked told faults, lacks)
+gives_refusal file text (refusal.Refused code at other note left_out) given told faults err (fault, is_fault, same) (inl says) =
     let P : Refusal → Type 0 = λ r. Says status.Refused (ended (line_of file r)) given err in
     let said : P (refusal_of text fault) = subst P same says in
     inl (refused_due file text fault, inr (fault, is_fault, refl), Whole (unasked told faults) said)

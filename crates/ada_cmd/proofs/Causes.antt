@@ -20,7 +20,7 @@ use Rattle.ada_cmd.specs.Causes.{Meets, InFull, ShelfFault, WriteFault, OutOfMem
 
 text_due_once : (file text : List ℕ) (a b : Due) → IsTextDue file text a → IsTextDue file text b → a ≡ b
 text_due_once file text a b (inl (p, is_p, a-is)) (inl (q, is_q, b-is)) =
-    a-is ∙ ap (λ program. run_due (first_run program)) (one_program text p q is_p.form is_q.form) ∙ sym b-is
+    a-is ∙ ap (λ program. run_due (first_run program)) (one_program text p q is_p is_q) ∙ sym b-is
 text_due_once file text a b (inl (p, is_p, a-is)) (inr (f, is_f, b-is)) = absurd (no_fault text p f is_p is_f)
 text_due_once file text a b (inr (f, is_f, a-is)) (inl (p, is_p, b-is)) = absurd (no_fault text p f is_p is_f)
 text_due_once file text a b (inr (f, is_f, a-is)) (inr (g, is_g, b-is)) = a-is ∙ ap (refused_due file text) (one_fault text f g is_f is_g) ∙ sym b-is

@@ -7,8 +7,8 @@ use Rattle.ada_cmd.specs.Words.{Command}
 use Rattle.ada_cmd.specs.Words as words
 use Rattle.ada_base.specs.declared.reason.Reason.{Reason}
 use Rattle.ada_run.specs.Compile.{line_of}
-use Rattle.ada_run.specs.declared.compiler.Refusal.{Refusal}
-use Rattle.ada_run.specs.declared.compiler.Refusal.TheVariants as refusal
+use Rattle.ada_run.specs.declared.refusal.Refusal.{Refusal}
+use Rattle.ada_run.specs.declared.refusal.Refusal.TheVariants as refusal
 use Rattle.ada_run.specs.declared.runner.RunEnd.{RunEnd}
 use Rattle.ada_run.specs.declared.runner.RunEnd.TheVariants as run_end
 use Rattle.ada_cmd.specs.Due.{Due, IsDue, IsTextDue, ended, unhandled_line}
@@ -76,8 +76,8 @@ SaysEnd run_end.NoMemory given err = Says status.OutOfMemory memory_line given e
 
 abbrev pub SaysRefusal : List ℕ → Refusal → Status → Sight → Type 0
 SaysRefusal file refusal.OutOfMemory given err = Says status.OutOfMemory memory_line given err
-SaysRefusal file (refusal.Refused code at other note) given err =
-    SaysOrLacks status.Refused (ended (line_of file (refusal.Refused code at other note))) given err
+SaysRefusal file (refusal.Refused code at other note left_out) given err =
+    SaysOrLacks status.Refused (ended (line_of file (refusal.Refused code at other note left_out))) given err
 
 abbrev pub SaysUnreadable : List ℕ → Status → Sight → Type 0
 SaysUnreadable file given err = SaysOrLacks status.ShelfFault (unreadable_line file) given err

@@ -33,7 +33,13 @@ const USAGE: &str = "usage: ada_cmd MODE FILE [--workers N] [--chunks PLAN] [--t
 
 const NOT_BUILT: &str = "t.ada:1:1: E13 not built yet\n";
 
-const UNKNOWN: &str = "t.ada:1:1: E05 unknown name\n";
+const SYNTAX: &str = "t.ada:1:1: E03 syntax\n";
+
+const UNKNOWN: &str = "t.ada:5:10: E05 unknown name\n";
+
+const IN_CAPITALS: &str = "WITH ADA.TEXT_IO; USE ADA.TEXT_IO; -- clauses\n\
+    PROCEDURE MAIN IS -- the procedure\nX : INTEGER := 2; -- a declaration\nBEGIN -- the body\n\
+    X := X + 3; PUT_LINE (INTEGER'IMAGE (X)); -- statements\nEND MAIN; -- the end\n";
 
 // What the objects around a call do: which fetch fails, and which put on out and on err fails after how
 // many bytes.
@@ -121,7 +127,8 @@ fn each_text_has_its_output_its_line_and_its_status(rt: HostRuntime) -> Result<(
         ("run t.ada", UNDECLARED, "", UNKNOWN, 1),
         ("run t.ada", DECLARED_TWICE, "", NOT_BUILT, 1),
         ("run t.ada", TOO_LARGE, "", NOT_BUILT, 1),
-        ("run t.ada", "", "", NOT_BUILT, 1),
+        ("run t.ada", "", "", SYNTAX, 1),
+        ("run t.ada", IN_CAPITALS, " 5\n", "", 0),
         ("run", FIRST, "", USAGE, 2),
         ("run t.ada --workers 65", FIRST, "", USAGE, 2),
         ("Run t.ada", FIRST, "", USAGE, 2),
@@ -168,114 +175,134 @@ fn each_fault_has_its_status(rt: HostRuntime) -> Result<(), Fail> {
     Ok(())
 }
 
-// A first lexical fault is told with its place. The texts without one are of another form.
-#[test]
-fn each_lexical_fault_has_its_place(rt: HostRuntime) -> Result<(), Fail> {
-    let alloc = rt.alloc();
-    let spaces = |count: usize| vec![in alloc; b' '; count];
-    let semicolons = |count: usize| vec![in alloc; b';'; count];
-    let cases = [
-        (b"\xff".to_vec(alloc)?, "1:1: E01 text is not UTF-8"),
-        (
-            b"X\n\tY\xc3\xa9\xc3".to_vec(alloc)?,
-            "2:4: E01 text is not UTF-8",
-        ),
-        (b"a__b".to_vec(alloc)?, "1:1: E02 no token begins here"),
-        (
-            b"X -- #\r\n\xc3\xa9 #".to_vec(alloc)?,
-            "2:3: E02 no token begins here",
-        ),
-        (
-            b"X := 1E-3;".to_vec(alloc)?,
-            "1:6: E02 no token begins here",
-        ),
-        (
-            b"170141183460469231731687303715884105727".to_vec(alloc)?,
-            "1:1: E13 not built yet",
-        ),
-        (
-            b" 170141183460469231731687303715884105728".to_vec(alloc)?,
-            "1:2: E12 limit passed",
-        ),
-        (spaces(1_048_576)?, "1:1: E13 not built yet"),
-        (spaces(1_048_577)?, "1:1: E12 limit passed"),
-        (semicolons(200_000)?, "1:1: E13 not built yet"),
-        (semicolons(200_001)?, "1:200001: E12 limit passed"),
-    ];
-    for (text, line) in cases {
-        let given = answer(&rt, alloc, "run t.ada", &text, NONE)?;
-        let expected = format!(in alloc; "t.ada:{line}\n")?;
-        assert_eq!(rt; given.err.bytes(), expected.as_bytes());
-        assert_eq!(rt; given.out.bytes(), b"".as_slice(), "{line}");
-        assert_eq!(rt; given.status, 1, "{line}");
-    }
+fn expect_refusal<R: Threads + Sync + Abort>(
+    rt: &R,
+    alloc: Global,
+    text: &[u8],
+    line: &str,
+) -> Result<(), AllocError> {
+    let given = answer(rt, alloc, "run t.ada", text, NONE)?;
+    let expected = format!(in alloc; "t.ada:{line}\n")?;
+    assert_eq!(rt; given.err.bytes(), expected.as_bytes());
+    assert_eq!(rt; given.out.bytes(), b"".as_slice(), "{line}");
+    assert_eq!(rt; given.status, 1, "{line}");
     Ok(())
 }
 
-fn no_token_line(alloc: Global, place: usize) -> Result<String, AllocError> {
-    let front = &FIRST.as_bytes()[..place.min(FIRST.len())];
-    let line = front.iter().filter(|b| **b == b'\n').count();
-    let start = front
-        .iter()
-        .rposition(|b| *b == b'\n')
-        .map_or(0, |at| at + 1);
-    let column = place.saturating_sub(start);
+#[test]
+fn text_that_is_not_utf8(rt: HostRuntime) -> Result<(), Fail> {
+    let alloc = rt.alloc();
+    expect_refusal(&rt, alloc, b"\xff", "1:1: E01 text is not UTF-8")?;
+    expect_refusal(
+        &rt,
+        alloc,
+        b"X\n\tY\xc3\xa9\xc3",
+        "2:4: E01 text is not UTF-8",
+    )?;
+    Ok(())
+}
+
+#[test]
+fn text_with_no_token_at_a_place(rt: HostRuntime) -> Result<(), Fail> {
+    let alloc = rt.alloc();
+    expect_refusal(&rt, alloc, b"a__b", "1:1: E02 no token begins here")?;
+    expect_refusal(
+        &rt,
+        alloc,
+        b"X -- #\r\n\xc3\xa9 #",
+        "2:3: E02 no token begins here",
+    )?;
+    expect_refusal(&rt, alloc, b"X := 1E-3;", "1:6: E02 no token begins here")?;
+    Ok(())
+}
+
+// The greatest text, and the greatest numbers of bytes and tokens, are read and found to be no program.
+#[test]
+fn limits_of_a_text(rt: HostRuntime) -> Result<(), Fail> {
+    let alloc = rt.alloc();
+    let spaces = vec![in alloc; b' '; 1_048_577]?;
+    expect_refusal(&rt, alloc, &spaces, "1:1: E12 limit passed")?;
+    expect_refusal(&rt, alloc, &spaces[1..], "1:1048577: E03 syntax")?;
+    let semicolons = vec![in alloc; b';'; 200_001]?;
+    expect_refusal(&rt, alloc, &semicolons, "1:200001: E12 limit passed")?;
+    expect_refusal(&rt, alloc, &semicolons[1..], "1:1: E03 syntax")?;
+    Ok(())
+}
+
+#[test]
+fn limit_of_a_number(rt: HostRuntime) -> Result<(), Fail> {
+    let alloc = rt.alloc();
+    expect_refusal(
+        &rt,
+        alloc,
+        b"170141183460469231731687303715884105727",
+        "1:1: E03 syntax",
+    )?;
+    expect_refusal(
+        &rt,
+        alloc,
+        b" 170141183460469231731687303715884105728",
+        "1:2: E12 limit passed",
+    )?;
+    Ok(())
+}
+
+// A program with these declarations in line 3 and these statements in line 5.
+fn program(alloc: Global, declarations: &str, statements: &str) -> Result<String, AllocError> {
     format!(in alloc;
-        "t.ada:{}:{}: E02 no token begins here\n",
-        line.saturating_add(1),
-        column.saturating_add(1)
+        "with Ada.Text_IO; use Ada.Text_IO;\nprocedure Main is\n{declarations}\nbegin\n{statements}\nend Main;\n"
     )
 }
 
-// Of the first text, with a letter in one place. It leaves a text of the first form where a variable or
-// an operand stands. Behind a digit it leaves no token.
 #[test]
-fn one_letter_decides(rt: HostRuntime) -> Result<(), Fail> {
+fn first_syntax_fault(rt: HostRuntime) -> Result<(), Fail> {
     let alloc = rt.alloc();
-    for place in 0..FIRST.len() {
-        let mut text = Vec::from_slice(alloc, FIRST.as_bytes())?;
-        text[place] = b'Y';
-        let given = answer(&rt, alloc, "run t.ada", &text, NONE)?;
-        let expected = match place {
-            53 | 77 | 82 | 86 | 114 => String::from_str(alloc, UNKNOWN)?,
-            69 | 87 => no_token_line(alloc, place - 1)?,
-            _ => String::from_str(alloc, NOT_BUILT)?,
-        };
-        assert_eq!(rt; given.status, 1, "at {place}");
-        assert_eq!(rt; given.err.bytes(), expected.as_bytes(), "at {place}");
-    }
+    expect_refusal(&rt, alloc, b"procedure Main is\nbegin\n", "3:1: E03 syntax")?;
+    let text = program(alloc, "X : Integer := 2;", "X := X X;")?;
+    expect_refusal(&rt, alloc, text.as_bytes(), "5:8: E03 syntax")?;
     Ok(())
 }
 
-// The same with a digit. It leaves no token where one begins with a letter behind it.
 #[test]
-fn one_digit_decides(rt: HostRuntime) -> Result<(), Fail> {
+fn tokens_that_are_left_out(rt: HostRuntime) -> Result<(), Fail> {
     let alloc = rt.alloc();
-    let first = FIRST.as_bytes();
-    for place in 0..FIRST.len() {
-        let mut text = Vec::from_slice(alloc, first)?;
-        text[place] = b'7';
-        let given = answer(&rt, alloc, "run t.ada", &text, NONE)?;
-        let goes_on = place > 0
-            && first
-                .get(place - 1)
-                .is_some_and(|b| b.is_ascii_alphanumeric() || *b == b'_');
-        let letter_follows = first
-            .get(place + 1)
-            .is_some_and(|b| b.is_ascii_alphabetic());
-        let line = if letter_follows && !goes_on {
-            no_token_line(alloc, place)?
-        } else {
-            String::from_str(alloc, NOT_BUILT)?
-        };
-        let (status, out, err) = match place {
-            68 | 82 => (0, " 10\n", ""),
-            86 => (0, " 9\n", ""),
-            _ => (1, "", line.as_str()),
-        };
-        assert_eq!(rt; given.status, status, "at {place}");
-        assert_eq!(rt; given.out.bytes(), out.as_bytes(), "at {place}");
-        assert_eq!(rt; given.err.bytes(), err.as_bytes(), "at {place}");
-    }
+    let word = program(alloc, "task T;", "null;")?;
+    expect_refusal(&rt, alloc, word.as_bytes(), "3:1: E04 left out: task")?;
+    let literal = program(alloc, "X : Integer := 1.5;", "null;")?;
+    expect_refusal(
+        &rt,
+        alloc,
+        literal.as_bytes(),
+        "3:16: E04 left out: real literal",
+    )?;
+    Ok(())
+}
+
+const DEEP: &str = "X := ((((((((((((((((((((((((((((((((((((((((((((((((((((((((((((((((";
+
+// A statement stands at depth 1, so the last of 64 parentheses in it is too deep.
+#[test]
+fn limit_of_depth(rt: HostRuntime) -> Result<(), Fail> {
+    let alloc = rt.alloc();
+    let text = program(alloc, "X : Integer := 2;", DEEP)?;
+    expect_refusal(&rt, alloc, text.as_bytes(), "5:69: E12 limit passed")?;
+    Ok(())
+}
+
+// Letters in either case are one variable, and names in any case are the same.
+#[test]
+fn case_of_letters(rt: HostRuntime) -> Result<(), Fail> {
+    let alloc = rt.alloc();
+    let text = program(
+        alloc,
+        "x : INTEGER := 16#F#;",
+        "X := x - 8; put_line (integer'IMAGE (X));",
+    )?;
+    expect(
+        &rt,
+        alloc,
+        ("run t.ada", text.as_str(), NONE),
+        (" 7\n", "", 0),
+    )?;
     Ok(())
 }

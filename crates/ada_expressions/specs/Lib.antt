@@ -1,2 +1,2 @@
-pub mod Halves
-pub mod Values
+pub mod BracketEnds
+pub mod StandsFor

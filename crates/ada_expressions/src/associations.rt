@@ -9,11 +9,11 @@ ghost use Rattle.ada_tree.specs.Kinds as kind;
 ghost use Rattle.ada_readers.specs.ExpressionReaders.{items};
 ghost use Rattle.ada_readers.specs.BracketReaders as reader;
 
-use crate::kinds::{ARROW, BAR, COMMA, DOTS, FOR, IDENTIFIER, IN, OTHERS};
-use crate::ranges::read_range;
-use crate::relations::read_expr;
-use crate::sums::read_simple;
 use ada_base::{Boxed, Items};
+use ada_operators::kinds::{ARROW, BAR, COMMA, DOTS, FOR, IDENTIFIER, IN, OTHERS};
+use ada_operators::ranges::read_range;
+use ada_operators::relations::read_expr;
+use ada_operators::sums::read_simple;
 use ada_tree::{Assoc, Choice, OthersValue, Primary, Simple};
 use reader_laws::{Cursor, Fault, read_items};
 use std::alloc::Global;

@@ -9,9 +9,9 @@ ghost use Rattle.ada_tree.specs.Kinds as kind;
 ghost use Rattle.ada_readers.specs.ExpressionReaders.{items};
 ghost use Rattle.ada_readers.specs.BracketReaders as reader;
 
-use crate::kinds::{ELSE, ELSIF, IF, THEN};
-use crate::relations::read_expr;
 use ada_base::Items;
+use ada_operators::kinds::{ELSE, ELSIF, IF, THEN};
+use ada_operators::relations::read_expr;
 use ada_tree::{Elsif, IfExpr, Primary};
 use reader_laws::{Cursor, Fault, read_items};
 use std::alloc::Global;

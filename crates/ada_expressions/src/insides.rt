@@ -8,14 +8,14 @@ ghost use Rattle.ada_readers.specs.ExpressionReaders as expression;
 ghost use Rattle.ada_tree.specs.Kinds as kind;
 ghost use Rattle.ada_readers.specs.ExpressionReaders.{items};
 ghost use Rattle.ada_readers.specs.BracketReaders as reader;
-ghost use Rattle.ada_expressions.specs.Halves as half;
-ghost use Rattle.ada_expressions.specs.Values.{turned};
+ghost use Rattle.ada_expressions.specs.BracketEnds as ends;
+ghost use Rattle.ada_expressions.specs.StandsFor.{turned};
 
 use crate::associations::{read_choice_from, read_chosen, read_more_assocs, read_others_value};
-use crate::kinds::{ARROW, BAR, COMMA, DOTS, OTHERS};
-use crate::relations::{read_expr, read_expr_from, read_rel_from};
-use crate::sums::read_simple;
 use ada_base::{Boxed, Items};
+use ada_operators::kinds::{ARROW, BAR, COMMA, DOTS, OTHERS};
+use ada_operators::relations::{read_expr, read_expr_from, read_rel_from};
+use ada_operators::sums::read_simple;
 use ada_readers::readings::{Inside, Tail};
 use ada_tree::{Choice, Expr, Many, OthersValue, Primary, Simple};
 use reader_laws::{Cursor, Fault};
@@ -120,7 +120,7 @@ fn read_expr_or_several<P: Fn(&mut Cursor<'_>) -> Result<Primary, Fault>>(
     first: Boxed<Simple>,
 ) -> Result<Inside, Fault>
     requires { P.IsAlwaysCallable primary.now }
-    ensures { (inner : Opened) → ReadsItems (P.post primary.now) (expression.primary inner) → Gives (half.expr_or_several inner first tokens.old) result tokens.new }
+    ensures { (inner : Opened) → ReadsItems (P.post primary.now) (expression.primary inner) → Gives (ends.expr_or_several inner first tokens.old) result tokens.new }
 {
     let rel = read_rel_from(alloc, primary, tokens, first)?;
     let expr = read_expr_from(alloc, primary, tokens, rel)?;
@@ -140,7 +140,7 @@ fn read_inside_from<P: Fn(&mut Cursor<'_>) -> Result<Primary, Fault>>(
     first: Boxed<Simple>,
 ) -> Result<Inside, Fault>
     requires { P.IsAlwaysCallable primary.now }
-    ensures { (inner : Opened) → ReadsItems (P.post primary.now) (expression.primary inner) → Gives (half.inside_from inner first tokens.old) result tokens.new }
+    ensures { (inner : Opened) → ReadsItems (P.post primary.now) (expression.primary inner) → Gives (ends.inside_from inner first tokens.old) result tokens.new }
 {
     match tokens.peek() {
         DOTS | BAR | ARROW => {

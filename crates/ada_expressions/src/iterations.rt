@@ -5,12 +5,12 @@ ghost use Rattle.reader_laws.specs.Repeats.{ReadsItems};
 ghost use Rattle.ada_readers.specs.Opened.{Opened};
 ghost use Rattle.ada_readers.specs.ExpressionReaders as expression;
 ghost use Rattle.ada_readers.specs.BracketReaders as reader;
-ghost use Rattle.ada_expressions.specs.Halves as half;
+ghost use Rattle.ada_expressions.specs.BracketEnds as ends;
 
-use crate::kinds::{FOR, IDENTIFIER, IN, OF, OPEN_ROUND, PARALLEL, REVERSE, WHEN};
-use crate::names::read_name;
-use crate::ranges::read_range;
-use crate::relations::read_expr;
+use ada_operators::kinds::{FOR, IDENTIFIER, IN, OF, OPEN_ROUND, PARALLEL, REVERSE, WHEN};
+use ada_operators::names::read_name;
+use ada_operators::ranges::read_range;
+use ada_operators::relations::read_expr;
 use ada_tree::{Chunk, Expr, Iter, Parallel, Part, Primary};
 use reader_laws::{Cursor, Fault};
 use std::alloc::Global;
@@ -40,7 +40,7 @@ fn read_iter_of<
 >(alloc: Global, primary: &P, call: &C, tokens: &mut Cursor<'_>, item: u32) -> Result<Iter, Fault>
     requires primary { P.IsAlwaysCallable primary.now }
     requires call { C.IsAlwaysCallable call.now }
-    ensures { (inner : Opened) → ReadsItems (P.post primary.now) (expression.primary inner) → ReadsItems (C.post call.now) inner.call → Gives (half.iter_of inner item tokens.old) result tokens.new }
+    ensures { (inner : Opened) → ReadsItems (P.post primary.now) (expression.primary inner) → ReadsItems (C.post call.now) inner.call → Gives (ends.iter_of inner item tokens.old) result tokens.new }
 {
     let name = read_name(alloc, call, tokens)?;
     let filter = read_filter(alloc, primary, tokens)?;
@@ -56,7 +56,7 @@ fn read_iter_over<P: Fn(&mut Cursor<'_>) -> Result<Primary, Fault>>(
     reverse: Option<u32>,
 ) -> Result<Iter, Fault>
     requires { P.IsAlwaysCallable primary.now }
-    ensures { (inner : Opened) → ReadsItems (P.post primary.now) (expression.primary inner) → Gives (half.iter_over inner index reverse tokens.old) result tokens.new }
+    ensures { (inner : Opened) → ReadsItems (P.post primary.now) (expression.primary inner) → Gives (ends.iter_over inner index reverse tokens.old) result tokens.new }
 {
     let range = read_range(alloc, primary, tokens)?;
     let filter = read_filter(alloc, primary, tokens)?;
@@ -76,7 +76,7 @@ fn read_iter_in<P: Fn(&mut Cursor<'_>) -> Result<Primary, Fault>>(
     index: u32,
 ) -> Result<Iter, Fault>
     requires { P.IsAlwaysCallable primary.now }
-    ensures { (inner : Opened) → ReadsItems (P.post primary.now) (expression.primary inner) → Gives (half.iter_in inner index tokens.old) result tokens.new }
+    ensures { (inner : Opened) → ReadsItems (P.post primary.now) (expression.primary inner) → Gives (ends.iter_in inner index tokens.old) result tokens.new }
 {
     if tokens.peek() == REVERSE {
         let reverse = tokens.take(REVERSE)?;

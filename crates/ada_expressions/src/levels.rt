@@ -4,10 +4,10 @@ ghost use Rattle.reader_laws.specs.Gives.{Gives};
 ghost use Rattle.ada_readers.specs.Levels as level;
 ghost use Rattle.ada_readers.specs.ExpressionReaders as expression;
 
-use crate::kinds::{IDENTIFIER, NUMERAL, OPEN_ROUND, OPEN_SQUARE, STRING, TARGET};
-use crate::names::read_name;
 use crate::rounds::{read_call, read_chunk, read_round};
 use crate::squares::read_square;
+use ada_operators::kinds::{IDENTIFIER, NUMERAL, OPEN_ROUND, OPEN_SQUARE, STRING, TARGET};
+use ada_operators::names::read_name;
 use ada_tree::{Chunk, Part, Primary};
 use reader_laws::{Cursor, Fault};
 use std::alloc::Global;

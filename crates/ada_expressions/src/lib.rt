@@ -1,18 +1,14 @@
-//! The parser's functions for names, expressions and what stands in brackets: each gives what the reader of
-//! the same name in `ada_readers` gives.
+//! The parser's functions for what stands in brackets and for whole expressions: each gives what the reader
+//! of the same name in `ada_readers` gives.
 #![tactic(auto)]
 
-pub mod associations;
-pub mod bare;
-pub mod conditionals;
-pub mod insides;
-pub mod iterations;
-pub mod kinds;
+mod associations;
+mod conditionals;
+mod insides;
+mod iterations;
 pub mod levels;
-pub mod names;
 pub mod parts;
-pub mod ranges;
-pub mod relations;
-pub mod rounds;
-pub mod squares;
-pub mod sums;
+mod rounds;
+mod squares;
+#[cfg(test)]
+mod tests;

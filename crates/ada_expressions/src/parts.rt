@@ -12,12 +12,12 @@ ghost use Rattle.ada_readers.specs.BracketReaders as bracket;
 
 use crate::associations::{read_choice, read_more_choices};
 use crate::iterations::{read_iter, read_parallel};
-use crate::kinds::WHEN;
 use crate::levels::{call, chunk, primary};
-use crate::names::read_name;
-use crate::ranges::read_range;
-use crate::relations::{read_bounds, read_expr};
 use ada_base::{Boxed, Items};
+use ada_operators::kinds::WHEN;
+use ada_operators::names::read_name;
+use ada_operators::ranges::read_range;
+use ada_operators::relations::{read_bounds, read_expr};
 use ada_tree::{Bounds, Choice, Expr, Iter, Name, Parallel, Range};
 use reader_laws::{Cursor, Fault};
 use std::alloc::Global;

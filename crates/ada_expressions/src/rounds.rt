@@ -6,16 +6,16 @@ ghost use Rattle.reader_laws.specs.Repeats.{ReadsItems};
 ghost use Rattle.ada_readers.specs.Opened.{Opened};
 ghost use Rattle.ada_readers.specs.ExpressionReaders as expression;
 ghost use Rattle.ada_readers.specs.BracketReaders as reader;
-ghost use Rattle.ada_expressions.specs.Halves as half;
+ghost use Rattle.ada_expressions.specs.BracketEnds as ends;
 
 use crate::associations::{read_each, read_more_assocs};
-use crate::bare::bare_identifier;
 use crate::conditionals::read_if_expr;
 use crate::insides::read_inside;
-use crate::kinds::{CLOSE_ROUND, FOR, IF, IN, OPEN_ROUND};
-use crate::ranges::{read_arg, read_more_args, read_range};
-use crate::sums::read_simple;
 use ada_base::Boxed;
+use ada_operators::bare::bare_identifier;
+use ada_operators::kinds::{CLOSE_ROUND, FOR, IF, IN, OPEN_ROUND};
+use ada_operators::ranges::{read_arg, read_more_args, read_range};
+use ada_operators::sums::read_simple;
 use ada_readers::readings::Inside;
 use ada_tree::{Aggregate, Chunk, Many, Part, Primary, Simple};
 use reader_laws::{Cursor, Fault};
@@ -66,7 +66,7 @@ fn read_round_if<P: Fn(&mut Cursor<'_>) -> Result<Primary, Fault>>(
     bracket: u32,
 ) -> Result<Primary, Fault>
     requires { P.IsAlwaysCallable primary.now }
-    ensures { (inner : Opened) → ReadsItems (P.post primary.now) (expression.primary inner) → Gives (half.round_if inner bracket tokens.old) result tokens.new }
+    ensures { (inner : Opened) → ReadsItems (P.post primary.now) (expression.primary inner) → Gives (ends.round_if inner bracket tokens.old) result tokens.new }
 {
     let expr = Boxed::new(alloc, read_if_expr(alloc, primary, tokens)?)?;
     tokens.take(CLOSE_ROUND)?;
@@ -81,7 +81,7 @@ fn read_round_for<P: Fn(&mut Cursor<'_>) -> Result<Primary, Fault>>(
     bracket: u32,
 ) -> Result<Primary, Fault>
     requires { P.IsAlwaysCallable primary.now }
-    ensures { (inner : Opened) → ReadsItems (P.post primary.now) (expression.primary inner) → Gives (half.round_for inner bracket tokens.old) result tokens.new }
+    ensures { (inner : Opened) → ReadsItems (P.post primary.now) (expression.primary inner) → Gives (ends.round_for inner bracket tokens.old) result tokens.new }
 {
     let first = read_each(alloc, primary, tokens)?;
     let more = read_more_assocs(alloc, primary, tokens)?;
@@ -99,7 +99,7 @@ fn read_round_inside<P: Fn(&mut Cursor<'_>) -> Result<Primary, Fault>>(
     bracket: u32,
 ) -> Result<Primary, Fault>
     requires { P.IsAlwaysCallable primary.now }
-    ensures { (inner : Opened) → ReadsItems (P.post primary.now) (expression.primary inner) → Gives (half.round_inside inner bracket tokens.old) result tokens.new }
+    ensures { (inner : Opened) → ReadsItems (P.post primary.now) (expression.primary inner) → Gives (ends.round_inside inner bracket tokens.old) result tokens.new }
 {
     let inside = read_inside(alloc, primary, tokens)?;
     tokens.take(CLOSE_ROUND)?;

@@ -7,19 +7,19 @@ ghost use Rattle.reader_laws.specs.Repeats.{ReadsItems};
 ghost use Rattle.ada_readers.specs.Opened.{Opened};
 ghost use Rattle.ada_readers.specs.ExpressionReaders as expression;
 ghost use Rattle.ada_readers.specs.BracketReaders as reader;
-ghost use Rattle.ada_expressions.specs.Halves as half;
+ghost use Rattle.ada_expressions.specs.BracketEnds as ends;
 ghost use Rattle.ada_tree.specs.declared.expressions.Adding.TheViews.{out-Iter};
-ghost use Rattle.ada_expressions.specs.Values.{association_of};
+ghost use Rattle.ada_expressions.specs.StandsFor.{association_of};
 
 use crate::associations::{read_more_assocs, read_next_assoc};
 use crate::insides::read_inside;
 use crate::iterations::{read_iter, read_parallel};
-use crate::kinds::{
+use ada_base::{Boxed, Items};
+use ada_operators::kinds::{
     ARROW, CLOSE_ROUND, CLOSE_SQUARE, COMMA, FOR, IDENTIFIER, OPEN_ROUND, OPEN_SQUARE, PARALLEL,
     TICK,
 };
-use crate::relations::read_expr;
-use ada_base::{Boxed, Items};
+use ada_operators::relations::read_expr;
 use ada_readers::readings::{Inside, Values};
 use ada_tree::{
     Aggregate, Assoc, Chunk, Expr, Iter, Many, Parallel, Part, Primary, Range, Reduction,
@@ -84,7 +84,7 @@ fn reduction(
     reducer: Expr,
     initial: Expr,
 ) -> Result<Primary, AllocError>
-    ensures { IfOk result (λ primary. primary ≡ half.reduction bracket values attribute reducer initial) }
+    ensures { IfOk result (λ primary. primary ≡ ends.reduction bracket values attribute reducer initial) }
 {
     let Values {
         parallel,
@@ -116,7 +116,7 @@ fn read_initial<P: Fn(&mut Cursor<'_>) -> Result<Primary, Fault>>(
     reducer: Expr,
 ) -> Result<Primary, Fault>
     requires { P.IsAlwaysCallable primary.now }
-    ensures { (inner : Opened) → ReadsItems (P.post primary.now) (expression.primary inner) → Gives (half.initial inner bracket values attribute reducer tokens.old) result tokens.new }
+    ensures { (inner : Opened) → ReadsItems (P.post primary.now) (expression.primary inner) → Gives (ends.initial inner bracket values attribute reducer tokens.old) result tokens.new }
 {
     let initial = read_expr(alloc, primary, tokens)?;
     tokens.take(CLOSE_ROUND)?;
@@ -133,7 +133,7 @@ fn read_reduced<P: Fn(&mut Cursor<'_>) -> Result<Primary, Fault>>(
     attribute: u32,
 ) -> Result<Primary, Fault>
     requires { P.IsAlwaysCallable primary.now }
-    ensures { (inner : Opened) → ReadsItems (P.post primary.now) (expression.primary inner) → Gives (half.reduced inner bracket values attribute tokens.old) result tokens.new }
+    ensures { (inner : Opened) → ReadsItems (P.post primary.now) (expression.primary inner) → Gives (ends.reduced inner bracket values attribute tokens.old) result tokens.new }
 {
     let reducer = read_expr(alloc, primary, tokens)?;
     tokens.take(COMMA)?;
@@ -296,7 +296,7 @@ fn read_square_inside<P: Fn(&mut Cursor<'_>) -> Result<Primary, Fault>>(
     bracket: u32,
 ) -> Result<Primary, Fault>
     requires { P.IsAlwaysCallable primary.now }
-    ensures { (inner : Opened) → ReadsItems (P.post primary.now) (expression.primary inner) → Gives (half.square_inside inner bracket tokens.old) result tokens.new }
+    ensures { (inner : Opened) → ReadsItems (P.post primary.now) (expression.primary inner) → Gives (ends.square_inside inner bracket tokens.old) result tokens.new }
 {
     let inside = read_inside(alloc, primary, tokens)?;
     tokens.take(CLOSE_SQUARE)?;

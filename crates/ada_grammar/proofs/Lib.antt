@@ -1,3 +1,4 @@
+mod KindLists
 mod ReadAgain
 mod Speaking
 mod SpokenBrackets
@@ -5,3 +6,4 @@ mod SpokenDeclarations
 mod SpokenExpressions
 mod SpokenStatements
 mod SpokenUnits
+mod Verdicts

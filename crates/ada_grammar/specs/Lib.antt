@@ -1,1 +1,4 @@
+pub mod Parsed
 pub mod Printed
+pub mod Records
+pub mod StatementEnds

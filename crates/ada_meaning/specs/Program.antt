@@ -1,6 +1,6 @@
 -- A program of the first form.
-use Rattle.std.specs.Prelude.{Bool, true, ◌&&◌, ◌==◌, List, IsTrue}
-use Rattle.std.specs.List.{list_any, list_all}
+use Rattle.std.specs.Prelude.{Bool, ◌==◌, not, ℕ, List, [], ◌∷◌, ◌++◌, Option}
+use Rattle.std.specs.List.{list_any, find}
 use Rattle.ada_meaning.specs.declared.first_form.Letter.{Letter}
 use Rattle.ada_meaning.specs.declared.first_form.Declaration.{Declaration}
 use Rattle.ada_meaning.specs.declared.first_form.Operand.{Operand}
@@ -14,24 +14,28 @@ pub record Program : Type 0 where
   pub declarations : List Declaration
   pub statements : List Statement
 
+-- the variables that an operand, an expression, a statement and statements use, in the order of the text
+abbrev pub operand_variables : Operand → List Letter
+operand_variables (Name letter) = letter ∷ []
+operand_variables (Number n) = []
+
+abbrev pub expression_variables : Expression → List Letter
+expression_variables (Alone a) = operand_variables a
+expression_variables (Sum a b) = operand_variables a ++ operand_variables b
+expression_variables (Difference a b) = operand_variables a ++ operand_variables b
+
+abbrev pub statement_variables : Statement → List Letter
+statement_variables (Assign target expression) = target ∷ expression_variables expression
+statement_variables (Print letter) = letter ∷ []
+
+abbrev pub used_variables : List Statement → List Letter
+used_variables [] = []
+used_variables (s ∷ others) = statement_variables s ++ used_variables others
+
 -- whether a letter is declared
 abbrev pub declares : List Declaration → Letter → Bool
 declares declarations letter = list_any (λ d. d.variable.code == letter.code) declarations
 
--- whether the letters that an operand, an expression or a statement uses are declared (8.3)
-abbrev pub operand_declared : List Declaration → Operand → Bool
-operand_declared declarations (Name letter) = declares declarations letter
-operand_declared declarations (Number n) = true
-
-abbrev pub expression_declared : List Declaration → Expression → Bool
-expression_declared declarations (Alone a) = operand_declared declarations a
-expression_declared declarations (Sum a b) = operand_declared declarations a && operand_declared declarations b
-expression_declared declarations (Difference a b) = operand_declared declarations a && operand_declared declarations b
-
-abbrev pub statement_declared : List Declaration → Statement → Bool
-statement_declared declarations (Assign target expression) = declares declarations target && expression_declared declarations expression
-statement_declared declarations (Print letter) = declares declarations letter
-
--- each letter that the statements use is declared
-abbrev pub AreDeclared : Program → Type 0
-AreDeclared program = IsTrue (list_all (statement_declared program.declarations) program.statements)
+-- the first variable that is used and whose letter isn't declared (8.3), or None
+abbrev pub first_undeclared : Program → Option Letter
+first_undeclared program = find (λ letter. not (declares program.declarations letter)) (used_variables program.statements)

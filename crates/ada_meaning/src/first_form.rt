@@ -1,9 +1,11 @@
 use std::marker::Model;
 
-/// The name of a variable of the first form: a letter from A to Z, by its ASCII code.
+/// The name of a variable of the first form where it stands in a text: the ASCII code of its letter, from A to Z
+/// whatever the letter's case in the text is, and the number of its token, from 0.
 #[derive(Clone, Copy, Debug, PartialEq, Eq)]
 pub struct Letter {
     pub code: u8,
+    pub token: u32,
 }
 
 /// A declaration `V : Integer := N;` of the first form (3.3.1).

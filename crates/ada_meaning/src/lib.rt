@@ -2,5 +2,6 @@
 #![tactic(auto)]
 
 pub mod first_form;
+pub mod shapes;
 
 pub use first_form::{Declaration, Expression, FirstForm, Letter, Operand, Statement, Variable};

@@ -1,297 +1,325 @@
--- Reading is exact: what is read is spelled so, and what is spelled so is read, up to the whole text.
-use Rattle.std.proofs.Common.{◌≡◌, ℕ, zero, suc, ◌+◌, ◌<◌, ◌≤◌, Bool, true, false, cond, ◌&&◌, eqb, leb, List, [], ◌∷◌, ◌++◌, length, Option, Some, None, refl, ap, ◌∙◌, subst, inl, inr, append_assoc, arith, length-append}
-use Rattle.std.specs.Prelude.{codes, bytes_eq}
-use Rattle.std.proofs.lemmas.Slice.Eq.{bytes_eq-Decides}
-use Rattle.std.proofs.lemmas.Bool.{and_parts, leb-true, lt-leb}
-use Rattle.std.specs.List.{list_all}
-use Rattle.std.specs.Char.{is_ascii_digit}
+-- The walk is exact: what it finds is of the first form, and what is of the first form is found.
+use Rattle.std.proofs.Common.{◌≡◌, ◌⊎◌, ℕ, ◌+◌, ◌-◌, ◌<◌, ◌≤◌, Bool, true, false, cond, ◌&&◌, leb, List, [], ◌∷◌, length, Option, Some, None, ℤ, pos, negsuc, refl, sym, ap, ◌∙◌, subst, inl, inr, arith}
+use Rattle.std.specs.Prelude.{codes, not}
+use Rattle.std.specs.List.{AllZip}
+use Rattle.std.specs.Option.{IsSomeAnd}
+use Rattle.std.proofs.lemmas.Bool.{and_parts, and_from, leb-true, le-leb, lt-leb}
+use Rattle.ada_base.specs.declared.token.Kind.{Kind}
+use Rattle.ada_base.specs.declared.token.Kind.TheVariants as kind'
+use Rattle.ada_base.specs.Tokens.{Tokenized, slice_at}
+use Rattle.ada_tree.specs.Layers.{AddingLayer}
+use Rattle.ada_tree.specs.Parsed.{kind_at}
+use Rattle.ada_tree.specs.declared.expressions.Adding.TheOpen as layer
+use Rattle.ada_tree.specs.declared.expressions.Adding.TheViews as views
+use Rattle.ada_tree.specs.declared.expressions.Adding.{Adding}
+use Rattle.ada_tree.specs.declared.expressions.Expr.{Expr}
+use Rattle.ada_tree.specs.declared.expressions.Term.{Term}
+use Rattle.ada_tree.specs.declared.names.Name.{Name}
+use Rattle.ada_tree.specs.declared.statements.Stmt.{Stmt}
+use Rattle.ada_tree.specs.declared.statements.Stmt.TheViews as views'
+use Rattle.ada_tree.specs.declared.units.Tree.{Tree}
+use Rattle.ada_tree.specs.declared.units.Unit.{Unit}
 use Rattle.ada_meaning.specs.Program.{Program}
-use Rattle.ada_meaning.specs.FirstForm.{IsName, IsNumeral, IsDeclaration, IsOperand, IsExpression, IsStatement, AreJoined, IsFirstForm, are_distinct, opening, middle, closing}
+use Rattle.ada_meaning.specs.Shapes.{◌>>=◌, object_of, sum_of, operand_of, identifier_of, statement_of, output_of}
+use Rattle.ada_meaning.specs.FirstForm.{is_named, IsVariable, IsNumber, IsDeclaration, IsToken, IsOperand, IsOperation, IsSum, IsExpression, IsOutput, IsForm, IsStatement, is_frame, statements_of, are_distinct, has_none, IsFirstForm}
 use Rattle.ada_meaning.specs.declared.first_form.Letter.{Letter}
 use Rattle.ada_meaning.specs.declared.first_form.Declaration.{Declaration}
 use Rattle.ada_meaning.specs.declared.first_form.Operand.{Operand}
-use Rattle.ada_meaning.specs.declared.first_form.Operand.TheVariants.{Name, Number}
+use Rattle.ada_meaning.specs.declared.first_form.Operand.TheVariants as operand'
 use Rattle.ada_meaning.specs.declared.first_form.Expression.{Expression}
 use Rattle.ada_meaning.specs.declared.first_form.Expression.TheVariants.{Alone, Sum, Difference}
 use Rattle.ada_meaning.specs.declared.first_form.Statement.{Statement}
 use Rattle.ada_meaning.specs.declared.first_form.Statement.TheVariants.{Assign, Print}
-use Rattle.ada_run.specs.Reading.{after, letter_at, numeral_at, operand_at, expression_at, print_at, assignment_at, statement_at, declaration_at, joined_at, line_at, program_at}
-use Rattle.ada_run.proofs.Pieces.{some_is, IsFront, then, Took, bind_some, choose_some, cond_some, after_takes, after_again, after_other, letter_takes, letter_again, Stops, numeral_takes, numeral_again}
+use Rattle.ada_run.specs.Walk.{letter_in, identifier_in, variable_at, small, number_in, number_at, declaration_at, token_at, operand_at, operation, operation_at, added, summed, expression_at, print_at, assignment_at, form_at, statement_at, each_at, program_at}
+use Rattle.ada_run.proofs.Options.{some_is, bind_some, bind_is, choose_some, cond_some, cond_true, some_and, Exactly, exact_bind, exact_without, exact_each}
+
+none_some : {A X : Type 0} (y : A) → None ≡ Some y → X
+none_some y e = absurd (no e) where
+  no : None ≡ Some y → ⊥
+  no q = cc
+
+-- ---- tokens
+
+-- what a letter's token has
+abbrev IsSpelled : ℕ → List ℕ → Letter → Type 0
+IsSpelled token slice letter = (letter.token ≡ token) × (65 ≤ letter.code) × (letter.code ≤ 90) × ((slice ≡ letter.code ∷ []) ⊎ (slice ≡ (letter.code + 32) ∷ []))
+
+letter_takes : (token : ℕ) (slice : List ℕ) (letter : Letter) → letter_in token slice ≡ Some letter → IsSpelled token slice letter
+letter_takes token [] letter e = none_some letter e
+letter_takes token (b ∷ c ∷ cs) letter e = none_some letter e
+letter_takes token (b ∷ []) letter e = go (leb 65 b && leb b 90) refl e where
+  small_letter : (leb 97 b && leb b 122) ≡ true → record { code = b - 32; token = token } ≡ letter → IsSpelled token (b ∷ []) letter
+  small_letter within same =
+      let range = and_parts (leb 97 b) (leb b 122) within in
+      let low : 97 ≤ b = leb-true 97 b range.0 in
+      let high : b ≤ 122 = leb-true b 122 range.1 in
+      let whole : b ≡ b - 32 + 32 = omega arith in
+      subst (IsSpelled token (b ∷ [])) same (refl, (omega arith), (omega arith), inr (ap (λ z. z ∷ []) whole))
+
+  capital : (leb 65 b && leb b 90) ≡ true → record { code = b; token = token } ≡ letter → IsSpelled token (b ∷ []) letter
+  capital within same =
+      let range = and_parts (leb 65 b) (leb b 90) within in
+      subst (IsSpelled token (b ∷ [])) same (refl, leb-true 65 b range.0, leb-true b 90 range.1, inl refl)
+
+  go : (test : Bool) → (leb 65 b && leb b 90) ≡ test → cond test (Some (record { code = b; token = token })) (cond (leb 97 b && leb b 122) (Some (record { code = b - 32; token = token })) None) ≡ Some letter → IsSpelled token (b ∷ []) letter
+  go true is e = capital is (some_is _ _ e)
+  go false is e = let found = cond_some (leb 97 b && leb b 122) _ letter e in small_letter found.0 (some_is _ _ found.1)
+
+letter_again : (token : ℕ) (slice : List ℕ) (letter : Letter) → IsSpelled token slice letter → letter_in token slice ≡ Some letter
+letter_again token slice letter (there, low, high, inl spelled) =
+    rw (spelled, le-leb 65 letter.code low, le-leb letter.code 90 high, ← there) refl
+letter_again token slice letter (there, low, high, inr spelled) =
+    let over : 90 < letter.code + 32 = omega arith in
+    let least : 97 ≤ letter.code + 32 = omega arith in
+    let most : letter.code + 32 ≤ 122 = omega arith in
+    let first : 65 ≤ letter.code + 32 = omega arith in
+    let back : letter.code + 32 - 32 ≡ letter.code = omega arith in
+    rw (spelled, le-leb 65 (letter.code + 32) first, lt-leb (letter.code + 32) 90 over, le-leb 97 (letter.code + 32) least, le-leb (letter.code + 32) 122 most, back, ← there) refl
+
+identifier_takes : (kind : Kind) (token : ℕ) (slice : List ℕ) (letter : Letter) → identifier_in kind token slice ≡ Some letter → (kind ≡ kind'.Ident) × IsSpelled token slice letter
+identifier_takes kind'.Ident token slice letter e = (refl, letter_takes token slice letter e)
+identifier_takes (kind'.Word n) token slice letter e = none_some letter e
+identifier_takes (kind'.Number z) token slice letter e = none_some letter e
+identifier_takes kind'.Text token slice letter e = none_some letter e
+identifier_takes kind'.Letter token slice letter e = none_some letter e
+identifier_takes kind'.Real token slice letter e = none_some letter e
+identifier_takes (kind'.Mark n) token slice letter e = none_some letter e
+identifier_takes kind'.End token slice letter e = none_some letter e
+
+exact_variable : (t : Tokenized) (token : ℕ) → Exactly (variable_at t token) (IsVariable t token)
+unfolding variable_at
+exact_variable t token letter = (takes, again) where
+  takes : identifier_in (kind_at t.items token) token (slice_at t token) ≡ Some letter → IsVariable t token letter
+  takes e =
+      let found = identifier_takes (kind_at t.items token) token (slice_at t token) letter e in
+      record { there = found.1.0; identifier = found.0; from_A = found.1.1; to_Z = found.1.2; spelled = found.1.3 }
+
+  again : IsVariable t token letter → identifier_in (kind_at t.items token) token (slice_at t token) ≡ Some letter
+  again is = ap (λ kind. identifier_in kind token (slice_at t token)) is.identifier ∙ letter_again token (slice_at t token) letter (is.there, is.from_A, is.to_Z, is.spelled)
+
+small_takes : (z : ℤ) (n : ℕ) → small z ≡ Some n → (z ≡ pos n) × (n ≤ 2147483647)
+small_takes (pos m) n e =
+    let found = cond_some (leb m 2147483647) (Some m) n e in
+    let same : m ≡ n = some_is m n found.1 in
+    (ap pos same, subst (λ k. k ≤ 2147483647) same (leb-true m 2147483647 found.0))
+small_takes (negsuc m) n e = none_some n e
+
+number_takes : (kind : Kind) (n : ℕ) → number_in kind ≡ Some n → (kind ≡ kind'.Number (pos n)) × (n ≤ 2147483647)
+number_takes (kind'.Number z) n e = let found = small_takes z n e in (ap kind'.Number found.0, found.1)
+number_takes kind'.Ident n e = none_some n e
+number_takes (kind'.Word m) n e = none_some n e
+number_takes kind'.Text n e = none_some n e
+number_takes kind'.Letter n e = none_some n e
+number_takes kind'.Real n e = none_some n e
+number_takes (kind'.Mark m) n e = none_some n e
+number_takes kind'.End n e = none_some n e
+
+exact_number : (t : Tokenized) (token : ℕ) → Exactly (number_at t token) (IsNumber t token)
+unfolding number_at
+exact_number t token n = (takes, again) where
+  takes : number_in (kind_at t.items token) ≡ Some n → IsNumber t token n
+  takes e = let found = number_takes (kind_at t.items token) n e in record { literal = found.0; small = found.1 }
+
+  again : IsNumber t token n → number_in (kind_at t.items token) ≡ Some n
+  again is = ap number_in is.literal ∙ cond_true (leb n 2147483647) (Some n) None (le-leb n 2147483647 is.small)
+
+-- an identifier is no number
+no_number : (t : Tokenized) (token : ℕ) (letter : Letter) → IsVariable t token letter → number_at t token ≡ None
+unfolding number_at
+no_number t token letter is = ap number_in is.identifier
 
 -- ---- declarations
 
-pub declaration_takes : (bytes : List ℕ) (d : Declaration) (rest : List ℕ) → declaration_at bytes ≡ Some (d, rest) → Took IsDeclaration bytes (d, rest)
+abbrev Declares : Tokenized → ℕ × ℕ × ℕ → Declaration → Type 0
+Declares t o d = IsVariable t o.0 d.variable × (is_named t o.1 (codes "Integer") ≡ true) × IsNumber t o.2 d.value
+
+exact_object : (t : Tokenized) (o : ℕ × ℕ × ℕ) → Exactly (variable_at t o.0 >>= λ variable.
+    cond (is_named t o.1 (codes "Integer")) (number_at t o.2 >>= λ value. Some (record { variable = variable; value = value })) None) (Declares t o)
+exact_object t o d = (takes, again) where
+  rest : Letter → Option Declaration
+  rest variable = cond (is_named t o.1 (codes "Integer")) (number_at t o.2 >>= λ value. Some (record { variable = variable; value = value })) None
+
+  takes : (variable_at t o.0 >>= λ variable. cond (is_named t o.1 (codes "Integer")) (number_at t o.2 >>= λ value. Some (record { variable = variable; value = value })) None) ≡ Some d → Declares t o d
+  takes e =
+      let v = bind_some (variable_at t o.0) _ d e in
+      let m = cond_some (is_named t o.1 (codes "Integer")) _ d v.2 in
+      let n = bind_some (number_at t o.2) _ d m.1 in
+      subst (Declares t o) (some_is _ _ n.2) ((exact_variable t o.0 v.0).0 v.1, m.0, (exact_number t o.2 n.0).0 n.1)
+
+  again : Declares t o d → (variable_at t o.0 >>= λ variable. cond (is_named t o.1 (codes "Integer")) (number_at t o.2 >>= λ value. Some (record { variable = variable; value = value })) None) ≡ Some d
+  again (v, m, n) =
+      bind_is (variable_at t o.0) _ d.variable ((exact_variable t o.0 d.variable).1 v)
+      ∙ cond_true (is_named t o.1 (codes "Integer")) _ None m
+      ∙ bind_is (number_at t o.2) _ d.value ((exact_number t o.2 d.value).1 n)
+
+pub exact_declaration : (t : Tokenized) (unit : Unit) → Exactly (declaration_at t unit) (IsDeclaration t unit)
 unfolding declaration_at
-declaration_takes bytes d rest e =
-    let v = bind_some (letter_at bytes) _ (d, rest) e in
-    let a = bind_some (after (codes " : Integer := ") v.0.1) _ (d, rest) v.2 in
-    let n = bind_some (numeral_at a.0) _ (d, rest) a.2 in
-    let z = bind_some (after (codes ";") n.0.1) _ (d, rest) n.2 in
-    let name = letter_takes bytes v.0.0 v.0.1 v.1 in
-    let colon = after_takes (codes " : Integer := ") v.0.1 a.0 a.1 in
-    let digits = numeral_takes a.0 n.0.0 n.0.1 n.1 in
-    let semicolon = after_takes (codes ";") n.0.1 z.0 z.1 in
-    let P : Declaration × List ℕ → Type 0 = Took IsDeclaration bytes in
-    subst P (some_is _ _ z.2) (
-      name.0 ++ (codes " : Integer := " ++ (digits.0 ++ codes ";")),
-      then name.1 (then colon (then digits.1 semicolon)),
-      (name.0, digits.0, refl, name.2, digits.2),
-    )
+exact_declaration t unit = exact_bind (object_of unit) _ (Declares t) (exact_object t)
 
-pub declaration_again : (front : List ℕ) (d : Declaration) (rest : List ℕ) → IsDeclaration front d → declaration_at (front ++ rest) ≡ Some (d, rest)
-unfolding declaration_at
-declaration_again front d rest (name, digits, spelled, is_name, is_numeral) =
-    let regrouped : front ++ rest ≡ name ++ (codes " : Integer := " ++ (digits ++ (codes ";" ++ rest))) = rw spelled (simp append_assoc) in
-    rw (
-      regrouped,
-      letter_again name d.variable (codes " : Integer := " ++ (digits ++ (codes ";" ++ rest))) is_name,
-      after_again (codes " : Integer := ") (digits ++ (codes ";" ++ rest)),
-      numeral_again digits d.value (codes ";" ++ rest) is_numeral refl,
-      after_again (codes ";") rest,
-    ) refl
+-- ---- expressions
 
--- ---- operands and expressions
+exact_token : (t : Tokenized) (token : ℕ) → Exactly (token_at t token) (IsToken t token)
+unfolding token_at
+exact_token t token x = (takes x, again x) where
+  takes : (x : Operand) → token_at t token ≡ Some x → IsToken t token x
+  takes x e = elim (choose_some (number_at t token) _ _ x e) [
+    | inl n ↦ subst (IsToken t token) (some_is _ _ n.2) ((exact_number t token n.0).0 n.1)
+    | inr other ↦ let v = bind_some (variable_at t token) _ x other.1 in subst (IsToken t token) (some_is _ _ v.2) ((exact_variable t token v.0).0 v.1)
+  ]
 
--- a numeral doesn't begin with a letter
-no_letter : (front : List ℕ) (n : ℕ) (rest : List ℕ) → IsNumeral front n → letter_at (front ++ rest) ≡ None
-unfolding letter_at
-no_letter [] n rest numeral = absurd (let some = numeral.some in omega arith)
-no_letter (d ∷ digits) n rest numeral =
-    let digit = and_parts (is_ascii_digit d) (list_all is_ascii_digit digits) numeral.each in
-    let range = and_parts (leb 48 d) (leb d 57) digit.0 in
-    let below : d < 65 = let most = leb-true d 57 range.1 in omega arith in
-    rw (lt-leb 65 d below) refl
+  again : (x : Operand) → IsToken t token x → token_at t token ≡ Some x
+  again (operand'.Name letter) is = rw (no_number t token letter is, (exact_variable t token letter).1 is) refl
+  again (operand'.Number n) is = rw ((exact_number t token n).1 is) refl
 
-pub operand_takes : (bytes : List ℕ) (x : Operand) (rest : List ℕ) → operand_at bytes ≡ Some (x, rest) → Took IsOperand bytes (x, rest)
+exact_operand : (t : Tokenized) (term : Term) → Exactly (operand_at t term) (IsOperand t term)
 unfolding operand_at
-operand_takes bytes x rest e =
-    let P : Operand × List ℕ → Type 0 = Took IsOperand bytes in
-    elim (choose_some (letter_at bytes) _ _ (x, rest) e) [
-      | inl v ↦
-          let name = letter_takes bytes v.0.0 v.0.1 v.1 in
-          subst P (some_is _ _ v.2) (name.0, name.1, name.2)
-      | inr absent ↦
-          let n = bind_some (numeral_at bytes) _ (x, rest) absent.1 in
-          let digits = numeral_takes bytes n.0.0 n.0.1 n.1 in
-          subst P (some_is _ _ n.2) (digits.0, digits.1, digits.2)
-    ]
+exact_operand t term = exact_bind (operand_of term) _ (IsToken t) (exact_token t)
 
-pub operand_again : (front : List ℕ) (x : Operand) (rest : List ℕ) → IsOperand front x → Stops rest → operand_at (front ++ rest) ≡ Some (x, rest)
-unfolding operand_at
-operand_again front (Name letter) rest name stops = rw (letter_again front letter rest name) refl
-operand_again front (Number n) rest numeral stops = rw (no_letter front n rest numeral, numeral_again front n rest numeral stops) refl
+exact_layer : (t : Tokenized) (first : Term) (left : Operand) (y : AddingLayer) (e : Expression) → IsOperand t first left → operation t left y ≡ Some e → IsOperation t first y e
+exact_layer t first left (layer.Plus at second) e is found =
+    let right = bind_some (operand_at t second) _ e found in
+    subst (IsOperation t first (layer.Plus at second)) (some_is _ _ right.2) (is, (exact_operand t second right.0).0 right.1)
+exact_layer t first left (layer.Minus at second) e is found =
+    let right = bind_some (operand_at t second) _ e found in
+    subst (IsOperation t first (layer.Minus at second)) (some_is _ _ right.2) (is, (exact_operand t second right.0).0 right.1)
+exact_layer t first left (layer.Joined at second) e is found = none_some e found
 
-pub expression_takes : (bytes : List ℕ) (x : Expression) (rest : List ℕ) → expression_at bytes ≡ Some (x, rest) → Took IsExpression bytes (x, rest)
+layer_again : (t : Tokenized) (first : Term) (y : AddingLayer) (e : Expression) → IsOperation t first y e → (operand_at t first >>= λ left. operation t left y) ≡ Some e
+layer_again t first (layer.Plus at second) (Sum a b) (is_a, is_b) =
+    bind_is (operand_at t first) _ a ((exact_operand t first a).1 is_a) ∙ bind_is (operand_at t second) _ b ((exact_operand t second b).1 is_b)
+layer_again t first (layer.Minus at second) (Difference a b) (is_a, is_b) =
+    bind_is (operand_at t first) _ a ((exact_operand t first a).1 is_a) ∙ bind_is (operand_at t second) _ b ((exact_operand t second b).1 is_b)
+layer_again t first (layer.Plus at second) (Alone a) is = absurd is
+layer_again t first (layer.Plus at second) (Difference a b) is = absurd is
+layer_again t first (layer.Minus at second) (Alone a) is = absurd is
+layer_again t first (layer.Minus at second) (Sum a b) is = absurd is
+layer_again t first (layer.Joined at second) (Alone a) is = absurd is
+layer_again t first (layer.Joined at second) (Sum a b) is = absurd is
+layer_again t first (layer.Joined at second) (Difference a b) is = absurd is
+
+sum_takes : (t : Tokenized) (first : Term) (more : List Adding) (e : Expression) → (operand_at t first >>= λ left. added t left more) ≡ Some e → IsSum t first more e
+unfolding operation_at
+sum_takes t first [] e found =
+    let left = bind_some (operand_at t first) _ e found in
+    subst (IsSum t first []) (some_is _ _ left.2) ((exact_operand t first left.0).0 left.1)
+sum_takes t first (x ∷ []) e found =
+    let left = bind_some (operand_at t first) _ e found in
+    exact_layer t first left.0 (views.out-Adding x) e ((exact_operand t first left.0).0 left.1) left.2
+sum_takes t first (x ∷ y ∷ ys) e found = none_some e (bind_some (operand_at t first) _ e found).2
+
+sum_again : (t : Tokenized) (first : Term) (more : List Adding) (e : Expression) → IsSum t first more e → (operand_at t first >>= λ left. added t left more) ≡ Some e
+unfolding operation_at
+sum_again t first [] (Alone a) is = bind_is (operand_at t first) _ a ((exact_operand t first a).1 is)
+sum_again t first [] (Sum a b) is = absurd is
+sum_again t first [] (Difference a b) is = absurd is
+sum_again t first (x ∷ []) e is = layer_again t first (views.out-Adding x) e is
+sum_again t first (x ∷ y ∷ ys) e is = absurd is
+
+exact_expression : (t : Tokenized) (expr : Expr) → Exactly (expression_at t expr) (IsExpression t expr)
 unfolding expression_at
-expression_takes bytes x rest e =
-    let P : Expression × List ℕ → Type 0 = Took IsExpression bytes in
-    let a = bind_some (operand_at bytes) _ (x, rest) e in
-    let left = operand_takes bytes a.0.0 a.0.1 a.1 in
-    elim (choose_some (after (codes " + ") a.0.1) _ _ (x, rest) a.2) [
-      | inl plus ↦
-          let b = bind_some (operand_at plus.0) _ (x, rest) plus.2 in
-          let sign = after_takes (codes " + ") a.0.1 plus.0 plus.1 in
-          let right = operand_takes plus.0 b.0.0 b.0.1 b.1 in
-          subst P (some_is _ _ b.2) (left.0 ++ (codes " + " ++ right.0), then left.1 (then sign right.1), (left.0, right.0, refl, left.2, right.2))
-      | inr no_plus ↦
-          elim (choose_some (after (codes " - ") a.0.1) _ _ (x, rest) no_plus.1) [
-            | inl minus ↦
-                let b = bind_some (operand_at minus.0) _ (x, rest) minus.2 in
-                let sign = after_takes (codes " - ") a.0.1 minus.0 minus.1 in
-                let right = operand_takes minus.0 b.0.0 b.0.1 b.1 in
-                subst P (some_is _ _ b.2) (left.0 ++ (codes " - " ++ right.0), then left.1 (then sign right.1), (left.0, right.0, refl, left.2, right.2))
-            | inr no_minus ↦ subst P (some_is _ _ no_minus.1) (left.0, left.1, left.2)
-          ]
-    ]
-
--- a minus sign is no plus sign
-other_sign : (rest : List ℕ) → after (codes " + ") (codes " - " ++ rest) ≡ None
-unfolding after
-other_sign rest = refl
-
--- a semicolon follows, as it does in each statement
-pub expression_again : (front : List ℕ) (x : Expression) (rest : List ℕ) → IsExpression front x → expression_at (front ++ 59 ∷ rest) ≡ Some (x, 59 ∷ rest)
-unfolding expression_at
-expression_again front (Alone a) rest is =
-    rw (operand_again front a (59 ∷ rest) is refl, after_other 32 (43 ∷ 32 ∷ []) 59 rest refl, after_other 32 (45 ∷ 32 ∷ []) 59 rest refl) refl
-expression_again front (Sum a b) rest (left, right, spelled, is_left, is_right) =
-    let regrouped : front ++ 59 ∷ rest ≡ left ++ (codes " + " ++ (right ++ 59 ∷ rest)) = rw spelled (simp append_assoc) in
-    rw (
-      regrouped,
-      operand_again left a (codes " + " ++ (right ++ 59 ∷ rest)) is_left refl,
-      after_again (codes " + ") (right ++ 59 ∷ rest),
-      operand_again right b (59 ∷ rest) is_right refl,
-    ) refl
-expression_again front (Difference a b) rest (left, right, spelled, is_left, is_right) =
-    let regrouped : front ++ 59 ∷ rest ≡ left ++ (codes " - " ++ (right ++ 59 ∷ rest)) = rw spelled (simp append_assoc) in
-    let no_plus : after (codes " + ") (codes " - " ++ (right ++ 59 ∷ rest)) ≡ None = other_sign (right ++ 59 ∷ rest) in
-    rw (
-      regrouped,
-      operand_again left a (codes " - " ++ (right ++ 59 ∷ rest)) is_left refl,
-      no_plus,
-      after_again (codes " - ") (right ++ 59 ∷ rest),
-      operand_again right b (59 ∷ rest) is_right refl,
-    ) refl
+exact_expression t expr =
+    exact_bind (sum_of expr) (λ sum. summed t (views.out-Simple sum))
+    (λ sum e. let s = views.out-Simple sum in (s.sign ≡ None) × IsSum t s.first s.more e)
+    (λ sum. let s = views.out-Simple sum in exact_without s.sign (operand_at t s.first >>= λ left. added t left s.more) (IsSum t s.first s.more) (λ e. (sum_takes t s.first s.more e, sum_again t s.first s.more e)))
 
 -- ---- statements
 
-print_takes : (bytes : List ℕ) (x : Statement) (rest : List ℕ) → print_at bytes ≡ Some (x, rest) → (bs : List ℕ) → IsFront bs (codes "Put_Line (Integer'Image (") bytes → Took IsStatement bs (x, rest)
+print_takes : (t : Tokenized) (name : Name) (s : Statement) → print_at t name ≡ Some s → IsForm t name None s
 unfolding print_at
-print_takes bytes x rest e bs opened =
-    let v = bind_some (letter_at bytes) _ (x, rest) e in
-    let z = bind_some (after (codes "));") v.0.1) _ (x, rest) v.2 in
-    let name = letter_takes bytes v.0.0 v.0.1 v.1 in
-    let closed = after_takes (codes "));") v.0.1 z.0 z.1 in
-    let P : Statement × List ℕ → Type 0 = Took IsStatement bs in
-    subst P (some_is _ _ z.2) (codes "Put_Line (Integer'Image (" ++ (name.0 ++ codes "));"), then opened (then name.1 closed), (name.0, refl, name.2))
+print_takes t name s e =
+    let o = bind_some (output_of name) _ s e in
+    let m = cond_some (is_named t o.0.0 (codes "Put_Line") && is_named t o.0.1 (codes "Integer") && is_named t o.0.2 (codes "Image")) _ s o.2 in
+    let v = bind_some (variable_at t o.0.3) _ s m.1 in
+    let one = and_parts (is_named t o.0.0 (codes "Put_Line") && is_named t o.0.1 (codes "Integer")) (is_named t o.0.2 (codes "Image")) m.0 in
+    let two = and_parts (is_named t o.0.0 (codes "Put_Line")) (is_named t o.0.1 (codes "Integer")) one.0 in
+    let P : Option (ℕ × ℕ × ℕ × ℕ) → Type 0 = λ z. IsSomeAnd z (λ o.
+    (is_named t o.0 (codes "Put_Line") ≡ true) × (is_named t o.1 (codes "Integer") ≡ true) × (is_named t o.2 (codes "Image") ≡ true) × IsVariable t o.3 v.0) in
+    let is : P (output_of name) = subst P (sym o.1) (two.0, two.1, one.1, (exact_variable t o.0.3 v.0).0 v.1) in
+    subst (IsForm t name None) (some_is _ _ v.2) is
 
-assignment_takes : (bytes : List ℕ) (x : Statement) (rest : List ℕ) → assignment_at bytes ≡ Some (x, rest) → Took IsStatement bytes (x, rest)
-unfolding assignment_at
-assignment_takes bytes x rest e =
-    let v = bind_some (letter_at bytes) _ (x, rest) e in
-    let a = bind_some (after (codes " := ") v.0.1) _ (x, rest) v.2 in
-    let n = bind_some (expression_at a.0) _ (x, rest) a.2 in
-    let z = bind_some (after (codes ";") n.0.1) _ (x, rest) n.2 in
-    let name = letter_takes bytes v.0.0 v.0.1 v.1 in
-    let becomes = after_takes (codes " := ") v.0.1 a.0 a.1 in
-    let right = expression_takes a.0 n.0.0 n.0.1 n.1 in
-    let semicolon = after_takes (codes ";") n.0.1 z.0 z.1 in
-    let P : Statement × List ℕ → Type 0 = Took IsStatement bytes in
-    subst P (some_is _ _ z.2) (
-      name.0 ++ (codes " := " ++ (right.0 ++ codes ";")),
-      then name.1 (then becomes (then right.1 semicolon)),
-      (name.0, right.0, refl, name.2, right.2),
-    )
-
-pub statement_takes : (bytes : List ℕ) (x : Statement) (rest : List ℕ) → statement_at bytes ≡ Some (x, rest) → Took IsStatement bytes (x, rest)
-unfolding statement_at
-statement_takes bytes x rest e =
-    elim (choose_some (after (codes "Put_Line (Integer'Image (") bytes) _ _ (x, rest) e) [
-      | inl put ↦ print_takes put.0 x rest put.2 bytes (after_takes (codes "Put_Line (Integer'Image (") bytes put.0 put.1)
-      | inr absent ↦ assignment_takes bytes x rest absent.1
-    ]
-
-print_again : (name : List ℕ) (letter : Letter) (rest : List ℕ) → IsName name letter → print_at (name ++ (codes "));" ++ rest)) ≡ Some (Print letter, rest)
+print_again : (t : Tokenized) (name : Name) (letter : Letter) → IsOutput t name letter → print_at t name ≡ Some (Print letter)
 unfolding print_at
-print_again name letter rest is_name = rw (letter_again name letter (codes "));" ++ rest) is_name, after_again (codes "));") rest) refl
+print_again t name letter is =
+    let found = some_and (output_of name) _ is in
+    let o = found.0 in
+    let p = found.2 in
+    bind_is (output_of name) _ o found.1
+    ∙ cond_true (is_named t o.0 (codes "Put_Line") && is_named t o.1 (codes "Integer") && is_named t o.2 (codes "Image")) _ None
+    (and_from (is_named t o.0 (codes "Put_Line") && is_named t o.1 (codes "Integer")) (is_named t o.2 (codes "Image"))
+    (and_from (is_named t o.0 (codes "Put_Line")) (is_named t o.1 (codes "Integer")) p.0 p.1) p.2)
+    ∙ bind_is (variable_at t o.3) _ letter ((exact_variable t o.3 letter).1 p.3)
 
-assignment_again : (name right : List ℕ) (target : Letter) (x : Expression) (rest : List ℕ) → IsName name target → IsExpression right x → assignment_at (name ++ (codes " := " ++ (right ++ 59 ∷ rest))) ≡ Some (Assign target x, rest)
+assignment_takes : (t : Tokenized) (name : Name) (value : Expr) (s : Statement) → assignment_at t name value ≡ Some s → IsForm t name (Some value) s
 unfolding assignment_at
-assignment_again name right target x rest is_name is_right =
-    rw (
-      letter_again name target (codes " := " ++ (right ++ 59 ∷ rest)) is_name,
-      after_again (codes " := ") (right ++ 59 ∷ rest),
-      expression_again right x rest is_right,
-      after_again (codes ";") rest,
-    ) refl
+assignment_takes t name value s found =
+    let token = bind_some (identifier_of name) _ s found in
+    let v = bind_some (variable_at t token.0) _ s token.2 in
+    let e = bind_some (expression_at t value) _ s v.2 in
+    let P : Option ℕ → Type 0 = λ z. IsSomeAnd z (λ token. IsVariable t token v.0) in
+    let is : P (identifier_of name) = subst P (sym token.1) ((exact_variable t token.0 v.0).0 v.1) in
+    subst (IsForm t name (Some value)) (some_is _ _ e.2) (is, (exact_expression t value e.0).0 e.1)
 
--- an assignment doesn't begin as a Put_Line
-no_put : (name : List ℕ) (letter : Letter) (rest : List ℕ) → IsName name letter → after (codes "Put_Line (Integer'Image (") (name ++ (codes " := " ++ rest)) ≡ None
-unfolding after
-no_put name letter rest is_name = rw is_name.alone (go (eqb 80 letter.code) _) where
-  go : (b : Bool) (found : Option (List ℕ)) → cond (b && false) found None ≡ None
-  go true found = refl
-  go false found = refl
+assignment_again : (t : Tokenized) (name : Name) (value : Expr) (target : Letter) (e : Expression) → IsForm t name (Some value) (Assign target e) → assignment_at t name value ≡ Some (Assign target e)
+unfolding assignment_at
+assignment_again t name value target e (is, is_value) =
+    let token = some_and (identifier_of name) _ is in
+    bind_is (identifier_of name) _ token.0 token.1
+    ∙ bind_is (variable_at t token.0) _ target ((exact_variable t token.0 target).1 token.2)
+    ∙ bind_is (expression_at t value) _ e ((exact_expression t value e).1 is_value)
 
-pub statement_again : (front : List ℕ) (x : Statement) (rest : List ℕ) → IsStatement front x → statement_at (front ++ rest) ≡ Some (x, rest)
+exact_form : (t : Tokenized) (name : Name) (value : Option Expr) → Exactly (form_at t name value) (IsForm t name value)
+exact_form t name None (Print letter) = (print_takes t name (Print letter), print_again t name letter)
+exact_form t name None (Assign target e) = (print_takes t name (Assign target e), (λ is. absurd is))
+exact_form t name (Some value) (Assign target e) = (assignment_takes t name value (Assign target e), assignment_again t name value target e)
+exact_form t name (Some value) (Print letter) = (assignment_takes t name value (Print letter), (λ is. absurd is))
+
+pub exact_statement : (t : Tokenized) (stmt : Stmt) → Exactly (statement_at t stmt) (IsStatement t stmt)
 unfolding statement_at
-statement_again front (Assign target x) rest (name, right, spelled, is_name, is_right) =
-    let regrouped : front ++ rest ≡ name ++ (codes " := " ++ (right ++ 59 ∷ rest)) = rw spelled (simp append_assoc) in
-    rw (regrouped, no_put name target (right ++ 59 ∷ rest) is_name) (assignment_again name right target x rest is_name is_right)
-statement_again front (Print letter) rest (name, spelled, is_name) =
-    let regrouped : front ++ rest ≡ codes "Put_Line (Integer'Image (" ++ (name ++ (codes "));" ++ rest)) = rw spelled (simp append_assoc) in
-    rw (regrouped, after_again (codes "Put_Line (Integer'Image (") (name ++ (codes "));" ++ rest))) (print_again name letter rest is_name)
+exact_statement t stmt = exact_bind (statement_of stmt) (λ f. form_at t f.0 f.1) (λ f. IsForm t f.0 f.1) (λ f. exact_form t f.0 f.1)
 
--- ---- joined items
+-- ---- the whole
 
-one_more : {A : Type 0} (IsItem : List ℕ → A → Type 0) (front back : List ℕ) (x : A) (xs : List A) → IsItem front x → AreJoined IsItem back xs → AreJoined IsItem (front ++ (32 ∷ back)) (x ∷ xs)
-one_more IsItem front back x [] is joined = absurd joined
-one_more IsItem front back x (y ∷ ys) is joined = (front, back, refl, is, joined)
+-- there is a unit exactly where there is a declaration
+some_found : {A B : Type 0} (R : A → B → Type 0) (xs : List A) (ys : List B) → AllZip R xs ys → not (has_none xs) ≡ true → 0 < length ys
+some_found R [] ys are some = absurd cc
+some_found R (x ∷ xs) [] are some = absurd are
+some_found R (x ∷ xs) (y ∷ ys) are some = omega arith
 
-pub joined_takes : {A : Type 0} (IsItem : List ℕ → A → Type 0) (item : List ℕ → Option (A × List ℕ)) → ((bytes : List ℕ) (x : A) (rest : List ℕ) → item bytes ≡ Some (x, rest) → Took IsItem bytes (x, rest)) → (n : ℕ) (bytes : List ℕ) (xs : List A) (rest : List ℕ) → joined_at n item bytes ≡ Some (xs, rest) → Took (AreJoined IsItem) bytes (xs, rest)
-unfolding joined_at
-joined_takes IsItem item item_takes zero bytes xs rest e = absurd cc
-joined_takes {A} IsItem item item_takes (suc n) bytes xs rest e =
-    let P : List A × List ℕ → Type 0 = Took (AreJoined IsItem) bytes in
-    let x = bind_some (item bytes) _ (xs, rest) e in
-    let first = item_takes bytes x.0.0 x.0.1 x.1 in
-    elim (choose_some (after (codes " ") x.0.1) _ _ (xs, rest) x.2) [
-      | inl space ↦
-          let others = bind_some (joined_at n item space.0) _ (xs, rest) space.2 in
-          let back = joined_takes IsItem item item_takes n space.0 others.0.0 others.0.1 others.1 in
-          let gap = after_takes (codes " ") x.0.1 space.0 space.1 in
-          subst P (some_is _ _ others.2) (first.0 ++ (codes " " ++ back.0), then first.1 (then gap back.1), one_more IsItem first.0 back.0 x.0.0 others.0.0 first.2 back.2)
-      | inr absent ↦ subst P (some_is _ _ absent.1) (first.0, first.1, first.2)
-    ]
+some_there : {A B : Type 0} (R : A → B → Type 0) (xs : List A) (ys : List B) → AllZip R xs ys → 0 < length ys → not (has_none xs) ≡ true
+some_there R [] [] are some = absurd (omega arith)
+some_there R [] (y ∷ ys) are some = absurd are
+some_there R (x ∷ xs) ys are some = refl
 
-pub joined_again : {A : Type 0} (IsItem : List ℕ → A → Type 0) (item : List ℕ → Option (A × List ℕ)) → ((front : List ℕ) (x : A) (rest : List ℕ) → IsItem front x → item (front ++ rest) ≡ Some (x, rest)) → (n : ℕ) (xs : List A) (front rest : List ℕ) → AreJoined IsItem front xs → after (codes " ") rest ≡ None → length xs ≤ n → joined_at n item (front ++ rest) ≡ Some (xs, rest)
-unfolding joined_at
-joined_again IsItem item item_again n [] front rest joined ends enough = absurd joined
-joined_again IsItem item item_again zero (x ∷ xs) front rest joined ends enough = absurd (omega arith)
-joined_again IsItem item item_again (suc n) (x ∷ []) front rest joined ends enough = rw (item_again front x rest joined, ends) refl
-joined_again IsItem item item_again (suc n) (x ∷ y ∷ ys) front rest (first, back, spelled, is, joined) ends enough =
-    let regrouped : front ++ rest ≡ first ++ (codes " " ++ (back ++ rest)) = rw spelled (append_assoc first (32 ∷ back) rest) in
-    rw (
-      regrouped,
-      item_again first x (codes " " ++ (back ++ rest)) is,
-      after_again (codes " ") (back ++ rest),
-      joined_again IsItem item item_again n (y ∷ ys) back rest joined ends (omega arith),
-    ) refl
+abbrev statements_in : Tree → List Stmt
+statements_in tree = statements_of (views'.out-Body tree.main.body).stmts
 
--- there are at most as many items as bytes and one more
-joined_few : {A : Type 0} (IsItem : List ℕ → A → Type 0) (xs : List A) (front : List ℕ) → AreJoined IsItem front xs → length xs ≤ length front + 1
-joined_few IsItem [] front joined = omega arith
-joined_few IsItem (x ∷ []) front joined = omega arith
-joined_few IsItem (x ∷ y ∷ ys) front (first, back, spelled, is, joined) =
-    omega (arith, joined_few IsItem (y ∷ ys) back joined, ap length spelled, length-append first (32 ∷ back))
-
--- ---- the whole text
-
-line_takes : {A : Type 0} (IsItem : List ℕ → A → Type 0) (item : List ℕ → Option (A × List ℕ)) → ((bytes : List ℕ) (x : A) (rest : List ℕ) → item bytes ≡ Some (x, rest) → Took IsItem bytes (x, rest)) → (before bytes : List ℕ) (xs : List A) (rest : List ℕ) → line_at before item bytes ≡ Some (xs, rest) → (line : List ℕ) × IsFront bytes (before ++ line) rest × AreJoined IsItem line xs
-unfolding line_at
-line_takes IsItem item item_takes before bytes xs rest e =
-    let a = bind_some (after before bytes) _ (xs, rest) e in
-    let joined = joined_takes IsItem item item_takes (length a.0) a.0 xs rest a.2 in
-    (joined.0, then (after_takes before bytes a.0 a.1) joined.1, joined.2)
-
-line_again : {A : Type 0} (IsItem : List ℕ → A → Type 0) (item : List ℕ → Option (A × List ℕ)) → ((front : List ℕ) (x : A) (rest : List ℕ) → IsItem front x → item (front ++ rest) ≡ Some (x, rest)) → (before line : List ℕ) (xs : List A) (rest : List ℕ) → AreJoined IsItem line xs → line_at before item (before ++ (line ++ 10 ∷ rest)) ≡ Some (xs, 10 ∷ rest)
-unfolding line_at
-line_again IsItem item item_again before line xs rest joined =
-    let few : length xs ≤ length (line ++ 10 ∷ rest) = omega (arith, joined_few IsItem xs line joined, length-append line (10 ∷ rest)) in
-    rw (after_again before (line ++ 10 ∷ rest)) (joined_again IsItem item item_again (length (line ++ 10 ∷ rest)) xs line (10 ∷ rest) joined (after_other 32 [] 10 rest refl) few)
-
-pub program_takes : (text : List ℕ) (p : Program) → program_at text ≡ Some p → IsFirstForm text p
+pub program_takes : (t : Tokenized) (tree : Tree) (p : Program) → program_at t tree ≡ Some p → IsFirstForm t tree p
 unfolding program_at
-program_takes text p e =
-    let ds = bind_some (line_at opening declaration_at text) _ p e in
-    let ss = bind_some (line_at middle statement_at ds.0.1) _ p ds.2 in
-    let whole = cond_some (bytes_eq ss.0.1 closing && are_distinct ds.0.0) (record { declarations = ds.0.0; statements = ss.0.0 }) p ss.2 in
-    let tests = and_parts (bytes_eq ss.0.1 closing) (are_distinct ds.0.0) whole.0 in
-    let closed : ss.0.1 ≡ closing = (bytes_eq-Decides ss.0.1 closing).0 tests.0 in
-    let declared = line_takes IsDeclaration declaration_at declaration_takes opening text ds.0.0 ds.0.1 ds.1 in
-    let stated = line_takes IsStatement statement_at statement_takes middle ds.0.1 ss.0.0 ss.0.1 ss.1 in
-    subst (IsFirstForm text) whole.1 (record {
-      declared = declared.0;
-      stated = stated.0;
-      lines = lines text declared.0 ds.0.1 stated.0 ss.0.1 declared.1 stated.1 closed;
-      declarations = declared.2;
-      statements = stated.2;
-      distinct = tests.1;
-    }) where
-      lines : (text declared behind stated rest : List ℕ) → IsFront text (opening ++ declared) behind → IsFront behind (middle ++ stated) rest → rest ≡ closing → text ≡ opening ++ (declared ++ (middle ++ (stated ++ closing)))
-      lines text declared behind stated rest first second closed = first.whole ∙ rw (second.whole, closed) (simp append_assoc)
+program_takes t tree p e =
+    let frame = cond_some (is_frame t tree && not (has_none tree.main.units)) _ p e in
+    let around = and_parts (is_frame t tree) (not (has_none tree.main.units)) frame.0 in
+    let ds = bind_some (each_at (declaration_at t) tree.main.units) _ p frame.1 in
+    let ss = bind_some (each_at (statement_at t) (statements_in tree)) _ p ds.2 in
+    let distinct = cond_some (are_distinct ds.0) _ p ss.2 in
+    let are = (exact_each (declaration_at t) (IsDeclaration t) (exact_declaration t) tree.main.units ds.0).0 ds.1 in
+    let form : IsFirstForm t tree (record { declarations = ds.0; statements = ss.0 }) = record {
+      frame = around.0;
+      declarations = are;
+      some = some_found (IsDeclaration t) tree.main.units ds.0 are around.1;
+      statements = (exact_each (statement_at t) (IsStatement t) (exact_statement t) (statements_in tree) ss.0).0 ss.1;
+      distinct = distinct.0;
+    } in
+    subst (IsFirstForm t tree) (some_is _ _ distinct.1) form
 
-pub program_again : (text : List ℕ) (p : Program) → IsFirstForm text p → program_at text ≡ Some p
+pub program_again : (t : Tokenized) (tree : Tree) (p : Program) → IsFirstForm t tree p → program_at t tree ≡ Some p
 unfolding program_at
-program_again text p form =
-    rw (
-      form.lines,
-      line_again IsDeclaration declaration_at declaration_again opening form.declared p.declarations _ form.declarations,
-      line_again IsStatement statement_at statement_again middle form.stated p.statements _ form.statements,
-      form.distinct,
-    ) refl
+program_again t tree p form =
+    cond_true (is_frame t tree && not (has_none tree.main.units)) _ None
+    (and_from (is_frame t tree) (not (has_none tree.main.units)) form.frame (some_there (IsDeclaration t) tree.main.units p.declarations form.declarations form.some))
+    ∙ bind_is (each_at (declaration_at t) tree.main.units) _ p.declarations ((exact_each (declaration_at t) (IsDeclaration t) (exact_declaration t) tree.main.units p.declarations).1 form.declarations)
+    ∙ bind_is (each_at (statement_at t) (statements_in tree)) _ p.statements ((exact_each (statement_at t) (IsStatement t) (exact_statement t) (statements_in tree) p.statements).1 form.statements)
+    ∙ cond_true (are_distinct p.declarations) _ None form.distinct
 
--- the program of the parts
-pub assembled : (text : List ℕ) (ds : List Declaration) (behind : List ℕ) (ss : List Statement) (rest : List ℕ) (p : Program) → line_at opening declaration_at text ≡ Some (ds, behind) → line_at middle statement_at behind ≡ Some (ss, rest) → bytes_eq rest closing ≡ true → are_distinct ds ≡ true → p.declarations ≡ ds → p.statements ≡ ss → program_at text ≡ Some p
-unfolding program_at
-assembled text ds behind ss rest p declared stated closed distinct ds-is ss-is = rw (declared, stated, closed, distinct, ← ds-is, ← ss-is) refl
+-- a tree with a text's tokens has at most one program
+pub one_form : (t : Tokenized) (tree : Tree) (p q : Program) → IsFirstForm t tree p → IsFirstForm t tree q → p ≡ q
+one_form t tree p q is_p is_q = some_is p q (sym (program_again t tree p is_p) ∙ program_again t tree q is_q)

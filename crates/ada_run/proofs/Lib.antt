@@ -1,7 +1,6 @@
-pub mod Digits
 pub mod Exact
-pub mod Joining
-pub mod Pieces
+pub mod Gathering
+pub mod Options
 pub mod Ranges
 pub mod Running
 pub mod Verdicts

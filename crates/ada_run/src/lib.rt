@@ -2,8 +2,13 @@
 #![tactic(auto)]
 
 mod compiler;
-mod reading;
+mod refusal;
 mod runner;
+mod walk;
 
-pub use compiler::{Refusal, Unit, compile, one_program};
+pub use compiler::{Unit, compile, one_program};
+pub use refusal::Refusal;
 pub use runner::{RunEnd, execute};
+
+#[cfg(test)]
+mod tests;

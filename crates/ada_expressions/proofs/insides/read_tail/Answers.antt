@@ -4,7 +4,7 @@ use Rattle.ada_base.specs.Symbols.{next_kind, is_member}
 use Rattle.reader_laws.specs.Readers.{Found}
 use Rattle.reader_laws.specs.Gives.{Gives}
 use Rattle.ada_readers.specs.BracketReaders.{tail, tail_turn}
-use Rattle.ada_expressions.specs.Values.{turned}
+use Rattle.ada_expressions.specs.StandsFor.{turned}
 use Rattle.ada_expressions.proofs.Tails.{turns, behind_none, is_comma, not_comma, turn_found, turn_last, turn_fault, turn_ends}
 use Rattle.ada_expressions.proofs.insides.read_tail.Goals as goal
 
