@@ -278,14 +278,20 @@ fn tokens_that_are_left_out(rt: HostRuntime) -> Result<(), Fail> {
     Ok(())
 }
 
-const DEEP: &str = "X := ((((((((((((((((((((((((((((((((((((((((((((((((((((((((((((((((";
+const OPEN: &str = "(((((((((((((((((((((((((((((((((((((((((((((((((((((((((((((((";
 
-// A statement stands at depth 1, so the last of 64 parentheses in it is too deep.
+const CLOSED: &str = ")))))))))))))))))))))))))))))))))))))))))))))))))))))))))))))))";
+
+// A statement stands at depth 1, so the last of 64 parentheses in it is too deep, and 63 are taken.
 #[test]
 fn limit_of_depth(rt: HostRuntime) -> Result<(), Fail> {
     let alloc = rt.alloc();
-    let text = program(alloc, "X : Integer := 2;", DEEP)?;
+    let open = format!(in alloc; "X := {OPEN}(")?;
+    let text = program(alloc, "X : Integer := 2;", open.as_str())?;
     expect_refusal(&rt, alloc, text.as_bytes(), "5:69: E12 limit passed")?;
+    let closed = format!(in alloc; "X := {OPEN}X{CLOSED};")?;
+    let text = program(alloc, "X : Integer := 2;", closed.as_str())?;
+    expect_refusal(&rt, alloc, text.as_bytes(), "1:1: E13 not built yet")?;
     Ok(())
 }
 

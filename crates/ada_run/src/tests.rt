@@ -1,6 +1,8 @@
-//! Texts for each rule of the grammar, one that has a tree and several that have none.
+//! Texts for each rule of the grammar, one that has a tree and several that have none, and canonical texts.
 
 use crate::compiler::compile;
+use ada_grammar::{parse, print};
+use ada_lexer::lex;
 use std::alloc::{AllocError, Global};
 
 // A case is a line with three fields. The first tells what stands around the third: P nothing, D a procedure in
@@ -246,5 +248,65 @@ fn what_is_left_out_is_told(rt: HostRuntime) -> Result<(), AllocError> {
         let (said, wanted) = said_and_wanted(rt.alloc(), case)?;
         assert_eq!(rt; said, wanted, "of {case}");
     }
+    Ok(())
+}
+
+/// The canonical text of a program, or what it hasn't got.
+fn printed(alloc: Global, text: &str) -> Result<String, AllocError> {
+    let Ok(tokens) = lex(alloc, text.as_bytes()) else {
+        return String::from_str(alloc, "no tokens");
+    };
+    match parse(alloc, &tokens) {
+        Ok(tree) => print(alloc, &tokens, &tree),
+        Err(_) => String::from_str(alloc, "no tree"),
+    }
+}
+
+#[test]
+fn programs_have_canonical_texts(rt: HostRuntime) -> Result<(), AllocError> {
+    let cases = [
+        (
+            "PROCEDURE Main IS BEGIN NULL; END Main;",
+            "procedure Main is begin null ; end Main ;\n",
+        ),
+        (
+            "procedure Ä is X:Integer:=16#F_F#; -- a comment\nBegin X:=F(\"A \"\"b\")'Length; eND;",
+            "procedure Ä is X : Integer := 255 ; begin X := F ( \"A \"\"b\" ) ' Length ; end ;\n",
+        ),
+    ];
+    for (text, wanted) in cases {
+        let found = printed(rt.alloc(), text)?;
+        assert_eq!(rt; found.as_str(), wanted, "of {text}");
+        assert_eq!(rt;
+            printed(rt.alloc(), wanted)?.as_str(),
+            wanted,
+            "of {wanted}"
+        );
+    }
+    Ok(())
+}
+
+/// A program of 199,999 tokens, of which 64 are brackets.
+fn longest_program(alloc: Global) -> Result<String, AllocError> {
+    let mut text = String::from_str(alloc, "procedure M is begin X := ")?;
+    for _ in 0..32 {
+        text.push_str("(")?;
+    }
+    text.push_str("1")?;
+    for _ in 0..32 {
+        text.push_str(")")?;
+    }
+    for _ in 0..99_962 {
+        text.push_str("; null")?;
+    }
+    text.push_str("; end M;")?;
+    Ok(text)
+}
+
+#[test]
+fn long_programs_are_parsed_in_a_moment(rt: HostRuntime) -> Result<(), AllocError> {
+    let text = longest_program(rt.alloc())?;
+    let said = said_of(rt.alloc(), text.as_str())?;
+    assert_eq!(rt; said.as_str(), "t:1:1: E13 not built yet");
     Ok(())
 }
