@@ -10,5 +10,3 @@ pub mod levels;
 pub mod parts;
 mod rounds;
 mod squares;
-#[cfg(test)]
-mod tests;

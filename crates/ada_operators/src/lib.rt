@@ -8,5 +8,3 @@ pub mod names;
 pub mod ranges;
 pub mod relations;
 pub mod sums;
-#[cfg(test)]
-mod tests;
