@@ -9,6 +9,3 @@ mod walk;
 pub use compiler::{Unit, compile, one_program};
 pub use refusal::Refusal;
 pub use runner::{RunEnd, execute};
-
-#[cfg(test)]
-mod tests;

@@ -1,8 +1,8 @@
 //! Texts for each rule of the grammar, one that has a tree and several that have none, and canonical texts.
 
-use crate::compiler::compile;
 use ada_grammar::{parse, print};
 use ada_lexer::lex;
+use ada_run::compile;
 use std::alloc::{AllocError, Global};
 
 // A case is a line with three fields. The first tells what stands around the third: P nothing, D a procedure in
