@@ -75,7 +75,7 @@ pub fn operand_of(term: &Term) -> Option<u32>
     }
 }
 
-// the term that an expression is, where it has no sign and no operator
+/// The term that an expression is, where it has no sign and no operator.
 #[tactic(auto, unfolding(crate::specs::Shapes::term_of))]
 fn term_of(expr: &Expr) -> Option<&Term>
     ensures { option_copied result ≡ shape.term_of expr.now }

@@ -92,7 +92,7 @@ fn syntax_refusal(tokens: &Tokens, fault: ParseFault) -> Refusal
     }
 }
 
-// the place of a token, or of the text's beginning where there is none with this number
+/// The place of a token, or of the text's beginning where there is none with this number.
 fn place_of_token(tokens: &Tokens, token: u32) -> Place
     ensures { result ≡ place_of_token tokens.now token }
 {

@@ -30,7 +30,7 @@ impl<T: Drop> From<AllocFailed<T>> for Unbuilt {
     }
 }
 
-// the kind of a token, or the End where there is none with this number.
+/// The kind of a token, or the End where there is none with this number.
 pub fn kind_of(tokens: &Tokens, token: u32) -> Kind
     ensures { result ≡ kind_at tokens.now.items token }
 {
@@ -40,7 +40,7 @@ pub fn kind_of(tokens: &Tokens, token: u32) -> Kind
     }
 }
 
-// the text of a token, or the empty text where there is none with this number
+/// The text of a token, or the empty text where there is none with this number.
 fn slice_of(tokens: &Tokens, token: u32) -> &str
     ensures { result.now ≡ slice_at tokens.now token }
 {
@@ -51,7 +51,7 @@ fn slice_of(tokens: &Tokens, token: u32) -> &str
     }
 }
 
-// whether a token is this word but for the case of letters (2.3).
+/// Whether a token is this word but for the case of letters (2.3).
 fn is_named(tokens: &Tokens, token: u32, word: &str) -> bool
     ensures { result ≡ form.is_named tokens.now token word.now }
 {
