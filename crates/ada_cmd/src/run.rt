@@ -1,4 +1,4 @@
-ghost use Rattle.std.specs.Prelude.{◌≡◌, List, ℕ, Option, IfOk, string_bytes};
+ghost use Rattle.std.specs.Prelude.{◌≡◌, List, ℕ, IfOk, string_bytes};
 ghost use Rattle.ada_meaning.specs.Accepted.{IsAccepted};
 ghost use Rattle.ada_meaning.specs.FirstRun.{first_run};
 ghost use Rattle.ada_cmd.specs.Words.{Run};

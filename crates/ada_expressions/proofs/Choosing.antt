@@ -1,5 +1,5 @@
 -- Readers that a value names, if there is one.
-use Rattle.std.proofs.Common.{◌≡◌, List, Bool, true, false, Option, Some, None, Result, refl}
+use Rattle.std.proofs.Common.{◌≡◌, List, true, false, Option, Some, None, Result, refl}
 use Rattle.std.specs.Option.{IsSome}
 use Rattle.ada_base.specs.Symbols.{Symbol}
 use Rattle.reader_laws.specs.Readers.{Reader}

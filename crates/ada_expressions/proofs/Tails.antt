@@ -1,5 +1,5 @@
 -- The turns of the loop that reads what follows the second expression of an aggregate.
-use Rattle.std.proofs.Common.{◌≡◌, ℕ, suc, ◌+◌, ◌-◌, ◌<◌, ◌≤◌, List, [], ◌∷◌, ◌++◌, Bool, true, false, if◌then◌else◌, ◌⊎◌, ◌==◌, ◌||◌, inl, inr, Option, None, refl, ap, ◌∙◌, sym, arith, subst, append_assoc, append-nil, Err}
+use Rattle.std.proofs.Common.{◌≡◌, ℕ, suc, ◌+◌, ◌-◌, ◌<◌, ◌≤◌, List, [], ◌∷◌, ◌++◌, Bool, true, false, if◌then◌else◌, ◌⊎◌, ◌==◌, ◌||◌, inl, inr, None, refl, ap, ◌∙◌, sym, arith, subst, append_assoc, append-nil, Err}
 use Rattle.std.proofs.lemmas.Bool.Decides.{Decides-eqb}
 use Rattle.ada_base.specs.Symbols.{Symbol, is_member, next_kind}
 use Rattle.reader_laws.specs.Readers.{Answer, Found, Refused, TooDeep, Reader, read_on, pure, step, repeat_for}

@@ -1,5 +1,5 @@
 -- The ends of the readers of brackets that a function of their own reads.
-use Rattle.std.specs.Prelude.{ℕ, List, [], ◌∷◌, Option, Some, None}
+use Rattle.std.specs.Prelude.{ℕ, [], ◌∷◌, Option, Some, None}
 use Rattle.reader_laws.specs.Readers.{Reader, ◌>>=◌, ◌>>◌, ◌<$>◌, pure, symbol, by_next}
 use Rattle.ada_tree.specs.Kinds as kind
 use Rattle.ada_tree.specs.declared.expressions.Adding.TheViews.{roll-Reduction}

@@ -1,5 +1,5 @@
 -- What some answers of the code stand for.
-use Rattle.std.specs.Prelude.{ℕ, [], ◌∷◌, Option, Some, None, Result, Ok, Err, ◌⊎◌}
+use Rattle.std.specs.Prelude.{[], Option, Some, Result, Ok, Err, ◌⊎◌}
 use Rattle.std.specs.Option.{option_map}
 use Rattle.std.proofs.Common.{inl, inr}
 use Rattle.reader_laws.specs.declared.fault.Fault.{Fault}

@@ -1,12 +1,9 @@
 //! What stands in brackets and begins with neither `for` nor `if`: an expression, or the parts of an aggregate (4.3).
 
-ghost use Rattle.std.specs.Prelude.{[], ◌∷◌};
 ghost use Rattle.reader_laws.specs.Gives.{Gives};
 ghost use Rattle.reader_laws.specs.Repeats.{ReadsItems};
 ghost use Rattle.ada_readers.specs.Opened.{Opened};
 ghost use Rattle.ada_readers.specs.ExpressionReaders as expression;
-ghost use Rattle.ada_tree.specs.Kinds as kind;
-ghost use Rattle.ada_readers.specs.ExpressionReaders.{items};
 ghost use Rattle.ada_readers.specs.BracketReaders as reader;
 ghost use Rattle.ada_expressions.specs.BracketEnds as ends;
 ghost use Rattle.ada_expressions.specs.StandsFor.{turned};

@@ -1,6 +1,6 @@
 -- A list of tokens has one verdict: a tree, a first fault, or a first token that stands too deep.
 use Rattle.std.proofs.Common.{◌≡◌, ℕ, ◌<◌, List, [], ◌∷◌, ◌++◌, length, Result, Ok, Err, refl, sym, ap, ◌∙◌, subst, append_assoc, arith}
-use Rattle.ada_base.specs.Symbols.{Nested, Word, symbols_of, numbered}
+use Rattle.ada_base.specs.Symbols.{Nested, Word, numbered}
 use Rattle.ada_base.specs.Languages.{Language}
 use Rattle.ada_base.specs.Derivations.{AllWithin, Derives, DerivesWithin, IsFirstTooDeep, SinksAt}
 use Rattle.ada_base.specs.declared.token.Token.{Token}

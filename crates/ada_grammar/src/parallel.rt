@@ -1,6 +1,6 @@
 //! Statements that begin with `parallel`: parallel blocks (5.6.1) and loops (5.5).
 
-ghost use Rattle.std.specs.Prelude.{◌≡◌, [], ◌∷◌};
+ghost use Rattle.std.specs.Prelude.{[], ◌∷◌};
 ghost use Rattle.reader_laws.specs.Gives.{Gives};
 ghost use Rattle.reader_laws.specs.Readers.{Reader};
 ghost use Rattle.reader_laws.specs.Repeats.{ReadsItems};

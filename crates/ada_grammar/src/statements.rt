@@ -1,7 +1,5 @@
 //! Statements (5.1), and bodies made of them.
 
-ghost use Rattle.std.specs.Prelude.{◌≡◌};
-ghost use Rattle.ada_base.specs.Symbols.{is_member};
 ghost use Rattle.reader_laws.specs.Gives.{Gives};
 ghost use Rattle.reader_laws.specs.Readers.{Reader};
 ghost use Rattle.reader_laws.specs.Repeats.{ReadsItems};

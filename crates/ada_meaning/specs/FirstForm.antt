@@ -5,7 +5,7 @@ use Rattle.std.specs.Option.{IsSomeAnd, is_some}
 use Rattle.ada_base.specs.declared.token.Kind.TheVariants as kind'
 use Rattle.ada_base.specs.Folding.{folded}
 use Rattle.ada_base.specs.Tokens.{Tokenized, slice_at}
-use Rattle.ada_tree.specs.Layers.{SimpleLayer, AddingLayer}
+use Rattle.ada_tree.specs.Layers.{AddingLayer}
 use Rattle.ada_tree.specs.Parsed.{kind_at}
 use Rattle.ada_tree.specs.declared.expressions.Adding.TheOpen as layer
 use Rattle.ada_tree.specs.declared.expressions.Adding.TheViews as views
@@ -15,18 +15,16 @@ use Rattle.ada_tree.specs.declared.expressions.Term.{Term}
 use Rattle.ada_tree.specs.declared.names.Name.{Name}
 use Rattle.ada_tree.specs.declared.statements.Stmt.{Stmt}
 use Rattle.ada_tree.specs.declared.statements.Stmts.{Stmts}
-use Rattle.ada_tree.specs.declared.statements.Body.{Body}
 use Rattle.ada_tree.specs.declared.statements.Stmt.TheViews as views'
 use Rattle.ada_tree.specs.declared.units.Clause.{Clause}
 use Rattle.ada_tree.specs.declared.units.ClauseWord.{ClauseWord}
 use Rattle.ada_tree.specs.declared.units.ClauseWord.TheVariants.{With, Use}
 use Rattle.ada_tree.specs.declared.units.Pack.{Pack}
-use Rattle.ada_tree.specs.declared.units.Policy.{Policy}
 use Rattle.ada_tree.specs.declared.units.Main.{Main}
 use Rattle.ada_tree.specs.declared.units.Tree.{Tree}
 use Rattle.ada_tree.specs.declared.units.Unit.{Unit}
 use Rattle.ada_meaning.specs.Program.{Program, declares}
-use Rattle.ada_meaning.specs.Shapes.{object_of, sum_of, operand_of, single_of, identifier_of, statement_of, output_of}
+use Rattle.ada_meaning.specs.Shapes.{object_of, sum_of, operand_of, identifier_of, statement_of, output_of}
 use Rattle.ada_meaning.specs.declared.first_form.Letter.{Letter}
 use Rattle.ada_meaning.specs.declared.first_form.Declaration.{Declaration}
 use Rattle.ada_meaning.specs.declared.first_form.Operand.{Operand}

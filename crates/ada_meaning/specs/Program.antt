@@ -1,5 +1,5 @@
 -- A program of the first form.
-use Rattle.std.specs.Prelude.{Bool, ◌==◌, not, ℕ, List, [], ◌∷◌, ◌++◌, Option}
+use Rattle.std.specs.Prelude.{Bool, ◌==◌, not, List, [], ◌∷◌, ◌++◌, Option}
 use Rattle.std.specs.List.{list_any, find}
 use Rattle.ada_meaning.specs.declared.first_form.Letter.{Letter}
 use Rattle.ada_meaning.specs.declared.first_form.Declaration.{Declaration}

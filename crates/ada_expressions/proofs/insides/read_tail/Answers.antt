@@ -1,6 +1,6 @@
-use Rattle.std.proofs.Common.{◌≡◌, [], ◌∷◌, ◌-◌, Some, Ok, Err, length, arith, sym, ◌∙◌, ap, subst, append-nil}
+use Rattle.std.proofs.Common.{◌≡◌, [], ◌-◌, Some, Ok, Err, length, arith, sym, ◌∙◌, ap, subst, append-nil}
 use Rattle.std.proofs.lemmas.Result.{err_from_is_err_and}
-use Rattle.ada_base.specs.Symbols.{next_kind, is_member}
+use Rattle.ada_base.specs.Symbols.{next_kind}
 use Rattle.reader_laws.specs.Readers.{Found}
 use Rattle.reader_laws.specs.Gives.{Gives}
 use Rattle.ada_readers.specs.BracketReaders.{tail, tail_turn}

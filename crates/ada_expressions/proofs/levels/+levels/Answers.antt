@@ -1,5 +1,4 @@
-use Rattle.std.proofs.Common.{arith, rules, ◌-◌, Err}
-use Rattle.std.proofs.lemmas.Result.{err_from_is_err_and}
+use Rattle.std.proofs.Common.{arith, rules, ◌-◌}
 use Rattle.reader_laws.proofs.Judging.{level_below}
 use Rattle.ada_readers.specs.ExpressionReaders.{primary}
 use Rattle.ada_readers.specs.Levels.{levels}

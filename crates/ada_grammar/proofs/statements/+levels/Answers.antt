@@ -1,4 +1,4 @@
-use Rattle.std.proofs.Common.{◌-◌, arith, rules}
+use Rattle.std.proofs.Common.{◌-◌, arith}
 use Rattle.reader_laws.proofs.Judging.{level_below}
 use Rattle.ada_readers.specs.StatementReaders as reader
 use Rattle.ada_readers.specs.StatementReaders.{stmt}
