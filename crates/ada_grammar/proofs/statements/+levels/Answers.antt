@@ -4,8 +4,8 @@ use Rattle.ada_readers.specs.StatementReaders as reader
 use Rattle.ada_readers.specs.StatementReaders.{stmt}
 use Rattle.ada_grammar.proofs.statements.+levels.Goals as goal
 
-pub stmt-returns : goal.stmt-returns
+pub returns : goal.returns
 unfolding stmt
-stmt-returns t c =
+returns t c =
     rw (level_below (λ n. reader.stmt n c.args.tokens.now) c.args.levels (omega arith))
     (c.read_open_stmt.ensures (reader.stmt (c.args.levels - 1)) (record { reads = λ old new result e. e }))
