@@ -1,20 +1,20 @@
 //! The parser and the printer.
 #![tactic(auto)]
 
-pub mod blocks;
-pub mod branches;
-pub mod declarations;
-pub mod handlers;
-pub mod kinds;
-pub mod loops;
-pub mod packs;
-pub mod parallel;
-pub mod parsing;
-pub mod printing;
-pub mod sequences;
-pub mod simple_statements;
-pub mod statements;
-pub mod units;
+mod blocks;
+mod branches;
+mod declarations;
+mod handlers;
+mod kinds;
+mod loops;
+mod packs;
+mod parallel;
+mod parsing;
+mod printing;
+mod sequences;
+mod simple_statements;
+mod statements;
+mod units;
 
 pub use parsing::{ParseFault, parse};
 pub use printing::print;
