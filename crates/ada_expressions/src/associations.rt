@@ -99,7 +99,11 @@ pub fn read_chosen<P: Fn(&mut Cursor<'_>) -> Result<Primary, Fault>>(
     let more = read_more_choices(alloc, primary, tokens)?;
     tokens.take(ARROW)?;
     let value = read_expr(alloc, primary, tokens)?;
-    Ok(Assoc::Chosen { first, more, value })
+    Ok(Assoc::Chosen {
+        first,
+        more,
+        value: value.into_inner(),
+    })
 }
 
 /// An iterated association.
@@ -122,7 +126,7 @@ pub fn read_each<P: Fn(&mut Cursor<'_>) -> Result<Primary, Fault>>(
         at,
         index,
         range,
-        value,
+        value: value.into_inner(),
     })
 }
 
@@ -186,5 +190,8 @@ pub fn read_others_value<P: Fn(&mut Cursor<'_>) -> Result<Primary, Fault>>(
     let at = tokens.take(OTHERS)?;
     tokens.take(ARROW)?;
     let value = read_expr(alloc, primary, tokens)?;
-    Ok(OthersValue { at, value })
+    Ok(OthersValue {
+        at,
+        value: value.into_inner(),
+    })
 }

@@ -31,8 +31,8 @@ fn read_elsif<P: Fn(&mut Cursor<'_>) -> Result<Primary, Fault>>(
     let value = read_expr(alloc, primary, tokens)?;
     Ok(Elsif {
         at,
-        condition,
-        value,
+        condition: condition.into_inner(),
+        value: value.into_inner(),
     })
 }
 
@@ -71,9 +71,9 @@ pub fn read_if_expr<P: Fn(&mut Cursor<'_>) -> Result<Primary, Fault>>(
     let otherwise = read_expr(alloc, primary, tokens)?;
     Ok(IfExpr {
         at,
-        condition,
-        value,
+        condition: condition.into_inner(),
+        value: value.into_inner(),
         more,
-        otherwise,
+        otherwise: otherwise.into_inner(),
     })
 }

@@ -39,7 +39,8 @@ fn read_turn<P: Fn(&mut Cursor<'_>) -> Result<Primary, Fault>>(
     if tokens.peek() == OTHERS {
         Ok(Turn::Last(read_others_value(alloc, primary, tokens)?))
     } else {
-        Ok(Turn::Another(read_expr(alloc, primary, tokens)?))
+        let expr = read_expr(alloc, primary, tokens)?;
+        Ok(Turn::Another(expr.into_inner()))
     }
 }
 
@@ -74,20 +75,23 @@ fn read_several_from<P: Fn(&mut Cursor<'_>) -> Result<Primary, Fault>>(
     alloc: Global,
     primary: &P,
     tokens: &mut Cursor<'_>,
-    first: Expr,
+    first: Boxed<Expr>,
 ) -> Result<Many, Fault>
     requires { P.IsAlwaysCallable primary.now }
     ensures { (inner : Opened) → ReadsItems (P.post primary.now) (expression.primary inner) → Gives (reader.several_from inner first tokens.old) result tokens.new }
 {
     if tokens.peek() == OTHERS {
         let others = read_others_value(alloc, primary, tokens)?;
-        return Ok(Many::First { first, others });
+        return Ok(Many::First {
+            first: first.into_inner(),
+            others,
+        });
     }
     let second = read_expr(alloc, primary, tokens)?;
     let Tail { more, others } = read_tail(alloc, primary, tokens)?;
     Ok(Many::Positions {
-        first,
-        second,
+        first: first.into_inner(),
+        second: second.into_inner(),
         more,
         others,
     })
@@ -106,7 +110,8 @@ fn read_named_from<P: Fn(&mut Cursor<'_>) -> Result<Primary, Fault>>(
 {
     let first = read_chosen(alloc, primary, tokens, choice)?;
     let more = read_more_assocs(alloc, primary, tokens)?;
-    Ok(Inside::Several(Many::Named { first, more }))
+    let many = Boxed::new(alloc, Many::Named { first, more })?;
+    Ok(Inside::Several(many))
 }
 
 /// An expression, after its first sum, or the parts of an aggregate, after the first expression's first sum.
@@ -120,11 +125,11 @@ fn read_expr_or_several<P: Fn(&mut Cursor<'_>) -> Result<Primary, Fault>>(
     ensures { (inner : Opened) → ReadsItems (P.post primary.now) (expression.primary inner) → Gives (ends.expr_or_several inner first tokens.old) result tokens.new }
 {
     let rel = read_rel_from(alloc, primary, tokens, first)?;
-    let expr = read_expr_from(alloc, primary, tokens, rel)?;
+    let expr = Boxed::new(alloc, read_expr_from(alloc, primary, tokens, rel)?)?;
     if tokens.peek() == COMMA {
         tokens.take(COMMA)?;
         let several = read_several_from(alloc, primary, tokens, expr)?;
-        return Ok(Inside::Several(several));
+        return Ok(Inside::Several(Boxed::new(alloc, several)?));
     }
     Ok(Inside::Alone(expr))
 }

@@ -27,7 +27,7 @@ pub fn read_filter<P: Fn(&mut Cursor<'_>) -> Result<Primary, Fault>>(
 {
     if tokens.peek() == WHEN {
         tokens.take(WHEN)?;
-        Ok(Some(read_expr(alloc, primary, tokens)?))
+        Ok(Some(read_expr(alloc, primary, tokens)?.into_inner()))
     } else {
         Ok(None)
     }

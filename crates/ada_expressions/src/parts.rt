@@ -42,7 +42,7 @@ pub fn expr(alloc: Global, tokens: &mut Cursor<'_>, levels: u32) -> Result<Boxed
     ensures { Gives (expression.expr (level.levels levels) tokens.old) result tokens.new }
 {
     let primary = |tokens: &mut Cursor<'_>| primary(alloc, tokens, levels);
-    boxed(alloc, read_expr(alloc, &primary, tokens))
+    read_expr(alloc, &primary, tokens)
 }
 
 /// A range's two bounds.

@@ -47,11 +47,9 @@ fn rounded(alloc: Global, bracket: u32, inside: Inside) -> Result<Primary, Alloc
     ensures { (inner : Opened) → IfOk result (λ primary. primary ≡ reader.rounded inner bracket inside) }
 {
     match inside {
-        Inside::Alone(expr) => Ok(Primary::Group {
-            bracket,
-            expr: Boxed::new(alloc, expr)?,
-        }),
+        Inside::Alone(expr) => Ok(Primary::Group { bracket, expr }),
         Inside::Several(many) => {
+            let many = many.into_inner();
             let aggregate = Aggregate::Round { bracket, many };
             Ok(Primary::Aggregate(Boxed::new(alloc, aggregate)?))
         }
@@ -83,9 +81,10 @@ fn read_round_for<P: Fn(&mut Cursor<'_>) -> Result<Primary, Fault>>(
     requires { P.IsAlwaysCallable primary.now }
     ensures { (inner : Opened) → ReadsItems (P.post primary.now) (expression.primary inner) → Gives (ends.round_for inner bracket tokens.old) result tokens.new }
 {
-    let first = read_each(alloc, primary, tokens)?;
+    let first = Boxed::new(alloc, read_each(alloc, primary, tokens)?)?;
     let more = read_more_assocs(alloc, primary, tokens)?;
     tokens.take(CLOSE_ROUND)?;
+    let first = first.into_inner();
     let many = Many::Named { first, more };
     let aggregate = Aggregate::Round { bracket, many };
     Ok(Primary::Aggregate(Boxed::new(alloc, aggregate)?))

@@ -44,7 +44,7 @@ fn read_values_from<
     ensures { (inner : Opened) → ReadsItems (P.post primary.now) (expression.primary inner) → ReadsItems (C.post call.now) inner.call → Gives (reader.values_from inner parallel tokens.old) result tokens.new }
 {
     let at = tokens.take(FOR)?;
-    let iter = read_iter(alloc, primary, call, tokens)?;
+    let iter = Boxed::new(alloc, read_iter(alloc, primary, call, tokens)?)?;
     tokens.take(ARROW)?;
     let value = read_expr(alloc, primary, tokens)?;
     Ok(Values {
@@ -81,8 +81,8 @@ fn reduction(
     bracket: u32,
     values: Values,
     attribute: u32,
-    reducer: Expr,
-    initial: Expr,
+    reducer: Boxed<Expr>,
+    initial: Boxed<Expr>,
 ) -> Result<Primary, AllocError>
     ensures { IfOk result (λ primary. primary ≡ ends.reduction bracket values attribute reducer initial) }
 {
@@ -96,11 +96,11 @@ fn reduction(
         bracket,
         parallel,
         at,
-        iter,
-        value,
+        iter: iter.into_inner(),
+        value: value.into_inner(),
         attribute,
-        reducer,
-        initial,
+        reducer: reducer.into_inner(),
+        initial: initial.into_inner(),
     };
     Ok(Primary::Reduction(Boxed::new(alloc, reduction)?))
 }
@@ -113,7 +113,7 @@ fn read_initial<P: Fn(&mut Cursor<'_>) -> Result<Primary, Fault>>(
     bracket: u32,
     values: Values,
     attribute: u32,
-    reducer: Expr,
+    reducer: Boxed<Expr>,
 ) -> Result<Primary, Fault>
     requires { P.IsAlwaysCallable primary.now }
     ensures { (inner : Opened) → ReadsItems (P.post primary.now) (expression.primary inner) → Gives (ends.initial inner bracket values attribute reducer tokens.old) result tokens.new }
@@ -163,8 +163,14 @@ fn squared(alloc: Global, bracket: u32, inside: Inside) -> Result<Primary, Alloc
     ensures { (inner : Opened) → IfOk result (λ primary. primary ≡ reader.squared inner bracket inside) }
 {
     let aggregate = match inside {
-        Inside::Alone(value) => Aggregate::One { bracket, value },
-        Inside::Several(many) => Aggregate::Square { bracket, many },
+        Inside::Alone(value) => Aggregate::One {
+            bracket,
+            value: value.into_inner(),
+        },
+        Inside::Several(many) => Aggregate::Square {
+            bracket,
+            many: many.into_inner(),
+        },
     };
     Ok(Primary::Aggregate(Boxed::new(alloc, aggregate)?))
 }
@@ -174,7 +180,7 @@ fn squared(alloc: Global, bracket: u32, inside: Inside) -> Result<Primary, Alloc
 fn are_plain(values: &Values) -> bool
     ensures { IsTrue result ↔ IsSome (reader.values_range values.now) }
 {
-    match &values.iter {
+    match values.iter.get() {
         Iter::In {
             index: _,
             reverse: None,
@@ -213,12 +219,12 @@ fn association(values: Values) -> Option<Assoc>
     if parallel.is_some() {
         return None;
     }
-    let (index, range) = plain_range(iter)?;
+    let (index, range) = plain_range(iter.into_inner())?;
     Some(Assoc::Each {
         at,
         index,
         range,
-        value,
+        value: value.into_inner(),
     })
 }
 

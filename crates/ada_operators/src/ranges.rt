@@ -72,16 +72,17 @@ pub fn read_arg<P: Fn(&mut Cursor<'_>) -> Result<Primary, Fault>>(
 {
     let value = read_expr(alloc, primary, tokens)?;
     if tokens.peek() != ARROW {
+        let value = value.into_inner();
         return Ok(Arg { name: None, value });
     }
-    let Some(name) = expr_identifier(&value) else {
+    let Some(name) = expr_identifier(value.get()) else {
         return Err(Fault::Unexpected);
     };
     tokens.take(ARROW)?;
     let value = read_expr(alloc, primary, tokens)?;
     Ok(Arg {
         name: Some(name),
-        value,
+        value: value.into_inner(),
     })
 }
 

@@ -369,12 +369,13 @@ pub fn read_expr<P: Fn(&mut Cursor<'_>) -> Result<Primary, Fault>>(
     alloc: Global,
     primary: &P,
     tokens: &mut Cursor<'_>,
-) -> Result<Expr, Fault>
+) -> Result<Boxed<Expr>, Fault>
     requires { P.IsAlwaysCallable primary.now }
     ensures { (inner : Opened) → ReadsItems (P.post primary.now) (reader.primary inner) → Gives (reader.expr inner tokens.old) result tokens.new }
 {
     let first = read_rel(alloc, primary, tokens)?;
-    read_expr_from(alloc, primary, tokens, first)
+    let expr = read_expr_from(alloc, primary, tokens, first)?;
+    Ok(Boxed::new(alloc, expr)?)
 }
 
 /// A range's two bounds (3.5).

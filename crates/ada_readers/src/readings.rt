@@ -1,13 +1,13 @@
 //! What a reader has before it knows which node it is.
 
-use ada_base::Items;
+use ada_base::{Boxed, Items};
 use ada_tree::{Expr, Iter, Many, OthersValue, Parallel};
 
 /// What stands in brackets: an expression alone, or the parts of an aggregate.
 #[derive(Drop)]
 pub enum Inside {
-    Alone(Expr),
-    Several(Many),
+    Alone(Boxed<Expr>),
+    Several(Boxed<Many>),
 }
 
 /// What follows the second expression of an aggregate.
@@ -23,6 +23,6 @@ pub struct Tail {
 pub struct Values {
     pub parallel: Option<Parallel>,
     pub at: u32,
-    pub iter: Iter,
-    pub value: Expr,
+    pub iter: Boxed<Iter>,
+    pub value: Boxed<Expr>,
 }

@@ -3,4 +3,4 @@ use Rattle.ada_readers.specs.Levels as level
 use Rattle.ada_expressions.proofs.parts.expr.Goals as goal
 
 pub returns : goal.returns
-returns c = c.boxed.ensures _ _ (c.read_expr.ensures (level.levels c.args.levels) (record { reads = λ old new result e. search rules }))
+returns c = c.read_expr.ensures (level.levels c.args.levels) (record { reads = λ old new result e. search rules })
