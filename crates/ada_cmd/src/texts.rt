@@ -33,9 +33,13 @@ D~E03 syntax~procedure P is ¦procedure Q is begin null; end; begin null; end;
 D~E03 syntax~procedure P (¦) is begin null; end;
 D~E03 syntax~procedure P (A : T;¦) is begin null; end;
 D~E03 syntax~procedure P (A : out ¦in T) is begin null; end;
+D~E03 syntax~procedure P (A ¦T) is begin null; end;
+D~E03 syntax~procedure P (A : in out ¦) is begin null; end;
 D~ok~A, B : constant T := 2; C : constant := 3; E, F : exception;
 D~ok~type T is range 1 .. 9; subtype S is T range 1 .. 2; A : S;
 D~E03 syntax~A, ¦: T;
+D~E03 syntax~A ¦B : T;
+D~E03 syntax~¦1 : T;
 D~E03 syntax~A : T ¦= 2;
 D~E03 syntax~A : ¦:= 2;
 D~E03 syntax~A, B : exception ¦:= 2;
@@ -118,6 +122,8 @@ E~E03 syntax~A + ¦- B
 E~E03 syntax~- ¦- A
 E~ok~A * B / C mod D rem F
 E~E03 syntax~A * ¦* B
+E~E03 syntax~A mod ¦
+E~E03 syntax~¦rem A
 E~ok~A ** 2 * abs B + (not C)
 E~E03 syntax~A ** B ¦** C
 E~E03 syntax~abs ¦abs A
