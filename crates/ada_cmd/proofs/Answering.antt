@@ -1,7 +1,7 @@
 -- What is said of a run, of a refusal and of a fetch makes the answer of the top call.
 use Rattle.std.proofs.Common.{◌≡◌, ℕ, List, [], Option, refl, sym, subst, inl, inr}
 use Rattle.ada_port.proofs.Growth.{Grows-none, GrowsByPrefix-from_Grows}
-use Rattle.ada_meaning.specs.FirstRun.{Run, Ending, Ended, Raised}
+use Rattle.first_form.specs.FirstRun.{Run, Ending, Ended, Raised}
 use Rattle.ada_run.specs.Compile.{IsRefusalOf, line_of, refusal_of}
 use Rattle.ada_run.specs.Execute.{EndsAs, CountsRun}
 use Rattle.ada_run.specs.declared.refusal.Refusal.{Refusal}

@@ -4,9 +4,9 @@ use Rattle.std.specs.Prelude.{IfSome}
 use Rattle.ada_base.specs.declared.reason.Reason.{Reason}
 use Rattle.ada_port.specs.Ports.{Grows, GrowsByPrefix, fetched}
 use Rattle.ada_port.proofs.Growth.{GrowsByPrefix-from_Grows, GrowsByPrefix-longer}
-use Rattle.ada_meaning.specs.Program.{Program}
-use Rattle.ada_meaning.specs.Accepted.{IsAccepted, Fault, IsFaultOf}
-use Rattle.ada_meaning.specs.FirstRun.{first_run, Ending, Ended, Raised}
+use Rattle.first_form.specs.Program.{Program}
+use Rattle.first_form.specs.Accepted.{IsAccepted, Fault, IsFaultOf}
+use Rattle.first_form.specs.FirstRun.{first_run, Ending, Ended, Raised}
 use Rattle.ada_run.proofs.Verdicts.{one_program, no_fault, one_fault}
 use Rattle.ada_cmd.specs.declared.status.Status.{Status}
 use Rattle.ada_cmd.specs.declared.status.Status.TheVariants as status

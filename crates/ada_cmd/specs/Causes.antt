@@ -1,9 +1,9 @@
 -- The causes of the statuses, each in both directions.
 use Rattle.std.specs.Prelude.{◌≡◌, ◌⊎◌, ℕ, List, [], Option, Some}
 use Rattle.ada_port.specs.Ports.{Grows, GrowsByPrefix, Rose, fetched}
-use Rattle.ada_meaning.specs.Program.{Program}
-use Rattle.ada_meaning.specs.Accepted.{IsAccepted}
-use Rattle.ada_meaning.specs.FirstRun.{Ending, first_run}
+use Rattle.first_form.specs.Program.{Program}
+use Rattle.first_form.specs.Accepted.{IsAccepted}
+use Rattle.first_form.specs.FirstRun.{Ending, first_run}
 use Rattle.ada_cmd.specs.declared.status.Status.{Status}
 use Rattle.ada_cmd.specs.Words.{Command}
 use Rattle.ada_cmd.specs.Words as words

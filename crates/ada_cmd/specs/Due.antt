@@ -3,9 +3,9 @@ use Rattle.std.specs.Prelude.{◌≡◌, ◌⊎◌, ℕ, List, [], ◌∷◌, �
 use Rattle.ada_base.specs.declared.reason.Reason.{Reason}
 use Rattle.ada_base.specs.declared.reason.Reason.TheVariants as reason
 use Rattle.ada_port.specs.Ports.{fetched}
-use Rattle.ada_meaning.specs.Program.{Program}
-use Rattle.ada_meaning.specs.Accepted.{IsAccepted, Fault, IsFaultOf}
-use Rattle.ada_meaning.specs.FirstRun.{Run, first_run, Ending, Ended, Raised}
+use Rattle.first_form.specs.Program.{Program}
+use Rattle.first_form.specs.Accepted.{IsAccepted, Fault, IsFaultOf}
+use Rattle.first_form.specs.FirstRun.{Run, first_run, Ending, Ended, Raised}
 use Rattle.ada_run.specs.Compile.{line_of, refusal_of}
 use Rattle.ada_cmd.specs.declared.status.Status.{Status}
 use Rattle.ada_cmd.specs.declared.status.Status.TheVariants as status

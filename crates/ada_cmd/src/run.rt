@@ -1,6 +1,6 @@
 ghost use Rattle.std.specs.Prelude.{◌≡◌, List, ℕ, IfOk, string_bytes};
-ghost use Rattle.ada_meaning.specs.Accepted.{IsAccepted};
-ghost use Rattle.ada_meaning.specs.FirstRun.{first_run};
+ghost use Rattle.first_form.specs.Accepted.{IsAccepted};
+ghost use Rattle.first_form.specs.FirstRun.{first_run};
 ghost use Rattle.ada_cmd.specs.Words.{Run};
 ghost use Rattle.ada_run.specs.Compile.{IsRefusalOf, line_of};
 ghost use Rattle.ada_cmd.specs.Due.{ended, run_due, unhandled_line, exception_name};

@@ -1,9 +1,9 @@
 ghost use Rattle.std.specs.Prelude.{◌≡◌, ◌⊎◌, ◌<◌, ℕ, List, map, string_bytes};
 ghost use Rattle.ada_base.specs.declared.reason.Reason.{Reason};
 ghost use Rattle.ada_port.specs.Ports.{Rose, fetched};
-ghost use Rattle.ada_meaning.specs.Program.{Program};
-ghost use Rattle.ada_meaning.specs.Accepted.{IsAccepted, Fault, IsFaultOf};
-ghost use Rattle.ada_meaning.specs.FirstRun.{first_run, Ended, Raised};
+ghost use Rattle.first_form.specs.Program.{Program};
+ghost use Rattle.first_form.specs.Accepted.{IsAccepted, Fault, IsFaultOf};
+ghost use Rattle.first_form.specs.FirstRun.{first_run, Ended, Raised};
 ghost use Rattle.ada_cmd.specs.Words.{Usage, command_of};
 ghost use Rattle.ada_cmd.specs.Due.{run_due, refused_due, usage_due};
 ghost use Rattle.ada_cmd.specs.Answer.{Answers, sight};

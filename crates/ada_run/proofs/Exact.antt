@@ -19,17 +19,17 @@ use Rattle.ada_tree.specs.declared.statements.Stmt.{Stmt}
 use Rattle.ada_tree.specs.declared.statements.Stmt.TheViews as views'
 use Rattle.ada_tree.specs.declared.units.Tree.{Tree}
 use Rattle.ada_tree.specs.declared.units.Unit.{Unit}
-use Rattle.ada_meaning.specs.Program.{Program}
-use Rattle.ada_meaning.specs.Shapes.{◌>>=◌, object_of, sum_of, operand_of, identifier_of, statement_of, output_of}
-use Rattle.ada_meaning.specs.FirstForm.{is_named, IsVariable, IsNumber, IsDeclaration, IsToken, IsOperand, IsOperation, IsSum, IsExpression, IsOutput, IsForm, IsStatement, is_frame, statements_of, are_distinct, has_none, IsFirstForm}
-use Rattle.ada_meaning.specs.declared.first_form.Letter.{Letter}
-use Rattle.ada_meaning.specs.declared.first_form.Declaration.{Declaration}
-use Rattle.ada_meaning.specs.declared.first_form.Operand.{Operand}
-use Rattle.ada_meaning.specs.declared.first_form.Operand.TheVariants as operand'
-use Rattle.ada_meaning.specs.declared.first_form.Expression.{Expression}
-use Rattle.ada_meaning.specs.declared.first_form.Expression.TheVariants.{Alone, Sum, Difference}
-use Rattle.ada_meaning.specs.declared.first_form.Statement.{Statement}
-use Rattle.ada_meaning.specs.declared.first_form.Statement.TheVariants.{Assign, Print}
+use Rattle.first_form.specs.Program.{Program}
+use Rattle.first_form.specs.Shapes.{◌>>=◌, object_of, sum_of, operand_of, identifier_of, statement_of, output_of}
+use Rattle.first_form.specs.FirstForm.{is_named, IsVariable, IsNumber, IsDeclaration, IsToken, IsOperand, IsOperation, IsSum, IsExpression, IsOutput, IsForm, IsStatement, is_frame, statements_of, are_distinct, has_none, IsFirstForm}
+use Rattle.first_form.specs.declared.first_form.Letter.{Letter}
+use Rattle.first_form.specs.declared.first_form.Declaration.{Declaration}
+use Rattle.first_form.specs.declared.first_form.Operand.{Operand}
+use Rattle.first_form.specs.declared.first_form.Operand.TheVariants as operand'
+use Rattle.first_form.specs.declared.first_form.Expression.{Expression}
+use Rattle.first_form.specs.declared.first_form.Expression.TheVariants.{Alone, Sum, Difference}
+use Rattle.first_form.specs.declared.first_form.Statement.{Statement}
+use Rattle.first_form.specs.declared.first_form.Statement.TheVariants.{Assign, Print}
 use Rattle.ada_run.specs.Walk.{letter_in, identifier_in, variable_at, small, number_in, number_at, declaration_at, token_at, operand_at, operation, operation_at, added, summed, expression_at, print_at, assignment_at, form_at, statement_at, each_at, program_at}
 use Rattle.ada_run.proofs.Options.{some_is, bind_some, bind_is, choose_some, cond_some, cond_true, some_and, Exactly, exact_bind, exact_without, exact_each}
 

@@ -5,16 +5,16 @@ use Rattle.std.proofs.lemmas.List.Folds.{find-append}
 use Rattle.std.specs.List.{find}
 use Rattle.std.specs.Prelude.{not}
 use Rattle.std.specs.Option.{option_or}
-use Rattle.ada_meaning.specs.Shapes.{◌>>=◌}
-use Rattle.ada_meaning.specs.Program.{declares, operand_variables, expression_variables, statement_variables, used_variables}
-use Rattle.ada_meaning.specs.declared.first_form.Letter.{Letter}
-use Rattle.ada_meaning.specs.declared.first_form.Declaration.{Declaration}
-use Rattle.ada_meaning.specs.declared.first_form.Operand.{Operand}
-use Rattle.ada_meaning.specs.declared.first_form.Operand.TheVariants as operand'
-use Rattle.ada_meaning.specs.declared.first_form.Expression.{Expression}
-use Rattle.ada_meaning.specs.declared.first_form.Expression.TheVariants.{Alone, Sum, Difference}
-use Rattle.ada_meaning.specs.declared.first_form.Statement.{Statement}
-use Rattle.ada_meaning.specs.declared.first_form.Statement.TheVariants.{Assign, Print}
+use Rattle.first_form.specs.Shapes.{◌>>=◌}
+use Rattle.first_form.specs.Program.{declares, operand_variables, expression_variables, statement_variables, used_variables}
+use Rattle.first_form.specs.declared.first_form.Letter.{Letter}
+use Rattle.first_form.specs.declared.first_form.Declaration.{Declaration}
+use Rattle.first_form.specs.declared.first_form.Operand.{Operand}
+use Rattle.first_form.specs.declared.first_form.Operand.TheVariants as operand'
+use Rattle.first_form.specs.declared.first_form.Expression.{Expression}
+use Rattle.first_form.specs.declared.first_form.Expression.TheVariants.{Alone, Sum, Difference}
+use Rattle.first_form.specs.declared.first_form.Statement.{Statement}
+use Rattle.first_form.specs.declared.first_form.Statement.TheVariants.{Assign, Print}
 use Rattle.ada_run.specs.Walk.{each_at, undeclared, undeclared_operand, undeclared_expression, undeclared_statement, undeclared_in}
 
 -- what was gathered before, and what is still to be

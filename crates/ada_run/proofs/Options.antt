@@ -2,7 +2,7 @@
 use Rattle.std.proofs.Common.{◌≡◌, ◌⊎◌, Bool, true, false, cond, List, [], ◌∷◌, Option, Some, None, refl, ap, ◌∙◌, inl, inr}
 use Rattle.std.specs.List.{AllZip}
 use Rattle.std.specs.Option.{IsSomeAnd}
-use Rattle.ada_meaning.specs.Shapes.{◌>>=◌, without}
+use Rattle.first_form.specs.Shapes.{◌>>=◌, without}
 use Rattle.ada_run.specs.Walk.{choose, each_at}
 
 pub some_is : {A : Type 0} (x y : A) → let s : Option A = Some x in let t : Option A = Some y in s ≡ t → x ≡ y

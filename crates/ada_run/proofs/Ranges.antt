@@ -5,7 +5,7 @@ use Rattle.std.specs.List.{list_all, AllZip}
 use Rattle.std.proofs.lemmas.Bool.{and_parts, and_from, le-leb}
 use Rattle.ada_base.specs.Operation.{is_in_base}
 use Rattle.ada_base.specs.declared.operation.Base.TheVariants.{Narrow}
-use Rattle.ada_meaning.specs.Program.{Program}
+use Rattle.first_form.specs.Program.{Program}
 use Rattle.ada_base.specs.Tokens.{Tokenized}
 use Rattle.ada_tree.specs.Layers.{AddingLayer}
 use Rattle.ada_tree.specs.declared.expressions.Adding.TheOpen as layer
@@ -18,19 +18,19 @@ use Rattle.ada_tree.specs.declared.statements.Stmt.{Stmt}
 use Rattle.ada_tree.specs.declared.statements.Stmt.TheViews as views'
 use Rattle.ada_tree.specs.declared.units.Tree.{Tree}
 use Rattle.ada_tree.specs.declared.units.Unit.{Unit}
-use Rattle.ada_meaning.specs.Shapes.{object_of, sum_of, operand_of, statement_of}
-use Rattle.ada_meaning.specs.FirstForm.{IsDeclaration, IsToken, IsOperand, IsOperation, IsSum, IsForm, IsStatement, IsFirstForm, statements_of}
+use Rattle.first_form.specs.Shapes.{object_of, sum_of, operand_of, statement_of}
+use Rattle.first_form.specs.FirstForm.{IsDeclaration, IsToken, IsOperand, IsOperation, IsSum, IsForm, IsStatement, IsFirstForm, statements_of}
 use Rattle.ada_run.proofs.Options.{some_and}
-use Rattle.ada_meaning.specs.FirstRun.{value_in, assigned, initial}
-use Rattle.ada_meaning.specs.declared.first_form.Letter.{Letter}
-use Rattle.ada_meaning.specs.declared.first_form.Declaration.{Declaration}
-use Rattle.ada_meaning.specs.declared.first_form.Operand.{Operand}
-use Rattle.ada_meaning.specs.declared.first_form.Operand.TheVariants.{Name, Number}
-use Rattle.ada_meaning.specs.declared.first_form.Expression.{Expression}
-use Rattle.ada_meaning.specs.declared.first_form.Expression.TheVariants.{Alone, Sum, Difference}
-use Rattle.ada_meaning.specs.declared.first_form.Statement.{Statement}
-use Rattle.ada_meaning.specs.declared.first_form.Statement.TheVariants.{Assign, Print}
-use Rattle.ada_meaning.specs.declared.first_form.Variable.{Variable}
+use Rattle.first_form.specs.FirstRun.{value_in, assigned, initial}
+use Rattle.first_form.specs.declared.first_form.Letter.{Letter}
+use Rattle.first_form.specs.declared.first_form.Declaration.{Declaration}
+use Rattle.first_form.specs.declared.first_form.Operand.{Operand}
+use Rattle.first_form.specs.declared.first_form.Operand.TheVariants.{Name, Number}
+use Rattle.first_form.specs.declared.first_form.Expression.{Expression}
+use Rattle.first_form.specs.declared.first_form.Expression.TheVariants.{Alone, Sum, Difference}
+use Rattle.first_form.specs.declared.first_form.Statement.{Statement}
+use Rattle.first_form.specs.declared.first_form.Statement.TheVariants.{Assign, Print}
+use Rattle.first_form.specs.declared.first_form.Variable.{Variable}
 use Rattle.ada_run.specs.Execute.{are_in_range, operand_in_range, expression_in_range, statement_in_range}
 
 pub value_in_range : (variables : List Variable) (name : Letter) → IsTrue (are_in_range variables) → IsTrue (is_in_base Narrow (value_in variables name))

@@ -3,12 +3,12 @@ use Rattle.std.proofs.Common.{◌≡◌, ℕ, List, [], ◌++◌, Option, Some, 
 use Rattle.std.proofs.lemmas.List.{append-nil, drop_more}
 use Rattle.ada_port.specs.Ports.{Grows, GrowsByPrefix}
 use Rattle.ada_port.proofs.Growth.{Grows-none, Grows-append, GrowsByPrefix-none, GrowsByPrefix-append, GrowsByPrefix-longer}
-use Rattle.ada_meaning.specs.FirstRun.{Run, Ended, run_from, after_output, image_line, value_in, expression_value, assigned}
-use Rattle.ada_meaning.specs.declared.first_form.Letter.{Letter}
-use Rattle.ada_meaning.specs.declared.first_form.Expression.{Expression}
-use Rattle.ada_meaning.specs.declared.first_form.Statement.{Statement}
-use Rattle.ada_meaning.specs.declared.first_form.Statement.TheVariants.{Assign, Print}
-use Rattle.ada_meaning.specs.declared.first_form.Variable.{Variable}
+use Rattle.first_form.specs.FirstRun.{Run, Ended, run_from, after_output, image_line, value_in, expression_value, assigned}
+use Rattle.first_form.specs.declared.first_form.Letter.{Letter}
+use Rattle.first_form.specs.declared.first_form.Expression.{Expression}
+use Rattle.first_form.specs.declared.first_form.Statement.{Statement}
+use Rattle.first_form.specs.declared.first_form.Statement.TheVariants.{Assign, Print}
+use Rattle.first_form.specs.declared.first_form.Variable.{Variable}
 use Rattle.ada_run.specs.Execute.{EndsAs, Goes, Stops, Steps, Prints, Comes}
 use Rattle.ada_run.specs.declared.runner.RunEnd.{RunEnd}
 use Rattle.ada_run.specs.declared.runner.RunEnd.TheVariants as run_end

@@ -11,10 +11,10 @@ use Rattle.ada_base.specs.declared.token.Token.{Token}
 use Rattle.ada_lexer.proofs.OneList.{one_list}
 use Rattle.ada_lexer.proofs.OneFault as one
 use Rattle.ada_lexer.specs.Lexed.{AreLexed}
-use Rattle.ada_meaning.specs.Accepted.{IsLexed, IsRead, tokenized, IsAccepted, Fault, Lexical, Syntax, LeftOut, TooDeep, NotBuilt, UnknownName, IsSyntaxAt, IsTooDeepAt, IsOtherForm, IsUnknownAt, IsFaultOf}
-use Rattle.ada_meaning.specs.FirstForm.{IsFirstForm}
-use Rattle.ada_meaning.specs.Program.{Program, first_undeclared}
-use Rattle.ada_meaning.specs.declared.first_form.Letter.{Letter}
+use Rattle.first_form.specs.Accepted.{IsLexed, IsRead, tokenized, IsAccepted, Fault, Lexical, Syntax, LeftOut, TooDeep, NotBuilt, UnknownName, IsSyntaxAt, IsTooDeepAt, IsOtherForm, IsUnknownAt, IsFaultOf}
+use Rattle.first_form.specs.FirstForm.{IsFirstForm}
+use Rattle.first_form.specs.Program.{Program, first_undeclared}
+use Rattle.first_form.specs.declared.first_form.Letter.{Letter}
 use Rattle.ada_readers.proofs.UnitRules.{one_program as one_derived}
 use Rattle.ada_run.proofs.Exact.{one_form, program_takes, program_again}
 use Rattle.ada_run.proofs.Options.{some_is}

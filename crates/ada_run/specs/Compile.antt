@@ -6,7 +6,7 @@ use Rattle.ada_base.specs.declared.token.Kind.TheVariants as kind'
 use Rattle.ada_base.specs.Place.{place_at}
 use Rattle.ada_tree.specs.Words.{words, marks}
 use Rattle.ada_tree.specs.Faults.Fault.{TooManyBytes, NoCharacter, NoToken, TooWide, TooManyTokens}
-use Rattle.ada_meaning.specs.Accepted.{Fault, Lexical, Syntax, LeftOut, TooDeep, NotBuilt, UnknownName, IsFaultOf}
+use Rattle.first_form.specs.Accepted.{Fault, Lexical, Syntax, LeftOut, TooDeep, NotBuilt, UnknownName, IsFaultOf}
 use Rattle.ada_run.specs.declared.refusal.Note.{Note}
 use Rattle.ada_run.specs.declared.refusal.Note.TheVariants as note
 use Rattle.ada_run.specs.declared.refusal.Refusal.{Refusal}

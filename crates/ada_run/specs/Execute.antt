@@ -4,14 +4,14 @@ use Rattle.std.specs.List.{list_all}
 use Rattle.ada_base.specs.Operation.{is_in_base}
 use Rattle.ada_base.specs.declared.operation.Base.TheVariants.{Narrow}
 use Rattle.ada_port.specs.Ports.{Grows, GrowsByPrefix, Rises}
-use Rattle.ada_meaning.specs.FirstRun.{Run, Ended, Raised, run_from, after_output, image_line}
-use Rattle.ada_meaning.specs.declared.first_form.Variable.{Variable}
-use Rattle.ada_meaning.specs.declared.first_form.Operand.{Operand}
-use Rattle.ada_meaning.specs.declared.first_form.Operand.TheVariants.{Name, Number}
-use Rattle.ada_meaning.specs.declared.first_form.Expression.{Expression}
-use Rattle.ada_meaning.specs.declared.first_form.Expression.TheVariants.{Alone, Sum, Difference}
-use Rattle.ada_meaning.specs.declared.first_form.Statement.{Statement}
-use Rattle.ada_meaning.specs.declared.first_form.Statement.TheVariants.{Assign, Print}
+use Rattle.first_form.specs.FirstRun.{Run, Ended, Raised, run_from, after_output, image_line}
+use Rattle.first_form.specs.declared.first_form.Variable.{Variable}
+use Rattle.first_form.specs.declared.first_form.Operand.{Operand}
+use Rattle.first_form.specs.declared.first_form.Operand.TheVariants.{Name, Number}
+use Rattle.first_form.specs.declared.first_form.Expression.{Expression}
+use Rattle.first_form.specs.declared.first_form.Expression.TheVariants.{Alone, Sum, Difference}
+use Rattle.first_form.specs.declared.first_form.Statement.{Statement}
+use Rattle.first_form.specs.declared.first_form.Statement.TheVariants.{Assign, Print}
 use Rattle.ada_run.specs.declared.runner.RunEnd.{RunEnd}
 use Rattle.ada_run.specs.declared.runner.RunEnd.TheVariants as run_end
 

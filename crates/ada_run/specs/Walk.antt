@@ -16,17 +16,17 @@ use Rattle.ada_tree.specs.declared.statements.Stmt.{Stmt}
 use Rattle.ada_tree.specs.declared.statements.Stmt.TheViews as views'
 use Rattle.ada_tree.specs.declared.units.Tree.{Tree}
 use Rattle.ada_tree.specs.declared.units.Unit.{Unit}
-use Rattle.ada_meaning.specs.Program.{Program, declares}
-use Rattle.ada_meaning.specs.FirstForm.{is_named, is_frame, statements_of, are_distinct, has_none}
-use Rattle.ada_meaning.specs.Shapes.{◌>>=◌, without, object_of, sum_of, operand_of, identifier_of, statement_of, output_of}
-use Rattle.ada_meaning.specs.declared.first_form.Letter.{Letter}
-use Rattle.ada_meaning.specs.declared.first_form.Declaration.{Declaration}
-use Rattle.ada_meaning.specs.declared.first_form.Operand.{Operand}
-use Rattle.ada_meaning.specs.declared.first_form.Operand.TheVariants as operand'
-use Rattle.ada_meaning.specs.declared.first_form.Expression.{Expression}
-use Rattle.ada_meaning.specs.declared.first_form.Expression.TheVariants.{Alone, Sum, Difference}
-use Rattle.ada_meaning.specs.declared.first_form.Statement.{Statement}
-use Rattle.ada_meaning.specs.declared.first_form.Statement.TheVariants.{Assign, Print}
+use Rattle.first_form.specs.Program.{Program, declares}
+use Rattle.first_form.specs.FirstForm.{is_named, is_frame, statements_of, are_distinct, has_none}
+use Rattle.first_form.specs.Shapes.{◌>>=◌, without, object_of, sum_of, operand_of, identifier_of, statement_of, output_of}
+use Rattle.first_form.specs.declared.first_form.Letter.{Letter}
+use Rattle.first_form.specs.declared.first_form.Declaration.{Declaration}
+use Rattle.first_form.specs.declared.first_form.Operand.{Operand}
+use Rattle.first_form.specs.declared.first_form.Operand.TheVariants as operand'
+use Rattle.first_form.specs.declared.first_form.Expression.{Expression}
+use Rattle.first_form.specs.declared.first_form.Expression.TheVariants.{Alone, Sum, Difference}
+use Rattle.first_form.specs.declared.first_form.Statement.{Statement}
+use Rattle.first_form.specs.declared.first_form.Statement.TheVariants.{Assign, Print}
 
 -- goes on with what was found, and else takes the other
 abbrev pub choose : {A B : Type 0} → Option A → (A → Option B) → Option B → Option B

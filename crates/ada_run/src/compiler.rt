@@ -7,8 +7,8 @@ ghost use Rattle.ada_base.specs.Tokens.{place_of_token};
 ghost use Rattle.ada_tree.specs.Faults.{byte_limit};
 ghost use Rattle.ada_grammar.specs.Parsed.{Parsed};
 ghost use Rattle.ada_lexer.specs.Lexed.{Tells};
-ghost use Rattle.ada_meaning.specs.Accepted.{IsAccepted, IsLexed, IsRead};
-ghost use Rattle.ada_meaning.specs.Program.{Program};
+ghost use Rattle.first_form.specs.Accepted.{IsAccepted, IsLexed, IsRead};
+ghost use Rattle.first_form.specs.Program.{Program};
 ghost use Rattle.ada_run.specs.Compile.{IsRefusalOf};
 
 use crate::refusal::{Note, Refusal};
@@ -16,7 +16,7 @@ use crate::walk::{Unbuilt, first_form, first_undeclared, kind_of};
 use ada_base::{Place, Tokens, place_of};
 use ada_grammar::{ParseFault, parse};
 use ada_lexer::{LexFault, lex};
-use ada_meaning::FirstForm;
+use first_form::FirstForm;
 use ada_tree::Tree;
 use std::alloc::Global;
 

@@ -2,13 +2,13 @@ ghost use Rattle.std.specs.Prelude.{◌≡◌, ◌⊎◌, ℕ, List, IfOk, IfSom
 ghost use Rattle.std.specs.List.{list_all};
 ghost use Rattle.ada_base.specs.Operation.{result_of, is_in_base};
 ghost use Rattle.ada_base.specs.declared.operation.Base.TheVariants.{Narrow};
-ghost use Rattle.ada_meaning.specs.Accepted.{IsAccepted};
-ghost use Rattle.ada_meaning.specs.FirstRun.{first_run, run_from, initial, value_in, changed, assigned, operand_value, expression_value, image_line};
+ghost use Rattle.first_form.specs.Accepted.{IsAccepted};
+ghost use Rattle.first_form.specs.FirstRun.{first_run, run_from, initial, value_in, changed, assigned, operand_value, expression_value, image_line};
 ghost use Rattle.ada_run.specs.Execute.{EndsAs, CountsRun, Steps, CountsStep, Prints, RunsAll, cells_of, are_in_range, operand_in_range, expression_in_range, statement_in_range};
 
 use crate::compiler::Unit;
 use ada_base::{Base, Op, Reason, apply};
-use ada_meaning::{Declaration, Expression, Letter, Operand, Statement, Variable};
+use first_form::{Declaration, Expression, Letter, Operand, Statement, Variable};
 use ada_port::Sink;
 use std::alloc::{AllocError, Global};
 

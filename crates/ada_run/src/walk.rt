@@ -3,15 +3,15 @@
 ghost use Rattle.std.specs.Prelude.{◌≡◌};
 ghost use Rattle.ada_base.specs.Tokens.{slice_at};
 ghost use Rattle.ada_tree.specs.Parsed.{kind_at};
-ghost use Rattle.ada_meaning.specs.FirstForm as form;
-ghost use Rattle.ada_meaning.specs.Program.{declares, first_undeclared};
+ghost use Rattle.first_form.specs.FirstForm as form;
+ghost use Rattle.first_form.specs.Program.{declares, first_undeclared};
 ghost use Rattle.ada_run.specs.Gives.{Gives};
 ghost use Rattle.ada_run.specs.declared.walk.Unbuilt.TheVariants as unbuilt;
 ghost use Rattle.ada_run.specs.Walk as walk;
 
 use ada_base::{Kind, Tokens, folds_alike};
-use ada_meaning::shapes::{identifier_of, object_of, operand_of, output_of, sum_of};
-use ada_meaning::{Declaration, Expression, FirstForm, Letter, Operand, Statement};
+use first_form::shapes::{identifier_of, object_of, operand_of, output_of, sum_of};
+use first_form::{Declaration, Expression, FirstForm, Letter, Operand, Statement};
 use ada_tree::{Adding, Clause, ClauseWord, Expr, Main, Name, Pack, Stmt, Stmts, Term, Tree, Unit};
 use std::alloc::{AllocFailed, Global};
 

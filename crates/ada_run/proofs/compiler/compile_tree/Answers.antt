@@ -1,6 +1,6 @@
 use Rattle.std.proofs.Common.{sym}
 use Rattle.ada_base.specs.Tokens.{place_of_token}
-use Rattle.ada_meaning.specs.Accepted.{NotBuilt, UnknownName}
+use Rattle.first_form.specs.Accepted.{NotBuilt, UnknownName}
 use Rattle.ada_run.proofs.Verdicts.{accepts, refuses, other_form, unknown_at}
 use Rattle.ada_run.proofs.compiler.compile_tree.Goals as goal
 

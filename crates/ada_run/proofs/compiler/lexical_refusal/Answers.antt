@@ -1,5 +1,5 @@
 use Rattle.ada_tree.specs.Faults.Fault.{TooManyBytes, NoCharacter, NoToken, TooWide, TooManyTokens}
-use Rattle.ada_meaning.specs.Accepted.{Lexical}
+use Rattle.first_form.specs.Accepted.{Lexical}
 use Rattle.ada_run.proofs.Verdicts.{refuses}
 use Rattle.ada_run.proofs.compiler.lexical_refusal.Goals as goal
 

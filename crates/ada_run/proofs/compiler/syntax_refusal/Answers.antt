@@ -1,6 +1,6 @@
 use Rattle.ada_base.specs.Tokens.{place_of_token}
 use Rattle.ada_tree.specs.Parsed.{kind_at}
-use Rattle.ada_meaning.specs.Accepted.{Syntax, LeftOut, TooDeep}
+use Rattle.first_form.specs.Accepted.{Syntax, LeftOut, TooDeep}
 use Rattle.ada_run.proofs.Verdicts.{refuses, syntax_at, deep_at}
 use Rattle.ada_run.proofs.compiler.syntax_refusal.Goals as goal
 

@@ -1,6 +1,6 @@
 use Rattle.std.proofs.Common.{rules}
 use Rattle.std.proofs.lemmas.List.Edits.{map_over_more}
-use Rattle.ada_meaning.specs.FirstRun.{changed}
+use Rattle.first_form.specs.FirstRun.{changed}
 use Rattle.ada_run.proofs.runner.assign.Goals as goal
 
 pub loop-variable-preserved : goal.loop-variable-preserved

@@ -1,5 +1,5 @@
 use Rattle.std.proofs.Common.{◌≡◌, ◌++◌, take, drop}
-use Rattle.ada_meaning.specs.FirstRun.{assigned}
+use Rattle.first_form.specs.FirstRun.{assigned}
 use Rattle.ada_run.proofs.runner.assign.Given as goal
 
 abbrev pub invariant-loop-variable : goal.invariant-loop-variable

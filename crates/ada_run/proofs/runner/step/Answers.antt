@@ -1,6 +1,6 @@
 use Rattle.std.proofs.Common.{rules}
 use Rattle.std.specs.Prelude.{IsTrue}
-use Rattle.ada_meaning.specs.FirstRun.{assigned}
+use Rattle.first_form.specs.FirstRun.{assigned}
 use Rattle.ada_run.specs.Execute.{are_in_range}
 use Rattle.ada_run.proofs.Ranges.{assigned_in_range}
 use Rattle.ada_run.proofs.Running.{prints}

@@ -1,5 +1,5 @@
 use Rattle.std.proofs.Common.{◌≡◌, length}
-use Rattle.ada_meaning.specs.FirstRun.{value_in}
+use Rattle.first_form.specs.FirstRun.{value_in}
 use Rattle.ada_run.proofs.runner.value_of.Given as goal
 
 abbrev pub invariant-loop-rest : goal.invariant-loop-rest

@@ -1,5 +1,5 @@
 use Rattle.std.proofs.Common.{◌≡◌, length}
-use Rattle.ada_meaning.specs.FirstForm.{are_distinct}
+use Rattle.first_form.specs.FirstForm.{are_distinct}
 use Rattle.ada_run.proofs.walk.has_distinct_names.Given as goal
 
 abbrev pub invariant-loop-rest : goal.invariant-loop-rest

@@ -2,7 +2,7 @@ use Rattle.std.proofs.lemmas.Bool.Decides.{same_from_decides}
 use Rattle.std.proofs.lemmas.Slice.Eq.{bytes_eq-Decides}
 use Rattle.ada_base.specs.Folding.{folded}
 use Rattle.ada_base.specs.Tokens.{slice_at}
-use Rattle.ada_meaning.specs.FirstForm.{is_named}
+use Rattle.first_form.specs.FirstForm.{is_named}
 use Rattle.ada_run.proofs.walk.is_named.Goals as goal
 
 pub returns : goal.returns

@@ -23,16 +23,16 @@ use Rattle.ada_tree.specs.declared.units.Pack.{Pack}
 use Rattle.ada_tree.specs.declared.units.Main.{Main}
 use Rattle.ada_tree.specs.declared.units.Tree.{Tree}
 use Rattle.ada_tree.specs.declared.units.Unit.{Unit}
-use Rattle.ada_meaning.specs.Program.{Program, declares}
-use Rattle.ada_meaning.specs.Shapes.{object_of, sum_of, operand_of, identifier_of, statement_of, output_of}
-use Rattle.ada_meaning.specs.declared.first_form.Letter.{Letter}
-use Rattle.ada_meaning.specs.declared.first_form.Declaration.{Declaration}
-use Rattle.ada_meaning.specs.declared.first_form.Operand.{Operand}
-use Rattle.ada_meaning.specs.declared.first_form.Operand.TheVariants as operand'
-use Rattle.ada_meaning.specs.declared.first_form.Expression.{Expression}
-use Rattle.ada_meaning.specs.declared.first_form.Expression.TheVariants.{Alone, Sum, Difference}
-use Rattle.ada_meaning.specs.declared.first_form.Statement.{Statement}
-use Rattle.ada_meaning.specs.declared.first_form.Statement.TheVariants.{Assign, Print}
+use Rattle.first_form.specs.Program.{Program, declares}
+use Rattle.first_form.specs.Shapes.{object_of, sum_of, operand_of, identifier_of, statement_of, output_of}
+use Rattle.first_form.specs.declared.first_form.Letter.{Letter}
+use Rattle.first_form.specs.declared.first_form.Declaration.{Declaration}
+use Rattle.first_form.specs.declared.first_form.Operand.{Operand}
+use Rattle.first_form.specs.declared.first_form.Operand.TheVariants as operand'
+use Rattle.first_form.specs.declared.first_form.Expression.{Expression}
+use Rattle.first_form.specs.declared.first_form.Expression.TheVariants.{Alone, Sum, Difference}
+use Rattle.first_form.specs.declared.first_form.Statement.{Statement}
+use Rattle.first_form.specs.declared.first_form.Statement.TheVariants.{Assign, Print}
 
 -- ---- tokens
 

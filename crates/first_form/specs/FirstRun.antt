@@ -7,16 +7,16 @@ use Rattle.ada_base.specs.declared.operation.Base.TheVariants.{Narrow}
 use Rattle.ada_base.specs.declared.operation.Op.TheVariants.{Add, Sub}
 use Rattle.ada_base.specs.declared.reason.Reason.{Reason}
 use Rattle.ada_base.specs.declared.reason.Reason.TheVariants.{ConstraintError}
-use Rattle.ada_meaning.specs.Program.{Program}
-use Rattle.ada_meaning.specs.declared.first_form.Letter.{Letter}
-use Rattle.ada_meaning.specs.declared.first_form.Declaration.{Declaration}
-use Rattle.ada_meaning.specs.declared.first_form.Operand.{Operand}
-use Rattle.ada_meaning.specs.declared.first_form.Operand.TheVariants.{Name, Number}
-use Rattle.ada_meaning.specs.declared.first_form.Expression.{Expression}
-use Rattle.ada_meaning.specs.declared.first_form.Expression.TheVariants.{Alone, Sum, Difference}
-use Rattle.ada_meaning.specs.declared.first_form.Statement.{Statement}
-use Rattle.ada_meaning.specs.declared.first_form.Statement.TheVariants.{Assign, Print}
-use Rattle.ada_meaning.specs.declared.first_form.Variable.{Variable}
+use Rattle.first_form.specs.Program.{Program}
+use Rattle.first_form.specs.declared.first_form.Letter.{Letter}
+use Rattle.first_form.specs.declared.first_form.Declaration.{Declaration}
+use Rattle.first_form.specs.declared.first_form.Operand.{Operand}
+use Rattle.first_form.specs.declared.first_form.Operand.TheVariants.{Name, Number}
+use Rattle.first_form.specs.declared.first_form.Expression.{Expression}
+use Rattle.first_form.specs.declared.first_form.Expression.TheVariants.{Alone, Sum, Difference}
+use Rattle.first_form.specs.declared.first_form.Statement.{Statement}
+use Rattle.first_form.specs.declared.first_form.Statement.TheVariants.{Assign, Print}
+use Rattle.first_form.specs.declared.first_form.Variable.{Variable}
 
 pub data Ending : Type 0 where
   Ended : Ending

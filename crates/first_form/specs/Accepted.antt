@@ -9,9 +9,9 @@ use Rattle.ada_tree.specs.Faults as lexical
 use Rattle.ada_tree.specs.Parsed.{IsParsed, IsSyntaxFault, IsTooDeep, is_left_out, kind_at}
 use Rattle.ada_tree.specs.Tokens.{AreTokensOf}
 use Rattle.ada_tree.specs.declared.units.Tree.{Tree}
-use Rattle.ada_meaning.specs.Program.{Program, first_undeclared}
-use Rattle.ada_meaning.specs.FirstForm.{IsFirstForm}
-use Rattle.ada_meaning.specs.declared.first_form.Letter.{Letter}
+use Rattle.first_form.specs.Program.{Program, first_undeclared}
+use Rattle.first_form.specs.FirstForm.{IsFirstForm}
+use Rattle.first_form.specs.declared.first_form.Letter.{Letter}
 
 -- these are the tokens of the text, and keep the limits that a text and its tokens have (2.2)
 pub record IsLexed (text : List ℕ) (items : List Token) : Type 0 where

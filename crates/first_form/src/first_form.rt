@@ -52,7 +52,7 @@ pub struct FirstForm {
 }
 
 impl Model for FirstForm {
-    ghost use Rattle.ada_meaning.specs.Program.{Program};
+    ghost use Rattle.first_form.specs.Program.{Program};
 
     ghost Value = { Program };
 
@@ -61,7 +61,7 @@ impl Model for FirstForm {
 
 impl FirstForm {
     ghost use Rattle.std.specs.Prelude.{◌≡◌};
-    ghost use Rattle.ada_meaning.specs.Program.{Program};
+    ghost use Rattle.first_form.specs.Program.{Program};
 
     /// A program of these declarations and statements.
     pub fn new(declarations: Vec<Declaration>, statements: Vec<Statement>) -> Self

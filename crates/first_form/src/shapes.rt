@@ -2,7 +2,7 @@
 
 ghost use Rattle.std.specs.Prelude.{◌≡◌};
 ghost use Rattle.std.specs.Option.{option_copied};
-ghost use Rattle.ada_meaning.specs.Shapes as shape;
+ghost use Rattle.first_form.specs.Shapes as shape;
 
 use ada_base::Boxed;
 use ada_tree::{
