@@ -1,0 +1,5 @@
+pub mod Words
+pub mod Lists
+pub mod Bares
+pub mod Openings
+pub mod Sums
