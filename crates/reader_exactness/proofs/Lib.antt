@@ -3,3 +3,4 @@ pub mod Lists
 pub mod Bares
 pub mod Openings
 pub mod Sums
+pub mod Relations
