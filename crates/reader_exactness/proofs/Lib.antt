@@ -4,3 +4,4 @@ pub mod Bares
 pub mod Openings
 pub mod Sums
 pub mod Relations
+pub mod Associations
