@@ -5,3 +5,4 @@ pub mod Openings
 pub mod Sums
 pub mod Relations
 pub mod Associations
+pub mod Positions
