@@ -6,3 +6,4 @@ pub mod Sums
 pub mod Relations
 pub mod Associations
 pub mod Positions
+pub mod Insides

@@ -1,6 +1,6 @@
 -- What opens a bracket: its words, and that what reads it one level down is exact. The sets of each rule of
 -- expressions.
-use Rattle.std.proofs.Common.{◌≡◌, ℕ, List, [], ◌∷◌, ◌++◌, false}
+use Rattle.std.proofs.Common.{◌≡◌, ℕ, List, [], ◌∷◌, ◌++◌, true, false}
 use Rattle.ada_base.specs.Languages.{Language}
 use Rattle.reader_laws.specs.Sets.{Sets, one_kind}
 use Rattle.reader_laws.specs.Exact.{Rule}
@@ -93,3 +93,11 @@ logical_kinds = kind.and_word ∷ kind.or_word ∷ kind.xor_word ∷ []
 
 abbrev pub expr_sets : Sets
 expr_sets = record { first = simple_sets.first; nullable = false; follow_last = logical_kinds ++ rel_sets.follow_last }
+
+-- ---- after the first sum, and after the first relation
+
+abbrev pub rel_from_sets : Sets
+rel_from_sets = record { first = comparison_kinds ++ kind.in_word ∷ kind.not_word ∷ []; nullable = true; follow_last = rel_sets.follow_last }
+
+abbrev pub expr_from_sets : Sets
+expr_from_sets = record { first = logical_kinds; nullable = true; follow_last = expr_sets.follow_last }

@@ -25,7 +25,7 @@ use Rattle.grammar_readers.specs.Expressions.{comparison_kinds}
 use Rattle.reader_exactness.proofs.Words.{Words}
 use Rattle.reader_exactness.proofs.Lists.{conjuncts_grow, conjuncts_listed}
 use Rattle.reader_exactness.proofs.Bares.{sum_of, name_for, identifier_words, words_identifier, identifier_sum}
-use Rattle.reader_exactness.proofs.Openings.{Opening, simple_sets, rel_kinds, rel_sets, logical_kinds, expr_sets}
+use Rattle.reader_exactness.proofs.Openings.{Opening, simple_sets, rel_sets, rel_from_sets, expr_sets, expr_from_sets}
 use Rattle.reader_exactness.proofs.Sums.{Upper, rule_simple, rule_upper}
 
 module _ (limit depth : ℕ) (within : depth ≤ limit) (inner : Opened) (below : Opening limit depth inner) where
@@ -119,9 +119,6 @@ module _ (limit depth : ℕ) (within : depth ≤ limit) (inner : Opened) (below 
       (Or (Then (Leaf depth kind.in_word) (AfterIn s None))
       (Or (Then (Leaf depth kind.not_word) (λ n. Then (Leaf depth kind.in_word) (AfterIn s (Some n))))
       (Pure (Alone s))))
-
-  abbrev pub rel_from_sets : Sets
-  rel_from_sets = record { first = comparison_kinds ++ kind.in_word ∷ kind.not_word ∷ []; nullable = true; follow_last = rel_sets.follow_last }
 
   pub rule_rel_from : (s : Simple) → Rule limit rel_from_sets (RelFrom s) (reader.rel_from inner s)
   unfolding reader.rel_from
@@ -231,9 +228,6 @@ module _ (limit depth : ℕ) (within : depth ≤ limit) (inner : Opened) (below 
       (Or (Then (Leaf depth kind.or_word) (AfterOr first))
       (Or (Then (Leaf depth kind.xor_word) (JoinedWords logical.Xor first))
       (Pure (Single first))))
-
-  abbrev pub expr_from_sets : Sets
-  expr_from_sets = record { first = logical_kinds; nullable = true; follow_last = expr_sets.follow_last }
 
   pub rule_expr_from : (first : Rel) → Rule limit expr_from_sets (ExprFrom first) (reader.expr_from inner first)
   unfolding reader.expr_from
