@@ -7,3 +7,5 @@ pub mod Relations
 pub mod Associations
 pub mod Positions
 pub mod Insides
+pub mod Iterations
+pub mod Openers
