@@ -247,7 +247,7 @@ module _ (limit depth : ℕ) (within : depth ≤ limit) (inner : Opened) (below 
       is assoc_sets (Words spell.assoc depth) (or (kind.for_word ∷ []) rule_each (seq rule_choice rule_chosen refl).exact refl refl refl)
       (either join_each join_assoc) split_assoc refl
 
-  rule_next_assoc : Rule limit (record { first = kind.comma ∷ []; nullable = false; follow_last = expr_sets.follow_last }) (After kind.comma spell.assoc depth) (reader.next_assoc inner)
+  pub rule_next_assoc : Rule limit (record { first = kind.comma ∷ []; nullable = false; follow_last = expr_sets.follow_last }) (After kind.comma spell.assoc depth) (reader.next_assoc inner)
   unfolding reader.next_assoc
   rule_next_assoc = is _ (After kind.comma spell.assoc depth) (lead (one kind.comma) rule_assoc refl) (λ x w l. l) (λ x w l. l) refl
 

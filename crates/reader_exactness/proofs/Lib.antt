@@ -9,3 +9,4 @@ pub mod Positions
 pub mod Insides
 pub mod Iterations
 pub mod Openers
+pub mod Squares
