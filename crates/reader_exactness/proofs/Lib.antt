@@ -10,3 +10,4 @@ pub mod Insides
 pub mod Iterations
 pub mod Openers
 pub mod Squares
+pub mod Levels
