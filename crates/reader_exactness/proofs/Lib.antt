@@ -11,3 +11,4 @@ pub mod Iterations
 pub mod Openers
 pub mod Squares
 pub mod Levels
+pub mod Formals
