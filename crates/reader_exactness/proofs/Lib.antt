@@ -12,3 +12,4 @@ pub mod Openers
 pub mod Squares
 pub mod Levels
 pub mod Formals
+pub mod Declarations
