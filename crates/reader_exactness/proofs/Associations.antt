@@ -199,7 +199,7 @@ module _ (limit depth : ℕ) (within : depth ≤ limit) (inner : Opened) (below 
       is choice_sets (Words spell.choice depth) (or (kind.others_word ∷ []) rule_others_choice (seq simple rule_choice_from refl).exact refl refl refl)
       (either (form (Words spell.choice depth) (λ b w l. l)) join_choice_from) split_choice refl
 
-  rule_next_choice : Rule limit (record { first = kind.bar ∷ []; nullable = false; follow_last = choice_sets.follow_last }) (After kind.bar spell.choice depth) (reader.next_choice inner)
+  pub rule_next_choice : Rule limit (record { first = kind.bar ∷ []; nullable = false; follow_last = choice_sets.follow_last }) (After kind.bar spell.choice depth) (reader.next_choice inner)
   unfolding reader.next_choice
   rule_next_choice = is _ (After kind.bar spell.choice depth) (lead (one kind.bar) rule_choice refl) (λ x w l. l) (λ x w l. l) refl
 

@@ -13,3 +13,4 @@ pub mod Squares
 pub mod Levels
 pub mod Formals
 pub mod Declarations
+pub mod Bodies
