@@ -1,0 +1,4 @@
+pub mod Closings
+pub mod Items
+pub mod Reading
+pub mod Stacks

@@ -1,0 +1,6 @@
+pub mod Parts
+pub mod Props
+pub mod Rooted
+pub mod Stack
+pub mod Tables
+pub mod Values
