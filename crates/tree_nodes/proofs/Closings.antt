@@ -1,12 +1,12 @@
 -- How a list is closed, item by item.
-use Rattle.std.proofs.Common.{◌≡◌, refl, sym, ◌∙◌, ap, ℕ, zero, suc, ◌<◌, ◌≤◌, ◌+◌, List, [], ◌∷◌, ◌++◌, length, true, arith}
+use Rattle.std.proofs.Common.{◌≡◌, refl, ◌∙◌, ap, ℕ, ◌≤◌, List, [], ◌∷◌, ◌++◌, length, true, arith}
 use Rattle.std.specs.Prelude.{nat_eq}
 use Rattle.std.proofs.lemmas.List.{length-append}
-use Rattle.tree_nodes.specs.Parts.{Part, Items, NoItem, AlsoItem, Open, items_of, opened, open_items, list_number, grown, onto}
+use Rattle.tree_nodes.specs.Parts.{Part, Items, AlsoItem, Open, items_of, opened, open_items, list_number, onto}
 use Rattle.tree_nodes.specs.Tables.{part_at, also_value, cell_value}
 use Rattle.tree_nodes.specs.declared.lists.ListKind.{ListKind}
 use Rattle.tree_nodes.specs.declared.nodes.Node.{Node}
-use Rattle.tree_nodes.proofs.Reading.{part_stable, part_zero}
+use Rattle.tree_nodes.proofs.Reading.{part_stable}
 
 same : (n : ℕ) → nat_eq n n ≡ true
 same n = grind arith

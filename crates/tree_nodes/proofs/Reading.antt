@@ -1,15 +1,14 @@
 -- What the numbers of a table stand for: stable under what is put after, and as the nodes say.
-use Rattle.std.specs.Prelude.{◌≡◌, ℕ, ◌<◌, ◌≤◌, ◌+◌, ◌-◌, List, [], ◌∷◌, ◌++◌, length, take, drop, slice_get, Option, Some, None}
+use Rattle.std.specs.Prelude.{◌≡◌, ℕ, ◌<◌, ◌≤◌, ◌+◌, ◌-◌, List, [], ◌∷◌, ◌++◌, length, take, drop, slice_get, Some, None}
 use Rattle.std.proofs.Common.{zero, suc, refl, ap, subst, sym, ◌∙◌, arith}
 use Rattle.std.proofs.lemmas.List.{length-append, append_assoc, get_or_past, length-take-le}
 use Rattle.std.proofs.lemmas.Option.{slice_get_within}
-use Rattle.std.proofs.Math.ListN.{get_or, get_or-append}
+use Rattle.std.proofs.Math.ListN.{get_or-append}
 use Rattle.std.proofs.Math.Seq.{get_or-append_seam}
 use Rattle.tree_nodes.specs.declared.nodes.Node.{Node}
 use Rattle.tree_nodes.specs.declared.nodes.Node.TheVariants as node
 use Rattle.tree_nodes.specs.Parts.{Part, Nothing}
-use Rattle.tree_nodes.specs.Values.{value_one, value_two, value_three, value_four}
-use Rattle.tree_nodes.specs.Tables.{of_node, among, parts_from, part_at, NodeBelow, OrderedFrom, IsOrdered, also_value, cell_value}
+use Rattle.tree_nodes.specs.Tables.{of_node, among, parts_from, part_at, NodeBelow, OrderedFrom, IsOrdered}
 
 -- the same below a number
 abbrev pub Agree : ℕ → (ℕ → Part) → (ℕ → Part) → Type 0

@@ -1,11 +1,11 @@
 -- How the parts that are being joined change with the table and its roots.
-use Rattle.std.proofs.Common.{◌≡◌, refl, sym, ◌∙◌, ap, subst, ℕ, suc, ◌<◌, ◌≤◌, ◌+◌, List, [], ◌∷◌, ◌++◌, length, arith}
+use Rattle.std.proofs.Common.{◌≡◌, refl, sym, ◌∙◌, ap, subst, ℕ, zero, suc, ◌≤◌, ◌+◌, ◌-◌, get_or, List, [], ◌∷◌, ◌++◌, length, arith}
 use Rattle.std.proofs.lemmas.List.{length-append}
 use Rattle.tree_nodes.specs.declared.nodes.Node.{Node}
-use Rattle.tree_nodes.specs.Parts.{Part, Nothing}
+use Rattle.tree_nodes.specs.Parts.{Part}
 use Rattle.tree_nodes.specs.Tables.{of_node, part_at, NodeBelow, OrderedFrom, IsOrdered}
-use Rattle.tree_nodes.specs.Rooted.{stack, stacked, top, pop, AllBelow, Fit}
-use Rattle.tree_nodes.proofs.Reading.{part_stable, part_last}
+use Rattle.tree_nodes.specs.Rooted.{stack, stacked, top, AllBelow, Fit}
+use Rattle.tree_nodes.proofs.Reading.{part_stable, part_last, part_zero}
 
 stacked-snoc : (at : ℕ → Part) (rs : List ℕ) (r : ℕ) (s : List Part) → stacked at (rs ++ r ∷ []) s ≡ at r ∷ stacked at rs s
 stacked-snoc at [] r s = refl
@@ -75,3 +75,20 @@ add-kept ns n rs f = stacked-more ns n rs [] f.below
 
 pub add-is : (ns : List Node) (n : Node) (k : ℕ) → k ≡ length ns + 1 → (part_at (ns ++ n ∷ []) k ≡ of_node (part_at ns) n) × (k ≤ length (ns ++ n ∷ []))
 add-is ns n k e = (rw e (part_last ns n), omega (arith, e, length-snoc ns n))
+
+-- ---- the latest root
+
+stacked-last : (at : ℕ → Part) (rs : List ℕ) (s : List Part) (n : ℕ) → length rs ≡ suc n → top (stacked at rs s) ≡ at (get_or rs n 0)
+stacked-last at [] s n e = let k : ⊥ = omega (arith, e) in absurd k
+stacked-last at (r ∷ []) s zero e = refl
+stacked-last at (r ∷ []) s (suc n) e = let k : ⊥ = omega (arith, e) in absurd k
+stacked-last at (r ∷ q ∷ rs) s zero e = let k : ⊥ = omega (arith, e) in absurd k
+stacked-last at (r ∷ q ∷ rs) s (suc n) e = stacked-last at (q ∷ rs) (at r ∷ s) n (omega (arith, e))
+
+pub latest-none : (ns : List Node) (rs slice : List ℕ) → slice ≡ rs → length slice ≡ 0 → part_at ns 0 ≡ top (stack ns rs)
+latest-none ns rs [] e z = rw (sym e) (part_zero ns ∙ ap top (sym (stack_none ns)))
+latest-none ns rs (r ∷ slice) e z = let k : ⊥ = omega (arith, z) in absurd k
+
+pub latest-last : (ns : List Node) (rs slice : List ℕ) → slice ≡ rs → (length slice ≡ 0 → ⊥) → part_at ns (get_or slice (length slice - 1) 0) ≡ top (stack ns rs)
+unfolding stack
+latest-last ns rs slice e some = let l : length slice ≡ suc (length slice - 1) = omega (arith, some) in sym (subst (λ z. top (stack ns z) ≡ part_at ns (get_or slice (length slice - 1) 0)) e (stacked-last (part_at ns) slice [] (length slice - 1) l))

@@ -1,5 +1,5 @@
 -- The parts that are being joined, the latest first, and what is known of the table that they stand in.
-use Rattle.std.specs.Prelude.{ℕ, ◌<◌, ◌≤◌, List, [], ◌∷◌, length}
+use Rattle.std.specs.Prelude.{ℕ, ◌≤◌, List, [], ◌∷◌, length}
 use Rattle.tree_nodes.specs.Parts.{Part, Nothing}
 use Rattle.tree_nodes.specs.Tables.{part_at, IsOrdered}
 use Rattle.tree_nodes.specs.declared.nodes.Node.{Node}

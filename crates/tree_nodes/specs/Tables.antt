@@ -1,7 +1,7 @@
 -- What the numbers of a table stand for, from left to right, and that each node's parts stand before it.
-use Rattle.std.specs.Prelude.{ℕ, suc, ◌+◌, ◌<◌, List, [], ◌∷◌, ◌++◌}
+use Rattle.std.specs.Prelude.{ℕ, ◌+◌, ◌<◌, List, [], ◌∷◌, ◌++◌}
 use Rattle.std.proofs.Math.ListN.{get_or}
-use Rattle.tree_nodes.specs.Parts.{Part, Nothing, Open, Closed, Items, NoItem, AlsoItem, items_of, open_items}
+use Rattle.tree_nodes.specs.Parts.{Part, Nothing, Open, Closed, AlsoItem, items_of, open_items}
 use Rattle.tree_nodes.specs.Values.{value_leaf, value_one, value_two, value_three, value_four}
 use Rattle.tree_nodes.specs.declared.lists.ListKind.{ListKind}
 use Rattle.tree_nodes.specs.declared.nodes.Node.{Node}

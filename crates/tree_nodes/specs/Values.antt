@@ -1,5 +1,5 @@
 -- What forms make of their parts.
-use Rattle.std.specs.Prelude.{ℕ, Option, Some, None}
+use Rattle.std.specs.Prelude.{ℕ, Option, Some}
 use Rattle.ada_tree.specs.Syntax as syntax
 use Rattle.tree_nodes.specs.Parts.{Part, OfToken, OfExpr, OfConjunct, OfRel, OfSimple, OfAdding, OfTerm, OfMultiplying, OfFactor, OfPrimary, OfElsif, OfName, OfNamePart, OfArg, OfRange, OfChoice, OfMany, OfAssoc, OfParallel, OfIter, OfValues, OfIds, OfIndic, OfArray, OfComp, OfDefinition, OfDecl, OfFormal, OfFormals, OfPack, OfDeclare, OfScheme, OfHandled, OfStmt, OfStmts, OfArm, OfAlt, OfBody, OfHandler, OfAspect, OfBracketed, OfImplementation, OfSub, OfPolicy, OfClause, OfMain, OfProgram, Values, Bracketed, Implementation, maybe_aspect, maybe_declare, maybe_expr, maybe_formals, maybe_pack, maybe_parallel, maybe_policy, maybe_scheme, maybe_simple, maybe_token, optional_expr, optional_parallel, optional_stmts, the_addings, the_alt, the_alts, the_arg, the_args, the_arms, the_assoc, the_assocs, the_body, the_bracketed, the_branches, the_choice, the_choice_list, the_choices, the_clauses, the_comp, the_comps, the_conjuncts, the_decls, the_definition, the_elsifs, the_expr, the_exprs, the_factor, the_formal, the_formal_list, the_handled, the_handlers, the_ids, the_implementation, the_indic, the_iter, the_main, the_many, the_more_stmts, the_multiplyings, the_name, the_object_type, the_pack, the_packs, the_parts, the_primary, the_range, the_ranges, the_rel, the_simple, the_stmt, the_stmts, the_term, the_tokens, the_units, the_values}
 use Rattle.tree_nodes.specs.declared.nodes.Leaf.{Leaf}

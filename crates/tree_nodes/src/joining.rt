@@ -124,3 +124,15 @@ pub fn leave_out(out: &mut Parts)
 {
     let _root = taken(&out.nodes, &mut out.roots);
 }
+
+/// The latest two parts change places.
+#[tactic(auto, unfolding(crate::specs::Stack::parts))]
+pub fn swap(out: &mut Parts) -> Result<(), Fault>
+    ensures { Joins result (parts out.new) (second (parts out.old) ∷ top (parts out.old) ∷ pop (pop (parts out.old))) }
+{
+    let last = taken(&out.nodes, &mut out.roots);
+    let before = taken(&out.nodes, &mut out.roots);
+    hold(&out.nodes, &mut out.roots, last)?;
+    hold(&out.nodes, &mut out.roots, before)?;
+    Ok(())
+}

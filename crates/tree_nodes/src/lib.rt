@@ -8,12 +8,14 @@
 pub mod joining;
 pub mod listing;
 pub mod lists;
+pub mod naming;
 pub mod nodes;
 pub mod parts;
 pub mod rooting;
 
-pub use joining::{also, begin, four, leaf, leave_out, nothing, one, three, two};
+pub use joining::{also, begin, four, leaf, leave_out, nothing, one, swap, three, two};
 pub use listing::close;
 pub use lists::ListKind;
+pub use naming::{bare, take_name};
 pub use nodes::{Four, Leaf, Node, One, Three, Two};
 pub use parts::Parts;

@@ -22,7 +22,12 @@ struct Closing {
 }
 
 /// Closes the last item.
-fn close_item(nodes: &mut Items<Node>, roots: &Items<u32>, kind: ListKind, here: Closing) -> Result<Option<Closing>, AllocError>
+fn close_item(
+    nodes: &mut Items<Node>,
+    roots: &Items<u32>,
+    kind: ListKind,
+    here: Closing,
+) -> Result<Option<Closing>, AllocError>
     requires fit { Fit nodes.old roots.now }
     requires growing { here.grown ≤ length nodes.old }
     requires closed { here.closed ≤ length nodes.old }
@@ -49,7 +54,12 @@ fn close_item(nodes: &mut Items<Node>, roots: &Items<u32>, kind: ListKind, here:
 
 /// Closes a list.
 #[tactic(auto, using(crate::proofs::Reading::part_zero))]
-fn closed(nodes: &mut Items<Node>, roots: &Items<u32>, kind: ListKind, grown: u32) -> Result<u32, AllocError>
+fn closed(
+    nodes: &mut Items<Node>,
+    roots: &Items<u32>,
+    kind: ListKind,
+    grown: u32,
+) -> Result<u32, AllocError>
     requires fit { Fit nodes.old roots.now }
     requires growing { grown ≤ length nodes.old }
     ensures ok { IfOk result (λ number. (items_of (part_at nodes.new number) ≡ onto (open_items kind (part_at nodes.old grown)) NoItem) × (number ≤ length nodes.new)) }

@@ -1,8 +1,8 @@
 //! The nodes of a syntax tree. A part is given by its number in the table, which counts from 1; 0 is no part: one
 //! that is left out, or the end of a list. What a node holds beside the numbers of its parts is its form.
 
-use ada_tree::{Additive, ClauseWord, Comparison, Logical, Mode, Multiplicative, Sign};
 use crate::lists::ListKind;
+use ada_tree::{Additive, ClauseWord, Comparison, Logical, Mode, Multiplicative, Sign};
 
 /// A form without parts. A token is given by its number in the list of tokens.
 #[derive(Clone, Copy)]
@@ -227,4 +227,11 @@ pub enum Node {
     Also(ListKind, u32, u32),
     /// The first item of a list, and the rest of the list.
     Cell(u32, u32),
+}
+
+/// The first item of a list, and the rest of the list.
+#[derive(Clone, Copy)]
+pub struct Cell {
+    pub first: u32,
+    pub rest: u32,
 }

@@ -1,4 +1,4 @@
-use Rattle.std.proofs.Common.{rules, arith, sym}
+use Rattle.std.proofs.Common.{rules}
 use Rattle.tree_nodes.proofs.Stacks.{stack-snoc, fit-hold}
 use Rattle.tree_nodes.proofs.rooting.hold.Goals as goal
 

@@ -1,4 +1,4 @@
-use Rattle.std.proofs.Common.{◌≡◌, sym, None, Some}
+use Rattle.std.proofs.Common.{sym}
 use Rattle.tree_nodes.proofs.Reading.{read_number, none_number, zero_number}
 use Rattle.tree_nodes.proofs.rooting.node.Goals as goal
 

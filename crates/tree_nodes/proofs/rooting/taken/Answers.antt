@@ -1,4 +1,4 @@
-use Rattle.std.proofs.Common.{rules, arith, sym}
+use Rattle.std.proofs.Common.{rules}
 use Rattle.tree_nodes.proofs.Reading.{part_zero}
 use Rattle.tree_nodes.proofs.Stacks.{stack-snoc, stack_none, fit-less, fit-last}
 use Rattle.tree_nodes.proofs.rooting.taken.Goals as goal
