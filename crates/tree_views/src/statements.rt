@@ -1,6 +1,15 @@
 //! Statements (5.1) and bodies with handlers (11.2). A part is given by the number of its node, and a list by that of its
 //! first cell, or 0.
 
+ghost use Rattle.std.specs.Prelude.{◌≡◌};
+ghost use Rattle.tree_nodes.specs.Parts.{the_alt, the_arm, the_body, the_declare, the_handled, the_handler, the_pack, the_scheme, the_stmt, the_stmts};
+ghost use Rattle.tree_nodes.specs.Tables.{part_at};
+ghost use Rattle.tree_views.specs.Below.{AltBelow, ArmBelow, BodyBelow, DeclareBelow, HandledBelow, HandlerBelow, PackBelow, SchemeBelow, StmtBelow, StmtsBelow};
+ghost use Rattle.tree_views.specs.Views.{of_alt, of_arm, of_body, of_declare, of_handled, of_handler, of_pack, of_scheme, of_stmt, of_stmts};
+
+use crate::tree::Tree;
+use tree_nodes::{Four, Leaf, Node, One, Three, Two};
+
 /// `pack = id {"." id}`: the first token, and the list of the others (4.1.3).
 #[derive(Clone, Copy)]
 pub struct Pack {
@@ -145,4 +154,206 @@ pub struct Handler {
     pub at: u32,
     pub handled: u32,
     pub stmts: u32,
+}
+
+impl Tree {
+    /// The expanded name of a number.
+    #[tactic(auto, using(tree_nodes::proofs::Reading::part_zero))]
+    pub fn pack(&self, number: u32) -> Pack
+        ensures is { the_pack (part_at self.now.nodes number) ≡ of_pack (part_at self.now.nodes) result }
+        ensures below { PackBelow number result }
+    {
+        match self.node(number) {
+            Node::One(One::Pack(first), more) => Pack { first, more },
+            _ => Pack { first: 0, more: 0 },
+        }
+    }
+
+    /// The declarative part of a number.
+    #[tactic(auto, using(tree_nodes::proofs::Reading::part_zero))]
+    pub fn declare(&self, number: u32) -> Declare
+        ensures is { the_declare (part_at self.now.nodes number) ≡ of_declare (part_at self.now.nodes) result }
+        ensures below { DeclareBelow number result }
+    {
+        match self.node(number) {
+            Node::One(One::Declare(at), decls) => Declare { at, decls },
+            _ => Declare { at: 0, decls: 0 },
+        }
+    }
+
+    /// The iteration scheme of a number.
+    pub fn scheme(&self, number: u32) -> Scheme
+        ensures is { the_scheme (part_at self.now.nodes number) ≡ of_scheme (part_at self.now.nodes) result }
+        ensures below { SchemeBelow number result }
+    {
+        match self.node(number) {
+            Node::One(One::While(at), condition) => Scheme::While { at, condition },
+            Node::Two(Two::For(at), parallel, iter) => Scheme::For {
+                parallel: self.maybe_parallel(parallel),
+                at,
+                iter,
+            },
+            _ => Scheme::While {
+                at: 0,
+                condition: number,
+            },
+        }
+    }
+
+    /// The choice of exceptions of a number.
+    pub fn handled(&self, number: u32) -> Handled
+        ensures is { the_handled (part_at self.now.nodes number) ≡ of_handled (part_at self.now.nodes) result }
+        ensures below { HandledBelow number result }
+    {
+        match self.node(number) {
+            Node::Leaf(Leaf::AnyOther(at)) => Handled::AnyOther(at),
+            Node::Two(Two::These, first, more) => Handled::These { first, more },
+            _ => Handled::AnyOther(0),
+        }
+    }
+
+    /// The sequence of statements of a number.
+    #[tactic(auto, using(tree_nodes::proofs::Reading::part_zero))]
+    pub fn stmts(&self, number: u32) -> Stmts
+        ensures is { the_stmts (part_at self.now.nodes number) ≡ of_stmts (part_at self.now.nodes) result }
+        ensures below { StmtsBelow number result }
+    {
+        match self.node(number) {
+            Node::Two(Two::Stmts, first, more) => Stmts { first, more },
+            _ => Stmts {
+                first: number,
+                more: 0,
+            },
+        }
+    }
+
+    /// The statement of a number.
+    pub fn stmt(&self, number: u32) -> Stmt
+        ensures is { the_stmt (part_at self.now.nodes number) ≡ of_stmt (part_at self.now.nodes) result }
+        ensures below { StmtBelow number result }
+    {
+        match self.node(number) {
+            Node::Leaf(Leaf::Null(at)) => Stmt::Null(at),
+            Node::Two(Two::Assign, target, value) => Stmt::Assign { target, value },
+            Node::One(One::CallStmt, name) => Stmt::CallStmt(name),
+            Node::One(One::Exit(at, from), condition) => Stmt::Exit {
+                at,
+                from,
+                condition: self.present(condition),
+            },
+            Node::One(One::Return(at), value) => Stmt::Return {
+                at,
+                value: self.present(value),
+            },
+            Node::One(One::Raise(at), exception) => Stmt::Raise {
+                at,
+                exception: self.maybe_pack(exception),
+            },
+            Node::Four(Four::IfStmt(at), condition, stmts, more, otherwise) => Stmt::IfStmt {
+                at,
+                condition,
+                stmts,
+                more,
+                otherwise: self.maybe_stmts(otherwise),
+            },
+            Node::Three(Three::Case(at), value, first, more) => Stmt::Case {
+                at,
+                value,
+                first,
+                more,
+            },
+            Node::Four(Four::Loop(at, last), label, scheme, stmts, last_name) => Stmt::Loop {
+                label: self.maybe_token(label),
+                scheme: self.maybe_scheme(scheme),
+                at,
+                stmts,
+                last,
+                last_name: self.maybe_token(last_name),
+            },
+            Node::Two(Two::Block(at), declare, body) => Stmt::Block {
+                declare: self.maybe_declare(declare),
+                at,
+                body,
+            },
+            Node::Four(Four::ParallelBlock(at), count, first, second, more) => Stmt::ParallelBlock {
+                at,
+                count: self.present(count),
+                first,
+                second,
+                more,
+            },
+            _ => Stmt::Null(0),
+        }
+    }
+
+    /// The elsif part of an if statement of a number.
+    pub fn arm(&self, number: u32) -> Arm
+        ensures is { the_arm (part_at self.now.nodes number) ≡ of_arm (part_at self.now.nodes) result }
+        ensures below { ArmBelow number result }
+    {
+        match self.node(number) {
+            Node::Two(Two::Arm(at), condition, stmts) => Arm {
+                at,
+                condition,
+                stmts,
+            },
+            _ => Arm {
+                at: 0,
+                condition: number,
+                stmts: number,
+            },
+        }
+    }
+
+    /// The alternative of a case statement of a number.
+    #[tactic(auto, using(tree_nodes::proofs::Reading::part_zero))]
+    pub fn alt(&self, number: u32) -> Alt
+        ensures is { the_alt (part_at self.now.nodes number) ≡ of_alt (part_at self.now.nodes) result }
+        ensures below { AltBelow number result }
+    {
+        match self.node(number) {
+            Node::Three(Three::Alt(at), first, more, stmts) => Alt {
+                at,
+                first,
+                more,
+                stmts,
+            },
+            _ => Alt {
+                at: 0,
+                first: number,
+                more: 0,
+                stmts: number,
+            },
+        }
+    }
+
+    /// The body of a number.
+    #[tactic(auto, using(tree_nodes::proofs::Reading::part_zero))]
+    pub fn body(&self, number: u32) -> Body
+        ensures is { the_body (part_at self.now.nodes number) ≡ of_body (part_at self.now.nodes) result }
+        ensures below { BodyBelow number result }
+    {
+        match self.node(number) {
+            Node::Two(Two::Body, stmts, handlers) => Body { stmts, handlers },
+            _ => Body {
+                stmts: number,
+                handlers: 0,
+            },
+        }
+    }
+
+    /// The handler of a number.
+    pub fn handler(&self, number: u32) -> Handler
+        ensures is { the_handler (part_at self.now.nodes number) ≡ of_handler (part_at self.now.nodes) result }
+        ensures below { HandlerBelow number result }
+    {
+        match self.node(number) {
+            Node::Two(Two::Handler(at), handled, stmts) => Handler { at, handled, stmts },
+            _ => Handler {
+                at: 0,
+                handled: number,
+                stmts: number,
+            },
+        }
+    }
 }
