@@ -4,8 +4,6 @@ use Rattle.std.proofs.lemmas.List.{append-nil}
 use Rattle.ada_port.specs.Ports.{Stream, Adds, AddsPrefix, Grows, GrowsByPrefix, Breaks, Rose, IsTold, bytes_of, bytes_told}
 use Rattle.ada_port.proofs.Faults.{Rose-after_same}
 
--- ---- contents alone
-
 pub Adds-none : (a : Option (List ℕ)) → Adds a a []
 Adds-none a held e = e ∙ ap Some (sym (append-nil held))
 
@@ -26,8 +24,6 @@ AddsPrefix-append a b c p q g h held e =
 pub AddsPrefix-longer : (a b : Option (List ℕ)) (p q : List ℕ) → AddsPrefix a b p → AddsPrefix a b (p ++ q)
 AddsPrefix-longer a b p q g held e =
     let k = g held e in (k.0, k.1 ++ q, ap (λ x. x ++ q) k.2 ∙ append_assoc k.0 k.1 q, k.3)
-
--- ---- whole sinks
 
 pub Grows-none : {a : Stream} → Grows a a []
 Grows-none {a} = record { told = Adds-none a.told; faults = refl }

@@ -4,8 +4,6 @@ use Rattle.ada_port.specs.declared.ports.Failed.{Failed}
 use Rattle.ada_port.specs.declared.ports.ShelfFault.{ShelfFault}
 use Rattle.ada_port.specs.declared.ports.ShelfFault.TheVariants as fault
 
--- ---- devices
-
 -- what is told of a device's contents, and how often it has failed, up to the greatest u64
 pub record Device (T : Type 0) : Type 0 where
   pub told : T
@@ -30,14 +28,10 @@ bytes_told (Some bytes) = bytes
 abbrev pub bytes_of : Stream → List ℕ
 bytes_of s = bytes_told s.told
 
--- ---- counts of faults
-
 -- the count of faults rose: it is greater than before, or stands at the greatest u64
 pub record Rose {T : Type 0} (old new : Device T) : Type 0 where
   pub later : old.faults ≤ new.faults
   pub higher : min (old.faults + 1) (2 ^ 64 - 1) ≤ new.faults
-
--- ---- shelves
 
 -- what a shelf gives of a text: all of it, or the first 1,048,577 bytes, one more than a text may have
 abbrev pub fetched : List ℕ → List ℕ
@@ -64,8 +58,6 @@ Fetches old new name (Ok text) = GivesText old new name text.items
 Fetches old new name (Err fault.Failed) = FailsText old new
 Fetches old new name (Err fault.OutOfMemory) = LacksRoom old new
 
--- ---- sources
-
 -- the bytes left have lost these in front, where they are told
 abbrev pub Loses : Option (List ℕ) → Option (List ℕ) → List ℕ → Type 0
 Loses old new bytes = (left : List ℕ) → old ≡ Some left → (rest : List ℕ) × (left ≡ bytes ++ rest) × (new ≡ Some rest)
@@ -90,8 +82,6 @@ abbrev pub Takes : Stream → Stream → Result (Option ℕ) Failed → Type 0
 Takes old new (Ok (Some byte)) = Gives old new (byte ∷ [])
 Takes old new (Ok None) = GivesAll old new []
 Takes old new (Err _) = GivesUntil old new []
-
--- ---- sinks
 
 -- the bytes held have these behind them, where they are told
 abbrev pub Adds : Option (List ℕ) → Option (List ℕ) → List ℕ → Type 0

@@ -5,8 +5,6 @@ use Rattle.ada_port.specs.Ports.{Stream}
 use Rattle.ada_port.specs.declared.ports.Failed.{Failed}
 use Rattle.ada_port.specs.declared.sinks.SinkFail.{SinkFail}
 
--- ---- room that was reserved
-
 -- the bytes that a sink holds and those it has room for, its failing calls, and how many calls were made and failed so far
 pub record SinkState : Type 0 where
   pub held : List ℕ
@@ -45,8 +43,6 @@ abbrev pub after_put : {T : Type 0} → SinkState → List ℕ → Result T Fail
 after_put s piece (Ok _) = record s { held = s.held ++ appended_part s piece; calls = next_count s.calls }
 after_put s piece (Err _) = record s { held = s.held ++ appended_part s piece; calls = next_count s.calls; faults = next_count s.faults }
 
--- ---- room that grows
-
 -- the bytes that a sink holds, and how many puts failed so far
 pub record HeldState : Type 0 where
   pub held : List ℕ
@@ -59,8 +55,6 @@ grown_of s = record { told = Some s.held; faults = s.faults }
 abbrev pub after_growth : {T : Type 0} → HeldState → List ℕ → Result T Failed → HeldState
 after_growth s piece (Ok _) = record s { held = s.held ++ piece }
 after_growth s piece (Err _) = record s { faults = next_count s.faults }
-
--- ---- a count alone
 
 -- a sink that never fails and tells nothing
 abbrev pub sure_count : Stream

@@ -29,7 +29,7 @@ pub struct StreamSource<R: Read + Drop> {
 }
 
 impl<R: Read + Drop> Model for StreamSource<R> {
-    ghost use Rattle.std.specs.Prelude.{◌≤◌, slice_range};
+    ghost use Rattle.std.specs.Prelude.{◌≤◌, length, slice_range};
     ghost use Rattle.std.specs.Io.KnownBytes.{prepend_known};
     ghost use Rattle.ada_port.specs.Ports.{Stream};
 
@@ -40,7 +40,7 @@ impl<R: Read + Drop> Model for StreamSource<R> {
       faults = s.failed;
     } };
 
-    ghost invariant = { λ s. (s.start ≤ s.end) × (s.end ≤ 4096) };
+    ghost invariant = { λ s. (s.start ≤ s.end) × (s.end ≤ length s.buffer) };
 }
 
 impl<R: Read + Drop> StreamSource<R> {

@@ -5,7 +5,7 @@ use Rattle.std.proofs.lemmas.Nat.{le-div}
 use Rattle.std.proofs.lemmas.List.Sums.{sum_by-cons}
 use Rattle.std.proofs.lemmas.List.Elements.{All-nil, All-cons, All-head, All-tail}
 use Rattle.ada_base.specs.Cuts.{rest_of, chunked, listed, shares, evens, cuts_of}
-use Rattle.chunk_plan.specs.Plans.{HasNumbers, IsCut, plan_of}
+use Rattle.chunk_plan.specs.Plans.{HasNoZero, IsCut, plan_of}
 use Rattle.chunk_plan.specs.declared.plan.Plan.{Plan}
 use Rattle.chunk_plan.specs.declared.plan.Plan.TheVariants as plan
 use Rattle.chunk_plan.proofs.Evens.{length-evens, evens-whole, shares-filled}
@@ -60,7 +60,7 @@ evenly-sound zero k most some h =
 evenly-sound (suc n) k most some h =
     evens-sound (suc n) (min k (min (suc n) (max 1 most))) most (omega arith) (omega arith) (omega arith)
 
-pub cuts-sound : (p : Plan) (n most : ℕ) → HasNumbers p → 1 ≤ most → IsCut (cuts_of (plan_of p) most n) n most
+pub cuts-sound : (p : Plan) (n most : ℕ) → HasNoZero p → 1 ≤ most → IsCut (cuts_of (plan_of p) most n) n most
 unfolding positive
 cuts-sound plan.One n most some h = rest-sound n most h
 cuts-sound (plan.Even chunks) n most some h = evenly-sound n chunks most some h

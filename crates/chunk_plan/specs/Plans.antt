@@ -11,11 +11,11 @@ plan_of (plan.Sized size) = cuts.Chunked size
 plan_of (plan.Listed sizes) = cuts.Listed sizes
 
 -- each number in a plan is at least 1
-abbrev pub HasNumbers : Plan → Type 0
-HasNumbers plan.One = Unit {0}
-HasNumbers (plan.Even chunks) = 0 < chunks
-HasNumbers (plan.Sized size) = 0 < size
-HasNumbers (plan.Listed sizes) = All (λ size. 0 < size) sizes
+abbrev pub HasNoZero : Plan → Type 0
+HasNoZero plan.One = Unit {0}
+HasNoZero (plan.Even chunks) = 0 < chunks
+HasNoZero (plan.Sized size) = 0 < size
+HasNoZero (plan.Listed sizes) = All (λ size. 0 < size) sizes
 
 -- so many iterations in no more than so many chunks, none of which is empty
 pub record IsCut (sizes : List ℕ) (n most : ℕ) : Type 0 where

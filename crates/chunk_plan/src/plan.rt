@@ -1,3 +1,6 @@
+ghost use Rattle.std.specs.Prelude.{◌↔◌, IsTrue};
+ghost use Rattle.chunk_plan.specs.Plans.{HasNoZero};
+
 use ada_base::Items;
 
 /// How a run divides the iterations of those constructs for which the text leaves it open. Each number
@@ -12,6 +15,20 @@ pub enum Plan {
     Sized(u32),
     /// Chunks of these sizes in order, and one more for what is left.
     Listed(Items<u32>),
+}
+
+impl Plan {
+    /// Whether each number in the plan is at least 1.
+    pub fn has_no_zero(&self) -> bool
+        ensures { IsTrue result ↔ HasNoZero self.now }
+    {
+        match self {
+            Plan::One => true,
+            Plan::Even(chunks) => *chunks > 0,
+            Plan::Sized(size) => *size > 0,
+            Plan::Listed(sizes) => sizes.as_slice().iter().all(|size| *size > 0),
+        }
+    }
 }
 
 /// What a run is told beside its program.

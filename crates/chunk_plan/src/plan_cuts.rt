@@ -1,6 +1,6 @@
 ghost use Rattle.std.specs.Prelude.{◌≡◌, ◌<◌, ◌≤◌, ◌++◌, min, IfOk};
 ghost use Rattle.ada_base.specs.Cuts.{chunked, cuts_of, evens, listed, rest_of};
-ghost use Rattle.chunk_plan.specs.Plans.{IsCut, HasNumbers, plan_of};
+ghost use Rattle.chunk_plan.specs.Plans.{IsCut, HasNoZero, plan_of};
 
 use crate::even_division::even;
 use crate::plan::{Cuts, Plan};
@@ -13,7 +13,7 @@ use std::alloc::{AllocError, Global};
 /// remains. It takes time and memory for each chunk and not for each iteration; an Err is want of memory.
 pub fn cuts(alloc: Global, plan: &Plan, n: u64, most: u32) -> Result<Cuts, AllocError>
     requires some { 1 ≤ most }
-    requires numbers { HasNumbers plan.now }
+    requires no_zero { HasNoZero plan.now }
     ensures is { IfOk result (λ cuts. cuts.sizes ≡ cuts_of (plan_of plan.now) most n) }
     ensures sound { IfOk result (λ cuts. IsCut cuts.sizes n most) }
 {

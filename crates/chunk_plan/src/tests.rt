@@ -6,54 +6,94 @@ use std::test::Fail;
 const GREATEST: u64 = 1 << 62;
 
 fn listed(alloc: Global, sizes: &[u32]) -> Result<Plan, AllocError> {
-    let sizes = Vec::from_slice(alloc, sizes)?;
-    Ok(Plan::Listed(Items::from_vec(sizes)))
+    Ok(Plan::Listed(Items::from_vec(Vec::from_slice(alloc, sizes)?)))
+}
+
+// The sizes of the chunks, none where the plan can't be used.
+fn sizes_of(alloc: Global, plan: &Plan, n: u64, most: u32) -> Result<Items<u64>, AllocError> {
+    if most == 0 || !plan.has_no_zero() {
+        return Ok(Items::new(alloc));
+    }
+    let cuts = cuts(alloc, plan, n, most)?;
+    Ok(cuts.sizes)
 }
 
 #[test]
-fn plans_divide_as_they_say(rt: HostRuntime) -> Result<(), Fail> {
+fn plans_of_a_number_divide_as_they_say(rt: HostRuntime) -> Result<(), Fail> {
     let alloc = rt.alloc();
-    let cases = [
-        (Plan::Sized(3), 10, 4, [3, 3, 3, 1].as_slice()),
-        (Plan::Sized(3), 10, 2, [3, 7].as_slice()),
-        (Plan::Sized(3), 9, 4096, [3, 3, 3].as_slice()),
-        (Plan::Even(3), 10, 4096, [4, 3, 3].as_slice()),
-        (Plan::Even(8), 3, 4096, [1, 1, 1].as_slice()),
-        (Plan::Even(8), 10, 2, [5, 5].as_slice()),
-        (listed(alloc, &[1, 2])?, 10, 4096, [1, 2, 7].as_slice()),
-        (listed(alloc, &[5, 9])?, 10, 4096, [5, 5].as_slice()),
-        (listed(alloc, &[4, 6, 1])?, 10, 4096, [4, 6].as_slice()),
-        (listed(alloc, &[1, 1, 1])?, 10, 2, [1, 9].as_slice()),
-        (Plan::One, 10, 4096, [10].as_slice()),
-        (Plan::One, 0, 1, [].as_slice()),
-        (Plan::Even(8), 0, 1, [].as_slice()),
-        (Plan::Sized(1), 0, 1, [].as_slice()),
-        (listed(alloc, &[1])?, 0, 1, [].as_slice()),
+    let sized = [
+        (3, 10, 4, [3, 3, 3, 1].as_slice()),
+        (3, 10, 2, &[3, 7]),
+        (3, 9, 4096, &[3, 3, 3]),
+        (1, 0, 1, &[]),
+        (
+            u32::MAX,
+            GREATEST,
+            2,
+            &[4_294_967_295, 4_611_686_014_132_420_609],
+        ),
     ];
-    for (plan, n, most, want) in cases {
-        let sizes = cuts(alloc, &plan, n, most)?.sizes;
-        assert_eq!(rt; *sizes.as_slice(), *want, "{n} in {most}");
+    for (size, n, most, want) in sized {
+        let sizes = sizes_of(alloc, &Plan::Sized(size), n, most)?;
+        assert_eq!(rt; *sizes.as_slice(), *want, "sized {size}: {n}, {most}");
+    }
+    let evenly = [
+        (3, 10, 4096, [4, 3, 3].as_slice()),
+        (8, 3, 4096, &[1, 1, 1]),
+        (8, 10, 2, &[5, 5]),
+        (8, 0, 1, &[]),
+        (u32::MAX, GREATEST, 2, &[1 << 61, 1 << 61]),
+    ];
+    for (chunks, n, most, want) in evenly {
+        let sizes = sizes_of(alloc, &Plan::Even(chunks), n, most)?;
+        assert_eq!(rt; *sizes.as_slice(), *want, "even {chunks}: {n}, {most}");
     }
     Ok(())
 }
 
 #[test]
-fn plans_divide_as_many_iterations_as_there_may_be(rt: HostRuntime) -> Result<(), Fail> {
+fn other_plans_divide_as_they_say(rt: HostRuntime) -> Result<(), Fail> {
     let alloc = rt.alloc();
-    let third = 1_537_228_672_809_129_301;
-    let cases = [
-        (Plan::One, 4096, 1, GREATEST),
-        (Plan::Even(3), 4096, 3, third),
-        (Plan::Even(u32::MAX), 4096, 4096, 1 << 50),
-        (Plan::Sized(1), 4096, 4096, 4_611_686_018_427_383_809),
-        (Plan::Sized(u32::MAX), 3, 3, 4_611_686_009_837_453_314),
-        (listed(alloc, &[7])?, 4096, 2, 4_611_686_018_427_387_897),
+    let lists = [
+        ([1, 2].as_slice(), 10, 4096, [1, 2, 7].as_slice()),
+        (&[5, 9], 10, 4096, &[5, 5]),
+        (&[4, 6, 1], 10, 4096, &[4, 6]),
+        (&[1, 1, 1], 10, 2, &[1, 9]),
+        (&[1], 0, 1, &[]),
+        (&[7], GREATEST, 4096, &[7, 4_611_686_018_427_387_897]),
     ];
-    for (plan, most, count, last) in cases {
-        let sizes = cuts(alloc, &plan, GREATEST, most)?.sizes;
-        assert_eq!(rt; sizes.len(), count, "chunks");
-        assert_eq!(rt; sizes.as_slice().last().copied(), Some(last), "in {count}");
+    for (given, n, most, want) in lists {
+        let plan = listed(alloc, given)?;
+        let sizes = sizes_of(alloc, &plan, n, most)?;
+        assert_eq!(rt; *sizes.as_slice(), *want, "listed: {n}, {most}");
     }
+    for (n, want) in [(10, [10].as_slice()), (0, &[]), (GREATEST, &[GREATEST])] {
+        let sizes = sizes_of(alloc, &Plan::One, n, 4096)?;
+        assert_eq!(rt; *sizes.as_slice(), *want, "one: {n}");
+    }
+    Ok(())
+}
+
+#[test]
+fn long_work_has_as_many_chunks_as_there_may_be(rt: HostRuntime) -> Result<(), Fail> {
+    let alloc = rt.alloc();
+    for (size, last) in [
+        (1, 4_611_686_018_427_383_809),
+        (u32::MAX, 4_611_668_430_536_314_879),
+    ] {
+        let sizes = sizes_of(alloc, &Plan::Sized(size), GREATEST, 4096)?;
+        assert_eq!(rt; sizes.len(), 4096, "sized {size}");
+        assert_eq!(rt; sizes.get(4095).copied(), Some(last), "sized {size}");
+    }
+    Ok(())
+}
+
+#[test]
+fn plans_with_a_zero_are_told(rt: HostRuntime) -> Result<(), Fail> {
+    let alloc = rt.alloc();
+    assert!(rt; !Plan::Even(0).has_no_zero());
+    assert!(rt; !Plan::Sized(0).has_no_zero());
+    assert!(rt; !listed(alloc, &[1, 0, 2])?.has_no_zero());
     Ok(())
 }
 
@@ -78,6 +118,7 @@ fn even_parts_meet(rt: HostRuntime) {
         ),
     ];
     for (n, k, i, first, len) in cases {
+        assert!(rt; i < k);
         let range = even(n, k, i);
         assert_eq!(rt; (range.first, range.len), (first, len), "{i} of {k}");
     }

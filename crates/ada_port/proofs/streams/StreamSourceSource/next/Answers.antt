@@ -5,7 +5,7 @@ use Rattle.ada_port.proofs.streams.StreamSourceSource.next.Goals as goal
 pub returns-then-self : goal.returns-then-self
 returns-then-self g c =
     rw (← c.self.view_is) (record {
-      told = Loses-buffered (g.R.Read.remaining c.self.inside.from) c.self.inside.buffer c.self.inside.start c.self.inside.end c.if-self.true (omega (arith, c.self.told));
+      told = Loses-buffered (g.R.Read.remaining c.self.inside.from) c.self.inside.buffer c.self.inside.start c.self.inside.end c.if-self.true c.self.invariant.1;
       faults = refl;
     })
 
