@@ -1,6 +1,5 @@
 -- What a source has left shrinks by one byte after another.
-use Rattle.std.proofs.Common.{◌≡◌, ℕ, List, [], ◌∷◌, ◌++◌, append_assoc, Option, Some, None, IsSome, refl, sym, ap, ◌∙◌}
-use Rattle.std.proofs.lemmas.List.{append-nil}
+use Rattle.std.proofs.Common.{◌≡◌, ℕ, List, [], ◌++◌, append_assoc, Option, Some, None, IsSome, refl, sym, ap, ◌∙◌}
 use Rattle.ada_port.specs.Ports.{Stream, Loses, Gives, GivesAll, GivesUntil, IsTold, bytes_of, bytes_told}
 use Rattle.ada_port.proofs.Faults.{Rose-after_same}
 

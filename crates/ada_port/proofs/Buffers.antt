@@ -1,5 +1,5 @@
 -- Bytes that were read before they are asked for.
-use Rattle.std.proofs.Common.{◌≡◌, ℕ, suc, ◌+◌, ◌-◌, ◌<◌, ◌≤◌, List, [], ◌∷◌, ◌++◌, length, get_or, take, drop, Option, Some, None, refl, sym, ap, ◌∙◌, arith, add-one, drop-cons}
+use Rattle.std.proofs.Common.{◌≡◌, ℕ, suc, ◌+◌, ◌-◌, ◌<◌, ◌≤◌, List, [], ◌∷◌, ◌++◌, length, get_or, take, drop, Option, Some, None, refl, ◌∙◌, arith, add-one, drop-cons}
 use Rattle.std.specs.List.{slice_range}
 use Rattle.std.specs.Io.KnownBytes.{Consumes, prepend_known}
 use Rattle.ada_port.specs.Ports.{Loses}

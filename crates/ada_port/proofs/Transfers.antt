@@ -3,7 +3,7 @@ use Rattle.std.proofs.Common.{◌≡◌, ℕ, ◌≤◌, ◌<◌, ◌-◌, List,
 use Rattle.std.proofs.lemmas.List.{append-nil, take-append-le, take_all}
 use Rattle.std.specs.Io.KnownBytes.{Appends, Keeps, Consumes, IsAtEnd, ReadConsumes}
 use Rattle.ada_port.specs.Ports.{Adds, AddsPrefix, fetched}
-use Rattle.ada_port.proofs.Growth.{Adds-append, Adds-none, AddsPrefix-from_Adds}
+use Rattle.ada_port.proofs.Growth.{Adds-append, Adds-none}
 
 pub Adds-from_Appends : (old new : Option (List ℕ)) (bytes : List ℕ) → Appends old new bytes → Adds old new bytes
 Adds-from_Appends None new bytes a held e = cc

@@ -1,5 +1,5 @@
 -- Sources in memory.
-use Rattle.std.specs.Prelude.{ℕ, Bool, List, [], ◌∷◌, Option, Some, None, Result, Ok, Err, ◌==◌}
+use Rattle.std.specs.Prelude.{ℕ, Bool, List, [], ◌∷◌, Some, Result, Ok, Err, ◌==◌}
 use Rattle.std.specs.List.{list_any}
 use Rattle.ada_port.specs.Counts.{next_count}
 use Rattle.ada_port.specs.Ports.{Stream}

@@ -1,10 +1,10 @@
 -- What each division into chunks keeps: all iterations, no empty chunk, no more chunks than there may be.
-use Rattle.std.proofs.Common.{◌≡◌, ℕ, zero, suc, ◌+◌, ◌-◌, ◌*◌, ◌/◌, ◌%◌, ◌<◌, ◌≤◌, min, max, nat_le, List, [], ◌∷◌, length, sum, All, Bool, true, false, cond, refl, ap, ◌∙◌, arith}
+use Rattle.std.proofs.Common.{◌≡◌, ℕ, zero, suc, ◌+◌, ◌-◌, ◌/◌, ◌%◌, ◌<◌, ◌≤◌, min, max, nat_le, List, [], ◌∷◌, All, Bool, true, false, cond, refl, ap, ◌∙◌, arith}
 use Rattle.std.proofs.lemmas.Bool.{leb-false}
 use Rattle.std.proofs.lemmas.Nat.{le-div}
 use Rattle.std.proofs.lemmas.List.Sums.{sum_by-cons}
 use Rattle.std.proofs.lemmas.List.Elements.{All-nil, All-cons, All-head, All-tail}
-use Rattle.ada_base.specs.Cuts.{rest_of, chunked, listed, shares, evens, cuts_of}
+use Rattle.ada_base.specs.Cuts.{rest_of, chunked, listed, evens, cuts_of}
 use Rattle.chunk_plan.specs.Plans.{HasNoZero, IsCut, plan_of}
 use Rattle.chunk_plan.specs.declared.plan.Plan.{Plan}
 use Rattle.chunk_plan.specs.declared.plan.Plan.TheVariants as plan
