@@ -1,4 +1,0 @@
-pub mod Answer
-pub mod Causes
-pub mod Due
-pub mod Words

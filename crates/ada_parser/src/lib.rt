@@ -1,0 +1,6 @@
+//! Stand-in.
+#![tactic(auto)]
+
+pub mod parser;
+
+pub use parser::Parser;
