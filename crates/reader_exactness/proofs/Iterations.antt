@@ -8,7 +8,7 @@ use Rattle.reader_laws.specs.Exact.{Rule}
 use Rattle.reader_laws.proofs.Rules.{read, give, seq, or, to, is}
 use Rattle.reader_laws.proofs.Forms.{from, without_after, either, form, keep, skip}
 use Rattle.ada_tree.specs.Kinds as kind
-use Rattle.ada_tree.specs.Syntax.{Name, Range, OptionalExpr, AbsentExpr, PresentExpr, Parallel, Unchunked, Counted, Chunked, Iter, InRange, OfName}
+use Rattle.ada_tree.specs.Syntax.{Expr, Name, Range, OptionalExpr, AbsentExpr, PresentExpr, Parallel, Unchunked, Counted, Chunked, Iter, InRange, OfName}
 use Rattle.ada_tree.specs.Patterns.{held, optional_of}
 use Rattle.ada_tree.specs.Productions as spell
 use Rattle.grammar_readers.specs.Opened.{Opened}
@@ -48,6 +48,15 @@ module _ (limit depth : ℕ) (within : depth ≤ limit) (inner : Opened) (below 
   rule_filter =
       is filter_sets (Words spell.filter depth) (or (kind.when_word ∷ []) (skip (one kind.when_word) (to PresentExpr (rule_expr limit depth within inner below)) refl) (give AbsentExpr).exact refl refl refl)
       (either (form (Words spell.filter depth) (λ e w l. l)) (λ x w (eq, none). from (Words spell.filter depth) eq none)) split_filter refl
+
+  -- the words of a filter
+  pub absent_words : (w : Word) → w ≡ [] → Words spell.filter depth AbsentExpr w
+  unfolding spell.expr
+  absent_words w none = none
+
+  pub present_words : (e : Expr) (w : Word) → (Quoted depth kind.when_word ⋅ Words spell.expr depth e) w → Words spell.filter depth (PresentExpr e) w
+  unfolding spell.expr
+  present_words e w l = l
 
   rule_reversed : Rule limit (record { first = kind.reverse_word ∷ []; nullable = true; follow_last = kind.reverse_word ∷ [] }) (Words (optional_of (held kind.reverse_word)) depth) reader.reversed
   unfolding reader.reversed
@@ -100,12 +109,16 @@ module _ (limit depth : ℕ) (within : depth ≤ limit) (inner : Opened) (below 
   with_chunk at (Chunked n index r) w (u, v, e, i, (is, l)) = (u, v, e, from (Leaf depth kind.parallel_word) is i, l)
   with_chunk at (Unchunked n) w (u, v, e, i, l) = absurd l
 
+  pub unchunked_words : (at : ℕ) (w : Word) → Leaf depth kind.parallel_word at w → Words spell.parallel depth (Unchunked at) w
+  unfolding spell.expr
+  unchunked_words at w i = i
+
   join_parallel : (x : Parallel) (w : Word) → ParallelCases x w → Words spell.parallel depth x w
   unfolding spell.expr
   join_parallel x w (at, u, v, e, i, inl l) = with_chunk at x w (u, v, e, i, l)
   join_parallel x w (at, u, v, e, i, inr (eq, none)) = from (Words spell.parallel depth) eq (without_after {L = Leaf depth kind.parallel_word at} (u, v, e, i, none))
 
-  split_parallel : (x : Parallel) (w : Word) → Words spell.parallel depth x w → ParallelCases x w
+  pub split_parallel : (x : Parallel) (w : Word) → Words spell.parallel depth x w → ParallelCases x w
   unfolding spell.expr
   split_parallel (Unchunked n) w i = (n, w, [], sym (append-nil w), i, inr (refl, refl))
   split_parallel (Counted n count) w (u, v, e, i, l) = (n, u, v, e, i, inl (refl, l))

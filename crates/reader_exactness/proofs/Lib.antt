@@ -14,3 +14,4 @@ pub mod Levels
 pub mod Formals
 pub mod Declarations
 pub mod Bodies
+pub mod Statements
