@@ -74,12 +74,9 @@ fn judge(alloc: Global, kinds: &[u16]) -> Result<Tree, Refusal>
     requires { length kinds.now < 2 ^ 32 }
     ensures { JudgedTree kinds.now result }
 {
-    let Ok(out) = begin(alloc) else {
-        return Err(Refusal::OutOfMemory);
-    };
     let mut parser = Parser {
         tokens: Cursor::new(kinds),
-        out,
+        out: begin(alloc),
     };
     let read = program(&mut parser, DEPTH_LIMIT);
     let Parser { tokens, out } = parser;
