@@ -1,5 +1,5 @@
 -- As far as a Get has come: what the source gave, and what is left to do.
-use Rattle.std.proofs.Common.{◌≡◌, ℕ, zero, suc, ◌+◌, ◌-◌, ◌<◌, ◌≤◌, List, [], ◌∷◌, ◌++◌, length, Option, Some, None, is_some, Result, Ok, Err, Bool, true, false, cond, ℤ, refl, sym, ap, subst, ◌∙◌, arith, true≢false, length-append}
+use Rattle.std.proofs.Common.{◌≡◌, ℕ, suc, ◌+◌, ◌-◌, ◌<◌, ◌≤◌, List, [], ◌∷◌, ◌++◌, length, Option, Some, None, is_some, Result, Ok, Err, Bool, true, false, cond, ℤ, refl, sym, ap, subst, ◌∙◌, arith, true≢false, length-append}
 use Rattle.std.proofs.lemmas.List.{append-nil}
 use Rattle.ada_base.specs.declared.reason.Reason.{Reason}
 use Rattle.ada_base.specs.Input.{Held, Symbol}
@@ -12,7 +12,7 @@ use Rattle.ada_io.specs.declared.phases.Outcome.TheVariants.{Asks, Gives, Raises
 use Rattle.ada_io.specs.declared.asking.Looked.TheVariants.{At, ReadFault, Spent}
 use Rattle.ada_io.specs.declared.input.GetEnd.{GetEnd}
 use Rattle.ada_io.specs.declared.input.GetEnd.TheVariants as end
-use Rattle.ada_io.specs.Plain.{Feed, Byte, End, Fault, fed, State, Stop, Raised, Failed, TurnsSpent, After, at, Doing, next, given, asked, then, plain}
+use Rattle.ada_io.specs.Plain.{Feed, Byte, fed, State, Stop, Raised, Failed, TurnsSpent, After, at, Doing, next, given, asked, then, plain}
 use Rattle.ada_io.specs.Gets.{Last, Open, AtEnd, Gave, MayFollow, askings, Gets}
 use Rattle.ada_io.specs.Phases.{rest, Takes, held_of}
 use Rattle.ada_io.specs.Looks.{Looks, IsAsked}

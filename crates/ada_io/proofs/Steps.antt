@@ -1,15 +1,14 @@
 -- What a Get does with what it looks at, phase by phase.
-use Rattle.std.proofs.Common.{◌≡◌, ℕ, zero, suc, ◌+◌, ◌*◌, ◌-◌, ◌^◌, ◌<◌, ◌≤◌, min, Option, Some, None, is_some, Ok, Err, Bool, true, false, cond, ℤ, refl, sym, ap, subst, ◌∙◌, ◌⊎◌, inl, inr, arith, true≢false}
+use Rattle.std.proofs.Common.{◌≡◌, ℕ, suc, ◌+◌, ◌*◌, ◌-◌, ◌^◌, ◌<◌, ◌≤◌, min, Option, Some, None, is_some, Bool, true, false, refl, sym, ap, ◌∙◌, ◌⊎◌, inl, inr, arith, true≢false}
 use Rattle.std.proofs.lemmas.Bool.{cases_lt}
 use Rattle.ada_base.specs.Input.{Held, Nothing, Symbol, is_blank, is_byte, is_digit, digit_of}
 use Rattle.ada_base.specs.Input as input
-use Rattle.ada_io.specs.declared.phases.Phase.{Phase}
 use Rattle.ada_io.specs.declared.phases.Phase.TheVariants.{Blanks, NeedsDigit, Digits}
 use Rattle.ada_io.specs.declared.phases.Outcome.{Outcome}
 use Rattle.ada_io.specs.declared.phases.Outcome.TheVariants.{Asks, Gives, Raises}
-use Rattle.ada_io.specs.Plain.{State, at, Doing, next, asked, then, plain}
-use Rattle.ada_io.specs.Phases.{after_digit, needs_digit, rest, AsksFor, Takes}
-use Rattle.ada_io.proofs.Enough.{most, Same, same_digit, asked_same, asked_then, digit_same, needed_same, from_same, read_same, skip_same}
+use Rattle.ada_io.specs.Plain.{State, asked, then, plain}
+use Rattle.ada_io.specs.Phases.{needs_digit, rest, Takes}
+use Rattle.ada_io.proofs.Enough.{most, Same, asked_same, asked_then, digit_same, needed_same, from_same, read_same, skip_same}
 
 some_byte : (n : ℕ) (s : Option ℕ) → is_byte n s ≡ true → is_some s ≡ true
 some_byte n None e = absurd (true≢false (sym e))

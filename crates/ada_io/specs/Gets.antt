@@ -1,10 +1,10 @@
 -- What a Get answers, of what the source gave it.
-use Rattle.std.specs.Prelude.{◌≡◌, ◌↔◌, ℕ, ◌+◌, ◌-◌, ◌≤◌, List, length, Bool, true, false, cond, ℤ, Result, Ok, Err}
+use Rattle.std.specs.Prelude.{◌≡◌, ℕ, ◌+◌, ◌-◌, ◌≤◌, List, length, Bool, cond, ℤ, Result, Ok, Err}
 use Rattle.ada_base.specs.Input.{Held}
 use Rattle.ada_base.specs.Input as input
 use Rattle.ada_io.specs.declared.input.GetEnd.{GetEnd}
 use Rattle.ada_io.specs.declared.input.GetEnd.TheVariants.{Number, Raise, ReadFault, Spent}
-use Rattle.ada_io.specs.Plain.{Feed, End, Fault, fed, State, Stop, Raised, Failed, TurnsSpent, at, plain}
+use Rattle.ada_io.specs.Plain.{Feed, End, Fault, fed, Stop, Raised, Failed, TurnsSpent, at, plain}
 use Rattle.ada_port.specs.Ports.{Stream, Gives, GivesAll, GivesUntil}
 
 -- how the asking of a source ended: with a byte or before any was asked, with its end, or with a fault

@@ -9,7 +9,7 @@ use Rattle.ada_io.specs.declared.phases.Phase.{Phase}
 use Rattle.ada_io.specs.declared.phases.Phase.TheVariants.{Blanks, NeedsDigit, Digits}
 use Rattle.ada_io.specs.declared.phases.Outcome.{Outcome}
 use Rattle.ada_io.specs.declared.phases.Outcome.TheVariants.{Asks, Gives, Raises}
-use Rattle.ada_io.specs.Plain.{State, Raised, After, at, Doing, next, asked, then, plain}
+use Rattle.ada_io.specs.Plain.{State, Raised, at, Doing, asked, then, plain}
 
 -- a digit has to follow: after a sign or an underscore
 abbrev pub needs_digit : ℕ → Bool → ℕ → Option ℕ → Doing ℤ

@@ -8,7 +8,7 @@ use ada_base::Reason;
 use ada_port::Source;
 use std::marker::Model;
 
-/// How a Get ends (A.10.8).
+/// How a Get ends (A.10.8). `took` is how often it asked the source, the asking that met the end too.
 #[derive(Clone, Copy)]
 pub enum GetEnd {
     /// A value of Integer was read.
@@ -55,10 +55,9 @@ impl Reader {
     }
 
     /// Reads an integer as Get does (A.10.8): blanks, a sign if there is one, and the longest run of digits with single
-    /// underscores between them. What ends the run is held for the next Get. Each byte that is asked of the source takes
-    /// a turn, and so does the asking that meets the end; `took` is how many this Get took. Once the end was met the
-    /// source isn't asked again. `ReadFault` comes only where the source's count of faults rose, and `Spent` exactly
-    /// where `turns_left` turns were taken and one more is needed; both leave what is held.
+    /// underscores between them. What ends the run is held for the next Get. Each asking of the source takes a turn. Once
+    /// the end was met the source isn't asked again. `ReadFault` comes only where the source's count of faults rose, and
+    /// `Spent` exactly where `turns_left` turns were taken and one more is needed; both leave what is held.
     pub fn get<S: Source>(&mut self, source: &mut S, turns_left: u64) -> GetEnd
         ensures { Gets (S.state source.old) (S.state source.new) self.old self.new turns_left result }
     {
