@@ -1,6 +1,7 @@
 -- Every text touches only what it makes and what lies under its effects, and a program without clashes is free of races.
 use Rattle.std.proofs.Common.{◌≡◌, ℕ, zero, suc, ◌+◌, ◌*◌, ◌<◌, ◌≤◌, min, max, ℤ, pos, ◌+ℤ◌, ◌-ℤ◌, int_lt, int_le, nat_eq, nat_lt, nat_le, List, [], ◌∷◌, ◌++◌, length, slice_get, ◌⊎◌, inl, inr, ⊎_elim, Option, Some, None, Bool, true, false, not, cond, ◌&&◌, ◌||◌, sym, subst, ap, ◌∙◌, refl, true≢false, eqb-true, eq-eqb, ltb-true, ltb-false, arith, le_trans, ◌/◌, ◌%◌}
 use Rattle.ada_base.specs.Cuts.{evens, shares}
+use Rattle.ada_base.specs.Image.{padded}
 use Rattle.ada_base.specs.Input.{Held, Nothing, Symbol, is_blank, is_byte, is_digit, digit_of, is_based, is_integer, signed}
 use Rattle.behaviours.specs.Doings.{through, folded}
 use Rattle.behaviours.specs.Paths.{Leave, Exits, Returns, Raises, Entity, VariableOf, ConstantOf, Region, Everywhere, Here, Instance, Gives, Path, Scope, apart_of}
@@ -24,7 +25,7 @@ use Rattle.ada_typed.specs.declared.expressions.Run.{Run}
 use Rattle.ada_typed.specs.declared.expressions.Iterated.{Iterated}
 use Rattle.ada_typed.specs.declared.expressions.Reducer.{Reducer}
 use Rattle.ada_typed.specs.declared.expressions.Reducer.TheVariants.{Operator, Function}
-use Rattle.ada_meaning.specs.Values.{Given, truth, bit, is_in, between, to_nat, count, base_of, unary, is_zero, divides, overflows, result, value_or_zero, defaults, handles_reason, is_chosen, without_zeros, layout, assembled, laid, zeros}
+use Rattle.ada_meaning.specs.Values.{truth, bit, is_in, between, to_nat, count, base_of, unary, is_zero, divides, overflows, result, value_or_zero, defaults, image_of, handles_reason, is_chosen, without_zeros, layout, laid, zeros}
 use Rattle.ada_meaning.specs.Operations.{CheckKind, RangeCheck, IndexCheck, OverflowCheck, ZeroCheck, ByPlan, Sized, chunk_of, Operations, operate, reduce}
 use Rattle.ada_meaning.specs.Meaning
 use Rattle.ada_meaning.specs.Meaning.{Part, Env, Course, Chunking, Back, Passed, Returned, outset, with_parameter, with_target, with_handled, inside, variable_root, constant_root, array_root, iterated_env, cut_of, value_cut_of, arms_of, exits, returns, raises, value_of, reason_of, has_handlers, sub_at, moved, object_layout, most_nested, most_threads, most_iterations, most_calls}
@@ -88,7 +89,7 @@ module _ (program : Program) (fine : Construct → Type 0) where
   plus_zero : (n : ℕ) → n + 0 ≡ n
   plus_zero n = omega arith
 
-  plus_suc : (n m : ℕ) → n + suc m ≡ suc n + m
+  plus_suc : (n m : ℕ) → n + suc m ≡ (n + 1) + m
   plus_suc n m = omega arith
 
   sum_shares : (least k more : ℕ) → sum (shares least k more) ≤ least * k + more
@@ -146,9 +147,9 @@ module _ (program : Program) (fine : Construct → Type 0) where
   length_laid (c ∷ cs) zero (o ∷ os) = ap suc (length_laid cs zero os)
   length_laid (c ∷ cs) (suc first) over = ap suc (length_laid cs first over)
 
-  length_assembled : (cs : List ℤ) (gs : List Given) → length (assembled cs gs) ≡ length cs
-  length_assembled cs [] = refl
-  length_assembled cs (g ∷ gs) = length_assembled (laid cs g.first g.cells) gs ∙ length_laid cs g.first g.cells
+  length_append : {A : Type 0} (xs ys : List A) → length (xs ++ ys) ≡ length xs + length ys
+  length_append [] ys = refl
+  length_append (x ∷ xs) ys = let h = length_append xs ys in omega arith
 
   length_zeros : (n : ℕ) → length (zeros n) ≡ n
   length_zeros zero = refl
@@ -201,21 +202,27 @@ module _ (program : Program) (fine : Construct → Type 0) where
     reduce_step s (Operator t op class) at r a b = operates s op at class a b
     reduce_step s (Function t u x y) at r a b = r a b
 
-    reads_all : (s : Scene) (x : Entity) (i : ℕ) (cells : List Scalar) → ((m : ℕ) → m < length cells → MayTouch s.allowed.at false x (i + m)) → Fine s (Meaning.read_all ops x i cells)
-    reads_all s x i [] h = done s []
-    reads_all s x i (c ∷ cs) h =
+    reads_all : (s : Scene) (x : Entity) (i : ℕ) (so_far : List ℤ) (cells : List Scalar) → ((m : ℕ) → m < length cells → MayTouch s.allowed.at false x (i + m)) → Fine s (Meaning.read_all ops x i so_far cells)
+    reads_all s x i so_far [] h = done s so_far
+    reads_all s x i so_far (c ∷ cs) h =
         seq s (reads_good program s.asks s.allowed admits x i c (subst (λ z. MayTouch s.allowed.at false x z) (plus_zero i) (h 0 (omega arith)))) (λ v _.
-        seq s (reads_all s x (suc i) cs (λ m lt. subst (λ z. MayTouch s.allowed.at false x z) (plus_suc i m) (h (suc m) (omega arith)))) (λ vs _. done s (v ∷ vs)))
+        reads_all s x (i + 1) (so_far ++ (v ∷ [])) cs (λ m lt. subst (λ z. MayTouch s.allowed.at false x z) (plus_suc i m) (h (suc m) (omega arith))))
 
     writes_all : (s : Scene) (x i : ℕ) (vs : List ℤ) → ((m : ℕ) → m < length vs → s.allowed.at true x (i + m)) → Fine s (Meaning.write_all ops x i vs)
     writes_all s x i [] h = done s tt
     writes_all s x i (v ∷ vs) h =
         seq s (writes_good program s.asks s.allowed x i v (subst (λ z. s.allowed.at true x z) (plus_zero i) (h 0 (omega arith)))) (λ _ _.
-        writes_all s x (suc i) vs (λ m lt. subst (λ z. s.allowed.at true x z) (plus_suc i m) (h (suc m) (omega arith))))
+        writes_all s x (i + 1) vs (λ m lt. subst (λ z. s.allowed.at true x z) (plus_suc i m) (h (suc m) (omega arith))))
 
-    read_length : (x : Entity) (i : ℕ) (cells : List Scalar) (vs : List ℤ) → Can (Meaning.read_all ops x i cells) vs → length vs ≡ length cells
-    read_length x i [] vs c = ap length (of_ret c)
-    read_length x i (t ∷ ts) vs c = let a = of_bind c in let b = of_bind a.2 in ap length (of_ret b.2) ∙ ap suc (read_length x (suc i) ts b.0 b.1)
+    read_lengths : (x : Entity) (i : ℕ) (so_far : List ℤ) (cells : List Scalar) (vs : List ℤ) → Can (Meaning.read_all ops x i so_far cells) vs → length vs ≡ length so_far + length cells
+    read_lengths x i so_far [] vs c = ap length (of_ret c) ∙ sym (plus_zero (length so_far))
+    read_lengths x i so_far (t ∷ ts) vs c =
+        let a = of_bind c in
+        let h = read_lengths x (i + 1) (so_far ++ (a.0 ∷ [])) ts vs a.2 in
+        let l = length_append so_far (a.0 ∷ []) in omega arith
+
+    read_length : (x : Entity) (i : ℕ) (cells : List Scalar) (vs : List ℤ) → Can (Meaning.read_all ops x i [] cells) vs → length vs ≡ length cells
+    read_length x i cells vs c = let h = read_lengths x i [] cells vs c in omega arith
 
     bounds : (s : Scene) (c : Option Check) (low high : ℤ) → Fine s (Meaning.bounds_checked ops c low high)
     bounds s None low high = done s tt
@@ -232,13 +239,22 @@ module _ (program : Program) (fine : Construct → Type 0) where
     unary_check s sign.Abs at class v = check s OverflowCheck at (is_in_base (base_of class) v)
     unary_check s sign.Not at class v = done s tt
 
-    one_run : (s : Scene) (k n first stride : ℕ) {f : ℕ → Behaviour Instance (List ℤ)} → ((k : ℕ) → Fine s (f k)) → Fine s (Meaning.run_values ops k n first stride f)
-    one_run s k zero first stride r = done s []
-    one_run s k (suc n) first stride r = seq s (r k) (λ cs _. seq s (one_run s (suc k) n (first + stride) stride r) (λ gs _. done s (record { first = first; cells = cs } ∷ gs)))
+    one_run : (s : Scene) (k n first stride : ℕ) (so_far : List ℤ) {f : ℕ → Behaviour Instance (List ℤ)} → ((k : ℕ) → Fine s (f k)) → Fine s (Meaning.run_values ops k n first stride so_far f)
+    one_run s k zero first stride so_far r = done s so_far
+    one_run s k (suc n) first stride so_far r = seq s (r k) (λ cs _. one_run s (k + 1) n (first + stride) stride (laid so_far first cs) r)
 
-    all_runs : (s : Scene) (runs : List Run) {f : ℕ → Behaviour Instance (List ℤ)} → ((k : ℕ) → Fine s (f k)) → Fine s (Meaning.runs_values ops runs f)
-    all_runs s [] r = done s []
-    all_runs s (run ∷ runs) r = seq s (one_run s 0 run.count run.first run.stride r) (λ gs _. seq s (all_runs s runs r) (λ hs _. done s (gs ++ hs)))
+    all_runs : (s : Scene) (runs : List Run) (so_far : List ℤ) {f : ℕ → Behaviour Instance (List ℤ)} → ((k : ℕ) → Fine s (f k)) → Fine s (Meaning.runs_values ops runs so_far f)
+    all_runs s [] so_far r = done s so_far
+    all_runs s (run ∷ runs) so_far r = seq s (one_run s 0 run.count run.first run.stride so_far r) (λ cs _. all_runs s runs cs r)
+
+    -- values that are laid over cells leave them as many
+    run_length : (k n first stride : ℕ) (so_far : List ℤ) (f : ℕ → Behaviour Instance (List ℤ)) (cs : List ℤ) → Can (Meaning.run_values ops k n first stride so_far f) cs → length cs ≡ length so_far
+    run_length k zero first stride so_far f cs c = ap length (of_ret c)
+    run_length k (suc n) first stride so_far f cs c = let a = of_bind c in run_length (k + 1) n (first + stride) stride (laid so_far first a.0) f cs a.2 ∙ length_laid so_far first a.0
+
+    runs_length : (runs : List Run) (so_far : List ℤ) (f : ℕ → Behaviour Instance (List ℤ)) (cs : List ℤ) → Can (Meaning.runs_values ops runs so_far f) cs → length cs ≡ length so_far
+    runs_length [] so_far f cs c = ap length (of_ret c)
+    runs_length (run ∷ runs) so_far f cs c = let a = of_bind c in runs_length runs a.0 f cs a.2 ∙ run_length 0 run.count run.first run.stride so_far f a.0 a.1
 
     iterated : (s : Scene) (i : Option Iterated) → Fine s (Meaning.iterated_turn ops i)
     iterated s None = done s tt
@@ -382,36 +398,36 @@ module _ (program : Program) (fine : Construct → Type 0) where
         composite_width' (WholeTarget at subtype) env cs c = no_more _ _ (read_length (VariableOf env.target.object) env.target.offset (layout program.subtypes subtype) cs c)
         composite_width' (CompositeIf condition value otherwise) env cs c = let a = of_bind c in one_of (truth a.0) _ _ (length cs ≤ max (composite_width program.subtypes value) (composite_width program.subtypes otherwise)) cs
             (λ k. le_left _ _ _ (composite_width' value env cs k)) (λ k. le_right _ _ _ (composite_width' otherwise env cs k)) a.2
-        composite_width' (Aggregate at size associations mentions) env cs c = let a = of_bind c in no_more _ _ (ap length (of_ret a.2) ∙ length_assembled (zeros size) a.0 ∙ length_zeros size)
+        composite_width' (Aggregate at size associations mentions) env cs c = no_more _ _ (associated_length associations env (zeros size) cs c ∙ length_zeros size)
 
-      pass_back : (s : Scene) (a : Actuals) (ps : List Passed) → Has s (InActuals program.subtypes s.roles a) → Can (Meaning.pass ops limit program calls a s.env) ps → AllBack s.allowed ps
-      pass_back s NoActual ps k c = subst (λ z. AllBack s.allowed z) (sym (of_ret c)) tt
-      pass_back s (In formal value rest) ps k c =
-          let a = of_bind c in let b = of_bind a.2 in subst (λ z. AllBack s.allowed z) (sym (of_ret b.2)) (tt, pass_back s rest b.0 (part program fine (λ i h. inr h) k) b.1)
-      pass_back s (InOut formal at from selections x y rest) ps k c =
-          let a = of_bind c in let b = of_bind a.2 in let d = of_bind b.2 in let e = of_bind d.2 in
-          subst (λ z. AllBack s.allowed z) (sym (of_ret e.2)) (
-            (λ m lt. touched k at true (name s.roles from selections) 1 (inr (inl refl)) a.0 (located s.now s.roles s.env s.suits from selections a.0 a.1) m lt),
-            pass_back s rest e.0 (part program fine (λ i h. inr (inr (inr h))) k) e.1,
-          )
-      pass_back s (Out formal at from selections x y rest) ps k c =
+        associated_length : (a : Associations) (env : Env) (so_far cs : List ℤ) → Can (Meaning.associated ops limit program calls a env so_far) cs → length cs ≡ length so_far
+        associated_length NoAssociation env so_far cs c = ap length (of_ret c)
+        associated_length (Association runs i value rest) env so_far cs c = let a = of_bind c in associated_length rest env a.0 cs a.2 ∙ runs_length runs so_far _ a.0 a.1
+
+      all_back : (E : Allowed) (qs : List Passed) (p : Passed) → AllBack E qs → BackFine E p.back → AllBack E (qs ++ (p ∷ []))
+      all_back E [] p h b = (b, tt)
+      all_back E (q ∷ qs) p h b = (h.0, all_back E qs p h.1 b)
+
+      pass_back : (s : Scene) (a : Actuals) (so_far ps : List Passed) → Has s (InActuals program.subtypes s.roles a) → AllBack s.allowed so_far → Can (Meaning.pass ops limit program calls a s.env so_far) ps → AllBack s.allowed ps
+      pass_back s NoActual so_far ps k h c = subst (λ z. AllBack s.allowed z) (sym (of_ret c)) h
+      pass_back s (In formal value rest) so_far ps k h c =
+          let a = of_bind c in pass_back s rest _ ps (part program fine (λ i h. inr h) k) (all_back s.allowed so_far _ h tt) a.2
+      pass_back s (InOut formal at from selections x y rest) so_far ps k h c =
+          let a = of_bind c in let b = of_bind a.2 in let d = of_bind b.2 in
+          pass_back s rest _ ps (part program fine (λ i h. inr (inr (inr h))) k)
+          (all_back s.allowed so_far _ h (λ m lt. touched k at true (name s.roles from selections) 1 (inr (inl refl)) a.0 (located s.now s.roles s.env s.suits from selections a.0 a.1) m lt)) d.2
+      pass_back s (Out formal at from selections x y rest) so_far ps k h c =
+          let a = of_bind c in
+          pass_back s rest _ ps (part program fine (λ i h. inr (inr h)) k)
+          (all_back s.allowed so_far _ h (λ m lt. touched k at true (name s.roles from selections) 1 (inl refl) a.0 (located s.now s.roles s.env s.suits from selections a.0 a.1) m lt)) a.2
+      pass_back s (CompositeInOut formal at from selections subtype rest) so_far ps k h c =
           let a = of_bind c in let b = of_bind a.2 in
-          subst (λ z. AllBack s.allowed z) (sym (of_ret b.2)) (
-            (λ m lt. touched k at true (name s.roles from selections) 1 (inl refl) a.0 (located s.now s.roles s.env s.suits from selections a.0 a.1) m lt),
-            pass_back s rest b.0 (part program fine (λ i h. inr (inr h)) k) b.1,
-          )
-      pass_back s (CompositeInOut formal at from selections subtype rest) ps k c =
-          let a = of_bind c in let b = of_bind a.2 in let d = of_bind b.2 in
-          subst (λ z. AllBack s.allowed z) (sym (of_ret d.2)) (
-            (λ m lt. touched k at true (name s.roles from selections) (length (layout program.subtypes subtype)) (inr (inl refl)) a.0 (located s.now s.roles s.env s.suits from selections a.0 a.1) m lt),
-            pass_back s rest d.0 (part program fine (λ i h. inr (inr (inr h))) k) d.1,
-          )
-      pass_back s (CompositeOut formal at from selections subtype rest) ps k c =
-          let a = of_bind c in let b = of_bind a.2 in let d = of_bind b.2 in
-          subst (λ z. AllBack s.allowed z) (sym (of_ret d.2)) (
-            (λ m lt. touched k at true (name s.roles from selections) (length (layout program.subtypes subtype)) (inr (inl refl)) a.0 (located s.now s.roles s.env s.suits from selections a.0 a.1) m lt),
-            pass_back s rest d.0 (part program fine (λ i h. inr (inr (inr h))) k) d.1,
-          )
+          pass_back s rest _ ps (part program fine (λ i h. inr (inr (inr h))) k)
+          (all_back s.allowed so_far _ h (λ m lt. touched k at true (name s.roles from selections) (length (layout program.subtypes subtype)) (inr (inl refl)) a.0 (located s.now s.roles s.env s.suits from selections a.0 a.1) m lt)) b.2
+      pass_back s (CompositeOut formal at from selections subtype rest) so_far ps k h c =
+          let a = of_bind c in let b = of_bind a.2 in
+          pass_back s rest _ ps (part program fine (λ i h. inr (inr (inr h))) k)
+          (all_back s.allowed so_far _ h (λ m lt. touched k at true (name s.roles from selections) (length (layout program.subtypes subtype)) (inr (inl refl)) a.0 (located s.now s.roles s.env s.suits from selections a.0 a.1) m lt)) b.2
 
       -- ---- what iterations bind
 
@@ -567,7 +583,7 @@ module _ (program : Program) (fine : Construct → Type 0) where
         eval_good (Relation class comparison e f) s k = seq s (eval_good e s (part program fine (λ i h. inl h) k)) (λ x _. seq s (eval_good f s (part program fine (λ i h. inr h) k)) (λ y _. done s _))
         eval_good (Membership class negated e low high) s k = seq s (eval_good e s (part program fine (λ i h. inl h) k)) (λ x _. seq s (eval_good low s (part program fine (λ i h. inr (inl h)) k)) (λ l _. seq s (eval_good high s (part program fine (λ i h. inr (inr h)) k)) (λ u _. done s _)))
         eval_good (If condition value otherwise) s k = seq s (eval_good condition s (part program fine (λ i h. inl h) k)) (λ c _. choose s (truth c) (eval_good value s (part program fine (λ i h. inr (inl h)) k)) (eval_good otherwise s (part program fine (λ i h. inr (inr h)) k)))
-        eval_good (Call at callee u actuals) s k = seq s (pass_good actuals s (part program fine (λ i h. inr h) k)) (λ passed _. seq s (called_good s s.env.nested u (Behaviours.ret tt) passed (done s tt) (call_into at callee u (inl refl) k)) (λ r _. done s r.value))
+        eval_good (Call at callee u actuals) s k = seq s (pass_good actuals [] s (part program fine (λ i h. inr h) k)) (λ passed _. seq s (called_good s s.env.nested u (Behaviours.ret tt) passed (done s tt) (call_into at callee u (inl refl) k)) (λ r _. done s r.value))
         eval_good (Convert c e) s k = seq s (eval_good e s k) (λ v _. seq s (check s RangeCheck c.at (is_in c.scalar v)) (λ _ _. done s v))
         eval_good (Reduction at attribute by initial None chunk iteration value) s k =
             seq s (eval_good initial s (part program fine (λ i h. inr (inl h)) k)) (λ start _. seq s (course_good iteration s (part program fine (λ i h. inr (inr (inl h))) k)) (λ c can.
@@ -602,23 +618,23 @@ module _ (program : Program) (fine : Construct → Type 0) where
         select_good (Field number offset rest) s p k = select_good rest s (moved p offset) k
         select_good (Index at e low high stride rest) s p k = seq s (eval_good e s (part program fine (λ i h. inl h) k)) (λ v _. seq s (check s IndexCheck at (between low v high)) (λ _ _. select_good rest s (moved p (to_nat (v -ℤ low) * stride)) (part program fine (λ i h. inr h) k)))
 
-        pass_good : (a : Actuals) (s : Scene) → Has s (InActuals program.subtypes s.roles a) → Fine s (Meaning.pass ops limit program calls a s.env)
-        pass_good NoActual s k = done s []
-        pass_good (In formal value rest) s k = seq s (cells_good value s (part program fine (λ i h. inl h) k)) (λ cs _. seq s (pass_good rest s (part program fine (λ i h. inr h) k)) (λ more _. done s _))
-        pass_good (InOut formal at from selections x y rest) s k =
+        pass_good : (a : Actuals) (so_far : List Passed) (s : Scene) → Has s (InActuals program.subtypes s.roles a) → Fine s (Meaning.pass ops limit program calls a s.env so_far)
+        pass_good NoActual so_far s k = done s so_far
+        pass_good (In formal value rest) so_far s k = seq s (cells_good value s (part program fine (λ i h. inl h) k)) (λ cs _. pass_good rest _ s (part program fine (λ i h. inr h) k))
+        pass_good (InOut formal at from selections x y rest) so_far s k =
             seq s (select_good selections s (variable_root from s.env) (part program fine (λ i h. inr (inr (inl h))) k)) (λ p can.
             seq s (reads_good program s.asks s.allowed admits (VariableOf p.object) p.offset y (touched_one k at false (name s.roles from selections) (inl refl) p (located s.now s.roles s.env s.suits from selections p can))) (λ v _.
-            seq s (check s RangeCheck at (is_in x v)) (λ _ _. seq s (pass_good rest s (part program fine (λ i h. inr (inr (inr h))) k)) (λ more _. done s _))))
-        pass_good (Out formal at from selections x y rest) s k =
-            seq s (select_good selections s (variable_root from s.env) (part program fine (λ i h. inr (inl h)) k)) (λ p can. seq s (pass_good rest s (part program fine (λ i h. inr (inr h)) k)) (λ more _. done s _))
-        pass_good (CompositeInOut formal at from selections subtype rest) s k =
+            seq s (check s RangeCheck at (is_in x v)) (λ _ _. pass_good rest _ s (part program fine (λ i h. inr (inr (inr h))) k))))
+        pass_good (Out formal at from selections x y rest) so_far s k =
+            seq s (select_good selections s (variable_root from s.env) (part program fine (λ i h. inr (inl h)) k)) (λ p can. pass_good rest _ s (part program fine (λ i h. inr (inr h)) k))
+        pass_good (CompositeInOut formal at from selections subtype rest) so_far s k =
             seq s (select_good selections s (variable_root from s.env) (part program fine (λ i h. inr (inr (inl h))) k)) (λ p can.
-            seq s (reads_all s (VariableOf p.object) p.offset (layout program.subtypes subtype) (touched k at false (name s.roles from selections) (length (layout program.subtypes subtype)) (inl refl) p (located s.now s.roles s.env s.suits from selections p can))) (λ vs _.
-            seq s (pass_good rest s (part program fine (λ i h. inr (inr (inr h))) k)) (λ more _. done s _)))
-        pass_good (CompositeOut formal at from selections subtype rest) s k =
+            seq s (reads_all s (VariableOf p.object) p.offset [] (layout program.subtypes subtype) (touched k at false (name s.roles from selections) (length (layout program.subtypes subtype)) (inl refl) p (located s.now s.roles s.env s.suits from selections p can))) (λ vs _.
+            pass_good rest _ s (part program fine (λ i h. inr (inr (inr h))) k)))
+        pass_good (CompositeOut formal at from selections subtype rest) so_far s k =
             seq s (select_good selections s (variable_root from s.env) (part program fine (λ i h. inr (inr (inl h))) k)) (λ p can.
-            seq s (reads_all s (VariableOf p.object) p.offset (layout program.subtypes subtype) (touched k at false (name s.roles from selections) (length (layout program.subtypes subtype)) (inl refl) p (located s.now s.roles s.env s.suits from selections p can))) (λ vs _.
-            seq s (pass_good rest s (part program fine (λ i h. inr (inr (inr h))) k)) (λ more _. done s _)))
+            seq s (reads_all s (VariableOf p.object) p.offset [] (layout program.subtypes subtype) (touched k at false (name s.roles from selections) (length (layout program.subtypes subtype)) (inl refl) p (located s.now s.roles s.env s.suits from selections p can))) (λ vs _.
+            pass_good rest _ s (part program fine (λ i h. inr (inr (inr h))) k)))
 
         cells_good : (v : Value) (s : Scene) → Has s (InValue program.subtypes s.roles v) → Fine s (Meaning.cells ops limit program calls v s.env)
         cells_good (Number c e) s k = seq s (eval_good e s k) (λ v _. seq s (check s RangeCheck c.at (is_in c.scalar v)) (λ _ _. done s (v ∷ [])))
@@ -626,17 +642,17 @@ module _ (program : Program) (fine : Construct → Type 0) where
 
         composite_good : (c : Composite) (s : Scene) → Has s (InComposite program.subtypes s.roles c) → Fine s (Meaning.composite ops limit program calls c s.env)
         composite_good (WholeVariable at from selections subtype) s k = seq s (select_good selections s (variable_root from s.env) (part program fine (λ i h. inr h) k)) (λ p can.
-            reads_all s (VariableOf p.object) p.offset (layout program.subtypes subtype) (touched k at false (name s.roles from selections) (length (layout program.subtypes subtype)) (inl refl) p (located s.now s.roles s.env s.suits from selections p can)))
-        composite_good (WholeConstant at from selections subtype) s k = seq s (select_good selections s (constant_root from s.env) k) (λ p can. reads_all s (ConstantOf p.object) p.offset (layout program.subtypes subtype) (λ m lt. refl))
-        composite_good (WholeTarget at subtype) s k = reads_all s (VariableOf s.env.target.object) s.env.target.offset (layout program.subtypes subtype) (touched k at false s.roles.target (length (layout program.subtypes subtype)) refl s.env.target s.suits.target)
+            reads_all s (VariableOf p.object) p.offset [] (layout program.subtypes subtype) (touched k at false (name s.roles from selections) (length (layout program.subtypes subtype)) (inl refl) p (located s.now s.roles s.env s.suits from selections p can)))
+        composite_good (WholeConstant at from selections subtype) s k = seq s (select_good selections s (constant_root from s.env) k) (λ p can. reads_all s (ConstantOf p.object) p.offset [] (layout program.subtypes subtype) (λ m lt. refl))
+        composite_good (WholeTarget at subtype) s k = reads_all s (VariableOf s.env.target.object) s.env.target.offset [] (layout program.subtypes subtype) (touched k at false s.roles.target (length (layout program.subtypes subtype)) refl s.env.target s.suits.target)
         composite_good (CompositeIf condition value otherwise) s k = seq s (eval_good condition s (part program fine (λ i h. inl h) k)) (λ c _. choose s (truth c) (composite_good value s (part program fine (λ i h. inr (inl h)) k)) (composite_good otherwise s (part program fine (λ i h. inr (inr h)) k)))
-        composite_good (Aggregate at size associations mentions) s k = seq s (associated_good associations s (part program fine (λ i h. inl h) k)) (λ gs _. done s _)
+        composite_good (Aggregate at size associations mentions) s k = associated_good associations (zeros size) s (part program fine (λ i h. inl h) k)
 
-        associated_good : (a : Associations) (s : Scene) → Has s (InAssociations program.subtypes s.roles a) → Fine s (Meaning.associated ops limit program calls a s.env)
-        associated_good NoAssociation s k = done s []
-        associated_good (Association runs i value rest) s k =
-            seq s (all_runs s runs (λ n. seq s (iterated s i) (λ _ _. cells_good value (naming s (iterated_hidden i s.roles) (iterated_env i n s.env) (suits_iterated s.now s.roles s.env i n s.suits)) (part program fine (λ i h. inl h) k)))) (λ gs _.
-            seq s (associated_good rest s (part program fine (λ i h. inr h) k)) (λ hs _. done s (gs ++ hs)))
+        associated_good : (a : Associations) (so_far : List ℤ) (s : Scene) → Has s (InAssociations program.subtypes s.roles a) → Fine s (Meaning.associated ops limit program calls a s.env so_far)
+        associated_good NoAssociation so_far s k = done s so_far
+        associated_good (Association runs i value rest) so_far s k =
+            seq s (all_runs s runs so_far (λ n. seq s (iterated s i) (λ _ _. cells_good value (naming s (iterated_hidden i s.roles) (iterated_env i n s.env) (suits_iterated s.now s.roles s.env i n s.suits)) (part program fine (λ i h. inl h) k)))) (λ cs _.
+            associated_good rest cs s (part program fine (λ i h. inr h) k))
 
         course_good : (it : Iteration) (s : Scene) → Has s (InCourse program.subtypes s.roles it) → Fine s (Meaning.course ops limit program calls it s.env)
         course_good (Range x reverse low high c filter) s k = seq s (eval_good low s (part program fine (λ i h. inl h) k)) (λ l _. seq s (eval_good high s (part program fine (λ i h. inr h) k)) (λ u _. seq s (bounds s c l u) (λ _ _. done s _)))
@@ -653,11 +669,11 @@ module _ (program : Program) (fine : Construct → Type 0) where
             seq s (eval_good low s (part program fine (λ i h. inl h) k)) (λ l _. seq s (eval_good high s (part program fine (λ i h. inr h) k)) (λ u _. seq s (bounds s c l u) (λ _ _.
             seq s (unless s (int_le l u) reason.ProgramError) (λ _ _. seq s (unless s (nat_le (count l u) most_threads) reason.StorageError) (λ _ _. done s _)))))
 
-      written_good : (p : Pieces) (s : Scene) → Has s (InPieces program.subtypes s.roles p) → Fine s (Meaning.written ops limit program calls p s.env)
-      written_good NoPiece s k = done s []
-      written_good (Text bytes rest) s k = seq s (written_good rest s k) (λ more _. done s _)
-      written_good (Image class e rest) s k = seq s (eval_good e s (part program fine (λ i h. inl h) k)) (λ v _. seq s (written_good rest s (part program fine (λ i h. inr h) k)) (λ more _. done s _))
-      written_good (Padded class e width rest) s k = seq s (eval_good e s (part program fine (λ i h. inl h) k)) (λ v _. seq s (eval_good width s (part program fine (λ i h. inr (inl h)) k)) (λ w _. seq s (written_good rest s (part program fine (λ i h. inr (inr h)) k)) (λ more _. done s _)))
+      written_good : (p : Pieces) (so_far : List ℕ) (s : Scene) → Has s (InPieces program.subtypes s.roles p) → Fine s (Meaning.written ops limit program calls p s.env so_far)
+      written_good NoPiece so_far s k = done s so_far
+      written_good (Text bytes rest) so_far s k = written_good rest (so_far ++ bytes) s k
+      written_good (Image class e rest) so_far s k = seq s (eval_good e s (part program fine (λ i h. inl h) k)) (λ v _. written_good rest (so_far ++ image_of class v) s (part program fine (λ i h. inr h) k))
+      written_good (Padded class e width rest) so_far s k = seq s (eval_good e s (part program fine (λ i h. inl h) k)) (λ v _. seq s (eval_good width s (part program fine (λ i h. inr (inl h)) k)) (λ w _. written_good rest (so_far ++ padded v (to_nat w)) s (part program fine (λ i h. inr (inr h)) k)))
 
       roomy_grown : (W : Type 0) (region : Region) (e : Entity) (E : Allowed) → Roomy program W region E → Roomy program W region (Grown program W region e E)
       roomy_grown W Here e E r = tt
@@ -707,8 +723,8 @@ module _ (program : Program) (fine : Construct → Type 0) where
             let u = naming s (record s.roles { target = name s.roles from selections }) (with_target p s.env) (suits_target s.now s.roles s.env (name s.roles from selections) p t s.suits) in
             seq s (cells_good value u (part program fine (λ i h. inr (inr h)) k)) (λ cs can'. let w = cells_width value (with_target p s.env) cs can' in
             writes_all s p.object p.offset cs (λ m lt. touched k at true (name s.roles from selections) (width program.subtypes value) (inl refl) p t m (omega arith))))
-        exec_good (CallProcedure at callee u actuals) s k = seq s (pass_good actuals s (part program fine (λ i h. inr h) k)) (λ passed can. seq s (called_good s s.env.nested u (Behaviours.ret tt) passed (done s tt) (call_into at callee u (inl refl) k)) (λ r can'.
-            copies_back s passed r.cells (pass_back s actuals passed (part program fine (λ i h. inr h) k) can) (returned s.env.nested u (Behaviours.ret tt) passed r can')))
+        exec_good (CallProcedure at callee u actuals) s k = seq s (pass_good actuals [] s (part program fine (λ i h. inr h) k)) (λ passed can. seq s (called_good s s.env.nested u (Behaviours.ret tt) passed (done s tt) (call_into at callee u (inl refl) k)) (λ r can'.
+            copies_back s passed r.cells (pass_back s actuals [] passed (part program fine (λ i h. inr h) k) tt can) (returned s.env.nested u (Behaviours.ret tt) passed r can')))
         exec_good (Exit loop condition) s k = seq s (holds_good condition s k) (λ goes _. choose s goes (leave s (Exits loop)) (done s tt))
         exec_good Return s k = leave s (Returns None)
         exec_good (ReturnValue value) s k = seq s (cells_good value s k) (λ cs _. leave s (Returns (slice_get cs 0)))
@@ -744,7 +760,7 @@ module _ (program : Program) (fine : Construct → Type 0) where
             (λ _ _. done s tt)))
         exec_good (Block decls stmts handlers) s k = declared_good decls Here s (λ x h. tt) tt (λ j. InAll program.subtypes s.roles stmts j ⊎ InHandlers program.subtypes s.roles handlers j) k (λ E x.
             guards (allowing s E) handlers (exec_all_good stmts (allowing s E) (part program fine (λ i h. inl h) x)) (λ r. exec_handler_good handlers r (allowing s E) (part program fine (λ i h. inr h) x)))
-        exec_good (Put at callee pieces line) s k = seq s (written_good pieces s (part program fine (λ i h. inr h) k)) (λ bytes _. emits_good program s.asks s.allowed (Puts (cond line (bytes ++ (10 ∷ [])) bytes)) (λ r p. tt))
+        exec_good (Put at callee pieces line) s k = seq s (written_good pieces [] s (part program fine (λ i h. inr h) k)) (λ bytes _. emits_good program s.asks s.allowed (Puts (cond line (bytes ++ (10 ∷ [])) bytes)) (λ r p. tt))
         exec_good (Get at callee first from selections scalar) s k =
             seq s (select_good selections s (variable_root from s.env) (part program fine (λ i h. inr (inr h)) k)) (λ p can. seq s (gets s (k.blocks at callee (inl refl))) (λ v _. seq s (check s RangeCheck first (is_in scalar v)) (λ _ _.
             writes_good program s.asks s.allowed p.object p.offset v (touched_one k first true (name s.roles from selections) (inr (inl refl)) p (located s.now s.roles s.env s.suits from selections p can)))))
@@ -834,11 +850,11 @@ module _ (program : Program) (fine : Construct → Type 0) where
 
     cells_back_good : (s : Scene) (x : Entity) (b : Option Back) → ((i : ℕ) → MayTouch s.allowed.at false x i) → Fine s (Meaning.cells_back ops limit program x b)
     cells_back_good s x None h = done s []
-    cells_back_good s x (Some b) h = reads_all s x 0 b.cells (λ m lt. h (0 + m))
+    cells_back_good s x (Some b) h = reads_all s x 0 [] b.cells (λ m lt. h (0 + m))
 
-    back_cells_good : (s : Scene) (ps : List Passed) → AllOwn s.allowed ps → Fine s (Meaning.back_cells ops limit program ps)
-    back_cells_good s [] h = done s []
-    back_cells_good s (p ∷ ps) h = seq s (cells_back_good s p.formal p.back h.0) (λ vs _. seq s (back_cells_good s ps h.1) (λ vss _. done s (vs ∷ vss)))
+    back_cells_good : (s : Scene) (ps : List Passed) (so_far : List (List ℤ)) → AllOwn s.allowed ps → Fine s (Meaning.back_cells ops limit program ps so_far)
+    back_cells_good s [] so_far h = done s so_far
+    back_cells_good s (p ∷ ps) so_far h = seq s (cells_back_good s p.formal p.back h.0) (λ vs _. back_cells_good s ps (so_far ++ (vs ∷ [])) h.1)
 
     ended_good : (s : Scene) (result : Option Scalar) → Fine s (Meaning.ended ops limit program result)
     ended_good s None = done s (pos 0)
@@ -863,10 +879,36 @@ module _ (program : Program) (fine : Construct → Type 0) where
     one_fitted x None vs c = tt
     one_fitted x (Some b) vs c = let e = read_length x 0 b.cells vs c in omega arith
 
-    back_fitted : (ps : List Passed) (vss : List (List ℤ)) → Can (Meaning.back_cells ops limit program ps) vss → AllFitted ps vss
-    back_fitted [] vss c = tt
-    back_fitted (p ∷ ps) vss c =
-        let a = of_bind c in let b = of_bind a.2 in subst (λ z. AllFitted (p ∷ ps) z) (sym (of_ret b.2)) (one_fitted p.formal p.back a.0 a.1, back_fitted ps b.0 b.1)
+    one_more : (qs : List Passed) (p : Passed) (ps : List Passed) → (qs ++ (p ∷ [])) ++ ps ≡ qs ++ (p ∷ ps)
+    one_more [] p ps = refl
+    one_more (q ∷ qs) p ps = ap (λ z. q ∷ z) (one_more qs p ps)
+
+    -- those that were read so far fit, as many as there are
+    abbrev FitSoFar : List Passed → List (List ℤ) → Type 0
+    FitSoFar [] [] = Unit {0}
+    FitSoFar [] (vs ∷ vss) = ⊥
+    FitSoFar (p ∷ ps) [] = ⊥
+    FitSoFar (p ∷ ps) (vs ∷ vss) = Fitted p.back vs × FitSoFar ps vss
+
+    fit_more : (qs : List Passed) (so_far : List (List ℤ)) (p : Passed) (vs : List ℤ) → FitSoFar qs so_far → Fitted p.back vs → FitSoFar (qs ++ (p ∷ [])) (so_far ++ (vs ∷ []))
+    fit_more [] [] p vs h f = (f, tt)
+    fit_more [] (ws ∷ vss) p vs h f = absurd h
+    fit_more (q ∷ qs) [] p vs h f = absurd h
+    fit_more (q ∷ qs) (ws ∷ vss) p vs h f = (h.0, fit_more qs vss p vs h.1 f)
+
+    fit_all : (qs : List Passed) (vss : List (List ℤ)) → FitSoFar qs vss → AllFitted (qs ++ []) vss
+    fit_all [] vss h = tt
+    fit_all (q ∷ qs) [] h = tt
+    fit_all (q ∷ qs) (vs ∷ vss) h = (h.0, fit_all qs vss h.1)
+
+    back_fits : (qs ps : List Passed) (so_far vss : List (List ℤ)) → FitSoFar qs so_far → Can (Meaning.back_cells ops limit program ps so_far) vss → AllFitted (qs ++ ps) vss
+    back_fits qs [] so_far vss h c = subst (λ z. AllFitted (qs ++ []) z) (sym (of_ret c)) (fit_all qs so_far h)
+    back_fits qs (p ∷ ps) so_far vss h c =
+        let a = of_bind c in
+        subst (λ z. AllFitted z vss) (one_more qs p ps) (back_fits (qs ++ (p ∷ [])) ps (so_far ++ (a.0 ∷ [])) vss (fit_more qs so_far p a.0 h (one_fitted p.formal p.back a.0 a.1)) a.2)
+
+    back_fitted : (ps : List Passed) (vss : List (List ℤ)) → Can (Meaning.back_cells ops limit program ps []) vss → AllFitted ps vss
+    back_fitted ps vss c = back_fits [] ps [] vss tt c
 
     module _ (law : TeamLaw program fine demands) where
       abbrev CallsGood : (ℕ → ℕ → Behaviour Instance (Unit {0}) → List Passed → Behaviour Instance Returned) → Type 1
@@ -891,7 +933,7 @@ module _ (program : Program) (fine : Construct → Type 0) where
       sub_good calls good fit s (Some sub) nested passed k =
           apart_good program s.asks s.allowed (formals_good s.asks passed (called program s.asks s.allowed)
           (seq inside_it (caught inside_it returns (seq inside_it (body_good calls good fit law sub.body Here inside_it (λ x h. tt) tt (formals_into passed k)) (λ _ _. ended_good inside_it sub.result)) (λ how. done inside_it (value_of how)))
-          (λ v _. seq inside_it (back_cells_good inside_it passed (all_own s.asks passed (called program s.asks s.allowed))) (λ vss _. done inside_it (record { value = v; cells = vss })))))
+          (λ v _. seq inside_it (back_cells_good inside_it passed [] (all_own s.asks passed (called program s.asks s.allowed))) (λ vss _. done inside_it (record { value = v; cells = vss })))))
         where
           inside_it : Scene
           inside_it = record { asks = s.asks; now = s.now; roles = unknown; env = outset nested; allowed = with_formals s.asks passed (called program s.asks s.allowed); suits = suits_unknown s.now nested; sound = s.sound }

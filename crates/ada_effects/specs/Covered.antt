@@ -1,7 +1,7 @@
 -- What the threads of parallel constructs touch lies under the effects of their texts.
 use Rattle.std.specs.Prelude.{◌≡◌, ℕ, ◌+◌, ◌<◌, ◌≤◌, List, [], ◌∷◌, ◌++◌, ◌⊎◌, Bool, true, false}
 use Rattle.ada_typed.specs.Syntax.{Program}
-use Rattle.behaviours.specs.Paths.{Entity, VariableOf, ConstantOf, Name, Instance, start, nothing_visible}
+use Rattle.behaviours.specs.Paths.{Entity, VariableOf, ConstantOf, ThreadName, Instance, start, nothing_visible}
 use Rattle.behaviours.specs.Events.{Event, Reads, Writes, Trace}
 use Rattle.behaviours.specs.Joins.{Share}
 use Rattle.behaviours.specs.Behaviours.{Asks}
@@ -22,7 +22,7 @@ arm_of (BlockOf site r most arms) j i = i
 arm_of (ReductionOf site r by chunk iteration value) j i = j
 
 -- it was made in that thread of that construct of a thread, or in a thread of such a thread
-abbrev pub IsOwn : Name → (construct thread : ℕ) → Instance → Type 0
+abbrev pub IsOwn : ThreadName → (construct thread : ℕ) → Instance → Type 0
 IsOwn who c j l = (inner : List ℕ) × (l.thread ≡ inner ++ (j ∷ c ∷ who))
 
 abbrev pub AreDistinct : (ℕ → ℕ → Now) → Type 0
@@ -40,16 +40,16 @@ module _ (program : Program) (k : Construct) (now : ℕ → ℕ → Now) where
   IsTouched j writes (VariableOf x) n = Under j writes x n
   IsTouched j writes (ConstantOf x) n = writes ≡ false
 
-  abbrev pub IsCovered : Name → (construct : ℕ) → Share → Event Instance → Type 0
+  abbrev pub IsCovered : ThreadName → (construct : ℕ) → Share → Event Instance → Type 0
   IsCovered who c j (Reads l n v) = IsOwn who c j.number l ⊎ IsTouched j false l.object n
   IsCovered who c j (Writes l n v) = IsOwn who c j.number l ⊎ IsTouched j true l.object n
   IsCovered who c j a = Unit {0}
 
-  abbrev pub AllCovered : Name → (construct : ℕ) → Share → Trace Instance → Type 0
+  abbrev pub AllCovered : ThreadName → (construct : ℕ) → Share → Trace Instance → Type 0
   AllCovered who c j [] = Unit {0}
   AllCovered who c j (a ∷ tr) = IsCovered who c j a × AllCovered who c j tr
 
-  abbrev pub EachCovered : Name → (construct : ℕ) → List Share → (Share → Trace Instance → Type 0) → Type 0
+  abbrev pub EachCovered : ThreadName → (construct : ℕ) → List Share → (Share → Trace Instance → Type 0) → Type 0
   EachCovered who c [] may = Unit {0}
   EachCovered who c (j ∷ js) may = ((tr : Trace Instance) → may j tr → AllCovered who c j tr) × EachCovered who c js may
 

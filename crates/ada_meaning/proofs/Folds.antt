@@ -2,7 +2,7 @@
 use Rattle.std.proofs.Common.{◌≡◌, ℕ, zero, suc, ◌+◌, ◌≤◌, List, [], ◌∷◌, ◌++◌, Bool, true, false, ◌||◌, inr, refl, sym, subst, ap, ap₂, ◌∙◌, arith, append_assoc, le_trans, true≢false}
 use mathlib.Core.Path.{fun_ext}
 use Rattle.behaviours.specs.Doings.{through}
-use Rattle.behaviours.specs.Paths.{Name, Instance, End, Gives, Leaves, Spent, Stopped, Path, Scope, enter, joined}
+use Rattle.behaviours.specs.Paths.{ThreadName, Instance, End, Gives, Leaves, Spent, Stopped, Path, Scope, enter, joined}
 use Rattle.behaviours.specs.Memory.{Memory}
 use Rattle.behaviours.specs.Joins.{Share, deal}
 use Rattle.behaviours.specs.Behaviours.{is_left}
@@ -94,10 +94,10 @@ next_alike w x y r s a b k l c f g =
 
 -- ---- threads
 
-no_name : (i : ℕ) (n : Name) → ◌≡◌ {A = Name} (i ∷ n) [] → ⊥
+no_name : (i : ℕ) (n : ThreadName) → ◌≡◌ {A = ThreadName} (i ∷ n) [] → ⊥
 no_name i n e = absurd (true≢false (ap some e))
   where
-    some : Name → Bool
+    some : ThreadName → Bool
     some [] = false
     some (i ∷ n) = true
 

@@ -14,10 +14,11 @@ use Rattle.ada_typed.specs.declared.expressions.Iterated.{Iterated}
 use Rattle.ada_typed.specs.declared.expressions.Reducer.{Reducer}
 use Rattle.ada_typed.specs.declared.expressions.Reducer.TheVariants.{Operator, Function}
 use Rattle.ada_base.specs.Cuts.{evens}
+use Rattle.ada_base.specs.Image.{padded}
 use Rattle.ada_base.specs.Input.{Held, Nothing, Symbol, is_blank, is_byte, is_digit, digit_of, is_based, is_integer, signed}
 use Rattle.behaviours.specs.Doings.{through, folded}
 use Rattle.behaviours.specs.Paths.{Leave, Exits, Returns, Raises, Entity, VariableOf, ConstantOf, Region, Everywhere, Here}
-use Rattle.ada_meaning.specs.Values.{result, truth, bit, is_in, between, to_nat, count, base_of, unary, is_zero, divides, overflows, value_or_zero, defaults, handles_reason, is_chosen}
+use Rattle.ada_meaning.specs.Values.{result, truth, bit, is_in, between, to_nat, count, base_of, unary, is_zero, divides, overflows, value_or_zero, defaults, laid, zeros, image_of, handles_reason, is_chosen}
 use Rattle.ada_meaning.specs.Operations.{CheckKind, RangeCheck, IndexCheck, OverflowCheck, ZeroCheck, Cut, Sized, Operations, zero_checked, overflow_checked, operate, reduce}
 use Rattle.ada_meaning.specs.Meaning
 use Rattle.ada_meaning.specs.Meaning.{Part, Env, Course, Chunking, Back, Passed, Returned, outset, with_target, with_handled, inside, variable_root, constant_root, array_root, iterated_env, cut_of, value_cut_of, arms_of, exits, returns, raises, value_of, reason_of, has_handlers, sub_at, moved, object_layout, most_nested, most_threads, most_iterations, most_calls}
@@ -91,13 +92,13 @@ module _ {ℓ κ ν} {o : Operations {ℓ}} {q : Operations {κ}} (rel : Relates
   reduce_step w (Operator t op class) at r a b = operates w op at class a b
   reduce_step w (Function t s x y) at r a b = r a b
 
-  reads_all : (w : World) (x : Entity) (i : ℕ) (cells : List Scalar) → R w (Meaning.read_all o x i cells) (Meaning.read_all q x i cells)
-  reads_all w x i [] = rel.ret w []
-  reads_all w x i (s ∷ ss) = rel.bind w (rel.reads w x i s) (λ v. rel.bind w (reads_all w x (suc i) ss) (λ vs. rel.ret w (v ∷ vs)))
+  reads_all : (w : World) (x : Entity) (i : ℕ) (so_far : List ℤ) (cells : List Scalar) → R w (Meaning.read_all o x i so_far cells) (Meaning.read_all q x i so_far cells)
+  reads_all w x i so_far [] = rel.ret w so_far
+  reads_all w x i so_far (s ∷ ss) = rel.bind w (rel.reads w x i s) (λ v. reads_all w x (i + 1) (so_far ++ (v ∷ [])) ss)
 
   writes_all : (w : World) (x i : ℕ) (vs : List ℤ) → R w (Meaning.write_all o x i vs) (Meaning.write_all q x i vs)
   writes_all w x i [] = rel.ret w tt
-  writes_all w x i (v ∷ vs) = rel.bind w (rel.writes w x i v) (λ _. writes_all w x (suc i) vs)
+  writes_all w x i (v ∷ vs) = rel.bind w (rel.writes w x i v) (λ _. writes_all w x (i + 1) vs)
 
   check : (w : World) (c : Check) (v : ℤ) → R w (Meaning.checked o c v) (Meaning.checked q c v)
   check w c v = rel.checks w RangeCheck c.at (is_in c.scalar v)
@@ -117,13 +118,13 @@ module _ {ℓ κ ν} {o : Operations {ℓ}} {q : Operations {κ}} (rel : Relates
   unary_check w sign.Abs at class v = rel.checks w OverflowCheck at (is_in_base (base_of class) v)
   unary_check w sign.Not at class v = rel.ret w tt
 
-  one_run : (w : World) (k n first stride : ℕ) {f : ℕ → o.Doing (List ℤ)} {g : ℕ → q.Doing (List ℤ)} → ((k : ℕ) → R w (f k) (g k)) → R w (Meaning.run_values o k n first stride f) (Meaning.run_values q k n first stride g)
-  one_run w k zero first stride r = rel.ret w []
-  one_run w k (suc n) first stride r = rel.bind w (r k) (λ cs. rel.bind w (one_run w (suc k) n (first + stride) stride r) (λ gs. rel.ret w (record { first = first; cells = cs } ∷ gs)))
+  one_run : (w : World) (k n first stride : ℕ) (so_far : List ℤ) {f : ℕ → o.Doing (List ℤ)} {g : ℕ → q.Doing (List ℤ)} → ((k : ℕ) → R w (f k) (g k)) → R w (Meaning.run_values o k n first stride so_far f) (Meaning.run_values q k n first stride so_far g)
+  one_run w k zero first stride so_far r = rel.ret w so_far
+  one_run w k (suc n) first stride so_far r = rel.bind w (r k) (λ cs. one_run w (k + 1) n (first + stride) stride (laid so_far first cs) r)
 
-  all_runs : (w : World) (runs : List Run) {f : ℕ → o.Doing (List ℤ)} {g : ℕ → q.Doing (List ℤ)} → ((k : ℕ) → R w (f k) (g k)) → R w (Meaning.runs_values o runs f) (Meaning.runs_values q runs g)
-  all_runs w [] r = rel.ret w []
-  all_runs w (run ∷ runs) r = rel.bind w (one_run w 0 run.count run.first run.stride r) (λ gs. rel.bind w (all_runs w runs r) (λ hs. rel.ret w (gs ++ hs)))
+  all_runs : (w : World) (runs : List Run) (so_far : List ℤ) {f : ℕ → o.Doing (List ℤ)} {g : ℕ → q.Doing (List ℤ)} → ((k : ℕ) → R w (f k) (g k)) → R w (Meaning.runs_values o runs so_far f) (Meaning.runs_values q runs so_far g)
+  all_runs w [] so_far r = rel.ret w so_far
+  all_runs w (run ∷ runs) so_far r = rel.bind w (one_run w 0 run.count run.first run.stride so_far r) (λ cs. all_runs w runs cs r)
 
   iterated : (w : World) (i : Option Iterated) → R w (Meaning.iterated_turn o i) (Meaning.iterated_turn q i)
   iterated w None = rel.ret w tt
@@ -237,7 +238,7 @@ module _ {ℓ κ ν} {o : Operations {ℓ}} {q : Operations {κ}} (rel : Relates
         eval (Relation class comparison e f) env h k = rel.bind h.world (eval e env h k.0) (λ x. rel.bind h.world (eval f env h k.1) (λ y. rel.ret h.world _))
         eval (Membership class negated e low high) env h k = rel.bind h.world (eval e env h k.0) (λ x. rel.bind h.world (eval low env h k.1) (λ l. rel.bind h.world (eval high env h k.2) (λ u. rel.ret h.world _)))
         eval (If condition value otherwise) env h k = rel.bind h.world (eval condition env h k.0) (λ c. choose h.world (truth c) (eval value env h k.1) (eval otherwise env h k.2))
-        eval (Call at callee s actuals) env h k = rel.bind h.world (pass actuals env h k.1) (λ passed. rel.bind h.world (same h env.nested s (o.ret tt) (q.ret tt) passed k.0 (rel.ret h.world tt)) (λ r. rel.ret h.world r.value))
+        eval (Call at callee s actuals) env h k = rel.bind h.world (pass actuals env [] h k.1) (λ passed. rel.bind h.world (same h env.nested s (o.ret tt) (q.ret tt) passed k.0 (rel.ret h.world tt)) (λ r. rel.ret h.world r.value))
         eval (Convert c e) env h k = rel.bind h.world (eval e env h k) (λ v. rel.bind h.world (check h.world c v) (λ _. rel.ret h.world v))
         eval (Reduction at attribute by initial None chunk iteration value) env h k =
             rel.bind h.world (eval initial env h k.2) (λ start. rel.bind h.world (course iteration env h k.4) (λ c.
@@ -261,29 +262,29 @@ module _ {ℓ κ ν} {o : Operations {ℓ}} {q : Operations {κ}} (rel : Relates
         select (Field number offset rest) env p h k = select rest env (moved p offset) h k
         select (Index at e low high stride rest) env p h k = rel.bind h.world (eval e env h k.0) (λ i. rel.bind h.world (rel.checks h.world IndexCheck at (between low i high)) (λ _. select rest env (moved p (to_nat (i -ℤ low) * stride)) h k.1))
 
-        pub pass : (a : Actuals) (env : Env) (h : Spot) → KeepsActuals nonblocking a h.blocking → R h.world (Meaning.pass o limit program calls a env) (Meaning.pass q limit program calls' a env)
-        pass NoActual env h k = rel.ret h.world []
-        pass (In formal value rest) env h k = rel.bind h.world (cells value env h k.0) (λ cs. rel.bind h.world (pass rest env h k.1) (λ more. rel.ret h.world _))
-        pass (InOut formal at r selections x y rest) env h k = rel.bind h.world (select selections env (variable_root r env) h k.0) (λ p. rel.bind h.world (rel.reads h.world (VariableOf p.object) p.offset y) (λ v. rel.bind h.world (check h.world (record { at = at; scalar = x }) v) (λ _. rel.bind h.world (pass rest env h k.1) (λ more. rel.ret h.world _))))
-        pass (Out formal at r selections x y rest) env h k = rel.bind h.world (select selections env (variable_root r env) h k.0) (λ p. rel.bind h.world (pass rest env h k.1) (λ more. rel.ret h.world _))
-        pass (CompositeInOut formal at r selections subtype rest) env h k = rel.bind h.world (select selections env (variable_root r env) h k.0) (λ p. rel.bind h.world (reads_all h.world (VariableOf p.object) p.offset (Meaning.cells_of o limit program calls subtype)) (λ vs. rel.bind h.world (pass rest env h k.1) (λ more. rel.ret h.world _)))
-        pass (CompositeOut formal at r selections subtype rest) env h k = rel.bind h.world (select selections env (variable_root r env) h k.0) (λ p. rel.bind h.world (reads_all h.world (VariableOf p.object) p.offset (Meaning.cells_of o limit program calls subtype)) (λ vs. rel.bind h.world (pass rest env h k.1) (λ more. rel.ret h.world _)))
+        pub pass : (a : Actuals) (env : Env) (so_far : List Passed) (h : Spot) → KeepsActuals nonblocking a h.blocking → R h.world (Meaning.pass o limit program calls a env so_far) (Meaning.pass q limit program calls' a env so_far)
+        pass NoActual env so_far h k = rel.ret h.world so_far
+        pass (In formal value rest) env so_far h k = rel.bind h.world (cells value env h k.0) (λ cs. pass rest env _ h k.1)
+        pass (InOut formal at r selections x y rest) env so_far h k = rel.bind h.world (select selections env (variable_root r env) h k.0) (λ p. rel.bind h.world (rel.reads h.world (VariableOf p.object) p.offset y) (λ v. rel.bind h.world (check h.world (record { at = at; scalar = x }) v) (λ _. pass rest env _ h k.1)))
+        pass (Out formal at r selections x y rest) env so_far h k = rel.bind h.world (select selections env (variable_root r env) h k.0) (λ p. pass rest env _ h k.1)
+        pass (CompositeInOut formal at r selections subtype rest) env so_far h k = rel.bind h.world (select selections env (variable_root r env) h k.0) (λ p. rel.bind h.world (reads_all h.world (VariableOf p.object) p.offset [] (Meaning.cells_of o limit program calls subtype)) (λ vs. pass rest env _ h k.1))
+        pass (CompositeOut formal at r selections subtype rest) env so_far h k = rel.bind h.world (select selections env (variable_root r env) h k.0) (λ p. rel.bind h.world (reads_all h.world (VariableOf p.object) p.offset [] (Meaning.cells_of o limit program calls subtype)) (λ vs. pass rest env _ h k.1))
 
         pub cells : (v : Value) (env : Env) (h : Spot) → KeepsValue nonblocking v h.blocking → R h.world (Meaning.cells o limit program calls v env) (Meaning.cells q limit program calls' v env)
         cells (Number c e) env h k = rel.bind h.world (eval e env h k) (λ v. rel.bind h.world (check h.world c v) (λ _. rel.ret h.world (v ∷ [])))
         cells (Cells c) env h k = composite c env h k
 
         pub composite : (c : Composite) (env : Env) (h : Spot) → KeepsComposite nonblocking c h.blocking → R h.world (Meaning.composite o limit program calls c env) (Meaning.composite q limit program calls' c env)
-        composite (WholeVariable at r selections subtype) env h k = rel.bind h.world (select selections env (variable_root r env) h k) (λ p. reads_all h.world (VariableOf p.object) p.offset (Meaning.cells_of o limit program calls subtype))
-        composite (WholeConstant at r selections subtype) env h k = rel.bind h.world (select selections env (constant_root r env) h k) (λ p. reads_all h.world (ConstantOf p.object) p.offset (Meaning.cells_of o limit program calls subtype))
-        composite (WholeTarget at subtype) env h k = reads_all h.world (VariableOf env.target.object) env.target.offset (Meaning.cells_of o limit program calls subtype)
+        composite (WholeVariable at r selections subtype) env h k = rel.bind h.world (select selections env (variable_root r env) h k) (λ p. reads_all h.world (VariableOf p.object) p.offset [] (Meaning.cells_of o limit program calls subtype))
+        composite (WholeConstant at r selections subtype) env h k = rel.bind h.world (select selections env (constant_root r env) h k) (λ p. reads_all h.world (ConstantOf p.object) p.offset [] (Meaning.cells_of o limit program calls subtype))
+        composite (WholeTarget at subtype) env h k = reads_all h.world (VariableOf env.target.object) env.target.offset [] (Meaning.cells_of o limit program calls subtype)
         composite (CompositeIf condition value otherwise) env h k = rel.bind h.world (eval condition env h k.0) (λ c. choose h.world (truth c) (composite value env h k.1) (composite otherwise env h k.2))
-        composite (Aggregate at size associations mentions) env h k = rel.bind h.world (associated associations env h k.0) (λ gs. rel.ret h.world _)
+        composite (Aggregate at size associations mentions) env h k = associated associations env (zeros size) h k.0
 
-        pub associated : (a : Associations) (env : Env) (h : Spot) → KeepsAssociations nonblocking a h.blocking → R h.world (Meaning.associated o limit program calls a env) (Meaning.associated q limit program calls' a env)
-        associated NoAssociation env h k = rel.ret h.world []
-        associated (Association runs i value rest) env h k =
-            rel.bind h.world (all_runs h.world runs (λ n. rel.bind h.world (iterated h.world i) (λ _. cells value (iterated_env i n env) h k.0))) (λ gs. rel.bind h.world (associated rest env h k.1) (λ hs. rel.ret h.world (gs ++ hs)))
+        pub associated : (a : Associations) (env : Env) (so_far : List ℤ) (h : Spot) → KeepsAssociations nonblocking a h.blocking → R h.world (Meaning.associated o limit program calls a env so_far) (Meaning.associated q limit program calls' a env so_far)
+        associated NoAssociation env so_far h k = rel.ret h.world so_far
+        associated (Association runs i value rest) env so_far h k =
+            rel.bind h.world (all_runs h.world runs so_far (λ n. rel.bind h.world (iterated h.world i) (λ _. cells value (iterated_env i n env) h k.0))) (λ cs. associated rest env cs h k.1)
 
         pub course : (i : Iteration) (env : Env) (h : Spot) → KeepsIteration nonblocking i h.blocking → R h.world (Meaning.course o limit program calls i env) (Meaning.course q limit program calls' i env)
         course (Range x reverse low high c filter) env h k = rel.bind h.world (eval low env h k.0) (λ l. rel.bind h.world (eval high env h k.1) (λ u. rel.bind h.world (bounds h.world c l u) (λ _. rel.ret h.world _)))
@@ -300,11 +301,11 @@ module _ {ℓ κ ν} {o : Operations {ℓ}} {q : Operations {κ}} (rel : Relates
             rel.bind h.world (eval low env h k.0) (λ l. rel.bind h.world (eval high env h k.1) (λ u. rel.bind h.world (bounds h.world c l u) (λ _.
             rel.bind h.world (unless h.world (int_le l u) reason.ProgramError) (λ _. rel.bind h.world (unless h.world (nat_le (count l u) most_threads) reason.StorageError) (λ _. rel.ret h.world _)))))
 
-      written : (p : Pieces) (env : Env) (h : Spot) → KeepsPieces nonblocking p h.blocking → R h.world (Meaning.written o limit program calls p env) (Meaning.written q limit program calls' p env)
-      written NoPiece env h k = rel.ret h.world []
-      written (Text bytes rest) env h k = rel.bind h.world (written rest env h k) (λ more. rel.ret h.world _)
-      written (Image class e rest) env h k = rel.bind h.world (eval e env h k.0) (λ v. rel.bind h.world (written rest env h k.1) (λ more. rel.ret h.world _))
-      written (Padded class e width rest) env h k = rel.bind h.world (eval e env h k.0) (λ v. rel.bind h.world (eval width env h k.1) (λ w. rel.bind h.world (written rest env h k.2) (λ more. rel.ret h.world _)))
+      written : (p : Pieces) (env : Env) (so_far : List ℕ) (h : Spot) → KeepsPieces nonblocking p h.blocking → R h.world (Meaning.written o limit program calls p env so_far) (Meaning.written q limit program calls' p env so_far)
+      written NoPiece env so_far h k = rel.ret h.world so_far
+      written (Text bytes rest) env so_far h k = written rest env (so_far ++ bytes) h k
+      written (Image class e rest) env so_far h k = rel.bind h.world (eval e env h k.0) (λ v. written rest env (so_far ++ image_of class v) h k.1)
+      written (Padded class e width rest) env so_far h k = rel.bind h.world (eval e env h k.0) (λ v. rel.bind h.world (eval width env h k.1) (λ w. written rest env (so_far ++ padded v (to_nat w)) h k.2))
 
       declared : {A : Type 0} (d : Decls) (region : Region) (env : Env) (h : Spot) (u : region ≡ Everywhere → Open h.world) {m : o.Doing A} {n : q.Doing A} → KeepsDecls nonblocking d h.blocking → R h.world m n → R h.world (Meaning.declared o limit program calls d region env m) (Meaning.declared q limit program calls' d region env n)
       declared NoDecl region env h u k r = r
@@ -335,7 +336,7 @@ module _ {ℓ κ ν} {o : Operations {ℓ}} {q : Operations {κ}} (rel : Relates
         pub exec : (s : Stmt) (env : Env) (h : Spot) → Keeps nonblocking s h.blocking → R h.world (Meaning.exec o limit program calls s env) (Meaning.exec q limit program calls' s env)
         exec Null env h k = rel.ret h.world tt
         exec (Assign at r selections value) env h k = rel.bind h.world (select selections env (variable_root r env) h k.0) (λ p. rel.bind h.world (cells value (with_target p env) h k.1) (λ cs. writes_all h.world p.object p.offset cs))
-        exec (CallProcedure at callee s actuals) env h k = rel.bind h.world (pass actuals env h k.1) (λ passed. rel.bind h.world (same h env.nested s (o.ret tt) (q.ret tt) passed k.0 (rel.ret h.world tt)) (λ r. copies_back h.world passed r.cells))
+        exec (CallProcedure at callee s actuals) env h k = rel.bind h.world (pass actuals env [] h k.1) (λ passed. rel.bind h.world (same h env.nested s (o.ret tt) (q.ret tt) passed k.0 (rel.ret h.world tt)) (λ r. copies_back h.world passed r.cells))
         exec (Exit loop condition) env h k = rel.bind h.world (holds condition env h k) (λ goes. choose h.world goes (rel.leaves h.world (Exits loop)) (rel.ret h.world tt))
         exec Return env h k = rel.leaves h.world (Returns None)
         exec (ReturnValue value) env h k = rel.bind h.world (cells value env h k) (λ cs. rel.leaves h.world (Returns (slice_get cs 0)))
@@ -355,7 +356,7 @@ module _ {ℓ κ ν} {o : Operations {ℓ}} {q : Operations {κ}} (rel : Relates
             rel.bind h.world (opens h.world env) (λ _. rel.bind h.world (threads number (inside env) (quiet h) k.0) (λ n.
             rel.loops h.world site (Sized (evens (arms_of arms) (min n (arms_of arms)))) (λ j i. exec_arm arms i (inside env) (threaded h) k.1)))
         exec (Block decls stmts handlers) env h k = declared decls Here env h (here_only h.world) k.0 (guards h.world handlers (exec_all stmts env h k.1) (λ r. exec_handler handlers r env h k.2))
-        exec (Put at callee pieces line) env h k = rel.bind h.world (written pieces env h k.0) (λ bytes. rel.puts h.world (h.fine k.1) (cond line (bytes ++ (10 ∷ [])) bytes))
+        exec (Put at callee pieces line) env h k = rel.bind h.world (written pieces env [] h k.0) (λ bytes. rel.puts h.world (h.fine k.1) (cond line (bytes ++ (10 ∷ [])) bytes))
         exec (Get at callee first r selections scalar) env h k =
             rel.bind h.world (select selections env (variable_root r env) h k.0) (λ p. rel.bind h.world (gets h.world (h.fine k.1) limit) (λ v. rel.bind h.world (rel.checks h.world RangeCheck first (is_in scalar v)) (λ _. rel.writes h.world p.object p.offset v)))
 
@@ -386,11 +387,11 @@ module _ {ℓ κ ν} {o : Operations {ℓ}} {q : Operations {κ}} (rel : Relates
 
     cells_back : (w : World) (x : Entity) (b : Option Back) → R w (Meaning.cells_back o limit program x b) (Meaning.cells_back q limit program x b)
     cells_back w x None = rel.ret w []
-    cells_back w x (Some b) = reads_all w x 0 b.cells
+    cells_back w x (Some b) = reads_all w x 0 [] b.cells
 
-    backs : (w : World) (ps : List Passed) → R w (Meaning.back_cells o limit program ps) (Meaning.back_cells q limit program ps)
-    backs w [] = rel.ret w []
-    backs w (p ∷ ps) = rel.bind w (cells_back w p.formal p.back) (λ vs. rel.bind w (backs w ps) (λ vss. rel.ret w (vs ∷ vss)))
+    backs : (w : World) (ps : List Passed) (so_far : List (List ℤ)) → R w (Meaning.back_cells o limit program ps so_far) (Meaning.back_cells q limit program ps so_far)
+    backs w [] so_far = rel.ret w so_far
+    backs w (p ∷ ps) so_far = rel.bind w (cells_back w p.formal p.back) (λ vs. backs w ps (so_far ++ (vs ∷ [])))
 
     ended : (w : World) (result : Option Scalar) → R w (Meaning.ended o limit program result) (Meaning.ended q limit program result)
     ended w None = rel.ret w (pos 0)
@@ -432,7 +433,7 @@ module _ {ℓ κ ν} {o : Operations {ℓ}} {q : Operations {κ}} (rel : Relates
       sub_body calls calls' same (Some sub) known k nested passed h may =
           rel.apart h.world (formals h.world passed (rel.bind h.world (rel.handles h.world returns
           (rel.bind h.world (body limit program marked calls calls' same sub.body Here (outset nested) (at_callee h program.nonblocking sub.nonblocking (λ e. k.1 ∙ may e)) (here_only h.world) k.0) (λ _. ended h.world sub.result))
-          (λ how. rel.ret h.world (value_of how))) (λ v. rel.bind h.world (backs h.world passed) (λ vss. rel.ret h.world (record { value = v; cells = vss })))))
+          (λ how. rel.ret h.world (value_of how))) (λ v. rel.bind h.world (backs h.world passed []) (λ vss. rel.ret h.world (record { value = v; cells = vss })))))
 
       pub calls : (depth : ℕ) → SameCalls limit program marked (Meaning.call o limit program depth) (Meaning.call q limit program depth)
       calls zero h nested s before before' passed may r = rel.bind h.world (turned h.world) (λ _. raised h.world reason.StorageError)

@@ -3,7 +3,7 @@ use Rattle.std.proofs.Common.{◌≡◌, ℕ, max, List, [], ◌∷◌, ◌++◌
 use Rattle.behaviours.specs.Paths.{Leave, Instance, End, Gives, Leaves, Spent, Stopped, Path, Scope, joined, is_inside}
 use Rattle.behaviours.specs.Events.{Reads, Writes, Recalls, Keeps, Takes, Puts, Looks, Trace, output_of, Has, Merge, Shuffle, Apart, ApartFrom, AllApart, in_order}
 use Rattle.behaviours.specs.Memory.{Memory, after, Fits, EachFits}
-use Rattle.behaviours.specs.Joins.{Ran, traces, EachRan, most_turns, AllGive, SomeEnds, NoneLeft, Joined, Form, Ordered, FirstEnds, Idle, some_early, Share}
+use Rattle.behaviours.specs.Joins.{Ran, traces, EachRan, most_turns, AllGive, SomeEnds, NoneLeft, Joins, Form, JoinsInOrder, FirstEnds, Idle, some_early, Share}
 use Rattle.behaviours.specs.Behaviours.{Behaviour, Unbegun, is_left, MayTrace, EachSafe, ThreadApart, ThreadsApart, asks_apart}
 use Rattle.behaviours.specs.Behaviours
 use Rattle.behaviours.specs.Joins
@@ -58,7 +58,7 @@ abbrev ending : {A : Type 0} → List (Ran Instance A) → End (List A)
 ending [] = Gives []
 ending (r ∷ rs) = before r.end (ending rs)
 
-joined_before : {A : Type 0} (r : Ran Instance A) (rs : List (Ran Instance A)) (e : End A) (f : End (List A)) → r.end ≡ e → NoneLeft (r ∷ rs) → Joined rs f → Joined (r ∷ rs) (before e f)
+joined_before : {A : Type 0} (r : Ran Instance A) (rs : List (Ran Instance A)) (e : End A) (f : End (List A)) → r.end ≡ e → NoneLeft (r ∷ rs) → Joins rs f → Joins (r ∷ rs) (before e f)
 joined_before r rs (Gives a) (Gives more) eq n j = (a, more, refl, eq, j)
 joined_before r rs (Gives a) (Leaves x) eq n j = inr j
 joined_before r rs (Gives a) Spent eq n j = (n, inr j.1)
@@ -70,7 +70,7 @@ joined_before r rs Spent Spent eq n j = (n, inl eq)
 joined_before r rs Spent Stopped eq n j = tt
 joined_before r rs Stopped f eq n j = tt
 
-joined_ending : {A : Type 0} (rs : List (Ran Instance A)) → NoneLeft rs → Joined rs (ending rs)
+joined_ending : {A : Type 0} (rs : List (Ran Instance A)) → NoneLeft rs → Joins rs (ending rs)
 joined_ending [] n = refl
 joined_ending (r ∷ rs) n = joined_before r rs r.end (ending rs) refl n (joined_ending rs n.2)
 
@@ -108,7 +108,7 @@ some_spent [] n s = absurd s
 some_spent (r ∷ rs) n (inl e) = ⊎_elim (λ f. ap₂ before (sym e) f.1) (λ f. ap₂ before (sym e) f) (ending_finished rs n.2)
 some_spent (r ∷ rs) n (inr s) = ⊎_elim (λ f. ap₂ before (sym f.1) (some_spent rs n.2 s)) (λ f. ap₂ before (sym f) (some_spent rs n.2 s)) (finished r.end n.0 n.1)
 
-ending_only : {A : Type 0} (rs : List (Ran Instance A)) (e : End (List A)) → NoneLeft rs → Joined rs e → (e ≡ Stopped → ⊥) → e ≡ ending rs
+ending_only : {A : Type 0} (rs : List (Ran Instance A)) (e : End (List A)) → NoneLeft rs → Joins rs e → (e ≡ Stopped → ⊥) → e ≡ ending rs
 ending_only rs (Gives values) n j ne = all_give rs values j
 ending_only rs (Leaves x) n j ne = absurd (none_leaves rs x n j)
 ending_only rs Spent n j ne = some_spent rs n j.1
@@ -334,7 +334,7 @@ or_right_true : (a : Bool) → true ≡ (a || true)
 or_right_true true = refl
 or_right_true false = refl
 
-joined_ordered : {A : Type 0} (p : Path Instance) (rs : List (Ran Instance A)) (e : End (List A)) → NoneLeft rs → Joined rs e → Ordered p rs e
+joined_ordered : {A : Type 0} (p : Path Instance) (rs : List (Ran Instance A)) (e : End (List A)) → NoneLeft rs → Joins rs e → JoinsInOrder p rs e
 joined_ordered p rs (Gives values) n j = j
 joined_ordered p rs (Leaves x) n j = absurd (none_leaves rs x n j)
 joined_ordered p rs Spent n j = j
@@ -354,7 +354,7 @@ module _ {A : Type 0} (one : Bool) (js : List Share) (body : Share → Body A) (
   same_early t = sym (or_false plans.early) ∙ ap₂ (λ z w. z || w) (sym t.early) (sym (ap is_left t.end ∙ left_ending t.rans t.none_left))
 
   -- what is chained is the plan's
-  chained_same : (rs : List (Ran Instance A)) (tr : Trace Instance) (y : Bool) (p' : Path Instance) (e : End (List A)) → NoneLeft rs → Joined rs e → (e ≡ Stopped → ⊥) → y ≡ (some_early rs || is_left e) → p' ≡ joined p (most_turns p.turns rs) → Chained one body plan agree p js m plans rs
+  chained_same : (rs : List (Ran Instance A)) (tr : Trace Instance) (y : Bool) (p' : Path Instance) (e : End (List A)) → NoneLeft rs → Joins rs e → (e ≡ Stopped → ⊥) → y ≡ (some_early rs || is_left e) → p' ≡ joined p (most_turns p.turns rs) → Chained one body plan agree p js m plans rs
       → (p' ≡ joined p plans.path.turns) × (e ≡ plans.end) × (y ≡ plans.early)
   chained_same rs tr y p' e n j ne ey ep c =
       let ee = ending_only rs e n j ne in
@@ -371,13 +371,13 @@ module _ {A : Type 0} (one : Bool) (js : List Share) (body : Share → Body A) (
         let t = same_threads one body plan agree p js m safe calm in
         record {
           trace = in_order (traces t.rans);
-          runs = (t.rans, t.ran, (refl, subst (λ z. Ordered p t.rans z) (sym t.end) (joined_ordered p t.rans (ending t.rans) t.none_left (joined_ending t.rans t.none_left))), same_early t, ap (joined p) t.turns);
+          runs = (t.rans, t.ran, (refl, subst (λ z. JoinsInOrder p t.rans z) (sym t.end) (joined_ordered p t.rans (ending t.rans) t.none_left (joined_ending t.rans t.none_left))), same_early t, ap (joined p) t.turns);
           does = record { fits = t.does.fits; memory = t.does.memory; out = t.does.out };
         };
     only = λ tr y p' e ran f ne st. go tr y p' e ran.0 ran.1 ran.2 ran.3 ran.4 f ne st;
   }
     where
-      finish : (tr : Trace Instance) (y : Bool) (p' : Path Instance) (e : End (List A)) (rs : List (Ran Instance A)) → Each body p js rs → tr ≡ in_order (traces rs) → NoneLeft rs → Joined rs e → y ≡ (some_early rs || is_left e) → p' ≡ joined p (most_turns p.turns rs) → Fits m tr → (e ≡ Stopped → ⊥) → Settled one plans.early y
+      finish : (tr : Trace Instance) (y : Bool) (p' : Path Instance) (e : End (List A)) (rs : List (Ran Instance A)) → Each body p js rs → tr ≡ in_order (traces rs) → NoneLeft rs → Joins rs e → y ≡ (some_early rs || is_left e) → p' ≡ joined p (most_turns p.turns rs) → Fits m tr → (e ≡ Stopped → ⊥) → Settled one plans.early y
           → (p' ≡ joined p plans.path.turns) × (e ≡ plans.end) × (y ≡ plans.early) × Does m tr (closed p plans)
       finish tr y p' e rs each etr n j ey ep f ne st =
           let c = chained one body plan agree p js m rs safe each n (subst (λ z. Fits m z) etr f) (settled_threads rs y e ey st) in
@@ -402,13 +402,13 @@ module _ {A : Type 0} (one : Bool) (js : List Share) (body : Share → Body A) (
         let t = same_threads one body plan agree p js m (safe_each body p js safe) calm in
         record {
           trace = in_order (traces t.rans);
-          runs = (t.rans, t.ran, (shuffle_in_order (traces t.rans), subst (λ z. Joined t.rans z) (sym t.end) (joined_ending t.rans t.none_left)), same_early t, ap (joined p) t.turns);
+          runs = (t.rans, t.ran, (shuffle_in_order (traces t.rans), subst (λ z. Joins t.rans z) (sym t.end) (joined_ending t.rans t.none_left)), same_early t, ap (joined p) t.turns);
           does = record { fits = t.does.fits; memory = t.does.memory; out = t.does.out };
         };
     only = λ tr y p' e ran f ne st. go tr y p' e ran.0 ran.1 ran.2 ran.3 ran.4 f ne st;
   }
     where
-      finish : (tr : Trace Instance) (y : Bool) (p' : Path Instance) (e : End (List A)) (rs : List (Ran Instance A)) → Each body p js rs → Shuffle (traces rs) tr → NoneLeft rs → Joined rs e → y ≡ (some_early rs || is_left e) → p' ≡ joined p (most_turns p.turns rs) → Fits m tr → (e ≡ Stopped → ⊥) → Settled one plans.early y
+      finish : (tr : Trace Instance) (y : Bool) (p' : Path Instance) (e : End (List A)) (rs : List (Ran Instance A)) → Each body p js rs → Shuffle (traces rs) tr → NoneLeft rs → Joins rs e → y ≡ (some_early rs || is_left e) → p' ≡ joined p (most_turns p.turns rs) → Fits m tr → (e ≡ Stopped → ⊥) → Settled one plans.early y
           → (p' ≡ joined p plans.path.turns) × (e ≡ plans.end) × (y ≡ plans.early) × Does m tr (closed p plans)
       finish tr y p' e rs each sh n j ey ep f ne st =
           let law = shuffle_law (traces rs) m (all_apart body p js rs safe each) (inl (tr, sh, f)) in

@@ -2,7 +2,7 @@
 -- one object. What the outermost path elaborates has the same name in both.
 use Rattle.std.proofs.Common.{◌≡◌, ℕ, suc, ◌+◌, ◌<◌, ◌≤◌, ℤ, nat_eq, List, [], ◌∷◌, ◌++◌, ◌⊎◌, inl, inr, ⊎_elim, Bool, true, false, ◌&&◌, cond, refl, sym, subst, ap, ap₂, ◌∙◌, true≢false, arith, le_refl, append_assoc, length, length-append, eq-eqb, ltb, ltb-true, ltb-false}
 use Rattle.std.proofs.lemmas.Bool.{eqb-false}
-use Rattle.behaviours.specs.Paths.{Entity, VariableOf, ConstantOf, Region, Everywhere, Here, Name, Instance, Path, instance_eq, name_eq, entity_eq, one_elaboration, enter, joined}
+use Rattle.behaviours.specs.Paths.{Entity, VariableOf, ConstantOf, Region, Everywhere, Here, ThreadName, Instance, Path, instance_eq, name_eq, entity_eq, one_elaboration, enter, joined}
 use Rattle.behaviours.specs.Memory.{Memory, put, put_all}
 use Rattle.ada_meaning.specs.Planned.{here}
 use Rattle.behaviours.proofs.Shuffle.{instance_same}
@@ -26,7 +26,7 @@ tied_outer (c ∷ w) x y i e o = inr (tied_outer w x y i e o)
 
 -- the instances that a path may still make: its own and those of the threads of its constructs
 abbrev pub Future : Path Instance → Instance → Type 0
-Future p x = ((x.thread ≡ p.name) × (p.elaborations ≤ x.number)) ⊎ ((inner : Name) × (c : ℕ) × (p.constructs ≤ c) × (x.thread ≡ inner ++ (c ∷ p.name)))
+Future p x = ((x.thread ≡ p.name) × (p.elaborations ≤ x.number)) ⊎ ((inner : ThreadName) × (c : ℕ) × (p.constructs ≤ c) × (x.thread ≡ inner ++ (c ∷ p.name)))
 
 abbrev pub Goes : Path Instance → Path Instance → Type 0
 Goes p p' = (x : Instance) → Future p' x → Future p x
@@ -51,11 +51,11 @@ fresh x Everywhere l p (inl (e, le)) = let h : suc p.elaborations ≤ p.elaborat
 fresh x Here l p (inl (e, le)) = let h : suc p.elaborations ≤ p.elaborations = le in omega arith
 fresh x Everywhere l p (inr (inner, c, k, e)) = longer p.name inner c e
   where
-    longer : (n inner : Name) (c : ℕ) → n ≡ inner ++ (c ∷ n) → ⊥
+    longer : (n inner : ThreadName) (c : ℕ) → n ≡ inner ++ (c ∷ n) → ⊥
     longer n inner c e = let same : length n ≡ length (inner ++ (c ∷ n)) = ap length e in let total : length (inner ++ (c ∷ n)) ≡ length inner + length (c ∷ n) = length-append inner (c ∷ n) in omega arith
 fresh x Here l p (inr (inner, c, k, e)) = longer p.name inner c e
   where
-    longer : (n inner : Name) (c : ℕ) → n ≡ inner ++ (c ∷ n) → ⊥
+    longer : (n inner : ThreadName) (c : ℕ) → n ≡ inner ++ (c ∷ n) → ⊥
     longer n inner c e = let same : length n ≡ length (inner ++ (c ∷ n)) = ap length e in let total : length (inner ++ (c ∷ n)) ≡ length inner + length (c ∷ n) = length-append inner (c ∷ n) in omega arith
 
 pub now : (x : Entity) (p : Path Instance) (l : Instance) → l ≡ here x p → Future p l
@@ -121,7 +121,7 @@ module _ (x : Entity) (n : ℕ) (w : Ties) (p q : Path Instance) (f : Fair w p q
 abbrev pub Agree : Ties → Memory → Memory → Type 0
 Agree w m n = (x y : Instance) (i : ℕ) → TiedAt w x y i → m.cells x i ≡ n.cells y i
 
-name_refl : (n : Name) → name_eq n n ≡ true
+name_refl : (n : ThreadName) → name_eq n n ≡ true
 name_refl [] = refl
 name_refl (i ∷ n) = ap₂ (λ a b. a && b) (eq-eqb i i refl) (name_refl n)
 

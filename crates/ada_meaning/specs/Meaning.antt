@@ -23,7 +23,7 @@ use Rattle.ada_base.specs.Image.{padded}
 use Rattle.ada_base.specs.Input.{Held, Nothing, Symbol, is_blank, is_byte, is_digit, digit_of, is_based, signed, is_integer}
 use Rattle.behaviours.specs.Doings.{through, folded}
 use Rattle.behaviours.specs.Paths.{Leave, Exits, Returns, Raises, Entity, VariableOf, ConstantOf, Region, Everywhere, Here}
-use Rattle.ada_meaning.specs.Values.{truth, bit, is_in, between, to_nat, count, base_of, unary, compares, is_chosen, handles_reason, without_zeros, layout, defaults, Given, assembled, zeros, image_of}
+use Rattle.ada_meaning.specs.Values.{truth, bit, is_in, between, to_nat, count, base_of, unary, compares, is_chosen, handles_reason, without_zeros, layout, defaults, laid, zeros, image_of}
 use Rattle.ada_meaning.specs.Operations.{RangeCheck, IndexCheck, OverflowCheck, Cut, ByPlan, Sized, Operations, operate, reduce}
 
 -- an object and how many cells of it come before
@@ -205,18 +205,18 @@ module _ {ℓ} (ops : Operations {ℓ}) where
 
   -- ---- cells
 
-  abbrev pub read_all : Entity → ℕ → List Scalar → Doing (List ℤ)
-  read_all x offset [] = ret []
-  read_all x offset (s ∷ ss) = do
+  -- cells of an object from one on, behind those that were read so far
+  abbrev pub read_all : Entity → ℕ → List ℤ → List Scalar → Doing (List ℤ)
+  read_all x offset so_far [] = ret so_far
+  read_all x offset so_far (s ∷ ss) = do
     v ← reads x offset s
-    vs ← read_all x (suc offset) ss
-    ret (v ∷ vs)
+    read_all x (offset + 1) (so_far ++ (v ∷ [])) ss
 
   abbrev pub write_all : ℕ → ℕ → List ℤ → Doing (Unit {0})
   write_all x offset [] = ret tt
   write_all x offset (v ∷ vs) = do
     _ ← writes x offset v
-    write_all x (suc offset) vs
+    write_all x (offset + 1) vs
 
   abbrev pub checked : Check → ℤ → Doing (Unit {0})
   checked c v = checks RangeCheck c.at (is_in c.scalar v)
@@ -243,21 +243,19 @@ module _ {ℓ} (ops : Operations {ℓ}) where
   unary_checked sign.Abs at class v = checks OverflowCheck at (is_in_base (base_of class) v)
   unary_checked sign.Not at class v = ret tt
 
-  -- ---- aggregates (4.3): the values of a run's components, one after the other
+  -- ---- aggregates (4.3): cells over which the values of a run's components are laid, one after the other
 
-  abbrev pub run_values : ℕ → ℕ → ℕ → ℕ → (ℕ → Doing (List ℤ)) → Doing (List Given)
-  run_values k zero first stride value = ret []
-  run_values k (suc n) first stride value = do
+  abbrev pub run_values : ℕ → ℕ → ℕ → ℕ → List ℤ → (ℕ → Doing (List ℤ)) → Doing (List ℤ)
+  run_values k zero first stride so_far value = ret so_far
+  run_values k (suc n) first stride so_far value = do
     cs ← value k
-    gs ← run_values (suc k) n (first + stride) stride value
-    ret (record { first = first; cells = cs } ∷ gs)
+    run_values (k + 1) n (first + stride) stride (laid so_far first cs) value
 
-  abbrev pub runs_values : List Run → (ℕ → Doing (List ℤ)) → Doing (List Given)
-  runs_values [] value = ret []
-  runs_values (r ∷ rs) value = do
-    gs ← run_values 0 r.count r.first r.stride value
-    hs ← runs_values rs value
-    ret (gs ++ hs)
+  abbrev pub runs_values : List Run → List ℤ → (ℕ → Doing (List ℤ)) → Doing (List ℤ)
+  runs_values [] so_far value = ret so_far
+  runs_values (r ∷ rs) so_far value = do
+    cs ← run_values 0 r.count r.first r.stride so_far value
+    runs_values rs cs value
 
   -- a value of an iterated association takes a turn
   abbrev pub iterated_turn : Option Iterated → Doing (Unit {0})
@@ -409,7 +407,7 @@ module _ {ℓ} (ops : Operations {ℓ}) where
         c ← eval condition env
         cond (truth c) (eval value env) (eval otherwise env)
       eval (Call at callee s actuals) env = do
-        passed ← pass actuals env
+        passed ← pass actuals env []
         r ← calls env.nested s (ret tt) passed
         ret r.value
       eval (Convert check e) env = do
@@ -449,32 +447,27 @@ module _ {ℓ} (ops : Operations {ℓ}) where
         select rest env (moved p (to_nat (i -ℤ low) * stride))
 
       -- actual parameters, evaluated, read and checked from left to right (6.4.1)
-      pub pass : Actuals → Env → Doing (List Passed)
-      pass NoActual env = ret []
-      pass (In formal value rest) env = do
+      pub pass : Actuals → Env → List Passed → Doing (List Passed)
+      pass NoActual env so_far = ret so_far
+      pass (In formal value rest) env so_far = do
         cs ← cells value env
-        more ← pass rest env
-        ret (record { formal = ConstantOf formal; cells = cs; back = None } ∷ more)
-      pass (InOut formal at r selections inner outer rest) env = do
+        pass rest env (so_far ++ (record { formal = ConstantOf formal; cells = cs; back = None } ∷ []))
+      pass (InOut formal at r selections inner outer rest) env so_far = do
         p ← select selections env (variable_root r env)
         v ← reads (VariableOf p.object) p.offset outer
         _ ← checked (record { at = at; scalar = inner }) v
-        more ← pass rest env
-        ret (record { formal = VariableOf formal; cells = v ∷ []; back = Some (record { part = p; cells = inner ∷ []; check = Some (record { at = at; scalar = outer }) }) } ∷ more)
-      pass (Out formal at r selections inner outer rest) env = do
+        pass rest env (so_far ++ (record { formal = VariableOf formal; cells = v ∷ []; back = Some (record { part = p; cells = inner ∷ []; check = Some (record { at = at; scalar = outer }) }) } ∷ []))
+      pass (Out formal at r selections inner outer rest) env so_far = do
         p ← select selections env (variable_root r env)
-        more ← pass rest env
-        ret (record { formal = VariableOf formal; cells = inner.low ∷ []; back = Some (record { part = p; cells = inner ∷ []; check = Some (record { at = at; scalar = outer }) }) } ∷ more)
-      pass (CompositeInOut formal at r selections subtype rest) env = do
+        pass rest env (so_far ++ (record { formal = VariableOf formal; cells = inner.low ∷ []; back = Some (record { part = p; cells = inner ∷ []; check = Some (record { at = at; scalar = outer }) }) } ∷ []))
+      pass (CompositeInOut formal at r selections subtype rest) env so_far = do
         p ← select selections env (variable_root r env)
-        vs ← read_all (VariableOf p.object) p.offset (cells_of subtype)
-        more ← pass rest env
-        ret (record { formal = VariableOf formal; cells = vs; back = Some (record { part = p; cells = cells_of subtype; check = None }) } ∷ more)
-      pass (CompositeOut formal at r selections subtype rest) env = do
+        vs ← read_all (VariableOf p.object) p.offset [] (cells_of subtype)
+        pass rest env (so_far ++ (record { formal = VariableOf formal; cells = vs; back = Some (record { part = p; cells = cells_of subtype; check = None }) } ∷ []))
+      pass (CompositeOut formal at r selections subtype rest) env so_far = do
         p ← select selections env (variable_root r env)
-        vs ← read_all (VariableOf p.object) p.offset (cells_of subtype)
-        more ← pass rest env
-        ret (record { formal = VariableOf formal; cells = vs; back = Some (record { part = p; cells = cells_of subtype; check = None }) } ∷ more)
+        vs ← read_all (VariableOf p.object) p.offset [] (cells_of subtype)
+        pass rest env (so_far ++ (record { formal = VariableOf formal; cells = vs; back = Some (record { part = p; cells = cells_of subtype; check = None }) } ∷ []))
 
       -- the cells of what is stored
       pub cells : Value → Env → Doing (List ℤ)
@@ -487,25 +480,22 @@ module _ {ℓ} (ops : Operations {ℓ}) where
       pub composite : Composite → Env → Doing (List ℤ)
       composite (WholeVariable at r selections subtype) env = do
         p ← select selections env (variable_root r env)
-        read_all (VariableOf p.object) p.offset (cells_of subtype)
+        read_all (VariableOf p.object) p.offset [] (cells_of subtype)
       composite (WholeConstant at r selections subtype) env = do
         p ← select selections env (constant_root r env)
-        read_all (ConstantOf p.object) p.offset (cells_of subtype)
-      composite (WholeTarget at subtype) env = read_all (VariableOf env.target.object) env.target.offset (cells_of subtype)
+        read_all (ConstantOf p.object) p.offset [] (cells_of subtype)
+      composite (WholeTarget at subtype) env = read_all (VariableOf env.target.object) env.target.offset [] (cells_of subtype)
       composite (CompositeIf condition value otherwise) env = do
         c ← eval condition env
         cond (truth c) (composite value env) (composite otherwise env)
-      composite (Aggregate at size associations mentions) env = do
-        gs ← associated associations env
-        ret (assembled (zeros size) gs)
+      composite (Aggregate at size associations mentions) env = associated associations env (zeros size)
 
       -- the components that associations give, from left to right (4.3)
-      pub associated : Associations → Env → Doing (List Given)
-      associated NoAssociation env = ret []
-      associated (Association runs iterated value rest) env = do
-        gs ← runs_values runs (λ k. iterated_turn iterated >>= λ _. cells value (iterated_env iterated k env))
-        hs ← associated rest env
-        ret (gs ++ hs)
+      pub associated : Associations → Env → List ℤ → Doing (List ℤ)
+      associated NoAssociation env so_far = ret so_far
+      associated (Association runs iterated value rest) env so_far = do
+        cs ← runs_values runs so_far (λ k. iterated_turn iterated >>= λ _. cells value (iterated_env iterated k env))
+        associated rest env cs
 
       -- the range or array of an iteration, evaluated once (5.5, 5.5.2)
       pub course : Iteration → Env → Doing Course
@@ -538,20 +528,16 @@ module _ {ℓ} (ops : Operations {ℓ}) where
         ret (record { most = count l h; even = true; bound = λ j. with_parameter k (l +ℤ pos j) })
 
     -- the bytes of a piece of output (A.10.6 to A.10.8)
-    abbrev pub written : Pieces → Env → Doing (List ℕ)
-    written NoPiece env = ret []
-    written (Text bytes rest) env = do
-      more ← written rest env
-      ret (bytes ++ more)
-    written (Image class e rest) env = do
+    abbrev pub written : Pieces → Env → List ℕ → Doing (List ℕ)
+    written NoPiece env so_far = ret so_far
+    written (Text bytes rest) env so_far = written rest env (so_far ++ bytes)
+    written (Image class e rest) env so_far = do
       v ← eval e env
-      more ← written rest env
-      ret (image_of class v ++ more)
-    written (Padded class e width rest) env = do
+      written rest env (so_far ++ image_of class v)
+    written (Padded class e width rest) env so_far = do
       v ← eval e env
       w ← eval width env
-      more ← written rest env
-      ret (padded v (to_nat w) ++ more)
+      written rest env (so_far ++ padded v (to_nat w))
 
     -- declarations are elaborated in order, and what follows sees their objects (3.11)
     abbrev pub declared : {A : Type 0} → Decls → Region → Env → Doing A → Doing A
@@ -598,7 +584,7 @@ module _ {ℓ} (ops : Operations {ℓ}) where
         cs ← cells value (with_target p env)
         write_all p.object p.offset cs
       exec (CallProcedure at callee s actuals) env = do
-        passed ← pass actuals env
+        passed ← pass actuals env []
         r ← calls env.nested s (ret tt) passed
         all_copied_back passed r.cells
       exec (Exit loop condition) env = do
@@ -634,7 +620,7 @@ module _ {ℓ} (ops : Operations {ℓ}) where
         loops site (Sized (evens (arms_of arms) (min most (arms_of arms)))) (λ j i. exec_arm arms i (inside env))
       exec (Block decls stmts handlers) env = declared decls Here env (guarded handlers (exec_all stmts env) (λ r. exec_handler handlers r env))
       exec (Put at callee pieces line) env = do
-        bytes ← written pieces env
+        bytes ← written pieces env []
         puts (cond line (bytes ++ (10 ∷ [])) bytes)
       exec (Get at callee first r selections scalar) env = do
         p ← select selections env (variable_root r env)
@@ -675,14 +661,13 @@ module _ {ℓ} (ops : Operations {ℓ}) where
     -- the cells of the formals that are copied back
     abbrev pub cells_back : Entity → Option Back → Doing (List ℤ)
     cells_back x None = ret []
-    cells_back x (Some b) = read_all x 0 b.cells
+    cells_back x (Some b) = read_all x 0 [] b.cells
 
-    abbrev pub back_cells : List Passed → Doing (List (List ℤ))
-    back_cells [] = ret []
-    back_cells (p ∷ ps) = do
+    abbrev pub back_cells : List Passed → List (List ℤ) → Doing (List (List ℤ))
+    back_cells [] so_far = ret so_far
+    back_cells (p ∷ ps) so_far = do
       vs ← cells_back p.formal p.back
-      vss ← back_cells ps
-      ret (vs ∷ vss)
+      back_cells ps (so_far ++ (vs ∷ []))
 
     -- a function that reaches its end raises Program_Error (6.5)
     abbrev pub ended : Option Scalar → Doing ℤ
@@ -693,7 +678,7 @@ module _ {ℓ} (ops : Operations {ℓ}) where
     exec_sub calls None nested passed = raise reason.ProgramError
     exec_sub calls (Some sub) nested passed = apart (with_formals passed (do
       v ← handles (exec_body limit program calls sub.body Here (outset nested) >>= λ _. ended sub.result) returns (λ how. ret (value_of how))
-      vss ← back_cells passed
+      vss ← back_cells passed []
       ret (record { value = v; cells = vss })))
 
     -- a call where so many more may be active (6.4): its turn, the count of active calls, what is still to be checked, the copies

@@ -171,11 +171,7 @@ layout table = layout_within table (length table)
 abbrev pub defaults : List Scalar → List ℤ
 defaults cells = map (λ s. s.low) cells
 
--- ---- aggregates (4.3): cells that were given, each from where it begins
-
-pub record Given : Type 0 where
-  pub first : ℕ
-  pub cells : List ℤ
+-- ---- aggregates (4.3)
 
 -- some cells, with others laid over them from a place on
 abbrev pub laid : List ℤ → ℕ → List ℤ → List ℤ
@@ -183,10 +179,6 @@ laid [] first over = []
 laid (c ∷ cs) zero [] = c ∷ cs
 laid (c ∷ cs) zero (o ∷ os) = o ∷ laid cs zero os
 laid (c ∷ cs) (suc first) over = c ∷ laid cs first over
-
-abbrev pub assembled : List ℤ → List Given → List ℤ
-assembled cells [] = cells
-assembled cells (g ∷ gs) = assembled (laid cells g.first g.cells) gs
 
 abbrev pub zeros : ℕ → List ℤ
 zeros n = replicate n (pos 0)

@@ -3,7 +3,7 @@ use Rattle.std.proofs.Common.{◌≡◌, ℕ, zero, suc, ◌+◌, ◌<◌, ◌�
 use Rattle.ada_base.specs.declared.reason.Reason.TheVariants as reason
 use Rattle.ada_typed.specs.declared.scalars.Scalar.{Scalar}
 use Rattle.ada_typed.specs.Syntax.{Program}
-use Rattle.ada_base.specs.Input.{Held}
+use Rattle.ada_base.specs.Input.{Held, Nothing}
 use Rattle.behaviours.specs.Paths.{Leave, Raises, Entity, VariableOf, Region, Everywhere, Here, Instance, End, Gives, Leaves, Stopped, Path, Scope, find, declares, apart_of, one_turn, one_taken, one_elaboration}
 use Rattle.behaviours.specs.Events.{Event, Reads, Writes, Recalls, Keeps, Takes, Puts, Looks, Trace, output_of}
 use Rattle.behaviours.specs.Memory.{Memory, put, put_all, hold, after, Fits}
@@ -356,7 +356,7 @@ module _ (input : List ℕ) where
 
   pub recalls_simulates : (b : Bool) → b ≡ true → Simulates b Stored.recalls Behaviours.recalls
   unfolding Stored.recalls
-  recalls_simulates b o = simulates_at b Stored.recalls Behaviours.recalls (λ s f u k. k) (λ t p. (Rattle.ada_meaning.specs.Values.Nothing, (refl, inr (refl, refl, refl))))
+  recalls_simulates b o = simulates_at b Stored.recalls Behaviours.recalls (λ s f u k. k) (λ t p. (Nothing, (refl, inr (refl, refl, refl))))
       (λ ls gs s t p n v h e. came_event b ls gs s s p p n (Behaviours.recalls.runs t p) s.held (Recalls s.held) (h.held, tt) (s.held, (refl, inl (refl, refl, inl refl))) h (same_refl s) e (sym (append-nil s.output)) (λ k. absurd (true≢false (sym o ∙ k))))
 
   pub keeps_simulates : (b : Bool) → b ≡ true → (held : Held) → Simulates b (Stored.keeps held) (Behaviours.emits (Keeps held))

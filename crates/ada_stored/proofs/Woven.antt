@@ -4,7 +4,7 @@ use Rattle.ada_typed.specs.Syntax.{Program}
 use Rattle.behaviours.specs.Paths.{Leave, Instance, End, Gives, Leaves, Spent, Stopped, Path, Scope, enter, leave, joined, is_inside}
 use Rattle.behaviours.specs.Events.{Trace, output_of, in_order}
 use Rattle.behaviours.specs.Memory.{Memory, after, Fits}
-use Rattle.behaviours.specs.Joins.{Ran, Share, traces, EachRan, most_turns, AllGive, SomeEnds, NoneLeft, Joined, Ordered, FirstEnds, Idle, Form, some_early}
+use Rattle.behaviours.specs.Joins.{Ran, Share, traces, EachRan, most_turns, AllGive, SomeEnds, NoneLeft, Joins, JoinsInOrder, FirstEnds, Idle, Form, some_early}
 use Rattle.behaviours.specs.Behaviours.{Behaviour, Asks, is_left}
 use Rattle.behaviours.specs.Behaviours
 use Rattle.ada_meaning.specs.Runs.{anything}
@@ -36,13 +36,13 @@ first_some p [] e h = absurd h
 first_some p (r ∷ rs) e (inl h) = inl h.0
 first_some p (r ∷ rs) e (inr h) = inr (first_some p rs e h.1)
 
-ordered_joined : {A : Type 0} (p : Path Instance) (rs : List (Ran Instance A)) (e : End (List A)) → Ordered p rs e → Joined rs e
+ordered_joined : {A : Type 0} (p : Path Instance) (rs : List (Ran Instance A)) (e : End (List A)) → JoinsInOrder p rs e → Joins rs e
 ordered_joined p rs (Gives values) h = h
 ordered_joined p rs (Leaves x) h = first_some p rs (Leaves x) h
 ordered_joined p rs Spent h = h
 ordered_joined p rs Stopped h = tt
 
-forms : {A : Type 0} (o : Bool) (p : Path Instance) (rs : List (Ran Instance A)) (e : End (List A)) → Ordered p rs e → Form o p rs (in_order (traces rs)) e
+forms : {A : Type 0} (o : Bool) (p : Path Instance) (rs : List (Ran Instance A)) (e : End (List A)) → JoinsInOrder p rs e → Form o p rs (in_order (traces rs)) e
 forms true p rs e h = (refl, h)
 forms false p rs e h = (shuffle_in_order (traces rs), ordered_joined p rs e h)
 
@@ -394,11 +394,11 @@ module _ (input : List ℕ) {A B : Type 0} (f : B → A → B) (b : Bool) (body 
     joined_path p rs = joined p (most_turns p.turns rs)
 
     module _ (ls gs : List Tie) (t : Scope Instance) (p : Path Instance) (s : State) (n : Memory) where
-      par_run : (rs : List (Ran Instance A)) → Each ls gs t p js rs → (e : End (List A)) → Ordered p rs e → construct.runs t p (trace_of ls gs t p rs) (some_early rs || is_left e) (joined_path p rs) e
+      par_run : (rs : List (Ran Instance A)) → Each ls gs t p js rs → (e : End (List A)) → JoinsInOrder p rs e → construct.runs t p (trace_of ls gs t p rs) (some_early rs || is_left e) (joined_path p rs) e
       par_run rs each e o = inl (rs, each, forms (one || is_inside p) p rs e o, refl, refl)
 
       -- the construct itself
-      par_came : (r : After B) (w : Woven ls gs t p p.turns false b0 s n js r) (e : Result (List A) Cause) → Ordered p w.rans (end_of e) → Came input b ls gs s p n (construct.runs t p) (at r.state e)
+      par_came : (r : After B) (w : Woven ls gs t p p.turns false b0 s n js r) (e : Result (List A) Cause) → JoinsInOrder p w.rans (end_of e) → Came input b ls gs s p n (construct.runs t p) (at r.state e)
       par_came r w e o = record {
         trace = trace_of ls gs t p w.rans;
         early = some_early w.rans || is_left (end_of e);

@@ -2,7 +2,7 @@
 use Rattle.std.proofs.Common.{◌≡◌, ℕ, ℤ, nat_eq, List, [], ◌∷◌, ◌++◌, ◌⊎◌, inl, inr, ⊎_elim, Bool, true, false, ◌&&◌, cond, refl, sym, subst, ap, ap₂, ◌∙◌, true≢false, eqb-true}
 use mathlib.Core.Path.{fun_ext}
 use Rattle.ada_base.specs.Input.{Held}
-use Rattle.behaviours.specs.Paths.{Entity, VariableOf, ConstantOf, Name, Instance, entity_eq, name_eq, instance_eq}
+use Rattle.behaviours.specs.Paths.{Entity, VariableOf, ConstantOf, ThreadName, Instance, entity_eq, name_eq, instance_eq}
 use Rattle.behaviours.specs.Events.{Event, Reads, Writes, Recalls, Keeps, Takes, Puts, Looks, Trace, Place, Cell, Rest, Byte, IsAt, WritesAt, Has, Touches, WritesTo, Apart, ApartFrom, AllApart, Merge, Shuffle, in_order}
 use Rattle.behaviours.specs.Memory.{Memory, put, hold, step, IsRight, after, Fits, EachFits, ShuffleLaw}
 
@@ -19,7 +19,7 @@ and_right false b e = absurd (true≢false (sym e))
 nat_same : (m n : ℕ) → nat_eq m n ≡ true → m ≡ n
 nat_same m n e = eqb-true m n e
 
-pub name_same : (x y : Name) → name_eq x y ≡ true → x ≡ y
+pub name_same : (x y : ThreadName) → name_eq x y ≡ true → x ≡ y
 name_same [] [] e = refl
 name_same [] (j ∷ js) e = absurd (true≢false (sym e))
 name_same (i ∷ is) [] e = absurd (true≢false (sym e))

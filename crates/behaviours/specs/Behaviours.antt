@@ -4,7 +4,7 @@ use Rattle.std.specs.Prelude.{◌≡◌, length, ℕ, suc, ◌<◌, ◌≤◌, �
 use Rattle.ada_base.specs.declared.reason.Reason.TheVariants as reason
 use Rattle.ada_base.specs.Input.{Held}
 use Rattle.behaviours.specs.Doings.{Doings}
-use Rattle.behaviours.specs.Paths.{Leave, Raises, Entity, VariableOf, Region, Name, Instance, End, Gives, Leaves, Spent, Stopped, Path, Scope, find, declares, apart_of, one_turn, one_taken, one_elaboration, enter, leave, joined, is_inside}
+use Rattle.behaviours.specs.Paths.{Leave, Raises, Entity, VariableOf, Region, ThreadName, Instance, End, Gives, Leaves, Spent, Stopped, Path, Scope, find, declares, apart_of, one_turn, one_taken, one_elaboration, enter, leave, joined, is_inside}
 use Rattle.behaviours.specs.Events.{Event, Reads, Writes, Recalls, Takes, Trace, Apart}
 use Rattle.behaviours.specs.Joins.{Share, Runs, Ran, EachRan, Form, most_turns, some_early}
 
@@ -148,7 +148,7 @@ module _ {P : Type 0} (new : Instance → P) where
 -- what is asked of the threads of a construct: whether they are taken in order, the thread around it, the site, the
 -- number of the construct there, the threads and the traces that each may have
 abbrev pub Asks : Type 0 → Type 1
-Asks P = (ordered : Bool) → Name → (site construct : ℕ) → List Share → (Share → Trace P → Type 0) → Type 0
+Asks P = (ordered : Bool) → ThreadName → (site construct : ℕ) → List Share → (Share → Trace P → Type 0) → Type 0
 
 module _ {P : Type 0} (asks : Asks P) (one : Bool) where
   -- each thread has a run of its own; with one worker, and inside a thread, they are taken in order

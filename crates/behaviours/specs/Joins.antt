@@ -55,11 +55,11 @@ module _ {P : Type 0} where
   NoneLeft (r ∷ rs) = ((x : Leave) → r.end ≡ Leaves x → ⊥) × (r.end ≡ Stopped → ⊥) × NoneLeft rs
 
   -- how a construct ends whose threads ended so
-  abbrev pub Joined : {A : Type 0} → List (Ran P A) → End (List A) → Type 0
-  Joined rs (Gives values) = AllGive rs values
-  Joined rs (Leaves x) = SomeEnds rs (Leaves x)
-  Joined rs Spent = NoneLeft rs × SomeEnds rs Spent
-  Joined rs Stopped = Unit {0}
+  abbrev pub Joins : {A : Type 0} → List (Ran P A) → End (List A) → Type 0
+  Joins rs (Gives values) = AllGive rs values
+  Joins rs (Leaves x) = SomeEnds rs (Leaves x)
+  Joins rs Spent = NoneLeft rs × SomeEnds rs Spent
+  Joins rs Stopped = Unit {0}
 
   -- threads that make no action and no turn
   abbrev pub Idle : {A : Type 0} → Path P → List (Ran P A) → Type 0
@@ -72,13 +72,13 @@ module _ {P : Type 0} where
   FirstEnds {A} p (r ∷ rs) e = ((r.end ≡ e) × Idle p rs) ⊎ ((((x : Leave) → r.end ≡ Leaves x → ⊥) × (r.end ≡ Stopped → ⊥)) × FirstEnds p rs e)
 
   -- the same where the threads are taken in order
-  abbrev pub Ordered : {A : Type 0} → Path P → List (Ran P A) → End (List A) → Type 0
-  Ordered p rs (Gives values) = AllGive rs values
-  Ordered p rs (Leaves x) = FirstEnds p rs (Leaves x)
-  Ordered p rs Spent = NoneLeft rs × SomeEnds rs Spent
-  Ordered p rs Stopped = FirstEnds p rs Stopped ⊎ NoneLeft rs
+  abbrev pub JoinsInOrder : {A : Type 0} → Path P → List (Ran P A) → End (List A) → Type 0
+  JoinsInOrder p rs (Gives values) = AllGive rs values
+  JoinsInOrder p rs (Leaves x) = FirstEnds p rs (Leaves x)
+  JoinsInOrder p rs Spent = NoneLeft rs × SomeEnds rs Spent
+  JoinsInOrder p rs Stopped = FirstEnds p rs Stopped ⊎ NoneLeft rs
 
   -- the trace and the end of a construct, in order or not
   abbrev pub Form : {A : Type 0} → Bool → Path P → List (Ran P A) → Trace P → End (List A) → Type 0
-  Form true p rs tr e = (tr ≡ in_order (traces rs)) × Ordered p rs e
-  Form false p rs tr e = Shuffle (traces rs) tr × Joined rs e
+  Form true p rs tr e = (tr ≡ in_order (traces rs)) × JoinsInOrder p rs e
+  Form false p rs tr e = Shuffle (traces rs) tr × Joins rs e

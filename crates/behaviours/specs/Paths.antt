@@ -19,12 +19,12 @@ pub data Region : Type 0 where
   Here : Region
 
 -- the name of a thread: for each construct around it its number there, and the constructs that the thread around had begun
-abbrev pub Name : Type 0
-Name = List ℕ
+abbrev pub ThreadName : Type 0
+ThreadName = List ℕ
 
 -- an instance of an object: the thread that elaborated it, the elaborations before it in that thread, and the object
 pub record Instance : Type 0 where
-  pub thread : Name
+  pub thread : ThreadName
   pub number : ℕ
   pub object : Entity
 
@@ -37,7 +37,7 @@ pub data End (A : Type 0) : Type 0 where
 
 -- what a path has counted, and the instances of the main procedure's objects in order of their declaration
 pub record Path (P : Type 0) : Type 0 where
-  pub name : Name
+  pub name : ThreadName
   pub turns : ℕ
   pub constructs : ℕ
   pub elaborations : ℕ
@@ -60,7 +60,7 @@ entity_eq (VariableOf x) (ConstantOf y) = false
 entity_eq (ConstantOf x) (VariableOf y) = false
 entity_eq (ConstantOf x) (ConstantOf y) = nat_eq x y
 
-abbrev pub name_eq : Name → Name → Bool
+abbrev pub name_eq : ThreadName → ThreadName → Bool
 name_eq [] [] = true
 name_eq [] (j ∷ js) = false
 name_eq (i ∷ is) [] = false
@@ -118,7 +118,7 @@ module _ {P : Type 0} where
   abbrev pub is_inside : Path P → Bool
   is_inside p = go p.name
     where
-      go : Name → Bool
+      go : ThreadName → Bool
       go [] = false
       go (i ∷ is) = true
 
