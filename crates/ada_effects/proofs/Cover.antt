@@ -1,5 +1,5 @@
 -- Every text touches only what it makes and what lies under its effects, and a program without clashes is free of races.
-use Rattle.std.proofs.Common.{◌≡◌, ℕ, zero, suc, ◌+◌, ◌*◌, ◌<◌, ◌≤◌, min, max, ℤ, pos, ◌+ℤ◌, ◌-ℤ◌, int_lt, int_le, nat_eq, nat_lt, nat_le, List, [], ◌∷◌, ◌++◌, length, slice_get, ◌⊎◌, inl, inr, ⊎_elim, Option, Some, None, Bool, true, false, not, cond, ◌&&◌, ◌||◌, sym, subst, ap, ◌∙◌, refl, true≢false, eqb-true, eq-eqb, ltb-true, ltb-false, arith, le_trans, ◌/◌, ◌%◌}
+use Rattle.std.proofs.Common.{◌≡◌, ℕ, zero, suc, ◌+◌, ◌*◌, ◌<◌, ◌≤◌, min, max, ℤ, pos, ◌+ℤ◌, ◌-ℤ◌, int_lt, int_le, nat_eq, nat_lt, nat_le, List, [], ◌∷◌, ◌++◌, length, length-append, slice_get, ◌⊎◌, inl, inr, ⊎_elim, Option, Some, None, Bool, true, false, not, cond, ◌&&◌, ◌||◌, sym, subst, ap, ◌∙◌, refl, true≢false, eqb-true, eq-eqb, ltb-true, ltb-false, arith, le_trans, ◌/◌, ◌%◌}
 use Rattle.ada_base.specs.Cuts.{evens, shares}
 use Rattle.ada_base.specs.Image.{padded}
 use Rattle.ada_base.specs.Input.{Held, Nothing, Symbol, is_blank, is_byte, is_digit, digit_of, is_based, is_integer, signed}
@@ -147,10 +147,6 @@ module _ (program : Program) (fine : Construct → Type 0) where
   length_laid (c ∷ cs) zero (o ∷ os) = ap suc (length_laid cs zero os)
   length_laid (c ∷ cs) (suc first) over = ap suc (length_laid cs first over)
 
-  length_append : {A : Type 0} (xs ys : List A) → length (xs ++ ys) ≡ length xs + length ys
-  length_append [] ys = refl
-  length_append (x ∷ xs) ys = let h = length_append xs ys in omega arith
-
   length_zeros : (n : ℕ) → length (zeros n) ≡ n
   length_zeros zero = refl
   length_zeros (suc n) = ap suc (length_zeros n)
@@ -219,7 +215,7 @@ module _ (program : Program) (fine : Construct → Type 0) where
     read_lengths x i so_far (t ∷ ts) vs c =
         let a = of_bind c in
         let h = read_lengths x (i + 1) (so_far ++ (a.0 ∷ [])) ts vs a.2 in
-        let l = length_append so_far (a.0 ∷ []) in omega arith
+        let l = length-append so_far (a.0 ∷ []) in omega arith
 
     read_length : (x : Entity) (i : ℕ) (cells : List Scalar) (vs : List ℤ) → Can (Meaning.read_all ops x i [] cells) vs → length vs ≡ length cells
     read_length x i cells vs c = let h = read_lengths x i [] cells vs c in omega arith
