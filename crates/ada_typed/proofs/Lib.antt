@@ -1,10 +1,10 @@
-pub mod Access
 pub mod Agreeing
-pub mod Cells
 pub mod ChainSteps
 pub mod Growing
 pub mod Law
-pub mod Lists
+pub mod Objects
 pub mod Order
+pub mod Pushing
 pub mod Reading
-pub mod Tables
+pub mod RowMajor
+pub mod WrittenRead

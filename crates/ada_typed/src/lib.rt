@@ -6,6 +6,8 @@
 //! check stands is kept.
 #![tactic(auto)]
 
+ghost use Rattle.ada_typed.specs.Laws.{KeptLaw, WrittenLaw, LayoutLaw, RowMajorLaw};
+
 pub mod chains;
 pub mod expressions;
 pub mod node;
@@ -13,6 +15,7 @@ pub mod nodes;
 pub mod program;
 pub mod scalars;
 pub mod statements;
+pub mod statics;
 pub mod typed;
 pub mod writing;
 
@@ -25,5 +28,16 @@ pub use nodes::Nodes;
 pub use program::{Bounds, Declared, Field, Formal, Mode, Object, Site, SiteKind, Sub, Subtype};
 pub use scalars::{Check, Class, Comparison, Scalar};
 pub use statements::{Alternative, Body, Decl, Handler, Piece, Span, Stmt};
+pub use statics::eval;
 pub use typed::Typed;
-pub use writing::{close, push, text};
+pub use writing::{push, text};
+
+/// Laws of tables and of layout: what is put at the end of a table leaves what stood there as it was; what is written
+/// of a part is read as that part; two objects of one owner share no cell; the components of an array stand in
+/// row-major order (3.6.2).
+pub fn laws()
+    ensures kept { KeptLaw }
+    ensures written { WrittenLaw }
+    ensures layout { LayoutLaw }
+    ensures row_major { RowMajorLaw }
+{}
