@@ -15,6 +15,8 @@ use Rattle.ada_base.specs.declared.operation.Op.{Op}
 use Rattle.ada_base.specs.declared.reason.Reason.{Reason}
 use Rattle.ada_base.specs.declared.reason.Reason.TheVariants as reason
 use Rattle.ada_base.specs.Operation.{is_in_base}
+use Rattle.ada_base.proofs.Readings
+use Rattle.ada_base.proofs.Readings.{Relates as RelatesReadings}
 use Rattle.ada_typed.specs.declared.scalars.Class.{Class}
 use Rattle.ada_typed.specs.declared.scalars.Scalar.{Scalar}
 use Rattle.ada_typed.specs.declared.scalars.Check.{Check}
@@ -276,47 +278,23 @@ module _ (program : Program) (fine : Construct → Type 0) where
     -- ---- input
 
     module _ (s : Scene) (may : s.allowed.input) where
-      next : Fine s (Meaning.next_symbol ops)
+      next : Fine s ((Meaning.reading ops).asks)
       next = seq s (turn_good program s.asks s.allowed limit) (λ _ _. takes_good program s.asks s.allowed may)
 
-      firsts : (h : Held) → Fine s (Meaning.first_symbol ops h)
-      firsts Nothing = next
-      firsts (Symbol b) = done s b
-
-      skips : (n : ℕ) (b : Option ℕ) → Fine s (Meaning.skip_blanks ops n b)
-      skips zero b = spent_good program s.asks s.allowed
-      skips (suc n) b = choose s (is_blank b) (seq s next (λ t _. skips n t)) (done s b)
-
-      keep : (h : Held) → Fine s (ops.keeps h)
-      keep h = emits_good program s.asks s.allowed (Keeps h) (λ r p. may)
-
-      fails : {A : Type 0} (b : Option ℕ) (r : Reason) → Fine s (Meaning.fails_at ops {A = A} b r)
-      fails b r = seq s (keep (Symbol b)) (λ _ _. raised s r)
-
-      ends : (negative : Bool) (n : ℕ) (b : Option ℕ) → Fine s (Meaning.number_ends ops negative n b)
-      ends negative n b = choose s (is_based b || not (is_integer (signed negative n))) (fails b reason.DataError) (seq s (keep (Symbol b)) (λ _ _. done s (signed negative n)))
-
-      digit_run : (more : ℕ) (negative : Bool) (n : ℕ) (b : Option ℕ) → Fine s (Meaning.digits ops more negative n b)
-      digit_run zero negative n b = spent_good program s.asks s.allowed
-      digit_run (suc more) negative n b =
-          seq s next (λ t _. choose s (is_digit t) (digit_run more negative (n * 10 + digit_of b) t)
-          (choose s (is_byte 95 t) (seq s next (λ u _. choose s (is_digit u) (digit_run more negative (n * 10 + digit_of b) u) (fails u reason.DataError)))
-          (ends negative (n * 10 + digit_of b) t)))
-
-      number_start : (more : ℕ) (negative : Bool) (b : Option ℕ) → Fine s (Meaning.number_from ops more negative b)
-      number_start more negative b = choose s (is_digit b) (digit_run more negative 0 b) (fails b reason.DataError)
-
-      unsigned : (more : ℕ) (b : Option ℕ) → Fine s (Meaning.unsigned_number ops more b)
-      unsigned more None = fails None reason.EndError
-      unsigned more (Some b) = number_start more false (Some b)
-
-      numbers : (more : ℕ) (b : Option ℕ) → Fine s (Meaning.number_read ops more b)
-      numbers more b =
-          choose s (is_byte 45 b) (seq s next (λ t _. number_start more true t))
-          (choose s (is_byte 43 b) (seq s next (λ t _. number_start more false t)) (unsigned more b))
+      abbrev readings : RelatesReadings {1, 1, 0} (Meaning.reading ops) (Meaning.reading ops)
+      readings = record {
+        R = λ {A} m n. Fine {A = A} s m;
+        ret = λ {A} a. done s a;
+        bind = λ {A} {B} {m} {n} {k} {l} g h. seq s g (λ a _. h a);
+        asks = next;
+        recalls = recalls_good program s.asks s.allowed may;
+        keeps = λ h. emits_good program s.asks s.allowed (Keeps h) (λ r p. may);
+        raises = λ {A} r. raised s r;
+        spent = λ {A}. spent_good program s.asks s.allowed;
+      }
 
       gets : Fine s (Meaning.got ops limit)
-      gets = seq s (recalls_good program s.asks s.allowed may) (λ h _. seq s (firsts h) (λ b _. seq s (skips (suc limit) b) (λ t _. numbers (suc limit) t)))
+      gets = Readings.gets readings limit
 
     -- ---- calls and what they give
 
@@ -394,11 +372,11 @@ module _ (program : Program) (fine : Construct → Type 0) where
         composite_width' (WholeTarget at subtype) env cs c = no_more _ _ (read_length (VariableOf env.target.object) env.target.offset (layout program.subtypes subtype) cs c)
         composite_width' (CompositeIf condition value otherwise) env cs c = let a = of_bind c in one_of (truth a.0) _ _ (length cs ≤ max (composite_width program.subtypes value) (composite_width program.subtypes otherwise)) cs
             (λ k. le_left _ _ _ (composite_width' value env cs k)) (λ k. le_right _ _ _ (composite_width' otherwise env cs k)) a.2
-        composite_width' (Aggregate at size associations mentions) env cs c = no_more _ _ (associated_length associations env (zeros size) cs c ∙ length_zeros size)
+        composite_width' (Aggregate at size associations) env cs c = no_more _ _ (associated_length associations env (zeros size) cs c ∙ length_zeros size)
 
         associated_length : (a : Associations) (env : Env) (so_far cs : List ℤ) → Can (Meaning.associated ops limit program calls a env so_far) cs → length cs ≡ length so_far
         associated_length NoAssociation env so_far cs c = ap length (of_ret c)
-        associated_length (Association runs i value rest) env so_far cs c = let a = of_bind c in associated_length rest env a.0 cs a.2 ∙ runs_length runs so_far _ a.0 a.1
+        associated_length (Association runs i mentions value rest) env so_far cs c = let a = of_bind c in associated_length rest env a.0 cs a.2 ∙ runs_length runs so_far _ a.0 a.1
 
       all_back : (E : Allowed) (qs : List Passed) (p : Passed) → AllBack E qs → BackFine E p.back → AllBack E (qs ++ (p ∷ []))
       all_back E [] p h b = (b, tt)
@@ -642,13 +620,13 @@ module _ (program : Program) (fine : Construct → Type 0) where
         composite_good (WholeConstant at from selections subtype) s k = seq s (select_good selections s (constant_root from s.env) k) (λ p can. reads_all s (ConstantOf p.object) p.offset [] (layout program.subtypes subtype) (λ m lt. refl))
         composite_good (WholeTarget at subtype) s k = reads_all s (VariableOf s.env.target.object) s.env.target.offset [] (layout program.subtypes subtype) (touched k at false s.roles.target (length (layout program.subtypes subtype)) refl s.env.target s.suits.target)
         composite_good (CompositeIf condition value otherwise) s k = seq s (eval_good condition s (part program fine (λ i h. inl h) k)) (λ c _. choose s (truth c) (composite_good value s (part program fine (λ i h. inr (inl h)) k)) (composite_good otherwise s (part program fine (λ i h. inr (inr h)) k)))
-        composite_good (Aggregate at size associations mentions) s k = associated_good associations (zeros size) s (part program fine (λ i h. inl h) k)
+        composite_good (Aggregate at size associations) s k = associated_good associations (zeros size) s k
 
         associated_good : (a : Associations) (so_far : List ℤ) (s : Scene) → Has s (InAssociations program.subtypes s.roles a) → Fine s (Meaning.associated ops limit program calls a s.env so_far)
         associated_good NoAssociation so_far s k = done s so_far
-        associated_good (Association runs i value rest) so_far s k =
-            seq s (all_runs s runs so_far (λ n. seq s (iterated s i) (λ _ _. cells_good value (naming s (iterated_hidden i s.roles) (iterated_env i n s.env) (suits_iterated s.now s.roles s.env i n s.suits)) (part program fine (λ i h. inl h) k)))) (λ cs _.
-            associated_good rest cs s (part program fine (λ i h. inr h) k))
+        associated_good (Association runs i mentions value rest) so_far s k =
+            seq s (all_runs s runs so_far (λ n. seq s (iterated s i) (λ _ _. cells_good value (naming s (iterated_hidden i s.roles) (iterated_env i n s.env) (suits_iterated s.now s.roles s.env i n s.suits)) (part program fine (λ i h. inr (inl h)) k)))) (λ cs _.
+            associated_good rest cs s (part program fine (λ i h. inr (inr h)) k))
 
         course_good : (it : Iteration) (s : Scene) → Has s (InCourse program.subtypes s.roles it) → Fine s (Meaning.course ops limit program calls it s.env)
         course_good (Range x reverse low high c filter) s k = seq s (eval_good low s (part program fine (λ i h. inl h) k)) (λ l _. seq s (eval_good high s (part program fine (λ i h. inr h) k)) (λ u _. seq s (bounds s c l u) (λ _ _. done s _)))
@@ -727,7 +705,7 @@ module _ (program : Program) (fine : Construct → Type 0) where
         exec_good (Raise r) s k = raised s r
         exec_good Reraise s k = raised s s.env.handled
         exec_good (IfThen condition stmts otherwise) s k = seq s (eval_good condition s (part program fine (λ i h. inl h) k)) (λ c _. choose s (truth c) (exec_all_good stmts s (part program fine (λ i h. inr (inl h)) k)) (exec_all_good otherwise s (part program fine (λ i h. inr (inr h)) k)))
-        exec_good (Case e alternatives mentions) s k = seq s (eval_good e s (part program fine (λ i h. inl h) k)) (λ v _. exec_chosen_good alternatives v s (part program fine (λ i h. inr (inl h)) k))
+        exec_good (Case e alternatives) s k = seq s (eval_good e s (part program fine (λ i h. inl h) k)) (λ v _. exec_chosen_good alternatives v s (part program fine (λ i h. inr h) k))
         exec_good (Loop number condition stmts) s k = caught s (exits number) (whiles s (suc limit) (holds_good condition s (part program fine (λ i h. inl h) k)) (exec_all_good stmts s (part program fine (λ i h. inr h) k))) (λ _. done s tt)
         exec_good (For number iteration stmts) s k =
             seq s (course_good iteration s (part program fine (λ i h. inl h) k)) (λ c can. caught s (exits number) (through_good program s.asks s.allowed 0 c.count tt (λ i u le lt.
@@ -767,7 +745,7 @@ module _ (program : Program) (fine : Construct → Type 0) where
 
         exec_chosen_good : (a : Alternatives) (v : ℤ) (s : Scene) → Has s (InAlternatives program.subtypes s.roles a) → Fine s (Meaning.exec_chosen ops limit program calls a v s.env)
         exec_chosen_good NoAlternative v s k = raised s reason.ConstraintError
-        exec_chosen_good (Alternative others choices stmts rest) v s k = choose s (others || is_chosen choices v) (exec_all_good stmts s (part program fine (λ i h. inl h) k)) (exec_chosen_good rest v s (part program fine (λ i h. inr h) k))
+        exec_chosen_good (Alternative others choices mentions stmts rest) v s k = choose s (others || is_chosen choices v) (exec_all_good stmts s (part program fine (λ i h. inr (inl h)) k)) (exec_chosen_good rest v s (part program fine (λ i h. inr (inr h)) k))
 
         pub exec_arm_good : (a : Arms) (i : ℕ) (s : Scene) → Has s (InArm program.subtypes s.roles a i) → Fine s (Meaning.exec_arm ops limit program calls a i s.env)
         exec_arm_good NoArm i s k = done s tt

@@ -4,6 +4,8 @@ use Rattle.ada_base.specs.declared.operation.Op.{Op}
 use Rattle.ada_base.specs.declared.reason.Reason.{Reason}
 use Rattle.ada_base.specs.declared.reason.Reason.TheVariants as reason
 use Rattle.ada_base.specs.Operation.{is_in_base}
+use Rattle.ada_base.proofs.Readings
+use Rattle.ada_base.proofs.Readings.{Relates as RelatesReadings}
 use Rattle.ada_typed.specs.declared.scalars.Class.{Class}
 use Rattle.ada_typed.specs.declared.scalars.Scalar.{Scalar}
 use Rattle.ada_typed.specs.declared.scalars.Check.{Check}
@@ -146,44 +148,23 @@ module _ {ℓ κ ν} {o : Operations {ℓ}} {q : Operations {κ}} (rel : Relates
   -- ---- input
 
   module _ (w : World) (allowed : Open w) where
-    next : R w (Meaning.next_symbol o) (Meaning.next_symbol q)
+    next : R w ((Meaning.reading o).asks) ((Meaning.reading q).asks)
     next = rel.bind w (rel.turn w) (λ _. rel.takes w allowed)
 
-    firsts : (h : Held) → R w (Meaning.first_symbol o h) (Meaning.first_symbol q h)
-    firsts Nothing = next
-    firsts (Symbol s) = rel.ret w s
-
-    skips : (n : ℕ) (s : Option ℕ) → R w (Meaning.skip_blanks o n s) (Meaning.skip_blanks q n s)
-    skips zero s = rel.spent w
-    skips (suc n) s = choose w (is_blank s) (rel.bind w next (λ t. skips n t)) (rel.ret w s)
-
-    fails : {A : Type 0} (s : Option ℕ) (r : Reason) → R w (Meaning.fails_at o {A = A} s r) (Meaning.fails_at q s r)
-    fails s r = rel.bind w (rel.keeps w allowed (Symbol s)) (λ _. raised w r)
-
-    ends : (negative : Bool) (n : ℕ) (s : Option ℕ) → R w (Meaning.number_ends o negative n s) (Meaning.number_ends q negative n s)
-    ends negative n s = choose w (is_based s || not (is_integer (signed negative n))) (fails s reason.DataError) (rel.bind w (rel.keeps w allowed (Symbol s)) (λ _. rel.ret w (signed negative n)))
-
-    digit_run : (more : ℕ) (negative : Bool) (n : ℕ) (s : Option ℕ) → R w (Meaning.digits o more negative n s) (Meaning.digits q more negative n s)
-    digit_run zero negative n s = rel.spent w
-    digit_run (suc more) negative n s =
-        rel.bind w next (λ t. choose w (is_digit t) (digit_run more negative (n * 10 + digit_of s) t)
-        (choose w (is_byte 95 t) (rel.bind w next (λ u. choose w (is_digit u) (digit_run more negative (n * 10 + digit_of s) u) (fails u reason.DataError)))
-        (ends negative (n * 10 + digit_of s) t)))
-
-    number_start : (more : ℕ) (negative : Bool) (s : Option ℕ) → R w (Meaning.number_from o more negative s) (Meaning.number_from q more negative s)
-    number_start more negative s = choose w (is_digit s) (digit_run more negative 0 s) (fails s reason.DataError)
-
-    unsigned : (more : ℕ) (s : Option ℕ) → R w (Meaning.unsigned_number o more s) (Meaning.unsigned_number q more s)
-    unsigned more None = fails None reason.EndError
-    unsigned more (Some b) = number_start more false (Some b)
-
-    numbers : (more : ℕ) (s : Option ℕ) → R w (Meaning.number_read o more s) (Meaning.number_read q more s)
-    numbers more s =
-        choose w (is_byte 45 s) (rel.bind w next (λ t. number_start more true t))
-        (choose w (is_byte 43 s) (rel.bind w next (λ t. number_start more false t)) (unsigned more s))
+    abbrev readings : RelatesReadings {ℓ, κ, ν} (Meaning.reading o) (Meaning.reading q)
+    readings = record {
+      R = λ {A} m n. R {A = A} w m n;
+      ret = λ {A} a. rel.ret w a;
+      bind = λ {A} {B} {m} {n} {k} {l} r s. rel.bind w r s;
+      asks = next;
+      recalls = rel.recalls w allowed;
+      keeps = rel.keeps w allowed;
+      raises = λ {A} r. raised w r;
+      spent = λ {A}. rel.spent w;
+    }
 
     gets : (limit : ℕ) → R w (Meaning.got o limit) (Meaning.got q limit)
-    gets limit = rel.bind w (rel.recalls w allowed) (λ h. rel.bind w (firsts h) (λ s. rel.bind w (skips (suc limit) s) (λ t. numbers (suc limit) t)))
+    gets = Readings.gets readings
 
   -- ---- places in the text: the world, and whether blocking calls are allowed there
 
@@ -279,12 +260,12 @@ module _ {ℓ κ ν} {o : Operations {ℓ}} {q : Operations {κ}} (rel : Relates
         composite (WholeConstant at r selections subtype) env h k = rel.bind h.world (select selections env (constant_root r env) h k) (λ p. reads_all h.world (ConstantOf p.object) p.offset [] (Meaning.cells_of o limit program calls subtype))
         composite (WholeTarget at subtype) env h k = reads_all h.world (VariableOf env.target.object) env.target.offset [] (Meaning.cells_of o limit program calls subtype)
         composite (CompositeIf condition value otherwise) env h k = rel.bind h.world (eval condition env h k.0) (λ c. choose h.world (truth c) (composite value env h k.1) (composite otherwise env h k.2))
-        composite (Aggregate at size associations mentions) env h k = associated associations env (zeros size) h k.0
+        composite (Aggregate at size associations) env h k = associated associations env (zeros size) h k
 
         pub associated : (a : Associations) (env : Env) (so_far : List ℤ) (h : Spot) → KeepsAssociations nonblocking a h.blocking → R h.world (Meaning.associated o limit program calls a env so_far) (Meaning.associated q limit program calls' a env so_far)
         associated NoAssociation env so_far h k = rel.ret h.world so_far
-        associated (Association runs i value rest) env so_far h k =
-            rel.bind h.world (all_runs h.world runs so_far (λ n. rel.bind h.world (iterated h.world i) (λ _. cells value (iterated_env i n env) h k.0))) (λ cs. associated rest env cs h k.1)
+        associated (Association runs i mentions value rest) env so_far h k =
+            rel.bind h.world (all_runs h.world runs so_far (λ n. rel.bind h.world (iterated h.world i) (λ _. cells value (iterated_env i n env) h k.1))) (λ cs. associated rest env cs h k.2)
 
         pub course : (i : Iteration) (env : Env) (h : Spot) → KeepsIteration nonblocking i h.blocking → R h.world (Meaning.course o limit program calls i env) (Meaning.course q limit program calls' i env)
         course (Range x reverse low high c filter) env h k = rel.bind h.world (eval low env h k.0) (λ l. rel.bind h.world (eval high env h k.1) (λ u. rel.bind h.world (bounds h.world c l u) (λ _. rel.ret h.world _)))
@@ -343,7 +324,7 @@ module _ {ℓ κ ν} {o : Operations {ℓ}} {q : Operations {κ}} (rel : Relates
         exec (Raise r) env h k = raised h.world r
         exec Reraise env h k = raised h.world env.handled
         exec (IfThen condition stmts otherwise) env h k = rel.bind h.world (eval condition env h k.0) (λ c. choose h.world (truth c) (exec_all stmts env h k.1) (exec_all otherwise env h k.2))
-        exec (Case e alternatives mentions) env h k = rel.bind h.world (eval e env h k.0) (λ v. exec_chosen alternatives v env h k.1)
+        exec (Case e alternatives) env h k = rel.bind h.world (eval e env h k.0) (λ v. exec_chosen alternatives v env h k.1)
         exec (Loop number condition stmts) env h k = rel.handles h.world (exits number) (whiles h.world (suc limit) (holds condition env h k.0) (exec_all stmts env h k.1)) (λ _. rel.ret h.world tt)
         exec (For number iteration stmts) env h k =
             rel.bind h.world (course iteration env h k.0) (λ c. rel.handles h.world (exits number)
@@ -366,7 +347,7 @@ module _ {ℓ κ ν} {o : Operations {ℓ}} {q : Operations {κ}} (rel : Relates
 
         pub exec_chosen : (a : Alternatives) (v : ℤ) (env : Env) (h : Spot) → KeepsAlternatives nonblocking a h.blocking → R h.world (Meaning.exec_chosen o limit program calls a v env) (Meaning.exec_chosen q limit program calls' a v env)
         exec_chosen NoAlternative v env h k = raised h.world reason.ConstraintError
-        exec_chosen (Alternative others choices stmts rest) v env h k = choose h.world (others || is_chosen choices v) (exec_all stmts env h k.0) (exec_chosen rest v env h k.1)
+        exec_chosen (Alternative others choices mentions stmts rest) v env h k = choose h.world (others || is_chosen choices v) (exec_all stmts env h k.1) (exec_chosen rest v env h k.2)
 
         pub exec_arm : (a : Arms) (i : ℕ) (env : Env) (h : Spot) → KeepsArms nonblocking a h.blocking → R h.world (Meaning.exec_arm o limit program calls a i env) (Meaning.exec_arm q limit program calls' a i env)
         exec_arm NoArm i env h k = rel.ret h.world tt

@@ -4,6 +4,8 @@ use Rattle.std.specs.Prelude.{ℕ, zero, suc, ◌+◌, ◌*◌, min, ℤ, pos, �
 use Rattle.ada_base.specs.declared.reason.Reason.{Reason}
 use Rattle.ada_base.specs.declared.reason.Reason.TheVariants as reason
 use Rattle.ada_base.specs.Operation.{is_in_base}
+use Rattle.ada_base.specs.Input
+use Rattle.ada_base.specs.Input.{Reading}
 use Rattle.ada_typed.specs.declared.scalars.Class.{Class}
 use Rattle.ada_typed.specs.declared.scalars.Scalar.{Scalar}
 use Rattle.ada_typed.specs.declared.scalars.Check.{Check}
@@ -20,7 +22,6 @@ use Rattle.ada_typed.specs.declared.program.Object.{Object}
 use Rattle.ada_typed.specs.Syntax.{Expr, Static, Variable, Constant, Parameter, Target, Group, Unary, Binary, AndThen, OrElse, Relation, Membership, If, Call, Convert, Reduction, Optional, Absent, Present, Selections, Whole, Field, Index, Actuals, NoActual, In, InOut, Out, CompositeInOut, CompositeOut, Value, Number, Cells, Composite, WholeVariable, WholeConstant, WholeTarget, CompositeIf, Aggregate, Associations, NoAssociation, Association, Iteration, Range, Components, Chunk, NoChunk, Count, Each, Pieces, NoPiece, Text, Image, Padded, Decls, NoDecl, DeclareDefault, DeclareVariable, DeclareConstant, Mentions, Stmt, Null, Assign, CallProcedure, Exit, Return, ReturnValue, Raise, Reraise, IfThen, Case, Loop, For, ParallelFor, Parallel, Block, Put, Get, Stmts, End, Then, Alternatives, NoAlternative, Alternative, Arms, NoArm, Arm, Handlers, NoHandler, Handler, Body, Sub, Program}
 use Rattle.ada_base.specs.Cuts.{evens}
 use Rattle.ada_base.specs.Image.{padded}
-use Rattle.ada_base.specs.Input.{Held, Nothing, Symbol, is_blank, is_byte, is_digit, digit_of, is_based, signed, is_integer}
 use Rattle.behaviours.specs.Doings.{through, folded}
 use Rattle.behaviours.specs.Paths.{Leave, Exits, Returns, Raises, Entity, VariableOf, ConstantOf, Region, Everywhere, Here}
 use Rattle.ada_meaning.specs.Values.{truth, bit, is_in, between, to_nat, count, base_of, unary, compares, is_chosen, handles_reason, without_zeros, layout, defaults, laid, zeros, image_of}
@@ -287,56 +288,13 @@ module _ {ℓ} (ops : Operations {ℓ}) where
   abbrev pub guarded : Handlers → Doing (Unit {0}) → (Reason → Doing (Unit {0})) → Doing (Unit {0})
   guarded handlers body handler = handles body (λ how. has_handlers handlers && raises how) (λ how. look >>= λ _. handler (reason_of how))
 
-  -- ---- input (A.10.8): bytes from the one that is looked at; each that is asked for takes a turn
+  -- ---- input (A.10.8): each byte that is asked for takes a turn
 
-  abbrev pub next_symbol : Doing (Option ℕ)
-  next_symbol = turn >>= λ _. takes
-
-  abbrev pub first_symbol : Held → Doing (Option ℕ)
-  first_symbol Nothing = next_symbol
-  first_symbol (Symbol s) = ret s
-
-  abbrev pub skip_blanks : ℕ → Option ℕ → Doing (Option ℕ)
-  skip_blanks zero s = spent
-  skip_blanks (suc more) s = cond (is_blank s) (next_symbol >>= λ t. skip_blanks more t) (ret s)
-
-  -- the byte or end that is looked at is held for the next Get
-  abbrev pub fails_at : {A : Type 0} → Option ℕ → Reason → Doing A
-  fails_at s r = keeps (Symbol s) >>= λ _. raise r
-
-  abbrev pub number_ends : Bool → ℕ → Option ℕ → Doing ℤ
-  number_ends negative n s =
-      cond (is_based s || not (is_integer (signed negative n))) (fails_at s reason.DataError) (keeps (Symbol s) >>= λ _. ret (signed negative n))
-
-  -- the digits from one on, with single underscores between them
-  abbrev pub digits : ℕ → Bool → ℕ → Option ℕ → Doing ℤ
-  digits zero negative n s = spent
-  digits (suc more) negative n s = do
-    let m = n * 10 + digit_of s
-    t ← next_symbol
-    cond (is_digit t) (digits more negative m t)
-        (cond (is_byte 95 t) (next_symbol >>= λ u. cond (is_digit u) (digits more negative m u) (fails_at u reason.DataError))
-        (number_ends negative m t))
-
-  abbrev pub number_from : ℕ → Bool → Option ℕ → Doing ℤ
-  number_from more negative s = cond (is_digit s) (digits more negative 0 s) (fails_at s reason.DataError)
-
-  abbrev pub unsigned_number : ℕ → Option ℕ → Doing ℤ
-  unsigned_number more None = fails_at None reason.EndError
-  unsigned_number more (Some b) = number_from more false (Some b)
-
-  abbrev pub number_read : ℕ → Option ℕ → Doing ℤ
-  number_read more s =
-      cond (is_byte 45 s) (next_symbol >>= λ t. number_from more true t)
-      (cond (is_byte 43 s) (next_symbol >>= λ t. number_from more false t)
-      (unsigned_number more s))
+  abbrev pub reading : Reading {ℓ}
+  reading = record { Doing = Doing; ret = ret; ◌>>=◌ = ◌>>=◌; asks = turn >>= λ _. takes; recalls = recalls; keeps = keeps; raises = raise; spent = spent }
 
   abbrev pub got : ℕ → Doing ℤ
-  got limit = do
-    h ← recalls
-    s ← first_symbol h
-    t ← skip_blanks (suc limit) s
-    number_read (suc limit) t
+  got limit = Input.got reading limit
 
   module _ (limit : ℕ) (program : Program) (calls : ℕ → ℕ → Doing (Unit {0}) → List Passed → Doing Returned) where
     abbrev pub cells_of : ℕ → List Scalar
@@ -488,12 +446,12 @@ module _ {ℓ} (ops : Operations {ℓ}) where
       composite (CompositeIf condition value otherwise) env = do
         c ← eval condition env
         cond (truth c) (composite value env) (composite otherwise env)
-      composite (Aggregate at size associations mentions) env = associated associations env (zeros size)
+      composite (Aggregate at size associations) env = associated associations env (zeros size)
 
       -- the components that associations give, from left to right (4.3)
       pub associated : Associations → Env → List ℤ → Doing (List ℤ)
       associated NoAssociation env so_far = ret so_far
-      associated (Association runs iterated value rest) env so_far = do
+      associated (Association runs iterated mentions value rest) env so_far = do
         cs ← runs_values runs so_far (λ k. iterated_turn iterated >>= λ _. cells value (iterated_env iterated k env))
         associated rest env cs
 
@@ -599,7 +557,7 @@ module _ {ℓ} (ops : Operations {ℓ}) where
       exec (IfThen condition stmts otherwise) env = do
         c ← eval condition env
         cond (truth c) (exec_all stmts env) (exec_all otherwise env)
-      exec (Case e alternatives mentions) env = do
+      exec (Case e alternatives) env = do
         v ← eval e env
         exec_chosen alternatives v env
       exec (Loop number condition stmts) env = handles (while_loop (suc limit) (holds condition env) (exec_all stmts env)) (exits number) (λ _. ret tt)
@@ -637,7 +595,7 @@ module _ {ℓ} (ops : Operations {ℓ}) where
       -- the first alternative that has the value (5.4)
       pub exec_chosen : Alternatives → ℤ → Env → Doing (Unit {0})
       exec_chosen NoAlternative v env = raise reason.ConstraintError
-      exec_chosen (Alternative others choices stmts rest) v env = cond (others || is_chosen choices v) (exec_all stmts env) (exec_chosen rest v env)
+      exec_chosen (Alternative others choices mentions stmts rest) v env = cond (others || is_chosen choices v) (exec_all stmts env) (exec_chosen rest v env)
 
       pub exec_arm : Arms → ℕ → Env → Doing (Unit {0})
       exec_arm NoArm i env = ret tt

@@ -61,6 +61,7 @@ made_of types objects subs decls stmts = record {
   objects = objects;
   subs = subs;
   sites = [];
+  exceptions = [];
   body = record { decls = decls; stmts = stmts; handlers = NoHandler };
   nonblocking = false;
   strict = true;
@@ -128,7 +129,7 @@ abbrev array_of : ℕ → Subtype
 array_of n = syntax.Array (record { low = pos 1; high = pos n } ∷ []) 0
 
 abbrev filled_with : ℕ → Expr → Value
-filled_with n e = Cells (Aggregate 0 n (Association (record { first = 0; count = n; stride = 1 } ∷ []) None (stored e) NoAssociation) NoExpr)
+filled_with n e = Cells (Aggregate 0 n (Association (record { first = 0; count = n; stride = 1 } ∷ []) None NoExpr (stored e) NoAssociation))
 
 abbrev indexed : ℕ → Expr → Selections
 indexed n e = Index 0 e (pos 1) (pos n) 1 Whole
@@ -163,8 +164,8 @@ find = made_of (array_of 4 ∷ []) (object_of 1 4 ∷ [])
       };
     } ∷ [])
     (DeclareVariable 0 (Cells (Aggregate 0 4
-    (Association (record { first = 0; count = 1; stride = 1 } ∷ record { first = 2; count = 1; stride = 1 } ∷ []) None (stored (number (pos 9)))
-    (Association (record { first = 1; count = 1; stride = 1 } ∷ record { first = 3; count = 1; stride = 1 } ∷ []) None (stored (number (pos 1))) NoAssociation)) NoExpr)) NoDecl)
+    (Association (record { first = 0; count = 1; stride = 1 } ∷ record { first = 2; count = 1; stride = 1 } ∷ []) None NoExpr (stored (number (pos 9)))
+    (Association (record { first = 1; count = 1; stride = 1 } ∷ record { first = 3; count = 1; stride = 1 } ∷ []) None NoExpr (stored (number (pos 1))) NoAssociation)))) NoDecl)
     (Then (put_image (Call 0 0 0 NoActual)) End)
 
 abbrev pub Find : Type 0
@@ -205,7 +206,7 @@ Turns = (answer_of turns (sequential turns 9 no_input) ≡ record { output = [];
 -- ---- A : array (1 .. 3) of Integer := (1, 2, 3); parallel for X of A loop X := @ * 2; end loop;
 
 abbrev counted_up : ℕ → Value
-counted_up n = Cells (Aggregate 0 n (Association (record { first = 0; count = n; stride = 1 } ∷ []) (Some (record { parameter = 9; first = pos 1 })) (stored (Parameter 0 9)) NoAssociation) NoExpr)
+counted_up n = Cells (Aggregate 0 n (Association (record { first = 0; count = n; stride = 1 } ∷ []) (Some (record { parameter = 9; first = pos 1 })) NoExpr (stored (Parameter 0 9)) NoAssociation))
 
 abbrev pub doubled : Program
 doubled = made_of (array_of 3 ∷ []) (object_of 1 3 ∷ []) [] (DeclareVariable 0 (counted_up 3) NoDecl)
@@ -299,8 +300,8 @@ given_at i = record { first = i; count = 1; stride = 1 }
 
 abbrev pub folded : Program
 folded = made_of (array_of 3 ∷ []) (object_of 1 3 ∷ []) []
-    (DeclareVariable 0 (Cells (Aggregate 0 3 (Association (given_at 0 ∷ []) None (stored (number (negsuc 4)))
-    (Association (given_at 1 ∷ []) None (stored (number (pos 2147483647))) (Association (given_at 2 ∷ []) None (stored (number (pos 5))) NoAssociation))) NoExpr)) NoDecl)
+    (DeclareVariable 0 (Cells (Aggregate 0 3 (Association (given_at 0 ∷ []) None NoExpr (stored (number (negsuc 4)))
+    (Association (given_at 1 ∷ []) None NoExpr (stored (number (pos 2147483647))) (Association (given_at 2 ∷ []) None NoExpr (stored (number (pos 5))) NoAssociation))))) NoDecl)
     (Then (put_image (Reduction 0 0 (reducer.Operator 0 op.Add integers) (number (pos 0)) (Some 0) NoChunk (Components 0 false 0 (root.Object 0) Whole 3 1 1 Absent) (Variable 0 (root.Item 0) Whole integer))) End)
 
 -- in order there is no overflow, in two chunks there is one

@@ -1,7 +1,7 @@
 -- Values, and what is computed from them alone.
 use Rattle.std.specs.Prelude.{ℕ, zero, suc, ◌-◌, ◌*◌, ◌/◌, ◌%◌, ℤ, pos, negsuc, ◌+ℤ◌, ◌-ℤ◌, neg_ℤ, nat_abs, int_le, int_lt, nat_eq, nat_le, List, [], ◌∷◌, ◌++◌, map, length, replicate, slice_get, Option, Some, None, Bool, true, false, not, ◌&&◌, ◌||◌, cond}
 use Rattle.ada_base.specs.declared.operation.Base.{Base}
-use Rattle.ada_base.specs.declared.operation.Base.TheVariants.{Narrow}
+use Rattle.ada_base.specs.declared.operation.Base.TheVariants.{Narrow, Wide}
 use Rattle.ada_base.specs.declared.operation.Op.{Op}
 use Rattle.ada_base.specs.declared.operation.Op.TheVariants as op
 use Rattle.ada_base.specs.declared.reason.Reason.{Reason}
@@ -50,9 +50,11 @@ count low high = to_nat (high +ℤ pos 1 -ℤ low)
 
 -- ---- operations
 
+-- an expression that waits for its type is none of a program that names give; it counts as of the widest
 abbrev pub base_of : Class → Base
 base_of class.Boolean = Narrow
 base_of (class.Integer base) = base
+base_of class.Universal = Wide
 
 abbrev pub value_or_zero : Option ℤ → ℤ
 value_or_zero None = pos 0
@@ -188,3 +190,4 @@ zeros n = replicate n (pos 0)
 abbrev pub image_of : Class → ℤ → List ℕ
 image_of class.Boolean z = truth_image (truth z)
 image_of (class.Integer base) z = image z
+image_of class.Universal z = image z
