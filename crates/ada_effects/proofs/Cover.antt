@@ -237,20 +237,20 @@ module _ (program : Program) (fine : Construct → Type 0) where
     unary_check s sign.Abs at class v = check s OverflowCheck at (is_in_base (base_of class) v)
     unary_check s sign.Not at class v = done s tt
 
-    one_run : (s : Scene) (k n first stride : ℕ) (so_far : List ℤ) {f : ℕ → Behaviour Instance (List ℤ)} → ((k : ℕ) → Fine s (f k)) → Fine s (Meaning.run_values ops k n first stride so_far f)
+    one_run : (s : Scene) (k n first stride : ℕ) (so_far : List ℤ) {f : ℕ → Behaviour Instance (List ℤ)} → ((k : ℕ) → Fine s (f k)) → Fine s (Meaning.run_values ops k n first stride f so_far)
     one_run s k zero first stride so_far r = done s so_far
     one_run s k (suc n) first stride so_far r = seq s (r k) (λ cs _. one_run s (k + 1) n (first + stride) stride (laid so_far first cs) r)
 
-    all_runs : (s : Scene) (runs : List Run) (so_far : List ℤ) {f : ℕ → Behaviour Instance (List ℤ)} → ((k : ℕ) → Fine s (f k)) → Fine s (Meaning.runs_values ops runs so_far f)
+    all_runs : (s : Scene) (runs : List Run) (so_far : List ℤ) {f : ℕ → Behaviour Instance (List ℤ)} → ((k : ℕ) → Fine s (f k)) → Fine s (Meaning.runs_values ops runs f so_far)
     all_runs s [] so_far r = done s so_far
     all_runs s (run ∷ runs) so_far r = seq s (one_run s 0 run.count run.first run.stride so_far r) (λ cs _. all_runs s runs cs r)
 
     -- values that are laid over cells leave them as many
-    run_length : (k n first stride : ℕ) (so_far : List ℤ) (f : ℕ → Behaviour Instance (List ℤ)) (cs : List ℤ) → Can (Meaning.run_values ops k n first stride so_far f) cs → length cs ≡ length so_far
+    run_length : (k n first stride : ℕ) (so_far : List ℤ) (f : ℕ → Behaviour Instance (List ℤ)) (cs : List ℤ) → Can (Meaning.run_values ops k n first stride f so_far) cs → length cs ≡ length so_far
     run_length k zero first stride so_far f cs c = ap length (of_ret c)
     run_length k (suc n) first stride so_far f cs c = let a = of_bind c in run_length (k + 1) n (first + stride) stride (laid so_far first a.0) f cs a.2 ∙ length_laid so_far first a.0
 
-    runs_length : (runs : List Run) (so_far : List ℤ) (f : ℕ → Behaviour Instance (List ℤ)) (cs : List ℤ) → Can (Meaning.runs_values ops runs so_far f) cs → length cs ≡ length so_far
+    runs_length : (runs : List Run) (so_far : List ℤ) (f : ℕ → Behaviour Instance (List ℤ)) (cs : List ℤ) → Can (Meaning.runs_values ops runs f so_far) cs → length cs ≡ length so_far
     runs_length [] so_far f cs c = ap length (of_ret c)
     runs_length (run ∷ runs) so_far f cs c = let a = of_bind c in runs_length runs a.0 f cs a.2 ∙ run_length 0 run.count run.first run.stride so_far f a.0 a.1
 

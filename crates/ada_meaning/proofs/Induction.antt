@@ -120,11 +120,11 @@ module _ {ℓ κ ν} {o : Operations {ℓ}} {q : Operations {κ}} (rel : Relates
   unary_check w sign.Abs at class v = rel.checks w OverflowCheck at (is_in_base (base_of class) v)
   unary_check w sign.Not at class v = rel.ret w tt
 
-  one_run : (w : World) (k n first stride : ℕ) (so_far : List ℤ) {f : ℕ → o.Doing (List ℤ)} {g : ℕ → q.Doing (List ℤ)} → ((k : ℕ) → R w (f k) (g k)) → R w (Meaning.run_values o k n first stride so_far f) (Meaning.run_values q k n first stride so_far g)
+  one_run : (w : World) (k n first stride : ℕ) (so_far : List ℤ) {f : ℕ → o.Doing (List ℤ)} {g : ℕ → q.Doing (List ℤ)} → ((k : ℕ) → R w (f k) (g k)) → R w (Meaning.run_values o k n first stride f so_far) (Meaning.run_values q k n first stride g so_far)
   one_run w k zero first stride so_far r = rel.ret w so_far
   one_run w k (suc n) first stride so_far r = rel.bind w (r k) (λ cs. one_run w (k + 1) n (first + stride) stride (laid so_far first cs) r)
 
-  all_runs : (w : World) (runs : List Run) (so_far : List ℤ) {f : ℕ → o.Doing (List ℤ)} {g : ℕ → q.Doing (List ℤ)} → ((k : ℕ) → R w (f k) (g k)) → R w (Meaning.runs_values o runs so_far f) (Meaning.runs_values q runs so_far g)
+  all_runs : (w : World) (runs : List Run) (so_far : List ℤ) {f : ℕ → o.Doing (List ℤ)} {g : ℕ → q.Doing (List ℤ)} → ((k : ℕ) → R w (f k) (g k)) → R w (Meaning.runs_values o runs f so_far) (Meaning.runs_values q runs g so_far)
   all_runs w [] so_far r = rel.ret w so_far
   all_runs w (run ∷ runs) so_far r = rel.bind w (one_run w 0 run.count run.first run.stride so_far r) (λ cs. all_runs w runs cs r)
 

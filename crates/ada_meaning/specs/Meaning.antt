@@ -246,17 +246,17 @@ module _ {ℓ} (ops : Operations {ℓ}) where
 
   -- ---- aggregates (4.3): cells over which the values of a run's components are laid, one after the other
 
-  abbrev pub run_values : ℕ → ℕ → ℕ → ℕ → List ℤ → (ℕ → Doing (List ℤ)) → Doing (List ℤ)
-  run_values k zero first stride so_far value = ret so_far
-  run_values k (suc n) first stride so_far value = do
+  abbrev pub run_values : ℕ → ℕ → ℕ → ℕ → (ℕ → Doing (List ℤ)) → List ℤ → Doing (List ℤ)
+  run_values k zero first stride value so_far = ret so_far
+  run_values k (suc n) first stride value so_far = do
     cs ← value k
-    run_values (k + 1) n (first + stride) stride (laid so_far first cs) value
+    run_values (k + 1) n (first + stride) stride value (laid so_far first cs)
 
-  abbrev pub runs_values : List Run → List ℤ → (ℕ → Doing (List ℤ)) → Doing (List ℤ)
-  runs_values [] so_far value = ret so_far
-  runs_values (r ∷ rs) so_far value = do
-    cs ← run_values 0 r.count r.first r.stride so_far value
-    runs_values rs cs value
+  abbrev pub runs_values : List Run → (ℕ → Doing (List ℤ)) → List ℤ → Doing (List ℤ)
+  runs_values [] value so_far = ret so_far
+  runs_values (r ∷ rs) value so_far = do
+    cs ← run_values 0 r.count r.first r.stride value so_far
+    runs_values rs value cs
 
   -- a value of an iterated association takes a turn
   abbrev pub iterated_turn : Option Iterated → Doing (Unit {0})
@@ -452,7 +452,7 @@ module _ {ℓ} (ops : Operations {ℓ}) where
       pub associated : Associations → Env → List ℤ → Doing (List ℤ)
       associated NoAssociation env so_far = ret so_far
       associated (Association runs iterated mentions value rest) env so_far = do
-        cs ← runs_values runs so_far (λ k. iterated_turn iterated >>= λ _. cells value (iterated_env iterated k env))
+        cs ← runs_values runs (λ k. iterated_turn iterated >>= λ _. cells value (iterated_env iterated k env)) so_far
         associated rest env cs
 
       -- the range or array of an iteration, evaluated once (5.5, 5.5.2)

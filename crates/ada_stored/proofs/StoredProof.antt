@@ -1,5 +1,6 @@
 -- Stored runs of every program are among its runs.
-use Rattle.std.proofs.Common.{◌≤◌, nat_eq, inl, inr, arith, ◌≡◌, ℕ, zero, suc, min, ℤ, length, replicate, List, [], ◌∷◌, ◌++◌, Option, Some, None, Result, Ok, Err, Bool, true, false, cond, not, is_some, refl, sym, subst, ap, ◌∙◌, true≢false, append-nil, append_assoc}
+use Rattle.std.proofs.Common.{◌≤◌, nat_eq, inl, inr, arith, ◌≡◌, ℕ, zero, suc, min, ℤ, length, replicate, List, [], ◌∷◌, ◌++◌, Option, Some, None, Result, Ok, Err, Bool, true, false, cond, not, is_some, refl, sym, subst, ap, ◌∙◌, true≢false, append-nil, append_assoc, drop}
+use Rattle.std.proofs.Math.Seq.{drop-append_seam}
 use Rattle.ada_base.specs.declared.operation.Op.{Op}
 use Rattle.ada_typed.specs.declared.scalars.Class.{Class}
 use Rattle.ada_typed.specs.declared.expressions.Reducer.{Reducer}
@@ -24,7 +25,7 @@ use Rattle.ada_meaning.specs.Nonblocking.{KeepsRule}
 use Rattle.ada_meaning.specs.Law.{IsPermitted, BeginsRun, EndsAs, behaviour}
 use Rattle.ada_stored.specs.Stored
 use Rattle.ada_stored.specs.declared.slots.Slot.{Slot}
-use Rattle.ada_stored.specs.Stored.{State, no_slot, slot_at, Stored, After, at, Cause, Left, OutOfTurns, NoRoom, NoRoom, Fault, MemoryFault, InputFault, OutputFault, Stop, Goes, Fails, Computes, stored, outset, outcome_of, handled, finals_of}
+use Rattle.ada_stored.specs.Stored.{State, no_slot, slot_at, Stored, After, at, Cause, Left, OutOfTurns, NoRoom, NoRoom, Fault, MemoryFault, InputFault, OutputFault, Stop, Goes, Fails, Computes, stored, outset, put_out, outcome_of, handled, finals_of}
 use Rattle.ada_stored.specs.StoredLaw.{StoredLaw, SomeLaw, StoredSequentialLaw}
 use Rattle.ada_meaning.proofs.Induction
 use Rattle.ada_meaning.proofs.Induction.{Relates}
@@ -163,8 +164,15 @@ slot_none zero k = refl
 slot_none (suc slots) zero = refl
 slot_none (suc slots) (suc k) = slot_none slots k
 
-visible_outset : (slots : ℕ) (input : List ℕ) → Visible [] [] (outset slots input) nothing_visible
-visible_outset slots input = record {
+-- what stands behind a beginning
+behind : (before out rest : List ℕ) → out ≡ before ++ rest → drop (length before) out ≡ rest
+behind before out rest e = ap (drop (length before)) e ∙ drop-append_seam before rest
+
+whole : (before out rest : List ℕ) → out ≡ before ++ rest → out ≡ before ++ drop (length before) out
+whole before out rest e = e ∙ ap (λ z. before ++ z) (sym (behind before out rest e))
+
+visible_outset : (slots : ℕ) (input before : List ℕ) → Visible [] [] (outset slots input before) nothing_visible
+visible_outset slots input before = record {
   here = λ x. ap (λ (z : Slot). nat_eq z.frame 1) (slot_none slots (Stored.key x));
   everywhere = λ x. ap (λ (z : Slot). nat_eq z.frame 1) (slot_none slots (Stored.key x));
   low = λ k. subst (λ (z : Slot). z.frame ≤ 1) (sym (slot_none slots k)) (omega arith);
@@ -174,8 +182,8 @@ none_tied : (c : Tie) → Tied [] [] c → ⊥
 none_tied c (inl t) = t
 none_tied c (inr t) = t
 
-has_outset : (slots : ℕ) (input : List ℕ) → Has input true [] [] (outset slots input) start (empty (input_of input))
-has_outset slots input = record {
+has_outset : (slots : ℕ) (input before : List ℕ) → Has input true [] [] (outset slots input before) start (empty (input_of input))
+has_outset slots input before = record {
   one = λ c d t. absurd (none_tied c t);
   apart = λ c d i j t. absurd (none_tied c t);
   right = λ c i t. absurd (none_tied c t);
@@ -219,21 +227,21 @@ only_raises r (Err (Left y)) t x e = go (raises y) refl e
     go true is e = sym (ap raises (left (ap (λ (z : After (Unit {0})). z.end) e))) ∙ is
     go false is e = absurd (no (ap (λ (z : After (Unit {0})). z.end) e))
 
-module _ (program : Program) (set : Setting) (slots : ℕ) (input : List ℕ) (keeps : KeepsRule program) where
+module _ (program : Program) (set : Setting) (slots : ℕ) (input before : List ℕ) (keeps : KeepsRule program) where
   abbrev from : Trace Instance → Bool → Path Instance → End (Unit {0}) → Type 0
   from tr y p e = (behaviour program set).runs nothing_visible start tr y p e
 
   sim : Simulates input true (stored program set) (behaviour program set)
   sim = program_simulates input asks_apart set.limit (cuts_of set.plan) set.one program keeps
 
-  came : Came input true [] [] (outset slots input) start (empty (input_of input)) ((behaviour program set).runs nothing_visible start) ((stored program set).does (outset slots input))
-  came = sim.does [] [] (outset slots input) nothing_visible start (empty (input_of input)) (visible_outset slots input) (has_outset slots input) refl
+  came : Came input true [] [] (outset slots input before) start (empty (input_of input)) ((behaviour program set).runs nothing_visible start) ((stored program set).does (outset slots input before))
+  came = sim.does [] [] (outset slots input before) nothing_visible start (empty (input_of input)) (visible_outset slots input before) (has_outset slots input before) refl
 
   -- one that ends by itself
-  permitted_end : (t : State) (e : Result (Unit {0}) Cause) (answer : Result (Unit {0}) Stop) → Came input true [] [] (outset slots input) start (empty (input_of input)) ((behaviour program set).runs nothing_visible start) (at t e)
-      → ((tr : Trace Instance) (p : Path Instance) (end : End (Unit {0})) → end ≡ end_of e → t.output ≡ output_of tr → EndsAs program set tr p end t.output (Stored.ending_of answer))
-      → (early : Bool) × IsPermitted program set input early (outcome_of program answer t)
-  permitted_end t e answer d ends = (
+  permitted_end : (t : State) (e : Result (Unit {0}) Cause) (answer : Result (Unit {0}) Stop) → Came input true [] [] (outset slots input before) start (empty (input_of input)) ((behaviour program set).runs nothing_visible start) (at t e)
+      → ((tr : Trace Instance) (p : Path Instance) (end : End (Unit {0})) → end ≡ end_of e → put_out before t ≡ output_of tr → EndsAs program set tr p end (put_out before t) (Stored.ending_of answer))
+      → (t.output ≡ before ++ put_out before t) × ((early : Bool) × IsPermitted program set input early (outcome_of program before answer t))
+  permitted_end t e answer d ends = (whole before t.output (output_of d.trace) d.output, (
     d.early,
     record {
       trace = d.trace;
@@ -241,17 +249,17 @@ module _ (program : Program) (set : Setting) (slots : ℕ) (input : List ℕ) (k
       end = end_of e;
       run = d.run;
       fits = d.fits;
-      ends = ends d.trace d.path (end_of e) refl d.output;
+      ends = ends d.trace d.path (end_of e) refl (behind before t.output (output_of d.trace) d.output);
       taken = d.has.taken;
       finals = finals_right input true [] d.ties t d.path (after (empty (input_of input)) d.trace) d.has program;
     },
-  )
+  ))
 
   begins : (tr : Trace Instance) → StopsWith ((behaviour program set).runs nothing_visible start) tr → BeginsRun program set tr
   begins tr k = record { rest = []; early = k.0; path = k.1; end = Stopped; run = subst (λ z. from z k.0 k.1 Stopped) (sym (append-nil tr)) k.2 }
 
-  permitted_fault : (f : Fault) (t : State) → Halted input true (outset slots input) start (empty (input_of input)) ((behaviour program set).runs nothing_visible start) f t → (early : Bool) × IsPermitted program set input early (outcome_of program (Err (Fails f)) t)
-  permitted_fault f t d = (
+  permitted_fault : (f : Fault) (t : State) → Halted input true (outset slots input before) start (empty (input_of input)) ((behaviour program set).runs nothing_visible start) f t → (t.output ≡ before ++ put_out before t) × ((early : Bool) × IsPermitted program set input early (outcome_of program before (Err (Fails f)) t))
+  permitted_fault f t d = (followed f d.told, (
     d.early,
     record {
       trace = d.trace;
@@ -263,32 +271,37 @@ module _ (program : Program) (set : Setting) (slots : ℕ) (input : List ℕ) (k
       taken = d.taken;
       finals = d.finals program;
     },
-  )
+  ))
     where
-      ends : (f : Fault) → Told f [] t.output d.trace d.path (StopsWith ((behaviour program set).runs nothing_visible start)) → EndsAs program set d.trace d.path Stopped t.output (Stored.ending_of (Err (Fails f)))
-      ends MemoryFault k = (refl, k)
-      ends InputFault k = (refl, k.0, (k.1.0, begins (d.trace ++ (Takes d.path.taken k.1.0 ∷ [])) k.1.1))
-      ends OutputFault k = (refl, (k.0, k.1, k.2, begins (d.trace ++ (Puts (k.0 ++ k.1) ∷ [])) k.3))
+      followed : (f : Fault) → Told f before t.output d.trace d.path (StopsWith ((behaviour program set).runs nothing_visible start)) → t.output ≡ before ++ put_out before t
+      followed MemoryFault k = whole before t.output (output_of d.trace) k
+      followed InputFault k = whole before t.output (output_of d.trace) k.0
+      followed OutputFault k = whole before t.output (output_of d.trace ++ k.0) k.2
+
+      ends : (f : Fault) → Told f before t.output d.trace d.path (StopsWith ((behaviour program set).runs nothing_visible start)) → EndsAs program set d.trace d.path Stopped (put_out before t) (Stored.ending_of (Err (Fails f)))
+      ends MemoryFault k = (refl, behind before t.output (output_of d.trace) k)
+      ends InputFault k = (refl, behind before t.output (output_of d.trace) k.0, (k.1.0, begins (d.trace ++ (Takes d.path.taken k.1.0 ∷ [])) k.1.1))
+      ends OutputFault k = (refl, (k.0, k.1, behind before t.output (output_of d.trace ++ k.0) k.2, begins (d.trace ++ (Puts (k.0 ++ k.1) ∷ [])) k.3))
 
   -- what the main procedure does, however it is left
   abbrev inside : Stored (Unit {0})
   inside = exec_body (stores input asks_apart set.limit (cuts_of set.plan) set.one) set.limit program (call (stores input asks_apart set.limit (cuts_of set.plan) set.one) set.limit program most_calls) program.body Everywhere (Meaning.outset 0)
 
-  permitted : (answer : Result (Unit {0}) Stop) (t : State) → Computes (stored program set) (outset slots input) answer t → (early : Bool) × IsPermitted program set input early (outcome_of program answer t)
+  permitted : (answer : Result (Unit {0}) Stop) (t : State) → Computes (stored program set) (outset slots input before) answer t → (t.output ≡ before ++ put_out before t) × ((early : Bool) × IsPermitted program set input early (outcome_of program before answer t))
   unfolding Stored.handles
-  permitted (Ok u) t c = permitted_end t (Ok u) (Ok u) (subst (λ z. Came input true [] [] (outset slots input) start (empty (input_of input)) ((behaviour program set).runs nothing_visible start) z) c came) (λ tr p end e o. (e, o))
-  permitted (Err (Goes OutOfTurns)) t c = permitted_end t (Err OutOfTurns) (Err (Goes OutOfTurns)) (subst (λ z. Came input true [] [] (outset slots input) start (empty (input_of input)) ((behaviour program set).runs nothing_visible start) z) c came) (λ tr p end e o. (e, o))
-  permitted (Err (Goes NoRoom)) t c = permitted_end t (Err NoRoom) (Err (Goes NoRoom)) (subst (λ z. Came input true [] [] (outset slots input) start (empty (input_of input)) ((behaviour program set).runs nothing_visible start) z) c came) (λ tr p end e o. (e, o))
+  permitted (Ok u) t c = permitted_end t (Ok u) (Ok u) (subst (λ z. Came input true [] [] (outset slots input before) start (empty (input_of input)) ((behaviour program set).runs nothing_visible start) z) c came) (λ tr p end e o. (e, o))
+  permitted (Err (Goes OutOfTurns)) t c = permitted_end t (Err OutOfTurns) (Err (Goes OutOfTurns)) (subst (λ z. Came input true [] [] (outset slots input before) start (empty (input_of input)) ((behaviour program set).runs nothing_visible start) z) c came) (λ tr p end e o. (e, o))
+  permitted (Err (Goes NoRoom)) t c = permitted_end t (Err NoRoom) (Err (Goes NoRoom)) (subst (λ z. Came input true [] [] (outset slots input before) start (empty (input_of input)) ((behaviour program set).runs nothing_visible start) z) c came) (λ tr p end e o. (e, o))
   permitted (Err (Goes (Left x))) t c = by x c
     where
-      by : (x : Leave) → Computes (stored program set) (outset slots input) (Err (Goes (Left x))) t → (early : Bool) × IsPermitted program set input early (outcome_of program (Err (Goes (Left x))) t)
-      by (Raises r) c = permitted_end t (Err (Left (Raises r))) (Err (Goes (Left (Raises r)))) (subst (λ z. Came input true [] [] (outset slots input) start (empty (input_of input)) ((behaviour program set).runs nothing_visible start) z) c came) (λ tr p end e o. (e, o))
-      by (Exits n) c = absurd (true≢false (sym (only_raises (inside.does (outset slots input)) (inside.does (outset slots input)).end t (Exits n) c)))
-      by (Returns v) c = absurd (true≢false (sym (only_raises (inside.does (outset slots input)) (inside.does (outset slots input)).end t (Returns v) c)))
-  permitted (Err (Fails f)) t c = permitted_fault f t (halted_stops input true (stored program set) (behaviour program set) sim [] [] (outset slots input) nothing_visible start (empty (input_of input)) (visible_outset slots input) (has_outset slots input) refl f t c)
+      by : (x : Leave) → Computes (stored program set) (outset slots input before) (Err (Goes (Left x))) t → (t.output ≡ before ++ put_out before t) × ((early : Bool) × IsPermitted program set input early (outcome_of program before (Err (Goes (Left x))) t))
+      by (Raises r) c = permitted_end t (Err (Left (Raises r))) (Err (Goes (Left (Raises r)))) (subst (λ z. Came input true [] [] (outset slots input before) start (empty (input_of input)) ((behaviour program set).runs nothing_visible start) z) c came) (λ tr p end e o. (e, o))
+      by (Exits n) c = absurd (true≢false (sym (only_raises (inside.does (outset slots input before)) (inside.does (outset slots input before)).end t (Exits n) c)))
+      by (Returns v) c = absurd (true≢false (sym (only_raises (inside.does (outset slots input before)) (inside.does (outset slots input before)).end t (Returns v) c)))
+  permitted (Err (Fails f)) t c = permitted_fault f t (halted_stops input true (stored program set) (behaviour program set) sim [] [] (outset slots input before) nothing_visible start (empty (input_of input)) (visible_outset slots input before) (has_outset slots input before) refl f t c)
 
 pub stored_law : StoredLaw
-stored_law program set slots input answer t keeps c = permitted program set slots input keeps answer t c
+stored_law program set slots input before answer t keeps c = permitted program set slots input before keeps answer t c
 
 answered_computes : {A : Type 0} (m : Stored A) (s : State) (e : Result A Cause) → (m.does s).end ≡ e → Computes m s (Stored.answered e) (m.does s).state
 answered_computes m s (Ok a) is = ap (λ z. at (m.does s).state z) is
@@ -296,11 +309,11 @@ answered_computes m s (Err c) is = ap (λ z. at (m.does s).state z) is
 
 pub some_law : SomeLaw
 some_law program set slots input keeps =
-    let r = (stored program set).does (outset slots input) in
-    permitted program set slots input keeps (Stored.answered r.end) r.state (answered_computes (stored program set) (outset slots input) r.end refl)
+    let r = (stored program set).does (outset slots input []) in
+    (permitted program set slots input [] keeps (Stored.answered r.end) r.state (answered_computes (stored program set) (outset slots input []) r.end refl)).1
 
 -- with one worker, which no stored run tells from more
 pub stored_sequential_law : StoredSequentialLaw
-stored_sequential_law program set slots input answer t keeps plan calm c itself =
-    let p = permitted program (record { plan = set.plan; one = true; limit = set.limit }) slots input keeps answer t c in
-    (one_sequential_law program (record { plan = set.plan; one = true; limit = set.limit }) input keeps plan refl calm).0 p.0 (outcome_of program answer t) p.1 itself
+stored_sequential_law program set slots input before answer t keeps plan calm c itself =
+    let p = (permitted program (record { plan = set.plan; one = true; limit = set.limit }) slots input before keeps answer t c).1 in
+    (one_sequential_law program (record { plan = set.plan; one = true; limit = set.limit }) input keeps plan refl calm).0 p.0 (outcome_of program before answer t) p.1 itself

@@ -362,9 +362,9 @@ pub record Continues {A : Type 0} (whole : Stored A) (begun : State) (rest : Sto
 
 -- ---- whole programs
 
--- with room for so many slots
-abbrev pub outset : ℕ → List ℕ → State
-outset slots input = record {
+-- where a program begins: with room for so many slots, these bytes to be read, and this output before it
+abbrev pub outset : ℕ → List ℕ → List ℕ → State
+outset slots input before = record {
   cells = [];
   kept = [];
   here = replicate slots no_slot;
@@ -374,7 +374,7 @@ outset slots input = record {
   taken = 0;
   held = Nothing;
   input = input;
-  output = [];
+  output = before;
   declared = [];
 }
 
@@ -406,8 +406,12 @@ ending_of (Err (Fails MemoryFault)) = NoMemory
 ending_of (Err (Fails InputFault)) = ReadFault
 ending_of (Err (Fails OutputFault)) = WriteFault
 
-abbrev pub outcome_of : Program → Result (Unit {0}) Stop → State → Outcome
-outcome_of program answer t = record { output = t.output; taken = t.taken; finals = finals_of program t.kept t.declared; ending = ending_of answer }
+-- what was put out behind that which was there before
+abbrev pub put_out : List ℕ → State → List ℕ
+put_out before t = drop (length before) t.output
+
+abbrev pub outcome_of : Program → List ℕ → Result (Unit {0}) Stop → State → Outcome
+outcome_of program before answer t = record { output = put_out before t; taken = t.taken; finals = finals_of program t.kept t.declared; ending = ending_of answer }
 
 -- ---- where nothing fails
 
@@ -416,4 +420,4 @@ answered (Ok a) = Ok a
 answered (Err c) = Err (Goes c)
 
 abbrev pub comes_to : Program → Setting → ℕ → List ℕ → Outcome
-comes_to program set slots input = let r = (stored program set).does (outset slots input) in outcome_of program (answered r.end) r.state
+comes_to program set slots input = let r = (stored program set).does (outset slots input []) in outcome_of program [] (answered r.end) r.state

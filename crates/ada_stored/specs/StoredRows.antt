@@ -43,4 +43,4 @@ at_fault = record {
 }
 
 abbrev pub FaultRow : Type 0
-FaultRow = Computes (stored gets (record { plan = One; one = true; limit = 9 })) (outset 4 (55 ∷ [])) (Err (Fails InputFault)) at_fault
+FaultRow = Computes (stored gets (record { plan = One; one = true; limit = 9 })) (outset 4 (55 ∷ []) []) (Err (Fails InputFault)) at_fault
