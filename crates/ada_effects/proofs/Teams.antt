@@ -186,8 +186,7 @@ module _ (program : Program) (W : Type 0) where
         all_clear z s p lives number first (n ∷ ns) bound = (clear z s p lives (record { number = number; first = first; size = n }) (suc number) (first + n) (omega arith) (le_refl (first + n)) ns (omega arith), all_clear z s p lives (suc number) (first + n) ns (omega arith))
 
         pub asked : W → (b : Bool) (s : Scope Instance) (p : Path Instance) (site : ℕ) → Lives program s p → (ns : List ℕ) → sum ns ≤ total → asks_apart b p.name site p.constructs (deal 0 0 ns) (λ j tr. MayTrace (thread j) s p tr)
-        asked z true s p site lives ns bound = tt
-        asked z false s p site lives ns bound = all_clear z s p lives 0 0 ns (omega arith)
+        asked z b s p site lives ns bound = all_clear z s p lives 0 0 ns (omega arith)
 
     all_safe : (total : ℕ) → W → (s : Scope Instance) (p : Path Instance) → Lives program s p → (E : Allowed) → ((c : Share) → c.first + c.size ≤ total → Good program W E (thread c)) → (number first : ℕ) (ns : List ℕ) → first + sum ns ≤ total → EachSafe thread s p (deal number first ns)
     all_safe total z s p lives E g number first [] bound = tt

@@ -11,7 +11,7 @@ pub mod Listed
 pub mod SeqLaw
 pub mod Wholes
 pub mod Operators
-pub mod Subtypes
+pub mod Among
 pub mod Law
 pub mod Segments
 pub mod Computed

@@ -107,7 +107,7 @@ module _ (P : Type 0) (new : Instance → P) (admits : Scalar → ℤ → Type 0
 
 module _ (P : Type 0) (new : Instance → P) (admits : Scalar → ℤ → Type 0) (limit : ℕ) (cuts : ℕ → ℕ → List ℕ) where
   abbrev alone : Operations {1}
-  alone = Runs.operations P new admits Behaviours.asks_apart limit cuts true
+  alone = Runs.operations P new admits Behaviours.asks_at_once limit cuts true
 
   abbrev Safe : {A : Type 0} → Behaviour P A → Type 0
   Safe b = (s : Scope P) (p : Path P) → b.safe s p
@@ -153,7 +153,7 @@ module _ (P : Type 0) (new : Instance → P) (admits : Scalar → ℤ → Type 0
   each_safe body h [] s p = tt
   each_safe body h (j ∷ js) s p = (h j s p, each_safe body h js s p)
 
-  combined_safe : (v : ℤ) (values : List ℤ) (f : ℤ → ℤ → Behaviour P ℤ) → ((b c : ℤ) → Safe (f b c)) → Safe (Runs.combined P new admits Behaviours.asks_apart limit cuts true v values f)
+  combined_safe : (v : ℤ) (values : List ℤ) (f : ℤ → ℤ → Behaviour P ℤ) → ((b c : ℤ) → Safe (f b c)) → Safe (Runs.combined P new admits Behaviours.asks_at_once limit cuts true v values f)
   combined_safe v [] f h s p = tt
   combined_safe v (a ∷ more) f h s p = onto_safe a more f h s p
 
@@ -187,9 +187,9 @@ module _ (P : Type 0) (new : Instance → P) (admits : Scalar → ℤ → Type 0
     recalls = λ w allowed s p. tt;
     keeps = λ w allowed h s p. tt;
     takes = λ w allowed s p. tt;
-    loops = λ w site cut {f} {g} r s p. ((tt, each_safe (Runs.loop_thread (λ j. f (chunk_of cut j))) (loop_safe (λ j. f (chunk_of cut j)) (λ j. r (chunk_of cut j))) (deal 0 0 (Runs.sizes_of P new admits Behaviours.asks_apart limit cuts true cut)) s p), λ us mid front x run. tt);
+    loops = λ w site cut {f} {g} r s p. ((tt, each_safe (Runs.loop_thread (λ j. f (chunk_of cut j))) (loop_safe (λ j. f (chunk_of cut j)) (λ j. r (chunk_of cut j))) (deal 0 0 (Runs.sizes_of P new admits Behaviours.asks_at_once limit cuts true cut)) s p), λ us mid front x run. tt);
     reduces = λ w site cut by at v {f} {g} {c} {c'} {d} {d'} r t u s p. (
-      (tt, each_safe (Runs.fold_thread by at v (λ j. f (chunk_of cut j)) c) (fold_safe by at v (λ j. f (chunk_of cut j)) c (λ j. r (chunk_of cut j)) t) (deal 0 0 (Runs.sizes_of P new admits Behaviours.asks_apart limit cuts true cut)) s p),
+      (tt, each_safe (Runs.fold_thread by at v (λ j. f (chunk_of cut j)) c) (fold_safe by at v (λ j. f (chunk_of cut j)) c (λ j. r (chunk_of cut j)) t) (deal 0 0 (Runs.sizes_of P new admits Behaviours.asks_at_once limit cuts true cut)) s p),
       λ values mid front x run. combined_safe v values (reduce (Behaviours.doings P) Runs.checks by at c') (reduce_safe by at c' u) s mid,
     );
   }

@@ -3,13 +3,19 @@
 
 ghost use Rattle.ada_meaning.specs.Blocked.{BlockedLaw};
 ghost use Rattle.ada_meaning.specs.Shapes.{ShapeLaw};
-ghost use Rattle.ada_meaning.specs.Law.{StopsLaw, AloneLaw, OnlyLaw, OneLaw, SequentialLaw, OneSequentialLaw, OperatorLaw, SubtypeLaw};
+ghost use Rattle.ada_typed.specs.Programs.{program};
+ghost use Rattle.ada_meaning.specs.Law.{StopsLaw, AloneLaw, AtOnceLaw, ComesToSequential, OnlyLaw, OneLaw, SequentialLaw, OneSequentialLaw, OperatorLaw, SubtypeLaw};
 ghost use Rattle.ada_meaning.specs.Rows.{Adds, Overflows, Divisions, Reductions, Dealt, Find, Raised, Gotten, Turns, Doubled, Kept, Left, Passed, Padded', PartialOverflow, NoChunks, Filtered, Spends, Nested, Escapes, Calm, Sums};
+
+use ada_typed::Typed;
+
+pub use behaviours::shuffle_law;
 
 /// Laws of all programs.
 pub fn laws()
     ensures stops { StopsLaw }
     ensures alone { AloneLaw }
+    ensures at_once { AtOnceLaw }
     ensures only { OnlyLaw }
     ensures one { OneLaw }
     ensures sequential { SequentialLaw }
@@ -18,6 +24,12 @@ pub fn laws()
     ensures subtypes { SubtypeLaw }
     ensures blocked { BlockedLaw }
     ensures shapes { ShapeLaw }
+{}
+
+/// A typed program that keeps the rule on blocking calls, has no races and whose sequential run is calm comes to what that
+/// run comes to, for every input, every plan of numbers of at least 1, and any number of workers.
+pub fn seq_law(typed: &Typed)
+    ensures { ComesToSequential (program typed.now) }
 {}
 
 /// Programs written by hand come to what is said of them.

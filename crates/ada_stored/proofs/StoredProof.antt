@@ -12,7 +12,7 @@ use Rattle.behaviours.specs.Paths.{Leave, Exits, Returns, Raises, Everywhere, In
 use Rattle.behaviours.specs.Events.{Trace, Takes, Puts, output_of}
 use Rattle.behaviours.specs.Memory.{after, empty}
 use Rattle.behaviours.specs.Joins.{Share, deal}
-use Rattle.behaviours.specs.Behaviours.{Behaviour, Asks, asks_apart}
+use Rattle.behaviours.specs.Behaviours.{Behaviour, Asks, asks_at_once}
 use Rattle.ada_meaning.specs.Values.{result, divides, overflows, is_zero, value_or_zero}
 use Rattle.ada_meaning.specs.Operations.{ZeroCheck, OverflowCheck, Cut, ByPlan, Sized, chunk_of, Operations, reduce, zero_checked, overflow_checked, operate}
 use Rattle.ada_meaning.specs.Meaning
@@ -232,7 +232,7 @@ module _ (program : Program) (set : Setting) (slots : ℕ) (input before : List 
   from tr y p e = (behaviour program set).runs nothing_visible start tr y p e
 
   sim : Simulates input true (stored program set) (behaviour program set)
-  sim = program_simulates input asks_apart set.limit (cuts_of set.plan) set.one program keeps
+  sim = program_simulates input asks_at_once set.limit (cuts_of set.plan) set.one program keeps
 
   came : Came input true [] [] (outset slots input before) start (empty (input_of input)) ((behaviour program set).runs nothing_visible start) ((stored program set).does (outset slots input before))
   came = sim.does [] [] (outset slots input before) nothing_visible start (empty (input_of input)) (visible_outset slots input before) (has_outset slots input before) refl
@@ -285,7 +285,7 @@ module _ (program : Program) (set : Setting) (slots : ℕ) (input before : List 
 
   -- what the main procedure does, however it is left
   abbrev inside : Stored (Unit {0})
-  inside = exec_body (stores input asks_apart set.limit (cuts_of set.plan) set.one) set.limit program (call (stores input asks_apart set.limit (cuts_of set.plan) set.one) set.limit program most_calls) program.body Everywhere (Meaning.outset 0)
+  inside = exec_body (stores input asks_at_once set.limit (cuts_of set.plan) set.one) set.limit program (call (stores input asks_at_once set.limit (cuts_of set.plan) set.one) set.limit program most_calls) program.body Everywhere (Meaning.outset 0)
 
   permitted : (answer : Result (Unit {0}) Stop) (t : State) → Computes (stored program set) (outset slots input before) answer t → (t.output ≡ before ++ put_out before t) × ((early : Bool) × IsPermitted program set input early (outcome_of program before answer t))
   unfolding Stored.handles

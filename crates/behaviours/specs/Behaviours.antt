@@ -169,10 +169,14 @@ abbrev pub ThreadsApart : {P : Type 0} → (Share → Trace P → Type 0) → Li
 ThreadsApart may [] = Unit {0}
 ThreadsApart may (j ∷ js) = ThreadApart may j js × ThreadsApart may js
 
--- no two threads of a construct have a race; where they are taken in order nothing is asked
+-- no two threads of a construct have a race
 abbrev pub asks_apart : {P : Type 0} → Asks P
-asks_apart true who site c js may = Unit {0}
-asks_apart false who site c js may = ThreadsApart may js
+asks_apart ordered who site c js may = ThreadsApart may js
+
+-- the same of those that may run at once; where threads are taken in order nothing is asked
+abbrev pub asks_at_once : {P : Type 0} → Asks P
+asks_at_once true who site c js may = Unit {0}
+asks_at_once false who site c js may = ThreadsApart may js
 
 abbrev pub asks_nothing : {P : Type 0} → Asks P
 asks_nothing ordered who site c js may = Unit {0}

@@ -1,14 +1,14 @@
--- Runs in which each read gives a value of its cell's subtype, among those in which it gives anything.
+-- Runs in which reads give less and less is asked of threads, among those in which they give more and more is asked.
 use Rattle.std.proofs.Common.{ℕ, zero, suc, ℤ, List, [], ◌∷◌, ◌⊎◌, inl, inr, Option, Some, None, Bool, true, false, ◌||◌}
 use Rattle.ada_typed.specs.declared.scalars.Scalar.{Scalar}
 use Rattle.ada_typed.specs.declared.expressions.Reducer.{Reducer}
 use Rattle.ada_typed.specs.declared.expressions.Reducer.TheVariants.{Operator, Function}
 use Rattle.ada_typed.specs.Syntax.{Program}
 use Rattle.behaviours.specs.Doings.{through, onto, folded}
-use Rattle.behaviours.specs.Paths.{Leave, Entity, Region, Instance, End, Gives, Leaves, Path, Scope, find, apart_of, enter, is_inside}
+use Rattle.behaviours.specs.Paths.{ThreadName, Leave, Entity, Region, Instance, End, Gives, Leaves, Path, Scope, find, apart_of, enter, is_inside}
 use Rattle.behaviours.specs.Events.{Reads, Trace}
 use Rattle.behaviours.specs.Joins.{Ran, Share, deal, EachRan}
-use Rattle.behaviours.specs.Behaviours.{Behaviour, EachSafe, MayTrace, ThreadApart, ThreadsApart, asks_apart}
+use Rattle.behaviours.specs.Behaviours.{Asks, Behaviour, EachSafe, MayTrace, ThreadApart, ThreadsApart, asks_apart, asks_at_once}
 use Rattle.ada_meaning.specs.Operations.{Cut, chunk_of, Operations, operate, reduce}
 use Rattle.ada_meaning.specs.Meaning.{main}
 use Rattle.behaviours.specs.Behaviours
@@ -41,19 +41,19 @@ handles_among {A} b c takes k l h i = record { runs = go; safe = λ s p f. (h.sa
     go s p tr y p' e (inl (how, mid, front, back, x, z, eq, ey, one, t, two)) = inl (how, mid, front, back, x, z, eq, ey, h.runs s p front x mid (Leaves how) one, t, (i how).runs s mid back z p' e two)
     go s p tr y p' e (inr (one, u)) = inr (h.runs s p tr y p' e one, u)
 
-reads_among : (x : Entity) (i : ℕ) (cell : Scalar) → Among (Runs.reads of_subtype x i cell) (Runs.reads anything x i cell)
-reads_among x i cell = record { runs = λ s. runs s (find s x i); safe = λ s. safe s (find s x i) }
+reads_among : (admits also : Scalar → ℤ → Type 0) → ((cell : Scalar) (v : ℤ) → admits cell v → also cell v) → (x : Entity) (i : ℕ) (cell : Scalar) → Among (Runs.reads admits x i cell) (Runs.reads also x i cell)
+reads_among admits also wider x i cell = record { runs = λ s. runs s (find s x i); safe = λ s. safe s (find s x i) }
   where
     runs : (s : Scope Instance) (l : Option Instance) (p : Path Instance) (tr : Trace Instance) (y : Bool) (p' : Path Instance) (e : End ℤ)
-        → (Behaviours.where_found (λ x. Behaviours.at_once (λ p tr y p' e. ((v : ℤ) × of_subtype cell v × Behaviours.Did p (Reads x i v ∷ []) p (Gives v) tr y p' e) ⊎ Behaviours.Unbegun p tr y p' e)) l).runs s p tr y p' e
-        → (Behaviours.where_found (λ x. Behaviours.at_once (λ p tr y p' e. ((v : ℤ) × anything cell v × Behaviours.Did p (Reads x i v ∷ []) p (Gives v) tr y p' e) ⊎ Behaviours.Unbegun p tr y p' e)) l).runs s p tr y p' e
+        → (Behaviours.where_found (λ x. Behaviours.at_once (λ p tr y p' e. ((v : ℤ) × admits cell v × Behaviours.Did p (Reads x i v ∷ []) p (Gives v) tr y p' e) ⊎ Behaviours.Unbegun p tr y p' e)) l).runs s p tr y p' e
+        → (Behaviours.where_found (λ x. Behaviours.at_once (λ p tr y p' e. ((v : ℤ) × also cell v × Behaviours.Did p (Reads x i v ∷ []) p (Gives v) tr y p' e) ⊎ Behaviours.Unbegun p tr y p' e)) l).runs s p tr y p' e
     runs s None p tr y p' e r = r
-    runs s (Some l) p tr y p' e (inl (v, a, d)) = inl (v, tt, d)
+    runs s (Some l) p tr y p' e (inl (v, a, d)) = inl (v, wider cell v a, d)
     runs s (Some l) p tr y p' e (inr d) = inr d
 
     safe : (s : Scope Instance) (l : Option Instance) (p : Path Instance)
-        → (Behaviours.where_found (λ x. Behaviours.at_once (λ p tr y p' e. ((v : ℤ) × anything cell v × Behaviours.Did p (Reads x i v ∷ []) p (Gives v) tr y p' e) ⊎ Behaviours.Unbegun p tr y p' e)) l).safe s p
-        → (Behaviours.where_found (λ x. Behaviours.at_once (λ p tr y p' e. ((v : ℤ) × of_subtype cell v × Behaviours.Did p (Reads x i v ∷ []) p (Gives v) tr y p' e) ⊎ Behaviours.Unbegun p tr y p' e)) l).safe s p
+        → (Behaviours.where_found (λ x. Behaviours.at_once (λ p tr y p' e. ((v : ℤ) × also cell v × Behaviours.Did p (Reads x i v ∷ []) p (Gives v) tr y p' e) ⊎ Behaviours.Unbegun p tr y p' e)) l).safe s p
+        → (Behaviours.where_found (λ x. Behaviours.at_once (λ p tr y p' e. ((v : ℤ) × admits cell v × Behaviours.Did p (Reads x i v ∷ []) p (Gives v) tr y p' e) ⊎ Behaviours.Unbegun p tr y p' e)) l).safe s p
     safe s None p h = h
     safe s (Some l) p h = h
 
@@ -94,16 +94,27 @@ threads_apart : (may also : Share → Trace Instance → Type 0) → ((j : Share
 threads_apart may also h [] a = tt
 threads_apart may also h (j ∷ js) a = (thread_apart may also h j js a.0, threads_apart may also h js a.1)
 
-asked : (ordered : Bool) (who : List ℕ) (site c : ℕ) (js : List Share) (may also : Share → Trace Instance → Type 0) → ((j : Share) (tr : Trace Instance) → may j tr → also j tr) → asks_apart ordered who site c js also → asks_apart ordered who site c js may
-asked true who site c js may also h a = a
-asked false who site c js may also h a = threads_apart may also h js a
+-- more is asked where a thread may have more traces, by one rule and by the other
+abbrev pub AsksMore : Asks Instance → Asks Instance → Type 1
+AsksMore asks more = (ordered : Bool) (who : ThreadName) (site c : ℕ) (js : List Share) (may also : Share → Trace Instance → Type 0) → ((j : Share) (tr : Trace Instance) → may j tr → also j tr) → more ordered who site c js also → asks ordered who site c js may
 
-module _ (limit : ℕ) (cuts : ℕ → ℕ → List ℕ) (one : Bool) where
+pub apart_more : AsksMore asks_apart asks_apart
+apart_more ordered who site c js may also h a = threads_apart may also h js a
+
+pub at_once_more : AsksMore asks_at_once asks_at_once
+at_once_more true who site c js may also h a = a
+at_once_more false who site c js may also h a = threads_apart may also h js a
+
+pub fewer_at_once : AsksMore asks_at_once asks_apart
+fewer_at_once true who site c js may also h a = tt
+fewer_at_once false who site c js may also h a = threads_apart may also h js a
+
+module _ (admits also : Scalar → ℤ → Type 0) (wider : (cell : Scalar) (v : ℤ) → admits cell v → also cell v) (asks more : Asks Instance) (asked : AsksMore asks more) (limit : ℕ) (cuts : ℕ → ℕ → List ℕ) (one : Bool) where
   abbrev narrow : Operations {1}
-  narrow = Runs.operations Instance this of_subtype asks_apart limit cuts one
+  narrow = Runs.operations Instance this admits asks limit cuts one
 
   abbrev wide : Operations {1}
-  wide = Runs.operations Instance this anything asks_apart limit cuts one
+  wide = Runs.operations Instance this also more limit cuts one
 
   elaborates_among : {A : Type 0} (region : Region) (x : Entity) (vs : List ℤ) (b c : Behaviour Instance A) → Among b c → Among (narrow.elaborates region x vs b) (wide.elaborates region x vs c)
   elaborates_among {A} region x vs b c h = record { runs = go; safe = λ s p. h.safe _ _ }
@@ -113,7 +124,7 @@ module _ (limit : ℕ) (cuts : ℕ → ℕ → List ℕ) (one : Bool) where
       go s p tr y p' e (inr stopped) = inr stopped
 
   par_among : {A : Type 0} (site : ℕ) (js : List Share) (f g : Share → Behaviour Instance A) → ((j : Share) → Among (f j) (g j))
-      → Among (Behaviours.par asks_apart one site js f) (Behaviours.par asks_apart one site js g)
+      → Among (Behaviours.par asks one site js f) (Behaviours.par more one site js g)
   par_among {A} site js f g h = record {
     runs = go;
     safe = λ s p a. (
@@ -123,35 +134,35 @@ module _ (limit : ℕ) (cuts : ℕ → ℕ → List ℕ) (one : Bool) where
     );
   }
     where
-      go : (s : Scope Instance) (p : Path Instance) (tr : Trace Instance) (y : Bool) (p' : Path Instance) (e : End (List A)) → (Behaviours.par asks_apart one site js f).runs s p tr y p' e
-          → (Behaviours.par asks_apart one site js g).runs s p tr y p' e
+      go : (s : Scope Instance) (p : Path Instance) (tr : Trace Instance) (y : Bool) (p' : Path Instance) (e : End (List A)) → (Behaviours.par asks one site js f).runs s p tr y p' e
+          → (Behaviours.par more one site js g).runs s p tr y p' e
       go s p tr y p' e (inl (rs, each, form, ey, ep)) = inl (rs, each_ran f g h s p js rs each, form, ey, ep)
       go s p tr y p' e (inr u) = inr u
 
   loops_among : (site : ℕ) (cut : Cut) (f g : ℕ → ℕ → Behaviour Instance (Unit {0})) → ((j i : ℕ) → Among (f j i) (g j i)) → Among (narrow.loops site cut f) (wide.loops site cut g)
   loops_among site cut f g h =
-      let js = deal 0 0 (Runs.sizes_of Instance this anything asks_apart limit cuts one cut) in
+      let js = deal 0 0 (Runs.sizes_of Instance this also more limit cuts one cut) in
       let thread = λ (k : Share). within_among k.number (through (Behaviours.doings Instance) k.first k.size tt (λ i _. f (chunk_of cut k.number) i)) (through (Behaviours.doings Instance) k.first k.size tt (λ i _. g (chunk_of cut k.number) i))
       (through_among k.first k.size tt (λ i _. f (chunk_of cut k.number) i) (λ i _. g (chunk_of cut k.number) i) (λ i _. h (chunk_of cut k.number) i)) in
-      bind_among (Behaviours.par asks_apart one site js (Runs.loop_thread (λ j. f (chunk_of cut j)))) (Behaviours.par asks_apart one site js (Runs.loop_thread (λ j. g (chunk_of cut j))))
+      bind_among (Behaviours.par asks one site js (Runs.loop_thread (λ j. f (chunk_of cut j)))) (Behaviours.par more one site js (Runs.loop_thread (λ j. g (chunk_of cut j))))
       (λ _. Behaviours.ret tt) (λ _. Behaviours.ret tt) (par_among site js (Runs.loop_thread (λ j. f (chunk_of cut j))) (Runs.loop_thread (λ j. g (chunk_of cut j))) thread) (λ _. itself (Behaviours.ret tt))
 
-  combined_among : (v : ℤ) (values : List ℤ) (f g : ℤ → ℤ → Behaviour Instance ℤ) → ((x y : ℤ) → Among (f x y) (g x y)) → Among (Runs.combined Instance this of_subtype asks_apart limit cuts one v values f) (Runs.combined Instance this anything asks_apart limit cuts one v values g)
+  combined_among : (v : ℤ) (values : List ℤ) (f g : ℤ → ℤ → Behaviour Instance ℤ) → ((x y : ℤ) → Among (f x y) (g x y)) → Among (Runs.combined Instance this admits asks limit cuts one v values f) (Runs.combined Instance this also more limit cuts one v values g)
   combined_among v [] f g h = itself (Behaviours.ret v)
   combined_among v (a ∷ more) f g h = onto_among a more f g h
 
   reduces_among : (site : ℕ) (cut : Cut) (by : Reducer) (at : ℕ) (v : ℤ) (f g : ℕ → ℕ → Behaviour Instance (Option ℤ)) (c c' d d' : ℤ → ℤ → Behaviour Instance ℤ) → ((j i : ℕ) → Among (f j i) (g j i)) → ((x y : ℤ) → Among (c x y) (d x y)) → ((x y : ℤ) → Among (c' x y) (d' x y))
       → Among (narrow.reduces site cut by at v f c c') (wide.reduces site cut by at v g d d')
   reduces_among site cut by at v f g c c' d d' h r u =
-      let js = deal 0 0 (Runs.sizes_of Instance this anything asks_apart limit cuts one cut) in
+      let js = deal 0 0 (Runs.sizes_of Instance this also more limit cuts one cut) in
       let fold = reduce (Behaviours.doings Instance) Runs.checks by at in
       let step = λ (k : Share) (i : ℕ) (a : ℤ). bind_among (f (chunk_of cut k.number) i) (g (chunk_of cut k.number) i) (folded (Behaviours.doings Instance) (fold c) a) (folded (Behaviours.doings Instance) (fold d) a) (h (chunk_of cut k.number) i) (folded_among (fold c) (fold d) (reduce_among by at c d r) a) in
       let thread = λ (k : Share). within_among k.number
       (through (Behaviours.doings Instance) k.first k.size v (λ i a. Behaviours.◌>>=◌ (f (chunk_of cut k.number) i) (folded (Behaviours.doings Instance) (fold c) a)))
       (through (Behaviours.doings Instance) k.first k.size v (λ i a. Behaviours.◌>>=◌ (g (chunk_of cut k.number) i) (folded (Behaviours.doings Instance) (fold d) a)))
       (through_among k.first k.size v (λ i a. Behaviours.◌>>=◌ (f (chunk_of cut k.number) i) (folded (Behaviours.doings Instance) (fold c) a)) (λ i a. Behaviours.◌>>=◌ (g (chunk_of cut k.number) i) (folded (Behaviours.doings Instance) (fold d) a)) (step k)) in
-      bind_among (Behaviours.par asks_apart one site js (Runs.fold_thread by at v (λ j. f (chunk_of cut j)) c)) (Behaviours.par asks_apart one site js (Runs.fold_thread by at v (λ j. g (chunk_of cut j)) d))
-      (λ values. Runs.combined Instance this of_subtype asks_apart limit cuts one v values (fold c')) (λ values. Runs.combined Instance this anything asks_apart limit cuts one v values (fold d'))
+      bind_among (Behaviours.par asks one site js (Runs.fold_thread by at v (λ j. f (chunk_of cut j)) c)) (Behaviours.par more one site js (Runs.fold_thread by at v (λ j. g (chunk_of cut j)) d))
+      (λ values. Runs.combined Instance this admits asks limit cuts one v values (fold c')) (λ values. Runs.combined Instance this also more limit cuts one v values (fold d'))
       (par_among site js (Runs.fold_thread by at v (λ j. f (chunk_of cut j)) c) (Runs.fold_thread by at v (λ j. g (chunk_of cut j)) d) thread)
       (λ values. combined_among v values (fold c') (fold d') (reduce_among by at c' d' u))
 
@@ -163,7 +174,7 @@ module _ (limit : ℕ) (cuts : ℕ → ℕ → List ℕ) (one : Bool) where
     R = λ {A} w b c. Among b c;
     ret = λ w a. itself (Behaviours.ret a);
     bind = λ {A} {B} w {m} {n} {k} {l} r s. bind_among m n k l r s;
-    reads = λ w. reads_among;
+    reads = λ w. reads_among admits also wider;
     writes = λ w x i v. itself (Behaviours.writes x i v);
     elaborates = λ {A} w region u x vs {m} {n} r. elaborates_among region x vs m n r;
     apart = λ {A} w {m} {n} r. record { runs = λ s. r.runs (apart_of s); safe = λ s. r.safe (apart_of s) };
