@@ -15,7 +15,7 @@ use Rattle.ada_meaning.specs.Planned
 use Rattle.ada_meaning.specs.Planned.{Result, Planned, continued, handled}
 use Rattle.ada_meaning.specs.Sequential.{IsCalm}
 use Rattle.ada_meaning.specs.Programs.{this, Setting, input_of, planned, sequential, values, with_final, finals}
-use Rattle.ada_meaning.specs.Law.{Ending, Ended, Raised, TurnsSpent, ReadFault, WriteFault, NoMemory, Outcome, behaviour, EndsAs, EndsItself, IsPermitted, ending_of, outcome_of, StopsLaw, AloneLaw, AtOnceLaw, OnlyLaw, OneLaw, IsPlan, IsSequential, SequentialLaw, OneSequentialLaw, SubtypeLaw}
+use Rattle.ada_meaning.specs.Law.{Ending, Ended, Raised, TurnsSpent, ReadFault, WriteFault, NoMemory, Outcome, behaviour, EndsAs, EndsItself, IsPermitted, ending_of, outcome_of, StopsLaw, AloneLaw, AtOnceLaw, SilentLaw, OnlyLaw, OneLaw, IsPlan, IsSequential, SequentialLaw, OneSequentialLaw, SubtypeLaw}
 use Rattle.ada_meaning.proofs.Agrees.{AgreesAt, Settled, gives-ne-stopped, leaves-ne-stopped, spent-ne-stopped}
 use Rattle.ada_meaning.proofs.PlanLaw.{program_agrees}
 use Rattle.ada_meaning.proofs.Stops.{program_stops, program_safe}
@@ -23,6 +23,7 @@ use Rattle.ada_meaning.proofs.Ties.{Agree, fair_start}
 use Rattle.ada_meaning.proofs.Follows.{EachOuter, Follows}
 use Rattle.ada_meaning.proofs.SeqLaw.{program_follows}
 use Rattle.ada_meaning.proofs.Wholes.{cuts_whole}
+use Rattle.ada_meaning.proofs.Silence.{program_silent}
 use Rattle.ada_meaning.proofs.Among.{apart_more, at_once_more, fewer_at_once, program_among}
 
 pub stops_law : StopsLaw
@@ -30,6 +31,9 @@ stops_law program set keeps = program_stops Instance this anything asks_at_once 
 
 pub alone_law : AloneLaw
 alone_law program plan limit keeps = program_safe Instance this anything limit (cuts_of plan) program keeps nothing_visible start
+
+pub silent_law : SilentLaw
+silent_law program set keeps = program_silent set.limit (cuts_of set.plan) set.one program keeps nothing_visible start
 
 pub at_once_law : AtOnceLaw
 at_once_law program keeps free set =

@@ -3,6 +3,7 @@ pub mod Stops
 pub mod Agrees
 pub mod Quiet
 pub mod Threads
+pub mod Silence
 pub mod PlanLaw
 pub mod Ties
 pub mod Follows

@@ -1,7 +1,7 @@
 -- The threads of a construct against the planned run, which takes them in order.
 use Rattle.std.proofs.Common.{◌≡◌, ℕ, max, List, [], ◌∷◌, ◌++◌, ◌⊎◌, inl, inr, ⊎_elim, Bool, true, false, ◌||◌, refl, sym, subst, ap, ap₂, ◌∙◌, true≢false, arith, append-nil}
 use Rattle.behaviours.specs.Paths.{Leave, Instance, End, Gives, Leaves, Spent, Stopped, Path, Scope, joined, is_inside}
-use Rattle.behaviours.specs.Events.{Reads, Writes, Recalls, Keeps, Takes, Puts, Looks, Trace, output_of, Has, Merge, Shuffle, Apart, ApartFrom, AllApart, in_order}
+use Rattle.behaviours.specs.Events.{Reads, Writes, Recalls, Keeps, Takes, Puts, Looks, Trace, output_of, Has, Merge, Shuffle, Apart, ApartFrom, AllApart, in_order, IsInputOutput}
 use Rattle.behaviours.specs.Memory.{Memory, after, Fits, EachFits}
 use Rattle.behaviours.specs.Joins.{Ran, traces, EachRan, most_turns, AllGive, SomeEnds, NoneLeft, Joins, Form, JoinsInOrder, FirstEnds, Idle, some_early, Share}
 use Rattle.behaviours.specs.Behaviours.{Behaviour, Unbegun, is_left, MayTrace, EachSafe, ThreadApart, ThreadsApart, asks_at_once}
@@ -12,7 +12,7 @@ use Rattle.ada_meaning.specs.Programs.{this}
 use Rattle.ada_meaning.specs.Planned
 use Rattle.ada_meaning.specs.Planned.{Result, Planned, plain, follow, both, before, threads, closed, with_turns}
 use Rattle.behaviours.proofs.Shuffle.{fits_split, shuffle_law, shuffle_in_order, fits_frame, after_other, merge_has, alike_flip}
-use Rattle.ada_meaning.proofs.Quiet.{Quiet, IsPut}
+use Rattle.ada_meaning.proofs.Quiet.{Quiet}
 use Rattle.ada_meaning.proofs.Agrees.{Does, AgreesAt, Agrees, Same, Settled, settled_right, gives-ne-leaves, gives-ne-stopped, leaves-ne-spent, leaves-ne-stopped, spent-ne-stopped, or_left, or_right, does_append}
 
 -- what a thread may do in one scope
@@ -27,7 +27,7 @@ abbrev AgreesBody : {A : Type 0} → Bool → Body A → Step A → Type 0
 AgreesBody one b g = (p : Path Instance) (m : Memory) → b.safe p → AgreesAt one (λ tr y p' e. b.runs p tr y p' e) m (g p m)
 
 abbrev QuietBody : {A : Type 0} → Body A → Type 0
-QuietBody {A} b = (p : Path Instance) (tr : Trace Instance) (y : Bool) (p' : Path Instance) (e : End A) → b.runs p tr y p' e → Has IsPut tr → ⊥
+QuietBody {A} b = (p : Path Instance) (tr : Trace Instance) (y : Bool) (p' : Path Instance) (e : End A) → b.runs p tr y p' e → Has IsInputOutput tr → ⊥
 
 abbrev Each : {A : Type 0} → (Share → Body A) → Path Instance → List Share → List (Ran Instance A) → Type 0
 Each body p js rs = EachRan (λ j. (body j).runs) p js rs
@@ -116,7 +116,7 @@ ending_only rs Stopped n j ne = absurd (ne refl)
 
 -- ---- what safe threads do
 
-no_outs : (w : Trace Instance) → (Has IsPut w → ⊥) → output_of w ≡ []
+no_outs : (w : Trace Instance) → (Has IsInputOutput w → ⊥) → output_of w ≡ []
 no_outs [] n = refl
 no_outs (Reads x i v ∷ w) n = no_outs w (λ h. n (inr h))
 no_outs (Writes x i v ∷ w) n = no_outs w (λ h. n (inr h))
@@ -135,13 +135,13 @@ module _ {A : Type 0} (body : Share → Body A) (p : Path Instance) where
   all_apart [] rs s each = subst (λ z. AllApart (traces z)) (sym each) tt
   all_apart (j ∷ js) rs s (r, more, eq, ran, each) = subst (λ z. AllApart (traces z)) (sym eq) (apart_from j js more r.trace r.early r.path r.end s.1 ran each, all_apart js more s.2 each)
 
-  quiet : ((j : Share) → QuietBody (body j)) → (js : List Share) (rs : List (Ran Instance A)) (w : Trace Instance) → Each body p js rs → Shuffle (traces rs) w → Has IsPut w → ⊥
+  quiet : ((j : Share) → QuietBody (body j)) → (js : List Share) (rs : List (Ran Instance A)) (w : Trace Instance) → Each body p js rs → Shuffle (traces rs) w → Has IsInputOutput w → ⊥
   quiet q [] rs w each sh h =
       let e : w ≡ [] = subst (λ z. Shuffle (traces z) w) each sh in
-      subst (λ z. Has IsPut z) e h
+      subst (λ z. Has IsInputOutput z) e h
   quiet q (j ∷ js) rs w (r, more, eq, ran, each) sh h =
       let sh' : (u : Trace Instance) × Shuffle (traces more) u × Merge r.trace u w = subst (λ z. Shuffle (traces z) w) eq sh in
-      ⊎_elim (λ k. q j p r.trace r.early r.path r.end ran k) (λ k. quiet q js more sh'.0 each sh'.1 k) (merge_has IsPut w r.trace sh'.0 sh'.2 h)
+      ⊎_elim (λ k. q j p r.trace r.early r.path r.end ran k) (λ k. quiet q js more sh'.0 each sh'.1 k) (merge_has IsInputOutput w r.trace sh'.0 sh'.2 h)
 
   -- what a thread wrote is nothing to the later ones
   each_frame : (js : List Share) (rs : List (Ran Instance A)) (m : Memory) (t : Trace Instance) → ApartFrom t (traces rs) → EachFits m (traces rs) → EachFits (after m t) (traces rs)
@@ -473,9 +473,9 @@ module _ (limit : ℕ) (cuts : ℕ → ℕ → List ℕ) (one : Bool) where
       (form_agrees one js b g (λ j. agree j s) (λ j. hush j s) p m (one || is_inside p) refl (safe_of (one || is_inside p) site body s p js safe))
 
   pub par_quiet : {A : Type 0} (site : ℕ) (js : List Share) (body : Share → Behaviour Instance A) → ((j : Share) → Quiet (body j)) → Quiet (Behaviours.par asks_at_once one site js body)
-  par_quiet {A} site js body q s p tr y p' e (inr u) h = subst (λ z. Has IsPut z) u.0 h
+  par_quiet {A} site js body q s p tr y p' e (inr u) h = subst (λ z. Has IsInputOutput z) u.0 h
   par_quiet {A} site js body q s p tr y p' e (inl (rs, each, form, ey, ep)) h = go (one || is_inside p) form
     where
       go : (f : Bool) → Form f p rs tr e → ⊥
-      go true g = quiet (λ k. in_scope s (body k)) p (λ j. q j s) js rs (in_order (traces rs)) each (shuffle_in_order (traces rs)) (subst (λ z. Has IsPut z) g.0 h)
+      go true g = quiet (λ k. in_scope s (body k)) p (λ j. q j s) js rs (in_order (traces rs)) each (shuffle_in_order (traces rs)) (subst (λ z. Has IsInputOutput z) g.0 h)
       go false g = quiet (λ k. in_scope s (body k)) p (λ j. q j s) js rs tr each g.0 h

@@ -8,7 +8,7 @@ use Rattle.ada_base.specs.Cuts.{Plan, One, Even, Chunked, Listed}
 use Rattle.behaviours.specs.Paths.{Exits, Returns, Raises, Instance, End, Gives, Leaves, Spent, Stopped, Path, start, nothing_visible}
 use Rattle.behaviours.specs.Events.{Takes, Puts, Trace, output_of}
 use Rattle.behaviours.specs.Memory.{Fits, empty, after}
-use Rattle.behaviours.specs.Behaviours.{Behaviour, asks_apart, asks_at_once}
+use Rattle.behaviours.specs.Behaviours.{Behaviour, asks_apart, asks_at_once, asks_silent}
 use Rattle.ada_meaning.specs.Values.{base_of, result}
 use Rattle.ada_typed.specs.Syntax.{Program}
 use Rattle.ada_meaning.specs.Nonblocking.{KeepsRule}
@@ -141,6 +141,10 @@ StopsLaw = (program : Program) (set : Setting) → KeepsRule program → (behavi
 -- With one worker no two threads run at once, in whatever program.
 abbrev pub AloneLaw : Type 0
 AloneLaw = (program : Program) (plan : Plan) (limit : ℕ) → KeepsRule program → (behaviour program (record { plan = plan; one = true; limit = limit })).safe nothing_visible start
+
+-- Where the rule on blocking calls is kept no thread of a construct takes input or puts output.
+abbrev pub SilentLaw : Type 0
+SilentLaw = (program : Program) (set : Setting) → KeepsRule program → (runs_of anything asks_silent program set).safe nothing_visible start
 
 -- What has no races has none between threads that may run at once.
 abbrev pub AtOnceLaw : Type 0

@@ -4,7 +4,7 @@
 ghost use Rattle.ada_meaning.specs.Blocked.{BlockedLaw};
 ghost use Rattle.ada_meaning.specs.Shapes.{ShapeLaw};
 ghost use Rattle.ada_typed.specs.Programs.{program};
-ghost use Rattle.ada_meaning.specs.Law.{StopsLaw, AloneLaw, AtOnceLaw, ComesToSequential, OnlyLaw, OneLaw, SequentialLaw, OneSequentialLaw, OperatorLaw, SubtypeLaw};
+ghost use Rattle.ada_meaning.specs.Law.{StopsLaw, AloneLaw, AtOnceLaw, SilentLaw, ComesToSequential, OnlyLaw, OneLaw, SequentialLaw, OneSequentialLaw, OperatorLaw, SubtypeLaw};
 ghost use Rattle.ada_meaning.specs.Rows.{Adds, Overflows, Divisions, Reductions, Dealt, Find, Raised, Gotten, Turns, Doubled, Kept, Left, Passed, Padded', PartialOverflow, NoChunks, Filtered, Spends, Nested, Escapes, Calm, Sums};
 
 use ada_typed::Typed;
@@ -16,6 +16,7 @@ pub fn laws()
     ensures stops { StopsLaw }
     ensures alone { AloneLaw }
     ensures at_once { AtOnceLaw }
+    ensures silent { SilentLaw }
     ensures only { OnlyLaw }
     ensures one { OneLaw }
     ensures sequential { SequentialLaw }

@@ -47,6 +47,14 @@ module _ {P : Type 0} where
   WritesAt (Keeps h) y = Rest ≡ y
   WritesAt _ y = ⊥
 
+  -- the event is an action on the input, the output or what is held of the input
+  abbrev pub IsInputOutput : Event P → Type 0
+  IsInputOutput (Recalls h) = Unit {0}
+  IsInputOutput (Keeps h) = Unit {0}
+  IsInputOutput (Takes n b) = Unit {0}
+  IsInputOutput (Puts piece) = Unit {0}
+  IsInputOutput _ = ⊥
+
   -- some event of the trace is such
   abbrev pub Has : (Event P → Type 0) → Trace P → Type 0
   Has such [] = ⊥

@@ -1,5 +1,5 @@
 use Rattle.ada_meaning.proofs.laws.Goals as goal
-use Rattle.ada_meaning.proofs.Law.{stops_law, alone_law, at_once_law, only_law, one_law, sequential_law, one_sequential_law, subtype_law}
+use Rattle.ada_meaning.proofs.Law.{stops_law, alone_law, at_once_law, silent_law, only_law, one_law, sequential_law, one_sequential_law, subtype_law}
 use Rattle.ada_meaning.proofs.Operators.{operator_law}
 use Rattle.ada_meaning.proofs.Unblocked.{blocked_law}
 use Rattle.ada_meaning.proofs.Shapes.{shape_law}
@@ -12,6 +12,9 @@ returns-clause-alone c = alone_law
 
 pub returns-clause-at_once : goal.returns-clause-at_once
 returns-clause-at_once c = at_once_law
+
+pub returns-clause-silent : goal.returns-clause-silent
+returns-clause-silent c = silent_law
 
 pub returns-clause-only : goal.returns-clause-only
 returns-clause-only c = only_law
