@@ -16,5 +16,7 @@ pub mod Among
 pub mod Law
 pub mod Segments
 pub mod Computed
+pub mod LoopsComputed
+pub mod CallsComputed
 pub mod Unblocked
 pub mod Shapes

@@ -24,38 +24,38 @@ use Rattle.ada_meaning.specs.Law.{Outcome, Ended, EndsItself, IsPermitted}
 
 -- ---- pieces of programs
 
-abbrev integers : Class
+abbrev pub integers : Class
 integers = class.Integer Narrow
 
-abbrev integer : Scalar
+abbrev pub integer : Scalar
 integer = record { class = integers; low = negsuc 2147483647; high = pos 2147483647 }
 
-abbrev checked_at : ℕ → Check
+abbrev pub checked_at : ℕ → Check
 checked_at at = record { at = at; scalar = integer }
 
-abbrev number : ℤ → Expr
+abbrev pub number : ℤ → Expr
 number z = Static 0 z true NoExpr
 
-abbrev variable : ℕ → Expr
+abbrev pub variable : ℕ → Expr
 variable x = Variable 0 (root.Object x) Whole integer
 
-abbrev sum : Expr → Expr → Expr
+abbrev pub sum : Expr → Expr → Expr
 sum e f = Binary 0 op.Add integers e f
 
-abbrev stored : Expr → Value
+abbrev pub stored : Expr → Value
 stored e = Number (checked_at 0) e
 
-abbrev assign : ℕ → Expr → Stmt
+abbrev pub assign : ℕ → Expr → Stmt
 assign x e = Assign 0 (root.Object x) Whole (stored e)
 
 -- Put_Line (Integer'Image (E))
-abbrev put_image : Expr → Stmt
+abbrev pub put_image : Expr → Stmt
 put_image e = Put 0 0 (Image integers e NoPiece) true
 
-abbrev object_of : ℕ → ℕ → Object
+abbrev pub object_of : ℕ → ℕ → Object
 object_of t n = record { name = 0; subtype = t; constant = false; owner = 0; offset = 0; cells = n; value = None }
 
-abbrev made_of : List Subtype → List Object → List Sub → Decls → Stmts → Program
+abbrev pub made_of : List Subtype → List Object → List Sub → Decls → Stmts → Program
 made_of types objects subs decls stmts = record {
   subtypes = syntax.OfScalar integer ∷ types;
   objects = objects;
@@ -67,10 +67,10 @@ made_of types objects subs decls stmts = record {
   strict = true;
 }
 
-abbrev many_turns : ℕ
+abbrev pub many_turns : ℕ
 many_turns = 1000000000
 
-abbrev no_input : ℕ → Option ℕ
+abbrev pub no_input : ℕ → Option ℕ
 no_input = input_of []
 
 -- ---- X : Integer := 2; X := X + 3; Put_Line (Integer'Image (X));
@@ -107,7 +107,7 @@ Divisions = answer_of divisions (sequential divisions many_turns no_input)
 
 -- ---- Put_Line (Integer'Image ([parallel for I in 1 .. 4 => I]'Reduce (R, V)));
 
-abbrev upto : ℕ → ℕ → Iteration
+abbrev pub upto : ℕ → ℕ → Iteration
 upto k n = Range k false (number (pos 1)) (number (pos n)) None Absent
 
 abbrev pub reduced : op.the_data → ℤ → Program
@@ -125,16 +125,16 @@ Reductions =
 -- ---- P : array (1 .. 3) of Integer := (others => 0);
 -- parallel (C in 1 .. 3) for I in 1 .. 10 loop P (C) := P (C) + I; end loop;
 
-abbrev array_of : ℕ → Subtype
+abbrev pub array_of : ℕ → Subtype
 array_of n = syntax.Array (record { low = pos 1; high = pos n } ∷ []) 0
 
-abbrev filled_with : ℕ → Expr → Value
+abbrev pub filled_with : ℕ → Expr → Value
 filled_with n e = Cells (Aggregate 0 n (Association (record { first = 0; count = n; stride = 1 } ∷ []) None NoExpr (stored e) NoAssociation))
 
-abbrev indexed : ℕ → Expr → Selections
+abbrev pub indexed : ℕ → Expr → Selections
 indexed n e = Index 0 e (pos 1) (pos n) 1 Whole
 
-abbrev component : ℕ → ℕ → Expr → Expr
+abbrev pub component : ℕ → ℕ → Expr → Expr
 component x n e = Variable 0 (root.Object x) (indexed n e) integer
 
 abbrev pub dealt : Program
@@ -183,7 +183,7 @@ Raised = answer_of raises (planned raises One many_turns no_input) ≡ record { 
 
 -- ---- X : Integer; Get (X); Get (X); on ` -12 7x` and on `7`
 
-abbrev get_into : ℕ → Stmt
+abbrev pub get_into : ℕ → Stmt
 get_into x = Get 0 0 0 (root.Object x) Whole integer
 
 abbrev pub gets : Program
@@ -205,7 +205,7 @@ Turns = (answer_of turns (sequential turns 9 no_input) ≡ record { output = [];
 
 -- ---- A : array (1 .. 3) of Integer := (1, 2, 3); parallel for X of A loop X := @ * 2; end loop;
 
-abbrev counted_up : ℕ → Value
+abbrev pub counted_up : ℕ → Value
 counted_up n = Cells (Aggregate 0 n (Association (record { first = 0; count = n; stride = 1 } ∷ []) (Some (record { parameter = 9; first = pos 1 })) NoExpr (stored (Parameter 0 9)) NoAssociation))
 
 abbrev pub doubled : Program
@@ -249,7 +249,7 @@ Left = (answer_of leaves (planned leaves (Chunked 1) many_turns no_input) ≡ re
 -- procedure P (N : in out Integer; V : in out ..) is begin while N < 3 loop N := N + 1; end loop; V (2) := N; end P; P (X, A);
 -- and Down (N) as if N <= 1 then 1 else 1 + Down (N - 1), called with 40
 
-abbrev formal : ℕ → mode.the_data → Formal
+abbrev pub formal : ℕ → mode.the_data → Formal
 formal x m = record { object = x; mode = m }
 
 abbrev pub passes : Program
@@ -295,7 +295,7 @@ Padded' = answer_of pads (sequential pads many_turns no_input) ≡ record { outp
 
 -- ---- V : array (1 .. 3) of Integer := (-5, 2147483647, 5); Put_Line (Integer'Image (V'Parallel_Reduce ("+", 0)));
 
-abbrev given_at : ℕ → Run
+abbrev pub given_at : ℕ → Run
 given_at i = record { first = i; count = 1; stride = 1 }
 
 abbrev pub folded : Program

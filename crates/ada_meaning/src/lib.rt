@@ -6,6 +6,8 @@ ghost use Rattle.ada_meaning.specs.Shapes.{ShapeLaw};
 ghost use Rattle.ada_typed.specs.Programs.{program};
 ghost use Rattle.ada_meaning.specs.Law.{StopsLaw, AloneLaw, AtOnceLaw, SilentLaw, ComesToSequential, OnlyLaw, OneLaw, SequentialLaw, OneSequentialLaw, OperatorLaw, SubtypeLaw};
 ghost use Rattle.ada_meaning.specs.Rows.{Adds, Overflows, Divisions, Reductions, Dealt, Find, Raised, Gotten, Turns, Doubled, Kept, Left, Passed, Padded', PartialOverflow, NoChunks, Filtered, Spends, Nested, Escapes, Calm, Sums};
+ghost use Rattle.ada_meaning.specs.LoopRows.{Cuts, Hundred, Arms, Squares, Multiplies, Bounded, Joined, Cases, Columns, Shifts, PlannedAdds, AllRaise};
+ghost use Rattle.ada_meaning.specs.CallRows.{Downs, Begins, NotCopied, NoReturn, Reraised, Elaborated, Combines};
 
 use ada_typed::Typed;
 
@@ -57,4 +59,31 @@ pub fn rows()
     ensures escapes { Escapes }
     ensures calm { Calm }
     ensures sums { Sums }
+{}
+
+/// Programs with loops, parallel constructs, arrays and records come to what is said of them.
+pub fn loop_rows()
+    ensures cuts { Cuts }
+    ensures hundred { Hundred }
+    ensures arms { Arms }
+    ensures squares { Squares }
+    ensures multiplies { Multiplies }
+    ensures bounded { Bounded }
+    ensures joined { Joined }
+    ensures cases { Cases }
+    ensures columns { Columns }
+    ensures shifts { Shifts }
+    ensures planned_adds { PlannedAdds }
+    ensures all_raise { AllRaise }
+{}
+
+/// Programs with calls, copying and exceptions come to what is said of them.
+pub fn call_rows()
+    ensures downs { Downs }
+    ensures begins { Begins }
+    ensures not_copied { NotCopied }
+    ensures no_return { NoReturn }
+    ensures reraised { Reraised }
+    ensures elaborated { Elaborated }
+    ensures combines { Combines }
 {}
