@@ -18,5 +18,6 @@ pub mod Segments
 pub mod Computed
 pub mod LoopsComputed
 pub mod CallsComputed
+pub mod BlocksComputed
 pub mod Unblocked
 pub mod Shapes

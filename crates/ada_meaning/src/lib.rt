@@ -7,6 +7,7 @@ ghost use Rattle.ada_typed.specs.Programs.{program};
 ghost use Rattle.ada_meaning.specs.Law.{StopsLaw, AloneLaw, AtOnceLaw, SilentLaw, ComesToSequential, OnlyLaw, OneLaw, SequentialLaw, OneSequentialLaw, OperatorLaw, SubtypeLaw};
 ghost use Rattle.ada_meaning.specs.Rows.{Adds, Overflows, Divisions, Reductions, Dealt, Find, Raised, Gotten, Turns, Doubled, Kept, Left, Passed, Padded', PartialOverflow, NoChunks, Filtered, Spends, Nested, Escapes, Calm, Sums};
 ghost use Rattle.ada_meaning.specs.LoopRows.{Cuts, Hundred, Arms, Squares, Multiplies, Bounded, Joined, Cases, Columns, Shifts, PlannedAdds, AllRaise};
+ghost use Rattle.ada_meaning.specs.BlockedRows.{BlockedRows};
 ghost use Rattle.ada_meaning.specs.CallRows.{Downs, Begins, NotCopied, NoReturn, Reraised, Elaborated, Combines};
 
 use ada_typed::Typed;
@@ -86,4 +87,9 @@ pub fn call_rows()
     ensures reraised { Reraised }
     ensures elaborated { Elaborated }
     ensures combines { Combines }
+{}
+
+/// Programs break the rule on nonblocking text by the calls that are said of them.
+pub fn blocked_rows()
+    ensures { BlockedRows }
 {}
