@@ -33,7 +33,7 @@ use Rattle.ada_meaning.specs.Meaning
 use Rattle.ada_meaning.specs.Meaning.{Part, Env, Course, Chunking, Back, Passed, Returned, outset, with_parameter, with_target, with_handled, inside, variable_root, constant_root, array_root, iterated_env, cut_of, value_cut_of, arms_of, exits, returns, raises, value_of, reason_of, has_handlers, sub_at, moved, object_layout, most_nested, most_threads, most_iterations, most_calls}
 use Rattle.ada_typed.specs.Syntax.{Expr, Static, Variable, Constant, Parameter, Target, Group, Unary, Binary, AndThen, OrElse, Relation, Membership, If, Call, Convert, Reduction, Optional, Absent, Present, Selections, Whole, Field, Index, Actuals, NoActual, In, InOut, Out, CompositeInOut, CompositeOut, Value, Number, Cells, Composite, WholeVariable, WholeConstant, WholeTarget, CompositeIf, Aggregate, Associations, NoAssociation, Association, Iteration, Range, Components, Chunk, NoChunk, Count, Each, Pieces, NoPiece, Text, Image, Padded, Decls, NoDecl, DeclareDefault, DeclareVariable, DeclareConstant, Mentions, Stmt, Null, Assign, CallProcedure, Exit, Return, ReturnValue, Raise, Reraise, IfThen, Case, Loop, For, ParallelFor, Parallel, Block, Put, Get, Stmts, End, Then, Alternatives, NoAlternative, Alternative, Arms, NoArm, Arm, Handlers, NoHandler, Handler, Body, Sub, Program}
 use Rattle.ada_effects.specs.Effects.{Named, Access, Roles, unknown, hide, is_one, selector, steps_of, root_name, name, forget, Construct, LoopOf, BlockOf, ReductionOf, Item, Touches, Calls, Blocks, Holds, Outside, chunk_hidden, course_hidden, chunk_parameter, judging, iterated_hidden, InReducer, InExpr, InOptional, InSelections, InActuals, InValue, InComposite, InAssociations, InCourse, InFilter, InChunk, InPieces, InDecls, InStmt, InAll, InAlternatives, InArm, InHandlers, InBody, InThread, IsDeclared, IsGlobal, InSub, InCallee, Reached}
-use Rattle.ada_effects.specs.Conflicts.{Now, Fits, Leads, Lies, Distinct, LoopsDiffer, Compared, InProgram}
+use Rattle.ada_effects.specs.Conflicts.{Now, Fits, Leads, LiesUnder, Distinct, LoopsDiffer, Compared, InProgram}
 use Rattle.behaviours.specs.Behaviours
 use Rattle.ada_meaning.specs.Runs
 use Rattle.ada_meaning.specs.Programs.{this}
@@ -76,7 +76,7 @@ module _ (program : Program) (fine : Construct → Type 0) where
 
   -- what a subprogram's text touches of the main procedure's is allowed
   pub record CallInto (now : Now) (E : Allowed) (u : ℕ) : Type 0 where
-    pub touch : (there : ℕ) (a : Access) (n : ℕ) → Reached program u (Touches there a) → IsGlobal program a.object → Lies now a n → E.global a.writes a.object n
+    pub touch : (there : ℕ) (a : Access) (n : ℕ) → Reached program u (Touches there a) → IsGlobal program a.object → LiesUnder now a n → E.global a.writes a.object n
     pub reach : (there last : ℕ) → Reached program u (Blocks there last) → E.input
 
   call_into : {W : Type 0} {now : Now} {E : Allowed} {items : Item → Type 0} (at callee u : ℕ) → items (Calls at callee u) → Into program fine W now E items → CallInto now E u
