@@ -4,7 +4,7 @@ use Rattle.ada_typed.specs.declared.expressions.Root.{Root}
 use Rattle.ada_typed.specs.declared.expressions.Root.TheVariants as root
 use Rattle.ada_typed.specs.declared.expressions.Iterated.{Iterated}
 use Rattle.ada_typed.specs.Syntax.{Program}
-use Rattle.behaviours.specs.Paths.{Leave, VariableOf, Instance, End, Gives, Leaves, Spent, Stopped, Path, Scope}
+use Rattle.behaviours.specs.Paths.{Leave, Entity, VariableOf, Here, Instance, End, Gives, Leaves, Spent, Stopped, Path, Scope, apart_of}
 use Rattle.behaviours.specs.Events.{Trace}
 use Rattle.behaviours.specs.Behaviours.{Behaviour}
 use Rattle.ada_meaning.specs.Values.{to_nat}
@@ -15,6 +15,7 @@ use Rattle.ada_effects.specs.Effects.{Selector, At, Fixed, LoopIndex, ChunkIndex
 use Rattle.ada_effects.specs.Conflicts.{Now, LoopFits, Fits, IsItem, Leads, LiesUnder}
 use Rattle.behaviours.specs.Behaviours
 use Rattle.ada_meaning.specs.Runs
+use Rattle.ada_meaning.specs.Programs.{this}
 use Rattle.ada_effects.proofs.Good.{Allowed, Can, with_object}
 use Rattle.ada_effects.proofs.Teams.{Either}
 
@@ -178,6 +179,20 @@ of_bind {A} {B} {m} {k} {v} c = go c.scope c.path c.trace c.early c.after c.run
 pub of_checks : (kind : CheckKind) (at : ℕ) (b : Bool) (u : Unit {0}) → Can (Runs.checks kind at b) u → b ≡ true
 of_checks kind at true u c = refl
 of_checks kind at false u c = absurd (of_leaves c)
+
+pub of_apart : {A : Type 0} {m : Behaviour Instance A} {v : A} → Can (Behaviours.apart m) v → Can m v
+of_apart c = record { scope = apart_of c.scope; path = c.path; trace = c.trace; early = c.early; after = c.after; run = c.run }
+
+pub of_elaborates : {A : Type 0} (e : Entity) (vs : List ℤ) (m : Behaviour Instance A) (v : A) → Can (Behaviours.elaborates this Here e vs m) v → Can m v
+of_elaborates {A} e vs m v c = go c.scope c.path c.trace c.early c.after c.run
+  where
+    go : (s : Scope Instance) (p : Path Instance) (tr : Trace Instance) (y : Bool) (p' : Path Instance) → (Behaviours.elaborates this Here e vs m).runs s p tr y p' (Gives v) → Can m v
+    go s p tr y p' (inl (rest, eq, run)) = record { scope = _; path = _; trace = rest; early = y; after = p'; run = run }
+    go s p tr y p' (inr (ey, ep, ee, b)) = absurd (gives_stops ee)
+
+pub one_of : {A : Type 0} (b : Bool) (m n : Behaviour Instance A) (Q : Type 0) (v : A) → (Can m v → Q) → (Can n v → Q) → Can (cond b m n) v → Q
+one_of true m n Q v f g c = f c
+one_of false m n Q v f g c = g c
 
 -- ---- effects and what is allowed
 
