@@ -1,16 +1,15 @@
 -- Every text touches only what it makes and what lies under its effects, and a program without clashes is free of races.
-use Rattle.std.proofs.Common.{◌≡◌, ℕ, zero, suc, ◌+◌, ◌*◌, ◌<◌, ◌≤◌, min, max, ℤ, pos, ◌+ℤ◌, ◌-ℤ◌, int_lt, int_le, nat_eq, nat_lt, nat_le, List, [], ◌∷◌, ◌++◌, length, length-append, slice_get, ◌⊎◌, inl, inr, ⊎_elim, Option, Some, None, Bool, true, false, not, cond, ◌&&◌, ◌||◌, sym, subst, ap, ◌∙◌, refl, true≢false, eqb-true, eq-eqb, ltb-true, ltb-false, arith, le_trans, ◌/◌, ◌%◌}
-use Rattle.ada_base.specs.Cuts.{evens, shares}
+use Rattle.std.proofs.Common.{◌≡◌, ℕ, zero, suc, ◌+◌, ◌*◌, ◌<◌, ◌≤◌, min, max, ℤ, pos, ◌+ℤ◌, ◌-ℤ◌, int_lt, int_le, nat_eq, nat_lt, nat_le, List, [], ◌∷◌, ◌++◌, length, length-append, slice_get, ◌⊎◌, inl, inr, ⊎_elim, Option, Some, None, Bool, true, false, not, cond, ◌&&◌, ◌||◌, sym, subst, ap, ◌∙◌, refl, true≢false, eqb-true, eq-eqb, ltb-true, ltb-false, arith, le_trans}
+use Rattle.ada_base.specs.Cuts.{evens}
 use Rattle.ada_base.specs.Image.{padded}
-use Rattle.ada_base.specs.Input.{Held, Nothing, Symbol, is_blank, is_byte, is_digit, digit_of, is_based, is_integer, signed}
 use Rattle.behaviours.specs.Doings.{through, folded}
-use Rattle.behaviours.specs.Paths.{Leave, Exits, Returns, Raises, Entity, VariableOf, ConstantOf, Region, Everywhere, Here, Instance, Gives, Path, Scope, apart_of}
-use Rattle.behaviours.specs.Events.{Keeps, Puts, Trace}
+use Rattle.behaviours.specs.Paths.{Leave, Exits, Returns, Raises, Entity, VariableOf, ConstantOf, Region, Everywhere, Here, Instance}
+use Rattle.behaviours.specs.Events.{Keeps, Puts}
 use Rattle.behaviours.specs.Joins.{deal}
 use Rattle.behaviours.specs.Behaviours.{Behaviour, Asks}
 use Rattle.ada_meaning.specs.Formed.{width, composite_width}
 use Rattle.std.proofs.Math.IntN.{neg_ℤ, neg_ℤ-neg_ℤ, +ℤ-neg_ℤ_cancel, +ℤ_comm, +ℤ_idr}
-use native.Mathlib.Nat.{mul-add, mul-le-mul_left, mul_comm, mul-one, mod-add-div}
+use native.Mathlib.Nat.{mul-add, mul-le-mul_left, mul_comm, mul-one}
 use Rattle.ada_base.specs.declared.operation.Op.{Op}
 use Rattle.ada_base.specs.declared.reason.Reason.{Reason}
 use Rattle.ada_base.specs.declared.reason.Reason.TheVariants as reason
@@ -32,14 +31,14 @@ use Rattle.ada_meaning.specs.Operations.{CheckKind, RangeCheck, IndexCheck, Over
 use Rattle.ada_meaning.specs.Meaning
 use Rattle.ada_meaning.specs.Meaning.{Part, Env, Course, Chunking, Back, Passed, Returned, outset, with_parameter, with_target, with_handled, inside, variable_root, constant_root, array_root, iterated_env, cut_of, value_cut_of, arms_of, exits, returns, raises, value_of, reason_of, has_handlers, sub_at, moved, object_layout, most_nested, most_threads, most_iterations, most_calls}
 use Rattle.ada_typed.specs.Syntax.{Expr, Static, Variable, Constant, Parameter, Target, Group, Unary, Binary, AndThen, OrElse, Relation, Membership, If, Call, Convert, Reduction, Optional, Absent, Present, Selections, Whole, Field, Index, Actuals, NoActual, In, InOut, Out, CompositeInOut, CompositeOut, Value, Number, Cells, Composite, WholeVariable, WholeConstant, WholeTarget, CompositeIf, Aggregate, Associations, NoAssociation, Association, Iteration, Range, Components, Chunk, NoChunk, Count, Each, Pieces, NoPiece, Text, Image, Padded, Decls, NoDecl, DeclareDefault, DeclareVariable, DeclareConstant, Mentions, Stmt, Null, Assign, CallProcedure, Exit, Return, ReturnValue, Raise, Reraise, IfThen, Case, Loop, For, ParallelFor, Parallel, Block, Put, Get, Stmts, End, Then, Alternatives, NoAlternative, Alternative, Arms, NoArm, Arm, Handlers, NoHandler, Handler, Body, Sub, Program}
-use Rattle.ada_effects.specs.Effects.{Named, Access, Roles, unknown, hide, is_one, selector, steps_of, root_name, name, forget, Construct, LoopOf, BlockOf, ReductionOf, Item, Touches, Calls, Blocks, Holds, Outside, chunk_hidden, course_hidden, chunk_parameter, judging, iterated_hidden, InReducer, InExpr, InOptional, InSelections, InActuals, InValue, InComposite, InAssociations, InCourse, InFilter, InChunk, InPieces, InDecls, InStmt, InAll, InAlternatives, InArm, InHandlers, InBody, InThread, IsDeclared, IsGlobal, InSub, InCallee, Reached}
-use Rattle.ada_effects.specs.Conflicts.{Now, Fits, Leads, LiesUnder, Distinct, LoopsDiffer, Compared, InProgram}
+use Rattle.ada_effects.specs.Effects.{Roles, unknown, hide, is_one, selector, steps_of, root_name, name, forget, Construct, LoopOf, BlockOf, ReductionOf, Item, Holds, chunk_hidden, course_hidden, chunk_parameter, judging, iterated_hidden, InReducer, InExpr, InOptional, InSelections, InActuals, InValue, InComposite, InAssociations, InCourse, InFilter, InChunk, InPieces, InDecls, InStmt, InAll, InAlternatives, InArm, InHandlers, InBody, InThread, IsDeclared, InSub, InCallee}
+use Rattle.ada_effects.specs.Conflicts.{Now, Fits, Leads, Distinct, LoopsDiffer, Compared, InProgram}
 use Rattle.behaviours.specs.Behaviours
 use Rattle.ada_meaning.specs.Runs
 use Rattle.ada_meaning.specs.Programs.{this}
 use Rattle.ada_effects.proofs.Good.{Allowed, MayTouch, Can, Good, Placed, Roomy, Grown, with_object, called, ret_good, leaves_good, spent_good, checks_good, emits_good, look_good, turn_good, recalls_good, takes_good, reads_good, writes_good, choose_good, bind_good, handles_good, through_good, onto_good, elaborates_good, apart_good}
 use Rattle.ada_effects.proofs.Teams.{sum, team_good}
-use Rattle.ada_effects.proofs.Scenes.{Tie, Suits, leads_append, suits_unknown, suits_forget, suits_inside, suits_handled, suits_target, suits_hide, suits_iterated, suits_item, suits_loop, suits_chunk, suits_root, of_ret, of_leaves, gives_stops, of_bind, of_checks, of_apart, of_elaborates, one_of, Into, part, Exact, exact, object_into}
+use Rattle.ada_effects.proofs.Scenes.{Tie, Suits, leads_append, suits_unknown, suits_forget, suits_inside, suits_handled, suits_target, suits_hide, suits_iterated, suits_item, suits_loop, suits_chunk, suits_root, of_ret, of_leaves, of_bind, of_checks, of_apart, of_elaborates, one_of, Into, part, Exact, exact}
 use Rattle.ada_effects.specs.Covered.{site_of, arm_of, AreDistinct}
 use Rattle.ada_effects.proofs.Counting.{plus_zero, plus_suc, sum_evens, sum_without_zeros, BackFine, AllBack, Fitted, AllFitted, FitSoFar, length_laid, length_zeros, le_left, le_right, no_more, all_back, one_more, fit_more, fit_all}
 use Rattle.ada_effects.proofs.Entering.{CallInto, call_into, touched, touched_one, grown_into, more_into, constant_into}
@@ -198,7 +197,7 @@ module _ (program : Program) (fine : Construct → Type 0) where
     combined s by at v [] h = done s v
     combined s by at v (a ∷ more) h = onto_good program s.asks s.allowed a more (reduce_step s by at h)
 
-    -- ---- input
+    -- input
 
     module _ (s : Scene) (may : s.allowed.input) where
       next : Fine s ((Meaning.reading ops).asks)
@@ -219,7 +218,7 @@ module _ (program : Program) (fine : Construct → Type 0) where
       gets : Fine s (Meaning.got ops limit)
       gets = Readings.gets readings limit
 
-    -- ---- calls and what they give
+    -- calls and what they give
 
     module _ (calls : ℕ → ℕ → Behaviour Instance (Unit {0}) → List Passed → Behaviour Instance Returned)
         (called_good : (s : Scene) (nested u : ℕ) (before : Behaviour Instance (Unit {0})) (passed : List Passed) → Fine s before → CallInto program fine s.now s.allowed u → Fine s (calls nested u before passed))
@@ -235,7 +234,7 @@ module _ (program : Program) (fine : Construct → Type 0) where
       combine_call s (Operator at op class) nested k a b = done s a
       combine_call s (Function at u x y) nested k a b = seq s (called_good s nested u (Meaning.both_checked ops limit program calls at x y a b) _ (both s at x y a b) (call_into program fine at at u refl k)) (λ r _. done s r.value)
 
-      -- ---- what expressions give
+      -- what expressions give
 
       -- an index has a value that its selector tells
       index_fits : (now : Now) (r : Roles) (env : Env) → Suits now r env → (e : Expr) (v : ℤ) → Can (Meaning.eval ops limit program calls e env) v → Fits now (selector r e) v
@@ -308,7 +307,7 @@ module _ (program : Program) (fine : Construct → Type 0) where
           pass_back s rest _ ps (part program fine (λ i h. inr (inr (inr h))) k)
           (all_back s.allowed so_far _ h (λ m lt. touched program fine k at true (name s.roles from selections) (length (layout program.subtypes subtype)) (inr (inl refl)) a.0 (located s.now s.roles s.env s.suits from selections a.0 a.1) m lt)) b.2
 
-      -- ---- what iterations bind
+      -- what iterations bind
 
       course_suits : (now : Now) (around r : Roles) (start env : Env) → Suits now around start → (it : Iteration) (c : Course) → Can (Meaning.course ops limit program calls it start) c → Suits now r env → (i : ℕ) → i < c.count → Suits now (course_hidden around it r) (c.bound i env)
       course_suits now around r start env g (Range k reverse low high check filter) c can h i lt =
@@ -343,7 +342,7 @@ module _ (program : Program) (fine : Construct → Type 0) where
           go v j m e y env true q = ap (λ z. v +ℤ pos z) e
           go v j m e y env false q = absurd (true≢false (sym q))
 
-      -- ---- the threads of a construct that is judged
+      -- the threads of a construct that is judged
 
       pub record Judges (chunk : Chunk) (it : Iteration) (r : Roles) (env : Env) (k : Chunking) (c : Course) (number : Bool → ℕ → ℕ) : Type 0 where
         pub now : ℕ → ℕ → Now
@@ -428,7 +427,7 @@ module _ (program : Program) (fine : Construct → Type 0) where
       value_cut_sum true greatest n = le_trans (sum_without_zeros (evens n greatest)) (sum_evens n greatest)
       value_cut_sum false greatest n = whole greatest n
 
-      -- ---- constructs one by one
+      -- constructs one by one
 
       abbrev in_course : (s : Scene) (it : Iteration) (c : Course) → Can (Meaning.course ops limit program calls it s.env) c → (i : ℕ) → i < c.count → Scene
       in_course s it c can i lt = naming s (course_hidden s.roles it s.roles) (c.bound i s.env) (course_suits s.now s.roles s.roles s.env s.env s.suits it c can s.suits i lt)
@@ -667,7 +666,7 @@ module _ (program : Program) (fine : Construct → Type 0) where
       body_good b region s placed room k = declared_good b.decls region s placed room (λ j. InAll program.subtypes s.roles b.stmts j ⊎ InHandlers program.subtypes s.roles b.handlers j) k (λ E x.
           guards (allowing s E) b.handlers (exec_all_good b.stmts (allowing s E) (part program fine (λ i h. inl h) x)) (λ r. exec_handler_good b.handlers r (allowing s E) (part program fine (λ i h. inr h) x)))
 
-    -- ---- subprograms
+    -- subprograms
 
     same_or : (x y : ℕ) (P : Type 0) → P ⊎ (P → ⊥) → ((x ≡ y) ⊎ P) ⊎ (((x ≡ y) ⊎ P) → ⊥)
     same_or x y P (inl p) = inl (inr p)

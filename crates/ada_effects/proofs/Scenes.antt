@@ -19,7 +19,7 @@ use Rattle.ada_meaning.specs.Programs.{this}
 use Rattle.ada_effects.proofs.Good.{Allowed, Can, with_object}
 use Rattle.ada_effects.proofs.Teams.{Either}
 
--- ---- what a name stands for
+-- what a name stands for
 
 abbrev pub Tie : Now → Named → Part → Type 0
 Tie now n p = (p.object ≡ n.object) × Leads now 0 n.steps p.offset
@@ -132,7 +132,7 @@ pub suits_root : (now : Now) (r : Roles) (env : Env) → Suits now r env → (at
 suits_root now r env h (root.Object x) = (refl, refl)
 suits_root now r env h (root.Item k) = h.items k
 
--- ---- values that behaviours give
+-- values that behaviours give
 
 gives : {A : Type 0} {a b : A} → Gives b ≡ Gives a → b ≡ a
 gives e = cc
@@ -194,7 +194,7 @@ pub one_of : {A : Type 0} (b : Bool) (m n : Behaviour Instance A) (Q : Type 0) (
 one_of true m n Q v f g c = f c
 one_of false m n Q v f g c = g c
 
--- ---- effects and what is allowed
+-- effects and what is allowed
 
 module _ (program : Program) where
   -- the cells under the effects of a text

@@ -8,7 +8,6 @@ use Rattle.behaviours.specs.Events.{Event, Reads, Writes, Recalls, Keeps, Takes,
 use Rattle.behaviours.specs.Joins.{Share, deal, Ran, EachRan, Form, traces, most_turns}
 use Rattle.behaviours.specs.Behaviours.{Behaviour, Asks, EachSafe, MayTrace, ThreadApart, ThreadsApart, asks_apart, within}
 use Rattle.behaviours.specs.Behaviours
-use Rattle.ada_meaning.specs.Programs.{this}
 use Rattle.ada_meaning.proofs.Ties.{Future, Goes, goes_enter, goes_joined}
 use Rattle.ada_effects.proofs.Good.{Allowed, MayTouch, Seen, Okay, Each, Tidy, Visible, Lives, lives_on, seen, each_append, later, stays, Good, wider, through_good}
 
@@ -17,7 +16,7 @@ abbrev pub sum : List ℕ → ℕ
 sum [] = 0
 sum (n ∷ ns) = n + sum ns
 
--- ---- no two threads make one instance
+-- no two threads make one instance
 
 tails : {A : Type 0} {x y : A} {a b : List A} → x ∷ a ≡ y ∷ b → a ≡ b
 tails e = cc
@@ -38,7 +37,7 @@ under i p l (inr (inner, c, le, e)) = (inner ++ (c ∷ []), e ∙ sym (append_as
 pub threads_apart : (i j : ℕ) (p : Path Instance) (l : Instance) → Future (enter i p) l → Future (enter j p) l → i ≡ j
 threads_apart i j p l f g = let a = under i p l f in let b = under j p l g in suffix a.0 b.0 (p.constructs ∷ p.name) i j (sym a.1 ∙ b.1)
 
--- ---- what holds of each event of the threads holds of each of the construct
+-- what holds of each event of the threads holds of each of the construct
 
 EachOf : (Event Instance → Type 0) → List (Trace Instance) → Type 0
 EachOf F [] = Unit {0}
@@ -63,7 +62,7 @@ form_each : {A : Type 0} (F : Event Instance → Type 0) (b : Bool) (p : Path In
 form_each F true p rs tr e (eq, o) h = subst (λ z. Each F z) (sym eq) (in_order_each F (traces rs) h)
 form_each F false p rs tr e (s, j) h = shuffle_each F (traces rs) tr s h
 
--- ---- what an event of a trace is at
+-- what an event of a trace is at
 
 abbrev AtPlace : Allowed → Scope Instance → Path Instance → Bool → Place Instance → Type 0
 AtPlace E s p w (Cell l i) = Future p l ⊎ Seen E s w l i

@@ -14,7 +14,7 @@ SomeClash program at other = (k : Construct) × InProgram program (Holds k) × C
 abbrev SomeTouched : Program → (at object : ℕ) → Type 0
 SomeTouched program at object = (k : Construct) × InProgram program (Holds k) × GlobalTouched program k at object
 
--- ---- A : array (1 .. 3, 1 .. 3) of Integer := (others => (others => 0));
+-- A : array (1 .. 3, 1 .. 3) of Integer := (others => (others => 0));
 -- parallel for I in 1 .. 3 loop for J in 1 .. 3 loop A (I, J) := A (J, I); end loop; end loop;
 
 abbrev both : Expr → Expr → Selections
@@ -25,7 +25,7 @@ transposes = made_of (syntax.Array (record { low = pos 1; high = pos 3 } ∷ rec
     (Then (ParallelFor 0 0 NoChunk (upto 0 3) (Then (For 1 (upto 1 3)
     (Then (Assign 52 (root.Object 0) (both (Parameter 0 0) (Parameter 0 1)) (stored (Variable 64 (root.Object 0) (both (Parameter 0 1) (Parameter 0 0)) integer))) End)) End)) End)
 
--- ---- S : Integer := 0; A : array (1 .. 4) of Integer := (others => 1);
+-- S : Integer := 0; A : array (1 .. 4) of Integer := (others => 1);
 -- parallel for I in 1 .. 4 loop S := S + A (I); end loop;
 
 abbrev pub adds_up : Program
@@ -33,19 +33,19 @@ adds_up = made_of (array_of 4 ∷ []) (object_of 0 1 ∷ object_of 1 4 ∷ []) [
     (Then (ParallelFor 0 0 NoChunk (upto 0 4)
     (Then (Assign 31 (root.Object 0) Whole (stored (sum (Variable 36 (root.Object 0) Whole integer) (Variable 40 (root.Object 1) (indexed 4 (Parameter 0 0)) integer)))) End)) End)
 
--- ---- X, Y : Integer := 0; parallel do X := 1; and Y := 2; end do;
+-- X, Y : Integer := 0; parallel do X := 1; and Y := 2; end do;
 
 abbrev pub two_arms : Program
 two_arms = made_of [] (object_of 0 1 ∷ object_of 0 1 ∷ []) [] (DeclareVariable 0 (stored (number (pos 0))) (DeclareVariable 1 (stored (number (pos 0))) NoDecl))
     (Then (Parallel 0 Absent (Arm (Then (Assign 13 (root.Object 0) Whole (stored (number (pos 1)))) End) (Arm (Then (Assign 25 (root.Object 1) Whole (stored (number (pos 2)))) End) NoArm))) End)
 
--- ---- N : Integer := 3; parallel for I in 1 .. N loop null; end loop;
+-- N : Integer := 3; parallel for I in 1 .. N loop null; end loop;
 
 abbrev pub bounded : Program
 bounded = made_of [] (object_of 0 1 ∷ []) [] (DeclareVariable 0 (stored (number (pos 3))) NoDecl)
     (Then (ParallelFor 0 0 NoChunk (Range 0 false (number (pos 1)) (Variable 24 (root.Object 0) Whole integer) None Absent) End) End)
 
--- ---- A, B : array (1 .. 4) of Integer := (others => 0); parallel for I in 1 .. 4 loop A (I) := B (1); end loop;
+-- A, B : array (1 .. 4) of Integer := (others => 0); parallel for I in 1 .. 4 loop A (I) := B (1); end loop;
 
 abbrev pub copies : Program
 copies = made_of (array_of 4 ∷ []) (object_of 1 4 ∷ object_of 1 4 ∷ []) [] (DeclareVariable 0 (filled_with 4 (number (pos 0))) (DeclareVariable 1 (filled_with 4 (number (pos 0))) NoDecl))

@@ -76,7 +76,7 @@ folded_among f g h a (Some v) = h a v
 within_among : {A : Type 0} (i : ℕ) (b c : Behaviour Instance A) → Among b c → Among (Behaviours.within i b) (Behaviours.within i c)
 within_among i b c h = record { runs = λ s p tr y p' e r. (r.0, r.1, h.runs s (enter i p) tr y r.0 e r.2); safe = λ s p. h.safe s (enter i p) }
 
--- ---- threads
+-- threads
 
 each_ran : {A : Type 0} (f g : Share → Behaviour Instance A) → ((j : Share) → Among (f j) (g j)) → (s : Scope Instance) (p : Path Instance) (js : List Share) (rs : List (Ran Instance A)) → EachRan (λ j. (f j).runs s) p js rs → EachRan (λ j. (g j).runs s) p js rs
 each_ran f g h s p [] rs e = e

@@ -88,7 +88,7 @@ one_law program set input o o' early early' keeps one run itself run' itself' =
     let free = alone program set keeps one in
     (settled program set input keeps free early' o' run' itself' (inr (inr one))).0 ∙ sym (settled program set input keeps free early o run itself (inr (inr one))).0
 
--- ---- the sequential law
+-- the sequential law
 
 -- only an exception leaves the main procedure
 abbrev OnlyRaises : End (Unit {0}) → Type 0

@@ -103,7 +103,7 @@ module _ (P : Type 0) (new : Instance → P) (admits : Scalar → ℤ → Type 0
   unfolding stops
   program_stops program keeps = Induction.main stops limit program keeps tt tt
 
--- ---- with one worker the threads are taken in order, and no race is to be feared
+-- with one worker the threads are taken in order, and no race is to be feared
 
 module _ (P : Type 0) (new : Instance → P) (admits : Scalar → ℤ → Type 0) (limit : ℕ) (cuts : ℕ → ℕ → List ℕ) where
   abbrev alone : Operations {1}

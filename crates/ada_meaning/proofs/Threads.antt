@@ -7,8 +7,6 @@ use Rattle.behaviours.specs.Joins.{Ran, traces, EachRan, most_turns, AllGive, So
 use Rattle.behaviours.specs.Behaviours.{Behaviour, Unbegun, is_left, MayTrace, EachSafe, ThreadApart, ThreadsApart, asks_at_once}
 use Rattle.behaviours.specs.Behaviours
 use Rattle.behaviours.specs.Joins
-use Rattle.ada_meaning.specs.Runs.{anything}
-use Rattle.ada_meaning.specs.Programs.{this}
 use Rattle.ada_meaning.specs.Planned
 use Rattle.ada_meaning.specs.Planned.{Result, Planned, plain, follow, both, before, threads, closed, with_turns}
 use Rattle.behaviours.proofs.Shuffle.{fits_split, shuffle_law, shuffle_in_order, fits_frame, after_other, merge_has, alike_flip}
@@ -51,7 +49,7 @@ abbrev Safe : {A : Type 0} → Bool → (Share → Body A) → Path Instance →
 Safe true body p js = SafeInOrder body p js
 Safe false body p js = SafeThreads body p js
 
--- ---- how threads end
+-- how threads end
 
 -- the end of a construct whose threads weren't left
 abbrev ending : {A : Type 0} → List (Ran Instance A) → End (List A)
@@ -114,7 +112,7 @@ ending_only rs (Leaves x) n j ne = absurd (none_leaves rs x n j)
 ending_only rs Spent n j ne = some_spent rs n j.1
 ending_only rs Stopped n j ne = absurd (ne refl)
 
--- ---- what safe threads do
+-- what safe threads do
 
 no_outs : (w : Trace Instance) → (Has IsInputOutput w → ⊥) → output_of w ≡ []
 no_outs [] n = refl
@@ -154,7 +152,7 @@ module _ {A : Type 0} (body : Share → Body A) (p : Path Instance) where
   safe_each [] s = tt
   safe_each (j ∷ js) s = (s.0, safe_each js s.2)
 
--- ---- what follows a thread
+-- what follows a thread
 
 before_done : {A : Type 0} (e : End A) (x : Leave) → ((y : Leave) → e ≡ Leaves y → ⊥) → (e ≡ Stopped → ⊥) → before e (Leaves x) ≡ Leaves x
 before_done (Gives a) x l s = refl
@@ -324,7 +322,7 @@ module _ {A : Type 0} (one : Bool) (body : Share → Body A) (plan : Share → S
       ends) in
       go f0 ends0
 
--- ---- constructs
+-- constructs
 
 or_false : (a : Bool) → (a || false) ≡ a
 or_false true = refl
@@ -440,7 +438,7 @@ unbegun_agrees one F p m r a = record {
   only = λ tr y p' e ran f ne st. ⊎_elim (λ h. a.only tr y p' e h f ne st) (λ h. absurd (ne h.3)) ran;
 }
 
--- ---- a construct in a scope
+-- a construct in a scope
 
 abbrev in_scope : {A : Type 0} → Scope Instance → Behaviour Instance A → Body A
 in_scope s b = record { runs = b.runs s; safe = b.safe s }

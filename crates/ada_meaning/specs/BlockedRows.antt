@@ -13,12 +13,12 @@ use Rattle.ada_meaning.specs.Rows.{integers, integer, number, stored, put_image,
 abbrev OneCall : Program → ℕ → Type 0
 OneCall program call = Blocked program call call × ((token last : ℕ) → Blocked program token last → (token ≡ call) × (last ≡ call))
 
--- ---- parallel for I in 1 .. 2 loop Put_Line ("x"); end loop;
+-- parallel for I in 1 .. 2 loop Put_Line ("x"); end loop;
 
 abbrev pub puts : Program
 puts = made_of [] [] [] NoDecl (Then (ParallelFor 0 0 NoChunk (upto 0 2) (Then (Put 31 31 (Text (120 ∷ []) NoPiece) true) End)) End)
 
--- ---- function F (X : Integer) return Integer is (X * X);
+-- function F (X : Integer) return Integer is (X * X);
 -- Put_Line (Integer'Image ([parallel for I in 1 .. 3 => F (I)]'Reduce ("+", 0))); without the aspect and with it
 
 abbrev pub calls : Bool → Program
@@ -31,7 +31,7 @@ calls nonblocking = made_of [] (object_of 0 1 ∷ [])
     } ∷ [])
     NoDecl (Then (put_image (Reduction 0 0 (reducer.Operator 0 op.Add integers) (number (pos 0)) (Some 0) NoChunk (upto 0 3) (Call 55 55 0 (In 0 (stored (Parameter 0 0)) NoActual)))) End)
 
--- ---- procedure Q with Nonblocking is begin New_Line; end Q; null;
+-- procedure Q with Nonblocking is begin New_Line; end Q; null;
 
 abbrev pub claims : Program
 claims = made_of [] [] (record { formals = []; result = None; nonblocking = true; body = record { decls = NoDecl; stmts = Then (Put 57 57 NoPiece true) End; handlers = NoHandler } } ∷ []) NoDecl (Then Null End)

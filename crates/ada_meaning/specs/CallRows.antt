@@ -1,5 +1,5 @@
 -- Programs with calls, copying and exceptions, written by hand, and what they come to.
-use Rattle.std.specs.Prelude.{◌≡◌, ℕ, ℤ, pos, negsuc, List, [], ◌∷◌, Option, Some, None, true, false}
+use Rattle.std.specs.Prelude.{◌≡◌, ℕ, ℤ, pos, List, [], ◌∷◌, Some, None, true, false}
 use Rattle.ada_base.specs.declared.operation.Op.TheVariants as op
 use Rattle.ada_base.specs.declared.reason.Reason.{Reason}
 use Rattle.ada_base.specs.declared.reason.Reason.TheVariants as reason
@@ -28,7 +28,7 @@ handled ss handler = Block NoDecl ss (Handler syntax.Others handler NoHandler)
 abbrev constant : ℕ → Expr
 constant x = Constant 0 (root.Object x) Whole integer
 
--- ---- function Down (N : Natural) return Natural is begin if N <= 1 then return 1; else return 1 + Down (N - 1); end if; end Down;
+-- function Down (N : Natural) return Natural is begin if N <= 1 then return 1; else return 1 + Down (N - 1); end if; end Down;
 -- begin Put_Line (Natural'Image (Down (N))); exception when others => Put_Line ("deep"); end;
 
 abbrev pub downs : ℕ → Program
@@ -43,7 +43,7 @@ abbrev pub Downs : Type 0
 Downs = (answer_of (downs 1000) (sequential (downs 1000) many_turns no_input) ≡ record { output = 32 ∷ 49 ∷ 48 ∷ 48 ∷ 48 ∷ 10 ∷ []; end = Gives tt; finals = [] })
     × (answer_of (downs 1001) (sequential (downs 1001) many_turns no_input) ≡ record { output = 100 ∷ 101 ∷ 101 ∷ 112 ∷ 10 ∷ []; end = Gives tt; finals = [] })
 
--- ---- X, Y : Integer := 1; procedure P (N : out Small; M : in out Integer) is begin Y := N; M := 7; end P; P (X, Y);
+-- X, Y : Integer := 1; procedure P (N : out Small; M : in out Integer) is begin Y := N; M := 7; end P; P (X, Y);
 -- where Small is the subtype 5 .. 9
 
 abbrev small : Scalar
@@ -59,7 +59,7 @@ begins = made_of [] (object_of 0 1 ∷ object_of 0 1 ∷ object_of 0 1 ∷ objec
 abbrev pub Begins : Type 0
 Begins = answer_of begins (sequential begins many_turns no_input) ≡ record { output = []; end = Gives tt; finals = (pos 5 ∷ []) ∷ (pos 7 ∷ []) ∷ [] }
 
--- ---- X : Integer := 1; E : exception; procedure P (N : in out Integer) is begin N := 7; raise E; end P;
+-- X : Integer := 1; E : exception; procedure P (N : in out Integer) is begin N := 7; raise E; end P;
 -- begin P (X); exception when others => null; end;
 
 abbrev pub fails : Program
@@ -71,7 +71,7 @@ fails = made_of [] (object_of 0 1 ∷ object_of 0 1 ∷ []) (procedure (formal 1
 abbrev pub NotCopied : Type 0
 NotCopied = answer_of fails (sequential fails many_turns no_input) ≡ record { output = []; end = Gives tt; finals = (pos 1 ∷ []) ∷ [] }
 
--- ---- function F return Integer is begin null; end F; Put_Line (Integer'Image (F));
+-- function F return Integer is begin null; end F; Put_Line (Integer'Image (F));
 
 abbrev pub endless : Program
 endless = made_of [] [] (function [] (Then Null End) ∷ []) NoDecl (Then (put_image (Call 0 0 0 NoActual)) End)
@@ -80,7 +80,7 @@ endless = made_of [] [] (function [] (Then Null End) ∷ []) NoDecl (Then (put_i
 abbrev pub NoReturn : Type 0
 NoReturn = answer_of endless (sequential endless many_turns no_input) ≡ record { output = []; end = Leaves (Raises reason.ProgramError); finals = [] }
 
--- ---- E1, E2 : exception;
+-- E1, E2 : exception;
 -- begin raise E1; exception when others => begin raise E2; exception when others => null; end; raise; end;
 
 abbrev pub reraises : Program
@@ -91,7 +91,7 @@ reraises = made_of [] [] [] NoDecl
 abbrev pub Reraised : Type 0
 Reraised = answer_of reraises (sequential reraises many_turns no_input) ≡ record { output = []; end = Leaves (Raises (reason.Declared 0)); finals = [] }
 
--- ---- procedure Main is X : Integer := 1; Y : Natural := X - 2; Z : Integer; begin null; exception when others => null; end Main;
+-- procedure Main is X : Integer := 1; Y : Natural := X - 2; Z : Integer; begin null; exception when others => null; end Main;
 
 abbrev natural : Scalar
 natural = record { class = integers; low = pos 0; high = pos 2147483647 }
@@ -109,7 +109,7 @@ elaborates = record (made_of [] (object_of 0 1 ∷ object_of 0 1 ∷ object_of 0
 abbrev pub Elaborated : Type 0
 Elaborated = answer_of elaborates (sequential elaborates many_turns no_input) ≡ record { output = []; end = Leaves (Raises reason.ConstraintError); finals = (pos 1 ∷ []) ∷ [] }
 
--- ---- function F (A : Integer; B : Small) return Integer is (20);
+-- function F (A : Integer; B : Small) return Integer is (20);
 -- Put_Line (Integer'Image ([parallel for I in 5 .. 6 => I]'Reduce (F, 0))); and with 4 .. 4
 
 abbrev pub combines : ℤ → ℤ → Program

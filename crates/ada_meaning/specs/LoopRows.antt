@@ -1,10 +1,9 @@
 -- Programs with loops, parallel constructs, arrays and records, written by hand, and what they come to.
-use Rattle.std.specs.Prelude.{◌≡◌, ℕ, ℤ, pos, negsuc, List, [], ◌∷◌, Option, Some, None, Bool, true, false}
+use Rattle.std.specs.Prelude.{◌≡◌, ℕ, ℤ, pos, negsuc, List, [], ◌∷◌, Some, None, true, false}
 use Rattle.ada_base.specs.declared.operation.Op.TheVariants as op
 use Rattle.ada_base.specs.declared.reason.Reason.TheVariants as reason
 use Rattle.ada_typed.specs.declared.scalars.Class.TheVariants as class
 use Rattle.ada_typed.specs.declared.scalars.Scalar.{Scalar}
-use Rattle.ada_typed.specs.declared.scalars.Comparison.TheVariants as comparison
 use Rattle.ada_typed.specs.declared.expressions.Root.TheVariants as root
 use Rattle.ada_typed.specs.declared.expressions.Reducer.TheVariants as reducer
 use Rattle.ada_typed.specs.declared.program.Mode.TheVariants as mode
@@ -12,7 +11,7 @@ use Rattle.ada_typed.specs.Syntax as syntax
 use Rattle.ada_typed.specs.Syntax.{Subtype, Expr, Constant, Parameter, Binary, Relation, Call, Reduction, NoExpr, Absent, Present, Selections, Whole, Field, Index, NoActual, In, Value, Cells, Aggregate, NoAssociation, Association, Range, Components, NoChunk, NoPiece, Text, Image, NoDecl, DeclareDefault, DeclareVariable, Stmt, Assign, Case, NoAlternative, Alternative, Raise, For, ParallelFor, Parallel, Block, Put, Stmts, End, Then, NoArm, Arm, NoHandler, Handler, ReturnValue, IfThen, Program, Variable}
 use Rattle.ada_base.specs.Cuts.{Plan, One, Even, Chunked, Listed, cuts_of}
 use Rattle.behaviours.specs.Paths.{Raises, Gives, Leaves}
-use Rattle.ada_meaning.specs.Programs.{Answer, answer_of, planned, sequential}
+use Rattle.ada_meaning.specs.Programs.{Answer, answer_of, planned}
 use Rattle.ada_meaning.specs.Rows.{integers, integer, number, variable, sum, stored, assign, put_image, object_of, made_of, many_turns, no_input, upto, array_of, filled_with, indexed, component, formal, adds}
 
 -- under a plan, without input
@@ -28,7 +27,7 @@ writes bytes = record { output = bytes; end = Gives tt; finals = [] }
 abbrev holds : List (List ℤ) → Answer
 holds values = record { output = []; end = Gives tt; finals = values }
 
--- ---- the sizes of chunks
+-- the sizes of chunks
 
 abbrev pub Cuts : Type 0
 Cuts = (cuts_of (Chunked 3) 4 10 ≡ 3 ∷ 3 ∷ 3 ∷ 1 ∷ [])
@@ -38,7 +37,7 @@ Cuts = (cuts_of (Chunked 3) 4 10 ≡ 3 ∷ 3 ∷ 3 ∷ 1 ∷ [])
     × (cuts_of (Listed (5 ∷ 9 ∷ [])) 4096 10 ≡ 5 ∷ 5 ∷ [])
     × (cuts_of One 4096 0 ≡ [])
 
--- ---- Put_Line (Integer'Image ([parallel for I in 1 .. 100 => I]'Reduce ("+", 0)));
+-- Put_Line (Integer'Image ([parallel for I in 1 .. 100 => I]'Reduce ("+", 0)));
 
 abbrev pub hundred : Program
 hundred = statements (Then (put_image (Reduction 0 0 (reducer.Operator 0 op.Add integers) (number (pos 0)) (Some 0) NoChunk (upto 0 100) (Parameter 0 0))) End)
@@ -48,7 +47,7 @@ Hundred = (under One hundred ≡ writes (32 ∷ 53 ∷ 48 ∷ 53 ∷ 48 ∷ 10 �
     × (under (Even 7) hundred ≡ writes (32 ∷ 53 ∷ 48 ∷ 53 ∷ 48 ∷ 10 ∷ []))
     × (under (Chunked 1) hundred ≡ writes (32 ∷ 53 ∷ 48 ∷ 53 ∷ 48 ∷ 10 ∷ []))
 
--- ---- X, Y : Integer := 0; parallel do X := 1; and Y := 2; end do;
+-- X, Y : Integer := 0; parallel do X := 1; and Y := 2; end do;
 
 abbrev pub arms : Program
 arms = made_of [] (object_of 0 1 ∷ object_of 0 1 ∷ []) [] (DeclareVariable 0 (stored (number (pos 0))) (DeclareVariable 1 (stored (number (pos 0))) NoDecl))
@@ -57,7 +56,7 @@ arms = made_of [] (object_of 0 1 ∷ object_of 0 1 ∷ []) [] (DeclareVariable 0
 abbrev pub Arms : Type 0
 Arms = under (Even 8) arms ≡ holds ((pos 1 ∷ []) ∷ (pos 2 ∷ []) ∷ [])
 
--- ---- function F (X : Integer) return Integer is (X * X) with Nonblocking;
+-- function F (X : Integer) return Integer is (X * X) with Nonblocking;
 -- Put_Line (Integer'Image ([parallel for I in 1 .. 3 => F (I)]'Reduce ("+", 0)));
 
 abbrev pub squares : Program
@@ -73,7 +72,7 @@ squares = made_of [] (object_of 0 1 ∷ [])
 abbrev pub Squares : Type 0
 Squares = under (Even 8) squares ≡ writes (32 ∷ 49 ∷ 52 ∷ 10 ∷ [])
 
--- ---- type Mat is array (1 .. 3, 1 .. 3) of Integer; A : Mat := [for I in 1 .. 3 => [for K in 1 .. 3 => I + K]];
+-- type Mat is array (1 .. 3, 1 .. 3) of Integer; A : Mat := [for I in 1 .. 3 => [for K in 1 .. 3 => I + K]];
 -- B : Mat := [for K in 1 .. 3 => [for J in 1 .. 3 => K - J]]; C : Mat;
 -- parallel for I in 1 .. 3 loop for J in 1 .. 3 loop C (I, J) := [for K in 1 .. 3 => A (I, K) * B (K, J)]'Reduce ("+", 0); end loop; end loop;
 -- Put_Line (Integer'Image (C'Parallel_Reduce ("+", 0)));
@@ -111,7 +110,7 @@ Multiplies = under (Listed (1 ∷ 60 ∷ [])) multiplies ≡ record {
       ∷ (pos 11 ∷ pos 2 ∷ negsuc 6 ∷ pos 14 ∷ pos 2 ∷ negsuc 9 ∷ pos 17 ∷ pos 2 ∷ negsuc 12 ∷ []) ∷ [];
 }
 
--- ---- N : Integer := 3; parallel for I in 1 .. N loop null; end loop;
+-- N : Integer := 3; parallel for I in 1 .. N loop null; end loop;
 
 abbrev pub bounded : Program
 bounded = made_of [] (object_of 0 1 ∷ []) [] (DeclareVariable 0 (stored (number (pos 3))) NoDecl) (Then (ParallelFor 0 0 NoChunk (Range 0 false (number (pos 1)) (variable 0) None Absent) End) End)
@@ -119,7 +118,7 @@ bounded = made_of [] (object_of 0 1 ∷ []) [] (DeclareVariable 0 (stored (numbe
 abbrev pub Bounded : Type 0
 Bounded = under (Even 8) bounded ≡ holds ((pos 3 ∷ []) ∷ [])
 
--- ---- Put_Line (Integer'Image (16#FF#) & Integer'Image (1_000) & Integer'Image (2E3));
+-- Put_Line (Integer'Image (16#FF#) & Integer'Image (1_000) & Integer'Image (2E3));
 
 abbrev pub joins : Program
 joins = statements (Then (Put 0 0 (Image integers (number (pos 255)) (Image integers (number (pos 1000)) (Image integers (number (pos 2000)) NoPiece))) true) End)
@@ -127,7 +126,7 @@ joins = statements (Then (Put 0 0 (Image integers (number (pos 255)) (Image inte
 abbrev pub Joined : Type 0
 Joined = under One joins ≡ writes (32 ∷ 50 ∷ 53 ∷ 53 ∷ 32 ∷ 49 ∷ 48 ∷ 48 ∷ 48 ∷ 32 ∷ 50 ∷ 48 ∷ 48 ∷ 48 ∷ 10 ∷ [])
 
--- ---- type R is record X : Integer; Y : Boolean; end record; V : R := (X => 4, Y => True);
+-- type R is record X : Integer; Y : Boolean; end record; V : R := (X => 4, Y => True);
 -- V.X := V.X * 2; case V.X is when 8 => Put_Line ("eight"); when others => null; end case;
 
 abbrev boolean : Scalar
@@ -147,7 +146,7 @@ cases = made_of (syntax.OfScalar boolean ∷ syntax.Record (record { name = 0; s
 abbrev pub Cases : Type 0
 Cases = under One cases ≡ record { output = 101 ∷ 105 ∷ 103 ∷ 104 ∷ 116 ∷ 10 ∷ []; end = Gives tt; finals = (pos 8 ∷ pos 1 ∷ []) ∷ [] }
 
--- ---- M : array (1 .. 3, 1 .. 2) of Integer := (others => (others => 1));
+-- M : array (1 .. 3, 1 .. 2) of Integer := (others => (others => 1));
 -- parallel for J in 1 .. 2 loop for I in 1 .. 3 loop M (I, J) := M (I, J) + J; end loop; end loop;
 
 abbrev cell : Selections
@@ -161,7 +160,7 @@ abbrev pub Columns : Type 0
 Columns = (under One columns ≡ holds ((pos 2 ∷ pos 3 ∷ pos 2 ∷ pos 3 ∷ pos 2 ∷ pos 3 ∷ []) ∷ []))
     × (under (Chunked 1) columns ≡ holds ((pos 2 ∷ pos 3 ∷ pos 2 ∷ pos 3 ∷ pos 2 ∷ pos 3 ∷ []) ∷ []))
 
--- ---- A : array (1 .. 5) of Integer := (1, 2, 3, 4, 5); B : array (1 .. 5) of Integer := (others => 0);
+-- A : array (1 .. 5) of Integer := (1, 2, 3, 4, 5); B : array (1 .. 5) of Integer := (others => 0);
 -- parallel for I in 1 .. 4 loop B (I + 1) := A (I); end loop; and the same with 1 .. 5
 
 abbrev up : Value
@@ -175,12 +174,12 @@ abbrev pub Shifts : Type 0
 Shifts = (under (Even 8) (shifts 4) ≡ holds ((pos 1 ∷ pos 2 ∷ pos 3 ∷ pos 4 ∷ pos 5 ∷ []) ∷ (pos 0 ∷ pos 1 ∷ pos 2 ∷ pos 3 ∷ pos 4 ∷ []) ∷ []))
     × (under (Even 8) (shifts 5) ≡ record { output = []; end = Leaves (Raises reason.ConstraintError); finals = (pos 1 ∷ pos 2 ∷ pos 3 ∷ pos 4 ∷ pos 5 ∷ []) ∷ (pos 0 ∷ pos 1 ∷ pos 2 ∷ pos 3 ∷ pos 4 ∷ []) ∷ [] })
 
--- ---- X : Integer := 2; X := X + 3; Put_Line (Integer'Image (X)); under a plan of one chunk of 3
+-- X : Integer := 2; X := X + 3; Put_Line (Integer'Image (X)); under a plan of one chunk of 3
 
 abbrev pub PlannedAdds : Type 0
 PlannedAdds = under (Listed (3 ∷ [])) adds ≡ record { output = 32 ∷ 53 ∷ 10 ∷ []; end = Gives tt; finals = (pos 5 ∷ []) ∷ [] }
 
--- ---- begin parallel for I in 1 .. 8 loop raise Constraint_Error; end loop; exception when Constraint_Error => Put_Line ("c"); end;
+-- begin parallel for I in 1 .. 8 loop raise Constraint_Error; end loop; exception when Constraint_Error => Put_Line ("c"); end;
 
 abbrev pub all_raise : Program
 all_raise = statements (Then (Block NoDecl (Then (ParallelFor 0 0 NoChunk (upto 0 8) (Then (Raise reason.ConstraintError) End)) End)

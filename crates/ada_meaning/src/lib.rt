@@ -11,7 +11,6 @@ ghost use Rattle.ada_meaning.specs.BlockedRows.{BlockedRows};
 ghost use Rattle.ada_meaning.specs.CallRows.{Downs, Begins, NotCopied, NoReturn, Reraised, Elaborated, Combines};
 
 use ada_typed::Typed;
-
 pub use behaviours::shuffle_law;
 
 /// Laws of all programs.
