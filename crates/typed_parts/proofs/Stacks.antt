@@ -11,7 +11,7 @@ use Rattle.ada_typed.specs.Ordered.{NodeBelow, IsOrdered}
 use Rattle.ada_typed.specs.Written.{put, last}
 use Rattle.ada_typed.proofs.Reading.{part_stable, part_below, part_last, part_none, part_read}
 use Rattle.ada_typed.proofs.Order.{ordered_put}
-use Rattle.typed_parts.specs.Stack.{Table, parts, parts_in, stacked, top, pop, onto, IsLatest, AllBelow, Fit}
+use Rattle.typed_parts.specs.Stack.{Table, parts, parts_in, stacked, top, pop, onto, IsLatest, AllBelow, Fit, Stays}
 
 abbrev table : List Node → List ℕ → Table
 table ns rs = record { nodes = ns; roots = rs }
@@ -35,11 +35,11 @@ below_more : (n m : ℕ) (rs : List ℕ) → n ≤ m → AllBelow n rs → AllBe
 below_more n m [] le h = h
 below_more n m (r ∷ rs) le h = (omega (arith, h.0), below_more n m rs le h.1)
 
-below_end : (n : ℕ) (rs : List ℕ) (r : ℕ) → AllBelow n rs → r < n → AllBelow n (rs ++ r ∷ [])
+pub below_end : (n : ℕ) (rs : List ℕ) (r : ℕ) → AllBelow n rs → r < n → AllBelow n (rs ++ r ∷ [])
 below_end n [] r h k = (k, tt)
 below_end n (q ∷ rs) r h k = (h.0, below_end n rs r h.1 k)
 
-below_front : (n : ℕ) (rs : List ℕ) (r : ℕ) → AllBelow n (rs ++ r ∷ []) → AllBelow n rs × (r < n)
+pub below_front : (n : ℕ) (rs : List ℕ) (r : ℕ) → AllBelow n (rs ++ r ∷ []) → AllBelow n rs × (r < n)
 below_front n [] r h = (tt, h.0)
 below_front n (q ∷ rs) r h = let k = below_front n rs r h.1 in ((h.0, k.0), k.1)
 
@@ -169,3 +169,14 @@ turn_leaf ns ms n at r done id l e h lt p q =
     let inside : r < length ns = omega (arith, h, lt) in
     let same : part_at ms r ≡ part_at ns r = rw e (part_stable ns (n ∷ []) r inside) in
     (rw (p, q, same) refl, omega (arith, inside, ap length e, length_end ns n))
+
+-- ---- what stood in a table stays
+
+pub stays_put : (ns ms : List Node) (n : Node) → ms ≡ ns ++ n ∷ [] → Stays ns ms
+stays_put ns ms n e = rw e (record { more = omega (arith, length_end ns n); same = λ k h. part_stable ns (n ∷ []) k h })
+
+pub stays_same : (ns : List Node) → Stays ns ns
+stays_same ns = record { more = omega arith; same = λ k h. refl }
+
+pub stays_on : (ns ms ls : List Node) → Stays ns ms → Stays ms ls → Stays ns ls
+stays_on ns ms ls s t = record { more = omega (arith, s.more, t.more); same = λ k h. t.same k (omega (arith, h, s.more)) ∙ s.same k h }

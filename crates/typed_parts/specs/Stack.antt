@@ -1,5 +1,5 @@
 -- The parts that are being joined, the latest first, and what is known of the table that they stand in.
-use Rattle.std.specs.Prelude.{ℕ, ◌≡◌, ◌<◌, List, [], ◌∷◌, ◌++◌, length, slice_get, Some}
+use Rattle.std.specs.Prelude.{ℕ, ◌≡◌, ◌<◌, ◌≤◌, List, [], ◌∷◌, ◌++◌, length, slice_get, Some}
 use Rattle.ada_typed.specs.declared.node.Node.TheVariants as node
 use Rattle.ada_typed.specs.declared.node.Node.{Node}
 use Rattle.ada_typed.specs.Decoded.{Part, Nothing, Cons, LeafCons, part_at}
@@ -75,3 +75,8 @@ pub record Fit (ns : List Node) (rs : List ℕ) : Type 0 where
   pub starts : slice_get ns 0 ≡ Some node.End
   pub ordered : IsOrdered ns
   pub below : AllBelow (length ns) rs
+
+-- what stood in a table stands for the same, and there may be more
+pub record Stays (ns ms : List Node) : Type 0 where
+  pub more : length ns ≤ length ms
+  pub same : (k : ℕ) → k < length ns → part_at ms k ≡ part_at ns k

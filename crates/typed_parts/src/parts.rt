@@ -12,6 +12,7 @@ mod iterations;
 mod lists;
 mod names;
 mod output;
+mod settling;
 mod statements;
 mod values;
 
