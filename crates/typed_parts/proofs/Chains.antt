@@ -22,7 +22,7 @@ leads_on at from over to next l lt g = record {
   least = omega (arith, l.least, lt);
 }
 
--- ---- a loop that rejoins a chain from its last expression on
+-- a loop that rejoins a chain from its last expression on
 
 pub record Rejoins (class : Class) (ns : List Node) (id : ℕ) (chain : List ℕ) (before now : List Part) : Type 0 where
   pub held : now ≡ AnExpr (as_expr (top now)) ∷ before

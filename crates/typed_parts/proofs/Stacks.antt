@@ -154,7 +154,7 @@ finished_some ns rs rest r e = ap (parts_in ns) e ∙ parts_end ns rest r
 pub finished_none : (ns : List Node) (rs : List ℕ) → rs ≡ [] → parts_in ns rs ≡ []
 finished_none ns rs e = new_parts ns rs e
 
--- ---- lists are turned
+-- lists are turned
 
 pub turn_cell : (ns ms : List Node) (n : Node) (at k r done id : ℕ) → ms ≡ ns ++ n ∷ [] → at < length ns → r < at → part_at ns at ≡ Cons (part_at ns k) (part_at ns r) → part_at ms id ≡ Cons (part_at ns k) (part_at ns done)
     → (onto (part_at ns at) (part_at ns done) ≡ onto (part_at ms r) (part_at ms id)) × (r < length ms)
@@ -170,7 +170,7 @@ turn_leaf ns ms n at r done id l e h lt p q =
     let same : part_at ms r ≡ part_at ns r = rw e (part_stable ns (n ∷ []) r inside) in
     (rw (p, q, same) refl, omega (arith, inside, ap length e, length_end ns n))
 
--- ---- what stood in a table stays
+-- what stood in a table stays
 
 pub stays_put : (ns ms : List Node) (n : Node) → ms ≡ ns ++ n ∷ [] → Stays ns ms
 stays_put ns ms n e = rw e (record { more = omega (arith, length_end ns n); same = λ k h. part_stable ns (n ∷ []) k h })

@@ -20,7 +20,7 @@ with_class c (Binary at o d l r) = Binary at o (class_or c d) (with_class c l) (
 with_class c (If x v o) = If x (with_class c v) (with_class c o)
 with_class c e = e
 
--- ---- the same from the inside out, along the operands that chains are long in
+-- the same from the inside out, along the operands that chains are long in
 
 -- an expression with another one in place of what its chain goes on with
 abbrev pub joined : Class → Expr → Expr → Expr
