@@ -1,5 +1,6 @@
 -- Where so many turns are left, no more bounds the loops of a Get; and digits that are too many stay so.
 use Rattle.std.proofs.Common.{◌≡◌, ℕ, zero, suc, ◌+◌, ◌*◌, ◌<◌, ◌≤◌, Option, Some, None, Result, Ok, Err, Bool, true, false, not, ◌&&◌, ◌||◌, cond, ℤ, pos, negsuc, int_le, refl, sym, ap, subst, ◌∙◌, ◌⊎◌, inl, inr, arith}
+use Rattle.std.proofs.lemmas.Bool.Decides.{nat_tests}
 use Rattle.ada_base.specs.declared.reason.Reason.TheVariants as reason
 use Rattle.ada_base.specs.Input.{Held, Nothing, Symbol, is_blank, is_byte, is_digit, digit_of, is_based, is_integer, signed}
 use Rattle.ada_base.specs.Input as input
@@ -45,7 +46,9 @@ same_digit m n d (inl e) = inl (ap (λ k. k * 10 + d) e)
 same_digit m n d (inr (a, b)) = inr (omega arith, omega arith)
 
 outside : (negative : Bool) (m : ℕ) → most ≤ m → is_integer (signed negative m) ≡ false
-outside negative m a = ?
+outside true zero a = absurd (omega arith)
+outside true (suc m) a = grind (arith, nat_tests)
+outside false m a = grind (arith, nat_tests)
 
 or_true : (b : Bool) → (b || true) ≡ true
 or_true true = refl
