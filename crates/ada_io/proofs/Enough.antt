@@ -5,7 +5,7 @@ use Rattle.ada_base.specs.declared.reason.Reason.TheVariants as reason
 use Rattle.ada_base.specs.Input.{Held, Nothing, Symbol, is_blank, is_byte, is_digit, digit_of, is_based, is_integer, signed}
 use Rattle.ada_base.specs.Input as input
 use Rattle.ada_io.specs.Plain.{Feed, Byte, End, Fault, State, After, at, Doing, next, given, asked, then, plain}
-use Rattle.ada_io.specs.Phases.{after_digit, after_underscore}
+use Rattle.ada_io.specs.Phases.{after_digit, needs_digit}
 
 -- after an asking there is a turn less
 pub asked_same : {A : Type 0} (t : State) (n : ℕ) (k l : Option ℕ → Doing A) → ((u : Option ℕ) (s : State) → suc s.turns ≡ n → k u s ≡ l u s)
@@ -71,18 +71,18 @@ digits_same (suc more) (suc less) negative m n s t a b same =
     asked_same t t.turns (after_digit more negative (m * 10 + digit_of s)) (after_digit less negative (n * 10 + digit_of s))
     (λ u v e. cond_same (is_digit u) _ _ _ _ v (digits_same more less negative _ _ u v (omega arith) (omega arith) so)
     (cond_same (is_byte 95 u) _ _ _ _ v
-    (asked_same v v.turns (after_underscore more negative (m * 10 + digit_of s)) (after_underscore less negative (n * 10 + digit_of s))
+    (asked_same v v.turns (needs_digit more negative (m * 10 + digit_of s)) (needs_digit less negative (n * 10 + digit_of s))
     (λ x w f. cond_same (is_digit x) _ _ _ _ w (digits_same more less negative _ _ x w (omega arith) (omega arith) so) refl))
     (ends_same negative _ _ u v so)))
 
-pub underscore_same : (more less : ℕ) (negative : Bool) (m n : ℕ) (s : Option ℕ) (t : State) → t.turns < more → t.turns < less → Same m n → after_underscore more negative m s t ≡ after_underscore less negative n s t
-underscore_same more less negative m n s t a b same = cond_same (is_digit s) _ _ _ _ t (digits_same more less negative m n s t a b same) refl
+pub needed_same : (more less : ℕ) (negative : Bool) (m n : ℕ) (s : Option ℕ) (t : State) → t.turns < more → t.turns < less → Same m n → needs_digit more negative m s t ≡ needs_digit less negative n s t
+needed_same more less negative m n s t a b same = cond_same (is_digit s) _ _ _ _ t (digits_same more less negative m n s t a b same) refl
 
 pub digit_same : (more less : ℕ) (negative : Bool) (m n : ℕ) (s : Option ℕ) (t : State) → t.turns < more → t.turns < less → Same m n → after_digit more negative m s t ≡ after_digit less negative n s t
 digit_same more less negative m n s t a b same =
     cond_same (is_digit s) _ _ _ _ t (digits_same more less negative m n s t a b same)
     (cond_same (is_byte 95 s) _ _ _ _ t
-    (asked_same t t.turns (after_underscore more negative m) (after_underscore less negative n) (λ u v e. underscore_same more less negative m n u v (omega arith) (omega arith) same))
+    (asked_same t t.turns (needs_digit more negative m) (needs_digit less negative n) (λ u v e. needed_same more less negative m n u v (omega arith) (omega arith) same))
     (ends_same negative m n s t same))
 
 -- ---- all of a number, blanks

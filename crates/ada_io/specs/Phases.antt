@@ -6,31 +6,31 @@ use Rattle.ada_base.specs.Input as input
 use Rattle.ada_io.specs.declared.input.Holding.{Holding}
 use Rattle.ada_io.specs.declared.input.Holding.TheVariants as holding
 use Rattle.ada_io.specs.declared.phases.Phase.{Phase}
-use Rattle.ada_io.specs.declared.phases.Phase.TheVariants.{Blanks, Sign, Digits, Underscore}
+use Rattle.ada_io.specs.declared.phases.Phase.TheVariants.{Blanks, NeedsDigit, Digits}
 use Rattle.ada_io.specs.declared.phases.Outcome.{Outcome}
 use Rattle.ada_io.specs.declared.phases.Outcome.TheVariants.{Asks, Gives, Raises}
-use Rattle.ada_io.specs.Plain.{State, Raised, After, at, Doing, next, asked, plain}
+use Rattle.ada_io.specs.Plain.{State, Raised, After, at, Doing, next, asked, then, plain}
 
--- what was looked at is directly after a digit
+-- a digit has to follow: after a sign or an underscore
+abbrev pub needs_digit : ℕ → Bool → ℕ → Option ℕ → Doing ℤ
+needs_digit more negative n s = cond (is_digit s) (input.digits plain more negative n s) (input.fails_at plain s reason.DataError)
+
+-- after a digit
 abbrev pub after_digit : ℕ → Bool → ℕ → Option ℕ → Doing ℤ
 after_digit more negative n s =
     cond (is_digit s) (input.digits plain more negative n s)
-    (cond (is_byte 95 s) (λ t. let r = asked t t.turns in next r.state r.answer (λ u. cond (is_digit u) (input.digits plain more negative n u) (input.fails_at plain u reason.DataError)))
+    (cond (is_byte 95 s) (then (λ t. asked t t.turns) (needs_digit more negative n))
     (input.number_ends plain negative n s))
-
-abbrev pub after_underscore : ℕ → Bool → ℕ → Option ℕ → Doing ℤ
-after_underscore more negative n s = cond (is_digit s) (input.digits plain more negative n s) (input.fails_at plain s reason.DataError)
 
 -- the rest of a Get in each phase, from what is looked at
 abbrev pub rest : Phase → Option ℕ → Doing ℤ
-rest Blanks s t = let r = input.skip_blanks plain (suc t.turns) s t in next r.state r.answer (input.number_read plain (suc t.turns))
-rest (Sign negative) s t = input.number_from plain (suc t.turns) negative s t
+rest Blanks s t = then (input.skip_blanks plain (suc t.turns) s) (input.number_read plain (suc t.turns)) t
+rest (NeedsDigit negative magnitude) s t = needs_digit (suc t.turns) negative magnitude s t
 rest (Digits negative magnitude) s t = after_digit (suc t.turns) negative magnitude s t
-rest (Underscore negative magnitude) s t = after_underscore (suc t.turns) negative magnitude s t
 
 -- a byte is asked for, and then goes on so
 pub record AsksFor (p : Doing ℤ) (k : Option ℕ → Doing ℤ) : Type 0 where
-  pub same : (s : State) → p s ≡ (let r = asked s s.turns in next r.state r.answer k)
+  pub same : (s : State) → p s ≡ then (λ t. asked t t.turns) k s
 
 -- what the code does with what is looked at: nothing is asked for after the end
 abbrev pub Takes : Phase → Option ℕ → Outcome → Type 0

@@ -3,7 +3,7 @@ ghost use Rattle.std.specs.Prelude.{◌≡◌};
 ghost use Rattle.ada_io.specs.Gets.{Gets};
 
 use crate::asking::{Looked, look};
-use crate::phases::{Phase, Outcome, step};
+use crate::phases::{Outcome, Phase, step};
 use ada_base::Reason;
 use ada_port::Source;
 use std::marker::Model;

@@ -5,14 +5,13 @@ ghost use Rattle.ada_io.specs.Phases.{HasDigit, Takes};
 
 use ada_base::{Base, Reason, is_in_base};
 
-// What was read so far: no more than blanks; a sign; digits, of which the last was looked at directly before or an
-// underscore stands between. The magnitude is that of the digits, or the greatest u32 where that is less.
+// What was read so far: no more than blanks; what a digit has to follow, a sign or an underscore; or a digit. The magnitude
+// is that of the digits, or the greatest u32 where that is less.
 #[derive(Clone, Copy)]
 pub(crate) enum Phase {
     Blanks,
-    Sign { negative: bool },
+    NeedsDigit { negative: bool, magnitude: u32 },
     Digits { negative: bool, magnitude: u32 },
-    Underscore { negative: bool, magnitude: u32 },
 }
 
 // What comes of it: another byte is needed, or the Get ends and what was looked at is held.
@@ -28,15 +27,14 @@ pub(crate) fn step(phase: Phase, symbol: Option<u8>) -> Outcome
 {
     match phase {
         Phase::Blanks => begin(symbol),
-        Phase::Sign { negative } => after_sign(negative, symbol),
+        Phase::NeedsDigit {
+            negative,
+            magnitude,
+        } => need_digit(negative, magnitude, symbol),
         Phase::Digits {
             negative,
             magnitude,
         } => after_digit(negative, magnitude, symbol),
-        Phase::Underscore {
-            negative,
-            magnitude,
-        } => after_underscore(negative, magnitude, symbol),
     }
 }
 
@@ -48,21 +46,27 @@ fn begin(symbol: Option<u8>) -> Outcome
     } else if is_blank(symbol) {
         Outcome::Asks(Phase::Blanks)
     } else if is_byte(symbol, b'-') {
-        Outcome::Asks(Phase::Sign { negative: true })
+        Outcome::Asks(Phase::NeedsDigit {
+            negative: true,
+            magnitude: 0,
+        })
     } else if is_byte(symbol, b'+') {
-        Outcome::Asks(Phase::Sign { negative: false })
+        Outcome::Asks(Phase::NeedsDigit {
+            negative: false,
+            magnitude: 0,
+        })
     } else {
-        after_sign(false, symbol)
+        need_digit(false, 0, symbol)
     }
 }
 
-fn after_sign(negative: bool, symbol: Option<u8>) -> Outcome
-    ensures { Takes (Phase.Sign negative) symbol result }
+fn need_digit(negative: bool, magnitude: u32, symbol: Option<u8>) -> Outcome
+    ensures { Takes (Phase.NeedsDigit negative magnitude) symbol result }
 {
     match digit(symbol) {
-        Some(magnitude) => Outcome::Asks(Phase::Digits {
+        Some(digit) => Outcome::Asks(Phase::Digits {
             negative,
-            magnitude,
+            magnitude: with_digit(magnitude, digit),
         }),
         None => Outcome::Raises(Reason::DataError),
     }
@@ -76,17 +80,17 @@ fn after_digit(negative: bool, magnitude: u32, symbol: Option<u8>) -> Outcome
             negative,
             magnitude: with_digit(magnitude, digit),
         }),
-        None => after_number(negative, magnitude, symbol),
+        None => after_digits(negative, magnitude, symbol),
     }
 }
 
-fn after_number(negative: bool, magnitude: u32, symbol: Option<u8>) -> Outcome
+fn after_digits(negative: bool, magnitude: u32, symbol: Option<u8>) -> Outcome
     requires { is_digit symbol ≡ false }
     ensures { Takes (Phase.Digits negative magnitude) symbol result }
 {
     let value = signed(negative, magnitude);
     if is_byte(symbol, b'_') {
-        Outcome::Asks(Phase::Underscore {
+        Outcome::Asks(Phase::NeedsDigit {
             negative,
             magnitude,
         })
@@ -94,18 +98,6 @@ fn after_number(negative: bool, magnitude: u32, symbol: Option<u8>) -> Outcome
         Outcome::Raises(Reason::DataError)
     } else {
         Outcome::Gives(value)
-    }
-}
-
-fn after_underscore(negative: bool, magnitude: u32, symbol: Option<u8>) -> Outcome
-    ensures { Takes (Phase.Underscore negative magnitude) symbol result }
-{
-    match digit(symbol) {
-        Some(digit) => Outcome::Asks(Phase::Digits {
-            negative,
-            magnitude: with_digit(magnitude, digit),
-        }),
-        None => Outcome::Raises(Reason::DataError),
     }
 }
 

@@ -17,4 +17,4 @@ returns-then-is_byte-2 c =
 
 pub returns-else-is_byte-2 : goal.returns-else-is_byte-2
 returns-else-is_byte-2 c =
-    unsigned_takes c.args.symbol c.after_sign.result (some_of c.args.symbol c.is_none.result c.is_none.ensures c.if-is_none.false) (sym c.is_blank.ensures ∙ c.if-is_blank.false) (sym c.is_byte.ensures ∙ c.if-is_byte.false) (sym c.is_byte-else-is_byte.ensures ∙ c.if-is_byte-2.false) c.after_sign.ensures
+    unsigned_takes c.args.symbol c.need_digit.result (some_of c.args.symbol c.is_none.result c.is_none.ensures c.if-is_none.false) (sym c.is_blank.ensures ∙ c.if-is_blank.false) (sym c.is_byte.ensures ∙ c.if-is_byte.false) (sym c.is_byte-else-is_byte.ensures ∙ c.if-is_byte-2.false) c.need_digit.ensures

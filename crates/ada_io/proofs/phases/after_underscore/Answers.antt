@@ -1,6 +1,0 @@
-use Rattle.ada_io.proofs.Steps.{later_digit_asks}
-use Rattle.ada_io.proofs.phases.after_underscore.Goals as goal
-
-pub returns-in-Some : goal.returns-in-Some
-returns-in-Some c =
-    later_digit_asks c.args.negative c.args.magnitude c.with_digit.result c.in-Some.digit c.args.symbol c.in-Some.ensures.0 c.in-Some.ensures.1 c.with_digit.ensures
