@@ -9,7 +9,7 @@ use ada_port::Source;
 use std::marker::Model;
 
 /// How a Get ends (A.10.8).
-#[derive(Clone, Copy, Debug, PartialEq, Eq)]
+#[derive(Clone, Copy)]
 pub enum GetEnd {
     /// A value of Integer was read.
     Number { value: i64, took: u64 },

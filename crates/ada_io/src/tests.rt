@@ -1,71 +1,69 @@
 use crate::{GetEnd, Reader, append_image, append_padded, image, padded, truth_image};
 use ada_base::{Items, Reason};
 use ada_port::MemSource;
-use std::alloc::AllocError;
+use std::alloc::{AllocError, Global};
 use std::test::Fail;
 
-fn number(value: i64, took: u64) -> GetEnd {
-    GetEnd::Number { value, took }
-}
-
-fn data_error(took: u64) -> GetEnd {
-    GetEnd::Raise {
-        reason: Reason::DataError,
-        took,
+// The value or what else came of a Get, and how many turns it took.
+fn shown(alloc: Global, end: GetEnd) -> Result<String, AllocError> {
+    match end {
+        GetEnd::Number { value, took } => format!(in alloc; "{value}:{took} "),
+        GetEnd::Raise { reason, took } => match reason {
+            Reason::DataError => format!(in alloc; "data:{took} "),
+            Reason::EndError => format!(in alloc; "end:{took} "),
+            _ => format!(in alloc; "other:{took} "),
+        },
+        GetEnd::ReadFault => format!(in alloc; "fault "),
+        GetEnd::Spent => format!(in alloc; "spent "),
     }
 }
 
-fn end_error(took: u64) -> GetEnd {
-    GetEnd::Raise {
-        reason: Reason::EndError,
-        took,
+// What comes of Gets of one input, one for each number of turns.
+fn gets(alloc: Global, input: &str, fails: &[u64], turns: &[u64]) -> Result<String, AllocError> {
+    let bytes = Vec::from_slice(alloc, input.as_bytes())?;
+    let mut source = MemSource::new(bytes, Vec::from_slice(alloc, fails)?);
+    let mut reader = Reader::new();
+    let mut text = String::new(alloc);
+    for left in turns {
+        let end = reader.get(&mut source, *left);
+        text.push_str(&shown(alloc, end)?)?;
     }
+    Ok(text)
 }
 
 #[test]
 fn gets_of_one_input_answer_one_after_the_other(rt: HostRuntime) -> Result<(), Fail> {
     let alloc = rt.alloc();
-    let most = 2_147_483_647;
     for (input, ends) in [
-        (" 12", [number(12, 4), end_error(0), end_error(0)]),
-        (" -12 7x", [number(-12, 5), number(7, 2), data_error(0)]),
-        ("+5", [number(5, 3), end_error(0), end_error(0)]),
-        ("-0", [number(0, 3), end_error(0), end_error(0)]),
-        ("1_000", [number(1000, 6), end_error(0), end_error(0)]),
-        ("12_3_4 5", [number(1234, 7), number(5, 2), end_error(0)]),
-        ("1__0", [data_error(3), data_error(0), data_error(0)]),
-        ("1_", [data_error(3), end_error(0), end_error(0)]),
-        ("1_ 2", [data_error(3), number(2, 2), end_error(0)]),
-        ("12#", [data_error(3), data_error(0), data_error(0)]),
-        ("1E3", [data_error(2), data_error(0), data_error(0)]),
-        ("1e3", [data_error(2), data_error(0), data_error(0)]),
-        ("-", [data_error(2), end_error(0), end_error(0)]),
-        ("- 5", [data_error(2), number(5, 2), end_error(0)]),
-        ("+-5", [data_error(2), number(-5, 2), end_error(0)]),
-        ("x5", [data_error(1), data_error(0), data_error(0)]),
-        ("\x0b5", [data_error(1), data_error(0), data_error(0)]),
-        ("", [end_error(1), end_error(0), end_error(0)]),
-        ("  \t\r\n\x0c", [end_error(7), end_error(0), end_error(0)]),
-        ("007\n", [number(7, 4), end_error(1), end_error(0)]),
-        ("2147483647", [number(most, 11), end_error(0), end_error(0)]),
-        ("2147483648", [data_error(11), end_error(0), end_error(0)]),
-        (
-            "-2147483648",
-            [number(-most - 1, 12), end_error(0), end_error(0)],
-        ),
-        ("-2147483649", [data_error(12), end_error(0), end_error(0)]),
-        ("4294967297", [data_error(11), end_error(0), end_error(0)]),
-        (
-            "00000000000000000000000000012",
-            [number(12, 30), end_error(0), end_error(0)],
-        ),
+        (" 12", "12:4 end:0 end:0 "),
+        (" -12 7x", "-12:5 7:2 data:0 "),
+        ("+5", "5:3 end:0 end:0 "),
+        ("-0", "0:3 end:0 end:0 "),
+        ("1_000", "1000:6 end:0 end:0 "),
+        ("12_3_4 5", "1234:7 5:2 end:0 "),
+        ("1__0", "data:3 data:0 data:0 "),
+        ("1_", "data:3 end:0 end:0 "),
+        ("1_ 2", "data:3 2:2 end:0 "),
+        ("12#", "data:3 data:0 data:0 "),
+        ("1E3", "data:2 data:0 data:0 "),
+        ("1e3", "data:2 data:0 data:0 "),
+        ("-", "data:2 end:0 end:0 "),
+        ("- 5", "data:2 5:2 end:0 "),
+        ("+-5", "data:2 -5:2 end:0 "),
+        ("x5", "data:1 data:0 data:0 "),
+        ("\x0b5", "data:1 data:0 data:0 "),
+        ("", "end:1 end:0 end:0 "),
+        ("  \t\r\n\x0c", "end:7 end:0 end:0 "),
+        ("007\n", "7:4 end:1 end:0 "),
+        ("2147483647", "2147483647:11 end:0 end:0 "),
+        ("2147483648", "data:11 end:0 end:0 "),
+        ("-2147483648", "-2147483648:12 end:0 end:0 "),
+        ("-2147483649", "data:12 end:0 end:0 "),
+        ("4294967297", "data:11 end:0 end:0 "),
+        ("00000000000000000000000000012", "12:30 end:0 end:0 "),
     ] {
-        let bytes = Vec::from_slice(alloc, input.as_bytes())?;
-        let mut source = MemSource::new(bytes, Vec::new(alloc));
-        let mut reader = Reader::new();
-        for end in ends {
-            assert_eq!(rt; reader.get(&mut source, 100), end, "{input}");
-        }
+        let text = gets(alloc, input, &[], &[100, 100, 100])?;
+        assert_eq!(rt; text.as_str(), ends, "{input}");
     }
     Ok(())
 }
@@ -74,20 +72,16 @@ fn gets_of_one_input_answer_one_after_the_other(rt: HostRuntime) -> Result<(), F
 fn calls_that_fail_are_read_faults(rt: HostRuntime) -> Result<(), Fail> {
     let alloc = rt.alloc();
     for (input, call, ends) in [
-        ("7 8", 1, [GetEnd::ReadFault, number(8, 3), end_error(0)]),
-        ("7 8", 3, [number(7, 2), GetEnd::ReadFault, end_error(1)]),
-        ("7", 1, [GetEnd::ReadFault, end_error(1), end_error(0)]),
-        // The end was met by the second call, and isn't asked for again.
-        ("7", 2, [number(7, 2), end_error(0), end_error(0)]),
-        ("", 1, [end_error(1), end_error(0), end_error(0)]),
-        ("-", 2, [data_error(2), end_error(0), end_error(0)]),
+        ("7 8", 1, "fault 8:3 end:0 "),
+        ("7 8", 3, "7:2 fault end:1 "),
+        ("7", 1, "fault end:1 end:0 "),
+        // The end was met by the call before the one that fails, and isn't asked for again.
+        ("7", 2, "7:2 end:0 end:0 "),
+        ("", 1, "end:1 end:0 end:0 "),
+        ("-", 2, "data:2 end:0 end:0 "),
     ] {
-        let bytes = Vec::from_slice(alloc, input.as_bytes())?;
-        let mut source = MemSource::new(bytes, vec![in alloc; call]?);
-        let mut reader = Reader::new();
-        for end in ends {
-            assert_eq!(rt; reader.get(&mut source, 100), end, "{input} at {call}");
-        }
+        let text = gets(alloc, input, &[call], &[100, 100, 100])?;
+        assert_eq!(rt; text.as_str(), ends, "{input} at {call}");
     }
     Ok(())
 }
@@ -95,26 +89,18 @@ fn calls_that_fail_are_read_faults(rt: HostRuntime) -> Result<(), Fail> {
 #[test]
 fn turns_are_spent_where_one_more_is_needed(rt: HostRuntime) -> Result<(), Fail> {
     let alloc = rt.alloc();
-    for (input, turns, ends) in [
-        (" 12", [4, 0], [number(12, 4), end_error(0)]),
-        (" 12", [3, 1], [GetEnd::Spent, end_error(1)]),
-        ("7 8", [2, 2], [number(7, 2), number(8, 2)]),
-        ("7 8", [2, 1], [number(7, 2), GetEnd::Spent]),
-        ("7 8", [2, 0], [number(7, 2), GetEnd::Spent]),
-        ("5", [1, 1], [GetEnd::Spent, end_error(1)]),
-        ("", [0, 1], [GetEnd::Spent, end_error(1)]),
-        ("x", [1, 0], [data_error(1), data_error(0)]),
+    for (input, first, second, ends) in [
+        (" 12", 4, 0, "12:4 end:0 "),
+        (" 12", 3, 1, "spent end:1 "),
+        ("7 8", 2, 2, "7:2 8:2 "),
+        ("7 8", 2, 1, "7:2 spent "),
+        ("7 8", 2, 0, "7:2 spent "),
+        ("5", 1, 1, "spent end:1 "),
+        ("", 0, 1, "spent end:1 "),
+        ("x", 1, 0, "data:1 data:0 "),
     ] {
-        let bytes = Vec::from_slice(alloc, input.as_bytes())?;
-        let mut source = MemSource::new(bytes, Vec::new(alloc));
-        let mut reader = Reader::new();
-        for (turns_left, end) in turns.iter().zip(ends) {
-            assert_eq!(rt;
-                reader.get(&mut source, *turns_left),
-                end,
-                "{input} at {turns_left}"
-            );
-        }
+        let text = gets(alloc, input, &[], &[first, second])?;
+        assert_eq!(rt; text.as_str(), ends, "{input} in {first} and {second}");
     }
     Ok(())
 }
@@ -122,16 +108,14 @@ fn turns_are_spent_where_one_more_is_needed(rt: HostRuntime) -> Result<(), Fail>
 #[test]
 fn long_numbers_do_not_overflow(rt: HostRuntime) -> Result<(), Fail> {
     let alloc = rt.alloc();
-    let mut bytes = Vec::new(alloc);
-    for _ in 0..1_000_000 {
-        bytes.push(b' ')?;
+    let mut input = String::new(alloc);
+    for byte in [' ', '9'] {
+        for _ in 0..1_000_000 {
+            input.push(byte)?;
+        }
     }
-    for _ in 0..1_000_000 {
-        bytes.push(b'9')?;
-    }
-    let mut source = MemSource::new(bytes, Vec::new(alloc));
-    let mut reader = Reader::new();
-    assert_eq!(rt; reader.get(&mut source, 3_000_000), data_error(2_000_001));
+    let text = gets(alloc, input.as_str(), &[], &[3_000_000, 0])?;
+    assert_eq!(rt; text.as_str(), "data:2000001 end:0 ");
     Ok(())
 }
 
