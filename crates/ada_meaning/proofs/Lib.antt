@@ -21,3 +21,4 @@ pub mod CallsComputed
 pub mod BlocksComputed
 pub mod Unblocked
 pub mod Shapes
+pub mod Sizes

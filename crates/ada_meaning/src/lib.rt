@@ -2,7 +2,7 @@
 #![tactic(auto)]
 
 ghost use Rattle.ada_meaning.specs.Blocked.{BlockedLaw};
-ghost use Rattle.ada_meaning.specs.Shapes.{ShapeLaw};
+ghost use Rattle.ada_meaning.specs.Shapes.{ShapeLaw, SizeLaw};
 ghost use Rattle.ada_typed.specs.Programs.{program};
 ghost use Rattle.ada_meaning.specs.Law.{StopsLaw, AloneLaw, AtOnceLaw, SilentLaw, ComesToSequential, OnlyLaw, OneLaw, SequentialLaw, OneSequentialLaw, OperatorLaw, SubtypeLaw};
 ghost use Rattle.ada_meaning.specs.Rows.{Adds, Overflows, Divisions, Reductions, Dealt, Find, Raised, Gotten, Turns, Doubled, Kept, Left, Passed, Padded', PartialOverflow, NoChunks, Filtered, Spends, Nested, Escapes, Calm, Sums};
@@ -27,6 +27,7 @@ pub fn laws()
     ensures subtypes { SubtypeLaw }
     ensures blocked { BlockedLaw }
     ensures shapes { ShapeLaw }
+    ensures sizes { SizeLaw }
 {}
 
 /// A typed program that keeps the rule on blocking calls, has no races and whose sequential run is calm comes to what that

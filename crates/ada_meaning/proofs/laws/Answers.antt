@@ -3,6 +3,7 @@ use Rattle.ada_meaning.proofs.Law.{stops_law, alone_law, at_once_law, silent_law
 use Rattle.ada_meaning.proofs.Operators.{operator_law}
 use Rattle.ada_meaning.proofs.Unblocked.{blocked_law}
 use Rattle.ada_meaning.proofs.Shapes.{shape_law}
+use Rattle.ada_meaning.proofs.Sizes.{size_law}
 
 pub returns-clause-stops : goal.returns-clause-stops
 returns-clause-stops c = stops_law
@@ -39,3 +40,6 @@ returns-clause-blocked c = blocked_law
 
 pub returns-clause-shapes : goal.returns-clause-shapes
 returns-clause-shapes c = shape_law
+
+pub returns-clause-sizes : goal.returns-clause-sizes
+returns-clause-sizes c = size_law
