@@ -76,7 +76,7 @@ module _ (table : List Subtype) (grounded : IsGrounded table) where
       let here : length sizes + 0 ≡ length sizes = omega arith in
       let longer = length-append sizes (x ∷ []) in
       let h = all_agree ts (sizes ++ x ∷ []) (grow sizes t agree (ap (slice_get table) (sym here) ∙ sym (at 0)))
-          (λ j. at (suc j) ∙ (let e : length sizes + suc j ≡ length (sizes ++ x ∷ []) + j = omega arith in ap (slice_get table) e)) in
+      (λ j. at (suc j) ∙ (let e : length sizes + suc j ≡ length (sizes ++ x ∷ []) + j = omega arith in ap (slice_get table) e)) in
       (h.0, (let g = h.1 in omega arith))
 
   size_of : (n : ℕ) → cells n ≡ typed.cells_of table n
