@@ -19,6 +19,7 @@ pub mod Computed
 pub mod LoopsComputed
 pub mod CallsComputed
 pub mod BlocksComputed
+pub mod LooksComputed
 pub mod Unblocked
 pub mod Shapes
 pub mod Sizes

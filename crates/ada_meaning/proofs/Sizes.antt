@@ -1,5 +1,5 @@
 -- A subtype has as many cells as the typed program's layout says.
-use Rattle.std.proofs.Common.{◌≡◌, ℕ, zero, suc, ◌+◌, ◌*◌, ◌<◌, ◌≤◌, nat_lt, List, [], ◌∷◌, ◌++◌, length, length-append, slice_get, Option, Some, None, Bool, true, false, refl, sym, subst, ap, ap₂, ◌∙◌, arith, ltb-true, ltb-false}
+use Rattle.std.proofs.Common.{◌≡◌, ℕ, suc, ◌+◌, ◌*◌, ◌<◌, nat_lt, List, [], ◌∷◌, ◌++◌, length, length-append, slice_get, Option, Some, None, Bool, true, false, refl, sym, subst, ap, ap₂, ◌∙◌, arith, ltb-true, ltb-false}
 use Rattle.std.proofs.Math.ListN.{get_or, get_or-append}
 use Rattle.std.proofs.Math.Seq.{get_or-append_seam}
 use Rattle.std.proofs.lemmas.List.{get_or_past}
@@ -10,7 +10,7 @@ use Rattle.ada_typed.specs.Layout as typed
 use Rattle.ada_typed.specs.Layout.{subtype_cells, fields_cells, sizes_from}
 use Rattle.ada_typed.specs.Syntax as syntax
 use Rattle.ada_typed.specs.Syntax.{Subtype}
-use Rattle.ada_meaning.specs.Values.{components, count, fields, layout_of, layout_within, layout}
+use Rattle.ada_meaning.specs.Values.{components, count, fields, layout_of, layout}
 use Rattle.ada_meaning.specs.Shapes.{size, shape_within, AreBefore, StandsBefore, IsGrounded, SizeLaw}
 use Rattle.ada_meaning.proofs.Shapes.{repeated_length, entry_size, within_size, unfolds}
 

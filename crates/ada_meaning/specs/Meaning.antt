@@ -113,7 +113,7 @@ abbrev pub object_of : Entity → ℕ
 object_of (VariableOf x) = x
 object_of (ConstantOf x) = x
 
--- threads where no number is asked for (own), and constructs and calls that may be active
+-- threads where no number is asked for, and constructs and calls that may be active; iterations of a construct
 abbrev pub most_threads : ℕ
 most_threads = 4096
 

@@ -9,6 +9,7 @@ ghost use Rattle.ada_meaning.specs.Law.{StopsLaw, AloneLaw, AtOnceLaw, SilentLaw
 ghost use Rattle.ada_meaning.specs.Rows.{Adds, Overflows, Divisions, Reductions, Dealt, Find, Raised, Gotten, Turns, Doubled, Kept, Left, Passed, Padded', PartialOverflow, NoChunks, Filtered, Spends, Nested, Escapes, Calm, Sums};
 ghost use Rattle.ada_meaning.specs.LoopRows.{Cuts, Hundred, Arms, Squares, Multiplies, Bounded, Joined, Cases, Columns, Shifts, PlannedAdds, AllRaise};
 ghost use Rattle.ada_meaning.specs.BlockedRows.{BlockedRows};
+ghost use Rattle.ada_meaning.specs.LookRows.{LookRows};
 ghost use Rattle.ada_meaning.specs.CallRows.{Downs, Begins, NotCopied, NoReturn, Reraised, Elaborated, Combines};
 
 use ada_typed::Typed;
@@ -106,4 +107,10 @@ pub fn call_rows()
 /// no others.
 pub fn blocked_rows()
     ensures { BlockedRows }
+{}
+
+/// Programs do, event by event, what is said of them in `specs/LookRows.antt`: where a cancel is looked for, and what a Get
+/// does.
+pub fn look_rows()
+    ensures { LookRows }
 {}
