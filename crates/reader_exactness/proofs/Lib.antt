@@ -15,3 +15,4 @@ pub mod Formals
 pub mod Declarations
 pub mod Bodies
 pub mod Statements
+pub mod StatementLevels
