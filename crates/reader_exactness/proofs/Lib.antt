@@ -16,3 +16,4 @@ pub mod Declarations
 pub mod Bodies
 pub mod Statements
 pub mod StatementLevels
+pub mod Units
