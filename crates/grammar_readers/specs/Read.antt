@@ -1,6 +1,6 @@
 -- What is read before it is known which part of a program it is, and tests of what was read.
-use Rattle.std.specs.Prelude.{ℕ, List, [], ◌∷◌, Option, Some, None, Bool, true, false}
-use Rattle.ada_tree.specs.Syntax.{Expr, Simple, Primary, Group, Round, Square, OneValue, OptionalExpr, AbsentExpr, PresentExpr, Choice, Others, NoChoice, Choices, AlsoChoice, Many, Assoc, Chosen, Each, Iter, InRange, Range, OptionalParallel, AbsentParallel, Parallel, Counted, Body}
+use Rattle.std.specs.Prelude.{ℕ, List, Option, Some, None, Bool, true, false}
+use Rattle.ada_tree.specs.Syntax.{Expr, Simple, Primary, Group, Round, Square, OneValue, OptionalExpr, AbsentExpr, PresentExpr, Others, NoChoice, Many, Assoc, Chosen, Each, Iter, InRange, Range, OptionalParallel, AbsentParallel, Parallel, Counted, Body}
 
 -- ---- brackets
 
@@ -39,15 +39,11 @@ abbrev pub count_of : Parallel → Option Simple
 count_of (Counted at count) = Some count
 count_of _ = None
 
--- ---- lists and parts that may be left out, in the form that statements keep
+-- ---- parts that may be left out, in the form that statements keep
 
 abbrev pub option_of : OptionalExpr → Option Expr
 option_of AbsentExpr = None
 option_of (PresentExpr e) = Some e
-
-abbrev pub choice_list : Choices → List Choice
-choice_list NoChoice = []
-choice_list (AlsoChoice c more) = c ∷ choice_list more
 
 -- ---- subprograms
 

@@ -5,12 +5,12 @@ use Rattle.reader_laws.specs.Loops.{grown}
 use Rattle.ada_tree.specs.Joining.{list_and, stmts_and, arms_and, alts_and, branches_and, handlers_and, name_identifier}
 use Rattle.ada_tree.specs.Kinds as kind
 use Rattle.ada_tree.specs.Syntax as syntax
-use Rattle.ada_tree.specs.Syntax.{Expr, Simple, Name, Parallel, Unchunked, Pack, Declare, Scheme, While, For, Handled, AnyOther, These, Stmt, Null, Assign, CallStmt, Exit, Return, Raise, IfStmt, Case, Loop, Block, ParallelBlock, Stmts, NoStmt, OptionalStmts, AbsentStmts, PresentStmts, Arm, Arms, NoArm, Alt, Alts, NoAlt, Branches, NoBranch, Body, Handler, Handlers, NoHandler, AlsoHandler}
-use Rattle.grammar_readers.specs.Brackets.{choice, more_choices, filter, iter, parallel}
+use Rattle.ada_tree.specs.Syntax.{Choice, Simple, Name, Parallel, Unchunked, Pack, Declare, Scheme, While, For, Handled, AnyOther, These, Stmt, Null, Assign, CallStmt, Exit, Return, Raise, IfStmt, Case, Loop, Block, ParallelBlock, Stmts, NoStmt, OptionalStmts, AbsentStmts, PresentStmts, Arm, Arms, NoArm, Alt, Alts, NoAlt, Branches, NoBranch, Body, Handler, Handlers, NoHandler, AlsoHandler}
+use Rattle.grammar_readers.specs.Brackets.{choice, next_choice, filter, iter, parallel}
 use Rattle.grammar_readers.specs.Declarations.{decls}
 use Rattle.grammar_readers.specs.Expressions.{expr, name}
 use Rattle.grammar_readers.specs.Levels.{levels}
-use Rattle.grammar_readers.specs.Read.{count_of, option_of, choice_list}
+use Rattle.grammar_readers.specs.Read.{count_of, option_of}
 
 -- the kinds with which a statement begins
 abbrev pub stmt_kinds : List ℕ
@@ -114,8 +114,12 @@ module _ (n : ℕ) (next : Reader Stmt) where
   conditional = symbol kind.if_word >>= λ at. expr (levels n) >>= λ c. then_stmts >>= λ s. arms >>= λ more. otherwise >>= λ o.
       closing kind.if_word >> pure (IfStmt at c s more o)
 
+  -- the choices of an alternative, after the first
+  unfoldable pub more_choices : Reader (List Choice)
+  more_choices = grown list_and [] (kind.bar ∷ []) (next_choice (levels n))
+
   unfoldable pub alt : Reader Alt
-  alt = symbol kind.when_word >>= λ at. choice (levels n) >>= λ c. more_choices (levels n) >>= λ cs. arrow_stmts >>= λ s. pure (syntax.alt at c (choice_list cs) s)
+  alt = symbol kind.when_word >>= λ at. choice (levels n) >>= λ c. more_choices >>= λ cs. arrow_stmts >>= λ s. pure (syntax.alt at c cs s)
 
   unfoldable pub more_alts : Reader Alts
   more_alts = grown alts_and NoAlt (kind.when_word ∷ []) alt

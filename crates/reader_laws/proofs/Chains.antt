@@ -1,12 +1,14 @@
 -- A chain is exact where its links are.
-use Rattle.std.proofs.Common.{◌≡◌, ℕ, zero, suc, ◌+◌, ◌≤◌, List, [], ◌∷◌, ◌++◌, length, Bool, true, false, if◌then◌else◌, ◌⊎◌, inl, inr, refl, sym, ap, ◌∙◌, subst, arith, length-append}
+use Rattle.std.proofs.Common.{◌≡◌, ℕ, zero, suc, ◌+◌, ◌-◌, ◌≤◌, List, [], ◌∷◌, ◌++◌, length, Bool, true, false, if◌then◌else◌, ◌⊎◌, inl, inr, refl, sym, ap, ◌∙◌, subst, arith, length-append}
+use mathlib.Core.Path.{fun_ext}
 use Rattle.ada_base.specs.Symbols.{Symbol, Nested, Word, symbols_of, is_member, next_kind}
 use Rattle.ada_base.specs.Languages.{Language, Then, Or, Pure, Image, Empty, ◌⋅◌, Inhabited}
 use Rattle.ada_base.specs.Derivations.{AllWithin}
-use Rattle.reader_laws.specs.Readers.{Answer, Found, Refused, TooDeep, Reader, read_on, ◌>>=◌}
-use Rattle.reader_laws.specs.Loops.{turns, chain}
-use Rattle.reader_laws.specs.Sets.{Sets, Starts, Stops, are_disjoint, is_subset, repeat_sets}
+use Rattle.reader_laws.specs.Readers.{Answer, Found, Refused, TooDeep, Reader, read_on, ◌>>=◌, ◌<$>◌, pure, by_next}
+use Rattle.reader_laws.specs.Loops.{turns, chain, grown}
+use Rattle.reader_laws.specs.Sets.{Sets, Starts, Stops, are_disjoint, is_subset, then_sets, repeat_sets}
 use Rattle.reader_laws.specs.Exact.{Reads, Steady, Exact, Rule}
+use Rattle.reader_laws.proofs.Rules.{seq, to, same}
 use Rattle.reader_laws.proofs.KindSets.{true_false, is_member-append, is_subset-is_member, are_disjoint-is_member}
 use Rattle.reader_laws.proofs.Words.{regroup, length-symbols_of}
 use Rattle.reader_laws.proofs.Renamings.{steady_as}
@@ -119,6 +121,22 @@ module _ {limit : ℕ} {A : Type 0} {s : Sets} {L : A → A → Language} {p : A
       whole = λ x w rest m st. whole_in (length (symbols_of w ++ rest)) a x w rest (omega (arith, length-symbols_of w, length-append (symbols_of w) rest)) m st;
     }
 
+    -- once a link was read, it is the same whether the turns are counted from before it or from after it
+    pub link_first : (a : A) (ts : List Symbol) → is_member ks (next_kind ts) ≡ true → chain ks p a ts ≡ (p a >>= chain ks p) ts
+    link_first a [] e = absurd (no (sym e ∙ no_end)) where
+      no : true ≡ false → ⊥
+      no q = cc
+    link_first a (t ∷ ts) e = ap (λ b. if b then (p a >>= turns (length ts) ks p) (t ∷ ts) else (Found a, t ∷ ts)) e ∙ go (p a (t ∷ ts)) refl where
+      go : (x : Answer A × List Symbol) → p a (t ∷ ts) ≡ x → read_on x.0 (turns (length ts) ks p) x.1 ≡ read_on x.0 (chain ks p) x.1
+      go (Found b, m) e =
+          let k = (h a).steady.sound (t ∷ ts) b m e in
+          let c = head a b k.0 k.1 in
+          let short : length m ≤ length ts = omega (arith, ap length k.2, ap (λ z. length (symbols_of z ++ m)) c.2, length-append (symbols_of c.1) m) in
+          let up : length m + (length ts - length m) ≡ length ts = omega (arith, short) in
+          sym (fuel_up (length ts - length m) (length m) b m (omega arith) ∙ ap (λ n. turns n ks p b m) up)
+      go (Refused, m) e = refl
+      go (TooDeep, m) e = refl
+
     -- a chain is read exactly where a link never stops before what begins the next one
     pub rule_chain : (a : A) → Rule limit (repeat_sets ks s) (M a) (chain ks p a)
     rule_chain a = record { exact = exact_chain a; sample = inhabited a }
@@ -129,25 +147,65 @@ pub record Listed {B S : Type 0} (none : S) (more : B → S → S) (L : B → La
   pub at_more : (x : B) (xs : S) (w : Word) → (L x ⋅ M xs) w → M (more x xs) w
   pub parts : (xs : S) (w : Word) → M xs w → ((xs ≡ none) × Empty w) ⊎ ((x : B) × (ys : S) × (xs ≡ more x ys) × (L x ⋅ M ys) w)
 
--- values that items are joined to, one by one or as a list
-pub record Joins {A B S : Type 0} (none : S) (more : B → S → S) (join : A → B → A) (act : A → S → A) : Type 0 where
-  pub at_none : (a : A) → act a none ≡ a
-  pub at_more : (a : A) (b : B) (l : S) → act a (more b l) ≡ act (join a b) l
+-- lists that grow at their end, and what it is to append one
+pub record Grows {B S : Type 0} (none : S) (more : B → S → S) (and : S → B → S) (append : S → S → S) : Type 0 where
+  pub at_front : (l : S) → append none l ≡ l
+  pub at_end : (l : S) → append l none ≡ l
+  pub at_more : (l : S) (b : B) (m : S) → append l (more b m) ≡ append (and l b) m
 
--- a chain whose links join items joins a list of them
-pub chained : {limit : ℕ} {A B S : Type 0} {s : Sets} {L : B → Language} {M : S → Language} {none : S} {more : B → S → S} {join : A → B → A} {act : A → S → A} {p : A → Reader A}
-    (ks : List ℕ) → Listed none more L M → Joins none more join act → ((a : A) → Rule limit s (Image (join a) L) (p a))
-    → s.nullable ≡ false → is_subset s.first ks ≡ true → are_disjoint s.follow_last s.first ≡ true → is_member ks 0 ≡ false
-    → (a : A) → Rule limit (repeat_sets ks s) (Image (act a) M) (chain ks p a)
-chained {limit} {A} {B} {S} {s} {L} {M} {none} {more} {join} {act} {p} ks listed j h not_empty taken apart no_end a =
-    rule_chain (λ a. Image (act a) M) joined parted ks (λ a. (h a).exact) not_empty taken apart no_end a where
-      joined : (a x : A) (w : Word) → Or (Then (Image (join a) L) (λ b. Image (act b) M)) (Pure a) x w → Image (act a) M x w
-      joined a x w (inl (b, u, v, e, (i, is, l), (ls, eq, m))) =
-          (more i ls, eq ∙ ap (λ z. act z ls) is ∙ sym (j.at_more a i ls), listed.at_more i ls w (u, v, e, l, m))
-      joined a x w (inr (eq, none')) = (none, eq ∙ sym (j.at_none a), listed.at_none w none')
+module _ {limit : ℕ} {B S : Type 0} {s : Sets} {L : B → Language} {M : S → Language} {none : S} {more : B → S → S} {and : S → B → S} {append : S → S → S} {p : Reader B}
+    (ks : List ℕ) (listed : Listed none more L M) (grows : Grows none more and append) (h : Rule limit s L p)
+    (not_empty : s.nullable ≡ false) (taken : is_subset s.first ks ≡ true) (apart : are_disjoint s.follow_last s.first ≡ true) (no_end : is_member ks 0 ≡ false) where
+  -- a list behind one that was read before
+  abbrev Behind : S → S → Language
+  Behind l = Image (append l) M
 
-      parted : (a x : A) (w : Word) → Image (act a) M x w → Or (Then (Image (join a) L) (λ b. Image (act b) M)) (Pure a) x w
-      parted a x w (ls, eq, m) = at (listed.parts ls w m) where
-        at : ((ls ≡ none) × Empty w) ⊎ ((i : B) × (ys : S) × (ls ≡ more i ys) × (L i ⋅ M ys) w) → Or (Then (Image (join a) L) (λ b. Image (act b) M)) (Pure a) x w
-        at (inl (is, e)) = inr (eq ∙ ap (act a) is ∙ j.at_none a, e)
-        at (inr (i, ys, is, (u, v, e, l, m'))) = inl (join a i, u, v, e, (i, refl, l), (ys, eq ∙ ap (act a) is ∙ j.at_more a i ys, m'))
+  joined : (l x : S) (w : Word) → Or (Then (Image (and l) L) Behind) (Pure l) x w → Behind l x w
+  joined l x w (inl (b, u, v, e, (i, is, k), (m, eq, n))) =
+      (more i m, eq ∙ ap (λ z. append z m) is ∙ sym (grows.at_more l i m), listed.at_more i m w (u, v, e, k, n))
+  joined l x w (inr (eq, e)) = (none, eq ∙ sym (grows.at_end l), listed.at_none w e)
+
+  parted : (l x : S) (w : Word) → Behind l x w → Or (Then (Image (and l) L) Behind) (Pure l) x w
+  parted l x w (m, eq, n) = at (listed.parts m w n) where
+    at : ((m ≡ none) × Empty w) ⊎ ((i : B) × (ys : S) × (m ≡ more i ys) × (L i ⋅ M ys) w) → Or (Then (Image (and l) L) Behind) (Pure l) x w
+    at (inl (is, e)) = inr (eq ∙ ap (append l) is ∙ grows.at_end l, e)
+    at (inr (i, ys, is, (u, v, e, k, n'))) = inl (and l i, u, v, e, (i, refl, k), (ys, eq ∙ ap (append l) is ∙ grows.at_more l i ys, n'))
+
+  -- a list of items
+  pub items : Rule limit (repeat_sets ks s) M (grown and none ks p)
+  items =
+      same M (rule_chain Behind joined parted ks (λ l. (to (and l) h).exact) not_empty taken apart no_end none)
+      (λ x w (m, eq, n). subst (λ z. M z w) (sym (eq ∙ grows.at_front m)) n)
+      (λ x w n. (x, sym (grows.at_front x), n))
+
+  -- the same, where a list is begun only at one of these kinds
+  pub begun : {C : Type 0} (f : S → C) → Rule limit (repeat_sets ks s) (Image f M) (by_next ks (f <$> grown and none ks p) (pure (f none)))
+  begun {C} f = subst (λ q. Rule limit (repeat_sets ks s) (Image f M) q) (fun_ext (λ ts. at (is_member ks (next_kind ts)) ts refl)) (to f items) where
+    none_read : (ts : List Symbol) → is_member ks (next_kind ts) ≡ false → grown and none ks p ts ≡ (Found none, ts)
+    none_read [] e = refl
+    none_read (t ∷ ts) e = ap (λ b. if b then ((and none <$> p) >>= turns (length ts) ks (λ l. and l <$> p)) (t ∷ ts) else (Found none, t ∷ ts)) e
+
+    at : (b : Bool) (ts : List Symbol) → is_member ks (next_kind ts) ≡ b → (f <$> grown and none ks p) ts ≡ (if b then (f <$> grown and none ks p) ts else (Found (f none), ts))
+    at true ts e = refl
+    at false ts e = ap (λ z. read_on z.0 (λ a. pure (f a)) z.1) (none_read ts e)
+
+  -- ---- where one item is there, since the next kind is one of these
+
+  -- the words of lists with an item
+  abbrev pub Some_of : S → Language
+  Some_of l w = (x : B) × (ys : S) × (l ≡ more x ys) × (L x ⋅ M ys) w
+
+  abbrev pub first_and_more : Reader S
+  first_and_more = (and none <$> p) >>= chain ks (λ l. and l <$> p)
+
+  pub some_items : Rule limit (then_sets s (repeat_sets ks s)) Some_of first_and_more
+  some_items =
+      same Some_of (seq (to (and none) h) (λ l. rule_chain Behind joined parted ks (λ l. (to (and l) h).exact) not_empty taken apart no_end l) apart)
+      (λ x w (l, u, v, e, (i, is, k), (m, eq, n)). (i, m, eq ∙ ap (λ z. append z m) is ∙ sym (grows.at_more none i m) ∙ grows.at_front (more i m), (u, v, e, k, n)))
+      (λ x w (i, m, eq, (u, v, e, k, n)). (and none i, u, v, e, (i, refl, k), (m, eq ∙ sym (grows.at_front (more i m)) ∙ grows.at_more none i m, n)))
+
+  pub first_read : {C : Type 0} (f : Answer S × List Symbol → Answer C × List Symbol) (q : Reader C) → by_next ks (λ ts. f (first_and_more ts)) q ≡ by_next ks (λ ts. f (grown and none ks p ts)) q
+  first_read {C} f q = fun_ext (λ ts. at (is_member ks (next_kind ts)) ts refl) where
+    at : (b : Bool) (ts : List Symbol) → is_member ks (next_kind ts) ≡ b → (if b then f (first_and_more ts) else q ts) ≡ (if b then f (grown and none ks p ts) else q ts)
+    at true ts e = ap f (sym (link_first Behind joined parted ks (λ l. (to (and l) h).exact) not_empty taken apart no_end none ts e))
+    at false ts e = refl

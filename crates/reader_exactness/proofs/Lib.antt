@@ -1,0 +1,15 @@
+pub mod Words
+pub mod Lists
+pub mod Bares
+pub mod Openings
+pub mod Sums
+pub mod Relations
+pub mod Associations
+pub mod Positions
+pub mod Insides
+pub mod Iterations
+pub mod Openers
+pub mod Squares
+pub mod Levels
+pub mod Formals
+pub mod Declarations
