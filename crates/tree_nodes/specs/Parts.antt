@@ -264,7 +264,7 @@ the_implementation p = record { decls = []; body = the_body p; last_name = None 
 
 abbrev pub the_sub : Part → Sub
 the_sub (OfSub s) = s
-the_sub p = ExprFunction 0 0 None 0 0 (the_expr p) None
+the_sub p = ExprFunction 0 0 None 0 (the_bracketed p).bracket (the_bracketed p).value None
 
 abbrev pub the_unit : Part → Unit'
 the_unit (OfSub s) = SubUnit s

@@ -17,5 +17,5 @@ pub use joining::{also, begin, four, leaf, leave_out, nothing, one, swap, three,
 pub use listing::close;
 pub use lists::ListKind;
 pub use naming::{bare, take_name};
-pub use nodes::{Four, Leaf, Node, One, Three, Two};
+pub use nodes::{Cell, Four, Leaf, Node, One, Three, Two};
 pub use parts::Parts;
