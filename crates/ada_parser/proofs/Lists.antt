@@ -10,7 +10,7 @@ use Rattle.grammar_readers.specs.Opened.{Opened}
 use Rattle.grammar_readers.specs.Expressions.{addings}
 use Rattle.grammar_readers.specs.Brackets.{more_args, more_choices, more_assocs, elsifs}
 
-pub chain_list : (inner : Opened) (c : Chain) → loop (chains.goes c) (chains.link inner c) (chains.none c) ≡ chains.list inner c
+pub chain_list : (inner : Opened) (c : Chain) → loop (chains.goes c) (chains.link inner c) (chains.none c) ≡ chains.items inner c
 unfolding addings more_args more_choices more_assocs elsifs
 chain_list inner chain.NameParts = refl
 chain_list inner chain.Multiplyings = refl

@@ -1,5 +1,5 @@
 -- The turns of a loop.
-use Rattle.std.proofs.Common.{◌≡◌, ℕ, suc, ◌+◌, ◌-◌, ◌<◌, ◌≤◌, Bool, true, false, if◌then◌else◌, refl, sym, ap, ◌∙◌, arith, List, [], ◌∷◌, Result, Ok, Err, absurd}
+use Rattle.std.proofs.Common.{◌≡◌, ℕ, suc, ◌+◌, ◌-◌, ◌<◌, ◌≤◌, Bool, true, false, if◌then◌else◌, refl, sym, subst, ap, ◌∙◌, arith, List, [], ◌∷◌, Result, Ok, Err}
 use Rattle.ada_base.specs.Symbols.{Symbol, next_kind, is_member}
 use Rattle.reader_laws.specs.Readers.{Reader, Answer, Found, Refused, TooDeep, read_on, pure, ◌>>=◌}
 use Rattle.reader_laws.specs.Loops.{turns, chain}
@@ -70,3 +70,8 @@ module _ {V : Type 0} (ks : List ℕ) (q : V → Reader V) (so_far the : Part �
   list_fault us b ps ps' fault.Unexpected h = from_none ∙ h
   list_fault us b ps ps' fault.TooDeep h = from_none ∙ h
   list_fault us b ps ps' fault.OutOfMemory h = tt
+
+-- the same of another answer and other parts that are equal
+pub reads_as : {A U : Type 0} (the : Part → A) (Is : Part → Type 0) {b d : List Part} {x y : Answer A × List Symbol} (r : Result U Fault) (ts : List Symbol) (ps : List Part)
+    → b ≡ d → x ≡ y → Reads the Is b x r ts ps → Reads the Is d y r ts ps
+reads_as {A} {U} the Is {b} {d} {x} {y} r ts ps e f h = subst (λ z. Reads the Is d z r ts ps) f (subst (λ z. Reads the Is z x r ts ps) e h)

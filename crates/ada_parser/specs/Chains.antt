@@ -141,15 +141,15 @@ abbrev pub link : Opened → (c : Chain) → Value c → Reader (Value c)
 link inner c = λ l. item inner c >>= λ x. pure (with_item c l x)
 
 -- the list of its items
-abbrev pub list : Opened → (c : Chain) → Reader (Value c)
-list inner chain.NameParts = grown parts_and syntax.NoPart reader.part_kinds (reader.part inner)
-list inner chain.Multiplyings = grown multiplyings_and syntax.NoMultiplying reader.multiplying_kinds (reader.multiplied inner)
-list inner chain.Addings = reader.addings inner
-list inner (chain.Conjuncts operator) = grown conjuncts_and syntax.NoConjunct (operator_kinds operator) (conjunct inner operator)
-list inner chain.Args = brackets.more_args inner
-list inner chain.Choices = brackets.more_choices inner
-list inner chain.Assocs = brackets.more_assocs inner
-list inner chain.Elsifs = brackets.elsifs inner
+abbrev pub items : Opened → (c : Chain) → Reader (Value c)
+items inner chain.NameParts = grown parts_and syntax.NoPart reader.part_kinds (reader.part inner)
+items inner chain.Multiplyings = grown multiplyings_and syntax.NoMultiplying reader.multiplying_kinds (reader.multiplied inner)
+items inner chain.Addings = reader.addings inner
+items inner (chain.Conjuncts operator) = grown conjuncts_and syntax.NoConjunct (operator_kinds operator) (conjunct inner operator)
+items inner chain.Args = brackets.more_args inner
+items inner chain.Choices = brackets.more_choices inner
+items inner chain.Assocs = brackets.more_assocs inner
+items inner chain.Elsifs = brackets.elsifs inner
 
 -- the place of a chain's items in the order of calls
 abbrev pub rank : Chain → ℕ

@@ -131,7 +131,7 @@ fn follow(parser: &mut Parser<'_>, levels: u32, chain: Chain) -> Result<(), Faul
 /// The list of the items of a chain.
 #[cycle(levels)]
 pub fn list(parser: &mut Parser<'_>, levels: u32, chain: Chain) -> Result<(), Fault>
-    ensures { Reads (chains.the chain) IsPart (parts parser.old.out) (chains.list (level.levels levels) chain parser.old.tokens) result parser.new.tokens (parts parser.new.out) }
+    ensures { Reads (chains.the chain) IsPart (parts parser.old.out) (chains.items (level.levels levels) chain parser.old.tokens) result parser.new.tokens (parts parser.new.out) }
 {
     nothing(&mut parser.out)?;
     follow(parser, levels, chain)?;

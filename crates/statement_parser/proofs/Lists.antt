@@ -10,7 +10,7 @@ use Rattle.grammar_readers.specs.Declarations.{decls}
 use Rattle.grammar_readers.specs.Statements.{more_choices, arms, more_alts, branches}
 use Rattle.grammar_readers.specs.Units.{units, clauses}
 
-pub chain_list : (n : ℕ) (c : Chain) → loop (chains.goes c) (chains.link n c) (chains.none c) ≡ chains.list n c
+pub chain_list : (n : ℕ) (c : Chain) → loop (chains.goes c) (chains.link n c) (chains.none c) ≡ chains.items n c
 unfolding decls more_choices arms more_alts branches units clauses
 chain_list n chain.Identifiers = refl
 chain_list n chain.Names = refl

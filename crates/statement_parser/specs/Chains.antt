@@ -205,23 +205,23 @@ abbrev pub link : ℕ → (c : Chain) → Value c → Reader (Value c)
 link n c = λ l. item n c >>= λ x. pure (with_item c l x)
 
 -- the list of its items
-abbrev pub list : ℕ → (c : Chain) → Reader (Value c)
-list n chain.Identifiers = grown list_and [] (kind.comma ∷ []) declarations.next_identifier
-list n chain.Names = grown list_and [] (kind.point ∷ []) statements.next_name
-list n chain.Formals = grown list_and [] (kind.semicolon ∷ []) declarations.next_formal
-list n chain.Indexes = grown list_and [] (kind.comma ∷ []) (declarations.next_index n)
-list n chain.Comps = grown list_and [] (kind.identifier ∷ []) (declarations.comp n)
-list n chain.Decls = declarations.decls n
-list n chain.Choices = statements.more_choices n
-list n chain.Exceptions = grown list_and [] (kind.bar ∷ []) statements.next_exception
-list n chain.Stmts = grown stmts_and syntax.NoStmt statements.stmt_kinds (statements.stmt n)
-list n chain.Handlers = grown handlers_and syntax.NoHandler (kind.when_word ∷ []) (statements.handler n (statements.stmt n))
-list n chain.Arms = statements.arms n (statements.stmt n)
-list n chain.Alts = statements.more_alts n (statements.stmt n)
-list n chain.Branches = statements.branches n (statements.stmt n)
-list n chain.Packs = grown list_and [] (kind.comma ∷ []) units.next_pack
-list n chain.Units = units.units n
-list n chain.Clauses = units.clauses
+abbrev pub items : ℕ → (c : Chain) → Reader (Value c)
+items n chain.Identifiers = grown list_and [] (kind.comma ∷ []) declarations.next_identifier
+items n chain.Names = grown list_and [] (kind.point ∷ []) statements.next_name
+items n chain.Formals = grown list_and [] (kind.semicolon ∷ []) declarations.next_formal
+items n chain.Indexes = grown list_and [] (kind.comma ∷ []) (declarations.next_index n)
+items n chain.Comps = grown list_and [] (kind.identifier ∷ []) (declarations.comp n)
+items n chain.Decls = declarations.decls n
+items n chain.Choices = statements.more_choices n
+items n chain.Exceptions = grown list_and [] (kind.bar ∷ []) statements.next_exception
+items n chain.Stmts = grown stmts_and syntax.NoStmt statements.stmt_kinds (statements.stmt n)
+items n chain.Handlers = grown handlers_and syntax.NoHandler (kind.when_word ∷ []) (statements.handler n (statements.stmt n))
+items n chain.Arms = statements.arms n (statements.stmt n)
+items n chain.Alts = statements.more_alts n (statements.stmt n)
+items n chain.Branches = statements.branches n (statements.stmt n)
+items n chain.Packs = grown list_and [] (kind.comma ∷ []) units.next_pack
+items n chain.Units = units.units n
+items n chain.Clauses = units.clauses
 
 -- the place of a chain's items in the order of calls
 abbrev pub rank : Chain → ℕ

@@ -151,7 +151,7 @@ pub fn follow(parser: &mut Parser<'_>, levels: u32, chain: Chain) -> Result<(), 
 /// The list of the items of a chain.
 #[cycle(list)]
 pub fn list(parser: &mut Parser<'_>, levels: u32, chain: Chain) -> Result<(), Fault>
-    ensures { Reads (chains.the chain) IsPart (parts parser.old.out) (chains.list levels chain parser.old.tokens) result parser.new.tokens (parts parser.new.out) }
+    ensures { Reads (chains.the chain) IsPart (parts parser.old.out) (chains.items levels chain parser.old.tokens) result parser.new.tokens (parts parser.new.out) }
 {
     nothing(&mut parser.out)?;
     follow(parser, levels, chain)?;
