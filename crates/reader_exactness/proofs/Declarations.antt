@@ -9,7 +9,7 @@ use Rattle.reader_laws.proofs.Depths.{exact_too_deep}
 use Rattle.reader_laws.proofs.Rules.{read, give, seq, or, to, is}
 use Rattle.reader_laws.proofs.Chains.{items}
 use Rattle.reader_laws.proofs.Forms.{from, to_left, to_right, none_before, without_before, without_after, at_second, either, form, keep, skip, lead, last}
-use Rattle.reader_laws.proofs.Samples.{sample_as, sample_free, sample_none, sample_both, sample_leaf, kind_is, begins_free, sample_of}
+use Rattle.reader_laws.proofs.Samples.{sample_as, sample_free, sample_none, sample_both, sample_leaf, kind_is, first_free, begins_free, sample_of}
 use Rattle.ada_tree.specs.Kinds as kind
 use Rattle.ada_tree.specs.Syntax.{Expr, Simple, Range, Whole, Ids, Indic, Mark, RangeMark, Array, Comp, ObjectType, Indicated, Anonymous, Definition, RangeType, ArrayType, RecordType, Decl, ObjectDecl, NumberDecl, ExceptionDecl, TypeDecl, SubtypeDecl}
 use Rattle.ada_tree.specs.Patterns.{Spelling, free, each_of, each_of_after, optional_of_after, ◌then◌}
@@ -26,7 +26,7 @@ use Rattle.reader_exactness.proofs.Openings.{Opening, round_sets, simple_sets, e
 use Rattle.reader_exactness.proofs.Relations.{rule_expr}
 use Rattle.reader_exactness.proofs.Associations as association
 use Rattle.reader_exactness.proofs.Associations.{range_sets}
-use Rattle.reader_exactness.proofs.Levels.{opening_at, first_free}
+use Rattle.reader_exactness.proofs.Levels.{opening_at}
 use Rattle.reader_exactness.proofs.Formals.{ids_sets, rule_ids}
 
 -- the index ranges of an array in their brackets
@@ -72,7 +72,7 @@ rule_indexes : (limit n depth : ℕ) → n + depth ≡ limit → Rule limit roun
 unfolding reader.indexes
 rule_indexes limit zero depth e =
     let over : limit < suc depth = omega (arith, e) in record {
-      exact = exact_too_deep round_sets (Words spelled_indexes depth) (λ x w l. first_free limit depth over kind.open_round w refl l) (λ t h. indexes_begin depth t (kind_is t kind.open_round h)) refl;
+      exact = exact_too_deep round_sets (Words spelled_indexes depth) (λ x w l. first_free limit (suc depth) (kind.open_round ∷ []) kind.open_round w over refl l) (λ t h. indexes_begin depth t (kind_is t kind.open_round h)) refl;
       sample = sample_of (Words spelled_indexes depth) kind.open_round (indexes_begin depth);
     }
 rule_indexes limit (suc n) depth e = rule_open_indexes limit n depth (omega (arith, e))

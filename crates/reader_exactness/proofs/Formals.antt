@@ -9,7 +9,7 @@ use Rattle.reader_laws.proofs.Depths.{BeginsTooDeep, exact_too_deep}
 use Rattle.reader_laws.proofs.Rules.{read, give, seq, or, to, is}
 use Rattle.reader_laws.proofs.Chains.{items}
 use Rattle.reader_laws.proofs.Forms.{from, to_left, to_right, without_after, at_second, form, keep, skip, lead, last}
-use Rattle.reader_laws.proofs.Samples.{sample_as, sample_leaf, sample_free, sample_none, sample_both, kind_is, begins_held, sample_of}
+use Rattle.reader_laws.proofs.Samples.{sample_as, sample_leaf, sample_free, sample_none, sample_both, kind_is, first_held, begins_held, sample_of}
 use Rattle.ada_tree.specs.Kinds as kind
 use Rattle.ada_tree.specs.Syntax.{Ids, Formal, Formals}
 use Rattle.ada_tree.specs.Patterns.{free, optional_of, each_of_after}
@@ -19,7 +19,6 @@ use Rattle.ada_tree.specs.declared.operators.Mode.TheVariants as mode'
 use Rattle.grammar_readers.specs.Declarations as reader
 use Rattle.reader_exactness.proofs.Words.{Words, After, maybe, list_grows, each_after_listed}
 use Rattle.reader_exactness.proofs.Openings.{round_sets}
-use Rattle.reader_exactness.proofs.Levels.{first_is}
 
 abbrev pub ids_sets : Sets
 ids_sets = record { first = kind.identifier ∷ []; nullable = false; follow_last = kind.comma ∷ [] }
@@ -128,7 +127,7 @@ pub rule_formals : (limit n depth : ℕ) → n + depth ≡ limit → Rule limit 
 unfolding reader.formals
 rule_formals limit zero depth e =
     let over : limit < suc depth = omega (arith, e) in record {
-      exact = exact_too_deep round_sets (Words spell.formals depth) (λ x w l. first_is limit depth over kind.open_round x.bracket w refl l) (λ t h. formals_begin depth t (kind_is t kind.open_round h)) refl;
+      exact = exact_too_deep round_sets (Words spell.formals depth) (λ x w l. first_held limit (suc depth) (kind.open_round ∷ []) kind.open_round x.bracket w over refl l) (λ t h. formals_begin depth t (kind_is t kind.open_round h)) refl;
       sample = sample_of (Words spell.formals depth) kind.open_round (formals_begin depth);
     }
 rule_formals limit (suc n) depth e = rule_open_formals limit depth (omega (arith, e))

@@ -15,3 +15,5 @@ pub mod Formals
 pub mod Declarations
 pub mod Bodies
 pub mod Statements
+pub mod StatementLevels
+pub mod Units

@@ -1,8 +1,9 @@
 -- Words of what is made of parts, from any number on, and words that begin with a given symbol.
-use Rattle.std.proofs.Common.{◌≡◌, ℕ, suc, List, [], ◌∷◌, ◌++◌, Bool, true, false, ◌||◌, ◌==◌, refl, sym, ap, ◌∙◌, subst}
+use Rattle.std.proofs.Common.{◌≡◌, ℕ, suc, ◌<◌, List, [], ◌∷◌, ◌++◌, Bool, true, false, ◌||◌, ◌==◌, refl, sym, ap, ◌∙◌, subst}
 use Rattle.std.proofs.lemmas.Bool.Decides.{Decides-eqb}
 use Rattle.ada_base.specs.Symbols.{Symbol, Nested, Word, is_member}
 use Rattle.ada_base.specs.Languages.{Language, Leaf, Quoted, Empty, ◌⋅◌, Image, Then, Begins, Inhabited}
+use Rattle.reader_laws.proofs.Depths.{BeginsTooDeep}
 use Rattle.reader_laws.proofs.Renamings.{begins_as}
 use Rattle.reader_laws.proofs.Singles.{inhabited_leaf}
 use Rattle.reader_laws.proofs.Sequences.{begins_then}
@@ -35,7 +36,31 @@ kind_is t k h = at (k == t.kind) ((Decides-eqb k t.kind).0) h where
     no_way : false ≡ true → ⊥
     no_way q = cc
 
--- words that begin with a symbol of a kind
+-- something for each of these kinds, and what there is for one that is a member
+abbrev pub EachKind : (ℕ → Type 0) → List ℕ → Type 0
+EachKind P [] = Unit {0}
+EachKind P (k ∷ ks) = P k × EachKind P ks
+
+pub for_member : {Q : Type 0} (ks : List ℕ) (kind : ℕ) → EachKind (λ k. k ≡ kind → Q) ks → is_member ks kind ≡ true → Q
+for_member [] kind fs e = absurd (no_way e) where
+  no_way : false ≡ true → ⊥
+  no_way q = cc
+for_member {Q} (k ∷ ks) kind (f, fs) e = at (k == kind) ((Decides-eqb k kind).0) e (λ r. for_member ks kind fs r) where
+  at : (b : Bool) → (b ≡ true → k ≡ kind) → (b || is_member ks kind) ≡ true → (is_member ks kind ≡ true → Q) → Q
+  at true g r rest = f (g refl)
+  at false g r rest = rest r
+
+-- ---- words that begin too deep
+
+-- the first symbol of a word, which is one level too deep
+pub first_held : {M : Language} (limit d : ℕ) (ks : List ℕ) (k n : ℕ) (w : Word) → limit < d → is_member ks k ≡ true → (Leaf d k n ⋅ M) w → BeginsTooDeep limit ks w
+first_held limit d ks k n w over m (u, v, e, i, l) = (record { symbol = record { number = n; kind = k }; depth = d }, v, e ∙ ap (λ z. z ++ v) i, over, m)
+
+pub first_free : {M : Language} (limit d : ℕ) (ks : List ℕ) (k : ℕ) (w : Word) → limit < d → is_member ks k ≡ true → (Quoted d k ⋅ M) w → BeginsTooDeep limit ks w
+first_free {M} limit d ks k w over m (u, v, e, (n, i), l) = first_held {M = M} limit d ks k n w over m (u, v, e, i, l)
+
+-- ---- words that begin with a symbol of a kind
+
 pub begins_held : {A B : Type 0} {L : A → Language} {M : B → Language} (d k : ℕ) (t : Symbol) → k ≡ t.kind → (f : B → A) → ((b : B) (w : Word) → (Leaf d k t.number ⋅ M b) w → L (f b) w)
     → Inhabited M → Begins L (t ∷ [])
 begins_held d k t is f g sample next =

@@ -1,18 +1,16 @@
-//! Stand-in.
+//! The parser of declarations, statements and programs: what is read is joined on a stack of parts.
 #![tactic(auto)]
 
-ghost use Rattle.grammar_readers.specs.Units as units;
-ghost use Rattle.tree_nodes.specs.Stack.{parts};
-ghost use Rattle.tree_nodes.specs.Parts.{the_program, IsPart};
-ghost use Rattle.ada_parser.specs.Reading.{Reads};
+pub mod bodies;
+pub mod chains;
+pub mod compounds;
+pub mod declarations;
+pub mod loops;
+pub mod names;
+pub mod parallels;
+pub mod statements;
+pub mod subprograms;
+pub mod types;
+pub mod units;
 
-use ada_parser::Parser;
-use reader_laws::Fault;
-
-pub fn program(parser: &mut Parser<'_>, levels: u32) -> Result<(), Fault>
-    ensures { Reads the_program IsPart (parts parser.old.out) (units.program levels parser.old.tokens) result parser.new.tokens (parts parser.new.out) }
-{
-    let _ = parser;
-    let _ = levels;
-    Err(Fault::OutOfMemory)
-}
+pub use units::program;

@@ -19,3 +19,6 @@ pub use lists::ListKind;
 pub use naming::{bare, take_name};
 pub use nodes::{Cell, Four, Leaf, Node, One, Three, Two};
 pub use parts::Parts;
+
+#[cfg(test)]
+mod tests;
