@@ -11,7 +11,7 @@ use Rattle.ada_tree.specs.Parsed.{IsParsed, IsSyntaxFault, IsTooDeep, depth_limi
 use Rattle.ada_tree.specs.TokenKinds.{kinds_of}
 use Rattle.ada_tree.specs.Syntax.{Program}
 use Rattle.tree_views.specs.Trees.{Table, program_of}
-use Rattle.reader_exactness.proofs.Programs.{one_program}
+use Rattle.reader_exactness.proofs.Units.{one_program}
 use Rattle.ada_grammar.specs.Parsed.{Parsed, GivesTree, GivesFault, GivesTooDeep}
 use Rattle.ada_grammar.specs.declared.parser.ParseFault.{ParseFault}
 use Rattle.ada_grammar.specs.declared.parser.ParseFault.TheVariants.{LeftOut, Unexpected, TooDeep, OutOfMemory}
