@@ -1,9 +1,8 @@
 -- The answer of the reader of programs to an example: what is to be computed, and what follows from it.
-use Rattle.std.proofs.Common.{◌≡◌, ℕ, suc, List, [], ◌∷◌, ◌++◌, length, map, Bool, true, false, Option, Some, None, refl, ap, ◌∙◌, sym, subst}
+use Rattle.std.proofs.Common.{◌≡◌, ℕ, List, [], ◌∷◌, length, map, Bool, true, false, Option, Some, None, subst}
 use Rattle.std.specs.Prelude.{All}
 use Rattle.std.proofs.lemmas.List.Elements.{All-nil, All-cons}
 use Rattle.ada_base.specs.Symbols.{Symbol, numbered}
-use Rattle.ada_base.specs.Derivations.{IsUnexpected}
 use Rattle.reader_laws.specs.Readers.{Answer, Found, Refused, TooDeep}
 use Rattle.reader_laws.specs.Settled.{Verdict}
 use Rattle.ada_tree.specs.Grammar.{IsFirstFault, ProgramWords}

@@ -31,31 +31,40 @@ rows =
     row 0 (kinds_of_stmts (null_word ∷ semicolon ∷ [])) 4 1
     ∷
     -- a statement in a statement: if B then null; end if;
-    row 1 (kinds_of_stmts (if_word ∷ identifier ∷ then_word ∷ null_word ∷ semicolon ∷ end_word ∷ if_word ∷ semicolon ∷ [])) 7 2
+    row 1 (kinds_of_stmts (if_word ∷ identifier ∷ then_word ∷ null_word ∷ semicolon ∷ end_word ∷ if_word
+    ∷ semicolon ∷ [])) 7 2
     ∷
     -- three statements, each in the one before: loop begin exit; end; end loop;
-    row 2 (kinds_of_stmts (loop_word ∷ begin_word ∷ exit_word ∷ semicolon ∷ end_word ∷ semicolon ∷ end_word ∷ loop_word ∷ semicolon ∷ [])) 6 3
+    row 2 (kinds_of_stmts (loop_word ∷ begin_word ∷ exit_word ∷ semicolon ∷ end_word ∷ semicolon ∷ end_word
+    ∷ loop_word ∷ semicolon ∷ [])) 6 3
     ∷
     -- a statement of an alternative: case B is when others => null; end case;
-    row 1 (kinds_of_stmts (case_word ∷ identifier ∷ is_word ∷ when_word ∷ others_word ∷ arrow ∷ null_word ∷ semicolon ∷ end_word ∷ case_word ∷ semicolon ∷ [])) 10 2
+    row 1 (kinds_of_stmts (case_word ∷ identifier ∷ is_word ∷ when_word ∷ others_word ∷ arrow ∷ null_word
+    ∷ semicolon ∷ end_word ∷ case_word ∷ semicolon ∷ [])) 10 2
     ∷
     -- of two that are too deep the first: if B then null; else return; end if;
-    row 1 (kinds_of_stmts (if_word ∷ identifier ∷ then_word ∷ null_word ∷ semicolon ∷ else_word ∷ return_word ∷ semicolon ∷ end_word ∷ if_word ∷ semicolon ∷ [])) 7 2
+    row 1 (kinds_of_stmts (if_word ∷ identifier ∷ then_word ∷ null_word ∷ semicolon ∷ else_word ∷ return_word
+    ∷ semicolon ∷ end_word ∷ if_word ∷ semicolon ∷ [])) 7 2
     ∷
     -- a branch of a parallel block: parallel do null; and null; end do;
-    row 1 (kinds_of_stmts (parallel_word ∷ do_word ∷ null_word ∷ semicolon ∷ and_word ∷ null_word ∷ semicolon ∷ end_word ∷ do_word ∷ semicolon ∷ [])) 6 2
+    row 1 (kinds_of_stmts (parallel_word ∷ do_word ∷ null_word ∷ semicolon ∷ and_word ∷ null_word ∷ semicolon
+    ∷ end_word ∷ do_word ∷ semicolon ∷ [])) 6 2
     ∷
     -- a subprogram: procedure Q is begin null; end;
-    row 0 (kinds_of_unit (procedure_word ∷ identifier ∷ is_word ∷ begin_word ∷ null_word ∷ semicolon ∷ end_word ∷ semicolon ∷ [])) 3 2
+    row 0 (kinds_of_unit (procedure_word ∷ identifier ∷ is_word ∷ begin_word ∷ null_word ∷ semicolon ∷ end_word
+    ∷ semicolon ∷ [])) 3 2
     ∷
     -- a statement of a subprogram
-    row 1 (kinds_of_unit (procedure_word ∷ identifier ∷ is_word ∷ begin_word ∷ null_word ∷ semicolon ∷ end_word ∷ semicolon ∷ [])) 7 2
+    row 1 (kinds_of_unit (procedure_word ∷ identifier ∷ is_word ∷ begin_word ∷ null_word ∷ semicolon ∷ end_word
+    ∷ semicolon ∷ [])) 7 2
     ∷
     -- the bracket of formal parameters: procedure Q (A : T) is begin null; end;
-    row 1 (kinds_of_unit (procedure_word ∷ identifier ∷ open_round ∷ identifier ∷ colon ∷ identifier ∷ close_round ∷ is_word ∷ begin_word ∷ null_word ∷ semicolon ∷ end_word ∷ semicolon ∷ [])) 5 2
+    row 1 (kinds_of_unit (procedure_word ∷ identifier ∷ open_round ∷ identifier ∷ colon ∷ identifier
+    ∷ close_round ∷ is_word ∷ begin_word ∷ null_word ∷ semicolon ∷ end_word ∷ semicolon ∷ [])) 5 2
     ∷
     -- the bracket of an expression function: function F return T is (1);
-    row 1 (kinds_of_unit (function_word ∷ identifier ∷ return_word ∷ identifier ∷ is_word ∷ open_round ∷ numeral ∷ close_round ∷ semicolon ∷ [])) 8 2
+    row 1 (kinds_of_unit (function_word ∷ identifier ∷ return_word ∷ identifier ∷ is_word ∷ open_round ∷ numeral
+    ∷ close_round ∷ semicolon ∷ [])) 8 2
     ∷
     -- a round bracket in another one: A := ((B));
     row 2 (kinds_of_value (open_round ∷ open_round ∷ identifier ∷ close_round ∷ close_round ∷ [])) 7 3
@@ -64,23 +73,27 @@ rows =
     row 1 (kinds_of_value (open_square ∷ numeral ∷ close_square ∷ [])) 6 2
     ∷
     -- the round bracket of a call in that of another one: Q (B (1));
-    row 2 (kinds_of_stmts (identifier ∷ open_round ∷ identifier ∷ open_round ∷ numeral ∷ close_round ∷ close_round ∷ semicolon ∷ [])) 7 3
+    row 2 (kinds_of_stmts (identifier ∷ open_round ∷ identifier ∷ open_round ∷ numeral ∷ close_round
+    ∷ close_round ∷ semicolon ∷ [])) 7 3
     ∷
     -- a bracket among the initial values of a reduction: A := [for I in 1 .. 5 => I]'Reduce ("+", (0));
-    row 2
-    (kinds_of_value
-    (open_square ∷ for_word ∷ identifier ∷ in_word ∷ numeral ∷ dots ∷ numeral ∷ arrow ∷ identifier ∷ close_square ∷ tick ∷ identifier ∷ open_round ∷ string ∷ comma ∷ open_round ∷ numeral ∷ close_round ∷ close_round ∷ [])) 21 3
+    row 2 (kinds_of_value (open_square ∷ for_word ∷ identifier ∷ in_word ∷ numeral ∷ dots ∷ numeral ∷ arrow
+    ∷ identifier ∷ close_square ∷ tick ∷ identifier ∷ open_round ∷ string ∷ comma ∷ open_round ∷ numeral
+    ∷ close_round ∷ close_round ∷ [])) 21 3
     ∷
     -- the bracket of a chunk specification: parallel (2) do null; and null; end do;
-    row 1 (kinds_of_stmts (parallel_word ∷ open_round ∷ numeral ∷ close_round ∷ do_word ∷ null_word ∷ semicolon ∷ and_word ∷ null_word ∷ semicolon ∷ end_word ∷ do_word ∷ semicolon ∷ [])) 5 2
+    row 1 (kinds_of_stmts (parallel_word ∷ open_round ∷ numeral ∷ close_round ∷ do_word ∷ null_word ∷ semicolon
+    ∷ and_word ∷ null_word ∷ semicolon ∷ end_word ∷ do_word ∷ semicolon ∷ [])) 5 2
     ∷
     -- the bracket of index ranges: type T is array (1 .. 9) of U;
-    row 0 (kinds_of_unit (type_word ∷ identifier ∷ is_word ∷ array_word ∷ open_round ∷ numeral ∷ dots ∷ numeral ∷ close_round ∷ of_word ∷ identifier ∷ semicolon ∷ [])) 7 1
+    row 0 (kinds_of_unit (type_word ∷ identifier ∷ is_word ∷ array_word ∷ open_round ∷ numeral ∷ dots ∷ numeral
+    ∷ close_round ∷ of_word ∷ identifier ∷ semicolon ∷ [])) 7 1
     ∷
     -- a bracket in a declaration of a block: declare A : T := (1); begin null; end;
-    row 1 (kinds_of_stmts (declare_word ∷ identifier ∷ colon ∷ identifier ∷ assign ∷ open_round ∷ numeral ∷ close_round ∷ semicolon ∷ begin_word ∷ null_word ∷ semicolon ∷ end_word ∷ semicolon ∷ [])) 9 2
+    row 1 (kinds_of_stmts (declare_word ∷ identifier ∷ colon ∷ identifier ∷ assign ∷ open_round ∷ numeral
+    ∷ close_round ∷ semicolon ∷ begin_word ∷ null_word ∷ semicolon ∷ end_word ∷ semicolon ∷ [])) 9 2
     ∷
     -- the bracket of a policy: pragma P (Q);
-    row 0
-    (pragma_word ∷ identifier ∷ open_round ∷ identifier ∷ close_round ∷ semicolon ∷ procedure_word ∷ identifier ∷ is_word ∷ begin_word ∷ null_word ∷ semicolon ∷ end_word ∷ semicolon ∷ []) 2 1
+    row 0 (pragma_word ∷ identifier ∷ open_round ∷ identifier ∷ close_round ∷ semicolon ∷ procedure_word
+    ∷ identifier ∷ is_word ∷ begin_word ∷ null_word ∷ semicolon ∷ end_word ∷ semicolon ∷ []) 2 1
     ∷ []

@@ -1,8 +1,10 @@
 -- What the examples of the grammar are made of.
-use Rattle.std.specs.Prelude.{ℕ, suc, List, [], ◌∷◌, ◌++◌, take, drop, None}
+use Rattle.std.specs.Prelude.{ℕ, suc, List, [], ◌∷◌, ◌++◌, take, drop, Option, None}
 use Rattle.ada_tree.specs.Kinds.{identifier, procedure_word, is_word, begin_word, null_word, end_word, assign, semicolon}
 use Rattle.ada_tree.specs.Syntax as syntax
-use Rattle.ada_tree.specs.Syntax.{Expr, Single, Rel, Alone, Simple, Sum, NoAdding, Term, Product, NoMultiplying, Operand, Primary, Number, Named, Name, NoPart, Ids, Decl, Stmt, Null, Assign, Stmts, NoStmt, Body, NoHandler, Unit', DeclUnit, Program}
+use Rattle.ada_tree.specs.Syntax.{Expr, Single, Rel, Alone, Simple, Sum, NoAdding, Term, Product, NoMultiplying, Operand, Primary, Number, Named, Name, NoPart, Ids, Range, Indic, Array, Comp, Decl, Formal, Formals, Pack, Declare, Stmt, Null, Assign, Stmts, NoStmt, Body, NoHandler, Aspect, Unit', DeclUnit, Policy, Clause, Main, Program}
+use Rattle.ada_tree.specs.declared.operators.ClauseWord.{ClauseWord}
+use Rattle.ada_tree.specs.declared.operators.Mode.{Mode}
 
 -- a change of one kind in a list of them, at a place: it is another, or added, or left out
 pub data Change : Type 0 where
@@ -51,15 +53,46 @@ expr p = Single (rel p)
 abbrev pub ids : ℕ → List ℕ → Ids
 ids first more = record { first = first; more = more }
 
+-- ---- parts with names for their fields
+
+abbrev pub pack : ℕ → List ℕ → Pack
+pack first more = record { first = first; more = more }
+
+abbrev pub array : ℕ → Range → List Range → Indic → Array
+array at first more component = record { at = at; first = first; more = more; component = component }
+
+abbrev pub component : Ids → Indic → Comp
+component names subtype = record { names = names; component = subtype }
+
+abbrev pub declares : ℕ → List Decl → Declare
+declares at decls = record { at = at; decls = decls }
+
+abbrev pub aspect : ℕ → ℕ → Option ℕ → Aspect
+aspect at mark value = record { at = at; mark = mark; value = value }
+
+abbrev pub formal : Ids → Option Mode → ℕ → Formal
+formal names mode mark = record { names = names; mode = mode; mark = mark }
+
+abbrev pub formals : ℕ → Formal → List Formal → Formals
+formals bracket first more = record { bracket = bracket; first = first; more = more }
+
+abbrev pub clause : ℕ → ClauseWord → Pack → List Pack → Clause
+clause at word first more = record { at = at; word = word; first = first; more = more }
+
+abbrev pub policy : ℕ → ℕ → ℕ → Policy
+policy at mark chosen = record { at = at; mark = mark; policy = chosen }
+
+abbrev pub main : ℕ → ℕ → Option Aspect → List Unit' → Body → Option ℕ → Main
+main at defined marked units statements last_name = record { at = at; defined = defined; aspect = marked; units = units; body = statements; last_name = last_name }
+
+abbrev pub program : Option Policy → List Clause → Main → Program
+program chosen clauses whole = record { policy = chosen; clauses = clauses; main = whole }
+
 -- ---- programs of one part
 
 -- procedure P is .. begin .. end;
 abbrev pub program_of : List Unit' → Body → Program
-program_of units statements = record {
-  policy = None;
-  clauses = [];
-  main = record { at = 0; defined = 1; aspect = None; units = units; body = statements; last_name = None };
-}
+program_of units statements = program None [] (main 0 1 None units statements None)
 
 -- procedure P is begin .. end;
 abbrev pub kinds_of_stmts : List ℕ → List ℕ
