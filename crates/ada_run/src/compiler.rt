@@ -1,0 +1,135 @@
+//! From a text to its unit.
+
+ghost use Rattle.std.specs.Prelude.{◌≡◌, ◌≤◌, ℕ, List, take, Err, IfOk, IfErr, length};
+ghost use Rattle.std.specs.Str.{IsUtf8};
+ghost use Rattle.ada_base.specs.Place.{place_at};
+ghost use Rattle.ada_tree.specs.Faults.{byte_limit};
+ghost use Rattle.ada_grammar.specs.Parsed.{Parsed};
+ghost use Rattle.ada_lexer.specs.Lexed.{Tells};
+ghost use Rattle.first_form.specs.Program.{Program};
+ghost use Rattle.tree_views.specs.Trees.{program_of};
+ghost use Rattle.ada_run.specs.Complaints.{Complaint};
+ghost use Rattle.ada_run.specs.Compile.{Decides, IsRefusal, lexing, parsing, forming, compiling, refusal_of, IsAccepted, IsFaultOf, IsRefusalOf, GivesProgram, GivesRefusal};
+
+use crate::note::Note;
+use crate::refusal::Refusal;
+use ada_base::{Place, Tokens, place_of};
+use ada_grammar::{ParseFault, parse};
+use ada_lexer::{LexFault, lex};
+use first_form::{FirstForm, NoForm, first_form, first_undeclared};
+use std::alloc::Global;
+use tree_views::Tree;
+
+/// What a text is compiled to: so far its program.
+#[derive(Debug, Drop)]
+pub struct Unit {
+    pub program: FirstForm,
+}
+
+const BEGINNING: Place = Place { line: 1, column: 1 };
+
+/// Compiles a text, which is given by its bytes. A text that isn't accepted is refused by its one fault: its first
+/// lexical fault (`E01`, `E02`, `E12`); else its first syntax fault, at a token that the language leaves out (`E04`) or
+/// at another (`E03`), or the first token that stands deeper than 64 (`E12`), whichever comes first; else `E13 not built
+/// yet`, at the text's beginning, where it isn't of the first form; and else `E05 unknown name` at the first variable
+/// whose letter isn't declared. An accepted text gets its unit, and every fault of a text its refusal, unless memory
+/// runs out.
+pub fn compile(alloc: Global, text: &[u8]) -> Result<Unit, Refusal>
+    ensures accepted { IfOk result (λ unit. IsAccepted text.now unit.program) }
+    ensures refused { IfErr result (IsRefusalOf text.now) }
+    ensures all_accepted { (program : Program) → IsAccepted text.now program → GivesProgram result program }
+    ensures all_refused { (fault : Complaint) → IsFaultOf text.now fault → GivesRefusal result (refusal_of fault) }
+{
+    compiled(alloc, text)
+}
+
+fn compiled(alloc: Global, text: &[u8]) -> Result<Unit, Refusal>
+    ensures { Decides compiling (λ unit. unit.program) text.now result }
+{
+    let tokens = tokens_of(alloc, text)?;
+    let tree = tree_of(alloc, &tokens)?;
+    let program = program_of(alloc, &tokens, &tree)?;
+    Ok(Unit { program })
+}
+
+fn tokens_of(alloc: Global, text: &[u8]) -> Result<Tokens, Refusal>
+    ensures { Decides lexing (λ tokens. tokens) text.now result }
+{
+    match lex(alloc, text) {
+        Ok(tokens) => Ok(tokens),
+        Err(fault) => Err(lexical_refusal(text, fault)),
+    }
+}
+
+fn tree_of(alloc: Global, tokens: &Tokens) -> Result<Tree, Refusal>
+    ensures { Decides parsing program_of tokens.now result }
+{
+    match parse(alloc, tokens) {
+        Ok(tree) => Ok(tree),
+        Err(fault) => Err(syntax_refusal(tokens, fault)),
+    }
+}
+
+fn program_of(alloc: Global, tokens: &Tokens, tree: &Tree) -> Result<FirstForm, Refusal>
+    ensures { Decides (forming tokens.now) (λ program. program) (program_of tree.now) result }
+{
+    let program = match first_form(alloc, tokens, tree) {
+        Ok(program) => program,
+        Err(NoForm::OtherForm) => return Err(Refusal::of(Note::NotBuilt, BEGINNING)),
+        Err(NoForm::OutOfMemory) => return Err(Refusal::OutOfMemory),
+    };
+    match first_undeclared(&program) {
+        Some(variable) => Err(Refusal::of(Note::UnknownName, tokens.place(variable.token))),
+        None => Ok(program),
+    }
+}
+
+/// The refusal of a text for its first syntax fault, or for the first token that stands too deep.
+fn syntax_refusal(tokens: &Tokens, fault: ParseFault) -> Refusal
+    requires { Parsed tokens.now.items (Err fault) }
+    ensures { IsRefusal parsing tokens.now result }
+{
+    match fault {
+        ParseFault::LeftOut { token } => {
+            Refusal::of_left_out(tokens.kind(token), tokens.place(token))
+        }
+        ParseFault::Unexpected { token } => Refusal::of(Note::Syntax, tokens.place(token)),
+        ParseFault::TooDeep { token } => Refusal::of(Note::LimitPassed, tokens.place(token)),
+        ParseFault::OutOfMemory => Refusal::OutOfMemory,
+    }
+}
+
+/// The refusal of a text for its first lexical fault.
+fn lexical_refusal(text: &[u8], fault: LexFault) -> Refusal
+    requires { Tells text.now fault }
+    ensures { IsRefusal lexing text.now result }
+{
+    match fault {
+        LexFault::TooBig { bytes: _bytes } => Refusal::of(Note::LimitPassed, BEGINNING),
+        LexFault::NotUtf8 { at } => Refusal::of(Note::NotUtf8, place_of_byte(text, at as usize)),
+        LexFault::BadToken { at } => Refusal::of(Note::NoToken, at),
+        LexFault::WideLiteral { at } => Refusal::of(Note::LimitPassed, at),
+        LexFault::TooLong { count: _count, at } => Refusal::of(Note::LimitPassed, at),
+        LexFault::OutOfMemory => Refusal::OutOfMemory,
+    }
+}
+
+/// The place of a byte that follows UTF-8 characters.
+fn place_of_byte(text: &[u8], at: usize) -> Place
+    requires within { at ≤ length text.now }
+    requires short { length text.now ≤ byte_limit }
+    requires front { IsUtf8 (take at text.now) }
+    ensures { result ≡ place_at text.now at }
+{
+    match str::from_utf8(&text[..at]) {
+        Ok(front) => place_of(front, front.len()),
+        Err(_) => unreachable!(),
+    }
+}
+
+/// A text has at most one program, at most one fault, and not both.
+pub fn one_answer()
+    ensures program { (text : List ℕ) (p q : Program) → IsAccepted text p → IsAccepted text q → p ≡ q }
+    ensures fault { (text : List ℕ) (f g : Complaint) → IsFaultOf text f → IsFaultOf text g → f ≡ g }
+    ensures not_both { (text : List ℕ) (p : Program) (f : Complaint) → IsAccepted text p → IsFaultOf text f → ⊥ }
+{}
