@@ -3,4 +3,4 @@ mod KindLists
 mod ReadAgain
 mod Saying
 mod Spoken
-mod Verdicts
+pub mod Verdicts

@@ -56,7 +56,7 @@ none_deeper_before limit L ks place other deep later lt =
     (deep.sinks a w (rest ++ later.kind ∷ more) l (is ∙ ap (numbered 0) (whole ∙ longest)))
     (later.sinks a w more l (is ∙ ap (numbered 0) whole)) lt
 
-one_deep : {A : Type 0} (limit : ℕ) (L : A → Language) (ks : List ℕ) (place other : ℕ) → IsFirstTooDeep limit L ks place → IsFirstTooDeep limit L ks other → place ≡ other
+pub one_deep : {A : Type 0} (limit : ℕ) (L : A → Language) (ks : List ℕ) (place other : ℕ) → IsFirstTooDeep limit L ks place → IsFirstTooDeep limit L ks other → place ≡ other
 one_deep limit L ks place other deep later =
     omega (arith, none_deeper_before limit L ks place other deep later, none_deeper_before limit L ks other place later deep)
 
@@ -64,6 +64,9 @@ one_deep limit L ks place other deep later =
 
 derived : (limit : ℕ) (ks : List ℕ) (tree : Program) → DerivesWithin limit ProgramWords ks tree → Derives ProgramWords ks tree
 derived limit ks tree (w, l, e, within) = (w, l, e)
+
+pub one_tree : (items : List Token) (a b : Program) → IsParsed items a → IsParsed items b → a ≡ b
+one_tree items a b is are = one_program (kinds_of items) a b (derived depth_limit (kinds_of items) a is) (derived depth_limit (kinds_of items) b are)
 
 pub gives_tree : (items : List Token) (result : Result Table ParseFault) → Parsed items result → (tree : Program) → IsParsed items tree → GivesTree result tree
 gives_tree items (Ok found) p tree t = one_program (kinds_of items) (program_of found) tree (derived depth_limit (kinds_of items) (program_of found) p) (derived depth_limit (kinds_of items) tree t)

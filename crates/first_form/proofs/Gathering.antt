@@ -26,6 +26,10 @@ with_one : {B : Type 0} (front : List B) (y : B) (found : Option (List B)) → w
 with_one front y None = refl
 with_one front y (Some ys) = ap Some (simp append_assoc)
 
+-- one more item, in front of the rest
+pub takes : {A B : Type 0} (f : A → Option B) (front : List B) (x : A) (y : B) (xs : List A) → f x ≡ Some y → with_front front (each_at f (x ∷ xs)) ≡ with_front (front ++ y ∷ []) (each_at f xs)
+takes f front x y xs found = rw found (with_one front y (each_at f xs))
+
 pub with_none : {B : Type 0} (found : Option (List B)) → with_front [] found ≡ found
 with_none None = refl
 with_none (Some ys) = refl

@@ -138,14 +138,19 @@ fn step<O: Sink>(
             }
             None => Err(RunEnd::Raised(Reason::ConstraintError)),
         },
-        Statement::Print(name) => print(alloc, value_of(variables, name), out),
+        Statement::Print(name) => print(alloc, variables, name, out),
     }
 }
 
-fn print<O: Sink>(alloc: Global, value: i32, out: &mut O) -> Result<(), RunEnd>
-    ensures { Prints result value (O.state out.old) (O.state out.new) }
+fn print<O: Sink>(
+    alloc: Global,
+    variables: &[Variable],
+    name: Letter,
+    out: &mut O,
+) -> Result<(), RunEnd>
+    ensures { Prints result (value_in variables.now name) (O.state out.old) (O.state out.new) }
 {
-    let Ok(line) = line_of(alloc, value) else {
+    let Ok(line) = line_of(alloc, value_of(variables, name)) else {
         return Err(RunEnd::NoMemory);
     };
     match out.put(line.as_bytes()) {

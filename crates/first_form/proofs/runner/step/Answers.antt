@@ -3,4 +3,4 @@ use Rattle.first_form.proofs.runner.step.Goals as goal
 
 pub returns-in-Print : goal.returns-in-Print
 returns-in-Print g c =
-    rw c.in-Print.is (prints (g.O.Sink.state c.args.out.now) (g.O.Sink.state c.print.new.out) c.print.result c.args.variables.now c.in-Print.name (rw c.value_of.ensures at c.print.ensures))
+    rw c.in-Print.is (prints (g.O.Sink.state c.args.out.now) (g.O.Sink.state c.print.new.out) c.print.result c.args.variables.now c.in-Print.name c.print.ensures)

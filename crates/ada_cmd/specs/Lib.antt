@@ -1,0 +1,4 @@
+pub mod Answer
+pub mod Causes
+pub mod Due
+pub mod Words
