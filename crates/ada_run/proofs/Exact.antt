@@ -21,11 +21,14 @@ use Rattle.ada_run.specs.Complaints.{Complaint, lexical, unexpected, too_deep}
 use Rattle.ada_run.specs.Phases.{IsExact}
 use Rattle.ada_run.proofs.Phases.{followed_exact, function_exact}
 
+abbrev tokenized : List ℕ → List Token → Tokenized
+tokenized text items = record { text = text; items = items }
+
 same_tokens : (text : List ℕ) (a b : Tokenized) → AreLexed text a → AreLexed text b → a ≡ b
 same_tokens text a b is are =
     let items : a.items ≡ b.items = one_list (chars text) a.items b.items is.tokens_of are.tokens_of in
     let texts : a.text ≡ b.text = is.text_is ∙ sym are.text_is in
-    cc
+    ap (λ (z : List ℕ). tokenized z a.items) texts ∙ ap (tokenized b.text) items
 
 pub lexing_exact : IsExact lexing
 lexing_exact = record {

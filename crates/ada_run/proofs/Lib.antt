@@ -1,3 +1,4 @@
 pub mod Phases
 pub mod Exact
 pub mod Steps
+mod Leavings

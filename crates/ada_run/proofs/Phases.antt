@@ -19,18 +19,18 @@ followed_exact {A} {B} {C} {F} p q e f = record {
     none a c x b r s (inl v) = e.apart a b x r v
     none a c x b r s (inr (b', r', v)) = (f a).apart b' c x (subst (λ z. (q a).right z c) (e.one_result a b b' r r') s) v
 
+ok_is : {B F : Type 0} {b c : B} → Ok {A = B} {E = F} b ≡ Ok c → b ≡ c
+ok_is e = cc
+
+err_is : {B F : Type 0} {x y : F} → Err {A = B} {E = F} x ≡ Err y → x ≡ y
+err_is e = cc
+
+ok_or_err : {B F : Type 0} {b : B} {x : F} → Ok b ≡ Err x → ⊥
+ok_or_err e = cc
+
 pub function_exact : {A B F : Type 0} → (f : A → Result B F) → IsExact (by_function f)
-function_exact {A} {B} {F} f = record {
-    one_result = λ a b c r s. same_right (sym r ∙ s);
-    one_fault = λ a x y v w. same_wrong (sym v ∙ w);
-    apart = λ a b x r v. never (sym r ∙ v);
+function_exact f = record {
+    one_result = λ a b c r s. ok_is (sym r ∙ s);
+    one_fault = λ a x y v w. err_is (sym v ∙ w);
+    apart = λ a b x r v. ok_or_err (sym r ∙ v);
   }
-  where
-    same_right : {b c : B} → Ok b ≡ Ok c → b ≡ c
-    same_right e = cc
-
-    same_wrong : {x y : F} → Err x ≡ Err y → x ≡ y
-    same_wrong e = cc
-
-    never : {b : B} {x : F} → Ok b ≡ Err x → ⊥
-    never e = cc

@@ -1,8 +1,14 @@
 -- What a phase answers is what all phases answer.
-use Rattle.std.proofs.Common.{◌≡◌, ◌⊎◌, inl, inr, ℕ, List, refl, subst, sym, ◌∙◌, ap, Result, Ok, Err}
-use Rattle.first_form.specs.Program.{Program}
-use Rattle.ada_run.specs.Compile.{compiling, IsRefusal, Decides, refusal_of, GivesProgram, GivesRefusal}
-use Rattle.ada_run.specs.Complaints.{Complaint}
+use Rattle.std.proofs.Common.{◌≡◌, ◌⊎◌, inl, inr, ℕ, List, Bool, true, false, Some, None, refl, subst, sym, ◌∙◌, ap, Result, Ok, Err}
+use Rattle.ada_base.specs.Tokens.{Tokenized, kind_at, place_of_token}
+use Rattle.ada_tree.specs.Parsed.{IsSyntaxFault, IsTooDeep, is_left_out}
+use Rattle.ada_tree.specs.Syntax as syntax
+use Rattle.first_form.specs.Forming.{program_at}
+use Rattle.first_form.specs.Program.{Program, first_undeclared}
+use Rattle.first_form.specs.declared.program.Letter.{Letter}
+use Rattle.ada_run.specs.Compile.{compiling, parsing, forming, formed, named, IsRefusal, Decides, refusal_of, GivesProgram, GivesRefusal}
+use Rattle.ada_run.specs.Complaints.{Complaint, complaint, left_out, unexpected, unexpected_kind, too_deep, not_built, unknown_name}
+use Rattle.ada_run.specs.declared.note.Note.TheVariants as note
 use Rattle.ada_run.specs.Phases.{Phase, followed}
 use Rattle.ada_run.specs.declared.compiler.Unit.{Unit}
 use Rattle.ada_run.specs.declared.refusal.Refusal.{Refusal}
@@ -33,3 +39,25 @@ pub gives_refusal : (text : List ℕ) (result : Result Unit Refusal) (f : Compla
 gives_refusal text (Ok unit) f is wrong = compiling_exact.apart text unit.program f is wrong
 gives_refusal text (Err OutOfMemory) f is wrong = inl refl
 gives_refusal text (Err (Refused code at other note left_out)) f (c, is, same) wrong = inr (same ∙ ap refusal_of (compiling_exact.one_fault text c f is wrong))
+
+-- the refusals of parsing: of a token that is left out, of another one, and of one that stands too deep
+unexpected_refused : (t : Tokenized) (token : ℕ) (b : Bool) (r : Refusal) → IsSyntaxFault t.items token → is_left_out (kind_at t.items token) ≡ b → r ≡ refusal_of (unexpected_kind b (kind_at t.items token) (place_of_token t token)) → IsRefusal parsing t r
+unexpected_refused t token b r fault left same =
+    refuses parsing t (unexpected t token) r (inl (token, fault, refl)) (same ∙ ap (λ (b : Bool). refusal_of (unexpected_kind b (kind_at t.items token) (place_of_token t token))) (sym left))
+
+pub refuses_left_out : (t : Tokenized) (token : ℕ) (r : Refusal) → IsSyntaxFault t.items token → is_left_out (kind_at t.items token) ≡ true → r ≡ refusal_of (left_out (kind_at t.items token) (place_of_token t token)) → IsRefusal parsing t r
+refuses_left_out t token r fault left same = unexpected_refused t token true r fault left same
+
+pub refuses_syntax : (t : Tokenized) (token : ℕ) (r : Refusal) → IsSyntaxFault t.items token → is_left_out (kind_at t.items token) ≡ false → r ≡ refusal_of (complaint note.Syntax (place_of_token t token)) → IsRefusal parsing t r
+refuses_syntax t token r fault left same = unexpected_refused t token false r fault left same
+
+pub refuses_deep : (t : Tokenized) (token : ℕ) (r : Refusal) → IsTooDeep t.items token → r ≡ refusal_of (too_deep t token) → IsRefusal parsing t r
+refuses_deep t token r fault same = refuses parsing t (too_deep t token) r (inr (token, fault, refl)) same
+
+-- the refusals of forming: of another form, and of a name without a declaration
+pub refuses_form : (t : Tokenized) (tree : syntax.Program) (r : Refusal) → program_at t tree ≡ None → r ≡ refusal_of not_built → IsRefusal (forming t) tree r
+refuses_form t tree r none same = refuses (forming t) tree not_built r (ap (formed t) none) same
+
+pub refuses_name : (t : Tokenized) (tree : syntax.Program) (p : Program) (letter : Letter) (r : Refusal) → program_at t tree ≡ Some p → first_undeclared p ≡ Some letter → r ≡ refusal_of (unknown_name t letter.token) → IsRefusal (forming t) tree r
+refuses_name t tree p letter r found unknown same =
+    refuses (forming t) tree (unknown_name t letter.token) r (ap (formed t) found ∙ ap (named t p) unknown) same

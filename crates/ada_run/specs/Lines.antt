@@ -24,15 +24,12 @@ word_text None = []
 word_text (Some kind) = left_out_text kind
 
 -- a place as LINE:COLUMN
-abbrev pub place_text : Place → List ℕ
-place_text place = decimal place.line ++ (58 ∷ decimal place.column)
-
 abbrev pub other_text : Option Place → List ℕ
 other_text None = []
-other_text (Some place) = place_text place
+other_text (Some place) = decimal place.line ++ (58 ∷ decimal place.column)
 
 -- FILE:LINE:COLUMN: and the note, with its word or its other place
 abbrev pub line_of : List ℕ → Refusal → List ℕ
 line_of file (Refused code at other note left_out) =
-    file ++ (58 ∷ (place_text at ++ (codes ": " ++ (note_text note ++ (word_text left_out ++ other_text other)))))
+    file ++ (58 ∷ (decimal at.line ++ (58 ∷ (decimal at.column ++ (codes ": " ++ (note_text note ++ (word_text left_out ++ other_text other)))))))
 line_of file OutOfMemory = codes "out of memory"

@@ -4,7 +4,7 @@ ghost use Rattle.std.specs.Prelude.{◌≡◌, IfOk, string_bytes};
 ghost use Rattle.ada_base.specs.declared.token.Kind.TheVariants as kind;
 ghost use Rattle.ada_run.specs.Complaints.{complaint, left_out};
 ghost use Rattle.ada_run.specs.Compile.{refusal_of};
-ghost use Rattle.ada_run.specs.Lines.{line_of, left_out_text, word_text, place_text, other_text};
+ghost use Rattle.ada_run.specs.Lines.{line_of, left_out_text, word_text, other_text};
 
 use crate::note::Note;
 use ada_base::{Kind, Place};
