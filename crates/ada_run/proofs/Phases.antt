@@ -19,18 +19,18 @@ followed_exact {A} {B} {C} {F} p q e f = record {
     none a c x b r s (inl v) = e.apart a b x r v
     none a c x b r s (inr (b', r', v)) = (f a).apart b' c x (subst (λ z. (q a).right z c) (e.one_result a b b' r r') s) v
 
-ok_is : {B F : Type 0} {b c : B} → Ok {A = B} {E = F} b ≡ Ok c → b ≡ c
-ok_is e = cc
+ok_is : {B F : Type 0} (b c : B) → (let x : Result B F = Ok b in x ≡ Ok c) → b ≡ c
+ok_is b c e = cc
 
-err_is : {B F : Type 0} {x y : F} → Err {A = B} {E = F} x ≡ Err y → x ≡ y
-err_is e = cc
+err_is : {B F : Type 0} (x y : F) → (let z : Result B F = Err x in z ≡ Err y) → x ≡ y
+err_is x y e = cc
 
-ok_or_err : {B F : Type 0} {b : B} {x : F} → Ok b ≡ Err x → ⊥
-ok_or_err e = cc
+ok_or_err : {B F : Type 0} (b : B) (x : F) → (let z : Result B F = Ok b in z ≡ Err x) → ⊥
+ok_or_err b x e = absurd cc
 
 pub function_exact : {A B F : Type 0} → (f : A → Result B F) → IsExact (by_function f)
 function_exact f = record {
-    one_result = λ a b c r s. ok_is (sym r ∙ s);
-    one_fault = λ a x y v w. err_is (sym v ∙ w);
-    apart = λ a b x r v. ok_or_err (sym r ∙ v);
+    one_result = λ a b c r s. ok_is b c (sym r ∙ s);
+    one_fault = λ a x y v w. err_is x y (sym v ∙ w);
+    apart = λ a b x r v. ok_or_err b x (sym r ∙ v);
   }

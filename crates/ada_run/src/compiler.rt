@@ -9,7 +9,7 @@ ghost use Rattle.ada_lexer.specs.Lexed.{Tells};
 ghost use Rattle.first_form.specs.Program.{Program};
 ghost use Rattle.tree_views.specs.Trees.{program_of};
 ghost use Rattle.ada_run.specs.Complaints.{Complaint};
-ghost use Rattle.ada_run.specs.Compile.{Decides, IsRefusal, lexing, parsing, forming, compiling, refusal_of, IsAccepted, IsFaultOf, IsRefusalOf, GivesProgram, GivesRefusal};
+ghost use Rattle.ada_run.specs.Compile.{Decides, IsRefusal, lexing, parsing, forming, reading, compiling, refusal_of, IsAccepted, IsFaultOf, IsRefusalOf, GivesProgram, GivesRefusal};
 
 use crate::note::Note;
 use crate::refusal::Refusal;
@@ -46,10 +46,23 @@ pub fn compile(alloc: Global, text: &[u8]) -> Result<Unit, Refusal>
 fn compiled(alloc: Global, text: &[u8]) -> Result<Unit, Refusal>
     ensures { Decides compiling (λ unit. unit.program) text.now result }
 {
-    let tokens = tokens_of(alloc, text)?;
-    let tree = tree_of(alloc, &tokens)?;
-    let program = program_of(alloc, &tokens, &tree)?;
-    Ok(Unit { program })
+    match tokens_of(alloc, text) {
+        Ok(tokens) => unit_of(alloc, &tokens),
+        Err(refusal) => Err(refusal),
+    }
+}
+
+fn unit_of(alloc: Global, tokens: &Tokens) -> Result<Unit, Refusal>
+    ensures { Decides reading (λ unit. unit.program) tokens.now result }
+{
+    let tree = match tree_of(alloc, tokens) {
+        Ok(tree) => tree,
+        Err(refusal) => return Err(refusal),
+    };
+    match program_of(alloc, tokens, &tree) {
+        Ok(program) => Ok(Unit { program }),
+        Err(refusal) => Err(refusal),
+    }
 }
 
 fn tokens_of(alloc: Global, text: &[u8]) -> Result<Tokens, Refusal>
