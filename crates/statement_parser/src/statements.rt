@@ -1,16 +1,14 @@
 //! Statements without statements in them (5.1).
 
-ghost use Rattle.reader_laws.specs.Gives.{Gives};
+ghost use Rattle.ada_parser.specs.Reading.{Reads};
 ghost use Rattle.grammar_readers.specs.Statements as statements;
+ghost use Rattle.reader_laws.specs.Gives.{Gives};
+ghost use Rattle.tree_nodes.specs.Parts.{the_stmt, the_name, IsPart};
 ghost use Rattle.tree_nodes.specs.Rooted.{top, pop};
 ghost use Rattle.tree_nodes.specs.Stack.{parts};
-ghost use Rattle.tree_nodes.specs.Parts.{the_stmt, the_name, IsPart};
-ghost use Rattle.ada_parser.specs.Reading.{Reads};
 
 use crate::names::{maybe_identifier, pack};
-use ada_parser::Parser;
-use ada_parser::expressions::expr;
-use ada_parser::iterations::filter;
+use ada_parser::{Parser, expr, filter};
 use ada_tree::kinds::{ASSIGN, END, EXIT, NULL, RAISE, RETURN, SEMICOLON};
 use reader_laws::{Cursor, Fault};
 use tree_nodes::{Leaf, One, Two, leaf, nothing, one, two};
@@ -42,10 +40,11 @@ pub fn raise_from(parser: &mut Parser<'_>, levels: u32, at: u32) -> Result<(), F
     ensures { Reads the_stmt IsPart (parts parser.old.out) (statements.raise_from at parser.old.tokens) result parser.new.tokens (parts parser.new.out) }
 {
     if parser.tokens.peek() == SEMICOLON {
+        parser.tokens.take(SEMICOLON)?;
         nothing(&mut parser.out)?;
-    } else {
-        pack(parser, levels)?;
+        return one(&mut parser.out, One::Raise(at));
     }
+    pack(parser, levels)?;
     parser.tokens.take(SEMICOLON)?;
     one(&mut parser.out, One::Raise(at))
 }
@@ -78,16 +77,17 @@ pub fn return_from(parser: &mut Parser<'_>, levels: u32, at: u32) -> Result<(), 
     ensures { Reads the_stmt IsPart (parts parser.old.out) (statements.return_from levels at parser.old.tokens) result parser.new.tokens (parts parser.new.out) }
 {
     if parser.tokens.peek() == SEMICOLON {
+        parser.tokens.take(SEMICOLON)?;
         nothing(&mut parser.out)?;
-    } else {
-        expr(parser, levels)?;
+        return one(&mut parser.out, One::Return(at));
     }
+    expr(parser, levels)?;
     parser.tokens.take(SEMICOLON)?;
     one(&mut parser.out, One::Return(at))
 }
 
 /// A return statement (6.5).
-#[tactic(auto, unfolding(grammar_readers::specs::Statements::return))]
+#[tactic(auto, using(crate::proofs::Returns::return_is))]
 pub fn returning(parser: &mut Parser<'_>, levels: u32) -> Result<(), Fault>
     ensures { Reads the_stmt IsPart (parts parser.old.out) (statements.return levels parser.old.tokens) result parser.new.tokens (parts parser.new.out) }
 {

@@ -1,20 +1,21 @@
 //! Programs, context clauses and aspects (10.1, 13.1.1).
 
-ghost use Rattle.reader_laws.specs.Gives.{Gives};
+ghost use Rattle.ada_parser.specs.Reading.{Reads};
 ghost use Rattle.grammar_readers.specs.Units as units;
+ghost use Rattle.reader_laws.specs.Gives.{Gives};
+ghost use Rattle.tree_nodes.specs.Parts.{the_pack, the_policy, the_clause, the_aspect, the_unit, the_main, the_program, maybe_policy, maybe_aspect, IsPart, IsPack, IsPolicy, IsAspect};
 ghost use Rattle.tree_nodes.specs.Rooted.{top, pop};
 ghost use Rattle.tree_nodes.specs.Stack.{parts};
-ghost use Rattle.tree_nodes.specs.Parts.{the_pack, the_policy, the_clause, the_aspect, the_unit, the_main, the_program, maybe_policy, maybe_aspect, IsPart, IsPack, IsPolicy, IsAspect};
-ghost use Rattle.ada_parser.specs.Reading.{Reads};
 
 use crate::chains::{Chain, list};
 use crate::declarations::decl;
 use crate::names::{join_identifier, pack};
 use crate::subprograms::{begins_sub, ended, sub};
-use ada_parser::Parser;
-use ada_parser::levels::{below, opens};
-use ada_tree::kinds::{ARROW, CLOSE_ROUND, COMMA, IDENTIFIER, IS, OPEN_ROUND, PRAGMA, PROCEDURE, SEMICOLON, USE, WITH};
+use ada_parser::{Parser, below, opens};
 use ada_tree::ClauseWord;
+use ada_tree::kinds::{
+    ARROW, CLOSE_ROUND, COMMA, IDENTIFIER, IS, OPEN_ROUND, PRAGMA, PROCEDURE, SEMICOLON, USE, WITH,
+};
 use reader_laws::{Cursor, Fault};
 use tree_nodes::{Four, Leaf, Three, Two, four, leaf, nothing, three, two};
 
@@ -163,7 +164,7 @@ pub fn main_is(parser: &mut Parser<'_>, levels: u32, at: u32, defined: u32) -> R
 
 /// The main procedure (10.2).
 #[tactic(auto, unfolding(grammar_readers::specs::Units::main))]
-pub fn main(parser: &mut Parser<'_>, levels: u32) -> Result<(), Fault>
+pub fn main_procedure(parser: &mut Parser<'_>, levels: u32) -> Result<(), Fault>
     ensures { Reads the_main IsPart (parts parser.old.out) (units.main levels parser.old.tokens) result parser.new.tokens (parts parser.new.out) }
 {
     let at = parser.tokens.take(PROCEDURE)?;
@@ -179,6 +180,6 @@ pub fn program(parser: &mut Parser<'_>, levels: u32) -> Result<(), Fault>
 {
     optional_policy(parser, levels)?;
     list(parser, levels, Chain::Clauses)?;
-    main(parser, levels)?;
+    main_procedure(parser, levels)?;
     three(&mut parser.out, Three::Program)
 }
