@@ -1,5 +1,5 @@
 -- The rows of broken rules, computed.
-use Rattle.std.proofs.Common.{inl, inr, ⊎_elim, refl}
+use Rattle.std.proofs.Common.{inl, inr, ⊎_elim, refl, arith}
 use Rattle.ada_effects.specs.ClashRows.{ClashRows, TouchedRows}
 
 none : {C : Type 0} → ⊥ → C
