@@ -32,28 +32,25 @@ fn statements(alloc: Global, count: u32) -> Result<Tree, Fault> {
     Ok(finish(out))
 }
 
-/// The first tokens of the statements are counted up by 2 from 4 on; how many they are.
-fn counted(tree: &Tree) -> Option<u32> {
+/// Whether there are so many statements, with their first tokens counted up by 2 from 4 on.
+fn walks(tree: &Tree, count: u32) -> bool {
     let body = tree.body(tree.main(tree.program(tree.root()).main).body);
     let stmts = tree.stmts(body.stmts);
-    if of_stmts(tree, body.stmts) != 4 {
-        return None;
-    }
-    let mut count: u32 = 1;
     let mut at = stmts.more;
-    while let Some(cell) = tree.cell(at) {
-        if of_stmt(tree, cell.first) != count.wrapping_mul(2).wrapping_add(4) {
-            return None;
+    for n in 1..count {
+        match tree.cell(at) {
+            Some(cell) if of_stmt(tree, cell.first) == n.wrapping_mul(2).wrapping_add(4) => {
+                at = cell.rest;
+            }
+            _ => return false,
         }
-        count = count.wrapping_add(1);
-        at = cell.rest;
     }
-    Some(count)
+    of_stmts(tree, body.stmts) == 4 && tree.cell(at).is_none()
 }
 
-fn same(tree: Result<Tree, Fault>, count: u32) -> bool {
-    match tree {
-        Ok(tree) => counted(&tree) == Some(count),
+fn is_walked(alloc: Global, count: u32) -> bool {
+    match statements(alloc, count) {
+        Ok(tree) => walks(&tree, count),
         Err(_) => false,
     }
 }
@@ -61,7 +58,7 @@ fn same(tree: Result<Tree, Fault>, count: u32) -> bool {
 #[test]
 fn a_list_is_walked_front_to_back_whatever_its_length(rt: HostRuntime) {
     for count in [1, 2, 3, 100_000] {
-        assert!(rt; same(statements(rt.alloc(), count), count), "{count}");
+        assert!(rt; is_walked(rt.alloc(), count), "{count}");
     }
 }
 
