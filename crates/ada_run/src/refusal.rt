@@ -53,7 +53,8 @@ impl Refusal {
     }
 
     /// What is said of a refusal of the text in this file: the file, the fault's line and column, both from 1, and the
-    /// note's text, as `t.ada:5:10: E05 unknown name`.
+    /// note's text, as `t.ada:5:10: E05 unknown name`. The error is for want of memory. So far the refusal itself knows all
+    /// that is said, and nothing is read from the text.
     pub fn line(&self, alloc: Global, file: &str, text: &[u8]) -> Result<String, AllocError>
         ensures { IfOk result (λ line. string_bytes line ≡ line_of file.now self.now) }
     {
