@@ -120,6 +120,3 @@ fn latest(roots: &mut Items<u32>) -> u32
         None => 0,
     }
 }
-
-#[cfg(test)]
-mod tests;

@@ -1,10 +1,10 @@
-use super::Parts;
 use ada_base::{Base, Items, Op, Reason};
 use ada_typed::{
     Check, Class, Comparison, Expr, Iterated, Leaf, Link, Nodes, Object, Root, Run, Scalar, Sign,
     Span, Stmt, Typed, eval,
 };
 use std::alloc::AllocError;
+use typed_parts::Parts;
 
 const INTEGER: Class = Class::Integer(Base::Narrow);
 
