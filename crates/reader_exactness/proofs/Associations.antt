@@ -1,5 +1,5 @@
 -- The readers of ranges, arguments, choices and associations are exact, where those of what opens a bracket are.
-use Rattle.std.proofs.Common.{◌≡◌, ℕ, ◌≤◌, List, [], ◌∷◌, ◌++◌, true, false, Option, Some, None, inl, inr, refl, sym, subst, append-nil}
+use Rattle.std.proofs.Common.{◌≡◌, ℕ, ◌≤◌, [], ◌∷◌, ◌++◌, true, false, Option, Some, None, inl, inr, refl, sym, subst, append-nil}
 use Rattle.ada_base.specs.Symbols.{Word}
 use Rattle.ada_base.specs.Languages.{Language, Leaf, Quoted, Then, Or, Pure, Image, Given, ◌⋅◌}
 use Rattle.reader_laws.specs.Readers.{symbol}

@@ -1,5 +1,5 @@
 -- What a sum without operators, signs and brackets spells is its name, or its identifier.
-use Rattle.std.proofs.Common.{◌≡◌, ℕ, [], Option, Some, None, refl, ap, ◌∙◌, subst, append-nil, sym}
+use Rattle.std.proofs.Common.{◌≡◌, ℕ, Option, Some, None, refl, ap, ◌∙◌, subst}
 use Rattle.ada_base.specs.Symbols.{Word}
 use Rattle.ada_base.specs.Languages.{Leaf}
 use Rattle.reader_laws.proofs.Forms.{none_before, without_before, none_after, without_after}
@@ -7,7 +7,7 @@ use Rattle.ada_tree.specs.Kinds as kind
 use Rattle.ada_tree.specs.Syntax as syntax
 use Rattle.ada_tree.specs.Syntax.{Expr, Single, Joined, Rel, Alone, Compared, Within, OfMark, Simple, Sum, NoAdding, AlsoAdding, Term, Product, NoMultiplying, AlsoMultiplying, Factor, Operand, Power, Abs, Not, Primary, Number, Text, Target, Named, Group, If, Round, Square, OneValue, Reduction, Name, NoPart, AlsoPart}
 use Rattle.ada_tree.specs.Productions as spell
-use Rattle.ada_tree.specs.Joining.{bare_name, bare_identifier, identifier_of, name_identifier, rel_identifier, expr_identifier}
+use Rattle.ada_tree.specs.Joining.{bare_name, bare_identifier, identifier_of, name_identifier, expr_identifier}
 use Rattle.reader_exactness.proofs.Words.{Words}
 
 pub some_is : {A : Type 0} (a b : A) → Some a ≡ Some b → a ≡ b

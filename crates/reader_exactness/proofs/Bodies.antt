@@ -8,7 +8,7 @@ use Rattle.reader_laws.specs.Sets.{Sets, one_kind}
 use Rattle.reader_laws.specs.Exact.{Rule}
 use Rattle.reader_laws.proofs.Rules.{read, give, seq, or, to, is, same}
 use Rattle.reader_laws.proofs.Chains.{items}
-use Rattle.reader_laws.proofs.Forms.{from, without_after, none_after, at_second, either, form, keep, skip, lead, last}
+use Rattle.reader_laws.proofs.Forms.{from, without_after, either, form, keep, skip, lead}
 use Rattle.ada_tree.specs.Kinds as kind
 use Rattle.ada_tree.specs.Syntax as syntax
 use Rattle.ada_tree.specs.Syntax.{Expr, Choice, Pack, Handled, AnyOther, These, Stmt, Stmts, MoreStmts, OptionalStmts, AbsentStmts, PresentStmts, Arm, Alt, Body, Handler, Handlers, NoHandler, AlsoHandler}
@@ -120,8 +120,8 @@ module _ (limit n depth : ℕ) (levelled : n + depth ≡ limit) (next : Reader S
   rule_stmts =
       is stmts_sets (Words spell.stmts' depth) (keep rule_next (λ s. to (syntax.stmts s) (items stmt_kinds (stmts_listed depth) stmts_grow rule_next refl refl refl refl)) refl)
       (form (Words spell.stmts' depth) (λ b w l. l)) split refl where
-    split : (x : Stmts) (w : Word) → Words spell.stmts' depth x w → Image (λ (b : Stmt × MoreStmts). syntax.stmts b.0 b.1) (λ b. Words spell.stmt depth b.0 ⋅ Words spell.more_stmts depth b.1) x w
-    split (syntax.stmts s more) w l = ((s, more), refl, l)
+        split : (x : Stmts) (w : Word) → Words spell.stmts' depth x w → Image (λ (b : Stmt × MoreStmts). syntax.stmts b.0 b.1) (λ b. Words spell.stmt depth b.0 ⋅ Words spell.more_stmts depth b.1) x w
+        split (syntax.stmts s more) w l = ((s, more), refl, l)
 
   -- statements after a word or a mark
   pub rule_then_stmts : Rule limit (before_stmts kind.then_word) (After kind.then_word spell.stmts' depth) (reader.then_stmts n next)
@@ -144,9 +144,9 @@ module _ (limit n depth : ℕ) (levelled : n + depth ≡ limit) (next : Reader S
       is (before_stmts kind.when_word) (Words spell.handler' depth)
       (keep (one kind.when_word) (λ at. keep (rule_handled limit depth within) (λ h. to (syntax.handler at h) rule_arrow_stmts) refl) refl)
       (form (Words spell.handler' depth) (λ b w l. l)) split refl where
-    split : (x : Handler) (w : Word) → Words spell.handler' depth x w
-        → Image (λ (b : ℕ × (Handled × Stmts)). syntax.handler b.0 b.1.0 b.1.1) (λ b. Leaf depth kind.when_word b.0 ⋅ (Words spell.handled depth b.1.0 ⋅ After kind.arrow spell.stmts' depth b.1.1)) x w
-    split (syntax.handler at h s) w l = ((at, (h, s)), refl, l)
+        split : (x : Handler) (w : Word) → Words spell.handler' depth x w
+            → Image (λ (b : ℕ × (Handled × Stmts)). syntax.handler b.0 b.1.0 b.1.1) (λ b. Leaf depth kind.when_word b.0 ⋅ (Words spell.handled depth b.1.0 ⋅ After kind.arrow spell.stmts' depth b.1.1)) x w
+        split (syntax.handler at h s) w l = ((at, (h, s)), refl, l)
 
   abbrev HandlersWords : Handlers → Language
   HandlersWords = Image (λ (b : Handler × Handlers). AlsoHandler b.0 b.1) (λ b. Quoted depth kind.exception_word ⋅ (Words spell.handler' depth b.0 ⋅ Words spell.handlers depth b.1))
@@ -187,9 +187,9 @@ module _ (limit n depth : ℕ) (levelled : n + depth ≡ limit) (next : Reader S
       is (before_stmts kind.elsif_word) (Words spell.arm' depth)
       (keep (one kind.elsif_word) (λ at. keep expr (λ c. to (syntax.arm at c) rule_then_stmts) refl) refl)
       (form (Words spell.arm' depth) (λ b w l. l)) split refl where
-    split : (x : Arm) (w : Word) → Words spell.arm' depth x w
-        → Image (λ (b : ℕ × (Expr × Stmts)). syntax.arm b.0 b.1.0 b.1.1) (λ b. Leaf depth kind.elsif_word b.0 ⋅ (Words spell.expr depth b.1.0 ⋅ After kind.then_word spell.stmts' depth b.1.1)) x w
-    split (syntax.arm at c s) w l = ((at, (c, s)), refl, l)
+        split : (x : Arm) (w : Word) → Words spell.arm' depth x w
+            → Image (λ (b : ℕ × (Expr × Stmts)). syntax.arm b.0 b.1.0 b.1.1) (λ b. Leaf depth kind.elsif_word b.0 ⋅ (Words spell.expr depth b.1.0 ⋅ After kind.then_word spell.stmts' depth b.1.1)) x w
+        split (syntax.arm at c s) w l = ((at, (c, s)), refl, l)
 
   pub rule_arms : Rule limit (list_sets kind.elsif_word) (Words spell.arms depth) (reader.arms n next)
   unfolding reader.arms
@@ -223,10 +223,10 @@ module _ (limit n depth : ℕ) (levelled : n + depth ≡ limit) (next : Reader S
       is (before_stmts kind.when_word) (Words spell.alt' depth)
       (keep (one kind.when_word) (λ at. keep (association.rule_choice limit depth within (levels n) below) (λ c. keep rule_more_choices (λ cs. to (syntax.alt at c cs) rule_arrow_stmts) refl) refl) refl)
       (form (Words spell.alt' depth) (λ b w l. l)) split refl where
-    split : (x : Alt) (w : Word) → Words spell.alt' depth x w
-        → Image (λ (b : ℕ × (Choice × (List Choice × Stmts))). syntax.alt b.0 b.1.0 b.1.1.0 b.1.1.1)
-        (λ b. Leaf depth kind.when_word b.0 ⋅ (Words spell.choice depth b.1.0 ⋅ (MoreChoices b.1.1.0 ⋅ After kind.arrow spell.stmts' depth b.1.1.1))) x w
-    split (syntax.alt at c cs s) w l = ((at, (c, (cs, s))), refl, l)
+        split : (x : Alt) (w : Word) → Words spell.alt' depth x w
+            → Image (λ (b : ℕ × (Choice × (List Choice × Stmts))). syntax.alt b.0 b.1.0 b.1.1.0 b.1.1.1)
+            (λ b. Leaf depth kind.when_word b.0 ⋅ (Words spell.choice depth b.1.0 ⋅ (MoreChoices b.1.1.0 ⋅ After kind.arrow spell.stmts' depth b.1.1.1))) x w
+        split (syntax.alt at c cs s) w l = ((at, (c, (cs, s))), refl, l)
 
   pub rule_more_alts : Rule limit (list_sets kind.when_word) (Words spell.alts depth) (reader.more_alts n next)
   unfolding reader.more_alts

@@ -1,18 +1,18 @@
 -- The readers of lists of identifiers and of formal parameters are exact.
-use Rattle.std.proofs.Common.{◌≡◌, ℕ, zero, suc, ◌+◌, ◌<◌, ◌≤◌, List, [], ◌∷◌, ◌++◌, true, false, Option, Some, None, inl, inr, refl, sym, append-nil, arith}
-use Rattle.ada_base.specs.Symbols.{Symbol, Word, is_member}
-use Rattle.ada_base.specs.Languages.{Language, Leaf, Quoted, Then, Or, Pure, Image, ◌⋅◌, Begins, Inhabited}
+use Rattle.std.proofs.Common.{◌≡◌, ℕ, zero, suc, ◌+◌, ◌<◌, ◌≤◌, List, [], ◌∷◌, true, false, Option, Some, None, inl, inr, refl, sym, append-nil, arith}
+use Rattle.ada_base.specs.Symbols.{Symbol, Word}
+use Rattle.ada_base.specs.Languages.{Language, Leaf, Quoted, Then, Or, Pure, Image, Begins, Inhabited}
 use Rattle.reader_laws.specs.Readers.{symbol}
 use Rattle.reader_laws.specs.Sets.{Sets, one_kind}
 use Rattle.reader_laws.specs.Exact.{Rule}
-use Rattle.reader_laws.proofs.Depths.{BeginsTooDeep, exact_too_deep}
+use Rattle.reader_laws.proofs.Depths.{exact_too_deep}
 use Rattle.reader_laws.proofs.Rules.{read, give, seq, or, to, is}
 use Rattle.reader_laws.proofs.Chains.{items}
 use Rattle.reader_laws.proofs.Forms.{from, to_left, to_right, without_after, at_second, form, keep, skip, lead, last}
 use Rattle.reader_laws.proofs.Samples.{sample_as, sample_leaf, sample_free, sample_none, sample_both, kind_is, first_held, begins_held, sample_of}
 use Rattle.ada_tree.specs.Kinds as kind
 use Rattle.ada_tree.specs.Syntax.{Ids, Formal, Formals}
-use Rattle.ada_tree.specs.Patterns.{free, optional_of, each_of_after}
+use Rattle.ada_tree.specs.Patterns.{optional_of}
 use Rattle.ada_tree.specs.Productions as spell
 use Rattle.ada_tree.specs.declared.operators.Mode.{Mode}
 use Rattle.ada_tree.specs.declared.operators.Mode.TheVariants as mode'

@@ -1,15 +1,14 @@
 -- The reader of what stands in brackets and begins with neither `if` nor `for` is exact, where those of what opens a
 -- bracket are.
-use Rattle.std.proofs.Common.{◌≡◌, ℕ, ◌≤◌, List, [], ◌∷◌, ◌++◌, true, false, ◌⊎◌, inl, inr, refl, sym, ap, ◌∙◌, append-nil}
+use Rattle.std.proofs.Common.{◌≡◌, ℕ, ◌≤◌, [], ◌∷◌, ◌++◌, true, false, inl, inr, refl, sym, ap, ◌∙◌, append-nil}
 use Rattle.ada_base.specs.Symbols.{Word}
 use Rattle.ada_base.specs.Languages.{Language, Leaf, Quoted, Then, Or, Pure, Image, ◌⋅◌}
-use Rattle.reader_laws.specs.Readers.{symbol}
-use Rattle.reader_laws.specs.Sets.{Sets, one_kind}
+use Rattle.reader_laws.specs.Sets.{Sets}
 use Rattle.reader_laws.specs.Exact.{Rule}
-use Rattle.reader_laws.proofs.Rules.{read, give, seq, or, to, is}
-use Rattle.reader_laws.proofs.Forms.{from, to_left, to_right, without_after, at_first, keep}
+use Rattle.reader_laws.proofs.Rules.{give, seq, or, to, is}
+use Rattle.reader_laws.proofs.Forms.{from, to_left, to_right, without_after, keep}
 use Rattle.ada_tree.specs.Kinds as kind
-use Rattle.ada_tree.specs.Syntax.{Expr, Simple, Rel, Choice, Others, Many, Positions, PositionsOthers, FirstOthers, Associations, Assoc, Chosen, Each, Assocs}
+use Rattle.ada_tree.specs.Syntax.{Expr, Simple, Rel, Choice, Others, Many, Positions, PositionsOthers, FirstOthers, Associations, Assoc, Chosen, Each}
 use Rattle.ada_tree.specs.Productions as spell
 use Rattle.grammar_readers.specs.Opened.{Opened}
 use Rattle.grammar_readers.specs.Read.{Inside, OneInside, ManyInside}
@@ -130,8 +129,8 @@ module _ (limit depth : ℕ) (within : depth ≤ limit) (inner : Opened) (below 
     others at u is i = from (Words spell.choice depth) is i
   join_inside x w (inr (s, u, v, e, l, inl (c, u1, v1, e1, lc, k))) =
       from_choice c x w (as_choice (to_left {L = Words spell.simple depth s} {M = ChoiceFrom s c} {N = InsideChoice c x} (u, v, e, l, (u1, v1, e1, lc, k)))) where
-    as_choice : ((Words spell.simple depth s ⋅ ChoiceFrom s c) ⋅ InsideChoice c x) w → (Words spell.choice depth c ⋅ InsideChoice c x) w
-    as_choice (u, v, e, (u1, v1, e1, l, lc), k) = (u, v, e, association.join_choice_from limit depth within inner below c u (s, u1, v1, e1, l, lc), k)
+        as_choice : ((Words spell.simple depth s ⋅ ChoiceFrom s c) ⋅ InsideChoice c x) w → (Words spell.choice depth c ⋅ InsideChoice c x) w
+        as_choice (u, v, e, (u1, v1, e1, l, lc), k) = (u, v, e, association.join_choice_from limit depth within inner below c u (s, u1, v1, e1, l, lc), k)
   join_inside x w (inr (s, u, v, e, l, inr (r, u1, v1, e1, lr, (y, u2, v2, e2, le, k)))) = from_expr y x w (as_expr s r y w (u, v, e, l, (u1, v1, e1, lr, (u2, v2, e2, le, k))))
 
   -- ---- and back
@@ -143,8 +142,8 @@ module _ (limit depth : ℕ) (within : depth ≤ limit) (inner : Opened) (below 
       let (s, u2, v2, e2, ls, lm) = relation.split_rel limit depth within inner below r u1 lr in
       regrouped r s (to_right {L = Words spell.simple depth s} {M = RelFrom s r} {N = ExprFrom r y ⋅ InsideExpr y x}
       (to_right {L = Words spell.simple depth s ⋅ RelFrom s r} {M = ExprFrom r y} {N = InsideExpr y x} (u, v, e, (u1, v1, e1, (u2, v2, e2, ls, lm), le), k))) where
-    regrouped : (r : Rel) (s : Simple) → (Words spell.simple depth s ⋅ (RelFrom s r ⋅ (ExprFrom r y ⋅ InsideExpr y x))) w → InsideCases x w
-    regrouped r s (u, v, e, ls, (u1, v1, e1, lm, (u2, v2, e2, le, k))) = inr (s, u, v, e, ls, inr (r, u1, v1, e1, lm, (y, u2, v2, e2, le, k)))
+        regrouped : (r : Rel) (s : Simple) → (Words spell.simple depth s ⋅ (RelFrom s r ⋅ (ExprFrom r y ⋅ InsideExpr y x))) w → InsideCases x w
+        regrouped r s (u, v, e, ls, (u1, v1, e1, lm, (u2, v2, e2, le, k))) = inr (s, u, v, e, ls, inr (r, u1, v1, e1, lm, (y, u2, v2, e2, le, k)))
 
   split_choice : (c : Choice) (x : Inside) (w : Word) → (Words spell.choice depth c ⋅ InsideChoice c x) w → InsideCases x w
   split_choice c x w (u, v, e, l, k) = by (association.split_choice limit depth within inner below c u l) where

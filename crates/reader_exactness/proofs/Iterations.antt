@@ -1,5 +1,5 @@
 -- The readers of iterations and chunk specifications are exact, where those of what opens a bracket are.
-use Rattle.std.proofs.Common.{◌≡◌, ℕ, ◌≤◌, List, [], ◌∷◌, ◌++◌, true, false, Option, inl, inr, refl, sym, append-nil}
+use Rattle.std.proofs.Common.{◌≡◌, ℕ, ◌≤◌, [], ◌∷◌, true, false, Option, inl, inr, refl, sym, append-nil}
 use Rattle.ada_base.specs.Symbols.{Word}
 use Rattle.ada_base.specs.Languages.{Language, Leaf, Quoted, Then, Or, Pure, Image, ◌⋅◌}
 use Rattle.reader_laws.specs.Readers.{symbol}
@@ -12,10 +12,9 @@ use Rattle.ada_tree.specs.Syntax.{Expr, Name, Range, OptionalExpr, AbsentExpr, P
 use Rattle.ada_tree.specs.Patterns.{held, optional_of}
 use Rattle.ada_tree.specs.Productions as spell
 use Rattle.grammar_readers.specs.Opened.{Opened}
-use Rattle.grammar_readers.specs.Expressions as base
 use Rattle.grammar_readers.specs.Brackets as reader
 use Rattle.reader_exactness.proofs.Words.{Words, maybe}
-use Rattle.reader_exactness.proofs.Openings.{Opening, ChunkWords, name_sets, expr_sets}
+use Rattle.reader_exactness.proofs.Openings.{Opening, ChunkWords, expr_sets}
 use Rattle.reader_exactness.proofs.Sums.{rule_name}
 use Rattle.reader_exactness.proofs.Relations.{rule_expr}
 use Rattle.reader_exactness.proofs.Associations.{range_sets, rule_range}

@@ -1,8 +1,7 @@
 -- The readers of what opens a bracket are exact at each level, down to the one where no more may open.
-use Rattle.std.proofs.Common.{◌≡◌, ℕ, zero, suc, ◌+◌, ◌<◌, ◌≤◌, List, [], ◌∷◌, ◌++◌, Bool, true, false, ◌||◌, ◌==◌, None, inl, inr, refl, sym, ap, ◌∙◌, arith, append_assoc}
-use Rattle.ada_base.specs.Symbols.{Symbol, Nested, Word, is_member}
-use Rattle.ada_base.specs.Languages.{Language, Leaf, Quoted, Begins, Inhabited, ◌⋅◌}
-use Rattle.reader_laws.specs.Exact.{Rule}
+use Rattle.std.proofs.Common.{◌≡◌, ℕ, zero, suc, ◌+◌, ◌<◌, ◌≤◌, [], ◌∷◌, true, None, refl, arith}
+use Rattle.ada_base.specs.Symbols.{Symbol, Word, is_member}
+use Rattle.ada_base.specs.Languages.{Language, Leaf, Begins, Inhabited, ◌⋅◌}
 use Rattle.reader_laws.proofs.Depths.{BeginsTooDeep, exact_too_deep}
 use Rattle.reader_laws.proofs.Forms.{to_right}
 use Rattle.reader_laws.proofs.Samples.{sample_as, sample_leaf, sample_free, sample_none, sample_both, kind_is, first_held, first_free, begins_held, begins_free, sample_of}

@@ -1,13 +1,13 @@
 -- The readers of calls, chunk specifications and round brackets are exact, where those of what opens a bracket in them
 -- are.
-use Rattle.std.proofs.Common.{◌≡◌, ℕ, suc, ◌≤◌, List, [], ◌∷◌, ◌++◌, true, false, Option, Some, None, inl, inr, refl, sym, ap, ◌∙◌, subst}
+use Rattle.std.proofs.Common.{◌≡◌, ℕ, suc, ◌≤◌, [], ◌∷◌, true, false, Option, Some, None, inl, inr, refl, sym, ap, ◌∙◌, subst}
 use Rattle.ada_base.specs.Symbols.{Word}
-use Rattle.ada_base.specs.Languages.{Language, Leaf, Quoted, Then, Or, Pure, Image, Given, Empty, ◌⋅◌}
+use Rattle.ada_base.specs.Languages.{Language, Leaf, Quoted, Or, Pure, Image, Given, ◌⋅◌}
 use Rattle.reader_laws.specs.Readers.{symbol}
 use Rattle.reader_laws.specs.Sets.{Sets, one_kind}
 use Rattle.reader_laws.specs.Exact.{Rule}
 use Rattle.reader_laws.proofs.Singles.{exact_given}
-use Rattle.reader_laws.proofs.Rules.{read, give, seq, or, or_second, to, is}
+use Rattle.reader_laws.proofs.Rules.{read, give, or, or_second, to, is}
 use Rattle.reader_laws.proofs.Chains.{items}
 use Rattle.reader_laws.proofs.Forms.{from, to_left, to_right, without_before, at_second, form, keep, skip, lead, last}
 use Rattle.ada_tree.specs.Kinds as kind
@@ -115,8 +115,7 @@ module _ (limit depth : ℕ) (deeper : suc depth ≤ limit) (inner : Opened) (be
   split_chunk : (at : ℕ) (x : Parallel) (w : Word) → ChunkWords depth at x w → ChunkCases at x w
   split_chunk at (Counted n s) w (is, (u, v, e, o, (u1, v1, e1, l, c))) = ((s, (Counted n s, tt)), refl, (u, v, e, o, (u1, v1, e1, l, ([], v1, refl, inr (ap (λ z. Counted z s) is, refl), c))))
   split_chunk at (Chunked n i r) w (is, (u, v, e, o, k)) =
-      let (u1, v1, e1, l, (u2, v2, e2, m, c)) = to_right {L = Leaf D kind.identifier i} {M = Quoted D kind.in_word ⋅ Words spell.range D r} {N = Quoted D kind.close_round} k in
-      (
+      let (u1, v1, e1, l, (u2, v2, e2, m, c)) = to_right {L = Leaf D kind.identifier i} {M = Quoted D kind.in_word ⋅ Words spell.range D r} {N = Quoted D kind.close_round} k in (
         (sum_of (name_for i), (Chunked n i r, tt)),
         refl,
         (u, v, e, o, (u1, v1, e1, words_identifier D i u1 l, (u2, v2, e2, inl (subst (λ z. Given z (ChunkIn at) (Chunked n i r) u2) (sym (identifier_sum i)) (r, ap (λ z. Chunked z i r) is, m)), c))),
@@ -151,9 +150,9 @@ module _ (limit depth : ℕ) (deeper : suc depth ≤ limit) (inner : Opened) (be
   rule_next_elsif =
       is _ (Words spell.elsif' D) (keep (one kind.elsif_word) (λ at. keep expr (λ c. to (syntax.elsif at c) rule_then_value) refl) refl)
       (form (Words spell.elsif' D) (λ b w l. l)) split refl where
-    split : (x : Elsif) (w : Word) → Words spell.elsif' D x w
-        → Image (λ (b : ℕ × (Expr × Expr)). syntax.elsif b.0 b.1.0 b.1.1) (λ b. Leaf D kind.elsif_word b.0 ⋅ (Words spell.expr D b.1.0 ⋅ ThenValue b.1.1)) x w
-    split (syntax.elsif at c v) w l = ((at, (c, v)), refl, l)
+        split : (x : Elsif) (w : Word) → Words spell.elsif' D x w
+            → Image (λ (b : ℕ × (Expr × Expr)). syntax.elsif b.0 b.1.0 b.1.1) (λ b. Leaf D kind.elsif_word b.0 ⋅ (Words spell.expr D b.1.0 ⋅ ThenValue b.1.1)) x w
+        split (syntax.elsif at c v) w l = ((at, (c, v)), refl, l)
 
   rule_elsifs : Rule limit elsifs_sets (Words spell.elsifs D) (reader.elsifs inner)
   unfolding reader.elsifs
@@ -235,23 +234,21 @@ module _ (limit depth : ℕ) (deeper : suc depth ≤ limit) (inner : Opened) (be
   split_round : (x : Primary) (w : Word) → RoundWords depth x w → RoundCases x w
   unfolding spell.expr
   split_round (Group b y) w (u, v, e, o, (u1, v1, e1, l, c)) = ((b, (Group b y, tt)), refl, (u, v, e, o, (u1, v1, e1, inr (OneInside y, refl, inr l), c)))
-  split_round (If b at cond v1' more o1) w (u, v, e, o, (u1, v1, e1, l, c)) =
-      (
-        (b, (If b at cond v1' more o1, tt)),
-        refl,
-        (u, v, e, o, (u1, v1, e1, inl ((at, (cond, (v1', (more, o1)))), refl, at_second {L = Leaf D kind.if_word at} (λ y k. at_second {L = Words spell.expr D cond} (λ y k. to_left k) k) l), c)),
-      )
+  split_round (If b at cond v1' more o1) w (u, v, e, o, (u1, v1, e1, l, c)) = (
+    (b, (If b at cond v1' more o1, tt)),
+    refl,
+    (u, v, e, o, (u1, v1, e1, inl ((at, (cond, (v1', (more, o1)))), refl, at_second {L = Leaf D kind.if_word at} (λ y k. at_second {L = Words spell.expr D cond} (λ y k. to_left k) k) l), c)),
+  )
   split_round (Round b (Positions f s m)) w (u, v, e, o, (u1, v1, e1, l, c)) = ((b, (Round b (Positions f s m), tt)), refl, (u, v, e, o, (u1, v1, e1, inr (ManyInside (Positions f s m), refl, inr l), c)))
   split_round (Round b (PositionsOthers f s m at y)) w (u, v, e, o, (u1, v1, e1, l, c)) = ((b, (Round b (PositionsOthers f s m at y), tt)), refl, (u, v, e, o, (u1, v1, e1, inr (ManyInside (PositionsOthers f s m at y), refl, inr l), c)))
   split_round (Round b (FirstOthers f at y)) w (u, v, e, o, (u1, v1, e1, l, c)) = ((b, (Round b (FirstOthers f at y), tt)), refl, (u, v, e, o, (u1, v1, e1, inr (ManyInside (FirstOthers f at y), refl, inr l), c)))
   split_round (Round b (Associations (Chosen f m y) more)) w (u, v, e, o, (u1, v1, e1, l, c)) =
       ((b, (Round b (Associations (Chosen f m y) more), tt)), refl, (u, v, e, o, (u1, v1, e1, inr (ManyInside (Associations (Chosen f m y) more), refl, inr l), c)))
-  split_round (Round b (Associations (Each at i r y) more)) w (u, v, e, o, (u1, v1, e1, (u2, v2, e2, l, ls), c)) =
-      (
-        (b, (Round b (Associations (Each at i r y) more), tt)),
-        refl,
-        (u, v, e, o, (u1, v1, e1, inr (ManyInside (Associations (Each at i r y) more), refl, inl ((Each at i r y, Associations (Each at i r y) more), refl, (u2, v2, e2, ((at, (i, (r, y))), refl, l), (more, refl, ls)))), c)),
-      )
+  split_round (Round b (Associations (Each at i r y) more)) w (u, v, e, o, (u1, v1, e1, (u2, v2, e2, l, ls), c)) = (
+    (b, (Round b (Associations (Each at i r y) more), tt)),
+    refl,
+    (u, v, e, o, (u1, v1, e1, inr (ManyInside (Associations (Each at i r y) more), refl, inl ((Each at i r y, Associations (Each at i r y) more), refl, (u2, v2, e2, ((at, (i, (r, y))), refl, l), (more, refl, ls)))), c)),
+  )
   split_round (Number n) w l = absurd l
   split_round (Text n) w l = absurd l
   split_round (Target n) w l = absurd l

@@ -1,10 +1,10 @@
 -- The reader of the positions of an aggregate is exact, where those of what opens a bracket are.
-use Rattle.std.proofs.Common.{◌≡◌, ℕ, zero, suc, ◌≤◌, List, [], ◌∷◌, ◌++◌, length, Bool, true, false, if◌then◌else◌, ◌⊎◌, inl, inr, refl, sym, ap, ◌∙◌, subst, append-nil}
+use Rattle.std.proofs.Common.{◌≡◌, ℕ, zero, suc, ◌≤◌, List, [], ◌∷◌, length, Bool, true, false, if◌then◌else◌, ◌⊎◌, inl, inr, refl, sym, ap, ◌∙◌, subst, append-nil}
 use mathlib.Core.Path.{fun_ext}
 use Rattle.ada_base.specs.Symbols.{Symbol, Word, next_kind, is_member}
-use Rattle.ada_base.specs.Languages.{Language, Leaf, Quoted, Then, Or, Pure, Image, Empty, Repeated, ◌⋅◌}
+use Rattle.ada_base.specs.Languages.{Language, Leaf, Quoted, Then, Or, Image, Empty, Repeated, ◌⋅◌}
 use Rattle.reader_laws.specs.Readers.{Reader, Answer, Found, Refused, TooDeep, read_on, ◌>>=◌, ◌>>◌, ◌<$>◌, pure, symbol, by_next, step, repeat_for, repeat}
-use Rattle.reader_laws.specs.Sets.{Sets, one_kind}
+use Rattle.reader_laws.specs.Sets.{one_kind}
 use Rattle.reader_laws.specs.Exact.{Rule}
 use Rattle.reader_laws.proofs.Rules.{read, seq, or, to, is, loop}
 use Rattle.reader_laws.proofs.Forms.{from, to_left, to_right, none_before, without_before, none_after, without_after, at_second, keep}
@@ -190,8 +190,8 @@ module _ (limit depth : ℕ) (within : depth ≤ limit) (inner : Opened) (below 
   gathered first second (AlsoTail x t) more w (u, v, e, l, (u1, v1, e1, k, m)) =
       gathered first second t (exprs_and more x) w
       (let (y, z, e2, lk, m') = to_more in (y, z, e2, exprs_end more x y lk, m')) where
-    to_more : ((Words spell.exprs depth more ⋅ After kind.comma spell.expr depth x) ⋅ TailWords t) w
-    to_more = to_left (u, v, e, l, (u1, v1, e1, k, m))
+        to_more : ((Words spell.exprs depth more ⋅ After kind.comma spell.expr depth x) ⋅ TailWords t) w
+        to_more = to_left (u, v, e, l, (u1, v1, e1, k, m))
 
   abbrev tail_of : Exprs → Tail → Tail
   tail_of NoExpr t = t

@@ -1,5 +1,5 @@
 -- The readers of relations and expressions are exact, where those of what opens a bracket are.
-use Rattle.std.proofs.Common.{◌≡◌, ℕ, ◌≤◌, List, [], ◌∷◌, ◌++◌, true, false, Option, Some, None, inl, inr, refl, sym, subst, append-nil}
+use Rattle.std.proofs.Common.{◌≡◌, ℕ, ◌≤◌, [], ◌∷◌, true, false, Option, Some, None, inl, inr, refl, sym, subst, append-nil}
 use Rattle.ada_base.specs.Symbols.{Word, is_member}
 use Rattle.ada_base.specs.Languages.{Language, Leaf, Quoted, Then, Or, Pure, Image, Given, ◌⋅◌}
 use Rattle.reader_laws.specs.Readers.{Reader, symbol, ◌<$>◌}
@@ -8,7 +8,7 @@ use Rattle.reader_laws.specs.Exact.{Rule}
 use Rattle.reader_laws.proofs.Singles.{exact_given}
 use Rattle.reader_laws.proofs.Rules.{read, give, seq, or, to, is, same}
 use Rattle.reader_laws.proofs.Chains.{items}
-use Rattle.reader_laws.proofs.Forms.{from, to_left, to_right, none_before, without_before, without_after, either, form, keep, skip}
+use Rattle.reader_laws.proofs.Forms.{from, to_left, to_right, without_before, without_after, either, form, keep, skip}
 use Rattle.ada_tree.specs.Kinds as kind
 use Rattle.ada_tree.specs.Syntax as syntax
 use Rattle.ada_tree.specs.Syntax.{Expr, Single, Joined, Conjunct, Conjuncts, Rel, Alone, Compared, Within, OfMark, Simple}
@@ -168,8 +168,8 @@ module _ (limit depth : ℕ) (within : depth ≤ limit) (inner : Opened) (below 
   rule_conjunct op k f g =
       same (ConjunctWords op) (keep (one k) (λ at. to (syntax.conjunct at) rule_rel) refl)
       (form (ConjunctWords op) (λ b w (u, v, e, i, l). (u, v, e, f b.0 u i, l))) split where
-    split : (x : Conjunct) (w : Word) → ConjunctWords op x w → Image (λ (b : ℕ × Rel). syntax.conjunct b.0 b.1) (λ b. Leaf depth k b.0 ⋅ Words spell.rel depth b.1) x w
-    split (syntax.conjunct n r) w (u, v, e, i, l) = ((n, r), refl, (u, v, e, g n u i, l))
+        split : (x : Conjunct) (w : Word) → ConjunctWords op x w → Image (λ (b : ℕ × Rel). syntax.conjunct b.0 b.1) (λ b. Leaf depth k b.0 ⋅ Words spell.rel depth b.1) x w
+        split (syntax.conjunct n r) w (u, v, e, i, l) = ((n, r), refl, (u, v, e, g n u i, l))
 
   pub rule_short : (op : Logical) (k second : ℕ) → ((n : ℕ) (w : Word) → (Leaf depth k n ⋅ Quoted depth second) w → words_of (spell.logical_word op n depth) w)
       → ((n : ℕ) (w : Word) → words_of (spell.logical_word op n depth) w → (Leaf depth k n ⋅ Quoted depth second) w) → Rule limit (conjunct_sets k) (ConjunctWords op) (reader.short_conjunct inner k second)
@@ -177,8 +177,8 @@ module _ (limit depth : ℕ) (within : depth ≤ limit) (inner : Opened) (below 
   rule_short op k second f g =
       same (ConjunctWords op) (keep (one k) (λ at. skip (one second) (to (syntax.conjunct at) rule_rel) refl) refl)
       (form (ConjunctWords op) (λ b w l. let (u, v, e, i, m) = to_left l in (u, v, e, f b.0 u i, m))) split where
-    split : (x : Conjunct) (w : Word) → ConjunctWords op x w → Image (λ (b : ℕ × Rel). syntax.conjunct b.0 b.1) (λ b. Leaf depth k b.0 ⋅ (Quoted depth second ⋅ Words spell.rel depth b.1)) x w
-    split (syntax.conjunct n r) w (u, v, e, i, l) = ((n, r), refl, to_right {L = Leaf depth k n} {M = Quoted depth second} {N = Words spell.rel depth r} (u, v, e, g n u i, l))
+        split : (x : Conjunct) (w : Word) → ConjunctWords op x w → Image (λ (b : ℕ × Rel). syntax.conjunct b.0 b.1) (λ b. Leaf depth k b.0 ⋅ (Quoted depth second ⋅ Words spell.rel depth b.1)) x w
+        split (syntax.conjunct n r) w (u, v, e, i, l) = ((n, r), refl, to_right {L = Leaf depth k n} {M = Quoted depth second} {N = Words spell.rel depth r} (u, v, e, g n u i, l))
 
   -- after the first relation and the operator
   abbrev JoinedWords : Logical → Rel → ℕ → Expr → Language

@@ -1,6 +1,6 @@
 -- The reader of square brackets, of an aggregate or of a reduction, is exact, where those of what opens a bracket in
 -- them are.
-use Rattle.std.proofs.Common.{◌≡◌, ℕ, suc, ◌≤◌, List, [], ◌∷◌, ◌++◌, Bool, true, false, if◌then◌else◌, ◌⊎◌, Option, Some, None, inl, inr, refl, sym, ap, ◌∙◌, subst, append-nil, arith}
+use Rattle.std.proofs.Common.{◌≡◌, ℕ, suc, ◌≤◌, [], ◌∷◌, Bool, true, false, if◌then◌else◌, ◌⊎◌, Some, None, inl, inr, refl, sym, ap, ◌∙◌, subst, append-nil, arith}
 use Rattle.ada_base.specs.Symbols.{Word}
 use Rattle.ada_base.specs.Languages.{Language, Leaf, Quoted, Then, Or, Pure, Image, Empty, ◌⋅◌}
 use Rattle.reader_laws.specs.Readers.{Reader, read_on, ◌>>=◌, ◌>>◌, ◌<$>◌, pure, symbol, by_next}
@@ -237,10 +237,10 @@ module _ (limit depth : ℕ) (deeper : suc depth ≤ limit) (inner : Opened) (be
   as_each {Z} at i r v w l =
       group {A = Leaf D kind.for_word at} {B = Leaf D kind.identifier i} {C = Quoted D kind.in_word} {E = Words spell.range D r ⋅ Arrow v} {Z = Z}
       (at_second {L = Leaf D kind.for_word at} (λ y k. regroup (at_first (λ y' k'. from_iter i r y' k') k)) (without_before {L = Leaf D kind.for_word at ⋅ (Words spell.iter D (InRange i None r AbsentExpr) ⋅ (Arrow v ⋅ Z))} l)) where
-    regroup : {y : Word} → (PlainIter i r ⋅ (Arrow v ⋅ Z)) y → (Leaf D kind.identifier i ⋅ (Quoted D kind.in_word ⋅ ((Words spell.range D r ⋅ Arrow v) ⋅ Z))) y
-    regroup k =
-        at_second {L = Leaf D kind.identifier i} (λ y k. at_second {L = Quoted D kind.in_word} (λ y k. to_left {L = Words spell.range D r} {M = Arrow v} {N = Z} k) (to_right {L = Quoted D kind.in_word} {M = Words spell.range D r} {N = Arrow v ⋅ Z} k))
-        (to_right {L = Leaf D kind.identifier i} {M = Quoted D kind.in_word ⋅ Words spell.range D r} {N = Arrow v ⋅ Z} k)
+        regroup : {y : Word} → (PlainIter i r ⋅ (Arrow v ⋅ Z)) y → (Leaf D kind.identifier i ⋅ (Quoted D kind.in_word ⋅ ((Words spell.range D r ⋅ Arrow v) ⋅ Z))) y
+        regroup k =
+            at_second {L = Leaf D kind.identifier i} (λ y k. at_second {L = Quoted D kind.in_word} (λ y k. to_left {L = Words spell.range D r} {M = Arrow v} {N = Z} k) (to_right {L = Quoted D kind.in_word} {M = Words spell.range D r} {N = Arrow v ⋅ Z} k))
+            (to_right {L = Leaf D kind.identifier i} {M = Quoted D kind.in_word ⋅ Words spell.range D r} {N = Arrow v ⋅ Z} k)
 
   from_each : {Z : Language} (at i : ℕ) (r : Range) (v : Expr) (w : Word) → (Words spell.assoc D (Each at i r v) ⋅ Z) w → Valued AbsentParallel at (InRange i None r AbsentExpr) v Z w
   unfolding spell.expr
@@ -248,10 +248,10 @@ module _ (limit depth : ℕ) (deeper : suc depth ≤ limit) (inner : Opened) (be
       none_before {L = Leaf D kind.for_word at ⋅ (Words spell.iter D (InRange i None r AbsentExpr) ⋅ (Arrow v ⋅ Z))}
       (at_second {L = Leaf D kind.for_word at} (λ y k. at_first (λ y' k'. to_iter i r y' k') (regroup k))
       (ungroup {A = Leaf D kind.for_word at} {B = Leaf D kind.identifier i} {C = Quoted D kind.in_word} {E = Words spell.range D r ⋅ Arrow v} {Z = Z} l)) where
-    regroup : {y : Word} → (Leaf D kind.identifier i ⋅ (Quoted D kind.in_word ⋅ ((Words spell.range D r ⋅ Arrow v) ⋅ Z))) y → (PlainIter i r ⋅ (Arrow v ⋅ Z)) y
-    regroup k =
-        to_left {L = Leaf D kind.identifier i} {M = Quoted D kind.in_word ⋅ Words spell.range D r} {N = Arrow v ⋅ Z}
-        (at_second {L = Leaf D kind.identifier i} (λ y k. to_left {L = Quoted D kind.in_word} {M = Words spell.range D r} {N = Arrow v ⋅ Z} (at_second {L = Quoted D kind.in_word} (λ y k. to_right {L = Words spell.range D r} {M = Arrow v} {N = Z} k) k)) k)
+        regroup : {y : Word} → (Leaf D kind.identifier i ⋅ (Quoted D kind.in_word ⋅ ((Words spell.range D r ⋅ Arrow v) ⋅ Z))) y → (PlainIter i r ⋅ (Arrow v ⋅ Z)) y
+        regroup k =
+            to_left {L = Leaf D kind.identifier i} {M = Quoted D kind.in_word ⋅ Words spell.range D r} {N = Arrow v ⋅ Z}
+            (at_second {L = Leaf D kind.identifier i} (λ y k. to_left {L = Quoted D kind.in_word} {M = Words spell.range D r} {N = Arrow v ⋅ Z} (at_second {L = Quoted D kind.in_word} (λ y k. to_right {L = Words spell.range D r} {M = Arrow v} {N = Z} k) k)) k)
 
   -- values that are an association, and what ends them
   each_words : (b at i : ℕ) (r : Range) (v : Expr) (x : Primary) (w : Word)
@@ -323,14 +323,24 @@ module _ (limit depth : ℕ) (deeper : suc depth ≤ limit) (inner : Opened) (be
   split_square (Square b (FirstOthers f at y)) w (u, v, e, o, l) = (b, u, v, e, o, inr ((ManyInside (FirstOthers f at y), tt), refl, l))
   split_square (Square b (Associations (Chosen f m y) more)) w (u, v, e, o, l) = (b, u, v, e, o, inr ((ManyInside (Associations (Chosen f m y) more), tt), refl, l))
   split_square (Square b (Associations (Each at i r y) NoAssoc)) w (u, v, e, o, (u1, v1, e1, l, (n, c))) =
-      from_values b AbsentParallel at (InRange i None r AbsentExpr) y (Square b (Associations (Each at i r y) NoAssoc)) w
-      (u, v, e, o, from_each at i r y v
-      (u1, v1, e1, without_after {L = Words spell.assoc D (Each at i r y)} l, inl (refl, inr (n, v1, [], sym (append-nil v1), c, inr (refl, refl)))))
+      from_values b AbsentParallel at (InRange i None r AbsentExpr) y (Square b (Associations (Each at i r y) NoAssoc)) w (
+        u,
+        v,
+        e,
+        o,
+        from_each at i r y v
+            (u1, v1, e1, without_after {L = Words spell.assoc D (Each at i r y)} l, inl (refl, inr (n, v1, [], sym (append-nil v1), c, inr (refl, refl)))),
+      )
   split_square (Square b (Associations (Each at i r y) (AlsoAssoc a more))) w (u, v, e, o, k) =
       let (u1, v1, e1, l, (u2, v2, e2, m, c)) = to_right {L = Words spell.assoc D (Each at i r y)} {M = Words spell.assocs D (AlsoAssoc a more)} {N = Quoted D kind.close_square} k in
-      from_values b AbsentParallel at (InRange i None r AbsentExpr) y (Square b (Associations (Each at i r y) (AlsoAssoc a more))) w
-      (u, v, e, o, from_each at i r y v
-      (u1, v1, e1, l, inl (refl, inl ((Associations (Each at i r y) (AlsoAssoc a more), tt), refl, (u2, v2, e2, (AlsoAssoc a more, refl, (a, more, refl, to_left m)), c)))))
+      from_values b AbsentParallel at (InRange i None r AbsentExpr) y (Square b (Associations (Each at i r y) (AlsoAssoc a more))) w (
+        u,
+        v,
+        e,
+        o,
+        from_each at i r y v
+            (u1, v1, e1, l, inl (refl, inl ((Associations (Each at i r y) (AlsoAssoc a more), tt), refl, (u2, v2, e2, (AlsoAssoc a more, refl, (a, more, refl, to_left m)), c)))),
+      )
   split_square (Number n) w l = absurd l
   split_square (Text n) w l = absurd l
   split_square (Target n) w l = absurd l

@@ -1,5 +1,5 @@
 -- The readers of statements are exact at each level, down to the one where no statement may begin.
-use Rattle.std.proofs.Common.{◌≡◌, ℕ, zero, suc, ◌+◌, ◌<◌, List, [], ◌∷◌, true, Option, Some, None, refl, arith}
+use Rattle.std.proofs.Common.{◌≡◌, ℕ, zero, suc, ◌+◌, ◌<◌, [], ◌∷◌, true, Some, None, refl, arith}
 use Rattle.ada_base.specs.Symbols.{Symbol, Word, is_member}
 use Rattle.ada_base.specs.Languages.{Language, Leaf, Quoted, Empty, Begins, Inhabited, ◌⋅◌}
 use Rattle.reader_laws.specs.Exact.{Rule}

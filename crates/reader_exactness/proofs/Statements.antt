@@ -1,5 +1,5 @@
 -- The reader of a statement is exact, where that of the statements in it is.
-use Rattle.std.proofs.Common.{◌≡◌, ℕ, suc, ◌+◌, ◌≤◌, List, [], ◌∷◌, ◌++◌, true, false, Option, Some, None, inl, inr, refl, sym, ap, ◌∙◌, append-nil, arith}
+use Rattle.std.proofs.Common.{◌≡◌, ℕ, suc, ◌+◌, ◌≤◌, List, [], ◌∷◌, ◌++◌, false, Option, Some, None, inl, inr, refl, sym, arith}
 use Rattle.ada_base.specs.Symbols.{Word}
 use Rattle.ada_base.specs.Languages.{Language, Leaf, Quoted, Then, Or, Pure, Image, Given, Empty, ◌⋅◌}
 use Rattle.reader_laws.specs.Readers.{Reader, symbol}
@@ -7,7 +7,7 @@ use Rattle.reader_laws.specs.Sets.{Sets, one_kind}
 use Rattle.reader_laws.specs.Exact.{Rule}
 use Rattle.reader_laws.proofs.Singles.{exact_given}
 use Rattle.reader_laws.proofs.Rules.{read, seq, or, to, is}
-use Rattle.reader_laws.proofs.Forms.{from, to_left, to_right, none_before, without_before, without_after, at_second, keep, skip, last}
+use Rattle.reader_laws.proofs.Forms.{from, to_left, to_right, without_before, without_after, at_second, keep, skip, last}
 use Rattle.ada_tree.specs.Kinds as kind
 use Rattle.ada_tree.specs.Syntax.{Expr, Simple, Name, OptionalExpr, AbsentExpr, PresentExpr, Parallel, Unchunked, Counted, Chunked, Iter, Pack, Decl, Declare, Scheme, While, For, Stmt, Null, Assign, CallStmt, Exit, Return, Raise, IfStmt, Case, Loop, Block, ParallelBlock, Stmts, OptionalStmts, Arms, Alt, Alts, Branches, Body}
 use Rattle.ada_tree.specs.Joining.{name_identifier}
@@ -16,12 +16,11 @@ use Rattle.ada_tree.specs.Productions as spell
 use Rattle.grammar_readers.specs.Levels.{levels}
 use Rattle.grammar_readers.specs.Read.{option_of, count_of}
 use Rattle.grammar_readers.specs.Expressions as base
-use Rattle.grammar_readers.specs.Brackets as brackets
 use Rattle.grammar_readers.specs.Statements as reader
 use Rattle.grammar_readers.specs.Statements.{stmt_kinds}
 use Rattle.reader_exactness.proofs.Words.{Words, After}
 use Rattle.reader_exactness.proofs.Bares.{name_for, name_view, identifier_alone, alone_identifier}
-use Rattle.reader_exactness.proofs.Openings.{Opening, ChunkWords, name_sets, expr_sets}
+use Rattle.reader_exactness.proofs.Openings.{Opening, ChunkWords, expr_sets}
 use Rattle.reader_exactness.proofs.Sums.{rule_name}
 use Rattle.reader_exactness.proofs.Relations.{rule_expr}
 use Rattle.reader_exactness.proofs.Iterations as iteration
@@ -339,9 +338,14 @@ module _ (limit n around : ℕ) (levelled : n + suc around ≡ limit) (next : Re
 
   for_words : (label : Option ℕ) (p : Option Parallel) (x : Stmt) (w : Word) → (Words (optional_of spell.label) D label ⋅ (Words (optional_of spell.parallel) D p ⋅ ForFrom label p x)) w → W x w
   for_words label p x w (u, v, e, l, (u0, v0, e0, lp, (at, u1, v1, e1, i, (t, u2, v2, e2, lt, k)))) =
-      loop_words label (Some (For p at t)) x w
-      (u, v, e, l, to_left {L = Words (optional_of spell.parallel) D p} {M = Leaf D kind.for_word at ⋅ Words spell.iter D t} {N = LoopFrom label (Some (For p at t)) x}
-      (u0, v0, e0, lp, to_left {L = Leaf D kind.for_word at} {M = Words spell.iter D t} {N = LoopFrom label (Some (For p at t)) x} (u1, v1, e1, i, (u2, v2, e2, lt, k))))
+      loop_words label (Some (For p at t)) x w (
+        u,
+        v,
+        e,
+        l,
+        to_left {L = Words (optional_of spell.parallel) D p} {M = Leaf D kind.for_word at ⋅ Words spell.iter D t} {N = LoopFrom label (Some (For p at t)) x}
+            (u0, v0, e0, lp, to_left {L = Leaf D kind.for_word at} {M = Words spell.iter D t} {N = LoopFrom label (Some (For p at t)) x} (u1, v1, e1, i, (u2, v2, e2, lt, k))),
+      )
 
   block_words : (d : Option Declare) (x : Stmt) (w : Word) → (Words (optional_of spell.declare) D d ⋅ BlockFrom d x) w → W x w
   unfolding spell.stmt
@@ -376,8 +380,8 @@ module _ (limit n around : ℕ) (levelled : n + suc around ≡ limit) (next : Re
     unchunked at u i = iteration.unchunked_words limit D within (levels n) below at u i
   parallel_words x w (at, u, v, e, i, inr (inr (p, u1, v1, e1, lp, inl k))) =
       for_words None (Some p) x w ([], w, refl, refl, with_chunk (to_left {L = Leaf D kind.parallel_word at} {M = ChunkWords D at p} {N = ForFrom None (Some p) x} (u, v, e, i, (u1, v1, e1, lp, k)))) where
-    with_chunk : ((Leaf D kind.parallel_word at ⋅ ChunkWords D at p) ⋅ ForFrom None (Some p) x) w → (Words spell.parallel D p ⋅ ForFrom None (Some p) x) w
-    with_chunk (u, v, e, l, k) = (u, v, e, iteration.with_chunk limit D within (levels n) below at p u l, k)
+        with_chunk : ((Leaf D kind.parallel_word at ⋅ ChunkWords D at p) ⋅ ForFrom None (Some p) x) w → (Words spell.parallel D p ⋅ ForFrom None (Some p) x) w
+        with_chunk (u, v, e, l, k) = (u, v, e, iteration.with_chunk limit D within (levels n) below at p u l, k)
   parallel_words x w (at, u, v, e, i, inr (inr (p, u1, v1, e1, lp, inr g))) = by p lp g where
     by : (p : Parallel) → ChunkWords D at p u1 → Given (count_of p) (λ count. DoFrom at (Some count)) x v1 → W x w
     by (Counted n' count) (_, lc) k = do_words at (Some count) x w (u, v, e, i, (u1, v1, e1, lc, k))
@@ -421,11 +425,11 @@ module _ (limit n around : ℕ) (levelled : n + suc around ≡ limit) (next : Re
     by : Then (Leaf D kind.parallel_word) (λ at. Or (ChunkWords D at) (Pure (Unchunked at))) p u → OpenWords x w
     by (at, u1, v1, e1, i, inr (eq, none)) =
         inr (inr (inr (inr (inr (inr (inr (inr (inr (inl (at, u, v, e, from_u at u1 v1 e1 i none, inr (inl (from (λ z. ForFrom None (Some z) x) (sym eq) k)))))))))))) where
-      from_u : (at : ℕ) (u1 v1 : Word) → u ≡ u1 ++ v1 → Leaf D kind.parallel_word at u1 → v1 ≡ [] → Leaf D kind.parallel_word at u
-      from_u at u1 v1 e1 i none = without_after {L = Leaf D kind.parallel_word at} (u1, v1, e1, i, none)
+          from_u : (at : ℕ) (u1 v1 : Word) → u ≡ u1 ++ v1 → Leaf D kind.parallel_word at u1 → v1 ≡ [] → Leaf D kind.parallel_word at u
+          from_u at u1 v1 e1 i none = without_after {L = Leaf D kind.parallel_word at} (u1, v1, e1, i, none)
     by (at, u1, v1, e1, i, inl c) =
         let (u2, v2, e2, i', (u3, v3, e3, c', k')) = to_right {L = Leaf D kind.parallel_word at} {M = ChunkWords D at p} {N = ForFrom None (Some p) x} (u, v, e, (u1, v1, e1, i, c), k) in
-        inr (inr (inr (inr (inr (inr (inr (inr (inr (inl (at, u2, v2, e2, i', inr (inr (p, u3, v3, e3, c', inl k')))))))))))) 
+        inr (inr (inr (inr (inr (inr (inr (inr (inr (inl (at, u2, v2, e2, i', inr (inr (p, u3, v3, e3, c', inl k'))))))))))))
 
   -- from `do` on, as it is spelled
   abbrev DoWords : Stmts → Stmts → Branches → Language
@@ -453,33 +457,33 @@ module _ (limit n around : ℕ) (levelled : n + suc around ≡ limit) (next : Re
   split_stmt (Case at y a more) w l = inr (inr (inr (inr (inr (inr (inl ((at, (y, (a, (more, tt)))), refl, l)))))))
   split_stmt (Loop None None at s end m) w l =
       inr (inr (inr (inr (inr (inr (inr (inr (inr (inr (inl ((at, (s, (end, m))), refl, plain l))))))))))) where
-    plain : (Empty ⋅ (Empty ⋅ (Leaf D kind.loop_word at ⋅ (Words spell.stmts' D s ⋅ LoopEnd (end, m))))) w → (Leaf D kind.loop_word at ⋅ (Words spell.stmts' D s ⋅ LoopEnd (end, m))) w
-    plain l = without_before {L = Leaf D kind.loop_word at ⋅ (Words spell.stmts' D s ⋅ LoopEnd (end, m))} (without_before {L = Empty ⋅ (Leaf D kind.loop_word at ⋅ (Words spell.stmts' D s ⋅ LoopEnd (end, m)))} l)
+        plain : (Empty ⋅ (Empty ⋅ (Leaf D kind.loop_word at ⋅ (Words spell.stmts' D s ⋅ LoopEnd (end, m))))) w → (Leaf D kind.loop_word at ⋅ (Words spell.stmts' D s ⋅ LoopEnd (end, m))) w
+        plain l = without_before {L = Leaf D kind.loop_word at ⋅ (Words spell.stmts' D s ⋅ LoopEnd (end, m))} (without_before {L = Empty ⋅ (Leaf D kind.loop_word at ⋅ (Words spell.stmts' D s ⋅ LoopEnd (end, m)))} l)
   split_stmt (Loop (Some l) None at s end m) w (u, v, e, lab, k) =
       split_named l (Loop (Some l) None at s end m) w
       (u, v, e, lab, inr (inr (inr ((at, (s, (end, m))), refl, without_before {L = Leaf D kind.loop_word at ⋅ (Words spell.stmts' D s ⋅ LoopEnd (end, m))} k))))
   split_stmt (Loop None (Some (While n' c)) at s end m) w l =
       let (u, v, e, i, (u1, v1, e1, lc, k)) = to_right {L = Leaf D kind.while_word n'} {M = Words spell.expr D c} {N = Leaf D kind.loop_word at ⋅ (Words spell.stmts' D s ⋅ LoopEnd (end, m))}
-              (without_before {L = (Leaf D kind.while_word n' ⋅ Words spell.expr D c) ⋅ (Leaf D kind.loop_word at ⋅ (Words spell.stmts' D s ⋅ LoopEnd (end, m)))} l) in
+      (without_before {L = (Leaf D kind.while_word n' ⋅ Words spell.expr D c) ⋅ (Leaf D kind.loop_word at ⋅ (Words spell.stmts' D s ⋅ LoopEnd (end, m)))} l) in
       inr (inr (inr (inr (inr (inr (inr (inl (n', u, v, e, i, (c, u1, v1, e1, lc, ((at, (s, (end, m))), refl, k))))))))))
   split_stmt (Loop (Some l) (Some (While n' c)) at s end m) w (u0, v0, e0, lab, k0) =
       let (u, v, e, i, (u1, v1, e1, lc, k)) = to_right {L = Leaf D kind.while_word n'} {M = Words spell.expr D c} {N = Leaf D kind.loop_word at ⋅ (Words spell.stmts' D s ⋅ LoopEnd (end, m))} k0 in
       split_named l (Loop (Some l) (Some (While n' c)) at s end m) w (u0, v0, e0, lab, inl (n', u, v, e, i, (c, u1, v1, e1, lc, ((at, (s, (end, m))), refl, k))))
   split_stmt (Loop None (Some (For p n' i)) at s end m) w l =
       by p (split_for p n' i None (Loop None (Some (For p n' i)) at s end m) w (with_image (without_before {L = Words spell.scheme D (For p n' i) ⋅ (Leaf D kind.loop_word at ⋅ (Words spell.stmts' D s ⋅ LoopEnd (end, m)))} l))) where
-    with_image : (Words spell.scheme D (For p n' i) ⋅ (Leaf D kind.loop_word at ⋅ (Words spell.stmts' D s ⋅ LoopEnd (end, m)))) w → (Words spell.scheme D (For p n' i) ⋅ LoopFrom None (Some (For p n' i)) (Loop None (Some (For p n' i)) at s end m)) w
-    with_image (u, v, e, l, k) = (u, v, e, l, ((at, (s, (end, m))), refl, k))
+        with_image : (Words spell.scheme D (For p n' i) ⋅ (Leaf D kind.loop_word at ⋅ (Words spell.stmts' D s ⋅ LoopEnd (end, m)))) w → (Words spell.scheme D (For p n' i) ⋅ LoopFrom None (Some (For p n' i)) (Loop None (Some (For p n' i)) at s end m)) w
+        with_image (u, v, e, l, k) = (u, v, e, l, ((at, (s, (end, m))), refl, k))
 
-    by : (q : Option Parallel) → (Words (optional_of spell.parallel) D q ⋅ ForFrom None q (Loop None (Some (For p n' i)) at s end m)) w → OpenWords (Loop None (Some (For p n' i)) at s end m) w
-    by None k = inr (inr (inr (inr (inr (inr (inr (inr (inl (without_before {L = ForFrom None None (Loop None (Some (For p n' i)) at s end m)} k)))))))))
-    by (Some q) k = split_parallel q (Loop None (Some (For p n' i)) at s end m) w k
+        by : (q : Option Parallel) → (Words (optional_of spell.parallel) D q ⋅ ForFrom None q (Loop None (Some (For p n' i)) at s end m)) w → OpenWords (Loop None (Some (For p n' i)) at s end m) w
+        by None k = inr (inr (inr (inr (inr (inr (inr (inr (inl (without_before {L = ForFrom None None (Loop None (Some (For p n' i)) at s end m)} k)))))))))
+        by (Some q) k = split_parallel q (Loop None (Some (For p n' i)) at s end m) w k
   split_stmt (Loop (Some l) (Some (For p n' i)) at s end m) w (u0, v0, e0, lab, (u1, v1, e1, sch, k1)) =
       split_named l (Loop (Some l) (Some (For p n' i)) at s end m) w
       (u0, v0, e0, lab, by p (split_for p n' i (Some l) (Loop (Some l) (Some (For p n' i)) at s end m) v0 (u1, v1, e1, sch, ((at, (s, (end, m))), refl, k1)))) where
-    by : (q : Option Parallel) → (Words (optional_of spell.parallel) D q ⋅ ForFrom (Some l) q (Loop (Some l) (Some (For p n' i)) at s end m)) v0
-        → AnyLoop l (Loop (Some l) (Some (For p n' i)) at s end m) v0
-    by None k = inr (inl (without_before {L = ForFrom (Some l) None (Loop (Some l) (Some (For p n' i)) at s end m)} k))
-    by (Some q) (u, v, e, lq, k) = inr (inr (inl (q, u, v, e, lq, k)))
+        by : (q : Option Parallel) → (Words (optional_of spell.parallel) D q ⋅ ForFrom (Some l) q (Loop (Some l) (Some (For p n' i)) at s end m)) v0
+            → AnyLoop l (Loop (Some l) (Some (For p n' i)) at s end m) v0
+        by None k = inr (inl (without_before {L = ForFrom (Some l) None (Loop (Some l) (Some (For p n' i)) at s end m)} k))
+        by (Some q) (u, v, e, lq, k) = inr (inr (inl (q, u, v, e, lq, k)))
   split_stmt (Block None at b) w l =
       inr (inr (inr (inr (inr (inr (inr (inr (inr (inr (inr (inr ((at, (b, tt)), refl, without_before {L = Leaf D kind.begin_word at ⋅ (Words spell.body' D b ⋅ (Quoted D kind.end_word ⋅ Quoted D kind.semicolon))} l))))))))))))
   split_stmt (Block (Some d) at b) w l =

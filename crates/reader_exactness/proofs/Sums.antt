@@ -1,9 +1,9 @@
 -- The readers of names and sums are exact, where those of what opens a bracket are.
-use Rattle.std.proofs.Common.{◌≡◌, ℕ, ◌≤◌, List, [], ◌∷◌, ◌++◌, false, true, Option, Some, None, inl, inr, refl, sym, append-nil}
+use Rattle.std.proofs.Common.{ℕ, ◌≤◌, [], ◌∷◌, ◌++◌, false, true, Some, None, inl, inr, refl, sym, append-nil}
 use Rattle.ada_base.specs.Symbols.{Word}
 use Rattle.ada_base.specs.Languages.{Language, Leaf, Quoted, Then, Or, Pure, Image, ◌⋅◌}
 use Rattle.reader_laws.specs.Readers.{symbol, ◌<$>◌}
-use Rattle.reader_laws.specs.Sets.{Sets, one_kind}
+use Rattle.reader_laws.specs.Sets.{one_kind}
 use Rattle.reader_laws.specs.Exact.{Rule}
 use Rattle.reader_laws.proofs.Rules.{read, give, seq, or, to, is}
 use Rattle.reader_laws.proofs.Chains.{items, begun}
@@ -72,8 +72,8 @@ module _ (limit depth : ℕ) (within : depth ≤ limit) (inner : Opened) (below 
   rule_name =
       is name_sets (Words spell.name' depth) (keep (one kind.identifier) (λ n. begun part_kinds (parts_listed depth) parts_grow rule_part refl refl refl refl (syntax.name n)) refl)
       (form (Words spell.name' depth) (λ b w l. l)) split refl where
-    split : (x : Name) (w : Word) → Words spell.name' depth x w → Image (λ (b : ℕ × syntax.Parts). syntax.name b.0 b.1) (λ b. Leaf depth kind.identifier b.0 ⋅ Words spell.parts depth b.1) x w
-    split (syntax.name n ps) w l = ((n, ps), refl, l)
+        split : (x : Name) (w : Word) → Words spell.name' depth x w → Image (λ (b : ℕ × syntax.Parts). syntax.name b.0 b.1) (λ b. Leaf depth kind.identifier b.0 ⋅ Words spell.parts depth b.1) x w
+        split (syntax.name n ps) w l = ((n, ps), refl, l)
 
   -- ---- primaries and factors
 
@@ -196,17 +196,17 @@ module _ (limit depth : ℕ) (within : depth ≤ limit) (inner : Opened) (below 
   rule_multiplied =
       is multiplying_sets (Words spell.multiplying' depth) (keep rule_times (λ o. to (syntax.multiplying o.0 o.1) rule_factor) refl)
       (form (Words spell.multiplying' depth) (λ b w l. l)) split refl where
-    split : (x : Multiplying) (w : Word) → Words spell.multiplying' depth x w
-        → Image (λ (b : (Multiplicative × ℕ) × Factor). syntax.multiplying b.0.0 b.0.1 b.1) (λ b. Times b.0 ⋅ Words spell.factor depth b.1) x w
-    split (syntax.multiplying o at f) w l = (((o, at), f), refl, l)
+        split : (x : Multiplying) (w : Word) → Words spell.multiplying' depth x w
+            → Image (λ (b : (Multiplicative × ℕ) × Factor). syntax.multiplying b.0.0 b.0.1 b.1) (λ b. Times b.0 ⋅ Words spell.factor depth b.1) x w
+        split (syntax.multiplying o at f) w l = (((o, at), f), refl, l)
 
   rule_term : Rule limit term_sets (Words spell.term depth) (reader.term inner)
   unfolding reader.term spell.expr
   rule_term =
       is term_sets (Words spell.term depth) (keep rule_factor (λ f. begun multiplying_kinds (multiplyings_listed depth) multiplyings_grow rule_multiplied refl refl refl refl (Product f)) refl)
       (form (Words spell.term depth) (λ b w l. l)) split refl where
-    split : (x : Term) (w : Word) → Words spell.term depth x w → Image (λ (b : Factor × syntax.Multiplyings). Product b.0 b.1) (λ b. Words spell.factor depth b.0 ⋅ Words spell.multiplyings depth b.1) x w
-    split (Product f ms) w l = ((f, ms), refl, l)
+        split : (x : Term) (w : Word) → Words spell.term depth x w → Image (λ (b : Factor × syntax.Multiplyings). Product b.0 b.1) (λ b. Words spell.factor depth b.0 ⋅ Words spell.multiplyings depth b.1) x w
+        split (Product f ms) w l = ((f, ms), refl, l)
 
   -- ---- sums
 
@@ -230,8 +230,8 @@ module _ (limit depth : ℕ) (within : depth ≤ limit) (inner : Opened) (below 
   rule_added =
       is adding_sets (Words spell.adding' depth) (keep rule_adds (λ o. to (syntax.adding o.0 o.1) rule_term) refl)
       (form (Words spell.adding' depth) (λ b w l. l)) split refl where
-    split : (x : Adding) (w : Word) → Words spell.adding' depth x w → Image (λ (b : (Additive × ℕ) × Term). syntax.adding b.0.0 b.0.1 b.1) (λ b. Adds b.0 ⋅ Words spell.term depth b.1) x w
-    split (syntax.adding o at t) w l = (((o, at), t), refl, l)
+        split : (x : Adding) (w : Word) → Words spell.adding' depth x w → Image (λ (b : (Additive × ℕ) × Term). syntax.adding b.0.0 b.0.1 b.1) (λ b. Adds b.0 ⋅ Words spell.term depth b.1) x w
+        split (syntax.adding o at t) w l = (((o, at), t), refl, l)
 
   rule_addings : Rule limit (record { first = adding_kinds; nullable = true; follow_last = term_sets.follow_last ++ adding_kinds }) (Words spell.addings depth) (reader.addings inner)
   unfolding reader.addings

@@ -1,10 +1,8 @@
 -- The readers of subprograms and programs are exact at each level; the answer for a list of kinds is right, and a list
 -- has one tree at most.
-use Rattle.std.proofs.Common.{◌≡◌, ℕ, zero, suc, ◌+◌, ◌<◌, ◌≤◌, List, [], ◌∷◌, ◌++◌, true, false, Option, Some, None, inl, inr, refl, arith}
+use Rattle.std.proofs.Common.{◌≡◌, ℕ, zero, suc, ◌+◌, ◌<◌, ◌≤◌, List, [], ◌∷◌, true, false, Option, Some, None, inl, inr, refl, arith}
 use Rattle.ada_base.specs.Symbols.{Symbol, Word, numbered, is_member}
 use Rattle.ada_base.specs.Languages.{Language, Leaf, Quoted, Then, Or, Image, Empty, Begins, ◌⋅◌}
-use Rattle.ada_base.specs.Derivations as lists
-use Rattle.ada_base.specs.declared.token.Token.{Token}
 use Rattle.reader_laws.specs.Readers.{symbol}
 use Rattle.reader_laws.specs.Sets.{Sets, one_kind}
 use Rattle.reader_laws.specs.Exact.{Rule}
@@ -12,31 +10,29 @@ use Rattle.reader_laws.specs.Settled.{Verdict}
 use Rattle.reader_laws.proofs.Depths.{BeginsTooDeep, exact_too_deep}
 use Rattle.reader_laws.proofs.Rules.{read, seq, or, to, is}
 use Rattle.reader_laws.proofs.Chains.{items}
-use Rattle.reader_laws.proofs.Forms.{from, to_left, to_right, none_before, without_before, at_second, either, form, keep, skip, lead, last}
+use Rattle.reader_laws.proofs.Forms.{from, without_before, either, form, keep, skip, lead, last}
 use Rattle.reader_laws.proofs.Samples.{sample_leaf, sample_free, sample_none, sample_both, kind_is, for_member, first_held, first_free, begins_held, begins_free, sample_of}
 use Rattle.reader_laws.proofs.Verdicts.{verdict}
 use Rattle.reader_laws.proofs.OneTree.{one_tree}
-use Rattle.ada_tree.specs.Grammar.{ProgramWords, Derives, IsTreeOf}
-use Rattle.ada_tree.specs.TokenKinds.{kinds_of}
+use Rattle.ada_tree.specs.Grammar.{ProgramWords, Derives}
 use Rattle.ada_tree.specs.Kinds as kind
-use Rattle.ada_tree.specs.Syntax.{Expr, Formals, Decl, Body, Pack, Aspect, Sub, Procedure, Function, ExprFunction, Unit', DeclUnit, SubUnit, Policy, Clause, Main, Program}
-use Rattle.ada_tree.specs.Patterns.{Spelling, free, optional_of, optional_of_after, each_of, each_of_after, ◌then◌}
+use Rattle.ada_tree.specs.Syntax.{Expr, Formals, Decl, Body, Aspect, Sub, Procedure, Function, ExprFunction, Unit', DeclUnit, SubUnit, Policy, Clause, Main, Program}
+use Rattle.ada_tree.specs.Patterns.{Spelling, free, optional_of, optional_of_after, each_of}
 use Rattle.ada_tree.specs.Productions as spell
 use Rattle.ada_tree.specs.declared.operators.ClauseWord.{ClauseWord}
 use Rattle.ada_tree.specs.declared.operators.ClauseWord.TheVariants as word
 use Rattle.grammar_readers.specs.Levels.{levels}
 use Rattle.grammar_readers.specs.Read.{Ended, Valued}
-use Rattle.grammar_readers.specs.Expressions as base
 use Rattle.grammar_readers.specs.Declarations.{decl_kinds}
 use Rattle.grammar_readers.specs.Statements as stated
 use Rattle.grammar_readers.specs.Units as reader
 use Rattle.grammar_readers.specs.Units.{sub_kinds, unit_kinds, clause_kinds}
 use Rattle.reader_exactness.proofs.Words.{Words, After, maybe, maybe_after, list_grows, each_listed, each_after_listed}
-use Rattle.reader_exactness.proofs.Openings.{round_sets, expr_sets}
+use Rattle.reader_exactness.proofs.Openings.{round_sets}
 use Rattle.reader_exactness.proofs.Relations.{rule_expr}
 use Rattle.reader_exactness.proofs.Levels.{opening_at, sample_expr}
 use Rattle.reader_exactness.proofs.Formals.{rule_maybe_formals}
-use Rattle.reader_exactness.proofs.Declarations.{decl_sets, rule_decl, rule_decls}
+use Rattle.reader_exactness.proofs.Declarations.{rule_decl, rule_decls}
 use Rattle.reader_exactness.proofs.Bodies as inside
 use Rattle.reader_exactness.proofs.Bodies.{maybe_identifier_sets, pack_sets, body_sets, rule_pack, rule_maybe_identifier, rule_body}
 use Rattle.reader_exactness.proofs.StatementLevels.{rule_stmt, sample_body}

@@ -1,5 +1,5 @@
 -- What optional parts and lists spell.
-use Rattle.std.proofs.Common.{◌≡◌, ℕ, List, [], ◌∷◌, ◌++◌, false, true, ◌⊎◌, Option, Some, None, inl, inr, refl, sym, ap, append_assoc, append-nil}
+use Rattle.std.proofs.Common.{◌≡◌, ℕ, List, [], ◌∷◌, ◌++◌, false, true, ◌⊎◌, Option, Some, None, inl, inr, refl, sym, append_assoc, append-nil}
 use Rattle.ada_base.specs.Symbols.{Word}
 use Rattle.ada_base.specs.Languages.{Language, Quoted, Or, Pure, Image, Empty, ◌⋅◌}
 use Rattle.reader_laws.specs.Readers.{Reader, ◌<$>◌, pure, by_next}

@@ -1,8 +1,8 @@
 -- Words of what is made of parts, from any number on, and words that begin with a given symbol.
 use Rattle.std.proofs.Common.{◌≡◌, ℕ, suc, ◌<◌, List, [], ◌∷◌, ◌++◌, Bool, true, false, ◌||◌, ◌==◌, refl, sym, ap, ◌∙◌, subst}
 use Rattle.std.proofs.lemmas.Bool.Decides.{Decides-eqb}
-use Rattle.ada_base.specs.Symbols.{Symbol, Nested, Word, is_member}
-use Rattle.ada_base.specs.Languages.{Language, Leaf, Quoted, Empty, ◌⋅◌, Image, Then, Begins, Inhabited}
+use Rattle.ada_base.specs.Symbols.{Symbol, Word, is_member}
+use Rattle.ada_base.specs.Languages.{Language, Leaf, Quoted, Empty, ◌⋅◌, Image, Begins, Inhabited}
 use Rattle.reader_laws.proofs.Depths.{BeginsTooDeep}
 use Rattle.reader_laws.proofs.Renamings.{begins_as}
 use Rattle.reader_laws.proofs.Singles.{inhabited_leaf}
@@ -66,8 +66,8 @@ pub begins_held : {A B : Type 0} {L : A → Language} {M : B → Language} (d k 
 begins_held d k t is f g sample next =
     let (b, w, more, m, e) = sample next in
     (f b, record { symbol = t; depth = d } ∷ w, more, g b (record { symbol = t; depth = d } ∷ w) (record { symbol = t; depth = d } ∷ [], w, refl, opening, m), ap (λ z. t ∷ z) e) where
-  opening : Leaf d k t.number (record { symbol = t; depth = d } ∷ [])
-  opening = ap (λ z. record { symbol = record { number = t.number; kind = z }; depth = d } ∷ []) (sym is)
+      opening : Leaf d k t.number (record { symbol = t; depth = d } ∷ [])
+      opening = ap (λ z. record { symbol = record { number = t.number; kind = z }; depth = d } ∷ []) (sym is)
 
 pub begins_free : {A B : Type 0} {L : A → Language} {M : B → Language} (d k : ℕ) (t : Symbol) → k ≡ t.kind → (f : B → A) → ((b : B) (w : Word) → (Quoted d k ⋅ M b) w → L (f b) w)
     → Inhabited M → Begins L (t ∷ [])
