@@ -1,10 +1,11 @@
 -- What functions ensure that read parts of declarations, statements and programs.
-use Rattle.std.specs.Prelude.{◌≡◌, ℕ, Option, Some, None, List, Result, Ok, Err}
+use Rattle.std.specs.Prelude.{◌≡◌, ℕ, Bool, Option, Some, None, List, Result, Ok, Err}
 use Rattle.reader_laws.specs.declared.fault.Fault.{Fault}
 use Rattle.reader_laws.specs.declared.fault.Fault.TheVariants as fault
 use Rattle.grammar_readers.specs.Read.{Indexes, Ended, Valued}
-use Rattle.tree_nodes.specs.Parts.{Part, the_range, the_ranges, the_body, the_bracketed, maybe_token}
-use Rattle.tree_nodes.specs.Rooted.{top, pop}
+use Rattle.tree_nodes.specs.Parts.{Part, the_range, the_ranges, the_body, the_bracketed, maybe_token, maybe_parallel}
+use Rattle.tree_nodes.specs.Rooted.{top, second, pop}
+use Rattle.ada_parser.specs.Reading.{chunk_form}
 
 -- an identifier or nothing is the latest part, unless memory failed
 abbrev pub JoinsToken : {U : Type 0} → Option ℕ → Result U Fault → List Part → List Part → Type 0
@@ -33,3 +34,9 @@ AnyName _ _ = Unit {0}
 -- the expression of an expression function in its brackets
 abbrev pub valued_of : Part → Valued
 valued_of p = record { bracket = (the_bracketed p).bracket; value = (the_bracketed p).value }
+
+-- a loop has no label, and this chunk specification, unless memory failed
+abbrev pub JoinsParallel : {U : Type 0} → ℕ → Bool → Result U Fault → List Part → List Part → Type 0
+JoinsParallel at counted (Ok _) now before = (maybe_parallel (top now) ≡ Some (chunk_form at counted (top before))) × (maybe_token (second now) ≡ None) × (pop (pop now) ≡ pop before)
+JoinsParallel at counted (Err fault.OutOfMemory) now before = Unit {0}
+JoinsParallel at counted (Err _) now before = ⊥

@@ -1,17 +1,21 @@
 //! Sequences of statements, and bodies with handlers (5.1, 11.2).
 
+ghost use Rattle.std.specs.Prelude.{◌∷◌};
 ghost use Rattle.grammar_readers.specs.Statements as statements;
-ghost use Rattle.tree_nodes.specs.Stack.{parts};
+ghost use Rattle.tree_nodes.specs.Rooted.{top, pop, second};
+ghost use Rattle.tree_nodes.specs.Stack.{Joins, parts};
+ghost use Rattle.tree_nodes.specs.Tables.{cell_value};
 ghost use Rattle.tree_nodes.specs.Parts.{the_pack, the_stmts, the_handled, the_handler, the_handlers, the_body, IsPart, IsPack, IsStmts};
 ghost use Rattle.ada_parser.specs.Reading.{Reads};
 
-use crate::chains::{Chain, follow, list};
+use crate::chains::{Chain, list};
 use crate::compounds::stmt;
 use crate::names::pack;
 use ada_parser::Parser;
 use ada_tree::kinds::{AND, ARROW, BAR, EXCEPTION, OTHERS, THEN, WHEN};
 use reader_laws::Fault;
-use tree_nodes::{Leaf, ListKind, Two, also, close, leaf, nothing, two};
+use tree_nodes::rooting::{put, taken};
+use tree_nodes::{Leaf, Node, Parts, Two, leaf, nothing, two};
 
 /// A sequence of statements (5.1).
 #[cycle(list)]
@@ -91,6 +95,17 @@ pub fn handler(parser: &mut Parser<'_>, levels: u32) -> Result<(), Fault>
     two(&mut parser.out, Two::Handler(at))
 }
 
+/// The latest part is a whole list, and the part below it goes before its items.
+#[tactic(auto, unfolding(tree_nodes::specs::Stack::parts))]
+pub fn before(out: &mut Parts) -> Result<(), Fault>
+    ensures { Joins result (parts out.new) (cell_value (second (parts out.old)) (top (parts out.old)) ∷ pop (pop (parts out.old))) }
+{
+    let list = taken(&out.nodes, &mut out.roots);
+    let item = taken(&out.nodes, &mut out.roots);
+    put(&mut out.nodes, &mut out.roots, Node::Cell(item, list))?;
+    Ok(())
+}
+
 /// The handlers of a body (11.2).
 #[cycle(list)]
 #[tactic(auto, unfolding(grammar_readers::specs::Statements::handlers))]
@@ -98,11 +113,9 @@ pub fn handlers(parser: &mut Parser<'_>, levels: u32) -> Result<(), Fault>
     ensures { Reads the_handlers IsPart (parts parser.old.out) (statements.handlers levels (statements.stmt levels) parser.old.tokens) result parser.new.tokens (parts parser.new.out) }
 {
     parser.tokens.take(EXCEPTION)?;
-    nothing(&mut parser.out)?;
     handler(parser, levels)?;
-    also(&mut parser.out, ListKind::Handlers)?;
-    follow(parser, levels, Chain::Handlers)?;
-    close(&mut parser.out, ListKind::Handlers)
+    list(parser, levels, Chain::Handlers)?;
+    before(&mut parser.out)
 }
 
 /// A body: a handled sequence of statements (11.2).
@@ -114,8 +127,8 @@ pub fn body(parser: &mut Parser<'_>, levels: u32) -> Result<(), Fault>
     stmts(parser, levels)?;
     if parser.tokens.peek() == EXCEPTION {
         handlers(parser, levels)?;
-    } else {
-        nothing(&mut parser.out)?;
+        return two(&mut parser.out, Two::Body);
     }
+    nothing(&mut parser.out)?;
     two(&mut parser.out, Two::Body)
 }

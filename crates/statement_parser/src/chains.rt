@@ -136,7 +136,7 @@ fn link(parser: &mut Parser<'_>, levels: u32, chain: Chain) -> Result<(), Fault>
 
 /// All further items of a chain.
 #[cycle(list)]
-pub fn follow(parser: &mut Parser<'_>, levels: u32, chain: Chain) -> Result<(), Fault>
+fn follow(parser: &mut Parser<'_>, levels: u32, chain: Chain) -> Result<(), Fault>
     ensures { Reads (chains.so_far chain) IsPart (pop (parts parser.old.out)) (loop (chains.goes chain) (chains.link levels chain) (chains.so_far chain (top (parts parser.old.out))) parser.old.tokens) result parser.new.tokens (parts parser.new.out) }
 {
     for _turn in 0..parser.tokens.left() {

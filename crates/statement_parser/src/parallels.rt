@@ -5,6 +5,7 @@ ghost use Rattle.tree_nodes.specs.Rooted.{top, pop};
 ghost use Rattle.tree_nodes.specs.Stack.{parts};
 ghost use Rattle.tree_nodes.specs.Parts.{the_stmt, maybe_simple, maybe_declare, IsPart};
 ghost use Rattle.ada_parser.specs.Reading.{Reads, chunk_form, ChunkForm};
+ghost use Rattle.statement_parser.specs.Reading.{JoinsParallel};
 
 use crate::bodies::{and_stmts, body, stmts};
 use crate::chains::{Chain, list};
@@ -14,7 +15,7 @@ use ada_parser::Parser;
 use ada_parser::levels::chunk;
 use ada_tree::kinds::{BEGIN, DECLARE, DO, END, FOR, PARALLEL, SEMICOLON};
 use reader_laws::Fault;
-use tree_nodes::{Four, Leaf, One, Two, four, leaf, nothing, one, swap, two};
+use tree_nodes::{Four, Leaf, One, Parts, Two, four, leaf, nothing, one, swap, two};
 
 /// A block, after its declarations or nothing (5.6).
 #[cycle(list)]
@@ -55,6 +56,20 @@ pub fn do_from(parser: &mut Parser<'_>, levels: u32, at: u32) -> Result<(), Faul
     four(&mut parser.out, Four::ParallelBlock(at))
 }
 
+/// A loop without label, and its chunk specification, which was a sum alone where it is `counted`.
+pub fn join_parallel(out: &mut Parts, at: u32, counted: bool) -> Result<(), Fault>
+    requires { ChunkForm counted (top (parts out.old)) }
+    ensures { JoinsParallel at counted result (parts out.new) (parts out.old) }
+{
+    if counted {
+        one(out, One::Counted(at))?;
+        nothing(out)?;
+        return swap(out);
+    }
+    nothing(out)?;
+    swap(out)
+}
+
 /// A parallel construct, after its chunk specification, which is `counted` where it is a sum alone (5.5, 5.6.1).
 #[cycle(list)]
 #[tactic(auto, unfolding(grammar_readers::specs::Statements::chunked_from))]
@@ -63,11 +78,7 @@ pub fn chunked_from(parser: &mut Parser<'_>, levels: u32, at: u32, counted: bool
     ensures { Reads the_stmt IsPart (pop (parts parser.old.out)) (statements.chunked_from levels (statements.stmt levels) at (chunk_form at counted (top (parts parser.old.out))) parser.old.tokens) result parser.new.tokens (parts parser.new.out) }
 {
     if parser.tokens.peek() == FOR {
-        if counted {
-            one(&mut parser.out, One::Counted(at))?;
-        }
-        nothing(&mut parser.out)?;
-        swap(&mut parser.out)?;
+        join_parallel(&mut parser.out, at, counted)?;
         return for_from(parser, levels);
     }
     if counted {

@@ -42,10 +42,11 @@ pub fn raise_from(parser: &mut Parser<'_>, levels: u32, at: u32) -> Result<(), F
     ensures { Reads the_stmt IsPart (parts parser.old.out) (statements.raise_from at parser.old.tokens) result parser.new.tokens (parts parser.new.out) }
 {
     if parser.tokens.peek() == SEMICOLON {
+        parser.tokens.take(SEMICOLON)?;
         nothing(&mut parser.out)?;
-    } else {
-        pack(parser, levels)?;
+        return one(&mut parser.out, One::Raise(at));
     }
+    pack(parser, levels)?;
     parser.tokens.take(SEMICOLON)?;
     one(&mut parser.out, One::Raise(at))
 }
@@ -78,10 +79,11 @@ pub fn return_from(parser: &mut Parser<'_>, levels: u32, at: u32) -> Result<(), 
     ensures { Reads the_stmt IsPart (parts parser.old.out) (statements.return_from levels at parser.old.tokens) result parser.new.tokens (parts parser.new.out) }
 {
     if parser.tokens.peek() == SEMICOLON {
+        parser.tokens.take(SEMICOLON)?;
         nothing(&mut parser.out)?;
-    } else {
-        expr(parser, levels)?;
+        return one(&mut parser.out, One::Return(at));
     }
+    expr(parser, levels)?;
     parser.tokens.take(SEMICOLON)?;
     one(&mut parser.out, One::Return(at))
 }

@@ -163,7 +163,7 @@ pub fn main_is(parser: &mut Parser<'_>, levels: u32, at: u32, defined: u32) -> R
 
 /// The main procedure (10.2).
 #[tactic(auto, unfolding(grammar_readers::specs::Units::main))]
-pub fn main(parser: &mut Parser<'_>, levels: u32) -> Result<(), Fault>
+pub fn main_procedure(parser: &mut Parser<'_>, levels: u32) -> Result<(), Fault>
     ensures { Reads the_main IsPart (parts parser.old.out) (units.main levels parser.old.tokens) result parser.new.tokens (parts parser.new.out) }
 {
     let at = parser.tokens.take(PROCEDURE)?;
@@ -179,6 +179,6 @@ pub fn program(parser: &mut Parser<'_>, levels: u32) -> Result<(), Fault>
 {
     optional_policy(parser, levels)?;
     list(parser, levels, Chain::Clauses)?;
-    main(parser, levels)?;
+    main_procedure(parser, levels)?;
     three(&mut parser.out, Three::Program)
 }
