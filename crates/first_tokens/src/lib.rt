@@ -7,7 +7,10 @@ ghost use Rattle.tree_nodes.specs.Parts.{the_arg, the_assoc, the_body, the_choic
 ghost use Rattle.tree_nodes.specs.Tables.{part_at};
 
 use ada_tree::Sign;
-use tree_views::{Assoc, Choice, Decl, Expr, Factor, Indic, Iter, Many, Parallel, Primary, Range, Rel, Scheme, Stmt, Sub, Tree, Unit};
+use tree_views::{
+    Assoc, Choice, Decl, Expr, Factor, Indic, Iter, Many, Parallel, Primary, Range, Rel, Scheme,
+    Stmt, Sub, Tree, Unit,
+};
 
 /// The first token of a name.
 pub fn of_name(tree: &Tree, number: u32) -> u32
@@ -184,7 +187,10 @@ pub fn of_scheme(tree: &Tree, number: u32) -> u32
 {
     match tree.scheme(number) {
         Scheme::While { at, .. } => at,
-        Scheme::For { parallel: Some(parallel), .. } => of_parallel(tree, parallel),
+        Scheme::For {
+            parallel: Some(parallel),
+            ..
+        } => of_parallel(tree, parallel),
         Scheme::For { at, .. } => at,
     }
 }
@@ -196,9 +202,18 @@ pub fn of_stmt(tree: &Tree, number: u32) -> u32
     match tree.stmt(number) {
         Stmt::Assign { target, .. } => of_name(tree, target),
         Stmt::CallStmt(name) => of_name(tree, name),
-        Stmt::Loop { label: Some(label), .. } => label,
-        Stmt::Loop { scheme: Some(scheme), .. } => of_scheme(tree, scheme),
-        Stmt::Block { declare: Some(declare), .. } => tree.declare(declare).at,
+        Stmt::Loop {
+            label: Some(label),
+            ..
+        } => label,
+        Stmt::Loop {
+            scheme: Some(scheme),
+            ..
+        } => of_scheme(tree, scheme),
+        Stmt::Block {
+            declare: Some(declare),
+            ..
+        } => tree.declare(declare).at,
         Stmt::Null(at)
         | Stmt::Exit { at, .. }
         | Stmt::Return { at, .. }
@@ -243,3 +258,6 @@ pub fn of_unit(tree: &Tree, number: u32) -> u32
         Unit::Sub(sub) => of_sub(tree, sub),
     }
 }
+
+#[cfg(test)]
+mod tests;

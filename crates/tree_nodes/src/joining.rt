@@ -4,7 +4,7 @@ ghost use Rattle.std.specs.Prelude.{◌≡◌, ◌∷◌, []};
 ghost use Rattle.tree_nodes.specs.Parts.{Nothing};
 ghost use Rattle.tree_nodes.specs.Rooted.{top, pop, second, third, fourth};
 ghost use Rattle.tree_nodes.specs.Stack.{parts, Joins};
-ghost use Rattle.tree_nodes.specs.Tables.{also_value};
+ghost use Rattle.tree_nodes.specs.Tables.{also_value, cell_value};
 ghost use Rattle.tree_nodes.specs.Values.{value_leaf, value_one, value_two, value_three, value_four};
 
 use crate::lists::ListKind;
@@ -114,6 +114,17 @@ pub fn also(out: &mut Parts, kind: ListKind) -> Result<(), Fault>
         &mut out.roots,
         Node::Also(kind, before, item),
     )?;
+    Ok(())
+}
+
+/// The part below the latest one goes before the items of the latest, which is a closed list.
+#[tactic(auto, unfolding(crate::specs::Stack::parts))]
+pub fn before(out: &mut Parts) -> Result<(), Fault>
+    ensures { Joins result (parts out.new) (cell_value (second (parts out.old)) (top (parts out.old)) ∷ pop (pop (parts out.old))) }
+{
+    let list = taken(&out.nodes, &mut out.roots);
+    let item = taken(&out.nodes, &mut out.roots);
+    put(&mut out.nodes, &mut out.roots, Node::Cell(item, list))?;
     Ok(())
 }
 

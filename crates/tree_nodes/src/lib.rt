@@ -13,12 +13,9 @@ pub mod nodes;
 pub mod parts;
 pub mod rooting;
 
-pub use joining::{also, begin, four, leaf, leave_out, nothing, one, swap, three, two};
+pub use joining::{also, before, begin, four, leaf, leave_out, nothing, one, swap, three, two};
 pub use listing::close;
 pub use lists::ListKind;
 pub use naming::{bare, take_name};
 pub use nodes::{Cell, Four, Leaf, Node, One, Three, Two};
 pub use parts::Parts;
-
-#[cfg(test)]
-mod tests;

@@ -17,6 +17,3 @@ pub use names::{Arg, Assoc, Choice, Iter, Many, Name, NamePart, Parallel, Range}
 pub use statements::{Alt, Arm, Body, Declare, Handled, Handler, Pack, Scheme, Stmt, Stmts};
 pub use tree::{Tree, finish};
 pub use units::{Aspect, Bracketed, Clause, Implementation, Main, Policy, Program, Sub, Unit};
-
-#[cfg(test)]
-mod tests;
