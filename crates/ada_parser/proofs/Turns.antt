@@ -1,5 +1,5 @@
 -- The turns of a loop.
-use Rattle.std.proofs.Common.{◌≡◌, ℕ, suc, ◌+◌, ◌-◌, ◌<◌, ◌≤◌, Bool, true, false, if◌then◌else◌, refl, sym, subst, ap, ◌∙◌, arith, List, [], ◌∷◌, Result, Ok, Err}
+use Rattle.std.proofs.Common.{◌≡◌, ℕ, suc, ◌+◌, ◌-◌, ◌<◌, ◌≤◌, Bool, true, false, if◌then◌else◌, sym, subst, ap, ◌∙◌, arith, List, ◌∷◌, Result, Ok, Err}
 use Rattle.ada_base.specs.Symbols.{Symbol, next_kind, is_member}
 use Rattle.reader_laws.specs.Readers.{Reader, Answer, Found, Refused, TooDeep, read_on, pure, ◌>>=◌}
 use Rattle.reader_laws.specs.Loops.{turns, chain}

@@ -89,7 +89,7 @@ pub fn return_from(parser: &mut Parser<'_>, levels: u32, at: u32) -> Result<(), 
 }
 
 /// A return statement (6.5).
-#[tactic(auto, unfolding(grammar_readers::specs::Statements::return))]
+#[tactic(auto, using(crate::proofs::Returns::return_is))]
 pub fn returning(parser: &mut Parser<'_>, levels: u32) -> Result<(), Fault>
     ensures { Reads the_stmt IsPart (parts parser.old.out) (statements.return levels parser.old.tokens) result parser.new.tokens (parts parser.new.out) }
 {

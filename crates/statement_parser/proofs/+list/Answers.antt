@@ -1,6 +1,5 @@
 use Rattle.std.proofs.Common.{◌≡◌, true, false, arith, rules, refl, sym, ◌∙◌, ◌-◌, subst, ap, length, Err}
-use Rattle.ada_base.specs.Symbols.{next_kind, is_member}
-use Rattle.reader_laws.specs.Readers.{Answer, Found}
+use Rattle.ada_base.specs.Symbols.{is_member}
 use Rattle.reader_laws.specs.Loops.{turns}
 use Rattle.tree_nodes.specs.Stack.{parts}
 use Rattle.tree_nodes.specs.Rooted.{top, pop, second}
@@ -29,13 +28,13 @@ pub chains::item-returns-in-Comps : goal.chains::item-returns-in-Comps
 chains::item-returns-in-Comps t c = subst (λ k. Reads (chains.the_item k) IsPart (parts c.args.parser.now.out) (chains.item c.args.levels k c.args.parser.now.tokens) c.comp.result c.comp.new.parser.tokens (parts c.comp.new.parser.out)) (sym c.in-Comps.is) c.comp.ensures
 
 pub chains::item-returns-in-Decls : goal.chains::item-returns-in-Decls
-chains::item-returns-in-Decls t c = subst (λ k. Reads (chains.the_item k) IsPart (parts c.args.parser.now.out) (chains.item c.args.levels k c.args.parser.now.tokens) c.decl.result c.decl.new.parser.tokens (parts c.decl.new.parser.out)) (sym c.in-Decls.is) (reads_part the_decl IsDecl c.decl.result c.decl.new.parser.tokens (parts c.decl.new.parser.out) c.decl.ensures)
+chains::item-returns-in-Decls t c = subst (λ k. Reads (chains.the_item k) IsPart (parts c.args.parser.now.out) (chains.item c.args.levels k c.args.parser.now.tokens) c.decl.result c.decl.new.parser.tokens (parts c.decl.new.parser.out)) (sym c.in-Decls.is) (reads_part the_decl IsDecl _ _ c.decl.result c.decl.new.parser.tokens (parts c.decl.new.parser.out) c.decl.ensures)
 
 pub chains::item-returns-in-Choices : goal.chains::item-returns-in-Choices
 chains::item-returns-in-Choices t c = subst (λ k. Reads (chains.the_item k) IsPart (parts c.args.parser.now.out) (chains.item c.args.levels k c.args.parser.now.tokens) c.next_choice.result c.next_choice.new.parser.tokens (parts c.next_choice.new.parser.out)) (sym c.in-Choices.is) c.next_choice.ensures
 
 pub chains::item-returns-in-Exceptions : goal.chains::item-returns-in-Exceptions
-chains::item-returns-in-Exceptions t c = subst (λ k. Reads (chains.the_item k) IsPart (parts c.args.parser.now.out) (chains.item c.args.levels k c.args.parser.now.tokens) c.next_exception.result c.next_exception.new.parser.tokens (parts c.next_exception.new.parser.out)) (sym c.in-Exceptions.is) (reads_part the_pack IsPack c.next_exception.result c.next_exception.new.parser.tokens (parts c.next_exception.new.parser.out) c.next_exception.ensures)
+chains::item-returns-in-Exceptions t c = subst (λ k. Reads (chains.the_item k) IsPart (parts c.args.parser.now.out) (chains.item c.args.levels k c.args.parser.now.tokens) c.next_exception.result c.next_exception.new.parser.tokens (parts c.next_exception.new.parser.out)) (sym c.in-Exceptions.is) (reads_part the_pack IsPack _ _ c.next_exception.result c.next_exception.new.parser.tokens (parts c.next_exception.new.parser.out) c.next_exception.ensures)
 
 pub chains::item-returns-in-Stmts : goal.chains::item-returns-in-Stmts
 chains::item-returns-in-Stmts t c = subst (λ k. Reads (chains.the_item k) IsPart (parts c.args.parser.now.out) (chains.item c.args.levels k c.args.parser.now.tokens) c.stmt.result c.stmt.new.parser.tokens (parts c.stmt.new.parser.out)) (sym c.in-Stmts.is) c.stmt.ensures
@@ -50,10 +49,10 @@ pub chains::item-returns-in-Alts : goal.chains::item-returns-in-Alts
 chains::item-returns-in-Alts t c = subst (λ k. Reads (chains.the_item k) IsPart (parts c.args.parser.now.out) (chains.item c.args.levels k c.args.parser.now.tokens) c.alt.result c.alt.new.parser.tokens (parts c.alt.new.parser.out)) (sym c.in-Alts.is) c.alt.ensures
 
 pub chains::item-returns-in-Branches : goal.chains::item-returns-in-Branches
-chains::item-returns-in-Branches t c = subst (λ k. Reads (chains.the_item k) IsPart (parts c.args.parser.now.out) (chains.item c.args.levels k c.args.parser.now.tokens) c.and_stmts.result c.and_stmts.new.parser.tokens (parts c.and_stmts.new.parser.out)) (sym c.in-Branches.is) (reads_part the_stmts IsStmts c.and_stmts.result c.and_stmts.new.parser.tokens (parts c.and_stmts.new.parser.out) c.and_stmts.ensures)
+chains::item-returns-in-Branches t c = subst (λ k. Reads (chains.the_item k) IsPart (parts c.args.parser.now.out) (chains.item c.args.levels k c.args.parser.now.tokens) c.and_stmts.result c.and_stmts.new.parser.tokens (parts c.and_stmts.new.parser.out)) (sym c.in-Branches.is) (reads_part the_stmts IsStmts _ _ c.and_stmts.result c.and_stmts.new.parser.tokens (parts c.and_stmts.new.parser.out) c.and_stmts.ensures)
 
 pub chains::item-returns-in-Packs : goal.chains::item-returns-in-Packs
-chains::item-returns-in-Packs t c = subst (λ k. Reads (chains.the_item k) IsPart (parts c.args.parser.now.out) (chains.item c.args.levels k c.args.parser.now.tokens) c.next_pack.result c.next_pack.new.parser.tokens (parts c.next_pack.new.parser.out)) (sym c.in-Packs.is) (reads_part the_pack IsPack c.next_pack.result c.next_pack.new.parser.tokens (parts c.next_pack.new.parser.out) c.next_pack.ensures)
+chains::item-returns-in-Packs t c = subst (λ k. Reads (chains.the_item k) IsPart (parts c.args.parser.now.out) (chains.item c.args.levels k c.args.parser.now.tokens) c.next_pack.result c.next_pack.new.parser.tokens (parts c.next_pack.new.parser.out)) (sym c.in-Packs.is) (reads_part the_pack IsPack _ _ c.next_pack.result c.next_pack.new.parser.tokens (parts c.next_pack.new.parser.out) c.next_pack.ensures)
 
 pub chains::item-returns-in-Units : goal.chains::item-returns-in-Units
 chains::item-returns-in-Units t c = subst (λ k. Reads (chains.the_item k) IsPart (parts c.args.parser.now.out) (chains.item c.args.levels k c.args.parser.now.tokens) c.unit.result c.unit.new.parser.tokens (parts c.unit.new.parser.out)) (sym c.in-Units.is) c.unit.ensures
