@@ -7,7 +7,7 @@ use Rattle.reader_laws.specs.Readers.{Reader, ◌>>◌, pure, symbol}
 use Rattle.reader_laws.specs.Sets.{Sets, one_kind}
 use Rattle.reader_laws.specs.Exact.{Rule}
 use Rattle.reader_laws.proofs.Rules.{read, give, seq, or, to, is, same}
-use Rattle.reader_laws.proofs.Chains.{items}
+use Rattle.reader_laws.proofs.Chains.{items, list_grows}
 use Rattle.reader_laws.proofs.Forms.{from, without_after, either, form, keep, skip, lead}
 use Rattle.ada_tree.specs.Kinds as kind
 use Rattle.ada_tree.specs.Syntax as syntax
@@ -19,7 +19,7 @@ use Rattle.grammar_readers.specs.Expressions as base
 use Rattle.grammar_readers.specs.Brackets as brackets
 use Rattle.grammar_readers.specs.Statements as reader
 use Rattle.grammar_readers.specs.Statements.{stmt_kinds}
-use Rattle.reader_exactness.proofs.Words.{Words, After, maybe, list_grows, each_after_listed}
+use Rattle.reader_exactness.proofs.Words.{Words, After, maybe, each_after_listed}
 use Rattle.reader_exactness.proofs.Lists.{stmts_grow, stmts_listed, arms_grow, arms_listed, alts_grow, alts_listed, branches_grow, branches_listed, handlers_grow, handlers_listed}
 use Rattle.reader_exactness.proofs.Openings.{Opening, expr_sets}
 use Rattle.reader_exactness.proofs.Relations.{rule_expr}

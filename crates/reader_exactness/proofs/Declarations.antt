@@ -7,7 +7,7 @@ use Rattle.reader_laws.specs.Sets.{Sets, one_kind}
 use Rattle.reader_laws.specs.Exact.{Rule}
 use Rattle.reader_laws.proofs.Depths.{exact_too_deep}
 use Rattle.reader_laws.proofs.Rules.{read, give, seq, or, to, is}
-use Rattle.reader_laws.proofs.Chains.{items}
+use Rattle.reader_laws.proofs.Chains.{items, list_grows}
 use Rattle.reader_laws.proofs.Forms.{from, to_left, to_right, without_before, without_after, at_second, either, form, keep, skip, lead, last}
 use Rattle.reader_laws.proofs.Samples.{sample_free, sample_none, sample_both, sample_leaf, kind_is, first_free, begins_free, sample_of}
 use Rattle.ada_tree.specs.Kinds as kind
@@ -20,7 +20,7 @@ use Rattle.grammar_readers.specs.Expressions as base
 use Rattle.grammar_readers.specs.Brackets as brackets
 use Rattle.grammar_readers.specs.Declarations as reader
 use Rattle.grammar_readers.specs.Declarations.{decl_kinds}
-use Rattle.reader_exactness.proofs.Words.{Words, After, maybe_after, list_grows, each_listed, each_after_listed}
+use Rattle.reader_exactness.proofs.Words.{Words, After, maybe_after, each_listed, each_after_listed}
 use Rattle.reader_exactness.proofs.Bares.{name_for, alone_identifier}
 use Rattle.reader_exactness.proofs.Openings.{Opening, round_sets, simple_sets, expr_sets}
 use Rattle.reader_exactness.proofs.Relations.{rule_expr}

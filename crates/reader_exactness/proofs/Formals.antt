@@ -7,7 +7,7 @@ use Rattle.reader_laws.specs.Sets.{Sets, one_kind}
 use Rattle.reader_laws.specs.Exact.{Rule}
 use Rattle.reader_laws.proofs.Depths.{exact_too_deep}
 use Rattle.reader_laws.proofs.Rules.{read, give, seq, or, to, is}
-use Rattle.reader_laws.proofs.Chains.{items}
+use Rattle.reader_laws.proofs.Chains.{items, list_grows}
 use Rattle.reader_laws.proofs.Forms.{from, to_left, to_right, without_after, at_second, form, keep, skip, lead, last}
 use Rattle.reader_laws.proofs.Samples.{sample_as, sample_leaf, sample_free, sample_none, sample_both, kind_is, first_held, begins_held, sample_of}
 use Rattle.ada_tree.specs.Kinds as kind
@@ -17,7 +17,7 @@ use Rattle.ada_tree.specs.Productions as spell
 use Rattle.ada_tree.specs.declared.operators.Mode.{Mode}
 use Rattle.ada_tree.specs.declared.operators.Mode.TheVariants as mode'
 use Rattle.grammar_readers.specs.Declarations as reader
-use Rattle.reader_exactness.proofs.Words.{Words, After, maybe, list_grows, each_after_listed}
+use Rattle.reader_exactness.proofs.Words.{Words, After, maybe, each_after_listed}
 use Rattle.reader_exactness.proofs.Openings.{round_sets}
 
 abbrev pub ids_sets : Sets

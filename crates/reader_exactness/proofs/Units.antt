@@ -9,7 +9,7 @@ use Rattle.reader_laws.specs.Exact.{Rule}
 use Rattle.reader_laws.specs.Settled.{Verdict}
 use Rattle.reader_laws.proofs.Depths.{BeginsTooDeep, exact_too_deep}
 use Rattle.reader_laws.proofs.Rules.{read, seq, or, to, is}
-use Rattle.reader_laws.proofs.Chains.{items}
+use Rattle.reader_laws.proofs.Chains.{items, list_grows}
 use Rattle.reader_laws.proofs.Forms.{from, without_before, either, form, keep, skip, lead, last}
 use Rattle.reader_laws.proofs.Samples.{sample_leaf, sample_free, sample_none, sample_both, kind_is, for_member, first_held, first_free, begins_held, begins_free, sample_of}
 use Rattle.reader_laws.proofs.Verdicts.{verdict}
@@ -27,7 +27,7 @@ use Rattle.grammar_readers.specs.Declarations.{decl_kinds}
 use Rattle.grammar_readers.specs.Statements as stated
 use Rattle.grammar_readers.specs.Units as reader
 use Rattle.grammar_readers.specs.Units.{sub_kinds, unit_kinds, clause_kinds}
-use Rattle.reader_exactness.proofs.Words.{Words, After, maybe, maybe_after, list_grows, each_listed, each_after_listed}
+use Rattle.reader_exactness.proofs.Words.{Words, After, maybe, maybe_after, each_listed, each_after_listed}
 use Rattle.reader_exactness.proofs.Openings.{round_sets}
 use Rattle.reader_exactness.proofs.Relations.{rule_expr}
 use Rattle.reader_exactness.proofs.Levels.{opening_at, sample_expr}

@@ -1,14 +1,13 @@
 -- What optional parts and lists spell.
-use Rattle.std.proofs.Common.{◌≡◌, ℕ, List, [], ◌∷◌, ◌++◌, false, true, ◌⊎◌, Option, Some, None, inl, inr, refl, sym, append_assoc, append-nil}
+use Rattle.std.proofs.Common.{◌≡◌, ℕ, List, [], ◌∷◌, false, true, ◌⊎◌, Option, Some, None, inl, inr, refl}
 use Rattle.ada_base.specs.Symbols.{Word}
 use Rattle.ada_base.specs.Languages.{Language, Quoted, Or, Pure, Image, Empty, ◌⋅◌}
 use Rattle.reader_laws.specs.Readers.{Reader, ◌<$>◌, pure, by_next}
 use Rattle.reader_laws.specs.Sets.{Sets, are_disjoint, is_subset, no_kind, or_sets}
 use Rattle.reader_laws.specs.Exact.{Rule}
 use Rattle.reader_laws.proofs.Rules.{give, or, to, same}
-use Rattle.reader_laws.proofs.Chains.{Listed, Grows}
+use Rattle.reader_laws.proofs.Chains.{Listed}
 use Rattle.reader_laws.proofs.Forms.{from, to_right, to_left, either, form}
-use Rattle.ada_tree.specs.Joining.{list_and}
 use Rattle.ada_tree.specs.Patterns.{Spelling, words_of, free, optional_of, optional_of_after, each_of, each_of_after}
 
 -- the words of each value of a type, at a depth
@@ -46,9 +45,6 @@ maybe_after {A = A} k spelling depth ks h not_empty taken passed = same (Words (
   split (Some x) w l = inl (x, refl, l)
 
 -- ---- lists
-
-pub list_grows : {A : Type 0} → Grows {B = A} [] (λ x xs. x ∷ xs) list_and (λ xs ys. xs ++ ys)
-list_grows = record { at_front = λ l. refl; at_end = λ l. append-nil l; at_more = λ l x m. sym (append_assoc l (x ∷ []) m) }
 
 module _ {A : Type 0} (spelling : A → Spelling) (depth : ℕ) where
   pub each_listed : Listed [] (λ x xs. x ∷ xs) (Words spelling depth) (Words (each_of spelling) depth)

@@ -1,8 +1,8 @@
 -- A chain is exact where its links are.
-use Rattle.std.proofs.Common.{◌≡◌, ℕ, zero, suc, ◌+◌, ◌-◌, ◌≤◌, List, [], ◌∷◌, ◌++◌, length, Bool, true, false, if◌then◌else◌, ◌⊎◌, inl, inr, refl, sym, ap, ◌∙◌, subst, arith, length-append}
+use Rattle.std.proofs.Common.{◌≡◌, ℕ, zero, suc, ◌+◌, ◌-◌, ◌≤◌, List, [], ◌∷◌, ◌++◌, length, Bool, true, false, if◌then◌else◌, ◌⊎◌, inl, inr, refl, sym, ap, ◌∙◌, subst, append-nil, append_assoc, arith, length-append}
 use mathlib.Core.Path.{fun_ext}
 use Rattle.ada_base.specs.Symbols.{Symbol, Nested, Word, symbols_of, is_member, next_kind}
-use Rattle.ada_base.specs.Languages.{Language, Then, Or, Pure, Image, Empty, ◌⋅◌, Inhabited}
+use Rattle.ada_base.specs.Languages.{Language, Many, Then, Or, Pure, Image, Empty, ◌⋅◌, Inhabited}
 use Rattle.ada_base.specs.Derivations.{AllWithin}
 use Rattle.reader_laws.specs.Readers.{Answer, Found, Refused, TooDeep, Reader, read_on, ◌>>=◌, ◌<$>◌, pure, by_next}
 use Rattle.reader_laws.specs.Loops.{turns, chain, grown}
@@ -171,10 +171,14 @@ module _ {limit : ℕ} {B S : Type 0} {s : Sets} {L : B → Language} {M : S →
     at (inl (is, e)) = inr (eq ∙ ap (append l) is ∙ grows.at_end l, e)
     at (inr (i, ys, is, (u, v, e, k, n'))) = inl (and l i, u, v, e, (i, refl, k), (ys, eq ∙ ap (append l) is ∙ grows.at_more l i ys, n'))
 
+  -- items behind a list that was read before
+  pub more_items : (l : S) → Rule limit (repeat_sets ks s) (Behind l) (chain ks (λ m. and m <$> p) l)
+  more_items l = rule_chain Behind joined parted ks (λ l. (to (and l) h).exact) not_empty taken apart no_end l
+
   -- a list of items
   pub items : Rule limit (repeat_sets ks s) M (grown and none ks p)
   items =
-      same M (rule_chain Behind joined parted ks (λ l. (to (and l) h).exact) not_empty taken apart no_end none)
+      same M (more_items none)
       (λ x w (m, eq, n). subst (λ z. M z w) (sym (eq ∙ grows.at_front m)) n)
       (λ x w n. (x, sym (grows.at_front x), n))
 
@@ -200,7 +204,7 @@ module _ {limit : ℕ} {B S : Type 0} {s : Sets} {L : B → Language} {M : S →
 
   pub some_items : Rule limit (then_sets s (repeat_sets ks s)) Some_of first_and_more
   some_items =
-      same Some_of (seq (to (and none) h) (λ l. rule_chain Behind joined parted ks (λ l. (to (and l) h).exact) not_empty taken apart no_end l) apart)
+      same Some_of (seq (to (and none) h) more_items apart)
       (λ x w (l, u, v, e, (i, is, k), (m, eq, n)). (i, m, eq ∙ ap (λ z. append z m) is ∙ sym (grows.at_more none i m) ∙ grows.at_front (more i m), (u, v, e, k, n)))
       (λ x w (i, m, eq, (u, v, e, k, n)). (and none i, u, v, e, (i, refl, k), (m, eq ∙ sym (grows.at_front (more i m)) ∙ grows.at_more none i m, n)))
 
@@ -209,3 +213,14 @@ module _ {limit : ℕ} {B S : Type 0} {s : Sets} {L : B → Language} {M : S →
     at : (b : Bool) (ts : List Symbol) → is_member ks (next_kind ts) ≡ b → (if b then f (first_and_more ts) else q ts) ≡ (if b then f (grown and none ks p ts) else q ts)
     at true ts e = ap f (sym (link_first Behind joined parted ks (λ l. (to (and l) h).exact) not_empty taken apart no_end none ts e))
     at false ts e = refl
+
+-- ---- lists of any type
+
+pub list_grows : {A : Type 0} → Grows {B = A} [] (λ x xs. x ∷ xs) (λ xs x. xs ++ x ∷ []) (λ xs ys. xs ++ ys)
+list_grows = record { at_front = λ l. refl; at_end = λ l. append-nil l; at_more = λ l x m. sym (append_assoc l (x ∷ []) m) }
+
+pub many_listed : {A : Type 0} (L : A → Language) → Listed [] (λ x xs. x ∷ xs) L (Many L)
+many_listed {A} L = record { at_none = λ w e. e; at_more = λ x xs w l. l; parts = parts } where
+  parts : (xs : List A) (w : Word) → Many L xs w → ((xs ≡ []) × Empty w) ⊎ ((x : A) × (ys : List A) × (xs ≡ x ∷ ys) × (L x ⋅ Many L ys) w)
+  parts [] w e = inl (refl, e)
+  parts (x ∷ xs) w l = inr (x, xs, refl, l)
