@@ -1,4 +1,3 @@
-pub mod Below
 pub mod Lists
 pub mod Positions
 pub mod Turns

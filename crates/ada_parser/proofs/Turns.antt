@@ -43,10 +43,12 @@ module _ {A : Type 0} (ks : List ℕ) (p : A → Reader A) (end turn : ℕ) (a :
 pub link_joined : {V X : Type 0} (p : Reader X) (and : V → X → V) (so_far : Part → V) (the_item : Part → X) (ts us : List Symbol) (old ps new : List Part) (also : Part) (result : Result (Unit {0}) Fault)
     → so_far also ≡ and (so_far (second ps)) (the_item (top ps)) → p ts ≡ (Found (the_item (top ps)), us) → pop ps ≡ old → Joins result new (also ∷ pop (pop ps))
     → Reads so_far IsPart (pop old) ((p >>= λ x. pure (and (so_far (top old)) x)) ts) result us new
-link_joined p and so_far the_item ts us old ps new also (Ok u) e found back h =
-    (ap (λ z. read_on z.0 (λ x. pure (and (so_far (top old)) x)) z.1) found
-    ∙ ap (λ z. (Found z, us)) (ap (λ o. and (so_far (top o)) (the_item (top ps))) (sym back) ∙ sym e ∙ ap (λ z. so_far (top z)) (sym h)),
-    ap pop h ∙ ap pop back, tt)
+link_joined p and so_far the_item ts us old ps new also (Ok u) e found back h = (
+  ap (λ z. read_on z.0 (λ x. pure (and (so_far (top old)) x)) z.1) found
+      ∙ ap (λ z. (Found z, us)) (ap (λ o. and (so_far (top o)) (the_item (top ps))) (sym back) ∙ sym e ∙ ap (λ z. so_far (top z)) (sym h)),
+  ap pop h ∙ ap pop back,
+  tt,
+)
 link_joined p and so_far the_item ts us old ps new also (Err fault.Unexpected) e found back h = absurd h
 link_joined p and so_far the_item ts us old ps new also (Err fault.TooDeep) e found back h = absurd h
 link_joined p and so_far the_item ts us old ps new also (Err fault.OutOfMemory) e found back h = tt

@@ -1,19 +1,19 @@
 //! Conditional expressions, and what round brackets open (4.4, 4.5.7).
 
-ghost use Rattle.std.specs.Prelude.{◌≡◌};
+ghost use Rattle.ada_parser.specs.Reading.{Reads};
 ghost use Rattle.grammar_readers.specs.Brackets as brackets;
 ghost use Rattle.grammar_readers.specs.Levels as level;
-ghost use Rattle.tree_nodes.specs.Stack.{parts};
+ghost use Rattle.std.specs.Prelude.{◌≡◌};
 ghost use Rattle.tree_nodes.specs.Parts.{the_primary, the_expr, the_elsif, IsPart, IsExpr, IsPrimary};
-ghost use Rattle.ada_parser.specs.Reading.{Reads};
+ghost use Rattle.tree_nodes.specs.Stack.{parts};
 
 use crate::aggregates::{each_and_more, inside};
 use crate::chains::{Chain, list};
 use crate::expressions::expr;
 use crate::parser::Parser;
-use tree_nodes::{Four, One, Two, four, one, two};
 use ada_tree::kinds::{CLOSE_ROUND, ELSE, ELSIF, FOR, IF, OPEN_ROUND, THEN};
 use reader_laws::Fault;
+use tree_nodes::{Four, One, Two, four, one, two};
 
 /// `then`, and the expression after it.
 #[cycle(levels)]

@@ -1,24 +1,27 @@
 //! The lists that a repetition of the grammar reads, in one loop.
 
-ghost use Rattle.std.specs.Prelude.{◌≡◌};
 ghost use Rattle.ada_base.specs.Symbols.{is_member};
-ghost use Rattle.reader_laws.specs.Loops.{chain as loop};
+ghost use Rattle.ada_parser.specs.Chains as chains;
+ghost use Rattle.ada_parser.specs.Reading.{Reads};
 ghost use Rattle.grammar_readers.specs.Levels as level;
+ghost use Rattle.reader_laws.specs.Loops.{chain as loop};
+ghost use Rattle.std.specs.Prelude.{◌≡◌};
+ghost use Rattle.tree_nodes.specs.Parts.{the_conjunct, IsPart};
 ghost use Rattle.tree_nodes.specs.Rooted.{top, pop};
 ghost use Rattle.tree_nodes.specs.Stack.{parts};
-ghost use Rattle.tree_nodes.specs.Parts.{the_conjunct, IsPart};
-ghost use Rattle.ada_parser.specs.Reading.{Reads};
-ghost use Rattle.ada_parser.specs.Chains as chains;
 
 use crate::aggregates::{next_assoc, next_choice};
 use crate::brackets::next_elsif;
 use crate::expressions::{added, conjunct, multiplied, part, short_conjunct};
 use crate::parser::Parser;
 use crate::ranges::next_arg;
-use tree_nodes::{ListKind, also, close, nothing};
-use ada_tree::kinds::{AMPERSAND, AND, BAR, COMMA, ELSE, ELSIF, MINUS, MOD, OPEN_ROUND, OR, PLUS, POINT, REM, SLASH, STAR, THEN, TICK, XOR};
 use ada_tree::Logical;
+use ada_tree::kinds::{
+    AMPERSAND, AND, BAR, COMMA, ELSE, ELSIF, MINUS, MOD, OPEN_ROUND, OR, PLUS, POINT, REM, SLASH,
+    STAR, THEN, TICK, XOR,
+};
 use reader_laws::Fault;
+use tree_nodes::{ListKind, also, close, nothing};
 
 /// What a list is of.
 #[derive(Clone, Copy)]

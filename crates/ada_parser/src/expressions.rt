@@ -1,22 +1,26 @@
 //! Names and expressions (4.1, 4.4).
 
-ghost use Rattle.std.specs.Prelude.{◌≡◌};
+ghost use Rattle.ada_parser.specs.Chains as chains;
+ghost use Rattle.ada_parser.specs.Reading.{Reads};
 ghost use Rattle.grammar_readers.specs.Expressions as reader;
 ghost use Rattle.grammar_readers.specs.Levels as level;
+ghost use Rattle.std.specs.Prelude.{◌≡◌};
+ghost use Rattle.tree_nodes.specs.Parts.{the_name, the_part, the_primary, the_factor, the_multiplying, the_term, the_adding, the_simple, the_rel, the_conjunct, the_expr, IsPart, IsExpr, IsRel, IsSimple, IsTerm, IsFactor, IsPrimary, IsName};
 ghost use Rattle.tree_nodes.specs.Rooted.{top, pop, second};
 ghost use Rattle.tree_nodes.specs.Stack.{parts};
-ghost use Rattle.tree_nodes.specs.Parts.{the_name, the_part, the_primary, the_factor, the_multiplying, the_term, the_adding, the_simple, the_rel, the_conjunct, the_expr, IsPart, IsExpr, IsRel, IsSimple, IsTerm, IsFactor, IsPrimary, IsName};
-ghost use Rattle.ada_parser.specs.Reading.{Reads};
-ghost use Rattle.ada_parser.specs.Chains as chains;
 
 use crate::chains::{Chain, list};
 use crate::levels::{call, round, square};
 use crate::operators::{adding_operator, comparison, multiplying_operator, sign};
 use crate::parser::Parser;
-use tree_nodes::{Leaf, One, Three, Two, bare, leaf, leave_out, one, three, two};
-use ada_tree::kinds::{ABS, AMPERSAND, AND, AT_LEAST, AT_MOST, DOTS, DOUBLE_STAR, ELSE, EQUAL, GREATER, IDENTIFIER, IN, LESS, MINUS, MOD, NOT, NUMERAL, OPEN_ROUND, OR, PLUS, POINT, RANGE, REM, SLASH, STAR, STRING, TARGET, THEN, TICK, UNEQUAL, XOR};
 use ada_tree::Logical;
+use ada_tree::kinds::{
+    ABS, AMPERSAND, AND, AT_LEAST, AT_MOST, DOTS, DOUBLE_STAR, ELSE, EQUAL, GREATER, IDENTIFIER,
+    IN, LESS, MINUS, MOD, NOT, NUMERAL, OPEN_ROUND, OR, PLUS, POINT, RANGE, REM, SLASH, STAR,
+    STRING, TARGET, THEN, TICK, UNEQUAL, XOR,
+};
 use reader_laws::Fault;
+use tree_nodes::{Leaf, One, Three, Two, bare, leaf, leave_out, one, three, two};
 
 /// What follows in a name (4.1).
 #[cycle(levels)]
@@ -199,7 +203,12 @@ pub fn upper_bound(parser: &mut Parser<'_>, levels: u32) -> Result<(), Fault>
 /// A membership, after its first sum and the token `at` of `in` (4.5.2).
 #[cycle(levels)]
 #[tactic(auto, unfolding(grammar_readers::specs::Expressions::within))]
-pub fn within(parser: &mut Parser<'_>, levels: u32, negation: Option<u32>, at: u32) -> Result<(), Fault>
+pub fn within(
+    parser: &mut Parser<'_>,
+    levels: u32,
+    negation: Option<u32>,
+    at: u32,
+) -> Result<(), Fault>
     ensures { Reads the_rel IsRel (pop (parts parser.old.out)) (reader.within (level.levels levels) (the_simple (top (parts parser.old.out))) negation at parser.old.tokens) result parser.new.tokens (parts parser.new.out) }
 {
     simple(parser, levels)?;
@@ -275,7 +284,12 @@ pub fn conjunct(parser: &mut Parser<'_>, levels: u32, word: u16) -> Result<(), F
 /// A logical operator of two words and its relation (4.5.1).
 #[cycle(levels)]
 #[tactic(auto, unfolding(grammar_readers::specs::Expressions::short_conjunct))]
-pub fn short_conjunct(parser: &mut Parser<'_>, levels: u32, word: u16, second: u16) -> Result<(), Fault>
+pub fn short_conjunct(
+    parser: &mut Parser<'_>,
+    levels: u32,
+    word: u16,
+    second: u16,
+) -> Result<(), Fault>
     ensures { Reads the_conjunct IsPart (parts parser.old.out) (reader.short_conjunct (level.levels levels) word second parser.old.tokens) result parser.new.tokens (parts parser.new.out) }
 {
     let at = parser.tokens.take(word)?;

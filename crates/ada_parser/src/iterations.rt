@@ -1,21 +1,21 @@
 //! Iterations and chunk specifications (5.5).
 
-ghost use Rattle.std.specs.Prelude.{◌≡◌};
+ghost use Rattle.ada_parser.specs.Reading.{Reads, IsNoRange, ReadsForm, told_expr, HasFilter, iter_form, EachForm, chunk_form, ChunkForm, IsRangeChunk, JoinsIter};
 ghost use Rattle.grammar_readers.specs.Brackets as brackets;
 ghost use Rattle.grammar_readers.specs.Levels as level;
+ghost use Rattle.std.specs.Prelude.{◌≡◌};
+ghost use Rattle.tree_nodes.specs.Parts.{the_simple, the_iter, the_parallel, IsPart, IsSimple, IsParallel};
 ghost use Rattle.tree_nodes.specs.Rooted.{top, pop};
 ghost use Rattle.tree_nodes.specs.Stack.{parts};
-ghost use Rattle.tree_nodes.specs.Parts.{the_simple, the_iter, the_parallel, IsPart, IsSimple, IsParallel};
-ghost use Rattle.ada_parser.specs.Reading.{Reads, IsNoRange, ReadsForm, told_expr, HasFilter, iter_form, EachForm, chunk_form, ChunkForm, IsRangeChunk, JoinsIter};
 
 use crate::expressions::{expr, name, simple};
 use crate::levels::chunk;
 use crate::operators::reversed;
 use crate::parser::Parser;
 use crate::ranges::range;
-use tree_nodes::{Leaf, One, Parts, Two, bare, leaf, leave_out, nothing, one, two};
 use ada_tree::kinds::{CLOSE_ROUND, IDENTIFIER, IN, OF, OPEN_ROUND, PARALLEL, WHEN};
 use reader_laws::Fault;
+use tree_nodes::{Leaf, One, Parts, Two, bare, leaf, leave_out, nothing, one, two};
 
 /// `when` and a condition, if they are there (5.5): whether they are.
 #[cycle(levels)]

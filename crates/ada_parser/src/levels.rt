@@ -1,11 +1,11 @@
 //! What opens a level of nesting, where so many levels may still open.
 
-ghost use Rattle.std.specs.Prelude.{◌≡◌, ◌∷◌, [], ◌<◌};
 ghost use Rattle.ada_base.specs.Symbols.{is_member, next_kind};
-ghost use Rattle.grammar_readers.specs.Levels as level;
-ghost use Rattle.tree_nodes.specs.Stack.{parts};
-ghost use Rattle.tree_nodes.specs.Parts.{the_part, the_primary, IsPart, IsPrimary};
 ghost use Rattle.ada_parser.specs.Reading.{Reads, ReadsForm, chunk_form, ChunkForm, LeavesLevels};
+ghost use Rattle.grammar_readers.specs.Levels as level;
+ghost use Rattle.std.specs.Prelude.{◌≡◌, ◌∷◌, [], ◌<◌};
+ghost use Rattle.tree_nodes.specs.Parts.{the_part, the_primary, IsPart, IsPrimary};
+ghost use Rattle.tree_nodes.specs.Stack.{parts};
 
 use crate::brackets::round_opened;
 use crate::iterations::chunk_opened;

@@ -4,7 +4,10 @@ ghost use Rattle.reader_laws.specs.Gives.{Gives};
 ghost use Rattle.grammar_readers.specs.Brackets as brackets;
 ghost use Rattle.grammar_readers.specs.Expressions as reader;
 
-use ada_tree::kinds::{AMPERSAND, AT_LEAST, AT_MOST, EQUAL, GREATER, LESS, MINUS, MOD, PLUS, REM, REVERSE, SLASH, STAR, UNEQUAL};
+use ada_tree::kinds::{
+    AMPERSAND, AT_LEAST, AT_MOST, EQUAL, GREATER, LESS, MINUS, MOD, PLUS, REM, REVERSE, SLASH,
+    STAR, UNEQUAL,
+};
 use ada_tree::{Additive, Comparison, Multiplicative, Sign};
 use reader_laws::{Cursor, Fault};
 

@@ -1,20 +1,20 @@
 //! Ranges, arguments of calls, and calls (3.6.1, 6.4).
 
-ghost use Rattle.std.specs.Prelude.{◌≡◌};
+ghost use Rattle.ada_parser.specs.Reading.{Reads, ReadsTwo, bounds_of};
 ghost use Rattle.ada_tree.specs.Syntax as syntax;
 ghost use Rattle.grammar_readers.specs.Brackets as brackets;
 ghost use Rattle.grammar_readers.specs.Levels as level;
+ghost use Rattle.std.specs.Prelude.{◌≡◌};
+ghost use Rattle.tree_nodes.specs.Parts.{the_name, the_part, the_simple, the_expr, the_arg, the_range, IsPart, IsExpr};
 ghost use Rattle.tree_nodes.specs.Rooted.{top, pop};
 ghost use Rattle.tree_nodes.specs.Stack.{parts};
-ghost use Rattle.tree_nodes.specs.Parts.{the_name, the_part, the_simple, the_expr, the_arg, the_range, IsPart, IsExpr};
-ghost use Rattle.ada_parser.specs.Reading.{Reads, ReadsTwo, bounds_of};
 
 use crate::chains::{Chain, list};
 use crate::expressions::{expr, simple, upper_bound};
 use crate::parser::Parser;
-use tree_nodes::{One, Three, Two, bare, leave_out, one, take_name, three, two};
 use ada_tree::kinds::{ARROW, CLOSE_ROUND, COMMA, DOTS, OPEN_ROUND, RANGE};
 use reader_laws::Fault;
+use tree_nodes::{One, Three, Two, bare, leave_out, one, take_name, three, two};
 
 /// `range` and the bounds after it, which are two parts (3.5).
 #[cycle(levels)]

@@ -1,24 +1,26 @@
 //! What square brackets open: aggregates and reductions (4.3.3, 4.5.10).
 
-ghost use Rattle.std.specs.Prelude.{◌≡◌, ◌∷◌, Some, false};
+ghost use Rattle.ada_parser.specs.Reading.{Reads, iter_form, HasParallel, JoinsRange};
 ghost use Rattle.ada_tree.specs.Syntax as syntax;
-ghost use Rattle.grammar_readers.specs.Brackets as brackets;
 ghost use Rattle.ada_tree.specs.Syntax.{AbsentParallel};
-ghost use Rattle.grammar_readers.specs.Read.{is_each};
+ghost use Rattle.grammar_readers.specs.Brackets as brackets;
 ghost use Rattle.grammar_readers.specs.Levels as level;
+ghost use Rattle.grammar_readers.specs.Read.{is_each};
+ghost use Rattle.std.specs.Prelude.{◌≡◌, ◌∷◌, Some, false};
+ghost use Rattle.tree_nodes.specs.Parts.{the_primary, the_expr, the_range, the_iter, optional_parallel, OfAssoc, IsPrimary};
 ghost use Rattle.tree_nodes.specs.Rooted.{top, pop, second, third};
 ghost use Rattle.tree_nodes.specs.Stack.{Joins, parts};
-ghost use Rattle.tree_nodes.specs.Parts.{the_primary, the_expr, the_range, the_iter, optional_parallel, OfAssoc, IsPrimary};
-ghost use Rattle.ada_parser.specs.Reading.{Reads, iter_form, HasParallel, JoinsRange};
 
 use crate::aggregates::{assocs_from, inside};
 use crate::expressions::expr;
 use crate::iterations::{iter_begun, iter_joined, parallel};
 use crate::parser::Parser;
 use crate::ranges::arrow_value;
-use tree_nodes::{One, Parts, Three, Two, leave_out, nothing, one, swap, three, two};
-use ada_tree::kinds::{CLOSE_ROUND, CLOSE_SQUARE, COMMA, FOR, IDENTIFIER, OPEN_ROUND, OPEN_SQUARE, PARALLEL, TICK};
+use ada_tree::kinds::{
+    CLOSE_ROUND, CLOSE_SQUARE, COMMA, FOR, IDENTIFIER, OPEN_ROUND, OPEN_SQUARE, PARALLEL, TICK,
+};
 use reader_laws::Fault;
+use tree_nodes::{One, Parts, Three, Two, leave_out, nothing, one, swap, three, two};
 
 /// A reduction, after the closing bracket of its values (4.5.10).
 #[cycle(levels)]
@@ -60,7 +62,13 @@ pub fn range_joined(out: &mut Parts, index: u32) -> Result<(), Fault>
 /// Values that can be an association: nothing, the range and the value are the parts.
 #[cycle(levels)]
 #[tactic(auto, unfolding(grammar_readers::specs::Brackets::each_end))]
-pub fn each_end(parser: &mut Parser<'_>, levels: u32, bracket: u32, at: u32, index: u32) -> Result<(), Fault>
+pub fn each_end(
+    parser: &mut Parser<'_>,
+    levels: u32,
+    bracket: u32,
+    at: u32,
+    index: u32,
+) -> Result<(), Fault>
     requires { optional_parallel (third (parts parser.old.out)) ≡ AbsentParallel }
     ensures { Reads the_primary IsPrimary (pop (pop (pop (parts parser.old.out)))) (brackets.each_end (level.levels levels) bracket at (iter_form (Some index) (second (parts parser.old.out))) (the_expr (top (parts parser.old.out))) parser.old.tokens) result parser.new.tokens (parts parser.new.out) }
 {
@@ -96,7 +104,12 @@ pub fn values_end(parser: &mut Parser<'_>, levels: u32, bracket: u32, at: u32) -
 /// What stands in square brackets and begins with `for`, after `parallel` or nothing.
 #[cycle(levels)]
 #[tactic(auto, unfolding(grammar_readers::specs::Brackets::values_from, grammar_readers::specs::Brackets::values_end))]
-pub fn values_from(parser: &mut Parser<'_>, levels: u32, bracket: u32, parallel: bool) -> Result<(), Fault>
+pub fn values_from(
+    parser: &mut Parser<'_>,
+    levels: u32,
+    bracket: u32,
+    parallel: bool,
+) -> Result<(), Fault>
     requires { HasParallel parallel (top (parts parser.old.out)) }
     ensures { Reads the_primary IsPrimary (pop (parts parser.old.out)) (brackets.values_from (level.levels levels) bracket (optional_parallel (top (parts parser.old.out))) parser.old.tokens) result parser.new.tokens (parts parser.new.out) }
 {

@@ -1,12 +1,12 @@
 //! Sequences of statements, and bodies with handlers (5.1, 11.2).
 
-ghost use Rattle.std.specs.Prelude.{◌∷◌};
+ghost use Rattle.ada_parser.specs.Reading.{Reads};
 ghost use Rattle.grammar_readers.specs.Statements as statements;
+ghost use Rattle.std.specs.Prelude.{◌∷◌};
+ghost use Rattle.tree_nodes.specs.Parts.{the_pack, the_stmts, the_handled, the_handler, the_handlers, the_body, IsPart, IsPack, IsStmts};
 ghost use Rattle.tree_nodes.specs.Rooted.{top, pop, second};
 ghost use Rattle.tree_nodes.specs.Stack.{Joins, parts};
 ghost use Rattle.tree_nodes.specs.Tables.{cell_value};
-ghost use Rattle.tree_nodes.specs.Parts.{the_pack, the_stmts, the_handled, the_handler, the_handlers, the_body, IsPart, IsPack, IsStmts};
-ghost use Rattle.ada_parser.specs.Reading.{Reads};
 
 use crate::chains::{Chain, list};
 use crate::compounds::stmt;

@@ -1,13 +1,13 @@
 //! The lists that a repetition of the grammar reads, in one loop.
 
-ghost use Rattle.std.specs.Prelude.{◌≡◌};
 ghost use Rattle.ada_base.specs.Symbols.{is_member};
+ghost use Rattle.ada_parser.specs.Reading.{Reads};
 ghost use Rattle.reader_laws.specs.Loops.{chain as loop};
+ghost use Rattle.statement_parser.specs.Chains as chains;
+ghost use Rattle.std.specs.Prelude.{◌≡◌};
+ghost use Rattle.tree_nodes.specs.Parts.{IsPart};
 ghost use Rattle.tree_nodes.specs.Rooted.{top, pop};
 ghost use Rattle.tree_nodes.specs.Stack.{parts};
-ghost use Rattle.tree_nodes.specs.Parts.{IsPart};
-ghost use Rattle.ada_parser.specs.Reading.{Reads};
-ghost use Rattle.statement_parser.specs.Chains as chains;
 
 use crate::bodies::{and_stmts, handler, next_exception};
 use crate::compounds::{alt, arm, begins_stmt, stmt};
@@ -15,9 +15,11 @@ use crate::declarations::{decl, next_formal};
 use crate::names::{next_identifier, next_name};
 use crate::types::{comp, next_index};
 use crate::units::{clause, next_pack, unit};
-use ada_parser::Parser;
-use ada_parser::aggregates::next_choice;
-use ada_tree::kinds::{AND, BAR, COMMA, ELSIF, FUNCTION, IDENTIFIER, POINT, PROCEDURE, SEMICOLON, SUBTYPE, TYPE, USE, WHEN, WITH};
+use ada_parser::{Parser, next_choice};
+use ada_tree::kinds::{
+    AND, BAR, COMMA, ELSIF, FUNCTION, IDENTIFIER, POINT, PROCEDURE, SEMICOLON, SUBTYPE, TYPE, USE,
+    WHEN, WITH,
+};
 use reader_laws::Fault;
 use tree_nodes::{ListKind, also, close, nothing};
 

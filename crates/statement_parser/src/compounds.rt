@@ -1,23 +1,23 @@
 //! If and case statements, and statements in general (5.1, 5.3, 5.4).
 
-ghost use Rattle.std.specs.Prelude.{◌≡◌};
 ghost use Rattle.ada_base.specs.Symbols.{is_member};
+ghost use Rattle.ada_parser.specs.Reading.{Reads};
 ghost use Rattle.grammar_readers.specs.Statements as statements;
+ghost use Rattle.std.specs.Prelude.{◌≡◌};
+ghost use Rattle.tree_nodes.specs.Parts.{the_stmt, the_name, the_arm, the_alt, optional_stmts, IsPart, IsName};
 ghost use Rattle.tree_nodes.specs.Rooted.{top, pop};
 ghost use Rattle.tree_nodes.specs.Stack.{parts};
-ghost use Rattle.tree_nodes.specs.Parts.{the_stmt, the_name, the_arm, the_alt, optional_stmts, IsPart, IsName};
-ghost use Rattle.ada_parser.specs.Reading.{Reads};
 
 use crate::bodies::{arrow_stmts, stmts, then_stmts};
 use crate::chains::{Chain, list};
 use crate::loops::{for_from, labelled, loop_from, while_from};
 use crate::parallels::{block_from, declaring, parallel_stmt};
 use crate::statements::{assigned, closing, exit, null, raise, returning};
-use ada_parser::Parser;
-use ada_parser::expressions::{expr, name};
-use ada_parser::aggregates::choice;
-use ada_parser::levels::below;
-use ada_tree::kinds::{ASSIGN, BEGIN, CASE, DECLARE, ELSE, ELSIF, EXIT, FOR, IDENTIFIER, IF, IS, LOOP, NULL, PARALLEL, RAISE, RETURN, SEMICOLON, WHEN, WHILE};
+use ada_parser::{Parser, below, choice, expr, name};
+use ada_tree::kinds::{
+    ASSIGN, BEGIN, CASE, DECLARE, ELSE, ELSIF, EXIT, FOR, IDENTIFIER, IF, IS, LOOP, NULL, PARALLEL,
+    RAISE, RETURN, SEMICOLON, WHEN, WHILE,
+};
 use reader_laws::Fault;
 use tree_nodes::{Four, One, Three, Two, bare, four, leave_out, nothing, one, three, two};
 
@@ -177,7 +177,18 @@ pub fn begins_stmt(kind: u16) -> bool
 {
     matches!(
         kind,
-        NULL | IDENTIFIER | EXIT | RETURN | RAISE | IF | CASE | WHILE | FOR | PARALLEL | LOOP | DECLARE | BEGIN
+        NULL | IDENTIFIER
+            | EXIT
+            | RETURN
+            | RAISE
+            | IF
+            | CASE
+            | WHILE
+            | FOR
+            | PARALLEL
+            | LOOP
+            | DECLARE
+            | BEGIN
     )
 }
 

@@ -1,20 +1,21 @@
 //! Formal parameters and declarations of objects, numbers and exceptions (3.3, 6.1, 11.1).
 
-ghost use Rattle.reader_laws.specs.Gives.{Gives};
+ghost use Rattle.ada_parser.specs.Reading.{Reads};
 ghost use Rattle.grammar_readers.specs.Declarations as declarations;
+ghost use Rattle.reader_laws.specs.Gives.{Gives};
+ghost use Rattle.tree_nodes.specs.Parts.{the_ids, the_formal, the_formals, the_decl, the_object_type, maybe_formals, maybe_expr, IsPart, IsFormals, IsDecl};
 ghost use Rattle.tree_nodes.specs.Rooted.{top, pop};
 ghost use Rattle.tree_nodes.specs.Stack.{parts};
-ghost use Rattle.tree_nodes.specs.Parts.{the_ids, the_formal, the_formals, the_decl, the_object_type, maybe_formals, maybe_expr, IsPart, IsFormals, IsDecl};
-ghost use Rattle.ada_parser.specs.Reading.{Reads};
 
 use crate::chains::{Chain, list};
 use crate::names::ids;
 use crate::types::{array, indic, subtype_decl, type_decl};
-use ada_parser::Parser;
-use ada_parser::expressions::expr;
-use ada_parser::levels::{below, opens};
-use ada_tree::kinds::{ARRAY, ASSIGN, CLOSE_ROUND, COLON, CONSTANT, EXCEPTION, IDENTIFIER, IN, OPEN_ROUND, OUT, SEMICOLON, SUBTYPE, TYPE};
+use ada_parser::{Parser, below, expr, opens};
 use ada_tree::Mode;
+use ada_tree::kinds::{
+    ARRAY, ASSIGN, CLOSE_ROUND, COLON, CONSTANT, EXCEPTION, IDENTIFIER, IN, OPEN_ROUND, OUT,
+    SEMICOLON, SUBTYPE, TYPE,
+};
 use reader_laws::{Cursor, Fault};
 use tree_nodes::{One, Three, Two, nothing, one, three, two};
 

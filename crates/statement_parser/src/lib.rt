@@ -1,16 +1,19 @@
-//! The parser of declarations, statements and programs: what is read is joined on a stack of parts.
+//! The parser of declarations, statements and programs (10.1).
+//!
+//! It is made as that of expressions: each function reads one rule, and what it read is the latest part of
+//! [`ada_parser::Parser::out`]. [`program`] reads a whole text's tokens.
 #![tactic(auto)]
 
-pub mod bodies;
-pub mod chains;
-pub mod compounds;
-pub mod declarations;
-pub mod loops;
-pub mod names;
-pub mod parallels;
-pub mod statements;
-pub mod subprograms;
-pub mod types;
-pub mod units;
+mod bodies;
+mod chains;
+mod compounds;
+mod declarations;
+mod loops;
+mod names;
+mod parallels;
+mod statements;
+mod subprograms;
+mod types;
+mod units;
 
 pub use units::program;

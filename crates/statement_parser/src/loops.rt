@@ -1,17 +1,15 @@
 //! Loops (5.5).
 
+ghost use Rattle.ada_parser.specs.Reading.{Reads, ReadsForm};
 ghost use Rattle.grammar_readers.specs.Statements as statements;
+ghost use Rattle.statement_parser.specs.Reading.{loop_ended, AnyToken};
+ghost use Rattle.tree_nodes.specs.Parts.{the_stmt, maybe_token, maybe_parallel, maybe_scheme, IsPart};
 ghost use Rattle.tree_nodes.specs.Rooted.{top, pop, second};
 ghost use Rattle.tree_nodes.specs.Stack.{parts};
-ghost use Rattle.tree_nodes.specs.Parts.{the_stmt, maybe_token, maybe_parallel, maybe_scheme, IsPart};
-ghost use Rattle.ada_parser.specs.Reading.{Reads, ReadsForm};
-ghost use Rattle.statement_parser.specs.Reading.{loop_ended, AnyToken};
 
 use crate::bodies::stmts;
 use crate::names::{join_identifier, maybe_identifier};
-use ada_parser::Parser;
-use ada_parser::expressions::expr;
-use ada_parser::iterations::{iter, parallel};
+use ada_parser::{Parser, expr, iter, parallel};
 use ada_tree::kinds::{COLON, END, FOR, LOOP, PARALLEL, SEMICOLON, WHILE};
 use reader_laws::Fault;
 use tree_nodes::{Four, Leaf, One, Two, four, leaf, nothing, one, two};

@@ -1,12 +1,12 @@
 //! Identifiers and names of packages (3.1, 4.1.3).
 
-ghost use Rattle.reader_laws.specs.Gives.{Gives};
+ghost use Rattle.ada_parser.specs.Reading.{Reads};
 ghost use Rattle.grammar_readers.specs.Declarations as declarations;
 ghost use Rattle.grammar_readers.specs.Statements as statements;
-ghost use Rattle.tree_nodes.specs.Stack.{parts};
-ghost use Rattle.tree_nodes.specs.Parts.{the_token, the_ids, the_pack, IsPart, IsPack};
-ghost use Rattle.ada_parser.specs.Reading.{Reads};
+ghost use Rattle.reader_laws.specs.Gives.{Gives};
 ghost use Rattle.statement_parser.specs.Reading.{JoinsToken};
+ghost use Rattle.tree_nodes.specs.Parts.{the_token, the_ids, the_pack, IsPart, IsPack};
+ghost use Rattle.tree_nodes.specs.Stack.{parts};
 
 use crate::chains::{Chain, list};
 use ada_parser::Parser;

@@ -1,18 +1,17 @@
 //! Blocks and parallel constructs (5.6, 5.6.1).
 
+ghost use Rattle.ada_parser.specs.Reading.{Reads, chunk_form, ChunkForm};
 ghost use Rattle.grammar_readers.specs.Statements as statements;
+ghost use Rattle.statement_parser.specs.Reading.{JoinsParallel};
+ghost use Rattle.tree_nodes.specs.Parts.{the_stmt, maybe_simple, maybe_declare, IsPart};
 ghost use Rattle.tree_nodes.specs.Rooted.{top, pop};
 ghost use Rattle.tree_nodes.specs.Stack.{parts};
-ghost use Rattle.tree_nodes.specs.Parts.{the_stmt, maybe_simple, maybe_declare, IsPart};
-ghost use Rattle.ada_parser.specs.Reading.{Reads, chunk_form, ChunkForm};
-ghost use Rattle.statement_parser.specs.Reading.{JoinsParallel};
 
 use crate::bodies::{and_stmts, body, stmts};
 use crate::chains::{Chain, list};
 use crate::loops::for_from;
 use crate::statements::closing;
-use ada_parser::Parser;
-use ada_parser::levels::chunk;
+use ada_parser::{Parser, chunk};
 use ada_tree::kinds::{BEGIN, DECLARE, DO, END, FOR, PARALLEL, SEMICOLON};
 use reader_laws::Fault;
 use tree_nodes::{Four, Leaf, One, Parts, Two, four, leaf, nothing, one, swap, two};
@@ -73,7 +72,12 @@ pub fn join_parallel(out: &mut Parts, at: u32, counted: bool) -> Result<(), Faul
 /// A parallel construct, after its chunk specification, which is `counted` where it is a sum alone (5.5, 5.6.1).
 #[cycle(list)]
 #[tactic(auto, unfolding(grammar_readers::specs::Statements::chunked_from))]
-pub fn chunked_from(parser: &mut Parser<'_>, levels: u32, at: u32, counted: bool) -> Result<(), Fault>
+pub fn chunked_from(
+    parser: &mut Parser<'_>,
+    levels: u32,
+    at: u32,
+    counted: bool,
+) -> Result<(), Fault>
     requires { ChunkForm counted (top (parts parser.old.out)) }
     ensures { Reads the_stmt IsPart (pop (parts parser.old.out)) (statements.chunked_from levels (statements.stmt levels) at (chunk_form at counted (top (parts parser.old.out))) parser.old.tokens) result parser.new.tokens (parts parser.new.out) }
 {

@@ -1,16 +1,14 @@
 //! Statements without statements in them (5.1).
 
-ghost use Rattle.reader_laws.specs.Gives.{Gives};
+ghost use Rattle.ada_parser.specs.Reading.{Reads};
 ghost use Rattle.grammar_readers.specs.Statements as statements;
+ghost use Rattle.reader_laws.specs.Gives.{Gives};
+ghost use Rattle.tree_nodes.specs.Parts.{the_stmt, the_name, IsPart};
 ghost use Rattle.tree_nodes.specs.Rooted.{top, pop};
 ghost use Rattle.tree_nodes.specs.Stack.{parts};
-ghost use Rattle.tree_nodes.specs.Parts.{the_stmt, the_name, IsPart};
-ghost use Rattle.ada_parser.specs.Reading.{Reads};
 
 use crate::names::{maybe_identifier, pack};
-use ada_parser::Parser;
-use ada_parser::expressions::expr;
-use ada_parser::iterations::filter;
+use ada_parser::{Parser, expr, filter};
 use ada_tree::kinds::{ASSIGN, END, EXIT, NULL, RAISE, RETURN, SEMICOLON};
 use reader_laws::{Cursor, Fault};
 use tree_nodes::{Leaf, One, Two, leaf, nothing, one, two};

@@ -1,23 +1,24 @@
 //! Subprograms (6.3, 6.8).
 
-ghost use Rattle.std.specs.Prelude.{◌≡◌};
 ghost use Rattle.ada_base.specs.Symbols.{is_member};
+ghost use Rattle.ada_parser.specs.Reading.{Reads, ReadsForm};
 ghost use Rattle.grammar_readers.specs.Units as units;
+ghost use Rattle.statement_parser.specs.Reading.{valued_of, ended_of, AnyName};
+ghost use Rattle.std.specs.Prelude.{◌≡◌};
+ghost use Rattle.tree_nodes.specs.Parts.{the_sub, maybe_formals, maybe_aspect, IsPart, IsSub};
 ghost use Rattle.tree_nodes.specs.Rooted.{top, pop, second};
 ghost use Rattle.tree_nodes.specs.Stack.{parts};
-ghost use Rattle.tree_nodes.specs.Parts.{the_sub, maybe_formals, maybe_aspect, IsPart, IsSub};
-ghost use Rattle.ada_parser.specs.Reading.{Reads, ReadsForm};
-ghost use Rattle.statement_parser.specs.Reading.{valued_of, ended_of, AnyName};
 
 use crate::bodies::body;
 use crate::chains::{Chain, list};
 use crate::declarations::optional_formals;
 use crate::names::maybe_identifier;
 use crate::units::{aspect, optional_aspect};
-use ada_parser::Parser;
-use ada_parser::expressions::expr;
-use ada_parser::levels::{below, opens};
-use ada_tree::kinds::{BEGIN, CLOSE_ROUND, END, FUNCTION, IDENTIFIER, IS, OPEN_ROUND, PROCEDURE, RETURN, SEMICOLON, WITH};
+use ada_parser::{Parser, below, expr, opens};
+use ada_tree::kinds::{
+    BEGIN, CLOSE_ROUND, END, FUNCTION, IDENTIFIER, IS, OPEN_ROUND, PROCEDURE, RETURN, SEMICOLON,
+    WITH,
+};
 use reader_laws::Fault;
 use tree_nodes::{One, Three, Two, nothing, one, three, two};
 
@@ -58,7 +59,12 @@ pub fn ended(parser: &mut Parser<'_>, levels: u32) -> Result<Option<u32>, Fault>
 /// A procedure, after its aspect (6.3).
 #[cycle(list)]
 #[tactic(auto, unfolding(grammar_readers::specs::Units::procedure_is))]
-pub fn procedure_is(parser: &mut Parser<'_>, levels: u32, at: u32, defined: u32) -> Result<(), Fault>
+pub fn procedure_is(
+    parser: &mut Parser<'_>,
+    levels: u32,
+    at: u32,
+    defined: u32,
+) -> Result<(), Fault>
     ensures { Reads the_sub IsSub (pop (pop (parts parser.old.out))) (units.procedure_is levels at defined (maybe_formals (second (parts parser.old.out))) (maybe_aspect (top (parts parser.old.out))) parser.old.tokens) result parser.new.tokens (parts parser.new.out) }
 {
     parser.tokens.take(IS)?;
@@ -84,7 +90,13 @@ pub fn procedure(parser: &mut Parser<'_>, levels: u32) -> Result<(), Fault>
 /// A function, after `is` (6.3).
 #[cycle(list)]
 #[tactic(auto, unfolding(grammar_readers::specs::Units::function_body))]
-pub fn function_body(parser: &mut Parser<'_>, levels: u32, at: u32, defined: u32, result_mark: u32) -> Result<(), Fault>
+pub fn function_body(
+    parser: &mut Parser<'_>,
+    levels: u32,
+    at: u32,
+    defined: u32,
+    result_mark: u32,
+) -> Result<(), Fault>
     ensures { Reads the_sub IsSub (pop (pop (parts parser.old.out))) (units.function_body levels at defined (maybe_formals (second (parts parser.old.out))) result_mark (maybe_aspect (top (parts parser.old.out))) parser.old.tokens) result parser.new.tokens (parts parser.new.out) }
 {
     list(parser, levels, Chain::Decls)?;
@@ -95,19 +107,34 @@ pub fn function_body(parser: &mut Parser<'_>, levels: u32, at: u32, defined: u32
 
 /// An expression function, after `is` (6.8).
 #[tactic(auto, unfolding(grammar_readers::specs::Units::expression_function))]
-pub fn expression_function(parser: &mut Parser<'_>, levels: u32, at: u32, defined: u32, result_mark: u32) -> Result<(), Fault>
+pub fn expression_function(
+    parser: &mut Parser<'_>,
+    levels: u32,
+    at: u32,
+    defined: u32,
+    result_mark: u32,
+) -> Result<(), Fault>
     ensures { Reads the_sub IsSub (pop (parts parser.old.out)) (units.expression_function levels at defined (maybe_formals (top (parts parser.old.out))) result_mark parser.old.tokens) result parser.new.tokens (parts parser.new.out) }
 {
     function_value(parser, levels)?;
     optional_aspect(parser)?;
     parser.tokens.take(SEMICOLON)?;
-    three(&mut parser.out, Three::ExprFunction(at, defined, result_mark))
+    three(
+        &mut parser.out,
+        Three::ExprFunction(at, defined, result_mark),
+    )
 }
 
 /// A function, after the mark of its result (6.3).
 #[cycle(list)]
 #[tactic(auto, unfolding(grammar_readers::specs::Units::function_from))]
-pub fn function_from(parser: &mut Parser<'_>, levels: u32, at: u32, defined: u32, result_mark: u32) -> Result<(), Fault>
+pub fn function_from(
+    parser: &mut Parser<'_>,
+    levels: u32,
+    at: u32,
+    defined: u32,
+    result_mark: u32,
+) -> Result<(), Fault>
     ensures { Reads the_sub IsSub (pop (parts parser.old.out)) (units.function_from levels at defined (maybe_formals (top (parts parser.old.out))) result_mark parser.old.tokens) result parser.new.tokens (parts parser.new.out) }
 {
     if parser.tokens.peek() == WITH {

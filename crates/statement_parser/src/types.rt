@@ -1,17 +1,18 @@
 //! Types (3.2, 3.6, 3.8).
 
-ghost use Rattle.grammar_readers.specs.Declarations as declarations;
-ghost use Rattle.tree_nodes.specs.Stack.{parts};
-ghost use Rattle.tree_nodes.specs.Parts.{the_range, the_indic, the_array, the_comp, the_definition, the_decl, IsPart, IsIndic, IsArray, IsDecl};
 ghost use Rattle.ada_parser.specs.Reading.{Reads, ReadsTwo};
+ghost use Rattle.grammar_readers.specs.Declarations as declarations;
 ghost use Rattle.statement_parser.specs.Reading.{indexes_of};
+ghost use Rattle.tree_nodes.specs.Parts.{the_range, the_indic, the_array, the_comp, the_definition, the_decl, IsPart, IsIndic, IsArray, IsDecl};
+ghost use Rattle.tree_nodes.specs.Stack.{parts};
 
 use crate::chains::{Chain, list};
 use crate::names::ids;
-use ada_parser::Parser;
-use ada_parser::ranges::{constraint, range};
-use ada_parser::levels::{below, opens};
-use ada_tree::kinds::{ARRAY, CLOSE_ROUND, COLON, COMMA, END, IDENTIFIER, IS, OF, OPEN_ROUND, RANGE, RECORD, SEMICOLON, SUBTYPE, TYPE};
+use ada_parser::{Parser, below, constraint, opens, range};
+use ada_tree::kinds::{
+    ARRAY, CLOSE_ROUND, COLON, COMMA, END, IDENTIFIER, IS, OF, OPEN_ROUND, RANGE, RECORD,
+    SEMICOLON, SUBTYPE, TYPE,
+};
 use reader_laws::Fault;
 use tree_nodes::{Leaf, One, Three, Two, leaf, one, three, two};
 

@@ -1,20 +1,21 @@
 //! Programs, context clauses and aspects (10.1, 13.1.1).
 
-ghost use Rattle.reader_laws.specs.Gives.{Gives};
+ghost use Rattle.ada_parser.specs.Reading.{Reads};
 ghost use Rattle.grammar_readers.specs.Units as units;
+ghost use Rattle.reader_laws.specs.Gives.{Gives};
+ghost use Rattle.tree_nodes.specs.Parts.{the_pack, the_policy, the_clause, the_aspect, the_unit, the_main, the_program, maybe_policy, maybe_aspect, IsPart, IsPack, IsPolicy, IsAspect};
 ghost use Rattle.tree_nodes.specs.Rooted.{top, pop};
 ghost use Rattle.tree_nodes.specs.Stack.{parts};
-ghost use Rattle.tree_nodes.specs.Parts.{the_pack, the_policy, the_clause, the_aspect, the_unit, the_main, the_program, maybe_policy, maybe_aspect, IsPart, IsPack, IsPolicy, IsAspect};
-ghost use Rattle.ada_parser.specs.Reading.{Reads};
 
 use crate::chains::{Chain, list};
 use crate::declarations::decl;
 use crate::names::{join_identifier, pack};
 use crate::subprograms::{begins_sub, ended, sub};
-use ada_parser::Parser;
-use ada_parser::levels::{below, opens};
-use ada_tree::kinds::{ARROW, CLOSE_ROUND, COMMA, IDENTIFIER, IS, OPEN_ROUND, PRAGMA, PROCEDURE, SEMICOLON, USE, WITH};
+use ada_parser::{Parser, below, opens};
 use ada_tree::ClauseWord;
+use ada_tree::kinds::{
+    ARROW, CLOSE_ROUND, COMMA, IDENTIFIER, IS, OPEN_ROUND, PRAGMA, PROCEDURE, SEMICOLON, USE, WITH,
+};
 use reader_laws::{Cursor, Fault};
 use tree_nodes::{Four, Leaf, Three, Two, four, leaf, nothing, three, two};
 

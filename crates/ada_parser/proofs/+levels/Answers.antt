@@ -57,9 +57,10 @@ chains::follow-returns-in_err-link t c =
 pub chains::follow-loop-turn-preserved : goal.chains::follow-loop-turn-preserved
 chains::follow-loop-turn-preserved t c =
     let on = subst (λ k. is_member (chains.goes c.args.chain) k ≡ true) c.peek.ensures (sym c.goes.ensures ∙ c.if-not-goes.false) in
-    let found = c.in_ok-link.ensures in
-    (sym (turn_found (chains.goes c.args.chain) (chains.link (level.levels c.args.levels) c.args.chain) c.left-turn-end.result c.loop-turn._turn _ c.loop-turn.parser.tokens c.loop-turn-test.true on _ c.link.new.parser.tokens found.0) ∙ c.loop-turn.invariant.0,
-    found.1 ∙ c.loop-turn.invariant.1)
+    let found = c.in_ok-link.ensures in (
+      sym (turn_found (chains.goes c.args.chain) (chains.link (level.levels c.args.levels) c.args.chain) c.left-turn-end.result c.loop-turn._turn _ c.loop-turn.parser.tokens c.loop-turn-test.true on _ c.link.new.parser.tokens found.0) ∙ c.loop-turn.invariant.0,
+      found.1 ∙ c.loop-turn.invariant.1,
+    )
 
 pub chains::follow-returns : goal.chains::follow-returns
 chains::follow-returns t c =
@@ -117,7 +118,8 @@ pub aggregates::positions-loop-turn-preserved : goal.aggregates::positions-loop-
 aggregates::positions-loop-turn-preserved t c =
     let on = one_member 278 (next_kind c.loop-turn.parser.tokens) (sym c.peek.ensures ∙ c.if-peek-ne-COMMA.false) in
     let other = not_member 47 (next_kind c.take.new.self) (λ e. c.if-peek-eq-OTHERS.false (c.peek-in-loop-turn.ensures ∙ e)) in
-    let found = c.in_ok-expr.ensures in
-    (sym (positions_next (level.levels c.args.levels) c.left-turn-end.result c.loop-turn._turn (parts c.loop-turn.parser.out) c.loop-turn.parser.tokens c.loop-turn-test.true on _ c.take.new.self c.in_ok-take.ensures other
-    c.expr.new.parser.tokens (parts c.expr.new.parser.out) (parts c.also.new.out) _ found.0 found.1 refl c.in_ok-also.ensures) ∙ c.loop-turn.invariant.0,
-    ap (λ z. pop (pop (pop z))) c.in_ok-also.ensures ∙ ap (λ z. pop (pop (pop z))) found.1 ∙ c.loop-turn.invariant.1)
+    let found = c.in_ok-expr.ensures in (
+      sym (positions_next (level.levels c.args.levels) c.left-turn-end.result c.loop-turn._turn (parts c.loop-turn.parser.out) c.loop-turn.parser.tokens c.loop-turn-test.true on _ c.take.new.self c.in_ok-take.ensures other
+          c.expr.new.parser.tokens (parts c.expr.new.parser.out) (parts c.also.new.out) _ found.0 found.1 refl c.in_ok-also.ensures) ∙ c.loop-turn.invariant.0,
+      ap (λ z. pop (pop (pop z))) c.in_ok-also.ensures ∙ ap (λ z. pop (pop (pop z))) found.1 ∙ c.loop-turn.invariant.1,
+    )

@@ -242,11 +242,11 @@ decreases-squares::values_from l = 128 * l.levels + 47
 abbrev pub invariant-chains::follow-loop-turn : goal.invariant-chains::follow-loop-turn
 invariant-chains::follow-loop-turn l =
     (turns (l._turn-end - l._turn) (chains.goes l.fn.chain) (chains.link (level.levels l.fn.levels) l.fn.chain) (chains.so_far l.fn.chain (top (parts l.parser.out))) l.parser.tokens ≡
-        chain (chains.goes l.fn.chain) (chains.link (level.levels l.fn.levels) l.fn.chain) (chains.so_far l.fn.chain (top (parts l.fn.parser.out))) l.fn.parser.tokens)
+    chain (chains.goes l.fn.chain) (chains.link (level.levels l.fn.levels) l.fn.chain) (chains.so_far l.fn.chain (top (parts l.fn.parser.out))) l.fn.parser.tokens)
     × (pop (parts l.parser.out) ≡ pop (parts l.fn.parser.out))
 
 abbrev pub invariant-aggregates::positions-loop-turn : goal.invariant-aggregates::positions-loop-turn
 invariant-aggregates::positions-loop-turn l =
     (positions_for (level.levels l.fn.levels) (l._turn-end - l._turn) (the_expr (third (parts l.parser.out))) (the_expr (second (parts l.parser.out))) (open_exprs (top (parts l.parser.out))) l.parser.tokens ≡
-        positions_for (level.levels l.fn.levels) (length l.fn.parser.tokens) (the_expr (third (parts l.fn.parser.out))) (the_expr (second (parts l.fn.parser.out))) (open_exprs (top (parts l.fn.parser.out))) l.fn.parser.tokens)
+    positions_for (level.levels l.fn.levels) (length l.fn.parser.tokens) (the_expr (third (parts l.fn.parser.out))) (the_expr (second (parts l.fn.parser.out))) (open_exprs (top (parts l.fn.parser.out))) l.fn.parser.tokens)
     × (pop (pop (pop (parts l.parser.out))) ≡ pop (pop (pop (parts l.fn.parser.out))))

@@ -80,9 +80,10 @@ chains::follow-returns-in_err-link t c =
 pub chains::follow-loop-turn-preserved : goal.chains::follow-loop-turn-preserved
 chains::follow-loop-turn-preserved t c =
     let on = subst (λ k. is_member (chains.goes c.args.chain) k ≡ true) c.peek.ensures (sym c.goes.ensures ∙ c.if-not-goes.false) in
-    let found = c.in_ok-link.ensures in
-    (sym (turn_found (chains.goes c.args.chain) (chains.link c.args.levels c.args.chain) c.left-turn-end.result c.loop-turn._turn _ c.loop-turn.parser.tokens c.loop-turn-test.true on _ c.link.new.parser.tokens found.0) ∙ c.loop-turn.invariant.0,
-    found.1 ∙ c.loop-turn.invariant.1)
+    let found = c.in_ok-link.ensures in (
+      sym (turn_found (chains.goes c.args.chain) (chains.link c.args.levels c.args.chain) c.left-turn-end.result c.loop-turn._turn _ c.loop-turn.parser.tokens c.loop-turn-test.true on _ c.link.new.parser.tokens found.0) ∙ c.loop-turn.invariant.0,
+      found.1 ∙ c.loop-turn.invariant.1,
+    )
 
 pub chains::follow-returns : goal.chains::follow-returns
 chains::follow-returns t c =
@@ -109,4 +110,3 @@ chains::list-returns t c =
     c.follow.new.parser.tokens (parts c.follow.new.parser.out) (parts c.close.new.out) c.list_kind.result c.close.result
     (λ k. chain_closed c.args.chain _ _ (subst (λ z. IsClosed z (top (parts c.close.new.out)) (top (parts c.follow.new.parser.out))) c.list_kind.ensures k))
     c.in_ok-follow.ensures.0 c.in_ok-follow.ensures.1 c.close.ensures)
-

@@ -206,5 +206,5 @@ decreases-units::unit l = 128 * l.levels + 15
 abbrev pub invariant-chains::follow-loop-turn : goal.invariant-chains::follow-loop-turn
 invariant-chains::follow-loop-turn l =
     (turns (l._turn-end - l._turn) (chains.goes l.fn.chain) (chains.link l.fn.levels l.fn.chain) (chains.so_far l.fn.chain (top (parts l.parser.out))) l.parser.tokens ≡
-        chain (chains.goes l.fn.chain) (chains.link l.fn.levels l.fn.chain) (chains.so_far l.fn.chain (top (parts l.fn.parser.out))) l.fn.parser.tokens)
+    chain (chains.goes l.fn.chain) (chains.link l.fn.levels l.fn.chain) (chains.so_far l.fn.chain (top (parts l.fn.parser.out))) l.fn.parser.tokens)
     × (pop (parts l.parser.out) ≡ pop (parts l.fn.parser.out))
