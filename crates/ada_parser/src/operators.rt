@@ -1,6 +1,6 @@
 //! Operators, and their tokens.
 
-ghost use Rattle.reader_laws.specs.Gives.{Gives};
+ghost use Rattle.reader_combinators.specs.Computes.{Computes};
 ghost use Rattle.grammar_readers.specs.Brackets as brackets;
 ghost use Rattle.grammar_readers.specs.Expressions as reader;
 
@@ -9,11 +9,11 @@ use ada_tree::kinds::{
     STAR, UNEQUAL,
 };
 use ada_tree::{Additive, Comparison, Multiplicative, Sign};
-use reader_laws::{Cursor, Fault};
+use reader_combinators::{Cursor, Fault};
 
 #[tactic(auto, unfolding(grammar_readers::specs::Expressions::multiplying_operator))]
 pub fn multiplying_operator(tokens: &mut Cursor<'_>) -> Result<(Multiplicative, u32), Fault>
-    ensures { Gives (reader.multiplying_operator tokens.old) result tokens.new }
+    ensures { Computes (reader.multiplying_operator tokens.old) result tokens.new }
 {
     match tokens.peek() {
         STAR => Ok((Multiplicative::Times, tokens.take(STAR)?)),
@@ -25,7 +25,7 @@ pub fn multiplying_operator(tokens: &mut Cursor<'_>) -> Result<(Multiplicative, 
 
 #[tactic(auto, unfolding(grammar_readers::specs::Expressions::adding_operator))]
 pub fn adding_operator(tokens: &mut Cursor<'_>) -> Result<(Additive, u32), Fault>
-    ensures { Gives (reader.adding_operator tokens.old) result tokens.new }
+    ensures { Computes (reader.adding_operator tokens.old) result tokens.new }
 {
     match tokens.peek() {
         PLUS => Ok((Additive::Plus, tokens.take(PLUS)?)),
@@ -36,7 +36,7 @@ pub fn adding_operator(tokens: &mut Cursor<'_>) -> Result<(Additive, u32), Fault
 
 #[tactic(auto, unfolding(grammar_readers::specs::Expressions::sign))]
 pub fn sign(tokens: &mut Cursor<'_>) -> Result<Sign, Fault>
-    ensures { Gives (reader.sign tokens.old) result tokens.new }
+    ensures { Computes (reader.sign tokens.old) result tokens.new }
 {
     if tokens.peek() == PLUS {
         Ok(Sign::Plus(tokens.take(PLUS)?))
@@ -47,7 +47,7 @@ pub fn sign(tokens: &mut Cursor<'_>) -> Result<Sign, Fault>
 
 #[tactic(auto, unfolding(grammar_readers::specs::Expressions::comparison))]
 pub fn comparison(tokens: &mut Cursor<'_>) -> Result<(Comparison, u32), Fault>
-    ensures { Gives (reader.comparison tokens.old) result tokens.new }
+    ensures { Computes (reader.comparison tokens.old) result tokens.new }
 {
     match tokens.peek() {
         EQUAL => Ok((Comparison::Equal, tokens.take(EQUAL)?)),
@@ -61,7 +61,7 @@ pub fn comparison(tokens: &mut Cursor<'_>) -> Result<(Comparison, u32), Fault>
 
 #[tactic(auto, unfolding(grammar_readers::specs::Brackets::reversed))]
 pub fn reversed(tokens: &mut Cursor<'_>) -> Result<Option<u32>, Fault>
-    ensures { Gives (brackets.reversed tokens.old) result tokens.new }
+    ensures { Computes (brackets.reversed tokens.old) result tokens.new }
 {
     if tokens.peek() == REVERSE {
         Ok(Some(tokens.take(REVERSE)?))
