@@ -1,5 +1,5 @@
 -- The rows of broken rules, computed.
-use Rattle.std.proofs.Common.{inl, inr, ⊎_elim, refl}
+use Rattle.std.proofs.Common.{inl, inr, ⊎_elim, refl, arith}
 use Rattle.ada_effects.specs.ClashRows.{ClashRows, TouchedRows}
 
 none : {C : Type 0} → ⊥ → C
@@ -10,32 +10,38 @@ clash_rows = (
   (
     _,
     (inl (inr (inl (inl (inl refl)), tt))),
-    record {
-      arm = 0;
-      other_arm = 0;
-      compared = tt;
-      access = _;
-      other_access = _;
-      effect = inl (inr (inl (inr (inr (inl (inl refl))))));
-      other_effect = inl (inr (inl (inr (inr (inl (inr (inr (inl refl))))))));
-      writes = refl;
-      together = ⊎_elim (λ unlike. unlike refl) (⊎_elim none (⊎_elim none none));
-    },
+    (
+      omega arith,
+      inl (record {
+        arm = 0;
+        other_arm = 0;
+        compared = tt;
+        access = _;
+        other_access = _;
+        effect = inl (inr (inl (inr (inr (inl (inl refl))))));
+        other_effect = inl (inr (inl (inr (inr (inl (inr (inr (inl refl))))))));
+        writes = refl;
+        together = ⊎_elim (λ unlike. unlike refl) (⊎_elim none (⊎_elim none none));
+      }),
+    ),
   ),
   (
     _,
     (inl (inr ((inr (inl (inl (inl refl)), tt)), tt))),
-    record {
-      arm = 0;
-      other_arm = 0;
-      compared = tt;
-      access = _;
-      other_access = _;
-      effect = inl (inr (inl (inl refl)));
-      other_effect = inl (inr (inl (inl refl)));
-      writes = refl;
-      together = ⊎_elim (λ unlike. unlike refl) none;
-    },
+    (
+      omega arith,
+      inl (record {
+        arm = 0;
+        other_arm = 0;
+        compared = tt;
+        access = _;
+        other_access = _;
+        effect = inl (inr (inl (inl refl)));
+        other_effect = inl (inr (inl (inl refl)));
+        writes = refl;
+        together = ⊎_elim (λ unlike. unlike refl) none;
+      }),
+    ),
   ),
 )
 

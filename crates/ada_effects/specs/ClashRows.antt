@@ -5,11 +5,11 @@ use Rattle.ada_typed.specs.Syntax as syntax
 use Rattle.ada_typed.specs.Syntax.{Expr, Variable, Parameter, Absent, Selections, Whole, Index, Range, NoChunk, NoDecl, DeclareVariable, Assign, For, ParallelFor, Parallel, End, Then, NoArm, Arm, Program}
 use Rattle.ada_meaning.specs.Rows.{integer, number, sum, stored, object_of, made_of, upto, array_of, filled_with, indexed}
 use Rattle.ada_effects.specs.Effects.{Construct, Holds}
-use Rattle.ada_effects.specs.Conflicts.{Clashes, GlobalTouched, InProgram}
+use Rattle.ada_effects.specs.Conflicts.{ClashPair, GlobalTouched, InProgram}
 
 -- in some construct of the program
 abbrev SomeClash : Program → (at other : ℕ) → Type 0
-SomeClash program at other = (k : Construct) × InProgram program (Holds k) × Clashes program k at other
+SomeClash program at other = (k : Construct) × InProgram program (Holds k) × ClashPair program k at other
 
 abbrev SomeTouched : Program → (at object : ℕ) → Type 0
 SomeTouched program at object = (k : Construct) × InProgram program (Holds k) × GlobalTouched program k at object

@@ -4,8 +4,8 @@ use Rattle.ada_base.specs.Symbols.{Nested, Word, numbered}
 use Rattle.ada_base.specs.Languages.{Language}
 use Rattle.ada_base.specs.Derivations.{AllWithin, Derives, DerivesWithin, IsFirstTooDeep, SinksAt}
 use Rattle.ada_base.specs.declared.token.Token.{Token}
-use Rattle.reader_laws.proofs.FirstFaults.{tree_or_fault, tree_or_deep, one_fault}
-use Rattle.reader_laws.proofs.Words.{head_is}
+use Rattle.reader_combinators.proofs.FirstFaults.{tree_or_fault, tree_or_deep, one_fault}
+use Rattle.reader_combinators.proofs.Words.{head_is}
 use Rattle.ada_tree.specs.Grammar.{ProgramWords}
 use Rattle.ada_tree.specs.Parsed.{IsParsed, IsSyntaxFault, IsTooDeep, depth_limit}
 use Rattle.ada_tree.specs.TokenKinds.{kinds_of}

@@ -2,8 +2,8 @@
 use Rattle.std.specs.Prelude.{◌≡◌, ℕ, List, true, false, Result, Ok, Err}
 use Rattle.ada_base.specs.Tokens.{kind_at}
 use Rattle.ada_base.specs.declared.token.Token.{Token}
-use Rattle.reader_laws.specs.Settled.{Judged}
-use Rattle.reader_laws.specs.declared.fault.Refusal.{Refusal}
+use Rattle.reader_combinators.specs.Verdicts.{RightVerdict}
+use Rattle.reader_combinators.specs.declared.fault.Refusal.{Refusal}
 use Rattle.ada_tree.specs.Grammar.{ProgramWords}
 use Rattle.ada_tree.specs.Parsed.{IsParsed, IsSyntaxFault, IsTooDeep, depth_limit, is_left_out}
 use Rattle.ada_tree.specs.Syntax.{Program}
@@ -13,8 +13,8 @@ use Rattle.ada_grammar.specs.declared.parser.ParseFault.TheVariants.{LeftOut, Un
 
 -- the answer for a whole list of kinds is right, with a tree that stands for the program
 abbrev pub JudgedTree : List ℕ → Result Table Refusal → Type 0
-JudgedTree kinds (Ok tree) = Judged depth_limit ProgramWords kinds (Ok (program_of tree))
-JudgedTree kinds (Err refusal) = Judged depth_limit ProgramWords kinds (Err refusal)
+JudgedTree kinds (Ok tree) = RightVerdict depth_limit ProgramWords kinds (Ok (program_of tree))
+JudgedTree kinds (Err refusal) = RightVerdict depth_limit ProgramWords kinds (Err refusal)
 
 -- the tree of a text's tokens, or the first fault at a token that the language leaves out or at another, or the first
 -- token that stands too deep, unless memory ran out

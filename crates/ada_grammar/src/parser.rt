@@ -11,7 +11,7 @@ ghost use Rattle.ada_grammar.specs.Parsed.{Parsed, JudgedTree, GivesTree, GivesF
 use ada_base::{Kind, Token, Tokens};
 use ada_parser::Parser;
 use ada_tree::kinds::{is_left_out, kind_number};
-use reader_laws::{Cursor, Refusal, settle};
+use reader_combinators::{Cursor, Refusal, verdict};
 use statement_parser::program;
 use std::alloc::{AllocError, Global};
 use thiserror::Error;
@@ -80,7 +80,7 @@ fn judge(alloc: Global, kinds: &[u16]) -> Result<Tree, Refusal>
     };
     let read = program(&mut parser, DEPTH_LIMIT);
     let Parser { tokens, out } = parser;
-    match settle(kinds, &tokens, read) {
+    match verdict(kinds, &tokens, read) {
         Ok(()) => Ok(finish(out)),
         Err(refusal) => Err(refusal),
     }

@@ -5,7 +5,7 @@ use Rattle.tree_nodes.specs.Tables.{also_value}
 use Rattle.ada_parser.specs.Chains as chains
 use Rattle.ada_parser.specs.declared.chains.Chain.{Chain}
 use Rattle.ada_parser.specs.declared.chains.Chain.TheVariants as chain
-use Rattle.reader_laws.specs.Loops.{chain as loop}
+use Rattle.reader_combinators.specs.Loops.{chain as loop}
 use Rattle.grammar_readers.specs.Opened.{Opened}
 use Rattle.grammar_readers.specs.Expressions.{addings}
 use Rattle.grammar_readers.specs.Brackets.{more_args, more_choices, more_assocs, elsifs}

@@ -1,9 +1,9 @@
 -- The turns of the loop that reads the expressions of an aggregate.
 use Rattle.std.proofs.Common.{◌≡◌, ℕ, suc, ◌+◌, ◌-◌, ◌<◌, ◌≤◌, Bool, true, false, if◌then◌else◌, sym, ap, ◌∙◌, arith, rules, List, [], ◌∷◌, Err}
 use Rattle.ada_base.specs.Symbols.{Symbol, next_kind, is_member}
-use Rattle.reader_laws.specs.Readers.{Answer, Found, Refused, TooDeep, read_on, symbol, ◌>>=◌, ◌>>◌, by_next}
-use Rattle.reader_laws.specs.declared.fault.Fault.{Fault}
-use Rattle.reader_laws.specs.declared.fault.Fault.TheVariants as fault
+use Rattle.reader_combinators.specs.Readers.{Answer, Found, Refused, TooDeep, read_on, symbol, ◌>>=◌, ◌>>◌, by_next}
+use Rattle.reader_combinators.specs.declared.fault.Fault.{Fault}
+use Rattle.reader_combinators.specs.declared.fault.Fault.TheVariants as fault
 use Rattle.ada_tree.specs.Kinds as kind
 use Rattle.ada_tree.specs.Syntax.{Expr, Many, Positions}
 use Rattle.ada_tree.specs.Joining.{exprs_and}

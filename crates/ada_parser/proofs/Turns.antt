@@ -1,10 +1,10 @@
 -- The turns of a loop.
 use Rattle.std.proofs.Common.{◌≡◌, ℕ, suc, ◌+◌, ◌-◌, ◌<◌, ◌≤◌, Bool, true, false, if◌then◌else◌, sym, subst, ap, ◌∙◌, arith, List, ◌∷◌, Result, Ok, Err}
 use Rattle.ada_base.specs.Symbols.{Symbol, next_kind, is_member}
-use Rattle.reader_laws.specs.Readers.{Reader, Answer, Found, Refused, TooDeep, read_on, pure, ◌>>=◌}
-use Rattle.reader_laws.specs.Loops.{turns, chain}
-use Rattle.reader_laws.specs.declared.fault.Fault.{Fault}
-use Rattle.reader_laws.specs.declared.fault.Fault.TheVariants as fault
+use Rattle.reader_combinators.specs.Readers.{Reader, Answer, Found, Refused, TooDeep, read_on, pure, ◌>>=◌}
+use Rattle.reader_combinators.specs.Loops.{turns, chain}
+use Rattle.reader_combinators.specs.declared.fault.Fault.{Fault}
+use Rattle.reader_combinators.specs.declared.fault.Fault.TheVariants as fault
 use Rattle.tree_nodes.specs.Parts.{Part, Nothing, IsPart, IsClosed}
 use Rattle.tree_nodes.specs.Rooted.{top, pop, second}
 use Rattle.tree_nodes.specs.Stack.{Joins, Closes}

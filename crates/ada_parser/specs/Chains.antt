@@ -1,7 +1,7 @@
 -- What chains read.
 use Rattle.std.specs.Prelude.{ℕ, List, [], ◌∷◌}
-use Rattle.reader_laws.specs.Readers.{Reader, ◌>>=◌, pure}
-use Rattle.reader_laws.specs.Loops.{grown}
+use Rattle.reader_combinators.specs.Readers.{Reader, ◌>>=◌, pure}
+use Rattle.reader_combinators.specs.Loops.{grown}
 use Rattle.ada_tree.specs.Kinds as kind
 use Rattle.ada_tree.specs.Syntax as syntax
 use Rattle.ada_tree.specs.Joining.{parts_and, multiplyings_and, addings_and, conjuncts_and, args_and, choices_and, assocs_and, elsifs_and}

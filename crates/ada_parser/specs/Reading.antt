@@ -1,9 +1,9 @@
 -- What functions that read ensure.
 use Rattle.std.specs.Prelude.{◌≡◌, ℕ, suc, Bool, true, false, List, Option, Some, None, Result, Ok, Err}
 use Rattle.ada_base.specs.Symbols.{Symbol}
-use Rattle.reader_laws.specs.Readers.{Answer, Found, Refused, TooDeep}
-use Rattle.reader_laws.specs.declared.fault.Fault.{Fault}
-use Rattle.reader_laws.specs.declared.fault.Fault.TheVariants as fault
+use Rattle.reader_combinators.specs.Readers.{Answer, Found, Refused, TooDeep}
+use Rattle.reader_combinators.specs.declared.fault.Fault.{Fault}
+use Rattle.reader_combinators.specs.declared.fault.Fault.TheVariants as fault
 use Rattle.ada_tree.specs.Syntax.{Simple, OptionalExpr, AbsentExpr, PresentExpr, Iter, InRange, Parallel, Counted, AbsentParallel, PresentParallel}
 use Rattle.grammar_readers.specs.Read.{Inside, OneInside, ManyInside, is_each, option_of, count_of}
 use Rattle.tree_nodes.specs.Parts.{Part, the_expr, the_many, the_range, the_simple, the_iter, the_parallel, optional_expr, maybe_expr, optional_parallel, IsSimple, IsParallel}

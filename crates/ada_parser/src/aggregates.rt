@@ -4,7 +4,7 @@ ghost use Rattle.ada_parser.specs.Reading.{Reads, ReadsForm, many_inside, inside
 ghost use Rattle.ada_tree.specs.Syntax as syntax;
 ghost use Rattle.grammar_readers.specs.Brackets as brackets;
 ghost use Rattle.grammar_readers.specs.Levels as level;
-ghost use Rattle.reader_laws.specs.Readers.{Found};
+ghost use Rattle.reader_combinators.specs.Readers.{Found};
 ghost use Rattle.std.specs.Prelude.{◌≡◌, length};
 ghost use Rattle.tree_nodes.specs.Parts.{the_simple, the_expr, the_exprs, the_choice, the_assoc, the_many, open_exprs, IsPart, IsSimple};
 ghost use Rattle.tree_nodes.specs.Rooted.{top, pop, second, third};
@@ -15,7 +15,7 @@ use crate::expressions::{expr, expr_from, rel_from, simple, upper_bound};
 use crate::parser::Parser;
 use crate::ranges::{arrow_value, range};
 use ada_tree::kinds::{ARROW, BAR, COMMA, DOTS, FOR, IDENTIFIER, IN, OTHERS};
-use reader_laws::Fault;
+use reader_combinators::Fault;
 use tree_nodes::{Four, Leaf, ListKind, Three, Two, also, close, four, leaf, nothing, three, two};
 
 /// `others` as a choice (3.8.1).

@@ -12,7 +12,7 @@ use crate::chains::{Chain, list};
 use crate::expressions::expr;
 use crate::parser::Parser;
 use ada_tree::kinds::{CLOSE_ROUND, ELSE, ELSIF, FOR, IF, OPEN_ROUND, THEN};
-use reader_laws::Fault;
+use reader_combinators::Fault;
 use tree_nodes::{Four, One, Two, four, one, two};
 
 /// `then`, and the expression after it.

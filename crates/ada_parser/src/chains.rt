@@ -4,7 +4,7 @@ ghost use Rattle.ada_base.specs.Symbols.{is_member};
 ghost use Rattle.ada_parser.specs.Chains as chains;
 ghost use Rattle.ada_parser.specs.Reading.{Reads};
 ghost use Rattle.grammar_readers.specs.Levels as level;
-ghost use Rattle.reader_laws.specs.Loops.{chain as loop};
+ghost use Rattle.reader_combinators.specs.Loops.{chain as loop};
 ghost use Rattle.std.specs.Prelude.{◌≡◌};
 ghost use Rattle.tree_nodes.specs.Parts.{the_conjunct, IsPart};
 ghost use Rattle.tree_nodes.specs.Rooted.{top, pop};
@@ -20,7 +20,7 @@ use ada_tree::kinds::{
     AMPERSAND, AND, BAR, COMMA, ELSE, ELSIF, MINUS, MOD, OPEN_ROUND, OR, PLUS, POINT, REM, SLASH,
     STAR, THEN, TICK, XOR,
 };
-use reader_laws::Fault;
+use reader_combinators::Fault;
 use tree_nodes::{ListKind, also, close, nothing};
 
 /// What a list is of.

@@ -19,7 +19,7 @@ use ada_tree::kinds::{
     IN, LESS, MINUS, MOD, NOT, NUMERAL, OPEN_ROUND, OR, PLUS, POINT, RANGE, REM, SLASH, STAR,
     STRING, TARGET, THEN, TICK, UNEQUAL, XOR,
 };
-use reader_laws::Fault;
+use reader_combinators::Fault;
 use tree_nodes::{Leaf, One, Three, Two, bare, leaf, leave_out, one, three, two};
 
 /// What follows in a name (4.1).

@@ -14,7 +14,7 @@ use crate::operators::reversed;
 use crate::parser::Parser;
 use crate::ranges::range;
 use ada_tree::kinds::{CLOSE_ROUND, IDENTIFIER, IN, OF, OPEN_ROUND, PARALLEL, WHEN};
-use reader_laws::Fault;
+use reader_combinators::Fault;
 use tree_nodes::{Leaf, One, Parts, Two, bare, leaf, leave_out, nothing, one, two};
 
 /// `when` and a condition, if they are there (5.5): whether they are.

@@ -13,7 +13,7 @@ use crate::parser::Parser;
 use crate::ranges::call_opened;
 use crate::squares::square_opened;
 use ada_tree::kinds::{OPEN_ROUND, OPEN_SQUARE};
-use reader_laws::{Cursor, Fault};
+use reader_combinators::{Cursor, Fault};
 
 /// Whether the next token is of this kind.
 pub fn opens(tokens: &Cursor<'_>, kind: u16) -> bool

@@ -1,6 +1,6 @@
 //! Operators, and their tokens.
 
-ghost use Rattle.reader_laws.specs.Gives.{Gives};
+ghost use Rattle.reader_combinators.specs.Computes.{Computes};
 ghost use Rattle.grammar_readers.specs.Brackets as brackets;
 ghost use Rattle.grammar_readers.specs.Expressions as reader;
 
@@ -9,12 +9,12 @@ use ada_tree::kinds::{
     STAR, UNEQUAL,
 };
 use ada_tree::{Additive, Comparison, Multiplicative, Sign};
-use reader_laws::{Cursor, Fault};
+use reader_combinators::{Cursor, Fault};
 
 /// A multiplying operator, and its token (4.5.5).
 #[tactic(auto, unfolding(grammar_readers::specs::Expressions::multiplying_operator))]
 pub fn multiplying_operator(tokens: &mut Cursor<'_>) -> Result<(Multiplicative, u32), Fault>
-    ensures { Gives (reader.multiplying_operator tokens.old) result tokens.new }
+    ensures { Computes (reader.multiplying_operator tokens.old) result tokens.new }
 {
     match tokens.peek() {
         STAR => Ok((Multiplicative::Times, tokens.take(STAR)?)),
@@ -27,7 +27,7 @@ pub fn multiplying_operator(tokens: &mut Cursor<'_>) -> Result<(Multiplicative, 
 /// A binary adding operator, and its token (4.5.3).
 #[tactic(auto, unfolding(grammar_readers::specs::Expressions::adding_operator))]
 pub fn adding_operator(tokens: &mut Cursor<'_>) -> Result<(Additive, u32), Fault>
-    ensures { Gives (reader.adding_operator tokens.old) result tokens.new }
+    ensures { Computes (reader.adding_operator tokens.old) result tokens.new }
 {
     match tokens.peek() {
         PLUS => Ok((Additive::Plus, tokens.take(PLUS)?)),
@@ -39,7 +39,7 @@ pub fn adding_operator(tokens: &mut Cursor<'_>) -> Result<(Additive, u32), Fault
 /// The sign before a sum, with its token (4.5.4).
 #[tactic(auto, unfolding(grammar_readers::specs::Expressions::sign))]
 pub fn sign(tokens: &mut Cursor<'_>) -> Result<Sign, Fault>
-    ensures { Gives (reader.sign tokens.old) result tokens.new }
+    ensures { Computes (reader.sign tokens.old) result tokens.new }
 {
     if tokens.peek() == PLUS {
         Ok(Sign::Plus(tokens.take(PLUS)?))
@@ -51,7 +51,7 @@ pub fn sign(tokens: &mut Cursor<'_>) -> Result<Sign, Fault>
 /// A relational operator, and its token (4.5.2).
 #[tactic(auto, unfolding(grammar_readers::specs::Expressions::comparison))]
 pub fn comparison(tokens: &mut Cursor<'_>) -> Result<(Comparison, u32), Fault>
-    ensures { Gives (reader.comparison tokens.old) result tokens.new }
+    ensures { Computes (reader.comparison tokens.old) result tokens.new }
 {
     match tokens.peek() {
         EQUAL => Ok((Comparison::Equal, tokens.take(EQUAL)?)),
@@ -66,7 +66,7 @@ pub fn comparison(tokens: &mut Cursor<'_>) -> Result<(Comparison, u32), Fault>
 /// The token of `reverse`, if it is there (5.5).
 #[tactic(auto, unfolding(grammar_readers::specs::Brackets::reversed))]
 pub fn reversed(tokens: &mut Cursor<'_>) -> Result<Option<u32>, Fault>
-    ensures { Gives (brackets.reversed tokens.old) result tokens.new }
+    ensures { Computes (brackets.reversed tokens.old) result tokens.new }
 {
     if tokens.peek() == REVERSE {
         Ok(Some(tokens.take(REVERSE)?))

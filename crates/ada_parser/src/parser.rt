@@ -1,6 +1,6 @@
 //! What the functions of the parser work on.
 
-use reader_laws::Cursor;
+use reader_combinators::Cursor;
 use tree_nodes::Parts;
 
 /// The tokens that are left, and the parts of what was read.

@@ -13,7 +13,7 @@ use crate::chains::{Chain, list};
 use crate::expressions::{expr, simple, upper_bound};
 use crate::parser::Parser;
 use ada_tree::kinds::{ARROW, CLOSE_ROUND, COMMA, DOTS, OPEN_ROUND, RANGE};
-use reader_laws::Fault;
+use reader_combinators::Fault;
 use tree_nodes::{One, Three, Two, bare, leave_out, one, take_name, three, two};
 
 /// `range` and the bounds after it, which are two parts (3.5).

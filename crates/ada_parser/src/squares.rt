@@ -19,7 +19,7 @@ use crate::ranges::arrow_value;
 use ada_tree::kinds::{
     CLOSE_ROUND, CLOSE_SQUARE, COMMA, FOR, IDENTIFIER, OPEN_ROUND, OPEN_SQUARE, PARALLEL, TICK,
 };
-use reader_laws::Fault;
+use reader_combinators::Fault;
 use tree_nodes::{One, Parts, Three, Two, leave_out, nothing, one, swap, three, two};
 
 /// A reduction, after the closing bracket of its values (4.5.10).

@@ -14,8 +14,8 @@ use Rattle.ada_tree.specs.Syntax as syntax
 use Rattle.ada_tree.specs.TokenKinds.{kinds_of}
 use Rattle.first_form.specs.Program.{Program}
 use Rattle.first_form.specs.Forming.{program_at}
-use Rattle.ada_grammar.proofs.Verdicts.{one_tree, one_deep}
-use Rattle.reader_laws.proofs.FirstFaults as first
+use Rattle.ada_grammar.proofs.RightAnswers.{one_tree, one_deep}
+use Rattle.reader_combinators.proofs.FirstFaults as first
 use Rattle.ada_run.specs.Compile.{lexing, parsing, forming, reading, compiling, formed}
 use Rattle.ada_run.specs.Complaints.{Complaint, lexical, unexpected, too_deep}
 use Rattle.ada_run.specs.Phases.{IsExact}

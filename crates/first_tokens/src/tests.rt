@@ -1,6 +1,6 @@
 use crate::{of_stmt, of_stmts};
 use ada_tree::{Additive, Sign};
-use reader_laws::Fault;
+use reader_combinators::Fault;
 use std::alloc::Global;
 use tree_nodes::{
     Four, Leaf, ListKind, One, Parts, Three, Two, also, bare, begin, close, four, leaf, leave_out,

@@ -3,8 +3,8 @@ use Rattle.std.proofs.Common.{◌≡◌, ℕ, List, [], ◌∷◌, length, map, 
 use Rattle.std.specs.Prelude.{All}
 use Rattle.std.proofs.lemmas.List.Elements.{All-nil, All-cons}
 use Rattle.ada_base.specs.Symbols.{Symbol, numbered}
-use Rattle.reader_laws.specs.Readers.{Answer, Found, Refused, TooDeep}
-use Rattle.reader_laws.specs.Settled.{Verdict}
+use Rattle.reader_combinators.specs.Readers.{Answer, Found, Refused, TooDeep}
+use Rattle.reader_combinators.specs.Verdicts.{RightAnswer}
 use Rattle.ada_tree.specs.Grammar.{IsFirstFault, ProgramWords}
 use Rattle.ada_tree.specs.Joining as joining
 use Rattle.ada_tree.specs.Syntax.{Program}
@@ -82,11 +82,11 @@ is_found (Found a, []) = true
 is_found _ = false
 
 derived : (e : Example) → answer_at limit e.kinds ≡ (Found e.tree, []) → IsDerived e
-derived e h = let (w, l, s, within) = subst (Verdict limit ProgramWords e.kinds) h (right limit e.kinds) in (w, l, s)
+derived e h = let (w, l, s, within) = subst (RightAnswer limit ProgramWords e.kinds) h (right limit e.kinds) in (w, l, s)
 
 missed : (e : Example) → fault_in (changed e.change e.kinds) (answer_at limit (changed e.change e.kinds)) ≡ Some e.fault → IsMissed e
 missed e h = at (answer_at limit (changed e.change e.kinds)) (right limit (changed e.change e.kinds)) h where
-  at : (answer : Answer Program × List Symbol) → Verdict limit ProgramWords (changed e.change e.kinds) answer → fault_in (changed e.change e.kinds) answer ≡ Some e.fault → IsMissed e
+  at : (answer : Answer Program × List Symbol) → RightAnswer limit ProgramWords (changed e.change e.kinds) answer → fault_in (changed e.change e.kinds) answer ≡ Some e.fault → IsMissed e
   at (Found a, []) v q = none_is e.fault q
   at (Found a, t ∷ back) v q = subst (IsFirstFault (changed e.change e.kinds)) (some_is _ _ q) v.fault
   at (Refused, []) v q = subst (IsFirstFault (changed e.change e.kinds)) (some_is _ _ q) v.fault
@@ -95,7 +95,7 @@ missed e h = at (answer_at limit (changed e.change e.kinds)) (right limit (chang
 
 deep : (r : DepthRow) → deep_in (answer_at r.limit r.kinds) ≡ Some r.place → IsTooDeepAt r
 deep r h = at (answer_at r.limit r.kinds) (right r.limit r.kinds) h where
-  at : (answer : Answer Program × List Symbol) → Verdict r.limit ProgramWords r.kinds answer → deep_in answer ≡ Some r.place → IsTooDeepAt r
+  at : (answer : Answer Program × List Symbol) → RightAnswer r.limit ProgramWords r.kinds answer → deep_in answer ≡ Some r.place → IsTooDeepAt r
   at (TooDeep, t ∷ back) v q = subst (λ z. IsTooDeepAt (record { limit = r.limit; kinds = r.kinds; place = z; enough = r.enough })) (some_is _ _ q) v
   at (TooDeep, []) v q = absurd v
   at (Found a, []) v q = none_is r.place q
@@ -110,7 +110,7 @@ read r h = at (answer_at r.enough r.kinds) (right r.enough r.kinds) h where
     wrong : false ≡ true → ⊥
     wrong q = cc
 
-  at : (answer : Answer Program × List Symbol) → Verdict r.enough ProgramWords r.kinds answer → is_found answer ≡ true → IsReadWithin r
+  at : (answer : Answer Program × List Symbol) → RightAnswer r.enough ProgramWords r.kinds answer → is_found answer ≡ true → IsReadWithin r
   at (Found a, []) v q = (a, v)
   at (Found a, t ∷ back) v q = no_way q
   at (Refused, []) v q = no_way q

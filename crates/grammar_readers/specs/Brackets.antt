@@ -1,14 +1,14 @@
 -- The readers of what stands in brackets, and of the brackets themselves, where what opens a bracket in them is read
 -- one level down (4.1, 4.3, 4.5.7, 4.5.10).
 use Rattle.std.specs.Prelude.{ℕ, zero, suc, [], ◌∷◌, Option, Some, None, length, if◌then◌else◌}
-use Rattle.reader_laws.specs.Readers.{Reader, ◌>>=◌, ◌>>◌, pure, symbol, by_next, given}
+use Rattle.reader_combinators.specs.Readers.{Reader, ◌>>=◌, ◌>>◌, pure, symbol, by_next, given}
 use Rattle.ada_tree.specs.Kinds as kind
 use Rattle.ada_tree.specs.Syntax as syntax
 use Rattle.ada_tree.specs.Syntax.{Expr, Single, Simple, Primary, If, Square, Reduction, Elsif, Elsifs, NoElsif, Exprs, NoExpr, OptionalExpr, AbsentExpr, PresentExpr, Name, Part, Call, Arg, Args, NoArg, Range, Bounded, Whole, Constrained, Choice, Value, Span, Others, Choices, NoChoice, Many, Positions, PositionsOthers, FirstOthers, Associations, Assoc, Chosen, Each, Assocs, NoAssoc, Parallel, Unchunked, Counted, Chunked, OptionalParallel, AbsentParallel, PresentParallel, Iter, InRange, OfName}
 use Rattle.ada_tree.specs.Joining.{args_and, elsifs_and, exprs_and, choices_and, assocs_and, bare_name, bare_identifier, expr_identifier}
 use Rattle.grammar_readers.specs.Expressions.{name, simple, upper_bound, rel_from, expr_from, expr}
 use Rattle.grammar_readers.specs.Read.{Inside, OneInside, ManyInside, in_round, in_square, is_each, each_of}
-use Rattle.reader_laws.specs.Loops.{grown}
+use Rattle.reader_combinators.specs.Loops.{grown}
 use Rattle.grammar_readers.specs.Opened.{Opened}
 
 unfoldable pub others_choice : Reader Choice

@@ -1,6 +1,6 @@
 -- The readers of names and expressions (4.1, 4.4), where what opens a bracket is read one level down.
 use Rattle.std.specs.Prelude.{ℕ, List, [], ◌∷◌, Option, Some, None}
-use Rattle.reader_laws.specs.Readers.{Reader, ◌>>=◌, ◌>>◌, ◌<$>◌, pure, symbol, by_next, given}
+use Rattle.reader_combinators.specs.Readers.{Reader, ◌>>=◌, ◌>>◌, ◌<$>◌, pure, symbol, by_next, given}
 use Rattle.ada_tree.specs.Kinds as kind
 use Rattle.ada_tree.specs.Syntax as syntax
 use Rattle.ada_tree.specs.Syntax.{Expr, Single, Joined, Conjunct, NoConjunct, Rel, Alone, Compared, Within, OfMark, Simple, Sum, Adding, Addings, NoAdding, Term, Product, Multiplying, NoMultiplying, Factor, Operand, Power, Abs, Not, Primary, Number, Text, Target, Named, Name, Part, Field, Attribute, RangeAttribute, NoPart}
@@ -15,7 +15,7 @@ use Rattle.ada_tree.specs.declared.operators.Sign.TheVariants as sign'
 use Rattle.ada_tree.specs.declared.operators.Multiplicative.{Multiplicative}
 use Rattle.ada_tree.specs.declared.operators.Multiplicative.TheVariants as by
 use Rattle.ada_tree.specs.Joining.{parts_and, multiplyings_and, addings_and, conjuncts_and, bare_identifier}
-use Rattle.reader_laws.specs.Loops.{grown}
+use Rattle.reader_combinators.specs.Loops.{grown}
 use Rattle.grammar_readers.specs.Opened.{Opened}
 
 abbrev pub part_kinds : List ℕ

@@ -1,6 +1,6 @@
 -- What opens a level of nesting, read one level down.
 use Rattle.std.specs.Prelude.{ℕ}
-use Rattle.reader_laws.specs.Readers.{Reader}
+use Rattle.reader_combinators.specs.Readers.{Reader}
 use Rattle.ada_tree.specs.Syntax.{Primary, Part, Parallel}
 
 pub record Opened : Type 0 where

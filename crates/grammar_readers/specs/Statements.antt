@@ -1,7 +1,7 @@
 -- The readers of statements (5.1) and bodies (11.2), where so many levels may still open.
 use Rattle.std.specs.Prelude.{ℕ, zero, suc, List, [], ◌∷◌, Option, Some, None}
-use Rattle.reader_laws.specs.Readers.{Reader, ◌>>=◌, ◌>>◌, pure, symbol, by_next, given, too_deep}
-use Rattle.reader_laws.specs.Loops.{grown}
+use Rattle.reader_combinators.specs.Readers.{Reader, ◌>>=◌, ◌>>◌, pure, symbol, by_next, given, too_deep}
+use Rattle.reader_combinators.specs.Loops.{grown}
 use Rattle.ada_tree.specs.Joining.{list_and, stmts_and, arms_and, alts_and, branches_and, handlers_and, name_identifier}
 use Rattle.ada_tree.specs.Kinds as kind
 use Rattle.ada_tree.specs.Syntax as syntax

@@ -1,7 +1,7 @@
 -- The readers of programs (10.1) and subprograms (6.1, 6.3, 6.8), where so many levels may still open.
 use Rattle.std.specs.Prelude.{ℕ, zero, suc, List, [], ◌∷◌, Option, Some, None}
-use Rattle.reader_laws.specs.Readers.{Reader, ◌>>=◌, ◌>>◌, pure, symbol, by_next, too_deep}
-use Rattle.reader_laws.specs.Loops.{grown}
+use Rattle.reader_combinators.specs.Readers.{Reader, ◌>>=◌, ◌>>◌, pure, symbol, by_next, too_deep}
+use Rattle.reader_combinators.specs.Loops.{grown}
 use Rattle.ada_tree.specs.Joining.{list_and}
 use Rattle.ada_tree.specs.Kinds as kind
 use Rattle.ada_tree.specs.Syntax.{Formals, Aspect, Sub, Procedure, Function, ExprFunction, Unit', DeclUnit, SubUnit, Pack, Policy, Clause, Main, Program}

@@ -2,13 +2,13 @@
 use Rattle.std.proofs.Common.{◌≡◌, ℕ, ◌≤◌, [], ◌∷◌, ◌++◌, true, false, Option, Some, None, inl, inr, refl, sym, subst, append-nil}
 use Rattle.ada_base.specs.Symbols.{Word}
 use Rattle.ada_base.specs.Languages.{Language, Leaf, Quoted, Then, Or, Pure, Image, Given, ◌⋅◌}
-use Rattle.reader_laws.specs.Readers.{symbol}
-use Rattle.reader_laws.specs.Sets.{Sets, one_kind}
-use Rattle.reader_laws.specs.Exact.{Rule}
-use Rattle.reader_laws.proofs.Singles.{exact_given}
-use Rattle.reader_laws.proofs.Rules.{read, give, seq, or, or_second, to, is}
-use Rattle.reader_laws.proofs.Chains.{items}
-use Rattle.reader_laws.proofs.Forms.{from, to_left, to_right, none_before, without_before, without_after, either, form, keep, skip, lead}
+use Rattle.reader_combinators.specs.Readers.{symbol}
+use Rattle.reader_combinators.specs.Sets.{Sets, one_kind}
+use Rattle.reader_combinators.specs.Exact.{Rule}
+use Rattle.reader_combinators.proofs.Singles.{exact_given}
+use Rattle.reader_combinators.proofs.Rules.{read, give, seq, or, or_second, to, is}
+use Rattle.reader_combinators.proofs.Chains.{items}
+use Rattle.reader_combinators.proofs.Forms.{from, to_left, to_right, none_before, without_before, without_after, either, form, keep, skip, lead}
 use Rattle.ada_tree.specs.Kinds as kind
 use Rattle.ada_tree.specs.Syntax as syntax
 use Rattle.ada_tree.specs.Syntax.{Expr, Simple, Name, Arg, Range, Bounded, Whole, Constrained, Choice, Value, Span, Others, Choices, Many, Associations, Assoc, Chosen, Each}

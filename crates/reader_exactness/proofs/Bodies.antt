@@ -3,12 +3,12 @@
 use Rattle.std.proofs.Common.{◌≡◌, ℕ, ◌+◌, ◌≤◌, List, [], ◌∷◌, true, false, Option, inl, inr, refl, sym, append-nil, arith}
 use Rattle.ada_base.specs.Symbols.{Word}
 use Rattle.ada_base.specs.Languages.{Language, Leaf, Quoted, Then, Or, Pure, Image, ◌⋅◌}
-use Rattle.reader_laws.specs.Readers.{Reader, ◌>>◌, pure, symbol}
-use Rattle.reader_laws.specs.Sets.{Sets, one_kind}
-use Rattle.reader_laws.specs.Exact.{Rule}
-use Rattle.reader_laws.proofs.Rules.{read, give, seq, or, to, is, same}
-use Rattle.reader_laws.proofs.Chains.{items, list_grows}
-use Rattle.reader_laws.proofs.Forms.{from, without_after, either, form, keep, skip, lead}
+use Rattle.reader_combinators.specs.Readers.{Reader, ◌>>◌, pure, symbol}
+use Rattle.reader_combinators.specs.Sets.{Sets, one_kind}
+use Rattle.reader_combinators.specs.Exact.{Rule}
+use Rattle.reader_combinators.proofs.Rules.{read, give, seq, or, to, is, same}
+use Rattle.reader_combinators.proofs.Chains.{items, list_grows}
+use Rattle.reader_combinators.proofs.Forms.{from, without_after, either, form, keep, skip, lead}
 use Rattle.ada_tree.specs.Kinds as kind
 use Rattle.ada_tree.specs.Syntax as syntax
 use Rattle.ada_tree.specs.Syntax.{Expr, Choice, Pack, Handled, AnyOther, These, Stmt, Stmts, MoreStmts, OptionalStmts, AbsentStmts, PresentStmts, Arm, Alt, Body, Handler, Handlers, NoHandler, AlsoHandler}

@@ -2,14 +2,14 @@
 use Rattle.std.proofs.Common.{◌≡◌, ℕ, zero, suc, ◌+◌, ◌<◌, ◌≤◌, List, [], ◌∷◌, true, false, Option, Some, None, inl, inr, refl, sym, append-nil, arith}
 use Rattle.ada_base.specs.Symbols.{Symbol, Word}
 use Rattle.ada_base.specs.Languages.{Language, Leaf, Quoted, Then, Or, Pure, Image, Begins, Inhabited}
-use Rattle.reader_laws.specs.Readers.{symbol}
-use Rattle.reader_laws.specs.Sets.{Sets, one_kind}
-use Rattle.reader_laws.specs.Exact.{Rule}
-use Rattle.reader_laws.proofs.Depths.{exact_too_deep}
-use Rattle.reader_laws.proofs.Rules.{read, give, seq, or, to, is}
-use Rattle.reader_laws.proofs.Chains.{items, list_grows}
-use Rattle.reader_laws.proofs.Forms.{from, to_left, to_right, without_after, at_second, form, keep, skip, lead, last}
-use Rattle.reader_laws.proofs.Samples.{sample_as, sample_leaf, sample_free, sample_none, sample_both, kind_is, first_held, begins_held, sample_of}
+use Rattle.reader_combinators.specs.Readers.{symbol}
+use Rattle.reader_combinators.specs.Sets.{Sets, one_kind}
+use Rattle.reader_combinators.specs.Exact.{Rule}
+use Rattle.reader_combinators.proofs.Depths.{exact_too_deep}
+use Rattle.reader_combinators.proofs.Rules.{read, give, seq, or, to, is}
+use Rattle.reader_combinators.proofs.Chains.{items, list_grows}
+use Rattle.reader_combinators.proofs.Forms.{from, to_left, to_right, without_after, at_second, form, keep, skip, lead, last}
+use Rattle.reader_combinators.proofs.Samples.{sample_as, sample_leaf, sample_free, sample_none, sample_both, kind_is, first_held, begins_held, sample_of}
 use Rattle.ada_tree.specs.Kinds as kind
 use Rattle.ada_tree.specs.Syntax.{Ids, Formal, Formals}
 use Rattle.ada_tree.specs.Patterns.{optional_of}

@@ -3,10 +3,10 @@
 use Rattle.std.proofs.Common.{◌≡◌, ℕ, ◌≤◌, [], ◌∷◌, ◌++◌, true, false, inl, inr, refl, sym, ap, ◌∙◌, append-nil}
 use Rattle.ada_base.specs.Symbols.{Word}
 use Rattle.ada_base.specs.Languages.{Language, Leaf, Quoted, Then, Or, Pure, Image, ◌⋅◌}
-use Rattle.reader_laws.specs.Sets.{Sets}
-use Rattle.reader_laws.specs.Exact.{Rule}
-use Rattle.reader_laws.proofs.Rules.{give, seq, or, to, is}
-use Rattle.reader_laws.proofs.Forms.{from, to_left, to_right, without_after, keep}
+use Rattle.reader_combinators.specs.Sets.{Sets}
+use Rattle.reader_combinators.specs.Exact.{Rule}
+use Rattle.reader_combinators.proofs.Rules.{give, seq, or, to, is}
+use Rattle.reader_combinators.proofs.Forms.{from, to_left, to_right, without_after, keep}
 use Rattle.ada_tree.specs.Kinds as kind
 use Rattle.ada_tree.specs.Syntax.{Expr, Simple, Rel, Choice, Others, Many, Positions, PositionsOthers, FirstOthers, Associations, Assoc, Chosen, Each}
 use Rattle.ada_tree.specs.Productions as spell

@@ -2,11 +2,11 @@
 use Rattle.std.proofs.Common.{◌≡◌, ℕ, ◌≤◌, [], ◌∷◌, true, false, Option, inl, inr, refl, sym, append-nil}
 use Rattle.ada_base.specs.Symbols.{Word}
 use Rattle.ada_base.specs.Languages.{Language, Leaf, Quoted, Then, Or, Pure, Image, ◌⋅◌}
-use Rattle.reader_laws.specs.Readers.{symbol}
-use Rattle.reader_laws.specs.Sets.{Sets, one_kind}
-use Rattle.reader_laws.specs.Exact.{Rule}
-use Rattle.reader_laws.proofs.Rules.{read, give, seq, or, to, is}
-use Rattle.reader_laws.proofs.Forms.{from, without_after, either, form, keep, skip}
+use Rattle.reader_combinators.specs.Readers.{symbol}
+use Rattle.reader_combinators.specs.Sets.{Sets, one_kind}
+use Rattle.reader_combinators.specs.Exact.{Rule}
+use Rattle.reader_combinators.proofs.Rules.{read, give, seq, or, to, is}
+use Rattle.reader_combinators.proofs.Forms.{from, without_after, either, form, keep, skip}
 use Rattle.ada_tree.specs.Kinds as kind
 use Rattle.ada_tree.specs.Syntax.{Expr, Name, Range, OptionalExpr, AbsentExpr, PresentExpr, Parallel, Unchunked, Counted, Chunked, Iter, InRange, OfName}
 use Rattle.ada_tree.specs.Patterns.{held, optional_of}

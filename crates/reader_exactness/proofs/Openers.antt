@@ -3,13 +3,13 @@
 use Rattle.std.proofs.Common.{◌≡◌, ℕ, suc, ◌≤◌, [], ◌∷◌, true, false, Option, Some, None, inl, inr, refl, sym, ap, ◌∙◌, subst}
 use Rattle.ada_base.specs.Symbols.{Word}
 use Rattle.ada_base.specs.Languages.{Language, Leaf, Quoted, Or, Pure, Image, Given, ◌⋅◌}
-use Rattle.reader_laws.specs.Readers.{symbol}
-use Rattle.reader_laws.specs.Sets.{Sets, one_kind}
-use Rattle.reader_laws.specs.Exact.{Rule}
-use Rattle.reader_laws.proofs.Singles.{exact_given}
-use Rattle.reader_laws.proofs.Rules.{read, give, or, or_second, to, is}
-use Rattle.reader_laws.proofs.Chains.{items}
-use Rattle.reader_laws.proofs.Forms.{from, to_left, to_right, without_before, at_second, form, keep, skip, lead, last}
+use Rattle.reader_combinators.specs.Readers.{symbol}
+use Rattle.reader_combinators.specs.Sets.{Sets, one_kind}
+use Rattle.reader_combinators.specs.Exact.{Rule}
+use Rattle.reader_combinators.proofs.Singles.{exact_given}
+use Rattle.reader_combinators.proofs.Rules.{read, give, or, or_second, to, is}
+use Rattle.reader_combinators.proofs.Chains.{items}
+use Rattle.reader_combinators.proofs.Forms.{from, to_left, to_right, without_before, at_second, form, keep, skip, lead, last}
 use Rattle.ada_tree.specs.Kinds as kind
 use Rattle.ada_tree.specs.Syntax as syntax
 use Rattle.ada_tree.specs.Syntax.{Expr, Simple, Primary, Number, Text, Target, Named, Group, If, Round, Square, OneValue, Reduction, Elsif, Elsifs, Part, Field, Call, Attribute, RangeAttribute, Arg, Args, Range, Many, Positions, PositionsOthers, FirstOthers, Associations, Assoc, Chosen, Each, Parallel, Unchunked, Counted, Chunked}

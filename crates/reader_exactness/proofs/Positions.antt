@@ -3,11 +3,11 @@ use Rattle.std.proofs.Common.{◌≡◌, ℕ, zero, suc, ◌≤◌, List, [], �
 use mathlib.Core.Path.{fun_ext}
 use Rattle.ada_base.specs.Symbols.{Symbol, Word, next_kind, is_member}
 use Rattle.ada_base.specs.Languages.{Language, Leaf, Quoted, Then, Or, Image, Empty, Repeated, ◌⋅◌}
-use Rattle.reader_laws.specs.Readers.{Reader, Answer, Found, Refused, TooDeep, read_on, ◌>>=◌, ◌>>◌, ◌<$>◌, pure, symbol, by_next, step, repeat_for, repeat}
-use Rattle.reader_laws.specs.Sets.{one_kind}
-use Rattle.reader_laws.specs.Exact.{Rule}
-use Rattle.reader_laws.proofs.Rules.{read, seq, or, to, is, loop}
-use Rattle.reader_laws.proofs.Forms.{from, to_left, to_right, none_before, without_before, none_after, without_after, at_second, keep}
+use Rattle.reader_combinators.specs.Readers.{Reader, Answer, Found, Refused, TooDeep, read_on, ◌>>=◌, ◌>>◌, ◌<$>◌, pure, symbol, by_next, step, repeat_for, repeat}
+use Rattle.reader_combinators.specs.Sets.{one_kind}
+use Rattle.reader_combinators.specs.Exact.{Rule}
+use Rattle.reader_combinators.proofs.Rules.{read, seq, or, to, is, loop}
+use Rattle.reader_combinators.proofs.Forms.{from, to_left, to_right, none_before, without_before, none_after, without_after, at_second, keep}
 use Rattle.ada_tree.specs.Kinds as kind
 use Rattle.ada_tree.specs.Syntax.{Expr, Exprs, NoExpr, AlsoExpr, Many, Positions, PositionsOthers, FirstOthers}
 use Rattle.ada_tree.specs.Joining.{exprs_and}

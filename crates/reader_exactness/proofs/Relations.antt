@@ -2,13 +2,13 @@
 use Rattle.std.proofs.Common.{◌≡◌, ℕ, ◌≤◌, [], ◌∷◌, true, false, Option, Some, None, inl, inr, refl, sym, subst, append-nil}
 use Rattle.ada_base.specs.Symbols.{Word, is_member}
 use Rattle.ada_base.specs.Languages.{Language, Leaf, Quoted, Then, Or, Pure, Image, Given, ◌⋅◌}
-use Rattle.reader_laws.specs.Readers.{Reader, symbol, ◌<$>◌}
-use Rattle.reader_laws.specs.Sets.{Sets, one_kind, are_disjoint, is_subset, then_sets, repeat_sets}
-use Rattle.reader_laws.specs.Exact.{Rule}
-use Rattle.reader_laws.proofs.Singles.{exact_given}
-use Rattle.reader_laws.proofs.Rules.{read, give, seq, or, to, is, same}
-use Rattle.reader_laws.proofs.Chains.{items}
-use Rattle.reader_laws.proofs.Forms.{from, to_left, to_right, without_before, without_after, either, form, keep, skip}
+use Rattle.reader_combinators.specs.Readers.{Reader, symbol, ◌<$>◌}
+use Rattle.reader_combinators.specs.Sets.{Sets, one_kind, are_disjoint, is_subset, then_sets, repeat_sets}
+use Rattle.reader_combinators.specs.Exact.{Rule}
+use Rattle.reader_combinators.proofs.Singles.{exact_given}
+use Rattle.reader_combinators.proofs.Rules.{read, give, seq, or, to, is, same}
+use Rattle.reader_combinators.proofs.Chains.{items}
+use Rattle.reader_combinators.proofs.Forms.{from, to_left, to_right, without_before, without_after, either, form, keep, skip}
 use Rattle.ada_tree.specs.Kinds as kind
 use Rattle.ada_tree.specs.Syntax as syntax
 use Rattle.ada_tree.specs.Syntax.{Expr, Single, Joined, Conjunct, Conjuncts, Rel, Alone, Compared, Within, OfMark, Simple}

@@ -3,12 +3,12 @@
 use Rattle.std.proofs.Common.{◌≡◌, ℕ, suc, ◌≤◌, [], ◌∷◌, Bool, true, false, if◌then◌else◌, ◌⊎◌, Some, None, inl, inr, refl, sym, ap, ◌∙◌, subst, append-nil, arith}
 use Rattle.ada_base.specs.Symbols.{Word}
 use Rattle.ada_base.specs.Languages.{Language, Leaf, Quoted, Then, Or, Pure, Image, Empty, ◌⋅◌}
-use Rattle.reader_laws.specs.Readers.{Reader, read_on, ◌>>=◌, ◌>>◌, ◌<$>◌, pure, symbol, by_next}
-use Rattle.reader_laws.specs.Sets.{Sets, one_kind}
-use Rattle.reader_laws.specs.Exact.{Rule}
-use Rattle.reader_laws.proofs.Rules.{read, give, seq, or, to, is}
-use Rattle.reader_laws.proofs.Chains.{first_and_more, some_items, first_read}
-use Rattle.reader_laws.proofs.Forms.{from, to_left, to_right, without_before, without_after, none_before, none_after, at_first, at_second, keep, skip, last}
+use Rattle.reader_combinators.specs.Readers.{Reader, read_on, ◌>>=◌, ◌>>◌, ◌<$>◌, pure, symbol, by_next}
+use Rattle.reader_combinators.specs.Sets.{Sets, one_kind}
+use Rattle.reader_combinators.specs.Exact.{Rule}
+use Rattle.reader_combinators.proofs.Rules.{read, give, seq, or, to, is}
+use Rattle.reader_combinators.proofs.Chains.{first_and_more, some_items, first_read}
+use Rattle.reader_combinators.proofs.Forms.{from, to_left, to_right, without_before, without_after, none_before, none_after, at_first, at_second, keep, skip, last}
 use Rattle.ada_tree.specs.Kinds as kind
 use Rattle.ada_tree.specs.Syntax.{Expr, Primary, Number, Text, Target, Named, Group, If, Round, Square, OneValue, Reduction, Many, Positions, PositionsOthers, FirstOthers, Associations, Assoc, Chosen, Each, Assocs, NoAssoc, AlsoAssoc, AbsentExpr, PresentExpr, OptionalParallel, AbsentParallel, PresentParallel, Range, Iter, InRange, OfName}
 use Rattle.ada_tree.specs.Patterns.{words_of, free, ◌then◌}

@@ -2,12 +2,12 @@
 use Rattle.std.proofs.Common.{◌≡◌, ℕ, suc, ◌+◌, ◌≤◌, List, [], ◌∷◌, ◌++◌, false, Option, Some, None, inl, inr, refl, sym, arith}
 use Rattle.ada_base.specs.Symbols.{Word}
 use Rattle.ada_base.specs.Languages.{Language, Leaf, Quoted, Then, Or, Pure, Image, Given, Empty, ◌⋅◌}
-use Rattle.reader_laws.specs.Readers.{Reader, symbol}
-use Rattle.reader_laws.specs.Sets.{Sets, one_kind}
-use Rattle.reader_laws.specs.Exact.{Rule}
-use Rattle.reader_laws.proofs.Singles.{exact_given}
-use Rattle.reader_laws.proofs.Rules.{read, seq, or, to, is}
-use Rattle.reader_laws.proofs.Forms.{from, to_left, to_right, without_before, without_after, at_second, keep, skip, last}
+use Rattle.reader_combinators.specs.Readers.{Reader, symbol}
+use Rattle.reader_combinators.specs.Sets.{Sets, one_kind}
+use Rattle.reader_combinators.specs.Exact.{Rule}
+use Rattle.reader_combinators.proofs.Singles.{exact_given}
+use Rattle.reader_combinators.proofs.Rules.{read, seq, or, to, is}
+use Rattle.reader_combinators.proofs.Forms.{from, to_left, to_right, without_before, without_after, at_second, keep, skip, last}
 use Rattle.ada_tree.specs.Kinds as kind
 use Rattle.ada_tree.specs.Syntax.{Expr, Simple, Name, OptionalExpr, AbsentExpr, PresentExpr, Parallel, Unchunked, Counted, Chunked, Iter, Pack, Decl, Declare, Scheme, While, For, Stmt, Null, Assign, CallStmt, Exit, Return, Raise, IfStmt, Case, Loop, Block, ParallelBlock, Stmts, OptionalStmts, Arms, Alt, Alts, Branches, Body}
 use Rattle.ada_tree.specs.Joining.{name_identifier}

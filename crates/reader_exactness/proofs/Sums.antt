@@ -2,12 +2,12 @@
 use Rattle.std.proofs.Common.{ℕ, ◌≤◌, [], ◌∷◌, ◌++◌, false, true, Some, None, inl, inr, refl, sym, append-nil}
 use Rattle.ada_base.specs.Symbols.{Word}
 use Rattle.ada_base.specs.Languages.{Language, Leaf, Quoted, Then, Or, Pure, Image, ◌⋅◌}
-use Rattle.reader_laws.specs.Readers.{symbol, ◌<$>◌}
-use Rattle.reader_laws.specs.Sets.{one_kind}
-use Rattle.reader_laws.specs.Exact.{Rule}
-use Rattle.reader_laws.proofs.Rules.{read, give, seq, or, to, is}
-use Rattle.reader_laws.proofs.Chains.{items, begun}
-use Rattle.reader_laws.proofs.Forms.{from, none_before, without_before, without_after, either, form, keep, skip, lead}
+use Rattle.reader_combinators.specs.Readers.{symbol, ◌<$>◌}
+use Rattle.reader_combinators.specs.Sets.{one_kind}
+use Rattle.reader_combinators.specs.Exact.{Rule}
+use Rattle.reader_combinators.proofs.Rules.{read, give, seq, or, to, is}
+use Rattle.reader_combinators.proofs.Chains.{items, begun}
+use Rattle.reader_combinators.proofs.Forms.{from, none_before, without_before, without_after, either, form, keep, skip, lead}
 use Rattle.ada_tree.specs.Kinds as kind
 use Rattle.ada_tree.specs.Syntax as syntax
 use Rattle.ada_tree.specs.Syntax.{Simple, Sum, Adding, Addings, Term, Product, Multiplying, Factor, Operand, Power, Abs, Not, Primary, Number, Text, Target, Named, Group, If, Round, Square, OneValue, Reduction, Name, Part, Field, Call, Attribute, RangeAttribute}

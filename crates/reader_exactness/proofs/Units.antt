@@ -3,17 +3,17 @@
 use Rattle.std.proofs.Common.{◌≡◌, ℕ, zero, suc, ◌+◌, ◌<◌, ◌≤◌, List, [], ◌∷◌, true, false, Option, Some, None, inl, inr, refl, arith}
 use Rattle.ada_base.specs.Symbols.{Symbol, Word, numbered, is_member}
 use Rattle.ada_base.specs.Languages.{Language, Leaf, Quoted, Then, Or, Image, Empty, Begins, ◌⋅◌}
-use Rattle.reader_laws.specs.Readers.{symbol}
-use Rattle.reader_laws.specs.Sets.{Sets, one_kind}
-use Rattle.reader_laws.specs.Exact.{Rule}
-use Rattle.reader_laws.specs.Settled.{Verdict}
-use Rattle.reader_laws.proofs.Depths.{BeginsTooDeep, exact_too_deep}
-use Rattle.reader_laws.proofs.Rules.{read, seq, or, to, is}
-use Rattle.reader_laws.proofs.Chains.{items, list_grows}
-use Rattle.reader_laws.proofs.Forms.{from, without_before, either, form, keep, skip, lead, last}
-use Rattle.reader_laws.proofs.Samples.{sample_leaf, sample_free, sample_none, sample_both, kind_is, for_member, first_held, first_free, begins_held, begins_free, sample_of}
-use Rattle.reader_laws.proofs.Verdicts.{verdict}
-use Rattle.reader_laws.proofs.OneTree.{one_tree}
+use Rattle.reader_combinators.specs.Readers.{symbol}
+use Rattle.reader_combinators.specs.Sets.{Sets, one_kind}
+use Rattle.reader_combinators.specs.Exact.{Rule}
+use Rattle.reader_combinators.specs.Verdicts.{RightAnswer}
+use Rattle.reader_combinators.proofs.Depths.{BeginsTooDeep, exact_too_deep}
+use Rattle.reader_combinators.proofs.Rules.{read, seq, or, to, is}
+use Rattle.reader_combinators.proofs.Chains.{items, list_grows}
+use Rattle.reader_combinators.proofs.Forms.{from, without_before, either, form, keep, skip, lead, last}
+use Rattle.reader_combinators.proofs.Samples.{sample_leaf, sample_free, sample_none, sample_both, kind_is, for_member, first_held, first_free, begins_held, begins_free, sample_of}
+use Rattle.reader_combinators.proofs.RightAnswers.{right_answer}
+use Rattle.reader_combinators.proofs.OneTree.{one_tree}
 use Rattle.ada_tree.specs.Grammar.{ProgramWords, Derives}
 use Rattle.ada_tree.specs.Kinds as kind
 use Rattle.ada_tree.specs.Syntax.{Expr, Formals, Decl, Body, Aspect, Sub, Procedure, Function, ExprFunction, Unit', DeclUnit, SubUnit, Policy, Clause, Main, Program}
@@ -387,8 +387,8 @@ module _ (limit n depth : ℕ) (levelled : n + depth ≡ limit) where
 
 -- what the reader of programs answers to any list of kinds is right: the tree within the limit exactly where there is
 -- one, and else the first fault or the first token that is too deep
-pub right : (limit : ℕ) (ks : List ℕ) → Verdict limit ProgramWords ks (reader.program limit (numbered 0 ks))
-right limit ks = verdict (rule_program limit limit 0 (omega arith)) refl ks
+pub right : (limit : ℕ) (ks : List ℕ) → RightAnswer limit ProgramWords ks (reader.program limit (numbered 0 ks))
+right limit ks = right_answer (rule_program limit limit 0 (omega arith)) refl ks
 
 -- a list of kinds is one program at most, however deep
 pub one_program : (ks : List ℕ) (x y : Program) → Derives ks x → Derives ks y → x ≡ y

@@ -2,12 +2,12 @@
 use Rattle.std.proofs.Common.{◌≡◌, ℕ, List, [], ◌∷◌, false, true, ◌⊎◌, Option, Some, None, inl, inr, refl}
 use Rattle.ada_base.specs.Symbols.{Word}
 use Rattle.ada_base.specs.Languages.{Language, Quoted, Or, Pure, Image, Empty, ◌⋅◌}
-use Rattle.reader_laws.specs.Readers.{Reader, ◌<$>◌, pure, by_next}
-use Rattle.reader_laws.specs.Sets.{Sets, are_disjoint, is_subset, no_kind, or_sets}
-use Rattle.reader_laws.specs.Exact.{Rule}
-use Rattle.reader_laws.proofs.Rules.{give, or, to, same}
-use Rattle.reader_laws.proofs.Chains.{Listed}
-use Rattle.reader_laws.proofs.Forms.{from, to_right, to_left, either, form}
+use Rattle.reader_combinators.specs.Readers.{Reader, ◌<$>◌, pure, by_next}
+use Rattle.reader_combinators.specs.Sets.{Sets, are_disjoint, is_subset, no_kind, or_sets}
+use Rattle.reader_combinators.specs.Exact.{Rule}
+use Rattle.reader_combinators.proofs.Rules.{give, or, to, same}
+use Rattle.reader_combinators.proofs.Chains.{Listed}
+use Rattle.reader_combinators.proofs.Forms.{from, to_right, to_left, either, form}
 use Rattle.ada_tree.specs.Patterns.{Spelling, words_of, free, optional_of, optional_of_after, each_of, each_of_after}
 
 -- the words of each value of a type, at a depth

@@ -7,7 +7,7 @@ ghost use Rattle.ada_base.specs.declared.token.Token.{Token};
 ghost use Rattle.ada_tree.specs.Grammar.{Derives, IsTreeOf, ProgramWords};
 ghost use Rattle.ada_tree.specs.Syntax.{Program};
 ghost use Rattle.grammar_readers.specs.Units.{program};
-ghost use Rattle.reader_laws.specs.Settled.{Verdict};
+ghost use Rattle.reader_combinators.specs.Verdicts.{RightAnswer};
 
 /// A list of kinds of tokens has at most one tree, however deep it is, and so has a text's list of tokens.
 pub fn one_tree()
@@ -19,5 +19,5 @@ pub fn one_tree()
 /// derives it within the limit exactly where there is one, and else the first fault or the first token that
 /// is too deep, whichever stands first.
 pub fn exact_readers()
-    ensures { (limit : ℕ) (kinds : List ℕ) → Verdict limit ProgramWords kinds (program limit (numbered 0 kinds)) }
+    ensures { (limit : ℕ) (kinds : List ℕ) → RightAnswer limit ProgramWords kinds (program limit (numbered 0 kinds)) }
 {}

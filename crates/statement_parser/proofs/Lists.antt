@@ -5,7 +5,7 @@ use Rattle.tree_nodes.specs.Tables.{also_value}
 use Rattle.statement_parser.specs.Chains as chains
 use Rattle.statement_parser.specs.declared.chains.Chain.{Chain}
 use Rattle.statement_parser.specs.declared.chains.Chain.TheVariants as chain
-use Rattle.reader_laws.specs.Loops.{chain as loop}
+use Rattle.reader_combinators.specs.Loops.{chain as loop}
 use Rattle.grammar_readers.specs.Declarations.{decls}
 use Rattle.grammar_readers.specs.Statements.{more_choices, arms, more_alts, branches}
 use Rattle.grammar_readers.specs.Units.{units, clauses}

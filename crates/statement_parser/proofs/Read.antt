@@ -1,9 +1,9 @@
 -- What was read as a part of one rule.
 use Rattle.std.proofs.Common.{List, Result, Ok, Err}
 use Rattle.ada_base.specs.Symbols.{Symbol}
-use Rattle.reader_laws.specs.Readers.{Answer}
-use Rattle.reader_laws.specs.declared.fault.Fault.{Fault}
-use Rattle.reader_laws.specs.declared.fault.Fault.TheVariants as fault
+use Rattle.reader_combinators.specs.Readers.{Answer}
+use Rattle.reader_combinators.specs.declared.fault.Fault.{Fault}
+use Rattle.reader_combinators.specs.declared.fault.Fault.TheVariants as fault
 use Rattle.tree_nodes.specs.Parts.{Part, IsPart}
 use Rattle.ada_parser.specs.Reading.{Reads}
 

@@ -1,7 +1,7 @@
 -- What is read as a return statement.
 use Rattle.std.proofs.Common.{◌≡◌, refl, ℕ, List}
 use Rattle.ada_base.specs.Symbols.{Symbol}
-use Rattle.reader_laws.specs.Readers.{symbol, ◌>>=◌}
+use Rattle.reader_combinators.specs.Readers.{symbol, ◌>>=◌}
 use Rattle.ada_tree.specs.Kinds as kind
 use Rattle.grammar_readers.specs.Statements as statements
 

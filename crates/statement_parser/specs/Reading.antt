@@ -1,7 +1,7 @@
 -- What functions ensure that read parts of declarations, statements and programs.
 use Rattle.std.specs.Prelude.{◌≡◌, ℕ, Bool, Option, Some, None, List, Result, Ok, Err}
-use Rattle.reader_laws.specs.declared.fault.Fault.{Fault}
-use Rattle.reader_laws.specs.declared.fault.Fault.TheVariants as fault
+use Rattle.reader_combinators.specs.declared.fault.Fault.{Fault}
+use Rattle.reader_combinators.specs.declared.fault.Fault.TheVariants as fault
 use Rattle.grammar_readers.specs.Read.{Indexes, Ended, Valued}
 use Rattle.tree_nodes.specs.Parts.{Part, the_range, the_ranges, the_body, the_bracketed, maybe_token, maybe_parallel}
 use Rattle.tree_nodes.specs.Rooted.{top, second, pop}

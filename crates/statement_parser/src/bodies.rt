@@ -13,7 +13,7 @@ use crate::compounds::stmt;
 use crate::names::pack;
 use ada_parser::Parser;
 use ada_tree::kinds::{AND, ARROW, BAR, EXCEPTION, OTHERS, THEN, WHEN};
-use reader_laws::Fault;
+use reader_combinators::Fault;
 use tree_nodes::rooting::{put, taken};
 use tree_nodes::{Leaf, Node, Parts, Two, leaf, nothing, two};
 

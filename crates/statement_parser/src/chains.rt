@@ -2,7 +2,7 @@
 
 ghost use Rattle.ada_base.specs.Symbols.{is_member};
 ghost use Rattle.ada_parser.specs.Reading.{Reads};
-ghost use Rattle.reader_laws.specs.Loops.{chain as loop};
+ghost use Rattle.reader_combinators.specs.Loops.{chain as loop};
 ghost use Rattle.statement_parser.specs.Chains as chains;
 ghost use Rattle.std.specs.Prelude.{◌≡◌};
 ghost use Rattle.tree_nodes.specs.Parts.{IsPart};
@@ -20,7 +20,7 @@ use ada_tree::kinds::{
     AND, BAR, COMMA, ELSIF, FUNCTION, IDENTIFIER, POINT, PROCEDURE, SEMICOLON, SUBTYPE, TYPE, USE,
     WHEN, WITH,
 };
-use reader_laws::Fault;
+use reader_combinators::Fault;
 use tree_nodes::{ListKind, also, close, nothing};
 
 /// What a list is of.

@@ -18,7 +18,7 @@ use ada_tree::kinds::{
     ASSIGN, BEGIN, CASE, DECLARE, ELSE, ELSIF, EXIT, FOR, IDENTIFIER, IF, IS, LOOP, NULL, PARALLEL,
     RAISE, RETURN, SEMICOLON, WHEN, WHILE,
 };
-use reader_laws::Fault;
+use reader_combinators::Fault;
 use tree_nodes::{Four, One, Three, Two, bare, four, leave_out, nothing, one, three, two};
 
 /// An `elsif` part (5.3).

@@ -2,7 +2,7 @@
 
 ghost use Rattle.ada_parser.specs.Reading.{Reads};
 ghost use Rattle.grammar_readers.specs.Declarations as declarations;
-ghost use Rattle.reader_laws.specs.Gives.{Gives};
+ghost use Rattle.reader_combinators.specs.Computes.{Computes};
 ghost use Rattle.tree_nodes.specs.Parts.{the_ids, the_formal, the_formals, the_decl, the_object_type, maybe_formals, maybe_expr, IsPart, IsFormals, IsDecl};
 ghost use Rattle.tree_nodes.specs.Rooted.{top, pop};
 ghost use Rattle.tree_nodes.specs.Stack.{parts};
@@ -16,13 +16,13 @@ use ada_tree::kinds::{
     ARRAY, ASSIGN, CLOSE_ROUND, COLON, CONSTANT, EXCEPTION, IDENTIFIER, IN, OPEN_ROUND, OUT,
     SEMICOLON, SUBTYPE, TYPE,
 };
-use reader_laws::{Cursor, Fault};
+use reader_combinators::{Cursor, Fault};
 use tree_nodes::{One, Three, Two, nothing, one, three, two};
 
 /// A mode that begins with `in` (6.1).
 #[tactic(auto, unfolding(grammar_readers::specs::Declarations::in_mode))]
 pub fn in_mode(tokens: &mut Cursor<'_>) -> Result<Option<Mode>, Fault>
-    ensures { Gives (declarations.in_mode tokens.old) result tokens.new }
+    ensures { Computes (declarations.in_mode tokens.old) result tokens.new }
 {
     let at = tokens.take(IN)?;
     if tokens.peek() == OUT {
@@ -36,7 +36,7 @@ pub fn in_mode(tokens: &mut Cursor<'_>) -> Result<Option<Mode>, Fault>
 /// The mode `out` (6.1).
 #[tactic(auto, unfolding(grammar_readers::specs::Declarations::out_mode))]
 pub fn out_mode(tokens: &mut Cursor<'_>) -> Result<Option<Mode>, Fault>
-    ensures { Gives (declarations.out_mode tokens.old) result tokens.new }
+    ensures { Computes (declarations.out_mode tokens.old) result tokens.new }
 {
     let at = tokens.take(OUT)?;
     Ok(Some(Mode::Out(at)))
@@ -45,7 +45,7 @@ pub fn out_mode(tokens: &mut Cursor<'_>) -> Result<Option<Mode>, Fault>
 /// A mode, if there is one (6.1).
 #[tactic(auto, unfolding(grammar_readers::specs::Declarations::mode))]
 pub fn mode(tokens: &mut Cursor<'_>) -> Result<Option<Mode>, Fault>
-    ensures { Gives (declarations.mode tokens.old) result tokens.new }
+    ensures { Computes (declarations.mode tokens.old) result tokens.new }
 {
     match tokens.peek() {
         IN => in_mode(tokens),

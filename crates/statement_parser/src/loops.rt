@@ -11,7 +11,7 @@ use crate::bodies::stmts;
 use crate::names::{join_identifier, maybe_identifier};
 use ada_parser::{Parser, expr, iter, parallel};
 use ada_tree::kinds::{COLON, END, FOR, LOOP, PARALLEL, SEMICOLON, WHILE};
-use reader_laws::Fault;
+use reader_combinators::Fault;
 use tree_nodes::{Four, Leaf, One, Two, four, leaf, nothing, one, two};
 
 /// The end of a loop: the token of `end`, and the identifier after it or nothing (5.5).

@@ -3,7 +3,7 @@
 ghost use Rattle.ada_parser.specs.Reading.{Reads};
 ghost use Rattle.grammar_readers.specs.Declarations as declarations;
 ghost use Rattle.grammar_readers.specs.Statements as statements;
-ghost use Rattle.reader_laws.specs.Gives.{Gives};
+ghost use Rattle.reader_combinators.specs.Computes.{Computes};
 ghost use Rattle.statement_parser.specs.Reading.{JoinsToken};
 ghost use Rattle.tree_nodes.specs.Parts.{the_token, the_ids, the_pack, IsPart, IsPack};
 ghost use Rattle.tree_nodes.specs.Stack.{parts};
@@ -11,7 +11,7 @@ ghost use Rattle.tree_nodes.specs.Stack.{parts};
 use crate::chains::{Chain, list};
 use ada_parser::Parser;
 use ada_tree::kinds::{COMMA, IDENTIFIER, POINT};
-use reader_laws::{Cursor, Fault};
+use reader_combinators::{Cursor, Fault};
 use tree_nodes::{Leaf, One, Parts, leaf, nothing, one};
 
 /// A comma and an identifier.
@@ -59,7 +59,7 @@ pub fn pack(parser: &mut Parser<'_>, levels: u32) -> Result<(), Fault>
 /// An identifier, if there is one.
 #[tactic(auto, unfolding(grammar_readers::specs::Statements::maybe_identifier))]
 pub fn maybe_identifier(tokens: &mut Cursor<'_>) -> Result<Option<u32>, Fault>
-    ensures { Gives (statements.maybe_identifier tokens.old) result tokens.new }
+    ensures { Computes (statements.maybe_identifier tokens.old) result tokens.new }
 {
     if tokens.peek() == IDENTIFIER {
         Ok(Some(tokens.take(IDENTIFIER)?))

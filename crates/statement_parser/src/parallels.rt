@@ -13,7 +13,7 @@ use crate::loops::for_from;
 use crate::statements::closing;
 use ada_parser::{Parser, chunk};
 use ada_tree::kinds::{BEGIN, DECLARE, DO, END, FOR, PARALLEL, SEMICOLON};
-use reader_laws::Fault;
+use reader_combinators::Fault;
 use tree_nodes::{Four, Leaf, One, Parts, Two, four, leaf, nothing, one, swap, two};
 
 /// A block, after its declarations or nothing (5.6).

@@ -2,7 +2,7 @@
 
 ghost use Rattle.ada_parser.specs.Reading.{Reads};
 ghost use Rattle.grammar_readers.specs.Statements as statements;
-ghost use Rattle.reader_laws.specs.Gives.{Gives};
+ghost use Rattle.reader_combinators.specs.Computes.{Computes};
 ghost use Rattle.tree_nodes.specs.Parts.{the_stmt, the_name, IsPart};
 ghost use Rattle.tree_nodes.specs.Rooted.{top, pop};
 ghost use Rattle.tree_nodes.specs.Stack.{parts};
@@ -10,13 +10,13 @@ ghost use Rattle.tree_nodes.specs.Stack.{parts};
 use crate::names::{maybe_identifier, pack};
 use ada_parser::{Parser, expr, filter};
 use ada_tree::kinds::{ASSIGN, END, EXIT, NULL, RAISE, RETURN, SEMICOLON};
-use reader_laws::{Cursor, Fault};
+use reader_combinators::{Cursor, Fault};
 use tree_nodes::{Leaf, One, Two, leaf, nothing, one, two};
 
 /// The end of a compound statement that repeats its first word.
 #[tactic(auto, unfolding(grammar_readers::specs::Statements::closing))]
 pub fn closing(tokens: &mut Cursor<'_>, word: u16) -> Result<u32, Fault>
-    ensures { Gives (statements.closing word tokens.old) result tokens.new }
+    ensures { Computes (statements.closing word tokens.old) result tokens.new }
 {
     tokens.take(END)?;
     tokens.take(word)?;

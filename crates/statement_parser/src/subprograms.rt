@@ -19,7 +19,7 @@ use ada_tree::kinds::{
     BEGIN, CLOSE_ROUND, END, FUNCTION, IDENTIFIER, IS, OPEN_ROUND, PROCEDURE, RETURN, SEMICOLON,
     WITH,
 };
-use reader_laws::Fault;
+use reader_combinators::Fault;
 use tree_nodes::{One, Three, Two, nothing, one, three, two};
 
 /// The expression of an expression function in its brackets (6.8).

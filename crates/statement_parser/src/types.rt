@@ -13,7 +13,7 @@ use ada_tree::kinds::{
     ARRAY, CLOSE_ROUND, COLON, COMMA, END, IDENTIFIER, IS, OF, OPEN_ROUND, RANGE, RECORD,
     SEMICOLON, SUBTYPE, TYPE,
 };
-use reader_laws::Fault;
+use reader_combinators::Fault;
 use tree_nodes::{Leaf, One, Three, Two, leaf, one, three, two};
 
 /// A comma and a range.

@@ -2,7 +2,7 @@
 
 ghost use Rattle.ada_parser.specs.Reading.{Reads};
 ghost use Rattle.grammar_readers.specs.Units as units;
-ghost use Rattle.reader_laws.specs.Gives.{Gives};
+ghost use Rattle.reader_combinators.specs.Computes.{Computes};
 ghost use Rattle.tree_nodes.specs.Parts.{the_pack, the_policy, the_clause, the_aspect, the_unit, the_main, the_program, maybe_policy, maybe_aspect, IsPart, IsPack, IsPolicy, IsAspect};
 ghost use Rattle.tree_nodes.specs.Rooted.{top, pop};
 ghost use Rattle.tree_nodes.specs.Stack.{parts};
@@ -16,13 +16,13 @@ use ada_tree::ClauseWord;
 use ada_tree::kinds::{
     ARROW, CLOSE_ROUND, COMMA, IDENTIFIER, IS, OPEN_ROUND, PRAGMA, PROCEDURE, SEMICOLON, USE, WITH,
 };
-use reader_laws::{Cursor, Fault};
+use reader_combinators::{Cursor, Fault};
 use tree_nodes::{Four, Leaf, Three, Two, four, leaf, nothing, three, two};
 
 /// The name of a policy in its brackets.
 #[tactic(auto, unfolding(grammar_readers::specs::Units::open_policy_name))]
 pub fn policy_opened(tokens: &mut Cursor<'_>) -> Result<u32, Fault>
-    ensures { Gives (units.open_policy_name tokens.old) result tokens.new }
+    ensures { Computes (units.open_policy_name tokens.old) result tokens.new }
 {
     tokens.take(OPEN_ROUND)?;
     let policy = tokens.take(IDENTIFIER)?;
@@ -33,7 +33,7 @@ pub fn policy_opened(tokens: &mut Cursor<'_>) -> Result<u32, Fault>
 /// The name of a policy in its brackets, where so many levels may still open.
 #[tactic(auto, unfolding(grammar_readers::specs::Units::policy_name))]
 pub fn policy_name(tokens: &mut Cursor<'_>, levels: u32) -> Result<u32, Fault>
-    ensures { Gives (units.policy_name levels tokens.old) result tokens.new }
+    ensures { Computes (units.policy_name levels tokens.old) result tokens.new }
 {
     below(levels, opens(tokens, OPEN_ROUND))?;
     policy_opened(tokens)
@@ -66,7 +66,7 @@ pub fn optional_policy(parser: &mut Parser<'_>, levels: u32) -> Result<(), Fault
 /// The word of a context clause, and its token (8.4, 10.1.2).
 #[tactic(auto, unfolding(grammar_readers::specs::Units::clause_word))]
 pub fn clause_word(tokens: &mut Cursor<'_>) -> Result<(ClauseWord, u32), Fault>
-    ensures { Gives (units.clause_word tokens.old) result tokens.new }
+    ensures { Computes (units.clause_word tokens.old) result tokens.new }
 {
     if tokens.peek() == WITH {
         let at = tokens.take(WITH)?;
@@ -103,7 +103,7 @@ pub fn clause(parser: &mut Parser<'_>, levels: u32) -> Result<(), Fault>
 /// The value of an aspect, if there is one.
 #[tactic(auto, unfolding(grammar_readers::specs::Units::aspect_value))]
 pub fn aspect_value(tokens: &mut Cursor<'_>) -> Result<Option<u32>, Fault>
-    ensures { Gives (units.aspect_value tokens.old) result tokens.new }
+    ensures { Computes (units.aspect_value tokens.old) result tokens.new }
 {
     if tokens.peek() == ARROW {
         tokens.take(ARROW)?;

@@ -2,8 +2,8 @@
 use Rattle.std.specs.Prelude.{◌≡◌, ℕ, Bool, true, false, Option, Some, None, List, Result, Ok, Err}
 use Rattle.ada_tree.specs.Syntax.{Name}
 use Rattle.ada_tree.specs.Joining.{bare_name, bare_identifier, expr_identifier}
-use Rattle.reader_laws.specs.declared.fault.Fault.{Fault}
-use Rattle.reader_laws.specs.declared.fault.Fault.TheVariants as fault
+use Rattle.reader_combinators.specs.declared.fault.Fault.{Fault}
+use Rattle.reader_combinators.specs.declared.fault.Fault.TheVariants as fault
 use Rattle.tree_nodes.specs.Parts.{Part, the_name, the_simple, the_expr, IsName}
 use Rattle.tree_nodes.specs.Rooted.{top, pop}
 

@@ -1,7 +1,7 @@
 -- The parts that are being joined, and what a function that joins parts ensures.
 use Rattle.std.specs.Prelude.{◌≡◌, List, Result, Ok, Err}
-use Rattle.reader_laws.specs.declared.fault.Fault.{Fault}
-use Rattle.reader_laws.specs.declared.fault.Fault.TheVariants as fault
+use Rattle.reader_combinators.specs.declared.fault.Fault.{Fault}
+use Rattle.reader_combinators.specs.declared.fault.Fault.TheVariants as fault
 use Rattle.tree_nodes.specs.Parts.{Part, IsClosed}
 use Rattle.tree_nodes.specs.Rooted.{stack, top, pop}
 use Rattle.tree_nodes.specs.declared.lists.ListKind.{ListKind}

@@ -12,7 +12,7 @@ use crate::nodes::{Four, Leaf, Node, One, Three, Two};
 use crate::parts::Parts;
 use crate::rooting::{hold, put, taken};
 use ada_base::Items;
-use reader_laws::Fault;
+use reader_combinators::Fault;
 use std::alloc::Global;
 
 /// A table with no part.

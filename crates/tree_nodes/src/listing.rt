@@ -11,7 +11,7 @@ use crate::nodes::Node;
 use crate::parts::Parts;
 use crate::rooting::{add, hold, node, taken};
 use ada_base::Items;
-use reader_laws::Fault;
+use reader_combinators::Fault;
 use std::alloc::AllocError;
 
 /// Where a list is closed: what still grows, and what is closed.

@@ -14,7 +14,7 @@ use crate::parts::Parts;
 use crate::rooting::{hold, node, taken};
 use ada_base::Items;
 use ada_tree::Sign;
-use reader_laws::Fault;
+use reader_combinators::Fault;
 
 /// The first cell of a list, if it has an item.
 fn cell(nodes: &Items<Node>, roots: &Items<u32>, number: u32) -> Option<Cell>

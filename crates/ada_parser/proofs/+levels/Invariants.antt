@@ -1,5 +1,5 @@
 use Rattle.std.proofs.Common.{◌≡◌, ◌-◌, ◌+◌, ◌*◌, length}
-use Rattle.reader_laws.specs.Loops.{turns, chain}
+use Rattle.reader_combinators.specs.Loops.{turns, chain}
 use Rattle.grammar_readers.specs.Brackets.{positions_for}
 use Rattle.grammar_readers.specs.Levels as level
 use Rattle.ada_parser.specs.Chains as chains

@@ -1,6 +1,6 @@
 use Rattle.std.proofs.Common.{◌≡◌, true, false, arith, rules, refl, sym, ◌∙◌, ◌-◌, subst, ap, length, Err}
 use Rattle.ada_base.specs.Symbols.{is_member}
-use Rattle.reader_laws.specs.Loops.{turns}
+use Rattle.reader_combinators.specs.Loops.{turns}
 use Rattle.tree_nodes.specs.Stack.{parts}
 use Rattle.tree_nodes.specs.Rooted.{top, pop, second}
 use Rattle.tree_nodes.specs.Tables.{also_value}

@@ -1,5 +1,5 @@
 use Rattle.std.proofs.Common.{◌≡◌, ◌-◌, ◌+◌, ◌*◌}
-use Rattle.reader_laws.specs.Loops.{turns, chain}
+use Rattle.reader_combinators.specs.Loops.{turns, chain}
 use Rattle.statement_parser.specs.Chains as chains
 use Rattle.tree_nodes.specs.Stack.{parts}
 use Rattle.tree_nodes.specs.Rooted.{top, pop}
