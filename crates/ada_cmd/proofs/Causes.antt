@@ -17,7 +17,7 @@ use Rattle.ada_cmd.specs.Due.{Due, IsTextDue, IsDue, run_due, run_due_by, refuse
 use Rattle.ada_cmd.specs.Answer.{Outside, Says, Gives, Whole, OutFailed, NoMemory, Answers, Given, ShelfFailed, Unread, number_of}
 use Rattle.ada_cmd.specs.Causes.{Meets, InFull, ShelfFault, OutFault, ErrFault, OutOfMemory, Names, HasEnding, IsNotAccepted}
 
--- ---- one answer is due to a text that is told
+-- one answer is due to a text that is told
 
 text_due_once : (file text : List ℕ) (a b : Due) → IsTextDue file text a → IsTextDue file text b → a ≡ b
 text_due_once file text a b (inl (p, is_p, a-is)) (inl (q, is_q, b-is)) =
@@ -37,7 +37,7 @@ due_once (words.Run file) shelf a b (text, fetch, is_a) (told, has, is_b) =
     let same : text ≡ fetched told = subst (λ (o : Option (List ℕ)). IfSome o (λ whole. text ≡ fetched whole)) has fetch in
     text_due_once file (fetched told) a b (subst (λ (t : List ℕ). IsTextDue file t a) same is_a) is_b
 
--- ---- what is given meets what is due
+-- what is given meets what is due
 
 number-of : {given due : Status} → given ≡ due → number_of given ≡ number_of due
 number-of e = ap number_of e
@@ -86,7 +86,7 @@ pub wrong_words : (command : Command) (given : Status) (before now : Outside) �
 wrong_words command given before now answers wrong =
     meets command given before now usage_due answers (subst (λ (c : Command). IsToldDue c before.shelf usage_due) (sym wrong) refl)
 
--- ---- each status by its cause alone
+-- each status by its cause alone
 
 -- the status of a number
 status_at : ℕ → Status

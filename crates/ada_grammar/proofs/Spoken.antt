@@ -328,7 +328,6 @@ says-main m = and (token kind.procedure_word m.at refl) (and (token kind.identif
 pub says-program : (x : Program) → Says (spelled.program x)
 says-program p = and (maybe p.policy says-policy) (and (each p.clauses says-clause) (says-main p.main))
 
-
 -- the kinds of a program's tokens can be told apart
 kinds_numbered : (n : ℕ) (ks : List ℕ) → kinds (numbered n ks) ≡ ks
 kinds_numbered n [] = refl

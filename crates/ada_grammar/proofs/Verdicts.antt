@@ -16,7 +16,7 @@ use Rattle.ada_grammar.specs.Parsed.{Parsed, GivesTree, GivesFault, GivesTooDeep
 use Rattle.ada_grammar.specs.declared.parser.ParseFault.{ParseFault}
 use Rattle.ada_grammar.specs.declared.parser.ParseFault.TheVariants.{LeftOut, Unexpected, TooDeep, OutOfMemory}
 
--- ---- the first token that stands too deep is one
+-- the first token that stands too deep is one
 
 -- a word doesn't sink before a part that is within the limit ends
 no_earlier : (limit : ℕ) (f : Word) (c : Nested) (b : Word) (g : Word) (d : Nested) (e : Word)
@@ -60,7 +60,7 @@ pub one_deep : {A : Type 0} (limit : ℕ) (L : A → Language) (ks : List ℕ) (
 one_deep limit L ks place other deep later =
     omega (arith, none_deeper_before limit L ks place other deep later, none_deeper_before limit L ks other place later deep)
 
--- ---- what `parse` gives
+-- what `parse` gives
 
 derived : (limit : ℕ) (ks : List ℕ) (tree : Program) → DerivesWithin limit ProgramWords ks tree → Derives ProgramWords ks tree
 derived limit ks tree (w, l, e, within) = (w, l, e)

@@ -7,9 +7,9 @@ ghost use Rattle.tree_views.specs.Trees.{program_of};
 ghost use Rattle.ada_grammar.specs.Printed.{IsPrintable, IsReadAgain};
 
 use ada_base::Tokens;
-use tree_views::Tree;
 use canonical_text::canonical_text;
 use std::alloc::{AllocError, Global};
+use tree_views::Tree;
 
 /// The canonical text of a program, which is given by its tokens and its tree. The error is for want of memory.
 /// Where the text is within the limit of bytes, its tokens have the same tree.

@@ -11,6 +11,7 @@ use ada_tree::kinds::{
 use ada_tree::{Additive, Comparison, Multiplicative, Sign};
 use reader_combinators::{Cursor, Fault};
 
+/// A multiplying operator, and its token (4.5.5).
 #[tactic(auto, unfolding(grammar_readers::specs::Expressions::multiplying_operator))]
 pub fn multiplying_operator(tokens: &mut Cursor<'_>) -> Result<(Multiplicative, u32), Fault>
     ensures { Computes (reader.multiplying_operator tokens.old) result tokens.new }
@@ -23,6 +24,7 @@ pub fn multiplying_operator(tokens: &mut Cursor<'_>) -> Result<(Multiplicative, 
     }
 }
 
+/// A binary adding operator, and its token (4.5.3).
 #[tactic(auto, unfolding(grammar_readers::specs::Expressions::adding_operator))]
 pub fn adding_operator(tokens: &mut Cursor<'_>) -> Result<(Additive, u32), Fault>
     ensures { Computes (reader.adding_operator tokens.old) result tokens.new }
@@ -34,6 +36,7 @@ pub fn adding_operator(tokens: &mut Cursor<'_>) -> Result<(Additive, u32), Fault
     }
 }
 
+/// The sign before a sum, with its token (4.5.4).
 #[tactic(auto, unfolding(grammar_readers::specs::Expressions::sign))]
 pub fn sign(tokens: &mut Cursor<'_>) -> Result<Sign, Fault>
     ensures { Computes (reader.sign tokens.old) result tokens.new }
@@ -45,6 +48,7 @@ pub fn sign(tokens: &mut Cursor<'_>) -> Result<Sign, Fault>
     }
 }
 
+/// A relational operator, and its token (4.5.2).
 #[tactic(auto, unfolding(grammar_readers::specs::Expressions::comparison))]
 pub fn comparison(tokens: &mut Cursor<'_>) -> Result<(Comparison, u32), Fault>
     ensures { Computes (reader.comparison tokens.old) result tokens.new }
@@ -59,6 +63,7 @@ pub fn comparison(tokens: &mut Cursor<'_>) -> Result<(Comparison, u32), Fault>
     }
 }
 
+/// The token of `reverse`, if it is there (5.5).
 #[tactic(auto, unfolding(grammar_readers::specs::Brackets::reversed))]
 pub fn reversed(tokens: &mut Cursor<'_>) -> Result<Option<u32>, Fault>
     ensures { Computes (brackets.reversed tokens.old) result tokens.new }

@@ -32,17 +32,17 @@ same_tokens text a b is are =
 
 pub lexing_exact : IsExact lexing
 lexing_exact = record {
-    one_result = same_tokens;
-    one_fault = λ text x y (f, is, same) (g, are, same'). same ∙ ap (lexical text) (lexical'.one_fault text f g is are) ∙ sym same';
-    apart = λ text t x r (f, is, same). lexical'.no_fault text t.items f r.readable r.tokens_of r.limits is;
-  }
+  one_result = same_tokens;
+  one_fault = λ text x y (f, is, same) (g, are, same'). same ∙ ap (lexical text) (lexical'.one_fault text f g is are) ∙ sym same';
+  apart = λ text t x r (f, is, same). lexical'.no_fault text t.items f r.readable r.tokens_of r.limits is;
+}
 
 pub parsing_exact : IsExact parsing
 parsing_exact = record {
-    one_result = λ t a b is are. one_tree t.items a b is are;
-    one_fault = λ t x y v w. faults t x y v w;
-    apart = λ t a x r v. none t a x r v;
-  }
+  one_result = λ t a b is are. one_tree t.items a b is are;
+  one_fault = λ t x y v w. faults t x y v w;
+  apart = λ t a x r v. none t a x r v;
+}
   where
     derived : (ks : List ℕ) (a : syntax.Program) → DerivesWithin depth_limit ProgramWords ks a → Derives ProgramWords ks a
     derived ks a (w, l, e, within) = (w, l, e)

@@ -4,10 +4,10 @@ use Rattle.ada_run.specs.Phases.{Phase, IsExact, followed, by_function}
 
 pub followed_exact : {A B C F : Type 0} → (p : Phase A B F) → (q : A → Phase B C F) → IsExact p → ((a : A) → IsExact (q a)) → IsExact (followed p q)
 followed_exact {A} {B} {C} {F} p q e f = record {
-    one_result = λ a c d (b, r, s) (b', r', s'). (f a).one_result b' c d (subst (λ z. (q a).right z c) (e.one_result a b b' r r') s) s';
-    one_fault = λ a x y. faults a x y;
-    apart = λ a c x (b, r, s). none a c x b r s;
-  }
+  one_result = λ a c d (b, r, s) (b', r', s'). (f a).one_result b' c d (subst (λ z. (q a).right z c) (e.one_result a b b' r r') s) s';
+  one_fault = λ a x y. faults a x y;
+  apart = λ a c x (b, r, s). none a c x b r s;
+}
   where
     faults : (a : A) (x y : F) → (followed p q).wrong a x → (followed p q).wrong a y → x ≡ y
     faults a x y (inl v) (inl w) = e.one_fault a x y v w
@@ -30,7 +30,7 @@ ok_or_err b x e = absurd cc
 
 pub function_exact : {A B F : Type 0} → (f : A → Result B F) → IsExact (by_function f)
 function_exact f = record {
-    one_result = λ a b c r s. ok_is b c (sym r ∙ s);
-    one_fault = λ a x y v w. err_is x y (sym v ∙ w);
-    apart = λ a b x r v. ok_or_err b x (sym r ∙ v);
-  }
+  one_result = λ a b c r s. ok_is b c (sym r ∙ s);
+  one_fault = λ a x y v w. err_is x y (sym v ∙ w);
+  apart = λ a b x r v. ok_or_err b x (sym r ∙ v);
+}

@@ -18,18 +18,18 @@ use Rattle.ada_run.specs.declared.refusal.Refusal.TheVariants.{Refused, OutOfMem
 -- from a text to its tokens, within the limits of both; wrong is its first lexical fault (2.2)
 abbrev pub lexing : Phase (List ℕ) Tokenized Complaint
 lexing = record {
-    right = AreLexed;
-    wrong = λ text c. (fault : Fault) × IsFirstFault text fault × (c ≡ lexical text fault);
-  }
+  right = AreLexed;
+  wrong = λ text c. (fault : Fault) × IsFirstFault text fault × (c ≡ lexical text fault);
+}
 
 -- from tokens to their tree within the limit of depth; wrong is the first fault or the first token that stands too deep,
 -- whichever comes first (Annex P)
 abbrev pub parsing : Phase Tokenized syntax.Program Complaint
 parsing = record {
-    right = λ t program. IsParsed t.items program;
-    wrong = λ t c. ((token : ℕ) × IsSyntaxFault t.items token × (c ≡ unexpected t token))
-        ⊎ ((token : ℕ) × IsTooDeep t.items token × (c ≡ too_deep t token));
-  }
+  right = λ t program. IsParsed t.items program;
+  wrong = λ t c. ((token : ℕ) × IsSyntaxFault t.items token × (c ≡ unexpected t token))
+      ⊎ ((token : ℕ) × IsTooDeep t.items token × (c ≡ too_deep t token));
+}
 
 -- each variable that a program of the first form uses is declared (8.3)
 abbrev pub named : Tokenized → Program → Option Letter → Result Program Complaint

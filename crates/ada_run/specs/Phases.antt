@@ -16,9 +16,9 @@ pub record IsExact {A B F : Type 0} (p : Phase A B F) : Type 0 where
 -- tells it
 abbrev pub followed : {A B C F : Type 0} → Phase A B F → (A → Phase B C F) → Phase A C F
 followed {A} {B} {C} {F} p q = record {
-    right = λ a c. (b : B) × p.right a b × (q a).right b c;
-    wrong = λ a f. p.wrong a f ⊎ ((b : B) × p.right a b × (q a).wrong b f);
-  }
+  right = λ a c. (b : B) × p.right a b × (q a).right b c;
+  wrong = λ a f. p.wrong a f ⊎ ((b : B) × p.right a b × (q a).wrong b f);
+}
 
 -- the phase that a plain function is
 abbrev pub by_function : {A B F : Type 0} → (A → Result B F) → Phase A B F

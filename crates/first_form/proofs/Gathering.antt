@@ -48,7 +48,7 @@ lacks f front xs i none lt found =
 pub ends : {A B : Type 0} (f : A → Option B) (front : List B) → with_front front (each_at f []) ≡ Some front
 ends f front = ap Some (append-nil front)
 
--- ---- the first undeclared variable
+-- the first undeclared variable
 
 module _ (declarations : List Declaration) where
   abbrev test : Letter → Bool

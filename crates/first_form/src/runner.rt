@@ -83,10 +83,18 @@ fn expression_value(variables: &[Variable], expression: Expression) -> Option<i3
     match expression {
         Expression::Alone(a) => Some(operand_value(variables, a)),
         Expression::Sum(a, b) => {
-            combined(Op::Add, operand_value(variables, a), operand_value(variables, b))
+            combined(
+                Op::Add,
+                operand_value(variables, a),
+                operand_value(variables, b),
+            )
         }
         Expression::Difference(a, b) => {
-            combined(Op::Sub, operand_value(variables, a), operand_value(variables, b))
+            combined(
+                Op::Sub,
+                operand_value(variables, a),
+                operand_value(variables, b),
+            )
         }
     }
 }
