@@ -1,13 +1,12 @@
 -- What is said of a run, of a refusal and of a fetch makes the answer of the top call.
-use Rattle.std.proofs.Common.{◌≡◌, ℕ, List, [], refl, sym, subst, inl, inr}
+use Rattle.std.proofs.Common.{◌≡◌, ℕ, List, [], refl, sym, ap, ◌∙◌, subst, inl, inr}
 use Rattle.ada_port.specs.Ports.{Stream, Grows}
 use Rattle.ada_port.proofs.Growth.{Grows-none, GrowsByPrefix-from_Grows}
 use Rattle.first_form.specs.FirstRun.{Run, Ending, Ended, Raised}
 use Rattle.first_form.specs.Running.{EndsAs}
 use Rattle.first_form.specs.declared.runner.RunEnd.{RunEnd}
 use Rattle.first_form.specs.declared.runner.RunEnd.TheVariants as run_end
-use Rattle.ada_run.specs.Compile.{IsRefusalOf, refusal_of}
-use Rattle.ada_run.specs.Lines.{line_of}
+use Rattle.ada_run.specs.Compile.{IsRefusalOf}
 use Rattle.ada_run.specs.declared.refusal.Refusal.{Refusal}
 use Rattle.ada_run.specs.declared.refusal.Refusal.TheVariants as refusal
 use Rattle.ada_cmd.specs.declared.status.Status.{Status}
@@ -36,13 +35,12 @@ gives_run run (run_end.Raised why) given o o' e e' ends (inr lacks) =
 gives_run run run_end.WriteFault given o o' e e' ends says = OutFailed (rw (output_is run) ends) says
 gives_run run run_end.NoMemory given o o' e e' ends says = NoMemory (rw (output_is run) ends) says
 
-pub gives_refusal : (file text : List ℕ) (r : Refusal) (given : Status) (o e e' : Stream) → IsRefusalOf text r → SaysRefusal file r given e e' → GivesText file text given o o e e'
+pub gives_refusal : (file text : List ℕ) (r : Refusal) (given : Status) (o e e' : Stream) → IsRefusalOf text r → SaysRefusal file text r given e e' → GivesText file text given o o e e'
 gives_refusal file text refusal.OutOfMemory given o e e' is says = inr (Grows-none, says)
-gives_refusal file text (refusal.Refused code at other note left_out) given o e e' is (inr lacks) = inr (Grows-none, lacks)
-gives_refusal file text (refusal.Refused code at other note left_out) given o e e' (fault, is_fault, same) (inl says) =
-    let P : Refusal → Type 0 = λ r. Says status.Refused (ended (line_of file r)) given e e' in
-    let said : P (refusal_of fault) = subst P same says in
-    inl (refused_due file fault, inr (fault, is_fault, refl), Whole Grows-none said)
+gives_refusal file text (refusal.Refused code at other note) given o e e' is (inr lacks) = inr (Grows-none, lacks)
+gives_refusal file text (refusal.Refused code at other note) given o e e' is (inl (whole, (line, (fault, is_fault, same, line_is), ended_is), says)) =
+    let P : List ℕ → Type 0 = λ l. Says status.Refused l given e e' in
+    inl (refused_due file fault, inr (fault, is_fault, refl), Whole Grows-none (subst P (ended_is ∙ ap ended line_is) says))
 
 pub answers_text : (file text : List ℕ) (given : Status) (before now : Outside) → IsFetched (before.shelf.told file) text → now.shelf.faults ≡ before.shelf.faults → GivesText file text given before.out now.out before.err now.err → Answers (words.Run file) given before now
 answers_text file text given before now fetch same (inl (due, is, gives)) = Given due (text, fetch, is) same gives

@@ -6,7 +6,7 @@ use Rattle.ada_cmd.specs.declared.status.Status.TheVariants as status
 use Rattle.ada_cmd.specs.Words.{Command}
 use Rattle.ada_cmd.specs.Words as words
 use Rattle.ada_base.specs.declared.reason.Reason.{Reason}
-use Rattle.ada_run.specs.Lines.{line_of}
+use Rattle.ada_run.specs.Lines.{IsLineOf}
 use Rattle.ada_run.specs.declared.refusal.Refusal.{Refusal}
 use Rattle.ada_run.specs.declared.refusal.Refusal.TheVariants as refusal
 use Rattle.first_form.specs.declared.runner.RunEnd.{RunEnd}
@@ -61,10 +61,15 @@ SaysEnd (run_end.Raised why) given old new = SaysRaised why given old new
 SaysEnd run_end.WriteFault given old new = Says status.WriteFault write_fault_line given old new
 SaysEnd run_end.NoMemory given old new = SaysNoMemory given old new
 
-abbrev pub SaysRefusal : List ℕ → Refusal → Status → Stream → Stream → Type 0
-SaysRefusal file refusal.OutOfMemory given old new = SaysNoMemory given old new
-SaysRefusal file (refusal.Refused code at other note left_out) given old new =
-    SaysOrLacks status.Refused (ended (line_of file (refusal.Refused code at other note left_out))) given old new
+-- the line on err for a refusal of the text in a file
+abbrev pub IsRefusedLine : List ℕ → List ℕ → Refusal → List ℕ → Type 0
+IsRefusedLine file text why whole = (line : List ℕ) × IsLineOf file text why line × (whole ≡ ended line)
+
+abbrev pub SaysRefusal : List ℕ → List ℕ → Refusal → Status → Stream → Stream → Type 0
+SaysRefusal file text refusal.OutOfMemory given old new = SaysNoMemory given old new
+SaysRefusal file text (refusal.Refused code at other note) given old new =
+    ((line : List ℕ) × IsRefusedLine file text (refusal.Refused code at other note) line × Says status.Refused line given old new)
+    ⊎ SaysNoMemory given old new
 
 abbrev pub SaysUnreadable : List ℕ → Status → Stream → Stream → Type 0
 SaysUnreadable file given old new = SaysOrLacks status.ShelfFault (unreadable_line file) given old new

@@ -5,7 +5,7 @@ use Rattle.ada_base.specs.declared.reason.Reason.TheVariants as reason
 use Rattle.ada_port.specs.Ports.{Texts, fetched}
 use Rattle.first_form.specs.Program.{Program}
 use Rattle.first_form.specs.FirstRun.{Run, first_run, Ending, Ended, Raised}
-use Rattle.ada_run.specs.Compile.{IsAccepted, IsFaultOf, refusal_of}
+use Rattle.ada_run.specs.Compile.{IsAccepted, IsFaultOf}
 use Rattle.ada_run.specs.Complaints.{Complaint}
 use Rattle.ada_run.specs.Lines.{line_of}
 use Rattle.ada_cmd.specs.declared.status.Status.{Status}
@@ -49,7 +49,7 @@ abbrev pub run_due : Run → Due
 run_due run = run_due_by run.ending run.output
 
 abbrev pub refused_due : List ℕ → Complaint → Due
-refused_due file fault = record { status = status.Refused; output = []; line = ended (line_of file (refusal_of fault)) }
+refused_due file fault = record { status = status.Refused; output = []; line = ended (line_of file fault) }
 
 -- the answer that is due to a text: that of its program's run where it is accepted, and else its fault
 abbrev pub IsTextDue : List ℕ → List ℕ → Due → Type 0

@@ -3,9 +3,9 @@
 ghost use Rattle.std.specs.Prelude.{◌≡◌, IfOk, string_bytes};
 ghost use Rattle.first_form.specs.FirstRun.{first_run};
 ghost use Rattle.ada_cmd.specs.Words.{Run};
-ghost use Rattle.ada_run.specs.Lines.{line_of};
-ghost use Rattle.ada_cmd.specs.Due.{ended, run_due, unhandled_line, exception_name};
-ghost use Rattle.ada_cmd.specs.Answer.{Answers, Gives, GivesText, SaysEnd, SaysRaised, SaysRefusal, SaysUnreadable, unreadable_line, outside};
+ghost use Rattle.ada_run.specs.Compile.{IsRefusalOf};
+ghost use Rattle.ada_cmd.specs.Due.{run_due, unhandled_line, exception_name};
+ghost use Rattle.ada_cmd.specs.Answer.{Answers, Gives, GivesText, IsRefusedLine, SaysEnd, SaysRaised, SaysRefusal, SaysUnreadable, unreadable_line, outside};
 
 use crate::report::{say, say_out_of_memory};
 use crate::status::Status;
@@ -96,7 +96,8 @@ fn say_refusal<E: Sink>(
     refusal: &Refusal,
     err: &mut E,
 ) -> Status
-    ensures { SaysRefusal file.now refusal.now result (E.state err.old) (E.state err.new) }
+    requires { IsRefusalOf text.now refusal.now }
+    ensures { SaysRefusal file.now text.now refusal.now result (E.state err.old) (E.state err.new) }
 {
     match refusal {
         Refusal::OutOfMemory => say_out_of_memory(err),
@@ -113,7 +114,8 @@ fn refused_line(
     text: &[u8],
     refusal: &Refusal,
 ) -> Result<String, AllocError>
-    ensures { IfOk result (λ line. string_bytes line ≡ ended (line_of file.now refusal.now)) }
+    requires { IsRefusalOf text.now refusal.now }
+    ensures { IfOk result (λ line. IsRefusedLine file.now text.now refusal.now (string_bytes line)) }
 {
     let mut line = refusal.line(alloc, file, text)?;
     line.push_str("\n")?;

@@ -14,7 +14,7 @@ use Rattle.ada_tree.specs.Syntax as syntax
 use Rattle.ada_tree.specs.TokenKinds.{kinds_of}
 use Rattle.first_form.specs.Program.{Program}
 use Rattle.first_form.specs.Forming.{program_at}
-use Rattle.ada_grammar.proofs.RightAnswers.{one_tree, one_deep}
+use Rattle.ada_grammar.proofs.Verdicts.{one_tree, one_deep}
 use Rattle.reader_combinators.proofs.FirstFaults as first
 use Rattle.ada_run.specs.Compile.{lexing, parsing, forming, reading, compiling, formed}
 use Rattle.ada_run.specs.Complaints.{Complaint, lexical, unexpected, too_deep}
@@ -24,7 +24,7 @@ use Rattle.ada_run.proofs.Phases.{followed_exact, function_exact}
 abbrev tokenized : List ℕ → List Token → Tokenized
 tokenized text items = record { text = text; items = items }
 
-same_tokens : (text : List ℕ) (a b : Tokenized) → AreLexed text a → AreLexed text b → a ≡ b
+pub same_tokens : (text : List ℕ) (a b : Tokenized) → AreLexed text a → AreLexed text b → a ≡ b
 same_tokens text a b is are =
     let items : a.items ≡ b.items = one_list (chars text) a.items b.items is.tokens_of are.tokens_of in
     let texts : a.text ≡ b.text = is.text_is ∙ sym are.text_is in

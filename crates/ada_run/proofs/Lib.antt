@@ -1,4 +1,6 @@
 pub mod Phases
 pub mod Exact
+pub mod Places
 pub mod Steps
+pub mod Words
 mod Leavings

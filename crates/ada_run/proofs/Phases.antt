@@ -22,10 +22,10 @@ followed_exact {A} {B} {C} {F} p q e f = record {
 ok_is : {B F : Type 0} (b c : B) → (let x : Result B F = Ok b in x ≡ Ok c) → b ≡ c
 ok_is b c e = cc
 
-err_is : {B F : Type 0} (x y : F) → (let z : Result B F = Err x in z ≡ Err y) → x ≡ y
+pub err_is : {B F : Type 0} (x y : F) → (let z : Result B F = Err x in z ≡ Err y) → x ≡ y
 err_is x y e = cc
 
-ok_or_err : {B F : Type 0} (b : B) (x : F) → (let z : Result B F = Ok b in z ≡ Err x) → ⊥
+pub ok_or_err : {B F : Type 0} (b : B) (x : F) → (let z : Result B F = Ok b in z ≡ Err x) → ⊥
 ok_or_err b x e = absurd cc
 
 pub function_exact : {A B F : Type 0} → (f : A → Result B F) → IsExact (by_function f)

@@ -58,13 +58,14 @@ IsAccepted text program = compiling.right text program
 abbrev pub IsFaultOf : List ℕ → Complaint → Type 0
 IsFaultOf text fault = compiling.wrong text fault
 
+-- what is told of a fault: all but the kind of a token that is left out, which is found by its place
 abbrev pub refusal_of : Complaint → Refusal
-refusal_of c = Refused (code_of c.note) c.at c.other c.note c.left_out
+refusal_of c = Refused (code_of c.note) c.at c.other c.note
 
 -- a refusal for a fault of what a phase is given, or for want of memory
 abbrev pub IsRefusal : {A B : Type 0} → Phase A B Complaint → A → Refusal → Type 0
 IsRefusal p a OutOfMemory = ⊤
-IsRefusal p a (Refused code at other note left_out) = (c : Complaint) × p.wrong a c × (Refused code at other note left_out ≡ refusal_of c)
+IsRefusal p a (Refused code at other note) = (c : Complaint) × p.wrong a c × (Refused code at other note ≡ refusal_of c)
 
 -- the answer of a phase: its result, as see has it, or a refusal
 abbrev pub Decides : {A B X : Type 0} → Phase A B Complaint → (X → B) → A → Result X Refusal → Type 0

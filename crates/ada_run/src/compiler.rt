@@ -103,9 +103,7 @@ fn syntax_refusal(tokens: &Tokens, fault: ParseFault) -> Refusal
     ensures { IsRefusal parsing tokens.now result }
 {
     match fault {
-        ParseFault::LeftOut { token } => {
-            Refusal::of_left_out(tokens.kind(token), tokens.place(token))
-        }
+        ParseFault::LeftOut { token } => Refusal::of(Note::LeftOut, tokens.place(token)),
         ParseFault::Unexpected { token } => Refusal::of(Note::Syntax, tokens.place(token)),
         ParseFault::TooDeep { token } => Refusal::of(Note::LimitPassed, tokens.place(token)),
         ParseFault::OutOfMemory => Refusal::OutOfMemory,

@@ -1,18 +1,22 @@
 //! Why a text is refused, and what is said of it.
 
-ghost use Rattle.std.specs.Prelude.{◌≡◌, IfOk, string_bytes};
+ghost use Rattle.std.specs.Prelude.{◌≡◌, ◌↔◌, ◌<◌, ℕ, IfOk, IsTrue, length, string_bytes};
+ghost use Rattle.ada_base.specs.Tokens.{place_of_token};
 ghost use Rattle.ada_base.specs.declared.token.Kind.TheVariants as kind;
-ghost use Rattle.ada_run.specs.Complaints.{complaint, left_out};
-ghost use Rattle.ada_run.specs.Compile.{refusal_of};
-ghost use Rattle.ada_run.specs.Lines.{line_of, left_out_text, word_text, other_text};
+ghost use Rattle.ada_lexer.specs.declared.fault.LexFault.TheVariants as lex_fault;
+ghost use Rattle.ada_run.specs.Complaints.{complaint};
+ghost use Rattle.ada_run.specs.Compile.{IsRefusalOf, refusal_of};
+ghost use Rattle.ada_run.specs.Lines.{HasFaultAt, IsLineOf, IsWordOf, Precedes, StandInOrder, said_at, left_out_text, other_text};
+ghost use Rattle.ada_run.specs.declared.note.Note.TheVariants as notes;
 
 use crate::note::Note;
-use ada_base::{Kind, Place};
+use ada_base::{Kind, Place, Tokens};
+use ada_lexer::{LexFault, lex};
 use ada_tree::{mark_text, word_text};
 use std::alloc::{AllocError, Global};
 
 /// Why a text is refused: its fault, or that memory ran out. The fault has the number of its kind, 1 to 13; its place;
-/// the place of the other part of a clash; what is said of it; and the kind of the token where that is left out.
+/// the place of the other part of a clash; and what is said of it.
 #[derive(Clone, Copy, Debug, PartialEq, Eq)]
 pub enum Refusal {
     Refused {
@@ -20,7 +24,6 @@ pub enum Refusal {
         at: Place,
         other: Option<Place>,
         note: Note,
-        left_out: Option<Kind>,
     },
     OutOfMemory,
 }
@@ -35,47 +38,41 @@ impl Refusal {
             at,
             other: None,
             note,
-            left_out: None,
-        }
-    }
-
-    /// The refusal for a token at a place of a kind that the language leaves out.
-    pub(crate) fn of_left_out(kind: Kind, at: Place) -> Refusal
-        ensures { result ≡ refusal_of (left_out kind at) }
-    {
-        Refusal::Refused {
-            code: Note::LeftOut.code(),
-            at,
-            other: None,
-            note: Note::LeftOut,
-            left_out: Some(kind),
         }
     }
 
     /// What is said of a refusal of the text in this file: the file, the fault's line and column, both from 1, and the
-    /// note's text, as `t.ada:5:10: E05 unknown name`. The error is for want of memory. So far the refusal itself knows all
-    /// that is said, and nothing is read from the text.
+    /// note's text, as `t.ada:5:10: E05 unknown name`. The word of a token that is left out is read from the text.
     pub fn line(&self, alloc: Global, file: &str, text: &[u8]) -> Result<String, AllocError>
-        ensures { IfOk result (λ line. string_bytes line ≡ line_of file.now self.now) }
+        requires { IsRefusalOf text.now self.now }
+        ensures { IfOk result (λ line. IsLineOf file.now text.now self.now (string_bytes line)) }
     {
-        let _ = text;
         match *self {
             Refusal::Refused {
-                at,
-                other,
-                note,
-                left_out,
-                ..
+                at, other, note, ..
             } => {
-                let Place { line, column } = at;
-                let said = note.text();
-                let word = text_of_word(left_out);
-                let other = text_of_other(alloc, other)?;
-                format!(in alloc; "{file}:{line}:{column}: {said}{word}{other}")
+                let word = word_of(alloc, text, note, at)?;
+                said_at(alloc, file, at, note, word, other)
             }
             Refusal::OutOfMemory => String::from_str(alloc, "out of memory"),
         }
     }
+}
+
+fn said_at(
+    alloc: Global,
+    file: &str,
+    at: Place,
+    note: Note,
+    word: &str,
+    other: Option<Place>,
+) -> Result<String, AllocError>
+    ensures { IfOk result (λ line. string_bytes line ≡ said_at file.now at note word.now other) }
+{
+    let Place { line, column } = at;
+    let said = note.text();
+    let other = text_of_other(alloc, other)?;
+    format!(in alloc; "{file}:{line}:{column}: {said}{word}{other}")
 }
 
 fn text_of_other(alloc: Global, other: Option<Place>) -> Result<String, AllocError>
@@ -87,13 +84,71 @@ fn text_of_other(alloc: Global, other: Option<Place>) -> Result<String, AllocErr
     }
 }
 
-fn text_of_word(left_out: Option<Kind>) -> &'static str
-    ensures { result.now ≡ word_text left_out }
+/// The word of a fault of the text, or nothing where its note has none.
+fn word_of(
+    alloc: Global,
+    text: &[u8],
+    note: Note,
+    at: Place,
+) -> Result<&'static str, AllocError>
+    requires { HasFaultAt text.now note at }
+    ensures { IfOk result (λ word. IsWordOf text.now word.now) }
 {
-    match left_out {
-        Some(kind) => text_of_left_out(kind),
-        None => "",
+    if is_left_out(note) {
+        left_out_word(alloc, text, at)
+    } else {
+        Ok("")
     }
+}
+
+fn is_left_out(note: Note) -> bool
+    ensures { IsTrue result ↔ (note ≡ notes.LeftOut) }
+{
+    matches!(note, Note::LeftOut)
+}
+
+/// The word of the token at a place, which is one that the language leaves out.
+fn left_out_word(alloc: Global, text: &[u8], at: Place) -> Result<&'static str, AllocError>
+    requires { HasFaultAt text.now notes.LeftOut at }
+    ensures { IfOk result (λ word. IsWordOf text.now word.now) }
+{
+    match lex(alloc, text) {
+        Ok(tokens) => {
+            let token = token_at(&tokens, at);
+            Ok(text_of_left_out(tokens.kind(token)))
+        }
+        Err(fault) => Err(out_of_memory(fault)),
+    }
+}
+
+fn out_of_memory(_fault: LexFault) -> AllocError
+    requires { _fault ≡ lex_fault.OutOfMemory }
+{
+    AllocError
+}
+
+/// The number of the token at a place, by halving: the places of tokens rise.
+fn token_at(tokens: &Tokens, at: Place) -> u32
+    requires { StandInOrder tokens.now }
+    ensures { (token : ℕ) → token < length tokens.now.items → place_of_token tokens.now token ≡ at → result ≡ token }
+{
+    let mut low = 0_u32;
+    let mut high = tokens.items().len() as u32;
+    while low < high {
+        let middle = low + (high - low) / 2;
+        if precedes(tokens.place(middle), at) {
+            low = middle + 1;
+        } else {
+            high = middle;
+        }
+    }
+    low
+}
+
+fn precedes(a: Place, b: Place) -> bool
+    ensures { IsTrue result ↔ Precedes a b }
+{
+    a.line < b.line || (a.line == b.line && a.column < b.column)
 }
 
 fn text_of_left_out(kind: Kind) -> &'static str

@@ -4,12 +4,12 @@ use Rattle.ada_run.proofs.compiler.syntax_refusal.Goals as goal
 pub returns-in-LeftOut : goal.returns-in-LeftOut
 returns-in-LeftOut c =
     let fault = rw c.in-LeftOut.is at c.requires in
-    refuses_left_out c.args.tokens.now c.in-LeftOut.token c.of_left_out.result fault.0 fault.1 (rw (← c.kind.ensures, ← c.place.ensures) c.of_left_out.ensures)
+    refuses_left_out c.args.tokens.now c.in-LeftOut.token c.of.result fault.0 fault.1 (rw (← c.place.ensures) c.of.ensures)
 
 pub returns-in-Unexpected : goal.returns-in-Unexpected
 returns-in-Unexpected c =
     let fault = rw c.in-Unexpected.is at c.requires in
-    refuses_syntax c.args.tokens.now c.in-Unexpected.token c.of.result fault.0 fault.1 (rw (← c.place-in-Unexpected.ensures) c.of.ensures)
+    refuses_syntax c.args.tokens.now c.in-Unexpected.token c.of-in-Unexpected.result fault.0 fault.1 (rw (← c.place-in-Unexpected.ensures) c.of-in-Unexpected.ensures)
 
 pub returns-in-TooDeep : goal.returns-in-TooDeep
 returns-in-TooDeep c =
