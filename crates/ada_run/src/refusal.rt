@@ -49,7 +49,10 @@ impl Refusal {
     {
         match *self {
             Refusal::Refused {
-                at, other, note, ..
+                at,
+                other,
+                note,
+                ..
             } => {
                 let word = word_of(alloc, text, note, at)?;
                 said_at(alloc, file, at, note, word, other)
@@ -85,12 +88,7 @@ fn text_of_other(alloc: Global, other: Option<Place>) -> Result<String, AllocErr
 }
 
 /// The word of a fault of the text, or nothing where its note has none.
-fn word_of(
-    alloc: Global,
-    text: &[u8],
-    note: Note,
-    at: Place,
-) -> Result<&'static str, AllocError>
+fn word_of(alloc: Global, text: &[u8], note: Note, at: Place) -> Result<&'static str, AllocError>
     requires { HasFaultAt text.now note at }
     ensures { IfOk result (λ word. IsWordOf text.now word.now) }
 {
