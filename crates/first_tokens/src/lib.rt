@@ -3,6 +3,7 @@
 
 ghost use Rattle.std.specs.Prelude.{◌≡◌};
 ghost use Rattle.ada_tree.specs.FirstTokens as first;
+ghost use Rattle.first_tokens.specs.Laws.{FirstTokenLaw};
 ghost use Rattle.tree_nodes.specs.Parts.{the_arg, the_assoc, the_body, the_choice, the_decl, the_expr, the_factor, the_indic, the_iter, the_many, the_name, the_parallel, the_primary, the_range, the_rel, the_scheme, the_simple, the_stmt, the_stmts, the_sub, the_term, the_unit};
 ghost use Rattle.tree_nodes.specs.Tables.{part_at};
 
@@ -11,6 +12,12 @@ use tree_views::{
     Assoc, Choice, Decl, Expr, Factor, Indic, Iter, Many, Parallel, Primary, Range, Rel, Scheme,
     Stmt, Sub, Tree, Unit,
 };
+
+/// The law of the definition: whatever a part spells begins with the token that is told as its first. It has no body: its
+/// contract is what is proved.
+pub fn law()
+    ensures { FirstTokenLaw }
+{}
 
 /// The first token of a name.
 pub fn of_name(tree: &Tree, number: u32) -> u32
