@@ -1,21 +1,22 @@
 //! The tree of a text's tokens, or their first fault.
 
-ghost use Rattle.std.specs.Prelude.{◌≡◌, ◌<◌, ◌^◌, ℕ, length, map, Err, IfOk};
+ghost use Rattle.std.specs.Prelude.{◌≡◌, ◌<◌, ◌^◌, ℕ, [], length, map, Err, IfOk};
 ghost use Rattle.ada_base.specs.Tokens.{kind_at};
 ghost use Rattle.ada_tree.specs.Grammar.{ProgramWords};
 ghost use Rattle.ada_tree.specs.Parsed.{depth_limit, IsParsed, IsSyntaxFault, IsTooDeep};
 ghost use Rattle.ada_tree.specs.Syntax.{Program};
 ghost use Rattle.ada_tree.specs.TokenKinds as token_kind;
+ghost use Rattle.tree_nodes.specs.Stack.{parts};
 ghost use Rattle.ada_grammar.specs.Parsed.{Parsed, JudgedTree, GivesTree, GivesFault, GivesTooDeep};
 
-use ada_base::{Kind, Token, Tokens};
+use ada_base::{Items, Kind, Token, Tokens};
 use ada_parser::Parser;
 use ada_tree::kinds::{is_left_out, kind_number};
 use reader_combinators::{Cursor, Refusal, verdict};
 use statement_parser::program;
 use std::alloc::{AllocError, Global};
 use thiserror::Error;
-use tree_nodes::begin;
+use tree_nodes::Parts;
 use tree_views::{Tree, finish};
 
 /// How deep a token of a program may stand.
@@ -69,14 +70,29 @@ fn kind_at(tokens: &[Token], token: u32) -> Kind
     }
 }
 
+/// A table without parts that has room for a node for each token: one that grows from nothing leaves the blocks that it
+/// has grown out of behind it.
+#[tactic(auto, using(tree_nodes::proofs::Stacks::fit_none), unfolding(tree_nodes::specs::Stack::parts, tree_nodes::specs::Rooted::stack))]
+fn table_for(alloc: Global, kinds: &[u16]) -> Result<Parts, AllocError>
+    ensures { IfOk result (λ out. parts out ≡ []) }
+{
+    Ok(Parts {
+        nodes: Items::from_vec(Vec::with_capacity(alloc, kinds.len())?),
+        roots: Items::new(alloc),
+    })
+}
+
 /// The tree of a list of kinds, or why it has none.
 fn judge(alloc: Global, kinds: &[u16]) -> Result<Tree, Refusal>
     requires { length kinds.now < 2 ^ 32 }
     ensures { JudgedTree kinds.now result }
 {
+    let Ok(out) = table_for(alloc, kinds) else {
+        return Err(Refusal::OutOfMemory);
+    };
     let mut parser = Parser {
         tokens: Cursor::new(kinds),
-        out: begin(alloc),
+        out,
     };
     let read = program(&mut parser, DEPTH_LIMIT);
     let Parser { tokens, out } = parser;

@@ -13,20 +13,20 @@ use Rattle.ada_grammar.proofs.Judging.{judged, told_of}
 use Rattle.tree_views.specs.Trees as trees
 use Rattle.ada_grammar.proofs.parser.judge.Goals as goal
 
-pub returns-in-Ok : goal.returns-in-Ok
+pub returns-in-Ok-verdict : goal.returns-in-Ok-verdict
 unfolding trees.program_of
-returns-in-Ok c =
+returns-in-Ok-verdict c =
     let new = c.program-read.new.parser in
     let kinds = c.args.kinds.now in
-    let read = subst (λ ts. Reads the_program IsPart (parts c.begin.result) (reader.program depth_limit ts) c.program-read.result new.tokens (parts new.out)) c.new.ensures c.program-read.ensures in
-    let whole = judged depth_limit ProgramWords kinds the_program IsPart (parts c.begin.result) (reader.program depth_limit (numbered 0 kinds)) c.program-read.result new.tokens (parts new.out) (right depth_limit kinds) read in
+    let read = subst (λ ts. Reads the_program IsPart (parts c.in-Ok.out) (reader.program depth_limit ts) c.program-read.result new.tokens (parts new.out)) c.new.ensures c.program-read.ensures in
+    let whole = judged depth_limit ProgramWords kinds the_program IsPart (parts c.in-Ok.out) (reader.program depth_limit (numbered 0 kinds)) c.program-read.result new.tokens (parts new.out) (right depth_limit kinds) read in
     subst (λ p. RightVerdict depth_limit ProgramWords kinds (Ok (the_program p))) (sym c.finish.ensures)
-    (subst (λ r. RightVerdict depth_limit ProgramWords kinds (told_of (the_program (top (parts new.out))) r)) (sym c.verdict.ensures ∙ c.in-Ok.is) whole)
+    (subst (λ r. RightVerdict depth_limit ProgramWords kinds (told_of (the_program (top (parts new.out))) r)) (sym c.verdict.ensures ∙ c.in-Ok-verdict.is) whole)
 
 pub returns-in-Err : goal.returns-in-Err
 returns-in-Err c =
     let new = c.program-read.new.parser in
     let kinds = c.args.kinds.now in
-    let read = subst (λ ts. Reads the_program IsPart (parts c.begin.result) (reader.program depth_limit ts) c.program-read.result new.tokens (parts new.out)) c.new.ensures c.program-read.ensures in
-    let whole = judged depth_limit ProgramWords kinds the_program IsPart (parts c.begin.result) (reader.program depth_limit (numbered 0 kinds)) c.program-read.result new.tokens (parts new.out) (right depth_limit kinds) read in
+    let read = subst (λ ts. Reads the_program IsPart (parts c.in-Ok.out) (reader.program depth_limit ts) c.program-read.result new.tokens (parts new.out)) c.new.ensures c.program-read.ensures in
+    let whole = judged depth_limit ProgramWords kinds the_program IsPart (parts c.in-Ok.out) (reader.program depth_limit (numbered 0 kinds)) c.program-read.result new.tokens (parts new.out) (right depth_limit kinds) read in
     subst (λ r. RightVerdict depth_limit ProgramWords kinds (told_of (the_program (top (parts new.out))) r)) (sym c.verdict.ensures ∙ c.in-Err.is) whole
