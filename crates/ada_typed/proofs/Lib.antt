@@ -1,0 +1,10 @@
+pub mod Agreeing
+pub mod ChainSteps
+pub mod Growing
+pub mod Law
+pub mod Objects
+pub mod Order
+pub mod Pushing
+pub mod Reading
+pub mod RowMajor
+pub mod WrittenRead

@@ -1,0 +1,10 @@
+pub mod Chained
+pub mod Decoded
+pub mod Laws
+pub mod Layout
+pub mod Ordered
+pub mod Programs
+pub mod Statics
+pub mod Syntax
+pub mod Viewed
+pub mod Written
