@@ -1,0 +1,76 @@
+-- The parts of a typed program while it is made: lists that grow, pairs, and what static values mention.
+use Rattle.std.specs.Prelude.{ℕ, ℤ}
+use Rattle.ada_typed.specs.declared.expressions.Root.{Root}
+use Rattle.ada_typed.specs.declared.expressions.Reducer.TheVariants as reducer
+use Rattle.ada_typed.specs.declared.scalars.Class.{Class}
+use Rattle.ada_typed.specs.declared.scalars.Class.TheVariants as class
+use Rattle.ada_typed.specs.Decoded.{Part, Nothing, Cons, AnExpr, AStmt, ASelection, as_expr, as_exprs, as_selections, as_stmts}
+use Rattle.ada_typed.specs.Syntax.{Expr, Exprs, Selections, Stmts}
+use Rattle.ada_typed.specs.Syntax as typed
+use Rattle.typed_parts.specs.Stack.{onto, turned}
+use Rattle.typed_parts.specs.Stack as stack
+
+-- ---- pairs
+
+abbrev pub pair : Part → Part → Part
+pair p q = Cons p q
+
+abbrev pub left_of : Part → Part
+left_of p = stack.first_of p
+
+abbrev pub right_of : Part → Part
+right_of p = stack.rest_of p
+
+-- the bounds of a range, which are a pair
+abbrev pub low_of : Part → Expr
+low_of p = as_expr (left_of p)
+
+abbrev pub high_of : Part → Expr
+high_of p = as_expr (right_of p)
+
+-- ---- lists that grow: the latest item stands first until the list is whole
+
+abbrev pub also : Part → Part → Part
+also done item = Cons item done
+
+-- a list that grows, with the items of another behind its own
+unfoldable pub also_all : Part → Part → Part
+also_all done more = onto (turned more) done
+
+-- the exprs of a list that grew
+abbrev pub exprs_of : Part → Exprs
+exprs_of p = as_exprs (turned p)
+
+-- the selections of an object's name, which grow from left to right
+abbrev pub selections_of : Part → Selections
+selections_of p = as_selections (turned p)
+
+-- the indexes of a name, which an attribute of it mentions
+abbrev pub indexes_from : Part → Selections → Part
+indexes_from done typed.Whole = done
+indexes_from done (typed.Field n o s) = indexes_from done s
+indexes_from done (typed.Index at e l h d s) = indexes_from (also done (AnExpr e)) s
+
+unfoldable pub indexes_in : Selections → Part
+indexes_in s = indexes_from Nothing s
+
+-- conditions and statements behind the first of an if statement, the last of which stand first
+unfoldable pub nested_stmts : Part → Part → Part
+nested_stmts (Cons p rest) otherwise =
+    nested_stmts rest (Cons (AStmt (typed.IfThen (as_expr (left_of p)) (as_stmts (right_of p)) (as_stmts otherwise))) Nothing)
+nested_stmts p otherwise = otherwise
+
+-- ---- a universal expression takes a class
+
+abbrev class_or : Class → Class → Class
+class_or c class.Universal = c
+class_or c d = d
+
+unfoldable pub with_class : Class → Expr → Expr
+with_class c (typed.Group e) = typed.Group (with_class c e)
+with_class c (typed.Unary at s d e) = typed.Unary at s (class_or c d) (with_class c e)
+with_class c (typed.Binary at o d l r) = typed.Binary at o (class_or c d) (with_class c l) (with_class c r)
+with_class c (typed.If x v o) = typed.If x (with_class c v) (with_class c o)
+with_class c (typed.Reduction at a (reducer.Operator n o d) initial site chunk iteration v) =
+    typed.Reduction at a (reducer.Operator n o (class_or c d)) (with_class c initial) site chunk iteration (with_class c v)
+with_class c e = e

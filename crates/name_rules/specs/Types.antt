@@ -1,0 +1,114 @@
+-- Types and subtypes (3.2 to 3.8): the table of subtypes, and how many cells an object has.
+use Rattle.ada_base.specs.Operation.{is_in_base}
+use Rattle.ada_base.specs.declared.operation.Base.TheVariants.{Narrow, Wide}
+use Rattle.name_rules.specs.Found.{scalar}
+use Rattle.name_rules.specs.Judging.{Judging}
+use Rattle.name_rules.specs.declared.log.Dimension.{Dimension}
+use Rattle.name_rules.specs.declared.log.Field.{Field}
+use Rattle.name_rules.specs.declared.log.Log.{Log}
+use Rattle.name_rules.specs.declared.log.Shape.TheVariants as shape
+use Rattle.name_rules.specs.declared.log.Shape.{Shape}
+use Rattle.name_rules.specs.declared.types.Kind.TheVariants as kind
+use Rattle.name_rules.specs.declared.types.Kind.{Kind}
+use Rattle.name_rules.specs.declared.types.Scalar.{Scalar}
+use Rattle.name_rules.specs.declared.types.Subtype.TheVariants as subtype
+use Rattle.name_rules.specs.declared.types.Subtype.{Subtype}
+use Rattle.name_rules.specs.declared.types.Wanted.TheVariants as wanted
+use Rattle.name_rules.specs.declared.types.Wanted.{Wanted}
+use Rattle.ada_typed.specs.declared.scalars.Check.{Check}
+use Rattle.ada_typed.specs.declared.scalars.Class.TheVariants as class
+use Rattle.ada_typed.specs.declared.scalars.Class.{Class}
+use Rattle.ada_typed.specs.declared.scalars.Scalar.{Scalar as TypedScalar}
+use Rattle.std.specs.Prelude.{Bool, List, None, Option, Some, [], false, int_le, length, min, negsuc, pos, slice_get, true, unsigned_abs, ℕ, ℤ, ◌&&◌, ◌*◌, ◌++◌, ◌+◌, ◌-ℤ◌, ◌==◌, ◌∷◌}
+
+-- ---- scalar types
+
+abbrev pub same : Kind → Kind → Bool
+same kind.Boolean kind.Boolean = true
+same kind.Integer kind.Integer = true
+same (kind.Own m) (kind.Own n) = m == n
+same _ _ = false
+
+abbrev pub is_integer : Kind → Bool
+is_integer kind.Boolean = false
+is_integer _ = true
+
+abbrev pub class_of : Kind → Class
+class_of kind.Boolean = class.Boolean
+class_of kind.Integer = class.Integer Narrow
+class_of (kind.Own n) = class.Integer Wide
+
+abbrev pub in_base : Kind → ℤ → Bool
+in_base kind.Boolean z = int_le (pos 0) z && int_le z (pos 1)
+in_base kind.Integer z = is_in_base Narrow z
+in_base (kind.Own n) z = is_in_base Wide z
+
+abbrev pub base_of : Kind → Scalar
+base_of kind.Boolean = record { kind = kind.Boolean; low = pos 0; high = pos 1 }
+base_of kind.Integer = record { kind = kind.Integer; low = negsuc 2147483647; high = pos 2147483647 }
+base_of (kind.Own n) = record { kind = kind.Own n; low = negsuc 9223372036854775807; high = pos 9223372036854775807 }
+
+abbrev pub lies_in : Scalar → ℤ → Bool
+lies_in s z = int_le s.low z && int_le z s.high
+
+abbrev pub typed_scalar : Scalar → TypedScalar
+typed_scalar s = record { class = class_of s.kind; low = s.low; high = s.high }
+
+abbrev pub check_at : ℕ → Scalar → Check
+check_at at s = record { at = at; scalar = typed_scalar s }
+
+-- ---- the table of subtypes
+
+abbrev pub shape_in : Log → ℕ → Option Shape
+shape_in log n = slice_get log.shapes n
+
+abbrev pub dimensions_of : Option Shape → List Dimension
+dimensions_of (Some (shape.Array ds c n cells)) = ds
+dimensions_of _ = []
+
+abbrev pub fields_of : Option Shape → List Field
+fields_of (Some (shape.Record fs cells)) = fs
+fields_of _ = []
+
+abbrev pub component_of : Option Shape → Option Subtype
+component_of (Some (shape.Array ds c n cells)) = Some c
+component_of _ = None
+
+abbrev pub written_shape : Shape → Judging ℕ
+written_shape t = λ log. (length log.shapes, record log { shapes = log.shapes ++ t ∷ [] })
+
+-- a scalar subtype is written where it is used
+unfoldable pub number_of : Subtype → Judging ℕ
+number_of (subtype.Scalar s) = written_shape (shape.Scalar s)
+number_of (subtype.Composite n) = λ log. (n, log)
+
+-- ---- cells
+
+-- a count stands still at the greatest number of 64 bits
+abbrev pub saturated : ℕ → ℕ
+saturated n = min n 18446744073709551615
+
+abbrev pub cells_of_shape : Option Shape → ℕ
+cells_of_shape (Some (shape.Array ds c n cells)) = cells
+cells_of_shape (Some (shape.Record fs cells)) = cells
+cells_of_shape _ = 1
+
+abbrev pub cells_in : Log → Subtype → ℕ
+cells_in log (subtype.Scalar s) = 1
+cells_in log (subtype.Composite n) = cells_of_shape (shape_in log n)
+
+abbrev pub extent : Dimension → ℕ
+extent d = unsigned_abs (d.high -ℤ d.low) + 1
+
+abbrev pub array_cells : List Dimension → ℕ → ℕ
+array_cells [] cells = cells
+array_cells (d ∷ ds) cells = array_cells ds (saturated (extent d * cells))
+
+-- how many cells lie between neighbours in a dimension: those of a component for each index behind it
+abbrev pub stride : List Dimension → ℕ → ℕ
+stride [] cells = cells
+stride (d ∷ ds) cells = array_cells ds cells
+
+abbrev pub wanted_of : Subtype → Wanted
+wanted_of (subtype.Scalar s) = wanted.Other
+wanted_of (subtype.Composite n) = wanted.Composite n
