@@ -1,5 +1,42 @@
 //! The kinds of tokens that the grammar speaks of, by their numbers (2.2): those of `specs/Kinds.antt`.
 
+ghost use Rattle.std.specs.Prelude.{◌≡◌};
+ghost use Rattle.ada_base.specs.Symbols.{is_member};
+ghost use Rattle.ada_tree.specs.Kinds.{left_out};
+ghost use Rattle.ada_tree.specs.Parsed.{is_left_out};
+ghost use Rattle.ada_tree.specs.TokenKinds.{kind_number};
+
+use ada_base::Kind;
+
+/// The kind of a token by its number, whatever a literal's value is.
+pub fn kind_number(kind: Kind) -> u16
+    ensures { result ≡ kind_number kind }
+{
+    match kind {
+        Kind::Ident => IDENTIFIER,
+        Kind::Word(word) => FIRST_WORD + u16::from(word),
+        Kind::Number(_) => NUMERAL,
+        Kind::Text => STRING,
+        Kind::Letter => CHARACTER,
+        Kind::Real => REAL,
+        Kind::Mark(mark) => FIRST_MARK + u16::from(mark),
+        Kind::End => END_OF_TEXT,
+    }
+}
+
+/// Whether a token is a word, a mark or a literal that the language leaves out.
+pub fn is_left_out(kind: Kind) -> bool
+    ensures { result ≡ is_left_out kind }
+{
+    is_among(&LEFT_OUT, kind_number(kind))
+}
+
+fn is_among(kinds: &[u16], kind: u16) -> bool
+    ensures { result ≡ is_member kinds.now kind }
+{
+    kinds.iter().any(|k| *k == kind)
+}
+
 /// The end of the text.
 pub const END_OF_TEXT: u16 = 0;
 
@@ -17,6 +54,9 @@ pub const CHARACTER: u16 = 4;
 
 /// A real literal (2.4).
 pub const REAL: u16 = 5;
+
+/// The first reserved word; the others follow in the order of the alphabet.
+pub const FIRST_WORD: u16 = 6;
 
 /// The reserved word `abort` (2.9).
 pub const ABORT: u16 = 6;
@@ -240,6 +280,9 @@ pub const WITH: u16 = 78;
 /// The reserved word `xor` (2.9).
 pub const XOR: u16 = 79;
 
+/// The first mark; the others follow in the order of `specs/Words.antt`.
+pub const FIRST_MARK: u16 = 262;
+
 /// The mark `=>` (2.2).
 pub const ARROW: u16 = 262;
 
@@ -326,3 +369,43 @@ pub const CLOSE_SQUARE: u16 = 289;
 
 /// The mark `@` (2.2).
 pub const TARGET: u16 = 290;
+
+/// The tokens that the language leaves out: words, marks, and real and character literals.
+pub const LEFT_OUT: [u16; 36] = [
+    ABORT,
+    ABSTRACT,
+    ACCEPT,
+    ACCESS,
+    ALIASED,
+    ALL,
+    AT,
+    BODY,
+    DELAY,
+    DELTA,
+    DIGITS,
+    ENTRY,
+    GENERIC,
+    GOTO,
+    INTERFACE,
+    LIMITED,
+    NEW,
+    OVERRIDING,
+    PACKAGE,
+    PRIVATE,
+    PROTECTED,
+    RENAMES,
+    REQUEUE,
+    SELECT,
+    SEPARATE,
+    SOME,
+    SYNCHRONIZED,
+    TAGGED,
+    TASK,
+    TERMINATE,
+    UNTIL,
+    BOX,
+    OPEN_LABEL,
+    CLOSE_LABEL,
+    REAL,
+    CHARACTER,
+];

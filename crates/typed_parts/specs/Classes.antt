@@ -1,5 +1,5 @@
 -- An expression of a universal type takes the class of its place (3.4.1, 8.6).
-use Rattle.std.specs.Prelude.{◌≡◌, ℕ, suc, ◌<◌, ◌≤◌, List, [], ◌∷◌}
+use Rattle.std.specs.Prelude.{◌≡◌, ℕ, suc, ◌≤◌, List, [], ◌∷◌}
 use Rattle.ada_typed.specs.declared.scalars.Class.{Class}
 use Rattle.ada_typed.specs.declared.scalars.Class.TheVariants as class
 use Rattle.ada_typed.specs.Decoded.{Part, as_expr}

@@ -16,10 +16,9 @@ mod settling;
 mod statements;
 mod values;
 
-pub use finishing::Finished;
-
 use ada_base::Items;
-use ada_typed::{push, Node};
+use ada_typed::{Node, push};
+pub use finishing::Finished;
 use std::alloc::{AllocError, Global};
 use std::marker::Model;
 
@@ -121,3 +120,6 @@ fn latest(roots: &mut Items<u32>) -> u32
         None => 0,
     }
 }
+
+#[cfg(test)]
+mod tests;

@@ -66,6 +66,10 @@ impl Parts {
         let handlers = self.take();
         let stmts = self.take();
         let decls = self.take();
-        self.put(Node::Body(Body { decls, stmts, handlers }))
+        self.put(Node::Body(Body {
+            decls,
+            stmts,
+            handlers,
+        }))
     }
 }

@@ -17,7 +17,12 @@ impl Parts {
         ensures { OnOk result (parts self.new ≡ AnExpr (syntax.Static at value literal (as_exprs (top (parts self.old)))) ∷ pop (parts self.old)) }
     {
         let mentions = self.take();
-        self.put(Node::Expr(Expr::Static { at, value, literal, mentions }))
+        self.put(Node::Expr(Expr::Static {
+            at,
+            value,
+            literal,
+            mentions,
+        }))
     }
 
     /// A scalar variable or part of one (4.1). Joined of the list of its selections.
@@ -25,7 +30,12 @@ impl Parts {
         ensures { OnOk result (parts self.new ≡ AnExpr (syntax.Variable at root (as_selections (top (parts self.old))) scalar) ∷ pop (parts self.old)) }
     {
         let selections = self.take();
-        self.put(Node::Expr(Expr::Variable { at, root, selections, scalar }))
+        self.put(Node::Expr(Expr::Variable {
+            at,
+            root,
+            selections,
+            scalar,
+        }))
     }
 
     /// A scalar constant or part of one (4.1). Joined of the list of its selections.
@@ -33,7 +43,12 @@ impl Parts {
         ensures { OnOk result (parts self.new ≡ AnExpr (syntax.Constant at root (as_selections (top (parts self.old))) scalar) ∷ pop (parts self.old)) }
     {
         let selections = self.take();
-        self.put(Node::Expr(Expr::Constant { at, root, selections, scalar }))
+        self.put(Node::Expr(Expr::Constant {
+            at,
+            root,
+            selections,
+            scalar,
+        }))
     }
 
     /// The parameter of a loop (5.5), of its chunks, or of an iterated association (4.3.3).
@@ -63,7 +78,12 @@ impl Parts {
         ensures { OnOk result (parts self.new ≡ AnExpr (syntax.Unary at sign class (as_expr (top (parts self.old)))) ∷ pop (parts self.old)) }
     {
         let operand = self.take();
-        self.put(Node::Expr(Expr::Unary { at, sign, class, operand }))
+        self.put(Node::Expr(Expr::Unary {
+            at,
+            sign,
+            class,
+            operand,
+        }))
     }
 
     /// An operator (4.5), with its token. Joined of its left operand and then its right one.
@@ -72,7 +92,13 @@ impl Parts {
     {
         let right = self.take();
         let left = self.take();
-        self.put(Node::Expr(Expr::Binary { at, op, class, left, right }))
+        self.put(Node::Expr(Expr::Binary {
+            at,
+            op,
+            class,
+            left,
+            right,
+        }))
     }
 
     /// `and then` (4.5.1), of its left operand and then its right one.
@@ -99,7 +125,12 @@ impl Parts {
     {
         let right = self.take();
         let left = self.take();
-        self.put(Node::Expr(Expr::Relation { class, comparison, left, right }))
+        self.put(Node::Expr(Expr::Relation {
+            class,
+            comparison,
+            left,
+            right,
+        }))
     }
 
     /// `X [not] in L .. H` on operands of a class (4.5.2). Joined of X, L and H in this order.
@@ -109,7 +140,13 @@ impl Parts {
         let high = self.take();
         let low = self.take();
         let value = self.take();
-        self.put(Node::Expr(Expr::Membership { class, negated, value, low, high }))
+        self.put(Node::Expr(Expr::Membership {
+            class,
+            negated,
+            value,
+            low,
+            high,
+        }))
     }
 
     /// `(if C then X else Y)` of a scalar type (4.5.7). Joined of C, X and Y in this order.
@@ -119,7 +156,11 @@ impl Parts {
         let otherwise = self.take();
         let value = self.take();
         let condition = self.take();
-        self.put(Node::Expr(Expr::If { condition, value, otherwise }))
+        self.put(Node::Expr(Expr::If {
+            condition,
+            value,
+            otherwise,
+        }))
     }
 
     /// A call of a function (6.4), with the first and the last token of its name. Joined of the list of its actual
@@ -128,7 +169,12 @@ impl Parts {
         ensures { OnOk result (parts self.new ≡ AnExpr (syntax.Call at callee sub (as_actuals (top (parts self.old)))) ∷ pop (parts self.old)) }
     {
         let actuals = self.take();
-        self.put(Node::Expr(Expr::Call { at, callee, sub, actuals }))
+        self.put(Node::Expr(Expr::Call {
+            at,
+            callee,
+            sub,
+            actuals,
+        }))
     }
 
     /// A conversion (4.6) of an expression, with its check.
@@ -141,7 +187,12 @@ impl Parts {
 
     /// A reduction (4.5.10), with its first token and that of the attribute's name, and its site where it is parallel.
     /// Joined of the chunk specification, the iteration, the value, the reducer and the initial value in this order.
-    pub fn reduction(&mut self, at: u32, attribute: u32, site: Option<u32>) -> Result<(), AllocError>
+    pub fn reduction(
+        &mut self,
+        at: u32,
+        attribute: u32,
+        site: Option<u32>,
+    ) -> Result<(), AllocError>
         ensures { OnOk result (parts self.new ≡ AnExpr (syntax.Reduction at attribute (as_reducer (second (parts self.old))) (as_expr (top (parts self.old))) site (as_chunk (fifth (parts self.old))) (as_iteration (fourth (parts self.old))) (as_expr (third (parts self.old)))) ∷ pop (pop (pop (pop (pop (parts self.old)))))) }
     {
         let initial = self.take();
@@ -149,6 +200,15 @@ impl Parts {
         let value = self.take();
         let iteration = self.take();
         let chunk = self.take();
-        self.put(Node::Expr(Expr::Reduction { at, attribute, reducer, initial, site, chunk, iteration, value }))
+        self.put(Node::Expr(Expr::Reduction {
+            at,
+            attribute,
+            reducer,
+            initial,
+            site,
+            chunk,
+            iteration,
+            value,
+        }))
     }
 }

@@ -21,7 +21,14 @@ impl Parts {
         let check = self.take();
         let high = self.take();
         let low = self.take();
-        self.put(Node::Iteration(Iteration::Range { parameter, reverse, low, high, check, filter }))
+        self.put(Node::Iteration(Iteration::Range {
+            parameter,
+            reverse,
+            low,
+            high,
+            check,
+            filter,
+        }))
     }
 
     /// `X of A when F` (5.5.2): `count` components, each `stride` cells from the one before it, of an array with so many
@@ -40,7 +47,17 @@ impl Parts {
     {
         let filter = self.take();
         let selections = self.take();
-        self.put(Node::Iteration(Iteration::Components { item, constant, at, root, selections, count, stride, dimensions, filter }))
+        self.put(Node::Iteration(Iteration::Components {
+            item,
+            constant,
+            at,
+            root,
+            selections,
+            count,
+            stride,
+            dimensions,
+            filter,
+        }))
     }
 
     /// A number of chunks, of its expression.
@@ -58,7 +75,12 @@ impl Parts {
         let check = self.take();
         let high = self.take();
         let low = self.take();
-        self.put(Node::Chunk(Chunk::Each { parameter, low, high, check }))
+        self.put(Node::Chunk(Chunk::Each {
+            parameter,
+            low,
+            high,
+            check,
+        }))
     }
 
     /// A reducer that is an operator, `S'Max` or `S'Min`.
@@ -74,7 +96,12 @@ impl Parts {
     {
         let value = self.take();
         let accumulator = self.take();
-        self.put(Node::Fold(Fold::Function { at, sub, accumulator, value }))
+        self.put(Node::Fold(Fold::Function {
+            at,
+            sub,
+            accumulator,
+            value,
+        }))
     }
 
     /// The check of a range's bounds.

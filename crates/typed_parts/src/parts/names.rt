@@ -22,7 +22,13 @@ impl Parts {
         ensures { OnOk result (parts self.new ≡ ASelection (syntax.Index at (as_expr (top (parts self.old))) low high stride) ∷ pop (parts self.old)) }
     {
         let index = self.take();
-        self.put(Node::Selection(Selection::Index { at, index, low, high, stride }))
+        self.put(Node::Selection(Selection::Index {
+            at,
+            index,
+            low,
+            high,
+            stride,
+        }))
     }
 
     /// An actual parameter of mode `in`, of its value.
@@ -41,7 +47,14 @@ impl Parts {
         let outside = self.take();
         let inside = self.take();
         let selections = self.take();
-        self.put(Node::Actual(Actual::InOut { formal, at, root, selections, inside, outside }))
+        self.put(Node::Actual(Actual::InOut {
+            formal,
+            at,
+            root,
+            selections,
+            inside,
+            outside,
+        }))
     }
 
     /// A scalar actual parameter of mode `out`. Joined of the list of its selections, the subtype of its formal and its
@@ -52,23 +65,54 @@ impl Parts {
         let outside = self.take();
         let inside = self.take();
         let selections = self.take();
-        self.put(Node::Actual(Actual::Out { formal, at, root, selections, inside, outside }))
+        self.put(Node::Actual(Actual::Out {
+            formal,
+            at,
+            root,
+            selections,
+            inside,
+            outside,
+        }))
     }
 
     /// An actual parameter of mode `in out` that is an array or record. Joined of the list of its selections.
-    pub fn composite_in_out(&mut self, formal: u32, at: u32, root: Root, subtype: u32) -> Result<(), AllocError>
+    pub fn composite_in_out(
+        &mut self,
+        formal: u32,
+        at: u32,
+        root: Root,
+        subtype: u32,
+    ) -> Result<(), AllocError>
         ensures { OnOk result (parts self.new ≡ AnActual (syntax.CompositeInOut formal at root (as_selections (top (parts self.old))) subtype) ∷ pop (parts self.old)) }
     {
         let selections = self.take();
-        self.put(Node::Actual(Actual::CompositeInOut { formal, at, root, selections, subtype }))
+        self.put(Node::Actual(Actual::CompositeInOut {
+            formal,
+            at,
+            root,
+            selections,
+            subtype,
+        }))
     }
 
     /// An actual parameter of mode `out` that is an array or record. Joined of the list of its selections.
-    pub fn composite_out(&mut self, formal: u32, at: u32, root: Root, subtype: u32) -> Result<(), AllocError>
+    pub fn composite_out(
+        &mut self,
+        formal: u32,
+        at: u32,
+        root: Root,
+        subtype: u32,
+    ) -> Result<(), AllocError>
         ensures { OnOk result (parts self.new ≡ AnActual (syntax.CompositeOut formal at root (as_selections (top (parts self.old))) subtype) ∷ pop (parts self.old)) }
     {
         let selections = self.take();
-        self.put(Node::Actual(Actual::CompositeOut { formal, at, root, selections, subtype }))
+        self.put(Node::Actual(Actual::CompositeOut {
+            formal,
+            at,
+            root,
+            selections,
+            subtype,
+        }))
     }
 
     /// A scalar subtype, as a part of an actual parameter or a reducer.

@@ -32,6 +32,10 @@ impl Parts {
     {
         let width = self.take();
         let value = self.take();
-        self.put(Node::Piece(Piece::Padded { class, value, width }))
+        self.put(Node::Piece(Piece::Padded {
+            class,
+            value,
+            width,
+        }))
     }
 }

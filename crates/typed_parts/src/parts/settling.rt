@@ -82,7 +82,12 @@ impl Parts {
             } => {
                 let operand = self.take();
                 let class = class_or(class, own);
-                self.put_on(Node::Expr(Expr::Unary { at, sign, class, operand }))
+                self.put_on(Node::Expr(Expr::Unary {
+                    at,
+                    sign,
+                    class,
+                    operand,
+                }))
             }
             Expr::Binary {
                 at,
@@ -95,7 +100,13 @@ impl Parts {
                 let right = self.take();
                 let left = self.take();
                 let class = class_or(class, own);
-                self.put_on(Node::Expr(Expr::Binary { at, op, class, left, right }))
+                self.put_on(Node::Expr(Expr::Binary {
+                    at,
+                    op,
+                    class,
+                    left,
+                    right,
+                }))
             }
             Expr::If {
                 condition,
@@ -105,7 +116,11 @@ impl Parts {
                 self.settled(alloc, value, class)?;
                 let value = self.take();
                 let otherwise = self.take();
-                self.put_on(Node::Expr(Expr::If { condition, value, otherwise }))
+                self.put_on(Node::Expr(Expr::If {
+                    condition,
+                    value,
+                    otherwise,
+                }))
             }
             _ => {
                 let same = self.take();

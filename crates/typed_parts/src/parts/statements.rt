@@ -24,7 +24,12 @@ impl Parts {
     {
         let value = self.take();
         let selections = self.take();
-        self.put(Node::Stmt(Stmt::Assign { at, root, selections, value }))
+        self.put(Node::Stmt(Stmt::Assign {
+            at,
+            root,
+            selections,
+            value,
+        }))
     }
 
     /// A call of a procedure (6.4), with the first and the last token of its name. Joined of the list of its actual
@@ -33,7 +38,12 @@ impl Parts {
         ensures { OnOk result (parts self.new ≡ AStmt (syntax.CallProcedure at callee sub (as_actuals (top (parts self.old)))) ∷ pop (parts self.old)) }
     {
         let actuals = self.take();
-        self.put(Node::Stmt(Stmt::Call { at, callee, sub, actuals }))
+        self.put(Node::Stmt(Stmt::Call {
+            at,
+            callee,
+            sub,
+            actuals,
+        }))
     }
 
     /// `exit L when C;` (5.7) of the loop of a number, of C or nothing.
@@ -81,7 +91,11 @@ impl Parts {
         let otherwise = self.take();
         let stmts = self.take();
         let condition = self.take();
-        self.put(Node::Stmt(Stmt::If { condition, stmts, otherwise }))
+        self.put(Node::Stmt(Stmt::If {
+            condition,
+            stmts,
+            otherwise,
+        }))
     }
 
     /// A case statement (5.4). Joined of the selecting expression and then the list of its alternatives.
@@ -90,7 +104,10 @@ impl Parts {
     {
         let alternatives = self.take();
         let value = self.take();
-        self.put(Node::Stmt(Stmt::Case { value, alternatives }))
+        self.put(Node::Stmt(Stmt::Case {
+            value,
+            alternatives,
+        }))
     }
 
     /// An alternative of a case statement (5.4). Joined of the list of its choices, the list of the expressions that
@@ -101,7 +118,12 @@ impl Parts {
         let stmts = self.take();
         let mentions = self.take();
         let choices = self.take();
-        self.put(Node::Alternative(Alternative { others, choices, mentions, stmts }))
+        self.put(Node::Alternative(Alternative {
+            others,
+            choices,
+            mentions,
+            stmts,
+        }))
     }
 
     /// `[while C] loop` (5.5) with its number. Joined of C or nothing, and then the list of its statements.
@@ -110,7 +132,11 @@ impl Parts {
     {
         let stmts = self.take();
         let condition = self.take();
-        self.put(Node::Stmt(Stmt::Loop { number, condition, stmts }))
+        self.put(Node::Stmt(Stmt::Loop {
+            number,
+            condition,
+            stmts,
+        }))
     }
 
     /// `for .. loop` (5.5) with its number. Joined of its iteration and then the list of its statements.
@@ -119,7 +145,11 @@ impl Parts {
     {
         let stmts = self.take();
         let iteration = self.take();
-        self.put(Node::Stmt(Stmt::For { number, iteration, stmts }))
+        self.put(Node::Stmt(Stmt::For {
+            number,
+            iteration,
+            stmts,
+        }))
     }
 
     /// `parallel for .. loop` (5.5) with its number and its site. Joined of its chunk specification or nothing, its
@@ -130,7 +160,13 @@ impl Parts {
         let stmts = self.take();
         let iteration = self.take();
         let chunk = self.take();
-        self.put(Node::Stmt(Stmt::ParallelFor { number, site, chunk, iteration, stmts }))
+        self.put(Node::Stmt(Stmt::ParallelFor {
+            number,
+            site,
+            chunk,
+            iteration,
+            stmts,
+        }))
     }
 
     /// `parallel do .. and .. end do;` (5.6.1) with its site. Joined of the number of chunks or nothing, and then the
@@ -150,7 +186,11 @@ impl Parts {
         let handlers = self.take();
         let stmts = self.take();
         let decls = self.take();
-        self.put(Node::Stmt(Stmt::Block { decls, stmts, handlers }))
+        self.put(Node::Stmt(Stmt::Block {
+            decls,
+            stmts,
+            handlers,
+        }))
     }
 
     /// `Put`, `Put_Line` or `New_Line` (A.10.6 to A.10.8), with the first and the last token of its name, and whether a
@@ -159,15 +199,34 @@ impl Parts {
         ensures { OnOk result (parts self.new ≡ AStmt (syntax.Put at callee (as_pieces (top (parts self.old))) line) ∷ pop (parts self.old)) }
     {
         let pieces = self.take();
-        self.put(Node::Stmt(Stmt::Put { at, callee, pieces, line }))
+        self.put(Node::Stmt(Stmt::Put {
+            at,
+            callee,
+            pieces,
+            line,
+        }))
     }
 
     /// `Get` (A.10.8) of a variable of a subtype, with the first and the last token of its name and the first token of
     /// the variable. Joined of the list of the variable's selections.
-    pub fn get(&mut self, at: u32, callee: u32, first: u32, root: Root, scalar: Scalar) -> Result<(), AllocError>
+    pub fn get(
+        &mut self,
+        at: u32,
+        callee: u32,
+        first: u32,
+        root: Root,
+        scalar: Scalar,
+    ) -> Result<(), AllocError>
         ensures { OnOk result (parts self.new ≡ AStmt (syntax.Get at callee first root (as_selections (top (parts self.old))) scalar) ∷ pop (parts self.old)) }
     {
         let selections = self.take();
-        self.put(Node::Stmt(Stmt::Get { at, callee, first, root, selections, scalar }))
+        self.put(Node::Stmt(Stmt::Get {
+            at,
+            callee,
+            first,
+            root,
+            selections,
+            scalar,
+        }))
     }
 }

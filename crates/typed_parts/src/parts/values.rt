@@ -31,7 +31,12 @@ impl Parts {
         ensures { OnOk result (parts self.new ≡ AComposite (syntax.WholeVariable at root (as_selections (top (parts self.old))) subtype) ∷ pop (parts self.old)) }
     {
         let selections = self.take();
-        self.put(Node::Composite(Composite::WholeVariable { at, root, selections, subtype }))
+        self.put(Node::Composite(Composite::WholeVariable {
+            at,
+            root,
+            selections,
+            subtype,
+        }))
     }
 
     /// A constant of an array or record type, or such a part of one. Joined of the list of its selections.
@@ -39,7 +44,12 @@ impl Parts {
         ensures { OnOk result (parts self.new ≡ AComposite (syntax.WholeConstant at root (as_selections (top (parts self.old))) subtype) ∷ pop (parts self.old)) }
     {
         let selections = self.take();
-        self.put(Node::Composite(Composite::WholeConstant { at, root, selections, subtype }))
+        self.put(Node::Composite(Composite::WholeConstant {
+            at,
+            root,
+            selections,
+            subtype,
+        }))
     }
 
     /// `@` of an array or record type (5.2.1).
@@ -56,7 +66,11 @@ impl Parts {
         let otherwise = self.take();
         let value = self.take();
         let condition = self.take();
-        self.put(Node::Composite(Composite::If { condition, value, otherwise }))
+        self.put(Node::Composite(Composite::If {
+            condition,
+            value,
+            otherwise,
+        }))
     }
 
     /// An aggregate (4.3) of so many cells, with its bracket's token. Joined of the list of its associations.
@@ -64,7 +78,11 @@ impl Parts {
         ensures { OnOk result (parts self.new ≡ AComposite (syntax.Aggregate at cells (as_associations (top (parts self.old)))) ∷ pop (parts self.old)) }
     {
         let associations = self.take();
-        self.put(Node::Composite(Composite::Aggregate { at, cells, associations }))
+        self.put(Node::Composite(Composite::Aggregate {
+            at,
+            cells,
+            associations,
+        }))
     }
 
     /// An association of an aggregate (4.3.1, 4.3.3). Joined of the list of the runs that it gives, the list of the
@@ -75,6 +93,11 @@ impl Parts {
         let value = self.take();
         let mentions = self.take();
         let runs = self.take();
-        self.put(Node::Association(Association { runs, iterated, mentions, value }))
+        self.put(Node::Association(Association {
+            runs,
+            iterated,
+            mentions,
+            value,
+        }))
     }
 }

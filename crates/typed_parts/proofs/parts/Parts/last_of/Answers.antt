@@ -1,4 +1,3 @@
-use Rattle.std.proofs.Common.{◌≡◌}
 use Rattle.typed_parts.proofs.Chains.{leads_on}
 use Rattle.typed_parts.proofs.parts.Parts.last_of.Goals as goal
 

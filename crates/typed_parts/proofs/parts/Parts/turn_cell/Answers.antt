@@ -1,4 +1,3 @@
-use Rattle.std.proofs.Common.{◌≡◌}
 use Rattle.typed_parts.proofs.Stacks.{turn_cell, turn_leaf}
 use Rattle.typed_parts.proofs.parts.Parts.turn_cell.Goals as goal
 

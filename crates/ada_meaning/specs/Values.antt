@@ -1,0 +1,193 @@
+-- Values, and what is computed from them alone.
+use Rattle.std.specs.Prelude.{ℕ, zero, suc, ◌*◌, ℤ, pos, negsuc, ◌+ℤ◌, ◌-ℤ◌, neg_ℤ, nat_abs, int_le, int_lt, nat_eq, List, [], ◌∷◌, ◌++◌, map, length, replicate, slice_get, Option, Some, None, Bool, true, false, not, ◌&&◌, ◌||◌}
+use Rattle.ada_base.specs.declared.operation.Base.{Base}
+use Rattle.ada_base.specs.declared.operation.Base.TheVariants.{Narrow, Wide}
+use Rattle.ada_base.specs.declared.operation.Op.{Op}
+use Rattle.ada_base.specs.declared.operation.Op.TheVariants as op
+use Rattle.ada_base.specs.declared.reason.Reason.{Reason}
+use Rattle.ada_base.specs.declared.reason.Reason.TheVariants as reason
+use Rattle.std.specs.Int.{int_min, int_max}
+use Rattle.ada_base.specs.Operation.{result_of}
+use Rattle.ada_base.specs.Image.{image, truth_image}
+use Rattle.ada_typed.specs.declared.scalars.Class.{Class}
+use Rattle.ada_typed.specs.declared.scalars.Class.TheVariants as class
+use Rattle.ada_typed.specs.declared.scalars.Scalar.{Scalar}
+use Rattle.ada_typed.specs.declared.scalars.Comparison.{Comparison}
+use Rattle.ada_typed.specs.declared.scalars.Comparison.TheVariants as comparison
+use Rattle.ada_typed.specs.declared.expressions.Sign.{Sign}
+use Rattle.ada_typed.specs.declared.expressions.Sign.TheVariants as sign
+use Rattle.ada_typed.specs.declared.statements.Span.{Span}
+use Rattle.ada_typed.specs.Syntax as syntax
+use Rattle.ada_typed.specs.Syntax.{Handled, Subtype}
+use Rattle.ada_typed.specs.declared.program.Bounds.{Bounds}
+use Rattle.ada_typed.specs.declared.program.Field.{Field}
+
+-- truth values, ranges
+
+abbrev pub truth : ℤ → Bool
+truth (pos zero) = false
+truth (pos (suc n)) = true
+truth (negsuc n) = true
+
+abbrev pub bit : Bool → ℤ
+bit true = pos 1
+bit false = pos 0
+
+abbrev pub between : ℤ → ℤ → ℤ → Bool
+between low z high = int_le low z && int_le z high
+
+abbrev pub is_in : Scalar → ℤ → Bool
+is_in s z = between s.low z s.high
+
+-- a number that isn't negative, else 0
+abbrev pub to_nat : ℤ → ℕ
+to_nat (pos n) = n
+to_nat (negsuc n) = 0
+
+-- how many numbers stand from one to another
+abbrev pub count : ℤ → ℤ → ℕ
+count low high = to_nat (high +ℤ pos 1 -ℤ low)
+
+-- operations
+
+-- an expression that waits for its type is none of a program that names give; it counts as of the widest
+abbrev pub base_of : Class → Base
+base_of class.Boolean = Narrow
+base_of (class.Integer base) = base
+base_of class.Universal = Wide
+
+abbrev pub value_or_zero : Option ℤ → ℤ
+value_or_zero None = pos 0
+value_or_zero (Some z) = z
+
+-- whether a right operand of zero is an error (4.5.5)
+abbrev pub divides : Op → Bool
+divides op.Div = true
+divides op.Mod = true
+divides op.Rem = true
+divides _ = false
+
+-- whether the result may be outside the base range (4.5)
+abbrev pub overflows : Op → Bool
+overflows op.Add = true
+overflows op.Sub = true
+overflows op.Mul = true
+overflows op.Div = true
+overflows op.Pow = true
+overflows _ = false
+
+abbrev pub differ : Bool → Bool → Bool
+differ true b = not b
+differ false b = b
+
+-- the result of an operator (4.5); None is a check that fails. What can't overflow has its result among all integers, and
+-- xor is that of truth values
+abbrev pub result : Op → Class → ℤ → ℤ → Option ℤ
+result op.And class x y = Some (int_min x y)
+result op.Or class x y = Some (int_max x y)
+result op.Xor class x y = Some (bit (differ (truth x) (truth y)))
+result op.Max class x y = Some (int_max x y)
+result op.Min class x y = Some (int_min x y)
+result op class x y = result_of op (base_of class) x y
+
+abbrev pub is_zero : ℤ → Bool
+is_zero z = not (truth z)
+
+-- the result of a unary operator among all integers (4.5.4, 4.5.6); the negation of a Boolean is the other one
+abbrev pub unary : Sign → ℤ → ℤ
+unary sign.Minus z = neg_ℤ z
+unary sign.Abs z = pos (nat_abs z)
+unary sign.Not z = pos 1 -ℤ z
+
+abbrev pub is_equal : ℤ → ℤ → Bool
+is_equal a b = int_le a b && int_le b a
+
+-- 4.5.2
+abbrev pub compares : Comparison → ℤ → ℤ → Bool
+compares comparison.Equal a b = is_equal a b
+compares comparison.Unequal a b = not (is_equal a b)
+compares comparison.Less a b = int_lt a b
+compares comparison.AtMost a b = int_le a b
+compares comparison.Greater a b = int_lt b a
+compares comparison.AtLeast a b = int_le b a
+
+abbrev pub is_chosen : List Span → ℤ → Bool
+is_chosen [] z = false
+is_chosen (s ∷ ss) z = between s.low z s.high || is_chosen ss z
+
+-- reasons
+
+abbrev pub reason_eq : Reason → Reason → Bool
+reason_eq reason.ConstraintError reason.ConstraintError = true
+reason_eq reason.ProgramError reason.ProgramError = true
+reason_eq reason.StorageError reason.StorageError = true
+reason_eq reason.DataError reason.DataError = true
+reason_eq reason.EndError reason.EndError = true
+reason_eq (reason.Declared m) (reason.Declared n) = nat_eq m n
+reason_eq _ _ = false
+
+abbrev pub has_reason : List Reason → Reason → Bool
+has_reason [] r = false
+has_reason (q ∷ qs) r = reason_eq q r || has_reason qs r
+
+abbrev pub handles_reason : Handled → Reason → Bool
+handles_reason syntax.Others r = true
+handles_reason (syntax.Reasons reasons) r = has_reason reasons r
+
+-- cuts (5.5)
+
+abbrev pub without_zeros : List ℕ → List ℕ
+without_zeros [] = []
+without_zeros (zero ∷ ns) = without_zeros ns
+without_zeros (suc n ∷ ns) = suc n ∷ without_zeros ns
+
+-- cells of subtypes (3.6, 3.8): the scalar subtype of each cell, in order
+
+abbrev pub repeated : ℕ → List Scalar → List Scalar
+repeated zero cells = []
+repeated (suc n) cells = cells ++ repeated n cells
+
+abbrev pub components : List Bounds → ℕ
+components [] = 1
+components (b ∷ bs) = count b.low b.high * components bs
+
+abbrev pub fields : (ℕ → List Scalar) → List Field → List Scalar
+fields layout [] = []
+fields layout (f ∷ fs) = layout f.subtype ++ fields layout fs
+
+abbrev pub layout_of : (ℕ → List Scalar) → Option Subtype → List Scalar
+layout_of layout None = []
+layout_of layout (Some (syntax.OfScalar s)) = s ∷ []
+layout_of layout (Some (syntax.Array dimensions component)) = repeated (components dimensions) (layout component)
+layout_of layout (Some (syntax.Record fs)) = fields layout fs
+
+-- a subtype of the table stands on those before it, so it is at most so many levels deep as there are entries
+abbrev pub layout_within : List Subtype → ℕ → ℕ → List Scalar
+layout_within table zero number = []
+layout_within table (suc levels) number = layout_of (layout_within table levels) (slice_get table number)
+
+abbrev pub layout : List Subtype → ℕ → List Scalar
+layout table = layout_within table (length table)
+
+-- the cells of a variable without an initial value
+abbrev pub defaults : List Scalar → List ℤ
+defaults cells = map (λ s. s.low) cells
+
+-- aggregates (4.3)
+
+-- some cells, with others laid over them from a place on
+abbrev pub laid : List ℤ → ℕ → List ℤ → List ℤ
+laid [] first over = []
+laid (c ∷ cs) zero [] = c ∷ cs
+laid (c ∷ cs) zero (o ∷ os) = o ∷ laid cs zero os
+laid (c ∷ cs) (suc first) over = c ∷ laid cs first over
+
+abbrev pub zeros : ℕ → List ℤ
+zeros n = replicate n (pos 0)
+
+-- images (4.10, A.10.8)
+
+abbrev pub image_of : Class → ℤ → List ℕ
+image_of class.Boolean z = truth_image (truth z)
+image_of (class.Integer base) z = image z
+image_of class.Universal z = image z
