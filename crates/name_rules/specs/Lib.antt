@@ -1,4 +1,5 @@
 pub mod Found
+pub mod Judges
 pub mod Judging
 pub mod Symbols
 pub mod TypedParts
