@@ -1,9 +1,6 @@
 -- The parts of a typed program while it is made: lists that grow, pairs, and what static values mention.
 use Rattle.std.specs.Prelude.{ℕ, ℤ}
 use Rattle.ada_typed.specs.declared.expressions.Root.{Root}
-use Rattle.ada_typed.specs.declared.expressions.Reducer.TheVariants as reducer
-use Rattle.ada_typed.specs.declared.scalars.Class.{Class}
-use Rattle.ada_typed.specs.declared.scalars.Class.TheVariants as class
 use Rattle.ada_typed.specs.Decoded.{Part, Nothing, Cons, AnExpr, AStmt, ASelection, as_expr, as_exprs, as_selections, as_stmts}
 use Rattle.ada_typed.specs.Syntax.{Expr, Exprs, Selections, Stmts}
 use Rattle.ada_typed.specs.Syntax as typed
@@ -59,18 +56,3 @@ unfoldable pub nested_stmts : Part → Part → Part
 nested_stmts (Cons p rest) otherwise =
     nested_stmts rest (Cons (AStmt (typed.IfThen (as_expr (left_of p)) (as_stmts (right_of p)) (as_stmts otherwise))) Nothing)
 nested_stmts p otherwise = otherwise
-
--- ---- a universal expression takes a class
-
-abbrev class_or : Class → Class → Class
-class_or c class.Universal = c
-class_or c d = d
-
-unfoldable pub with_class : Class → Expr → Expr
-with_class c (typed.Group e) = typed.Group (with_class c e)
-with_class c (typed.Unary at s d e) = typed.Unary at s (class_or c d) (with_class c e)
-with_class c (typed.Binary at o d l r) = typed.Binary at o (class_or c d) (with_class c l) (with_class c r)
-with_class c (typed.If x v o) = typed.If x (with_class c v) (with_class c o)
-with_class c (typed.Reduction at a (reducer.Operator n o d) initial site chunk iteration v) =
-    typed.Reduction at a (reducer.Operator n o (class_or c d)) (with_class c initial) site chunk iteration (with_class c v)
-with_class c e = e

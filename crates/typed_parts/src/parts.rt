@@ -32,6 +32,7 @@ use std::marker::Model;
 pub struct Parts {
     nodes: Items<Node>,
     roots: Items<u32>,
+    alloc: Global,
 }
 
 impl Model for Parts {
@@ -54,6 +55,7 @@ impl Parts {
         Ok(Parts {
             nodes,
             roots: Items::new(alloc),
+            alloc,
         })
     }
 

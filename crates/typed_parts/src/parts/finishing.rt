@@ -20,7 +20,7 @@ impl Parts {
     pub fn finish(self) -> Finished
         ensures { parts_in result.nodes result.roots ≡ parts self }
     {
-        let Parts { nodes, roots } = self;
+        let Parts { nodes, roots, .. } = self;
         Finished {
             nodes: Nodes::new(nodes),
             roots,

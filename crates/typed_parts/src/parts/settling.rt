@@ -1,37 +1,37 @@
 //! Expressions of a universal type (3.4.1) get the class of their place.
 
 ghost use Rattle.std.specs.Prelude.{◌≡◌, ◌<◌, ◌∷◌, [], IfOk, MatchOption, OnOk, length};
-ghost use Rattle.ada_typed.specs.Decoded.{AnExpr, as_expr, of_expr, of_node, part_at};
+ghost use Rattle.ada_typed.specs.Decoded.{AnExpr, as_expr, as_reducer, of_expr, of_fold, of_node, part_at};
 ghost use Rattle.ada_typed.specs.Ordered.{ExprBelow, NodeBelow};
 ghost use Rattle.typed_parts.specs.Classes.{class_or, joined, with_class, Ends, GoesOn, Leads};
 ghost use Rattle.typed_parts.specs.Stack.{parts, pop, top, Stays};
 
 use crate::parts::Parts;
-use ada_base::Items;
-use ada_typed::{Class, Expr, Node};
-use std::alloc::{AllocError, Global};
+use ada_base::{Items, Op};
+use ada_typed::{Class, Expr, Fold, Node};
+use std::alloc::AllocError;
 
 impl Parts {
     /// An expression of a universal type gets a class, where a part of it has none yet.
-    pub fn settle(&mut self, alloc: Global, class: Class) -> Result<(), AllocError>
+    pub fn settle(&mut self, class: Class) -> Result<(), AllocError>
         ensures { OnOk result (parts self.new ≡ AnExpr (with_class class (as_expr (top (parts self.old)))) ∷ pop (parts self.old)) }
     {
         let id = self.take();
-        self.settled(alloc, id, class)
+        self.settled(id, class)
     }
 
     /// The settled expression of a number becomes the latest part. A chain of operators or of conditional expressions is
     /// gone through without recursion.
     #[cycle(settled)]
-    fn settled(&mut self, alloc: Global, id: u32, class: Class) -> Result<(), AllocError>
+    fn settled(&mut self, id: u32, class: Class) -> Result<(), AllocError>
         requires { id < length self.old.nodes }
         ensures { OnOk result ((parts self.new ≡ AnExpr (with_class class (as_expr (part_at self.old.nodes id))) ∷ parts self.old) × Stays self.old.nodes self.new.nodes) }
     {
-        let mut chain = Items::new(alloc);
+        let mut chain = Items::new(self.alloc);
         let last = self.last_of(id, &mut chain)?;
         self.hold_expr(last)?;
         while let Some(link) = chain.pop() {
-            self.rejoin(alloc, link, class)?;
+            self.rejoin(link, class)?;
         }
         Ok(())
     }
@@ -49,7 +49,8 @@ impl Parts {
         Ok(last)
     }
 
-    /// The part of an expression that its chain goes on with: the left operand, or what follows `else`.
+    /// The part of an expression that its chain goes on with: the left operand, what follows `else`, or the value of a
+    /// reduction by an operator.
     fn next_of(&self, id: u32) -> Option<u32>
         ensures { MatchOption result (Ends (part_at self.now.nodes) id) (λ next. (next < id) × GoesOn (part_at self.now.nodes) id next) }
     {
@@ -58,6 +59,10 @@ impl Parts {
             Expr::Unary { operand, .. } => Some(operand),
             Expr::Binary { left, .. } => Some(left),
             Expr::If { otherwise, .. } => Some(otherwise),
+            Expr::Reduction { reducer, value, .. } => match self.fold(reducer) {
+                Fold::Operator { .. } => Some(value),
+                Fold::Function { .. } => None,
+            },
             _ => None,
         }
     }
@@ -65,7 +70,7 @@ impl Parts {
     /// The latest part becomes the expression of a number with the latest part in place of what its chain goes on with.
     #[cycle(settled)]
     #[tactic(auto, using(crate::proofs::Stacks::stays_on))]
-    fn rejoin(&mut self, alloc: Global, link: u32, class: Class) -> Result<(), AllocError>
+    fn rejoin(&mut self, link: u32, class: Class) -> Result<(), AllocError>
         requires { link < length self.old.nodes }
         ensures { OnOk result ((parts self.new ≡ AnExpr (joined class (as_expr (part_at self.old.nodes link)) (as_expr (top (parts self.old)))) ∷ pop (parts self.old)) × Stays self.old.nodes self.new.nodes) }
     {
@@ -96,7 +101,7 @@ impl Parts {
                 right,
                 ..
             } => {
-                self.settled(alloc, right, class)?;
+                self.settled(right, class)?;
                 let right = self.take();
                 let left = self.take();
                 let class = class_or(class, own);
@@ -113,7 +118,7 @@ impl Parts {
                 value,
                 ..
             } => {
-                self.settled(alloc, value, class)?;
+                self.settled(value, class)?;
                 let value = self.take();
                 let otherwise = self.take();
                 self.put_on(Node::Expr(Expr::If {
@@ -122,6 +127,47 @@ impl Parts {
                     otherwise,
                 }))
             }
+            Expr::Reduction {
+                at,
+                attribute,
+                reducer,
+                initial,
+                site,
+                chunk,
+                iteration,
+                ..
+            } => match self.fold(reducer) {
+                Fold::Operator {
+                    at: operator,
+                    op,
+                    class: own,
+                } => {
+                    let folded = class_or(class, own);
+                    self.settled(initial, class)?;
+                    self.put_on(Node::Fold(Fold::Operator {
+                        at: operator,
+                        op,
+                        class: folded,
+                    }))?;
+                    let reducer = self.take();
+                    let initial = self.take();
+                    let value = self.take();
+                    self.put_on(Node::Expr(Expr::Reduction {
+                        at,
+                        attribute,
+                        reducer,
+                        initial,
+                        site,
+                        chunk,
+                        iteration,
+                        value,
+                    }))
+                }
+                Fold::Function { .. } => {
+                    let same = self.take();
+                    self.hold_expr(same)
+                }
+            },
             _ => {
                 let same = self.take();
                 self.hold_expr(same)
@@ -138,6 +184,20 @@ impl Parts {
             _ => Expr::Parameter {
                 at: 0,
                 parameter: 0,
+            },
+        }
+    }
+
+    /// What a reduction folds by, by its number.
+    fn fold(&self, id: u32) -> Fold
+        ensures { as_reducer (part_at self.now.nodes id) ≡ of_fold (part_at self.now.nodes) result }
+    {
+        match self.node(id) {
+            Node::Fold(fold) => fold,
+            _ => Fold::Operator {
+                at: 0,
+                op: Op::Add,
+                class: Class::Boolean,
             },
         }
     }

@@ -743,7 +743,7 @@ fn a_long_chain_of_operators_is_settled(rt: HostRuntime) -> Result<(), AllocErro
     for _ in 0..LONG {
         join_all(&mut parts, &[Step::Static(1), Step::Binary])?;
     }
-    parts.settle(rt.alloc(), INTEGER)?;
+    parts.settle(INTEGER)?;
     let mut done = parts.finish();
     let mut links = Items::new(rt.alloc());
     if let Some(root) = done.take() {
@@ -780,7 +780,7 @@ fn a_long_chain_of_conditions_is_settled(rt: HostRuntime) -> Result<(), AllocErr
             ],
         )?;
     }
-    parts.settle(rt.alloc(), INTEGER)?;
+    parts.settle(INTEGER)?;
     let mut done = parts.finish();
     assert_eq!(rt; done.roots.len(), 1);
     if let Some(root) = done.take() {
