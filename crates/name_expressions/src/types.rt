@@ -5,7 +5,7 @@ ghost use Rattle.name_rules.specs.Types as spec;
 
 use ada_base::Base;
 use ada_typed::{Check, Class};
-use name_rules::types::{Kind, Scalar};
+use name_rules::types::{Kind, Scalar, Subtype, Wanted};
 
 /// Whether two types are the same: each declaration makes a type of its own (3.2.1).
 pub fn same(a: Kind, b: Kind) -> bool
@@ -99,5 +99,15 @@ pub fn check_at(at: u32, scalar: Scalar) -> Check
     Check {
         at,
         scalar: typed_scalar(scalar),
+    }
+}
+
+/// What a place of a subtype asks of an expression.
+pub fn wanted_of(subtype: Subtype) -> Wanted
+    ensures { result ≡ spec.wanted_of subtype }
+{
+    match subtype {
+        Subtype::Scalar(_) => Wanted::Other,
+        Subtype::Composite(number) => Wanted::Composite(number),
     }
 }
