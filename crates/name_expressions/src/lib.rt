@@ -1,10 +1,20 @@
 //! The rules of names and expressions (4), which make parts of the typed program: each function that judges leaves the
 //! part of what it found as the latest one, and writes the faults in the order of the text.
+//!
+//! A part of the text is judged in so many brackets as may still be opened, `levels`.
 #![tactic(auto)]
 
 pub mod exact;
+pub mod expressions;
+pub mod indexes;
 pub mod logs;
+pub mod names;
 pub mod operators;
+pub mod primaries;
+pub mod ranges;
 pub mod relations;
+pub mod scope;
+pub mod shapes;
+pub mod symbols;
 pub mod types;
 pub mod values;

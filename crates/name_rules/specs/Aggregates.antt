@@ -1,7 +1,7 @@
 -- Aggregates (4.3): of records, and of arrays one dimension after the other.
 use Rattle.name_rules.specs.Attributes.{alone}
 use Rattle.name_rules.specs.Expressions.{Inside, expr, judged_alone, value_for}
-use Rattle.name_rules.specs.FirstTokens.{first_of_expr, first_of_range, first_of_simple}
+use Rattle.ada_tree.specs.FirstTokens as first_token
 use Rattle.name_rules.specs.Found.{Found, rest}
 use Rattle.name_rules.specs.Judging.{Judging, breaks, fault, given, joined, pure, read, some, unless, where_clean, ◌>>=◌}
 use Rattle.name_rules.specs.Names.{count, index}
@@ -117,8 +117,8 @@ named_field names all left taken token =
     pure (taken ++ one_field (symbol names token) left, without (symbol names token) left)
 
 abbrev pub first_of_choice : Choice → ℕ
-first_of_choice (syntax.Value s) = first_of_simple s
-first_of_choice (syntax.Span low high) = first_of_simple low
+first_of_choice (syntax.Value s) = first_token.of_simple s
+first_of_choice (syntax.Span low high) = first_token.of_simple low
 first_of_choice (syntax.Others at) = at
 
 abbrev pub value_choice : Names → List Field → List Field → List Field → ℕ → Option ℕ → Judging (List Field × List Field)
@@ -263,7 +263,7 @@ array_assoc names level here component d apart last p (syntax.Chosen c cs e) = d
   pure (chosen_given d apart p r v)
 array_assoc names level here component d apart last p (syntax.Each at index r e) = do
   x ← static_range level here false (Some d.kind) r
-  s ← given x (of_index_type d.kind (first_of_range r))
+  s ← given x (of_index_type d.kind (first_token.of_range r))
   n ← new_parameter
   v ← component (with_entry here (symbol names index) (index_what n s)) e
   pure (iterated_given d apart n p s v)
@@ -305,7 +305,7 @@ dimension_of names level here bracket component d apart ps =
 
 -- E06: no aggregate where one of the dimensions behind must stand
 abbrev pub no_aggregate : Names → Inside → Context → Expr → Judging (Option TypedPart)
-no_aggregate names level here e = expr names level here wanted.Other e >>= λ x. given x (λ f. fault (first_of_expr e) WrongType)
+no_aggregate names level here e = expr names level here wanted.Other e >>= λ x. given x (λ f. fault (first_token.of_expr e) WrongType)
 
 abbrev pub inner_value : Known → TypedPart → Option TypedPart
 inner_value (known.Rest first) x = Some (part.AValue (typed.Cells (part.as_composite x)))

@@ -1,6 +1,6 @@
 -- Calls of subprograms (6.4) and conversions (4.6).
 use Rattle.name_rules.specs.Expressions.{Inside, expr, judged_alone, value_for}
-use Rattle.name_rules.specs.FirstTokens.{first_of_arg}
+use Rattle.ada_tree.specs.FirstTokens as first_token
 use Rattle.name_rules.specs.Found.{Denoted, Found, denote, scalar, value_denoted}
 use Rattle.name_rules.specs.Judging.{Judging, fault, given, joined, pure, read, some, unless, where_clean, ◌>>=◌}
 use Rattle.name_rules.specs.Names.{count, wrong_call}
@@ -133,7 +133,7 @@ argument_form names inside here ts c name e first = do
   pure (record { count = c.count + 1; taken = also_taken c.taken i; named = c.named || is_some name; late = late_at c.late c.named name first; actuals = with_actual i c.actuals x })
 
 unfoldable pub argument : Names → Inside → Context → List Taken → Calling → Arg → Judging Calling
-argument names inside here ts c (syntax.arg name e) = argument_form names inside here ts c name e (first_of_arg (syntax.arg name e))
+argument names inside here ts c (syntax.arg name e) = argument_form names inside here ts c name e (first_token.of_arg (syntax.arg name e))
 
 abbrev pub arguments : Names → Inside → Context → List Taken → Calling → Args → Judging Calling
 arguments names inside here ts c syntax.NoArg = pure c

@@ -1,7 +1,7 @@
 -- The rules of declarations (3.1 to 3.8, 11.1).
 use Rattle.ada_base.specs.declared.reason.Reason.TheVariants as reason
 use Rattle.name_rules.specs.Expressions.{Inside, expr, judged_alone}
-use Rattle.name_rules.specs.FirstTokens.{first_of_expr}
+use Rattle.ada_tree.specs.FirstTokens as first_token
 use Rattle.name_rules.specs.Found.{Found, With}
 use Rattle.name_rules.specs.Judging.{Judging, both, breaks, fault, given, joined, pure, read, some, unless, ◌>>=◌}
 use Rattle.name_rules.specs.Operators.{both_mentions}
@@ -252,7 +252,7 @@ initial names level here s None = some no_initial
 initial names level here None (Some e) = judged_alone names level here e >>= λ u. pure None
 initial names level here (Some s) (Some e) = do
   x ← expr names level here (wanted_of s.known) e
-  v ← given x (stored s.known (first_of_expr e))
+  v ← given x (stored s.known (first_token.of_expr e))
   pure (joined initial_value v x)
 
 -- E06: a constant without a value, at the declaration's first identifier

@@ -1,7 +1,7 @@
 -- The rules of what operators join (4.4), over a judgement of primaries.
 use Rattle.ada_base.specs.declared.operation.Op.TheVariants as op
 use Rattle.ada_base.specs.declared.operation.Op.{Op}
-use Rattle.name_rules.specs.FirstTokens.{first_of_expr, first_of_rel}
+use Rattle.ada_tree.specs.FirstTokens as first_token
 use Rattle.name_rules.specs.Found.{Denoted, Found}
 use Rattle.name_rules.specs.Judging.{Judging, fault, given, joined, pure, some, ◌>>=◌}
 use Rattle.name_rules.specs.Operators.{binary, compared, joined_text, logical, membership, negation, not_of, of_subtype, plain, power, unary}
@@ -178,7 +178,7 @@ abbrev pub short_form : Names → Inside → Context → Bool → Rel → ℕ �
 short_form names level here all first at second more = do
   x ← short_operand names level here at first
   z ← short_operands names level here all x (syntax.AlsoConjunct (syntax.conjunct at second) more)
-  pure (option_map (short_found (first_of_rel first)) z)
+  pure (option_map (short_found (first_token.of_rel first)) z)
 
 unfoldable pub expr : Names → Inside → Context → Wanted → Expr → Judging (Option Found)
 expr names level here want (syntax.Single r) = rel names level here want r
@@ -196,7 +196,7 @@ condition names level here e = expr names level here wanted.Other e >>= λ x. gi
 
 -- a value that is stored in a place of a subtype
 unfoldable pub value_for : Names → Inside → Context → Subtype → Expr → Judging (Option TypedPart)
-value_for names level here s e = expr names level here (wanted_of s) e >>= λ x. given x (stored s (first_of_expr e))
+value_for names level here s e = expr names level here (wanted_of s) e >>= λ x. given x (stored s (first_token.of_expr e))
 
 -- an expression whose place asks for nothing that is known, for a fault: its own rules are judged
 unfoldable pub judged_alone : Names → Inside → Context → Expr → Judging (Unit {0})

@@ -7,7 +7,6 @@ pub mod Types
 pub mod Scope
 pub mod Values
 pub mod Operators
-pub mod FirstTokens
 pub mod Shapes
 pub mod Expressions
 pub mod Names

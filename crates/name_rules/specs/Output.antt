@@ -1,7 +1,7 @@
 -- Calls of predefined procedures (A.10.6 to A.10.8). They take arguments by position; Width may be named.
 use Rattle.ada_base.specs.declared.operation.Base.TheVariants.{Narrow}
 use Rattle.name_rules.specs.Expressions.{Inside, expr, judged_alone}
-use Rattle.name_rules.specs.FirstTokens.{first_of_arg}
+use Rattle.ada_tree.specs.FirstTokens as first_token
 use Rattle.name_rules.specs.Found.{Denoted, Found, denote}
 use Rattle.name_rules.specs.Judging.{Judging, breaks, fault, given, joined, pure, some, unless, where_clean, ◌>>=◌}
 use Rattle.name_rules.specs.Names.{count}
@@ -109,7 +109,7 @@ put_argument names inside here p None e first =
 abbrev pub put_arguments : Names → Inside → Context → Putting → Args → Judging Putting
 put_arguments names inside here p syntax.NoArg = pure p
 put_arguments names inside here p (syntax.AlsoArg (syntax.arg name e) as') = do
-  q ← put_argument names inside here p name e (first_of_arg (syntax.arg name e))
+  q ← put_argument names inside here p name e (first_token.of_arg (syntax.arg name e))
   put_arguments names inside here q as'
 
 abbrev pub put_number : ℕ → ℕ → TypedPart → TypedPart → Denoted

@@ -2,7 +2,7 @@
 use Rattle.name_rules.specs.Aggregates.{ByPosition, aggregate, contents}
 use Rattle.name_rules.specs.Attributes.{alone}
 use Rattle.name_rules.specs.Expressions.{Inside, condition, expr, in_place}
-use Rattle.name_rules.specs.FirstTokens.{first_of_name, first_of_primary}
+use Rattle.ada_tree.specs.FirstTokens as first_token
 use Rattle.name_rules.specs.Found.{Found, With, composite, opened, scalar, text_found, universal}
 use Rattle.name_rules.specs.Iterations.{sequence}
 use Rattle.name_rules.specs.Judging.{Judging, both, fault, given, joined, pure, some, ◌>>=◌}
@@ -194,7 +194,7 @@ abbrev pub too_deep : {A : Type 0} → ℕ → Judging (Option A)
 too_deep at = fault at (Limit 5 65)
 
 abbrev pub deep : Inside
-deep = record { primary = λ here p want. too_deep (first_of_primary p); name = λ here n. too_deep (first_of_name n) }
+deep = record { primary = λ here p want. too_deep (first_token.of_primary p); name = λ here n. too_deep (first_token.of_name n) }
 
 -- how primaries and names are judged in so many brackets less one as may still be open
 unfoldable pub inside : Names → ℕ → Inside

@@ -1,6 +1,6 @@
 -- Ranges (3.5), static ones of dimensions (3.6) and associations, and choices (3.8.1).
 use Rattle.name_rules.specs.Expressions.{Inside, simple}
-use Rattle.name_rules.specs.FirstTokens.{first_of_name, first_of_simple}
+use Rattle.ada_tree.specs.FirstTokens as first_token
 use Rattle.name_rules.specs.Found.{Bounded, Found, With, scalar}
 use Rattle.name_rules.specs.Judging.{Judging, both, fault, given, joined, pure, some, unless, ◌>>=◌}
 use Rattle.name_rules.specs.Names.{denoted_first}
@@ -83,13 +83,13 @@ scalar_type (denoted.Type first (subtype.Scalar s)) = some s
 scalar_type d = fault (denoted_first d) WrongType
 
 unfoldable pub range : Inside → Context → Range → Judging (Option Bounded)
-range level here (syntax.Bounded low high) = two_bounds level here low high >>= λ r. both r.0 r.1 (own_bounds (first_of_simple low))
+range level here (syntax.Bounded low high) = two_bounds level here low high >>= λ r. both r.0 r.1 (own_bounds (first_token.of_simple low))
 range level here (syntax.Whole n) = level.name here n >>= λ d. given d (λ x. named_range x.known x.part)
 range level here (syntax.Constrained n low high) = do
   d ← level.name here n
   s ← given d (λ x. scalar_type x.known)
   r ← two_bounds level here low high
-  given s (λ t. both r.0 r.1 (checked_range (first_of_name n) t))
+  given s (λ t. both r.0 r.1 (checked_range (first_token.of_name n) t))
 
 -- ---- static ranges of integers (3.6, 4.3.3): what they mention is their part
 
@@ -155,13 +155,13 @@ static_checked first must_hold t a z =
 
 -- E07: a bound of an array or iterated association that isn't static
 unfoldable pub static_range : Inside → Context → Bool → Option Kind → Range → Judging (Option Static)
-static_range level here must_hold want (syntax.Bounded low high) = two_bounds level here low high >>= λ r. both r.0 r.1 (static_bounds (first_of_simple low) must_hold want)
-static_range level here must_hold want (syntax.Whole n) = level.name here n >>= λ d. given d (λ x. static_name (first_of_name n) x.known x.part)
+static_range level here must_hold want (syntax.Bounded low high) = two_bounds level here low high >>= λ r. both r.0 r.1 (static_bounds (first_token.of_simple low) must_hold want)
+static_range level here must_hold want (syntax.Whole n) = level.name here n >>= λ d. given d (λ x. static_name (first_token.of_name n) x.known x.part)
 static_range level here must_hold want (syntax.Constrained n low high) = do
   d ← level.name here n
   s ← given d (λ x. scalar_type x.known)
   r ← two_bounds level here low high
-  given s (λ t. both r.0 r.1 (static_checked (first_of_name n) must_hold t))
+  given s (λ t. both r.0 r.1 (static_checked (first_token.of_name n) must_hold t))
 
 -- ---- choices of static values: what they mention is their part
 

@@ -4,7 +4,7 @@ use Rattle.ada_base.specs.declared.operation.Op.TheVariants as op
 use Rattle.ada_base.specs.declared.operation.Op.{Op}
 use Rattle.name_rules.specs.Calls.{gives_in, profile_in, takes_in}
 use Rattle.name_rules.specs.Expressions.{Inside, judged_alone}
-use Rattle.name_rules.specs.FirstTokens.{first_of_expr}
+use Rattle.ada_tree.specs.FirstTokens as first_token
 use Rattle.name_rules.specs.Found.{Found, opened, scalar}
 use Rattle.name_rules.specs.Judging.{Judging, both, fault, given, joined, pure, read, some, where_clean, ◌>>=◌}
 use Rattle.name_rules.specs.Operators.{open_of}
@@ -68,7 +68,7 @@ function_of at d = fault at ReduceRule
 
 -- an expression that is none of the three is judged for itself, and is no reducer
 abbrev pub no_reducer : Names → Inside → Context → Expr → Judging (Option Folding)
-no_reducer names inside here e = where_clean (judged_alone names inside here e) (λ u. fault (first_of_expr e) ReduceRule)
+no_reducer names inside here e = where_clean (judged_alone names inside here e) (λ u. fault (first_token.of_expr e) ReduceRule)
 
 abbrev pub extreme_name : Names → ℕ → Option Op
 extreme_name names at = if symbol names at == max_name then Some op.Max else if symbol names at == min_name then Some op.Min else None

@@ -3,7 +3,7 @@ use Rattle.ada_base.specs.declared.reason.Reason.{Reason}
 use Rattle.name_rules.specs.Cases.{Choosing, Covering, case_choices, closed, handled_by}
 use Rattle.name_rules.specs.Declarations.{declarations}
 use Rattle.name_rules.specs.Expressions.{Inside, condition, expr, judged_alone}
-use Rattle.name_rules.specs.FirstTokens.{first_of_expr, first_of_name}
+use Rattle.ada_tree.specs.FirstTokens as first_token
 use Rattle.name_rules.specs.Found.{Denoted, Found, With}
 use Rattle.name_rules.specs.Iterations.{chunk_count, entered, parallel_at, thread_owner}
 use Rattle.name_rules.specs.Judging.{Judging, both, breaks, clean, fault, given, joined, pure, some, unless, where_clean, ◌>>=◌}
@@ -79,7 +79,7 @@ unfoldable pub assign_place : Around → Context → Place → Selections → Ex
 assign_place a here p ss e =
     where_clean (expr a.names a.level (with_target here (target.Of p.subtype)) (wanted_of p.subtype) e) (λ x.
     if not p.variable then fault p.first WrongType else
-    given x (λ f. stored p.subtype (first_of_expr e - 1) f >>= λ v. pure (option_map (assigned p ss) v)))
+    given x (λ f. stored p.subtype (first_token.of_expr e - 1) f >>= λ v. pure (option_map (assigned p ss) v)))
 
 abbrev pub assign_form : Around → Context → Expr → KnownDenoted → TypedPart → Judging (Option TypedPart)
 assign_form a here e (denoted.Value (known.Object p)) x = assign_place a here p (selections_of x) e
@@ -421,8 +421,8 @@ loop_first None by at = scheme_first by at
 
 abbrev pub first_of_stmt : Stmt → ℕ
 first_of_stmt (syntax.Null at) = at
-first_of_stmt (syntax.Assign n e) = first_of_name n
-first_of_stmt (syntax.CallStmt n) = first_of_name n
+first_of_stmt (syntax.Assign n e) = first_token.of_name n
+first_of_stmt (syntax.CallStmt n) = first_token.of_name n
 first_of_stmt (syntax.Exit at from e) = at
 first_of_stmt (syntax.Return at e) = at
 first_of_stmt (syntax.Raise at p) = at
