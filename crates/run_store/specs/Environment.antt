@@ -1,0 +1,16 @@
+-- What names stand for that aren't objects, as code holds it.
+use Rattle.ada_meaning.specs.Meaning as meaning
+use Rattle.ada_meaning.specs.Meaning.{with_parameter, with_item, with_target, with_handled}
+use Rattle.run_store.specs.declared.env.Part.{Part}
+use Rattle.run_store.specs.declared.env.Env.{Env, Outset, Parameter', Item', Target', Handled', Inside'}
+
+abbrev pub part_of : Part → meaning.Part
+part_of p = record { object = p.object; offset = p.offset }
+
+abbrev pub env_of : Env → meaning.Env
+env_of (Outset n) = meaning.outset n
+env_of (Parameter' k v p outer) = with_parameter k v (env_of outer)
+env_of (Item' constant k part p outer) = with_item constant k (part_of part) (env_of outer)
+env_of (Target' part p outer) = with_target (part_of part) (env_of outer)
+env_of (Handled' r p outer) = with_handled r (env_of outer)
+env_of (Inside' n p outer) = record (env_of outer) { nested = n }

@@ -1,0 +1,162 @@
+-- What code shows of a part of a run that it carries out.
+use Rattle.std.specs.Prelude.{◌≡◌, ◌⊎◌, ℕ, ◌+◌, ◌-◌, ◌^◌, ◌≤◌, min, ℤ, List, [], ◌∷◌, ◌++◌, length, take, set, slice_get, nat_lt, Option, Some, None, Result, Ok, Err, true, false}
+use Rattle.ada_base.specs.declared.reason.Reason.TheVariants as reason
+use Rattle.ada_stored.specs.declared.slots.Slot.{Slot}
+use Rattle.ada_stored.specs.declared.slots.Variable.{Variable}
+use Rattle.ada_base.specs.Input as values
+use Rattle.behaviours.specs.Paths as operations
+use Rattle.behaviours.specs.Paths.{Entity, VariableOf, ConstantOf, Region, Here, Everywhere}
+use Rattle.ada_stored.specs.Stored.{State, Stored, Left, OutOfTurns, MemoryFault, InputFault, OutputFault, Fault, Stops, at, key, slot_at, begun, has_room, declares}
+use Rattle.run_store.specs.declared.ends.Held.{Held}
+use Rattle.run_store.specs.declared.ends.Held.TheVariants as held
+use Rattle.run_store.specs.declared.ends.Mark.{Mark}
+use Rattle.run_store.specs.declared.ends.Leave.{Leave}
+use Rattle.run_store.specs.declared.ends.Leave.TheVariants as leave
+use Rattle.run_store.specs.declared.ends.End.{End}
+use Rattle.run_store.specs.declared.ends.End.TheVariants as end
+use Rattle.run_store.specs.declared.ends.Object.{Object}
+use Rattle.run_store.specs.declared.ends.Object.TheVariants as object
+use Rattle.run_store.specs.declared.ends.Failed.{Failed}
+use Rattle.run_store.specs.declared.ends.Region as ends
+use Rattle.run_store.specs.declared.ends.Region.TheVariants as region
+
+-- ---- what contracts see of the outside
+
+-- how often the input and the output have failed, up to the greatest u64
+pub record Faults : Type 0 where
+  pub input : ℕ
+  pub output : ℕ
+
+-- the bytes of input that are still to come, the bytes of output that were put, and the counts of faults
+pub record Outside : Type 0 where
+  pub coming : List ℕ
+  pub put : List ℕ
+  pub faults : Faults
+
+-- a count rose: it is greater than before, or stands at the greatest u64
+abbrev pub Risen : ℕ → ℕ → Type 0
+Risen old new = (old ≤ new) × (min (old + 1) (2 ^ 64 - 1) ≤ new)
+
+-- a byte of input was asked for
+abbrev pub Asked : Type 0 → Result (Option ℕ) Failed → Outside → Outside → Type 0
+Asked Tells (Ok (Some b)) s t = (t.faults ≡ s.faults) × (Tells → (s.coming ≡ b ∷ t.coming) × (t.put ≡ s.put))
+Asked Tells (Ok None) s t = (t.faults ≡ s.faults) × (Tells → (s.coming ≡ []) × (t.coming ≡ []) × (t.put ≡ s.put))
+Asked Tells (Err e) s t = (Risen s.faults.input t.faults.input × (t.faults.output ≡ s.faults.output)) × (Tells → (t.coming ≡ s.coming) × (t.put ≡ s.put))
+
+-- a piece of output was put
+abbrev pub HasPut : Type 0 → List ℕ → Result (Unit {0}) Failed → Outside → Outside → Type 0
+HasPut Tells piece (Ok u) s t = (t.faults ≡ s.faults) × (Tells → (t.coming ≡ s.coming) × (t.put ≡ s.put ++ piece))
+HasPut Tells piece (Err e) s t = ((t.faults.input ≡ s.faults.input) × Risen s.faults.output t.faults.output) × (Tells → (t.coming ≡ s.coming) × ((passed : List ℕ) × (rest : List ℕ) × (piece ≡ passed ++ rest) × (t.put ≡ s.put ++ passed)))
+
+-- ---- the state of a run, and how often the outside has failed
+
+pub record Image : Type 0 where
+  pub state : State
+  pub faults : Faults
+
+abbrev pub held_of : Held → values.Held
+held_of held.Nothing = values.Nothing
+held_of (held.Symbol s) = values.Symbol s
+
+abbrev pub leave_of : Leave → operations.Leave
+leave_of (leave.Exits n) = operations.Exits n
+leave_of (leave.Returns v) = operations.Returns v
+leave_of (leave.Raises r) = operations.Raises r
+
+abbrev pub entity_of : Object → Entity
+entity_of (object.Variable x) = VariableOf x
+entity_of (object.Constant x) = ConstantOf x
+
+-- a fault of a device is answered where its count rose, and nowhere else
+abbrev pub Causes : {A : Type 0} → Result A End → Faults → Faults → Type 0
+Causes (Ok a) f g = g ≡ f
+Causes (Err (end.Left x)) f g = g ≡ f
+Causes (Err end.Spent) f g = g ≡ f
+Causes (Err end.NoMemory) f g = g ≡ f
+Causes (Err end.ReadFault) f g = Risen f.input g.input × (g.output ≡ f.output)
+Causes (Err end.WriteFault) f g = (g.input ≡ f.input) × Risen f.output g.output
+
+-- the answer of a part that goes from a state to a state, where the value stands for one of the meaning's
+abbrev pub Answers : {A B : Type 0} → (B → A) → Stored A → Result B End → State → State → Type 0
+Answers f m (Ok b) s t = m.does s ≡ at t (Ok (f b))
+Answers f m (Err (end.Left x)) s t = m.does s ≡ at t (Err (Left (leave_of x)))
+Answers f m (Err end.Spent) s t = m.does s ≡ at t (Err OutOfTurns)
+Answers f m (Err end.NoMemory) s t = Stops m s MemoryFault t
+Answers f m (Err end.ReadFault) s t = Stops m s InputFault t
+Answers f m (Err end.WriteFault) s t = Stops m s OutputFault t
+
+-- what code shows of a part, where the outside tells what comes and what was put
+abbrev pub ShowsAs : {A B : Type 0} → (B → A) → Type 0 → Stored A → Result B End → Image → Image → Type 0
+ShowsAs f Tells m r s t = Causes r s.faults t.faults × (Tells → Answers f m r s.state t.state)
+
+abbrev pub Shows : {A : Type 0} → Type 0 → Stored A → Result A End → Image → Image → Type 0
+Shows Tells m r s t = ShowsAs (λ a. a) Tells m r s t
+
+-- a part that can't fail, and has no answer
+abbrev pub Does : Type 0 → Stored (Unit {0}) → Image → Image → Type 0
+Does Tells m s t = (t.faults ≡ s.faults) × (Tells → m.does s.state ≡ at t.state (Ok tt))
+
+-- ---- instances of objects
+
+abbrev pub region_of : ends.Region → Region
+region_of region.Here = Here
+region_of region.Everywhere = Everywhere
+
+abbrev pub table_of : Region → State → List Slot
+table_of Here s = s.here
+table_of Everywhere s = s.everywhere
+
+-- an object has got its cells; and what it was
+abbrev pub Begins : Region → Object → List ℤ → Result Mark End → Image → Image → Type 0
+Begins region x vs (Ok mark) s t = (t.faults ≡ s.faults) × (has_room region (entity_of x) s.state ≡ true) × (mark.slot ≡ slot_at (table_of region s.state) (key (entity_of x))) × (mark.height ≡ length s.state.cells) × (t.state ≡ begun region (entity_of x) vs s.state)
+Begins region x vs (Err end.NoMemory) s t = t ≡ s
+Begins region x vs (Err _) s t = ⊥
+
+abbrev pub cut_back : Region → Object → Mark → State → State
+cut_back Here x mark s = record s { cells = take mark.height s.cells; here = set s.here (key (entity_of x)) mark.slot }
+cut_back Everywhere x mark s = record s { everywhere = set s.everywhere (key (entity_of x)) mark.slot }
+
+abbrev pub finished : Region → Object → Mark → Image → Image
+finished region x mark s = record s { state = cut_back region x mark s.state }
+
+-- a variable that is visible everywhere is listed
+abbrev pub Declares : Object → Slot → Result (Unit {0}) End → List Variable → List Variable → Type 0
+Declares x slot (Ok u) old new = new ≡ declares (entity_of x) slot.address slot.cells old
+Declares x slot (Err end.NoMemory) old new = new ≡ old
+Declares x slot (Err _) old new = ⊥
+
+-- ---- frames
+
+abbrev pub unframed : ℕ → Image → Image
+unframed frame s = record s { state = record (s.state) { frame = frame } }
+
+-- a new frame, and the one before
+abbrev pub Enters : Result ℕ End → Image → Image → Type 0
+Enters (Ok before) s t = (before ≡ s.state.frame) × (t ≡ unframed (s.state.frame + 1) s)
+Enters (Err end.NoMemory) s t = t ≡ s
+Enters (Err _) s t = ⊥
+
+-- a cell of an object that is there
+abbrev pub IsCell : List ℤ → Slot → ℕ → Result ℤ End → Type 0
+IsCell cells slot i (Ok v) = (nat_lt i slot.cells ≡ true) × (slice_get cells (slot.address + i) ≡ Some v)
+IsCell cells slot i (Err (end.Left x)) = (leave_of x ≡ operations.Raises reason.ProgramError) × ((nat_lt i slot.cells ≡ false) ⊎ ((nat_lt i slot.cells ≡ true) × (slice_get cells (slot.address + i) ≡ None)))
+IsCell cells slot i (Err end.NoMemory) = Unit {0}
+IsCell cells slot i (Err _) = ⊥
+
+abbrev pub IsSet : List ℤ → Slot → ℕ → ℤ → Result (Unit {0}) End → List ℤ → Type 0
+IsSet cells slot i v (Ok u) cells' = (nat_lt i slot.cells ≡ true) × (cells' ≡ set cells (slot.address + i) v)
+IsSet cells slot i v (Err (end.Left x)) cells' = (leave_of x ≡ operations.Raises reason.ProgramError) × (nat_lt i slot.cells ≡ false) × (cells' ≡ cells)
+IsSet cells slot i v (Err end.NoMemory) cells' = cells' ≡ cells
+IsSet cells slot i v (Err _) cells' = ⊥
+
+-- a whole from one state goes on as a rest from another
+pub record Goes {A : Type 0} (Tells : Type 0) (whole : Stored A) (s : Image) (rest : Stored A) (t : Image) : Type 0 where
+  pub faults : t.faults ≡ s.faults
+  pub same : Tells → whole.does s.state ≡ rest.does t.state
+  pub stops : Tells → (f : Fault) (u : State) → Stops rest t.state f u → Stops whole s.state f u
+
+-- nothing but want of memory is in the way
+abbrev pub OrNoMemory : {A : Type 0} → (A → Type 0) → Result A End → Type 0
+OrNoMemory P (Ok a) = P a
+OrNoMemory P (Err end.NoMemory) = Unit {0}
+OrNoMemory P (Err _) = ⊥

@@ -1,0 +1,14 @@
+//! The state of a run, and what can be done to it.
+#![tactic(auto)]
+
+pub mod ends;
+pub mod env;
+pub mod outside;
+pub mod store;
+pub mod values;
+
+pub use ends::{End, Failed, Held, Leave, Mark, Object, Region};
+pub use outside::Port;
+pub use store::Store;
+pub use env::{Env, Part};
+pub use values::{Range, between, bit, compares, count, downward, is_in, is_true, upward};

@@ -1,0 +1,303 @@
+//! The state of a run.
+
+ghost use Rattle.std.specs.Prelude.{◌≡◌, ◌<◌, ◌*◌, ◌+◌, length, slice_get, slice_set, Ok};
+ghost use Rattle.ada_stored.specs.Stored as spec;
+ghost use Rattle.behaviours.specs.Paths as spec';
+ghost use Rattle.run_store.specs.Shows.{Shows, Does, held_of, entity_of, region_of, Enters, unframed, Begins, Declares, finished, IsCell, IsSet};
+
+use crate::ends::{End, Held, Leave, Mark, Object, Region};
+use crate::outside::Port;
+use ada_base::{Items, Reason};
+use ada_stored::{Slot, Variable};
+use std::marker::Model;
+
+/// The cells of objects, where they are, what a run counts, and the outside.
+#[derive(Drop)]
+pub struct Store<P: Port + Drop> {
+    cells: Items<i64>,
+    kept: Items<i64>,
+    here: Items<Slot>,
+    everywhere: Items<Slot>,
+    frame: u64,
+    turns: u64,
+    taken: u64,
+    held: Held,
+    declared: Items<Variable>,
+    port: P,
+}
+
+impl<P: Port + Drop> Model for Store<P> {
+    ghost use Rattle.run_store.specs.Shows.{Image, held_of};
+
+    ghost Value = { Image };
+
+    ghost view = { λ s. record { state = record { cells = s.cells; kept = s.kept; here = s.here; everywhere = s.everywhere; frame = s.frame; turns = s.turns; taken = s.taken; held = held_of s.held; input = (P.outside s.port).coming; output = (P.outside s.port).put; declared = s.declared }; faults = (P.outside s.port).faults } };
+}
+
+/// The slot at a key, or none.
+fn slot_at(slots: &Items<Slot>, key: usize) -> Slot
+    ensures { result ≡ spec.slot_at slots.now key }
+{
+    match slots.get(key) {
+        Some(slot) => *slot,
+        None => Slot { frame: 0, address: 0, cells: 0 },
+    }
+}
+
+impl<P: Port + Drop> Store<P> {
+    /// An iteration or a call begins.
+    #[tactic(auto, unfolding(ada_stored::specs::Stored::turn))]
+    pub fn turn(&mut self, limit: u64) -> Result<(), End>
+        ensures { Shows P.Tells (spec.turn limit) result self.old self.new }
+    {
+        if self.turns < limit {
+            self.turns += 1;
+            Ok(())
+        } else {
+            Err(End::Spent)
+        }
+    }
+
+    /// The turns of a thread count from here.
+    #[tactic(auto, unfolding(ada_stored::specs::Stored::rewinds))]
+    pub fn rewind(&mut self, turns: u64)
+        ensures { Does P.Tells (spec.rewinds turns) self.old self.new }
+    {
+        self.turns = turns;
+    }
+
+    /// A cell of an object.
+    #[tactic(auto, unfolding(ada_stored::specs::Stored::reads))]
+    pub fn read(&self, object: Object, offset: u64) -> Result<i64, End>
+        ensures { Shows P.Tells (spec.reads (entity_of object) offset) result self.now self.now }
+    {
+        let key = object.key();
+        let here = slot_at(&self.here, key);
+        if here.frame == self.frame {
+            cell_of(&self.cells, here, offset)
+        } else {
+            let everywhere = slot_at(&self.everywhere, key);
+            if everywhere.frame == 1 {
+                cell_of(&self.kept, everywhere, offset)
+            } else {
+                Err(End::Left(Leave::Raises(Reason::ProgramError)))
+            }
+        }
+    }
+
+    /// A cell of a variable gets a value.
+    #[tactic(auto, unfolding(ada_stored::specs::Stored::writes))]
+    pub fn write(&mut self, number: u32, offset: u64, value: i64) -> Result<(), End>
+        ensures { Shows P.Tells (spec.writes number offset value) result self.old self.new }
+    {
+        let key = Object::Variable(number).key();
+        let here = slot_at(&self.here, key);
+        if here.frame == self.frame {
+            put_cell(&mut self.cells, here, offset, value)
+        } else {
+            let everywhere = slot_at(&self.everywhere, key);
+            if everywhere.frame == 1 {
+                put_cell(&mut self.kept, everywhere, offset, value)
+            } else {
+                Err(End::Left(Leave::Raises(Reason::ProgramError)))
+            }
+        }
+    }
+
+    /// How many turns were taken.
+    pub fn turns(&self) -> u64
+        ensures { result ≡ self.now.state.turns }
+    {
+        self.turns
+    }
+
+    /// What the last Get left.
+    #[tactic(auto, unfolding(ada_stored::specs::Stored::recalls))]
+    pub fn recall(&self) -> Held
+        ensures { (spec.recalls).does self.now.state ≡ spec.at self.now.state (Ok (held_of result)) }
+    {
+        self.held
+    }
+
+    /// Leaves something for the next Get.
+    #[tactic(auto, unfolding(ada_stored::specs::Stored::keeps))]
+    pub fn keep(&mut self, held: Held)
+        ensures { Does P.Tells (spec.keeps (held_of held)) self.old self.new }
+    {
+        self.held = held;
+    }
+
+    /// The next byte of input, or None where there is none.
+    #[tactic(auto, unfolding(ada_stored::specs::Stored::takes))]
+    pub fn take(&mut self) -> Result<Option<u8>, End>
+        ensures { Shows P.Tells spec.takes result self.old self.new }
+    {
+        let Some(taken) = self.taken.checked_add(1) else {
+            return Err(End::NoMemory);
+        };
+        match self.port.next() {
+            Ok(Some(byte)) => {
+                self.taken = taken;
+                Ok(Some(byte))
+            }
+            Ok(None) => Ok(None),
+            Err(_) => Err(End::ReadFault),
+        }
+    }
+
+    /// A frame of its own for a subprogram's objects. It gives the frame before.
+    pub fn enter(&mut self) -> Result<u64, End>
+        ensures { Enters result self.old self.new }
+    {
+        let before = self.frame;
+        match before.checked_add(1) {
+            None => Err(End::NoMemory),
+            Some(frame) => {
+                self.frame = frame;
+                Ok(before)
+            }
+        }
+    }
+
+    /// Back to a frame.
+    pub fn leave(&mut self, frame: u64)
+        ensures { self.new ≡ unframed frame self.old }
+    {
+        self.frame = frame;
+    }
+
+    /// A new instance of an object with these cells. An Err is want of memory, and leaves the state as it was.
+    pub fn begin(&mut self, region: Region, object: Object, values: Items<i64>) -> Result<Mark, End>
+        ensures { Begins (region_of region) object values result self.old self.new }
+    {
+        match region {
+            Region::Here => self.begin_here(object, values),
+            Region::Everywhere => self.begin_everywhere(object, values),
+        }
+    }
+
+    fn begin_here(&mut self, object: Object, values: Items<i64>) -> Result<Mark, End>
+        ensures { Begins spec'.Here object values result self.old self.new }
+    {
+        let key = object.key();
+        if key >= self.here.len() {
+            return Err(End::NoMemory);
+        }
+        let mark = Mark { slot: slot_at(&self.here, key), height: self.cells.len() as u64 };
+        let slot = Slot { frame: self.frame, address: mark.height, cells: values.len() as u64 };
+        match self.cells.append(values) {
+            Ok(()) => {
+                self.here.set(key, slot);
+                Ok(mark)
+            }
+            Err(_) => Err(End::NoMemory),
+        }
+    }
+
+    fn begin_everywhere(&mut self, object: Object, values: Items<i64>) -> Result<Mark, End>
+        ensures { Begins spec'.Everywhere object values result self.old self.new }
+    {
+        let key = object.key();
+        if key >= self.everywhere.len() {
+            return Err(End::NoMemory);
+        }
+        let mark = Mark { slot: slot_at(&self.everywhere, key), height: self.cells.len() as u64 };
+        let slot = Slot { frame: 1, address: self.kept.len() as u64, cells: values.len() as u64 };
+        let count = self.declared.len();
+        declare(&mut self.declared, object, slot)?;
+        match self.kept.append(values) {
+            Ok(()) => {
+                self.everywhere.set(key, slot);
+                Ok(mark)
+            }
+            Err(_) => {
+                self.declared.truncate(count);
+                Err(End::NoMemory)
+            }
+        }
+    }
+
+    /// The end of an instance: what the object was before, and as many cells as before.
+    pub fn end(&mut self, region: Region, object: Object, mark: Mark)
+        ensures { self.new ≡ finished (region_of region) object mark self.old }
+    {
+        let key = object.key();
+        match region {
+            Region::Here => {
+                self.cells.truncate(mark.height as usize);
+                put_slot(&mut self.here, key, mark.slot);
+            }
+            Region::Everywhere => put_slot(&mut self.everywhere, key, mark.slot),
+        }
+    }
+
+    /// A piece of output.
+    #[tactic(auto, unfolding(ada_stored::specs::Stored::puts))]
+    pub fn put(&mut self, piece: &[u8]) -> Result<(), End>
+        ensures { Shows P.Tells (spec.puts piece.now) result self.old self.new }
+    {
+        match self.port.put(piece) {
+            Ok(()) => Ok(()),
+            Err(_) => Err(End::WriteFault),
+        }
+    }
+}
+
+// a slot at a key, where the table has one
+fn put_slot(slots: &mut Items<Slot>, key: usize, slot: Slot)
+    ensures { slots.new ≡ slice_set slots.old key slot }
+{
+    if key < slots.len() {
+        slots.set(key, slot);
+    }
+}
+
+// a variable of the main procedure is listed
+fn declare(declared: &mut Items<Variable>, object: Object, slot: Slot) -> Result<(), End>
+    ensures { Declares object slot result declared.old declared.new }
+{
+    match object {
+        Object::Constant(_) => Ok(()),
+        Object::Variable(object) => {
+            let variable = Variable { object, address: slot.address, cells: slot.cells };
+            match declared.push(variable) {
+                Ok(()) => Ok(()),
+                Err(_) => Err(End::NoMemory),
+            }
+        }
+    }
+}
+
+fn cell_of(cells: &Items<i64>, slot: Slot, offset: u64) -> Result<i64, End>
+    ensures { IsCell cells.now slot offset result }
+{
+    if offset < slot.cells {
+        match slot.address.checked_add(offset) {
+            None => Err(End::NoMemory),
+            Some(address) => match cells.get(address as usize) {
+                None => Err(End::Left(Leave::Raises(Reason::ProgramError))),
+                Some(value) => Ok(*value),
+            },
+        }
+    } else {
+        Err(End::Left(Leave::Raises(Reason::ProgramError)))
+    }
+}
+
+fn put_cell(cells: &mut Items<i64>, slot: Slot, offset: u64, value: i64) -> Result<(), End>
+    ensures { IsSet cells.old slot offset value result cells.new }
+{
+    if offset < slot.cells {
+        match slot.address.checked_add(offset) {
+            None => Err(End::NoMemory),
+            Some(address) => {
+                if (address as usize) < cells.len() {
+                    cells.set(address as usize, value);
+                }
+                Ok(())
+            }
+        }
+    } else {
+        Err(End::Left(Leave::Raises(Reason::ProgramError)))
+    }
+}

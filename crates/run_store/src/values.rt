@@ -1,0 +1,216 @@
+//! Values, and what is computed from them alone.
+
+ghost use Rattle.std.specs.Prelude.{◌≡◌, ◌<◌, ◌+ℤ◌, ◌-ℤ◌, pos, neg_ℤ, nat_abs, Some};
+ghost use Rattle.ada_base.specs.Operation as operation;
+ghost use Rattle.ada_meaning.specs.Values as spec;
+ghost use Rattle.ada_meaning.specs.Operations as meaning;
+ghost use Rattle.ada_stored.specs.Stored as stored;
+ghost use Rattle.run_store.specs.Shows.{Shows, OrNoMemory};
+ghost use Rattle.run_store.specs.Operating.{unary_then};
+
+use crate::ends::{End, Leave};
+use crate::outside::Port;
+use crate::store::Store;
+use ada_base::{Base, Op, Reason, apply};
+use ada_typed::{Class, Comparison, Scalar, Sign};
+
+/// Whether a truth value is True.
+pub fn is_true(value: i64) -> bool
+    ensures { result ≡ spec.truth value }
+{
+    value != 0
+}
+
+/// A truth value as a number.
+pub fn bit(value: bool) -> i64
+    ensures { result ≡ spec.bit value }
+{
+    if value { 1 } else { 0 }
+}
+
+/// A relation of two values (4.5.2).
+pub fn compares(comparison: Comparison, left: i64, right: i64) -> bool
+    ensures { result ≡ spec.compares comparison left right }
+{
+    match comparison {
+        Comparison::Equal => left == right,
+        Comparison::Unequal => left != right,
+        Comparison::Less => left < right,
+        Comparison::AtMost => left <= right,
+        Comparison::Greater => left > right,
+        Comparison::AtLeast => left >= right,
+    }
+}
+
+/// Whether a value stands between two others, which count.
+pub fn between(low: i64, value: i64, high: i64) -> bool
+    ensures { result ≡ spec.between low value high }
+{
+    low <= value && value <= high
+}
+
+/// Whether a value is one of a subtype.
+pub fn is_in(scalar: Scalar, value: i64) -> bool
+    ensures { result ≡ spec.is_in scalar value }
+{
+    scalar.low <= value && value <= scalar.high
+}
+
+/// A range of numbers.
+#[derive(Clone, Copy)]
+pub struct Range {
+    pub low: i64,
+    pub high: i64,
+}
+
+/// How many numbers a range has, where 64 bits hold that.
+pub fn count(range: Range) -> Result<u64, End>
+    ensures { OrNoMemory (λ n. n ≡ spec.count range.low range.high) result }
+{
+    if range.high < range.low {
+        return Ok(0);
+    }
+    match u64::try_from(i128::from(range.high) - i128::from(range.low) + 1) {
+        Ok(n) => Ok(n),
+        Err(_) => Err(End::NoMemory),
+    }
+}
+
+/// A number of a range, counted from 0 at the lower end.
+pub fn upward(range: Range, index: u64) -> i64
+    requires { index < spec.count range.low range.high }
+    ensures { result ≡ range.low +ℤ pos index }
+{
+    (i128::from(range.low) + i128::from(index)) as i64
+}
+
+/// A number of a range, counted from 0 at the upper end.
+pub fn downward(range: Range, index: u64) -> i64
+    requires { index < spec.count range.low range.high }
+    ensures { result ≡ range.high -ℤ pos index }
+{
+    (i128::from(range.high) - i128::from(index)) as i64
+}
+
+fn base_of(class: Class) -> Base
+    ensures { result ≡ spec.base_of class }
+{
+    match class {
+        Class::Boolean => Base::Narrow,
+        Class::Integer(base) => base,
+        Class::Universal => Base::Wide,
+    }
+}
+
+fn is_in_base(base: Base, value: i64) -> bool
+    ensures { result ≡ operation.is_in_base base value }
+{
+    match base {
+        Base::Narrow => -2_147_483_648 <= value && value <= 2_147_483_647,
+        Base::Wide => true,
+    }
+}
+
+fn divides(op: Op) -> bool
+    ensures { result ≡ spec.divides op }
+{
+    matches!(op, Op::Div | Op::Mod | Op::Rem)
+}
+
+fn overflows(op: Op) -> bool
+    ensures { result ≡ spec.overflows op }
+{
+    matches!(op, Op::Add | Op::Sub | Op::Mul | Op::Div | Op::Pow)
+}
+
+/// The result of an operator (4.5), or None where a check fails.
+pub fn result_of(op: Op, class: Class, x: i64, y: i64) -> Option<i64>
+    ensures { result ≡ spec.result op class x y }
+{
+    match op {
+        Op::And | Op::Min => Some(x.min(y)),
+        Op::Or | Op::Max => Some(x.max(y)),
+        Op::Xor => Some(bit(is_true(x) != is_true(y))),
+        _ => in_base(base_of(class), op, x, y),
+    }
+}
+
+// an operator of integers, whose operands may be any
+fn in_base(base: Base, op: Op, x: i64, y: i64) -> Option<i64>
+    requires { operation.AreOperands op x y }
+    ensures { result ≡ operation.result_of op base x y }
+{
+    let value = apply(op, Base::Wide, x, y)?;
+    if is_in_base(base, value) {
+        Some(value)
+    } else {
+        None
+    }
+}
+
+impl<P: Port + Drop> Store<P> {
+    /// An operator on two values, with its checks (4.5).
+    #[tactic(auto, unfolding(ada_stored::specs::Stored::bind, ada_stored::specs::Stored::ret, ada_stored::specs::Stored::leaves))]
+    pub fn operate(&self, op: Op, at: u32, class: Class, x: i64, y: i64) -> Result<i64, End>
+        ensures { Shows P.Tells (meaning.operate stored.doings stored.checks op at class x y) result self.now self.now }
+    {
+        let _ = at;
+        if divides(op) && !is_true(y) {
+            return Err(End::Left(Leave::Raises(Reason::ConstraintError)));
+        }
+        match result_of(op, class, x, y) {
+            Some(value) => Ok(value),
+            None => {
+                if overflows(op) {
+                    Err(End::Left(Leave::Raises(Reason::ConstraintError)))
+                } else {
+                    Ok(0)
+                }
+            }
+        }
+    }
+
+    /// A unary operator, with its check (4.5.4, 4.5.6).
+    #[tactic(auto, unfolding(ada_stored::specs::Stored::bind, ada_stored::specs::Stored::ret, ada_stored::specs::Stored::leaves))]
+    pub fn unary(&self, sign: Sign, at: u32, class: Class, value: i64) -> Result<i64, End>
+        ensures { Shows P.Tells (unary_then sign at class value) result self.now self.now }
+    {
+        let _ = at;
+        match sign {
+            Sign::Not => match 1_i64.checked_sub(value) {
+                Some(other) => Ok(other),
+                None => Err(End::NoMemory),
+            },
+            Sign::Minus => match negated(base_of(class), value) {
+                Some(other) => Ok(other),
+                None => Err(End::Left(Leave::Raises(Reason::ConstraintError))),
+            },
+            Sign::Abs => match magnitude(base_of(class), value) {
+                Some(other) => Ok(other),
+                None => Err(End::Left(Leave::Raises(Reason::ConstraintError))),
+            },
+        }
+    }
+}
+
+fn negated(base: Base, value: i64) -> Option<i64>
+    ensures { result ≡ operation.within base (Some (neg_ℤ value)) }
+{
+    let other = 0_i64.checked_sub(value)?;
+    if is_in_base(base, other) {
+        Some(other)
+    } else {
+        None
+    }
+}
+
+fn magnitude(base: Base, value: i64) -> Option<i64>
+    ensures { result ≡ operation.within base (Some (pos (nat_abs value))) }
+{
+    let other = value.checked_abs()?;
+    if is_in_base(base, other) {
+        Some(other)
+    } else {
+        None
+    }
+}
