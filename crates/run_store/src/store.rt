@@ -167,8 +167,8 @@ impl<P: Port + Drop> Store<P> {
     }
 
     /// A new instance of an object with these cells. An Err is want of memory, and leaves the state as it was.
-    pub fn begin(&mut self, region: Region, object: Object, values: Items<i64>) -> Result<Mark, End>
-        ensures { Begins (region_of region) object values result self.old self.new }
+    pub fn begin(&mut self, region: Region, object: Object, values: &[i64]) -> Result<Mark, End>
+        ensures { Begins (region_of region) object values.now result self.old self.new }
     {
         match region {
             Region::Here => self.begin_here(object, values),
@@ -176,8 +176,8 @@ impl<P: Port + Drop> Store<P> {
         }
     }
 
-    fn begin_here(&mut self, object: Object, values: Items<i64>) -> Result<Mark, End>
-        ensures { Begins spec'.Here object values result self.old self.new }
+    fn begin_here(&mut self, object: Object, values: &[i64]) -> Result<Mark, End>
+        ensures { Begins spec'.Here object values.now result self.old self.new }
     {
         let key = object.key();
         if key >= self.here.len() {
@@ -185,7 +185,7 @@ impl<P: Port + Drop> Store<P> {
         }
         let mark = Mark { slot: slot_at(&self.here, key), height: self.cells.len() as u64 };
         let slot = Slot { frame: self.frame, address: mark.height, cells: values.len() as u64 };
-        match self.cells.append(values) {
+        match self.cells.extend(values) {
             Ok(()) => {
                 self.here.set(key, slot);
                 Ok(mark)
@@ -194,8 +194,8 @@ impl<P: Port + Drop> Store<P> {
         }
     }
 
-    fn begin_everywhere(&mut self, object: Object, values: Items<i64>) -> Result<Mark, End>
-        ensures { Begins spec'.Everywhere object values result self.old self.new }
+    fn begin_everywhere(&mut self, object: Object, values: &[i64]) -> Result<Mark, End>
+        ensures { Begins spec'.Everywhere object values.now result self.old self.new }
     {
         let key = object.key();
         if key >= self.everywhere.len() {
@@ -205,7 +205,7 @@ impl<P: Port + Drop> Store<P> {
         let slot = Slot { frame: 1, address: self.kept.len() as u64, cells: values.len() as u64 };
         let count = self.declared.len();
         declare(&mut self.declared, object, slot)?;
-        match self.kept.append(values) {
+        match self.kept.extend(values) {
             Ok(()) => {
                 self.everywhere.set(key, slot);
                 Ok(mark)
