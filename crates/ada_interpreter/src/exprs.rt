@@ -7,9 +7,11 @@ ghost use Rattle.run_store.specs.Shows.{Shows};
 ghost use Rattle.ada_interpreter.specs.Walk as spec;
 ghost use Rattle.ada_interpreter.specs.Walk.{nodes_of};
 
+use crate::actuals::pass;
+use crate::calls::call;
 use crate::names::select;
 use crate::work::Work;
-use ada_base::{Op, Reason};
+use ada_base::{Items, Op, Reason};
 use ada_typed::{Check, Class, Comparison, Expr, Root, Sign};
 use run_store::{End, Env, Leave, Object, Port, Store, between, bit, compares, is_in, is_true};
 
@@ -34,7 +36,8 @@ pub fn eval<P: Port + Drop>(work: &Work<'_>, calls: u32, id: u32, env: &Env<'_>,
         Expr::Membership { negated, value, low, high, .. } => membership(work, calls, negated, value, low, high, env, store),
         Expr::If { condition, value, otherwise } => conditional(work, calls, condition, value, otherwise, env, store),
         Expr::Convert { check, value } => converted(work, calls, check, value, env, store),
-        Expr::Call { .. } | Expr::Reduction { .. } => Err(End::NoMemory),
+        Expr::Call { sub, actuals, .. } => call_function(work, calls, sub, actuals, env, store),
+        Expr::Reduction { .. } => Err(End::NoMemory),
     }
 }
 
@@ -159,4 +162,30 @@ fn converted<P: Port + Drop>(work: &Work<'_>, calls: u32, check: Check, value: u
     } else {
         Err(End::Left(Leave::Raises(Reason::ConstraintError)))
     }
+}
+
+/// Whether an expression that may be left out is there and False.
+#[cycle(walk)]
+#[tactic(auto, using(crate::proofs::Parts::present_is), unfolding(ada_stored::specs::Stored::bind, ada_stored::specs::Stored::ret, ada_stored::specs::Stored::leaves, ada_stored::specs::Stored::spent, ada_stored::specs::Stored::handles, crate::specs::Walk::eval, crate::specs::Walk::holds))]
+pub fn holds<P: Port + Drop>(work: &Work<'_>, calls: u32, id: u32, env: &Env<'_>, store: &mut Store<P>) -> Result<bool, End>
+    ensures { Shows P.Tells (spec.holds work.now calls (optional_at (nodes_of work.now) id) (env_of env.now)) result store.old store.new }
+{
+    match work.typed.nodes.optional(id) {
+        None => Ok(true),
+        Some(_) => {
+            let value = eval(work, calls, id, env, store)?;
+            Ok(is_true(value))
+        }
+    }
+}
+
+#[cycle(walk)]
+#[inline(never)]
+fn call_function<P: Port + Drop>(work: &Work<'_>, calls: u32, sub: u32, actuals: u32, env: &Env<'_>, store: &mut Store<P>) -> Result<i64, End>
+    ensures { Shows P.Tells (spec.call_function work.now calls sub (actuals_at (nodes_of work.now) actuals) (env_of env.now)) result store.old store.new }
+{
+    let mut passed = Items::new(work.alloc);
+    pass(work, calls, actuals, env, &mut passed, store)?;
+    let returned = call(work, calls, env.nested(), sub, passed.as_slice(), store)?;
+    Ok(returned.value)
 }

@@ -13,7 +13,7 @@ use crate::exprs::eval;
 use crate::work::Work;
 use ada_base::Reason;
 use ada_typed::Selection;
-use run_store::{End, Env, Leave, Part, Port, Store, between};
+use run_store::{End, Env, Leave, Part, Port, Range, Store, between};
 
 /// The part that selections lead to (4.1.1, 4.1.3).
 #[cycle(walk)]
@@ -26,7 +26,10 @@ pub fn select<P: Port + Drop>(work: &Work<'_>, calls: u32, id: u32, env: &Env<'_
         Some(cell) => match work.typed.nodes.selection(cell.first) {
             None => select(work, calls, cell.rest, env, part, store),
             Some(Selection::Field { offset, .. }) => field(work, calls, offset, cell.rest, env, part, store),
-            Some(Selection::Index { at, index: value, low, high, stride }) => index(work, calls, at, value, low, high, stride, cell.rest, env, part, store),
+            Some(Selection::Index { at, index: value, low, high, stride }) => {
+                let range = Range { low, high };
+                index(work, calls, at, value, range, stride, cell.rest, env, part, store)
+            }
         },
     }
 }
@@ -43,13 +46,13 @@ fn field<P: Port + Drop>(work: &Work<'_>, calls: u32, offset: u32, rest: u32, en
 
 #[cycle(walk)]
 #[inline(never)]
-fn index<P: Port + Drop>(work: &Work<'_>, calls: u32, at: u32, value: u32, low: i64, high: i64, stride: u32, rest: u32, env: &Env<'_>, part: Part, store: &mut Store<P>) -> Result<Part, End>
-    ensures { ShowsAs part_of P.Tells (spec.index work.now calls at (expr_at (nodes_of work.now) value) low high stride (selections_at (nodes_of work.now) rest) (env_of env.now) (part_of part)) result store.old store.new }
+fn index<P: Port + Drop>(work: &Work<'_>, calls: u32, at: u32, value: u32, range: Range, stride: u32, rest: u32, env: &Env<'_>, part: Part, store: &mut Store<P>) -> Result<Part, End>
+    ensures { ShowsAs part_of P.Tells (spec.index work.now calls at (expr_at (nodes_of work.now) value) range.low range.high stride (selections_at (nodes_of work.now) rest) (env_of env.now) (part_of part)) result store.old store.new }
 {
     let _ = at;
     let i = eval(work, calls, value, env, store)?;
-    if between(low, i, high) {
-        let inner = component(part, i, low, stride)?;
+    if between(range.low, i, range.high) {
+        let inner = component(part, i, range.low, stride)?;
         let found = select(work, calls, rest, env, inner, store)?;
         Ok(found)
     } else {
@@ -58,7 +61,7 @@ fn index<P: Port + Drop>(work: &Work<'_>, calls: u32, at: u32, value: u32, low: 
 }
 
 // a part so many cells further on
-fn moved(part: Part, count: u64) -> Result<Part, End>
+pub(crate) fn moved(part: Part, count: u64) -> Result<Part, End>
     ensures { OrNoMemory (λ inner. part_of inner ≡ meaning.moved (part_of part) count) result }
 {
     match part.offset.checked_add(count) {

@@ -1,7 +1,7 @@
 //! Cells of subtypes (3.6, 3.8).
 
-ghost use Rattle.std.specs.Prelude.{◌≡◌, ◌*◌, ◌++◌, length};
-ghost use Rattle.ada_typed.specs.Programs.{program, bounds_at, fields_at};
+ghost use Rattle.std.specs.Prelude.{◌≡◌, ◌+◌, ◌*◌, ◌++◌, length, option_map};
+ghost use Rattle.ada_typed.specs.Programs.{program, bounds_at, fields_at, subtype_of};
 ghost use Rattle.ada_meaning.specs.Values as spec;
 ghost use Rattle.run_store.specs.Shows.{OrNoMemory};
 
@@ -19,25 +19,42 @@ pub fn cells_of(typed: &Typed, number: u32) -> Result<u64, End>
 }
 
 #[cycle(cells)]
+#[tactic(auto, using(crate::proofs::Layouts::within_next, crate::proofs::Layouts::length_repeated))]
 fn cells_within(typed: &Typed, levels: usize, number: u32) -> Result<u64, End>
     ensures { OrNoMemory (λ n. n ≡ length (spec.layout_within (program typed.now).subtypes levels number)) result }
 {
     if levels == 0 {
-        return Ok(0);
+        Ok(0)
+    } else {
+        let n = cells_beside(typed, levels - 1, typed.subtype(number))?;
+        Ok(n)
     }
-    match typed.subtype(number) {
+}
+
+// of what stands in the table, whose parts are so many levels deep
+#[cycle(cells)]
+#[tactic(auto, using(crate::proofs::Layouts::length_repeated))]
+fn cells_beside(typed: &Typed, levels: usize, found: Option<Subtype>) -> Result<u64, End>
+    ensures { OrNoMemory (λ n. n ≡ length (spec.layout_of (spec.layout_within (program typed.now).subtypes levels) (option_map (subtype_of typed.now.nodes) found))) result }
+{
+    match found {
         None => Ok(0),
         Some(Subtype::Scalar { .. }) => Ok(1),
         Some(Subtype::Array { dimensions, component }) => {
             let times = components(typed, dimensions)?;
-            let size = cells_within(typed, levels - 1, component)?;
-            product(times, size)
+            let size = cells_within(typed, levels, component)?;
+            let cells = product(times, size)?;
+            Ok(cells)
         }
-        Some(Subtype::Record { fields }) => fields_within(typed, levels - 1, fields),
+        Some(Subtype::Record { fields }) => {
+            let cells = fields_within(typed, levels, fields)?;
+            Ok(cells)
+        }
     }
 }
 
 #[cycle(cells)]
+#[tactic(auto, using(crate::proofs::Layouts::length_both))]
 fn fields_within(typed: &Typed, levels: usize, id: u32) -> Result<u64, End>
     ensures { OrNoMemory (λ n. n ≡ length (spec.fields (spec.layout_within (program typed.now).subtypes levels) (fields_at typed.now.nodes id))) result }
 {
@@ -47,9 +64,13 @@ fn fields_within(typed: &Typed, levels: usize, id: u32) -> Result<u64, End>
             Leaf::Field(field) => {
                 let first = cells_within(typed, levels, field.subtype)?;
                 let rest = fields_within(typed, levels, cell.rest)?;
-                total(first, rest)
+                let cells = total(first, rest)?;
+                Ok(cells)
             }
-            _ => fields_within(typed, levels, cell.rest),
+            _ => {
+                let cells = fields_within(typed, levels, cell.rest)?;
+                Ok(cells)
+            }
         },
     }
 }
@@ -64,9 +85,13 @@ fn components(typed: &Typed, id: u32) -> Result<u64, End>
                 let range = Range { low: bounds.low, high: bounds.high };
                 let first = count(range)?;
                 let rest = components(typed, cell.rest)?;
-                product(first, rest)
+                let all = product(first, rest)?;
+                Ok(all)
             }
-            _ => components(typed, cell.rest),
+            _ => {
+                let all = components(typed, cell.rest)?;
+                Ok(all)
+            }
         },
     }
 }
@@ -102,9 +127,18 @@ fn defaults_within(typed: &Typed, levels: usize, number: u32, out: &mut Items<i6
     ensures { OrNoMemory (λ u. out.new ≡ out.old ++ spec.defaults (spec.layout_within (program typed.now).subtypes levels number)) result }
 {
     if levels == 0 {
-        return Ok(());
+        Ok(())
+    } else {
+        defaults_beside(typed, levels - 1, typed.subtype(number), out)?;
+        Ok(())
     }
-    match typed.subtype(number) {
+}
+
+#[cycle(defaults)]
+fn defaults_beside(typed: &Typed, levels: usize, found: Option<Subtype>, out: &mut Items<i64>) -> Result<(), End>
+    ensures { OrNoMemory (λ u. out.new ≡ out.old ++ spec.defaults (spec.layout_of (spec.layout_within (program typed.now).subtypes levels) (option_map (subtype_of typed.now.nodes) found))) result }
+{
+    match found {
         None => Ok(()),
         Some(Subtype::Scalar { scalar }) => match out.push(scalar.low) {
             Ok(()) => Ok(()),
@@ -112,9 +146,13 @@ fn defaults_within(typed: &Typed, levels: usize, number: u32, out: &mut Items<i6
         },
         Some(Subtype::Array { dimensions, component }) => {
             let times = components(typed, dimensions)?;
-            repeated_within(typed, levels - 1, component, times, out)
+            repeated_within(typed, levels, component, times, out)?;
+            Ok(())
         }
-        Some(Subtype::Record { fields }) => field_defaults(typed, levels - 1, fields, out),
+        Some(Subtype::Record { fields }) => {
+            field_defaults(typed, levels, fields, out)?;
+            Ok(())
+        }
     }
 }
 
@@ -129,6 +167,7 @@ fn repeated_within(typed: &Typed, levels: usize, component: u32, times: u64, out
 }
 
 #[cycle(defaults)]
+#[tactic(auto, using(crate::proofs::Layouts::defaults_both))]
 fn field_defaults(typed: &Typed, levels: usize, id: u32, out: &mut Items<i64>) -> Result<(), End>
     ensures { OrNoMemory (λ u. out.new ≡ out.old ++ spec.defaults (spec.fields (spec.layout_within (program typed.now).subtypes levels) (fields_at typed.now.nodes id))) result }
 {
@@ -137,9 +176,13 @@ fn field_defaults(typed: &Typed, levels: usize, id: u32, out: &mut Items<i64>) -
         Some(cell) => match cell.leaf {
             Leaf::Field(field) => {
                 defaults_within(typed, levels, field.subtype, out)?;
-                field_defaults(typed, levels, cell.rest, out)
+                field_defaults(typed, levels, cell.rest, out)?;
+                Ok(())
             }
-            _ => field_defaults(typed, levels, cell.rest, out),
+            _ => {
+                field_defaults(typed, levels, cell.rest, out)?;
+                Ok(())
+            }
         },
     }
 }

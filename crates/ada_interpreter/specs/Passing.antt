@@ -1,0 +1,41 @@
+-- What code holds of actual parameters, calls and iterations.
+use Rattle.std.specs.Prelude.{◌≡◌, ℕ, ℤ, ◌+◌, ◌*◌, ◌+ℤ◌, ◌-ℤ◌, pos, List, [], ◌∷◌, ◌++◌, map, Option, Some, None, Bool, cond, Result, Ok, Err}
+use Rattle.ada_typed.specs.declared.scalars.Scalar.{Scalar}
+use Rattle.ada_meaning.specs.Values.{count}
+use Rattle.ada_meaning.specs.Meaning as meaning
+use Rattle.ada_meaning.specs.Meaning.{Env, with_parameter, with_item, moved}
+use Rattle.run_store.specs.Environment.{part_of}
+use Rattle.run_store.specs.Shows.{entity_of}
+use Rattle.ada_interpreter.specs.declared.passed.Shape.{Shape}
+use Rattle.ada_interpreter.specs.declared.passed.Shape.TheVariants as shape
+use Rattle.ada_interpreter.specs.declared.passed.Back.{Back}
+use Rattle.ada_interpreter.specs.declared.passed.Passed.{Passed}
+use Rattle.ada_interpreter.specs.declared.passed.Returned.{Returned}
+use Rattle.ada_interpreter.specs.declared.courses.Course.{Course}
+use Rattle.ada_interpreter.specs.declared.courses.Course.TheVariants as course
+use Rattle.ada_interpreter.specs.declared.work.Work.{Work}
+use Rattle.ada_interpreter.specs.Walk.{cells_at}
+
+abbrev pub shape_of : Work → Shape → List Scalar
+shape_of w (shape.Single s) = s ∷ []
+shape_of w (shape.Whole n) = cells_at w n
+
+abbrev pub back_of : Work → Back → meaning.Back
+back_of w b = record { part = part_of b.part; cells = shape_of w b.shape; check = b.check }
+
+abbrev pub back_option : Work → Option Back → Option meaning.Back
+back_option w None = None
+back_option w (Some b) = Some (back_of w b)
+
+abbrev pub passed_of : Work → Passed → meaning.Passed
+passed_of w p = record { formal = entity_of p.formal; cells = p.cells; back = back_option w p.back }
+
+abbrev pub passed_list : Work → List Passed → List meaning.Passed
+passed_list w ps = map (passed_of w) ps
+
+abbrev pub returned_of : Returned → meaning.Returned
+returned_of r = record { value = r.value; cells = r.cells }
+
+abbrev pub course_of : Course → meaning.Course
+course_of (course.Values k reverse range) = record { count = count range.low range.high; bound = λ i. with_parameter k (cond reverse (range.high -ℤ pos i) (range.low +ℤ pos i)) }
+course_of (course.Components k constant p n stride) = record { count = n; bound = λ i. with_item constant k (moved (part_of p) (i * stride)) }

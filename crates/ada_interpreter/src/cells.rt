@@ -1,0 +1,111 @@
+//! Cells of objects, many at a time.
+
+ghost use Rattle.std.specs.Prelude.{◌≡◌, ◌+◌, [], ◌∷◌, ◌++◌, length, slice_set};
+ghost use Rattle.ada_meaning.specs.Values.{zeros, laid};
+ghost use Rattle.run_store.specs.Shows.{Shows, entity_of, OrNoMemory};
+ghost use Rattle.ada_interpreter.specs.Passing.{shape_of};
+ghost use Rattle.ada_interpreter.specs.Walk as spec;
+ghost use Rattle.ada_interpreter.specs.Walk.{cells_at};
+
+use crate::passed::Shape;
+use crate::work::Work;
+use ada_base::Items;
+use run_store::{End, Object, Port, Store, cells_of};
+
+/// An iteration or a call begins.
+#[tactic(auto, unfolding(ada_stored::specs::Stored::bind, ada_stored::specs::Stored::ret, ada_stored::specs::Stored::turn))]
+pub(crate) fn turned<P: Port + Drop>(work: &Work<'_>, store: &mut Store<P>) -> Result<(), End>
+    ensures { Shows P.Tells (spec.turned work.now) result store.old store.new }
+{
+    store.turn(work.limit)?;
+    Ok(())
+}
+
+/// The cells of an array or record from an offset on.
+pub(crate) fn read_whole<P: Port + Drop>(work: &Work<'_>, object: Object, offset: u64, subtype: u32, store: &Store<P>) -> Result<Items<i64>, End>
+    ensures { Shows P.Tells (spec.read_all work.now (entity_of object) offset [] (cells_at work.now subtype)) result store.now store.now }
+{
+    let count = cells_of(work.typed, subtype)?;
+    let mut values = Items::new(work.alloc);
+    let mut at = offset;
+    for k in 0..count {
+        let value = store.read(object, at)?;
+        at = next_offset(at)?;
+        push_value(&mut values, value)?;
+    }
+    Ok(values)
+}
+
+/// Cells of a variable from an offset on get values.
+pub(crate) fn write_all<P: Port + Drop>(work: &Work<'_>, object: u32, offset: u64, values: &[i64], store: &mut Store<P>) -> Result<(), End>
+    ensures { Shows P.Tells (spec.write_all work.now object offset values.now) result store.old store.new }
+{
+    let _ = work;
+    let mut at = offset;
+    let mut k = 0;
+    while k < values.len() {
+        store.write(object, at, values[k])?;
+        at = next_offset(at)?;
+        k += 1;
+    }
+    Ok(())
+}
+
+fn next_offset(at: u64) -> Result<u64, End>
+    ensures { OrNoMemory (λ next. next ≡ at + 1) result }
+{
+    match at.checked_add(1) {
+        Some(next) => Ok(next),
+        None => Err(End::NoMemory),
+    }
+}
+
+pub(crate) fn push_value(values: &mut Items<i64>, value: i64) -> Result<(), End>
+    ensures { OrNoMemory (λ done. values.new ≡ values.old ++ value ∷ []) result }
+{
+    match values.push(value) {
+        Ok(()) => Ok(()),
+        Err(_) => Err(End::NoMemory),
+    }
+}
+
+/// The list of one value.
+pub(crate) fn one(work: &Work<'_>, value: i64) -> Result<Items<i64>, End>
+    ensures { OrNoMemory (λ values. values ≡ value ∷ []) result }
+{
+    let mut values = Items::new(work.alloc);
+    push_value(&mut values, value)?;
+    Ok(values)
+}
+
+/// A list of zeros.
+pub(crate) fn zeros(work: &Work<'_>, count: u32) -> Result<Items<i64>, End>
+    ensures { OrNoMemory (λ values. values ≡ zeros count) result }
+{
+    let mut values = Items::new(work.alloc);
+    for _k in 0..count {
+        push_value(&mut values, 0)?;
+    }
+    Ok(values)
+}
+
+/// Lays values over others, from a place on.
+pub(crate) fn lay(out: &mut Items<i64>, first: u64, values: &[i64])
+    ensures { out.new ≡ laid out.old first values.now }
+{
+    let mut k = 0;
+    while k < values.len() {
+        put_value(out, first, k, values[k]);
+        k += 1;
+    }
+}
+
+fn put_value(out: &mut Items<i64>, first: u64, index: usize, value: i64)
+    ensures { out.new ≡ slice_set out.old (first + index) value }
+{
+    if let Some(place) = (first as usize).checked_add(index) {
+        if place < out.len() {
+            out.set(place, value);
+        }
+    }
+}

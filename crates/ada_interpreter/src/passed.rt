@@ -1,0 +1,51 @@
+//! Actual parameters that were evaluated, and what a call gives (6.4).
+
+ghost use Rattle.std.specs.Prelude.{◌≡◌, ◌∷◌, ◌++◌, []};
+ghost use Rattle.run_store.specs.Shows.{OrNoMemory};
+ghost use Rattle.ada_interpreter.specs.Passing.{passed_of, passed_list};
+
+use crate::work::Work;
+use ada_base::Items;
+use ada_typed::{Check, Scalar};
+use run_store::{End, Object, Part};
+
+/// The subtypes of cells: a scalar's, or those of a whole array or record.
+#[derive(Clone, Copy)]
+pub enum Shape {
+    Single(Scalar),
+    Whole(u32),
+}
+
+/// Where a parameter is copied back (6.4.1), and the check of a scalar.
+#[derive(Clone, Copy)]
+pub struct Back {
+    pub part: Part,
+    pub shape: Shape,
+    pub check: Option<Check>,
+}
+
+/// An actual parameter that was evaluated: the formal, its first cells, and where it is copied back.
+#[derive(Drop)]
+pub struct Passed {
+    pub formal: Object,
+    pub cells: Items<i64>,
+    pub back: Option<Back>,
+}
+
+/// What a call gives: a function's value, and the cells that are copied back.
+#[derive(Drop)]
+pub struct Returned {
+    pub value: i64,
+    pub cells: Items<Items<i64>>,
+}
+
+/// One more actual parameter.
+pub(crate) fn push(work: &Work<'_>, passed: &mut Items<Passed>, one: Passed) -> Result<(), End>
+    ensures { OrNoMemory (λ u. passed_list work.now passed.new ≡ passed_list work.now passed.old ++ passed_of work.now one ∷ []) result }
+{
+    let _ = work;
+    match passed.push(one) {
+        Ok(()) => Ok(()),
+        Err(_) => Err(End::NoMemory),
+    }
+}
