@@ -11,7 +11,7 @@ length_repeated zero cs = omega arith
 length_repeated (suc n) cs =
     let e : length (cs ++ repeated n cs) ≡ length cs + length (repeated n cs) = length-append cs (repeated n cs) in
     let h : length (repeated n cs) ≡ n * length cs = length_repeated n cs in
-    let m : suc n * length cs ≡ n * length cs + length cs = simp unary_clauses (omega arith) in
+    let m : suc n * length cs ≡ n * length cs + length cs = omega arith in
     omega (arith, e, h, m)
 
 pub within_next : (table : List Subtype) (levels number : ℕ) → 1 ≤ levels → layout_within table levels number ≡ layout_of (layout_within table (levels - 1)) (slice_get table number)
