@@ -3,8 +3,10 @@ use Rattle.std.specs.Prelude.{ℕ, suc, ℤ, pos, ◌*◌, ◌-ℤ◌, int_le, �
 use Rattle.ada_base.specs.declared.operation.Op.{Op}
 use Rattle.ada_base.specs.Cuts.{One, cuts_of}
 use Rattle.ada_base.specs.declared.reason.Reason.{Reason}
+use Rattle.ada_base.specs.declared.reason.Reason.TheVariants as reason
+use Rattle.ada_typed.specs.declared.program.Object.{Object}
 use Rattle.behaviours.specs.Doings.{through}
-use Rattle.behaviours.specs.Paths.{Entity, VariableOf, ConstantOf, Region, Here, Exits, Returns}
+use Rattle.behaviours.specs.Paths.{Entity, VariableOf, ConstantOf, Region, Here, Exits, Returns, Raises}
 use Rattle.ada_typed.specs.declared.node.Node.{Node}
 use Rattle.ada_typed.specs.declared.scalars.Class.{Class}
 use Rattle.ada_typed.specs.declared.scalars.Scalar.{Scalar}
@@ -14,27 +16,17 @@ use Rattle.ada_typed.specs.declared.expressions.Sign.{Sign}
 use Rattle.ada_typed.specs.declared.expressions.Root.{Root}
 use Rattle.ada_typed.specs.declared.expressions.Run.{Run}
 use Rattle.ada_typed.specs.declared.expressions.Iterated.{Iterated}
-use Rattle.ada_typed.specs.Syntax.{Expr, Optional, Selections, Actuals, Value, Composite, Associations, Iteration, Stmt, Stmts, Alternatives, Handlers, Decls, Sub, Program}
+use Rattle.ada_typed.specs.Syntax.{Expr, Optional, Selections, Actuals, Value, Composite, Associations, Iteration, Stmt, Stmts, Alternatives, Handlers, Decls, Body, Sub, Program}
 use Rattle.ada_typed.specs.Programs.{program}
-use Rattle.ada_meaning.specs.Values.{truth, bit, compares, between, to_nat, layout, is_in}
+use Rattle.ada_meaning.specs.Values.{truth, bit, compares, between, to_nat, layout, is_in, defaults}
 use Rattle.ada_meaning.specs.Operations.{Operations, IndexCheck, operate}
 use Rattle.ada_meaning.specs.Meaning as meaning
-use Rattle.ada_meaning.specs.Meaning.{Env, Part, Passed, Returned, Back, Course, variable_root, constant_root, moved, with_target, iterated_env, outset, returns, exits, value_of}
+use Rattle.ada_meaning.specs.Meaning.{Env, Part, Passed, Returned, Back, Course, variable_root, constant_root, moved, with_target, iterated_env, outset, returns, exits, value_of, sub_at}
 use Rattle.ada_stored.specs.Stored
-use Rattle.ada_stored.specs.Stored.{Stored, doings, bind, ret, leaves, handles, reads, checks}
+use Rattle.ada_stored.specs.Stored.{Stored, doings, bind, ret, leaves, handles, apart, reads, checks}
 use Rattle.run_store.specs.Operating.{unary_then}
-use Rattle.ada_interpreter.specs.declared.work.Work.{Work}
-
-abbrev pub nodes_of : Work → List Node
-nodes_of w = w.typed.now.nodes
-
-abbrev pub ops : Work → Operations {1}
-ops w = Stored.operations w.limit (cuts_of One)
-
--- ---- shut: only the function that goes by a form sees into them
-
-unfoldable pub calls_of : Work → ℕ → ℕ → ℕ → Stored (Unit {0}) → List Passed → Stored Returned
-calls_of w d = meaning.call (ops w) w.limit (program w.typed.now) d
+use Rattle.run_parts.specs.declared.work.Work.{Work}
+use Rattle.run_parts.specs.Words.{nodes_of, ops, calls_of, cells_at, turned, read_all, write_all, back_cells, all_copied_back}
 
 unfoldable pub eval : Work → ℕ → Expr → Env → Stored ℤ
 eval w d e env = meaning.eval (ops w) w.limit (program w.typed.now) (calls_of w d) e env
@@ -74,22 +66,6 @@ exec_chosen w d as' v env = meaning.exec_chosen (ops w) w.limit (program w.typed
 
 unfoldable pub exec_handler : Work → ℕ → Handlers → Reason → Env → Stored (Unit {0})
 exec_handler w d hs r env = meaning.exec_handler (ops w) w.limit (program w.typed.now) (calls_of w d) hs r env
-
-abbrev pub cells_at : Work → ℕ → List Scalar
-cells_at w n = layout (program w.typed.now).subtypes n
-
-abbrev pub turned : Work → Stored (Unit {0})
-turned w = meaning.turned (ops w)
-
-abbrev pub bounds_hold : Option Check → ℤ → ℤ → Bool
-bounds_hold None low high = true
-bounds_hold (Some c) low high = cond (int_le low high) (is_in c.scalar low && is_in c.scalar high) true
-
-unfoldable pub write_all : Work → ℕ → ℕ → List ℤ → Stored (Unit {0})
-write_all w x at vs = meaning.write_all (ops w) x at vs
-
-unfoldable pub read_all : Work → Entity → ℕ → List ℤ → List Scalar → Stored (List ℤ)
-read_all w x at so_far ss = meaning.read_all (ops w) x at so_far ss
 
 module _ (w : Work) (d : ℕ) where
   -- ---- expressions
@@ -196,11 +172,29 @@ module _ (w : Work) (d : ℕ) where
 
   -- ---- calls
 
-  abbrev pub function_value : Option Sub → ℕ → Stored ℤ
-  function_value None nested = ret (pos 0)
-  function_value (Some sub) nested = handles (bind (meaning.exec_body (ops w) w.limit (program w.typed.now) (calls_of w d) sub.body Here (outset nested)) (λ _. meaning.ended (ops w) w.limit (program w.typed.now) sub.result)) returns (λ how. ret (value_of how))
+  abbrev pub body : Body → Region → Env → Stored (Unit {0})
+  body b region env = meaning.exec_body (ops w) w.limit (program w.typed.now) (calls_of w d) b region env
+
+  abbrev pub function_value : Sub → ℕ → Stored ℤ
+  function_value sub nested = handles (bind (body sub.body Here (outset nested)) (λ _. meaning.ended (ops w) w.limit (program w.typed.now) sub.result)) returns (λ how. ret (value_of how))
+
+  abbrev pub carried_out : Sub → ℕ → List Passed → Stored Returned
+  carried_out sub nested passed = bind (function_value sub nested) (λ v. bind (back_cells w passed []) (λ vss. ret (record { value = v; cells = vss })))
+
+  unfoldable pub with_formals : Sub → ℕ → List Passed → List Passed → Stored Returned
+  with_formals sub nested all rest = meaning.with_formals (ops w) w.limit (program w.typed.now) rest (carried_out sub nested all)
+
+  abbrev pub called_sub : Option Sub → ℕ → List Passed → Stored Returned
+  called_sub None nested passed = leaves (Raises reason.ProgramError)
+  called_sub (Some sub) nested passed = apart (with_formals sub nested passed passed)
+
+  abbrev pub called : ℕ → ℕ → List Passed → Stored Returned
+  called s nested passed = called_sub (sub_at (program w.typed.now).subs s) nested passed
 
   -- ---- statements
+
+  abbrev pub call_procedure : ℕ → Actuals → Env → Stored (Unit {0})
+  call_procedure s as' env = bind (pass w d as' env []) (λ passed. bind (calls_of w d env.nested s (ret tt) passed) (λ r. all_copied_back passed r.cells))
 
   abbrev pub branch : Expr → Stmts → Stmts → Env → Stored (Unit {0})
   branch c a b env = bind (eval w d c env) (λ x. cond (truth x) (exec_all w d a env) (exec_all w d b env))

@@ -4,23 +4,21 @@ ghost use Rattle.std.specs.Prelude.{◌≡◌, ◌<◌};
 ghost use Rattle.ada_typed.specs.Decoded.{actuals_at, selections_at, value_at};
 ghost use Rattle.run_store.specs.Environment.{env_of};
 ghost use Rattle.run_store.specs.Shows.{ShowsAs};
-ghost use Rattle.ada_interpreter.specs.Passing.{passed_list};
+ghost use Rattle.run_parts.specs.Passing.{passed_list};
 ghost use Rattle.ada_interpreter.specs.Walk as spec;
-ghost use Rattle.ada_interpreter.specs.Walk.{nodes_of};
+ghost use Rattle.run_parts.specs.Words.{nodes_of};
 
-use crate::cells::{one, read_whole};
 use crate::names::select;
-use crate::passed::{Back, Passed, Shape, push};
 use crate::values::cells;
-use crate::work::Work;
 use ada_base::{Items, Reason};
 use ada_typed::{Actual, Check, Root, Scalar};
+use run_parts::{Back, Passed, Shape, Work, one, push, read_whole};
 use run_store::{End, Env, Leave, Object, Port, Store, is_in};
 
 /// Actual parameters, evaluated, read and checked from left to right, behind others.
 #[cycle(walk)]
 #[inline(never)]
-#[tactic(auto, unfolding(ada_stored::specs::Stored::bind, ada_stored::specs::Stored::ret, ada_stored::specs::Stored::leaves, ada_stored::specs::Stored::spent, ada_stored::specs::Stored::handles, crate::specs::Walk::pass, crate::specs::Walk::select, crate::specs::Walk::cells, crate::specs::Walk::read_all))]
+#[tactic(auto, unfolding(ada_stored::specs::Stored::bind, ada_stored::specs::Stored::ret, ada_stored::specs::Stored::leaves, ada_stored::specs::Stored::spent, ada_stored::specs::Stored::handles, crate::specs::Walk::pass, crate::specs::Walk::select, crate::specs::Walk::cells, run_parts::specs::Words::read_all))]
 pub fn pass<P: Port + Drop>(work: &Work<'_>, calls: u32, id: u32, env: &Env<'_>, passed: &mut Items<Passed>, store: &mut Store<P>) -> Result<(), End>
     ensures { ShowsAs (λ u. passed_list work.now passed.new) P.Tells (spec.pass work.now calls (actuals_at (nodes_of work.now) id) (env_of env.now) (passed_list work.now passed.old)) result store.old store.new }
 {

@@ -5,14 +5,14 @@ ghost use Rattle.ada_typed.specs.Decoded.{expr_at, selections_at, optional_at, a
 ghost use Rattle.run_store.specs.Environment.{env_of};
 ghost use Rattle.run_store.specs.Shows.{Shows};
 ghost use Rattle.ada_interpreter.specs.Walk as spec;
-ghost use Rattle.ada_interpreter.specs.Walk.{nodes_of};
+ghost use Rattle.run_parts.specs.Words.{nodes_of};
 
 use crate::actuals::pass;
 use crate::calls::call;
 use crate::names::select;
-use crate::work::Work;
 use ada_base::{Items, Op, Reason};
 use ada_typed::{Check, Class, Comparison, Expr, Root, Sign};
+use run_parts::Work;
 use run_store::{End, Env, Leave, Object, Port, Store, between, bit, compares, is_in, is_true};
 
 /// The value of an expression, where so many more calls may be active.

@@ -2,13 +2,13 @@
 #![tactic(auto, unfolding(ada_stored::specs::Stored::bind, ada_stored::specs::Stored::ret, ada_stored::specs::Stored::leaves, ada_stored::specs::Stored::spent, ada_stored::specs::Stored::handles))]
 
 pub mod actuals;
+pub mod bodies;
 pub mod calls;
-pub mod cells;
 pub mod courses;
 pub mod exprs;
+pub mod loops;
 pub mod names;
-pub mod passed;
+pub mod stmts;
 pub mod values;
-pub mod work;
 
-pub use work::Work;
+pub use run_parts::Work;

@@ -7,12 +7,12 @@ ghost use Rattle.run_store.specs.Shows.{ShowsAs, OrNoMemory};
 ghost use Rattle.ada_meaning.specs.Values.{to_nat};
 ghost use Rattle.ada_meaning.specs.Meaning as meaning;
 ghost use Rattle.ada_interpreter.specs.Walk as spec;
-ghost use Rattle.ada_interpreter.specs.Walk.{nodes_of};
+ghost use Rattle.run_parts.specs.Words.{nodes_of};
 
 use crate::exprs::eval;
-use crate::work::Work;
 use ada_base::Reason;
 use ada_typed::Selection;
+use run_parts::{Work, component, moved};
 use run_store::{End, Env, Leave, Part, Port, Range, Store, between};
 
 /// The part that selections lead to (4.1.1, 4.1.3).
@@ -57,28 +57,5 @@ fn index<P: Port + Drop>(work: &Work<'_>, calls: u32, at: u32, value: u32, range
         Ok(found)
     } else {
         Err(End::Left(Leave::Raises(Reason::ConstraintError)))
-    }
-}
-
-// a part so many cells further on
-pub(crate) fn moved(part: Part, count: u64) -> Result<Part, End>
-    ensures { OrNoMemory (λ inner. part_of inner ≡ meaning.moved (part_of part) count) result }
-{
-    match part.offset.checked_add(count) {
-        Some(offset) => Ok(Part { object: part.object, offset }),
-        None => Err(End::NoMemory),
-    }
-}
-
-// the component of an index
-fn component(part: Part, index: i64, low: i64, stride: u32) -> Result<Part, End>
-    ensures { OrNoMemory (λ inner. part_of inner ≡ meaning.moved (part_of part) (to_nat (index -ℤ low) * stride)) result }
-{
-    let Ok(place) = u64::try_from(i128::from(index) - i128::from(low)) else {
-        return Err(End::NoMemory);
-    };
-    match place.checked_mul(u64::from(stride)) {
-        Some(count) => moved(part, count),
-        None => Err(End::NoMemory),
     }
 }

@@ -5,14 +5,13 @@ ghost use Rattle.ada_typed.specs.Decoded.{expr_at, selections_at, value_at, comp
 ghost use Rattle.run_store.specs.Environment.{env_of, part_of};
 ghost use Rattle.run_store.specs.Shows.{Shows, ShowsAs, OrNoMemory};
 ghost use Rattle.ada_interpreter.specs.Walk as spec;
-ghost use Rattle.ada_interpreter.specs.Walk.{nodes_of};
+ghost use Rattle.run_parts.specs.Words.{nodes_of};
 
-use crate::cells::{lay, one, read_whole, turned, write_all, zeros};
 use crate::exprs::eval;
 use crate::names::select;
-use crate::work::Work;
 use ada_base::{Items, Reason};
 use ada_typed::{Check, Composite, Iterated, Leaf, Root, Run, Value};
+use run_parts::{Work, further, lay, one, placed, read_whole, turned, write_all, zeros};
 use run_store::{End, Env, Leave, Object, Part, Port, Store, is_in, is_true};
 
 /// The cells of what is stored.
@@ -51,7 +50,7 @@ fn number<P: Port + Drop>(work: &Work<'_>, calls: u32, check: Check, value: u32,
 /// The cells of an expression of an array or record type.
 #[cycle(walk)]
 #[inline(never)]
-#[tactic(auto, unfolding(ada_stored::specs::Stored::bind, ada_stored::specs::Stored::ret, ada_stored::specs::Stored::leaves, ada_stored::specs::Stored::spent, ada_stored::specs::Stored::handles, crate::specs::Walk::composite, crate::specs::Walk::associated, crate::specs::Walk::eval, crate::specs::Walk::select, crate::specs::Walk::read_all))]
+#[tactic(auto, unfolding(ada_stored::specs::Stored::bind, ada_stored::specs::Stored::ret, ada_stored::specs::Stored::leaves, ada_stored::specs::Stored::spent, ada_stored::specs::Stored::handles, crate::specs::Walk::composite, crate::specs::Walk::associated, crate::specs::Walk::eval, crate::specs::Walk::select, run_parts::specs::Words::read_all))]
 pub fn composite<P: Port + Drop>(work: &Work<'_>, calls: u32, id: u32, env: &Env<'_>, store: &mut Store<P>) -> Result<Items<i64>, End>
     ensures { Shows P.Tells (spec.composite work.now calls (composite_at (nodes_of work.now) id) (env_of env.now)) result store.old store.new }
 {
@@ -175,15 +174,6 @@ fn run_values<P: Port + Drop>(work: &Work<'_>, calls: u32, run: Run, iterated: O
     Ok(())
 }
 
-fn further(first: u64, stride: u32) -> Result<u64, End>
-    ensures { OrNoMemory (λ next. next ≡ first + stride) result }
-{
-    match first.checked_add(u64::from(stride)) {
-        Some(next) => Ok(next),
-        None => Err(End::NoMemory),
-    }
-}
-
 // the cells of one component of an association
 #[cycle(walk)]
 #[inline(never)]
@@ -206,19 +196,10 @@ fn given<P: Port + Drop>(work: &Work<'_>, calls: u32, iterated: Option<Iterated>
     }
 }
 
-fn placed(first: i64, index: u64) -> Result<i64, End>
-    ensures { OrNoMemory (λ place. place ≡ first +ℤ pos index) result }
-{
-    match i64::try_from(i128::from(first) + i128::from(index)) {
-        Ok(place) => Ok(place),
-        Err(_) => Err(End::NoMemory),
-    }
-}
-
 /// A part of a variable gets what is stored there (5.2).
 #[cycle(walk)]
 #[inline(never)]
-#[tactic(auto, unfolding(ada_stored::specs::Stored::bind, ada_stored::specs::Stored::ret, ada_stored::specs::Stored::leaves, ada_stored::specs::Stored::spent, ada_stored::specs::Stored::handles, crate::specs::Walk::cells, crate::specs::Walk::composite, crate::specs::Walk::eval, crate::specs::Walk::write_all))]
+#[tactic(auto, unfolding(ada_stored::specs::Stored::bind, ada_stored::specs::Stored::ret, ada_stored::specs::Stored::leaves, ada_stored::specs::Stored::spent, ada_stored::specs::Stored::handles, crate::specs::Walk::cells, crate::specs::Walk::composite, crate::specs::Walk::eval, run_parts::specs::Words::write_all))]
 fn assigned<P: Port + Drop>(work: &Work<'_>, calls: u32, id: u32, part: Part, env: &Env<'_>, store: &mut Store<P>) -> Result<(), End>
     ensures { Shows P.Tells (spec.assigned work.now calls (value_at (nodes_of work.now) id) (part_of part) (env_of env.now)) result store.old store.new }
 {

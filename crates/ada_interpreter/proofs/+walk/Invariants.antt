@@ -24,8 +24,8 @@ decreases-values::composite g l = 1208925819614629174706176 * l.calls + 10995116
 abbrev pub decreases-values::associated : goal.decreases-values::associated
 decreases-values::associated g l = 1208925819614629174706176 * l.calls + 1099511627776 * l.id + 274877906944
 
-abbrev pub decreases-courses::course : goal.decreases-courses::course
-decreases-courses::course g l = 1208925819614629174706176 * l.calls + 1099511627776 * l.id + 274877906944
+abbrev pub decreases-courses::begin_course : goal.decreases-courses::begin_course
+decreases-courses::begin_course g l = 1208925819614629174706176 * l.calls + 1099511627776 * l.id + 274877906944
 
 abbrev pub decreases-courses::filtered : goal.decreases-courses::filtered
 decreases-courses::filtered g l = 1208925819614629174706176 * l.calls + 1099511627776 * l.id + 274877906944

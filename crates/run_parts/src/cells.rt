@@ -1,11 +1,11 @@
 //! Cells of objects, many at a time.
 
-ghost use Rattle.std.specs.Prelude.{◌≡◌, ◌+◌, [], ◌∷◌, ◌++◌, length, slice_set};
+ghost use Rattle.std.specs.Prelude.{◌≡◌, ◌+◌, ◌+ℤ◌, pos, [], ◌∷◌, ◌++◌, length, slice_set};
 ghost use Rattle.ada_meaning.specs.Values.{zeros, laid};
 ghost use Rattle.run_store.specs.Shows.{Shows, entity_of, OrNoMemory};
-ghost use Rattle.ada_interpreter.specs.Passing.{shape_of};
-ghost use Rattle.ada_interpreter.specs.Walk as spec;
-ghost use Rattle.ada_interpreter.specs.Walk.{cells_at};
+ghost use Rattle.run_parts.specs.Passing.{shape_of};
+ghost use Rattle.run_parts.specs.Words as spec;
+ghost use Rattle.run_parts.specs.Words.{cells_at};
 
 use crate::passed::Shape;
 use crate::work::Work;
@@ -14,7 +14,7 @@ use run_store::{End, Object, Port, Store, cells_of};
 
 /// An iteration or a call begins.
 #[tactic(auto, unfolding(ada_stored::specs::Stored::bind, ada_stored::specs::Stored::ret, ada_stored::specs::Stored::turn))]
-pub(crate) fn turned<P: Port + Drop>(work: &Work<'_>, store: &mut Store<P>) -> Result<(), End>
+pub fn turned<P: Port + Drop>(work: &Work<'_>, store: &mut Store<P>) -> Result<(), End>
     ensures { Shows P.Tells (spec.turned work.now) result store.old store.new }
 {
     store.turn(work.limit)?;
@@ -22,7 +22,7 @@ pub(crate) fn turned<P: Port + Drop>(work: &Work<'_>, store: &mut Store<P>) -> R
 }
 
 /// The cells of an array or record from an offset on.
-pub(crate) fn read_whole<P: Port + Drop>(work: &Work<'_>, object: Object, offset: u64, subtype: u32, store: &Store<P>) -> Result<Items<i64>, End>
+pub fn read_whole<P: Port + Drop>(work: &Work<'_>, object: Object, offset: u64, subtype: u32, store: &Store<P>) -> Result<Items<i64>, End>
     ensures { Shows P.Tells (spec.read_all work.now (entity_of object) offset [] (cells_at work.now subtype)) result store.now store.now }
 {
     let count = cells_of(work.typed, subtype)?;
@@ -37,7 +37,7 @@ pub(crate) fn read_whole<P: Port + Drop>(work: &Work<'_>, object: Object, offset
 }
 
 /// Cells of a variable from an offset on get values.
-pub(crate) fn write_all<P: Port + Drop>(work: &Work<'_>, object: u32, offset: u64, values: &[i64], store: &mut Store<P>) -> Result<(), End>
+pub fn write_all<P: Port + Drop>(work: &Work<'_>, object: u32, offset: u64, values: &[i64], store: &mut Store<P>) -> Result<(), End>
     ensures { Shows P.Tells (spec.write_all work.now object offset values.now) result store.old store.new }
 {
     let _ = work;
@@ -60,7 +60,7 @@ fn next_offset(at: u64) -> Result<u64, End>
     }
 }
 
-pub(crate) fn push_value(values: &mut Items<i64>, value: i64) -> Result<(), End>
+pub fn push_value(values: &mut Items<i64>, value: i64) -> Result<(), End>
     ensures { OrNoMemory (λ done. values.new ≡ values.old ++ value ∷ []) result }
 {
     match values.push(value) {
@@ -70,7 +70,7 @@ pub(crate) fn push_value(values: &mut Items<i64>, value: i64) -> Result<(), End>
 }
 
 /// The list of one value.
-pub(crate) fn one(work: &Work<'_>, value: i64) -> Result<Items<i64>, End>
+pub fn one(work: &Work<'_>, value: i64) -> Result<Items<i64>, End>
     ensures { OrNoMemory (λ values. values ≡ value ∷ []) result }
 {
     let mut values = Items::new(work.alloc);
@@ -79,7 +79,7 @@ pub(crate) fn one(work: &Work<'_>, value: i64) -> Result<Items<i64>, End>
 }
 
 /// A list of zeros.
-pub(crate) fn zeros(work: &Work<'_>, count: u32) -> Result<Items<i64>, End>
+pub fn zeros(work: &Work<'_>, count: u32) -> Result<Items<i64>, End>
     ensures { OrNoMemory (λ values. values ≡ zeros count) result }
 {
     let mut values = Items::new(work.alloc);
@@ -90,7 +90,7 @@ pub(crate) fn zeros(work: &Work<'_>, count: u32) -> Result<Items<i64>, End>
 }
 
 /// Lays values over others, from a place on.
-pub(crate) fn lay(out: &mut Items<i64>, first: u64, values: &[i64])
+pub fn lay(out: &mut Items<i64>, first: u64, values: &[i64])
     ensures { out.new ≡ laid out.old first values.now }
 {
     let mut k = 0;
@@ -107,5 +107,25 @@ fn put_value(out: &mut Items<i64>, first: u64, index: usize, value: i64)
         if place < out.len() {
             out.set(place, value);
         }
+    }
+}
+
+/// The next component of a run.
+pub fn further(first: u64, stride: u32) -> Result<u64, End>
+    ensures { OrNoMemory (λ next. next ≡ first + stride) result }
+{
+    match first.checked_add(u64::from(stride)) {
+        Some(next) => Ok(next),
+        None => Err(End::NoMemory),
+    }
+}
+
+/// A value of an iterated association.
+pub fn placed(first: i64, index: u64) -> Result<i64, End>
+    ensures { OrNoMemory (λ place. place ≡ first +ℤ pos index) result }
+{
+    match i64::try_from(i128::from(first) + i128::from(index)) {
+        Ok(place) => Ok(place),
+        Err(_) => Err(End::NoMemory),
     }
 }

@@ -2,7 +2,7 @@
 
 ghost use Rattle.std.specs.Prelude.{◌≡◌, ◌∷◌, ◌++◌, []};
 ghost use Rattle.run_store.specs.Shows.{OrNoMemory};
-ghost use Rattle.ada_interpreter.specs.Passing.{passed_of, passed_list};
+ghost use Rattle.run_parts.specs.Passing.{passed_of, passed_list};
 
 use crate::work::Work;
 use ada_base::Items;
@@ -40,7 +40,7 @@ pub struct Returned {
 }
 
 /// One more actual parameter.
-pub(crate) fn push(work: &Work<'_>, passed: &mut Items<Passed>, one: Passed) -> Result<(), End>
+pub fn push(work: &Work<'_>, passed: &mut Items<Passed>, one: Passed) -> Result<(), End>
     ensures { OrNoMemory (λ u. passed_list work.now passed.new ≡ passed_list work.now passed.old ++ passed_of work.now one ∷ []) result }
 {
     let _ = work;

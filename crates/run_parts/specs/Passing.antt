@@ -6,15 +6,15 @@ use Rattle.ada_meaning.specs.Meaning as meaning
 use Rattle.ada_meaning.specs.Meaning.{Env, with_parameter, with_item, moved}
 use Rattle.run_store.specs.Environment.{part_of}
 use Rattle.run_store.specs.Shows.{entity_of}
-use Rattle.ada_interpreter.specs.declared.passed.Shape.{Shape}
-use Rattle.ada_interpreter.specs.declared.passed.Shape.TheVariants as shape
-use Rattle.ada_interpreter.specs.declared.passed.Back.{Back}
-use Rattle.ada_interpreter.specs.declared.passed.Passed.{Passed}
-use Rattle.ada_interpreter.specs.declared.passed.Returned.{Returned}
-use Rattle.ada_interpreter.specs.declared.courses.Course.{Course}
-use Rattle.ada_interpreter.specs.declared.courses.Course.TheVariants as course
-use Rattle.ada_interpreter.specs.declared.work.Work.{Work}
-use Rattle.ada_interpreter.specs.Walk.{cells_at}
+use Rattle.run_parts.specs.declared.passed.Shape.{Shape}
+use Rattle.run_parts.specs.declared.passed.Shape.TheVariants as shape
+use Rattle.run_parts.specs.declared.passed.Back.{Back}
+use Rattle.run_parts.specs.declared.passed.Passed.{Passed}
+use Rattle.run_parts.specs.declared.passed.Returned.{Returned}
+use Rattle.run_parts.specs.declared.courses.Course.{Course}
+use Rattle.run_parts.specs.declared.courses.Course.TheVariants as course
+use Rattle.run_parts.specs.declared.work.Work.{Work}
+use Rattle.run_parts.specs.Words.{cells_at}
 
 abbrev pub shape_of : Work → Shape → List Scalar
 shape_of w (shape.Single s) = s ∷ []

@@ -1,0 +1,83 @@
+-- What is computed beside the walk over nodes.
+use Rattle.std.specs.Prelude.{ℕ, suc, ℤ, pos, ◌*◌, ◌-ℤ◌, int_le, ◌&&◌, Bool, not, true, false, List, [], ◌∷◌, ◌++◌, slice_get, Option, Some, None, cond}
+use Rattle.ada_base.specs.declared.operation.Op.{Op}
+use Rattle.ada_base.specs.Cuts.{One, cuts_of}
+use Rattle.ada_base.specs.declared.reason.Reason.{Reason}
+use Rattle.ada_base.specs.declared.reason.Reason.TheVariants as reason
+use Rattle.ada_typed.specs.declared.program.Object.{Object}
+use Rattle.behaviours.specs.Doings.{through}
+use Rattle.behaviours.specs.Paths.{Entity, VariableOf, ConstantOf, Region, Here, Exits, Returns, Raises}
+use Rattle.ada_typed.specs.declared.node.Node.{Node}
+use Rattle.ada_typed.specs.declared.scalars.Class.{Class}
+use Rattle.ada_typed.specs.declared.scalars.Scalar.{Scalar}
+use Rattle.ada_typed.specs.declared.scalars.Check.{Check}
+use Rattle.ada_typed.specs.declared.scalars.Comparison.{Comparison}
+use Rattle.ada_typed.specs.declared.expressions.Sign.{Sign}
+use Rattle.ada_typed.specs.declared.expressions.Root.{Root}
+use Rattle.ada_typed.specs.declared.expressions.Run.{Run}
+use Rattle.ada_typed.specs.declared.expressions.Iterated.{Iterated}
+use Rattle.ada_typed.specs.Syntax.{Expr, Optional, Selections, Actuals, Value, Composite, Associations, Iteration, Stmt, Stmts, Alternatives, Handlers, Decls, Body, Sub, Program}
+use Rattle.ada_typed.specs.Programs.{program}
+use Rattle.ada_meaning.specs.Values.{truth, bit, compares, between, to_nat, layout, is_in, defaults}
+use Rattle.ada_meaning.specs.Operations.{Operations, IndexCheck, operate}
+use Rattle.ada_meaning.specs.Meaning as meaning
+use Rattle.ada_meaning.specs.Meaning.{Env, Part, Passed, Returned, Back, Course, variable_root, constant_root, moved, with_target, iterated_env, outset, returns, exits, value_of, sub_at}
+use Rattle.ada_stored.specs.Stored
+use Rattle.ada_stored.specs.Stored.{Stored, doings, bind, ret, leaves, handles, apart, reads, checks}
+use Rattle.run_store.specs.Operating.{unary_then}
+use Rattle.run_parts.specs.declared.work.Work.{Work}
+
+abbrev pub nodes_of : Work → List Node
+nodes_of w = w.typed.now.nodes
+
+abbrev pub ops : Work → Operations {1}
+ops w = Stored.operations w.limit (cuts_of One)
+
+-- ---- shut: only the function that goes by a form sees into them
+
+unfoldable pub calls_of : Work → ℕ → ℕ → ℕ → Stored (Unit {0}) → List Passed → Stored Returned
+calls_of w d = meaning.call (ops w) w.limit (program w.typed.now) d
+
+abbrev pub cells_at : Work → ℕ → List Scalar
+cells_at w n = layout (program w.typed.now).subtypes n
+
+abbrev pub turned : Work → Stored (Unit {0})
+turned w = meaning.turned (ops w)
+
+abbrev pub bounds_hold : Option Check → ℤ → ℤ → Bool
+bounds_hold None low high = true
+bounds_hold (Some c) low high = cond (int_le low high) (is_in c.scalar low && is_in c.scalar high) true
+
+abbrev pub holds_back : Option Check → List ℤ → Bool
+holds_back None vs = true
+holds_back (Some c) [] = true
+holds_back (Some c) (v ∷ vs) = is_in c.scalar v
+
+abbrev pub defaults_at : Work → Option Object → List ℤ
+defaults_at w None = []
+defaults_at w (Some o) = defaults (cells_at w o.subtype)
+
+-- the cells of a variable without an initial value
+abbrev pub object_defaults : Work → ℕ → List ℤ
+object_defaults w x = defaults_at w (slice_get w.typed.now.objects x)
+
+unfoldable pub write_all : Work → ℕ → ℕ → List ℤ → Stored (Unit {0})
+write_all w x at vs = meaning.write_all (ops w) x at vs
+
+unfoldable pub read_all : Work → Entity → ℕ → List ℤ → List Scalar → Stored (List ℤ)
+read_all w x at so_far ss = meaning.read_all (ops w) x at so_far ss
+
+abbrev pub cells_back : Work → Entity → Option Back → Stored (List ℤ)
+cells_back w x None = ret []
+cells_back w x (Some b) = read_all w x 0 [] b.cells
+
+unfoldable pub back_cells : Work → List Passed → List (List ℤ) → Stored (List (List ℤ))
+back_cells w ps so_far = meaning.back_cells (ops w) w.limit (program w.typed.now) ps so_far
+
+module _ (w : Work) (d : ℕ) where
+  abbrev pub copied_back : Option Back → List ℤ → Stored (Unit {0})
+  copied_back b vs = meaning.copied_back (ops w) w.limit (program w.typed.now) (calls_of w d) b vs
+
+  unfoldable pub all_copied_back : List Passed → List (List ℤ) → Stored (Unit {0})
+  all_copied_back ps vss = meaning.all_copied_back (ops w) w.limit (program w.typed.now) (calls_of w d) ps vss
+

@@ -1,0 +1,130 @@
+//! Copies into and out of calls (6.4.1), and first cells of objects.
+
+ghost use Rattle.std.specs.Prelude.{◌≡◌, ◌++◌, ◌∷◌, [], option_map};
+ghost use Rattle.ada_typed.specs.Programs.{program, sub_of};
+ghost use Rattle.ada_meaning.specs.Meaning as meaning;
+ghost use Rattle.run_store.specs.Shows.{Shows, ShowsAs, OrNoMemory, entity_of};
+ghost use Rattle.run_parts.specs.Passing.{passed_list, back_option};
+ghost use Rattle.run_parts.specs.Words as spec;
+ghost use Rattle.run_parts.specs.Words.{object_defaults};
+
+use crate::cells::{one, read_whole, write_all};
+use crate::passed::{Back, Passed, Shape};
+use crate::work::Work;
+use ada_base::{Items, Reason};
+use ada_typed::{Check, Sub};
+use run_store::{End, Leave, Object, Port, Store, defaults_of, is_in};
+
+/// The subprogram of a number.
+pub fn find_sub(work: &Work<'_>, number: u32) -> Option<Sub>
+    ensures { meaning.sub_at (program work.now.typed.now).subs number ≡ option_map (sub_of work.now.typed.now.nodes) result }
+{
+    work.typed.sub(number)
+}
+
+/// The cells of the formals that are copied back, behind others.
+#[tactic(auto, unfolding(ada_stored::specs::Stored::bind, ada_stored::specs::Stored::ret, ada_stored::specs::Stored::leaves, ada_stored::specs::Stored::spent, ada_stored::specs::Stored::handles, crate::specs::Words::back_cells))]
+pub fn back_cells<P: Port + Drop>(work: &Work<'_>, passed: &[Passed], out: &mut Items<Items<i64>>, store: &Store<P>) -> Result<(), End>
+    ensures { ShowsAs (λ u. out.new) P.Tells (spec.back_cells work.now (passed_list work.now passed.now) out.old) result store.now store.now }
+{
+    match passed.split_first() {
+        None => Ok(()),
+        Some((first, rest)) => {
+            let cells = cells_back(work, first.formal, first.back, store)?;
+            push_cells(out, cells)?;
+            back_cells(work, rest, out, store)?;
+            Ok(())
+        }
+    }
+}
+
+#[tactic(auto, unfolding(ada_stored::specs::Stored::bind, ada_stored::specs::Stored::ret, ada_stored::specs::Stored::leaves, ada_stored::specs::Stored::spent, ada_stored::specs::Stored::handles, crate::specs::Words::read_all))]
+fn cells_back<P: Port + Drop>(work: &Work<'_>, formal: Object, back: Option<Back>, store: &Store<P>) -> Result<Items<i64>, End>
+    ensures { Shows P.Tells (spec.cells_back work.now (entity_of formal) (back_option work.now back)) result store.now store.now }
+{
+    match back {
+        None => Ok(Items::new(work.alloc)),
+        Some(back) => match back.shape {
+            Shape::Single(_) => {
+                let value = store.read(formal, 0)?;
+                let values = one(work, value)?;
+                Ok(values)
+            }
+            Shape::Whole(subtype) => {
+                let values = read_whole(work, formal, 0, subtype, store)?;
+                Ok(values)
+            }
+        },
+    }
+}
+
+fn push_cells(out: &mut Items<Items<i64>>, cells: Items<i64>) -> Result<(), End>
+    ensures { OrNoMemory (λ u. out.new ≡ out.old ++ cells ∷ []) result }
+{
+    match out.push(cells) {
+        Ok(()) => Ok(()),
+        Err(_) => Err(End::NoMemory),
+    }
+}
+
+/// What is copied back after a call, from left to right.
+#[tactic(auto, unfolding(ada_stored::specs::Stored::bind, ada_stored::specs::Stored::ret, ada_stored::specs::Stored::leaves, ada_stored::specs::Stored::spent, ada_stored::specs::Stored::handles, crate::specs::Words::all_copied_back))]
+pub fn all_copied_back<P: Port + Drop>(work: &Work<'_>, calls: u32, passed: &[Passed], cells: &[Items<i64>], store: &mut Store<P>) -> Result<(), End>
+    ensures { Shows P.Tells (spec.all_copied_back work.now calls (passed_list work.now passed.now) cells.now) result store.old store.new }
+{
+    match passed.split_first() {
+        None => Ok(()),
+        Some((first, rest)) => match cells.split_first() {
+            None => Ok(()),
+            Some((values, others)) => {
+                copied_back(work, calls, first.back, values.as_slice(), store)?;
+                all_copied_back(work, calls, rest, others, store)?;
+                Ok(())
+            }
+        },
+    }
+}
+
+#[tactic(auto, unfolding(ada_stored::specs::Stored::bind, ada_stored::specs::Stored::ret, ada_stored::specs::Stored::leaves, ada_stored::specs::Stored::spent, ada_stored::specs::Stored::handles, crate::specs::Words::write_all))]
+fn copied_back<P: Port + Drop>(work: &Work<'_>, calls: u32, back: Option<Back>, values: &[i64], store: &mut Store<P>) -> Result<(), End>
+    ensures { Shows P.Tells (spec.copied_back work.now calls (back_option work.now back) values.now) result store.old store.new }
+{
+    match back {
+        None => Ok(()),
+        Some(back) => {
+            if holds_back(back.check, values) {
+                write_all(work, back.part.object, back.part.offset, values, store)?;
+                Ok(())
+            } else {
+                Err(End::Left(Leave::Raises(Reason::ConstraintError)))
+            }
+        }
+    }
+}
+
+fn holds_back(check: Option<Check>, values: &[i64]) -> bool
+    ensures { result ≡ spec.holds_back check values.now }
+{
+    match check {
+        None => true,
+        Some(check) => match values.split_first() {
+            None => true,
+            Some((first, _)) => is_in(check.scalar, *first),
+        },
+    }
+}
+
+/// The cells of a variable without an initial value.
+pub fn first_cells(work: &Work<'_>, object: u32) -> Result<Items<i64>, End>
+    ensures { OrNoMemory (λ values. values ≡ object_defaults work.now object) result }
+{
+    let mut values = Items::new(work.alloc);
+    match work.typed.objects.get(object as usize) {
+        None => Ok(values),
+        Some(object) => {
+            defaults_of(work.typed, object.subtype, &mut values)?;
+            Ok(values)
+        }
+    }
+}
+

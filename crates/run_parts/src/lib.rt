@@ -1,0 +1,21 @@
+//! What a walk over a program's nodes uses beside that walk: cells of objects, what calls and iterations hold, and what a
+//! reason or a value leads to.
+#![tactic(auto, unfolding(ada_stored::specs::Stored::bind, ada_stored::specs::Stored::ret, ada_stored::specs::Stored::leaves, ada_stored::specs::Stored::spent, ada_stored::specs::Stored::handles))]
+
+pub mod cells;
+pub mod copies;
+pub mod courses;
+pub mod finding;
+pub mod leaving;
+pub mod offsets;
+pub mod passed;
+pub mod work;
+
+pub use cells::{further, lay, one, placed, read_whole, turned, write_all, zeros};
+pub use copies::{all_copied_back, back_cells, find_sub, first_cells};
+pub use courses::{Course, bounds_hold};
+pub use finding::{find_alternative, find_handler};
+pub use leaving::caught;
+pub use offsets::{component, moved};
+pub use passed::{Back, Passed, Returned, Shape, push};
+pub use work::Work;
