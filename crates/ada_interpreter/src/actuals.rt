@@ -19,31 +19,31 @@ use run_store::{End, Env, Leave, Object, Port, Store, is_in};
 #[cycle(walk)]
 #[inline(never)]
 #[tactic(auto, unfolding(ada_stored::specs::Stored::bind, ada_stored::specs::Stored::ret, ada_stored::specs::Stored::leaves, ada_stored::specs::Stored::spent, ada_stored::specs::Stored::handles, crate::specs::Walk::pass, crate::specs::Walk::select, crate::specs::Walk::cells, run_parts::specs::Words::read_all))]
-pub fn pass<P: Port + Drop>(work: &Work<'_>, calls: u32, id: u32, env: &Env<'_>, passed: &mut Items<Passed>, store: &mut Store<P>) -> Result<(), End>
-    ensures { ShowsAs (λ u. passed_list work.now passed.new) P.Tells (spec.pass work.now calls (actuals_at (nodes_of work.now) id) (env_of env.now) (passed_list work.now passed.old)) result store.old store.new }
+pub fn pass<P: Port + Drop>(work: &Work<'_>, calls: u32, id: u32, env: &Env<'_>, passed: Items<Passed>, store: &mut Store<P>) -> Result<Items<Passed>, End>
+    ensures { ShowsAs (passed_list work.now) P.Tells (spec.pass work.now calls (actuals_at (nodes_of work.now) id) (env_of env.now) (passed_list work.now passed)) result store.old store.new }
 {
     match work.typed.nodes.actuals(id) {
-        None => Ok(()),
+        None => Ok(passed),
         Some(cell) => match work.typed.nodes.actual(cell.first) {
             None => {
-                pass(work, calls, cell.rest, env, passed, store)?;
-                Ok(())
+                let all = pass(work, calls, cell.rest, env, passed, store)?;
+                Ok(all)
             }
             Some(Actual::In { formal, value }) => {
-                pass_in(work, calls, formal, value, cell.rest, env, passed, store)?;
-                Ok(())
+                let all = pass_in(work, calls, formal, value, cell.rest, env, passed, store)?;
+                Ok(all)
             }
             Some(Actual::InOut { formal, at, root, selections, inside, outside }) => {
-                pass_in_out(work, calls, formal, at, root, selections, work.typed.nodes.scalar(inside), work.typed.nodes.scalar(outside), cell.rest, env, passed, store)?;
-                Ok(())
+                let all = pass_in_out(work, calls, formal, at, root, selections, work.typed.nodes.scalar(inside), work.typed.nodes.scalar(outside), cell.rest, env, passed, store)?;
+                Ok(all)
             }
             Some(Actual::Out { formal, at, root, selections, inside, outside }) => {
-                pass_out(work, calls, formal, at, root, selections, work.typed.nodes.scalar(inside), work.typed.nodes.scalar(outside), cell.rest, env, passed, store)?;
-                Ok(())
+                let all = pass_out(work, calls, formal, at, root, selections, work.typed.nodes.scalar(inside), work.typed.nodes.scalar(outside), cell.rest, env, passed, store)?;
+                Ok(all)
             }
             Some(Actual::CompositeInOut { formal, root, selections, subtype, .. } | Actual::CompositeOut { formal, root, selections, subtype, .. }) => {
-                pass_whole(work, calls, formal, root, selections, subtype, cell.rest, env, passed, store)?;
-                Ok(())
+                let all = pass_whole(work, calls, formal, root, selections, subtype, cell.rest, env, passed, store)?;
+                Ok(all)
             }
         },
     }
@@ -51,13 +51,13 @@ pub fn pass<P: Port + Drop>(work: &Work<'_>, calls: u32, id: u32, env: &Env<'_>,
 
 #[cycle(walk)]
 #[inline(never)]
-fn pass_in<P: Port + Drop>(work: &Work<'_>, calls: u32, formal: u32, value: u32, rest: u32, env: &Env<'_>, passed: &mut Items<Passed>, store: &mut Store<P>) -> Result<(), End>
-    ensures { ShowsAs (λ u. passed_list work.now passed.new) P.Tells (spec.pass_in work.now calls formal (value_at (nodes_of work.now) value) (actuals_at (nodes_of work.now) rest) (env_of env.now) (passed_list work.now passed.old)) result store.old store.new }
+fn pass_in<P: Port + Drop>(work: &Work<'_>, calls: u32, formal: u32, value: u32, rest: u32, env: &Env<'_>, passed: Items<Passed>, store: &mut Store<P>) -> Result<Items<Passed>, End>
+    ensures { ShowsAs (passed_list work.now) P.Tells (spec.pass_in work.now calls formal (value_at (nodes_of work.now) value) (actuals_at (nodes_of work.now) rest) (env_of env.now) (passed_list work.now passed)) result store.old store.new }
 {
     let values = cells(work, calls, value, env, store)?;
-    push(work, passed, Passed { formal: Object::Constant(formal), cells: values, back: None })?;
-    pass(work, calls, rest, env, passed, store)?;
-    Ok(())
+    let more = push(work, passed, Passed { formal: Object::Constant(formal), cells: values, back: None })?;
+    let all = pass(work, calls, rest, env, more, store)?;
+    Ok(all)
 }
 
 #[cycle(walk)]
@@ -73,19 +73,19 @@ fn pass_in_out<P: Port + Drop>(
     outside: Scalar,
     rest: u32,
     env: &Env<'_>,
-    passed: &mut Items<Passed>,
+    passed: Items<Passed>,
     store: &mut Store<P>,
-) -> Result<(), End>
-    ensures { ShowsAs (λ u. passed_list work.now passed.new) P.Tells (spec.pass_in_out work.now calls formal at root (selections_at (nodes_of work.now) selections) inside outside (actuals_at (nodes_of work.now) rest) (env_of env.now) (passed_list work.now passed.old)) result store.old store.new }
+) -> Result<Items<Passed>, End>
+    ensures { ShowsAs (passed_list work.now) P.Tells (spec.pass_in_out work.now calls formal at root (selections_at (nodes_of work.now) selections) inside outside (actuals_at (nodes_of work.now) rest) (env_of env.now) (passed_list work.now passed)) result store.old store.new }
 {
     let part = select(work, calls, selections, env, env.variable_root(root), store)?;
     let value = store.read(Object::Variable(part.object), part.offset)?;
     if is_in(inside, value) {
         let values = one(work, value)?;
         let back = Back { part, shape: Shape::Single(inside), check: Some(Check { at, scalar: outside }) };
-        push(work, passed, Passed { formal: Object::Variable(formal), cells: values, back: Some(back) })?;
-        pass(work, calls, rest, env, passed, store)?;
-        Ok(())
+        let more = push(work, passed, Passed { formal: Object::Variable(formal), cells: values, back: Some(back) })?;
+        let all = pass(work, calls, rest, env, more, store)?;
+        Ok(all)
     } else {
         Err(End::Left(Leave::Raises(Reason::ConstraintError)))
     }
@@ -104,17 +104,17 @@ fn pass_out<P: Port + Drop>(
     outside: Scalar,
     rest: u32,
     env: &Env<'_>,
-    passed: &mut Items<Passed>,
+    passed: Items<Passed>,
     store: &mut Store<P>,
-) -> Result<(), End>
-    ensures { ShowsAs (λ u. passed_list work.now passed.new) P.Tells (spec.pass_out work.now calls formal at root (selections_at (nodes_of work.now) selections) inside outside (actuals_at (nodes_of work.now) rest) (env_of env.now) (passed_list work.now passed.old)) result store.old store.new }
+) -> Result<Items<Passed>, End>
+    ensures { ShowsAs (passed_list work.now) P.Tells (spec.pass_out work.now calls formal at root (selections_at (nodes_of work.now) selections) inside outside (actuals_at (nodes_of work.now) rest) (env_of env.now) (passed_list work.now passed)) result store.old store.new }
 {
     let part = select(work, calls, selections, env, env.variable_root(root), store)?;
     let values = one(work, inside.low)?;
     let back = Back { part, shape: Shape::Single(inside), check: Some(Check { at, scalar: outside }) };
-    push(work, passed, Passed { formal: Object::Variable(formal), cells: values, back: Some(back) })?;
-    pass(work, calls, rest, env, passed, store)?;
-    Ok(())
+    let more = push(work, passed, Passed { formal: Object::Variable(formal), cells: values, back: Some(back) })?;
+    let all = pass(work, calls, rest, env, more, store)?;
+    Ok(all)
 }
 
 #[cycle(walk)]
@@ -128,15 +128,15 @@ fn pass_whole<P: Port + Drop>(
     subtype: u32,
     rest: u32,
     env: &Env<'_>,
-    passed: &mut Items<Passed>,
+    passed: Items<Passed>,
     store: &mut Store<P>,
-) -> Result<(), End>
-    ensures { ShowsAs (λ u. passed_list work.now passed.new) P.Tells (spec.pass_whole work.now calls formal root (selections_at (nodes_of work.now) selections) subtype (actuals_at (nodes_of work.now) rest) (env_of env.now) (passed_list work.now passed.old)) result store.old store.new }
+) -> Result<Items<Passed>, End>
+    ensures { ShowsAs (passed_list work.now) P.Tells (spec.pass_whole work.now calls formal root (selections_at (nodes_of work.now) selections) subtype (actuals_at (nodes_of work.now) rest) (env_of env.now) (passed_list work.now passed)) result store.old store.new }
 {
     let part = select(work, calls, selections, env, env.variable_root(root), store)?;
     let values = read_whole(work, Object::Variable(part.object), part.offset, subtype, store)?;
     let back = Back { part, shape: Shape::Whole(subtype), check: None };
-    push(work, passed, Passed { formal: Object::Variable(formal), cells: values, back: Some(back) })?;
-    pass(work, calls, rest, env, passed, store)?;
-    Ok(())
+    let more = push(work, passed, Passed { formal: Object::Variable(formal), cells: values, back: Some(back) })?;
+    let all = pass(work, calls, rest, env, more, store)?;
+    Ok(all)
 }

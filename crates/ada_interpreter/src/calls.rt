@@ -75,8 +75,7 @@ fn carried_out<P: Port + Drop>(work: &Work<'_>, calls: u32, nested: u32, sub: Su
     ensures { ShowsAs returned_of P.Tells (spec.carried_out work.now calls (sub_of work.now.typed.now.nodes sub) nested (passed_list work.now all.now)) result store.old store.new }
 {
     let value = function_value(work, calls, nested, sub, store)?;
-    let mut cells = Items::new(work.alloc);
-    back_cells(work, all, &mut cells, store)?;
+    let cells = back_cells(work, all, Items::new(work.alloc), store)?;
     Ok(Returned { value, cells })
 }
 

@@ -184,8 +184,7 @@ pub fn holds<P: Port + Drop>(work: &Work<'_>, calls: u32, id: u32, env: &Env<'_>
 fn call_function<P: Port + Drop>(work: &Work<'_>, calls: u32, sub: u32, actuals: u32, env: &Env<'_>, store: &mut Store<P>) -> Result<i64, End>
     ensures { Shows P.Tells (spec.call_function work.now calls sub (actuals_at (nodes_of work.now) actuals) (env_of env.now)) result store.old store.new }
 {
-    let mut passed = Items::new(work.alloc);
-    pass(work, calls, actuals, env, &mut passed, store)?;
+    let passed = pass(work, calls, actuals, env, Items::new(work.alloc), store)?;
     let returned = call(work, calls, env.nested(), sub, passed.as_slice(), store)?;
     Ok(returned.value)
 }

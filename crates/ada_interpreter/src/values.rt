@@ -73,8 +73,8 @@ pub fn composite<P: Port + Drop>(work: &Work<'_>, calls: u32, id: u32, env: &Env
             Ok(values)
         }
         Composite::Aggregate { cells: count, associations, .. } => {
-            let mut values = zeros(work, count)?;
-            associated(work, calls, associations, env, &mut values, store)?;
+            let first = zeros(work, count)?;
+            let values = associated(work, calls, associations, env, first, store)?;
             Ok(values)
         }
     }
@@ -119,20 +119,20 @@ fn composite_if<P: Port + Drop>(work: &Work<'_>, calls: u32, condition: u32, val
 #[cycle(walk)]
 #[inline(never)]
 #[tactic(auto, unfolding(ada_stored::specs::Stored::bind, ada_stored::specs::Stored::ret, ada_stored::specs::Stored::leaves, ada_stored::specs::Stored::spent, ada_stored::specs::Stored::handles, crate::specs::Walk::associated, crate::specs::Walk::runs_values, crate::specs::Walk::cells))]
-fn associated<P: Port + Drop>(work: &Work<'_>, calls: u32, id: u32, env: &Env<'_>, out: &mut Items<i64>, store: &mut Store<P>) -> Result<(), End>
-    ensures { ShowsAs (λ u. out.new) P.Tells (spec.associated work.now calls (associations_at (nodes_of work.now) id) (env_of env.now) out.old) result store.old store.new }
+fn associated<P: Port + Drop>(work: &Work<'_>, calls: u32, id: u32, env: &Env<'_>, out: Items<i64>, store: &mut Store<P>) -> Result<Items<i64>, End>
+    ensures { Shows P.Tells (spec.associated work.now calls (associations_at (nodes_of work.now) id) (env_of env.now) out) result store.old store.new }
 {
     match work.typed.nodes.associations(id) {
-        None => Ok(()),
+        None => Ok(out),
         Some(cell) => match work.typed.nodes.association(cell.first) {
             None => {
-                associated(work, calls, cell.rest, env, out, store)?;
-                Ok(())
+                let all = associated(work, calls, cell.rest, env, out, store)?;
+                Ok(all)
             }
             Some(association) => {
-                runs_values(work, calls, association.runs, association.iterated, association.value, env, out, store)?;
-                associated(work, calls, cell.rest, env, out, store)?;
-                Ok(())
+                let more = runs_values(work, calls, association.runs, association.iterated, association.value, env, out, store)?;
+                let all = associated(work, calls, cell.rest, env, more, store)?;
+                Ok(all)
             }
         },
     }
@@ -141,20 +141,20 @@ fn associated<P: Port + Drop>(work: &Work<'_>, calls: u32, id: u32, env: &Env<'_
 #[cycle(walk)]
 #[inline(never)]
 #[tactic(auto, unfolding(ada_stored::specs::Stored::bind, ada_stored::specs::Stored::ret, ada_stored::specs::Stored::leaves, ada_stored::specs::Stored::spent, ada_stored::specs::Stored::handles, crate::specs::Walk::runs_values, crate::specs::Walk::run_values))]
-fn runs_values<P: Port + Drop>(work: &Work<'_>, calls: u32, runs: u32, iterated: Option<Iterated>, value: u32, env: &Env<'_>, out: &mut Items<i64>, store: &mut Store<P>) -> Result<(), End>
-    ensures { ShowsAs (λ u. out.new) P.Tells (spec.runs_values work.now calls (runs_in (leaves_at (nodes_of work.now) runs)) iterated (value_at (nodes_of work.now) value) (env_of env.now) out.old) result store.old store.new }
+fn runs_values<P: Port + Drop>(work: &Work<'_>, calls: u32, runs: u32, iterated: Option<Iterated>, value: u32, env: &Env<'_>, out: Items<i64>, store: &mut Store<P>) -> Result<Items<i64>, End>
+    ensures { Shows P.Tells (spec.runs_values work.now calls (runs_in (leaves_at (nodes_of work.now) runs)) iterated (value_at (nodes_of work.now) value) (env_of env.now) out) result store.old store.new }
 {
     match work.typed.nodes.leaf(runs) {
-        None => Ok(()),
+        None => Ok(out),
         Some(cell) => match cell.leaf {
             Leaf::Run(run) => {
-                run_values(work, calls, run, iterated, value, env, out, store)?;
-                runs_values(work, calls, cell.rest, iterated, value, env, out, store)?;
-                Ok(())
+                let more = run_values(work, calls, run, iterated, value, env, out, store)?;
+                let all = runs_values(work, calls, cell.rest, iterated, value, env, more, store)?;
+                Ok(all)
             }
             _ => {
-                runs_values(work, calls, cell.rest, iterated, value, env, out, store)?;
-                Ok(())
+                let all = runs_values(work, calls, cell.rest, iterated, value, env, out, store)?;
+                Ok(all)
             }
         },
     }
@@ -162,16 +162,17 @@ fn runs_values<P: Port + Drop>(work: &Work<'_>, calls: u32, runs: u32, iterated:
 
 #[cycle(walk)]
 #[inline(never)]
-fn run_values<P: Port + Drop>(work: &Work<'_>, calls: u32, run: Run, iterated: Option<Iterated>, value: u32, env: &Env<'_>, out: &mut Items<i64>, store: &mut Store<P>) -> Result<(), End>
-    ensures { ShowsAs (λ u. out.new) P.Tells (spec.run_values work.now calls 0 run.count run.first run.stride iterated (value_at (nodes_of work.now) value) (env_of env.now) out.old) result store.old store.new }
+fn run_values<P: Port + Drop>(work: &Work<'_>, calls: u32, run: Run, iterated: Option<Iterated>, value: u32, env: &Env<'_>, out: Items<i64>, store: &mut Store<P>) -> Result<Items<i64>, End>
+    ensures { Shows P.Tells (spec.run_values work.now calls 0 run.count run.first run.stride iterated (value_at (nodes_of work.now) value) (env_of env.now) out) result store.old store.new }
 {
+    let mut cells = out;
     let mut first = u64::from(run.first);
     for k in 0..u64::from(run.count) {
         let values = given(work, calls, iterated, k, value, env, store)?;
-        lay(out, first, values.as_slice());
+        lay(&mut cells, first, values.as_slice());
         first = further(first, run.stride)?;
     }
-    Ok(())
+    Ok(cells)
 }
 
 // the cells of one component of an association

@@ -1,5 +1,5 @@
 -- What code holds of actual parameters, calls and iterations.
-use Rattle.std.specs.Prelude.{◌≡◌, ℕ, ℤ, ◌+◌, ◌*◌, ◌+ℤ◌, ◌-ℤ◌, pos, List, [], ◌∷◌, ◌++◌, map, Option, Some, None, Bool, cond, Result, Ok, Err}
+use Rattle.std.specs.Prelude.{◌*◌, ◌+ℤ◌, ◌-ℤ◌, pos, List, [], ◌∷◌, map, Option, Some, None, cond}
 use Rattle.ada_typed.specs.declared.scalars.Scalar.{Scalar}
 use Rattle.ada_meaning.specs.Values.{count}
 use Rattle.ada_meaning.specs.Meaning as meaning

@@ -1,30 +1,18 @@
 -- What is computed beside the walk over nodes.
-use Rattle.std.specs.Prelude.{ℕ, suc, ℤ, pos, ◌*◌, ◌-ℤ◌, int_le, ◌&&◌, Bool, not, true, false, List, [], ◌∷◌, ◌++◌, slice_get, Option, Some, None, cond}
-use Rattle.ada_base.specs.declared.operation.Op.{Op}
+use Rattle.std.specs.Prelude.{ℕ, ℤ, int_le, ◌&&◌, Bool, true, List, [], ◌∷◌, slice_get, Option, Some, None, cond}
 use Rattle.ada_base.specs.Cuts.{One, cuts_of}
-use Rattle.ada_base.specs.declared.reason.Reason.{Reason}
-use Rattle.ada_base.specs.declared.reason.Reason.TheVariants as reason
 use Rattle.ada_typed.specs.declared.program.Object.{Object}
-use Rattle.behaviours.specs.Doings.{through}
-use Rattle.behaviours.specs.Paths.{Entity, VariableOf, ConstantOf, Region, Here, Exits, Returns, Raises}
+use Rattle.behaviours.specs.Paths.{Entity}
 use Rattle.ada_typed.specs.declared.node.Node.{Node}
-use Rattle.ada_typed.specs.declared.scalars.Class.{Class}
 use Rattle.ada_typed.specs.declared.scalars.Scalar.{Scalar}
 use Rattle.ada_typed.specs.declared.scalars.Check.{Check}
-use Rattle.ada_typed.specs.declared.scalars.Comparison.{Comparison}
-use Rattle.ada_typed.specs.declared.expressions.Sign.{Sign}
-use Rattle.ada_typed.specs.declared.expressions.Root.{Root}
-use Rattle.ada_typed.specs.declared.expressions.Run.{Run}
-use Rattle.ada_typed.specs.declared.expressions.Iterated.{Iterated}
-use Rattle.ada_typed.specs.Syntax.{Expr, Optional, Selections, Actuals, Value, Composite, Associations, Iteration, Stmt, Stmts, Alternatives, Handlers, Decls, Body, Sub, Program}
 use Rattle.ada_typed.specs.Programs.{program}
-use Rattle.ada_meaning.specs.Values.{truth, bit, compares, between, to_nat, layout, is_in, defaults}
-use Rattle.ada_meaning.specs.Operations.{Operations, IndexCheck, operate}
+use Rattle.ada_meaning.specs.Values.{layout, is_in, defaults}
+use Rattle.ada_meaning.specs.Operations.{Operations}
 use Rattle.ada_meaning.specs.Meaning as meaning
 use Rattle.ada_meaning.specs.Meaning.{Env, Part, Passed, Returned, Back, Course, variable_root, constant_root, moved, with_target, iterated_env, outset, returns, exits, value_of, sub_at}
 use Rattle.ada_stored.specs.Stored
 use Rattle.ada_stored.specs.Stored.{Stored, doings, bind, ret, leaves, handles, apart, reads, checks}
-use Rattle.run_store.specs.Operating.{unary_then}
 use Rattle.run_parts.specs.declared.work.Work.{Work}
 
 abbrev pub nodes_of : Work → List Node
@@ -68,8 +56,7 @@ unfoldable pub read_all : Work → Entity → ℕ → List ℤ → List Scalar �
 read_all w x at so_far ss = meaning.read_all (ops w) x at so_far ss
 
 abbrev pub cells_back : Work → Entity → Option Back → Stored (List ℤ)
-cells_back w x None = ret []
-cells_back w x (Some b) = read_all w x 0 [] b.cells
+cells_back w x back = meaning.cells_back (ops w) w.limit (program w.typed.now) x back
 
 unfoldable pub back_cells : Work → List Passed → List (List ℤ) → Stored (List (List ℤ))
 back_cells w ps so_far = meaning.back_cells (ops w) w.limit (program w.typed.now) ps so_far

@@ -1,6 +1,6 @@
 //! Cells of objects, many at a time.
 
-ghost use Rattle.std.specs.Prelude.{◌≡◌, ◌+◌, ◌+ℤ◌, pos, [], ◌∷◌, ◌++◌, length, slice_set};
+ghost use Rattle.std.specs.Prelude.{◌≡◌, ◌+◌, ◌+ℤ◌, pos, [], ◌∷◌, ◌++◌, ◌<◌, length, slice_get, slice_set, IfSome};
 ghost use Rattle.ada_meaning.specs.Values.{zeros, laid};
 ghost use Rattle.run_store.specs.Shows.{Shows, entity_of, OrNoMemory};
 ghost use Rattle.run_parts.specs.Passing.{shape_of};
@@ -43,8 +43,8 @@ pub fn write_all<P: Port + Drop>(work: &Work<'_>, object: u32, offset: u64, valu
     let _ = work;
     let mut at = offset;
     let mut k = 0;
-    while k < values.len() {
-        store.write(object, at, values[k])?;
+    while let Some(value) = value_at(values, k) {
+        store.write(object, at, value)?;
         at = next_offset(at)?;
         k += 1;
     }
@@ -94,19 +94,25 @@ pub fn lay(out: &mut Items<i64>, first: u64, values: &[i64])
     ensures { out.new ≡ laid out.old first values.now }
 {
     let mut k = 0;
-    while k < values.len() {
-        put_value(out, first, k, values[k]);
+    while let Some(value) = value_at(values, k) {
+        put_value(out, first, k, value);
         k += 1;
     }
+}
+
+fn value_at(values: &[i64], index: usize) -> Option<i64>
+    ensures is { slice_get values.now index ≡ result }
+    ensures within { IfSome result (λ value. index < length values.now) }
+{
+    values.get(index).copied()
 }
 
 fn put_value(out: &mut Items<i64>, first: u64, index: usize, value: i64)
     ensures { out.new ≡ slice_set out.old (first + index) value }
 {
-    if let Some(place) = (first as usize).checked_add(index) {
-        if place < out.len() {
-            out.set(place, value);
-        }
+    let length = out.len();
+    if (first as usize) < length && index < length - first as usize {
+        out.set(first as usize + index, value);
     }
 }
 

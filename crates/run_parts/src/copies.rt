@@ -3,7 +3,7 @@
 ghost use Rattle.std.specs.Prelude.{◌≡◌, ◌++◌, ◌∷◌, [], option_map};
 ghost use Rattle.ada_typed.specs.Programs.{program, sub_of};
 ghost use Rattle.ada_meaning.specs.Meaning as meaning;
-ghost use Rattle.run_store.specs.Shows.{Shows, ShowsAs, OrNoMemory, entity_of};
+ghost use Rattle.run_store.specs.Shows.{Shows, OrNoMemory, entity_of};
 ghost use Rattle.run_parts.specs.Passing.{passed_list, back_option};
 ghost use Rattle.run_parts.specs.Words as spec;
 ghost use Rattle.run_parts.specs.Words.{object_defaults};
@@ -24,16 +24,16 @@ pub fn find_sub(work: &Work<'_>, number: u32) -> Option<Sub>
 
 /// The cells of the formals that are copied back, behind others.
 #[tactic(auto, unfolding(ada_stored::specs::Stored::bind, ada_stored::specs::Stored::ret, ada_stored::specs::Stored::leaves, ada_stored::specs::Stored::spent, ada_stored::specs::Stored::handles, crate::specs::Words::back_cells))]
-pub fn back_cells<P: Port + Drop>(work: &Work<'_>, passed: &[Passed], out: &mut Items<Items<i64>>, store: &Store<P>) -> Result<(), End>
-    ensures { ShowsAs (λ u. out.new) P.Tells (spec.back_cells work.now (passed_list work.now passed.now) out.old) result store.now store.now }
+pub fn back_cells<P: Port + Drop>(work: &Work<'_>, passed: &[Passed], out: Items<Items<i64>>, store: &Store<P>) -> Result<Items<Items<i64>>, End>
+    ensures { Shows P.Tells (spec.back_cells work.now (passed_list work.now passed.now) out) result store.now store.now }
 {
     match passed.split_first() {
-        None => Ok(()),
+        None => Ok(out),
         Some((first, rest)) => {
             let cells = cells_back(work, first.formal, first.back, store)?;
-            push_cells(out, cells)?;
-            back_cells(work, rest, out, store)?;
-            Ok(())
+            let more = push_cells(out, cells)?;
+            let all = back_cells(work, rest, more, store)?;
+            Ok(all)
         }
     }
 }
@@ -58,11 +58,12 @@ fn cells_back<P: Port + Drop>(work: &Work<'_>, formal: Object, back: Option<Back
     }
 }
 
-fn push_cells(out: &mut Items<Items<i64>>, cells: Items<i64>) -> Result<(), End>
-    ensures { OrNoMemory (λ u. out.new ≡ out.old ++ cells ∷ []) result }
+fn push_cells(out: Items<Items<i64>>, cells: Items<i64>) -> Result<Items<Items<i64>>, End>
+    ensures { OrNoMemory (λ more. more ≡ out ++ cells ∷ []) result }
 {
-    match out.push(cells) {
-        Ok(()) => Ok(()),
+    let mut more = out;
+    match more.push(cells) {
+        Ok(()) => Ok(more),
         Err(_) => Err(End::NoMemory),
     }
 }

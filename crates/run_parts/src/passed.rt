@@ -40,12 +40,13 @@ pub struct Returned {
 }
 
 /// One more actual parameter.
-pub fn push(work: &Work<'_>, passed: &mut Items<Passed>, one: Passed) -> Result<(), End>
-    ensures { OrNoMemory (λ u. passed_list work.now passed.new ≡ passed_list work.now passed.old ++ passed_of work.now one ∷ []) result }
+pub fn push(work: &Work<'_>, passed: Items<Passed>, one: Passed) -> Result<Items<Passed>, End>
+    ensures { OrNoMemory (λ more. passed_list work.now more ≡ passed_list work.now passed ++ passed_of work.now one ∷ []) result }
 {
     let _ = work;
-    match passed.push(one) {
-        Ok(()) => Ok(()),
+    let mut more = passed;
+    match more.push(one) {
+        Ok(()) => Ok(more),
         Err(_) => Err(End::NoMemory),
     }
 }
