@@ -194,7 +194,7 @@ module _ (w : Work) (d : ℕ) where
   -- ---- statements
 
   abbrev pub call_procedure : ℕ → Actuals → Env → Stored (Unit {0})
-  call_procedure s as' env = bind (pass w d as' env []) (λ passed. bind (calls_of w d env.nested s (ret tt) passed) (λ r. all_copied_back passed r.cells))
+  call_procedure s as' env = bind (pass w d as' env []) (λ passed. bind (calls_of w d env.nested s (ret tt) passed) (λ r. all_copied_back w d passed r.cells))
 
   abbrev pub branch : Expr → Stmts → Stmts → Env → Stored (Unit {0})
   branch c a b env = bind (eval w d c env) (λ x. cond (truth x) (exec_all w d a env) (exec_all w d b env))
