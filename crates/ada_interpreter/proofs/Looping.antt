@@ -97,6 +97,10 @@ pub for_begins : {Tells : Type 0} (s : Image) (w : Work) (d : ℕ) (c : Course) 
 unfolding walk.for_loop
 for_begins {Tells = Tells} s w d c it ss env = let e : c.count - 0 ≡ c.count = omega arith in subst (λ z. Goes Tells (walk.for_loop w d c it ss env) s (walk.for_left w d 0 z c it ss env) s) (sym e) (goes_refl _ s)
 
+pub while_begins : {Tells : Type 0} (s : Image) (w : Work) (d : ℕ) (e : Optional) (ss : Stmts) (env : Env) → Goes Tells (walk.while_loop w d e ss env) s (walk.while_left w d (suc w.limit - 0) e ss env) s
+unfolding walk.while_loop
+while_begins {Tells = Tells} s w d e ss env = let q : suc w.limit - 0 ≡ suc w.limit = omega arith in subst (λ z. Goes Tells (walk.while_loop w d e ss env) s (walk.while_left w d z e ss env) s) (sym q) (goes_refl _ s)
+
 -- ---- components of an aggregate
 
 module _ {Tells : Type 0} (whole : Stored (List ℤ)) (s t u : Image) (w : Work) (d k n first stride : ℕ) (iterated : Option Iterated) (v : Value) (env : Env) (cells : List ℤ) (lt : k < n) (g : Goes Tells whole s (walk.run_values w d k (n - k) first stride iterated v env cells) t) where
@@ -120,6 +124,15 @@ run_done {Tells = Tells} whole s t w d k n first stride iterated v env cells le 
 
 -- ---- ways to be left
 
+module _ (m : Stored (Unit {0})) (takes : paths.Leave → Bool) (h : paths.Leave → Stored (Unit {0})) (s t : Image) where
+  stops_so : (y : paths.Leave) (c : Fault) (v : State) → takes y ≡ true → m.does s.state ≡ at t.state (Err (Left y)) → Stops (h y) t.state c v → Stops (handles m takes h) s.state c v
+  unfolding handles
+  stops_so y c v q k l = inr (inr (subst (λ (z : After _). handled_halts z.state z.end takes h c v) (sym k) (subst (λ b. cond b (Stops (h y) t.state c v) ⊥) (sym q) l)))
+
+  does_so : (y : paths.Leave) → takes y ≡ true → m.does s.state ≡ at t.state (Err (Left y)) → (handles m takes h).does s.state ≡ (h y).does t.state
+  unfolding handles
+  does_so y q k = ap (λ (z : After _). handled z.state z.end takes h) k ∙ ap (λ b. cond b ((h y).does t.state) (at t.state (Err (Left y)))) q
+
 module _ {Tells : Type 0} (m : Stored (Unit {0})) (takes : paths.Leave → Bool) (h : paths.Leave → Stored (Unit {0})) (s t : Image) where
   -- what isn't handled
   pub handles_not : (r : Result (Unit {0}) ends.End) → ((x : paths.Leave) (y : ends-leave.Leave) → r ≡ Err (end.Left y) → leave_of y ≡ x → takes x ≡ false) → Shows Tells m r s t → Shows Tells (handles m takes h) r s t
@@ -131,14 +144,6 @@ module _ {Tells : Type 0} (m : Stored (Unit {0})) (takes : paths.Leave → Bool)
   handles_not (Err end.ReadFault) n k = (k.0, λ told. inr (inl (k.1 told)))
   handles_not (Err end.WriteFault) n k = (k.0, λ told. inr (inl (k.1 told)))
 
-  stops_so : (y : paths.Leave) (c : Fault) (v : State) → takes y ≡ true → m.does s.state ≡ at t.state (Err (Left y)) → Stops (h y) t.state c v → Stops (handles m takes h) s.state c v
-  unfolding handles
-  stops_so y c v q k l = inr (inr (subst (λ (z : After _). handled_halts z.state z.end takes h c v) (sym k) (subst (λ b. cond b (Stops (h y) t.state c v) ⊥) (sym q) l)))
-
-  does_so : (y : paths.Leave) → takes y ≡ true → m.does s.state ≡ at t.state (Err (Left y)) → (handles m takes h).does s.state ≡ (h y).does t.state
-  unfolding handles
-  does_so y q k = ap (λ (z : After _). handled z.state z.end takes h) k ∙ ap (λ b. cond b ((h y).does t.state) (at t.state (Err (Left y)))) q
-
   -- what is left in a way that is handled
   pub handles_so : (y : ends-leave.Leave) (r : Result (Unit {0}) ends.End) (u : Image) → takes (leave_of y) ≡ true → Shows Tells m (Err (end.Left y)) s t → Shows Tells (h (leave_of y)) r t u → Shows Tells (handles m takes h) r s u
-  handles_so y r u q k l = goes_shows (λ a. a) (handles m takes h) (h (leave_of y)) s t u r (record { faults = k.0; same = λ told. does_so (leave_of y) q (k.1 told); stops = λ told c v j. stops_so (leave_of y) c v q (k.1 told) j }) l
+  handles_so y r u q k l = goes_shows (λ a. a) (handles m takes h) (h (leave_of y)) s t u r (record { faults = k.0; same = λ told. does_so m takes h s t (leave_of y) q (k.1 told); stops = λ told c v j. stops_so m takes h s t (leave_of y) c v q (k.1 told) j }) l

@@ -1,24 +1,25 @@
 -- Calls and declarations, a part at a time.
-use Rattle.std.proofs.Common.{◌≡◌, ℕ, ℤ, List, [], ◌∷◌, ◌++◌, Option, Some, None, slice_get, refl, sym, subst, ap, ◌∙◌}
+use Rattle.std.proofs.Common.{◌≡◌, ℕ, zero, suc, ◌-◌, ◌≤◌, arith, ℤ, List, [], ◌∷◌, ◌++◌, Option, Some, None, slice_get, refl, sym, subst, ap, ◌∙◌}
 use Rattle.std.specs.Prelude.{Result, Ok, Err}
+use Rattle.ada_base.specs.declared.reason.Reason.TheVariants as reason
 use Rattle.behaviours.specs.Paths as paths
 use Rattle.ada_typed.specs.declared.program.Object as tree-object
-use Rattle.ada_typed.specs.Syntax.{Sub, Decls, DeclareDefault, DeclareVariable, DeclareConstant, Stmts, Handlers, Value}
+use Rattle.ada_typed.specs.Syntax.{Sub, Body, Decls, DeclareDefault, DeclareVariable, DeclareConstant, Stmts, Handlers, Value}
 use Rattle.ada_typed.specs.Programs.{program}
 use Rattle.ada_meaning.specs.Values.{defaults}
 use Rattle.ada_meaning.specs.Meaning as meaning
 use Rattle.ada_meaning.specs.Meaning.{Env, sub_at, object_layout}
-use Rattle.ada_stored.specs.Stored.{Stored, bind, elaborates, apart}
+use Rattle.ada_stored.specs.Stored.{Stored, ret, bind, leaves, elaborates, apart}
 use Rattle.run_store.specs.Shows.{Image, ShowsAs, Shows, Begins, finished, Enters, unframed, entity_of}
 use Rattle.run_store.specs.declared.ends.Mark.{Mark}
 use Rattle.run_store.specs.declared.ends.End.{End}
 use Rattle.run_store.specs.declared.ends.Object.TheVariants as object
-use Rattle.run_store.proofs.Going.{goes_refl, goes_ends, then_shows, elaborates_shows, elaborates_fails, apart_shows, apart_fails}
+use Rattle.run_store.proofs.Going.{goes_refl, goes_ends, then_shows, same_shows, elaborates_shows, elaborates_fails, apart_shows, apart_fails}
 use Rattle.run_parts.specs.declared.work.Work.{Work}
 use Rattle.run_parts.specs.declared.passed.Passed.{Passed}
 use Rattle.run_parts.specs.declared.passed.Returned.{Returned}
 use Rattle.run_parts.specs.Passing.{passed_list, returned_of}
-use Rattle.run_parts.specs.Words.{object_defaults, defaults_at}
+use Rattle.run_parts.specs.Words.{object_defaults, defaults_at, turned, calls_of, back_cells, ops}
 use Rattle.ada_interpreter.specs.Walk as walk
 
 module _ {Tells : Type 0} (w : Work) (d number nested : ℕ) (passed : List meaning.Passed) (sub : Sub) (is : sub_at (program w.typed.now).subs number ≡ Some sub) where
@@ -73,12 +74,6 @@ module _ {Tells : Type 0} (w : Work) (d : ℕ) (region : paths.Region) (ss : Stm
     default_fails e r s t q b = subst (λ z. Shows Tells (walk.block w d ds region ss hs env) z s t) (sym q) (default_as (Err e) s t (elaborates_fails (λ a. a) region (object.Variable x) vs (walk.block w d more region ss hs env) e s t b))
 
   module _ (v : Value) where
-    variable_begun : List ℤ → Stored (Unit {0})
-    variable_begun cs = elaborates region (paths.VariableOf x) cs (walk.block w d more region ss hs env)
-
-    constant_begun : List ℤ → Stored (Unit {0})
-    constant_begun cs = elaborates region (paths.ConstantOf x) cs (walk.block w d more region ss hs env)
-
     module _ (is : ds ≡ DeclareVariable x v more) where
       variable_as : (r : Result (Unit {0}) End) (s u : Image) → Shows Tells (bind (walk.cells w d v env) (λ cs. elaborates region (paths.VariableOf x) cs (walk.block w d more region ss hs env))) r s u → Shows Tells (walk.block w d ds region ss hs env) r s u
       unfolding walk.block walk.cells
@@ -124,3 +119,33 @@ module _ {Tells : Type 0} (w : Work) (d : ℕ) (region : paths.Region) (ss : Stm
           subst (λ z. Shows Tells (walk.block w d ds region ss hs env) z s t) (sym q)
           (constant_as (Err e) s t (then_shows (λ a. a) (λ a. a) (walk.cells w d v env) (λ cs. elaborates region (paths.ConstantOf x) cs (walk.block w d more region ss hs env)) s s' t vs (Err e) c
           (elaborates_fails (λ a. a) region (object.Constant x) vs (walk.block w d more region ss hs env) e s' t b)))
+
+-- ---- bodies and calls
+
+pub body_as : {Tells : Type 0} (w : Work) (d : ℕ) (b : Body) (ds : Decls) (ss : Stmts) (hs : Handlers) (region : paths.Region) (env : Env) (r : Result (Unit {0}) End) (s t : Image) → b ≡ record { decls = ds; stmts = ss; handlers = hs }
+    → Shows Tells (walk.block w d ds region ss hs env) r s t → Shows Tells (walk.body w d b region env) r s t
+unfolding walk.block walk.exec_all walk.exec_handler
+body_as {Tells = Tells} w d b ds ss hs region env r s t e h = subst (λ (z : Body). Shows Tells (walk.body w d z region env) r s t) (sym e) h
+
+sub_as : (w : Work) (d : ℕ) (o : Option Sub) (nested : ℕ) (passed : List meaning.Passed) → meaning.exec_sub (ops w) w.limit (program w.typed.now) (calls_of w d) o nested passed ≡ walk.called_sub w d o nested passed
+unfolding walk.with_formals back_cells
+sub_as w d None nested passed = refl
+sub_as w d (Some sub) nested passed = refl
+
+module _ {Tells : Type 0} (w : Work) (nested number : ℕ) (passed : List meaning.Passed) (s t : Image) where
+  pub call_ends : (d : ℕ) (e : End) (r : Result Returned End) → r ≡ Err e → Shows Tells (turned w) (Err e) s t → ShowsAs returned_of Tells (calls_of w d nested number (ret {A = Unit {0}} tt) passed) r s t
+  unfolding calls_of
+  call_ends zero e r q h = subst (λ z. ShowsAs returned_of Tells (calls_of w zero nested number (ret {A = Unit {0}} tt) passed) z s t) (sym q) (goes_ends (λ a. a) returned_of _ (turned w) (λ _. leaves (paths.Raises reason.StorageError)) s s t e (goes_refl _ s) h)
+  call_ends (suc d) e r q h =
+      subst (λ z. ShowsAs returned_of Tells (calls_of w (suc d) nested number (ret {A = Unit {0}} tt) passed) z s t) (sym q)
+      (goes_ends (λ a. a) returned_of _ (turned w) (λ _. bind (ret {A = Unit {0}} tt) (λ _. meaning.exec_sub (ops w) w.limit (program w.typed.now) (calls_of w d) (sub_at (program w.typed.now).subs number) nested passed)) s s t e (goes_refl _ s) h)
+
+  pub call_step : (d : ℕ) (r : Result Returned End) (u : Image) → 1 ≤ d → Shows Tells (turned w) (Ok tt) s t → ShowsAs returned_of Tells (walk.called w (d - 1) number nested passed) r t u → ShowsAs returned_of Tells (calls_of w d nested number (ret {A = Unit {0}} tt) passed) r s u
+  unfolding calls_of ret
+  call_step zero r u le h k = absurd (omega (arith, le))
+  call_step (suc d) r u le h k =
+      let m : suc d - 1 ≡ d = omega arith in
+      let k' = subst (λ z. ShowsAs returned_of Tells (walk.called w z number nested passed) r t u) m k in
+      then_shows (λ a. a) returned_of (turned w) (λ _. bind (ret {A = Unit {0}} tt) (λ _. meaning.exec_sub (ops w) w.limit (program w.typed.now) (calls_of w d) (sub_at (program w.typed.now).subs number) nested passed)) s t u tt r h
+      (then_shows (λ a. a) returned_of (ret {A = Unit {0}} tt) (λ _. meaning.exec_sub (ops w) w.limit (program w.typed.now) (calls_of w d) (sub_at (program w.typed.now).subs number) nested passed) t t u tt r (refl, λ told. refl)
+      (same_shows returned_of _ (walk.called w d number nested passed) r t u (sub_as w d (sub_at (program w.typed.now).subs number) nested passed) k'))

@@ -1,5 +1,5 @@
 -- What a whole run shows.
-use Rattle.std.specs.Prelude.{◌≡◌, ℕ, List, ◌++◌, Bool, Result, Ok, Err}
+use Rattle.std.specs.Prelude.{◌≡◌, List, ◌++◌, Bool, true, Result, Ok, Err}
 use Rattle.ada_base.specs.Cuts.{One}
 use Rattle.ada_typed.specs.Programs.{program}
 use Rattle.ada_meaning.specs.Nonblocking.{KeepsRule}
