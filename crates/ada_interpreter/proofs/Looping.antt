@@ -117,6 +117,9 @@ module _ {Tells : Type 0} (whole : Stored (List ℤ)) (s t u : Image) (w : Work)
   run_ends e r q h =
       subst (λ z. Shows Tells whole z s u) (sym q) (goes_ends (λ a. a) (λ a. a) whole (walk.given w d iterated k v env) (λ cs. walk.run_values w d (k + 1) (n - (k + 1)) (first + stride) stride iterated v env (laid cells first cs)) s t u e run_more h)
 
+pub run_begins : {Tells : Type 0} (s : Image) (w : Work) (d n first stride : ℕ) (iterated : Option Iterated) (v : Value) (env : Env) (out : List ℤ) → Goes Tells (walk.run_values w d 0 n first stride iterated v env out) s (walk.run_values w d 0 (n - 0) first stride iterated v env out) s
+run_begins {Tells = Tells} s w d n first stride iterated v env out = let q : n - 0 ≡ n = omega arith in subst (λ z. Goes Tells (walk.run_values w d 0 n first stride iterated v env out) s (walk.run_values w d 0 z first stride iterated v env out) s) (sym q) (goes_refl _ s)
+
 pub run_done : {Tells : Type 0} (whole : Stored (List ℤ)) (s t : Image) (w : Work) (d k n first stride : ℕ) (iterated : Option Iterated) (v : Value) (env : Env) (cells : List ℤ) → n ≤ k → Goes Tells whole s (walk.run_values w d k (n - k) first stride iterated v env cells) t → Shows Tells whole (Ok cells) s t
 unfolding walk.run_values
 run_done {Tells = Tells} whole s t w d k n first stride iterated v env cells le g =

@@ -166,8 +166,8 @@ fn run_values<P: Port + Drop>(work: &Work<'_>, calls: u32, run: Run, iterated: O
     ensures { Shows P.Tells (spec.run_values work.now calls 0 run.count run.first run.stride iterated (value_at (nodes_of work.now) value) (env_of env.now) out) result store.old store.new }
 {
     let mut cells = out;
-    let mut first = u64::from(run.first);
-    for k in 0..u64::from(run.count) {
+    let mut first = run.first as u64;
+    for k in 0..run.count as u64 {
         let values = given(work, calls, iterated, k, value, env, store)?;
         lay(&mut cells, first, values.as_slice());
         first = further(first, run.stride)?;
