@@ -23,7 +23,6 @@ use Rattle.run_parts.specs.Caught.{caught, caught_exit}
 use Rattle.run_parts.specs.Words.{turned, ops}
 use Rattle.ada_interpreter.specs.Walk as walk
 
-
 module _ {Tells : Type 0} (whole : Stored (Unit {0})) (s t u : Image) (w : Work) (d : ℕ) (env : Env) where
   module _ (ss : Stmts) (st : Stmt) (rest : Stmts) (is : ss ≡ Then st rest) (g : Goes Tells whole s (walk.exec_all w d ss env) t) where
     all_more : Goes Tells whole s (bind (walk.exec w d st env) (λ _. walk.exec_all w d rest env)) t

@@ -158,17 +158,17 @@ module _ (w : Work) (d : ℕ) where
   abbrev pub pass_in_out : ℕ → ℕ → Root → Selections → Scalar → Scalar → Actuals → Env → List Passed → Stored (List Passed)
   pass_in_out formal at r ss inner outer rest env so_far =
       bind (select w d ss env (variable_root r env)) (λ p. bind (reads (VariableOf p.object) p.offset) (λ v. bind (meaning.checked (ops w) (record { at = at; scalar = inner }) v) (λ _.
-          pass w d rest env (so_far ++ (record { formal = VariableOf formal; cells = v ∷ []; back = back_to p (inner ∷ []) (Some (record { at = at; scalar = outer })) } ∷ [])))))
+      pass w d rest env (so_far ++ (record { formal = VariableOf formal; cells = v ∷ []; back = back_to p (inner ∷ []) (Some (record { at = at; scalar = outer })) } ∷ [])))))
 
   abbrev pub pass_out : ℕ → ℕ → Root → Selections → Scalar → Scalar → Actuals → Env → List Passed → Stored (List Passed)
   pass_out formal at r ss inner outer rest env so_far =
       bind (select w d ss env (variable_root r env)) (λ p.
-          pass w d rest env (so_far ++ (record { formal = VariableOf formal; cells = inner.low ∷ []; back = back_to p (inner ∷ []) (Some (record { at = at; scalar = outer })) } ∷ [])))
+      pass w d rest env (so_far ++ (record { formal = VariableOf formal; cells = inner.low ∷ []; back = back_to p (inner ∷ []) (Some (record { at = at; scalar = outer })) } ∷ [])))
 
   abbrev pub pass_whole : ℕ → Root → Selections → ℕ → Actuals → Env → List Passed → Stored (List Passed)
   pass_whole formal r ss n rest env so_far =
       bind (select w d ss env (variable_root r env)) (λ p. bind (read_all w (VariableOf p.object) p.offset [] (cells_at w n)) (λ vs.
-          pass w d rest env (so_far ++ (record { formal = VariableOf formal; cells = vs; back = back_to p (cells_at w n) None } ∷ []))))
+      pass w d rest env (so_far ++ (record { formal = VariableOf formal; cells = vs; back = back_to p (cells_at w n) None } ∷ []))))
 
   -- ---- calls
 

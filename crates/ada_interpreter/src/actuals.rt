@@ -19,7 +19,14 @@ use run_store::{End, Env, Leave, Object, Port, Store, is_in};
 #[cycle(walk)]
 #[inline(never)]
 #[tactic(auto, unfolding(ada_stored::specs::Stored::bind, ada_stored::specs::Stored::ret, ada_stored::specs::Stored::leaves, ada_stored::specs::Stored::spent, ada_stored::specs::Stored::handles, crate::specs::Walk::pass, crate::specs::Walk::select, crate::specs::Walk::cells, run_parts::specs::Words::read_all))]
-pub fn pass<P: Port + Drop>(work: &Work<'_>, calls: u32, id: u32, env: &Env<'_>, passed: Items<Passed>, store: &mut Store<P>) -> Result<Items<Passed>, End>
+pub fn pass<P: Port + Drop>(
+    work: &Work<'_>,
+    calls: u32,
+    id: u32,
+    env: &Env<'_>,
+    passed: Items<Passed>,
+    store: &mut Store<P>,
+) -> Result<Items<Passed>, End>
     ensures { ShowsAs (passed_list work.now) P.Tells (spec.pass work.now calls (actuals_at (nodes_of work.now) id) (env_of env.now) (passed_list work.now passed)) result store.old store.new }
 {
     match work.typed.nodes.actuals(id) {
@@ -33,16 +40,77 @@ pub fn pass<P: Port + Drop>(work: &Work<'_>, calls: u32, id: u32, env: &Env<'_>,
                 let all = pass_in(work, calls, formal, value, cell.rest, env, passed, store)?;
                 Ok(all)
             }
-            Some(Actual::InOut { formal, at, root, selections, inside, outside }) => {
-                let all = pass_in_out(work, calls, formal, at, root, selections, work.typed.nodes.scalar(inside), work.typed.nodes.scalar(outside), cell.rest, env, passed, store)?;
+            Some(
+                Actual::InOut {
+                    formal,
+                    at,
+                    root,
+                    selections,
+                    inside,
+                    outside,
+                },
+            ) => {
+                let all = pass_in_out(
+                    work,
+                    calls,
+                    formal,
+                    at,
+                    root,
+                    selections,
+                    work.typed.nodes.scalar(inside),
+                    work.typed.nodes.scalar(outside),
+                    cell.rest,
+                    env,
+                    passed,
+                    store,
+                )?;
                 Ok(all)
             }
-            Some(Actual::Out { formal, at, root, selections, inside, outside }) => {
-                let all = pass_out(work, calls, formal, at, root, selections, work.typed.nodes.scalar(inside), work.typed.nodes.scalar(outside), cell.rest, env, passed, store)?;
+            Some(
+                Actual::Out {
+                    formal,
+                    at,
+                    root,
+                    selections,
+                    inside,
+                    outside,
+                },
+            ) => {
+                let all = pass_out(
+                    work,
+                    calls,
+                    formal,
+                    at,
+                    root,
+                    selections,
+                    work.typed.nodes.scalar(inside),
+                    work.typed.nodes.scalar(outside),
+                    cell.rest,
+                    env,
+                    passed,
+                    store,
+                )?;
                 Ok(all)
             }
-            Some(Actual::CompositeInOut { formal, root, selections, subtype, .. } | Actual::CompositeOut { formal, root, selections, subtype, .. }) => {
-                let all = pass_whole(work, calls, formal, root, selections, subtype, cell.rest, env, passed, store)?;
+            Some(
+                Actual::CompositeInOut {
+                    formal,
+                    root,
+                    selections,
+                    subtype,
+                    ..
+                }
+                | Actual::CompositeOut {
+                    formal,
+                    root,
+                    selections,
+                    subtype,
+                    ..
+                },
+            ) => {
+                let all = pass_whole(
+                    work, calls, formal, root, selections, subtype, cell.rest, env, passed, store,
+                )?;
                 Ok(all)
             }
         },
@@ -51,11 +119,28 @@ pub fn pass<P: Port + Drop>(work: &Work<'_>, calls: u32, id: u32, env: &Env<'_>,
 
 #[cycle(walk)]
 #[inline(never)]
-fn pass_in<P: Port + Drop>(work: &Work<'_>, calls: u32, formal: u32, value: u32, rest: u32, env: &Env<'_>, passed: Items<Passed>, store: &mut Store<P>) -> Result<Items<Passed>, End>
+fn pass_in<P: Port + Drop>(
+    work: &Work<'_>,
+    calls: u32,
+    formal: u32,
+    value: u32,
+    rest: u32,
+    env: &Env<'_>,
+    passed: Items<Passed>,
+    store: &mut Store<P>,
+) -> Result<Items<Passed>, End>
     ensures { ShowsAs (passed_list work.now) P.Tells (spec.pass_in work.now calls formal (value_at (nodes_of work.now) value) (actuals_at (nodes_of work.now) rest) (env_of env.now) (passed_list work.now passed)) result store.old store.new }
 {
     let values = cells(work, calls, value, env, store)?;
-    let more = push(work, passed, Passed { formal: Object::Constant(formal), cells: values, back: None })?;
+    let more = push(
+        work,
+        passed,
+        Passed {
+            formal: Object::Constant(formal),
+            cells: values,
+            back: None,
+        },
+    )?;
     let all = pass(work, calls, rest, env, more, store)?;
     Ok(all)
 }
@@ -82,8 +167,23 @@ fn pass_in_out<P: Port + Drop>(
     let value = store.read(Object::Variable(part.object), part.offset)?;
     if is_in(inside, value) {
         let values = one(work, value)?;
-        let back = Back { part, shape: Shape::Single(inside), check: Some(Check { at, scalar: outside }) };
-        let more = push(work, passed, Passed { formal: Object::Variable(formal), cells: values, back: Some(back) })?;
+        let back = Back {
+            part,
+            shape: Shape::Single(inside),
+            check: Some(Check {
+                at,
+                scalar: outside,
+            }),
+        };
+        let more = push(
+            work,
+            passed,
+            Passed {
+                formal: Object::Variable(formal),
+                cells: values,
+                back: Some(back),
+            },
+        )?;
         let all = pass(work, calls, rest, env, more, store)?;
         Ok(all)
     } else {
@@ -111,8 +211,23 @@ fn pass_out<P: Port + Drop>(
 {
     let part = select(work, calls, selections, env, env.variable_root(root), store)?;
     let values = one(work, inside.low)?;
-    let back = Back { part, shape: Shape::Single(inside), check: Some(Check { at, scalar: outside }) };
-    let more = push(work, passed, Passed { formal: Object::Variable(formal), cells: values, back: Some(back) })?;
+    let back = Back {
+        part,
+        shape: Shape::Single(inside),
+        check: Some(Check {
+            at,
+            scalar: outside,
+        }),
+    };
+    let more = push(
+        work,
+        passed,
+        Passed {
+            formal: Object::Variable(formal),
+            cells: values,
+            back: Some(back),
+        },
+    )?;
     let all = pass(work, calls, rest, env, more, store)?;
     Ok(all)
 }
@@ -134,9 +249,27 @@ fn pass_whole<P: Port + Drop>(
     ensures { ShowsAs (passed_list work.now) P.Tells (spec.pass_whole work.now calls formal root (selections_at (nodes_of work.now) selections) subtype (actuals_at (nodes_of work.now) rest) (env_of env.now) (passed_list work.now passed)) result store.old store.new }
 {
     let part = select(work, calls, selections, env, env.variable_root(root), store)?;
-    let values = read_whole(work, Object::Variable(part.object), part.offset, subtype, store)?;
-    let back = Back { part, shape: Shape::Whole(subtype), check: None };
-    let more = push(work, passed, Passed { formal: Object::Variable(formal), cells: values, back: Some(back) })?;
+    let values = read_whole(
+        work,
+        Object::Variable(part.object),
+        part.offset,
+        subtype,
+        store,
+    )?;
+    let back = Back {
+        part,
+        shape: Shape::Whole(subtype),
+        check: None,
+    };
+    let more = push(
+        work,
+        passed,
+        Passed {
+            formal: Object::Variable(formal),
+            cells: values,
+            back: Some(back),
+        },
+    )?;
     let all = pass(work, calls, rest, env, more, store)?;
     Ok(all)
 }

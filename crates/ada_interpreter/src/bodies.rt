@@ -19,13 +19,29 @@ use run_store::{End, Env, Leave, Object, Port, Region, Store};
 #[cycle(walk)]
 #[inline(never)]
 #[tactic(auto, unfolding(ada_stored::specs::Stored::bind, ada_stored::specs::Stored::ret, ada_stored::specs::Stored::leaves, ada_stored::specs::Stored::spent, ada_stored::specs::Stored::handles, crate::specs::Walk::block, crate::specs::Walk::exec_all, crate::specs::Walk::exec_handler))]
-pub fn body<P: Port + Drop>(work: &Work<'_>, calls: u32, id: u32, region: Region, env: &Env<'_>, store: &mut Store<P>) -> Result<(), End>
+pub fn body<P: Port + Drop>(
+    work: &Work<'_>,
+    calls: u32,
+    id: u32,
+    region: Region,
+    env: &Env<'_>,
+    store: &mut Store<P>,
+) -> Result<(), End>
     ensures { Shows P.Tells (spec.body work.now calls (body_at (nodes_of work.now) id) (region_of region) (env_of env.now)) result store.old store.new }
 {
     match work.typed.nodes.body(id) {
         None => Ok(()),
         Some(parts) => {
-            block(work, calls, parts.decls, region, parts.stmts, parts.handlers, env, store)?;
+            block(
+                work,
+                calls,
+                parts.decls,
+                region,
+                parts.stmts,
+                parts.handlers,
+                env,
+                store,
+            )?;
             Ok(())
         }
     }
@@ -35,7 +51,16 @@ pub fn body<P: Port + Drop>(work: &Work<'_>, calls: u32, id: u32, region: Region
 #[cycle(walk)]
 #[inline(never)]
 #[tactic(auto, unfolding(ada_stored::specs::Stored::bind, ada_stored::specs::Stored::ret, ada_stored::specs::Stored::leaves, ada_stored::specs::Stored::spent, ada_stored::specs::Stored::handles, crate::specs::Walk::block, crate::specs::Walk::cells))]
-pub fn block<P: Port + Drop>(work: &Work<'_>, calls: u32, decls: u32, region: Region, stmts: u32, handlers: u32, env: &Env<'_>, store: &mut Store<P>) -> Result<(), End>
+pub fn block<P: Port + Drop>(
+    work: &Work<'_>,
+    calls: u32,
+    decls: u32,
+    region: Region,
+    stmts: u32,
+    handlers: u32,
+    env: &Env<'_>,
+    store: &mut Store<P>,
+) -> Result<(), End>
     ensures { Shows P.Tells (spec.block work.now calls (decls_at (nodes_of work.now) decls) (region_of region) (stmts_at (nodes_of work.now) stmts) (handlers_at (nodes_of work.now) handlers) (env_of env.now)) result store.old store.new }
 {
     match work.typed.nodes.decls(decls) {
@@ -76,14 +101,24 @@ pub fn block<P: Port + Drop>(work: &Work<'_>, calls: u32, decls: u32, region: Re
 // statements whose exceptions are handled (11.4)
 #[cycle(walk)]
 #[inline(never)]
-fn guarded<P: Port + Drop>(work: &Work<'_>, calls: u32, stmts: u32, handlers: u32, env: &Env<'_>, store: &mut Store<P>) -> Result<(), End>
+fn guarded<P: Port + Drop>(
+    work: &Work<'_>,
+    calls: u32,
+    stmts: u32,
+    handlers: u32,
+    env: &Env<'_>,
+    store: &mut Store<P>,
+) -> Result<(), End>
     ensures { Shows P.Tells (spec.guarded work.now calls (stmts_at (nodes_of work.now) stmts) (handlers_at (nodes_of work.now) handlers) (env_of env.now)) result store.old store.new }
 {
     match exec_all(work, calls, stmts, env, store) {
         Err(End::Left(Leave::Raises(reason))) => match find_handler(work, handlers, reason) {
             None => Err(End::Left(Leave::Raises(reason))),
             Some(found) => {
-                let inner = Env::Handled { reason, outer: &*env };
+                let inner = Env::Handled {
+                    reason,
+                    outer: &*env,
+                };
                 exec_all(work, calls, found, &inner, store)
             }
         },

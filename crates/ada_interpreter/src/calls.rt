@@ -20,7 +20,14 @@ use run_store::{End, Env, Leave, Port, Region, Store};
 #[cycle(walk)]
 #[inline(never)]
 #[tactic(auto, unfolding(ada_stored::specs::Stored::bind, ada_stored::specs::Stored::ret, ada_stored::specs::Stored::leaves, ada_stored::specs::Stored::spent, ada_stored::specs::Stored::handles, run_parts::specs::Words::calls_of))]
-pub fn call<P: Port + Drop>(work: &Work<'_>, calls: u32, nested: u32, sub: u32, passed: &[Passed], store: &mut Store<P>) -> Result<Returned, End>
+pub fn call<P: Port + Drop>(
+    work: &Work<'_>,
+    calls: u32,
+    nested: u32,
+    sub: u32,
+    passed: &[Passed],
+    store: &mut Store<P>,
+) -> Result<Returned, End>
     ensures { ShowsAs returned_of P.Tells (words.calls_of work.now calls nested sub (ret tt) (passed_list work.now passed.now)) result store.old store.new }
 {
     turned(work, store)?;
@@ -34,7 +41,14 @@ pub fn call<P: Port + Drop>(work: &Work<'_>, calls: u32, nested: u32, sub: u32, 
 
 #[cycle(walk)]
 #[inline(never)]
-fn called<P: Port + Drop>(work: &Work<'_>, calls: u32, nested: u32, number: u32, passed: &[Passed], store: &mut Store<P>) -> Result<Returned, End>
+fn called<P: Port + Drop>(
+    work: &Work<'_>,
+    calls: u32,
+    nested: u32,
+    number: u32,
+    passed: &[Passed],
+    store: &mut Store<P>,
+) -> Result<Returned, End>
     ensures { ShowsAs returned_of P.Tells (spec.called work.now calls number nested (passed_list work.now passed.now)) result store.old store.new }
 {
     match find_sub(work, number) {
@@ -52,7 +66,15 @@ fn called<P: Port + Drop>(work: &Work<'_>, calls: u32, nested: u32, number: u32,
 #[cycle(walk)]
 #[inline(never)]
 #[tactic(auto, unfolding(ada_stored::specs::Stored::bind, ada_stored::specs::Stored::ret, ada_stored::specs::Stored::leaves, ada_stored::specs::Stored::spent, ada_stored::specs::Stored::handles, crate::specs::Walk::with_formals))]
-fn with_formals<P: Port + Drop>(work: &Work<'_>, calls: u32, nested: u32, sub: Sub, rest: &[Passed], all: &[Passed], store: &mut Store<P>) -> Result<Returned, End>
+fn with_formals<P: Port + Drop>(
+    work: &Work<'_>,
+    calls: u32,
+    nested: u32,
+    sub: Sub,
+    rest: &[Passed],
+    all: &[Passed],
+    store: &mut Store<P>,
+) -> Result<Returned, End>
     ensures { ShowsAs returned_of P.Tells (spec.with_formals work.now calls (sub_of work.now.typed.now.nodes sub) nested (passed_list work.now all.now) (passed_list work.now rest.now)) result store.old store.new }
 {
     match rest.split_first() {
@@ -71,7 +93,14 @@ fn with_formals<P: Port + Drop>(work: &Work<'_>, calls: u32, nested: u32, sub: S
 
 #[cycle(walk)]
 #[inline(never)]
-fn carried_out<P: Port + Drop>(work: &Work<'_>, calls: u32, nested: u32, sub: Sub, all: &[Passed], store: &mut Store<P>) -> Result<Returned, End>
+fn carried_out<P: Port + Drop>(
+    work: &Work<'_>,
+    calls: u32,
+    nested: u32,
+    sub: Sub,
+    all: &[Passed],
+    store: &mut Store<P>,
+) -> Result<Returned, End>
     ensures { ShowsAs returned_of P.Tells (spec.carried_out work.now calls (sub_of work.now.typed.now.nodes sub) nested (passed_list work.now all.now)) result store.old store.new }
 {
     let value = function_value(work, calls, nested, sub, store)?;
@@ -81,7 +110,13 @@ fn carried_out<P: Port + Drop>(work: &Work<'_>, calls: u32, nested: u32, sub: Su
 
 #[cycle(walk)]
 #[inline(never)]
-fn function_value<P: Port + Drop>(work: &Work<'_>, calls: u32, nested: u32, sub: Sub, store: &mut Store<P>) -> Result<i64, End>
+fn function_value<P: Port + Drop>(
+    work: &Work<'_>,
+    calls: u32,
+    nested: u32,
+    sub: Sub,
+    store: &mut Store<P>,
+) -> Result<i64, End>
     ensures { Shows P.Tells (spec.function_value work.now calls (sub_of work.now.typed.now.nodes sub) nested) result store.old store.new }
 {
     let env = Env::Outset { nested };

@@ -20,24 +20,75 @@ use run_store::{End, Env, Leave, Part, Port, Range, Store};
 #[cycle(walk)]
 #[inline(never)]
 #[tactic(auto, unfolding(ada_stored::specs::Stored::bind, ada_stored::specs::Stored::ret, ada_stored::specs::Stored::leaves, ada_stored::specs::Stored::spent, ada_stored::specs::Stored::handles, crate::specs::Walk::course, crate::specs::Walk::eval, crate::specs::Walk::select))]
-pub fn begin_course<P: Port + Drop>(work: &Work<'_>, calls: u32, id: u32, env: &Env<'_>, store: &mut Store<P>) -> Result<Course, End>
+pub fn begin_course<P: Port + Drop>(
+    work: &Work<'_>,
+    calls: u32,
+    id: u32,
+    env: &Env<'_>,
+    store: &mut Store<P>,
+) -> Result<Course, End>
     ensures { ShowsAs course_of P.Tells (spec.course work.now calls (iteration_at (nodes_of work.now) id) (env_of env.now)) result store.old store.new }
 {
     match work.typed.nodes.iteration(id) {
-        None => Ok(Course::Components { item: 0, constant: true, part: Part { object: 0, offset: 0 }, count: 0, stride: 0 }),
-        Some(Iteration::Range { parameter, reverse, low, high, check, .. }) => {
+        None => Ok(Course::Components {
+            item: 0,
+            constant: true,
+            part: Part {
+                object: 0,
+                offset: 0,
+            },
+            count: 0,
+            stride: 0,
+        }),
+        Some(
+            Iteration::Range {
+                parameter,
+                reverse,
+                low,
+                high,
+                check,
+                ..
+            },
+        ) => {
             let l = eval(work, calls, low, env, store)?;
             let h = eval(work, calls, high, env, store)?;
             let range = Range { low: l, high: h };
             if bounds_hold(work.typed.nodes.check(check), range) {
-                Ok(Course::Values { parameter, reverse, range })
+                Ok(Course::Values {
+                    parameter,
+                    reverse,
+                    range,
+                })
             } else {
                 Err(End::Left(Leave::Raises(Reason::ConstraintError)))
             }
         }
-        Some(Iteration::Components { item, constant, root, selections, count, stride, .. }) => {
-            let part = select(work, calls, selections, env, env.array_root(constant, root), store)?;
-            Ok(Course::Components { item, constant, part, count, stride })
+        Some(
+            Iteration::Components {
+                item,
+                constant,
+                root,
+                selections,
+                count,
+                stride,
+                ..
+            },
+        ) => {
+            let part = select(
+                work,
+                calls,
+                selections,
+                env,
+                env.array_root(constant, root),
+                store,
+            )?;
+            Ok(Course::Components {
+                item,
+                constant,
+                part,
+                count,
+                stride,
+            })
         }
     }
 }
@@ -45,7 +96,13 @@ pub fn begin_course<P: Port + Drop>(work: &Work<'_>, calls: u32, id: u32, env: &
 /// Whether an iteration passes its filter (5.5).
 #[cycle(walk)]
 #[tactic(auto, unfolding(ada_stored::specs::Stored::bind, ada_stored::specs::Stored::ret, ada_stored::specs::Stored::leaves, ada_stored::specs::Stored::spent, ada_stored::specs::Stored::handles, crate::specs::Walk::filtered, crate::specs::Walk::holds))]
-pub fn filtered<P: Port + Drop>(work: &Work<'_>, calls: u32, id: u32, env: &Env<'_>, store: &mut Store<P>) -> Result<bool, End>
+pub fn filtered<P: Port + Drop>(
+    work: &Work<'_>,
+    calls: u32,
+    id: u32,
+    env: &Env<'_>,
+    store: &mut Store<P>,
+) -> Result<bool, End>
     ensures { Shows P.Tells (spec.filtered work.now calls (iteration_at (nodes_of work.now) id) (env_of env.now)) result store.old store.new }
 {
     match work.typed.nodes.iteration(id) {

@@ -18,23 +18,63 @@ use run_store::{End, Env, Leave, Object, Port, Store, between, bit, compares, is
 /// The value of an expression, where so many more calls may be active.
 #[cycle(walk)]
 #[tactic(auto, unfolding(ada_stored::specs::Stored::bind, ada_stored::specs::Stored::ret, ada_stored::specs::Stored::leaves, ada_stored::specs::Stored::spent, ada_stored::specs::Stored::handles, crate::specs::Walk::eval, crate::specs::Walk::select))]
-pub fn eval<P: Port + Drop>(work: &Work<'_>, calls: u32, id: u32, env: &Env<'_>, store: &mut Store<P>) -> Result<i64, End>
+pub fn eval<P: Port + Drop>(
+    work: &Work<'_>,
+    calls: u32,
+    id: u32,
+    env: &Env<'_>,
+    store: &mut Store<P>,
+) -> Result<i64, End>
     ensures { Shows P.Tells (spec.eval work.now calls (expr_at (nodes_of work.now) id) (env_of env.now)) result store.old store.new }
 {
     match work.typed.nodes.expr(id) {
         Expr::Static { value, .. } => Ok(value),
-        Expr::Variable { root, selections, .. } => variable(work, calls, root, selections, env, store),
-        Expr::Constant { root, selections, .. } => constant(work, calls, root, selections, env, store),
+        Expr::Variable {
+            root,
+            selections,
+            ..
+        } => variable(work, calls, root, selections, env, store),
+        Expr::Constant {
+            root,
+            selections,
+            ..
+        } => constant(work, calls, root, selections, env, store),
         Expr::Parameter { parameter, .. } => Ok(env.parameter(parameter)),
         Expr::Target { .. } => target(work, calls, env, store),
         Expr::Group { inside } => eval(work, calls, inside, env, store),
-        Expr::Unary { at, sign, class, operand } => unary(work, calls, at, sign, class, operand, env, store),
-        Expr::Binary { at, op, class, left, right } => binary(work, calls, at, op, class, left, right, env, store),
+        Expr::Unary {
+            at,
+            sign,
+            class,
+            operand,
+        } => unary(work, calls, at, sign, class, operand, env, store),
+        Expr::Binary {
+            at,
+            op,
+            class,
+            left,
+            right,
+        } => binary(work, calls, at, op, class, left, right, env, store),
         Expr::AndThen { left, right } => and_then(work, calls, left, right, env, store),
         Expr::OrElse { left, right } => or_else(work, calls, left, right, env, store),
-        Expr::Relation { comparison, left, right, .. } => relation(work, calls, comparison, left, right, env, store),
-        Expr::Membership { negated, value, low, high, .. } => membership(work, calls, negated, value, low, high, env, store),
-        Expr::If { condition, value, otherwise } => conditional(work, calls, condition, value, otherwise, env, store),
+        Expr::Relation {
+            comparison,
+            left,
+            right,
+            ..
+        } => relation(work, calls, comparison, left, right, env, store),
+        Expr::Membership {
+            negated,
+            value,
+            low,
+            high,
+            ..
+        } => membership(work, calls, negated, value, low, high, env, store),
+        Expr::If {
+            condition,
+            value,
+            otherwise,
+        } => conditional(work, calls, condition, value, otherwise, env, store),
         Expr::Convert { check, value } => converted(work, calls, check, value, env, store),
         Expr::Call { sub, actuals, .. } => call_function(work, calls, sub, actuals, env, store),
         Expr::Reduction { .. } => Err(End::NoMemory),
@@ -43,7 +83,14 @@ pub fn eval<P: Port + Drop>(work: &Work<'_>, calls: u32, id: u32, env: &Env<'_>,
 
 #[cycle(walk)]
 #[inline(never)]
-fn variable<P: Port + Drop>(work: &Work<'_>, calls: u32, root: Root, selections: u32, env: &Env<'_>, store: &mut Store<P>) -> Result<i64, End>
+fn variable<P: Port + Drop>(
+    work: &Work<'_>,
+    calls: u32,
+    root: Root,
+    selections: u32,
+    env: &Env<'_>,
+    store: &mut Store<P>,
+) -> Result<i64, End>
     ensures { Shows P.Tells (spec.variable work.now calls root (selections_at (nodes_of work.now) selections) (env_of env.now)) result store.old store.new }
 {
     let part = select(work, calls, selections, env, env.variable_root(root), store)?;
@@ -52,14 +99,26 @@ fn variable<P: Port + Drop>(work: &Work<'_>, calls: u32, root: Root, selections:
 
 #[cycle(walk)]
 #[inline(never)]
-fn constant<P: Port + Drop>(work: &Work<'_>, calls: u32, root: Root, selections: u32, env: &Env<'_>, store: &mut Store<P>) -> Result<i64, End>
+fn constant<P: Port + Drop>(
+    work: &Work<'_>,
+    calls: u32,
+    root: Root,
+    selections: u32,
+    env: &Env<'_>,
+    store: &mut Store<P>,
+) -> Result<i64, End>
     ensures { Shows P.Tells (spec.constant work.now calls root (selections_at (nodes_of work.now) selections) (env_of env.now)) result store.old store.new }
 {
     let part = select(work, calls, selections, env, env.constant_root(root), store)?;
     store.read(Object::Constant(part.object), part.offset)
 }
 
-fn target<P: Port + Drop>(work: &Work<'_>, calls: u32, env: &Env<'_>, store: &Store<P>) -> Result<i64, End>
+fn target<P: Port + Drop>(
+    work: &Work<'_>,
+    calls: u32,
+    env: &Env<'_>,
+    store: &Store<P>,
+) -> Result<i64, End>
     ensures { Shows P.Tells (spec.target work.now calls (env_of env.now)) result store.now store.now }
 {
     let part = env.target();
@@ -68,7 +127,16 @@ fn target<P: Port + Drop>(work: &Work<'_>, calls: u32, env: &Env<'_>, store: &St
 
 #[cycle(walk)]
 #[inline(never)]
-fn unary<P: Port + Drop>(work: &Work<'_>, calls: u32, at: u32, sign: Sign, class: Class, operand: u32, env: &Env<'_>, store: &mut Store<P>) -> Result<i64, End>
+fn unary<P: Port + Drop>(
+    work: &Work<'_>,
+    calls: u32,
+    at: u32,
+    sign: Sign,
+    class: Class,
+    operand: u32,
+    env: &Env<'_>,
+    store: &mut Store<P>,
+) -> Result<i64, End>
     ensures { Shows P.Tells (spec.unary_of work.now calls sign at class (expr_at (nodes_of work.now) operand) (env_of env.now)) result store.old store.new }
 {
     let x = eval(work, calls, operand, env, store)?;
@@ -77,7 +145,17 @@ fn unary<P: Port + Drop>(work: &Work<'_>, calls: u32, at: u32, sign: Sign, class
 
 #[cycle(walk)]
 #[inline(never)]
-fn binary<P: Port + Drop>(work: &Work<'_>, calls: u32, at: u32, op: Op, class: Class, left: u32, right: u32, env: &Env<'_>, store: &mut Store<P>) -> Result<i64, End>
+fn binary<P: Port + Drop>(
+    work: &Work<'_>,
+    calls: u32,
+    at: u32,
+    op: Op,
+    class: Class,
+    left: u32,
+    right: u32,
+    env: &Env<'_>,
+    store: &mut Store<P>,
+) -> Result<i64, End>
     ensures { Shows P.Tells (spec.binary work.now calls op at class (expr_at (nodes_of work.now) left) (expr_at (nodes_of work.now) right) (env_of env.now)) result store.old store.new }
 {
     let x = eval(work, calls, left, env, store)?;
@@ -87,7 +165,14 @@ fn binary<P: Port + Drop>(work: &Work<'_>, calls: u32, at: u32, op: Op, class: C
 
 #[cycle(walk)]
 #[inline(never)]
-fn and_then<P: Port + Drop>(work: &Work<'_>, calls: u32, left: u32, right: u32, env: &Env<'_>, store: &mut Store<P>) -> Result<i64, End>
+fn and_then<P: Port + Drop>(
+    work: &Work<'_>,
+    calls: u32,
+    left: u32,
+    right: u32,
+    env: &Env<'_>,
+    store: &mut Store<P>,
+) -> Result<i64, End>
     ensures { Shows P.Tells (spec.and_then work.now calls (expr_at (nodes_of work.now) left) (expr_at (nodes_of work.now) right) (env_of env.now)) result store.old store.new }
 {
     let x = eval(work, calls, left, env, store)?;
@@ -101,7 +186,14 @@ fn and_then<P: Port + Drop>(work: &Work<'_>, calls: u32, left: u32, right: u32, 
 
 #[cycle(walk)]
 #[inline(never)]
-fn or_else<P: Port + Drop>(work: &Work<'_>, calls: u32, left: u32, right: u32, env: &Env<'_>, store: &mut Store<P>) -> Result<i64, End>
+fn or_else<P: Port + Drop>(
+    work: &Work<'_>,
+    calls: u32,
+    left: u32,
+    right: u32,
+    env: &Env<'_>,
+    store: &mut Store<P>,
+) -> Result<i64, End>
     ensures { Shows P.Tells (spec.or_else work.now calls (expr_at (nodes_of work.now) left) (expr_at (nodes_of work.now) right) (env_of env.now)) result store.old store.new }
 {
     let x = eval(work, calls, left, env, store)?;
@@ -115,7 +207,15 @@ fn or_else<P: Port + Drop>(work: &Work<'_>, calls: u32, left: u32, right: u32, e
 
 #[cycle(walk)]
 #[inline(never)]
-fn relation<P: Port + Drop>(work: &Work<'_>, calls: u32, comparison: Comparison, left: u32, right: u32, env: &Env<'_>, store: &mut Store<P>) -> Result<i64, End>
+fn relation<P: Port + Drop>(
+    work: &Work<'_>,
+    calls: u32,
+    comparison: Comparison,
+    left: u32,
+    right: u32,
+    env: &Env<'_>,
+    store: &mut Store<P>,
+) -> Result<i64, End>
     ensures { Shows P.Tells (spec.relation work.now calls comparison (expr_at (nodes_of work.now) left) (expr_at (nodes_of work.now) right) (env_of env.now)) result store.old store.new }
 {
     let x = eval(work, calls, left, env, store)?;
@@ -126,19 +226,40 @@ fn relation<P: Port + Drop>(work: &Work<'_>, calls: u32, comparison: Comparison,
 
 #[cycle(walk)]
 #[inline(never)]
-fn membership<P: Port + Drop>(work: &Work<'_>, calls: u32, negated: bool, value: u32, low: u32, high: u32, env: &Env<'_>, store: &mut Store<P>) -> Result<i64, End>
+fn membership<P: Port + Drop>(
+    work: &Work<'_>,
+    calls: u32,
+    negated: bool,
+    value: u32,
+    low: u32,
+    high: u32,
+    env: &Env<'_>,
+    store: &mut Store<P>,
+) -> Result<i64, End>
     ensures { Shows P.Tells (spec.membership work.now calls negated (expr_at (nodes_of work.now) value) (expr_at (nodes_of work.now) low) (expr_at (nodes_of work.now) high) (env_of env.now)) result store.old store.new }
 {
     let x = eval(work, calls, value, env, store)?;
     let l = eval(work, calls, low, env, store)?;
     let h = eval(work, calls, high, env, store)?;
-    let found = if negated { !between(l, x, h) } else { between(l, x, h) };
+    let found = if negated {
+        !between(l, x, h)
+    } else {
+        between(l, x, h)
+    };
     Ok(bit(found))
 }
 
 #[cycle(walk)]
 #[inline(never)]
-fn conditional<P: Port + Drop>(work: &Work<'_>, calls: u32, condition: u32, value: u32, otherwise: u32, env: &Env<'_>, store: &mut Store<P>) -> Result<i64, End>
+fn conditional<P: Port + Drop>(
+    work: &Work<'_>,
+    calls: u32,
+    condition: u32,
+    value: u32,
+    otherwise: u32,
+    env: &Env<'_>,
+    store: &mut Store<P>,
+) -> Result<i64, End>
     ensures { Shows P.Tells (spec.conditional work.now calls (expr_at (nodes_of work.now) condition) (expr_at (nodes_of work.now) value) (expr_at (nodes_of work.now) otherwise) (env_of env.now)) result store.old store.new }
 {
     let c = eval(work, calls, condition, env, store)?;
@@ -153,7 +274,14 @@ fn conditional<P: Port + Drop>(work: &Work<'_>, calls: u32, condition: u32, valu
 
 #[cycle(walk)]
 #[inline(never)]
-fn converted<P: Port + Drop>(work: &Work<'_>, calls: u32, check: Check, value: u32, env: &Env<'_>, store: &mut Store<P>) -> Result<i64, End>
+fn converted<P: Port + Drop>(
+    work: &Work<'_>,
+    calls: u32,
+    check: Check,
+    value: u32,
+    env: &Env<'_>,
+    store: &mut Store<P>,
+) -> Result<i64, End>
     ensures { Shows P.Tells (spec.converted work.now calls check (expr_at (nodes_of work.now) value) (env_of env.now)) result store.old store.new }
 {
     let x = eval(work, calls, value, env, store)?;
@@ -167,7 +295,13 @@ fn converted<P: Port + Drop>(work: &Work<'_>, calls: u32, check: Check, value: u
 /// Whether an expression that may be left out is there and False.
 #[cycle(walk)]
 #[tactic(auto, using(crate::proofs::Parts::present_is), unfolding(ada_stored::specs::Stored::bind, ada_stored::specs::Stored::ret, ada_stored::specs::Stored::leaves, ada_stored::specs::Stored::spent, ada_stored::specs::Stored::handles, crate::specs::Walk::eval, crate::specs::Walk::holds))]
-pub fn holds<P: Port + Drop>(work: &Work<'_>, calls: u32, id: u32, env: &Env<'_>, store: &mut Store<P>) -> Result<bool, End>
+pub fn holds<P: Port + Drop>(
+    work: &Work<'_>,
+    calls: u32,
+    id: u32,
+    env: &Env<'_>,
+    store: &mut Store<P>,
+) -> Result<bool, End>
     ensures { Shows P.Tells (spec.holds work.now calls (optional_at (nodes_of work.now) id) (env_of env.now)) result store.old store.new }
 {
     match work.typed.nodes.optional(id) {
@@ -181,7 +315,14 @@ pub fn holds<P: Port + Drop>(work: &Work<'_>, calls: u32, id: u32, env: &Env<'_>
 
 #[cycle(walk)]
 #[inline(never)]
-fn call_function<P: Port + Drop>(work: &Work<'_>, calls: u32, sub: u32, actuals: u32, env: &Env<'_>, store: &mut Store<P>) -> Result<i64, End>
+fn call_function<P: Port + Drop>(
+    work: &Work<'_>,
+    calls: u32,
+    sub: u32,
+    actuals: u32,
+    env: &Env<'_>,
+    store: &mut Store<P>,
+) -> Result<i64, End>
     ensures { Shows P.Tells (spec.call_function work.now calls sub (actuals_at (nodes_of work.now) actuals) (env_of env.now)) result store.old store.new }
 {
     let passed = pass(work, calls, actuals, env, Items::new(work.alloc), store)?;

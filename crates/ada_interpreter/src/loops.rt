@@ -18,7 +18,15 @@ use run_store::{End, Env, Port, Store};
 /// `loop` and `while` (5.5)
 #[cycle(walk)]
 #[inline(never)]
-pub fn while_stmt<P: Port + Drop>(work: &Work<'_>, calls: u32, number: u32, condition: u32, stmts: u32, env: &Env<'_>, store: &mut Store<P>) -> Result<(), End>
+pub fn while_stmt<P: Port + Drop>(
+    work: &Work<'_>,
+    calls: u32,
+    number: u32,
+    condition: u32,
+    stmts: u32,
+    env: &Env<'_>,
+    store: &mut Store<P>,
+) -> Result<(), End>
     ensures { Shows P.Tells (spec.while_stmt work.now calls number (optional_at (nodes_of work.now) condition) (stmts_at (nodes_of work.now) stmts) (env_of env.now)) result store.old store.new }
 {
     let how = while_loop(work, calls, condition, stmts, env, store);
@@ -27,7 +35,14 @@ pub fn while_stmt<P: Port + Drop>(work: &Work<'_>, calls: u32, number: u32, cond
 
 #[cycle(walk)]
 #[inline(never)]
-fn while_loop<P: Port + Drop>(work: &Work<'_>, calls: u32, condition: u32, stmts: u32, env: &Env<'_>, store: &mut Store<P>) -> Result<(), End>
+fn while_loop<P: Port + Drop>(
+    work: &Work<'_>,
+    calls: u32,
+    condition: u32,
+    stmts: u32,
+    env: &Env<'_>,
+    store: &mut Store<P>,
+) -> Result<(), End>
     ensures { Shows P.Tells (spec.while_loop work.now calls (optional_at (nodes_of work.now) condition) (stmts_at (nodes_of work.now) stmts) (env_of env.now)) result store.old store.new }
 {
     for turn in 0..=work.limit {
@@ -44,7 +59,15 @@ fn while_loop<P: Port + Drop>(work: &Work<'_>, calls: u32, condition: u32, stmts
 /// `for` (5.5)
 #[cycle(walk)]
 #[inline(never)]
-pub fn for_stmt<P: Port + Drop>(work: &Work<'_>, calls: u32, number: u32, iteration: u32, stmts: u32, env: &Env<'_>, store: &mut Store<P>) -> Result<(), End>
+pub fn for_stmt<P: Port + Drop>(
+    work: &Work<'_>,
+    calls: u32,
+    number: u32,
+    iteration: u32,
+    stmts: u32,
+    env: &Env<'_>,
+    store: &mut Store<P>,
+) -> Result<(), End>
     ensures { Shows P.Tells (spec.for_stmt work.now calls number (iteration_at (nodes_of work.now) iteration) (stmts_at (nodes_of work.now) stmts) (env_of env.now)) result store.old store.new }
 {
     let course = begin_course(work, calls, iteration, env, store)?;
@@ -54,7 +77,15 @@ pub fn for_stmt<P: Port + Drop>(work: &Work<'_>, calls: u32, number: u32, iterat
 
 #[cycle(walk)]
 #[inline(never)]
-fn for_loop<P: Port + Drop>(work: &Work<'_>, calls: u32, course: Course, iteration: u32, stmts: u32, env: &Env<'_>, store: &mut Store<P>) -> Result<(), End>
+fn for_loop<P: Port + Drop>(
+    work: &Work<'_>,
+    calls: u32,
+    course: Course,
+    iteration: u32,
+    stmts: u32,
+    env: &Env<'_>,
+    store: &mut Store<P>,
+) -> Result<(), End>
     ensures { Shows P.Tells (spec.for_loop work.now calls (course_of course) (iteration_at (nodes_of work.now) iteration) (stmts_at (nodes_of work.now) stmts) (env_of env.now)) result store.old store.new }
 {
     let count = course.count()?;
@@ -67,7 +98,16 @@ fn for_loop<P: Port + Drop>(work: &Work<'_>, calls: u32, course: Course, iterati
 // an iteration: its turn, its filter, and what is done where that passes
 #[cycle(walk)]
 #[inline(never)]
-fn iterate<P: Port + Drop>(work: &Work<'_>, calls: u32, course: Course, index: u64, iteration: u32, stmts: u32, env: &Env<'_>, store: &mut Store<P>) -> Result<(), End>
+fn iterate<P: Port + Drop>(
+    work: &Work<'_>,
+    calls: u32,
+    course: Course,
+    index: u64,
+    iteration: u32,
+    stmts: u32,
+    env: &Env<'_>,
+    store: &mut Store<P>,
+) -> Result<(), End>
     requires { index < (course_of course).count }
     ensures { Shows P.Tells (spec.iterate work.now calls (iteration_at (nodes_of work.now) iteration) (stmts_at (nodes_of work.now) stmts) ((course_of course).bound index (env_of env.now))) result store.old store.new }
 {

@@ -18,17 +18,36 @@ use run_store::{End, Env, Leave, Part, Port, Range, Store, between};
 /// The part that selections lead to (4.1.1, 4.1.3).
 #[cycle(walk)]
 #[tactic(auto, unfolding(ada_stored::specs::Stored::bind, ada_stored::specs::Stored::ret, ada_stored::specs::Stored::leaves, ada_stored::specs::Stored::spent, ada_stored::specs::Stored::handles, crate::specs::Walk::eval, crate::specs::Walk::select))]
-pub fn select<P: Port + Drop>(work: &Work<'_>, calls: u32, id: u32, env: &Env<'_>, part: Part, store: &mut Store<P>) -> Result<Part, End>
+pub fn select<P: Port + Drop>(
+    work: &Work<'_>,
+    calls: u32,
+    id: u32,
+    env: &Env<'_>,
+    part: Part,
+    store: &mut Store<P>,
+) -> Result<Part, End>
     ensures { ShowsAs part_of P.Tells (spec.select work.now calls (selections_at (nodes_of work.now) id) (env_of env.now) (part_of part)) result store.old store.new }
 {
     match work.typed.nodes.selections(id) {
         None => Ok(part),
         Some(cell) => match work.typed.nodes.selection(cell.first) {
             None => select(work, calls, cell.rest, env, part, store),
-            Some(Selection::Field { offset, .. }) => field(work, calls, offset, cell.rest, env, part, store),
-            Some(Selection::Index { at, index: value, low, high, stride }) => {
+            Some(Selection::Field { offset, .. }) => field(
+                work, calls, offset, cell.rest, env, part, store,
+            ),
+            Some(
+                Selection::Index {
+                    at,
+                    index: value,
+                    low,
+                    high,
+                    stride,
+                },
+            ) => {
                 let range = Range { low, high };
-                index(work, calls, at, value, range, stride, cell.rest, env, part, store)
+                index(
+                    work, calls, at, value, range, stride, cell.rest, env, part, store,
+                )
             }
         },
     }
@@ -36,7 +55,15 @@ pub fn select<P: Port + Drop>(work: &Work<'_>, calls: u32, id: u32, env: &Env<'_
 
 #[cycle(walk)]
 #[inline(never)]
-fn field<P: Port + Drop>(work: &Work<'_>, calls: u32, offset: u32, rest: u32, env: &Env<'_>, part: Part, store: &mut Store<P>) -> Result<Part, End>
+fn field<P: Port + Drop>(
+    work: &Work<'_>,
+    calls: u32,
+    offset: u32,
+    rest: u32,
+    env: &Env<'_>,
+    part: Part,
+    store: &mut Store<P>,
+) -> Result<Part, End>
     ensures { ShowsAs part_of P.Tells (spec.field work.now calls offset (selections_at (nodes_of work.now) rest) (env_of env.now) (part_of part)) result store.old store.new }
 {
     let inner = moved(part, u64::from(offset))?;
@@ -46,7 +73,18 @@ fn field<P: Port + Drop>(work: &Work<'_>, calls: u32, offset: u32, rest: u32, en
 
 #[cycle(walk)]
 #[inline(never)]
-fn index<P: Port + Drop>(work: &Work<'_>, calls: u32, at: u32, value: u32, range: Range, stride: u32, rest: u32, env: &Env<'_>, part: Part, store: &mut Store<P>) -> Result<Part, End>
+fn index<P: Port + Drop>(
+    work: &Work<'_>,
+    calls: u32,
+    at: u32,
+    value: u32,
+    range: Range,
+    stride: u32,
+    rest: u32,
+    env: &Env<'_>,
+    part: Part,
+    store: &mut Store<P>,
+) -> Result<Part, End>
     ensures { ShowsAs part_of P.Tells (spec.index work.now calls at (expr_at (nodes_of work.now) value) range.low range.high stride (selections_at (nodes_of work.now) rest) (env_of env.now) (part_of part)) result store.old store.new }
 {
     let _ = at;

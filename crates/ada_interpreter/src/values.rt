@@ -18,7 +18,13 @@ use run_store::{End, Env, Leave, Object, Part, Port, Store, is_in, is_true};
 #[cycle(walk)]
 #[inline(never)]
 #[tactic(auto, unfolding(ada_stored::specs::Stored::bind, ada_stored::specs::Stored::ret, ada_stored::specs::Stored::leaves, ada_stored::specs::Stored::spent, ada_stored::specs::Stored::handles, crate::specs::Walk::cells, crate::specs::Walk::composite, crate::specs::Walk::eval))]
-pub fn cells<P: Port + Drop>(work: &Work<'_>, calls: u32, id: u32, env: &Env<'_>, store: &mut Store<P>) -> Result<Items<i64>, End>
+pub fn cells<P: Port + Drop>(
+    work: &Work<'_>,
+    calls: u32,
+    id: u32,
+    env: &Env<'_>,
+    store: &mut Store<P>,
+) -> Result<Items<i64>, End>
     ensures { Shows P.Tells (spec.cells work.now calls (value_at (nodes_of work.now) id) (env_of env.now)) result store.old store.new }
 {
     match work.typed.nodes.value(id) {
@@ -35,7 +41,14 @@ pub fn cells<P: Port + Drop>(work: &Work<'_>, calls: u32, id: u32, env: &Env<'_>
 }
 
 #[cycle(walk)]
-fn number<P: Port + Drop>(work: &Work<'_>, calls: u32, check: Check, value: u32, env: &Env<'_>, store: &mut Store<P>) -> Result<Items<i64>, End>
+fn number<P: Port + Drop>(
+    work: &Work<'_>,
+    calls: u32,
+    check: Check,
+    value: u32,
+    env: &Env<'_>,
+    store: &mut Store<P>,
+) -> Result<Items<i64>, End>
     ensures { Shows P.Tells (spec.number work.now calls check (expr_at (nodes_of work.now) value) (env_of env.now)) result store.old store.new }
 {
     let x = eval(work, calls, value, env, store)?;
@@ -51,28 +64,58 @@ fn number<P: Port + Drop>(work: &Work<'_>, calls: u32, check: Check, value: u32,
 #[cycle(walk)]
 #[inline(never)]
 #[tactic(auto, unfolding(ada_stored::specs::Stored::bind, ada_stored::specs::Stored::ret, ada_stored::specs::Stored::leaves, ada_stored::specs::Stored::spent, ada_stored::specs::Stored::handles, crate::specs::Walk::composite, crate::specs::Walk::associated, crate::specs::Walk::eval, crate::specs::Walk::select, run_parts::specs::Words::read_all))]
-pub fn composite<P: Port + Drop>(work: &Work<'_>, calls: u32, id: u32, env: &Env<'_>, store: &mut Store<P>) -> Result<Items<i64>, End>
+pub fn composite<P: Port + Drop>(
+    work: &Work<'_>,
+    calls: u32,
+    id: u32,
+    env: &Env<'_>,
+    store: &mut Store<P>,
+) -> Result<Items<i64>, End>
     ensures { Shows P.Tells (spec.composite work.now calls (composite_at (nodes_of work.now) id) (env_of env.now)) result store.old store.new }
 {
     match work.typed.nodes.composite(id) {
-        Composite::WholeVariable { root, selections, subtype, .. } => {
+        Composite::WholeVariable {
+            root,
+            selections,
+            subtype,
+            ..
+        } => {
             let values = whole_variable(work, calls, root, selections, subtype, env, store)?;
             Ok(values)
         }
-        Composite::WholeConstant { root, selections, subtype, .. } => {
+        Composite::WholeConstant {
+            root,
+            selections,
+            subtype,
+            ..
+        } => {
             let values = whole_constant(work, calls, root, selections, subtype, env, store)?;
             Ok(values)
         }
         Composite::WholeTarget { subtype, .. } => {
             let part = env.target();
-            let values = read_whole(work, Object::Variable(part.object), part.offset, subtype, store)?;
+            let values = read_whole(
+                work,
+                Object::Variable(part.object),
+                part.offset,
+                subtype,
+                store,
+            )?;
             Ok(values)
         }
-        Composite::If { condition, value, otherwise } => {
+        Composite::If {
+            condition,
+            value,
+            otherwise,
+        } => {
             let values = composite_if(work, calls, condition, value, otherwise, env, store)?;
             Ok(values)
         }
-        Composite::Aggregate { cells: count, associations, .. } => {
+        Composite::Aggregate {
+            cells: count,
+            associations,
+            ..
+        } => {
             let first = zeros(work, count)?;
             let values = associated(work, calls, associations, env, first, store)?;
             Ok(values)
@@ -82,27 +125,63 @@ pub fn composite<P: Port + Drop>(work: &Work<'_>, calls: u32, id: u32, env: &Env
 
 #[cycle(walk)]
 #[inline(never)]
-fn whole_variable<P: Port + Drop>(work: &Work<'_>, calls: u32, root: Root, selections: u32, subtype: u32, env: &Env<'_>, store: &mut Store<P>) -> Result<Items<i64>, End>
+fn whole_variable<P: Port + Drop>(
+    work: &Work<'_>,
+    calls: u32,
+    root: Root,
+    selections: u32,
+    subtype: u32,
+    env: &Env<'_>,
+    store: &mut Store<P>,
+) -> Result<Items<i64>, End>
     ensures { Shows P.Tells (spec.whole_variable work.now calls root (selections_at (nodes_of work.now) selections) subtype (env_of env.now)) result store.old store.new }
 {
     let part = select(work, calls, selections, env, env.variable_root(root), store)?;
-    let values = read_whole(work, Object::Variable(part.object), part.offset, subtype, store)?;
+    let values = read_whole(
+        work,
+        Object::Variable(part.object),
+        part.offset,
+        subtype,
+        store,
+    )?;
     Ok(values)
 }
 
 #[cycle(walk)]
 #[inline(never)]
-fn whole_constant<P: Port + Drop>(work: &Work<'_>, calls: u32, root: Root, selections: u32, subtype: u32, env: &Env<'_>, store: &mut Store<P>) -> Result<Items<i64>, End>
+fn whole_constant<P: Port + Drop>(
+    work: &Work<'_>,
+    calls: u32,
+    root: Root,
+    selections: u32,
+    subtype: u32,
+    env: &Env<'_>,
+    store: &mut Store<P>,
+) -> Result<Items<i64>, End>
     ensures { Shows P.Tells (spec.whole_constant work.now calls root (selections_at (nodes_of work.now) selections) subtype (env_of env.now)) result store.old store.new }
 {
     let part = select(work, calls, selections, env, env.constant_root(root), store)?;
-    let values = read_whole(work, Object::Constant(part.object), part.offset, subtype, store)?;
+    let values = read_whole(
+        work,
+        Object::Constant(part.object),
+        part.offset,
+        subtype,
+        store,
+    )?;
     Ok(values)
 }
 
 #[cycle(walk)]
 #[inline(never)]
-fn composite_if<P: Port + Drop>(work: &Work<'_>, calls: u32, condition: u32, value: u32, otherwise: u32, env: &Env<'_>, store: &mut Store<P>) -> Result<Items<i64>, End>
+fn composite_if<P: Port + Drop>(
+    work: &Work<'_>,
+    calls: u32,
+    condition: u32,
+    value: u32,
+    otherwise: u32,
+    env: &Env<'_>,
+    store: &mut Store<P>,
+) -> Result<Items<i64>, End>
     ensures { Shows P.Tells (spec.composite_if work.now calls (expr_at (nodes_of work.now) condition) (composite_at (nodes_of work.now) value) (composite_at (nodes_of work.now) otherwise) (env_of env.now)) result store.old store.new }
 {
     let c = eval(work, calls, condition, env, store)?;
@@ -119,7 +198,14 @@ fn composite_if<P: Port + Drop>(work: &Work<'_>, calls: u32, condition: u32, val
 #[cycle(walk)]
 #[inline(never)]
 #[tactic(auto, unfolding(ada_stored::specs::Stored::bind, ada_stored::specs::Stored::ret, ada_stored::specs::Stored::leaves, ada_stored::specs::Stored::spent, ada_stored::specs::Stored::handles, crate::specs::Walk::associated, crate::specs::Walk::runs_values, crate::specs::Walk::cells))]
-fn associated<P: Port + Drop>(work: &Work<'_>, calls: u32, id: u32, env: &Env<'_>, out: Items<i64>, store: &mut Store<P>) -> Result<Items<i64>, End>
+fn associated<P: Port + Drop>(
+    work: &Work<'_>,
+    calls: u32,
+    id: u32,
+    env: &Env<'_>,
+    out: Items<i64>,
+    store: &mut Store<P>,
+) -> Result<Items<i64>, End>
     ensures { Shows P.Tells (spec.associated work.now calls (associations_at (nodes_of work.now) id) (env_of env.now) out) result store.old store.new }
 {
     match work.typed.nodes.associations(id) {
@@ -130,7 +216,16 @@ fn associated<P: Port + Drop>(work: &Work<'_>, calls: u32, id: u32, env: &Env<'_
                 Ok(all)
             }
             Some(association) => {
-                let more = runs_values(work, calls, association.runs, association.iterated, association.value, env, out, store)?;
+                let more = runs_values(
+                    work,
+                    calls,
+                    association.runs,
+                    association.iterated,
+                    association.value,
+                    env,
+                    out,
+                    store,
+                )?;
                 let all = associated(work, calls, cell.rest, env, more, store)?;
                 Ok(all)
             }
@@ -141,7 +236,16 @@ fn associated<P: Port + Drop>(work: &Work<'_>, calls: u32, id: u32, env: &Env<'_
 #[cycle(walk)]
 #[inline(never)]
 #[tactic(auto, unfolding(ada_stored::specs::Stored::bind, ada_stored::specs::Stored::ret, ada_stored::specs::Stored::leaves, ada_stored::specs::Stored::spent, ada_stored::specs::Stored::handles, crate::specs::Walk::runs_values, crate::specs::Walk::run_values))]
-fn runs_values<P: Port + Drop>(work: &Work<'_>, calls: u32, runs: u32, iterated: Option<Iterated>, value: u32, env: &Env<'_>, out: Items<i64>, store: &mut Store<P>) -> Result<Items<i64>, End>
+fn runs_values<P: Port + Drop>(
+    work: &Work<'_>,
+    calls: u32,
+    runs: u32,
+    iterated: Option<Iterated>,
+    value: u32,
+    env: &Env<'_>,
+    out: Items<i64>,
+    store: &mut Store<P>,
+) -> Result<Items<i64>, End>
     ensures { Shows P.Tells (spec.runs_values work.now calls (runs_in (leaves_at (nodes_of work.now) runs)) iterated (value_at (nodes_of work.now) value) (env_of env.now) out) result store.old store.new }
 {
     match work.typed.nodes.leaf(runs) {
@@ -162,7 +266,16 @@ fn runs_values<P: Port + Drop>(work: &Work<'_>, calls: u32, runs: u32, iterated:
 
 #[cycle(walk)]
 #[inline(never)]
-fn run_values<P: Port + Drop>(work: &Work<'_>, calls: u32, run: Run, iterated: Option<Iterated>, value: u32, env: &Env<'_>, out: Items<i64>, store: &mut Store<P>) -> Result<Items<i64>, End>
+fn run_values<P: Port + Drop>(
+    work: &Work<'_>,
+    calls: u32,
+    run: Run,
+    iterated: Option<Iterated>,
+    value: u32,
+    env: &Env<'_>,
+    out: Items<i64>,
+    store: &mut Store<P>,
+) -> Result<Items<i64>, End>
     ensures { Shows P.Tells (spec.run_values work.now calls 0 run.count run.first run.stride iterated (value_at (nodes_of work.now) value) (env_of env.now) out) result store.old store.new }
 {
     let mut cells = out;
@@ -179,7 +292,15 @@ fn run_values<P: Port + Drop>(work: &Work<'_>, calls: u32, run: Run, iterated: O
 #[cycle(walk)]
 #[inline(never)]
 #[tactic(auto, unfolding(ada_stored::specs::Stored::bind, ada_stored::specs::Stored::ret, ada_stored::specs::Stored::turn))]
-fn given<P: Port + Drop>(work: &Work<'_>, calls: u32, iterated: Option<Iterated>, index: u64, value: u32, env: &Env<'_>, store: &mut Store<P>) -> Result<Items<i64>, End>
+fn given<P: Port + Drop>(
+    work: &Work<'_>,
+    calls: u32,
+    iterated: Option<Iterated>,
+    index: u64,
+    value: u32,
+    env: &Env<'_>,
+    store: &mut Store<P>,
+) -> Result<Items<i64>, End>
     ensures { Shows P.Tells (spec.given work.now calls iterated index (value_at (nodes_of work.now) value) (env_of env.now)) result store.old store.new }
 {
     match iterated {
@@ -190,7 +311,11 @@ fn given<P: Port + Drop>(work: &Work<'_>, calls: u32, iterated: Option<Iterated>
         Some(iterated) => {
             turned(work, store)?;
             let place = placed(iterated.first, index)?;
-            let inner = Env::Parameter { number: iterated.parameter, value: place, outer: &*env };
+            let inner = Env::Parameter {
+                number: iterated.parameter,
+                value: place,
+                outer: &*env,
+            };
             let values = cells(work, calls, value, &inner, store)?;
             Ok(values)
         }
@@ -201,7 +326,14 @@ fn given<P: Port + Drop>(work: &Work<'_>, calls: u32, iterated: Option<Iterated>
 #[cycle(walk)]
 #[inline(never)]
 #[tactic(auto, unfolding(ada_stored::specs::Stored::bind, ada_stored::specs::Stored::ret, ada_stored::specs::Stored::leaves, ada_stored::specs::Stored::spent, ada_stored::specs::Stored::handles, crate::specs::Walk::cells, crate::specs::Walk::composite, crate::specs::Walk::eval, run_parts::specs::Words::write_all))]
-fn assigned<P: Port + Drop>(work: &Work<'_>, calls: u32, id: u32, part: Part, env: &Env<'_>, store: &mut Store<P>) -> Result<(), End>
+fn assigned<P: Port + Drop>(
+    work: &Work<'_>,
+    calls: u32,
+    id: u32,
+    part: Part,
+    env: &Env<'_>,
+    store: &mut Store<P>,
+) -> Result<(), End>
     ensures { Shows P.Tells (spec.assigned work.now calls (value_at (nodes_of work.now) id) (part_of part) (env_of env.now)) result store.old store.new }
 {
     match work.typed.nodes.value(id) {
@@ -226,7 +358,15 @@ fn assigned<P: Port + Drop>(work: &Work<'_>, calls: u32, id: u32, part: Part, en
 /// An assignment (5.2).
 #[cycle(walk)]
 #[inline(never)]
-pub fn assign<P: Port + Drop>(work: &Work<'_>, calls: u32, root: Root, selections: u32, value: u32, env: &Env<'_>, store: &mut Store<P>) -> Result<(), End>
+pub fn assign<P: Port + Drop>(
+    work: &Work<'_>,
+    calls: u32,
+    root: Root,
+    selections: u32,
+    value: u32,
+    env: &Env<'_>,
+    store: &mut Store<P>,
+) -> Result<(), End>
     ensures { Shows P.Tells (spec.assign work.now calls root (selections_at (nodes_of work.now) selections) (value_at (nodes_of work.now) value) (env_of env.now)) result store.old store.new }
 {
     let part = select(work, calls, selections, env, env.variable_root(root), store)?;

@@ -67,4 +67,3 @@ module _ (w : Work) (d : ℕ) where
 
   unfoldable pub all_copied_back : List Passed → List (List ℤ) → Stored (Unit {0})
   all_copied_back ps vss = meaning.all_copied_back (ops w) w.limit (program w.typed.now) (calls_of w d) ps vss
-

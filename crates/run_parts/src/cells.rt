@@ -22,7 +22,13 @@ pub fn turned<P: Port + Drop>(work: &Work<'_>, store: &mut Store<P>) -> Result<(
 }
 
 /// The cells of an array or record from an offset on.
-pub fn read_whole<P: Port + Drop>(work: &Work<'_>, object: Object, offset: u64, subtype: u32, store: &Store<P>) -> Result<Items<i64>, End>
+pub fn read_whole<P: Port + Drop>(
+    work: &Work<'_>,
+    object: Object,
+    offset: u64,
+    subtype: u32,
+    store: &Store<P>,
+) -> Result<Items<i64>, End>
     ensures { Shows P.Tells (spec.read_all work.now (entity_of object) offset [] (cells_at work.now subtype)) result store.now store.now }
 {
     let count = cells_of(work.typed, subtype)?;
@@ -37,7 +43,13 @@ pub fn read_whole<P: Port + Drop>(work: &Work<'_>, object: Object, offset: u64, 
 }
 
 /// Cells of a variable from an offset on get values.
-pub fn write_all<P: Port + Drop>(work: &Work<'_>, object: u32, offset: u64, values: &[i64], store: &mut Store<P>) -> Result<(), End>
+pub fn write_all<P: Port + Drop>(
+    work: &Work<'_>,
+    object: u32,
+    offset: u64,
+    values: &[i64],
+    store: &mut Store<P>,
+) -> Result<(), End>
     ensures { Shows P.Tells (spec.write_all work.now object offset values.now) result store.old store.new }
 {
     let _ = work;

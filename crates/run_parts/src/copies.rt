@@ -24,7 +24,12 @@ pub fn find_sub(work: &Work<'_>, number: u32) -> Option<Sub>
 
 /// The cells of the formals that are copied back, behind others.
 #[tactic(auto, unfolding(ada_stored::specs::Stored::bind, ada_stored::specs::Stored::ret, ada_stored::specs::Stored::leaves, ada_stored::specs::Stored::spent, ada_stored::specs::Stored::handles, crate::specs::Words::back_cells))]
-pub fn back_cells<P: Port + Drop>(work: &Work<'_>, passed: &[Passed], out: Items<Items<i64>>, store: &Store<P>) -> Result<Items<Items<i64>>, End>
+pub fn back_cells<P: Port + Drop>(
+    work: &Work<'_>,
+    passed: &[Passed],
+    out: Items<Items<i64>>,
+    store: &Store<P>,
+) -> Result<Items<Items<i64>>, End>
     ensures { Shows P.Tells (spec.back_cells work.now (passed_list work.now passed.now) out) result store.now store.now }
 {
     match passed.split_first() {
@@ -39,7 +44,12 @@ pub fn back_cells<P: Port + Drop>(work: &Work<'_>, passed: &[Passed], out: Items
 }
 
 #[tactic(auto, unfolding(ada_stored::specs::Stored::bind, ada_stored::specs::Stored::ret, ada_stored::specs::Stored::leaves, ada_stored::specs::Stored::spent, ada_stored::specs::Stored::handles, crate::specs::Words::read_all))]
-fn cells_back<P: Port + Drop>(work: &Work<'_>, formal: Object, back: Option<Back>, store: &Store<P>) -> Result<Items<i64>, End>
+fn cells_back<P: Port + Drop>(
+    work: &Work<'_>,
+    formal: Object,
+    back: Option<Back>,
+    store: &Store<P>,
+) -> Result<Items<i64>, End>
     ensures { Shows P.Tells (spec.cells_back work.now (entity_of formal) (back_option work.now back)) result store.now store.now }
 {
     match back {
@@ -70,7 +80,13 @@ fn push_cells(out: Items<Items<i64>>, cells: Items<i64>) -> Result<Items<Items<i
 
 /// What is copied back after a call, from left to right.
 #[tactic(auto, unfolding(ada_stored::specs::Stored::bind, ada_stored::specs::Stored::ret, ada_stored::specs::Stored::leaves, ada_stored::specs::Stored::spent, ada_stored::specs::Stored::handles, crate::specs::Words::all_copied_back))]
-pub fn all_copied_back<P: Port + Drop>(work: &Work<'_>, calls: u32, passed: &[Passed], cells: &[Items<i64>], store: &mut Store<P>) -> Result<(), End>
+pub fn all_copied_back<P: Port + Drop>(
+    work: &Work<'_>,
+    calls: u32,
+    passed: &[Passed],
+    cells: &[Items<i64>],
+    store: &mut Store<P>,
+) -> Result<(), End>
     ensures { Shows P.Tells (spec.all_copied_back work.now calls (passed_list work.now passed.now) cells.now) result store.old store.new }
 {
     match passed.split_first() {
@@ -87,7 +103,13 @@ pub fn all_copied_back<P: Port + Drop>(work: &Work<'_>, calls: u32, passed: &[Pa
 }
 
 #[tactic(auto, unfolding(ada_stored::specs::Stored::bind, ada_stored::specs::Stored::ret, ada_stored::specs::Stored::leaves, ada_stored::specs::Stored::spent, ada_stored::specs::Stored::handles, crate::specs::Words::write_all))]
-fn copied_back<P: Port + Drop>(work: &Work<'_>, calls: u32, back: Option<Back>, values: &[i64], store: &mut Store<P>) -> Result<(), End>
+fn copied_back<P: Port + Drop>(
+    work: &Work<'_>,
+    calls: u32,
+    back: Option<Back>,
+    values: &[i64],
+    store: &mut Store<P>,
+) -> Result<(), End>
     ensures { Shows P.Tells (spec.copied_back work.now calls (back_option work.now back) values.now) result store.old store.new }
 {
     match back {
@@ -128,4 +150,3 @@ pub fn first_cells(work: &Work<'_>, object: u32) -> Result<Items<i64>, End>
         }
     }
 }
-

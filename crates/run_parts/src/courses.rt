@@ -13,8 +13,18 @@ use run_store::{End, Env, Part, Range, count, downward, is_in, upward};
 /// What an iteration goes through, once that is evaluated: the values of a range, or components of an array.
 #[derive(Clone, Copy)]
 pub enum Course {
-    Values { parameter: u32, reverse: bool, range: Range },
-    Components { item: u32, constant: bool, part: Part, count: u32, stride: u32 },
+    Values {
+        parameter: u32,
+        reverse: bool,
+        range: Range,
+    },
+    Components {
+        item: u32,
+        constant: bool,
+        part: Part,
+        count: u32,
+        stride: u32,
+    },
 }
 
 impl Course {
@@ -37,16 +47,39 @@ impl Course {
         ensures { OrNoMemory (λ env. env_of env ≡ (course_of self).bound index (env_of outer.now)) result }
     {
         match self {
-            Course::Values { parameter, reverse, range } => {
-                let value = if reverse { downward(range, index) } else { upward(range, index) };
-                Ok(Env::Parameter { number: parameter, value, outer })
+            Course::Values {
+                parameter,
+                reverse,
+                range,
+            } => {
+                let value = if reverse {
+                    downward(range, index)
+                } else {
+                    upward(range, index)
+                };
+                Ok(Env::Parameter {
+                    number: parameter,
+                    value,
+                    outer,
+                })
             }
-            Course::Components { item, constant, part, stride, .. } => {
+            Course::Components {
+                item,
+                constant,
+                part,
+                stride,
+                ..
+            } => {
                 let Some(offset) = index.checked_mul(u64::from(stride)) else {
                     return Err(End::NoMemory);
                 };
                 let part = moved(part, offset)?;
-                Ok(Env::Item { constant, number: item, part, outer })
+                Ok(Env::Item {
+                    constant,
+                    number: item,
+                    part,
+                    outer,
+                })
             }
         }
     }
@@ -67,4 +100,3 @@ pub fn bounds_hold(check: Option<Check>, range: Range) -> bool
         }
     }
 }
-

@@ -84,7 +84,8 @@ fn is_chosen(work: &Work<'_>, id: u32, value: i64) -> bool
     match work.typed.nodes.leaf(id) {
         None => false,
         Some(cell) => match cell.leaf {
-            Leaf::Span(span) => between(span.low, value, span.high) || is_chosen(work, cell.rest, value),
+            Leaf::Span(span) => between(span.low, value, span.high)
+                || is_chosen(work, cell.rest, value),
             _ => is_chosen(work, cell.rest, value),
         },
     }

@@ -13,7 +13,10 @@ pub fn moved(part: Part, count: u64) -> Result<Part, End>
     ensures { OrNoMemory (λ inner. part_of inner ≡ meaning.moved (part_of part) count) result }
 {
     match part.offset.checked_add(count) {
-        Some(offset) => Ok(Part { object: part.object, offset }),
+        Some(offset) => Ok(Part {
+            object: part.object,
+            offset,
+        }),
         None => Err(End::NoMemory),
     }
 }

@@ -111,10 +111,13 @@ module _ {Tells : Type 0} where
       where
         same : cut_back region x mark u.state ≡ ended region (entity_of x) s.state u.state
         same = ends_so region x mark s u b.2 b.3
+
         ok : (e : Result A Cause) → m.does t.state ≡ at u.state e → (elaborates region (entity_of x) vs m).does s.state ≡ at (cut_back region x mark u.state) e
         ok e h = does_so region x vs m s.state u.state e b.1 (subst (λ z. m.does z ≡ at u.state e) b.4 h) ∙ ap (λ z. at z e) (sym same)
+
         stop : (c : Fault) → Stops m t.state c u.state → Stops (elaborates region (entity_of x) vs m) s.state c (cut_back region x mark u.state)
         stop c h = subst (λ z. Stops (elaborates region (entity_of x) vs m) s.state c z) (sym same) (halts_so region x vs m s.state u.state c b.1 (subst (λ z. Stops m z c u.state) b.4 h))
+
         go : (r : Result C End) → ShowsAs f Tells m r t u → ShowsAs f Tells (elaborates region (entity_of x) vs m) r s (finished region x mark u)
         go (Ok a) h = (h.0 ∙ b.0, λ told. ok (Ok (f a)) (h.1 told))
         go (Err (end.Left y)) h = (h.0 ∙ b.0, λ told. ok (Err (Left (leave_of y))) (h.1 told))
@@ -138,6 +141,7 @@ module _ {Tells : Type 0} where
       where
         inner : Image
         inner = unframed (s.state.frame + 1) s
+
         go : (r : Result C End) → ShowsAs f Tells m r (unframed (s.state.frame + 1) s) u → ShowsAs f Tells (apart m) r s (unframed s.state.frame u)
         go (Ok a) h = (h.0, λ told. ap (λ (z : After _). at (record (z.state) { frame = s.state.frame }) z.end) (h.1 told))
         go (Err (end.Left y)) h = (h.0, λ told. ap (λ (z : After _). at (record (z.state) { frame = s.state.frame }) z.end) (h.1 told))

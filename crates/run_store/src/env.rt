@@ -4,7 +4,6 @@ ghost use Rattle.std.specs.Prelude.{◌≡◌, ◌<◌};
 ghost use Rattle.ada_meaning.specs.Meaning as meaning;
 ghost use Rattle.run_store.specs.Environment.{env_of, part_of};
 
-
 use ada_base::Reason;
 use ada_typed::Root;
 
@@ -20,12 +19,32 @@ pub struct Part {
 #[derive(Clone, Copy)]
 pub enum Env<'a> {
     /// Where a body begins, with so many constructs around.
-    Outset { nested: u32 },
-    Parameter { number: u32, value: i64, outer: &'a Env<'a> },
-    Item { constant: bool, number: u32, part: Part, outer: &'a Env<'a> },
-    Target { part: Part, outer: &'a Env<'a> },
-    Handled { reason: Reason, outer: &'a Env<'a> },
-    Inside { nested: u32, outer: &'a Env<'a> },
+    Outset {
+        nested: u32,
+    },
+    Parameter {
+        number: u32,
+        value: i64,
+        outer: &'a Env<'a>,
+    },
+    Item {
+        constant: bool,
+        number: u32,
+        part: Part,
+        outer: &'a Env<'a>,
+    },
+    Target {
+        part: Part,
+        outer: &'a Env<'a>,
+    },
+    Handled {
+        reason: Reason,
+        outer: &'a Env<'a>,
+    },
+    Inside {
+        nested: u32,
+        outer: &'a Env<'a>,
+    },
 }
 
 impl<'a> Env<'a> {
@@ -35,14 +54,21 @@ impl<'a> Env<'a> {
     {
         match self {
             Env::Outset { .. } => 0,
-            Env::Parameter { number, value, outer } => {
+            Env::Parameter {
+                number,
+                value,
+                outer,
+            } => {
                 if wanted == *number {
                     *value
                 } else {
                     outer.parameter(wanted)
                 }
             }
-            Env::Item { outer, .. } | Env::Target { outer, .. } | Env::Handled { outer, .. } | Env::Inside { outer, .. } => outer.parameter(wanted),
+            Env::Item { outer, .. }
+            | Env::Target { outer, .. }
+            | Env::Handled { outer, .. }
+            | Env::Inside { outer, .. } => outer.parameter(wanted),
         }
     }
 
@@ -51,15 +77,26 @@ impl<'a> Env<'a> {
         ensures { part_of result ≡ (env_of self.now).item wanted }
     {
         match self {
-            Env::Outset { .. } => Part { object: 0, offset: 0 },
-            Env::Item { constant, number, part, outer } => {
+            Env::Outset { .. } => Part {
+                object: 0,
+                offset: 0,
+            },
+            Env::Item {
+                constant,
+                number,
+                part,
+                outer,
+            } => {
                 if !*constant && wanted == *number {
                     *part
                 } else {
                     outer.item(wanted)
                 }
             }
-            Env::Parameter { outer, .. } | Env::Target { outer, .. } | Env::Handled { outer, .. } | Env::Inside { outer, .. } => outer.item(wanted),
+            Env::Parameter { outer, .. }
+            | Env::Target { outer, .. }
+            | Env::Handled { outer, .. }
+            | Env::Inside { outer, .. } => outer.item(wanted),
         }
     }
 
@@ -68,15 +105,26 @@ impl<'a> Env<'a> {
         ensures { part_of result ≡ (env_of self.now).constant_item wanted }
     {
         match self {
-            Env::Outset { .. } => Part { object: 0, offset: 0 },
-            Env::Item { constant, number, part, outer } => {
+            Env::Outset { .. } => Part {
+                object: 0,
+                offset: 0,
+            },
+            Env::Item {
+                constant,
+                number,
+                part,
+                outer,
+            } => {
                 if *constant && wanted == *number {
                     *part
                 } else {
                     outer.constant_item(wanted)
                 }
             }
-            Env::Parameter { outer, .. } | Env::Target { outer, .. } | Env::Handled { outer, .. } | Env::Inside { outer, .. } => outer.constant_item(wanted),
+            Env::Parameter { outer, .. }
+            | Env::Target { outer, .. }
+            | Env::Handled { outer, .. }
+            | Env::Inside { outer, .. } => outer.constant_item(wanted),
         }
     }
 
@@ -85,9 +133,15 @@ impl<'a> Env<'a> {
         ensures { part_of result ≡ (env_of self.now).target }
     {
         match self {
-            Env::Outset { .. } => Part { object: 0, offset: 0 },
+            Env::Outset { .. } => Part {
+                object: 0,
+                offset: 0,
+            },
             Env::Target { part, .. } => *part,
-            Env::Parameter { outer, .. } | Env::Item { outer, .. } | Env::Handled { outer, .. } | Env::Inside { outer, .. } => outer.target(),
+            Env::Parameter { outer, .. }
+            | Env::Item { outer, .. }
+            | Env::Handled { outer, .. }
+            | Env::Inside { outer, .. } => outer.target(),
         }
     }
 
@@ -98,7 +152,10 @@ impl<'a> Env<'a> {
         match self {
             Env::Outset { .. } => Reason::ProgramError,
             Env::Handled { reason, .. } => *reason,
-            Env::Parameter { outer, .. } | Env::Item { outer, .. } | Env::Target { outer, .. } | Env::Inside { outer, .. } => outer.handled(),
+            Env::Parameter { outer, .. }
+            | Env::Item { outer, .. }
+            | Env::Target { outer, .. }
+            | Env::Inside { outer, .. } => outer.handled(),
         }
     }
 
@@ -108,7 +165,10 @@ impl<'a> Env<'a> {
     {
         match self {
             Env::Outset { nested } | Env::Inside { nested, .. } => *nested,
-            Env::Parameter { outer, .. } | Env::Item { outer, .. } | Env::Target { outer, .. } | Env::Handled { outer, .. } => outer.nested(),
+            Env::Parameter { outer, .. }
+            | Env::Item { outer, .. }
+            | Env::Target { outer, .. }
+            | Env::Handled { outer, .. } => outer.nested(),
         }
     }
 

@@ -40,7 +40,11 @@ fn slot_at(slots: &Items<Slot>, key: usize) -> Slot
 {
     match slots.get(key) {
         Some(slot) => *slot,
-        None => Slot { frame: 0, address: 0, cells: 0 },
+        None => Slot {
+            frame: 0,
+            address: 0,
+            cells: 0,
+        },
     }
 }
 
@@ -183,8 +187,15 @@ impl<P: Port + Drop> Store<P> {
         if key >= self.here.len() {
             return Err(End::NoMemory);
         }
-        let mark = Mark { slot: slot_at(&self.here, key), height: self.cells.len() as u64 };
-        let slot = Slot { frame: self.frame, address: mark.height, cells: values.len() as u64 };
+        let mark = Mark {
+            slot: slot_at(&self.here, key),
+            height: self.cells.len() as u64,
+        };
+        let slot = Slot {
+            frame: self.frame,
+            address: mark.height,
+            cells: values.len() as u64,
+        };
         match self.cells.extend(values) {
             Ok(()) => {
                 self.here.set(key, slot);
@@ -201,8 +212,15 @@ impl<P: Port + Drop> Store<P> {
         if key >= self.everywhere.len() {
             return Err(End::NoMemory);
         }
-        let mark = Mark { slot: slot_at(&self.everywhere, key), height: self.cells.len() as u64 };
-        let slot = Slot { frame: 1, address: self.kept.len() as u64, cells: values.len() as u64 };
+        let mark = Mark {
+            slot: slot_at(&self.everywhere, key),
+            height: self.cells.len() as u64,
+        };
+        let slot = Slot {
+            frame: 1,
+            address: self.kept.len() as u64,
+            cells: values.len() as u64,
+        };
         let count = self.declared.len();
         declare(&mut self.declared, object, slot)?;
         match self.kept.extend(values) {
@@ -259,7 +277,11 @@ fn declare(declared: &mut Items<Variable>, object: Object, slot: Slot) -> Result
     match object {
         Object::Constant(_) => Ok(()),
         Object::Variable(object) => {
-            let variable = Variable { object, address: slot.address, cells: slot.cells };
+            let variable = Variable {
+                object,
+                address: slot.address,
+                cells: slot.cells,
+            };
             match declared.push(variable) {
                 Ok(()) => Ok(()),
                 Err(_) => Err(End::NoMemory),

@@ -40,7 +40,12 @@ fn cells_beside(typed: &Typed, levels: usize, found: Option<Subtype>) -> Result<
     match found {
         None => Ok(0),
         Some(Subtype::Scalar { .. }) => Ok(1),
-        Some(Subtype::Array { dimensions, component }) => {
+        Some(
+            Subtype::Array {
+                dimensions,
+                component,
+            },
+        ) => {
             let times = components(typed, dimensions)?;
             let size = cells_within(typed, levels, component)?;
             let cells = product(times, size)?;
@@ -82,7 +87,10 @@ fn components(typed: &Typed, id: u32) -> Result<u64, End>
         None => Ok(1),
         Some(cell) => match cell.leaf {
             Leaf::Bounds(bounds) => {
-                let range = Range { low: bounds.low, high: bounds.high };
+                let range = Range {
+                    low: bounds.low,
+                    high: bounds.high,
+                };
                 let first = count(range)?;
                 let rest = components(typed, cell.rest)?;
                 let all = product(first, rest)?;
@@ -123,7 +131,12 @@ pub fn defaults_of(typed: &Typed, number: u32, out: &mut Items<i64>) -> Result<(
 }
 
 #[cycle(defaults)]
-fn defaults_within(typed: &Typed, levels: usize, number: u32, out: &mut Items<i64>) -> Result<(), End>
+fn defaults_within(
+    typed: &Typed,
+    levels: usize,
+    number: u32,
+    out: &mut Items<i64>,
+) -> Result<(), End>
     ensures { OrNoMemory (λ u. out.new ≡ out.old ++ spec.defaults (spec.layout_within (program typed.now).subtypes levels number)) result }
 {
     if levels == 0 {
@@ -135,7 +148,12 @@ fn defaults_within(typed: &Typed, levels: usize, number: u32, out: &mut Items<i6
 }
 
 #[cycle(defaults)]
-fn defaults_beside(typed: &Typed, levels: usize, found: Option<Subtype>, out: &mut Items<i64>) -> Result<(), End>
+fn defaults_beside(
+    typed: &Typed,
+    levels: usize,
+    found: Option<Subtype>,
+    out: &mut Items<i64>,
+) -> Result<(), End>
     ensures { OrNoMemory (λ u. out.new ≡ out.old ++ spec.defaults (spec.layout_of (spec.layout_within (program typed.now).subtypes levels) (option_map (subtype_of typed.now.nodes) found))) result }
 {
     match found {
@@ -144,7 +162,12 @@ fn defaults_beside(typed: &Typed, levels: usize, found: Option<Subtype>, out: &m
             Ok(()) => Ok(()),
             Err(_) => Err(End::NoMemory),
         },
-        Some(Subtype::Array { dimensions, component }) => {
+        Some(
+            Subtype::Array {
+                dimensions,
+                component,
+            },
+        ) => {
             let times = components(typed, dimensions)?;
             repeated_within(typed, levels, component, times, out)?;
             Ok(())
@@ -157,7 +180,13 @@ fn defaults_beside(typed: &Typed, levels: usize, found: Option<Subtype>, out: &m
 }
 
 #[cycle(defaults)]
-fn repeated_within(typed: &Typed, levels: usize, component: u32, times: u64, out: &mut Items<i64>) -> Result<(), End>
+fn repeated_within(
+    typed: &Typed,
+    levels: usize,
+    component: u32,
+    times: u64,
+    out: &mut Items<i64>,
+) -> Result<(), End>
     ensures { OrNoMemory (λ u. out.new ≡ out.old ++ spec.defaults (spec.repeated times (spec.layout_within (program typed.now).subtypes levels component))) result }
 {
     for _k in 0..times {

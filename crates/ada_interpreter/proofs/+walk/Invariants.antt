@@ -178,9 +178,9 @@ decreases-calls::function_value g l = 1208925819614629174706176 * l.calls + 6044
 
 abbrev pub invariant-stmts::exec_all-loop-cell : goal.invariant-stmts::exec_all-loop-cell
 invariant-stmts::exec_all-loop-cell g l = record {
-    below : l.at ≤ l.id;
-    on : Goes g.P.Port.Tells (exec_all l.work l.calls (stmts_at (nodes_of l.work) l.id) (env_of l.env)) l.fn.store (exec_all l.work l.calls (stmts_at (nodes_of l.work) l.at) (env_of l.env)) l.store
-  }
+  below : l.at ≤ l.id;
+  on : Goes g.P.Port.Tells (exec_all l.work l.calls (stmts_at (nodes_of l.work) l.id) (env_of l.env)) l.fn.store (exec_all l.work l.calls (stmts_at (nodes_of l.work) l.at) (env_of l.env)) l.store;
+}
 
 abbrev pub decreases-stmts::exec_all-loop-cell : goal.decreases-stmts::exec_all-loop-cell
 decreases-stmts::exec_all-loop-cell g l = l.at
@@ -191,12 +191,12 @@ invariant-loops::while_loop-loop-turn g l =
 
 abbrev pub invariant-loops::for_loop-loop-i : goal.invariant-loops::for_loop-loop-i
 invariant-loops::for_loop-loop-i g l = record {
-    counted : l.count ≡ (course_of l.course).count;
-    on : Goes g.P.Port.Tells (for_loop l.work l.calls (course_of l.course) (iteration_at (nodes_of l.work) l.iteration) (stmts_at (nodes_of l.work) l.stmts) (env_of l.env)) l.fn.store
-        (for_left l.work l.calls l.i ((course_of l.course).count - l.i) (course_of l.course) (iteration_at (nodes_of l.work) l.iteration) (stmts_at (nodes_of l.work) l.stmts) (env_of l.env)) l.store
-  }
+  counted : l.count ≡ (course_of l.course).count;
+  on : Goes g.P.Port.Tells (for_loop l.work l.calls (course_of l.course) (iteration_at (nodes_of l.work) l.iteration) (stmts_at (nodes_of l.work) l.stmts) (env_of l.env)) l.fn.store
+      (for_left l.work l.calls l.i ((course_of l.course).count - l.i) (course_of l.course) (iteration_at (nodes_of l.work) l.iteration) (stmts_at (nodes_of l.work) l.stmts) (env_of l.env)) l.store;
+}
 
 abbrev pub invariant-values::run_values-loop-k : goal.invariant-values::run_values-loop-k
 invariant-values::run_values-loop-k g l =
     Goes g.P.Port.Tells (run_values l.work l.calls 0 l.run.count l.run.first l.run.stride l.iterated (value_at (nodes_of l.work) l.value) (env_of l.env) l.fn.out) l.fn.store
-        (run_values l.work l.calls l.k (l.run.count - l.k) l.first l.run.stride l.iterated (value_at (nodes_of l.work) l.value) (env_of l.env) l.cells) l.store
+    (run_values l.work l.calls l.k (l.run.count - l.k) l.first l.run.stride l.iterated (value_at (nodes_of l.work) l.value) (env_of l.env) l.cells) l.store

@@ -6,9 +6,9 @@ use Rattle.run_parts.proofs.finding.find_handler.Given as goal
 
 abbrev pub invariant-loop-cell : goal.invariant-loop-cell
 invariant-loop-cell l = record {
-    below : l.at ≤ l.id;
-    same : found_handler (handlers_at (nodes_of l.work) l.id) l.reason ≡ found_handler (handlers_at (nodes_of l.work) l.at) l.reason
-  }
+  below : l.at ≤ l.id;
+  same : found_handler (handlers_at (nodes_of l.work) l.id) l.reason ≡ found_handler (handlers_at (nodes_of l.work) l.at) l.reason;
+}
 
 abbrev pub decreases-loop-cell : goal.decreases-loop-cell
 decreases-loop-cell l = l.at
