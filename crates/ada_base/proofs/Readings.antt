@@ -1,5 +1,5 @@
 -- Two readings that are related, operation by operation, have related Gets.
-use Rattle.std.proofs.Common.{ℕ, zero, suc, ◌+◌, ◌*◌, Option, Some, None, Bool, true, false, not, ◌||◌, cond, ℤ}
+use Rattle.std.proofs.Common.{ℕ, zero, suc, ◌+◌, ◌*◌, Option, Some, None, Bool, true, false, not, ◌||◌, cond}
 use Rattle.ada_base.specs.declared.reason.Reason.{Reason}
 use Rattle.ada_base.specs.declared.reason.Reason.TheVariants as reason
 use Rattle.ada_base.specs.Input

@@ -2,11 +2,12 @@
 use Rattle.std.specs.Prelude.{◌≡◌, ◌⊎◌, ℕ, List, [], ◌∷◌, ◌++◌, codes, decimal, Option, IfSome}
 use Rattle.ada_base.specs.declared.reason.Reason.{Reason}
 use Rattle.ada_base.specs.declared.reason.Reason.TheVariants as reason
-use Rattle.ada_port.specs.Ports.{fetched}
+use Rattle.ada_port.specs.Ports.{Texts, fetched}
 use Rattle.first_form.specs.Program.{Program}
-use Rattle.first_form.specs.Accepted.{IsAccepted, Fault, IsFaultOf}
 use Rattle.first_form.specs.FirstRun.{Run, first_run, Ending, Ended, Raised}
-use Rattle.ada_run.specs.Compile.{line_of, refusal_of}
+use Rattle.ada_run.specs.Compile.{IsAccepted, IsFaultOf, refusal_of}
+use Rattle.ada_run.specs.Complaints.{Complaint}
+use Rattle.ada_run.specs.Lines.{line_of}
 use Rattle.ada_cmd.specs.declared.status.Status.{Status}
 use Rattle.ada_cmd.specs.declared.status.Status.TheVariants as status
 use Rattle.ada_cmd.specs.Words.{Command}
@@ -47,20 +48,20 @@ run_due_by (Raised why) output = record { status = status.Raised; output = outpu
 abbrev pub run_due : Run → Due
 run_due run = run_due_by run.ending run.output
 
-abbrev pub refused_due : List ℕ → List ℕ → Fault → Due
-refused_due file text fault = record { status = status.Refused; output = []; line = ended (line_of file (refusal_of text fault)) }
+abbrev pub refused_due : List ℕ → Complaint → Due
+refused_due file fault = record { status = status.Refused; output = []; line = ended (line_of file (refusal_of fault)) }
 
 -- the answer that is due to a text: that of its program's run where it is accepted, and else its fault
 abbrev pub IsTextDue : List ℕ → List ℕ → Due → Type 0
 IsTextDue file text due =
     ((program : Program) × IsAccepted text program × (due ≡ run_due (first_run program)))
-    ⊎ ((fault : Fault) × IsFaultOf text fault × (due ≡ refused_due file text fault))
+    ⊎ ((fault : Complaint) × IsFaultOf text fault × (due ≡ refused_due file fault))
 
 -- the text that was fetched, of what is told
 abbrev pub IsFetched : Option (List ℕ) → List ℕ → Type 0
 IsFetched told text = IfSome told (λ whole. text ≡ fetched whole)
 
 -- the answer that is due to the words, where the shelf has these texts
-abbrev pub IsDue : Command → (List ℕ → Option (List ℕ)) → Due → Type 0
+abbrev pub IsDue : Command → Texts → Due → Type 0
 IsDue words.Usage shelf due = due ≡ usage_due
-IsDue (words.Run file) shelf due = (text : List ℕ) × IsFetched (shelf file) text × IsTextDue file text due
+IsDue (words.Run file) shelf due = (text : List ℕ) × IsFetched (shelf.told file) text × IsTextDue file text due

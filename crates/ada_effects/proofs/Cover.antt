@@ -1,16 +1,15 @@
 -- Every text touches only what it makes and what lies under its effects, and a program without clashes is free of races.
-use Rattle.std.proofs.Common.{◌≡◌, ℕ, zero, suc, ◌+◌, ◌*◌, ◌<◌, ◌≤◌, min, max, ℤ, pos, ◌+ℤ◌, ◌-ℤ◌, int_lt, int_le, nat_eq, nat_lt, nat_le, List, [], ◌∷◌, ◌++◌, length, length-append, slice_get, ◌⊎◌, inl, inr, ⊎_elim, Option, Some, None, Bool, true, false, not, cond, ◌&&◌, ◌||◌, sym, subst, ap, ◌∙◌, refl, true≢false, eqb-true, eq-eqb, ltb-true, ltb-false, arith, le_trans, ◌/◌, ◌%◌}
-use Rattle.ada_base.specs.Cuts.{evens, shares}
+use Rattle.std.proofs.Common.{◌≡◌, ℕ, zero, suc, ◌+◌, ◌*◌, ◌<◌, ◌≤◌, min, max, ℤ, pos, ◌+ℤ◌, ◌-ℤ◌, int_lt, int_le, nat_eq, nat_lt, nat_le, List, [], ◌∷◌, ◌++◌, length, length-append, slice_get, ◌⊎◌, inl, inr, ⊎_elim, Option, Some, None, Bool, true, false, not, cond, ◌&&◌, ◌||◌, sym, subst, ap, ◌∙◌, refl, true≢false, eqb-true, eq-eqb, ltb-true, ltb-false, arith, le_trans}
+use Rattle.ada_base.specs.Cuts.{evens}
 use Rattle.ada_base.specs.Image.{padded}
-use Rattle.ada_base.specs.Input.{Held, Nothing, Symbol, is_blank, is_byte, is_digit, digit_of, is_based, is_integer, signed}
 use Rattle.behaviours.specs.Doings.{through, folded}
-use Rattle.behaviours.specs.Paths.{Leave, Exits, Returns, Raises, Entity, VariableOf, ConstantOf, Region, Everywhere, Here, Instance, Gives, Path, Scope, apart_of}
-use Rattle.behaviours.specs.Events.{Keeps, Puts, Trace}
+use Rattle.behaviours.specs.Paths.{Leave, Exits, Returns, Raises, Entity, VariableOf, ConstantOf, Region, Everywhere, Here, Instance}
+use Rattle.behaviours.specs.Events.{Keeps, Puts}
 use Rattle.behaviours.specs.Joins.{deal}
 use Rattle.behaviours.specs.Behaviours.{Behaviour, Asks}
 use Rattle.ada_meaning.specs.Formed.{width, composite_width}
 use Rattle.std.proofs.Math.IntN.{neg_ℤ, neg_ℤ-neg_ℤ, +ℤ-neg_ℤ_cancel, +ℤ_comm, +ℤ_idr}
-use native.Mathlib.Nat.{mul-add, mul-le-mul_left, mul_comm, mul-one, mod-add-div}
+use native.Mathlib.Nat.{mul-add, mul-le-mul_left, mul_comm, mul-one}
 use Rattle.ada_base.specs.declared.operation.Op.{Op}
 use Rattle.ada_base.specs.declared.reason.Reason.{Reason}
 use Rattle.ada_base.specs.declared.reason.Reason.TheVariants as reason
@@ -32,15 +31,17 @@ use Rattle.ada_meaning.specs.Operations.{CheckKind, RangeCheck, IndexCheck, Over
 use Rattle.ada_meaning.specs.Meaning
 use Rattle.ada_meaning.specs.Meaning.{Part, Env, Course, Chunking, Back, Passed, Returned, outset, with_parameter, with_target, with_handled, inside, variable_root, constant_root, array_root, iterated_env, cut_of, value_cut_of, arms_of, exits, returns, raises, value_of, reason_of, has_handlers, sub_at, moved, object_layout, most_nested, most_threads, most_iterations, most_calls}
 use Rattle.ada_typed.specs.Syntax.{Expr, Static, Variable, Constant, Parameter, Target, Group, Unary, Binary, AndThen, OrElse, Relation, Membership, If, Call, Convert, Reduction, Optional, Absent, Present, Selections, Whole, Field, Index, Actuals, NoActual, In, InOut, Out, CompositeInOut, CompositeOut, Value, Number, Cells, Composite, WholeVariable, WholeConstant, WholeTarget, CompositeIf, Aggregate, Associations, NoAssociation, Association, Iteration, Range, Components, Chunk, NoChunk, Count, Each, Pieces, NoPiece, Text, Image, Padded, Decls, NoDecl, DeclareDefault, DeclareVariable, DeclareConstant, Mentions, Stmt, Null, Assign, CallProcedure, Exit, Return, ReturnValue, Raise, Reraise, IfThen, Case, Loop, For, ParallelFor, Parallel, Block, Put, Get, Stmts, End, Then, Alternatives, NoAlternative, Alternative, Arms, NoArm, Arm, Handlers, NoHandler, Handler, Body, Sub, Program}
-use Rattle.ada_effects.specs.Effects.{Named, Access, Roles, unknown, hide, is_one, selector, steps_of, root_name, name, forget, Construct, LoopOf, BlockOf, ReductionOf, Item, Touches, Calls, Blocks, Holds, Outside, chunk_hidden, course_hidden, chunk_parameter, judging, iterated_hidden, InReducer, InExpr, InOptional, InSelections, InActuals, InValue, InComposite, InAssociations, InCourse, InFilter, InChunk, InPieces, InDecls, InStmt, InAll, InAlternatives, InArm, InHandlers, InBody, InThread, IsDeclared, IsGlobal, InSub, InCallee, Reached}
-use Rattle.ada_effects.specs.Conflicts.{Now, Fits, Leads, Lies, Distinct, LoopsDiffer, Compared, InProgram}
+use Rattle.ada_effects.specs.Effects.{Roles, unknown, hide, is_one, selector, steps_of, root_name, name, forget, Construct, LoopOf, BlockOf, ReductionOf, Item, Holds, chunk_hidden, course_hidden, chunk_parameter, judging, iterated_hidden, InReducer, InExpr, InOptional, InSelections, InActuals, InValue, InComposite, InAssociations, InCourse, InFilter, InChunk, InPieces, InDecls, InStmt, InAll, InAlternatives, InArm, InHandlers, InBody, InThread, IsDeclared, InSub, InCallee}
+use Rattle.ada_effects.specs.Conflicts.{Now, Fits, Leads, Distinct, LoopsDiffer, Compared, InProgram}
 use Rattle.behaviours.specs.Behaviours
 use Rattle.ada_meaning.specs.Runs
 use Rattle.ada_meaning.specs.Programs.{this}
 use Rattle.ada_effects.proofs.Good.{Allowed, MayTouch, Can, Good, Placed, Roomy, Grown, with_object, called, ret_good, leaves_good, spent_good, checks_good, emits_good, look_good, turn_good, recalls_good, takes_good, reads_good, writes_good, choose_good, bind_good, handles_good, through_good, onto_good, elaborates_good, apart_good}
 use Rattle.ada_effects.proofs.Teams.{sum, team_good}
-use Rattle.ada_effects.proofs.Scenes.{Tie, Suits, leads_append, suits_unknown, suits_forget, suits_inside, suits_handled, suits_target, suits_hide, suits_iterated, suits_item, suits_loop, suits_chunk, suits_root, of_ret, of_leaves, gives_stops, of_bind, of_checks, Into, part, Exact, exact, object_into}
+use Rattle.ada_effects.proofs.Scenes.{Tie, Suits, leads_append, suits_unknown, suits_forget, suits_inside, suits_handled, suits_target, suits_hide, suits_iterated, suits_item, suits_loop, suits_chunk, suits_root, of_ret, of_leaves, of_bind, of_checks, of_apart, of_elaborates, one_of, Into, part, Exact, exact}
 use Rattle.ada_effects.specs.Covered.{site_of, arm_of, AreDistinct}
+use Rattle.ada_effects.proofs.Counting.{plus_zero, plus_suc, sum_evens, sum_without_zeros, BackFine, AllBack, Fitted, AllFitted, FitSoFar, length_laid, length_zeros, le_left, le_right, no_more, all_back, one_more, fit_more, fit_all}
+use Rattle.ada_effects.proofs.Entering.{CallInto, call_into, touched, touched_one, grown_into, more_into, constant_into}
 use Rattle.ada_effects.proofs.Separation.{TeamLaw}
 
 module _ (program : Program) (fine : Construct → Type 0) where
@@ -73,85 +74,6 @@ module _ (program : Program) (fine : Construct → Type 0) where
   -- in a thread that is judged
   abbrev pub judged : (now : Now) (r : Roles) (env : Env) → Suits now r env → (Item → Type 0) → Scene
   judged now r env h items = record { asks = ⊥; now = now; roles = r; env = env; allowed = Exact program now items; suits = h; sound = λ w. absurd w }
-
-  -- what a subprogram's text touches of the main procedure's is allowed
-  pub record CallInto (now : Now) (E : Allowed) (u : ℕ) : Type 0 where
-    pub touch : (there : ℕ) (a : Access) (n : ℕ) → Reached program u (Touches there a) → IsGlobal program a.object → Lies now a n → E.global a.writes a.object n
-    pub reach : (there last : ℕ) → Reached program u (Blocks there last) → E.input
-
-  call_into : {W : Type 0} {now : Now} {E : Allowed} {items : Item → Type 0} (at callee u : ℕ) → items (Calls at callee u) → Into program fine W now E items → CallInto now E u
-  call_into at callee u h k = record { touch = λ there a n r g l. k.call at callee u there a n h r g l; reach = λ there last r. k.reach at callee u there last h r }
-
-  touched : {W : Type 0} {now : Now} {E : Allowed} {items : Item → Type 0} → Into program fine W now E items → (at : ℕ) (w : Bool) (n : Named) (cells : ℕ) → items (Touches at (record { writes = w; object = n.object; steps = n.steps; cells = cells })) → (p : Part) → Tie now n p → (m : ℕ) → m < cells → E.at w p.object (p.offset + m)
-  touched {W} {now} {E} k at w n cells h p t m lt = subst (λ z. E.at w z (p.offset + m)) (sym t.0) (k.touch at (record { writes = w; object = n.object; steps = n.steps; cells = cells }) (p.offset + m) h (p.offset, m, t.1, lt, refl))
-
-  touched_one : {W : Type 0} {now : Now} {E : Allowed} {items : Item → Type 0} → Into program fine W now E items → (at : ℕ) (w : Bool) (n : Named) → items (Touches at (record { writes = w; object = n.object; steps = n.steps; cells = 1 })) → (p : Part) → Tie now n p → E.at w p.object p.offset
-  touched_one {W} {now} {E} k at w n h p t = subst (λ z. E.at w z p.offset) (sym t.0) (k.touch at (record { writes = w; object = n.object; steps = n.steps; cells = 1 }) p.offset h (p.offset, 0, t.1, omega arith, omega arith))
-
-  plus_zero : (n : ℕ) → n + 0 ≡ n
-  plus_zero n = omega arith
-
-  plus_suc : (n m : ℕ) → n + suc m ≡ (n + 1) + m
-  plus_suc n m = omega arith
-
-  sum_shares : (least k more : ℕ) → sum (shares least k more) ≤ least * k + more
-  sum_shares least zero more = omega arith
-  sum_shares least (suc k) zero = let h = sum_shares least k zero in let e = mul-add least k 1 in let o = mul-one least in omega arith
-  sum_shares least (suc k) (suc more) = let h = sum_shares least k more in let e = mul-add least k 1 in let o = mul-one least in omega arith
-
-  pub sum_evens : (n k : ℕ) → sum (evens n k) ≤ n
-  sum_evens n k = let h = sum_shares (n / k) k (n % k) in let e = mod-add-div n k in let c = mul_comm (n / k) k in omega arith
-
-  sum_without_zeros : (ns : List ℕ) → sum (without_zeros ns) ≤ sum ns
-  sum_without_zeros [] = omega arith
-  sum_without_zeros (zero ∷ ns) = let h = sum_without_zeros ns in omega arith
-  sum_without_zeros (suc n ∷ ns) = let h = sum_without_zeros ns in omega arith
-
-  -- within the text that sees a new object
-  grown_into : {W : Type 0} {now : Now} {E : Allowed} (region : Region) (x : ℕ) (items : Item → Type 0) → Roomy program W region E → Into program fine W now E (λ i. items i × Outside x i) → Into program fine W now (Grown program W region (VariableOf x) E) items
-  grown_into Here x items room k = object_into program fine x items k
-  grown_into Everywhere x items room k = record {
-    touch = λ at a n h l. room a.writes a.object n;
-    call = λ at callee s there a n h r g l. k.call at callee s there a n (h, tt) r g l;
-    blocks = λ at callee h. k.blocks at callee (h, tt);
-    reach = λ at callee s there last h r. k.reach at callee s there last (h, tt) r;
-    clean = λ w c h. k.clean w c (h, tt);
-  }
-
-  more_into : {W : Type 0} {now : Now} {E : Allowed} {items : Item → Type 0} (e : Entity) → Into program fine W now E items → Into program fine W now (with_object program W e E) items
-  more_into e k = record { touch = λ at a n h l. inl (k.touch at a n h l); call = k.call; blocks = k.blocks; reach = k.reach; clean = k.clean }
-
-  constant_into : {W : Type 0} {now : Now} {E : Allowed} {items : Item → Type 0} (region : Region) (x : ℕ) → Into program fine W now E items → Into program fine W now (Grown program W region (ConstantOf x) E) items
-  constant_into Here x k = more_into (ConstantOf x) k
-  constant_into Everywhere x k = k
-
-  -- where parameters are copied back, and how many cells
-  abbrev pub BackFine : Allowed → Option Back → Type 0
-  BackFine E None = Unit {0}
-  BackFine E (Some b) = (m : ℕ) → m < length b.cells → E.at true b.part.object (b.part.offset + m)
-
-  abbrev pub AllBack : Allowed → List Passed → Type 0
-  AllBack E [] = Unit {0}
-  AllBack E (p ∷ ps) = BackFine E p.back × AllBack E ps
-
-  abbrev pub Fitted : Option Back → List ℤ → Type 0
-  Fitted None vs = Unit {0}
-  Fitted (Some b) vs = length vs ≤ length b.cells
-
-  abbrev pub AllFitted : List Passed → List (List ℤ) → Type 0
-  AllFitted [] vss = Unit {0}
-  AllFitted (p ∷ ps) [] = Unit {0}
-  AllFitted (p ∷ ps) (vs ∷ vss) = Fitted p.back vs × AllFitted ps vss
-
-  length_laid : (cs : List ℤ) (first : ℕ) (over : List ℤ) → length (laid cs first over) ≡ length cs
-  length_laid [] first over = refl
-  length_laid (c ∷ cs) zero [] = refl
-  length_laid (c ∷ cs) zero (o ∷ os) = ap suc (length_laid cs zero os)
-  length_laid (c ∷ cs) (suc first) over = ap suc (length_laid cs first over)
-
-  length_zeros : (n : ℕ) → length (zeros n) ≡ n
-  length_zeros zero = refl
-  length_zeros (suc n) = ap suc (length_zeros n)
 
   module _ (admits : Scalar → ℤ → Type 0) (demands : Asks Instance) (limit : ℕ) (cuts : ℕ → ℕ → List ℕ) (one : Bool) (whole : (most n : ℕ) → sum (cuts most n) ≤ n) where
     abbrev ops : Operations {1}
@@ -275,7 +197,7 @@ module _ (program : Program) (fine : Construct → Type 0) where
     combined s by at v [] h = done s v
     combined s by at v (a ∷ more) h = onto_good program s.asks s.allowed a more (reduce_step s by at h)
 
-    -- ---- input
+    -- input
 
     module _ (s : Scene) (may : s.allowed.input) where
       next : Fine s ((Meaning.reading ops).asks)
@@ -296,23 +218,23 @@ module _ (program : Program) (fine : Construct → Type 0) where
       gets : Fine s (Meaning.got ops limit)
       gets = Readings.gets readings limit
 
-    -- ---- calls and what they give
+    -- calls and what they give
 
     module _ (calls : ℕ → ℕ → Behaviour Instance (Unit {0}) → List Passed → Behaviour Instance Returned)
-        (called_good : (s : Scene) (nested u : ℕ) (before : Behaviour Instance (Unit {0})) (passed : List Passed) → Fine s before → CallInto s.now s.allowed u → Fine s (calls nested u before passed))
+        (called_good : (s : Scene) (nested u : ℕ) (before : Behaviour Instance (Unit {0})) (passed : List Passed) → Fine s before → CallInto program fine s.now s.allowed u → Fine s (calls nested u before passed))
         (returned : (nested u : ℕ) (before : Behaviour Instance (Unit {0})) (passed : List Passed) (r : Returned) → Can (calls nested u before passed) r → AllFitted passed r.cells) (law : TeamLaw program fine demands) where
       both : (s : Scene) (at : ℕ) (x y : Scalar) (a b : ℤ) → Fine s (Meaning.both_checked ops limit program calls at x y a b)
       both s at x y a b = seq s (check s RangeCheck at (is_in x a)) (λ _ _. check s RangeCheck at (is_in y b))
 
       fold_call : (s : Scene) (by : Reducer) (nested : ℕ) → Has s (InReducer by) → (a b : ℤ) → Fine s (Meaning.fold_call ops limit program calls by nested a b)
       fold_call s (Operator at op class) nested k a b = done s a
-      fold_call s (Function at u x y) nested k a b = seq s (both s at x y a b) (λ _ _. seq s (called_good s nested u (Behaviours.ret tt) _ (done s tt) (call_into at at u refl k)) (λ r _. done s r.value))
+      fold_call s (Function at u x y) nested k a b = seq s (both s at x y a b) (λ _ _. seq s (called_good s nested u (Behaviours.ret tt) _ (done s tt) (call_into program fine at at u refl k)) (λ r _. done s r.value))
 
       combine_call : (s : Scene) (by : Reducer) (nested : ℕ) → Has s (InReducer by) → (a b : ℤ) → Fine s (Meaning.combine_call ops limit program calls by nested a b)
       combine_call s (Operator at op class) nested k a b = done s a
-      combine_call s (Function at u x y) nested k a b = seq s (called_good s nested u (Meaning.both_checked ops limit program calls at x y a b) _ (both s at x y a b) (call_into at at u refl k)) (λ r _. done s r.value)
+      combine_call s (Function at u x y) nested k a b = seq s (called_good s nested u (Meaning.both_checked ops limit program calls at x y a b) _ (both s at x y a b) (call_into program fine at at u refl k)) (λ r _. done s r.value)
 
-      -- ---- what expressions give
+      -- what expressions give
 
       -- an index has a value that its selector tells
       index_fits : (now : Now) (r : Roles) (env : Env) → Suits now r env → (e : Expr) (v : ℤ) → Can (Meaning.eval ops limit program calls e env) v → Fits now (selector r e) v
@@ -347,20 +269,6 @@ module _ (program : Program) (fine : Construct → Type 0) where
           let b = select_leads now r env h selections (variable_root from env) p c in
           (b.0 ∙ a.0, leads_append now 0 (variable_root from env).offset p.offset (root_name r from).steps (steps_of r selections) a.1 b.1)
 
-      -- no more cells than the width
-      le_left : (a b n : ℕ) → n ≤ a → n ≤ max a b
-      le_left a b n h = omega arith
-
-      le_right : (a b n : ℕ) → n ≤ b → n ≤ max a b
-      le_right a b n h = omega arith
-
-      no_more : (a b : ℕ) → a ≡ b → a ≤ b
-      no_more a b e = omega arith
-
-      one_of : {A : Type 0} (b : Bool) (m n : Behaviour Instance A) (Q : Type 0) (v : A) → (Can m v → Q) → (Can n v → Q) → Can (cond b m n) v → Q
-      one_of true m n Q v f g c = f c
-      one_of false m n Q v f g c = g c
-
       mutual
         cells_width : (v : Value) (env : Env) (cs : List ℤ) → Can (Meaning.cells ops limit program calls v env) cs → length cs ≤ width program.subtypes v
         cells_width (Number check e) env cs c = let a = of_bind c in let b = of_bind a.2 in no_more (length cs) 1 (ap length (of_ret b.2))
@@ -378,10 +286,6 @@ module _ (program : Program) (fine : Construct → Type 0) where
         associated_length NoAssociation env so_far cs c = ap length (of_ret c)
         associated_length (Association runs i mentions value rest) env so_far cs c = let a = of_bind c in associated_length rest env a.0 cs a.2 ∙ runs_length runs so_far _ a.0 a.1
 
-      all_back : (E : Allowed) (qs : List Passed) (p : Passed) → AllBack E qs → BackFine E p.back → AllBack E (qs ++ (p ∷ []))
-      all_back E [] p h b = (b, tt)
-      all_back E (q ∷ qs) p h b = (h.0, all_back E qs p h.1 b)
-
       pass_back : (s : Scene) (a : Actuals) (so_far ps : List Passed) → Has s (InActuals program.subtypes s.roles a) → AllBack s.allowed so_far → Can (Meaning.pass ops limit program calls a s.env so_far) ps → AllBack s.allowed ps
       pass_back s NoActual so_far ps k h c = subst (λ z. AllBack s.allowed z) (sym (of_ret c)) h
       pass_back s (In formal value rest) so_far ps k h c =
@@ -389,21 +293,21 @@ module _ (program : Program) (fine : Construct → Type 0) where
       pass_back s (InOut formal at from selections x y rest) so_far ps k h c =
           let a = of_bind c in let b = of_bind a.2 in let d = of_bind b.2 in
           pass_back s rest _ ps (part program fine (λ i h. inr (inr (inr h))) k)
-          (all_back s.allowed so_far _ h (λ m lt. touched k at true (name s.roles from selections) 1 (inr (inl refl)) a.0 (located s.now s.roles s.env s.suits from selections a.0 a.1) m lt)) d.2
+          (all_back s.allowed so_far _ h (λ m lt. touched program fine k at true (name s.roles from selections) 1 (inr (inl refl)) a.0 (located s.now s.roles s.env s.suits from selections a.0 a.1) m lt)) d.2
       pass_back s (Out formal at from selections x y rest) so_far ps k h c =
           let a = of_bind c in
           pass_back s rest _ ps (part program fine (λ i h. inr (inr h)) k)
-          (all_back s.allowed so_far _ h (λ m lt. touched k at true (name s.roles from selections) 1 (inl refl) a.0 (located s.now s.roles s.env s.suits from selections a.0 a.1) m lt)) a.2
+          (all_back s.allowed so_far _ h (λ m lt. touched program fine k at true (name s.roles from selections) 1 (inl refl) a.0 (located s.now s.roles s.env s.suits from selections a.0 a.1) m lt)) a.2
       pass_back s (CompositeInOut formal at from selections subtype rest) so_far ps k h c =
           let a = of_bind c in let b = of_bind a.2 in
           pass_back s rest _ ps (part program fine (λ i h. inr (inr (inr h))) k)
-          (all_back s.allowed so_far _ h (λ m lt. touched k at true (name s.roles from selections) (length (layout program.subtypes subtype)) (inr (inl refl)) a.0 (located s.now s.roles s.env s.suits from selections a.0 a.1) m lt)) b.2
+          (all_back s.allowed so_far _ h (λ m lt. touched program fine k at true (name s.roles from selections) (length (layout program.subtypes subtype)) (inr (inl refl)) a.0 (located s.now s.roles s.env s.suits from selections a.0 a.1) m lt)) b.2
       pass_back s (CompositeOut formal at from selections subtype rest) so_far ps k h c =
           let a = of_bind c in let b = of_bind a.2 in
           pass_back s rest _ ps (part program fine (λ i h. inr (inr (inr h))) k)
-          (all_back s.allowed so_far _ h (λ m lt. touched k at true (name s.roles from selections) (length (layout program.subtypes subtype)) (inr (inl refl)) a.0 (located s.now s.roles s.env s.suits from selections a.0 a.1) m lt)) b.2
+          (all_back s.allowed so_far _ h (λ m lt. touched program fine k at true (name s.roles from selections) (length (layout program.subtypes subtype)) (inr (inl refl)) a.0 (located s.now s.roles s.env s.suits from selections a.0 a.1) m lt)) b.2
 
-      -- ---- what iterations bind
+      -- what iterations bind
 
       course_suits : (now : Now) (around r : Roles) (start env : Env) → Suits now around start → (it : Iteration) (c : Course) → Can (Meaning.course ops limit program calls it start) c → Suits now r env → (i : ℕ) → i < c.count → Suits now (course_hidden around it r) (c.bound i env)
       course_suits now around r start env g (Range k reverse low high check filter) c can h i lt =
@@ -438,7 +342,7 @@ module _ (program : Program) (fine : Construct → Type 0) where
           go v j m e y env true q = ap (λ z. v +ℤ pos z) e
           go v j m e y env false q = absurd (true≢false (sym q))
 
-      -- ---- the threads of a construct that is judged
+      -- the threads of a construct that is judged
 
       pub record Judges (chunk : Chunk) (it : Iteration) (r : Roles) (env : Env) (k : Chunking) (c : Course) (number : Bool → ℕ → ℕ) : Type 0 where
         pub now : ℕ → ℕ → Now
@@ -523,7 +427,7 @@ module _ (program : Program) (fine : Construct → Type 0) where
       value_cut_sum true greatest n = le_trans (sum_without_zeros (evens n greatest)) (sum_evens n greatest)
       value_cut_sum false greatest n = whole greatest n
 
-      -- ---- constructs one by one
+      -- constructs one by one
 
       abbrev in_course : (s : Scene) (it : Iteration) (c : Course) → Can (Meaning.course ops limit program calls it s.env) c → (i : ℕ) → i < c.count → Scene
       in_course s it c can i lt = naming s (course_hidden s.roles it s.roles) (c.bound i s.env) (course_suits s.now s.roles s.roles s.env s.env s.suits it c can s.suits i lt)
@@ -545,10 +449,10 @@ module _ (program : Program) (fine : Construct → Type 0) where
         pub eval_good : (e : Expr) (s : Scene) → Has s (InExpr program.subtypes s.roles e) → Fine s (Meaning.eval ops limit program calls e s.env)
         eval_good (Static at value literal mentions) s k = done s value
         eval_good (Variable at from selections scalar) s k = seq s (select_good selections s (variable_root from s.env) (part program fine (λ i h. inr h) k)) (λ p can.
-            reads_good program s.asks s.allowed admits (VariableOf p.object) p.offset scalar (touched_one k at false (name s.roles from selections) (inl refl) p (located s.now s.roles s.env s.suits from selections p can)))
+            reads_good program s.asks s.allowed admits (VariableOf p.object) p.offset scalar (touched_one program fine k at false (name s.roles from selections) (inl refl) p (located s.now s.roles s.env s.suits from selections p can)))
         eval_good (Constant at from selections scalar) s k = seq s (select_good selections s (constant_root from s.env) k) (λ p can. reads_good program s.asks s.allowed admits (ConstantOf p.object) p.offset scalar refl)
         eval_good (Parameter at x) s k = done s (s.env.parameter x)
-        eval_good (Target at scalar) s k = reads_good program s.asks s.allowed admits (VariableOf s.env.target.object) s.env.target.offset scalar (touched_one k at false s.roles.target refl s.env.target s.suits.target)
+        eval_good (Target at scalar) s k = reads_good program s.asks s.allowed admits (VariableOf s.env.target.object) s.env.target.offset scalar (touched_one program fine k at false s.roles.target refl s.env.target s.suits.target)
         eval_good (Group e) s k = eval_good e s k
         eval_good (Unary at g class e) s k = seq s (eval_good e s k) (λ v _. seq s (unary_check s g at class (unary g v)) (λ _ _. done s (unary g v)))
         eval_good (Binary at op class e f) s k = seq s (eval_good e s (part program fine (λ i h. inl h) k)) (λ x _. seq s (eval_good f s (part program fine (λ i h. inr h) k)) (λ y _. operates s op at class x y))
@@ -557,7 +461,7 @@ module _ (program : Program) (fine : Construct → Type 0) where
         eval_good (Relation class comparison e f) s k = seq s (eval_good e s (part program fine (λ i h. inl h) k)) (λ x _. seq s (eval_good f s (part program fine (λ i h. inr h) k)) (λ y _. done s _))
         eval_good (Membership class negated e low high) s k = seq s (eval_good e s (part program fine (λ i h. inl h) k)) (λ x _. seq s (eval_good low s (part program fine (λ i h. inr (inl h)) k)) (λ l _. seq s (eval_good high s (part program fine (λ i h. inr (inr h)) k)) (λ u _. done s _)))
         eval_good (If condition value otherwise) s k = seq s (eval_good condition s (part program fine (λ i h. inl h) k)) (λ c _. choose s (truth c) (eval_good value s (part program fine (λ i h. inr (inl h)) k)) (eval_good otherwise s (part program fine (λ i h. inr (inr h)) k)))
-        eval_good (Call at callee u actuals) s k = seq s (pass_good actuals [] s (part program fine (λ i h. inr h) k)) (λ passed _. seq s (called_good s s.env.nested u (Behaviours.ret tt) passed (done s tt) (call_into at callee u (inl refl) k)) (λ r _. done s r.value))
+        eval_good (Call at callee u actuals) s k = seq s (pass_good actuals [] s (part program fine (λ i h. inr h) k)) (λ passed _. seq s (called_good s s.env.nested u (Behaviours.ret tt) passed (done s tt) (call_into program fine at callee u (inl refl) k)) (λ r _. done s r.value))
         eval_good (Convert c e) s k = seq s (eval_good e s k) (λ v _. seq s (check s RangeCheck c.at (is_in c.scalar v)) (λ _ _. done s v))
         eval_good (Reduction at attribute by initial None chunk iteration value) s k =
             seq s (eval_good initial s (part program fine (λ i h. inr (inl h)) k)) (λ start _. seq s (course_good iteration s (part program fine (λ i h. inr (inr (inl h))) k)) (λ c can.
@@ -597,17 +501,17 @@ module _ (program : Program) (fine : Construct → Type 0) where
         pass_good (In formal value rest) so_far s k = seq s (cells_good value s (part program fine (λ i h. inl h) k)) (λ cs _. pass_good rest _ s (part program fine (λ i h. inr h) k))
         pass_good (InOut formal at from selections x y rest) so_far s k =
             seq s (select_good selections s (variable_root from s.env) (part program fine (λ i h. inr (inr (inl h))) k)) (λ p can.
-            seq s (reads_good program s.asks s.allowed admits (VariableOf p.object) p.offset y (touched_one k at false (name s.roles from selections) (inl refl) p (located s.now s.roles s.env s.suits from selections p can))) (λ v _.
+            seq s (reads_good program s.asks s.allowed admits (VariableOf p.object) p.offset y (touched_one program fine k at false (name s.roles from selections) (inl refl) p (located s.now s.roles s.env s.suits from selections p can))) (λ v _.
             seq s (check s RangeCheck at (is_in x v)) (λ _ _. pass_good rest _ s (part program fine (λ i h. inr (inr (inr h))) k))))
         pass_good (Out formal at from selections x y rest) so_far s k =
             seq s (select_good selections s (variable_root from s.env) (part program fine (λ i h. inr (inl h)) k)) (λ p can. pass_good rest _ s (part program fine (λ i h. inr (inr h)) k))
         pass_good (CompositeInOut formal at from selections subtype rest) so_far s k =
             seq s (select_good selections s (variable_root from s.env) (part program fine (λ i h. inr (inr (inl h))) k)) (λ p can.
-            seq s (reads_all s (VariableOf p.object) p.offset [] (layout program.subtypes subtype) (touched k at false (name s.roles from selections) (length (layout program.subtypes subtype)) (inl refl) p (located s.now s.roles s.env s.suits from selections p can))) (λ vs _.
+            seq s (reads_all s (VariableOf p.object) p.offset [] (layout program.subtypes subtype) (touched program fine k at false (name s.roles from selections) (length (layout program.subtypes subtype)) (inl refl) p (located s.now s.roles s.env s.suits from selections p can))) (λ vs _.
             pass_good rest _ s (part program fine (λ i h. inr (inr (inr h))) k)))
         pass_good (CompositeOut formal at from selections subtype rest) so_far s k =
             seq s (select_good selections s (variable_root from s.env) (part program fine (λ i h. inr (inr (inl h))) k)) (λ p can.
-            seq s (reads_all s (VariableOf p.object) p.offset [] (layout program.subtypes subtype) (touched k at false (name s.roles from selections) (length (layout program.subtypes subtype)) (inl refl) p (located s.now s.roles s.env s.suits from selections p can))) (λ vs _.
+            seq s (reads_all s (VariableOf p.object) p.offset [] (layout program.subtypes subtype) (touched program fine k at false (name s.roles from selections) (length (layout program.subtypes subtype)) (inl refl) p (located s.now s.roles s.env s.suits from selections p can))) (λ vs _.
             pass_good rest _ s (part program fine (λ i h. inr (inr (inr h))) k)))
 
         cells_good : (v : Value) (s : Scene) → Has s (InValue program.subtypes s.roles v) → Fine s (Meaning.cells ops limit program calls v s.env)
@@ -616,9 +520,9 @@ module _ (program : Program) (fine : Construct → Type 0) where
 
         composite_good : (c : Composite) (s : Scene) → Has s (InComposite program.subtypes s.roles c) → Fine s (Meaning.composite ops limit program calls c s.env)
         composite_good (WholeVariable at from selections subtype) s k = seq s (select_good selections s (variable_root from s.env) (part program fine (λ i h. inr h) k)) (λ p can.
-            reads_all s (VariableOf p.object) p.offset [] (layout program.subtypes subtype) (touched k at false (name s.roles from selections) (length (layout program.subtypes subtype)) (inl refl) p (located s.now s.roles s.env s.suits from selections p can)))
+            reads_all s (VariableOf p.object) p.offset [] (layout program.subtypes subtype) (touched program fine k at false (name s.roles from selections) (length (layout program.subtypes subtype)) (inl refl) p (located s.now s.roles s.env s.suits from selections p can)))
         composite_good (WholeConstant at from selections subtype) s k = seq s (select_good selections s (constant_root from s.env) k) (λ p can. reads_all s (ConstantOf p.object) p.offset [] (layout program.subtypes subtype) (λ m lt. refl))
-        composite_good (WholeTarget at subtype) s k = reads_all s (VariableOf s.env.target.object) s.env.target.offset [] (layout program.subtypes subtype) (touched k at false s.roles.target (length (layout program.subtypes subtype)) refl s.env.target s.suits.target)
+        composite_good (WholeTarget at subtype) s k = reads_all s (VariableOf s.env.target.object) s.env.target.offset [] (layout program.subtypes subtype) (touched program fine k at false s.roles.target (length (layout program.subtypes subtype)) refl s.env.target s.suits.target)
         composite_good (CompositeIf condition value otherwise) s k = seq s (eval_good condition s (part program fine (λ i h. inl h) k)) (λ c _. choose s (truth c) (composite_good value s (part program fine (λ i h. inr (inl h)) k)) (composite_good otherwise s (part program fine (λ i h. inr (inr h)) k)))
         composite_good (Aggregate at size associations) s k = associated_good associations (zeros size) s k
 
@@ -659,13 +563,13 @@ module _ (program : Program) (fine : Construct → Type 0) where
       declared_good NoDecl region s placed room rest k h = h s.allowed k
       declared_good (DeclareDefault x more) region s placed room rest k h =
           elaborates_good program s.asks admits demands limit cuts one s.allowed region (VariableOf x) (defaults (object_layout program x)) (placed x (inl refl)) room
-          (declared_good more region (allowing s (Grown program s.asks region (VariableOf x) s.allowed)) (λ y q. placed y (inr q)) (roomy_grown s.asks region (VariableOf x) s.allowed room) rest (grown_into region x _ room k) h)
+          (declared_good more region (allowing s (Grown program s.asks region (VariableOf x) s.allowed)) (λ y q. placed y (inr q)) (roomy_grown s.asks region (VariableOf x) s.allowed room) rest (grown_into program fine region x _ room k) h)
       declared_good (DeclareVariable x initial more) region s placed room rest k h = seq s (cells_good initial s (part program fine (λ i q. inl q) k)) (λ cs _.
           elaborates_good program s.asks admits demands limit cuts one s.allowed region (VariableOf x) cs (placed x (inl refl)) room
-          (declared_good more region (allowing s (Grown program s.asks region (VariableOf x) s.allowed)) (λ y q. placed y (inr q)) (roomy_grown s.asks region (VariableOf x) s.allowed room) rest (grown_into region x _ room (part program fine (λ i q. inr q) k)) h))
+          (declared_good more region (allowing s (Grown program s.asks region (VariableOf x) s.allowed)) (λ y q. placed y (inr q)) (roomy_grown s.asks region (VariableOf x) s.allowed room) rest (grown_into program fine region x _ room (part program fine (λ i q. inr q) k)) h))
       declared_good (DeclareConstant x initial more) region s placed room rest k h = seq s (cells_good initial s (part program fine (λ i q. inl q) k)) (λ cs _.
           elaborates_good program s.asks admits demands limit cuts one s.allowed region (ConstantOf x) cs (placed x (inl refl)) room
-          (declared_good more region (allowing s (Grown program s.asks region (ConstantOf x) s.allowed)) (λ y q. placed y (inr q)) (roomy_grown s.asks region (ConstantOf x) s.allowed room) rest (constant_into region x (part program fine (λ i q. inr q) k)) h))
+          (declared_good more region (allowing s (Grown program s.asks region (ConstantOf x) s.allowed)) (λ y q. placed y (inr q)) (roomy_grown s.asks region (ConstantOf x) s.allowed room) rest (constant_into program fine region x (part program fine (λ i q. inr q) k)) h))
       declared_good (Mentions es more) region s placed room rest k h = declared_good more region s placed room rest (part program fine (λ i q. inr q) k) h
 
       copy_back : (s : Scene) (b : Option Back) (vs : List ℤ) → BackFine s.allowed b → Fitted b vs → Fine s (Meaning.copied_back ops limit program calls b vs)
@@ -696,8 +600,8 @@ module _ (program : Program) (fine : Construct → Type 0) where
             let t = located s.now s.roles s.env s.suits from selections p can in
             let u = naming s (record s.roles { target = name s.roles from selections }) (with_target p s.env) (suits_target s.now s.roles s.env (name s.roles from selections) p t s.suits) in
             seq s (cells_good value u (part program fine (λ i h. inr (inr h)) k)) (λ cs can'. let w = cells_width value (with_target p s.env) cs can' in
-            writes_all s p.object p.offset cs (λ m lt. touched k at true (name s.roles from selections) (width program.subtypes value) (inl refl) p t m (omega arith))))
-        exec_good (CallProcedure at callee u actuals) s k = seq s (pass_good actuals [] s (part program fine (λ i h. inr h) k)) (λ passed can. seq s (called_good s s.env.nested u (Behaviours.ret tt) passed (done s tt) (call_into at callee u (inl refl) k)) (λ r can'.
+            writes_all s p.object p.offset cs (λ m lt. touched program fine k at true (name s.roles from selections) (width program.subtypes value) (inl refl) p t m (omega arith))))
+        exec_good (CallProcedure at callee u actuals) s k = seq s (pass_good actuals [] s (part program fine (λ i h. inr h) k)) (λ passed can. seq s (called_good s s.env.nested u (Behaviours.ret tt) passed (done s tt) (call_into program fine at callee u (inl refl) k)) (λ r can'.
             copies_back s passed r.cells (pass_back s actuals [] passed (part program fine (λ i h. inr h) k) tt can) (returned s.env.nested u (Behaviours.ret tt) passed r can')))
         exec_good (Exit loop condition) s k = seq s (holds_good condition s k) (λ goes _. choose s goes (leave s (Exits loop)) (done s tt))
         exec_good Return s k = leave s (Returns None)
@@ -708,7 +612,7 @@ module _ (program : Program) (fine : Construct → Type 0) where
         exec_good (Case e alternatives) s k = seq s (eval_good e s (part program fine (λ i h. inl h) k)) (λ v _. exec_chosen_good alternatives v s (part program fine (λ i h. inr h) k))
         exec_good (Loop number condition stmts) s k = caught s (exits number) (whiles s (suc limit) (holds_good condition s (part program fine (λ i h. inl h) k)) (exec_all_good stmts s (part program fine (λ i h. inr h) k))) (λ _. done s tt)
         exec_good (For number iteration stmts) s k =
-            seq s (course_good iteration s (part program fine (λ i h. inl h) k)) (λ c can. caught s (exits number) (through_good program s.asks s.allowed 0 c.count tt (λ i u le lt.
+            seq s (course_good iteration s (part program fine (λ i h. inl h) k)) (λ c can. caught s (exits number) (through_good program s.asks s.allowed 0 c.count tt (λ i (u : Unit {0}) le lt.
             iterates s (filter_good iteration (in_course s iteration c can i (omega arith)) (part program fine (λ i h. inr (inl h)) k)) (exec_all_good stmts (in_course s iteration c can i (omega arith)) (part program fine (λ i h. inr (inr h)) k)))) (λ _. done s tt))
         exec_good (ParallelFor number site chunk iteration stmts) s k =
             seq s (opens s) (λ _ _. seq s (chunking_good chunk (inner s) (part program fine (λ i h. inr (inl h)) k)) (λ c can. seq s (course_good iteration (inner s) (part program fine (λ i h. inr (inr (inl h))) k)) (λ d can'.
@@ -737,7 +641,7 @@ module _ (program : Program) (fine : Construct → Type 0) where
         exec_good (Put at callee pieces line) s k = seq s (written_good pieces [] s (part program fine (λ i h. inr h) k)) (λ bytes _. emits_good program s.asks s.allowed (Puts (cond line (bytes ++ (10 ∷ [])) bytes)) (λ r p. tt))
         exec_good (Get at callee first from selections scalar) s k =
             seq s (select_good selections s (variable_root from s.env) (part program fine (λ i h. inr (inr h)) k)) (λ p can. seq s (gets s (k.blocks at callee (inl refl))) (λ v _. seq s (check s RangeCheck first (is_in scalar v)) (λ _ _.
-            writes_good program s.asks s.allowed p.object p.offset v (touched_one k first true (name s.roles from selections) (inr (inl refl)) p (located s.now s.roles s.env s.suits from selections p can)))))
+            writes_good program s.asks s.allowed p.object p.offset v (touched_one program fine k first true (name s.roles from selections) (inr (inl refl)) p (located s.now s.roles s.env s.suits from selections p can)))))
 
         pub exec_all_good : (ss : Stmts) (s : Scene) → Has s (InAll program.subtypes s.roles ss) → Fine s (Meaning.exec_all ops limit program calls ss s.env)
         exec_all_good End s k = done s tt
@@ -762,7 +666,7 @@ module _ (program : Program) (fine : Construct → Type 0) where
       body_good b region s placed room k = declared_good b.decls region s placed room (λ j. InAll program.subtypes s.roles b.stmts j ⊎ InHandlers program.subtypes s.roles b.handlers j) k (λ E x.
           guards (allowing s E) b.handlers (exec_all_good b.stmts (allowing s E) (part program fine (λ i h. inl h) x)) (λ r. exec_handler_good b.handlers r (allowing s E) (part program fine (λ i h. inr h) x)))
 
-    -- ---- subprograms
+    -- subprograms
 
     same_or : (x y : ℕ) (P : Type 0) → P ⊎ (P → ⊥) → ((x ≡ y) ⊎ P) ⊎ (((x ≡ y) ⊎ P) → ⊥)
     same_or x y P (inl p) = inl (inr p)
@@ -780,7 +684,7 @@ module _ (program : Program) (fine : Construct → Type 0) where
     declared_or (Mentions es more) x = declared_or more x
 
     -- what a call's text may touch, as the text of the callee
-    callee_into : (s : Scene) (u : ℕ) → CallInto s.now s.allowed u → Into program fine s.asks s.now (called program s.asks s.allowed) (λ i. InSub program u i)
+    callee_into : (s : Scene) (u : ℕ) → CallInto program fine s.now s.allowed u → Into program fine s.asks s.now (called program s.asks s.allowed) (λ i. InSub program u i)
     callee_into s u k = record {
       touch = λ at a n h l. ⊎_elim (λ g. inl (k.touch at a n (u, 0, refl, h) g l)) (λ g. inr g) (declared_or program.body.decls a.object);
       call = λ at callee v there a n h r g l. k.touch there a n (r.0, suc r.1, (v, at, callee, h, r.2), r.3) g l;
@@ -796,7 +700,7 @@ module _ (program : Program) (fine : Construct → Type 0) where
 
     formals_into : {W : Type 0} {now : Now} {E : Allowed} {items : Item → Type 0} (ps : List Passed) → Into program fine W now E items → Into program fine W now (with_formals W ps E) items
     formals_into [] k = k
-    formals_into (p ∷ ps) k = formals_into ps (more_into p.formal k)
+    formals_into (p ∷ ps) k = formals_into ps (more_into program fine p.formal k)
 
     formals_good : {A : Type 0} (W : Type 0) (ps : List Passed) (E : Allowed) {m : Behaviour Instance A} → Good program W (with_formals W ps E) m → Good program W E (Meaning.with_formals ops limit program ps m)
     formals_good W [] E g = g
@@ -834,17 +738,6 @@ module _ (program : Program) (fine : Construct → Type 0) where
     ended_good s None = done s (pos 0)
     ended_good s (Some r) = raised s reason.ProgramError
 
-    -- what calls give
-    of_apart : {A : Type 0} {m : Behaviour Instance A} {v : A} → Can (Behaviours.apart m) v → Can m v
-    of_apart c = record { scope = apart_of c.scope; path = c.path; trace = c.trace; early = c.early; after = c.after; run = c.run }
-
-    of_elaborates : {A : Type 0} (e : Entity) (vs : List ℤ) (m : Behaviour Instance A) (v : A) → Can (Behaviours.elaborates this Here e vs m) v → Can m v
-    of_elaborates {A} e vs m v c = go c.scope c.path c.trace c.early c.after c.run
-      where
-        go : (s : Scope Instance) (p : Path Instance) (tr : Trace Instance) (y : Bool) (p' : Path Instance) → (Behaviours.elaborates this Here e vs m).runs s p tr y p' (Gives v) → Can m v
-        go s p tr y p' (inl (rest, eq, run)) = record { scope = _; path = _; trace = rest; early = y; after = p'; run = run }
-        go s p tr y p' (inr (ey, ep, ee, b)) = absurd (gives_stops ee)
-
     of_formals : {A : Type 0} (ps : List Passed) (m : Behaviour Instance A) (v : A) → Can (Meaning.with_formals ops limit program ps m) v → Can m v
     of_formals [] m v c = c
     of_formals (p ∷ ps) m v c = of_formals ps m v (of_elaborates p.formal p.cells (Meaning.with_formals ops limit program ps m) v c)
@@ -852,28 +745,6 @@ module _ (program : Program) (fine : Construct → Type 0) where
     one_fitted : (x : Entity) (b : Option Back) (vs : List ℤ) → Can (Meaning.cells_back ops limit program x b) vs → Fitted b vs
     one_fitted x None vs c = tt
     one_fitted x (Some b) vs c = let e = read_length x 0 b.cells vs c in omega arith
-
-    one_more : (qs : List Passed) (p : Passed) (ps : List Passed) → (qs ++ (p ∷ [])) ++ ps ≡ qs ++ (p ∷ ps)
-    one_more [] p ps = refl
-    one_more (q ∷ qs) p ps = ap (λ z. q ∷ z) (one_more qs p ps)
-
-    -- those that were read so far fit, as many as there are
-    abbrev FitSoFar : List Passed → List (List ℤ) → Type 0
-    FitSoFar [] [] = Unit {0}
-    FitSoFar [] (vs ∷ vss) = ⊥
-    FitSoFar (p ∷ ps) [] = ⊥
-    FitSoFar (p ∷ ps) (vs ∷ vss) = Fitted p.back vs × FitSoFar ps vss
-
-    fit_more : (qs : List Passed) (so_far : List (List ℤ)) (p : Passed) (vs : List ℤ) → FitSoFar qs so_far → Fitted p.back vs → FitSoFar (qs ++ (p ∷ [])) (so_far ++ (vs ∷ []))
-    fit_more [] [] p vs h f = (f, tt)
-    fit_more [] (ws ∷ vss) p vs h f = absurd h
-    fit_more (q ∷ qs) [] p vs h f = absurd h
-    fit_more (q ∷ qs) (ws ∷ vss) p vs h f = (h.0, fit_more qs vss p vs h.1 f)
-
-    fit_all : (qs : List Passed) (vss : List (List ℤ)) → FitSoFar qs vss → AllFitted (qs ++ []) vss
-    fit_all [] vss h = tt
-    fit_all (q ∷ qs) [] h = tt
-    fit_all (q ∷ qs) (vs ∷ vss) h = (h.0, fit_all qs vss h.1)
 
     back_fits : (qs ps : List Passed) (so_far vss : List (List ℤ)) → FitSoFar qs so_far → Can (Meaning.back_cells ops limit program ps so_far) vss → AllFitted (qs ++ ps) vss
     back_fits qs [] so_far vss h c = subst (λ z. AllFitted (qs ++ []) z) (sym (of_ret c)) (fit_all qs so_far h)
@@ -886,7 +757,7 @@ module _ (program : Program) (fine : Construct → Type 0) where
 
     module _ (law : TeamLaw program fine demands) where
       abbrev CallsGood : (ℕ → ℕ → Behaviour Instance (Unit {0}) → List Passed → Behaviour Instance Returned) → Type 1
-      CallsGood calls = (s : Scene) (nested u : ℕ) (before : Behaviour Instance (Unit {0})) (passed : List Passed) → Fine s before → CallInto s.now s.allowed u → Fine s (calls nested u before passed)
+      CallsGood calls = (s : Scene) (nested u : ℕ) (before : Behaviour Instance (Unit {0})) (passed : List Passed) → Fine s before → CallInto program fine s.now s.allowed u → Fine s (calls nested u before passed)
 
       abbrev CallsFit : (ℕ → ℕ → Behaviour Instance (Unit {0}) → List Passed → Behaviour Instance Returned) → Type 1
       CallsFit calls = (nested u : ℕ) (before : Behaviour Instance (Unit {0})) (passed : List Passed) (r : Returned) → Can (calls nested u before passed) r → AllFitted passed r.cells

@@ -219,7 +219,7 @@ module _ (program : Program) (W : Type 0) where
     onto_good a [] h = ret_good a
     onto_good a (b ∷ more) h = bind_good (h a b) (λ c _. onto_good c more h)
 
-  -- ---- new instances
+  -- new instances
 
   entity_refl : (x : Entity) → entity_eq x x ≡ true
   entity_refl (VariableOf x) = eq-eqb x x refl
@@ -339,7 +339,7 @@ module _ (program : Program) (W : Type 0) where
             )
         covers s p tr y p' end k (inr (ey, ep, ee, (rest, eq))) = (front_each (Okay E s p) tr rest (subst (λ w. Each (Okay E s p) w) eq (fill_each E s p e 0 cells)), subst (λ w. Goes p w) (sym ep) (stays p))
 
-  -- ---- subprograms: what is not the main procedure's is the callee's own
+  -- subprograms: what is not the main procedure's is the callee's own
 
   abbrev pub called : Allowed → Allowed
   called E = record { at = λ w x i. E.global w x i ⊎ (IsGlobal program x → ⊥); global = E.global; input = E.input }

@@ -12,7 +12,8 @@ use Rattle.ada_effects.proofs.Teams.{sum}
 use Rattle.ada_effects.proofs.Separation.{separation, apart_law, covered_law}
 use Rattle.ada_effects.specs.Covered.{asks_covered, CoveredLaw}
 use Rattle.ada_effects.proofs.Quietness.{threads_quiet}
-use Rattle.ada_effects.proofs.Cover.{sum_evens, main_good}
+use Rattle.ada_effects.proofs.Cover.{main_good}
+use Rattle.ada_effects.proofs.Counting.{sum_evens}
 
 sum_rest : (n : ℕ) → sum (rest_of n) ≤ n
 sum_rest zero = le_refl 0
@@ -35,7 +36,7 @@ sum_listed (s ∷ ss) (suc (suc more)) n = one_more (nat_le n s) s n (listed ss 
 
 sum_cuts : Program → (plan : Plan) (most n : ℕ) → sum (cuts_of plan most n) ≤ n
 sum_cuts program One most n = sum_rest n
-sum_cuts program (Even k) most n = sum_evens program (λ k. Unit {0}) n (min k (min n (max 1 most)))
+sum_cuts program (Even k) most n = sum_evens n (min k (min n (max 1 most)))
 sum_cuts program (Chunked s) most n = sum_chunked s most n
 sum_cuts program (Listed ss) most n = sum_listed ss most n
 

@@ -4,21 +4,22 @@ use Rattle.ada_typed.specs.declared.expressions.Root.{Root}
 use Rattle.ada_typed.specs.declared.expressions.Root.TheVariants as root
 use Rattle.ada_typed.specs.declared.expressions.Iterated.{Iterated}
 use Rattle.ada_typed.specs.Syntax.{Program}
-use Rattle.behaviours.specs.Paths.{Leave, VariableOf, Instance, End, Gives, Leaves, Spent, Stopped, Path, Scope}
+use Rattle.behaviours.specs.Paths.{Leave, Entity, VariableOf, Here, Instance, End, Gives, Leaves, Spent, Stopped, Path, Scope, apart_of}
 use Rattle.behaviours.specs.Events.{Trace}
 use Rattle.behaviours.specs.Behaviours.{Behaviour}
 use Rattle.ada_meaning.specs.Values.{to_nat}
 use Rattle.ada_meaning.specs.Operations.{CheckKind}
 use Rattle.ada_meaning.specs.Meaning.{Part, moved, nowhere, Env, outset, with_parameter, with_target, with_handled, inside, variable_root, iterated_env}
 use Rattle.ada_meaning.specs.Meaning as meaning
-use Rattle.ada_effects.specs.Effects.{Selector, At, Fixed, LoopIndex, ChunkIndex, Any, Step, FieldStep, IndexStep, ItemStep, Named, Access, Roles, unknown, other, hide, is_one, role, root_name, forgotten, forgotten_steps, forget, Construct, Item, Touches, Calls, Blocks, Holds, Outside, item_bound, iterated_hidden, IsGlobal, Reached, Effect}
-use Rattle.ada_effects.specs.Conflicts.{Now, LoopFits, Fits, IsItem, Leads, Lies}
+use Rattle.ada_effects.specs.Effects.{Selector, At, Fixed, LoopIndex, ChunkIndex, Any, Step, FieldStep, IndexStep, ItemStep, Named, Access, Roles, unknown, other, hide, is_one, role, root_name, forgotten, forgotten_steps, forget, Construct, Item, Touches, Calls, Blocks, Holds, Outside, item_bound, iterated_hidden, IsGlobal, Reached, IsEffect}
+use Rattle.ada_effects.specs.Conflicts.{Now, LoopFits, Fits, IsItem, Leads, LiesUnder}
 use Rattle.behaviours.specs.Behaviours
 use Rattle.ada_meaning.specs.Runs
+use Rattle.ada_meaning.specs.Programs.{this}
 use Rattle.ada_effects.proofs.Good.{Allowed, Can, with_object}
 use Rattle.ada_effects.proofs.Teams.{Either}
 
--- ---- what a name stands for
+-- what a name stands for
 
 abbrev pub Tie : Now → Named → Part → Type 0
 Tie now n p = (p.object ≡ n.object) × Leads now 0 n.steps p.offset
@@ -131,7 +132,7 @@ pub suits_root : (now : Now) (r : Roles) (env : Env) → Suits now r env → (at
 suits_root now r env h (root.Object x) = (refl, refl)
 suits_root now r env h (root.Item k) = h.items k
 
--- ---- values that behaviours give
+-- values that behaviours give
 
 gives : {A : Type 0} {a b : A} → Gives b ≡ Gives a → b ≡ a
 gives e = cc
@@ -179,26 +180,40 @@ pub of_checks : (kind : CheckKind) (at : ℕ) (b : Bool) (u : Unit {0}) → Can 
 of_checks kind at true u c = refl
 of_checks kind at false u c = absurd (of_leaves c)
 
--- ---- effects and what is allowed
+pub of_apart : {A : Type 0} {m : Behaviour Instance A} {v : A} → Can (Behaviours.apart m) v → Can m v
+of_apart c = record { scope = apart_of c.scope; path = c.path; trace = c.trace; early = c.early; after = c.after; run = c.run }
+
+pub of_elaborates : {A : Type 0} (e : Entity) (vs : List ℤ) (m : Behaviour Instance A) (v : A) → Can (Behaviours.elaborates this Here e vs m) v → Can m v
+of_elaborates {A} e vs m v c = go c.scope c.path c.trace c.early c.after c.run
+  where
+    go : (s : Scope Instance) (p : Path Instance) (tr : Trace Instance) (y : Bool) (p' : Path Instance) → (Behaviours.elaborates this Here e vs m).runs s p tr y p' (Gives v) → Can m v
+    go s p tr y p' (inl (rest, eq, run)) = record { scope = _; path = _; trace = rest; early = y; after = p'; run = run }
+    go s p tr y p' (inr (ey, ep, ee, b)) = absurd (gives_stops ee)
+
+pub one_of : {A : Type 0} (b : Bool) (m n : Behaviour Instance A) (Q : Type 0) (v : A) → (Can m v → Q) → (Can n v → Q) → Can (cond b m n) v → Q
+one_of true m n Q v f g c = f c
+one_of false m n Q v f g c = g c
+
+-- effects and what is allowed
 
 module _ (program : Program) where
   -- the cells under the effects of a text
   abbrev pub Exact : Now → (Item → Type 0) → Allowed
   Exact now items = record {
-    at = λ w x n. (at : ℕ) × (a : Access) × items (Touches at a) × (a.writes ≡ w) × (a.object ≡ x) × Lies now a n;
-    global = λ w x n. (at : ℕ) × (callee : ℕ) × (s : ℕ) × (there : ℕ) × (a : Access) × items (Calls at callee s) × Reached program s (Touches there a) × IsGlobal program a.object × (a.writes ≡ w) × (a.object ≡ x) × Lies now a n;
+    at = λ w x n. (at : ℕ) × (a : Access) × items (Touches at a) × (a.writes ≡ w) × (a.object ≡ x) × LiesUnder now a n;
+    global = λ w x n. (at : ℕ) × (callee : ℕ) × (s : ℕ) × (there : ℕ) × (a : Access) × items (Calls at callee s) × Reached program s (Touches there a) × IsGlobal program a.object × (a.writes ≡ w) × (a.object ≡ x) × LiesUnder now a n;
     input = ((at : ℕ) × (callee : ℕ) × items (Blocks at callee)) ⊎ ((at : ℕ) × (callee : ℕ) × (s : ℕ) × (there : ℕ) × (last : ℕ) × items (Calls at callee s) × Reached program s (Blocks there last));
   }
 
-  pub either_effect : (now : Now) (items : Item → Type 0) (w : Bool) (x n : ℕ) → Either (Exact now items) w x n → (at : ℕ) × (a : Access) × Effect program items at a × (a.writes ≡ w) × (a.object ≡ x) × Lies now a n
+  pub either_effect : (now : Now) (items : Item → Type 0) (w : Bool) (x n : ℕ) → Either (Exact now items) w x n → (at : ℕ) × (a : Access) × IsEffect program items at a × (a.writes ≡ w) × (a.object ≡ x) × LiesUnder now a n
   either_effect now items w x n (inl (at, a, h, e, f, u)) = (at, a, inl h, e, f, u)
   either_effect now items w x n (inr (at, callee, s, there, a, h, r, g, e, f, u)) = (at, a, inr (callee, s, h, there, r, g), e, f, u)
 
 module _ (program : Program) (fine : Construct → Type 0) where
   -- what lies under the effects of a text is allowed, and its constructs are fine where that is asked
   pub record Into (W : Type 0) (now : Now) (E : Allowed) (items : Item → Type 0) : Type 0 where
-    pub touch : (at : ℕ) (a : Access) (n : ℕ) → items (Touches at a) → Lies now a n → E.at a.writes a.object n
-    pub call : (at callee s there : ℕ) (a : Access) (n : ℕ) → items (Calls at callee s) → Reached program s (Touches there a) → IsGlobal program a.object → Lies now a n → E.global a.writes a.object n
+    pub touch : (at : ℕ) (a : Access) (n : ℕ) → items (Touches at a) → LiesUnder now a n → E.at a.writes a.object n
+    pub call : (at callee s there : ℕ) (a : Access) (n : ℕ) → items (Calls at callee s) → Reached program s (Touches there a) → IsGlobal program a.object → LiesUnder now a n → E.global a.writes a.object n
     pub blocks : (at callee : ℕ) → items (Blocks at callee) → E.input
     pub reach : (at callee s there last : ℕ) → items (Calls at callee s) → Reached program s (Blocks there last) → E.input
     pub clean : W → (k : Construct) → items (Holds k) → fine k
@@ -231,6 +246,6 @@ module _ (program : Program) (fine : Construct → Type 0) where
     clean = λ w c h. k.clean w c (h, tt);
   }
     where
-      go : (at : ℕ) (a : Access) (n : ℕ) → items (Touches at a) → Lies now a n → (b : Bool) → nat_eq a.object x ≡ b → E.at a.writes a.object n ⊎ (VariableOf a.object ≡ VariableOf x)
+      go : (at : ℕ) (a : Access) (n : ℕ) → items (Touches at a) → LiesUnder now a n → (b : Bool) → nat_eq a.object x ≡ b → E.at a.writes a.object n ⊎ (VariableOf a.object ≡ VariableOf x)
       go at a n h u true e = inr (ap VariableOf (eqb-true a.object x e))
       go at a n h u false e = inl (k.touch at a n (h, λ same. true≢false (sym (eq-eqb a.object x same) ∙ e)) u)

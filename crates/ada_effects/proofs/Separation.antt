@@ -1,4 +1,4 @@
--- Separated paths lead to different cells, where the parameters of two iterations differ.
+-- AreSeparated paths lead to different cells, where the parameters of two iterations differ.
 use Rattle.std.proofs.Common.{◌≡◌, ℕ, suc, ◌+◌, ◌<◌, ◌≤◌, ℤ, ◌+ℤ◌, ◌-ℤ◌, List, [], ◌∷◌, ⊎_elim, inl, inr, Option, Some, None, Bool, true, false, sym, subst, ap, ◌∙◌, refl, arith}
 use Rattle.behaviours.specs.Doings.{through}
 use Rattle.behaviours.specs.Paths.{VariableOf, ConstantOf, Instance, Path, Scope, enter}
@@ -8,7 +8,7 @@ use Rattle.behaviours.specs.Behaviours.{Behaviour, Asks, MayTrace, within, asks_
 use Rattle.ada_meaning.specs.Shapes.{Shape, object_shape}
 use Rattle.ada_typed.specs.Syntax.{Program}
 use Rattle.ada_effects.specs.Effects.{Access, Construct, Holds, InThread}
-use Rattle.ada_effects.specs.Conflicts.{Now, Lies, Distinct, LoopsDiffer, Compared, Separated, IsLaid, IsClean, InProgram, Follows, path}
+use Rattle.ada_effects.specs.Conflicts.{Now, LiesUnder, Distinct, LoopsDiffer, Compared, AreSeparated, IsLaid, IsClean, InProgram, Follows, path}
 use Rattle.ada_effects.specs.Covered.{site_of, arm_of, AreDistinct, IsTouched, AllCovered, EachCovered, asks_covered}
 use Rattle.ada_effects.proofs.Good.{Allowed, Good, Lives, lives_on, Seen, Okay, Each}
 use Rattle.ada_effects.proofs.Teams.{Either, sum, under, seen_visible, Theirs, theirs, one_of, asked}
@@ -20,7 +20,7 @@ use Rattle.ada_effects.proofs.Scenes.{Exact, either_effect}
 
 -- what is to be shown of separated accesses
 abbrev pub SeparationLaw : Type 0
-SeparationLaw = (program : Program) (now then : Now) → Distinct now then → (a b : Access) → a.object ≡ b.object → IsLaid program a → IsLaid program b → Separated a b → (n : ℕ) → Lies now a n → Lies then b n → ⊥
+SeparationLaw = (program : Program) (now then : Now) → Distinct now then → (a b : Access) → a.object ≡ b.object → IsLaid program a → IsLaid program b → AreSeparated a b → (n : ℕ) → LiesUnder now a n → LiesUnder then b n → ⊥
 
 some_none : {x : ℤ} → Some x ≡ None → ⊥
 some_none e = cc

@@ -8,7 +8,6 @@ use Rattle.behaviours.specs.Events.{Event, Reads, Writes, Recalls, Keeps, Takes,
 use Rattle.behaviours.specs.Joins.{Share, deal, Ran, EachRan, Form, traces, most_turns}
 use Rattle.behaviours.specs.Behaviours.{Behaviour, Asks, EachSafe, MayTrace, ThreadApart, ThreadsApart, asks_apart, within}
 use Rattle.behaviours.specs.Behaviours
-use Rattle.ada_meaning.specs.Programs.{this}
 use Rattle.ada_meaning.proofs.Ties.{Future, Goes, goes_enter, goes_joined}
 use Rattle.ada_effects.proofs.Good.{Allowed, MayTouch, Seen, Okay, Each, Tidy, Visible, Lives, lives_on, seen, each_append, later, stays, Good, wider, through_good}
 
@@ -17,7 +16,7 @@ abbrev pub sum : List ℕ → ℕ
 sum [] = 0
 sum (n ∷ ns) = n + sum ns
 
--- ---- no two threads make one instance
+-- no two threads make one instance
 
 tails : {A : Type 0} {x y : A} {a b : List A} → x ∷ a ≡ y ∷ b → a ≡ b
 tails e = cc
@@ -38,7 +37,7 @@ under i p l (inr (inner, c, le, e)) = (inner ++ (c ∷ []), e ∙ sym (append_as
 pub threads_apart : (i j : ℕ) (p : Path Instance) (l : Instance) → Future (enter i p) l → Future (enter j p) l → i ≡ j
 threads_apart i j p l f g = let a = under i p l f in let b = under j p l g in suffix a.0 b.0 (p.constructs ∷ p.name) i j (sym a.1 ∙ b.1)
 
--- ---- what holds of each event of the threads holds of each of the construct
+-- what holds of each event of the threads holds of each of the construct
 
 EachOf : (Event Instance → Type 0) → List (Trace Instance) → Type 0
 EachOf F [] = Unit {0}
@@ -63,7 +62,7 @@ form_each : {A : Type 0} (F : Event Instance → Type 0) (b : Bool) (p : Path In
 form_each F true p rs tr e (eq, o) h = subst (λ z. Each F z) (sym eq) (in_order_each F (traces rs) h)
 form_each F false p rs tr e (s, j) h = shuffle_each F (traces rs) tr s h
 
--- ---- what an event of a trace is at
+-- what an event of a trace is at
 
 abbrev AtPlace : Allowed → Scope Instance → Path Instance → Bool → Place Instance → Type 0
 AtPlace E s p w (Cell l i) = Future p l ⊎ Seen E s w l i
@@ -186,8 +185,7 @@ module _ (program : Program) (W : Type 0) where
         all_clear z s p lives number first (n ∷ ns) bound = (clear z s p lives (record { number = number; first = first; size = n }) (suc number) (first + n) (omega arith) (le_refl (first + n)) ns (omega arith), all_clear z s p lives (suc number) (first + n) ns (omega arith))
 
         pub asked : W → (b : Bool) (s : Scope Instance) (p : Path Instance) (site : ℕ) → Lives program s p → (ns : List ℕ) → sum ns ≤ total → asks_apart b p.name site p.constructs (deal 0 0 ns) (λ j tr. MayTrace (thread j) s p tr)
-        asked z true s p site lives ns bound = tt
-        asked z false s p site lives ns bound = all_clear z s p lives 0 0 ns (omega arith)
+        asked z b s p site lives ns bound = all_clear z s p lives 0 0 ns (omega arith)
 
     all_safe : (total : ℕ) → W → (s : Scope Instance) (p : Path Instance) → Lives program s p → (E : Allowed) → ((c : Share) → c.first + c.size ≤ total → Good program W E (thread c)) → (number first : ℕ) (ns : List ℕ) → first + sum ns ≤ total → EachSafe thread s p (deal number first ns)
     all_safe total z s p lives E g number first [] bound = tt

@@ -8,7 +8,7 @@ use Rattle.behaviours.specs.Behaviours.{Asks}
 use Rattle.ada_meaning.specs.Runs.{anything}
 use Rattle.ada_meaning.specs.Programs.{Setting, runs_of}
 use Rattle.ada_effects.specs.Effects.{Access, Construct, LoopOf, BlockOf, ReductionOf, Holds}
-use Rattle.ada_effects.specs.Conflicts.{Now, Lies, Distinct, Effects, InProgram}
+use Rattle.ada_effects.specs.Conflicts.{Now, LiesUnder, Distinct, IsThreadEffect, InProgram}
 
 abbrev pub site_of : Construct → ℕ
 site_of (LoopOf site r chunk iteration stmts) = site
@@ -33,7 +33,7 @@ module _ (program : Program) (k : Construct) (now : ℕ → ℕ → Now) where
   abbrev pub Under : Share → Bool → ℕ → ℕ → Type 0
   Under j writes x n =
       (i : ℕ) × (j.first ≤ i) × (i < j.first + j.size)
-      × ((at : ℕ) × (a : Access) × Effects program k (arm_of k j.number i) at a × (a.writes ≡ writes) × (a.object ≡ x) × Lies (now j.number i) a n)
+      × ((at : ℕ) × (a : Access) × IsThreadEffect program k (arm_of k j.number i) at a × (a.writes ≡ writes) × (a.object ≡ x) × LiesUnder (now j.number i) a n)
 
   -- constants are only read
   abbrev pub IsTouched : Share → Bool → Entity → ℕ → Type 0

@@ -1,9 +1,6 @@
+mod Judging
 mod KindLists
 mod ReadAgain
-mod Speaking
-mod SpokenBrackets
-mod SpokenDeclarations
-mod SpokenExpressions
-mod SpokenStatements
-mod SpokenUnits
-mod Verdicts
+mod Saying
+mod Spoken
+pub mod Verdicts

@@ -6,15 +6,15 @@ use Rattle.ada_tree.specs.Faults.{byte_limit}
 use Rattle.ada_tree.specs.Grammar.{ProgramWords}
 use Rattle.ada_tree.specs.Parsed.{depth_limit}
 use Rattle.ada_tree.specs.TokenKinds.{kinds_of}
-use Rattle.ada_tree.specs.declared.units.Tree.{Tree}
+use Rattle.ada_tree.specs.Syntax.{Program}
 use Rattle.canonical_text.specs.Canonical.{canonical}
 use Rattle.canonical_text.proofs.SameTokens.{tokenized_again}
 use Rattle.ada_grammar.specs.Printed.{IsPrintable, IsReadAgain}
-use Rattle.ada_grammar.proofs.SpokenUnits.{spoken}
+use Rattle.ada_grammar.proofs.Spoken.{spoken}
 
-pub read_again : (t : Tokenized) (tree : Tree) → IsPrintable t tree → length (canonical t) ≤ byte_limit → IsReadAgain t tree
+pub read_again : (t : Tokenized) (tree : Program) → IsPrintable t tree → length (canonical t) ≤ byte_limit → IsReadAgain t tree
 read_again t tree p short =
-    let again = tokenized_again t p.readable p.tokens p.limits (spoken (kinds_of t.items) tree p.parsed) short in
+    let again = tokenized_again t p.readable p.tokens p.limits (spoken depth_limit (kinds_of t.items) tree p.parsed) short in
     record {
       items = again.items;
       readable = again.readable;

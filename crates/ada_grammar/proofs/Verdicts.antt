@@ -4,16 +4,17 @@ use Rattle.ada_base.specs.Symbols.{Nested, Word, numbered}
 use Rattle.ada_base.specs.Languages.{Language}
 use Rattle.ada_base.specs.Derivations.{AllWithin, Derives, DerivesWithin, IsFirstTooDeep, SinksAt}
 use Rattle.ada_base.specs.declared.token.Token.{Token}
-use Rattle.reader_laws.proofs.FirstFaults.{tree_or_fault, tree_or_deep, one_fault}
-use Rattle.reader_laws.proofs.Words.{head_is}
+use Rattle.reader_combinators.proofs.FirstFaults.{tree_or_fault, tree_or_deep, one_fault}
+use Rattle.reader_combinators.proofs.Words.{head_is}
 use Rattle.ada_tree.specs.Grammar.{ProgramWords}
 use Rattle.ada_tree.specs.Parsed.{IsParsed, IsSyntaxFault, IsTooDeep, depth_limit}
 use Rattle.ada_tree.specs.TokenKinds.{kinds_of}
-use Rattle.ada_tree.specs.declared.units.Tree.{Tree}
-use Rattle.ada_readers.proofs.UnitRules.{one_program}
+use Rattle.ada_tree.specs.Syntax.{Program}
+use Rattle.tree_views.specs.Trees.{Table, program_of}
+use Rattle.reader_exactness.proofs.Units.{one_program}
 use Rattle.ada_grammar.specs.Parsed.{Parsed, GivesTree, GivesFault, GivesTooDeep}
-use Rattle.ada_grammar.specs.declared.parsing.ParseFault.{ParseFault}
-use Rattle.ada_grammar.specs.declared.parsing.ParseFault.TheVariants.{LeftOut, Unexpected, TooDeep, OutOfMemory}
+use Rattle.ada_grammar.specs.declared.parser.ParseFault.{ParseFault}
+use Rattle.ada_grammar.specs.declared.parser.ParseFault.TheVariants.{LeftOut, Unexpected, TooDeep, OutOfMemory}
 
 -- ---- the first token that stands too deep is one
 
@@ -55,31 +56,34 @@ none_deeper_before limit L ks place other deep later lt =
     (deep.sinks a w (rest ++ later.kind ∷ more) l (is ∙ ap (numbered 0) (whole ∙ longest)))
     (later.sinks a w more l (is ∙ ap (numbered 0) whole)) lt
 
-one_deep : {A : Type 0} (limit : ℕ) (L : A → Language) (ks : List ℕ) (place other : ℕ) → IsFirstTooDeep limit L ks place → IsFirstTooDeep limit L ks other → place ≡ other
+pub one_deep : {A : Type 0} (limit : ℕ) (L : A → Language) (ks : List ℕ) (place other : ℕ) → IsFirstTooDeep limit L ks place → IsFirstTooDeep limit L ks other → place ≡ other
 one_deep limit L ks place other deep later =
     omega (arith, none_deeper_before limit L ks place other deep later, none_deeper_before limit L ks other place later deep)
 
 -- ---- what `parse` gives
 
-derived : (limit : ℕ) (ks : List ℕ) (tree : Tree) → DerivesWithin limit ProgramWords ks tree → Derives ProgramWords ks tree
+derived : (limit : ℕ) (ks : List ℕ) (tree : Program) → DerivesWithin limit ProgramWords ks tree → Derives ProgramWords ks tree
 derived limit ks tree (w, l, e, within) = (w, l, e)
 
-pub gives_tree : (items : List Token) (result : Result Tree ParseFault) → Parsed items result → (tree : Tree) → IsParsed items tree → GivesTree result tree
-gives_tree items (Ok found) p tree t = one_program (kinds_of items) found tree (derived depth_limit (kinds_of items) found p) (derived depth_limit (kinds_of items) tree t)
+pub one_tree : (items : List Token) (a b : Program) → IsParsed items a → IsParsed items b → a ≡ b
+one_tree items a b is are = one_program (kinds_of items) a b (derived depth_limit (kinds_of items) a is) (derived depth_limit (kinds_of items) b are)
+
+pub gives_tree : (items : List Token) (result : Result Table ParseFault) → Parsed items result → (tree : Program) → IsParsed items tree → GivesTree result tree
+gives_tree items (Ok found) p tree t = one_program (kinds_of items) (program_of found) tree (derived depth_limit (kinds_of items) (program_of found) p) (derived depth_limit (kinds_of items) tree t)
 gives_tree items (Err (LeftOut token)) p tree t = absurd (tree_or_fault ProgramWords (kinds_of items) tree token (derived depth_limit (kinds_of items) tree t) p.0.fault)
 gives_tree items (Err (Unexpected token)) p tree t = absurd (tree_or_fault ProgramWords (kinds_of items) tree token (derived depth_limit (kinds_of items) tree t) p.0.fault)
 gives_tree items (Err (TooDeep token)) p tree t = absurd (tree_or_deep depth_limit ProgramWords (kinds_of items) tree token t p)
 gives_tree items (Err OutOfMemory) p tree t = refl
 
-pub gives_fault : (items : List Token) (result : Result Tree ParseFault) → Parsed items result → (place : ℕ) → IsSyntaxFault items place → GivesFault result place
-gives_fault items (Ok found) p place f = tree_or_fault ProgramWords (kinds_of items) found place (derived depth_limit (kinds_of items) found p) f.fault
+pub gives_fault : (items : List Token) (result : Result Table ParseFault) → Parsed items result → (place : ℕ) → IsSyntaxFault items place → GivesFault result place
+gives_fault items (Ok found) p place f = tree_or_fault ProgramWords (kinds_of items) (program_of found) place (derived depth_limit (kinds_of items) (program_of found) p) f.fault
 gives_fault items (Err (LeftOut token)) p place f = one_fault ProgramWords (kinds_of items) token place p.0.fault f.fault
 gives_fault items (Err (Unexpected token)) p place f = one_fault ProgramWords (kinds_of items) token place p.0.fault f.fault
 gives_fault items (Err (TooDeep token)) p place f = f.within token p
 gives_fault items (Err OutOfMemory) p place f = tt
 
-pub gives_deep : (items : List Token) (result : Result Tree ParseFault) → Parsed items result → (place : ℕ) → IsTooDeep items place → GivesTooDeep result place
-gives_deep items (Ok found) p place d = tree_or_deep depth_limit ProgramWords (kinds_of items) found place p d
+pub gives_deep : (items : List Token) (result : Result Table ParseFault) → Parsed items result → (place : ℕ) → IsTooDeep items place → GivesTooDeep result place
+gives_deep items (Ok found) p place d = tree_or_deep depth_limit ProgramWords (kinds_of items) (program_of found) place p d
 gives_deep items (Err (LeftOut token)) p place d = p.0.within place d
 gives_deep items (Err (Unexpected token)) p place d = p.0.within place d
 gives_deep items (Err (TooDeep token)) p place d = one_deep depth_limit ProgramWords (kinds_of items) token place p d

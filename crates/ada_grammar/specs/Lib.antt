@@ -1,4 +1,2 @@
 pub mod Parsed
 pub mod Printed
-pub mod Records
-pub mod StatementEnds

@@ -5,20 +5,20 @@ use Rattle.ada_base.specs.declared.token.Token.{Token}
 use Rattle.ada_tree.specs.Faults.{IsReadable, KeepLimits}
 use Rattle.ada_tree.specs.Parsed.{IsParsed}
 use Rattle.ada_tree.specs.Tokens.{AreTokensOf}
-use Rattle.ada_tree.specs.declared.units.Tree.{Tree}
+use Rattle.ada_tree.specs.Syntax.{Program}
 use Rattle.canonical_text.specs.Canonical.{canonical}
 
 -- a text within the limits, its tokens and their tree
-pub record IsPrintable (t : Tokenized) (tree : Tree) : Type 0 where
+pub record IsPrintable (t : Tokenized) (program : Program) : Type 0 where
   pub readable : IsReadable t.text
   pub tokens : AreTokensOf t.text t.items
   pub limits : KeepLimits t.items
-  pub parsed : IsParsed t.items tree
+  pub parsed : IsParsed t.items program
 
 -- the canonical text is within the limits, and its tokens have this tree
-pub record IsReadAgain (t : Tokenized) (tree : Tree) : Type 0 where
+pub record IsReadAgain (t : Tokenized) (program : Program) : Type 0 where
   pub items : List Token
   pub readable : IsReadable (canonical t)
   pub tokens : AreTokensOf (canonical t) items
   pub limits : KeepLimits items
-  pub parsed : IsParsed items tree
+  pub parsed : IsParsed items program

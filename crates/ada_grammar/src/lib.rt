@@ -1,20 +1,8 @@
-//! The parser and the printer.
+//! The tree of a text's tokens, or their first fault; and the canonical text of a program.
 #![tactic(auto)]
 
-mod blocks;
-mod branches;
-mod declarations;
-mod handlers;
-mod kinds;
-mod loops;
-mod packs;
-mod parallel;
-mod parsing;
-mod printing;
-mod sequences;
-mod simple_statements;
-mod statements;
-mod units;
+mod parser;
+mod printer;
 
-pub use parsing::{ParseFault, parse};
-pub use printing::print;
+pub use parser::{ParseFault, parse};
+pub use printer::print;

@@ -11,6 +11,8 @@ use crate::name::name;
 use crate::number::number;
 use crate::quoted::beyond_quoted;
 use ada_base::Kind;
+use ada_tree::kind_number;
+use ada_tree::kinds::{CLOSE_ROUND, CLOSE_SQUARE, FIRST_MARK, IDENTIFIER, RANGE, STRING, TICK};
 use unicode_ident::{is_xid_continue, is_xid_start};
 
 /// Whether an apostrophe after a token of this kind belongs to what the token ends, and begins no character
@@ -18,12 +20,10 @@ use unicode_ident::{is_xid_continue, is_xid_start};
 fn ends_prefix(kind: Kind) -> bool
     ensures { result ≡ ends_prefix kind }
 {
-    match kind {
-        Kind::Ident | Kind::Text => true,
-        Kind::Word(number) => number == 51,
-        Kind::Mark(number) => number == 13 || number == 27,
-        Kind::Number(_) | Kind::Letter | Kind::Real | Kind::End => false,
-    }
+    matches!(
+        kind_number(kind),
+        IDENTIFIER | RANGE | STRING | CLOSE_ROUND | CLOSE_SQUARE
+    )
 }
 
 /// Whether a character literal may stand after a token of this kind.
@@ -44,7 +44,10 @@ fn letter(characters: &[char], admitted: bool) -> Option<(Found, &[char])>
         [c, '\'', rest @ ..] if admitted && !is_control(*c) => {
             Some((Found::Other(Kind::Letter), rest))
         }
-        _ => Some((Found::Other(Kind::Mark(11)), characters)),
+        _ => Some((
+            Found::Other(Kind::Mark((TICK - FIRST_MARK) as u8)),
+            characters,
+        )),
     }
 }
 

@@ -8,7 +8,7 @@ use Rattle.behaviours.specs.Doings.{through, onto}
 use Rattle.behaviours.specs.Paths.{Leave, Raises, Entity, VariableOf, Region, Instance, End, Gives, Leaves, Spent, Stopped, Path, Scope, find, declares, apart_of, one_turn, one_elaboration, enter, leave}
 use Rattle.behaviours.specs.Events.{Event, Reads, Writes, Recalls, Keeps, Takes, Puts, Looks, Trace, output_of}
 use Rattle.behaviours.specs.Memory.{Memory, put, put_all, after, Fits}
-use Rattle.behaviours.specs.Behaviours.{Behaviour, Did, Carries, Untaken, Unbegun, asks_apart}
+use Rattle.behaviours.specs.Behaviours.{Behaviour, Did, Carries, Untaken, Unbegun, asks_at_once}
 use Rattle.ada_meaning.specs.Operations.{CheckKind}
 use Rattle.behaviours.specs.Behaviours
 use Rattle.ada_meaning.specs.Runs
@@ -42,7 +42,7 @@ pub record AgreesAt {A : Type 0} (one : Bool) (F : Trace Instance → Bool → P
 abbrev pub Agrees : {A : Type 0} → Bool → Behaviour Instance A → Planned A → Type 0
 Agrees one b g = (scope : Scope Instance) (p : Path Instance) (m : Memory) → b.safe scope p → AgreesAt one (λ tr y p' e. b.runs scope p tr y p' e) m (g scope p m)
 
--- ---- ends
+-- ends
 
 pub gives_inj : {A : Type 0} {a b : A} → ◌≡◌ {A = End A} (Gives a) (Gives b) → a ≡ b
 gives_inj e = cc
@@ -100,7 +100,7 @@ output_of_append (Takes n b ∷ t) u = output_of_append t u
 output_of_append (Looks ∷ t) u = output_of_append t u
 output_of_append (Puts piece ∷ t) u = ap (λ z. piece ++ z) (output_of_append t u) ∙ sym (append_assoc piece (output_of t) (output_of u))
 
--- ---- what is done at once
+-- what is done at once
 
 did_agrees : {A : Type 0} (one : Bool) (p : Path Instance) (m : Memory) (tr : Trace Instance) (r : Result A) → r.early ≡ false → Does m tr r → AgreesAt one (λ tr' y p' e. Did p tr r.path r.end tr' y p' e) m r
 did_agrees one p m tr r calm d = record {
@@ -213,7 +213,7 @@ turn_agrees one limit scope p m safe = go (ltb p.turns limit) refl
           only = λ tr y p' e ran f ne s. ⊎_elim (λ h. let lt = h.0 in absurd (omega arith)) (λ h. d.only tr y p' e h.1 f ne s) ran;
         }
 
--- ---- one thing and then another
+-- one thing and then another
 
 pub does_append : {A B : Type 0} (m : Memory) (t u : Trace Instance) (r : Result A) (s : Result B) → Does m t r → Does r.memory u s → Does m (t ++ u) (continued r s)
 does_append m t u r s d e = record {
@@ -286,7 +286,7 @@ module _ {A B : Type 0} (one : Bool) (b : Behaviour Instance A) (k : A → Behav
 pub bind_agrees : {A B : Type 0} (one : Bool) (b : Behaviour Instance A) (g : Planned A) (k : A → Behaviour Instance B) (l : A → Planned B) → Agrees one b g → ((a : A) → Agrees one (k a) (l a)) → Agrees one (Behaviours.◌>>=◌ b k) (Planned.◌>>=◌ g l)
 bind_agrees one b g k l first agree scope p m safe = bind_at one b k l agree scope p m (g scope p m) (g scope p m).end refl safe (first scope p m safe.0)
 
--- ---- what is left in some way
+-- what is left in some way
 
 module _ {A : Type 0} (one : Bool) (b : Behaviour Instance A) (takes : Leave → Bool) (h : Leave → Behaviour Instance A) (i : Leave → Planned A) (agree : (x : Leave) → Agrees one (h x) (i x)) where
   -- where nothing is taken
@@ -344,7 +344,7 @@ module _ {A : Type 0} (one : Bool) (b : Behaviour Instance A) (takes : Leave →
 pub handles_agrees : {A : Type 0} (one : Bool) (b : Behaviour Instance A) (g : Planned A) (takes : Leave → Bool) (h : Leave → Behaviour Instance A) (i : Leave → Planned A) → Agrees one b g → ((x : Leave) → Agrees one (h x) (i x)) → Agrees one (Behaviours.handles b takes h) (Planned.handles g takes i)
 handles_agrees one b g takes h i first agree scope p m safe = handles_at one b takes h i agree scope p m (g scope p m) (g scope p m).end refl safe (first scope p m safe.0)
 
--- ---- a thread
+-- a thread
 
 pub within_agrees : {A : Type 0} (one : Bool) (i : ℕ) (b : Behaviour Instance A) (g : Planned A) → Agrees one b g → Agrees one (Behaviours.within i b) (Planned.within i g)
 within_agrees one i b g agree scope p m safe =
@@ -365,7 +365,7 @@ pub onto_agrees : (one : Bool) (a : ℤ) (more : List ℤ) (f : ℤ → ℤ → 
 onto_agrees one a [] f g agree = ret_agrees one a
 onto_agrees one a (b ∷ more) f g agree = bind_agrees one (f a b) (g a b) (λ c. onto (Behaviours.doings Instance) c more f) (λ c. onto Planned.doings c more g) (agree a b) (λ c. onto_agrees one c more f g agree)
 
--- ---- a new instance
+-- a new instance
 
 pub fillings_fit : (x : Instance) (i : ℕ) (vs : List ℤ) (rest : Trace Instance) (m : Memory) → Fits (put_all m x i vs) rest → Fits m (Behaviours.fillings x i vs ++ rest)
 fillings_fit x i [] rest m f = f

@@ -14,7 +14,7 @@ use Rattle.ada_meaning.proofs.Agrees.{gives_inj, gives-ne-leaves, gives-ne-spent
 use Rattle.ada_meaning.proofs.Ties.{Ties, Fair, Agree, goes_enter, goes_joined, fair_goes}
 use Rattle.ada_meaning.proofs.Follows.{EachOuter, Start, Further, Alike, further_refl, calm_rest, calm_first, alike_continued, through_tame, next_further}
 
--- ---- one thing after another is the same, however it is grouped
+-- one thing after another is the same, however it is grouped
 
 or_assoc : (a b c : Bool) → ((a || b) || c) ≡ (a || (b || c))
 or_assoc true b c = refl
@@ -68,7 +68,7 @@ pub cut_turns : {A : Type 0} (limit : ℕ) (cuts : ℕ → ℕ → List ℕ) →
 cut_turns limit cuts whole (Sized sizes) a body = refl
 cut_turns limit cuts whole (ByPlan most n) a body = ap (λ z. ◌>>=◌ (through doings 0 z a (body 0)) Planned.ret) (sym (whole most n)) ∙ whole_turns (cuts most n) 0 0 a (body 0)
 
--- ---- a fold over values
+-- a fold over values
 
 abbrev pub over : {A V : Type 0} → (A → V → A) → A → List V → A
 over f a [] = a
@@ -92,7 +92,7 @@ next_alike w x y r s a b k l c f g =
     subst (λ z. AlikeGives w (next x r z k) (continued s (l b y s.path s.memory)) c) (sym f.gives)
     (record { alike = alike_continued false w r s (k a x r.path r.memory) (l b y s.path s.memory) f.alike g.alike; gives = g.gives })
 
--- ---- threads
+-- threads
 
 no_name : (i : ℕ) (n : ThreadName) → ◌≡◌ {A = ThreadName} (i ∷ n) [] → ⊥
 no_name i n e = absurd (true≢false (ap some e))
@@ -319,7 +319,7 @@ module _ {A F V : Type 0} (w : Ties) (s t : Scope Instance) (take_up : F → V �
         }
         all_took (c ∷ cs) st q m st' calm e = all_next c cs (all_took cs) st q m st' (through doings c.first c.size st (fs c.number) t q m).end refl calm e
 
--- ---- constructs of the sequential run
+-- constructs of the sequential run
 
 calm_back : {A : Type 0} (q : Path Instance) (s : Result A) → IsCalm (back_in q s) → IsCalm s
 calm_back q s c = record { early = c.early; harmless = c.harmless; spent = c.spent; stopped = c.stopped }

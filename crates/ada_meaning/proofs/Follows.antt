@@ -81,7 +81,7 @@ further_refl b q = record { turns = le_refl q.turns; name = refl; taken = λ e. 
 pub further_trans : (b : Bool) (p q r : Path Instance) → Further b p q → Further b q r → Further b p r
 further_trans b p q r f g = record { turns = le_trans f.turns g.turns; name = g.name ∙ f.name; taken = λ e. g.taken e ∙ f.taken e; globals = λ e. g.globals e ∙ f.globals e }
 
--- ---- calm parts
+-- calm parts
 
 pub harmless_left : (xs ys : List Noted) → AllHarmless (xs ++ ys) → AllHarmless xs
 harmless_left [] ys g = tt
@@ -103,7 +103,7 @@ calm_first z s (Leaves x) l eq c = record { early = c.early; harmless = c.harmle
 calm_first z s Spent l eq c = absurd (c.spent refl)
 calm_first z s Stopped l eq c = absurd (c.stopped refl)
 
--- ---- what is done at once
+-- what is done at once
 
 pub plain_follows : {A : Type 0} (b : Bool) (w : Ties) (p q : Path Instance) (m n : Memory) (e : End A) → Start b w p q m n → Follows b w (plain p m e) (plain q n e)
 plain_follows b w p q m n e st = record { alike = record { after = st; output = refl; early = refl }; end = refl }
@@ -164,7 +164,7 @@ turn_follows b limit w s t z = record {
     go p q m n st true false e f c' = let h = ltb-true q.turns limit e in let k = ltb-false p.turns limit f in let le = st.turns in absurd (omega arith)
     go p q m n st false d e f c' = absurd (c'.spent refl)
 
--- ---- cells
+-- cells
 
 pub where_follows : {A : Type 0} (b : Bool) (w : Ties) (s t : Scope Instance) (i : ℕ) (f g : Instance → Planned A) → ((x y : Instance) → TiedAt w x y i → Leads b w s t (f x) (g y))
     → (x y : Option (Extent Instance)) → TiedExtent w x y → Leads b w s t (Planned.where_found f (within_extent i x)) (Planned.where_found g (within_extent i y))
@@ -220,7 +220,7 @@ writes_follows b x i v w s t z =
 pub apart_follows : {A : Type 0} (b : Bool) (g h : Planned A) → Follow b g h → Follow b (Planned.apart g) (Planned.apart h)
 apart_follows b g h f w s t z = let k = f w (apart_of s) (apart_of t) (record { everywhere = z.everywhere; here = λ x. tt }) in record { lead = k.lead; tame = k.tame }
 
--- ---- one thing and then another
+-- one thing and then another
 
 pub alike_continued : {A B C D : Type 0} (b : Bool) (w : Ties) (r : Result A) (s : Result B) (r' : Result C) (s' : Result D) → Alike b w r s → Alike b w r' s' → Alike b w (continued r r') (continued s s')
 alike_continued b w r s r' s' f g = record { after = g.after; output = ap₂ (λ z w. z ++ w) f.output g.output; early = ap₂ (λ z w. z || w) f.early g.early }
@@ -252,7 +252,7 @@ bind_leads b w s t g h k l first rest = record {
 pub bind_follows : {A B : Type 0} (b : Bool) (g h : Planned A) (k l : A → Planned B) → Follow b g h → ((a : A) → Follow b (k a) (l a)) → Follow b (◌>>=◌ g k) (◌>>=◌ h l)
 bind_follows b g h k l first rest w s t z = bind_leads b w s t g h k l (first w s t z) (λ a. rest a w s t z)
 
--- ---- what is left in some way
+-- what is left in some way
 
 handled_further : {A : Type 0} (b : Bool) (y : Scope Instance) (q : Path Instance) (s : Result A) (e : End A) (takes : Leave → Bool) (l : Leave → Planned A) → Further b q s.path → ((x : Leave) → Further b s.path (l x y s.path s.memory).path) → Further b q (handled y s e takes l).path
 handled_further b y q s (Gives a) takes l f h = f
@@ -292,7 +292,7 @@ handles_follows b g h takes k l first rest w s t z = record {
   tame = λ q n. handled_further b t q (h t q n) (h t q n).end takes l ((first w s t z).tame q n) (λ x. (rest x w s t z).tame (h t q n).path (h t q n).memory);
 }
 
--- ---- elaborations
+-- elaborations
 
 tied_more : (w w' : Ties) (a b : Option (Extent Instance)) → ((x y : Instance) (i : ℕ) → TiedAt w x y i → TiedAt w' x y i) → TiedExtent w a b → TiedExtent w' a b
 tied_more w w' None None h e = tt
@@ -430,7 +430,7 @@ elaborates_follow {A} b region u x vs g h f w s t z = record {
         ((f (with_new w (here x p) (here x q) (length vs)) (declares Here x (here x p) (length vs) s) (declares Here x (here x q) (length vs) t) (scope_new w s t Here x (here x p) (here x q) (length vs) z)).lead
         (one_elaboration Here (here x p) p) (one_elaboration Here (here x q) q) (put_all m (here x p) 0 vs) (put_all n (here x q) 0 vs) (new_start b w p q m n x vs st pin qin) c)
 
--- ---- many
+-- many
 
 pub through_tame : {A : Type 0} (b : Bool) (t : Scope Instance) (first size : ℕ) (a : A) (f : ℕ → A → Planned A) → ((i : ℕ) (a : A) (q : Path Instance) (n : Memory) → Further b q (f i a t q n).path) → (q : Path Instance) (n : Memory) → Further b q (through doings first size a f t q n).path
 through_tame b t first zero a f h q n = further_refl b q

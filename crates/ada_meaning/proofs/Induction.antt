@@ -17,7 +17,7 @@ use Rattle.ada_typed.specs.declared.expressions.Reducer.{Reducer}
 use Rattle.ada_typed.specs.declared.expressions.Reducer.TheVariants.{Operator, Function}
 use Rattle.ada_base.specs.Cuts.{evens}
 use Rattle.ada_base.specs.Image.{padded}
-use Rattle.ada_base.specs.Input.{Held, Nothing, Symbol, is_blank, is_byte, is_digit, digit_of, is_based, is_integer, signed}
+use Rattle.ada_base.specs.Input.{Held}
 use Rattle.behaviours.specs.Doings.{through, folded}
 use Rattle.behaviours.specs.Paths.{Leave, Exits, Returns, Raises, Entity, VariableOf, ConstantOf, Region, Everywhere, Here}
 use Rattle.ada_meaning.specs.Values.{result, truth, bit, is_in, between, to_nat, count, base_of, unary, is_zero, divides, overflows, value_or_zero, defaults, laid, zeros, image_of, handles_reason, is_chosen}
@@ -57,7 +57,7 @@ pub record Relates {ℓ κ ν} (o : Operations {ℓ}) (q : Operations {κ}) : Ty
 module _ {ℓ κ ν} {o : Operations {ℓ}} {q : Operations {κ}} (rel : Relates {ℓ, κ, ν} o q) where
   open rel use {R, World, Open, inner}
 
-  -- ---- what programs are put together from
+  -- what programs are put together from
 
   choose : {A : Type 0} (w : World) (b : Bool) {m k : o.Doing A} {n l : q.Doing A} → R w m n → R w k l → R w (cond b m k) (cond b n l)
   choose w true r s = r
@@ -145,7 +145,7 @@ module _ {ℓ κ ν} {o : Operations {ℓ}} {q : Operations {κ}} (rel : Relates
   guards : (w : World) (hs : Handlers) {m : o.Doing (Unit {0})} {n : q.Doing (Unit {0})} {f : Reason → o.Doing (Unit {0})} {g : Reason → q.Doing (Unit {0})} → R w m n → ((r : Reason) → R w (f r) (g r)) → R w (Meaning.guarded o hs m f) (Meaning.guarded q hs n g)
   guards w hs r s = rel.handles w (λ how. has_handlers hs && raises how) r (λ how. rel.bind w (rel.look w) (λ _. s (reason_of how)))
 
-  -- ---- input
+  -- input
 
   module _ (w : World) (allowed : Open w) where
     next : R w ((Meaning.reading o).asks) ((Meaning.reading q).asks)
@@ -166,7 +166,7 @@ module _ {ℓ κ ν} {o : Operations {ℓ}} {q : Operations {κ}} (rel : Relates
     gets : (limit : ℕ) → R w (Meaning.got o limit) (Meaning.got q limit)
     gets = Readings.gets readings
 
-  -- ---- places in the text: the world, and whether blocking calls are allowed there
+  -- places in the text: the world, and whether blocking calls are allowed there
 
   pub record Spot : Type 0 where
     pub world : World

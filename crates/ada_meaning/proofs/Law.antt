@@ -5,17 +5,17 @@ use Rattle.ada_base.specs.Cuts.{cuts_of}
 use Rattle.behaviours.specs.Paths.{Exits, Returns, Raises, Entity, VariableOf, ConstantOf, Everywhere, Instance, Path, End, Gives, Leaves, Spent, Stopped, Scope, start, nothing_visible}
 use Rattle.behaviours.specs.Events.{Trace, output_of}
 use Rattle.behaviours.specs.Memory.{Memory, empty}
-use Rattle.behaviours.specs.Behaviours.{asks_apart}
+use Rattle.behaviours.specs.Behaviours.{asks_apart, asks_at_once}
 use Rattle.ada_meaning.specs.Meaning
 use Rattle.ada_meaning.specs.Meaning.{main, raises, outset, most_calls, object_layout}
 use Rattle.ada_meaning.specs.Nonblocking.{KeepsRule}
 use Rattle.ada_meaning.specs.Runs
-use Rattle.ada_meaning.specs.Runs.{anything}
+use Rattle.ada_meaning.specs.Runs.{anything, of_subtype}
 use Rattle.ada_meaning.specs.Planned
 use Rattle.ada_meaning.specs.Planned.{Result, Planned, continued, handled}
 use Rattle.ada_meaning.specs.Sequential.{IsCalm}
 use Rattle.ada_meaning.specs.Programs.{this, Setting, input_of, planned, sequential, values, with_final, finals}
-use Rattle.ada_meaning.specs.Law.{Ending, Ended, Raised, TurnsSpent, ReadFault, WriteFault, NoMemory, Outcome, behaviour, EndsAs, EndsItself, IsPermitted, ending_of, outcome_of, StopsLaw, AloneLaw, OnlyLaw, OneLaw, IsPlan, IsSequential, SequentialLaw, OneSequentialLaw, SubtypeLaw}
+use Rattle.ada_meaning.specs.Law.{Ending, Ended, Raised, TurnsSpent, ReadFault, WriteFault, NoMemory, Outcome, behaviour, EndsAs, EndsItself, IsPermitted, ending_of, outcome_of, StopsLaw, AloneLaw, AtOnceLaw, SilentLaw, OnlyLaw, OneLaw, IsPlan, IsSequential, SequentialLaw, OneSequentialLaw, SubtypeLaw}
 use Rattle.ada_meaning.proofs.Agrees.{AgreesAt, Settled, gives-ne-stopped, leaves-ne-stopped, spent-ne-stopped}
 use Rattle.ada_meaning.proofs.PlanLaw.{program_agrees}
 use Rattle.ada_meaning.proofs.Stops.{program_stops, program_safe}
@@ -23,18 +23,27 @@ use Rattle.ada_meaning.proofs.Ties.{Agree, fair_start}
 use Rattle.ada_meaning.proofs.Follows.{EachOuter, Follows}
 use Rattle.ada_meaning.proofs.SeqLaw.{program_follows}
 use Rattle.ada_meaning.proofs.Wholes.{cuts_whole}
-use Rattle.ada_meaning.proofs.Subtypes.{program_among}
+use Rattle.ada_meaning.proofs.Silence.{program_silent}
+use Rattle.ada_meaning.proofs.Among.{apart_more, at_once_more, fewer_at_once, program_among}
 
 pub stops_law : StopsLaw
-stops_law program set keeps = program_stops Instance this anything asks_apart set.limit (cuts_of set.plan) set.one program keeps nothing_visible start
+stops_law program set keeps = program_stops Instance this anything asks_at_once set.limit (cuts_of set.plan) set.one program keeps nothing_visible start
 
 pub alone_law : AloneLaw
 alone_law program plan limit keeps = program_safe Instance this anything limit (cuts_of plan) program keeps nothing_visible start
 
+pub silent_law : SilentLaw
+silent_law program set keeps = program_silent set.limit (cuts_of set.plan) set.one program keeps nothing_visible start
+
+pub at_once_law : AtOnceLaw
+at_once_law program keeps free set =
+    (program_among anything anything (λ cell v h. h) asks_at_once asks_apart fewer_at_once set.limit (cuts_of set.plan) set.one program keeps).safe nothing_visible start (free set)
+
 pub subtype_law : SubtypeLaw
-subtype_law program set keeps =
-    let h = program_among set.limit (cuts_of set.plan) set.one program keeps in
-    (h.runs nothing_visible start, h.safe nothing_visible start)
+subtype_law program set keeps = (
+  (program_among of_subtype anything (λ cell v h. tt) asks_at_once asks_at_once at_once_more set.limit (cuts_of set.plan) set.one program keeps).runs nothing_visible start,
+  (λ free. (program_among of_subtype anything (λ cell v h. tt) asks_apart asks_apart apart_more set.limit (cuts_of set.plan) set.one program keeps).safe nothing_visible start (free set)),
+)
 
 -- what a run that ends by itself tells
 ends : (program : Program) (set : Setting) (tr : Trace Instance) (path : Path Instance) (end : End (Unit {0})) (output : List ℕ) (e : Ending) → EndsItself e → EndsAs program set tr path end output e
@@ -66,19 +75,20 @@ module _ (program : Program) (set : Setting) (input : List ℕ) (keeps : KeepsRu
 
 pub only_law : OnlyLaw
 only_law program set input o o' early keeps free run itself run' itself' =
-    let a = settled program set input keeps (free set) false o run itself (inr (inl refl)) in
-    (settled program set input keeps (free set) early o' run' itself' (inl (sym a.1))).0 ∙ sym a.0
+    let apart = at_once_law program keeps free set in
+    let a = settled program set input keeps apart false o run itself (inr (inl refl)) in
+    (settled program set input keeps apart early o' run' itself' (inl (sym a.1))).0 ∙ sym a.0
 
 alone : (program : Program) (set : Setting) → KeepsRule program → set.one ≡ true → (behaviour program set).safe nothing_visible start
 alone program set keeps one =
-    subst (λ z. (main (Runs.operations Instance this anything asks_apart set.limit (cuts_of set.plan) z) set.limit program).safe nothing_visible start) (sym one) (alone_law program set.plan set.limit keeps)
+    subst (λ z. (main (Runs.operations Instance this anything asks_at_once set.limit (cuts_of set.plan) z) set.limit program).safe nothing_visible start) (sym one) (alone_law program set.plan set.limit keeps)
 
 pub one_law : OneLaw
 one_law program set input o o' early early' keeps one run itself run' itself' =
     let free = alone program set keeps one in
     (settled program set input keeps free early' o' run' itself' (inr (inr one))).0 ∙ sym (settled program set input keeps free early o run itself (inr (inr one))).0
 
--- ---- the sequential law
+-- the sequential law
 
 -- only an exception leaves the main procedure
 abbrev OnlyRaises : End (Unit {0}) → Type 0
@@ -154,7 +164,7 @@ comes_to program set input keeps positive free calm =
     )
 
 pub sequential_law : SequentialLaw
-sequential_law program set input keeps positive free calm = comes_to program set input keeps positive (free set) calm
+sequential_law program set input keeps positive free calm = comes_to program set input keeps positive (at_once_law program keeps free set) calm
 
 pub one_sequential_law : OneSequentialLaw
 one_sequential_law program set input keeps positive one calm = comes_to program set input keeps positive (alone program set keeps one) calm

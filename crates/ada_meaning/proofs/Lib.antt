@@ -3,6 +3,7 @@ pub mod Stops
 pub mod Agrees
 pub mod Quiet
 pub mod Threads
+pub mod Silence
 pub mod PlanLaw
 pub mod Ties
 pub mod Follows
@@ -11,9 +12,14 @@ pub mod Listed
 pub mod SeqLaw
 pub mod Wholes
 pub mod Operators
-pub mod Subtypes
+pub mod Among
 pub mod Law
 pub mod Segments
 pub mod Computed
+pub mod LoopsComputed
+pub mod CallsComputed
+pub mod BlocksComputed
+pub mod LooksComputed
 pub mod Unblocked
 pub mod Shapes
+pub mod Sizes

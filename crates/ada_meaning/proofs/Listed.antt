@@ -35,7 +35,7 @@ pub record Listed (by : Reducer) (at : ℕ) (initial : ℤ) : Type 0 where
   pub step : (call : ℤ → ℤ → Planned ℤ) (a v : ℤ) (s : Scope Instance) (p : Path Instance) (m : Memory) → reduce doings Planned.checks by at call a v s p m ≡ plain p m (stepped (fits (put a v)) (put a v))
   pub segments : (values : List ℤ) → HasNoPartialOverflow by values → (before part after : List ℤ) → values ≡ before ++ (part ++ after) → fits (over put initial part) ≡ true
 
--- ---- products
+-- products
 
 abbrev signed : Bool → ℕ → ℤ
 signed true m = pos m
@@ -86,7 +86,7 @@ times_assoc a b c =
     ∙ signed_assoc x.0 y.0 z.0 x.1 y.1 z.1
     ∙ ap (λ k. signed x.0 x.1 *ℤ (signed y.0 y.1 *ℤ k)) (sym z.2) ∙ ap (λ k. signed x.0 x.1 *ℤ (k *ℤ c)) (sym y.2) ∙ ap (λ k. k *ℤ (b *ℤ c)) (sym x.2)
 
--- ---- the greatest and the least
+-- the greatest and the least
 
 max_assoc : (a b c : ℤ) → int_max (int_max a b) c ≡ int_max a (int_max b c)
 max_assoc a b c = omega (arith, ints, clamps)
@@ -106,7 +106,7 @@ min_comm a b = omega (arith, ints, clamps)
 min_idle : (a : ℤ) → int_min a a ≡ a
 min_idle a = omega (arith, ints, clamps)
 
--- ---- truth values
+-- truth values
 
 abbrev differs : ℤ → ℤ → ℤ
 differs a b = bit (differ (truth a) (truth b))
@@ -133,7 +133,7 @@ differs_comm a b = go (truth a) (truth b)
     go false true = refl
     go false false = refl
 
--- ---- sums and products of values
+-- sums and products of values
 
 over_total : (a : ℤ) (vs : List ℤ) → over (λ x y. x +ℤ y) a vs ≡ a +ℤ total vs
 over_total a [] = sym (+ℤ_idr a)
@@ -198,7 +198,7 @@ listed (Operator t op.Rem class) at initial h = absurd h
 listed (Operator t op.Pow class) at initial h = absurd h
 listed (Function t sub x y) at initial h = absurd h
 
--- ---- parts put together
+-- parts put together
 
 module _ (by : Reducer) (at : ℕ) (initial : ℤ) (l : Listed by at initial) where
   over_onto : (a b : ℤ) (vs : List ℤ) → l.put a (over l.put b vs) ≡ over l.put (l.put a b) vs

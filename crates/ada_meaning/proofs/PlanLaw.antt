@@ -9,7 +9,7 @@ use Rattle.behaviours.specs.Doings.{through, folded}
 use Rattle.behaviours.specs.Paths.{Instance, apart_of}
 use Rattle.behaviours.specs.Events.{Looks}
 use Rattle.behaviours.specs.Joins.{Share, deal}
-use Rattle.behaviours.specs.Behaviours.{Behaviour, asks_apart}
+use Rattle.behaviours.specs.Behaviours.{Behaviour, asks_at_once}
 use Rattle.ada_meaning.specs.Values.{result, divides, overflows, is_zero, value_or_zero}
 use Rattle.ada_meaning.specs.Operations.{ZeroCheck, OverflowCheck, Cut, chunk_of, Operations, reduce, zero_checked, overflow_checked, operate}
 use Rattle.ada_meaning.specs.Meaning.{main}
@@ -28,7 +28,7 @@ use Rattle.ada_meaning.proofs.Induction.{Relates}
 
 module _ (limit : ℕ) (cuts : ℕ → ℕ → List ℕ) (one : Bool) where
   abbrev runs : Operations {1}
-  runs = Runs.operations Instance this anything asks_apart limit cuts one
+  runs = Runs.operations Instance this anything asks_at_once limit cuts one
 
   abbrev plans : Operations {0}
   plans = Planned.operations limit cuts
@@ -87,10 +87,10 @@ module _ (limit : ℕ) (cuts : ℕ → ℕ → List ℕ) (one : Bool) where
   loop_thread : (f : ℕ → ℕ → Behaviour Instance (Unit {0})) (g : ℕ → ℕ → Planned (Unit {0})) → ((j i : ℕ) → Silent (f j i) (g j i)) → (c : Share) → Silent (Runs.loop_thread f c) (Planned.loop_thread g c)
   loop_thread f g r c = enters c.number (through runs.doings c.first c.size tt (λ i _. f c.number i)) (through plans.doings c.first c.size tt (λ i _. g c.number i)) (goes_through c.first c.size tt (λ i _. f c.number i) (λ i _. g c.number i) (λ i _. r c.number i))
 
-  dealt_loops : (site : ℕ) (cut : Cut) (f : ℕ → ℕ → Behaviour Instance (Unit {0})) (g : ℕ → ℕ → Planned (Unit {0})) → ((j i : ℕ) → Silent (f j i) (g j i)) → Silent (Behaviours.◌>>=◌ (Behaviours.par asks_apart one site (deal 0 0 (Runs.sizes_of Instance this anything asks_apart limit cuts one cut)) (Runs.loop_thread f)) (λ _. Behaviours.ret {A = Unit {0}} tt)) (Planned.◌>>=◌ (Planned.par (deal 0 0 (Runs.sizes_of Instance this anything asks_apart limit cuts one cut)) (Planned.loop_thread g)) (λ _. Planned.ret {A = Unit {0}} tt))
+  dealt_loops : (site : ℕ) (cut : Cut) (f : ℕ → ℕ → Behaviour Instance (Unit {0})) (g : ℕ → ℕ → Planned (Unit {0})) → ((j i : ℕ) → Silent (f j i) (g j i)) → Silent (Behaviours.◌>>=◌ (Behaviours.par asks_at_once one site (deal 0 0 (Runs.sizes_of Instance this anything asks_at_once limit cuts one cut)) (Runs.loop_thread f)) (λ _. Behaviours.ret {A = Unit {0}} tt)) (Planned.◌>>=◌ (Planned.par (deal 0 0 (Runs.sizes_of Instance this anything asks_at_once limit cuts one cut)) (Planned.loop_thread g)) (λ _. Planned.ret {A = Unit {0}} tt))
   dealt_loops site cut f g r =
-      let js = deal 0 0 (Runs.sizes_of Instance this anything asks_apart limit cuts one cut) in
-      both (Behaviours.par asks_apart one site js (Runs.loop_thread f)) (Planned.par js (Planned.loop_thread g)) (λ _. runs.ret tt) (λ _. plans.ret tt)
+      let js = deal 0 0 (Runs.sizes_of Instance this anything asks_at_once limit cuts one cut) in
+      both (Behaviours.par asks_at_once one site js (Runs.loop_thread f)) (Planned.par js (Planned.loop_thread g)) (λ _. runs.ret tt) (λ _. plans.ret tt)
       (record {
         agrees = par_agrees limit cuts one site js (Runs.loop_thread f) (Planned.loop_thread g) (λ c. (loop_thread f g r c).agrees) (λ c. (loop_thread f g r c).quiet);
         quiet = par_quiet limit cuts one site js (Runs.loop_thread f) (λ c. (loop_thread f g r c).quiet);
@@ -110,7 +110,7 @@ module _ (limit : ℕ) (cuts : ℕ → ℕ → List ℕ) (one : Bool) where
 
   accumulators : (by : Reducer) (at : ℕ) (v : ℤ) (f : ℕ → ℕ → Behaviour Instance (Option ℤ)) (g : ℕ → ℕ → Planned (Option ℤ)) (c : ℤ → ℤ → Behaviour Instance ℤ) (d : ℤ → ℤ → Planned ℤ)
       → ((j i : ℕ) → Silent (f j i) (g j i)) → ((a b : ℤ) → Silent (c a b) (d a b)) → (site : ℕ) (js : List Share)
-      → Silent (Behaviours.par asks_apart one site js (Runs.fold_thread by at v f c)) (Planned.par js (Planned.fold_thread by at v g d))
+      → Silent (Behaviours.par asks_at_once one site js (Runs.fold_thread by at v f c)) (Planned.par js (Planned.fold_thread by at v g d))
   accumulators by at v f g c d r t site js = record {
     agrees = par_agrees limit cuts one site js (Runs.fold_thread by at v f c) (Planned.fold_thread by at v g d) (λ k. (fold_thread by at v f g c d r t k).agrees) (λ k. (fold_thread by at v f g c d r t k).quiet);
     quiet = par_quiet limit cuts one site js (Runs.fold_thread by at v f c) (λ k. (fold_thread by at v f g c d r t k).quiet);
@@ -122,17 +122,17 @@ module _ (limit : ℕ) (cuts : ℕ → ℕ → List ℕ) (one : Bool) where
   step_in w (Function t s x y) at f g r a b = r a b
 
   combines : (w : Bool) (f : ℤ → ℤ → Behaviour Instance ℤ) (g : ℤ → ℤ → Planned ℤ) → ((a b : ℤ) → AgreesIn w (f a b) (g a b)) → (v : ℤ) (values : List ℤ)
-      → AgreesIn w (Runs.combined Instance this anything asks_apart limit cuts one v values f) (Planned.combined limit cuts v values g)
+      → AgreesIn w (Runs.combined Instance this anything asks_at_once limit cuts one v values f) (Planned.combined limit cuts v values g)
   combines w f g r v [] = quietly w (runs.ret v) (plans.ret v) (ret_agrees one v) (ret_quiet v)
   combines w f g r v (a ∷ more) = record { agrees = onto_agrees one a more f g (λ b c. (r b c).agrees); quiet = λ e. onto_quiet a more f (λ b c. (r b c).quiet e) }
 
   reduces : (w : Bool) (site : ℕ) (cut : Cut) (by : Reducer) (at : ℕ) (v : ℤ) (f : ℕ → ℕ → Behaviour Instance (Option ℤ)) (g : ℕ → ℕ → Planned (Option ℤ)) (c c' : ℤ → ℤ → Behaviour Instance ℤ) (d d' : ℤ → ℤ → Planned ℤ)
       → ((j i : ℕ) → Silent (f j i) (g j i)) → ((a b : ℤ) → Silent (c a b) (d a b)) → ((a b : ℤ) → AgreesIn w (c' a b) (d' a b)) → AgreesIn w (runs.reduces site cut by at v f c c') (plans.reduces site cut by at v g d d')
   reduces w site cut by at v f g c c' d d' r t u =
-      let js = deal 0 0 (Runs.sizes_of Instance this anything asks_apart limit cuts one cut) in
-      let m = Behaviours.par asks_apart one site js (Runs.fold_thread by at v (λ j. f (chunk_of cut j)) c) in
+      let js = deal 0 0 (Runs.sizes_of Instance this anything asks_at_once limit cuts one cut) in
+      let m = Behaviours.par asks_at_once one site js (Runs.fold_thread by at v (λ j. f (chunk_of cut j)) c) in
       let n = Planned.par js (Planned.fold_thread by at v (λ j. g (chunk_of cut j)) d) in
-      let k = λ (values : List ℤ). Runs.combined Instance this anything asks_apart limit cuts one v values (reduce runs.doings runs.checks by at c') in
+      let k = λ (values : List ℤ). Runs.combined Instance this anything asks_at_once limit cuts one v values (reduce runs.doings runs.checks by at c') in
       let l = λ (values : List ℤ). Planned.combined limit cuts v values (reduce plans.doings plans.checks by at d') in
       let a = accumulators by at v (λ j. f (chunk_of cut j)) (λ j. g (chunk_of cut j)) c d (λ j. r (chunk_of cut j)) t site js in
       let b = λ (values : List ℤ). combines w (reduce runs.doings runs.checks by at c') (reduce plans.doings plans.checks by at d') (step_in w by at c' d' u) v values in

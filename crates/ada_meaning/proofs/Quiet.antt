@@ -1,39 +1,35 @@
--- Behaviours that put nothing out.
+-- Behaviours that take no input and put nothing out.
 use Rattle.std.proofs.Common.{ℕ, zero, suc, ℤ, List, [], ◌∷◌, ◌++◌, sym, ◌⊎◌, inl, inr, ⊎_elim, Option, Some, None, Bool, true, false, subst}
 use Rattle.ada_base.specs.declared.reason.Reason.TheVariants as reason
 use Rattle.ada_typed.specs.declared.scalars.Scalar.{Scalar}
 use Rattle.behaviours.specs.Doings.{through, onto}
 use Rattle.behaviours.specs.Paths.{Leave, Raises, Entity, VariableOf, Region, Instance, End, Path, Scope, find, enter}
-use Rattle.behaviours.specs.Events.{Event, Writes, Puts, Trace, Has}
-use Rattle.behaviours.specs.Behaviours.{Behaviour, Did, asks_apart}
+use Rattle.behaviours.specs.Events.{Event, Writes, Trace, Has, IsInputOutput}
+use Rattle.behaviours.specs.Behaviours.{Behaviour, Did, asks_at_once}
 use Rattle.ada_meaning.specs.Operations.{CheckKind}
 use Rattle.behaviours.specs.Behaviours
 use Rattle.ada_meaning.specs.Runs
 use Rattle.ada_meaning.specs.Runs.{anything}
 use Rattle.ada_meaning.specs.Programs.{this}
 
-abbrev pub IsPut : Event Instance → Type 0
-IsPut (Puts piece) = Unit {0}
-IsPut _ = ⊥
-
 abbrev pub Quiet : {A : Type 0} → Behaviour Instance A → Type 0
-Quiet {A} b = (s : Scope Instance) (p : Path Instance) (tr : Trace Instance) (y : Bool) (p' : Path Instance) (e : End A) → b.runs s p tr y p' e → Has IsPut tr → ⊥
+Quiet {A} b = (s : Scope Instance) (p : Path Instance) (tr : Trace Instance) (y : Bool) (p' : Path Instance) (e : End A) → b.runs s p tr y p' e → Has IsInputOutput tr → ⊥
 
 has_append : (F : Event Instance → Type 0) (t u : Trace Instance) → Has F (t ++ u) → Has F t ⊎ Has F u
 has_append F [] u h = inr h
 has_append F (a ∷ t) u (inl h) = inl (inl h)
 has_append F (a ∷ t) u (inr h) = ⊎_elim (λ k. inl (inr k)) inr (has_append F t u h)
 
-pub did_quiet : {A : Type 0} (p : Path Instance) (act : Trace Instance) (q : Path Instance) (end : End A) (tr : Trace Instance) (y : Bool) (p' : Path Instance) (e : End A) → (Has IsPut act → ⊥) → Did p act q end tr y p' e → Has IsPut tr → ⊥
-did_quiet p act q end tr y p' e none (z, inl d) h = none (subst (λ z. Has IsPut z) d.0 h)
-did_quiet p act q end tr y p' e none (z, inr d) h = subst (λ z. Has IsPut z) d.0 h
+pub did_quiet : {A : Type 0} (p : Path Instance) (act : Trace Instance) (q : Path Instance) (end : End A) (tr : Trace Instance) (y : Bool) (p' : Path Instance) (e : End A) → (Has IsInputOutput act → ⊥) → Did p act q end tr y p' e → Has IsInputOutput tr → ⊥
+did_quiet p act q end tr y p' e none (z, inl d) h = none (subst (λ z. Has IsInputOutput z) d.0 h)
+did_quiet p act q end tr y p' e none (z, inr d) h = subst (λ z. Has IsInputOutput z) d.0 h
 
 pub bind_quiet : {A B : Type 0} (b : Behaviour Instance A) (k : A → Behaviour Instance B) → Quiet b → ((a : A) → Quiet (k a)) → Quiet (Behaviours.◌>>=◌ b k)
-bind_quiet b k q r s p tr y p' e (inl (a, mid, front, back, x, z, eq, ey, one, two)) h = ⊎_elim (q s p front x mid _ one) (r a s mid back z p' e two) (has_append IsPut front back (subst (λ z. Has IsPut z) eq h))
+bind_quiet b k q r s p tr y p' e (inl (a, mid, front, back, x, z, eq, ey, one, two)) h = ⊎_elim (q s p front x mid _ one) (r a s mid back z p' e two) (has_append IsInputOutput front back (subst (λ z. Has IsInputOutput z) eq h))
 bind_quiet b k q r s p tr y p' e (inr (end, c, one)) h = q s p tr y p' end one h
 
 pub handles_quiet : {A : Type 0} (b : Behaviour Instance A) (takes : Leave → Bool) (k : Leave → Behaviour Instance A) → Quiet b → ((x : Leave) → Quiet (k x)) → Quiet (Behaviours.handles b takes k)
-handles_quiet b takes k q r s p tr y p' e (inl (how, mid, front, back, x, z, eq, ey, one, t, two)) h = ⊎_elim (q s p front x mid _ one) (r how s mid back z p' e two) (has_append IsPut front back (subst (λ z. Has IsPut z) eq h))
+handles_quiet b takes k q r s p tr y p' e (inl (how, mid, front, back, x, z, eq, ey, one, t, two)) h = ⊎_elim (q s p front x mid _ one) (r how s mid back z p' e two) (has_append IsInputOutput front back (subst (λ z. Has IsInputOutput z) eq h))
 handles_quiet b takes k q r s p tr y p' e (inr (one, u)) h = q s p tr y p' e one h
 
 pub turn_quiet : (limit : ℕ) → Quiet (Behaviours.turn limit)
@@ -60,7 +56,7 @@ leaves_quiet x s p tr y p' e d h = did_quiet p [] p _ tr y p' e (λ k. k) d h
 pub spent_quiet : {A : Type 0} → Quiet (Behaviours.spent {P = Instance} {A = A})
 spent_quiet s p tr y p' e d h = did_quiet p [] p _ tr y p' e (λ k. k) d h
 
-pub emits_quiet : (a : Event Instance) → (IsPut a → ⊥) → Quiet (Behaviours.emits a)
+pub emits_quiet : (a : Event Instance) → (IsInputOutput a → ⊥) → Quiet (Behaviours.emits a)
 emits_quiet a none s p tr y p' e d h = did_quiet p (a ∷ []) p _ tr y p' e (λ k. ⊎_elim none (λ z. z) k) d h
 
 pub where_quiet : {A : Type 0} (f : Instance → Behaviour Instance A) → ((x : Instance) → Quiet (f x)) → (x : Option Instance) → Quiet (Behaviours.where_found f x)
@@ -72,12 +68,12 @@ checks_quiet kind at true = ret_quiet tt
 checks_quiet kind at false = leaves_quiet (Raises reason.ConstraintError)
 
 pub reads_quiet : (x : Entity) (i : ℕ) (cell : Scalar) → Quiet (Runs.reads anything x i cell)
-reads_quiet x i cell s = where_quiet _ (λ l t p tr y p' e d h. ⊎_elim (λ r. did_quiet p _ p _ tr y p' e (λ k. ⊎_elim (λ z. z) (λ z. z) k) r.2 h) (λ u. subst (λ z. Has IsPut z) u.0 h) d) (find s x i) s
+reads_quiet x i cell s = where_quiet _ (λ l t p tr y p' e d h. ⊎_elim (λ r. did_quiet p _ p _ tr y p' e (λ k. ⊎_elim (λ z. z) (λ z. z) k) r.2 h) (λ u. subst (λ z. Has IsInputOutput z) u.0 h) d) (find s x i) s
 
 pub writes_quiet : (x i : ℕ) (v : ℤ) → Quiet (Behaviours.writes {P = Instance} x i v)
 writes_quiet x i v s = where_quiet _ (λ l. emits_quiet (Writes l i v) (λ z. z)) (find s (VariableOf x) i) s
 
-fillings_quiet : (x : Instance) (i : ℕ) (vs : List ℤ) → Has IsPut (Behaviours.fillings x i vs) → ⊥
+fillings_quiet : (x : Instance) (i : ℕ) (vs : List ℤ) → Has IsInputOutput (Behaviours.fillings x i vs) → ⊥
 fillings_quiet x i [] h = h
 fillings_quiet x i (v ∷ vs) (inl h) = h
 fillings_quiet x i (v ∷ vs) (inr h) = fillings_quiet x (suc i) vs h
@@ -89,6 +85,6 @@ has_front F (a ∷ t) u (inr h) = inr (has_front F t u h)
 
 pub elaborates_quiet : {A : Type 0} (limit : ℕ) (cuts : ℕ → ℕ → List ℕ) (one : Bool) (region : Region) (x : Entity) (vs : List ℤ) (b : Behaviour Instance A) → Quiet b → Quiet (Behaviours.elaborates this region x vs b)
 elaborates_quiet limit cuts one region x vs b q s p tr y p' e (inl (rest, eq, run)) h =
-    ⊎_elim (fillings_quiet _ 0 vs) (q _ _ rest y p' e run) (has_append IsPut (Behaviours.fillings _ 0 vs) rest (subst (λ z. Has IsPut z) eq h))
+    ⊎_elim (fillings_quiet _ 0 vs) (q _ _ rest y p' e run) (has_append IsInputOutput (Behaviours.fillings _ 0 vs) rest (subst (λ z. Has IsInputOutput z) eq h))
 elaborates_quiet limit cuts one region x vs b q s p tr y p' e (inr (ey, ep, ee, (rest, eq))) h =
-    fillings_quiet _ 0 vs (subst (λ z. Has IsPut z) (sym eq) (has_front IsPut tr rest h))
+    fillings_quiet _ 0 vs (subst (λ z. Has IsInputOutput z) (sym eq) (has_front IsInputOutput tr rest h))

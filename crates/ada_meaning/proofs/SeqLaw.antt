@@ -25,7 +25,7 @@ use Rattle.ada_meaning.proofs.Listed.{Listed, listed, stepped, folds, combined_f
 use Rattle.ada_meaning.proofs.Induction
 use Rattle.ada_meaning.proofs.Induction.{Relates}
 
--- ---- operators
+-- operators
 
 choose_follow : {A : Type 0} (b c : Bool) (g h : Planned A) → Follow b g g → Follow b h h → Follow b (cond c g h) (cond c g h)
 choose_follow b true g h f k = f
@@ -46,7 +46,7 @@ reduce_follows : (b : Bool) (by : Reducer) (at : ℕ) (f g : ℤ → ℤ → Pla
 reduce_follows b (Operator t op class) at f g r x y = operates_follow b op at class x y
 reduce_follows b (Function t s a v) at f g r x y = r x y
 
--- ---- loops and blocks
+-- loops and blocks
 
 module _ (b : Bool) (js : List Share) (f g : ℕ → ℕ → Planned (Unit {0})) (lead : (j i : ℕ) → Follow false (f j i) (g j i)) (w : Ties) (s t : Scope Instance) (z : InScope w s t) where
   abbrev fp : ℕ → ℕ → Unit {0} → Planned (Unit {0})
@@ -107,7 +107,7 @@ module _ (b : Bool) (js : List Share) (f g : ℕ → ℕ → Planned (Unit {0}))
     tame = λ q n. construct_tame b seq_loop t q n (turns_tame t fs loop_tame js tt (enter 0 q) n);
   }
 
--- ---- reductions
+-- reductions
 
 abbrev begun : ℤ → Folded
 begun initial = record { accumulator = initial; values = [] }
@@ -274,7 +274,7 @@ module _ (b : Bool) (limit : ℕ) (cuts : ℕ → ℕ → List ℕ) (js : List S
         next_further b t q u u.end after_fold (construct_tame b seq_fold t q n (turns_tame t fold_seq fold_tame js (begun initial) (enter 0 q) n)) (λ x. further_refl b u.path);
   }
 
--- ---- all operations
+-- all operations
 
 module _ (limit : ℕ) (cuts : ℕ → ℕ → List ℕ) (whole : (most n : ℕ) → adds (cuts most n) ≡ n) where
   abbrev plans : Operations {0}

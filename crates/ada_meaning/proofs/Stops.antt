@@ -20,7 +20,7 @@ use Rattle.ada_meaning.proofs.Induction
 use Rattle.ada_meaning.proofs.Induction.{Relates}
 
 -- the reading that says nothing
-abbrev nothing : Operations {0}
+abbrev pub nothing : Operations {0}
 nothing = record {
   doings = record { Doing = λ A. Unit {0}; ret = λ a. tt; ◌>>=◌ = λ m k. tt };
   reads = λ x i s. tt;
@@ -103,24 +103,24 @@ module _ (P : Type 0) (new : Instance → P) (admits : Scalar → ℤ → Type 0
   unfolding stops
   program_stops program keeps = Induction.main stops limit program keeps tt tt
 
--- ---- with one worker the threads are taken in order, and no race is to be feared
+-- with one worker the threads are taken in order, and no race is to be feared
 
 module _ (P : Type 0) (new : Instance → P) (admits : Scalar → ℤ → Type 0) (limit : ℕ) (cuts : ℕ → ℕ → List ℕ) where
   abbrev alone : Operations {1}
-  alone = Runs.operations P new admits Behaviours.asks_apart limit cuts true
+  alone = Runs.operations P new admits Behaviours.asks_at_once limit cuts true
 
-  abbrev Safe : {A : Type 0} → Behaviour P A → Type 0
+  abbrev pub Safe : {A : Type 0} → Behaviour P A → Type 0
   Safe b = (s : Scope P) (p : Path P) → b.safe s p
 
-  safe_where : {A : Type 0} (f : P → Behaviour P A) → ((x : P) → Safe (f x)) → (x : Option P) → Safe (Behaviours.where_found f x)
+  pub safe_where : {A : Type 0} (f : P → Behaviour P A) → ((x : P) → Safe (f x)) → (x : Option P) → Safe (Behaviours.where_found f x)
   safe_where f h None s p = tt
   safe_where f h (Some x) s p = h x s p
 
-  checks_safe : (kind : CheckKind) (at : ℕ) (holds : Bool) → Safe (Runs.checks {P = P} kind at holds)
+  pub checks_safe : (kind : CheckKind) (at : ℕ) (holds : Bool) → Safe (Runs.checks {P = P} kind at holds)
   checks_safe kind at true s p = tt
   checks_safe kind at false s p = tt
 
-  bind_safe : {A B : Type 0} (m : Behaviour P A) (k : A → Behaviour P B) → Safe m → ((a : A) → Safe (k a)) → Safe (Behaviours.◌>>=◌ m k)
+  pub bind_safe : {A B : Type 0} (m : Behaviour P A) (k : A → Behaviour P B) → Safe m → ((a : A) → Safe (k a)) → Safe (Behaviours.◌>>=◌ m k)
   bind_safe m k h f s p = (h s p, λ a mid front x run. f a s mid)
 
   cond_safe : (b : Bool) (m n : Behaviour P (Unit {0})) → Safe m → Safe n → Safe (cond b m n)
@@ -131,7 +131,7 @@ module _ (P : Type 0) (new : Instance → P) (admits : Scalar → ℤ → Type 0
   through_safe first zero a f h s p = tt
   through_safe first (suc n) a f h s p = (h first a s p, λ b mid front x run. through_safe (suc first) n b f h s mid)
 
-  onto_safe : (a : ℤ) (more : List ℤ) (f : ℤ → ℤ → Behaviour P ℤ) → ((b c : ℤ) → Safe (f b c)) → Safe (onto (Behaviours.doings P) a more f)
+  pub onto_safe : (a : ℤ) (more : List ℤ) (f : ℤ → ℤ → Behaviour P ℤ) → ((b c : ℤ) → Safe (f b c)) → Safe (onto (Behaviours.doings P) a more f)
   onto_safe a [] f h s p = tt
   onto_safe a (b ∷ more) f h s p = (h a b s p, λ c mid front x run. onto_safe c more f h s mid)
 
@@ -139,7 +139,7 @@ module _ (P : Type 0) (new : Instance → P) (admits : Scalar → ℤ → Type 0
   folded_safe f h a None s p = tt
   folded_safe f h a (Some v) s p = h a v s p
 
-  reduce_safe : (by : Reducer) (at : ℕ) (f : ℤ → ℤ → Behaviour P ℤ) → ((b c : ℤ) → Safe (f b c)) → (a b : ℤ) → Safe (reduce (Behaviours.doings P) Runs.checks by at f a b)
+  pub reduce_safe : (by : Reducer) (at : ℕ) (f : ℤ → ℤ → Behaviour P ℤ) → ((b c : ℤ) → Safe (f b c)) → (a b : ℤ) → Safe (reduce (Behaviours.doings P) Runs.checks by at f a b)
   reduce_safe (Operator t op class) at f h a b s p = (
     cond_safe (divides op) (Runs.checks ZeroCheck at (not (is_zero b))) (Behaviours.ret tt) (checks_safe ZeroCheck at (not (is_zero b))) (λ s p. tt) s p,
     λ u mid front x run. (
@@ -149,18 +149,18 @@ module _ (P : Type 0) (new : Instance → P) (admits : Scalar → ℤ → Type 0
   )
   reduce_safe (Function t sub x y) at f h a b s p = h a b s p
 
-  each_safe : {A : Type 0} (body : Share → Behaviour P A) → ((j : Share) → Safe (body j)) → (js : List Share) (s : Scope P) (p : Path P) → EachSafe body s p js
+  pub each_safe : {A : Type 0} (body : Share → Behaviour P A) → ((j : Share) → Safe (body j)) → (js : List Share) (s : Scope P) (p : Path P) → EachSafe body s p js
   each_safe body h [] s p = tt
   each_safe body h (j ∷ js) s p = (h j s p, each_safe body h js s p)
 
-  combined_safe : (v : ℤ) (values : List ℤ) (f : ℤ → ℤ → Behaviour P ℤ) → ((b c : ℤ) → Safe (f b c)) → Safe (Runs.combined P new admits Behaviours.asks_apart limit cuts true v values f)
+  pub combined_safe : (v : ℤ) (values : List ℤ) (f : ℤ → ℤ → Behaviour P ℤ) → ((b c : ℤ) → Safe (f b c)) → Safe (Runs.combined P new admits Behaviours.asks_at_once limit cuts true v values f)
   combined_safe v [] f h s p = tt
   combined_safe v (a ∷ more) f h s p = onto_safe a more f h s p
 
-  loop_safe : (f : ℕ → ℕ → Behaviour P (Unit {0})) → ((j i : ℕ) → Safe (f j i)) → (c : Share) → Safe (Runs.loop_thread f c)
+  pub loop_safe : (f : ℕ → ℕ → Behaviour P (Unit {0})) → ((j i : ℕ) → Safe (f j i)) → (c : Share) → Safe (Runs.loop_thread f c)
   loop_safe f h c s p = through_safe c.first c.size tt (λ i _. f c.number i) (λ i _. h c.number i) s (enter c.number p)
 
-  fold_safe : (by : Reducer) (at : ℕ) (v : ℤ) (f : ℕ → ℕ → Behaviour P (Option ℤ)) (call : ℤ → ℤ → Behaviour P ℤ) → ((j i : ℕ) → Safe (f j i)) → ((a b : ℤ) → Safe (call a b)) → (c : Share) → Safe (Runs.fold_thread by at v f call c)
+  pub fold_safe : (by : Reducer) (at : ℕ) (v : ℤ) (f : ℕ → ℕ → Behaviour P (Option ℤ)) (call : ℤ → ℤ → Behaviour P ℤ) → ((j i : ℕ) → Safe (f j i)) → ((a b : ℤ) → Safe (call a b)) → (c : Share) → Safe (Runs.fold_thread by at v f call c)
   fold_safe by at v f call h g c s p = through_safe c.first c.size v
       (λ i so_far. Behaviours.◌>>=◌ (f c.number i) (folded (Behaviours.doings P) (reduce (Behaviours.doings P) Runs.checks by at call) so_far))
       (λ i so_far. bind_safe (f c.number i) (folded (Behaviours.doings P) (reduce (Behaviours.doings P) Runs.checks by at call) so_far) (h c.number i) (folded_safe (reduce (Behaviours.doings P) Runs.checks by at call) (reduce_safe by at call g) so_far)) s (enter c.number p)
@@ -187,9 +187,9 @@ module _ (P : Type 0) (new : Instance → P) (admits : Scalar → ℤ → Type 0
     recalls = λ w allowed s p. tt;
     keeps = λ w allowed h s p. tt;
     takes = λ w allowed s p. tt;
-    loops = λ w site cut {f} {g} r s p. ((tt, each_safe (Runs.loop_thread (λ j. f (chunk_of cut j))) (loop_safe (λ j. f (chunk_of cut j)) (λ j. r (chunk_of cut j))) (deal 0 0 (Runs.sizes_of P new admits Behaviours.asks_apart limit cuts true cut)) s p), λ us mid front x run. tt);
+    loops = λ w site cut {f} {g} r s p. ((tt, each_safe (Runs.loop_thread (λ j. f (chunk_of cut j))) (loop_safe (λ j. f (chunk_of cut j)) (λ j. r (chunk_of cut j))) (deal 0 0 (Runs.sizes_of P new admits Behaviours.asks_at_once limit cuts true cut)) s p), λ us mid front x run. tt);
     reduces = λ w site cut by at v {f} {g} {c} {c'} {d} {d'} r t u s p. (
-      (tt, each_safe (Runs.fold_thread by at v (λ j. f (chunk_of cut j)) c) (fold_safe by at v (λ j. f (chunk_of cut j)) c (λ j. r (chunk_of cut j)) t) (deal 0 0 (Runs.sizes_of P new admits Behaviours.asks_apart limit cuts true cut)) s p),
+      (tt, each_safe (Runs.fold_thread by at v (λ j. f (chunk_of cut j)) c) (fold_safe by at v (λ j. f (chunk_of cut j)) c (λ j. r (chunk_of cut j)) t) (deal 0 0 (Runs.sizes_of P new admits Behaviours.asks_at_once limit cuts true cut)) s p),
       λ values mid front x run. combined_safe v values (reduce (Behaviours.doings P) Runs.checks by at c') (reduce_safe by at c' u) s mid,
     );
   }

@@ -1,18 +1,16 @@
 -- The threads of a construct against the planned run, which takes them in order.
 use Rattle.std.proofs.Common.{◌≡◌, ℕ, max, List, [], ◌∷◌, ◌++◌, ◌⊎◌, inl, inr, ⊎_elim, Bool, true, false, ◌||◌, refl, sym, subst, ap, ap₂, ◌∙◌, true≢false, arith, append-nil}
 use Rattle.behaviours.specs.Paths.{Leave, Instance, End, Gives, Leaves, Spent, Stopped, Path, Scope, joined, is_inside}
-use Rattle.behaviours.specs.Events.{Reads, Writes, Recalls, Keeps, Takes, Puts, Looks, Trace, output_of, Has, Merge, Shuffle, Apart, ApartFrom, AllApart, in_order}
+use Rattle.behaviours.specs.Events.{Reads, Writes, Recalls, Keeps, Takes, Puts, Looks, Trace, output_of, Has, Merge, Shuffle, Apart, ApartFrom, AllApart, in_order, IsInputOutput}
 use Rattle.behaviours.specs.Memory.{Memory, after, Fits, EachFits}
 use Rattle.behaviours.specs.Joins.{Ran, traces, EachRan, most_turns, AllGive, SomeEnds, NoneLeft, Joins, Form, JoinsInOrder, FirstEnds, Idle, some_early, Share}
-use Rattle.behaviours.specs.Behaviours.{Behaviour, Unbegun, is_left, MayTrace, EachSafe, ThreadApart, ThreadsApart, asks_apart}
+use Rattle.behaviours.specs.Behaviours.{Behaviour, Unbegun, is_left, MayTrace, EachSafe, ThreadApart, ThreadsApart, asks_at_once}
 use Rattle.behaviours.specs.Behaviours
 use Rattle.behaviours.specs.Joins
-use Rattle.ada_meaning.specs.Runs.{anything}
-use Rattle.ada_meaning.specs.Programs.{this}
 use Rattle.ada_meaning.specs.Planned
 use Rattle.ada_meaning.specs.Planned.{Result, Planned, plain, follow, both, before, threads, closed, with_turns}
 use Rattle.behaviours.proofs.Shuffle.{fits_split, shuffle_law, shuffle_in_order, fits_frame, after_other, merge_has, alike_flip}
-use Rattle.ada_meaning.proofs.Quiet.{Quiet, IsPut}
+use Rattle.ada_meaning.proofs.Quiet.{Quiet}
 use Rattle.ada_meaning.proofs.Agrees.{Does, AgreesAt, Agrees, Same, Settled, settled_right, gives-ne-leaves, gives-ne-stopped, leaves-ne-spent, leaves-ne-stopped, spent-ne-stopped, or_left, or_right, does_append}
 
 -- what a thread may do in one scope
@@ -27,7 +25,7 @@ abbrev AgreesBody : {A : Type 0} → Bool → Body A → Step A → Type 0
 AgreesBody one b g = (p : Path Instance) (m : Memory) → b.safe p → AgreesAt one (λ tr y p' e. b.runs p tr y p' e) m (g p m)
 
 abbrev QuietBody : {A : Type 0} → Body A → Type 0
-QuietBody {A} b = (p : Path Instance) (tr : Trace Instance) (y : Bool) (p' : Path Instance) (e : End A) → b.runs p tr y p' e → Has IsPut tr → ⊥
+QuietBody {A} b = (p : Path Instance) (tr : Trace Instance) (y : Bool) (p' : Path Instance) (e : End A) → b.runs p tr y p' e → Has IsInputOutput tr → ⊥
 
 abbrev Each : {A : Type 0} → (Share → Body A) → Path Instance → List Share → List (Ran Instance A) → Type 0
 Each body p js rs = EachRan (λ j. (body j).runs) p js rs
@@ -51,7 +49,7 @@ abbrev Safe : {A : Type 0} → Bool → (Share → Body A) → Path Instance →
 Safe true body p js = SafeInOrder body p js
 Safe false body p js = SafeThreads body p js
 
--- ---- how threads end
+-- how threads end
 
 -- the end of a construct whose threads weren't left
 abbrev ending : {A : Type 0} → List (Ran Instance A) → End (List A)
@@ -114,9 +112,9 @@ ending_only rs (Leaves x) n j ne = absurd (none_leaves rs x n j)
 ending_only rs Spent n j ne = some_spent rs n j.1
 ending_only rs Stopped n j ne = absurd (ne refl)
 
--- ---- what safe threads do
+-- what safe threads do
 
-no_outs : (w : Trace Instance) → (Has IsPut w → ⊥) → output_of w ≡ []
+no_outs : (w : Trace Instance) → (Has IsInputOutput w → ⊥) → output_of w ≡ []
 no_outs [] n = refl
 no_outs (Reads x i v ∷ w) n = no_outs w (λ h. n (inr h))
 no_outs (Writes x i v ∷ w) n = no_outs w (λ h. n (inr h))
@@ -135,13 +133,13 @@ module _ {A : Type 0} (body : Share → Body A) (p : Path Instance) where
   all_apart [] rs s each = subst (λ z. AllApart (traces z)) (sym each) tt
   all_apart (j ∷ js) rs s (r, more, eq, ran, each) = subst (λ z. AllApart (traces z)) (sym eq) (apart_from j js more r.trace r.early r.path r.end s.1 ran each, all_apart js more s.2 each)
 
-  quiet : ((j : Share) → QuietBody (body j)) → (js : List Share) (rs : List (Ran Instance A)) (w : Trace Instance) → Each body p js rs → Shuffle (traces rs) w → Has IsPut w → ⊥
+  quiet : ((j : Share) → QuietBody (body j)) → (js : List Share) (rs : List (Ran Instance A)) (w : Trace Instance) → Each body p js rs → Shuffle (traces rs) w → Has IsInputOutput w → ⊥
   quiet q [] rs w each sh h =
       let e : w ≡ [] = subst (λ z. Shuffle (traces z) w) each sh in
-      subst (λ z. Has IsPut z) e h
+      subst (λ z. Has IsInputOutput z) e h
   quiet q (j ∷ js) rs w (r, more, eq, ran, each) sh h =
       let sh' : (u : Trace Instance) × Shuffle (traces more) u × Merge r.trace u w = subst (λ z. Shuffle (traces z) w) eq sh in
-      ⊎_elim (λ k. q j p r.trace r.early r.path r.end ran k) (λ k. quiet q js more sh'.0 each sh'.1 k) (merge_has IsPut w r.trace sh'.0 sh'.2 h)
+      ⊎_elim (λ k. q j p r.trace r.early r.path r.end ran k) (λ k. quiet q js more sh'.0 each sh'.1 k) (merge_has IsInputOutput w r.trace sh'.0 sh'.2 h)
 
   -- what a thread wrote is nothing to the later ones
   each_frame : (js : List Share) (rs : List (Ran Instance A)) (m : Memory) (t : Trace Instance) → ApartFrom t (traces rs) → EachFits m (traces rs) → EachFits (after m t) (traces rs)
@@ -154,7 +152,7 @@ module _ {A : Type 0} (body : Share → Body A) (p : Path Instance) where
   safe_each [] s = tt
   safe_each (j ∷ js) s = (s.0, safe_each js s.2)
 
--- ---- what follows a thread
+-- what follows a thread
 
 before_done : {A : Type 0} (e : End A) (x : Leave) → ((y : Leave) → e ≡ Leaves y → ⊥) → (e ≡ Stopped → ⊥) → before e (Leaves x) ≡ Leaves x
 before_done (Gives a) x l s = refl
@@ -324,7 +322,7 @@ module _ {A : Type 0} (one : Bool) (body : Share → Body A) (plan : Share → S
       ends) in
       go f0 ends0
 
--- ---- constructs
+-- constructs
 
 or_false : (a : Bool) → (a || false) ≡ a
 or_false true = refl
@@ -440,7 +438,7 @@ unbegun_agrees one F p m r a = record {
   only = λ tr y p' e ran f ne st. ⊎_elim (λ h. a.only tr y p' e h f ne st) (λ h. absurd (ne h.3)) ran;
 }
 
--- ---- a construct in a scope
+-- a construct in a scope
 
 abbrev in_scope : {A : Type 0} → Scope Instance → Behaviour Instance A → Body A
 in_scope s b = record { runs = b.runs s; safe = b.safe s }
@@ -459,23 +457,23 @@ threads_of body s p [] a e = tt
 threads_of body s p (j ∷ js) a e = (e.0, clear_of body s p j js a.0, threads_of body s p js a.1 e.1)
 
 safe_of : {A : Type 0} (form : Bool) (site : ℕ) (body : Share → Behaviour Instance A) (s : Scope Instance) (p : Path Instance) (js : List Share)
-    → asks_apart form p.name site p.constructs js (λ j tr. MayTrace (body j) s p tr) × EachSafe body s p js → Safe form (λ k. in_scope s (body k)) p js
+    → asks_at_once form p.name site p.constructs js (λ j tr. MayTrace (body j) s p tr) × EachSafe body s p js → Safe form (λ k. in_scope s (body k)) p js
 safe_of true site body s p js h = in_order_of body s p js h.1
 safe_of false site body s p js h = threads_of body s p js h.0 h.1
 
 module _ (limit : ℕ) (cuts : ℕ → ℕ → List ℕ) (one : Bool) where
   pub par_agrees : {A : Type 0} (site : ℕ) (js : List Share) (body : Share → Behaviour Instance A) (plan : Share → Planned A) → ((j : Share) → Agrees one (body j) (plan j)) → ((j : Share) → Quiet (body j))
-      → Agrees one (Behaviours.par asks_apart one site js body) (Planned.par js plan)
+      → Agrees one (Behaviours.par asks_at_once one site js body) (Planned.par js plan)
   par_agrees site js body plan agree hush s p m safe =
       let b : (k : Share) → Body _ = λ k. in_scope s (body k) in
       let g : (k : Share) → Step _ = λ k. plan k s in
       unbegun_agrees one (λ tr y p' e. Runs' one js b g (λ j. agree j s) (λ j. hush j s) p m (one || is_inside p) tr y p' e) p m (closed p (threads g p js m))
       (form_agrees one js b g (λ j. agree j s) (λ j. hush j s) p m (one || is_inside p) refl (safe_of (one || is_inside p) site body s p js safe))
 
-  pub par_quiet : {A : Type 0} (site : ℕ) (js : List Share) (body : Share → Behaviour Instance A) → ((j : Share) → Quiet (body j)) → Quiet (Behaviours.par asks_apart one site js body)
-  par_quiet {A} site js body q s p tr y p' e (inr u) h = subst (λ z. Has IsPut z) u.0 h
+  pub par_quiet : {A : Type 0} (site : ℕ) (js : List Share) (body : Share → Behaviour Instance A) → ((j : Share) → Quiet (body j)) → Quiet (Behaviours.par asks_at_once one site js body)
+  par_quiet {A} site js body q s p tr y p' e (inr u) h = subst (λ z. Has IsInputOutput z) u.0 h
   par_quiet {A} site js body q s p tr y p' e (inl (rs, each, form, ey, ep)) h = go (one || is_inside p) form
     where
       go : (f : Bool) → Form f p rs tr e → ⊥
-      go true g = quiet (λ k. in_scope s (body k)) p (λ j. q j s) js rs (in_order (traces rs)) each (shuffle_in_order (traces rs)) (subst (λ z. Has IsPut z) g.0 h)
+      go true g = quiet (λ k. in_scope s (body k)) p (λ j. q j s) js rs (in_order (traces rs)) each (shuffle_in_order (traces rs)) (subst (λ z. Has IsInputOutput z) g.0 h)
       go false g = quiet (λ k. in_scope s (body k)) p (λ j. q j s) js rs tr each g.0 h

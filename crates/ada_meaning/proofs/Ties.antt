@@ -116,7 +116,7 @@ module _ (x : Entity) (n : ℕ) (w : Ties) (p q : Path Instance) (f : Fair w p q
         (λ h. f.right a b i h o (goes_one region (here x q) q b k)) t;
   }
 
--- ---- memories
+-- memories
 
 abbrev pub Agree : Ties → Memory → Memory → Type 0
 Agree w m n = (x y : Instance) (i : ℕ) → TiedAt w x y i → m.cells x i ≡ n.cells y i

@@ -8,7 +8,7 @@ use Rattle.ada_base.specs.Cuts.{Plan, One, Even, Chunked, Listed}
 use Rattle.behaviours.specs.Paths.{Exits, Returns, Raises, Instance, End, Gives, Leaves, Spent, Stopped, Path, start, nothing_visible}
 use Rattle.behaviours.specs.Events.{Takes, Puts, Trace, output_of}
 use Rattle.behaviours.specs.Memory.{Fits, empty, after}
-use Rattle.behaviours.specs.Behaviours.{Behaviour, asks_apart}
+use Rattle.behaviours.specs.Behaviours.{Behaviour, asks_apart, asks_at_once, asks_silent}
 use Rattle.ada_meaning.specs.Values.{base_of, result}
 use Rattle.ada_typed.specs.Syntax.{Program}
 use Rattle.ada_meaning.specs.Nonblocking.{KeepsRule}
@@ -34,9 +34,10 @@ pub record Outcome : Type 0 where
   pub finals : List (List ℤ)
   pub ending : Ending
 
--- the runs of a program, free of races where `safe` holds; a read gives anything, which only adds runs that aren't consistent
+-- the runs of a program, where no two threads that may run at once have a race if `safe` holds; a read gives anything,
+-- which only adds runs that aren't consistent
 abbrev pub behaviour : Program → Setting → Behaviour Instance (Unit {0})
-behaviour program set = runs_of anything asks_apart program set
+behaviour program set = runs_of anything asks_at_once program set
 
 -- the program has a run whose trace begins so
 pub record BeginsRun (program : Program) (set : Setting) (front : Trace Instance) : Type 0 where
@@ -67,9 +68,9 @@ pub record IsPermitted (program : Program) (set : Setting) (input : List ℕ) (e
   pub taken : o.taken ≡ min path.taken (length input)
   pub finals : o.finals ≡ finals program (after (empty (input_of input)) trace) path.globals
 
--- no two threads of a construct that some run comes to have a race, consistent or not
+-- no two threads of a construct that some run comes to have a race, consistent or not; where they are taken in order too
 abbrev pub IsRaceFree : Program → Type 0
-IsRaceFree program = (set : Setting) → (behaviour program set).safe nothing_visible start
+IsRaceFree program = (set : Setting) → (runs_of anything asks_apart program set).safe nothing_visible start
 
 -- it ended by itself
 abbrev pub EndsItself : Ending → Type 0
@@ -111,9 +112,12 @@ IsSequential program set input =
 
 -- Let a program keep the rule on blocking calls, be free of races, and its sequential run be calm. Then its runs come to
 -- what the sequential run comes to.
-abbrev pub SequentialLaw : Type 0
-SequentialLaw = (program : Program) (set : Setting) (input : List ℕ) → KeepsRule program → IsPlan set.plan → IsRaceFree program
+abbrev pub ComesToSequential : Program → Type 0
+ComesToSequential program = (set : Setting) (input : List ℕ) → KeepsRule program → IsPlan set.plan → IsRaceFree program
     → IsCalm (sequential program set.limit (input_of input)) → IsSequential program set input
+
+abbrev pub SequentialLaw : Type 0
+SequentialLaw = (program : Program) → ComesToSequential program
 
 -- With one worker that is so whether it is free of races or not.
 abbrev pub OneSequentialLaw : Type 0
@@ -134,17 +138,24 @@ OneLaw = (program : Program) (set : Setting) (input : List ℕ) (o o' : Outcome)
 abbrev pub StopsLaw : Type 0
 StopsLaw = (program : Program) (set : Setting) → KeepsRule program → (behaviour program set).runs nothing_visible start [] false start Stopped
 
--- With one worker no program has a race.
+-- With one worker no two threads run at once, in whatever program.
 abbrev pub AloneLaw : Type 0
 AloneLaw = (program : Program) (plan : Plan) (limit : ℕ) → KeepsRule program → (behaviour program (record { plan = plan; one = true; limit = limit })).safe nothing_visible start
+
+-- Where the rule on blocking calls is kept no thread of a construct takes input or puts output.
+abbrev pub SilentLaw : Type 0
+SilentLaw = (program : Program) (set : Setting) → KeepsRule program → (runs_of anything asks_silent program set).safe nothing_visible start
+
+-- What has no races has none between threads that may run at once.
+abbrev pub AtOnceLaw : Type 0
+AtOnceLaw = (program : Program) → KeepsRule program → IsRaceFree program → (set : Setting) → (behaviour program set).safe nothing_visible start
 
 -- For operands of its type an operator has the result of the operation on the base range.
 abbrev pub OperatorLaw : Type 0
 OperatorLaw = (op : Op) (class : Class) (x y : ℤ) → CanApply op (base_of class) x y → result op class x y ≡ result_of op (base_of class) x y
 
--- A run in which each read gives a value of its cell's subtype is a run, and where a program has no races it has none
--- in these runs.
+-- A run in which each read gives a value of its cell's subtype is a run, and what has no races has none in these runs.
 abbrev pub SubtypeLaw : Type 0
 SubtypeLaw = (program : Program) (set : Setting) → KeepsRule program
-    → ((tr : Trace Instance) (early : Bool) (path : Path Instance) (end : End (Unit {0})) → (runs_of of_subtype asks_apart program set).runs nothing_visible start tr early path end → (behaviour program set).runs nothing_visible start tr early path end)
-    × ((behaviour program set).safe nothing_visible start → (runs_of of_subtype asks_apart program set).safe nothing_visible start)
+    → ((tr : Trace Instance) (early : Bool) (path : Path Instance) (end : End (Unit {0})) → (runs_of of_subtype asks_at_once program set).runs nothing_visible start tr early path end → (behaviour program set).runs nothing_visible start tr early path end)
+    × (IsRaceFree program → (runs_of of_subtype asks_apart program set).safe nothing_visible start)

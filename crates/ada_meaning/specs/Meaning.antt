@@ -113,7 +113,7 @@ abbrev pub object_of : Entity → ℕ
 object_of (VariableOf x) = x
 object_of (ConstantOf x) = x
 
--- threads where no number is asked for (own), and constructs and calls that may be active
+-- threads where no number is asked for, and constructs and calls that may be active; iterations of a construct
 abbrev pub most_threads : ℕ
 most_threads = 4096
 
@@ -204,7 +204,7 @@ module _ {ℓ} (ops : Operations {ℓ}) where
   abbrev pub unless : Bool → Reason → Doing (Unit {0})
   unless holds r = cond holds (ret tt) (raise r)
 
-  -- ---- cells
+  -- cells
 
   -- cells of an object from one on, behind those that were read so far
   abbrev pub read_all : Entity → ℕ → List ℤ → List Scalar → Doing (List ℤ)
@@ -227,7 +227,7 @@ module _ {ℓ} (ops : Operations {ℓ}) where
   bounds_checked None low high = ret tt
   bounds_checked (Some c) low high = cond (int_le low high) (checks RangeCheck c.at (is_in c.scalar low && is_in c.scalar high)) (ret tt)
 
-  -- ---- parallel constructs (5.5): one more may be active
+  -- parallel constructs (5.5): one more may be active
 
   abbrev pub opened : Env → Doing (Unit {0})
   opened env = look >>= λ _. unless (nat_lt env.nested most_nested) reason.StorageError
@@ -237,14 +237,14 @@ module _ {ℓ} (ops : Operations {ℓ}) where
     _ ← unless (int_lt (pos 0) v) reason.ProgramError
     ret (min (to_nat v) most_threads)
 
-  -- ---- operators
+  -- operators
 
   abbrev pub unary_checked : Sign → ℕ → Class → ℤ → Doing (Unit {0})
   unary_checked sign.Minus at class v = checks OverflowCheck at (is_in_base (base_of class) v)
   unary_checked sign.Abs at class v = checks OverflowCheck at (is_in_base (base_of class) v)
   unary_checked sign.Not at class v = ret tt
 
-  -- ---- aggregates (4.3): cells over which the values of a run's components are laid, one after the other
+  -- aggregates (4.3): cells over which the values of a run's components are laid, one after the other
 
   abbrev pub run_values : ℕ → ℕ → ℕ → ℕ → (ℕ → Doing (List ℤ)) → List ℤ → Doing (List ℤ)
   run_values k zero first stride value so_far = ret so_far
@@ -263,7 +263,7 @@ module _ {ℓ} (ops : Operations {ℓ}) where
   iterated_turn None = ret tt
   iterated_turn (Some i) = turned
 
-  -- ---- loops (5.5)
+  -- loops (5.5)
 
   abbrev pub while_loop : ℕ → Doing Bool → Doing (Unit {0}) → Doing (Unit {0})
   while_loop zero test body = spent
@@ -288,7 +288,7 @@ module _ {ℓ} (ops : Operations {ℓ}) where
   abbrev pub guarded : Handlers → Doing (Unit {0}) → (Reason → Doing (Unit {0})) → Doing (Unit {0})
   guarded handlers body handler = handles body (λ how. has_handlers handlers && raises how) (λ how. look >>= λ _. handler (reason_of how))
 
-  -- ---- input (A.10.8): each byte that is asked for takes a turn
+  -- input (A.10.8): each byte that is asked for takes a turn
 
   abbrev pub reading : Reading {ℓ}
   reading = record { Doing = Doing; ret = ret; ◌>>=◌ = ◌>>=◌; asks = turn >>= λ _. takes; recalls = recalls; keeps = keeps; raises = raise; spent = spent }

@@ -1,5 +1,5 @@
 -- What statements and expressions are made of.
-use Rattle.std.specs.Prelude.{ℕ, zero, suc, ℤ, List, [], ◌∷◌, Option, Some, None, Bool, not, cond, is_some}
+use Rattle.std.specs.Prelude.{ℕ, ℤ, List, Option, Bool, not, cond, is_some}
 use Rattle.ada_base.specs.declared.operation.Op.{Op}
 use Rattle.ada_base.specs.Input.{Held}
 use Rattle.behaviours.specs.Doings.{Doings}

@@ -109,7 +109,7 @@ keeps h s p m = plain p (hold m h) (Gives tt)
 abbrev pub takes : Planned (Option ℕ)
 takes s p m = plain (one_taken p) m (Gives (m.input p.taken))
 
--- ---- threads
+-- threads
 
 -- the end of a thread before those of others
 abbrev pub before : {A : Type 0} → End A → End (List A) → End (List A)

@@ -5,7 +5,7 @@ use Rattle.ada_typed.specs.Syntax.{Program}
 use Rattle.ada_base.specs.Cuts.{Plan, cuts_of}
 use Rattle.behaviours.specs.Paths.{Entity, VariableOf, ConstantOf, Instance, End, start, nothing_visible}
 use Rattle.behaviours.specs.Memory.{Memory, empty}
-use Rattle.behaviours.specs.Behaviours.{Behaviour, Asks, asks_nothing, asks_apart}
+use Rattle.behaviours.specs.Behaviours.{Behaviour, Asks}
 use Rattle.ada_meaning.specs.Meaning.{main, object_layout}
 use Rattle.ada_meaning.specs.Runs
 use Rattle.ada_meaning.specs.Planned

@@ -22,40 +22,40 @@ use Rattle.ada_meaning.specs.Sequential.{IsCalm}
 use Rattle.ada_meaning.specs.Programs.{Setting, answer_of, planned, sequential, input_of}
 use Rattle.ada_meaning.specs.Law.{Outcome, Ended, EndsItself, IsPermitted}
 
--- ---- pieces of programs
+-- pieces of programs
 
-abbrev integers : Class
+abbrev pub integers : Class
 integers = class.Integer Narrow
 
-abbrev integer : Scalar
+abbrev pub integer : Scalar
 integer = record { class = integers; low = negsuc 2147483647; high = pos 2147483647 }
 
-abbrev checked_at : ℕ → Check
+abbrev pub checked_at : ℕ → Check
 checked_at at = record { at = at; scalar = integer }
 
-abbrev number : ℤ → Expr
+abbrev pub number : ℤ → Expr
 number z = Static 0 z true NoExpr
 
-abbrev variable : ℕ → Expr
+abbrev pub variable : ℕ → Expr
 variable x = Variable 0 (root.Object x) Whole integer
 
-abbrev sum : Expr → Expr → Expr
+abbrev pub sum : Expr → Expr → Expr
 sum e f = Binary 0 op.Add integers e f
 
-abbrev stored : Expr → Value
+abbrev pub stored : Expr → Value
 stored e = Number (checked_at 0) e
 
-abbrev assign : ℕ → Expr → Stmt
+abbrev pub assign : ℕ → Expr → Stmt
 assign x e = Assign 0 (root.Object x) Whole (stored e)
 
 -- Put_Line (Integer'Image (E))
-abbrev put_image : Expr → Stmt
+abbrev pub put_image : Expr → Stmt
 put_image e = Put 0 0 (Image integers e NoPiece) true
 
-abbrev object_of : ℕ → ℕ → Object
+abbrev pub object_of : ℕ → ℕ → Object
 object_of t n = record { name = 0; subtype = t; constant = false; owner = 0; offset = 0; cells = n; value = None }
 
-abbrev made_of : List Subtype → List Object → List Sub → Decls → Stmts → Program
+abbrev pub made_of : List Subtype → List Object → List Sub → Decls → Stmts → Program
 made_of types objects subs decls stmts = record {
   subtypes = syntax.OfScalar integer ∷ types;
   objects = objects;
@@ -67,13 +67,13 @@ made_of types objects subs decls stmts = record {
   strict = true;
 }
 
-abbrev many_turns : ℕ
+abbrev pub many_turns : ℕ
 many_turns = 1000000000
 
-abbrev no_input : ℕ → Option ℕ
+abbrev pub no_input : ℕ → Option ℕ
 no_input = input_of []
 
--- ---- X : Integer := 2; X := X + 3; Put_Line (Integer'Image (X));
+-- X : Integer := 2; X := X + 3; Put_Line (Integer'Image (X));
 
 abbrev pub adds : Program
 adds = made_of [] (object_of 0 1 ∷ []) [] (DeclareVariable 0 (stored (number (pos 2))) NoDecl)
@@ -82,7 +82,7 @@ adds = made_of [] (object_of 0 1 ∷ []) [] (DeclareVariable 0 (stored (number (
 abbrev pub Adds : Type 0
 Adds = answer_of adds (sequential adds many_turns no_input) ≡ record { output = 32 ∷ 53 ∷ 10 ∷ []; end = Gives tt; finals = (pos 5 ∷ []) ∷ [] }
 
--- ---- X : Integer := 2147483647; X := X + 1;
+-- X : Integer := 2147483647; X := X + 1;
 
 abbrev pub overflows : Program
 overflows = made_of [] (object_of 0 1 ∷ []) [] (DeclareVariable 0 (stored (number (pos 2147483647))) NoDecl)
@@ -92,7 +92,7 @@ abbrev pub Overflows : Type 0
 Overflows = answer_of overflows (sequential overflows many_turns no_input)
     ≡ record { output = []; end = Leaves (Raises reason.ConstraintError); finals = (pos 2147483647 ∷ []) ∷ [] }
 
--- ---- Put_Line (Integer'Image (E)) for (-7) / 2, (-7) rem 2, (-7) mod 2, 7 mod (-2), computed here and not by name resolution
+-- Put_Line (Integer'Image (E)) for (-7) / 2, (-7) rem 2, (-7) mod 2, 7 mod (-2), computed here and not by name resolution
 
 abbrev divided : op.the_data → ℤ → ℤ → Stmt
 divided o a b = put_image (Binary 0 o integers (number a) (number b))
@@ -105,9 +105,9 @@ abbrev pub Divisions : Type 0
 Divisions = answer_of divisions (sequential divisions many_turns no_input)
     ≡ record { output = 45 ∷ 51 ∷ 10 ∷ 45 ∷ 49 ∷ 10 ∷ 32 ∷ 49 ∷ 10 ∷ 45 ∷ 49 ∷ 10 ∷ []; end = Gives tt; finals = [] }
 
--- ---- Put_Line (Integer'Image ([parallel for I in 1 .. 4 => I]'Reduce (R, V)));
+-- Put_Line (Integer'Image ([parallel for I in 1 .. 4 => I]'Reduce (R, V)));
 
-abbrev upto : ℕ → ℕ → Iteration
+abbrev pub upto : ℕ → ℕ → Iteration
 upto k n = Range k false (number (pos 1)) (number (pos n)) None Absent
 
 abbrev pub reduced : op.the_data → ℤ → Program
@@ -122,19 +122,19 @@ Reductions =
     × (answer_of (reduced op.Add (pos 1)) (planned (reduced op.Add (pos 1)) (Even 2) many_turns no_input) ≡ record { output = 32 ∷ 49 ∷ 50 ∷ 10 ∷ []; end = Gives tt; finals = [] })
     × (answer_of (reduced op.Sub (pos 0)) (sequential (reduced op.Sub (pos 0)) many_turns no_input) ≡ record { output = 45 ∷ 49 ∷ 48 ∷ 10 ∷ []; end = Gives tt; finals = [] })
 
--- ---- P : array (1 .. 3) of Integer := (others => 0);
+-- P : array (1 .. 3) of Integer := (others => 0);
 -- parallel (C in 1 .. 3) for I in 1 .. 10 loop P (C) := P (C) + I; end loop;
 
-abbrev array_of : ℕ → Subtype
+abbrev pub array_of : ℕ → Subtype
 array_of n = syntax.Array (record { low = pos 1; high = pos n } ∷ []) 0
 
-abbrev filled_with : ℕ → Expr → Value
+abbrev pub filled_with : ℕ → Expr → Value
 filled_with n e = Cells (Aggregate 0 n (Association (record { first = 0; count = n; stride = 1 } ∷ []) None NoExpr (stored e) NoAssociation))
 
-abbrev indexed : ℕ → Expr → Selections
+abbrev pub indexed : ℕ → Expr → Selections
 indexed n e = Index 0 e (pos 1) (pos n) 1 Whole
 
-abbrev component : ℕ → ℕ → Expr → Expr
+abbrev pub component : ℕ → ℕ → Expr → Expr
 component x n e = Variable 0 (root.Object x) (indexed n e) integer
 
 abbrev pub dealt : Program
@@ -146,7 +146,7 @@ abbrev pub Dealt : Type 0
 Dealt = (answer_of dealt (sequential dealt many_turns no_input) ≡ record { output = []; end = Gives tt; finals = (pos 10 ∷ pos 18 ∷ pos 27 ∷ []) ∷ [] })
     × (answer_of dealt (planned dealt (Even 8) many_turns no_input) ≡ record { output = []; end = Gives tt; finals = (pos 10 ∷ pos 18 ∷ pos 27 ∷ []) ∷ [] })
 
--- ---- A : array (1 .. 4) of Integer := (9, 1, 9, 1);
+-- A : array (1 .. 4) of Integer := (9, 1, 9, 1);
 -- function Find return Integer is begin parallel for I in 1 .. 4 loop if A (I) = 9 then return I; end if; end loop; return 0; end Find;
 -- Put_Line (Integer'Image (Find));
 
@@ -171,7 +171,7 @@ find = made_of (array_of 4 ∷ []) (object_of 1 4 ∷ [])
 abbrev pub Find : Type 0
 Find = answer_of find (planned find (Chunked 1) many_turns no_input) ≡ record { output = 32 ∷ 49 ∷ 10 ∷ []; end = Gives tt; finals = (pos 9 ∷ pos 1 ∷ pos 9 ∷ pos 1 ∷ []) ∷ [] }
 
--- ---- begin parallel do raise E1; and raise E2; end do; exception when E1 => Put_Line ("one"); end;
+-- begin parallel do raise E1; and raise E2; end do; exception when E1 => Put_Line ("one"); end;
 
 abbrev pub raises : Program
 raises = made_of [] [] [] NoDecl
@@ -181,9 +181,9 @@ raises = made_of [] [] [] NoDecl
 abbrev pub Raised : Type 0
 Raised = answer_of raises (planned raises One many_turns no_input) ≡ record { output = 111 ∷ 110 ∷ 101 ∷ 10 ∷ []; end = Gives tt; finals = [] }
 
--- ---- X : Integer; Get (X); Get (X); on ` -12 7x` and on `7`
+-- X : Integer; Get (X); Get (X); on ` -12 7x` and on `7`
 
-abbrev get_into : ℕ → Stmt
+abbrev pub get_into : ℕ → Stmt
 get_into x = Get 0 0 0 (root.Object x) Whole integer
 
 abbrev pub gets : Program
@@ -194,7 +194,7 @@ Gotten =
     (answer_of gets (sequential gets many_turns (input_of (32 ∷ 45 ∷ 49 ∷ 50 ∷ 32 ∷ 55 ∷ 120 ∷ []))) ≡ record { output = []; end = Gives tt; finals = (pos 7 ∷ []) ∷ [] })
     × (answer_of gets (sequential gets many_turns (input_of (55 ∷ []))) ≡ record { output = []; end = Leaves (Raises reason.EndError); finals = (pos 7 ∷ []) ∷ [] })
 
--- ---- for I in 1 .. 10 loop null; end loop; within 9 turns and within 10
+-- for I in 1 .. 10 loop null; end loop; within 9 turns and within 10
 
 abbrev pub turns : Program
 turns = made_of [] [] [] NoDecl (Then (For 0 (upto 0 10) End) End)
@@ -203,9 +203,9 @@ abbrev pub Turns : Type 0
 Turns = (answer_of turns (sequential turns 9 no_input) ≡ record { output = []; end = Spent; finals = [] })
     × (answer_of turns (sequential turns 10 no_input) ≡ record { output = []; end = Gives tt; finals = [] })
 
--- ---- A : array (1 .. 3) of Integer := (1, 2, 3); parallel for X of A loop X := @ * 2; end loop;
+-- A : array (1 .. 3) of Integer := (1, 2, 3); parallel for X of A loop X := @ * 2; end loop;
 
-abbrev counted_up : ℕ → Value
+abbrev pub counted_up : ℕ → Value
 counted_up n = Cells (Aggregate 0 n (Association (record { first = 0; count = n; stride = 1 } ∷ []) (Some (record { parameter = 9; first = pos 1 })) NoExpr (stored (Parameter 0 9)) NoAssociation))
 
 abbrev pub doubled : Program
@@ -216,7 +216,7 @@ doubled = made_of (array_of 3 ∷ []) (object_of 1 3 ∷ []) [] (DeclareVariable
 abbrev pub Doubled : Type 0
 Doubled = answer_of doubled (planned doubled (Chunked 2) many_turns no_input) ≡ record { output = []; end = Gives tt; finals = (pos 2 ∷ pos 4 ∷ pos 6 ∷ []) ∷ [] }
 
--- ---- function Keep (A, B : Integer) return Integer is (A + B * 2) with Nonblocking;
+-- function Keep (A, B : Integer) return Integer is (A + B * 2) with Nonblocking;
 -- Put_Line (Integer'Image ([parallel for I in 1 .. 4 => I]'Reduce (Keep, 0)));
 
 abbrev pub keeps : Program
@@ -233,7 +233,7 @@ abbrev pub Kept : Type 0
 Kept = (answer_of keeps (planned keeps One many_turns no_input) ≡ record { output = 32 ∷ 50 ∷ 48 ∷ 10 ∷ []; end = Gives tt; finals = [] })
     × (answer_of keeps (planned keeps (Even 2) many_turns no_input) ≡ record { output = 32 ∷ 51 ∷ 52 ∷ 10 ∷ []; end = Gives tt; finals = [] })
 
--- ---- A : array (1 .. 4) of Integer := (others => 0);
+-- A : array (1 .. 4) of Integer := (others => 0);
 -- L : parallel for I in 1 .. 4 loop exit L when I = 3; A (I) := I; end loop L;
 
 abbrev pub leaves : Program
@@ -245,11 +245,11 @@ abbrev pub Left : Type 0
 Left = (answer_of leaves (planned leaves (Chunked 1) many_turns no_input) ≡ record { output = []; end = Gives tt; finals = (pos 1 ∷ pos 2 ∷ pos 0 ∷ pos 0 ∷ []) ∷ [] })
     × (answer_of leaves (planned leaves One many_turns no_input) ≡ record { output = []; end = Gives tt; finals = (pos 1 ∷ pos 2 ∷ pos 0 ∷ pos 0 ∷ []) ∷ [] })
 
--- ---- X : Integer := 1; A : array (1 .. 2) of Integer := (others => 5);
+-- X : Integer := 1; A : array (1 .. 2) of Integer := (others => 5);
 -- procedure P (N : in out Integer; V : in out ..) is begin while N < 3 loop N := N + 1; end loop; V (2) := N; end P; P (X, A);
 -- and Down (N) as if N <= 1 then 1 else 1 + Down (N - 1), called with 40
 
-abbrev formal : ℕ → mode.the_data → Formal
+abbrev pub formal : ℕ → mode.the_data → Formal
 formal x m = record { object = x; mode = m }
 
 abbrev pub passes : Program
@@ -282,7 +282,7 @@ passes = made_of (array_of 2 ∷ []) (object_of 0 1 ∷ object_of 1 2 ∷ object
 abbrev pub Passed : Type 0
 Passed = answer_of passes (sequential passes many_turns no_input) ≡ record { output = 32 ∷ 52 ∷ 48 ∷ 10 ∷ []; end = Gives tt; finals = (pos 3 ∷ []) ∷ (pos 5 ∷ pos 3 ∷ []) ∷ [] }
 
--- ---- Put (-7); Put (42, Width => 1);
+-- Put (-7); Put (42, Width => 1);
 
 abbrev padded_piece : ℤ → ℕ → Stmt
 padded_piece z w = Put 0 0 (Padded integers (number z) (number (pos w)) NoPiece) false
@@ -293,9 +293,9 @@ pads = made_of [] [] [] NoDecl (Then (padded_piece (negsuc 6) 11) (Then (padded_
 abbrev pub Padded' : Type 0
 Padded' = answer_of pads (sequential pads many_turns no_input) ≡ record { output = 32 ∷ 32 ∷ 32 ∷ 32 ∷ 32 ∷ 32 ∷ 32 ∷ 32 ∷ 32 ∷ 45 ∷ 55 ∷ 52 ∷ 50 ∷ []; end = Gives tt; finals = [] }
 
--- ---- V : array (1 .. 3) of Integer := (-5, 2147483647, 5); Put_Line (Integer'Image (V'Parallel_Reduce ("+", 0)));
+-- V : array (1 .. 3) of Integer := (-5, 2147483647, 5); Put_Line (Integer'Image (V'Parallel_Reduce ("+", 0)));
 
-abbrev given_at : ℕ → Run
+abbrev pub given_at : ℕ → Run
 given_at i = record { first = i; count = 1; stride = 1 }
 
 abbrev pub folded : Program
@@ -310,7 +310,7 @@ PartialOverflow =
     (answer_of folded (planned folded One many_turns no_input) ≡ record { output = 32 ∷ 50 ∷ 49 ∷ 52 ∷ 55 ∷ 52 ∷ 56 ∷ 51 ∷ 54 ∷ 52 ∷ 55 ∷ 10 ∷ []; end = Gives tt; finals = (negsuc 4 ∷ pos 2147483647 ∷ pos 5 ∷ []) ∷ [] })
     × (answer_of folded (planned folded (Listed (1 ∷ 2 ∷ [])) many_turns no_input) ≡ record { output = []; end = Leaves (Raises reason.ConstraintError); finals = (negsuc 4 ∷ pos 2147483647 ∷ pos 5 ∷ []) ∷ [] })
 
--- ---- parallel (0) for I in 1 .. 0 loop null; end loop;
+-- parallel (0) for I in 1 .. 0 loop null; end loop;
 
 abbrev pub no_chunks : Program
 no_chunks = made_of [] [] [] NoDecl (Then (ParallelFor 0 0 (Count (number (pos 0))) (upto 0 0) End) End)
@@ -318,7 +318,7 @@ no_chunks = made_of [] [] [] NoDecl (Then (ParallelFor 0 0 (Count (number (pos 0
 abbrev pub NoChunks : Type 0
 NoChunks = answer_of no_chunks (sequential no_chunks many_turns no_input) ≡ record { output = []; end = Leaves (Raises reason.ProgramError); finals = [] }
 
--- ---- Put_Line (Integer'Image ([parallel for I in 1 .. 10 when I mod 2 = 0 => I]'Reduce ("+", 0)));
+-- Put_Line (Integer'Image ([parallel for I in 1 .. 10 when I mod 2 = 0 => I]'Reduce ("+", 0)));
 
 abbrev pub filters : Program
 filters = made_of [] [] [] NoDecl (Then (put_image (Reduction 0 0 (reducer.Operator 0 op.Add integers) (number (pos 0)) (Some 0) NoChunk
@@ -327,7 +327,7 @@ filters = made_of [] [] [] NoDecl (Then (put_image (Reduction 0 0 (reducer.Opera
 abbrev pub Filtered : Type 0
 Filtered = answer_of filters (planned filters (Even 8) many_turns no_input) ≡ record { output = 32 ∷ 51 ∷ 48 ∷ 10 ∷ []; end = Gives tt; finals = [] }
 
--- ---- parallel do loop null; end loop; and raise Constraint_Error; end do; within 100 turns, and with null in its place
+-- parallel do loop null; end loop; and raise Constraint_Error; end do; within 100 turns, and with null in its place
 
 abbrev pub spends : Stmts → Program
 spends second = made_of [] [] [] NoDecl (Then (Parallel 0 Absent (Arm (Then (Loop 0 Absent End) End) (Arm second NoArm))) End)
@@ -337,7 +337,7 @@ Spends =
     (answer_of (spends (Then (Raise reason.ConstraintError) End)) (planned (spends (Then (Raise reason.ConstraintError) End)) One 100 no_input) ≡ record { output = []; end = Leaves (Raises reason.ConstraintError); finals = [] })
     × (answer_of (spends End) (planned (spends End) One 100 no_input) ≡ record { output = []; end = Spent; finals = [] })
 
--- ---- procedure P (N : Natural) is begin if N > 0 then parallel do P (N - 1); and null; end do; end if; end P; P (16); and P (17);
+-- procedure P (N : Natural) is begin if N > 0 then parallel do P (N - 1); and null; end do; end if; end P; P (16); and P (17);
 
 abbrev pub nests : ℕ → Program
 nests n = made_of [] (object_of 0 1 ∷ [])
@@ -358,7 +358,7 @@ abbrev pub Nested : Type 0
 Nested = (answer_of (nests 16) (planned (nests 16) One many_turns no_input) ≡ record { output = []; end = Gives tt; finals = [] })
     × (answer_of (nests 17) (sequential (nests 17) many_turns no_input) ≡ record { output = []; end = Leaves (Raises reason.StorageError); finals = [] })
 
--- ---- Outer : for K in 1 .. 5 loop parallel for I in 1 .. 4 loop parallel do exit Outer when K = 2; and null; end do; end loop;
+-- Outer : for K in 1 .. 5 loop parallel for I in 1 .. 4 loop parallel do exit Outer when K = 2; and null; end do; end loop;
 -- Put_Line (Integer'Image (K)); end loop Outer;
 
 abbrev pub escapes : Program
@@ -370,7 +370,7 @@ escapes = made_of [] [] [] NoDecl
 abbrev pub Escapes : Type 0
 Escapes = answer_of escapes (planned escapes (Even 8) many_turns no_input) ≡ record { output = 32 ∷ 49 ∷ 10 ∷ []; end = Gives tt; finals = [] }
 
--- ---- the "+" from 0 of four values is calm, and so is the loop with a chunk parameter. With one worker and four chunks the
+-- the "+" from 0 of four values is calm, and so is the loop with a chunk parameter. With one worker and four chunks the
 -- sum has one outcome
 
 abbrev pub Calm : Type 0

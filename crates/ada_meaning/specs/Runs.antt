@@ -3,8 +3,8 @@ use Rattle.std.specs.Prelude.{ℕ, ℤ, List, [], ◌∷◌, Option, Bool, true,
 use Rattle.ada_base.specs.declared.reason.Reason.TheVariants as reason
 use Rattle.ada_typed.specs.declared.scalars.Scalar.{Scalar}
 use Rattle.ada_typed.specs.declared.expressions.Reducer.{Reducer}
-use Rattle.behaviours.specs.Doings.{Doings, through, onto, folded}
-use Rattle.behaviours.specs.Paths.{Leave, Raises, Entity, Region, Instance}
+use Rattle.behaviours.specs.Doings.{through, onto, folded}
+use Rattle.behaviours.specs.Paths.{Raises, Entity, Instance}
 use Rattle.behaviours.specs.Events.{Keeps, Puts, Looks}
 use Rattle.behaviours.specs.Joins.{Share, deal}
 use Rattle.behaviours.specs.Behaviours
@@ -29,6 +29,7 @@ of_subtype cell v = IsTrue (is_in cell v)
 
 abbrev pub anything : Scalar → ℤ → Type 0
 anything cell v = Unit {0}
+
 -- any value that is admitted for a cell of the subtype
 abbrev pub reads : {P : Type 0} → (Scalar → ℤ → Type 0) → Entity → ℕ → Scalar → Behaviour P ℤ
 reads admits object i cell = Behaviours.reads (admits cell) object i

@@ -72,7 +72,7 @@ operations limit = record {
   reduces = reduces;
 }
 
--- ---- reductions whose result doesn't turn on how the values are cut
+-- reductions whose result doesn't turn on how the values are cut
 
 -- "+" from 0, "*" from 1, "xor" from False; "and", "or", Max and Min from any value
 abbrev pub IsListed : Reducer → ℤ → Type 0

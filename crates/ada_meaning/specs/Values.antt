@@ -1,5 +1,5 @@
 -- Values, and what is computed from them alone.
-use Rattle.std.specs.Prelude.{ℕ, zero, suc, ◌-◌, ◌*◌, ◌/◌, ◌%◌, ℤ, pos, negsuc, ◌+ℤ◌, ◌-ℤ◌, neg_ℤ, nat_abs, int_le, int_lt, nat_eq, nat_le, List, [], ◌∷◌, ◌++◌, map, length, replicate, slice_get, Option, Some, None, Bool, true, false, not, ◌&&◌, ◌||◌, cond}
+use Rattle.std.specs.Prelude.{ℕ, zero, suc, ◌*◌, ℤ, pos, negsuc, ◌+ℤ◌, ◌-ℤ◌, neg_ℤ, nat_abs, int_le, int_lt, nat_eq, List, [], ◌∷◌, ◌++◌, map, length, replicate, slice_get, Option, Some, None, Bool, true, false, not, ◌&&◌, ◌||◌}
 use Rattle.ada_base.specs.declared.operation.Base.{Base}
 use Rattle.ada_base.specs.declared.operation.Base.TheVariants.{Narrow, Wide}
 use Rattle.ada_base.specs.declared.operation.Op.{Op}
@@ -7,7 +7,7 @@ use Rattle.ada_base.specs.declared.operation.Op.TheVariants as op
 use Rattle.ada_base.specs.declared.reason.Reason.{Reason}
 use Rattle.ada_base.specs.declared.reason.Reason.TheVariants as reason
 use Rattle.std.specs.Int.{int_min, int_max}
-use Rattle.ada_base.specs.Operation.{is_in_base, result_of}
+use Rattle.ada_base.specs.Operation.{result_of}
 use Rattle.ada_base.specs.Image.{image, truth_image}
 use Rattle.ada_typed.specs.declared.scalars.Class.{Class}
 use Rattle.ada_typed.specs.declared.scalars.Class.TheVariants as class
@@ -22,7 +22,7 @@ use Rattle.ada_typed.specs.Syntax.{Handled, Subtype}
 use Rattle.ada_typed.specs.declared.program.Bounds.{Bounds}
 use Rattle.ada_typed.specs.declared.program.Field.{Field}
 
--- ---- truth values, ranges
+-- truth values, ranges
 
 abbrev pub truth : ℤ → Bool
 truth (pos zero) = false
@@ -48,7 +48,7 @@ to_nat (negsuc n) = 0
 abbrev pub count : ℤ → ℤ → ℕ
 count low high = to_nat (high +ℤ pos 1 -ℤ low)
 
--- ---- operations
+-- operations
 
 -- an expression that waits for its type is none of a program that names give; it counts as of the widest
 abbrev pub base_of : Class → Base
@@ -115,7 +115,7 @@ abbrev pub is_chosen : List Span → ℤ → Bool
 is_chosen [] z = false
 is_chosen (s ∷ ss) z = between s.low z s.high || is_chosen ss z
 
--- ---- reasons
+-- reasons
 
 abbrev pub reason_eq : Reason → Reason → Bool
 reason_eq reason.ConstraintError reason.ConstraintError = true
@@ -134,14 +134,14 @@ abbrev pub handles_reason : Handled → Reason → Bool
 handles_reason syntax.Others r = true
 handles_reason (syntax.Reasons reasons) r = has_reason reasons r
 
--- ---- cuts (5.5)
+-- cuts (5.5)
 
 abbrev pub without_zeros : List ℕ → List ℕ
 without_zeros [] = []
 without_zeros (zero ∷ ns) = without_zeros ns
 without_zeros (suc n ∷ ns) = suc n ∷ without_zeros ns
 
--- ---- cells of subtypes (3.6, 3.8): the scalar subtype of each cell, in order
+-- cells of subtypes (3.6, 3.8): the scalar subtype of each cell, in order
 
 abbrev pub repeated : ℕ → List Scalar → List Scalar
 repeated zero cells = []
@@ -173,7 +173,7 @@ layout table = layout_within table (length table)
 abbrev pub defaults : List Scalar → List ℤ
 defaults cells = map (λ s. s.low) cells
 
--- ---- aggregates (4.3)
+-- aggregates (4.3)
 
 -- some cells, with others laid over them from a place on
 abbrev pub laid : List ℤ → ℕ → List ℤ → List ℤ
@@ -185,7 +185,7 @@ laid (c ∷ cs) (suc first) over = c ∷ laid cs first over
 abbrev pub zeros : ℕ → List ℤ
 zeros n = replicate n (pos 0)
 
--- ---- images (4.10, A.10.8)
+-- images (4.10, A.10.8)
 
 abbrev pub image_of : Class → ℤ → List ℕ
 image_of class.Boolean z = truth_image (truth z)

@@ -2,34 +2,34 @@
 use Rattle.std.proofs.Common.{◌≡◌, ℕ, ◌≤◌, ◌<◌, ◌-◌, List, [], ◌++◌, length, take, drop, Option, Some, None, IfSome, Result, Ok, Err, append_assoc, length-drop, subst, take-append-drop, refl, sym, ap, ◌∙◌, arith}
 use Rattle.std.proofs.lemmas.List.{append-nil, take-append-le, take_all}
 use Rattle.std.specs.Io.KnownBytes.{Appends, Keeps, Consumes, IsAtEnd, ReadConsumes}
-use Rattle.ada_port.specs.Ports.{Grows, GrowsByPrefix, fetched}
-use Rattle.ada_port.proofs.Growth.{Grows-append, Grows-none}
+use Rattle.ada_port.specs.Ports.{Adds, AddsPrefix, fetched}
+use Rattle.ada_port.proofs.Growth.{Adds-append, Adds-none}
 
-pub Grows-from_Appends : {old new : Option (List ℕ)} {bytes : List ℕ} → Appends old new bytes → Grows old new bytes
-Grows-from_Appends {old = None} a = record { told = λ held e. cc }
-Grows-from_Appends {old = Some xs} {new = None} a = absurd a
-Grows-from_Appends {old = Some xs} {new = Some ys} a = record { told = λ held e. cc }
+pub Adds-from_Appends : (old new : Option (List ℕ)) (bytes : List ℕ) → Appends old new bytes → Adds old new bytes
+Adds-from_Appends None new bytes a held e = cc
+Adds-from_Appends (Some xs) None bytes a held e = absurd a
+Adds-from_Appends (Some xs) (Some ys) bytes a held e = cc
 
-pub Grows-from_Keeps : {old new : Option (List ℕ)} → Keeps old new → Grows old new []
-Grows-from_Keeps {old = None} k = record { told = λ held e. cc }
-Grows-from_Keeps {old = Some xs} {new = None} k = absurd k
-Grows-from_Keeps {old = Some xs} {new = Some ys} k = record { told = λ held e. let nil = append-nil xs in cc }
+pub Adds-from_Keeps : (old new : Option (List ℕ)) → Keeps old new → Adds old new []
+Adds-from_Keeps None new k held e = cc
+Adds-from_Keeps (Some xs) None k held e = absurd k
+Adds-from_Keeps (Some xs) (Some ys) k held e = let nil = append-nil xs in cc
 
 -- so much of a piece has been written, and the rest is left
 pub record Written (old new : Option (List ℕ)) (piece rest : List ℕ) : Type 0 where
   pub front : List ℕ
   pub parts : piece ≡ front ++ rest
-  pub grown : Grows old new front
+  pub grown : Adds old new front
 
 pub Written-none : {old : Option (List ℕ)} {piece : List ℕ} → Written old old piece piece
-Written-none = record { front = []; parts = refl; grown = Grows-none }
+Written-none {old} = record { front = []; parts = refl; grown = Adds-none old }
 
 pub Written-more : {old mid new : Option (List ℕ)} {piece rest : List ℕ} (n : ℕ) → Written old mid piece rest → Appends mid new (take n rest) → Written old new piece (drop n rest)
-Written-more {rest = rest} n w a =
+Written-more {old} {mid} {new} {rest = rest} n w a =
     record {
       front = w.front ++ take n rest;
       parts = w.parts ∙ ap (λ x. w.front ++ x) (sym (take-append-drop n rest)) ∙ sym (append_assoc w.front (take n rest) (drop n rest));
-      grown = Grows-append w.grown (Grows-from_Appends a);
+      grown = Adds-append old mid new w.front (take n rest) w.grown (Adds-from_Appends mid new (take n rest) a);
     }
 
 -- the same, with what is left as a slice from n on
@@ -38,22 +38,16 @@ Written-range {old} {new = new} {piece = piece} {rest = rest} n w a =
     subst (λ x. Written old new piece x) (sym (take_all (length rest - n) (drop n rest) (omega (arith, length-drop n rest)))) (Written-more n w a)
 
 -- after a fault some front of the piece is written
-pub Written-prefix : {old mid new : Option (List ℕ)} {piece rest : List ℕ} → Written old mid piece rest → Grows mid new [] → GrowsByPrefix old new piece
-Written-prefix {rest = rest} w g =
-    record {
-      told = λ held e.
-          let h = (Grows-append w.grown g).told held e in
-          (w.front, rest, w.parts, h ∙ ap (λ x. Some (held ++ x)) (append-nil w.front));
-    }
+pub Written-prefix : (old mid new : Option (List ℕ)) (piece rest : List ℕ) → Written old mid piece rest → Keeps mid new → AddsPrefix old new piece
+Written-prefix old mid new piece rest w k held e =
+    let h = Adds-append old mid new w.front [] w.grown (Adds-from_Keeps mid new k) held e in
+    (w.front, rest, w.parts, h ∙ ap (λ x. Some (held ++ x)) (append-nil w.front))
 
 -- where nothing is left, all of the piece is
-pub Written-all : {old mid new : Option (List ℕ)} {piece : List ℕ} → Written old mid piece [] → Grows mid new [] → Grows old new piece
-Written-all w g =
-    record {
-      told = λ held e.
-          let h = (Grows-append w.grown g).told held e in
-          h ∙ ap (λ x. Some (held ++ x)) (append-nil w.front ∙ sym (append-nil w.front) ∙ sym w.parts);
-    }
+pub Written-all : (old mid new : Option (List ℕ)) (piece : List ℕ) → Written old mid piece [] → Keeps mid new → Adds old new piece
+Written-all old mid new piece w k held e =
+    let h = Adds-append old mid new w.front [] w.grown (Adds-from_Keeps mid new k) held e in
+    h ∙ ap (λ x. Some (held ++ x)) (append-nil w.front ∙ sym (append-nil w.front) ∙ sym w.parts)
 
 -- a read that gives no byte though there is room for one: none is left
 pub read_ends : {E : Type 0} (mid new : Option (List ℕ)) (answer : Result ℕ E) (buffer : List ℕ) → ReadConsumes mid new answer buffer → answer ≡ Ok 0 → 0 < length buffer → IsAtEnd mid

@@ -1,56 +1,113 @@
--- What the calls on the outside do to what is told of it, and to its count of faults. What an object holds or
--- has left is an `Option`, and `None` tells nothing.
-use Rattle.std.specs.Prelude.{◌≡◌, ℕ, ◌+◌, ◌-◌, ◌^◌, ◌≤◌, min, List, [], ◌∷◌, ◌++◌, take, Option, Some, None, Result, Ok, Err}
+-- What contracts see of the outside, and what the calls on it do to that.
+use Rattle.std.specs.Prelude.{◌≡◌, ℕ, ◌+◌, ◌-◌, ◌^◌, ◌≤◌, min, List, [], ◌∷◌, ◌++◌, take, Option, Some, None, IsSome, IfSome, Result, Ok, Err, Vec}
 use Rattle.ada_port.specs.declared.ports.Failed.{Failed}
 use Rattle.ada_port.specs.declared.ports.ShelfFault.{ShelfFault}
 use Rattle.ada_port.specs.declared.ports.ShelfFault.TheVariants as fault
 
--- a count that stands still at the greatest u64 has risen: it is greater than before, or stands there
-abbrev pub Rose : ℕ → ℕ → Type 0
-Rose before now = min (before + 1) (2 ^ 64 - 1) ≤ now
+-- what is told of a device's contents, and how often it has failed, up to the greatest u64
+pub record Device (T : Type 0) : Type 0 where
+  pub told : T
+  pub faults : ℕ
 
--- a count after a fault: it never falls, and it has risen
-pub record Rises (before now : ℕ) : Type 0 where
-  pub later : before ≤ now
-  pub rose : Rose before now
+-- a shelf: the text that it has for each name, where it tells
+abbrev pub Texts : Type 0
+Texts = Device (List ℕ → Option (List ℕ))
 
--- the count of faults after a call: it rises with a fault, and stays with every other answer
-abbrev pub Counts : {T : Type 0} → ℕ → ℕ → Result T Failed → Type 0
-Counts before now (Ok _) = now ≡ before
-Counts before now (Err _) = Rises before now
+-- a source or a sink: the bytes that it has left or holds, where it tells
+abbrev pub Stream : Type 0
+Stream = Device (Option (List ℕ))
 
-abbrev pub CountsFetch : {T : Type 0} → ℕ → ℕ → Result T ShelfFault → Type 0
-CountsFetch before now (Ok _) = now ≡ before
-CountsFetch before now (Err fault.Failed) = Rises before now
-CountsFetch before now (Err fault.OutOfMemory) = now ≡ before
+abbrev pub IsTold : Stream → Type 0
+IsTold s = IsSome s.told
+
+-- the bytes that are told, none where a stream doesn't tell
+abbrev pub bytes_told : Option (List ℕ) → List ℕ
+bytes_told None = []
+bytes_told (Some bytes) = bytes
+
+abbrev pub bytes_of : Stream → List ℕ
+bytes_of s = bytes_told s.told
+
+-- the count of faults rose: it is greater than before, or stands at the greatest u64
+pub record Rose {T : Type 0} (old new : Device T) : Type 0 where
+  pub later : old.faults ≤ new.faults
+  pub higher : min (old.faults + 1) (2 ^ 64 - 1) ≤ new.faults
 
 -- what a shelf gives of a text: all of it, or the first 1,048,577 bytes, one more than a text may have
 abbrev pub fetched : List ℕ → List ℕ
 fetched text = take 1048577 text
 
--- what is held has grown by the bytes
-pub record Grows (old new : Option (List ℕ)) (bytes : List ℕ) : Type 0 where
-  pub told : (held : List ℕ) → old ≡ Some held → new ≡ Some (held ++ bytes)
+-- the text of a name was given, as far as a fetch gives it
+pub record GivesText (old new : Texts) (name text : List ℕ) : Type 0 where
+  pub given : IfSome (old.told name) (λ told. text ≡ fetched told)
+  pub told : (other : List ℕ) → new.told other ≡ old.told other
+  pub faults : new.faults ≡ old.faults
 
--- what is held has grown by a prefix of the bytes
-pub record GrowsByPrefix (old new : Option (List ℕ)) (bytes : List ℕ) : Type 0 where
-  pub told : (held : List ℕ) → old ≡ Some held → (front : List ℕ) × (back : List ℕ) × (bytes ≡ front ++ back) × (new ≡ Some (held ++ front))
+-- no text was given, since the shelf failed
+pub record FailsText (old new : Texts) : Type 0 where
+  pub told : (other : List ℕ) → new.told other ≡ old.told other
+  pub rose : Rose old new
+
+-- no text was given, for want of memory
+pub record LacksRoom (old new : Texts) : Type 0 where
+  pub told : (other : List ℕ) → new.told other ≡ old.told other
+  pub faults : new.faults ≡ old.faults
+
+abbrev pub Fetches : {A : Type 0} → Texts → Texts → List ℕ → Result (Vec ℕ A) ShelfFault → Type 0
+Fetches old new name (Ok text) = GivesText old new name text.items
+Fetches old new name (Err fault.Failed) = FailsText old new
+Fetches old new name (Err fault.OutOfMemory) = LacksRoom old new
+
+-- the bytes left have lost these in front, where they are told
+abbrev pub Loses : Option (List ℕ) → Option (List ℕ) → List ℕ → Type 0
+Loses old new bytes = (left : List ℕ) → old ≡ Some left → (rest : List ℕ) × (left ≡ bytes ++ rest) × (new ≡ Some rest)
+
+-- a source gave these bytes, one after the other, and no call failed
+pub record Gives (old new : Stream) (bytes : List ℕ) : Type 0 where
+  pub told : Loses old.told new.told bytes
+  pub faults : new.faults ≡ old.faults
+
+-- a source gave these bytes and then told that none is left, and no call failed
+pub record GivesAll (old new : Stream) (bytes : List ℕ) : Type 0 where
+  pub told : (left : List ℕ) → old.told ≡ Some left → (left ≡ bytes) × (new.told ≡ Some [])
+  pub faults : new.faults ≡ old.faults
+
+-- a source gave these bytes, and then it failed
+pub record GivesUntil (old new : Stream) (bytes : List ℕ) : Type 0 where
+  pub told : Loses old.told new.told bytes
+  pub rose : Rose old new
+
+-- asking a source: the first byte is taken, or none is left; a fault takes nothing
+abbrev pub Takes : Stream → Stream → Result (Option ℕ) Failed → Type 0
+Takes old new (Ok (Some byte)) = Gives old new (byte ∷ [])
+Takes old new (Ok None) = GivesAll old new []
+Takes old new (Err _) = GivesUntil old new []
+
+-- the bytes held have these behind them, where they are told
+abbrev pub Adds : Option (List ℕ) → Option (List ℕ) → List ℕ → Type 0
+Adds old new bytes = (held : List ℕ) → old ≡ Some held → new ≡ Some (held ++ bytes)
+
+-- the bytes held have a prefix of these behind them, where they are told
+abbrev pub AddsPrefix : Option (List ℕ) → Option (List ℕ) → List ℕ → Type 0
+AddsPrefix old new bytes =
+    (held : List ℕ) → old ≡ Some held → (front : List ℕ) × (back : List ℕ) × (bytes ≡ front ++ back) × (new ≡ Some (held ++ front))
+
+-- these bytes were put, one piece after the other, and no put failed
+pub record Grows (old new : Stream) (bytes : List ℕ) : Type 0 where
+  pub told : Adds old.told new.told bytes
+  pub faults : new.faults ≡ old.faults
+
+-- a prefix of these bytes was put, and no put failed
+pub record GrowsByPrefix (old new : Stream) (bytes : List ℕ) : Type 0 where
+  pub told : AddsPrefix old.told new.told bytes
+  pub faults : new.faults ≡ old.faults
+
+-- a prefix of these bytes was put, and then a put failed
+pub record Breaks (old new : Stream) (bytes : List ℕ) : Type 0 where
+  pub told : AddsPrefix old.told new.told bytes
+  pub rose : Rose old new
 
 -- a put: the piece is appended, or with a fault a prefix of it
-abbrev pub Puts : {T : Type 0} → Option (List ℕ) → Option (List ℕ) → List ℕ → Result T Failed → Type 0
+abbrev pub Puts : {T : Type 0} → Stream → Stream → List ℕ → Result T Failed → Type 0
 Puts old new piece (Ok _) = Grows old new piece
-Puts old new piece (Err _) = GrowsByPrefix old new piece
-
--- what a source has left has lost its first byte
-pub record Loses (old new : Option (List ℕ)) (byte : ℕ) : Type 0 where
-  pub told : (bytes : List ℕ) → old ≡ Some bytes → (rest : List ℕ) × (bytes ≡ byte ∷ rest) × (new ≡ Some rest)
-
--- a source has nothing left
-pub record IsAtEnd (old new : Option (List ℕ)) : Type 0 where
-  pub told : (bytes : List ℕ) → old ≡ Some bytes → (bytes ≡ []) × (new ≡ Some [])
-
--- asking a source: the first byte is taken, or nothing is left; a fault takes nothing
-abbrev pub Takes : Option (List ℕ) → Option (List ℕ) → Result (Option ℕ) Failed → Type 0
-Takes old new (Ok (Some byte)) = Loses old new byte
-Takes old new (Ok None) = IsAtEnd old new
-Takes old new (Err _) = new ≡ old
+Puts old new piece (Err _) = Breaks old new piece

@@ -1,8 +1,9 @@
 -- A shelf in memory.
-use Rattle.std.specs.Prelude.{ℕ, Bool, List, Option, Result, Ok, Err, ◌==◌, ◌||◌, is_none, find, option_map, string_bytes}
+use Rattle.std.specs.Prelude.{ℕ, Bool, List, Option, Some, Result, Ok, Err, ◌==◌, ◌||◌, is_none, find, option_map, string_bytes}
 use Rattle.std.specs.List.{list_any}
 use Rattle.std.specs.Str.{bytes_eq}
 use Rattle.ada_port.specs.Counts.{next_count}
+use Rattle.ada_port.specs.Ports.{Texts}
 use Rattle.ada_port.specs.declared.ports.ShelfFault.{ShelfFault}
 use Rattle.ada_port.specs.declared.ports.ShelfFault.TheVariants as fault
 use Rattle.ada_port.specs.declared.shelves.ShelfText.{ShelfText}
@@ -25,6 +26,14 @@ pub record ShelfState : Type 0 where
 -- the text of a name: of two texts with one name the first counts
 abbrev pub text_of : List NamedText → List ℕ → Option (List ℕ)
 text_of texts name = option_map (λ t. t.bytes) (find (λ t. bytes_eq t.name name) texts)
+
+-- what is told of a shelf
+abbrev pub texts_of : ShelfState → Texts
+texts_of s = record { told = text_of s.texts; faults = s.faults }
+
+-- a shelf that has this text for every name, and never fails
+abbrev pub one_text : List ℕ → Texts
+one_text text = record { told = λ _. Some text; faults = 0 }
 
 -- whether a fetch fails: its call is listed, or no text has the name
 abbrev pub fetch_fails : ShelfState → List ℕ → Bool

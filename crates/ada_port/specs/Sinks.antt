@@ -1,6 +1,7 @@
--- A sink in memory.
+-- Sinks in memory.
 use Rattle.std.specs.Prelude.{ℕ, ◌+◌, Bool, ◌||◌, ◌==◌, List, [], ◌++◌, length, take, Option, Some, None, is_some, find, Result, Ok, Err, nat_lt, if◌then◌else◌}
 use Rattle.ada_port.specs.Counts.{next_count}
+use Rattle.ada_port.specs.Ports.{Stream}
 use Rattle.ada_port.specs.declared.ports.Failed.{Failed}
 use Rattle.ada_port.specs.declared.sinks.SinkFail.{SinkFail}
 
@@ -11,6 +12,10 @@ pub record SinkState : Type 0 where
   pub fails : List SinkFail
   pub calls : ℕ
   pub faults : ℕ
+
+-- what is told of a sink
+abbrev pub held_of : SinkState → Stream
+held_of s = record { told = Some s.held; faults = s.faults }
 
 -- the entry of the next call: of two entries for one call the first counts
 abbrev pub entry_of : SinkState → Option SinkFail
@@ -37,3 +42,20 @@ appended_part s piece = if is_too_long s piece then [] else passing_part (entry_
 abbrev pub after_put : {T : Type 0} → SinkState → List ℕ → Result T Failed → SinkState
 after_put s piece (Ok _) = record s { held = s.held ++ appended_part s piece; calls = next_count s.calls }
 after_put s piece (Err _) = record s { held = s.held ++ appended_part s piece; calls = next_count s.calls; faults = next_count s.faults }
+
+-- the bytes that a sink holds, and how many puts failed so far
+pub record HeldState : Type 0 where
+  pub held : List ℕ
+  pub faults : ℕ
+
+abbrev pub grown_of : HeldState → Stream
+grown_of s = record { told = Some s.held; faults = s.faults }
+
+-- after a put: the piece is appended, or there was no room for it and it is a fault
+abbrev pub after_growth : {T : Type 0} → HeldState → List ℕ → Result T Failed → HeldState
+after_growth s piece (Ok _) = record s { held = s.held ++ piece }
+after_growth s piece (Err _) = record s { faults = next_count s.faults }
+
+-- a sink that never fails and tells nothing
+abbrev pub sure_count : Stream
+sure_count = record { told = None; faults = 0 }

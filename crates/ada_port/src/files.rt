@@ -40,9 +40,7 @@ impl<R: Files + Drop> FileShelf<R> {
 impl<R: Files + Drop> Shelf for FileShelf<R> {
     ghost use Rattle.std.specs.Prelude.{None};
 
-    ghost text = { λ _ _. None };
-
-    ghost faults = { λ s. s };
+    ghost state = { λ s. record { told = λ _. None; faults = s } };
 
     /// Reads the file of that path. `Failed` comes where the system can't open or read it, and
     /// `OutOfMemory` where it or the allocator has no memory left.

@@ -15,9 +15,9 @@ pub use files::FileShelf;
 pub use ports::{Failed, Pulse, Shelf, ShelfFault, Sink, Source};
 pub use pulses::Quiet;
 pub use shelves::{MemShelf, ShelfText, SureShelf};
-pub use sinks::{MemSink, SinkFail, SureSink};
-pub use sources::SureSource;
-pub use streams::{ErrSink, StdSink, StreamSink};
+pub use sinks::{HeldSink, MemSink, SinkFail, SureSink};
+pub use sources::{MemSource, SureSource};
+pub use streams::{ErrSink, StdSink, StdSource, StreamSink, StreamSource};
 
 #[cfg(test)]
 mod tests;

@@ -1,5 +1,5 @@
-ghost use Rattle.std.specs.Prelude.{◌≡◌, ℕ, List, Option, IfOk, IfSome};
-ghost use Rattle.ada_port.specs.Ports.{Counts, CountsFetch, Puts, Takes, fetched};
+ghost use Rattle.std.specs.Prelude.{◌≡◌, ℕ, List, Option};
+ghost use Rattle.ada_port.specs.Ports.{Fetches, Puts, Stream, Takes, Texts};
 
 use std::alloc::{AllocError, Global};
 use thiserror::Error;
@@ -33,57 +33,48 @@ impl From<AllocError> for ShelfFault {
 
 /// Where texts are fetched by their names.
 pub trait Shelf {
-    // What the shelf has for a name, where it tells.
-    ghost text: { Self → List ℕ → Option (List ℕ) };
-
-    ghost faults: { Self → ℕ };
+    // What the shelf has for each name, where it tells, and how often a fetch failed.
+    ghost state: { Self → Texts };
 
     /// Fetches the text of a name: all its bytes, or the first 1,048,577 of them. `Failed` comes only
-    /// where the count of faults rose. No answer changes what the shelf has.
+    /// where the count of faults rose; with every other answer it stays. No answer changes what the
+    /// shelf has.
     fn fetch(&mut self, alloc: Global, name: &str) -> Result<Vec<u8>, ShelfFault>
-        ensures bytes { IfOk result (λ bytes. IfSome (text self.old name.now) (λ told. bytes.items ≡ fetched told)) }
-        ensures told { (other : List ℕ) → text self.new other ≡ text self.old other }
-        ensures cause { CountsFetch (faults self.old) (faults self.new) result };
+        ensures { Fetches (state self.old) (state self.new) name.now result };
 
     /// How often a fetch failed, up to the greatest number.
     fn faults(&self) -> u64
-        ensures { result ≡ faults self.now };
+        ensures { result ≡ (state self.now).faults };
 }
 
 /// Where the input of a program comes from, byte by byte.
 pub trait Source {
-    // The bytes that are left, where the source tells.
-    ghost left: { Self → Option (List ℕ) };
-
-    ghost faults: { Self → ℕ };
+    // The bytes that are left, where the source tells, and how often a call failed.
+    ghost state: { Self → Stream };
 
     /// Takes the first byte that is left; `None` means that none is. `Failed` comes only where the
-    /// count of faults rose, and takes nothing.
+    /// count of faults rose, and takes nothing; with every other answer the count stays.
     fn next(&mut self) -> Result<Option<u8>, Failed>
-        ensures bytes { Takes (left self.old) (left self.new) result }
-        ensures cause { Counts (faults self.old) (faults self.new) result };
+        ensures { Takes (state self.old) (state self.new) result };
 
     /// How often a call failed, up to the greatest number.
     fn faults(&self) -> u64
-        ensures { result ≡ faults self.now };
+        ensures { result ≡ (state self.now).faults };
 }
 
 /// Where the output of a program goes, piece by piece.
 pub trait Sink {
-    // The bytes that the sink holds, where it tells.
-    ghost holds: { Self → Option (List ℕ) };
+    // The bytes that the sink holds, where it tells, and how often a put failed.
+    ghost state: { Self → Stream };
 
-    ghost faults: { Self → ℕ };
-
-    /// Appends a piece. `Failed` comes only where the count of faults rose; then a prefix of the piece
-    /// was appended.
+    /// Appends a piece, and leaves the count of faults. `Failed` comes only where the count rose; then a
+    /// prefix of the piece was appended.
     fn put(&mut self, piece: &[u8]) -> Result<(), Failed>
-        ensures bytes { Puts (holds self.old) (holds self.new) piece.now result }
-        ensures cause { Counts (faults self.old) (faults self.new) result };
+        ensures { Puts (state self.old) (state self.new) piece.now result };
 
-    /// How often a call failed, up to the greatest number.
+    /// How often a put failed, up to the greatest number.
     fn faults(&self) -> u64
-        ensures { result ≡ faults self.now };
+        ensures { result ≡ (state self.now).faults };
 }
 
 /// Who is told that a thread begins.

@@ -1,7 +1,7 @@
-ghost use Rattle.std.specs.Prelude.{◌≡◌, ◌↔◌, ℕ, List, IfErr, IfOk, IfSome, IsTrue, find, map, option_copied, string_bytes};
+ghost use Rattle.std.specs.Prelude.{◌≡◌, ◌↔◌, IfErr, IfOk, IfSome, IsTrue, find, map, option_copied, string_bytes};
 ghost use Rattle.std.specs.Str.{bytes_eq};
-ghost use Rattle.ada_port.specs.Ports.{CountsFetch, fetched};
-ghost use Rattle.ada_port.specs.Shelves.{fetch_fails, after_fetch, named_text, text_of};
+ghost use Rattle.ada_port.specs.Ports.{Fetches, fetched};
+ghost use Rattle.ada_port.specs.Shelves.{after_fetch, fetch_fails, named_text, one_text, text_of, texts_of};
 
 use crate::counts::raise;
 use crate::ports::{MOST_BYTES, Shelf, ShelfFault};
@@ -71,16 +71,12 @@ impl MemShelf {
 }
 
 impl Shelf for MemShelf {
-    ghost text = { λ s name. text_of s.texts name };
-
-    ghost faults = { λ s. s.faults };
+    ghost state = { texts_of };
 
     /// Fetches the text of a name. `Failed` comes exactly where the call is listed or no text has the
     /// name. Every call counts, also one that runs out of memory.
     fn fetch(&mut self, alloc: Global, name: &str) -> Result<Vec<u8>, ShelfFault>
-        ensures bytes { IfOk result (λ bytes. IfSome (text_of self.old.texts name.now) (λ told. bytes.items ≡ fetched told)) }
-        ensures told { (other : List ℕ) → text_of self.new.texts other ≡ text_of self.old.texts other }
-        ensures cause { CountsFetch self.old.faults self.new.faults result }
+        ensures fetches { Fetches (texts_of self.old) (texts_of self.new) name.now result }
 
         // The shelf in memory says more: exactly when a fetch fails, and all that the call changes.
         ensures fails { (result ≡ Err ShelfFault.Failed) ↔ IsTrue (fetch_fails self.old name.now) }
@@ -123,17 +119,11 @@ impl SureShelf {
 }
 
 impl Shelf for SureShelf {
-    ghost use Rattle.std.specs.Prelude.{Some};
-
-    ghost text = { λ s _. Some s };
-
-    ghost faults = { λ _. 0 };
+    ghost state = { one_text };
 
     /// Fetches the text. It fails for want of memory alone.
     fn fetch(&mut self, alloc: Global, name: &str) -> Result<Vec<u8>, ShelfFault>
-        ensures bytes { IfOk result (λ bytes. bytes.items ≡ fetched self.old) }
-        ensures told { List ℕ → Some self.new ≡ Some self.old }
-        ensures cause { CountsFetch 0 0 result }
+        ensures fetches { Fetches (one_text self.old) (one_text self.new) name.now result }
         ensures memory { IfErr result (λ fault. fault ≡ ShelfFault.OutOfMemory) }
         ensures same { self.new ≡ self.old }
     {

@@ -1,6 +1,6 @@
 ghost use Rattle.std.specs.Prelude.{◌≡◌, ◌↔◌, ◌+◌, ◌-◌, ◌^◌, ◌≤◌, ◌++◌, min, [], length, IfOk, IsErr, IsOk, IsTrue};
-ghost use Rattle.ada_port.specs.Ports.{Counts, Puts};
-ghost use Rattle.ada_port.specs.Sinks.{after_put, entry_of, is_too_long, passing_part, put_fails};
+ghost use Rattle.ada_port.specs.Ports.{Puts};
+ghost use Rattle.ada_port.specs.Sinks.{after_growth, after_put, entry_of, grown_of, held_of, is_too_long, passing_part, put_fails, sure_count};
 
 use crate::counts::raise;
 use crate::ports::{Failed, Sink};
@@ -91,18 +91,13 @@ impl MemSink {
 }
 
 impl Sink for MemSink {
-    ghost use Rattle.std.specs.Prelude.{Some};
-
-    ghost holds = { λ s. Some s.held };
-
-    ghost faults = { λ s. s.faults };
+    ghost state = { held_of };
 
     /// Appends a piece. `Failed` comes exactly where the call is listed or the piece doesn't fit. Of a
     /// listed piece that fits as many bytes are appended as its entry says; of one that doesn't fit
     /// none are.
     fn put(&mut self, piece: &[u8]) -> Result<(), Failed>
-        ensures bytes { Puts (Some self.old.held) (Some self.new.held) piece.now result }
-        ensures cause { Counts self.old.faults self.new.faults result }
+        ensures puts { Puts (held_of self.old) (held_of self.new) piece.now result }
 
         // The sink in memory says more: exactly when a put fails, and all that the call changes.
         ensures fails { IsErr result ↔ IsTrue (put_fails self.old piece.now) }
@@ -139,6 +134,63 @@ fn passing_part(entry: Option<SinkFail>, piece: &[u8]) -> &[u8]
     }
 }
 
+/// Output that is kept in room that grows. A put fails for want of room alone, and then appends nothing;
+/// the call that made the sink answers that as want of memory.
+#[derive(Drop)]
+pub struct HeldSink {
+    bytes: Vec<u8>,
+    failed: u64,
+}
+
+impl Model for HeldSink {
+    ghost use Rattle.ada_port.specs.Sinks.{HeldState};
+
+    ghost Value = { HeldState };
+
+    ghost view = { λ s. record { held = s.bytes.items; faults = s.failed } };
+}
+
+impl HeldSink {
+    /// An empty sink, which takes its room from this allocator.
+    pub fn new(alloc: Global) -> HeldSink
+        ensures { result ≡ record { held = []; faults = 0 } }
+    {
+        HeldSink {
+            bytes: Vec::new(alloc),
+            failed: 0,
+        }
+    }
+
+    /// The bytes that were appended so far.
+    pub fn bytes(&self) -> &[u8]
+        ensures { result.now ≡ self.now.held }
+    {
+        self.bytes.as_slice()
+    }
+}
+
+impl Sink for HeldSink {
+    ghost state = { grown_of };
+
+    /// Appends a piece. `Failed` comes where there is no memory for it, and then nothing is appended.
+    fn put(&mut self, piece: &[u8]) -> Result<(), Failed>
+        ensures puts { Puts (grown_of self.old) (grown_of self.new) piece.now result }
+        ensures state { self.new ≡ after_growth self.old piece.now result }
+    {
+        match self.bytes.extend_from_slice(piece) {
+            Ok(()) => Ok(()),
+            Err(_) => {
+                self.failed = raise(self.failed);
+                Err(Failed)
+            }
+        }
+    }
+
+    fn faults(&self) -> u64 {
+        self.failed
+    }
+}
+
 /// Output of which only the number of bytes is kept, which never fails. Contracts see that number,
 /// which stands still at the greatest u64.
 #[derive(Drop)]
@@ -171,16 +223,11 @@ impl SureSink {
 }
 
 impl Sink for SureSink {
-    ghost use Rattle.std.specs.Prelude.{None};
-
-    ghost holds = { λ _. None };
-
-    ghost faults = { λ _. 0 };
+    ghost state = { λ _. sure_count };
 
     /// Counts the bytes of a piece. It never fails.
     fn put(&mut self, piece: &[u8]) -> Result<(), Failed>
-        ensures bytes { Puts None None piece.now result }
-        ensures cause { Counts 0 0 result }
+        ensures puts { Puts sure_count sure_count piece.now result }
         ensures never { IsOk result }
         ensures count { self.new ≡ min (self.old + length piece.now) (2 ^ 64 - 1) }
     {

@@ -2,8 +2,9 @@ ghost use Rattle.std.specs.Prelude.{◌≡◌, IfOk};
 
 use crate::files::read_text;
 use crate::{
-    ErrSink, Failed, FileShelf, MemShelf, MemSink, Pulse, Quiet, Shelf, ShelfFault, ShelfText,
-    Sink, SinkFail, Source, StdSink, StreamSink, SureShelf, SureSink, SureSource,
+    ErrSink, Failed, FileShelf, HeldSink, MemShelf, MemSink, MemSource, Pulse, Quiet, Shelf,
+    ShelfFault, ShelfText, Sink, SinkFail, Source, StdSink, StdSource, StreamSink, StreamSource,
+    SureShelf, SureSink, SureSource,
 };
 use std::alloc::{AllocError, Global};
 use std::io::{ErrorKind, Read, Write};
@@ -103,6 +104,25 @@ fn source_that_is_sure_gives_each_byte_once(rt: HostRuntime) -> Result<(), Fail>
 }
 
 #[test]
+fn source_in_memory_fails_where_listed(rt: HostRuntime) -> Result<(), Fail> {
+    let alloc = rt.alloc();
+    let bytes = vec![in alloc; b'a', b'b']?;
+    let mut source = MemSource::new(bytes, vec![in alloc; 1, 1, 4, 9]?);
+    let calls = [
+        (Ok(Some(b'a')), 0),
+        (Err(Failed), 1),
+        (Ok(Some(b'b')), 1),
+        (Ok(None), 1),
+        (Err(Failed), 2),
+        (Ok(None), 2),
+    ];
+    for (call, want) in calls.into_iter().enumerate() {
+        assert_eq!(rt; next(&mut source), want, "call {call}");
+    }
+    Ok(())
+}
+
+#[test]
 fn sink_in_memory_fails_where_listed_or_full(rt: HostRuntime) -> Result<(), Fail> {
     let alloc = rt.alloc();
     let fails = vec![in alloc;
@@ -132,6 +152,15 @@ fn sink_in_memory_fails_where_listed_or_full(rt: HostRuntime) -> Result<(), Fail
         assert_eq!(rt; sink.bytes(), held.as_bytes());
     }
     Ok(())
+}
+
+#[test]
+fn sink_that_grows_keeps_all(rt: HostRuntime) {
+    let mut sink = HeldSink::new(rt.alloc());
+    for (piece, held) in [("ab", "ab"), ("", "ab"), ("c", "abc")] {
+        assert_eq!(rt; put(&mut sink, piece), (Ok(()), 0));
+        assert_eq!(rt; sink.bytes(), held.as_bytes());
+    }
 }
 
 #[test]
@@ -169,6 +198,13 @@ fn shelf_of_files_reads_what_was_written(rt: HostRuntime) -> Result<(), Fail> {
     }
     fs::remove_file(&rt, path.as_str())?;
     Ok(())
+}
+
+// A test is run on empty input.
+#[test]
+fn standard_input_is_asked(rt: HostRuntime) {
+    let mut source = StdSource::new(rt.stdin());
+    assert_eq!(rt; next(&mut source), (Ok(None), 0));
 }
 
 #[test]
@@ -237,6 +273,49 @@ fn reading_ends_as_the_reader_does(rt: HostRuntime) {
         let mut reader = Halting { left: 3, halt };
         let answer = read_text(&mut reader, rt.alloc()).map(|text| text.len());
         assert_eq!(rt; answer, want);
+    }
+}
+
+#[test]
+fn source_over_a_reader_fails_where_it_does(rt: HostRuntime) {
+    let cases = [
+        (Ok(0), Ok(None), 0),
+        (Err(ErrorKind::BrokenPipe), Err(Failed), 2),
+    ];
+    for (halt, last, faults) in cases {
+        let mut source = StreamSource::new(Halting { left: 3, halt });
+        for _ in 0..3 {
+            assert_eq!(rt; next(&mut source), (Ok(Some(b'x')), 0));
+        }
+        let (first, _) = next(&mut source);
+        assert_eq!(rt; first, last);
+        assert_eq!(rt; next(&mut source), (last, faults));
+    }
+}
+
+// Gives two bytes at a time, so often.
+#[derive(Drop)]
+struct Pairs {
+    left: usize,
+}
+
+impl Read for Pairs {
+    fn read(&mut self, buf: &mut [u8]) -> io::Result<usize> {
+        if self.left == 0 || buf.len() < 2 {
+            return Ok(0);
+        }
+        self.left -= 1;
+        buf[0] = b'a';
+        buf[1] = b'b';
+        Ok(2)
+    }
+}
+
+#[test]
+fn source_over_a_reader_gives_each_byte_in_order(rt: HostRuntime) {
+    let mut source = StreamSource::new(Pairs { left: 2 });
+    for want in [Some(b'a'), Some(b'b'), Some(b'a'), Some(b'b'), None] {
+        assert_eq!(rt; next(&mut source), (Ok(want), 0));
     }
 }
 

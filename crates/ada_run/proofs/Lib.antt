@@ -1,6 +1,4 @@
+pub mod Phases
 pub mod Exact
-pub mod Gathering
-pub mod Options
-pub mod Ranges
-pub mod Running
-pub mod Verdicts
+pub mod Steps
+mod Leavings

@@ -1,94 +1,85 @@
--- The answers of compile.
-use Rattle.std.specs.Prelude.{◌≡◌, ℕ, List, [], ◌∷◌, ◌++◌, ◌==◌, if◌then◌else◌, codes, decimal, Option, Some, None, ⊤, slice_get}
-use Rattle.ada_base.specs.declared.place.Place.{Place}
-use Rattle.ada_base.specs.declared.token.Kind.{Kind}
-use Rattle.ada_base.specs.declared.token.Kind.TheVariants as kind'
-use Rattle.ada_base.specs.Place.{place_at}
-use Rattle.ada_tree.specs.Words.{words, marks}
-use Rattle.ada_tree.specs.Faults.Fault.{TooManyBytes, NoCharacter, NoToken, TooWide, TooManyTokens}
-use Rattle.first_form.specs.Accepted.{Fault, Lexical, Syntax, LeftOut, TooDeep, NotBuilt, UnknownName, IsFaultOf}
-use Rattle.ada_run.specs.declared.refusal.Note.{Note}
-use Rattle.ada_run.specs.declared.refusal.Note.TheVariants as note
+-- What a text is compiled to, phase by phase, and the answers of compile.
+use Rattle.std.specs.Prelude.{◌≡◌, ◌⊎◌, ⊤, ℕ, List, Option, Some, None, Result, Ok, Err}
+use Rattle.ada_base.specs.Tokens.{Tokenized}
+use Rattle.ada_lexer.specs.Lexed.{AreLexed}
+use Rattle.ada_tree.specs.Faults.{Fault, IsFirstFault}
+use Rattle.ada_tree.specs.Parsed.{IsParsed, IsSyntaxFault, IsTooDeep}
+use Rattle.ada_tree.specs.Syntax as syntax
+use Rattle.first_form.specs.Forming.{program_at}
+use Rattle.first_form.specs.Program.{Program, first_undeclared}
+use Rattle.first_form.specs.declared.program.Letter.{Letter}
+use Rattle.ada_run.specs.Complaints.{Complaint, lexical, unexpected, too_deep, not_built, unknown_name}
+use Rattle.ada_run.specs.Notes.{code_of}
+use Rattle.ada_run.specs.Phases.{Phase, followed, by_function}
+use Rattle.ada_run.specs.declared.compiler.Unit.{Unit}
 use Rattle.ada_run.specs.declared.refusal.Refusal.{Refusal}
 use Rattle.ada_run.specs.declared.refusal.Refusal.TheVariants.{Refused, OutOfMemory}
 
--- the first place of a text
-abbrev pub beginning : Place
-beginning = record { line = 1; column = 1 }
+-- from a text to its tokens, within the limits of both; wrong is its first lexical fault (2.2)
+abbrev pub lexing : Phase (List ℕ) Tokenized Complaint
+lexing = record {
+    right = AreLexed;
+    wrong = λ text c. (fault : Fault) × IsFirstFault text fault × (c ≡ lexical text fault);
+  }
 
--- the code and the number of a note, and the kind of token that it names
-abbrev pub code_of : Note → ℕ
-code_of note.NotUtf8 = 1
-code_of note.NoToken = 2
-code_of note.Syntax = 3
-code_of (note.LeftOut kind) = 4
-code_of note.UnknownName = 5
-code_of note.LimitPassed = 12
-code_of note.NotBuilt = 13
+-- from tokens to their tree within the limit of depth; wrong is the first fault or the first token that stands too deep,
+-- whichever comes first (Annex P)
+abbrev pub parsing : Phase Tokenized syntax.Program Complaint
+parsing = record {
+    right = λ t program. IsParsed t.items program;
+    wrong = λ t c. ((token : ℕ) × IsSyntaxFault t.items token × (c ≡ unexpected t token))
+        ⊎ ((token : ℕ) × IsTooDeep t.items token × (c ≡ too_deep t token));
+  }
 
-abbrev pub number_of : Note → ℕ
-number_of note.NotUtf8 = 1
-number_of note.NoToken = 2
-number_of note.Syntax = 3
-number_of (note.LeftOut kind) = 4
-number_of note.UnknownName = 5
-number_of note.LimitPassed = 18
-number_of note.NotBuilt = 19
+-- each variable that a program of the first form uses is declared (8.3)
+abbrev pub named : Tokenized → Program → Option Letter → Result Program Complaint
+named t program None = Ok program
+named t program (Some letter) = Err (unknown_name t letter.token)
 
-abbrev pub kind_of : Note → Option Kind
-kind_of (note.LeftOut kind) = Some kind
-kind_of _ = None
+abbrev pub formed : Tokenized → Option Program → Result Program Complaint
+formed t None = Err not_built
+formed t (Some program) = named t program (first_undeclared program)
 
-abbrev pub refusal_with : Note → Place → Refusal
-refusal_with note place = Refused (code_of note) place None (number_of note) (kind_of note)
+-- from a tree to its program: wrong is another form than the first, or a name without a declaration
+abbrev pub forming : Tokenized → Phase syntax.Program Program Complaint
+forming t = by_function (λ tree. formed t (program_at t tree))
 
--- The note and the place of a text's fault. The place of a byte at which no character begins counts the lines and
--- characters before it; a text with too many bytes, or of a form that isn't built, is blamed at its beginning.
-abbrev pub refusal_of : List ℕ → Fault → Refusal
-refusal_of text (Lexical (TooManyBytes bytes)) = refusal_with note.LimitPassed beginning
-refusal_of text (Lexical (NoCharacter at)) = refusal_with note.NotUtf8 (place_at text at)
-refusal_of text (Lexical (NoToken place)) = refusal_with note.NoToken place
-refusal_of text (Lexical (TooWide place)) = refusal_with note.LimitPassed place
-refusal_of text (Lexical (TooManyTokens count place)) = refusal_with note.LimitPassed place
-refusal_of text (Syntax place) = refusal_with note.Syntax place
-refusal_of text (LeftOut kind place) = refusal_with (note.LeftOut kind) place
-refusal_of text (TooDeep place) = refusal_with note.LimitPassed place
-refusal_of text NotBuilt = refusal_with note.NotBuilt beginning
-refusal_of text (UnknownName place) = refusal_with note.UnknownName place
+-- all of it
+abbrev pub reading : Phase Tokenized Program Complaint
+reading = followed parsing forming
 
--- a refusal of the text: that of its fault, or want of memory
+abbrev pub compiling : Phase (List ℕ) Program Complaint
+compiling = followed lexing (λ text. reading)
+
+-- a text that is accepted, with its program, and the fault of one that isn't
+abbrev pub IsAccepted : List ℕ → Program → Type 0
+IsAccepted text program = compiling.right text program
+
+abbrev pub IsFaultOf : List ℕ → Complaint → Type 0
+IsFaultOf text fault = compiling.wrong text fault
+
+abbrev pub refusal_of : Complaint → Refusal
+refusal_of c = Refused (code_of c.note) c.at c.other c.note c.left_out
+
+-- a refusal for a fault of what a phase is given, or for want of memory
+abbrev pub IsRefusal : {A B : Type 0} → Phase A B Complaint → A → Refusal → Type 0
+IsRefusal p a OutOfMemory = ⊤
+IsRefusal p a (Refused code at other note left_out) = (c : Complaint) × p.wrong a c × (Refused code at other note left_out ≡ refusal_of c)
+
+-- the answer of a phase: its result, as see has it, or a refusal
+abbrev pub Decides : {A B X : Type 0} → Phase A B Complaint → (X → B) → A → Result X Refusal → Type 0
+Decides p see a (Ok x) = p.right a (see x)
+Decides p see a (Err refusal) = IsRefusal p a refusal
+
 abbrev pub IsRefusalOf : List ℕ → Refusal → Type 0
-IsRefusalOf text OutOfMemory = ⊤
-IsRefusalOf text (Refused code at other note left_out) =
-    (fault : Fault) × IsFaultOf text fault × (Refused code at other note left_out ≡ refusal_of text fault)
+IsRefusalOf text refusal = IsRefusal compiling text refusal
 
--- a kind of token that is left out: the word in lower case, the mark, or the kind of literal
-abbrev pub spelled : Option (List ℕ) → List ℕ
-spelled None = []
-spelled (Some text) = text
+-- the result is this program, unless memory ran out
+abbrev pub GivesProgram : Result Unit Refusal → Program → Type 0
+GivesProgram (Ok unit) program = unit.program ≡ program
+GivesProgram (Err refusal) program = refusal ≡ OutOfMemory
 
-abbrev pub left_out_text : Kind → List ℕ
-left_out_text (kind'.Word n) = spelled (slice_get words n)
-left_out_text (kind'.Mark n) = spelled (slice_get marks n)
-left_out_text kind'.Real = codes "real literal"
-left_out_text _ = codes "character literal"
-
--- the text of a note
-abbrev pub note_text : ℕ → Option Kind → List ℕ
-note_text note (Some kind) = codes "E04 left out: " ++ left_out_text kind
-note_text note None =
-    if note == 1 then codes "E01 text is not UTF-8"
-    else (if note == 2 then codes "E02 no token begins here"
-    else (if note == 3 then codes "E03 syntax"
-    else (if note == 5 then codes "E05 unknown name"
-    else (if note == 18 then codes "E12 limit passed"
-    else codes "E13 not built yet"))))
-
--- what is said of a fault at a place in this file, and of a refusal of the text in it
-abbrev pub refused_line : List ℕ → Place → ℕ → Option Kind → List ℕ
-refused_line file at note left_out =
-    file ++ (58 ∷ (decimal at.line ++ (58 ∷ (decimal at.column ++ (codes ": " ++ note_text note left_out)))))
-
-abbrev pub line_of : List ℕ → Refusal → List ℕ
-line_of file (Refused code at other note left_out) = refused_line file at note left_out
-line_of file OutOfMemory = codes "out of memory"
+-- the result is this refusal, unless memory ran out
+abbrev pub GivesRefusal : Result Unit Refusal → Refusal → Type 0
+GivesRefusal (Ok unit) due = ⊥
+GivesRefusal (Err refusal) due = (refusal ≡ OutOfMemory) ⊎ (refusal ≡ due)

@@ -3,22 +3,22 @@
 ghost use Rattle.std.specs.Prelude.{◌≡◌, ◌≤◌, ℕ, List, take, Err, IfOk, IfErr, length};
 ghost use Rattle.std.specs.Str.{IsUtf8};
 ghost use Rattle.ada_base.specs.Place.{place_at};
-ghost use Rattle.ada_base.specs.Tokens.{place_of_token};
 ghost use Rattle.ada_tree.specs.Faults.{byte_limit};
 ghost use Rattle.ada_grammar.specs.Parsed.{Parsed};
 ghost use Rattle.ada_lexer.specs.Lexed.{Tells};
-ghost use Rattle.first_form.specs.Accepted.{IsAccepted, IsLexed, IsRead};
 ghost use Rattle.first_form.specs.Program.{Program};
-ghost use Rattle.ada_run.specs.Compile.{IsRefusalOf};
+ghost use Rattle.tree_views.specs.Trees.{program_of};
+ghost use Rattle.ada_run.specs.Complaints.{Complaint};
+ghost use Rattle.ada_run.specs.Compile.{Decides, IsRefusal, lexing, parsing, forming, reading, compiling, refusal_of, IsAccepted, IsFaultOf, IsRefusalOf, GivesProgram, GivesRefusal};
 
-use crate::refusal::{Note, Refusal};
-use crate::walk::{Unbuilt, first_form, first_undeclared, kind_of};
+use crate::note::Note;
+use crate::refusal::Refusal;
 use ada_base::{Place, Tokens, place_of};
 use ada_grammar::{ParseFault, parse};
 use ada_lexer::{LexFault, lex};
-use first_form::FirstForm;
-use ada_tree::Tree;
+use first_form::{FirstForm, NoForm, first_form, first_undeclared};
 use std::alloc::Global;
+use tree_views::Tree;
 
 /// What a text is compiled to: so far its program.
 #[derive(Debug, Drop)]
@@ -28,92 +28,101 @@ pub struct Unit {
 
 const BEGINNING: Place = Place { line: 1, column: 1 };
 
-/// Compiles a text. A text that isn't accepted is refused by its one fault: its first lexical fault (`E01`,
-/// `E02`, `E12`); else its first syntax fault, at a token that the language leaves out (`E04`) or at another
-/// (`E03`), or the first token that stands deeper than 64 (`E12`), whichever comes first; else `E13 not
-/// built yet`, at the text's beginning, where it isn't of the first form; and else `E05 unknown name` at the
-/// first variable whose letter isn't declared.
+/// Compiles a text, which is given by its bytes. A text that isn't accepted is refused by its one fault: its first
+/// lexical fault (`E01`, `E02`, `E12`); else its first syntax fault, at a token that the language leaves out (`E04`) or
+/// at another (`E03`), or the first token that stands deeper than 64 (`E12`), whichever comes first; else `E13 not built
+/// yet`, at the text's beginning, where it isn't of the first form; and else `E05 unknown name` at the first variable
+/// whose letter isn't declared. An accepted text gets its unit, and every fault of a text its refusal, unless memory
+/// runs out.
 pub fn compile(alloc: Global, text: &[u8]) -> Result<Unit, Refusal>
     ensures accepted { IfOk result (λ unit. IsAccepted text.now unit.program) }
     ensures refused { IfErr result (IsRefusalOf text.now) }
+    ensures all_accepted { (program : Program) → IsAccepted text.now program → GivesProgram result program }
+    ensures all_refused { (fault : Complaint) → IsFaultOf text.now fault → GivesRefusal result (refusal_of fault) }
+{
+    compiled(alloc, text)
+}
+
+fn compiled(alloc: Global, text: &[u8]) -> Result<Unit, Refusal>
+    ensures { Decides compiling (λ unit. unit.program) text.now result }
+{
+    match tokens_of(alloc, text) {
+        Ok(tokens) => unit_of(alloc, &tokens),
+        Err(refusal) => Err(refusal),
+    }
+}
+
+fn unit_of(alloc: Global, tokens: &Tokens) -> Result<Unit, Refusal>
+    ensures { Decides reading (λ unit. unit.program) tokens.now result }
+{
+    let tree = match tree_of(alloc, tokens) {
+        Ok(tree) => tree,
+        Err(refusal) => return Err(refusal),
+    };
+    match program_of(alloc, tokens, &tree) {
+        Ok(program) => Ok(Unit { program }),
+        Err(refusal) => Err(refusal),
+    }
+}
+
+fn tokens_of(alloc: Global, text: &[u8]) -> Result<Tokens, Refusal>
+    ensures { Decides lexing (λ tokens. tokens) text.now result }
 {
     match lex(alloc, text) {
-        Ok(tokens) => compile_tokens(alloc, &tokens),
+        Ok(tokens) => Ok(tokens),
         Err(fault) => Err(lexical_refusal(text, fault)),
     }
 }
 
-/// Compiles a text that has tokens.
-fn compile_tokens(alloc: Global, tokens: &Tokens) -> Result<Unit, Refusal>
-    requires { IsLexed tokens.now.text tokens.now.items }
-    ensures accepted { IfOk result (λ unit. IsAccepted tokens.now.text unit.program) }
-    ensures refused { IfErr result (IsRefusalOf tokens.now.text) }
+fn tree_of(alloc: Global, tokens: &Tokens) -> Result<Tree, Refusal>
+    ensures { Decides parsing program_of tokens.now result }
 {
     match parse(alloc, tokens) {
-        Ok(tree) => compile_tree(alloc, tokens, &tree),
+        Ok(tree) => Ok(tree),
         Err(fault) => Err(syntax_refusal(tokens, fault)),
     }
 }
 
-/// Compiles a text that has a tree.
-fn compile_tree(alloc: Global, tokens: &Tokens, tree: &Tree) -> Result<Unit, Refusal>
-    requires { IsRead tokens.now.text tokens.now.items tree.now }
-    ensures accepted { IfOk result (λ unit. IsAccepted tokens.now.text unit.program) }
-    ensures refused { IfErr result (IsRefusalOf tokens.now.text) }
+fn program_of(alloc: Global, tokens: &Tokens, tree: &Tree) -> Result<FirstForm, Refusal>
+    ensures { Decides (forming tokens.now) (λ program. program) (program_of tree.now) result }
 {
     let program = match first_form(alloc, tokens, tree) {
         Ok(program) => program,
-        Err(Unbuilt::OtherForm) => return Err(Note::NotBuilt.refusal(BEGINNING)),
-        Err(Unbuilt::OutOfMemory) => return Err(Refusal::OutOfMemory),
+        Err(NoForm::OtherForm) => return Err(Refusal::of(Note::NotBuilt, BEGINNING)),
+        Err(NoForm::OutOfMemory) => return Err(Refusal::OutOfMemory),
     };
     match first_undeclared(&program) {
-        Some(variable) => {
-            let at = place_of_token(tokens, variable.token);
-            Err(Note::UnknownName.refusal(at))
-        }
-        None => Ok(Unit { program }),
+        Some(variable) => Err(Refusal::of(Note::UnknownName, tokens.place(variable.token))),
+        None => Ok(program),
     }
 }
 
 /// The refusal of a text for its first syntax fault, or for the first token that stands too deep.
 fn syntax_refusal(tokens: &Tokens, fault: ParseFault) -> Refusal
-    requires lexed { IsLexed tokens.now.text tokens.now.items }
-    requires faults { Parsed tokens.now.items (Err fault) }
-    ensures { IsRefusalOf tokens.now.text result }
+    requires { Parsed tokens.now.items (Err fault) }
+    ensures { IsRefusal parsing tokens.now result }
 {
     match fault {
         ParseFault::LeftOut { token } => {
-            let kind = kind_of(tokens, token);
-            Note::LeftOut(kind).refusal(place_of_token(tokens, token))
+            Refusal::of_left_out(tokens.kind(token), tokens.place(token))
         }
-        ParseFault::Unexpected { token } => Note::Syntax.refusal(place_of_token(tokens, token)),
-        ParseFault::TooDeep { token } => Note::LimitPassed.refusal(place_of_token(tokens, token)),
+        ParseFault::Unexpected { token } => Refusal::of(Note::Syntax, tokens.place(token)),
+        ParseFault::TooDeep { token } => Refusal::of(Note::LimitPassed, tokens.place(token)),
         ParseFault::OutOfMemory => Refusal::OutOfMemory,
-    }
-}
-
-/// The place of a token, or of the text's beginning where there is none with this number.
-fn place_of_token(tokens: &Tokens, token: u32) -> Place
-    ensures { result ≡ place_of_token tokens.now token }
-{
-    if (token as usize) < tokens.items().len() {
-        tokens.place(token)
-    } else {
-        BEGINNING
     }
 }
 
 /// The refusal of a text for its first lexical fault.
 fn lexical_refusal(text: &[u8], fault: LexFault) -> Refusal
     requires { Tells text.now fault }
-    ensures { IsRefusalOf text.now result }
+    ensures { IsRefusal lexing text.now result }
 {
     match fault {
-        LexFault::TooBig { bytes: _bytes } => Note::LimitPassed.refusal(BEGINNING),
-        LexFault::NotUtf8 { at } => Note::NotUtf8.refusal(place_of_byte(text, at as usize)),
-        LexFault::BadToken { at } => Note::NoToken.refusal(at),
-        LexFault::WideLiteral { at } => Note::LimitPassed.refusal(at),
-        LexFault::TooLong { count: _count, at } => Note::LimitPassed.refusal(at),
+        LexFault::TooBig { bytes: _bytes } => Refusal::of(Note::LimitPassed, BEGINNING),
+        LexFault::NotUtf8 { at } => Refusal::of(Note::NotUtf8, place_of_byte(text, at as usize)),
+        LexFault::BadToken { at } => Refusal::of(Note::NoToken, at),
+        LexFault::WideLiteral { at } => Refusal::of(Note::LimitPassed, at),
+        LexFault::TooLong { count: _count, at } => Refusal::of(Note::LimitPassed, at),
         LexFault::OutOfMemory => Refusal::OutOfMemory,
     }
 }
@@ -131,7 +140,9 @@ fn place_of_byte(text: &[u8], at: usize) -> Place
     }
 }
 
-/// A text has at most one program.
-pub fn one_program()
-    ensures { (text : List ℕ) (p q : Program) → IsAccepted text p → IsAccepted text q → p ≡ q }
+/// A text has at most one program, at most one fault, and not both.
+pub fn one_answer()
+    ensures program { (text : List ℕ) (p q : Program) → IsAccepted text p → IsAccepted text q → p ≡ q }
+    ensures fault { (text : List ℕ) (f g : Complaint) → IsFaultOf text f → IsFaultOf text g → f ≡ g }
+    ensures not_both { (text : List ℕ) (p : Program) (f : Complaint) → IsAccepted text p → IsFaultOf text f → ⊥ }
 {}

@@ -2,10 +2,12 @@
 #![tactic(auto)]
 
 mod compiler;
+mod note;
 mod refusal;
 mod runner;
-mod walk;
 
-pub use compiler::{Unit, compile, one_program};
+pub use compiler::{Unit, compile, one_answer};
+pub use first_form::RunEnd;
+pub use note::Note;
 pub use refusal::Refusal;
-pub use runner::{RunEnd, execute};
+pub use runner::execute;

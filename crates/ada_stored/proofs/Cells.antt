@@ -10,7 +10,7 @@ use Rattle.ada_stored.specs.declared.slots.Slot.{Slot}
 use Rattle.ada_stored.specs.Stored.{slot_at, key, filled}
 use Rattle.behaviours.proofs.Shuffle.{instance_same}
 
--- ---- slots
+-- slots
 
 pub slot_bound : (slots : List Slot) (k : ℕ) (x : Slot) → k < length slots → slot_at (set slots k x) k ≡ x
 slot_bound [] k x lt = absurd (omega arith)
@@ -24,7 +24,7 @@ slot_other (y ∷ slots) zero (suc j) x ne = refl
 slot_other (y ∷ slots) (suc k) zero x ne = refl
 slot_other (y ∷ slots) (suc k) (suc j) x ne = slot_other slots k j x (λ e. ne (ap suc e))
 
--- ---- keys
+-- keys
 
 pub entity_same : (x y : Entity) → entity_eq x y ≡ true → x ≡ y
 entity_same (VariableOf x) (VariableOf y) e = ap VariableOf (eqb-true x y e)
@@ -38,7 +38,7 @@ key_other (VariableOf x) (ConstantOf y) e k = omega arith
 key_other (ConstantOf x) (VariableOf y) e k = omega arith
 key_other (ConstantOf x) (ConstantOf y) e k = eqb-false x y e (omega arith)
 
--- ---- lists
+-- lists
 
 pub some_same : {A : Type 0} (x y : A) → ◌≡◌ {A = Option A} (Some x) (Some y) → x ≡ y
 some_same x y e = cc
@@ -75,7 +75,7 @@ get_within [] i lt = absurd (omega arith)
 get_within (x ∷ xs) zero lt = (x, refl)
 get_within (x ∷ xs) (suc i) lt = get_within xs i (omega arith)
 
--- ---- memories
+-- memories
 
 name_refl : (n : List ℕ) → name_eq n n ≡ true
 name_refl [] = refl
@@ -114,7 +114,7 @@ put_all_in (w ∷ vs) m x j (suc i) v e =
     ap ((put_all (put m x j w) x (suc j) vs).cells x) (let h : j + suc i ≡ suc j + i = omega arith in h)
     ∙ put_all_in vs (put m x j w) x (suc j) i v e
 
--- ---- values of a variable at the end
+-- values of a variable at the end
 
 pub filled_values : (n : ℕ) (vs : List ℤ) (m : Memory) (x : Instance) (j : ℕ) → ((i : ℕ) → get_or vs i (pos 0) ≡ m.cells x (j + i)) → filled n vs ≡ values m x j n
 filled_values zero vs m x j h = refl

@@ -44,7 +44,7 @@ module _ {A B : Type 0} (m : Stored A) (k : A → Stored B) where
   unfolding bind
   then_continues s t a h = record { same = next_of s (at t (Ok a)) h; stops = λ f u g. inr (inr (subst (λ (z : After A). next_halts z.state z.end k f u) (sym h) g)) }
 
--- ---- loops
+-- loops
 
 pub continues_refl : {A : Type 0} (m : Stored A) (s : State) → Continues m s m s
 continues_refl m s = record { same = refl; stops = λ f t h. h }
@@ -66,7 +66,7 @@ through_more i n a f lt =
 pub through_done : {A : Type 0} (i n : ℕ) (a : A) (f : ℕ → A → Stored A) → n ≤ i → through doings i (n - i) a f ≡ ret a
 through_done i n a f le = ap (λ z. through doings i z a f) (let h : n - i ≡ 0 = omega arith in h)
 
--- ---- ways to be left
+-- ways to be left
 
 module _ {A : Type 0} (m : Stored A) (takes : Leave → Bool) (h : Leave → Stored A) where
   handled_of : (s : State) (r : After A) → m.does s ≡ r → (handles m takes h).does s ≡ handled r.state r.end takes h
@@ -93,7 +93,7 @@ module _ {A : Type 0} (m : Stored A) (takes : Leave → Bool) (h : Leave → Sto
   not_handled_computes s t (Err (Goes NoRoom)) e k = handled_of s (at t (Err NoRoom)) e
   not_handled_computes s t (Err (Fails f)) e k = inr (inl e)
 
--- ---- parts between two changes of the state, of which the second comes however they end
+-- parts between two changes of the state, of which the second comes however they end
 
 module _ {A : Type 0} (region : Region) (x : Entity) (vs : List ℤ) (m : Stored A) (s : State) (room : has_room region x s ≡ true) where
   elaborated_of : (t : State) (e : Result A Cause) → m.does (begun region x vs s) ≡ at t e → (elaborates region x vs m).does s ≡ at (ended region x s t) e

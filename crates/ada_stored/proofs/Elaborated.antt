@@ -179,7 +179,7 @@ module _ (input : List ℕ) (b : Bool) (ls gs : List Tie) (s : State) (p : Path 
       go (Kept a) w e = e
       go (Stacked a) w e = e
 
--- ---- what is visible
+-- what is visible
 
 -- after such a part the slots are what they were before
 pub same_ended : (region : Region) (x : Entity) (vs : List ℤ) (s u : State) → has_room region x s ≡ true → Same (begun region x vs s) u → Same s (ended region x s u)

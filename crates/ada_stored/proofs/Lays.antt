@@ -14,7 +14,7 @@ use Rattle.ada_meaning.proofs.Ties.{Future, Goes}
 use Rattle.behaviours.proofs.Shuffle.{instance_same}
 use Rattle.ada_stored.proofs.Cells.{instance_refl, get_left, get_take, get_set_same, get_set_other, put_same, put_elsewhere, filled_values, part_values}
 
--- ---- where instances are
+-- where instances are
 
 pub record Tie : Type 0 where
   pub instance : Instance
@@ -98,7 +98,7 @@ module _ (input : List ℕ) where
     pub bytes : m.input ≡ input_of input
     pub declared : Matches gs p.globals s.declared
 
-  -- ---- the values of the main procedure's variables
+  -- the values of the main procedure's variables
 
   module _ (b : Bool) (ls gs : List Tie) (s : State) (p : Path Instance) (m : Memory) (h : Has b ls gs s p m) (program : Program) where
     values_right : (x : Instance) (d : Variable) (n : ℕ) → In (tie_of x d) gs → filled n (take d.cells (drop d.address s.kept)) ≡ values m x 0 n
@@ -121,7 +121,7 @@ module _ (input : List ℕ) where
     pub finals_right : finals_of program s.kept s.declared ≡ finals program m p.globals
     finals_right = finals_match p.globals s.declared h.declared
 
--- ---- what is visible
+-- what is visible
 
 abbrev pub Seen : List Tie → Bool → Bool → Option (Extent Instance) → Slot → Type 0
 Seen w kept v None slot = v ≡ false
@@ -181,7 +181,7 @@ found ls gs s t x i v = go (nat_eq (slot_at s.here (key x)).frame s.frame) (nat_
     go a b (Some y) q e f = subst (λ z. Found ls gs i (cond z (within Stacked (slot_at s.here (key x)) i) (cond b (within Kept (slot_at s.everywhere (key x)) i) None)) (within_extent i (Some y))) (sym e.0)
         (found_in ls gs i Stacked (slot_at s.here (key x)) y (record { instance = y.instance; kept = false; base = (slot_at s.here (key x)).address; cells = y.cells }) (inl e.2) refl refl refl e.1)
 
--- ---- places
+-- places
 
 kept_inj : (a b : ℕ) → ◌≡◌ {A = Place} (Kept a) (Kept b) → a ≡ b
 kept_inj a b e = cc
@@ -250,7 +250,7 @@ cell_more Here x vs s (Stacked a) w e = get_left s.cells vs a w e
 cell_more Everywhere x vs s (Kept a) w e = get_left s.kept vs a w e
 cell_more Everywhere x vs s (Stacked a) w e = e
 
--- ---- steps
+-- steps
 
 module _ (input : List ℕ) (b : Bool) (ls gs : List Tie) (s : State) (p : Path Instance) (m : Memory) (h : Has input b ls gs s p m) where
   -- nothing is written

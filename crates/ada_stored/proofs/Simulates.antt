@@ -83,7 +83,7 @@ module _ (input : List ℕ) where
     pub does : (ls gs : List Tie) (s : State) (t : Scope Instance) (p : Path Instance) (n : Memory) → Visible ls gs s t → Has input b ls gs s p n → s.turns ≡ p.turns → Came b ls gs s p n (g.runs t p) (m.does s)
     pub halts : (ls gs : List Tie) (s : State) (t : Scope Instance) (p : Path Instance) (n : Memory) → Visible ls gs s t → Has input b ls gs s p n → s.turns ≡ p.turns → (f : Fault) (u : State) → m.halts s f u → Halted b s p n (g.runs t p) f u
 
-  -- ---- runs put together
+  -- runs put together
 
   module _ (b : Bool) (ls gs : List Tie) (s : State) (p : Path Instance) (m : Memory) where
     -- nothing was done
@@ -189,7 +189,7 @@ module _ (input : List ℕ) where
     within = λ e. let w = h.within e in let i = inner e in (w.0, w.1 ∙ i.0, w.2 ∙ i.1);
   }
 
-  -- ---- what is done at once
+  -- what is done at once
 
   -- it may stop only before it begins
   pub simulates_at : {A : Type 0} (b : Bool) (m : Stored A) (g : Behaviour Instance A) → ((s : State) (f : Fault) (u : State) → m.halts s f u → ⊥) → ((t : Scope Instance) (p : Path Instance) → g.runs t p [] false p Stopped)
@@ -276,7 +276,7 @@ module _ (input : List ℕ) where
       }
       go ls gs s t p n h e false le = came_at b ls gs s p n ((Behaviours.turn limit).runs t p) (Err OutOfTurns) h e (inr (let k = ltb-false s.turns limit le in omega arith, (refl, inl (refl, refl, inl refl))))
 
-  -- ---- cells
+  -- cells
 
   where_stops : {A : Type 0} (f : Instance → Behaviour Instance A) → ((x : Instance) (t : Scope Instance) (p : Path Instance) → (f x).runs t p [] false p Stopped) → (x : Option Instance) (t : Scope Instance) (p : Path Instance) → (Behaviours.where_found f x).runs t p [] false p Stopped
   where_stops f h None t p = (refl, inr (refl, refl, refl))
@@ -325,7 +325,7 @@ module _ (input : List ℕ) where
           put_other_instance : (m : Memory) (x y : Instance) (i j : ℕ) (v : ℤ) → (x ≡ y → ⊥) → (put m x i v).cells y j ≡ m.cells y j
           put_other_instance m x y i j v ne = put_elsewhere m x y i j v (λ e f. ne f)
 
-  -- ---- output and input, where they are allowed
+  -- output and input, where they are allowed
 
   pub puts_simulates : (b : Bool) → b ≡ true → (piece : List ℕ) → Simulates b (Stored.puts piece) (Behaviours.emits (Puts piece))
   unfolding Stored.puts
@@ -434,7 +434,7 @@ module _ (input : List ℕ) where
             within = λ k. absurd (true≢false (sym o ∙ k));
           }))
 
-  -- ---- one thing and then another
+  -- one thing and then another
 
   pub bind_simulates : {A B : Type 0} (b : Bool) (m : Stored A) (g : Behaviour Instance A) (k : A → Stored B) (l : A → Behaviour Instance B) → Simulates b m g → ((a : A) → Simulates b (k a) (l a)) → Simulates b (Stored.bind m k) (Behaviours.◌>>=◌ g l)
   unfolding Stored.bind
@@ -510,7 +510,7 @@ module _ (input : List ℕ) where
               (halted_stops b (k x) (l x) (rest x) ls d.ties r.state t d.path (after n d.trace) (visible_same ls gs d.ties s r.state t d.grows d.same v) d.has d.turns f u c)
           choose false is c = absurd c
 
-  -- ---- frames and elaborations
+  -- frames and elaborations
 
   pub apart_simulates : {A : Type 0} (b : Bool) (m : Stored A) (g : Behaviour Instance A) → Simulates b m g → Simulates b (Stored.apart m) (Behaviours.apart g)
   unfolding Stored.apart

@@ -12,7 +12,7 @@ use Rattle.behaviours.specs.Paths.{Leave, Exits, Returns, Raises, Everywhere, In
 use Rattle.behaviours.specs.Events.{Trace, Takes, Puts, output_of}
 use Rattle.behaviours.specs.Memory.{after, empty}
 use Rattle.behaviours.specs.Joins.{Share, deal}
-use Rattle.behaviours.specs.Behaviours.{Behaviour, Asks, asks_apart}
+use Rattle.behaviours.specs.Behaviours.{Behaviour, Asks, asks_at_once}
 use Rattle.ada_meaning.specs.Values.{result, divides, overflows, is_zero, value_or_zero}
 use Rattle.ada_meaning.specs.Operations.{ZeroCheck, OverflowCheck, Cut, ByPlan, Sized, chunk_of, Operations, reduce, zero_checked, overflow_checked, operate}
 use Rattle.ada_meaning.specs.Meaning
@@ -86,7 +86,7 @@ module _ (input : List ℕ) (asks : Asks Instance) (limit : ℕ) (cuts : ℕ →
     combines initial [] f g r = gives initial
     combines initial (a ∷ more) f g r = goes_onto a more f g r
 
-  -- ---- constructs
+  -- constructs
 
   same_sizes : (cut : Cut) → Stored.sizes_of limit cuts cut ≡ Runs.sizes_of Instance this anything asks limit cuts one cut
   same_sizes (ByPlan most n) = refl
@@ -157,7 +157,7 @@ module _ (input : List ℕ) (asks : Asks Instance) (limit : ℕ) (cuts : ℕ →
   unfolding simulates
   program_simulates program keeps = Induction.main simulates limit program keeps true refl
 
--- ---- programs
+-- programs
 
 slot_none : (slots k : ℕ) → slot_at (replicate slots no_slot) k ≡ no_slot
 slot_none zero k = refl
@@ -232,7 +232,7 @@ module _ (program : Program) (set : Setting) (slots : ℕ) (input before : List 
   from tr y p e = (behaviour program set).runs nothing_visible start tr y p e
 
   sim : Simulates input true (stored program set) (behaviour program set)
-  sim = program_simulates input asks_apart set.limit (cuts_of set.plan) set.one program keeps
+  sim = program_simulates input asks_at_once set.limit (cuts_of set.plan) set.one program keeps
 
   came : Came input true [] [] (outset slots input before) start (empty (input_of input)) ((behaviour program set).runs nothing_visible start) ((stored program set).does (outset slots input before))
   came = sim.does [] [] (outset slots input before) nothing_visible start (empty (input_of input)) (visible_outset slots input before) (has_outset slots input before) refl
@@ -241,37 +241,43 @@ module _ (program : Program) (set : Setting) (slots : ℕ) (input before : List 
   permitted_end : (t : State) (e : Result (Unit {0}) Cause) (answer : Result (Unit {0}) Stop) → Came input true [] [] (outset slots input before) start (empty (input_of input)) ((behaviour program set).runs nothing_visible start) (at t e)
       → ((tr : Trace Instance) (p : Path Instance) (end : End (Unit {0})) → end ≡ end_of e → put_out before t ≡ output_of tr → EndsAs program set tr p end (put_out before t) (Stored.ending_of answer))
       → (t.output ≡ before ++ put_out before t) × ((early : Bool) × IsPermitted program set input early (outcome_of program before answer t))
-  permitted_end t e answer d ends = (whole before t.output (output_of d.trace) d.output, (
-    d.early,
-    record {
-      trace = d.trace;
-      path = d.path;
-      end = end_of e;
-      run = d.run;
-      fits = d.fits;
-      ends = ends d.trace d.path (end_of e) refl (behind before t.output (output_of d.trace) d.output);
-      taken = d.has.taken;
-      finals = finals_right input true [] d.ties t d.path (after (empty (input_of input)) d.trace) d.has program;
-    },
-  ))
+  permitted_end t e answer d ends = (
+    whole before t.output (output_of d.trace) d.output,
+    (
+      d.early,
+      record {
+        trace = d.trace;
+        path = d.path;
+        end = end_of e;
+        run = d.run;
+        fits = d.fits;
+        ends = ends d.trace d.path (end_of e) refl (behind before t.output (output_of d.trace) d.output);
+        taken = d.has.taken;
+        finals = finals_right input true [] d.ties t d.path (after (empty (input_of input)) d.trace) d.has program;
+      },
+    ),
+  )
 
   begins : (tr : Trace Instance) → StopsWith ((behaviour program set).runs nothing_visible start) tr → BeginsRun program set tr
   begins tr k = record { rest = []; early = k.0; path = k.1; end = Stopped; run = subst (λ z. from z k.0 k.1 Stopped) (sym (append-nil tr)) k.2 }
 
   permitted_fault : (f : Fault) (t : State) → Halted input true (outset slots input before) start (empty (input_of input)) ((behaviour program set).runs nothing_visible start) f t → (t.output ≡ before ++ put_out before t) × ((early : Bool) × IsPermitted program set input early (outcome_of program before (Err (Fails f)) t))
-  permitted_fault f t d = (followed f d.told, (
-    d.early,
-    record {
-      trace = d.trace;
-      path = d.path;
-      end = Stopped;
-      run = d.run;
-      fits = d.fits;
-      ends = ends f d.told;
-      taken = d.taken;
-      finals = d.finals program;
-    },
-  ))
+  permitted_fault f t d = (
+    followed f d.told,
+    (
+      d.early,
+      record {
+        trace = d.trace;
+        path = d.path;
+        end = Stopped;
+        run = d.run;
+        fits = d.fits;
+        ends = ends f d.told;
+        taken = d.taken;
+        finals = d.finals program;
+      },
+    ),
+  )
     where
       followed : (f : Fault) → Told f before t.output d.trace d.path (StopsWith ((behaviour program set).runs nothing_visible start)) → t.output ≡ before ++ put_out before t
       followed MemoryFault k = whole before t.output (output_of d.trace) k
@@ -285,7 +291,7 @@ module _ (program : Program) (set : Setting) (slots : ℕ) (input before : List 
 
   -- what the main procedure does, however it is left
   abbrev inside : Stored (Unit {0})
-  inside = exec_body (stores input asks_apart set.limit (cuts_of set.plan) set.one) set.limit program (call (stores input asks_apart set.limit (cuts_of set.plan) set.one) set.limit program most_calls) program.body Everywhere (Meaning.outset 0)
+  inside = exec_body (stores input asks_at_once set.limit (cuts_of set.plan) set.one) set.limit program (call (stores input asks_at_once set.limit (cuts_of set.plan) set.one) set.limit program most_calls) program.body Everywhere (Meaning.outset 0)
 
   permitted : (answer : Result (Unit {0}) Stop) (t : State) → Computes (stored program set) (outset slots input before) answer t → (t.output ≡ before ++ put_out before t) × ((early : Bool) × IsPermitted program set input early (outcome_of program before answer t))
   unfolding Stored.handles

@@ -7,8 +7,7 @@ use Rattle.behaviours.specs.Memory.{Memory, after, Fits}
 use Rattle.behaviours.specs.Joins.{Ran, Share, traces, EachRan, most_turns, AllGive, SomeEnds, NoneLeft, Joins, JoinsInOrder, FirstEnds, Idle, Form, some_early}
 use Rattle.behaviours.specs.Behaviours.{Behaviour, Asks, is_left}
 use Rattle.behaviours.specs.Behaviours
-use Rattle.ada_meaning.specs.Runs.{anything}
-use Rattle.ada_meaning.specs.Programs.{this, finals}
+use Rattle.ada_meaning.specs.Programs.{finals}
 use Rattle.ada_stored.specs.Stored
 use Rattle.ada_stored.specs.Stored.{State, After, at, Stored, Cause, Left, OutOfTurns, NoRoom, Fault, MemoryFault, Unbegun, Stops, next, next_halts, finals_of, Took, took, gathered, is_spent}
 use Rattle.behaviours.proofs.Shuffle.{fits_append, after_append, shuffle_in_order}
@@ -50,7 +49,7 @@ turns_least : {A : Type 0} (n : ℕ) (rs : List (Ran Instance A)) → n ≤ most
 turns_least n [] = le_refl n
 turns_least n (r ∷ rs) = let h = turns_least n rs in omega arith
 
--- ---- into a thread, and out of it
+-- into a thread, and out of it
 
 module _ (input : List ℕ) (b : Bool) (ls gs : List Tie) (s : State) (p : Path Instance) (n : Memory) (h : Has input b ls gs s p n) where
   pub has_enter : (j : ℕ) → Has input false ls gs s (enter j p) n
@@ -266,7 +265,7 @@ module _ (input : List ℕ) {A B : Type 0} (f : B → A → B) (b : Bool) (body 
     woven [] most over b0 s n v h le = woven_none most over b0 s n h le over refl
     woven (j ∷ js) most over b0 s n v h le = woven_next j js most over b0 s n v h le ((body j).does (turned s p.turns)) (thread_came j s n v h) ((body j).does (turned s p.turns)).end refl (woven js)
 
-    -- ---- where memory fails
+    -- where memory fails
 
     record Paused (s : State) (n : Memory) (js : List Share) (u : State) : Type 0 where
       pub rans : List (Ran Instance A)
@@ -381,7 +380,7 @@ module _ (input : List ℕ) {A B : Type 0} (f : B → A → B) (b : Bool) (body 
     pauses [] most over b0 s n v h fault u k = pauses_none most over b0 s n h fault u k
     pauses (j ∷ js) most over b0 s n v h fault u k = pauses_next j js most over b0 s n v h fault u (pauses js) k
 
-  -- ---- the construct, and what comes after it
+  -- the construct, and what comes after it
 
   module _ (asks : Asks Instance) (limit : ℕ) (cuts : ℕ → ℕ → List ℕ) (one : Bool) (site : ℕ) (js : List Share) (b0 : B) {C : Type 0} (k : B → Stored C) (l : List A → Behaviour Instance C) (after_sim : (values : List A) → Simulates input b (k (gathered_all f b0 values)) (l values)) where
     abbrev construct : Behaviour Instance (List A)

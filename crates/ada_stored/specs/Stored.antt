@@ -98,7 +98,7 @@ leaves x = steps (λ s. at s (Err (Left x)))
 unfoldable pub spent : {A : Type 0} → Stored A
 spent = steps (λ s. at s (Err OutOfTurns))
 
--- ---- cells
+-- cells
 
 abbrev pub key : Entity → ℕ
 key (VariableOf x) = x * 2
@@ -157,7 +157,7 @@ reads x i = steps (λ s. read_at s (place_of s x i))
 unfoldable pub writes : ℕ → ℕ → ℤ → Stored (Unit {0})
 writes x i v = steps (λ s. written_at s (place_of s (VariableOf x) i) v)
 
--- ---- elaborations
+-- elaborations
 
 abbrev pub declares : Entity → ℕ → ℕ → List Variable → List Variable
 declares (VariableOf x) a n gs = gs ++ (record { object = x; address = a; cells = n } ∷ [])
@@ -198,7 +198,7 @@ apart m = record {
   halts = λ s f t. (u : State) × Stops m (record s { frame = s.frame + 1 }) f u × (t ≡ record u { frame = s.frame });
 }
 
--- ---- turns, checks, ends
+-- turns, checks, ends
 
 unfoldable pub turn : ℕ → Stored (Unit {0})
 turn limit = steps (λ s. cond (nat_lt s.turns limit) (at (record s { turns = s.turns + 1 }) (Ok tt)) (at s (Err OutOfTurns)))
@@ -225,7 +225,7 @@ handles m takes h = record {
   halts = λ s f t. Stops m s f t ⊎ (let r = m.does s in handled_halts r.state r.end takes h f t);
 }
 
--- ---- output and input
+-- output and input
 
 -- of a piece that isn't put out whole a part may have passed
 unfoldable pub puts : List ℕ → Stored (Unit {0})
@@ -247,7 +247,7 @@ taken_from s (b ∷ rest) = at (record s { taken = s.taken + 1; input = rest }) 
 unfoldable pub takes : Stored (Option ℕ)
 takes = record { does = λ s. taken_from s s.input; halts = λ s f t. (f ≡ InputFault) × (t ≡ s) }
 
--- ---- threads, each of which counts its turns from where the construct began
+-- threads, each of which counts its turns from where the construct began
 
 abbrev pub doings : Doings {1}
 doings = record { Doing = Stored; ret = ret; ◌>>=◌ = ◌>>=◌ }
@@ -342,7 +342,7 @@ module _ (limit : ℕ) (cuts : ℕ → ℕ → List ℕ) where
     reduces = reduces;
   }
 
--- ---- what code computes
+-- what code computes
 
 -- how a part ends, by itself or not
 pub data Stop : Type 0 where
@@ -360,7 +360,7 @@ pub record Continues {A : Type 0} (whole : Stored A) (begun : State) (rest : Sto
   pub same : whole.does begun ≡ rest.does now
   pub stops : (f : Fault) (t : State) → Stops rest now f t → Stops whole begun f t
 
--- ---- whole programs
+-- whole programs
 
 -- where a program begins: with room for so many slots, these bytes to be read, and this output before it
 abbrev pub outset : ℕ → List ℕ → List ℕ → State
@@ -413,7 +413,7 @@ put_out before t = drop (length before) t.output
 abbrev pub outcome_of : Program → List ℕ → Result (Unit {0}) Stop → State → Outcome
 outcome_of program before answer t = record { output = put_out before t; taken = t.taken; finals = finals_of program t.kept t.declared; ending = ending_of answer }
 
--- ---- where nothing fails
+-- where nothing fails
 
 abbrev pub answered : {A : Type 0} → Result A Cause → Result A Stop
 answered (Ok a) = Ok a

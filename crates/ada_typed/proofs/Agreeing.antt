@@ -18,7 +18,6 @@ use Rattle.ada_typed.specs.declared.expressions.Iteration as tree-iteration
 use Rattle.ada_typed.specs.declared.expressions.Iteration.TheVariants as iteration
 use Rattle.ada_typed.specs.declared.expressions.Chunk as tree-chunk
 use Rattle.ada_typed.specs.declared.expressions.Chunk.TheVariants as chunk
-use Rattle.ada_typed.specs.declared.expressions.Root.TheVariants as root
 use Rattle.ada_typed.specs.declared.statements.Stmt as tree-stmt
 use Rattle.ada_typed.specs.declared.statements.Stmt.TheVariants as stmt
 use Rattle.ada_typed.specs.declared.statements.Alternative as tree-alternative

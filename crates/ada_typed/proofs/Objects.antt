@@ -1,6 +1,6 @@
 -- Objects that lie side by side share no cell.
-use Rattle.std.specs.Prelude.{◌≡◌, ℕ, zero, suc, ◌+◌, ◌<◌, ◌≤◌, nat_eq, nat_le, Bool, true, false, List, [], ◌∷◌, length, slice_get, Some, cond}
-use Rattle.std.proofs.Common.{refl, ap, sym, subst, ◌∙◌, arith}
+use Rattle.std.specs.Prelude.{◌≡◌, ℕ, zero, suc, ◌+◌, ◌<◌, ◌≤◌, List, [], ◌∷◌, length, slice_get, Some}
+use Rattle.std.proofs.Common.{ap, sym, subst, ◌∙◌, arith}
 use Rattle.ada_typed.specs.declared.program.Object.{Object}
 use Rattle.ada_typed.specs.Layout.{first_cell, after, LieFrom, HasCell}
 use Rattle.ada_typed.specs.Laws.{LayoutLaw}
@@ -19,7 +19,9 @@ after_own o free = grind arith
 -- an object begins no lower than the free cell of its owner
 begins_above : (os : List Object) (free : ℕ → ℕ) (i : ℕ) (a : Object) → LieFrom free os → slice_get os i ≡ Some a → free a.owner ≤ a.offset
 begins_above [] free i a l e = absurd (cc)
-begins_above (o ∷ os) free zero a l e = let z : o ≡ a = cc in subst (λ x. free x.owner ≤ x.offset) z (omega (arith, l.0))
+begins_above (o ∷ os) free zero a l e =
+    let z : o ≡ a = cc in
+    subst (λ x. free x.owner ≤ x.offset) z (omega (arith, l.0))
 begins_above (o ∷ os) free (suc i) a l e = omega (arith, after_above o free a.owner l.0, begins_above os (after o free) i a l.1 e)
 
 -- an object ends where those after it of its owner may begin

@@ -1,6 +1,6 @@
 -- Components of an array stand in row-major order (3.6.2).
-use Rattle.std.specs.Prelude.{◌≡◌, ℕ, suc, ◌+◌, ◌*◌, ◌<◌, ◌≤◌, ℤ, pos, negsuc, ◌+ℤ◌, ◌-ℤ◌, ◌<ℤ◌, ◌≤ℤ◌, List, [], ◌∷◌}
-use Rattle.std.proofs.Common.{refl, ap, ap₂, sym, subst, ◌∙◌, arith, inl, inr}
+use Rattle.std.specs.Prelude.{◌≡◌, ℕ, ◌+◌, ◌*◌, ◌<◌, ℤ, pos, negsuc, ◌+ℤ◌, ◌-ℤ◌, ◌<ℤ◌, ◌≤ℤ◌, List, [], ◌∷◌}
+use Rattle.std.proofs.Common.{refl, ap, ap₂, arith, inl, inr}
 use Rattle.std.proofs.lemmas.Int.{ints}
 use Rattle.std.proofs.lemmas.Nat.{mul-add-lt}
 use Rattle.ada_typed.specs.declared.program.Bounds.{Bounds}

@@ -1,13 +1,11 @@
 -- What is written is read, also when more stands after it.
-use Rattle.std.specs.Prelude.{◌≡◌, ℕ, List, ◌++◌, map}
-use Rattle.std.proofs.Common.{refl, ap, ◌∙◌}
+use Rattle.std.specs.Prelude.{◌≡◌, List, ◌++◌, map}
+use Rattle.std.proofs.Common.{ap, ◌∙◌}
 use Rattle.ada_typed.specs.declared.node.Node.{Node}
-use Rattle.ada_typed.specs.declared.node.Leaf.{Leaf}
 use Rattle.ada_typed.specs.declared.node.Leaf.TheVariants as leaf
-use Rattle.ada_typed.specs.Decoded.{Part, part_at, as_expr, as_body, as_bounds, as_fields, as_formals}
+use Rattle.ada_typed.specs.Decoded.{part_at, as_expr, as_body, as_bounds, as_fields, as_formals}
 use Rattle.ada_typed.specs.Laws.{KeptLaw, WrittenLaw}
-use Rattle.ada_typed.specs.Written as written
-use Rattle.ada_typed.specs.Written.{last, leaves}
+use Rattle.ada_typed.specs.Written.{last}
 use Rattle.ada_typed.proofs.Growing.{Grown, under_last, grown_body, grown_expr, grown_leaves}
 use Rattle.ada_typed.proofs.Law.{read_body, read_bounds, read_expr, read_fields, read_formals}
 use Rattle.ada_typed.proofs.Order.{ordered_body, ordered_expr, ordered_leaves}

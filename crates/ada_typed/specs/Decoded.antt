@@ -46,7 +46,7 @@ use Rattle.ada_typed.specs.declared.node.Leaf.{Leaf}
 use Rattle.ada_typed.specs.declared.node.Leaf.TheVariants as leaf
 use Rattle.ada_typed.specs.declared.node.Node.{Node}
 use Rattle.ada_typed.specs.declared.node.Node.TheVariants as node
-use Rattle.ada_typed.specs.Syntax.{Expr, Static, Variable, Constant, Parameter, Target, Group, Unary, Binary, AndThen, OrElse, Relation, Membership, If, Call, Convert, Reduction, Exprs, NoExpr, AlsoExpr, Optional, Absent, Present, Selections, Whole, Field, Index, Actuals, NoActual, In, InOut, Out, CompositeInOut, CompositeOut, Value, Number, Cells, Composite, WholeVariable, WholeConstant, WholeTarget, CompositeIf, Aggregate, Associations, NoAssociation, Association, Iteration, Range, Components, Chunk, NoChunk, Count, Each, Pieces, NoPiece, Text, Image, Padded, Handled, Others, Reasons, Decls, NoDecl, DeclareDefault, DeclareVariable, DeclareConstant, Mentions, Stmt, Null, Assign, CallProcedure, Exit, Return, ReturnValue, Raise, Reraise, IfThen, Case, Loop, For, ParallelFor, Parallel, Block, Put, Get, Stmts, End, Then, Alternatives, NoAlternative, Alternative, Arms, NoArm, Arm, Handlers, NoHandler, Handler, Body}
+use Rattle.ada_typed.specs.Syntax.{Expr, Static, Variable, Constant, Parameter, Target, Group, Unary, Binary, AndThen, OrElse, Relation, Membership, If, Call, Convert, Reduction, Exprs, NoExpr, AlsoExpr, Optional, Absent, Present, Selections, Whole, Field, Index, Actuals, NoActual, In, InOut, Out, CompositeInOut, CompositeOut, Value, Number, Cells, Composite, WholeVariable, WholeConstant, WholeTarget, CompositeIf, Aggregate, Associations, NoAssociation, Association, Iteration, Range, Components, Chunk, NoChunk, Count, Each, Pieces, NoPiece, Text, Image, Padded, Others, Reasons, Decls, NoDecl, DeclareDefault, DeclareVariable, DeclareConstant, Mentions, Stmt, Null, Assign, CallProcedure, Exit, Return, ReturnValue, Raise, Reraise, IfThen, Case, Loop, For, ParallelFor, Parallel, Block, Put, Get, Stmts, End, Then, Alternatives, NoAlternative, Alternative, Arms, NoArm, Arm, Handlers, NoHandler, Handler, Body}
 
 -- what a node stands for
 pub data Part : Type 0 where
@@ -71,7 +71,7 @@ pub data Part : Type 0 where
   AHandler : (Handlers → Handlers) → Part
   ABody : Body → Part
 
--- ---- parts as what they are taken for
+-- parts as what they are taken for
 
 abbrev pub as_expr : Part → Expr
 as_expr (AnExpr e) = e
@@ -247,7 +247,7 @@ formals_in (l ∷ ls) = formals_in ls
 abbrev pub as_formals : Part → List Formal
 as_formals p = formals_in (as_leaves p)
 
--- ---- what a node stands for, where `at` is what the nodes before it stand for
+-- what a node stands for, where `at` is what the nodes before it stand for
 
 abbrev pub of_expr : (ℕ → Part) → tree.Expr → Expr
 of_expr at (expr.Static n z literal mentions) = Static n z literal (as_exprs (at mentions))
@@ -366,7 +366,7 @@ of_node at (node.Alternative a) = AnAlternative (of_alternative at a)
 of_node at (node.Handler h) = AHandler (of_handler at h)
 of_node at (node.Body b) = ABody (of_body at b)
 
--- ---- what the numbers of a table stand for
+-- what the numbers of a table stand for
 
 -- the part of a number among parts
 abbrev pub among : List Part → ℕ → Part

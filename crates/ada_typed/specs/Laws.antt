@@ -1,5 +1,5 @@
 -- Laws of tables and of layout.
-use Rattle.std.specs.Prelude.{◌≡◌, ℕ, ◌<◌, ◌≤◌, ◌+◌, ℤ, List, ◌++◌, length, slice_get, Some}
+use Rattle.std.specs.Prelude.{◌≡◌, ℕ, ◌<◌, ◌≤◌, ℤ, List, ◌++◌, length, slice_get, Some}
 use Rattle.ada_typed.specs.declared.node.Node.{Node}
 use Rattle.ada_typed.specs.declared.program.Bounds.{Bounds}
 use Rattle.ada_typed.specs.declared.program.Field as field

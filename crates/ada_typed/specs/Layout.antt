@@ -1,5 +1,5 @@
 -- How subtypes and objects lie in cells. A cell holds one scalar (3.2).
-use Rattle.std.specs.Prelude.{◌≡◌, ℕ, ◌+◌, ◌*◌, ◌<◌, ◌≤◌, nat_eq, nat_le, ℤ, pos, negsuc, ◌+ℤ◌, ◌-ℤ◌, ◌<ℤ◌, ◌≤ℤ◌, List, [], ◌∷◌, ◌++◌, length, slice_get, Some, cond, ◌⊎◌}
+use Rattle.std.specs.Prelude.{◌≡◌, ℕ, ◌+◌, ◌*◌, ◌<◌, ◌≤◌, nat_eq, nat_le, ℤ, pos, negsuc, ◌+ℤ◌, ◌-ℤ◌, ◌<ℤ◌, ◌≤ℤ◌, List, [], ◌∷◌, ◌++◌, length, cond, ◌⊎◌}
 use Rattle.std.proofs.Math.ListN.{get_or}
 use Rattle.ada_typed.specs.declared.program.Bounds.{Bounds}
 use Rattle.ada_typed.specs.declared.program.Field as field
@@ -20,7 +20,7 @@ abbrev pub components : List Bounds → ℕ
 components [] = 1
 components (b ∷ bs) = count b * components bs
 
--- ---- cells of a subtype
+-- cells of a subtype
 
 abbrev pub fields_cells : (ℕ → ℕ) → List field.Field → ℕ
 fields_cells cells [] = 0
@@ -41,7 +41,7 @@ sizes_from sizes (t ∷ ts) = sizes_from (sizes ++ subtype_cells (λ k. get_or s
 unfoldable pub cells_of : List Subtype → ℕ → ℕ
 cells_of subtypes k = get_or (sizes_from [] subtypes) k 0
 
--- ---- components of an array: the last index varies fastest (3.6.2)
+-- components of an array: the last index varies fastest (3.6.2)
 
 -- indexes, one for each dimension, inside the bounds
 abbrev pub AreIndexes : List Bounds → List ℤ → Type 0
@@ -62,7 +62,7 @@ Precede [] js = ⊥
 Precede (i ∷ is) [] = ⊥
 Precede (i ∷ is) (j ∷ js) = (i <ℤ j) ⊎ ((i ≡ j) × Precede is js)
 
--- ---- objects among the cells of their owner
+-- objects among the cells of their owner
 
 -- the first cells of a thread body are its own: its frame begins with what the construct hands it
 abbrev pub first_cell : ℕ → ℕ → ℕ

@@ -1,5 +1,9 @@
--- The abstract syntax of typed programs: what `ada_typed` holds, with lists as nested forms and chains of operators as
--- operations of two operands. `at` is the token at which something is blamed or a check stands.
+-- The abstract syntax of typed programs: what name resolution leaves of a program. All definitions of what programs do
+-- are over these types; code holds them as tables of nodes (Decoded).
+--
+-- `at` is the number of the token at which something is blamed or a check stands. Objects, subprograms (`sub`), parallel
+-- constructs (`site`) and subtypes are given by their numbers in the tables of a program; loops (`number`), parameters
+-- and items have numbers of their own. Offsets, strides and sizes count cells.
 use Rattle.std.specs.Prelude.{ℕ, ℤ, List, Option, Bool}
 use Rattle.ada_base.specs.declared.operation.Op.{Op}
 use Rattle.ada_base.specs.declared.reason.Reason.{Reason}
@@ -21,7 +25,10 @@ use Rattle.ada_typed.specs.declared.program.Object.{Object}
 use Rattle.ada_typed.specs.declared.program.Site.{Site}
 
 mutual
-  -- an expression of a scalar type (4.4)
+  -- an expression of a scalar type (4.4). A static one (4.9) is its value; `literal` says whether it is one number
+  -- literal without brackets. Operators of one level are nested to the left. `S'Max` and `S'Min` are operators,
+  -- `S'Succ (X)` and `S'Pred (X)` are additions of 1 and subtractions (3.5), and a subtype after `in` is its two bounds
+  -- (4.5.2). A group is an expression in brackets that isn't static.
   pub data Expr : Type 0 where
     Static : (at : ℕ) (value : ℤ) (literal : Bool) (mentions : Exprs) → Expr
     Variable : (at : ℕ) (root : Root) → Selections → Scalar → Expr
@@ -40,7 +47,7 @@ mutual
     Convert : Check → Expr → Expr
     Reduction : (at attribute : ℕ) → Reducer → (initial : Expr) (site : Option ℕ) → Chunk → Iteration → (value : Expr) → Expr
 
-  -- expressions that are text and aren't evaluated
+  -- expressions that are text and aren't evaluated: indexes in prefixes of attributes in static expressions
   pub data Exprs : Type 0 where
     NoExpr : Exprs
     AlsoExpr : Expr → Exprs → Exprs
@@ -50,13 +57,15 @@ mutual
     Absent : Optional
     Present : Expr → Optional
 
-  -- what follows the first part of a name (4.1.1, 4.1.3)
+  -- what follows the first part of a name: a component of a record at an offset (4.1.3), or one index of an array
+  -- between its bounds, the neighbours of which are a stride apart (4.1.1)
   pub data Selections : Type 0 where
     Whole : Selections
     Field : (number offset : ℕ) → Selections → Selections
     Index : (at : ℕ) → Expr → (low high : ℤ) (stride : ℕ) → Selections → Selections
 
-  -- actual parameters (6.4.1)
+  -- actual parameters in the order of the text (6.4.1), with the objects of their formals; a scalar that is copied back
+  -- has the subtypes of its formal and of itself
   pub data Actuals : Type 0 where
     NoActual : Actuals
     In : (formal : ℕ) → Value → Actuals → Actuals
@@ -78,12 +87,13 @@ mutual
     CompositeIf : (condition : Expr) (value otherwise : Composite) → Composite
     Aggregate : (at cells : ℕ) → Associations → Composite
 
-  -- associations of an aggregate (4.3)
+  -- associations of an aggregate, with the runs of cells that each gives (4.3)
   pub data Associations : Type 0 where
     NoAssociation : Associations
     Association : List Run → Option Iterated → (mentions : Exprs) → Value → Associations → Associations
 
-  -- what an iteration goes through, and its filter (5.5, 5.5.2)
+  -- what an iteration goes through, and its filter (5.5, 5.5.2); the bounds of a range that isn't empty are checked where
+  -- it has a subtype
   pub data Iteration : Type 0 where
     Range : (parameter : ℕ) (reverse : Bool) (low high : Expr) → Option Check → (filter : Optional) → Iteration
     Components : (item : ℕ) (constant : Bool) (at : ℕ) (root : Root) → Selections → (count stride dimensions : ℕ) → (filter : Optional) → Iteration
@@ -94,7 +104,7 @@ mutual
     Count : Expr → Chunk
     Each : (parameter : ℕ) (low high : Expr) → Option Check → Chunk
 
--- pieces of output (A.10)
+-- pieces of output: bytes, the image of a value (4.10), a number in a field of places (A.10.8)
 pub data Pieces : Type 0 where
   NoPiece : Pieces
   Text : List ℕ → Pieces → Pieces
@@ -121,7 +131,7 @@ pub data Decls : Type 0 where
   Mentions : Exprs → Decls → Decls
 
 mutual
-  -- a statement (5.1)
+  -- a statement (5.1); an `elsif` is an if statement after `else` (5.3)
   pub data Stmt : Type 0 where
     Null : Stmt
     Assign : (at : ℕ) (root : Root) → Selections → Value → Stmt
@@ -145,7 +155,7 @@ mutual
     End : Stmts
     Then : Stmt → Stmts → Stmts
 
-  -- alternatives of a case statement (5.4)
+  -- alternatives of a case statement (5.4); one with `others` takes what is left
   pub data Alternatives : Type 0 where
     NoAlternative : Alternatives
     Alternative : (others : Bool) → List Span → (mentions : Exprs) → Stmts → Alternatives → Alternatives

@@ -116,7 +116,7 @@ pub enum Expr {
     },
 }
 
-/// A unary operator that isn't `+` (4.5.4, 4.5.6).
+/// A unary operator (4.5.4, 4.5.6): `-`, `abs`, `not`. A unary `+` leaves nothing but its operand.
 #[derive(Clone, Copy)]
 pub enum Sign {
     Minus,
@@ -127,7 +127,9 @@ pub enum Sign {
 /// What a name begins with: an object, or the item of an iteration over the components of one (5.5.2).
 #[derive(Clone, Copy)]
 pub enum Root {
+    /// The object of a number.
     Object(u32),
+    /// The item of a number.
     Item(u32),
 }
 
@@ -197,7 +199,9 @@ pub enum Actual {
 /// What is stored somewhere: a scalar, which is checked before, or an array or record.
 #[derive(Clone, Copy)]
 pub enum Value {
+    /// A scalar, by its check and its expression.
     Number { check: Check, value: u32 },
+    /// An array or record.
     Cells { composite: u32 },
 }
 
@@ -248,7 +252,8 @@ pub struct Association {
     pub value: u32,
 }
 
-/// Components of one size at equal distances: the first begins so many cells from the aggregate's beginning.
+/// Components of one size at equal distances: the first begins `first` cells from the aggregate's beginning, there are
+/// `count` of them, and each begins `stride` cells behind the one before it.
 #[derive(Clone, Copy)]
 pub struct Run {
     pub first: u32,
@@ -266,7 +271,8 @@ pub struct Iterated {
 /// What an iteration goes through (5.5, 5.5.2), and its filter.
 #[derive(Clone, Copy)]
 pub enum Iteration {
-    /// `I in [reverse] L .. H`; with a subtype the bounds are checked where the range isn't empty.
+    /// `I in [reverse] L .. H`; with a subtype the bounds are checked where the range isn't empty, and `check` is the
+    /// node of that check. `filter` is the condition after `when`, where there is one.
     Range {
         parameter: u32,
         reverse: bool,
@@ -275,7 +281,8 @@ pub enum Iteration {
         check: u32,
         filter: u32,
     },
-    /// `X of A`: so many components, each so many cells from the one before it, of an array with so many dimensions.
+    /// `X of A`: `count` components, each `stride` cells behind the one before it, of an array with so many dimensions.
+    /// `constant` says whether X may not be assigned to.
     Components {
         item: u32,
         constant: bool,
@@ -292,11 +299,11 @@ pub enum Iteration {
 /// A chunk specification (5.5).
 #[derive(Clone, Copy)]
 pub enum Chunk {
-    /// A number of chunks.
+    /// A number of chunks, of any integer type.
     Count {
         value: u32,
     },
-    /// `C in L .. H`
+    /// `C in L .. H`: a chunk for each value, which the parameter has in it.
     Each {
         parameter: u32,
         low: u32,
@@ -308,13 +315,13 @@ pub enum Chunk {
 /// What a reduction folds by (4.5.10).
 #[derive(Clone, Copy)]
 pub enum Reducer {
-    /// An operator, `S'Max` or `S'Min`.
+    /// An operator, `S'Max` or `S'Min`, with its first token.
     Operator {
         at: u32,
         op: Op,
         class: Class,
     },
-    /// A declared function of an accumulator and a value, with the subtypes of its parameters.
+    /// A declared function of an accumulator and a value, with its first token and the subtypes of its parameters.
     Function {
         at: u32,
         sub: u32,

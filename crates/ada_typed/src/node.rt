@@ -8,8 +8,8 @@ use crate::scalars::{Check, Class, Scalar};
 use crate::statements::{Alternative, Body, Decl, Handler, Piece, Span, Stmt};
 use ada_base::{Op, Reason};
 
-/// A node. Each part of it stands in the table before it. A list is its cells: the cells stand side by side after all
-/// items of the list, the first cell last, so that the item of index i is that of the cell i places before the first.
+/// A node. Each part of it stands in the table before it, and is given by its number there. A list is its cells: each
+/// names its item and the next cell, and the last one the end. What is left out is an end too.
 #[derive(Clone, Copy)]
 pub enum Node {
     /// The end of a list, or what is left out.
@@ -18,6 +18,7 @@ pub enum Node {
     Cell { first: u32, rest: u32 },
     /// A cell of a list of items that have no parts.
     Leaf { leaf: Leaf, rest: u32 },
+    /// An expression of a scalar type.
     Expr(Expr),
     Selection(Selection),
     Actual(Actual),

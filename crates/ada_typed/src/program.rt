@@ -5,6 +5,7 @@ use crate::scalars::Scalar;
 /// A subtype (3.2.2). The subtypes of its components have lower numbers.
 #[derive(Clone, Copy)]
 pub enum Subtype {
+    /// A scalar subtype (3.5).
     Scalar { scalar: Scalar },
     /// An array (3.6): the list of the bounds of each dimension, and the subtype of a component. The last index varies
     /// fastest.
@@ -13,7 +14,7 @@ pub enum Subtype {
     Record { fields: u32 },
 }
 
-/// The bounds of an index.
+/// The bounds of an index (3.6.1). No array is empty: `low` is at most `high`.
 #[derive(Clone, Copy)]
 pub struct Bounds {
     pub low: i64,
@@ -27,9 +28,9 @@ pub struct Field {
     pub subtype: u32,
 }
 
-/// An object (3.3): the token of its name, its subtype, whether it is a constant or a formal parameter of mode
-/// `in`, its owner, where its cells begin among the owner's and how many they are, and the value of a static
-/// constant (4.9).
+/// An object (3.3): the token of its name, its subtype, whether it is a constant or a formal parameter of mode `in`, its
+/// owner, where its cells begin among the owner's and how many they are, and the value of a static constant (4.9). How
+/// objects lie among the cells of their owner is `IsLaidOut` of `specs/Layout.antt`.
 #[derive(Clone, Copy)]
 pub struct Object {
     pub name: u32,
@@ -58,7 +59,7 @@ pub struct Formal {
     pub mode: Mode,
 }
 
-/// A mode (6.2).
+/// A mode (6.2): `in`, `in out`, `out`.
 #[derive(Clone, Copy)]
 pub enum Mode {
     In,
@@ -78,11 +79,11 @@ pub struct Site {
 /// What a parallel construct is.
 #[derive(Clone, Copy)]
 pub enum SiteKind {
-    /// A loop.
+    /// A parallel loop.
     Loop,
-    /// A block of so many arms.
+    /// A parallel block of so many arms, at least two.
     Block(u32),
-    /// A reduction.
+    /// A parallel reduction.
     Reduction,
 }
 

@@ -23,7 +23,7 @@ pub enum Stmt {
         sub: u32,
         actuals: u32,
     },
-    /// `exit L when C;` (5.7), with the number of the loop.
+    /// `exit L when C;` (5.7), with the number of the loop that it leaves.
     Exit {
         from: u32,
         condition: u32,
@@ -91,7 +91,8 @@ pub enum Stmt {
         pieces: u32,
         line: bool,
     },
-    /// `Get (X);` (A.10.8) for a variable of this subtype, with the first and the last token of the name.
+    /// `Get (X);` (A.10.8) for a variable of this subtype, with the first and the last token of the name and the first
+    /// one of X.
     Get {
         at: u32,
         callee: u32,
@@ -112,7 +113,7 @@ pub struct Alternative {
     pub stmts: u32,
 }
 
-/// The values of a choice, from the first to the last.
+/// The values of a choice, from the first to the last. There is none where the last is less.
 #[derive(Clone, Copy)]
 pub struct Span {
     pub low: i64,
@@ -131,7 +132,9 @@ pub struct Body {
 /// `when E | F => ..` (11.2)
 #[derive(Clone, Copy)]
 pub enum Handler {
+    /// `when others`
     Others { stmts: u32 },
+    /// The list of the reasons that it handles.
     Reasons { reasons: u32, stmts: u32 },
 }
 

@@ -6,7 +6,7 @@ use Rattle.behaviours.specs.Paths.{Entity, VariableOf, ConstantOf, ThreadName, I
 use Rattle.behaviours.specs.Events.{Event, Reads, Writes, Recalls, Keeps, Takes, Puts, Looks, Trace, Place, Cell, Rest, Byte, IsAt, WritesAt, Has, Touches, WritesTo, Apart, ApartFrom, AllApart, Merge, Shuffle, in_order}
 use Rattle.behaviours.specs.Memory.{Memory, put, hold, step, IsRight, after, Fits, EachFits, ShuffleLaw}
 
--- ---- names and instances
+-- names and instances
 
 and_left : (a b : Bool) → (a && b) ≡ true → a ≡ true
 and_left true b e = refl
@@ -47,7 +47,7 @@ instance_same x y e =
         ∙ ap (λ z. record { thread = y.thread; number = z; object = x.object }) n
         ∙ ap (λ z. record { thread = y.thread; number = y.number; object = z }) o
 
--- ---- one event
+-- one event
 
 -- two memories have the same at a place
 abbrev pub Alike : Memory → Memory → Place Instance → Type 0
@@ -169,7 +169,7 @@ writes_at (Takes k b) y h = absurd h
 writes_at (Puts piece) y h = absurd h
 writes_at Looks y h = absurd h
 
--- ---- one trace
+-- one trace
 
 pub fits_frame : (tr : Trace Instance) (m n : Memory) → ((y : Place Instance) → Touches tr y → Alike m n y) → Fits m tr → Fits n tr
 fits_frame [] m n agree f = tt
@@ -200,7 +200,7 @@ writes_touches [] y h = absurd h
 writes_touches (a ∷ tr) y (inl h) = inl (writes_at a y h)
 writes_touches (a ∷ tr) y (inr h) = inr (writes_touches tr y h)
 
--- ---- two traces
+-- two traces
 
 pub apart_swap : (t u : Trace Instance) → Apart t u → Apart u t
 apart_swap t u p = record { forth = λ y w h. p.back y h w; back = λ y h w. p.forth y w h }
@@ -261,7 +261,7 @@ merge_append : (t u : Trace Instance) → Merge t u (t ++ u)
 merge_append [] u = merge_right u
 merge_append (a ∷ t) u = inl (t, refl, merge_append t u)
 
--- ---- any number of traces
+-- any number of traces
 
 pub shuffle_in_order : (ts : List (Trace Instance)) → Shuffle ts (in_order ts)
 shuffle_in_order [] = refl

@@ -5,7 +5,7 @@ use Rattle.ada_base.specs.declared.reason.Reason.TheVariants as reason
 use Rattle.ada_base.specs.Input.{Held}
 use Rattle.behaviours.specs.Doings.{Doings}
 use Rattle.behaviours.specs.Paths.{Leave, Raises, Entity, VariableOf, Region, ThreadName, Instance, End, Gives, Leaves, Spent, Stopped, Path, Scope, find, declares, apart_of, one_turn, one_taken, one_elaboration, enter, leave, joined, is_inside}
-use Rattle.behaviours.specs.Events.{Event, Reads, Writes, Recalls, Takes, Trace, Apart}
+use Rattle.behaviours.specs.Events.{Event, Reads, Writes, Recalls, Takes, Trace, Apart, Has, IsInputOutput}
 use Rattle.behaviours.specs.Joins.{Share, Runs, Ran, EachRan, Form, most_turns, some_early}
 
 -- an end that is no value is that of what stands around
@@ -169,10 +169,22 @@ abbrev pub ThreadsApart : {P : Type 0} → (Share → Trace P → Type 0) → Li
 ThreadsApart may [] = Unit {0}
 ThreadsApart may (j ∷ js) = ThreadApart may j js × ThreadsApart may js
 
--- no two threads of a construct have a race; where they are taken in order nothing is asked
+-- no two threads of a construct have a race
 abbrev pub asks_apart : {P : Type 0} → Asks P
-asks_apart true who site c js may = Unit {0}
-asks_apart false who site c js may = ThreadsApart may js
+asks_apart ordered who site c js may = ThreadsApart may js
+
+-- the same of those that may run at once; where threads are taken in order nothing is asked
+abbrev pub asks_at_once : {P : Type 0} → Asks P
+asks_at_once true who site c js may = Unit {0}
+asks_at_once false who site c js may = ThreadsApart may js
 
 abbrev pub asks_nothing : {P : Type 0} → Asks P
 asks_nothing ordered who site c js may = Unit {0}
+
+-- no thread of a construct takes input or puts output
+abbrev pub AllSilent : {P : Type 0} → (Share → Trace P → Type 0) → List Share → Type 0
+AllSilent may [] = Unit {0}
+AllSilent {P} may (j ∷ js) = ((tr : Trace P) → may j tr → Has IsInputOutput tr → ⊥) × AllSilent may js
+
+abbrev pub asks_silent : {P : Type 0} → Asks P
+asks_silent ordered who site c js may = AllSilent may js

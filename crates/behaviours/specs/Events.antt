@@ -24,14 +24,14 @@ pub data Place (P : Type 0) : Type 0 where
   Byte : (number : ℕ) → Place P
 
 module _ {P : Type 0} where
-  -- ---- output of a trace
+  -- output of a trace
 
   abbrev pub output_of : Trace P → List ℕ
   output_of [] = []
   output_of (Puts piece ∷ tr) = piece ++ output_of tr
   output_of (e ∷ tr) = output_of tr
 
-  -- ---- shared places
+  -- shared places
 
   -- the event is at this place; it writes there
   abbrev pub IsAt : Event P → Place P → Type 0
@@ -46,6 +46,14 @@ module _ {P : Type 0} where
   WritesAt (Writes x i v) y = Cell x i ≡ y
   WritesAt (Keeps h) y = Rest ≡ y
   WritesAt _ y = ⊥
+
+  -- the event is an action on the input, the output or what is held of the input
+  abbrev pub IsInputOutput : Event P → Type 0
+  IsInputOutput (Recalls h) = Unit {0}
+  IsInputOutput (Keeps h) = Unit {0}
+  IsInputOutput (Takes n b) = Unit {0}
+  IsInputOutput (Puts piece) = Unit {0}
+  IsInputOutput _ = ⊥
 
   -- some event of the trace is such
   abbrev pub Has : (Event P → Type 0) → Trace P → Type 0
@@ -71,7 +79,7 @@ module _ {P : Type 0} where
   AllApart [] = Unit {0}
   AllApart (t ∷ ts) = ApartFrom t ts × AllApart ts
 
-  -- ---- shuffles
+  -- shuffles
 
   -- a trace that has the events of two, each in its order
   abbrev pub Merge : Trace P → Trace P → Trace P → Type 0

@@ -1,5 +1,5 @@
 -- The threads of a construct, and how their runs are joined to one (5.5, 5.6.1).
-use Rattle.std.specs.Prelude.{◌≡◌, ℕ, suc, ◌+◌, max, List, [], ◌∷◌, ◌++◌, ◌⊎◌, Bool, true, false, ◌||◌}
+use Rattle.std.specs.Prelude.{◌≡◌, ℕ, suc, ◌+◌, max, List, [], ◌∷◌, ◌⊎◌, Bool, true, false, ◌||◌}
 use Rattle.behaviours.specs.Paths.{Leave, End, Gives, Leaves, Spent, Stopped, Path}
 use Rattle.behaviours.specs.Events.{Trace, Shuffle, in_order}
 

@@ -8,15 +8,15 @@ use Rattle.ada_base.specs.declared.operation.Op.TheVariants.{Add, Sub}
 use Rattle.ada_base.specs.declared.reason.Reason.{Reason}
 use Rattle.ada_base.specs.declared.reason.Reason.TheVariants.{ConstraintError}
 use Rattle.first_form.specs.Program.{Program}
-use Rattle.first_form.specs.declared.first_form.Letter.{Letter}
-use Rattle.first_form.specs.declared.first_form.Declaration.{Declaration}
-use Rattle.first_form.specs.declared.first_form.Operand.{Operand}
-use Rattle.first_form.specs.declared.first_form.Operand.TheVariants.{Name, Number}
-use Rattle.first_form.specs.declared.first_form.Expression.{Expression}
-use Rattle.first_form.specs.declared.first_form.Expression.TheVariants.{Alone, Sum, Difference}
-use Rattle.first_form.specs.declared.first_form.Statement.{Statement}
-use Rattle.first_form.specs.declared.first_form.Statement.TheVariants.{Assign, Print}
-use Rattle.first_form.specs.declared.first_form.Variable.{Variable}
+use Rattle.first_form.specs.declared.program.Letter.{Letter}
+use Rattle.first_form.specs.declared.program.Declaration.{Declaration}
+use Rattle.first_form.specs.declared.program.Operand.{Operand}
+use Rattle.first_form.specs.declared.program.Operand.TheVariants.{Name, Number}
+use Rattle.first_form.specs.declared.program.Expression.{Expression}
+use Rattle.first_form.specs.declared.program.Expression.TheVariants.{Alone, Sum, Difference}
+use Rattle.first_form.specs.declared.program.Statement.{Statement}
+use Rattle.first_form.specs.declared.program.Statement.TheVariants.{Assign, Print}
+use Rattle.first_form.specs.declared.program.Variable.{Variable}
 
 pub data Ending : Type 0 where
   Ended : Ending
@@ -29,7 +29,7 @@ pub record Run : Type 0 where
 
 -- the variables as the declarations begin them (3.3.1)
 abbrev pub initial : List Declaration → List Variable
-initial declarations = map (λ d. record { name = d.variable; value = pos d.value }) declarations
+initial declarations = map (λ d. record { name = d.variable; value = d.value }) declarations
 
 -- the value of a variable; a letter without a declaration, which no accepted program uses, counts as 0
 abbrev pub value_in : List Variable → Letter → ℤ
@@ -45,7 +45,7 @@ assigned variables letter value = map (changed letter value) variables
 
 abbrev pub operand_value : List Variable → Operand → ℤ
 operand_value variables (Name letter) = value_in variables letter
-operand_value variables (Number n) = pos n
+operand_value variables (Number n) = n
 
 -- the value of an expression; None is Constraint_Error (4.5)
 abbrev pub expression_value : List Variable → Expression → Option ℤ

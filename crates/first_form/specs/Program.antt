@@ -1,14 +1,14 @@
 -- A program of the first form.
 use Rattle.std.specs.Prelude.{Bool, ◌==◌, not, List, [], ◌∷◌, ◌++◌, Option}
 use Rattle.std.specs.List.{list_any, find}
-use Rattle.first_form.specs.declared.first_form.Letter.{Letter}
-use Rattle.first_form.specs.declared.first_form.Declaration.{Declaration}
-use Rattle.first_form.specs.declared.first_form.Operand.{Operand}
-use Rattle.first_form.specs.declared.first_form.Operand.TheVariants.{Name, Number}
-use Rattle.first_form.specs.declared.first_form.Expression.{Expression}
-use Rattle.first_form.specs.declared.first_form.Expression.TheVariants.{Alone, Sum, Difference}
-use Rattle.first_form.specs.declared.first_form.Statement.{Statement}
-use Rattle.first_form.specs.declared.first_form.Statement.TheVariants.{Assign, Print}
+use Rattle.first_form.specs.declared.program.Letter.{Letter}
+use Rattle.first_form.specs.declared.program.Declaration.{Declaration}
+use Rattle.first_form.specs.declared.program.Operand.{Operand}
+use Rattle.first_form.specs.declared.program.Operand.TheVariants.{Name, Number}
+use Rattle.first_form.specs.declared.program.Expression.{Expression}
+use Rattle.first_form.specs.declared.program.Expression.TheVariants.{Alone, Sum, Difference}
+use Rattle.first_form.specs.declared.program.Statement.{Statement}
+use Rattle.first_form.specs.declared.program.Statement.TheVariants.{Assign, Print}
 
 pub record Program : Type 0 where
   pub declarations : List Declaration

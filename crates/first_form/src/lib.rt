@@ -1,7 +1,15 @@
-//! What programs mean. So far: the texts of the first form, and the run of one.
+//! Programs of the first form: what texts have one, and what it does when it is run.
 #![tactic(auto)]
 
-pub mod first_form;
+pub mod forming;
+pub mod frame;
+pub mod naming;
+pub mod program;
+pub mod reading;
+pub mod runner;
 pub mod shapes;
 
-pub use first_form::{Declaration, Expression, FirstForm, Letter, Operand, Statement, Variable};
+pub use forming::{NoForm, first_form};
+pub use naming::first_undeclared;
+pub use program::{Declaration, Expression, FirstForm, Letter, Operand, Statement};
+pub use runner::{RunEnd, run};

@@ -1,205 +1,175 @@
-//! The shapes of nodes that the first form speaks of, each by the numbers of its tokens. None is another shape.
+//! The shapes of a program's parts that the first form speaks of, each by the numbers of its tokens. None is another shape.
 
 ghost use Rattle.std.specs.Prelude.{◌≡◌};
-ghost use Rattle.std.specs.Option.{option_copied};
 ghost use Rattle.first_form.specs.Shapes as shape;
+ghost use Rattle.tree_nodes.specs.Parts.{the_expr, the_name, the_part, the_primary, the_simple, the_term};
+ghost use Rattle.tree_nodes.specs.Tables.{part_at};
+ghost use Rattle.tree_views.specs.Views.{optional};
 
-use ada_base::Boxed;
-use ada_tree::{
-    Arg, Decl, Expr, Factor, Ids, Indic, Name, ObjectType, Part, Primary, Rel, Simple, Term, Unit,
-};
+use tree_views::{Arg, Expr, Factor, Name, NamePart, Primary, Rel, Simple, Term, Tree};
 
 /// The sum that an expression is, where it has no operator of logic and is no relation.
-#[tactic(auto, unfolding(crate::specs::Shapes::sum_of))]
-pub fn sum_of(expr: &Expr) -> Option<&Simple>
-    ensures { option_copied result ≡ shape.sum_of expr.now }
+pub fn sum_of(tree: &Tree, number: u32) -> Option<u32>
+    ensures { optional (part_at tree.now.nodes) the_simple result ≡ shape.sum_of (the_expr (part_at tree.now.nodes number)) }
 {
-    match expr {
-        Expr::And { first, more } if more.is_empty() => relation_sum(first.get()),
+    let Expr::Single(rel) = tree.expr(number) else {
+        return None;
+    };
+    match tree.rel(rel) {
+        Rel::Alone(sum) => Some(sum),
         _ => None,
     }
 }
 
-#[tactic(auto, unfolding(crate::specs::Shapes::relation_sum))]
-fn relation_sum(rel: &Rel) -> Option<&Simple>
-    ensures { option_copied result ≡ shape.relation_sum rel.now }
+/// The term that a sum is, where it has no sign and no operator.
+fn whole_term(tree: &Tree, number: u32) -> Option<u32>
+    ensures { optional (part_at tree.now.nodes) the_term result ≡ shape.whole_term (the_simple (part_at tree.now.nodes number)) }
 {
-    match rel {
-        Rel::Alone(value) => Some(value.get()),
-        _ => None,
+    let Simple { sign, first, more } = tree.simple(number);
+    if sign.is_some() || tree.cell(more).is_some() {
+        return None;
     }
-}
-
-#[tactic(auto, unfolding(crate::specs::Shapes::primary_of))]
-fn primary_of(term: &Term) -> Option<&Primary>
-    ensures { option_copied result ≡ shape.primary_of term.now }
-{
-    if term.more.is_empty() {
-        factor_primary(&term.first)
-    } else {
-        None
-    }
-}
-
-#[tactic(auto, unfolding(crate::specs::Shapes::factor_primary))]
-fn factor_primary(factor: &Factor) -> Option<&Primary>
-    ensures { option_copied result ≡ shape.factor_primary factor.now }
-{
-    match factor {
-        Factor::Alone(value) => Some(value),
-        _ => None,
-    }
-}
-
-/// The identifier that a name is, where nothing follows it.
-#[tactic(auto, unfolding(crate::specs::Shapes::identifier_of))]
-pub fn identifier_of(name: &Name) -> Option<u32>
-    ensures { result ≡ shape.identifier_of name.now }
-{
-    if name.parts.is_empty() {
-        Some(name.first)
-    } else {
-        None
-    }
-}
-
-/// The token of a number or of an identifier that a term is.
-#[tactic(auto, unfolding(crate::specs::Shapes::operand_of))]
-pub fn operand_of(term: &Term) -> Option<u32>
-    ensures { result ≡ shape.operand_of term.now }
-{
-    match primary_of(term)? {
-        Primary::Number(at) => Some(*at),
-        Primary::Named(name) => identifier_of(name),
-        _ => None,
-    }
+    Some(first)
 }
 
 /// The term that an expression is, where it has no sign and no operator.
 #[tactic(auto, unfolding(crate::specs::Shapes::term_of))]
-fn term_of(expr: &Expr) -> Option<&Term>
-    ensures { option_copied result ≡ shape.term_of expr.now }
+fn term_of(tree: &Tree, number: u32) -> Option<u32>
+    ensures { optional (part_at tree.now.nodes) the_term result ≡ shape.term_of (the_expr (part_at tree.now.nodes number)) }
 {
-    let sum = sum_of(expr)?;
-    if sum.sign.is_none() && sum.more.is_empty() {
-        Some(&sum.first)
-    } else {
-        None
+    whole_term(tree, sum_of(tree, number)?)
+}
+
+/// The primary that a term is, where it has no operator.
+fn primary_of(tree: &Tree, number: u32) -> Option<u32>
+    ensures { optional (part_at tree.now.nodes) the_primary result ≡ shape.primary_of (the_term (part_at tree.now.nodes number)) }
+{
+    let Term { first, more } = tree.term(number);
+    let Factor::Operand(primary) = tree.factor(first) else {
+        return None;
+    };
+    if tree.cell(more).is_some() {
+        return None;
     }
+    Some(primary)
+}
+
+/// The identifier that a name is, where nothing follows it.
+pub fn identifier_of(tree: &Tree, number: u32) -> Option<u32>
+    ensures { result ≡ shape.identifier_of (the_name (part_at tree.now.nodes number)) }
+{
+    let Name { first, parts } = tree.name(number);
+    if tree.cell(parts).is_some() {
+        return None;
+    }
+    Some(first)
+}
+
+/// The token of a number or of an identifier that a primary is.
+fn token_of(tree: &Tree, number: u32) -> Option<u32>
+    ensures { result ≡ shape.token_of (the_primary (part_at tree.now.nodes number)) }
+{
+    match tree.primary(number) {
+        Primary::Number(at) => Some(at),
+        Primary::Named(name) => identifier_of(tree, name),
+        _ => None,
+    }
+}
+
+/// The token of a number or of an identifier that a term is.
+#[tactic(auto, unfolding(crate::specs::Shapes::operand_token))]
+pub fn operand_token(tree: &Tree, number: u32) -> Option<u32>
+    ensures { result ≡ shape.operand_token (the_term (part_at tree.now.nodes number)) }
+{
+    token_of(tree, primary_of(tree, number)?)
 }
 
 /// The token of a number or of an identifier that an expression is.
 #[tactic(auto, unfolding(crate::specs::Shapes::single_of))]
-pub fn single_of(expr: &Expr) -> Option<u32>
-    ensures { result ≡ shape.single_of expr.now }
+pub fn single_of(tree: &Tree, number: u32) -> Option<u32>
+    ensures { result ≡ shape.single_of (the_expr (part_at tree.now.nodes number)) }
 {
-    operand_of(term_of(expr)?)
+    operand_token(tree, term_of(tree, number)?)
 }
 
-#[tactic(auto, unfolding(crate::specs::Shapes::name_of))]
-fn name_of(expr: &Expr) -> Option<&Name>
-    ensures { option_copied result ≡ shape.name_of expr.now }
+/// The name that a primary is.
+fn named(tree: &Tree, number: u32) -> Option<u32>
+    ensures { optional (part_at tree.now.nodes) the_name result ≡ shape.named (the_primary (part_at tree.now.nodes number)) }
 {
-    match primary_of(term_of(expr)?)? {
+    match tree.primary(number) {
         Primary::Named(name) => Some(name),
         _ => None,
     }
 }
 
-/// Of `V : M := N;` the tokens of V, M and N.
-#[tactic(auto, unfolding(crate::specs::Shapes::object_of))]
-pub fn object_of(unit: &Unit) -> Option<(u32, u32, u32)>
-    ensures { result ≡ shape.object_of unit.now }
+/// The name that an expression is.
+#[tactic(auto, unfolding(crate::specs::Shapes::name_of))]
+fn name_of(tree: &Tree, number: u32) -> Option<u32>
+    ensures { optional (part_at tree.now.nodes) the_name result ≡ shape.name_of (the_expr (part_at tree.now.nodes number)) }
 {
-    match unit {
-        Unit::Decl(
-            Decl::Object {
-                names,
-                constant: None,
-                subtype: ObjectType::Indic(indic),
-                value: Some(value),
-            },
-        ) => object(names, indic, value.get()),
-        _ => None,
-    }
+    named(tree, primary_of(tree, term_of(tree, number)?)?)
 }
 
-fn object(names: &Ids, indic: &Indic, value: &Expr) -> Option<(u32, u32, u32)>
-    ensures { result ≡ shape.object names.now indic.now value.now }
+/// The one argument of a call, without a name.
+fn argument_of(tree: &Tree, number: u32) -> Option<u32>
+    ensures { optional (part_at tree.now.nodes) the_expr result ≡ shape.argument_of (the_part (part_at tree.now.nodes number)) }
 {
-    if names.more.is_empty() && indic.range.is_none() {
-        let number = single_of(value)?;
-        Some((names.first, indic.mark, number))
-    } else {
-        None
-    }
-}
-
-// the one argument of a call
-#[tactic(auto, unfolding(crate::specs::Shapes::argument_of))]
-fn argument_of(part: &Part) -> Option<&Boxed<Arg>>
-    ensures { option_copied result ≡ shape.argument_of part.now }
-{
-    match part {
-        Part::Call { first, more, .. } if more.is_empty() => Some(first),
-        _ => None,
-    }
-}
-
-#[tactic(auto, unfolding(crate::specs::Shapes::argument_single))]
-fn argument_single(arg: &Arg) -> Option<u32>
-    ensures { result ≡ shape.argument_single arg.now }
-{
-    if arg.name.is_none() {
-        single_of(&arg.value)
-    } else {
-        None
-    }
-}
-
-#[tactic(auto, unfolding(crate::specs::Shapes::argument_image))]
-fn argument_image(arg: &Arg) -> Option<(u32, u32, u32)>
-    ensures { result ≡ shape.argument_image arg.now }
-{
-    if arg.name.is_none() {
-        image_of(&arg.value)
-    } else {
-        None
-    }
-}
-
-#[tactic(auto, unfolding(crate::specs::Shapes::attribute_of))]
-fn attribute_of(part: &Part) -> Option<u32>
-    ensures { result ≡ shape.attribute_of part.now }
-{
-    match part {
-        Part::Attribute(at) => Some(*at),
-        _ => None,
-    }
-}
-
-// of `M'A (V)` the tokens of M, A and V
-#[tactic(auto, unfolding(crate::specs::Shapes::image_of))]
-fn image_of(expr: &Expr) -> Option<(u32, u32, u32)>
-    ensures { result ≡ shape.image_of expr.now }
-{
-    let name = name_of(expr)?;
-    let [attribute, call] = name.parts.as_slice() else {
+    let NamePart::Call { first, more, .. } = tree.name_part(number) else {
         return None;
     };
-    let attribute = attribute_of(attribute)?;
-    let variable = argument_single(argument_of(call)?.get())?;
-    Some((name.first, attribute, variable))
+    let Arg { formal, value } = tree.arg(first);
+    if formal.is_some() || tree.cell(more).is_some() {
+        return None;
+    }
+    Some(value)
+}
+
+fn attribute_of(tree: &Tree, number: u32) -> Option<u32>
+    ensures { result ≡ shape.attribute_of (the_part (part_at tree.now.nodes number)) }
+{
+    match tree.name_part(number) {
+        NamePart::Attribute(at) => Some(at),
+        _ => None,
+    }
+}
+
+fn image_parts(tree: &Tree, mark: u32, attribute: u32, call: u32) -> Option<(u32, u32, u32)>
+    ensures { result ≡ shape.image_parts mark (the_part (part_at tree.now.nodes attribute)) (the_part (part_at tree.now.nodes call)) }
+{
+    let at = attribute_of(tree, attribute)?;
+    let variable = single_of(tree, argument_of(tree, call)?)?;
+    Some((mark, at, variable))
+}
+
+fn image_name(tree: &Tree, number: u32) -> Option<(u32, u32, u32)>
+    ensures { result ≡ shape.image_name (the_name (part_at tree.now.nodes number)) }
+{
+    let Name { first, parts } = tree.name(number);
+    let attribute = tree.cell(parts)?;
+    let call = tree.cell(attribute.rest)?;
+    if tree.cell(call.rest).is_some() {
+        return None;
+    }
+    image_parts(tree, first, attribute.first, call.first)
+}
+
+/// Of `M'A (V)` the tokens of M, A and V.
+#[tactic(auto, unfolding(crate::specs::Shapes::image_of))]
+fn image_of(tree: &Tree, number: u32) -> Option<(u32, u32, u32)>
+    ensures { result ≡ shape.image_of (the_expr (part_at tree.now.nodes number)) }
+{
+    image_name(tree, name_of(tree, number)?)
 }
 
 /// Of `P (M'A (V))` the tokens of P, M, A and V.
-#[tactic(auto, unfolding(crate::specs::Shapes::output_of))]
-pub fn output_of(name: &Name) -> Option<(u32, u32, u32, u32)>
-    ensures { result ≡ shape.output_of name.now }
+pub fn output_of(tree: &Tree, number: u32) -> Option<(u32, u32, u32, u32)>
+    ensures { result ≡ shape.output_of (the_name (part_at tree.now.nodes number)) }
 {
-    let [call] = name.parts.as_slice() else {
+    let Name { first, parts } = tree.name(number);
+    let call = tree.cell(parts)?;
+    if tree.cell(call.rest).is_some() {
         return None;
-    };
-    let (mark, attribute, variable) = argument_image(argument_of(call)?.get())?;
-    Some((name.first, mark, attribute, variable))
+    }
+    let (mark, attribute, variable) = image_of(tree, argument_of(tree, call.first)?)?;
+    Some((first, mark, attribute, variable))
 }

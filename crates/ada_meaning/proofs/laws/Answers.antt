@@ -1,14 +1,21 @@
 use Rattle.ada_meaning.proofs.laws.Goals as goal
-use Rattle.ada_meaning.proofs.Law.{stops_law, alone_law, only_law, one_law, sequential_law, one_sequential_law, subtype_law}
+use Rattle.ada_meaning.proofs.Law.{stops_law, alone_law, at_once_law, silent_law, only_law, one_law, sequential_law, one_sequential_law, subtype_law}
 use Rattle.ada_meaning.proofs.Operators.{operator_law}
 use Rattle.ada_meaning.proofs.Unblocked.{blocked_law}
 use Rattle.ada_meaning.proofs.Shapes.{shape_law}
+use Rattle.ada_meaning.proofs.Sizes.{size_law}
 
 pub returns-clause-stops : goal.returns-clause-stops
 returns-clause-stops c = stops_law
 
 pub returns-clause-alone : goal.returns-clause-alone
 returns-clause-alone c = alone_law
+
+pub returns-clause-at_once : goal.returns-clause-at_once
+returns-clause-at_once c = at_once_law
+
+pub returns-clause-silent : goal.returns-clause-silent
+returns-clause-silent c = silent_law
 
 pub returns-clause-only : goal.returns-clause-only
 returns-clause-only c = only_law
@@ -33,3 +40,6 @@ returns-clause-blocked c = blocked_law
 
 pub returns-clause-shapes : goal.returns-clause-shapes
 returns-clause-shapes c = shape_law
+
+pub returns-clause-sizes : goal.returns-clause-sizes
+returns-clause-sizes c = size_law

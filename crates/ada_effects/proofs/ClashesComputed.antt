@@ -1,0 +1,54 @@
+-- The rows of broken rules, computed.
+use Rattle.std.proofs.Common.{inl, inr, ⊎_elim, refl, arith}
+use Rattle.ada_effects.specs.ClashRows.{ClashRows, TouchedRows}
+
+none : {C : Type 0} → ⊥ → C
+none h = absurd h
+
+pub clash_rows : ClashRows
+clash_rows = (
+  (
+    _,
+    (inl (inr (inl (inl (inl refl)), tt))),
+    (
+      omega arith,
+      inl (record {
+        arm = 0;
+        other_arm = 0;
+        compared = tt;
+        access = _;
+        other_access = _;
+        effect = inl (inr (inl (inr (inr (inl (inl refl))))));
+        other_effect = inl (inr (inl (inr (inr (inl (inr (inr (inl refl))))))));
+        writes = refl;
+        together = ⊎_elim (λ unlike. unlike refl) (⊎_elim none (⊎_elim none none));
+      }),
+    ),
+  ),
+  (
+    _,
+    (inl (inr ((inr (inl (inl (inl refl)), tt)), tt))),
+    (
+      omega arith,
+      inl (record {
+        arm = 0;
+        other_arm = 0;
+        compared = tt;
+        access = _;
+        other_access = _;
+        effect = inl (inr (inl (inl refl)));
+        other_effect = inl (inr (inl (inl refl)));
+        writes = refl;
+        together = ⊎_elim (λ unlike. unlike refl) none;
+      }),
+    ),
+  ),
+)
+
+pub touched_rows : TouchedRows
+touched_rows = (
+  (_, (inl (inr ((inr (inl (inl (inl refl)), tt)), tt))), (_, refl, inr (0, inl (inr (inl (inl refl)))), none)),
+  (_, (inl (inr ((inr (inl (inl (inl refl)), tt)), tt))), (_, refl, inr (0, inl (inl (inl refl))), none)),
+  (_, (inl (inr (inl (inl (inl refl)), tt))), (_, refl, inl (inl (inr (inr (inl refl)))), none)),
+  (_, (inl (inr ((inr (inl (inl (inl refl)), tt)), tt))), (_, refl, inr (0, inl (inr (inl (inr (inr (inl refl)))))), ⊎_elim none none)),
+)

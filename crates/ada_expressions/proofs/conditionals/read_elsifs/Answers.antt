@@ -1,6 +1,0 @@
-use Rattle.std.proofs.Common.{rules}
-use Rattle.ada_readers.specs.BracketReaders as bracket
-use Rattle.ada_expressions.proofs.conditionals.read_elsifs.Goals as goal
-
-pub returns : goal.returns
-returns g c inner reads = c.read_items.ensures (bracket.elsif inner) (record { reads = λ old new result e. search rules })

@@ -1,2 +1,0 @@
-pub mod BracketEnds
-pub mod StandsFor

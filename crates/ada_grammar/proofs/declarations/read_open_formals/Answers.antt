@@ -1,7 +1,0 @@
-use Rattle.std.proofs.Common.{rules}
-use Rattle.ada_readers.specs.DeclarationReaders.{open_formals}
-use Rattle.ada_grammar.proofs.declarations.read_open_formals.Goals as goal
-
-pub returns-in_err-more : goal.returns-in_err-more
-unfolding open_formals
-returns-in_err-more c = rw c.in_ok-bracket.ensures (rw c.in_ok-first.ensures (search rules))

@@ -1,0 +1,32 @@
+use Rattle.std.proofs.Common.{sym, ap, ◌∙◌, subst, Result, Ok, Err}
+use Rattle.ada_base.specs.Symbols.{numbered}
+use Rattle.ada_tree.specs.Grammar.{ProgramWords}
+use Rattle.ada_tree.specs.Parsed.{depth_limit}
+use Rattle.grammar_readers.specs.Units as reader
+use Rattle.reader_combinators.specs.Verdicts.{RightVerdict}
+use Rattle.reader_exactness.proofs.Units.{right}
+use Rattle.tree_nodes.specs.Parts.{the_program, IsPart}
+use Rattle.tree_nodes.specs.Rooted.{top}
+use Rattle.tree_nodes.specs.Stack.{parts}
+use Rattle.ada_parser.specs.Reading.{Reads}
+use Rattle.ada_grammar.proofs.RightVerdicts.{judged, told_of}
+use Rattle.tree_views.specs.Trees as trees
+use Rattle.ada_grammar.proofs.parser.judge.Goals as goal
+
+pub returns-in-Ok : goal.returns-in-Ok
+unfolding trees.program_of
+returns-in-Ok c =
+    let new = c.program-read.new.parser in
+    let kinds = c.args.kinds.now in
+    let read = subst (λ ts. Reads the_program IsPart (parts c.begin.result) (reader.program depth_limit ts) c.program-read.result new.tokens (parts new.out)) c.new.ensures c.program-read.ensures in
+    let whole = judged depth_limit ProgramWords kinds the_program IsPart (parts c.begin.result) (reader.program depth_limit (numbered 0 kinds)) c.program-read.result new.tokens (parts new.out) (right depth_limit kinds) read in
+    subst (λ p. RightVerdict depth_limit ProgramWords kinds (Ok (the_program p))) (sym c.finish.ensures)
+    (subst (λ r. RightVerdict depth_limit ProgramWords kinds (told_of (the_program (top (parts new.out))) r)) (sym c.verdict.ensures ∙ c.in-Ok.is) whole)
+
+pub returns-in-Err : goal.returns-in-Err
+returns-in-Err c =
+    let new = c.program-read.new.parser in
+    let kinds = c.args.kinds.now in
+    let read = subst (λ ts. Reads the_program IsPart (parts c.begin.result) (reader.program depth_limit ts) c.program-read.result new.tokens (parts new.out)) c.new.ensures c.program-read.ensures in
+    let whole = judged depth_limit ProgramWords kinds the_program IsPart (parts c.begin.result) (reader.program depth_limit (numbered 0 kinds)) c.program-read.result new.tokens (parts new.out) (right depth_limit kinds) read in
+    subst (λ r. RightVerdict depth_limit ProgramWords kinds (told_of (the_program (top (parts new.out))) r)) (sym c.verdict.ensures ∙ c.in-Err.is) whole

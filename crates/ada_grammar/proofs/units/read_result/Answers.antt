@@ -1,9 +1,0 @@
-use Rattle.std.proofs.Common.{arith}
-use Rattle.ada_readers.specs.UnitReaders as reader
-use Rattle.ada_readers.specs.UnitReaders.{result}
-use Rattle.reader_laws.proofs.Judging.{level_below}
-use Rattle.ada_grammar.proofs.units.read_result.Goals as goal
-
-pub returns : goal.returns
-unfolding result
-returns c = rw (level_below (λ n. reader.result n c.args.tokens.now) c.args.levels (omega arith)) c.read_open_result.ensures

@@ -1,0 +1,3 @@
+pub mod Enough
+pub mod Reaches
+pub mod Steps

@@ -1,0 +1,62 @@
+-- What a Get answers, of what the source gave it.
+use Rattle.std.specs.Prelude.{◌≡◌, ℕ, ◌+◌, ◌-◌, ◌≤◌, List, length, Bool, cond, ℤ, Result, Ok, Err}
+use Rattle.ada_base.specs.Input.{Held}
+use Rattle.ada_base.specs.Input as input
+use Rattle.ada_io.specs.declared.input.GetEnd.{GetEnd}
+use Rattle.ada_io.specs.declared.input.GetEnd.TheVariants.{Number, Raise, ReadFault, Spent}
+use Rattle.ada_io.specs.Plain.{Feed, End, Fault, fed, Stop, Raised, Failed, TurnsSpent, at, plain}
+use Rattle.ada_port.specs.Ports.{Stream, Gives, GivesAll, GivesUntil}
+
+-- how the asking of a source ended: with a byte or before any was asked, with its end, or with a fault
+pub data Last : Type 0 where
+  Open : Last
+  AtEnd : Last
+  Broken : Last
+
+-- the source gave these bytes, and ended so
+abbrev pub Gave : Last → Stream → Stream → List ℕ → Type 0
+Gave Open old new bytes = Gives old new bytes
+Gave AtEnd old new bytes = GivesAll old new bytes
+Gave Broken old new bytes = GivesUntil old new bytes
+
+-- what the source may give after that
+abbrev pub MayFollow : Last → Feed → Type 0
+MayFollow Open more = Unit {0}
+MayFollow AtEnd more = more ≡ End
+MayFollow Broken more = more ≡ Fault
+
+-- how often it was asked
+abbrev pub askings : Last → List ℕ → ℕ
+askings Open bytes = length bytes
+askings AtEnd bytes = length bytes + 1
+askings Broken bytes = length bytes + 1
+
+-- a read fault comes exactly from a source that failed
+abbrev pub last_of : GetEnd → Bool → Last
+last_of ReadFault ended = Broken
+last_of _ ended = cond ended AtEnd Open
+
+-- the number of askings is told, and the turns are spent exactly where all were taken and one more is needed
+abbrev pub IsCounted : ℕ → GetEnd → ℕ → Type 0
+IsCounted turns (Number value took) n = took ≡ n
+IsCounted turns (Raise reason took) n = took ≡ n
+IsCounted turns ReadFault n = Unit {0}
+IsCounted turns Spent n = turns ≡ n
+
+abbrev pub answer_of : GetEnd → Result ℤ Stop
+answer_of (Number value took) = Ok value
+answer_of (Raise reason took) = Err (Raised reason)
+answer_of ReadFault = Err Failed
+answer_of Spent = Err TurnsSpent
+
+-- the answer is the one of the language's Get on the bytes that the source gave, whatever may follow, where so many turns
+-- were left; and so is what is held then
+pub record Gets (old new : Stream) (before after : Held) (turns : ℕ) (result : GetEnd) : Type 0 where
+  pub bytes : List ℕ
+  pub ended : Bool
+  pub gave : Gave (last_of result ended) old new bytes
+  pub within : askings (last_of result ended) bytes ≤ turns
+  pub counted : IsCounted turns result (askings (last_of result ended) bytes)
+  pub same : (more : Feed) → MayFollow (last_of result ended) more → (taken : ℕ)
+      → input.got plain turns (record { held = before; feed = fed bytes more; turns = turns; taken = taken })
+      ≡ at (record { held = after; feed = more; turns = turns - askings (last_of result ended) bytes; taken = taken + length bytes }) (answer_of result)

@@ -1,0 +1,4 @@
+pub mod Gets
+pub mod Looks
+pub mod Phases
+pub mod Plain

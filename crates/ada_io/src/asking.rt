@@ -1,0 +1,35 @@
+// The asking of a source, and its turns.
+ghost use Rattle.std.specs.Prelude.{◌≤◌};
+ghost use Rattle.ada_io.specs.Looks.{Looks};
+
+use crate::input::Holding;
+use ada_port::Source;
+
+pub(crate) enum Looked {
+    At(Option<u8>),
+    ReadFault,
+    Spent,
+}
+
+// What is held, or else what the source gives, for which a turn is taken.
+pub(crate) fn look<S: Source>(
+    held: Holding,
+    source: &mut S,
+    turns_left: u64,
+    took: &mut u64,
+) -> Looked
+    requires { took.old ≤ turns_left }
+    ensures { Looks (S.state source.old) (S.state source.new) held turns_left took.old took.new result }
+{
+    if let Holding::Symbol(symbol) = held {
+        return Looked::At(symbol);
+    }
+    if *took == turns_left {
+        return Looked::Spent;
+    }
+    *took += 1;
+    match source.next() {
+        Ok(symbol) => Looked::At(symbol),
+        Err(_) => Looked::ReadFault,
+    }
+}

@@ -1,0 +1,88 @@
+ghost use Rattle.ada_base.specs.Input.{Nothing};
+ghost use Rattle.std.specs.Prelude.{◌≡◌};
+ghost use Rattle.ada_io.specs.Gets.{Gets};
+
+use crate::asking::{Looked, look};
+use crate::phases::{Outcome, Phase, step};
+use ada_base::Reason;
+use ada_port::Source;
+use std::marker::Model;
+
+/// How a Get ends (A.10.8). `took` is how often it asked the source, the asking that met the end too.
+#[derive(Clone, Copy)]
+pub enum GetEnd {
+    /// A value of Integer was read.
+    Number { value: i64, took: u64 },
+    /// `EndError` where the input ended before a sign or digit, and else `DataError`.
+    Raise { reason: Reason, took: u64 },
+    /// The source failed.
+    ReadFault,
+    /// All turns were taken and one more is needed.
+    Spent,
+}
+
+// What a Get left for the next one: nothing, or the byte or end that it looked at last.
+#[derive(Clone, Copy)]
+pub(crate) enum Holding {
+    Nothing,
+    Symbol(Option<u8>),
+}
+
+/// Reads integers from a source, one after the other. Contracts see what it holds for the next Get: nothing, or the byte
+/// or end of the input that was looked at last.
+#[derive(Drop)]
+pub struct Reader {
+    held: Holding,
+}
+
+impl Model for Reader {
+    ghost use Rattle.ada_base.specs.Input.{Held};
+    ghost use Rattle.ada_io.specs.Phases.{held_of};
+
+    ghost Value = { Held };
+
+    ghost view = { λ reader. held_of reader.held };
+}
+
+impl Reader {
+    /// A reader that holds nothing yet.
+    pub fn new() -> Reader
+        ensures { result ≡ Nothing }
+    {
+        Reader {
+            held: Holding::Nothing,
+        }
+    }
+
+    /// Reads an integer as Get does (A.10.8): blanks, a sign if there is one, and the longest run of digits with single
+    /// underscores between them. What ends the run is held for the next Get. Each asking of the source takes a turn. Once
+    /// the end was met the source isn't asked again. `ReadFault` comes only where the source's count of faults rose, and
+    /// `Spent` exactly where `turns_left` turns were taken and one more is needed; both leave what is held.
+    pub fn get<S: Source>(&mut self, source: &mut S, turns_left: u64) -> GetEnd
+        ensures { Gets (S.state source.old) (S.state source.new) self.old self.new turns_left result }
+    {
+        let mut phase = Phase::Blanks;
+        let mut held = self.held;
+        let mut took = 0;
+        loop {
+            match look(held, source, turns_left, &mut took) {
+                Looked::At(symbol) => match step(phase, symbol) {
+                    Outcome::Asks(later) => {
+                        phase = later;
+                        held = Holding::Nothing;
+                    }
+                    Outcome::Gives(value) => {
+                        self.held = Holding::Symbol(symbol);
+                        return GetEnd::Number { value, took };
+                    }
+                    Outcome::Raises(reason) => {
+                        self.held = Holding::Symbol(symbol);
+                        return GetEnd::Raise { reason, took };
+                    }
+                },
+                Looked::ReadFault => return GetEnd::ReadFault,
+                Looked::Spent => return GetEnd::Spent,
+            }
+        }
+    }
+}

@@ -1,0 +1,38 @@
+-- Bytes that were read before they are asked for.
+use Rattle.std.proofs.Common.{◌≡◌, ℕ, suc, ◌+◌, ◌-◌, ◌<◌, ◌≤◌, List, [], ◌∷◌, ◌++◌, length, get_or, take, drop, Option, Some, None, refl, ◌∙◌, arith, add-one, drop-cons}
+use Rattle.std.specs.List.{slice_range}
+use Rattle.std.specs.Io.KnownBytes.{Consumes, prepend_known}
+use Rattle.ada_port.specs.Ports.{Loses}
+
+-- the first of the bytes from one place to another
+pub slice_range-first : (bytes : List ℕ) (start end : ℕ) → start < end → end ≤ length bytes → slice_range bytes start end ≡ get_or bytes start 0 ∷ slice_range bytes (start + 1) end
+slice_range-first bytes start end some within =
+    let less : start < length bytes = omega arith in
+    let count : end - start ≡ suc (end - (start + 1)) = omega arith in
+    rw (drop-cons bytes start 0, count, add-one) refl
+
+unwrapped : {a b : List ℕ} → Some a ≡ Some b → b ≡ a
+unwrapped e = cc
+
+pub Loses-buffered : (known : Option (List ℕ)) (buffer : List ℕ) (start end : ℕ) → start < end → end ≤ length buffer → Loses (prepend_known (slice_range buffer start end) known) (prepend_known (slice_range buffer (start + 1) end) known) (get_or buffer start 0 ∷ [])
+Loses-buffered None buffer start end some within left e = cc
+Loses-buffered (Some rest) buffer start end some within left e =
+    let first = slice_range-first buffer start end some within in
+    (slice_range buffer (start + 1) end ++ rest, rw first at (unwrapped e), refl)
+
+-- no byte stands from a place to one that isn't behind it
+pub prepend-none : (known : Option (List ℕ)) (buffer : List ℕ) (start end : ℕ) → end ≤ start → prepend_known (slice_range buffer start end) known ≡ known
+prepend-none None buffer start end none = refl
+prepend-none (Some rest) buffer start end none = let e : end - start ≡ 0 = omega arith in rw e refl
+
+drop-none : (bytes : List ℕ) → drop 0 bytes ≡ bytes
+drop-none [] = refl
+drop-none (x ∷ xs) = refl
+
+pub Loses-read : (old new : Option (List ℕ)) (buffer : List ℕ) (count : ℕ) → Consumes old new (take count buffer) → 0 < count → count ≤ length buffer → Loses old (prepend_known (slice_range buffer 1 count) new) (get_or buffer 0 0 ∷ [])
+Loses-read None new buffer count c some within left e = cc
+Loses-read (Some xs) None buffer count c some within left e = absurd c
+Loses-read (Some xs) (Some ys) buffer count c some within left e =
+    let same : count - 0 ≡ count = omega arith in
+    let first = rw (same, drop-none buffer) at (slice_range-first buffer 0 count some within) in
+    (slice_range buffer 1 count ++ ys, unwrapped e ∙ rw first at c, refl)

@@ -1,9 +1,0 @@
-use Rattle.ada_readers.proofs.UnitRules.{one_program}
-use Rattle.ada_tree.specs.TokenKinds.{kinds_of}
-use Rattle.ada_readers.proofs.laws.one_tree.Goals as goal
-
-pub returns-clause-kinds : goal.returns-clause-kinds
-returns-clause-kinds c = one_program
-
-pub returns-clause-tokens : goal.returns-clause-tokens
-returns-clause-tokens c tokens = one_program (kinds_of tokens)

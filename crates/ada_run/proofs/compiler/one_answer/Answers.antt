@@ -1,0 +1,11 @@
+use Rattle.ada_run.proofs.Exact.{compiling_exact}
+use Rattle.ada_run.proofs.compiler.one_answer.Goals as goal
+
+pub returns-clause-program : goal.returns-clause-program
+returns-clause-program c = compiling_exact.one_result
+
+pub returns-clause-fault : goal.returns-clause-fault
+returns-clause-fault c = compiling_exact.one_fault
+
+pub returns-clause-not_both : goal.returns-clause-not_both
+returns-clause-not_both c = compiling_exact.apart

@@ -1,0 +1,4 @@
+pub mod Evens
+mod Parts
+mod Cutting
+mod Sound

@@ -1,0 +1,50 @@
+ghost use Rattle.std.specs.Prelude.{◌↔◌, IsTrue};
+ghost use Rattle.chunk_plan.specs.Plans.{HasNoZero};
+
+use ada_base::Items;
+
+/// How a run divides the iterations of those constructs for which the text leaves it open. Each number
+/// in it is at least 1.
+#[derive(Drop)]
+pub enum Plan {
+    /// One chunk.
+    One,
+    /// So many chunks, as equal as can be, and no more than there are iterations.
+    Even(u32),
+    /// Chunks of so many iterations, and a last smaller one.
+    Sized(u32),
+    /// Chunks of these sizes in order, and one more for what is left.
+    Listed(Items<u32>),
+}
+
+impl Plan {
+    /// Whether each number in the plan is at least 1.
+    pub fn has_no_zero(&self) -> bool
+        ensures { IsTrue result ↔ HasNoZero self.now }
+    {
+        match self {
+            Plan::One => true,
+            Plan::Even(chunks) => *chunks > 0,
+            Plan::Sized(size) => *size > 0,
+            Plan::Listed(sizes) => sizes.as_slice().iter().all(|size| *size > 0),
+        }
+    }
+}
+
+/// What a run is told beside its program.
+#[derive(Drop)]
+pub struct Setting {
+    /// How iterations are divided.
+    pub plan: Plan,
+    /// How many workers carry out the threads of a construct, at least 1.
+    pub workers: u32,
+    /// How many turns a path may begin, at least 1.
+    pub turns: u64,
+}
+
+/// The sizes of chunks, in the order of the chunks.
+#[derive(Drop)]
+pub struct Cuts {
+    /// How many iterations each chunk has.
+    pub sizes: Items<u64>,
+}

@@ -1,0 +1,15 @@
+-- The readers of what opens a bracket, by how many levels may still open.
+use Rattle.std.specs.Prelude.{ℕ, zero, suc, [], ◌∷◌}
+use Rattle.reader_combinators.specs.Readers.{too_deep}
+use Rattle.ada_tree.specs.Kinds as kind
+use Rattle.grammar_readers.specs.Opened.{Opened}
+use Rattle.grammar_readers.specs.Brackets.{round, square, call, chunk}
+
+unfoldable pub levels : ℕ → Opened
+levels zero = record {
+  round = too_deep (kind.open_round ∷ []);
+  square = too_deep (kind.open_square ∷ []);
+  call = too_deep (kind.open_round ∷ []);
+  chunk = λ at. too_deep (kind.open_round ∷ []);
+}
+levels (suc n) = record { round = round (levels n); square = square (levels n); call = call (levels n); chunk = chunk (levels n) }

@@ -1,0 +1,15 @@
+use Rattle.std.proofs.Common.{subst}
+use Rattle.reader_combinators.specs.Example as spec
+use Rattle.reader_combinators.specs.ExampleReaders as reader
+use Rattle.ada_base.specs.Symbols.{numbered}
+use Rattle.reader_combinators.specs.Computes.{Computes}
+use Rattle.reader_combinators.proofs.RightVerdicts.{judged}
+use Rattle.reader_combinators.proofs.Fits.{right}
+use Rattle.reader_combinators.proofs.example.parse.Goals as goal
+
+pub returns : goal.returns
+returns c =
+    rw c.verdict.ensures
+    (judged c.args.limit spec.ranges c.args.kinds.now (reader.ranges c.args.limit (numbered 0 c.args.kinds.now)) c.read_ranges-found.result c.read_ranges-found.new.tokens
+    (right c.args.limit c.args.kinds.now)
+    (subst (λ ts. Computes (reader.ranges c.args.limit ts) c.read_ranges-found.result c.read_ranges-found.new.tokens) c.new-tokens.ensures c.read_ranges-found.ensures))

@@ -1,0 +1,48 @@
+-- A grammar of lists of ranges: where `number` is a number,
+--     ranges = range {"," range} .
+--     range  = value [".." value] .
+--     value  = number | "(" value ")" .
+-- The depth at a token is the number of brackets that are open there, itself included.
+use Rattle.std.specs.Prelude.{ℕ, zero, suc, List, [], ◌∷◌}
+use Rattle.ada_base.specs.Languages.{Language, ◌⋅◌, Leaf, Quoted, Many}
+use Rattle.reader_combinators.specs.declared.example.Value.{Value}
+use Rattle.reader_combinators.specs.declared.example.Range.{Range}
+use Rattle.reader_combinators.specs.declared.example.Range.TheVariants.{One, Between}
+
+-- ---- kinds
+
+abbrev pub number : ℕ
+number = 1
+
+abbrev pub open_bracket : ℕ
+open_bracket = 2
+
+abbrev pub close_bracket : ℕ
+close_bracket = 3
+
+abbrev pub dots : ℕ
+dots = 4
+
+abbrev pub comma : ℕ
+comma = 5
+
+-- ---- what derives what
+
+-- a number in brackets
+abbrev pub bracketed : ℕ → ℕ → ℕ → Language
+bracketed depth zero n = Leaf depth number n
+bracketed depth (suc brackets) n = Quoted (suc depth) open_bracket ⋅ bracketed (suc depth) brackets n ⋅ Quoted (suc depth) close_bracket
+
+abbrev pub value : ℕ → Value → Language
+value depth v = bracketed depth v.brackets v.number
+
+abbrev pub range : ℕ → Range → Language
+range depth (One v) = value depth v
+range depth (Between v w) = value depth v ⋅ Quoted depth dots ⋅ value depth w
+
+abbrev pub more_range : ℕ → Range → Language
+more_range depth r = Quoted depth comma ⋅ range depth r
+
+abbrev pub ranges : List Range → Language
+ranges [] w = ⊥
+ranges (r ∷ rs) w = (range 0 r ⋅ Many (more_range 0) rs) w

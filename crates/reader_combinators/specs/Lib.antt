@@ -1,0 +1,9 @@
+pub mod Readers
+pub mod Sets
+pub mod Exact
+pub mod Ahead
+pub mod Computes
+pub mod Verdicts
+pub mod Loops
+pub mod Example
+pub mod ExampleReaders

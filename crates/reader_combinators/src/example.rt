@@ -1,0 +1,174 @@
+//! A parser that is made of readers, for lists of ranges as `(1) .. 5, ((7))`: each function gives what a
+//! reader of `specs/ExampleReaders.antt` gives, and the laws make the whole exact.
+
+ghost use Rattle.std.specs.Prelude.{◌≡◌, ◌+◌, ◌-◌, ◌≤◌, ◌<◌, ◌^◌, length, IfOk};
+ghost use Rattle.reader_combinators.specs.Example as spec;
+ghost use Rattle.reader_combinators.specs.ExampleReaders as reader;
+ghost use Rattle.reader_combinators.specs.Computes.{Computes};
+ghost use Rattle.reader_combinators.specs.Verdicts.{RightVerdict};
+
+use crate::cursor::Cursor;
+use crate::fault::{Fault, Refusal, verdict};
+use ada_base::Items;
+use std::alloc::Global;
+
+const NUMBER: u16 = 1;
+
+const OPEN: u16 = 2;
+
+const CLOSE: u16 = 3;
+
+const DOTS: u16 = 4;
+
+const COMMA: u16 = 5;
+
+/// A number in brackets: how many, and the number of its token.
+#[derive(Clone, Copy, Debug, PartialEq, Eq)]
+pub struct Value {
+    pub brackets: u32,
+    pub number: u32,
+}
+
+/// A value alone, or the values from one to another.
+#[derive(Clone, Copy, Debug, PartialEq, Eq)]
+pub enum Range {
+    One(Value),
+    Between(Value, Value),
+}
+
+/// A value, where so many brackets may still open.
+#[cycle(brackets)]
+#[tactic(auto, unfolding(crate::specs::ExampleReaders::value_of))]
+fn read_value(tokens: &mut Cursor<'_>, levels: u32) -> Result<Value, Fault>
+    ensures reads { Computes (reader.value levels tokens.old) result tokens.new }
+    ensures brackets { IfOk result (λ v. v.brackets ≤ levels) }
+{
+    if tokens.peek() == OPEN {
+        read_bracket(tokens, levels)
+    } else {
+        let number = tokens.take(NUMBER)?;
+        Ok(Value {
+            brackets: 0,
+            number,
+        })
+    }
+}
+
+/// A value in a bracket, where so many may still open.
+#[cycle(brackets)]
+#[tactic(auto, unfolding(crate::specs::ExampleReaders::bracket))]
+fn read_bracket(tokens: &mut Cursor<'_>, levels: u32) -> Result<Value, Fault>
+    ensures reads { Computes (reader.bracket levels tokens.old) result tokens.new }
+    ensures brackets { IfOk result (λ v. v.brackets ≤ levels) }
+{
+    if levels == 0 {
+        if tokens.peek() == OPEN {
+            return Err(Fault::TooDeep);
+        }
+        return Err(Fault::Unexpected);
+    }
+    read_inside(tokens, levels - 1)
+}
+
+/// A value in a bracket, where so many may still open in that.
+#[cycle(brackets)]
+#[tactic(auto, unfolding(crate::specs::ExampleReaders::bracket_of))]
+fn read_inside(tokens: &mut Cursor<'_>, levels: u32) -> Result<Value, Fault>
+    requires { levels < 2 ^ 32 - 1 }
+    ensures reads { Computes (reader.bracket_of (reader.value levels) tokens.old) result tokens.new }
+    ensures brackets { IfOk result (λ v. v.brackets ≤ levels + 1) }
+{
+    tokens.take(OPEN)?;
+    let inner = read_value(tokens, levels)?;
+    tokens.take(CLOSE)?;
+    Ok(Value {
+        brackets: inner.brackets + 1,
+        number: inner.number,
+    })
+}
+
+#[tactic(auto, unfolding(crate::specs::ExampleReaders::range))]
+fn read_range(tokens: &mut Cursor<'_>, levels: u32) -> Result<Range, Fault>
+    ensures { Computes (reader.range levels tokens.old) result tokens.new }
+{
+    let low = read_value(tokens, levels)?;
+    if tokens.peek() == DOTS {
+        tokens.take(DOTS)?;
+        Ok(Range::Between(low, read_value(tokens, levels)?))
+    } else {
+        Ok(Range::One(low))
+    }
+}
+
+#[tactic(auto, unfolding(crate::specs::ExampleReaders::more_range))]
+fn read_next_range(tokens: &mut Cursor<'_>, levels: u32) -> Result<Range, Fault>
+    ensures { Computes (reader.more_range levels tokens.old) result tokens.new }
+{
+    tokens.take(COMMA)?;
+    read_range(tokens, levels)
+}
+
+#[tactic(auto, unfolding(crate::specs::ExampleReaders::ranges))]
+fn read_ranges(alloc: Global, tokens: &mut Cursor<'_>, levels: u32) -> Result<Items<Range>, Fault>
+    ensures { Computes (reader.ranges levels tokens.old) result tokens.new }
+{
+    let mut found = Items::new(alloc);
+    found.push(read_range(tokens, levels)?)?;
+    for _turn in 0..tokens.left() {
+        if tokens.peek() != COMMA {
+            return Ok(found);
+        }
+        found.push(read_next_range(tokens, levels)?)?;
+    }
+    Ok(found)
+}
+
+/// The ranges of a list of kinds in which no more than `limit` brackets are open anywhere, or the first fault.
+pub fn parse(alloc: Global, kinds: &[u16], limit: u32) -> Result<Items<Range>, Refusal>
+    requires { length kinds.now < 2 ^ 32 }
+    ensures { RightVerdict limit spec.ranges kinds.now result }
+{
+    let mut tokens = Cursor::new(kinds);
+    let found = read_ranges(alloc, &mut tokens, limit);
+    verdict(kinds, &tokens, found)
+}
+
+#[cfg(test)]
+mod tests {
+    use super::*;
+
+    fn summary(answer: &Result<Items<Range>, Refusal>) -> (u8, usize) {
+        match answer {
+            Ok(found) => (0, found.len()),
+            Err(Refusal::Unexpected(place)) => (1, *place as usize),
+            Err(Refusal::TooDeep(place)) => (2, *place as usize),
+            Err(Refusal::OutOfMemory) => (3, 0),
+        }
+    }
+
+    // the number of ranges after 0, the place of a fault after 1, and of what is too deep after 2
+    #[test]
+    fn lists_have_their_ranges_or_their_first_fault(rt: HostRuntime) {
+        let cases: [(&[u16], u32, (u8, usize)); 12] = [
+            (&[1], 0, (0, 1)),
+            (&[1, 4, 1], 0, (0, 1)),
+            (&[1, 5, 1, 4, 1], 0, (0, 2)),
+            (&[2, 2, 1, 3, 3], 2, (0, 1)),
+            (&[2, 2, 1, 3, 3], 1, (2, 1)),
+            (&[2, 2, 5], 2, (1, 2)),
+            (&[], 2, (1, 0)),
+            (&[1, 4], 2, (1, 2)),
+            (&[1, 1], 2, (1, 1)),
+            (&[2, 1, 4, 1, 3], 2, (1, 2)),
+            (&[1, 5], 2, (1, 2)),
+            (&[2], 0, (2, 0)),
+        ];
+        for (kinds, limit, want) in cases {
+            assert_eq!(rt;
+                summary(&parse(rt.alloc(), kinds, limit)),
+                want,
+                "of {kinds:?}"
+            );
+        }
+    }
+}

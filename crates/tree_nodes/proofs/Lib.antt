@@ -1,0 +1,5 @@
+pub mod Closings
+pub mod Items
+pub mod Reading
+pub mod Stacks
+pub mod Sums

@@ -1,0 +1,48 @@
+-- An expression of a universal type takes the class of its place (3.4.1, 8.6).
+use Rattle.std.specs.Prelude.{◌≡◌, ℕ, suc, ◌≤◌, List, [], ◌∷◌}
+use Rattle.ada_typed.specs.declared.scalars.Class.{Class}
+use Rattle.ada_typed.specs.declared.scalars.Class.TheVariants as class
+use Rattle.ada_typed.specs.Decoded.{Part, as_expr}
+use Rattle.ada_typed.specs.Syntax.{Expr, Group, Unary, Binary, If}
+use Rattle.typed_parts.specs.Stack.{AllBelow}
+
+-- a class that is there already stays
+abbrev pub class_or : Class → Class → Class
+class_or c class.Universal = c
+class_or c d = d
+
+-- An expression is universal in what it is made of, down to its static parts; exponents and conditions have types of
+-- their own, and so has what stands in calls and names.
+abbrev pub with_class : Class → Expr → Expr
+with_class c (Group e) = Group (with_class c e)
+with_class c (Unary at s d e) = Unary at s (class_or c d) (with_class c e)
+with_class c (Binary at o d l r) = Binary at o (class_or c d) (with_class c l) (with_class c r)
+with_class c (If x v o) = If x (with_class c v) (with_class c o)
+with_class c e = e
+
+-- the same from the inside out, along the operands that chains are long in
+
+-- an expression with another one in place of what its chain goes on with
+abbrev pub joined : Class → Expr → Expr → Expr
+joined c (Group _) e = Group e
+joined c (Unary at s d _) e = Unary at s (class_or c d) e
+joined c (Binary at o d _ r) e = Binary at o (class_or c d) e (with_class c r)
+joined c (If x v _) e = If x (with_class c v) e
+joined c _ e = e
+
+abbrev pub rejoined : Class → (ℕ → Part) → List ℕ → Expr → Expr
+rejoined c at [] e = e
+rejoined c at (k ∷ ks) e = joined c (as_expr (at k)) (rejoined c at ks e)
+
+-- a chain ends at a number, or goes on at another one
+abbrev pub Ends : (ℕ → Part) → ℕ → Type 0
+Ends at k = (c : Class) → with_class c (as_expr (at k)) ≡ as_expr (at k)
+
+abbrev pub GoesOn : (ℕ → Part) → ℕ → ℕ → Type 0
+GoesOn at k next = (c : Class) → with_class c (as_expr (at k)) ≡ joined c (as_expr (at k)) (with_class c (as_expr (at next)))
+
+-- a chain leads from a number over others to a last one
+pub record Leads (at : ℕ → Part) (from : ℕ) (over : List ℕ) (to : ℕ) : Type 0 where
+  pub is : (c : Class) → with_class c (as_expr (at from)) ≡ rejoined c at over (with_class c (as_expr (at to)))
+  pub below : AllBelow (suc from) over
+  pub least : to ≤ from
