@@ -10,6 +10,7 @@ use Rattle.ada_io.specs.declared.phases.Phase.{Phase}
 use Rattle.ada_io.specs.declared.phases.Phase.TheVariants.{Blanks}
 use Rattle.ada_io.specs.declared.phases.Outcome.TheVariants.{Asks, Gives, Raises}
 use Rattle.ada_io.specs.declared.asking.Looked.TheVariants.{At, ReadFault, Spent}
+use Rattle.ada_io.specs.declared.input.GetEnd.{GetEnd}
 use Rattle.ada_io.specs.declared.input.Got.{Got}
 use Rattle.ada_io.specs.declared.input.GetEnd.TheVariants as end
 use Rattle.ada_io.specs.Plain.{Feed, Byte, fed, State, Stop, Raised, Failed, TurnsSpent, After, at, Doing, next, given, asked, then, plain}
@@ -23,6 +24,9 @@ use Rattle.ada_port.proofs.Asked.{Gives-none, Gives-append, GivesAll-append, Giv
 
 abbrev pub state : Held → Feed → ℕ → ℕ → State
 state h feed turns taken = record { held = h; feed = feed; turns = turns; taken = taken }
+
+abbrev pub got_of : GetEnd → ℕ → ℕ → Got
+got_of e took came = record { end = e; took = took; came = came }
 
 abbrev pub so : Bool → Last
 so ended = cond ended AtEnd Open
@@ -156,13 +160,13 @@ looks old now new before turns took later came more phase holding.Nothing symbol
     (asked_for old now new before turns took came phase symbol (open_at old now before turns took came phase g) (record { left = l.left; took = refl; came = refl; takes = l.takes })))
 
 pub faults : (old now new : Stream) (before : Holding) (turns took later came more : ℕ) (phase : Phase) (held : Holding) → Going old now before turns took came phase held → Looks now new held turns took later came more ReadFault
-    → Gets old new (held_of before) (held_of before) turns (record { end = end.ReadFault; took = later; came = more })
+    → Gets old new (held_of before) (held_of before) turns (got_of end.ReadFault later more)
 faults old now new before turns took later came more phase (holding.Symbol s) g l = absurd l
 faults old now new before turns took later came more phase holding.Nothing g l =
-    subst (λ n. Gets old new (held_of before) (held_of before) turns (record { end = end.ReadFault; took = n; came = more })) (sym l.took)
-    (subst (λ n. Gets old new (held_of before) (held_of before) turns (record { end = end.ReadFault; took = took + 1; came = n })) (sym l.came) (failed (open_at old now before turns took came phase g)))
+    subst (λ n. Gets old new (held_of before) (held_of before) turns (got_of end.ReadFault n more)) (sym l.took)
+    (subst (λ n. Gets old new (held_of before) (held_of before) turns (got_of end.ReadFault (took + 1) n)) (sym l.came) (failed (open_at old now before turns took came phase g)))
   where
-    failed : Reaches old now (held_of before) turns took came false (from phase holding.Nothing) → Gets old new (held_of before) (held_of before) turns (record { end = end.ReadFault; took = took + 1; came = came })
+    failed : Reaches old now (held_of before) turns took came false (from phase holding.Nothing) → Gets old new (held_of before) (held_of before) turns (got_of end.ReadFault (took + 1) came)
     failed r = record {
       bytes = r.bytes;
       ended = false;
@@ -182,13 +186,13 @@ faults old now new before turns took later came more phase holding.Nothing g l =
     }
 
 pub spends : (old now new : Stream) (before : Holding) (turns took later came more : ℕ) (phase : Phase) (held : Holding) → Going old now before turns took came phase held → Looks now new held turns took later came more Spent
-    → Gets old new (held_of before) (held_of before) turns (record { end = end.Spent; took = later; came = more })
+    → Gets old new (held_of before) (held_of before) turns (got_of end.Spent later more)
 spends old now new before turns took later came more phase (holding.Symbol s) g l = absurd l
 spends old now new before turns took later came more phase holding.Nothing g l =
-    subst (λ n. Gets old new (held_of before) (held_of before) turns (record { end = end.Spent; took = n; came = more })) (sym l.took)
-    (subst (λ n. Gets old new (held_of before) (held_of before) turns (record { end = end.Spent; took = took; came = n })) (sym l.came) (spent (open_at old now before turns took came phase g)))
+    subst (λ n. Gets old new (held_of before) (held_of before) turns (got_of end.Spent n more)) (sym l.took)
+    (subst (λ n. Gets old new (held_of before) (held_of before) turns (got_of end.Spent took n)) (sym l.came) (spent (open_at old now before turns took came phase g)))
   where
-    spent : Reaches old now (held_of before) turns took came false (from phase holding.Nothing) → Gets old new (held_of before) (held_of before) turns (record { end = end.Spent; took = took; came = came })
+    spent : Reaches old now (held_of before) turns took came false (from phase holding.Nothing) → Gets old new (held_of before) (held_of before) turns (got_of end.Spent took came)
     spent r = record {
       bytes = r.bytes;
       ended = false;
@@ -228,7 +232,7 @@ answered old now before turns took came ended held todo answer does r more follo
     r.same more follows taken ∙ does (state (held_of before) more (turns - took) (taken + length r.bytes)) ∙ ap (λ n. at (state held more (turns - took) (taken + n)) answer) (sym r.arrived)
 
 pub gives : (old now : Stream) (before : Holding) (turns took came : ℕ) (phase : Phase) (symbol : Option ℕ) (v : ℤ) → Seeing old now before turns took came phase symbol → Takes phase symbol (Gives v)
-    → Gets old now (held_of before) (Symbol symbol) turns (record { end = end.Number v; took = took; came = came })
+    → Gets old now (held_of before) (Symbol symbol) turns (got_of (end.Number v) took came)
 gives old now before turns took came phase symbol v s takes = let r = s.reaches in record {
   bytes = r.bytes;
   ended = s.ended;
@@ -241,7 +245,7 @@ gives old now before turns took came phase symbol v s takes = let r = s.reaches 
 }
 
 pub raises : (old now : Stream) (before : Holding) (turns took came : ℕ) (phase : Phase) (symbol : Option ℕ) (reason : Reason) → Seeing old now before turns took came phase symbol → Takes phase symbol (Raises reason)
-    → Gets old now (held_of before) (Symbol symbol) turns (record { end = end.Raise reason; took = took; came = came })
+    → Gets old now (held_of before) (Symbol symbol) turns (got_of (end.Raise reason) took came)
 raises old now before turns took came phase symbol reason s takes = let r = s.reaches in record {
   bytes = r.bytes;
   ended = s.ended;

@@ -2,7 +2,7 @@ use Rattle.std.proofs.Common.{refl, sym, ap, rules, arith, FitsSigned, w64}
 use Rattle.std.proofs.lemmas.Int.{to_z-of_z}
 use Rattle.ada_io.specs.declared.input.GetEnd.TheVariants.{Number}
 use Rattle.ada_io.specs.Phases.{held_of}
-use Rattle.ada_io.proofs.Reaches.{begins, fewer, looks, faults, spends, asks, gives, raises, seen}
+use Rattle.ada_io.proofs.Reaches.{got_of, begins, fewer, looks, faults, spends, asks, gives, raises, seen}
 use Rattle.ada_io.proofs.input.Reader.get.Goals as goal
 
 pub loop-symbol-init : goal.loop-symbol-init
@@ -16,7 +16,7 @@ loop-symbol-preserved g c =
 pub returns-in-Gives : goal.returns-in-Gives
 returns-in-Gives g c =
     let fits : FitsSigned w64 c.in-Gives.value = search rules in
-    seen _ _ _ _ _ _ _ _ _ c.self.view_is refl (ap (λ v. record { end = Number v; took = c.look.new.took; came = c.look.new.came }) (sym (to_z-of_z w64 c.in-Gives.value fits)))
+    seen _ _ _ _ _ _ _ _ _ c.self.view_is refl (ap (λ v. got_of (Number v) c.look.new.took c.look.new.came) (sym (to_z-of_z w64 c.in-Gives.value fits)))
     (gives _ _ _ _ _ _ _ _ _ (looks _ _ _ _ _ _ _ _ _ _ _ _ c.loop-symbol.invariant.1 c.in-At.ensures) c.in-Gives.ensures)
 
 pub returns-in-Raises : goal.returns-in-Raises
