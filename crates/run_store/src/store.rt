@@ -71,11 +71,13 @@ impl<P: Port + Drop> Store<P> {
     pub fn new(alloc: Global, slots: usize, port: P) -> Result<Store<P>, AllocError>
         ensures { IfOk result (λ store. store ≡ begins_at slots (P.outside port)) }
     {
+        let here = no_slots(alloc, slots)?;
+        let everywhere = no_slots(alloc, slots)?;
         Ok(Store {
             cells: Items::new(alloc),
             kept: Items::new(alloc),
-            here: no_slots(alloc, slots)?,
-            everywhere: no_slots(alloc, slots)?,
+            here,
+            everywhere,
             frame: 1,
             turns: 0,
             taken: 0,
