@@ -5,7 +5,7 @@ use Rattle.ada_base.specs.Cuts.{One, cuts_of}
 use Rattle.ada_base.specs.declared.reason.Reason.{Reason}
 use Rattle.ada_base.specs.declared.reason.Reason.TheVariants as reason
 use Rattle.ada_typed.specs.declared.program.Object.{Object}
-use Rattle.behaviours.specs.Doings.{through}
+use Rattle.behaviours.specs.Doings.{through, folded}
 use Rattle.behaviours.specs.Paths.{Entity, VariableOf, ConstantOf, Region, Here, Exits, Returns, Raises}
 use Rattle.ada_typed.specs.declared.node.Node.{Node}
 use Rattle.ada_typed.specs.declared.scalars.Class.{Class}
@@ -14,12 +14,13 @@ use Rattle.ada_typed.specs.declared.scalars.Check.{Check}
 use Rattle.ada_typed.specs.declared.scalars.Comparison.{Comparison}
 use Rattle.ada_typed.specs.declared.expressions.Sign.{Sign}
 use Rattle.ada_typed.specs.declared.expressions.Root.{Root}
+use Rattle.ada_typed.specs.declared.expressions.Reducer.{Reducer}
 use Rattle.ada_typed.specs.declared.expressions.Run.{Run}
 use Rattle.ada_typed.specs.declared.expressions.Iterated.{Iterated}
 use Rattle.ada_typed.specs.Syntax.{Expr, Optional, Selections, Actuals, Value, Composite, Associations, Iteration, Pieces, Stmt, Stmts, Alternatives, Handlers, Decls, Body, Sub, Program}
 use Rattle.ada_typed.specs.Programs.{program}
 use Rattle.ada_meaning.specs.Values.{truth, bit, compares, between, to_nat, layout, is_in, defaults, image_of}
-use Rattle.ada_meaning.specs.Operations.{Operations, IndexCheck, RangeCheck, operate}
+use Rattle.ada_meaning.specs.Operations.{Operations, IndexCheck, RangeCheck, operate, reduce}
 use Rattle.ada_meaning.specs.Meaning as meaning
 use Rattle.ada_meaning.specs.Meaning.{Env, Part, Passed, Returned, Back, Course, variable_root, constant_root, moved, with_target, iterated_env, outset, returns, exits, value_of, sub_at}
 use Rattle.ada_stored.specs.Stored
@@ -194,6 +195,26 @@ module _ (w : Work) (d : ℕ) where
 
   abbrev pub called : ℕ → ℕ → List Passed → Stored Returned
   called s nested passed = called_sub (sub_at (program w.typed.now).subs s) nested passed
+
+  -- ---- reductions
+
+  abbrev pub reduced : ℕ → Reducer → ℕ → ℤ → ℤ → Stored ℤ
+  reduced attribute by nested a b = reduce doings checks by attribute (meaning.fold_call (ops w) w.limit (program w.typed.now) (calls_of w d) by nested) a b
+
+  abbrev pub iterated_value : Iteration → Expr → Env → Stored (Option ℤ)
+  iterated_value it e env = meaning.iterate_value (ops w) (filtered w d it env) (eval w d e env)
+
+  abbrev pub fold_one : ℕ → Reducer → Iteration → Expr → ℕ → Env → ℤ → Stored ℤ
+  fold_one attribute by it e nested env so_far = bind (iterated_value it e env) (λ v. folded doings (reduced attribute by nested) so_far v)
+
+  abbrev pub fold_left : ℕ → Reducer → ℕ → ℕ → Course → Iteration → Expr → ℤ → Env → Stored ℤ
+  fold_left attribute by i n c it e so_far env = through doings i n so_far (λ i total. fold_one attribute by it e env.nested (c.bound i env) total)
+
+  unfoldable pub fold : ℕ → Reducer → Course → Iteration → Expr → ℤ → Env → Stored ℤ
+  fold attribute by c it e start env = fold_left attribute by 0 c.count c it e start env
+
+  abbrev pub reduction : ℕ → Reducer → Expr → Iteration → Expr → Env → Stored ℤ
+  reduction attribute by initial it e env = bind (eval w d initial env) (λ start. bind (course w d it env) (λ c. fold attribute by c it e start env))
 
   -- ---- output and input
 
