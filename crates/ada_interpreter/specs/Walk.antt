@@ -8,6 +8,9 @@ use Rattle.ada_typed.specs.declared.program.Object.{Object}
 use Rattle.behaviours.specs.Doings.{through, folded}
 use Rattle.behaviours.specs.Paths.{Entity, VariableOf, ConstantOf, Region, Here, Exits, Returns, Raises}
 use Rattle.ada_typed.specs.declared.node.Node.{Node}
+use Rattle.ada_typed.specs.declared.node.Link.{Link}
+use Rattle.ada_typed.specs.declared.node.Link.TheVariants as link
+use Rattle.ada_typed.specs.Decoded.{expr_at}
 use Rattle.ada_typed.specs.declared.scalars.Class.{Class}
 use Rattle.ada_typed.specs.declared.scalars.Scalar.{Scalar}
 use Rattle.ada_typed.specs.declared.scalars.Check.{Check}
@@ -111,6 +114,23 @@ module _ (w : Work) (d : ℕ) where
 
   abbrev pub call_function : ℕ → Actuals → Env → Stored ℤ
   call_function s as' env = bind (pass w d as' env []) (λ passed. bind (calls_of w d env.nested s (ret tt) passed) (λ r. ret r.value))
+
+  -- chains of operators: one with its left operand's value; all of a list over a part, the last one first; and those that
+  -- are left, with the value of what comes before
+
+  abbrev pub link_step : Link → Env → ℤ → Stored ℤ
+  link_step (link.Operator at op class right) env x = bind (eval w d (expr_at (nodes_of w) right) env) (λ y. operate doings checks op at class x y)
+  link_step (link.AndThen right) env x = cond (truth x) (eval w d (expr_at (nodes_of w) right) env) (ret (bit false))
+  link_step (link.OrElse right) env x = cond (truth x) (ret (bit true)) (eval w d (expr_at (nodes_of w) right) env)
+
+  abbrev pub linked_on : List Link → Env → Stored ℤ → Stored ℤ
+  linked_on [] env m = m
+  linked_on (l ∷ ls) env m = bind (linked_on ls env m) (λ x. link_step l env x)
+
+  abbrev pub chain_left : List Link → Env → ℤ → Stored ℤ
+  chain_left [] env v = ret v
+  chain_left (l ∷ []) env v = link_step l env v
+  chain_left (l ∷ (k ∷ ls)) env v = bind (chain_left (k ∷ ls) env v) (λ x. link_step l env x)
 
   -- ---- selections
 
