@@ -56,3 +56,26 @@ module _ {Tells : Type 0} (w : Work) (d : ℕ) (env : Env) where
   chain_ends (l ∷ (k ∷ ls)) last s t v e h =
       goes_ends (λ a. a) (λ a. a) (bind (walk.chain_left w d (k ∷ ls ++ last ∷ []) env v) (λ x. walk.link_step w d l env x)) (walk.chain_left w d (k ∷ ls ++ last ∷ []) env v) (λ x. walk.link_step w d l env x) s s t e (goes_refl _ s)
       (chain_ends (k ∷ ls) last s t v e h)
+
+  goes_trans : {A : Type 0} (whole m n : Stored A) (s t u : Image) → Goes Tells whole s m t → Goes Tells m t n u → Goes Tells whole s n u
+  goes_trans whole m n s t u g h = record { faults = h.faults ∙ g.faults; same = λ told. g.same told ∙ h.same told; stops = λ told f x k. g.stops told f x (h.stops told f x k) }
+
+  -- how a whole stands with the operators that are left, after a value
+  module _ (whole : Stored ℤ) (s : Image) where
+    abbrev pub Stands : List Link → ℤ → Image → Type 0
+    Stands [] v t = Shows Tells whole (Ok v) s t
+    Stands (l ∷ ls) v t = Goes Tells whole s (walk.chain_left w d (l ∷ ls) env v) t
+
+    pub stands_step : (ls new : List Link) (last : Link) (v x : ℤ) (t u : Image) → ls ≡ new ++ last ∷ [] → Stands ls v t → Shows Tells (walk.link_step w d last env v) (Ok x) t u → Stands new x u
+    stands_step ls new last v x t u is g h = go new (subst (λ z. Stands z v t) is g)
+      where
+        go : (new : List Link) → Stands (new ++ last ∷ []) v t → Stands new x u
+        go [] g = goes_shows (λ a. a) whole (walk.link_step w d last env v) s t u (Ok x) g h
+        go (l ∷ more) g = goes_trans whole (walk.chain_left w d (l ∷ more ++ last ∷ []) env v) (walk.chain_left w d (l ∷ more) env x) s t u g (chain_step l more last t u v x h)
+
+    pub stands_ends : (ls new : List Link) (last : Link) (v : ℤ) (t u : Image) (e : End) (r : Result ℤ End) → r ≡ Err e → ls ≡ new ++ last ∷ [] → Stands ls v t → Shows Tells (walk.link_step w d last env v) (Err e) t u → Shows Tells whole r s u
+    stands_ends ls new last v t u e r q is g h = subst (λ z. Shows Tells whole z s u) (sym q) (goes_shows (λ a. a) whole (walk.chain_left w d (new ++ last ∷ []) env v) s t u (Err e) (go new (subst (λ z. Stands z v t) is g)) (chain_ends new last t u v e h))
+      where
+        go : (new : List Link) → Stands (new ++ last ∷ []) v t → Goes Tells whole s (walk.chain_left w d (new ++ last ∷ []) env v) t
+        go [] g = g
+        go (l ∷ more) g = g
