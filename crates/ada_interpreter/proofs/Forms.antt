@@ -4,7 +4,7 @@ use Rattle.std.specs.Prelude.{Result, Ok, Err}
 use Rattle.behaviours.specs.Paths.{VariableOf}
 use Rattle.ada_typed.specs.declared.scalars.Scalar.{Scalar}
 use Rattle.ada_typed.specs.declared.expressions.Root.{Root}
-use Rattle.ada_typed.specs.Syntax.{Expr, Call, Selections, Index, Actuals, InOut}
+use Rattle.ada_typed.specs.Syntax.{Expr, Selections, Index, Actuals, InOut}
 use Rattle.ada_meaning.specs.Values.{is_in}
 use Rattle.ada_meaning.specs.Meaning as meaning
 use Rattle.ada_meaning.specs.Meaning.{Env, variable_root}
@@ -21,10 +21,6 @@ use Rattle.run_parts.specs.Words.{ops}
 use Rattle.ada_interpreter.specs.Walk as walk
 
 module _ {Tells : Type 0} (w : Work) (d : ℕ) (env : Env) (s t : Image) where
-  pub call_as : (at n : ℕ) (as' : Actuals) (e : Expr) (r : Result ℤ End) → e ≡ Call at n as' → Shows Tells (walk.call_function w d n as' env) r s t → Shows Tells (walk.eval w d e env) r s t
-  unfolding walk.eval walk.pass
-  call_as at n as' e r is h = subst (λ z. Shows Tells (walk.eval w d z env) r s t) (sym is) h
-
   pub index_as : (at : ℕ) (e : Expr) (low high : ℤ) (stride : ℕ) (rest ss : Selections) (p : meaning.Part) (r : Result Part End) → ss ≡ Index at e low high stride rest
       → ShowsAs part_of Tells (walk.index w d at e low high stride rest env p) r s t → ShowsAs part_of Tells (walk.select w d ss env p) r s t
   unfolding walk.eval walk.select

@@ -18,7 +18,7 @@ use run_store::{End, Env, Leave, Object, Port, Store, between, bit, compares, is
 
 /// The value of an expression, where so many more calls may be active.
 #[cycle(walk)]
-#[tactic(auto, unfolding(ada_stored::specs::Stored::bind, ada_stored::specs::Stored::ret, ada_stored::specs::Stored::leaves, ada_stored::specs::Stored::spent, ada_stored::specs::Stored::handles, crate::specs::Walk::eval, crate::specs::Walk::select))]
+#[tactic(auto, unfolding(ada_stored::specs::Stored::bind, ada_stored::specs::Stored::ret, ada_stored::specs::Stored::leaves, ada_stored::specs::Stored::spent, ada_stored::specs::Stored::handles, crate::specs::Walk::eval, crate::specs::Walk::select, crate::specs::Walk::pass))]
 pub fn eval<P: Port + Drop>(
     work: &Work<'_>,
     calls: u32,

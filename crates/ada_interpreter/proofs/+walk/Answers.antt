@@ -13,7 +13,7 @@ use Rattle.ada_interpreter.specs.Walk.{exec_all, while_loop, for_loop, course, i
 use Rattle.ada_interpreter.proofs.Looping.{while_begins, run_begins, all_step, all_ends, all_done, while_test_ends, while_stops, while_turn_ends, while_body_ends, while_step, while_spent, for_step, for_ends, for_done, for_begins, run_step, run_ends, run_done}
 use Rattle.ada_interpreter.proofs.Scoping.{body_as, call_ends, call_step, called_more, called_fails, formals_none, formals_more, formals_fails, default_more, default_fails, variable_ends, variable_more, variable_fails, constant_ends, constant_more, constant_fails}
 use Rattle.ada_interpreter.proofs.Handling.{caught_shows, chosen_some, chosen_none, guarded_other, guarded_some, guarded_none, alternative_some, alternative_none}
-use Rattle.ada_interpreter.proofs.Forms.{call_as, index_as, in_out_as, in_out_on}
+use Rattle.ada_interpreter.proofs.Forms.{index_as, in_out_as, in_out_on}
 use Rattle.ada_interpreter.proofs.Folding.{fold_begins, fold_step, fold_ends, fold_done}
 use Rattle.ada_interpreter.proofs.+walk.Goals as goal
 
@@ -100,9 +100,6 @@ values::run_values-returns g t c = run_done (run_values c.args.work.now c.args.c
 
 pub values::run_values-returns-in_err-first : goal.values::run_values-returns-in_err-first
 values::run_values-returns-in_err-first g t c = next_fails (λ next. next ≡ c.loop-k.first + c.args.run.stride) (run_values c.args.work.now c.args.calls 0 c.args.run.count c.args.run.first c.args.run.stride c.args.iterated (value_at (nodes_of c.args.work.now) c.args.value) (env_of c.args.env.now) c.args.out) (run_values c.args.work.now c.args.calls (c.loop-k.k + 1) (c.args.run.count - (c.loop-k.k + 1)) (c.loop-k.first + c.args.run.stride) c.args.run.stride c.args.iterated (value_at (nodes_of c.args.work.now) c.args.value) (env_of c.args.env.now) c.lay.new.out) c.args.store.now c.given.new.store _ c.in_err-first.field-0.0 (search rules) c.in_err-first.ensures (run_step (run_values c.args.work.now c.args.calls 0 c.args.run.count c.args.run.first c.args.run.stride c.args.iterated (value_at (nodes_of c.args.work.now) c.args.value) (env_of c.args.env.now) c.args.out) c.args.store.now c.loop-k.store c.given.new.store c.args.work.now c.args.calls c.loop-k.k c.args.run.count c.loop-k.first c.args.run.stride c.args.iterated (value_at (nodes_of c.args.work.now) c.args.value) (env_of c.args.env.now) c.loop-k.cells (omega arith) c.loop-k.invariant c.in_ok-values.values c.lay.new.out (c.loop-k.first + c.args.run.stride) c.in_ok-values.ensures (search rules) refl)
-
-pub exprs::eval-returns-in-Call : goal.exprs::eval-returns-in-Call
-exprs::eval-returns-in-Call g t c = call_as c.args.work.now c.args.calls (env_of c.args.env.now) c.args.store.now c.call_function.new.store _ c.in-Call.sub (actuals_at (nodes_of c.args.work.now) c.in-Call.actuals) (expr_at (nodes_of c.args.work.now) c.args.id) c.call_function.result (search rules) c.call_function.ensures
 
 pub names::select-returns-in-Some-Index : goal.names::select-returns-in-Some-Index
 names::select-returns-in-Some-Index g t c = index_as c.args.work.now c.args.calls (env_of c.args.env.now) c.args.store.now c.index.new.store c.in-Some-Index.at (expr_at (nodes_of c.args.work.now) c.in-Some-Index.value) c.in-Some-Index.low c.in-Some-Index.high c.in-Some-Index.stride (selections_at (nodes_of c.args.work.now) c.in-Some.cell.rest) (selections_at (nodes_of c.args.work.now) c.args.id) (part_of c.args.part) c.index.result (search rules) c.index.ensures
