@@ -19,8 +19,8 @@ pub(crate) fn look<S: Source>(
     took: &mut u64,
     came: &mut u64,
 ) -> Looked
-    requires { took.old ≤ turns_left }
-    requires { came.old ≤ took.old }
+    requires turns { took.old ≤ turns_left }
+    requires bytes { came.old ≤ took.old }
     ensures { Looks (S.state source.old) (S.state source.new) held turns_left took.old took.new came.old came.new result }
 {
     if let Holding::Symbol(symbol) = held {
