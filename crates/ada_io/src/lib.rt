@@ -8,6 +8,3 @@ mod phases;
 
 pub use images::{append_image, append_padded, image, padded, truth_image};
 pub use input::{GetEnd, Reader};
-
-#[cfg(test)]
-mod tests;

@@ -17,6 +17,3 @@ mod tokens;
 
 pub use fault::LexFault;
 pub use text::{lex, one_answer};
-
-#[cfg(test)]
-mod tests;

@@ -62,8 +62,9 @@ fn read_file<R: Files>(files: &R, alloc: Global, name: &str) -> Result<Vec<u8>, 
     read_text(&mut file, alloc)
 }
 
-// All the bytes that are left, or as many as a fetch gives.
-pub(crate) fn read_text<F: Read>(file: &mut F, alloc: Global) -> Result<Vec<u8>, ShelfFault>
+/// All the bytes that a reader has left, or as many as a fetch gives. `Failed` comes where it can't be read, and
+/// `OutOfMemory` where it or the allocator has no memory left.
+pub fn read_text<F: Read>(file: &mut F, alloc: Global) -> Result<Vec<u8>, ShelfFault>
     ensures most { IfOk result (λ text. vec_len text ≤ MOST_BYTES) }
     ensures bytes { IfOk result (λ text. IfSome (F.remaining file.old) (λ left. text.items ≡ fetched left)) }
 {

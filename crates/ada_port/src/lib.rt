@@ -18,6 +18,3 @@ pub use shelves::{MemShelf, ShelfText, SureShelf};
 pub use sinks::{HeldSink, MemSink, SinkFail, SureSink};
 pub use sources::{MemSource, SureSource};
 pub use streams::{ErrSink, StdSink, StdSource, StreamSink, StreamSource};
-
-#[cfg(test)]
-mod tests;

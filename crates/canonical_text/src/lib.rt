@@ -59,6 +59,3 @@ pub fn same_tokens()
         → AreSpoken (kinds_of t.items) → length (canonical t) ≤ byte_limit
         → IsTokenizedAgain t }
 {}
-
-#[cfg(test)]
-mod tests;

@@ -9,6 +9,3 @@ pub mod plan_cuts;
 pub use even_division::{Range, even};
 pub use plan::{Cuts, Plan, Setting};
 pub use plan_cuts::cuts;
-
-#[cfg(test)]
-mod tests;

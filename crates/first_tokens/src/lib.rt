@@ -265,6 +265,3 @@ pub fn of_unit(tree: &Tree, number: u32) -> u32
         Unit::Sub(sub) => of_sub(tree, sub),
     }
 }
-
-#[cfg(test)]
-mod tests;
