@@ -1,17 +1,18 @@
 //! The tree of a text's tokens, or their first fault.
 
-ghost use Rattle.std.specs.Prelude.{◌≡◌, ◌<◌, ◌^◌, ℕ, [], length, map, Err, IfOk};
+ghost use Rattle.std.specs.Prelude.{◌≡◌, ◌≤◌, ◌<◌, ◌^◌, ℕ, [], length, Err, IfOk};
 ghost use Rattle.ada_base.specs.Tokens.{kind_at};
 ghost use Rattle.ada_tree.specs.Grammar.{ProgramWords};
 ghost use Rattle.ada_tree.specs.Parsed.{depth_limit, IsParsed, IsSyntaxFault, IsTooDeep};
 ghost use Rattle.ada_tree.specs.Syntax.{Program};
 ghost use Rattle.ada_tree.specs.TokenKinds as token_kind;
+ghost use Rattle.reader_combinators.specs.Ahead.{kinds};
 ghost use Rattle.tree_nodes.specs.Stack.{parts};
 ghost use Rattle.ada_grammar.specs.Parsed.{Parsed, JudgedTree, GivesTree, GivesFault, GivesTooDeep};
 
 use ada_base::{Items, Kind, Token, Tokens};
 use ada_parser::Parser;
-use ada_tree::kinds::{is_left_out, kind_number};
+use ada_tree::is_left_out;
 use reader_combinators::{Cursor, Refusal, verdict};
 use statement_parser::program;
 use std::alloc::{AllocError, Global};
@@ -39,25 +40,16 @@ pub enum ParseFault {
     OutOfMemory,
 }
 
-/// The kinds of these tokens.
-fn kinds_in(alloc: Global, tokens: &[Token]) -> Result<Vec<u16>, AllocError>
-    ensures { IfOk result (λ kinds. kinds.items ≡ map (λ token. token_kind.kind_number token.kind) tokens.now) }
-{
-    tokens
-        .iter()
-        .map(|token| kind_number(token.kind))
-        .collect(alloc)
-}
-
-/// The kinds of a text's tokens, without the End.
+/// A text's tokens without the End.
 #[tactic(auto, using(crate::proofs::KindLists::taken_kinds))]
-fn kinds_of(alloc: Global, tokens: &[Token]) -> Result<Vec<u16>, AllocError>
-    ensures { IfOk result (λ kinds. kinds.items ≡ token_kind.kinds_of tokens.now) }
+fn without_end(tokens: &[Token]) -> &[Token]
+    ensures is { kinds result.now ≡ token_kind.kinds_of tokens.now }
+    ensures short { length result.now ≤ length tokens.now }
 {
     if tokens.is_empty() {
-        return Ok(Vec::new(alloc));
+        return tokens;
     }
-    kinds_in(alloc, &tokens[..tokens.len() - 1])
+    &tokens[..tokens.len() - 1]
 }
 
 /// The kind of the token with this number, or the End where there is none.
@@ -73,30 +65,30 @@ fn kind_at(tokens: &[Token], token: u32) -> Kind
 /// A table without parts that has room for a node for each token: one that grows from nothing leaves the blocks that it
 /// has grown out of behind it.
 #[tactic(auto, using(tree_nodes::proofs::Stacks::fit_none), unfolding(tree_nodes::specs::Stack::parts, tree_nodes::specs::Rooted::stack))]
-fn table_for(alloc: Global, kinds: &[u16]) -> Result<Parts, AllocError>
+fn table_for(alloc: Global, tokens: &[Token]) -> Result<Parts, AllocError>
     ensures { IfOk result (λ out. parts out ≡ []) }
 {
     Ok(Parts {
-        nodes: Items::from_vec(Vec::with_capacity(alloc, kinds.len())?),
+        nodes: Items::from_vec(Vec::with_capacity(alloc, tokens.len())?),
         roots: Items::new(alloc),
     })
 }
 
-/// The tree of a list of kinds, or why it has none.
-fn judge(alloc: Global, kinds: &[u16]) -> Result<Tree, Refusal>
-    requires { length kinds.now < 2 ^ 32 }
-    ensures { JudgedTree kinds.now result }
+/// The tree of a text's tokens without the End, or why they have none.
+fn judge(alloc: Global, all: &[Token]) -> Result<Tree, Refusal>
+    requires { length all.now < 2 ^ 32 }
+    ensures { JudgedTree (kinds all.now) result }
 {
-    let Ok(out) = table_for(alloc, kinds) else {
+    let Ok(out) = table_for(alloc, all) else {
         return Err(Refusal::OutOfMemory);
     };
     let mut parser = Parser {
-        tokens: Cursor::new(kinds),
+        tokens: Cursor::new(all),
         out,
     };
     let read = program(&mut parser, DEPTH_LIMIT);
     let Parser { tokens, out } = parser;
-    match verdict(kinds, &tokens, read) {
+    match verdict(all, &tokens, read) {
         Ok(()) => Ok(finish(out)),
         Err(refusal) => Err(refusal),
     }
@@ -121,15 +113,11 @@ fn told(tokens: &[Token], refusal: Refusal) -> ParseFault
 }
 
 /// The tree of a list of tokens, or why it has none.
-#[tactic(auto, using(crate::proofs::KindLists::kinds_no_more))]
 fn parse_items(alloc: Global, items: &[Token]) -> Result<Tree, ParseFault>
     requires { length items.now < 2 ^ 32 }
     ensures { Parsed items.now result }
 {
-    let Ok(kinds) = kinds_of(alloc, items) else {
-        return Err(ParseFault::OutOfMemory);
-    };
-    match judge(alloc, &kinds) {
+    match judge(alloc, without_end(items)) {
         Ok(tree) => Ok(tree),
         Err(refusal) => Err(told(items, refusal)),
     }

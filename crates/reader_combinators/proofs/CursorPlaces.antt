@@ -1,21 +1,24 @@
--- The symbols from a place of a list on.
-use Rattle.std.proofs.Common.{◌≡◌, ℕ, suc, ◌-◌, ◌<◌, ◌≤◌, List, [], ◌∷◌, length, drop, get_or, ap, ◌∙◌, sym, drop-cons, length-drop}
-use Rattle.std.proofs.lemmas.List.{drop_all}
+-- The symbols from a place of a list of tokens on.
+use Rattle.std.proofs.Common.{◌≡◌, ℕ, ◌-◌, ◌<◌, List, length, drop, ap, ◌∙◌, sym, drop-cons, length-drop}
+use Rattle.std.proofs.lemmas.List.{length-map}
 use Rattle.ada_base.specs.Symbols.{numbered}
+use Rattle.ada_base.specs.declared.token.Kind.TheVariants.{End}
+use Rattle.ada_base.specs.declared.token.Token.{Token}
+use Rattle.ada_tree.specs.TokenKinds.{kind_number}
+use Rattle.reader_combinators.specs.Ahead.{kinds}
 use Rattle.reader_combinators.specs.Verdicts.{place_in}
 use Rattle.reader_combinators.proofs.Words.{length-numbered}
 
+-- tokens have as many kinds
+pub length-kinds : (tokens : List Token) → length (kinds tokens) ≡ length tokens
+length-kinds tokens = length-map tokens (λ (token : Token). kind_number token.kind)
+
 -- how many are left
-pub length-ahead : (n : ℕ) (ks : List ℕ) (i : ℕ) → length ks - i ≡ length (numbered n (drop i ks))
-length-ahead n ks i = sym (length-numbered n (drop i ks) ∙ length-drop i ks)
-
--- before the end, and at it
-pub ahead-next : (ks : List ℕ) (i : ℕ) → i < length ks → numbered i (drop i ks) ≡ record { number = i; kind = get_or ks i 0 } ∷ numbered (suc i) (drop (suc i) ks)
-ahead-next ks i h = ap (numbered i) (drop-cons ks i 0 h)
-
-pub ahead-end : (ks : List ℕ) (i : ℕ) → length ks ≤ i → numbered i (drop i ks) ≡ []
-ahead-end ks i h = ap (numbered i) (drop_all i ks h)
+pub length-ahead : (n : ℕ) (tokens : List Token) (i : ℕ) → length tokens - i ≡ length (numbered n (kinds (drop i tokens)))
+length-ahead n tokens i = sym (length-numbered n (kinds (drop i tokens)) ∙ length-kinds (drop i tokens) ∙ length-drop i tokens)
 
 -- the place of the next one
-pub place-next : (all ks : List ℕ) (i : ℕ) → i < length ks → place_in all (numbered i (drop i ks)) ≡ i
-place-next all ks i h = ap (place_in all) (ahead-next ks i h)
+pub place-next : (all : List ℕ) (tokens : List Token) (i : ℕ) → i < length tokens → place_in all (numbered i (kinds (drop i tokens))) ≡ i
+place-next all tokens i h = ap (λ ts. place_in all (numbered i (kinds ts))) (drop-cons tokens i any h) where
+  any : Token
+  any = record { kind = End; span = record { start = 0; end = 0 } }

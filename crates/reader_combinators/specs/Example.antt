@@ -5,6 +5,8 @@
 -- The depth at a token is the number of brackets that are open there, itself included.
 use Rattle.std.specs.Prelude.{ℕ, zero, suc, List, [], ◌∷◌}
 use Rattle.ada_base.specs.Languages.{Language, ◌⋅◌, Leaf, Quoted, Many}
+use Rattle.ada_tree.specs.Kinds as token_kind
+use Rattle.ada_tree.specs.Kinds.{numeral, open_round, close_round}
 use Rattle.reader_combinators.specs.declared.example.Value.{Value}
 use Rattle.reader_combinators.specs.declared.example.Range.{Range}
 use Rattle.reader_combinators.specs.declared.example.Range.TheVariants.{One, Between}
@@ -12,19 +14,19 @@ use Rattle.reader_combinators.specs.declared.example.Range.TheVariants.{One, Bet
 -- ---- kinds
 
 abbrev pub number : ℕ
-number = 1
+number = numeral
 
 abbrev pub open_bracket : ℕ
-open_bracket = 2
+open_bracket = open_round
 
 abbrev pub close_bracket : ℕ
-close_bracket = 3
+close_bracket = close_round
 
 abbrev pub dots : ℕ
-dots = 4
+dots = token_kind.dots
 
 abbrev pub comma : ℕ
-comma = 5
+comma = token_kind.comma
 
 -- ---- what derives what
 

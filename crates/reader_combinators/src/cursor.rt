@@ -1,18 +1,21 @@
-//! A cursor over the kinds of tokens.
+//! A cursor over tokens, which are read by their kinds alone.
 
 ghost use Rattle.std.specs.Prelude.{◌≡◌, ◌<◌, ◌^◌, length};
+ghost use Rattle.reader_combinators.specs.Ahead.{kinds};
 ghost use Rattle.reader_combinators.specs.Computes.{Computes};
 ghost use Rattle.reader_combinators.specs.Readers as reader;
 ghost use Rattle.reader_combinators.specs.Verdicts.{place_in};
 ghost use Rattle.ada_base.specs.Symbols.{numbered, next_kind};
 
 use crate::fault::Fault;
+use ada_base::Token;
+use ada_tree::kind_number;
 use std::marker::Model;
 
 /// The tokens from a place on, as contracts see it: each with its number and its kind.
 #[derive(Drop)]
 pub struct Cursor<'a> {
-    kinds: &'a [u16],
+    tokens: &'a [Token],
     at: usize,
 }
 
@@ -31,20 +34,20 @@ impl<'a> Model for Cursor<'a> {
 }
 
 impl<'a> Cursor<'a> {
-    /// A cursor at the first of these kinds. No kind is 0, which stands for the end.
-    pub fn new(kinds: &'a [u16]) -> Cursor<'a>
-        requires { length kinds.now < 2 ^ 32 }
-        ensures { result ≡ numbered 0 kinds.now }
+    /// A cursor at the first of these tokens. The End is none of them: its kind is 0, which stands for the end.
+    pub fn new(tokens: &'a [Token]) -> Cursor<'a>
+        requires { length tokens.now < 2 ^ 32 }
+        ensures { result ≡ numbered 0 (kinds tokens.now) }
     {
-        Cursor { kinds, at: 0 }
+        Cursor { tokens, at: 0 }
     }
 
     /// The kind of the next token, and 0 at the end.
     pub fn peek(&self) -> u16
         ensures { result ≡ next_kind self.now }
     {
-        if self.at < self.kinds.len() {
-            self.kinds[self.at]
+        if self.at < self.tokens.len() {
+            kind_number(self.tokens[self.at].kind)
         } else {
             0
         }
@@ -54,18 +57,18 @@ impl<'a> Cursor<'a> {
     pub fn left(&self) -> usize
         ensures { result ≡ length self.now }
     {
-        self.kinds.len() - self.at
+        self.tokens.len() - self.at
     }
 
-    /// The number of the next token, and at the end how many kinds there are.
-    pub fn place_in(&self, kinds: &[u16]) -> u32
-        requires { length kinds.now < 2 ^ 32 }
-        ensures { result ≡ place_in kinds.now self.now }
+    /// The number of the next token, and at the end how many tokens there are.
+    pub fn place_in(&self, all: &[Token]) -> u32
+        requires { length all.now < 2 ^ 32 }
+        ensures { result ≡ place_in (kinds all.now) self.now }
     {
-        if self.at < self.kinds.len() {
+        if self.at < self.tokens.len() {
             self.at as u32
         } else {
-            kinds.len() as u32
+            all.len() as u32
         }
     }
 
@@ -73,7 +76,7 @@ impl<'a> Cursor<'a> {
     pub fn take(&mut self, kind: u16) -> Result<u32, Fault>
         ensures { Computes (reader.symbol kind self.old) result self.new }
     {
-        if self.at < self.kinds.len() && self.kinds[self.at] == kind {
+        if self.at < self.tokens.len() && kind_number(self.tokens[self.at].kind) == kind {
             let number = self.at as u32;
             self.at += 1;
             Ok(number)

@@ -2,6 +2,7 @@
 //! reader of `specs/ExampleReaders.antt` gives, and the laws make the whole exact.
 
 ghost use Rattle.std.specs.Prelude.{◌≡◌, ◌+◌, ◌-◌, ◌≤◌, ◌<◌, ◌^◌, length, IfOk};
+ghost use Rattle.reader_combinators.specs.Ahead.{kinds};
 ghost use Rattle.reader_combinators.specs.Example as spec;
 ghost use Rattle.reader_combinators.specs.ExampleReaders as reader;
 ghost use Rattle.reader_combinators.specs.Computes.{Computes};
@@ -9,18 +10,9 @@ ghost use Rattle.reader_combinators.specs.Verdicts.{RightVerdict};
 
 use crate::cursor::Cursor;
 use crate::fault::{Fault, Refusal, verdict};
-use ada_base::Items;
+use ada_base::{Items, Token};
+use ada_tree::kinds::{CLOSE_ROUND, COMMA, DOTS, NUMERAL, OPEN_ROUND};
 use std::alloc::Global;
-
-const NUMBER: u16 = 1;
-
-const OPEN: u16 = 2;
-
-const CLOSE: u16 = 3;
-
-const DOTS: u16 = 4;
-
-const COMMA: u16 = 5;
 
 /// A number in brackets: how many, and the number of its token.
 #[derive(Clone, Copy, Debug, PartialEq, Eq)]
@@ -43,10 +35,10 @@ fn read_value(tokens: &mut Cursor<'_>, levels: u32) -> Result<Value, Fault>
     ensures reads { Computes (reader.value levels tokens.old) result tokens.new }
     ensures brackets { IfOk result (λ v. v.brackets ≤ levels) }
 {
-    if tokens.peek() == OPEN {
+    if tokens.peek() == OPEN_ROUND {
         read_bracket(tokens, levels)
     } else {
-        let number = tokens.take(NUMBER)?;
+        let number = tokens.take(NUMERAL)?;
         Ok(Value {
             brackets: 0,
             number,
@@ -62,7 +54,7 @@ fn read_bracket(tokens: &mut Cursor<'_>, levels: u32) -> Result<Value, Fault>
     ensures brackets { IfOk result (λ v. v.brackets ≤ levels) }
 {
     if levels == 0 {
-        if tokens.peek() == OPEN {
+        if tokens.peek() == OPEN_ROUND {
             return Err(Fault::TooDeep);
         }
         return Err(Fault::Unexpected);
@@ -78,9 +70,9 @@ fn read_inside(tokens: &mut Cursor<'_>, levels: u32) -> Result<Value, Fault>
     ensures reads { Computes (reader.bracket_of (reader.value levels) tokens.old) result tokens.new }
     ensures brackets { IfOk result (λ v. v.brackets ≤ levels + 1) }
 {
-    tokens.take(OPEN)?;
+    tokens.take(OPEN_ROUND)?;
     let inner = read_value(tokens, levels)?;
-    tokens.take(CLOSE)?;
+    tokens.take(CLOSE_ROUND)?;
     Ok(Value {
         brackets: inner.brackets + 1,
         number: inner.number,
@@ -123,19 +115,34 @@ fn read_ranges(alloc: Global, tokens: &mut Cursor<'_>, levels: u32) -> Result<It
     Ok(found)
 }
 
-/// The ranges of a list of kinds in which no more than `limit` brackets are open anywhere, or the first fault.
-pub fn parse(alloc: Global, kinds: &[u16], limit: u32) -> Result<Items<Range>, Refusal>
-    requires { length kinds.now < 2 ^ 32 }
-    ensures { RightVerdict limit spec.ranges kinds.now result }
+/// The ranges of a list of tokens in which no more than `limit` brackets are open anywhere, or the first fault.
+pub fn parse(alloc: Global, all: &[Token], limit: u32) -> Result<Items<Range>, Refusal>
+    requires { length all.now < 2 ^ 32 }
+    ensures { RightVerdict limit spec.ranges (kinds all.now) result }
 {
-    let mut tokens = Cursor::new(kinds);
+    let mut tokens = Cursor::new(all);
     let found = read_ranges(alloc, &mut tokens, limit);
-    verdict(kinds, &tokens, found)
+    verdict(all, &tokens, found)
 }
 
 #[cfg(test)]
 mod tests {
     use super::*;
+    use ada_base::{Kind, Span};
+    use std::alloc::AllocError;
+
+    const SPAN: Span = Span { start: 0, end: 0 };
+
+    fn token(sign: char) -> Token {
+        let kind = match sign {
+            '(' => Kind::Mark(12),
+            ')' => Kind::Mark(13),
+            ':' => Kind::Mark(1),
+            ',' => Kind::Mark(16),
+            _ => Kind::Number(0),
+        };
+        Token { kind, span: SPAN }
+    }
 
     fn summary(answer: &Result<Items<Range>, Refusal>) -> (u8, usize) {
         match answer {
@@ -146,29 +153,29 @@ mod tests {
         }
     }
 
-    // the number of ranges after 0, the place of a fault after 1, and of what is too deep after 2
+    // The number of ranges after 0, the place of a fault after 1, and of what is too deep after 2. A token is a
+    // character, the two dots are `:`.
     #[test]
-    fn lists_have_their_ranges_or_their_first_fault(rt: HostRuntime) {
-        let cases: [(&[u16], u32, (u8, usize)); 12] = [
-            (&[1], 0, (0, 1)),
-            (&[1, 4, 1], 0, (0, 1)),
-            (&[1, 5, 1, 4, 1], 0, (0, 2)),
-            (&[2, 2, 1, 3, 3], 2, (0, 1)),
-            (&[2, 2, 1, 3, 3], 1, (2, 1)),
-            (&[2, 2, 5], 2, (1, 2)),
-            (&[], 2, (1, 0)),
-            (&[1, 4], 2, (1, 2)),
-            (&[1, 1], 2, (1, 1)),
-            (&[2, 1, 4, 1, 3], 2, (1, 2)),
-            (&[1, 5], 2, (1, 2)),
-            (&[2], 0, (2, 0)),
+    fn lists_have_their_ranges_or_their_first_fault(rt: HostRuntime) -> Result<(), AllocError> {
+        let cases = [
+            ("1", 0, (0, 1)),
+            ("1:1", 0, (0, 1)),
+            ("1,1:1", 0, (0, 2)),
+            ("((1))", 2, (0, 1)),
+            ("((1))", 1, (2, 1)),
+            ("((,", 2, (1, 2)),
+            ("", 2, (1, 0)),
+            ("1:", 2, (1, 2)),
+            ("11", 2, (1, 1)),
+            ("(1:1)", 2, (1, 2)),
+            ("1,", 2, (1, 2)),
+            ("(", 0, (2, 0)),
         ];
-        for (kinds, limit, want) in cases {
-            assert_eq!(rt;
-                summary(&parse(rt.alloc(), kinds, limit)),
-                want,
-                "of {kinds:?}"
-            );
+        for (text, limit, want) in cases {
+            let tokens: Vec<Token> = text.chars().map(token).collect(rt.alloc())?;
+            let found = parse(rt.alloc(), &tokens, limit);
+            assert_eq!(rt; summary(&found), want, "of {text}");
         }
+        Ok(())
     }
 }

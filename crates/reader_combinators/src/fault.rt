@@ -1,9 +1,11 @@
 //! Why nothing was read.
 
 ghost use Rattle.std.specs.Prelude.{◌≡◌, ◌<◌, ◌^◌, length};
+ghost use Rattle.reader_combinators.specs.Ahead.{kinds};
 ghost use Rattle.reader_combinators.specs.Verdicts.{verdict_of};
 
 use crate::cursor::Cursor;
+use ada_base::Token;
 use std::alloc::AllocError;
 
 /// Why a reader stopped. The cursor then stands at the token where it did.
@@ -39,17 +41,17 @@ pub enum Refusal {
     OutOfMemory,
 }
 
-/// The answer for a whole list of kinds, from that of the reader that began it and where it left the cursor.
+/// The answer for a whole list of tokens, from that of the reader that began it and where it left the cursor.
 /// Tokens that are left are unexpected.
 pub fn verdict<T: Drop>(
-    kinds: &[u16],
+    all: &[Token],
     tokens: &Cursor<'_>,
     answer: Result<T, Fault>,
 ) -> Result<T, Refusal>
-    requires { length kinds.now < 2 ^ 32 }
-    ensures { result ≡ verdict_of kinds.now answer tokens.now }
+    requires { length all.now < 2 ^ 32 }
+    ensures { result ≡ verdict_of (kinds all.now) answer tokens.now }
 {
-    let place = tokens.place_in(kinds);
+    let place = tokens.place_in(all);
     match answer {
         Ok(tree) => {
             if tokens.left() == 0 {

@@ -3,6 +3,7 @@ use Rattle.ada_base.specs.Symbols.{numbered}
 use Rattle.ada_tree.specs.Grammar.{ProgramWords}
 use Rattle.ada_tree.specs.Parsed.{depth_limit}
 use Rattle.grammar_readers.specs.Units as reader
+use Rattle.reader_combinators.specs.Ahead.{kinds}
 use Rattle.reader_combinators.specs.Verdicts.{RightVerdict}
 use Rattle.reader_exactness.proofs.Units.{right}
 use Rattle.tree_nodes.specs.Parts.{the_program, IsPart}
@@ -17,16 +18,16 @@ pub returns-in-Ok-verdict : goal.returns-in-Ok-verdict
 unfolding trees.program_of
 returns-in-Ok-verdict c =
     let new = c.program-read.new.parser in
-    let kinds = c.args.kinds.now in
+    let spoken = kinds c.args.all.now in
     let read = subst (λ ts. Reads the_program IsPart (parts c.in-Ok.out) (reader.program depth_limit ts) c.program-read.result new.tokens (parts new.out)) c.new.ensures c.program-read.ensures in
-    let whole = judged depth_limit ProgramWords kinds the_program IsPart (parts c.in-Ok.out) (reader.program depth_limit (numbered 0 kinds)) c.program-read.result new.tokens (parts new.out) (right depth_limit kinds) read in
-    subst (λ p. RightVerdict depth_limit ProgramWords kinds (Ok (the_program p))) (sym c.finish.ensures)
-    (subst (λ r. RightVerdict depth_limit ProgramWords kinds (told_of (the_program (top (parts new.out))) r)) (sym c.verdict.ensures ∙ c.in-Ok-verdict.is) whole)
+    let whole = judged depth_limit ProgramWords spoken the_program IsPart (parts c.in-Ok.out) (reader.program depth_limit (numbered 0 spoken)) c.program-read.result new.tokens (parts new.out) (right depth_limit spoken) read in
+    subst (λ p. RightVerdict depth_limit ProgramWords spoken (Ok (the_program p))) (sym c.finish.ensures)
+    (subst (λ r. RightVerdict depth_limit ProgramWords spoken (told_of (the_program (top (parts new.out))) r)) (sym c.verdict.ensures ∙ c.in-Ok-verdict.is) whole)
 
 pub returns-in-Err : goal.returns-in-Err
 returns-in-Err c =
     let new = c.program-read.new.parser in
-    let kinds = c.args.kinds.now in
+    let spoken = kinds c.args.all.now in
     let read = subst (λ ts. Reads the_program IsPart (parts c.in-Ok.out) (reader.program depth_limit ts) c.program-read.result new.tokens (parts new.out)) c.new.ensures c.program-read.ensures in
-    let whole = judged depth_limit ProgramWords kinds the_program IsPart (parts c.in-Ok.out) (reader.program depth_limit (numbered 0 kinds)) c.program-read.result new.tokens (parts new.out) (right depth_limit kinds) read in
-    subst (λ r. RightVerdict depth_limit ProgramWords kinds (told_of (the_program (top (parts new.out))) r)) (sym c.verdict.ensures ∙ c.in-Err.is) whole
+    let whole = judged depth_limit ProgramWords spoken the_program IsPart (parts c.in-Ok.out) (reader.program depth_limit (numbered 0 spoken)) c.program-read.result new.tokens (parts new.out) (right depth_limit spoken) read in
+    subst (λ r. RightVerdict depth_limit ProgramWords spoken (told_of (the_program (top (parts new.out))) r)) (sym c.verdict.ensures ∙ c.in-Err.is) whole

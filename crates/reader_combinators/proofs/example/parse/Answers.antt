@@ -1,4 +1,5 @@
 use Rattle.std.proofs.Common.{subst}
+use Rattle.reader_combinators.specs.Ahead.{kinds}
 use Rattle.reader_combinators.specs.Example as spec
 use Rattle.reader_combinators.specs.ExampleReaders as reader
 use Rattle.ada_base.specs.Symbols.{numbered}
@@ -10,6 +11,6 @@ use Rattle.reader_combinators.proofs.example.parse.Goals as goal
 pub returns : goal.returns
 returns c =
     rw c.verdict.ensures
-    (judged c.args.limit spec.ranges c.args.kinds.now (reader.ranges c.args.limit (numbered 0 c.args.kinds.now)) c.read_ranges-found.result c.read_ranges-found.new.tokens
-    (right c.args.limit c.args.kinds.now)
+    (judged c.args.limit spec.ranges (kinds c.args.all.now) (reader.ranges c.args.limit (numbered 0 (kinds c.args.all.now))) c.read_ranges-found.result c.read_ranges-found.new.tokens
+    (right c.args.limit (kinds c.args.all.now))
     (subst (λ ts. Computes (reader.ranges c.args.limit ts) c.read_ranges-found.result c.read_ranges-found.new.tokens) c.new-tokens.ensures c.read_ranges-found.ensures))
