@@ -1,7 +1,7 @@
 -- The kinds of a list of tokens, without the last.
 use Rattle.std.proofs.Common.{◌≡◌, suc, ◌-◌, List, [], ◌∷◌, length, take, refl, ap, arith}
 use Rattle.ada_base.specs.declared.token.Token.{Token}
-use Rattle.ada_tree.specs.TokenKinds.{kind_number, kinds_of}
+use Rattle.ada_base.specs.TokenKinds.{kind_number, kinds_of}
 use Rattle.reader_combinators.specs.Ahead.{kinds}
 
 pub taken_kinds : (items : List Token) → kinds (take (length items - 1) items) ≡ kinds_of items

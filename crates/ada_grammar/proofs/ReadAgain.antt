@@ -5,7 +5,7 @@ use Rattle.ada_base.specs.Tokens.{Tokenized}
 use Rattle.ada_tree.specs.Faults.{byte_limit}
 use Rattle.ada_tree.specs.Grammar.{ProgramWords}
 use Rattle.ada_tree.specs.Parsed.{depth_limit}
-use Rattle.ada_tree.specs.TokenKinds.{kinds_of}
+use Rattle.ada_base.specs.TokenKinds.{kinds_of}
 use Rattle.ada_tree.specs.Syntax.{Program}
 use Rattle.canonical_text.specs.Canonical.{canonical}
 use Rattle.canonical_text.proofs.SameTokens.{tokenized_again}

@@ -4,7 +4,7 @@ use Rattle.std.proofs.lemmas.Bool.{and_parts, and_from}
 use Rattle.std.proofs.lemmas.List.{map-append}
 use Rattle.ada_base.specs.Symbols.{Symbol, Word, symbols_of}
 use Rattle.reader_combinators.proofs.Words.{symbols_of-append}
-use Rattle.ada_tree.specs.Kinds.{tick}
+use Rattle.ada_base.specs.Kinds.{tick}
 use Rattle.ada_tree.specs.Patterns.{Pattern, Nothing, Held, Free, Both, words_of, Spelling, held, free, ◌then◌, nothing, optional_of, optional_of_after, each_of, each_of_after, inside}
 use Rattle.canonical_text.specs.Spoken.{is_spoken, AreSpoken}
 use Rattle.canonical_text.proofs.Spoken.{are_spoken_append}

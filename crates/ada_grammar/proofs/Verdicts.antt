@@ -8,7 +8,7 @@ use Rattle.reader_combinators.proofs.FirstFaults.{tree_or_fault, tree_or_deep, o
 use Rattle.reader_combinators.proofs.Words.{head_is}
 use Rattle.ada_tree.specs.Grammar.{ProgramWords}
 use Rattle.ada_tree.specs.Parsed.{IsParsed, IsSyntaxFault, IsTooDeep, depth_limit}
-use Rattle.ada_tree.specs.TokenKinds.{kinds_of}
+use Rattle.ada_base.specs.TokenKinds.{kinds_of}
 use Rattle.ada_tree.specs.Syntax.{Program}
 use Rattle.tree_views.specs.Trees.{Table, program_of}
 use Rattle.reader_exactness.proofs.Units.{one_program}

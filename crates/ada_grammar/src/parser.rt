@@ -5,7 +5,7 @@ ghost use Rattle.ada_base.specs.Tokens.{kind_at};
 ghost use Rattle.ada_tree.specs.Grammar.{ProgramWords};
 ghost use Rattle.ada_tree.specs.Parsed.{depth_limit, IsParsed, IsSyntaxFault, IsTooDeep};
 ghost use Rattle.ada_tree.specs.Syntax.{Program};
-ghost use Rattle.ada_tree.specs.TokenKinds as token_kind;
+ghost use Rattle.ada_base.specs.TokenKinds as token_kind;
 ghost use Rattle.reader_combinators.specs.Ahead.{kinds};
 ghost use Rattle.tree_nodes.specs.Stack.{parts};
 ghost use Rattle.ada_grammar.specs.Parsed.{Parsed, JudgedTree, GivesTree, GivesFault, GivesTooDeep};

@@ -10,9 +10,8 @@ use crate::mark::mark;
 use crate::name::name;
 use crate::number::number;
 use crate::quoted::beyond_quoted;
-use ada_base::Kind;
-use ada_tree::kind_number;
-use ada_tree::kinds::{CLOSE_ROUND, CLOSE_SQUARE, FIRST_MARK, IDENTIFIER, RANGE, STRING, TICK};
+use ada_base::kinds::{CLOSE_ROUND, CLOSE_SQUARE, FIRST_MARK, IDENTIFIER, RANGE, STRING, TICK};
+use ada_base::{Kind, kind_number};
 use unicode_ident::{is_xid_continue, is_xid_start};
 
 /// Whether an apostrophe after a token of this kind belongs to what the token ends, and begins no character

@@ -4,7 +4,7 @@ use Rattle.ada_base.specs.Symbols.{Symbol, next_kind, is_member}
 use Rattle.reader_combinators.specs.Readers.{Answer, Found, Refused, TooDeep, read_on, symbol, ◌>>=◌, ◌>>◌, by_next}
 use Rattle.reader_combinators.specs.declared.fault.Fault.{Fault}
 use Rattle.reader_combinators.specs.declared.fault.Fault.TheVariants as fault
-use Rattle.ada_tree.specs.Kinds as kind
+use Rattle.ada_base.specs.Kinds as kind
 use Rattle.ada_tree.specs.Syntax.{Expr, Many, Positions}
 use Rattle.ada_tree.specs.Joining.{exprs_and}
 use Rattle.grammar_readers.specs.Opened.{Opened}

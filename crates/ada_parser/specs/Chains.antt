@@ -2,7 +2,7 @@
 use Rattle.std.specs.Prelude.{ℕ, List, [], ◌∷◌}
 use Rattle.reader_combinators.specs.Readers.{Reader, ◌>>=◌, pure}
 use Rattle.reader_combinators.specs.Loops.{grown}
-use Rattle.ada_tree.specs.Kinds as kind
+use Rattle.ada_base.specs.Kinds as kind
 use Rattle.ada_tree.specs.Syntax as syntax
 use Rattle.ada_tree.specs.Joining.{parts_and, multiplyings_and, addings_and, conjuncts_and, args_and, choices_and, assocs_and, elsifs_and}
 use Rattle.grammar_readers.specs.Opened.{Opened}

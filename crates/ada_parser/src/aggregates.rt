@@ -14,7 +14,7 @@ use crate::chains::{Chain, list};
 use crate::expressions::{expr, expr_from, rel_from, simple, upper_bound};
 use crate::parser::Parser;
 use crate::ranges::{arrow_value, range};
-use ada_tree::kinds::{ARROW, BAR, COMMA, DOTS, FOR, IDENTIFIER, IN, OTHERS};
+use ada_base::kinds::{ARROW, BAR, COMMA, DOTS, FOR, IDENTIFIER, IN, OTHERS};
 use reader_combinators::Fault;
 use tree_nodes::{Four, Leaf, ListKind, Three, Two, also, close, four, leaf, nothing, three, two};
 

@@ -11,7 +11,7 @@ use crate::aggregates::{each_and_more, inside};
 use crate::chains::{Chain, list};
 use crate::expressions::expr;
 use crate::parser::Parser;
-use ada_tree::kinds::{CLOSE_ROUND, ELSE, ELSIF, FOR, IF, OPEN_ROUND, THEN};
+use ada_base::kinds::{CLOSE_ROUND, ELSE, ELSIF, FOR, IF, OPEN_ROUND, THEN};
 use reader_combinators::Fault;
 use tree_nodes::{Four, One, Two, four, one, two};
 

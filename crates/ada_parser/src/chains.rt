@@ -15,11 +15,11 @@ use crate::brackets::next_elsif;
 use crate::expressions::{added, conjunct, multiplied, part, short_conjunct};
 use crate::parser::Parser;
 use crate::ranges::next_arg;
-use ada_tree::Logical;
-use ada_tree::kinds::{
+use ada_base::kinds::{
     AMPERSAND, AND, BAR, COMMA, ELSE, ELSIF, MINUS, MOD, OPEN_ROUND, OR, PLUS, POINT, REM, SLASH,
     STAR, THEN, TICK, XOR,
 };
+use ada_tree::Logical;
 use reader_combinators::Fault;
 use tree_nodes::{ListKind, also, close, nothing};
 

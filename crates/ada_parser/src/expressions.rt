@@ -13,12 +13,12 @@ use crate::chains::{Chain, list};
 use crate::levels::{call, round, square};
 use crate::operators::{adding_operator, comparison, multiplying_operator, sign};
 use crate::parser::Parser;
-use ada_tree::Logical;
-use ada_tree::kinds::{
+use ada_base::kinds::{
     ABS, AMPERSAND, AND, AT_LEAST, AT_MOST, DOTS, DOUBLE_STAR, ELSE, EQUAL, GREATER, IDENTIFIER,
     IN, LESS, MINUS, MOD, NOT, NUMERAL, OPEN_ROUND, OR, PLUS, POINT, RANGE, REM, SLASH, STAR,
     STRING, TARGET, THEN, TICK, UNEQUAL, XOR,
 };
+use ada_tree::Logical;
 use reader_combinators::Fault;
 use tree_nodes::{Leaf, One, Three, Two, bare, leaf, leave_out, one, three, two};
 

@@ -13,7 +13,7 @@ use crate::levels::chunk;
 use crate::operators::reversed;
 use crate::parser::Parser;
 use crate::ranges::range;
-use ada_tree::kinds::{CLOSE_ROUND, IDENTIFIER, IN, OF, OPEN_ROUND, PARALLEL, WHEN};
+use ada_base::kinds::{CLOSE_ROUND, IDENTIFIER, IN, OF, OPEN_ROUND, PARALLEL, WHEN};
 use reader_combinators::Fault;
 use tree_nodes::{Leaf, One, Parts, Two, bare, leaf, leave_out, nothing, one, two};
 

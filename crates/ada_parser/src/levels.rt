@@ -12,7 +12,7 @@ use crate::iterations::chunk_opened;
 use crate::parser::Parser;
 use crate::ranges::call_opened;
 use crate::squares::square_opened;
-use ada_tree::kinds::{OPEN_ROUND, OPEN_SQUARE};
+use ada_base::kinds::{OPEN_ROUND, OPEN_SQUARE};
 use reader_combinators::{Cursor, Fault};
 
 /// Whether the next token is of this kind.

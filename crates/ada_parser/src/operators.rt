@@ -4,7 +4,7 @@ ghost use Rattle.reader_combinators.specs.Computes.{Computes};
 ghost use Rattle.grammar_readers.specs.Brackets as brackets;
 ghost use Rattle.grammar_readers.specs.Expressions as reader;
 
-use ada_tree::kinds::{
+use ada_base::kinds::{
     AMPERSAND, AT_LEAST, AT_MOST, EQUAL, GREATER, LESS, MINUS, MOD, PLUS, REM, REVERSE, SLASH,
     STAR, UNEQUAL,
 };

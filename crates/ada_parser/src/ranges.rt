@@ -12,7 +12,7 @@ ghost use Rattle.tree_nodes.specs.Stack.{parts};
 use crate::chains::{Chain, list};
 use crate::expressions::{expr, simple, upper_bound};
 use crate::parser::Parser;
-use ada_tree::kinds::{ARROW, CLOSE_ROUND, COMMA, DOTS, OPEN_ROUND, RANGE};
+use ada_base::kinds::{ARROW, CLOSE_ROUND, COMMA, DOTS, OPEN_ROUND, RANGE};
 use reader_combinators::Fault;
 use tree_nodes::{One, Three, Two, bare, leave_out, one, take_name, three, two};
 

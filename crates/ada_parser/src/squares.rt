@@ -16,7 +16,7 @@ use crate::expressions::expr;
 use crate::iterations::{iter_begun, iter_joined, parallel};
 use crate::parser::Parser;
 use crate::ranges::arrow_value;
-use ada_tree::kinds::{
+use ada_base::kinds::{
     CLOSE_ROUND, CLOSE_SQUARE, COMMA, FOR, IDENTIFIER, OPEN_ROUND, OPEN_SQUARE, PARALLEL, TICK,
 };
 use reader_combinators::Fault;

@@ -11,7 +11,7 @@ use Rattle.ada_tree.specs.Faults.{Fault}
 use Rattle.ada_tree.specs.Grammar.{ProgramWords}
 use Rattle.ada_tree.specs.Parsed.{IsParsed, depth_limit}
 use Rattle.ada_tree.specs.Syntax as syntax
-use Rattle.ada_tree.specs.TokenKinds.{kinds_of}
+use Rattle.ada_base.specs.TokenKinds.{kinds_of}
 use Rattle.first_form.specs.Program.{Program}
 use Rattle.first_form.specs.Forming.{program_at}
 use Rattle.ada_grammar.proofs.Verdicts.{one_tree, one_deep}

@@ -12,9 +12,9 @@ use Rattle.ada_base.specs.declared.token.Token.{Token}
 use Rattle.ada_tree.specs.Faults.{IsNarrow}
 use Rattle.ada_tree.specs.Gaps.{IsGap, begins_gap}
 use Rattle.ada_tree.specs.Gaps.IsGap.{Nothing, White}
-use Rattle.ada_tree.specs.Kinds.{tick}
+use Rattle.ada_base.specs.Kinds.{tick}
 use Rattle.ada_tree.specs.Spelling.{IsTokenAt}
-use Rattle.ada_tree.specs.TokenKinds.{kind_number}
+use Rattle.ada_base.specs.TokenKinds.{kind_number}
 use Rattle.ada_tree.specs.Tokens.{Spot, start_of, IsNext, AreNext}
 use Rattle.canonical_text.specs.Canonical.{written, written_in}
 use Rattle.canonical_text.specs.Spoken.{ticks_followed}

@@ -13,7 +13,7 @@ use Rattle.ada_base.specs.declared.token.Kind.TheVariants.{Ident, Word, Number, 
 use Rattle.ada_base.specs.declared.token.Token.{Token}
 use Rattle.ada_tree.specs.Faults.{IsNarrow}
 use Rattle.ada_tree.specs.Spelling.{IsSpelling}
-use Rattle.ada_tree.specs.TokenKinds.{kind_number}
+use Rattle.ada_base.specs.TokenKinds.{kind_number}
 use Rattle.ada_tree.specs.Tokens.{Spot, after, AreNext}
 use Rattle.ada_tree.specs.Words.{words, marks}
 use Rattle.canonical_text.specs.Canonical.{entry, written, written_in}

@@ -10,11 +10,11 @@ use Rattle.unicode_ident.specs.Ident.{is_xid_continue}
 use Rattle.ada_tree.specs.Characters.{is_white}
 use Rattle.ada_tree.specs.Faults.{IsNarrow}
 use Rattle.ada_tree.specs.Gaps.{begins_gap}
-use Rattle.ada_tree.specs.Kinds.{tick}
+use Rattle.ada_base.specs.Kinds.{tick}
 use Rattle.ada_tree.specs.Numbers.{begins_with_digit}
 use Rattle.ada_tree.specs.Spelling.{IsQuoted, IsSpelling, IsTokenAt, can_follow}
 use Rattle.ada_tree.specs.Spelling.IsQuoted.{NothingQuoted, Character, Doubled}
-use Rattle.ada_tree.specs.TokenKinds.{kind_number}
+use Rattle.ada_base.specs.TokenKinds.{kind_number}
 use Rattle.canonical_text.specs.Canonical.{written}
 use Rattle.canonical_text.proofs.Breaks.{IsBreak, is_edge, is_of_number, start_no_edge, digit_no_edge, breaks_none}
 use Rattle.canonical_text.proofs.Numbers.{integer_all, integer_first, real_all}

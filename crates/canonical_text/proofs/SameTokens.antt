@@ -10,7 +10,7 @@ use Rattle.ada_base.specs.declared.token.Kind.{Kind}
 use Rattle.ada_base.specs.declared.token.Token.{Token}
 use Rattle.ada_base.specs.Tokens.{Tokenized}
 use Rattle.ada_tree.specs.Faults.{IsNarrow, IsReadable, KeepLimits, byte_limit}
-use Rattle.ada_tree.specs.TokenKinds.{kind_number, kinds_of}
+use Rattle.ada_base.specs.TokenKinds.{kind_number, kinds_of}
 use Rattle.ada_tree.specs.Tokens.{start_of, AreTokens, AreTokensOf}
 use Rattle.canonical_text.specs.Canonical.{canonical, written_in, before_end, IsTokenizedAgain}
 use Rattle.canonical_text.specs.Spoken.{is_spoken, ticks_followed, AreSpoken}

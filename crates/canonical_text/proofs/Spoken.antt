@@ -2,7 +2,7 @@
 use Rattle.std.proofs.Common.{◌≡◌, ℕ, true, ◌==◌, List, [], ◌∷◌, ◌++◌, ◌∙◌}
 use Rattle.std.proofs.lemmas.Bool.{and_parts, and_from, not-true}
 use Rattle.std.proofs.lemmas.List.Folds.{list_all-append}
-use Rattle.ada_tree.specs.Kinds.{tick}
+use Rattle.ada_base.specs.Kinds.{tick}
 use Rattle.canonical_text.specs.Spoken.{is_spoken, ticks_followed, AreSpoken}
 
 ticks_append : (u v : List ℕ) → ticks_followed u ≡ true → ticks_followed v ≡ true → ticks_followed (u ++ v) ≡ true

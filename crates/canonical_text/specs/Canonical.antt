@@ -9,7 +9,7 @@ use Rattle.ada_base.specs.declared.token.Token.{Token}
 use Rattle.ada_base.specs.Tokens.{Tokenized}
 use Rattle.ada_tree.specs.Characters.{line_feed}
 use Rattle.ada_tree.specs.Faults.{IsReadable, KeepLimits}
-use Rattle.ada_tree.specs.TokenKinds.{kinds_of}
+use Rattle.ada_base.specs.TokenKinds.{kinds_of}
 use Rattle.ada_tree.specs.Tokens.{AreTokensOf}
 use Rattle.ada_tree.specs.Words.{words, marks}
 

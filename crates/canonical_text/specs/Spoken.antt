@@ -1,7 +1,7 @@
 -- Lists of kinds of tokens that can be told apart where a space stands between two tokens.
 use Rattle.std.specs.Prelude.{◌≡◌, ℕ, Bool, true, ◌&&◌, ◌||◌, not, ◌==◌, List, [], ◌∷◌}
 use Rattle.std.specs.List.{list_all}
-use Rattle.ada_tree.specs.Kinds.{character, real, tick}
+use Rattle.ada_base.specs.Kinds.{character, real, tick}
 
 -- neither a character literal nor a real literal
 abbrev pub is_spoken : ℕ → Bool

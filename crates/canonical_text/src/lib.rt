@@ -4,7 +4,7 @@
 ghost use Rattle.std.specs.Prelude.{◌≡◌, ◌≤◌, ◌++◌, length, string_bytes, All, IfOk, OnOk};
 ghost use Rattle.ada_base.specs.Tokens.{Tokenized};
 ghost use Rattle.ada_tree.specs.Faults.{byte_limit, IsReadable, KeepLimits};
-ghost use Rattle.ada_tree.specs.TokenKinds.{kinds_of};
+ghost use Rattle.ada_base.specs.TokenKinds.{kinds_of};
 ghost use Rattle.ada_tree.specs.Tokens.{AreTokensOf};
 ghost use Rattle.canonical_text.specs.Canonical.{canonical, written, IsListed, IsTokenizedAgain};
 ghost use Rattle.canonical_text.specs.Spoken.{AreSpoken};

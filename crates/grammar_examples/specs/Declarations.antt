@@ -1,7 +1,7 @@
 -- Examples of the grammar of declarations: for each rule a program that it is the
 -- point of, with its section, its tree, and a change after which it is at fault.
 use Rattle.std.specs.Prelude.{List, [], ◌∷◌, Some, None}
-use Rattle.ada_tree.specs.Kinds.{array_word, assign, begin_word, close_round, colon, comma, constant_word, dots, end_word, equal, exception_word, function_word, identifier, in_word, is_word, null_word, numeral, of_word, open_round, out_word, procedure_word, range_word, record_word, return_word, semicolon, subtype_word, type_word}
+use Rattle.ada_base.specs.Kinds.{array_word, assign, begin_word, close_round, colon, comma, constant_word, dots, end_word, equal, exception_word, function_word, identifier, in_word, is_word, null_word, numeral, of_word, open_round, out_word, procedure_word, range_word, record_word, return_word, semicolon, subtype_word, type_word}
 use Rattle.ada_tree.specs.Syntax.{Bounded, Whole, Mark, RangeMark, Indicated, RangeType, ArrayType, RecordType, ObjectDecl, NumberDecl, ExceptionDecl, TypeDecl, SubtypeDecl, Null, Return, stmts, NoStmt, body, NoHandler, Procedure, Function, SubUnit}
 use Rattle.ada_tree.specs.declared.operators.Mode.TheVariants as mode
 use Rattle.grammar_examples.specs.Rows.{Example, example, Another, Added, LeftOut, simple, expr, number, named, ids, array, component, formal, formals, program_of, kinds_of_unit, declaring}

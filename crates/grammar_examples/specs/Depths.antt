@@ -3,7 +3,7 @@
 use Rattle.std.specs.Prelude.{ℕ, List, [], ◌∷◌}
 use Rattle.ada_base.specs.Derivations.{DerivesWithin}
 use Rattle.ada_tree.specs.Grammar.{ProgramWords, IsFirstTooDeep}
-use Rattle.ada_tree.specs.Kinds.{identifier, numeral, string, null_word, exit_word, return_word, if_word, then_word, else_word, loop_word, case_word, is_word, when_word, others_word, parallel_word, for_word, in_word, do_word, and_word, end_word, begin_word, declare_word, function_word, procedure_word, type_word, array_word, of_word, pragma_word, arrow, dots, colon, assign, semicolon, open_round, close_round, open_square, close_square, tick, comma}
+use Rattle.ada_base.specs.Kinds.{identifier, numeral, string, null_word, exit_word, return_word, if_word, then_word, else_word, loop_word, case_word, is_word, when_word, others_word, parallel_word, for_word, in_word, do_word, and_word, end_word, begin_word, declare_word, function_word, procedure_word, type_word, array_word, of_word, pragma_word, arrow, dots, colon, assign, semicolon, open_round, close_round, open_square, close_square, tick, comma}
 use Rattle.ada_tree.specs.Syntax.{Program}
 use Rattle.grammar_examples.specs.Rows.{kinds_of_stmts, kinds_of_value, kinds_of_unit}
 

@@ -1,7 +1,7 @@
 -- Examples of the grammar of expressions: for each rule a program that it is the
 -- point of, with its section, its tree, and a change after which it is at fault.
 use Rattle.std.specs.Prelude.{List, [], ◌∷◌, Some, None}
-use Rattle.ada_tree.specs.Kinds.{abs_word, ampersand, and_word, arrow, at_most, bar, close_round, close_square, comma, dots, double_star, else_word, elsif_word, equal, for_word, identifier, if_word, in_word, minus, mod_word, not_word, numeral, of_word, open_round, open_square, or_word, others_word, parallel_word, plus, point, range_word, semicolon, star, string, target, then_word, tick, xor_word}
+use Rattle.ada_base.specs.Kinds.{abs_word, ampersand, and_word, arrow, at_most, bar, close_round, close_square, comma, dots, double_star, else_word, elsif_word, equal, for_word, identifier, if_word, in_word, minus, mod_word, not_word, numeral, of_word, open_round, open_square, or_word, others_word, parallel_word, plus, point, range_word, semicolon, star, string, target, then_word, tick, xor_word}
 use Rattle.ada_tree.specs.Syntax.{Single, Joined, conjunct, NoConjunct, AlsoConjunct, Alone, Compared, Within, OfMark, Sum, adding, NoAdding, AlsoAdding, Product, multiplying, NoMultiplying, AlsoMultiplying, Operand, Power, Abs, Not, Text, Target, Named, Group, If, Round, Square, OneValue, Reduction, elsif, NoElsif, AlsoElsif, NoExpr, AbsentExpr, name, Field, Call, Attribute, RangeAttribute, NoPart, AlsoPart, arg, NoArg, AlsoArg, Bounded, Value, Span, Others, NoChoice, AlsoChoice, Positions, PositionsOthers, FirstOthers, Associations, Chosen, Each, NoAssoc, AlsoAssoc, Unchunked, AbsentParallel, PresentParallel, InRange, OfName, CallStmt}
 use Rattle.ada_tree.specs.declared.operators.Logical.TheVariants as logical
 use Rattle.ada_tree.specs.declared.operators.Comparison.TheVariants as comparison

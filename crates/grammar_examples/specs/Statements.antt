@@ -1,7 +1,7 @@
 -- Examples of the grammar of statements: for each rule a program that it is the
 -- point of, with its section, its tree, and a change after which it is at fault.
 use Rattle.std.specs.Prelude.{List, [], ◌∷◌, Some, None}
-use Rattle.ada_tree.specs.Kinds.{and_word, arrow, assign, bar, begin_word, case_word, close_round, colon, declare_word, do_word, dots, else_word, elsif_word, end_word, exception_word, exit_word, for_word, identifier, if_word, in_word, is_word, loop_word, null_word, numeral, of_word, open_round, others_word, parallel_word, point, raise_word, range_word, return_word, reverse_word, semicolon, then_word, when_word, while_word}
+use Rattle.ada_base.specs.Kinds.{and_word, arrow, assign, bar, begin_word, case_word, close_round, colon, declare_word, do_word, dots, else_word, elsif_word, end_word, exception_word, exit_word, for_word, identifier, if_word, in_word, is_word, loop_word, null_word, numeral, of_word, open_round, others_word, parallel_word, point, raise_word, range_word, return_word, reverse_word, semicolon, then_word, when_word, while_word}
 use Rattle.ada_tree.specs.Syntax.{AbsentExpr, PresentExpr, name, Call, NoPart, AlsoPart, arg, NoArg, Bounded, Constrained, Value, Span, Others, Chunked, InRange, OfName, Mark, Indicated, ObjectDecl, While, For, AnyOther, These, Null, Assign, Exit, Return, Raise, IfStmt, Case, Loop, Block, ParallelBlock, stmts, NoStmt, AlsoStmt, AbsentStmts, PresentStmts, arm, NoArm, AlsoArm, alt, NoAlt, AlsoAlt, NoBranch, body, handler, NoHandler, AlsoHandler}
 use Rattle.grammar_examples.specs.Rows.{Example, example, Another, LeftOut, simple, expr, number, variable, named, ids, pack, declares, program_of, kinds_of_stmts, doing}
 

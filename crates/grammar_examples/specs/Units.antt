@@ -1,7 +1,7 @@
 -- Examples of the grammar of programs and subprograms: for each rule a program that it is the
 -- point of, with its section, its tree, and a change after which it is at fault.
 use Rattle.std.specs.Prelude.{List, [], ◌∷◌, Some, None}
-use Rattle.ada_tree.specs.Kinds.{arrow, begin_word, close_round, colon, comma, end_word, function_word, identifier, is_word, null_word, numeral, open_round, point, pragma_word, procedure_word, return_word, semicolon, use_word, with_word}
+use Rattle.ada_base.specs.Kinds.{arrow, begin_word, close_round, colon, comma, end_word, function_word, identifier, is_word, null_word, numeral, open_round, point, pragma_word, procedure_word, return_word, semicolon, use_word, with_word}
 use Rattle.ada_tree.specs.Syntax.{Mark, Indicated, ObjectDecl, Null, stmts, NoStmt, body, NoHandler, Procedure, ExprFunction, DeclUnit, SubUnit}
 use Rattle.ada_tree.specs.declared.operators.ClauseWord.TheVariants as word
 use Rattle.grammar_examples.specs.Rows.{Example, example, Another, Added, LeftOut, expr, number, ids, pack, aspect, clause, policy, main, program, program_of, kinds_of_unit}

@@ -2,7 +2,7 @@
 use Rattle.std.specs.Prelude.{ℕ, zero, suc, List, [], ◌∷◌, Option, Some, None}
 use Rattle.reader_combinators.specs.Readers.{Reader, ◌>>=◌, ◌>>◌, pure, symbol, by_next, too_deep}
 use Rattle.reader_combinators.specs.Loops.{grown}
-use Rattle.ada_tree.specs.Kinds as kind
+use Rattle.ada_base.specs.Kinds as kind
 use Rattle.ada_tree.specs.Joining.{list_and}
 use Rattle.ada_tree.specs.Syntax.{Expr, Range, Ids, Indic, Mark, RangeMark, Array, Comp, ObjectType, Indicated, Anonymous, Definition, RangeType, ArrayType, RecordType, Decl, ObjectDecl, NumberDecl, ExceptionDecl, TypeDecl, SubtypeDecl, Formal, Formals}
 use Rattle.ada_tree.specs.declared.operators.Mode.{Mode}

@@ -1,7 +1,7 @@
 -- The readers of names and expressions (4.1, 4.4), where what opens a bracket is read one level down.
 use Rattle.std.specs.Prelude.{ℕ, List, [], ◌∷◌, Option, Some, None}
 use Rattle.reader_combinators.specs.Readers.{Reader, ◌>>=◌, ◌>>◌, ◌<$>◌, pure, symbol, by_next, given}
-use Rattle.ada_tree.specs.Kinds as kind
+use Rattle.ada_base.specs.Kinds as kind
 use Rattle.ada_tree.specs.Syntax as syntax
 use Rattle.ada_tree.specs.Syntax.{Expr, Single, Joined, Conjunct, NoConjunct, Rel, Alone, Compared, Within, OfMark, Simple, Sum, Adding, Addings, NoAdding, Term, Product, Multiplying, NoMultiplying, Factor, Operand, Power, Abs, Not, Primary, Number, Text, Target, Named, Name, Part, Field, Attribute, RangeAttribute, NoPart}
 use Rattle.ada_tree.specs.declared.operators.Logical.{Logical}

@@ -1,7 +1,7 @@
 -- The readers of what opens a bracket, by how many levels may still open.
 use Rattle.std.specs.Prelude.{ℕ, zero, suc, [], ◌∷◌}
 use Rattle.reader_combinators.specs.Readers.{too_deep}
-use Rattle.ada_tree.specs.Kinds as kind
+use Rattle.ada_base.specs.Kinds as kind
 use Rattle.grammar_readers.specs.Opened.{Opened}
 use Rattle.grammar_readers.specs.Brackets.{round, square, call, chunk}
 

@@ -3,7 +3,7 @@ use Rattle.std.specs.Prelude.{ℕ, zero, suc, List, [], ◌∷◌, Option, Some,
 use Rattle.reader_combinators.specs.Readers.{Reader, ◌>>=◌, ◌>>◌, pure, symbol, by_next, given, too_deep}
 use Rattle.reader_combinators.specs.Loops.{grown}
 use Rattle.ada_tree.specs.Joining.{list_and, stmts_and, arms_and, alts_and, branches_and, handlers_and, name_identifier}
-use Rattle.ada_tree.specs.Kinds as kind
+use Rattle.ada_base.specs.Kinds as kind
 use Rattle.ada_tree.specs.Syntax as syntax
 use Rattle.ada_tree.specs.Syntax.{Choice, Simple, Name, Parallel, Unchunked, Pack, Declare, Scheme, While, For, Handled, AnyOther, These, Stmt, Null, Assign, CallStmt, Exit, Return, Raise, IfStmt, Case, Loop, Block, ParallelBlock, Stmts, NoStmt, OptionalStmts, AbsentStmts, PresentStmts, Arm, Arms, NoArm, Alt, Alts, NoAlt, Branches, NoBranch, Body, Handler, Handlers, NoHandler, AlsoHandler}
 use Rattle.grammar_readers.specs.Brackets.{choice, next_choice, filter, iter, parallel}

@@ -3,7 +3,7 @@ use Rattle.std.specs.Prelude.{ℕ, zero, suc, List, [], ◌∷◌, Option, Some,
 use Rattle.reader_combinators.specs.Readers.{Reader, ◌>>=◌, ◌>>◌, pure, symbol, by_next, too_deep}
 use Rattle.reader_combinators.specs.Loops.{grown}
 use Rattle.ada_tree.specs.Joining.{list_and}
-use Rattle.ada_tree.specs.Kinds as kind
+use Rattle.ada_base.specs.Kinds as kind
 use Rattle.ada_tree.specs.Syntax.{Formals, Aspect, Sub, Procedure, Function, ExprFunction, Unit', DeclUnit, SubUnit, Pack, Policy, Clause, Main, Program}
 use Rattle.ada_tree.specs.declared.operators.ClauseWord.{ClauseWord}
 use Rattle.ada_tree.specs.declared.operators.ClauseWord.TheVariants as word

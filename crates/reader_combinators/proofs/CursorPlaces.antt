@@ -4,7 +4,7 @@ use Rattle.std.proofs.lemmas.List.{length-map}
 use Rattle.ada_base.specs.Symbols.{numbered}
 use Rattle.ada_base.specs.declared.token.Kind.TheVariants.{End}
 use Rattle.ada_base.specs.declared.token.Token.{Token}
-use Rattle.ada_tree.specs.TokenKinds.{kind_number}
+use Rattle.ada_base.specs.TokenKinds.{kind_number}
 use Rattle.reader_combinators.specs.Ahead.{kinds}
 use Rattle.reader_combinators.specs.Verdicts.{place_in}
 use Rattle.reader_combinators.proofs.Words.{length-numbered}

@@ -3,7 +3,7 @@ use Rattle.std.specs.Prelude.{◌≤◌, ◌<◌, ◌^◌, ℕ, List, length, ma
 use Rattle.std.specs.Coded.{Coded, code_by, coded×, coded_ℕ, coded_list}
 use Rattle.ada_base.specs.Symbols.{Symbol, numbered}
 use Rattle.ada_base.specs.declared.token.Token.{Token}
-use Rattle.ada_tree.specs.TokenKinds.{kind_number}
+use Rattle.ada_base.specs.TokenKinds.{kind_number}
 use Rattle.reader_combinators.specs.declared.cursor.Cursor.TheInside.{Inside}
 
 -- the kinds of tokens

@@ -5,8 +5,8 @@
 -- The depth at a token is the number of brackets that are open there, itself included.
 use Rattle.std.specs.Prelude.{ℕ, zero, suc, List, [], ◌∷◌}
 use Rattle.ada_base.specs.Languages.{Language, ◌⋅◌, Leaf, Quoted, Many}
-use Rattle.ada_tree.specs.Kinds as token_kind
-use Rattle.ada_tree.specs.Kinds.{numeral, open_round, close_round}
+use Rattle.ada_base.specs.Kinds as token_kind
+use Rattle.ada_base.specs.Kinds.{numeral, open_round, close_round}
 use Rattle.reader_combinators.specs.declared.example.Value.{Value}
 use Rattle.reader_combinators.specs.declared.example.Range.{Range}
 use Rattle.reader_combinators.specs.declared.example.Range.TheVariants.{One, Between}

@@ -8,8 +8,7 @@ ghost use Rattle.reader_combinators.specs.Verdicts.{place_in};
 ghost use Rattle.ada_base.specs.Symbols.{numbered, next_kind};
 
 use crate::fault::Fault;
-use ada_base::Token;
-use ada_tree::kind_number;
+use ada_base::{Token, kind_number};
 use std::marker::Model;
 
 /// The tokens from a place on, as contracts see it: each with its number and its kind.

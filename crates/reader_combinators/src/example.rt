@@ -10,8 +10,8 @@ ghost use Rattle.reader_combinators.specs.Verdicts.{RightVerdict};
 
 use crate::cursor::Cursor;
 use crate::fault::{Fault, Refusal, verdict};
+use ada_base::kinds::{CLOSE_ROUND, COMMA, DOTS, NUMERAL, OPEN_ROUND};
 use ada_base::{Items, Token};
-use ada_tree::kinds::{CLOSE_ROUND, COMMA, DOTS, NUMERAL, OPEN_ROUND};
 use std::alloc::Global;
 
 /// A number in brackets: how many, and the number of its token.

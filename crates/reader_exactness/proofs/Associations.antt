@@ -9,7 +9,7 @@ use Rattle.reader_combinators.proofs.Singles.{exact_given}
 use Rattle.reader_combinators.proofs.Rules.{read, give, seq, or, or_second, to, is}
 use Rattle.reader_combinators.proofs.Chains.{items}
 use Rattle.reader_combinators.proofs.Forms.{from, to_left, to_right, none_before, without_before, without_after, either, form, keep, skip, lead}
-use Rattle.ada_tree.specs.Kinds as kind
+use Rattle.ada_base.specs.Kinds as kind
 use Rattle.ada_tree.specs.Syntax as syntax
 use Rattle.ada_tree.specs.Syntax.{Expr, Simple, Name, Arg, Range, Bounded, Whole, Constrained, Choice, Value, Span, Others, Choices, Many, Associations, Assoc, Chosen, Each}
 use Rattle.ada_tree.specs.Joining.{bare_name, expr_identifier}

@@ -3,7 +3,7 @@ use Rattle.std.proofs.Common.{◌≡◌, ℕ, Option, Some, None, refl, ap, ◌�
 use Rattle.ada_base.specs.Symbols.{Word}
 use Rattle.ada_base.specs.Languages.{Leaf}
 use Rattle.reader_combinators.proofs.Forms.{none_before, without_before, none_after, without_after}
-use Rattle.ada_tree.specs.Kinds as kind
+use Rattle.ada_base.specs.Kinds as kind
 use Rattle.ada_tree.specs.Syntax as syntax
 use Rattle.ada_tree.specs.Syntax.{Expr, Single, Joined, Rel, Alone, Compared, Within, OfMark, Simple, Sum, NoAdding, AlsoAdding, Term, Product, NoMultiplying, AlsoMultiplying, Factor, Operand, Power, Abs, Not, Primary, Number, Text, Target, Named, Group, If, Round, Square, OneValue, Reduction, Name, NoPart, AlsoPart}
 use Rattle.ada_tree.specs.Productions as spell

@@ -9,7 +9,7 @@ use Rattle.reader_combinators.specs.Exact.{Rule}
 use Rattle.reader_combinators.proofs.Rules.{read, give, seq, or, to, is, same}
 use Rattle.reader_combinators.proofs.Chains.{items, list_grows}
 use Rattle.reader_combinators.proofs.Forms.{from, without_after, either, form, keep, skip, lead}
-use Rattle.ada_tree.specs.Kinds as kind
+use Rattle.ada_base.specs.Kinds as kind
 use Rattle.ada_tree.specs.Syntax as syntax
 use Rattle.ada_tree.specs.Syntax.{Expr, Choice, Pack, Handled, AnyOther, These, Stmt, Stmts, MoreStmts, OptionalStmts, AbsentStmts, PresentStmts, Arm, Alt, Body, Handler, Handlers, NoHandler, AlsoHandler}
 use Rattle.ada_tree.specs.Patterns.{free, optional_of, each_of_after}

@@ -10,7 +10,7 @@ use Rattle.reader_combinators.proofs.Rules.{read, give, seq, or, to, is}
 use Rattle.reader_combinators.proofs.Chains.{items, list_grows}
 use Rattle.reader_combinators.proofs.Forms.{from, to_left, to_right, without_before, without_after, at_second, either, form, keep, skip, lead, last}
 use Rattle.reader_combinators.proofs.Samples.{sample_free, sample_none, sample_both, sample_leaf, kind_is, first_free, begins_free, sample_of}
-use Rattle.ada_tree.specs.Kinds as kind
+use Rattle.ada_base.specs.Kinds as kind
 use Rattle.ada_tree.specs.Syntax.{Expr, Simple, Whole, Ids, Indic, Mark, RangeMark, Array, Comp, ObjectType, Indicated, Anonymous, Definition, RangeType, ArrayType, RecordType, Decl, ObjectDecl, NumberDecl, ExceptionDecl, TypeDecl, SubtypeDecl}
 use Rattle.ada_tree.specs.Patterns.{Spelling, free, each_of, each_of_after, optional_of_after, ◌then◌}
 use Rattle.ada_tree.specs.Productions as spell

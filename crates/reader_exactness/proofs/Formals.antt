@@ -10,7 +10,7 @@ use Rattle.reader_combinators.proofs.Rules.{read, give, seq, or, to, is}
 use Rattle.reader_combinators.proofs.Chains.{items, list_grows}
 use Rattle.reader_combinators.proofs.Forms.{from, to_left, to_right, without_after, at_second, form, keep, skip, lead, last}
 use Rattle.reader_combinators.proofs.Samples.{sample_as, sample_leaf, sample_free, sample_none, sample_both, kind_is, first_held, begins_held, sample_of}
-use Rattle.ada_tree.specs.Kinds as kind
+use Rattle.ada_base.specs.Kinds as kind
 use Rattle.ada_tree.specs.Syntax.{Ids, Formal, Formals}
 use Rattle.ada_tree.specs.Patterns.{optional_of}
 use Rattle.ada_tree.specs.Productions as spell

@@ -7,7 +7,7 @@ use Rattle.reader_combinators.specs.Sets.{Sets}
 use Rattle.reader_combinators.specs.Exact.{Rule}
 use Rattle.reader_combinators.proofs.Rules.{give, seq, or, to, is}
 use Rattle.reader_combinators.proofs.Forms.{from, to_left, to_right, without_after, keep}
-use Rattle.ada_tree.specs.Kinds as kind
+use Rattle.ada_base.specs.Kinds as kind
 use Rattle.ada_tree.specs.Syntax.{Expr, Simple, Rel, Choice, Others, Many, Positions, PositionsOthers, FirstOthers, Associations, Assoc, Chosen, Each}
 use Rattle.ada_tree.specs.Productions as spell
 use Rattle.grammar_readers.specs.Opened.{Opened}

@@ -7,7 +7,7 @@ use Rattle.reader_combinators.specs.Sets.{Sets, one_kind}
 use Rattle.reader_combinators.specs.Exact.{Rule}
 use Rattle.reader_combinators.proofs.Rules.{read, give, seq, or, to, is}
 use Rattle.reader_combinators.proofs.Forms.{from, without_after, either, form, keep, skip}
-use Rattle.ada_tree.specs.Kinds as kind
+use Rattle.ada_base.specs.Kinds as kind
 use Rattle.ada_tree.specs.Syntax.{Expr, Name, Range, OptionalExpr, AbsentExpr, PresentExpr, Parallel, Unchunked, Counted, Chunked, Iter, InRange, OfName}
 use Rattle.ada_tree.specs.Patterns.{held, optional_of}
 use Rattle.ada_tree.specs.Productions as spell

@@ -5,7 +5,7 @@ use Rattle.ada_base.specs.Languages.{Language, Leaf, Begins, Inhabited, ◌⋅�
 use Rattle.reader_combinators.proofs.Depths.{BeginsTooDeep, exact_too_deep}
 use Rattle.reader_combinators.proofs.Forms.{to_right}
 use Rattle.reader_combinators.proofs.Samples.{sample_as, sample_leaf, sample_free, sample_none, sample_both, kind_is, first_held, first_free, begins_held, begins_free, sample_of}
-use Rattle.ada_tree.specs.Kinds as kind
+use Rattle.ada_base.specs.Kinds as kind
 use Rattle.ada_tree.specs.Syntax as syntax
 use Rattle.ada_tree.specs.Syntax.{Expr, Simple, Primary, Number, Text, Target, Named, Group, If, Round, Square, OneValue, Reduction, Part, Field, Call, Attribute, RangeAttribute, NoArg, Parallel, Unchunked, Counted, Chunked}
 use Rattle.ada_tree.specs.Productions as spell

@@ -4,7 +4,7 @@ use Rattle.ada_base.specs.Symbols.{Word}
 use Rattle.ada_base.specs.Languages.{Empty, ◌⋅◌}
 use Rattle.reader_combinators.proofs.Chains.{Listed, Grows}
 use Rattle.reader_combinators.proofs.Forms.{to_right, to_left}
-use Rattle.ada_tree.specs.Kinds as kind
+use Rattle.ada_base.specs.Kinds as kind
 use Rattle.ada_tree.specs.Syntax.{Parts, Part, NoPart, AlsoPart, Multiplyings, Multiplying, NoMultiplying, AlsoMultiplying, Addings, Adding, NoAdding, AlsoAdding, Conjuncts, Conjunct, NoConjunct, AlsoConjunct, Elsifs, Elsif, NoElsif, AlsoElsif, Exprs, Expr, NoExpr, AlsoExpr, Args, Arg, NoArg, AlsoArg, Choices, Choice, NoChoice, AlsoChoice, Assocs, Assoc, NoAssoc, AlsoAssoc, MoreStmts, Stmt, NoStmt, AlsoStmt, Arms, Arm, NoArm, AlsoArm, Alts, Alt, NoAlt, AlsoAlt, Branches, Stmts, NoBranch, AlsoBranch, Handlers, Handler, NoHandler, AlsoHandler}
 use Rattle.ada_tree.specs.Joining.{parts_and, multiplyings_and, addings_and, conjuncts_and, elsifs_and, exprs_and, args_and, choices_and, assocs_and, stmts_and, arms_and, alts_and, branches_and, handlers_and}
 use Rattle.ada_tree.specs.Productions as spell

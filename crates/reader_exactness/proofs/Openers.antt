@@ -10,7 +10,7 @@ use Rattle.reader_combinators.proofs.Singles.{exact_given}
 use Rattle.reader_combinators.proofs.Rules.{read, give, or, or_second, to, is}
 use Rattle.reader_combinators.proofs.Chains.{items}
 use Rattle.reader_combinators.proofs.Forms.{from, to_left, to_right, without_before, at_second, form, keep, skip, lead, last}
-use Rattle.ada_tree.specs.Kinds as kind
+use Rattle.ada_base.specs.Kinds as kind
 use Rattle.ada_tree.specs.Syntax as syntax
 use Rattle.ada_tree.specs.Syntax.{Expr, Simple, Primary, Number, Text, Target, Named, Group, If, Round, Square, OneValue, Reduction, Elsif, Elsifs, Part, Field, Call, Attribute, RangeAttribute, Arg, Args, Range, Many, Positions, PositionsOthers, FirstOthers, Associations, Assoc, Chosen, Each, Parallel, Unchunked, Counted, Chunked}
 use Rattle.ada_tree.specs.Joining.{bare_identifier}

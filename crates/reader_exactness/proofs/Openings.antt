@@ -4,7 +4,7 @@ use Rattle.std.proofs.Common.{◌≡◌, ℕ, List, [], ◌∷◌, ◌++◌, tru
 use Rattle.ada_base.specs.Languages.{Language}
 use Rattle.reader_combinators.specs.Sets.{Sets, one_kind}
 use Rattle.reader_combinators.specs.Exact.{Rule}
-use Rattle.ada_tree.specs.Kinds as kind
+use Rattle.ada_base.specs.Kinds as kind
 use Rattle.ada_tree.specs.Syntax.{Primary, Group, If, Round, Square, OneValue, Reduction, Part, Call, Parallel, Counted, Chunked}
 use Rattle.ada_tree.specs.Patterns.{words_of, free, ◌then◌}
 use Rattle.ada_tree.specs.Productions as spell

@@ -8,7 +8,7 @@ use Rattle.reader_combinators.specs.Sets.{one_kind}
 use Rattle.reader_combinators.specs.Exact.{Rule}
 use Rattle.reader_combinators.proofs.Rules.{read, seq, or, to, is, loop}
 use Rattle.reader_combinators.proofs.Forms.{from, to_left, to_right, none_before, without_before, none_after, without_after, at_second, keep}
-use Rattle.ada_tree.specs.Kinds as kind
+use Rattle.ada_base.specs.Kinds as kind
 use Rattle.ada_tree.specs.Syntax.{Expr, Exprs, NoExpr, AlsoExpr, Many, Positions, PositionsOthers, FirstOthers}
 use Rattle.ada_tree.specs.Joining.{exprs_and}
 use Rattle.ada_tree.specs.Productions as spell

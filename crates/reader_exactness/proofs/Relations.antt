@@ -9,7 +9,7 @@ use Rattle.reader_combinators.proofs.Singles.{exact_given}
 use Rattle.reader_combinators.proofs.Rules.{read, give, seq, or, to, is, same}
 use Rattle.reader_combinators.proofs.Chains.{items}
 use Rattle.reader_combinators.proofs.Forms.{from, to_left, to_right, without_before, without_after, either, form, keep, skip}
-use Rattle.ada_tree.specs.Kinds as kind
+use Rattle.ada_base.specs.Kinds as kind
 use Rattle.ada_tree.specs.Syntax as syntax
 use Rattle.ada_tree.specs.Syntax.{Expr, Single, Joined, Conjunct, Conjuncts, Rel, Alone, Compared, Within, OfMark, Simple}
 use Rattle.ada_tree.specs.Joining.{bare_identifier}

@@ -9,7 +9,7 @@ use Rattle.reader_combinators.specs.Exact.{Rule}
 use Rattle.reader_combinators.proofs.Rules.{read, give, seq, or, to, is}
 use Rattle.reader_combinators.proofs.Chains.{first_and_more, some_items, first_read}
 use Rattle.reader_combinators.proofs.Forms.{from, to_left, to_right, without_before, without_after, none_before, none_after, at_first, at_second, keep, skip, last}
-use Rattle.ada_tree.specs.Kinds as kind
+use Rattle.ada_base.specs.Kinds as kind
 use Rattle.ada_tree.specs.Syntax.{Expr, Primary, Number, Text, Target, Named, Group, If, Round, Square, OneValue, Reduction, Many, Positions, PositionsOthers, FirstOthers, Associations, Assoc, Chosen, Each, Assocs, NoAssoc, AlsoAssoc, AbsentExpr, PresentExpr, OptionalParallel, AbsentParallel, PresentParallel, Range, Iter, InRange, OfName}
 use Rattle.ada_tree.specs.Patterns.{words_of, free, ◌then◌}
 use Rattle.ada_tree.specs.Productions as spell

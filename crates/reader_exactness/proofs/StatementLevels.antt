@@ -6,7 +6,7 @@ use Rattle.reader_combinators.specs.Exact.{Rule}
 use Rattle.reader_combinators.proofs.Depths.{BeginsTooDeep, exact_too_deep}
 use Rattle.reader_combinators.proofs.Forms.{to_left, to_right, none_before, without_before, none_after, at_first}
 use Rattle.reader_combinators.proofs.Samples.{sample_as, sample_leaf, sample_free, sample_none, sample_both, for_member, first_held, begins_held, sample_of}
-use Rattle.ada_tree.specs.Kinds as kind
+use Rattle.ada_base.specs.Kinds as kind
 use Rattle.ada_tree.specs.Syntax as syntax
 use Rattle.ada_tree.specs.Syntax.{Expr, Name, Others, AbsentExpr, Unchunked, Counted, Chunked, Iter, OfName, While, For, Declare, Stmt, Null, Assign, CallStmt, Exit, Return, Raise, IfStmt, Case, Loop, Block, ParallelBlock, Stmts, NoStmt, AbsentStmts, NoArm, Alt, NoAlt, NoBranch, Body, NoHandler}
 use Rattle.ada_tree.specs.Productions as spell

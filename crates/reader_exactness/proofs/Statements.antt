@@ -8,7 +8,7 @@ use Rattle.reader_combinators.specs.Exact.{Rule}
 use Rattle.reader_combinators.proofs.Singles.{exact_given}
 use Rattle.reader_combinators.proofs.Rules.{read, seq, or, to, is}
 use Rattle.reader_combinators.proofs.Forms.{from, to_left, to_right, without_before, without_after, at_second, keep, skip, last}
-use Rattle.ada_tree.specs.Kinds as kind
+use Rattle.ada_base.specs.Kinds as kind
 use Rattle.ada_tree.specs.Syntax.{Expr, Simple, Name, OptionalExpr, AbsentExpr, PresentExpr, Parallel, Unchunked, Counted, Chunked, Iter, Pack, Decl, Declare, Scheme, While, For, Stmt, Null, Assign, CallStmt, Exit, Return, Raise, IfStmt, Case, Loop, Block, ParallelBlock, Stmts, OptionalStmts, Arms, Alt, Alts, Branches, Body}
 use Rattle.ada_tree.specs.Joining.{name_identifier}
 use Rattle.ada_tree.specs.Patterns.{free, optional_of, optional_of_after, each_of}

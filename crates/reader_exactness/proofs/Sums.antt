@@ -8,7 +8,7 @@ use Rattle.reader_combinators.specs.Exact.{Rule}
 use Rattle.reader_combinators.proofs.Rules.{read, give, seq, or, to, is}
 use Rattle.reader_combinators.proofs.Chains.{items, begun}
 use Rattle.reader_combinators.proofs.Forms.{from, none_before, without_before, without_after, either, form, keep, skip, lead}
-use Rattle.ada_tree.specs.Kinds as kind
+use Rattle.ada_base.specs.Kinds as kind
 use Rattle.ada_tree.specs.Syntax as syntax
 use Rattle.ada_tree.specs.Syntax.{Simple, Sum, Adding, Addings, Term, Product, Multiplying, Factor, Operand, Power, Abs, Not, Primary, Number, Text, Target, Named, Group, If, Round, Square, OneValue, Reduction, Name, Part, Field, Call, Attribute, RangeAttribute}
 use Rattle.ada_tree.specs.Productions as spell

@@ -15,7 +15,7 @@ use Rattle.reader_combinators.proofs.Samples.{sample_leaf, sample_free, sample_n
 use Rattle.reader_combinators.proofs.RightAnswers.{right_answer}
 use Rattle.reader_combinators.proofs.OneTree.{one_tree}
 use Rattle.ada_tree.specs.Grammar.{ProgramWords, Derives}
-use Rattle.ada_tree.specs.Kinds as kind
+use Rattle.ada_base.specs.Kinds as kind
 use Rattle.ada_tree.specs.Syntax.{Expr, Formals, Decl, Body, Aspect, Sub, Procedure, Function, ExprFunction, Unit', DeclUnit, SubUnit, Policy, Clause, Main, Program}
 use Rattle.ada_tree.specs.Patterns.{Spelling, free, optional_of, optional_of_after, each_of}
 use Rattle.ada_tree.specs.Productions as spell

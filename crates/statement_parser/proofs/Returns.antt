@@ -2,7 +2,7 @@
 use Rattle.std.proofs.Common.{◌≡◌, refl, ℕ, List}
 use Rattle.ada_base.specs.Symbols.{Symbol}
 use Rattle.reader_combinators.specs.Readers.{symbol, ◌>>=◌}
-use Rattle.ada_tree.specs.Kinds as kind
+use Rattle.ada_base.specs.Kinds as kind
 use Rattle.grammar_readers.specs.Statements as statements
 
 pub return_is : (n : ℕ) (ts : List Symbol) → statements.return n ts ≡ (symbol kind.return_word >>= statements.return_from n) ts

@@ -2,7 +2,7 @@
 use Rattle.std.specs.Prelude.{ℕ, List, [], ◌∷◌}
 use Rattle.reader_combinators.specs.Readers.{Reader, ◌>>=◌, pure}
 use Rattle.reader_combinators.specs.Loops.{grown}
-use Rattle.ada_tree.specs.Kinds as kind
+use Rattle.ada_base.specs.Kinds as kind
 use Rattle.ada_tree.specs.Syntax as syntax
 use Rattle.ada_tree.specs.Joining.{list_and, stmts_and, handlers_and, arms_and, alts_and, branches_and}
 use Rattle.grammar_readers.specs.Brackets as brackets

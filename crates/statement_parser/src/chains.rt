@@ -15,11 +15,11 @@ use crate::declarations::{decl, next_formal};
 use crate::names::{next_identifier, next_name};
 use crate::types::{comp, next_index};
 use crate::units::{clause, next_pack, unit};
-use ada_parser::{Parser, next_choice};
-use ada_tree::kinds::{
+use ada_base::kinds::{
     AND, BAR, COMMA, ELSIF, FUNCTION, IDENTIFIER, POINT, PROCEDURE, SEMICOLON, SUBTYPE, TYPE, USE,
     WHEN, WITH,
 };
+use ada_parser::{Parser, next_choice};
 use reader_combinators::Fault;
 use tree_nodes::{ListKind, also, close, nothing};
 

@@ -13,11 +13,11 @@ use crate::chains::{Chain, list};
 use crate::loops::{for_from, labelled, loop_from, while_from};
 use crate::parallels::{block_from, declaring, parallel_stmt};
 use crate::statements::{assigned, closing, exit, null, raise, returning};
-use ada_parser::{Parser, below, choice, expr, name};
-use ada_tree::kinds::{
+use ada_base::kinds::{
     ASSIGN, BEGIN, CASE, DECLARE, ELSE, ELSIF, EXIT, FOR, IDENTIFIER, IF, IS, LOOP, NULL, PARALLEL,
     RAISE, RETURN, SEMICOLON, WHEN, WHILE,
 };
+use ada_parser::{Parser, below, choice, expr, name};
 use reader_combinators::Fault;
 use tree_nodes::{Four, One, Three, Two, bare, four, leave_out, nothing, one, three, two};
 

@@ -10,12 +10,12 @@ ghost use Rattle.tree_nodes.specs.Stack.{parts};
 use crate::chains::{Chain, list};
 use crate::names::ids;
 use crate::types::{array, indic, subtype_decl, type_decl};
-use ada_parser::{Parser, below, expr, opens};
-use ada_tree::Mode;
-use ada_tree::kinds::{
+use ada_base::kinds::{
     ARRAY, ASSIGN, CLOSE_ROUND, COLON, CONSTANT, EXCEPTION, IDENTIFIER, IN, OPEN_ROUND, OUT,
     SEMICOLON, SUBTYPE, TYPE,
 };
+use ada_parser::{Parser, below, expr, opens};
+use ada_tree::Mode;
 use reader_combinators::{Cursor, Fault};
 use tree_nodes::{One, Three, Two, nothing, one, three, two};
 

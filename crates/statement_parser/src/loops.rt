@@ -9,8 +9,8 @@ ghost use Rattle.tree_nodes.specs.Stack.{parts};
 
 use crate::bodies::stmts;
 use crate::names::{join_identifier, maybe_identifier};
+use ada_base::kinds::{COLON, END, FOR, LOOP, PARALLEL, SEMICOLON, WHILE};
 use ada_parser::{Parser, expr, iter, parallel};
-use ada_tree::kinds::{COLON, END, FOR, LOOP, PARALLEL, SEMICOLON, WHILE};
 use reader_combinators::Fault;
 use tree_nodes::{Four, Leaf, One, Two, four, leaf, nothing, one, two};
 

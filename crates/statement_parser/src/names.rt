@@ -9,8 +9,8 @@ ghost use Rattle.tree_nodes.specs.Parts.{the_token, the_ids, the_pack, IsPart, I
 ghost use Rattle.tree_nodes.specs.Stack.{parts};
 
 use crate::chains::{Chain, list};
+use ada_base::kinds::{COMMA, IDENTIFIER, POINT};
 use ada_parser::Parser;
-use ada_tree::kinds::{COMMA, IDENTIFIER, POINT};
 use reader_combinators::{Cursor, Fault};
 use tree_nodes::{Leaf, One, Parts, leaf, nothing, one};
 

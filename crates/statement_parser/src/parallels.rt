@@ -11,8 +11,8 @@ use crate::bodies::{and_stmts, body, stmts};
 use crate::chains::{Chain, list};
 use crate::loops::for_from;
 use crate::statements::closing;
+use ada_base::kinds::{BEGIN, DECLARE, DO, END, FOR, PARALLEL, SEMICOLON};
 use ada_parser::{Parser, chunk};
-use ada_tree::kinds::{BEGIN, DECLARE, DO, END, FOR, PARALLEL, SEMICOLON};
 use reader_combinators::Fault;
 use tree_nodes::{Four, Leaf, One, Parts, Two, four, leaf, nothing, one, swap, two};
 

@@ -8,8 +8,8 @@ ghost use Rattle.tree_nodes.specs.Rooted.{top, pop};
 ghost use Rattle.tree_nodes.specs.Stack.{parts};
 
 use crate::names::{maybe_identifier, pack};
+use ada_base::kinds::{ASSIGN, END, EXIT, NULL, RAISE, RETURN, SEMICOLON};
 use ada_parser::{Parser, expr, filter};
-use ada_tree::kinds::{ASSIGN, END, EXIT, NULL, RAISE, RETURN, SEMICOLON};
 use reader_combinators::{Cursor, Fault};
 use tree_nodes::{Leaf, One, Two, leaf, nothing, one, two};
 

@@ -14,11 +14,11 @@ use crate::chains::{Chain, list};
 use crate::declarations::optional_formals;
 use crate::names::maybe_identifier;
 use crate::units::{aspect, optional_aspect};
-use ada_parser::{Parser, below, expr, opens};
-use ada_tree::kinds::{
+use ada_base::kinds::{
     BEGIN, CLOSE_ROUND, END, FUNCTION, IDENTIFIER, IS, OPEN_ROUND, PROCEDURE, RETURN, SEMICOLON,
     WITH,
 };
+use ada_parser::{Parser, below, expr, opens};
 use reader_combinators::Fault;
 use tree_nodes::{One, Three, Two, nothing, one, three, two};
 

@@ -8,11 +8,11 @@ ghost use Rattle.tree_nodes.specs.Stack.{parts};
 
 use crate::chains::{Chain, list};
 use crate::names::ids;
-use ada_parser::{Parser, below, constraint, opens, range};
-use ada_tree::kinds::{
+use ada_base::kinds::{
     ARRAY, CLOSE_ROUND, COLON, COMMA, END, IDENTIFIER, IS, OF, OPEN_ROUND, RANGE, RECORD,
     SEMICOLON, SUBTYPE, TYPE,
 };
+use ada_parser::{Parser, below, constraint, opens, range};
 use reader_combinators::Fault;
 use tree_nodes::{Leaf, One, Three, Two, leaf, one, three, two};
 

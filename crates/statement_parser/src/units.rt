@@ -11,11 +11,11 @@ use crate::chains::{Chain, list};
 use crate::declarations::decl;
 use crate::names::{join_identifier, pack};
 use crate::subprograms::{begins_sub, ended, sub};
-use ada_parser::{Parser, below, opens};
-use ada_tree::ClauseWord;
-use ada_tree::kinds::{
+use ada_base::kinds::{
     ARROW, CLOSE_ROUND, COMMA, IDENTIFIER, IS, OPEN_ROUND, PRAGMA, PROCEDURE, SEMICOLON, USE, WITH,
 };
+use ada_parser::{Parser, below, opens};
+use ada_tree::ClauseWord;
 use reader_combinators::{Cursor, Fault};
 use tree_nodes::{Four, Leaf, Three, Two, four, leaf, nothing, three, two};
 

@@ -1,4 +1,4 @@
-use Rattle.ada_tree.specs.TokenKinds.{kinds_of}
+use Rattle.ada_base.specs.TokenKinds.{kinds_of}
 use Rattle.reader_exactness.proofs.Units.{one_program}
 use Rattle.reader_exactness.proofs.one_tree.Goals as goal
 
