@@ -41,6 +41,10 @@ const IN_CAPITALS: &str = "WITH ADA.TEXT_IO; USE ADA.TEXT_IO; -- clauses\n\
     PROCEDURE MAIN IS -- the procedure\nX : INTEGER := 2; -- a declaration\nBEGIN -- the body\n\
     X := X + 3; PUT_LINE (INTEGER'IMAGE (X)); -- statements\nEND MAIN; -- the end\n";
 
+// Letters in either case are one variable, and names in any case are the same.
+const IN_EITHER_CASE: &str = "with Ada.Text_IO; use Ada.Text_IO;\nprocedure Main is\n\
+    x : INTEGER := 16#F#;\nbegin\nX := x - 8; put_line (integer'IMAGE (X));\nend Main;\n";
+
 // What the objects around a call do: which fetch fails, and which put on out and on err fails after how
 // many bytes.
 #[derive(Clone, Copy)]
@@ -83,6 +87,14 @@ fn shelf(alloc: Global, text: &[u8], fail: Option<u64>) -> Result<MemShelf, Allo
     Ok(MemShelf::new(vec![in alloc; text]?, fails))
 }
 
+fn words_of(alloc: Global, line: &str) -> Result<Vec<String>, AllocError> {
+    let mut words = Vec::new(alloc);
+    for word in line.split_whitespace() {
+        words.push(String::from_str(alloc, word)?)?;
+    }
+    Ok(words)
+}
+
 fn answer<R: Threads + Sync>(
     rt: &R,
     alloc: Global,
@@ -90,10 +102,7 @@ fn answer<R: Threads + Sync>(
     text: &[u8],
     faults: Faults,
 ) -> Result<Given, AllocError> {
-    let words: Vec<String> = words
-        .split_whitespace()
-        .map(|word| String::from_str(alloc, word))
-        .try_collect(alloc)?;
+    let words = words_of(alloc, words)?;
     let mut shelf = shelf(alloc, text, faults.fetch)?;
     let mut input = SureSource::new(Vec::new(alloc));
     let mut out = sink(alloc, faults.out)?;
@@ -129,6 +138,7 @@ fn each_text_has_its_output_its_line_and_its_status(rt: HostRuntime) -> Result<(
         ("run t.ada", TOO_LARGE, "", NOT_BUILT, 1),
         ("run t.ada", "", "", SYNTAX, 1),
         ("run t.ada", IN_CAPITALS, " 5\n", "", 0),
+        ("run t.ada", IN_EITHER_CASE, " 7\n", "", 0),
         ("run", FIRST, "", USAGE, 2),
         ("run t.ada --workers 65", FIRST, "", USAGE, 2),
         ("Run t.ada", FIRST, "", USAGE, 2),
@@ -190,29 +200,26 @@ fn expect_refusal<R: Threads + Sync + Abort>(
 }
 
 #[test]
-fn text_that_is_not_utf8(rt: HostRuntime) -> Result<(), Fail> {
-    let alloc = rt.alloc();
-    expect_refusal(&rt, alloc, b"\xff", "1:1: E01 text is not UTF-8")?;
-    expect_refusal(
-        &rt,
-        alloc,
-        b"X\n\tY\xc3\xa9\xc3",
-        "2:4: E01 text is not UTF-8",
-    )?;
-    Ok(())
-}
-
-#[test]
-fn text_with_no_token_at_a_place(rt: HostRuntime) -> Result<(), Fail> {
-    let alloc = rt.alloc();
-    expect_refusal(&rt, alloc, b"a__b", "1:1: E02 no token begins here")?;
-    expect_refusal(
-        &rt,
-        alloc,
-        b"X -- #\r\n\xc3\xa9 #",
-        "2:3: E02 no token begins here",
-    )?;
-    expect_refusal(&rt, alloc, b"X := 1E-3;", "1:6: E02 no token begins here")?;
+fn texts_that_are_no_tokens_or_no_program(rt: HostRuntime) -> Result<(), Fail> {
+    let texts: [(&[u8], &str); 8] = [
+        (b"\xff", "1:1: E01 text is not UTF-8"),
+        (b"X\n\tY\xc3\xa9\xc3", "2:4: E01 text is not UTF-8"),
+        (b"a__b", "1:1: E02 no token begins here"),
+        (b"X -- #\r\n\xc3\xa9 #", "2:3: E02 no token begins here"),
+        (b"X := 1E-3;", "1:6: E02 no token begins here"),
+        (
+            b"170141183460469231731687303715884105727",
+            "1:1: E03 syntax",
+        ),
+        (
+            b" 170141183460469231731687303715884105728",
+            "1:2: E12 limit passed",
+        ),
+        (b"procedure Main is\nbegin\n", "3:1: E03 syntax"),
+    ];
+    for (text, line) in texts {
+        expect_refusal(&rt, rt.alloc(), text, line)?;
+    }
     Ok(())
 }
 
@@ -220,34 +227,37 @@ fn text_with_no_token_at_a_place(rt: HostRuntime) -> Result<(), Fail> {
 #[test]
 fn limits_of_a_text(rt: HostRuntime) -> Result<(), Fail> {
     let alloc = rt.alloc();
-    let spaces = vec![in alloc; b' '; 1_048_577]?;
-    expect_refusal(&rt, alloc, &spaces, "1:1: E12 limit passed")?;
-    expect_refusal(&rt, alloc, &spaces[1..], "1:1048577: E03 syntax")?;
-    let semicolons = vec![in alloc; b';'; 200_001]?;
-    expect_refusal(&rt, alloc, &semicolons, "1:200001: E12 limit passed")?;
-    expect_refusal(&rt, alloc, &semicolons[1..], "1:1: E03 syntax")?;
+    for (byte, count, line) in [
+        (b' ', 1_048_577, "1:1: E12 limit passed"),
+        (b' ', 1_048_576, "1:1048577: E03 syntax"),
+        (b';', 200_001, "1:200001: E12 limit passed"),
+        (b';', 200_000, "1:1: E03 syntax"),
+    ] {
+        let text = vec![in alloc; byte; count]?;
+        expect_refusal(&rt, alloc, &text, line)?;
+    }
     Ok(())
 }
 
-#[test]
-fn limit_of_a_number(rt: HostRuntime) -> Result<(), Fail> {
-    let alloc = rt.alloc();
-    expect_refusal(
-        &rt,
-        alloc,
-        b"170141183460469231731687303715884105727",
-        "1:1: E03 syntax",
-    )?;
-    expect_refusal(
-        &rt,
-        alloc,
-        b" 170141183460469231731687303715884105728",
-        "1:2: E12 limit passed",
-    )?;
-    Ok(())
-}
+// A statement stands at depth 1, so the last of 64 parentheses in it is too deep, and 63 are taken.
+const TOO_DEEP: &str = "X := ((((((((((((((((((((((((((((((((((((((((((((((((((((((((((((((((";
 
-// A program with these declarations in line 3 and these statements in line 5.
+const DEEPEST: &str =
+    "X := (((((((((((((((((((((((((((((((((((((((((((((((((((((((((((((((X)))))))))))))))))))))))))))))))))))))))))))))))))))))))))))))));";
+
+// What is said of a program with these declarations in line 3 and these statements in line 5.
+const PROGRAMS: [(&str, &str, &str); 5] = [
+    ("X : Integer := 2;", "X := X X;", "5:8: E03 syntax"),
+    ("task T;", "null;", "3:1: E04 left out: task"),
+    (
+        "X : Integer := 1.5;",
+        "null;",
+        "3:16: E04 left out: real literal",
+    ),
+    ("X : Integer := 2;", TOO_DEEP, "5:69: E12 limit passed"),
+    ("X : Integer := 2;", DEEPEST, "1:1: E13 not built yet"),
+];
+
 fn program(alloc: Global, declarations: &str, statements: &str) -> Result<String, AllocError> {
     format!(in alloc;
         "with Ada.Text_IO; use Ada.Text_IO;\nprocedure Main is\n{declarations}\nbegin\n{statements}\nend Main;\n"
@@ -255,60 +265,10 @@ fn program(alloc: Global, declarations: &str, statements: &str) -> Result<String
 }
 
 #[test]
-fn first_syntax_fault(rt: HostRuntime) -> Result<(), Fail> {
-    let alloc = rt.alloc();
-    expect_refusal(&rt, alloc, b"procedure Main is\nbegin\n", "3:1: E03 syntax")?;
-    let text = program(alloc, "X : Integer := 2;", "X := X X;")?;
-    expect_refusal(&rt, alloc, text.as_bytes(), "5:8: E03 syntax")?;
-    Ok(())
-}
-
-#[test]
-fn tokens_that_are_left_out(rt: HostRuntime) -> Result<(), Fail> {
-    let alloc = rt.alloc();
-    let word = program(alloc, "task T;", "null;")?;
-    expect_refusal(&rt, alloc, word.as_bytes(), "3:1: E04 left out: task")?;
-    let literal = program(alloc, "X : Integer := 1.5;", "null;")?;
-    expect_refusal(
-        &rt,
-        alloc,
-        literal.as_bytes(),
-        "3:16: E04 left out: real literal",
-    )?;
-    Ok(())
-}
-
-const OPEN: &str = "(((((((((((((((((((((((((((((((((((((((((((((((((((((((((((((((";
-
-const CLOSED: &str = ")))))))))))))))))))))))))))))))))))))))))))))))))))))))))))))))";
-
-// A statement stands at depth 1, so the last of 64 parentheses in it is too deep, and 63 are taken.
-#[test]
-fn limit_of_depth(rt: HostRuntime) -> Result<(), Fail> {
-    let alloc = rt.alloc();
-    let open = format!(in alloc; "X := {OPEN}(")?;
-    let text = program(alloc, "X : Integer := 2;", open.as_str())?;
-    expect_refusal(&rt, alloc, text.as_bytes(), "5:69: E12 limit passed")?;
-    let closed = format!(in alloc; "X := {OPEN}X{CLOSED};")?;
-    let text = program(alloc, "X : Integer := 2;", closed.as_str())?;
-    expect_refusal(&rt, alloc, text.as_bytes(), "1:1: E13 not built yet")?;
-    Ok(())
-}
-
-// Letters in either case are one variable, and names in any case are the same.
-#[test]
-fn case_of_letters(rt: HostRuntime) -> Result<(), Fail> {
-    let alloc = rt.alloc();
-    let text = program(
-        alloc,
-        "x : INTEGER := 16#F#;",
-        "X := x - 8; put_line (integer'IMAGE (X));",
-    )?;
-    expect(
-        &rt,
-        alloc,
-        ("run t.ada", text.as_str(), NONE),
-        (" 7\n", "", 0),
-    )?;
+fn programs_that_are_refused(rt: HostRuntime) -> Result<(), Fail> {
+    for (declarations, statements, line) in PROGRAMS {
+        let text = program(rt.alloc(), declarations, statements)?;
+        expect_refusal(&rt, rt.alloc(), text.as_bytes(), line)?;
+    }
     Ok(())
 }

@@ -1,49 +1,68 @@
-use ada_base::{Kind, Place, Tokens};
+use ada_base::{Kind, Place, Token, Tokens};
 use ada_lexer::{LexFault, lex};
 use std::alloc::{AllocError, Global};
 use std::process::Abort;
 
+// A kind, with a space behind it.
 fn kind_text(alloc: Global, kind: Kind) -> Result<String, AllocError> {
     match kind {
-        Kind::Ident => String::from_str(alloc, "id"),
-        Kind::Word(number) => format!(in alloc; "w{number}"),
-        Kind::Number(value) => format!(in alloc; "{value}"),
-        Kind::Text => String::from_str(alloc, "text"),
-        Kind::Letter => String::from_str(alloc, "letter"),
-        Kind::Real => String::from_str(alloc, "real"),
-        Kind::Mark(number) => format!(in alloc; "m{number}"),
-        Kind::End => String::from_str(alloc, "end"),
+        Kind::Ident => String::from_str(alloc, "id "),
+        Kind::Word(number) => format!(in alloc; "w{number} "),
+        Kind::Number(value) => format!(in alloc; "{value} "),
+        Kind::Text => String::from_str(alloc, "text "),
+        Kind::Letter => String::from_str(alloc, "letter "),
+        Kind::Real => String::from_str(alloc, "real "),
+        Kind::Mark(number) => format!(in alloc; "m{number} "),
+        Kind::End => String::from_str(alloc, "end "),
     }
 }
 
-fn fault_text(alloc: Global, fault: LexFault) -> Result<String, AllocError> {
-    match fault {
-        LexFault::TooBig { bytes } => format!(in alloc; "big {bytes}"),
-        LexFault::NotUtf8 { at } => format!(in alloc; "utf8 {at}"),
-        LexFault::BadToken { at } => format!(in alloc; "bad {}:{}", at.line, at.column),
-        LexFault::WideLiteral { at } => format!(in alloc; "wide {}:{}", at.line, at.column),
-        LexFault::TooLong { count, at } => {
-            format!(in alloc; "long {count} {}:{}", at.line, at.column)
-        }
-        LexFault::OutOfMemory => String::from_str(alloc, "memory"),
-    }
-}
-
-// The kinds of the tokens one after another, or the fault.
-fn lexed(alloc: Global, text: &[u8]) -> Result<String, AllocError> {
-    let tokens = match lex(alloc, text) {
-        Ok(tokens) => tokens,
-        Err(fault) => return fault_text(alloc, fault),
-    };
+fn kinds_text(alloc: Global, tokens: &[Token]) -> Result<String, AllocError> {
     let mut shown = String::new(alloc);
-    for token in tokens.items() {
-        if !shown.is_empty() {
-            shown.push(' ')?;
-        }
+    for token in tokens {
         let kind = kind_text(alloc, token.kind)?;
         shown.push_str(kind.as_str())?;
     }
     Ok(shown)
+}
+
+fn numbered(alloc: Global, word: &str, number: u64) -> Result<String, AllocError> {
+    format!(in alloc; "{word} {number}")
+}
+
+fn placed(alloc: Global, word: &str, at: Place) -> Result<String, AllocError> {
+    format!(in alloc; "{word} {}:{}", at.line, at.column)
+}
+
+fn fault_text(alloc: Global, fault: LexFault) -> Result<String, AllocError> {
+    match fault {
+        LexFault::TooBig { bytes } => numbered(alloc, "big", bytes),
+        LexFault::NotUtf8 { at } => numbered(alloc, "utf8", u64::from(at)),
+        LexFault::BadToken { at } => placed(alloc, "bad", at),
+        LexFault::WideLiteral { at } => placed(alloc, "wide", at),
+        LexFault::TooLong { count: _count, at } => placed(alloc, "long", at),
+        LexFault::OutOfMemory => String::from_str(alloc, "memory"),
+    }
+}
+
+// The kinds of the tokens one after another, each with a space behind it, or the fault.
+fn lexed(alloc: Global, text: &[u8]) -> Result<String, AllocError> {
+    match lex(alloc, text) {
+        Ok(tokens) => kinds_text(alloc, tokens.items()),
+        Err(fault) => fault_text(alloc, fault),
+    }
+}
+
+fn check_text(
+    rt: &impl Abort,
+    alloc: Global,
+    text: &[u8],
+    want: &str,
+    case: &str,
+) -> Result<(), AllocError> {
+    let came = lexed(alloc, text)?;
+    assert_eq!(rt; came.trim_end(), want, "at {case}");
+    Ok(())
 }
 
 // Lexes the text of each row, up to ⇒, and compares what comes with what stands after it. Each row ends at ¶.
@@ -52,8 +71,7 @@ fn check(rt: &impl Abort, alloc: Global, table: &str) -> Result<u32, AllocError>
     let mut rows: u32 = 0;
     for row in table.split('¶') {
         if let Some((text, want)) = row.split_once('⇒') {
-            let came = lexed(alloc, text.as_bytes())?;
-            assert_eq!(rt; came.as_str(), want, "at {text}");
+            check_text(rt, alloc, text.as_bytes(), want, text)?;
             rows = rows.saturating_add(1);
         }
     }
@@ -66,7 +84,7 @@ fn each_mark_has_its_number(rt: HostRuntime) -> Result<(), AllocError> {
     let want =
         "m0 m1 m2 m3 m4 m5 m6 m7 m8 m9 m10 m11 m12 m13 m14 m15 m16 m17 m18 m19 m20 m21 m22 m23 \
          m24 m25 m26 m27 m28 end";
-    assert_eq!(rt; lexed(rt.alloc(), text.as_bytes())?.as_str(), want);
+    check_text(&rt, rt.alloc(), text.as_bytes(), want, "marks")?;
     let table = "\
         ****⇒m2 m2 end¶\
         ***⇒m2 m14 end¶\
@@ -111,7 +129,7 @@ fn each_word_has_its_number_in_any_case(rt: HostRuntime) -> Result<(), AllocErro
          rEqUeUe rEtUrN rEvErSe sElEcT sEpArAtE sOmE sUbTyPe sYnChRoNiZeD tAgGeD tAsK tErMiNaTe \
          tHeN tYpE uNtIl uSe wHeN wHiLe wItH xOr",
     ] {
-        assert_eq!(rt; lexed(rt.alloc(), text.as_bytes())?.as_str(), want);
+        check_text(&rt, rt.alloc(), text.as_bytes(), want, text)?;
     }
     Ok(())
 }
@@ -329,7 +347,7 @@ fn bytes_that_are_no_text(rt: HostRuntime) -> Result<(), AllocError> {
         (b"\xed\xa0\x80", "utf8 0"),
     ];
     for (text, want) in texts {
-        assert_eq!(rt; lexed(rt.alloc(), text)?.as_str(), want);
+        check_text(&rt, rt.alloc(), text, want, want)?;
     }
     Ok(())
 }
@@ -360,11 +378,13 @@ fn tokens_own_the_text_and_know_their_places(rt: HostRuntime) {
     assert_eq!(rt; tokens.items().len(), 5);
 }
 
-fn repeated(alloc: Global, piece: &[u8], times: u32) -> Result<Vec<u8>, AllocError> {
+// A piece so many times, and what stands last.
+fn repeated(alloc: Global, piece: &str, times: u32, last: &str) -> Result<Vec<u8>, AllocError> {
     let mut text = Vec::new(alloc);
     for _ in 0..times {
-        text.extend_from_slice(piece)?;
+        text.extend_from_slice(piece.as_bytes())?;
     }
+    text.extend_from_slice(last.as_bytes())?;
     Ok(text)
 }
 
@@ -378,39 +398,38 @@ fn count(alloc: Global, text: &[u8]) -> usize {
 
 #[test]
 fn texts_up_to_the_limit_of_bytes(rt: HostRuntime) -> Result<(), AllocError> {
-    let mut spaces = repeated(rt.alloc(), b" ", 1_048_576)?;
-    assert_eq!(rt; count(rt.alloc(), &spaces), 1);
-    spaces.extend_from_slice(b"\xff")?;
-    assert_eq!(rt; lexed(rt.alloc(), &spaces)?.as_str(), "big 1048577");
-    for (piece, want) in [
-        ("a", "id end"),
-        ("9", "wide 1:1"),
-        ("0", "0 end"),
-        ("\"", "text end"),
-        ("-", "end"),
+    for (piece, times, last, want) in [
+        (" ", 1_048_576, " ", "big 1048577"),
+        (" ", 1_048_576, "", "end"),
+        ("a", 1_048_576, "", "id end"),
+        ("9", 1_048_576, "", "wide 1:1"),
+        ("0", 1_048_576, "", "0 end"),
+        ("\"", 1_048_576, "", "text end"),
+        ("-", 1_048_576, "", "end"),
+        ("(;);\n", 49_999, "(;;; ;?", "long 50000:6"),
+        (";", 200_000, "?", "bad 1:200001"),
+        (";", 200_000, "1E39", "wide 1:200001"),
     ] {
-        let text = repeated(rt.alloc(), piece.as_bytes(), 1_048_576)?;
-        assert_eq!(rt; lexed(rt.alloc(), &text)?.as_str(), want, "at {piece}");
+        let text = repeated(rt.alloc(), piece, times, last)?;
+        check_text(&rt, rt.alloc(), &text, want, piece)?;
     }
-    let line = b"   Item (Index) := Item (Index) + 12; -- x\n";
-    let ordinary = repeated(rt.alloc(), line, 16_000)?;
-    assert_eq!(rt; count(rt.alloc(), &ordinary), 192_001);
     Ok(())
 }
 
 #[test]
 fn texts_up_to_the_limit_of_tokens(rt: HostRuntime) -> Result<(), AllocError> {
-    let mut text = repeated(rt.alloc(), b"(;);\n", 49_999)?;
-    text.extend_from_slice(b"(;;")?;
-    assert_eq!(rt; count(rt.alloc(), &text), 200_000);
-    text.extend_from_slice(b";")?;
-    assert_eq!(rt; count(rt.alloc(), &text), 200_001);
-    text.extend_from_slice(b" ;?")?;
-    assert_eq!(rt; lexed(rt.alloc(), &text)?.as_str(), "long 200001 50000:6");
-    for (last, want) in [("?", "bad 1:200001"), ("1E39", "wide 1:200001")] {
-        let mut text = repeated(rt.alloc(), b";", 200_000)?;
-        text.extend_from_slice(last.as_bytes())?;
-        assert_eq!(rt; lexed(rt.alloc(), &text)?.as_str(), want);
+    for (piece, times, last, tokens) in [
+        ("(;);\n", 49_999, "(;;", 200_000),
+        ("(;);\n", 49_999, "(;;;", 200_001),
+        (
+            "   Item (Index) := Item (Index) + 12; -- x\n",
+            16_000,
+            "",
+            192_001,
+        ),
+    ] {
+        let text = repeated(rt.alloc(), piece, times, last)?;
+        assert_eq!(rt; count(rt.alloc(), &text), tokens, "of {piece}");
     }
     Ok(())
 }

@@ -724,16 +724,17 @@ fn static_values_are_those_of_constants_and_numbers(rt: HostRuntime) -> Result<(
 
 /// How many operators of a chain have a class that isn't universal.
 fn settled_operators(links: &[Link]) -> usize {
-    links
-        .iter()
-        .filter(|link| matches!(
-            link,
-            Link::Operator {
-                class: Class::Integer(_),
-                ..
-            }
-        ))
-        .count()
+    let mut count = 0usize;
+    for link in links {
+        if let Link::Operator {
+            class: Class::Integer(_),
+            ..
+        } = link
+        {
+            count = count.wrapping_add(1);
+        }
+    }
+    count
 }
 
 #[test]
