@@ -16,15 +16,16 @@ use Rattle.ada_typed.specs.declared.expressions.Sign.{Sign}
 use Rattle.ada_typed.specs.declared.expressions.Root.{Root}
 use Rattle.ada_typed.specs.declared.expressions.Run.{Run}
 use Rattle.ada_typed.specs.declared.expressions.Iterated.{Iterated}
-use Rattle.ada_typed.specs.Syntax.{Expr, Optional, Selections, Actuals, Value, Composite, Associations, Iteration, Stmt, Stmts, Alternatives, Handlers, Decls, Body, Sub, Program}
+use Rattle.ada_typed.specs.Syntax.{Expr, Optional, Selections, Actuals, Value, Composite, Associations, Iteration, Pieces, Stmt, Stmts, Alternatives, Handlers, Decls, Body, Sub, Program}
 use Rattle.ada_typed.specs.Programs.{program}
-use Rattle.ada_meaning.specs.Values.{truth, bit, compares, between, to_nat, layout, is_in, defaults}
-use Rattle.ada_meaning.specs.Operations.{Operations, IndexCheck, operate}
+use Rattle.ada_meaning.specs.Values.{truth, bit, compares, between, to_nat, layout, is_in, defaults, image_of}
+use Rattle.ada_meaning.specs.Operations.{Operations, IndexCheck, RangeCheck, operate}
 use Rattle.ada_meaning.specs.Meaning as meaning
 use Rattle.ada_meaning.specs.Meaning.{Env, Part, Passed, Returned, Back, Course, variable_root, constant_root, moved, with_target, iterated_env, outset, returns, exits, value_of, sub_at}
 use Rattle.ada_stored.specs.Stored
-use Rattle.ada_stored.specs.Stored.{Stored, doings, bind, ret, leaves, handles, apart, reads, checks}
-use Rattle.run_store.specs.Operating.{unary_then}
+use Rattle.ada_stored.specs.Stored.{Stored, doings, bind, ret, leaves, handles, apart, reads, writes, checks, puts}
+use Rattle.ada_base.specs.Image.{padded}
+use Rattle.run_store.specs.Operating.{unary_then, got}
 use Rattle.run_parts.specs.declared.work.Work.{Work}
 use Rattle.run_parts.specs.Words.{nodes_of, ops, calls_of, cells_at, turned, read_all, write_all, back_cells, all_copied_back}
 
@@ -48,6 +49,9 @@ composite w d c env = meaning.composite (ops w) w.limit (program w.typed.now) (c
 
 unfoldable pub associated : Work → ℕ → Associations → Env → List ℤ → Stored (List ℤ)
 associated w d as' env so_far = meaning.associated (ops w) w.limit (program w.typed.now) (calls_of w d) as' env so_far
+
+unfoldable pub written : Work → ℕ → Pieces → Env → List ℕ → Stored (List ℕ)
+written w d ps env so_far = meaning.written (ops w) w.limit (program w.typed.now) (calls_of w d) ps env so_far
 
 unfoldable pub course : Work → ℕ → Iteration → Env → Stored Course
 course w d it env = meaning.course (ops w) w.limit (program w.typed.now) (calls_of w d) it env
@@ -190,6 +194,24 @@ module _ (w : Work) (d : ℕ) where
 
   abbrev pub called : ℕ → ℕ → List Passed → Stored Returned
   called s nested passed = called_sub (sub_at (program w.typed.now).subs s) nested passed
+
+  -- ---- output and input
+
+  abbrev pub text : List ℕ → Pieces → Env → List ℕ → Stored (List ℕ)
+  text bytes rest env so_far = written w d rest env (so_far ++ bytes)
+
+  abbrev pub image : Class → Expr → Pieces → Env → List ℕ → Stored (List ℕ)
+  image class e rest env so_far = bind (eval w d e env) (λ v. written w d rest env (so_far ++ image_of class v))
+
+  abbrev pub number_field : Expr → Expr → Pieces → Env → List ℕ → Stored (List ℕ)
+  number_field e width rest env so_far = bind (eval w d e env) (λ v. bind (eval w d width env) (λ n. written w d rest env (so_far ++ padded v (to_nat n))))
+
+  abbrev pub put : Pieces → Bool → Env → Stored (Unit {0})
+  put ps line env = bind (written w d ps env []) (λ bytes. puts (cond line (bytes ++ 10 ∷ []) bytes))
+
+  abbrev pub get : ℕ → Root → Selections → Scalar → Env → Stored (Unit {0})
+  get first r ss scalar env =
+      bind (select w d ss env (variable_root r env)) (λ p. bind (got w.limit) (λ v. bind (checks RangeCheck first (is_in scalar v)) (λ _. writes p.object p.offset v)))
 
   -- ---- statements
 

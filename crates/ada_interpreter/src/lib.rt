@@ -8,7 +8,13 @@ pub mod courses;
 pub mod exprs;
 pub mod loops;
 pub mod names;
+pub mod runs;
 pub mod stmts;
+pub mod texts;
 pub mod values;
 
 pub use run_parts::Work;
+pub use runs::run;
+
+#[cfg(test)]
+mod tests;

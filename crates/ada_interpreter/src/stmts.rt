@@ -14,6 +14,7 @@ use crate::bodies::block;
 use crate::calls::call;
 use crate::exprs::{eval, holds};
 use crate::loops::{for_stmt, while_stmt};
+use crate::texts::{get, put};
 use crate::values::{assign, cells};
 use ada_base::{Items, Reason};
 use ada_typed::Stmt;
@@ -23,7 +24,7 @@ use run_store::{End, Env, Leave, Port, Region, Store, is_true};
 /// A statement.
 #[cycle(walk)]
 #[inline(never)]
-#[tactic(auto, unfolding(ada_stored::specs::Stored::bind, ada_stored::specs::Stored::ret, ada_stored::specs::Stored::leaves, ada_stored::specs::Stored::spent, ada_stored::specs::Stored::handles, crate::specs::Walk::exec, crate::specs::Walk::exec_all, crate::specs::Walk::eval, crate::specs::Walk::select, crate::specs::Walk::cells, crate::specs::Walk::holds, crate::specs::Walk::pass, crate::specs::Walk::course, crate::specs::Walk::exec_chosen, run_parts::specs::Words::write_all, run_parts::specs::Words::all_copied_back, crate::specs::Walk::while_loop, crate::specs::Walk::for_loop, crate::specs::Walk::block, crate::specs::Walk::exec_handler, crate::specs::Walk::filtered))]
+#[tactic(auto, unfolding(ada_stored::specs::Stored::bind, ada_stored::specs::Stored::ret, ada_stored::specs::Stored::leaves, ada_stored::specs::Stored::spent, ada_stored::specs::Stored::handles, crate::specs::Walk::exec, crate::specs::Walk::exec_all, crate::specs::Walk::eval, crate::specs::Walk::select, crate::specs::Walk::cells, crate::specs::Walk::holds, crate::specs::Walk::pass, crate::specs::Walk::course, crate::specs::Walk::exec_chosen, run_parts::specs::Words::write_all, run_parts::specs::Words::all_copied_back, crate::specs::Walk::written, crate::specs::Walk::while_loop, crate::specs::Walk::for_loop, crate::specs::Walk::block, crate::specs::Walk::exec_handler, crate::specs::Walk::filtered))]
 pub fn exec<P: Port + Drop>(
     work: &Work<'_>,
     calls: u32,
@@ -81,8 +82,17 @@ pub fn exec<P: Port + Drop>(
             env,
             store,
         ),
-        Stmt::ParallelFor { .. } | Stmt::Parallel { .. } | Stmt::Put { .. } | Stmt::Get { .. } =>
-            Err(End::NoMemory),
+        Stmt::Put { pieces, line, .. } => put(work, calls, pieces, line, env, store),
+        Stmt::Get {
+            first,
+            root,
+            selections,
+            scalar,
+            ..
+        } => get(
+            work, calls, first, root, selections, scalar, env, store,
+        ),
+        Stmt::ParallelFor { .. } | Stmt::Parallel { .. } => Err(End::NoMemory),
     }
 }
 

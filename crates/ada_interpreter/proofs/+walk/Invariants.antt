@@ -200,3 +200,23 @@ abbrev pub invariant-values::run_values-loop-k : goal.invariant-values::run_valu
 invariant-values::run_values-loop-k g l =
     Goes g.P.Port.Tells (run_values l.work l.calls 0 l.run.count l.run.first l.run.stride l.iterated (value_at (nodes_of l.work) l.value) (env_of l.env) l.fn.out) l.fn.store
     (run_values l.work l.calls l.k (l.run.count - l.k) l.first l.run.stride l.iterated (value_at (nodes_of l.work) l.value) (env_of l.env) l.cells) l.store
+
+-- ---- output and input
+
+abbrev pub decreases-texts::put : goal.decreases-texts::put
+decreases-texts::put g l = 1208925819614629174706176 * l.calls + 1099511627776 * l.pieces + 549755813888
+
+abbrev pub decreases-texts::written : goal.decreases-texts::written
+decreases-texts::written g l = 1208925819614629174706176 * l.calls + 1099511627776 * l.id + 274877906944
+
+abbrev pub decreases-texts::text : goal.decreases-texts::text
+decreases-texts::text g l = 1208925819614629174706176 * l.calls + 1099511627776 * l.rest + 549755813888
+
+abbrev pub decreases-texts::image : goal.decreases-texts::image
+decreases-texts::image g l = 1208925819614629174706176 * l.calls + 1099511627776 * (max l.value l.rest) + 549755813888
+
+abbrev pub decreases-texts::field : goal.decreases-texts::field
+decreases-texts::field g l = 1208925819614629174706176 * l.calls + 1099511627776 * (max l.value (max l.width l.rest)) + 549755813888
+
+abbrev pub decreases-texts::get : goal.decreases-texts::get
+decreases-texts::get g l = 1208925819614629174706176 * l.calls + 1099511627776 * l.selections + 549755813888
