@@ -27,7 +27,14 @@ fn main<P: Port + Drop>(work: &Work<'_>, store: &mut Store<P>) -> Result<(), End
     ensures { Shows P.Tells (spec.main work.now) result store.old store.new }
 {
     let env = Env::Outset { nested: 0 };
-    match body(work, MOST_CALLS, work.typed.body, Region::Everywhere, &env, store) {
+    match body(
+        work,
+        MOST_CALLS,
+        work.typed.body,
+        Region::Everywhere,
+        &env,
+        store,
+    ) {
         Err(End::Left(Leave::Raises(reason))) => Err(End::Left(Leave::Raises(reason))),
         Err(End::Left(_)) => Ok(()),
         result => result,

@@ -89,9 +89,7 @@ pub fn exec<P: Port + Drop>(
             selections,
             scalar,
             ..
-        } => get(
-            work, calls, first, root, selections, scalar, env, store,
-        ),
+        } => get(work, calls, first, root, selections, scalar, env, store),
         Stmt::ParallelFor { .. } | Stmt::Parallel { .. } => Err(End::NoMemory),
     }
 }

@@ -2,8 +2,8 @@ use crate::{Work, run};
 use ada_base::{Base, Items, Op};
 use ada_port::{HeldSink, SureSource};
 use ada_typed::{
-    Body, Check, Class, Decl, Expr, Iteration, Node, Nodes, Object, Piece, Root, Scalar, Stmt, Subtype, Typed,
-    Value,
+    Body, Check, Class, Decl, Expr, Iteration, Node, Nodes, Object, Piece, Root, Scalar, Stmt,
+    Subtype, Typed, Value,
 };
 use run_store::{End, Leave, Ports, Store};
 use std::alloc::{AllocError, Global};
@@ -25,25 +25,21 @@ fn check() -> Check {
 }
 
 fn variable(object: u32) -> Node {
-    Node::Expr(
-        Expr::Variable {
-            at: 0,
-            root: Root::Object(object),
-            selections: 0,
-            scalar: integer(),
-        },
-    )
+    Node::Expr(Expr::Variable {
+        at: 0,
+        root: Root::Object(object),
+        selections: 0,
+        scalar: integer(),
+    })
 }
 
 fn number(value: i64) -> Node {
-    Node::Expr(
-        Expr::Static {
-            at: 0,
-            value,
-            literal: true,
-            mentions: 0,
-        },
-    )
+    Node::Expr(Expr::Static {
+        at: 0,
+        value,
+        literal: true,
+        mentions: 0,
+    })
 }
 
 // X : Integer; S : Integer := 0; begin Get (X); for I in 1 .. X loop S := S + I; end loop; Put_Line (S'Image);
@@ -53,107 +49,86 @@ fn sum(alloc: Global) -> Result<Typed, AllocError> {
         &[
             Node::End,
             number(0),
-            Node::Value(
-                Value::Number {
-                    check: check(),
-                    value: 1,
-                },
-            ),
+            Node::Value(Value::Number {
+                check: check(),
+                value: 1,
+            }),
             Node::Decl(Decl::Default { object: 0 }),
-            Node::Decl(
-                Decl::Variable {
-                    object: 1,
-                    initial: 2,
-                },
-            ),
+            Node::Decl(Decl::Variable {
+                object: 1,
+                initial: 2,
+            }),
             Node::Cell { first: 4, rest: 0 },
             Node::Cell { first: 3, rest: 5 },
-            Node::Stmt(
-                Stmt::Get {
-                    at: 0,
-                    callee: 0,
-                    first: 0,
-                    root: Root::Object(0),
-                    selections: 0,
-                    scalar: integer(),
-                },
-            ),
+            Node::Stmt(Stmt::Get {
+                at: 0,
+                callee: 0,
+                first: 0,
+                root: Root::Object(0),
+                selections: 0,
+                scalar: integer(),
+            }),
             number(1),
             variable(0),
-            Node::Iteration(
-                Iteration::Range {
-                    parameter: 0,
-                    reverse: false,
-                    low: 8,
-                    high: 9,
-                    check: 0,
-                    filter: 0,
-                },
-            ),
+            Node::Iteration(Iteration::Range {
+                parameter: 0,
+                reverse: false,
+                low: 8,
+                high: 9,
+                check: 0,
+                filter: 0,
+            }),
             variable(1),
-            Node::Expr(
-                Expr::Parameter {
-                    at: 0,
-                    parameter: 0,
-                },
-            ),
-            Node::Expr(
-                Expr::Binary {
-                    at: 0,
-                    op: Op::Add,
-                    class: Class::Integer(Base::Narrow),
-                    left: 11,
-                    right: 12,
-                },
-            ),
-            Node::Value(
-                Value::Number {
-                    check: check(),
-                    value: 13,
-                },
-            ),
-            Node::Stmt(
-                Stmt::Assign {
-                    at: 0,
-                    root: Root::Object(1),
-                    selections: 0,
-                    value: 14,
-                },
-            ),
+            Node::Expr(Expr::Parameter {
+                at: 0,
+                parameter: 0,
+            }),
+            Node::Expr(Expr::Binary {
+                at: 0,
+                op: Op::Add,
+                class: Class::Integer(Base::Narrow),
+                left: 11,
+                right: 12,
+            }),
+            Node::Value(Value::Number {
+                check: check(),
+                value: 13,
+            }),
+            Node::Stmt(Stmt::Assign {
+                at: 0,
+                root: Root::Object(1),
+                selections: 0,
+                value: 14,
+            }),
             Node::Cell { first: 15, rest: 0 },
-            Node::Stmt(
-                Stmt::For {
-                    number: 0,
-                    iteration: 10,
-                    stmts: 16,
-                },
-            ),
+            Node::Stmt(Stmt::For {
+                number: 0,
+                iteration: 10,
+                stmts: 16,
+            }),
             variable(1),
-            Node::Piece(
-                Piece::Image {
-                    class: Class::Integer(Base::Narrow),
-                    value: 18,
-                },
-            ),
+            Node::Piece(Piece::Image {
+                class: Class::Integer(Base::Narrow),
+                value: 18,
+            }),
             Node::Cell { first: 19, rest: 0 },
-            Node::Stmt(
-                Stmt::Put {
-                    at: 0,
-                    callee: 0,
-                    pieces: 20,
-                    line: true,
-                },
-            ),
+            Node::Stmt(Stmt::Put {
+                at: 0,
+                callee: 0,
+                pieces: 20,
+                line: true,
+            }),
             Node::Cell { first: 21, rest: 0 },
-            Node::Cell { first: 17, rest: 22 },
+            Node::Cell {
+                first: 17,
+                rest: 22,
+            },
             Node::Cell { first: 7, rest: 23 },
-            Node::Body(
-                Body {
-                    decls: 6,
-                    stmts: 24,
-                    handlers: 0,
-                },
-            ),
+            Node::Body(Body {
+                decls: 6,
+                stmts: 24,
+                handlers: 0,
+            }),
         ],
     )?;
     program(alloc, nodes, 25)
@@ -171,7 +146,10 @@ fn program(alloc: Global, nodes: Vec<Node>, body: u32) -> Result<Typed, AllocErr
     };
     Ok(Typed {
         nodes: Nodes::new(Items::from_vec(nodes)),
-        subtypes: Items::from_vec(Vec::from_slice(alloc, &[Subtype::Scalar { scalar: integer() }])?),
+        subtypes: Items::from_vec(Vec::from_slice(
+            alloc,
+            &[Subtype::Scalar { scalar: integer() }],
+        )?),
         objects: Items::from_vec(Vec::from_slice(alloc, &[object, object])?),
         subs: Items::new(alloc),
         sites: Items::new(alloc),

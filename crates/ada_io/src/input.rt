@@ -83,15 +83,31 @@ impl Reader {
                     }
                     Outcome::Gives(value) => {
                         self.held = Holding::Symbol(symbol);
-                        return Got { end: GetEnd::Number { value }, took, came };
+                        return Got {
+                            end: GetEnd::Number { value },
+                            took,
+                            came,
+                        };
                     }
                     Outcome::Raises(reason) => {
                         self.held = Holding::Symbol(symbol);
-                        return Got { end: GetEnd::Raise { reason }, took, came };
+                        return Got {
+                            end: GetEnd::Raise { reason },
+                            took,
+                            came,
+                        };
                     }
                 },
-                Looked::ReadFault => return Got { end: GetEnd::ReadFault, took, came },
-                Looked::Spent => return Got { end: GetEnd::Spent, took, came },
+                Looked::ReadFault => return Got {
+                    end: GetEnd::ReadFault,
+                    took,
+                    came,
+                },
+                Looked::Spent => return Got {
+                    end: GetEnd::Spent,
+                    took,
+                    came,
+                },
             }
         }
     }

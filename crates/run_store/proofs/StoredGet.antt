@@ -114,7 +114,6 @@ module _ (limit : ℕ) (cuts : ℕ → ℕ → List ℕ) where
       go base later p zero e h = stopped (Stored.turn limit) (λ u. Stored.takes) _ _ TurnsSpent (spent_same base later p e)
       go base later p (suc n) e h = goes_on (Stored.turn limit) (λ u. Stored.takes) (around base later p) (around base later (record p { turns = n })) _ tt _ (turn_same base later p n e h) (takes_same base later p.held n p.taken p.feed)
 
-
   related : Relates {0, 1, 0} plain (Meaning.reading (Stored.operations limit cuts))
   unfolding Stored.ret Stored.recalls Stored.keeps Stored.leaves Stored.spent
   related = record {
@@ -181,7 +180,7 @@ module _ (limit : ℕ) (cuts : ℕ → ℕ → List ℕ) where
   pub stored_get : (old new : Stream) (before after : Held) (turns : ℕ) (result : Got) (g : Gets old new before after turns result) (s : State) (later : List ℕ) → s.held ≡ before → s.turns + turns ≡ limit
       → s.input ≡ g.bytes ++ later → IsRest (last_of result.end g.ended) later
       → Computes (Meaning.got (Stored.operations limit cuts) limit) s (end_of result.end)
-        (record s { held = after; input = later; turns = s.turns + result.took; taken = s.taken + result.came })
+      (record s { held = after; input = later; turns = s.turns + result.took; taken = s.taken + result.came })
   stored_get old new before after turns result g s later e f i r =
       let q = Meaning.got (Stored.operations limit cuts) limit in
       let last = last_of result.end g.ended in
