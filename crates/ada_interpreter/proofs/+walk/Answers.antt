@@ -1,4 +1,4 @@
-use Rattle.std.proofs.Common.{rules, arith, ◌≡◌, suc, ◌-◌, ◌+◌, ◌<◌, ◌≤◌, subst, sym, refl, Ok, Err}
+use Rattle.std.proofs.Common.{rules, arith, ◌≡◌, suc, ◌-◌, ◌+◌, ◌<◌, ◌≤◌, subst, sym, refl, Ok, Err, ◌∙◌, to_z, of_z, w64}
 use Rattle.ada_typed.specs.Decoded.{stmts_at, stmt_at, optional_at, iteration_at, value_at, decls_at, handlers_at, body_at, expr_at, alternatives_at, actuals_at, selections_at}
 use Rattle.ada_typed.specs.Programs.{sub_of}
 use Rattle.behaviours.specs.Paths as paths
@@ -13,7 +13,7 @@ use Rattle.ada_interpreter.specs.Walk.{exec_all, while_loop, for_loop, course, i
 use Rattle.ada_interpreter.proofs.Looping.{while_begins, run_begins, all_step, all_ends, all_done, while_test_ends, while_stops, while_turn_ends, while_body_ends, while_step, while_spent, for_step, for_ends, for_done, for_begins, run_step, run_ends, run_done}
 use Rattle.ada_interpreter.proofs.Scoping.{body_as, call_ends, call_step, called_more, called_fails, formals_none, formals_more, formals_fails, default_more, default_fails, variable_ends, variable_more, variable_fails, constant_ends, constant_more, constant_fails}
 use Rattle.ada_interpreter.proofs.Handling.{caught_shows, chosen_some, chosen_none, guarded_other, guarded_some, guarded_none, alternative_some, alternative_none}
-use Rattle.ada_interpreter.proofs.Forms.{index_as, in_out_as, in_out_on}
+use Rattle.ada_interpreter.proofs.Forms.{index_as, in_out_as, in_out_ends, in_out_on, range_holds, number_ends}
 use Rattle.ada_interpreter.proofs.+walk.Goals as goal
 
 pub stmts::exec_all-returns-in_err-exec : goal.stmts::exec_all-returns-in_err-exec
@@ -101,13 +101,19 @@ pub values::run_values-returns-in_err-first : goal.values::run_values-returns-in
 values::run_values-returns-in_err-first g t c = next_fails (λ next. next ≡ c.loop-k.first + c.args.run.stride) (run_values c.args.work.now c.args.calls 0 c.args.run.count c.args.run.first c.args.run.stride c.args.iterated (value_at (nodes_of c.args.work.now) c.args.value) (env_of c.args.env.now) c.args.out) (run_values c.args.work.now c.args.calls (c.loop-k.k + 1) (c.args.run.count - (c.loop-k.k + 1)) (c.loop-k.first + c.args.run.stride) c.args.run.stride c.args.iterated (value_at (nodes_of c.args.work.now) c.args.value) (env_of c.args.env.now) c.lay.new.out) c.args.store.now c.given.new.store _ c.in_err-first.field-0.0 (search rules) c.in_err-first.ensures (run_step (run_values c.args.work.now c.args.calls 0 c.args.run.count c.args.run.first c.args.run.stride c.args.iterated (value_at (nodes_of c.args.work.now) c.args.value) (env_of c.args.env.now) c.args.out) c.args.store.now c.loop-k.store c.given.new.store c.args.work.now c.args.calls c.loop-k.k c.args.run.count c.loop-k.first c.args.run.stride c.args.iterated (value_at (nodes_of c.args.work.now) c.args.value) (env_of c.args.env.now) c.loop-k.cells (omega arith) c.loop-k.invariant c.in_ok-values.values c.lay.new.out (c.loop-k.first + c.args.run.stride) c.in_ok-values.ensures (search rules) refl)
 
 pub names::select-returns-in-Some-Index : goal.names::select-returns-in-Some-Index
-names::select-returns-in-Some-Index g t c = index_as c.args.work.now c.args.calls (env_of c.args.env.now) c.args.store.now c.index.new.store c.in-Some-Index.at (expr_at (nodes_of c.args.work.now) c.in-Some-Index.value) c.in-Some-Index.low c.in-Some-Index.high c.in-Some-Index.stride (selections_at (nodes_of c.args.work.now) c.in-Some.cell.rest) (selections_at (nodes_of c.args.work.now) c.args.id) (part_of c.args.part) c.index.result (search rules) c.index.ensures
+names::select-returns-in-Some-Index g t c = index_as c.args.work.now c.args.calls (env_of c.args.env.now) c.args.store.now c.index.new.store c.in-Some-Index.at (expr_at (nodes_of c.args.work.now) c.in-Some-Index.value) c.in-Some-Index.low c.in-Some-Index.high _ _ c.in-Some-Index.stride (selections_at (nodes_of c.args.work.now) c.in-Some.cell.rest) (selections_at (nodes_of c.args.work.now) c.args.id) (part_of c.args.part) c.index.result c.index.ensures (search rules) (search rules) (search rules)
 
 pub actuals::pass-returns-in_err-all-in-Some-InOut : goal.actuals::pass-returns-in_err-all-in-Some-InOut
-actuals::pass-returns-in_err-all-in-Some-InOut g t c = in_out_as c.args.work.now c.args.calls (env_of c.args.env.now) c.args.store.now c.pass_in_out.new.store c.in-Some-InOut.formal c.in-Some-InOut.at c.in-Some-InOut.root (selections_at (nodes_of c.args.work.now) c.in-Some-InOut.selections) _ _ (actuals_at (nodes_of c.args.work.now) c.in-Some.cell.rest) (passed_list c.args.work.now c.args.passed) c.from_residual-in_err-all-in-Some-InOut.result (actuals_at (nodes_of c.args.work.now) c.args.id) (search rules) (search rules)
+actuals::pass-returns-in_err-all-in-Some-InOut g t c = in_out_ends c.args.work.now c.args.calls (env_of c.args.env.now) c.args.store.now c.pass_in_out.new.store c.in-Some-InOut.formal c.in-Some-InOut.at c.in-Some-InOut.root (selections_at (nodes_of c.args.work.now) c.in-Some-InOut.selections) _ _ (actuals_at (nodes_of c.args.work.now) c.in-Some.cell.rest) (passed_list c.args.work.now c.args.passed) c.in_err-all-in-Some-InOut.field-0.0 _ (actuals_at (nodes_of c.args.work.now) c.args.id) (search rules) c.in_err-all-in-Some-InOut.ensures (search rules)
 
 pub actuals::pass-returns-in_ok-all-in-Some-InOut : goal.actuals::pass-returns-in_ok-all-in-Some-InOut
-actuals::pass-returns-in_ok-all-in-Some-InOut g t c = in_out_as c.args.work.now c.args.calls (env_of c.args.env.now) c.args.store.now c.pass_in_out.new.store c.in-Some-InOut.formal c.in-Some-InOut.at c.in-Some-InOut.root (selections_at (nodes_of c.args.work.now) c.in-Some-InOut.selections) _ _ (actuals_at (nodes_of c.args.work.now) c.in-Some.cell.rest) (passed_list c.args.work.now c.args.passed) (Ok c.in_ok-all-in-Some-InOut.all) (actuals_at (nodes_of c.args.work.now) c.args.id) (search rules) c.in_ok-all-in-Some-InOut.ensures
+actuals::pass-returns-in_ok-all-in-Some-InOut g t c = in_out_as c.args.work.now c.args.calls (env_of c.args.env.now) c.args.store.now c.pass_in_out.new.store c.in-Some-InOut.formal c.in-Some-InOut.at c.in-Some-InOut.root (selections_at (nodes_of c.args.work.now) c.in-Some-InOut.selections) _ _ (actuals_at (nodes_of c.args.work.now) c.in-Some.cell.rest) (passed_list c.args.work.now c.args.passed) (Ok c.in_ok-all-in-Some-InOut.all) (actuals_at (nodes_of c.args.work.now) c.args.id) c.in_ok-all-in-Some-InOut.ensures (search rules)
 
 pub actuals::pass_in_out-returns-in_err-all : goal.actuals::pass_in_out-returns-in_err-all
-actuals::pass_in_out-returns-in_err-all g t c = in_out_on c.args.work.now c.args.calls (env_of c.args.env.now) c.args.store.now c.pass.new.store c.args.formal c.args.at c.args.root (selections_at (nodes_of c.args.work.now) c.args.selections) c.args.inside c.args.outside (actuals_at (nodes_of c.args.work.now) c.args.rest) (passed_list c.args.work.now c.args.passed) c.from_residual-in_err-all.result c.in_ok-part.part c.in_ok-value.value c.in_ok-values.values (passed_list c.args.work.now c.in_ok-more.more) c.select.new.store c.in_ok-part.ensures c.in_ok-value.ensures (search rules) c.in_ok-values.ensures c.in_ok-more.ensures (search rules)
+actuals::pass_in_out-returns-in_err-all g t c = in_out_on c.args.work.now c.args.calls (env_of c.args.env.now) c.args.store.now c.pass.new.store c.args.formal c.args.at c.args.root (selections_at (nodes_of c.args.work.now) c.args.selections) c.args.inside c.args.outside (actuals_at (nodes_of c.args.work.now) c.args.rest) (passed_list c.args.work.now c.args.passed) c.from_residual-in_err-all.result (part_of c.variable_root.result) c.in_ok-part.part c.in_ok-value.value _ c.in_ok-values.values (passed_list c.args.work.now c.in_ok-more.more) c.select.new.store c.in_ok-part.ensures c.variable_root.ensures c.in_ok-value.ensures (search rules) c.in_ok-values.ensures (search rules) c.in_ok-more.ensures (search rules)
+
+pub courses::begin_course-returns-then-bounds_hold : goal.courses::begin_course-returns-then-bounds_hold
+courses::begin_course-returns-then-bounds_hold g t c = range_holds c.args.work.now c.args.calls (env_of c.args.env.now) c.args.store.now c.eval-in-Some-Range.new.store c.in-Some-Range.parameter c.in-Some-Range.reverse (expr_at (nodes_of c.args.work.now) c.in-Some-Range.low) (expr_at (nodes_of c.args.work.now) c.in-Some-Range.high) c.check.result (optional_at (nodes_of c.args.work.now) c.in-Some-Range.field-0-5) (iteration_at (nodes_of c.args.work.now) c.args.id) c.in_ok-l-in-Some-Range.l c.in_ok-h-in-Some-Range.h (record { low = to_z w64 (of_z w64 c.in_ok-l-in-Some-Range.l); high = to_z w64 (of_z w64 c.in_ok-h-in-Some-Range.h) }) c.eval.new.store c.in_ok-l-in-Some-Range.ensures c.in_ok-h-in-Some-Range.ensures (search rules) (search rules) (sym c.bounds_hold.ensures ∙ c.if-bounds_hold.true) (search rules)
+
+pub values::assigned-returns-in_err-write-in-Some-Number : goal.values::assigned-returns-in_err-write-in-Some-Number
+values::assigned-returns-in_err-write-in-Some-Number g t c = number_ends c.args.work.now c.args.calls (env_of c.args.env.now) c.args.store.now c.write.new.self c.in-Some-Number.check (expr_at (nodes_of c.args.work.now) c.in-Some-Number.value) (value_at (nodes_of c.args.work.now) c.args.id) (part_of c.args.part) c.in_ok-x-in-Some-Number.x _ c.eval.new.store c.in_err-write-in-Some-Number.field-0.0 _ (search rules) c.in_ok-x-in-Some-Number.ensures (search rules) c.in_err-write-in-Some-Number.ensures (search rules) (search rules)
