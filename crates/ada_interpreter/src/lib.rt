@@ -15,6 +15,3 @@ pub mod values;
 
 pub use run_parts::Work;
 pub use runs::run;
-
-#[cfg(test)]
-mod tests;
