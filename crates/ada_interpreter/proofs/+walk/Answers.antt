@@ -13,7 +13,7 @@ use Rattle.ada_interpreter.specs.Walk.{exec_all, while_loop, for_loop, course, i
 use Rattle.ada_interpreter.proofs.Looping.{while_begins, run_begins, all_step, all_ends, all_done, while_test_ends, while_stops, while_turn_ends, while_body_ends, while_step, while_spent, for_step, for_ends, for_done, for_begins, run_step, run_ends, run_done}
 use Rattle.ada_interpreter.proofs.Scoping.{body_as, call_ends, call_step, called_more, called_fails, formals_none, formals_more, formals_fails, default_more, default_fails, variable_ends, variable_more, variable_fails, constant_ends, constant_more, constant_fails}
 use Rattle.ada_interpreter.proofs.Handling.{caught_shows, chosen_some, chosen_none, guarded_other, guarded_some, guarded_none, alternative_some, alternative_none}
-use Rattle.ada_interpreter.proofs.Forms.{index_as, in_out_as, in_out_ends, in_out_on, range_holds, number_ends}
+use Rattle.ada_interpreter.proofs.Forms.{index_as, in_out_as, in_out_ends, in_out_on, range_holds, number_ends, get_on}
 use Rattle.ada_interpreter.proofs.+walk.Goals as goal
 
 pub stmts::exec_all-returns-in_err-exec : goal.stmts::exec_all-returns-in_err-exec
@@ -117,3 +117,6 @@ courses::begin_course-returns-then-bounds_hold g t c = range_holds c.args.work.n
 
 pub values::assigned-returns-in_err-write-in-Some-Number : goal.values::assigned-returns-in_err-write-in-Some-Number
 values::assigned-returns-in_err-write-in-Some-Number g t c = number_ends c.args.work.now c.args.calls (env_of c.args.env.now) c.args.store.now c.write.new.self c.in-Some-Number.check (expr_at (nodes_of c.args.work.now) c.in-Some-Number.value) (value_at (nodes_of c.args.work.now) c.args.id) (part_of c.args.part) c.in_ok-x-in-Some-Number.x _ c.eval.new.store c.in_err-write-in-Some-Number.field-0.0 _ (search rules) c.in_ok-x-in-Some-Number.ensures (search rules) c.in_err-write-in-Some-Number.ensures (search rules) (search rules)
+
+pub texts::get-returns-in_err-write : goal.texts::get-returns-in_err-write
+texts::get-returns-in_err-write g t c = get_on c.args.work.now c.args.calls (env_of c.args.env.now) c.args.store.now c.write.new.self c.args.first c.args.root (selections_at (nodes_of c.args.work.now) c.args.selections) c.args.scalar (part_of c.variable_root.result) c.in_ok-part.part c.in_ok-value.value _ c.select.new.store c.get.new.self c.in_err-write.field-0.0 _ (search rules) c.variable_root.ensures c.in_ok-part.ensures c.in_ok-value.ensures (search rules) c.in_err-write.ensures (search rules)
