@@ -11,11 +11,12 @@ use Rattle.ada_io.specs.declared.phases.Phase.TheVariants.{Blanks}
 use Rattle.ada_io.specs.declared.phases.Outcome.TheVariants.{Asks, Gives, Raises}
 use Rattle.ada_io.specs.declared.asking.Looked.TheVariants.{At, ReadFault, Spent}
 use Rattle.ada_io.specs.declared.input.GetEnd.{GetEnd}
+use Rattle.ada_io.specs.declared.input.Got.{Got}
 use Rattle.ada_io.specs.declared.input.GetEnd.TheVariants as end
 use Rattle.ada_io.specs.Plain.{Feed, Byte, fed, State, Stop, Raised, Failed, TurnsSpent, After, at, Doing, next, given, asked, then, plain}
 use Rattle.ada_io.specs.Gets.{Last, Open, AtEnd, Gave, MayFollow, askings, Gets}
 use Rattle.ada_io.specs.Phases.{rest, Takes, held_of}
-use Rattle.ada_io.specs.Looks.{Looks, IsAsked}
+use Rattle.ada_io.specs.Looks.{Looks, IsAsked, came_with}
 use Rattle.ada_io.proofs.Enough.{asked_same, skip_same, read_same}
 use Rattle.ada_port.specs.Ports.{Stream, GivesUntil}
 use Rattle.ada_port.specs.Ports as port
@@ -24,13 +25,17 @@ use Rattle.ada_port.proofs.Asked.{Gives-none, Gives-append, GivesAll-append, Giv
 abbrev pub state : Held → Feed → ℕ → ℕ → State
 state h feed turns taken = record { held = h; feed = feed; turns = turns; taken = taken }
 
+abbrev pub got_of : GetEnd → ℕ → ℕ → Got
+got_of e took came = record { end = e; took = took; came = came }
+
 abbrev pub so : Bool → Last
 so ended = cond ended AtEnd Open
 
-pub record Reaches (old now : Stream) (before : Held) (turns took : ℕ) (ended : Bool) (todo : Doing ℤ) : Type 0 where
+pub record Reaches (old now : Stream) (before : Held) (turns took came : ℕ) (ended : Bool) (todo : Doing ℤ) : Type 0 where
   pub bytes : List ℕ
   pub gave : Gave (so ended) old now bytes
   pub counted : took ≡ askings (so ended) bytes
+  pub arrived : came ≡ length bytes
   pub within : took ≤ turns
   pub same : (more : Feed) → MayFollow (so ended) more → (taken : ℕ) → input.got plain turns (state before (fed bytes more) turns taken) ≡ todo (state before more (turns - took) (taken + length bytes))
 
@@ -39,15 +44,15 @@ abbrev pub from : Phase → Holding → Doing ℤ
 from phase held = then (input.first_symbol plain (held_of held)) (rest phase)
 
 -- before something is looked at, and after
-pub record Going (old now : Stream) (before : Holding) (turns took : ℕ) (phase : Phase) (held : Holding) : Type 0 where
+pub record Going (old now : Stream) (before : Holding) (turns took came : ℕ) (phase : Phase) (held : Holding) : Type 0 where
   pub ended : Bool
   pub last : ended ≡ true → held ≡ holding.Symbol None
-  pub reaches : Reaches old now (held_of before) turns took ended (from phase held)
+  pub reaches : Reaches old now (held_of before) turns took came ended (from phase held)
 
-pub record Seeing (old now : Stream) (before : Holding) (turns took : ℕ) (phase : Phase) (symbol : Option ℕ) : Type 0 where
+pub record Seeing (old now : Stream) (before : Holding) (turns took came : ℕ) (phase : Phase) (symbol : Option ℕ) : Type 0 where
   pub ended : Bool
   pub last : ended ≡ true → symbol ≡ None
-  pub reaches : Reaches old now (held_of before) turns took ended (rest phase symbol)
+  pub reaches : Reaches old now (held_of before) turns took came ended (rest phase symbol)
 
 -- ---- the beginning
 
@@ -56,7 +61,7 @@ begun t (holding.Symbol s) = refl
 begun t holding.Nothing =
     asked_same t t.turns _ _ (λ u v e. skip_same (suc t.turns) (suc v.turns) _ _ u v (omega arith) (omega arith) (λ x w h. read_same (suc t.turns) (suc v.turns) x w (omega arith) (omega arith)))
 
-pub begins : (old : Stream) (before : Holding) (turns : ℕ) → Going old old before turns 0 Blanks before
+pub begins : (old : Stream) (before : Holding) (turns : ℕ) → Going old old before turns 0 0 Blanks before
 begins old before turns = record {
   ended = false;
   last = λ e. absurd (true≢false (sym e));
@@ -64,6 +69,7 @@ begins old before turns = record {
     bytes = [];
     gave = Gives-none;
     counted = refl;
+    arrived = refl;
     within = omega arith;
     same = λ more follows taken. begun (state (held_of before) more turns taken) before ∙ settled more taken;
   };
@@ -74,6 +80,13 @@ begins old before turns = record {
         let d : turns ≡ turns - 0 = omega arith in
         let e : taken ≡ taken + 0 = omega arith in
         ap (λ n. from Blanks before (state (held_of before) more n taken)) d ∙ ap (λ n. from Blanks before (state (held_of before) more (turns - 0) n)) e
+
+pub fewer : (old now : Stream) (before : Holding) (turns took came : ℕ) (phase : Phase) (held : Holding) → Going old now before turns took came phase held → came ≤ took
+fewer old now before turns took came phase held g = go g.ended g.reaches
+  where
+    go : (ended : Bool) → Reaches old now (held_of before) turns took came ended (from phase held) → came ≤ took
+    go true r = omega (arith, r.counted, r.arrived)
+    go false r = omega (arith, r.counted, r.arrived)
 
 -- ---- looking
 
@@ -88,16 +101,17 @@ asked_at h feed turns took taken k lt =
     let e : turns - took ≡ suc (turns - (took + 1)) = omega arith in
     ap (λ n. let r = asked (state h feed n taken) n in next r.state r.answer k) e
 
-not_ended : (old now : Stream) (before : Held) (turns took : ℕ) (ended : Bool) (todo : Doing ℤ) → (ended ≡ true → ⊥) → Reaches old now before turns took ended todo → Reaches old now before turns took false todo
-not_ended old now before turns took true todo h r = absurd (h refl)
-not_ended old now before turns took false todo h r = r
+not_ended : (old now : Stream) (before : Held) (turns took came : ℕ) (ended : Bool) (todo : Doing ℤ) → (ended ≡ true → ⊥) → Reaches old now before turns took came ended todo → Reaches old now before turns took came false todo
+not_ended old now before turns took came true todo h r = absurd (h refl)
+not_ended old now before turns took came false todo h r = r
 
-byte : (old now new : Stream) (before : Held) (turns took : ℕ) (phase : Phase) (b : ℕ) → took < turns → Reaches old now before turns took false (from phase holding.Nothing) → port.Gives now new (b ∷ [])
-    → Reaches old new before turns (took + 1) false (rest phase (Some b))
-byte old now new before turns took phase b lt r g = record {
+byte : (old now new : Stream) (before : Held) (turns took came : ℕ) (phase : Phase) (b : ℕ) → took < turns → Reaches old now before turns took came false (from phase holding.Nothing) → port.Gives now new (b ∷ [])
+    → Reaches old new before turns (took + 1) (came + 1) false (rest phase (Some b))
+byte old now new before turns took came phase b lt r g = record {
   bytes = r.bytes ++ b ∷ [];
   gave = Gives-append r.gave g;
   counted = omega (arith, r.counted, length-append r.bytes (b ∷ []));
+  arrived = omega (arith, r.arrived, length-append r.bytes (b ∷ []));
   within = omega arith;
   same = λ more follows taken.
       ap (λ feed. input.got plain turns (state before feed turns taken)) (fed-append r.bytes b more)
@@ -107,12 +121,13 @@ byte old now new before turns took phase b lt r g = record {
       ap (λ n. rest phase (Some b) (state before more (turns - (took + 1)) n)) e);
 }
 
-ends : (old now new : Stream) (before : Held) (turns took : ℕ) (phase : Phase) → took < turns → Reaches old now before turns took false (from phase holding.Nothing) → port.GivesAll now new []
-    → Reaches old new before turns (took + 1) true (rest phase None)
-ends old now new before turns took phase lt r g = record {
+ends : (old now new : Stream) (before : Held) (turns took came : ℕ) (phase : Phase) → took < turns → Reaches old now before turns took came false (from phase holding.Nothing) → port.GivesAll now new []
+    → Reaches old new before turns (took + 1) came true (rest phase None)
+ends old now new before turns took came phase lt r g = record {
   bytes = r.bytes;
   gave = subst (λ bytes. port.GivesAll old new bytes) (append-nil r.bytes) (GivesAll-append r.gave g);
   counted = omega (arith, r.counted);
+  arrived = r.arrived;
   within = omega arith;
   same = λ more follows taken.
       let given_at : Feed → After ℤ = λ feed. let q = given (state before feed (turns - (took + 1)) (taken + length r.bytes)) feed in next q.state q.answer (rest phase) in
@@ -122,38 +137,44 @@ ends old now new before turns took phase lt r g = record {
       ∙ ap (λ feed. rest phase None (state before feed (turns - (took + 1)) (taken + length r.bytes))) (sym follows);
 }
 
-asked_for : (old now new : Stream) (before : Holding) (turns took : ℕ) (phase : Phase) (symbol : Option ℕ) → Reaches old now (held_of before) turns took false (from phase holding.Nothing) → IsAsked now new turns took (took + 1) symbol
-    → Seeing old new before turns (took + 1) phase symbol
-asked_for old now new before turns took phase (Some b) r l = record { ended = false; last = λ e. absurd (true≢false (sym e)); reaches = byte old now new (held_of before) turns took phase b l.left r l.takes }
-asked_for old now new before turns took phase None r l = record { ended = true; last = λ e. refl; reaches = ends old now new (held_of before) turns took phase l.left r l.takes }
+asked_for : (old now new : Stream) (before : Holding) (turns took came : ℕ) (phase : Phase) (symbol : Option ℕ) → Reaches old now (held_of before) turns took came false (from phase holding.Nothing)
+    → IsAsked now new turns took (took + 1) came (came_with came symbol) symbol → Seeing old new before turns (took + 1) (came_with came symbol) phase symbol
+asked_for old now new before turns took came phase (Some b) r l = record { ended = false; last = λ e. absurd (true≢false (sym e)); reaches = byte old now new (held_of before) turns took came phase b l.left r l.takes }
+asked_for old now new before turns took came phase None r l = record { ended = true; last = λ e. refl; reaches = ends old now new (held_of before) turns took came phase l.left r l.takes }
 
 -- nothing is held, so the end wasn't met
-open_at : (old now : Stream) (before : Holding) (turns took : ℕ) (phase : Phase) → Going old now before turns took phase holding.Nothing → Reaches old now (held_of before) turns took false (from phase holding.Nothing)
-open_at old now before turns took phase g = not_ended old now (held_of before) turns took g.ended (from phase holding.Nothing) (λ e. let h = g.last e in cc) g.reaches
+open_at : (old now : Stream) (before : Holding) (turns took came : ℕ) (phase : Phase) → Going old now before turns took came phase holding.Nothing → Reaches old now (held_of before) turns took came false (from phase holding.Nothing)
+open_at old now before turns took came phase g = not_ended old now (held_of before) turns took came g.ended (from phase holding.Nothing) (λ e. let h = g.last e in cc) g.reaches
 
-pub looks : (old now new : Stream) (before : Holding) (turns took later : ℕ) (phase : Phase) (held : Holding) (symbol : Option ℕ) → Going old now before turns took phase held → Looks now new held turns took later (At symbol)
-    → Seeing old new before turns later phase symbol
-looks old now new before turns took later phase (holding.Symbol s) symbol g l =
-    let base : Seeing old now before turns took phase s = record { ended = g.ended; last = λ e. let h = g.last e in cc; reaches = g.reaches } in
-    subst (λ x. Seeing old x before turns later phase symbol) (sym l.source)
-    (subst (λ n. Seeing old now before turns n phase symbol) (sym l.took)
-    (subst (λ y. Seeing old now before turns took phase y) (sym l.symbol) base))
-looks old now new before turns took later phase holding.Nothing symbol g l =
-    subst (λ n. Seeing old new before turns n phase symbol) (sym l.took)
-    (asked_for old now new before turns took phase symbol (open_at old now before turns took phase g) (record { left = l.left; took = refl; takes = l.takes }))
+pub looks : (old now new : Stream) (before : Holding) (turns took later came more : ℕ) (phase : Phase) (held : Holding) (symbol : Option ℕ) → Going old now before turns took came phase held → Looks now new held turns took later came more (At symbol)
+    → Seeing old new before turns later more phase symbol
+looks old now new before turns took later came more phase (holding.Symbol s) symbol g l =
+    let base : Seeing old now before turns took came phase s = record { ended = g.ended; last = λ e. let h = g.last e in cc; reaches = g.reaches } in
+    subst (λ x. Seeing old x before turns later more phase symbol) (sym l.source)
+    (subst (λ n. Seeing old now before turns n more phase symbol) (sym l.took)
+    (subst (λ n. Seeing old now before turns took n phase symbol) (sym l.came)
+    (subst (λ y. Seeing old now before turns took came phase y) (sym l.symbol) base)))
+looks old now new before turns took later came more phase holding.Nothing symbol g l =
+    subst (λ n. Seeing old new before turns n more phase symbol) (sym l.took)
+    (subst (λ n. Seeing old new before turns (took + 1) n phase symbol) (sym l.came)
+    (asked_for old now new before turns took came phase symbol (open_at old now before turns took came phase g) (record { left = l.left; took = refl; came = refl; takes = l.takes })))
 
-pub faults : (old now new : Stream) (before : Holding) (turns took later : ℕ) (phase : Phase) (held : Holding) → Going old now before turns took phase held → Looks now new held turns took later ReadFault
-    → Gets old new (held_of before) (held_of before) turns end.ReadFault
-faults old now new before turns took later phase (holding.Symbol s) g l = absurd l
-faults old now new before turns took later phase holding.Nothing g l = failed (open_at old now before turns took phase g)
+pub faults : (old now new : Stream) (before : Holding) (turns took later came more : ℕ) (phase : Phase) (held : Holding) → Going old now before turns took came phase held → Looks now new held turns took later came more ReadFault
+    → Gets old new (held_of before) (held_of before) turns (got_of end.ReadFault later more)
+faults old now new before turns took later came more phase (holding.Symbol s) g l = absurd l
+faults old now new before turns took later came more phase holding.Nothing g l =
+    subst (λ n. Gets old new (held_of before) (held_of before) turns (got_of end.ReadFault n more)) (sym l.took)
+    (subst (λ n. Gets old new (held_of before) (held_of before) turns (got_of end.ReadFault (took + 1) n)) (sym l.came) (failed (open_at old now before turns took came phase g)))
   where
-    failed : Reaches old now (held_of before) turns took false (from phase holding.Nothing) → Gets old new (held_of before) (held_of before) turns end.ReadFault
+    failed : Reaches old now (held_of before) turns took came false (from phase holding.Nothing) → Gets old new (held_of before) (held_of before) turns (got_of end.ReadFault (took + 1) came)
     failed r = record {
       bytes = r.bytes;
       ended = false;
       gave = subst (λ bytes. GivesUntil old new bytes) (append-nil r.bytes) (GivesUntil-append r.gave l.fails);
-      within = let lt = l.left in omega (arith, r.counted);
-      counted = tt;
+      within = let lt = l.left in omega (arith, lt);
+      took = omega (arith, r.counted);
+      came = r.arrived;
+      spends = tt;
       same = λ more follows taken.
           let h = held_of before in
           let given_at : Feed → After ℤ = λ feed. let q = given (state h feed (turns - (took + 1)) (taken + length r.bytes)) feed in next q.state q.answer (rest phase) in
@@ -161,71 +182,82 @@ faults old now new before turns took later phase holding.Nothing g l = failed (o
           ∙ asked_at h more turns took (taken + length r.bytes) (rest phase) l.left
           ∙ ap given_at follows
           ∙ ap (λ feed. at (state h feed (turns - (took + 1)) (taken + length r.bytes)) (Err Failed)) (sym follows)
-          ∙ ap (λ n. at (state h more (turns - (n + 1)) (taken + length r.bytes)) (Err Failed)) r.counted;
+          ∙ ap (λ n. at (state h more (turns - (took + 1)) (taken + n)) (Err Failed)) (sym r.arrived);
     }
 
-pub spends : (old now new : Stream) (before : Holding) (turns took later : ℕ) (phase : Phase) (held : Holding) → Going old now before turns took phase held → Looks now new held turns took later Spent
-    → Gets old new (held_of before) (held_of before) turns end.Spent
-spends old now new before turns took later phase (holding.Symbol s) g l = absurd l
-spends old now new before turns took later phase holding.Nothing g l = spent (open_at old now before turns took phase g)
+pub spends : (old now new : Stream) (before : Holding) (turns took later came more : ℕ) (phase : Phase) (held : Holding) → Going old now before turns took came phase held → Looks now new held turns took later came more Spent
+    → Gets old new (held_of before) (held_of before) turns (got_of end.Spent later more)
+spends old now new before turns took later came more phase (holding.Symbol s) g l = absurd l
+spends old now new before turns took later came more phase holding.Nothing g l =
+    subst (λ n. Gets old new (held_of before) (held_of before) turns (got_of end.Spent n more)) (sym l.took)
+    (subst (λ n. Gets old new (held_of before) (held_of before) turns (got_of end.Spent took n)) (sym l.came) (spent (open_at old now before turns took came phase g)))
   where
-    spent : Reaches old now (held_of before) turns took false (from phase holding.Nothing) → Gets old new (held_of before) (held_of before) turns end.Spent
+    spent : Reaches old now (held_of before) turns took came false (from phase holding.Nothing) → Gets old new (held_of before) (held_of before) turns (got_of end.Spent took came)
     spent r = record {
       bytes = r.bytes;
       ended = false;
       gave = subst (λ x. port.Gives old x r.bytes) (sym l.source) r.gave;
-      within = omega (arith, r.counted);
-      counted = sym l.spent ∙ r.counted;
+      within = r.within;
+      took = r.counted;
+      came = r.arrived;
+      spends = l.spent;
       same = λ more follows taken.
           let h = held_of before in
           let none : turns - took ≡ 0 = let e = l.spent in omega arith in
           r.same more tt taken
           ∙ ap (λ n. let q = asked (state h more (turns - took) (taken + length r.bytes)) n in next q.state q.answer (rest phase)) none
-          ∙ ap (λ n. at (state h more (turns - n) (taken + length r.bytes)) (Err TurnsSpent)) r.counted;
+          ∙ ap (λ n. at (state h more (turns - took) (taken + n)) (Err TurnsSpent)) (sym r.arrived);
     }
 
 -- ---- what was looked at
 
-pub asks : (old now : Stream) (before : Holding) (turns took : ℕ) (phase later : Phase) (symbol : Option ℕ) → Seeing old now before turns took phase symbol → Takes phase symbol (Asks later) → Going old now before turns took later holding.Nothing
-asks old now before turns took phase later symbol s takes =
-    record { ended = false; last = λ e. absurd (true≢false (sym e)); reaches = on (not_ended old now (held_of before) turns took s.ended (rest phase symbol) (λ e. true≢false (sym takes.0 ∙ ap is_some (s.last e))) s.reaches) }
+pub asks : (old now : Stream) (before : Holding) (turns took came : ℕ) (phase later : Phase) (symbol : Option ℕ) → Seeing old now before turns took came phase symbol → Takes phase symbol (Asks later) → Going old now before turns took came later holding.Nothing
+asks old now before turns took came phase later symbol s takes =
+    record { ended = false; last = λ e. absurd (true≢false (sym e)); reaches = on (not_ended old now (held_of before) turns took came s.ended (rest phase symbol) (λ e. true≢false (sym takes.0 ∙ ap is_some (s.last e))) s.reaches) }
   where
-    on : Reaches old now (held_of before) turns took false (rest phase symbol) → Reaches old now (held_of before) turns took false (from later holding.Nothing)
+    on : Reaches old now (held_of before) turns took came false (rest phase symbol) → Reaches old now (held_of before) turns took came false (from later holding.Nothing)
     on r = record {
       bytes = r.bytes;
       gave = r.gave;
       counted = r.counted;
+      arrived = r.arrived;
       within = r.within;
       same = λ more follows taken. r.same more follows taken ∙ takes.1.same (state (held_of before) more (turns - took) (taken + length r.bytes));
     }
 
-answered : (old now : Stream) (before : Holding) (turns took : ℕ) (ended : Bool) (held : Held) (todo : Doing ℤ) (answer : Result ℤ Stop) → ((t : State) → todo t ≡ at (record t { held = held }) answer)
-    → (r : Reaches old now (held_of before) turns took ended todo) → (more : Feed) → MayFollow (so ended) more → (taken : ℕ)
-    → input.got plain turns (state (held_of before) (fed r.bytes more) turns taken) ≡ at (state held more (turns - askings (so ended) r.bytes) (taken + length r.bytes)) answer
-answered old now before turns took ended held todo answer does r more follows taken =
-    r.same more follows taken ∙ does (state (held_of before) more (turns - took) (taken + length r.bytes)) ∙ ap (λ n. at (state held more (turns - n) (taken + length r.bytes)) answer) r.counted
+answered : (old now : Stream) (before : Holding) (turns took came : ℕ) (ended : Bool) (held : Held) (todo : Doing ℤ) (answer : Result ℤ Stop) → ((t : State) → todo t ≡ at (record t { held = held }) answer)
+    → (r : Reaches old now (held_of before) turns took came ended todo) → (more : Feed) → MayFollow (so ended) more → (taken : ℕ)
+    → input.got plain turns (state (held_of before) (fed r.bytes more) turns taken) ≡ at (state held more (turns - took) (taken + came)) answer
+answered old now before turns took came ended held todo answer does r more follows taken =
+    r.same more follows taken ∙ does (state (held_of before) more (turns - took) (taken + length r.bytes)) ∙ ap (λ n. at (state held more (turns - took) (taken + n)) answer) (sym r.arrived)
 
-pub gives : (old now : Stream) (before : Holding) (turns took : ℕ) (phase : Phase) (symbol : Option ℕ) (v : ℤ) → Seeing old now before turns took phase symbol → Takes phase symbol (Gives v) → Gets old now (held_of before) (Symbol symbol) turns (end.Number v took)
-gives old now before turns took phase symbol v s takes = let r = s.reaches in record {
+pub gives : (old now : Stream) (before : Holding) (turns took came : ℕ) (phase : Phase) (symbol : Option ℕ) (v : ℤ) → Seeing old now before turns took came phase symbol → Takes phase symbol (Gives v)
+    → Gets old now (held_of before) (Symbol symbol) turns (got_of (end.Number v) took came)
+gives old now before turns took came phase symbol v s takes = let r = s.reaches in record {
   bytes = r.bytes;
   ended = s.ended;
   gave = r.gave;
-  within = subst (λ n. n ≤ turns) r.counted r.within;
-  counted = r.counted;
-  same = answered old now before turns took s.ended (Symbol symbol) (rest phase symbol) (Ok v) takes r;
+  within = r.within;
+  took = r.counted;
+  came = r.arrived;
+  spends = tt;
+  same = answered old now before turns took came s.ended (Symbol symbol) (rest phase symbol) (Ok v) takes r;
 }
 
-pub raises : (old now : Stream) (before : Holding) (turns took : ℕ) (phase : Phase) (symbol : Option ℕ) (reason : Reason) → Seeing old now before turns took phase symbol → Takes phase symbol (Raises reason) → Gets old now (held_of before) (Symbol symbol) turns (end.Raise reason took)
-raises old now before turns took phase symbol reason s takes = let r = s.reaches in record {
+pub raises : (old now : Stream) (before : Holding) (turns took came : ℕ) (phase : Phase) (symbol : Option ℕ) (reason : Reason) → Seeing old now before turns took came phase symbol → Takes phase symbol (Raises reason)
+    → Gets old now (held_of before) (Symbol symbol) turns (got_of (end.Raise reason) took came)
+raises old now before turns took came phase symbol reason s takes = let r = s.reaches in record {
   bytes = r.bytes;
   ended = s.ended;
   gave = r.gave;
-  within = subst (λ n. n ≤ turns) r.counted r.within;
-  counted = r.counted;
-  same = answered old now before turns took s.ended (Symbol symbol) (rest phase symbol) (Err (Raised reason)) takes r;
+  within = r.within;
+  took = r.counted;
+  came = r.arrived;
+  spends = tt;
+  same = answered old now before turns took came s.ended (Symbol symbol) (rest phase symbol) (Err (Raised reason)) takes r;
 }
 
 -- what is held, as contracts see it
-pub seen : (old now : Stream) (before later : Held) (turns : ℕ) (result result' : GetEnd) (h k : Held) → before ≡ h → later ≡ k → result ≡ result' → Gets old now before later turns result → Gets old now h k turns result'
+pub seen : (old now : Stream) (before later : Held) (turns : ℕ) (result result' : Got) (h k : Held) → before ≡ h → later ≡ k → result ≡ result' → Gets old now before later turns result → Gets old now h k turns result'
 seen old now before later turns result result' h k d e f g =
     subst (λ x. Gets old now x k turns result') d (subst (λ y. Gets old now before y turns result') e (subst (λ z. Gets old now before later turns z) f g))

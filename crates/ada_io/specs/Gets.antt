@@ -3,6 +3,7 @@ use Rattle.std.specs.Prelude.{◌≡◌, ℕ, ◌+◌, ◌-◌, ◌≤◌, List,
 use Rattle.ada_base.specs.Input.{Held}
 use Rattle.ada_base.specs.Input as input
 use Rattle.ada_io.specs.declared.input.GetEnd.{GetEnd}
+use Rattle.ada_io.specs.declared.input.Got.{Got}
 use Rattle.ada_io.specs.declared.input.GetEnd.TheVariants.{Number, Raise, ReadFault, Spent}
 use Rattle.ada_io.specs.Plain.{Feed, End, Fault, fed, Stop, Raised, Failed, TurnsSpent, at, plain}
 use Rattle.ada_port.specs.Ports.{Stream, Gives, GivesAll, GivesUntil}
@@ -36,27 +37,29 @@ abbrev pub last_of : GetEnd → Bool → Last
 last_of ReadFault ended = Broken
 last_of _ ended = cond ended AtEnd Open
 
--- the number of askings is told, and the turns are spent exactly where all were taken and one more is needed
-abbrev pub IsCounted : ℕ → GetEnd → ℕ → Type 0
-IsCounted turns (Number value took) n = took ≡ n
-IsCounted turns (Raise reason took) n = took ≡ n
-IsCounted turns ReadFault n = Unit {0}
-IsCounted turns Spent n = turns ≡ n
+-- the turns are spent where all were taken
+abbrev pub SpendsAll : ℕ → GetEnd → ℕ → Type 0
+SpendsAll turns (Number value) n = Unit {0}
+SpendsAll turns (Raise reason) n = Unit {0}
+SpendsAll turns ReadFault n = Unit {0}
+SpendsAll turns Spent n = n ≡ turns
 
 abbrev pub answer_of : GetEnd → Result ℤ Stop
-answer_of (Number value took) = Ok value
-answer_of (Raise reason took) = Err (Raised reason)
+answer_of (Number value) = Ok value
+answer_of (Raise reason) = Err (Raised reason)
 answer_of ReadFault = Err Failed
 answer_of Spent = Err TurnsSpent
 
 -- the answer is the one of the language's Get on the bytes that the source gave, whatever may follow, where so many turns
 -- were left; and so is what is held then
-pub record Gets (old new : Stream) (before after : Held) (turns : ℕ) (result : GetEnd) : Type 0 where
+pub record Gets (old new : Stream) (before after : Held) (turns : ℕ) (result : Got) : Type 0 where
   pub bytes : List ℕ
   pub ended : Bool
-  pub gave : Gave (last_of result ended) old new bytes
-  pub within : askings (last_of result ended) bytes ≤ turns
-  pub counted : IsCounted turns result (askings (last_of result ended) bytes)
-  pub same : (more : Feed) → MayFollow (last_of result ended) more → (taken : ℕ)
+  pub gave : Gave (last_of result.end ended) old new bytes
+  pub within : result.took ≤ turns
+  pub took : result.took ≡ askings (last_of result.end ended) bytes
+  pub came : result.came ≡ length bytes
+  pub spends : SpendsAll turns result.end result.took
+  pub same : (more : Feed) → MayFollow (last_of result.end ended) more → (taken : ℕ)
       → input.got plain turns (record { held = before; feed = fed bytes more; turns = turns; taken = taken })
-      ≡ at (record { held = after; feed = more; turns = turns - askings (last_of result ended) bytes; taken = taken + length bytes }) (answer_of result)
+      ≡ at (record { held = after; feed = more; turns = turns - result.took; taken = taken + result.came }) (answer_of result.end)

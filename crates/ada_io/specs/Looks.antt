@@ -1,37 +1,48 @@
 -- What comes of looking at a byte: it is the one that is held, or the source is asked for it and a turn is taken.
-use Rattle.std.specs.Prelude.{◌≡◌, ℕ, ◌+◌, ◌<◌, [], Option, Ok}
+use Rattle.std.specs.Prelude.{◌≡◌, ℕ, ◌+◌, ◌<◌, [], Option, Some, None, Ok}
 use Rattle.ada_io.specs.declared.input.Holding.{Holding}
 use Rattle.ada_io.specs.declared.input.Holding.TheVariants.{Nothing, Symbol}
 use Rattle.ada_io.specs.declared.asking.Looked.{Looked}
 use Rattle.ada_io.specs.declared.asking.Looked.TheVariants.{At, ReadFault, Spent}
 use Rattle.ada_port.specs.Ports.{Stream, Takes, GivesUntil}
 
+-- the bytes that came, and one more where it is a byte
+abbrev pub came_with : ℕ → Option ℕ → ℕ
+came_with n None = n
+came_with n (Some b) = n + 1
+
 -- it is held
-pub record IsHeld (old new : Stream) (before now : ℕ) (held looked : Option ℕ) : Type 0 where
+pub record IsHeld (old new : Stream) (before now had has : ℕ) (held looked : Option ℕ) : Type 0 where
   pub source : new ≡ old
   pub took : now ≡ before
+  pub came : has ≡ had
   pub symbol : looked ≡ held
 
 -- the source was asked for it
-pub record IsAsked (old new : Stream) (turns before now : ℕ) (looked : Option ℕ) : Type 0 where
+pub record IsAsked (old new : Stream) (turns before now had has : ℕ) (looked : Option ℕ) : Type 0 where
   pub left : before < turns
   pub took : now ≡ before + 1
+  pub came : has ≡ came_with had looked
   pub takes : Takes old new (Ok looked)
 
 -- the source was asked, and failed
-pub record IsFault (old new : Stream) (turns before : ℕ) : Type 0 where
+pub record IsFault (old new : Stream) (turns before now had has : ℕ) : Type 0 where
   pub left : before < turns
+  pub took : now ≡ before + 1
+  pub came : has ≡ had
   pub fails : GivesUntil old new []
 
 -- the turns were spent before
-pub record IsSpent (old new : Stream) (turns before : ℕ) : Type 0 where
+pub record IsSpent (old new : Stream) (turns before now had has : ℕ) : Type 0 where
   pub source : new ≡ old
+  pub took : now ≡ before
+  pub came : has ≡ had
   pub spent : before ≡ turns
 
-abbrev pub Looks : Stream → Stream → Holding → ℕ → ℕ → ℕ → Looked → Type 0
-Looks old new (Symbol s) turns before now (At looked) = IsHeld old new before now s looked
-Looks old new (Symbol s) turns before now ReadFault = ⊥
-Looks old new (Symbol s) turns before now Spent = ⊥
-Looks old new Nothing turns before now (At looked) = IsAsked old new turns before now looked
-Looks old new Nothing turns before now ReadFault = IsFault old new turns before
-Looks old new Nothing turns before now Spent = IsSpent old new turns before
+abbrev pub Looks : Stream → Stream → Holding → ℕ → ℕ → ℕ → ℕ → ℕ → Looked → Type 0
+Looks old new (Symbol s) turns before now had has (At looked) = IsHeld old new before now had has s looked
+Looks old new (Symbol s) turns before now had has ReadFault = ⊥
+Looks old new (Symbol s) turns before now had has Spent = ⊥
+Looks old new Nothing turns before now had has (At looked) = IsAsked old new turns before now had has looked
+Looks old new Nothing turns before now had has ReadFault = IsFault old new turns before now had has
+Looks old new Nothing turns before now had has Spent = IsSpent old new turns before now had has

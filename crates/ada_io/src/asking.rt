@@ -17,9 +17,11 @@ pub(crate) fn look<S: Source>(
     source: &mut S,
     turns_left: u64,
     took: &mut u64,
+    came: &mut u64,
 ) -> Looked
-    requires { took.old ≤ turns_left }
-    ensures { Looks (S.state source.old) (S.state source.new) held turns_left took.old took.new result }
+    requires turns { took.old ≤ turns_left }
+    requires bytes { came.old ≤ took.old }
+    ensures { Looks (S.state source.old) (S.state source.new) held turns_left took.old took.new came.old came.new result }
 {
     if let Holding::Symbol(symbol) = held {
         return Looked::At(symbol);
@@ -29,7 +31,11 @@ pub(crate) fn look<S: Source>(
     }
     *took += 1;
     match source.next() {
-        Ok(symbol) => Looked::At(symbol),
+        Ok(Some(byte)) => {
+            *came += 1;
+            Looked::At(Some(byte))
+        }
+        Ok(None) => Looked::At(None),
         Err(_) => Looked::ReadFault,
     }
 }

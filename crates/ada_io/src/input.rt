@@ -8,17 +8,26 @@ use ada_base::Reason;
 use ada_port::Source;
 use std::marker::Model;
 
-/// How a Get ends (A.10.8). `took` is how often it asked the source, the asking that met the end too.
+/// How a Get ends (A.10.8).
 #[derive(Clone, Copy)]
 pub enum GetEnd {
     /// A value of Integer was read.
-    Number { value: i64, took: u64 },
+    Number { value: i64 },
     /// `EndError` where the input ended before a sign or digit, and else `DataError`.
-    Raise { reason: Reason, took: u64 },
+    Raise { reason: Reason },
     /// The source failed.
     ReadFault,
     /// All turns were taken and one more is needed.
     Spent,
+}
+
+/// What comes of a Get: how it ends, how often it asked the source, and how many bytes came. The asking that met the end of
+/// the input and one that failed count too.
+#[derive(Clone, Copy)]
+pub struct Got {
+    pub end: GetEnd,
+    pub took: u64,
+    pub came: u64,
 }
 
 // What a Get left for the next one: nothing, or the byte or end that it looked at last.
@@ -58,14 +67,15 @@ impl Reader {
     /// underscores between them. What ends the run is held for the next Get. Each asking of the source takes a turn. Once
     /// the end was met the source isn't asked again. `ReadFault` comes only where the source's count of faults rose, and
     /// `Spent` exactly where `turns_left` turns were taken and one more is needed; both leave what is held.
-    pub fn get<S: Source>(&mut self, source: &mut S, turns_left: u64) -> GetEnd
+    pub fn get<S: Source>(&mut self, source: &mut S, turns_left: u64) -> Got
         ensures { Gets (S.state source.old) (S.state source.new) self.old self.new turns_left result }
     {
         let mut phase = Phase::Blanks;
         let mut held = self.held;
         let mut took = 0;
+        let mut came = 0;
         loop {
-            match look(held, source, turns_left, &mut took) {
+            match look(held, source, turns_left, &mut took, &mut came) {
                 Looked::At(symbol) => match step(phase, symbol) {
                     Outcome::Asks(later) => {
                         phase = later;
@@ -73,15 +83,31 @@ impl Reader {
                     }
                     Outcome::Gives(value) => {
                         self.held = Holding::Symbol(symbol);
-                        return GetEnd::Number { value, took };
+                        return Got {
+                            end: GetEnd::Number { value },
+                            took,
+                            came,
+                        };
                     }
                     Outcome::Raises(reason) => {
                         self.held = Holding::Symbol(symbol);
-                        return GetEnd::Raise { reason, took };
+                        return Got {
+                            end: GetEnd::Raise { reason },
+                            took,
+                            came,
+                        };
                     }
                 },
-                Looked::ReadFault => return GetEnd::ReadFault,
-                Looked::Spent => return GetEnd::Spent,
+                Looked::ReadFault => return Got {
+                    end: GetEnd::ReadFault,
+                    took,
+                    came,
+                },
+                Looked::Spent => return Got {
+                    end: GetEnd::Spent,
+                    took,
+                    came,
+                },
             }
         }
     }

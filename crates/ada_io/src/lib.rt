@@ -7,4 +7,4 @@ pub mod input;
 mod phases;
 
 pub use images::{append_image, append_padded, image, padded, truth_image};
-pub use input::{GetEnd, Reader};
+pub use input::{GetEnd, Got, Reader};

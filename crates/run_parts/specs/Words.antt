@@ -1,9 +1,11 @@
 -- What is computed beside the walk over nodes.
-use Rattle.std.specs.Prelude.{ℕ, ℤ, int_le, ◌&&◌, Bool, true, List, [], ◌∷◌, slice_get, Option, Some, None, cond}
+use Rattle.std.specs.Prelude.{ℕ, ℤ, int_le, ◌&&◌, Bool, true, List, [], ◌∷◌, ◌++◌, slice_get, Option, Some, None, cond}
 use Rattle.ada_base.specs.Cuts.{One, cuts_of}
 use Rattle.ada_typed.specs.declared.program.Object.{Object}
 use Rattle.behaviours.specs.Paths.{Entity}
 use Rattle.ada_typed.specs.declared.node.Node.{Node}
+use Rattle.ada_typed.specs.declared.node.Leaf.{Leaf}
+use Rattle.ada_typed.specs.declared.node.Leaf.TheVariants as leaf
 use Rattle.ada_typed.specs.declared.scalars.Scalar.{Scalar}
 use Rattle.ada_typed.specs.declared.scalars.Check.{Check}
 use Rattle.ada_typed.specs.Programs.{program}
@@ -28,6 +30,11 @@ calls_of w d = meaning.call (ops w) w.limit (program w.typed.now) d
 
 abbrev pub cells_at : Work → ℕ → List Scalar
 cells_at w n = layout (program w.typed.now).subtypes n
+
+-- a text with a byte more, where the leaf is one
+abbrev pub text_with : List ℕ → Leaf → List ℕ
+text_with text (leaf.Byte b) = text ++ b ∷ []
+text_with text l = text
 
 abbrev pub turned : Work → Stored (Unit {0})
 turned w = meaning.turned (ops w)

@@ -9,6 +9,7 @@ pub mod finding;
 pub mod leaving;
 pub mod offsets;
 pub mod passed;
+pub mod pieces;
 pub mod work;
 
 pub use cells::{further, lay, one, placed, read_whole, turned, write_all, zeros};
@@ -18,4 +19,5 @@ pub use finding::{find_alternative, find_handler};
 pub use leaving::caught;
 pub use offsets::{component, moved};
 pub use passed::{Back, Passed, Returned, Shape, push};
+pub use pieces::{with_field, with_image, with_line, with_text};
 pub use work::Work;

@@ -1,5 +1,5 @@
 -- Cells of subtypes.
-use Rattle.std.proofs.Common.{◌≡◌, ℕ, zero, suc, ◌+◌, ◌-◌, ◌*◌, ◌≤◌, ℤ, List, ◌++◌, length, slice_get, refl, ap, sym, ◌∙◌, arith, append_assoc, length-append}
+use Rattle.std.proofs.Common.{◌≡◌, ℕ, zero, suc, ◌+◌, ◌-◌, ◌*◌, ◌≤◌, ℤ, List, [], ◌∷◌, ◌++◌, length, replicate, slice_get, refl, ap, sym, ◌∙◌, arith, append_assoc, length-append}
 use Rattle.std.proofs.lemmas.List.{map-append}
 use Rattle.ada_typed.specs.declared.scalars.Scalar.{Scalar}
 use Rattle.ada_typed.specs.Syntax.{Subtype}
@@ -28,3 +28,7 @@ pub repeated_more : (out out' whole : List ℤ) (n k : ℕ) (cs : List Scalar) �
 repeated_more out out' whole n k cs h e f =
     let m : n - k ≡ suc (n - (k + 1)) = omega arith in
     rw f (append_assoc out (defaults cs) (defaults (repeated (n - (k + 1)) cs)) ∙ (ap (λ z. out ++ z) (sym (defaults_both cs (repeated (n - (k + 1)) cs))) ∙ (rw m at e)))
+
+-- one slot more
+pub slots_more : {A : Type 0} (x : A) (vs ws : List A) (n k : ℕ) → suc k ≤ n → vs ++ replicate (n - k) x ≡ replicate n x → ws ≡ vs ++ x ∷ [] → ws ++ replicate (n - (k + 1)) x ≡ replicate n x
+slots_more x vs ws n k h e f = let m : n - k ≡ suc (n - (k + 1)) = omega arith in rw f (append_assoc vs (x ∷ []) (replicate (n - (k + 1)) x) ∙ (rw m at e))

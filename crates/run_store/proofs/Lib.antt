@@ -1,2 +1,4 @@
 pub mod Going
+pub mod StoredGet
+pub mod Getting
 pub mod Layouts

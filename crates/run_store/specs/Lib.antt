@@ -1,3 +1,4 @@
+pub mod Outside
 pub mod Shows
 pub mod Operating
 pub mod Environment

@@ -1,12 +1,45 @@
 -- Operators, as code goes through them.
-use Rattle.std.specs.Prelude.{ℕ, ℤ}
+use Rattle.std.specs.Prelude.{ℕ, ◌+◌, ℤ, Result, Ok, Err}
 use Rattle.ada_typed.specs.declared.scalars.Class.{Class}
 use Rattle.ada_typed.specs.declared.expressions.Sign.{Sign}
 use Rattle.ada_meaning.specs.Values.{unary}
 use Rattle.ada_meaning.specs.Meaning as meaning
 use Rattle.ada_base.specs.Cuts.{One, cuts_of}
-use Rattle.ada_stored.specs.Stored.{Stored, operations, bind, ret}
+use Rattle.ada_io.specs.declared.input.GetEnd.{GetEnd}
+use Rattle.ada_io.specs.declared.input.GetEnd.TheVariants as get
+use Rattle.ada_io.specs.declared.input.Got.{Got}
+use Rattle.ada_stored.specs.Stored.{Stored, operations, outset, bind, ret}
+use Rattle.run_store.specs.Outside.{Outside}
+use Rattle.run_store.specs.Shows.{Image}
+use Rattle.run_store.specs.declared.ends.End.{End}
+use Rattle.run_store.specs.declared.ends.End.TheVariants as end
+use Rattle.run_store.specs.declared.ends.Leave.TheVariants as leave
 
 -- a unary operator: its check, and its value
 abbrev pub unary_then : Sign → ℕ → Class → ℤ → Stored ℤ
 unary_then s at class v = bind (meaning.unary_checked (operations 0 (cuts_of One)) s at class (unary s v)) (λ _. ret (unary s v))
+
+-- ---- input
+
+-- a number is read (A.10.8)
+abbrev pub got : ℕ → Stored ℤ
+got limit = meaning.got (operations limit (cuts_of One)) limit
+
+abbrev pub number_of : GetEnd → Result ℤ End
+number_of (get.Number v) = Ok v
+number_of (get.Raise r) = Err (end.Left (leave.Raises r))
+number_of get.ReadFault = Err end.ReadFault
+number_of get.Spent = Err end.Spent
+
+-- the outside of a run, and the run after a number was read
+abbrev pub outside_of : Image → Outside
+outside_of s = record { held = s.state.held; coming = s.state.input; put = s.state.output; faults = s.faults }
+
+abbrev pub read_to : Image → Got → Outside → Image
+read_to s got o = record { state = record (s.state) { held = o.held; input = o.coming; turns = s.state.turns + got.took; taken = s.state.taken + got.came; output = o.put }; faults = o.faults }
+
+-- ---- the beginning
+
+-- where a run begins, with so many slots and this outside
+abbrev pub begins_at : ℕ → Outside → Image
+begins_at slots o = record { state = record (outset slots o.coming o.put) { held = o.held }; faults = o.faults }

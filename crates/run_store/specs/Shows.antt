@@ -3,12 +3,10 @@ use Rattle.std.specs.Prelude.{◌≡◌, ◌⊎◌, ℕ, ◌+◌, ◌-◌, ◌^�
 use Rattle.ada_base.specs.declared.reason.Reason.TheVariants as reason
 use Rattle.ada_stored.specs.declared.slots.Slot.{Slot}
 use Rattle.ada_stored.specs.declared.slots.Variable.{Variable}
-use Rattle.ada_base.specs.Input as values
+use Rattle.run_store.specs.Outside.{Faults, Risen}
 use Rattle.behaviours.specs.Paths as operations
 use Rattle.behaviours.specs.Paths.{Entity, VariableOf, ConstantOf, Region, Here, Everywhere}
 use Rattle.ada_stored.specs.Stored.{State, Stored, Left, OutOfTurns, MemoryFault, InputFault, OutputFault, Fault, Stops, at, key, slot_at, begun, has_room, declares}
-use Rattle.run_store.specs.declared.ends.Held.{Held}
-use Rattle.run_store.specs.declared.ends.Held.TheVariants as held
 use Rattle.run_store.specs.declared.ends.Mark.{Mark}
 use Rattle.run_store.specs.declared.ends.Leave.{Leave}
 use Rattle.run_store.specs.declared.ends.Leave.TheVariants as leave
@@ -16,47 +14,14 @@ use Rattle.run_store.specs.declared.ends.End.{End}
 use Rattle.run_store.specs.declared.ends.End.TheVariants as end
 use Rattle.run_store.specs.declared.ends.Object.{Object}
 use Rattle.run_store.specs.declared.ends.Object.TheVariants as object
-use Rattle.run_store.specs.declared.ends.Failed.{Failed}
 use Rattle.run_store.specs.declared.ends.Region as ends
 use Rattle.run_store.specs.declared.ends.Region.TheVariants as region
-
--- ---- what contracts see of the outside
-
--- how often the input and the output have failed, up to the greatest u64
-pub record Faults : Type 0 where
-  pub input : ℕ
-  pub output : ℕ
-
--- the bytes of input that are still to come, the bytes of output that were put, and the counts of faults
-pub record Outside : Type 0 where
-  pub coming : List ℕ
-  pub put : List ℕ
-  pub faults : Faults
-
--- a count rose: it is greater than before, or stands at the greatest u64
-abbrev pub Risen : ℕ → ℕ → Type 0
-Risen old new = (old ≤ new) × (min (old + 1) (2 ^ 64 - 1) ≤ new)
-
--- a byte of input was asked for
-abbrev pub Asked : Type 0 → Result (Option ℕ) Failed → Outside → Outside → Type 0
-Asked Tells (Ok (Some b)) s t = (t.faults ≡ s.faults) × (Tells → (s.coming ≡ b ∷ t.coming) × (t.put ≡ s.put))
-Asked Tells (Ok None) s t = (t.faults ≡ s.faults) × (Tells → (s.coming ≡ []) × (t.coming ≡ []) × (t.put ≡ s.put))
-Asked Tells (Err e) s t = (Risen s.faults.input t.faults.input × (t.faults.output ≡ s.faults.output)) × (Tells → (t.coming ≡ s.coming) × (t.put ≡ s.put))
-
--- a piece of output was put
-abbrev pub HasPut : Type 0 → List ℕ → Result (Unit {0}) Failed → Outside → Outside → Type 0
-HasPut Tells piece (Ok u) s t = (t.faults ≡ s.faults) × (Tells → (t.coming ≡ s.coming) × (t.put ≡ s.put ++ piece))
-HasPut Tells piece (Err e) s t = ((t.faults.input ≡ s.faults.input) × Risen s.faults.output t.faults.output) × (Tells → (t.coming ≡ s.coming) × ((passed : List ℕ) × (rest : List ℕ) × (piece ≡ passed ++ rest) × (t.put ≡ s.put ++ passed)))
 
 -- ---- the state of a run, and how often the outside has failed
 
 pub record Image : Type 0 where
   pub state : State
   pub faults : Faults
-
-abbrev pub held_of : Held → values.Held
-held_of held.Nothing = values.Nothing
-held_of (held.Symbol s) = values.Symbol s
 
 abbrev pub leave_of : Leave → operations.Leave
 leave_of (leave.Exits n) = operations.Exits n

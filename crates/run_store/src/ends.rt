@@ -7,10 +7,6 @@ ghost use Rattle.run_store.specs.Shows.{entity_of};
 use ada_base::Reason;
 use ada_stored::Slot;
 
-/// A device failed.
-#[derive(Clone, Copy)]
-pub struct Failed;
-
 /// How a statement is left (5.7, 6.5, 11.3).
 #[derive(Clone, Copy)]
 pub enum Leave {
@@ -49,13 +45,6 @@ impl Object {
             Object::Constant(number) => number as usize * 2 + 1,
         }
     }
-}
-
-/// What a Get left of the input for the next one: a byte or the end.
-#[derive(Clone, Copy)]
-pub enum Held {
-    Nothing,
-    Symbol(Option<u8>),
 }
 
 /// Where an object is visible: in all subprograms too, or in its own text alone.

@@ -8,9 +8,9 @@ pub mod store;
 pub mod subtypes;
 pub mod values;
 
-pub use ends::{End, Failed, Held, Leave, Mark, Object, Region};
+pub use ends::{End, Leave, Mark, Object, Region};
 pub use env::{Env, Part};
-pub use outside::Port;
+pub use outside::{Port, Ports};
 pub use store::Store;
 pub use subtypes::{cells_of, defaults_of};
 pub use values::{Range, between, bit, compares, count, downward, is_in, is_true, upward};

@@ -1,14 +1,17 @@
 //! The state of a run.
 
-ghost use Rattle.std.specs.Prelude.{◌≡◌, ◌<◌, ◌*◌, ◌+◌, length, slice_get, slice_set, Ok};
+ghost use Rattle.std.specs.Prelude.{◌≡◌, ◌<◌, ◌*◌, ◌+◌, length, replicate, slice_get, slice_set, IfOk, Ok};
 ghost use Rattle.ada_stored.specs.Stored as spec;
 ghost use Rattle.behaviours.specs.Paths as spec';
-ghost use Rattle.run_store.specs.Shows.{Shows, Does, held_of, entity_of, region_of, Enters, unframed, Begins, Declares, finished, IsCell, IsSet};
+ghost use Rattle.run_store.specs.Operating.{begins_at, got, number_of, outside_of};
+ghost use Rattle.run_store.specs.Shows.{Shows, Does, entity_of, region_of, Enters, unframed, Begins, Declares, finished, IsCell, IsSet};
 
-use crate::ends::{End, Held, Leave, Mark, Object, Region};
+use crate::ends::{End, Leave, Mark, Object, Region};
 use crate::outside::Port;
 use ada_base::{Items, Reason};
+use ada_io::GetEnd;
 use ada_stored::{Slot, Variable};
+use std::alloc::{AllocError, Global};
 use std::marker::Model;
 
 /// The cells of objects, where they are, what a run counts, and the outside.
@@ -21,17 +24,16 @@ pub struct Store<P: Port + Drop> {
     frame: u64,
     turns: u64,
     taken: u64,
-    held: Held,
     declared: Items<Variable>,
     port: P,
 }
 
 impl<P: Port + Drop> Model for Store<P> {
-    ghost use Rattle.run_store.specs.Shows.{Image, held_of};
+    ghost use Rattle.run_store.specs.Shows.{Image};
 
     ghost Value = { Image };
 
-    ghost view = { λ s. record { state = record { cells = s.cells; kept = s.kept; here = s.here; everywhere = s.everywhere; frame = s.frame; turns = s.turns; taken = s.taken; held = held_of s.held; input = (P.outside s.port).coming; output = (P.outside s.port).put; declared = s.declared }; faults = (P.outside s.port).faults } };
+    ghost view = { λ s. record { state = record { cells = s.cells; kept = s.kept; here = s.here; everywhere = s.everywhere; frame = s.frame; turns = s.turns; taken = s.taken; held = (P.outside s.port).held; input = (P.outside s.port).coming; output = (P.outside s.port).put; declared = s.declared }; faults = (P.outside s.port).faults } };
 }
 
 /// The slot at a key, or none.
@@ -48,7 +50,49 @@ fn slot_at(slots: &Items<Slot>, key: usize) -> Slot
     }
 }
 
+// so many slots, none of which is anything's
+fn no_slots(alloc: Global, count: usize) -> Result<Items<Slot>, AllocError>
+    ensures { IfOk result (λ slots. slots ≡ replicate count spec.no_slot) }
+{
+    let mut slots = Items::new(alloc);
+    for _k in 0..count {
+        slots.push(Slot {
+            frame: 0,
+            address: 0,
+            cells: 0,
+        })?;
+    }
+    Ok(slots)
+}
+
 impl<P: Port + Drop> Store<P> {
+    /// Where a run begins: no object has cells, and each table has so many slots, two for every object. An Err is want of
+    /// memory.
+    pub fn new(alloc: Global, slots: usize, port: P) -> Result<Store<P>, AllocError>
+        ensures { IfOk result (λ store. store ≡ begins_at slots (P.outside port)) }
+    {
+        let here = no_slots(alloc, slots)?;
+        let everywhere = no_slots(alloc, slots)?;
+        Ok(Store {
+            cells: Items::new(alloc),
+            kept: Items::new(alloc),
+            here,
+            everywhere,
+            frame: 1,
+            turns: 0,
+            taken: 0,
+            declared: Items::new(alloc),
+            port,
+        })
+    }
+
+    /// The outside, as the run left it.
+    pub fn into_port(self) -> P
+        ensures { P.outside result ≡ outside_of self }
+    {
+        self.port
+    }
+
     /// An iteration or a call begins.
     #[tactic(auto, unfolding(ada_stored::specs::Stored::turn))]
     pub fn turn(&mut self, limit: u64) -> Result<(), End>
@@ -115,38 +159,20 @@ impl<P: Port + Drop> Store<P> {
         self.turns
     }
 
-    /// What the last Get left.
-    #[tactic(auto, unfolding(ada_stored::specs::Stored::recalls))]
-    pub fn recall(&self) -> Held
-        ensures { (spec.recalls).does self.now.state ≡ spec.at self.now.state (Ok (held_of result)) }
+    /// A number that is read (A.10.8).
+    pub fn get(&mut self, limit: u64) -> Result<i64, End>
+        ensures { Shows P.Tells (got limit) result self.old self.new }
     {
-        self.held
-    }
-
-    /// Leaves something for the next Get.
-    #[tactic(auto, unfolding(ada_stored::specs::Stored::keeps))]
-    pub fn keep(&mut self, held: Held)
-        ensures { Does P.Tells (spec.keeps (held_of held)) self.old self.new }
-    {
-        self.held = held;
-    }
-
-    /// The next byte of input, or None where there is none.
-    #[tactic(auto, unfolding(ada_stored::specs::Stored::takes))]
-    pub fn take(&mut self) -> Result<Option<u8>, End>
-        ensures { Shows P.Tells spec.takes result self.old self.new }
-    {
-        let Some(taken) = self.taken.checked_add(1) else {
+        let Some(left) = limit.checked_sub(self.turns) else {
             return Err(End::NoMemory);
         };
-        match self.port.next() {
-            Ok(Some(byte)) => {
-                self.taken = taken;
-                Ok(Some(byte))
-            }
-            Ok(None) => Ok(None),
-            Err(_) => Err(End::ReadFault),
+        if self.taken.checked_add(left).is_none() {
+            return Err(End::NoMemory);
         }
+        let got = self.port.get(left);
+        self.turns += got.took;
+        self.taken += got.came;
+        number_of(got.end)
     }
 
     /// A frame of its own for a subprogram's objects. It gives the frame before.
@@ -258,6 +284,17 @@ impl<P: Port + Drop> Store<P> {
             Ok(()) => Ok(()),
             Err(_) => Err(End::WriteFault),
         }
+    }
+}
+
+fn number_of(end: GetEnd) -> Result<i64, End>
+    ensures { result ≡ number_of end }
+{
+    match end {
+        GetEnd::Number { value } => Ok(value),
+        GetEnd::Raise { reason } => Err(End::Left(Leave::Raises(reason))),
+        GetEnd::ReadFault => Err(End::ReadFault),
+        GetEnd::Spent => Err(End::Spent),
     }
 }
 

@@ -1,14 +1,15 @@
 use ada_base::{Items, Reason};
-use ada_io::{GetEnd, Reader, append_image, append_padded, image, padded, truth_image};
+use ada_io::{GetEnd, Got, Reader, append_image, append_padded, image, padded, truth_image};
 use ada_port::MemSource;
 use std::alloc::{AllocError, Global};
 use std::test::Fail;
 
 // The value or what else came of a Get, and how many turns it took.
-fn shown(alloc: Global, end: GetEnd) -> Result<String, AllocError> {
-    match end {
-        GetEnd::Number { value, took } => format!(in alloc; "{value}:{took} "),
-        GetEnd::Raise { reason, took } => match reason {
+fn shown(alloc: Global, got: Got) -> Result<String, AllocError> {
+    let took = got.took;
+    match got.end {
+        GetEnd::Number { value } => format!(in alloc; "{value}:{took} "),
+        GetEnd::Raise { reason } => match reason {
             Reason::DataError => format!(in alloc; "data:{took} "),
             Reason::EndError => format!(in alloc; "end:{took} "),
             _ => format!(in alloc; "other:{took} "),

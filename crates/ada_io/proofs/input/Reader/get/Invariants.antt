@@ -1,4 +1,4 @@
-use Rattle.std.proofs.Common.{◌≡◌, ◌-◌, ◌+◌, ℕ}
+use Rattle.std.proofs.Common.{◌≡◌, ◌≤◌, ◌-◌, ◌+◌, ℕ}
 use Rattle.ada_io.specs.declared.input.Holding.{Holding}
 use Rattle.ada_io.specs.declared.input.Holding.TheVariants.{Nothing, Symbol}
 use Rattle.ada_io.proofs.Reaches.{Going}
@@ -10,7 +10,7 @@ left_of Nothing = 0
 left_of (Symbol s) = 1
 
 abbrev pub invariant-loop-symbol : goal.invariant-loop-symbol
-invariant-loop-symbol g l = (l.self-inside.held ≡ l.initial.self-inside.held) × Going (g.S.Source.state l.initial.source) (g.S.Source.state l.source) l.initial.self-inside.held l.turns_left l.took l.phase l.held
+invariant-loop-symbol g l = (l.self-inside.held ≡ l.initial.self-inside.held) × Going (g.S.Source.state l.initial.source) (g.S.Source.state l.source) l.initial.self-inside.held l.turns_left l.took l.came l.phase l.held × (l.came ≤ l.took)
 
 abbrev pub decreases-loop-symbol : goal.decreases-loop-symbol
 decreases-loop-symbol g l = l.turns_left - l.took + left_of l.held

@@ -1,0 +1,122 @@
+use Rattle.std.proofs.Common.{rules, arith, ◌≡◌, suc, ◌-◌, ◌+◌, ◌<◌, ◌≤◌, subst, sym, refl, Ok, Err, ◌∙◌, to_z, of_z, w64}
+use Rattle.ada_typed.specs.Decoded.{stmts_at, stmt_at, optional_at, iteration_at, value_at, decls_at, handlers_at, body_at, expr_at, alternatives_at, actuals_at, selections_at}
+use Rattle.ada_typed.specs.Programs.{sub_of}
+use Rattle.behaviours.specs.Paths as paths
+use Rattle.run_store.specs.Environment.{env_of, part_of}
+use Rattle.run_store.specs.Shows.{region_of}
+use Rattle.run_parts.specs.Passing.{course_of, passed_list}
+use Rattle.run_parts.specs.Caught.{caught}
+use Rattle.run_parts.proofs.Stepping.{next_fails}
+use Rattle.run_store.proofs.Going.{then_shows}
+use Rattle.run_parts.specs.Words.{nodes_of}
+use Rattle.ada_interpreter.specs.Walk.{exec_all, while_loop, for_loop, course, in_loop, run_values}
+use Rattle.ada_interpreter.proofs.Looping.{while_begins, run_begins, all_step, all_ends, all_done, while_test_ends, while_stops, while_turn_ends, while_body_ends, while_step, while_spent, for_step, for_ends, for_done, for_begins, run_step, run_ends, run_done}
+use Rattle.ada_interpreter.proofs.Scoping.{body_as, call_ends, call_step, called_more, called_fails, formals_none, formals_more, formals_fails, default_more, default_fails, variable_ends, variable_more, variable_fails, constant_ends, constant_more, constant_fails}
+use Rattle.ada_interpreter.proofs.Handling.{caught_shows, chosen_some, chosen_none, guarded_other, guarded_some, guarded_none, alternative_some, alternative_none}
+use Rattle.ada_interpreter.proofs.Forms.{index_as, in_out_as, in_out_ends, in_out_on, range_holds, number_ends, get_on}
+use Rattle.ada_interpreter.proofs.+walk.Goals as goal
+
+pub stmts::exec_all-returns-in_err-exec : goal.stmts::exec_all-returns-in_err-exec
+stmts::exec_all-returns-in_err-exec g t c = all_ends (exec_all c.args.work.now c.args.calls (stmts_at (nodes_of c.args.work.now) c.args.id) (env_of c.args.env.now)) c.args.store.now c.loop-cell.store c.exec.new.store c.args.work.now c.args.calls (env_of c.args.env.now) (stmts_at (nodes_of c.args.work.now) c.loop-cell.at) (stmt_at (nodes_of c.args.work.now) c.in-Some.cell.first) (stmts_at (nodes_of c.args.work.now) c.in-Some.cell.rest) (search rules) c.loop-cell.invariant.on c.in_err-exec.field-0.0 _ (search rules) c.in_err-exec.ensures
+
+pub stmts::exec_all-loop-cell-preserved : goal.stmts::exec_all-loop-cell-preserved
+stmts::exec_all-loop-cell-preserved g t c = record { below = omega (arith, c.in-Some.ensures.below.1); on = all_step (exec_all c.args.work.now c.args.calls (stmts_at (nodes_of c.args.work.now) c.args.id) (env_of c.args.env.now)) c.args.store.now c.loop-cell.store c.exec.new.store c.args.work.now c.args.calls (env_of c.args.env.now) (stmts_at (nodes_of c.args.work.now) c.loop-cell.at) (stmt_at (nodes_of c.args.work.now) c.in-Some.cell.first) (stmts_at (nodes_of c.args.work.now) c.in-Some.cell.rest) (search rules) c.loop-cell.invariant.on c.in_ok-exec.ensures }
+
+pub stmts::exec_all-returns : goal.stmts::exec_all-returns
+stmts::exec_all-returns g t c = all_done (exec_all c.args.work.now c.args.calls (stmts_at (nodes_of c.args.work.now) c.args.id) (env_of c.args.env.now)) c.args.store.now c.loop-cell.store c.args.work.now c.args.calls (env_of c.args.env.now) (stmts_at (nodes_of c.args.work.now) c.loop-cell.at) (search rules) c.loop-cell.invariant.on
+
+pub loops::for_loop-loop-i-init : goal.loops::for_loop-loop-i-init
+loops::for_loop-loop-i-init g t c = record { counted = search rules; on = for_begins c.args.store.now c.args.work.now c.args.calls (course_of c.args.course) (iteration_at (nodes_of c.args.work.now) c.args.iteration) (stmts_at (nodes_of c.args.work.now) c.args.stmts) (env_of c.args.env.now) }
+
+pub loops::for_loop-returns-in_err-iterate : goal.loops::for_loop-returns-in_err-iterate
+loops::for_loop-returns-in_err-iterate g t c = for_ends (for_loop c.args.work.now c.args.calls (course_of c.args.course) (iteration_at (nodes_of c.args.work.now) c.args.iteration) (stmts_at (nodes_of c.args.work.now) c.args.stmts) (env_of c.args.env.now)) c.args.store.now c.loop-i.store c.iterate.new.store c.args.work.now c.args.calls c.loop-i.i (course_of c.args.course) (iteration_at (nodes_of c.args.work.now) c.args.iteration) (stmts_at (nodes_of c.args.work.now) c.args.stmts) (env_of c.args.env.now) (subst (λ z. c.loop-i.i < z) c.loop-i.invariant.counted c.loop-i-test.true) c.loop-i.invariant.on c.in_err-iterate.field-0.0 _ (search rules) c.in_err-iterate.ensures
+
+pub calls::called-returns-in_ok-before-in-Some : goal.calls::called-returns-in_ok-before-in-Some
+calls::called-returns-in_ok-before-in-Some g t c = rw c.leave.ensures (called_more c.args.work.now c.args.calls c.args.number c.args.nested (passed_list c.args.work.now c.args.passed.now) (sub_of (nodes_of c.args.work.now) c.in-Some.sub) (search rules) c.in_ok-before-in-Some.before c.with_formals-result.result c.args.store.now c.enter.new.self c.with_formals-result.new.store c.in_ok-before-in-Some.ensures c.with_formals-result.ensures)
+
+pub calls::with_formals-returns-in_ok-mark-in-Some : goal.calls::with_formals-returns-in_ok-mark-in-Some
+calls::with_formals-returns-in_ok-mark-in-Some g t c = rw c.end.ensures (formals_more c.args.work.now c.args.calls c.args.nested (sub_of (nodes_of c.args.work.now) c.args.sub) (passed_list c.args.work.now c.args.all.now) c.in-Some.first.now c.in-Some.others.now c.args.rest.now (search rules) c.in_ok-mark-in-Some.mark c.with_formals-result.result c.args.store.now c.begin.new.self c.with_formals-result.new.store (rw c.as_slice.ensures at c.in_ok-mark-in-Some.ensures) c.with_formals-result.ensures)
+
+pub bodies::block-returns-in_ok-mark-in-Some-Default : goal.bodies::block-returns-in_ok-mark-in-Some-Default
+bodies::block-returns-in_ok-mark-in-Some-Default g t c = rw c.end.ensures (default_more c.args.work.now c.args.calls (region_of c.args.region) (stmts_at (nodes_of c.args.work.now) c.args.stmts) (handlers_at (nodes_of c.args.work.now) c.args.handlers) (env_of c.args.env.now) (decls_at (nodes_of c.args.work.now) c.args.decls) (decls_at (nodes_of c.args.work.now) c.in-Some.cell.rest) c.in-Some-Default.object (search rules) c.in_ok-values-in-Some-Default.values c.in_ok-values-in-Some-Default.ensures c.in_ok-mark-in-Some-Default.mark c.block-result.result c.args.store.now c.begin.new.self c.block-result.new.store (rw c.as_slice.ensures at c.in_ok-mark-in-Some-Default.ensures) c.block-result.ensures)
+
+pub bodies::block-returns-in_ok-mark-in-Some-Variable : goal.bodies::block-returns-in_ok-mark-in-Some-Variable
+bodies::block-returns-in_ok-mark-in-Some-Variable g t c = rw c.end-in-Some-Variable.ensures (variable_more c.args.work.now c.args.calls (region_of c.args.region) (stmts_at (nodes_of c.args.work.now) c.args.stmts) (handlers_at (nodes_of c.args.work.now) c.args.handlers) (env_of c.args.env.now) (decls_at (nodes_of c.args.work.now) c.args.decls) (decls_at (nodes_of c.args.work.now) c.in-Some.cell.rest) c.in-Some-Variable.object (value_at (nodes_of c.args.work.now) c.in-Some-Variable.initial) (search rules) c.in_ok-values-in-Some-Variable.values c.in_ok-mark-in-Some-Variable.mark c.block-result-in-Some-Variable.result c.args.store.now c.cells.new.store c.begin-in-Some-Variable.new.self c.block-result-in-Some-Variable.new.store c.in_ok-values-in-Some-Variable.ensures (rw c.as_slice-in-Some-Variable.ensures at c.in_ok-mark-in-Some-Variable.ensures) c.block-result-in-Some-Variable.ensures)
+
+pub bodies::block-returns-in_ok-mark-in-Some-Constant : goal.bodies::block-returns-in_ok-mark-in-Some-Constant
+bodies::block-returns-in_ok-mark-in-Some-Constant g t c = rw c.end-in-Some-Constant.ensures (constant_more c.args.work.now c.args.calls (region_of c.args.region) (stmts_at (nodes_of c.args.work.now) c.args.stmts) (handlers_at (nodes_of c.args.work.now) c.args.handlers) (env_of c.args.env.now) (decls_at (nodes_of c.args.work.now) c.args.decls) (decls_at (nodes_of c.args.work.now) c.in-Some.cell.rest) c.in-Some-Constant.object (value_at (nodes_of c.args.work.now) c.in-Some-Constant.initial) (search rules) c.in_ok-values-in-Some-Constant.values c.in_ok-mark-in-Some-Constant.mark c.block-result-in-Some-Constant.result c.args.store.now c.cells-in-Some-Constant.new.store c.begin-in-Some-Constant.new.self c.block-result-in-Some-Constant.new.store c.in_ok-values-in-Some-Constant.ensures (rw c.as_slice-in-Some-Constant.ensures at c.in_ok-mark-in-Some-Constant.ensures) c.block-result-in-Some-Constant.ensures)
+
+pub bodies::body-returns-in_err-block-in-Some : goal.bodies::body-returns-in_err-block-in-Some
+bodies::body-returns-in_err-block-in-Some g t c = body_as c.args.work.now c.args.calls (body_at (nodes_of c.args.work.now) c.args.id) (decls_at (nodes_of c.args.work.now) c.in-Some.parts.decls) (stmts_at (nodes_of c.args.work.now) c.in-Some.parts.stmts) (handlers_at (nodes_of c.args.work.now) c.in-Some.parts.handlers) (region_of c.args.region) (env_of c.args.env.now) c.from_residual.result c.args.store.now c.block.new.store (search rules) (search rules)
+
+pub bodies::body-returns-in_ok-block-in-Some : goal.bodies::body-returns-in_ok-block-in-Some
+bodies::body-returns-in_ok-block-in-Some g t c = body_as c.args.work.now c.args.calls (body_at (nodes_of c.args.work.now) c.args.id) (decls_at (nodes_of c.args.work.now) c.in-Some.parts.decls) (stmts_at (nodes_of c.args.work.now) c.in-Some.parts.stmts) (handlers_at (nodes_of c.args.work.now) c.in-Some.parts.handlers) (region_of c.args.region) (env_of c.args.env.now) (Ok tt) c.args.store.now c.block.new.store (search rules) (search rules)
+
+pub bodies::guarded-returns-in-None : goal.bodies::guarded-returns-in-None
+bodies::guarded-returns-in-None g t c = guarded_none c.args.work.now c.args.calls (stmts_at (nodes_of c.args.work.now) c.args.stmts) (handlers_at (nodes_of c.args.work.now) c.args.handlers) (env_of c.args.env.now) c.args.store.now c.exec_all.new.store c.in-Err-Left-Raises.reason (search rules) (search rules)
+
+pub bodies::guarded-returns-in-Some : goal.bodies::guarded-returns-in-Some
+bodies::guarded-returns-in-Some g t c = guarded_some c.args.work.now c.args.calls (stmts_at (nodes_of c.args.work.now) c.args.stmts) (handlers_at (nodes_of c.args.work.now) c.args.handlers) (env_of c.args.env.now) c.args.store.now c.exec_all.new.store c.in-Err-Left-Raises.reason (stmts_at (nodes_of c.args.work.now) c.in-Some.found) c.exec_all-in-Some.result c.exec_all-in-Some.new.store (search rules) (search rules) c.exec_all-in-Some.ensures
+
+pub calls::call-returns-in_err-turned : goal.calls::call-returns-in_err-turned
+calls::call-returns-in_err-turned g t c = call_ends c.args.work.now c.args.nested c.args.sub (passed_list c.args.work.now c.args.passed.now) c.args.store.now c.turned.new.store c.args.calls c.in_err-turned.field-0.0 _ (search rules) c.in_err-turned.ensures
+
+pub calls::call-returns-in_err-returned : goal.calls::call-returns-in_err-returned
+calls::call-returns-in_err-returned g t c = call_step c.args.work.now c.args.nested c.args.sub (passed_list c.args.work.now c.args.passed.now) c.args.store.now c.turned.new.store c.args.calls c.from_residual-in_err-returned.result c.called.new.store (omega arith) c.in_ok-turned.ensures (search rules)
+
+pub calls::call-returns-in_ok-returned : goal.calls::call-returns-in_ok-returned
+calls::call-returns-in_ok-returned g t c = call_step c.args.work.now c.args.nested c.args.sub (passed_list c.args.work.now c.args.passed.now) c.args.store.now c.turned.new.store c.args.calls (Ok c.in_ok-returned.returned) c.called.new.store (omega arith) c.in_ok-turned.ensures c.in_ok-returned.ensures
+
+pub loops::while_loop-loop-turn-init : goal.loops::while_loop-loop-turn-init
+loops::while_loop-loop-turn-init g t c = while_begins c.args.store.now c.args.work.now c.args.calls (optional_at (nodes_of c.args.work.now) c.args.condition) (stmts_at (nodes_of c.args.work.now) c.args.stmts) (env_of c.args.env.now)
+
+pub loops::while_stmt-returns : goal.loops::while_stmt-returns
+loops::while_stmt-returns g t c = rw c.caught.ensures (caught_shows c.args.work.now c.args.calls c.args.number (while_loop c.args.work.now c.args.calls (optional_at (nodes_of c.args.work.now) c.args.condition) (stmts_at (nodes_of c.args.work.now) c.args.stmts) (env_of c.args.env.now)) c.args.store.now c.while_loop-how.new.store c.while_loop-how.result c.while_loop-how.ensures)
+
+pub loops::for_stmt-returns : goal.loops::for_stmt-returns
+loops::for_stmt-returns g t c = rw c.caught.ensures (then_shows course_of (λ a. a) (course c.args.work.now c.args.calls (iteration_at (nodes_of c.args.work.now) c.args.iteration) (env_of c.args.env.now)) (λ k. in_loop c.args.work.now c.args.calls c.args.number (for_loop c.args.work.now c.args.calls k (iteration_at (nodes_of c.args.work.now) c.args.iteration) (stmts_at (nodes_of c.args.work.now) c.args.stmts) (env_of c.args.env.now))) c.args.store.now c.begin_course.new.store c.for_loop-how.new.store c.in_ok-course.course (caught c.args.number c.for_loop-how.result) c.in_ok-course.ensures (caught_shows c.args.work.now c.args.calls c.args.number (for_loop c.args.work.now c.args.calls (course_of c.in_ok-course.course) (iteration_at (nodes_of c.args.work.now) c.args.iteration) (stmts_at (nodes_of c.args.work.now) c.args.stmts) (env_of c.args.env.now)) c.begin_course.new.store c.for_loop-how.new.store c.for_loop-how.result c.for_loop-how.ensures))
+
+pub stmts::chosen-returns-in-None : goal.stmts::chosen-returns-in-None
+stmts::chosen-returns-in-None g t c = chosen_none c.args.work.now c.args.calls (env_of c.args.env.now) (expr_at (nodes_of c.args.work.now) c.args.value) (alternatives_at (nodes_of c.args.work.now) c.args.alternatives) c.in_ok-v.v c.args.store.now c.eval.new.store c.in_ok-v.ensures (search rules)
+
+pub stmts::chosen-returns-in_err-exec_all-in-Some : goal.stmts::chosen-returns-in_err-exec_all-in-Some
+stmts::chosen-returns-in_err-exec_all-in-Some g t c = chosen_some c.args.work.now c.args.calls (env_of c.args.env.now) (expr_at (nodes_of c.args.work.now) c.args.value) (alternatives_at (nodes_of c.args.work.now) c.args.alternatives) c.in_ok-v.v c.args.store.now c.eval.new.store c.in_ok-v.ensures (stmts_at (nodes_of c.args.work.now) c.in-Some.stmts) c.from_residual-in_err-exec_all-in-Some.result c.exec_all.new.store (search rules) (search rules)
+
+pub stmts::chosen-returns-in_ok-exec_all-in-Some : goal.stmts::chosen-returns-in_ok-exec_all-in-Some
+stmts::chosen-returns-in_ok-exec_all-in-Some g t c = chosen_some c.args.work.now c.args.calls (env_of c.args.env.now) (expr_at (nodes_of c.args.work.now) c.args.value) (alternatives_at (nodes_of c.args.work.now) c.args.alternatives) c.in_ok-v.v c.args.store.now c.eval.new.store c.in_ok-v.ensures (stmts_at (nodes_of c.args.work.now) c.in-Some.stmts) (Ok tt) c.exec_all.new.store (search rules) (search rules)
+
+pub values::run_values-loop-k-init : goal.values::run_values-loop-k-init
+values::run_values-loop-k-init g t c = run_begins c.args.store.now c.args.work.now c.args.calls c.args.run.count c.args.run.first c.args.run.stride c.args.iterated (value_at (nodes_of c.args.work.now) c.args.value) (env_of c.args.env.now) c.args.out
+
+pub values::run_values-returns-in_err-values : goal.values::run_values-returns-in_err-values
+values::run_values-returns-in_err-values g t c = run_ends (run_values c.args.work.now c.args.calls 0 c.args.run.count c.args.run.first c.args.run.stride c.args.iterated (value_at (nodes_of c.args.work.now) c.args.value) (env_of c.args.env.now) c.args.out) c.args.store.now c.loop-k.store c.given.new.store c.args.work.now c.args.calls c.loop-k.k c.args.run.count c.loop-k.first c.args.run.stride c.args.iterated (value_at (nodes_of c.args.work.now) c.args.value) (env_of c.args.env.now) c.loop-k.cells (omega arith) c.loop-k.invariant c.in_err-values.field-0.0 _ (search rules) c.in_err-values.ensures
+
+pub values::run_values-loop-k-preserved : goal.values::run_values-loop-k-preserved
+values::run_values-loop-k-preserved g t c = run_step (run_values c.args.work.now c.args.calls 0 c.args.run.count c.args.run.first c.args.run.stride c.args.iterated (value_at (nodes_of c.args.work.now) c.args.value) (env_of c.args.env.now) c.args.out) c.args.store.now c.loop-k.store c.given.new.store c.args.work.now c.args.calls c.loop-k.k c.args.run.count c.loop-k.first c.args.run.stride c.args.iterated (value_at (nodes_of c.args.work.now) c.args.value) (env_of c.args.env.now) c.loop-k.cells (omega arith) c.loop-k.invariant c.in_ok-values.values c.lay.new.out c.in_ok-first.first c.in_ok-values.ensures (search rules) (search rules)
+
+pub values::run_values-returns : goal.values::run_values-returns
+values::run_values-returns g t c = run_done (run_values c.args.work.now c.args.calls 0 c.args.run.count c.args.run.first c.args.run.stride c.args.iterated (value_at (nodes_of c.args.work.now) c.args.value) (env_of c.args.env.now) c.args.out) c.args.store.now c.loop-k.store c.args.work.now c.args.calls c.loop-k.k c.args.run.count c.loop-k.first c.args.run.stride c.args.iterated (value_at (nodes_of c.args.work.now) c.args.value) (env_of c.args.env.now) c.loop-k.cells (omega arith) c.loop-k.invariant
+
+pub values::run_values-returns-in_err-first : goal.values::run_values-returns-in_err-first
+values::run_values-returns-in_err-first g t c = next_fails (λ next. next ≡ c.loop-k.first + c.args.run.stride) (run_values c.args.work.now c.args.calls 0 c.args.run.count c.args.run.first c.args.run.stride c.args.iterated (value_at (nodes_of c.args.work.now) c.args.value) (env_of c.args.env.now) c.args.out) (run_values c.args.work.now c.args.calls (c.loop-k.k + 1) (c.args.run.count - (c.loop-k.k + 1)) (c.loop-k.first + c.args.run.stride) c.args.run.stride c.args.iterated (value_at (nodes_of c.args.work.now) c.args.value) (env_of c.args.env.now) c.lay.new.out) c.args.store.now c.given.new.store _ c.in_err-first.field-0.0 (search rules) c.in_err-first.ensures (run_step (run_values c.args.work.now c.args.calls 0 c.args.run.count c.args.run.first c.args.run.stride c.args.iterated (value_at (nodes_of c.args.work.now) c.args.value) (env_of c.args.env.now) c.args.out) c.args.store.now c.loop-k.store c.given.new.store c.args.work.now c.args.calls c.loop-k.k c.args.run.count c.loop-k.first c.args.run.stride c.args.iterated (value_at (nodes_of c.args.work.now) c.args.value) (env_of c.args.env.now) c.loop-k.cells (omega arith) c.loop-k.invariant c.in_ok-values.values c.lay.new.out (c.loop-k.first + c.args.run.stride) c.in_ok-values.ensures (search rules) refl)
+
+pub names::select-returns-in-Some-Index : goal.names::select-returns-in-Some-Index
+names::select-returns-in-Some-Index g t c = index_as c.args.work.now c.args.calls (env_of c.args.env.now) c.args.store.now c.index.new.store c.in-Some-Index.at (expr_at (nodes_of c.args.work.now) c.in-Some-Index.value) c.in-Some-Index.low c.in-Some-Index.high _ _ c.in-Some-Index.stride (selections_at (nodes_of c.args.work.now) c.in-Some.cell.rest) (selections_at (nodes_of c.args.work.now) c.args.id) (part_of c.args.part) c.index.result c.index.ensures (search rules) (search rules) (search rules)
+
+pub actuals::pass-returns-in_err-all-in-Some-InOut : goal.actuals::pass-returns-in_err-all-in-Some-InOut
+actuals::pass-returns-in_err-all-in-Some-InOut g t c = in_out_ends c.args.work.now c.args.calls (env_of c.args.env.now) c.args.store.now c.pass_in_out.new.store c.in-Some-InOut.formal c.in-Some-InOut.at c.in-Some-InOut.root (selections_at (nodes_of c.args.work.now) c.in-Some-InOut.selections) _ _ (actuals_at (nodes_of c.args.work.now) c.in-Some.cell.rest) (passed_list c.args.work.now c.args.passed) c.in_err-all-in-Some-InOut.field-0.0 _ (actuals_at (nodes_of c.args.work.now) c.args.id) (search rules) c.in_err-all-in-Some-InOut.ensures (search rules)
+
+pub actuals::pass-returns-in_ok-all-in-Some-InOut : goal.actuals::pass-returns-in_ok-all-in-Some-InOut
+actuals::pass-returns-in_ok-all-in-Some-InOut g t c = in_out_as c.args.work.now c.args.calls (env_of c.args.env.now) c.args.store.now c.pass_in_out.new.store c.in-Some-InOut.formal c.in-Some-InOut.at c.in-Some-InOut.root (selections_at (nodes_of c.args.work.now) c.in-Some-InOut.selections) _ _ (actuals_at (nodes_of c.args.work.now) c.in-Some.cell.rest) (passed_list c.args.work.now c.args.passed) (Ok c.in_ok-all-in-Some-InOut.all) (actuals_at (nodes_of c.args.work.now) c.args.id) c.in_ok-all-in-Some-InOut.ensures (search rules)
+
+pub actuals::pass_in_out-returns-in_err-all : goal.actuals::pass_in_out-returns-in_err-all
+actuals::pass_in_out-returns-in_err-all g t c = in_out_on c.args.work.now c.args.calls (env_of c.args.env.now) c.args.store.now c.pass.new.store c.args.formal c.args.at c.args.root (selections_at (nodes_of c.args.work.now) c.args.selections) c.args.inside c.args.outside (actuals_at (nodes_of c.args.work.now) c.args.rest) (passed_list c.args.work.now c.args.passed) c.from_residual-in_err-all.result (part_of c.variable_root.result) c.in_ok-part.part c.in_ok-value.value _ c.in_ok-values.values (passed_list c.args.work.now c.in_ok-more.more) c.select.new.store c.in_ok-part.ensures c.variable_root.ensures c.in_ok-value.ensures (search rules) c.in_ok-values.ensures (search rules) c.in_ok-more.ensures (search rules)
+
+pub courses::begin_course-returns-then-bounds_hold : goal.courses::begin_course-returns-then-bounds_hold
+courses::begin_course-returns-then-bounds_hold g t c = range_holds c.args.work.now c.args.calls (env_of c.args.env.now) c.args.store.now c.eval-in-Some-Range.new.store c.in-Some-Range.parameter c.in-Some-Range.reverse (expr_at (nodes_of c.args.work.now) c.in-Some-Range.low) (expr_at (nodes_of c.args.work.now) c.in-Some-Range.high) c.check.result (optional_at (nodes_of c.args.work.now) c.in-Some-Range.field-0-5) (iteration_at (nodes_of c.args.work.now) c.args.id) c.in_ok-l-in-Some-Range.l c.in_ok-h-in-Some-Range.h (record { low = to_z w64 (of_z w64 c.in_ok-l-in-Some-Range.l); high = to_z w64 (of_z w64 c.in_ok-h-in-Some-Range.h) }) c.eval.new.store c.in_ok-l-in-Some-Range.ensures c.in_ok-h-in-Some-Range.ensures (search rules) (search rules) (sym c.bounds_hold.ensures ∙ c.if-bounds_hold.true) (search rules)
+
+pub values::assigned-returns-in_err-write-in-Some-Number : goal.values::assigned-returns-in_err-write-in-Some-Number
+values::assigned-returns-in_err-write-in-Some-Number g t c = number_ends c.args.work.now c.args.calls (env_of c.args.env.now) c.args.store.now c.write.new.self c.in-Some-Number.check (expr_at (nodes_of c.args.work.now) c.in-Some-Number.value) (value_at (nodes_of c.args.work.now) c.args.id) (part_of c.args.part) c.in_ok-x-in-Some-Number.x _ c.eval.new.store c.in_err-write-in-Some-Number.field-0.0 _ (search rules) c.in_ok-x-in-Some-Number.ensures (search rules) c.in_err-write-in-Some-Number.ensures (search rules) (search rules)
+
+pub texts::get-returns-in_err-write : goal.texts::get-returns-in_err-write
+texts::get-returns-in_err-write g t c = get_on c.args.work.now c.args.calls (env_of c.args.env.now) c.args.store.now c.write.new.self c.args.first c.args.root (selections_at (nodes_of c.args.work.now) c.args.selections) c.args.scalar (part_of c.variable_root.result) c.in_ok-part.part c.in_ok-value.value _ c.select.new.store c.get.new.self c.in_err-write.field-0.0 _ (search rules) c.variable_root.ensures c.in_ok-part.ensures c.in_ok-value.ensures (search rules) c.in_err-write.ensures (search rules)

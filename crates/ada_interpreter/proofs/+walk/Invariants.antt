@@ -1,0 +1,222 @@
+use Rattle.std.proofs.Common.{◌≡◌, ◌+◌, ◌*◌, ◌-◌, ◌≤◌, max, length, drop, suc, []}
+use Rattle.run_store.specs.Shows.{Goes}
+use Rattle.run_store.specs.Environment.{env_of}
+use Rattle.ada_typed.specs.Decoded.{stmts_at, optional_at, iteration_at, value_at}
+use Rattle.run_parts.specs.Passing.{course_of}
+use Rattle.run_parts.specs.Words.{nodes_of}
+use Rattle.ada_interpreter.specs.Walk.{exec_all, while_loop, while_left, for_loop, for_left, run_values}
+use Rattle.ada_interpreter.proofs.+walk.Given as goal
+
+-- Calls first, then numbers of nodes, then the order in which functions that go by one node call each other.
+
+abbrev pub decreases-exprs::eval : goal.decreases-exprs::eval
+decreases-exprs::eval g l = 1208925819614629174706176 * l.calls + 1099511627776 * l.id + 274877906944
+
+abbrev pub decreases-names::select : goal.decreases-names::select
+decreases-names::select g l = 1208925819614629174706176 * l.calls + 1099511627776 * l.id + 274877906944
+
+abbrev pub decreases-exprs::holds : goal.decreases-exprs::holds
+decreases-exprs::holds g l = 1208925819614629174706176 * l.calls + 1099511627776 * l.id + 412316860416
+
+abbrev pub decreases-actuals::pass : goal.decreases-actuals::pass
+decreases-actuals::pass g l = 1208925819614629174706176 * l.calls + 1099511627776 * l.id + 274877906944
+
+abbrev pub decreases-values::cells : goal.decreases-values::cells
+decreases-values::cells g l = 1208925819614629174706176 * l.calls + 1099511627776 * l.id + 274877906944
+
+abbrev pub decreases-values::composite : goal.decreases-values::composite
+decreases-values::composite g l = 1208925819614629174706176 * l.calls + 1099511627776 * l.id + 274877906944
+
+abbrev pub decreases-values::associated : goal.decreases-values::associated
+decreases-values::associated g l = 1208925819614629174706176 * l.calls + 1099511627776 * l.id + 274877906944
+
+abbrev pub decreases-courses::begin_course : goal.decreases-courses::begin_course
+decreases-courses::begin_course g l = 1208925819614629174706176 * l.calls + 1099511627776 * l.id + 274877906944
+
+abbrev pub decreases-courses::filtered : goal.decreases-courses::filtered
+decreases-courses::filtered g l = 1208925819614629174706176 * l.calls + 1099511627776 * l.id + 274877906944
+
+abbrev pub decreases-values::assigned : goal.decreases-values::assigned
+decreases-values::assigned g l = 1208925819614629174706176 * l.calls + 1099511627776 * l.id + 274877906944
+
+abbrev pub decreases-bodies::body : goal.decreases-bodies::body
+decreases-bodies::body g l = 1208925819614629174706176 * l.calls + 1099511627776 * l.id + 858993459200
+
+abbrev pub decreases-stmts::exec : goal.decreases-stmts::exec
+decreases-stmts::exec g l = 1208925819614629174706176 * l.calls + 1099511627776 * l.id + 274877906944
+
+abbrev pub decreases-stmts::exec_all : goal.decreases-stmts::exec_all
+decreases-stmts::exec_all g l = 1208925819614629174706176 * l.calls + 1099511627776 * l.id + 274877906944
+
+abbrev pub decreases-exprs::variable : goal.decreases-exprs::variable
+decreases-exprs::variable g l = 1208925819614629174706176 * l.calls + 1099511627776 * l.selections + 549755813888
+
+abbrev pub decreases-exprs::constant : goal.decreases-exprs::constant
+decreases-exprs::constant g l = 1208925819614629174706176 * l.calls + 1099511627776 * l.selections + 549755813888
+
+abbrev pub decreases-exprs::unary : goal.decreases-exprs::unary
+decreases-exprs::unary g l = 1208925819614629174706176 * l.calls + 1099511627776 * l.operand + 549755813888
+
+abbrev pub decreases-exprs::binary : goal.decreases-exprs::binary
+decreases-exprs::binary g l = 1208925819614629174706176 * l.calls + 1099511627776 * (max l.left l.right) + 549755813888
+
+abbrev pub decreases-exprs::and_then : goal.decreases-exprs::and_then
+decreases-exprs::and_then g l = 1208925819614629174706176 * l.calls + 1099511627776 * (max l.left l.right) + 549755813888
+
+abbrev pub decreases-exprs::or_else : goal.decreases-exprs::or_else
+decreases-exprs::or_else g l = 1208925819614629174706176 * l.calls + 1099511627776 * (max l.left l.right) + 549755813888
+
+abbrev pub decreases-exprs::relation : goal.decreases-exprs::relation
+decreases-exprs::relation g l = 1208925819614629174706176 * l.calls + 1099511627776 * (max l.left l.right) + 549755813888
+
+abbrev pub decreases-exprs::membership : goal.decreases-exprs::membership
+decreases-exprs::membership g l = 1208925819614629174706176 * l.calls + 1099511627776 * (max l.value (max l.low l.high)) + 549755813888
+
+abbrev pub decreases-exprs::conditional : goal.decreases-exprs::conditional
+decreases-exprs::conditional g l = 1208925819614629174706176 * l.calls + 1099511627776 * (max l.condition (max l.value l.otherwise)) + 549755813888
+
+abbrev pub decreases-exprs::converted : goal.decreases-exprs::converted
+decreases-exprs::converted g l = 1208925819614629174706176 * l.calls + 1099511627776 * l.value + 549755813888
+
+abbrev pub decreases-names::field : goal.decreases-names::field
+decreases-names::field g l = 1208925819614629174706176 * l.calls + 1099511627776 * l.rest + 549755813888
+
+abbrev pub decreases-names::index : goal.decreases-names::index
+decreases-names::index g l = 1208925819614629174706176 * l.calls + 1099511627776 * (max l.value l.rest) + 549755813888
+
+abbrev pub decreases-exprs::call_function : goal.decreases-exprs::call_function
+decreases-exprs::call_function g l = 1208925819614629174706176 * l.calls + 1099511627776 * l.actuals + 549755813888
+
+abbrev pub decreases-actuals::pass_in : goal.decreases-actuals::pass_in
+decreases-actuals::pass_in g l = 1208925819614629174706176 * l.calls + 1099511627776 * (max l.value l.rest) + 549755813888
+
+abbrev pub decreases-actuals::pass_in_out : goal.decreases-actuals::pass_in_out
+decreases-actuals::pass_in_out g l = 1208925819614629174706176 * l.calls + 1099511627776 * (max l.selections l.rest) + 549755813888
+
+abbrev pub decreases-actuals::pass_out : goal.decreases-actuals::pass_out
+decreases-actuals::pass_out g l = 1208925819614629174706176 * l.calls + 1099511627776 * (max l.selections l.rest) + 549755813888
+
+abbrev pub decreases-actuals::pass_whole : goal.decreases-actuals::pass_whole
+decreases-actuals::pass_whole g l = 1208925819614629174706176 * l.calls + 1099511627776 * (max l.selections l.rest) + 549755813888
+
+abbrev pub decreases-values::number : goal.decreases-values::number
+decreases-values::number g l = 1208925819614629174706176 * l.calls + 1099511627776 * l.value + 549755813888
+
+abbrev pub decreases-values::whole_variable : goal.decreases-values::whole_variable
+decreases-values::whole_variable g l = 1208925819614629174706176 * l.calls + 1099511627776 * l.selections + 549755813888
+
+abbrev pub decreases-values::whole_constant : goal.decreases-values::whole_constant
+decreases-values::whole_constant g l = 1208925819614629174706176 * l.calls + 1099511627776 * l.selections + 549755813888
+
+abbrev pub decreases-values::composite_if : goal.decreases-values::composite_if
+decreases-values::composite_if g l = 1208925819614629174706176 * l.calls + 1099511627776 * (max l.condition (max l.value l.otherwise)) + 549755813888
+
+abbrev pub decreases-values::assign : goal.decreases-values::assign
+decreases-values::assign g l = 1208925819614629174706176 * l.calls + 1099511627776 * (max l.selections l.value) + 549755813888
+
+abbrev pub decreases-values::run_values : goal.decreases-values::run_values
+decreases-values::run_values g l = 1208925819614629174706176 * l.calls + 1099511627776 * l.value + 412316860416
+
+abbrev pub decreases-values::given : goal.decreases-values::given
+decreases-values::given g l = 1208925819614629174706176 * l.calls + 1099511627776 * l.value + 343597383680
+
+abbrev pub decreases-values::runs_values : goal.decreases-values::runs_values
+decreases-values::runs_values g l = 1208925819614629174706176 * l.calls + 1099511627776 * l.value + 446676598784 + l.runs
+
+abbrev pub decreases-bodies::block : goal.decreases-bodies::block
+decreases-bodies::block g l = 1208925819614629174706176 * l.calls + 1099511627776 * (max l.decls (max l.stmts l.handlers)) + 687194767360 + l.decls
+
+abbrev pub decreases-bodies::guarded : goal.decreases-bodies::guarded
+decreases-bodies::guarded g l = 1208925819614629174706176 * l.calls + 1099511627776 * (max l.stmts l.handlers) + 549755813888
+
+abbrev pub decreases-stmts::call_procedure : goal.decreases-stmts::call_procedure
+decreases-stmts::call_procedure g l = 1208925819614629174706176 * l.calls + 1099511627776 * l.actuals + 549755813888
+
+abbrev pub decreases-stmts::exit_when : goal.decreases-stmts::exit_when
+decreases-stmts::exit_when g l = 1208925819614629174706176 * l.calls + 1099511627776 * l.condition + 549755813888
+
+abbrev pub decreases-stmts::return_value : goal.decreases-stmts::return_value
+decreases-stmts::return_value g l = 1208925819614629174706176 * l.calls + 1099511627776 * l.value + 549755813888
+
+abbrev pub decreases-stmts::branch : goal.decreases-stmts::branch
+decreases-stmts::branch g l = 1208925819614629174706176 * l.calls + 1099511627776 * (max l.condition (max l.stmts l.otherwise)) + 549755813888
+
+abbrev pub decreases-stmts::chosen : goal.decreases-stmts::chosen
+decreases-stmts::chosen g l = 1208925819614629174706176 * l.calls + 1099511627776 * (max l.value l.alternatives) + 549755813888
+
+abbrev pub decreases-loops::while_stmt : goal.decreases-loops::while_stmt
+decreases-loops::while_stmt g l = 1208925819614629174706176 * l.calls + 1099511627776 * (max l.condition l.stmts) + 687194767360
+
+abbrev pub decreases-loops::while_loop : goal.decreases-loops::while_loop
+decreases-loops::while_loop g l = 1208925819614629174706176 * l.calls + 1099511627776 * (max l.condition l.stmts) + 549755813888
+
+abbrev pub decreases-loops::for_stmt : goal.decreases-loops::for_stmt
+decreases-loops::for_stmt g l = 1208925819614629174706176 * l.calls + 1099511627776 * (max l.iteration l.stmts) + 755914244096
+
+abbrev pub decreases-loops::for_loop : goal.decreases-loops::for_loop
+decreases-loops::for_loop g l = 1208925819614629174706176 * l.calls + 1099511627776 * (max l.iteration l.stmts) + 687194767360
+
+abbrev pub decreases-loops::iterate : goal.decreases-loops::iterate
+decreases-loops::iterate g l = 1208925819614629174706176 * l.calls + 1099511627776 * (max l.iteration l.stmts) + 549755813888
+
+abbrev pub decreases-calls::call : goal.decreases-calls::call
+decreases-calls::call g l = 1208925819614629174706176 * l.calls
+
+abbrev pub decreases-calls::called : goal.decreases-calls::called
+decreases-calls::called g l = 1208925819614629174706176 * l.calls + 608004684669466821263360
+
+abbrev pub decreases-calls::with_formals : goal.decreases-calls::with_formals
+decreases-calls::with_formals g l = 1208925819614629174706176 * l.calls + 606824093048749409959936 + length l.rest.now
+
+abbrev pub decreases-calls::carried_out : goal.decreases-calls::carried_out
+decreases-calls::carried_out g l = 1208925819614629174706176 * l.calls + 605643501428031998656512
+
+abbrev pub decreases-calls::function_value : goal.decreases-calls::function_value
+decreases-calls::function_value g l = 1208925819614629174706176 * l.calls + 604462909807314587353088
+
+-- ---- loops: the whole goes on as what is left
+
+abbrev pub invariant-stmts::exec_all-loop-cell : goal.invariant-stmts::exec_all-loop-cell
+invariant-stmts::exec_all-loop-cell g l = record {
+  below : l.at ≤ l.id;
+  on : Goes g.P.Port.Tells (exec_all l.work l.calls (stmts_at (nodes_of l.work) l.id) (env_of l.env)) l.fn.store (exec_all l.work l.calls (stmts_at (nodes_of l.work) l.at) (env_of l.env)) l.store;
+}
+
+abbrev pub decreases-stmts::exec_all-loop-cell : goal.decreases-stmts::exec_all-loop-cell
+decreases-stmts::exec_all-loop-cell g l = l.at
+
+abbrev pub invariant-loops::while_loop-loop-turn : goal.invariant-loops::while_loop-loop-turn
+invariant-loops::while_loop-loop-turn g l =
+    Goes g.P.Port.Tells (while_loop l.work l.calls (optional_at (nodes_of l.work) l.condition) (stmts_at (nodes_of l.work) l.stmts) (env_of l.env)) l.fn.store (while_left l.work l.calls (suc l.work.limit - l.turn) (optional_at (nodes_of l.work) l.condition) (stmts_at (nodes_of l.work) l.stmts) (env_of l.env)) l.store
+
+abbrev pub invariant-loops::for_loop-loop-i : goal.invariant-loops::for_loop-loop-i
+invariant-loops::for_loop-loop-i g l = record {
+  counted : l.count ≡ (course_of l.course).count;
+  on : Goes g.P.Port.Tells (for_loop l.work l.calls (course_of l.course) (iteration_at (nodes_of l.work) l.iteration) (stmts_at (nodes_of l.work) l.stmts) (env_of l.env)) l.fn.store
+      (for_left l.work l.calls l.i ((course_of l.course).count - l.i) (course_of l.course) (iteration_at (nodes_of l.work) l.iteration) (stmts_at (nodes_of l.work) l.stmts) (env_of l.env)) l.store;
+}
+
+abbrev pub invariant-values::run_values-loop-k : goal.invariant-values::run_values-loop-k
+invariant-values::run_values-loop-k g l =
+    Goes g.P.Port.Tells (run_values l.work l.calls 0 l.run.count l.run.first l.run.stride l.iterated (value_at (nodes_of l.work) l.value) (env_of l.env) l.fn.out) l.fn.store
+    (run_values l.work l.calls l.k (l.run.count - l.k) l.first l.run.stride l.iterated (value_at (nodes_of l.work) l.value) (env_of l.env) l.cells) l.store
+
+-- ---- output and input
+
+abbrev pub decreases-texts::put : goal.decreases-texts::put
+decreases-texts::put g l = 1208925819614629174706176 * l.calls + 1099511627776 * l.pieces + 549755813888
+
+abbrev pub decreases-texts::written : goal.decreases-texts::written
+decreases-texts::written g l = 1208925819614629174706176 * l.calls + 1099511627776 * l.id + 274877906944
+
+abbrev pub decreases-texts::text : goal.decreases-texts::text
+decreases-texts::text g l = 1208925819614629174706176 * l.calls + 1099511627776 * l.rest + 549755813888
+
+abbrev pub decreases-texts::image : goal.decreases-texts::image
+decreases-texts::image g l = 1208925819614629174706176 * l.calls + 1099511627776 * (max l.value l.rest) + 549755813888
+
+abbrev pub decreases-texts::field : goal.decreases-texts::field
+decreases-texts::field g l = 1208925819614629174706176 * l.calls + 1099511627776 * (max l.value (max l.width l.rest)) + 549755813888
+
+abbrev pub decreases-texts::get : goal.decreases-texts::get
+decreases-texts::get g l = 1208925819614629174706176 * l.calls + 1099511627776 * l.selections + 549755813888

@@ -1,0 +1,263 @@
+-- What the functions of the walk compute, a word for each.
+use Rattle.std.specs.Prelude.{ℕ, suc, ℤ, pos, ◌*◌, ◌-ℤ◌, int_le, ◌&&◌, Bool, not, true, false, List, [], ◌∷◌, ◌++◌, slice_get, Option, Some, None, cond}
+use Rattle.ada_base.specs.declared.operation.Op.{Op}
+use Rattle.ada_base.specs.Cuts.{One, cuts_of}
+use Rattle.ada_base.specs.declared.reason.Reason.{Reason}
+use Rattle.ada_base.specs.declared.reason.Reason.TheVariants as reason
+use Rattle.ada_typed.specs.declared.program.Object.{Object}
+use Rattle.behaviours.specs.Doings.{through}
+use Rattle.behaviours.specs.Paths.{Entity, VariableOf, ConstantOf, Region, Here, Exits, Returns, Raises}
+use Rattle.ada_typed.specs.declared.node.Node.{Node}
+use Rattle.ada_typed.specs.declared.scalars.Class.{Class}
+use Rattle.ada_typed.specs.declared.scalars.Scalar.{Scalar}
+use Rattle.ada_typed.specs.declared.scalars.Check.{Check}
+use Rattle.ada_typed.specs.declared.scalars.Comparison.{Comparison}
+use Rattle.ada_typed.specs.declared.expressions.Sign.{Sign}
+use Rattle.ada_typed.specs.declared.expressions.Root.{Root}
+use Rattle.ada_typed.specs.declared.expressions.Run.{Run}
+use Rattle.ada_typed.specs.declared.expressions.Iterated.{Iterated}
+use Rattle.ada_typed.specs.Syntax.{Expr, Optional, Selections, Actuals, Value, Composite, Associations, Iteration, Pieces, Stmt, Stmts, Alternatives, Handlers, Decls, Body, Sub, Program}
+use Rattle.ada_typed.specs.Programs.{program}
+use Rattle.ada_meaning.specs.Values.{truth, bit, compares, between, to_nat, layout, is_in, defaults, image_of}
+use Rattle.ada_meaning.specs.Operations.{Operations, IndexCheck, RangeCheck, operate}
+use Rattle.ada_meaning.specs.Meaning as meaning
+use Rattle.ada_meaning.specs.Meaning.{Env, Part, Passed, Returned, Back, Course, variable_root, constant_root, moved, with_target, iterated_env, outset, returns, exits, value_of, sub_at}
+use Rattle.ada_stored.specs.Stored
+use Rattle.ada_stored.specs.Stored.{Stored, doings, bind, ret, leaves, handles, apart, reads, writes, checks, puts}
+use Rattle.ada_base.specs.Image.{padded}
+use Rattle.run_store.specs.Operating.{unary_then, got}
+use Rattle.run_parts.specs.declared.work.Work.{Work}
+use Rattle.run_parts.specs.Words.{nodes_of, ops, calls_of, cells_at, turned, read_all, write_all, back_cells, all_copied_back}
+
+unfoldable pub eval : Work → ℕ → Expr → Env → Stored ℤ
+eval w d e env = meaning.eval (ops w) w.limit (program w.typed.now) (calls_of w d) e env
+
+unfoldable pub holds : Work → ℕ → Optional → Env → Stored Bool
+holds w d e env = meaning.holds (ops w) w.limit (program w.typed.now) (calls_of w d) e env
+
+unfoldable pub select : Work → ℕ → Selections → Env → Part → Stored Part
+select w d ss env p = meaning.select (ops w) w.limit (program w.typed.now) (calls_of w d) ss env p
+
+unfoldable pub pass : Work → ℕ → Actuals → Env → List Passed → Stored (List Passed)
+pass w d as' env so_far = meaning.pass (ops w) w.limit (program w.typed.now) (calls_of w d) as' env so_far
+
+unfoldable pub cells : Work → ℕ → Value → Env → Stored (List ℤ)
+cells w d v env = meaning.cells (ops w) w.limit (program w.typed.now) (calls_of w d) v env
+
+unfoldable pub composite : Work → ℕ → Composite → Env → Stored (List ℤ)
+composite w d c env = meaning.composite (ops w) w.limit (program w.typed.now) (calls_of w d) c env
+
+unfoldable pub associated : Work → ℕ → Associations → Env → List ℤ → Stored (List ℤ)
+associated w d as' env so_far = meaning.associated (ops w) w.limit (program w.typed.now) (calls_of w d) as' env so_far
+
+unfoldable pub written : Work → ℕ → Pieces → Env → List ℕ → Stored (List ℕ)
+written w d ps env so_far = meaning.written (ops w) w.limit (program w.typed.now) (calls_of w d) ps env so_far
+
+unfoldable pub course : Work → ℕ → Iteration → Env → Stored Course
+course w d it env = meaning.course (ops w) w.limit (program w.typed.now) (calls_of w d) it env
+
+unfoldable pub filtered : Work → ℕ → Iteration → Env → Stored Bool
+filtered w d it env = meaning.filtered (ops w) w.limit (program w.typed.now) (calls_of w d) it env
+
+unfoldable pub exec : Work → ℕ → Stmt → Env → Stored (Unit {0})
+exec w d s env = meaning.exec (ops w) w.limit (program w.typed.now) (calls_of w d) s env
+
+unfoldable pub exec_all : Work → ℕ → Stmts → Env → Stored (Unit {0})
+exec_all w d ss env = meaning.exec_all (ops w) w.limit (program w.typed.now) (calls_of w d) ss env
+
+unfoldable pub exec_chosen : Work → ℕ → Alternatives → ℤ → Env → Stored (Unit {0})
+exec_chosen w d as' v env = meaning.exec_chosen (ops w) w.limit (program w.typed.now) (calls_of w d) as' v env
+
+unfoldable pub exec_handler : Work → ℕ → Handlers → Reason → Env → Stored (Unit {0})
+exec_handler w d hs r env = meaning.exec_handler (ops w) w.limit (program w.typed.now) (calls_of w d) hs r env
+
+module _ (w : Work) (d : ℕ) where
+  -- ---- expressions
+
+  abbrev pub variable : Root → Selections → Env → Stored ℤ
+  variable r ss env = bind (select w d ss env (variable_root r env)) (λ p. reads (VariableOf p.object) p.offset)
+
+  abbrev pub constant : Root → Selections → Env → Stored ℤ
+  constant r ss env = bind (select w d ss env (constant_root r env)) (λ p. reads (ConstantOf p.object) p.offset)
+
+  abbrev pub target : Env → Stored ℤ
+  target env = reads (VariableOf env.target.object) env.target.offset
+
+  abbrev pub unary_of : Sign → ℕ → Class → Expr → Env → Stored ℤ
+  unary_of s at class e env = bind (eval w d e env) (λ v. unary_then s at class v)
+
+  abbrev pub binary : Op → ℕ → Class → Expr → Expr → Env → Stored ℤ
+  binary op at class e f env = bind (eval w d e env) (λ x. bind (eval w d f env) (λ y. operate doings checks op at class x y))
+
+  abbrev pub and_then : Expr → Expr → Env → Stored ℤ
+  and_then e f env = bind (eval w d e env) (λ x. cond (truth x) (eval w d f env) (ret (bit false)))
+
+  abbrev pub or_else : Expr → Expr → Env → Stored ℤ
+  or_else e f env = bind (eval w d e env) (λ x. cond (truth x) (ret (bit true)) (eval w d f env))
+
+  abbrev pub relation : Comparison → Expr → Expr → Env → Stored ℤ
+  relation c e f env = bind (eval w d e env) (λ x. bind (eval w d f env) (λ y. ret (bit (compares c x y))))
+
+  abbrev pub membership : Bool → Expr → Expr → Expr → Env → Stored ℤ
+  membership negated e low high env =
+      bind (eval w d e env) (λ x. bind (eval w d low env) (λ l. bind (eval w d high env) (λ h. ret (bit (cond negated (not (between l x h)) (between l x h))))))
+
+  abbrev pub conditional : Expr → Expr → Expr → Env → Stored ℤ
+  conditional c e f env = bind (eval w d c env) (λ x. cond (truth x) (eval w d e env) (eval w d f env))
+
+  abbrev pub converted : Check → Expr → Env → Stored ℤ
+  converted check e env = bind (eval w d e env) (λ v. bind (meaning.checked (ops w) check v) (λ _. ret v))
+
+  abbrev pub call_function : ℕ → Actuals → Env → Stored ℤ
+  call_function s as' env = bind (pass w d as' env []) (λ passed. bind (calls_of w d env.nested s (ret tt) passed) (λ r. ret r.value))
+
+  -- ---- selections
+
+  abbrev pub field : ℕ → Selections → Env → Part → Stored Part
+  field offset rest env p = select w d rest env (moved p offset)
+
+  abbrev pub index : ℕ → Expr → ℤ → ℤ → ℕ → Selections → Env → Part → Stored Part
+  index at e low high stride rest env p =
+      bind (eval w d e env) (λ i. bind (checks IndexCheck at (between low i high)) (λ _. select w d rest env (moved p (to_nat (i -ℤ low) * stride))))
+
+  -- ---- what is stored
+
+  abbrev pub assigned : Value → Part → Env → Stored (Unit {0})
+  assigned v p env = bind (cells w d v env) (λ cs. write_all w p.object p.offset cs)
+
+  abbrev pub assign : Root → Selections → Value → Env → Stored (Unit {0})
+  assign r ss v env = bind (select w d ss env (variable_root r env)) (λ p. assigned v p (with_target p env))
+
+  abbrev pub number : Check → Expr → Env → Stored (List ℤ)
+  number check e env = bind (eval w d e env) (λ v. bind (meaning.checked (ops w) check v) (λ _. ret (v ∷ [])))
+
+  abbrev pub whole_variable : Root → Selections → ℕ → Env → Stored (List ℤ)
+  whole_variable r ss n env = bind (select w d ss env (variable_root r env)) (λ p. read_all w (VariableOf p.object) p.offset [] (cells_at w n))
+
+  abbrev pub whole_constant : Root → Selections → ℕ → Env → Stored (List ℤ)
+  whole_constant r ss n env = bind (select w d ss env (constant_root r env)) (λ p. read_all w (ConstantOf p.object) p.offset [] (cells_at w n))
+
+  abbrev pub composite_if : Expr → Composite → Composite → Env → Stored (List ℤ)
+  composite_if c e f env = bind (eval w d c env) (λ x. cond (truth x) (composite w d e env) (composite w d f env))
+
+  -- the cells of one component of an association
+  abbrev pub given : Option Iterated → ℕ → Value → Env → Stored (List ℤ)
+  given iterated k v env = bind (meaning.iterated_turn (ops w) iterated) (λ _. cells w d v (iterated_env iterated k env))
+
+  unfoldable pub run_values : ℕ → ℕ → ℕ → ℕ → Option Iterated → Value → Env → List ℤ → Stored (List ℤ)
+  run_values k n first stride iterated v env so_far = meaning.run_values (ops w) k n first stride (λ k. given iterated k v env) so_far
+
+  unfoldable pub runs_values : List Run → Option Iterated → Value → Env → List ℤ → Stored (List ℤ)
+  runs_values rs iterated v env so_far = meaning.runs_values (ops w) rs (λ k. given iterated k v env) so_far
+
+  -- ---- actual parameters
+
+  abbrev pub pass_in : ℕ → Value → Actuals → Env → List Passed → Stored (List Passed)
+  pass_in formal v rest env so_far =
+      bind (cells w d v env) (λ cs. pass w d rest env (so_far ++ (record { formal = ConstantOf formal; cells = cs; back = None } ∷ [])))
+
+  abbrev pub back_to : Part → List Scalar → Option Check → Option Back
+  back_to p ss check = Some (record { part = p; cells = ss; check = check })
+
+  abbrev pub pass_in_out : ℕ → ℕ → Root → Selections → Scalar → Scalar → Actuals → Env → List Passed → Stored (List Passed)
+  pass_in_out formal at r ss inner outer rest env so_far =
+      bind (select w d ss env (variable_root r env)) (λ p. bind (reads (VariableOf p.object) p.offset) (λ v. bind (meaning.checked (ops w) (record { at = at; scalar = inner }) v) (λ _.
+      pass w d rest env (so_far ++ (record { formal = VariableOf formal; cells = v ∷ []; back = back_to p (inner ∷ []) (Some (record { at = at; scalar = outer })) } ∷ [])))))
+
+  abbrev pub pass_out : ℕ → ℕ → Root → Selections → Scalar → Scalar → Actuals → Env → List Passed → Stored (List Passed)
+  pass_out formal at r ss inner outer rest env so_far =
+      bind (select w d ss env (variable_root r env)) (λ p.
+      pass w d rest env (so_far ++ (record { formal = VariableOf formal; cells = inner.low ∷ []; back = back_to p (inner ∷ []) (Some (record { at = at; scalar = outer })) } ∷ [])))
+
+  abbrev pub pass_whole : ℕ → Root → Selections → ℕ → Actuals → Env → List Passed → Stored (List Passed)
+  pass_whole formal r ss n rest env so_far =
+      bind (select w d ss env (variable_root r env)) (λ p. bind (read_all w (VariableOf p.object) p.offset [] (cells_at w n)) (λ vs.
+      pass w d rest env (so_far ++ (record { formal = VariableOf formal; cells = vs; back = back_to p (cells_at w n) None } ∷ []))))
+
+  -- ---- calls
+
+  abbrev pub body : Body → Region → Env → Stored (Unit {0})
+  body b region env = meaning.exec_body (ops w) w.limit (program w.typed.now) (calls_of w d) b region env
+
+  abbrev pub function_value : Sub → ℕ → Stored ℤ
+  function_value sub nested = handles (bind (body sub.body Here (outset nested)) (λ _. meaning.ended (ops w) w.limit (program w.typed.now) sub.result)) returns (λ how. ret (value_of how))
+
+  abbrev pub carried_out : Sub → ℕ → List Passed → Stored Returned
+  carried_out sub nested passed = bind (function_value sub nested) (λ v. bind (back_cells w passed []) (λ vss. ret (record { value = v; cells = vss })))
+
+  unfoldable pub with_formals : Sub → ℕ → List Passed → List Passed → Stored Returned
+  with_formals sub nested all rest = meaning.with_formals (ops w) w.limit (program w.typed.now) rest (carried_out sub nested all)
+
+  abbrev pub called_sub : Option Sub → ℕ → List Passed → Stored Returned
+  called_sub None nested passed = leaves (Raises reason.ProgramError)
+  called_sub (Some sub) nested passed = apart (with_formals sub nested passed passed)
+
+  abbrev pub called : ℕ → ℕ → List Passed → Stored Returned
+  called s nested passed = called_sub (sub_at (program w.typed.now).subs s) nested passed
+
+  -- ---- output and input
+
+  abbrev pub text : List ℕ → Pieces → Env → List ℕ → Stored (List ℕ)
+  text bytes rest env so_far = written w d rest env (so_far ++ bytes)
+
+  abbrev pub image : Class → Expr → Pieces → Env → List ℕ → Stored (List ℕ)
+  image class e rest env so_far = bind (eval w d e env) (λ v. written w d rest env (so_far ++ image_of class v))
+
+  abbrev pub number_field : Expr → Expr → Pieces → Env → List ℕ → Stored (List ℕ)
+  number_field e width rest env so_far = bind (eval w d e env) (λ v. bind (eval w d width env) (λ n. written w d rest env (so_far ++ padded v (to_nat n))))
+
+  abbrev pub put : Pieces → Bool → Env → Stored (Unit {0})
+  put ps line env = bind (written w d ps env []) (λ bytes. puts (cond line (bytes ++ 10 ∷ []) bytes))
+
+  abbrev pub get : ℕ → Root → Selections → Scalar → Env → Stored (Unit {0})
+  get first r ss scalar env =
+      bind (select w d ss env (variable_root r env)) (λ p. bind (got w.limit) (λ v. bind (checks RangeCheck first (is_in scalar v)) (λ _. writes p.object p.offset v)))
+
+  -- ---- statements
+
+  abbrev pub call_procedure : ℕ → Actuals → Env → Stored (Unit {0})
+  call_procedure s as' env = bind (pass w d as' env []) (λ passed. bind (calls_of w d env.nested s (ret tt) passed) (λ r. all_copied_back w d passed r.cells))
+
+  abbrev pub branch : Expr → Stmts → Stmts → Env → Stored (Unit {0})
+  branch c a b env = bind (eval w d c env) (λ x. cond (truth x) (exec_all w d a env) (exec_all w d b env))
+
+  abbrev pub exit_when : ℕ → Optional → Env → Stored (Unit {0})
+  exit_when n e env = bind (holds w d e env) (λ goes. cond goes (leaves (Exits n)) (ret tt))
+
+  abbrev pub return_value : Value → Env → Stored (Unit {0})
+  return_value v env = bind (cells w d v env) (λ cs. leaves (Returns (slice_get cs 0)))
+
+  abbrev pub chosen : Expr → Alternatives → Env → Stored (Unit {0})
+  chosen e as' env = bind (eval w d e env) (λ v. exec_chosen w d as' v env)
+
+  abbrev pub in_loop : ℕ → Stored (Unit {0}) → Stored (Unit {0})
+  in_loop n m = handles m (exits n) (λ _. ret tt)
+
+  unfoldable pub while_loop : Optional → Stmts → Env → Stored (Unit {0})
+  while_loop e ss env = meaning.while_loop (ops w) (suc w.limit) (holds w d e env) (exec_all w d ss env)
+
+  -- with so many turns left
+  abbrev pub while_left : ℕ → Optional → Stmts → Env → Stored (Unit {0})
+  while_left n e ss env = meaning.while_loop (ops w) n (holds w d e env) (exec_all w d ss env)
+
+  abbrev pub while_stmt : ℕ → Optional → Stmts → Env → Stored (Unit {0})
+  while_stmt n e ss env = in_loop n (while_loop e ss env)
+
+  -- an iteration with what is bound in it
+  abbrev pub iterate : Iteration → Stmts → Env → Stored (Unit {0})
+  iterate it ss env = meaning.iterate (ops w) (filtered w d it env) (exec_all w d ss env)
+
+  unfoldable pub for_loop : Course → Iteration → Stmts → Env → Stored (Unit {0})
+  for_loop c it ss env = through doings 0 c.count tt (λ i _. iterate it ss (c.bound i env))
+
+  abbrev pub for_left : ℕ → ℕ → Course → Iteration → Stmts → Env → Stored (Unit {0})
+  for_left i n c it ss env = through doings i n tt (λ i _. iterate it ss (c.bound i env))
+
+  abbrev pub for_stmt : ℕ → Iteration → Stmts → Env → Stored (Unit {0})
+  for_stmt n it ss env = bind (course w d it env) (λ c. in_loop n (for_loop c it ss env))
+
+  abbrev pub guarded : Stmts → Handlers → Env → Stored (Unit {0})
+  guarded ss hs env = meaning.guarded (ops w) hs (exec_all w d ss env) (λ r. exec_handler w d hs r env)
+
+  unfoldable pub block : Decls → Region → Stmts → Handlers → Env → Stored (Unit {0})
+  block ds region ss hs env = meaning.declared (ops w) w.limit (program w.typed.now) (calls_of w d) ds region env (guarded ss hs env)

@@ -1,0 +1,99 @@
+//! Names of objects and of parts of them (4.1).
+
+ghost use Rattle.std.specs.Prelude.{◌≡◌, ◌<◌, ◌+◌, ◌*◌, ◌-ℤ◌, length};
+ghost use Rattle.ada_typed.specs.Decoded.{expr_at, selections_at};
+ghost use Rattle.run_store.specs.Environment.{env_of, part_of};
+ghost use Rattle.run_store.specs.Shows.{ShowsAs, OrNoMemory};
+ghost use Rattle.ada_meaning.specs.Values.{to_nat};
+ghost use Rattle.ada_meaning.specs.Meaning as meaning;
+ghost use Rattle.ada_interpreter.specs.Walk as spec;
+ghost use Rattle.run_parts.specs.Words.{nodes_of};
+
+use crate::exprs::eval;
+use ada_base::Reason;
+use ada_typed::Selection;
+use run_parts::{Work, component, moved};
+use run_store::{End, Env, Leave, Part, Port, Range, Store, between};
+
+/// The part that selections lead to (4.1.1, 4.1.3).
+#[cycle(walk)]
+#[tactic(auto, unfolding(ada_stored::specs::Stored::bind, ada_stored::specs::Stored::ret, ada_stored::specs::Stored::leaves, ada_stored::specs::Stored::spent, ada_stored::specs::Stored::handles, crate::specs::Walk::eval, crate::specs::Walk::select))]
+pub fn select<P: Port + Drop>(
+    work: &Work<'_>,
+    calls: u32,
+    id: u32,
+    env: &Env<'_>,
+    part: Part,
+    store: &mut Store<P>,
+) -> Result<Part, End>
+    ensures { ShowsAs part_of P.Tells (spec.select work.now calls (selections_at (nodes_of work.now) id) (env_of env.now) (part_of part)) result store.old store.new }
+{
+    match work.typed.nodes.selections(id) {
+        None => Ok(part),
+        Some(cell) => match work.typed.nodes.selection(cell.first) {
+            None => select(work, calls, cell.rest, env, part, store),
+            Some(Selection::Field { offset, .. }) => field(
+                work, calls, offset, cell.rest, env, part, store,
+            ),
+            Some(
+                Selection::Index {
+                    at,
+                    index: value,
+                    low,
+                    high,
+                    stride,
+                },
+            ) => {
+                let range = Range { low, high };
+                index(
+                    work, calls, at, value, range, stride, cell.rest, env, part, store,
+                )
+            }
+        },
+    }
+}
+
+#[cycle(walk)]
+#[inline(never)]
+fn field<P: Port + Drop>(
+    work: &Work<'_>,
+    calls: u32,
+    offset: u32,
+    rest: u32,
+    env: &Env<'_>,
+    part: Part,
+    store: &mut Store<P>,
+) -> Result<Part, End>
+    ensures { ShowsAs part_of P.Tells (spec.field work.now calls offset (selections_at (nodes_of work.now) rest) (env_of env.now) (part_of part)) result store.old store.new }
+{
+    let inner = moved(part, u64::from(offset))?;
+    let found = select(work, calls, rest, env, inner, store)?;
+    Ok(found)
+}
+
+#[cycle(walk)]
+#[inline(never)]
+fn index<P: Port + Drop>(
+    work: &Work<'_>,
+    calls: u32,
+    at: u32,
+    value: u32,
+    range: Range,
+    stride: u32,
+    rest: u32,
+    env: &Env<'_>,
+    part: Part,
+    store: &mut Store<P>,
+) -> Result<Part, End>
+    ensures { ShowsAs part_of P.Tells (spec.index work.now calls at (expr_at (nodes_of work.now) value) range.low range.high stride (selections_at (nodes_of work.now) rest) (env_of env.now) (part_of part)) result store.old store.new }
+{
+    let _ = at;
+    let i = eval(work, calls, value, env, store)?;
+    if between(range.low, i, range.high) {
+        let inner = component(part, i, range.low, stride)?;
+        let found = select(work, calls, rest, env, inner, store)?;
+        Ok(found)
+    } else {
+        Err(End::Left(Leave::Raises(Reason::ConstraintError)))
+    }
+}
