@@ -22,6 +22,4 @@ mod places;
 #[cfg(test)]
 mod plans;
 #[cfg(test)]
-mod ranges;
-#[cfg(test)]
 mod tokens;
