@@ -9,6 +9,7 @@ ghost use Rattle.run_parts.specs.Words.{nodes_of};
 
 use crate::actuals::pass;
 use crate::calls::call;
+use crate::chains::operand;
 use crate::names::select;
 use ada_base::{Items, Op, Reason};
 use ada_typed::{Check, Class, Comparison, Expr, Root, Sign};
@@ -158,7 +159,7 @@ fn binary<P: Port + Drop>(
 ) -> Result<i64, End>
     ensures { Shows P.Tells (spec.binary work.now calls op at class (expr_at (nodes_of work.now) left) (expr_at (nodes_of work.now) right) (env_of env.now)) result store.old store.new }
 {
-    let x = eval(work, calls, left, env, store)?;
+    let x = operand(work, calls, left, env, store)?;
     let y = eval(work, calls, right, env, store)?;
     store.operate(op, at, class, x, y)
 }
@@ -175,7 +176,7 @@ fn and_then<P: Port + Drop>(
 ) -> Result<i64, End>
     ensures { Shows P.Tells (spec.and_then work.now calls (expr_at (nodes_of work.now) left) (expr_at (nodes_of work.now) right) (env_of env.now)) result store.old store.new }
 {
-    let x = eval(work, calls, left, env, store)?;
+    let x = operand(work, calls, left, env, store)?;
     if is_true(x) {
         let y = eval(work, calls, right, env, store)?;
         Ok(y)
@@ -196,7 +197,7 @@ fn or_else<P: Port + Drop>(
 ) -> Result<i64, End>
     ensures { Shows P.Tells (spec.or_else work.now calls (expr_at (nodes_of work.now) left) (expr_at (nodes_of work.now) right) (env_of env.now)) result store.old store.new }
 {
-    let x = eval(work, calls, left, env, store)?;
+    let x = operand(work, calls, left, env, store)?;
     if is_true(x) {
         Ok(1)
     } else {

@@ -9,10 +9,12 @@ use Rattle.run_parts.specs.Caught.{caught}
 use Rattle.run_parts.proofs.Stepping.{next_fails}
 use Rattle.run_store.proofs.Going.{then_shows}
 use Rattle.run_parts.specs.Words.{nodes_of}
-use Rattle.ada_interpreter.specs.Walk.{exec_all, while_loop, for_loop, course, in_loop, run_values}
+use Rattle.ada_interpreter.specs.Walk.{eval, exec_all, while_loop, for_loop, course, in_loop, run_values}
 use Rattle.ada_interpreter.proofs.Looping.{while_begins, run_begins, all_step, all_ends, all_done, while_test_ends, while_stops, while_turn_ends, while_body_ends, while_step, while_spent, for_step, for_ends, for_done, for_begins, run_step, run_ends, run_done}
 use Rattle.ada_interpreter.proofs.Scoping.{body_as, call_ends, call_step, called_more, called_fails, formals_none, formals_more, formals_fails, default_more, default_fails, variable_ends, variable_more, variable_fails, constant_ends, constant_more, constant_fails}
 use Rattle.ada_interpreter.proofs.Handling.{caught_shows, chosen_some, chosen_none, guarded_other, guarded_some, guarded_none, alternative_some, alternative_none}
+use Rattle.ada_typed.specs.Chained.{right_of}
+use Rattle.ada_interpreter.proofs.Chaining.{stands_begins, first_ends, stands_step, stands_ends, stands_done, all_below, last_below}
 use Rattle.ada_interpreter.proofs.Forms.{index_as, in_out_as, in_out_ends, in_out_on, range_holds, number_ends, get_on}
 use Rattle.ada_interpreter.proofs.+walk.Goals as goal
 
@@ -120,3 +122,21 @@ values::assigned-returns-in_err-write-in-Some-Number g t c = number_ends c.args.
 
 pub texts::get-returns-in_err-write : goal.texts::get-returns-in_err-write
 texts::get-returns-in_err-write g t c = get_on c.args.work.now c.args.calls (env_of c.args.env.now) c.args.store.now c.write.new.self c.args.first c.args.root (selections_at (nodes_of c.args.work.now) c.args.selections) c.args.scalar (part_of c.variable_root.result) c.in_ok-part.part c.in_ok-value.value _ c.select.new.store c.get.new.self c.in_err-write.field-0.0 _ (search rules) c.variable_root.ensures c.in_ok-part.ensures c.in_ok-value.ensures (search rules) c.in_err-write.ensures (search rules)
+
+pub chains::chain-loop-link-init : goal.chains::chain-loop-link-init
+chains::chain-loop-link-init g t c = record { below = c.in_ok-chain.ensures.2; on = stands_begins c.args.work.now c.args.calls (env_of c.args.env.now) (expr_at (nodes_of c.args.work.now) c.args.id) c.in_ok-chain.chain.links (expr_at (nodes_of c.args.work.now) c.in_ok-chain.chain.first) c.in_ok-chain.ensures.0 c.args.store.now c.eval.new.store _ c.in_ok-value.value c.in_ok-value.ensures (search rules) }
+
+pub chains::chain-returns-in_err-value : goal.chains::chain-returns-in_err-value
+chains::chain-returns-in_err-value g t c = first_ends c.args.work.now c.args.calls (env_of c.args.env.now) (expr_at (nodes_of c.args.work.now) c.args.id) c.in_ok-chain.chain.links (expr_at (nodes_of c.args.work.now) c.in_ok-chain.chain.first) c.in_ok-chain.ensures.0 c.args.store.now c.eval.new.store c.in_err-value.field-0.0 _ (search rules) c.in_err-value.ensures
+
+pub chains::chain-loop-link-preserved : goal.chains::chain-loop-link-preserved
+chains::chain-loop-link-preserved g t c = record { below = all_below c.args.id c.loop-link.links c.pop.new.self c.in-Some.link c.in-Some.ensures c.loop-link.invariant.below; on = stands_step c.args.work.now c.args.calls (env_of c.args.env.now) (eval c.args.work.now c.args.calls (expr_at (nodes_of c.args.work.now) c.args.id) (env_of c.args.env.now)) c.args.store.now c.loop-link.links c.pop.new.self c.in-Some.link (to_z w64 c.loop-link.value-bits) _ _ _ c.loop-link.store c.operator.new.store c.in-Some.ensures c.loop-link.invariant.on c.in_ok-value-2.ensures (search rules) (search rules) }
+
+pub chains::chain-returns-in_err-value-2 : goal.chains::chain-returns-in_err-value-2
+chains::chain-returns-in_err-value-2 g t c = stands_ends c.args.work.now c.args.calls (env_of c.args.env.now) (eval c.args.work.now c.args.calls (expr_at (nodes_of c.args.work.now) c.args.id) (env_of c.args.env.now)) c.args.store.now c.loop-link.links c.pop.new.self c.in-Some.link (to_z w64 c.loop-link.value-bits) _ c.loop-link.store c.operator.new.store c.in_err-value-2.field-0.0 _ (search rules) c.in-Some.ensures c.loop-link.invariant.on c.in_err-value-2.ensures (search rules)
+
+pub chains::chain-operator-requires : goal.chains::chain-operator-requires
+chains::chain-operator-requires g t c = let smaller : right_of c.in-Some.link < c.args.id = last_below c.args.id c.loop-link.links c.pop.new.self c.in-Some.link c.in-Some.ensures c.loop-link.invariant.below in search rules
+
+pub chains::chain-returns : goal.chains::chain-returns
+chains::chain-returns g t c = stands_done c.args.work.now c.args.calls (env_of c.args.env.now) (eval c.args.work.now c.args.calls (expr_at (nodes_of c.args.work.now) c.args.id) (env_of c.args.env.now)) c.args.store.now c.loop-link.links (to_z w64 c.loop-link.value-bits) _ c.loop-link.store (search rules) c.loop-link.invariant.on (search rules)

@@ -1,10 +1,12 @@
 use Rattle.std.proofs.Common.{◌≡◌, ◌+◌, ◌*◌, ◌-◌, ◌≤◌, max, length, drop, suc, []}
 use Rattle.run_store.specs.Shows.{Goes}
 use Rattle.run_store.specs.Environment.{env_of}
-use Rattle.ada_typed.specs.Decoded.{stmts_at, optional_at, iteration_at, value_at}
+use Rattle.ada_typed.specs.Decoded.{stmts_at, expr_at, optional_at, iteration_at, value_at}
 use Rattle.run_parts.specs.Passing.{course_of}
 use Rattle.run_parts.specs.Words.{nodes_of}
-use Rattle.ada_interpreter.specs.Walk.{exec_all, while_loop, while_left, for_loop, for_left, run_values}
+use Rattle.ada_typed.specs.Chained.{right_of, AreBelow}
+use Rattle.ada_interpreter.proofs.Chaining.{Stands}
+use Rattle.ada_interpreter.specs.Walk.{eval, exec_all, while_loop, while_left, for_loop, for_left, run_values}
 use Rattle.ada_interpreter.proofs.+walk.Given as goal
 
 -- Calls first, then numbers of nodes, then the order in which functions that go by one node call each other.
@@ -220,3 +222,23 @@ decreases-texts::field g l = 1208925819614629174706176 * l.calls + 1099511627776
 
 abbrev pub decreases-texts::get : goal.decreases-texts::get
 decreases-texts::get g l = 1208925819614629174706176 * l.calls + 1099511627776 * l.selections + 549755813888
+
+-- ---- operators
+
+abbrev pub decreases-chains::operator : goal.decreases-chains::operator
+decreases-chains::operator g l = 1208925819614629174706176 * l.calls + 1099511627776 * right_of l.link + 412316860416
+
+abbrev pub decreases-chains::operand : goal.decreases-chains::operand
+decreases-chains::operand g l = 1208925819614629174706176 * l.calls + 1099511627776 * l.id + 412316860416
+
+abbrev pub decreases-chains::chain : goal.decreases-chains::chain
+decreases-chains::chain g l = 1208925819614629174706176 * l.calls + 1099511627776 * l.id + 343597383680
+
+abbrev pub invariant-chains::chain-loop-link : goal.invariant-chains::chain-loop-link
+invariant-chains::chain-loop-link g l = record {
+  below : AreBelow l.id l.links;
+  on : Stands g.P.Port.Tells l.work l.calls (env_of l.env) (eval l.work l.calls (expr_at (nodes_of l.work) l.id) (env_of l.env)) l.fn.store l.links l.value l.store;
+}
+
+abbrev pub decreases-chains::chain-loop-link : goal.decreases-chains::chain-loop-link
+decreases-chains::chain-loop-link g l = length l.links
