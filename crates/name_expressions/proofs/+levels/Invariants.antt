@@ -1,0 +1,145 @@
+use Rattle.std.proofs.Common.{◌≡◌, ◌+◌, ◌*◌, drop}
+use Rattle.name_rules.specs.Expressions as spec
+use Rattle.name_rules.specs.Judges.{found_of, part_if}
+use Rattle.name_rules.specs.Names as names
+use Rattle.name_rules.specs.Primaries.{inside}
+use Rattle.tree_nodes.specs.Parts.{the_addings, the_args, the_conjuncts, the_multiplyings}
+use Rattle.tree_nodes.specs.Tables.{part_at}
+use Rattle.typed_parts.specs.Stack.{parts, pop, top}
+use Rattle.name_expressions.proofs.+levels.Given as goal
+
+-- A function judges in as many brackets as its caller, or in one less behind a bracket.
+
+-- ---- primaries
+
+abbrev pub decreases-inside : goal.decreases-inside
+decreases-inside l = 100 * l.levels + 0
+
+abbrev pub decreases-name_inside : goal.decreases-name_inside
+decreases-name_inside l = 100 * l.levels + 0
+
+abbrev pub decreases-name : goal.decreases-name
+decreases-name l = 100 * l.levels + 95
+
+abbrev pub decreases-primary : goal.decreases-primary
+decreases-primary l = 100 * l.levels + 99
+
+-- ---- expressions
+
+abbrev pub decreases-factor : goal.decreases-factor
+decreases-factor l = 100 * l.levels + 1
+
+abbrev pub decreases-multiplying : goal.decreases-multiplying
+decreases-multiplying l = 100 * l.levels + 2
+
+abbrev pub decreases-multiplied : goal.decreases-multiplied
+decreases-multiplied l = 100 * l.levels + 3
+
+abbrev pub decreases-term : goal.decreases-term
+decreases-term l = 100 * l.levels + 4
+
+abbrev pub decreases-adding : goal.decreases-adding
+decreases-adding l = 100 * l.levels + 5
+
+abbrev pub decreases-added : goal.decreases-added
+decreases-added l = 100 * l.levels + 6
+
+abbrev pub decreases-first_term : goal.decreases-first_term
+decreases-first_term l = 100 * l.levels + 7
+
+abbrev pub decreases-simple : goal.decreases-simple
+decreases-simple l = 100 * l.levels + 8
+
+abbrev pub decreases-rel : goal.decreases-rel
+decreases-rel l = 100 * l.levels + 9
+
+abbrev pub decreases-conjoined : goal.decreases-conjoined
+decreases-conjoined l = 100 * l.levels + 10
+
+abbrev pub decreases-joined_rels : goal.decreases-joined_rels
+decreases-joined_rels l = 100 * l.levels + 11
+
+abbrev pub decreases-short_operand : goal.decreases-short_operand
+decreases-short_operand l = 100 * l.levels + 10
+
+abbrev pub decreases-short_operands : goal.decreases-short_operands
+decreases-short_operands l = 100 * l.levels + 11
+
+abbrev pub decreases-short_form : goal.decreases-short_form
+decreases-short_form l = 100 * l.levels + 12
+
+abbrev pub decreases-expr : goal.decreases-expr
+decreases-expr l = 100 * l.levels + 13
+
+abbrev pub decreases-condition : goal.decreases-condition
+decreases-condition l = 100 * l.levels + 14
+
+abbrev pub decreases-value_for : goal.decreases-value_for
+decreases-value_for l = 100 * l.levels + 14
+
+abbrev pub decreases-judged_alone : goal.decreases-judged_alone
+decreases-judged_alone l = 100 * l.levels + 14
+
+abbrev pub decreases-multiplied-links : goal.decreases-multiplied-links
+decreases-multiplied-links l = l.next
+
+abbrev pub decreases-added-links : goal.decreases-added-links
+decreases-added-links l = l.next
+
+abbrev pub decreases-conjoined-links : goal.decreases-conjoined-links
+decreases-conjoined-links l = l.next
+
+abbrev pub decreases-short_operands-links : goal.decreases-short_operands-links
+decreases-short_operands-links l = l.next
+
+abbrev pub invariant-multiplied-links : goal.invariant-multiplied-links
+invariant-multiplied-links l = (spec.multiplied (inside l.names l.levels) l.here (found_of l.fn.left (top (parts l.fn.out))) (the_multiplyings (part_at l.tree.nodes l.fn.more)) l.fn.log ≡ spec.multiplied (inside l.names l.levels) l.here (found_of l.x (top (parts l.out))) (the_multiplyings (part_at l.tree.nodes l.next)) l.log) × (pop (parts l.out) ≡ pop (parts l.fn.out))
+
+abbrev pub invariant-added-links : goal.invariant-added-links
+invariant-added-links l = (spec.added (inside l.names l.levels) l.here (found_of l.fn.left (top (parts l.fn.out))) (the_addings (part_at l.tree.nodes l.fn.more)) l.fn.log ≡ spec.added (inside l.names l.levels) l.here (found_of l.x (top (parts l.out))) (the_addings (part_at l.tree.nodes l.next)) l.log) × (pop (parts l.out) ≡ pop (parts l.fn.out))
+
+abbrev pub invariant-conjoined-links : goal.invariant-conjoined-links
+invariant-conjoined-links l = (spec.conjoined l.names (inside l.names l.levels) l.here l.op (found_of l.fn.left (top (parts l.fn.out))) (the_conjuncts (part_at l.tree.nodes l.fn.more)) l.fn.log ≡ spec.conjoined l.names (inside l.names l.levels) l.here l.op (found_of l.x (top (parts l.out))) (the_conjuncts (part_at l.tree.nodes l.next)) l.log) × (pop (parts l.out) ≡ pop (parts l.fn.out))
+
+abbrev pub invariant-short_operands-links : goal.invariant-short_operands-links
+invariant-short_operands-links l = (spec.short_operands l.names (inside l.names l.levels) l.here l.all (part_if l.fn.left (top (parts l.fn.out))) (the_conjuncts (part_at l.tree.nodes l.fn.more)) l.fn.log ≡ spec.short_operands l.names (inside l.names l.levels) l.here l.all (part_if l.x (top (parts l.out))) (the_conjuncts (part_at l.tree.nodes l.next)) l.log) × (pop (parts l.out) ≡ pop (parts l.fn.out))
+
+-- ---- ranges
+
+abbrev pub decreases-range : goal.decreases-range
+decreases-range l = 100 * l.levels + 20
+
+-- ---- indexes
+
+abbrev pub decreases-arg_alone : goal.decreases-arg_alone
+decreases-arg_alone l = 100 * l.levels + 31
+
+abbrev pub decreases-args_alone : goal.decreases-args_alone
+decreases-args_alone l = 100 * l.levels + 32
+
+abbrev pub decreases-wrong_call : goal.decreases-wrong_call
+decreases-wrong_call l = 100 * l.levels + 33
+
+abbrev pub decreases-index : goal.decreases-index
+decreases-index l = 100 * l.levels + 34
+
+abbrev pub decreases-indexes : goal.decreases-indexes
+decreases-indexes l = 100 * l.levels + 35
+
+abbrev pub decreases-index_shape : goal.decreases-index_shape
+decreases-index_shape l = 100 * l.levels + 36
+
+abbrev pub decreases-object_call : goal.decreases-object_call
+decreases-object_call l = 100 * l.levels + 37
+
+abbrev pub decreases-args_alone-args : goal.decreases-args_alone-args
+decreases-args_alone-args l = l.next
+
+abbrev pub decreases-indexes-indexes : goal.decreases-indexes-indexes
+decreases-indexes-indexes l = l.next
+
+abbrev pub invariant-args_alone-args : goal.invariant-args_alone-args
+invariant-args_alone-args l = (names.args_alone l.names (inside l.names l.levels) l.here (the_args (part_at l.tree.nodes l.fn.more)) l.fn.log ≡ names.args_alone l.names (inside l.names l.levels) l.here (the_args (part_at l.tree.nodes l.next)) l.log) × (parts l.out ≡ parts l.fn.out)
+
+abbrev pub invariant-indexes-indexes : goal.invariant-indexes-indexes
+invariant-indexes-indexes l = (names.indexes l.names (inside l.names l.levels) l.here (drop l.fn.place l.dimensions) l.cells (part_if l.fn.done (top (parts l.fn.out))) (the_args (part_at l.tree.nodes l.fn.more)) l.fn.log ≡ names.indexes l.names (inside l.names l.levels) l.here (drop l.i l.dimensions) l.cells (part_if l.s (top (parts l.out))) (the_args (part_at l.tree.nodes l.next)) l.log) × (pop (parts l.out) ≡ pop (parts l.fn.out))

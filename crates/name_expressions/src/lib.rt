@@ -1,0 +1,11 @@
+//! The rules of names and expressions (4), which make parts of the typed program: each function that judges leaves the
+//! part of what it found as the latest one, and writes the faults in the order of the text.
+//!
+//! A part of the text is judged in so many brackets as may still be opened, `levels`.
+#![tactic(auto)]
+
+pub mod expressions;
+pub mod indexes;
+pub mod names;
+pub mod primaries;
+pub mod ranges;

@@ -1,0 +1,14 @@
+//! The rules of values and names that have no bracket in them (3.5, 4.1 to 4.5, 8.3): types, what an expression was found to
+//! be, operators, and what an identifier stands for. Each function that judges leaves the part of what it found as the
+//! latest one, and writes the faults in the order of the text.
+#![tactic(auto)]
+
+pub mod exact;
+pub mod logs;
+pub mod operators;
+pub mod relations;
+pub mod scope;
+pub mod shapes;
+pub mod symbols;
+pub mod types;
+pub mod values;
