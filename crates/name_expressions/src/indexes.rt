@@ -1,6 +1,6 @@
 //! Indexed components (4.1.1), and arguments where none can stand.
 
-ghost use Rattle.std.specs.Prelude.{◌≡◌, ◌*◌, ◌∷◌, IfOk, OnOk, drop, slice_get};
+ghost use Rattle.std.specs.Prelude.{◌≡◌, ◌∷◌, IfOk, OnOk, drop};
 ghost use Rattle.ada_tree.specs.Syntax as syntax;
 ghost use Rattle.name_rules.specs.Judges.{Gives, Judges, found_of, part_if};
 ghost use Rattle.name_rules.specs.Names as spec;
@@ -11,13 +11,14 @@ ghost use Rattle.tree_nodes.specs.Tables.{part_at};
 ghost use Rattle.typed_parts.specs.Stack.{parts, pop, second, top};
 
 use crate::expressions::{expr, judged_alone};
-use crate::names::{cells_in, component_of, is_array, part_place, wrong_name};
 use ada_base::Items;
 use name_rules::found::{Denoted, Found, Place};
-use name_rules::log::{Dimension, Log, Rule, Shape};
+use name_rules::log::{Dimension, Log, Rule};
 use name_rules::scope::{Context, Names};
 use name_rules::types::{Subtype, Wanted};
+use name_values::arrays::{component_cells, dimension_of, dimensions_of, stride};
 use name_values::logs::not_given;
+use name_values::names::{component_of, is_array, part_place, wrong_name};
 use name_values::shapes::is_string;
 use name_values::values::{asked, first_of};
 use std::alloc::AllocError;
@@ -107,51 +108,6 @@ pub fn count(tree: &Tree, more: u32) -> Result<usize, AllocError>
     Ok(n)
 }
 
-/// How many cells so many indexes of a dimension have, which have so many each.
-fn extended(dimension: Dimension, cells: u64) -> u64
-    ensures { result ≡ types.saturated (types.extent dimension * cells) }
-{
-    let last = (i128::from(dimension.high) - i128::from(dimension.low)).unsigned_abs();
-    let all = (last + 1).saturating_mul(u128::from(cells));
-    if all > 18_446_744_073_709_551_615 {
-        18_446_744_073_709_551_615
-    } else {
-        all as u64
-    }
-}
-
-/// How many cells an array of these dimensions from one on has, with components of so many.
-#[tactic(auto, using(crate::proofs::Lists::drop_get, crate::proofs::Lists::drop_none, crate::proofs::Lists::drop_past))]
-pub fn array_cells(dimensions: &Items<Dimension>, from: usize, cells: u64) -> u64
-    ensures { result ≡ types.array_cells (drop from dimensions.now) cells }
-{
-    let n = dimensions.len();
-    let mut all = cells;
-    let mut i = from;
-    'dimensions: while i < n {
-        match dimensions.get(i) {
-            None => return all,
-            Some(dimension) => {
-                all = extended(*dimension, all);
-                i += 1;
-            }
-        }
-    }
-    all
-}
-
-/// How many cells lie between neighbours in a dimension.
-#[tactic(auto, using(crate::proofs::Lists::stride_in, crate::proofs::Lists::stride_past))]
-pub fn stride(dimensions: &Items<Dimension>, place: usize, cells: u64) -> u64
-    ensures { result ≡ types.stride (drop place dimensions.now) cells }
-{
-    if place < dimensions.len() {
-        array_cells(dimensions, place + 1, cells)
-    } else {
-        cells
-    }
-}
-
 /// The selection by an index, which joins those before it. Neighbours that are 2^32 cells apart are beyond memory.
 fn selected_by(out: &mut Parts, at: u32, dimension: Dimension, apart: u64) -> Result<(), AllocError>
     ensures { OnOk result (parts out.new ≡ spec.selected_by at dimension apart (second (parts out.old)) (top (parts out.old)) ∷ pop (pop (parts out.old))) }
@@ -200,16 +156,6 @@ fn unnamed(log: &mut Log, out: &Parts, formal: Option<u32>, given: bool) -> Resu
     }
 }
 
-#[tactic(auto, using(crate::proofs::Lists::get_drop))]
-fn dimension_of(dimensions: &Items<Dimension>, place: usize) -> Option<Dimension>
-    ensures { result ≡ slice_get (drop place dimensions.now) 0 }
-{
-    match dimensions.get(place) {
-        Some(dimension) => Some(*dimension),
-        None => None,
-    }
-}
-
 #[cycle(levels)]
 #[tactic(auto, unfolding(name_rules::specs::Names::index))]
 fn index(
@@ -245,7 +191,7 @@ fn index(
 }
 
 #[cycle(levels)]
-#[tactic(auto, using(crate::proofs::Lists::drop_step))]
+#[tactic(auto, using(name_values::proofs::Lists::drop_step))]
 fn indexes(
     names: &Names,
     levels: u32,
@@ -275,27 +221,6 @@ fn indexes(
         next = cell.rest;
     }
     Ok(s)
-}
-
-/// The dimensions of an array type, by its number.
-pub fn dimensions_of(log: &Log, out: &Parts, number: u32) -> Result<Items<Dimension>, AllocError>
-    ensures { IfOk result (λ dimensions. dimensions ≡ types.dimensions_of (types.shape_in log.now number)) }
-{
-    let mut all = Items::new(out.alloc());
-    match log.shapes.get(number as usize) {
-        Some(Shape::Array { dimensions, .. }) => all.extend(dimensions.as_slice())?,
-        _ => (),
-    }
-    Ok(all)
-}
-
-fn component_cells(log: &Log, component: Option<Subtype>) -> u64
-    ensures { result ≡ spec.component_cells log.now component }
-{
-    match component {
-        None => 1,
-        Some(subtype) => cells_in(log, subtype),
-    }
 }
 
 fn indexed(

@@ -6,6 +6,5 @@
 
 pub mod expressions;
 pub mod indexes;
-pub mod names;
 pub mod primaries;
 pub mod ranges;

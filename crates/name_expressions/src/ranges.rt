@@ -10,13 +10,13 @@ ghost use Rattle.tree_nodes.specs.Tables.{part_at};
 ghost use Rattle.typed_parts.specs.Stack.{parts, pop, second, top};
 
 use crate::expressions::simple;
-use crate::names::denoted_first;
 use crate::primaries::name_inside;
 use name_rules::found::{Bounded, Denoted, Found};
 use name_rules::log::{Log, Rule};
 use name_rules::scope::{Context, Names};
 use name_rules::types::{Kind, Scalar, Subtype, Wanted};
 use name_values::logs::{breaks, cleared};
+use name_values::names::denoted_first;
 use name_values::relations::common_kind;
 use name_values::types::{base_of, lies_in};
 use name_values::values::{asked, first_of, is_scalar, kind_of, literal, suits, value_of};

@@ -3,8 +3,10 @@
 //! latest one, and writes the faults in the order of the text.
 #![tactic(auto)]
 
+pub mod arrays;
 pub mod exact;
 pub mod logs;
+pub mod names;
 pub mod operators;
 pub mod relations;
 pub mod scope;

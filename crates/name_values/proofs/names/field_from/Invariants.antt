@@ -2,7 +2,7 @@ use Rattle.std.proofs.Common.{◌≡◌, ◌-◌, length, drop}
 use Rattle.name_rules.specs.Names as spec
 use Rattle.name_rules.specs.Types.{fields_of, shape_in}
 use Rattle.typed_parts.specs.Stack.{parts, top}
-use Rattle.name_expressions.proofs.names.field_from.Given as goal
+use Rattle.name_values.proofs.names.field_from.Given as goal
 
 abbrev pub invariant-fields : goal.invariant-fields
 invariant-fields l = spec.field_from l.names l.place (top (parts l.out)) l.at 0 (fields_of (shape_in l.log l.number)) l.log ≡ spec.field_from l.names l.place (top (parts l.out)) l.at l.i (drop l.i (fields_of (shape_in l.log l.number))) l.log

@@ -10,14 +10,14 @@ ghost use Rattle.name_rules.specs.Types as types;
 ghost use Rattle.name_rules.specs.TypedParts.{also};
 ghost use Rattle.typed_parts.specs.Stack.{parts, pop, top};
 
+use crate::logs::breaks;
+use crate::scope::selected;
+use crate::symbols::symbol;
+use crate::values::first_of;
 use name_rules::found::{Denoted, Found, Place};
 use name_rules::log::{Dimension, Field, Log, Rule, Shape};
 use name_rules::scope::{Context, Names};
 use name_rules::types::Subtype;
-use name_values::logs::breaks;
-use name_values::scope::selected;
-use name_values::symbols::symbol;
-use name_values::values::first_of;
 use std::alloc::AllocError;
 use typed_parts::Parts;
 
