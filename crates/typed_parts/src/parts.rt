@@ -59,6 +59,11 @@ impl Parts {
         })
     }
 
+    /// The allocator of the table.
+    pub fn alloc(&self) -> Global {
+        self.alloc
+    }
+
     /// Takes the latest part, and gives its number.
     fn take(&mut self) -> u32
         ensures { (part_at self.new.nodes result ≡ top (parts self.old)) × (parts self.new ≡ pop (parts self.old)) × (result < length self.new.nodes) × (self.new.nodes ≡ self.old.nodes) }

@@ -17,6 +17,15 @@ impl Parts {
         self.hold(none)
     }
 
+    /// The latest part once more.
+    pub fn again(&mut self) -> Result<(), AllocError>
+        ensures { OnOk result (parts self.new ≡ top (parts self.old) ∷ top (parts self.old) ∷ pop (parts self.old)) }
+    {
+        let last = self.take();
+        self.hold(last)?;
+        self.hold(last)
+    }
+
     /// Leaves the latest part out.
     pub fn leave_out(&mut self)
         ensures { parts self.new ≡ pop (parts self.old) }
