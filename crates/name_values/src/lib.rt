@@ -8,6 +8,7 @@ pub mod exact;
 pub mod logs;
 pub mod names;
 pub mod operators;
+pub mod order;
 pub mod relations;
 pub mod scope;
 pub mod shapes;
