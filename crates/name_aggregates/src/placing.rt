@@ -1,21 +1,20 @@
 //! What the associations of an array's aggregate (4.3.3) give of one dimension, so far: the latest part is the list of the
 //! associations, and the value of the rest lies below it.
 
-ghost use Rattle.std.specs.Prelude.{◌≡◌, ◌∷◌, [], IfOk, OnOk, None};
+ghost use Rattle.std.specs.Prelude.{◌≡◌, ◌∷◌, [], IfOk, OnOk, None, Some, drop, false, slice_get};
 ghost use Rattle.ada_typed.specs.Decoded as part;
 ghost use Rattle.name_aggregates.specs.Placed.{chosen, placed};
 ghost use Rattle.name_rules.specs.Aggregates as spec;
 ghost use Rattle.name_rules.specs.Judges.{Judges, Says, found_of, part_if};
 ghost use Rattle.name_rules.specs.Judging.{given};
 ghost use Rattle.name_rules.specs.Parts as whole;
-ghost use Rattle.name_rules.specs.Scope as scopes;
 ghost use Rattle.typed_parts.specs.Stack.{parts, pop, second, top};
 
 use crate::associations::placed_value;
 use ada_base::Items;
 use ada_typed::Iterated;
 use name_rules::log::{Dimension, Log, Rule};
-use name_rules::scope::{Context, Entry, What};
+use name_rules::scope::What;
 use name_rules::types::{Kind, Scalar};
 use name_values::logs::breaks;
 use name_values::types::same;
@@ -38,6 +37,18 @@ pub struct Choosing {
     pub good: bool,
     pub ranges: Items<(i128, i128)>,
     pub rest: bool,
+}
+
+/// No choice is made yet.
+pub fn no_choice(out: &mut Parts) -> Result<Choosing, AllocError>
+    ensures { IfOk result (λ c. (Some (record { ranges = []; rest = false; mentions = part.Nothing }) ≡ chosen c (parts out.new)) × (pop (parts out.new) ≡ parts out.old)) }
+{
+    out.nothing()?;
+    Ok(Choosing {
+        good: true,
+        ranges: Items::new(out.alloc()),
+        rest: false,
+    })
 }
 
 /// Nothing is given yet.
@@ -216,28 +227,23 @@ pub fn new_parameter(log: &mut Log) -> Result<u32, AllocError>
     Ok(number)
 }
 
-/// The place where a name is declared besides.
-pub fn with_entry(
-    here: &Context,
-    out: &Parts,
-    symbol: u32,
-    what: What,
-) -> Result<Context, AllocError>
-    ensures { IfOk result (λ inner. inner ≡ scopes.with_entry here.now symbol what) }
+/// The dimension at a place, from 0 on.
+pub fn nth_dimension(dimensions: &Items<Dimension>, place: usize) -> Option<Dimension>
+    ensures { result ≡ slice_get dimensions.now place }
 {
-    let mut scope = Items::new(out.alloc());
-    scope.extend(here.scope.as_slice())?;
-    scope.push(Entry { symbol, what })?;
-    let mut loops = Items::new(out.alloc());
-    loops.extend(here.loops.as_slice())?;
-    Ok(Context {
-        scope,
-        withed: here.withed,
-        used: here.used,
-        target: here.target,
-        loops,
-        in_handler: here.in_handler,
-        returns: here.returns,
-        owner: here.owner,
-    })
+    match dimensions.get(place) {
+        Some(dimension) => Some(*dimension),
+        None => None,
+    }
+}
+
+/// Whether no dimension follows from a place on.
+#[tactic(auto, using(name_values::proofs::Lists::drop_get, name_values::proofs::Lists::drop_none))]
+pub fn is_last(dimensions: &Items<Dimension>, place: usize) -> bool
+    ensures { result ≡ spec.is_last (drop place dimensions.now) }
+{
+    match nth_dimension(dimensions, place) {
+        None => true,
+        Some(_) => false,
+    }
 }
