@@ -27,6 +27,12 @@ pub const DATA_ERROR: u32 = 16;
 
 pub const END_ERROR: u32 = 17;
 
+pub const MAX: u32 = 22;
+
+pub const MIN: u32 = 23;
+
+pub const WIDTH: u32 = 28;
+
 /// The symbol of the identifier that is a token.
 pub fn symbol(names: &Names, token: u32) -> u32
     ensures { result ≡ spec.symbol names.now token }
