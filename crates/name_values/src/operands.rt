@@ -18,7 +18,7 @@ use typed_parts::Parts;
 
 /// One more operand, which is the latest part, joins those before it, whose list is the part before; whether each could
 /// be judged.
-#[tactic(auto, using(crate::proofs::Operands::founds_more))]
+#[tactic(auto, using(crate::proofs::Founds::founds_more))]
 pub fn with_operand(
     out: &mut Parts,
     operands: &mut Items<Found>,
@@ -67,7 +67,7 @@ fn converted(
 
 /// The conversion of the operand, of a list of operands that is the latest part: WrongType at the bracket where there is
 /// another number of them.
-#[tactic(auto, using(crate::proofs::Operands::one_found, crate::proofs::Operands::not_one))]
+#[tactic(auto, using(crate::proofs::Founds::one_found, crate::proofs::Founds::not_one))]
 pub fn one_operand(
     log: &mut Log,
     out: &mut Parts,

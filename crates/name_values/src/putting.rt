@@ -1,11 +1,13 @@
 //! What Put, Put_Line, New_Line and Get make of their arguments (A.10.6 to A.10.8).
 
-ghost use Rattle.std.specs.Prelude.{◌≡◌, ◌+◌, ◌∷◌, None, OnOk};
+ghost use Rattle.std.specs.Prelude.{◌≡◌, ◌+◌, ◌∷◌, None, OnOk, not};
 ghost use Rattle.name_rules.specs.Judges.{Gives, Judges, Says, found, found_of, part_if};
+ghost use Rattle.name_rules.specs.Judging.{given as where_given, unless};
 ghost use Rattle.name_rules.specs.Output as spec;
 ghost use Rattle.name_rules.specs.TypedParts.{selections_of};
 ghost use Rattle.name_rules.specs.Values as values;
 ghost use Rattle.name_values.specs.Putting.{get_given, putting_of};
+ghost use Rattle.name_rules.specs.declared.log.Rule.TheVariants.{Twice};
 ghost use Rattle.name_values.specs.Calling.{Leaves};
 ghost use Rattle.tree_nodes.specs.Parts.{the_args};
 ghost use Rattle.tree_nodes.specs.Tables.{part_at};
@@ -131,6 +133,41 @@ pub fn item_of(
     } else {
         not_given(log, out, first_of(given), Rule::WrongType)
     }
+}
+
+/// The same of an argument that may have a fault.
+pub fn width_given(log: &mut Log, out: &mut Parts, given: Option<Found>) -> Result<bool, AllocError>
+    ensures { Gives (where_given (found_of given (top (parts out.old))) spec.width_of log.old) (pop (parts out.old)) result log.new (parts out.new) }
+{
+    match given {
+        Some(given) => width_of(log, out, given),
+        None => Ok(false),
+    }
+}
+
+/// The same of an argument that may have a fault.
+pub fn item_given(
+    log: &mut Log,
+    out: &mut Parts,
+    integer_io: bool,
+    given: Option<Found>,
+) -> Result<bool, AllocError>
+    ensures { Gives (where_given (found_of given (top (parts out.old))) (spec.item_of integer_io) log.old) (pop (parts out.old)) result log.new (parts out.new) }
+{
+    match given {
+        Some(given) => item_of(log, out, integer_io, given),
+        None => Ok(false),
+    }
+}
+
+/// Writes that there is a second width, at the argument's first token, where there is one already.
+pub fn once(log: &mut Log, has_width: bool, first: u32) -> Result<(), AllocError>
+    ensures { Says (unless (not has_width) first Twice log.old) result log.new }
+{
+    if has_width {
+        breaks(log, first, Rule::Twice)?;
+    }
+    Ok(())
 }
 
 /// A width, which is the latest part, or is none, in place of that before it.
