@@ -229,7 +229,7 @@ fn io_given(
         tree,
         given.value,
     )?;
-    if is_number_put(put, x) {
+    if is_number_put(out, put, x) {
         return number_put(
             names, levels, here, log, out, before, at, first, last, reach, x, tree, more,
         );

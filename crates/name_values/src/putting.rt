@@ -238,22 +238,23 @@ pub fn put_complete(
     Ok(Some(Denoted::Done { first }))
 }
 
-/// Whether an expression is a string.
-pub fn is_text(given: Option<Found>) -> bool
-    ensures { result ≡ spec.is_text given }
+/// Whether an expression, which is the latest part, is a string.
+fn is_text(out: &Parts, given: Option<Found>) -> bool
+    ensures { result ≡ spec.is_text (found_of given (top (parts out.now))) }
 {
+    let _out = out;
     match given {
         Some(Found::Text { .. }) => true,
         _ => false,
     }
 }
 
-/// Whether a call is Put of a number, of what its first argument was found to be.
-pub fn is_number_put(put: Put, given: Option<Found>) -> bool
-    ensures { result ≡ spec.is_number_put put given }
+/// Whether a call is Put of a number, of what its first argument was found to be, which is the latest part.
+pub fn is_number_put(out: &Parts, put: Put, given: Option<Found>) -> bool
+    ensures { result ≡ spec.is_number_put put (found_of given (top (parts out.now))) }
 {
     match put {
-        Put::Put => !is_text(given),
+        Put::Put => !is_text(out, given),
         _ => false,
     }
 }
@@ -360,7 +361,7 @@ pub fn by_procedure(
         Put::Put => match given {
             None => Ok(None),
             Some(given) => {
-                if is_text(Some(given)) {
+                if is_text(out, Some(given)) {
                     put_of_text(log, out, at, first, last, reach, tree, more, given)
                 } else {
                     Ok(None)
