@@ -199,6 +199,7 @@ fn number_put(
 }
 
 #[cycle(levels)]
+#[tactic(auto, unfolding(name_rules::specs::Output::io_call), using(crate::proofs::Puts::number_only))]
 fn io_given(
     names: &Names,
     levels: u32,

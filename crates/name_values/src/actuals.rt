@@ -221,6 +221,7 @@ fn is_given(given: &Items<usize>, index: usize) -> bool
 }
 
 /// Writes where a parameter is given twice, at the argument's first token.
+#[tactic(auto, using(crate::proofs::Calls::any_reversed))]
 pub fn given_once(
     log: &mut Log,
     first: u32,
