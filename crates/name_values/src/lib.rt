@@ -4,7 +4,9 @@
 #![tactic(auto)]
 
 pub mod arrays;
+pub mod conditionals;
 pub mod exact;
+pub mod exceptions;
 pub mod logs;
 pub mod names;
 pub mod operators;
