@@ -1,4 +1,5 @@
 pub mod Calling
+pub mod Conditionals
 pub mod Operands
 pub mod Putting
 pub mod Reductions

@@ -5,7 +5,9 @@
 
 pub mod actuals;
 pub mod arrays;
+pub mod conditionals;
 pub mod exact;
+pub mod exceptions;
 pub mod logs;
 pub mod names;
 pub mod operands;
