@@ -5,6 +5,7 @@
 
 pub mod actuals;
 pub mod arrays;
+pub mod brackets;
 pub mod conditionals;
 pub mod exact;
 pub mod exceptions;

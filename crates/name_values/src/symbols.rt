@@ -52,3 +52,13 @@ pub fn number(names: &Names, token: u32) -> i128
         None => 0,
     }
 }
+
+/// The bytes of the string literal that is a token (2.6).
+pub fn text(names: &Names, token: u32) -> &[u8]
+    ensures { result.now ≡ spec.text names.now token }
+{
+    match names.texts.get(token as usize) {
+        Some(bytes) => bytes.as_slice(),
+        None => &[],
+    }
+}
