@@ -9,8 +9,8 @@ use Rattle.name_rules.specs.declared.found.Attribute.{Attribute}
 use Rattle.name_rules.specs.declared.found.Prefix.{Prefix}
 use Rattle.name_rules.specs.declared.log.Rule.TheVariants.{WrongType}
 use Rattle.name_rules.specs.declared.types.Kind.{Kind}
-use Rattle.name_values.specs.declared.attributes.One.TheVariants as one
-use Rattle.name_values.specs.declared.attributes.One.{One}
+use Rattle.name_primaries.specs.declared.attributes.One.TheVariants as one
+use Rattle.name_primaries.specs.declared.attributes.One.{One}
 use Rattle.std.specs.Prelude.{Option}
 
 -- of one argument: its image, or a sum with 1

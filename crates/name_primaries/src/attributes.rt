@@ -1,26 +1,27 @@
 //! Attributes (3.5, 3.6.2, 4.10), as far as no bracket is in them.
 
-ghost use Rattle.std.specs.Prelude.{◌≡◌, ◌∷◌, [], IfOk, None, OnOk, length, pos, slice_get};
+ghost use Rattle.std.specs.Prelude.{◌≡◌, ◌∷◌, [], IfOk, None, OnOk, pos, slice_get};
+ghost use Rattle.ada_typed.specs.Decoded.{as_expr};
 ghost use Rattle.name_rules.specs.Attributes as spec;
 ghost use Rattle.name_rules.specs.Judges.{Judges, found};
 ghost use Rattle.name_rules.specs.Types as types;
-ghost use Rattle.name_values.specs.Attributes.{one_made, two_made};
+ghost use Rattle.name_primaries.specs.Attributes.{one_made, other_alone};
 ghost use Rattle.name_values.specs.Operands.{founds};
 ghost use Rattle.typed_parts.specs.Stack.{parts, pop, second, top};
 
-use crate::arrays::dimensions_of;
-use crate::logs::{also_all, cleared};
-use crate::names::{denoted_first, dimension_at, wrong_name};
-use crate::putting::static_of_kind;
-use crate::symbols::{
-    FIRST, IMAGE, LAST, LENGTH, MAX, MIN, PARALLEL_REDUCE, PRED, REDUCE, SUCC,
-};
-use crate::types::class_of;
-use crate::values::{asked, first_of, is_number, mentions, own_kind};
 use ada_base::{Items, Op};
 use name_rules::found::{Attribute, Denoted, Found, Place, Prefix};
 use name_rules::log::{Dimension, Log, Rule};
 use name_rules::types::{Kind, Scalar, Subtype};
+use name_values::arrays::dimensions_of;
+use name_values::logs::{also_all, cleared};
+use name_values::names::{denoted_first, dimension_at, wrong_name};
+use name_values::putting::static_of_kind;
+use name_values::symbols::{
+    FIRST, IMAGE, LAST, LENGTH, MAX, MIN, PARALLEL_REDUCE, PRED, REDUCE, SUCC,
+};
+use name_values::types::class_of;
+use name_values::values::{asked, first_of, is_number, mentions, own_kind};
 use std::alloc::AllocError;
 use typed_parts::Parts;
 
@@ -239,6 +240,15 @@ fn bound_alone(
     }
 }
 
+fn nth(dimensions: &Items<Dimension>, place: usize) -> Option<Dimension>
+    ensures { result ≡ slice_get dimensions.now place }
+{
+    match dimensions.get(place) {
+        Some(dimension) => Some(*dimension),
+        None => None,
+    }
+}
+
 /// The dimension of a number, from 1 on, of which there are so many: StaticRange at the number where it is another.
 fn numbered_dimension(
     log: &mut Log,
@@ -252,7 +262,7 @@ fn numbered_dimension(
     ensures { Judges (spec.dimension_at first (top (parts out.now)) attribute dimensions.now at number log.old) (pop (parts out.now)) result log.new (parts out.now) }
 {
     if 1 <= number && number <= dimensions.len() as i128 {
-        let dimension = dimensions.get(number.unsigned_abs() as usize - 1).copied();
+        let dimension = nth(dimensions, number.unsigned_abs() as usize - 1);
         bound_in(log, out, first, attribute, dimension)
     } else {
         wrong_name(log, out, at, Rule::StaticRange)
@@ -280,14 +290,22 @@ fn dimension_given(
     match value {
         None => Ok(None),
         Some(value) => {
-            numbered_dimension(log, out, first, attribute, dimensions, first_of(given), value)
+            numbered_dimension(
+                log,
+                out,
+                first,
+                attribute,
+                dimensions,
+                first_of(given),
+                value,
+            )
         }
     }
 }
 
 /// An attribute of the dimension that the one operand gives; the list of operands is the latest part, and what is
 /// mentioned the one before. WrongType at the bracket where there are more.
-#[tactic(auto, using(crate::proofs::Founds::one_found, crate::proofs::Founds::not_one))]
+#[tactic(auto, using(name_values::proofs::Founds::one_found, crate::proofs::Arguments::not_one_dimension))]
 pub fn one_dimension(
     log: &mut Log,
     out: &mut Parts,
@@ -320,12 +338,7 @@ pub enum One {
 }
 
 /// What an attribute makes of an argument of a type, which is the latest part.
-fn made_of_one(
-    out: &mut Parts,
-    first: u32,
-    kind: Kind,
-    one: One,
-) -> Result<Denoted, AllocError>
+fn made_of_one(out: &mut Parts, first: u32, kind: Kind, one: One) -> Result<Denoted, AllocError>
     ensures { IfOk result (λ denoted. (found denoted (top (parts out.new)) ≡ one_made one first kind (as_expr (top (parts out.old)))) × (pop (parts out.new) ≡ pop (parts out.old))) }
 {
     match one {
@@ -367,7 +380,7 @@ fn one_given(
 
 /// What an attribute makes of its one argument, where none has a name, of the list of arguments that is the latest part:
 /// Unknown at a name, WrongType at the bracket where there is another number of arguments.
-#[tactic(auto, using(crate::proofs::Founds::one_found, crate::proofs::Founds::not_one))]
+#[tactic(auto, using(name_values::proofs::Founds::one_found, crate::proofs::Arguments::not_one_named))]
 pub fn one_named(
     log: &mut Log,
     out: &mut Parts,
@@ -422,7 +435,7 @@ fn two_given(
 
 /// The greater or the smaller of the two arguments, where none has a name, of the list of arguments that is the latest
 /// part: Unknown at a name, WrongType at the bracket where there is another number of arguments.
-#[tactic(auto, using(crate::proofs::Founds::two_found, crate::proofs::Founds::not_two))]
+#[tactic(auto, using(crate::proofs::Arguments::two_found, crate::proofs::Arguments::not_two_named))]
 pub fn two_named(
     log: &mut Log,
     out: &mut Parts,
@@ -459,7 +472,14 @@ fn object_image(
 {
     match place.subtype {
         Subtype::Scalar(scalar) => {
-            one_given(log, out, first, scalar.kind, One::Image, Found::Object(place))
+            one_given(
+                log,
+                out,
+                first,
+                scalar.kind,
+                One::Image,
+                Found::Object(place),
+            )
         }
         Subtype::Composite(_) => wrong_name(log, out, first, Rule::WrongType),
     }

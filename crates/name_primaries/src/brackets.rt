@@ -10,15 +10,15 @@ ghost use Rattle.name_rules.specs.Values as values;
 ghost use Rattle.typed_parts.specs.Stack.{parts, pop, top};
 
 use crate::conditionals::composite_in;
-use crate::logs::breaks;
-use crate::symbols::text;
-use crate::types::typed_scalar;
-use crate::values::{asked, composite_asked, kind_of};
 use ada_typed::Leaf;
 use name_rules::found::Found;
 use name_rules::log::{Log, Rule};
 use name_rules::scope::{Names, Target};
 use name_rules::types::{Subtype, Wanted};
+use name_values::logs::breaks;
+use name_values::symbols::text;
+use name_values::types::typed_scalar;
+use name_values::values::{asked, composite_asked, kind_of};
 use std::alloc::AllocError;
 use typed_parts::Parts;
 

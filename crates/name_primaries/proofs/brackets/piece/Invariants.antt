@@ -1,7 +1,7 @@
 use Rattle.std.proofs.Common.{◌≡◌, ◌≤◌, length, drop}
 use Rattle.ada_typed.specs.Decoded.{as_bytes}
 use Rattle.typed_parts.specs.Stack.{parts, pop, top}
-use Rattle.name_values.proofs.brackets.piece.Given as goal
+use Rattle.name_primaries.proofs.brackets.piece.Given as goal
 
 abbrev pub invariant-bytes : goal.invariant-bytes
 invariant-bytes l = (l.i ≤ length l.text) × (as_bytes (top (parts l.out)) ≡ drop l.i l.text) × (pop (parts l.out) ≡ parts l.fn.out)

@@ -8,15 +8,15 @@ ghost use Rattle.name_rules.specs.Operators as operators;
 ghost use Rattle.name_rules.specs.Primaries as spec;
 ghost use Rattle.name_rules.specs.TypedParts.{left_of, right_of};
 ghost use Rattle.name_rules.specs.Values as value_rules;
-ghost use Rattle.name_values.specs.Conditionals.{Chooses, LeavesIf, waiting_if};
+ghost use Rattle.name_primaries.specs.Conditionals.{Chooses, LeavesIf, waiting_if};
 ghost use Rattle.typed_parts.specs.Stack.{parts, pop, second, third, top};
 
-use crate::operators::{joint, open_of};
-use crate::values::{asked, composite_asked, kind_of};
 use ada_base::Items;
 use name_rules::found::{Found, Limits};
 use name_rules::log::Log;
 use name_rules::types::{Kind, Subtype};
+use name_values::operators::{joint, open_of};
+use name_values::values::{asked, composite_asked, kind_of};
 use std::alloc::AllocError;
 use typed_parts::Parts;
 
