@@ -1,8 +1,5 @@
-<<<<<<< HEAD
-pub mod Contents
-pub mod Rows
-=======
 pub mod Arguments
+pub mod Contents
 pub mod Putting
 pub mod Reducers
->>>>>>> names/main
+pub mod Rows
