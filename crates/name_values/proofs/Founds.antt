@@ -20,7 +20,7 @@ length_latest : (ks : List Known) (p : Part) → length (latest_founds ks p) ≡
 length_latest [] p = refl
 length_latest (k ∷ ks) p = omega (arith, length-append (latest_founds ks (right_of p)) (found k (left_of p) ∷ []), length_latest ks (right_of p))
 
-length_founds : (ks : List Known) (p : Part) → length (founds ks p) ≡ length ks
+pub length_founds : (ks : List Known) (p : Part) → length (founds ks p) ≡ length ks
 length_founds ks p = omega (arith, length_latest (reverse ks) p, length-reverse ks)
 
 pub one_found : (ks : List Known) (k : Known) (p : Part) → ks ≡ k ∷ [] → founds ks p ≡ found k (left_of p) ∷ []

@@ -1,5 +1,4 @@
 pub mod Calling
-pub mod Conditionals
 pub mod Operands
 pub mod Putting
 pub mod Reductions

@@ -5,7 +5,6 @@
 
 pub mod actuals;
 pub mod arrays;
-pub mod conditionals;
 pub mod exact;
 pub mod exceptions;
 pub mod logs;

@@ -1,2 +1,3 @@
 pub mod Classes
+pub mod Indexes
 pub mod Stack

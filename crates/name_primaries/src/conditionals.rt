@@ -8,15 +8,15 @@ ghost use Rattle.name_rules.specs.Operators as operators;
 ghost use Rattle.name_rules.specs.Primaries as spec;
 ghost use Rattle.name_rules.specs.TypedParts.{left_of, right_of};
 ghost use Rattle.name_rules.specs.Values as value_rules;
-ghost use Rattle.name_values.specs.Conditionals.{Chooses, LeavesIf, waiting_if};
+ghost use Rattle.name_primaries.specs.Conditionals.{Chooses, LeavesIf, waiting_if};
 ghost use Rattle.typed_parts.specs.Stack.{parts, pop, second, third, top};
 
-use crate::operators::{joint, open_of};
-use crate::values::{asked, composite_asked, kind_of};
 use ada_base::Items;
 use name_rules::found::{Found, Limits};
 use name_rules::log::Log;
 use name_rules::types::{Kind, Subtype};
+use name_values::operators::{joint, open_of};
+use name_values::values::{asked, composite_asked, kind_of};
 use std::alloc::AllocError;
 use typed_parts::Parts;
 
@@ -31,6 +31,7 @@ fn no_choice(out: &mut Parts, values: &Items<Found>) -> Result<bool, AllocError>
 
 /// A condition and a value, the two latest parts, join those before them, which are the part before: all of them wait
 /// for their type, unless one has a fault.
+#[tactic(auto, using(crate::proofs::Backward::reverse_last))]
 pub fn also_choice(
     out: &mut Parts,
     values: &mut Items<Found>,
@@ -85,6 +86,7 @@ fn first_some(a: Option<u32>, b: Option<u32>) -> Option<u32>
 }
 
 /// The type of the first value that has a scalar type, or that of the value behind `else`.
+#[tactic(auto, using(crate::proofs::Backward::back_step, crate::proofs::Backward::back_none))]
 fn common(values: &Items<Found>, last: Option<Kind>) -> Option<Kind>
     ensures { result ≡ spec.common (reverse values.now) last }
 {
@@ -92,14 +94,16 @@ fn common(values: &Items<Found>, last: Option<Kind>) -> Option<Kind>
     let mut i = values.len();
     'values: while i > 0 {
         i -= 1;
-        if let Some(value) = values.get(i) {
-            kind = first_kind(kind_of(*value), kind);
+        match values.get(i) {
+            Some(value) => kind = first_kind(kind_of(*value), kind),
+            None => (),
         }
     }
     kind
 }
 
 /// The type of the first value that has an array or record type, or that of the value behind `else`.
+#[tactic(auto, using(crate::proofs::Backward::back_step, crate::proofs::Backward::back_none))]
 fn common_composite(values: &Items<Found>, last: Option<u32>) -> Option<u32>
     ensures { result ≡ spec.common_composite (reverse values.now) last }
 {
@@ -107,8 +111,9 @@ fn common_composite(values: &Items<Found>, last: Option<u32>) -> Option<u32>
     let mut i = values.len();
     'values: while i > 0 {
         i -= 1;
-        if let Some(value) = values.get(i) {
-            number = first_some(composite_in(*value), number);
+        match values.get(i) {
+            Some(value) => number = first_some(composite_in(*value), number),
+            None => (),
         }
     }
     number
@@ -172,6 +177,7 @@ fn joined_open(
 }
 
 /// The values take a scalar type, from the last one on.
+#[tactic(auto, using(crate::proofs::Backward::reverse_last))]
 fn scalar_ifs(
     log: &mut Log,
     out: &mut Parts,
@@ -215,6 +221,7 @@ fn scalar_if(
 }
 
 /// The values are of an array or record type, by its number, from the last one on.
+#[tactic(auto, using(crate::proofs::Backward::reverse_last))]
 fn composite_ifs(
     log: &mut Log,
     out: &mut Parts,
@@ -257,6 +264,7 @@ fn composite_if(
 }
 
 /// The values are universal, from the last one on.
+#[tactic(auto, using(crate::proofs::Backward::reverse_last))]
 fn open_ifs(
     out: &mut Parts,
     values: &mut Items<Found>,
