@@ -218,12 +218,12 @@ fn operand(
     here: &Context,
     log: &mut Log,
     out: &mut Parts,
-    operands: &mut Items<Found>,
+    found: &mut Items<Found>,
     good: bool,
     tree: &Tree,
     id: u32,
 ) -> Result<bool, AllocError>
-    ensures { IfOk result (λ all. (operand_of names.now (primaries.inside names.now levels) here.now (operands_of good operands.old (top (parts out.old))) (the_arg (part_at tree.now.nodes id)) log.old ≡ (operands_of all operands.new (top (parts out.new)), log.new)) × (pop (parts out.new) ≡ pop (parts out.old))) }
+    ensures { IfOk result (λ all. (operand_of names.now (primaries.inside names.now levels) here.now (operands_of good found.old (top (parts out.old))) (the_arg (part_at tree.now.nodes id)) log.old ≡ (operands_of all found.new (top (parts out.new)), log.new)) × (pop (parts out.new) ≡ pop (parts out.old))) }
 {
     let arg = tree.arg(id);
     let x = expr(
@@ -236,7 +236,7 @@ fn operand(
         tree,
         arg.value,
     )?;
-    with_operand(out, operands, good, x)
+    with_operand(out, found, good, x)
 }
 
 #[cycle(levels)]
@@ -246,19 +246,17 @@ fn operands(
     here: &Context,
     log: &mut Log,
     out: &mut Parts,
-    operands: &mut Items<Found>,
+    found: &mut Items<Found>,
     good: bool,
     tree: &Tree,
     more: u32,
 ) -> Result<bool, AllocError>
-    ensures { IfOk result (λ all. (spec.operands names.now (primaries.inside names.now levels) here.now (operands_of good operands.old (top (parts out.old))) (the_args (part_at tree.now.nodes more)) log.old ≡ (operands_of all operands.new (top (parts out.new)), log.new)) × (pop (parts out.new) ≡ pop (parts out.old))) }
+    ensures { IfOk result (λ all. (spec.operands names.now (primaries.inside names.now levels) here.now (operands_of good found.old (top (parts out.old))) (the_args (part_at tree.now.nodes more)) log.old ≡ (operands_of all found.new (top (parts out.new)), log.new)) × (pop (parts out.new) ≡ pop (parts out.old))) }
 {
     let mut all = good;
     let mut next = more;
     'args: while let Some(cell) = tree.cell(next) {
-        all = operand(
-            names, levels, here, log, out, operands, all, tree, cell.first,
-        )?;
+        all = operand(names, levels, here, log, out, found, all, tree, cell.first)?;
         next = cell.rest;
     }
     Ok(all)

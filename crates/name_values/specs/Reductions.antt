@@ -1,5 +1,5 @@
 -- What a function's profile gives a reduction.
-use Rattle.std.specs.Prelude.{List, [], ◌∷◌, Option, Some, None, ◌×◌}
+use Rattle.std.specs.Prelude.{List, [], ◌∷◌, Option, Some, None}
 use Rattle.name_rules.specs.declared.log.Taken.{Taken}
 
 -- two parameters, where there are no more

@@ -174,8 +174,12 @@ pub fn once(log: &mut Log, has_width: bool, first: u32) -> Result<(), AllocError
 pub fn with_width(out: &mut Parts, putting: &mut Putting, width: bool) -> Result<(), AllocError>
     ensures { OnOk result ((putting_of putting.new (second (parts out.new)) (top (parts out.new)) ≡ spec.with_width (putting_of putting.old (third (parts out.old)) (second (parts out.old))) (part_if width (top (parts out.old)))) × (pop (pop (parts out.new)) ≡ pop (pop (pop (parts out.old))))) }
 {
+    if putting.count == usize::MAX {
+        return Err(AllocError);
+    }
     out.swap()?;
     out.leave_out();
+    putting.count += 1;
     putting.has_width = true;
     putting.width = width;
     Ok(())

@@ -19,16 +19,16 @@ fn folds_to(text: &[u8], word: &[u8]) -> bool
 {
     let mut at = 0;
     let mut i = 0;
-    'characters: while let Some(spelt) = character_at(text, at) {
+    'characters: while let Some(found) = character_at(text, at) {
         match word.get(i) {
             None => return false,
             Some(letter) => {
-                if folded_character(spelt.character) != u32::from(*letter) {
+                if folded_character(found.character) != u32::from(*letter) {
                     return false;
                 }
             }
         }
-        at = spelt.next;
+        at = found.next;
         i += 1;
     }
     i == word.len()

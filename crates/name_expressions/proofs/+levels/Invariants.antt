@@ -194,7 +194,7 @@ abbrev pub invariant-arguments-args : goal.invariant-arguments-args
 invariant-arguments-args l = (calls.arguments l.names (inside l.names l.levels) l.here l.taken (calling_of l.fn.calling (top (parts l.fn.out))) (the_args (part_at l.tree.nodes l.fn.more)) l.fn.log ≡ calls.arguments l.names (inside l.names l.levels) l.here l.taken (calling_of l.calling (top (parts l.out))) (the_args (part_at l.tree.nodes l.next)) l.log) × (pop (parts l.out) ≡ pop (parts l.fn.out))
 
 abbrev pub invariant-operands-args : goal.invariant-operands-args
-invariant-operands-args l = (calls.operands l.names (inside l.names l.levels) l.here (operands_of l.fn.good l.fn.operands (top (parts l.fn.out))) (the_args (part_at l.tree.nodes l.fn.more)) l.fn.log ≡ calls.operands l.names (inside l.names l.levels) l.here (operands_of l.all l.operands (top (parts l.out))) (the_args (part_at l.tree.nodes l.next)) l.log) × (pop (parts l.out) ≡ pop (parts l.fn.out))
+invariant-operands-args l = (calls.operands l.names (inside l.names l.levels) l.here (operands_of l.fn.good l.fn.found (top (parts l.fn.out))) (the_args (part_at l.tree.nodes l.fn.more)) l.fn.log ≡ calls.operands l.names (inside l.names l.levels) l.here (operands_of l.all l.found (top (parts l.out))) (the_args (part_at l.tree.nodes l.next)) l.log) × (pop (parts l.out) ≡ pop (parts l.fn.out))
 
 -- ---- output
 
