@@ -1,5 +1,5 @@
 use Rattle.std.proofs.Common.{◌≡◌, ◌-◌, length, drop}
-use Rattle.name_aggregates.proofs.Coverage.{behind}
+use Rattle.name_aggregates.proofs.OpenRanges.{behind}
 use Rattle.name_rules.specs.Aggregates.{left_open}
 use Rattle.name_aggregates.proofs.coverage.left_open.Given as goal
 
