@@ -4,7 +4,10 @@
 //! A part of the text is judged in so many brackets as may still be opened, `levels`.
 #![tactic(auto)]
 
+pub mod calls;
 pub mod expressions;
 pub mod indexes;
+pub mod output;
 pub mod primaries;
 pub mod ranges;
+pub mod reducers;

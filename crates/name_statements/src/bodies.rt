@@ -170,7 +170,6 @@ fn held(
 }
 
 /// A body (11.2) of its declarations, which are the latest part, its statements and its handlers.
-#[cycle(statements)]
 pub fn body(
     names: &Names,
     levels: u32,

@@ -3,11 +3,17 @@
 //! latest one, and writes the faults in the order of the text.
 #![tactic(auto)]
 
+pub mod actuals;
 pub mod arrays;
 pub mod exact;
+pub mod exceptions;
 pub mod logs;
 pub mod names;
+pub mod operands;
 pub mod operators;
+pub mod order;
+pub mod putting;
+pub mod reductions;
 pub mod relations;
 pub mod scope;
 pub mod shapes;

@@ -1,6 +1,6 @@
 //! What names stand for (8.2, 8.3).
 
-ghost use Rattle.std.specs.Prelude.{◌≡◌, OnOk};
+ghost use Rattle.std.specs.Prelude.{◌≡◌, IfOk, OnOk};
 ghost use Rattle.name_rules.specs.Judges.{Judges, Says};
 ghost use Rattle.name_rules.specs.Judging.{fault};
 ghost use Rattle.name_rules.specs.Scope as spec;
@@ -10,7 +10,7 @@ use crate::logs::breaks;
 use crate::symbols::{
     ADA, DATA_ERROR, END_ERROR, GET, INTEGER_IO, NEW_LINE, PUT, PUT_LINE, TEXT_IO, symbol,
 };
-use ada_base::Reason;
+use ada_base::{Items, Reason};
 use ada_typed::Root;
 use name_rules::found::{Denoted, Found, Place, Put, Reach};
 use name_rules::log::{Log, Rule};
@@ -427,4 +427,88 @@ pub fn scalar_named(
         Some(subtype) => as_scalar(log, token, subtype),
         None => Ok(None),
     }
+}
+
+/// The token of an identifier that is declared in the region that begins at a place of the scope: Twice where the region
+/// has that name (8.3), and then it declares nothing.
+#[tactic(auto, unfolding(name_rules::specs::Scope::free))]
+pub fn free(
+    names: &Names,
+    start: usize,
+    here: &Context,
+    log: &mut Log,
+    token: u32,
+) -> Result<Option<u32>, AllocError>
+    ensures { Says (spec.free names.now start here.now token log.old) result log.new }
+{
+    if is_taken(symbol(names, token), start, here) {
+        breaks(log, token, Rule::Twice)?;
+        Ok(None)
+    } else {
+        Ok(Some(token))
+    }
+}
+
+/// One more declared name, the latest.
+pub fn with_entry(here: &mut Context, name: u32, what: What) -> Result<(), AllocError>
+    ensures { OnOk result (here.new ≡ spec.with_entry here.old name what) }
+{
+    here.scope.push(Entry { symbol: name, what })
+}
+
+/// A name that is being declared hides outer ones (8.3).
+pub fn hidden(names: &Names, here: &mut Context, token: u32) -> Result<(), AllocError>
+    ensures { OnOk result (here.new ≡ spec.hidden names.now here.old token) }
+{
+    with_entry(here, symbol(names, token), What::Hidden)
+}
+
+/// A second declaration of a name hides nothing.
+pub fn hidden_where(
+    names: &Names,
+    here: &mut Context,
+    token: u32,
+    free: Option<u32>,
+) -> Result<(), AllocError>
+    ensures { OnOk result (here.new ≡ spec.hidden_where names.now here.old token free) }
+{
+    match free {
+        None => Ok(()),
+        Some(_) => hidden(names, here, token),
+    }
+}
+
+/// A name whose declaration has ended; nothing is judged of the uses of one whose declaration has a fault.
+pub fn declared(
+    names: &Names,
+    here: &mut Context,
+    token: u32,
+    what: Option<What>,
+) -> Result<(), AllocError>
+    ensures { OnOk result (here.new ≡ spec.declared names.now here.old token what) }
+{
+    match what {
+        Some(what) => with_entry(here, symbol(names, token), what),
+        None => with_entry(here, symbol(names, token), What::Broken),
+    }
+}
+
+/// The same place of the text once more, in which names can be declared that the first doesn't have.
+pub fn copied(here: &Context, out: &Parts) -> Result<Context, AllocError>
+    ensures { IfOk result (λ copy. copy ≡ here.now) }
+{
+    let mut scope = Items::new(out.alloc());
+    scope.extend(here.scope.as_slice())?;
+    let mut loops = Items::new(out.alloc());
+    loops.extend(here.loops.as_slice())?;
+    Ok(Context {
+        scope,
+        withed: here.withed,
+        used: here.used,
+        target: here.target,
+        loops,
+        in_handler: here.in_handler,
+        returns: here.returns,
+        owner: here.owner,
+    })
 }

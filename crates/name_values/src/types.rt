@@ -1,11 +1,14 @@
 //! Scalar types and subtypes (3.5).
 
 ghost use Rattle.std.specs.Prelude.{◌≡◌};
+ghost use Rattle.name_rules.specs.Judges.{Says};
 ghost use Rattle.name_rules.specs.Types as spec;
 
 use ada_base::Base;
 use ada_typed::{Check, Class};
+use name_rules::log::{Log, Shape};
 use name_rules::types::{Kind, Scalar, Subtype, Wanted};
+use std::alloc::AllocError;
 
 /// Whether two types are the same: each declaration makes a type of its own (3.2.1).
 pub fn same(a: Kind, b: Kind) -> bool
@@ -109,5 +112,28 @@ pub fn wanted_of(subtype: Subtype) -> Wanted
     match subtype {
         Subtype::Scalar(_) => Wanted::Other,
         Subtype::Composite(number) => Wanted::Composite(number),
+    }
+}
+
+/// One more subtype in the table of subtypes, by its number. A table of 2^32 subtypes is beyond memory.
+pub fn written_shape(log: &mut Log, shape: Shape) -> Result<u32, AllocError>
+    ensures { Says (spec.written_shape shape log.old) result log.new }
+{
+    let number = log.shapes.len();
+    if number > 4_294_967_295 {
+        return Err(AllocError);
+    }
+    log.shapes.push(shape)?;
+    Ok(number as u32)
+}
+
+/// The number of a subtype; a scalar one is written where it is used.
+#[tactic(auto, unfolding(name_rules::specs::Types::number_of))]
+pub fn number_of(log: &mut Log, subtype: Subtype) -> Result<u32, AllocError>
+    ensures { Says (spec.number_of subtype log.old) result log.new }
+{
+    match subtype {
+        Subtype::Scalar(scalar) => written_shape(log, Shape::Scalar(scalar)),
+        Subtype::Composite(number) => Ok(number),
     }
 }

@@ -8,6 +8,7 @@ ghost use Rattle.typed_parts.specs.Stack.{parts, pop, top, IsLatest};
 mod bodies;
 mod expressions;
 mod finishing;
+mod indexes;
 mod iterations;
 mod lists;
 mod names;

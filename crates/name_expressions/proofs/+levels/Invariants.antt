@@ -5,7 +5,12 @@ use Rattle.name_rules.specs.Names as names
 use Rattle.name_rules.specs.Primaries.{inside}
 use Rattle.tree_nodes.specs.Parts.{the_addings, the_args, the_conjuncts, the_multiplyings}
 use Rattle.tree_nodes.specs.Tables.{part_at}
-use Rattle.typed_parts.specs.Stack.{parts, pop, top}
+use Rattle.typed_parts.specs.Stack.{parts, pop, second, top}
+use Rattle.name_rules.specs.Calls as calls
+use Rattle.name_rules.specs.Output as output
+use Rattle.name_values.specs.Calling.{calling_of}
+use Rattle.name_values.specs.Operands.{operands_of}
+use Rattle.name_values.specs.Putting.{putting_of}
 use Rattle.name_expressions.proofs.+levels.Given as goal
 
 -- A function judges in as many brackets as its caller, or in one less behind a bracket.
@@ -143,3 +148,105 @@ invariant-args_alone-args l = (names.args_alone l.names (inside l.names l.levels
 
 abbrev pub invariant-indexes-indexes : goal.invariant-indexes-indexes
 invariant-indexes-indexes l = (names.indexes l.names (inside l.names l.levels) l.here (drop l.fn.place l.dimensions) l.cells (part_if l.fn.done (top (parts l.fn.out))) (the_args (part_at l.tree.nodes l.fn.more)) l.fn.log ≡ names.indexes l.names (inside l.names l.levels) l.here (drop l.i l.dimensions) l.cells (part_if l.s (top (parts l.out))) (the_args (part_at l.tree.nodes l.next)) l.log) × (pop (parts l.out) ≡ pop (parts l.fn.out))
+
+-- ---- calls
+
+abbrev pub decreases-actual_by : goal.decreases-actual_by
+decreases-actual_by l = 100 * l.levels + 46
+
+abbrev pub decreases-actual_for : goal.decreases-actual_for
+decreases-actual_for l = 100 * l.levels + 47
+
+abbrev pub decreases-argument : goal.decreases-argument
+decreases-argument l = 100 * l.levels + 48
+
+abbrev pub decreases-arguments : goal.decreases-arguments
+decreases-arguments l = 100 * l.levels + 49
+
+abbrev pub decreases-given_arguments : goal.decreases-given_arguments
+decreases-given_arguments l = 100 * l.levels + 50
+
+abbrev pub decreases-sub_call : goal.decreases-sub_call
+decreases-sub_call l = 100 * l.levels + 51
+
+abbrev pub decreases-operand : goal.decreases-operand
+decreases-operand l = 100 * l.levels + 46
+
+abbrev pub decreases-operands : goal.decreases-operands
+decreases-operands l = 100 * l.levels + 47
+
+abbrev pub decreases-all_operands : goal.decreases-all_operands
+decreases-all_operands l = 100 * l.levels + 48
+
+abbrev pub decreases-scalar_conversion : goal.decreases-scalar_conversion
+decreases-scalar_conversion l = 100 * l.levels + 49
+
+abbrev pub decreases-conversion : goal.decreases-conversion
+decreases-conversion l = 100 * l.levels + 50
+
+abbrev pub decreases-arguments-args : goal.decreases-arguments-args
+decreases-arguments-args l = l.next
+
+abbrev pub decreases-operands-args : goal.decreases-operands-args
+decreases-operands-args l = l.next
+
+abbrev pub invariant-arguments-args : goal.invariant-arguments-args
+invariant-arguments-args l = (calls.arguments l.names (inside l.names l.levels) l.here l.taken (calling_of l.fn.calling (top (parts l.fn.out))) (the_args (part_at l.tree.nodes l.fn.more)) l.fn.log ≡ calls.arguments l.names (inside l.names l.levels) l.here l.taken (calling_of l.calling (top (parts l.out))) (the_args (part_at l.tree.nodes l.next)) l.log) × (pop (parts l.out) ≡ pop (parts l.fn.out))
+
+abbrev pub invariant-operands-args : goal.invariant-operands-args
+invariant-operands-args l = (calls.operands l.names (inside l.names l.levels) l.here (operands_of l.fn.good l.fn.found (top (parts l.fn.out))) (the_args (part_at l.tree.nodes l.fn.more)) l.fn.log ≡ calls.operands l.names (inside l.names l.levels) l.here (operands_of l.all l.found (top (parts l.out))) (the_args (part_at l.tree.nodes l.next)) l.log) × (pop (parts l.out) ≡ pop (parts l.fn.out))
+
+-- ---- output
+
+abbrev pub decreases-other_alone : goal.decreases-other_alone
+decreases-other_alone l = 100 * l.levels + 46
+
+abbrev pub decreases-others_alone : goal.decreases-others_alone
+decreases-others_alone l = 100 * l.levels + 47
+
+abbrev pub decreases-width_argument : goal.decreases-width_argument
+decreases-width_argument l = 100 * l.levels + 46
+
+abbrev pub decreases-counted_alone : goal.decreases-counted_alone
+decreases-counted_alone l = 100 * l.levels + 46
+
+abbrev pub decreases-put_argument : goal.decreases-put_argument
+decreases-put_argument l = 100 * l.levels + 47
+
+abbrev pub decreases-put_arguments : goal.decreases-put_arguments
+decreases-put_arguments l = 100 * l.levels + 48
+
+abbrev pub decreases-number_put : goal.decreases-number_put
+decreases-number_put l = 100 * l.levels + 49
+
+abbrev pub decreases-io_given : goal.decreases-io_given
+decreases-io_given l = 100 * l.levels + 50
+
+abbrev pub decreases-io_call : goal.decreases-io_call
+decreases-io_call l = 100 * l.levels + 51
+
+abbrev pub decreases-others_alone-args : goal.decreases-others_alone-args
+decreases-others_alone-args l = l.next
+
+abbrev pub decreases-put_arguments-args : goal.decreases-put_arguments-args
+decreases-put_arguments-args l = l.next
+
+abbrev pub invariant-others_alone-args : goal.invariant-others_alone-args
+invariant-others_alone-args l = (output.others_alone l.names (inside l.names l.levels) l.here (the_args (part_at l.tree.nodes l.fn.more)) l.fn.log ≡ output.others_alone l.names (inside l.names l.levels) l.here (the_args (part_at l.tree.nodes l.next)) l.log) × (parts l.out ≡ parts l.fn.out)
+
+abbrev pub invariant-put_arguments-args : goal.invariant-put_arguments-args
+invariant-put_arguments-args l = (output.put_arguments l.names (inside l.names l.levels) l.here (putting_of l.fn.putting (second (parts l.fn.out)) (top (parts l.fn.out))) (the_args (part_at l.tree.nodes l.fn.more)) l.fn.log ≡ output.put_arguments l.names (inside l.names l.levels) l.here (putting_of l.putting (second (parts l.out)) (top (parts l.out))) (the_args (part_at l.tree.nodes l.next)) l.log) × (pop (pop (parts l.out)) ≡ pop (pop (parts l.fn.out)))
+
+-- ---- reducers
+
+abbrev pub decreases-no_reducer : goal.decreases-no_reducer
+decreases-no_reducer l = 100 * l.levels + 73
+
+abbrev pub decreases-attribute_reducer : goal.decreases-attribute_reducer
+decreases-attribute_reducer l = 100 * l.levels + 74
+
+abbrev pub decreases-name_reducer : goal.decreases-name_reducer
+decreases-name_reducer l = 100 * l.levels + 75
+
+abbrev pub decreases-reducer_of : goal.decreases-reducer_of
+decreases-reducer_of l = 100 * l.levels + 76

@@ -63,9 +63,6 @@ decreases-handlers l = 20 * l.below + 5
 abbrev pub decreases-held : goal.decreases-held
 decreases-held l = 20 * l.below + 6
 
-abbrev pub decreases-body : goal.decreases-body
-decreases-body l = 20 * l.below + 7
-
 abbrev pub decreases-block_of : goal.decreases-block_of
 decreases-block_of l = 20 * l.below + 7
 

@@ -1,0 +1,5 @@
+pub mod Arguments
+pub mod Contents
+pub mod Putting
+pub mod Reducers
+pub mod Rows
