@@ -3,3 +3,4 @@ pub mod Contents
 pub mod Putting
 pub mod Reducers
 pub mod Rows
+pub mod Sequences
