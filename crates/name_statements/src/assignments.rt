@@ -11,9 +11,9 @@ ghost use Rattle.tree_nodes.specs.Parts.{the_expr, the_name};
 ghost use Rattle.tree_nodes.specs.Tables.{part_at};
 ghost use Rattle.typed_parts.specs.Stack.{parts, pop, second, top};
 
-use crate::stand_ins::valued_by;
 use name_expressions::expressions::{expr, judged_alone};
 use name_expressions::primaries::name_inside;
+use name_expressions::whole_names::valued_by;
 use name_rules::found::{Denoted, Found, Place};
 use name_rules::log::{Log, Rule};
 use name_rules::scope::{Context, Names, Target};

@@ -11,14 +11,14 @@ ghost use Rattle.tree_nodes.specs.Tables.{part_at};
 ghost use Rattle.tree_views.specs.Views.{optional};
 ghost use Rattle.typed_parts.specs.Stack.{parts, pop, second, third, top};
 
-use crate::stand_ins::entered;
 use crate::statements::stmts;
 use ada_typed::program::SiteKind;
 use name_expressions::expressions::condition;
+use name_expressions::iterations::entered;
 use name_rules::log::{Log, Rule};
 use name_rules::scope::{Context, LoopName, Names};
-use name_values::entries::copied;
 use name_values::logs::breaks;
+use name_values::scope::copied;
 use name_values::symbols::symbol;
 use std::alloc::AllocError;
 use tree_views::{Scheme, Tree};
@@ -169,7 +169,7 @@ fn for_loop(
 ) -> Result<bool, AllocError>
     ensures { Gives (spec.for_loop (in_levels names.now levels below) here.now label number (the_stmts (part_at tree.now.nodes id)) (spec.optional_parallel (optional (part_at tree.now.nodes) the_parallel parallel)) (the_iter (part_at tree.now.nodes iter)) log.old) (parts out.old) result log.new (parts out.new) }
 {
-    let mut inner = copied(here, out.alloc())?;
+    let mut inner = copied(here, out)?;
     let before = log.faults.len();
     let e = entered(
         names,

@@ -14,13 +14,13 @@ ghost use Rattle.tree_views.specs.Views.{optional};
 ghost use Rattle.typed_parts.specs.Stack.{parts, pop, second, top};
 
 use crate::lists::also_where;
-use crate::stand_ins::{new_site, thread_owner};
 use crate::statements::stmts;
 use ada_typed::program::SiteKind;
 use name_expressions::iterations::chunk_count;
 use name_rules::log::{Log, Rule};
 use name_rules::scope::{Context, Names};
 use name_values::logs::breaks;
+use name_values::walks::{new_site, thread_owner};
 use std::alloc::AllocError;
 use tree_views::Tree;
 use typed_parts::Parts;
