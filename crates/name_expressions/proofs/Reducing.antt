@@ -3,7 +3,7 @@ use Rattle.std.proofs.Common.{◌≡◌, refl, ℕ, Some, None}
 use Rattle.ada_tree.specs.Syntax as syntax
 use Rattle.ada_tree.specs.Syntax.{Args}
 use Rattle.ada_typed.specs.Syntax.{Selections}
-use Rattle.name_expressions.specs.Reducing.{reduced_two, two_of}
+use Rattle.name_expressions.specs.Reducing.{reduced_from, reduced_two, two_of}
 use Rattle.name_rules.specs.Expressions.{Inside}
 use Rattle.name_rules.specs.Parts.{array_reduced}
 use Rattle.name_rules.specs.declared.found.Attribute.{Attribute}
@@ -14,6 +14,7 @@ use Rattle.name_rules.specs.declared.scope.Names.{Names}
 
 pub reduced_same : (names : Names) (inside : Inside) (here : Context) (p : Place) (ss : Selections) (at : ℕ) (a : Attribute) (bracket : ℕ) (as' : Args) (log : Log)
     → array_reduced names inside here p ss at a bracket as' log ≡ reduced_two names inside here p ss at a bracket as' (two_of as') log
+unfolding reduced_from
 reduced_same names inside here p ss at a bracket syntax.NoArg log = refl
 reduced_same names inside here p ss at a bracket (syntax.AlsoArg (syntax.arg (Some n) r) as') log = refl
 reduced_same names inside here p ss at a bracket (syntax.AlsoArg (syntax.arg None r) syntax.NoArg) log = refl

@@ -14,4 +14,5 @@ pub mod output;
 pub mod primaries;
 pub mod ranges;
 pub mod reducers;
+pub mod stand_ins;
 pub mod whole_names;

@@ -9,10 +9,8 @@ ghost use Rattle.tree_nodes.specs.Parts.{the_elsifs, the_expr, the_name, the_pri
 ghost use Rattle.tree_nodes.specs.Tables.{part_at};
 ghost use Rattle.typed_parts.specs.Stack.{parts, pop, top};
 
-use crate::aggregates::aggregate;
-use crate::contents::{contents, one_content};
 use crate::expressions::{condition, expr, in_place};
-use crate::iterations::sequence;
+use crate::stand_ins::{aggregate, one_value, sequence};
 use crate::whole_names::{name, value_named};
 use ada_base::Items;
 use name_primaries::brackets::{grouped, no_expression, target_at, text_at};
@@ -244,16 +242,13 @@ fn primary(
             )
         }
         Primary::Round { bracket, many } => {
-            let held = contents(tree, many);
-            aggregate(names, levels, here, log, out, want, bracket, tree, held)
+            aggregate(names, levels, here, log, out, want, bracket, tree, many)
         }
         Primary::Square { bracket, many } => {
-            let held = contents(tree, many);
-            aggregate(names, levels, here, log, out, want, bracket, tree, held)
+            aggregate(names, levels, here, log, out, want, bracket, tree, many)
         }
         Primary::OneValue { bracket, value } => {
-            let held = one_content(tree, value);
-            aggregate(names, levels, here, log, out, want, bracket, tree, held)
+            one_value(names, levels, here, log, out, want, bracket, tree, value)
         }
         Primary::Reduction {
             bracket,

@@ -1,19 +1,18 @@
 //! Whole names (4.1): an identifier, and what follows it from left to right.
 
-ghost use Rattle.std.specs.Prelude.{◌≡◌, ◌∷◌, OnOk, option_map};
+ghost use Rattle.std.specs.Prelude.{◌≡◌, ◌∷◌, OnOk};
 ghost use Rattle.ada_tree.specs.Syntax as syntax;
 ghost use Rattle.ada_typed.specs.Decoded.{AnIteration};
 ghost use Rattle.ada_typed.specs.Syntax as typed;
-ghost use Rattle.name_expressions.specs.Reducing.{reducing_of, two_of};
-ghost use Rattle.name_rules.specs.Found.{value_denoted};
+ghost use Rattle.name_expressions.specs.Reducing.{array_reduction_by, reduced_from, reducing_of, two_of};
 ghost use Rattle.name_rules.specs.Judges.{Judges, Says, found, found_of};
-ghost use Rattle.name_rules.specs.Judging.{both, fault, pure, where_clean, ◌>>=◌};
+ghost use Rattle.name_rules.specs.Judging.{fault, where_clean};
 ghost use Rattle.name_rules.specs.Names as name_rules_of;
 ghost use Rattle.name_rules.specs.Parts as spec;
 ghost use Rattle.name_rules.specs.Primaries as primaries;
-ghost use Rattle.name_rules.specs.Reducers as reducers;
 ghost use Rattle.name_rules.specs.TypedParts.{selections_of};
 ghost use Rattle.name_rules.specs.Types as types;
+ghost use Rattle.name_rules.specs.declared.log.Rule.TheVariants.{ReduceRule};
 ghost use Rattle.tree_nodes.specs.Parts.{the_arg, the_args, the_expr, the_name, the_part, the_parts};
 ghost use Rattle.tree_nodes.specs.Tables.{part_at};
 ghost use Rattle.typed_parts.specs.Stack.{fourth, parts as joined, pop, second, third, top};
@@ -24,6 +23,7 @@ use crate::expressions::expr;
 use crate::indexes::{arg_alone, args_alone, object_call, wrong_call};
 use crate::output::io_call;
 use crate::reducers::reducer_of;
+use crate::stand_ins::{components_of, new_parameter, new_site};
 use ada_typed::SiteKind;
 use name_primaries::attributes::{
     attribute_at, attribute_found, dimensions_in, is_array_object, is_bound, is_reduction,
@@ -38,7 +38,6 @@ use name_values::names::{component_of, denoted_first, field, wrong_name};
 use name_values::reductions::folded_by;
 use name_values::scope::{item, stands_for};
 use name_values::symbols::symbol;
-use name_values::walks::{components_of, new_parameter, new_site};
 use std::alloc::AllocError;
 use tree_views::{NamePart, Tree};
 use typed_parts::Parts;
@@ -113,7 +112,8 @@ fn item_of(first: u32, number: u32, variable: bool, subtype: Option<Subtype>) ->
     Found::Object(item(first, number, subtype, variable))
 }
 
-/// The value of a reduction of what its chunks, its iteration and its item are, by what was found to fold by.
+/// A reduction of a chunk specification, an iteration and a value, with an initial value that is the latest part.
+#[tactic(auto, unfolding(crate::specs::Reducing::reduced_from))]
 fn reduced_by(
     log: &mut Log,
     out: &mut Parts,
@@ -122,7 +122,7 @@ fn reduced_by(
     value: Found,
     initial: Option<Found>,
 ) -> Result<Option<Denoted>, AllocError>
-    ensures { Judges ((both by (found_of initial (top (joined out.old))) (λ g. reducers.folded_by going (fourth (joined out.old)) (third (joined out.old)) g (found value (second (joined out.old)))) >>= λ y. pure (option_map value_denoted y)) log.old) (pop (pop (pop (pop (joined out.old))))) result log.new (joined out.new) }
+    ensures { Judges (reduced_from going (fourth (joined out.old)) (third (joined out.old)) (found value (second (joined out.old))) by (found_of initial (top (joined out.old))) log.old) (pop (pop (pop (pop (joined out.old))))) result log.new (joined out.new) }
 {
     let (Some(by), Some(initial)) = (by, initial) else {
         out.leave_out();
@@ -151,7 +151,7 @@ fn array_reduction(
     reducer: u32,
     initial: u32,
 ) -> Result<Option<Denoted>, AllocError>
-    ensures { Judges (spec.array_reduction names.now (primaries.inside names.now levels) here.now place (selections_of (top (joined out.old))) at attribute (the_expr (part_at tree.now.nodes reducer)) (the_expr (part_at tree.now.nodes initial)) log.old) (pop (joined out.old)) result log.new (joined out.new) }
+    ensures { Judges (array_reduction_by names.now (primaries.inside names.now levels) here.now place (selections_of (top (joined out.old))) at attribute (the_expr (part_at tree.now.nodes reducer)) (the_expr (part_at tree.now.nodes initial)) log.old) (pop (joined out.old)) result log.new (joined out.new) }
 {
     let first = place.first;
     let site = site_where(log, here, first, is_parallel(attribute))?;
@@ -276,6 +276,35 @@ fn array_reduced(
     }
 }
 
+/// The arguments of a reduction of what is no array object.
+#[cycle(levels)]
+fn not_reduced(
+    names: &Names,
+    levels: u32,
+    here: &Context,
+    log: &mut Log,
+    out: &mut Parts,
+    at: u32,
+    tree: &Tree,
+    arg: u32,
+    more: u32,
+) -> Result<Option<Denoted>, AllocError>
+    ensures { Judges (where_clean (name_rules_of.args_alone names.now (primaries.inside names.now levels) here.now (syntax.AlsoArg (the_arg (part_at tree.now.nodes arg)) (the_args (part_at tree.now.nodes more)))) (λ u. fault at ReduceRule) log.old) (pop (joined out.old)) result log.new (joined out.new) }
+{
+    wrong_arguments(
+        names,
+        levels,
+        here,
+        log,
+        out,
+        at,
+        Rule::ReduceRule,
+        tree,
+        arg,
+        more,
+    )
+}
+
 #[cycle(levels)]
 fn reduced_with(
     names: &Names,
@@ -296,21 +325,16 @@ fn reduced_with(
     ensures { Judges (spec.reduced_with names.now (primaries.inside names.now levels) here.now first prefix (top (joined out.old)) at attribute bracket (syntax.AlsoArg (the_arg (part_at tree.now.nodes arg)) (the_args (part_at tree.now.nodes more))) is_array log.old) (pop (joined out.old)) result log.new (joined out.new) }
 {
     match prefix {
-        Prefix::Object(place) if is_array => array_reduced(
-            names, levels, here, log, out, place, at, attribute, bracket, tree, arg, more,
-        ),
-        _ => wrong_arguments(
-            names,
-            levels,
-            here,
-            log,
-            out,
-            at,
-            Rule::ReduceRule,
-            tree,
-            arg,
-            more,
-        ),
+        Prefix::Object(place) => {
+            if is_array {
+                array_reduced(
+                    names, levels, here, log, out, place, at, attribute, bracket, tree, arg, more,
+                )
+            } else {
+                not_reduced(names, levels, here, log, out, at, tree, arg, more)
+            }
+        }
+        _ => not_reduced(names, levels, here, log, out, at, tree, arg, more),
     }
 }
 

@@ -60,6 +60,9 @@ decreases-wrong_arguments l = 100 * l.levels + 86
 abbrev pub decreases-array_reduced : goal.decreases-array_reduced
 decreases-array_reduced l = 100 * l.levels + 87
 
+abbrev pub decreases-not_reduced : goal.decreases-not_reduced
+decreases-not_reduced l = 100 * l.levels + 87
+
 abbrev pub decreases-reduced_with : goal.decreases-reduced_with
 decreases-reduced_with l = 100 * l.levels + 88
 
