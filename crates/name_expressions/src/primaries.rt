@@ -10,7 +10,8 @@ ghost use Rattle.tree_nodes.specs.Tables.{part_at};
 ghost use Rattle.typed_parts.specs.Stack.{parts, pop, top};
 
 use crate::expressions::{condition, expr, in_place};
-use crate::stand_ins::{aggregate, one_value, sequence};
+use crate::iterations::sequence;
+use crate::stand_ins::{aggregate, one_value};
 use crate::whole_names::{name, value_named};
 use ada_base::Items;
 use name_primaries::brackets::{grouped, no_expression, target_at, text_at};

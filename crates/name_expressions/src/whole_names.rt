@@ -23,7 +23,6 @@ use crate::expressions::expr;
 use crate::indexes::{arg_alone, args_alone, object_call, wrong_call};
 use crate::output::io_call;
 use crate::reducers::reducer_of;
-use crate::stand_ins::{components_of, new_parameter, new_site};
 use ada_typed::SiteKind;
 use name_primaries::attributes::{
     attribute_at, attribute_found, dimensions_in, is_array_object, is_bound, is_reduction,
@@ -38,6 +37,7 @@ use name_values::names::{component_of, denoted_first, field, wrong_name};
 use name_values::reductions::folded_by;
 use name_values::scope::{item, stands_for};
 use name_values::symbols::symbol;
+use name_values::walks::{components_of, new_parameter, new_site};
 use std::alloc::AllocError;
 use tree_views::{NamePart, Tree};
 use typed_parts::Parts;
