@@ -27,21 +27,28 @@ use std::alloc::AllocError;
 use tree_views::Tree;
 use typed_parts::Parts;
 
+/// The first name before an argument of a list.
+fn first_in(tree: &Tree, more: u32) -> Option<u32>
+    ensures { result ≡ spec.first_named (calls.arg_names (the_args (part_at tree.now.nodes more))) }
+{
+    let mut next = more;
+    'args: while let Some(cell) = tree.cell(next) {
+        match tree.arg(cell.first).formal {
+            Some(name) => return Some(name),
+            None => next = cell.rest,
+        }
+    }
+    None
+}
+
 /// The first name before an argument.
 fn first_named(tree: &Tree, arg: u32, more: u32) -> Option<u32>
     ensures { result ≡ spec.first_named (calls.arg_names (syntax.AlsoArg (the_arg (part_at tree.now.nodes arg)) (the_args (part_at tree.now.nodes more)))) }
 {
-    if let Some(name) = tree.arg(arg).formal {
-        return Some(name);
+    match tree.arg(arg).formal {
+        Some(name) => Some(name),
+        None => first_in(tree, more),
     }
-    let mut next = more;
-    'args: while let Some(cell) = tree.cell(next) {
-        if let Some(name) = tree.arg(cell.first).formal {
-            return Some(name);
-        }
-        next = cell.rest;
-    }
-    None
 }
 
 /// An attribute of the dimension that the arguments give, whose list is the latest part, and what is mentioned the part

@@ -41,12 +41,12 @@ pub fn also_choice(
 ) -> Result<bool, AllocError>
     ensures { Chooses (spec.also_choice (waiting_if done values.old (third (parts out.old))) (part_if condition (second (parts out.old))) (found_of value (top (parts out.old)))) (pop (pop (pop (parts out.old)))) result values.new (parts out.new) }
 {
-    let Some(value) = value else {
-        return no_choice(out, values);
-    };
     if !done || !condition {
         return no_choice(out, values);
     }
+    let Some(value) = value else {
+        return no_choice(out, values);
+    };
     values.push(value)?;
     out.before()?;
     out.also()?;

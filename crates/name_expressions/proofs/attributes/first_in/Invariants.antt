@@ -3,7 +3,7 @@ use Rattle.name_rules.specs.Attributes as spec
 use Rattle.name_rules.specs.Calls as calls
 use Rattle.tree_nodes.specs.Parts.{the_args}
 use Rattle.tree_nodes.specs.Tables.{part_at}
-use Rattle.name_expressions.proofs.attributes.first_named.Given as goal
+use Rattle.name_expressions.proofs.attributes.first_in.Given as goal
 
 abbrev pub invariant-args : goal.invariant-args
 invariant-args l = spec.first_named (calls.arg_names (the_args (part_at l.tree.nodes l.next))) ≡ spec.first_named (calls.arg_names (the_args (part_at l.tree.nodes l.more)))
