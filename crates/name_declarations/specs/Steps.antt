@@ -2,7 +2,7 @@
 use Rattle.ada_tree.specs.Syntax.{Definition, Ids, Indic, Range}
 use Rattle.ada_typed.specs.Decoded.{Part}
 use Rattle.ada_typed.specs.declared.program.Object.{Object}
-use Rattle.name_rules.specs.Declarations.{Declaring, Dimensions, all_ids, also_dimension, begun_names, defined, each_exception, indic, one_type}
+use Rattle.name_rules.specs.Declarations.{Declaring, Dimensions, all_ids, also_dimension, begun_names, cells_counted, defined, each_exception, ended_name, indic, one_type}
 use Rattle.name_rules.specs.Expressions.{Inside}
 use Rattle.name_rules.specs.Judging.{Judging, joined, pure, ◌>>=◌}
 use Rattle.name_rules.specs.Ranges.{static_range}
@@ -18,6 +18,10 @@ dimension level here done r = static_range level here true None r >>= λ d. pure
 -- the place behind an object's cells, if it is one of the owner's
 abbrev pub room_behind : ℕ → ℕ → Object → ℕ
 room_behind first owner o = if o.owner == owner then first + o.cells else first
+
+-- an object whose subtype or initial value has a fault
+abbrev pub no_object : Names → Context → ℕ → Option ℕ → Declaring
+no_object names here token f = cells_counted token 0 >>= λ b. pure (ended_name names here f None, None)
 
 abbrev pub exceptions : Names → ℕ → Context → Option Part → Ids → Declaring
 exceptions names start here done is = do

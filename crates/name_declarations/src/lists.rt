@@ -99,7 +99,7 @@ pub fn all_ended(
 /// and then what is mentioned.
 #[tactic(auto, using(crate::proofs::Mentions::mentioned, crate::proofs::Mentions::unmentioned))]
 pub fn with_mentions(out: &mut Parts) -> Result<(), AllocError>
-    ensures { OnOk result (parts out.new ≡ spec.with_mentions (second (parts out.old)) (top (parts out.old)) ∷ pop (pop (parts out.old))) }
+    ensures { OnOk result ((top (parts out.new) ≡ spec.with_mentions (second (parts out.old)) (top (parts out.old))) × (pop (parts out.new) ≡ pop (pop (parts out.old)))) }
 {
     if out.is_nothing()? {
         out.leave_out();

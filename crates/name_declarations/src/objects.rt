@@ -14,7 +14,7 @@ ghost use Rattle.typed_parts.specs.Stack.{parts, pop, second, third, top};
 
 use crate::arrays::array;
 use crate::lists::{all_ids, begun_names, ended_name, with_mentions};
-use crate::rules::unless;
+use crate::rules::{counted_on, unless};
 use crate::subtypes::indic;
 use ada_base::Items;
 use ada_typed::Object;
@@ -84,7 +84,7 @@ pub fn cells_counted(log: &mut Log, token: u32, cells: u64) -> Result<bool, Allo
 {
     let declared = log.declared;
     let before = log.cells;
-    let all = before.saturating_add(cells);
+    let all = counted_on(before, cells);
     if declared == u32::MAX {
         return Err(AllocError);
     }
@@ -275,7 +275,7 @@ fn valued_constant(
 
 /// An object is elaborated behind what is before: with its initial value, the latest part, if it has one.
 fn with_object(out: &mut Parts, constant: bool, number: u32, given: bool) -> Result<(), AllocError>
-    ensures { OnOk result (parts out.new ≡ spec.with_object (second (parts out.old)) constant number (part_if given (top (parts out.old))) ∷ pop (pop (parts out.old))) }
+    ensures { OnOk result ((top (parts out.new) ≡ spec.with_object (second (parts out.old)) constant number (part_if given (top (parts out.old)))) × (pop (parts out.new) ≡ pop (pop (parts out.old)))) }
 {
     if constant {
         if given {
@@ -296,7 +296,7 @@ fn with_object(out: &mut Parts, constant: bool, number: u32, given: bool) -> Res
 
 /// An object is elaborated behind what its subtype mentions and what is before that.
 fn elaborated(out: &mut Parts, constant: bool, number: u32, given: bool) -> Result<(), AllocError>
-    ensures { OnOk result (parts out.new ≡ spec.with_object (spec.with_mentions (third (parts out.old)) (second (parts out.old))) constant number (part_if given (top (parts out.old))) ∷ pop (pop (pop (parts out.old)))) }
+    ensures { OnOk result ((top (parts out.new) ≡ spec.with_object (spec.with_mentions (third (parts out.old)) (second (parts out.old))) constant number (part_if given (top (parts out.old)))) × (pop (parts out.new) ≡ pop (pop (pop (parts out.old))))) }
 {
     out.rotate()?;
     out.rotate()?;
@@ -345,6 +345,25 @@ fn object_ended(
     Ok(true)
 }
 
+/// The declaration of an object whose subtype or initial value has a fault: it counts, and declares nothing else. The
+/// three latest parts give way to one.
+fn no_object(
+    names: &Names,
+    here: &mut Context,
+    log: &mut Log,
+    out: &mut Parts,
+    token: u32,
+    free: Option<u32>,
+) -> Result<bool, AllocError>
+    ensures { Declares (step.no_object names.now here.old token free log.old) (pop (pop (pop (parts out.old)))) result here.new log.new (parts out.new) }
+{
+    let _fits = cells_counted(log, token, 0)?;
+    ended_name(names, here, free, None)?;
+    out.leave_out();
+    out.leave_out();
+    Ok(false)
+}
+
 /// The declaration of one object. The latest parts are what is elaborated before it, its subtype, and its initial value.
 fn one_object(
     names: &Names,
@@ -360,18 +379,18 @@ fn one_object(
 ) -> Result<bool, AllocError>
     ensures { Declares (spec.one_object names.now here.old token free constant (part_if done (third (parts out.old))) (found_of subtype (second (parts out.old))) (initial_of given (top (parts out.old))) log.old) (pop (pop (pop (parts out.old)))) result here.new log.new (parts out.new) }
 {
-    if let (Some(subtype), Some(given)) = (subtype, given) {
-        let value = constant_value(out, constant, subtype, given);
-        let number = new_object(names, here, log, token, subtype, constant, value)?;
-        return object_ended(
-            names, here, out, free, token, constant, done, subtype, given, number,
-        );
-    }
-    let _fits = cells_counted(log, token, 0)?;
-    ended_name(names, here, free, None)?;
-    out.leave_out();
-    out.leave_out();
-    Ok(false)
+    let Some(subtype) = subtype else {
+        return no_object(names, here, log, out, token, free);
+    };
+    let Some(given) = given else {
+        return no_object(names, here, log, out, token, free);
+    };
+    let value = constant_value(out, constant, subtype, given);
+    let number = new_object(names, here, log, token, subtype, constant, value)?;
+    let whole = object_ended(
+        names, here, out, free, token, constant, done, subtype, given, number,
+    )?;
+    Ok(whole)
 }
 
 /// The subtype of an object.

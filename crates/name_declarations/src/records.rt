@@ -11,6 +11,7 @@ ghost use Rattle.tree_nodes.specs.Tables.{part_at};
 ghost use Rattle.typed_parts.specs.Stack.{parts, pop, second, top};
 
 use crate::lists::{all_ids, begun_names};
+use crate::rules::counted_on;
 use crate::subtypes::indic;
 use ada_base::Items;
 use name_rules::log::{Field, Log, Shape};
@@ -68,7 +69,7 @@ fn with_field(
         number,
         offset: growing.offset,
     })?;
-    growing.offset = growing.offset.saturating_add(cells);
+    growing.offset = counted_on(growing.offset, cells);
     Ok(())
 }
 
@@ -101,7 +102,7 @@ fn with_fields(
 
 /// What a subtype mentions, unless it has a fault, joins what was mentioned before.
 fn also_indicated(out: &mut Parts, subtype: Option<Subtype>) -> Result<(), AllocError>
-    ensures { OnOk result (parts out.new ≡ typed_parts'.also_all (second (parts out.old)) (spec.indicated_mentions (found_of subtype (top (parts out.old)))) ∷ pop (pop (parts out.old))) }
+    ensures { OnOk result ((top (parts out.new) ≡ typed_parts'.also_all (second (parts out.old)) (spec.indicated_mentions (found_of subtype (top (parts out.old))))) × (pop (parts out.new) ≡ pop (pop (parts out.old)))) }
 {
     match subtype {
         None => {

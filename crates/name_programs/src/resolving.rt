@@ -123,7 +123,8 @@ fn judged(alloc: Global, names: &Names, tree: &Tree) -> Result<Outcome, AllocErr
     Ok(Outcome { log, out, judged })
 }
 
-/// The typed program of what was judged, or want of memory.
+/// The typed program of what was judged, or want of memory. What has no fault has a program; as that isn't proved, want of
+/// memory is told where it has none.
 fn finished(log: Log, out: Parts, judged: Judged) -> Result<Typed, NameFault>
     ensures { MatchResult result (λ t. Some (typed_program.program t) ≡ option_map (spec.typed_by log) (whole_if judged (parts out))) (λ e. fault_of e ≡ None) }
 {

@@ -60,24 +60,40 @@ fn with_body(
     blocking: bool,
     name: u32,
     outer: &Context,
-    profile: &mut Profiled,
+    found: &mut Profiled,
     tree: &Tree,
     given: Option<u32>,
     implementation: u32,
 ) -> Result<Option<bool>, AllocError>
-    ensures { Bodies profile.old.takes profile.old.gives (step.with_body names.now levels blocking name (profiled outer.now profile.old) (optional (part_at tree.now.nodes) the_aspect given) (the_implementation (part_at tree.now.nodes implementation)) log.old) (parts out.old) result log.new (parts out.new) × OnOk result ((profile.new.takes ≡ profile.old.takes) × (profile.new.gives ≡ profile.old.gives)) }
+    ensures { Bodies found.old.takes found.old.gives (step.with_body names.now levels blocking name (profiled outer.now found.old) (optional (part_at tree.now.nodes) the_aspect given) (the_implementation (part_at tree.now.nodes implementation)) log.old) (parts out.old) result log.new (parts out.new) × OnOk result ((found.new.takes ≡ found.old.takes) × (found.new.gives ≡ found.old.gives)) }
 {
     let view = tree.implementation(implementation);
     let start = outer.scope.len();
     let up = above(levels)?;
-    let nonblocking = aspect(names, &profile.inner, log, out, blocking, tree, given)?;
-    let inner = &mut profile.inner;
-    let declared = declarations(names, up, start, inner, log, out, tree, view.decls)?;
+    let nonblocking = aspect(names, &found.inner, log, out, blocking, tree, given)?;
+    let declared = declarations(
+        names,
+        up,
+        start,
+        &mut found.inner,
+        log,
+        out,
+        tree,
+        view.decls,
+    )?;
     let held = body(
-        names, up, levels, inner, log, out, declared, tree, view.body,
+        names,
+        up,
+        levels,
+        &mut found.inner,
+        log,
+        out,
+        declared,
+        tree,
+        view.body,
     )?;
     end_name(names, log, name, view.last_name)?;
-    Ok(sub_where(profile.number, nonblocking, held))
+    Ok(sub_where(found.number, nonblocking, held))
 }
 
 /// The value that an expression function returns: its own rules are judged where the result's subtype has a fault.
@@ -140,19 +156,19 @@ fn with_value_of(
     out: &mut Parts,
     blocking: bool,
     outer: &Context,
-    profile: &Profiled,
+    found: &Profiled,
     tree: &Tree,
     given: Option<u32>,
     id: u32,
 ) -> Result<Option<bool>, AllocError>
-    ensures { Bodies profile.now.takes profile.now.gives (spec.with_value_of names.now levels blocking (profiled outer.now profile.now) (optional (part_at tree.now.nodes) the_aspect given) (the_expr (part_at tree.now.nodes id)) log.old) (parts out.old) result log.new (parts out.new) }
+    ensures { Bodies found.now.takes found.now.gives (spec.with_value_of names.now levels blocking (profiled outer.now found.now) (optional (part_at tree.now.nodes) the_aspect given) (the_expr (part_at tree.now.nodes id)) log.old) (parts out.old) result log.new (parts out.new) }
 {
     let _outer = outer;
-    let nonblocking = aspect(names, &profile.inner, log, out, blocking, tree, given)?;
-    let returns = profile.inner.returns;
-    let held = result_value(names, levels, &profile.inner, log, out, returns, tree, id)?;
+    let nonblocking = aspect(names, &found.inner, log, out, blocking, tree, given)?;
+    let returns = found.inner.returns;
+    let held = result_value(names, levels, &found.inner, log, out, returns, tree, id)?;
     returned_body(out)?;
-    Ok(sub_where(profile.number, nonblocking, held))
+    Ok(sub_where(found.number, nonblocking, held))
 }
 
 /// The formal parameters of a subprogram, as a list.
