@@ -4,10 +4,15 @@
 //! A part of the text is judged in so many brackets as may still be opened, `levels`.
 #![tactic(auto)]
 
+pub mod attributes;
 pub mod calls;
+pub mod choices;
 pub mod expressions;
 pub mod indexes;
+pub mod iterations;
 pub mod output;
 pub mod primaries;
 pub mod ranges;
 pub mod reducers;
+pub mod stand_ins;
+pub mod whole_names;

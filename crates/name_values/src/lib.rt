@@ -5,8 +5,11 @@
 
 pub mod actuals;
 pub mod arrays;
+pub mod bounds;
+pub mod coverage;
 pub mod exact;
 pub mod exceptions;
+pub mod handled;
 pub mod logs;
 pub mod names;
 pub mod operands;
@@ -17,6 +20,8 @@ pub mod reductions;
 pub mod relations;
 pub mod scope;
 pub mod shapes;
+pub mod statics;
 pub mod symbols;
 pub mod types;
 pub mod values;
+pub mod walks;
