@@ -45,7 +45,7 @@ fn non_empty(alloc: Global, ranges: &Items<(i128, i128)>) -> Result<Items<(i128,
 {
     let mut some = Items::new(alloc);
     let mut i = 0;
-    'ranges: while let Some(range) = range_at(ranges, i) {
+    'spans: while let Some(range) = range_at(ranges, i) {
         also_some(&mut some, range)?;
         if i == usize::MAX {
             return Err(AllocError);
@@ -87,7 +87,7 @@ fn left_open(
     let end = i128::from(dimension.high);
     let mut start = i128::from(dimension.low);
     let mut i = 0;
-    'ranges: while let Some(range) = range_at(ranges, i) {
+    'spans: while let Some(range) = range_at(ranges, i) {
         if range.0 < start {
             return Ok(None);
         }
