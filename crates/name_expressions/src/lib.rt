@@ -5,8 +5,10 @@
 #![tactic(auto)]
 
 pub mod calls;
+pub mod choices;
 pub mod expressions;
 pub mod indexes;
+pub mod iterations;
 pub mod output;
 pub mod primaries;
 pub mod ranges;

@@ -307,11 +307,14 @@ abbrev pub non_empty : List (ℤ × ℤ) → List (ℤ × ℤ)
 non_empty [] = []
 non_empty (r ∷ rs) = if not_empty r then r ∷ non_empty rs else non_empty rs
 
--- the rest takes what is left open; E07 StaticRange: a component that isn't given exactly once, at the bracket
+-- E07 StaticRange: a component that isn't given exactly once, at the bracket
+abbrev pub covered_alone : ℕ → ℕ → Option TypedPart → List (ℤ × ℤ) → Judging (Option TypedPart)
+covered_alone bracket cells done os = if length os == 0 then pure (option_map (aggregate_part bracket cells) done) else fault bracket StaticRange
+
+-- the rest takes what is left open
 abbrev pub covered : ℕ → Dimension → ℕ → ℕ → Placing → Option (List (ℤ × ℤ)) → Option (Option TypedPart) → Judging (Option TypedPart)
 covered bracket d apart cells p None v = fault bracket StaticRange
-covered bracket d apart cells p (Some []) None = pure (option_map (aggregate_part bracket cells) p.done)
-covered bracket d apart cells p (Some os) None = fault bracket StaticRange
+covered bracket d apart cells p (Some os) None = covered_alone bracket cells p.done os
 covered bracket d apart cells p (Some os) (Some v) = pure (option_map (aggregate_part bracket cells) (with_runs None part.Nothing (runs_of d apart os) p.done v))
 
 -- one dimension of an array

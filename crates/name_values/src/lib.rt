@@ -5,17 +5,22 @@
 
 pub mod actuals;
 pub mod arrays;
+pub mod coverage;
 pub mod exact;
 pub mod exceptions;
+pub mod handled;
 pub mod logs;
 pub mod names;
 pub mod operands;
 pub mod operators;
+pub mod order;
 pub mod putting;
 pub mod reductions;
 pub mod relations;
 pub mod scope;
 pub mod shapes;
+pub mod statics;
 pub mod symbols;
 pub mod types;
 pub mod values;
+pub mod walks;

@@ -69,7 +69,7 @@ fn static_universal(
 }
 
 /// What two static operands mention, in place of their parts.
-fn both_mentions(out: &mut Parts, left: Found, right: Found) -> Result<(), AllocError>
+pub fn both_mentions(out: &mut Parts, left: Found, right: Found) -> Result<(), AllocError>
     ensures { OnOk result (parts out.new ≡ spec.both_mentions (found left (second (parts out.old))) (found right (top (parts out.old))) ∷ pop (pop (parts out.old))) }
 {
     mentions(out, right)?;

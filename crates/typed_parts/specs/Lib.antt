@@ -1,3 +1,4 @@
 pub mod Classes
 pub mod Indexes
+pub mod Lists
 pub mod Stack

@@ -1,9 +1,11 @@
-use Rattle.std.proofs.Common.{◌≡◌, ◌+◌, ◌*◌, drop}
+use Rattle.std.proofs.Common.{◌≡◌, ◌+◌, ◌*◌, drop, max}
+use Rattle.name_rules.specs.Cases as cases
 use Rattle.name_rules.specs.Expressions as spec
 use Rattle.name_rules.specs.Judges.{found_of, part_if}
 use Rattle.name_rules.specs.Names as names
 use Rattle.name_rules.specs.Primaries.{inside}
-use Rattle.tree_nodes.specs.Parts.{the_addings, the_args, the_conjuncts, the_multiplyings}
+use Rattle.name_values.specs.Coverage.{as_choosing, as_covering}
+use Rattle.tree_nodes.specs.Parts.{the_addings, the_args, the_choice_list, the_conjuncts, the_multiplyings}
 use Rattle.tree_nodes.specs.Tables.{part_at}
 use Rattle.typed_parts.specs.Stack.{parts, pop, second, top}
 use Rattle.name_rules.specs.Calls as calls
@@ -250,3 +252,62 @@ decreases-name_reducer l = 100 * l.levels + 75
 
 abbrev pub decreases-reducer_of : goal.decreases-reducer_of
 decreases-reducer_of l = 100 * l.levels + 76
+
+-- ---- choices
+
+abbrev pub decreases-static_constrained : goal.decreases-static_constrained
+decreases-static_constrained l = 100 * l.levels + 21
+
+abbrev pub decreases-static_bounded : goal.decreases-static_bounded
+decreases-static_bounded l = 100 * l.levels + 21
+
+abbrev pub decreases-static_range : goal.decreases-static_range
+decreases-static_range l = 100 * l.levels + 22
+
+abbrev pub decreases-chosen_value : goal.decreases-chosen_value
+decreases-chosen_value l = 100 * l.levels + 23
+
+abbrev pub decreases-chosen_span : goal.decreases-chosen_span
+decreases-chosen_span l = 100 * l.levels + 23
+
+abbrev pub decreases-case_choice : goal.decreases-case_choice
+decreases-case_choice l = 100 * l.levels + 24
+
+abbrev pub decreases-more_choices : goal.decreases-more_choices
+decreases-more_choices l = 100 * l.levels + 25
+
+abbrev pub decreases-case_choices : goal.decreases-case_choices
+decreases-case_choices l = 100 * l.levels + 26
+
+abbrev pub decreases-more_choices-choices : goal.decreases-more_choices-choices
+decreases-more_choices-choices l = l.next
+
+abbrev pub invariant-more_choices-choices : goal.invariant-more_choices-choices
+invariant-more_choices-choices l = (cases.case_choices (inside l.names l.levels) l.here l.kind l.single l.last (as_covering l.fn.covering) (as_choosing l.fn.choosing (top (parts l.fn.out))) (the_choice_list (part_at l.tree.nodes l.fn.more)) l.fn.log ≡ cases.case_choices (inside l.names l.levels) l.here l.kind l.single l.last (as_covering l.covering) (as_choosing l.choosing (top (parts l.out))) (the_choice_list (part_at l.tree.nodes l.next)) l.log) × (pop (parts l.out) ≡ pop (parts l.fn.out))
+
+-- ---- iterations
+
+abbrev pub decreases-chunk_count : goal.decreases-chunk_count
+decreases-chunk_count l = 100 * l.levels + 63
+
+abbrev pub decreases-chunked_by : goal.decreases-chunked_by
+decreases-chunked_by l = 100 * l.levels + 64
+
+abbrev pub decreases-walked : goal.decreases-walked
+decreases-walked l = 100 * l.levels + 65
+
+abbrev pub decreases-filter_where : goal.decreases-filter_where
+decreases-filter_where l = 100 * l.levels + 65
+
+abbrev pub decreases-entered_with : goal.decreases-entered_with
+decreases-entered_with l = 100 * l.levels + 66
+
+-- the brackets of a loop's chunk specification have a level of their own
+abbrev pub decreases-entered : goal.decreases-entered
+decreases-entered l = 100 * max l.levels l.inner + 67
+
+abbrev pub decreases-sequence_folded : goal.decreases-sequence_folded
+decreases-sequence_folded l = 100 * l.levels + 86
+
+abbrev pub decreases-sequence : goal.decreases-sequence
+decreases-sequence l = 100 * l.levels + 87
