@@ -21,7 +21,7 @@ is_nil (x ∷ xs) = false
 abbrev plain : ℕ → Bool
 plain c = in_ranges scalar_ranges c || is_nil (simple_folding c)
 
-plain_stepped : Stepped plain
+unfoldable plain_stepped : Stepped plain
 unfolding tables
 plain_stepped = zip_stepped (λ b v. b || is_nil v) (in_ranges scalar_ranges) simple_folding (of_ranges scalar_ranges refl) simple_folding_stepped
 
