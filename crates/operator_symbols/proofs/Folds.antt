@@ -1,8 +1,7 @@
 -- Texts after case folding, character by character.
-use Rattle.std.proofs.Common.{◌≡◌, ◌≢◌, refl, sym, ap, ◌∙◌, ℕ, zero, suc, ◌+◌, ◌<◌, ◌≤◌, ◌⊎◌, Bool, true, false, ◌||◌, ◌==◌, List, [], ◌∷◌, drop, length, arith, slice_index_or}
+use Rattle.std.proofs.Common.{◌≡◌, ◌≢◌, refl, sym, ap, ◌∙◌, ℕ, zero, suc, ◌+◌, inl, inr, Bool, true, false, ◌||◌, ◌==◌, List, [], ◌∷◌, drop, length, arith, slice_index_or}
 use Rattle.std.proofs.lemmas.Bool.{lt-leb}
 use Rattle.std.specs.Char.{OutOfScalarRange}
-use Rattle.std.specs.Prelude.{bytes_eq}
 use Rattle.unicode.proofs.case.CaseFoldingLemmas.{simple_folding_stepped}
 use Rattle.unicode.proofs.table.Computing.{tables}
 use Rattle.unicode.proofs.table.Facts.{Stepped-everywhere}
@@ -41,9 +40,3 @@ nil_fold c (x ∷ xs) h = absurd (cc)
 
 pub no_fold : (c : ℕ) → OutOfScalarRange c → simple_fold c ≡ c
 no_fold c out = nil_fold c (simple_folding c) (rw (outside c out) at (is_plain c))
-
-pub folds_end : (ws : List ℕ) (i : ℕ) → i ≤ length ws → bytes_eq [] (drop i ws) ≡ (i == length ws)
-folds_end [] zero h = refl
-folds_end [] (suc i) h = absurd (omega (arith, h))
-folds_end (w ∷ ws) zero h = refl
-folds_end (w ∷ ws) (suc i) h = folds_end ws i (omega (arith, h))
