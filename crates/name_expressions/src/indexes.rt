@@ -26,7 +26,7 @@ use tree_views::Tree;
 use typed_parts::Parts;
 
 #[cycle(levels)]
-fn arg_alone(
+pub fn arg_alone(
     names: &Names,
     levels: u32,
     here: &Context,

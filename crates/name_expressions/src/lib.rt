@@ -4,6 +4,7 @@
 //! A part of the text is judged in so many brackets as may still be opened, `levels`.
 #![tactic(auto)]
 
+pub mod attributes;
 pub mod calls;
 pub mod choices;
 pub mod expressions;
@@ -13,3 +14,5 @@ pub mod output;
 pub mod primaries;
 pub mod ranges;
 pub mod reducers;
+pub mod stand_ins;
+pub mod whole_names;

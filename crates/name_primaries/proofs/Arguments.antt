@@ -1,5 +1,6 @@
 -- Arguments of attributes by their number.
-use Rattle.std.proofs.Common.{◌≡◌, ◌≢◌, refl, ap, ℕ, List, [], ◌∷◌, None, length, arith}
+use Rattle.std.proofs.Common.{◌≡◌, ◌≢◌, refl, ap, ℕ, List, [], ◌∷◌, None, length, nat_lt, arith}
+use Rattle.std.specs.Prelude.{is_some, slice_get}
 use Rattle.ada_typed.specs.Decoded.{Part}
 use Rattle.ada_typed.specs.Syntax.{Expr}
 use Rattle.name_rules.specs.Attributes.{one_dimension, one_named, two_named}
@@ -46,3 +47,7 @@ not_two_named bracket k make ks p h = other_named bracket k make (founds ks p) (
 
 pub two_found : (ks : List Known) (j k : Known) (p : Part) → ks ≡ j ∷ k ∷ [] → founds ks p ≡ found j (left_of (right_of p)) ∷ found k (left_of p) ∷ []
 two_found ks j k p e = ap (λ all. founds all p) e
+
+pub has_first : (ds : List Dimension) → is_some (slice_get ds 0) ≡ nat_lt 0 (length ds)
+has_first [] = refl
+has_first (d ∷ ds) = refl

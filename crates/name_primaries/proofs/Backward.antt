@@ -1,21 +1,53 @@
 -- A list from its back.
-use Rattle.std.proofs.Common.{◌≡◌, refl, ap, ◌∙◌, sym, ℕ, zero, suc, ◌+◌, List, [], ◌∷◌, ◌++◌, Option, Some, None, take, reverse}
+use Rattle.std.proofs.Common.{◌≡◌, refl, ap, ◌∙◌, sym, ℕ, zero, suc, ◌+◌, ◌-◌, ◌<◌, List, [], ◌∷◌, ◌++◌, Option, Some, None, take, drop, length, reverse, arith}
 use Rattle.std.specs.Prelude.{slice_get}
 use Rattle.std.proofs.lemmas.List.{reverse-append}
 
 pub reverse_last : {A : Type 0} (xs : List A) (x : A) → reverse (xs ++ x ∷ []) ≡ x ∷ reverse xs
 reverse_last xs x = reverse-append xs (x ∷ [])
 
-take_last : {A : Type 0} (xs : List A) (i : ℕ) (x : A) → slice_get xs i ≡ Some x → take (i + 1) xs ≡ take i xs ++ x ∷ []
+pub take_whole : {A : Type 0} (xs : List A) → take (length xs) xs ≡ xs
+take_whole [] = refl
+take_whole (x ∷ xs) = ap (λ zs. x ∷ zs) (take_whole xs)
+
+take_last : {A : Type 0} (xs : List A) (i : ℕ) (x : A) → slice_get xs i ≡ Some x → take (suc i) xs ≡ take i xs ++ x ∷ []
 take_last [] i x e = absurd (cc)
 take_last (y ∷ xs) zero x e = cc
 take_last (y ∷ xs) (suc i) x e = ap (λ zs. y ∷ zs) (take_last xs i x e)
 
-pub back_step : {A : Type 0} (xs : List A) (i : ℕ) (x : A) → slice_get xs i ≡ Some x → reverse (take (i + 1) xs) ≡ x ∷ reverse (take i xs)
-back_step xs i x e = ap reverse (take_last xs i x e) ∙ reverse_last (take i xs) x
+take_none : {A : Type 0} (xs : List A) (i : ℕ) → slice_get xs i ≡ None → take (suc i) xs ≡ take i xs
+take_none [] zero e = refl
+take_none [] (suc i) e = refl
+take_none (y ∷ xs) zero e = absurd (cc)
+take_none (y ∷ xs) (suc i) e = ap (λ zs. y ∷ zs) (take_none xs i e)
 
-pub back_none : {A : Type 0} (xs : List A) (i : ℕ) → slice_get xs i ≡ None → take (i + 1) xs ≡ take i xs
-back_none [] zero e = refl
-back_none [] (suc i) e = refl
-back_none (y ∷ xs) zero e = absurd (cc)
-back_none (y ∷ xs) (suc i) e = ap (λ zs. y ∷ zs) (back_none xs i e)
+pub back_step : {A : Type 0} (xs : List A) (i : ℕ) (x : A) → 0 < i → slice_get xs (i - 1) ≡ Some x → reverse (take i xs) ≡ x ∷ reverse (take (i - 1) xs)
+back_step xs zero x h e = absurd (omega (arith, h))
+back_step xs (suc i) x h e = ap reverse (take_last xs i x e) ∙ reverse_last (take i xs) x
+
+pub back_none : {A : Type 0} (xs : List A) (i : ℕ) → 0 < i → slice_get xs (i - 1) ≡ None → take i xs ≡ take (i - 1) xs
+back_none xs zero h e = absurd (omega (arith, h))
+back_none xs (suc i) h e = take_none xs i e
+
+drop_some : {A : Type 0} (xs : List A) (i : ℕ) (x : A) → slice_get xs i ≡ Some x → drop i xs ≡ x ∷ drop (suc i) xs
+drop_some [] i x e = absurd (cc)
+drop_some (y ∷ xs) zero x e = cc
+drop_some (y ∷ xs) (suc i) x e = drop_some xs i x e
+
+drop_none : {A : Type 0} (xs : List A) (i : ℕ) → slice_get xs i ≡ None → drop i xs ≡ drop (suc i) xs
+drop_none [] zero e = refl
+drop_none [] (suc i) e = refl
+drop_none (y ∷ xs) zero e = absurd (cc)
+drop_none (y ∷ xs) (suc i) e = drop_none xs i e
+
+pub drop_whole : {A : Type 0} (xs : List A) → drop (length xs) xs ≡ []
+drop_whole [] = refl
+drop_whole (x ∷ xs) = drop_whole xs
+
+pub back_drop : {A : Type 0} (xs : List A) (i : ℕ) (x : A) → 0 < i → slice_get xs (i - 1) ≡ Some x → drop (i - 1) xs ≡ x ∷ drop i xs
+back_drop xs zero x h e = absurd (omega (arith, h))
+back_drop xs (suc i) x h e = drop_some xs i x e
+
+pub back_dropped : {A : Type 0} (xs : List A) (i : ℕ) → 0 < i → slice_get xs (i - 1) ≡ None → drop (i - 1) xs ≡ drop i xs
+back_dropped xs zero h e = absurd (omega (arith, h))
+back_dropped xs (suc i) h e = drop_none xs i e

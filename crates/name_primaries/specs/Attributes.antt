@@ -1,8 +1,8 @@
 -- What attributes make of their arguments (3.5, 4.10).
-use Rattle.std.specs.Prelude.{ℕ, if◌then◌else◌}
+use Rattle.std.specs.Prelude.{ℕ, Option, if◌then◌else◌, slice_get}
 use Rattle.ada_typed.specs.Decoded.{Part}
 use Rattle.ada_typed.specs.Syntax.{Expr}
-use Rattle.name_rules.specs.Attributes.{bound_alone, image_text, is_array_object, is_bound, is_reduction, reduced_alone, step}
+use Rattle.name_rules.specs.Attributes.{bound_alone, bound_in, dimensions_in, image_text, is_array_object, is_bound, is_reduction, mentioned, prefix_subtype, reduced_alone, step}
 use Rattle.name_rules.specs.Found.{Denoted}
 use Rattle.name_rules.specs.Judging.{Judging, fault, read, ◌>>=◌}
 use Rattle.name_rules.specs.declared.found.Attribute.{Attribute}
@@ -11,7 +11,6 @@ use Rattle.name_rules.specs.declared.log.Rule.TheVariants.{WrongType}
 use Rattle.name_rules.specs.declared.types.Kind.{Kind}
 use Rattle.name_primaries.specs.declared.attributes.One.TheVariants as one
 use Rattle.name_primaries.specs.declared.attributes.One.{One}
-use Rattle.std.specs.Prelude.{Option}
 
 -- of one argument: its image, or a sum with 1
 abbrev pub one_made : One → ℕ → Kind → Expr → Denoted
@@ -23,3 +22,7 @@ abbrev pub other_alone : ℕ → Prefix → Part → ℕ → Attribute → Judgi
 other_alone first p x at a =
     if is_bound a then bound_alone first p x a else
     if is_reduction a then (read (λ log. is_array_object log p) >>= reduced_alone first at) else fault first WrongType
+
+-- of an array's first dimension
+abbrev pub bound_of : ℕ → Prefix → Part → Attribute → Judging (Option Denoted)
+bound_of first p x a = read (λ log. slice_get (dimensions_in log (prefix_subtype p)) 0) >>= bound_in first (mentioned p x) a

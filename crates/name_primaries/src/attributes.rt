@@ -5,7 +5,7 @@ ghost use Rattle.ada_typed.specs.Decoded.{as_expr};
 ghost use Rattle.name_rules.specs.Attributes as spec;
 ghost use Rattle.name_rules.specs.Judges.{Judges, found};
 ghost use Rattle.name_rules.specs.Types as types;
-ghost use Rattle.name_primaries.specs.Attributes.{one_made, other_alone};
+ghost use Rattle.name_primaries.specs.Attributes.{bound_of, one_made, other_alone};
 ghost use Rattle.name_values.specs.Operands.{founds};
 ghost use Rattle.typed_parts.specs.Stack.{parts, pop, second, top};
 
@@ -220,6 +220,21 @@ fn bound_in(
     }
 }
 
+/// An attribute of an array's first dimension, in place of the prefix's part.
+fn bound_of(
+    log: &mut Log,
+    out: &mut Parts,
+    first: u32,
+    prefix: Prefix,
+    attribute: Attribute,
+) -> Result<Option<Denoted>, AllocError>
+    ensures { Judges (bound_of first prefix (top (parts out.old)) attribute log.old) (pop (parts out.old)) result log.new (parts out.new) }
+{
+    let dimension = first_dimension(log, prefix_subtype(prefix));
+    mentioned(out, prefix)?;
+    bound_in(log, out, first, attribute, dimension)
+}
+
 /// An attribute of a scalar subtype's bounds, or of an array's first dimension, in place of the prefix's part.
 fn bound_alone(
     log: &mut Log,
@@ -232,11 +247,7 @@ fn bound_alone(
 {
     match prefix {
         Prefix::Type(Subtype::Scalar(scalar)) => scalar_bound(log, out, first, scalar, attribute),
-        _ => {
-            let dimension = first_dimension(log, prefix_subtype(prefix));
-            mentioned(out, prefix)?;
-            bound_in(log, out, first, attribute, dimension)
-        }
+        _ => bound_of(log, out, first, prefix, attribute),
     }
 }
 
@@ -393,16 +404,16 @@ pub fn one_named(
 ) -> Result<Option<Denoted>, AllocError>
     ensures { Judges (spec.one_named bracket kind (one_made one first kind) name (founds operands.now (top (parts out.old))) log.old) (pop (parts out.old)) result log.new (parts out.new) }
 {
-    if let Some(name) = name {
-        return wrong_name(log, out, name, Rule::Unknown);
-    }
-    match operands.as_slice() {
-        [given] => {
-            out.apart()?;
-            out.leave_out();
-            one_given(log, out, first, kind, one, *given)
-        }
-        _ => wrong_name(log, out, bracket, Rule::WrongType),
+    match name {
+        Some(name) => wrong_name(log, out, name, Rule::Unknown),
+        None => match operands.as_slice() {
+            [given] => {
+                out.apart()?;
+                out.leave_out();
+                one_given(log, out, first, kind, one, *given)
+            }
+            _ => wrong_name(log, out, bracket, Rule::WrongType),
+        },
     }
 }
 
@@ -448,17 +459,17 @@ pub fn two_named(
 ) -> Result<Option<Denoted>, AllocError>
     ensures { Judges (spec.two_named bracket kind (spec.extreme first kind op) name (founds operands.now (top (parts out.old))) log.old) (pop (parts out.old)) result log.new (parts out.new) }
 {
-    if let Some(name) = name {
-        return wrong_name(log, out, name, Rule::Unknown);
-    }
-    match operands.as_slice() {
-        [left, right] => {
-            out.apart()?;
-            out.apart()?;
-            out.leave_out();
-            two_given(log, out, first, kind, op, *left, *right)
-        }
-        _ => wrong_name(log, out, bracket, Rule::WrongType),
+    match name {
+        Some(name) => wrong_name(log, out, name, Rule::Unknown),
+        None => match operands.as_slice() {
+            [left, right] => {
+                out.apart()?;
+                out.apart()?;
+                out.leave_out();
+                two_given(log, out, first, kind, op, *left, *right)
+            }
+            _ => wrong_name(log, out, bracket, Rule::WrongType),
+        },
     }
 }
 
@@ -510,6 +521,7 @@ pub fn is_reduction(attribute: Attribute) -> bool
 }
 
 /// Whether a prefix is an array object.
+#[tactic(auto, using(crate::proofs::Arguments::has_first))]
 pub fn is_array_object(log: &Log, prefix: Prefix) -> bool
     ensures { result ≡ spec.is_array_object log.now prefix }
 {

@@ -129,6 +129,7 @@ pub fn target_at(
 }
 
 /// A text, by its bytes, as a piece of output.
+#[tactic(auto, using(crate::proofs::Backward::back_drop, crate::proofs::Backward::back_dropped, crate::proofs::Backward::drop_whole))]
 fn piece(out: &mut Parts, text: &[u8]) -> Result<(), AllocError>
     ensures { OnOk result (parts out.new ≡ part.APiece (typed.Text text.now) ∷ parts out.old) }
 {
@@ -136,7 +137,10 @@ fn piece(out: &mut Parts, text: &[u8]) -> Result<(), AllocError>
     let mut i = text.len();
     'bytes: while i > 0 {
         i -= 1;
-        out.also_leaf(Leaf::Byte(text[i]))?;
+        match text.get(i) {
+            Some(byte) => out.also_leaf(Leaf::Byte(*byte))?,
+            None => (),
+        }
     }
     out.piece_text()
 }

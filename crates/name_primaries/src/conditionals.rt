@@ -41,12 +41,12 @@ pub fn also_choice(
 ) -> Result<bool, AllocError>
     ensures { Chooses (spec.also_choice (waiting_if done values.old (third (parts out.old))) (part_if condition (second (parts out.old))) (found_of value (top (parts out.old)))) (pop (pop (pop (parts out.old)))) result values.new (parts out.new) }
 {
-    let Some(value) = value else {
-        return no_choice(out, values);
-    };
     if !done || !condition {
         return no_choice(out, values);
     }
+    let Some(value) = value else {
+        return no_choice(out, values);
+    };
     values.push(value)?;
     out.before()?;
     out.also()?;
@@ -86,7 +86,7 @@ fn first_some(a: Option<u32>, b: Option<u32>) -> Option<u32>
 }
 
 /// The type of the first value that has a scalar type, or that of the value behind `else`.
-#[tactic(auto, using(crate::proofs::Backward::back_step, crate::proofs::Backward::back_none))]
+#[tactic(auto, using(crate::proofs::Backward::back_step, crate::proofs::Backward::back_none, crate::proofs::Backward::take_whole))]
 fn common(values: &Items<Found>, last: Option<Kind>) -> Option<Kind>
     ensures { result ≡ spec.common (reverse values.now) last }
 {
@@ -103,7 +103,7 @@ fn common(values: &Items<Found>, last: Option<Kind>) -> Option<Kind>
 }
 
 /// The type of the first value that has an array or record type, or that of the value behind `else`.
-#[tactic(auto, using(crate::proofs::Backward::back_step, crate::proofs::Backward::back_none))]
+#[tactic(auto, using(crate::proofs::Backward::back_step, crate::proofs::Backward::back_none, crate::proofs::Backward::take_whole))]
 fn common_composite(values: &Items<Found>, last: Option<u32>) -> Option<u32>
     ensures { result ≡ spec.common_composite (reverse values.now) last }
 {

@@ -12,7 +12,8 @@ ghost use Rattle.tree_nodes.specs.Tables.{part_at};
 ghost use Rattle.typed_parts.specs.Stack.{parts, pop, second, top};
 
 use name_expressions::expressions::{expr, judged_alone};
-use name_expressions::primaries::{name_inside, valued_by};
+use name_expressions::primaries::name_inside;
+use name_expressions::whole_names::valued_by;
 use name_rules::found::{Denoted, Found, Place};
 use name_rules::log::{Log, Rule};
 use name_rules::scope::{Context, Names, Target};
@@ -209,7 +210,7 @@ pub fn call_stmt(
 {
     match name_inside(names, levels, here, log, out, tree, name)? {
         None => Ok(false),
-        Some(denoted) => match valued_by(names, levels, here, log, out, denoted)? {
+        Some(denoted) => match valued_by(names, levels, here, log, out, denoted, tree)? {
             None => Ok(false),
             Some(called) => as_statement(log, out, called),
         },

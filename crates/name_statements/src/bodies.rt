@@ -11,13 +11,13 @@ ghost use Rattle.tree_nodes.specs.Tables.{part_at};
 ghost use Rattle.tree_views.specs.Views.{optional};
 ghost use Rattle.typed_parts.specs.Stack.{parts, pop, second, third, top};
 
-use crate::stand_ins::declarations;
 use crate::statements::stmts;
 use ada_base::{Items, Reason};
+use name_declarations::declarations::declarations;
 use name_rules::log::Log;
 use name_rules::scope::{Context, Names};
-use name_values::entries::copied;
 use name_values::handled::{Handling, handled_by};
+use name_values::scope::copied;
 use std::alloc::AllocError;
 use tree_views::Tree;
 use typed_parts::Parts;
@@ -234,7 +234,7 @@ pub fn block(
             block_of(names, levels, below, here, log, out, true, tree, id)
         }
         Some(declare) => {
-            let mut inner = copied(here, out.alloc())?;
+            let mut inner = copied(here, out)?;
             let list = tree.declare(declare).decls;
             let start = here.scope.len();
             let declared = declarations(names, levels, start, &mut inner, log, out, tree, list)?;

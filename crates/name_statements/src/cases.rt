@@ -38,17 +38,17 @@ fn selecting(given: Found) -> Scalar
 }
 
 /// The subtype of a selecting expression, which is the latest part: WrongType at its first token where it is no scalar.
-fn selector(log: &mut Log, out: &mut Parts, found: Found) -> Result<Option<Scalar>, AllocError>
-    ensures { Judges (spec.selector (found found (top (parts out.old))) log.old) (pop (parts out.old)) result log.new (parts out.new) }
+fn selector(log: &mut Log, out: &mut Parts, value: Found) -> Result<Option<Scalar>, AllocError>
+    ensures { Judges (spec.selector (found value (top (parts out.old))) log.old) (pop (parts out.old)) result log.new (parts out.new) }
 {
-    if !is_scalar(found) {
-        breaks(log, first_of(found), Rule::WrongType)?;
+    if !is_scalar(value) {
+        breaks(log, first_of(value), Rule::WrongType)?;
         return Ok(None);
     }
-    if !settled_found(log, out, found)? {
+    if !settled_found(log, out, value)? {
         return Ok(None);
     }
-    Ok(Some(selecting(found)))
+    Ok(Some(selecting(value)))
 }
 
 fn selector_where(
@@ -64,9 +64,10 @@ fn selector_where(
     }
 }
 
-fn kind_of(selector: Option<Scalar>) -> Option<Kind>
-    ensures { result ≡ spec.selector_kind selector }
+fn kind_of(out: &Parts, selector: Option<Scalar>) -> Option<Kind>
+    ensures { result ≡ spec.selector_kind (found_of selector (top (parts out.now))) }
 {
+    let _out = out;
     match selector {
         None => None,
         Some(scalar) => Some(scalar.kind),
@@ -235,7 +236,7 @@ pub fn case_stmt(
     let mut covering = Covering::new(out.alloc());
     let f = expr(names, levels, here, log, out, Wanted::Other, tree, value)?;
     let s = selector_where(log, out, f)?;
-    let kind = kind_of(s);
+    let kind = kind_of(out, s);
     let xs = alts(
         names,
         levels,

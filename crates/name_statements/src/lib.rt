@@ -11,6 +11,5 @@ pub mod cases;
 pub mod lists;
 pub mod loops;
 pub mod parallels;
-pub mod stand_ins;
 pub mod statements;
 pub mod transfers;

@@ -18,6 +18,7 @@ use name_expressions::iterations::entered;
 use name_rules::log::{Log, Rule};
 use name_rules::scope::{Context, LoopName, Names};
 use name_values::logs::breaks;
+use name_values::scope::copied;
 use name_values::symbols::symbol;
 use std::alloc::AllocError;
 use tree_views::{Scheme, Tree};
@@ -168,32 +169,24 @@ fn for_loop(
 ) -> Result<bool, AllocError>
     ensures { Gives (spec.for_loop (in_levels names.now levels below) here.now label number (the_stmts (part_at tree.now.nodes id)) (spec.optional_parallel (optional (part_at tree.now.nodes) the_parallel parallel)) (the_iter (part_at tree.now.nodes iter)) log.old) (parts out.old) result log.new (parts out.new) }
 {
+    let mut inner = copied(here, out)?;
     let before = log.faults.len();
-    let mut e = entered(
+    let e = entered(
         names,
         levels,
         below,
-        here,
+        &mut inner,
         log,
         out,
         SiteKind::Loop,
-        tree,
         parallel,
+        tree,
         iter,
     )?;
     let is_clean = log.faults.len() == before;
     backwards_rule(log, is_clean, e.construct, e.reverse)?;
     let ss = repeated(
-        names,
-        levels,
-        below,
-        &mut e.here,
-        log,
-        out,
-        label,
-        number,
-        tree,
-        id,
+        names, levels, below, &mut inner, log, out, label, number, tree, id,
     )?;
     for_made(log, out, number, e.construct, e.chunk, e.iteration, ss)
 }

@@ -16,11 +16,11 @@ ghost use Rattle.typed_parts.specs.Stack.{parts, pop, second, top};
 use crate::lists::also_where;
 use crate::statements::stmts;
 use ada_typed::program::SiteKind;
-use name_expressions::iterations::{chunk_count, thread_owner};
-use name_expressions::primaries::new_site;
+use name_expressions::iterations::chunk_count;
 use name_rules::log::{Log, Rule};
 use name_rules::scope::{Context, Names};
 use name_values::logs::breaks;
+use name_values::walks::{new_site, thread_owner};
 use std::alloc::AllocError;
 use tree_views::Tree;
 use typed_parts::Parts;
@@ -167,7 +167,7 @@ pub fn parallel(
     ensures { Keeps (spec.parallel (in_levels names.now levels below) here.old at (optional (part_at tree.now.nodes) the_simple count) (syntax.AlsoBranch (the_stmts (part_at tree.now.nodes first)) (syntax.AlsoBranch (the_stmts (part_at tree.now.nodes second)) (the_branches (part_at tree.now.nodes more)))) log.old) (parts out.old) here.old result log.new (parts out.new) here.new }
 {
     let arms = arm_count(tree, first, second, more)?;
-    let site = new_site(here, log, at, SiteKind::Block(arms))?;
+    let site = new_site(log, here, at, SiteKind::Block(arms))?;
     let c = count_where(names, below, here, log, out, tree, count)?;
     let xs = threads(
         names, levels, below, here, log, out, site, tree, first, second, more,

@@ -118,7 +118,7 @@ two-step (Some x) None l b c k m n u v w t next e a h g = rw (sym e, sym a.is, a
 two-step (Some x) (Some y) l b c k m n u v w t next e a h g =
     rw (h (sym e), g (sym a.is), sym e, sym a.is, a.log) (two-values m n u v next k)
 
-both-taken : {A : Type 0} (k : Kind) (f g : Known) (x y : Part) (next : ℤ × ℤ → Judging (Option A)) (log : Log)
+pub both-taken : {A : Type 0} (k : Kind) (f g : Known) (x y : Part) (next : ℤ × ℤ → Judging (Option A)) (log : Log)
     → (both_static k (record { known = f; part = x }) (record { known = g; part = y }) >>= λ s. given s next) log
     ≡ (span_taken k f g >>= λ s. given s (λ p. next (p.low, p.high))) log
 unfolding span_taken

@@ -5,6 +5,7 @@
 
 pub mod actuals;
 pub mod arrays;
+pub mod bounds;
 pub mod coverage;
 pub mod exact;
 pub mod exceptions;

@@ -198,7 +198,8 @@ fn object(token: u32, number: u32, subtype: Subtype, variable: bool, value: Opti
     }
 }
 
-fn item(token: u32, number: u32, subtype: Subtype, variable: bool) -> Place
+/// An item of an iteration over an array (5.5.2), by its number.
+pub fn item(token: u32, number: u32, subtype: Subtype, variable: bool) -> Place
     ensures { result ≡ spec.item token number subtype variable }
 {
     Place {

@@ -156,7 +156,7 @@ fn both_values(
 
 /// Two static bounds of a type: WrongType, StaticRange, and NotStatic at one that isn't static.
 #[tactic(auto, unfolding(crate::specs::Statics::span_taken))]
-fn span_taken(
+pub fn span_taken(
     log: &mut Log,
     kind: Kind,
     low: Found,

@@ -11,6 +11,7 @@ mod finishing;
 mod indexes;
 mod iterations;
 mod lists;
+mod looks;
 mod names;
 mod output;
 mod settling;

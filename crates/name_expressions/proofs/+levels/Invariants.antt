@@ -3,9 +3,12 @@ use Rattle.name_rules.specs.Cases as cases
 use Rattle.name_rules.specs.Expressions as spec
 use Rattle.name_rules.specs.Judges.{found_of, part_if}
 use Rattle.name_rules.specs.Names as names
+use Rattle.name_rules.specs.Parts as whole
+use Rattle.name_rules.specs.Primaries as primaries
 use Rattle.name_rules.specs.Primaries.{inside}
+use Rattle.name_primaries.specs.Conditionals.{waiting_if}
 use Rattle.name_values.specs.Coverage.{as_choosing, as_covering}
-use Rattle.tree_nodes.specs.Parts.{the_addings, the_args, the_choice_list, the_conjuncts, the_multiplyings}
+use Rattle.tree_nodes.specs.Parts.{the_addings, the_args, the_choice_list, the_conjuncts, the_elsifs, the_multiplyings, the_parts}
 use Rattle.tree_nodes.specs.Tables.{part_at}
 use Rattle.typed_parts.specs.Stack.{parts, pop, second, top}
 use Rattle.name_rules.specs.Calls as calls
@@ -25,11 +28,99 @@ decreases-inside l = 100 * l.levels + 0
 abbrev pub decreases-name_inside : goal.decreases-name_inside
 decreases-name_inside l = 100 * l.levels + 0
 
-abbrev pub decreases-name : goal.decreases-name
-decreases-name l = 100 * l.levels + 95
+abbrev pub decreases-alternative : goal.decreases-alternative
+decreases-alternative l = 100 * l.levels + 86
+
+abbrev pub decreases-alternatives : goal.decreases-alternatives
+decreases-alternatives l = 100 * l.levels + 87
+
+abbrev pub decreases-if_expr : goal.decreases-if_expr
+decreases-if_expr l = 100 * l.levels + 88
+
+abbrev pub decreases-named : goal.decreases-named
+decreases-named l = 100 * l.levels + 98
 
 abbrev pub decreases-primary : goal.decreases-primary
 decreases-primary l = 100 * l.levels + 99
+
+abbrev pub decreases-alternatives-alternatives : goal.decreases-alternatives-alternatives
+decreases-alternatives-alternatives l = l.next
+
+abbrev pub invariant-alternatives-alternatives : goal.invariant-alternatives-alternatives
+invariant-alternatives-alternatives l = (primaries.alternatives l.names (inside l.names l.levels) l.here l.want (waiting_if l.fn.done l.fn.values (top (parts l.fn.out))) (the_elsifs (part_at l.tree.nodes l.fn.more)) l.fn.log ≡ primaries.alternatives l.names (inside l.names l.levels) l.here l.want (waiting_if l.all l.values (top (parts l.out))) (the_elsifs (part_at l.tree.nodes l.next)) l.log) × (pop (parts l.out) ≡ pop (parts l.fn.out))
+
+-- ---- whole names
+
+abbrev pub decreases-array_reduction : goal.decreases-array_reduction
+decreases-array_reduction l = 100 * l.levels + 86
+
+abbrev pub decreases-wrong_arguments : goal.decreases-wrong_arguments
+decreases-wrong_arguments l = 100 * l.levels + 86
+
+abbrev pub decreases-array_reduced : goal.decreases-array_reduced
+decreases-array_reduced l = 100 * l.levels + 87
+
+abbrev pub decreases-not_reduced : goal.decreases-not_reduced
+decreases-not_reduced l = 100 * l.levels + 87
+
+abbrev pub decreases-reduced_with : goal.decreases-reduced_with
+decreases-reduced_with l = 100 * l.levels + 88
+
+abbrev pub decreases-of_array : goal.decreases-of_array
+decreases-of_array l = 100 * l.levels + 87
+
+abbrev pub decreases-other_with : goal.decreases-other_with
+decreases-other_with l = 100 * l.levels + 88
+
+abbrev pub decreases-attribute_with : goal.decreases-attribute_with
+decreases-attribute_with l = 100 * l.levels + 89
+
+abbrev pub decreases-call : goal.decreases-call
+decreases-call l = 100 * l.levels + 90
+
+abbrev pub decreases-part_of : goal.decreases-part_of
+decreases-part_of l = 100 * l.levels + 91
+
+abbrev pub decreases-part_alone : goal.decreases-part_alone
+decreases-part_alone l = 100 * l.levels + 86
+
+abbrev pub decreases-next_part : goal.decreases-next_part
+decreases-next_part l = 100 * l.levels + 92
+
+abbrev pub decreases-parts : goal.decreases-parts
+decreases-parts l = 100 * l.levels + 93
+
+abbrev pub decreases-name : goal.decreases-name
+decreases-name l = 100 * l.levels + 94
+
+abbrev pub decreases-valued_by : goal.decreases-valued_by
+decreases-valued_by l = 100 * l.levels + 95
+
+abbrev pub decreases-value_named : goal.decreases-value_named
+decreases-value_named l = 100 * l.levels + 96
+
+abbrev pub decreases-parts-parts : goal.decreases-parts-parts
+decreases-parts-parts l = l.next
+
+abbrev pub invariant-parts-parts : goal.invariant-parts-parts
+invariant-parts-parts l = (whole.parts l.names (inside l.names l.levels) l.here (found_of l.fn.before (top (parts l.fn.out))) (the_parts (part_at l.tree.nodes l.fn.more)) l.fn.log ≡ whole.parts l.names (inside l.names l.levels) l.here (found_of l.d (top (parts l.out))) (the_parts (part_at l.tree.nodes l.next)) l.log) × (pop (parts l.out) ≡ pop (parts l.fn.out))
+
+-- ---- attributes
+
+abbrev pub decreases-bound_with : goal.decreases-bound_with
+decreases-bound_with l = 100 * l.levels + 57
+
+abbrev pub decreases-one_argument : goal.decreases-one_argument
+decreases-one_argument l = 100 * l.levels + 57
+
+abbrev pub decreases-two_arguments : goal.decreases-two_arguments
+decreases-two_arguments l = 100 * l.levels + 57
+
+abbrev pub decreases-stepped : goal.decreases-stepped
+decreases-stepped l = 100 * l.levels + 58
+
+abbrev pub decreases-scalar_with : goal.decreases-scalar_with
+decreases-scalar_with l = 100 * l.levels + 59
 
 -- ---- expressions
 

@@ -1,0 +1,4 @@
+mod Lists
+mod Mentions
+mod Options
+mod Rooms
