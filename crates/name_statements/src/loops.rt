@@ -71,7 +71,7 @@ fn label_symbol(names: &Names, label: Option<u32>) -> Option<u32>
 
 /// The statements of a loop.
 #[cycle(statements)]
-#[tactic(auto, using(crate::proofs::Contexts::left_loop))]
+#[tactic(auto, using(crate::proofs::Contexts::front))]
 fn repeated(
     names: &Names,
     levels: u32,
