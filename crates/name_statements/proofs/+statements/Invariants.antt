@@ -45,8 +45,11 @@ decreases-loops::repeated l = 20 * l.below + 3
 abbrev pub decreases-loops::for_loop : goal.decreases-loops::for_loop
 decreases-loops::for_loop l = 20 * l.below + 4
 
+abbrev pub decreases-loops::loop_with : goal.decreases-loops::loop_with
+decreases-loops::loop_with l = 20 * l.below + 5
+
 abbrev pub decreases-loops::loop_by : goal.decreases-loops::loop_by
-decreases-loops::loop_by l = 20 * l.below + 5
+decreases-loops::loop_by l = 20 * l.below + 6
 
 abbrev pub decreases-loops::loop_stmt : goal.decreases-loops::loop_stmt
 decreases-loops::loop_stmt l = 20 * l.below + 12
