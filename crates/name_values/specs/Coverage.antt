@@ -20,7 +20,7 @@ use Rattle.typed_parts.specs.Stack.{top, pop}
 -- ---- choices
 
 abbrev pub as_covering : Covering → cases.Covering
-as_covering c = record { ranges = c.ranges; faulty = c.faulty; others = c.others }
+as_covering c = record { ranges = reverse c.ranges; faulty = c.faulty; others = c.others }
 
 abbrev pub as_choosing : Choosing → Part → cases.Choosing
 as_choosing d p = record { spans = d.spans; others = d.others; mentions = p }

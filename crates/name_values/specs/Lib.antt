@@ -1,7 +1,6 @@
 pub mod Bounds
 pub mod Calling
 pub mod Coverage
-pub mod Hulls
 pub mod Operands
 pub mod Putting
 pub mod Reductions

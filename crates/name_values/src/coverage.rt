@@ -7,10 +7,10 @@ ghost use Rattle.name_rules.specs.Cases as spec;
 ghost use Rattle.name_rules.specs.Judges.{Says, found_of};
 ghost use Rattle.name_values.specs.Coverage.{Covers, as_choosing, as_covering, others_chosen};
 ghost use Rattle.name_values.specs.Statics.{as_span};
-ghost use Rattle.std.specs.Prelude.{option_map};
+ghost use Rattle.std.specs.List.{list_any};
+ghost use Rattle.std.specs.Prelude.{int_le, option_map, reverse, ◌&&◌};
 ghost use Rattle.typed_parts.specs.Stack.{parts, pop, second, top, turned};
 
-use crate::hulls::Ranges;
 use crate::logs::{also_all, breaks};
 use crate::statics::Chosen;
 use ada_base::Items;
@@ -24,7 +24,7 @@ use typed_parts::Parts;
 /// choice has a fault; and whether one is `others`.
 #[derive(Drop)]
 pub struct Covering {
-    pub ranges: Ranges,
+    pub ranges: Items<(i64, i64)>,
     pub faulty: bool,
     pub others: bool,
 }
@@ -42,7 +42,7 @@ impl Covering {
         ensures { as_covering result ≡ record { ranges = []; faulty = false; others = false } }
     {
         Covering {
-            ranges: Ranges::new(alloc),
+            ranges: Items::new(alloc),
             faulty: false,
             others: false,
         }
@@ -61,7 +61,22 @@ impl Choosing {
     }
 }
 
+fn meets(low: i64, high: i64, ranges: &Items<(i64, i64)>) -> bool
+    ensures { result ≡ spec.overlaps low high ranges.now }
+{
+    ranges.as_slice().iter().any(|r| low <= r.1 && r.0 <= high)
+}
+
+/// Whether a value of a range is covered.
+#[tactic(auto, using(crate::proofs::Covered::any_reverse))]
+fn overlaps(low: i64, high: i64, ranges: &Items<(i64, i64)>) -> bool
+    ensures { result ≡ spec.overlaps low high (reverse ranges.now) }
+{
+    meets(low, high, ranges)
+}
+
 /// A choice of these values: StaticRange where one of them is covered.
+#[tactic(auto, using(crate::proofs::Covered::reverse_push))]
 fn covered_by(
     log: &mut Log,
     out: &Parts,
@@ -79,9 +94,9 @@ fn covered_by(
     if !(chosen.low <= chosen.high) {
         return Ok(());
     }
-    let twice = covering.ranges.overlaps(chosen.low, chosen.high);
+    let twice = overlaps(chosen.low, chosen.high, &covering.ranges);
     covering.faulty = covering.faulty || twice;
-    covering.ranges.push(chosen.low, chosen.high)?;
+    covering.ranges.push((chosen.low, chosen.high))?;
     if twice {
         return breaks(log, chosen.at, Rule::StaticRange);
     }
@@ -156,8 +171,8 @@ fn leaves_open(low: i128, high: i128, ranges: &[(i64, i64)]) -> bool
 }
 
 #[tactic(auto, using(crate::proofs::Covered::open_sorted))]
-fn is_open(scalar: Scalar, ranges: Ranges) -> bool
-    ensures { result ≡ spec.is_open scalar.low scalar.high (sorted ranges) }
+fn is_open(scalar: Scalar, ranges: Items<(i64, i64)>) -> bool
+    ensures { result ≡ spec.is_open scalar.low scalar.high (sorted (reverse ranges)) }
 {
     let mut ranges = ranges.into_vec();
     ranges.sort_unstable();

@@ -10,7 +10,6 @@ pub mod coverage;
 pub mod exact;
 pub mod exceptions;
 pub mod handled;
-pub mod hulls;
 pub mod logs;
 pub mod names;
 pub mod operands;
