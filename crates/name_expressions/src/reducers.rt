@@ -15,10 +15,11 @@ use name_rules::found::Folding;
 use name_rules::log::Log;
 use name_rules::scope::{Context, Names};
 use name_values::reductions::{
-    extreme_name, extreme_of, function_of, no_folding, operator_named, operator_reducer,
+    extreme_name, extreme_of, function_of, no_folding, operator_reducer,
 };
 use name_values::scope::stands_for;
 use name_values::shapes::primary_of_expr;
+use operator_symbols::operator_named;
 use std::alloc::AllocError;
 use tree_views::{NamePart, Primary, Tree};
 use typed_parts::Parts;
@@ -150,7 +151,7 @@ pub fn reducer_of(
         return no_reducer(names, levels, here, log, out, tree, id);
     };
     match tree.primary(primary) {
-        Primary::Text(at) => operator_reducer(log, at, operator_named(names, at)?),
+        Primary::Text(at) => operator_reducer(log, at, operator_named(names, at)),
         Primary::Named(name) => {
             let name = tree.name(name);
             name_reducer(

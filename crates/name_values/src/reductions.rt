@@ -1,13 +1,12 @@
 //! The rules of what a reduction folds by, its values and its initial value (4.5.10).
 
-ghost use Rattle.std.specs.Prelude.{◌≡◌, ◌∷◌, ◌&&◌, ◌||◌, IfOk, OnOk, is_some, not};
+ghost use Rattle.std.specs.Prelude.{◌≡◌, ◌∷◌, ◌&&◌, ◌||◌, OnOk, is_some, not};
 ghost use Rattle.ada_typed.specs.Decoded as part;
 ghost use Rattle.name_rules.specs.Calls as calls;
 ghost use Rattle.name_rules.specs.Judges.{Judges, Says, found};
 ghost use Rattle.name_rules.specs.Judging.{fault, joined, pure};
 ghost use Rattle.name_rules.specs.Operators as operators;
 ghost use Rattle.name_rules.specs.Reducers as spec;
-ghost use Rattle.name_rules.specs.Symbols as symbols;
 ghost use Rattle.name_rules.specs.Types as types;
 ghost use Rattle.name_rules.specs.Values as values;
 ghost use Rattle.name_rules.specs.declared.log.Rule.TheVariants.{ReduceRule};
@@ -391,13 +390,4 @@ pub fn folded_by(
             by_function(log, out, going, at, number, value, initial)
         }
     }
-}
-
-/// The operation of the operator that a string literal spells, in letters of any case.
-// STAND-IN
-pub fn operator_named(names: &Names, at: u32) -> Result<Option<Op>, AllocError>
-    ensures { IfOk result (λ op. op ≡ spec.operator_named (symbols.text names.now at) spec.operators) }
-{
-    let _names = names;
-    Err(AllocError)
 }

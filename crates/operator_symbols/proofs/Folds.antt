@@ -1,8 +1,10 @@
 -- Texts after case folding, character by character.
-use Rattle.std.proofs.Common.{◌≡◌, ◌≢◌, refl, sym, ap, ◌∙◌, ℕ, zero, suc, ◌+◌, ◌<◌, ◌≤◌, ◌⊎◌, Bool, true, false, ◌||◌, ◌==◌, List, [], ◌∷◌, drop, length, arith, slice_index_or}
-use Rattle.std.proofs.lemmas.Bool.{lt-leb}
+use Rattle.std.proofs.Common.{◌≡◌, ◌≢◌, refl, sym, ap, ◌∙◌, ℕ, ◌+◌, inl, inr, Bool, true, false, ◌||◌, ◌&&◌, nat_eq, List, [], ◌∷◌, Some, drop, map, arith, slice_index_or}
+use Rattle.std.proofs.lemmas.Bool.{lt-leb, eq-eqb, ne_eqb}
 use Rattle.std.specs.Char.{OutOfScalarRange}
-use Rattle.std.specs.Prelude.{bytes_eq}
+use Rattle.std.specs.Prelude.{bytes_eq, slice_get}
+use Rattle.std.specs.Str.{chars}
+use Rattle.operator_symbols.proofs.Bytes.{drop_get}
 use Rattle.unicode.proofs.case.CaseFoldingLemmas.{simple_folding_stepped}
 use Rattle.unicode.proofs.table.Computing.{tables}
 use Rattle.unicode.proofs.table.Facts.{Stepped-everywhere}
@@ -21,7 +23,7 @@ is_nil (x ∷ xs) = false
 abbrev plain : ℕ → Bool
 plain c = in_ranges scalar_ranges c || is_nil (simple_folding c)
 
-plain_stepped : Stepped plain
+unfoldable plain_stepped : Stepped plain
 unfolding tables
 plain_stepped = zip_stepped (λ b v. b || is_nil v) (in_ranges scalar_ranges) simple_folding (of_ranges scalar_ranges refl) simple_folding_stepped
 
@@ -42,8 +44,19 @@ nil_fold c (x ∷ xs) h = absurd (cc)
 pub no_fold : (c : ℕ) → OutOfScalarRange c → simple_fold c ≡ c
 no_fold c out = nil_fold c (simple_folding c) (rw (outside c out) at (is_plain c))
 
-pub folds_end : (ws : List ℕ) (i : ℕ) → i ≤ length ws → bytes_eq [] (drop i ws) ≡ (i == length ws)
-folds_end [] zero h = refl
-folds_end [] (suc i) h = absurd (omega (arith, h))
-folds_end (w ∷ ws) zero h = refl
-folds_end (w ∷ ws) (suc i) h = folds_end ws i (omega (arith, h))
+-- a character before others, and a letter before others
+step : (text word : List ℕ) (at next i c w : ℕ) → chars (drop at text) ≡ c ∷ chars (drop next text) → Some w ≡ slice_get word i
+    → bytes_eq (map simple_fold (chars (drop at text))) (drop i word) ≡ (nat_eq (simple_fold c) w && bytes_eq (map simple_fold (chars (drop next text))) (drop (i + 1) word))
+step text word at next i c w spelt letter = rw spelt (rw (drop_get word i w (sym letter)) refl)
+
+pub folds_off : (text word : List ℕ) (at next i c w x y : ℕ) (b : Bool) → b ≡ bytes_eq (map simple_fold (chars (drop at text))) (drop i word)
+    → chars (drop at text) ≡ c ∷ chars (drop next text) → Some w ≡ slice_get word i → x ≡ simple_fold c → y ≡ w → x ≢ y → false ≡ b
+folds_off text word at next i c w x y b before spelt letter fold same differ =
+    let other : simple_fold c ≢ w = λ e. differ (fold ∙ (e ∙ sym same)) in
+    sym (before ∙ (step text word at next i c w spelt letter ∙ ap (λ d. d && bytes_eq (map simple_fold (chars (drop next text))) (drop (i + 1) word)) (ne_eqb (simple_fold c) w other)))
+
+pub folds_on : (text word : List ℕ) (at next i c w x y : ℕ) (b : Bool) → b ≡ bytes_eq (map simple_fold (chars (drop at text))) (drop i word)
+    → chars (drop at text) ≡ c ∷ chars (drop next text) → Some w ≡ slice_get word i → x ≡ simple_fold c → y ≡ w → x ≡ y → b ≡ bytes_eq (map simple_fold (chars (drop next text))) (drop (i + 1) word)
+folds_on text word at next i c w x y b before spelt letter fold same equal =
+    let as_letter : simple_fold c ≡ w = sym fold ∙ (equal ∙ same) in
+    before ∙ (step text word at next i c w spelt letter ∙ ap (λ d. d && bytes_eq (map simple_fold (chars (drop next text))) (drop (i + 1) word)) (eq-eqb (simple_fold c) w as_letter))

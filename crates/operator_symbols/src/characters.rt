@@ -1,6 +1,6 @@
 //! The characters of a text, byte by byte.
 
-ghost use Rattle.std.specs.Prelude.{◌≡◌, ◌+◌, ◌*◌, ◌-◌, ◌<◌, drop};
+ghost use Rattle.std.specs.Prelude.{◌≡◌, ◌+◌, ◌*◌, ◌-◌, ◌<◌, OnSome, drop, length, slice_get};
 ghost use Rattle.std.specs.Str.{chars, chars_after};
 ghost use Rattle.operator_symbols.specs.Spelt.{IsSpelt};
 ghost use Rattle.unicode.specs.CaseFolding.{simple_fold as fold};
@@ -14,6 +14,14 @@ pub struct Spelt {
     pub next: usize,
 }
 
+/// The byte at an index.
+#[tactic(auto, using(std::proofs::lemmas::Option::slice_get_within))]
+pub fn byte_at(text: &[u8], at: usize) -> Option<u8>
+    ensures { (result ≡ slice_get text.now at) × OnSome result (at < length text.now) }
+{
+    text.get(at).copied()
+}
+
 /// A character so far, and the six bits of its next byte.
 fn joined(character: u32, byte: u8) -> u32
     requires { character < 67_108_862 }
@@ -23,53 +31,52 @@ fn joined(character: u32, byte: u8) -> u32
 }
 
 /// The character of which one byte is still to come.
-#[tactic(auto, using(crate::proofs::Bytes::drop_get, crate::proofs::Bytes::drop_none, crate::proofs::Bytes::after_last))]
+#[tactic(auto, using(crate::proofs::Bytes::one_more, crate::proofs::Bytes::one_lacks))]
 fn after_two(text: &[u8], character: u32, at: usize) -> Option<Spelt>
     requires { character < 67_108_862 }
     ensures { IsSpelt (chars_after 1 character (drop at text.now)) text.now at result }
 {
-    match text.get(at) {
+    match byte_at(text, at) {
         None => None,
         Some(byte) => Some(Spelt {
-            character: joined(character, *byte),
+            character: joined(character, byte),
             next: at + 1,
         }),
     }
 }
 
 /// The character of which two bytes are still to come.
-#[tactic(auto, using(crate::proofs::Bytes::drop_get, crate::proofs::Bytes::drop_none))]
+#[tactic(auto, using(crate::proofs::Bytes::two_more, crate::proofs::Bytes::two_lack))]
 fn after_three(text: &[u8], character: u32, at: usize) -> Option<Spelt>
     requires { character < 1_000_000 }
     ensures { IsSpelt (chars_after 2 character (drop at text.now)) text.now at result }
 {
-    match text.get(at) {
+    match byte_at(text, at) {
         None => None,
-        Some(byte) => after_two(text, joined(character, *byte), at + 1),
+        Some(byte) => after_two(text, joined(character, byte), at + 1),
     }
 }
 
 /// The character of which three bytes are still to come.
-#[tactic(auto, using(crate::proofs::Bytes::drop_get, crate::proofs::Bytes::drop_none))]
+#[tactic(auto, using(crate::proofs::Bytes::three_more, crate::proofs::Bytes::three_lack))]
 fn after_four(text: &[u8], character: u32, at: usize) -> Option<Spelt>
     requires { character < 10_000 }
     ensures { IsSpelt (chars_after 3 character (drop at text.now)) text.now at result }
 {
-    match text.get(at) {
+    match byte_at(text, at) {
         None => None,
-        Some(byte) => after_three(text, joined(character, *byte), at + 1),
+        Some(byte) => after_three(text, joined(character, byte), at + 1),
     }
 }
 
 /// The character at an index of a text, or None at its end and within its last character.
-#[tactic(auto, using(crate::proofs::Bytes::drop_get, crate::proofs::Bytes::drop_none, crate::proofs::Bytes::one_byte, crate::proofs::Bytes::two_bytes, crate::proofs::Bytes::three_bytes, crate::proofs::Bytes::four_bytes, crate::proofs::Bytes::no_byte))]
+#[tactic(auto, using(crate::proofs::Bytes::no_byte, crate::proofs::Bytes::of_one, crate::proofs::Bytes::of_two, crate::proofs::Bytes::of_three, crate::proofs::Bytes::of_four))]
 pub fn character_at(text: &[u8], at: usize) -> Option<Spelt>
     ensures { IsSpelt (chars (drop at text.now)) text.now at result }
 {
-    let Some(byte) = text.get(at) else {
+    let Some(byte) = byte_at(text, at) else {
         return None;
     };
-    let byte = *byte;
     if byte < 128 {
         return Some(Spelt {
             character: u32::from(byte),

@@ -8,22 +8,22 @@ ghost use Rattle.ada_base.specs.Folding.{folded};
 ghost use Rattle.name_rules.specs.Reducers as reducers;
 ghost use Rattle.name_rules.specs.Symbols as symbols;
 
-use crate::characters::{character_at, folded_character};
+use crate::characters::{byte_at, character_at, folded_character};
 use ada_base::Op;
 use name_rules::scope::Names;
 
 /// Whether a text is a word, after simple case folding of each of its characters.
-#[tactic(auto, using(crate::proofs::Folds::folds_end, crate::proofs::Bytes::drop_get, crate::proofs::Bytes::drop_none))]
+#[tactic(auto, using(crate::proofs::Bytes::drop_get, crate::proofs::Bytes::drop_none))]
 fn folds_to(text: &[u8], word: &[u8]) -> bool
     ensures { result ≡ bytes_eq (folded text.now) word.now }
 {
     let mut at = 0;
     let mut i = 0;
     'characters: while let Some(found) = character_at(text, at) {
-        match word.get(i) {
+        match byte_at(word, i) {
             None => return false,
             Some(letter) => {
-                if folded_character(found.character) != u32::from(*letter) {
+                if folded_character(found.character) != u32::from(letter) {
                     return false;
                 }
             }
@@ -31,7 +31,10 @@ fn folds_to(text: &[u8], word: &[u8]) -> bool
         at = found.next;
         i += 1;
     }
-    i == word.len()
+    match byte_at(word, i) {
+        None => true,
+        Some(_) => false,
+    }
 }
 
 fn spelt(text: &[u8]) -> Option<Op>

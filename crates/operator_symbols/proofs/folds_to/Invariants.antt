@@ -6,7 +6,7 @@ use Rattle.unicode.specs.CaseFolding.{simple_fold}
 use Rattle.operator_symbols.proofs.folds_to.Given as goal
 
 abbrev pub invariant-characters : goal.invariant-characters
-invariant-characters l = (bytes_eq (folded l.text) l.word ≡ bytes_eq (map simple_fold (chars (drop l.at l.text))) (drop l.i l.word)) × (l.at ≤ length l.text) × (l.i ≤ length l.word)
+invariant-characters l = (bytes_eq (folded l.text) l.word ≡ bytes_eq (map simple_fold (chars (drop l.at l.text))) (drop l.i l.word))
 
 abbrev pub decreases-characters : goal.decreases-characters
 decreases-characters l = length l.text - l.at
