@@ -189,7 +189,6 @@ pub fn chosen_span(
     range_values(log, out, kind, x, y)
 }
 
-#[cycle(levels)]
 #[tactic(auto, unfolding(name_rules::specs::Cases::case_choice))]
 fn case_choice(
     names: &Names,
@@ -220,7 +219,6 @@ fn case_choice(
     }
 }
 
-#[cycle(levels)]
 fn more_choices(
     names: &Names,
     levels: u32,
@@ -259,7 +257,6 @@ fn no_choices(tree: &Tree, more: u32) -> bool
 
 /// The choices of an alternative, whose mentions grow as the latest part: what is wrong with each, and StaticRange at one
 /// of which a value is covered before, and at an `others` that isn't alone or whose alternative isn't the last.
-#[cycle(levels)]
 pub fn case_choices(
     names: &Names,
     levels: u32,

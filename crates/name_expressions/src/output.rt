@@ -3,7 +3,7 @@
 ghost use Rattle.std.specs.Prelude.{◌≡◌, OnOk};
 ghost use Rattle.ada_tree.specs.Syntax as syntax;
 ghost use Rattle.name_expressions.specs.Arguments.{given_args};
-ghost use Rattle.name_expressions.specs.Putting as putting;
+ghost use Rattle.name_expressions.specs.Putting as own;
 ghost use Rattle.name_rules.specs.Judges.{Judges, found_of};
 ghost use Rattle.name_rules.specs.Output as spec;
 ghost use Rattle.name_rules.specs.Primaries as primaries;
@@ -37,7 +37,7 @@ fn other_alone(
     tree: &Tree,
     id: u32,
 ) -> Result<(), AllocError>
-    ensures { OnOk result ((putting.other_alone names.now (primaries.inside names.now levels) here.now (the_arg (part_at tree.now.nodes id)) log.old ≡ (tt, log.new)) × (parts out.new ≡ parts out.old)) }
+    ensures { OnOk result ((own.other_alone names.now (primaries.inside names.now levels) here.now (the_arg (part_at tree.now.nodes id)) log.old ≡ (tt, log.new)) × (parts out.new ≡ parts out.old)) }
 {
     let arg = tree.arg(id);
     no_formal(log, arg.formal)?;
@@ -96,7 +96,7 @@ fn counted_alone(
     tree: &Tree,
     id: u32,
 ) -> Result<(), AllocError>
-    ensures { Puts (putting.counted_alone names.now (primaries.inside names.now levels) here.now (putting_of putting.old (second (parts out.old)) (top (parts out.old))) count (the_expr (part_at tree.now.nodes id)) log.old) (pop (pop (parts out.old))) result putting.new log.new (parts out.new) }
+    ensures { Puts (own.counted_alone names.now (primaries.inside names.now levels) here.now (putting_of putting.old (second (parts out.old)) (top (parts out.old))) count (the_expr (part_at tree.now.nodes id)) log.old) (pop (pop (parts out.old))) result putting.new log.new (parts out.new) }
 {
     judged_alone(names, levels, here, log, out, tree, id)?;
     with_count(putting, count)
@@ -180,7 +180,7 @@ fn number_put(
     tree: &Tree,
     more: u32,
 ) -> Result<Option<Denoted>, AllocError>
-    ensures { Judges (putting.number_put names.now (primaries.inside names.now levels) here.now before at first last reach (found_of given (top (parts out.old))) (the_args (part_at tree.now.nodes more)) log.old) (pop (parts out.old)) result log.new (parts out.new) }
+    ensures { Judges (own.number_put names.now (primaries.inside names.now levels) here.now before at first last reach (found_of given (top (parts out.old))) (the_args (part_at tree.now.nodes more)) log.old) (pop (parts out.old)) result log.new (parts out.new) }
 {
     let item = item_given(log, out, reach.integer_io, given)?;
     out.nothing()?;

@@ -420,7 +420,8 @@ pub fn chunk_each(
 pub fn thread_owner(names: &Names, construct: u32) -> Result<u32, AllocError>
     ensures { IfOk result (λ owner. owner ≡ spec.thread_owner names.now construct) }
 {
-    let owner = u64::from(construct) + 1 + u64::from(names.subs);
+    let subs = names.subs;
+    let owner = u64::from(construct) + 1 + u64::from(subs);
     if owner > 4_294_967_295 {
         return Err(AllocError);
     }

@@ -3,7 +3,6 @@ use Rattle.name_aggregates.specs.Filled.{counted, filled}
 use Rattle.name_aggregates.specs.Placed.{chosen, placed}
 use Rattle.name_expressions.specs.Rows as rows
 use Rattle.name_rules.specs.Aggregates as aggregates
-use Rattle.name_rules.specs.Cases as cases
 use Rattle.name_rules.specs.Expressions as spec
 use Rattle.name_rules.specs.Judges.{found_of, part_if}
 use Rattle.name_rules.specs.Names as names
@@ -11,8 +10,7 @@ use Rattle.name_rules.specs.Parts as whole
 use Rattle.name_rules.specs.Primaries as primaries
 use Rattle.name_rules.specs.Primaries.{inside}
 use Rattle.name_primaries.specs.Conditionals.{waiting_if}
-use Rattle.name_values.specs.Coverage.{as_choosing, as_covering}
-use Rattle.tree_nodes.specs.Parts.{the_addings, the_args, the_assocs, the_choice_list, the_choices, the_conjuncts, the_elsifs, the_expr, the_exprs, the_multiplyings, the_parts}
+use Rattle.tree_nodes.specs.Parts.{the_addings, the_args, the_assocs, the_choices, the_conjuncts, the_elsifs, the_expr, the_exprs, the_multiplyings, the_parts}
 use Rattle.tree_nodes.specs.Tables.{part_at}
 use Rattle.typed_parts.specs.Stack.{parts, pop, second, top}
 use Rattle.name_rules.specs.Calls as calls
@@ -364,21 +362,6 @@ decreases-chosen_value l = 100 * l.levels + 23
 
 abbrev pub decreases-chosen_span : goal.decreases-chosen_span
 decreases-chosen_span l = 100 * l.levels + 23
-
-abbrev pub decreases-case_choice : goal.decreases-case_choice
-decreases-case_choice l = 100 * l.levels + 24
-
-abbrev pub decreases-more_choices : goal.decreases-more_choices
-decreases-more_choices l = 100 * l.levels + 25
-
-abbrev pub decreases-case_choices : goal.decreases-case_choices
-decreases-case_choices l = 100 * l.levels + 26
-
-abbrev pub decreases-more_choices-choices : goal.decreases-more_choices-choices
-decreases-more_choices-choices l = l.next
-
-abbrev pub invariant-more_choices-choices : goal.invariant-more_choices-choices
-invariant-more_choices-choices l = (cases.case_choices (inside l.names l.levels) l.here l.kind l.single l.last (as_covering l.fn.covering) (as_choosing l.fn.choosing (top (parts l.fn.out))) (the_choice_list (part_at l.tree.nodes l.fn.more)) l.fn.log ≡ cases.case_choices (inside l.names l.levels) l.here l.kind l.single l.last (as_covering l.covering) (as_choosing l.choosing (top (parts l.out))) (the_choice_list (part_at l.tree.nodes l.next)) l.log) × (pop (parts l.out) ≡ pop (parts l.fn.out))
 
 -- ---- iterations
 
