@@ -1,6 +1,6 @@
 //! Associations of an aggregate (4.3) in the typed program: the runs of cells that they give, and their value.
 
-ghost use Rattle.std.specs.Prelude.{◌≡◌, ◌∷◌, [], IfOk, OnOk, None, true};
+ghost use Rattle.std.specs.Prelude.{◌≡◌, ◌∷◌, ◌*◌, ◌-ℤ◌, [], IfOk, OnOk, None, true, unsigned_abs};
 ghost use Rattle.ada_typed.specs.Decoded as part;
 ghost use Rattle.ada_typed.specs.Decoded.{as_runs};
 ghost use Rattle.ada_typed.specs.declared.node.Leaf.TheVariants as leaf;
@@ -81,6 +81,28 @@ fn is_within(dimension: Dimension, range: (i128, i128)) -> bool
     i128::from(dimension.low) <= range.0 && range.1 <= i128::from(dimension.high)
 }
 
+/// How many cells of a dimension lie before a range that lies within it.
+fn cells_before(dimension: Dimension, apart: u64, range: (i128, i128)) -> u128
+    requires some { spec.not_empty range ≡ true }
+    requires within { spec.is_within dimension range ≡ true }
+    ensures { result ≡ unsigned_abs (range.0 -ℤ dimension.low) * apart }
+{
+    let _end = i128::from(dimension.high);
+    let before = (range.0 - i128::from(dimension.low)).unsigned_abs();
+    before.saturating_mul(u128::from(apart))
+}
+
+/// How many indexes a range has that lies within a dimension.
+fn count_of(dimension: Dimension, range: (i128, i128)) -> u128
+    requires some { spec.not_empty range ≡ true }
+    requires within { spec.is_within dimension range ≡ true }
+    ensures { result ≡ spec.count_of range }
+{
+    let _start = i128::from(dimension.low);
+    let _end = i128::from(dimension.high);
+    (range.1 - range.0).unsigned_abs() + 1
+}
+
 /// The run of a range that lies within a dimension joins those behind it.
 fn also_span(
     out: &mut Parts,
@@ -92,9 +114,8 @@ fn also_span(
     requires within { spec.is_within dimension range ≡ true }
     ensures { OnOk result (parts out.new ≡ part.LeafCons (leaf.Run (spec.span_run dimension apart range)) (top (parts out.old)) ∷ pop (parts out.old)) }
 {
-    let before = (range.0 - i128::from(dimension.low)).unsigned_abs();
-    let first = before.saturating_mul(u128::from(apart));
-    let count = (range.1 - range.0).unsigned_abs() + 1;
+    let first = cells_before(dimension, apart, range);
+    let count = count_of(dimension, range);
     also_run(out, first, count, apart)
 }
 
