@@ -114,7 +114,7 @@ fn also_other(others: &mut Items<Field>, name: u32, field: Field) -> Result<(), 
 }
 
 /// The components of other names.
-#[tactic(auto, using(crate::proofs::Fields::without_next, crate::proofs::Fields::without_end, name_values::proofs::Lists::drop_less))]
+#[tactic(auto, using(crate::proofs::FieldLists::without_next, crate::proofs::FieldLists::without_end, name_values::proofs::Lists::drop_less))]
 fn without(alloc: Global, name: u32, fields: &Items<Field>) -> Result<Items<Field>, AllocError>
     ensures { IfOk result (λ others. others ≡ spec.without name fields.now) }
 {
@@ -310,7 +310,7 @@ pub fn is_incomplete(filling: &Filling) -> bool
 }
 
 /// Whether a component isn't given exactly once by position.
-#[tactic(auto, using(name_values::proofs::Lists::drop_past, crate::proofs::Fields::some_left))]
+#[tactic(auto, using(name_values::proofs::Lists::drop_past, crate::proofs::FieldLists::some_left))]
 pub fn is_incomplete_at(positions: Positions, fields: &Items<Field>) -> bool
     ensures { result ≡ (positions.over || not (length (drop positions.place fields.now) == 0)) }
 {

@@ -320,13 +320,16 @@ abbrev pub optional_parallel : Option Parallel → OptionalParallel
 optional_parallel None = syntax.AbsentParallel
 optional_parallel (Some p) = syntax.PresentParallel p
 
-abbrev pub loop_by : Around → Context → Option ℕ → ℕ → Stmts → Option Scheme → Judging (Option TypedPart)
-loop_by a here label n s None = stmts a (in_loop a.names here label n) s >>= λ ss. pure (joined (loop_part n) (Some part.Nothing) ss)
-loop_by a here label n s (Some (syntax.While at e)) = do
+abbrev pub loop_with : Around → Context → Option ℕ → ℕ → Stmts → Scheme → Judging (Option TypedPart)
+loop_with a here label n s (syntax.While at e) = do
   c ← condition a.names a.level here e
   ss ← stmts a (in_loop a.names here label n) s
   pure (joined (loop_part n) c ss)
-loop_by a here label n s (Some (syntax.For p at i)) = for_loop a here label n s (optional_parallel p) i
+loop_with a here label n s (syntax.For p at i) = for_loop a here label n s (optional_parallel p) i
+
+abbrev pub loop_by : Around → Context → Option ℕ → ℕ → Stmts → Option Scheme → Judging (Option TypedPart)
+loop_by a here label n s None = stmts a (in_loop a.names here label n) s >>= λ ss. pure (joined (loop_part n) (Some part.Nothing) ss)
+loop_by a here label n s (Some by) = loop_with a here label n s by
 
 unfoldable pub loop_stmt : Around → Context → Option ℕ → Option Scheme → Stmts → ℕ → Option ℕ → Judging (Option TypedPart)
 loop_stmt a here label by s last name = do

@@ -1,5 +1,5 @@
 -- What is around a statement, changed for what stands in it and back again.
-use Rattle.std.proofs.Common.{◌≡◌, refl, rw, ◌++◌, ◌∷◌, [], length, take}
+use Rattle.std.proofs.Common.{◌≡◌, refl, ◌++◌, ◌∷◌, [], length, take}
 use Rattle.ada_tree.specs.Syntax as syntax
 use Rattle.name_rules.specs.Statements as spec
 use Rattle.name_rules.specs.declared.scope.Context.{Context}

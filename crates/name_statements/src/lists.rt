@@ -63,7 +63,7 @@ fn nested_once(out: &mut Parts) -> Result<(), AllocError>
 /// condition holds.
 #[tactic(auto, using(crate::proofs::Nested::nested_more, crate::proofs::Nested::nested_none, crate::proofs::Nested::nested_less))]
 pub fn nested(out: &mut Parts) -> Result<(), AllocError>
-    ensures { OnOk result (parts out.new ≡ nested_stmts (second (parts out.old)) (top (parts out.old)) ∷ pop (pop (parts out.old))) }
+    ensures { OnOk result ((top (parts out.new) ≡ nested_stmts (second (parts out.old)) (top (parts out.old))) × (pop (parts out.new) ≡ pop (pop (parts out.old)))) }
 {
     out.swap()?;
     'arms: while out.has_item()? {

@@ -71,7 +71,7 @@ fn label_symbol(names: &Names, label: Option<u32>) -> Option<u32>
 
 /// The statements of a loop.
 #[cycle(statements)]
-#[tactic(auto, using(crate::proofs::Contexts::left_loop))]
+#[tactic(auto, using(crate::proofs::Contexts::front))]
 fn repeated(
     names: &Names,
     levels: u32,
@@ -183,7 +183,7 @@ fn for_loop(
         tree,
         iter,
     )?;
-    let is_clean = log.faults.len() == before;
+    let is_clean = before == log.faults.len();
     backwards_rule(log, is_clean, e.construct, e.reverse)?;
     let ss = repeated(
         names, levels, below, &mut inner, log, out, label, number, tree, id,
@@ -203,9 +203,9 @@ fn loop_made(out: &mut Parts, number: u32, test: bool, then: bool) -> Result<boo
     Ok(true)
 }
 
-/// A loop with a number, by its iteration scheme.
+/// A loop with a number and an iteration scheme.
 #[cycle(statements)]
-fn loop_by(
+fn loop_with(
     names: &Names,
     levels: u32,
     below: u32,
@@ -215,19 +215,11 @@ fn loop_by(
     label: Option<u32>,
     number: u32,
     tree: &Tree,
-    scheme: Option<u32>,
+    scheme: u32,
     id: u32,
 ) -> Result<bool, AllocError>
-    ensures { Keeps (spec.loop_by (in_levels names.now levels below) here.old label number (the_stmts (part_at tree.now.nodes id)) (optional (part_at tree.now.nodes) the_scheme scheme) log.old) (parts out.old) here.old result log.new (parts out.new) here.new }
+    ensures { Keeps (spec.loop_with (in_levels names.now levels below) here.old label number (the_stmts (part_at tree.now.nodes id)) (the_scheme (part_at tree.now.nodes scheme)) log.old) (parts out.old) here.old result log.new (parts out.new) here.new }
 {
-    let Some(scheme) = scheme else {
-        out.nothing()?;
-        let ss = repeated(
-            names, levels, below, here, log, out, label, number, tree, id,
-        )?;
-        let given = loop_made(out, number, true, ss)?;
-        return Ok(given);
-    };
     match tree.scheme(scheme) {
         Scheme::While {
             condition: test,
@@ -246,6 +238,38 @@ fn loop_by(
             )?;
             Ok(given)
         }
+    }
+}
+
+/// A loop with a number, by its iteration scheme.
+#[cycle(statements)]
+fn loop_by(
+    names: &Names,
+    levels: u32,
+    below: u32,
+    here: &mut Context,
+    log: &mut Log,
+    out: &mut Parts,
+    label: Option<u32>,
+    number: u32,
+    tree: &Tree,
+    scheme: Option<u32>,
+    id: u32,
+) -> Result<bool, AllocError>
+    ensures { Keeps (spec.loop_by (in_levels names.now levels below) here.old label number (the_stmts (part_at tree.now.nodes id)) (optional (part_at tree.now.nodes) the_scheme scheme) log.old) (parts out.old) here.old result log.new (parts out.new) here.new }
+{
+    match scheme {
+        None => {
+            out.nothing()?;
+            let ss = repeated(
+                names, levels, below, here, log, out, label, number, tree, id,
+            )?;
+            let given = loop_made(out, number, true, ss)?;
+            Ok(given)
+        }
+        Some(scheme) => loop_with(
+            names, levels, below, here, log, out, label, number, tree, scheme, id,
+        ),
     }
 }
 

@@ -30,15 +30,6 @@ pub fn no_stmt(log: &mut Log, out: &mut Parts, at: u32, rule: Rule) -> Result<bo
     not_given(log, out, at, rule)
 }
 
-fn is_name(name: u32, symbol: Option<u32>) -> bool
-    ensures { result ≡ spec.is_name name symbol }
-{
-    match symbol {
-        None => false,
-        Some(symbol) => symbol == name,
-    }
-}
-
 fn innermost(loops: &[LoopName]) -> Option<LoopName>
     ensures { result ≡ spec.innermost loops.now }
 {
@@ -48,11 +39,14 @@ fn innermost(loops: &[LoopName]) -> Option<LoopName>
 fn loop_named(name: u32, loops: &[LoopName]) -> Option<LoopName>
     ensures { result ≡ spec.loop_named name loops.now }
 {
-    loops
-        .iter()
-        .rev()
-        .find(|l| is_name(name, l.symbol))
-        .copied()
+    let found = loops.iter().rev().find(|l| match l.symbol {
+        None => false,
+        Some(symbol) => symbol == name,
+    });
+    match found {
+        Some(named) => Some(*named),
+        None => None,
+    }
 }
 
 fn loop_or(log: &mut Log, at: u32, named: Option<LoopName>) -> Result<Option<u32>, AllocError>

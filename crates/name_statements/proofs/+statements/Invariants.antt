@@ -12,98 +12,101 @@ use Rattle.name_statements.proofs.+statements.Given as goal
 
 -- A statement is judged in one level less than what it stands in.
 
-abbrev pub decreases-stmt : goal.decreases-stmt
-decreases-stmt l = 20 * l.levels
+abbrev pub decreases-statements::stmt : goal.decreases-statements::stmt
+decreases-statements::stmt l = 20 * l.levels
 
-abbrev pub decreases-stmt_form : goal.decreases-stmt_form
-decreases-stmt_form l = 20 * l.below + 19
+abbrev pub decreases-statements::stmt_form : goal.decreases-statements::stmt_form
+decreases-statements::stmt_form l = 20 * l.below + 19
 
-abbrev pub decreases-if_stmt : goal.decreases-if_stmt
-decreases-if_stmt l = 20 * l.below + 12
+abbrev pub decreases-statements::if_stmt : goal.decreases-statements::if_stmt
+decreases-statements::if_stmt l = 20 * l.below + 12
 
-abbrev pub decreases-stmts : goal.decreases-stmts
-decreases-stmts l = 20 * l.below + 2
+abbrev pub decreases-statements::stmts : goal.decreases-statements::stmts
+decreases-statements::stmts l = 20 * l.below + 2
 
-abbrev pub decreases-elsifs : goal.decreases-elsifs
-decreases-elsifs l = 20 * l.below + 3
+abbrev pub decreases-statements::elsifs : goal.decreases-statements::elsifs
+decreases-statements::elsifs l = 20 * l.below + 3
 
-abbrev pub decreases-otherwise_where : goal.decreases-otherwise_where
-decreases-otherwise_where l = 20 * l.below + 3
+abbrev pub decreases-statements::otherwise_where : goal.decreases-statements::otherwise_where
+decreases-statements::otherwise_where l = 20 * l.below + 3
 
-abbrev pub decreases-alternative : goal.decreases-alternative
-decreases-alternative l = 20 * l.below + 3
+abbrev pub decreases-cases::alternative : goal.decreases-cases::alternative
+decreases-cases::alternative l = 20 * l.below + 3
 
-abbrev pub decreases-alts : goal.decreases-alts
-decreases-alts l = 20 * l.below + 4
+abbrev pub decreases-cases::alts : goal.decreases-cases::alts
+decreases-cases::alts l = 20 * l.below + 4
 
-abbrev pub decreases-case_stmt : goal.decreases-case_stmt
-decreases-case_stmt l = 20 * l.below + 12
+abbrev pub decreases-cases::case_stmt : goal.decreases-cases::case_stmt
+decreases-cases::case_stmt l = 20 * l.below + 12
 
-abbrev pub decreases-repeated : goal.decreases-repeated
-decreases-repeated l = 20 * l.below + 3
+abbrev pub decreases-loops::repeated : goal.decreases-loops::repeated
+decreases-loops::repeated l = 20 * l.below + 3
 
-abbrev pub decreases-for_loop : goal.decreases-for_loop
-decreases-for_loop l = 20 * l.below + 4
+abbrev pub decreases-loops::for_loop : goal.decreases-loops::for_loop
+decreases-loops::for_loop l = 20 * l.below + 4
 
-abbrev pub decreases-loop_by : goal.decreases-loop_by
-decreases-loop_by l = 20 * l.below + 5
+abbrev pub decreases-loops::loop_with : goal.decreases-loops::loop_with
+decreases-loops::loop_with l = 20 * l.below + 5
 
-abbrev pub decreases-loop_stmt : goal.decreases-loop_stmt
-decreases-loop_stmt l = 20 * l.below + 12
+abbrev pub decreases-loops::loop_by : goal.decreases-loops::loop_by
+decreases-loops::loop_by l = 20 * l.below + 6
 
-abbrev pub decreases-handled : goal.decreases-handled
-decreases-handled l = 20 * l.below + 3
+abbrev pub decreases-loops::loop_stmt : goal.decreases-loops::loop_stmt
+decreases-loops::loop_stmt l = 20 * l.below + 12
 
-abbrev pub decreases-handler : goal.decreases-handler
-decreases-handler l = 20 * l.below + 4
+abbrev pub decreases-bodies::handled : goal.decreases-bodies::handled
+decreases-bodies::handled l = 20 * l.below + 3
 
-abbrev pub decreases-handlers : goal.decreases-handlers
-decreases-handlers l = 20 * l.below + 5
+abbrev pub decreases-bodies::handler : goal.decreases-bodies::handler
+decreases-bodies::handler l = 20 * l.below + 4
 
-abbrev pub decreases-held : goal.decreases-held
-decreases-held l = 20 * l.below + 6
+abbrev pub decreases-bodies::handlers : goal.decreases-bodies::handlers
+decreases-bodies::handlers l = 20 * l.below + 5
 
-abbrev pub decreases-block_of : goal.decreases-block_of
-decreases-block_of l = 20 * l.below + 7
+abbrev pub decreases-bodies::held : goal.decreases-bodies::held
+decreases-bodies::held l = 20 * l.below + 6
 
-abbrev pub decreases-block : goal.decreases-block
-decreases-block l = 20 * l.below + 12
+abbrev pub decreases-bodies::block_of : goal.decreases-bodies::block_of
+decreases-bodies::block_of l = 20 * l.below + 7
 
-abbrev pub decreases-branches : goal.decreases-branches
-decreases-branches l = 20 * l.below + 3
+abbrev pub decreases-bodies::block : goal.decreases-bodies::block
+decreases-bodies::block l = 20 * l.below + 12
 
-abbrev pub decreases-threads : goal.decreases-threads
-decreases-threads l = 20 * l.below + 4
+abbrev pub decreases-parallels::branches : goal.decreases-parallels::branches
+decreases-parallels::branches l = 20 * l.below + 3
 
-abbrev pub decreases-parallel : goal.decreases-parallel
-decreases-parallel l = 20 * l.below + 12
+abbrev pub decreases-parallels::threads : goal.decreases-parallels::threads
+decreases-parallels::threads l = 20 * l.below + 4
 
-abbrev pub decreases-stmts-stmts : goal.decreases-stmts-stmts
-decreases-stmts-stmts l = l.next
+abbrev pub decreases-parallels::parallel : goal.decreases-parallels::parallel
+decreases-parallels::parallel l = 20 * l.below + 12
 
-abbrev pub invariant-stmts-stmts : goal.invariant-stmts-stmts
-invariant-stmts-stmts l = (spec.stmts_from (in_levels l.names l.levels l.below) l.fn.here (Some part.Nothing) (syntax.AlsoStmt (the_stmt (part_at l.tree.nodes l.all.first)) (the_more_stmts (part_at l.tree.nodes l.all.more))) l.fn.log ≡ spec.stmts_from (in_levels l.names l.levels l.below) l.fn.here (part_if l.done (top (parts l.out))) (the_more_stmts (part_at l.tree.nodes l.next)) l.log) × (pop (parts l.out) ≡ parts l.fn.out) × (l.here ≡ l.fn.here)
+abbrev pub decreases-statements::stmts-stmts : goal.decreases-statements::stmts-stmts
+decreases-statements::stmts-stmts l = l.next
 
-abbrev pub decreases-elsifs-arms : goal.decreases-elsifs-arms
-decreases-elsifs-arms l = l.next
+abbrev pub invariant-statements::stmts-stmts : goal.invariant-statements::stmts-stmts
+invariant-statements::stmts-stmts l = (spec.stmts_from (in_levels l.names l.levels l.below) l.fn.here (Some part.Nothing) (syntax.AlsoStmt (the_stmt (part_at l.tree.nodes l.all.first)) (the_more_stmts (part_at l.tree.nodes l.all.more))) l.fn.log ≡ spec.stmts_from (in_levels l.names l.levels l.below) l.fn.here (part_if l.done (top (parts l.out))) (the_more_stmts (part_at l.tree.nodes l.next)) l.log) × (pop (parts l.out) ≡ parts l.fn.out) × (l.here ≡ l.fn.here)
 
-abbrev pub invariant-elsifs-arms : goal.invariant-elsifs-arms
-invariant-elsifs-arms l = (spec.elsifs (in_levels l.names l.levels l.below) l.fn.here (Some part.Nothing) (the_arms (part_at l.tree.nodes l.fn.more)) l.fn.log ≡ spec.elsifs (in_levels l.names l.levels l.below) l.fn.here (part_if l.done (top (parts l.out))) (the_arms (part_at l.tree.nodes l.next)) l.log) × (pop (parts l.out) ≡ parts l.fn.out) × (l.here ≡ l.fn.here)
+abbrev pub decreases-statements::elsifs-arms : goal.decreases-statements::elsifs-arms
+decreases-statements::elsifs-arms l = l.next
 
-abbrev pub decreases-alts-alts : goal.decreases-alts-alts
-decreases-alts-alts l = l.next
+abbrev pub invariant-statements::elsifs-arms : goal.invariant-statements::elsifs-arms
+invariant-statements::elsifs-arms l = (spec.elsifs (in_levels l.names l.levels l.below) l.fn.here (Some part.Nothing) (the_arms (part_at l.tree.nodes l.fn.more)) l.fn.log ≡ spec.elsifs (in_levels l.names l.levels l.below) l.fn.here (part_if l.done (top (parts l.out))) (the_arms (part_at l.tree.nodes l.next)) l.log) × (pop (parts l.out) ≡ parts l.fn.out) × (l.here ≡ l.fn.here)
 
-abbrev pub invariant-alts-alts : goal.invariant-alts-alts
-invariant-alts-alts l = (spec.alts (in_levels l.names l.levels l.below) l.fn.here l.kind (as_covering l.fn.covering) (Some part.Nothing) (syntax.AlsoAlt (the_alt (part_at l.tree.nodes l.first)) (the_alts (part_at l.tree.nodes l.fn.more))) l.fn.log ≡ spec.alts (in_levels l.names l.levels l.below) l.fn.here l.kind (as_covering l.covering) (part_if l.done (top (parts l.out))) (the_alts (part_at l.tree.nodes l.next)) l.log) × (pop (parts l.out) ≡ parts l.fn.out) × (l.here ≡ l.fn.here)
+abbrev pub decreases-cases::alts-alts : goal.decreases-cases::alts-alts
+decreases-cases::alts-alts l = l.next
 
-abbrev pub decreases-handlers-handlers : goal.decreases-handlers-handlers
-decreases-handlers-handlers l = l.next
+abbrev pub invariant-cases::alts-alts : goal.invariant-cases::alts-alts
+invariant-cases::alts-alts l = (spec.alts (in_levels l.names l.levels l.below) l.fn.here l.kind (as_covering l.fn.covering) (Some part.Nothing) (syntax.AlsoAlt (the_alt (part_at l.tree.nodes l.first)) (the_alts (part_at l.tree.nodes l.fn.more))) l.fn.log ≡ spec.alts (in_levels l.names l.levels l.below) l.fn.here l.kind (as_covering l.covering) (part_if l.done (top (parts l.out))) (the_alts (part_at l.tree.nodes l.next)) l.log) × (pop (parts l.out) ≡ parts l.fn.out) × (l.here ≡ l.fn.here)
 
-abbrev pub invariant-handlers-handlers : goal.invariant-handlers-handlers
-invariant-handlers-handlers l = (spec.handlers (in_levels l.names l.levels l.below) l.fn.here [] (Some part.Nothing) (the_handlers (part_at l.tree.nodes l.fn.more)) l.fn.log ≡ spec.handlers (in_levels l.names l.levels l.below) l.fn.here (reverse l.seen) (part_if l.done (top (parts l.out))) (the_handlers (part_at l.tree.nodes l.next)) l.log) × (pop (parts l.out) ≡ parts l.fn.out) × (l.here ≡ l.fn.here)
+abbrev pub decreases-bodies::handlers-handlers : goal.decreases-bodies::handlers-handlers
+decreases-bodies::handlers-handlers l = l.next
 
-abbrev pub decreases-branches-arms : goal.decreases-branches-arms
-decreases-branches-arms l = l.next
+abbrev pub invariant-bodies::handlers-handlers : goal.invariant-bodies::handlers-handlers
+invariant-bodies::handlers-handlers l = (spec.handlers (in_levels l.names l.levels l.below) l.fn.here [] (Some part.Nothing) (the_handlers (part_at l.tree.nodes l.fn.more)) l.fn.log ≡ spec.handlers (in_levels l.names l.levels l.below) l.fn.here (reverse l.seen) (part_if l.done (top (parts l.out))) (the_handlers (part_at l.tree.nodes l.next)) l.log) × (pop (parts l.out) ≡ parts l.fn.out) × (l.here ≡ l.fn.here)
 
-abbrev pub invariant-branches-arms : goal.invariant-branches-arms
-invariant-branches-arms l = (spec.branches (in_levels l.names l.levels l.below) l.fn.here (Some part.Nothing) (syntax.AlsoBranch (the_stmts (part_at l.tree.nodes l.first)) (syntax.AlsoBranch (the_stmts (part_at l.tree.nodes l.second)) (the_branches (part_at l.tree.nodes l.fn.more)))) l.fn.log ≡ spec.branches (in_levels l.names l.levels l.below) l.fn.here (part_if l.done (top (parts l.out))) (the_branches (part_at l.tree.nodes l.next)) l.log) × (pop (parts l.out) ≡ parts l.fn.out) × (l.here ≡ l.fn.here)
+abbrev pub decreases-parallels::branches-arms : goal.decreases-parallels::branches-arms
+decreases-parallels::branches-arms l = l.next
+
+abbrev pub invariant-parallels::branches-arms : goal.invariant-parallels::branches-arms
+invariant-parallels::branches-arms l = (spec.branches (in_levels l.names l.levels l.below) l.fn.here (Some part.Nothing) (syntax.AlsoBranch (the_stmts (part_at l.tree.nodes l.first)) (syntax.AlsoBranch (the_stmts (part_at l.tree.nodes l.second)) (the_branches (part_at l.tree.nodes l.fn.more)))) l.fn.log ≡ spec.branches (in_levels l.names l.levels l.below) l.fn.here (part_if l.done (top (parts l.out))) (the_branches (part_at l.tree.nodes l.next)) l.log) × (pop (parts l.out) ≡ parts l.fn.out) × (l.here ≡ l.fn.here)

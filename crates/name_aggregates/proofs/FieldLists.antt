@@ -1,6 +1,6 @@
 -- Components of a record, from a place on.
 use Rattle.std.proofs.Common.{◌≡◌, refl, ap, sym, ◌∙◌, ℕ, zero, suc, ◌+◌, ◌<◌, Bool, true, false, cond, ◌==◌, List, [], ◌∷◌, ◌++◌, length, Some, None, drop, slice_get, arith}
-use Rattle.std.proofs.lemmas.List.{append_assoc, append_nil}
+use Rattle.std.proofs.lemmas.List.{append_assoc, append-nil}
 use Rattle.name_rules.specs.Aggregates.{without}
 use Rattle.name_rules.specs.declared.log.Field.{Field}
 use Rattle.name_values.proofs.Lists.{drop_get, drop_none}
@@ -19,9 +19,9 @@ without_next name fs i f others e =
     ∙ sym (append_assoc others (without name (f ∷ [])) (without name (drop (i + 1) fs)))
 
 pub without_end : (name : ℕ) (fs : List Field) (i : ℕ) (others : List Field) → slice_get fs i ≡ None → others ++ without name (drop i fs) ≡ others
-without_end name fs i others e = ap (λ xs. others ++ without name xs) (drop_none fs i e) ∙ append_nil others
+without_end name fs i others e = ap (λ xs. others ++ without name xs) (drop_none fs i e) ∙ append-nil others
 
 pub some_left : {A : Type 0} (xs : List A) (i : ℕ) → i < length xs → (length (drop i xs) == 0) ≡ false
 some_left [] i h = absurd (omega (arith, h))
-some_left (x ∷ xs) zero h = refl
+some_left (x ∷ xs) zero h = omega arith
 some_left (x ∷ xs) (suc i) h = some_left xs i (omega (arith, h))
