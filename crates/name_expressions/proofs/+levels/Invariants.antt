@@ -279,17 +279,17 @@ decreases-scalar_conversion l = 100 * l.levels + 49
 abbrev pub decreases-conversion : goal.decreases-conversion
 decreases-conversion l = 100 * l.levels + 50
 
-abbrev pub decreases-arguments-args : goal.decreases-arguments-args
-decreases-arguments-args l = l.next
+abbrev pub decreases-arguments-each : goal.decreases-arguments-each
+decreases-arguments-each l = l.next
 
-abbrev pub decreases-operands-args : goal.decreases-operands-args
-decreases-operands-args l = l.next
+abbrev pub decreases-operands-each : goal.decreases-operands-each
+decreases-operands-each l = l.next
 
-abbrev pub invariant-arguments-args : goal.invariant-arguments-args
-invariant-arguments-args l = (calls.arguments l.names (inside l.names l.levels) l.here l.taken (calling_of l.fn.calling (top (parts l.fn.out))) (the_args (part_at l.tree.nodes l.fn.more)) l.fn.log ≡ calls.arguments l.names (inside l.names l.levels) l.here l.taken (calling_of l.calling (top (parts l.out))) (the_args (part_at l.tree.nodes l.next)) l.log) × (pop (parts l.out) ≡ pop (parts l.fn.out))
+abbrev pub invariant-arguments-each : goal.invariant-arguments-each
+invariant-arguments-each l = (calls.arguments l.names (inside l.names l.levels) l.here l.taken (calling_of l.fn.calling (top (parts l.fn.out))) (the_args (part_at l.tree.nodes l.fn.more)) l.fn.log ≡ calls.arguments l.names (inside l.names l.levels) l.here l.taken (calling_of l.calling (top (parts l.out))) (the_args (part_at l.tree.nodes l.next)) l.log) × (pop (parts l.out) ≡ pop (parts l.fn.out))
 
-abbrev pub invariant-operands-args : goal.invariant-operands-args
-invariant-operands-args l = (calls.operands l.names (inside l.names l.levels) l.here (operands_of l.fn.good l.fn.found (top (parts l.fn.out))) (the_args (part_at l.tree.nodes l.fn.more)) l.fn.log ≡ calls.operands l.names (inside l.names l.levels) l.here (operands_of l.all l.found (top (parts l.out))) (the_args (part_at l.tree.nodes l.next)) l.log) × (pop (parts l.out) ≡ pop (parts l.fn.out))
+abbrev pub invariant-operands-each : goal.invariant-operands-each
+invariant-operands-each l = (calls.operands l.names (inside l.names l.levels) l.here (operands_of l.fn.good l.fn.found (top (parts l.fn.out))) (the_args (part_at l.tree.nodes l.fn.more)) l.fn.log ≡ calls.operands l.names (inside l.names l.levels) l.here (operands_of l.all l.found (top (parts l.out))) (the_args (part_at l.tree.nodes l.next)) l.log) × (pop (parts l.out) ≡ pop (parts l.fn.out))
 
 -- ---- output
 
@@ -320,17 +320,17 @@ decreases-io_given l = 100 * l.levels + 50
 abbrev pub decreases-io_call : goal.decreases-io_call
 decreases-io_call l = 100 * l.levels + 51
 
-abbrev pub decreases-others_alone-args : goal.decreases-others_alone-args
-decreases-others_alone-args l = l.next
+abbrev pub decreases-others_alone-each : goal.decreases-others_alone-each
+decreases-others_alone-each l = l.next
 
-abbrev pub decreases-put_arguments-args : goal.decreases-put_arguments-args
-decreases-put_arguments-args l = l.next
+abbrev pub decreases-put_arguments-each : goal.decreases-put_arguments-each
+decreases-put_arguments-each l = l.next
 
-abbrev pub invariant-others_alone-args : goal.invariant-others_alone-args
-invariant-others_alone-args l = (output.others_alone l.names (inside l.names l.levels) l.here (the_args (part_at l.tree.nodes l.fn.more)) l.fn.log ≡ output.others_alone l.names (inside l.names l.levels) l.here (the_args (part_at l.tree.nodes l.next)) l.log) × (parts l.out ≡ parts l.fn.out)
+abbrev pub invariant-others_alone-each : goal.invariant-others_alone-each
+invariant-others_alone-each l = (output.others_alone l.names (inside l.names l.levels) l.here (the_args (part_at l.tree.nodes l.fn.more)) l.fn.log ≡ output.others_alone l.names (inside l.names l.levels) l.here (the_args (part_at l.tree.nodes l.next)) l.log) × (parts l.out ≡ parts l.fn.out)
 
-abbrev pub invariant-put_arguments-args : goal.invariant-put_arguments-args
-invariant-put_arguments-args l = (output.put_arguments l.names (inside l.names l.levels) l.here (putting_of l.fn.putting (second (parts l.fn.out)) (top (parts l.fn.out))) (the_args (part_at l.tree.nodes l.fn.more)) l.fn.log ≡ output.put_arguments l.names (inside l.names l.levels) l.here (putting_of l.putting (second (parts l.out)) (top (parts l.out))) (the_args (part_at l.tree.nodes l.next)) l.log) × (pop (pop (parts l.out)) ≡ pop (pop (parts l.fn.out)))
+abbrev pub invariant-put_arguments-each : goal.invariant-put_arguments-each
+invariant-put_arguments-each l = (output.put_arguments l.names (inside l.names l.levels) l.here (putting_of l.fn.putting (second (parts l.fn.out)) (top (parts l.fn.out))) (the_args (part_at l.tree.nodes l.fn.more)) l.fn.log ≡ output.put_arguments l.names (inside l.names l.levels) l.here (putting_of l.putting (second (parts l.out)) (top (parts l.out))) (the_args (part_at l.tree.nodes l.next)) l.log) × (pop (pop (parts l.out)) ≡ pop (pop (parts l.fn.out)))
 
 -- ---- reducers
 
