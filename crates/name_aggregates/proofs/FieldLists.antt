@@ -1,5 +1,5 @@
 -- Components of a record, from a place on.
-use Rattle.std.proofs.Common.{◌≡◌, refl, ap, sym, ◌∙◌, ℕ, zero, suc, ◌+◌, ◌<◌, Bool, true, false, cond, ◌==◌, List, [], ◌∷◌, ◌++◌, length, Some, None, drop, slice_get, arith}
+use Rattle.std.proofs.Common.{◌≡◌, refl, ap, sym, ◌∙◌, ℕ, zero, suc, ◌+◌, ◌<◌, Bool, true, false, cond, eqb-true, ◌==◌, List, [], ◌∷◌, ◌++◌, length, Some, None, drop, slice_get, arith}
 use Rattle.std.specs.List.{find}
 use Rattle.std.proofs.lemmas.List.{append_assoc, append-nil}
 use Rattle.name_rules.specs.Aggregates.{one_field, without}
@@ -28,7 +28,7 @@ by_cases false f g = g refl
 
 pub some_left : {A : Type 0} (xs : List A) (i : ℕ) → i < length xs → (length (drop i xs) == 0) ≡ false
 some_left [] i h = absurd (omega (arith, h))
-some_left (x ∷ xs) zero h = by_cases (length (x ∷ xs) == 0) (λ e. absurd (omega (arith, e))) (λ e. e)
+some_left (x ∷ xs) zero h = by_cases (length (x ∷ xs) == 0) (λ e. absurd (omega (arith, eqb-true (length (x ∷ xs)) 0 e))) (λ e. e)
 some_left (x ∷ xs) (suc i) h = some_left xs i (omega (arith, h))
 
 pub one_found : (name : ℕ) (fs : List Field) (f : Field) → find (λ g. g.symbol == name) fs ≡ Some f → one_field name fs ≡ f ∷ []
@@ -46,3 +46,6 @@ one_none name (g ∷ gs) e = by (g.symbol == name) e (one_none name gs)
     by : (t : Bool) → cond t (Some g) (find (λ h. h.symbol == name) gs) ≡ None → (find (λ h. h.symbol == name) gs ≡ None → one_field name gs ≡ []) → cond t (g ∷ []) (one_field name gs) ≡ []
     by true e later = absurd (cc)
     by false e later = later e
+
+pub none_taken : (name : ℕ) (fs taken : List Field) → find (λ g. g.symbol == name) fs ≡ None → taken ≡ taken ++ one_field name fs
+none_taken name fs taken e = sym (ap (λ xs. taken ++ xs) (one_none name fs e) ∙ append-nil taken)

@@ -82,14 +82,17 @@ fn is_within(dimension: Dimension, range: (i128, i128)) -> bool
 }
 
 /// How many cells of a dimension lie before a range that lies within it.
-fn cells_before(dimension: Dimension, apart: u64, range: (i128, i128)) -> u128
+fn cells_before(dimension: Dimension, apart: u64, range: (i128, i128)) -> Result<u128, AllocError>
     requires some { spec.not_empty range ≡ true }
     requires within { spec.is_within dimension range ≡ true }
-    ensures { result ≡ unsigned_abs (range.0 -ℤ dimension.low) * apart }
+    ensures { IfOk result (λ n. n ≡ unsigned_abs (range.0 -ℤ dimension.low) * apart) }
 {
     let _end = i128::from(dimension.high);
     let before = (range.0 - i128::from(dimension.low)).unsigned_abs();
-    before.saturating_mul(u128::from(apart))
+    if before > 18_446_744_073_709_551_615 {
+        return Err(AllocError);
+    }
+    Ok(before.saturating_mul(u128::from(apart)))
 }
 
 /// How many indexes a range has that lies within a dimension.
@@ -114,7 +117,7 @@ fn also_span(
     requires within { spec.is_within dimension range ≡ true }
     ensures { OnOk result (parts out.new ≡ part.LeafCons (leaf.Run (spec.span_run dimension apart range)) (top (parts out.old)) ∷ pop (parts out.old)) }
 {
-    let first = cells_before(dimension, apart, range);
+    let first = cells_before(dimension, apart, range)?;
     let count = count_of(dimension, range);
     also_run(out, first, count, apart)
 }

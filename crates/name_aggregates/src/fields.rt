@@ -87,7 +87,7 @@ fn has_symbol(name: u32, fields: &Items<Field>) -> bool
 }
 
 /// The first component of a name, which joins those that are taken.
-#[tactic(auto, using(crate::proofs::FieldLists::one_found, crate::proofs::FieldLists::one_none))]
+#[tactic(auto, using(crate::proofs::FieldLists::one_found, crate::proofs::FieldLists::none_taken))]
 fn take_field(name: u32, fields: &Items<Field>, taken: &mut Items<Field>) -> Result<(), AllocError>
     ensures { OnOk result (taken.new ≡ taken.old ++ spec.one_field name fields.now) }
 {

@@ -6,5 +6,5 @@ use Rattle.name_aggregates.proofs.coverage.non_empty.Goals as goal
 pub spans-preserved : goal.spans-preserved
 spans-preserved c =
     c.spans.invariant
-    ∙ some_next _ _ _ _ (sym c.range_at.ensures ∙ c.in-Some.is)
-    ∙ ap (λ xs. xs ++ non_empty (drop (c.spans.i + 1) _)) (sym c.in_ok-also_some.ensures)
+    ∙ some_next c.args.ranges.now c.spans.i c.in-Some.range c.spans.some (sym c.range_at.ensures ∙ c.in-Some.is)
+    ∙ ap (λ xs. xs ++ non_empty (drop (c.spans.i + 1) c.args.ranges.now)) (sym c.in_ok-also_some.ensures)
