@@ -1,3 +1,3 @@
-pub mod Coverage
-pub mod Fields
+pub mod FieldLists
+pub mod OpenRanges
 pub mod Runs

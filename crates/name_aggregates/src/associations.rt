@@ -1,6 +1,6 @@
 //! Associations of an aggregate (4.3) in the typed program: the runs of cells that they give, and their value.
 
-ghost use Rattle.std.specs.Prelude.{◌≡◌, ◌∷◌, [], IfOk, OnOk, None};
+ghost use Rattle.std.specs.Prelude.{◌≡◌, ◌∷◌, ◌*◌, ◌-ℤ◌, [], IfOk, OnOk, None, true, unsigned_abs};
 ghost use Rattle.ada_typed.specs.Decoded as part;
 ghost use Rattle.ada_typed.specs.Decoded.{as_runs};
 ghost use Rattle.ada_typed.specs.declared.node.Leaf.TheVariants as leaf;
@@ -62,9 +62,61 @@ pub fn field_association(
     out.swap()?;
     out.nothing()?;
     let cells = cells_in(log, field.subtype);
-    also_run(out, u128::from(field.offset), u128::from(cells), 1)?;
+    also_run(out, u128::from(field.offset), 1, cells)?;
     association(out, None)?;
     Ok(true)
+}
+
+/// Whether a range has a value.
+fn not_empty(range: (i128, i128)) -> bool
+    ensures { result ≡ spec.not_empty range }
+{
+    range.0 <= range.1
+}
+
+/// Whether a range lies within a dimension, where it has a value.
+fn is_within(dimension: Dimension, range: (i128, i128)) -> bool
+    ensures { result ≡ spec.is_within dimension range }
+{
+    i128::from(dimension.low) <= range.0 && range.1 <= i128::from(dimension.high)
+}
+
+/// How many cells of a dimension lie before a range that lies within it.
+fn cells_before(dimension: Dimension, apart: u64, range: (i128, i128)) -> u128
+    requires some { spec.not_empty range ≡ true }
+    requires within { spec.is_within dimension range ≡ true }
+    ensures { result ≡ unsigned_abs (range.0 -ℤ dimension.low) * apart }
+{
+    let _end = i128::from(dimension.high);
+    let before = (range.0 - i128::from(dimension.low)).unsigned_abs();
+    before.saturating_mul(u128::from(apart))
+}
+
+/// How many indexes a range has that lies within a dimension.
+fn count_of(dimension: Dimension, range: (i128, i128)) -> u128
+    requires some { spec.not_empty range ≡ true }
+    requires within { spec.is_within dimension range ≡ true }
+    ensures { result ≡ spec.count_of range }
+{
+    let _start = i128::from(dimension.low);
+    let _end = i128::from(dimension.high);
+    (range.1 - range.0).unsigned_abs() + 1
+}
+
+/// The run of a range that lies within a dimension joins those behind it.
+fn also_span(
+    out: &mut Parts,
+    dimension: Dimension,
+    apart: u64,
+    range: (i128, i128),
+) -> Result<(), AllocError>
+    requires some { spec.not_empty range ≡ true }
+    requires within { spec.is_within dimension range ≡ true }
+    ensures { OnOk result (parts out.new ≡ part.LeafCons (leaf.Run (spec.span_run dimension apart range)) (top (parts out.old)) ∷ pop (parts out.old)) }
+{
+    let first = cells_before(dimension, apart, range);
+    let count = count_of(dimension, range);
+    also_run(out, first, count, apart)
 }
 
 /// The run of a range of indexes joins the runs of those behind it, if all lie within the dimension so far.
@@ -77,18 +129,16 @@ fn also_range(
 ) -> Result<bool, AllocError>
     ensures { IfOk result (λ b. (spec.with_run dimension apart range (runs_if within (as_runs (top (parts out.old)))) ≡ runs_if b (as_runs (top (parts out.new)))) × (pop (parts out.new) ≡ pop (parts out.old))) }
 {
-    let (low, high) = range;
-    if low > high {
+    if !not_empty(range) {
         return Ok(within);
     }
-    let start = i128::from(dimension.low);
-    if low < start || high > i128::from(dimension.high) || !within {
+    if !is_within(dimension, range) {
         return Ok(false);
     }
-    let before = (low - start).unsigned_abs();
-    let first = before.saturating_mul(u128::from(apart));
-    let count = (high - low).unsigned_abs() + 1;
-    also_run(out, first, count, apart)?;
+    if !within {
+        return Ok(false);
+    }
+    also_span(out, dimension, apart, range)?;
     Ok(true)
 }
 
@@ -105,7 +155,7 @@ fn runs(
     out.nothing()?;
     let mut left = ranges;
     let mut within = true;
-    'ranges: while let Some(range) = left.pop() {
+    'spans: while let Some(range) = left.pop() {
         within = also_range(out, dimension, apart, range, within)?;
     }
     Ok(within)

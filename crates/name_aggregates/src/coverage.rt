@@ -39,13 +39,13 @@ fn also_some(some: &mut Items<(i128, i128)>, range: (i128, i128)) -> Result<(), 
 }
 
 /// The ranges that have a value.
-#[tactic(auto, using(crate::proofs::Coverage::some_next, crate::proofs::Coverage::some_end, name_values::proofs::Lists::drop_less))]
+#[tactic(auto, using(crate::proofs::OpenRanges::some_next, crate::proofs::OpenRanges::some_end, name_values::proofs::Lists::drop_less))]
 fn non_empty(alloc: Global, ranges: &Items<(i128, i128)>) -> Result<Items<(i128, i128)>, AllocError>
     ensures { IfOk result (λ some. some ≡ spec.non_empty ranges.now) }
 {
     let mut some = Items::new(alloc);
     let mut i = 0;
-    'ranges: while let Some(range) = range_at(ranges, i) {
+    'spans: while let Some(range) = range_at(ranges, i) {
         also_some(&mut some, range)?;
         if i == usize::MAX {
             return Err(AllocError);
@@ -75,7 +75,7 @@ fn open_behind(gaps: &mut Items<(i128, i128)>, start: i128, end: i128) -> Result
 }
 
 /// What ranges in order leave open of a dimension; None where they overlap or lie outside.
-#[tactic(auto, using(crate::proofs::Coverage::open_next, crate::proofs::Coverage::open_below, crate::proofs::Coverage::open_above, crate::proofs::Coverage::open_end, name_values::proofs::Lists::drop_less))]
+#[tactic(auto, using(crate::proofs::OpenRanges::open_next, crate::proofs::OpenRanges::open_below, crate::proofs::OpenRanges::open_above, crate::proofs::OpenRanges::open_end, name_values::proofs::Lists::drop_less))]
 fn left_open(
     alloc: Global,
     dimension: Dimension,
@@ -87,7 +87,7 @@ fn left_open(
     let end = i128::from(dimension.high);
     let mut start = i128::from(dimension.low);
     let mut i = 0;
-    'ranges: while let Some(range) = range_at(ranges, i) {
+    'spans: while let Some(range) = range_at(ranges, i) {
         if range.0 < start {
             return Ok(None);
         }

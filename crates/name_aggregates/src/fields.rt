@@ -1,6 +1,7 @@
 //! Components of a record that associations of an aggregate name (4.3.1).
 
 ghost use Rattle.std.specs.Prelude.{◌≡◌, ◌==◌, ◌||◌, ◌++◌, ◌∷◌, [], IfOk, OnOk, Some, drop, false, if◌then◌else◌, length, not, option_map, slice_get};
+ghost use Rattle.std.specs.List.{find};
 ghost use Rattle.ada_typed.specs.Decoded as part;
 ghost use Rattle.ada_tree.specs.Syntax as syntax;
 ghost use Rattle.name_aggregates.specs.Filled.{filled};
@@ -86,21 +87,23 @@ fn has_symbol(name: u32, fields: &Items<Field>) -> bool
 }
 
 /// The first component of a name, which joins those that are taken.
-#[tactic(auto, using(name_values::proofs::Lists::drop_get, name_values::proofs::Lists::drop_none, name_values::proofs::Lists::drop_less))]
+#[tactic(auto, using(crate::proofs::FieldLists::one_found, crate::proofs::FieldLists::one_none))]
 fn take_field(name: u32, fields: &Items<Field>, taken: &mut Items<Field>) -> Result<(), AllocError>
     ensures { OnOk result (taken.new ≡ taken.old ++ spec.one_field name fields.now) }
 {
-    let mut i = 0;
-    'fields: while let Some(field) = field_at(fields, i) {
-        if field.symbol == name {
-            return taken.push(field);
-        }
-        if i == usize::MAX {
-            return Err(AllocError);
-        }
-        i += 1;
+    match first_named(name, fields) {
+        Some(field) => taken.push(field),
+        None => Ok(()),
     }
-    Ok(())
+}
+
+fn first_named(name: u32, fields: &Items<Field>) -> Option<Field>
+    ensures { result ≡ find (λ f. f.symbol == name) fields.now }
+{
+    match fields.as_slice().iter().find(|field| field.symbol == name) {
+        Some(field) => Some(*field),
+        None => None,
+    }
 }
 
 /// A component joins the others if it has another name.
@@ -114,7 +117,7 @@ fn also_other(others: &mut Items<Field>, name: u32, field: Field) -> Result<(), 
 }
 
 /// The components of other names.
-#[tactic(auto, using(crate::proofs::Fields::without_next, crate::proofs::Fields::without_end, name_values::proofs::Lists::drop_less))]
+#[tactic(auto, using(crate::proofs::FieldLists::without_next, crate::proofs::FieldLists::without_end, name_values::proofs::Lists::drop_less))]
 fn without(alloc: Global, name: u32, fields: &Items<Field>) -> Result<Items<Field>, AllocError>
     ensures { IfOk result (λ others. others ≡ spec.without name fields.now) }
 {
@@ -310,7 +313,7 @@ pub fn is_incomplete(filling: &Filling) -> bool
 }
 
 /// Whether a component isn't given exactly once by position.
-#[tactic(auto, using(name_values::proofs::Lists::drop_past, crate::proofs::Fields::some_left))]
+#[tactic(auto, using(name_values::proofs::Lists::drop_past, crate::proofs::FieldLists::some_left))]
 pub fn is_incomplete_at(positions: Positions, fields: &Items<Field>) -> bool
     ensures { result ≡ (positions.over || not (length (drop positions.place fields.now) == 0)) }
 {

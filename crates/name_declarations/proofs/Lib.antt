@@ -1,4 +1,4 @@
-mod Lists
+mod FromPlaces
 mod Mentions
 mod Options
 mod Rooms

@@ -3,8 +3,13 @@ use Rattle.std.proofs.Common.{◌≡◌, refl, true, false}
 use Rattle.ada_typed.specs.Decoded.{Part, Nothing, Cons, LeafCons, AnExpr, ASelection, AnActual, AValue, AComposite, AnAssociation, AnIteration, AChunk, AReducer, ACheck, AScalar, APiece, ADecl, AStmt, AnAlternative, AHandler, ABody}
 use Rattle.ada_typed.specs.Syntax as typed
 use Rattle.name_rules.specs.Declarations.{with_mentions}
-use Rattle.name_rules.specs.TypedParts.{also, exprs_of}
+use Rattle.name_rules.specs.TypedParts.{also, also_all, exprs_of}
 use Rattle.typed_parts.specs.Looks.{is_nothing}
+use Rattle.typed_parts.specs.Stack.{turned}
+
+pub also_none : (p : Part) → also_all p Nothing ≡ p
+unfolding also_all turned
+also_none p = refl
 
 pub unmentioned : (done p : Part) → is_nothing p ≡ true → with_mentions done p ≡ done
 unmentioned done Nothing e = refl

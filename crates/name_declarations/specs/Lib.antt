@@ -1,2 +1,3 @@
 pub mod Declares
+pub mod OneObject
 pub mod Steps

@@ -4,16 +4,24 @@ use Rattle.ada_typed.specs.Decoded.{Part}
 use Rattle.ada_typed.specs.declared.program.Object.{Object}
 use Rattle.name_rules.specs.Declarations.{Declaring, Dimensions, all_ids, also_dimension, begun_names, cells_counted, defined, each_exception, ended_name, indic, one_type}
 use Rattle.name_rules.specs.Expressions.{Inside}
-use Rattle.name_rules.specs.Judging.{Judging, joined, pure, ◌>>=◌}
+use Rattle.name_rules.specs.Judging.{Judging, joined, pure, some, ◌>>=◌}
 use Rattle.name_rules.specs.Ranges.{static_range}
 use Rattle.name_rules.specs.Scope.{free, hidden_where}
+use Rattle.name_rules.specs.Types.{lies_in}
 use Rattle.name_rules.specs.declared.scope.Context.{Context}
 use Rattle.name_rules.specs.declared.scope.Names.{Names}
-use Rattle.std.specs.Prelude.{None, Option, [], if◌then◌else◌, true, ℕ, ◌+◌, ◌==◌}
+use Rattle.name_rules.specs.declared.types.Scalar.{Scalar}
+use Rattle.name_rules.specs.declared.types.Subtype.TheVariants as subtype
+use Rattle.name_rules.specs.declared.types.Subtype.{Subtype}
+use Rattle.std.specs.Prelude.{None, Option, [], if◌then◌else◌, int_le, true, ℕ, ℤ, ◌&&◌, ◌+◌, ◌==◌}
 
 -- one more dimension of an array
 abbrev pub dimension : Inside → Context → Option Dimensions → Range → Judging (Option Dimensions)
 dimension level here done r = static_range level here true None r >>= λ d. pure (joined also_dimension done d)
+
+-- the subtype of a range, if it is one of another subtype and isn't empty
+abbrev pub range_within : Scalar → ℤ → ℤ → Judging (Option Subtype)
+range_within s a z = if lies_in s a && lies_in s z && int_le a z then some (subtype.Scalar (record { kind = s.kind; low = a; high = z })) else pure None
 
 -- the place behind an object's cells, if it is one of the owner's
 abbrev pub room_behind : ℕ → ℕ → Object → ℕ

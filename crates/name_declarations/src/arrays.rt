@@ -69,7 +69,7 @@ fn dimensions_from(
 {
     let mut whole = done;
     let mut next = more;
-    'ranges: while let Some(cell) = tree.cell(next) {
+    'all: while let Some(cell) = tree.cell(next) {
         whole = dimension(
             names, levels, here, log, out, whole, dimensions, tree, cell.first,
         )?;
@@ -161,6 +161,9 @@ pub fn array(
             out.leave_out();
             Ok(None)
         }
-        Some(component) => array_given(log, out, view.at, all, component),
+        Some(component) => {
+            let written = array_given(log, out, view.at, all, component)?;
+            Ok(written)
+        }
     }
 }

@@ -99,7 +99,7 @@ fn new_exception(log: &mut Log, token: u32) -> Result<u32, AllocError>
     Ok(number as u32)
 }
 
-#[tactic(auto, using(crate::proofs::Lists::drop_get, crate::proofs::Lists::drop_none, crate::proofs::Lists::drop_less))]
+#[tactic(auto, using(crate::proofs::FromPlaces::drop_get, crate::proofs::FromPlaces::drop_none, crate::proofs::FromPlaces::drop_less))]
 fn each_exception(
     names: &Names,
     here: &mut Context,

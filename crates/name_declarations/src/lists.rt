@@ -16,7 +16,7 @@ use tree_views::Tree;
 use typed_parts::Parts;
 
 /// The identifiers of a declaration.
-#[tactic(auto, using(crate::proofs::Lists::append_one))]
+#[tactic(auto, using(crate::proofs::FromPlaces::append_one))]
 pub fn all_ids(tree: &Tree, alloc: Global, id: u32) -> Result<Items<u32>, AllocError>
     ensures { IfOk result (λ ids. ids ≡ spec.all_ids (the_ids (part_at tree.now.nodes id))) }
 {
@@ -33,7 +33,7 @@ pub fn all_ids(tree: &Tree, alloc: Global, id: u32) -> Result<Items<u32>, AllocE
 
 /// Begins to declare names in the region that begins at that place of the scope: they hide outer ones from here on.
 /// Twice at each that is declared so already, which then declares nothing; the others' tokens.
-#[tactic(auto, using(crate::proofs::Lists::drop_get, crate::proofs::Lists::drop_none, crate::proofs::Lists::drop_less))]
+#[tactic(auto, using(crate::proofs::FromPlaces::drop_get, crate::proofs::FromPlaces::drop_none, crate::proofs::FromPlaces::drop_less))]
 pub fn begun_names(
     names: &Names,
     start: usize,
@@ -75,7 +75,7 @@ pub fn ended_name(
 }
 
 /// Names whose declaration has ended, which all stand for the same.
-#[tactic(auto, using(crate::proofs::Lists::drop_get, crate::proofs::Lists::drop_none, crate::proofs::Lists::drop_less))]
+#[tactic(auto, using(crate::proofs::FromPlaces::drop_get, crate::proofs::FromPlaces::drop_none, crate::proofs::FromPlaces::drop_less))]
 pub fn all_ended(
     names: &Names,
     here: &mut Context,
@@ -107,5 +107,6 @@ pub fn with_mentions(out: &mut Parts) -> Result<(), AllocError>
     }
     out.turn()?;
     out.mentions()?;
-    out.also()
+    out.also()?;
+    Ok(())
 }

@@ -2,6 +2,7 @@
 
 ghost use Rattle.std.specs.Prelude.{◌≡◌, ◌∷◌, IfOk, OnOk};
 ghost use Rattle.ada_tree.specs.Syntax as syntax;
+ghost use Rattle.name_declarations.specs.OneObject as single;
 ghost use Rattle.name_declarations.specs.Steps as step;
 ghost use Rattle.name_declarations.specs.Declares.{Declares, Ends, Initials, given_initial, initial_of};
 ghost use Rattle.name_rules.specs.Declarations as spec;
@@ -47,7 +48,6 @@ fn first_room(names: &Names, owner: u32) -> u32
 }
 
 /// The place behind an object's cells, if it is one of the owner's; 2^32 cells are beyond memory.
-#[tactic(auto, using(crate::proofs::Rooms::room_next))]
 fn room_behind(object: Object, owner: u32, room: u32) -> Result<u32, AllocError>
     ensures { IfOk result (λ n. n ≡ step.room_behind room owner object) }
 {
@@ -61,7 +61,7 @@ fn room_behind(object: Object, owner: u32, room: u32) -> Result<u32, AllocError>
 }
 
 /// Where the next object of an owner begins among its cells.
-#[tactic(auto, using(crate::proofs::Lists::drop_get, crate::proofs::Lists::drop_none, crate::proofs::Lists::drop_less, crate::proofs::Rooms::room_next))]
+#[tactic(auto, using(crate::proofs::Rooms::room_step, crate::proofs::FromPlaces::drop_none, crate::proofs::FromPlaces::drop_less))]
 fn room(names: &Names, log: &Log, owner: u32) -> Result<u32, AllocError>
     ensures { IfOk result (λ n. n ≡ spec.room (spec.first_room names.now owner) owner log.now.objects) }
 {
@@ -280,18 +280,21 @@ fn with_object(out: &mut Parts, constant: bool, number: u32, given: bool) -> Res
     if constant {
         if given {
             out.declare_constant(number)?;
-            return out.also();
+            out.also()?;
+            return Ok(());
         }
         out.leave_out();
         return Ok(());
     }
     if given {
         out.declare_variable(number)?;
-        return out.also();
+        out.also()?;
+        return Ok(());
     }
     out.leave_out();
     out.declare_default(number)?;
-    out.also()
+    out.also()?;
+    Ok(())
 }
 
 /// An object is elaborated behind what its subtype mentions and what is before that.
@@ -415,8 +418,37 @@ fn typed_object(
     }
 }
 
+/// One object of a declaration, whose type and value are judged among the names around it. What is elaborated before it
+/// is the latest part.
+fn next_object(
+    names: &Names,
+    levels: u32,
+    inner: &Context,
+    here: &mut Context,
+    log: &mut Log,
+    out: &mut Parts,
+    constant: bool,
+    first: u32,
+    done: bool,
+    token: u32,
+    free: Option<u32>,
+    tree: &Tree,
+    object_type: u32,
+    value: Option<u32>,
+) -> Result<bool, AllocError>
+    ensures { Declares (single.object names.now (primaries.inside names.now levels) inner.now here.old constant first (the_object_type (part_at tree.now.nodes object_type)) (optional (part_at tree.now.nodes) the_expr value) (part_if done (top (parts out.old))) token free log.old) (pop (parts out.old)) result here.new log.new (parts out.new) }
+{
+    let subtype = typed_object(names, levels, inner, log, out, tree, object_type)?;
+    let given = initial(names, levels, inner, log, out, subtype, tree, value)?;
+    valued_constant(log, out, first, constant, subtype, tree, value)?;
+    let whole = one_object(
+        names, here, log, out, token, free, constant, done, subtype, given,
+    )?;
+    Ok(whole)
+}
+
 /// The objects of one declaration, whose type and value are judged for each among the names around it.
-#[tactic(auto, using(crate::proofs::Lists::drop_get, crate::proofs::Lists::drop_none, crate::proofs::Lists::drop_less))]
+#[tactic(auto, using(crate::proofs::FromPlaces::drop_get, crate::proofs::FromPlaces::drop_none, crate::proofs::FromPlaces::drop_less))]
 fn each_object(
     names: &Names,
     levels: u32,
@@ -441,11 +473,21 @@ fn each_object(
         let Some(one) = free.get(i) else {
             return Ok(whole);
         };
-        let subtype = typed_object(names, levels, inner, log, out, tree, object_type)?;
-        let given = initial(names, levels, inner, log, out, subtype, tree, value)?;
-        valued_constant(log, out, first, constant, subtype, tree, value)?;
-        whole = one_object(
-            names, here, log, out, *token, *one, constant, whole, subtype, given,
+        whole = next_object(
+            names,
+            levels,
+            inner,
+            here,
+            log,
+            out,
+            constant,
+            first,
+            whole,
+            *token,
+            *one,
+            tree,
+            object_type,
+            value,
         )?;
         if i == usize::MAX {
             return Err(AllocError);

@@ -74,7 +74,7 @@ fn with_field(
 }
 
 /// The components of one declaration.
-#[tactic(auto, using(crate::proofs::Lists::drop_get, crate::proofs::Lists::drop_none, crate::proofs::Lists::drop_less))]
+#[tactic(auto, using(crate::proofs::FromPlaces::drop_get, crate::proofs::FromPlaces::drop_none, crate::proofs::FromPlaces::drop_less))]
 fn with_fields(
     names: &Names,
     log: &mut Log,
@@ -101,6 +101,7 @@ fn with_fields(
 }
 
 /// What a subtype mentions, unless it has a fault, joins what was mentioned before.
+#[tactic(auto, using(crate::proofs::Mentions::also_none))]
 fn also_indicated(out: &mut Parts, subtype: Option<Subtype>) -> Result<(), AllocError>
     ensures { OnOk result ((top (parts out.new) ≡ typed_parts'.also_all (second (parts out.old)) (spec.indicated_mentions (found_of subtype (top (parts out.old))))) × (pop (parts out.new) ≡ pop (pop (parts out.old)))) }
 {

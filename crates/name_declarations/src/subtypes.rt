@@ -1,6 +1,7 @@
 //! Subtype indications (3.2.2) and integer types (3.5.4). What bounds mention is their part.
 
 ghost use Rattle.std.specs.Prelude.{◌≡◌, OnOk, option_map};
+ghost use Rattle.name_declarations.specs.Steps as step;
 ghost use Rattle.name_rules.specs.Declarations as spec;
 ghost use Rattle.name_rules.specs.Judges.{Judges, Says, found, found_of};
 ghost use Rattle.name_rules.specs.Judging as judging;
@@ -25,6 +26,27 @@ use std::alloc::AllocError;
 use tree_views::{Indic, Tree};
 use typed_parts::Parts;
 
+/// The subtype of a range, if it is one of another subtype and isn't empty.
+fn range_within(
+    log: &Log,
+    scalar: Scalar,
+    low: i128,
+    high: i128,
+) -> Result<Option<Subtype>, AllocError>
+    ensures { Says (step.range_within scalar low high log.now) result log.now }
+{
+    let _log = log;
+    if lies_in(scalar, low) && lies_in(scalar, high) && low <= high {
+        Ok(Some(Subtype::Scalar(Scalar {
+            kind: scalar.kind,
+            low: low as i64,
+            high: high as i64,
+        })))
+    } else {
+        Ok(None)
+    }
+}
+
 /// The subtype of a range that narrows another one: StaticRange at a bound that isn't in that one, and at the first where
 /// the range is empty.
 fn indic_range(
@@ -37,21 +59,11 @@ fn indic_range(
 ) -> Result<Option<Subtype>, AllocError>
     ensures { Says (spec.indic_range scalar first last (low, high) log.old) result log.new }
 {
-    let has_low = lies_in(scalar, low);
-    let has_high = lies_in(scalar, high);
-    let holds = low <= high;
-    unless(log, has_low, first, Rule::StaticRange)?;
-    unless(log, has_high, last, Rule::StaticRange)?;
-    unless(log, holds, first, Rule::StaticRange)?;
-    if has_low && has_high && holds {
-        Ok(Some(Subtype::Scalar(Scalar {
-            kind: scalar.kind,
-            low: low as i64,
-            high: high as i64,
-        })))
-    } else {
-        Ok(None)
-    }
+    unless(log, lies_in(scalar, low), first, Rule::StaticRange)?;
+    unless(log, lies_in(scalar, high), last, Rule::StaticRange)?;
+    unless(log, low <= high, first, Rule::StaticRange)?;
+    let found = range_within(log, scalar, low, high)?;
+    Ok(found)
 }
 
 /// The subtype of two bounds, the latest parts, in another one.

@@ -15,7 +15,7 @@ ghost use Rattle.tree_views.specs.Views.{optional_expr};
 ghost use Rattle.typed_parts.specs.Stack.{parts};
 
 use crate::array_aggregates::array_at;
-use crate::contents::{Contents, contents, one_content};
+use crate::contents::{Contents, listed, one_listed};
 use crate::expressions::judged_alone;
 use crate::primaries::no_primary;
 use crate::record_aggregates::record_aggregate;
@@ -266,8 +266,8 @@ pub fn aggregate(
 ) -> Result<Option<Found>, AllocError>
     ensures { Judges (spec.aggregate names.now (primaries.inside names.now levels) here.now want bracket (spec.contents (the_many (part_at tree.now.nodes many))) log.old) (parts out.old) result log.new (parts out.new) }
 {
-    let listed = contents(tree, many);
-    aggregate_of(names, levels, here, log, out, want, bracket, tree, listed)
+    let contents = listed(tree, many);
+    aggregate_of(names, levels, here, log, out, want, bracket, tree, contents)
 }
 
 /// An aggregate of one value in square brackets (4.3.3), by the number of the value.
@@ -285,6 +285,6 @@ pub fn one_value(
 ) -> Result<Option<Found>, AllocError>
     ensures { Judges (spec.aggregate names.now (primaries.inside names.now levels) here.now want bracket (spec.ByPosition (syntax.AlsoExpr (the_expr (part_at tree.now.nodes value)) syntax.NoExpr) syntax.AbsentExpr) log.old) (parts out.old) result log.new (parts out.new) }
 {
-    let listed = one_content(tree, value);
-    aggregate_of(names, levels, here, log, out, want, bracket, tree, listed)
+    let contents = one_listed(tree, value);
+    aggregate_of(names, levels, here, log, out, want, bracket, tree, contents)
 }

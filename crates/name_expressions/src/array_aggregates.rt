@@ -9,6 +9,7 @@ ghost use Rattle.name_rules.specs.Aggregates as spec;
 ghost use Rattle.name_rules.specs.Judges.{Gives, found_of, part_if};
 ghost use Rattle.name_rules.specs.Judging.{joined};
 ghost use Rattle.name_rules.specs.Primaries as primaries;
+ghost use Rattle.name_rules.specs.Shapes as shapes;
 ghost use Rattle.name_values.specs.Statics.{as_span};
 ghost use Rattle.tree_nodes.specs.Parts.{the_assoc, the_assocs, the_choice, the_choices, the_expr, the_exprs, the_range};
 ghost use Rattle.tree_nodes.specs.Tables.{part_at};
@@ -95,7 +96,7 @@ fn inner_aggregate(
     tree: &Tree,
     id: u32,
 ) -> Result<bool, AllocError>
-    ensures { Gives (spec.inner_aggregate names.now (primaries.inside names.now levels) here.now number from (the_expr (part_at tree.now.nodes id)) (spec.is_aggregate (the_expr (part_at tree.now.nodes id))) log.old) (parts out.old) result log.new (parts out.new) }
+    ensures { Gives (spec.inner_aggregate names.now (primaries.inside names.now levels) here.now number from (the_expr (part_at tree.now.nodes id)) (shapes.is_aggregate (the_expr (part_at tree.now.nodes id))) log.old) (parts out.old) result log.new (parts out.new) }
 {
     if !is_aggregate(tree, id) {
         return no_aggregate(names, levels, here, log, out, tree, id);

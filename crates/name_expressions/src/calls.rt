@@ -128,7 +128,7 @@ fn arguments(
     ensures { Calls (spec.arguments names.now (primaries.inside names.now levels) here.now taken.now (calling_of calling.old (top (parts out.old))) (the_args (part_at tree.now.nodes more)) log.old) (pop (parts out.old)) result calling.new log.new (parts out.new) }
 {
     let mut next = more;
-    'args: while let Some(cell) = tree.cell(next) {
+    'each: while let Some(cell) = tree.cell(next) {
         argument(
             names, levels, here, log, out, taken, calling, tree, cell.first,
         )?;
@@ -255,7 +255,7 @@ fn operands(
 {
     let mut all = good;
     let mut next = more;
-    'args: while let Some(cell) = tree.cell(next) {
+    'each: while let Some(cell) = tree.cell(next) {
         all = operand(names, levels, here, log, out, found, all, tree, cell.first)?;
         next = cell.rest;
     }

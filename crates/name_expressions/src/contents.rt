@@ -26,7 +26,7 @@ pub enum Contents {
 
 /// What is listed in an aggregate's brackets.
 #[tactic(auto, using(tree_nodes::proofs::Reading::part_zero))]
-pub fn contents(tree: &Tree, many: u32) -> Contents
+pub fn listed(tree: &Tree, many: u32) -> Contents
     ensures { spec.contents (the_many (part_at tree.now.nodes many)) ≡ of_contents (part_at tree.now.nodes) result }
 {
     match tree.many(many) {
@@ -64,7 +64,7 @@ pub fn contents(tree: &Tree, many: u32) -> Contents
 
 /// One value in square brackets.
 #[tactic(auto, using(tree_nodes::proofs::Reading::part_zero))]
-pub fn one_content(tree: &Tree, value: u32) -> Contents
+pub fn one_listed(tree: &Tree, value: u32) -> Contents
     ensures { spec.ByPosition (syntax.AlsoExpr (the_expr (part_at tree.now.nodes value)) syntax.NoExpr) syntax.AbsentExpr ≡ of_contents (part_at tree.now.nodes) result }
 {
     let _tree = tree;

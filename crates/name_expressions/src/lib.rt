@@ -4,15 +4,18 @@
 //! A part of the text is judged in so many brackets as may still be opened, `levels`.
 #![tactic(auto)]
 
+pub mod aggregates;
+pub mod array_aggregates;
 pub mod attributes;
 pub mod calls;
 pub mod choices;
+pub mod contents;
 pub mod expressions;
 pub mod indexes;
 pub mod iterations;
 pub mod output;
 pub mod primaries;
 pub mod ranges;
+pub mod record_aggregates;
 pub mod reducers;
-pub mod stand_ins;
 pub mod whole_names;

@@ -58,7 +58,7 @@ fn others_alone(
     ensures { OnOk result ((spec.others_alone names.now (primaries.inside names.now levels) here.now (the_args (part_at tree.now.nodes more)) log.old ≡ (tt, log.new)) × (parts out.new ≡ parts out.old)) }
 {
     let mut next = more;
-    'args: while let Some(cell) = tree.cell(next) {
+    'each: while let Some(cell) = tree.cell(next) {
         other_alone(names, levels, here, log, out, tree, cell.first)?;
         next = cell.rest;
     }
@@ -151,7 +151,7 @@ fn put_arguments(
     ensures { Puts (spec.put_arguments names.now (primaries.inside names.now levels) here.now (putting_of putting.old (second (parts out.old)) (top (parts out.old))) (the_args (part_at tree.now.nodes more)) log.old) (pop (pop (parts out.old))) result putting.new log.new (parts out.new) }
 {
     let mut next = more;
-    'args: while let Some(cell) = tree.cell(next) {
+    'each: while let Some(cell) = tree.cell(next) {
         let arg = tree.arg(cell.first);
         let first = first_tokens::of_arg(tree, cell.first);
         put_argument(

@@ -9,9 +9,9 @@ ghost use Rattle.tree_nodes.specs.Parts.{the_elsifs, the_expr, the_name, the_pri
 ghost use Rattle.tree_nodes.specs.Tables.{part_at};
 ghost use Rattle.typed_parts.specs.Stack.{parts, pop, top};
 
+use crate::aggregates::{aggregate, one_value};
 use crate::expressions::{condition, expr, in_place};
 use crate::iterations::sequence;
-use crate::stand_ins::{aggregate, one_value};
 use crate::whole_names::{name, value_named};
 use ada_base::Items;
 use name_primaries::brackets::{grouped, no_expression, target_at, text_at};

@@ -1,6 +1,7 @@
 -- Arguments of attributes by their number.
 use Rattle.std.proofs.Common.{◌≡◌, ◌≢◌, refl, ap, ℕ, List, [], ◌∷◌, None, length, nat_lt, arith}
 use Rattle.std.specs.Prelude.{is_some, slice_get}
+use Rattle.std.proofs.lemmas.Bool.Decides.{nat_tests}
 use Rattle.ada_typed.specs.Decoded.{Part}
 use Rattle.ada_typed.specs.Syntax.{Expr}
 use Rattle.name_rules.specs.Attributes.{one_dimension, one_named, two_named}
@@ -50,4 +51,4 @@ two_found ks j k p e = ap (λ all. founds all p) e
 
 pub has_first : (ds : List Dimension) → is_some (slice_get ds 0) ≡ nat_lt 0 (length ds)
 has_first [] = refl
-has_first (d ∷ ds) = refl
+has_first (d ∷ ds) = grind (arith, nat_tests)

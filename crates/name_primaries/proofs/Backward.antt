@@ -22,12 +22,10 @@ take_none (y ∷ xs) zero e = absurd (cc)
 take_none (y ∷ xs) (suc i) e = ap (λ zs. y ∷ zs) (take_none xs i e)
 
 pub back_step : {A : Type 0} (xs : List A) (i : ℕ) (x : A) → 0 < i → slice_get xs (i - 1) ≡ Some x → reverse (take i xs) ≡ x ∷ reverse (take (i - 1) xs)
-back_step xs zero x h e = absurd (omega (arith, h))
-back_step xs (suc i) x h e = ap reverse (take_last xs i x e) ∙ reverse_last (take i xs) x
+back_step xs i x h e = let p : i ≡ suc (i - 1) = omega (arith, h) in ap (λ k. reverse (take k xs)) p ∙ ap reverse (take_last xs (i - 1) x e) ∙ reverse_last (take (i - 1) xs) x
 
 pub back_none : {A : Type 0} (xs : List A) (i : ℕ) → 0 < i → slice_get xs (i - 1) ≡ None → take i xs ≡ take (i - 1) xs
-back_none xs zero h e = absurd (omega (arith, h))
-back_none xs (suc i) h e = take_none xs i e
+back_none xs i h e = let p : i ≡ suc (i - 1) = omega (arith, h) in ap (λ k. take k xs) p ∙ take_none xs (i - 1) e
 
 drop_some : {A : Type 0} (xs : List A) (i : ℕ) (x : A) → slice_get xs i ≡ Some x → drop i xs ≡ x ∷ drop (suc i) xs
 drop_some [] i x e = absurd (cc)
@@ -45,9 +43,7 @@ drop_whole [] = refl
 drop_whole (x ∷ xs) = drop_whole xs
 
 pub back_drop : {A : Type 0} (xs : List A) (i : ℕ) (x : A) → 0 < i → slice_get xs (i - 1) ≡ Some x → drop (i - 1) xs ≡ x ∷ drop i xs
-back_drop xs zero x h e = absurd (omega (arith, h))
-back_drop xs (suc i) x h e = drop_some xs i x e
+back_drop xs i x h e = let p : i ≡ suc (i - 1) = omega (arith, h) in drop_some xs (i - 1) x e ∙ ap (λ k. x ∷ drop k xs) (sym p)
 
 pub back_dropped : {A : Type 0} (xs : List A) (i : ℕ) → 0 < i → slice_get xs (i - 1) ≡ None → drop (i - 1) xs ≡ drop i xs
-back_dropped xs zero h e = absurd (omega (arith, h))
-back_dropped xs (suc i) h e = drop_none xs i e
+back_dropped xs i h e = let p : i ≡ suc (i - 1) = omega (arith, h) in drop_none xs (i - 1) e ∙ ap (λ k. drop k xs) (sym p)

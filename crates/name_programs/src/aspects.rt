@@ -126,7 +126,8 @@ pub fn end_name(
         None => Ok(()),
         Some(token) => {
             let same = symbol(names, name) == symbol(names, token);
-            unless(log, same, token, Rule::WrongEnd)
+            unless(log, same, token, Rule::WrongEnd)?;
+            Ok(())
         }
     }
 }

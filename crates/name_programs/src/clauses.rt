@@ -157,7 +157,8 @@ fn clause_name(
         ClauseWord::Use => {
             let withed = has(here.withed, name);
             here.used = with_package(here.used, name);
-            unless(log, withed, first, Rule::NotVisible)
+            unless(log, withed, first, Rule::NotVisible)?;
+            Ok(())
         }
     }
 }
@@ -174,7 +175,8 @@ fn clause_pack(
 {
     let first = tree.pack(id).first;
     let library = pack(names, log, tree, id)?;
-    clause_name(here, log, word, first, library)
+    clause_name(here, log, word, first, library)?;
+    Ok(())
 }
 
 fn clause_packs(
@@ -207,7 +209,8 @@ fn clause(
 {
     let view = tree.clause(id);
     clause_pack(names, here, log, view.word, tree, view.first)?;
-    clause_packs(names, here, log, view.word, tree, view.more)
+    clause_packs(names, here, log, view.word, tree, view.more)?;
+    Ok(())
 }
 
 /// The clauses of a program: Unknown at what names no library, NotVisible at a use clause's library without a with clause

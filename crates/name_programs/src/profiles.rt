@@ -140,10 +140,10 @@ fn also_from(scope: &mut Items<Entry>, inner: &[Entry], start: usize) -> Result<
 {
     let n = inner.len();
     if start < n {
-        scope.extend(&inner[start..n])
-    } else {
-        Ok(())
+        scope.extend(&inner[start..n])?;
+        return Ok(());
     }
+    Ok(())
 }
 
 /// What is around a subprogram's body: its formal parameters stand behind its own entry.

@@ -277,5 +277,6 @@ pub fn program(
     let strict = policy(names, log, tree, view.policy)?;
     let mut here = outermost(out)?;
     clauses(names, &mut here, log, tree, view.clauses)?;
-    main(names, levels, &mut here, log, out, strict, tree, view.main)
+    let judged = main(names, levels, &mut here, log, out, strict, tree, view.main)?;
+    Ok(judged)
 }

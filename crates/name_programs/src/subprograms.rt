@@ -143,7 +143,8 @@ fn returned_body(out: &mut Parts) -> Result<(), AllocError>
     out.nothing()?;
     out.swap()?;
     out.nothing()?;
-    out.body()
+    out.body()?;
+    Ok(())
 }
 
 /// An expression function, in so many levels as may be open in its expression: whether it is nonblocking, unless it has a
@@ -172,7 +173,7 @@ fn with_value_of(
 }
 
 /// The formal parameters of a subprogram, as a list.
-#[tactic(auto, using(crate::proofs::Lists::drop_get, crate::proofs::Lists::drop_all))]
+#[tactic(auto, using(crate::proofs::Lists::drop_back, crate::proofs::Lists::drop_all))]
 fn formals_part(out: &mut Parts, takes: &Items<Taken>) -> Result<(), AllocError>
     ensures { OnOk result ((as_formals (top (parts out.new)) ≡ map spec.typed_formal takes.now) × (pop (parts out.new) ≡ parts out.old)) }
 {

@@ -74,13 +74,20 @@ fn identifier(tokens: &Tokens, so_far: &mut Numbered, token: u32) -> Result<(), 
 {
     let word = tokens.slice(token);
     match known_number(word) {
-        Some(number) => so_far.numbers.push(number),
+        Some(number) => {
+            so_far.numbers.push(number)?;
+            Ok(())
+        }
         None => match found_number(tokens, &so_far.firsts, word)? {
-            Some(number) => so_far.numbers.push(number),
+            Some(number) => {
+                so_far.numbers.push(number)?;
+                Ok(())
+            }
             None => {
                 let number = behind_known(so_far.firsts.len())?;
                 so_far.numbers.push(number)?;
-                so_far.firsts.push(token)
+                so_far.firsts.push(token)?;
+                Ok(())
             }
         },
     }
@@ -92,7 +99,10 @@ fn next_symbol(tokens: &Tokens, so_far: &mut Numbered, token: u32) -> Result<(),
 {
     match tokens.kind(token) {
         Kind::Ident => identifier(tokens, so_far, token),
-        _ => so_far.numbers.push(0),
+        _ => {
+            so_far.numbers.push(0)?;
+            Ok(())
+        }
     }
 }
 

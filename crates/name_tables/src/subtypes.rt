@@ -36,7 +36,7 @@ fn typed_scalar(scalar: Scalar) -> ada_typed::Scalar
 }
 
 /// The bounds of an array's dimensions, as a list.
-#[tactic(auto, using(crate::proofs::Lists::drop_get, crate::proofs::Lists::drop_all))]
+#[tactic(auto, using(crate::proofs::Lists::drop_back, crate::proofs::Lists::drop_all))]
 fn bounds_part(out: &mut Parts, dimensions: &Items<Dimension>) -> Result<(), AllocError>
     ensures { OnOk result ((as_bounds (top (parts out.new)) ≡ map dimension_bounds dimensions.now) × (pop (parts out.new) ≡ parts out.old)) }
 {
@@ -56,7 +56,7 @@ fn bounds_part(out: &mut Parts, dimensions: &Items<Dimension>) -> Result<(), All
 }
 
 /// The components of a record, as a list.
-#[tactic(auto, using(crate::proofs::Lists::drop_get, crate::proofs::Lists::drop_all))]
+#[tactic(auto, using(crate::proofs::Lists::drop_back, crate::proofs::Lists::drop_all))]
 fn fields_part(out: &mut Parts, fields: &Items<Field>) -> Result<(), AllocError>
     ensures { OnOk result ((as_fields (top (parts out.new)) ≡ map typed_field fields.now) × (pop (parts out.new) ≡ parts out.old)) }
 {
@@ -79,14 +79,23 @@ fn shape_part(out: &mut Parts, shape: &Shape) -> Result<(), AllocError>
     ensures { OnOk result ((with_part shape.now (top (parts out.new)) ≡ typed_subtype shape.now) × (pop (parts out.new) ≡ parts out.old)) }
 {
     match shape {
-        Shape::Scalar(_) => out.nothing(),
-        Shape::Array { dimensions, .. } => bounds_part(out, dimensions),
-        Shape::Record { fields, .. } => fields_part(out, fields),
+        Shape::Scalar(_) => {
+            out.nothing()?;
+            Ok(())
+        }
+        Shape::Array { dimensions, .. } => {
+            bounds_part(out, dimensions)?;
+            Ok(())
+        }
+        Shape::Record { fields, .. } => {
+            fields_part(out, fields)?;
+            Ok(())
+        }
     }
 }
 
 /// The lists of all subtypes, the first of which is the latest part then.
-#[tactic(auto, using(crate::proofs::Lists::drop_get, crate::proofs::Lists::drop_all))]
+#[tactic(auto, using(crate::proofs::Lists::drop_back, crate::proofs::Lists::drop_all))]
 pub fn shape_parts(out: &mut Parts, shapes: &Items<Shape>) -> Result<(), AllocError>
     ensures { OnOk result ((with_parts shapes.now (parts out.new) ≡ map typed_subtype shapes.now) × (rest_of shapes.now (parts out.new) ≡ parts out.old)) }
 {

@@ -1,7 +1,8 @@
 -- Static values (4.9) that take a type, without their parts; and the values of choices (3.8.1).
-use Rattle.std.specs.Prelude.{◌≡◌, ℕ, ℤ, Bool, true, false, List, Option, Some, None, Result, Ok, Err, if◌then◌else◌, option_map}
+use Rattle.std.specs.Prelude.{◌≡◌, ℕ, ℤ, Bool, true, false, List, Option, Some, None, Result, Ok, Err, if◌then◌else◌, int_le, not, option_map, ◌&&◌}
 use Rattle.ada_typed.specs.Decoded.{Part}
 use Rattle.ada_typed.specs.declared.statements.Span.{Span}
+use Rattle.name_rules.specs.Found.{Found}
 use Rattle.name_rules.specs.Judges.{found_of}
 use Rattle.name_rules.specs.Judging.{Judging, breaks, pure, unless, ◌>>=◌}
 use Rattle.name_rules.specs.Ranges as ranges
@@ -70,6 +71,10 @@ span_taken k a z = do
 -- StaticRange at a bound that isn't a value of a subtype
 abbrev pub inside_subtype : Scalar → Known → ℤ → Judging (Unit {0})
 inside_subtype s b z = unless (lies_in s z) (first_of b) StaticRange
+
+abbrev pub inside_span : ℕ → Bool → Scalar → Found → Found → ℤ × ℤ → Judging (Option ranges.Static)
+inside_span first must_hold s a z r = ranges.inside_subtype s a r.0 >>= λ u. ranges.inside_subtype s z r.1 >>= λ v.
+    if lies_in s r.0 && lies_in s r.1 then ranges.spanned first must_hold s.kind a z r else pure None
 
 -- ---- choices
 

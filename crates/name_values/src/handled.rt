@@ -42,17 +42,14 @@ pub fn same_reason(a: Reason, b: Reason) -> bool
     }
 }
 
-fn is_among(reason: Reason, seen: &Items<Reason>) -> bool
-    ensures { result ≡ list_any (spec.same_reason reason) seen.now }
-{
-    seen.as_slice().iter().any(|r| same_reason(reason, *r))
-}
-
-#[tactic(auto, using(crate::proofs::Covered::any_reverse))]
+/// Whether an exception is among those that were named, of which definitions have the latest first.
 fn is_named(reason: Reason, seen: &Items<Reason>) -> bool
     ensures { result ≡ list_any (spec.same_reason reason) (reverse seen.now) }
 {
-    is_among(reason, seen)
+    seen.as_slice()
+        .iter()
+        .rev()
+        .any(|r| same_reason(reason, *r))
 }
 
 /// One more exception that a handler names, which `seen` lists for all handlers of the body: Twice where it is named

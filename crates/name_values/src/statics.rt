@@ -1,9 +1,10 @@
 //! Static ranges (3.6, 4.3.3) and the values of choices (3.8.1): what they mention is their part.
 
-ghost use Rattle.std.specs.Prelude.{◌≡◌};
+ghost use Rattle.std.specs.Prelude.{◌≡◌, ◌&&◌, int_le, not};
 ghost use Rattle.name_rules.specs.Judges.{Judges, Says, found, found_of};
 ghost use Rattle.name_rules.specs.Judging.{fault};
 ghost use Rattle.name_rules.specs.Ranges as spec;
+ghost use Rattle.name_rules.specs.Types as types;
 ghost use Rattle.name_rules.specs.Values as values;
 ghost use Rattle.name_values.specs.Statics as statics;
 ghost use Rattle.typed_parts.specs.Stack.{parts, pop, second, top};
@@ -221,6 +222,42 @@ fn inside_subtype(log: &mut Log, scalar: Scalar, bound: Found, value: i64) -> Re
     breaks(log, first_of(bound), Rule::StaticRange)
 }
 
+/// Whether both bounds are values of a subtype.
+fn holds_both(scalar: Scalar, span: Span) -> bool
+    ensures { result ≡ (types.lies_in scalar span.low && types.lies_in scalar span.high) }
+{
+    lies_in(scalar, i128::from(span.low)) && lies_in(scalar, i128::from(span.high))
+}
+
+/// A dimension of bounds that are checked against a subtype, the latest parts: StaticRange at one that is outside of it.
+fn inside_span(
+    log: &mut Log,
+    out: &mut Parts,
+    first: u32,
+    must_hold: bool,
+    scalar: Scalar,
+    low: Found,
+    high: Found,
+    span: Span,
+) -> Result<Option<Dimension>, AllocError>
+    ensures { Judges (statics.inside_span first must_hold scalar (found low (second (parts out.old))) (found high (top (parts out.old))) (span.low, span.high) log.old) (pop (pop (parts out.old))) result log.new (parts out.new) }
+{
+    inside_subtype(log, scalar, low, span.low)?;
+    inside_subtype(log, scalar, high, span.high)?;
+    if holds_both(scalar, span) {
+        return spanned(log, out, first, must_hold, scalar.kind, low, high, span);
+    }
+    out.leave_out();
+    Ok(None)
+}
+
+/// Whether bounds have no value, and need none.
+fn may_be_empty(must_hold: bool, span: Span) -> bool
+    ensures { result ≡ (not must_hold && not (int_le span.low span.high)) }
+{
+    !must_hold && !(span.low <= span.high)
+}
+
 /// A dimension of bounds of a subtype, the latest parts: StaticRange at one that is outside of it.
 fn checked_span(
     log: &mut Log,
@@ -234,7 +271,7 @@ fn checked_span(
 ) -> Result<Option<Dimension>, AllocError>
     ensures { Judges (spec.checked_span first must_hold scalar (found low (second (parts out.old))) (found high (top (parts out.old))) (span.low, span.high) log.old) (pop (pop (parts out.old))) result log.new (parts out.new) }
 {
-    if !must_hold && !(span.low <= span.high) {
+    if may_be_empty(must_hold, span) {
         both_mentions(out, low, high)?;
         return Ok(Some(Dimension {
             kind: scalar.kind,
@@ -242,14 +279,7 @@ fn checked_span(
             high: span.high,
         }));
     }
-    inside_subtype(log, scalar, low, span.low)?;
-    inside_subtype(log, scalar, high, span.high)?;
-    if lies_in(scalar, i128::from(span.low)) && lies_in(scalar, i128::from(span.high)) {
-        spanned(log, out, first, must_hold, scalar.kind, low, high, span)
-    } else {
-        out.leave_out();
-        Ok(None)
-    }
+    inside_span(log, out, first, must_hold, scalar, low, high, span)
 }
 
 /// The type of two static bounds: their own, or the one that is preferred, where neither has one.

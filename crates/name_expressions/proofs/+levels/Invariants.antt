@@ -1,4 +1,8 @@
-use Rattle.std.proofs.Common.{◌≡◌, ◌+◌, ◌*◌, drop, max}
+use Rattle.std.proofs.Common.{◌≡◌, ◌+◌, ◌-◌, ◌*◌, drop, length, max}
+use Rattle.name_aggregates.specs.Filled.{counted, filled}
+use Rattle.name_aggregates.specs.Placed.{chosen, placed}
+use Rattle.name_expressions.specs.Rows as rows
+use Rattle.name_rules.specs.Aggregates as aggregates
 use Rattle.name_rules.specs.Expressions as spec
 use Rattle.name_rules.specs.Judges.{found_of, part_if}
 use Rattle.name_rules.specs.Names as names
@@ -6,7 +10,7 @@ use Rattle.name_rules.specs.Parts as whole
 use Rattle.name_rules.specs.Primaries as primaries
 use Rattle.name_rules.specs.Primaries.{inside}
 use Rattle.name_primaries.specs.Conditionals.{waiting_if}
-use Rattle.tree_nodes.specs.Parts.{the_addings, the_args, the_conjuncts, the_elsifs, the_multiplyings, the_parts}
+use Rattle.tree_nodes.specs.Parts.{the_addings, the_args, the_assocs, the_choices, the_conjuncts, the_elsifs, the_expr, the_exprs, the_multiplyings, the_parts}
 use Rattle.tree_nodes.specs.Tables.{part_at}
 use Rattle.typed_parts.specs.Stack.{parts, pop, second, top}
 use Rattle.name_rules.specs.Calls as calls
@@ -275,17 +279,17 @@ decreases-scalar_conversion l = 100 * l.levels + 49
 abbrev pub decreases-conversion : goal.decreases-conversion
 decreases-conversion l = 100 * l.levels + 50
 
-abbrev pub decreases-arguments-args : goal.decreases-arguments-args
-decreases-arguments-args l = l.next
+abbrev pub decreases-arguments-each : goal.decreases-arguments-each
+decreases-arguments-each l = l.next
 
-abbrev pub decreases-operands-args : goal.decreases-operands-args
-decreases-operands-args l = l.next
+abbrev pub decreases-operands-each : goal.decreases-operands-each
+decreases-operands-each l = l.next
 
-abbrev pub invariant-arguments-args : goal.invariant-arguments-args
-invariant-arguments-args l = (calls.arguments l.names (inside l.names l.levels) l.here l.taken (calling_of l.fn.calling (top (parts l.fn.out))) (the_args (part_at l.tree.nodes l.fn.more)) l.fn.log ≡ calls.arguments l.names (inside l.names l.levels) l.here l.taken (calling_of l.calling (top (parts l.out))) (the_args (part_at l.tree.nodes l.next)) l.log) × (pop (parts l.out) ≡ pop (parts l.fn.out))
+abbrev pub invariant-arguments-each : goal.invariant-arguments-each
+invariant-arguments-each l = (calls.arguments l.names (inside l.names l.levels) l.here l.taken (calling_of l.fn.calling (top (parts l.fn.out))) (the_args (part_at l.tree.nodes l.fn.more)) l.fn.log ≡ calls.arguments l.names (inside l.names l.levels) l.here l.taken (calling_of l.calling (top (parts l.out))) (the_args (part_at l.tree.nodes l.next)) l.log) × (pop (parts l.out) ≡ pop (parts l.fn.out))
 
-abbrev pub invariant-operands-args : goal.invariant-operands-args
-invariant-operands-args l = (calls.operands l.names (inside l.names l.levels) l.here (operands_of l.fn.good l.fn.found (top (parts l.fn.out))) (the_args (part_at l.tree.nodes l.fn.more)) l.fn.log ≡ calls.operands l.names (inside l.names l.levels) l.here (operands_of l.all l.found (top (parts l.out))) (the_args (part_at l.tree.nodes l.next)) l.log) × (pop (parts l.out) ≡ pop (parts l.fn.out))
+abbrev pub invariant-operands-each : goal.invariant-operands-each
+invariant-operands-each l = (calls.operands l.names (inside l.names l.levels) l.here (operands_of l.fn.good l.fn.found (top (parts l.fn.out))) (the_args (part_at l.tree.nodes l.fn.more)) l.fn.log ≡ calls.operands l.names (inside l.names l.levels) l.here (operands_of l.all l.found (top (parts l.out))) (the_args (part_at l.tree.nodes l.next)) l.log) × (pop (parts l.out) ≡ pop (parts l.fn.out))
 
 -- ---- output
 
@@ -316,17 +320,17 @@ decreases-io_given l = 100 * l.levels + 50
 abbrev pub decreases-io_call : goal.decreases-io_call
 decreases-io_call l = 100 * l.levels + 51
 
-abbrev pub decreases-others_alone-args : goal.decreases-others_alone-args
-decreases-others_alone-args l = l.next
+abbrev pub decreases-others_alone-each : goal.decreases-others_alone-each
+decreases-others_alone-each l = l.next
 
-abbrev pub decreases-put_arguments-args : goal.decreases-put_arguments-args
-decreases-put_arguments-args l = l.next
+abbrev pub decreases-put_arguments-each : goal.decreases-put_arguments-each
+decreases-put_arguments-each l = l.next
 
-abbrev pub invariant-others_alone-args : goal.invariant-others_alone-args
-invariant-others_alone-args l = (output.others_alone l.names (inside l.names l.levels) l.here (the_args (part_at l.tree.nodes l.fn.more)) l.fn.log ≡ output.others_alone l.names (inside l.names l.levels) l.here (the_args (part_at l.tree.nodes l.next)) l.log) × (parts l.out ≡ parts l.fn.out)
+abbrev pub invariant-others_alone-each : goal.invariant-others_alone-each
+invariant-others_alone-each l = (output.others_alone l.names (inside l.names l.levels) l.here (the_args (part_at l.tree.nodes l.fn.more)) l.fn.log ≡ output.others_alone l.names (inside l.names l.levels) l.here (the_args (part_at l.tree.nodes l.next)) l.log) × (parts l.out ≡ parts l.fn.out)
 
-abbrev pub invariant-put_arguments-args : goal.invariant-put_arguments-args
-invariant-put_arguments-args l = (output.put_arguments l.names (inside l.names l.levels) l.here (putting_of l.fn.putting (second (parts l.fn.out)) (top (parts l.fn.out))) (the_args (part_at l.tree.nodes l.fn.more)) l.fn.log ≡ output.put_arguments l.names (inside l.names l.levels) l.here (putting_of l.putting (second (parts l.out)) (top (parts l.out))) (the_args (part_at l.tree.nodes l.next)) l.log) × (pop (pop (parts l.out)) ≡ pop (pop (parts l.fn.out)))
+abbrev pub invariant-put_arguments-each : goal.invariant-put_arguments-each
+invariant-put_arguments-each l = (output.put_arguments l.names (inside l.names l.levels) l.here (putting_of l.fn.putting (second (parts l.fn.out)) (top (parts l.fn.out))) (the_args (part_at l.tree.nodes l.fn.more)) l.fn.log ≡ output.put_arguments l.names (inside l.names l.levels) l.here (putting_of l.putting (second (parts l.out)) (top (parts l.out))) (the_args (part_at l.tree.nodes l.next)) l.log) × (pop (pop (parts l.out)) ≡ pop (pop (parts l.fn.out)))
 
 -- ---- reducers
 
@@ -385,3 +389,166 @@ decreases-sequence_folded l = 100 * l.levels + 86
 
 abbrev pub decreases-sequence : goal.decreases-sequence
 decreases-sequence l = 100 * l.levels + 87
+
+-- aggregates.rt, array_aggregates.rt, record_aggregates.rt
+
+abbrev pub decreases-field_value : goal.decreases-field_value
+decreases-field_value l = 100 * l.levels + 46
+
+abbrev pub decreases-fields_value : goal.decreases-fields_value
+decreases-fields_value l = 100 * l.levels + 47
+
+abbrev pub decreases-some_fields : goal.decreases-some_fields
+decreases-some_fields l = 100 * l.levels + 48
+
+abbrev pub decreases-by_position : goal.decreases-by_position
+decreases-by_position l = 100 * l.levels + 47
+
+abbrev pub decreases-record_values : goal.decreases-record_values
+decreases-record_values l = 100 * l.levels + 48
+
+abbrev pub decreases-record_positions : goal.decreases-record_positions
+decreases-record_positions l = 100 * l.levels + 49
+
+abbrev pub decreases-record_rest : goal.decreases-record_rest
+decreases-record_rest l = 100 * l.levels + 49
+
+abbrev pub decreases-record_assoc : goal.decreases-record_assoc
+decreases-record_assoc l = 100 * l.levels + 49
+
+abbrev pub decreases-record_assocs : goal.decreases-record_assocs
+decreases-record_assocs l = 100 * l.levels + 50
+
+abbrev pub decreases-positional_record : goal.decreases-positional_record
+decreases-positional_record l = 100 * l.levels + 51
+
+abbrev pub decreases-named_record : goal.decreases-named_record
+decreases-named_record l = 100 * l.levels + 51
+
+abbrev pub decreases-record_aggregate : goal.decreases-record_aggregate
+decreases-record_aggregate l = 100 * l.levels + 52
+
+abbrev pub decreases-no_aggregate : goal.decreases-no_aggregate
+decreases-no_aggregate l = 100 * l.levels + 46
+
+abbrev pub decreases-inner_aggregate : goal.decreases-inner_aggregate
+decreases-inner_aggregate l = 100 * l.levels + 47
+
+abbrev pub decreases-component : goal.decreases-component
+decreases-component l = 100 * l.levels + 48
+
+abbrev pub decreases-array_choice : goal.decreases-array_choice
+decreases-array_choice l = 100 * l.levels + 46
+
+abbrev pub decreases-array_choices : goal.decreases-array_choices
+decreases-array_choices l = 100 * l.levels + 47
+
+abbrev pub decreases-chosen_assoc : goal.decreases-chosen_assoc
+decreases-chosen_assoc l = 100 * l.levels + 49
+
+abbrev pub decreases-each_assoc : goal.decreases-each_assoc
+decreases-each_assoc l = 100 * l.levels + 49
+
+abbrev pub decreases-array_assoc : goal.decreases-array_assoc
+decreases-array_assoc l = 100 * l.levels + 50
+
+abbrev pub decreases-array_assocs : goal.decreases-array_assocs
+decreases-array_assocs l = 100 * l.levels + 51
+
+abbrev pub decreases-array_values : goal.decreases-array_values
+decreases-array_values l = 100 * l.levels + 49
+
+abbrev pub decreases-array_positions : goal.decreases-array_positions
+decreases-array_positions l = 100 * l.levels + 50
+
+abbrev pub decreases-array_rest : goal.decreases-array_rest
+decreases-array_rest l = 100 * l.levels + 49
+
+abbrev pub decreases-positional_array : goal.decreases-positional_array
+decreases-positional_array l = 100 * l.levels + 52
+
+abbrev pub decreases-named_array : goal.decreases-named_array
+decreases-named_array l = 100 * l.levels + 52
+
+abbrev pub decreases-dimension_aggregate : goal.decreases-dimension_aggregate
+decreases-dimension_aggregate l = 100 * l.levels + 53
+
+abbrev pub decreases-array_at : goal.decreases-array_at
+decreases-array_at l = 100 * l.levels + 54
+
+abbrev pub decreases-composite_at : goal.decreases-composite_at
+decreases-composite_at l = 100 * l.levels + 55
+
+abbrev pub decreases-exprs_alone : goal.decreases-exprs_alone
+decreases-exprs_alone l = 100 * l.levels + 46
+
+abbrev pub decreases-optional_alone : goal.decreases-optional_alone
+decreases-optional_alone l = 100 * l.levels + 46
+
+abbrev pub decreases-assocs_alone : goal.decreases-assocs_alone
+decreases-assocs_alone l = 100 * l.levels + 46
+
+abbrev pub decreases-contents_alone : goal.decreases-contents_alone
+decreases-contents_alone l = 100 * l.levels + 47
+
+abbrev pub decreases-misplaced : goal.decreases-misplaced
+decreases-misplaced l = 100 * l.levels + 48
+
+abbrev pub decreases-aggregate_of : goal.decreases-aggregate_of
+decreases-aggregate_of l = 100 * l.levels + 56
+
+abbrev pub decreases-aggregate : goal.decreases-aggregate
+decreases-aggregate l = 100 * l.levels + 57
+
+abbrev pub decreases-one_value : goal.decreases-one_value
+decreases-one_value l = 100 * l.levels + 57
+
+abbrev pub decreases-fields_value-fields : goal.decreases-fields_value-fields
+decreases-fields_value-fields l = length l.fields - l.i
+
+abbrev pub decreases-record_values-values : goal.decreases-record_values-values
+decreases-record_values-values l = l.next
+
+abbrev pub decreases-record_assocs-assocs : goal.decreases-record_assocs-assocs
+decreases-record_assocs-assocs l = l.next
+
+abbrev pub decreases-array_choices-choices : goal.decreases-array_choices-choices
+decreases-array_choices-choices l = l.next
+
+abbrev pub decreases-array_assocs-assocs : goal.decreases-array_assocs-assocs
+decreases-array_assocs-assocs l = l.next
+
+abbrev pub decreases-array_values-values : goal.decreases-array_values-values
+decreases-array_values-values l = l.next
+
+abbrev pub decreases-exprs_alone-exprs : goal.decreases-exprs_alone-exprs
+decreases-exprs_alone-exprs l = l.next
+
+abbrev pub decreases-assocs_alone-assocs : goal.decreases-assocs_alone-assocs
+decreases-assocs_alone-assocs l = l.next
+
+abbrev pub invariant-fields_value-fields : goal.invariant-fields_value-fields
+invariant-fields_value-fields l = (aggregates.fields_value l.names (inside l.names l.levels) l.here (part_if l.fn.done (top (parts l.fn.out))) (drop l.fn.place l.fields) (the_expr (part_at l.tree.nodes l.id)) l.fn.log ≡ aggregates.fields_value l.names (inside l.names l.levels) l.here (part_if l.whole (top (parts l.out))) (drop l.i l.fields) (the_expr (part_at l.tree.nodes l.id)) l.log) × (pop (parts l.out) ≡ pop (parts l.fn.out))
+
+abbrev pub invariant-record_values-values : goal.invariant-record_values-values
+invariant-record_values-values l = (aggregates.record_values l.names (inside l.names l.levels) l.here (counted l.fn.positions l.fields (parts l.fn.out)) (the_exprs (part_at l.tree.nodes l.fn.more)) l.fn.log ≡ aggregates.record_values l.names (inside l.names l.levels) l.here (counted l.all l.fields (parts l.out)) (the_exprs (part_at l.tree.nodes l.next)) l.log) × (pop (parts l.out) ≡ pop (parts l.fn.out))
+
+abbrev pub invariant-record_assocs-assocs : goal.invariant-record_assocs-assocs
+invariant-record_assocs-assocs l = (aggregates.record_assocs l.names (inside l.names l.levels) l.here l.all (filled l.fn.filling (parts l.fn.out)) (the_assocs (part_at l.tree.nodes l.fn.more)) l.fn.log ≡ aggregates.record_assocs l.names (inside l.names l.levels) l.here l.all (filled l.whole (parts l.out)) (the_assocs (part_at l.tree.nodes l.next)) l.log) × (pop (parts l.out) ≡ pop (parts l.fn.out))
+
+abbrev pub invariant-array_choices-choices : goal.invariant-array_choices-choices
+invariant-array_choices-choices l = (aggregates.array_choices (inside l.names l.levels) l.here l.kind l.alone l.last (chosen l.fn.choosing (parts l.fn.out)) (the_choices (part_at l.tree.nodes l.fn.more)) l.fn.log ≡ aggregates.array_choices (inside l.names l.levels) l.here l.kind l.alone l.last (chosen l.choosing (parts l.out)) (the_choices (part_at l.tree.nodes l.next)) l.log) × (pop (parts l.out) ≡ pop (parts l.fn.out))
+
+abbrev pub invariant-array_assocs-assocs : goal.invariant-array_assocs-assocs
+invariant-array_assocs-assocs l = (aggregates.array_assocs l.names (inside l.names l.levels) l.here (rows.component l.names (inside l.names l.levels) l.row) l.row.dimension l.row.apart (placed l.fn.placing (parts l.fn.out)) (the_assocs (part_at l.tree.nodes l.fn.more)) l.fn.log ≡ aggregates.array_assocs l.names (inside l.names l.levels) l.here (rows.component l.names (inside l.names l.levels) l.row) l.row.dimension l.row.apart (placed l.placing (parts l.out)) (the_assocs (part_at l.tree.nodes l.next)) l.log) × (pop (pop (parts l.out)) ≡ pop (pop (parts l.fn.out)))
+
+abbrev pub invariant-array_values-values : goal.invariant-array_values-values
+invariant-array_values-values l = (aggregates.array_values l.here (rows.component l.names (inside l.names l.levels) l.row) l.row.dimension l.row.apart l.fn.place (placed l.fn.placing (parts l.fn.out)) (the_exprs (part_at l.tree.nodes l.fn.more)) l.fn.log ≡ aggregates.array_values l.here (rows.component l.names (inside l.names l.levels) l.row) l.row.dimension l.row.apart l.index (placed l.placing (parts l.out)) (the_exprs (part_at l.tree.nodes l.next)) l.log) × (pop (pop (parts l.out)) ≡ pop (pop (parts l.fn.out)))
+
+abbrev pub invariant-exprs_alone-exprs : goal.invariant-exprs_alone-exprs
+invariant-exprs_alone-exprs l = (aggregates.exprs_alone l.names (inside l.names l.levels) l.here (the_exprs (part_at l.tree.nodes l.fn.more)) l.fn.log ≡ aggregates.exprs_alone l.names (inside l.names l.levels) l.here (the_exprs (part_at l.tree.nodes l.next)) l.log) × (parts l.out ≡ parts l.fn.out)
+
+abbrev pub invariant-assocs_alone-assocs : goal.invariant-assocs_alone-assocs
+invariant-assocs_alone-assocs l = (aggregates.assocs_alone l.names (inside l.names l.levels) l.here (the_assocs (part_at l.tree.nodes l.fn.more)) l.fn.log ≡ aggregates.assocs_alone l.names (inside l.names l.levels) l.here (the_assocs (part_at l.tree.nodes l.next)) l.log) × (parts l.out ≡ parts l.fn.out)
+
+-- end of aggregates.rt, array_aggregates.rt, record_aggregates.rt

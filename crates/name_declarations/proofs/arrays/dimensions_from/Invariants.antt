@@ -7,8 +7,8 @@ use Rattle.tree_nodes.specs.Tables.{part_at}
 use Rattle.typed_parts.specs.Stack.{parts, pop, top}
 use Rattle.name_declarations.proofs.arrays.dimensions_from.Given as goal
 
-abbrev pub invariant-ranges : goal.invariant-ranges
-invariant-ranges l = (spec.dimensions_from (inside l.names l.levels) l.here (dimensions_if l.done l.fn.dimensions (top (parts l.fn.out))) (the_ranges (part_at l.tree.nodes l.more)) l.fn.log ≡ spec.dimensions_from (inside l.names l.levels) l.here (dimensions_if l.whole l.dimensions (top (parts l.out))) (the_ranges (part_at l.tree.nodes l.next)) l.log) × (pop (parts l.out) ≡ pop (parts l.fn.out))
+abbrev pub invariant-all : goal.invariant-all
+invariant-all l = (spec.dimensions_from (inside l.names l.levels) l.here (dimensions_if l.done l.fn.dimensions (top (parts l.fn.out))) (the_ranges (part_at l.tree.nodes l.more)) l.fn.log ≡ spec.dimensions_from (inside l.names l.levels) l.here (dimensions_if l.whole l.dimensions (top (parts l.out))) (the_ranges (part_at l.tree.nodes l.next)) l.log) × (pop (parts l.out) ≡ pop (parts l.fn.out))
 
-abbrev pub decreases-ranges : goal.decreases-ranges
-decreases-ranges l = l.next
+abbrev pub decreases-all : goal.decreases-all
+decreases-all l = l.next

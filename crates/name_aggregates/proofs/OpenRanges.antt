@@ -1,6 +1,6 @@
 -- Ranges in order, from a place on.
 use Rattle.std.proofs.Common.{◌≡◌, refl, ap, sym, ◌∙◌, ℕ, ◌+◌, ℤ, pos, ◌+ℤ◌, ◌-ℤ◌, int_le, int_lt, Bool, true, false, cond, ◌||◌, List, [], ◌∷◌, ◌++◌, Option, Some, None, option_map, drop, slice_get}
-use Rattle.std.proofs.lemmas.List.{append_assoc, append_nil}
+use Rattle.std.proofs.lemmas.List.{append_assoc, append-nil}
 use Rattle.name_aggregates.specs.Gaps.{gap_before, gap_behind}
 use Rattle.name_rules.specs.Aggregates.{left_open, non_empty, not_empty}
 use Rattle.name_values.proofs.Lists.{drop_get, drop_none}
@@ -19,7 +19,7 @@ some_next rs i r some e =
     ∙ sym (append_assoc some (non_empty (r ∷ [])) (non_empty (drop (i + 1) rs)))
 
 pub some_end : (rs : List (ℤ × ℤ)) (i : ℕ) (some : List (ℤ × ℤ)) → slice_get rs i ≡ None → some ++ non_empty (drop i rs) ≡ some
-some_end rs i some e = ap (λ xs. some ++ non_empty xs) (drop_none rs i e) ∙ append_nil some
+some_end rs i some e = ap (λ xs. some ++ non_empty xs) (drop_none rs i e) ∙ append-nil some
 
 -- what is open of these ranges, behind what is open before them
 abbrev pub behind : List (ℤ × ℤ) → Option (List (ℤ × ℤ)) → Option (List (ℤ × ℤ))
@@ -31,7 +31,7 @@ behind_one os g None = refl
 behind_one os g (Some xs) = ap Some (sym (append_assoc os (g ∷ []) xs))
 
 behind_nil : (os : List (ℤ × ℤ)) (xs : Option (List (ℤ × ℤ))) → behind os xs ≡ behind (os ++ []) xs
-behind_nil os xs = ap (λ zs. behind zs xs) (sym (append_nil os))
+behind_nil os xs = ap (λ zs. behind zs xs) (sym (append-nil os))
 
 pub open_next : (rs : List (ℤ × ℤ)) (i : ℕ) (r : ℤ × ℤ) (os : List (ℤ × ℤ)) (low high : ℤ) → slice_get rs i ≡ Some r → int_lt r.0 low ≡ false → int_lt high r.1 ≡ false → behind os (left_open low high (drop i rs)) ≡ behind (os ++ gap_before low r.0) (left_open (r.1 +ℤ pos 1) high (drop (i + 1) rs))
 open_next rs i r os low high e f g =
