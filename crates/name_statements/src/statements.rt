@@ -6,7 +6,7 @@ ghost use Rattle.name_rules.specs.Judges.{Gives, part_if};
 ghost use Rattle.name_rules.specs.Judging.{both};
 ghost use Rattle.name_rules.specs.Statements as spec;
 ghost use Rattle.name_statements.specs.Around.{Keeps, in_levels};
-ghost use Rattle.tree_nodes.specs.Parts.{the_arms, the_expr, the_stmt, the_stmts};
+ghost use Rattle.tree_nodes.specs.Parts.{the_arms, the_expr, the_more_stmts, the_stmt, the_stmts};
 ghost use Rattle.tree_nodes.specs.Tables.{part_at};
 ghost use Rattle.tree_views.specs.Views.{optional_stmts};
 ghost use Rattle.typed_parts.specs.Stack.{fourth, parts, pop, second, third, top};
@@ -134,6 +134,32 @@ fn stmt_form(
     }
 }
 
+/// The statements of a sequence behind those that were judged.
+#[cycle(statements)]
+fn stmts_from(
+    names: &Names,
+    levels: u32,
+    below: u32,
+    here: &mut Context,
+    log: &mut Log,
+    out: &mut Parts,
+    before: bool,
+    tree: &Tree,
+    more: u32,
+) -> Result<bool, AllocError>
+    ensures { Keeps (spec.stmts_from (in_levels names.now levels below) here.old (part_if before (top (parts out.old))) (the_more_stmts (part_at tree.now.nodes more)) log.old) (pop (parts out.old)) here.old result log.new (parts out.new) here.new }
+{
+    let _levels = levels;
+    let mut done = before;
+    let mut next = more;
+    'more: while let Some(cell) = tree.cell(next) {
+        let x = stmt(names, below, here, log, out, tree, cell.first)?;
+        done = also_where(out, done, x)?;
+        next = cell.rest;
+    }
+    Ok(done)
+}
+
 /// A sequence of statements (5.1).
 #[cycle(statements)]
 #[tactic(auto, unfolding(name_rules::specs::Statements::stmts))]
@@ -149,18 +175,11 @@ pub fn stmts(
 ) -> Result<bool, AllocError>
     ensures { Keeps (spec.stmts (in_levels names.now levels below) here.old (the_stmts (part_at tree.now.nodes id)) log.old) (parts out.old) here.old result log.new (parts out.new) here.new }
 {
-    let _levels = levels;
     let all = tree.stmts(id);
     out.nothing()?;
     let first = stmt(names, below, here, log, out, tree, all.first)?;
-    let mut done = also_where(out, true, first)?;
-    let mut next = all.more;
-    'stmts: while let Some(cell) = tree.cell(next) {
-        let x = stmt(names, below, here, log, out, tree, cell.first)?;
-        done = also_where(out, done, x)?;
-        next = cell.rest;
-    }
-    if !done {
+    let one = also_where(out, true, first)?;
+    if !stmts_from(names, levels, below, here, log, out, one, tree, all.more)? {
         return Ok(false);
     }
     out.turn()?;

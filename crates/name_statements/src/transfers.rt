@@ -36,14 +36,19 @@ fn innermost(loops: &[LoopName]) -> Option<LoopName>
     loops.last().copied()
 }
 
+fn is_name(name: u32, symbol: Option<u32>) -> bool
+    ensures { result ≡ spec.is_name name symbol }
+{
+    match symbol {
+        None => false,
+        Some(symbol) => symbol == name,
+    }
+}
+
 fn loop_named(name: u32, loops: &[LoopName]) -> Option<LoopName>
     ensures { result ≡ spec.loop_named name loops.now }
 {
-    let found = loops.iter().rev().find(|l| match l.symbol {
-        None => false,
-        Some(symbol) => symbol == name,
-    });
-    match found {
+    match loops.iter().rev().find(|l| is_name(name, l.symbol)) {
         Some(named) => Some(*named),
         None => None,
     }
