@@ -40,21 +40,24 @@ fn less(best: Fault, fault: Fault) -> Fault
 }
 
 /// The least of some faults, of which it gives the first.
-#[tactic(auto, using(crate::proofs::Lists::drop_get, crate::proofs::Lists::drop_none, crate::proofs::Lists::drop_less))]
+#[tactic(auto, using(crate::proofs::Lists::drop_get, crate::proofs::Lists::drop_none, crate::proofs::Lists::drop_past))]
 fn first_least(faults: &Items<Fault>) -> Option<Fault>
     ensures { result ≡ least_of faults.now }
 {
     let Some(first) = faults.get(0) else {
         return None;
     };
+    let n = faults.len();
     let mut best = *first;
     let mut i = 1;
-    'all: while let Some(fault) = faults.get(i) {
-        best = less(best, *fault);
-        if i == usize::MAX {
-            return Some(best);
+    'all: while i < n {
+        match faults.get(i) {
+            None => return Some(best),
+            Some(fault) => {
+                best = less(best, *fault);
+                i += 1;
+            }
         }
-        i += 1;
     }
     Some(best)
 }
