@@ -79,18 +79,19 @@ both-false false b e = refl
 
 some-open : (low high z : ℤ) (rs : List (ℤ × ℤ)) → Rising z rs → cases.is_open low high rs ≡ true → Open low high rs
 some-open low high z [] s e = record { value = low; from = le-refl low; to = e; none = refl }
-some-open low high z (r ∷ rs) s e = by (int_lt low r.0) refl e
+some-open low high z (r ∷ rs) s e = by (int_lt low r.0) refl (some-open (cases.int_max low (r.1 +ℤ pos 1)) high r.0 rs s.1) e
   where
     further : Open (cases.int_max low (r.1 +ℤ pos 1)) high rs → Open low high (r ∷ rs)
     further o =
         let p = past low (r.1 +ℤ pos 1) o.value o.from in
         record { value = o.value; from = p.0; to = o.to; none = rw (both-false (int_le r.0 o.value) (int_le o.value r.1) (above r.1 o.value p.1)) o.none }
 
-    by : (t : Bool) → int_lt low r.0 ≡ t → (if t then int_le low high else cases.is_open (cases.int_max low (r.1 +ℤ pos 1)) high rs) ≡ true → Open low high (r ∷ rs)
-    by true f e =
+    by : (t : Bool) → int_lt low r.0 ≡ t → (cases.is_open (cases.int_max low (r.1 +ℤ pos 1)) high rs ≡ true → Open (cases.int_max low (r.1 +ℤ pos 1)) high rs)
+        → (if t then int_le low high else cases.is_open (cases.int_max low (r.1 +ℤ pos 1)) high rs) ≡ true → Open low high (r ∷ rs)
+    by true f more e =
         let out : int_le r.0 low ≡ false = grind (arith, ints, nat_tests) in
         record { value = low; from = le-refl low; to = e; none = rw (out, below low r.0 rs f s.1) refl }
-    by false f e = further (some-open (cases.int_max low (r.1 +ℤ pos 1)) high r.0 rs s.1 e)
+    by false f more e = further (more e)
 
 -- ---- what isn't is covered
 
@@ -103,20 +104,20 @@ upto low next z h k = by (int_le low next)
 
 all-covered : (low high : ℤ) (rs : List (ℤ × ℤ)) → cases.is_open low high rs ≡ false → (z : ℤ) → int_le low z ≡ true → int_le z high ≡ true → covers z rs ≡ true
 all-covered low high [] e z h k = absurd (true≢false (sym (le-trans low z high h k) ∙ e))
-all-covered low high (r ∷ rs) e z h k = by (int_lt low r.0) refl e
+all-covered low high (r ∷ rs) e z h k = by (int_lt low r.0) refl (all-covered (cases.int_max low (r.1 +ℤ pos 1)) high rs) e
   where
-    within : (t : Bool) → int_lt low r.0 ≡ false → int_le z r.1 ≡ t → cases.is_open (cases.int_max low (r.1 +ℤ pos 1)) high rs ≡ false → covers z (r ∷ rs) ≡ true
-    within true f g e =
+    within : (t : Bool) → int_lt low r.0 ≡ false → int_le z r.1 ≡ t → (cases.is_open (cases.int_max low (r.1 +ℤ pos 1)) high rs ≡ false → (v : ℤ) → int_le (cases.int_max low (r.1 +ℤ pos 1)) v ≡ true → int_le v high ≡ true → covers v rs ≡ true) → cases.is_open (cases.int_max low (r.1 +ℤ pos 1)) high rs ≡ false → covers z (r ∷ rs) ≡ true
+    within true f g more e =
         let from : int_le r.0 z ≡ true = grind (arith, ints, nat_tests) in
         rw (from, g) refl
-    within false f g e =
+    within false f g more e =
         let next : int_le (r.1 +ℤ pos 1) z ≡ true = grind (arith, ints, nat_tests) in
-        let rest = all-covered (cases.int_max low (r.1 +ℤ pos 1)) high rs e z (upto low (r.1 +ℤ pos 1) z h next) k in
+        let rest = more e z (upto low (r.1 +ℤ pos 1) z h next) k in
         rw (g, both-false (int_le r.0 z) false refl) rest
 
-    by : (t : Bool) → int_lt low r.0 ≡ t → (if t then int_le low high else cases.is_open (cases.int_max low (r.1 +ℤ pos 1)) high rs) ≡ false → covers z (r ∷ rs) ≡ true
-    by true f e = absurd (true≢false (sym (le-trans low z high h k) ∙ e))
-    by false f e = within (int_le z r.1) f refl e
+    by : (t : Bool) → int_lt low r.0 ≡ t → (cases.is_open (cases.int_max low (r.1 +ℤ pos 1)) high rs ≡ false → (v : ℤ) → int_le (cases.int_max low (r.1 +ℤ pos 1)) v ≡ true → int_le v high ≡ true → covers v rs ≡ true) → (if t then int_le low high else cases.is_open (cases.int_max low (r.1 +ℤ pos 1)) high rs) ≡ false → covers z (r ∷ rs) ≡ true
+    by true f more e = absurd (true≢false (sym (le-trans low z high h k) ∙ e))
+    by false f more e = within (int_le z r.1) f refl more e
 
 -- ---- lists that hold the same values, both in order, leave the same open
 
@@ -142,11 +143,11 @@ record Starts (rs : List (ℤ × ℤ)) : Type 0 where
 
 rising-insert : (z : ℤ) (r : ℤ × ℤ) (rs : List (ℤ × ℤ)) → int_le z r.0 ≡ true → Rising z rs → Rising z (insert r rs)
 rising-insert z r [] h s = (h, tt)
-rising-insert z r (q ∷ qs) h s = by (int_le r.0 q.0) refl
+rising-insert z r (q ∷ qs) h s = by (int_le r.0 q.0) refl (rising-insert q.0 r qs)
   where
-    by : (t : Bool) → int_le r.0 q.0 ≡ t → Rising z (if t then r ∷ q ∷ qs else q ∷ insert r qs)
-    by true e = (h, e, s.1)
-    by false e = (s.0, rising-insert q.0 r qs (grind (arith, ints, nat_tests)) s.1)
+    by : (t : Bool) → int_le r.0 q.0 ≡ t → (int_le q.0 r.0 ≡ true → Rising q.0 qs → Rising q.0 (insert r qs)) → Rising z (if t then r ∷ q ∷ qs else q ∷ insert r qs)
+    by true e more = (h, (e, s.1))
+    by false e more = (s.0, more (grind (arith, ints, nat_tests)) s.1)
 
 starts-insert : (r : ℤ × ℤ) (rs : List (ℤ × ℤ)) → Starts rs → Starts (insert r rs)
 starts-insert r rs s = by (int_le s.value r.0) refl
@@ -166,11 +167,11 @@ or-swap false b c = refl
 
 covers-insert : (z : ℤ) (r : ℤ × ℤ) (rs : List (ℤ × ℤ)) → covers z (insert r rs) ≡ (holds z r || covers z rs)
 covers-insert z r [] = refl
-covers-insert z r (q ∷ qs) = by (int_le r.0 q.0)
+covers-insert z r (q ∷ qs) = by (int_le r.0 q.0) (covers-insert z r qs)
   where
-    by : (t : Bool) → covers z (if t then r ∷ q ∷ qs else q ∷ insert r qs) ≡ (holds z r || (holds z q || covers z qs))
-    by true = refl
-    by false = rw (covers-insert z r qs) (or-swap (holds z r) (holds z q) (covers z qs))
+    by : (t : Bool) → (covers z (insert r qs) ≡ (holds z r || covers z qs)) → covers z (if t then r ∷ q ∷ qs else q ∷ insert r qs) ≡ (holds z r || (holds z q || covers z qs))
+    by true more = refl
+    by false more = rw more (or-swap (holds z r) (holds z q) (covers z qs))
 
 covers-sorted : (z : ℤ) (rs : List (ℤ × ℤ)) → covers z (sorted rs) ≡ covers z rs
 covers-sorted z [] = refl

@@ -147,7 +147,7 @@ fn selected_field(out: &mut Parts, place: usize, offset: u64) -> Result<(), Allo
 }
 
 /// The component of a record type that an identifier names, by the type's number: Unknown where there is none.
-#[tactic(auto, using(crate::proofs::Lists::drop_get, crate::proofs::Lists::drop_none, crate::proofs::Lists::drop_less))]
+#[tactic(auto, using(crate::proofs::Fields::field_found, crate::proofs::Fields::field_next, crate::proofs::Fields::field_none, crate::proofs::Lists::drop_less))]
 fn field_from(
     names: &Names,
     log: &mut Log,
