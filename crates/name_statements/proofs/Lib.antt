@@ -1,3 +1,4 @@
 pub mod Contexts
 pub mod Levels
 pub mod Nested
+pub mod Sequences

@@ -1,6 +1,6 @@
 //! Case statements (5.4).
 
-ghost use Rattle.std.specs.Prelude.{◌≡◌, OnOk, Some};
+ghost use Rattle.std.specs.Prelude.{◌≡◌, IfOk, OnOk, Some};
 ghost use Rattle.ada_tree.specs.Syntax as syntax;
 ghost use Rattle.ada_typed.specs.Decoded as part;
 ghost use Rattle.name_rules.specs.Judges.{Judges, found, found_of, part_if};
@@ -104,6 +104,14 @@ fn with_alternative(
     Ok(true)
 }
 
+/// No choice of an alternative yet, and nothing that they mention.
+fn begun_choices(out: &mut Parts) -> Result<Choosing, AllocError>
+    ensures { IfOk result (λ d. (as_choosing d (top (parts out.new)) ≡ spec.no_choosing) × (pop (parts out.new) ≡ parts out.old)) }
+{
+    out.nothing()?;
+    Ok(Choosing::new(out.alloc()))
+}
+
 /// One more alternative of a case statement.
 #[cycle(statements)]
 #[tactic(auto, unfolding(name_rules::specs::Statements::alternative))]
@@ -124,8 +132,7 @@ fn alternative(
     ensures { KeepsWith (spec.alternative (in_levels names.now levels below) here.old kind last (as_covering covering.old) (part_if done (top (parts out.old))) (the_alt (part_at tree.now.nodes id)) log.old) (pop (parts out.old)) here.old result (as_covering covering.new) log.new (parts out.new) here.new }
 {
     let one = tree.alt(id);
-    let mut choosing = Choosing::new(out.alloc());
-    out.nothing()?;
+    let mut choosing = begun_choices(out)?;
     case_choices(
         names,
         levels,

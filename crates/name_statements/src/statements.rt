@@ -162,7 +162,7 @@ fn stmts_from(
 
 /// A sequence of statements (5.1).
 #[cycle(statements)]
-#[tactic(auto, unfolding(name_rules::specs::Statements::stmts))]
+#[tactic(auto, using(crate::proofs::Sequences::stmts_made))]
 pub fn stmts(
     names: &Names,
     levels: u32,
