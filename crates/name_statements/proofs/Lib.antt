@@ -1,4 +1,3 @@
 pub mod Contexts
 pub mod Levels
 pub mod Nested
-pub mod Sequences

@@ -82,13 +82,14 @@ fn is_last(tree: &Tree, more: u32) -> bool
 }
 
 /// One more alternative of a list that grows, of what its choices mention and its statements, where none has a fault.
+#[tactic(auto, unfolding(name_rules::specs::Statements::also_alternative))]
 fn with_alternative(
     out: &mut Parts,
     choosing: Choosing,
     done: bool,
     then: bool,
 ) -> Result<bool, AllocError>
-    ensures { Leaves (joined (spec.with_alternative (as_choosing choosing (second (parts out.old)))) (part_if done (third (parts out.old))) (part_if then (top (parts out.old)))) (pop (pop (pop (parts out.old)))) result (parts out.new) }
+    ensures { Leaves (spec.also_alternative (as_choosing choosing (second (parts out.old))) (part_if done (third (parts out.old))) (part_if then (top (parts out.old)))) (pop (pop (pop (parts out.old)))) result (parts out.new) }
 {
     if !done || !then {
         out.leave_out();

@@ -6,6 +6,7 @@ ghost use Rattle.name_rules.specs.Judging.{both, joined};
 ghost use Rattle.name_rules.specs.Statements as spec;
 ghost use Rattle.name_rules.specs.Symbols as symbols;
 ghost use Rattle.name_statements.specs.Around.{Keeps, Leaves, in_levels};
+ghost use Rattle.name_values.specs.Walks.{Enters};
 ghost use Rattle.tree_nodes.specs.Parts.{the_iter, the_scheme, the_stmts};
 ghost use Rattle.tree_nodes.specs.Tables.{part_at};
 ghost use Rattle.tree_views.specs.Views.{optional, optional_parallel};
@@ -20,6 +21,7 @@ use name_rules::scope::{Context, LoopName, Names};
 use name_values::logs::breaks;
 use name_values::scope::copied;
 use name_values::symbols::symbol;
+use name_values::walks::Entering;
 use std::alloc::AllocError;
 use tree_views::{Scheme, Tree};
 use typed_parts::Parts;
@@ -157,6 +159,39 @@ fn for_made(
     }
 }
 
+/// What a loop goes through, and what is around its statements.
+#[tactic(auto, unfolding(name_rules::specs::Statements::loop_entered))]
+fn loop_entered(
+    names: &Names,
+    levels: u32,
+    below: u32,
+    here: &mut Context,
+    log: &mut Log,
+    out: &mut Parts,
+    parallel: Option<u32>,
+    tree: &Tree,
+    iter: u32,
+) -> Result<Entering, AllocError>
+    ensures { Enters (spec.loop_entered (in_levels names.now levels below) here.old (optional_parallel (part_at tree.now.nodes) parallel) (the_iter (part_at tree.now.nodes iter)) log.old) (parts out.old) result log.new here.new (parts out.new) }
+{
+    let before = log.faults.len();
+    let e = entered(
+        names,
+        levels,
+        below,
+        here,
+        log,
+        out,
+        SiteKind::Loop,
+        parallel,
+        tree,
+        iter,
+    )?;
+    let is_clean = is_unchanged(log, before);
+    backwards_rule(log, is_clean, e.construct, e.reverse)?;
+    Ok(e)
+}
+
 /// `parallel for iter loop .. end loop;` (5.5)
 #[cycle(statements)]
 #[tactic(auto, unfolding(name_rules::specs::Statements::for_loop))]
@@ -177,21 +212,9 @@ fn for_loop(
     ensures { Gives (spec.for_loop (in_levels names.now levels below) here.now label number (the_stmts (part_at tree.now.nodes id)) (optional_parallel (part_at tree.now.nodes) parallel) (the_iter (part_at tree.now.nodes iter)) log.old) (parts out.old) result log.new (parts out.new) }
 {
     let mut inner = copied(here, out)?;
-    let before = log.faults.len();
-    let e = entered(
-        names,
-        levels,
-        below,
-        &mut inner,
-        log,
-        out,
-        SiteKind::Loop,
-        parallel,
-        tree,
-        iter,
+    let e = loop_entered(
+        names, levels, below, &mut inner, log, out, parallel, tree, iter,
     )?;
-    let is_clean = is_unchanged(log, before);
-    backwards_rule(log, is_clean, e.construct, e.reverse)?;
     let ss = repeated(
         names, levels, below, &mut inner, log, out, label, number, tree, id,
     )?;
