@@ -5,7 +5,7 @@ use Rattle.name_rules.specs.Declarations.{declarations}
 use Rattle.name_rules.specs.Expressions.{Inside, condition, expr, judged_alone}
 use Rattle.ada_tree.specs.FirstTokens as first_token
 use Rattle.name_rules.specs.Found.{Denoted, Found, With}
-use Rattle.name_rules.specs.Iterations.{chunk_count, entered, thread_owner}
+use Rattle.name_rules.specs.Iterations.{Entered, chunk_count, entered, thread_owner}
 use Rattle.name_rules.specs.Judging.{Judging, both, breaks, clean, fault, given, joined, pure, some, unless, where_clean, ◌>>=◌}
 use Rattle.name_rules.specs.Names.{denoted_first, exception}
 use Rattle.name_rules.specs.Parts.{name, new_site, valued_by}
@@ -226,6 +226,9 @@ is_last xs = false
 abbrev pub with_alternative : Choosing → TypedPart → TypedPart → TypedPart
 with_alternative d done ss = also done (part.AnAlternative (typed.Alternative d.others d.spans (exprs_of d.mentions) (as_stmts ss)))
 
+unfoldable pub also_alternative : Choosing → Option TypedPart → Option TypedPart → Option TypedPart
+also_alternative d done ss = joined (with_alternative d) done ss
+
 abbrev pub no_choosing : Choosing
 no_choosing = record { spans = []; others = false; mentions = part.Nothing }
 
@@ -233,7 +236,7 @@ unfoldable pub alternative : Around → Context → Option Kind → Bool → Cov
 alternative a here k last c done (syntax.alt at x ys s) = do
   r ← case_choices a.level here k (length ys == 0) last c no_choosing (x ∷ ys)
   ss ← stmts a here s
-  pure (r.0, joined (with_alternative r.1) done ss)
+  pure (r.0, also_alternative r.1 done ss)
 
 abbrev pub alts : Around → Context → Option Kind → Covering → Option TypedPart → Alts → Judging (Covering × Option TypedPart)
 alts a here k c done syntax.NoAlt = pure (c, done)
@@ -306,12 +309,17 @@ abbrev pub for_made : ℕ → Option ℕ → Option TypedPart → TypedPart → 
 for_made n None c i ss = some (for_part n i ss)
 for_made n (Some s) c i ss = pure (option_map (parallel_part n s i ss) c)
 
-unfoldable pub for_loop : Around → Context → Option ℕ → ℕ → Stmts → OptionalParallel → Iter → Judging (Option TypedPart)
-for_loop a here label n s p i = do
+unfoldable pub loop_entered : Around → Context → OptionalParallel → Iter → Judging Entered
+loop_entered a here p i = do
   e ← clean (entered a.names a.level a.inner here site.Loop p i)
   u ← backwards_rule e.1 e.0.construct e.0.reverse
-  ss ← stmts a (in_loop a.names e.0.here label n) s
-  both e.0.iteration ss (for_made n e.0.construct e.0.chunk)
+  pure e.0
+
+unfoldable pub for_loop : Around → Context → Option ℕ → ℕ → Stmts → OptionalParallel → Iter → Judging (Option TypedPart)
+for_loop a here label n s p i = do
+  e ← loop_entered a here p i
+  ss ← stmts a (in_loop a.names e.here label n) s
+  both e.iteration ss (for_made n e.construct e.chunk)
 
 abbrev pub loop_part : ℕ → TypedPart → TypedPart → TypedPart
 loop_part n c ss = part.AStmt (typed.Loop n (as_optional c) (as_stmts ss))

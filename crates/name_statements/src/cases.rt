@@ -1,14 +1,16 @@
 //! Case statements (5.4).
 
-ghost use Rattle.std.specs.Prelude.{◌≡◌, OnOk, Some};
+ghost use Rattle.std.specs.Prelude.{◌≡◌, ◌==◌, ◌∷◌, IfOk, OnOk, Some, length};
 ghost use Rattle.ada_tree.specs.Syntax as syntax;
 ghost use Rattle.ada_typed.specs.Decoded as part;
+ghost use Rattle.name_rules.specs.Cases as cases;
 ghost use Rattle.name_rules.specs.Judges.{Judges, found, found_of, part_if};
 ghost use Rattle.name_rules.specs.Judging.{given, joined};
+ghost use Rattle.name_rules.specs.Primaries.{inside};
 ghost use Rattle.name_rules.specs.Statements as spec;
 ghost use Rattle.name_statements.specs.Around.{Keeps, KeepsWith, Leaves, in_levels};
 ghost use Rattle.name_values.specs.Coverage.{as_choosing, as_covering};
-ghost use Rattle.tree_nodes.specs.Parts.{the_alt, the_alts, the_expr};
+ghost use Rattle.tree_nodes.specs.Parts.{the_alt, the_alts, the_choice, the_choice_list, the_expr};
 ghost use Rattle.tree_nodes.specs.Tables.{part_at};
 ghost use Rattle.typed_parts.specs.Stack.{parts, pop, second, third, top};
 
@@ -82,13 +84,14 @@ fn is_last(tree: &Tree, more: u32) -> bool
 }
 
 /// One more alternative of a list that grows, of what its choices mention and its statements, where none has a fault.
+#[tactic(auto, unfolding(name_rules::specs::Statements::also_alternative))]
 fn with_alternative(
     out: &mut Parts,
     choosing: Choosing,
     done: bool,
     then: bool,
 ) -> Result<bool, AllocError>
-    ensures { Leaves (joined (spec.with_alternative (as_choosing choosing (second (parts out.old)))) (part_if done (third (parts out.old))) (part_if then (top (parts out.old)))) (pop (pop (pop (parts out.old)))) result (parts out.new) }
+    ensures { Leaves (spec.also_alternative (as_choosing choosing (second (parts out.old))) (part_if done (third (parts out.old))) (part_if then (top (parts out.old)))) (pop (pop (pop (parts out.old)))) result (parts out.new) }
 {
     if !done || !then {
         out.leave_out();
@@ -102,6 +105,48 @@ fn with_alternative(
     out.alternative(others)?;
     out.also()?;
     Ok(true)
+}
+
+/// No choice of an alternative yet, and nothing that they mention.
+fn begun_choices(out: &mut Parts) -> Result<Choosing, AllocError>
+    ensures { IfOk result (λ d. (spec.no_choosing ≡ as_choosing d (top (parts out.new))) × (pop (parts out.new) ≡ parts out.old)) }
+{
+    out.nothing()?;
+    Ok(Choosing::new(out.alloc()))
+}
+
+/// The choices of an alternative, and what they mention as the latest part.
+fn chosen(
+    names: &Names,
+    levels: u32,
+    here: &Context,
+    log: &mut Log,
+    out: &mut Parts,
+    kind: Option<Kind>,
+    last: bool,
+    covering: &mut Covering,
+    tree: &Tree,
+    first: u32,
+    more: u32,
+) -> Result<Choosing, AllocError>
+    ensures { IfOk result (λ d. (cases.case_choices (inside names.now levels) here.now kind (length (the_choice_list (part_at tree.now.nodes more)) == 0) last (as_covering covering.old) spec.no_choosing (the_choice (part_at tree.now.nodes first) ∷ the_choice_list (part_at tree.now.nodes more)) log.old ≡ ((as_covering covering.new, as_choosing d (top (parts out.new))), log.new)) × (pop (parts out.new) ≡ parts out.old)) }
+{
+    let mut choosing = begun_choices(out)?;
+    case_choices(
+        names,
+        levels,
+        here,
+        log,
+        out,
+        kind,
+        last,
+        covering,
+        &mut choosing,
+        tree,
+        first,
+        more,
+    )?;
+    Ok(choosing)
 }
 
 /// One more alternative of a case statement.
@@ -124,21 +169,8 @@ fn alternative(
     ensures { KeepsWith (spec.alternative (in_levels names.now levels below) here.old kind last (as_covering covering.old) (part_if done (top (parts out.old))) (the_alt (part_at tree.now.nodes id)) log.old) (pop (parts out.old)) here.old result (as_covering covering.new) log.new (parts out.new) here.new }
 {
     let one = tree.alt(id);
-    let mut choosing = Choosing::new(out.alloc());
-    out.nothing()?;
-    case_choices(
-        names,
-        levels,
-        here,
-        log,
-        out,
-        kind,
-        last,
-        covering,
-        &mut choosing,
-        tree,
-        one.first,
-        one.more,
+    let choosing = chosen(
+        names, levels, here, log, out, kind, last, covering, tree, one.first, one.more,
     )?;
     let ss = stmts(names, levels, below, here, log, out, tree, one.stmts)?;
     let given = with_alternative(out, choosing, done, ss)?;

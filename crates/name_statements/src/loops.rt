@@ -1,14 +1,15 @@
 //! Loops (5.5).
 
-ghost use Rattle.std.specs.Prelude.{◌≡◌, OnOk, option_map};
+ghost use Rattle.std.specs.Prelude.{◌≡◌, ◌==◌, OnOk, length, option_map};
 ghost use Rattle.name_rules.specs.Judges.{Gives, Says, part_if};
 ghost use Rattle.name_rules.specs.Judging.{both, joined};
 ghost use Rattle.name_rules.specs.Statements as spec;
 ghost use Rattle.name_rules.specs.Symbols as symbols;
 ghost use Rattle.name_statements.specs.Around.{Keeps, Leaves, in_levels};
-ghost use Rattle.tree_nodes.specs.Parts.{the_iter, the_parallel, the_scheme, the_stmts};
+ghost use Rattle.name_values.specs.Walks.{Enters};
+ghost use Rattle.tree_nodes.specs.Parts.{the_iter, the_scheme, the_stmts};
 ghost use Rattle.tree_nodes.specs.Tables.{part_at};
-ghost use Rattle.tree_views.specs.Views.{optional};
+ghost use Rattle.tree_views.specs.Views.{optional, optional_parallel};
 ghost use Rattle.typed_parts.specs.Stack.{parts, pop, second, third, top};
 
 use crate::statements::stmts;
@@ -20,6 +21,7 @@ use name_rules::scope::{Context, LoopName, Names};
 use name_values::logs::breaks;
 use name_values::scope::copied;
 use name_values::symbols::symbol;
+use name_values::walks::Entering;
 use std::alloc::AllocError;
 use tree_views::{Scheme, Tree};
 use typed_parts::Parts;
@@ -94,6 +96,13 @@ fn repeated(
     Ok(given)
 }
 
+/// Whether there are as many faults as before.
+fn is_unchanged(log: &Log, before: usize) -> bool
+    ensures { result ≡ (before == length log.now.faults) }
+{
+    before == log.faults.len()
+}
+
 /// ChunkRule at `reverse` in a parallel loop, where its chunks, its range and its filter have no fault.
 fn backwards_rule(
     log: &mut Log,
@@ -150,9 +159,42 @@ fn for_made(
     }
 }
 
+/// What a loop goes through, and what is around its statements.
+#[tactic(auto, unfolding(name_rules::specs::Statements::loop_entered))]
+fn loop_entered(
+    names: &Names,
+    levels: u32,
+    below: u32,
+    here: &mut Context,
+    log: &mut Log,
+    out: &mut Parts,
+    parallel: Option<u32>,
+    tree: &Tree,
+    iter: u32,
+) -> Result<Entering, AllocError>
+    ensures { Enters (spec.loop_entered (in_levels names.now levels below) here.old (optional_parallel (part_at tree.now.nodes) parallel) (the_iter (part_at tree.now.nodes iter)) log.old) (parts out.old) result log.new here.new (parts out.new) }
+{
+    let before = log.faults.len();
+    let e = entered(
+        names,
+        levels,
+        below,
+        here,
+        log,
+        out,
+        SiteKind::Loop,
+        parallel,
+        tree,
+        iter,
+    )?;
+    let is_clean = is_unchanged(log, before);
+    backwards_rule(log, is_clean, e.construct, e.reverse)?;
+    Ok(e)
+}
+
 /// `parallel for iter loop .. end loop;` (5.5)
 #[cycle(statements)]
-#[tactic(auto, unfolding(name_rules::specs::Statements::for_loop), using(crate::proofs::Contexts::same_parallel))]
+#[tactic(auto, unfolding(name_rules::specs::Statements::for_loop))]
 fn for_loop(
     names: &Names,
     levels: u32,
@@ -167,24 +209,12 @@ fn for_loop(
     iter: u32,
     id: u32,
 ) -> Result<bool, AllocError>
-    ensures { Gives (spec.for_loop (in_levels names.now levels below) here.now label number (the_stmts (part_at tree.now.nodes id)) (spec.optional_parallel (optional (part_at tree.now.nodes) the_parallel parallel)) (the_iter (part_at tree.now.nodes iter)) log.old) (parts out.old) result log.new (parts out.new) }
+    ensures { Gives (spec.for_loop (in_levels names.now levels below) here.now label number (the_stmts (part_at tree.now.nodes id)) (optional_parallel (part_at tree.now.nodes) parallel) (the_iter (part_at tree.now.nodes iter)) log.old) (parts out.old) result log.new (parts out.new) }
 {
     let mut inner = copied(here, out)?;
-    let before = log.faults.len();
-    let e = entered(
-        names,
-        levels,
-        below,
-        &mut inner,
-        log,
-        out,
-        SiteKind::Loop,
-        parallel,
-        tree,
-        iter,
+    let e = loop_entered(
+        names, levels, below, &mut inner, log, out, parallel, tree, iter,
     )?;
-    let is_clean = before == log.faults.len();
-    backwards_rule(log, is_clean, e.construct, e.reverse)?;
     let ss = repeated(
         names, levels, below, &mut inner, log, out, label, number, tree, id,
     )?;
@@ -232,9 +262,34 @@ fn loop_with(
             let given = loop_made(out, number, c, ss)?;
             Ok(given)
         }
-        Scheme::For { parallel, iter, .. } => {
+        Scheme::For {
+            parallel: None,
+            iter,
+            ..
+        } => {
             let given = for_loop(
-                names, levels, below, here, log, out, label, number, tree, parallel, iter, id,
+                names, levels, below, here, log, out, label, number, tree, None, iter, id,
+            )?;
+            Ok(given)
+        }
+        Scheme::For {
+            parallel: Some(parallel),
+            iter,
+            ..
+        } => {
+            let given = for_loop(
+                names,
+                levels,
+                below,
+                here,
+                log,
+                out,
+                label,
+                number,
+                tree,
+                Some(parallel),
+                iter,
+                id,
             )?;
             Ok(given)
         }

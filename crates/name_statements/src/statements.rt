@@ -1,6 +1,7 @@
 //! Statements (5.1), in so many levels as may still be opened, and if statements (5.3).
 
 ghost use Rattle.std.specs.Prelude.{◌≡◌, Some};
+ghost use Rattle.ada_tree.specs.Syntax as syntax;
 ghost use Rattle.ada_typed.specs.Decoded as part;
 ghost use Rattle.name_rules.specs.Judges.{Gives, part_if};
 ghost use Rattle.name_rules.specs.Judging.{both};
@@ -134,7 +135,7 @@ fn stmt_form(
     }
 }
 
-/// The statements of a sequence behind those that were judged.
+/// The statements of a sequence, as a list that grows.
 #[cycle(statements)]
 fn stmts_from(
     names: &Names,
@@ -143,18 +144,20 @@ fn stmts_from(
     here: &mut Context,
     log: &mut Log,
     out: &mut Parts,
-    before: bool,
     tree: &Tree,
+    first: u32,
     more: u32,
 ) -> Result<bool, AllocError>
-    ensures { Keeps (spec.stmts_from (in_levels names.now levels below) here.old (part_if before (top (parts out.old))) (the_more_stmts (part_at tree.now.nodes more)) log.old) (pop (parts out.old)) here.old result log.new (parts out.new) here.new }
+    ensures { Keeps (spec.stmts_from (in_levels names.now levels below) here.old (Some part.Nothing) (syntax.AlsoStmt (the_stmt (part_at tree.now.nodes first)) (the_more_stmts (part_at tree.now.nodes more))) log.old) (parts out.old) here.old result log.new (parts out.new) here.new }
 {
     let _levels = levels;
-    let mut done = before;
+    out.nothing()?;
+    let x = stmt(names, below, here, log, out, tree, first)?;
+    let mut done = also_where(out, true, x)?;
     let mut next = more;
     'more: while let Some(cell) = tree.cell(next) {
-        let x = stmt(names, below, here, log, out, tree, cell.first)?;
-        done = also_where(out, done, x)?;
+        let y = stmt(names, below, here, log, out, tree, cell.first)?;
+        done = also_where(out, done, y)?;
         next = cell.rest;
     }
     Ok(done)
@@ -176,10 +179,9 @@ pub fn stmts(
     ensures { Keeps (spec.stmts (in_levels names.now levels below) here.old (the_stmts (part_at tree.now.nodes id)) log.old) (parts out.old) here.old result log.new (parts out.new) here.new }
 {
     let all = tree.stmts(id);
-    out.nothing()?;
-    let first = stmt(names, below, here, log, out, tree, all.first)?;
-    let one = also_where(out, true, first)?;
-    if !stmts_from(names, levels, below, here, log, out, one, tree, all.more)? {
+    if !stmts_from(
+        names, levels, below, here, log, out, tree, all.first, all.more,
+    )? {
         return Ok(false);
     }
     out.turn()?;

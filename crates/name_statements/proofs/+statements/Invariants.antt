@@ -5,7 +5,7 @@ use Rattle.name_rules.specs.Judges.{part_if}
 use Rattle.name_rules.specs.Statements as spec
 use Rattle.name_statements.specs.Around.{in_levels}
 use Rattle.name_values.specs.Coverage.{as_covering}
-use Rattle.tree_nodes.specs.Parts.{the_alt, the_alts, the_arms, the_branches, the_handlers, the_more_stmts, the_stmts}
+use Rattle.tree_nodes.specs.Parts.{the_alt, the_alts, the_arms, the_branches, the_handlers, the_more_stmts, the_stmt, the_stmts}
 use Rattle.tree_nodes.specs.Tables.{part_at}
 use Rattle.typed_parts.specs.Stack.{parts, pop, top}
 use Rattle.name_statements.proofs.+statements.Given as goal
@@ -88,7 +88,7 @@ abbrev pub decreases-statements::stmts_from-more : goal.decreases-statements::st
 decreases-statements::stmts_from-more l = l.next
 
 abbrev pub invariant-statements::stmts_from-more : goal.invariant-statements::stmts_from-more
-invariant-statements::stmts_from-more l = (spec.stmts_from (in_levels l.names l.levels l.below) l.fn.here (part_if l.fn.before (top (parts l.fn.out))) (the_more_stmts (part_at l.tree.nodes l.fn.more)) l.fn.log ≡ spec.stmts_from (in_levels l.names l.levels l.below) l.fn.here (part_if l.done (top (parts l.out))) (the_more_stmts (part_at l.tree.nodes l.next)) l.log) × (pop (parts l.out) ≡ pop (parts l.fn.out)) × (l.here ≡ l.fn.here)
+invariant-statements::stmts_from-more l = (spec.stmts_from (in_levels l.names l.levels l.below) l.fn.here (Some part.Nothing) (syntax.AlsoStmt (the_stmt (part_at l.tree.nodes l.first)) (the_more_stmts (part_at l.tree.nodes l.fn.more))) l.fn.log ≡ spec.stmts_from (in_levels l.names l.levels l.below) l.fn.here (part_if l.done (top (parts l.out))) (the_more_stmts (part_at l.tree.nodes l.next)) l.log) × (pop (parts l.out) ≡ parts l.fn.out) × (l.here ≡ l.fn.here)
 
 abbrev pub decreases-statements::elsifs-arms : goal.decreases-statements::elsifs-arms
 decreases-statements::elsifs-arms l = l.next
