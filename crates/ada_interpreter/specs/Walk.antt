@@ -5,21 +5,25 @@ use Rattle.ada_base.specs.Cuts.{One, cuts_of}
 use Rattle.ada_base.specs.declared.reason.Reason.{Reason}
 use Rattle.ada_base.specs.declared.reason.Reason.TheVariants as reason
 use Rattle.ada_typed.specs.declared.program.Object.{Object}
-use Rattle.behaviours.specs.Doings.{through}
+use Rattle.behaviours.specs.Doings.{through, folded}
 use Rattle.behaviours.specs.Paths.{Entity, VariableOf, ConstantOf, Region, Here, Exits, Returns, Raises}
 use Rattle.ada_typed.specs.declared.node.Node.{Node}
+use Rattle.ada_typed.specs.declared.node.Link.{Link}
+use Rattle.ada_typed.specs.declared.node.Link.TheVariants as link
+use Rattle.ada_typed.specs.Decoded.{expr_at}
 use Rattle.ada_typed.specs.declared.scalars.Class.{Class}
 use Rattle.ada_typed.specs.declared.scalars.Scalar.{Scalar}
 use Rattle.ada_typed.specs.declared.scalars.Check.{Check}
 use Rattle.ada_typed.specs.declared.scalars.Comparison.{Comparison}
 use Rattle.ada_typed.specs.declared.expressions.Sign.{Sign}
 use Rattle.ada_typed.specs.declared.expressions.Root.{Root}
+use Rattle.ada_typed.specs.declared.expressions.Reducer.{Reducer}
 use Rattle.ada_typed.specs.declared.expressions.Run.{Run}
 use Rattle.ada_typed.specs.declared.expressions.Iterated.{Iterated}
 use Rattle.ada_typed.specs.Syntax.{Expr, Optional, Selections, Actuals, Value, Composite, Associations, Iteration, Pieces, Stmt, Stmts, Alternatives, Handlers, Decls, Body, Sub, Program}
 use Rattle.ada_typed.specs.Programs.{program}
 use Rattle.ada_meaning.specs.Values.{truth, bit, compares, between, to_nat, layout, is_in, defaults, image_of}
-use Rattle.ada_meaning.specs.Operations.{Operations, IndexCheck, RangeCheck, operate}
+use Rattle.ada_meaning.specs.Operations.{Operations, IndexCheck, RangeCheck, operate, reduce}
 use Rattle.ada_meaning.specs.Meaning as meaning
 use Rattle.ada_meaning.specs.Meaning.{Env, Part, Passed, Returned, Back, Course, variable_root, constant_root, moved, with_target, iterated_env, outset, returns, exits, value_of, sub_at}
 use Rattle.ada_stored.specs.Stored
@@ -111,6 +115,23 @@ module _ (w : Work) (d : ℕ) where
   abbrev pub call_function : ℕ → Actuals → Env → Stored ℤ
   call_function s as' env = bind (pass w d as' env []) (λ passed. bind (calls_of w d env.nested s (ret tt) passed) (λ r. ret r.value))
 
+  -- chains of operators: one with its left operand's value; all of a list over a part, the last one first; and those that
+  -- are left, with the value of what comes before
+
+  abbrev pub link_step : Link → Env → ℤ → Stored ℤ
+  link_step (link.Operator at op class right) env x = bind (eval w d (expr_at (nodes_of w) right) env) (λ y. operate doings checks op at class x y)
+  link_step (link.AndThen right) env x = cond (truth x) (eval w d (expr_at (nodes_of w) right) env) (ret (bit false))
+  link_step (link.OrElse right) env x = cond (truth x) (ret (bit true)) (eval w d (expr_at (nodes_of w) right) env)
+
+  abbrev pub linked_on : List Link → Env → Stored ℤ → Stored ℤ
+  linked_on [] env m = m
+  linked_on (l ∷ ls) env m = bind (linked_on ls env m) (λ x. link_step l env x)
+
+  abbrev pub chain_left : List Link → Env → ℤ → Stored ℤ
+  chain_left [] env v = ret v
+  chain_left (l ∷ []) env v = link_step l env v
+  chain_left (l ∷ (k ∷ ls)) env v = bind (chain_left (k ∷ ls) env v) (λ x. link_step l env x)
+
   -- ---- selections
 
   abbrev pub field : ℕ → Selections → Env → Part → Stored Part
@@ -194,6 +215,26 @@ module _ (w : Work) (d : ℕ) where
 
   abbrev pub called : ℕ → ℕ → List Passed → Stored Returned
   called s nested passed = called_sub (sub_at (program w.typed.now).subs s) nested passed
+
+  -- ---- reductions
+
+  abbrev pub reduced : ℕ → Reducer → ℕ → ℤ → ℤ → Stored ℤ
+  reduced attribute by nested a b = reduce doings checks by attribute (meaning.fold_call (ops w) w.limit (program w.typed.now) (calls_of w d) by nested) a b
+
+  abbrev pub iterated_value : Iteration → Expr → Env → Stored (Option ℤ)
+  iterated_value it e env = meaning.iterate_value (ops w) (filtered w d it env) (eval w d e env)
+
+  abbrev pub fold_one : ℕ → Reducer → Iteration → Expr → ℕ → Env → ℤ → Stored ℤ
+  fold_one attribute by it e nested env so_far = bind (iterated_value it e env) (λ v. folded doings (reduced attribute by nested) so_far v)
+
+  abbrev pub fold_left : ℕ → Reducer → ℕ → ℕ → Course → Iteration → Expr → ℤ → Env → Stored ℤ
+  fold_left attribute by i n c it e so_far env = through doings i n so_far (λ i total. fold_one attribute by it e env.nested (c.bound i env) total)
+
+  unfoldable pub fold : ℕ → Reducer → Course → Iteration → Expr → ℤ → Env → Stored ℤ
+  fold attribute by c it e start env = fold_left attribute by 0 c.count c it e start env
+
+  abbrev pub reduction : ℕ → Reducer → Expr → Iteration → Expr → Env → Stored ℤ
+  reduction attribute by initial it e env = bind (eval w d initial env) (λ start. bind (course w d it env) (λ c. fold attribute by c it e start env))
 
   -- ---- output and input
 

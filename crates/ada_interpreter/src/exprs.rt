@@ -9,6 +9,7 @@ ghost use Rattle.run_parts.specs.Words.{nodes_of};
 
 use crate::actuals::pass;
 use crate::calls::call;
+use crate::folds::reduction;
 use crate::names::select;
 use ada_base::{Items, Op, Reason};
 use ada_typed::{Check, Class, Comparison, Expr, Root, Sign};
@@ -77,6 +78,25 @@ pub fn eval<P: Port + Drop>(
         } => conditional(work, calls, condition, value, otherwise, env, store),
         Expr::Convert { check, value } => converted(work, calls, check, value, env, store),
         Expr::Call { sub, actuals, .. } => call_function(work, calls, sub, actuals, env, store),
+        Expr::Reduction {
+            attribute,
+            reducer,
+            initial,
+            site: None,
+            iteration,
+            value,
+            ..
+        } => reduction(
+            work,
+            calls,
+            attribute,
+            work.typed.nodes.reducer(reducer),
+            initial,
+            iteration,
+            value,
+            env,
+            store,
+        ),
         Expr::Reduction { .. } => Err(End::NoMemory),
     }
 }

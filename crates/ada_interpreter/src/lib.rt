@@ -6,6 +6,7 @@ pub mod bodies;
 pub mod calls;
 pub mod courses;
 pub mod exprs;
+pub mod folds;
 pub mod loops;
 pub mod names;
 pub mod runs;

@@ -1,3 +1,4 @@
 pub mod Stepping
 pub mod Copying
 pub mod Texts
+pub mod Reducing

@@ -68,6 +68,13 @@ cells_back w x back = meaning.cells_back (ops w) w.limit (program w.typed.now) x
 unfoldable pub back_cells : Work → List Passed → List (List ℤ) → Stored (List (List ℤ))
 back_cells w ps so_far = meaning.back_cells (ops w) w.limit (program w.typed.now) ps so_far
 
+-- what a function that reduces is given
+abbrev pub reduced_by : Work → ℕ → ℤ → ℤ → List Passed
+reduced_by w s a b = meaning.reduced_by (ops w) w.limit (program w.typed.now) s a b
+
+abbrev pub formal_of : Work → ℕ → ℕ → ℕ
+formal_of w s k = meaning.formal_at (meaning.formals_of (program w.typed.now).subs s) k
+
 module _ (w : Work) (d : ℕ) where
   abbrev pub copied_back : Option Back → List ℤ → Stored (Unit {0})
   copied_back b vs = meaning.copied_back (ops w) w.limit (program w.typed.now) (calls_of w d) b vs

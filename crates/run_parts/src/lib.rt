@@ -10,6 +10,7 @@ pub mod leaving;
 pub mod offsets;
 pub mod passed;
 pub mod pieces;
+pub mod reducers;
 pub mod work;
 
 pub use cells::{further, lay, one, placed, read_whole, turned, write_all, zeros};
@@ -20,4 +21,5 @@ pub use leaving::caught;
 pub use offsets::{component, moved};
 pub use passed::{Back, Passed, Returned, Shape, push};
 pub use pieces::{with_field, with_image, with_line, with_text};
+pub use reducers::reduced_by;
 pub use work::Work;

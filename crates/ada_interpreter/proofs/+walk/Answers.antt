@@ -9,11 +9,12 @@ use Rattle.run_parts.specs.Caught.{caught}
 use Rattle.run_parts.proofs.Stepping.{next_fails}
 use Rattle.run_store.proofs.Going.{then_shows}
 use Rattle.run_parts.specs.Words.{nodes_of}
-use Rattle.ada_interpreter.specs.Walk.{exec_all, while_loop, for_loop, course, in_loop, run_values}
+use Rattle.ada_interpreter.specs.Walk.{exec_all, while_loop, for_loop, course, in_loop, run_values, fold}
 use Rattle.ada_interpreter.proofs.Looping.{while_begins, run_begins, all_step, all_ends, all_done, while_test_ends, while_stops, while_turn_ends, while_body_ends, while_step, while_spent, for_step, for_ends, for_done, for_begins, run_step, run_ends, run_done}
 use Rattle.ada_interpreter.proofs.Scoping.{body_as, call_ends, call_step, called_more, called_fails, formals_none, formals_more, formals_fails, default_more, default_fails, variable_ends, variable_more, variable_fails, constant_ends, constant_more, constant_fails}
 use Rattle.ada_interpreter.proofs.Handling.{caught_shows, chosen_some, chosen_none, guarded_other, guarded_some, guarded_none, alternative_some, alternative_none}
 use Rattle.ada_interpreter.proofs.Forms.{index_as, in_out_as, in_out_on}
+use Rattle.ada_interpreter.proofs.Folding.{fold_begins, fold_step, fold_ends, fold_done}
 use Rattle.ada_interpreter.proofs.+walk.Goals as goal
 
 pub stmts::exec_all-returns-in_err-exec : goal.stmts::exec_all-returns-in_err-exec
@@ -111,3 +112,15 @@ actuals::pass-returns-in_ok-all-in-Some-InOut g t c = in_out_as c.args.work.now 
 
 pub actuals::pass_in_out-returns-in_err-all : goal.actuals::pass_in_out-returns-in_err-all
 actuals::pass_in_out-returns-in_err-all g t c = in_out_on c.args.work.now c.args.calls (env_of c.args.env.now) c.args.store.now c.pass.new.store c.args.formal c.args.at c.args.root (selections_at (nodes_of c.args.work.now) c.args.selections) c.args.inside c.args.outside (actuals_at (nodes_of c.args.work.now) c.args.rest) (passed_list c.args.work.now c.args.passed) c.from_residual-in_err-all.result c.in_ok-part.part c.in_ok-value.value c.in_ok-values.values (passed_list c.args.work.now c.in_ok-more.more) c.select.new.store c.in_ok-part.ensures c.in_ok-value.ensures (search rules) c.in_ok-values.ensures c.in_ok-more.ensures (search rules)
+
+pub folds::fold-loop-i-init : goal.folds::fold-loop-i-init
+folds::fold-loop-i-init g t c = record { counted = search rules; on = fold_begins c.args.work.now c.args.calls c.args.attribute c.args.reducer (course_of c.args.course) (iteration_at (nodes_of c.args.work.now) c.args.iteration) (expr_at (nodes_of c.args.work.now) c.args.value) (env_of c.args.env.now) c.args.store.now c.args.start }
+
+pub folds::fold-returns-in_err-fold_one : goal.folds::fold-returns-in_err-fold_one
+folds::fold-returns-in_err-fold_one g t c = fold_ends c.args.work.now c.args.calls c.args.attribute c.args.reducer (course_of c.args.course) (iteration_at (nodes_of c.args.work.now) c.args.iteration) (expr_at (nodes_of c.args.work.now) c.args.value) (env_of c.args.env.now) (fold c.args.work.now c.args.calls c.args.attribute c.args.reducer (course_of c.args.course) (iteration_at (nodes_of c.args.work.now) c.args.iteration) (expr_at (nodes_of c.args.work.now) c.args.value) c.args.start (env_of c.args.env.now)) c.args.store.now c.loop-i.store c.fold_one.new.store c.loop-i.i c.loop-i.total (subst (λ z. c.loop-i.i < z) c.loop-i.invariant.counted c.loop-i-test.true) c.loop-i.invariant.on c.in_err-fold_one.field-0.0 _ (search rules) c.in_err-fold_one.ensures
+
+pub folds::fold-loop-i-preserved : goal.folds::fold-loop-i-preserved
+folds::fold-loop-i-preserved g t c = record { counted = c.loop-i.invariant.counted; on = fold_step c.args.work.now c.args.calls c.args.attribute c.args.reducer (course_of c.args.course) (iteration_at (nodes_of c.args.work.now) c.args.iteration) (expr_at (nodes_of c.args.work.now) c.args.value) (env_of c.args.env.now) (fold c.args.work.now c.args.calls c.args.attribute c.args.reducer (course_of c.args.course) (iteration_at (nodes_of c.args.work.now) c.args.iteration) (expr_at (nodes_of c.args.work.now) c.args.value) c.args.start (env_of c.args.env.now)) c.args.store.now c.loop-i.store c.fold_one.new.store c.loop-i.i c.loop-i.total (subst (λ z. c.loop-i.i < z) c.loop-i.invariant.counted c.loop-i-test.true) c.loop-i.invariant.on _ c.in_ok-fold_one.ensures }
+
+pub folds::fold-returns : goal.folds::fold-returns
+folds::fold-returns g t c = fold_done c.args.work.now c.args.calls c.args.attribute c.args.reducer (course_of c.args.course) (iteration_at (nodes_of c.args.work.now) c.args.iteration) (expr_at (nodes_of c.args.work.now) c.args.value) (env_of c.args.env.now) (fold c.args.work.now c.args.calls c.args.attribute c.args.reducer (course_of c.args.course) (iteration_at (nodes_of c.args.work.now) c.args.iteration) (expr_at (nodes_of c.args.work.now) c.args.value) c.args.start (env_of c.args.env.now)) c.args.store.now c.loop-i.store c.loop-i.i c.loop-i.total (subst (λ z. z ≤ c.loop-i.i) c.loop-i.invariant.counted c.loop-i-test.false) c.loop-i.invariant.on

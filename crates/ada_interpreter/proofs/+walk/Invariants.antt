@@ -1,10 +1,10 @@
 use Rattle.std.proofs.Common.{◌≡◌, ◌+◌, ◌*◌, ◌-◌, ◌≤◌, max, length, drop, suc, []}
 use Rattle.run_store.specs.Shows.{Goes}
 use Rattle.run_store.specs.Environment.{env_of}
-use Rattle.ada_typed.specs.Decoded.{stmts_at, optional_at, iteration_at, value_at}
+use Rattle.ada_typed.specs.Decoded.{stmts_at, expr_at, optional_at, iteration_at, value_at}
 use Rattle.run_parts.specs.Passing.{course_of}
 use Rattle.run_parts.specs.Words.{nodes_of}
-use Rattle.ada_interpreter.specs.Walk.{exec_all, while_loop, while_left, for_loop, for_left, run_values}
+use Rattle.ada_interpreter.specs.Walk.{exec_all, while_loop, while_left, for_loop, for_left, run_values, fold, fold_left}
 use Rattle.ada_interpreter.proofs.+walk.Given as goal
 
 -- Calls first, then numbers of nodes, then the order in which functions that go by one node call each other.
@@ -220,3 +220,27 @@ decreases-texts::field g l = 1208925819614629174706176 * l.calls + 1099511627776
 
 abbrev pub decreases-texts::get : goal.decreases-texts::get
 decreases-texts::get g l = 1208925819614629174706176 * l.calls + 1099511627776 * l.selections + 549755813888
+
+-- ---- reductions
+
+abbrev pub decreases-folds::reduction : goal.decreases-folds::reduction
+decreases-folds::reduction g l = 1208925819614629174706176 * l.calls + 1099511627776 * (max l.initial (max l.iteration l.value)) + 755914244096
+
+abbrev pub decreases-folds::fold : goal.decreases-folds::fold
+decreases-folds::fold g l = 1208925819614629174706176 * l.calls + 1099511627776 * (max l.iteration l.value) + 687194767360
+
+abbrev pub decreases-folds::fold_one : goal.decreases-folds::fold_one
+decreases-folds::fold_one g l = 1208925819614629174706176 * l.calls + 1099511627776 * (max l.iteration l.value) + 618475290624
+
+abbrev pub decreases-folds::iterated_value : goal.decreases-folds::iterated_value
+decreases-folds::iterated_value g l = 1208925819614629174706176 * l.calls + 1099511627776 * (max l.iteration l.value) + 549755813888
+
+abbrev pub decreases-folds::reduced : goal.decreases-folds::reduced
+decreases-folds::reduced g l = 1208925819614629174706176 * l.calls + 137438953472
+
+abbrev pub invariant-folds::fold-loop-i : goal.invariant-folds::fold-loop-i
+invariant-folds::fold-loop-i g l = record {
+    counted : l.count ≡ (course_of l.course).count;
+    on : Goes g.P.Port.Tells (fold l.work l.calls l.attribute l.reducer (course_of l.course) (iteration_at (nodes_of l.work) l.iteration) (expr_at (nodes_of l.work) l.value) l.start (env_of l.env)) l.fn.store
+        (fold_left l.work l.calls l.attribute l.reducer l.i ((course_of l.course).count - l.i) (course_of l.course) (iteration_at (nodes_of l.work) l.iteration) (expr_at (nodes_of l.work) l.value) l.total (env_of l.env)) l.store
+  }
