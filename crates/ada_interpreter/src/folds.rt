@@ -90,7 +90,16 @@ fn fold_one<P: Port + Drop>(
     match found {
         None => Ok(so_far),
         Some(v) => {
-            let total = reduced(work, calls, attribute, reducer, env.nested(), so_far, v, store)?;
+            let total = reduced(
+                work,
+                calls,
+                attribute,
+                reducer,
+                env.nested(),
+                so_far,
+                v,
+                store,
+            )?;
             Ok(total)
         }
     }

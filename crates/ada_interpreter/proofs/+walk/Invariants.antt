@@ -240,7 +240,7 @@ decreases-folds::reduced g l = 1208925819614629174706176 * l.calls + 13743895347
 
 abbrev pub invariant-folds::fold-loop-i : goal.invariant-folds::fold-loop-i
 invariant-folds::fold-loop-i g l = record {
-    counted : l.count ≡ (course_of l.course).count;
-    on : Goes g.P.Port.Tells (fold l.work l.calls l.attribute l.reducer (course_of l.course) (iteration_at (nodes_of l.work) l.iteration) (expr_at (nodes_of l.work) l.value) l.start (env_of l.env)) l.fn.store
-        (fold_left l.work l.calls l.attribute l.reducer l.i ((course_of l.course).count - l.i) (course_of l.course) (iteration_at (nodes_of l.work) l.iteration) (expr_at (nodes_of l.work) l.value) l.total (env_of l.env)) l.store
-  }
+  counted : l.count ≡ (course_of l.course).count;
+  on : Goes g.P.Port.Tells (fold l.work l.calls l.attribute l.reducer (course_of l.course) (iteration_at (nodes_of l.work) l.iteration) (expr_at (nodes_of l.work) l.value) l.start (env_of l.env)) l.fn.store
+      (fold_left l.work l.calls l.attribute l.reducer l.i ((course_of l.course).count - l.i) (course_of l.course) (iteration_at (nodes_of l.work) l.iteration) (expr_at (nodes_of l.work) l.value) l.total (env_of l.env)) l.store;
+}
