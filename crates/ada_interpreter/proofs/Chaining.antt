@@ -1,11 +1,11 @@
 -- Chains of operators: the operators that are left, the one that is applied first last.
-use Rattle.std.proofs.Common.{◌≡◌, ℕ, ℤ, List, [], ◌∷◌, ◌++◌, refl, sym, subst, ap, ◌∙◌, inl, inr}
+use Rattle.std.proofs.Common.{◌≡◌, ◌<◌, ℕ, ℤ, List, [], ◌∷◌, ◌++◌, refl, sym, subst, ap, ◌∙◌, inl, inr}
 use Rattle.std.specs.Prelude.{Result, Ok, Err}
 use Rattle.ada_typed.specs.declared.node.Link.{Link}
 use Rattle.ada_typed.specs.declared.node.Link.TheVariants as link
 use Rattle.ada_typed.specs.Syntax.{Expr}
 use Rattle.ada_typed.specs.Decoded.{part_at}
-use Rattle.ada_typed.specs.Chained.{applied, linked}
+use Rattle.ada_typed.specs.Chained.{applied, linked, right_of, AreBelow}
 use Rattle.ada_meaning.specs.Meaning.{Env}
 use Rattle.ada_stored.specs.Stored.{Stored, After, Fault, MemoryFault, Stops, State, next, next_halts, bind}
 use Rattle.run_store.specs.declared.ends.End.{End}
@@ -35,26 +35,26 @@ module _ {Tells : Type 0} (w : Work) (d : ℕ) (env : Env) where
   pub chain_as : (ls : List Link) (e : Expr) → walk.eval w d (linked (part_at (nodes_of w)) ls e) env ≡ walk.linked_on w d ls env (walk.eval w d e env)
   unfolding walk.eval
   chain_as [] e = refl
-  chain_as (link.Operator n op class right ∷ ls) e = ap (λ m. bind m (λ x. walk.link_step w d (link.Operator n op class right) env x)) (chain_as ls e)
-  chain_as (link.AndThen right ∷ ls) e = ap (λ m. bind m (λ x. walk.link_step w d (link.AndThen right) env x)) (chain_as ls e)
-  chain_as (link.OrElse right ∷ ls) e = ap (λ m. bind m (λ x. walk.link_step w d (link.OrElse right) env x)) (chain_as ls e)
+  chain_as (link.Operator n op class right ∷ ls) e = ap (λ m. bind m (λ x. walk.operator w d (link.Operator n op class right) env x)) (chain_as ls e)
+  chain_as (link.AndThen right ∷ ls) e = ap (λ m. bind m (λ x. walk.operator w d (link.AndThen right) env x)) (chain_as ls e)
+  chain_as (link.OrElse right ∷ ls) e = ap (λ m. bind m (λ x. walk.operator w d (link.OrElse right) env x)) (chain_as ls e)
 
   -- with a value of what is applied first, where operators are left
   pub chain_begins : (l : Link) (ls : List Link) (m : Stored ℤ) (s t : Image) (v : ℤ) → Shows Tells m (Ok v) s t → Goes Tells (walk.linked_on w d (l ∷ ls) env m) s (walk.chain_left w d (l ∷ ls) env v) t
-  chain_begins l [] m s t v h = goes_then (λ a. a) (λ a. a) (bind m (λ x. walk.link_step w d l env x)) m (λ x. walk.link_step w d l env x) s s t v (goes_refl _ s) h
-  chain_begins l (k ∷ ls) m s t v h = goes_within (walk.linked_on w d (k ∷ ls) env m) (walk.chain_left w d (k ∷ ls) env v) (λ x. walk.link_step w d l env x) s t (chain_begins k ls m s t v h)
+  chain_begins l [] m s t v h = goes_then (λ a. a) (λ a. a) (bind m (λ x. walk.operator w d l env x)) m (λ x. walk.operator w d l env x) s s t v (goes_refl _ s) h
+  chain_begins l (k ∷ ls) m s t v h = goes_within (walk.linked_on w d (k ∷ ls) env m) (walk.chain_left w d (k ∷ ls) env v) (λ x. walk.operator w d l env x) s t (chain_begins k ls m s t v h)
 
   -- one operator less
-  pub chain_step : (l : Link) (ls : List Link) (last : Link) (s t : Image) (v x : ℤ) → Shows Tells (walk.link_step w d last env v) (Ok x) s t → Goes Tells (walk.chain_left w d (l ∷ ls ++ last ∷ []) env v) s (walk.chain_left w d (l ∷ ls) env x) t
-  chain_step l [] last s t v x h = goes_then (λ a. a) (λ a. a) (bind (walk.link_step w d last env v) (λ x. walk.link_step w d l env x)) (walk.link_step w d last env v) (λ x. walk.link_step w d l env x) s s t x (goes_refl _ s) h
-  chain_step l (k ∷ ls) last s t v x h = goes_within (walk.chain_left w d (k ∷ ls ++ last ∷ []) env v) (walk.chain_left w d (k ∷ ls) env x) (λ x. walk.link_step w d l env x) s t (chain_step k ls last s t v x h)
+  pub chain_step : (l : Link) (ls : List Link) (last : Link) (s t : Image) (v x : ℤ) → Shows Tells (walk.operator w d last env v) (Ok x) s t → Goes Tells (walk.chain_left w d (l ∷ ls ++ last ∷ []) env v) s (walk.chain_left w d (l ∷ ls) env x) t
+  chain_step l [] last s t v x h = goes_then (λ a. a) (λ a. a) (bind (walk.operator w d last env v) (λ x. walk.operator w d l env x)) (walk.operator w d last env v) (λ x. walk.operator w d l env x) s s t x (goes_refl _ s) h
+  chain_step l (k ∷ ls) last s t v x h = goes_within (walk.chain_left w d (k ∷ ls ++ last ∷ []) env v) (walk.chain_left w d (k ∷ ls) env x) (λ x. walk.operator w d l env x) s t (chain_step k ls last s t v x h)
 
   -- an operator that gives no value ends the chain
-  pub chain_ends : (ls : List Link) (last : Link) (s t : Image) (v : ℤ) (e : End) → Shows Tells (walk.link_step w d last env v) (Err e) s t → Shows Tells (walk.chain_left w d (ls ++ last ∷ []) env v) (Err e) s t
+  pub chain_ends : (ls : List Link) (last : Link) (s t : Image) (v : ℤ) (e : End) → Shows Tells (walk.operator w d last env v) (Err e) s t → Shows Tells (walk.chain_left w d (ls ++ last ∷ []) env v) (Err e) s t
   chain_ends [] last s t v e h = h
-  chain_ends (l ∷ []) last s t v e h = goes_ends (λ a. a) (λ a. a) (bind (walk.link_step w d last env v) (λ x. walk.link_step w d l env x)) (walk.link_step w d last env v) (λ x. walk.link_step w d l env x) s s t e (goes_refl _ s) h
+  chain_ends (l ∷ []) last s t v e h = goes_ends (λ a. a) (λ a. a) (bind (walk.operator w d last env v) (λ x. walk.operator w d l env x)) (walk.operator w d last env v) (λ x. walk.operator w d l env x) s s t e (goes_refl _ s) h
   chain_ends (l ∷ (k ∷ ls)) last s t v e h =
-      goes_ends (λ a. a) (λ a. a) (bind (walk.chain_left w d (k ∷ ls ++ last ∷ []) env v) (λ x. walk.link_step w d l env x)) (walk.chain_left w d (k ∷ ls ++ last ∷ []) env v) (λ x. walk.link_step w d l env x) s s t e (goes_refl _ s)
+      goes_ends (λ a. a) (λ a. a) (bind (walk.chain_left w d (k ∷ ls ++ last ∷ []) env v) (λ x. walk.operator w d l env x)) (walk.chain_left w d (k ∷ ls ++ last ∷ []) env v) (λ x. walk.operator w d l env x) s s t e (goes_refl _ s)
       (chain_ends (k ∷ ls) last s t v e h)
 
   goes_trans : {A : Type 0} (whole m n : Stored A) (s t u : Image) → Goes Tells whole s m t → Goes Tells m t n u → Goes Tells whole s n u
@@ -66,16 +66,52 @@ module _ {Tells : Type 0} (w : Work) (d : ℕ) (env : Env) where
     Stands [] v t = Shows Tells whole (Ok v) s t
     Stands (l ∷ ls) v t = Goes Tells whole s (walk.chain_left w d (l ∷ ls) env v) t
 
-    pub stands_step : (ls new : List Link) (last : Link) (v x : ℤ) (t u : Image) → ls ≡ new ++ last ∷ [] → Stands ls v t → Shows Tells (walk.link_step w d last env v) (Ok x) t u → Stands new x u
+    pub stands_step : (ls new : List Link) (last : Link) (v x : ℤ) (t u : Image) → ls ≡ new ++ last ∷ [] → Stands ls v t → Shows Tells (walk.operator w d last env v) (Ok x) t u → Stands new x u
     stands_step ls new last v x t u is g h = go new (subst (λ z. Stands z v t) is g)
       where
         go : (new : List Link) → Stands (new ++ last ∷ []) v t → Stands new x u
-        go [] g = goes_shows (λ a. a) whole (walk.link_step w d last env v) s t u (Ok x) g h
+        go [] g = goes_shows (λ a. a) whole (walk.operator w d last env v) s t u (Ok x) g h
         go (l ∷ more) g = goes_trans whole (walk.chain_left w d (l ∷ more ++ last ∷ []) env v) (walk.chain_left w d (l ∷ more) env x) s t u g (chain_step l more last t u v x h)
 
-    pub stands_ends : (ls new : List Link) (last : Link) (v : ℤ) (t u : Image) (e : End) (r : Result ℤ End) → r ≡ Err e → ls ≡ new ++ last ∷ [] → Stands ls v t → Shows Tells (walk.link_step w d last env v) (Err e) t u → Shows Tells whole r s u
+    pub stands_ends : (ls new : List Link) (last : Link) (v : ℤ) (t u : Image) (e : End) (r : Result ℤ End) → r ≡ Err e → ls ≡ new ++ last ∷ [] → Stands ls v t → Shows Tells (walk.operator w d last env v) (Err e) t u → Shows Tells whole r s u
     stands_ends ls new last v t u e r q is g h = subst (λ z. Shows Tells whole z s u) (sym q) (goes_shows (λ a. a) whole (walk.chain_left w d (new ++ last ∷ []) env v) s t u (Err e) (go new (subst (λ z. Stands z v t) is g)) (chain_ends new last t u v e h))
       where
         go : (new : List Link) → Stands (new ++ last ∷ []) v t → Goes Tells whole s (walk.chain_left w d (new ++ last ∷ []) env v) t
         go [] g = g
         go (l ∷ more) g = g
+
+    -- all operators are gone through
+    pub stands_done : (ls : List Link) (v : ℤ) (t : Image) → ls ≡ [] → Stands ls v t → Shows Tells whole (Ok v) s t
+    stands_done ls v t is g = subst (λ z. Stands z v t) is g
+
+  -- the first operand of an expression whose operators stand in a list
+  module _ (x : Expr) (ls : List Link) (e : Expr) (is : x ≡ linked (part_at (nodes_of w)) ls e) where
+    pub stands_begins : (s t : Image) (v : ℤ) → Shows Tells (walk.eval w d e env) (Ok v) s t → Stands (walk.eval w d x env) s ls v t
+    stands_begins s t v h = subst (λ (z : Stored ℤ). Stands z s ls v t) (sym (chain_as ls e) ∙ ap (λ z. walk.eval w d z env) (sym is)) (go ls)
+      where
+        go : (ls : List Link) → Stands (walk.linked_on w d ls env (walk.eval w d e env)) s ls v t
+        go [] = h
+        go (l ∷ ls) = chain_begins l ls (walk.eval w d e env) s t v h
+
+    pub first_ends : (s t : Image) (y : End) (r : Result ℤ End) → r ≡ Err y → Shows Tells (walk.eval w d e env) (Err y) s t → Shows Tells (walk.eval w d x env) r s t
+    first_ends s t y r q h = subst (λ z. Shows Tells (walk.eval w d x env) z s t) (sym q) (subst (λ (z : Stored ℤ). Shows Tells z (Err y) s t) (sym (chain_as ls e) ∙ ap (λ z. walk.eval w d z env) (sym is)) (go ls))
+      where
+        go : (ls : List Link) → Shows Tells (walk.linked_on w d ls env (walk.eval w d e env)) (Err y) s t
+        go [] = h
+        go (l ∷ ls) = goes_ends (λ a. a) (λ a. a) (bind (walk.linked_on w d ls env (walk.eval w d e env)) (λ x. walk.operator w d l env x)) (walk.linked_on w d ls env (walk.eval w d e env)) (λ x. walk.operator w d l env x) s s t y (goes_refl _ s) (go ls)
+
+-- ---- numbers of right operands
+
+pub all_below : (k : ℕ) (ls new : List Link) (last : Link) → ls ≡ new ++ last ∷ [] → AreBelow k ls → AreBelow k new
+all_below k ls new last is h = go new (subst (λ z. AreBelow k z) is h)
+  where
+    go : (new : List Link) → AreBelow k (new ++ last ∷ []) → AreBelow k new
+    go [] h = tt
+    go (l ∷ new) h = (h.0, go new h.1)
+
+pub last_below : (k : ℕ) (ls new : List Link) (last : Link) → ls ≡ new ++ last ∷ [] → AreBelow k ls → right_of last < k
+last_below k ls new last is h = go new (subst (λ z. AreBelow k z) is h)
+  where
+    go : (new : List Link) → AreBelow k (new ++ last ∷ []) → right_of last < k
+    go [] h = h.0
+    go (l ∷ new) h = go new h.1

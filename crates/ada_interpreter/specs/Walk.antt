@@ -90,15 +90,6 @@ module _ (w : Work) (d : ℕ) where
   abbrev pub unary_of : Sign → ℕ → Class → Expr → Env → Stored ℤ
   unary_of s at class e env = bind (eval w d e env) (λ v. unary_then s at class v)
 
-  abbrev pub binary : Op → ℕ → Class → Expr → Expr → Env → Stored ℤ
-  binary op at class e f env = bind (eval w d e env) (λ x. bind (eval w d f env) (λ y. operate doings checks op at class x y))
-
-  abbrev pub and_then : Expr → Expr → Env → Stored ℤ
-  and_then e f env = bind (eval w d e env) (λ x. cond (truth x) (eval w d f env) (ret (bit false)))
-
-  abbrev pub or_else : Expr → Expr → Env → Stored ℤ
-  or_else e f env = bind (eval w d e env) (λ x. cond (truth x) (ret (bit true)) (eval w d f env))
-
   abbrev pub relation : Comparison → Expr → Expr → Env → Stored ℤ
   relation c e f env = bind (eval w d e env) (λ x. bind (eval w d f env) (λ y. ret (bit (compares c x y))))
 
@@ -115,22 +106,25 @@ module _ (w : Work) (d : ℕ) where
   abbrev pub call_function : ℕ → Actuals → Env → Stored ℤ
   call_function s as' env = bind (pass w d as' env []) (λ passed. bind (calls_of w d env.nested s (ret tt) passed) (λ r. ret r.value))
 
-  -- chains of operators: one with its left operand's value; all of a list over a part, the last one first; and those that
-  -- are left, with the value of what comes before
+  -- chains of operators: one after the value of its left operand; one with its operands; all of a list over a part, the last
+  -- one first; and those that are left, with the value of what comes before
 
-  abbrev pub link_step : Link → Env → ℤ → Stored ℤ
-  link_step (link.Operator at op class right) env x = bind (eval w d (expr_at (nodes_of w) right) env) (λ y. operate doings checks op at class x y)
-  link_step (link.AndThen right) env x = cond (truth x) (eval w d (expr_at (nodes_of w) right) env) (ret (bit false))
-  link_step (link.OrElse right) env x = cond (truth x) (ret (bit true)) (eval w d (expr_at (nodes_of w) right) env)
+  abbrev pub operator : Link → Env → ℤ → Stored ℤ
+  operator (link.Operator at op class right) env x = bind (eval w d (expr_at (nodes_of w) right) env) (λ y. operate doings checks op at class x y)
+  operator (link.AndThen right) env x = cond (truth x) (eval w d (expr_at (nodes_of w) right) env) (ret (bit false))
+  operator (link.OrElse right) env x = cond (truth x) (ret (bit true)) (eval w d (expr_at (nodes_of w) right) env)
+
+  abbrev pub operators : Link → Expr → Env → Stored ℤ
+  operators l e env = bind (eval w d e env) (λ x. operator l env x)
 
   abbrev pub linked_on : List Link → Env → Stored ℤ → Stored ℤ
   linked_on [] env m = m
-  linked_on (l ∷ ls) env m = bind (linked_on ls env m) (λ x. link_step l env x)
+  linked_on (l ∷ ls) env m = bind (linked_on ls env m) (λ x. operator l env x)
 
   abbrev pub chain_left : List Link → Env → ℤ → Stored ℤ
   chain_left [] env v = ret v
-  chain_left (l ∷ []) env v = link_step l env v
-  chain_left (l ∷ (k ∷ ls)) env v = bind (chain_left (k ∷ ls) env v) (λ x. link_step l env x)
+  chain_left (l ∷ []) env v = operator l env v
+  chain_left (l ∷ (k ∷ ls)) env v = bind (chain_left (k ∷ ls) env v) (λ x. operator l env x)
 
   -- ---- selections
 

@@ -3,6 +3,7 @@
 #![tactic(auto, unfolding(ada_stored::specs::Stored::bind, ada_stored::specs::Stored::ret, ada_stored::specs::Stored::leaves, ada_stored::specs::Stored::spent, ada_stored::specs::Stored::handles))]
 
 pub mod cells;
+pub mod chains;
 pub mod copies;
 pub mod courses;
 pub mod finding;
@@ -14,6 +15,7 @@ pub mod reducers;
 pub mod work;
 
 pub use cells::{further, lay, one, placed, read_whole, turned, write_all, zeros};
+pub use chains::{Chain, operands};
 pub use copies::{all_copied_back, back_cells, find_sub, first_cells};
 pub use courses::{Course, bounds_hold};
 pub use finding::{find_alternative, find_handler};

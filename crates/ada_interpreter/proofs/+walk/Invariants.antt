@@ -4,7 +4,9 @@ use Rattle.run_store.specs.Environment.{env_of}
 use Rattle.ada_typed.specs.Decoded.{stmts_at, expr_at, optional_at, iteration_at, value_at}
 use Rattle.run_parts.specs.Passing.{course_of}
 use Rattle.run_parts.specs.Words.{nodes_of}
-use Rattle.ada_interpreter.specs.Walk.{exec_all, while_loop, while_left, for_loop, for_left, run_values, fold, fold_left}
+use Rattle.ada_typed.specs.Chained.{right_of, AreBelow}
+use Rattle.ada_interpreter.proofs.Chaining.{Stands}
+use Rattle.ada_interpreter.specs.Walk.{eval, exec_all, while_loop, while_left, for_loop, for_left, run_values, fold, fold_left}
 use Rattle.ada_interpreter.proofs.+walk.Given as goal
 
 -- Calls first, then numbers of nodes, then the order in which functions that go by one node call each other.
@@ -56,15 +58,6 @@ decreases-exprs::constant g l = 1208925819614629174706176 * l.calls + 1099511627
 
 abbrev pub decreases-exprs::unary : goal.decreases-exprs::unary
 decreases-exprs::unary g l = 1208925819614629174706176 * l.calls + 1099511627776 * l.operand + 549755813888
-
-abbrev pub decreases-exprs::binary : goal.decreases-exprs::binary
-decreases-exprs::binary g l = 1208925819614629174706176 * l.calls + 1099511627776 * (max l.left l.right) + 549755813888
-
-abbrev pub decreases-exprs::and_then : goal.decreases-exprs::and_then
-decreases-exprs::and_then g l = 1208925819614629174706176 * l.calls + 1099511627776 * (max l.left l.right) + 549755813888
-
-abbrev pub decreases-exprs::or_else : goal.decreases-exprs::or_else
-decreases-exprs::or_else g l = 1208925819614629174706176 * l.calls + 1099511627776 * (max l.left l.right) + 549755813888
 
 abbrev pub decreases-exprs::relation : goal.decreases-exprs::relation
 decreases-exprs::relation g l = 1208925819614629174706176 * l.calls + 1099511627776 * (max l.left l.right) + 549755813888
@@ -244,3 +237,26 @@ invariant-folds::fold-loop-i g l = record {
   on : Goes g.P.Port.Tells (fold l.work l.calls l.attribute l.reducer (course_of l.course) (iteration_at (nodes_of l.work) l.iteration) (expr_at (nodes_of l.work) l.value) l.start (env_of l.env)) l.fn.store
       (fold_left l.work l.calls l.attribute l.reducer l.i ((course_of l.course).count - l.i) (course_of l.course) (iteration_at (nodes_of l.work) l.iteration) (expr_at (nodes_of l.work) l.value) l.total (env_of l.env)) l.store;
 }
+
+-- ---- operators
+
+abbrev pub decreases-chains::operators : goal.decreases-chains::operators
+decreases-chains::operators g l = 1208925819614629174706176 * l.calls + 1099511627776 * (max l.left (right_of l.last)) + 549755813888
+
+abbrev pub decreases-chains::operator : goal.decreases-chains::operator
+decreases-chains::operator g l = 1208925819614629174706176 * l.calls + 1099511627776 * right_of l.link + 412316860416
+
+abbrev pub decreases-chains::operand : goal.decreases-chains::operand
+decreases-chains::operand g l = 1208925819614629174706176 * l.calls + 1099511627776 * l.id + 412316860416
+
+abbrev pub decreases-chains::chain : goal.decreases-chains::chain
+decreases-chains::chain g l = 1208925819614629174706176 * l.calls + 1099511627776 * l.id + 343597383680
+
+abbrev pub invariant-chains::chain-loop-link : goal.invariant-chains::chain-loop-link
+invariant-chains::chain-loop-link g l = record {
+  below : AreBelow l.id l.links;
+  on : Stands l.work l.calls (env_of l.env) (eval l.work l.calls (expr_at (nodes_of l.work) l.id) (env_of l.env)) l.fn.store l.links l.value l.store;
+}
+
+abbrev pub decreases-chains::chain-loop-link : goal.decreases-chains::chain-loop-link
+decreases-chains::chain-loop-link g l = length l.links
