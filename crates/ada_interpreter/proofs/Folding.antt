@@ -1,31 +1,92 @@
--- Reductions, an iteration at a time.
-use Rattle.std.proofs.Common.{◌≡◌, ℕ, ◌+◌, ◌-◌, ◌<◌, ◌≤◌, ℤ, refl, sym, subst, arith}
+-- Reductions, an iteration at a time, and accumulators, one after the other.
+use Rattle.std.proofs.Common.{◌≡◌, ℕ, zero, suc, ◌+◌, ◌-◌, ◌<◌, ◌≤◌, ℤ, List, [], ◌∷◌, drop, slice_get, Option, Some, None, refl, sym, subst, ap, ◌∙◌, arith}
 use Rattle.std.specs.Prelude.{Result, Ok, Err}
-use Rattle.ada_typed.specs.declared.expressions.Reducer.{Reducer}
-use Rattle.ada_typed.specs.Syntax.{Expr, Iteration}
-use Rattle.ada_meaning.specs.Meaning.{Env, Course}
-use Rattle.ada_stored.specs.Stored.{Stored, bind}
+use Rattle.behaviours.specs.Joins.{Share, deal}
+use Rattle.ada_typed.specs.Decoded.{iteration_at}
+use Rattle.ada_meaning.specs.Meaning as meaning
+use Rattle.ada_meaning.specs.Meaning.{Env, Course, inside}
+use Rattle.ada_stored.specs.Stored
+use Rattle.ada_stored.specs.Stored.{Stored, bind, par, after_all}
+use Rattle.ada_base.specs.Cuts.{cuts_of}
 use Rattle.ada_stored.proofs.Computing.{through_more, through_done}
 use Rattle.run_store.specs.Shows.{Image, Goes, Shows}
 use Rattle.run_store.specs.declared.ends.End.{End}
 use Rattle.run_store.proofs.Going.{goes_refl, goes_instead, goes_then, goes_ends, goes_gives}
 use Rattle.run_parts.specs.declared.work.Work.{Work}
+use Rattle.run_parts.specs.declared.chunks.Chunking.{Chunking}
+use Rattle.run_parts.specs.declared.chunks.Chunking.TheVariants as chunking
+use Rattle.run_parts.specs.Dealing.{chunking_of, fold_sizes}
+use Rattle.run_parts.specs.Words.{nodes_of}
+use Rattle.ada_interpreter.specs.declared.folds.Fold.{Fold}
 use Rattle.ada_interpreter.specs.Walk as walk
 
-module _ {Tells : Type 0} (w : Work) (d attribute : ℕ) (by : Reducer) (c : Course) (it : Iteration) (e : Expr) (env : Env) where
-  pub fold_begins : (s : Image) (start : ℤ) → Goes Tells (walk.fold w d attribute by c it e start env) s (walk.fold_left w d attribute by 0 (c.count - 0) c it e start env) s
-  unfolding walk.fold
-  fold_begins s start = let q : c.count - 0 ≡ c.count = omega arith in subst (λ z. Goes Tells (walk.fold w d attribute by c it e start env) s (walk.fold_left w d attribute by 0 z c it e start env) s) (sym q) (goes_refl _ s)
+module _ {Tells : Type 0} (w : Work) (d : ℕ) (by : Fold) (c : Course) (env : Env) where
+  abbrev one : ℕ → ℤ → Stored ℤ
+  one i total = walk.fold_one w d by env.nested (c.bound i env) total
 
-  module _ (whole : Stored ℤ) (s t u : Image) (i : ℕ) (total : ℤ) (lt : i < c.count) (g : Goes Tells whole s (walk.fold_left w d attribute by i (c.count - i) c it e total env) t) where
-    fold_more : Goes Tells whole s (bind (walk.fold_one w d attribute by it e env.nested (c.bound i env) total) (λ v. walk.fold_left w d attribute by (i + 1) (c.count - (i + 1)) c it e v env)) t
-    fold_more = goes_instead whole _ _ s t (through_more i c.count total (λ i total. walk.fold_one w d attribute by it e env.nested (c.bound i env) total) lt) g
+  module _ (whole : Stored ℤ) (s t u : Image) (i n : ℕ) (total : ℤ) where
+    module _ (lt : i < n) (g : Goes Tells whole s (walk.fold_left w d by i (n - i) c total env) t) where
+      fold_more : Goes Tells whole s (bind (one i total) (λ v. walk.fold_left w d by (i + 1) (n - (i + 1)) c v env)) t
+      unfolding walk.fold_left
+      fold_more = goes_instead whole _ _ s t (through_more i n total one lt) g
 
-    pub fold_step : (v : ℤ) → Shows Tells (walk.fold_one w d attribute by it e env.nested (c.bound i env) total) (Ok v) t u → Goes Tells whole s (walk.fold_left w d attribute by (i + 1) (c.count - (i + 1)) c it e v env) u
-    fold_step v h = goes_then (λ a. a) (λ a. a) whole (walk.fold_one w d attribute by it e env.nested (c.bound i env) total) (λ v. walk.fold_left w d attribute by (i + 1) (c.count - (i + 1)) c it e v env) s t u v fold_more h
+      pub fold_step : (v : ℤ) → Shows Tells (one i total) (Ok v) t u → Goes Tells whole s (walk.fold_left w d by (i + 1) (n - (i + 1)) c v env) u
+      fold_step v h = goes_then (λ a. a) (λ a. a) whole (one i total) (λ v. walk.fold_left w d by (i + 1) (n - (i + 1)) c v env) s t u v fold_more h
 
-    pub fold_ends : (x : End) (r : Result ℤ End) → r ≡ Err x → Shows Tells (walk.fold_one w d attribute by it e env.nested (c.bound i env) total) (Err x) t u → Shows Tells whole r s u
-    fold_ends x r q h = subst (λ z. Shows Tells whole z s u) (sym q) (goes_ends (λ a. a) (λ a. a) whole (walk.fold_one w d attribute by it e env.nested (c.bound i env) total) (λ v. walk.fold_left w d attribute by (i + 1) (c.count - (i + 1)) c it e v env) s t u x fold_more h)
+      pub fold_ends : (x : End) (r : Result ℤ End) → r ≡ Err x → Shows Tells (one i total) (Err x) t u → Shows Tells whole r s u
+      fold_ends x r q h = subst (λ z. Shows Tells whole z s u) (sym q) (goes_ends (λ a. a) (λ a. a) whole (one i total) (λ v. walk.fold_left w d by (i + 1) (n - (i + 1)) c v env) s t u x fold_more h)
 
-  pub fold_done : (whole : Stored ℤ) (s t : Image) (i : ℕ) (total : ℤ) → c.count ≤ i → Goes Tells whole s (walk.fold_left w d attribute by i (c.count - i) c it e total env) t → Shows Tells whole (Ok total) s t
-  fold_done whole s t i total le g = goes_gives (λ a. a) whole total s t (goes_instead whole _ _ s t (through_done i c.count total (λ i total. walk.fold_one w d attribute by it e env.nested (c.bound i env) total) le) g)
+    pub fold_done : n ≤ i → Goes Tells whole s (walk.fold_left w d by i (n - i) c total env) t → Shows Tells whole (Ok total) s t
+    unfolding walk.fold_left
+    fold_done le g = goes_gives (λ a. a) whole total s t (goes_instead whole _ _ s t (through_done i n total one le) g)
+
+  -- none, and all
+  pub fold_none : (n : ℕ) (start : ℤ) (s : Image) → n ≡ 0 → Shows Tells (walk.fold_left w d by 0 n c start env) (Ok start) s s
+  unfolding walk.fold_left Stored.ret
+  fold_none n start s e = subst (λ n. Shows Tells (walk.fold_left w d by 0 n c start env) (Ok start) s s) (sym e) (refl, λ told. refl)
+
+  pub fold_as : (first m n : ℕ) (start : ℤ) (r : Result ℤ End) (s t : Image) → m ≡ n → Shows Tells (walk.fold_left w d by first m c start env) r s t → Shows Tells (walk.fold_left w d by first n c start env) r s t
+  fold_as first m n start r s t e h = subst (λ n. Shows Tells (walk.fold_left w d by first n c start env) r s t) e h
+
+-- ---- accumulators
+
+drop_value : (vs : List ℤ) (k : ℕ) (v : ℤ) → slice_get vs k ≡ Some v → drop k vs ≡ v ∷ drop (k + 1) vs
+drop_value [] k v e = cc
+drop_value (x ∷ xs) zero v e = let q : x ≡ v = cc in rw q refl
+drop_value (x ∷ xs) (suc k) v e = let q : suc k + 1 ≡ suc (k + 1) = omega arith in rw q (drop_value xs k v e)
+
+drop_end : (vs : List ℤ) (k : ℕ) → slice_get vs k ≡ None → drop k vs ≡ []
+drop_end [] zero e = refl
+drop_end [] (suc k) e = refl
+drop_end (x ∷ xs) zero e = cc
+drop_end (x ∷ xs) (suc k) e = drop_end xs k e
+
+module _ {Tells : Type 0} (w : Work) (d : ℕ) (by : Fold) (nested : ℕ) (whole : Stored ℤ) (s t u : Image) (total : ℤ) (vs : List ℤ) (k : ℕ) (g : Goes Tells whole s (walk.combined_onto w d by nested total (drop k vs)) t) where
+  module _ (v : ℤ) (is : slice_get vs k ≡ Some v) where
+    onto_more : Goes Tells whole s (bind (walk.combined_two w d by nested total v) (λ c. walk.combined_onto w d by nested c (drop (k + 1) vs))) t
+    unfolding walk.combined_onto
+    onto_more = subst (λ z. Goes Tells whole s (walk.combined_onto w d by nested total z) t) (drop_value vs k v is) g
+
+    pub onto_step : (c : ℤ) → Shows Tells (walk.combined_two w d by nested total v) (Ok c) t u → Goes Tells whole s (walk.combined_onto w d by nested c (drop (k + 1) vs)) u
+    onto_step c h = goes_then (λ a. a) (λ a. a) whole (walk.combined_two w d by nested total v) (λ c. walk.combined_onto w d by nested c (drop (k + 1) vs)) s t u c onto_more h
+
+    pub onto_ends : (e : End) (r : Result ℤ End) → r ≡ Err e → Shows Tells (walk.combined_two w d by nested total v) (Err e) t u → Shows Tells whole r s u
+    onto_ends e r q h = subst (λ z. Shows Tells whole z s u) (sym q) (goes_ends (λ a. a) (λ a. a) whole (walk.combined_two w d by nested total v) (λ c. walk.combined_onto w d by nested c (drop (k + 1) vs)) s t u e onto_more h)
+
+  pub onto_done : slice_get vs k ≡ None → Shows Tells whole (Ok total) s t
+  unfolding walk.combined_onto
+  onto_done is = goes_gives (λ a. a) whole total s t (subst (λ z. Goes Tells whole s (walk.combined_onto w d by nested total z) t) (drop_end vs k is) g)
+
+-- ---- the threads of a reduction
+
+module _ (w : Work) (d : ℕ) (by : Fold) (c : Course) (start : ℤ) (env : Env) where
+  share_as : (k : Chunking) (s : Share) → walk.share_folded w d by (chunking_of k) c start (inside env) s ≡ walk.fold_left w d by s.first s.size c start ((chunking_of k).bound s.number (inside env))
+  unfolding walk.share_folded walk.fold_left
+  share_as (chunking.ByPlan most) s = refl
+  share_as (chunking.Each p low n) s = refl
+
+  pub dealt_fold_as : (k : Chunking) → walk.dealt_fold w d by (chunking_of k) c start env
+      ≡ bind (walk.threads_folded w d by (chunking_of k) c start (fold_sizes w k c.count) (inside env)) (λ accumulators. walk.combined w d by env.nested start accumulators)
+  unfolding walk.threads_folded walk.share_folded walk.combined
+  dealt_fold_as (chunking.ByPlan most) = refl
+  dealt_fold_as (chunking.Each p low n) = refl

@@ -12,9 +12,9 @@ ghost use Rattle.ada_interpreter.specs.Walk as spec;
 
 use crate::bodies::body;
 use ada_base::{Items, Reason};
-use ada_typed::Sub;
+use ada_typed::{Scalar, Sub};
 use run_parts::{Passed, Returned, Work, back_cells, find_sub, turned};
-use run_store::{End, Env, Leave, Port, Region, Store};
+use run_store::{End, Env, Leave, Port, Region, Store, is_in};
 
 /// A call, where so many more may be active.
 #[cycle(walk)]
@@ -36,6 +36,38 @@ pub fn call<P: Port + Drop>(
     } else {
         let returned = called(work, calls - 1, nested, sub, passed, store)?;
         Ok(returned)
+    }
+}
+
+/// A call of a function that combines accumulators, where so many more may be active: its parameters are checked after
+/// its turn.
+#[cycle(walk)]
+#[inline(never)]
+#[tactic(auto, unfolding(ada_stored::specs::Stored::bind, ada_stored::specs::Stored::ret, ada_stored::specs::Stored::leaves, ada_stored::specs::Stored::spent, ada_stored::specs::Stored::handles, run_parts::specs::Words::calls_of))]
+pub fn call_checked<P: Port + Drop>(
+    work: &Work<'_>,
+    calls: u32,
+    nested: u32,
+    sub: u32,
+    at: u32,
+    accumulator: Scalar,
+    value: Scalar,
+    a: i64,
+    b: i64,
+    passed: &[Passed],
+    store: &mut Store<P>,
+) -> Result<Returned, End>
+    ensures { ShowsAs returned_of P.Tells (words.calls_of work.now calls nested sub (spec.both_checked work.now calls at accumulator value a b) (passed_list work.now passed.now)) result store.old store.new }
+{
+    let _ = at;
+    turned(work, store)?;
+    if calls == 0 {
+        Err(End::Left(Leave::Raises(Reason::StorageError)))
+    } else if is_in(accumulator, a) && is_in(value, b) {
+        let returned = called(work, calls - 1, nested, sub, passed, store)?;
+        Ok(returned)
+    } else {
+        Err(End::Left(Leave::Raises(Reason::ConstraintError)))
     }
 }
 

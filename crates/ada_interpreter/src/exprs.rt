@@ -10,7 +10,7 @@ ghost use Rattle.run_parts.specs.Words.{nodes_of};
 use crate::actuals::pass;
 use crate::calls::call;
 use crate::chains::operators;
-use crate::folds::reduction;
+use crate::folds::{Fold, parallel_reduction, reduction};
 use crate::names::select;
 use ada_base::{Items, Reason};
 use ada_typed::{Check, Class, Comparison, Expr, Link, Root, Sign};
@@ -95,22 +95,23 @@ pub fn eval<P: Port + Drop>(
             attribute,
             reducer,
             initial,
-            site: None,
+            site,
+            chunk,
             iteration,
             value,
             ..
-        } => reduction(
-            work,
-            calls,
-            attribute,
-            work.typed.nodes.reducer(reducer),
-            initial,
-            iteration,
-            value,
-            env,
-            store,
-        ),
-        Expr::Reduction { .. } => Err(End::NoMemory),
+        } => {
+            let by = Fold {
+                attribute,
+                reducer: work.typed.nodes.reducer(reducer),
+                iteration,
+                value,
+            };
+            match site {
+                None => reduction(work, calls, by, initial, env, store),
+                Some(_) => parallel_reduction(work, calls, by, initial, chunk, env, store),
+            }
+        }
     }
 }
 

@@ -5,6 +5,7 @@ pub mod actuals;
 pub mod bodies;
 pub mod calls;
 pub mod chains;
+pub mod constructs;
 pub mod courses;
 pub mod exprs;
 pub mod folds;
