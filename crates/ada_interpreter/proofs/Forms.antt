@@ -1,50 +1,98 @@
 -- Forms of the language, as the functions that go by them.
-use Rattle.std.proofs.Common.{◌≡◌, ℕ, ℤ, List, [], ◌∷◌, ◌++◌, Bool, true, Option, Some, None, refl, sym, subst}
+use Rattle.std.proofs.Common.{◌≡◌, ◌&&◌, ◌+◌, ◌+ℤ◌, ◌-ℤ◌, pos, ℕ, ℤ, List, [], ◌∷◌, ◌++◌, Bool, true, false, cond, int_le, Option, Some, None, refl, sym, subst, ap, ◌∙◌}
 use Rattle.std.specs.Prelude.{Result, Ok, Err}
 use Rattle.behaviours.specs.Paths.{VariableOf}
 use Rattle.ada_typed.specs.declared.scalars.Scalar.{Scalar}
+use Rattle.ada_typed.specs.declared.scalars.Check.{Check}
 use Rattle.ada_typed.specs.declared.expressions.Root.{Root}
-use Rattle.ada_typed.specs.Syntax.{Expr, Selections, Index, Actuals, InOut}
-use Rattle.ada_meaning.specs.Values.{is_in}
+use Rattle.ada_typed.specs.Syntax.{Expr, Optional, Selections, Index, Actuals, InOut, Iteration, Range, Value, Number}
+use Rattle.ada_meaning.specs.Values.{is_in, count}
+use Rattle.ada_meaning.specs.Operations.{RangeCheck}
 use Rattle.ada_meaning.specs.Meaning as meaning
-use Rattle.ada_meaning.specs.Meaning.{Env, variable_root}
-use Rattle.ada_stored.specs.Stored.{Stored, ret, bind, reads}
+use Rattle.ada_meaning.specs.Meaning.{Env, variable_root, with_parameter}
+use Rattle.ada_stored.specs.Stored.{Stored, ret, bind, reads, writes, checks}
 use Rattle.run_store.specs.declared.ends.End.{End}
 use Rattle.run_store.specs.declared.env.Part.{Part}
+use Rattle.run_store.specs.declared.values.Range as code
 use Rattle.run_store.specs.Environment.{part_of}
 use Rattle.run_store.specs.Shows.{Image, ShowsAs, Shows}
-use Rattle.run_store.proofs.Going.{then_shows}
+use Rattle.run_store.proofs.Going.{goes_refl, goes_ends, then_shows, same_shows}
 use Rattle.run_parts.specs.declared.work.Work.{Work}
 use Rattle.run_parts.specs.declared.passed.Passed.{Passed}
-use Rattle.run_parts.specs.Passing.{passed_list}
-use Rattle.run_parts.specs.Words.{ops}
+use Rattle.run_parts.specs.declared.courses.Course.{Course}
+use Rattle.run_parts.specs.declared.courses.Course.TheVariants as course
+use Rattle.run_parts.specs.Passing.{passed_list, course_of}
+use Rattle.run_parts.specs.Words.{ops, bounds_hold, write_all}
 use Rattle.ada_interpreter.specs.Walk as walk
 
+abbrev given : (w : Work) (d formal at : ℕ) (inner outer : Scalar) → List meaning.Passed → meaning.Part → List ℤ → List meaning.Passed
+given w d formal at inner outer so_far p cs = so_far ++ (record { formal = VariableOf formal; cells = cs; back = walk.back_to w d p (inner ∷ []) (Some (record { at = at; scalar = outer })) } ∷ [])
+
+bounds_so : (w : Work) (check : Option Check) (low high : ℤ) → bounds_hold check low high ≡ true → meaning.bounds_checked (ops w) check low high ≡ ret tt
+bounds_so w None low high e = refl
+bounds_so w (Some c) low high e = go (int_le low high) (is_in c.scalar low && is_in c.scalar high) e
+  where
+    go : (a b : Bool) → cond a b true ≡ true → cond a (checks RangeCheck c.at b) (ret tt) ≡ ret tt
+    go true b e = rw e refl
+    go false b e = refl
+
 module _ {Tells : Type 0} (w : Work) (d : ℕ) (env : Env) (s t : Image) where
-  pub index_as : (at : ℕ) (e : Expr) (low high : ℤ) (stride : ℕ) (rest ss : Selections) (p : meaning.Part) (r : Result Part End) → ss ≡ Index at e low high stride rest
-      → ShowsAs part_of Tells (walk.index w d at e low high stride rest env p) r s t → ShowsAs part_of Tells (walk.select w d ss env p) r s t
+  pub index_as : (at : ℕ) (e : Expr) (low high a b : ℤ) (stride : ℕ) (rest ss : Selections) (p : meaning.Part) (r : Result Part End) → ShowsAs part_of Tells (walk.index w d at e a b stride rest env p) r s t → a ≡ low → b ≡ high → ss ≡ Index at e low high stride rest
+      → ShowsAs part_of Tells (walk.select w d ss env p) r s t
   unfolding walk.eval walk.select
-  index_as at e low high stride rest ss p r is h = subst (λ z. ShowsAs part_of Tells (walk.select w d z env p) r s t) (sym is) h
+  index_as at e low high a b stride rest ss p r h k l is =
+      subst (λ z. ShowsAs part_of Tells (walk.select w d z env p) r s t) (sym is)
+      (subst (λ z. ShowsAs part_of Tells (walk.index w d at e z high stride rest env p) r s t) k
+      (subst (λ z. ShowsAs part_of Tells (walk.index w d at e a z stride rest env p) r s t) l h))
 
-  module _ (formal at : ℕ) (root : Root) (ss : Selections) (inner outer : Scalar) (rest : Actuals) (so_far : List meaning.Passed) (r : Result (List Passed) End) where
-    pub in_out_as : (as' : Actuals) → as' ≡ InOut formal at root ss inner outer rest → ShowsAs (passed_list w) Tells (walk.pass_in_out w d formal at root ss inner outer rest env so_far) r s t → ShowsAs (passed_list w) Tells (walk.pass w d as' env so_far) r s t
+  module _ (formal at : ℕ) (root : Root) (ss : Selections) (inner outer : Scalar) (rest : Actuals) (so_far : List meaning.Passed) where
+    pub in_out_as : (r : Result (List Passed) End) (as' : Actuals) → ShowsAs (passed_list w) Tells (walk.pass_in_out w d formal at root ss inner outer rest env so_far) r s t → as' ≡ InOut formal at root ss inner outer rest → ShowsAs (passed_list w) Tells (walk.pass w d as' env so_far) r s t
     unfolding walk.select walk.pass
-    in_out_as as' is h = subst (λ z. ShowsAs (passed_list w) Tells (walk.pass w d z env so_far) r s t) (sym is) h
+    in_out_as r as' h is = subst (λ z. ShowsAs (passed_list w) Tells (walk.pass w d z env so_far) r s t) (sym is) h
 
-    abbrev given : meaning.Part → List ℤ → List meaning.Passed
-    given p cs = so_far ++ (record { formal = VariableOf formal; cells = cs; back = walk.back_to w d p (inner ∷ []) (Some (record { at = at; scalar = outer })) } ∷ [])
+    pub in_out_ends : (y : End) (r : Result (List Passed) End) (as' : Actuals) → r ≡ Err y → ShowsAs (passed_list w) Tells (walk.pass_in_out w d formal at root ss inner outer rest env so_far) (Err y) s t → as' ≡ InOut formal at root ss inner outer rest
+        → ShowsAs (passed_list w) Tells (walk.pass w d as' env so_far) r s t
+    in_out_ends y r as' q h is = subst (λ z. ShowsAs (passed_list w) Tells (walk.pass w d as' env so_far) z s t) (sym q) (in_out_as (Err y) as' h is)
 
-    pub in_out_on : (p : Part) (v : ℤ) (cs : List ℤ) (now : List meaning.Passed) (u : Image) → ShowsAs part_of Tells (walk.select w d ss env (variable_root root env)) (Ok p) s u → Shows Tells (reads (VariableOf p.object) p.offset) (Ok v) u u → is_in inner v ≡ true
-        → cs ≡ v ∷ [] → now ≡ given (part_of p) cs → ShowsAs (passed_list w) Tells (walk.pass w d rest env now) r u t → ShowsAs (passed_list w) Tells (walk.pass_in_out w d formal at root ss inner outer rest env so_far) r s t
+    pub in_out_on : (r : Result (List Passed) End) (from : meaning.Part) (p : Part) (v a : ℤ) (cs : List ℤ) (now : List meaning.Passed) (u : Image) → ShowsAs part_of Tells (walk.select w d ss env from) (Ok p) s u → from ≡ variable_root root env
+        → Shows Tells (reads (VariableOf p.object) p.offset) (Ok v) u u → is_in inner v ≡ true → cs ≡ a ∷ [] → a ≡ v → now ≡ given w d formal at inner outer so_far (part_of p) cs → ShowsAs (passed_list w) Tells (walk.pass w d rest env now) r u t
+        → ShowsAs (passed_list w) Tells (walk.pass_in_out w d formal at root ss inner outer rest env so_far) r s t
     unfolding ret
-    in_out_on p v cs now u h k yes e f l =
+    in_out_on r from p v a cs now u h q k within e same f l =
+        let on : meaning.Part → List ℤ → Stored (List meaning.Passed) = λ p cs. walk.pass w d rest env (given w d formal at inner outer so_far p cs) in
         then_shows part_of (passed_list w) (walk.select w d ss env (variable_root root env))
-        (λ p. bind (reads (VariableOf p.object) p.offset) (λ v. bind (meaning.checked (ops w) (record { at = at; scalar = inner }) v) (λ _. walk.pass w d rest env (given p (v ∷ [])))))
-        s u t p r h
+        (λ p. bind (reads (VariableOf p.object) p.offset) (λ v. bind (meaning.checked (ops w) (record { at = at; scalar = inner }) v) (λ _. on p (v ∷ []))))
+        s u t p r (subst (λ z. ShowsAs part_of Tells (walk.select w d ss env z) (Ok p) s u) q h)
         (then_shows (λ a. a) (passed_list w) (reads (VariableOf p.object) p.offset)
-        (λ v. bind (meaning.checked (ops w) (record { at = at; scalar = inner }) v) (λ _. walk.pass w d rest env (given (part_of p) (v ∷ []))))
+        (λ v. bind (meaning.checked (ops w) (record { at = at; scalar = inner }) v) (λ _. on (part_of p) (v ∷ [])))
         u u t v r k
-        (then_shows (λ a. a) (passed_list w) (meaning.checked (ops w) (record { at = at; scalar = inner }) v) (λ _. walk.pass w d rest env (given (part_of p) (v ∷ [])))
-        u u t tt r (refl, λ told. rw yes refl)
-        (subst (λ z. ShowsAs (passed_list w) Tells (walk.pass w d rest env (given (part_of p) z)) r u t) e
+        (then_shows (λ a. a) (passed_list w) (meaning.checked (ops w) (record { at = at; scalar = inner }) v) (λ _. on (part_of p) (v ∷ []))
+        u u t tt r (refl, λ told. rw within refl)
+        (subst (λ z. ShowsAs (passed_list w) Tells (on (part_of p) z) r u t) (e ∙ ap (λ z. z ∷ []) same)
         (subst (λ z. ShowsAs (passed_list w) Tells (walk.pass w d rest env z) r u t) f l))))
+
+  -- a range whose bounds are in its subtype
+  pub range_holds : (k : ℕ) (reverse : Bool) (low high : Expr) (check : Option Check) (filter : Optional) (it : Iteration) (l h : ℤ) (range : code.Range) (u : Image) → Shows Tells (walk.eval w d low env) (Ok l) s u → Shows Tells (walk.eval w d high env) (Ok h) u t
+      → range.low ≡ l → range.high ≡ h → bounds_hold check range.low range.high ≡ true → it ≡ Range k reverse low high check filter → ShowsAs course_of Tells (walk.course w d it env) (Ok (course.Values k reverse range)) s t
+  unfolding walk.course walk.eval ret
+  range_holds k reverse low high check filter it l h range u e f a b within is =
+      let done : ℤ → ℤ → Stored meaning.Course = λ l h. bind (meaning.bounds_checked (ops w) check l h) (λ _. ret (record { count = count l h; bound = λ i. with_parameter k (cond reverse (h -ℤ pos i) (l +ℤ pos i)) })) in
+      subst (λ z. ShowsAs course_of Tells (walk.course w d z env) (Ok (course.Values k reverse range)) s t) (sym is)
+      (then_shows (λ a. a) course_of (walk.eval w d low env) (λ l. bind (walk.eval w d high env) (λ h. done l h)) s u t range.low (Ok (course.Values k reverse range)) (subst (λ z. Shows Tells (walk.eval w d low env) (Ok z) s u) (sym a) e)
+      (then_shows (λ a. a) course_of (walk.eval w d high env) (λ h. done range.low h) u t t range.high (Ok (course.Values k reverse range)) (subst (λ z. Shows Tells (walk.eval w d high env) (Ok z) u t) (sym b) f)
+      (then_shows (λ a. a) course_of (meaning.bounds_checked (ops w) check range.low range.high) (λ _. ret (course_of (course.Values k reverse range))) t t t tt (Ok (course.Values k reverse range))
+      (same_shows (λ a. a) (meaning.bounds_checked (ops w) check range.low range.high) (ret tt) (Ok tt) t t (bounds_so w check range.low range.high within) (refl, λ told. refl))
+      (refl, λ told. refl))))
+
+  -- a number that is stored, up to the store
+  pub number_ends : (check : Check) (e : Expr) (v : Value) (p : meaning.Part) (x z : ℤ) (u : Image) (y : End) (r : Result (Unit {0}) End) → r ≡ Err y → Shows Tells (walk.eval w d e env) (Ok x) s u → is_in check.scalar x ≡ true → Shows Tells (writes p.object p.offset z) (Err y) u t → z ≡ x
+      → v ≡ Number check e → Shows Tells (walk.assigned w d v p env) r s t
+  unfolding walk.cells walk.eval write_all ret
+  number_ends check e v p x z u y r q h within k same is =
+      let put : List ℤ → Stored (Unit {0}) = λ cs. write_all w p.object p.offset cs in
+      subst (λ z. Shows Tells (walk.assigned w d v p env) z s t) (sym q)
+      (subst (λ z. Shows Tells (walk.assigned w d z p env) (Err y) s t) (sym is)
+      (then_shows (λ a. a) (λ a. a) (walk.number w d check e env) put s u t (x ∷ []) (Err y)
+      (then_shows (λ a. a) (λ a. a) (walk.eval w d e env) (λ v. bind (meaning.checked (ops w) check v) (λ _. ret (v ∷ []))) s u u x (Ok (x ∷ [])) h
+      (then_shows (λ a. a) (λ a. a) (meaning.checked (ops w) check x) (λ _. ret (x ∷ [])) u u u tt (Ok (x ∷ [])) (refl, λ told. rw within refl) (refl, λ told. refl)))
+      (goes_ends (λ a. a) (λ a. a) (put (x ∷ [])) (writes p.object p.offset x) (λ _. write_all w p.object (p.offset + 1) []) u u t y (goes_refl _ u) (subst (λ z. Shows Tells (writes p.object p.offset z) (Err y) u t) same k))))

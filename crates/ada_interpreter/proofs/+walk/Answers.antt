@@ -1,4 +1,4 @@
-use Rattle.std.proofs.Common.{rules, arith, ◌≡◌, suc, ◌-◌, ◌+◌, ◌<◌, ◌≤◌, subst, sym, refl, Ok, Err}
+use Rattle.std.proofs.Common.{rules, arith, ◌≡◌, suc, ◌-◌, ◌+◌, ◌<◌, ◌≤◌, subst, sym, refl, Ok, Err, ◌∙◌, to_z, of_z, w64}
 use Rattle.ada_typed.specs.Decoded.{stmts_at, stmt_at, optional_at, iteration_at, value_at, decls_at, handlers_at, body_at, expr_at, alternatives_at, actuals_at, selections_at}
 use Rattle.ada_typed.specs.Programs.{sub_of}
 use Rattle.behaviours.specs.Paths as paths
@@ -9,12 +9,13 @@ use Rattle.run_parts.specs.Caught.{caught}
 use Rattle.run_parts.proofs.Stepping.{next_fails}
 use Rattle.run_store.proofs.Going.{then_shows}
 use Rattle.run_parts.specs.Words.{nodes_of}
-use Rattle.ada_interpreter.specs.Walk.{exec_all, while_loop, for_loop, course, in_loop, run_values, fold}
+use Rattle.ada_interpreter.specs.Walk.{exec_all, while_loop, for_loop, course, in_loop, run_values, eval, fold_left, combined_onto}
 use Rattle.ada_interpreter.proofs.Looping.{while_begins, run_begins, all_step, all_ends, all_done, while_test_ends, while_stops, while_turn_ends, while_body_ends, while_step, while_spent, for_step, for_ends, for_done, for_begins, run_step, run_ends, run_done}
 use Rattle.ada_interpreter.proofs.Scoping.{body_as, call_ends, call_step, called_more, called_fails, formals_none, formals_more, formals_fails, default_more, default_fails, variable_ends, variable_more, variable_fails, constant_ends, constant_more, constant_fails}
 use Rattle.ada_interpreter.proofs.Handling.{caught_shows, chosen_some, chosen_none, guarded_other, guarded_some, guarded_none, alternative_some, alternative_none}
-use Rattle.ada_interpreter.proofs.Forms.{index_as, in_out_as, in_out_on}
-use Rattle.ada_interpreter.proofs.Folding.{fold_begins, fold_step, fold_ends, fold_done}
+use Rattle.ada_interpreter.proofs.Folding.{fold_step, fold_ends, fold_done, fold_none, fold_as, onto_step, onto_ends, onto_done}
+use Rattle.ada_interpreter.proofs.Chaining.{stands_begins, first_ends, stands_step, stands_ends, stands_done, all_below, last_below}
+use Rattle.ada_interpreter.proofs.Forms.{index_as, in_out_as, in_out_ends, in_out_on, range_holds, number_ends}
 use Rattle.ada_interpreter.proofs.+walk.Goals as goal
 
 pub stmts::exec_all-returns-in_err-exec : goal.stmts::exec_all-returns-in_err-exec
@@ -25,12 +26,6 @@ stmts::exec_all-loop-cell-preserved g t c = record { below = omega (arith, c.in-
 
 pub stmts::exec_all-returns : goal.stmts::exec_all-returns
 stmts::exec_all-returns g t c = all_done (exec_all c.args.work.now c.args.calls (stmts_at (nodes_of c.args.work.now) c.args.id) (env_of c.args.env.now)) c.args.store.now c.loop-cell.store c.args.work.now c.args.calls (env_of c.args.env.now) (stmts_at (nodes_of c.args.work.now) c.loop-cell.at) (search rules) c.loop-cell.invariant.on
-
-pub loops::for_loop-loop-i-init : goal.loops::for_loop-loop-i-init
-loops::for_loop-loop-i-init g t c = record { counted = search rules; on = for_begins c.args.store.now c.args.work.now c.args.calls (course_of c.args.course) (iteration_at (nodes_of c.args.work.now) c.args.iteration) (stmts_at (nodes_of c.args.work.now) c.args.stmts) (env_of c.args.env.now) }
-
-pub loops::for_loop-returns-in_err-iterate : goal.loops::for_loop-returns-in_err-iterate
-loops::for_loop-returns-in_err-iterate g t c = for_ends (for_loop c.args.work.now c.args.calls (course_of c.args.course) (iteration_at (nodes_of c.args.work.now) c.args.iteration) (stmts_at (nodes_of c.args.work.now) c.args.stmts) (env_of c.args.env.now)) c.args.store.now c.loop-i.store c.iterate.new.store c.args.work.now c.args.calls c.loop-i.i (course_of c.args.course) (iteration_at (nodes_of c.args.work.now) c.args.iteration) (stmts_at (nodes_of c.args.work.now) c.args.stmts) (env_of c.args.env.now) (subst (λ z. c.loop-i.i < z) c.loop-i.invariant.counted c.loop-i-test.true) c.loop-i.invariant.on c.in_err-iterate.field-0.0 _ (search rules) c.in_err-iterate.ensures
 
 pub calls::called-returns-in_ok-before-in-Some : goal.calls::called-returns-in_ok-before-in-Some
 calls::called-returns-in_ok-before-in-Some g t c = rw c.leave.ensures (called_more c.args.work.now c.args.calls c.args.number c.args.nested (passed_list c.args.work.now c.args.passed.now) (sub_of (nodes_of c.args.work.now) c.in-Some.sub) (search rules) c.in_ok-before-in-Some.before c.with_formals-result.result c.args.store.now c.enter.new.self c.with_formals-result.new.store c.in_ok-before-in-Some.ensures c.with_formals-result.ensures)
@@ -102,25 +97,70 @@ pub values::run_values-returns-in_err-first : goal.values::run_values-returns-in
 values::run_values-returns-in_err-first g t c = next_fails (λ next. next ≡ c.loop-k.first + c.args.run.stride) (run_values c.args.work.now c.args.calls 0 c.args.run.count c.args.run.first c.args.run.stride c.args.iterated (value_at (nodes_of c.args.work.now) c.args.value) (env_of c.args.env.now) c.args.out) (run_values c.args.work.now c.args.calls (c.loop-k.k + 1) (c.args.run.count - (c.loop-k.k + 1)) (c.loop-k.first + c.args.run.stride) c.args.run.stride c.args.iterated (value_at (nodes_of c.args.work.now) c.args.value) (env_of c.args.env.now) c.lay.new.out) c.args.store.now c.given.new.store _ c.in_err-first.field-0.0 (search rules) c.in_err-first.ensures (run_step (run_values c.args.work.now c.args.calls 0 c.args.run.count c.args.run.first c.args.run.stride c.args.iterated (value_at (nodes_of c.args.work.now) c.args.value) (env_of c.args.env.now) c.args.out) c.args.store.now c.loop-k.store c.given.new.store c.args.work.now c.args.calls c.loop-k.k c.args.run.count c.loop-k.first c.args.run.stride c.args.iterated (value_at (nodes_of c.args.work.now) c.args.value) (env_of c.args.env.now) c.loop-k.cells (omega arith) c.loop-k.invariant c.in_ok-values.values c.lay.new.out (c.loop-k.first + c.args.run.stride) c.in_ok-values.ensures (search rules) refl)
 
 pub names::select-returns-in-Some-Index : goal.names::select-returns-in-Some-Index
-names::select-returns-in-Some-Index g t c = index_as c.args.work.now c.args.calls (env_of c.args.env.now) c.args.store.now c.index.new.store c.in-Some-Index.at (expr_at (nodes_of c.args.work.now) c.in-Some-Index.value) c.in-Some-Index.low c.in-Some-Index.high c.in-Some-Index.stride (selections_at (nodes_of c.args.work.now) c.in-Some.cell.rest) (selections_at (nodes_of c.args.work.now) c.args.id) (part_of c.args.part) c.index.result (search rules) c.index.ensures
+names::select-returns-in-Some-Index g t c = index_as c.args.work.now c.args.calls (env_of c.args.env.now) c.args.store.now c.index.new.store c.in-Some-Index.at (expr_at (nodes_of c.args.work.now) c.in-Some-Index.value) c.in-Some-Index.low c.in-Some-Index.high _ _ c.in-Some-Index.stride (selections_at (nodes_of c.args.work.now) c.in-Some.cell.rest) (selections_at (nodes_of c.args.work.now) c.args.id) (part_of c.args.part) c.index.result c.index.ensures (search rules) (search rules) (search rules)
 
 pub actuals::pass-returns-in_err-all-in-Some-InOut : goal.actuals::pass-returns-in_err-all-in-Some-InOut
-actuals::pass-returns-in_err-all-in-Some-InOut g t c = in_out_as c.args.work.now c.args.calls (env_of c.args.env.now) c.args.store.now c.pass_in_out.new.store c.in-Some-InOut.formal c.in-Some-InOut.at c.in-Some-InOut.root (selections_at (nodes_of c.args.work.now) c.in-Some-InOut.selections) _ _ (actuals_at (nodes_of c.args.work.now) c.in-Some.cell.rest) (passed_list c.args.work.now c.args.passed) c.from_residual-in_err-all-in-Some-InOut.result (actuals_at (nodes_of c.args.work.now) c.args.id) (search rules) (search rules)
+actuals::pass-returns-in_err-all-in-Some-InOut g t c = in_out_ends c.args.work.now c.args.calls (env_of c.args.env.now) c.args.store.now c.pass_in_out.new.store c.in-Some-InOut.formal c.in-Some-InOut.at c.in-Some-InOut.root (selections_at (nodes_of c.args.work.now) c.in-Some-InOut.selections) _ _ (actuals_at (nodes_of c.args.work.now) c.in-Some.cell.rest) (passed_list c.args.work.now c.args.passed) c.in_err-all-in-Some-InOut.field-0.0 _ (actuals_at (nodes_of c.args.work.now) c.args.id) (search rules) c.in_err-all-in-Some-InOut.ensures (search rules)
 
 pub actuals::pass-returns-in_ok-all-in-Some-InOut : goal.actuals::pass-returns-in_ok-all-in-Some-InOut
-actuals::pass-returns-in_ok-all-in-Some-InOut g t c = in_out_as c.args.work.now c.args.calls (env_of c.args.env.now) c.args.store.now c.pass_in_out.new.store c.in-Some-InOut.formal c.in-Some-InOut.at c.in-Some-InOut.root (selections_at (nodes_of c.args.work.now) c.in-Some-InOut.selections) _ _ (actuals_at (nodes_of c.args.work.now) c.in-Some.cell.rest) (passed_list c.args.work.now c.args.passed) (Ok c.in_ok-all-in-Some-InOut.all) (actuals_at (nodes_of c.args.work.now) c.args.id) (search rules) c.in_ok-all-in-Some-InOut.ensures
+actuals::pass-returns-in_ok-all-in-Some-InOut g t c = in_out_as c.args.work.now c.args.calls (env_of c.args.env.now) c.args.store.now c.pass_in_out.new.store c.in-Some-InOut.formal c.in-Some-InOut.at c.in-Some-InOut.root (selections_at (nodes_of c.args.work.now) c.in-Some-InOut.selections) _ _ (actuals_at (nodes_of c.args.work.now) c.in-Some.cell.rest) (passed_list c.args.work.now c.args.passed) (Ok c.in_ok-all-in-Some-InOut.all) (actuals_at (nodes_of c.args.work.now) c.args.id) c.in_ok-all-in-Some-InOut.ensures (search rules)
 
 pub actuals::pass_in_out-returns-in_err-all : goal.actuals::pass_in_out-returns-in_err-all
-actuals::pass_in_out-returns-in_err-all g t c = in_out_on c.args.work.now c.args.calls (env_of c.args.env.now) c.args.store.now c.pass.new.store c.args.formal c.args.at c.args.root (selections_at (nodes_of c.args.work.now) c.args.selections) c.args.inside c.args.outside (actuals_at (nodes_of c.args.work.now) c.args.rest) (passed_list c.args.work.now c.args.passed) c.from_residual-in_err-all.result c.in_ok-part.part c.in_ok-value.value c.in_ok-values.values (passed_list c.args.work.now c.in_ok-more.more) c.select.new.store c.in_ok-part.ensures c.in_ok-value.ensures (search rules) c.in_ok-values.ensures c.in_ok-more.ensures (search rules)
+actuals::pass_in_out-returns-in_err-all g t c = in_out_on c.args.work.now c.args.calls (env_of c.args.env.now) c.args.store.now c.pass.new.store c.args.formal c.args.at c.args.root (selections_at (nodes_of c.args.work.now) c.args.selections) c.args.inside c.args.outside (actuals_at (nodes_of c.args.work.now) c.args.rest) (passed_list c.args.work.now c.args.passed) c.from_residual-in_err-all.result (part_of c.variable_root.result) c.in_ok-part.part c.in_ok-value.value _ c.in_ok-values.values (passed_list c.args.work.now c.in_ok-more.more) c.select.new.store c.in_ok-part.ensures c.variable_root.ensures c.in_ok-value.ensures (search rules) c.in_ok-values.ensures (search rules) c.in_ok-more.ensures (search rules)
 
-pub folds::fold-loop-i-init : goal.folds::fold-loop-i-init
-folds::fold-loop-i-init g t c = record { counted = search rules; on = fold_begins c.args.work.now c.args.calls c.args.attribute c.args.reducer (course_of c.args.course) (iteration_at (nodes_of c.args.work.now) c.args.iteration) (expr_at (nodes_of c.args.work.now) c.args.value) (env_of c.args.env.now) c.args.store.now c.args.start }
+pub courses::begin_course-returns-then-bounds_hold : goal.courses::begin_course-returns-then-bounds_hold
+courses::begin_course-returns-then-bounds_hold g t c = range_holds c.args.work.now c.args.calls (env_of c.args.env.now) c.args.store.now c.eval-in-Some-Range.new.store c.in-Some-Range.parameter c.in-Some-Range.reverse (expr_at (nodes_of c.args.work.now) c.in-Some-Range.low) (expr_at (nodes_of c.args.work.now) c.in-Some-Range.high) c.check.result (optional_at (nodes_of c.args.work.now) c.in-Some-Range.field-0-5) (iteration_at (nodes_of c.args.work.now) c.args.id) c.in_ok-l-in-Some-Range.l c.in_ok-h-in-Some-Range.h (record { low = to_z w64 (of_z w64 c.in_ok-l-in-Some-Range.l); high = to_z w64 (of_z w64 c.in_ok-h-in-Some-Range.h) }) c.eval.new.store c.in_ok-l-in-Some-Range.ensures c.in_ok-h-in-Some-Range.ensures (search rules) (search rules) (sym c.bounds_hold.ensures ∙ c.if-bounds_hold.true) (search rules)
+
+pub values::assigned-returns-in_err-write-in-Some-Number : goal.values::assigned-returns-in_err-write-in-Some-Number
+values::assigned-returns-in_err-write-in-Some-Number g t c = number_ends c.args.work.now c.args.calls (env_of c.args.env.now) c.args.store.now c.write.new.self c.in-Some-Number.check (expr_at (nodes_of c.args.work.now) c.in-Some-Number.value) (value_at (nodes_of c.args.work.now) c.args.id) (part_of c.args.part) c.in_ok-x-in-Some-Number.x _ c.eval.new.store c.in_err-write-in-Some-Number.field-0.0 _ (search rules) c.in_ok-x-in-Some-Number.ensures (search rules) c.in_err-write-in-Some-Number.ensures (search rules) (search rules)
+
+pub chains::chain-loop-link-init : goal.chains::chain-loop-link-init
+chains::chain-loop-link-init g t c = record { below = c.in_ok-chain.ensures.2; on = stands_begins c.args.work.now c.args.calls (env_of c.args.env.now) (expr_at (nodes_of c.args.work.now) c.args.id) c.in_ok-chain.chain.links (expr_at (nodes_of c.args.work.now) c.in_ok-chain.chain.first) c.in_ok-chain.ensures.0 c.args.store.now c.eval.new.store c.in_ok-value.value c.in_ok-value.ensures }
+
+pub chains::chain-returns-in_err-value : goal.chains::chain-returns-in_err-value
+chains::chain-returns-in_err-value g t c = first_ends c.args.work.now c.args.calls (env_of c.args.env.now) (expr_at (nodes_of c.args.work.now) c.args.id) c.in_ok-chain.chain.links (expr_at (nodes_of c.args.work.now) c.in_ok-chain.chain.first) c.in_ok-chain.ensures.0 c.args.store.now c.eval.new.store c.in_err-value.field-0.0 _ (search rules) c.in_err-value.ensures
+
+pub chains::chain-loop-link-preserved : goal.chains::chain-loop-link-preserved
+chains::chain-loop-link-preserved g t c = record { below = all_below c.args.id c.loop-link.links c.pop.new.self c.in-Some.link c.in-Some.ensures c.loop-link.invariant.below; on = stands_step c.args.work.now c.args.calls (env_of c.args.env.now) (eval c.args.work.now c.args.calls (expr_at (nodes_of c.args.work.now) c.args.id) (env_of c.args.env.now)) c.args.store.now c.loop-link.links c.pop.new.self c.in-Some.link c.loop-link.value _ c.loop-link.store c.operator.new.store c.in-Some.ensures c.loop-link.invariant.on c.in_ok-operator.ensures }
+
+pub chains::chain-returns-in_err-operator : goal.chains::chain-returns-in_err-operator
+chains::chain-returns-in_err-operator g t c = stands_ends c.args.work.now c.args.calls (env_of c.args.env.now) (eval c.args.work.now c.args.calls (expr_at (nodes_of c.args.work.now) c.args.id) (env_of c.args.env.now)) c.args.store.now c.loop-link.links c.pop.new.self c.in-Some.link c.loop-link.value c.loop-link.store c.operator.new.store c.in_err-operator.field-0.0 _ (search rules) c.in-Some.ensures c.loop-link.invariant.on c.in_err-operator.ensures
+
+pub chains::chain-returns : goal.chains::chain-returns
+chains::chain-returns g t c = stands_done c.args.work.now c.args.calls (env_of c.args.env.now) (eval c.args.work.now c.args.calls (expr_at (nodes_of c.args.work.now) c.args.id) (env_of c.args.env.now)) c.args.store.now c.loop-link.links c.loop-link.value c.loop-link.store (search rules) c.loop-link.invariant.on
+
+pub loops::for_loop-loop-i-init : goal.loops::for_loop-loop-i-init
+loops::for_loop-loop-i-init g t c = record { counted = search rules; on = for_begins c.args.store.now c.args.work.now c.args.calls (course_of c.args.course) (iteration_at (nodes_of c.args.work.now) c.args.iteration) (stmts_at (nodes_of c.args.work.now) c.args.stmts) (env_of c.args.env.now) }
+
+pub loops::for_loop-returns-in_err-iterate : goal.loops::for_loop-returns-in_err-iterate
+loops::for_loop-returns-in_err-iterate g t c = for_ends (for_loop c.args.work.now c.args.calls (course_of c.args.course) (iteration_at (nodes_of c.args.work.now) c.args.iteration) (stmts_at (nodes_of c.args.work.now) c.args.stmts) (env_of c.args.env.now)) c.args.store.now c.loop-i.store c.iterate.new.store c.args.work.now c.args.calls c.loop-i.i (course_of c.args.course) (iteration_at (nodes_of c.args.work.now) c.args.iteration) (stmts_at (nodes_of c.args.work.now) c.args.stmts) (env_of c.args.env.now) (omega (arith, c.loop-i.invariant.counted)) c.loop-i.invariant.on c.in_err-iterate.field-0.0 _ (search rules) c.in_err-iterate.ensures
+
+pub loops::for_loop-loop-i-preserved : goal.loops::for_loop-loop-i-preserved
+loops::for_loop-loop-i-preserved g t c = record { counted = c.loop-i.invariant.counted; on = for_step (for_loop c.args.work.now c.args.calls (course_of c.args.course) (iteration_at (nodes_of c.args.work.now) c.args.iteration) (stmts_at (nodes_of c.args.work.now) c.args.stmts) (env_of c.args.env.now)) c.args.store.now c.loop-i.store c.iterate.new.store c.args.work.now c.args.calls c.loop-i.i (course_of c.args.course) (iteration_at (nodes_of c.args.work.now) c.args.iteration) (stmts_at (nodes_of c.args.work.now) c.args.stmts) (env_of c.args.env.now) (omega (arith, c.loop-i.invariant.counted)) c.loop-i.invariant.on c.in_ok-iterate.ensures }
+
+pub loops::for_loop-returns-in-Some : goal.loops::for_loop-returns-in-Some
+loops::for_loop-returns-in-Some g t c = for_done (for_loop c.args.work.now c.args.calls (course_of c.args.course) (iteration_at (nodes_of c.args.work.now) c.args.iteration) (stmts_at (nodes_of c.args.work.now) c.args.stmts) (env_of c.args.env.now)) c.args.store.now c.loop-i.store c.args.work.now c.args.calls c.loop-i.i (course_of c.args.course) (iteration_at (nodes_of c.args.work.now) c.args.iteration) (stmts_at (nodes_of c.args.work.now) c.args.stmts) (env_of c.args.env.now) (omega (arith, c.loop-i.invariant.counted)) c.loop-i.invariant.on
 
 pub folds::fold-returns-in_err-fold_one : goal.folds::fold-returns-in_err-fold_one
-folds::fold-returns-in_err-fold_one g t c = fold_ends c.args.work.now c.args.calls c.args.attribute c.args.reducer (course_of c.args.course) (iteration_at (nodes_of c.args.work.now) c.args.iteration) (expr_at (nodes_of c.args.work.now) c.args.value) (env_of c.args.env.now) (fold c.args.work.now c.args.calls c.args.attribute c.args.reducer (course_of c.args.course) (iteration_at (nodes_of c.args.work.now) c.args.iteration) (expr_at (nodes_of c.args.work.now) c.args.value) c.args.start (env_of c.args.env.now)) c.args.store.now c.loop-i.store c.fold_one.new.store c.loop-i.i c.loop-i.total (subst (λ z. c.loop-i.i < z) c.loop-i.invariant.counted c.loop-i-test.true) c.loop-i.invariant.on c.in_err-fold_one.field-0.0 _ (search rules) c.in_err-fold_one.ensures
+folds::fold-returns-in_err-fold_one g t c = fold_ends c.args.work.now c.args.calls c.args.by (course_of c.args.course) (env_of c.args.env.now) (fold_left c.args.work.now c.args.calls c.args.by c.args.first (suc c.args.last - c.args.first) (course_of c.args.course) c.args.start (env_of c.args.env.now)) c.args.store.now c.loop-i.store c.fold_one.new.store c.loop-i.i (suc c.args.last) c.loop-i.total (omega arith) c.loop-i.invariant c.in_err-fold_one.field-0.0 _ (search rules) c.in_err-fold_one.ensures
 
 pub folds::fold-loop-i-preserved : goal.folds::fold-loop-i-preserved
-folds::fold-loop-i-preserved g t c = record { counted = c.loop-i.invariant.counted; on = fold_step c.args.work.now c.args.calls c.args.attribute c.args.reducer (course_of c.args.course) (iteration_at (nodes_of c.args.work.now) c.args.iteration) (expr_at (nodes_of c.args.work.now) c.args.value) (env_of c.args.env.now) (fold c.args.work.now c.args.calls c.args.attribute c.args.reducer (course_of c.args.course) (iteration_at (nodes_of c.args.work.now) c.args.iteration) (expr_at (nodes_of c.args.work.now) c.args.value) c.args.start (env_of c.args.env.now)) c.args.store.now c.loop-i.store c.fold_one.new.store c.loop-i.i c.loop-i.total (subst (λ z. c.loop-i.i < z) c.loop-i.invariant.counted c.loop-i-test.true) c.loop-i.invariant.on _ c.in_ok-fold_one.ensures }
+folds::fold-loop-i-preserved g t c = fold_step c.args.work.now c.args.calls c.args.by (course_of c.args.course) (env_of c.args.env.now) (fold_left c.args.work.now c.args.calls c.args.by c.args.first (suc c.args.last - c.args.first) (course_of c.args.course) c.args.start (env_of c.args.env.now)) c.args.store.now c.loop-i.store c.fold_one.new.store c.loop-i.i (suc c.args.last) c.loop-i.total (omega arith) c.loop-i.invariant _ c.in_ok-fold_one.ensures
 
 pub folds::fold-returns : goal.folds::fold-returns
-folds::fold-returns g t c = fold_done c.args.work.now c.args.calls c.args.attribute c.args.reducer (course_of c.args.course) (iteration_at (nodes_of c.args.work.now) c.args.iteration) (expr_at (nodes_of c.args.work.now) c.args.value) (env_of c.args.env.now) (fold c.args.work.now c.args.calls c.args.attribute c.args.reducer (course_of c.args.course) (iteration_at (nodes_of c.args.work.now) c.args.iteration) (expr_at (nodes_of c.args.work.now) c.args.value) c.args.start (env_of c.args.env.now)) c.args.store.now c.loop-i.store c.loop-i.i c.loop-i.total (subst (λ z. z ≤ c.loop-i.i) c.loop-i.invariant.counted c.loop-i-test.false) c.loop-i.invariant.on
+folds::fold-returns g t c = fold_done c.args.work.now c.args.calls c.args.by (course_of c.args.course) (env_of c.args.env.now) (fold_left c.args.work.now c.args.calls c.args.by c.args.first (suc c.args.last - c.args.first) (course_of c.args.course) c.args.start (env_of c.args.env.now)) c.args.store.now c.loop-i.store c.loop-i.store c.loop-i.i (suc c.args.last) c.loop-i.total (omega arith) c.loop-i.invariant
+
+pub folds::fold_all-returns-in-None : goal.folds::fold_all-returns-in-None
+folds::fold_all-returns-in-None g t c = fold_none c.args.work.now c.args.calls c.args.by (course_of c.args.course) (env_of c.args.env.now) (course_of c.args.course).count c.args.start c.args.store.now (search rules)
+
+pub folds::fold_all-returns-in_ok-total-in-Some : goal.folds::fold_all-returns-in_ok-total-in-Some
+folds::fold_all-returns-in_ok-total-in-Some g t c = fold_as c.args.work.now c.args.calls c.args.by (course_of c.args.course) (env_of c.args.env.now) 0 _ (course_of c.args.course).count _ _ c.args.store.now c.fold.new.store (omega (arith, c.in-Some.ensures)) c.in_ok-total-in-Some.ensures
+
+pub folds::combined_onto-returns-in_err-combined_two : goal.folds::combined_onto-returns-in_err-combined_two
+folds::combined_onto-returns-in_err-combined_two g t c = onto_ends c.args.work.now c.args.calls c.args.by c.args.nested (combined_onto c.args.work.now c.args.calls c.args.by c.args.nested c.args.first c.args.values.now) c.args.store.now c.loop-value.store c.combined_two.new.store c.loop-value.total c.args.values.now c.loop-value.k c.loop-value.invariant c.in-Some.value (search rules) c.in_err-combined_two.field-0.0 _ (search rules) c.in_err-combined_two.ensures
+
+pub folds::combined_onto-loop-value-preserved : goal.folds::combined_onto-loop-value-preserved
+folds::combined_onto-loop-value-preserved g t c = onto_step c.args.work.now c.args.calls c.args.by c.args.nested (combined_onto c.args.work.now c.args.calls c.args.by c.args.nested c.args.first c.args.values.now) c.args.store.now c.loop-value.store c.combined_two.new.store c.loop-value.total c.args.values.now c.loop-value.k c.loop-value.invariant c.in-Some.value (search rules) _ c.in_ok-combined_two.ensures
+
+pub folds::combined_onto-returns : goal.folds::combined_onto-returns
+folds::combined_onto-returns g t c = onto_done c.args.work.now c.args.calls c.args.by c.args.nested (combined_onto c.args.work.now c.args.calls c.args.by c.args.nested c.args.first c.args.values.now) c.args.store.now c.loop-value.store c.loop-value.store c.loop-value.total c.args.values.now c.loop-value.k c.loop-value.invariant (search rules)
