@@ -1,5 +1,5 @@
 -- Parallel constructs, as the functions that go by them.
-use Rattle.std.proofs.Common.{◌≡◌, ℕ, suc, min, ℤ, List, [], ◌∷◌, Option, Some, None, refl, sym, subst, ap, ◌∙◌}
+use Rattle.std.proofs.Common.{◌≡◌, ◌<◌, ◌≤◌, ◌+◌, ◌-◌, arith, ℕ, suc, min, ℤ, List, [], ◌∷◌, Option, Some, None, refl, sym, subst, ap, ◌∙◌}
 use Rattle.std.specs.Prelude.{Result, Ok, Err}
 use Rattle.ada_base.specs.Cuts.{evens, cuts_of}
 use Rattle.ada_typed.specs.Syntax.{Expr, Chunk, Iteration, Stmts, Arms, NoArm, Arm, Optional}
@@ -8,10 +8,11 @@ use Rattle.ada_meaning.specs.Meaning as meaning
 use Rattle.ada_meaning.specs.Meaning.{Env, Course, inside}
 use Rattle.ada_stored.specs.Stored
 use Rattle.ada_stored.specs.Stored.{Stored, bind, ret}
+use Rattle.ada_stored.proofs.Computing.{through_more, through_done}
 use Rattle.run_store.specs.declared.ends.End.{End}
 use Rattle.run_store.specs.declared.ends.End.TheVariants as end
-use Rattle.run_store.specs.Shows.{Image, ShowsAs, Shows}
-use Rattle.run_store.proofs.Going.{goes_refl, goes_ends, then_shows, same_shows}
+use Rattle.run_store.specs.Shows.{Image, Goes, ShowsAs, Shows}
+use Rattle.run_store.proofs.Going.{goes_refl, goes_instead, goes_then, goes_ends, goes_gives, then_shows, same_shows}
 use Rattle.run_parts.specs.declared.work.Work.{Work}
 use Rattle.run_parts.specs.declared.chunks.Chunking.{Chunking}
 use Rattle.run_parts.specs.declared.chunks.Chunking.TheVariants as chunking
@@ -112,6 +113,29 @@ module _ {Tells : Type 0} (w : Work) (d n : ℕ) (k : Chunking) (it : Iteration)
       subst (λ z. Shows Tells (walk.chunked_loop w d n (chunking_of k) it ss env) z s u) (sym q)
       (then_shows course_of (λ a. a) (walk.course w d it env) after s t u c (Err e) h
       (goes_ends (λ a. a) (λ a. a) _ (count_checked w (course_of c).count) (λ _. walk.dealt_loop w d n (chunking_of k) (course_of c) it ss env) t t u e (goes_refl _ t) many))
+
+-- ---- what a thread goes through
+
+module _ {Tells : Type 0} (w : Work) (d : ℕ) (task : Task) (number : ℕ) (env : Env) where
+  pub share_begins : (s : Image) (first size last : ℕ) → last ≡ first + size → Goes Tells (walk.share_run w d task env (record { number = number; first = first; size = size })) s (walk.share_left w d task number first (last - first) env) s
+  unfolding walk.share_run
+  share_begins s first size last e =
+      let q : last - first ≡ size = omega (arith, e) in
+      subst (λ z. Goes Tells (walk.share_run w d task env (record { number = number; first = first; size = size })) s (walk.share_left w d task number first z env) s) (sym q) (goes_refl _ s)
+
+  module _ (whole : Stored (Unit {0})) (s t u : Image) (i n : ℕ) where
+    module _ (lt : i < n) (g : Goes Tells whole s (walk.share_left w d task number i (n - i) env) t) where
+      share_more : Goes Tells whole s (bind (walk.task_turn w d task number i env) (λ _. walk.share_left w d task number (i + 1) (n - (i + 1)) env)) t
+      share_more = goes_instead whole _ _ s t (through_more i n tt (λ i _. walk.task_turn w d task number i env) lt) g
+
+      pub share_step : Shows Tells (walk.task_turn w d task number i env) (Ok tt) t u → Goes Tells whole s (walk.share_left w d task number (i + 1) (n - (i + 1)) env) u
+      share_step h = goes_then (λ a. a) (λ a. a) whole (walk.task_turn w d task number i env) (λ _. walk.share_left w d task number (i + 1) (n - (i + 1)) env) s t u tt share_more h
+
+      pub share_ends : (e : End) (r : Result (Unit {0}) End) → r ≡ Err e → Shows Tells (walk.task_turn w d task number i env) (Err e) t u → Shows Tells whole r s u
+      share_ends e r q h = subst (λ z. Shows Tells whole z s u) (sym q) (goes_ends (λ a. a) (λ a. a) whole (walk.task_turn w d task number i env) (λ _. walk.share_left w d task number (i + 1) (n - (i + 1)) env) s t u e share_more h)
+
+    pub share_done : n ≤ i → Goes Tells whole s (walk.share_left w d task number i (n - i) env) t → Shows Tells whole (Ok tt) s t
+    share_done le g = goes_gives (λ a. a) whole tt s t (goes_instead whole _ _ s t (through_done i n tt (λ i _. walk.task_turn w d task number i env) le) g)
 
 -- ---- arms
 

@@ -62,7 +62,9 @@ pub fn parallel_for<P: Port + Drop>(
     let inner = inside(&*env)?;
     opened(work, env, store)?;
     let chunking = begin_chunks(work, calls, chunk, &inner, store)?;
-    chunked_loop(work, calls, number, chunking, iteration, stmts, &inner, store)?;
+    chunked_loop(
+        work, calls, number, chunking, iteration, stmts, &inner, store,
+    )?;
     Ok(())
 }
 
@@ -82,7 +84,9 @@ fn chunked_loop<P: Port + Drop>(
 {
     let course = begin_course(work, calls, iteration, env, store)?;
     check_count(work, course, store)?;
-    dealt_loop(work, calls, number, chunking, course, iteration, stmts, env, store)?;
+    dealt_loop(
+        work, calls, number, chunking, course, iteration, stmts, env, store,
+    )?;
     Ok(())
 }
 
@@ -147,7 +151,14 @@ fn dealt_arms<P: Port + Drop>(
 {
     let count = count_arms(work, arms)?;
     let sizes = even_sizes(work, u64::from(count), most.min(count))?;
-    run_threads(work, calls, Task::Arms { arms }, sizes.as_slice(), env, store)?;
+    run_threads(
+        work,
+        calls,
+        Task::Arms { arms },
+        sizes.as_slice(),
+        env,
+        store,
+    )?;
     Ok(())
 }
 
@@ -244,11 +255,7 @@ fn run_threads<P: Port + Drop>(
         k += 1;
     }
     store.rewind(most);
-    if over {
-        Err(End::Spent)
-    } else {
-        Ok(())
-    }
+    if over { Err(End::Spent) } else { Ok(()) }
 }
 
 #[cycle(walk)]

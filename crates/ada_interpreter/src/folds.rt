@@ -247,8 +247,26 @@ fn dealt_fold<P: Port + Drop>(
     let inner = inside(&*env)?;
     let count = course.count()?;
     let sizes = fold_sizes(work, chunking, count)?;
-    let values = fold_threads(work, calls, by, chunking, course, start, sizes.as_slice(), &inner, store)?;
-    let total = combined(work, calls, by, env.nested(), start, values.as_slice(), store)?;
+    let values = fold_threads(
+        work,
+        calls,
+        by,
+        chunking,
+        course,
+        start,
+        sizes.as_slice(),
+        &inner,
+        store,
+    )?;
+    let total = combined(
+        work,
+        calls,
+        by,
+        env.nested(),
+        start,
+        values.as_slice(),
+        store,
+    )?;
     Ok(total)
 }
 
@@ -276,7 +294,9 @@ fn fold_threads<P: Port + Drop>(
     let mut k = 0;
     while let Some(size) = size_at(sizes, k) {
         store.rewind(from);
-        let folded = fold_thread(work, calls, by, chunking, course, start, most, k as u64, first, size, env, store)?;
+        let folded = fold_thread(
+            work, calls, by, chunking, course, start, most, k as u64, first, size, env, store,
+        )?;
         most = folded.most;
         over = over || folded.value.is_none();
         push_some(&mut values, folded.value)?;
@@ -284,11 +304,7 @@ fn fold_threads<P: Port + Drop>(
         k += 1;
     }
     store.rewind(most);
-    if over {
-        Err(End::Spent)
-    } else {
-        Ok(values)
-    }
+    if over { Err(End::Spent) } else { Ok(values) }
 }
 
 #[cycle(walk)]
@@ -310,7 +326,9 @@ fn fold_thread<P: Port + Drop>(
 ) -> Result<Folded, End>
     ensures { ShowsAs folded_of P.Tells (spec.thread_folded work.now calls by (chunking_of chunking) (course_of course) start most (record { number = number; first = first; size = size }) (env_of env.now)) result store.old store.new }
 {
-    match fold_share(work, calls, by, chunking, course, start, number, first, size, env, store) {
+    match fold_share(
+        work, calls, by, chunking, course, start, number, first, size, env, store,
+    ) {
         Ok(value) => Ok(Folded {
             value: Some(value),
             most: most.max(store.turns()),

@@ -41,7 +41,11 @@ pub fn inside<'a>(outer: &'a Env<'a>) -> Result<Env<'a>, End>
 }
 
 /// Whether a construct may have so many iterations (5.5).
-pub fn check_count<P: Port + Drop>(work: &Work<'_>, course: Course, store: &Store<P>) -> Result<(), End>
+pub fn check_count<P: Port + Drop>(
+    work: &Work<'_>,
+    course: Course,
+    store: &Store<P>,
+) -> Result<(), End>
     ensures { Shows P.Tells (spec.count_checked work.now (course_of course).count) result store.now store.now }
 {
     match course.last() {

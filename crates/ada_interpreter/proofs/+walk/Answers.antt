@@ -1,21 +1,26 @@
-use Rattle.std.proofs.Common.{rules, arith, ◌≡◌, suc, ◌-◌, ◌+◌, ◌<◌, ◌≤◌, subst, sym, refl, Ok, Err, ◌∙◌, to_z, of_z, w64}
-use Rattle.ada_typed.specs.Decoded.{stmts_at, stmt_at, optional_at, iteration_at, value_at, decls_at, handlers_at, body_at, expr_at, alternatives_at, actuals_at, selections_at}
+use Rattle.std.proofs.Common.{rules, arith, ◌≡◌, suc, ◌-◌, ◌+◌, ◌<◌, ◌≤◌, [], subst, sym, refl, Ok, Err, ◌∙◌, to_z, of_z, w64}
+use Rattle.ada_typed.specs.Decoded.{stmts_at, stmt_at, optional_at, iteration_at, value_at, decls_at, handlers_at, body_at, expr_at, alternatives_at, arms_at, chunk_at, actuals_at, selections_at}
 use Rattle.ada_typed.specs.Programs.{sub_of}
 use Rattle.behaviours.specs.Paths as paths
 use Rattle.run_store.specs.Environment.{env_of, part_of}
 use Rattle.run_store.specs.Shows.{region_of}
 use Rattle.run_parts.specs.Passing.{course_of, passed_list}
+use Rattle.run_parts.specs.Dealing.{chunking_of}
+use Rattle.ada_stored.specs.Stored.{first_of_both, after_all}
 use Rattle.run_parts.specs.Caught.{caught}
 use Rattle.run_parts.proofs.Stepping.{next_fails}
 use Rattle.run_store.proofs.Going.{then_shows}
 use Rattle.run_parts.specs.Words.{nodes_of}
-use Rattle.ada_interpreter.specs.Walk.{exec_all, while_loop, for_loop, course, in_loop, run_values, eval, fold_left, combined_onto}
+use Rattle.ada_interpreter.specs.Walk.{exec_all, while_loop, for_loop, course, in_loop, run_values, eval, fold_left, combined_onto, threads_run, share_run, threads_folded, share_folded}
 use Rattle.ada_interpreter.proofs.Looping.{while_begins, run_begins, all_step, all_ends, all_done, while_test_ends, while_stops, while_turn_ends, while_body_ends, while_step, while_spent, for_step, for_ends, for_done, for_begins, run_step, run_ends, run_done}
 use Rattle.ada_interpreter.proofs.Scoping.{body_as, call_ends, call_step, called_more, called_fails, formals_none, formals_more, formals_fails, default_more, default_fails, variable_ends, variable_more, variable_fails, constant_ends, constant_more, constant_fails}
 use Rattle.ada_interpreter.proofs.Handling.{caught_shows, chosen_some, chosen_none, guarded_other, guarded_some, guarded_none, alternative_some, alternative_none}
 use Rattle.ada_interpreter.proofs.Folding.{fold_step, fold_ends, fold_done, fold_none, fold_as, onto_step, onto_ends, onto_done}
 use Rattle.ada_interpreter.proofs.Chaining.{stands_begins, first_ends, stands_step, stands_ends, stands_done, all_below, last_below}
 use Rattle.ada_interpreter.proofs.Forms.{index_as, in_out_as, in_out_ends, in_out_on, range_holds, number_ends}
+use Rattle.ada_interpreter.proofs.Threading.{thread_gives, thread_spent, thread_left, threads_begin, threads_more, threads_end, threads_fail, threads_joined, threads_spent}
+use Rattle.ada_interpreter.proofs.Dealing.{dealt_loop_shows, dealt_arms_shows, dealt_arms_ends, parallel_for_ends, parallel_for_on, parallel_for_stops, parallel_block_ends, parallel_block_on, parallel_block_stops, chunked_loop_on, chunked_loop_stops, chunked_loop_many, arm_none, arm_some, arm_ends, parallel_reduction_ends, parallel_reduction_on, parallel_reduction_stops, chunked_fold_on, chunked_fold_stops, chunked_fold_many, chunked_fold_ends, dealt_fold_ends, dealt_fold_on, dealt_fold_stops, share_begins, share_step, share_ends, share_done}
+use Rattle.ada_interpreter.specs.Threads.{took_of, folded_of}
 use Rattle.ada_interpreter.proofs.+walk.Goals as goal
 
 pub stmts::exec_all-returns-in_err-exec : goal.stmts::exec_all-returns-in_err-exec
@@ -164,3 +169,138 @@ folds::combined_onto-loop-value-preserved g t c = onto_step c.args.work.now c.ar
 
 pub folds::combined_onto-returns : goal.folds::combined_onto-returns
 folds::combined_onto-returns g t c = onto_done c.args.work.now c.args.calls c.args.by c.args.nested (combined_onto c.args.work.now c.args.calls c.args.by c.args.nested c.args.first c.args.values.now) c.args.store.now c.loop-value.store c.loop-value.store c.loop-value.total c.args.values.now c.loop-value.k c.loop-value.invariant (search rules)
+
+pub constructs::parallel_for-returns-in_err-chunking : goal.constructs::parallel_for-returns-in_err-chunking
+constructs::parallel_for-returns-in_err-chunking g t c = parallel_for_ends c.args.work.now c.args.calls (env_of c.args.env.now) (env_of c.in_ok-inner.inner) c.in_ok-inner.ensures c.args.store.now c.begin_chunks.new.store c.begin_chunks.new.store c.args.number (chunk_at (nodes_of c.args.work.now) c.args.chunk) (iteration_at (nodes_of c.args.work.now) c.args.iteration) (stmts_at (nodes_of c.args.work.now) c.args.stmts) c.in_ok-opened.ensures c.in_err-chunking.field-0.0 _ (search rules) c.in_err-chunking.ensures
+
+pub constructs::parallel_for-returns-in_ok-chunked_loop : goal.constructs::parallel_for-returns-in_ok-chunked_loop
+constructs::parallel_for-returns-in_ok-chunked_loop g t c = parallel_for_on c.args.work.now c.args.calls (env_of c.args.env.now) (env_of c.in_ok-inner.inner) c.in_ok-inner.ensures c.args.store.now c.begin_chunks.new.store c.chunked_loop.new.store c.args.number (chunk_at (nodes_of c.args.work.now) c.args.chunk) (iteration_at (nodes_of c.args.work.now) c.args.iteration) (stmts_at (nodes_of c.args.work.now) c.args.stmts) c.in_ok-opened.ensures c.in_ok-chunking.chunking (Ok tt) c.in_ok-chunking.ensures c.in_ok-chunked_loop.ensures
+
+pub constructs::parallel_for-returns-in_err-chunked_loop : goal.constructs::parallel_for-returns-in_err-chunked_loop
+constructs::parallel_for-returns-in_err-chunked_loop g t c = parallel_for_stops c.args.work.now c.args.calls (env_of c.args.env.now) (env_of c.in_ok-inner.inner) c.in_ok-inner.ensures c.args.store.now c.begin_chunks.new.store c.chunked_loop.new.store c.args.number (chunk_at (nodes_of c.args.work.now) c.args.chunk) (iteration_at (nodes_of c.args.work.now) c.args.iteration) (stmts_at (nodes_of c.args.work.now) c.args.stmts) c.in_ok-opened.ensures c.in_ok-chunking.chunking c.in_err-chunked_loop.field-0.0 _ (search rules) c.in_ok-chunking.ensures c.in_err-chunked_loop.ensures
+
+pub constructs::chunked_loop-returns-in_err-check_count : goal.constructs::chunked_loop-returns-in_err-check_count
+constructs::chunked_loop-returns-in_err-check_count g t c = chunked_loop_many c.args.work.now c.args.calls c.args.number c.args.chunking (iteration_at (nodes_of c.args.work.now) c.args.iteration) (stmts_at (nodes_of c.args.work.now) c.args.stmts) (env_of c.args.env.now) c.args.store.now c.begin_course.new.store c.begin_course.new.store c.in_ok-course.course c.in_ok-course.ensures c.in_err-check_count.field-0.0 _ (search rules) c.in_err-check_count.ensures
+
+pub constructs::chunked_loop-returns-in_ok-dealt_loop : goal.constructs::chunked_loop-returns-in_ok-dealt_loop
+constructs::chunked_loop-returns-in_ok-dealt_loop g t c = chunked_loop_on c.args.work.now c.args.calls c.args.number c.args.chunking (iteration_at (nodes_of c.args.work.now) c.args.iteration) (stmts_at (nodes_of c.args.work.now) c.args.stmts) (env_of c.args.env.now) c.args.store.now c.begin_course.new.store c.dealt_loop.new.store c.in_ok-course.course c.in_ok-course.ensures (Ok tt) c.in_ok-check_count.ensures c.in_ok-dealt_loop.ensures
+
+pub constructs::chunked_loop-returns-in_err-dealt_loop : goal.constructs::chunked_loop-returns-in_err-dealt_loop
+constructs::chunked_loop-returns-in_err-dealt_loop g t c = chunked_loop_stops c.args.work.now c.args.calls c.args.number c.args.chunking (iteration_at (nodes_of c.args.work.now) c.args.iteration) (stmts_at (nodes_of c.args.work.now) c.args.stmts) (env_of c.args.env.now) c.args.store.now c.begin_course.new.store c.dealt_loop.new.store c.in_ok-course.course c.in_ok-course.ensures c.in_err-dealt_loop.field-0.0 _ (search rules) c.in_ok-check_count.ensures c.in_err-dealt_loop.ensures
+
+pub constructs::dealt_loop-returns : goal.constructs::dealt_loop-returns
+constructs::dealt_loop-returns g t c = rw c.caught.ensures (dealt_loop_shows c.args.work.now c.args.calls (env_of c.args.env.now) c.args.store.now c.run_threads-how.new.store c.args.number c.args.chunking c.args.course c.args.iteration c.args.stmts c.in_ok-count.count c.in_ok-sizes.sizes c.run_threads-how.result c.in_ok-count.ensures c.in_ok-sizes.ensures (rw c.as_slice.ensures at c.run_threads-how.ensures))
+
+pub constructs::parallel_block-returns-in_err-most : goal.constructs::parallel_block-returns-in_err-most
+constructs::parallel_block-returns-in_err-most g t c = parallel_block_ends c.args.work.now c.args.calls (env_of c.args.env.now) (env_of c.in_ok-inner.inner) c.in_ok-inner.ensures c.args.store.now c.threads_of.new.store c.threads_of.new.store (optional_at (nodes_of c.args.work.now) c.args.count) (arms_at (nodes_of c.args.work.now) c.args.arms) c.in_ok-opened.ensures c.in_err-most.field-0.0 _ (search rules) c.in_err-most.ensures
+
+pub constructs::parallel_block-returns-in_ok-dealt_arms : goal.constructs::parallel_block-returns-in_ok-dealt_arms
+constructs::parallel_block-returns-in_ok-dealt_arms g t c = parallel_block_on c.args.work.now c.args.calls (env_of c.args.env.now) (env_of c.in_ok-inner.inner) c.in_ok-inner.ensures c.args.store.now c.threads_of.new.store c.dealt_arms.new.store (optional_at (nodes_of c.args.work.now) c.args.count) (arms_at (nodes_of c.args.work.now) c.args.arms) c.in_ok-opened.ensures c.in_ok-most.most (Ok tt) c.in_ok-most.ensures c.in_ok-dealt_arms.ensures
+
+pub constructs::parallel_block-returns-in_err-dealt_arms : goal.constructs::parallel_block-returns-in_err-dealt_arms
+constructs::parallel_block-returns-in_err-dealt_arms g t c = parallel_block_stops c.args.work.now c.args.calls (env_of c.args.env.now) (env_of c.in_ok-inner.inner) c.in_ok-inner.ensures c.args.store.now c.threads_of.new.store c.dealt_arms.new.store (optional_at (nodes_of c.args.work.now) c.args.count) (arms_at (nodes_of c.args.work.now) c.args.arms) c.in_ok-opened.ensures c.in_ok-most.most c.in_err-dealt_arms.field-0.0 _ (search rules) c.in_ok-most.ensures c.in_err-dealt_arms.ensures
+
+pub constructs::dealt_arms-returns-in_ok-run_threads : goal.constructs::dealt_arms-returns-in_ok-run_threads
+constructs::dealt_arms-returns-in_ok-run_threads g t c = dealt_arms_shows c.args.work.now c.args.calls (env_of c.args.env.now) c.args.store.now c.run_threads.new.store c.args.most c.args.arms c.in_ok-count.count c.in_ok-sizes.sizes (Ok tt) c.in_ok-count.ensures (search rules) (rw c.as_slice.ensures at c.in_ok-run_threads.ensures)
+
+pub constructs::dealt_arms-returns-in_err-run_threads : goal.constructs::dealt_arms-returns-in_err-run_threads
+constructs::dealt_arms-returns-in_err-run_threads g t c = dealt_arms_ends c.args.work.now c.args.calls (env_of c.args.env.now) c.args.store.now c.run_threads.new.store c.args.most c.args.arms c.in_ok-count.count c.in_ok-sizes.sizes c.in_err-run_threads.field-0.0 _ (search rules) c.in_ok-count.ensures (search rules) (rw c.as_slice.ensures at c.in_err-run_threads.ensures)
+
+pub constructs::run_threads-loop-size-init : goal.constructs::run_threads-loop-size-init
+constructs::run_threads-loop-size-init g t c = threads_begin first_of_both tt c.args.sizes.now (share_run c.args.work.now c.args.calls c.args.task (env_of c.args.env.now)) c.args.store.now c.turns-from.result c.turns-from.result c.turns-from.ensures c.turns-from.ensures
+
+pub constructs::run_threads-loop-size-preserved : goal.constructs::run_threads-loop-size-preserved
+constructs::run_threads-loop-size-preserved g t c = threads_more (threads_run c.args.work.now c.args.calls c.args.task c.args.sizes.now (env_of c.args.env.now)) first_of_both (share_run c.args.work.now c.args.calls c.args.task (env_of c.args.env.now)) c.turns-from.result c.loop-size.most c.loop-size.k c.loop-size.first c.args.sizes.now c.loop-size.over tt c.args.store.now c.loop-size.store c.rewind.new.self c.loop-size.invariant c.in-Some.size (search rules) c.rewind.ensures took_of c.run_thread.new.store c.in_ok-took.took _ _ _ tt c.in_ok-took.ensures refl c.in_ok-first.ensures (search rules) refl
+
+pub constructs::run_threads-returns-in_err-took : goal.constructs::run_threads-returns-in_err-took
+constructs::run_threads-returns-in_err-took g t c = threads_end (threads_run c.args.work.now c.args.calls c.args.task c.args.sizes.now (env_of c.args.env.now)) first_of_both (share_run c.args.work.now c.args.calls c.args.task (env_of c.args.env.now)) c.turns-from.result c.loop-size.most c.loop-size.k c.loop-size.first c.args.sizes.now c.loop-size.over tt c.args.store.now c.loop-size.store c.rewind.new.self c.loop-size.invariant c.in-Some.size (search rules) c.rewind.ensures took_of c.run_thread.new.store c.in_err-took.field-0.0 _ (search rules) c.in_err-took.ensures
+
+pub constructs::run_threads-returns-then-over : goal.constructs::run_threads-returns-then-over
+constructs::run_threads-returns-then-over g t c = threads_spent (threads_run c.args.work.now c.args.calls c.args.task c.args.sizes.now (env_of c.args.env.now)) first_of_both (share_run c.args.work.now c.args.calls c.args.task (env_of c.args.env.now)) c.turns-from.result c.loop-size.most c.loop-size.k c.loop-size.first c.args.sizes.now c.loop-size.over tt c.args.store.now c.loop-size.store c.rewind-1.new.self c.loop-size.invariant (search rules) c.rewind-1.ensures (search rules)
+
+pub constructs::run_threads-returns-else-over : goal.constructs::run_threads-returns-else-over
+constructs::run_threads-returns-else-over g t c = threads_joined (threads_run c.args.work.now c.args.calls c.args.task c.args.sizes.now (env_of c.args.env.now)) first_of_both (share_run c.args.work.now c.args.calls c.args.task (env_of c.args.env.now)) c.turns-from.result c.loop-size.most c.loop-size.k c.loop-size.first c.args.sizes.now c.loop-size.over tt c.args.store.now c.loop-size.store c.rewind-1.new.self c.loop-size.invariant (search rules) c.rewind-1.ensures (search rules)
+
+pub constructs::run_share-loop-i-init : goal.constructs::run_share-loop-i-init
+constructs::run_share-loop-i-init g t c = share_begins c.args.work.now c.args.calls c.args.task c.args.number (env_of c.args.env.now) c.args.store.now c.args.first c.args.size c.in_ok-last.last c.in_ok-last.ensures
+
+pub constructs::run_share-returns-in_err-run_turn : goal.constructs::run_share-returns-in_err-run_turn
+constructs::run_share-returns-in_err-run_turn g t c = share_ends c.args.work.now c.args.calls c.args.task c.args.number (env_of c.args.env.now) (share_run c.args.work.now c.args.calls c.args.task (env_of c.args.env.now) (record { number = c.args.number; first = c.args.first; size = c.args.size })) c.args.store.now c.loop-i.store c.run_turn.new.store c.loop-i.i c.in_ok-last.last (omega arith) c.loop-i.invariant c.in_err-run_turn.field-0.0 _ (search rules) c.in_err-run_turn.ensures
+
+pub constructs::run_share-loop-i-preserved : goal.constructs::run_share-loop-i-preserved
+constructs::run_share-loop-i-preserved g t c = share_step c.args.work.now c.args.calls c.args.task c.args.number (env_of c.args.env.now) (share_run c.args.work.now c.args.calls c.args.task (env_of c.args.env.now) (record { number = c.args.number; first = c.args.first; size = c.args.size })) c.args.store.now c.loop-i.store c.run_turn.new.store c.loop-i.i c.in_ok-last.last (omega arith) c.loop-i.invariant c.in_ok-run_turn.ensures
+
+pub constructs::run_share-returns : goal.constructs::run_share-returns
+constructs::run_share-returns g t c = share_done c.args.work.now c.args.calls c.args.task c.args.number (env_of c.args.env.now) (share_run c.args.work.now c.args.calls c.args.task (env_of c.args.env.now) (record { number = c.args.number; first = c.args.first; size = c.args.size })) c.args.store.now c.loop-i.store c.loop-i.store c.loop-i.i c.in_ok-last.last (omega arith) c.loop-i.invariant
+
+pub constructs::run_turn-returns-in-Arms-in-None : goal.constructs::run_turn-returns-in-Arms-in-None
+constructs::run_turn-returns-in-Arms-in-None g t c = arm_none c.args.work.now c.args.calls (env_of c.args.env.now) (arms_at (nodes_of c.args.work.now) c.in-Arms.arms) c.args.index c.args.store.now c.args.store.now (search rules)
+
+pub constructs::run_turn-returns-in_ok-exec_all-in-Arms-in-Some : goal.constructs::run_turn-returns-in_ok-exec_all-in-Arms-in-Some
+constructs::run_turn-returns-in_ok-exec_all-in-Arms-in-Some g t c = arm_some c.args.work.now c.args.calls (env_of c.args.env.now) (arms_at (nodes_of c.args.work.now) c.in-Arms.arms) c.args.index c.args.store.now c.exec_all.new.store (stmts_at (nodes_of c.args.work.now) c.in-Some.stmts) (Ok tt) (search rules) c.in_ok-exec_all-in-Some.ensures
+
+pub constructs::run_turn-returns-in_err-exec_all-in-Arms-in-Some : goal.constructs::run_turn-returns-in_err-exec_all-in-Arms-in-Some
+constructs::run_turn-returns-in_err-exec_all-in-Arms-in-Some g t c = arm_ends c.args.work.now c.args.calls (env_of c.args.env.now) (arms_at (nodes_of c.args.work.now) c.in-Arms.arms) c.args.index c.args.store.now c.exec_all.new.store (stmts_at (nodes_of c.args.work.now) c.in-Some.stmts) c.in_err-exec_all-in-Some.field-0.0 _ (search rules) (search rules) c.in_err-exec_all-in-Some.ensures
+
+pub constructs::run_thread-returns-in-Ok : goal.constructs::run_thread-returns-in-Ok
+constructs::run_thread-returns-in-Ok g t c = thread_gives took_of c.args.most (share_run c.args.work.now c.args.calls c.args.task (env_of c.args.env.now) (record { number = c.args.number; first = c.args.first; size = c.args.size })) c.args.store.now c.run_share.new.store tt _ (search rules) (search rules)
+
+pub constructs::run_thread-returns-in-Err-Spent : goal.constructs::run_thread-returns-in-Err-Spent
+constructs::run_thread-returns-in-Err-Spent g t c = thread_spent took_of c.args.most (share_run c.args.work.now c.args.calls c.args.task (env_of c.args.env.now) (record { number = c.args.number; first = c.args.first; size = c.args.size })) c.args.store.now c.run_share.new.store _ (search rules) (search rules)
+
+pub constructs::run_thread-returns-in-Err-Left : goal.constructs::run_thread-returns-in-Err-Left
+constructs::run_thread-returns-in-Err-Left g t c = thread_left took_of c.args.most (share_run c.args.work.now c.args.calls c.args.task (env_of c.args.env.now) (record { number = c.args.number; first = c.args.first; size = c.args.size })) c.args.store.now c.run_share.new.store c.in-Err-Left.how _ c.rewind.new.self (search rules) (search rules) c.rewind.ensures
+
+pub folds::parallel_reduction-returns-in_err-chunking : goal.folds::parallel_reduction-returns-in_err-chunking
+folds::parallel_reduction-returns-in_err-chunking g t c = parallel_reduction_ends c.args.work.now c.args.calls c.args.by (env_of c.args.env.now) (env_of c.in_ok-inner.inner) c.in_ok-inner.ensures (expr_at (nodes_of c.args.work.now) c.args.initial) (chunk_at (nodes_of c.args.work.now) c.args.chunk) c.args.store.now c.eval.new.store c.begin_chunks.new.store c.begin_chunks.new.store c.in_ok-start.start c.in_ok-start.ensures c.in_ok-opened.ensures c.in_err-chunking.field-0.0 _ (search rules) c.in_err-chunking.ensures
+
+pub folds::parallel_reduction-returns-in_ok-total : goal.folds::parallel_reduction-returns-in_ok-total
+folds::parallel_reduction-returns-in_ok-total g t c = parallel_reduction_on c.args.work.now c.args.calls c.args.by (env_of c.args.env.now) (env_of c.in_ok-inner.inner) c.in_ok-inner.ensures (expr_at (nodes_of c.args.work.now) c.args.initial) (chunk_at (nodes_of c.args.work.now) c.args.chunk) c.args.store.now c.eval.new.store c.begin_chunks.new.store c.chunked_fold.new.store c.in_ok-start.start c.in_ok-start.ensures c.in_ok-opened.ensures c.in_ok-chunking.chunking (Ok c.in_ok-total.total) c.in_ok-chunking.ensures c.in_ok-total.ensures
+
+pub folds::parallel_reduction-returns-in_err-total : goal.folds::parallel_reduction-returns-in_err-total
+folds::parallel_reduction-returns-in_err-total g t c = parallel_reduction_stops c.args.work.now c.args.calls c.args.by (env_of c.args.env.now) (env_of c.in_ok-inner.inner) c.in_ok-inner.ensures (expr_at (nodes_of c.args.work.now) c.args.initial) (chunk_at (nodes_of c.args.work.now) c.args.chunk) c.args.store.now c.eval.new.store c.begin_chunks.new.store c.chunked_fold.new.store c.in_ok-start.start c.in_ok-start.ensures c.in_ok-opened.ensures c.in_ok-chunking.chunking c.in_err-total.field-0.0 _ (search rules) c.in_ok-chunking.ensures c.in_err-total.ensures
+
+pub folds::chunked_fold-returns-in_err-course : goal.folds::chunked_fold-returns-in_err-course
+folds::chunked_fold-returns-in_err-course g t c = chunked_fold_ends c.args.work.now c.args.calls c.args.by (env_of c.args.env.now) (env_of c.in_ok-inner.inner) c.in_ok-inner.ensures c.args.chunking c.args.start c.args.store.now c.begin_course.new.store c.in_err-course.field-0.0 _ (search rules) c.in_err-course.ensures
+
+pub folds::chunked_fold-returns-in_err-check_count : goal.folds::chunked_fold-returns-in_err-check_count
+folds::chunked_fold-returns-in_err-check_count g t c = chunked_fold_many c.args.work.now c.args.calls c.args.by (env_of c.args.env.now) (env_of c.in_ok-inner.inner) c.in_ok-inner.ensures c.args.chunking c.args.start c.args.store.now c.begin_course.new.store c.begin_course.new.store c.in_ok-course.course c.in_ok-course.ensures c.in_err-check_count.field-0.0 _ (search rules) c.in_err-check_count.ensures
+
+pub folds::chunked_fold-returns-in_ok-total : goal.folds::chunked_fold-returns-in_ok-total
+folds::chunked_fold-returns-in_ok-total g t c = chunked_fold_on c.args.work.now c.args.calls c.args.by (env_of c.args.env.now) (env_of c.in_ok-inner.inner) c.in_ok-inner.ensures c.args.chunking c.args.start c.args.store.now c.begin_course.new.store c.dealt_fold.new.store c.in_ok-course.course c.in_ok-course.ensures (Ok c.in_ok-total.total) c.in_ok-check_count.ensures c.in_ok-total.ensures
+
+pub folds::chunked_fold-returns-in_err-total : goal.folds::chunked_fold-returns-in_err-total
+folds::chunked_fold-returns-in_err-total g t c = chunked_fold_stops c.args.work.now c.args.calls c.args.by (env_of c.args.env.now) (env_of c.in_ok-inner.inner) c.in_ok-inner.ensures c.args.chunking c.args.start c.args.store.now c.begin_course.new.store c.dealt_fold.new.store c.in_ok-course.course c.in_ok-course.ensures c.in_err-total.field-0.0 _ (search rules) c.in_ok-check_count.ensures c.in_err-total.ensures
+
+pub folds::dealt_fold-returns-in_err-values : goal.folds::dealt_fold-returns-in_err-values
+folds::dealt_fold-returns-in_err-values g t c = dealt_fold_ends c.args.work.now c.args.calls c.args.by (env_of c.args.env.now) (env_of c.in_ok-inner.inner) c.in_ok-inner.ensures c.args.chunking (course_of c.args.course) c.args.start c.in_ok-count.count c.in_ok-sizes.sizes c.in_ok-count.ensures c.in_ok-sizes.ensures c.args.store.now c.fold_threads.new.store c.fold_threads.new.store c.in_err-values.field-0.0 _ (search rules) (rw c.as_slice.ensures at c.in_err-values.ensures)
+
+pub folds::dealt_fold-returns-in_ok-total : goal.folds::dealt_fold-returns-in_ok-total
+folds::dealt_fold-returns-in_ok-total g t c = dealt_fold_on c.args.work.now c.args.calls c.args.by (env_of c.args.env.now) (env_of c.in_ok-inner.inner) c.in_ok-inner.ensures c.args.chunking (course_of c.args.course) c.args.start c.in_ok-count.count c.in_ok-sizes.sizes c.in_ok-count.ensures c.in_ok-sizes.ensures c.args.store.now c.fold_threads.new.store c.combined.new.store c.in_ok-values.values (Ok c.in_ok-total.total) (rw c.as_slice.ensures at c.in_ok-values.ensures) (search rules)
+
+pub folds::dealt_fold-returns-in_err-total : goal.folds::dealt_fold-returns-in_err-total
+folds::dealt_fold-returns-in_err-total g t c = dealt_fold_stops c.args.work.now c.args.calls c.args.by (env_of c.args.env.now) (env_of c.in_ok-inner.inner) c.in_ok-inner.ensures c.args.chunking (course_of c.args.course) c.args.start c.in_ok-count.count c.in_ok-sizes.sizes c.in_ok-count.ensures c.in_ok-sizes.ensures c.args.store.now c.fold_threads.new.store c.combined.new.store c.in_ok-values.values c.in_err-total.field-0.0 _ (search rules) (rw c.as_slice.ensures at c.in_ok-values.ensures) (search rules)
+
+pub folds::fold_threads-loop-size-init : goal.folds::fold_threads-loop-size-init
+folds::fold_threads-loop-size-init g t c = threads_begin after_all [] c.args.sizes.now (share_folded c.args.work.now c.args.calls c.args.by (chunking_of c.args.chunking) (course_of c.args.course) c.args.start (env_of c.args.env.now)) c.args.store.now c.turns-from.result c.turns-from.result c.turns-from.ensures c.turns-from.ensures
+
+pub folds::fold_threads-loop-size-preserved : goal.folds::fold_threads-loop-size-preserved
+folds::fold_threads-loop-size-preserved g t c = threads_more (threads_folded c.args.work.now c.args.calls c.args.by (chunking_of c.args.chunking) (course_of c.args.course) c.args.start c.args.sizes.now (env_of c.args.env.now)) after_all (share_folded c.args.work.now c.args.calls c.args.by (chunking_of c.args.chunking) (course_of c.args.course) c.args.start (env_of c.args.env.now)) c.turns-from.result c.loop-size.most c.loop-size.k c.loop-size.first c.args.sizes.now c.loop-size.over c.loop-size.values c.args.store.now c.loop-size.store c.rewind.new.self c.loop-size.invariant c.in-Some.size (search rules) c.rewind.ensures folded_of c.fold_thread.new.store c.in_ok-folded.folded _ _ _ _ c.in_ok-folded.ensures refl c.in_ok-first.ensures (search rules) c.in_ok-push_some.ensures
+
+pub folds::fold_threads-returns-in_err-folded : goal.folds::fold_threads-returns-in_err-folded
+folds::fold_threads-returns-in_err-folded g t c = threads_end (threads_folded c.args.work.now c.args.calls c.args.by (chunking_of c.args.chunking) (course_of c.args.course) c.args.start c.args.sizes.now (env_of c.args.env.now)) after_all (share_folded c.args.work.now c.args.calls c.args.by (chunking_of c.args.chunking) (course_of c.args.course) c.args.start (env_of c.args.env.now)) c.turns-from.result c.loop-size.most c.loop-size.k c.loop-size.first c.args.sizes.now c.loop-size.over c.loop-size.values c.args.store.now c.loop-size.store c.rewind.new.self c.loop-size.invariant c.in-Some.size (search rules) c.rewind.ensures folded_of c.fold_thread.new.store c.in_err-folded.field-0.0 _ (search rules) c.in_err-folded.ensures
+
+pub folds::fold_threads-returns-then-over : goal.folds::fold_threads-returns-then-over
+folds::fold_threads-returns-then-over g t c = threads_spent (threads_folded c.args.work.now c.args.calls c.args.by (chunking_of c.args.chunking) (course_of c.args.course) c.args.start c.args.sizes.now (env_of c.args.env.now)) after_all (share_folded c.args.work.now c.args.calls c.args.by (chunking_of c.args.chunking) (course_of c.args.course) c.args.start (env_of c.args.env.now)) c.turns-from.result c.loop-size.most c.loop-size.k c.loop-size.first c.args.sizes.now c.loop-size.over c.loop-size.values c.args.store.now c.loop-size.store c.rewind-1.new.self c.loop-size.invariant (search rules) c.rewind-1.ensures (search rules)
+
+pub folds::fold_threads-returns-else-over : goal.folds::fold_threads-returns-else-over
+folds::fold_threads-returns-else-over g t c = threads_joined (threads_folded c.args.work.now c.args.calls c.args.by (chunking_of c.args.chunking) (course_of c.args.course) c.args.start c.args.sizes.now (env_of c.args.env.now)) after_all (share_folded c.args.work.now c.args.calls c.args.by (chunking_of c.args.chunking) (course_of c.args.course) c.args.start (env_of c.args.env.now)) c.turns-from.result c.loop-size.most c.loop-size.k c.loop-size.first c.args.sizes.now c.loop-size.over c.loop-size.values c.args.store.now c.loop-size.store c.rewind-1.new.self c.loop-size.invariant (search rules) c.rewind-1.ensures (search rules)
+
+pub folds::fold_thread-returns-in-Ok : goal.folds::fold_thread-returns-in-Ok
+folds::fold_thread-returns-in-Ok g t c = thread_gives folded_of c.args.most (share_folded c.args.work.now c.args.calls c.args.by (chunking_of c.args.chunking) (course_of c.args.course) c.args.start (env_of c.args.env.now) (record { number = c.args.number; first = c.args.first; size = c.args.size })) c.args.store.now c.fold_share.new.store c.in-Ok.value _ (search rules) (search rules)
+
+pub folds::fold_thread-returns-in-Err-Spent : goal.folds::fold_thread-returns-in-Err-Spent
+folds::fold_thread-returns-in-Err-Spent g t c = thread_spent folded_of c.args.most (share_folded c.args.work.now c.args.calls c.args.by (chunking_of c.args.chunking) (course_of c.args.course) c.args.start (env_of c.args.env.now) (record { number = c.args.number; first = c.args.first; size = c.args.size })) c.args.store.now c.fold_share.new.store _ (search rules) (search rules)
+
+pub folds::fold_thread-returns-in-Err-Left : goal.folds::fold_thread-returns-in-Err-Left
+folds::fold_thread-returns-in-Err-Left g t c = thread_left folded_of c.args.most (share_folded c.args.work.now c.args.calls c.args.by (chunking_of c.args.chunking) (course_of c.args.course) c.args.start (env_of c.args.env.now) (record { number = c.args.number; first = c.args.first; size = c.args.size })) c.args.store.now c.fold_share.new.store c.in-Err-Left.how _ c.rewind.new.self (search rules) (search rules) c.rewind.ensures
