@@ -116,26 +116,26 @@ module _ {Tells : Type 0} (w : Work) (d n : ℕ) (k : Chunking) (it : Iteration)
 
 -- ---- what a thread goes through
 
-module _ {Tells : Type 0} (w : Work) (d : ℕ) (task : Task) (number : ℕ) (env : Env) where
-  pub share_begins : (s : Image) (first size last : ℕ) → last ≡ first + size → Goes Tells (walk.share_run w d task env (record { number = number; first = first; size = size })) s (walk.share_left w d task number first (last - first) env) s
+module _ {Tells : Type 0} (w : Work) (d : ℕ) (todo : Task) (number : ℕ) (env : Env) where
+  pub share_begins : (s : Image) (first size last : ℕ) → last ≡ first + size → Goes Tells (walk.share_run w d todo env (record { number = number; first = first; size = size })) s (walk.share_left w d todo number first (last - first) env) s
   unfolding walk.share_run
   share_begins s first size last e =
       let q : last - first ≡ size = omega (arith, e) in
-      subst (λ z. Goes Tells (walk.share_run w d task env (record { number = number; first = first; size = size })) s (walk.share_left w d task number first z env) s) (sym q) (goes_refl _ s)
+      subst (λ z. Goes Tells (walk.share_run w d todo env (record { number = number; first = first; size = size })) s (walk.share_left w d todo number first z env) s) (sym q) (goes_refl _ s)
 
   module _ (whole : Stored (Unit {0})) (s t u : Image) (i n : ℕ) where
-    module _ (lt : i < n) (g : Goes Tells whole s (walk.share_left w d task number i (n - i) env) t) where
-      share_more : Goes Tells whole s (bind (walk.task_turn w d task number i env) (λ _. walk.share_left w d task number (i + 1) (n - (i + 1)) env)) t
-      share_more = goes_instead whole _ _ s t (through_more i n tt (λ i _. walk.task_turn w d task number i env) lt) g
+    module _ (lt : i < n) (g : Goes Tells whole s (walk.share_left w d todo number i (n - i) env) t) where
+      share_more : Goes Tells whole s (bind (walk.task_turn w d todo number i env) (λ _. walk.share_left w d todo number (i + 1) (n - (i + 1)) env)) t
+      share_more = goes_instead whole _ _ s t (through_more i n tt (λ i _. walk.task_turn w d todo number i env) lt) g
 
-      pub share_step : Shows Tells (walk.task_turn w d task number i env) (Ok tt) t u → Goes Tells whole s (walk.share_left w d task number (i + 1) (n - (i + 1)) env) u
-      share_step h = goes_then (λ a. a) (λ a. a) whole (walk.task_turn w d task number i env) (λ _. walk.share_left w d task number (i + 1) (n - (i + 1)) env) s t u tt share_more h
+      pub share_step : Shows Tells (walk.task_turn w d todo number i env) (Ok tt) t u → Goes Tells whole s (walk.share_left w d todo number (i + 1) (n - (i + 1)) env) u
+      share_step h = goes_then (λ a. a) (λ a. a) whole (walk.task_turn w d todo number i env) (λ _. walk.share_left w d todo number (i + 1) (n - (i + 1)) env) s t u tt share_more h
 
-      pub share_ends : (e : End) (r : Result (Unit {0}) End) → r ≡ Err e → Shows Tells (walk.task_turn w d task number i env) (Err e) t u → Shows Tells whole r s u
-      share_ends e r q h = subst (λ z. Shows Tells whole z s u) (sym q) (goes_ends (λ a. a) (λ a. a) whole (walk.task_turn w d task number i env) (λ _. walk.share_left w d task number (i + 1) (n - (i + 1)) env) s t u e share_more h)
+      pub share_ends : (e : End) (r : Result (Unit {0}) End) → r ≡ Err e → Shows Tells (walk.task_turn w d todo number i env) (Err e) t u → Shows Tells whole r s u
+      share_ends e r q h = subst (λ z. Shows Tells whole z s u) (sym q) (goes_ends (λ a. a) (λ a. a) whole (walk.task_turn w d todo number i env) (λ _. walk.share_left w d todo number (i + 1) (n - (i + 1)) env) s t u e share_more h)
 
-    pub share_done : n ≤ i → Goes Tells whole s (walk.share_left w d task number i (n - i) env) t → Shows Tells whole (Ok tt) s t
-    share_done le g = goes_gives (λ a. a) whole tt s t (goes_instead whole _ _ s t (through_done i n tt (λ i _. walk.task_turn w d task number i env) le) g)
+    pub share_done : n ≤ i → Goes Tells whole s (walk.share_left w d todo number i (n - i) env) t → Shows Tells whole (Ok tt) s t
+    share_done le g = goes_gives (λ a. a) whole tt s t (goes_instead whole _ _ s t (through_done i n tt (λ i _. walk.task_turn w d todo number i env) le) g)
 
 -- ---- arms
 

@@ -37,7 +37,9 @@ use Rattle.run_parts.specs.Passing.{course_of}
 use Rattle.ada_interpreter.specs.declared.constructs.Task.{Task}
 use Rattle.ada_interpreter.specs.declared.constructs.Task.TheVariants as task
 use Rattle.ada_interpreter.specs.declared.folds.Fold.{Fold}
-use Rattle.run_parts.specs.Words.{nodes_of, ops, calls_of, cells_at, turned, read_all, write_all, back_cells, all_copied_back}
+use Rattle.run_parts.specs.Words.{nodes_of, ops, calls_of, cells_at, turned, read_all, write_all, back_cells, all_copied_back, reduced_by}
+use Rattle.run_parts.specs.declared.reducers.Both.{Both}
+use Rattle.run_parts.specs.Reducing.{both_checked}
 
 unfoldable pub eval : Work → ℕ → Expr → Env → Stored ℤ
 eval w d e env = meaning.eval (ops w) w.limit (program w.typed.now) (calls_of w d) e env
@@ -245,8 +247,12 @@ module _ (w : Work) (d : ℕ) where
 
   -- where accumulators of threads are combined
 
-  abbrev pub both_checked : ℕ → Scalar → Scalar → ℤ → ℤ → Stored (Unit {0})
-  both_checked at accumulator value a b = meaning.both_checked (ops w) w.limit (program w.typed.now) (calls_of w d) at accumulator value a b
+  -- by a call of a function, in a thread and where accumulators are combined: there its checks come after the turn
+  abbrev pub reduced_by_call : ℕ → ℕ → Both → Stored ℤ
+  reduced_by_call nested s both = bind (both_checked w both) (λ _. bind (calls_of w d nested s (ret tt) (reduced_by w s both.a both.b)) (λ r. ret r.value))
+
+  abbrev pub combined_by_call : ℕ → ℕ → Both → Stored ℤ
+  combined_by_call nested s both = bind (calls_of w d nested s (both_checked w both) (reduced_by w s both.a both.b)) (λ r. ret r.value)
 
   abbrev pub combined_two : Fold → ℕ → ℤ → ℤ → Stored ℤ
   combined_two by nested a b = reduce doings checks by.reducer by.attribute (meaning.combine_call (ops w) w.limit (program w.typed.now) (calls_of w d) by.reducer nested) a b

@@ -8,13 +8,14 @@ ghost use Rattle.ada_stored.specs.Stored.{ret};
 ghost use Rattle.run_store.specs.Shows.{Shows, ShowsAs, OrNoMemory, entity_of};
 ghost use Rattle.run_parts.specs.Passing.{passed_of, passed_list, back_option, returned_of, shape_of};
 ghost use Rattle.run_parts.specs.Words as words;
+ghost use Rattle.run_parts.specs.Reducing.{both_checked};
 ghost use Rattle.ada_interpreter.specs.Walk as spec;
 
 use crate::bodies::body;
 use ada_base::{Items, Reason};
-use ada_typed::{Scalar, Sub};
-use run_parts::{Passed, Returned, Work, back_cells, find_sub, turned};
-use run_store::{End, Env, Leave, Port, Region, Store, is_in};
+use ada_typed::Sub;
+use run_parts::{Both, Passed, Returned, Work, back_cells, find_sub, turned};
+use run_store::{End, Env, Leave, Port, Region, Store};
 
 /// A call, where so many more may be active.
 #[cycle(walk)]
@@ -49,21 +50,16 @@ pub fn call_checked<P: Port + Drop>(
     calls: u32,
     nested: u32,
     sub: u32,
-    at: u32,
-    accumulator: Scalar,
-    value: Scalar,
-    a: i64,
-    b: i64,
+    both: Both,
     passed: &[Passed],
     store: &mut Store<P>,
 ) -> Result<Returned, End>
-    ensures { ShowsAs returned_of P.Tells (words.calls_of work.now calls nested sub (spec.both_checked work.now calls at accumulator value a b) (passed_list work.now passed.now)) result store.old store.new }
+    ensures { ShowsAs returned_of P.Tells (words.calls_of work.now calls nested sub (both_checked work.now both) (passed_list work.now passed.now)) result store.old store.new }
 {
-    let _ = at;
     turned(work, store)?;
     if calls == 0 {
         Err(End::Left(Leave::Raises(Reason::StorageError)))
-    } else if is_in(accumulator, a) && is_in(value, b) {
+    } else if both.hold() {
         let returned = called(work, calls - 1, nested, sub, passed, store)?;
         Ok(returned)
     } else {

@@ -18,10 +18,10 @@ use crate::exprs::eval;
 use ada_base::{Items, Reason};
 use ada_typed::Reducer;
 use run_parts::{
-    Chunking, Course, Work, check_count, fold_sizes, inside, later, opened, push_some, reduced_by,
-    size_at, turned, value_at,
+    Both, Chunking, Course, Work, check_count, fold_sizes, inside, later, opened, push_some,
+    reduced_by, size_at, turned, value_at,
 };
-use run_store::{End, Env, Leave, Port, Store, is_in};
+use run_store::{End, Env, Leave, Port, Store};
 
 /// What is folded in a reduction, and by what: the token of its attribute, and the nodes of its iteration and its value.
 #[derive(Clone, Copy)]
@@ -170,21 +170,42 @@ fn reduced<P: Port + Drop>(
             Ok(total)
         }
         Reducer::Function {
+            at,
             sub,
             accumulator,
             value,
-            ..
         } => {
-            if !is_in(accumulator, a) {
-                Err(End::Left(Leave::Raises(Reason::ConstraintError)))
-            } else if !is_in(value, b) {
-                Err(End::Left(Leave::Raises(Reason::ConstraintError)))
-            } else {
-                let passed = reduced_by(work, sub, a, b)?;
-                let returned = call(work, calls, nested, sub, passed.as_slice(), store)?;
-                Ok(returned.value)
-            }
+            let both = Both {
+                at,
+                accumulator,
+                value,
+                a,
+                b,
+            };
+            let total = reduced_by_call(work, calls, nested, sub, both, store)?;
+            Ok(total)
         }
+    }
+}
+
+#[cycle(walk)]
+#[inline(never)]
+fn reduced_by_call<P: Port + Drop>(
+    work: &Work<'_>,
+    calls: u32,
+    nested: u32,
+    sub: u32,
+    both: Both,
+    store: &mut Store<P>,
+) -> Result<i64, End>
+    ensures { Shows P.Tells (spec.reduced_by_call work.now calls nested sub both) result store.old store.new }
+{
+    if both.hold() {
+        let passed = reduced_by(work, sub, both.a, both.b)?;
+        let returned = call(work, calls, nested, sub, passed.as_slice(), store)?;
+        Ok(returned.value)
+    } else {
+        Err(End::Left(Leave::Raises(Reason::ConstraintError)))
     }
 }
 
@@ -444,21 +465,32 @@ fn combined_two<P: Port + Drop>(
             accumulator,
             value,
         } => {
-            let passed = reduced_by(work, sub, a, b)?;
-            let returned = call_checked(
-                work,
-                calls,
-                nested,
-                sub,
+            let both = Both {
                 at,
                 accumulator,
                 value,
                 a,
                 b,
-                passed.as_slice(),
-                store,
-            )?;
-            Ok(returned.value)
+            };
+            let total = combined_by_call(work, calls, nested, sub, both, store)?;
+            Ok(total)
         }
     }
+}
+
+#[cycle(walk)]
+#[inline(never)]
+fn combined_by_call<P: Port + Drop>(
+    work: &Work<'_>,
+    calls: u32,
+    nested: u32,
+    sub: u32,
+    both: Both,
+    store: &mut Store<P>,
+) -> Result<i64, End>
+    ensures { Shows P.Tells (spec.combined_by_call work.now calls nested sub both) result store.old store.new }
+{
+    let passed = reduced_by(work, sub, both.a, both.b)?;
+    let returned = call_checked(work, calls, nested, sub, both, passed.as_slice(), store)?;
+    Ok(returned.value)
 }

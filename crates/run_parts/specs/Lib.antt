@@ -3,3 +3,4 @@ pub mod Passing
 pub mod Found
 pub mod Caught
 pub mod Dealing
+pub mod Reducing

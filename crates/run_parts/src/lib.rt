@@ -32,5 +32,5 @@ pub use offsets::{component, moved};
 pub use passed::{Back, Passed, Returned, Shape, push};
 pub use pieces::{with_field, with_image, with_line, with_text};
 pub use plans::{SoundPlan, even_sizes, fold_sizes, loop_sizes};
-pub use reducers::reduced_by;
+pub use reducers::{Both, reduced_by};
 pub use work::Work;

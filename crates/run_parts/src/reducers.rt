@@ -5,6 +5,7 @@ ghost use Rattle.ada_typed.specs.Decoded.{formals_in, leaves_at};
 ghost use Rattle.ada_meaning.specs.Meaning.{formal_at};
 ghost use Rattle.run_store.specs.Shows.{OrNoMemory};
 ghost use Rattle.run_parts.specs.Passing.{passed_list, passed_of, value_passed};
+ghost use Rattle.run_parts.specs.Reducing.{both_hold};
 ghost use Rattle.run_parts.specs.Words as spec;
 ghost use Rattle.run_parts.specs.Words.{nodes_of};
 
@@ -13,8 +14,27 @@ use crate::copies::find_sub;
 use crate::passed::{Passed, push};
 use crate::work::Work;
 use ada_base::Items;
-use ada_typed::Leaf;
-use run_store::{End, Object};
+use ada_typed::{Leaf, Scalar};
+use run_store::{End, Object, is_in};
+
+/// An accumulator and a value for a function that reduces, the subtypes of its parameters, and its token.
+#[derive(Clone, Copy)]
+pub struct Both {
+    pub at: u32,
+    pub accumulator: Scalar,
+    pub value: Scalar,
+    pub a: i64,
+    pub b: i64,
+}
+
+impl Both {
+    /// Whether both are of their subtypes.
+    pub fn hold(self) -> bool
+        ensures { result ≡ both_hold self }
+    {
+        is_in(self.accumulator, self.a) && is_in(self.value, self.b)
+    }
+}
 
 /// The two actual parameters of a function that reduces.
 #[tactic(auto, using(crate::proofs::Reducing::both_passed))]

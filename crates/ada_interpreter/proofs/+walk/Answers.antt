@@ -21,6 +21,7 @@ use Rattle.ada_interpreter.proofs.Forms.{index_as, in_out_as, in_out_ends, in_ou
 use Rattle.ada_interpreter.proofs.Threading.{thread_gives, thread_spent, thread_left, threads_begin, threads_more, threads_end, threads_fail, threads_joined, threads_spent}
 use Rattle.ada_interpreter.proofs.Dealing.{dealt_loop_shows, dealt_arms_shows, dealt_arms_ends, parallel_for_ends, parallel_for_on, parallel_for_stops, parallel_block_ends, parallel_block_on, parallel_block_stops, chunked_loop_on, chunked_loop_stops, chunked_loop_many, arm_none, arm_some, arm_ends, parallel_reduction_ends, parallel_reduction_on, parallel_reduction_stops, chunked_fold_on, chunked_fold_stops, chunked_fold_many, chunked_fold_ends, dealt_fold_ends, dealt_fold_on, dealt_fold_stops, share_begins, share_step, share_ends, share_done}
 use Rattle.ada_interpreter.specs.Threads.{took_of, folded_of}
+use Rattle.ada_interpreter.proofs.Reducing.{checked_ends, checked_step, checked_stops, checked_not, reduced_on, reduced_ends, reduced_not, combined_on, combined_ends}
 use Rattle.ada_interpreter.proofs.+walk.Goals as goal
 
 pub stmts::exec_all-returns-in_err-exec : goal.stmts::exec_all-returns-in_err-exec
@@ -304,3 +305,30 @@ folds::fold_thread-returns-in-Err-Spent g t c = thread_spent folded_of c.args.mo
 
 pub folds::fold_thread-returns-in-Err-Left : goal.folds::fold_thread-returns-in-Err-Left
 folds::fold_thread-returns-in-Err-Left g t c = thread_left folded_of c.args.most (share_folded c.args.work.now c.args.calls c.args.by (chunking_of c.args.chunking) (course_of c.args.course) c.args.start (env_of c.args.env.now) (record { number = c.args.number; first = c.args.first; size = c.args.size })) c.args.store.now c.fold_share.new.store c.in-Err-Left.how _ c.rewind.new.self (search rules) (search rules) c.rewind.ensures
+
+pub calls::call_checked-returns-in_err-turned : goal.calls::call_checked-returns-in_err-turned
+calls::call_checked-returns-in_err-turned g t c = checked_ends c.args.work.now c.args.nested c.args.sub c.args.both (passed_list c.args.work.now c.args.passed.now) c.args.store.now c.turned.new.store c.args.calls c.in_err-turned.field-0.0 _ (search rules) c.in_err-turned.ensures
+
+pub calls::call_checked-returns-in_ok-returned : goal.calls::call_checked-returns-in_ok-returned
+calls::call_checked-returns-in_ok-returned g t c = checked_step c.args.work.now c.args.nested c.args.sub c.args.both (passed_list c.args.work.now c.args.passed.now) c.args.store.now c.turned.new.store c.args.calls (Ok c.in_ok-returned.returned) c.called.new.store (omega arith) (search rules) c.in_ok-turned.ensures c.in_ok-returned.ensures
+
+pub calls::call_checked-returns-in_err-returned : goal.calls::call_checked-returns-in_err-returned
+calls::call_checked-returns-in_err-returned g t c = checked_stops c.args.work.now c.args.nested c.args.sub c.args.both (passed_list c.args.work.now c.args.passed.now) c.args.store.now c.turned.new.store c.args.calls c.in_err-returned.field-0.0 _ c.called.new.store (search rules) (omega arith) (search rules) c.in_ok-turned.ensures c.in_err-returned.ensures
+
+pub calls::call_checked-returns-else-hold : goal.calls::call_checked-returns-else-hold
+calls::call_checked-returns-else-hold g t c = checked_not c.args.work.now c.args.nested c.args.sub c.args.both (passed_list c.args.work.now c.args.passed.now) c.args.store.now c.turned.new.store c.args.calls (omega arith) (search rules) c.in_ok-turned.ensures
+
+pub folds::reduced_by_call-returns-in_ok-returned : goal.folds::reduced_by_call-returns-in_ok-returned
+folds::reduced_by_call-returns-in_ok-returned g t c = reduced_on c.args.work.now c.args.calls c.args.nested c.args.sub c.args.both c.args.store.now c.call.new.store (passed_list c.args.work.now c.in_ok-passed.passed) c.in_ok-returned.returned c.in_ok-passed.ensures (search rules) (rw c.as_slice.ensures at c.in_ok-returned.ensures)
+
+pub folds::reduced_by_call-returns-in_err-returned : goal.folds::reduced_by_call-returns-in_err-returned
+folds::reduced_by_call-returns-in_err-returned g t c = reduced_ends c.args.work.now c.args.calls c.args.nested c.args.sub c.args.both c.args.store.now c.call.new.store (passed_list c.args.work.now c.in_ok-passed.passed) c.in_err-returned.field-0.0 _ (search rules) c.in_ok-passed.ensures (search rules) (rw c.as_slice.ensures at c.in_err-returned.ensures)
+
+pub folds::reduced_by_call-returns-else-hold : goal.folds::reduced_by_call-returns-else-hold
+folds::reduced_by_call-returns-else-hold g t c = reduced_not c.args.work.now c.args.calls c.args.nested c.args.sub c.args.both c.args.store.now c.args.store.now (search rules)
+
+pub folds::combined_by_call-returns-in_ok-returned : goal.folds::combined_by_call-returns-in_ok-returned
+folds::combined_by_call-returns-in_ok-returned g t c = combined_on c.args.work.now c.args.calls c.args.nested c.args.sub c.args.both c.args.store.now c.call_checked.new.store (passed_list c.args.work.now c.in_ok-passed.passed) c.in_ok-returned.returned c.in_ok-passed.ensures (rw c.as_slice.ensures at c.in_ok-returned.ensures)
+
+pub folds::combined_by_call-returns-in_err-returned : goal.folds::combined_by_call-returns-in_err-returned
+folds::combined_by_call-returns-in_err-returned g t c = combined_ends c.args.work.now c.args.calls c.args.nested c.args.sub c.args.both c.args.store.now c.call_checked.new.store (passed_list c.args.work.now c.in_ok-passed.passed) c.in_err-returned.field-0.0 _ (search rules) c.in_ok-passed.ensures (rw c.as_slice.ensures at c.in_err-returned.ensures)

@@ -262,6 +262,12 @@ decreases-folds::combined g l = 1208925819614629174706176 * l.calls + 2061584302
 abbrev pub decreases-folds::combined_onto : goal.decreases-folds::combined_onto
 decreases-folds::combined_onto g l = 1208925819614629174706176 * l.calls + 171798691840
 
+abbrev pub decreases-folds::reduced_by_call : goal.decreases-folds::reduced_by_call
+decreases-folds::reduced_by_call g l = 1208925819614629174706176 * l.calls + 68719476736
+
+abbrev pub decreases-folds::combined_by_call : goal.decreases-folds::combined_by_call
+decreases-folds::combined_by_call g l = 1208925819614629174706176 * l.calls + 68719476736
+
 abbrev pub decreases-folds::combined_two : goal.decreases-folds::combined_two
 decreases-folds::combined_two g l = 1208925819614629174706176 * l.calls + 137438953472
 
