@@ -66,32 +66,40 @@ module _ {Tells : Type 0} (w : Work) (d : ℕ) (env : Env) where
     Stands [] v t = Shows Tells whole (Ok v) s t
     Stands (l ∷ ls) v t = Goes Tells whole s (walk.chain_left w d (l ∷ ls) env v) t
 
-    pub stands_step : (ls new : List Link) (last : Link) (v x : ℤ) (t u : Image) → ls ≡ new ++ last ∷ [] → Stands ls v t → Shows Tells (walk.operator w d last env v) (Ok x) t u → Stands new x u
-    stands_step ls new last v x t u is g h = go new (subst (λ z. Stands z v t) is g)
+    pub stands_step : (ls new : List Link) (last : Link) (v v' x x' : ℤ) (t u : Image) → ls ≡ new ++ last ∷ [] → Stands ls v t → Shows Tells (walk.operator w d last env v') (Ok x') t u → v' ≡ v → x' ≡ x → Stands new x u
+    stands_step ls new last v v' x x' t u is g h p q = go new (subst (λ z. Stands z v t) is g)
       where
-        go : (new : List Link) → Stands (new ++ last ∷ []) v t → Stands new x u
-        go [] g = goes_shows (λ a. a) whole (walk.operator w d last env v) s t u (Ok x) g h
-        go (l ∷ more) g = goes_trans whole (walk.chain_left w d (l ∷ more ++ last ∷ []) env v) (walk.chain_left w d (l ∷ more) env x) s t u g (chain_step l more last t u v x h)
+        k : Shows Tells (walk.operator w d last env v) (Ok x) t u
+        k = subst (λ z. Shows Tells (walk.operator w d last env z) (Ok x) t u) p (subst (λ z. Shows Tells (walk.operator w d last env v') (Ok z) t u) q h)
 
-    pub stands_ends : (ls new : List Link) (last : Link) (v : ℤ) (t u : Image) (e : End) (r : Result ℤ End) → r ≡ Err e → ls ≡ new ++ last ∷ [] → Stands ls v t → Shows Tells (walk.operator w d last env v) (Err e) t u → Shows Tells whole r s u
-    stands_ends ls new last v t u e r q is g h = subst (λ z. Shows Tells whole z s u) (sym q) (goes_shows (λ a. a) whole (walk.chain_left w d (new ++ last ∷ []) env v) s t u (Err e) (go new (subst (λ z. Stands z v t) is g)) (chain_ends new last t u v e h))
+        go : (new : List Link) → Stands (new ++ last ∷ []) v t → Stands new x u
+        go [] g = goes_shows (λ a. a) whole (walk.operator w d last env v) s t u (Ok x) g k
+        go (l ∷ more) g = goes_trans whole (walk.chain_left w d (l ∷ more ++ last ∷ []) env v) (walk.chain_left w d (l ∷ more) env x) s t u g (chain_step l more last t u v x k)
+
+    pub stands_ends : (ls new : List Link) (last : Link) (v v' : ℤ) (t u : Image) (e : End) (r : Result ℤ End) → r ≡ Err e → ls ≡ new ++ last ∷ [] → Stands ls v t → Shows Tells (walk.operator w d last env v') (Err e) t u → v' ≡ v → Shows Tells whole r s u
+    stands_ends ls new last v v' t u e r q is g h p =
+        subst (λ z. Shows Tells whole z s u) (sym q)
+        (goes_shows (λ a. a) whole (walk.chain_left w d (new ++ last ∷ []) env v) s t u (Err e) (go new (subst (λ z. Stands z v t) is g)) (chain_ends new last t u v e (subst (λ z. Shows Tells (walk.operator w d last env z) (Err e) t u) p h)))
       where
         go : (new : List Link) → Stands (new ++ last ∷ []) v t → Goes Tells whole s (walk.chain_left w d (new ++ last ∷ []) env v) t
         go [] g = g
         go (l ∷ more) g = g
 
     -- all operators are gone through
-    pub stands_done : (ls : List Link) (v : ℤ) (t : Image) → ls ≡ [] → Stands ls v t → Shows Tells whole (Ok v) s t
-    stands_done ls v t is g = subst (λ z. Stands z v t) is g
+    pub stands_done : (ls : List Link) (v r : ℤ) (t : Image) → ls ≡ [] → Stands ls v t → r ≡ v → Shows Tells whole (Ok r) s t
+    stands_done ls v r t is g q = subst (λ z. Shows Tells whole (Ok z) s t) (sym q) (subst (λ z. Stands z v t) is g)
 
   -- the first operand of an expression whose operators stand in a list
   module _ (x : Expr) (ls : List Link) (e : Expr) (is : x ≡ linked (part_at (nodes_of w)) ls e) where
-    pub stands_begins : (s t : Image) (v : ℤ) → Shows Tells (walk.eval w d e env) (Ok v) s t → Stands (walk.eval w d x env) s ls v t
-    stands_begins s t v h = subst (λ (z : Stored ℤ). Stands z s ls v t) (sym (chain_as ls e) ∙ ap (λ z. walk.eval w d z env) (sym is)) (go ls)
+    pub stands_begins : (s t : Image) (v v' : ℤ) → Shows Tells (walk.eval w d e env) (Ok v') s t → v' ≡ v → Stands (walk.eval w d x env) s ls v t
+    stands_begins s t v v' h p = subst (λ (z : Stored ℤ). Stands z s ls v t) (sym (chain_as ls e) ∙ ap (λ z. walk.eval w d z env) (sym is)) (go ls)
       where
+        k : Shows Tells (walk.eval w d e env) (Ok v) s t
+        k = subst (λ z. Shows Tells (walk.eval w d e env) (Ok z) s t) p h
+
         go : (ls : List Link) → Stands (walk.linked_on w d ls env (walk.eval w d e env)) s ls v t
-        go [] = h
-        go (l ∷ ls) = chain_begins l ls (walk.eval w d e env) s t v h
+        go [] = k
+        go (l ∷ ls) = chain_begins l ls (walk.eval w d e env) s t v k
 
     pub first_ends : (s t : Image) (y : End) (r : Result ℤ End) → r ≡ Err y → Shows Tells (walk.eval w d e env) (Err y) s t → Shows Tells (walk.eval w d x env) r s t
     first_ends s t y r q h = subst (λ z. Shows Tells (walk.eval w d x env) z s t) (sym q) (subst (λ (z : Stored ℤ). Shows Tells z (Err y) s t) (sym (chain_as ls e) ∙ ap (λ z. walk.eval w d z env) (sym is)) (go ls))

@@ -180,12 +180,13 @@ module _ {Tells : Type 0} (w : Work) (d : ℕ) (by : Fold) (env inner : Env) (is
         subst (λ z. Shows Tells (walk.parallel_reduction w d by initial chunk env) z s u) (sym q)
         (began (Err e) u (goes_ends chunking_of (λ a. a) _ (walk.chunking w d chunk (inside env)) (λ k. walk.chunked_fold w d by k start env) t t u e (goes_refl _ t) (subst (λ z. ShowsAs chunking_of Tells (walk.chunking w d chunk z) (Err e) t u) is k)))
 
-    pub parallel_reduction_on : (k : Chunking) (r : Result ℤ End) → ShowsAs chunking_of Tells (walk.chunking w d chunk inner) (Ok k) t u → Shows Tells (walk.chunked_fold w d by (chunking_of k) start env) r u v → Shows Tells (walk.parallel_reduction w d by initial chunk env) r s v
-    parallel_reduction_on k r c l =
-        began r v (then_shows chunking_of (λ a. a) (walk.chunking w d chunk (inside env)) (λ k. walk.chunked_fold w d by k start env) t u v k r (subst (λ z. ShowsAs chunking_of Tells (walk.chunking w d chunk z) (Ok k) t u) is c) l)
+    pub parallel_reduction_on : (k : Chunking) (a : ℤ) (r : Result ℤ End) → ShowsAs chunking_of Tells (walk.chunking w d chunk inner) (Ok k) t u → Shows Tells (walk.chunked_fold w d by (chunking_of k) a env) r u v → a ≡ start → Shows Tells (walk.parallel_reduction w d by initial chunk env) r s v
+    parallel_reduction_on k a r c l p =
+        began r v (then_shows chunking_of (λ a. a) (walk.chunking w d chunk (inside env)) (λ k. walk.chunked_fold w d by k start env) t u v k r (subst (λ z. ShowsAs chunking_of Tells (walk.chunking w d chunk z) (Ok k) t u) is c)
+        (subst (λ z. Shows Tells (walk.chunked_fold w d by (chunking_of k) z env) r u v) p l))
 
-    pub parallel_reduction_stops : (k : Chunking) (e : End) (r : Result ℤ End) → r ≡ Err e → ShowsAs chunking_of Tells (walk.chunking w d chunk inner) (Ok k) t u → Shows Tells (walk.chunked_fold w d by (chunking_of k) start env) (Err e) u v → Shows Tells (walk.parallel_reduction w d by initial chunk env) r s v
-    parallel_reduction_stops k e r q c l = subst (λ z. Shows Tells (walk.parallel_reduction w d by initial chunk env) z s v) (sym q) (parallel_reduction_on k (Err e) c l)
+    pub parallel_reduction_stops : (k : Chunking) (a : ℤ) (e : End) (r : Result ℤ End) → r ≡ Err e → ShowsAs chunking_of Tells (walk.chunking w d chunk inner) (Ok k) t u → Shows Tells (walk.chunked_fold w d by (chunking_of k) a env) (Err e) u v → a ≡ start → Shows Tells (walk.parallel_reduction w d by initial chunk env) r s v
+    parallel_reduction_stops k a e r q c l p = subst (λ z. Shows Tells (walk.parallel_reduction w d by initial chunk env) z s v) (sym q) (parallel_reduction_on k a (Err e) c l p)
 
   module _ (k : Chunking) (start : ℤ) (s t u : Image) (c : courses.Course) (h : ShowsAs course_of Tells (walk.course w d (iteration_at (nodes_of w) by.iteration) inner) (Ok c) s t) where
     abbrev counted : Course → Stored ℤ
@@ -194,11 +195,12 @@ module _ {Tells : Type 0} (w : Work) (d : ℕ) (by : Fold) (env inner : Env) (is
     coursed : (r : Result ℤ End) → Shows Tells (counted (course_of c)) r t u → Shows Tells (walk.chunked_fold w d by (chunking_of k) start env) r s u
     coursed r l = then_shows course_of (λ a. a) (walk.course w d (iteration_at (nodes_of w) by.iteration) (inside env)) counted s t u c r (subst (λ z. ShowsAs course_of Tells (walk.course w d (iteration_at (nodes_of w) by.iteration) z) (Ok c) s t) is h) l
 
-    pub chunked_fold_on : (r : Result ℤ End) → Shows Tells (count_checked w (course_of c).count) (Ok tt) t t → Shows Tells (walk.dealt_fold w d by (chunking_of k) (course_of c) start env) r t u → Shows Tells (walk.chunked_fold w d by (chunking_of k) start env) r s u
-    chunked_fold_on r few l = coursed r (then_shows (λ a. a) (λ a. a) (count_checked w (course_of c).count) (λ _. walk.dealt_fold w d by (chunking_of k) (course_of c) start env) t t u tt r few l)
+    pub chunked_fold_on : (a : ℤ) (r : Result ℤ End) → Shows Tells (count_checked w (course_of c).count) (Ok tt) t t → Shows Tells (walk.dealt_fold w d by (chunking_of k) (course_of c) a env) r t u → a ≡ start → Shows Tells (walk.chunked_fold w d by (chunking_of k) start env) r s u
+    chunked_fold_on a r few l p =
+        coursed r (then_shows (λ a. a) (λ a. a) (count_checked w (course_of c).count) (λ _. walk.dealt_fold w d by (chunking_of k) (course_of c) start env) t t u tt r few (subst (λ z. Shows Tells (walk.dealt_fold w d by (chunking_of k) (course_of c) z env) r t u) p l))
 
-    pub chunked_fold_stops : (e : End) (r : Result ℤ End) → r ≡ Err e → Shows Tells (count_checked w (course_of c).count) (Ok tt) t t → Shows Tells (walk.dealt_fold w d by (chunking_of k) (course_of c) start env) (Err e) t u → Shows Tells (walk.chunked_fold w d by (chunking_of k) start env) r s u
-    chunked_fold_stops e r q few l = subst (λ z. Shows Tells (walk.chunked_fold w d by (chunking_of k) start env) z s u) (sym q) (chunked_fold_on (Err e) few l)
+    pub chunked_fold_stops : (a : ℤ) (e : End) (r : Result ℤ End) → r ≡ Err e → Shows Tells (count_checked w (course_of c).count) (Ok tt) t t → Shows Tells (walk.dealt_fold w d by (chunking_of k) (course_of c) a env) (Err e) t u → a ≡ start → Shows Tells (walk.chunked_fold w d by (chunking_of k) start env) r s u
+    chunked_fold_stops a e r q few l p = subst (λ z. Shows Tells (walk.chunked_fold w d by (chunking_of k) start env) z s u) (sym q) (chunked_fold_on a (Err e) few l p)
 
     pub chunked_fold_many : (e : End) (r : Result ℤ End) → r ≡ Err e → Shows Tells (count_checked w (course_of c).count) (Err e) t u → Shows Tells (walk.chunked_fold w d by (chunking_of k) start env) r s u
     chunked_fold_many e r q many =
@@ -217,13 +219,18 @@ module _ {Tells : Type 0} (w : Work) (d : ℕ) (by : Fold) (env inner : Env) (is
         (subst (λ z. Shows Tells (bind (walk.threads_folded w d by (chunking_of k) c start z (inside env)) (λ accumulators. walk.combined w d by env.nested start accumulators)) r s v) (f ∙ ap (λ z. fold_sizes w k z) e)
         (subst (λ z. Shows Tells (bind (walk.threads_folded w d by (chunking_of k) c start sizes z) (λ accumulators. walk.combined w d by env.nested start accumulators)) r s v) is h))
 
-    pub dealt_fold_ends : (y : End) (r : Result ℤ End) → r ≡ Err y → Shows Tells (walk.threads_folded w d by (chunking_of k) c start sizes inner) (Err y) s t → Shows Tells (walk.dealt_fold w d by (chunking_of k) c start env) r s t
-    dealt_fold_ends y r q h =
+    abbrev began_with : ℤ → Stored (List ℤ)
+    began_with a = walk.threads_folded w d by (chunking_of k) c a sizes inner
+
+    pub dealt_fold_ends : (a : ℤ) (y : End) (r : Result ℤ End) → r ≡ Err y → Shows Tells (began_with a) (Err y) s t → a ≡ start → Shows Tells (walk.dealt_fold w d by (chunking_of k) c start env) r s t
+    dealt_fold_ends a y r q h p =
         subst (λ z. Shows Tells (walk.dealt_fold w d by (chunking_of k) c start env) z s t) (sym q)
-        (dealt_as (Err y) t (goes_ends (λ a. a) (λ a. a) _ (walk.threads_folded w d by (chunking_of k) c start sizes inner) (λ accumulators. walk.combined w d by env.nested start accumulators) s s t y (goes_refl _ s) h))
+        (dealt_as (Err y) t (goes_ends (λ a. a) (λ a. a) _ (began_with start) (λ accumulators. walk.combined w d by env.nested start accumulators) s s t y (goes_refl _ s) (subst (λ z. Shows Tells (began_with z) (Err y) s t) p h)))
 
-    pub dealt_fold_on : (vs : List ℤ) (r : Result ℤ End) → Shows Tells (walk.threads_folded w d by (chunking_of k) c start sizes inner) (Ok vs) s t → Shows Tells (walk.combined w d by env.nested start vs) r t u → Shows Tells (walk.dealt_fold w d by (chunking_of k) c start env) r s u
-    dealt_fold_on vs r h l = dealt_as r u (then_shows (λ a. a) (λ a. a) (walk.threads_folded w d by (chunking_of k) c start sizes inner) (λ accumulators. walk.combined w d by env.nested start accumulators) s t u vs r h l)
+    pub dealt_fold_on : (a b : ℤ) (vs : List ℤ) (r : Result ℤ End) → Shows Tells (began_with a) (Ok vs) s t → Shows Tells (walk.combined w d by env.nested b vs) r t u → a ≡ start → b ≡ start → Shows Tells (walk.dealt_fold w d by (chunking_of k) c start env) r s u
+    dealt_fold_on a b vs r h l p q =
+        dealt_as r u (then_shows (λ a. a) (λ a. a) (began_with start) (λ accumulators. walk.combined w d by env.nested start accumulators) s t u vs r (subst (λ z. Shows Tells (began_with z) (Ok vs) s t) p h)
+        (subst (λ z. Shows Tells (walk.combined w d by env.nested z vs) r t u) q l))
 
-    pub dealt_fold_stops : (vs : List ℤ) (y : End) (r : Result ℤ End) → r ≡ Err y → Shows Tells (walk.threads_folded w d by (chunking_of k) c start sizes inner) (Ok vs) s t → Shows Tells (walk.combined w d by env.nested start vs) (Err y) t u → Shows Tells (walk.dealt_fold w d by (chunking_of k) c start env) r s u
-    dealt_fold_stops vs y r q h l = subst (λ z. Shows Tells (walk.dealt_fold w d by (chunking_of k) c start env) z s u) (sym q) (dealt_fold_on vs (Err y) h l)
+    pub dealt_fold_stops : (a b : ℤ) (vs : List ℤ) (y : End) (r : Result ℤ End) → r ≡ Err y → Shows Tells (began_with a) (Ok vs) s t → Shows Tells (walk.combined w d by env.nested b vs) (Err y) t u → a ≡ start → b ≡ start → Shows Tells (walk.dealt_fold w d by (chunking_of k) c start env) r s u
+    dealt_fold_stops a b vs y r x h l p q = subst (λ z. Shows Tells (walk.dealt_fold w d by (chunking_of k) c start env) z s u) (sym x) (dealt_fold_on a b vs (Err y) h l p q)

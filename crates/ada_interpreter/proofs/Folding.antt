@@ -30,23 +30,28 @@ module _ {Tells : Type 0} (w : Work) (d : ℕ) (by : Fold) (c : Course) (env : E
       unfolding walk.fold_left
       fold_more = goes_instead whole _ _ s t (through_more i n total one lt) g
 
-      pub fold_step : (v : ℤ) → Shows Tells (one i total) (Ok v) t u → Goes Tells whole s (walk.fold_left w d by (i + 1) (n - (i + 1)) c v env) u
-      fold_step v h = goes_then (λ a. a) (λ a. a) whole (one i total) (λ v. walk.fold_left w d by (i + 1) (n - (i + 1)) c v env) s t u v fold_more h
+      pub fold_step : (a v v' : ℤ) → Shows Tells (one i a) (Ok v') t u → a ≡ total → v' ≡ v → Goes Tells whole s (walk.fold_left w d by (i + 1) (n - (i + 1)) c v env) u
+      fold_step a v v' h p q =
+          goes_then (λ a. a) (λ a. a) whole (one i total) (λ v. walk.fold_left w d by (i + 1) (n - (i + 1)) c v env) s t u v fold_more
+          (subst (λ z. Shows Tells (one i z) (Ok v) t u) p (subst (λ z. Shows Tells (one i a) (Ok z) t u) q h))
 
-      pub fold_ends : (x : End) (r : Result ℤ End) → r ≡ Err x → Shows Tells (one i total) (Err x) t u → Shows Tells whole r s u
-      fold_ends x r q h = subst (λ z. Shows Tells whole z s u) (sym q) (goes_ends (λ a. a) (λ a. a) whole (one i total) (λ v. walk.fold_left w d by (i + 1) (n - (i + 1)) c v env) s t u x fold_more h)
+      pub fold_ends : (a : ℤ) (x : End) (r : Result ℤ End) → r ≡ Err x → Shows Tells (one i a) (Err x) t u → a ≡ total → Shows Tells whole r s u
+      fold_ends a x r q h p = subst (λ z. Shows Tells whole z s u) (sym q) (goes_ends (λ a. a) (λ a. a) whole (one i total) (λ v. walk.fold_left w d by (i + 1) (n - (i + 1)) c v env) s t u x fold_more (subst (λ z. Shows Tells (one i z) (Err x) t u) p h))
 
-    pub fold_done : n ≤ i → Goes Tells whole s (walk.fold_left w d by i (n - i) c total env) t → Shows Tells whole (Ok total) s t
+    pub fold_done : (r : ℤ) → n ≤ i → Goes Tells whole s (walk.fold_left w d by i (n - i) c total env) t → r ≡ total → Shows Tells whole (Ok r) s t
     unfolding walk.fold_left
-    fold_done le g = goes_gives (λ a. a) whole total s t (goes_instead whole _ _ s t (through_done i n total one le) g)
+    fold_done r le g p = subst (λ z. Shows Tells whole (Ok z) s t) (sym p) (goes_gives (λ a. a) whole total s t (goes_instead whole _ _ s t (through_done i n total one le) g))
 
   -- none, and all
-  pub fold_none : (n : ℕ) (start : ℤ) (s : Image) → n ≡ 0 → Shows Tells (walk.fold_left w d by 0 n c start env) (Ok start) s s
+  pub fold_none : (n : ℕ) (start r : ℤ) (s : Image) → n ≡ 0 → r ≡ start → Shows Tells (walk.fold_left w d by 0 n c start env) (Ok r) s s
   unfolding walk.fold_left Stored.ret
-  fold_none n start s e = subst (λ n. Shows Tells (walk.fold_left w d by 0 n c start env) (Ok start) s s) (sym e) (refl, λ told. refl)
+  fold_none n start r s e p = subst (λ z. Shows Tells (walk.fold_left w d by 0 n c start env) (Ok z) s s) (sym p) (subst (λ n. Shows Tells (walk.fold_left w d by 0 n c start env) (Ok start) s s) (sym e) (refl, λ told. refl))
 
-  pub fold_as : (first m n : ℕ) (start : ℤ) (r : Result ℤ End) (s t : Image) → m ≡ n → Shows Tells (walk.fold_left w d by first m c start env) r s t → Shows Tells (walk.fold_left w d by first n c start env) r s t
-  fold_as first m n start r s t e h = subst (λ n. Shows Tells (walk.fold_left w d by first n c start env) r s t) e h
+  pub fold_as : (first m n : ℕ) (start a : ℤ) (r : Result ℤ End) (s t : Image) → m ≡ n → Shows Tells (walk.fold_left w d by first m c a env) r s t → a ≡ start → Shows Tells (walk.fold_left w d by first n c start env) r s t
+  fold_as first m n start a r s t e h p = subst (λ z. Shows Tells (walk.fold_left w d by first n c z env) r s t) p (subst (λ n. Shows Tells (walk.fold_left w d by first n c a env) r s t) e h)
+
+  pub fold_fails : (first m n : ℕ) (start a : ℤ) (x : End) (r : Result ℤ End) (s t : Image) → r ≡ Err x → m ≡ n → Shows Tells (walk.fold_left w d by first m c a env) (Err x) s t → a ≡ start → Shows Tells (walk.fold_left w d by first n c start env) r s t
+  fold_fails first m n start a x r s t q e h p = subst (λ z. Shows Tells (walk.fold_left w d by first n c start env) z s t) (sym q) (fold_as first m n start a (Err x) s t e h p)
 
 -- ---- accumulators
 
@@ -67,15 +72,20 @@ module _ {Tells : Type 0} (w : Work) (d : ℕ) (by : Fold) (nested : ℕ) (whole
     unfolding walk.combined_onto
     onto_more = subst (λ z. Goes Tells whole s (walk.combined_onto w d by nested total z) t) (drop_value vs k v is) g
 
-    pub onto_step : (c : ℤ) → Shows Tells (walk.combined_two w d by nested total v) (Ok c) t u → Goes Tells whole s (walk.combined_onto w d by nested c (drop (k + 1) vs)) u
-    onto_step c h = goes_then (λ a. a) (λ a. a) whole (walk.combined_two w d by nested total v) (λ c. walk.combined_onto w d by nested c (drop (k + 1) vs)) s t u c onto_more h
+    pub onto_step : (a b c c' : ℤ) → Shows Tells (walk.combined_two w d by nested a b) (Ok c') t u → a ≡ total → b ≡ v → c' ≡ c → Goes Tells whole s (walk.combined_onto w d by nested c (drop (k + 1) vs)) u
+    onto_step a b c c' h p q r =
+        goes_then (λ a. a) (λ a. a) whole (walk.combined_two w d by nested total v) (λ c. walk.combined_onto w d by nested c (drop (k + 1) vs)) s t u c onto_more
+        (subst (λ z. Shows Tells (walk.combined_two w d by nested z v) (Ok c) t u) p (subst (λ z. Shows Tells (walk.combined_two w d by nested a z) (Ok c) t u) q (subst (λ z. Shows Tells (walk.combined_two w d by nested a b) (Ok z) t u) r h)))
 
-    pub onto_ends : (e : End) (r : Result ℤ End) → r ≡ Err e → Shows Tells (walk.combined_two w d by nested total v) (Err e) t u → Shows Tells whole r s u
-    onto_ends e r q h = subst (λ z. Shows Tells whole z s u) (sym q) (goes_ends (λ a. a) (λ a. a) whole (walk.combined_two w d by nested total v) (λ c. walk.combined_onto w d by nested c (drop (k + 1) vs)) s t u e onto_more h)
+    pub onto_ends : (a b : ℤ) (e : End) (r : Result ℤ End) → r ≡ Err e → Shows Tells (walk.combined_two w d by nested a b) (Err e) t u → a ≡ total → b ≡ v → Shows Tells whole r s u
+    onto_ends a b e r x h p q =
+        subst (λ z. Shows Tells whole z s u) (sym x)
+        (goes_ends (λ a. a) (λ a. a) whole (walk.combined_two w d by nested total v) (λ c. walk.combined_onto w d by nested c (drop (k + 1) vs)) s t u e onto_more
+        (subst (λ z. Shows Tells (walk.combined_two w d by nested z v) (Err e) t u) p (subst (λ z. Shows Tells (walk.combined_two w d by nested a z) (Err e) t u) q h)))
 
-  pub onto_done : slice_get vs k ≡ None → Shows Tells whole (Ok total) s t
+  pub onto_done : (r : ℤ) → slice_get vs k ≡ None → r ≡ total → Shows Tells whole (Ok r) s t
   unfolding walk.combined_onto
-  onto_done is = goes_gives (λ a. a) whole total s t (subst (λ z. Goes Tells whole s (walk.combined_onto w d by nested total z) t) (drop_end vs k is) g)
+  onto_done r is p = subst (λ z. Shows Tells whole (Ok z) s t) (sym p) (goes_gives (λ a. a) whole total s t (subst (λ z. Goes Tells whole s (walk.combined_onto w d by nested total z) t) (drop_end vs k is) g))
 
 -- ---- the threads of a reduction
 

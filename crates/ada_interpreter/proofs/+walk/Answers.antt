@@ -15,7 +15,7 @@ use Rattle.ada_interpreter.specs.Walk.{exec_all, while_loop, for_loop, course, i
 use Rattle.ada_interpreter.proofs.Looping.{while_begins, run_begins, all_step, all_ends, all_done, while_test_ends, while_stops, while_turn_ends, while_body_ends, while_step, while_spent, for_step, for_ends, for_done, for_begins, run_step, run_ends, run_done}
 use Rattle.ada_interpreter.proofs.Scoping.{body_as, call_ends, call_step, called_more, called_fails, formals_none, formals_more, formals_fails, default_more, default_fails, variable_ends, variable_more, variable_fails, constant_ends, constant_more, constant_fails}
 use Rattle.ada_interpreter.proofs.Handling.{caught_shows, chosen_some, chosen_none, guarded_other, guarded_some, guarded_none, alternative_some, alternative_none}
-use Rattle.ada_interpreter.proofs.Folding.{fold_step, fold_ends, fold_done, fold_none, fold_as, onto_step, onto_ends, onto_done}
+use Rattle.ada_interpreter.proofs.Folding.{fold_step, fold_ends, fold_done, fold_none, fold_as, fold_fails, onto_step, onto_ends, onto_done}
 use Rattle.ada_interpreter.proofs.Chaining.{stands_begins, first_ends, stands_step, stands_ends, stands_done, all_below, last_below}
 use Rattle.ada_interpreter.proofs.Forms.{index_as, in_out_as, in_out_ends, in_out_on, range_holds, number_ends}
 use Rattle.ada_interpreter.proofs.Threading.{thread_gives, thread_spent, thread_left, threads_begin, threads_more, threads_end, threads_fail, threads_joined, threads_spent}
@@ -121,19 +121,19 @@ pub values::assigned-returns-in_err-write-in-Some-Number : goal.values::assigned
 values::assigned-returns-in_err-write-in-Some-Number g t c = number_ends c.args.work.now c.args.calls (env_of c.args.env.now) c.args.store.now c.write.new.self c.in-Some-Number.check (expr_at (nodes_of c.args.work.now) c.in-Some-Number.value) (value_at (nodes_of c.args.work.now) c.args.id) (part_of c.args.part) c.in_ok-x-in-Some-Number.x _ c.eval.new.store c.in_err-write-in-Some-Number.field-0.0 _ (search rules) c.in_ok-x-in-Some-Number.ensures (search rules) c.in_err-write-in-Some-Number.ensures (search rules) (search rules)
 
 pub chains::chain-loop-link-init : goal.chains::chain-loop-link-init
-chains::chain-loop-link-init g t c = record { below = c.in_ok-chain.ensures.2; on = stands_begins c.args.work.now c.args.calls (env_of c.args.env.now) (expr_at (nodes_of c.args.work.now) c.args.id) c.in_ok-chain.chain.links (expr_at (nodes_of c.args.work.now) c.in_ok-chain.chain.first) c.in_ok-chain.ensures.0 c.args.store.now c.eval.new.store c.in_ok-value.value c.in_ok-value.ensures }
+chains::chain-loop-link-init g t c = record { below = c.in_ok-chain.ensures.2; on = stands_begins c.args.work.now c.args.calls (env_of c.args.env.now) (expr_at (nodes_of c.args.work.now) c.args.id) c.in_ok-chain.chain.links (expr_at (nodes_of c.args.work.now) c.in_ok-chain.chain.first) c.in_ok-chain.ensures.0 c.args.store.now c.eval.new.store _ c.in_ok-value.value c.in_ok-value.ensures (search rules) }
 
 pub chains::chain-returns-in_err-value : goal.chains::chain-returns-in_err-value
 chains::chain-returns-in_err-value g t c = first_ends c.args.work.now c.args.calls (env_of c.args.env.now) (expr_at (nodes_of c.args.work.now) c.args.id) c.in_ok-chain.chain.links (expr_at (nodes_of c.args.work.now) c.in_ok-chain.chain.first) c.in_ok-chain.ensures.0 c.args.store.now c.eval.new.store c.in_err-value.field-0.0 _ (search rules) c.in_err-value.ensures
 
 pub chains::chain-loop-link-preserved : goal.chains::chain-loop-link-preserved
-chains::chain-loop-link-preserved g t c = record { below = all_below c.args.id c.loop-link.links c.pop.new.self c.in-Some.link c.in-Some.ensures c.loop-link.invariant.below; on = stands_step c.args.work.now c.args.calls (env_of c.args.env.now) (eval c.args.work.now c.args.calls (expr_at (nodes_of c.args.work.now) c.args.id) (env_of c.args.env.now)) c.args.store.now c.loop-link.links c.pop.new.self c.in-Some.link c.loop-link.value _ c.loop-link.store c.operator.new.store c.in-Some.ensures c.loop-link.invariant.on c.in_ok-operator.ensures }
+chains::chain-loop-link-preserved g t c = record { below = all_below c.args.id c.loop-link.links c.pop.new.self c.in-Some.link c.in-Some.ensures c.loop-link.invariant.below; on = stands_step c.args.work.now c.args.calls (env_of c.args.env.now) (eval c.args.work.now c.args.calls (expr_at (nodes_of c.args.work.now) c.args.id) (env_of c.args.env.now)) c.args.store.now c.loop-link.links c.pop.new.self c.in-Some.link c.loop-link.value _ _ _ c.loop-link.store c.operator.new.store c.in-Some.ensures c.loop-link.invariant.on c.in_ok-operator.ensures (search rules) (search rules) }
 
 pub chains::chain-returns-in_err-operator : goal.chains::chain-returns-in_err-operator
-chains::chain-returns-in_err-operator g t c = stands_ends c.args.work.now c.args.calls (env_of c.args.env.now) (eval c.args.work.now c.args.calls (expr_at (nodes_of c.args.work.now) c.args.id) (env_of c.args.env.now)) c.args.store.now c.loop-link.links c.pop.new.self c.in-Some.link c.loop-link.value c.loop-link.store c.operator.new.store c.in_err-operator.field-0.0 _ (search rules) c.in-Some.ensures c.loop-link.invariant.on c.in_err-operator.ensures
+chains::chain-returns-in_err-operator g t c = stands_ends c.args.work.now c.args.calls (env_of c.args.env.now) (eval c.args.work.now c.args.calls (expr_at (nodes_of c.args.work.now) c.args.id) (env_of c.args.env.now)) c.args.store.now c.loop-link.links c.pop.new.self c.in-Some.link c.loop-link.value _ c.loop-link.store c.operator.new.store c.in_err-operator.field-0.0 _ (search rules) c.in-Some.ensures c.loop-link.invariant.on c.in_err-operator.ensures (search rules)
 
 pub chains::chain-returns : goal.chains::chain-returns
-chains::chain-returns g t c = stands_done c.args.work.now c.args.calls (env_of c.args.env.now) (eval c.args.work.now c.args.calls (expr_at (nodes_of c.args.work.now) c.args.id) (env_of c.args.env.now)) c.args.store.now c.loop-link.links c.loop-link.value c.loop-link.store (search rules) c.loop-link.invariant.on
+chains::chain-returns g t c = stands_done c.args.work.now c.args.calls (env_of c.args.env.now) (eval c.args.work.now c.args.calls (expr_at (nodes_of c.args.work.now) c.args.id) (env_of c.args.env.now)) c.args.store.now c.loop-link.links c.loop-link.value _ c.loop-link.store (search rules) c.loop-link.invariant.on (search rules)
 
 pub loops::for_loop-loop-i-init : goal.loops::for_loop-loop-i-init
 loops::for_loop-loop-i-init g t c = record { counted = search rules; on = for_begins c.args.store.now c.args.work.now c.args.calls (course_of c.args.course) (iteration_at (nodes_of c.args.work.now) c.args.iteration) (stmts_at (nodes_of c.args.work.now) c.args.stmts) (env_of c.args.env.now) }
@@ -148,28 +148,31 @@ pub loops::for_loop-returns-in-Some : goal.loops::for_loop-returns-in-Some
 loops::for_loop-returns-in-Some g t c = for_done (for_loop c.args.work.now c.args.calls (course_of c.args.course) (iteration_at (nodes_of c.args.work.now) c.args.iteration) (stmts_at (nodes_of c.args.work.now) c.args.stmts) (env_of c.args.env.now)) c.args.store.now c.loop-i.store c.args.work.now c.args.calls c.loop-i.i (course_of c.args.course) (iteration_at (nodes_of c.args.work.now) c.args.iteration) (stmts_at (nodes_of c.args.work.now) c.args.stmts) (env_of c.args.env.now) (omega (arith, c.loop-i.invariant.counted)) c.loop-i.invariant.on
 
 pub folds::fold-returns-in_err-fold_one : goal.folds::fold-returns-in_err-fold_one
-folds::fold-returns-in_err-fold_one g t c = fold_ends c.args.work.now c.args.calls c.args.by (course_of c.args.course) (env_of c.args.env.now) (fold_left c.args.work.now c.args.calls c.args.by c.args.first (suc c.args.last - c.args.first) (course_of c.args.course) c.args.start (env_of c.args.env.now)) c.args.store.now c.loop-i.store c.fold_one.new.store c.loop-i.i (suc c.args.last) c.loop-i.total (omega arith) c.loop-i.invariant c.in_err-fold_one.field-0.0 _ (search rules) c.in_err-fold_one.ensures
+folds::fold-returns-in_err-fold_one g t c = fold_ends c.args.work.now c.args.calls c.args.by (course_of c.args.course) (env_of c.args.env.now) (fold_left c.args.work.now c.args.calls c.args.by c.args.first (suc c.args.last - c.args.first) (course_of c.args.course) c.args.start (env_of c.args.env.now)) c.args.store.now c.loop-i.store c.fold_one.new.store c.loop-i.i (suc c.args.last) c.loop-i.total (omega arith) c.loop-i.invariant _ c.in_err-fold_one.field-0.0 _ (search rules) c.in_err-fold_one.ensures (search rules)
 
 pub folds::fold-loop-i-preserved : goal.folds::fold-loop-i-preserved
-folds::fold-loop-i-preserved g t c = fold_step c.args.work.now c.args.calls c.args.by (course_of c.args.course) (env_of c.args.env.now) (fold_left c.args.work.now c.args.calls c.args.by c.args.first (suc c.args.last - c.args.first) (course_of c.args.course) c.args.start (env_of c.args.env.now)) c.args.store.now c.loop-i.store c.fold_one.new.store c.loop-i.i (suc c.args.last) c.loop-i.total (omega arith) c.loop-i.invariant _ c.in_ok-fold_one.ensures
+folds::fold-loop-i-preserved g t c = fold_step c.args.work.now c.args.calls c.args.by (course_of c.args.course) (env_of c.args.env.now) (fold_left c.args.work.now c.args.calls c.args.by c.args.first (suc c.args.last - c.args.first) (course_of c.args.course) c.args.start (env_of c.args.env.now)) c.args.store.now c.loop-i.store c.fold_one.new.store c.loop-i.i (suc c.args.last) c.loop-i.total (omega arith) c.loop-i.invariant _ _ _ c.in_ok-fold_one.ensures (search rules) (search rules)
 
 pub folds::fold-returns : goal.folds::fold-returns
-folds::fold-returns g t c = fold_done c.args.work.now c.args.calls c.args.by (course_of c.args.course) (env_of c.args.env.now) (fold_left c.args.work.now c.args.calls c.args.by c.args.first (suc c.args.last - c.args.first) (course_of c.args.course) c.args.start (env_of c.args.env.now)) c.args.store.now c.loop-i.store c.loop-i.store c.loop-i.i (suc c.args.last) c.loop-i.total (omega arith) c.loop-i.invariant
+folds::fold-returns g t c = fold_done c.args.work.now c.args.calls c.args.by (course_of c.args.course) (env_of c.args.env.now) (fold_left c.args.work.now c.args.calls c.args.by c.args.first (suc c.args.last - c.args.first) (course_of c.args.course) c.args.start (env_of c.args.env.now)) c.args.store.now c.loop-i.store c.loop-i.store c.loop-i.i (suc c.args.last) c.loop-i.total _ (omega arith) c.loop-i.invariant (search rules)
 
 pub folds::fold_all-returns-in-None : goal.folds::fold_all-returns-in-None
-folds::fold_all-returns-in-None g t c = fold_none c.args.work.now c.args.calls c.args.by (course_of c.args.course) (env_of c.args.env.now) (course_of c.args.course).count c.args.start c.args.store.now (search rules)
+folds::fold_all-returns-in-None g t c = fold_none c.args.work.now c.args.calls c.args.by (course_of c.args.course) (env_of c.args.env.now) (course_of c.args.course).count c.args.start _ c.args.store.now (search rules) (search rules)
 
 pub folds::fold_all-returns-in_ok-total-in-Some : goal.folds::fold_all-returns-in_ok-total-in-Some
-folds::fold_all-returns-in_ok-total-in-Some g t c = fold_as c.args.work.now c.args.calls c.args.by (course_of c.args.course) (env_of c.args.env.now) 0 _ (course_of c.args.course).count _ _ c.args.store.now c.fold.new.store (omega (arith, c.in-Some.ensures)) c.in_ok-total-in-Some.ensures
+folds::fold_all-returns-in_ok-total-in-Some g t c = fold_as c.args.work.now c.args.calls c.args.by (course_of c.args.course) (env_of c.args.env.now) 0 (suc c.in-Some.last - 0) (course_of c.args.course).count c.args.start _ (Ok c.in_ok-total-in-Some.total) c.args.store.now c.fold.new.store (omega (arith, c.in-Some.ensures)) c.in_ok-total-in-Some.ensures (search rules)
+
+pub folds::fold_all-returns-in_err-total-in-Some : goal.folds::fold_all-returns-in_err-total-in-Some
+folds::fold_all-returns-in_err-total-in-Some g t c = fold_fails c.args.work.now c.args.calls c.args.by (course_of c.args.course) (env_of c.args.env.now) 0 (suc c.in-Some.last - 0) (course_of c.args.course).count c.args.start _ c.in_err-total-in-Some.field-0.0 _ c.args.store.now c.fold.new.store (search rules) (omega (arith, c.in-Some.ensures)) c.in_err-total-in-Some.ensures (search rules)
 
 pub folds::combined_onto-returns-in_err-combined_two : goal.folds::combined_onto-returns-in_err-combined_two
-folds::combined_onto-returns-in_err-combined_two g t c = onto_ends c.args.work.now c.args.calls c.args.by c.args.nested (combined_onto c.args.work.now c.args.calls c.args.by c.args.nested c.args.first c.args.values.now) c.args.store.now c.loop-value.store c.combined_two.new.store c.loop-value.total c.args.values.now c.loop-value.k c.loop-value.invariant c.in-Some.value (search rules) c.in_err-combined_two.field-0.0 _ (search rules) c.in_err-combined_two.ensures
+folds::combined_onto-returns-in_err-combined_two g t c = onto_ends c.args.work.now c.args.calls c.args.by c.args.nested (combined_onto c.args.work.now c.args.calls c.args.by c.args.nested c.args.first c.args.values.now) c.args.store.now c.loop-value.store c.combined_two.new.store c.loop-value.total c.args.values.now c.loop-value.k c.loop-value.invariant c.in-Some.value (search rules) _ _ c.in_err-combined_two.field-0.0 _ (search rules) c.in_err-combined_two.ensures (search rules) (search rules)
 
 pub folds::combined_onto-loop-value-preserved : goal.folds::combined_onto-loop-value-preserved
-folds::combined_onto-loop-value-preserved g t c = onto_step c.args.work.now c.args.calls c.args.by c.args.nested (combined_onto c.args.work.now c.args.calls c.args.by c.args.nested c.args.first c.args.values.now) c.args.store.now c.loop-value.store c.combined_two.new.store c.loop-value.total c.args.values.now c.loop-value.k c.loop-value.invariant c.in-Some.value (search rules) _ c.in_ok-combined_two.ensures
+folds::combined_onto-loop-value-preserved g t c = onto_step c.args.work.now c.args.calls c.args.by c.args.nested (combined_onto c.args.work.now c.args.calls c.args.by c.args.nested c.args.first c.args.values.now) c.args.store.now c.loop-value.store c.combined_two.new.store c.loop-value.total c.args.values.now c.loop-value.k c.loop-value.invariant c.in-Some.value (search rules) _ _ _ _ c.in_ok-combined_two.ensures (search rules) (search rules) (search rules)
 
 pub folds::combined_onto-returns : goal.folds::combined_onto-returns
-folds::combined_onto-returns g t c = onto_done c.args.work.now c.args.calls c.args.by c.args.nested (combined_onto c.args.work.now c.args.calls c.args.by c.args.nested c.args.first c.args.values.now) c.args.store.now c.loop-value.store c.loop-value.store c.loop-value.total c.args.values.now c.loop-value.k c.loop-value.invariant (search rules)
+folds::combined_onto-returns g t c = onto_done c.args.work.now c.args.calls c.args.by c.args.nested (combined_onto c.args.work.now c.args.calls c.args.by c.args.nested c.args.first c.args.values.now) c.args.store.now c.loop-value.store c.loop-value.store c.loop-value.total c.args.values.now c.loop-value.k c.loop-value.invariant _ (search rules) (search rules)
 
 pub constructs::parallel_for-returns-in_err-chunking : goal.constructs::parallel_for-returns-in_err-chunking
 constructs::parallel_for-returns-in_err-chunking g t c = parallel_for_ends c.args.work.now c.args.calls (env_of c.args.env.now) (env_of c.in_ok-inner.inner) c.in_ok-inner.ensures c.args.store.now c.begin_chunks.new.store c.begin_chunks.new.store c.args.number (chunk_at (nodes_of c.args.work.now) c.args.chunk) (iteration_at (nodes_of c.args.work.now) c.args.iteration) (stmts_at (nodes_of c.args.work.now) c.args.stmts) c.in_ok-opened.ensures c.in_err-chunking.field-0.0 _ (search rules) c.in_err-chunking.ensures
@@ -256,10 +259,10 @@ pub folds::parallel_reduction-returns-in_err-chunking : goal.folds::parallel_red
 folds::parallel_reduction-returns-in_err-chunking g t c = parallel_reduction_ends c.args.work.now c.args.calls c.args.by (env_of c.args.env.now) (env_of c.in_ok-inner.inner) c.in_ok-inner.ensures (expr_at (nodes_of c.args.work.now) c.args.initial) (chunk_at (nodes_of c.args.work.now) c.args.chunk) c.args.store.now c.eval.new.store c.begin_chunks.new.store c.begin_chunks.new.store c.in_ok-start.start c.in_ok-start.ensures c.in_ok-opened.ensures c.in_err-chunking.field-0.0 _ (search rules) c.in_err-chunking.ensures
 
 pub folds::parallel_reduction-returns-in_ok-total : goal.folds::parallel_reduction-returns-in_ok-total
-folds::parallel_reduction-returns-in_ok-total g t c = parallel_reduction_on c.args.work.now c.args.calls c.args.by (env_of c.args.env.now) (env_of c.in_ok-inner.inner) c.in_ok-inner.ensures (expr_at (nodes_of c.args.work.now) c.args.initial) (chunk_at (nodes_of c.args.work.now) c.args.chunk) c.args.store.now c.eval.new.store c.begin_chunks.new.store c.chunked_fold.new.store c.in_ok-start.start c.in_ok-start.ensures c.in_ok-opened.ensures c.in_ok-chunking.chunking (Ok c.in_ok-total.total) c.in_ok-chunking.ensures c.in_ok-total.ensures
+folds::parallel_reduction-returns-in_ok-total g t c = parallel_reduction_on c.args.work.now c.args.calls c.args.by (env_of c.args.env.now) (env_of c.in_ok-inner.inner) c.in_ok-inner.ensures (expr_at (nodes_of c.args.work.now) c.args.initial) (chunk_at (nodes_of c.args.work.now) c.args.chunk) c.args.store.now c.eval.new.store c.begin_chunks.new.store c.chunked_fold.new.store c.in_ok-start.start c.in_ok-start.ensures c.in_ok-opened.ensures c.in_ok-chunking.chunking _ (Ok c.in_ok-total.total) c.in_ok-chunking.ensures c.in_ok-total.ensures (search rules)
 
 pub folds::parallel_reduction-returns-in_err-total : goal.folds::parallel_reduction-returns-in_err-total
-folds::parallel_reduction-returns-in_err-total g t c = parallel_reduction_stops c.args.work.now c.args.calls c.args.by (env_of c.args.env.now) (env_of c.in_ok-inner.inner) c.in_ok-inner.ensures (expr_at (nodes_of c.args.work.now) c.args.initial) (chunk_at (nodes_of c.args.work.now) c.args.chunk) c.args.store.now c.eval.new.store c.begin_chunks.new.store c.chunked_fold.new.store c.in_ok-start.start c.in_ok-start.ensures c.in_ok-opened.ensures c.in_ok-chunking.chunking c.in_err-total.field-0.0 _ (search rules) c.in_ok-chunking.ensures c.in_err-total.ensures
+folds::parallel_reduction-returns-in_err-total g t c = parallel_reduction_stops c.args.work.now c.args.calls c.args.by (env_of c.args.env.now) (env_of c.in_ok-inner.inner) c.in_ok-inner.ensures (expr_at (nodes_of c.args.work.now) c.args.initial) (chunk_at (nodes_of c.args.work.now) c.args.chunk) c.args.store.now c.eval.new.store c.begin_chunks.new.store c.chunked_fold.new.store c.in_ok-start.start c.in_ok-start.ensures c.in_ok-opened.ensures c.in_ok-chunking.chunking _ c.in_err-total.field-0.0 _ (search rules) c.in_ok-chunking.ensures c.in_err-total.ensures (search rules)
 
 pub folds::chunked_fold-returns-in_err-course : goal.folds::chunked_fold-returns-in_err-course
 folds::chunked_fold-returns-in_err-course g t c = chunked_fold_ends c.args.work.now c.args.calls c.args.by (env_of c.args.env.now) (env_of c.in_ok-inner.inner) c.in_ok-inner.ensures c.args.chunking c.args.start c.args.store.now c.begin_course.new.store c.in_err-course.field-0.0 _ (search rules) c.in_err-course.ensures
@@ -268,19 +271,19 @@ pub folds::chunked_fold-returns-in_err-check_count : goal.folds::chunked_fold-re
 folds::chunked_fold-returns-in_err-check_count g t c = chunked_fold_many c.args.work.now c.args.calls c.args.by (env_of c.args.env.now) (env_of c.in_ok-inner.inner) c.in_ok-inner.ensures c.args.chunking c.args.start c.args.store.now c.begin_course.new.store c.begin_course.new.store c.in_ok-course.course c.in_ok-course.ensures c.in_err-check_count.field-0.0 _ (search rules) c.in_err-check_count.ensures
 
 pub folds::chunked_fold-returns-in_ok-total : goal.folds::chunked_fold-returns-in_ok-total
-folds::chunked_fold-returns-in_ok-total g t c = chunked_fold_on c.args.work.now c.args.calls c.args.by (env_of c.args.env.now) (env_of c.in_ok-inner.inner) c.in_ok-inner.ensures c.args.chunking c.args.start c.args.store.now c.begin_course.new.store c.dealt_fold.new.store c.in_ok-course.course c.in_ok-course.ensures (Ok c.in_ok-total.total) c.in_ok-check_count.ensures c.in_ok-total.ensures
+folds::chunked_fold-returns-in_ok-total g t c = chunked_fold_on c.args.work.now c.args.calls c.args.by (env_of c.args.env.now) (env_of c.in_ok-inner.inner) c.in_ok-inner.ensures c.args.chunking c.args.start c.args.store.now c.begin_course.new.store c.dealt_fold.new.store c.in_ok-course.course c.in_ok-course.ensures _ (Ok c.in_ok-total.total) c.in_ok-check_count.ensures c.in_ok-total.ensures (search rules)
 
 pub folds::chunked_fold-returns-in_err-total : goal.folds::chunked_fold-returns-in_err-total
-folds::chunked_fold-returns-in_err-total g t c = chunked_fold_stops c.args.work.now c.args.calls c.args.by (env_of c.args.env.now) (env_of c.in_ok-inner.inner) c.in_ok-inner.ensures c.args.chunking c.args.start c.args.store.now c.begin_course.new.store c.dealt_fold.new.store c.in_ok-course.course c.in_ok-course.ensures c.in_err-total.field-0.0 _ (search rules) c.in_ok-check_count.ensures c.in_err-total.ensures
+folds::chunked_fold-returns-in_err-total g t c = chunked_fold_stops c.args.work.now c.args.calls c.args.by (env_of c.args.env.now) (env_of c.in_ok-inner.inner) c.in_ok-inner.ensures c.args.chunking c.args.start c.args.store.now c.begin_course.new.store c.dealt_fold.new.store c.in_ok-course.course c.in_ok-course.ensures _ c.in_err-total.field-0.0 _ (search rules) c.in_ok-check_count.ensures c.in_err-total.ensures (search rules)
 
 pub folds::dealt_fold-returns-in_err-values : goal.folds::dealt_fold-returns-in_err-values
-folds::dealt_fold-returns-in_err-values g t c = dealt_fold_ends c.args.work.now c.args.calls c.args.by (env_of c.args.env.now) (env_of c.in_ok-inner.inner) c.in_ok-inner.ensures c.args.chunking (course_of c.args.course) c.args.start c.in_ok-count.count c.in_ok-sizes.sizes c.in_ok-count.ensures c.in_ok-sizes.ensures c.args.store.now c.fold_threads.new.store c.fold_threads.new.store c.in_err-values.field-0.0 _ (search rules) (rw c.as_slice.ensures at c.in_err-values.ensures)
+folds::dealt_fold-returns-in_err-values g t c = dealt_fold_ends c.args.work.now c.args.calls c.args.by (env_of c.args.env.now) (env_of c.in_ok-inner.inner) c.in_ok-inner.ensures c.args.chunking (course_of c.args.course) c.args.start c.in_ok-count.count c.in_ok-sizes.sizes c.in_ok-count.ensures c.in_ok-sizes.ensures c.args.store.now c.fold_threads.new.store c.fold_threads.new.store _ c.in_err-values.field-0.0 _ (search rules) (rw c.as_slice.ensures at c.in_err-values.ensures) (search rules)
 
 pub folds::dealt_fold-returns-in_ok-total : goal.folds::dealt_fold-returns-in_ok-total
-folds::dealt_fold-returns-in_ok-total g t c = dealt_fold_on c.args.work.now c.args.calls c.args.by (env_of c.args.env.now) (env_of c.in_ok-inner.inner) c.in_ok-inner.ensures c.args.chunking (course_of c.args.course) c.args.start c.in_ok-count.count c.in_ok-sizes.sizes c.in_ok-count.ensures c.in_ok-sizes.ensures c.args.store.now c.fold_threads.new.store c.combined.new.store c.in_ok-values.values (Ok c.in_ok-total.total) (rw c.as_slice.ensures at c.in_ok-values.ensures) (search rules)
+folds::dealt_fold-returns-in_ok-total g t c = dealt_fold_on c.args.work.now c.args.calls c.args.by (env_of c.args.env.now) (env_of c.in_ok-inner.inner) c.in_ok-inner.ensures c.args.chunking (course_of c.args.course) c.args.start c.in_ok-count.count c.in_ok-sizes.sizes c.in_ok-count.ensures c.in_ok-sizes.ensures c.args.store.now c.fold_threads.new.store c.combined.new.store _ _ c.in_ok-values.values (Ok c.in_ok-total.total) (rw c.as_slice.ensures at c.in_ok-values.ensures) (rw (c.as_slice-1.ensures, c.nested.ensures) at c.in_ok-total.ensures) (search rules) (search rules)
 
 pub folds::dealt_fold-returns-in_err-total : goal.folds::dealt_fold-returns-in_err-total
-folds::dealt_fold-returns-in_err-total g t c = dealt_fold_stops c.args.work.now c.args.calls c.args.by (env_of c.args.env.now) (env_of c.in_ok-inner.inner) c.in_ok-inner.ensures c.args.chunking (course_of c.args.course) c.args.start c.in_ok-count.count c.in_ok-sizes.sizes c.in_ok-count.ensures c.in_ok-sizes.ensures c.args.store.now c.fold_threads.new.store c.combined.new.store c.in_ok-values.values c.in_err-total.field-0.0 _ (search rules) (rw c.as_slice.ensures at c.in_ok-values.ensures) (search rules)
+folds::dealt_fold-returns-in_err-total g t c = dealt_fold_stops c.args.work.now c.args.calls c.args.by (env_of c.args.env.now) (env_of c.in_ok-inner.inner) c.in_ok-inner.ensures c.args.chunking (course_of c.args.course) c.args.start c.in_ok-count.count c.in_ok-sizes.sizes c.in_ok-count.ensures c.in_ok-sizes.ensures c.args.store.now c.fold_threads.new.store c.combined.new.store _ _ c.in_ok-values.values c.in_err-total.field-0.0 _ (search rules) (rw c.as_slice.ensures at c.in_ok-values.ensures) (rw (c.as_slice-1.ensures, c.nested.ensures) at c.in_err-total.ensures) (search rules) (search rules)
 
 pub folds::fold_threads-loop-size-init : goal.folds::fold_threads-loop-size-init
 folds::fold_threads-loop-size-init g t c = threads_begin after_all [] c.args.sizes.now (share_folded c.args.work.now c.args.calls c.args.by (chunking_of c.args.chunking) (course_of c.args.course) c.args.start (env_of c.args.env.now)) c.args.store.now c.turns-from.result c.turns-from.result c.turns-from.ensures c.turns-from.ensures
