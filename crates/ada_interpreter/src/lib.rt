@@ -18,6 +18,3 @@ pub mod values;
 
 pub use run_parts::Work;
 pub use runs::run;
-
-#[cfg(test)]
-mod tests;

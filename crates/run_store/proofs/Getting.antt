@@ -30,7 +30,7 @@ fewest Open bytes = omega arith
 fewest AtEnd bytes = omega arith
 fewest Broken bytes = omega arith
 
-module _ {Tells : Type 0} (old new sink : Stream) (before after : Held) where
+module _ (old new sink : Stream) (before after : Held) where
   get_cause : (e : GetEnd) (ended : Bool) (bytes : List ℕ) → Gave (last_of e ended) old new bytes → GetCauses e (opened before old sink).faults (opened after new sink).faults
   get_cause (get.Number v) true bytes g = ap (λ n. record { input = n; output = sink.faults }) g.faults
   get_cause (get.Number v) false bytes g = ap (λ n. record { input = n; output = sink.faults }) g.faults
@@ -40,9 +40,10 @@ module _ {Tells : Type 0} (old new sink : Stream) (before after : Held) where
   get_cause get.Spent true bytes g = ap (λ n. record { input = n; output = sink.faults }) g.faults
   get_cause get.Spent false bytes g = ap (λ n. record { input = n; output = sink.faults }) g.faults
 
+module _ {Tells : Type 0} (old new sink : Stream) (before after : Held) where
   pub port_gets : (turns : ℕ) (r : Got) → (Tells → IsTold old) → (Tells → IsTold new) → Gets old new before after turns r → HasGot Tells turns r (opened before old sink) (opened after new sink)
   port_gets turns r told-old told-new g = record {
-    cause = get_cause r.end g.ended g.bytes g.gave;
+    cause = get_cause old new sink before after r.end g.ended g.bytes g.gave;
     within = g.within;
     fewer = let f = fewest (last_of r.end g.ended) g.bytes in omega (arith, f, g.took, g.came);
     gets = λ told.
@@ -69,7 +70,7 @@ causes_as get.ReadFault f g h = h
 causes_as get.Spent f g h = h
 
 pub get_shows : {Tells : Type 0} (limit left : ℕ) (s : Image) (o : Outside) (r : Got) → s.state.turns + left ≡ limit → HasGot Tells left r (outside_of s) o → Shows Tells (got limit) (number_of r.end) s (read_to s r o)
-get_shows limit left s o r e h = (causes_as r.end s.faults o.faults h.cause, λ told. shown told)
+get_shows {Tells = Tells} limit left s o r e h = (causes_as r.end s.faults o.faults h.cause, λ told. shown told)
   where
     shown : Tells → Answers (λ a. a) (got limit) (number_of r.end) s.state (read_to s r o).state
     shown told =

@@ -7,7 +7,8 @@ use Rattle.run_store.specs.declared.ends.Mark.{Mark}
 use Rattle.run_store.specs.declared.ends.Object.{Object}
 use Rattle.run_store.specs.declared.ends.End.{End}
 use Rattle.run_store.specs.declared.ends.End.TheVariants as end
-use Rattle.run_store.specs.Shows.{Image, Faults, Causes, ShowsAs, Does, Goes, leave_of, entity_of, table_of, Begins, cut_back, finished, Enters, unframed}
+use Rattle.run_store.specs.Outside.{Faults}
+use Rattle.run_store.specs.Shows.{Image, Causes, ShowsAs, Does, Goes, leave_of, entity_of, table_of, Begins, cut_back, finished, Enters, unframed}
 
 -- a fault's cause, where nothing failed before
 pub causes_later : (A B : Type 0) (e : End) (f g h : Faults) → g ≡ f → Causes {A = A} (Err e) g h → Causes {A = B} (Err e) f h

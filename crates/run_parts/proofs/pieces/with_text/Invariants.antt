@@ -7,7 +7,7 @@ use Rattle.run_parts.proofs.pieces.with_text.Given as goal
 abbrev pub invariant-loop-cell : goal.invariant-loop-cell
 invariant-loop-cell l = record {
   below : l.at ≤ l.id;
-  same : l.text ++ bytes_in (leaves_at (nodes_of l.work) l.at) ≡ l.out ++ bytes_in (leaves_at (nodes_of l.work) l.id);
+  same : l.text ++ bytes_in (leaves_at (nodes_of l.work) l.at) ≡ l.fn.out ++ bytes_in (leaves_at (nodes_of l.work) l.id);
 }
 
 abbrev pub decreases-loop-cell : goal.decreases-loop-cell

@@ -1,5 +1,5 @@
-use crate::{Work, run};
 use ada_base::{Base, Items, Op};
+use ada_interpreter::{Work, run};
 use ada_port::{HeldSink, SureSource};
 use ada_typed::{
     Body, Check, Class, Decl, Expr, Iteration, Node, Nodes, Object, Piece, Root, Scalar, Stmt,
