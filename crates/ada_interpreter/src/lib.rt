@@ -16,5 +16,5 @@ pub mod stmts;
 pub mod texts;
 pub mod values;
 
-pub use run_parts::Work;
+pub use run_parts::{SoundPlan, Work};
 pub use runs::run;

@@ -1,10 +1,11 @@
 use ada_base::{Base, Items, Op};
-use ada_interpreter::{Work, run};
+use ada_interpreter::{SoundPlan, Work, run};
 use ada_port::{HeldSink, SureSource};
 use ada_typed::{
     Body, Check, Class, Decl, Expr, Iteration, Node, Nodes, Object, Piece, Root, Scalar, Stmt,
     Subtype, Typed, Value,
 };
+use chunk_plan::Plan;
 use run_store::{End, Leave, Ports, Store};
 use std::alloc::{AllocError, Global};
 use std::test::Fail;
@@ -165,8 +166,10 @@ fn shown(alloc: Global, typed: &Typed, input: &str, limit: u64) -> Result<String
     let source = SureSource::new(Vec::from_slice(alloc, input.as_bytes())?);
     let ports = Ports::new(source, HeldSink::new(alloc));
     let mut store = Store::new(alloc, 4, ports)?;
+    let plan = SoundPlan::new(Plan::One);
     let work = Work {
         typed,
+        plan: &plan,
         limit,
         alloc,
     };
