@@ -8,7 +8,7 @@ ghost use Rattle.run_parts.specs.Words as spec;
 
 use crate::offsets::moved;
 use ada_typed::Check;
-use run_store::{End, Env, Part, Range, is_in, last_of};
+use run_store::{End, Env, Part, Range, count, is_in, last_of};
 
 /// What an iteration goes through, once that is evaluated: the values of a range, or components of an array.
 #[derive(Clone, Copy)]
@@ -48,12 +48,12 @@ impl Course {
     pub fn count(self) -> Result<u64, End>
         ensures { OrNoMemory (λ n. n ≡ (course_of self).count) result }
     {
-        match self.last() {
-            None => Ok(0),
-            Some(last) => match last.checked_add(1) {
-                Some(count) => Ok(count),
-                None => Err(End::NoMemory),
-            },
+        match self {
+            Course::Values { range, .. } => {
+                let n = count(range)?;
+                Ok(n)
+            }
+            Course::Components { count, .. } => Ok(u64::from(count)),
         }
     }
 

@@ -1,6 +1,6 @@
 //! How the iterations of parallel constructs are dealt to threads (5.5, 5.6.1).
 
-ghost use Rattle.std.specs.Prelude.{◌≡◌, ◌≤◌};
+ghost use Rattle.std.specs.Prelude.{◌≡◌, ◌≤◌, MatchOption};
 ghost use Rattle.ada_base.specs.Cuts.{cuts_of, evens};
 ghost use Rattle.ada_meaning.specs.Values.{without_zeros};
 ghost use Rattle.chunk_plan.specs.Plans.{HasNoZero, plan_of};
@@ -38,6 +38,17 @@ impl SoundPlan {
         ensures { result ≡ plan_of plan }
     {
         SoundPlan { plan }
+    }
+
+    /// A plan, unless a number in it is 0.
+    pub fn checked(plan: Plan) -> Option<SoundPlan>
+        ensures { MatchOption result (HasNoZero plan → ⊥) (λ sound. sound ≡ plan_of plan) }
+    {
+        if plan.has_no_zero() {
+            Some(SoundPlan { plan })
+        } else {
+            None
+        }
     }
 
     // the sizes of chunks by the plan

@@ -63,6 +63,19 @@ pub struct Range {
     pub high: i64,
 }
 
+/// How many numbers a range has, where 64 bits hold that.
+pub fn count(range: Range) -> Result<u64, End>
+    ensures { OrNoMemory (λ n. n ≡ spec.count range.low range.high) result }
+{
+    if range.high < range.low {
+        return Ok(0);
+    }
+    match u64::try_from(i128::from(range.high) - i128::from(range.low) + 1) {
+        Ok(n) => Ok(n),
+        Err(_) => Err(End::NoMemory),
+    }
+}
+
 /// The last number of a range, counted from 0 at the lower end; None where it has none.
 pub fn last_of(range: Range) -> Option<u64>
     ensures { MatchOption result (spec.count range.low range.high ≡ 0) (λ last. spec.count range.low range.high ≡ last + 1) }
