@@ -74,7 +74,7 @@ fn fold_all<P: Port + Drop>(
     match course.last() {
         None => Ok(start),
         Some(last) => {
-            let total = fold(work, calls, by, course, 0, last, start, env, store)?;
+            let total = fold_iterations(work, calls, by, course, 0, last, start, env, store)?;
             Ok(total)
         }
     }
@@ -83,7 +83,7 @@ fn fold_all<P: Port + Drop>(
 // the iterations from one to another
 #[cycle(walk)]
 #[inline(never)]
-fn fold<P: Port + Drop>(
+fn fold_iterations<P: Port + Drop>(
     work: &Work<'_>,
     calls: u32,
     by: Fold,
@@ -390,7 +390,7 @@ fn fold_share<P: Port + Drop>(
         Ok(start)
     } else {
         let last = later(first, size - 1)?;
-        let total = fold(work, calls, by, course, first, last, start, &inner, store)?;
+        let total = fold_iterations(work, calls, by, course, first, last, start, &inner, store)?;
         Ok(total)
     }
 }

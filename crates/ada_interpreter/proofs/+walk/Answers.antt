@@ -147,23 +147,23 @@ loops::for_loop-loop-i-preserved g t c = record { counted = c.loop-i.invariant.c
 pub loops::for_loop-returns-in-Some : goal.loops::for_loop-returns-in-Some
 loops::for_loop-returns-in-Some g t c = for_done (for_loop c.args.work.now c.args.calls (course_of c.args.course) (iteration_at (nodes_of c.args.work.now) c.args.iteration) (stmts_at (nodes_of c.args.work.now) c.args.stmts) (env_of c.args.env.now)) c.args.store.now c.loop-i.store c.args.work.now c.args.calls c.loop-i.i (course_of c.args.course) (iteration_at (nodes_of c.args.work.now) c.args.iteration) (stmts_at (nodes_of c.args.work.now) c.args.stmts) (env_of c.args.env.now) (omega (arith, c.loop-i.invariant.counted)) c.loop-i.invariant.on
 
-pub folds::fold-returns-in_err-fold_one : goal.folds::fold-returns-in_err-fold_one
-folds::fold-returns-in_err-fold_one g t c = fold_ends c.args.work.now c.args.calls c.args.by (course_of c.args.course) (env_of c.args.env.now) (fold_left c.args.work.now c.args.calls c.args.by c.args.first (suc c.args.last - c.args.first) (course_of c.args.course) c.args.start (env_of c.args.env.now)) c.args.store.now c.loop-i.store c.fold_one.new.store c.loop-i.i (suc c.args.last) c.loop-i.total (omega arith) c.loop-i.invariant _ c.in_err-fold_one.field-0.0 _ (search rules) c.in_err-fold_one.ensures (search rules)
+pub folds::fold_iterations-returns-in_err-fold_one : goal.folds::fold_iterations-returns-in_err-fold_one
+folds::fold_iterations-returns-in_err-fold_one g t c = fold_ends c.args.work.now c.args.calls c.args.by (course_of c.args.course) (env_of c.args.env.now) (fold_left c.args.work.now c.args.calls c.args.by c.args.first (suc c.args.last - c.args.first) (course_of c.args.course) c.args.start (env_of c.args.env.now)) c.args.store.now c.loop-i.store c.fold_one.new.store c.loop-i.i (suc c.args.last) c.loop-i.total (omega arith) c.loop-i.invariant _ c.in_err-fold_one.field-0.0 _ (search rules) c.in_err-fold_one.ensures (search rules)
 
-pub folds::fold-loop-i-preserved : goal.folds::fold-loop-i-preserved
-folds::fold-loop-i-preserved g t c = fold_step c.args.work.now c.args.calls c.args.by (course_of c.args.course) (env_of c.args.env.now) (fold_left c.args.work.now c.args.calls c.args.by c.args.first (suc c.args.last - c.args.first) (course_of c.args.course) c.args.start (env_of c.args.env.now)) c.args.store.now c.loop-i.store c.fold_one.new.store c.loop-i.i (suc c.args.last) c.loop-i.total (omega arith) c.loop-i.invariant _ _ _ c.in_ok-fold_one.ensures (search rules) (search rules)
+pub folds::fold_iterations-loop-i-preserved : goal.folds::fold_iterations-loop-i-preserved
+folds::fold_iterations-loop-i-preserved g t c = fold_step c.args.work.now c.args.calls c.args.by (course_of c.args.course) (env_of c.args.env.now) (fold_left c.args.work.now c.args.calls c.args.by c.args.first (suc c.args.last - c.args.first) (course_of c.args.course) c.args.start (env_of c.args.env.now)) c.args.store.now c.loop-i.store c.fold_one.new.store c.loop-i.i (suc c.args.last) c.loop-i.total (omega arith) c.loop-i.invariant _ _ _ c.in_ok-fold_one.ensures (search rules) (search rules)
 
-pub folds::fold-returns : goal.folds::fold-returns
-folds::fold-returns g t c = fold_done c.args.work.now c.args.calls c.args.by (course_of c.args.course) (env_of c.args.env.now) (fold_left c.args.work.now c.args.calls c.args.by c.args.first (suc c.args.last - c.args.first) (course_of c.args.course) c.args.start (env_of c.args.env.now)) c.args.store.now c.loop-i.store c.loop-i.store c.loop-i.i (suc c.args.last) c.loop-i.total _ (omega arith) c.loop-i.invariant (search rules)
+pub folds::fold_iterations-returns : goal.folds::fold_iterations-returns
+folds::fold_iterations-returns g t c = fold_done c.args.work.now c.args.calls c.args.by (course_of c.args.course) (env_of c.args.env.now) (fold_left c.args.work.now c.args.calls c.args.by c.args.first (suc c.args.last - c.args.first) (course_of c.args.course) c.args.start (env_of c.args.env.now)) c.args.store.now c.loop-i.store c.loop-i.store c.loop-i.i (suc c.args.last) c.loop-i.total _ (omega arith) c.loop-i.invariant (search rules)
 
 pub folds::fold_all-returns-in-None : goal.folds::fold_all-returns-in-None
 folds::fold_all-returns-in-None g t c = fold_none c.args.work.now c.args.calls c.args.by (course_of c.args.course) (env_of c.args.env.now) (course_of c.args.course).count c.args.start _ c.args.store.now (search rules) (search rules)
 
 pub folds::fold_all-returns-in_ok-total-in-Some : goal.folds::fold_all-returns-in_ok-total-in-Some
-folds::fold_all-returns-in_ok-total-in-Some g t c = fold_as c.args.work.now c.args.calls c.args.by (course_of c.args.course) (env_of c.args.env.now) 0 (suc c.in-Some.last - 0) (course_of c.args.course).count c.args.start _ (Ok c.in_ok-total-in-Some.total) c.args.store.now c.fold.new.store (omega (arith, c.in-Some.ensures)) c.in_ok-total-in-Some.ensures (search rules)
+folds::fold_all-returns-in_ok-total-in-Some g t c = fold_as c.args.work.now c.args.calls c.args.by (course_of c.args.course) (env_of c.args.env.now) 0 (suc c.in-Some.last - 0) (course_of c.args.course).count c.args.start _ (Ok c.in_ok-total-in-Some.total) c.args.store.now c.fold_iterations.new.store (omega (arith, c.in-Some.ensures)) c.in_ok-total-in-Some.ensures (search rules)
 
 pub folds::fold_all-returns-in_err-total-in-Some : goal.folds::fold_all-returns-in_err-total-in-Some
-folds::fold_all-returns-in_err-total-in-Some g t c = fold_fails c.args.work.now c.args.calls c.args.by (course_of c.args.course) (env_of c.args.env.now) 0 (suc c.in-Some.last - 0) (course_of c.args.course).count c.args.start _ c.in_err-total-in-Some.field-0.0 _ c.args.store.now c.fold.new.store (search rules) (omega (arith, c.in-Some.ensures)) c.in_err-total-in-Some.ensures (search rules)
+folds::fold_all-returns-in_err-total-in-Some g t c = fold_fails c.args.work.now c.args.calls c.args.by (course_of c.args.course) (env_of c.args.env.now) 0 (suc c.in-Some.last - 0) (course_of c.args.course).count c.args.start _ c.in_err-total-in-Some.field-0.0 _ c.args.store.now c.fold_iterations.new.store (search rules) (omega (arith, c.in-Some.ensures)) c.in_err-total-in-Some.ensures (search rules)
 
 pub folds::combined_onto-returns-in_err-combined_two : goal.folds::combined_onto-returns-in_err-combined_two
 folds::combined_onto-returns-in_err-combined_two g t c = onto_ends c.args.work.now c.args.calls c.args.by c.args.nested (combined_onto c.args.work.now c.args.calls c.args.by c.args.nested c.args.first c.args.values.now) c.args.store.now c.loop-value.store c.combined_two.new.store c.loop-value.total c.args.values.now c.loop-value.k c.loop-value.invariant c.in-Some.value (search rules) _ _ c.in_err-combined_two.field-0.0 _ (search rules) c.in_err-combined_two.ensures (search rules) (search rules)

@@ -226,8 +226,8 @@ decreases-folds::reduction g l = 1208925819614629174706176 * l.calls + 109951162
 abbrev pub decreases-folds::fold_all : goal.decreases-folds::fold_all
 decreases-folds::fold_all g l = 1208925819614629174706176 * l.calls + 1099511627776 * (max l.by.iteration l.by.value) + 721554505728
 
-abbrev pub decreases-folds::fold : goal.decreases-folds::fold
-decreases-folds::fold g l = 1208925819614629174706176 * l.calls + 1099511627776 * (max l.by.iteration l.by.value) + 687194767360
+abbrev pub decreases-folds::fold_iterations : goal.decreases-folds::fold_iterations
+decreases-folds::fold_iterations g l = 1208925819614629174706176 * l.calls + 1099511627776 * (max l.by.iteration l.by.value) + 687194767360
 
 abbrev pub decreases-folds::fold_one : goal.decreases-folds::fold_one
 decreases-folds::fold_one g l = 1208925819614629174706176 * l.calls + 1099511627776 * (max l.by.iteration l.by.value) + 618475290624
@@ -274,8 +274,8 @@ decreases-folds::combined_two g l = 1208925819614629174706176 * l.calls + 137438
 abbrev pub decreases-calls::call_checked : goal.decreases-calls::call_checked
 decreases-calls::call_checked g l = 1208925819614629174706176 * l.calls
 
-abbrev pub invariant-folds::fold-loop-i : goal.invariant-folds::fold-loop-i
-invariant-folds::fold-loop-i g l =
+abbrev pub invariant-folds::fold_iterations-loop-i : goal.invariant-folds::fold_iterations-loop-i
+invariant-folds::fold_iterations-loop-i g l =
     Goes g.P.Port.Tells (fold_left l.work l.calls l.by l.first (suc l.last - l.first) (course_of l.course) l.start (env_of l.env)) l.fn.store
     (fold_left l.work l.calls l.by l.i (suc l.last - l.i) (course_of l.course) l.total (env_of l.env)) l.store
 
