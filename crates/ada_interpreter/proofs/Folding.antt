@@ -11,7 +11,7 @@ use Rattle.ada_base.specs.Cuts.{cuts_of}
 use Rattle.ada_stored.proofs.Computing.{through_more, through_done}
 use Rattle.run_store.specs.Shows.{Image, Goes, Shows}
 use Rattle.run_store.specs.declared.ends.End.{End}
-use Rattle.run_store.proofs.Going.{goes_refl, goes_instead, goes_then, goes_ends, goes_gives}
+use Rattle.run_store.proofs.Going.{goes_refl, goes_instead, goes_then, goes_ends, goes_gives, same_shows}
 use Rattle.run_parts.specs.declared.work.Work.{Work}
 use Rattle.run_parts.specs.declared.chunks.Chunking.{Chunking}
 use Rattle.run_parts.specs.declared.chunks.Chunking.TheVariants as chunking
@@ -90,10 +90,31 @@ module _ {Tells : Type 0} (w : Work) (d : ℕ) (by : Fold) (nested : ℕ) (whole
 -- ---- the threads of a reduction
 
 module _ (w : Work) (d : ℕ) (by : Fold) (c : Course) (start : ℤ) (env : Env) where
-  share_as : (k : Chunking) (s : Share) → walk.share_folded w d by (chunking_of k) c start (inside env) s ≡ walk.fold_left w d by s.first s.size c start ((chunking_of k).bound s.number (inside env))
+  share_as : (k : Chunking) (s : Share) → walk.share_folded w d by (chunking_of k) c start env s ≡ walk.fold_left w d by s.first s.size c start ((chunking_of k).bound s.number env)
   unfolding walk.share_folded walk.fold_left
   share_as (chunking.ByPlan most) s = refl
   share_as (chunking.Each p low n) s = refl
+
+  module _ {Tells : Type 0} (k : Chunking) (number first size : ℕ) (s t : Image) where
+    abbrev share : Share
+    share = record { number = number; first = first; size = size }
+
+    pub fold_share_none : (r : ℤ) → size ≡ 0 → r ≡ start → Shows Tells (walk.share_folded w d by (chunking_of k) c start env share) (Ok r) s s
+    unfolding walk.share_folded Stored.ret
+    fold_share_none r e p =
+        subst (λ z. Shows Tells (walk.share_folded w d by (chunking_of k) c start env share) (Ok z) s s) (sym p)
+        (subst (λ n. Shows Tells (walk.share_folded w d by (chunking_of k) c start env (record { number = number; first = first; size = n })) (Ok start) s s) (sym e) (refl, λ told. refl))
+
+    pub fold_share_on : (inner : Env) (m : ℕ) (a : ℤ) (r : Result ℤ End) → inner ≡ (chunking_of k).bound number env → m ≡ size → Shows Tells (walk.fold_left w d by first m c a inner) r s t → a ≡ start → Shows Tells (walk.share_folded w d by (chunking_of k) c start env share) r s t
+    fold_share_on inner m a r is e h p =
+        same_shows (λ a. a) (walk.share_folded w d by (chunking_of k) c start env share) (walk.fold_left w d by first size c start ((chunking_of k).bound number env)) r s t (share_as k share)
+        (subst (λ z. Shows Tells (walk.fold_left w d by first z c start ((chunking_of k).bound number env)) r s t) e
+        (subst (λ z. Shows Tells (walk.fold_left w d by first m c z ((chunking_of k).bound number env)) r s t) p
+        (subst (λ z. Shows Tells (walk.fold_left w d by first m c a z) r s t) is h)))
+
+    pub fold_share_ends : (inner : Env) (m : ℕ) (a : ℤ) (x : End) (r : Result ℤ End) → r ≡ Err x → inner ≡ (chunking_of k).bound number env → m ≡ size → Shows Tells (walk.fold_left w d by first m c a inner) (Err x) s t → a ≡ start
+        → Shows Tells (walk.share_folded w d by (chunking_of k) c start env share) r s t
+    fold_share_ends inner m a x r q is e h p = subst (λ z. Shows Tells (walk.share_folded w d by (chunking_of k) c start env share) z s t) (sym q) (fold_share_on inner m a (Err x) is e h p)
 
   pub dealt_fold_as : (k : Chunking) → walk.dealt_fold w d by (chunking_of k) c start env
       ≡ bind (walk.threads_folded w d by (chunking_of k) c start (fold_sizes w k c.count) (inside env)) (λ accumulators. walk.combined w d by env.nested start accumulators)

@@ -15,7 +15,7 @@ use Rattle.ada_interpreter.specs.Walk.{exec_all, while_loop, for_loop, course, i
 use Rattle.ada_interpreter.proofs.Looping.{while_begins, run_begins, all_step, all_ends, all_done, while_test_ends, while_stops, while_turn_ends, while_body_ends, while_step, while_spent, for_step, for_ends, for_done, for_begins, run_step, run_ends, run_done}
 use Rattle.ada_interpreter.proofs.Scoping.{body_as, call_ends, call_step, called_more, called_fails, formals_none, formals_more, formals_fails, default_more, default_fails, variable_ends, variable_more, variable_fails, constant_ends, constant_more, constant_fails}
 use Rattle.ada_interpreter.proofs.Handling.{caught_shows, chosen_some, chosen_none, guarded_other, guarded_some, guarded_none, alternative_some, alternative_none}
-use Rattle.ada_interpreter.proofs.Folding.{fold_step, fold_ends, fold_done, fold_none, fold_as, fold_fails, onto_step, onto_ends, onto_done}
+use Rattle.ada_interpreter.proofs.Folding.{fold_step, fold_ends, fold_done, fold_none, fold_as, fold_fails, fold_share_none, fold_share_on, fold_share_ends, onto_step, onto_ends, onto_done}
 use Rattle.ada_interpreter.proofs.Chaining.{stands_begins, first_ends, stands_step, stands_ends, stands_done, all_below, last_below}
 use Rattle.ada_interpreter.proofs.Forms.{index_as, in_out_as, in_out_ends, in_out_on, range_holds, number_ends}
 use Rattle.ada_interpreter.proofs.Threading.{thread_gives, thread_spent, thread_left, threads_begin, threads_more, threads_end, threads_fail, threads_joined, threads_spent}
@@ -335,3 +335,12 @@ folds::combined_by_call-returns-in_ok-returned g t c = combined_on c.args.work.n
 
 pub folds::combined_by_call-returns-in_err-returned : goal.folds::combined_by_call-returns-in_err-returned
 folds::combined_by_call-returns-in_err-returned g t c = combined_ends c.args.work.now c.args.calls c.args.nested c.args.sub c.args.both c.args.store.now c.call_checked.new.store (passed_list c.args.work.now c.in_ok-passed.passed) c.in_err-returned.field-0.0 _ (search rules) c.in_ok-passed.ensures (rw c.as_slice.ensures at c.in_err-returned.ensures)
+
+pub folds::fold_share-returns-then : goal.folds::fold_share-returns-then
+folds::fold_share-returns-then g t c = fold_share_none c.args.work.now c.args.calls c.args.by (course_of c.args.course) c.args.start (env_of c.args.env.now) c.args.chunking c.args.number c.args.first c.args.size c.args.store.now c.args.store.now _ (search rules) (search rules)
+
+pub folds::fold_share-returns-in_ok-total : goal.folds::fold_share-returns-in_ok-total
+folds::fold_share-returns-in_ok-total g t c = fold_share_on c.args.work.now c.args.calls c.args.by (course_of c.args.course) c.args.start (env_of c.args.env.now) c.args.chunking c.args.number c.args.first c.args.size c.args.store.now c.fold_iterations.new.store (env_of c.in_ok-inner.inner) (suc c.in_ok-last.last - c.args.first) _ (Ok c.in_ok-total.total) c.in_ok-inner.ensures (omega (arith, c.in_ok-last.ensures)) c.in_ok-total.ensures (search rules)
+
+pub folds::fold_share-returns-in_err-total : goal.folds::fold_share-returns-in_err-total
+folds::fold_share-returns-in_err-total g t c = fold_share_ends c.args.work.now c.args.calls c.args.by (course_of c.args.course) c.args.start (env_of c.args.env.now) c.args.chunking c.args.number c.args.first c.args.size c.args.store.now c.fold_iterations.new.store (env_of c.in_ok-inner.inner) (suc c.in_ok-last.last - c.args.first) _ c.in_err-total.field-0.0 _ (search rules) c.in_ok-inner.ensures (omega (arith, c.in_ok-last.ensures)) c.in_err-total.ensures (search rules)
