@@ -2,11 +2,11 @@
 use Rattle.std.proofs.Common.{◌≡◌, ℕ, zero, suc, ◌+◌, max, List, [], ◌∷◌, drop, slice_get, Bool, true, false, ◌||◌, cond, Option, Some, None, refl, sym, subst, ap, ◌∙◌, arith}
 use Rattle.std.specs.Prelude.{Result, Ok, Err}
 use Rattle.behaviours.specs.Joins.{Share, deal}
-use Rattle.ada_stored.specs.Stored.{Stored, After, Took, took, Left, at, bind, ret, spent, rewinds, thread, threads, par, is_spent, gathered}
+use Rattle.ada_stored.specs.Stored.{Stored, After, Took, took, Left, at, bind, ret, spent, rewinds, thread, threads, par, is_spent, gathered, first_of_both}
 use Rattle.run_store.specs.declared.ends.End.{End}
 use Rattle.run_store.specs.declared.ends.End.TheVariants as end
 use Rattle.run_store.specs.declared.ends.Leave.{Leave}
-use Rattle.run_store.specs.Shows.{Image, Goes, ShowsAs, Shows, Does, leave_of}
+use Rattle.run_store.specs.Shows.{Image, Goes, ShowsAs, Shows, Does, OrNoMemory, leave_of}
 use Rattle.run_store.proofs.Going.{goes_refl, goes_on, goes_then, goes_ends, goes_gives, goes_fails, then_shows}
 
 -- ---- one thread, where an answer of the code stands for what it took
@@ -93,8 +93,15 @@ module _ {Tells : Type 0} {A B : Type 0} (whole : Stored B) (f : B → A → B) 
       threads_end e y q l = subst (λ z. Shows Tells whole z s v) (sym q) (goes_ends h (λ a. a) whole (thread most (body share)) rest s u v e begun l)
 
       -- and memory failed after it
-      pub threads_fail : (c : C) → ShowsAs h Tells (thread most (body share)) (Ok c) u v → Shows Tells whole (Err end.NoMemory) s v
-      threads_fail c l = goes_fails (λ a. a) whole (rest (h c)) s v (goes_then h (λ a. a) whole (thread most (body share)) rest s u v c begun l)
+      pub threads_fail : {X : Type 0} (P : X → Type 0) (c : C) (e : End) (y : Result B End) → y ≡ Err e → OrNoMemory P (Err e) → ShowsAs h Tells (thread most (body share)) (Ok c) u v → Shows Tells whole y s v
+      threads_fail P c e y q o l = subst (λ z. Shows Tells whole z s v) (sym q) (go e o)
+        where
+          go : (e : End) → OrNoMemory P (Err e) → Shows Tells whole (Err e) s v
+          go (end.Left x) o = absurd o
+          go end.Spent o = absurd o
+          go end.NoMemory o = goes_fails (λ a. a) whole (rest (h c)) s v (goes_then h (λ a. a) whole (thread most (body share)) rest s u v c begun l)
+          go end.ReadFault o = absurd o
+          go end.WriteFault o = absurd o
 
   -- after the last thread
   module _ (is : slice_get sizes k ≡ None) (r : Does Tells (rewinds most) t u) where
@@ -113,3 +120,13 @@ pub then_done : {Tells : Type 0} (m : Stored (Unit {0})) (r : Result (Unit {0}) 
 unfolding ret
 then_done m (Ok u) s t h = then_shows (λ a. a) (λ a. a) m (λ _. ret tt) s t t tt (Ok tt) h (refl, λ told. refl)
 then_done m (Err e) s t h = goes_ends (λ a. a) (λ a. a) _ m (λ _. ret tt) s s t e (goes_refl _ s) h
+
+-- what code holds of a thread of a loop
+
+pub spent_as : (b : Bool) → is_spent {A = Unit {0}} (cond b None (Some tt)) ≡ b
+spent_as true = refl
+spent_as false = refl
+
+pub gathered_none : (b : Bool) → tt ≡ gathered first_of_both tt (cond b None (Some tt))
+gathered_none true = refl
+gathered_none false = refl

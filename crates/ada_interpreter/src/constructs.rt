@@ -18,8 +18,8 @@ use crate::loops::iterate;
 use crate::stmts::exec_all;
 use ada_typed::Chunk;
 use run_parts::{
-    Chunking, Course, Work, caught, check_count, count_arms, each_chunk, even_sizes, find_arm,
-    inside, later, loop_sizes, most_of, opened, size_at,
+    Chunking, Course, Work, caught, check_count, count_arms, each_chunk, either, even_sizes,
+    find_arm, inside, later, loop_sizes, most_of, opened, size_at,
 };
 use run_store::{End, Env, Port, Range, Store};
 
@@ -250,7 +250,7 @@ fn run_threads<P: Port + Drop>(
         store.rewind(from);
         let took = run_thread(work, calls, task, most, k as u64, first, size, env, store)?;
         most = took.most;
-        over = over || took.spent;
+        over = either(over, took.spent);
         first = later(first, size)?;
         k += 1;
     }

@@ -18,8 +18,8 @@ use crate::exprs::eval;
 use ada_base::{Items, Reason};
 use ada_typed::Reducer;
 use run_parts::{
-    Both, Chunking, Course, Work, check_count, fold_sizes, inside, later, opened, push_some,
-    reduced_by, size_at, turned, value_at,
+    Both, Chunking, Course, Work, check_count, either, fold_sizes, inside, is_spent, later, opened,
+    push_some, reduced_by, size_at, turned, value_at,
 };
 use run_store::{End, Env, Leave, Port, Store};
 
@@ -319,7 +319,7 @@ fn fold_threads<P: Port + Drop>(
             work, calls, by, chunking, course, start, most, k as u64, first, size, env, store,
         )?;
         most = folded.most;
-        over = over || folded.value.is_none();
+        over = either(over, is_spent(folded.value));
         push_some(&mut values, folded.value)?;
         first = later(first, size)?;
         k += 1;

@@ -1,11 +1,11 @@
 -- How iterations are dealt to threads, as code holds it.
-use Rattle.std.specs.Prelude.{ℕ, zero, suc, ℤ, pos, ◌+ℤ◌, int_le, nat_le, List, [], ◌∷◌, ◌++◌, Option, Some, None}
+use Rattle.std.specs.Prelude.{ℕ, zero, suc, ℤ, pos, ◌+ℤ◌, int_le, nat_le, List, [], ◌∷◌, ◌++◌, Option, Some, None, Bool}
 use Rattle.ada_base.specs.Cuts.{cuts_of}
 use Rattle.ada_base.specs.declared.reason.Reason.TheVariants as reason
 use Rattle.ada_meaning.specs.Values.{count, to_nat}
 use Rattle.ada_meaning.specs.Meaning as meaning
 use Rattle.ada_meaning.specs.Meaning.{Env, with_parameter, cut_of, value_cut_of, most_threads, most_iterations}
-use Rattle.ada_stored.specs.Stored.{Stored, sizes_of, bind, ret}
+use Rattle.ada_stored.specs.Stored.{Stored, sizes_of, bind, ret, is_spent}
 use Rattle.ada_typed.specs.declared.scalars.Check.{Check}
 use Rattle.ada_typed.specs.Syntax.{Arms, NoArm, Arm, Stmts}
 use Rattle.run_parts.specs.declared.chunks.Chunking.{Chunking}
@@ -50,3 +50,7 @@ abbrev pub found_arm : Arms → ℕ → Option Stmts
 found_arm NoArm i = None
 found_arm (Arm stmts rest) zero = Some stmts
 found_arm (Arm stmts rest) (suc i) = found_arm rest i
+
+-- a thread has no value, since its turns are spent
+abbrev pub spent : Option ℤ → Bool
+spent v = is_spent v

@@ -1,6 +1,7 @@
 //! Parallel constructs (5.5, 5.6.1): where they begin, and their arms.
 
-ghost use Rattle.std.specs.Prelude.{◌≡◌, ◌+◌, ◌<◌, IfSome, option_map};
+ghost use Rattle.std.specs.Prelude.{◌≡◌, ◌+◌, ◌<◌, ◌||◌, IfSome, option_map};
+ghost use Rattle.run_parts.specs.Dealing.{spent};
 ghost use Rattle.ada_typed.specs.Decoded.{arms_at, stmts_at};
 ghost use Rattle.ada_meaning.specs.Meaning.{arms_of};
 ghost use Rattle.ada_meaning.specs.Meaning as meaning;
@@ -97,4 +98,18 @@ pub fn find_arm(work: &Work<'_>, id: u32, index: u64) -> Option<u32>
         at = cell.rest;
     }
     None
+}
+
+/// Whether the turns of a thread before, or of this one, are spent.
+pub fn either(before: bool, now: bool) -> bool
+    ensures { result ≡ (before || now) }
+{
+    before || now
+}
+
+/// Whether a thread has no value, since its turns are spent.
+pub fn is_spent(value: Option<i64>) -> bool
+    ensures { result ≡ spent value }
+{
+    value.is_none()
 }

@@ -23,7 +23,7 @@ pub use cells::{
 };
 pub use chains::{Chain, operands};
 pub use chunks::{Chunking, each_chunk, most_of};
-pub use constructs::{check_count, count_arms, find_arm, inside, opened};
+pub use constructs::{check_count, count_arms, either, find_arm, inside, is_spent, opened};
 pub use copies::{all_copied_back, back_cells, find_sub, first_cells};
 pub use courses::{Course, bounds_hold};
 pub use finding::{find_alternative, find_handler};

@@ -1,4 +1,4 @@
-use Rattle.std.proofs.Common.{rules, arith, ◌≡◌, suc, ◌-◌, ◌+◌, ◌<◌, ◌≤◌, [], subst, sym, refl, Ok, Err, ◌∙◌, to_z, of_z, w64}
+use Rattle.std.proofs.Common.{rules, arith, ap, ◌||◌, ◌≡◌, suc, ◌-◌, ◌+◌, ◌<◌, ◌≤◌, [], subst, sym, refl, Ok, Err, ◌∙◌, to_z, of_z, w64}
 use Rattle.ada_typed.specs.Decoded.{stmts_at, stmt_at, optional_at, iteration_at, value_at, decls_at, handlers_at, body_at, expr_at, alternatives_at, arms_at, chunk_at, actuals_at, selections_at}
 use Rattle.ada_typed.specs.Programs.{sub_of}
 use Rattle.behaviours.specs.Paths as paths
@@ -18,7 +18,7 @@ use Rattle.ada_interpreter.proofs.Handling.{caught_shows, chosen_some, chosen_no
 use Rattle.ada_interpreter.proofs.Folding.{fold_step, fold_ends, fold_done, fold_none, fold_as, fold_fails, fold_share_none, fold_share_on, fold_share_ends, onto_step, onto_ends, onto_done}
 use Rattle.ada_interpreter.proofs.Chaining.{stands_begins, first_ends, stands_step, stands_ends, stands_done, all_below, last_below}
 use Rattle.ada_interpreter.proofs.Forms.{index_as, in_out_as, in_out_ends, in_out_on, range_holds, number_ends}
-use Rattle.ada_interpreter.proofs.Threading.{thread_gives, thread_spent, thread_left, threads_begin, threads_more, threads_end, threads_fail, threads_joined, threads_spent}
+use Rattle.ada_interpreter.proofs.Threading.{thread_gives, thread_spent, thread_left, threads_begin, threads_more, threads_end, threads_fail, threads_joined, threads_spent, spent_as, gathered_none}
 use Rattle.ada_interpreter.proofs.Dealing.{dealt_loop_shows, dealt_arms_shows, dealt_arms_ends, parallel_for_ends, parallel_for_on, parallel_for_stops, parallel_block_ends, parallel_block_on, parallel_block_stops, chunked_loop_on, chunked_loop_stops, chunked_loop_many, arm_none, arm_some, arm_ends, parallel_reduction_ends, parallel_reduction_on, parallel_reduction_stops, chunked_fold_on, chunked_fold_stops, chunked_fold_many, chunked_fold_ends, dealt_fold_ends, dealt_fold_on, dealt_fold_stops, share_begins, share_step, share_ends, share_done}
 use Rattle.ada_interpreter.specs.Threads.{took_of, folded_of}
 use Rattle.ada_interpreter.proofs.Reducing.{checked_ends, checked_step, checked_stops, checked_not, reduced_on, reduced_ends, reduced_not, combined_on, combined_ends}
@@ -214,7 +214,7 @@ pub constructs::run_threads-loop-size-init : goal.constructs::run_threads-loop-s
 constructs::run_threads-loop-size-init g t c = threads_begin first_of_both tt c.args.sizes.now (share_run c.args.work.now c.args.calls c.args.task (env_of c.args.env.now)) c.args.store.now c.turns-from.result c.turns-from.result c.turns-from.ensures c.turns-from.ensures
 
 pub constructs::run_threads-loop-size-preserved : goal.constructs::run_threads-loop-size-preserved
-constructs::run_threads-loop-size-preserved g t c = threads_more (threads_run c.args.work.now c.args.calls c.args.task c.args.sizes.now (env_of c.args.env.now)) first_of_both (share_run c.args.work.now c.args.calls c.args.task (env_of c.args.env.now)) c.turns-from.result c.loop-size.most c.loop-size.k c.loop-size.first c.args.sizes.now c.loop-size.over tt c.args.store.now c.loop-size.store c.rewind.new.self c.loop-size.invariant c.in-Some.size (search rules) c.rewind.ensures took_of c.run_thread.new.store c.in_ok-took.took _ _ _ tt c.in_ok-took.ensures refl c.in_ok-first.ensures (search rules) refl
+constructs::run_threads-loop-size-preserved g t c = threads_more (threads_run c.args.work.now c.args.calls c.args.task c.args.sizes.now (env_of c.args.env.now)) first_of_both (share_run c.args.work.now c.args.calls c.args.task (env_of c.args.env.now)) c.turns-from.result c.loop-size.most c.loop-size.k c.loop-size.first c.args.sizes.now c.loop-size.over tt c.args.store.now c.loop-size.store c.rewind.new.self c.loop-size.invariant c.in-Some.size (search rules) c.rewind.ensures took_of c.run_thread.new.store c.in_ok-took.took _ _ _ tt c.in_ok-took.ensures refl c.in_ok-first.ensures (c.either.ensures ∙ ap (λ z. c.loop-size.over || z) (sym (spent_as c.in_ok-took.took.spent))) (gathered_none c.in_ok-took.took.spent)
 
 pub constructs::run_threads-returns-in_err-took : goal.constructs::run_threads-returns-in_err-took
 constructs::run_threads-returns-in_err-took g t c = threads_end (threads_run c.args.work.now c.args.calls c.args.task c.args.sizes.now (env_of c.args.env.now)) first_of_both (share_run c.args.work.now c.args.calls c.args.task (env_of c.args.env.now)) c.turns-from.result c.loop-size.most c.loop-size.k c.loop-size.first c.args.sizes.now c.loop-size.over tt c.args.store.now c.loop-size.store c.rewind.new.self c.loop-size.invariant c.in-Some.size (search rules) c.rewind.ensures took_of c.run_thread.new.store c.in_err-took.field-0.0 _ (search rules) c.in_err-took.ensures
@@ -289,7 +289,7 @@ pub folds::fold_threads-loop-size-init : goal.folds::fold_threads-loop-size-init
 folds::fold_threads-loop-size-init g t c = threads_begin after_all [] c.args.sizes.now (share_folded c.args.work.now c.args.calls c.args.by (chunking_of c.args.chunking) (course_of c.args.course) c.args.start (env_of c.args.env.now)) c.args.store.now c.turns-from.result c.turns-from.result c.turns-from.ensures c.turns-from.ensures
 
 pub folds::fold_threads-loop-size-preserved : goal.folds::fold_threads-loop-size-preserved
-folds::fold_threads-loop-size-preserved g t c = threads_more (threads_folded c.args.work.now c.args.calls c.args.by (chunking_of c.args.chunking) (course_of c.args.course) c.args.start c.args.sizes.now (env_of c.args.env.now)) after_all (share_folded c.args.work.now c.args.calls c.args.by (chunking_of c.args.chunking) (course_of c.args.course) c.args.start (env_of c.args.env.now)) c.turns-from.result c.loop-size.most c.loop-size.k c.loop-size.first c.args.sizes.now c.loop-size.over c.loop-size.values c.args.store.now c.loop-size.store c.rewind.new.self c.loop-size.invariant c.in-Some.size (search rules) c.rewind.ensures folded_of c.fold_thread.new.store c.in_ok-folded.folded _ _ _ _ c.in_ok-folded.ensures refl c.in_ok-first.ensures (search rules) c.in_ok-push_some.ensures
+folds::fold_threads-loop-size-preserved g t c = threads_more (threads_folded c.args.work.now c.args.calls c.args.by (chunking_of c.args.chunking) (course_of c.args.course) c.args.start c.args.sizes.now (env_of c.args.env.now)) after_all (share_folded c.args.work.now c.args.calls c.args.by (chunking_of c.args.chunking) (course_of c.args.course) c.args.start (env_of c.args.env.now)) c.turns-from.result c.loop-size.most c.loop-size.k c.loop-size.first c.args.sizes.now c.loop-size.over c.loop-size.values c.args.store.now c.loop-size.store c.rewind.new.self c.loop-size.invariant c.in-Some.size (search rules) c.rewind.ensures folded_of c.fold_thread.new.store c.in_ok-folded.folded _ _ _ _ c.in_ok-folded.ensures refl c.in_ok-first.ensures (c.either.ensures ∙ ap (λ z. c.loop-size.over || z) c.is_spent.ensures) c.in_ok-push_some.ensures
 
 pub folds::fold_threads-returns-in_err-folded : goal.folds::fold_threads-returns-in_err-folded
 folds::fold_threads-returns-in_err-folded g t c = threads_end (threads_folded c.args.work.now c.args.calls c.args.by (chunking_of c.args.chunking) (course_of c.args.course) c.args.start c.args.sizes.now (env_of c.args.env.now)) after_all (share_folded c.args.work.now c.args.calls c.args.by (chunking_of c.args.chunking) (course_of c.args.course) c.args.start (env_of c.args.env.now)) c.turns-from.result c.loop-size.most c.loop-size.k c.loop-size.first c.args.sizes.now c.loop-size.over c.loop-size.values c.args.store.now c.loop-size.store c.rewind.new.self c.loop-size.invariant c.in-Some.size (search rules) c.rewind.ensures folded_of c.fold_thread.new.store c.in_err-folded.field-0.0 _ (search rules) c.in_err-folded.ensures
@@ -344,3 +344,12 @@ folds::fold_share-returns-in_ok-total g t c = fold_share_on c.args.work.now c.ar
 
 pub folds::fold_share-returns-in_err-total : goal.folds::fold_share-returns-in_err-total
 folds::fold_share-returns-in_err-total g t c = fold_share_ends c.args.work.now c.args.calls c.args.by (course_of c.args.course) c.args.start (env_of c.args.env.now) c.args.chunking c.args.number c.args.first c.args.size c.args.store.now c.fold_iterations.new.store (env_of c.in_ok-inner.inner) (suc c.in_ok-last.last - c.args.first) _ c.in_err-total.field-0.0 _ (search rules) c.in_ok-inner.ensures (omega (arith, c.in_ok-last.ensures)) c.in_err-total.ensures (search rules)
+
+pub constructs::run_threads-returns-in_err-first : goal.constructs::run_threads-returns-in_err-first
+constructs::run_threads-returns-in_err-first g t c = threads_fail (threads_run c.args.work.now c.args.calls c.args.task c.args.sizes.now (env_of c.args.env.now)) first_of_both (share_run c.args.work.now c.args.calls c.args.task (env_of c.args.env.now)) c.turns-from.result c.loop-size.most c.loop-size.k c.loop-size.first c.args.sizes.now c.loop-size.over tt c.args.store.now c.loop-size.store c.rewind.new.self c.loop-size.invariant c.in-Some.size (search rules) c.rewind.ensures took_of c.run_thread.new.store (λ end. end ≡ c.loop-size.first + c.in-Some.size) c.in_ok-took.took c.in_err-first.field-0.0 _ (search rules) c.in_err-first.ensures c.in_ok-took.ensures
+
+pub folds::fold_threads-returns-in_err-first : goal.folds::fold_threads-returns-in_err-first
+folds::fold_threads-returns-in_err-first g t c = threads_fail (threads_folded c.args.work.now c.args.calls c.args.by (chunking_of c.args.chunking) (course_of c.args.course) c.args.start c.args.sizes.now (env_of c.args.env.now)) after_all (share_folded c.args.work.now c.args.calls c.args.by (chunking_of c.args.chunking) (course_of c.args.course) c.args.start (env_of c.args.env.now)) c.turns-from.result c.loop-size.most c.loop-size.k c.loop-size.first c.args.sizes.now c.loop-size.over c.loop-size.values c.args.store.now c.loop-size.store c.rewind.new.self c.loop-size.invariant c.in-Some.size (search rules) c.rewind.ensures folded_of c.fold_thread.new.store (λ end. end ≡ c.loop-size.first + c.in-Some.size) c.in_ok-folded.folded c.in_err-first.field-0.0 _ (search rules) c.in_err-first.ensures c.in_ok-folded.ensures
+
+pub folds::fold_threads-returns-in_err-push_some : goal.folds::fold_threads-returns-in_err-push_some
+folds::fold_threads-returns-in_err-push_some g t c = threads_fail (threads_folded c.args.work.now c.args.calls c.args.by (chunking_of c.args.chunking) (course_of c.args.course) c.args.start c.args.sizes.now (env_of c.args.env.now)) after_all (share_folded c.args.work.now c.args.calls c.args.by (chunking_of c.args.chunking) (course_of c.args.course) c.args.start (env_of c.args.env.now)) c.turns-from.result c.loop-size.most c.loop-size.k c.loop-size.first c.args.sizes.now c.loop-size.over c.loop-size.values c.args.store.now c.loop-size.store c.rewind.new.self c.loop-size.invariant c.in-Some.size (search rules) c.rewind.ensures folded_of c.fold_thread.new.store (λ (done : Unit {0}). Unit {0}) c.in_ok-folded.folded c.in_err-push_some.field-0.0 _ (search rules) c.in_err-push_some.ensures c.in_ok-folded.ensures
