@@ -2,3 +2,4 @@ pub mod Stepping
 pub mod Copying
 pub mod Texts
 pub mod Reducing
+pub mod Dealt

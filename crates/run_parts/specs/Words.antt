@@ -70,7 +70,7 @@ back_cells w ps so_far = meaning.back_cells (ops w) w.limit (program w.typed.now
 
 -- what a function that reduces is given
 abbrev pub reduced_by : Work → ℕ → ℤ → ℤ → List Passed
-reduced_by w s a b = meaning.reduced_by (ops w) w.limit (program w.typed.now) s a b
+reduced_by w s a b = meaning.reduced_by (ops w) w.limit (program w.typed.now) (calls_of w 0) s a b
 
 abbrev pub formal_of : Work → ℕ → ℕ → ℕ
 formal_of w s k = meaning.formal_at (meaning.formals_of (program w.typed.now).subs s) k

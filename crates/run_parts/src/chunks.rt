@@ -1,8 +1,8 @@
 //! Chunk specifications (5.5), once they are evaluated.
 
-ghost use Rattle.std.specs.Prelude.{◌≡◌, ◌<ℤ◌, pos, min};
+ghost use Rattle.std.specs.Prelude.{◌≡◌, ◌<ℤ◌, int_le, nat_le, pos, min, MatchOption, true, false};
 ghost use Rattle.ada_meaning.specs.Meaning.{most_threads};
-ghost use Rattle.ada_meaning.specs.Values.{to_nat};
+ghost use Rattle.ada_meaning.specs.Values.{count, to_nat};
 ghost use Rattle.run_store.specs.Environment.{env_of};
 ghost use Rattle.run_store.specs.Shows.{OrNoMemory, Shows, ShowsAs};
 ghost use Rattle.run_parts.specs.Dealing.{chunking_of};
@@ -86,17 +86,37 @@ pub fn each_chunk<P: Port + Drop>(
     if !bounds_hold(check, range) {
         return Err(End::Left(Leave::Raises(Reason::ConstraintError)));
     }
+    if ordered(range) {
+        match few(range) {
+            Some(chunks) => Ok(Chunking::Each {
+                parameter,
+                low: range.low,
+                chunks,
+            }),
+            None => Err(End::Left(Leave::Raises(Reason::StorageError))),
+        }
+    } else {
+        Err(End::Left(Leave::Raises(Reason::ProgramError)))
+    }
+}
+
+fn ordered(range: Range) -> bool
+    ensures { result ≡ int_le range.low range.high }
+{
+    range.low <= range.high
+}
+
+// how many numbers a range has, where those are few enough
+fn few(range: Range) -> Option<u32>
+    ensures { MatchOption result (nat_le (count range.low range.high) 4096 ≡ false) (λ n. (nat_le (count range.low range.high) 4096 ≡ true) × (n ≡ count range.low range.high)) }
+{
     match last_of(range) {
-        None => Err(End::Left(Leave::Raises(Reason::ProgramError))),
+        None => Some(0),
         Some(last) => {
             if last < 4096 {
-                Ok(Chunking::Each {
-                    parameter,
-                    low: range.low,
-                    chunks: last as u32 + 1,
-                })
+                Some(last as u32 + 1)
             } else {
-                Err(End::Left(Leave::Raises(Reason::StorageError)))
+                None
             }
         }
     }

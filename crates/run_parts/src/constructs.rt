@@ -84,6 +84,7 @@ fn one_more(count: u32) -> Result<u32, End>
 }
 
 /// The statements of an arm, counted from 0.
+#[tactic(auto, using(crate::proofs::Dealt::arm_here, crate::proofs::Dealt::arm_next, crate::proofs::Dealt::arm_over))]
 pub fn find_arm(work: &Work<'_>, id: u32, index: u64) -> Option<u32>
     ensures is { option_map (stmts_at (nodes_of work.now)) result ≡ found_arm (arms_at (nodes_of work.now) id) index }
     ensures below { IfSome result (λ stmts. stmts < id) }
