@@ -220,10 +220,10 @@ pub constructs::run_threads-returns-in_err-took : goal.constructs::run_threads-r
 constructs::run_threads-returns-in_err-took g t c = threads_end (threads_run c.args.work.now c.args.calls c.args.task c.args.sizes.now (env_of c.args.env.now)) first_of_both (share_run c.args.work.now c.args.calls c.args.task (env_of c.args.env.now)) c.turns-from.result c.loop-size.most c.loop-size.k c.loop-size.first c.args.sizes.now c.loop-size.over tt c.args.store.now c.loop-size.store c.rewind.new.self c.loop-size.invariant c.in-Some.size (search rules) c.rewind.ensures took_of c.run_thread.new.store c.in_err-took.field-0.0 _ (search rules) c.in_err-took.ensures
 
 pub constructs::run_threads-returns-then-over : goal.constructs::run_threads-returns-then-over
-constructs::run_threads-returns-then-over g t c = threads_spent (threads_run c.args.work.now c.args.calls c.args.task c.args.sizes.now (env_of c.args.env.now)) first_of_both (share_run c.args.work.now c.args.calls c.args.task (env_of c.args.env.now)) c.turns-from.result c.loop-size.most c.loop-size.k c.loop-size.first c.args.sizes.now c.loop-size.over tt c.args.store.now c.loop-size.store c.rewind-1.new.self c.loop-size.invariant (search rules) c.rewind-1.ensures (search rules)
+constructs::run_threads-returns-then-over g t c = threads_spent (threads_run c.args.work.now c.args.calls c.args.task c.args.sizes.now (env_of c.args.env.now)) first_of_both (share_run c.args.work.now c.args.calls c.args.task (env_of c.args.env.now)) c.turns-from.result c.loop-size.most c.loop-size.k c.loop-size.first c.args.sizes.now c.loop-size.over tt c.args.store.now c.loop-size.store c.rewind-2.new.self c.loop-size.invariant (search rules) c.rewind-2.ensures (search rules)
 
 pub constructs::run_threads-returns-else-over : goal.constructs::run_threads-returns-else-over
-constructs::run_threads-returns-else-over g t c = threads_joined (threads_run c.args.work.now c.args.calls c.args.task c.args.sizes.now (env_of c.args.env.now)) first_of_both (share_run c.args.work.now c.args.calls c.args.task (env_of c.args.env.now)) c.turns-from.result c.loop-size.most c.loop-size.k c.loop-size.first c.args.sizes.now c.loop-size.over tt c.args.store.now c.loop-size.store c.rewind-1.new.self c.loop-size.invariant (search rules) c.rewind-1.ensures (search rules)
+constructs::run_threads-returns-else-over g t c = threads_joined (threads_run c.args.work.now c.args.calls c.args.task c.args.sizes.now (env_of c.args.env.now)) first_of_both (share_run c.args.work.now c.args.calls c.args.task (env_of c.args.env.now)) c.turns-from.result c.loop-size.most c.loop-size.k c.loop-size.first c.args.sizes.now c.loop-size.over tt c.args.store.now c.loop-size.store c.rewind-2.new.self c.loop-size.invariant (search rules) c.rewind-2.ensures (search rules)
 
 pub constructs::run_share-loop-i-init : goal.constructs::run_share-loop-i-init
 constructs::run_share-loop-i-init g t c = share_begins c.args.work.now c.args.calls c.args.task c.args.number (env_of c.args.env.now) c.args.store.now c.args.first c.args.size c.in_ok-last.last c.in_ok-last.ensures
@@ -280,10 +280,10 @@ pub folds::dealt_fold-returns-in_err-values : goal.folds::dealt_fold-returns-in_
 folds::dealt_fold-returns-in_err-values g t c = dealt_fold_ends c.args.work.now c.args.calls c.args.by (env_of c.args.env.now) (env_of c.in_ok-inner.inner) c.in_ok-inner.ensures c.args.chunking (course_of c.args.course) c.args.start c.in_ok-count.count c.in_ok-sizes.sizes c.in_ok-count.ensures c.in_ok-sizes.ensures c.args.store.now c.fold_threads.new.store c.fold_threads.new.store _ c.in_err-values.field-0.0 _ (search rules) (rw c.as_slice.ensures at c.in_err-values.ensures) (search rules)
 
 pub folds::dealt_fold-returns-in_ok-total : goal.folds::dealt_fold-returns-in_ok-total
-folds::dealt_fold-returns-in_ok-total g t c = dealt_fold_on c.args.work.now c.args.calls c.args.by (env_of c.args.env.now) (env_of c.in_ok-inner.inner) c.in_ok-inner.ensures c.args.chunking (course_of c.args.course) c.args.start c.in_ok-count.count c.in_ok-sizes.sizes c.in_ok-count.ensures c.in_ok-sizes.ensures c.args.store.now c.fold_threads.new.store c.combined.new.store _ _ c.in_ok-values.values (Ok c.in_ok-total.total) (rw c.as_slice.ensures at c.in_ok-values.ensures) (rw (c.as_slice-1.ensures, c.nested.ensures) at c.in_ok-total.ensures) (search rules) (search rules)
+folds::dealt_fold-returns-in_ok-total g t c = dealt_fold_on c.args.work.now c.args.calls c.args.by (env_of c.args.env.now) (env_of c.in_ok-inner.inner) c.in_ok-inner.ensures c.args.chunking (course_of c.args.course) c.args.start c.in_ok-count.count c.in_ok-sizes.sizes c.in_ok-count.ensures c.in_ok-sizes.ensures c.args.store.now c.fold_threads.new.store c.combined.new.store _ _ c.in_ok-values.values (Ok c.in_ok-total.total) (rw c.as_slice.ensures at c.in_ok-values.ensures) (rw (c.as_slice-2.ensures, c.nested.ensures) at c.in_ok-total.ensures) (search rules) (search rules)
 
 pub folds::dealt_fold-returns-in_err-total : goal.folds::dealt_fold-returns-in_err-total
-folds::dealt_fold-returns-in_err-total g t c = dealt_fold_stops c.args.work.now c.args.calls c.args.by (env_of c.args.env.now) (env_of c.in_ok-inner.inner) c.in_ok-inner.ensures c.args.chunking (course_of c.args.course) c.args.start c.in_ok-count.count c.in_ok-sizes.sizes c.in_ok-count.ensures c.in_ok-sizes.ensures c.args.store.now c.fold_threads.new.store c.combined.new.store _ _ c.in_ok-values.values c.in_err-total.field-0.0 _ (search rules) (rw c.as_slice.ensures at c.in_ok-values.ensures) (rw (c.as_slice-1.ensures, c.nested.ensures) at c.in_err-total.ensures) (search rules) (search rules)
+folds::dealt_fold-returns-in_err-total g t c = dealt_fold_stops c.args.work.now c.args.calls c.args.by (env_of c.args.env.now) (env_of c.in_ok-inner.inner) c.in_ok-inner.ensures c.args.chunking (course_of c.args.course) c.args.start c.in_ok-count.count c.in_ok-sizes.sizes c.in_ok-count.ensures c.in_ok-sizes.ensures c.args.store.now c.fold_threads.new.store c.combined.new.store _ _ c.in_ok-values.values c.in_err-total.field-0.0 _ (search rules) (rw c.as_slice.ensures at c.in_ok-values.ensures) (rw (c.as_slice-2.ensures, c.nested.ensures) at c.in_err-total.ensures) (search rules) (search rules)
 
 pub folds::fold_threads-loop-size-init : goal.folds::fold_threads-loop-size-init
 folds::fold_threads-loop-size-init g t c = threads_begin after_all [] c.args.sizes.now (share_folded c.args.work.now c.args.calls c.args.by (chunking_of c.args.chunking) (course_of c.args.course) c.args.start (env_of c.args.env.now)) c.args.store.now c.turns-from.result c.turns-from.result c.turns-from.ensures c.turns-from.ensures
@@ -295,10 +295,10 @@ pub folds::fold_threads-returns-in_err-folded : goal.folds::fold_threads-returns
 folds::fold_threads-returns-in_err-folded g t c = threads_end (threads_folded c.args.work.now c.args.calls c.args.by (chunking_of c.args.chunking) (course_of c.args.course) c.args.start c.args.sizes.now (env_of c.args.env.now)) after_all (share_folded c.args.work.now c.args.calls c.args.by (chunking_of c.args.chunking) (course_of c.args.course) c.args.start (env_of c.args.env.now)) c.turns-from.result c.loop-size.most c.loop-size.k c.loop-size.first c.args.sizes.now c.loop-size.over c.loop-size.values c.args.store.now c.loop-size.store c.rewind.new.self c.loop-size.invariant c.in-Some.size (search rules) c.rewind.ensures folded_of c.fold_thread.new.store c.in_err-folded.field-0.0 _ (search rules) c.in_err-folded.ensures
 
 pub folds::fold_threads-returns-then-over : goal.folds::fold_threads-returns-then-over
-folds::fold_threads-returns-then-over g t c = threads_spent (threads_folded c.args.work.now c.args.calls c.args.by (chunking_of c.args.chunking) (course_of c.args.course) c.args.start c.args.sizes.now (env_of c.args.env.now)) after_all (share_folded c.args.work.now c.args.calls c.args.by (chunking_of c.args.chunking) (course_of c.args.course) c.args.start (env_of c.args.env.now)) c.turns-from.result c.loop-size.most c.loop-size.k c.loop-size.first c.args.sizes.now c.loop-size.over c.loop-size.values c.args.store.now c.loop-size.store c.rewind-1.new.self c.loop-size.invariant (search rules) c.rewind-1.ensures (search rules)
+folds::fold_threads-returns-then-over g t c = threads_spent (threads_folded c.args.work.now c.args.calls c.args.by (chunking_of c.args.chunking) (course_of c.args.course) c.args.start c.args.sizes.now (env_of c.args.env.now)) after_all (share_folded c.args.work.now c.args.calls c.args.by (chunking_of c.args.chunking) (course_of c.args.course) c.args.start (env_of c.args.env.now)) c.turns-from.result c.loop-size.most c.loop-size.k c.loop-size.first c.args.sizes.now c.loop-size.over c.loop-size.values c.args.store.now c.loop-size.store c.rewind-2.new.self c.loop-size.invariant (search rules) c.rewind-2.ensures (search rules)
 
 pub folds::fold_threads-returns-else-over : goal.folds::fold_threads-returns-else-over
-folds::fold_threads-returns-else-over g t c = threads_joined (threads_folded c.args.work.now c.args.calls c.args.by (chunking_of c.args.chunking) (course_of c.args.course) c.args.start c.args.sizes.now (env_of c.args.env.now)) after_all (share_folded c.args.work.now c.args.calls c.args.by (chunking_of c.args.chunking) (course_of c.args.course) c.args.start (env_of c.args.env.now)) c.turns-from.result c.loop-size.most c.loop-size.k c.loop-size.first c.args.sizes.now c.loop-size.over c.loop-size.values c.args.store.now c.loop-size.store c.rewind-1.new.self c.loop-size.invariant (search rules) c.rewind-1.ensures (search rules)
+folds::fold_threads-returns-else-over g t c = threads_joined (threads_folded c.args.work.now c.args.calls c.args.by (chunking_of c.args.chunking) (course_of c.args.course) c.args.start c.args.sizes.now (env_of c.args.env.now)) after_all (share_folded c.args.work.now c.args.calls c.args.by (chunking_of c.args.chunking) (course_of c.args.course) c.args.start (env_of c.args.env.now)) c.turns-from.result c.loop-size.most c.loop-size.k c.loop-size.first c.args.sizes.now c.loop-size.over c.loop-size.values c.args.store.now c.loop-size.store c.rewind-2.new.self c.loop-size.invariant (search rules) c.rewind-2.ensures (search rules)
 
 pub folds::fold_thread-returns-in-Ok : goal.folds::fold_thread-returns-in-Ok
 folds::fold_thread-returns-in-Ok g t c = thread_gives folded_of c.args.most (share_folded c.args.work.now c.args.calls c.args.by (chunking_of c.args.chunking) (course_of c.args.course) c.args.start (env_of c.args.env.now) (record { number = c.args.number; first = c.args.first; size = c.args.size })) c.args.store.now c.fold_share.new.store c.in-Ok.value _ (search rules) (search rules)
