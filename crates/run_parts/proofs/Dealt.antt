@@ -100,7 +100,7 @@ module _ {Tells : Type 0} (w : Work) (s : Image) where
   unfolding leaves
   unless_not b r e = subst (λ z. Shows Tells (meaning.unless (ops w) z r) (Err (end.Left (leave.Raises r))) s s) (sym e) (refl, λ told. refl)
 
-module _ {Tells : Type 0} (w : Work) (k : ℕ) (check : Option Check) (l h : ℤ) (s : Image) where
+module _ (w : Work) (k : ℕ) (check : Option Check) (l h : ℤ) where
   abbrev given : Stored meaning.Chunking
   given = ret (record { most = count l h; even = true; bound = λ j. with_parameter k (l +ℤ pos j) })
 
@@ -110,28 +110,29 @@ module _ {Tells : Type 0} (w : Work) (k : ℕ) (check : Option Check) (l h : ℤ
   abbrev some : Stored meaning.Chunking
   some = bind (meaning.unless (ops w) (int_le l h) reason.ProgramError) (λ _. few)
 
-  pub each_not : bounds_hold check l h ≡ false → ShowsAs chunking_of Tells (each_chunk w k check l h) (Err (end.Left (leave.Raises reason.ConstraintError))) s s
-  unfolding leaves
-  each_not e = goes_ends (λ a. a) chunking_of _ (meaning.bounds_checked (ops w) check l h) (λ _. some) s s s (end.Left (leave.Raises reason.ConstraintError)) (goes_refl _ s) (subst (λ (z : Stored (Unit {0})). Shows Tells z (Err (end.Left (leave.Raises reason.ConstraintError))) s s) (sym (bounds_not w check l h e)) (refl, λ told. refl))
+  module _ {Tells : Type 0} (s : Image) where
+    pub each_not : bounds_hold check l h ≡ false → ShowsAs chunking_of Tells (each_chunk w k check l h) (Err (end.Left (leave.Raises reason.ConstraintError))) s s
+    unfolding leaves
+    each_not e = goes_ends (λ a. a) chunking_of _ (meaning.bounds_checked (ops w) check l h) (λ _. some) s s s (end.Left (leave.Raises reason.ConstraintError)) (goes_refl _ s) (subst (λ (z : Stored (Unit {0})). Shows Tells z (Err (end.Left (leave.Raises reason.ConstraintError))) s s) (sym (bounds_not w check l h e)) (refl, λ told. refl))
 
-  module _ (e : bounds_hold check l h ≡ true) where
-    within : (r : Result Chunking End) → ShowsAs chunking_of Tells some r s s → ShowsAs chunking_of Tells (each_chunk w k check l h) r s s
-    unfolding ret
-    within r g = then_shows (λ a. a) chunking_of (meaning.bounds_checked (ops w) check l h) (λ _. some) s s s tt r (subst (λ (z : Stored (Unit {0})). Shows Tells z (Ok tt) s s) (sym (bounds_so w check l h e)) (refl, λ told. refl)) g
-
-    pub each_none : int_le l h ≡ false → ShowsAs chunking_of Tells (each_chunk w k check l h) (Err (end.Left (leave.Raises reason.ProgramError))) s s
-    each_none f = within (Err (end.Left (leave.Raises reason.ProgramError))) (goes_ends (λ a. a) chunking_of _ (meaning.unless (ops w) (int_le l h) reason.ProgramError) (λ _. few) s s s (end.Left (leave.Raises reason.ProgramError)) (goes_refl _ s) (unless_not w s (int_le l h) reason.ProgramError f))
-
-    module _ (f : int_le l h ≡ true) where
-      ordered : (r : Result Chunking End) → ShowsAs chunking_of Tells few r s s → ShowsAs chunking_of Tells (each_chunk w k check l h) r s s
-      ordered r g = within r (then_shows (λ a. a) chunking_of (meaning.unless (ops w) (int_le l h) reason.ProgramError) (λ _. few) s s s tt r (unless_so w s (int_le l h) reason.ProgramError f) g)
-
-      pub each_many : nat_le (count l h) 4096 ≡ false → ShowsAs chunking_of Tells (each_chunk w k check l h) (Err (end.Left (leave.Raises reason.StorageError))) s s
-      each_many m = ordered (Err (end.Left (leave.Raises reason.StorageError))) (goes_ends (λ a. a) chunking_of _ (meaning.unless (ops w) (nat_le (count l h) 4096) reason.StorageError) (λ _. given) s s s (end.Left (leave.Raises reason.StorageError)) (goes_refl _ s) (unless_not w s (nat_le (count l h) 4096) reason.StorageError m))
-
-      pub each_some : nat_le (count l h) 4096 ≡ true → (low : ℤ) (n : ℕ) → low ≡ l → n ≡ count l h → ShowsAs chunking_of Tells (each_chunk w k check l h) (Ok (chunking.Each k low n)) s s
+    module _ (e : bounds_hold check l h ≡ true) where
+      within : (r : Result Chunking End) → ShowsAs chunking_of Tells some r s s → ShowsAs chunking_of Tells (each_chunk w k check l h) r s s
       unfolding ret
-      each_some m low n p q =
-          subst (λ z. ShowsAs chunking_of Tells (each_chunk w k check l h) (Ok (chunking.Each k z n)) s s) (sym p)
-          (subst (λ z. ShowsAs chunking_of Tells (each_chunk w k check l h) (Ok (chunking.Each k l z)) s s) (sym q)
-          (ordered (Ok (chunking.Each k l (count l h))) (then_shows (λ a. a) chunking_of (meaning.unless (ops w) (nat_le (count l h) 4096) reason.StorageError) (λ _. given) s s s tt (Ok (chunking.Each k l (count l h))) (unless_so w s (nat_le (count l h) 4096) reason.StorageError m) (refl, λ told. refl))))
+      within r g = then_shows (λ a. a) chunking_of (meaning.bounds_checked (ops w) check l h) (λ _. some) s s s tt r (subst (λ (z : Stored (Unit {0})). Shows Tells z (Ok tt) s s) (sym (bounds_so w check l h e)) (refl, λ told. refl)) g
+
+      pub each_none : int_le l h ≡ false → ShowsAs chunking_of Tells (each_chunk w k check l h) (Err (end.Left (leave.Raises reason.ProgramError))) s s
+      each_none f = within (Err (end.Left (leave.Raises reason.ProgramError))) (goes_ends (λ a. a) chunking_of _ (meaning.unless (ops w) (int_le l h) reason.ProgramError) (λ _. few) s s s (end.Left (leave.Raises reason.ProgramError)) (goes_refl _ s) (unless_not w s (int_le l h) reason.ProgramError f))
+
+      module _ (f : int_le l h ≡ true) where
+        ordered : (r : Result Chunking End) → ShowsAs chunking_of Tells few r s s → ShowsAs chunking_of Tells (each_chunk w k check l h) r s s
+        ordered r g = within r (then_shows (λ a. a) chunking_of (meaning.unless (ops w) (int_le l h) reason.ProgramError) (λ _. few) s s s tt r (unless_so w s (int_le l h) reason.ProgramError f) g)
+
+        pub each_many : nat_le (count l h) 4096 ≡ false → ShowsAs chunking_of Tells (each_chunk w k check l h) (Err (end.Left (leave.Raises reason.StorageError))) s s
+        each_many m = ordered (Err (end.Left (leave.Raises reason.StorageError))) (goes_ends (λ a. a) chunking_of _ (meaning.unless (ops w) (nat_le (count l h) 4096) reason.StorageError) (λ _. given) s s s (end.Left (leave.Raises reason.StorageError)) (goes_refl _ s) (unless_not w s (nat_le (count l h) 4096) reason.StorageError m))
+
+        pub each_some : nat_le (count l h) 4096 ≡ true → (low : ℤ) (n : ℕ) → low ≡ l → n ≡ count l h → ShowsAs chunking_of Tells (each_chunk w k check l h) (Ok (chunking.Each k low n)) s s
+        unfolding ret
+        each_some m low n p q =
+            subst (λ z. ShowsAs chunking_of Tells (each_chunk w k check l h) (Ok (chunking.Each k z n)) s s) (sym p)
+            (subst (λ z. ShowsAs chunking_of Tells (each_chunk w k check l h) (Ok (chunking.Each k l z)) s s) (sym q)
+            (ordered (Ok (chunking.Each k l (count l h))) (then_shows (λ a. a) chunking_of (meaning.unless (ops w) (nat_le (count l h) 4096) reason.StorageError) (λ _. given) s s s tt (Ok (chunking.Each k l (count l h))) (unless_so w s (nat_le (count l h) 4096) reason.StorageError m) (refl, λ told. refl))))
