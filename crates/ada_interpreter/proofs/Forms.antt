@@ -14,6 +14,7 @@ use Rattle.ada_stored.specs.Stored.{Stored, ret, bind, reads, writes, checks}
 use Rattle.run_store.specs.declared.ends.End.{End}
 use Rattle.run_store.specs.declared.env.Part.{Part}
 use Rattle.run_store.specs.declared.values.Range as code
+use Rattle.run_store.specs.Operating.{got}
 use Rattle.run_store.specs.Environment.{part_of}
 use Rattle.run_store.specs.Shows.{Image, ShowsAs, Shows}
 use Rattle.run_store.proofs.Going.{goes_refl, goes_ends, then_shows, same_shows}
@@ -96,3 +97,15 @@ module _ {Tells : Type 0} (w : Work) (d : ℕ) (env : Env) (s t : Image) where
       (then_shows (λ a. a) (λ a. a) (walk.eval w d e env) (λ v. bind (meaning.checked (ops w) check v) (λ _. ret (v ∷ []))) s u u x (Ok (x ∷ [])) h
       (then_shows (λ a. a) (λ a. a) (meaning.checked (ops w) check x) (λ _. ret (x ∷ [])) u u u tt (Ok (x ∷ [])) (refl, λ told. rw within refl) (refl, λ told. refl)))
       (goes_ends (λ a. a) (λ a. a) (put (x ∷ [])) (writes p.object p.offset x) (λ _. write_all w p.object (p.offset + 1) []) u u t y (goes_refl _ u) (subst (λ z. Shows Tells (writes p.object p.offset z) (Err y) u t) same k))))
+
+  -- a number that was read, up to the store
+  pub get_on : (first : ℕ) (root : Root) (ss : Selections) (scalar : Scalar) (from : meaning.Part) (p : Part) (v a : ℤ) (u x : Image) (y : End) (r : Result (Unit {0}) End) → r ≡ Err y → from ≡ variable_root root env → ShowsAs part_of Tells (walk.select w d ss env from) (Ok p) s u
+      → Shows Tells (got w.limit) (Ok v) u x → is_in scalar v ≡ true → Shows Tells (writes p.object p.offset a) (Err y) x t → a ≡ v → Shows Tells (walk.get w d first root ss scalar env) r s t
+  unfolding ret
+  get_on first root ss scalar from p v a u x y r q e h k within l same =
+      subst (λ z. Shows Tells (walk.get w d first root ss scalar env) z s t) (sym q)
+      (then_shows part_of (λ a. a) (walk.select w d ss env (variable_root root env)) (λ p. bind (got w.limit) (λ v. bind (checks RangeCheck first (is_in scalar v)) (λ _. writes p.object p.offset v))) s u t p (Err y)
+      (subst (λ z. ShowsAs part_of Tells (walk.select w d ss env z) (Ok p) s u) e h)
+      (then_shows (λ a. a) (λ a. a) (got w.limit) (λ v. bind (checks RangeCheck first (is_in scalar v)) (λ _. writes p.object p.offset v)) u x t v (Err y) k
+      (then_shows (λ a. a) (λ a. a) (checks RangeCheck first (is_in scalar v)) (λ _. writes p.object p.offset v) x x t tt (Err y) (refl, λ told. rw within refl)
+      (subst (λ z. Shows Tells (writes p.object p.offset z) (Err y) x t) same l))))

@@ -1,13 +1,24 @@
 -- What a whole run shows.
-use Rattle.std.proofs.Common.{◌≡◌, ℕ, Result, Ok, Err, subst}
+use Rattle.std.proofs.Common.{◌≡◌, ℕ, Bool, true, false, not, Result, Ok, Err, refl, sym, subst}
 use Rattle.ada_typed.specs.Programs.{program}
-use Rattle.ada_stored.specs.Stored.{State, Stored, Computes, outset}
+use Rattle.ada_typed.specs.Decoded.{body_at}
+use Rattle.behaviours.specs.Paths as paths
+use Rattle.behaviours.specs.Paths.{Everywhere}
+use Rattle.ada_meaning.specs.Meaning as meaning
+use Rattle.ada_meaning.specs.Meaning.{raises}
+use Rattle.ada_stored.specs.Stored.{State, Stored, Computes, outset, handles, ret}
 use Rattle.ada_stored.proofs.StoredProof.{stored_law}
 use Rattle.run_store.specs.declared.ends.End.{End}
 use Rattle.run_store.specs.declared.ends.End.TheVariants as end
-use Rattle.run_store.specs.Shows.{Image, Shows, Answers}
+use Rattle.run_store.specs.declared.ends.Leave as ends-leave
+use Rattle.run_store.specs.declared.ends.Leave.TheVariants as leave
+use Rattle.run_store.specs.Shows.{Image, Shows, Answers, leave_of}
+use Rattle.run_store.proofs.Going.{same_shows}
 use Rattle.run_parts.specs.declared.work.Work.{Work}
-use Rattle.ada_interpreter.specs.Run.{main, answer_of, setting_of, IsRun}
+use Rattle.run_parts.specs.Words.{nodes_of, calls_of}
+use Rattle.ada_interpreter.specs.Run.{main, main_ended, answer_of, setting_of, IsRun}
+use Rattle.ada_interpreter.proofs.Looping.{handles_so, handles_not}
+use Rattle.ada_interpreter.specs.Walk as walk
 
 computes : (m : Stored (Unit {0})) (r : Result (Unit {0}) End) (s t : State) → Answers (λ a. a) m r s t → Computes m s (answer_of r) t
 computes m (Ok u) s t h = h
@@ -24,3 +35,36 @@ run_shows w r s t h = record {
       stored_law (program w.typed.now) (setting_of w) slots s.state.input s.state.output (answer_of r) t.state rule
       (subst (λ (x : State). Computes (main w) x (answer_of r) t.state) begun (computes (main w) r s.state t.state (h.1 told)));
 }
+
+-- ---- the main procedure
+
+abbrev err_of : End → Result (Unit {0}) End
+err_of e = Err e
+
+abbrev leaves_main : paths.Leave → Bool
+leaves_main how = not (raises how)
+
+main_as : (w : Work) → main w ≡ handles (walk.body w 1000 (body_at (nodes_of w) w.typed.now.body) Everywhere (meaning.outset 0)) leaves_main (λ _. ret tt)
+unfolding calls_of
+main_as w = refl
+
+ends_so : {Tells : Type 0} (m : Stored (Unit {0})) (s t : Image) (r : Result (Unit {0}) End) → Shows Tells m r s t → Shows Tells (handles m leaves_main (λ _. ret tt)) (main_ended r) s t
+unfolding ret
+ends_so m s t (Ok a) h = handles_not m leaves_main (λ _. ret tt) s t (Ok a) (λ x y q p. absurd cc) h
+ends_so m s t (Err (end.Left (leave.Exits n))) h = handles_so m leaves_main (λ _. ret tt) s t (leave.Exits n) (Ok tt) t refl h (refl, λ told. refl)
+ends_so m s t (Err (end.Left (leave.Returns v))) h = handles_so m leaves_main (λ _. ret tt) s t (leave.Returns v) (Ok tt) t refl h (refl, λ told. refl)
+ends_so m s t (Err (end.Left (leave.Raises v))) h = handles_not m leaves_main (λ _. ret tt) s t (Err (end.Left (leave.Raises v))) (λ x y q p. subst (λ z. leaves_main z ≡ false) p (same y q)) h
+  where
+    same : (y : ends-leave.Leave) → err_of (end.Left (leave.Raises v)) ≡ Err (end.Left y) → leaves_main (leave_of y) ≡ false
+    same (leave.Exits j) q = cc
+    same (leave.Returns v) q = cc
+    same (leave.Raises r) q = refl
+ends_so m s t (Err end.Spent) h = handles_not m leaves_main (λ _. ret tt) s t (Err end.Spent) (λ x y q p. absurd cc) h
+ends_so m s t (Err end.NoMemory) h = handles_not m leaves_main (λ _. ret tt) s t (Err end.NoMemory) (λ x y q p. absurd cc) h
+ends_so m s t (Err end.ReadFault) h = handles_not m leaves_main (λ _. ret tt) s t (Err end.ReadFault) (λ x y q p. absurd cc) h
+ends_so m s t (Err end.WriteFault) h = handles_not m leaves_main (λ _. ret tt) s t (Err end.WriteFault) (λ x y q p. absurd cc) h
+
+pub main_shows : {Tells : Type 0} (w : Work) (r : Result (Unit {0}) End) (s t : Image) → Shows Tells (walk.body w 1000 (body_at (nodes_of w) w.typed.now.body) Everywhere (meaning.outset 0)) r s t → Shows Tells (main w) (main_ended r) s t
+main_shows w r s t h =
+    same_shows (λ a. a) (main w) (handles (walk.body w 1000 (body_at (nodes_of w) w.typed.now.body) Everywhere (meaning.outset 0)) leaves_main (λ _. ret tt)) (main_ended r) s t (main_as w)
+    (ends_so (walk.body w 1000 (body_at (nodes_of w) w.typed.now.body) Everywhere (meaning.outset 0)) s t r h)

@@ -9,11 +9,19 @@ use Rattle.ada_stored.specs.Stored.{Stored, Stop, Goes, Fails, Left, OutOfTurns,
 use Rattle.run_store.specs.Shows.{Image, Causes, leave_of}
 use Rattle.run_store.specs.declared.ends.End.{End}
 use Rattle.run_store.specs.declared.ends.End.TheVariants as end
+use Rattle.run_store.specs.declared.ends.Leave.TheVariants as leave
 use Rattle.run_parts.specs.declared.work.Work.{Work}
 use Rattle.run_parts.specs.Words.{ops}
 
 abbrev pub main : Work → Stored (Unit {0})
 main w = meaning.main (ops w) w.limit (program w.typed.now)
+
+-- an exit or a return ends the main procedure
+abbrev pub main_ended : Result (Unit {0}) End → Result (Unit {0}) End
+main_ended (Ok v) = Ok v
+main_ended (Err (end.Left (leave.Exits n))) = Ok tt
+main_ended (Err (end.Left (leave.Returns v))) = Ok tt
+main_ended (Err e) = Err e
 
 abbrev pub stop_of : End → Stop
 stop_of (end.Left x) = Goes (Left (leave_of x))

@@ -14,7 +14,6 @@ use run_store::{End, Env, Leave, Port, Region, Store};
 const MOST_CALLS: u32 = 1000;
 
 /// Runs a program, from a state in which no run has begun.
-#[tactic(auto, using(crate::proofs::Running::run_shows))]
 pub fn run<P: Port + Drop>(work: &Work<'_>, store: &mut Store<P>) -> Result<(), End>
     ensures { IsRun P.Tells work.now result store.old store.new }
 {
@@ -27,16 +26,24 @@ fn main<P: Port + Drop>(work: &Work<'_>, store: &mut Store<P>) -> Result<(), End
     ensures { Shows P.Tells (spec.main work.now) result store.old store.new }
 {
     let env = Env::Outset { nested: 0 };
-    match body(
+    let how = body(
         work,
         MOST_CALLS,
         work.typed.body,
         Region::Everywhere,
         &env,
         store,
-    ) {
-        Err(End::Left(Leave::Raises(reason))) => Err(End::Left(Leave::Raises(reason))),
-        Err(End::Left(_)) => Ok(()),
-        result => result,
+    );
+    main_ended(how)
+}
+
+fn main_ended(how: Result<(), End>) -> Result<(), End>
+    ensures { result ≡ spec.main_ended how }
+{
+    match how {
+        Ok(()) => Ok(()),
+        Err(End::Left(Leave::Exits(_))) => Ok(()),
+        Err(End::Left(Leave::Returns(_))) => Ok(()),
+        Err(end) => Err(end),
     }
 }

@@ -17,7 +17,7 @@ use Rattle.ada_interpreter.proofs.Scoping.{body_as, call_ends, call_step, called
 use Rattle.ada_interpreter.proofs.Handling.{caught_shows, chosen_some, chosen_none, guarded_other, guarded_some, guarded_none, alternative_some, alternative_none}
 use Rattle.ada_interpreter.proofs.Folding.{fold_step, fold_ends, fold_done, fold_none, fold_as, fold_fails, fold_share_none, fold_share_on, fold_share_ends, onto_step, onto_ends, onto_done}
 use Rattle.ada_interpreter.proofs.Chaining.{stands_begins, first_ends, stands_step, stands_ends, stands_done, all_below, last_below}
-use Rattle.ada_interpreter.proofs.Forms.{index_as, in_out_as, in_out_ends, in_out_on, range_holds, number_ends}
+use Rattle.ada_interpreter.proofs.Forms.{index_as, in_out_as, in_out_ends, in_out_on, range_holds, number_ends, get_on}
 use Rattle.ada_interpreter.proofs.Threading.{thread_gives, thread_spent, thread_left, threads_begin, threads_more, threads_end, threads_fail, threads_joined, threads_spent, spent_as, gathered_none}
 use Rattle.ada_interpreter.proofs.Dealing.{dealt_loop_shows, dealt_arms_shows, dealt_arms_ends, parallel_for_ends, parallel_for_on, parallel_for_stops, parallel_block_ends, parallel_block_on, parallel_block_stops, chunked_loop_on, chunked_loop_stops, chunked_loop_many, arm_none, arm_some, arm_ends, parallel_reduction_ends, parallel_reduction_on, parallel_reduction_stops, chunked_fold_on, chunked_fold_stops, chunked_fold_many, chunked_fold_ends, dealt_fold_ends, dealt_fold_on, dealt_fold_stops, share_begins, share_step, share_ends, share_done}
 use Rattle.ada_interpreter.specs.Threads.{took_of, folded_of}
@@ -353,3 +353,6 @@ folds::fold_threads-returns-in_err-first g t c = threads_fail (threads_folded c.
 
 pub folds::fold_threads-returns-in_err-push_some : goal.folds::fold_threads-returns-in_err-push_some
 folds::fold_threads-returns-in_err-push_some g t c = threads_fail (threads_folded c.args.work.now c.args.calls c.args.by (chunking_of c.args.chunking) (course_of c.args.course) c.args.start c.args.sizes.now (env_of c.args.env.now)) after_all (share_folded c.args.work.now c.args.calls c.args.by (chunking_of c.args.chunking) (course_of c.args.course) c.args.start (env_of c.args.env.now)) c.turns-from.result c.loop-size.most c.loop-size.k c.loop-size.first c.args.sizes.now c.loop-size.over c.loop-size.values c.args.store.now c.loop-size.store c.rewind.new.self c.loop-size.invariant c.in-Some.size (search rules) c.rewind.ensures folded_of c.fold_thread.new.store (λ (done : Unit {0}). Unit {0}) c.in_ok-folded.folded c.in_err-push_some.field-0.0 _ (search rules) c.in_err-push_some.ensures c.in_ok-folded.ensures
+
+pub texts::get-returns-in_err-write : goal.texts::get-returns-in_err-write
+texts::get-returns-in_err-write g t c = get_on c.args.work.now c.args.calls (env_of c.args.env.now) c.args.store.now c.write.new.self c.args.first c.args.root (selections_at (nodes_of c.args.work.now) c.args.selections) c.args.scalar (part_of c.variable_root.result) c.in_ok-part.part c.in_ok-value.value _ c.select.new.store c.get.new.self c.in_err-write.field-0.0 _ (search rules) c.variable_root.ensures c.in_ok-part.ensures c.in_ok-value.ensures (search rules) c.in_err-write.ensures (search rules)
