@@ -30,7 +30,7 @@ module _ {Tells : Type 0} where
       stopped told f u (inr (inl h)) = inr (inl (g.stops told f u h))
       stopped told f u (inr (inr h)) = inr (inr (subst (λ (z : After _). next_halts z.state z.end k f u) (sym (g.same told)) h))
 
-module _ {Tells : Type 0} (w : Work) (d : ℕ) (env : Env) where
+module _ (w : Work) (d : ℕ) (env : Env) where
   -- an expression whose operators stand in a list is these operators over its first operand
   pub chain_as : (ls : List Link) (e : Expr) → walk.eval w d (linked (part_at (nodes_of w)) ls e) env ≡ walk.linked_on w d ls env (walk.eval w d e env)
   unfolding walk.eval
@@ -39,6 +39,7 @@ module _ {Tells : Type 0} (w : Work) (d : ℕ) (env : Env) where
   chain_as (link.AndThen right ∷ ls) e = ap (λ m. bind m (λ x. walk.operator w d (link.AndThen right) env x)) (chain_as ls e)
   chain_as (link.OrElse right ∷ ls) e = ap (λ m. bind m (λ x. walk.operator w d (link.OrElse right) env x)) (chain_as ls e)
 
+module _ {Tells : Type 0} (w : Work) (d : ℕ) (env : Env) where
   -- with a value of what is applied first, where operators are left
   pub chain_begins : (l : Link) (ls : List Link) (m : Stored ℤ) (s t : Image) (v : ℤ) → Shows Tells m (Ok v) s t → Goes Tells (walk.linked_on w d (l ∷ ls) env m) s (walk.chain_left w d (l ∷ ls) env v) t
   chain_begins l [] m s t v h = goes_then (λ a. a) (λ a. a) (bind m (λ x. walk.operator w d l env x)) m (λ x. walk.operator w d l env x) s s t v (goes_refl _ s) h
@@ -60,49 +61,50 @@ module _ {Tells : Type 0} (w : Work) (d : ℕ) (env : Env) where
   goes_trans : {A : Type 0} (whole m n : Stored A) (s t u : Image) → Goes Tells whole s m t → Goes Tells m t n u → Goes Tells whole s n u
   goes_trans whole m n s t u g h = record { faults = h.faults ∙ g.faults; same = λ told. g.same told ∙ h.same told; stops = λ told f x k. g.stops told f x (h.stops told f x k) }
 
-  -- how a whole stands with the operators that are left, after a value
-  module _ (whole : Stored ℤ) (s : Image) where
-    abbrev pub Stands : List Link → ℤ → Image → Type 0
-    Stands [] v t = Shows Tells whole (Ok v) s t
-    Stands (l ∷ ls) v t = Goes Tells whole s (walk.chain_left w d (l ∷ ls) env v) t
+-- how a whole stands with the operators that are left, after a value
+abbrev pub Stands : Type 0 → Work → ℕ → Env → Stored ℤ → Image → List Link → ℤ → Image → Type 0
+Stands Tells w d env whole s [] v t = Shows Tells whole (Ok v) s t
+Stands Tells w d env whole s (l ∷ ls) v t = Goes Tells whole s (walk.chain_left w d (l ∷ ls) env v) t
 
-    pub stands_step : (ls new : List Link) (last : Link) (v v' x x' : ℤ) (t u : Image) → ls ≡ new ++ last ∷ [] → Stands ls v t → Shows Tells (walk.operator w d last env v') (Ok x') t u → v' ≡ v → x' ≡ x → Stands new x u
-    stands_step ls new last v v' x x' t u is g h p q = go new (subst (λ z. Stands z v t) is g)
+module _ {Tells : Type 0} (w : Work) (d : ℕ) (env : Env) where
+  module _ (whole : Stored ℤ) (s : Image) where
+    pub stands_step : (ls new : List Link) (last : Link) (v v' x x' : ℤ) (t u : Image) → ls ≡ new ++ last ∷ [] → Stands Tells w d env whole s ls v t → Shows Tells (walk.operator w d last env v') (Ok x') t u → v' ≡ v → x' ≡ x → Stands Tells w d env whole s new x u
+    stands_step ls new last v v' x x' t u is g h p q = go new (subst (λ z. Stands Tells w d env whole s z v t) is g)
       where
         k : Shows Tells (walk.operator w d last env v) (Ok x) t u
         k = subst (λ z. Shows Tells (walk.operator w d last env z) (Ok x) t u) p (subst (λ z. Shows Tells (walk.operator w d last env v') (Ok z) t u) q h)
 
-        go : (new : List Link) → Stands (new ++ last ∷ []) v t → Stands new x u
+        go : (new : List Link) → Stands Tells w d env whole s (new ++ last ∷ []) v t → Stands Tells w d env whole s new x u
         go [] g = goes_shows (λ a. a) whole (walk.operator w d last env v) s t u (Ok x) g k
-        go (l ∷ more) g = goes_trans whole (walk.chain_left w d (l ∷ more ++ last ∷ []) env v) (walk.chain_left w d (l ∷ more) env x) s t u g (chain_step l more last t u v x k)
+        go (l ∷ more) g = goes_trans w d env whole (walk.chain_left w d (l ∷ more ++ last ∷ []) env v) (walk.chain_left w d (l ∷ more) env x) s t u g (chain_step w d env l more last t u v x k)
 
-    pub stands_ends : (ls new : List Link) (last : Link) (v v' : ℤ) (t u : Image) (e : End) (r : Result ℤ End) → r ≡ Err e → ls ≡ new ++ last ∷ [] → Stands ls v t → Shows Tells (walk.operator w d last env v') (Err e) t u → v' ≡ v → Shows Tells whole r s u
+    pub stands_ends : (ls new : List Link) (last : Link) (v v' : ℤ) (t u : Image) (e : End) (r : Result ℤ End) → r ≡ Err e → ls ≡ new ++ last ∷ [] → Stands Tells w d env whole s ls v t → Shows Tells (walk.operator w d last env v') (Err e) t u → v' ≡ v → Shows Tells whole r s u
     stands_ends ls new last v v' t u e r q is g h p =
         subst (λ z. Shows Tells whole z s u) (sym q)
-        (goes_shows (λ a. a) whole (walk.chain_left w d (new ++ last ∷ []) env v) s t u (Err e) (go new (subst (λ z. Stands z v t) is g)) (chain_ends new last t u v e (subst (λ z. Shows Tells (walk.operator w d last env z) (Err e) t u) p h)))
+        (goes_shows (λ a. a) whole (walk.chain_left w d (new ++ last ∷ []) env v) s t u (Err e) (go new (subst (λ z. Stands Tells w d env whole s z v t) is g)) (chain_ends w d env new last t u v e (subst (λ z. Shows Tells (walk.operator w d last env z) (Err e) t u) p h)))
       where
-        go : (new : List Link) → Stands (new ++ last ∷ []) v t → Goes Tells whole s (walk.chain_left w d (new ++ last ∷ []) env v) t
+        go : (new : List Link) → Stands Tells w d env whole s (new ++ last ∷ []) v t → Goes Tells whole s (walk.chain_left w d (new ++ last ∷ []) env v) t
         go [] g = g
         go (l ∷ more) g = g
 
     -- all operators are gone through
-    pub stands_done : (ls : List Link) (v r : ℤ) (t : Image) → ls ≡ [] → Stands ls v t → r ≡ v → Shows Tells whole (Ok r) s t
-    stands_done ls v r t is g q = subst (λ z. Shows Tells whole (Ok z) s t) (sym q) (subst (λ z. Stands z v t) is g)
+    pub stands_done : (ls : List Link) (v r : ℤ) (t : Image) → ls ≡ [] → Stands Tells w d env whole s ls v t → r ≡ v → Shows Tells whole (Ok r) s t
+    stands_done ls v r t is g q = subst (λ z. Shows Tells whole (Ok z) s t) (sym q) (subst (λ z. Stands Tells w d env whole s z v t) is g)
 
   -- the first operand of an expression whose operators stand in a list
   module _ (x : Expr) (ls : List Link) (e : Expr) (is : x ≡ linked (part_at (nodes_of w)) ls e) where
-    pub stands_begins : (s t : Image) (v v' : ℤ) → Shows Tells (walk.eval w d e env) (Ok v') s t → v' ≡ v → Stands (walk.eval w d x env) s ls v t
-    stands_begins s t v v' h p = subst (λ (z : Stored ℤ). Stands z s ls v t) (sym (chain_as ls e) ∙ ap (λ z. walk.eval w d z env) (sym is)) (go ls)
+    pub stands_begins : (s t : Image) (v v' : ℤ) → Shows Tells (walk.eval w d e env) (Ok v') s t → v' ≡ v → Stands Tells w d env (walk.eval w d x env) s ls v t
+    stands_begins s t v v' h p = subst (λ (z : Stored ℤ). Stands Tells w d env z s ls v t) (sym (chain_as w d env ls e) ∙ ap (λ z. walk.eval w d z env) (sym is)) (go ls)
       where
         k : Shows Tells (walk.eval w d e env) (Ok v) s t
         k = subst (λ z. Shows Tells (walk.eval w d e env) (Ok z) s t) p h
 
-        go : (ls : List Link) → Stands (walk.linked_on w d ls env (walk.eval w d e env)) s ls v t
+        go : (ls : List Link) → Stands Tells w d env (walk.linked_on w d ls env (walk.eval w d e env)) s ls v t
         go [] = k
-        go (l ∷ ls) = chain_begins l ls (walk.eval w d e env) s t v k
+        go (l ∷ ls) = chain_begins w d env l ls (walk.eval w d e env) s t v k
 
     pub first_ends : (s t : Image) (y : End) (r : Result ℤ End) → r ≡ Err y → Shows Tells (walk.eval w d e env) (Err y) s t → Shows Tells (walk.eval w d x env) r s t
-    first_ends s t y r q h = subst (λ z. Shows Tells (walk.eval w d x env) z s t) (sym q) (subst (λ (z : Stored ℤ). Shows Tells z (Err y) s t) (sym (chain_as ls e) ∙ ap (λ z. walk.eval w d z env) (sym is)) (go ls))
+    first_ends s t y r q h = subst (λ z. Shows Tells (walk.eval w d x env) z s t) (sym q) (subst (λ (z : Stored ℤ). Shows Tells z (Err y) s t) (sym (chain_as w d env ls e) ∙ ap (λ z. walk.eval w d z env) (sym is)) (go ls))
       where
         go : (ls : List Link) → Shows Tells (walk.linked_on w d ls env (walk.eval w d e env)) (Err y) s t
         go [] = h

@@ -1,5 +1,5 @@
 -- Parallel constructs, as the functions that go by them.
-use Rattle.std.proofs.Common.{◌≡◌, ◌<◌, ◌≤◌, ◌+◌, ◌-◌, arith, ℕ, suc, min, ℤ, List, [], ◌∷◌, Option, Some, None, refl, sym, subst, ap, ◌∙◌}
+use Rattle.std.proofs.Common.{◌≡◌, ◌<◌, ◌≤◌, ◌+◌, ◌-◌, arith, ℕ, zero, suc, min, ℤ, List, [], ◌∷◌, Option, Some, None, refl, sym, subst, ap, ◌∙◌}
 use Rattle.std.specs.Prelude.{Result, Ok, Err}
 use Rattle.ada_base.specs.Cuts.{evens, cuts_of}
 use Rattle.ada_typed.specs.Syntax.{Expr, Chunk, Iteration, Stmts, Arms, NoArm, Arm, Optional}
@@ -40,6 +40,11 @@ module _ (w : Work) (d : ℕ) (c : courses.Course) (it ss : ℕ) (env : Env) whe
   loop_as (chunking.ByPlan most) = refl
   loop_as (chunking.Each p low n) = refl
 
+module _ (w : Work) (d : ℕ) (env : Env) where
+  arms_as : (most arms : ℕ) → walk.dealt_arms w d most (arms_at (nodes_of w) arms) env ≡ bind (walk.threads_run w d (task.Arms arms) (evens (meaning.arms_of (arms_at (nodes_of w) arms)) (min most (meaning.arms_of (arms_at (nodes_of w) arms)))) env) (λ _. ret tt)
+  unfolding walk.threads_run walk.share_run
+  arms_as most arms = refl
+
 module _ {Tells : Type 0} (w : Work) (d : ℕ) (env : Env) (s t : Image) where
   pub dealt_loop_shows : (n : ℕ) (k : Chunking) (c : courses.Course) (it ss count : ℕ) (sizes : List ℕ) (r : Result (Unit {0}) End) → count ≡ (course_of c).count → sizes ≡ loop_sizes w k count → Shows Tells (walk.threads_run w d (task.Loop k c it ss) sizes env) r s t
       → Shows Tells (walk.dealt_loop w d n (chunking_of k) (course_of c) (iteration_at (nodes_of w) it) (stmts_at (nodes_of w) ss) env) (caught n r) s t
@@ -49,14 +54,10 @@ module _ {Tells : Type 0} (w : Work) (d : ℕ) (env : Env) (s t : Image) where
       (then_done (walk.threads_run w d (task.Loop k c it ss) (loop_sizes w k (course_of c).count) env) r s t
       (subst (λ z. Shows Tells (walk.threads_run w d (task.Loop k c it ss) z env) r s t) (f ∙ ap (λ z. loop_sizes w k z) e) h)))
 
-  arms_as : (most arms : ℕ) → walk.dealt_arms w d most (arms_at (nodes_of w) arms) env ≡ bind (walk.threads_run w d (task.Arms arms) (evens (meaning.arms_of (arms_at (nodes_of w) arms)) (min most (meaning.arms_of (arms_at (nodes_of w) arms)))) env) (λ _. ret tt)
-  unfolding walk.threads_run walk.share_run
-  arms_as most arms = refl
-
   pub dealt_arms_shows : (most arms n : ℕ) (sizes : List ℕ) (r : Result (Unit {0}) End) → n ≡ meaning.arms_of (arms_at (nodes_of w) arms) → sizes ≡ evens n (min most n) → Shows Tells (walk.threads_run w d (task.Arms arms) sizes env) r s t → Shows Tells (walk.dealt_arms w d most (arms_at (nodes_of w) arms) env) r s t
   dealt_arms_shows most arms n sizes r e f h =
       let a = meaning.arms_of (arms_at (nodes_of w) arms) in
-      same_shows (λ a. a) (walk.dealt_arms w d most (arms_at (nodes_of w) arms) env) (bind (walk.threads_run w d (task.Arms arms) (evens a (min most a)) env) (λ _. ret tt)) r s t (arms_as most arms)
+      same_shows (λ a. a) (walk.dealt_arms w d most (arms_at (nodes_of w) arms) env) (bind (walk.threads_run w d (task.Arms arms) (evens a (min most a)) env) (λ _. ret tt)) r s t (arms_as w d env most arms)
       (then_done (walk.threads_run w d (task.Arms arms) (evens a (min most a)) env) r s t (subst (λ z. Shows Tells (walk.threads_run w d (task.Arms arms) z env) r s t) (f ∙ ap (λ z. evens z (min most z)) e) h))
 
   pub dealt_arms_ends : (most arms n : ℕ) (sizes : List ℕ) (y : End) (r : Result (Unit {0}) End) → r ≡ Err y → n ≡ meaning.arms_of (arms_at (nodes_of w) arms) → sizes ≡ evens n (min most n) → Shows Tells (walk.threads_run w d (task.Arms arms) sizes env) (Err y) s t
@@ -139,26 +140,27 @@ module _ {Tells : Type 0} (w : Work) (d : ℕ) (todo : Task) (number : ℕ) (env
 
 -- ---- arms
 
-module _ {Tells : Type 0} (w : Work) (d : ℕ) (env : Env) where
+module _ (w : Work) (d : ℕ) (env : Env) where
   arm_some_as : (arms : Arms) (i : ℕ) (ss : Stmts) → found_arm arms i ≡ Some ss → walk.exec_arm w d arms i env ≡ walk.exec_all w d ss env
   unfolding walk.exec_arm walk.exec_all
   arm_some_as NoArm i ss e = cc
-  arm_some_as (Arm stmts rest) 0 ss e = let q : stmts ≡ ss = cc in ap (λ z. walk.exec_all w d z env) q
+  arm_some_as (Arm stmts rest) zero ss e = let q : stmts ≡ ss = cc in ap (λ z. walk.exec_all w d z env) q
   arm_some_as (Arm stmts rest) (suc i) ss e = arm_some_as rest i ss e
 
   arm_none_as : (arms : Arms) (i : ℕ) → found_arm arms i ≡ None → walk.exec_arm w d arms i env ≡ ret tt
   unfolding walk.exec_arm
   arm_none_as NoArm i e = refl
-  arm_none_as (Arm stmts rest) 0 e = cc
+  arm_none_as (Arm stmts rest) zero e = cc
   arm_none_as (Arm stmts rest) (suc i) e = arm_none_as rest i e
 
+module _ {Tells : Type 0} (w : Work) (d : ℕ) (env : Env) where
   module _ (arms : Arms) (i : ℕ) (s t : Image) where
     pub arm_none : found_arm arms i ≡ None → Shows Tells (walk.exec_arm w d arms i env) (Ok tt) s s
     unfolding ret
-    arm_none e = same_shows (λ a. a) (walk.exec_arm w d arms i env) (ret tt) (Ok tt) s s (arm_none_as arms i e) (refl, λ told. refl)
+    arm_none e = same_shows (λ a. a) (walk.exec_arm w d arms i env) (ret tt) (Ok tt) s s (arm_none_as w d env arms i e) (refl, λ told. refl)
 
     pub arm_some : (ss : Stmts) (r : Result (Unit {0}) End) → found_arm arms i ≡ Some ss → Shows Tells (walk.exec_all w d ss env) r s t → Shows Tells (walk.exec_arm w d arms i env) r s t
-    arm_some ss r e h = same_shows (λ a. a) (walk.exec_arm w d arms i env) (walk.exec_all w d ss env) r s t (arm_some_as arms i ss e) h
+    arm_some ss r e h = same_shows (λ a. a) (walk.exec_arm w d arms i env) (walk.exec_all w d ss env) r s t (arm_some_as w d env arms i ss e) h
 
     pub arm_ends : (ss : Stmts) (e : End) (r : Result (Unit {0}) End) → r ≡ Err e → found_arm arms i ≡ Some ss → Shows Tells (walk.exec_all w d ss env) (Err e) s t → Shows Tells (walk.exec_arm w d arms i env) r s t
     arm_ends ss e r q is h = subst (λ z. Shows Tells (walk.exec_arm w d arms i env) z s t) (sym q) (arm_some ss (Err e) is h)
@@ -219,18 +221,15 @@ module _ {Tells : Type 0} (w : Work) (d : ℕ) (by : Fold) (env inner : Env) (is
         (subst (λ z. Shows Tells (bind (walk.threads_folded w d by (chunking_of k) c start z (inside env)) (λ accumulators. walk.combined w d by env.nested start accumulators)) r s v) (f ∙ ap (λ z. fold_sizes w k z) e)
         (subst (λ z. Shows Tells (bind (walk.threads_folded w d by (chunking_of k) c start sizes z) (λ accumulators. walk.combined w d by env.nested start accumulators)) r s v) is h))
 
-    abbrev began_with : ℤ → Stored (List ℤ)
-    began_with a = walk.threads_folded w d by (chunking_of k) c a sizes inner
-
-    pub dealt_fold_ends : (a : ℤ) (y : End) (r : Result ℤ End) → r ≡ Err y → Shows Tells (began_with a) (Err y) s t → a ≡ start → Shows Tells (walk.dealt_fold w d by (chunking_of k) c start env) r s t
+    pub dealt_fold_ends : (a : ℤ) (y : End) (r : Result ℤ End) → r ≡ Err y → Shows Tells (walk.threads_folded w d by (chunking_of k) c a sizes inner) (Err y) s t → a ≡ start → Shows Tells (walk.dealt_fold w d by (chunking_of k) c start env) r s t
     dealt_fold_ends a y r q h p =
         subst (λ z. Shows Tells (walk.dealt_fold w d by (chunking_of k) c start env) z s t) (sym q)
-        (dealt_as (Err y) t (goes_ends (λ a. a) (λ a. a) _ (began_with start) (λ accumulators. walk.combined w d by env.nested start accumulators) s s t y (goes_refl _ s) (subst (λ z. Shows Tells (began_with z) (Err y) s t) p h)))
+        (dealt_as (Err y) t (goes_ends (λ a. a) (λ a. a) _ (walk.threads_folded w d by (chunking_of k) c start sizes inner) (λ accumulators. walk.combined w d by env.nested start accumulators) s s t y (goes_refl _ s) (subst (λ z. Shows Tells (walk.threads_folded w d by (chunking_of k) c z sizes inner) (Err y) s t) p h)))
 
-    pub dealt_fold_on : (a b : ℤ) (vs : List ℤ) (r : Result ℤ End) → Shows Tells (began_with a) (Ok vs) s t → Shows Tells (walk.combined w d by env.nested b vs) r t u → a ≡ start → b ≡ start → Shows Tells (walk.dealt_fold w d by (chunking_of k) c start env) r s u
+    pub dealt_fold_on : (a b : ℤ) (vs : List ℤ) (r : Result ℤ End) → Shows Tells (walk.threads_folded w d by (chunking_of k) c a sizes inner) (Ok vs) s t → Shows Tells (walk.combined w d by env.nested b vs) r t u → a ≡ start → b ≡ start → Shows Tells (walk.dealt_fold w d by (chunking_of k) c start env) r s u
     dealt_fold_on a b vs r h l p q =
-        dealt_as r u (then_shows (λ a. a) (λ a. a) (began_with start) (λ accumulators. walk.combined w d by env.nested start accumulators) s t u vs r (subst (λ z. Shows Tells (began_with z) (Ok vs) s t) p h)
+        dealt_as r u (then_shows (λ a. a) (λ a. a) (walk.threads_folded w d by (chunking_of k) c start sizes inner) (λ accumulators. walk.combined w d by env.nested start accumulators) s t u vs r (subst (λ z. Shows Tells (walk.threads_folded w d by (chunking_of k) c z sizes inner) (Ok vs) s t) p h)
         (subst (λ z. Shows Tells (walk.combined w d by env.nested z vs) r t u) q l))
 
-    pub dealt_fold_stops : (a b : ℤ) (vs : List ℤ) (y : End) (r : Result ℤ End) → r ≡ Err y → Shows Tells (began_with a) (Ok vs) s t → Shows Tells (walk.combined w d by env.nested b vs) (Err y) t u → a ≡ start → b ≡ start → Shows Tells (walk.dealt_fold w d by (chunking_of k) c start env) r s u
+    pub dealt_fold_stops : (a b : ℤ) (vs : List ℤ) (y : End) (r : Result ℤ End) → r ≡ Err y → Shows Tells (walk.threads_folded w d by (chunking_of k) c a sizes inner) (Ok vs) s t → Shows Tells (walk.combined w d by env.nested b vs) (Err y) t u → a ≡ start → b ≡ start → Shows Tells (walk.dealt_fold w d by (chunking_of k) c start env) r s u
     dealt_fold_stops a b vs y r x h l p q = subst (λ z. Shows Tells (walk.dealt_fold w d by (chunking_of k) c start env) z s u) (sym x) (dealt_fold_on a b vs (Err y) h l p q)

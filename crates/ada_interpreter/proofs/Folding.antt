@@ -20,27 +20,27 @@ use Rattle.run_parts.specs.Words.{nodes_of}
 use Rattle.ada_interpreter.specs.declared.folds.Fold.{Fold}
 use Rattle.ada_interpreter.specs.Walk as walk
 
-module _ {Tells : Type 0} (w : Work) (d : ℕ) (by : Fold) (c : Course) (env : Env) where
-  abbrev one : ℕ → ℤ → Stored ℤ
-  one i total = walk.fold_one w d by env.nested (c.bound i env) total
+abbrev one : Work → ℕ → Fold → Course → Env → ℕ → ℤ → Stored ℤ
+one w d by c env i total = walk.fold_one w d by env.nested (c.bound i env) total
 
+module _ {Tells : Type 0} (w : Work) (d : ℕ) (by : Fold) (c : Course) (env : Env) where
   module _ (whole : Stored ℤ) (s t u : Image) (i n : ℕ) (total : ℤ) where
     module _ (lt : i < n) (g : Goes Tells whole s (walk.fold_left w d by i (n - i) c total env) t) where
-      fold_more : Goes Tells whole s (bind (one i total) (λ v. walk.fold_left w d by (i + 1) (n - (i + 1)) c v env)) t
+      fold_more : Goes Tells whole s (bind (one w d by c env i total) (λ v. walk.fold_left w d by (i + 1) (n - (i + 1)) c v env)) t
       unfolding walk.fold_left
-      fold_more = goes_instead whole _ _ s t (through_more i n total one lt) g
+      fold_more = goes_instead whole _ _ s t (through_more i n total (one w d by c env) lt) g
 
-      pub fold_step : (a v v' : ℤ) → Shows Tells (one i a) (Ok v') t u → a ≡ total → v' ≡ v → Goes Tells whole s (walk.fold_left w d by (i + 1) (n - (i + 1)) c v env) u
+      pub fold_step : (a v v' : ℤ) → Shows Tells (one w d by c env i a) (Ok v') t u → a ≡ total → v' ≡ v → Goes Tells whole s (walk.fold_left w d by (i + 1) (n - (i + 1)) c v env) u
       fold_step a v v' h p q =
-          goes_then (λ a. a) (λ a. a) whole (one i total) (λ v. walk.fold_left w d by (i + 1) (n - (i + 1)) c v env) s t u v fold_more
-          (subst (λ z. Shows Tells (one i z) (Ok v) t u) p (subst (λ z. Shows Tells (one i a) (Ok z) t u) q h))
+          goes_then (λ a. a) (λ a. a) whole (one w d by c env i total) (λ v. walk.fold_left w d by (i + 1) (n - (i + 1)) c v env) s t u v fold_more
+          (subst (λ z. Shows Tells (one w d by c env i z) (Ok v) t u) p (subst (λ z. Shows Tells (one w d by c env i a) (Ok z) t u) q h))
 
-      pub fold_ends : (a : ℤ) (x : End) (r : Result ℤ End) → r ≡ Err x → Shows Tells (one i a) (Err x) t u → a ≡ total → Shows Tells whole r s u
-      fold_ends a x r q h p = subst (λ z. Shows Tells whole z s u) (sym q) (goes_ends (λ a. a) (λ a. a) whole (one i total) (λ v. walk.fold_left w d by (i + 1) (n - (i + 1)) c v env) s t u x fold_more (subst (λ z. Shows Tells (one i z) (Err x) t u) p h))
+      pub fold_ends : (a : ℤ) (x : End) (r : Result ℤ End) → r ≡ Err x → Shows Tells (one w d by c env i a) (Err x) t u → a ≡ total → Shows Tells whole r s u
+      fold_ends a x r q h p = subst (λ z. Shows Tells whole z s u) (sym q) (goes_ends (λ a. a) (λ a. a) whole (one w d by c env i total) (λ v. walk.fold_left w d by (i + 1) (n - (i + 1)) c v env) s t u x fold_more (subst (λ z. Shows Tells (one w d by c env i z) (Err x) t u) p h))
 
     pub fold_done : (r : ℤ) → n ≤ i → Goes Tells whole s (walk.fold_left w d by i (n - i) c total env) t → r ≡ total → Shows Tells whole (Ok r) s t
     unfolding walk.fold_left
-    fold_done r le g p = subst (λ z. Shows Tells whole (Ok z) s t) (sym p) (goes_gives (λ a. a) whole total s t (goes_instead whole _ _ s t (through_done i n total one le) g))
+    fold_done r le g p = subst (λ z. Shows Tells whole (Ok z) s t) (sym p) (goes_gives (λ a. a) whole total s t (goes_instead whole _ _ s t (through_done i n total (one w d by c env) le) g))
 
   -- none, and all
   pub fold_none : (n : ℕ) (start r : ℤ) (s : Image) → n ≡ 0 → r ≡ start → Shows Tells (walk.fold_left w d by 0 n c start env) (Ok r) s s
@@ -96,25 +96,22 @@ module _ (w : Work) (d : ℕ) (by : Fold) (c : Course) (start : ℤ) (env : Env)
   share_as (chunking.Each p low n) s = refl
 
   module _ {Tells : Type 0} (k : Chunking) (number first size : ℕ) (s t : Image) where
-    abbrev share : Share
-    share = record { number = number; first = first; size = size }
-
-    pub fold_share_none : (r : ℤ) → size ≡ 0 → r ≡ start → Shows Tells (walk.share_folded w d by (chunking_of k) c start env share) (Ok r) s s
+    pub fold_share_none : (r : ℤ) → size ≡ 0 → r ≡ start → Shows Tells (walk.share_folded w d by (chunking_of k) c start env (record { number = number; first = first; size = size })) (Ok r) s s
     unfolding walk.share_folded Stored.ret
     fold_share_none r e p =
-        subst (λ z. Shows Tells (walk.share_folded w d by (chunking_of k) c start env share) (Ok z) s s) (sym p)
+        subst (λ z. Shows Tells (walk.share_folded w d by (chunking_of k) c start env (record { number = number; first = first; size = size })) (Ok z) s s) (sym p)
         (subst (λ n. Shows Tells (walk.share_folded w d by (chunking_of k) c start env (record { number = number; first = first; size = n })) (Ok start) s s) (sym e) (refl, λ told. refl))
 
-    pub fold_share_on : (inner : Env) (m : ℕ) (a : ℤ) (r : Result ℤ End) → inner ≡ (chunking_of k).bound number env → m ≡ size → Shows Tells (walk.fold_left w d by first m c a inner) r s t → a ≡ start → Shows Tells (walk.share_folded w d by (chunking_of k) c start env share) r s t
+    pub fold_share_on : (inner : Env) (m : ℕ) (a : ℤ) (r : Result ℤ End) → inner ≡ (chunking_of k).bound number env → m ≡ size → Shows Tells (walk.fold_left w d by first m c a inner) r s t → a ≡ start → Shows Tells (walk.share_folded w d by (chunking_of k) c start env (record { number = number; first = first; size = size })) r s t
     fold_share_on inner m a r is e h p =
-        same_shows (λ a. a) (walk.share_folded w d by (chunking_of k) c start env share) (walk.fold_left w d by first size c start ((chunking_of k).bound number env)) r s t (share_as k share)
+        same_shows (λ a. a) (walk.share_folded w d by (chunking_of k) c start env (record { number = number; first = first; size = size })) (walk.fold_left w d by first size c start ((chunking_of k).bound number env)) r s t (share_as k (record { number = number; first = first; size = size }))
         (subst (λ z. Shows Tells (walk.fold_left w d by first z c start ((chunking_of k).bound number env)) r s t) e
         (subst (λ z. Shows Tells (walk.fold_left w d by first m c z ((chunking_of k).bound number env)) r s t) p
         (subst (λ z. Shows Tells (walk.fold_left w d by first m c a z) r s t) is h)))
 
     pub fold_share_ends : (inner : Env) (m : ℕ) (a : ℤ) (x : End) (r : Result ℤ End) → r ≡ Err x → inner ≡ (chunking_of k).bound number env → m ≡ size → Shows Tells (walk.fold_left w d by first m c a inner) (Err x) s t → a ≡ start
-        → Shows Tells (walk.share_folded w d by (chunking_of k) c start env share) r s t
-    fold_share_ends inner m a x r q is e h p = subst (λ z. Shows Tells (walk.share_folded w d by (chunking_of k) c start env share) z s t) (sym q) (fold_share_on inner m a (Err x) is e h p)
+        → Shows Tells (walk.share_folded w d by (chunking_of k) c start env (record { number = number; first = first; size = size })) r s t
+    fold_share_ends inner m a x r q is e h p = subst (λ z. Shows Tells (walk.share_folded w d by (chunking_of k) c start env (record { number = number; first = first; size = size })) z s t) (sym q) (fold_share_on inner m a (Err x) is e h p)
 
   pub dealt_fold_as : (k : Chunking) → walk.dealt_fold w d by (chunking_of k) c start env
       ≡ bind (walk.threads_folded w d by (chunking_of k) c start (fold_sizes w k c.count) (inside env)) (λ accumulators. walk.combined w d by env.nested start accumulators)

@@ -42,35 +42,32 @@ module _ {Tells : Type 0} (w : Work) (both : Both) (t : Image) where
       go false b p q e = rw p (refl, λ told. refl)
 
 module _ {Tells : Type 0} (w : Work) (nested number : ℕ) (both : Both) (passed : List meaning.Passed) (s t : Image) where
-  abbrev before : Stored (Unit {0})
-  before = both_checked w both
-
-  pub checked_ends : (d : ℕ) (e : End) (r : Result Returned End) → r ≡ Err e → Shows Tells (turned w) (Err e) s t → ShowsAs returned_of Tells (calls_of w d nested number before passed) r s t
+  pub checked_ends : (d : ℕ) (e : End) (r : Result Returned End) → r ≡ Err e → Shows Tells (turned w) (Err e) s t → ShowsAs returned_of Tells (calls_of w d nested number (both_checked w both) passed) r s t
   unfolding calls_of
-  checked_ends zero e r q h = subst (λ z. ShowsAs returned_of Tells (calls_of w zero nested number before passed) z s t) (sym q) (goes_ends (λ a. a) returned_of _ (turned w) (λ _. leaves (paths.Raises reason.StorageError)) s s t e (goes_refl _ s) h)
+  checked_ends zero e r q h = subst (λ z. ShowsAs returned_of Tells (calls_of w zero nested number (both_checked w both) passed) z s t) (sym q) (goes_ends (λ a. a) returned_of _ (turned w) (λ _. leaves (paths.Raises reason.StorageError)) s s t e (goes_refl _ s) h)
   checked_ends (suc d) e r q h =
-      subst (λ z. ShowsAs returned_of Tells (calls_of w (suc d) nested number before passed) z s t) (sym q)
-      (goes_ends (λ a. a) returned_of _ (turned w) (λ _. bind before (λ _. meaning.exec_sub (ops w) w.limit (program w.typed.now) (calls_of w d) (sub_at (program w.typed.now).subs number) nested passed)) s s t e (goes_refl _ s) h)
+      subst (λ z. ShowsAs returned_of Tells (calls_of w (suc d) nested number (both_checked w both) passed) z s t) (sym q)
+      (goes_ends (λ a. a) returned_of _ (turned w) (λ _. bind (both_checked w both) (λ _. meaning.exec_sub (ops w) w.limit (program w.typed.now) (calls_of w d) (sub_at (program w.typed.now).subs number) nested passed)) s s t e (goes_refl _ s) h)
 
-  pub checked_step : (d : ℕ) (r : Result Returned End) (u : Image) → 1 ≤ d → both_hold both ≡ true → Shows Tells (turned w) (Ok tt) s t → ShowsAs returned_of Tells (walk.called w (d - 1) number nested passed) r t u → ShowsAs returned_of Tells (calls_of w d nested number before passed) r s u
+  pub checked_step : (d : ℕ) (r : Result Returned End) (u : Image) → 1 ≤ d → both_hold both ≡ true → Shows Tells (turned w) (Ok tt) s t → ShowsAs returned_of Tells (walk.called w (d - 1) number nested passed) r t u → ShowsAs returned_of Tells (calls_of w d nested number (both_checked w both) passed) r s u
   unfolding calls_of
   checked_step zero r u le b h k = absurd (omega (arith, le))
   checked_step (suc d) r u le b h k =
       let m : suc d - 1 ≡ d = omega arith in
       let k' = subst (λ z. ShowsAs returned_of Tells (walk.called w z number nested passed) r t u) m k in
-      then_shows (λ a. a) returned_of (turned w) (λ _. bind before (λ _. meaning.exec_sub (ops w) w.limit (program w.typed.now) (calls_of w d) (sub_at (program w.typed.now).subs number) nested passed)) s t u tt r h
-      (then_shows (λ a. a) returned_of before (λ _. meaning.exec_sub (ops w) w.limit (program w.typed.now) (calls_of w d) (sub_at (program w.typed.now).subs number) nested passed) t t u tt r (both_so w both t b)
+      then_shows (λ a. a) returned_of (turned w) (λ _. bind (both_checked w both) (λ _. meaning.exec_sub (ops w) w.limit (program w.typed.now) (calls_of w d) (sub_at (program w.typed.now).subs number) nested passed)) s t u tt r h
+      (then_shows (λ a. a) returned_of (both_checked w both) (λ _. meaning.exec_sub (ops w) w.limit (program w.typed.now) (calls_of w d) (sub_at (program w.typed.now).subs number) nested passed) t t u tt r (both_so w both t b)
       (same_shows returned_of _ (walk.called w d number nested passed) r t u (sub_as w d (sub_at (program w.typed.now).subs number) nested passed) k'))
 
-  pub checked_stops : (d : ℕ) (e : End) (r : Result Returned End) (u : Image) → r ≡ Err e → 1 ≤ d → both_hold both ≡ true → Shows Tells (turned w) (Ok tt) s t → ShowsAs returned_of Tells (walk.called w (d - 1) number nested passed) (Err e) t u → ShowsAs returned_of Tells (calls_of w d nested number before passed) r s u
-  checked_stops d e r u q le b h k = subst (λ z. ShowsAs returned_of Tells (calls_of w d nested number before passed) z s u) (sym q) (checked_step d (Err e) u le b h k)
+  pub checked_stops : (d : ℕ) (e : End) (r : Result Returned End) (u : Image) → r ≡ Err e → 1 ≤ d → both_hold both ≡ true → Shows Tells (turned w) (Ok tt) s t → ShowsAs returned_of Tells (walk.called w (d - 1) number nested passed) (Err e) t u → ShowsAs returned_of Tells (calls_of w d nested number (both_checked w both) passed) r s u
+  checked_stops d e r u q le b h k = subst (λ z. ShowsAs returned_of Tells (calls_of w d nested number (both_checked w both) passed) z s u) (sym q) (checked_step d (Err e) u le b h k)
 
-  pub checked_not : (d : ℕ) → 1 ≤ d → both_hold both ≡ false → Shows Tells (turned w) (Ok tt) s t → ShowsAs returned_of Tells (calls_of w d nested number before passed) (Err (end.Left (leave.Raises reason.ConstraintError))) s t
+  pub checked_not : (d : ℕ) → 1 ≤ d → both_hold both ≡ false → Shows Tells (turned w) (Ok tt) s t → ShowsAs returned_of Tells (calls_of w d nested number (both_checked w both) passed) (Err (end.Left (leave.Raises reason.ConstraintError))) s t
   unfolding calls_of
   checked_not zero le b h = absurd (omega (arith, le))
   checked_not (suc d) le b h =
-      then_shows (λ a. a) returned_of (turned w) (λ _. bind before (λ _. meaning.exec_sub (ops w) w.limit (program w.typed.now) (calls_of w d) (sub_at (program w.typed.now).subs number) nested passed)) s t t tt (Err (end.Left (leave.Raises reason.ConstraintError))) h
-      (goes_ends (λ a. a) returned_of _ before (λ _. meaning.exec_sub (ops w) w.limit (program w.typed.now) (calls_of w d) (sub_at (program w.typed.now).subs number) nested passed) t t t (end.Left (leave.Raises reason.ConstraintError)) (goes_refl _ t) (both_not w both t b))
+      then_shows (λ a. a) returned_of (turned w) (λ _. bind (both_checked w both) (λ _. meaning.exec_sub (ops w) w.limit (program w.typed.now) (calls_of w d) (sub_at (program w.typed.now).subs number) nested passed)) s t t tt (Err (end.Left (leave.Raises reason.ConstraintError))) h
+      (goes_ends (λ a. a) returned_of _ (both_checked w both) (λ _. meaning.exec_sub (ops w) w.limit (program w.typed.now) (calls_of w d) (sub_at (program w.typed.now).subs number) nested passed) t t t (end.Left (leave.Raises reason.ConstraintError)) (goes_refl _ t) (both_not w both t b))
 
 module _ {Tells : Type 0} (w : Work) (d nested number : ℕ) (both : Both) (s t : Image) where
   pub reduced_on : (passed : List meaning.Passed) (r : Returned) → passed ≡ reduced_by w number both.a both.b → both_hold both ≡ true → ShowsAs returned_of Tells (calls_of w d nested number (ret {A = Unit {0}} tt) passed) (Ok r) s t → Shows Tells (walk.reduced_by_call w d nested number both) (Ok r.value) s t

@@ -61,9 +61,9 @@ deal_none ns k first e = ap (λ ms. deal k first ms) (drop_none ns k e)
 
 pub threads_begin : {Tells A B : Type 0} (f : B → A → B) (b : B) (sizes : List ℕ) (body : Share → Stored A) (s : Image) (n most : ℕ) → n ≡ s.state.turns → most ≡ s.state.turns → Goes Tells (par f b (deal 0 0 sizes) body) s (threads f body n (deal 0 0 (drop 0 sizes)) most false b) s
 unfolding par
-threads_begin f b sizes body s n most e q =
-    subst (λ n. Goes _ (par f b (deal 0 0 sizes) body) s (threads f body n (deal 0 0 sizes) most false b) s) (sym e)
-    (subst (λ n. Goes _ (par f b (deal 0 0 sizes) body) s (threads f body s.state.turns (deal 0 0 sizes) n false b) s) (sym q)
+threads_begin {Tells} f b sizes body s n most e q =
+    subst (λ n. Goes Tells (par f b (deal 0 0 sizes) body) s (threads f body n (deal 0 0 sizes) most false b) s) (sym e)
+    (subst (λ n. Goes Tells (par f b (deal 0 0 sizes) body) s (threads f body s.state.turns (deal 0 0 sizes) n false b) s) (sym q)
     (record { faults = refl; same = λ told. refl; stops = λ told x u h. h }))
 
 module _ {Tells : Type 0} {A B : Type 0} (whole : Stored B) (f : B → A → B) (body : Share → Stored A) (from most k first : ℕ) (sizes : List ℕ) (over : Bool) (b : B) (s t u : Image) (g : Goes Tells whole s (threads f body from (deal k first (drop k sizes)) most over b) t) where

@@ -127,10 +127,10 @@ pub chains::chain-returns-in_err-value : goal.chains::chain-returns-in_err-value
 chains::chain-returns-in_err-value g t c = first_ends c.args.work.now c.args.calls (env_of c.args.env.now) (expr_at (nodes_of c.args.work.now) c.args.id) c.in_ok-chain.chain.links (expr_at (nodes_of c.args.work.now) c.in_ok-chain.chain.first) c.in_ok-chain.ensures.0 c.args.store.now c.eval.new.store c.in_err-value.field-0.0 _ (search rules) c.in_err-value.ensures
 
 pub chains::chain-loop-link-preserved : goal.chains::chain-loop-link-preserved
-chains::chain-loop-link-preserved g t c = record { below = all_below c.args.id c.loop-link.links c.pop.new.self c.in-Some.link c.in-Some.ensures c.loop-link.invariant.below; on = stands_step c.args.work.now c.args.calls (env_of c.args.env.now) (eval c.args.work.now c.args.calls (expr_at (nodes_of c.args.work.now) c.args.id) (env_of c.args.env.now)) c.args.store.now c.loop-link.links c.pop.new.self c.in-Some.link c.loop-link.value _ _ _ c.loop-link.store c.operator.new.store c.in-Some.ensures c.loop-link.invariant.on c.in_ok-operator.ensures (search rules) (search rules) }
+chains::chain-loop-link-preserved g t c = record { below = all_below c.args.id c.loop-link.links c.pop.new.self c.in-Some.link c.in-Some.ensures c.loop-link.invariant.below; on = stands_step c.args.work.now c.args.calls (env_of c.args.env.now) (eval c.args.work.now c.args.calls (expr_at (nodes_of c.args.work.now) c.args.id) (env_of c.args.env.now)) c.args.store.now c.loop-link.links c.pop.new.self c.in-Some.link c.loop-link.value _ _ _ c.loop-link.store c.operator.new.store c.in-Some.ensures c.loop-link.invariant.on c.in_ok-value-2.ensures (search rules) (search rules) }
 
-pub chains::chain-returns-in_err-operator : goal.chains::chain-returns-in_err-operator
-chains::chain-returns-in_err-operator g t c = stands_ends c.args.work.now c.args.calls (env_of c.args.env.now) (eval c.args.work.now c.args.calls (expr_at (nodes_of c.args.work.now) c.args.id) (env_of c.args.env.now)) c.args.store.now c.loop-link.links c.pop.new.self c.in-Some.link c.loop-link.value _ c.loop-link.store c.operator.new.store c.in_err-operator.field-0.0 _ (search rules) c.in-Some.ensures c.loop-link.invariant.on c.in_err-operator.ensures (search rules)
+pub chains::chain-returns-in_err-value-2 : goal.chains::chain-returns-in_err-value-2
+chains::chain-returns-in_err-value-2 g t c = stands_ends c.args.work.now c.args.calls (env_of c.args.env.now) (eval c.args.work.now c.args.calls (expr_at (nodes_of c.args.work.now) c.args.id) (env_of c.args.env.now)) c.args.store.now c.loop-link.links c.pop.new.self c.in-Some.link c.loop-link.value _ c.loop-link.store c.operator.new.store c.in_err-value-2.field-0.0 _ (search rules) c.in-Some.ensures c.loop-link.invariant.on c.in_err-value-2.ensures (search rules)
 
 pub chains::chain-returns : goal.chains::chain-returns
 chains::chain-returns g t c = stands_done c.args.work.now c.args.calls (env_of c.args.env.now) (eval c.args.work.now c.args.calls (expr_at (nodes_of c.args.work.now) c.args.id) (env_of c.args.env.now)) c.args.store.now c.loop-link.links c.loop-link.value _ c.loop-link.store (search rules) c.loop-link.invariant.on (search rules)
