@@ -1,13 +1,15 @@
 -- Parallel constructs, as the functions that go by them.
-use Rattle.std.proofs.Common.{◌≡◌, ◌<◌, ◌≤◌, ◌+◌, ◌-◌, arith, ℕ, zero, suc, min, ℤ, List, [], ◌∷◌, Option, Some, None, refl, sym, subst, ap, ◌∙◌}
+use Rattle.std.proofs.Common.{◌≡◌, ◌<◌, ◌≤◌, ◌+◌, ◌-◌, arith, ℕ, zero, suc, min, ℤ, List, [], ◌∷◌, drop, false, Option, Some, None, refl, sym, subst, ap, ◌∙◌}
 use Rattle.std.specs.Prelude.{Result, Ok, Err}
 use Rattle.ada_base.specs.Cuts.{evens, cuts_of}
-use Rattle.ada_typed.specs.Syntax.{Expr, Chunk, Iteration, Stmts, Arms, NoArm, Arm, Optional}
+use Rattle.ada_typed.specs.Syntax.{Expr, Chunk, Each, Iteration, Stmts, Arms, NoArm, Arm, Optional}
+use Rattle.behaviours.specs.Joins.{deal}
+use Rattle.ada_typed.specs.declared.scalars.Check.{Check}
 use Rattle.ada_typed.specs.Decoded.{iteration_at, stmts_at, arms_at}
 use Rattle.ada_meaning.specs.Meaning as meaning
 use Rattle.ada_meaning.specs.Meaning.{Env, Course, inside}
 use Rattle.ada_stored.specs.Stored
-use Rattle.ada_stored.specs.Stored.{Stored, bind, ret}
+use Rattle.ada_stored.specs.Stored.{Stored, threads, first_of_both, bind, ret}
 use Rattle.ada_stored.proofs.Computing.{through_more, through_done}
 use Rattle.run_store.specs.declared.ends.End.{End}
 use Rattle.run_store.specs.declared.ends.End.TheVariants as end
@@ -18,14 +20,14 @@ use Rattle.run_parts.specs.declared.chunks.Chunking.{Chunking}
 use Rattle.run_parts.specs.declared.chunks.Chunking.TheVariants as chunking
 use Rattle.run_parts.specs.declared.courses.Course as courses
 use Rattle.run_parts.specs.Caught.{caught}
-use Rattle.run_parts.specs.Dealing.{chunking_of, loop_sizes, fold_sizes, opened, count_checked, found_arm}
+use Rattle.run_parts.specs.Dealing.{chunking_of, loop_sizes, fold_sizes, opened, count_checked, found_arm, each_chunk}
 use Rattle.run_parts.specs.Passing.{course_of}
 use Rattle.run_parts.specs.Words.{nodes_of}
 use Rattle.ada_interpreter.specs.declared.constructs.Task.{Task}
 use Rattle.ada_interpreter.specs.declared.constructs.Task.TheVariants as task
 use Rattle.ada_interpreter.specs.declared.folds.Fold.{Fold}
 use Rattle.ada_interpreter.proofs.Handling.{caught_shows}
-use Rattle.ada_interpreter.proofs.Threading.{then_done}
+use Rattle.ada_interpreter.proofs.Threading.{threads_begin, then_done}
 use Rattle.ada_interpreter.proofs.Folding.{dealt_fold_as}
 use Rattle.ada_interpreter.specs.Walk as walk
 
@@ -233,3 +235,24 @@ module _ {Tells : Type 0} (w : Work) (d : ℕ) (by : Fold) (env inner : Env) (is
 
     pub dealt_fold_stops : (a b : ℤ) (vs : List ℤ) (y : End) (r : Result ℤ End) → r ≡ Err y → Shows Tells (walk.threads_folded w d by (chunking_of k) c a sizes inner) (Ok vs) s t → Shows Tells (walk.combined w d by env.nested b vs) (Err y) t u → a ≡ start → b ≡ start → Shows Tells (walk.dealt_fold w d by (chunking_of k) c start env) r s u
     dealt_fold_stops a b vs y r x h l p q = subst (λ z. Shows Tells (walk.dealt_fold w d by (chunking_of k) c start env) z s u) (sym x) (dealt_fold_on a b vs (Err y) h l p q)
+
+-- ---- a chunk for each value of a range
+
+module _ {Tells : Type 0} (w : Work) (d : ℕ) (env : Env) (parameter : ℕ) (low high : Expr) (check : Option Check) (c : Chunk) (l h l' h' : ℤ) (s t u : Image) where
+  pub each_on : (r : Result Chunking End) → c ≡ Each parameter low high check → Shows Tells (walk.eval w d low env) (Ok l) s t → Shows Tells (walk.eval w d high env) (Ok h) t u → ShowsAs chunking_of Tells (each_chunk w parameter check l' h') r u u → l' ≡ l → h' ≡ h
+      → ShowsAs chunking_of Tells (walk.chunking w d c env) r s u
+  unfolding walk.chunking walk.eval
+  each_on r is e f k p q =
+      subst (λ z. ShowsAs chunking_of Tells (walk.chunking w d z env) r s u) (sym is)
+      (then_shows (λ a. a) chunking_of (walk.eval w d low env) (λ l. bind (walk.eval w d high env) (λ h. each_chunk w parameter check l h)) s t u l r e
+      (then_shows (λ a. a) chunking_of (walk.eval w d high env) (λ h. each_chunk w parameter check l h) t u u h r f
+      (subst (λ z. ShowsAs chunking_of Tells (each_chunk w parameter check z h) r u u) p (subst (λ z. ShowsAs chunking_of Tells (each_chunk w parameter check l' z) r u u) q k))))
+
+  pub each_ends : (e : End) (r : Result Chunking End) → r ≡ Err e → c ≡ Each parameter low high check → Shows Tells (walk.eval w d low env) (Ok l) s t → Shows Tells (walk.eval w d high env) (Ok h) t u → ShowsAs chunking_of Tells (each_chunk w parameter check l' h') (Err e) u u → l' ≡ l → h' ≡ h
+      → ShowsAs chunking_of Tells (walk.chunking w d c env) r s u
+  each_ends e r x is y z k p q = subst (λ r. ShowsAs chunking_of Tells (walk.chunking w d c env) r s u) (sym x) (each_on (Err e) is y z k p q)
+
+pub loops_begin : {Tells : Type 0} (w : Work) (d : ℕ) (todo : Task) (sizes : List ℕ) (env : Env) (s : Image) (n most : ℕ) → n ≡ s.state.turns → most ≡ s.state.turns
+    → Goes Tells (walk.threads_run w d todo sizes env) s (threads first_of_both (walk.share_run w d todo env) n (deal 0 0 (drop 0 sizes)) most false tt) s
+unfolding walk.threads_run
+loops_begin w d todo sizes env s n most e q = threads_begin first_of_both tt sizes (walk.share_run w d todo env) s n most e q

@@ -1,23 +1,25 @@
 -- Reductions, an iteration at a time, and accumulators, one after the other.
-use Rattle.std.proofs.Common.{◌≡◌, ℕ, zero, suc, ◌+◌, ◌-◌, ◌<◌, ◌≤◌, ℤ, List, [], ◌∷◌, drop, slice_get, Option, Some, None, refl, sym, subst, ap, ◌∙◌, arith}
+use Rattle.std.proofs.Common.{◌≡◌, ℕ, zero, suc, ◌+◌, ◌-◌, ◌<◌, ◌≤◌, ℤ, List, [], ◌∷◌, drop, slice_get, false, Option, Some, None, refl, sym, subst, ap, ◌∙◌, arith}
 use Rattle.std.specs.Prelude.{Result, Ok, Err}
+use Rattle.behaviours.specs.Doings.{folded}
 use Rattle.behaviours.specs.Joins.{Share, deal}
 use Rattle.ada_typed.specs.Decoded.{iteration_at}
 use Rattle.ada_meaning.specs.Meaning as meaning
 use Rattle.ada_meaning.specs.Meaning.{Env, Course, inside}
 use Rattle.ada_stored.specs.Stored
-use Rattle.ada_stored.specs.Stored.{Stored, bind, par, after_all}
+use Rattle.ada_stored.specs.Stored.{Stored, doings, bind, par, threads, after_all}
 use Rattle.ada_base.specs.Cuts.{cuts_of}
 use Rattle.ada_stored.proofs.Computing.{through_more, through_done}
 use Rattle.run_store.specs.Shows.{Image, Goes, Shows}
 use Rattle.run_store.specs.declared.ends.End.{End}
-use Rattle.run_store.proofs.Going.{goes_refl, goes_instead, goes_then, goes_ends, goes_gives, same_shows}
+use Rattle.run_store.proofs.Going.{goes_refl, goes_instead, goes_then, goes_ends, goes_gives, then_shows, same_shows}
 use Rattle.run_parts.specs.declared.work.Work.{Work}
 use Rattle.run_parts.specs.declared.chunks.Chunking.{Chunking}
 use Rattle.run_parts.specs.declared.chunks.Chunking.TheVariants as chunking
 use Rattle.run_parts.specs.Dealing.{chunking_of, fold_sizes}
 use Rattle.run_parts.specs.Words.{nodes_of}
 use Rattle.ada_interpreter.specs.declared.folds.Fold.{Fold}
+use Rattle.ada_interpreter.proofs.Threading.{threads_begin}
 use Rattle.ada_interpreter.specs.Walk as walk
 
 abbrev one : Work → ℕ → Fold → Course → Env → ℕ → ℤ → Stored ℤ
@@ -118,3 +120,30 @@ module _ (w : Work) (d : ℕ) (by : Fold) (c : Course) (start : ℤ) (env : Env)
   unfolding walk.threads_folded walk.share_folded walk.combined
   dealt_fold_as (chunking.ByPlan most) = refl
   dealt_fold_as (chunking.Each p low n) = refl
+
+-- a number under another name
+pub gives_as : {Tells : Type 0} (m : Stored ℤ) (a b : ℤ) (s t : Image) → Shows Tells m (Ok a) s t → b ≡ a → Shows Tells m (Ok b) s t
+gives_as {Tells} m a b s t h p = subst (λ z. Shows Tells m (Ok z) s t) (sym p) h
+
+pub onto_as : {Tells : Type 0} (w : Work) (d : ℕ) (by : Fold) (nested : ℕ) (first a : ℤ) (vs : List ℤ) (r : Result ℤ End) (s t : Image) → Shows Tells (walk.combined_onto w d by nested a vs) r s t → a ≡ first → Shows Tells (walk.combined_onto w d by nested first vs) r s t
+onto_as {Tells} w d by nested first a vs r s t h p = subst (λ z. Shows Tells (walk.combined_onto w d by nested z vs) r s t) p h
+
+pub share_folded_as : {Tells : Type 0} (w : Work) (d : ℕ) (by : Fold) (k : meaning.Chunking) (c : Course) (start a : ℤ) (env : Env) (j : Share) (r : Result ℤ End) (s t : Image) → Shows Tells (walk.share_folded w d by k c a env j) r s t → a ≡ start → Shows Tells (walk.share_folded w d by k c start env j) r s t
+share_folded_as {Tells} w d by k c start a env j r s t h p = subst (λ z. Shows Tells (walk.share_folded w d by k c z env j) r s t) p h
+
+pub threads_folded_as : {Tells : Type 0} (w : Work) (d : ℕ) (by : Fold) (k : meaning.Chunking) (c : Course) (start a : ℤ) (ns : List ℕ) (env : Env) (r : Result (List ℤ) End) (s t : Image) → Shows Tells (walk.threads_folded w d by k c a ns env) r s t → a ≡ start → Shows Tells (walk.threads_folded w d by k c start ns env) r s t
+threads_folded_as {Tells} w d by k c start a ns env r s t h p = subst (λ z. Shows Tells (walk.threads_folded w d by k c z ns env) r s t) p h
+
+-- a step that ends the fold
+pub fold_one_stops : {Tells : Type 0} (w : Work) (d : ℕ) (by : Fold) (nested n : ℕ) (env i : Env) (so_far v a b : ℤ) (found : Option ℤ) (e : End) (r : Result ℤ End) (s t u : Image) → r ≡ Err e → Shows Tells (walk.iterated_value w d by i) (Ok found) s t → found ≡ Some v
+    → Shows Tells (walk.reduced w d by n a b) (Err e) t u → i ≡ env → n ≡ nested → a ≡ so_far → b ≡ v → Shows Tells (walk.fold_one w d by nested env so_far) r s u
+fold_one_stops {Tells} w d by nested n env i so_far v a b found e r s t u q h is k x y p z =
+    subst (λ r. Shows Tells (walk.fold_one w d by nested env so_far) r s u) (sym q)
+    (then_shows (λ a. a) (λ a. a) (walk.iterated_value w d by env) (λ v. folded doings (walk.reduced w d by nested) so_far v) s t u (Some v) (Err e)
+    (subst (λ i. Shows Tells (walk.iterated_value w d by i) (Ok (Some v)) s t) x (subst (λ f. Shows Tells (walk.iterated_value w d by i) (Ok f) s t) is h))
+    (subst (λ n. Shows Tells (walk.reduced w d by n so_far v) (Err e) t u) y (subst (λ a. Shows Tells (walk.reduced w d by n a v) (Err e) t u) p (subst (λ b. Shows Tells (walk.reduced w d by n a b) (Err e) t u) z k))))
+
+pub folds_begin : {Tells : Type 0} (w : Work) (d : ℕ) (by : Fold) (k : meaning.Chunking) (c : Course) (start : ℤ) (sizes : List ℕ) (env : Env) (s : Image) (n most : ℕ) → n ≡ s.state.turns → most ≡ s.state.turns
+    → Goes Tells (walk.threads_folded w d by k c start sizes env) s (threads after_all (walk.share_folded w d by k c start env) n (deal 0 0 (drop 0 sizes)) most false []) s
+unfolding walk.threads_folded
+folds_begin w d by k c start sizes env s n most e q = threads_begin after_all [] sizes (walk.share_folded w d by k c start env) s n most e q

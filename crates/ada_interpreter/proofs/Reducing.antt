@@ -4,10 +4,13 @@ use Rattle.std.specs.Prelude.{Result, Ok, Err}
 use Rattle.ada_base.specs.declared.reason.Reason.TheVariants as reason
 use Rattle.behaviours.specs.Paths as paths
 use Rattle.ada_typed.specs.Programs.{program}
+use Rattle.ada_typed.specs.declared.scalars.Scalar.{Scalar}
+use Rattle.ada_typed.specs.declared.expressions.Reducer.TheVariants as reducer
 use Rattle.ada_meaning.specs.Values.{is_in}
+use Rattle.ada_meaning.specs.Operations.{reduce}
 use Rattle.ada_meaning.specs.Meaning as meaning
 use Rattle.ada_meaning.specs.Meaning.{sub_at}
-use Rattle.ada_stored.specs.Stored.{Stored, ret, bind, leaves}
+use Rattle.ada_stored.specs.Stored.{Stored, doings, checks, ret, bind, leaves}
 use Rattle.run_store.specs.Shows.{Image, ShowsAs, Shows}
 use Rattle.run_store.specs.declared.ends.End.{End}
 use Rattle.run_store.specs.declared.ends.End.TheVariants as end
@@ -19,6 +22,7 @@ use Rattle.run_parts.specs.declared.reducers.Both.{Both}
 use Rattle.run_parts.specs.Passing.{returned_of}
 use Rattle.run_parts.specs.Reducing.{both_hold, both_checked}
 use Rattle.run_parts.specs.Words.{turned, calls_of, ops, reduced_by}
+use Rattle.ada_interpreter.specs.declared.folds.Fold.{Fold}
 use Rattle.ada_interpreter.proofs.Scoping.{sub_as}
 use Rattle.ada_interpreter.specs.Walk as walk
 
@@ -94,3 +98,22 @@ module _ {Tells : Type 0} (w : Work) (d nested number : ℕ) (both : Both) (s t 
   combined_ends passed e r q is h =
       subst (λ z. Shows Tells (walk.combined_by_call w d nested number both) z s t) (sym q)
       (goes_ends returned_of (λ a. a) _ (calls_of w d nested number (both_checked w both) (reduced_by w number both.a both.b)) (λ r. ret r.value) s s t e (goes_refl _ s) (subst (λ z. ShowsAs returned_of Tells (calls_of w d nested number (both_checked w both) z) (Err e) s t) is h))
+
+-- what is given under other names
+pub passed_as : (w : Work) (number : ℕ) (a b a' b' : ℤ) (passed : List meaning.Passed) → passed ≡ reduced_by w number a' b' → a' ≡ a → b' ≡ b → passed ≡ reduced_by w number a b
+passed_as w number a b a' b' passed e p q = e ∙ ap (λ z. reduced_by w number z b') p ∙ ap (λ z. reduced_by w number a z) q
+
+abbrev pub named : ℕ → Scalar → Scalar → ℤ → ℤ → Both
+named at accumulator value a b = record { at = at; accumulator = accumulator; value = value; a = a; b = b }
+
+-- a step by a declared function
+module _ {Tells : Type 0} (w : Work) (d : ℕ) (by : Fold) (nested at sub : ℕ) (accumulator value : Scalar) (a b a' b' : ℤ) (r : Result ℤ End) (s t : Image) (is : by.reducer ≡ reducer.Function at sub accumulator value) where
+  pub reduced_shows : Shows Tells (walk.reduced_by_call w d nested sub (named at accumulator value a' b')) r s t → a' ≡ a → b' ≡ b → Shows Tells (walk.reduced w d by nested a b) r s t
+  reduced_shows h p q =
+      subst (λ (z : Stored ℤ). Shows Tells z r s t) (sym (ap (λ z. reduce doings checks z by.attribute (meaning.fold_call (ops w) w.limit (program w.typed.now) (calls_of w d) z nested) a b) is))
+      (subst (λ z. Shows Tells (walk.reduced_by_call w d nested sub (named at accumulator value z b)) r s t) p (subst (λ z. Shows Tells (walk.reduced_by_call w d nested sub (named at accumulator value a' z)) r s t) q h))
+
+  pub combined_shows : Shows Tells (walk.combined_by_call w d nested sub (named at accumulator value a' b')) r s t → a' ≡ a → b' ≡ b → Shows Tells (walk.combined_two w d by nested a b) r s t
+  combined_shows h p q =
+      subst (λ (z : Stored ℤ). Shows Tells z r s t) (sym (ap (λ z. reduce doings checks z by.attribute (meaning.combine_call (ops w) w.limit (program w.typed.now) (calls_of w d) z nested) a b) is))
+      (subst (λ z. Shows Tells (walk.combined_by_call w d nested sub (named at accumulator value z b)) r s t) p (subst (λ z. Shows Tells (walk.combined_by_call w d nested sub (named at accumulator value a' z)) r s t) q h))

@@ -165,10 +165,7 @@ fn reduced<P: Port + Drop>(
     ensures { Shows P.Tells (spec.reduced work.now calls by nested a b) result store.old store.new }
 {
     match by.reducer {
-        Reducer::Operator { op, class, .. } => {
-            let total = store.operate(op, by.attribute, class, a, b)?;
-            Ok(total)
-        }
+        Reducer::Operator { op, class, .. } => store.operate(op, by.attribute, class, a, b),
         Reducer::Function {
             at,
             sub,
@@ -182,8 +179,7 @@ fn reduced<P: Port + Drop>(
                 a,
                 b,
             };
-            let total = reduced_by_call(work, calls, nested, sub, both, store)?;
-            Ok(total)
+            reduced_by_call(work, calls, nested, sub, both, store)
         }
     }
 }
@@ -455,10 +451,7 @@ fn combined_two<P: Port + Drop>(
     ensures { Shows P.Tells (spec.combined_two work.now calls by nested a b) result store.old store.new }
 {
     match by.reducer {
-        Reducer::Operator { op, class, .. } => {
-            let total = store.operate(op, by.attribute, class, a, b)?;
-            Ok(total)
-        }
+        Reducer::Operator { op, class, .. } => store.operate(op, by.attribute, class, a, b),
         Reducer::Function {
             at,
             sub,
@@ -472,8 +465,7 @@ fn combined_two<P: Port + Drop>(
                 a,
                 b,
             };
-            let total = combined_by_call(work, calls, nested, sub, both, store)?;
-            Ok(total)
+            combined_by_call(work, calls, nested, sub, both, store)
         }
     }
 }

@@ -1,6 +1,6 @@
 -- What is computed beside the walk over nodes.
 use Rattle.std.specs.Prelude.{ℕ, ℤ, int_le, ◌&&◌, Bool, true, List, [], ◌∷◌, ◌++◌, slice_get, Option, Some, None, cond}
-use Rattle.ada_base.specs.Cuts.{One, cuts_of}
+use Rattle.ada_base.specs.Cuts.{cuts_of}
 use Rattle.ada_typed.specs.declared.program.Object.{Object}
 use Rattle.behaviours.specs.Paths.{Entity}
 use Rattle.ada_typed.specs.declared.node.Node.{Node}
@@ -21,7 +21,7 @@ abbrev pub nodes_of : Work → List Node
 nodes_of w = w.typed.now.nodes
 
 abbrev pub ops : Work → Operations {1}
-ops w = Stored.operations w.limit (cuts_of One)
+ops w = Stored.operations w.limit (cuts_of w.plan.now)
 
 -- ---- shut: only the function that goes by a form sees into them
 

@@ -281,19 +281,19 @@ invariant-folds::fold_iterations-loop-i g l =
 
 abbrev pub invariant-folds::fold_threads-loop-size : goal.invariant-folds::fold_threads-loop-size
 invariant-folds::fold_threads-loop-size g l =
-    Goes g.P.Port.Tells (threads_folded l.work l.calls l.by (chunking_of l.chunking) (course_of l.course) l.start l.sizes.now (env_of l.env)) l.fn.store
-    (threads after_all (share_folded l.work l.calls l.by (chunking_of l.chunking) (course_of l.course) l.start (env_of l.env)) l.from (deal l.k l.first (drop l.k l.sizes.now)) l.most l.over l.values) l.store
+    Goes g.P.Port.Tells (threads_folded l.work l.calls l.by (chunking_of l.chunking) (course_of l.course) l.start l.sizes (env_of l.env)) l.fn.store
+    (threads after_all (share_folded l.work l.calls l.by (chunking_of l.chunking) (course_of l.course) l.start (env_of l.env)) l.from (deal l.k l.first (drop l.k l.sizes)) l.most l.over l.values) l.store
 
 abbrev pub decreases-folds::fold_threads-loop-size : goal.decreases-folds::fold_threads-loop-size
-decreases-folds::fold_threads-loop-size g l = length l.sizes.now - l.k
+decreases-folds::fold_threads-loop-size g l = length l.sizes - l.k
 
 abbrev pub invariant-folds::combined_onto-loop-value : goal.invariant-folds::combined_onto-loop-value
 invariant-folds::combined_onto-loop-value g l =
-    Goes g.P.Port.Tells (combined_onto l.work l.calls l.by l.nested l.fn.first l.values.now) l.fn.store
-    (combined_onto l.work l.calls l.by l.nested l.total (drop l.k l.values.now)) l.store
+    Goes g.P.Port.Tells (combined_onto l.work l.calls l.by l.nested l.fn.first l.values) l.fn.store
+    (combined_onto l.work l.calls l.by l.nested l.total (drop l.k l.values)) l.store
 
 abbrev pub decreases-folds::combined_onto-loop-value : goal.decreases-folds::combined_onto-loop-value
-decreases-folds::combined_onto-loop-value g l = length l.values.now - l.k
+decreases-folds::combined_onto-loop-value g l = length l.values - l.k
 
 -- ---- parallel loops and blocks
 
@@ -332,11 +332,11 @@ decreases-constructs::run_turn g l = 1208925819614629174706176 * l.calls + 10995
 
 abbrev pub invariant-constructs::run_threads-loop-size : goal.invariant-constructs::run_threads-loop-size
 invariant-constructs::run_threads-loop-size g l =
-    Goes g.P.Port.Tells (threads_run l.work l.calls l.task l.sizes.now (env_of l.env)) l.fn.store
-    (threads first_of_both (share_run l.work l.calls l.task (env_of l.env)) l.from (deal l.k l.first (drop l.k l.sizes.now)) l.most l.over tt) l.store
+    Goes g.P.Port.Tells (threads_run l.work l.calls l.task l.sizes (env_of l.env)) l.fn.store
+    (threads first_of_both (share_run l.work l.calls l.task (env_of l.env)) l.from (deal l.k l.first (drop l.k l.sizes)) l.most l.over tt) l.store
 
 abbrev pub decreases-constructs::run_threads-loop-size : goal.decreases-constructs::run_threads-loop-size
-decreases-constructs::run_threads-loop-size g l = length l.sizes.now - l.k
+decreases-constructs::run_threads-loop-size g l = length l.sizes - l.k
 
 abbrev pub invariant-constructs::run_share-loop-i : goal.invariant-constructs::run_share-loop-i
 invariant-constructs::run_share-loop-i g l =
@@ -360,7 +360,7 @@ decreases-chains::chain g l = 1208925819614629174706176 * l.calls + 109951162777
 abbrev pub invariant-chains::chain-loop-link : goal.invariant-chains::chain-loop-link
 invariant-chains::chain-loop-link g l = record {
   below : AreBelow l.id l.links;
-  on : Stands l.work l.calls (env_of l.env) (eval l.work l.calls (expr_at (nodes_of l.work) l.id) (env_of l.env)) l.fn.store l.links l.value l.store;
+  on : Stands g.P.Port.Tells l.work l.calls (env_of l.env) (eval l.work l.calls (expr_at (nodes_of l.work) l.id) (env_of l.env)) l.fn.store l.links l.value l.store;
 }
 
 abbrev pub decreases-chains::chain-loop-link : goal.decreases-chains::chain-loop-link
