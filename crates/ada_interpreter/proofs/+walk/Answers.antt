@@ -150,10 +150,10 @@ pub loops::for_loop-returns-in-Some : goal.loops::for_loop-returns-in-Some
 loops::for_loop-returns-in-Some g t c = for_done (for_loop c.args.work.now c.args.calls (course_of c.args.course) (iteration_at (nodes_of c.args.work.now) c.args.iteration) (stmts_at (nodes_of c.args.work.now) c.args.stmts) (env_of c.args.env.now)) c.args.store.now c.loop-i.store c.args.work.now c.args.calls c.loop-i.i (course_of c.args.course) (iteration_at (nodes_of c.args.work.now) c.args.iteration) (stmts_at (nodes_of c.args.work.now) c.args.stmts) (env_of c.args.env.now) (omega (arith, c.loop-i.invariant.counted)) c.loop-i.invariant.on
 
 pub folds::fold_iterations-loop-i-preserved : goal.folds::fold_iterations-loop-i-preserved
-folds::fold_iterations-loop-i-preserved g t c = fold_step c.args.work.now c.args.calls c.args.by (course_of c.args.course) (env_of c.args.env.now) (fold_left c.args.work.now c.args.calls c.args.by c.args.first (suc c.args.last - c.args.first) (course_of c.args.course) (to_z w64 (of_z w64 c.args.start)) (env_of c.args.env.now)) c.args.store.now c.loop-i.store c.fold_one.new.store c.loop-i.i (suc c.args.last) c.loop-i.total (omega arith) c.loop-i.invariant _ _ _ c.in_ok-total.ensures (search rules) (search rules)
+folds::fold_iterations-loop-i-preserved g t c = fold_step c.args.work.now c.args.calls c.args.by (course_of c.args.course) (env_of c.args.env.now) (fold_left c.args.work.now c.args.calls c.args.by c.args.first (suc c.args.last - c.args.first) (course_of c.args.course) (to_z w64 (of_z w64 c.args.start)) (env_of c.args.env.now)) c.args.store.now c.loop-i.store c.fold_one.new.store c.loop-i.i (suc c.args.last) (to_z w64 c.loop-i.total-bits) (omega arith) c.loop-i.invariant _ _ _ c.in_ok-total.ensures (search rules) (search rules)
 
 pub folds::fold_iterations-returns : goal.folds::fold_iterations-returns
-folds::fold_iterations-returns g t c = fold_as c.args.work.now c.args.calls c.args.by (course_of c.args.course) (env_of c.args.env.now) c.args.first (suc c.args.last - c.args.first) (suc c.args.last - c.args.first) c.args.start (to_z w64 (of_z w64 c.args.start)) _ c.args.store.now c.loop-i.store refl (fold_done c.args.work.now c.args.calls c.args.by (course_of c.args.course) (env_of c.args.env.now) (fold_left c.args.work.now c.args.calls c.args.by c.args.first (suc c.args.last - c.args.first) (course_of c.args.course) (to_z w64 (of_z w64 c.args.start)) (env_of c.args.env.now)) c.args.store.now c.loop-i.store c.loop-i.store c.loop-i.i (suc c.args.last) c.loop-i.total _ (omega arith) c.loop-i.invariant (search rules)) (search rules)
+folds::fold_iterations-returns g t c = fold_as c.args.work.now c.args.calls c.args.by (course_of c.args.course) (env_of c.args.env.now) c.args.first (suc c.args.last - c.args.first) (suc c.args.last - c.args.first) c.args.start (to_z w64 (of_z w64 c.args.start)) _ c.args.store.now c.loop-i.store refl (fold_done c.args.work.now c.args.calls c.args.by (course_of c.args.course) (env_of c.args.env.now) (fold_left c.args.work.now c.args.calls c.args.by c.args.first (suc c.args.last - c.args.first) (course_of c.args.course) (to_z w64 (of_z w64 c.args.start)) (env_of c.args.env.now)) c.args.store.now c.loop-i.store c.loop-i.store c.loop-i.i (suc c.args.last) (to_z w64 c.loop-i.total-bits) _ (omega arith) c.loop-i.invariant (search rules)) (search rules)
 
 pub folds::fold_all-returns-in-None : goal.folds::fold_all-returns-in-None
 folds::fold_all-returns-in-None g t c = fold_none c.args.work.now c.args.calls c.args.by (course_of c.args.course) (env_of c.args.env.now) (course_of c.args.course).count c.args.start _ c.args.store.now (search rules) (search rules)
@@ -165,13 +165,13 @@ pub folds::fold_all-returns-in_err-total-in-Some : goal.folds::fold_all-returns-
 folds::fold_all-returns-in_err-total-in-Some g t c = fold_fails c.args.work.now c.args.calls c.args.by (course_of c.args.course) (env_of c.args.env.now) 0 (suc c.in-Some.last - 0) (course_of c.args.course).count c.args.start _ c.in_err-total-in-Some.field-0.0 _ c.args.store.now c.fold_iterations.new.store (search rules) (omega (arith, c.in-Some.ensures)) c.in_err-total-in-Some.ensures (search rules)
 
 pub folds::combined_onto-returns-in_err-total : goal.folds::combined_onto-returns-in_err-total
-folds::combined_onto-returns-in_err-total g t c = onto_as c.args.work.now c.args.calls c.args.by c.args.nested c.args.first (to_z w64 (of_z w64 c.args.first)) c.args.values.now _ c.args.store.now c.combined_two.new.store (onto_ends c.args.work.now c.args.calls c.args.by c.args.nested (combined_onto c.args.work.now c.args.calls c.args.by c.args.nested (to_z w64 (of_z w64 c.args.first)) c.args.values.now) c.args.store.now c.loop-value.store c.combined_two.new.store c.loop-value.total c.args.values.now c.loop-value.k c.loop-value.invariant c.in-Some.value (search rules) _ _ c.in_err-total.field-0.0 _ (search rules) c.in_err-total.ensures (search rules) (search rules)) (search rules)
+folds::combined_onto-returns-in_err-total g t c = onto_as c.args.work.now c.args.calls c.args.by c.args.nested c.args.first (to_z w64 (of_z w64 c.args.first)) c.args.values.now _ c.args.store.now c.combined_two.new.store (onto_ends c.args.work.now c.args.calls c.args.by c.args.nested (combined_onto c.args.work.now c.args.calls c.args.by c.args.nested (to_z w64 (of_z w64 c.args.first)) c.args.values.now) c.args.store.now c.loop-value.store c.combined_two.new.store (to_z w64 c.loop-value.total-bits) c.args.values.now c.loop-value.k c.loop-value.invariant c.in-Some.value (search rules) _ _ c.in_err-total.field-0.0 _ (search rules) c.in_err-total.ensures (search rules) (search rules)) (search rules)
 
 pub folds::combined_onto-loop-value-preserved : goal.folds::combined_onto-loop-value-preserved
-folds::combined_onto-loop-value-preserved g t c = onto_step c.args.work.now c.args.calls c.args.by c.args.nested (combined_onto c.args.work.now c.args.calls c.args.by c.args.nested (to_z w64 (of_z w64 c.args.first)) c.args.values.now) c.args.store.now c.loop-value.store c.combined_two.new.store c.loop-value.total c.args.values.now c.loop-value.k c.loop-value.invariant c.in-Some.value (search rules) _ _ _ _ c.in_ok-total.ensures (search rules) (search rules) (search rules)
+folds::combined_onto-loop-value-preserved g t c = onto_step c.args.work.now c.args.calls c.args.by c.args.nested (combined_onto c.args.work.now c.args.calls c.args.by c.args.nested (to_z w64 (of_z w64 c.args.first)) c.args.values.now) c.args.store.now c.loop-value.store c.combined_two.new.store (to_z w64 c.loop-value.total-bits) c.args.values.now c.loop-value.k c.loop-value.invariant c.in-Some.value (search rules) _ _ _ _ c.in_ok-total.ensures (search rules) (search rules) (search rules)
 
 pub folds::combined_onto-returns : goal.folds::combined_onto-returns
-folds::combined_onto-returns g t c = onto_as c.args.work.now c.args.calls c.args.by c.args.nested c.args.first (to_z w64 (of_z w64 c.args.first)) c.args.values.now _ c.args.store.now c.loop-value.store (onto_done c.args.work.now c.args.calls c.args.by c.args.nested (combined_onto c.args.work.now c.args.calls c.args.by c.args.nested (to_z w64 (of_z w64 c.args.first)) c.args.values.now) c.args.store.now c.loop-value.store c.loop-value.store c.loop-value.total c.args.values.now c.loop-value.k c.loop-value.invariant _ (search rules) (search rules)) (search rules)
+folds::combined_onto-returns g t c = onto_as c.args.work.now c.args.calls c.args.by c.args.nested c.args.first (to_z w64 (of_z w64 c.args.first)) c.args.values.now _ c.args.store.now c.loop-value.store (onto_done c.args.work.now c.args.calls c.args.by c.args.nested (combined_onto c.args.work.now c.args.calls c.args.by c.args.nested (to_z w64 (of_z w64 c.args.first)) c.args.values.now) c.args.store.now c.loop-value.store c.loop-value.store (to_z w64 c.loop-value.total-bits) c.args.values.now c.loop-value.k c.loop-value.invariant _ (search rules) (search rules)) (search rules)
 
 pub constructs::parallel_for-returns-in_err-chunking : goal.constructs::parallel_for-returns-in_err-chunking
 constructs::parallel_for-returns-in_err-chunking g t c = parallel_for_ends c.args.work.now c.args.calls (env_of c.args.env.now) (env_of c.in_ok-inner.inner) c.in_ok-inner.ensures c.args.store.now c.begin_chunks.new.store c.begin_chunks.new.store c.args.number (chunk_at (nodes_of c.args.work.now) c.args.chunk) (iteration_at (nodes_of c.args.work.now) c.args.iteration) (stmts_at (nodes_of c.args.work.now) c.args.stmts) c.in_ok-opened.ensures c.in_err-chunking.field-0.0 _ (search rules) c.in_err-chunking.ensures
@@ -345,10 +345,10 @@ pub loops::for_loop-returns-in-None : goal.loops::for_loop-returns-in-None
 loops::for_loop-returns-in-None g t c = let none : (course_of c.args.course).count ≡ 0 = search rules in for_done (for_loop c.args.work.now c.args.calls (course_of c.args.course) (iteration_at (nodes_of c.args.work.now) c.args.iteration) (stmts_at (nodes_of c.args.work.now) c.args.stmts) (env_of c.args.env.now)) c.args.store.now c.args.store.now c.args.work.now c.args.calls 0 (course_of c.args.course) (iteration_at (nodes_of c.args.work.now) c.args.iteration) (stmts_at (nodes_of c.args.work.now) c.args.stmts) (env_of c.args.env.now) (omega (arith, none)) (for_begins c.args.store.now c.args.work.now c.args.calls (course_of c.args.course) (iteration_at (nodes_of c.args.work.now) c.args.iteration) (stmts_at (nodes_of c.args.work.now) c.args.stmts) (env_of c.args.env.now))
 
 pub folds::fold_iterations-returns-in_err-total : goal.folds::fold_iterations-returns-in_err-total
-folds::fold_iterations-returns-in_err-total g t c = fold_as c.args.work.now c.args.calls c.args.by (course_of c.args.course) (env_of c.args.env.now) c.args.first (suc c.args.last - c.args.first) (suc c.args.last - c.args.first) c.args.start (to_z w64 (of_z w64 c.args.start)) _ c.args.store.now c.fold_one.new.store refl (fold_ends c.args.work.now c.args.calls c.args.by (course_of c.args.course) (env_of c.args.env.now) (fold_left c.args.work.now c.args.calls c.args.by c.args.first (suc c.args.last - c.args.first) (course_of c.args.course) (to_z w64 (of_z w64 c.args.start)) (env_of c.args.env.now)) c.args.store.now c.loop-i.store c.fold_one.new.store c.loop-i.i (suc c.args.last) c.loop-i.total (omega arith) c.loop-i.invariant _ c.in_err-total.field-0.0 _ (search rules) c.in_err-total.ensures (search rules)) (search rules)
+folds::fold_iterations-returns-in_err-total g t c = fold_as c.args.work.now c.args.calls c.args.by (course_of c.args.course) (env_of c.args.env.now) c.args.first (suc c.args.last - c.args.first) (suc c.args.last - c.args.first) c.args.start (to_z w64 (of_z w64 c.args.start)) _ c.args.store.now c.fold_one.new.store refl (fold_ends c.args.work.now c.args.calls c.args.by (course_of c.args.course) (env_of c.args.env.now) (fold_left c.args.work.now c.args.calls c.args.by c.args.first (suc c.args.last - c.args.first) (course_of c.args.course) (to_z w64 (of_z w64 c.args.start)) (env_of c.args.env.now)) c.args.store.now c.loop-i.store c.fold_one.new.store c.loop-i.i (suc c.args.last) (to_z w64 c.loop-i.total-bits) (omega arith) c.loop-i.invariant _ c.in_err-total.field-0.0 _ (search rules) c.in_err-total.ensures (search rules)) (search rules)
 
 pub folds::fold_iterations-returns-in_ok-total : goal.folds::fold_iterations-returns-in_ok-total
-folds::fold_iterations-returns-in_ok-total g t c = fold_as c.args.work.now c.args.calls c.args.by (course_of c.args.course) (env_of c.args.env.now) c.args.first (suc c.args.last - c.args.first) (suc c.args.last - c.args.first) c.args.start (to_z w64 (of_z w64 c.args.start)) _ c.args.store.now c.fold_one.new.store refl (fold_done c.args.work.now c.args.calls c.args.by (course_of c.args.course) (env_of c.args.env.now) (fold_left c.args.work.now c.args.calls c.args.by c.args.first (suc c.args.last - c.args.first) (course_of c.args.course) (to_z w64 (of_z w64 c.args.start)) (env_of c.args.env.now)) c.args.store.now c.fold_one.new.store c.fold_one.new.store (c.loop-i.i + 1) (suc c.args.last) c.in_ok-total.total _ (omega arith) (fold_step c.args.work.now c.args.calls c.args.by (course_of c.args.course) (env_of c.args.env.now) (fold_left c.args.work.now c.args.calls c.args.by c.args.first (suc c.args.last - c.args.first) (course_of c.args.course) (to_z w64 (of_z w64 c.args.start)) (env_of c.args.env.now)) c.args.store.now c.loop-i.store c.fold_one.new.store c.loop-i.i (suc c.args.last) c.loop-i.total (omega arith) c.loop-i.invariant _ c.in_ok-total.total _ c.in_ok-total.ensures (search rules) refl) (search rules)) (search rules)
+folds::fold_iterations-returns-in_ok-total g t c = fold_as c.args.work.now c.args.calls c.args.by (course_of c.args.course) (env_of c.args.env.now) c.args.first (suc c.args.last - c.args.first) (suc c.args.last - c.args.first) c.args.start (to_z w64 (of_z w64 c.args.start)) _ c.args.store.now c.fold_one.new.store refl (fold_done c.args.work.now c.args.calls c.args.by (course_of c.args.course) (env_of c.args.env.now) (fold_left c.args.work.now c.args.calls c.args.by c.args.first (suc c.args.last - c.args.first) (course_of c.args.course) (to_z w64 (of_z w64 c.args.start)) (env_of c.args.env.now)) c.args.store.now c.fold_one.new.store c.fold_one.new.store (c.loop-i.i + 1) (suc c.args.last) c.in_ok-total.total _ (omega arith) (fold_step c.args.work.now c.args.calls c.args.by (course_of c.args.course) (env_of c.args.env.now) (fold_left c.args.work.now c.args.calls c.args.by c.args.first (suc c.args.last - c.args.first) (course_of c.args.course) (to_z w64 (of_z w64 c.args.start)) (env_of c.args.env.now)) c.args.store.now c.loop-i.store c.fold_one.new.store c.loop-i.i (suc c.args.last) (to_z w64 c.loop-i.total-bits) (omega arith) c.loop-i.invariant _ c.in_ok-total.total _ c.in_ok-total.ensures (search rules) refl) (search rules)) (search rules)
 
 pub folds::combined_onto-loop-value-init : goal.folds::combined_onto-loop-value-init
 folds::combined_onto-loop-value-init g t c = goes_refl (combined_onto c.args.work.now c.args.calls c.args.by c.args.nested (to_z w64 (of_z w64 c.args.first)) c.args.values.now) c.args.store.now
