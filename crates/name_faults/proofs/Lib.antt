@@ -1,0 +1,3 @@
+mod Smallest
+mod Lists
+mod Steps
