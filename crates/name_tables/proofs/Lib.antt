@@ -1,0 +1,4 @@
+mod Lists
+mod Reversed
+mod Taking
+mod Whole
