@@ -8,27 +8,74 @@ use tree_nodes::{
 };
 use tree_views::{Tree, finish};
 
+/// A call that joins parts.
+enum Step {
+    Nothing,
+    Leaf(Leaf),
+    One(One),
+    Two(Two),
+    Four(Four),
+    Three(Three),
+    Also(ListKind),
+    Close(ListKind),
+    Swap,
+    LeaveOut,
+}
+
+fn join(out: &mut Parts, step: &Step) -> Result<(), Fault> {
+    match step {
+        Step::Nothing => nothing(out),
+        Step::Leaf(form) => leaf(out, *form),
+        Step::One(form) => one(out, *form),
+        Step::Two(form) => two(out, *form),
+        Step::Three(form) => three(out, *form),
+        Step::Four(form) => four(out, *form),
+        Step::Also(kind) => also(out, *kind),
+        Step::Close(kind) => close(out, *kind),
+        Step::Swap => swap(out),
+        Step::LeaveOut => {
+            leave_out(out);
+            Ok(())
+        }
+    }
+}
+
+fn join_all(out: &mut Parts, steps: &[Step]) -> Result<(), Fault> {
+    for step in steps {
+        join(out, step)?;
+    }
+    Ok(())
+}
+
+const FRONT: [Step; 7] = [
+    Step::Nothing,
+    Step::Nothing,
+    Step::Close(ListKind::Clauses),
+    Step::Nothing,
+    Step::Nothing,
+    Step::Leaf(Leaf::Null(4)),
+    Step::Nothing,
+];
+
+const BACK: [Step; 7] = [
+    Step::Close(ListKind::Stmts),
+    Step::Two(Two::Stmts),
+    Step::Nothing,
+    Step::Two(Two::Body),
+    Step::Leaf(Leaf::Token(1)),
+    Step::Four(Four::Main(0, 1)),
+    Step::Three(Three::Program),
+];
+
 /// `procedure Main is begin null; null; .. end Main;` with so many statements; the tokens of the nth are 4 + 2n on.
 fn statements(alloc: Global, count: u32) -> Result<Tree, Fault> {
     let mut out = begin(alloc);
-    nothing(&mut out)?;
-    nothing(&mut out)?;
-    close(&mut out, ListKind::Clauses)?;
-    nothing(&mut out)?;
-    nothing(&mut out)?;
-    leaf(&mut out, Leaf::Null(4))?;
-    nothing(&mut out)?;
+    join_all(&mut out, &FRONT)?;
     for n in 1..count {
         leaf(&mut out, Leaf::Null(n.wrapping_mul(2).wrapping_add(4)))?;
         also(&mut out, ListKind::Stmts)?;
     }
-    close(&mut out, ListKind::Stmts)?;
-    two(&mut out, Two::Stmts)?;
-    nothing(&mut out)?;
-    two(&mut out, Two::Body)?;
-    leaf(&mut out, Leaf::Token(1))?;
-    four(&mut out, Four::Main(0, 1))?;
-    three(&mut out, Three::Program)?;
+    join_all(&mut out, &BACK)?;
     Ok(finish(out))
 }
 
@@ -48,84 +95,97 @@ fn walks(tree: &Tree, count: u32) -> bool {
     of_stmts(tree, body.stmts) == 4 && tree.cell(at).is_none()
 }
 
-fn is_walked(alloc: Global, count: u32) -> bool {
-    match statements(alloc, count) {
-        Ok(tree) => walks(&tree, count),
-        Err(_) => false,
-    }
-}
-
 #[test]
 fn a_list_is_walked_front_to_back_whatever_its_length(rt: HostRuntime) {
     for count in [1, 2, 3, 100_000] {
-        assert!(rt; is_walked(rt.alloc(), count), "{count}");
+        match statements(rt.alloc(), count) {
+            Ok(tree) => assert!(rt; walks(&tree, count)),
+            Err(_) => assert!(rt; false),
+        }
     }
 }
 
-/// A sum by its number in the table of cases.
-fn sum(alloc: Global, case: u32) -> Result<Parts, Fault> {
+// Sums, the identifier that each is, and whether it is a name.
+const SUMS: [(&[Step], Option<u32>, bool); 6] = [
+    (&[Step::Leaf(Leaf::Identifier(7))], Some(7), true),
+    // A.B
+    (
+        &[
+            Step::Nothing,
+            Step::Leaf(Leaf::Field(9)),
+            Step::Also(ListKind::NameParts),
+            Step::Close(ListKind::NameParts),
+            Step::One(One::Name(7)),
+        ],
+        None,
+        true,
+    ),
+    // - A
+    (
+        &[
+            Step::Leaf(Leaf::Identifier(7)),
+            Step::Nothing,
+            Step::Two(Two::Sum(Some(Sign::Minus(6)))),
+        ],
+        None,
+        false,
+    ),
+    // A + 1
+    (
+        &[
+            Step::Leaf(Leaf::Identifier(7)),
+            Step::Nothing,
+            Step::Leaf(Leaf::Number(9)),
+            Step::One(One::Adding(Additive::Plus, 8)),
+            Step::Also(ListKind::Addings),
+            Step::Close(ListKind::Addings),
+            Step::Two(Two::Sum(None)),
+        ],
+        None,
+        false,
+    ),
+    // 1, and A behind it, which change places
+    (
+        &[
+            Step::Leaf(Leaf::Number(5)),
+            Step::Leaf(Leaf::Identifier(7)),
+            Step::Swap,
+        ],
+        None,
+        false,
+    ),
+    // A, and 1 behind it, which is left out
+    (
+        &[
+            Step::Leaf(Leaf::Identifier(7)),
+            Step::Leaf(Leaf::Number(8)),
+            Step::LeaveOut,
+        ],
+        Some(7),
+        true,
+    ),
+];
+
+/// Whether a sum is this identifier, and a name.
+fn is_named(
+    alloc: Global,
+    steps: &[Step],
+    identifier: Option<u32>,
+    name: bool,
+) -> Result<bool, Fault> {
     let mut out = begin(alloc);
-    match case {
-        0 => leaf(&mut out, Leaf::Identifier(7))?,
-        1 => {
-            // A.B
-            nothing(&mut out)?;
-            leaf(&mut out, Leaf::Field(9))?;
-            also(&mut out, ListKind::NameParts)?;
-            close(&mut out, ListKind::NameParts)?;
-            one(&mut out, One::Name(7))?;
-        }
-        2 => {
-            // - A
-            leaf(&mut out, Leaf::Identifier(7))?;
-            nothing(&mut out)?;
-            two(&mut out, Two::Sum(Some(Sign::Minus(6))))?;
-        }
-        3 => {
-            // A + 1
-            leaf(&mut out, Leaf::Identifier(7))?;
-            nothing(&mut out)?;
-            leaf(&mut out, Leaf::Number(9))?;
-            one(&mut out, One::Adding(Additive::Plus, 8))?;
-            also(&mut out, ListKind::Addings)?;
-            close(&mut out, ListKind::Addings)?;
-            two(&mut out, Two::Sum(None))?;
-        }
-        4 => {
-            // 1, and A behind it, which change places and are left out
-            leaf(&mut out, Leaf::Number(5))?;
-            leaf(&mut out, Leaf::Identifier(7))?;
-            swap(&mut out)?;
-        }
-        _ => {
-            leaf(&mut out, Leaf::Identifier(7))?;
-            leaf(&mut out, Leaf::Number(8))?;
-            leave_out(&mut out);
-        }
-    }
-    Ok(out)
-}
-
-/// The identifier that a case is, and whether it is a name.
-fn named(alloc: Global, case: u32) -> Result<(Option<u32>, bool), Fault> {
-    let mut out = sum(alloc, case)?;
-    let identifier = bare(&out);
-    Ok((identifier, take_name(&mut out)?))
+    join_all(&mut out, steps)?;
+    let found = bare(&out);
+    let taken = take_name(&mut out)?;
+    Ok(found == identifier && taken == name)
 }
 
 #[test]
 fn which_sums_are_names(rt: HostRuntime) {
-    for (case, identifier, name) in [
-        (0, Some(7), true),
-        (1, None, true),
-        (2, None, false),
-        (3, None, false),
-        (4, None, false),
-        (5, Some(7), true),
-    ] {
-        match named(rt.alloc(), case) {
-            Ok(found) => assert_eq!(rt; found, (identifier, name), "{case}"),
-            Err(_) => assert!(rt; false, "{case}"),
+    for (steps, identifier, name) in SUMS {
+        match is_named(rt.alloc(), steps, identifier, name) {
+            Ok(answer) => assert!(rt; answer),
+            Err(_) => assert!(rt; false),
         }
     }
 }

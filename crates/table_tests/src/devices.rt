@@ -2,9 +2,9 @@ ghost use Rattle.std.specs.Prelude.{◌≡◌, IfOk};
 
 use ada_port::files::read_text;
 use ada_port::{
-    ErrSink, Failed, FileShelf, HeldSink, MemShelf, MemSink, MemSource, Pulse, Quiet, Shelf,
-    ShelfFault, ShelfText, Sink, SinkFail, Source, StdSink, StdSource, StreamSink, StreamSource,
-    SureShelf, SureSink, SureSource,
+    ErrSink, FileShelf, HeldSink, MemShelf, MemSink, MemSource, Pulse, Quiet, Shelf, ShelfFault,
+    ShelfText, Sink, SinkFail, Source, StdSink, StdSource, StreamSink, StreamSource, SureShelf,
+    SureSink, SureSource,
 };
 use std::alloc::{AllocError, Global};
 use std::io::{ErrorKind, Read, Write};
@@ -18,67 +18,53 @@ fn text(alloc: Global, name: &str, bytes: &str) -> Result<ShelfText, AllocError>
     })
 }
 
-// A call through the trait, as a generic caller makes it, and the count after it.
-fn fetched<S: Shelf>(
-    shelf: &mut S,
-    alloc: Global,
-    name: &str,
-) -> (Result<Vec<u8>, ShelfFault>, u64) {
-    let answer = shelf.fetch(alloc, name);
-    (answer, shelf.faults())
-}
-
-// The bytes that were fetched, or a word for the fault.
-fn shown(answer: &Result<Vec<u8>, ShelfFault>) -> &[u8] {
-    match answer {
-        Ok(bytes) => bytes.as_slice(),
-        Err(ShelfFault::Failed) => b"failed",
-        Err(ShelfFault::OutOfMemory) => b"no memory",
+// Whether a fetch gives these bytes, or fails.
+fn gives<S: Shelf>(shelf: &mut S, alloc: Global, name: &str, want: Option<&str>) -> bool {
+    match shelf.fetch(alloc, name) {
+        Ok(bytes) => match want {
+            Some(text) => bytes.as_slice() == text.as_bytes(),
+            None => false,
+        },
+        Err(fault) => want.is_none() && fault == ShelfFault::Failed,
     }
 }
 
-fn put<S: Sink>(sink: &mut S, piece: &str) -> (Result<(), Failed>, u64) {
-    let answer = sink.put(piece.as_bytes());
-    (answer, sink.faults())
+// How many bytes a fetch gives.
+fn lent<S: Shelf>(shelf: &mut S, alloc: Global, name: &str) -> Option<usize> {
+    match shelf.fetch(alloc, name) {
+        Ok(bytes) => Some(bytes.len()),
+        Err(_) => None,
+    }
 }
 
-fn next<S: Source>(source: &mut S) -> (Result<Option<u8>, Failed>, u64) {
-    let answer = source.next();
-    (answer, source.faults())
-}
-
-fn begins<P: Pulse + Sync>(pulse: &P, thread: u32) {
-    pulse.begins(thread);
-}
+// What is fetched from the shelf, whether and which text comes, and the number of faults then.
+const FETCHES: [(&str, Option<&str>, u64); 7] = [
+    ("a.ada", Some("one"), 0),
+    ("b.ada", None, 1),
+    ("b.ada", Some("two"), 1),
+    ("c.ada", None, 2),
+    ("a.ada", None, 3),
+    ("a.ada", Some("one"), 3),
+    ("a.ad", None, 4),
+];
 
 #[test]
-fn shelf_in_memory_fails_where_listed_or_absent(rt: HostRuntime) -> Result<(), Fail> {
+fn shelf_in_memory_fails_where_listed_or_absent(rt: HostRuntime) -> Result<(), AllocError> {
     let alloc = rt.alloc();
-    let texts = vec![in alloc;
-        text(alloc, "a.ada", "one")?,
-        text(alloc, "b.ada", "two")?,
-        text(alloc, "a.ada", "three")?,
-    ]?;
-    let mut shelf = MemShelf::new(texts, vec![in alloc; 1, 1, 4]?);
-    let calls = [
-        ("a.ada", "one", 0),
-        ("b.ada", "failed", 1),
-        ("b.ada", "two", 1),
-        ("c.ada", "failed", 2),
-        ("a.ada", "failed", 3),
-        ("a.ada", "one", 3),
-        ("a.ad", "failed", 4),
-    ];
-    for (name, want, faults) in calls {
-        let (answer, count) = fetched(&mut shelf, alloc, name);
-        assert_eq!(rt; count, faults, "{name}");
-        assert_eq!(rt; shown(&answer), want.as_bytes(), "{name} at {faults}");
+    let mut texts = Vec::new(alloc);
+    for (name, bytes) in [("a.ada", "one"), ("b.ada", "two"), ("a.ada", "three")] {
+        texts.push(text(alloc, name, bytes)?)?;
+    }
+    let mut shelf = MemShelf::new(texts, Vec::from_slice(alloc, &[1, 1, 4])?);
+    for (name, want, faults) in FETCHES {
+        assert!(rt; gives(&mut shelf, alloc, name, want));
+        assert!(rt; shelf.faults() == faults);
     }
     Ok(())
 }
 
 #[test]
-fn shelf_that_is_sure_gives_at_most_so_many_bytes(rt: HostRuntime) -> Result<(), Fail> {
+fn shelf_that_is_sure_gives_at_most_so_many_bytes(rt: HostRuntime) -> Result<(), AllocError> {
     let alloc = rt.alloc();
     for (held, given) in [
         (0, 0),
@@ -87,97 +73,80 @@ fn shelf_that_is_sure_gives_at_most_so_many_bytes(rt: HostRuntime) -> Result<(),
         (1_048_578, 1_048_577),
     ] {
         let mut shelf = SureShelf::new(vec![in alloc; b'x'; held]?);
-        let (answer, faults) = fetched(&mut shelf, alloc, "any name");
-        assert_eq!(rt; answer?.len(), given, "of {held}");
-        assert_eq!(rt; faults, 0);
+        assert!(rt; lent(&mut shelf, alloc, "any name") == Some(given));
+        assert!(rt; shelf.faults() == 0);
     }
     Ok(())
 }
 
+// The byte that comes, with 256 for the end and 257 for a fault.
+fn next<S: Source>(source: &mut S) -> u32 {
+    match source.next() {
+        Ok(Some(byte)) => u32::from(byte),
+        Ok(None) => 256,
+        Err(_) => 257,
+    }
+}
+
 #[test]
-fn source_that_is_sure_gives_each_byte_once(rt: HostRuntime) -> Result<(), Fail> {
+fn sources_in_memory_give_each_byte_once(rt: HostRuntime) -> Result<(), AllocError> {
     let alloc = rt.alloc();
-    let mut source = SureSource::new(vec![in alloc; b'a', b'b']?);
-    for want in [Some(b'a'), Some(b'b'), None, None] {
-        let (byte, faults) = next(&mut source);
-        assert_eq!(rt; byte?, want);
-        assert_eq!(rt; faults, 0);
+    let mut sure = SureSource::new(Vec::from_slice(alloc, b"ab")?);
+    for want in [97, 98, 256, 256] {
+        assert!(rt; next(&mut sure) == want && sure.faults() == 0);
+    }
+    let fails = Vec::from_slice(alloc, &[1, 1, 4, 9])?;
+    let mut source = MemSource::new(Vec::from_slice(alloc, b"ab")?, fails);
+    for (want, faults) in [(97, 0), (257, 1), (98, 1), (256, 1), (257, 2), (256, 2)] {
+        assert!(rt; next(&mut source) == want && source.faults() == faults);
     }
     Ok(())
 }
 
+const FAILS: [SinkFail; 4] = [
+    SinkFail { call: 1, pass: 1 },
+    SinkFail { call: 1, pass: 2 },
+    SinkFail { call: 5, pass: 9 },
+    SinkFail { call: 8, pass: 1 },
+];
+
+// What is put, what the sink holds then, and the number of faults, which is greater where the put fails.
+const PUTS: [(&str, &str, u64); 9] = [
+    ("ab", "ab", 0),
+    ("cd", "abc", 1),
+    ("de", "abcde", 1),
+    ("fg", "abcde", 2),
+    ("", "abcde", 2),
+    ("f", "abcdef", 3),
+    ("g", "abcdef", 4),
+    ("", "abcdef", 4),
+    ("gh", "abcdef", 5),
+];
+
 #[test]
-fn source_in_memory_fails_where_listed(rt: HostRuntime) -> Result<(), Fail> {
+fn sink_in_memory_fails_where_listed_or_full(rt: HostRuntime) -> Result<(), AllocError> {
     let alloc = rt.alloc();
-    let bytes = vec![in alloc; b'a', b'b']?;
-    let mut source = MemSource::new(bytes, vec![in alloc; 1, 1, 4, 9]?);
-    let calls = [
-        (Ok(Some(b'a')), 0),
-        (Err(Failed), 1),
-        (Ok(Some(b'b')), 1),
-        (Ok(None), 1),
-        (Err(Failed), 2),
-        (Ok(None), 2),
-    ];
-    for want in calls {
-        assert_eq!(rt; next(&mut source), want);
+    let mut sink = MemSink::new(alloc, 6, Vec::from_slice(alloc, &FAILS)?)?;
+    let mut before = 0;
+    for (piece, held, faults) in PUTS {
+        assert!(rt; sink.put(piece.as_bytes()).is_ok() == (before == faults));
+        assert!(rt; sink.faults() == faults);
+        assert!(rt; *sink.bytes() == *held.as_bytes());
+        before = faults;
     }
     Ok(())
 }
 
 #[test]
-fn sink_in_memory_fails_where_listed_or_full(rt: HostRuntime) -> Result<(), Fail> {
-    let alloc = rt.alloc();
-    let fails = vec![in alloc;
-        SinkFail { call: 1, pass: 1 },
-        SinkFail { call: 1, pass: 2 },
-        SinkFail { call: 5, pass: 9 },
-        SinkFail { call: 8, pass: 1 },
-    ]?;
-    let mut sink = MemSink::new(alloc, 6, fails)?;
-    let calls = [
-        ("ab", Ok(()), "ab", 0),
-        ("cd", Err(Failed), "abc", 1),
-        ("de", Ok(()), "abcde", 1),
-        ("fg", Err(Failed), "abcde", 2),
-        ("", Ok(()), "abcde", 2),
-        ("f", Err(Failed), "abcdef", 3),
-        ("g", Err(Failed), "abcdef", 4),
-        ("", Ok(()), "abcdef", 4),
-        ("gh", Err(Failed), "abcdef", 5),
-    ];
-    for (piece, answer, held, faults) in calls {
-        assert_eq!(rt;
-            put(&mut sink, piece),
-            (answer, faults),
-            "{piece} for {held}"
-        );
-        assert_eq!(rt; sink.bytes(), held.as_bytes());
+fn sinks_that_are_sure_take_all(rt: HostRuntime) {
+    let mut held = HeldSink::new(rt.alloc());
+    let mut sure = SureSink::new();
+    for (piece, bytes, count) in [("abc", "abc", 3), ("", "abc", 3), ("d", "abcd", 4)] {
+        assert!(rt; held.put(piece.as_bytes()).is_ok() && held.faults() == 0);
+        assert!(rt; *held.bytes() == *bytes.as_bytes());
+        assert!(rt; sure.put(piece.as_bytes()).is_ok() && sure.faults() == 0);
+        assert!(rt; sure.count() == count);
     }
-    Ok(())
-}
-
-#[test]
-fn sink_that_grows_keeps_all(rt: HostRuntime) {
-    let mut sink = HeldSink::new(rt.alloc());
-    for (piece, held) in [("ab", "ab"), ("", "ab"), ("c", "abc")] {
-        assert_eq!(rt; put(&mut sink, piece), (Ok(()), 0));
-        assert_eq!(rt; sink.bytes(), held.as_bytes());
-    }
-}
-
-#[test]
-fn sink_that_is_sure_counts_bytes(rt: HostRuntime) {
-    let mut sink = SureSink::new();
-    for (piece, count) in [("abc", 3), ("", 3), ("d", 4)] {
-        assert_eq!(rt; put(&mut sink, piece), (Ok(()), 0));
-        assert_eq!(rt; sink.count(), count);
-    }
-}
-
-#[test]
-fn quiet_is_told_of_a_thread() {
-    begins(&Quiet::new(), 3);
 }
 
 #[test]
@@ -187,39 +156,27 @@ fn shelf_of_files_reads_what_was_written(rt: HostRuntime) -> Result<(), Fail> {
     let id = std::process::id(rt.process());
     let path = format!(in alloc; "{}/ada_port_{id}.ada", folder.display())?;
     let mut shelf = FileShelf::new(rt);
-
-    let (answer, faults) = fetched(&mut shelf, alloc, path.as_str());
-    assert_eq!(rt; answer, Err(ShelfFault::Failed));
-    assert_eq!(rt; faults, 1);
-
+    assert!(rt; gives(&mut shelf, alloc, path.as_str(), None));
     for (held, given) in [(0, 0), (5000, 5000), (1_048_578, 1_048_577)] {
         let bytes = vec![in alloc; b'x'; held]?;
         fs::write(&rt, path.as_str(), bytes.as_slice())?;
-        let (answer, faults) = fetched(&mut shelf, alloc, path.as_str());
-        assert_eq!(rt; answer?.len(), given, "of {held}");
-        assert_eq!(rt; faults, 1);
+        assert!(rt; lent(&mut shelf, alloc, path.as_str()) == Some(given));
     }
+    assert!(rt; shelf.faults() == 1);
     fs::remove_file(&rt, path.as_str())?;
     Ok(())
 }
 
 // A test is run on empty input.
 #[test]
-fn standard_input_is_asked(rt: HostRuntime) {
+fn standard_ports_are_asked(rt: HostRuntime) {
     let mut source = StdSource::new(rt.stdin());
-    assert_eq!(rt; next(&mut source), (Ok(None), 0));
-}
-
-#[test]
-fn standard_output_takes_a_piece(rt: HostRuntime) {
-    let mut sink = StdSink::new(rt.stdout());
-    assert_eq!(rt; put(&mut sink, "a piece\n"), (Ok(()), 0));
-}
-
-#[test]
-fn standard_error_takes_a_piece(rt: HostRuntime) {
-    let mut sink = ErrSink::new(rt.stderr());
-    assert_eq!(rt; put(&mut sink, "a piece\n"), (Ok(()), 0));
+    assert!(rt; next(&mut source) == 256 && source.faults() == 0);
+    let mut out = StdSink::new(rt.stdout());
+    assert!(rt; out.put(b"a piece\n").is_ok() && out.faults() == 0);
+    let mut err = ErrSink::new(rt.stderr());
+    assert!(rt; err.put(b"a piece\n").is_ok() && err.faults() == 0);
+    Quiet::new().begins(3);
 }
 
 // Gives two bytes at a time and takes one, so often, and then gives this answer at every call.
@@ -266,49 +223,43 @@ impl Write for Halting {
     }
 }
 
+// The number of bytes that were read, or the fault.
 #[test]
 fn reading_ends_as_the_reader_does(rt: HostRuntime) {
-    let cases = [
+    for (halt, want) in [
         (Ok(0), Ok(6)),
         (Err(ErrorKind::BrokenPipe), Err(ShelfFault::Failed)),
         (Err(ErrorKind::OutOfMemory), Err(ShelfFault::OutOfMemory)),
-    ];
-    for (halt, want) in cases {
+    ] {
         let mut reader = Halting { left: 3, halt };
-        let answer = match read_text(&mut reader, rt.alloc()) {
-            Ok(text) => Ok(text.len()),
-            Err(fault) => Err(fault),
-        };
-        assert_eq!(rt; answer, want);
+        match read_text(&mut reader, rt.alloc()) {
+            Ok(text) => assert!(rt; want == Ok(text.len())),
+            Err(fault) => assert!(rt; want == Err(fault)),
+        }
     }
 }
 
 #[test]
 fn source_over_a_reader_fails_where_it_does(rt: HostRuntime) {
-    let cases = [
-        (Ok(0), Ok(None), 0),
-        (Err(ErrorKind::BrokenPipe), Err(Failed), 2),
-    ];
-    for (halt, last, faults) in cases {
+    for (halt, last, faults) in [(Ok(0), 256, 0), (Err(ErrorKind::BrokenPipe), 257, 2)] {
         let mut source = StreamSource::new(Halting { left: 2, halt });
-        for byte in [b'a', b'b', b'a', b'b'] {
-            assert_eq!(rt; next(&mut source), (Ok(Some(byte)), 0));
+        for byte in [97, 98, 97, 98] {
+            assert!(rt; next(&mut source) == byte && source.faults() == 0);
         }
-        let (first, _) = next(&mut source);
-        assert_eq!(rt; first, last);
-        assert_eq!(rt; next(&mut source), (last, faults));
+        assert!(rt; next(&mut source) == last);
+        assert!(rt; next(&mut source) == last && source.faults() == faults);
     }
 }
 
 #[test]
 fn writing_fails_where_no_byte_is_taken(rt: HostRuntime) {
-    let cases = [
-        (4, Ok(0), Ok(()), 0),
-        (3, Ok(0), Err(Failed), 1),
-        (3, Err(ErrorKind::BrokenPipe), Err(Failed), 1),
-    ];
-    for (left, halt, answer, faults) in cases {
+    for (left, halt, faults) in [
+        (4, Ok(0), 0),
+        (3, Ok(0), 1),
+        (3, Err(ErrorKind::BrokenPipe), 1),
+    ] {
         let mut sink = StreamSink::new(Halting { left, halt });
-        assert_eq!(rt; put(&mut sink, "abcd"), (answer, faults), "at {left}");
+        assert!(rt; sink.put(b"abcd").is_ok() == (faults == 0));
+        assert!(rt; sink.faults() == faults);
     }
 }

@@ -18,8 +18,6 @@ mod lists;
 #[cfg(test)]
 mod operations;
 #[cfg(test)]
-mod places;
-#[cfg(test)]
 mod plans;
 #[cfg(test)]
 mod readers;

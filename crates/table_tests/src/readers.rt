@@ -3,19 +3,21 @@ use reader_combinators::example::{Range, parse};
 use reader_combinators::fault::Refusal;
 use std::alloc::AllocError;
 
-const SPAN: Span = Span { start: 0, end: 0 };
-
-fn token(sign: char) -> Token {
+fn token(sign: u8) -> Token {
     let kind = match sign {
-        '(' => Kind::Mark(12),
-        ')' => Kind::Mark(13),
-        ':' => Kind::Mark(1),
-        ',' => Kind::Mark(16),
+        b'(' => Kind::Mark(12),
+        b')' => Kind::Mark(13),
+        b':' => Kind::Mark(1),
+        b',' => Kind::Mark(16),
         _ => Kind::Number(0),
     };
-    Token { kind, span: SPAN }
+    Token {
+        kind,
+        span: Span { start: 0, end: 0 },
+    }
 }
 
+// The number of ranges after 0, the place of a fault after 1, and of what is too deep after 2.
 fn summary(answer: &Result<Items<Range>, Refusal>) -> (u8, usize) {
     match answer {
         Ok(found) => (0, found.len()),
@@ -25,28 +27,31 @@ fn summary(answer: &Result<Items<Range>, Refusal>) -> (u8, usize) {
     }
 }
 
-// The number of ranges after 0, the place of a fault after 1, and of what is too deep after 2. A token is a
-// character, the two dots are `:`.
+// A token is a character, the two dots are `:`. The limit of depth, and the summary.
+const TEXTS: [(&str, u32, u8, usize); 12] = [
+    ("1", 0, 0, 1),
+    ("1:1", 0, 0, 1),
+    ("1,1:1", 0, 0, 2),
+    ("((1))", 2, 0, 1),
+    ("((1))", 1, 2, 1),
+    ("((,", 2, 1, 2),
+    ("", 2, 1, 0),
+    ("1:", 2, 1, 2),
+    ("11", 2, 1, 1),
+    ("(1:1)", 2, 1, 2),
+    ("1,", 2, 1, 2),
+    ("(", 0, 2, 0),
+];
+
 #[test]
 fn lists_have_their_ranges_or_their_first_fault(rt: HostRuntime) -> Result<(), AllocError> {
-    let cases = [
-        ("1", 0, (0, 1)),
-        ("1:1", 0, (0, 1)),
-        ("1,1:1", 0, (0, 2)),
-        ("((1))", 2, (0, 1)),
-        ("((1))", 1, (2, 1)),
-        ("((,", 2, (1, 2)),
-        ("", 2, (1, 0)),
-        ("1:", 2, (1, 2)),
-        ("11", 2, (1, 1)),
-        ("(1:1)", 2, (1, 2)),
-        ("1,", 2, (1, 2)),
-        ("(", 0, (2, 0)),
-    ];
-    for (text, limit, want) in cases {
-        let tokens: Vec<Token> = text.chars().map(token).collect(rt.alloc())?;
-        let found = parse(rt.alloc(), &tokens, limit);
-        assert_eq!(rt; summary(&found), want, "of {text}");
+    for (text, limit, want, count) in TEXTS {
+        let mut tokens = Vec::new(rt.alloc());
+        for sign in text.as_bytes() {
+            tokens.push(token(*sign))?;
+        }
+        let (found, number) = summary(&parse(rt.alloc(), &tokens, limit));
+        assert!(rt; found == want && number == count, "{text}");
     }
     Ok(())
 }

@@ -637,6 +637,10 @@ fn digits(nodes: &Nodes, root: u32) -> i64 {
     number
 }
 
+const EXPRESSION_WORDS: &str =
+    "static variable constant parameter target group unary binary and_then \
+    or_else relation membership if call convert reduction reduction ";
+
 #[test]
 fn expressions_of_each_kind_are_read_in_their_order(rt: HostRuntime) -> Result<(), AllocError> {
     let mut parts = Parts::new(rt.alloc())?;
@@ -646,13 +650,14 @@ fn expressions_of_each_kind_are_read_in_their_order(rt: HostRuntime) -> Result<(
     if let Some(list) = done.take() {
         put_expressions(&mut words, &done.nodes, list)?;
     }
-    assert_eq!(rt;
-        words.as_str(),
-        "static variable constant parameter target group unary binary and_then or_else relation membership if call convert reduction reduction "
-    );
+    assert!(rt; words.as_str() == EXPRESSION_WORDS);
     assert!(rt; done.take().is_none());
     Ok(())
 }
+
+const STATEMENT_WORDS: &str =
+    "null assign assign assign call exit return return_value raise reraise put get \
+    if case loop for parallel_for parallel block ";
 
 #[test]
 fn statements_of_each_kind_are_read_in_their_order(rt: HostRuntime) -> Result<(), AllocError> {
@@ -665,10 +670,7 @@ fn statements_of_each_kind_are_read_in_their_order(rt: HostRuntime) -> Result<()
             put_statements(&mut words, &done.nodes, body.stmts)?;
         }
     }
-    assert_eq!(rt;
-        words.as_str(),
-        "null assign assign assign call exit return return_value raise reraise put get if case loop for parallel_for parallel block "
-    );
+    assert!(rt; words.as_str() == STATEMENT_WORDS);
     assert!(rt; done.take().is_none());
     Ok(())
 }
@@ -678,10 +680,10 @@ fn lists_grow_by_lists_and_are_taken_apart(rt: HostRuntime) -> Result<(), AllocE
     let mut parts = Parts::new(rt.alloc())?;
     join_all(&mut parts, &LISTS)?;
     let mut done = parts.finish();
-    assert_eq!(rt; done.roots.len(), 3);
+    assert!(rt; done.roots.len() == 3);
     for want in [567, 4, 8] {
         if let Some(root) = done.take() {
-            assert_eq!(rt; digits(&done.nodes, root), want);
+            assert!(rt; digits(&done.nodes, root) == want);
         }
     }
     Ok(())
@@ -713,10 +715,10 @@ fn static_values_are_those_of_constants_and_numbers(rt: HostRuntime) -> Result<(
         nonblocking: false,
         strict: true,
     };
-    assert_eq!(rt; done.roots.len(), 3);
+    assert!(rt; done.roots.len() == 3);
     for (place, want) in [(0usize, Some(5)), (1, Some(3)), (2, None)] {
         if let Some(root) = done.roots.get(place) {
-            assert_eq!(rt; eval(&typed, *root), want, "at {place}");
+            assert!(rt; eval(&typed, *root) == want);
         }
     }
     Ok(())
@@ -750,8 +752,8 @@ fn a_long_chain_of_operators_is_settled(rt: HostRuntime) -> Result<(), AllocErro
     if let Some(root) = done.take() {
         let _first = done.nodes.operands(root, &mut links)?;
     }
-    assert_eq!(rt; links.len(), LONG);
-    assert_eq!(rt; settled_operators(links.as_slice()), LONG);
+    assert!(rt; links.len() == LONG);
+    assert!(rt; settled_operators(links.as_slice()) == LONG);
     Ok(())
 }
 
@@ -783,7 +785,7 @@ fn a_long_chain_of_conditions_is_settled(rt: HostRuntime) -> Result<(), AllocErr
     }
     parts.settle(INTEGER)?;
     let mut done = parts.finish();
-    assert_eq!(rt; done.roots.len(), 1);
+    assert!(rt; done.roots.len() == 1);
     if let Some(root) = done.take() {
         let last = last_of(&done.nodes, root, LONG);
         assert!(rt;

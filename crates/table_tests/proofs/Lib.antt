@@ -1,0 +1,5 @@
+pub mod CutRows
+pub mod GetRows
+pub mod ImageRows
+pub mod OperationRows
+pub mod PlaceRows
