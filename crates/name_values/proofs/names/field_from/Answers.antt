@@ -1,4 +1,4 @@
-use Rattle.std.proofs.Common.{◌≡◌, sym, ◌∙◌}
+use Rattle.std.proofs.Common.{sym, ◌∙◌}
 use Rattle.name_rules.specs.Names as spec
 use Rattle.name_rules.specs.Types.{fields_of, shape_in}
 use Rattle.typed_parts.specs.Stack.{parts, top}
