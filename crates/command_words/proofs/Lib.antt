@@ -1,0 +1,4 @@
+mod Numbers
+mod Matching
+mod Rows
+mod Sizes
