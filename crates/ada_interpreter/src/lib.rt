@@ -5,8 +5,10 @@ pub mod actuals;
 pub mod bodies;
 pub mod calls;
 pub mod chains;
+pub mod constructs;
 pub mod courses;
 pub mod exprs;
+pub mod folds;
 pub mod loops;
 pub mod names;
 pub mod runs;
@@ -14,5 +16,5 @@ pub mod stmts;
 pub mod texts;
 pub mod values;
 
-pub use run_parts::Work;
+pub use run_parts::{SoundPlan, Work};
 pub use runs::run;
