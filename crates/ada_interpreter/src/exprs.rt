@@ -264,7 +264,7 @@ fn converted<P: Port + Drop>(
     }
 }
 
-/// Whether an expression that may be left out is there and False.
+/// Whether an expression holds, or is left out.
 #[cycle(walk)]
 #[tactic(auto, using(crate::proofs::Parts::present_is), unfolding(ada_stored::specs::Stored::bind, ada_stored::specs::Stored::ret, ada_stored::specs::Stored::leaves, ada_stored::specs::Stored::spent, ada_stored::specs::Stored::handles, crate::specs::Walk::eval, crate::specs::Walk::holds))]
 pub fn holds<P: Port + Drop>(
