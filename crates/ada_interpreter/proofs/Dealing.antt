@@ -2,10 +2,11 @@
 use Rattle.std.proofs.Common.{◌≡◌, ◌<◌, ◌≤◌, ◌+◌, ◌-◌, arith, ℕ, zero, suc, min, ℤ, List, [], ◌∷◌, drop, false, Option, Some, None, refl, sym, subst, ap, ◌∙◌}
 use Rattle.std.specs.Prelude.{Result, Ok, Err}
 use Rattle.ada_base.specs.Cuts.{evens, cuts_of}
-use Rattle.ada_typed.specs.Syntax.{Expr, Chunk, Each, Iteration, Stmts, Arms, NoArm, Arm, Optional}
+use Rattle.ada_typed.specs.Syntax.{Expr, Reduction, Chunk, Each, Iteration, Stmts, Arms, NoArm, Arm, Optional}
 use Rattle.behaviours.specs.Joins.{deal}
 use Rattle.ada_typed.specs.declared.scalars.Check.{Check}
-use Rattle.ada_typed.specs.Decoded.{iteration_at, stmts_at, arms_at}
+use Rattle.ada_typed.specs.declared.expressions.Reducer.{Reducer}
+use Rattle.ada_typed.specs.Decoded.{expr_at, iteration_at, stmts_at, arms_at}
 use Rattle.ada_meaning.specs.Meaning as meaning
 use Rattle.ada_meaning.specs.Meaning.{Env, Course, inside}
 use Rattle.ada_stored.specs.Stored
@@ -167,7 +168,31 @@ module _ {Tells : Type 0} (w : Work) (d : ℕ) (env : Env) where
     pub arm_ends : (ss : Stmts) (e : End) (r : Result (Unit {0}) End) → r ≡ Err e → found_arm arms i ≡ Some ss → Shows Tells (walk.exec_all w d ss env) (Err e) s t → Shows Tells (walk.exec_arm w d arms i env) r s t
     arm_ends ss e r q is h = subst (λ z. Shows Tells (walk.exec_arm w d arms i env) z s t) (sym q) (arm_some ss (Err e) is h)
 
+-- an arm in a thread
+module _ {Tells : Type 0} (w : Work) (d : ℕ) (env : Env) (todo : Task) (arms number i : ℕ) (s t : Image) (is : todo ≡ task.Arms arms) where
+  pub turn_none : found_arm (arms_at (nodes_of w) arms) i ≡ None → Shows Tells (walk.task_turn w d todo number i env) (Ok tt) s s
+  turn_none e = subst (λ z. Shows Tells (walk.task_turn w d z number i env) (Ok tt) s s) (sym is) (arm_none w d env (arms_at (nodes_of w) arms) i s s e)
+
+  pub turn_some : (ss : Stmts) (r : Result (Unit {0}) End) → found_arm (arms_at (nodes_of w) arms) i ≡ Some ss → Shows Tells (walk.exec_all w d ss env) r s t → Shows Tells (walk.task_turn w d todo number i env) r s t
+  turn_some ss r e h = subst (λ z. Shows Tells (walk.task_turn w d z number i env) r s t) (sym is) (arm_some w d env (arms_at (nodes_of w) arms) i s t ss r e h)
+
+  pub turn_ends : (ss : Stmts) (y : End) (r : Result (Unit {0}) End) → r ≡ Err y → found_arm (arms_at (nodes_of w) arms) i ≡ Some ss → Shows Tells (walk.exec_all w d ss env) (Err y) s t → Shows Tells (walk.task_turn w d todo number i env) r s t
+  turn_ends ss y r q e h = subst (λ z. Shows Tells (walk.task_turn w d todo number i env) z s t) (sym q) (turn_some ss (Err y) e h)
+
 -- ---- reductions
+
+abbrev fold : (attribute iteration value : ℕ) → Reducer → Fold
+fold attribute iteration value z = record { attribute = attribute; reducer = z; iteration = iteration; value = value }
+
+-- an expression that is one
+module _ {Tells : Type 0} (w : Work) (d : ℕ) (x initial : Expr) (n attribute : ℕ) (by by' : Reducer) (chunk : Chunk) (iteration value : ℕ) (env : Env) (r : Result ℤ End) (s t : Image) (is : by' ≡ by) where
+  pub reduction_shows : x ≡ Reduction n attribute by initial None chunk (iteration_at (nodes_of w) iteration) (expr_at (nodes_of w) value) → Shows Tells (walk.reduction w d (fold attribute iteration value by') initial env) r s t → Shows Tells (walk.eval w d x env) r s t
+  unfolding walk.eval walk.course walk.filtered walk.fold_left
+  reduction_shows e h = subst (λ z. Shows Tells (walk.eval w d z env) r s t) (sym e) (subst (λ z. Shows Tells (walk.reduction w d (fold attribute iteration value z) initial env) r s t) is h)
+
+  pub parallel_reduction_shows : (site : ℕ) → x ≡ Reduction n attribute by initial (Some site) chunk (iteration_at (nodes_of w) iteration) (expr_at (nodes_of w) value) → Shows Tells (walk.parallel_reduction w d (fold attribute iteration value by') initial chunk env) r s t → Shows Tells (walk.eval w d x env) r s t
+  unfolding walk.eval walk.course walk.filtered walk.chunking
+  parallel_reduction_shows site e h = subst (λ z. Shows Tells (walk.eval w d z env) r s t) (sym e) (subst (λ z. Shows Tells (walk.parallel_reduction w d (fold attribute iteration value z) initial chunk env) r s t) is h)
 
 module _ {Tells : Type 0} (w : Work) (d : ℕ) (by : Fold) (env inner : Env) (is : inner ≡ inside env) where
   module _ (initial : Expr) (chunk : Chunk) (s t u v : Image) (start : ℤ) (h : Shows Tells (walk.eval w d initial env) (Ok start) s t) (o : Shows Tells (opened w env) (Ok tt) t t) where

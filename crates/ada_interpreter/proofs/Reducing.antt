@@ -4,10 +4,12 @@ use Rattle.std.specs.Prelude.{Result, Ok, Err}
 use Rattle.ada_base.specs.declared.reason.Reason.TheVariants as reason
 use Rattle.behaviours.specs.Paths as paths
 use Rattle.ada_typed.specs.Programs.{program}
+use Rattle.ada_base.specs.declared.operation.Op.{Op}
+use Rattle.ada_typed.specs.declared.scalars.Class.{Class}
 use Rattle.ada_typed.specs.declared.scalars.Scalar.{Scalar}
 use Rattle.ada_typed.specs.declared.expressions.Reducer.TheVariants as reducer
 use Rattle.ada_meaning.specs.Values.{is_in}
-use Rattle.ada_meaning.specs.Operations.{reduce}
+use Rattle.ada_meaning.specs.Operations.{operate, reduce}
 use Rattle.ada_meaning.specs.Meaning as meaning
 use Rattle.ada_meaning.specs.Meaning.{sub_at}
 use Rattle.ada_stored.specs.Stored.{Stored, doings, checks, ret, bind, leaves}
@@ -117,3 +119,19 @@ module _ {Tells : Type 0} (w : Work) (d : ℕ) (by : Fold) (nested at sub : ℕ)
   combined_shows h p q =
       subst (λ (z : Stored ℤ). Shows Tells z r s t) (sym (ap (λ z. reduce doings checks z by.attribute (meaning.combine_call (ops w) w.limit (program w.typed.now) (calls_of w d) z nested) a b) is))
       (subst (λ z. Shows Tells (walk.combined_by_call w d nested sub (named at accumulator value z b)) r s t) p (subst (λ z. Shows Tells (walk.combined_by_call w d nested sub (named at accumulator value a' z)) r s t) q h))
+
+-- a step by an operator
+module _ {Tells : Type 0} (w : Work) (d : ℕ) (by : Fold) (nested at : ℕ) (op : Op) (class : Class) (a b a' b' : ℤ) (r : Result ℤ End) (s t : Image) (is : by.reducer ≡ reducer.Operator at op class) where
+  operator_shows : Shows Tells (operate doings checks op by.attribute class a' b') r s t → a' ≡ a → b' ≡ b → (call : ℤ → ℤ → Stored ℤ) → Shows Tells (reduce doings checks (reducer.Operator at op class) by.attribute call a b) r s t
+  operator_shows h p q call =
+      subst (λ z. Shows Tells (operate doings checks op by.attribute class z b) r s t) p (subst (λ z. Shows Tells (operate doings checks op by.attribute class a' z) r s t) q h)
+
+  pub reduced_operator : Shows Tells (operate doings checks op by.attribute class a' b') r s t → a' ≡ a → b' ≡ b → Shows Tells (walk.reduced w d by nested a b) r s t
+  reduced_operator h p q =
+      subst (λ (z : Stored ℤ). Shows Tells z r s t) (sym (ap (λ z. reduce doings checks z by.attribute (meaning.fold_call (ops w) w.limit (program w.typed.now) (calls_of w d) z nested) a b) is))
+      (operator_shows h p q (meaning.fold_call (ops w) w.limit (program w.typed.now) (calls_of w d) (reducer.Operator at op class) nested))
+
+  pub combined_operator : Shows Tells (operate doings checks op by.attribute class a' b') r s t → a' ≡ a → b' ≡ b → Shows Tells (walk.combined_two w d by nested a b) r s t
+  combined_operator h p q =
+      subst (λ (z : Stored ℤ). Shows Tells z r s t) (sym (ap (λ z. reduce doings checks z by.attribute (meaning.combine_call (ops w) w.limit (program w.typed.now) (calls_of w d) z nested) a b) is))
+      (operator_shows h p q (meaning.combine_call (ops w) w.limit (program w.typed.now) (calls_of w d) (reducer.Operator at op class) nested))

@@ -33,6 +33,7 @@ impl Model for SoundPlan {
 }
 
 impl SoundPlan {
+    /// A plan of which no number is 0.
     pub fn new(plan: Plan) -> SoundPlan
         requires { HasNoZero plan }
         ensures { result ≡ plan_of plan }

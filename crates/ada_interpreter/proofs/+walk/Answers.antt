@@ -1,16 +1,18 @@
 use Rattle.std.proofs.Common.{rules, arith, ap, ◌||◌, true, false, ◌≡◌, suc, ◌-◌, ◌+◌, ◌<◌, ◌≤◌, [], subst, sym, refl, Ok, Err, ◌∙◌, to_z, of_z, w64}
-use Rattle.ada_typed.specs.Decoded.{stmts_at, stmt_at, optional_at, iteration_at, value_at, decls_at, handlers_at, body_at, expr_at, alternatives_at, arms_at, chunk_at, actuals_at, selections_at}
+use Rattle.ada_typed.specs.Decoded.{reducer_at, stmts_at, stmt_at, optional_at, iteration_at, value_at, decls_at, handlers_at, body_at, expr_at, alternatives_at, arms_at, chunk_at, actuals_at, selections_at}
 use Rattle.ada_typed.specs.Programs.{sub_of}
 use Rattle.behaviours.specs.Paths as paths
 use Rattle.run_store.specs.Environment.{env_of, part_of}
-use Rattle.run_store.specs.Shows.{Shows, region_of}
-use Rattle.run_parts.specs.Passing.{course_of, passed_list}
+use Rattle.run_store.specs.declared.ends.End.TheVariants as end
+use Rattle.run_store.specs.Shows.{Shows, ShowsAs, region_of}
+use Rattle.run_parts.specs.Passing.{course_of, passed_list, returned_of}
+use Rattle.run_parts.specs.Reducing.{both_checked}
 use Rattle.run_parts.specs.Dealing.{chunking_of}
-use Rattle.ada_stored.specs.Stored.{first_of_both, after_all}
+use Rattle.ada_stored.specs.Stored.{first_of_both, after_all, ret}
 use Rattle.run_parts.specs.Caught.{caught}
 use Rattle.run_parts.proofs.Stepping.{next_fails}
 use Rattle.run_store.proofs.Going.{then_shows, goes_refl}
-use Rattle.run_parts.specs.Words.{nodes_of}
+use Rattle.run_parts.specs.Words.{nodes_of, calls_of}
 use Rattle.ada_interpreter.specs.Walk.{combined, chunked_fold, dealt_fold, reduced_by_call, exec_all, while_loop, for_loop, course, in_loop, run_values, eval, fold_left, combined_onto, threads_run, share_run, threads_folded, share_folded}
 use Rattle.ada_interpreter.proofs.Looping.{while_begins, run_begins, all_step, all_ends, all_done, while_test_ends, while_stops, while_turn_ends, while_body_ends, while_step, while_spent, for_step, for_ends, for_done, for_begins, run_step, run_ends, run_done}
 use Rattle.ada_interpreter.proofs.Scoping.{body_as, call_ends, call_step, called_more, called_fails, formals_none, formals_more, formals_fails, default_more, default_fails, variable_ends, variable_more, variable_fails, constant_ends, constant_more, constant_fails}
@@ -18,12 +20,12 @@ use Rattle.ada_interpreter.proofs.Handling.{caught_shows, chosen_some, chosen_no
 use Rattle.ada_interpreter.proofs.Folding.{folds_begin, gives_as, onto_as, share_folded_as, threads_folded_as, fold_one_stops, fold_step, fold_ends, fold_done, fold_none, fold_as, fold_fails, fold_share_none, fold_share_on, fold_share_ends, onto_step, onto_ends, onto_done}
 use Rattle.ada_typed.specs.Chained.{right_of}
 use Rattle.ada_interpreter.proofs.Chaining.{stands_begins, first_ends, stands_step, stands_ends, stands_done, all_below, last_below}
-use Rattle.ada_interpreter.proofs.Forms.{index_as, in_out_as, in_out_ends, in_out_on, range_holds, number_ends, get_on}
+use Rattle.ada_interpreter.proofs.Forms.{index_as, in_out_as, in_out_ends, in_out_on, range_holds, number_ends, get_on, get_shows}
 use Rattle.ada_interpreter.proofs.Threading.{thread_gives, thread_spent, thread_left, threads_more, threads_end, threads_fail, threads_joined, threads_spent, spent_as, gathered_none}
-use Rattle.ada_interpreter.proofs.Dealing.{loops_begin, each_on, each_ends, dealt_loop_shows, dealt_arms_shows, dealt_arms_ends, parallel_for_ends, parallel_for_on, parallel_for_stops, parallel_block_ends, parallel_block_on, parallel_block_stops, chunked_loop_on, chunked_loop_stops, chunked_loop_many, arm_none, arm_some, arm_ends, parallel_reduction_ends, parallel_reduction_on, parallel_reduction_stops, chunked_fold_on, chunked_fold_stops, chunked_fold_many, chunked_fold_ends, dealt_fold_ends, dealt_fold_on, dealt_fold_stops, share_begins, share_step, share_ends, share_done}
+use Rattle.ada_interpreter.proofs.Dealing.{loops_begin, each_on, each_ends, dealt_loop_shows, dealt_arms_shows, dealt_arms_ends, parallel_for_ends, parallel_for_on, parallel_for_stops, parallel_block_ends, parallel_block_on, parallel_block_stops, chunked_loop_on, chunked_loop_stops, chunked_loop_many, turn_none, turn_some, turn_ends, reduction_shows, parallel_reduction_shows, parallel_reduction_ends, parallel_reduction_on, parallel_reduction_stops, chunked_fold_on, chunked_fold_stops, chunked_fold_many, chunked_fold_ends, dealt_fold_ends, dealt_fold_on, dealt_fold_stops, share_begins, share_step, share_ends, share_done}
 use Rattle.ada_interpreter.specs.declared.constructs.Task.TheVariants as task
 use Rattle.ada_interpreter.specs.Threads.{took_of, folded_of}
-use Rattle.ada_interpreter.proofs.Reducing.{passed_as, reduced_shows, combined_shows, checked_ends, checked_step, checked_stops, checked_not, reduced_on, reduced_ends, reduced_not, combined_on, combined_ends}
+use Rattle.ada_interpreter.proofs.Reducing.{reduced_operator, combined_operator, passed_as, reduced_shows, combined_shows, checked_ends, checked_step, checked_stops, checked_not, reduced_on, reduced_ends, reduced_not, combined_on, combined_ends}
 use Rattle.ada_interpreter.proofs.+walk.Goals as goal
 
 pub stmts::exec_all-returns-in_err-exec : goal.stmts::exec_all-returns-in_err-exec
@@ -153,7 +155,7 @@ pub folds::fold_iterations-loop-i-preserved : goal.folds::fold_iterations-loop-i
 folds::fold_iterations-loop-i-preserved g t c = fold_step c.args.work.now c.args.calls c.args.by (course_of c.args.course) (env_of c.args.env.now) (fold_left c.args.work.now c.args.calls c.args.by c.args.first (suc c.args.last - c.args.first) (course_of c.args.course) (to_z w64 (of_z w64 c.args.start)) (env_of c.args.env.now)) c.args.store.now c.loop-i.store c.fold_one.new.store c.loop-i.i (suc c.args.last) (to_z w64 c.loop-i.total-bits) (omega arith) c.loop-i.invariant _ _ _ c.in_ok-total.ensures (search rules) (search rules)
 
 pub folds::fold_iterations-returns : goal.folds::fold_iterations-returns
-folds::fold_iterations-returns g t c = fold_as c.args.work.now c.args.calls c.args.by (course_of c.args.course) (env_of c.args.env.now) c.args.first (suc c.args.last - c.args.first) (suc c.args.last - c.args.first) c.args.start (to_z w64 (of_z w64 c.args.start)) _ c.args.store.now c.loop-i.store refl (fold_done c.args.work.now c.args.calls c.args.by (course_of c.args.course) (env_of c.args.env.now) (fold_left c.args.work.now c.args.calls c.args.by c.args.first (suc c.args.last - c.args.first) (course_of c.args.course) (to_z w64 (of_z w64 c.args.start)) (env_of c.args.env.now)) c.args.store.now c.loop-i.store c.loop-i.store c.loop-i.i (suc c.args.last) (to_z w64 c.loop-i.total-bits) _ (omega arith) c.loop-i.invariant (search rules)) (search rules)
+folds::fold_iterations-returns g t c = gives_as (fold_left c.args.work.now c.args.calls c.args.by c.args.first (suc c.args.last - c.args.first) (course_of c.args.course) c.args.start (env_of c.args.env.now)) (to_z w64 c.loop-i.total-bits) _ c.args.store.now c.loop-i.store (fold_as c.args.work.now c.args.calls c.args.by (course_of c.args.course) (env_of c.args.env.now) c.args.first (suc c.args.last - c.args.first) (suc c.args.last - c.args.first) c.args.start (to_z w64 (of_z w64 c.args.start)) (Ok (to_z w64 c.loop-i.total-bits)) c.args.store.now c.loop-i.store refl (fold_done c.args.work.now c.args.calls c.args.by (course_of c.args.course) (env_of c.args.env.now) (fold_left c.args.work.now c.args.calls c.args.by c.args.first (suc c.args.last - c.args.first) (course_of c.args.course) (to_z w64 (of_z w64 c.args.start)) (env_of c.args.env.now)) c.args.store.now c.loop-i.store c.loop-i.store c.loop-i.i (suc c.args.last) (to_z w64 c.loop-i.total-bits) (to_z w64 c.loop-i.total-bits) (omega arith) c.loop-i.invariant refl) (search rules)) (search rules)
 
 pub folds::fold_all-returns-in-None : goal.folds::fold_all-returns-in-None
 folds::fold_all-returns-in-None g t c = fold_none c.args.work.now c.args.calls c.args.by (course_of c.args.course) (env_of c.args.env.now) (course_of c.args.course).count c.args.start _ c.args.store.now (search rules) (search rules)
@@ -171,7 +173,7 @@ pub folds::combined_onto-loop-value-preserved : goal.folds::combined_onto-loop-v
 folds::combined_onto-loop-value-preserved g t c = onto_step c.args.work.now c.args.calls c.args.by c.args.nested (combined_onto c.args.work.now c.args.calls c.args.by c.args.nested (to_z w64 (of_z w64 c.args.first)) c.args.values.now) c.args.store.now c.loop-value.store c.combined_two.new.store (to_z w64 c.loop-value.total-bits) c.args.values.now c.loop-value.k c.loop-value.invariant c.in-Some.value (search rules) _ _ _ _ c.in_ok-total.ensures (search rules) (search rules) (search rules)
 
 pub folds::combined_onto-returns : goal.folds::combined_onto-returns
-folds::combined_onto-returns g t c = onto_as c.args.work.now c.args.calls c.args.by c.args.nested c.args.first (to_z w64 (of_z w64 c.args.first)) c.args.values.now _ c.args.store.now c.loop-value.store (onto_done c.args.work.now c.args.calls c.args.by c.args.nested (combined_onto c.args.work.now c.args.calls c.args.by c.args.nested (to_z w64 (of_z w64 c.args.first)) c.args.values.now) c.args.store.now c.loop-value.store c.loop-value.store (to_z w64 c.loop-value.total-bits) c.args.values.now c.loop-value.k c.loop-value.invariant _ (search rules) (search rules)) (search rules)
+folds::combined_onto-returns g t c = gives_as (combined_onto c.args.work.now c.args.calls c.args.by c.args.nested c.args.first c.args.values.now) (to_z w64 c.loop-value.total-bits) _ c.args.store.now c.loop-value.store (onto_as c.args.work.now c.args.calls c.args.by c.args.nested c.args.first (to_z w64 (of_z w64 c.args.first)) c.args.values.now (Ok (to_z w64 c.loop-value.total-bits)) c.args.store.now c.loop-value.store (onto_done c.args.work.now c.args.calls c.args.by c.args.nested (combined_onto c.args.work.now c.args.calls c.args.by c.args.nested (to_z w64 (of_z w64 c.args.first)) c.args.values.now) c.args.store.now c.loop-value.store c.loop-value.store (to_z w64 c.loop-value.total-bits) c.args.values.now c.loop-value.k c.loop-value.invariant (to_z w64 c.loop-value.total-bits) (search rules) refl) (search rules)) (search rules)
 
 pub constructs::parallel_for-returns-in_err-chunking : goal.constructs::parallel_for-returns-in_err-chunking
 constructs::parallel_for-returns-in_err-chunking g t c = parallel_for_ends c.args.work.now c.args.calls (env_of c.args.env.now) (env_of c.in_ok-inner.inner) c.in_ok-inner.ensures c.args.store.now c.begin_chunks.new.store c.begin_chunks.new.store c.args.number (chunk_at (nodes_of c.args.work.now) c.args.chunk) (iteration_at (nodes_of c.args.work.now) c.args.iteration) (stmts_at (nodes_of c.args.work.now) c.args.stmts) c.in_ok-opened.ensures c.in_err-chunking.field-0.0 _ (search rules) c.in_err-chunking.ensures
@@ -204,7 +206,7 @@ pub constructs::run_threads-loop-size-init : goal.constructs::run_threads-loop-s
 constructs::run_threads-loop-size-init g t c = loops_begin c.args.work.now c.args.calls c.args.task c.args.sizes.now (env_of c.args.env.now) c.args.store.now c.turns-from.result c.turns-from.result c.turns-from.ensures c.turns-from.ensures
 
 pub constructs::run_threads-loop-size-preserved : goal.constructs::run_threads-loop-size-preserved
-constructs::run_threads-loop-size-preserved g t c = threads_more (threads_run c.args.work.now c.args.calls c.args.task c.args.sizes.now (env_of c.args.env.now)) first_of_both (share_run c.args.work.now c.args.calls c.args.task (env_of c.args.env.now)) c.turns-from.result c.loop-size.most c.loop-size.k c.loop-size.first c.args.sizes.now c.loop-size.over tt c.args.store.now c.loop-size.store c.rewind.new.self c.loop-size.invariant c.in-Some.size (search rules) c.rewind.ensures took_of c.run_thread.new.store c.in_ok-took.took _ _ _ tt c.in_ok-took.ensures refl c.in_ok-first.ensures (c.either.ensures ∙ ap (λ z. c.loop-size.over || z) (sym (spent_as c.in_ok-took.took.spent))) (gathered_none c.in_ok-took.took.spent)
+constructs::run_threads-loop-size-preserved g t c = threads_more (threads_run c.args.work.now c.args.calls c.args.task c.args.sizes.now (env_of c.args.env.now)) first_of_both (share_run c.args.work.now c.args.calls c.args.task (env_of c.args.env.now)) c.turns-from.result c.loop-size.most c.loop-size.k c.loop-size.first c.args.sizes.now c.loop-size.over tt c.args.store.now c.loop-size.store c.rewind.new.self c.loop-size.invariant c.in-Some.size (search rules) c.rewind.ensures took_of c.run_thread.new.store c.in_ok-took.took _ _ _ tt c.in_ok-took.ensures refl c.in_ok-first.ensures (c.either-over.ensures ∙ ap (λ z. c.loop-size.over || z) (sym (spent_as c.in_ok-took.took.spent))) (gathered_none c.in_ok-took.took.spent)
 
 pub constructs::run_threads-returns-in_err-took : goal.constructs::run_threads-returns-in_err-took
 constructs::run_threads-returns-in_err-took g t c = threads_end (threads_run c.args.work.now c.args.calls c.args.task c.args.sizes.now (env_of c.args.env.now)) first_of_both (share_run c.args.work.now c.args.calls c.args.task (env_of c.args.env.now)) c.turns-from.result c.loop-size.most c.loop-size.k c.loop-size.first c.args.sizes.now c.loop-size.over tt c.args.store.now c.loop-size.store c.rewind.new.self c.loop-size.invariant c.in-Some.size (search rules) c.rewind.ensures took_of c.run_thread.new.store c.in_err-took.field-0.0 _ (search rules) c.in_err-took.ensures
@@ -228,13 +230,13 @@ pub constructs::run_share-returns : goal.constructs::run_share-returns
 constructs::run_share-returns g t c = share_done c.args.work.now c.args.calls c.args.task c.args.number (env_of c.args.env.now) (share_run c.args.work.now c.args.calls c.args.task (env_of c.args.env.now) (record { number = c.args.number; first = c.args.first; size = c.args.size })) c.args.store.now c.loop-i.store c.loop-i.store c.loop-i.i c.in_ok-last.last (omega arith) c.loop-i.invariant
 
 pub constructs::run_turn-returns-in-None : goal.constructs::run_turn-returns-in-None
-constructs::run_turn-returns-in-None g t c = arm_none c.args.work.now c.args.calls (env_of c.args.env.now) (arms_at (nodes_of c.args.work.now) c.in-Arms.arms) c.args.index c.args.store.now c.args.store.now (search rules)
+constructs::run_turn-returns-in-None g t c = turn_none c.args.work.now c.args.calls (env_of c.args.env.now) c.args.task c.in-Arms.arms c.args.number c.args.index c.args.store.now c.args.store.now (search rules) (search rules)
 
 pub constructs::run_turn-returns-in_ok-exec_all-in-Some : goal.constructs::run_turn-returns-in_ok-exec_all-in-Some
-constructs::run_turn-returns-in_ok-exec_all-in-Some g t c = arm_some c.args.work.now c.args.calls (env_of c.args.env.now) (arms_at (nodes_of c.args.work.now) c.in-Arms.arms) c.args.index c.args.store.now c.exec_all.new.store (stmts_at (nodes_of c.args.work.now) c.in-Some.stmts) (Ok tt) (search rules) c.in_ok-exec_all-in-Some.ensures
+constructs::run_turn-returns-in_ok-exec_all-in-Some g t c = turn_some c.args.work.now c.args.calls (env_of c.args.env.now) c.args.task c.in-Arms.arms c.args.number c.args.index c.args.store.now c.exec_all.new.store (search rules) (stmts_at (nodes_of c.args.work.now) c.in-Some.stmts) (Ok tt) (search rules) c.in_ok-exec_all-in-Some.ensures
 
 pub constructs::run_turn-returns-in_err-exec_all-in-Some : goal.constructs::run_turn-returns-in_err-exec_all-in-Some
-constructs::run_turn-returns-in_err-exec_all-in-Some g t c = arm_ends c.args.work.now c.args.calls (env_of c.args.env.now) (arms_at (nodes_of c.args.work.now) c.in-Arms.arms) c.args.index c.args.store.now c.exec_all.new.store (stmts_at (nodes_of c.args.work.now) c.in-Some.stmts) c.in_err-exec_all-in-Some.field-0.0 _ (search rules) (search rules) c.in_err-exec_all-in-Some.ensures
+constructs::run_turn-returns-in_err-exec_all-in-Some g t c = turn_ends c.args.work.now c.args.calls (env_of c.args.env.now) c.args.task c.in-Arms.arms c.args.number c.args.index c.args.store.now c.exec_all.new.store (search rules) (stmts_at (nodes_of c.args.work.now) c.in-Some.stmts) c.in_err-exec_all-in-Some.field-0.0 _ (search rules) (search rules) c.in_err-exec_all-in-Some.ensures
 
 pub constructs::run_thread-returns-in-Ok : goal.constructs::run_thread-returns-in-Ok
 constructs::run_thread-returns-in-Ok g t c = thread_gives took_of c.args.most (share_run c.args.work.now c.args.calls c.args.task (env_of c.args.env.now) (record { number = c.args.number; first = c.args.first; size = c.args.size })) c.args.store.now c.run_share.new.store tt (record { spent = false; most = c.max.result }) (search rules) (search rules)
@@ -273,19 +275,19 @@ pub folds::dealt_fold-returns-in_err-total : goal.folds::dealt_fold-returns-in_e
 folds::dealt_fold-returns-in_err-total g t c = dealt_fold_stops c.args.work.now c.args.calls c.args.by (env_of c.args.env.now) (env_of c.in_ok-inner.inner) c.in_ok-inner.ensures c.args.chunking (course_of c.args.course) c.args.start c.in_ok-count.count c.in_ok-sizes.sizes c.in_ok-count.ensures c.in_ok-sizes.ensures c.args.store.now c.fold_threads.new.store c.combined.new.store _ _ c.in_ok-values.values c.in_err-total.field-0.0 _ (search rules) (subst (λ z. Shows g.P.Port.Tells (threads_folded c.args.work.now c.args.calls c.args.by (chunking_of c.args.chunking) (course_of c.args.course) (to_z w64 (of_z w64 c.args.start)) z (env_of c.in_ok-inner.inner)) (Ok c.in_ok-values.values) c.args.store.now c.fold_threads.new.store) c.as_slice.ensures c.in_ok-values.ensures) (subst (λ z. Shows g.P.Port.Tells (combined c.args.work.now c.args.calls c.args.by z (to_z w64 (of_z w64 c.args.start)) c.in_ok-values.values) (Err c.in_err-total.field-0.0) c.fold_threads.new.store c.combined.new.store) c.nested.ensures (subst (λ z. Shows g.P.Port.Tells (combined c.args.work.now c.args.calls c.args.by c.nested.result (to_z w64 (of_z w64 c.args.start)) z) (Err c.in_err-total.field-0.0) c.fold_threads.new.store c.combined.new.store) c.as_slice-2.ensures c.in_err-total.ensures)) (search rules) (search rules)
 
 pub folds::fold_threads-loop-size-init : goal.folds::fold_threads-loop-size-init
-folds::fold_threads-loop-size-init g t c = folds_begin c.args.work.now c.args.calls c.args.by (chunking_of c.args.chunking) (course_of c.args.course) (to_z w64 (of_z w64 c.args.start)) c.args.sizes.now (env_of c.args.env.now) c.args.store.now c.turns-from.result c.turns-from.result c.turns-from.ensures c.turns-from.ensures
+folds::fold_threads-loop-size-init g t c = rw c.new-values.ensures (folds_begin c.args.work.now c.args.calls c.args.by (chunking_of c.args.chunking) (course_of c.args.course) (to_z w64 (of_z w64 c.args.start)) c.args.sizes.now (env_of c.args.env.now) c.args.store.now c.turns-from.result c.turns-from.result c.turns-from.ensures c.turns-from.ensures)
 
 pub folds::fold_threads-loop-size-preserved : goal.folds::fold_threads-loop-size-preserved
-folds::fold_threads-loop-size-preserved g t c = threads_more (threads_folded c.args.work.now c.args.calls c.args.by (chunking_of c.args.chunking) (course_of c.args.course) (to_z w64 (of_z w64 c.args.start)) c.args.sizes.now (env_of c.args.env.now)) after_all (share_folded c.args.work.now c.args.calls c.args.by (chunking_of c.args.chunking) (course_of c.args.course) (to_z w64 (of_z w64 c.args.start)) (env_of c.args.env.now)) c.turns-from.result c.loop-size.most c.loop-size.k c.loop-size.first c.args.sizes.now c.loop-size.over c.loop-size.values c.args.store.now c.loop-size.store c.rewind.new.self c.loop-size.invariant c.in-Some.size (search rules) c.rewind.ensures folded_of c.fold_thread.new.store c.in_ok-folded.folded _ _ _ _ c.in_ok-folded.ensures refl c.in_ok-first.ensures (c.either.ensures ∙ ap (λ z. c.loop-size.over || z) c.is_spent.ensures) c.in_ok-push_some.ensures
+folds::fold_threads-loop-size-preserved g t c = threads_more (threads_folded c.args.work.now c.args.calls c.args.by (chunking_of c.args.chunking) (course_of c.args.course) (to_z w64 (of_z w64 c.args.start)) c.args.sizes.now (env_of c.args.env.now)) after_all (share_folded c.args.work.now c.args.calls c.args.by (chunking_of c.args.chunking) (course_of c.args.course) (to_z w64 (of_z w64 c.args.start)) (env_of c.args.env.now)) c.turns-from.result c.loop-size.most c.loop-size.k c.loop-size.first c.args.sizes.now c.loop-size.over c.loop-size.values c.args.store.now c.loop-size.store c.rewind.new.self c.loop-size.invariant c.in-Some.size (search rules) c.rewind.ensures folded_of c.fold_thread.new.store c.in_ok-folded.folded _ _ _ _ c.in_ok-folded.ensures refl c.in_ok-first.ensures (c.either-over.ensures ∙ ap (λ z. c.loop-size.over || z) c.is_spent.ensures) c.in_ok-push_some.ensures
 
 pub folds::fold_threads-returns-in_err-folded : goal.folds::fold_threads-returns-in_err-folded
 folds::fold_threads-returns-in_err-folded g t c = threads_folded_as c.args.work.now c.args.calls c.args.by (chunking_of c.args.chunking) (course_of c.args.course) c.args.start (to_z w64 (of_z w64 c.args.start)) c.args.sizes.now (env_of c.args.env.now) _ c.args.store.now c.fold_thread.new.store (threads_end (threads_folded c.args.work.now c.args.calls c.args.by (chunking_of c.args.chunking) (course_of c.args.course) (to_z w64 (of_z w64 c.args.start)) c.args.sizes.now (env_of c.args.env.now)) after_all (share_folded c.args.work.now c.args.calls c.args.by (chunking_of c.args.chunking) (course_of c.args.course) (to_z w64 (of_z w64 c.args.start)) (env_of c.args.env.now)) c.turns-from.result c.loop-size.most c.loop-size.k c.loop-size.first c.args.sizes.now c.loop-size.over c.loop-size.values c.args.store.now c.loop-size.store c.rewind.new.self c.loop-size.invariant c.in-Some.size (search rules) c.rewind.ensures folded_of c.fold_thread.new.store c.in_err-folded.field-0.0 _ (search rules) c.in_err-folded.ensures) (search rules)
 
 pub folds::fold_threads-returns-then-over : goal.folds::fold_threads-returns-then-over
-folds::fold_threads-returns-then-over g t c = threads_folded_as c.args.work.now c.args.calls c.args.by (chunking_of c.args.chunking) (course_of c.args.course) c.args.start (to_z w64 (of_z w64 c.args.start)) c.args.sizes.now (env_of c.args.env.now) _ c.args.store.now c.rewind-2.new.self (threads_spent (threads_folded c.args.work.now c.args.calls c.args.by (chunking_of c.args.chunking) (course_of c.args.course) (to_z w64 (of_z w64 c.args.start)) c.args.sizes.now (env_of c.args.env.now)) after_all (share_folded c.args.work.now c.args.calls c.args.by (chunking_of c.args.chunking) (course_of c.args.course) (to_z w64 (of_z w64 c.args.start)) (env_of c.args.env.now)) c.turns-from.result c.loop-size.most c.loop-size.k c.loop-size.first c.args.sizes.now c.loop-size.over c.loop-size.values c.args.store.now c.loop-size.store c.rewind-2.new.self c.loop-size.invariant (search rules) c.rewind-2.ensures (search rules)) (search rules)
+folds::fold_threads-returns-then-over g t c = threads_folded_as c.args.work.now c.args.calls c.args.by (chunking_of c.args.chunking) (course_of c.args.course) c.args.start (to_z w64 (of_z w64 c.args.start)) c.args.sizes.now (env_of c.args.env.now) (Err end.Spent) c.args.store.now c.rewind-2.new.self (threads_spent (threads_folded c.args.work.now c.args.calls c.args.by (chunking_of c.args.chunking) (course_of c.args.course) (to_z w64 (of_z w64 c.args.start)) c.args.sizes.now (env_of c.args.env.now)) after_all (share_folded c.args.work.now c.args.calls c.args.by (chunking_of c.args.chunking) (course_of c.args.course) (to_z w64 (of_z w64 c.args.start)) (env_of c.args.env.now)) c.turns-from.result c.loop-size.most c.loop-size.k c.loop-size.first c.args.sizes.now c.loop-size.over c.loop-size.values c.args.store.now c.loop-size.store c.rewind-2.new.self c.loop-size.invariant (search rules) c.rewind-2.ensures (search rules)) (search rules)
 
 pub folds::fold_threads-returns-else-over : goal.folds::fold_threads-returns-else-over
-folds::fold_threads-returns-else-over g t c = threads_folded_as c.args.work.now c.args.calls c.args.by (chunking_of c.args.chunking) (course_of c.args.course) c.args.start (to_z w64 (of_z w64 c.args.start)) c.args.sizes.now (env_of c.args.env.now) _ c.args.store.now c.rewind-2.new.self (threads_joined (threads_folded c.args.work.now c.args.calls c.args.by (chunking_of c.args.chunking) (course_of c.args.course) (to_z w64 (of_z w64 c.args.start)) c.args.sizes.now (env_of c.args.env.now)) after_all (share_folded c.args.work.now c.args.calls c.args.by (chunking_of c.args.chunking) (course_of c.args.course) (to_z w64 (of_z w64 c.args.start)) (env_of c.args.env.now)) c.turns-from.result c.loop-size.most c.loop-size.k c.loop-size.first c.args.sizes.now c.loop-size.over c.loop-size.values c.args.store.now c.loop-size.store c.rewind-2.new.self c.loop-size.invariant (search rules) c.rewind-2.ensures (search rules)) (search rules)
+folds::fold_threads-returns-else-over g t c = threads_folded_as c.args.work.now c.args.calls c.args.by (chunking_of c.args.chunking) (course_of c.args.course) c.args.start (to_z w64 (of_z w64 c.args.start)) c.args.sizes.now (env_of c.args.env.now) (Ok c.loop-size.values) c.args.store.now c.rewind-2.new.self (threads_joined (threads_folded c.args.work.now c.args.calls c.args.by (chunking_of c.args.chunking) (course_of c.args.course) (to_z w64 (of_z w64 c.args.start)) c.args.sizes.now (env_of c.args.env.now)) after_all (share_folded c.args.work.now c.args.calls c.args.by (chunking_of c.args.chunking) (course_of c.args.course) (to_z w64 (of_z w64 c.args.start)) (env_of c.args.env.now)) c.turns-from.result c.loop-size.most c.loop-size.k c.loop-size.first c.args.sizes.now c.loop-size.over c.loop-size.values c.args.store.now c.loop-size.store c.rewind-2.new.self c.loop-size.invariant (search rules) c.rewind-2.ensures (search rules)) (search rules)
 
 pub folds::fold_thread-returns-in-Ok : goal.folds::fold_thread-returns-in-Ok
 folds::fold_thread-returns-in-Ok g t c = thread_gives folded_of c.args.most (share_folded c.args.work.now c.args.calls c.args.by (chunking_of c.args.chunking) (course_of c.args.course) c.args.start (env_of c.args.env.now) (record { number = c.args.number; first = c.args.first; size = c.args.size })) c.args.store.now c.fold_share.new.store c.in-Ok.value _ (search rules) (search rules)
@@ -312,13 +314,13 @@ pub folds::reduced_by_call-returns-in_ok-returned : goal.folds::reduced_by_call-
 folds::reduced_by_call-returns-in_ok-returned g t c = gives_as (reduced_by_call c.args.work.now c.args.calls c.args.nested c.args.sub c.args.both) c.in_ok-returned.returned.value _ c.args.store.now c.call.new.store (reduced_on c.args.work.now c.args.calls c.args.nested c.args.sub c.args.both c.args.store.now c.call.new.store (passed_list c.args.work.now c.in_ok-passed.passed) c.in_ok-returned.returned (passed_as c.args.work.now c.args.sub c.args.both.a c.args.both.b _ _ (passed_list c.args.work.now c.in_ok-passed.passed) c.in_ok-passed.ensures (search rules) (search rules)) (search rules) (rw c.as_slice.ensures at c.in_ok-returned.ensures)) (search rules)
 
 pub folds::reduced_by_call-returns-in_err-returned : goal.folds::reduced_by_call-returns-in_err-returned
-folds::reduced_by_call-returns-in_err-returned g t c = reduced_ends c.args.work.now c.args.calls c.args.nested c.args.sub c.args.both c.args.store.now c.call.new.store (passed_list c.args.work.now c.in_ok-passed.passed) c.in_err-returned.field-0.0 _ (search rules) (passed_as c.args.work.now c.args.sub c.args.both.a c.args.both.b _ _ (passed_list c.args.work.now c.in_ok-passed.passed) c.in_ok-passed.ensures (search rules) (search rules)) (search rules) (rw c.as_slice.ensures at c.in_err-returned.ensures)
+folds::reduced_by_call-returns-in_err-returned g t c = reduced_ends c.args.work.now c.args.calls c.args.nested c.args.sub c.args.both c.args.store.now c.call.new.store (passed_list c.args.work.now c.in_ok-passed.passed) c.in_err-returned.field-0.0 _ (search rules) (passed_as c.args.work.now c.args.sub c.args.both.a c.args.both.b _ _ (passed_list c.args.work.now c.in_ok-passed.passed) c.in_ok-passed.ensures (search rules) (search rules)) (search rules) (subst (λ z. ShowsAs returned_of g.P.Port.Tells (calls_of c.args.work.now c.args.calls c.args.nested c.args.sub (ret {A = Unit {0}} tt) (passed_list c.args.work.now z)) (Err c.in_err-returned.field-0.0) c.args.store.now c.call.new.store) c.as_slice.ensures c.in_err-returned.ensures)
 
 pub folds::reduced_by_call-returns-else-hold : goal.folds::reduced_by_call-returns-else-hold
 folds::reduced_by_call-returns-else-hold g t c = reduced_not c.args.work.now c.args.calls c.args.nested c.args.sub c.args.both c.args.store.now c.args.store.now (search rules)
 
 pub folds::combined_by_call-returns-in_err-returned : goal.folds::combined_by_call-returns-in_err-returned
-folds::combined_by_call-returns-in_err-returned g t c = combined_ends c.args.work.now c.args.calls c.args.nested c.args.sub c.args.both c.args.store.now c.call_checked.new.store (passed_list c.args.work.now c.in_ok-passed.passed) c.in_err-returned.field-0.0 _ (search rules) (passed_as c.args.work.now c.args.sub c.args.both.a c.args.both.b _ _ (passed_list c.args.work.now c.in_ok-passed.passed) c.in_ok-passed.ensures (search rules) (search rules)) (rw c.as_slice.ensures at c.in_err-returned.ensures)
+folds::combined_by_call-returns-in_err-returned g t c = combined_ends c.args.work.now c.args.calls c.args.nested c.args.sub c.args.both c.args.store.now c.call_checked.new.store (passed_list c.args.work.now c.in_ok-passed.passed) c.in_err-returned.field-0.0 _ (search rules) (passed_as c.args.work.now c.args.sub c.args.both.a c.args.both.b _ _ (passed_list c.args.work.now c.in_ok-passed.passed) c.in_ok-passed.ensures (search rules) (search rules)) (subst (λ z. ShowsAs returned_of g.P.Port.Tells (calls_of c.args.work.now c.args.calls c.args.nested c.args.sub (both_checked c.args.work.now c.args.both) (passed_list c.args.work.now z)) (Err c.in_err-returned.field-0.0) c.args.store.now c.call_checked.new.store) c.as_slice.ensures c.in_err-returned.ensures)
 
 pub folds::fold_share-returns-then-size-eq0 : goal.folds::fold_share-returns-then-size-eq0
 folds::fold_share-returns-then-size-eq0 g t c = fold_share_none c.args.work.now c.args.calls c.args.by (course_of c.args.course) c.args.start (env_of c.args.env.now) c.args.chunking c.args.number c.args.first c.args.size c.args.store.now c.args.store.now _ (search rules) (search rules)
@@ -348,7 +350,7 @@ pub folds::fold_iterations-returns-in_err-total : goal.folds::fold_iterations-re
 folds::fold_iterations-returns-in_err-total g t c = fold_as c.args.work.now c.args.calls c.args.by (course_of c.args.course) (env_of c.args.env.now) c.args.first (suc c.args.last - c.args.first) (suc c.args.last - c.args.first) c.args.start (to_z w64 (of_z w64 c.args.start)) _ c.args.store.now c.fold_one.new.store refl (fold_ends c.args.work.now c.args.calls c.args.by (course_of c.args.course) (env_of c.args.env.now) (fold_left c.args.work.now c.args.calls c.args.by c.args.first (suc c.args.last - c.args.first) (course_of c.args.course) (to_z w64 (of_z w64 c.args.start)) (env_of c.args.env.now)) c.args.store.now c.loop-i.store c.fold_one.new.store c.loop-i.i (suc c.args.last) (to_z w64 c.loop-i.total-bits) (omega arith) c.loop-i.invariant _ c.in_err-total.field-0.0 _ (search rules) c.in_err-total.ensures (search rules)) (search rules)
 
 pub folds::fold_iterations-returns-in_ok-total : goal.folds::fold_iterations-returns-in_ok-total
-folds::fold_iterations-returns-in_ok-total g t c = fold_as c.args.work.now c.args.calls c.args.by (course_of c.args.course) (env_of c.args.env.now) c.args.first (suc c.args.last - c.args.first) (suc c.args.last - c.args.first) c.args.start (to_z w64 (of_z w64 c.args.start)) _ c.args.store.now c.fold_one.new.store refl (fold_done c.args.work.now c.args.calls c.args.by (course_of c.args.course) (env_of c.args.env.now) (fold_left c.args.work.now c.args.calls c.args.by c.args.first (suc c.args.last - c.args.first) (course_of c.args.course) (to_z w64 (of_z w64 c.args.start)) (env_of c.args.env.now)) c.args.store.now c.fold_one.new.store c.fold_one.new.store (c.loop-i.i + 1) (suc c.args.last) c.in_ok-total.total _ (omega arith) (fold_step c.args.work.now c.args.calls c.args.by (course_of c.args.course) (env_of c.args.env.now) (fold_left c.args.work.now c.args.calls c.args.by c.args.first (suc c.args.last - c.args.first) (course_of c.args.course) (to_z w64 (of_z w64 c.args.start)) (env_of c.args.env.now)) c.args.store.now c.loop-i.store c.fold_one.new.store c.loop-i.i (suc c.args.last) (to_z w64 c.loop-i.total-bits) (omega arith) c.loop-i.invariant _ c.in_ok-total.total _ c.in_ok-total.ensures (search rules) refl) (search rules)) (search rules)
+folds::fold_iterations-returns-in_ok-total g t c = gives_as (fold_left c.args.work.now c.args.calls c.args.by c.args.first (suc c.args.last - c.args.first) (course_of c.args.course) c.args.start (env_of c.args.env.now)) c.in_ok-total.total _ c.args.store.now c.fold_one.new.store (fold_as c.args.work.now c.args.calls c.args.by (course_of c.args.course) (env_of c.args.env.now) c.args.first (suc c.args.last - c.args.first) (suc c.args.last - c.args.first) c.args.start (to_z w64 (of_z w64 c.args.start)) (Ok c.in_ok-total.total) c.args.store.now c.fold_one.new.store refl (fold_done c.args.work.now c.args.calls c.args.by (course_of c.args.course) (env_of c.args.env.now) (fold_left c.args.work.now c.args.calls c.args.by c.args.first (suc c.args.last - c.args.first) (course_of c.args.course) (to_z w64 (of_z w64 c.args.start)) (env_of c.args.env.now)) c.args.store.now c.fold_one.new.store c.fold_one.new.store (c.loop-i.i + 1) (suc c.args.last) c.in_ok-total.total c.in_ok-total.total (omega arith) (fold_step c.args.work.now c.args.calls c.args.by (course_of c.args.course) (env_of c.args.env.now) (fold_left c.args.work.now c.args.calls c.args.by c.args.first (suc c.args.last - c.args.first) (course_of c.args.course) (to_z w64 (of_z w64 c.args.start)) (env_of c.args.env.now)) c.args.store.now c.loop-i.store c.fold_one.new.store c.loop-i.i (suc c.args.last) (to_z w64 c.loop-i.total-bits) (omega arith) c.loop-i.invariant _ c.in_ok-total.total _ c.in_ok-total.ensures (search rules) refl) refl) (search rules)) (search rules)
 
 pub folds::combined_onto-loop-value-init : goal.folds::combined_onto-loop-value-init
 folds::combined_onto-loop-value-init g t c = goes_refl (combined_onto c.args.work.now c.args.calls c.args.by c.args.nested (to_z w64 (of_z w64 c.args.first)) c.args.values.now) c.args.store.now
@@ -367,3 +369,19 @@ constructs::begin_chunks-returns-in_ok-chunking-in-Some-Each g t c = each_on c.a
 
 pub constructs::begin_chunks-returns-in_err-chunking-in-Some-Each : goal.constructs::begin_chunks-returns-in_err-chunking-in-Some-Each
 constructs::begin_chunks-returns-in_err-chunking-in-Some-Each g t c = each_ends c.args.work.now c.args.calls (env_of c.args.env.now) c.in-Some-Each.parameter (expr_at (nodes_of c.args.work.now) c.in-Some-Each.low) (expr_at (nodes_of c.args.work.now) c.in-Some-Each.high) c.check.result (chunk_at (nodes_of c.args.work.now) c.args.id) c.in_ok-l-in-Some-Each.l c.in_ok-h-in-Some-Each.h _ _ c.args.store.now c.eval-in-Some-Each.new.store c.eval-in-Some-Each-2.new.store c.in_err-chunking-in-Some-Each.field-0.0 _ (search rules) (search rules) c.in_ok-l-in-Some-Each.ensures c.in_ok-h-in-Some-Each.ensures c.in_err-chunking-in-Some-Each.ensures (search rules) (search rules)
+
+
+pub exprs::eval-returns-in-None : goal.exprs::eval-returns-in-None
+exprs::eval-returns-in-None g t c = reduction_shows c.args.work.now c.args.calls (expr_at (nodes_of c.args.work.now) c.args.id) (expr_at (nodes_of c.args.work.now) c.in-Reduction.initial) c.in-Reduction.field-0 c.in-Reduction.attribute (reducer_at (nodes_of c.args.work.now) c.in-Reduction.reducer) c.reducer.result (chunk_at (nodes_of c.args.work.now) c.in-Reduction.chunk) c.in-Reduction.iteration c.in-Reduction.value (env_of c.args.env.now) _ c.args.store.now c.reduction.new.store c.reducer.ensures (search rules) c.reduction.ensures
+
+pub exprs::eval-returns-in-Some : goal.exprs::eval-returns-in-Some
+exprs::eval-returns-in-Some g t c = parallel_reduction_shows c.args.work.now c.args.calls (expr_at (nodes_of c.args.work.now) c.args.id) (expr_at (nodes_of c.args.work.now) c.in-Reduction.initial) c.in-Reduction.field-0 c.in-Reduction.attribute (reducer_at (nodes_of c.args.work.now) c.in-Reduction.reducer) c.reducer.result (chunk_at (nodes_of c.args.work.now) c.in-Reduction.chunk) c.in-Reduction.iteration c.in-Reduction.value (env_of c.args.env.now) _ c.args.store.now c.parallel_reduction.new.store c.reducer.ensures c.in-Some.field-0 (search rules) c.parallel_reduction.ensures
+
+pub folds::reduced-returns-in-Operator : goal.folds::reduced-returns-in-Operator
+folds::reduced-returns-in-Operator g t c = reduced_operator c.args.work.now c.args.calls c.args.by c.args.nested c.in-Operator.field-0 c.in-Operator.op c.in-Operator.class c.args.a c.args.b _ _ _ c.args.store.now c.args.store.now (search rules) c.operate.ensures (search rules) (search rules)
+
+pub folds::combined_two-returns-in-Operator : goal.folds::combined_two-returns-in-Operator
+folds::combined_two-returns-in-Operator g t c = combined_operator c.args.work.now c.args.calls c.args.by c.args.nested c.in-Operator.field-0 c.in-Operator.op c.in-Operator.class c.args.a c.args.b _ _ _ c.args.store.now c.args.store.now (search rules) c.operate.ensures (search rules) (search rules)
+
+pub stmts::exec-returns-in-Get : goal.stmts::exec-returns-in-Get
+stmts::exec-returns-in-Get g t c = get_shows c.args.work.now c.args.calls (env_of c.args.env.now) c.args.store.now c.get.new.store (stmt_at (nodes_of c.args.work.now) c.args.id) c.in-Get.field-0 c.in-Get.field-1 c.in-Get.first c.in-Get.root (selections_at (nodes_of c.args.work.now) c.in-Get.selections) c.in-Get.scalar _ (search rules) c.get.ensures
