@@ -13,7 +13,6 @@ use Rattle.run_store.specs.Shows.{Image, Goes, Shows}
 use Rattle.run_store.proofs.Going.{goes_refl, goes_instead, goes_then, goes_ends, goes_shows}
 use Rattle.run_parts.specs.declared.work.Work.{Work}
 use Rattle.run_parts.specs.Words.{nodes_of}
-use Rattle.ada_interpreter.specs.Chains as chained
 use Rattle.ada_interpreter.specs.Walk as walk
 
 module _ {Tells : Type 0} where
@@ -33,30 +32,30 @@ module _ {Tells : Type 0} where
 
 module _ (w : Work) (d : ℕ) (env : Env) where
   -- an expression whose operators stand in a list is these operators over its first operand
-  pub chain_as : (ls : List Link) (e : Expr) → walk.eval w d (linked (part_at (nodes_of w)) ls e) env ≡ chained.linked_on w d ls env (walk.eval w d e env)
+  pub chain_as : (ls : List Link) (e : Expr) → walk.eval w d (linked (part_at (nodes_of w)) ls e) env ≡ walk.linked_on w d ls env (walk.eval w d e env)
   unfolding walk.eval
   chain_as [] e = refl
-  chain_as (link.Operator n op class right ∷ ls) e = ap (λ m. bind m (λ x. chained.operator w d (link.Operator n op class right) env x)) (chain_as ls e)
-  chain_as (link.AndThen right ∷ ls) e = ap (λ m. bind m (λ x. chained.operator w d (link.AndThen right) env x)) (chain_as ls e)
-  chain_as (link.OrElse right ∷ ls) e = ap (λ m. bind m (λ x. chained.operator w d (link.OrElse right) env x)) (chain_as ls e)
+  chain_as (link.Operator n op class right ∷ ls) e = ap (λ m. bind m (λ x. walk.operator w d (link.Operator n op class right) env x)) (chain_as ls e)
+  chain_as (link.AndThen right ∷ ls) e = ap (λ m. bind m (λ x. walk.operator w d (link.AndThen right) env x)) (chain_as ls e)
+  chain_as (link.OrElse right ∷ ls) e = ap (λ m. bind m (λ x. walk.operator w d (link.OrElse right) env x)) (chain_as ls e)
 
 module _ {Tells : Type 0} (w : Work) (d : ℕ) (env : Env) where
   -- with a value of what is applied first, where operators are left
-  pub chain_begins : (l : Link) (ls : List Link) (m : Stored ℤ) (s t : Image) (v : ℤ) → Shows Tells m (Ok v) s t → Goes Tells (chained.linked_on w d (l ∷ ls) env m) s (chained.chain_left w d (l ∷ ls) env v) t
-  chain_begins l [] m s t v h = goes_then (λ a. a) (λ a. a) (bind m (λ x. chained.operator w d l env x)) m (λ x. chained.operator w d l env x) s s t v (goes_refl _ s) h
-  chain_begins l (k ∷ ls) m s t v h = goes_within (chained.linked_on w d (k ∷ ls) env m) (chained.chain_left w d (k ∷ ls) env v) (λ x. chained.operator w d l env x) s t (chain_begins k ls m s t v h)
+  pub chain_begins : (l : Link) (ls : List Link) (m : Stored ℤ) (s t : Image) (v : ℤ) → Shows Tells m (Ok v) s t → Goes Tells (walk.linked_on w d (l ∷ ls) env m) s (walk.chain_left w d (l ∷ ls) env v) t
+  chain_begins l [] m s t v h = goes_then (λ a. a) (λ a. a) (bind m (λ x. walk.operator w d l env x)) m (λ x. walk.operator w d l env x) s s t v (goes_refl _ s) h
+  chain_begins l (k ∷ ls) m s t v h = goes_within (walk.linked_on w d (k ∷ ls) env m) (walk.chain_left w d (k ∷ ls) env v) (λ x. walk.operator w d l env x) s t (chain_begins k ls m s t v h)
 
   -- one operator less
-  pub chain_step : (l : Link) (ls : List Link) (last : Link) (s t : Image) (v x : ℤ) → Shows Tells (chained.operator w d last env v) (Ok x) s t → Goes Tells (chained.chain_left w d (l ∷ ls ++ last ∷ []) env v) s (chained.chain_left w d (l ∷ ls) env x) t
-  chain_step l [] last s t v x h = goes_then (λ a. a) (λ a. a) (bind (chained.operator w d last env v) (λ x. chained.operator w d l env x)) (chained.operator w d last env v) (λ x. chained.operator w d l env x) s s t x (goes_refl _ s) h
-  chain_step l (k ∷ ls) last s t v x h = goes_within (chained.chain_left w d (k ∷ ls ++ last ∷ []) env v) (chained.chain_left w d (k ∷ ls) env x) (λ x. chained.operator w d l env x) s t (chain_step k ls last s t v x h)
+  pub chain_step : (l : Link) (ls : List Link) (last : Link) (s t : Image) (v x : ℤ) → Shows Tells (walk.operator w d last env v) (Ok x) s t → Goes Tells (walk.chain_left w d (l ∷ ls ++ last ∷ []) env v) s (walk.chain_left w d (l ∷ ls) env x) t
+  chain_step l [] last s t v x h = goes_then (λ a. a) (λ a. a) (bind (walk.operator w d last env v) (λ x. walk.operator w d l env x)) (walk.operator w d last env v) (λ x. walk.operator w d l env x) s s t x (goes_refl _ s) h
+  chain_step l (k ∷ ls) last s t v x h = goes_within (walk.chain_left w d (k ∷ ls ++ last ∷ []) env v) (walk.chain_left w d (k ∷ ls) env x) (λ x. walk.operator w d l env x) s t (chain_step k ls last s t v x h)
 
   -- an operator that gives no value ends the chain
-  pub chain_ends : (ls : List Link) (last : Link) (s t : Image) (v : ℤ) (e : End) → Shows Tells (chained.operator w d last env v) (Err e) s t → Shows Tells (chained.chain_left w d (ls ++ last ∷ []) env v) (Err e) s t
+  pub chain_ends : (ls : List Link) (last : Link) (s t : Image) (v : ℤ) (e : End) → Shows Tells (walk.operator w d last env v) (Err e) s t → Shows Tells (walk.chain_left w d (ls ++ last ∷ []) env v) (Err e) s t
   chain_ends [] last s t v e h = h
-  chain_ends (l ∷ []) last s t v e h = goes_ends (λ a. a) (λ a. a) (bind (chained.operator w d last env v) (λ x. chained.operator w d l env x)) (chained.operator w d last env v) (λ x. chained.operator w d l env x) s s t e (goes_refl _ s) h
+  chain_ends (l ∷ []) last s t v e h = goes_ends (λ a. a) (λ a. a) (bind (walk.operator w d last env v) (λ x. walk.operator w d l env x)) (walk.operator w d last env v) (λ x. walk.operator w d l env x) s s t e (goes_refl _ s) h
   chain_ends (l ∷ (k ∷ ls)) last s t v e h =
-      goes_ends (λ a. a) (λ a. a) (bind (chained.chain_left w d (k ∷ ls ++ last ∷ []) env v) (λ x. chained.operator w d l env x)) (chained.chain_left w d (k ∷ ls ++ last ∷ []) env v) (λ x. chained.operator w d l env x) s s t e (goes_refl _ s)
+      goes_ends (λ a. a) (λ a. a) (bind (walk.chain_left w d (k ∷ ls ++ last ∷ []) env v) (λ x. walk.operator w d l env x)) (walk.chain_left w d (k ∷ ls ++ last ∷ []) env v) (λ x. walk.operator w d l env x) s s t e (goes_refl _ s)
       (chain_ends (k ∷ ls) last s t v e h)
 
   goes_trans : {A : Type 0} (whole m n : Stored A) (s t u : Image) → Goes Tells whole s m t → Goes Tells m t n u → Goes Tells whole s n u
@@ -65,26 +64,26 @@ module _ {Tells : Type 0} (w : Work) (d : ℕ) (env : Env) where
 -- how a whole stands with the operators that are left, after a value
 abbrev pub Stands : Type 0 → Work → ℕ → Env → Stored ℤ → Image → List Link → ℤ → Image → Type 0
 Stands Tells w d env whole s [] v t = Shows Tells whole (Ok v) s t
-Stands Tells w d env whole s (l ∷ ls) v t = Goes Tells whole s (chained.chain_left w d (l ∷ ls) env v) t
+Stands Tells w d env whole s (l ∷ ls) v t = Goes Tells whole s (walk.chain_left w d (l ∷ ls) env v) t
 
 module _ {Tells : Type 0} (w : Work) (d : ℕ) (env : Env) where
   module _ (whole : Stored ℤ) (s : Image) where
-    pub stands_step : (ls new : List Link) (last : Link) (v v' x x' : ℤ) (t u : Image) → ls ≡ new ++ last ∷ [] → Stands Tells w d env whole s ls v t → Shows Tells (chained.operator w d last env v') (Ok x') t u → v' ≡ v → x' ≡ x → Stands Tells w d env whole s new x u
+    pub stands_step : (ls new : List Link) (last : Link) (v v' x x' : ℤ) (t u : Image) → ls ≡ new ++ last ∷ [] → Stands Tells w d env whole s ls v t → Shows Tells (walk.operator w d last env v') (Ok x') t u → v' ≡ v → x' ≡ x → Stands Tells w d env whole s new x u
     stands_step ls new last v v' x x' t u is g h p q = go new (subst (λ z. Stands Tells w d env whole s z v t) is g)
       where
-        k : Shows Tells (chained.operator w d last env v) (Ok x) t u
-        k = subst (λ z. Shows Tells (chained.operator w d last env z) (Ok x) t u) p (subst (λ z. Shows Tells (chained.operator w d last env v') (Ok z) t u) q h)
+        k : Shows Tells (walk.operator w d last env v) (Ok x) t u
+        k = subst (λ z. Shows Tells (walk.operator w d last env z) (Ok x) t u) p (subst (λ z. Shows Tells (walk.operator w d last env v') (Ok z) t u) q h)
 
         go : (new : List Link) → Stands Tells w d env whole s (new ++ last ∷ []) v t → Stands Tells w d env whole s new x u
-        go [] g = goes_shows (λ a. a) whole (chained.operator w d last env v) s t u (Ok x) g k
-        go (l ∷ more) g = goes_trans w d env whole (chained.chain_left w d (l ∷ more ++ last ∷ []) env v) (chained.chain_left w d (l ∷ more) env x) s t u g (chain_step w d env l more last t u v x k)
+        go [] g = goes_shows (λ a. a) whole (walk.operator w d last env v) s t u (Ok x) g k
+        go (l ∷ more) g = goes_trans w d env whole (walk.chain_left w d (l ∷ more ++ last ∷ []) env v) (walk.chain_left w d (l ∷ more) env x) s t u g (chain_step w d env l more last t u v x k)
 
-    pub stands_ends : (ls new : List Link) (last : Link) (v v' : ℤ) (t u : Image) (e : End) (r : Result ℤ End) → r ≡ Err e → ls ≡ new ++ last ∷ [] → Stands Tells w d env whole s ls v t → Shows Tells (chained.operator w d last env v') (Err e) t u → v' ≡ v → Shows Tells whole r s u
+    pub stands_ends : (ls new : List Link) (last : Link) (v v' : ℤ) (t u : Image) (e : End) (r : Result ℤ End) → r ≡ Err e → ls ≡ new ++ last ∷ [] → Stands Tells w d env whole s ls v t → Shows Tells (walk.operator w d last env v') (Err e) t u → v' ≡ v → Shows Tells whole r s u
     stands_ends ls new last v v' t u e r q is g h p =
         subst (λ z. Shows Tells whole z s u) (sym q)
-        (goes_shows (λ a. a) whole (chained.chain_left w d (new ++ last ∷ []) env v) s t u (Err e) (go new (subst (λ z. Stands Tells w d env whole s z v t) is g)) (chain_ends w d env new last t u v e (subst (λ z. Shows Tells (chained.operator w d last env z) (Err e) t u) p h)))
+        (goes_shows (λ a. a) whole (walk.chain_left w d (new ++ last ∷ []) env v) s t u (Err e) (go new (subst (λ z. Stands Tells w d env whole s z v t) is g)) (chain_ends w d env new last t u v e (subst (λ z. Shows Tells (walk.operator w d last env z) (Err e) t u) p h)))
       where
-        go : (new : List Link) → Stands Tells w d env whole s (new ++ last ∷ []) v t → Goes Tells whole s (chained.chain_left w d (new ++ last ∷ []) env v) t
+        go : (new : List Link) → Stands Tells w d env whole s (new ++ last ∷ []) v t → Goes Tells whole s (walk.chain_left w d (new ++ last ∷ []) env v) t
         go [] g = g
         go (l ∷ more) g = g
 
@@ -100,16 +99,16 @@ module _ {Tells : Type 0} (w : Work) (d : ℕ) (env : Env) where
         k : Shows Tells (walk.eval w d e env) (Ok v) s t
         k = subst (λ z. Shows Tells (walk.eval w d e env) (Ok z) s t) p h
 
-        go : (ls : List Link) → Stands Tells w d env (chained.linked_on w d ls env (walk.eval w d e env)) s ls v t
+        go : (ls : List Link) → Stands Tells w d env (walk.linked_on w d ls env (walk.eval w d e env)) s ls v t
         go [] = k
         go (l ∷ ls) = chain_begins w d env l ls (walk.eval w d e env) s t v k
 
     pub first_ends : (s t : Image) (y : End) (r : Result ℤ End) → r ≡ Err y → Shows Tells (walk.eval w d e env) (Err y) s t → Shows Tells (walk.eval w d x env) r s t
     first_ends s t y r q h = subst (λ z. Shows Tells (walk.eval w d x env) z s t) (sym q) (subst (λ (z : Stored ℤ). Shows Tells z (Err y) s t) (sym (chain_as w d env ls e) ∙ ap (λ z. walk.eval w d z env) (sym is)) (go ls))
       where
-        go : (ls : List Link) → Shows Tells (chained.linked_on w d ls env (walk.eval w d e env)) (Err y) s t
+        go : (ls : List Link) → Shows Tells (walk.linked_on w d ls env (walk.eval w d e env)) (Err y) s t
         go [] = h
-        go (l ∷ ls) = goes_ends (λ a. a) (λ a. a) (bind (chained.linked_on w d ls env (walk.eval w d e env)) (λ x. chained.operator w d l env x)) (chained.linked_on w d ls env (walk.eval w d e env)) (λ x. chained.operator w d l env x) s s t y (goes_refl _ s) (go ls)
+        go (l ∷ ls) = goes_ends (λ a. a) (λ a. a) (bind (walk.linked_on w d ls env (walk.eval w d e env)) (λ x. walk.operator w d l env x)) (walk.linked_on w d ls env (walk.eval w d e env)) (λ x. walk.operator w d l env x) s s t y (goes_refl _ s) (go ls)
 
 -- ---- numbers of right operands
 

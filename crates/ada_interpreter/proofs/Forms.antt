@@ -5,7 +5,7 @@ use Rattle.behaviours.specs.Paths.{VariableOf}
 use Rattle.ada_typed.specs.declared.scalars.Scalar.{Scalar}
 use Rattle.ada_typed.specs.declared.scalars.Check.{Check}
 use Rattle.ada_typed.specs.declared.expressions.Root.{Root}
-use Rattle.ada_typed.specs.Syntax.{Expr, Optional, Selections, Index, Actuals, InOut, Iteration, Range, Value, Number}
+use Rattle.ada_typed.specs.Syntax.{Expr, Optional, Selections, Index, Actuals, InOut, Iteration, Range, Stmt, Get, Value, Number}
 use Rattle.ada_meaning.specs.Values.{is_in, count}
 use Rattle.ada_meaning.specs.Operations.{RangeCheck}
 use Rattle.ada_meaning.specs.Meaning as meaning
@@ -109,3 +109,8 @@ module _ {Tells : Type 0} (w : Work) (d : ℕ) (env : Env) (s t : Image) where
       (then_shows (λ a. a) (λ a. a) (got w.limit) (λ v. bind (checks RangeCheck first (is_in scalar v)) (λ _. writes p.object p.offset v)) u x t v (Err y) k
       (then_shows (λ a. a) (λ a. a) (checks RangeCheck first (is_in scalar v)) (λ _. writes p.object p.offset v) x x t tt (Err y) (refl, λ told. rw within refl)
       (subst (λ z. Shows Tells (writes p.object p.offset z) (Err y) x t) same l))))
+
+  -- a statement that reads a number
+  pub get_shows : (x : Stmt) (n callee first : ℕ) (root : Root) (ss : Selections) (scalar : Scalar) (r : Result (Unit {0}) End) → x ≡ Get n callee first root ss scalar → Shows Tells (walk.get w d first root ss scalar env) r s t → Shows Tells (walk.exec w d x env) r s t
+  unfolding walk.exec walk.select
+  get_shows x n callee first root ss scalar r e h = subst (λ z. Shows Tells (walk.exec w d z env) r s t) (sym e) h

@@ -127,7 +127,7 @@ pub body_as : {Tells : Type 0} (w : Work) (d : ℕ) (b : Body) (ds : Decls) (ss 
 unfolding walk.block walk.exec_all walk.exec_handler
 body_as {Tells = Tells} w d b ds ss hs region env r s t e h = subst (λ (z : Body). Shows Tells (walk.body w d z region env) r s t) (sym e) h
 
-sub_as : (w : Work) (d : ℕ) (o : Option Sub) (nested : ℕ) (passed : List meaning.Passed) → meaning.exec_sub (ops w) w.limit (program w.typed.now) (calls_of w d) o nested passed ≡ walk.called_sub w d o nested passed
+pub sub_as : (w : Work) (d : ℕ) (o : Option Sub) (nested : ℕ) (passed : List meaning.Passed) → meaning.exec_sub (ops w) w.limit (program w.typed.now) (calls_of w d) o nested passed ≡ walk.called_sub w d o nested passed
 unfolding walk.with_formals back_cells
 sub_as w d None nested passed = refl
 sub_as w d (Some sub) nested passed = refl

@@ -1,6 +1,5 @@
 -- What a whole run shows.
 use Rattle.std.specs.Prelude.{◌≡◌, ℕ, List, ◌++◌, Bool, true, Result, Ok, Err}
-use Rattle.ada_base.specs.Cuts.{One}
 use Rattle.ada_typed.specs.Programs.{program}
 use Rattle.ada_meaning.specs.Nonblocking.{KeepsRule}
 use Rattle.ada_meaning.specs.Programs.{Setting}
@@ -36,7 +35,7 @@ answer_of (Ok u) = Ok u
 answer_of (Err e) = Err (stop_of e)
 
 abbrev pub setting_of : Work → Setting
-setting_of w = record { plan = One; one = true; limit = w.limit }
+setting_of w = record { plan = w.plan.now; one = true; limit = w.limit }
 
 -- A run: a fault of a device is answered where its count rose and nowhere else; and where the outside tells, the program
 -- keeps the rule on blocking calls, and no run had begun, the output that was there is followed by what the run put out, and

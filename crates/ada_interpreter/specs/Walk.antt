@@ -1,33 +1,45 @@
 -- What the functions of the walk compute, a word for each.
-use Rattle.std.specs.Prelude.{ℕ, suc, ℤ, pos, ◌*◌, ◌-ℤ◌, int_le, ◌&&◌, Bool, not, true, false, List, [], ◌∷◌, ◌++◌, slice_get, Option, Some, None, cond}
+use Rattle.std.specs.Prelude.{ℕ, suc, min, ℤ, pos, ◌*◌, ◌-ℤ◌, int_le, ◌&&◌, Bool, not, true, false, List, [], ◌∷◌, ◌++◌, slice_get, Option, Some, None, cond}
 use Rattle.ada_base.specs.declared.operation.Op.{Op}
-use Rattle.ada_base.specs.Cuts.{One, cuts_of}
+use Rattle.ada_base.specs.Cuts.{evens, cuts_of}
 use Rattle.ada_base.specs.declared.reason.Reason.{Reason}
 use Rattle.ada_base.specs.declared.reason.Reason.TheVariants as reason
 use Rattle.ada_typed.specs.declared.program.Object.{Object}
-use Rattle.behaviours.specs.Doings.{through}
+use Rattle.behaviours.specs.Doings.{through, folded, onto}
+use Rattle.behaviours.specs.Joins.{Share, deal}
 use Rattle.behaviours.specs.Paths.{Entity, VariableOf, ConstantOf, Region, Here, Exits, Returns, Raises}
 use Rattle.ada_typed.specs.declared.node.Node.{Node}
+use Rattle.ada_typed.specs.declared.node.Link.{Link}
+use Rattle.ada_typed.specs.declared.node.Link.TheVariants as link
+use Rattle.ada_typed.specs.Decoded.{expr_at, iteration_at, stmts_at, arms_at}
 use Rattle.ada_typed.specs.declared.scalars.Class.{Class}
 use Rattle.ada_typed.specs.declared.scalars.Scalar.{Scalar}
 use Rattle.ada_typed.specs.declared.scalars.Check.{Check}
 use Rattle.ada_typed.specs.declared.scalars.Comparison.{Comparison}
 use Rattle.ada_typed.specs.declared.expressions.Sign.{Sign}
 use Rattle.ada_typed.specs.declared.expressions.Root.{Root}
+use Rattle.ada_typed.specs.declared.expressions.Reducer.{Reducer}
 use Rattle.ada_typed.specs.declared.expressions.Run.{Run}
 use Rattle.ada_typed.specs.declared.expressions.Iterated.{Iterated}
-use Rattle.ada_typed.specs.Syntax.{Expr, Optional, Selections, Actuals, Value, Composite, Associations, Iteration, Pieces, Stmt, Stmts, Alternatives, Handlers, Decls, Body, Sub, Program}
+use Rattle.ada_typed.specs.Syntax.{Expr, Optional, Selections, Actuals, Value, Composite, Associations, Iteration, Chunk, Pieces, Stmt, Stmts, Alternatives, Arms, Handlers, Decls, Body, Sub, Program}
 use Rattle.ada_typed.specs.Programs.{program}
 use Rattle.ada_meaning.specs.Values.{truth, bit, compares, between, to_nat, layout, is_in, defaults, image_of}
-use Rattle.ada_meaning.specs.Operations.{Operations, IndexCheck, RangeCheck, operate}
+use Rattle.ada_meaning.specs.Operations.{Operations, IndexCheck, RangeCheck, Sized, operate, reduce}
 use Rattle.ada_meaning.specs.Meaning as meaning
-use Rattle.ada_meaning.specs.Meaning.{Env, Part, Passed, Returned, Back, Course, variable_root, constant_root, moved, with_target, iterated_env, outset, returns, exits, value_of, sub_at}
+use Rattle.ada_meaning.specs.Meaning.{Env, Part, Passed, Returned, Back, Course, Chunking, inside, variable_root, constant_root, moved, with_target, iterated_env, outset, returns, exits, value_of, sub_at}
 use Rattle.ada_stored.specs.Stored
-use Rattle.ada_stored.specs.Stored.{Stored, doings, bind, ret, leaves, handles, apart, reads, writes, checks, puts}
+use Rattle.ada_stored.specs.Stored.{Stored, Took, thread, par, first_of_both, after_all, doings, bind, ret, leaves, handles, apart, reads, writes, checks, puts}
 use Rattle.ada_base.specs.Image.{padded}
 use Rattle.run_store.specs.Operating.{unary_then, got}
 use Rattle.run_parts.specs.declared.work.Work.{Work}
-use Rattle.run_parts.specs.Words.{nodes_of, ops, calls_of, cells_at, turned, read_all, write_all, back_cells, all_copied_back}
+use Rattle.run_parts.specs.Dealing.{opened, count_checked, chunking_of}
+use Rattle.run_parts.specs.Passing.{course_of}
+use Rattle.ada_interpreter.specs.declared.constructs.Task.{Task}
+use Rattle.ada_interpreter.specs.declared.constructs.Task.TheVariants as task
+use Rattle.ada_interpreter.specs.declared.folds.Fold.{Fold}
+use Rattle.run_parts.specs.Words.{nodes_of, ops, calls_of, cells_at, turned, read_all, write_all, back_cells, all_copied_back, reduced_by}
+use Rattle.run_parts.specs.declared.reducers.Both.{Both}
+use Rattle.run_parts.specs.Reducing.{both_checked}
 
 unfoldable pub eval : Work → ℕ → Expr → Env → Stored ℤ
 eval w d e env = meaning.eval (ops w) w.limit (program w.typed.now) (calls_of w d) e env
@@ -56,6 +68,12 @@ written w d ps env so_far = meaning.written (ops w) w.limit (program w.typed.now
 unfoldable pub course : Work → ℕ → Iteration → Env → Stored Course
 course w d it env = meaning.course (ops w) w.limit (program w.typed.now) (calls_of w d) it env
 
+unfoldable pub chunking : Work → ℕ → Chunk → Env → Stored Chunking
+chunking w d c env = meaning.chunking (ops w) w.limit (program w.typed.now) (calls_of w d) c env
+
+unfoldable pub threads_of : Work → ℕ → Optional → Env → Stored ℕ
+threads_of w d e env = meaning.threads_of (ops w) w.limit (program w.typed.now) (calls_of w d) e env
+
 unfoldable pub filtered : Work → ℕ → Iteration → Env → Stored Bool
 filtered w d it env = meaning.filtered (ops w) w.limit (program w.typed.now) (calls_of w d) it env
 
@@ -67,6 +85,9 @@ exec_all w d ss env = meaning.exec_all (ops w) w.limit (program w.typed.now) (ca
 
 unfoldable pub exec_chosen : Work → ℕ → Alternatives → ℤ → Env → Stored (Unit {0})
 exec_chosen w d as' v env = meaning.exec_chosen (ops w) w.limit (program w.typed.now) (calls_of w d) as' v env
+
+unfoldable pub exec_arm : Work → ℕ → Arms → ℕ → Env → Stored (Unit {0})
+exec_arm w d arms i env = meaning.exec_arm (ops w) w.limit (program w.typed.now) (calls_of w d) arms i env
 
 unfoldable pub exec_handler : Work → ℕ → Handlers → Reason → Env → Stored (Unit {0})
 exec_handler w d hs r env = meaning.exec_handler (ops w) w.limit (program w.typed.now) (calls_of w d) hs r env
@@ -86,15 +107,6 @@ module _ (w : Work) (d : ℕ) where
   abbrev pub unary_of : Sign → ℕ → Class → Expr → Env → Stored ℤ
   unary_of s at class e env = bind (eval w d e env) (λ v. unary_then s at class v)
 
-  abbrev pub binary : Op → ℕ → Class → Expr → Expr → Env → Stored ℤ
-  binary op at class e f env = bind (eval w d e env) (λ x. bind (eval w d f env) (λ y. operate doings checks op at class x y))
-
-  abbrev pub and_then : Expr → Expr → Env → Stored ℤ
-  and_then e f env = bind (eval w d e env) (λ x. cond (truth x) (eval w d f env) (ret (bit false)))
-
-  abbrev pub or_else : Expr → Expr → Env → Stored ℤ
-  or_else e f env = bind (eval w d e env) (λ x. cond (truth x) (ret (bit true)) (eval w d f env))
-
   abbrev pub relation : Comparison → Expr → Expr → Env → Stored ℤ
   relation c e f env = bind (eval w d e env) (λ x. bind (eval w d f env) (λ y. ret (bit (compares c x y))))
 
@@ -110,6 +122,26 @@ module _ (w : Work) (d : ℕ) where
 
   abbrev pub call_function : ℕ → Actuals → Env → Stored ℤ
   call_function s as' env = bind (pass w d as' env []) (λ passed. bind (calls_of w d env.nested s (ret tt) passed) (λ r. ret r.value))
+
+  -- chains of operators: one after the value of its left operand; one with its operands; all of a list over a part, the last
+  -- one first; and those that are left, with the value of what comes before
+
+  abbrev pub operator : Link → Env → ℤ → Stored ℤ
+  operator (link.Operator at op class right) env x = bind (eval w d (expr_at (nodes_of w) right) env) (λ y. operate doings checks op at class x y)
+  operator (link.AndThen right) env x = cond (truth x) (eval w d (expr_at (nodes_of w) right) env) (ret (bit false))
+  operator (link.OrElse right) env x = cond (truth x) (ret (bit true)) (eval w d (expr_at (nodes_of w) right) env)
+
+  abbrev pub operators : Link → Expr → Env → Stored ℤ
+  operators l e env = bind (eval w d e env) (λ x. operator l env x)
+
+  abbrev pub linked_on : List Link → Env → Stored ℤ → Stored ℤ
+  linked_on [] env m = m
+  linked_on (l ∷ ls) env m = bind (linked_on ls env m) (λ x. operator l env x)
+
+  abbrev pub chain_left : List Link → Env → ℤ → Stored ℤ
+  chain_left [] env v = ret v
+  chain_left (l ∷ []) env v = operator l env v
+  chain_left (l ∷ (k ∷ ls)) env v = bind (chain_left (k ∷ ls) env v) (λ x. operator l env x)
 
   -- ---- selections
 
@@ -195,6 +227,63 @@ module _ (w : Work) (d : ℕ) where
   abbrev pub called : ℕ → ℕ → List Passed → Stored Returned
   called s nested passed = called_sub (sub_at (program w.typed.now).subs s) nested passed
 
+  -- ---- reductions
+
+  abbrev pub reduced : Fold → ℕ → ℤ → ℤ → Stored ℤ
+  reduced by nested a b = reduce doings checks by.reducer by.attribute (meaning.fold_call (ops w) w.limit (program w.typed.now) (calls_of w d) by.reducer nested) a b
+
+  abbrev pub iterated_value : Fold → Env → Stored (Option ℤ)
+  iterated_value by env = meaning.iterate_value (ops w) (filtered w d (iteration_at (nodes_of w) by.iteration) env) (eval w d (expr_at (nodes_of w) by.value) env)
+
+  abbrev pub fold_one : Fold → ℕ → Env → ℤ → Stored ℤ
+  fold_one by nested env so_far = bind (iterated_value by env) (λ v. folded doings (reduced by nested) so_far v)
+
+  -- so many iterations from one on
+  unfoldable pub fold_left : Fold → ℕ → ℕ → Course → ℤ → Env → Stored ℤ
+  fold_left by i n c so_far env = through doings i n so_far (λ i total. fold_one by env.nested (c.bound i env) total)
+
+  abbrev pub reduction : Fold → Expr → Env → Stored ℤ
+  reduction by initial env = bind (eval w d initial env) (λ start. bind (course w d (iteration_at (nodes_of w) by.iteration) env) (λ c. fold_left by 0 c.count c start env))
+
+  -- where accumulators of threads are combined
+
+  -- by a call of a function, in a thread and where accumulators are combined: there its checks come after the turn
+  abbrev pub reduced_by_call : ℕ → ℕ → Both → Stored ℤ
+  reduced_by_call nested s both = bind (both_checked w both) (λ _. bind (calls_of w d nested s (ret tt) (reduced_by w s both.a both.b)) (λ r. ret r.value))
+
+  abbrev pub combined_by_call : ℕ → ℕ → Both → Stored ℤ
+  combined_by_call nested s both = bind (calls_of w d nested s (both_checked w both) (reduced_by w s both.a both.b)) (λ r. ret r.value)
+
+  abbrev pub combined_two : Fold → ℕ → ℤ → ℤ → Stored ℤ
+  combined_two by nested a b = reduce doings checks by.reducer by.attribute (meaning.combine_call (ops w) w.limit (program w.typed.now) (calls_of w d) by.reducer nested) a b
+
+  unfoldable pub combined_onto : Fold → ℕ → ℤ → List ℤ → Stored ℤ
+  combined_onto by nested a bs = onto doings a bs (combined_two by nested)
+
+  unfoldable pub combined : Fold → ℕ → ℤ → List ℤ → Stored ℤ
+  combined by nested start vs = Stored.combined w.limit (cuts_of w.plan.now) start vs (combined_two by nested)
+
+  -- what a thread folds, in a construct; and all threads
+  unfoldable pub share_folded : Fold → Chunking → Course → ℤ → Env → Share → Stored ℤ
+  share_folded by k c start env s = through doings s.first s.size start (λ i total. fold_one by env.nested (c.bound i (k.bound s.number env)) total)
+
+  abbrev pub thread_folded : Fold → Chunking → Course → ℤ → ℕ → Share → Env → Stored (Took ℤ)
+  thread_folded by k c start most s env = thread most (share_folded by k c start env s)
+
+  unfoldable pub threads_folded : Fold → Chunking → Course → ℤ → List ℕ → Env → Stored (List ℤ)
+  threads_folded by k c start sizes env = par after_all [] (deal 0 0 sizes) (share_folded by k c start env)
+
+  abbrev pub dealt_fold : Fold → Chunking → Course → ℤ → Env → Stored ℤ
+  dealt_fold by k c start env =
+      Stored.reduces w.limit (cuts_of w.plan.now) 0 (meaning.value_cut_of k c.count) by.reducer by.attribute start (λ j i. iterated_value by (c.bound i (k.bound j (inside env))))
+      (meaning.fold_call (ops w) w.limit (program w.typed.now) (calls_of w d) by.reducer (suc env.nested)) (meaning.combine_call (ops w) w.limit (program w.typed.now) (calls_of w d) by.reducer env.nested)
+
+  abbrev pub chunked_fold : Fold → Chunking → ℤ → Env → Stored ℤ
+  chunked_fold by k start env = bind (course w d (iteration_at (nodes_of w) by.iteration) (inside env)) (λ c. bind (count_checked w c.count) (λ _. dealt_fold by k c start env))
+
+  abbrev pub parallel_reduction : Fold → Expr → Chunk → Env → Stored ℤ
+  parallel_reduction by initial chunk env = bind (eval w d initial env) (λ start. bind (opened w env) (λ _. bind (chunking w d chunk (inside env)) (λ k. chunked_fold by k start env)))
+
   -- ---- output and input
 
   abbrev pub text : List ℕ → Pieces → Env → List ℕ → Stored (List ℕ)
@@ -255,6 +344,39 @@ module _ (w : Work) (d : ℕ) where
 
   abbrev pub for_stmt : ℕ → Iteration → Stmts → Env → Stored (Unit {0})
   for_stmt n it ss env = bind (course w d it env) (λ c. in_loop n (for_loop c it ss env))
+
+  -- parallel loops and blocks: what is done in an iteration of a thread, in a thread, and in all of them
+
+  abbrev pub task_turn : Task → ℕ → ℕ → Env → Stored (Unit {0})
+  task_turn (task.Loop k c it ss) j i env = iterate (iteration_at (nodes_of w) it) (stmts_at (nodes_of w) ss) ((course_of c).bound i ((chunking_of k).bound j env))
+  task_turn (task.Arms arms) j i env = exec_arm w d (arms_at (nodes_of w) arms) i env
+
+  abbrev pub share_left : Task → ℕ → ℕ → ℕ → Env → Stored (Unit {0})
+  share_left t j i n env = through doings i n tt (λ i _. task_turn t j i env)
+
+  unfoldable pub share_run : Task → Env → Share → Stored (Unit {0})
+  share_run t env s = share_left t s.number s.first s.size env
+
+  abbrev pub thread_run : Task → ℕ → Share → Env → Stored (Took (Unit {0}))
+  thread_run t most s env = thread most (share_run t env s)
+
+  unfoldable pub threads_run : Task → List ℕ → Env → Stored (Unit {0})
+  threads_run t sizes env = par first_of_both tt (deal 0 0 sizes) (share_run t env)
+
+  abbrev pub dealt_loop : ℕ → Chunking → Course → Iteration → Stmts → Env → Stored (Unit {0})
+  dealt_loop n k c it ss env = in_loop n (Stored.loops w.limit (cuts_of w.plan.now) 0 (meaning.cut_of k c.count) (λ j i. iterate it ss (c.bound i (k.bound j env))))
+
+  abbrev pub chunked_loop : ℕ → Chunking → Iteration → Stmts → Env → Stored (Unit {0})
+  chunked_loop n k it ss env = bind (course w d it env) (λ c. bind (count_checked w c.count) (λ _. dealt_loop n k c it ss env))
+
+  abbrev pub parallel_for : ℕ → Chunk → Iteration → Stmts → Env → Stored (Unit {0})
+  parallel_for n chunk it ss env = bind (opened w env) (λ _. bind (chunking w d chunk (inside env)) (λ k. chunked_loop n k it ss (inside env)))
+
+  abbrev pub dealt_arms : ℕ → Arms → Env → Stored (Unit {0})
+  dealt_arms most arms env = Stored.loops w.limit (cuts_of w.plan.now) 0 (Sized (evens (meaning.arms_of arms) (min most (meaning.arms_of arms)))) (λ j i. exec_arm w d arms i env)
+
+  abbrev pub parallel_block : Optional → Arms → Env → Stored (Unit {0})
+  parallel_block count arms env = bind (opened w env) (λ _. bind (threads_of w d count (inside env)) (λ most. dealt_arms most arms (inside env)))
 
   abbrev pub guarded : Stmts → Handlers → Env → Stored (Unit {0})
   guarded ss hs env = meaning.guarded (ops w) hs (exec_all w d ss env) (λ r. exec_handler w d hs r env)

@@ -8,12 +8,13 @@ ghost use Rattle.ada_stored.specs.Stored.{ret};
 ghost use Rattle.run_store.specs.Shows.{Shows, ShowsAs, OrNoMemory, entity_of};
 ghost use Rattle.run_parts.specs.Passing.{passed_of, passed_list, back_option, returned_of, shape_of};
 ghost use Rattle.run_parts.specs.Words as words;
+ghost use Rattle.run_parts.specs.Reducing.{both_checked};
 ghost use Rattle.ada_interpreter.specs.Walk as spec;
 
 use crate::bodies::body;
 use ada_base::{Items, Reason};
 use ada_typed::Sub;
-use run_parts::{Passed, Returned, Work, back_cells, find_sub, turned};
+use run_parts::{Both, Passed, Returned, Work, back_cells, find_sub, turned};
 use run_store::{End, Env, Leave, Port, Region, Store};
 
 /// A call, where so many more may be active.
@@ -36,6 +37,33 @@ pub fn call<P: Port + Drop>(
     } else {
         let returned = called(work, calls - 1, nested, sub, passed, store)?;
         Ok(returned)
+    }
+}
+
+/// A call of a function that combines accumulators, where so many more may be active: its parameters are checked after
+/// its turn.
+#[cycle(walk)]
+#[inline(never)]
+#[tactic(auto, unfolding(ada_stored::specs::Stored::bind, ada_stored::specs::Stored::ret, ada_stored::specs::Stored::leaves, ada_stored::specs::Stored::spent, ada_stored::specs::Stored::handles, run_parts::specs::Words::calls_of))]
+pub fn call_checked<P: Port + Drop>(
+    work: &Work<'_>,
+    calls: u32,
+    nested: u32,
+    sub: u32,
+    both: Both,
+    passed: &[Passed],
+    store: &mut Store<P>,
+) -> Result<Returned, End>
+    ensures { ShowsAs returned_of P.Tells (words.calls_of work.now calls nested sub (both_checked work.now both) (passed_list work.now passed.now)) result store.old store.new }
+{
+    turned(work, store)?;
+    if calls == 0 {
+        Err(End::Left(Leave::Raises(Reason::StorageError)))
+    } else if both.hold() {
+        let returned = called(work, calls - 1, nested, sub, passed, store)?;
+        Ok(returned)
+    } else {
+        Err(End::Left(Leave::Raises(Reason::ConstraintError)))
     }
 }
 

@@ -4,7 +4,6 @@ ghost use Rattle.std.specs.Prelude.{◌≡◌, ◌<◌};
 ghost use Rattle.ada_typed.specs.Decoded.{expr_at};
 ghost use Rattle.run_store.specs.Environment.{env_of};
 ghost use Rattle.run_store.specs.Shows.{Shows};
-ghost use Rattle.ada_interpreter.specs.Chains as chained;
 ghost use Rattle.ada_interpreter.specs.Walk as spec;
 ghost use Rattle.run_parts.specs.Words.{nodes_of};
 
@@ -12,6 +11,24 @@ use crate::exprs::eval;
 use ada_typed::Link;
 use run_parts::{Work, operands};
 use run_store::{End, Env, Port, Store, is_true};
+
+/// An operator and its operands.
+#[cycle(walk)]
+#[inline(never)]
+pub fn operators<P: Port + Drop>(
+    work: &Work<'_>,
+    calls: u32,
+    last: Link,
+    left: u32,
+    env: &Env<'_>,
+    store: &mut Store<P>,
+) -> Result<i64, End>
+    ensures { Shows P.Tells (spec.operators work.now calls last (expr_at (nodes_of work.now) left) (env_of env.now)) result store.old store.new }
+{
+    let x = operand(work, calls, left, env, store)?;
+    let y = operator(work, calls, last, x, env, store)?;
+    Ok(y)
+}
 
 // an operator, after its left operand
 #[cycle(walk)]
@@ -24,7 +41,7 @@ fn operator<P: Port + Drop>(
     env: &Env<'_>,
     store: &mut Store<P>,
 ) -> Result<i64, End>
-    ensures { Shows P.Tells (chained.operator work.now calls link (env_of env.now) x) result store.old store.new }
+    ensures { Shows P.Tells (spec.operator work.now calls link (env_of env.now) x) result store.old store.new }
 {
     match link {
         Link::Operator {
@@ -55,10 +72,10 @@ fn operator<P: Port + Drop>(
     }
 }
 
-/// What stands on the left of an operator. Where that is more than one operator, they are gone through in a loop.
+// what stands on the left of an operator: where that is more than one operator, they are gone through in a loop
 #[cycle(walk)]
 #[inline(never)]
-pub fn operand<P: Port + Drop>(
+fn operand<P: Port + Drop>(
     work: &Work<'_>,
     calls: u32,
     id: u32,

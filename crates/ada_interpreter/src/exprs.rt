@@ -9,16 +9,17 @@ ghost use Rattle.run_parts.specs.Words.{nodes_of};
 
 use crate::actuals::pass;
 use crate::calls::call;
-use crate::chains::operand;
+use crate::chains::operators;
+use crate::folds::{Fold, parallel_reduction, reduction};
 use crate::names::select;
-use ada_base::{Items, Op, Reason};
-use ada_typed::{Check, Class, Comparison, Expr, Root, Sign};
+use ada_base::{Items, Reason};
+use ada_typed::{Check, Class, Comparison, Expr, Link, Root, Sign};
 use run_parts::Work;
 use run_store::{End, Env, Leave, Object, Port, Store, between, bit, compares, is_in, is_true};
 
 /// The value of an expression, where so many more calls may be active.
 #[cycle(walk)]
-#[tactic(auto, unfolding(ada_stored::specs::Stored::bind, ada_stored::specs::Stored::ret, ada_stored::specs::Stored::leaves, ada_stored::specs::Stored::spent, ada_stored::specs::Stored::handles, crate::specs::Walk::eval, crate::specs::Walk::select, crate::specs::Walk::pass))]
+#[tactic(auto, unfolding(ada_stored::specs::Stored::bind, ada_stored::specs::Stored::ret, ada_stored::specs::Stored::leaves, ada_stored::specs::Stored::spent, ada_stored::specs::Stored::handles, crate::specs::Walk::eval, crate::specs::Walk::select, crate::specs::Walk::pass, crate::specs::Walk::course, crate::specs::Walk::filtered, crate::specs::Walk::fold_left, crate::specs::Walk::chunking))]
 pub fn eval<P: Port + Drop>(
     work: &Work<'_>,
     calls: u32,
@@ -55,9 +56,21 @@ pub fn eval<P: Port + Drop>(
             class,
             left,
             right,
-        } => binary(work, calls, at, op, class, left, right, env, store),
-        Expr::AndThen { left, right } => and_then(work, calls, left, right, env, store),
-        Expr::OrElse { left, right } => or_else(work, calls, left, right, env, store),
+        } => {
+            let last = Link::Operator {
+                at,
+                op,
+                class,
+                right,
+            };
+            operators(work, calls, last, left, env, store)
+        }
+        Expr::AndThen { left, right } => {
+            operators(work, calls, Link::AndThen { right }, left, env, store)
+        }
+        Expr::OrElse { left, right } => {
+            operators(work, calls, Link::OrElse { right }, left, env, store)
+        }
         Expr::Relation {
             comparison,
             left,
@@ -78,7 +91,27 @@ pub fn eval<P: Port + Drop>(
         } => conditional(work, calls, condition, value, otherwise, env, store),
         Expr::Convert { check, value } => converted(work, calls, check, value, env, store),
         Expr::Call { sub, actuals, .. } => call_function(work, calls, sub, actuals, env, store),
-        Expr::Reduction { .. } => Err(End::NoMemory),
+        Expr::Reduction {
+            attribute,
+            reducer,
+            initial,
+            site,
+            chunk,
+            iteration,
+            value,
+            ..
+        } => {
+            let by = Fold {
+                attribute,
+                reducer: work.typed.nodes.reducer(reducer),
+                iteration,
+                value,
+            };
+            match site {
+                None => reduction(work, calls, by, initial, env, store),
+                Some(_) => parallel_reduction(work, calls, by, initial, chunk, env, store),
+            }
+        }
     }
 }
 
@@ -142,68 +175,6 @@ fn unary<P: Port + Drop>(
 {
     let x = eval(work, calls, operand, env, store)?;
     store.unary(sign, at, class, x)
-}
-
-#[cycle(walk)]
-#[inline(never)]
-fn binary<P: Port + Drop>(
-    work: &Work<'_>,
-    calls: u32,
-    at: u32,
-    op: Op,
-    class: Class,
-    left: u32,
-    right: u32,
-    env: &Env<'_>,
-    store: &mut Store<P>,
-) -> Result<i64, End>
-    ensures { Shows P.Tells (spec.binary work.now calls op at class (expr_at (nodes_of work.now) left) (expr_at (nodes_of work.now) right) (env_of env.now)) result store.old store.new }
-{
-    let x = operand(work, calls, left, env, store)?;
-    let y = eval(work, calls, right, env, store)?;
-    store.operate(op, at, class, x, y)
-}
-
-#[cycle(walk)]
-#[inline(never)]
-fn and_then<P: Port + Drop>(
-    work: &Work<'_>,
-    calls: u32,
-    left: u32,
-    right: u32,
-    env: &Env<'_>,
-    store: &mut Store<P>,
-) -> Result<i64, End>
-    ensures { Shows P.Tells (spec.and_then work.now calls (expr_at (nodes_of work.now) left) (expr_at (nodes_of work.now) right) (env_of env.now)) result store.old store.new }
-{
-    let x = operand(work, calls, left, env, store)?;
-    if is_true(x) {
-        let y = eval(work, calls, right, env, store)?;
-        Ok(y)
-    } else {
-        Ok(0)
-    }
-}
-
-#[cycle(walk)]
-#[inline(never)]
-fn or_else<P: Port + Drop>(
-    work: &Work<'_>,
-    calls: u32,
-    left: u32,
-    right: u32,
-    env: &Env<'_>,
-    store: &mut Store<P>,
-) -> Result<i64, End>
-    ensures { Shows P.Tells (spec.or_else work.now calls (expr_at (nodes_of work.now) left) (expr_at (nodes_of work.now) right) (env_of env.now)) result store.old store.new }
-{
-    let x = operand(work, calls, left, env, store)?;
-    if is_true(x) {
-        Ok(1)
-    } else {
-        let y = eval(work, calls, right, env, store)?;
-        Ok(y)
-    }
 }
 
 #[cycle(walk)]
@@ -293,7 +264,7 @@ fn converted<P: Port + Drop>(
     }
 }
 
-/// Whether an expression that may be left out is there and False.
+/// Whether an expression holds, or is left out.
 #[cycle(walk)]
 #[tactic(auto, using(crate::proofs::Parts::present_is), unfolding(ada_stored::specs::Stored::bind, ada_stored::specs::Stored::ret, ada_stored::specs::Stored::leaves, ada_stored::specs::Stored::spent, ada_stored::specs::Stored::handles, crate::specs::Walk::eval, crate::specs::Walk::holds))]
 pub fn holds<P: Port + Drop>(

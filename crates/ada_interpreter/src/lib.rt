@@ -1,18 +1,20 @@
 //! Runs of typed programs: a walk over the nodes of a program, its threads in order.
 #![tactic(auto, unfolding(ada_stored::specs::Stored::bind, ada_stored::specs::Stored::ret, ada_stored::specs::Stored::leaves, ada_stored::specs::Stored::spent, ada_stored::specs::Stored::handles))]
 
-pub mod actuals;
-pub mod bodies;
-pub mod calls;
-pub mod chains;
-pub mod courses;
-pub mod exprs;
-pub mod loops;
-pub mod names;
-pub mod runs;
-pub mod stmts;
-pub mod texts;
-pub mod values;
+mod actuals;
+mod bodies;
+mod calls;
+mod chains;
+mod constructs;
+mod courses;
+mod exprs;
+mod folds;
+mod loops;
+mod names;
+mod runs;
+mod stmts;
+mod texts;
+mod values;
 
-pub use run_parts::Work;
+pub use run_parts::{SoundPlan, Work};
 pub use runs::run;

@@ -88,17 +88,21 @@ fn for_loop<P: Port + Drop>(
 ) -> Result<(), End>
     ensures { Shows P.Tells (spec.for_loop work.now calls (course_of course) (iteration_at (nodes_of work.now) iteration) (stmts_at (nodes_of work.now) stmts) (env_of env.now)) result store.old store.new }
 {
-    let count = course.count()?;
-    for i in 0..count {
-        iterate(work, calls, course, i, iteration, stmts, env, store)?;
+    match course.last() {
+        None => Ok(()),
+        Some(last) => {
+            for i in 0..=last {
+                iterate(work, calls, course, i, iteration, stmts, env, store)?;
+            }
+            Ok(())
+        }
     }
-    Ok(())
 }
 
-// an iteration: its turn, its filter, and what is done where that passes
+/// An iteration: its turn, its filter, and what is done where that passes.
 #[cycle(walk)]
 #[inline(never)]
-fn iterate<P: Port + Drop>(
+pub fn iterate<P: Port + Drop>(
     work: &Work<'_>,
     calls: u32,
     course: Course,
@@ -108,7 +112,6 @@ fn iterate<P: Port + Drop>(
     env: &Env<'_>,
     store: &mut Store<P>,
 ) -> Result<(), End>
-    requires { index < (course_of course).count }
     ensures { Shows P.Tells (spec.iterate work.now calls (iteration_at (nodes_of work.now) iteration) (stmts_at (nodes_of work.now) stmts) ((course_of course).bound index (env_of env.now))) result store.old store.new }
 {
     let inner = course.bound(index, &*env)?;

@@ -12,6 +12,7 @@ ghost use Rattle.run_parts.specs.Words.{nodes_of};
 use crate::actuals::pass;
 use crate::bodies::block;
 use crate::calls::call;
+use crate::constructs::{parallel_block, parallel_for};
 use crate::exprs::{eval, holds};
 use crate::loops::{for_stmt, while_stmt};
 use crate::texts::{get, put};
@@ -24,7 +25,7 @@ use run_store::{End, Env, Leave, Port, Region, Store, is_true};
 /// A statement.
 #[cycle(walk)]
 #[inline(never)]
-#[tactic(auto, unfolding(ada_stored::specs::Stored::bind, ada_stored::specs::Stored::ret, ada_stored::specs::Stored::leaves, ada_stored::specs::Stored::spent, ada_stored::specs::Stored::handles, crate::specs::Walk::exec, crate::specs::Walk::exec_all, crate::specs::Walk::eval, crate::specs::Walk::select, crate::specs::Walk::cells, crate::specs::Walk::holds, crate::specs::Walk::pass, crate::specs::Walk::course, crate::specs::Walk::exec_chosen, run_parts::specs::Words::write_all, run_parts::specs::Words::all_copied_back, crate::specs::Walk::written, crate::specs::Walk::while_loop, crate::specs::Walk::for_loop, crate::specs::Walk::block, crate::specs::Walk::exec_handler, crate::specs::Walk::filtered))]
+#[tactic(auto, unfolding(ada_stored::specs::Stored::bind, ada_stored::specs::Stored::ret, ada_stored::specs::Stored::leaves, ada_stored::specs::Stored::spent, ada_stored::specs::Stored::handles, crate::specs::Walk::exec, crate::specs::Walk::exec_all, crate::specs::Walk::eval, crate::specs::Walk::select, crate::specs::Walk::cells, crate::specs::Walk::holds, crate::specs::Walk::pass, crate::specs::Walk::course, crate::specs::Walk::exec_chosen, run_parts::specs::Words::write_all, run_parts::specs::Words::all_copied_back, crate::specs::Walk::written, crate::specs::Walk::while_loop, crate::specs::Walk::for_loop, crate::specs::Walk::block, crate::specs::Walk::exec_handler, crate::specs::Walk::filtered, crate::specs::Walk::chunking, crate::specs::Walk::threads_of, crate::specs::Walk::exec_arm))]
 pub fn exec<P: Port + Drop>(
     work: &Work<'_>,
     calls: u32,
@@ -90,7 +91,14 @@ pub fn exec<P: Port + Drop>(
             scalar,
             ..
         } => get(work, calls, first, root, selections, scalar, env, store),
-        Stmt::ParallelFor { .. } | Stmt::Parallel { .. } => Err(End::NoMemory),
+        Stmt::ParallelFor {
+            number,
+            chunk,
+            iteration,
+            stmts,
+            ..
+        } => parallel_for(work, calls, number, chunk, iteration, stmts, env, store),
+        Stmt::Parallel { count, arms, .. } => parallel_block(work, calls, count, arms, env, store),
     }
 }
 

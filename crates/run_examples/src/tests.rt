@@ -1,7 +1,8 @@
 use ada_base::{Base, Items, Op};
-use ada_interpreter::{Work, run};
+use ada_interpreter::{SoundPlan, Work, run};
 use ada_port::{HeldSink, SureSource};
 use ada_typed::{Check, Class, Object, Root, Scalar, Subtype, Typed};
+use chunk_plan::Plan;
 use run_store::{End, Leave, Ports, Store};
 use std::alloc::{AllocError, Global};
 use std::test::Fail;
@@ -31,6 +32,10 @@ enum Step {
     Binary(Op),
     Number,
     Range(u32),
+    ChunkCount,
+    ChunkEach(u32),
+    FoldOperator(Op),
+    Reduction(Option<u32>),
     Image,
     Default(u32),
     Declared(u32),
@@ -38,6 +43,8 @@ enum Step {
     Get(u32),
     Put,
     For,
+    ParallelFor,
+    Parallel,
     Body,
 }
 
@@ -62,6 +69,13 @@ fn join_expression(parts: &mut Parts, step: &Step) -> Result<(), AllocError> {
             parts.nothing()?;
             parts.range(*parameter, false)
         }
+        Step::ChunkCount => parts.chunk_count(),
+        Step::ChunkEach(parameter) => {
+            parts.nothing()?;
+            parts.chunk_each(*parameter)
+        }
+        Step::FoldOperator(op) => parts.fold_operator(0, *op, INTEGER),
+        Step::Reduction(site) => parts.reduction(0, 0, *site),
         _ => parts.nothing(),
     }
 }
@@ -79,6 +93,8 @@ fn join(parts: &mut Parts, step: &Step) -> Result<(), AllocError> {
         }
         Step::Put => parts.put_pieces(0, 0, true),
         Step::For => parts.loop_for(0),
+        Step::ParallelFor => parts.parallel_for(0, 0),
+        Step::Parallel => parts.parallel(0),
         Step::Body => parts.body(),
         _ => join_expression(parts, step),
     }
@@ -136,6 +152,226 @@ const SUM: [Step; 41] = [
     Step::Body,
 ];
 
+/// `Get (X); S := [for I in 1 .. X => I]'Reduce ("+", 7); Put_Line (S'Image);`
+const FOLD: [Step; 33] = [
+    Step::Nothing,
+    Step::Default(0),
+    Step::Also,
+    Step::Static(0),
+    Step::Number,
+    Step::Declared(1),
+    Step::Also,
+    Step::Turn,
+    Step::Nothing,
+    Step::Get(0),
+    Step::Also,
+    Step::Nothing,
+    Step::Nothing,
+    Step::Static(1),
+    Step::Variable(0),
+    Step::Range(0),
+    Step::Parameter(0),
+    Step::FoldOperator(Op::Add),
+    Step::Static(7),
+    Step::Reduction(None),
+    Step::Number,
+    Step::Assign(1),
+    Step::Also,
+    Step::Nothing,
+    Step::Variable(1),
+    Step::Image,
+    Step::Also,
+    Step::Turn,
+    Step::Put,
+    Step::Also,
+    Step::Turn,
+    Step::Nothing,
+    Step::Body,
+];
+
+/// `Get (X); S := [parallel (3) for I in 1 .. X => I]'Reduce ("+", 1); Put_Line (S'Image);`
+const CHUNKS: [Step; 34] = [
+    Step::Nothing,
+    Step::Default(0),
+    Step::Also,
+    Step::Static(0),
+    Step::Number,
+    Step::Declared(1),
+    Step::Also,
+    Step::Turn,
+    Step::Nothing,
+    Step::Get(0),
+    Step::Also,
+    Step::Nothing,
+    Step::Static(3),
+    Step::ChunkCount,
+    Step::Static(1),
+    Step::Variable(0),
+    Step::Range(0),
+    Step::Parameter(0),
+    Step::FoldOperator(Op::Add),
+    Step::Static(1),
+    Step::Reduction(Some(0)),
+    Step::Number,
+    Step::Assign(1),
+    Step::Also,
+    Step::Nothing,
+    Step::Variable(1),
+    Step::Image,
+    Step::Also,
+    Step::Turn,
+    Step::Put,
+    Step::Also,
+    Step::Turn,
+    Step::Nothing,
+    Step::Body,
+];
+
+/// `Get (X); S := [parallel (C in 1 .. 4) for I in 1 .. X => C]'Reduce ("+", 0); Put_Line (S'Image);`
+const EACH: [Step; 35] = [
+    Step::Nothing,
+    Step::Default(0),
+    Step::Also,
+    Step::Static(0),
+    Step::Number,
+    Step::Declared(1),
+    Step::Also,
+    Step::Turn,
+    Step::Nothing,
+    Step::Get(0),
+    Step::Also,
+    Step::Nothing,
+    Step::Static(1),
+    Step::Static(4),
+    Step::ChunkEach(1),
+    Step::Static(1),
+    Step::Variable(0),
+    Step::Range(0),
+    Step::Parameter(1),
+    Step::FoldOperator(Op::Add),
+    Step::Static(0),
+    Step::Reduction(Some(0)),
+    Step::Number,
+    Step::Assign(1),
+    Step::Also,
+    Step::Nothing,
+    Step::Variable(1),
+    Step::Image,
+    Step::Also,
+    Step::Turn,
+    Step::Put,
+    Step::Also,
+    Step::Turn,
+    Step::Nothing,
+    Step::Body,
+];
+
+/// `Get (X); parallel for I in 1 .. X loop S := S + I - 1 + 1 + 0; end loop; Put_Line (S'Image);`
+const LOOP: [Step; 42] = [
+    Step::Nothing,
+    Step::Default(0),
+    Step::Also,
+    Step::Static(0),
+    Step::Number,
+    Step::Declared(1),
+    Step::Also,
+    Step::Turn,
+    Step::Nothing,
+    Step::Get(0),
+    Step::Also,
+    Step::Nothing,
+    Step::Static(1),
+    Step::Variable(0),
+    Step::Range(0),
+    Step::Nothing,
+    Step::Nothing,
+    Step::Variable(1),
+    Step::Parameter(0),
+    Step::Binary(Op::Add),
+    Step::Static(1),
+    Step::Binary(Op::Sub),
+    Step::Static(1),
+    Step::Binary(Op::Add),
+    Step::Static(0),
+    Step::Binary(Op::Add),
+    Step::Number,
+    Step::Assign(1),
+    Step::Also,
+    Step::Turn,
+    Step::ParallelFor,
+    Step::Also,
+    Step::Nothing,
+    Step::Variable(1),
+    Step::Image,
+    Step::Also,
+    Step::Turn,
+    Step::Put,
+    Step::Also,
+    Step::Turn,
+    Step::Nothing,
+    Step::Body,
+];
+
+/// `Get (X); parallel do S := 10 + S; and S := 20 + S; and S := X + S; end do; Put_Line (S'Image);`
+const BLOCK: [Step; 56] = [
+    Step::Nothing,
+    Step::Default(0),
+    Step::Also,
+    Step::Static(0),
+    Step::Number,
+    Step::Declared(1),
+    Step::Also,
+    Step::Turn,
+    Step::Nothing,
+    Step::Get(0),
+    Step::Also,
+    Step::Nothing,
+    Step::Nothing,
+    Step::Nothing,
+    Step::Nothing,
+    Step::Static(10),
+    Step::Variable(1),
+    Step::Binary(Op::Add),
+    Step::Number,
+    Step::Assign(1),
+    Step::Also,
+    Step::Turn,
+    Step::Also,
+    Step::Nothing,
+    Step::Nothing,
+    Step::Static(20),
+    Step::Variable(1),
+    Step::Binary(Op::Add),
+    Step::Number,
+    Step::Assign(1),
+    Step::Also,
+    Step::Turn,
+    Step::Also,
+    Step::Nothing,
+    Step::Nothing,
+    Step::Variable(0),
+    Step::Variable(1),
+    Step::Binary(Op::Add),
+    Step::Number,
+    Step::Assign(1),
+    Step::Also,
+    Step::Turn,
+    Step::Also,
+    Step::Turn,
+    Step::Parallel,
+    Step::Also,
+    Step::Nothing,
+    Step::Variable(1),
+    Step::Image,
+    Step::Also,
+    Step::Turn,
+    Step::Put,
+    Step::Also,
+    Step::Turn,
+    Step::Nothing,
+    Step::Body,
+];
+
 fn object() -> Object {
     Object {
         name: 0,
@@ -179,13 +415,23 @@ fn word_of(end: Result<(), End>) -> &'static str {
 }
 
 /// How a run of this input ends, and what it puts out.
-fn shown(alloc: Global, steps: &[Step], input: &str, limit: u64) -> Result<String, AllocError> {
+fn shown(
+    alloc: Global,
+    steps: &[Step],
+    plan: Plan,
+    input: &str,
+    limit: u64,
+) -> Result<String, AllocError> {
     let typed = program(alloc, steps)?;
     let source = SureSource::new(Vec::from_slice(alloc, input.as_bytes())?);
     let ports = Ports::new(source, HeldSink::new(alloc));
     let mut store = Store::new(alloc, 4, ports)?;
+    let Some(plan) = SoundPlan::checked(plan) else {
+        return format!(in alloc; "a plan with a zero");
+    };
     let work = Work {
         typed: &typed,
+        plan: &plan,
         limit,
         alloc,
     };
@@ -207,8 +453,28 @@ fn sums_in_order_are_put_out(rt: HostRuntime) -> Result<(), Fail> {
         (&SUM, "0", 100, "ended: 0\n"),
         (&SUM, "x", 100, "raised:"),
         (&SUM, "10", 5, "spent:"),
+        (&FOLD, "10", 100, "ended: 62\n"),
+        (&FOLD, "0", 100, "ended: 7\n"),
     ] {
-        let text = shown(alloc, steps, input, limit)?;
+        let text = shown(alloc, steps, Plan::One, input, limit)?;
+        assert_eq!(rt; text.as_str(), ends, "{input}");
+    }
+    Ok(())
+}
+
+#[test]
+fn threads_of_constructs_count_their_turns_apart(rt: HostRuntime) -> Result<(), Fail> {
+    let alloc = rt.alloc();
+    for (steps, input, limit, ends) in [
+        (CHUNKS.as_slice(), "10", 100, "ended: 58\n"),
+        (&CHUNKS, "0", 100, "ended: 1\n"),
+        (&EACH, "10", 100, "ended: 23\n"),
+        (&EACH, "2", 100, "ended: 3\n"),
+        (&LOOP, "10", 7, "ended: 55\n"),
+        (&LOOP, "10", 6, "spent:"),
+        (&BLOCK, "5", 100, "ended: 35\n"),
+    ] {
+        let text = shown(alloc, steps, Plan::Even(3), input, limit)?;
         assert_eq!(rt; text.as_str(), ends, "{input}");
     }
     Ok(())

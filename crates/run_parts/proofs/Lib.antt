@@ -1,3 +1,5 @@
 pub mod Stepping
 pub mod Copying
 pub mod Texts
+pub mod Reducing
+pub mod Dealt

@@ -2,3 +2,5 @@ pub mod Words
 pub mod Passing
 pub mod Found
 pub mod Caught
+pub mod Dealing
+pub mod Reducing

@@ -1,6 +1,7 @@
 -- What code holds of actual parameters, calls and iterations.
-use Rattle.std.specs.Prelude.{◌*◌, ◌+ℤ◌, ◌-ℤ◌, pos, List, [], ◌∷◌, map, Option, Some, None, cond}
+use Rattle.std.specs.Prelude.{ℕ, ℤ, ◌*◌, ◌+ℤ◌, ◌-ℤ◌, pos, List, [], ◌∷◌, map, Option, Some, None, cond}
 use Rattle.ada_typed.specs.declared.scalars.Scalar.{Scalar}
+use Rattle.behaviours.specs.Paths.{ConstantOf}
 use Rattle.ada_meaning.specs.Values.{count}
 use Rattle.ada_meaning.specs.Meaning as meaning
 use Rattle.ada_meaning.specs.Meaning.{Env, with_parameter, with_item, moved}
@@ -32,6 +33,10 @@ passed_of w p = record { formal = entity_of p.formal; cells = p.cells; back = ba
 
 abbrev pub passed_list : Work → List Passed → List meaning.Passed
 passed_list w ps = map (passed_of w) ps
+
+-- a value that is passed in
+abbrev pub value_passed : ℕ → ℤ → meaning.Passed
+value_passed formal v = record { formal = ConstantOf formal; cells = v ∷ []; back = None }
 
 abbrev pub returned_of : Returned → meaning.Returned
 returned_of r = record { value = r.value; cells = r.cells }

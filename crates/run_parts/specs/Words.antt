@@ -1,6 +1,6 @@
 -- What is computed beside the walk over nodes.
 use Rattle.std.specs.Prelude.{ℕ, ℤ, int_le, ◌&&◌, Bool, true, List, [], ◌∷◌, ◌++◌, slice_get, Option, Some, None, cond}
-use Rattle.ada_base.specs.Cuts.{One, cuts_of}
+use Rattle.ada_base.specs.Cuts.{cuts_of}
 use Rattle.ada_typed.specs.declared.program.Object.{Object}
 use Rattle.behaviours.specs.Paths.{Entity}
 use Rattle.ada_typed.specs.declared.node.Node.{Node}
@@ -21,7 +21,7 @@ abbrev pub nodes_of : Work → List Node
 nodes_of w = w.typed.now.nodes
 
 abbrev pub ops : Work → Operations {1}
-ops w = Stored.operations w.limit (cuts_of One)
+ops w = Stored.operations w.limit (cuts_of w.plan.now)
 
 -- ---- shut: only the function that goes by a form sees into them
 
@@ -67,6 +67,13 @@ cells_back w x back = meaning.cells_back (ops w) w.limit (program w.typed.now) x
 
 unfoldable pub back_cells : Work → List Passed → List (List ℤ) → Stored (List (List ℤ))
 back_cells w ps so_far = meaning.back_cells (ops w) w.limit (program w.typed.now) ps so_far
+
+-- what a function that reduces is given
+abbrev pub reduced_by : Work → ℕ → ℤ → ℤ → List Passed
+reduced_by w s a b = meaning.reduced_by (ops w) w.limit (program w.typed.now) (calls_of w 0) s a b
+
+abbrev pub formal_of : Work → ℕ → ℕ → ℕ
+formal_of w s k = meaning.formal_at (meaning.formals_of (program w.typed.now).subs s) k
 
 module _ (w : Work) (d : ℕ) where
   abbrev pub copied_back : Option Back → List ℤ → Stored (Unit {0})

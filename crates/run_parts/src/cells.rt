@@ -2,6 +2,7 @@
 
 ghost use Rattle.std.specs.Prelude.{◌≡◌, ◌+◌, ◌+ℤ◌, pos, [], ◌∷◌, ◌++◌, ◌<◌, length, slice_get, slice_set, IfSome};
 ghost use Rattle.ada_meaning.specs.Values.{zeros, laid};
+ghost use Rattle.ada_stored.specs.Stored.{after_all, gathered};
 ghost use Rattle.run_store.specs.Shows.{Shows, entity_of, OrNoMemory};
 ghost use Rattle.run_parts.specs.Passing.{shape_of};
 ghost use Rattle.run_parts.specs.Words as spec;
@@ -113,11 +114,20 @@ pub fn lay(out: &mut Items<i64>, first: u64, values: &[i64])
     }
 }
 
-fn value_at(values: &[i64], index: usize) -> Option<i64>
+/// A value of a list.
+pub fn value_at(values: &[i64], index: usize) -> Option<i64>
     ensures is { slice_get values.now index ≡ result }
     ensures within { IfSome result (λ value. index < length values.now) }
 {
     values.get(index).copied()
+}
+
+/// The size of a chunk.
+pub fn size_at(sizes: &[u64], index: usize) -> Option<u64>
+    ensures is { slice_get sizes.now index ≡ result }
+    ensures within { IfSome result (λ size. index < length sizes.now) }
+{
+    sizes.get(index).copied()
 }
 
 fn put_value(out: &mut Items<i64>, first: u64, index: usize, value: i64)
@@ -136,6 +146,29 @@ pub fn further(first: u64, stride: u32) -> Result<u64, End>
     match first.checked_add(u64::from(stride)) {
         Some(next) => Ok(next),
         None => Err(End::NoMemory),
+    }
+}
+
+/// The end of a chunk of so many iterations.
+pub fn later(first: u64, size: u64) -> Result<u64, End>
+    ensures { OrNoMemory (λ end. end ≡ first + size) result }
+{
+    match first.checked_add(size) {
+        Some(end) => Ok(end),
+        None => Err(End::NoMemory),
+    }
+}
+
+/// Adds a value to a list, where there is one.
+pub fn push_some(values: &mut Items<i64>, value: Option<i64>) -> Result<(), End>
+    ensures { OrNoMemory (λ done. values.new ≡ gathered after_all values.old value) result }
+{
+    match value {
+        None => Ok(()),
+        Some(value) => {
+            push_value(values, value)?;
+            Ok(())
+        }
     }
 }
 

@@ -1,6 +1,6 @@
 //! What iterations go through (5.5, 5.5.2).
 
-ghost use Rattle.std.specs.Prelude.{◌≡◌, ◌<◌};
+ghost use Rattle.std.specs.Prelude.{◌≡◌, ◌+◌, ◌+ℤ◌, ◌-ℤ◌, pos, cond, MatchOption};
 ghost use Rattle.run_store.specs.Environment.{env_of, part_of};
 ghost use Rattle.run_store.specs.Shows.{OrNoMemory};
 ghost use Rattle.run_parts.specs.Passing.{course_of};
@@ -8,7 +8,7 @@ ghost use Rattle.run_parts.specs.Words as spec;
 
 use crate::offsets::moved;
 use ada_typed::Check;
-use run_store::{End, Env, Part, Range, count, downward, is_in, upward};
+use run_store::{End, Env, Part, Range, count, is_in, last_of};
 
 /// What an iteration goes through, once that is evaluated: the values of a range, or components of an array.
 #[derive(Clone, Copy)]
@@ -28,7 +28,23 @@ pub enum Course {
 }
 
 impl Course {
-    /// How many iterations there are.
+    /// The number of the last iteration, counted from 0; None where there is none.
+    pub fn last(self) -> Option<u64>
+        ensures { MatchOption result ((course_of self).count ≡ 0) (λ last. (course_of self).count ≡ last + 1) }
+    {
+        match self {
+            Course::Values { range, .. } => last_of(range),
+            Course::Components { count, .. } => {
+                if count == 0 {
+                    None
+                } else {
+                    Some(u64::from(count) - 1)
+                }
+            }
+        }
+    }
+
+    /// How many iterations there are, where 64 bits hold that.
     pub fn count(self) -> Result<u64, End>
         ensures { OrNoMemory (λ n. n ≡ (course_of self).count) result }
     {
@@ -43,7 +59,6 @@ impl Course {
 
     /// What is bound in an iteration.
     pub fn bound<'a>(self, index: u64, outer: &'a Env<'a>) -> Result<Env<'a>, End>
-        requires { index < (course_of self).count }
         ensures { OrNoMemory (λ env. env_of env ≡ (course_of self).bound index (env_of outer.now)) result }
     {
         match self {
@@ -52,11 +67,7 @@ impl Course {
                 reverse,
                 range,
             } => {
-                let value = if reverse {
-                    downward(range, index)
-                } else {
-                    upward(range, index)
-                };
+                let value = placed(reverse, range, index)?;
                 Ok(Env::Parameter {
                     number: parameter,
                     value,
@@ -82,6 +93,21 @@ impl Course {
                 })
             }
         }
+    }
+}
+
+// a number of a range, from one end or the other
+fn placed(reverse: bool, range: Range, index: u64) -> Result<i64, End>
+    ensures { OrNoMemory (λ value. value ≡ cond reverse (range.high -ℤ pos index) (range.low +ℤ pos index)) result }
+{
+    let value = if reverse {
+        i128::from(range.high) - i128::from(index)
+    } else {
+        i128::from(range.low) + i128::from(index)
+    };
+    match i64::try_from(value) {
+        Ok(value) => Ok(value),
+        Err(_) => Err(End::NoMemory),
     }
 }
 

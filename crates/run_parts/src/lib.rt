@@ -4,6 +4,8 @@
 
 pub mod cells;
 pub mod chains;
+pub mod chunks;
+pub mod constructs;
 pub mod copies;
 pub mod courses;
 pub mod finding;
@@ -11,10 +13,17 @@ pub mod leaving;
 pub mod offsets;
 pub mod passed;
 pub mod pieces;
+pub mod plans;
+pub mod reducers;
 pub mod work;
 
-pub use cells::{further, lay, one, placed, read_whole, turned, write_all, zeros};
+pub use cells::{
+    further, later, lay, one, placed, push_some, read_whole, size_at, turned, value_at, write_all,
+    zeros,
+};
 pub use chains::{Chain, operands};
+pub use chunks::{Chunking, each_chunk, most_of};
+pub use constructs::{check_count, count_arms, either, find_arm, inside, is_spent, opened};
 pub use copies::{all_copied_back, back_cells, find_sub, first_cells};
 pub use courses::{Course, bounds_hold};
 pub use finding::{find_alternative, find_handler};
@@ -22,4 +31,6 @@ pub use leaving::caught;
 pub use offsets::{component, moved};
 pub use passed::{Back, Passed, Returned, Shape, push};
 pub use pieces::{with_field, with_image, with_line, with_text};
+pub use plans::{SoundPlan, even_sizes, fold_sizes, loop_sizes};
+pub use reducers::{Both, reduced_by};
 pub use work::Work;

@@ -68,8 +68,10 @@ impl<In: Source + Drop, Out: Sink + Drop> Ports<In, Out> {
         }
     }
 
-    /// The source and the sink.
-    pub fn into_parts(self) -> (In, Out) {
+    /// The source and the sink, where the run left them.
+    pub fn into_parts(self) -> (In, Out)
+        ensures { opened self.held (In.state result.0) (Out.state result.1) ≡ self }
+    {
         (self.source, self.sink)
     }
 }

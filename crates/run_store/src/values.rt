@@ -1,6 +1,6 @@
 //! Values, and what is computed from them alone.
 
-ghost use Rattle.std.specs.Prelude.{◌≡◌, ◌<◌, ◌+ℤ◌, ◌-ℤ◌, pos, neg_ℤ, nat_abs, Some};
+ghost use Rattle.std.specs.Prelude.{◌≡◌, ◌<◌, ◌+◌, ◌+ℤ◌, ◌-ℤ◌, pos, neg_ℤ, nat_abs, MatchOption, Some};
 ghost use Rattle.ada_base.specs.Operation as operation;
 ghost use Rattle.ada_meaning.specs.Values as spec;
 ghost use Rattle.ada_meaning.specs.Operations as meaning;
@@ -76,20 +76,15 @@ pub fn count(range: Range) -> Result<u64, End>
     }
 }
 
-/// A number of a range, counted from 0 at the lower end.
-pub fn upward(range: Range, index: u64) -> i64
-    requires { index < spec.count range.low range.high }
-    ensures { result ≡ range.low +ℤ pos index }
+/// The last number of a range, counted from 0 at the lower end; None where it has none.
+pub fn last_of(range: Range) -> Option<u64>
+    ensures { MatchOption result (spec.count range.low range.high ≡ 0) (λ last. spec.count range.low range.high ≡ last + 1) }
 {
-    (i128::from(range.low) + i128::from(index)) as i64
-}
-
-/// A number of a range, counted from 0 at the upper end.
-pub fn downward(range: Range, index: u64) -> i64
-    requires { index < spec.count range.low range.high }
-    ensures { result ≡ range.high -ℤ pos index }
-{
-    (i128::from(range.high) - i128::from(index)) as i64
+    if range.high < range.low {
+        None
+    } else {
+        Some((i128::from(range.high) - i128::from(range.low)) as u64)
+    }
 }
 
 fn base_of(class: Class) -> Base

@@ -2,11 +2,15 @@ use Rattle.std.proofs.Common.{◌≡◌, ◌+◌, ◌*◌, ◌-◌, ◌≤◌, m
 use Rattle.run_store.specs.Shows.{Goes}
 use Rattle.run_store.specs.Environment.{env_of}
 use Rattle.ada_typed.specs.Decoded.{stmts_at, expr_at, optional_at, iteration_at, value_at}
+use Rattle.behaviours.specs.Joins.{deal}
+use Rattle.ada_stored.specs.Stored.{threads, after_all, first_of_both}
 use Rattle.run_parts.specs.Passing.{course_of}
+use Rattle.run_parts.specs.Dealing.{chunking_of}
+use Rattle.ada_interpreter.specs.Threads.{task_top}
 use Rattle.run_parts.specs.Words.{nodes_of}
 use Rattle.ada_typed.specs.Chained.{right_of, AreBelow}
 use Rattle.ada_interpreter.proofs.Chaining.{Stands}
-use Rattle.ada_interpreter.specs.Walk.{eval, exec_all, while_loop, while_left, for_loop, for_left, run_values}
+use Rattle.ada_interpreter.specs.Walk.{eval, exec_all, while_loop, while_left, for_loop, for_left, run_values, fold_left, threads_folded, share_folded, combined_onto, threads_run, share_run, share_left}
 use Rattle.ada_interpreter.proofs.+walk.Given as goal
 
 -- Calls first, then numbers of nodes, then the order in which functions that go by one node call each other.
@@ -58,15 +62,6 @@ decreases-exprs::constant g l = 1208925819614629174706176 * l.calls + 1099511627
 
 abbrev pub decreases-exprs::unary : goal.decreases-exprs::unary
 decreases-exprs::unary g l = 1208925819614629174706176 * l.calls + 1099511627776 * l.operand + 549755813888
-
-abbrev pub decreases-exprs::binary : goal.decreases-exprs::binary
-decreases-exprs::binary g l = 1208925819614629174706176 * l.calls + 1099511627776 * (max l.left l.right) + 549755813888
-
-abbrev pub decreases-exprs::and_then : goal.decreases-exprs::and_then
-decreases-exprs::and_then g l = 1208925819614629174706176 * l.calls + 1099511627776 * (max l.left l.right) + 549755813888
-
-abbrev pub decreases-exprs::or_else : goal.decreases-exprs::or_else
-decreases-exprs::or_else g l = 1208925819614629174706176 * l.calls + 1099511627776 * (max l.left l.right) + 549755813888
 
 abbrev pub decreases-exprs::relation : goal.decreases-exprs::relation
 decreases-exprs::relation g l = 1208925819614629174706176 * l.calls + 1099511627776 * (max l.left l.right) + 549755813888
@@ -193,7 +188,7 @@ invariant-loops::while_loop-loop-turn g l =
 
 abbrev pub invariant-loops::for_loop-loop-i : goal.invariant-loops::for_loop-loop-i
 invariant-loops::for_loop-loop-i g l = record {
-  counted : l.count ≡ (course_of l.course).count;
+  counted : (course_of l.course).count ≡ l.last + 1;
   on : Goes g.P.Port.Tells (for_loop l.work l.calls (course_of l.course) (iteration_at (nodes_of l.work) l.iteration) (stmts_at (nodes_of l.work) l.stmts) (env_of l.env)) l.fn.store
       (for_left l.work l.calls l.i ((course_of l.course).count - l.i) (course_of l.course) (iteration_at (nodes_of l.work) l.iteration) (stmts_at (nodes_of l.work) l.stmts) (env_of l.env)) l.store;
 }
@@ -223,7 +218,135 @@ decreases-texts::field g l = 1208925819614629174706176 * l.calls + 1099511627776
 abbrev pub decreases-texts::get : goal.decreases-texts::get
 decreases-texts::get g l = 1208925819614629174706176 * l.calls + 1099511627776 * l.selections + 549755813888
 
+-- ---- reductions
+
+abbrev pub decreases-folds::reduction : goal.decreases-folds::reduction
+decreases-folds::reduction g l = 1208925819614629174706176 * l.calls + 1099511627776 * (max l.initial (max l.by.iteration l.by.value)) + 755914244096
+
+abbrev pub decreases-folds::fold_all : goal.decreases-folds::fold_all
+decreases-folds::fold_all g l = 1208925819614629174706176 * l.calls + 1099511627776 * (max l.by.iteration l.by.value) + 721554505728
+
+abbrev pub decreases-folds::fold_iterations : goal.decreases-folds::fold_iterations
+decreases-folds::fold_iterations g l = 1208925819614629174706176 * l.calls + 1099511627776 * (max l.by.iteration l.by.value) + 687194767360
+
+abbrev pub decreases-folds::fold_one : goal.decreases-folds::fold_one
+decreases-folds::fold_one g l = 1208925819614629174706176 * l.calls + 1099511627776 * (max l.by.iteration l.by.value) + 618475290624
+
+abbrev pub decreases-folds::iterated_value : goal.decreases-folds::iterated_value
+decreases-folds::iterated_value g l = 1208925819614629174706176 * l.calls + 1099511627776 * (max l.by.iteration l.by.value) + 549755813888
+
+abbrev pub decreases-folds::reduced : goal.decreases-folds::reduced
+decreases-folds::reduced g l = 1208925819614629174706176 * l.calls + 137438953472
+
+abbrev pub decreases-folds::parallel_reduction : goal.decreases-folds::parallel_reduction
+decreases-folds::parallel_reduction g l = 1208925819614629174706176 * l.calls + 1099511627776 * (max l.initial (max l.chunk (max l.by.iteration l.by.value))) + 996432412672
+
+abbrev pub decreases-folds::chunked_fold : goal.decreases-folds::chunked_fold
+decreases-folds::chunked_fold g l = 1208925819614629174706176 * l.calls + 1099511627776 * (max l.by.iteration l.by.value) + 962072674304
+
+abbrev pub decreases-folds::dealt_fold : goal.decreases-folds::dealt_fold
+decreases-folds::dealt_fold g l = 1208925819614629174706176 * l.calls + 1099511627776 * (max l.by.iteration l.by.value) + 927712935936
+
+abbrev pub decreases-folds::fold_threads : goal.decreases-folds::fold_threads
+decreases-folds::fold_threads g l = 1208925819614629174706176 * l.calls + 1099511627776 * (max l.by.iteration l.by.value) + 893353197568
+
+abbrev pub decreases-folds::fold_thread : goal.decreases-folds::fold_thread
+decreases-folds::fold_thread g l = 1208925819614629174706176 * l.calls + 1099511627776 * (max l.by.iteration l.by.value) + 858993459200
+
+abbrev pub decreases-folds::fold_share : goal.decreases-folds::fold_share
+decreases-folds::fold_share g l = 1208925819614629174706176 * l.calls + 1099511627776 * (max l.by.iteration l.by.value) + 824633720832
+
+abbrev pub decreases-folds::combined : goal.decreases-folds::combined
+decreases-folds::combined g l = 1208925819614629174706176 * l.calls + 206158430208
+
+abbrev pub decreases-folds::combined_onto : goal.decreases-folds::combined_onto
+decreases-folds::combined_onto g l = 1208925819614629174706176 * l.calls + 171798691840
+
+abbrev pub decreases-folds::reduced_by_call : goal.decreases-folds::reduced_by_call
+decreases-folds::reduced_by_call g l = 1208925819614629174706176 * l.calls + 68719476736
+
+abbrev pub decreases-folds::combined_by_call : goal.decreases-folds::combined_by_call
+decreases-folds::combined_by_call g l = 1208925819614629174706176 * l.calls + 68719476736
+
+abbrev pub decreases-folds::combined_two : goal.decreases-folds::combined_two
+decreases-folds::combined_two g l = 1208925819614629174706176 * l.calls + 137438953472
+
+abbrev pub decreases-calls::call_checked : goal.decreases-calls::call_checked
+decreases-calls::call_checked g l = 1208925819614629174706176 * l.calls
+
+abbrev pub invariant-folds::fold_iterations-loop-i : goal.invariant-folds::fold_iterations-loop-i
+invariant-folds::fold_iterations-loop-i g l =
+    Goes g.P.Port.Tells (fold_left l.work l.calls l.by l.first (suc l.last - l.first) (course_of l.course) l.start (env_of l.env)) l.fn.store
+    (fold_left l.work l.calls l.by l.i (suc l.last - l.i) (course_of l.course) l.total (env_of l.env)) l.store
+
+abbrev pub invariant-folds::fold_threads-loop-size : goal.invariant-folds::fold_threads-loop-size
+invariant-folds::fold_threads-loop-size g l =
+    Goes g.P.Port.Tells (threads_folded l.work l.calls l.by (chunking_of l.chunking) (course_of l.course) l.start l.sizes (env_of l.env)) l.fn.store
+    (threads after_all (share_folded l.work l.calls l.by (chunking_of l.chunking) (course_of l.course) l.start (env_of l.env)) l.from (deal l.k l.first (drop l.k l.sizes)) l.most l.over l.values) l.store
+
+abbrev pub decreases-folds::fold_threads-loop-size : goal.decreases-folds::fold_threads-loop-size
+decreases-folds::fold_threads-loop-size g l = length l.sizes - l.k
+
+abbrev pub invariant-folds::combined_onto-loop-value : goal.invariant-folds::combined_onto-loop-value
+invariant-folds::combined_onto-loop-value g l =
+    Goes g.P.Port.Tells (combined_onto l.work l.calls l.by l.nested l.fn.first l.values) l.fn.store
+    (combined_onto l.work l.calls l.by l.nested l.total (drop l.k l.values)) l.store
+
+abbrev pub decreases-folds::combined_onto-loop-value : goal.decreases-folds::combined_onto-loop-value
+decreases-folds::combined_onto-loop-value g l = length l.values - l.k
+
+-- ---- parallel loops and blocks
+
+abbrev pub decreases-constructs::parallel_for : goal.decreases-constructs::parallel_for
+decreases-constructs::parallel_for g l = 1208925819614629174706176 * l.calls + 1099511627776 * (max l.chunk (max l.iteration l.stmts)) + 996432412672
+
+abbrev pub decreases-constructs::chunked_loop : goal.decreases-constructs::chunked_loop
+decreases-constructs::chunked_loop g l = 1208925819614629174706176 * l.calls + 1099511627776 * (max l.iteration l.stmts) + 962072674304
+
+abbrev pub decreases-constructs::dealt_loop : goal.decreases-constructs::dealt_loop
+decreases-constructs::dealt_loop g l = 1208925819614629174706176 * l.calls + 1099511627776 * (max l.iteration l.stmts) + 927712935936
+
+abbrev pub decreases-constructs::parallel_block : goal.decreases-constructs::parallel_block
+decreases-constructs::parallel_block g l = 1208925819614629174706176 * l.calls + 1099511627776 * (max l.count l.arms) + 996432412672
+
+abbrev pub decreases-constructs::dealt_arms : goal.decreases-constructs::dealt_arms
+decreases-constructs::dealt_arms g l = 1208925819614629174706176 * l.calls + 1099511627776 * l.arms + 927712935936
+
+abbrev pub decreases-constructs::threads_of : goal.decreases-constructs::threads_of
+decreases-constructs::threads_of g l = 1208925819614629174706176 * l.calls + 1099511627776 * l.id + 412316860416
+
+abbrev pub decreases-constructs::begin_chunks : goal.decreases-constructs::begin_chunks
+decreases-constructs::begin_chunks g l = 1208925819614629174706176 * l.calls + 1099511627776 * l.id + 274877906944
+
+abbrev pub decreases-constructs::run_threads : goal.decreases-constructs::run_threads
+decreases-constructs::run_threads g l = 1208925819614629174706176 * l.calls + 1099511627776 * task_top l.task + 893353197568
+
+abbrev pub decreases-constructs::run_thread : goal.decreases-constructs::run_thread
+decreases-constructs::run_thread g l = 1208925819614629174706176 * l.calls + 1099511627776 * task_top l.task + 858993459200
+
+abbrev pub decreases-constructs::run_share : goal.decreases-constructs::run_share
+decreases-constructs::run_share g l = 1208925819614629174706176 * l.calls + 1099511627776 * task_top l.task + 824633720832
+
+abbrev pub decreases-constructs::run_turn : goal.decreases-constructs::run_turn
+decreases-constructs::run_turn g l = 1208925819614629174706176 * l.calls + 1099511627776 * task_top l.task + 790273982464
+
+abbrev pub invariant-constructs::run_threads-loop-size : goal.invariant-constructs::run_threads-loop-size
+invariant-constructs::run_threads-loop-size g l =
+    Goes g.P.Port.Tells (threads_run l.work l.calls l.task l.sizes (env_of l.env)) l.fn.store
+    (threads first_of_both (share_run l.work l.calls l.task (env_of l.env)) l.from (deal l.k l.first (drop l.k l.sizes)) l.most l.over tt) l.store
+
+abbrev pub decreases-constructs::run_threads-loop-size : goal.decreases-constructs::run_threads-loop-size
+decreases-constructs::run_threads-loop-size g l = length l.sizes - l.k
+
+abbrev pub invariant-constructs::run_share-loop-i : goal.invariant-constructs::run_share-loop-i
+invariant-constructs::run_share-loop-i g l =
+    Goes g.P.Port.Tells (share_run l.work l.calls l.task (env_of l.env) (record { number = l.number; first = l.first; size = l.size })) l.fn.store
+    (share_left l.work l.calls l.task l.number l.i (l.last - l.i) (env_of l.env)) l.store
+
 -- ---- operators
+
+abbrev pub decreases-chains::operators : goal.decreases-chains::operators
+decreases-chains::operators g l = 1208925819614629174706176 * l.calls + 1099511627776 * (max l.left (right_of l.last)) + 549755813888
 
 abbrev pub decreases-chains::operator : goal.decreases-chains::operator
 decreases-chains::operator g l = 1208925819614629174706176 * l.calls + 1099511627776 * right_of l.link + 412316860416
