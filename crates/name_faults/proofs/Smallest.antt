@@ -2,7 +2,7 @@
 use Rattle.std.proofs.Common.{◌≡◌, refl, ap, subst, ◌∙◌, ◌≤◌, Bool, true, false, List, [], ◌∷◌, Some, None, arith, ◌⊎◌, inl, inr, ⊎_elim}
 use Rattle.std.proofs.lemmas.Bool.{leb-false, leb-true}
 use Rattle.std.specs.Prelude.{if◌then◌else◌, nat_le}
-use Rattle.name_faults.specs.Least.{IsLeastOf, better, least_from, least_of}
+use Rattle.name_faults.specs.Least.{IsLeastOf, IsToldOf, better, least_from, least_of}
 use Rattle.name_rules.specs.Resolved.{IsIn, key}
 use Rattle.name_rules.specs.declared.log.Fault.{Fault}
 
@@ -52,3 +52,6 @@ least_is (f ∷ fs) r e = first_is f fs r (subst (LeastFrom f fs) (some_is (leas
 pub least_none : (fs : List Fault) → least_of fs ≡ None → fs ≡ []
 least_none [] e = refl
 least_none (f ∷ fs) e = absurd (cc)
+
+pub least_told : (fs : List Fault) (r : Fault) → least_of fs ≡ Some r → IsToldOf fs r
+least_told fs r e = (e, least_is fs r e)

@@ -1,5 +1,5 @@
 -- The least fault of a list: of the least token, then of the least code, then the first.
-use Rattle.std.specs.Prelude.{List, [], ◌∷◌, Option, Some, None, if◌then◌else◌, nat_le}
+use Rattle.std.specs.Prelude.{◌≡◌, List, [], ◌∷◌, Option, Some, None, if◌then◌else◌, nat_le}
 use Rattle.name_rules.specs.Resolved.{IsIn, IsLeast, key}
 use Rattle.name_rules.specs.declared.log.Fault.{Fault}
 
@@ -17,3 +17,7 @@ least_of (f ∷ fs) = Some (least_from f fs)
 -- it is one of them, and none is less
 abbrev pub IsLeastOf : List Fault → Fault → Type 0
 IsLeastOf fs f = IsLeast (λ g. IsIn g fs) f
+
+-- it is the first one of the least
+abbrev pub IsToldOf : List Fault → Fault → Type 0
+IsToldOf fs f = (least_of fs ≡ Some f) × IsLeastOf fs f

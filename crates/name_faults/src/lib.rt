@@ -2,7 +2,7 @@
 #![tactic(auto)]
 
 ghost use Rattle.std.specs.Prelude.{◌≡◌, [], MatchOption};
-ghost use Rattle.name_faults.specs.Least.{IsLeastOf, better, least_of};
+ghost use Rattle.name_faults.specs.Least.{IsToldOf, better, least_of};
 ghost use Rattle.name_rules.specs.Resolved as spec;
 
 use ada_base::Items;
@@ -63,9 +63,9 @@ fn first_least(faults: &Items<Fault>) -> Option<Fault>
 }
 
 /// The least of some faults, or None where there is none.
-#[tactic(auto, using(crate::proofs::Smallest::least_is, crate::proofs::Smallest::least_none))]
+#[tactic(auto, using(crate::proofs::Smallest::least_told, crate::proofs::Smallest::least_none))]
 pub fn least(faults: &Items<Fault>) -> Option<Fault>
-    ensures { MatchOption result (faults.now ≡ []) (λ f. IsLeastOf faults.now f) }
+    ensures { MatchOption result (faults.now ≡ []) (λ f. IsToldOf faults.now f) }
 {
     first_least(faults)
 }

@@ -425,7 +425,9 @@ fn shown(
     let typed = program(alloc, steps)?;
     let source = SureSource::new(Vec::from_slice(alloc, input.as_bytes())?);
     let ports = Ports::new(source, HeldSink::new(alloc));
-    let mut store = Store::new(alloc, 4, ports)?;
+    let Ok(mut store) = Store::new(alloc, 4, ports) else {
+        return Err(AllocError);
+    };
     let Some(plan) = SoundPlan::checked(plan) else {
         return format!(in alloc; "a plan with a zero");
     };

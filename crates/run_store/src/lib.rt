@@ -12,5 +12,5 @@ pub use ends::{End, Leave, Mark, Object, Region};
 pub use env::{Env, Part};
 pub use outside::{Port, Ports};
 pub use store::Store;
-pub use subtypes::{cells_of, defaults_of};
+pub use subtypes::{cells_of, components, defaults_of};
 pub use values::{Range, between, bit, compares, count, is_in, is_true, last_of};

@@ -1,6 +1,6 @@
 //! The state of a run.
 
-ghost use Rattle.std.specs.Prelude.{◌≡◌, ◌<◌, ◌*◌, ◌+◌, length, replicate, slice_get, slice_set, IfOk, Ok};
+ghost use Rattle.std.specs.Prelude.{◌≡◌, ◌<◌, ◌*◌, ◌+◌, length, replicate, slice_get, slice_set, IfOk, MatchResult, Ok};
 ghost use Rattle.ada_stored.specs.Stored as spec;
 ghost use Rattle.behaviours.specs.Paths as spec';
 ghost use Rattle.run_store.specs.Operating.{begins_at, got, number_of, outside_of};
@@ -67,12 +67,16 @@ fn no_slots(alloc: Global, count: usize) -> Result<Items<Slot>, AllocError>
 
 impl<P: Port + Drop> Store<P> {
     /// Where a run begins: no object has cells, and each table has so many slots, two for every object. An Err is want of
-    /// memory.
-    pub fn new(alloc: Global, slots: usize, port: P) -> Result<Store<P>, AllocError>
-        ensures { IfOk result (λ store. store ≡ begins_at slots (P.outside port)) }
+    /// memory, and gives the outside back.
+    pub fn new(alloc: Global, slots: usize, port: P) -> Result<Store<P>, P>
+        ensures { MatchResult result (λ store. store ≡ begins_at slots (P.outside port)) (λ back. back ≡ port) }
     {
-        let here = no_slots(alloc, slots)?;
-        let everywhere = no_slots(alloc, slots)?;
+        let Ok(here) = no_slots(alloc, slots) else {
+            return Err(port);
+        };
+        let Ok(everywhere) = no_slots(alloc, slots) else {
+            return Err(port);
+        };
         Ok(Store {
             cells: Items::new(alloc),
             kept: Items::new(alloc),
@@ -91,6 +95,14 @@ impl<P: Port + Drop> Store<P> {
         ensures { P.outside result ≡ outside_of self }
     {
         self.port
+    }
+
+    /// The outside as the run left it, the cells of what is visible everywhere, and the variables of the main procedure that
+    /// were elaborated, in order. It takes no memory.
+    pub fn into_end(self) -> (P, Items<i64>, Items<Variable>)
+        ensures { (P.outside result.0 ≡ outside_of self) × (result.1 ≡ self.state.kept) × (result.2 ≡ self.state.declared) }
+    {
+        (self.port, self.kept, self.declared)
     }
 
     /// An iteration or a call begins.

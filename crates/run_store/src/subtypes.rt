@@ -80,7 +80,8 @@ fn fields_within(typed: &Typed, levels: usize, id: u32) -> Result<u64, End>
     }
 }
 
-fn components(typed: &Typed, id: u32) -> Result<u64, End>
+/// How many components an array with a list of dimensions has.
+pub fn components(typed: &Typed, id: u32) -> Result<u64, End>
     ensures { OrNoMemory (λ n. n ≡ spec.components (bounds_at typed.now.nodes id)) result }
 {
     match typed.nodes.leaf(id) {
