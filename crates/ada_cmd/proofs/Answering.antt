@@ -1,47 +1,18 @@
--- What is said of a run, of a refusal and of a fetch makes the answer of the top call.
-use Rattle.std.proofs.Common.{◌≡◌, ℕ, List, [], refl, sym, ap, ◌∙◌, subst, inl, inr}
-use Rattle.ada_port.specs.Ports.{Stream, Grows}
-use Rattle.ada_port.proofs.Growth.{Grows-none, GrowsByPrefix-from_Grows}
-use Rattle.first_form.specs.FirstRun.{Run, Ending, Ended, Raised}
-use Rattle.first_form.specs.Running.{EndsAs}
-use Rattle.first_form.specs.declared.runner.RunEnd.{RunEnd}
-use Rattle.first_form.specs.declared.runner.RunEnd.TheVariants as run_end
+-- What is said of a refusal is what becomes of its text.
+use Rattle.std.proofs.Common.{◌≡◌, ℕ, List, refl, sym, ap, ◌∙◌, subst, inl, inr}
+use Rattle.ada_port.specs.Ports.{Stream}
 use Rattle.ada_run.specs.Compile.{IsRefusalOf}
 use Rattle.ada_run.specs.declared.refusal.Refusal.{Refusal}
 use Rattle.ada_run.specs.declared.refusal.Refusal.TheVariants as refusal
+use Rattle.command_words.specs.Words.{Asked}
+use Rattle.ada_cmd.specs.Answer.{AnswersText, Refuses, Lacks, Says, SaysRefusal, devices}
+use Rattle.ada_cmd.specs.Lines.{ended}
 use Rattle.ada_cmd.specs.declared.status.Status.{Status}
 use Rattle.ada_cmd.specs.declared.status.Status.TheVariants as status
-use Rattle.ada_cmd.specs.Words as words
-use Rattle.ada_cmd.specs.Due.{IsFetched, run_due, run_due_by, refused_due, ended}
-use Rattle.ada_cmd.specs.Answer.{Outside, Says, SaysEnd, SaysRefusal, Gives, Whole, OutFailed, NoMemory, GivesText, Answers, Given, Unread}
 
-output_by : (ending : Ending) (output : List ℕ) → (run_due_by ending output).output ≡ output
-output_by Ended output = refl
-output_by (Raised why) output = refl
-
-output_is : (run : Run) → (run_due run).output ≡ run.output
-output_is run = output_by run.ending run.output
-
-pub gives_run : (run : Run) (end : RunEnd) (given : Status) (o o' e e' : Stream) → EndsAs end run o o' → SaysEnd end given e e' → Gives (run_due run) given o o' e e'
-gives_run run (run_end.Ended cells) given o o' e e' ends says =
-    let P : Ending → Type 0 = λ x. Gives (run_due_by x run.output) given o o' e e' in
-    subst P (sym ends.0) (Whole ends.2 (inl says))
-gives_run run (run_end.Raised why) given o o' e e' ends (inl says) =
-    let P : Ending → Type 0 = λ x. Gives (run_due_by x run.output) given o o' e e' in
-    subst P (sym ends.0) (Whole ends.1 says)
-gives_run run (run_end.Raised why) given o o' e e' ends (inr lacks) =
-    let P : Ending → Type 0 = λ x. Gives (run_due_by x run.output) given o o' e e' in
-    subst P (sym ends.0) (NoMemory (GrowsByPrefix-from_Grows ends.1) lacks)
-gives_run run run_end.WriteFault given o o' e e' ends says = OutFailed (rw (output_is run) ends) says
-gives_run run run_end.NoMemory given o o' e e' ends says = NoMemory (rw (output_is run) ends) says
-
-pub gives_refusal : (file text : List ℕ) (r : Refusal) (given : Status) (o e e' : Stream) → IsRefusalOf text r → SaysRefusal file text r given e e' → GivesText file text given o o e e'
-gives_refusal file text refusal.OutOfMemory given o e e' is says = inr (Grows-none, says)
-gives_refusal file text (refusal.Refused code at other note) given o e e' is (inr lacks) = inr (Grows-none, lacks)
-gives_refusal file text (refusal.Refused code at other note) given o e e' is (inl (whole, (line, (fault, is_fault, same, line_is), ended_is), says)) =
+pub refuses_text : {Tells : Type 0} (q : Asked) (text : List ℕ) (r : Refusal) (given : Status) (i o e e' : Stream) → IsRefusalOf text r → SaysRefusal q.file text r given e e' → AnswersText Tells q text given (devices i o e) (devices i o e')
+refuses_text q text refusal.OutOfMemory given i o e e' is says = Lacks (record { input = refl; out = refl }) says
+refuses_text q text (refusal.Refused code at other note) given i o e e' is (inr lacks) = Lacks (record { input = refl; out = refl }) lacks
+refuses_text q text (refusal.Refused code at other note) given i o e e' is (inl (whole, (line, (fault, is_fault, same, line_is), ended_is), says)) =
     let P : List ℕ → Type 0 = λ l. Says status.Refused l given e e' in
-    inl (refused_due file fault, inr (fault, is_fault, refl), Whole Grows-none (subst P (ended_is ∙ ap ended line_is) says))
-
-pub answers_text : (file text : List ℕ) (given : Status) (before now : Outside) → IsFetched (before.shelf.told file) text → now.shelf.faults ≡ before.shelf.faults → GivesText file text given before.out now.out before.err now.err → Answers (words.Run file) given before now
-answers_text file text given before now fetch same (inl (due, is, gives)) = Given due (text, fetch, is) same gives
-answers_text file text given before now fetch same (inr (none, says)) = Unread same none says
+    Refuses fault is_fault (record { input = refl; out = refl }) (inl (subst P (ended_is ∙ ap ended line_is) says))

@@ -1,92 +1,184 @@
 -- The causes of the statuses, from what became of the words.
-use Rattle.std.proofs.Common.{◌≡◌, ◌⊎◌, ℕ, zero, suc, List, [], Option, Some, refl, sym, ap, subst, inl, inr, ◌∙◌}
+use Rattle.std.proofs.Common.{◌≡◌, ◌⊎◌, ◌<◌, ℕ, zero, suc, List, Bool, true, false, Option, Some, None, Result, Ok, Err, refl, sym, ap, subst, inl, inr, ◌∙◌, arith}
 use Rattle.std.specs.Prelude.{IfSome}
 use Rattle.ada_base.specs.declared.reason.Reason.{Reason}
-use Rattle.ada_port.specs.Ports.{Texts, Stream, Grows, GrowsByPrefix, Breaks, fetched}
-use Rattle.ada_port.proofs.Growth.{GrowsByPrefix-from_Grows, GrowsByPrefix-longer}
-use Rattle.first_form.specs.Program.{Program}
-use Rattle.first_form.specs.FirstRun.{first_run, Ending, Ended, Raised}
+use Rattle.ada_meaning.specs.Law as law
+use Rattle.ada_meaning.specs.Law.{Ending}
+use Rattle.ada_port.specs.Ports.{Texts, Stream, Grows, GrowsByPrefix, Breaks, Rose, fetched}
+use Rattle.ada_port.proofs.Faults.{Rose-after_same}
 use Rattle.ada_run.specs.Compile.{IsAccepted, IsFaultOf}
+use Rattle.ada_run.specs.Compiled.{Compiled}
 use Rattle.ada_run.specs.Complaints.{Complaint}
+use Rattle.ada_run.specs.Lines.{line_of}
+use Rattle.ada_run.specs.Running as running
+use Rattle.ada_run.specs.declared.runner.RunEnd.{RunEnd}
+use Rattle.ada_run.specs.declared.runner.RunEnd.TheVariants as run_end
 use Rattle.ada_run.proofs.Exact.{compiling_exact}
+use Rattle.command_words.specs.Words.{Asked, asked}
+use Rattle.command_words.specs.declared.request.Mode.{Mode}
+use Rattle.command_words.specs.declared.request.Mode.TheVariants as mode
+use Rattle.ada_cmd.specs.Answer.{Answers, Wrong, Right, Unasked, AnswersFile, Unread, Read, Short, AnswersText, Refuses, Checks, Starts, Lacks, Closes, Whole, OutFailed, Lacked, Devices, EndsBy, IsFetched, Outside, RunsUnit, Says, SaysNoMemory, SaysOrLacks, Untouched, number_of, setting_of}
+use Rattle.ada_cmd.specs.Causes as causes
+use Rattle.ada_cmd.specs.Causes.{Asks, Cause, Fails, ShelfFails, ErrFails, MemoryFails, HasCheck, HasEnding, IsNotAccepted, MayEnd, Meets}
+use Rattle.ada_cmd.specs.Lines.{accepted_line, ended, usage_line}
 use Rattle.ada_cmd.specs.declared.status.Status.{Status}
 use Rattle.ada_cmd.specs.declared.status.Status.TheVariants as status
-use Rattle.ada_cmd.specs.Words.{Command}
-use Rattle.ada_cmd.specs.Words as words
-use Rattle.ada_cmd.specs.Due.{Due, IsTextDue, IsDue, run_due, run_due_by, refused_due, usage_due}
-use Rattle.ada_cmd.specs.Answer.{Outside, Says, Gives, Whole, OutFailed, NoMemory, Answers, Given, ShelfFailed, Unread, number_of}
-use Rattle.ada_cmd.specs.Causes.{Meets, InFull, ShelfFault, OutFault, ErrFault, OutOfMemory, Names, HasEnding, IsNotAccepted}
 
--- one answer is due to a text that is told
+-- the text that is told was fetched
+same_text : (told : Option (List ℕ)) (whole text : List ℕ) → told ≡ Some whole → IsFetched told text → text ≡ fetched whole
+same_text told whole text has is = subst (λ (o : Option (List ℕ)). IfSome o (λ x. text ≡ fetched x)) has is
 
-text_due_once : (file text : List ℕ) (a b : Due) → IsTextDue file text a → IsTextDue file text b → a ≡ b
-text_due_once file text a b (inl (p, is_p, a-is)) (inl (q, is_q, b-is)) =
-    a-is ∙ ap (λ program. run_due (first_run program)) (compiling_exact.one_result text p q is_p is_q) ∙ sym b-is
-text_due_once file text a b (inl (p, is_p, a-is)) (inr (f, is_f, b-is)) = absurd (compiling_exact.apart text p f is_p is_f)
-text_due_once file text a b (inr (f, is_f, a-is)) (inl (p, is_p, b-is)) = absurd (compiling_exact.apart text p f is_p is_f)
-text_due_once file text a b (inr (f, is_f, a-is)) (inr (g, is_g, b-is)) = a-is ∙ ap (refused_due file) (compiling_exact.one_fault text f g is_f is_g) ∙ sym b-is
+some_is : {A : Type 0} (x y : A) → (let a : Option A = Some x in a ≡ Some y) → x ≡ y
+some_is x y e = cc
 
--- the due answer, where the text is told
-abbrev IsToldDue : Command → Texts → Due → Type 0
-IsToldDue words.Usage shelf due = due ≡ usage_due
-IsToldDue (words.Run file) shelf due = (told : List ℕ) × (shelf.told file ≡ Some told) × IsTextDue file (fetched told) due
+-- ---- each status by its cause
 
-due_once : (command : Command) (shelf : Texts) (a b : Due) → IsDue command shelf a → IsToldDue command shelf b → a ≡ b
-due_once words.Usage shelf a b is_a is_b = is_a ∙ sym is_b
-due_once (words.Run file) shelf a b (text, fetch, is_a) (told, has, is_b) =
-    let same : text ≡ fetched told = subst (λ (o : Option (List ℕ)). IfSome o (λ whole. text ≡ fetched whole)) has fetch in
-    text_due_once file (fetched told) a b (subst (λ (t : List ℕ). IsTextDue file t a) same is_a) is_b
+-- what is said is what is due, or err failed
+says_cause : (C : Status → Type 0) (due given : Status) (line : List ℕ) (old new : Stream) → (Rose old new → C status.WriteFault) → C due → Says due line given old new → C given
+says_cause C due given line old new rose own (inl (is, grown)) = subst C (sym is) own
+says_cause C due given line old new rose own (inr (is, broke)) = subst C (sym is) (rose broke.rose)
 
--- what is given meets what is due
+or_lacks_cause : (C : Status → Type 0) (due given : Status) (line : List ℕ) (old new : Stream) → (Rose old new → C status.WriteFault) → C status.OutOfMemory → C due → SaysOrLacks due line given old new → C given
+or_lacks_cause C due given line old new rose lack own (inl says) = says_cause C due given line old new rose own says
+or_lacks_cause C due given line old new rose lack own (inr lacks) = says_cause C status.OutOfMemory given _ old new rose lack lacks
 
-number-of : {given due : Status} → given ≡ due → number_of given ≡ number_of due
-number-of e = ap number_of e
+closes_cause : (C : Status → Type 0) (bytes : List ℕ) (given : Status) (o o' e e' : Stream) → (Rose e e' → C status.WriteFault) → (Rose o o' → C status.WriteFault) → C status.OutOfMemory → C status.Done → Closes bytes given o o' e e' → C given
+closes_cause C bytes given o o' e e' err_rose out_rose lack own (Whole is grown same) = subst C (sym is) own
+closes_cause C bytes given o o' e e' err_rose out_rose lack own (OutFailed broke says) = says_cause C status.WriteFault given _ e e' err_rose (out_rose broke.rose) says
+closes_cause C bytes given o o' e e' err_rose out_rose lack own (Lacked front says) = says_cause C status.OutOfMemory given _ e e' err_rose lack says
 
-says_meets : (due : Due) (given said : Status) (line : List ℕ) (before now : Outside) → Says said line given before.err now.err → (given ≡ said → Grows before.err now.err line → Meets due (number_of given) before now) → GrowsByPrefix before.out now.out due.output → Meets due (number_of given) before now
-says_meets due given said line before now (inl (is, took)) go_on front = go_on is took
-says_meets due given said line before now (inr (is, broke)) go_on front = ErrFault (number-of is) broke.rose front
+module _ (Tells : Type 0) (words : List (List ℕ)) (before now : Outside) where
+  err_fault : Rose before.devices.err now.devices.err → Cause Tells words before now status.WriteFault
+  err_fault rose = inr rose
 
-gives_meets : (due : Due) (given : Status) (before now : Outside) → Gives due given before.out now.out before.err now.err → Meets due (number_of given) before now
-gives_meets due given before now (Whole took says) =
-    says_meets due given due.status due.line before now says (λ is grown. InFull (number-of is) took grown) (GrowsByPrefix-from_Grows took)
-gives_meets due given before now (OutFailed broke (inl (is, took))) = OutFault (number-of is) broke
-gives_meets due given before now (OutFailed broke (inr (is, again))) = OutFault (number-of is) broke
-gives_meets due given before now (NoMemory front says) =
-    says_meets due given status.OutOfMemory _ before now says (λ is grown. OutOfMemory (number-of is) front) front
+  module _ (q : Asked) (text : List ℕ) (asks : asked words ≡ Some q) (has : IsFetched (before.shelf.told q.file) text) where
+    asks_for : (c : Compiled) → IsAccepted text c → Asks words before.shelf q c
+    asks_for c accepted = record { asks = asks; text = text; has = has; accepted = accepted }
 
--- a sink that took nothing has taken a prefix of anything
-none_front : {old new : Stream} (bytes : List ℕ) → Grows old new [] → GrowsByPrefix old new bytes
-none_front bytes took = GrowsByPrefix-longer bytes (GrowsByPrefix-from_Grows took)
+    -- the run's outcome has the ending that the answer tells
+    may_end : (c : Compiled) (end : RunEnd) (ending : Ending) (left : Stream) → running.Runs Tells c.program (setting_of q.settings) end before.devices.input now.devices.input before.devices.out left
+        → ((o : law.Outcome) → running.EndsAs c.program q.settings.turns end o → o.ending ≡ ending) → MayEnd Tells q c before.devices ending
+    may_end c end ending left runs gives = λ told rule. let r = runs.run told rule in (r.outcome, (r.early, r.permitted, gives r.outcome r.ends))
 
-meets : (command : Command) (given : Status) (before now : Outside) (due : Due) → Answers command given before now → IsToldDue command before.shelf due → Meets due (number_of given) before now
-meets command given before now due (Given own is_own same gives) is_due =
-    subst (λ (d : Due). Meets d (number_of given) before now) (due_once command before.shelf own due is_own is_due) (gives_meets own given before now gives)
-meets command given before now due (ShelfFailed file runs rose took (inl says)) is_due =
-    says_meets due given status.ShelfFault _ before now says (λ is grown. ShelfFault (number-of is) rose took) (none_front due.output took)
-meets command given before now due (ShelfFailed file runs rose took (inr lacks)) is_due =
-    says_meets due given status.OutOfMemory _ before now lacks (λ is grown. OutOfMemory (number-of is) (none_front due.output took)) (none_front due.output took)
-meets command given before now due (Unread same took says) is_due =
-    says_meets due given status.OutOfMemory _ before now says (λ is grown. OutOfMemory (number-of is) (none_front due.output took)) (none_front due.output took)
+    run_cause : (given : Status) (c : Compiled) (vars : Bool) (end : RunEnd) (left : Stream) → IsAccepted text c → q.mode ≡ mode.Run → running.Runs Tells c.program (setting_of q.settings) end before.devices.input now.devices.input before.devices.out left
+        → EndsBy c vars end given left now.devices.out before.devices.err now.devices.err → Cause Tells words before now given
+    run_cause given c true (run_end.Ended finals) left accepted runs_it runs ends =
+        closes_cause (λ s. Cause Tells words before now s) _ given left now.devices.out before.devices.err now.devices.err err_fault (λ rose. inl (out_rose rose)) tt
+        (inr (q, c, asks_for c accepted, runs_it, may_end c (run_end.Ended finals) law.Ended left runs (λ o h. h.0))) ends
+      where
+        out_rose : Rose left now.devices.out → Rose before.devices.out now.devices.out
+        out_rose rose = Rose-after_same runs.causes.1 rose
+    run_cause given c false (run_end.Ended finals) left accepted runs_it runs ends =
+        subst (λ s. Cause Tells words before now s) (sym ends.0) (inr (q, c, asks_for c accepted, runs_it, may_end c (run_end.Ended finals) law.Ended left runs (λ o h. h.0)))
+    run_cause given c vars (run_end.Raised why) left accepted runs_it runs ends =
+        or_lacks_cause (λ s. Cause Tells words before now s) status.Raised given _ before.devices.err now.devices.err err_fault tt
+        (why, (q, c, asks_for c accepted, runs_it, may_end c (run_end.Raised why) (law.Raised why) left runs (λ o h. h))) ends.1
+    run_cause given c vars (run_end.TurnsSpent turns) left accepted runs_it runs ends =
+        or_lacks_cause (λ s. Cause Tells words before now s) status.Spent given _ before.devices.err now.devices.err err_fault tt
+        (q, c, asks_for c accepted, runs_it, may_end c (run_end.TurnsSpent turns) law.TurnsSpent left runs (λ o h. h.0)) ends.1
+    run_cause given c vars run_end.ReadFault left accepted runs_it runs ends =
+        says_cause (λ s. Cause Tells words before now s) status.ReadFault given _ before.devices.err now.devices.err err_fault runs.causes.0 ends.1
+    run_cause given c vars run_end.WriteFault left accepted runs_it runs ends =
+        says_cause (λ s. Cause Tells words before now s) status.WriteFault given _ before.devices.err now.devices.err err_fault
+        (inl (subst (λ (s : Stream). Rose before.devices.out s) (sym ends.0) runs.causes.1)) ends.1
+    run_cause given c vars run_end.NoMemory left accepted runs_it runs ends =
+        says_cause (λ s. Cause Tells words before now s) status.OutOfMemory given _ before.devices.err now.devices.err err_fault tt ends.1
 
-named_due : (command : Command) (shelf : Texts) (file told : List ℕ) (due : Due) → Names command shelf file told → IsTextDue file (fetched told) due → IsToldDue command shelf due
-named_due command shelf file told due names is =
-    subst (λ (c : Command). IsToldDue c shelf due) (sym names.runs) (told, names.has, is)
+    text_cause : (given : Status) → AnswersText Tells q text given before.devices now.devices → Cause Tells words before now given
+    text_cause given (Refuses fault is same says) =
+        or_lacks_cause (λ s. Cause Tells words before now s) status.Refused given _ before.devices.err now.devices.err err_fault tt (q, asks, never) says
+      where
+        never : (told : List ℕ) (c : Compiled) → before.shelf.told q.file ≡ Some told → IsAccepted (fetched told) c → ⊥
+        never told c told_is accepted = compiling_exact.apart text c fault (subst (λ (t : List ℕ). IsAccepted t c) (sym (same_text (before.shelf.told q.file) told text told_is has)) accepted) is
+    text_cause given (Checks c accepted checks same closes) =
+        closes_cause (λ s. Cause Tells words before now s) _ given before.devices.out now.devices.out before.devices.err now.devices.err err_fault (λ rose. inl rose) tt
+        (inl (q, c, asks_for c accepted, checks)) closes
+    text_cause given (Starts c accepted runs_it run) = run_cause given c q.vars run.end run.left accepted runs_it run.runs run.ends
+    text_cause given (Lacks same says) = says_cause (λ s. Cause Tells words before now s) status.OutOfMemory given _ before.devices.err now.devices.err err_fault tt says
 
-pub runs : (command : Command) (given : Status) (before now : Outside) → Answers command given before now → (file told : List ℕ) (program : Program) → Names command before.shelf file told → IsAccepted (fetched told) program → Meets (run_due (first_run program)) (number_of given) before now
-runs command given before now answers file told program names accepted =
-    meets command given before now (run_due (first_run program)) answers
-    (named_due command before.shelf file told (run_due (first_run program)) names (inl (program, accepted, refl)))
+  file_cause : (q : Asked) (given : Status) → asked words ≡ Some q → AnswersFile Tells q given before now → Cause Tells words before now given
+  file_cause q given asks (Unread rose same says) =
+      or_lacks_cause (λ s. Cause Tells words before now s) status.ShelfFault given _ before.devices.err now.devices.err err_fault tt rose says
+  file_cause q given asks (Read text has same answers) = text_cause q text asks has given answers
+  file_cause q given asks (Short same untouched says) = says_cause (λ s. Cause Tells words before now s) status.OutOfMemory given _ before.devices.err now.devices.err err_fault tt says
 
-pub refuses : (command : Command) (given : Status) (before now : Outside) → Answers command given before now → (file told : List ℕ) (fault : Complaint) → Names command before.shelf file told → IsFaultOf (fetched told) fault → Meets (refused_due file fault) (number_of given) before now
-refuses command given before now answers file told fault names is =
-    meets command given before now (refused_due file fault) answers
-    (named_due command before.shelf file told (refused_due file fault) names (inr (fault, is, refl)))
+  pub caused : (given : Status) → Answers Tells words given before now → Cause Tells words before now given
+  caused given (Wrong none same untouched says) = says_cause (λ s. Cause Tells words before now s) status.Usage given _ before.devices.err now.devices.err err_fault none says
+  caused given (Right q asks answers) = file_cause q given asks answers
+  caused given (Unasked same untouched says) = says_cause (λ s. Cause Tells words before now s) status.OutOfMemory given _ before.devices.err now.devices.err err_fault tt says
 
-pub wrong_words : (command : Command) (given : Status) (before now : Outside) → Answers command given before now → command ≡ words.Usage → Meets usage_due (number_of given) before now
-wrong_words command given before now answers wrong =
-    meets command given before now usage_due answers (subst (λ (c : Command). IsToldDue c before.shelf usage_due) (sym wrong) refl)
+-- ---- what is due comes, or something failed
 
--- each status by its cause alone
+fails_says : (P : Status → Type 0) (given : Status) (before now : Outside) → Untouched before.devices now.devices → SaysNoMemory given before.devices.err now.devices.err → Meets P (number_of given) before now
+fails_says P given before now same (inl (is, grown)) = inr (MemoryFails (ap number_of is) same)
+fails_says P given before now same (inr (is, broke)) = inr (ErrFails (ap number_of is) broke.rose same)
+
+unread_fails : (P : Status → Type 0) (given : Status) (line : List ℕ) (before now : Outside) → Rose before.shelf now.shelf → Untouched before.devices now.devices → SaysOrLacks status.ShelfFault line given before.devices.err now.devices.err → Meets P (number_of given) before now
+unread_fails P given line before now rose same (inl (inl (is, grown))) = inr (ShelfFails (ap number_of is) rose same)
+unread_fails P given line before now rose same (inl (inr (is, broke))) = inr (ErrFails (ap number_of is) broke.rose same)
+unread_fails P given line before now rose same (inr lacks) = fails_says P given before now same lacks
+
+-- what becomes of a text that is told
+told_meets : {Tells : Type 0} (P : Status → Type 0) (words : List (List ℕ)) (given : Status) (before now : Outside) (q : Asked) (told : List ℕ) → asked words ≡ Some q → before.shelf.told q.file ≡ Some told
+    → (AnswersText Tells q (fetched told) given before.devices now.devices → Meets P (number_of given) before now) → Answers Tells words given before now → Meets P (number_of given) before now
+told_meets P words given before now q told asks has go (Wrong none same untouched says) = absurd (different (sym none ∙ asks)) where
+  different : (let a : Option Asked = None in a ≡ Some q) → ⊥
+  different e = absurd cc
+told_meets P words given before now q told asks has go (Unasked same untouched says) = fails_says P given before now untouched says
+told_meets {Tells} P words given before now q told asks has go (Right r asks' answers) = file (subst (λ (x : Asked). AnswersFile Tells x given before now) (some_is r q (sym asks' ∙ asks)) answers) where
+  file : AnswersFile Tells q given before now → Meets P (number_of given) before now
+  file (Unread rose same says) = unread_fails P given _ before now rose same says
+  file (Short same untouched says) = fails_says P given before now untouched says
+  file (Read text is same answers) = go (subst (λ (t : List ℕ). AnswersText Tells q t given before.devices now.devices) (same_text (before.shelf.told q.file) told text has is) answers)
+
+pub runs : {Tells : Type 0} (words : List (List ℕ)) (given : Status) (before now : Outside) → Answers Tells words given before now → (q : Asked) (told : List ℕ) (c : Compiled) → asked words ≡ Some q → q.mode ≡ mode.Run → before.shelf.told q.file ≡ Some told → IsAccepted (fetched told) c
+    → Meets (λ s. RunsUnit Tells c q.settings q.vars s before.devices now.devices) (number_of given) before now
+runs {Tells} words given before now answers q told c asks runs_it has accepted = told_meets (λ s. RunsUnit Tells c q.settings q.vars s before.devices now.devices) words given before now q told asks has go answers where
+  check_or_run : mode.Check ≡ mode.Run → ⊥
+  check_or_run e = absurd cc
+
+  go : AnswersText Tells q (fetched told) given before.devices now.devices → Meets (λ s. RunsUnit Tells c q.settings q.vars s before.devices now.devices) (number_of given) before now
+  go (Refuses fault is same says) = absurd (compiling_exact.apart (fetched told) c fault accepted is)
+  go (Checks d is checks same closes) = absurd (check_or_run (sym checks ∙ runs_it))
+  go (Starts d is runs' run) = inl (given, refl, subst (λ (x : Compiled). RunsUnit Tells x q.settings q.vars given before.devices now.devices) (compiling_exact.one_result (fetched told) d c is accepted) run)
+  go (Lacks same says) = fails_says (λ s. RunsUnit Tells c q.settings q.vars s before.devices now.devices) given before now same says
+
+abbrev ChecksSo : Outside → Outside → Status → Type 0
+ChecksSo before now s = (now.devices.input ≡ before.devices.input) × Closes accepted_line s before.devices.out now.devices.out before.devices.err now.devices.err
+
+pub checks : {Tells : Type 0} (words : List (List ℕ)) (given : Status) (before now : Outside) → Answers Tells words given before now → (q : Asked) (told : List ℕ) (c : Compiled) → asked words ≡ Some q → q.mode ≡ mode.Check → before.shelf.told q.file ≡ Some told → IsAccepted (fetched told) c
+    → Meets (λ s. (now.devices.input ≡ before.devices.input) × Closes accepted_line s before.devices.out now.devices.out before.devices.err now.devices.err) (number_of given) before now
+checks {Tells} words given before now answers q told c asks checks_it has accepted = told_meets (ChecksSo before now) words given before now q told asks has go answers where
+  run_or_check : mode.Run ≡ mode.Check → ⊥
+  run_or_check e = absurd cc
+
+  go : AnswersText Tells q (fetched told) given before.devices now.devices → Meets (ChecksSo before now) (number_of given) before now
+  go (Refuses fault is same says) = absurd (compiling_exact.apart (fetched told) c fault accepted is)
+  go (Checks d is checks' same closes) = inl (given, refl, (same, closes))
+  go (Starts d is runs' run) = absurd (run_or_check (sym runs' ∙ checks_it))
+  go (Lacks same says) = fails_says (ChecksSo before now) given before now same says
+
+abbrev RefusesSo : List ℕ → Complaint → Outside → Outside → Status → Type 0
+RefusesSo file fault before now s = Untouched before.devices now.devices × SaysOrLacks status.Refused (ended (line_of file fault)) s before.devices.err now.devices.err
+
+pub refuses : {Tells : Type 0} (words : List (List ℕ)) (given : Status) (before now : Outside) → Answers Tells words given before now → (q : Asked) (told : List ℕ) (fault : Complaint) → asked words ≡ Some q → before.shelf.told q.file ≡ Some told → IsFaultOf (fetched told) fault
+    → Meets (λ s. Untouched before.devices now.devices × SaysOrLacks status.Refused (ended (line_of q.file fault)) s before.devices.err now.devices.err) (number_of given) before now
+refuses {Tells} words given before now answers q told fault asks has is_fault = told_meets (RefusesSo q.file fault before now) words given before now q told asks has go answers where
+  go : AnswersText Tells q (fetched told) given before.devices now.devices → Meets (RefusesSo q.file fault before now) (number_of given) before now
+  go (Refuses own is same says) = inl (given, refl, (same, subst (λ (f : Complaint). SaysOrLacks status.Refused (ended (line_of q.file f)) given before.devices.err now.devices.err) (compiling_exact.one_fault (fetched told) own fault is is_fault) says))
+  go (Checks d is checks' same closes) = absurd (compiling_exact.apart (fetched told) d fault is is_fault)
+  go (Starts d is runs' run) = absurd (compiling_exact.apart (fetched told) d fault is is_fault)
+  go (Lacks same says) = fails_says (RefusesSo q.file fault before now) given before now same says
+
+pub wrong_words : {Tells : Type 0} (words : List (List ℕ)) (given : Status) (before now : Outside) → Answers Tells words given before now → asked words ≡ None
+    → Meets (λ s. Untouched before.devices now.devices × Says status.Usage usage_line s before.devices.err now.devices.err) (number_of given) before now
+wrong_words words given before now (Wrong none same untouched says) wrong = inl (given, refl, (untouched, says))
+wrong_words words given before now (Right q asks answers) wrong = absurd (different (sym asks ∙ wrong)) where
+  different : (let a : Option Asked = Some q in a ≡ None) → ⊥
+  different e = absurd cc
+wrong_words words given before now (Unasked same untouched says) wrong = fails_says (λ s. Untouched before.devices now.devices × Says status.Usage usage_line s before.devices.err now.devices.err) given before now untouched says
+
+-- ---- numbers of statuses
 
 -- the status of a number
 status_at : ℕ → Status
@@ -95,6 +187,8 @@ status_at (suc zero) = status.Refused
 status_at (suc (suc zero)) = status.Usage
 status_at (suc (suc (suc zero))) = status.ShelfFault
 status_at (suc (suc (suc (suc zero)))) = status.Raised
+status_at (suc (suc (suc (suc (suc zero))))) = status.Spent
+status_at (suc (suc (suc (suc (suc (suc zero)))))) = status.ReadFault
 status_at (suc (suc (suc (suc (suc (suc (suc zero))))))) = status.WriteFault
 status_at _ = status.OutOfMemory
 
@@ -105,105 +199,14 @@ numbered status.Refused = refl
 numbered status.Usage = refl
 numbered status.ShelfFault = refl
 numbered status.Raised = refl
+numbered status.Spent = refl
+numbered status.ReadFault = refl
 numbered status.WriteFault = refl
 numbered status.OutOfMemory = refl
 
-same_status : (s t : Status) → number_of s ≡ number_of t → s ≡ t
+pub same_status : (s t : Status) → number_of s ≡ number_of t → s ≡ t
 same_status s t e = sym (numbered s) ∙ ap status_at e ∙ numbered t
 
--- the statuses that no fault and no want of memory gives
-abbrev IsOwn : Status → Type 0
-IsOwn status.ShelfFault = ⊥
-IsOwn status.WriteFault = ⊥
-IsOwn status.OutOfMemory = ⊥
-IsOwn status.Done = Unit {0}
-IsOwn status.Refused = Unit {0}
-IsOwn status.Usage = Unit {0}
-IsOwn status.Raised = Unit {0}
-
-says_own : (due given : Status) (line : List ℕ) (old new : Stream) → IsOwn given → Says due line given old new → (given ≡ due) × IsOwn due
-says_own due given line old new own (inl (is, took)) = (is, subst IsOwn is own)
-says_own due given line old new own (inr (is, broke)) = absurd (subst IsOwn is own)
-
-gives_own : (due : Due) (given : Status) (o o' e e' : Stream) → IsOwn given → Gives due given o o' e e' → given ≡ due.status
-gives_own due given o o' e e' own (Whole took says) = (says_own due.status given due.line e e' own says).0
-gives_own due given o o' e e' own (OutFailed broke says) = absurd ((says_own status.WriteFault given _ e e' own says).1)
-gives_own due given o o' e e' own (NoMemory front says) = absurd ((says_own status.OutOfMemory given _ e e' own says).1)
-
-own_due : (command : Command) (given : Status) (before now : Outside) → IsOwn given → Answers command given before now → (due : Due) × IsDue command before.shelf due × (given ≡ due.status)
-own_due command given before now own (Given due is same gives) = (due, is, gives_own due given _ _ _ _ own gives)
-own_due command given before now own (ShelfFailed file runs rises took (inl says)) = absurd ((says_own status.ShelfFault given _ _ _ own says).1)
-own_due command given before now own (ShelfFailed file runs rises took (inr lacks)) = absurd ((says_own status.OutOfMemory given _ _ _ own lacks).1)
-own_due command given before now own (Unread same took says) = absurd ((says_own status.OutOfMemory given _ _ _ own says).1)
-
-done_ends : (ending : Ending) (output : List ℕ) → (run_due_by ending output).status ≡ status.Done → ending ≡ Ended
-done_ends Ended output e = refl
-done_ends (Raised why) output e = cc
-
-raised_ends : (ending : Ending) (output : List ℕ) → (run_due_by ending output).status ≡ status.Raised → (why : Reason) × (ending ≡ Raised why)
-raised_ends Ended output e = absurd (different e) where
-  different : status.Done ≡ status.Raised → ⊥
-  different e = absurd cc
-raised_ends (Raised why) output e = (why, refl)
-
-run_status : (ending : Ending) (output : List ℕ) → ((run_due_by ending output).status ≡ status.Done) ⊎ ((run_due_by ending output).status ≡ status.Raised)
-run_status Ended output = inl refl
-run_status (Raised why) output = inr refl
-
-pub done : (command : Command) (given : Status) (before now : Outside) → Answers command given before now → number_of given ≡ 0 → HasEnding command before.shelf Ended
-done command given before now answers zero-is =
-    let is_done : given ≡ status.Done = same_status given status.Done zero-is in
-    let own = own_due command given before now (subst IsOwn (sym is_done) tt) answers in
-    go command before.shelf own.0 own.1 (sym own.2 ∙ is_done) where
-      go : (command : Command) (shelf : Texts) (due : Due) → IsDue command shelf due → due.status ≡ status.Done → HasEnding command shelf Ended
-      go words.Usage shelf due is e = absurd (different (sym (ap (λ (d : Due). d.status) is) ∙ e)) where
-        different : status.Usage ≡ status.Done → ⊥
-        different e = absurd cc
-      go (words.Run file) shelf due (text, fetch, inl (program, accepted, is)) e =
-          (file, text, program, refl, fetch, accepted, done_ends ((first_run program).ending) ((first_run program).output) (sym (ap (λ (d : Due). d.status) is) ∙ e))
-      go (words.Run file) shelf due (text, fetch, inr (fault, is_fault, is)) e = absurd (different (sym (ap (λ (d : Due). d.status) is) ∙ e)) where
-        different : status.Refused ≡ status.Done → ⊥
-        different e = absurd cc
-
-pub raised : (command : Command) (given : Status) (before now : Outside) → Answers command given before now → number_of given ≡ 4 → (why : Reason) × HasEnding command before.shelf (Raised why)
-raised command given before now answers four-is =
-    let is_raised : given ≡ status.Raised = same_status given status.Raised four-is in
-    let own = own_due command given before now (subst IsOwn (sym is_raised) tt) answers in
-    go command before.shelf own.0 own.1 (sym own.2 ∙ is_raised) where
-      go : (command : Command) (shelf : Texts) (due : Due) → IsDue command shelf due → due.status ≡ status.Raised → (why : Reason) × HasEnding command shelf (Raised why)
-      go words.Usage shelf due is e = absurd (different (sym (ap (λ (d : Due). d.status) is) ∙ e)) where
-        different : status.Usage ≡ status.Raised → ⊥
-        different e = absurd cc
-      go (words.Run file) shelf due (text, fetch, inl (program, accepted, is)) e =
-          let ends = raised_ends ((first_run program).ending) ((first_run program).output) (sym (ap (λ (d : Due). d.status) is) ∙ e) in
-          (ends.0, (file, text, program, refl, fetch, accepted, ends.1))
-      go (words.Run file) shelf due (text, fetch, inr (fault, is_fault, is)) e = absurd (different (sym (ap (λ (d : Due). d.status) is) ∙ e)) where
-        different : status.Refused ≡ status.Raised → ⊥
-        different e = absurd cc
-
-pub refused : (command : Command) (given : Status) (before now : Outside) → Answers command given before now → number_of given ≡ 1 → IsNotAccepted command before.shelf
-refused command given before now answers one-is =
-    let is_refused : given ≡ status.Refused = same_status given status.Refused one-is in
-    let own = own_due command given before now (subst IsOwn (sym is_refused) tt) answers in
-    go command before.shelf own.0 own.1 (sym own.2 ∙ is_refused) where
-      go : (command : Command) (shelf : Texts) (due : Due) → IsDue command shelf due → due.status ≡ status.Refused → IsNotAccepted command shelf
-      go words.Usage shelf due is e = absurd (different (sym (ap (λ (d : Due). d.status) is) ∙ e)) where
-        different : status.Usage ≡ status.Refused → ⊥
-        different e = absurd cc
-      go (words.Run file) shelf due (text, fetch, inl (program, accepted, is)) e =
-          elim (run_status ((first_run program).ending) ((first_run program).output)) [
-            | inl is_done ↦ absurd (done_refused (sym is_done ∙ sym (ap (λ (d : Due). d.status) is) ∙ e))
-            | inr is_raised ↦ absurd (raised_refused (sym is_raised ∙ sym (ap (λ (d : Due). d.status) is) ∙ e))
-          ] where
-            done_refused : status.Done ≡ status.Refused → ⊥
-            done_refused e = absurd cc
-
-            raised_refused : status.Raised ≡ status.Refused → ⊥
-            raised_refused e = absurd cc
-      go (words.Run file) shelf due (text, fetch, inr (fault, is_fault, is)) e = (
-        file,
-        refl,
-        λ told program has accepted.
-            let same : text ≡ fetched told = subst (λ (o : Option (List ℕ)). IfSome o (λ whole. text ≡ fetched whole)) has fetch in
-            compiling_exact.apart (fetched told) program fault accepted (subst (λ (t : List ℕ). IsFaultOf t fault) same is_fault),
-      )
+-- the cause of a number's status
+pub cause_of : {Tells : Type 0} (words : List (List ℕ)) (given due : Status) (before now : Outside) → Answers Tells words given before now → number_of given ≡ number_of due → Cause Tells words before now due
+cause_of {Tells} words given due before now answers e = subst (λ s. Cause Tells words before now s) (same_status given due e) (caused Tells words before now given answers)

@@ -1,17 +1,22 @@
 -- The answers of the top call: what is put to out and to err, which devices failed, and the status.
-use Rattle.std.specs.Prelude.{◌≡◌, ◌⊎◌, ℕ, List, [], ◌++◌, codes}
-use Rattle.ada_port.specs.Ports.{Texts, Stream, Grows, GrowsByPrefix, Breaks, Rose}
-use Rattle.ada_cmd.specs.declared.status.Status.{Status}
-use Rattle.ada_cmd.specs.declared.status.Status.TheVariants as status
-use Rattle.ada_cmd.specs.Words.{Command}
-use Rattle.ada_cmd.specs.Words as words
-use Rattle.ada_base.specs.declared.reason.Reason.{Reason}
-use Rattle.ada_run.specs.Lines.{IsLineOf}
+use Rattle.std.specs.Prelude.{◌≡◌, ◌⊎◌, ℕ, List, Bool, true, false, Option, Some, None, IfSome}
+use Rattle.ada_meaning.specs.Programs.{Setting}
+use Rattle.ada_port.specs.Ports.{Texts, Stream, Grows, GrowsByPrefix, Breaks, Rose, fetched}
+use Rattle.ada_run.specs.Compile.{IsAccepted, IsFaultOf}
+use Rattle.ada_run.specs.Compiled.{Compiled}
+use Rattle.ada_run.specs.Complaints.{Complaint}
+use Rattle.ada_run.specs.Lines.{line_of, IsLineOf}
 use Rattle.ada_run.specs.declared.refusal.Refusal.{Refusal}
 use Rattle.ada_run.specs.declared.refusal.Refusal.TheVariants as refusal
-use Rattle.first_form.specs.declared.runner.RunEnd.{RunEnd}
-use Rattle.first_form.specs.declared.runner.RunEnd.TheVariants as run_end
-use Rattle.ada_cmd.specs.Due.{Due, IsDue, IsTextDue, ended, unhandled_line}
+use Rattle.ada_run.specs.Running.{Runs, values_of}
+use Rattle.ada_run.specs.declared.runner.RunEnd.{RunEnd}
+use Rattle.ada_run.specs.declared.runner.RunEnd.TheVariants as run_end
+use Rattle.command_words.specs.Words.{Asked, Settings, asked}
+use Rattle.command_words.specs.declared.request.Mode.TheVariants as mode
+use Rattle.ada_cmd.specs.Lines.{ended, usage_line, unreadable_line, accepted_line, read_fault_line, write_fault_line, memory_line, spent_line, unhandled_line}
+use Rattle.ada_cmd.specs.Vars.{vars_lines}
+use Rattle.ada_cmd.specs.declared.status.Status.{Status}
+use Rattle.ada_cmd.specs.declared.status.Status.TheVariants as status
 
 abbrev pub number_of : Status → ℕ
 number_of status.Done = 0
@@ -19,30 +24,30 @@ number_of status.Refused = 1
 number_of status.Usage = 2
 number_of status.ShelfFault = 3
 number_of status.Raised = 4
+number_of status.Spent = 5
+number_of status.ReadFault = 6
 number_of status.WriteFault = 7
 number_of status.OutOfMemory = 8
 
 -- the devices around a call, as they are before it or after it
-pub record Outside : Type 0 where
-  pub shelf : Texts
+pub record Devices : Type 0 where
+  pub input : Stream
   pub out : Stream
   pub err : Stream
 
-abbrev pub outside : Texts → Stream → Stream → Outside
-outside shelf out err = record { shelf = shelf; out = out; err = err }
+abbrev pub devices : Stream → Stream → Stream → Devices
+devices input out err = record { input = input; out = out; err = err }
+
+pub record Outside : Type 0 where
+  pub shelf : Texts
+  pub devices : Devices
+
+abbrev pub outside : Texts → Stream → Stream → Stream → Outside
+outside shelf input out err = record { shelf = shelf; devices = devices input out err }
 
 -- the status comes with its line on err; where err fails in the line, the status is that of a write fault
 abbrev pub Says : Status → List ℕ → Status → Stream → Stream → Type 0
 Says due line given old new = ((given ≡ due) × Grows old new line) ⊎ ((given ≡ status.WriteFault) × Breaks old new line)
-
-abbrev pub write_fault_line : List ℕ
-write_fault_line = ended (codes "write fault")
-
-abbrev pub memory_line : List ℕ
-memory_line = ended (codes "out of memory")
-
-abbrev pub unreadable_line : List ℕ → List ℕ
-unreadable_line file = file ++ ended (codes ": cannot be read")
 
 abbrev pub SaysNoMemory : Status → Stream → Stream → Type 0
 SaysNoMemory given old new = Says status.OutOfMemory memory_line given old new
@@ -51,15 +56,66 @@ SaysNoMemory given old new = Says status.OutOfMemory memory_line given old new
 abbrev pub SaysOrLacks : Status → List ℕ → Status → Stream → Stream → Type 0
 SaysOrLacks due line given old new = Says due line given old new ⊎ SaysNoMemory given old new
 
-abbrev pub SaysRaised : Reason → Status → Stream → Stream → Type 0
-SaysRaised why given old new = SaysOrLacks status.Raised (unhandled_line why) given old new
+-- The work ends with these bytes on out: all of them, or a put failed, or memory ran out after some.
+pub data Closes (bytes : List ℕ) (given : Status) (out out' err err' : Stream) : Type 0 where
+  Whole : given ≡ status.Done → Grows out out' bytes → err' ≡ err → Closes bytes given out out' err err'
+  OutFailed : Breaks out out' bytes → Says status.WriteFault write_fault_line given err err' → Closes bytes given out out' err err'
+  Lacked : GrowsByPrefix out out' bytes → SaysNoMemory given err err' → Closes bytes given out out' err err'
 
--- how a run ended
-abbrev pub SaysEnd : RunEnd → Status → Stream → Stream → Type 0
-SaysEnd (run_end.Ended cells) given old new = (given ≡ status.Done) × Grows old new []
-SaysEnd (run_end.Raised why) given old new = SaysRaised why given old new
-SaysEnd run_end.WriteFault given old new = Says status.WriteFault write_fault_line given old new
-SaysEnd run_end.NoMemory given old new = SaysNoMemory given old new
+-- how a run ended, where out is as the run left it; its variables are written where they are asked for
+abbrev pub EndsBy : Compiled → Bool → RunEnd → Status → Stream → Stream → Stream → Stream → Type 0
+EndsBy c true (run_end.Ended finals) given out out' err err' = Closes (vars_lines c.finals (values_of c.program finals)) given out out' err err'
+EndsBy c false (run_end.Ended finals) given out out' err err' = (given ≡ status.Done) × (out' ≡ out) × (err' ≡ err)
+EndsBy c vars (run_end.Raised why) given out out' err err' = (out' ≡ out) × SaysOrLacks status.Raised (unhandled_line c.exceptions why) given err err'
+EndsBy c vars (run_end.TurnsSpent turns) given out out' err err' = (out' ≡ out) × SaysOrLacks status.Spent (spent_line turns) given err err'
+EndsBy c vars run_end.ReadFault given out out' err err' = (out' ≡ out) × Says status.ReadFault read_fault_line given err err'
+EndsBy c vars run_end.WriteFault given out out' err err' = (out' ≡ out) × Says status.WriteFault write_fault_line given err err'
+EndsBy c vars run_end.NoMemory given out out' err err' = (out' ≡ out) × SaysNoMemory given err err'
+
+-- so far the threads of a construct are taken in order, as one worker does
+abbrev pub setting_of : Settings → Setting
+setting_of s = record { plan = s.plan; one = true; limit = s.turns }
+
+-- A unit was run under a setting, and its end was told.
+pub record RunsUnit (Tells : Type 0) (c : Compiled) (settings : Settings) (vars : Bool) (given : Status) (before now : Devices) : Type 0 where
+  pub end : RunEnd
+  pub left : Stream
+  pub runs : Runs Tells c.program (setting_of settings) end before.input now.input before.out left
+  pub ends : EndsBy c vars end given left now.out before.err now.err
+
+-- the text that was fetched, of what is told
+abbrev pub IsFetched : Option (List ℕ) → List ℕ → Type 0
+IsFetched told text = IfSome told (λ whole. text ≡ fetched whole)
+
+-- nothing was asked of the input, and nothing was put to out
+pub record Untouched (before now : Devices) : Type 0 where
+  pub input : now.input ≡ before.input
+  pub out : now.out ≡ before.out
+
+-- what becomes of a text
+pub data AnswersText (Tells : Type 0) (q : Asked) (text : List ℕ) (given : Status) (before now : Devices) : Type 0 where
+  Refuses : (fault : Complaint) → IsFaultOf text fault → Untouched before now
+      → SaysOrLacks status.Refused (ended (line_of q.file fault)) given before.err now.err → AnswersText Tells q text given before now
+  Checks : (c : Compiled) → IsAccepted text c → q.mode ≡ mode.Check → now.input ≡ before.input
+      → Closes accepted_line given before.out now.out before.err now.err → AnswersText Tells q text given before now
+  Starts : (c : Compiled) → IsAccepted text c → q.mode ≡ mode.Run → RunsUnit Tells c q.settings q.vars given before now → AnswersText Tells q text given before now
+  Lacks : Untouched before now → SaysNoMemory given before.err now.err → AnswersText Tells q text given before now
+
+-- what becomes of a file, what is asked of it, and its text; where memory runs out before the text is there, nothing does
+pub data AnswersFile (Tells : Type 0) (q : Asked) (given : Status) (before now : Outside) : Type 0 where
+  Unread : Rose before.shelf now.shelf → Untouched before.devices now.devices
+      → SaysOrLacks status.ShelfFault (unreadable_line q.file) given before.devices.err now.devices.err → AnswersFile Tells q given before now
+  Read : (text : List ℕ) → IsFetched (before.shelf.told q.file) text → now.shelf.faults ≡ before.shelf.faults
+      → AnswersText Tells q text given before.devices now.devices → AnswersFile Tells q given before now
+  Short : now.shelf.faults ≡ before.shelf.faults → Untouched before.devices now.devices → SaysNoMemory given before.devices.err now.devices.err
+      → AnswersFile Tells q given before now
+
+-- what becomes of the words; where memory runs out before they are read, nothing does
+pub data Answers (Tells : Type 0) (words : List (List ℕ)) (given : Status) (before now : Outside) : Type 0 where
+  Wrong : asked words ≡ None → now.shelf ≡ before.shelf → Untouched before.devices now.devices → Says status.Usage usage_line given before.devices.err now.devices.err
+      → Answers Tells words given before now
+  Right : (q : Asked) → asked words ≡ Some q → AnswersFile Tells q given before now → Answers Tells words given before now
+  Unasked : now.shelf ≡ before.shelf → Untouched before.devices now.devices → SaysNoMemory given before.devices.err now.devices.err → Answers Tells words given before now
 
 -- the line on err for a refusal of the text in a file
 abbrev pub IsRefusedLine : List ℕ → List ℕ → Refusal → List ℕ → Type 0
@@ -70,28 +126,3 @@ SaysRefusal file text refusal.OutOfMemory given old new = SaysNoMemory given old
 SaysRefusal file text (refusal.Refused code at other note) given old new =
     ((line : List ℕ) × IsRefusedLine file text (refusal.Refused code at other note) line × Says status.Refused line given old new)
     ⊎ SaysNoMemory given old new
-
-abbrev pub SaysUnreadable : List ℕ → Status → Stream → Stream → Type 0
-SaysUnreadable file given old new = SaysOrLacks status.ShelfFault (unreadable_line file) given old new
-
--- what became of the answer that is due, by what was put to out and to err
-pub data Gives (due : Due) (given : Status) (out out' err err' : Stream) : Type 0 where
-  Whole : Grows out out' due.output → Says due.status due.line given err err' → Gives due given out out' err err'
-  OutFailed : Breaks out out' due.output → Says status.WriteFault write_fault_line given err err' → Gives due given out out' err err'
-  NoMemory : GrowsByPrefix out out' due.output → SaysNoMemory given err err' → Gives due given out out' err err'
-
--- what became of a text: the answer that is due to it was given, or memory ran out before it was known
-abbrev pub GivesText : List ℕ → List ℕ → Status → Stream → Stream → Stream → Stream → Type 0
-GivesText file text given out out' err err' =
-    ((due : Due) × IsTextDue file text due × Gives due given out out' err err')
-    ⊎ (Grows out out' [] × SaysNoMemory given err err')
-
--- what became of the words: the answer that is due was given, or the shelf failed, or memory ran out before the text
--- was known
-pub data Answers (command : Command) (given : Status) (before now : Outside) : Type 0 where
-  Given : (due : Due) → IsDue command before.shelf due → now.shelf.faults ≡ before.shelf.faults
-      → Gives due given before.out now.out before.err now.err → Answers command given before now
-  ShelfFailed : (file : List ℕ) → command ≡ words.Run file → Rose before.shelf now.shelf
-      → Grows before.out now.out [] → SaysUnreadable file given before.err now.err → Answers command given before now
-  Unread : now.shelf.faults ≡ before.shelf.faults → Grows before.out now.out []
-      → SaysNoMemory given before.err now.err → Answers command given before now

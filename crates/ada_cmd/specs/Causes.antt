@@ -1,41 +1,63 @@
 -- The causes of the statuses, each in both directions.
-use Rattle.std.specs.Prelude.{◌≡◌, ◌⊎◌, ℕ, List, [], Some}
-use Rattle.ada_port.specs.Ports.{Texts, Grows, GrowsByPrefix, Breaks, Rose, fetched}
-use Rattle.first_form.specs.Program.{Program}
-use Rattle.first_form.specs.FirstRun.{Ending, first_run}
+use Rattle.std.specs.Prelude.{◌≡◌, ◌⊎◌, ⊤, ℕ, List, Option, Some, None, Bool}
+use Rattle.ada_base.specs.declared.reason.Reason.{Reason}
+use Rattle.ada_meaning.specs.Law.{Ending, Ended, Raised, TurnsSpent, IsPermitted, Outcome}
+use Rattle.ada_meaning.specs.Nonblocking.{KeepsRule}
+use Rattle.ada_port.specs.Ports.{Texts, Rose, bytes_of, fetched}
 use Rattle.ada_run.specs.Compile.{IsAccepted}
+use Rattle.ada_run.specs.Compiled.{Compiled}
+use Rattle.command_words.specs.Words.{Asked, asked}
+use Rattle.command_words.specs.declared.request.Mode.TheVariants as mode
+use Rattle.ada_cmd.specs.Answer.{Answers, Devices, Outside, IsFetched, RunsUnit, Untouched, number_of, setting_of}
 use Rattle.ada_cmd.specs.declared.status.Status.{Status}
-use Rattle.ada_cmd.specs.Words.{Command}
-use Rattle.ada_cmd.specs.Words as words
-use Rattle.ada_cmd.specs.Due.{Due, IsFetched}
-use Rattle.ada_cmd.specs.Answer.{Answers, Outside, number_of}
+use Rattle.ada_cmd.specs.declared.status.Status.TheVariants as status
 
 -- the number of a status, with what became of the words
-abbrev pub Answered : Command → ℕ → Outside → Outside → Type 0
-Answered command number before now = (given : Status) × (number ≡ number_of given) × Answers command given before now
+abbrev pub Answered : Type 0 → List (List ℕ) → ℕ → Outside → Outside → Type 0
+Answered Tells words number before now = (given : Status) × (number ≡ number_of given) × Answers Tells words given before now
 
--- The answer that is due is given, with its output and its line; or there is another cause: the shelf's count of
--- faults rose, or a sink's, or memory ran out, and then out has grown by a prefix of the output.
-pub data Meets (due : Due) (number : ℕ) (before now : Outside) : Type 0 where
-  InFull : number ≡ number_of due.status → Grows before.out now.out due.output → Grows before.err now.err due.line → Meets due number before now
-  ShelfFault : number ≡ 3 → Rose before.shelf now.shelf → Grows before.out now.out [] → Meets due number before now
-  OutFault : number ≡ 7 → Breaks before.out now.out due.output → Meets due number before now
-  ErrFault : number ≡ 7 → Rose before.err now.err → GrowsByPrefix before.out now.out due.output → Meets due number before now
-  OutOfMemory : number ≡ 8 → GrowsByPrefix before.out now.out due.output → Meets due number before now
+-- the words ask for a file whose text is accepted
+pub record Asks (words : List (List ℕ)) (shelf : Texts) (q : Asked) (c : Compiled) : Type 0 where
+  pub asks : asked words ≡ Some q
+  pub text : List ℕ
+  pub has : IsFetched (shelf.told q.file) text
+  pub accepted : IsAccepted text c
 
--- the words name a file, and what is told of it is this text
-pub record Names (command : Command) (shelf : Texts) (file told : List ℕ) : Type 0 where
-  pub runs : command ≡ words.Run file
-  pub has : shelf.told file ≡ Some told
+-- a run that is permitted under what is asked for ends so, where the devices tell
+abbrev pub MayEnd : Type 0 → Asked → Compiled → Devices → Ending → Type 0
+MayEnd Tells q c before ending = Tells → KeepsRule c.program → (o : Outcome) × ((early : Bool) × IsPermitted c.program (setting_of q.settings) (bytes_of before.input) early o × (o.ending ≡ ending))
 
--- the words name a file whose text is accepted, and the run of its program has this ending
-abbrev pub HasEnding : Command → Texts → Ending → Type 0
-HasEnding command shelf ending =
-    (file text : List ℕ) × (program : Program) × (command ≡ words.Run file) × IsFetched (shelf.told file) text
-    × IsAccepted text program × ((first_run program).ending ≡ ending)
+-- the words ask for a run of an accepted text, and it has this ending
+abbrev pub HasEnding : Type 0 → List (List ℕ) → Outside → Ending → Type 0
+HasEnding Tells words before ending = (q : Asked) × (c : Compiled) × Asks words before.shelf q c × (q.mode ≡ mode.Run) × MayEnd Tells q c before.devices ending
 
--- the words name a file, and no text that is told of it is accepted
-abbrev pub IsNotAccepted : Command → Texts → Type 0
-IsNotAccepted command shelf =
-    (file : List ℕ) × (command ≡ words.Run file)
-    × ((told : List ℕ) (program : Program) → shelf.told file ≡ Some told → IsAccepted (fetched told) program → ⊥)
+-- the words ask whether an accepted text is accepted
+abbrev pub HasCheck : List (List ℕ) → Outside → Type 0
+HasCheck words before = (q : Asked) × (c : Compiled) × Asks words before.shelf q c × (q.mode ≡ mode.Check)
+
+-- the words ask for a file, and no text that is told of it is accepted
+abbrev pub IsNotAccepted : List (List ℕ) → Outside → Type 0
+IsNotAccepted words before =
+    (q : Asked) × (asked words ≡ Some q) × ((told : List ℕ) (c : Compiled) → before.shelf.told q.file ≡ Some told → IsAccepted (fetched told) c → ⊥)
+
+-- why a status is given
+abbrev pub Cause : Type 0 → List (List ℕ) → Outside → Outside → Status → Type 0
+Cause Tells words before now status.Done = HasCheck words before ⊎ HasEnding Tells words before Ended
+Cause Tells words before now status.Refused = IsNotAccepted words before
+Cause Tells words before now status.Usage = asked words ≡ None
+Cause Tells words before now status.ShelfFault = Rose before.shelf now.shelf
+Cause Tells words before now status.Raised = (why : Reason) × HasEnding Tells words before (Raised why)
+Cause Tells words before now status.Spent = HasEnding Tells words before TurnsSpent
+Cause Tells words before now status.ReadFault = Rose before.devices.input now.devices.input
+Cause Tells words before now status.WriteFault = Rose before.devices.out now.devices.out ⊎ Rose before.devices.err now.devices.err
+Cause Tells words before now status.OutOfMemory = ⊤
+
+-- Nothing is asked of the input and nothing put to out, since the shelf or err failed or memory ran out.
+pub data Fails (number : ℕ) (before now : Outside) : Type 0 where
+  ShelfFails : number ≡ 3 → Rose before.shelf now.shelf → Untouched before.devices now.devices → Fails number before now
+  ErrFails : number ≡ 7 → Rose before.devices.err now.devices.err → Untouched before.devices now.devices → Fails number before now
+  MemoryFails : number ≡ 8 → Untouched before.devices now.devices → Fails number before now
+
+-- a status of which this holds, or nothing was done
+abbrev pub Meets : (Status → Type 0) → ℕ → Outside → Outside → Type 0
+Meets P number before now = ((given : Status) × (number ≡ number_of given) × P given) ⊎ Fails number before now

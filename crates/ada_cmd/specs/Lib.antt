@@ -1,4 +1,5 @@
+pub mod Lines
+pub mod Vars
 pub mod Answer
+pub mod Puts
 pub mod Causes
-pub mod Due
-pub mod Words

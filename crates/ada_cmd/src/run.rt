@@ -1,91 +1,109 @@
 //! What becomes of a file, of a text and of a unit.
 
 ghost use Rattle.std.specs.Prelude.{◌≡◌, IfOk, string_bytes};
-ghost use Rattle.first_form.specs.FirstRun.{first_run};
-ghost use Rattle.ada_cmd.specs.Words.{Run};
-ghost use Rattle.ada_run.specs.Compile.{IsRefusalOf};
-ghost use Rattle.ada_cmd.specs.Due.{run_due, unhandled_line, exception_name};
-ghost use Rattle.ada_cmd.specs.Answer.{Answers, Gives, GivesText, IsRefusedLine, SaysEnd, SaysRaised, SaysRefusal, SaysUnreadable, unreadable_line, outside};
+ghost use Rattle.ada_port.specs.Ports.{IsTold};
+ghost use Rattle.chunk_plan.specs.Plans.{HasNoZero};
+ghost use Rattle.ada_run.specs.Compile.{IsAccepted, IsRefusalOf};
+ghost use Rattle.ada_run.specs.Compiled.{compiled_of};
+ghost use Rattle.ada_run.specs.Running.{values_of};
+ghost use Rattle.command_words.specs.Answers.{asked_of, settings_of};
+ghost use Rattle.command_words.specs.Words.{Asked};
+ghost use Rattle.ada_cmd.specs.Answer.{AnswersFile, AnswersText, Closes, EndsBy, IsRefusedLine, RunsUnit, SaysRefusal, devices, outside};
+ghost use Rattle.ada_cmd.specs.Lines.{accepted_line};
+ghost use Rattle.ada_cmd.specs.Vars.{vars_lines};
 
-use crate::report::{say, say_out_of_memory};
+use crate::report::{
+    say, say_out_of_memory, say_raised, say_read_fault, say_spent, say_unreadable, say_write_fault,
+};
 use crate::status::Status;
-use ada_base::Reason;
-use ada_port::{Pulse, Shelf, ShelfFault, Sink};
-use ada_run::{Refusal, RunEnd, Unit, compile, execute};
+use crate::vars::{Unput, put_vars};
+use ada_port::{Pulse, Shelf, ShelfFault, Sink, Source};
+use ada_run::{Finals, Ran, Refusal, RunEnd, Unit, compile, execute};
+use chunk_plan::Setting;
+use command_words::{Mode, Request};
 use std::alloc::{AllocError, Global};
 use std::thread::Threads;
 
-fn exception_name(alloc: Global, reason: Reason) -> Result<String, AllocError>
-    ensures { IfOk result (λ name. string_bytes name ≡ exception_name reason) }
-{
-    match reason {
-        Reason::ConstraintError => String::from_str(alloc, "CONSTRAINT_ERROR"),
-        Reason::ProgramError => String::from_str(alloc, "PROGRAM_ERROR"),
-        Reason::StorageError => String::from_str(alloc, "STORAGE_ERROR"),
-        Reason::DataError => String::from_str(alloc, "DATA_ERROR"),
-        Reason::EndError => String::from_str(alloc, "END_ERROR"),
-        Reason::Declared(number) => format!(in alloc; "exception {number}"),
-    }
+/// A status, with the input and out as they were left.
+#[derive(Drop)]
+pub struct Given<I: Source + Drop, O: Sink + Drop> {
+    pub status: Status,
+    pub input: I,
+    pub out: O,
 }
 
-fn unhandled_line(alloc: Global, reason: Reason) -> Result<String, AllocError>
-    ensures { IfOk result (λ line. string_bytes line ≡ unhandled_line reason) }
-{
-    let name = exception_name(alloc, reason)?;
-    format!(in alloc; "unhandled {name}\n")
-}
-
-/// Says how a run ended.
-fn say_end<E: Sink>(alloc: Global, end: &RunEnd, err: &mut E) -> Status
-    ensures { SaysEnd end.now result (E.state err.old) (E.state err.new) }
+/// Says how a run ended. After a normal end the lines of the variables are put, where they are asked for.
+fn say_end<O: Sink, E: Sink>(
+    alloc: Global,
+    unit: &Unit,
+    vars: bool,
+    end: RunEnd,
+    out: &mut O,
+    err: &mut E,
+) -> Status
+    ensures { EndsBy (compiled_of unit.now) vars end result (O.state out.old) (O.state out.new) (E.state err.old) (E.state err.new) }
 {
     match end {
-        RunEnd::Ended { .. } => Status::Done,
-        RunEnd::Raised(reason) => say_raised(alloc, *reason, err),
-        RunEnd::WriteFault => say(err, b"write fault\n", Status::WriteFault),
+        RunEnd::Ended(finals) => {
+            if vars {
+                say_vars(alloc, unit, &finals, out, err)
+            } else {
+                Status::Done
+            }
+        }
+        RunEnd::Raised(reason) => say_raised(alloc, unit.exceptions.as_slice(), reason, err),
+        RunEnd::TurnsSpent(turns) => say_spent(alloc, turns, err),
+        RunEnd::ReadFault => say_read_fault(err),
+        RunEnd::WriteFault => say_write_fault(err),
         RunEnd::NoMemory => say_out_of_memory(err),
     }
 }
 
-fn say_raised<E: Sink>(alloc: Global, reason: Reason, err: &mut E) -> Status
-    ensures { SaysRaised reason result (E.state err.old) (E.state err.new) }
+fn say_vars<O: Sink, E: Sink>(
+    alloc: Global,
+    unit: &Unit,
+    finals: &Finals,
+    out: &mut O,
+    err: &mut E,
+) -> Status
+    ensures { Closes (vars_lines unit.now.finals (values_of (compiled_of unit.now).program finals.now)) result (O.state out.old) (O.state out.new) (E.state err.old) (E.state err.new) }
 {
-    match unhandled_line(alloc, reason) {
-        Ok(line) => say(err, line.as_bytes(), Status::Raised),
-        Err(_) => say_out_of_memory(err),
+    match put_vars(alloc, unit, finals, out) {
+        Ok(()) => Status::Done,
+        Err(Unput::Failed) => say_write_fault(err),
+        Err(Unput::OutOfMemory) => say_out_of_memory(err),
     }
 }
 
 /// Runs a unit, and says how the run ended.
-fn run_unit<R: Threads + Sync, O: Sink, E: Sink, P: Pulse + Sync>(
+fn run_unit<R: Threads + Sync, I: Source + Drop, O: Sink + Drop, E: Sink, P: Pulse + Sync>(
     rt: &R,
     alloc: Global,
     unit: &Unit,
-    out: &mut O,
+    setting: Setting,
+    vars: bool,
+    input: I,
+    out: O,
     err: &mut E,
     pulse: &P,
-) -> Status
-    ensures { Gives (run_due (first_run unit.now.program)) result (O.state out.old) (O.state out.new) (E.state err.old) (E.state err.new) }
+) -> Given<I, O>
+    requires { HasNoZero setting.plan }
+    ensures { RunsUnit (((s : I) → IsTold (I.state s)) × ((s : O) → IsTold (O.state s))) (compiled_of unit.now) (settings_of setting) vars result.status
+        (devices (I.state input) (O.state out) (E.state err.old)) (devices (I.state result.input) (O.state result.out) (E.state err.new)) }
 {
-    let end = execute(rt, alloc, unit, out, pulse);
-    say_end(alloc, &end, err)
+    let Ran { end, input, out } = execute(rt, alloc, unit, setting, input, out, pulse);
+    let mut out = out;
+    let status = say_end(alloc, unit, vars, end, &mut out, err);
+    Given { status, input, out }
 }
 
-/// Compiles a text and runs it, or says why it is refused.
-fn run_text<R: Threads + Sync, O: Sink, E: Sink, P: Pulse + Sync>(
-    rt: &R,
-    alloc: Global,
-    file: &str,
-    text: &[u8],
-    out: &mut O,
-    err: &mut E,
-    pulse: &P,
-) -> Status
-    ensures { GivesText file.now text.now result (O.state out.old) (O.state out.new) (E.state err.old) (E.state err.new) }
+/// Says that a text is accepted.
+fn say_accepted<O: Sink, E: Sink>(out: &mut O, err: &mut E) -> Status
+    ensures { Closes accepted_line result (O.state out.old) (O.state out.new) (E.state err.old) (E.state err.new) }
 {
-    match compile(alloc, text) {
-        Ok(unit) => run_unit(rt, alloc, &unit, out, err, pulse),
-        Err(refusal) => say_refusal(alloc, file, text, &refusal, err),
+    match out.put(b"accepted\n") {
+        Ok(()) => Status::Done,
+        Err(_) => say_write_fault(err),
     }
 }
 
@@ -122,38 +140,75 @@ fn refused_line(
     Ok(line)
 }
 
-/// Fetches the text of a file and runs it.
-pub fn run_file<R: Threads + Sync, F: Shelf, O: Sink, E: Sink, P: Pulse + Sync>(
+/// Does with a text what is asked for.
+fn answer_text<R: Threads + Sync, I: Source + Drop, O: Sink + Drop, E: Sink, P: Pulse + Sync>(
     rt: &R,
     alloc: Global,
-    file: &str,
-    shelf: &mut F,
-    out: &mut O,
+    request: Request<'_>,
+    text: &[u8],
+    input: I,
+    out: O,
     err: &mut E,
     pulse: &P,
-) -> Status
-    ensures { Answers (Run file.now) result
-        (outside (F.state shelf.old) (O.state out.old) (E.state err.old))
-        (outside (F.state shelf.new) (O.state out.new) (E.state err.new)) }
+) -> Given<I, O>
+    requires { HasNoZero request.setting.plan }
+    ensures { AnswersText (((s : I) → IsTold (I.state s)) × ((s : O) → IsTold (O.state s))) (asked_of request.entry) text.now result.status
+        (devices (I.state input) (O.state out) (E.state err.old)) (devices (I.state result.input) (O.state result.out) (E.state err.new)) }
 {
-    match shelf.fetch(alloc, file) {
-        Ok(text) => run_text(rt, alloc, file, &text, out, err, pulse),
-        Err(ShelfFault::Failed) => say_unreadable(alloc, file, err),
-        Err(ShelfFault::OutOfMemory) => say_out_of_memory(err),
+    let Request {
+        mode,
+        file,
+        setting,
+        vars,
+    } = request;
+    match compile(alloc, text) {
+        Err(refusal) => {
+            let status = say_refusal(alloc, file, text, &refusal, err);
+            Given { status, input, out }
+        }
+        Ok(unit) => match mode {
+            Mode::Check => {
+                let mut out = out;
+                let status = say_accepted(&mut out, err);
+                Given { status, input, out }
+            }
+            Mode::Run => run_unit(rt, alloc, &unit, setting, vars, input, out, err, pulse),
+        },
     }
 }
 
-fn say_unreadable<E: Sink>(alloc: Global, file: &str, err: &mut E) -> Status
-    ensures { SaysUnreadable file.now result (E.state err.old) (E.state err.new) }
+/// Fetches a text and does with it what is asked for.
+pub fn answer_request<
+    R: Threads + Sync,
+    F: Shelf,
+    I: Source + Drop,
+    O: Sink + Drop,
+    E: Sink,
+    P: Pulse + Sync,
+>(
+    rt: &R,
+    alloc: Global,
+    request: Request<'_>,
+    shelf: &mut F,
+    input: I,
+    out: O,
+    err: &mut E,
+    pulse: &P,
+) -> Given<I, O>
+    requires { HasNoZero request.setting.plan }
+    ensures { AnswersFile (((s : I) → IsTold (I.state s)) × ((s : O) → IsTold (O.state s))) (asked_of request.entry) result.status
+        (outside (F.state shelf.old) (I.state input) (O.state out) (E.state err.old))
+        (outside (F.state shelf.new) (I.state result.input) (O.state result.out) (E.state err.new)) }
 {
-    match unreadable_line(alloc, file) {
-        Ok(line) => say(err, line.as_bytes(), Status::ShelfFault),
-        Err(_) => say_out_of_memory(err),
+    match shelf.fetch(alloc, request.file) {
+        Ok(text) => answer_text(rt, alloc, request, &text, input, out, err, pulse),
+        Err(ShelfFault::Failed) => {
+            let status = say_unreadable(alloc, request.file, err);
+            Given { status, input, out }
+        }
+        Err(ShelfFault::OutOfMemory) => {
+            let status = say_out_of_memory(err);
+            Given { status, input, out }
+        }
     }
-}
-
-fn unreadable_line(alloc: Global, file: &str) -> Result<String, AllocError>
-    ensures { IfOk result (λ line. string_bytes line ≡ unreadable_line file.now) }
-{
-    format!(in alloc; "{file}: cannot be read\n")
 }

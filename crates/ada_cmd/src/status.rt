@@ -9,6 +9,8 @@ pub enum Status {
     Usage,
     ShelfFault,
     Raised,
+    Spent,
+    ReadFault,
     WriteFault,
     OutOfMemory,
 }
@@ -24,6 +26,8 @@ impl Status {
             Status::Usage => 2,
             Status::ShelfFault => 3,
             Status::Raised => 4,
+            Status::Spent => 5,
+            Status::ReadFault => 6,
             Status::WriteFault => 7,
             Status::OutOfMemory => 8,
         }

@@ -1,5 +1,5 @@
-use crate::top::run_words;
-use ada_port::{MemShelf, MemSink, Quiet, ShelfText, SinkFail, SureSource};
+use crate::top::{Finished, run_words};
+use ada_port::{MemShelf, MemSink, MemSource, Quiet, ShelfText, SinkFail};
 use std::alloc::{AllocError, Global};
 use std::process::Abort;
 use std::test::Fail;
@@ -31,7 +31,14 @@ const TOO_LARGE: &str = "with Ada.Text_IO; use Ada.Text_IO;\nprocedure Main is\n
 
 const USAGE: &str = "usage: ada_cmd MODE FILE [--workers N] [--chunks PLAN] [--turns K] [--vars]\n";
 
-const NOT_BUILT: &str = "t.ada:1:1: E13 not built yet\n";
+const TWICE_DECLARED: &str = "t.ada:3:19: E05 declared twice\n";
+
+const OUT_OF_RANGE: &str = "t.ada:3:16: E07 static value out of range\n";
+
+const PARALLEL: &str = "procedure Main is\nbegin\n\
+    parallel for I in 1 .. 2 loop null; end loop;\nend Main;\n";
+
+const NONBLOCKING: &str = "procedure Main with Nonblocking is\nbegin\nnull;\nend Main;\n";
 
 const SYNTAX: &str = "t.ada:1:1: E03 syntax\n";
 
@@ -45,26 +52,35 @@ const IN_CAPITALS: &str = "WITH ADA.TEXT_IO; USE ADA.TEXT_IO; -- clauses\n\
 const IN_EITHER_CASE: &str = "with Ada.Text_IO; use Ada.Text_IO;\nprocedure Main is\n\
     x : INTEGER := 16#F#;\nbegin\nX := x - 8; put_line (integer'IMAGE (X));\nend Main;\n";
 
-// What the objects around a call do: which fetch fails, and which put on out and on err fails after how
-// many bytes.
+// What the objects around a call do: which fetch fails, which call of the input fails, and which put on out and on err
+// fails after how many bytes.
 #[derive(Clone, Copy)]
 struct Faults {
     fetch: Option<u64>,
+    next: Option<u64>,
     out: Option<(u64, u64)>,
     err: Option<(u64, u64)>,
 }
 
 const NONE: Faults = Faults {
     fetch: None,
+    next: None,
     out: None,
     err: None,
 };
 
 #[derive(Drop)]
 struct Given {
-    status: u8,
-    out: MemSink,
+    answer: Finished<MemSource, MemSink>,
     err: MemSink,
+}
+
+fn source(alloc: Global, bytes: &str, fail: Option<u64>) -> Result<MemSource, AllocError> {
+    let mut fails = Vec::new(alloc);
+    if let Some(call) = fail {
+        fails.push(call)?;
+    }
+    Ok(MemSource::new(Vec::from_slice(alloc, bytes.as_bytes())?, fails))
 }
 
 fn sink(alloc: Global, fail: Option<(u64, u64)>) -> Result<MemSink, AllocError> {
@@ -100,31 +116,39 @@ fn answer<R: Threads + Sync>(
     alloc: Global,
     words: &str,
     text: &[u8],
+    input: &str,
     faults: Faults,
 ) -> Result<Given, AllocError> {
     let words = words_of(alloc, words)?;
     let mut shelf = shelf(alloc, text, faults.fetch)?;
-    let mut input = SureSource::new(Vec::new(alloc));
-    let mut out = sink(alloc, faults.out)?;
+    let input = source(alloc, input, faults.next)?;
+    let out = sink(alloc, faults.out)?;
     let mut err = sink(alloc, faults.err)?;
     let pulse = Quiet::new();
-    let status = run_words(
-        rt, alloc, &words, &mut shelf, &mut input, &mut out, &mut err, &pulse,
-    );
-    Ok(Given { status, out, err })
+    let answer = run_words(rt, alloc, &words, &mut shelf, input, out, &mut err, &pulse);
+    Ok(Given { answer, err })
+}
+
+fn expect_with<R: Threads + Sync + Abort>(
+    rt: &R,
+    alloc: Global,
+    (words, text, input, faults): (&str, &str, &str, Faults),
+    (out, err, status): (&str, &str, u8),
+) -> Result<(), AllocError> {
+    let given = answer(rt, alloc, words, text.as_bytes(), input, faults)?;
+    assert_eq!(rt; given.answer.out.bytes(), out.as_bytes(), "{words}: {text}");
+    assert_eq!(rt; given.err.bytes(), err.as_bytes(), "{words}: {text}");
+    assert_eq!(rt; given.answer.status, status, "{words}: {text}");
+    Ok(())
 }
 
 fn expect<R: Threads + Sync + Abort>(
     rt: &R,
     alloc: Global,
     (words, text, faults): (&str, &str, Faults),
-    (out, err, status): (&str, &str, u8),
+    wanted: (&str, &str, u8),
 ) -> Result<(), AllocError> {
-    let given = answer(rt, alloc, words, text.as_bytes(), faults)?;
-    assert_eq!(rt; given.out.bytes(), out.as_bytes(), "{words}: {text}");
-    assert_eq!(rt; given.err.bytes(), err.as_bytes(), "{words}: {text}");
-    assert_eq!(rt; given.status, status, "{words}: {text}");
-    Ok(())
+    expect_with(rt, alloc, (words, text, "", faults), wanted)
 }
 
 #[test]
@@ -134,8 +158,25 @@ fn each_text_has_its_output_its_line_and_its_status(rt: HostRuntime) -> Result<(
         ("run t.ada", OVERFLOW, "", "unhandled CONSTRAINT_ERROR\n", 4),
         ("run t.ada", NEGATIVE, "-3\n-3\n 7\n", "", 0),
         ("run t.ada", UNDECLARED, "", UNKNOWN, 1),
-        ("run t.ada", DECLARED_TWICE, "", NOT_BUILT, 1),
-        ("run t.ada", TOO_LARGE, "", NOT_BUILT, 1),
+        ("run t.ada", DECLARED_TWICE, "", TWICE_DECLARED, 1),
+        ("run t.ada", TOO_LARGE, "", OUT_OF_RANGE, 1),
+        (
+            "run t.ada",
+            PARALLEL,
+            "",
+            "t.ada:3:1: E13 not built yet\n",
+            1,
+        ),
+        (
+            "run t.ada",
+            NONBLOCKING,
+            "",
+            "t.ada:1:1: E13 not built yet\n",
+            1,
+        ),
+        ("check t.ada", FIRST, "accepted\n", "", 0),
+        ("check t.ada", OVERFLOW, "accepted\n", "", 0),
+        ("run t.ada --vars", FIRST, " 5\nX = 5\n", "", 0),
         ("run t.ada", "", "", SYNTAX, 1),
         ("run t.ada", IN_CAPITALS, " 5\n", "", 0),
         ("run t.ada", IN_EITHER_CASE, " 7\n", "", 0),
@@ -191,11 +232,11 @@ fn expect_refusal<R: Threads + Sync + Abort>(
     text: &[u8],
     line: &str,
 ) -> Result<(), AllocError> {
-    let given = answer(rt, alloc, "run t.ada", text, NONE)?;
+    let given = answer(rt, alloc, "run t.ada", text, "", NONE)?;
     let expected = format!(in alloc; "t.ada:{line}\n")?;
     assert_eq!(rt; given.err.bytes(), expected.as_bytes());
-    assert_eq!(rt; given.out.bytes(), b"".as_slice(), "{line}");
-    assert_eq!(rt; given.status, 1, "{line}");
+    assert_eq!(rt; given.answer.out.bytes(), b"".as_slice(), "{line}");
+    assert_eq!(rt; given.answer.status, 1, "{line}");
     Ok(())
 }
 
@@ -246,7 +287,7 @@ const DEEPEST: &str =
     "X := (((((((((((((((((((((((((((((((((((((((((((((((((((((((((((((((X)))))))))))))))))))))))))))))))))))))))))))))))))))))))))))))));";
 
 // What is said of a program with these declarations in line 3 and these statements in line 5.
-const PROGRAMS: [(&str, &str, &str); 5] = [
+const PROGRAMS: [(&str, &str, &str); 7] = [
     ("X : Integer := 2;", "X := X X;", "5:8: E03 syntax"),
     ("task T;", "null;", "3:1: E04 left out: task"),
     (
@@ -255,7 +296,13 @@ const PROGRAMS: [(&str, &str, &str); 5] = [
         "3:16: E04 left out: real literal",
     ),
     ("X : Integer := 2;", TOO_DEEP, "5:69: E12 limit passed"),
-    ("X : Integer := 2;", DEEPEST, "1:1: E13 not built yet"),
+    ("X : Integer := 2;", "X := Y;", "5:6: E05 unknown name"),
+    ("X : Integer := 2;", "X := True;", "5:6: E06 wrong type"),
+    (
+        "X : Integer := 2;",
+        "L: loop exit; end loop M;",
+        "5:24: E05 end name differs",
+    ),
 ];
 
 fn program(alloc: Global, declarations: &str, statements: &str) -> Result<String, AllocError> {
@@ -269,6 +316,135 @@ fn programs_that_are_refused(rt: HostRuntime) -> Result<(), Fail> {
     for (declarations, statements, line) in PROGRAMS {
         let text = program(rt.alloc(), declarations, statements)?;
         expect_refusal(&rt, rt.alloc(), text.as_bytes(), line)?;
+    }
+    Ok(())
+}
+
+// Programs whose declarations are in line 3 and whose statements are in line 5, with what they put out, what is said, and the
+// status.
+const RUNS: [(&str, &str, &str, &str, &str, u8); 12] = [
+    ("run t.ada", "X : Integer := 2;", DEEPEST, "", "", 0),
+    (
+        "run t.ada",
+        "",
+        "Put_Line (Integer'Image ((-7) / 2)); Put_Line (Integer'Image ((-7) rem 2)); \
+         Put_Line (Integer'Image ((-7) mod 2)); Put_Line (Integer'Image (7 mod (-2)));",
+        "-3\n-1\n 1\n-1\n",
+        "",
+        0,
+    ),
+    (
+        "run t.ada --turns 9",
+        "",
+        "for I in 1 .. 10 loop null; end loop;",
+        "",
+        "turns spent: 9\n",
+        5,
+    ),
+    (
+        "run t.ada --turns 10",
+        "",
+        "for I in 1 .. 10 loop null; end loop;",
+        "",
+        "",
+        0,
+    ),
+    (
+        "run t.ada",
+        "",
+        "Put_Line (Integer'Image (16#FF#) & Integer'Image (1_000) & Integer'Image (2E3));",
+        " 255 1000 2000\n",
+        "",
+        0,
+    ),
+    (
+        "run t.ada",
+        "Oops : exception;",
+        "raise Oops;",
+        "",
+        "unhandled Oops\n",
+        4,
+    ),
+    (
+        "run t.ada --vars",
+        "A : array (1 .. 3) of Integer := (1, -2, 3); B : Boolean := True; C : constant Integer := 4;",
+        "for X of A loop X := @ * 2; end loop; B := False;",
+        "A = 2 -4 6\nB = FALSE\n",
+        "",
+        0,
+    ),
+    (
+        "run t.ada --vars",
+        "type Pair is record Left : Boolean; Right : Integer; end record; P : Pair := (True, 7);",
+        "null;",
+        "P = TRUE 7\n",
+        "",
+        0,
+    ),
+    (
+        "run t.ada --vars",
+        "X : Integer := 1;",
+        "raise Program_Error;",
+        "",
+        "unhandled PROGRAM_ERROR\n",
+        4,
+    ),
+    (
+        "check t.ada --turns 1",
+        "",
+        "for I in 1 .. 10 loop null; end loop;",
+        "accepted\n",
+        "",
+        0,
+    ),
+    (
+        "run t.ada",
+        "function Down (N : Natural) return Natural is begin if N <= 1 then return 1; \
+         else return 1 + Down (N - 1); end if; end Down;",
+        "Put_Line (Natural'Image (Down (1000))); begin Put_Line (Natural'Image (Down (1001))); \
+         exception when others => Put_Line (\"deep\"); end;",
+        " 1000\ndeep\n",
+        "",
+        0,
+    ),
+    ("run t.ada", "", "Put (\"a\"); New_Line;", "a\n", "", 0),
+];
+
+#[test]
+fn programs_that_run(rt: HostRuntime) -> Result<(), Fail> {
+    for (words, declarations, statements, out, err, status) in RUNS {
+        let text = program(rt.alloc(), declarations, statements)?;
+        expect(
+            &rt,
+            rt.alloc(),
+            (words, text.as_str(), NONE),
+            (out, err, status),
+        )?;
+    }
+    Ok(())
+}
+
+const GETS: &str = "with Ada.Integer_Text_IO;\nprocedure Main is\nX : Integer;\nbegin\n\
+    Ada.Integer_Text_IO.Get (X); Ada.Integer_Text_IO.Get (X);\nend Main;\n";
+
+#[test]
+fn programs_that_read(rt: HostRuntime) -> Result<(), Fail> {
+    let second = Faults {
+        next: Some(1),
+        ..NONE
+    };
+    let cases = [
+        ("run t.ada", "7", NONE, "", "unhandled END_ERROR\n", 4),
+        ("run t.ada", "7 8", second, "", "read fault\n", 6),
+        ("run t.ada --vars", " -12 7x", NONE, "X = 7\n", "", 0),
+    ];
+    for (words, input, faults, out, err, status) in cases {
+        expect_with(
+            &rt,
+            rt.alloc(),
+            (words, GETS, input, faults),
+            (out, err, status),
+        )?;
     }
     Ok(())
 }

@@ -215,7 +215,18 @@ fn frame_of(letter: &str) -> (&'static str, &'static str) {
     }
 }
 
+fn has_tree(alloc: Global, text: &str) -> bool {
+    match lex(alloc, text.as_bytes()) {
+        Ok(tokens) => parse(alloc, &tokens).is_ok(),
+        Err(_) => false,
+    }
+}
+
+/// What is said of a text without a tree.
 fn said_of(alloc: Global, text: &str) -> Result<String, AllocError> {
+    if has_tree(alloc, text) {
+        return String::from_str(alloc, "a tree");
+    }
     match compile(alloc, text.as_bytes()) {
         Ok(_) => String::from_str(alloc, "compiled"),
         Err(refusal) => refusal.line(alloc, "t", text.as_bytes()),
@@ -233,7 +244,7 @@ fn said_and_wanted(alloc: Global, case: &str) -> Result<(String, String), AllocE
     let text = format!(in alloc; "{before}{front}{back}{behind}")?;
     let column = before.len() + front.len() + 1;
     let wanted = if outcome == "ok" {
-        String::from_str(alloc, "t:1:1: E13 not built yet")?
+        String::from_str(alloc, "a tree")?
     } else {
         format!(in alloc; "t:1:{column}: {outcome}")?
     };
@@ -307,6 +318,6 @@ fn longest_program(alloc: Global) -> Result<String, AllocError> {
 fn long_programs_are_parsed_in_a_moment(rt: HostRuntime) -> Result<(), AllocError> {
     let text = longest_program(rt.alloc())?;
     let said = said_of(rt.alloc(), text.as_str())?;
-    assert_eq!(rt; said.as_str(), "t:1:1: E13 not built yet");
+    assert_eq!(rt; said.as_str(), "a tree");
     Ok(())
 }

@@ -1,97 +1,142 @@
 //! The top call.
 
-ghost use Rattle.std.specs.Prelude.{◌≡◌, ◌⊎◌, ◌<◌, ℕ, List, map, string_bytes};
+ghost use Rattle.std.specs.Prelude.{◌≡◌, ◌⊎◌, ◌<◌, ℕ, List, Some, None, map, string_bytes};
 ghost use Rattle.ada_base.specs.declared.reason.Reason.{Reason};
-ghost use Rattle.ada_port.specs.Ports.{Rose, fetched};
-ghost use Rattle.first_form.specs.Program.{Program};
-ghost use Rattle.first_form.specs.FirstRun.{first_run, Ended, Raised};
+ghost use Rattle.ada_meaning.specs.Law.{Ended, Raised, TurnsSpent};
+ghost use Rattle.ada_port.specs.Ports.{IsTold, Rose, fetched};
 ghost use Rattle.ada_run.specs.Compile.{IsAccepted, IsFaultOf};
+ghost use Rattle.ada_run.specs.Compiled.{Compiled};
 ghost use Rattle.ada_run.specs.Complaints.{Complaint};
-ghost use Rattle.ada_cmd.specs.Words.{Usage, command_of};
-ghost use Rattle.ada_cmd.specs.Due.{run_due, refused_due, usage_due};
-ghost use Rattle.ada_cmd.specs.Answer.{Answers, outside};
-ghost use Rattle.ada_cmd.specs.Causes.{Answered, Meets, Names, HasEnding, IsNotAccepted};
+ghost use Rattle.ada_run.specs.Lines.{line_of};
+ghost use Rattle.command_words.specs.Words.{Asked, asked};
+ghost use Rattle.command_words.specs.declared.request.Mode.TheVariants as modes;
+ghost use Rattle.ada_cmd.specs.Answer.{Answers, Closes, RunsUnit, Says, SaysOrLacks, Untouched, devices, outside};
+ghost use Rattle.ada_cmd.specs.Causes.{Answered, HasCheck, HasEnding, IsNotAccepted, Meets};
+ghost use Rattle.ada_cmd.specs.Lines.{accepted_line, ended, usage_line};
+ghost use Rattle.ada_cmd.specs.declared.status.Status.TheVariants as statuses;
 
-use crate::report::say_usage;
-use crate::run::run_file;
-use crate::status::Status;
-use crate::words::file_of;
+use crate::report::{say_out_of_memory, say_usage};
+use crate::run::{Given, answer_request};
 use ada_port::{Pulse, Shelf, Sink, Source};
+use command_words::{WordsFault, read};
 use std::alloc::Global;
 use std::thread::Threads;
 
-/// Does what the words ask for, and gives the status: 0 where the run ended normally, 1 where the text is refused, 2
-/// where the words are wrong, 3 for a fault of the shelf, 4 where an exception is unhandled, 7 for a fault of out or
-/// err, and 8 for want of memory.
-///
-/// The words are right where they are `run FILE`. The text is fetched, compiled and run; what it writes goes to out, and
-/// a line to err says why the status isn't 0. Once a sink has failed it is not asked again. Nothing is asked of the
-/// input so far, nor of the runtime and the pulse.
-pub fn run_words<R: Threads + Sync, F: Shelf, I: Source, O: Sink, E: Sink, P: Pulse + Sync>(
-    rt: &R,
-    alloc: Global,
-    words: &[String],
-    shelf: &mut F,
-    input: &mut I,
-    out: &mut O,
-    err: &mut E,
-    pulse: &P,
-) -> u8
-    ensures answer { Answered (command_of (map string_bytes words.now)) result
-        (outside (F.state shelf.old) (O.state out.old) (E.state err.old))
-        (outside (F.state shelf.new) (O.state out.new) (E.state err.new)) }
-
-    // An accepted text is run, a text with a fault is refused, and wrong words get the usage line.
-    ensures runs { (file told : List ℕ) (program : Program) →
-        Names (command_of (map string_bytes words.now)) (F.state shelf.old) file told →
-        IsAccepted (fetched told) program →
-        Meets (run_due (first_run program)) result
-        (outside (F.state shelf.old) (O.state out.old) (E.state err.old))
-        (outside (F.state shelf.new) (O.state out.new) (E.state err.new)) }
-    ensures refuses { (file told : List ℕ) (fault : Complaint) →
-        Names (command_of (map string_bytes words.now)) (F.state shelf.old) file told →
-        IsFaultOf (fetched told) fault →
-        Meets (refused_due file fault) result
-        (outside (F.state shelf.old) (O.state out.old) (E.state err.old))
-        (outside (F.state shelf.new) (O.state out.new) (E.state err.new)) }
-    ensures wrong_words { command_of (map string_bytes words.now) ≡ Usage →
-        Meets usage_due result
-        (outside (F.state shelf.old) (O.state out.old) (E.state err.old))
-        (outside (F.state shelf.new) (O.state out.new) (E.state err.new)) }
-
-    // Each status comes by its cause alone.
-    ensures done { result ≡ 0 → HasEnding (command_of (map string_bytes words.now)) (F.state shelf.old) Ended }
-    ensures refused { result ≡ 1 → IsNotAccepted (command_of (map string_bytes words.now)) (F.state shelf.old) }
-    ensures usage { result ≡ 2 → command_of (map string_bytes words.now) ≡ Usage }
-    ensures shelf_fault { result ≡ 3 → Rose (F.state shelf.old) (F.state shelf.new) }
-    ensures raised { result ≡ 4 → (why : Reason) × HasEnding (command_of (map string_bytes words.now)) (F.state shelf.old) (Raised why) }
-    ensures read_fault { result ≡ 6 → Rose (I.state input.old) (I.state input.new) }
-    ensures write_fault { result ≡ 7 → Rose (O.state out.old) (O.state out.new) ⊎ Rose (E.state err.old) (E.state err.new) }
-
-    // A call that failed is not made good: a count that is greater than before gives its status.
-    ensures out_counts { (O.state out.old).faults < (O.state out.new).faults → result ≡ 7 }
-    ensures err_counts { (E.state err.old).faults < (E.state err.new).faults → result ≡ 7 }
-    ensures shelf_counts { (F.state shelf.old).faults < (F.state shelf.new).faults → (result ≡ 3) ⊎ (result ≡ 7) ⊎ (result ≡ 8) }
-    ensures unasked { input.new ≡ input.old }
-{
-    answer_words(rt, alloc, words, shelf, out, err, pulse).number()
+/// The status as a number, with the input and out as they were left.
+#[derive(Drop)]
+pub struct Finished<I: Source + Drop, O: Sink + Drop> {
+    pub status: u8,
+    pub input: I,
+    pub out: O,
 }
 
-fn answer_words<R: Threads + Sync, F: Shelf, O: Sink, E: Sink, P: Pulse + Sync>(
+fn answer_words<
+    R: Threads + Sync,
+    F: Shelf,
+    I: Source + Drop,
+    O: Sink + Drop,
+    E: Sink,
+    P: Pulse + Sync,
+>(
     rt: &R,
     alloc: Global,
     words: &[String],
     shelf: &mut F,
-    out: &mut O,
+    input: I,
+    out: O,
     err: &mut E,
     pulse: &P,
-) -> Status
-    ensures { Answers (command_of (map string_bytes words.now)) result
-        (outside (F.state shelf.old) (O.state out.old) (E.state err.old))
-        (outside (F.state shelf.new) (O.state out.new) (E.state err.new)) }
+) -> Given<I, O>
+    ensures { Answers (((s : I) → IsTold (I.state s)) × ((s : O) → IsTold (O.state s))) (map string_bytes words.now) result.status
+        (outside (F.state shelf.old) (I.state input) (O.state out) (E.state err.old))
+        (outside (F.state shelf.new) (I.state result.input) (O.state result.out) (E.state err.new)) }
 {
-    match file_of(words) {
-        Some(file) => run_file(rt, alloc, file, shelf, out, err, pulse),
-        None => say_usage(err),
+    match read(alloc, words) {
+        Ok(request) => answer_request(rt, alloc, request, shelf, input, out, err, pulse),
+        Err(WordsFault::Usage) => {
+            let status = say_usage(err);
+            Given { status, input, out }
+        }
+        Err(WordsFault::OutOfMemory) => {
+            let status = say_out_of_memory(err);
+            Given { status, input, out }
+        }
+    }
+}
+
+/// Does what the words ask for, and gives the status, with the input and out as they were left: 0 where the run ended
+/// normally or the text is accepted, 1 where the text is refused, 2 where the words are wrong, 3 for a fault of the shelf,
+/// 4 where an exception is unhandled, 5 where the turns are spent, 6 for a fault of the input, 7 for a fault of out or err,
+/// and 8 for want of memory.
+///
+/// The words are `MODE FILE [--workers N] [--chunks PLAN] [--turns K] [--vars]`, where MODE is `check` or `run`. The text is
+/// fetched, compiled and run; what it writes goes to out, and a line to err says why the status isn't 0. Once a device has
+/// failed it is not asked again. So far nothing is asked of the runtime and the pulse.
+pub fn run_words<
+    R: Threads + Sync,
+    F: Shelf,
+    I: Source + Drop,
+    O: Sink + Drop,
+    E: Sink,
+    P: Pulse + Sync,
+>(
+    rt: &R,
+    alloc: Global,
+    words: &[String],
+    shelf: &mut F,
+    input: I,
+    out: O,
+    err: &mut E,
+    pulse: &P,
+) -> Finished<I, O>
+    ensures answer { Answered (((s : I) → IsTold (I.state s)) × ((s : O) → IsTold (O.state s))) (map string_bytes words.now) result.status
+        (outside (F.state shelf.old) (I.state input) (O.state out) (E.state err.old))
+        (outside (F.state shelf.new) (I.state result.input) (O.state result.out) (E.state err.new)) }
+
+    // An accepted text is run or accepted, a text with a fault is refused, and wrong words get the usage line.
+    ensures runs { (q : Asked) (told : List ℕ) (c : Compiled) → asked (map string_bytes words.now) ≡ Some q → q.mode ≡ modes.Run → (F.state shelf.old).told q.file ≡ Some told → IsAccepted (fetched told) c →
+        Meets (λ given. RunsUnit (((s : I) → IsTold (I.state s)) × ((s : O) → IsTold (O.state s))) c q.settings q.vars given
+        (devices (I.state input) (O.state out) (E.state err.old)) (devices (I.state result.input) (O.state result.out) (E.state err.new))) result.status
+        (outside (F.state shelf.old) (I.state input) (O.state out) (E.state err.old))
+        (outside (F.state shelf.new) (I.state result.input) (O.state result.out) (E.state err.new)) }
+    ensures checks { (q : Asked) (told : List ℕ) (c : Compiled) → asked (map string_bytes words.now) ≡ Some q → q.mode ≡ modes.Check → (F.state shelf.old).told q.file ≡ Some told → IsAccepted (fetched told) c →
+        Meets (λ given. (I.state result.input ≡ I.state input) × Closes accepted_line given (O.state out) (O.state result.out) (E.state err.old) (E.state err.new)) result.status
+        (outside (F.state shelf.old) (I.state input) (O.state out) (E.state err.old))
+        (outside (F.state shelf.new) (I.state result.input) (O.state result.out) (E.state err.new)) }
+    ensures refuses { (q : Asked) (told : List ℕ) (fault : Complaint) → asked (map string_bytes words.now) ≡ Some q → (F.state shelf.old).told q.file ≡ Some told → IsFaultOf (fetched told) fault →
+        Meets (λ given. Untouched (devices (I.state input) (O.state out) (E.state err.old)) (devices (I.state result.input) (O.state result.out) (E.state err.new))
+        × SaysOrLacks statuses.Refused (ended (line_of q.file fault)) given (E.state err.old) (E.state err.new)) result.status
+        (outside (F.state shelf.old) (I.state input) (O.state out) (E.state err.old))
+        (outside (F.state shelf.new) (I.state result.input) (O.state result.out) (E.state err.new)) }
+    ensures wrong_words { asked (map string_bytes words.now) ≡ None →
+        Meets (λ given. Untouched (devices (I.state input) (O.state out) (E.state err.old)) (devices (I.state result.input) (O.state result.out) (E.state err.new))
+        × Says statuses.Usage usage_line given (E.state err.old) (E.state err.new)) result.status
+        (outside (F.state shelf.old) (I.state input) (O.state out) (E.state err.old))
+        (outside (F.state shelf.new) (I.state result.input) (O.state result.out) (E.state err.new)) }
+
+    // Each status comes by its cause alone.
+    ensures done { result.status ≡ 0 → HasCheck (map string_bytes words.now) (outside (F.state shelf.old) (I.state input) (O.state out) (E.state err.old))
+        ⊎ HasEnding (((s : I) → IsTold (I.state s)) × ((s : O) → IsTold (O.state s))) (map string_bytes words.now) (outside (F.state shelf.old) (I.state input) (O.state out) (E.state err.old)) Ended }
+    ensures refused { result.status ≡ 1 → IsNotAccepted (map string_bytes words.now) (outside (F.state shelf.old) (I.state input) (O.state out) (E.state err.old)) }
+    ensures usage { result.status ≡ 2 → asked (map string_bytes words.now) ≡ None }
+    ensures shelf_fault { result.status ≡ 3 → Rose (F.state shelf.old) (F.state shelf.new) }
+    ensures raised { result.status ≡ 4 → (why : Reason) × HasEnding (((s : I) → IsTold (I.state s)) × ((s : O) → IsTold (O.state s))) (map string_bytes words.now) (outside (F.state shelf.old) (I.state input) (O.state out) (E.state err.old)) (Raised why) }
+    ensures spent { result.status ≡ 5 → HasEnding (((s : I) → IsTold (I.state s)) × ((s : O) → IsTold (O.state s))) (map string_bytes words.now) (outside (F.state shelf.old) (I.state input) (O.state out) (E.state err.old)) TurnsSpent }
+    ensures read_fault { result.status ≡ 6 → Rose (I.state input) (I.state result.input) }
+    ensures write_fault { result.status ≡ 7 → Rose (O.state out) (O.state result.out) ⊎ Rose (E.state err.old) (E.state err.new) }
+
+    // A call that failed is not made good: a count that is greater than before gives its status.
+    ensures out_counts { (O.state out).faults < (O.state result.out).faults → result.status ≡ 7 }
+    ensures err_counts { (E.state err.old).faults < (E.state err.new).faults → result.status ≡ 7 }
+    ensures input_counts { (I.state input).faults < (I.state result.input).faults → (result.status ≡ 6) ⊎ (result.status ≡ 7) }
+    ensures shelf_counts { (F.state shelf.old).faults < (F.state shelf.new).faults → (result.status ≡ 3) ⊎ (result.status ≡ 7) ⊎ (result.status ≡ 8) }
+{
+    let Given { status, input, out } = answer_words(
+        rt, alloc, words, shelf, input, out, err, pulse,
+    );
+    Finished {
+        status: status.number(),
+        input,
+        out,
     }
 }

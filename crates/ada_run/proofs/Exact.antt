@@ -1,5 +1,5 @@
 -- Each phase is exact, and so is all of compiling.
-use Rattle.std.proofs.Common.{◌≡◌, ◌⊎◌, inl, inr, ℕ, List, subst, sym, ◌∙◌, ap, Result, Ok, Err}
+use Rattle.std.proofs.Common.{◌≡◌, ◌⊎◌, inl, inr, ℕ, List, [], ◌∷◌, Option, Some, None, subst, sym, ◌∙◌, ap, Result, Ok, Err}
 use Rattle.std.specs.Str.{chars}
 use Rattle.ada_base.specs.Derivations.{Derives, DerivesWithin}
 use Rattle.ada_base.specs.Tokens.{Tokenized}
@@ -12,13 +12,20 @@ use Rattle.ada_tree.specs.Grammar.{ProgramWords}
 use Rattle.ada_tree.specs.Parsed.{IsParsed, depth_limit}
 use Rattle.ada_tree.specs.Syntax as syntax
 use Rattle.ada_base.specs.TokenKinds.{kinds_of}
-use Rattle.first_form.specs.Program.{Program}
-use Rattle.first_form.specs.Forming.{program_at}
+use Rattle.ada_typed.specs.Syntax as typed
+use Rattle.name_faults.specs.Least.{least_of}
+use Rattle.name_programs.specs.Resolving.{IsTold, least_fault}
+use Rattle.name_rules.specs.Programs.{Whole}
+use Rattle.name_rules.specs.Resolved.{TypedOf, judged, typed_by, typed_where}
+use Rattle.name_rules.specs.declared.log.Fault as names
+use Rattle.name_rules.specs.declared.scope.Names.{Names}
+use Rattle.name_symbols.specs.Naming.{names_of}
 use Rattle.ada_grammar.proofs.Verdicts.{one_tree, one_deep}
 use Rattle.reader_combinators.proofs.FirstFaults as first
-use Rattle.ada_run.specs.Compile.{lexing, parsing, forming, reading, compiling, formed}
+use Rattle.ada_run.specs.Built.{built, misnamed}
+use Rattle.ada_run.specs.Compile.{lexing, parsing, naming, building, reading, compiling}
 use Rattle.ada_run.specs.Complaints.{Complaint, lexical, unexpected, too_deep}
-use Rattle.ada_run.specs.Phases.{IsExact}
+use Rattle.ada_run.specs.Phases.{IsExact, followed}
 use Rattle.ada_run.proofs.Phases.{followed_exact, function_exact}
 
 abbrev tokenized : List ℕ → List Token → Tokenized
@@ -57,8 +64,32 @@ parsing_exact = record {
     none t a x r (inl (k, f, same)) = first.tree_or_fault ProgramWords (kinds_of t.items) a k (derived (kinds_of t.items) a r) f.fault
     none t a x r (inr (k, f, same)) = first.tree_or_deep depth_limit ProgramWords (kinds_of t.items) a k r f
 
-pub forming_exact : (t : Tokenized) → IsExact (forming t)
-forming_exact t = function_exact (λ tree. formed t (program_at t tree))
+some_is : {A : Type 0} (x y : A) → (let a : Option A = Some x in a ≡ Some y) → x ≡ y
+some_is x y e = cc
+
+some_or_none : {A : Type 0} (x : A) → (let a : Option A = Some x in a ≡ None) → ⊥
+some_or_none x e = absurd cc
+
+-- a program with a fault has no typed program
+no_typed : (fs : List names.Fault) (p : Option typed.Program) (program : typed.Program) (f : names.Fault) → Some program ≡ typed_where fs p → least_of fs ≡ Some f → ⊥
+no_typed [] p program f e h = some_or_none f (sym h)
+no_typed (g ∷ fs) p program f e h = some_or_none program e
+
+pub naming_exact : (t : Tokenized) → IsExact (naming t)
+naming_exact t = record {
+  one_result = λ tree p q r s. some_is p q (r ∙ sym s);
+  one_fault = λ tree x y (f, v, same) (g, w, same'). same ∙ ap (misnamed t) (some_is f g (sym v.0 ∙ w.0)) ∙ sym same';
+  apart = λ tree p x r (f, v, same). none tree p f r v;
+}
+  where
+    none : (tree : syntax.Program) (p : typed.Program) (f : names.Fault) → Some p ≡ TypedOf (names_of t tree) tree → IsTold (names_of t tree) tree (Some f) → ⊥
+    none tree p f r v = no_typed (judged (names_of t tree) tree).1.faults _ p f r v.0
+
+pub building_exact : (t : Tokenized) → IsExact (building t)
+building_exact t = function_exact (built t)
+
+whole_exact : (t : Tokenized) → IsExact (followed (naming t) (λ tree. building t))
+whole_exact t = followed_exact (naming t) (λ tree. building t) (naming_exact t) (λ tree. building_exact t)
 
 pub compiling_exact : IsExact compiling
-compiling_exact = followed_exact lexing (λ text. reading) lexing_exact (λ text. followed_exact parsing forming parsing_exact forming_exact)
+compiling_exact = followed_exact lexing (λ text. reading) lexing_exact (λ text. followed_exact parsing (λ t. followed (naming t) (λ tree. building t)) parsing_exact whole_exact)

@@ -4,3 +4,6 @@ pub mod Places
 pub mod Steps
 pub mod Words
 mod Leavings
+mod FromTheOutset
+mod Truths
+mod Declaring

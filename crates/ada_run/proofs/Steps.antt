@@ -1,16 +1,26 @@
 -- What a phase answers is what all phases answer.
-use Rattle.std.proofs.Common.{◌≡◌, ◌⊎◌, inl, inr, ℕ, List, Bool, true, false, Some, None, refl, subst, sym, ◌∙◌, ap, Result, Ok, Err}
+use Rattle.std.proofs.Common.{◌≡◌, ◌⊎◌, inl, inr, ℕ, List, [], ◌∷◌, Option, Bool, true, false, Some, None, refl, subst, sym, ◌∙◌, ap, Result, Ok, Err}
 use Rattle.ada_base.specs.Tokens.{Tokenized, kind_at, place_of_token}
+use Rattle.std.specs.List.{list_any}
+use Rattle.std.specs.Prelude.{◌||◌, map, slice_get}
+use Rattle.ada_typed.specs.Programs.{sub_of}
+use Rattle.ada_typed.specs.declared.node.Node.{Node}
+use Rattle.ada_typed.specs.declared.program.Sub as program
 use Rattle.ada_tree.specs.Parsed.{IsSyntaxFault, IsTooDeep, is_left_out}
 use Rattle.ada_tree.specs.Syntax as syntax
-use Rattle.first_form.specs.Forming.{program_at}
-use Rattle.first_form.specs.Program.{Program, first_undeclared}
-use Rattle.first_form.specs.declared.program.Letter.{Letter}
-use Rattle.ada_run.specs.Compile.{compiling, parsing, forming, formed, named, IsRefusal, Decides, refusal_of, GivesProgram, GivesRefusal}
-use Rattle.ada_run.specs.Complaints.{Complaint, complaint, left_out, unexpected, unexpected_kind, too_deep, not_built, unknown_name}
+use Rattle.ada_typed.specs.Syntax as typed
+use Rattle.ada_typed.specs.declared.program.Site.{Site}
+use Rattle.name_programs.specs.Resolving.{IsTold, Resolved, fault_of}
+use Rattle.name_programs.specs.declared.resolving.NameFault.{NameFault}
+use Rattle.name_rules.specs.declared.log.Fault as names
+use Rattle.name_symbols.specs.Naming.{names_of}
+use Rattle.ada_run.specs.Built.{built, built_with, is_nonblocking, misnamed}
+use Rattle.ada_run.specs.Compile.{compiling, parsing, naming, building, IsRefusal, Decides, named_refusal, refusal_of, GivesUnit, GivesRefusal}
+use Rattle.ada_run.specs.Complaints.{Complaint, complaint, left_out, unexpected, unexpected_kind, too_deep, beginning, not_built}
 use Rattle.ada_run.specs.declared.note.Note.TheVariants as note
 use Rattle.ada_run.specs.Phases.{Phase, followed}
-use Rattle.ada_run.specs.declared.compiler.Unit.{Unit}
+use Rattle.ada_run.specs.Compiled.{Compiled, compiled, compiled_of}
+use Rattle.ada_run.specs.declared.units.Unit.{Unit}
 use Rattle.ada_run.specs.declared.refusal.Refusal.{Refusal}
 use Rattle.ada_run.specs.declared.refusal.Refusal.TheVariants.{Refused, OutOfMemory}
 use Rattle.ada_run.proofs.Exact.{compiling_exact}
@@ -30,13 +40,13 @@ pub refuses : {A B : Type 0} (p : Phase A B Complaint) (a : A) (c : Complaint) (
 refuses p a c r wrong same = subst (IsRefusal p a) (sym same) (c, wrong, refl)
 
 -- what compile says of an accepted text and of one with a fault
-pub gives_program : (text : List ℕ) (result : Result Unit Refusal) (p : Program) → Decides compiling (λ (unit : Unit). unit.program) text result → compiling.right text p → GivesProgram result p
-gives_program text (Ok unit) p is accepted = compiling_exact.one_result text unit.program p is accepted
-gives_program text (Err OutOfMemory) p is accepted = refl
-gives_program text (Err (Refused code at other note)) p (c, wrong, same) accepted = absurd (compiling_exact.apart text p c accepted wrong)
+pub gives_unit : (text : List ℕ) (result : Result Unit Refusal) (due : Compiled) → Decides compiling compiled_of text result → compiling.right text due → GivesUnit result due
+gives_unit text (Ok unit) due is accepted = compiling_exact.one_result text (compiled_of unit) due is accepted
+gives_unit text (Err OutOfMemory) due is accepted = refl
+gives_unit text (Err (Refused code at other note)) due (c, wrong, same) accepted = absurd (compiling_exact.apart text due c accepted wrong)
 
-pub gives_refusal : (text : List ℕ) (result : Result Unit Refusal) (f : Complaint) → Decides compiling (λ (unit : Unit). unit.program) text result → compiling.wrong text f → GivesRefusal result (refusal_of f)
-gives_refusal text (Ok unit) f is wrong = compiling_exact.apart text unit.program f is wrong
+pub gives_refusal : (text : List ℕ) (result : Result Unit Refusal) (f : Complaint) → Decides compiling compiled_of text result → compiling.wrong text f → GivesRefusal result (refusal_of f)
+gives_refusal text (Ok unit) f is wrong = compiling_exact.apart text (compiled_of unit) f is wrong
 gives_refusal text (Err OutOfMemory) f is wrong = inl refl
 gives_refusal text (Err (Refused code at other note)) f (c, is, same) wrong = inr (same ∙ ap refusal_of (compiling_exact.one_fault text c f is wrong))
 
@@ -54,10 +64,51 @@ refuses_syntax t token r fault left same = unexpected_refused t token false r fa
 pub refuses_deep : (t : Tokenized) (token : ℕ) (r : Refusal) → IsTooDeep t.items token → r ≡ refusal_of (too_deep t token) → IsRefusal parsing t r
 refuses_deep t token r fault same = refuses parsing t (too_deep t token) r (inr (token, fault, refl)) same
 
--- the refusals of forming: of another form, and of a name without a declaration
-pub refuses_form : (t : Tokenized) (tree : syntax.Program) (r : Refusal) → program_at t tree ≡ None → r ≡ refusal_of not_built → IsRefusal (forming t) tree r
-refuses_form t tree r none same = refuses (forming t) tree not_built r (ap (formed t) none) same
+-- the refusals of names and types
+refuses_told : (t : Tokenized) (tree : syntax.Program) (o : Option names.Fault) → IsTold (names_of t tree) tree o → IsRefusal (naming t) tree (named_refusal t o)
+refuses_told t tree None told = tt
+refuses_told t tree (Some f) told = (misnamed t f, (f, told, refl), refl)
 
-pub refuses_name : (t : Tokenized) (tree : syntax.Program) (p : Program) (letter : Letter) (r : Refusal) → program_at t tree ≡ Some p → first_undeclared p ≡ Some letter → r ≡ refusal_of (unknown_name t letter.token) → IsRefusal (forming t) tree r
-refuses_name t tree p letter r found unknown same =
-    refuses (forming t) tree (unknown_name t letter.token) r (ap (formed t) found ∙ ap (named t p) unknown) same
+pub refuses_names : (t : Tokenized) (tree : syntax.Program) (fault : NameFault) (r : Refusal) → Resolved (names_of t tree) tree (Err fault) → r ≡ named_refusal t (fault_of fault) → IsRefusal (naming t) tree r
+refuses_names t tree fault r told same = subst (IsRefusal (naming t) tree) (sym same) (refuses_told t tree (fault_of fault) told)
+
+-- the refusals of what isn't built, and the unit of what is
+some_is : {A : Type 0} (x y : A) → (let a : Option A = Some x in a ≡ Some y) → x ≡ y
+some_is x y e = cc
+
+some_or_none : {A : Type 0} (x : A) → (let a : Option A = Some x in a ≡ None) → ⊥
+some_or_none x e = absurd cc
+
+none_or_some : {A : Type 0} (x : A) → (let a : Option A = None in a ≡ Some x) → ⊥
+none_or_some x e = absurd cc
+
+site_told : (t : Tokenized) (p : typed.Program) (sites : List Site) (s : Site) (b : Bool) → slice_get sites 0 ≡ Some s → built_with t p sites b ≡ Err (not_built (place_of_token t s.at))
+site_told t p [] s b e = absurd (none_or_some s e)
+site_told t p (x ∷ xs) s b e = ap (λ (y : Site). told y) (some_is x s e) where
+  told : Site → Result Compiled Complaint
+  told y = Err (not_built (place_of_token t y.at))
+
+no_site : (sites : List Site) → slice_get sites 0 ≡ None → sites ≡ []
+no_site [] e = refl
+no_site (x ∷ xs) e = absurd (some_or_none x e)
+
+pub refuses_site : (t : Tokenized) (p : typed.Program) (s : Site) (r : Refusal) → slice_get p.sites 0 ≡ Some s → r ≡ refusal_of (complaint note.NotBuilt (place_of_token t s.at)) → IsRefusal (building t) p r
+refuses_site t p s r sites same = refuses (building t) p (not_built (place_of_token t s.at)) r (site_told t p p.sites s (p.nonblocking || is_nonblocking p.subs) sites) same
+
+both : (t : Tokenized) (p : typed.Program) (b : Bool) → slice_get p.sites 0 ≡ None → (p.nonblocking || is_nonblocking p.subs) ≡ b → built t p ≡ built_with t p [] b
+both t p b sites is = ap (λ (x : List Site). built_with t p x (p.nonblocking || is_nonblocking p.subs)) (no_site p.sites sites) ∙ ap (built_with t p []) is
+
+pub refuses_nonblocking : (t : Tokenized) (p : typed.Program) (r : Refusal) → slice_get p.sites 0 ≡ None → (p.nonblocking || is_nonblocking p.subs) ≡ true → r ≡ refusal_of (complaint note.NotBuilt beginning) → IsRefusal (building t) p r
+refuses_nonblocking t p r sites is same = refuses (building t) p (not_built beginning) r (both t p true sites is) same
+
+ok_compiled : Compiled → Result Compiled Complaint
+ok_compiled x = Ok x
+
+pub builds : (t : Tokenized) (p : typed.Program) (c : Compiled) → slice_get p.sites 0 ≡ None → (p.nonblocking || is_nonblocking p.subs) ≡ false → c ≡ compiled t p → built t p ≡ Ok c
+unfolding ok_compiled
+builds t p c sites is same = both t p false sites is ∙ ap ok_compiled (sym same)
+
+-- whether one of some subprograms is nonblocking, as a table has them
+pub any_decoded : (nodes : List Node) (ss : List program.Sub) → is_nonblocking (map (sub_of nodes) ss) ≡ list_any (λ (s : program.Sub). s.nonblocking) ss
+any_decoded nodes [] = refl
+any_decoded nodes (s ∷ ss) = ap (λ z. s.nonblocking || z) (any_decoded nodes ss)

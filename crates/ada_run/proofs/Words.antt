@@ -1,6 +1,7 @@
 -- The word of a fault is that of the token at its place.
-use Rattle.std.proofs.Common.{◌≡◌, ◌⊎◌, inl, inr, ℕ, ◌<◌, ◌≤◌, Bool, true, false, List, length, Option, Some, None, Result, Ok, Err, refl, sym, ap, ◌∙◌, subst, arith, true≢false, ⊎_elim}
+use Rattle.std.proofs.Common.{◌≡◌, ◌⊎◌, inl, inr, ℕ, ◌<◌, ◌≤◌, Bool, true, false, List, [], ◌∷◌, length, Option, Some, None, Result, Ok, Err, refl, sym, ap, ◌∙◌, subst, arith, true≢false, ⊎_elim}
 use Rattle.std.proofs.lemmas.Bool.{cases_lt}
+use Rattle.std.specs.Prelude.{◌||◌}
 use lib.ListN.{get_or-eq_default}
 use Rattle.ada_base.specs.Place.{place_at}
 use Rattle.ada_base.specs.Tokens.{Tokenized, kind_at, place_of_token}
@@ -12,17 +13,18 @@ use Rattle.ada_lexer.specs.Lexed.{AreLexed}
 use Rattle.ada_tree.specs.Faults.{Fault}
 use Rattle.ada_tree.specs.Faults.Fault.{TooManyBytes, NoCharacter, NoToken, TooWide, TooManyTokens}
 use Rattle.ada_tree.specs.Parsed.{is_left_out}
-use Rattle.first_form.specs.Forming.{program_at}
-use Rattle.first_form.specs.Program.{Program, first_undeclared}
-use Rattle.first_form.specs.declared.program.Letter.{Letter}
-use Rattle.ada_run.specs.Compile.{IsFaultOf, IsRefusalOf, parsing, forming, formed, named, refusal_of}
-use Rattle.ada_run.specs.Complaints.{Complaint, complaint, beginning, lexical, left_out, unexpected, unexpected_kind, too_deep, not_built, unknown_name}
-use Rattle.ada_run.specs.Lines.{HasFaultAt, IsLineOf, IsWordOf, line_of, said_at, word_text, left_out_text}
+use Rattle.ada_typed.specs.Syntax as typed
+use Rattle.ada_typed.specs.declared.program.Site.{Site}
+use Rattle.name_rules.specs.declared.log.Rule.{Rule}
+use Rattle.name_rules.specs.declared.log.Rule.TheVariants as rule
+use Rattle.ada_run.specs.Built.{built_with, is_nonblocking, misnamed, note_of}
+use Rattle.ada_run.specs.Compile.{IsFaultOf}
+use Rattle.ada_run.specs.Compiled.{Compiled, compiled}
+use Rattle.ada_run.specs.Complaints.{Complaint, complaint, beginning, lexical, left_out, unexpected, unexpected_kind, too_deep, not_built}
+use Rattle.ada_run.specs.Lines.{HasFaultAt, IsWordOf, word_text, left_out_text}
 use Rattle.ada_run.specs.Notes.{code_of}
 use Rattle.ada_run.specs.declared.note.Note.{Note}
 use Rattle.ada_run.specs.declared.note.Note.TheVariants as note
-use Rattle.ada_run.specs.declared.refusal.Refusal.{Refusal}
-use Rattle.ada_run.specs.declared.refusal.Refusal.TheVariants.{Refused, OutOfMemory}
 use Rattle.ada_run.proofs.Exact.{compiling_exact, same_tokens}
 use Rattle.ada_run.proofs.Phases.{err_is, ok_or_err}
 
@@ -67,18 +69,34 @@ tells_unexpected text t token lexed = go (is_left_out (kind_at t.items token)) r
   go true left = inr (record { tokens = t; lexed = lexed; token = token; within = is_token t.items token left; note_is = refl; place_is = refl; kind_is = refl })
   go false left = inl (plain note.Syntax (place_of_token t token) (λ e. omega (arith, e)))
 
-tells_formed : (text : List ℕ) (t : Tokenized) (o : Option Program) (fault : Complaint) → formed t o ≡ Err fault → Tells text fault
-tells_formed text t None fault e = subst (Tells text) (err_is not_built fault e) (inl (plain note.NotBuilt beginning (λ e. omega (arith, e))))
-tells_formed text t (Some program) fault e = go (first_undeclared program) e where
-  go : (o : Option Letter) → named t program o ≡ Err fault → Tells text fault
-  go None e = absurd (ok_or_err program fault e)
-  go (Some letter) e = subst (Tells text) (err_is (unknown_name t letter.token) fault e) (inl (plain note.UnknownName (place_of_token t letter.token) (λ e. omega (arith, e))))
+-- no rule of names and types is told by the note of a token that is left out
+not_left_out : (r : Rule) → code_of (note_of r) ≡ 4 → ⊥
+not_left_out rule.Unknown e = omega (arith, e)
+not_left_out rule.Twice e = omega (arith, e)
+not_left_out rule.NotVisible e = omega (arith, e)
+not_left_out rule.WrongEnd e = omega (arith, e)
+not_left_out rule.PolicyName e = omega (arith, e)
+not_left_out rule.WrongType e = omega (arith, e)
+not_left_out rule.NotStatic e = omega (arith, e)
+not_left_out rule.StaticRange e = omega (arith, e)
+not_left_out rule.ChunkRule e = omega (arith, e)
+not_left_out rule.ReduceRule e = omega (arith, e)
+not_left_out (rule.Limit which count) e = omega (arith, e)
+
+unbuilt : (text : List ℕ) (place : Place) (fault : Complaint) → not_built place ≡ fault → Tells text fault
+unbuilt text place fault e = subst (Tells text) e (inl (plain note.NotBuilt place (λ h. omega (arith, h))))
+
+tells_built : (text : List ℕ) (t : Tokenized) (p : typed.Program) (sites : List Site) (b : Bool) (fault : Complaint) → built_with t p sites b ≡ Err fault → Tells text fault
+tells_built text t p (s ∷ ss) b fault e = unbuilt text (place_of_token t s.at) fault (err_is (not_built (place_of_token t s.at)) fault e)
+tells_built text t p [] true fault e = unbuilt text beginning fault (err_is (not_built beginning) fault e)
+tells_built text t p [] false fault e = absurd (ok_or_err (compiled t p) fault e)
 
 tells : (text : List ℕ) (fault : Complaint) → IsFaultOf text fault → Tells text fault
 tells text fault (inl (f, first, same)) = subst (Tells text) (sym same) (inl (tells_lexical text f))
 tells text fault (inr (t, lexed, inl (inl (token, first, same)))) = subst (Tells text) (sym same) (tells_unexpected text t token lexed)
 tells text fault (inr (t, lexed, inl (inr (token, deep, same)))) = subst (Tells text) (sym same) (inl (plain note.LimitPassed (place_of_token t token) (λ e. omega (arith, e))))
-tells text fault (inr (t, lexed, inr (tree, parsed, wrong))) = tells_formed text t (program_at t tree) fault wrong
+tells text fault (inr (t, lexed, inr (tree, parsed, inl (f, told, same)))) = subst (Tells text) (sym same) (inl (plain (note_of f.rule) (place_of_token t f.at) (not_left_out f.rule)))
+tells text fault (inr (t, lexed, inr (tree, parsed, inr (p, named, wrong)))) = tells_built text t p p.sites (p.nonblocking || is_nonblocking p.subs) fault wrong
 
 module _ (text : List ℕ) (at : Place) where
   -- a fault with another note has no word

@@ -5,13 +5,17 @@ use Rattle.ada_lexer.specs.Lexed.{AreLexed}
 use Rattle.ada_tree.specs.Faults.{Fault, IsFirstFault}
 use Rattle.ada_tree.specs.Parsed.{IsParsed, IsSyntaxFault, IsTooDeep}
 use Rattle.ada_tree.specs.Syntax as syntax
-use Rattle.first_form.specs.Forming.{program_at}
-use Rattle.first_form.specs.Program.{Program, first_undeclared}
-use Rattle.first_form.specs.declared.program.Letter.{Letter}
-use Rattle.ada_run.specs.Complaints.{Complaint, lexical, unexpected, too_deep, not_built, unknown_name}
+use Rattle.ada_typed.specs.Syntax as typed
+use Rattle.name_rules.specs.Resolved.{TypedOf}
+use Rattle.name_rules.specs.declared.log.Fault as names
+use Rattle.name_programs.specs.Resolving.{IsTold}
+use Rattle.name_symbols.specs.Naming.{names_of}
+use Rattle.ada_run.specs.Complaints.{Complaint, lexical, unexpected, too_deep}
+use Rattle.ada_run.specs.Built.{misnamed, built}
 use Rattle.ada_run.specs.Notes.{code_of}
 use Rattle.ada_run.specs.Phases.{Phase, followed, by_function}
-use Rattle.ada_run.specs.declared.compiler.Unit.{Unit}
+use Rattle.ada_run.specs.Compiled.{Compiled, compiled_of}
+use Rattle.ada_run.specs.declared.units.Unit.{Unit}
 use Rattle.ada_run.specs.declared.refusal.Refusal.{Refusal}
 use Rattle.ada_run.specs.declared.refusal.Refusal.TheVariants.{Refused, OutOfMemory}
 
@@ -31,29 +35,27 @@ parsing = record {
       ⊎ ((token : ℕ) × IsTooDeep t.items token × (c ≡ too_deep t token));
 }
 
--- each variable that a program of the first form uses is declared (8.3)
-abbrev pub named : Tokenized → Program → Option Letter → Result Program Complaint
-named t program None = Ok program
-named t program (Some letter) = Err (unknown_name t letter.token)
+-- from a tree to its typed program; wrong is the least fault of its names and types (3 to 11)
+abbrev pub naming : Tokenized → Phase syntax.Program typed.Program Complaint
+naming t = record {
+  right = λ tree program. Some program ≡ TypedOf (names_of t tree) tree;
+  wrong = λ tree c. (fault : names.Fault) × IsTold (names_of t tree) tree (Some fault) × (c ≡ misnamed t fault);
+}
 
-abbrev pub formed : Tokenized → Option Program → Result Program Complaint
-formed t None = Err not_built
-formed t (Some program) = named t program (first_undeclared program)
-
--- from a tree to its program: wrong is another form than the first, or a name without a declaration
-abbrev pub forming : Tokenized → Phase syntax.Program Program Complaint
-forming t = by_function (λ tree. formed t (program_at t tree))
+-- from a typed program to its unit; wrong is what isn't built yet
+abbrev pub building : Tokenized → Phase typed.Program Compiled Complaint
+building t = by_function (built t)
 
 -- all of it
-abbrev pub reading : Phase Tokenized Program Complaint
-reading = followed parsing forming
+abbrev pub reading : Phase Tokenized Compiled Complaint
+reading = followed parsing (λ t. followed (naming t) (λ tree. building t))
 
-abbrev pub compiling : Phase (List ℕ) Program Complaint
+abbrev pub compiling : Phase (List ℕ) Compiled Complaint
 compiling = followed lexing (λ text. reading)
 
--- a text that is accepted, with its program, and the fault of one that isn't
-abbrev pub IsAccepted : List ℕ → Program → Type 0
-IsAccepted text program = compiling.right text program
+-- a text that is accepted, with what it is compiled to, and the fault of one that isn't
+abbrev pub IsAccepted : List ℕ → Compiled → Type 0
+IsAccepted text compiled = compiling.right text compiled
 
 abbrev pub IsFaultOf : List ℕ → Complaint → Type 0
 IsFaultOf text fault = compiling.wrong text fault
@@ -61,6 +63,11 @@ IsFaultOf text fault = compiling.wrong text fault
 -- what is told of a fault: all but the kind of a token that is left out, which is found by its place
 abbrev pub refusal_of : Complaint → Refusal
 refusal_of c = Refused (code_of c.note) c.at c.other c.note
+
+-- what is told of a fault of names and types; without one, that memory ran out
+abbrev pub named_refusal : Tokenized → Option names.Fault → Refusal
+named_refusal t None = OutOfMemory
+named_refusal t (Some fault) = refusal_of (misnamed t fault)
 
 -- a refusal for a fault of what a phase is given, or for want of memory
 abbrev pub IsRefusal : {A B : Type 0} → Phase A B Complaint → A → Refusal → Type 0
@@ -75,10 +82,10 @@ Decides p see a (Err refusal) = IsRefusal p a refusal
 abbrev pub IsRefusalOf : List ℕ → Refusal → Type 0
 IsRefusalOf text refusal = IsRefusal compiling text refusal
 
--- the result is this program, unless memory ran out
-abbrev pub GivesProgram : Result Unit Refusal → Program → Type 0
-GivesProgram (Ok unit) program = unit.program ≡ program
-GivesProgram (Err refusal) program = refusal ≡ OutOfMemory
+-- the result is this unit, unless memory ran out
+abbrev pub GivesUnit : Result Unit Refusal → Compiled → Type 0
+GivesUnit (Ok unit) due = compiled_of unit ≡ due
+GivesUnit (Err refusal) due = refusal ≡ OutOfMemory
 
 -- the result is this refusal, unless memory ran out
 abbrev pub GivesRefusal : Result Unit Refusal → Refusal → Type 0

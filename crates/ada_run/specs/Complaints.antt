@@ -48,10 +48,6 @@ unexpected t token = unexpected_kind (is_left_out (kind_at t.items token)) (kind
 abbrev pub too_deep : Tokenized → ℕ → Complaint
 too_deep t token = complaint note.LimitPassed (place_of_token t token)
 
--- a text of another form than those that are built is blamed at its beginning
-abbrev pub not_built : Complaint
-not_built = complaint note.NotBuilt beginning
-
--- a name without a declaration
-abbrev pub unknown_name : Tokenized → ℕ → Complaint
-unknown_name t token = complaint note.UnknownName (place_of_token t token)
+-- what isn't built yet
+abbrev pub not_built : Place → Complaint
+not_built place = complaint note.NotBuilt place

@@ -6,45 +6,39 @@ ghost use Rattle.ada_base.specs.Place.{place_at};
 ghost use Rattle.ada_tree.specs.Faults.{byte_limit};
 ghost use Rattle.ada_grammar.specs.Parsed.{Parsed};
 ghost use Rattle.ada_lexer.specs.Lexed.{Tells};
-ghost use Rattle.first_form.specs.Program.{Program};
 ghost use Rattle.tree_views.specs.Trees.{program_of};
 ghost use Rattle.ada_run.specs.Complaints.{Complaint};
-ghost use Rattle.ada_run.specs.Compile.{Decides, IsRefusal, lexing, parsing, forming, reading, compiling, refusal_of, IsAccepted, IsFaultOf, IsRefusalOf, GivesProgram, GivesRefusal};
+ghost use Rattle.ada_run.specs.Compile.{Decides, IsRefusal, lexing, parsing, naming, building, reading, compiling, refusal_of, IsAccepted, IsFaultOf, IsRefusalOf, GivesUnit, GivesRefusal};
+ghost use Rattle.ada_run.specs.Phases.{followed};
+ghost use Rattle.ada_run.specs.Compiled.{Compiled, compiled_of};
 
+use crate::naming::{built, typed_of};
 use crate::note::Note;
-use crate::refusal::Refusal;
+use crate::refusal::{BEGINNING, Refusal};
+use crate::units::Unit;
 use ada_base::{Place, Tokens, place_of};
 use ada_grammar::{ParseFault, parse};
 use ada_lexer::{LexFault, lex};
-use first_form::{FirstForm, NoForm, first_form, first_undeclared};
 use std::alloc::Global;
 use tree_views::Tree;
 
-/// What a text is compiled to: so far its program.
-#[derive(Debug, Drop)]
-pub struct Unit {
-    pub program: FirstForm,
-}
-
-const BEGINNING: Place = Place { line: 1, column: 1 };
-
 /// Compiles a text, which is given by its bytes. A text that isn't accepted is refused by its one fault: its first
 /// lexical fault (`E01`, `E02`, `E12`); else its first syntax fault, at a token that the language leaves out (`E04`) or
-/// at another (`E03`), or the first token that stands deeper than 64 (`E12`), whichever comes first; else `E13 not built
-/// yet`, at the text's beginning, where it isn't of the first form; and else `E05 unknown name` at the first variable
-/// whose letter isn't declared. An accepted text gets its unit, and every fault of a text its refusal, unless memory
-/// runs out.
+/// at another (`E03`), or the first token that stands deeper than 64 (`E12`), whichever comes first; else the least fault
+/// of its names and types (`E05`, `E06`, `E07`, `E11`, `E12`); and else `E13 not built yet`, at its first parallel
+/// construct, or at the text's beginning where a subprogram is nonblocking. An accepted text gets its unit, and every
+/// fault of a text its refusal, unless memory runs out.
 pub fn compile(alloc: Global, text: &[u8]) -> Result<Unit, Refusal>
-    ensures accepted { IfOk result (λ unit. IsAccepted text.now unit.program) }
+    ensures accepted { IfOk result (λ unit. IsAccepted text.now (compiled_of unit)) }
     ensures refused { IfErr result (IsRefusalOf text.now) }
-    ensures all_accepted { (program : Program) → IsAccepted text.now program → GivesProgram result program }
+    ensures all_accepted { (due : Compiled) → IsAccepted text.now due → GivesUnit result due }
     ensures all_refused { (fault : Complaint) → IsFaultOf text.now fault → GivesRefusal result (refusal_of fault) }
 {
     compiled(alloc, text)
 }
 
 fn compiled(alloc: Global, text: &[u8]) -> Result<Unit, Refusal>
-    ensures { Decides compiling (λ unit. unit.program) text.now result }
+    ensures { Decides compiling compiled_of text.now result }
 {
     match tokens_of(alloc, text) {
         Ok(tokens) => unit_of(alloc, &tokens),
@@ -53,14 +47,27 @@ fn compiled(alloc: Global, text: &[u8]) -> Result<Unit, Refusal>
 }
 
 fn unit_of(alloc: Global, tokens: &Tokens) -> Result<Unit, Refusal>
-    ensures { Decides reading (λ unit. unit.program) tokens.now result }
+    ensures { Decides reading compiled_of tokens.now result }
 {
     let tree = match tree_of(alloc, tokens) {
         Ok(tree) => tree,
         Err(refusal) => return Err(refusal),
     };
-    match program_of(alloc, tokens, &tree) {
-        Ok(program) => Ok(Unit { program }),
+    match whole_of(alloc, tokens, &tree) {
+        Ok(unit) => Ok(unit),
+        Err(refusal) => Err(refusal),
+    }
+}
+
+fn whole_of(alloc: Global, tokens: &Tokens, tree: &Tree) -> Result<Unit, Refusal>
+    ensures { Decides (followed (naming tokens.now) (λ tree. building tokens.now)) compiled_of (program_of tree.now) result }
+{
+    let typed = match typed_of(alloc, tokens, tree) {
+        Ok(typed) => typed,
+        Err(refusal) => return Err(refusal),
+    };
+    match built(alloc, tokens, typed) {
+        Ok(unit) => Ok(unit),
         Err(refusal) => Err(refusal),
     }
 }
@@ -80,20 +87,6 @@ fn tree_of(alloc: Global, tokens: &Tokens) -> Result<Tree, Refusal>
     match parse(alloc, tokens) {
         Ok(tree) => Ok(tree),
         Err(fault) => Err(syntax_refusal(tokens, fault)),
-    }
-}
-
-fn program_of(alloc: Global, tokens: &Tokens, tree: &Tree) -> Result<FirstForm, Refusal>
-    ensures { Decides (forming tokens.now) (λ program. program) (program_of tree.now) result }
-{
-    let program = match first_form(alloc, tokens, tree) {
-        Ok(program) => program,
-        Err(NoForm::OtherForm) => return Err(Refusal::of(Note::NotBuilt, BEGINNING)),
-        Err(NoForm::OutOfMemory) => return Err(Refusal::OutOfMemory),
-    };
-    match first_undeclared(&program) {
-        Some(variable) => Err(Refusal::of(Note::UnknownName, tokens.place(variable.token))),
-        None => Ok(program),
     }
 }
 
@@ -138,9 +131,9 @@ fn place_of_byte(text: &[u8], at: usize) -> Place
     }
 }
 
-/// A text has at most one program, at most one fault, and not both.
+/// A text has at most one unit, at most one fault, and not both.
 pub fn one_answer()
-    ensures program { (text : List ℕ) (p q : Program) → IsAccepted text p → IsAccepted text q → p ≡ q }
+    ensures unit { (text : List ℕ) (p q : Compiled) → IsAccepted text p → IsAccepted text q → p ≡ q }
     ensures fault { (text : List ℕ) (f g : Complaint) → IsFaultOf text f → IsFaultOf text g → f ≡ g }
-    ensures not_both { (text : List ℕ) (p : Program) (f : Complaint) → IsAccepted text p → IsFaultOf text f → ⊥ }
+    ensures not_both { (text : List ℕ) (p : Compiled) (f : Complaint) → IsAccepted text p → IsFaultOf text f → ⊥ }
 {}

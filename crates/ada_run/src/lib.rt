@@ -2,12 +2,15 @@
 #![tactic(auto)]
 
 mod compiler;
+mod naming;
 mod note;
 mod refusal;
 mod runner;
+mod shapes;
+mod units;
 
-pub use compiler::{Unit, compile, one_answer};
-pub use first_form::RunEnd;
+pub use compiler::{compile, one_answer};
 pub use note::Note;
 pub use refusal::Refusal;
-pub use runner::execute;
+pub use runner::{Finals, Ran, RunEnd, execute};
+pub use units::{Final, Unit};

@@ -15,6 +15,8 @@ use ada_lexer::{LexFault, lex};
 use ada_tree::{mark_text, word_text};
 use std::alloc::{AllocError, Global};
 
+pub(crate) const BEGINNING: Place = Place { line: 1, column: 1 };
+
 /// Why a text is refused: its fault, or that memory ran out. The fault has the number of its kind, 1 to 13; its place;
 /// the place of the other part of a clash; and what is said of it.
 #[derive(Clone, Copy, Debug, PartialEq, Eq)]

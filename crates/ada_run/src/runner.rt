@@ -1,27 +1,113 @@
 //! The run of a unit.
 
-ghost use Rattle.first_form.specs.FirstRun.{first_run};
-ghost use Rattle.first_form.specs.Running.{EndsAs};
+ghost use Rattle.std.specs.Prelude.{◌≡◌};
+ghost use Rattle.ada_port.specs.Ports.{IsTold};
+ghost use Rattle.ada_typed.specs.Programs.{program};
+ghost use Rattle.chunk_plan.specs.Plans.{HasNoZero};
+ghost use Rattle.ada_run.specs.Running.{Comes, Runs, end_of, setting_of};
 
-use crate::compiler::Unit;
-use ada_port::{Pulse, Sink};
-use first_form::{RunEnd, run};
+use crate::units::Unit;
+use ada_base::{Items, Reason};
+use ada_interpreter::{SoundPlan, Work, run};
+use ada_port::{Pulse, Sink, Source};
+use ada_stored::Variable;
+use chunk_plan::Setting;
+use run_store::{End, Leave, Ports, Store};
 use std::alloc::Global;
 use std::thread::Threads;
 
-/// Runs a unit, and puts what it writes to the output. `WriteFault` comes only where a put failed; then, and where
-/// memory runs out, the output has grown by a prefix of what the run writes. So far no unit has threads: the runtime and
-/// the pulse, which is told of each that begins, aren't asked.
-pub fn execute<R: Threads + Sync, O: Sink, P: Pulse + Sync>(
+/// The values of the main procedure's variables at the end of a run: their cells, and which of the cells each has.
+#[derive(Drop)]
+pub struct Finals {
+    pub kept: Items<i64>,
+    pub declared: Items<Variable>,
+}
+
+/// How a run ended: normally, with the values of the main procedure's variables; by an exception that no handler took;
+/// by its turns, of which there are so many; or before its end, because the input or the output failed or memory ran out.
+#[derive(Drop)]
+pub enum RunEnd {
+    Ended(Finals),
+    Raised(Reason),
+    TurnsSpent(u64),
+    ReadFault,
+    WriteFault,
+    NoMemory,
+}
+
+/// A run's end, with its input and its output as it left them.
+#[derive(Drop)]
+pub struct Ran<I: Source + Drop, O: Sink + Drop> {
+    pub end: RunEnd,
+    pub input: I,
+    pub out: O,
+}
+
+fn end_of(how: Result<(), End>, limit: u64, finals: Finals) -> RunEnd
+    ensures { result ≡ end_of how limit finals }
+{
+    match how {
+        Ok(()) => RunEnd::Ended(finals),
+        Err(End::Left(Leave::Raises(reason))) => RunEnd::Raised(reason),
+        Err(End::Left(_)) => RunEnd::Ended(finals),
+        Err(End::Spent) => RunEnd::TurnsSpent(limit),
+        Err(End::NoMemory) => RunEnd::NoMemory,
+        Err(End::ReadFault) => RunEnd::ReadFault,
+        Err(End::WriteFault) => RunEnd::WriteFault,
+    }
+}
+
+fn run_from<I: Source + Drop, O: Sink + Drop>(
+    work: &Work<'_>,
+    store: Store<Ports<I, O>>,
+) -> Ran<I, O>
+    ensures { Comes (((s : I) → IsTold (I.state s)) × ((s : O) → IsTold (O.state s))) work.now result.end store (I.state result.input) (O.state result.out) }
+{
+    let mut store = store;
+    let how = run(work, &mut store);
+    let (ports, kept, declared) = store.into_end();
+    let (input, out) = ports.into_parts();
+    let end = end_of(how, work.limit, Finals { kept, declared });
+    Ran { end, input, out }
+}
+
+/// Runs a unit under a setting, on an input and an output, which it gives back as the run left them. `ReadFault` and
+/// `WriteFault` come only where the count of that device's faults rose. Where both tell what they hold, the answer is the
+/// ending of a run that is permitted under the setting's plan and limit, whose output was put, whichever way it ended. So
+/// far the threads of parallel constructs are taken in order: the runtime and the pulse, which is told of each thread that
+/// a worker begins, aren't asked.
+pub fn execute<R: Threads + Sync, I: Source + Drop, O: Sink + Drop, P: Pulse + Sync>(
     rt: &R,
     alloc: Global,
     unit: &Unit,
-    out: &mut O,
+    setting: Setting,
+    input: I,
+    out: O,
     pulse: &P,
-) -> RunEnd
-    ensures { EndsAs result (first_run unit.now.program) (O.state out.old) (O.state out.new) }
+) -> Ran<I, O>
+    requires { HasNoZero setting.plan }
+    ensures { Runs (((s : I) → IsTold (I.state s)) × ((s : O) → IsTold (O.state s))) (program unit.now.typed) (setting_of setting) result.end (I.state input) (I.state result.input) (O.state out) (O.state result.out) }
 {
     let _ = rt;
     let _ = pulse;
-    run(alloc, &unit.program, out)
+    let Setting { plan, turns, .. } = setting;
+    let plan = SoundPlan::new(plan);
+    let work = Work {
+        typed: &unit.typed,
+        plan: &plan,
+        limit: turns,
+        alloc,
+    };
+    let slots = unit.typed.objects.len().saturating_mul(2);
+    match Store::new(alloc, slots, Ports::new(input, out)) {
+        Ok(store) => run_from(&work, store),
+        Err(ports) => {
+            let (input, out) = ports.into_parts();
+            Ran {
+                end: RunEnd::NoMemory,
+                input,
+                out,
+            }
+        }
+    }
 }

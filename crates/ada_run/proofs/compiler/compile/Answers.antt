@@ -1,8 +1,8 @@
-use Rattle.ada_run.proofs.Steps.{gives_program, gives_refusal}
+use Rattle.ada_run.proofs.Steps.{gives_unit, gives_refusal}
 use Rattle.ada_run.proofs.compiler.compile.Goals as goal
 
 pub returns-clause-all_accepted : goal.returns-clause-all_accepted
-returns-clause-all_accepted c = λ p accepted. gives_program c.args.text.now c.compiled.result p c.compiled.ensures accepted
+returns-clause-all_accepted c = λ p accepted. gives_unit c.args.text.now c.compiled.result p c.compiled.ensures accepted
 
 pub returns-clause-all_refused : goal.returns-clause-all_refused
 returns-clause-all_refused c = λ fault wrong. gives_refusal c.args.text.now c.compiled.result fault c.compiled.ensures wrong

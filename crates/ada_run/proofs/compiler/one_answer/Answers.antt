@@ -1,8 +1,8 @@
 use Rattle.ada_run.proofs.Exact.{compiling_exact}
 use Rattle.ada_run.proofs.compiler.one_answer.Goals as goal
 
-pub returns-clause-program : goal.returns-clause-program
-returns-clause-program c = compiling_exact.one_result
+pub returns-clause-unit : goal.returns-clause-unit
+returns-clause-unit c = compiling_exact.one_result
 
 pub returns-clause-fault : goal.returns-clause-fault
 returns-clause-fault c = compiling_exact.one_fault

@@ -1,0 +1,13 @@
+use Rattle.std.proofs.Common.{refl}
+use Rattle.ada_cmd.specs.Answer.{Checks, Starts}
+use Rattle.ada_cmd.proofs.Answering.{refuses_text}
+use Rattle.ada_cmd.proofs.run.answer_text.Goals as goal
+
+pub returns-in-Err : goal.returns-in-Err
+returns-in-Err g c = refuses_text _ c.args.text.now c.in-Err.refusal c.say_refusal-status.result _ _ _ _ c.in-Err.ensures.refused c.say_refusal-status.ensures
+
+pub returns-in-Check : goal.returns-in-Check
+returns-in-Check g c = Checks _ c.in-Ok.ensures.accepted c.in-Check.is refl c.say_accepted-status.ensures
+
+pub returns-in-Run : goal.returns-in-Run
+returns-in-Run g c = Starts _ c.in-Ok.ensures.accepted c.in-Run.is c.run_unit.ensures

@@ -1,0 +1,14 @@
+use Rattle.std.proofs.Common.{◌-◌, drop, length}
+use Rattle.ada_stored.specs.Stored.{finals_of}
+use Rattle.ada_typed.specs.Programs.{program}
+use Rattle.ada_run.specs.Running.{values_of}
+use Rattle.ada_cmd.specs.Puts.{Putting}
+use Rattle.ada_cmd.specs.Vars.{vars_lines}
+use Rattle.ada_cmd.proofs.vars.put_vars.Given as goal
+
+abbrev pub invariant-loop-i : goal.invariant-loop-i
+invariant-loop-i g l =
+    Putting (vars_lines l.unit.finals (values_of (program l.unit.typed) l.finals)) (g.O.Sink.state l.fn.out) (g.O.Sink.state l.out) (vars_lines (drop l.i l.unit.finals) (finals_of (program l.unit.typed) l.finals.kept (drop l.i l.finals.declared)))
+
+abbrev pub decreases-loop-i : goal.decreases-loop-i
+decreases-loop-i g l = length l.unit.finals - l.i

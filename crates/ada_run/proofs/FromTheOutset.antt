@@ -1,0 +1,116 @@
+-- A run of the interpreter is a run of a unit.
+use Rattle.std.proofs.Common.{◌≡◌, ℕ, List, Bool, Result, Ok, Err, inl, refl, sym, ap, ◌∙◌, subst}
+use Rattle.std.specs.Prelude.{◌++◌}
+use Rattle.ada_base.specs.Input.{Nothing}
+use Rattle.ada_meaning.specs.Law as law
+use Rattle.ada_meaning.specs.Law.{IsPermitted}
+use Rattle.ada_meaning.specs.Nonblocking.{KeepsRule}
+use Rattle.ada_meaning.specs.Programs.{Setting}
+use Rattle.ada_port.specs.Ports.{Stream, Rose, bytes_of}
+use Rattle.ada_stored.specs.Stored.{Stop, Goes, Fails, MemoryFault, outset, put_out, outcome_of, stored}
+use Rattle.ada_stored.proofs.StoredProof.{stored_law}
+use Rattle.ada_typed.specs.Programs.{program}
+use Rattle.ada_typed.specs.Syntax.{Program}
+use Rattle.ada_interpreter.specs.Run.{IsRun, answer_of, setting_of}
+use Rattle.run_parts.specs.declared.work.Work.{Work}
+use Rattle.run_store.specs.Operating.{begins_at, outside_of}
+use Rattle.run_store.specs.Outside.{Faults, Outside, Risen, opened}
+use Rattle.run_store.specs.Shows as shows
+use Rattle.run_store.specs.Shows.{Image}
+use Rattle.run_store.specs.declared.ends.End.{End}
+use Rattle.run_store.specs.declared.ends.End.TheVariants as end
+use Rattle.run_store.specs.declared.ends.Leave.TheVariants as leave
+use Rattle.ada_run.specs.Running.{Causes, Comes, EndsAs, Runs, TellsOf, end_of, faults_of}
+use Rattle.ada_run.specs.declared.runner.Finals.{Finals}
+use Rattle.ada_run.specs.declared.runner.RunEnd.{RunEnd}
+use Rattle.ada_run.specs.declared.runner.RunEnd.TheVariants as run_end
+
+rose_of : (i j : Stream) → Risen i.faults j.faults → Rose i j
+rose_of i j h = record { later = h.0; higher = h.1 }
+
+both_same : (f g : Faults) → g ≡ f → (g.input ≡ f.input) × (g.output ≡ f.output)
+both_same f g e = (ap (λ (x : Faults). x.input) e, ap (λ (x : Faults). x.output) e)
+
+causes_of : (r : Result (Unit {0}) End) (limit : ℕ) (f : Finals) (i j o q : Stream) → shows.Causes r (faults_of i o) (faults_of j q) → Causes (end_of r limit f) i j o q
+causes_of (Ok u) limit f i j o q h = both_same (faults_of i o) (faults_of j q) h
+causes_of (Err (end.Left (leave.Exits n))) limit f i j o q h = both_same (faults_of i o) (faults_of j q) h
+causes_of (Err (end.Left (leave.Returns v))) limit f i j o q h = both_same (faults_of i o) (faults_of j q) h
+causes_of (Err (end.Left (leave.Raises x))) limit f i j o q h = both_same (faults_of i o) (faults_of j q) h
+causes_of (Err end.Spent) limit f i j o q h = both_same (faults_of i o) (faults_of j q) h
+causes_of (Err end.NoMemory) limit f i j o q h = both_same (faults_of i o) (faults_of j q) h
+causes_of (Err end.ReadFault) limit f i j o q h = (rose_of i j h.0, h.1)
+causes_of (Err end.WriteFault) limit f i j o q h = (h.0, rose_of o q h.1)
+
+-- the answer is that of the run
+ends_as : (p : Program) (before : List ℕ) (limit : ℕ) (r : Result (Unit {0}) End) (t : Image) (f : Finals) → f.kept ≡ t.state.kept → f.declared ≡ t.state.declared
+    → EndsAs p limit (end_of r limit f) (outcome_of p before (answer_of r) t.state)
+ends_as p before limit (Ok u) t f k d = (refl, rw (k, d) refl)
+ends_as p before limit (Err (end.Left (leave.Exits n))) t f k d = (refl, rw (k, d) refl)
+ends_as p before limit (Err (end.Left (leave.Returns v))) t f k d = (refl, rw (k, d) refl)
+ends_as p before limit (Err (end.Left (leave.Raises x))) t f k d = refl
+ends_as p before limit (Err end.Spent) t f k d = (refl, refl)
+ends_as p before limit (Err end.NoMemory) t f k d = refl
+ends_as p before limit (Err end.ReadFault) t f k d = refl
+ends_as p before limit (Err end.WriteFault) t f k d = refl
+
+-- where devices are that a run left so
+faults_left : (t : Image) (j q : Stream) → opened t.state.held j q ≡ outside_of t → faults_of j q ≡ t.faults
+faults_left t j q e = ap (λ (x : Outside). x.faults) e
+
+put_left : (t : Image) (j q : Stream) → opened t.state.held j q ≡ outside_of t → bytes_of q ≡ t.state.output
+put_left t j q e = ap (λ (x : Outside). x.put) e
+
+pub ran_comes : {Tells : Type 0} (w : Work) (r : Result (Unit {0}) End) (s t : Image) (f : Finals) (j q : Stream) → IsRun Tells w r s t → f.kept ≡ t.state.kept → f.declared ≡ t.state.declared
+    → opened t.state.held j q ≡ outside_of t → Comes Tells w (end_of r w.limit f) s j q
+ran_comes w r s t f j q is k d e = record {
+  causes = λ i o same. causes_of r w.limit f i j o q (subst (λ (x : Faults). shows.Causes r x (faults_of j q)) same (subst (λ (x : Faults). shows.Causes r s.faults x) (sym (faults_left t j q e)) is.cause));
+  run = λ told rule slots begun.
+      let both = is.permitted told rule slots begun in
+      record {
+        outcome = outcome_of (program w.typed.now) s.state.output (answer_of r) t.state;
+        early = both.1.0;
+        permitted = both.1.1;
+        ends = ends_as (program w.typed.now) s.state.output w.limit r t f k d;
+        output = put_left t j q e ∙ both.0;
+      };
+}
+
+left_is : (t : Image) (p : Outside) (j q : Stream) → p ≡ outside_of t → opened p.held j q ≡ p → opened t.state.held j q ≡ outside_of t
+left_is t p j q same left = subst (λ (x : Outside). opened x.held j q ≡ x) same left
+
+-- a run from a state on, and what was taken apart at its end
+pub run_comes : {Tells : Type 0} (w : Work) (r : Result (Unit {0}) End) (s t : Image) (f : Finals) (p : Outside) (j q : Stream) (end : RunEnd) → IsRun Tells w r s t
+    → (p ≡ outside_of t) × (f.kept ≡ t.state.kept) × (f.declared ≡ t.state.declared) → opened p.held j q ≡ p → end ≡ end_of r w.limit f → Comes Tells w end s j q
+run_comes {Tells} w r s t f p j q end is ended left same =
+    subst (λ (e : RunEnd). Comes Tells w e s j q) (sym same) (ran_comes w r s t f j q is ended.1 ended.2 (left_is t p j q ended.0 left))
+
+-- a run from the outset
+outset_runs : {Tells : Type 0} (w : Work) (end : RunEnd) (slots : ℕ) (i j o q : Stream) → Comes Tells w end (begins_at slots (opened Nothing i o)) j q
+    → Runs Tells (program w.typed.now) (setting_of w) end i j o q
+outset_runs w end slots i j o q c = record { causes = c.causes i o refl; run = λ told rule. c.run told rule slots refl }
+
+pub begun_runs : {Tells : Type 0} (w : Work) (set : Setting) (end : RunEnd) (slots : ℕ) (n : Outside) (s : Image) (i j o q : Stream) → n ≡ opened Nothing i o → s ≡ begins_at slots n → setting_of w ≡ set → Comes Tells w end s j q
+    → Runs Tells (program w.typed.now) set end i j o q
+begun_runs {Tells} w set end slots n s i j o q new begun same c =
+    let from : Comes Tells w end (begins_at slots (opened Nothing i o)) j q = subst (λ (x : Image). Comes Tells w end x j q) (begun ∙ ap (begins_at slots) new) c in
+    subst (λ (x : Setting). Runs Tells (program w.typed.now) x end i j o q) same (outset_runs w end slots i j o q from)
+
+-- a run that isn't begun
+back_is : (p n : Outside) (i j o q : Stream) → n ≡ opened Nothing i o → p ≡ n → opened p.held j q ≡ p → opened Nothing j q ≡ opened Nothing i o
+back_is p n i j o q new same left = subst (λ (x : Outside). opened x.held j q ≡ x) (same ∙ new) left
+
+pub unbegun_runs : {Tells : Type 0} (p : Program) (set : Setting) (slots : ℕ) (b n : Outside) (i j o q : Stream) → n ≡ opened Nothing i o → b ≡ n → opened b.held j q ≡ b → Runs Tells p set run_end.NoMemory i j o q
+unbegun_runs p set slots b n i j o q new back left =
+    let e : opened Nothing j q ≡ opened Nothing i o = back_is b n i j o q new back left in
+    record {
+      causes = both_same (faults_of i o) (faults_of j q) (ap (λ (x : Outside). x.faults) e);
+      run = λ told rule.
+          let both = stored_law p set slots (bytes_of i) (bytes_of o) (Err (Fails MemoryFault)) (outset slots (bytes_of i) (bytes_of o)) rule (inl (refl, refl)) in
+          record {
+            outcome = outcome_of p (bytes_of o) (Err (Fails MemoryFault)) (outset slots (bytes_of i) (bytes_of o));
+            early = both.1.0;
+            permitted = both.1.1;
+            ends = refl;
+            output = ap (λ (x : Outside). x.put) e ∙ both.0;
+          };
+    }

@@ -1,0 +1,81 @@
+-- How a unit ran: which run an answer tells of, and which devices failed.
+use Rattle.std.specs.Prelude.{◌≡◌, ℕ, ℤ, List, ◌++◌, Bool, true, Result, Ok, Err}
+use Rattle.ada_meaning.specs.Law as law
+use Rattle.ada_meaning.specs.Law.{Outcome, IsPermitted}
+use Rattle.ada_meaning.specs.Nonblocking.{KeepsRule}
+use Rattle.ada_meaning.specs.Programs.{Setting}
+use Rattle.ada_port.specs.Ports.{Stream, Rose, bytes_of}
+use Rattle.ada_interpreter.specs.Run as interpreter
+use Rattle.ada_stored.specs.Stored.{finals_of, outset}
+use Rattle.ada_typed.specs.Programs.{program}
+use Rattle.ada_typed.specs.Syntax.{Program}
+use Rattle.chunk_plan.specs.Plans.{plan_of}
+use Rattle.chunk_plan.specs.declared.plan.Setting as plan
+use Rattle.run_parts.specs.declared.work.Work.{Work}
+use Rattle.run_store.specs.Outside.{Faults}
+use Rattle.run_store.specs.Shows.{Image}
+use Rattle.run_store.specs.declared.ends.End.{End}
+use Rattle.run_store.specs.declared.ends.End.TheVariants as end
+use Rattle.run_store.specs.declared.ends.Leave.TheVariants as leave
+use Rattle.ada_run.specs.declared.runner.Finals.{Finals}
+use Rattle.ada_run.specs.declared.runner.RunEnd.{RunEnd}
+use Rattle.ada_run.specs.declared.runner.RunEnd.TheVariants as run_end
+
+-- so far the threads of a construct are taken in order, as one worker does
+abbrev pub setting_of : plan.Setting → Setting
+setting_of s = record { plan = plan_of s.plan; one = true; limit = s.turns }
+
+-- the values of the main procedure's variables
+abbrev pub values_of : Program → Finals → List (List ℤ)
+values_of p f = finals_of p f.kept f.declared
+
+-- the answer tells how the run ended, and what its variables were where it ended normally
+abbrev pub EndsAs : Program → ℕ → RunEnd → Outcome → Type 0
+EndsAs p limit (run_end.Ended finals) o = (o.ending ≡ law.Ended) × (o.finals ≡ values_of p finals)
+EndsAs p limit (run_end.Raised reason) o = o.ending ≡ law.Raised reason
+EndsAs p limit (run_end.TurnsSpent turns) o = (o.ending ≡ law.TurnsSpent) × (turns ≡ limit)
+EndsAs p limit run_end.ReadFault o = o.ending ≡ law.ReadFault
+EndsAs p limit run_end.WriteFault o = o.ending ≡ law.WriteFault
+EndsAs p limit run_end.NoMemory o = o.ending ≡ law.NoMemory
+
+-- The answer tells of a run that is permitted under the setting on these bytes of input, and what was put before is
+-- followed by its output.
+pub record TellsOf (p : Program) (set : Setting) (end : RunEnd) (input before now : List ℕ) : Type 0 where
+  pub outcome : Outcome
+  pub early : Bool
+  pub permitted : IsPermitted p set input early outcome
+  pub ends : EndsAs p set.limit end outcome
+  pub output : now ≡ before ++ outcome.output
+
+-- a fault of a device is answered where its count rose, and nowhere else
+abbrev pub Causes : RunEnd → Stream → Stream → Stream → Stream → Type 0
+Causes run_end.ReadFault input input' out out' = Rose input input' × (out'.faults ≡ out.faults)
+Causes run_end.WriteFault input input' out out' = (input'.faults ≡ input.faults) × Rose out out'
+Causes _ input input' out out' = (input'.faults ≡ input.faults) × (out'.faults ≡ out.faults)
+
+-- A run: where the input and the output tell, and the program keeps the rule on blocking calls, the answer tells of a
+-- permitted one.
+pub record Runs (Tells : Type 0) (p : Program) (set : Setting) (end : RunEnd) (input input' out out' : Stream) : Type 0 where
+  pub causes : Causes end input input' out out'
+  pub run : Tells → KeepsRule p → TellsOf p set end (bytes_of input) (bytes_of out) (bytes_of out')
+
+-- the answer that an interpreter's end is, with what the variables were then; a main procedure isn't left by an exit or
+-- a return
+abbrev pub end_of : Result (Unit {0}) End → ℕ → Finals → RunEnd
+end_of (Ok u) limit finals = run_end.Ended finals
+end_of (Err (end.Left (leave.Exits n))) limit finals = run_end.Ended finals
+end_of (Err (end.Left (leave.Returns v))) limit finals = run_end.Ended finals
+end_of (Err (end.Left (leave.Raises r))) limit finals = run_end.Raised r
+end_of (Err end.Spent) limit finals = run_end.TurnsSpent limit
+end_of (Err end.NoMemory) limit finals = run_end.NoMemory
+end_of (Err end.ReadFault) limit finals = run_end.ReadFault
+end_of (Err end.WriteFault) limit finals = run_end.WriteFault
+
+abbrev pub faults_of : Stream → Stream → Faults
+faults_of input out = record { input = input.faults; output = out.faults }
+
+-- what became of a run from a state on, where the devices are now
+pub record Comes (Tells : Type 0) (w : Work) (end : RunEnd) (s : Image) (input out : Stream) : Type 0 where
+  pub causes : (i o : Stream) → s.faults ≡ faults_of i o → Causes end i input o out
+  pub run : Tells → KeepsRule (program w.typed.now) → (slots : ℕ) → s.state ≡ outset slots s.state.input s.state.output
+      → TellsOf (program w.typed.now) (interpreter.setting_of w) end s.state.input s.state.output (bytes_of out)

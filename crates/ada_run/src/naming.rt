@@ -1,0 +1,88 @@
+//! The typed program of a text, and its unit.
+
+ghost use Rattle.std.specs.Prelude.{◌≡◌, ◌||◌};
+ghost use Rattle.std.specs.List.{list_any};
+ghost use Rattle.ada_base.specs.Tokens.{place_of_token};
+ghost use Rattle.ada_typed.specs.Programs.{program};
+ghost use Rattle.name_programs.specs.Resolving.{fault_of};
+ghost use Rattle.tree_views.specs.Trees.{program_of};
+ghost use Rattle.ada_run.specs.Complaints.{complaint};
+ghost use Rattle.ada_run.specs.Compile.{Decides, building, naming, named_refusal, refusal_of};
+ghost use Rattle.ada_run.specs.Built.{is_nonblocking};
+ghost use Rattle.ada_run.specs.Compiled.{compiled_of};
+
+use crate::note::Note;
+use crate::refusal::{BEGINNING, Refusal};
+use crate::units::{Unit, finish};
+use ada_base::Tokens;
+use ada_typed::{Sub, Typed};
+use name_programs::{NameFault, resolve};
+use std::alloc::Global;
+use tree_views::Tree;
+
+/// The typed program of a tree, or the least fault of its names and types.
+#[tactic(auto, unfolding(tree_views::specs::Trees::program_of))]
+pub fn typed_of(alloc: Global, tokens: &Tokens, tree: &Tree) -> Result<Typed, Refusal>
+    ensures { Decides (naming tokens.now) program (program_of tree.now) result }
+{
+    match resolve(alloc, tokens, tree) {
+        Ok(typed) => Ok(typed),
+        Err(fault) => Err(name_refusal(tokens, fault)),
+    }
+}
+
+/// The refusal of a text for a fault of its names and types.
+fn name_refusal(tokens: &Tokens, fault: NameFault) -> Refusal
+    ensures { result ≡ named_refusal tokens.now (fault_of fault) }
+{
+    match fault {
+        NameFault::Unknown { at } => refused(tokens, Note::UnknownName, at),
+        NameFault::Twice { at } => refused(tokens, Note::DeclaredTwice, at),
+        NameFault::NotVisible { at } => refused(tokens, Note::NotVisible, at),
+        NameFault::WrongEnd { at } => refused(tokens, Note::EndName, at),
+        NameFault::PolicyName { at } => refused(tokens, Note::PolicyName, at),
+        NameFault::WrongType { at } => refused(tokens, Note::WrongType, at),
+        NameFault::NotStatic { at } => refused(tokens, Note::NotStatic, at),
+        NameFault::StaticRange { at } => refused(tokens, Note::StaticRange, at),
+        NameFault::ChunkRule { at } => refused(tokens, Note::ChunkRule, at),
+        NameFault::ReduceRule { at } => refused(tokens, Note::ReductionRule, at),
+        NameFault::LimitPassed { at, .. } => refused(tokens, Note::LimitPassed, at),
+        NameFault::OutOfMemory => Refusal::OutOfMemory,
+    }
+}
+
+fn refused(tokens: &Tokens, note: Note, at: u32) -> Refusal
+    ensures { result ≡ refusal_of (complaint note (place_of_token tokens.now at)) }
+{
+    Refusal::of(note, tokens.place(at))
+}
+
+/// The unit of a typed program, or what of it isn't built yet.
+pub fn built(alloc: Global, tokens: &Tokens, typed: Typed) -> Result<Unit, Refusal>
+    ensures { Decides (building tokens.now) compiled_of (program typed) result }
+{
+    if let Some(site) = typed.sites.get(0) {
+        return Err(refused(tokens, Note::NotBuilt, site.at));
+    }
+    if nonblocking(&typed) {
+        return Err(Refusal::of(Note::NotBuilt, BEGINNING));
+    }
+    match finish(alloc, tokens, typed) {
+        Ok(unit) => Ok(unit),
+        Err(_) => Err(Refusal::OutOfMemory),
+    }
+}
+
+/// Whether the main procedure or a subprogram is nonblocking (9.5).
+#[tactic(auto, using(crate::proofs::Steps::any_decoded))]
+fn nonblocking(typed: &Typed) -> bool
+    ensures { result ≡ ((program typed.now).nonblocking || is_nonblocking (program typed.now).subs) }
+{
+    typed.nonblocking || any_nonblocking(typed.subs.as_slice())
+}
+
+fn any_nonblocking(subs: &[Sub]) -> bool
+    ensures { result ≡ list_any (λ s. s.nonblocking) subs.now }
+{
+    subs.iter().any(|sub| sub.nonblocking)
+}

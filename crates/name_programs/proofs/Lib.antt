@@ -1,0 +1,7 @@
+mod Levels
+mod Lists
+mod Options
+mod Outcomes
+mod Scopes
+mod Subs
+mod Wholes
