@@ -3,7 +3,7 @@ use ada_port::{MemShelf, MemSink, MemSource, Quiet, ShelfText, SinkFail};
 use std::alloc::{AllocError, Global};
 use std::process::Abort;
 use std::test::Fail;
-use std::thread::Threads;
+use std::thread::{Builder, Threads};
 
 const FIRST: &str = "with Ada.Text_IO; use Ada.Text_IO;\nprocedure Main is\n\
     X : Integer := 2;\nbegin\nX := X + 3; Put_Line (Integer'Image (X));\nend Main;\n";
@@ -322,7 +322,7 @@ fn programs_that_are_refused(rt: HostRuntime) -> Result<(), Fail> {
 
 // Programs whose declarations are in line 3 and whose statements are in line 5, with what they put out, what is said, and the
 // status.
-const RUNS: [(&str, &str, &str, &str, &str, u8); 12] = [
+const RUNS: [(&str, &str, &str, &str, &str, u8); 11] = [
     ("run t.ada", "X : Integer := 2;", DEEPEST, "", "", 0),
     (
         "run t.ada",
@@ -397,16 +397,6 @@ const RUNS: [(&str, &str, &str, &str, &str, u8); 12] = [
         "",
         0,
     ),
-    (
-        "run t.ada",
-        "function Down (N : Natural) return Natural is begin if N <= 1 then return 1; \
-         else return 1 + Down (N - 1); end if; end Down;",
-        "Put_Line (Natural'Image (Down (1000))); begin Put_Line (Natural'Image (Down (1001))); \
-         exception when others => Put_Line (\"deep\"); end;",
-        " 1000\ndeep\n",
-        "",
-        0,
-    ),
     ("run t.ada", "", "Put (\"a\"); New_Line;", "a\n", "", 0),
 ];
 
@@ -422,6 +412,35 @@ fn programs_that_run(rt: HostRuntime) -> Result<(), Fail> {
         )?;
     }
     Ok(())
+}
+
+const DOWN: &str = "function Down (N : Natural) return Natural is begin if N <= 1 then return 1; \
+    else return 1 + Down (N - 1); end if; end Down;";
+
+fn calls_deep(rt: HostRuntime) -> Result<(), Fail> {
+    let text = program(
+        rt.alloc(),
+        DOWN,
+        "Put_Line (Natural'Image (Down (1000))); begin Put_Line (Natural'Image (Down (1001))); \
+         exception when others => Put_Line (\"deep\"); end;",
+    )?;
+    expect(
+        &rt,
+        rt.alloc(),
+        ("run t.ada", text.as_str(), NONE),
+        (" 1000\ndeep\n", "", 0),
+    )
+}
+
+#[test]
+fn a_thousand_calls_may_be_active(rt: HostRuntime) {
+    let started = Builder::new()
+        .stack_size(1 << 30)
+        .spawn(&rt, move || calls_deep(rt).is_ok());
+    match started {
+        Ok(thread) => assert!(rt; thread.join(&rt)),
+        Err(_) => assert!(rt; false, "no thread"),
+    }
 }
 
 const GETS: &str = "with Ada.Integer_Text_IO;\nprocedure Main is\nX : Integer;\nbegin\n\
