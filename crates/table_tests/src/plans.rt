@@ -1,5 +1,5 @@
 use ada_base::Items;
-use chunk_plan::{Plan, Range, cuts, even};
+use chunk_plan::{Plan, cuts, even};
 use std::alloc::{AllocError, Global};
 
 const GREATEST: u64 = 1 << 62;
@@ -44,12 +44,16 @@ fn plans_with_a_zero_are_told(rt: HostRuntime) -> Result<(), AllocError> {
     Ok(())
 }
 
-fn is_range(range: &Range, first: u64, len: u64) -> bool {
+fn has_part((n, parts, number): (u64, u32, u32), first: u64, len: u64) -> bool {
+    if number >= parts {
+        return false;
+    }
+    let range = even(n, parts, number);
     range.first == first && range.len == len
 }
 
 #[test]
 fn the_last_of_many_parts(rt: HostRuntime) {
-    let range = even(u64::MAX, u32::MAX, u32::MAX - 1);
-    assert!(rt; is_range(&range, 18_446_744_069_414_584_318, 4_294_967_297));
+    let last = (u64::MAX, u32::MAX, u32::MAX - 1);
+    assert!(rt; has_part(last, 18_446_744_069_414_584_318, 4_294_967_297));
 }
