@@ -58,7 +58,7 @@ module _ (Tells : Type 0) (words : List (List ℕ)) (before now : Outside) where
     -- the run's outcome has the ending that the answer tells
     may_end : (c : Compiled) (end : RunEnd) (ending : Ending) (left : Stream) → running.Runs Tells c.program (setting_of q.settings) end before.devices.input now.devices.input before.devices.out left
         → ((o : law.Outcome) → running.EndsAs c.program q.settings.turns end o → o.ending ≡ ending) → MayEnd Tells q c before.devices ending
-    may_end c end ending left runs gives = λ told rule. let r = runs.run told rule in (r.outcome, (r.early, r.permitted, gives r.outcome r.ends))
+    may_end c end ending left runs gives = λ told. let r = runs.run told in (r.outcome, (r.early, r.permitted, gives r.outcome r.ends))
 
     run_cause : (given : Status) (c : Compiled) (vars : Bool) (end : RunEnd) (left : Stream) → IsAccepted text c → q.mode ≡ mode.Run → running.Runs Tells c.program (setting_of q.settings) end before.devices.input now.devices.input before.devices.out left
         → EndsBy c vars end given left now.devices.out before.devices.err now.devices.err → Cause Tells words before now given

@@ -8,7 +8,7 @@ use Rattle.ada_port.specs.Ports.{Stream, Grows}
 use Rattle.ada_stored.specs.Stored.{final_of, finals_of}
 use Rattle.ada_stored.specs.declared.slots.Variable.{Variable}
 use Rattle.ada_typed.specs.Syntax.{Program}
-use Rattle.ada_run.specs.declared.units.Final.{Final}
+use Rattle.ada_run.specs.declared.unit.Final.{Final}
 use Rattle.ada_cmd.specs.Puts.{Puts, Putting}
 use Rattle.ada_cmd.specs.Vars.{vars_line, vars_lines}
 use Rattle.ada_cmd.specs.declared.vars.Unput.{Unput}

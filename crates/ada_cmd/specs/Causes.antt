@@ -2,7 +2,6 @@
 use Rattle.std.specs.Prelude.{◌≡◌, ◌⊎◌, ⊤, ℕ, List, Option, Some, None, Bool}
 use Rattle.ada_base.specs.declared.reason.Reason.{Reason}
 use Rattle.ada_meaning.specs.Law.{Ending, Ended, Raised, TurnsSpent, IsPermitted, Outcome}
-use Rattle.ada_meaning.specs.Nonblocking.{KeepsRule}
 use Rattle.ada_port.specs.Ports.{Texts, Rose, bytes_of, fetched}
 use Rattle.ada_run.specs.Compile.{IsAccepted}
 use Rattle.ada_run.specs.Compiled.{Compiled}
@@ -25,7 +24,7 @@ pub record Asks (words : List (List ℕ)) (shelf : Texts) (q : Asked) (c : Compi
 
 -- a run that is permitted under what is asked for ends so, where the devices tell
 abbrev pub MayEnd : Type 0 → Asked → Compiled → Devices → Ending → Type 0
-MayEnd Tells q c before ending = Tells → KeepsRule c.program → (o : Outcome) × ((early : Bool) × IsPermitted c.program (setting_of q.settings) (bytes_of before.input) early o × (o.ending ≡ ending))
+MayEnd Tells q c before ending = Tells → (o : Outcome) × ((early : Bool) × IsPermitted c.program (setting_of q.settings) (bytes_of before.input) early o × (o.ending ≡ ending))
 
 -- the words ask for a run of an accepted text, and it has this ending
 abbrev pub HasEnding : Type 0 → List (List ℕ) → Outside → Ending → Type 0

@@ -40,6 +40,10 @@ const PARALLEL: &str = "procedure Main is\nbegin\n\
 
 const NONBLOCKING: &str = "procedure Main with Nonblocking is\nbegin\nnull;\nend Main;\n";
 
+const BLOCKING: &str = "with Ada.Text_IO; use Ada.Text_IO;\nprocedure Main is\n\
+    X : Integer := 0; procedure Q with Nonblocking is begin New_Line; end Q;\n\
+    begin\nnull;\nend Main;\n";
+
 const SYNTAX: &str = "t.ada:1:1: E03 syntax\n";
 
 const UNKNOWN: &str = "t.ada:5:10: E05 unknown name\n";
@@ -169,11 +173,12 @@ fn each_text_has_its_output_its_line_and_its_status(rt: HostRuntime) -> Result<(
         ),
         (
             "run t.ada",
-            NONBLOCKING,
+            BLOCKING,
             "",
-            "t.ada:1:1: E13 not built yet\n",
+            "t.ada:3:57: E08 blocking call\n",
             1,
         ),
+        ("run t.ada", NONBLOCKING, "", "", 0),
         ("check t.ada", FIRST, "accepted\n", "", 0),
         ("check t.ada", OVERFLOW, "accepted\n", "", 0),
         ("run t.ada --vars", FIRST, " 5\nX = 5\n", "", 0),

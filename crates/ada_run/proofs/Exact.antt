@@ -1,5 +1,5 @@
 -- Each phase is exact, and so is all of compiling.
-use Rattle.std.proofs.Common.{◌≡◌, ◌⊎◌, inl, inr, ℕ, List, [], ◌∷◌, Option, Some, None, subst, sym, ◌∙◌, ap, Result, Ok, Err}
+use Rattle.std.proofs.Common.{◌≡◌, ◌⊎◌, inl, inr, ℕ, ◌<◌, ◌≤◌, arith, List, [], ◌∷◌, Option, Some, None, sym, ◌∙◌, ap}
 use Rattle.std.specs.Str.{chars}
 use Rattle.ada_base.specs.Derivations.{Derives, DerivesWithin}
 use Rattle.ada_base.specs.Tokens.{Tokenized}
@@ -7,25 +7,24 @@ use Rattle.ada_base.specs.declared.token.Token.{Token}
 use Rattle.ada_lexer.proofs.OneList.{one_list}
 use Rattle.ada_lexer.proofs.OneFault as lexical'
 use Rattle.ada_lexer.specs.Lexed.{AreLexed}
-use Rattle.ada_tree.specs.Faults.{Fault}
+use Rattle.ada_meaning.proofs.Unblocked.{blocked_law}
+use Rattle.ada_nonblock.specs.Answer.{IsFirst}
 use Rattle.ada_tree.specs.Grammar.{ProgramWords}
 use Rattle.ada_tree.specs.Parsed.{IsParsed, depth_limit}
 use Rattle.ada_tree.specs.Syntax as syntax
 use Rattle.ada_base.specs.TokenKinds.{kinds_of}
 use Rattle.ada_typed.specs.Syntax as typed
 use Rattle.name_faults.specs.Least.{least_of}
-use Rattle.name_programs.specs.Resolving.{IsTold, least_fault}
-use Rattle.name_rules.specs.Programs.{Whole}
-use Rattle.name_rules.specs.Resolved.{TypedOf, judged, typed_by, typed_where}
+use Rattle.name_programs.specs.Resolving.{IsTold}
+use Rattle.name_rules.specs.Resolved.{TypedOf, judged, typed_where}
 use Rattle.name_rules.specs.declared.log.Fault as names
-use Rattle.name_rules.specs.declared.scope.Names.{Names}
 use Rattle.name_symbols.specs.Naming.{names_of}
 use Rattle.ada_grammar.proofs.Verdicts.{one_tree, one_deep}
 use Rattle.reader_combinators.proofs.FirstFaults as first
 use Rattle.ada_run.specs.Built.{built, misnamed}
-use Rattle.ada_run.specs.Compile.{lexing, parsing, naming, building, reading, compiling}
-use Rattle.ada_run.specs.Complaints.{Complaint, lexical, unexpected, too_deep}
-use Rattle.ada_run.specs.Phases.{IsExact, followed}
+use Rattle.ada_run.specs.Compile.{lexing, parsing, naming, blocking, building, checking, resolving, reading, compiling}
+use Rattle.ada_run.specs.Complaints.{Complaint, lexical, unexpected, too_deep, blocking_call}
+use Rattle.ada_run.specs.Phases.{IsExact}
 use Rattle.ada_run.proofs.Phases.{followed_exact, function_exact}
 
 abbrev tokenized : List ℕ → List Token → Tokenized
@@ -85,11 +84,32 @@ naming_exact t = record {
     none : (tree : syntax.Program) (p : typed.Program) (f : names.Fault) → Some p ≡ TypedOf (names_of t tree) tree → IsTold (names_of t tree) tree (Some f) → ⊥
     none tree p f r v = no_typed (judged (names_of t tree) tree).1.faults _ p f r v.0
 
+-- one call at most is the first that breaks the rule
+one_first : (p : typed.Program) (a c b d : ℕ) → IsFirst p a c → IsFirst p b d → a ≡ b
+one_first p a c b d f g = go (f.least b d g.breaks) (g.least a c f.breaks) where
+  neither : a < b → b < a → ⊥
+  neither less more = omega (arith, less, more)
+
+  go : (a < b) ⊎ ((a ≡ b) × (c ≤ d)) → (b < a) ⊎ ((b ≡ a) × (d ≤ c)) → a ≡ b
+  go (inr same) other = same.0
+  go (inl less) (inr same) = sym same.0
+  go (inl less) (inl more) = absurd (neither less more)
+
+pub blocking_exact : (t : Tokenized) → IsExact (blocking t)
+blocking_exact t = record {
+  one_result = λ p a b (k, is) (l, are). is ∙ sym are;
+  one_fault = λ p x y (at, callee, f, same) (at', callee', g, same'). same ∙ ap (blocking_call t) (one_first p at callee at' callee' f g) ∙ sym same';
+  apart = λ p q x (k, is) (at, callee, f, same). (blocked_law p).0 k at callee f.breaks;
+}
+
 pub building_exact : (t : Tokenized) → IsExact (building t)
 building_exact t = function_exact (built t)
 
-whole_exact : (t : Tokenized) → IsExact (followed (naming t) (λ tree. building t))
-whole_exact t = followed_exact (naming t) (λ tree. building t) (naming_exact t) (λ tree. building_exact t)
+checking_exact : (t : Tokenized) → IsExact (checking t)
+checking_exact t = followed_exact (blocking t) (λ program. building t) (blocking_exact t) (λ program. building_exact t)
+
+resolving_exact : (t : Tokenized) → IsExact (resolving t)
+resolving_exact t = followed_exact (naming t) (λ tree. checking t) (naming_exact t) (λ tree. checking_exact t)
 
 pub compiling_exact : IsExact compiling
-compiling_exact = followed_exact lexing (λ text. reading) lexing_exact (λ text. followed_exact parsing (λ t. followed (naming t) (λ tree. building t)) parsing_exact whole_exact)
+compiling_exact = followed_exact lexing (λ text. reading) lexing_exact (λ text. followed_exact parsing resolving parsing_exact resolving_exact)

@@ -1,13 +1,11 @@
 -- A run of the interpreter is a run of a unit.
-use Rattle.std.proofs.Common.{◌≡◌, ℕ, List, Bool, Result, Ok, Err, inl, refl, sym, ap, ◌∙◌, subst}
-use Rattle.std.specs.Prelude.{◌++◌}
+use Rattle.std.proofs.Common.{◌≡◌, ℕ, List, true, Result, Ok, Err, inl, refl, sym, ap, ◌∙◌, subst}
+use Rattle.ada_base.specs.Cuts.{Plan}
 use Rattle.ada_base.specs.Input.{Nothing}
-use Rattle.ada_meaning.specs.Law as law
-use Rattle.ada_meaning.specs.Law.{IsPermitted}
 use Rattle.ada_meaning.specs.Nonblocking.{KeepsRule}
 use Rattle.ada_meaning.specs.Programs.{Setting}
 use Rattle.ada_port.specs.Ports.{Stream, Rose, bytes_of}
-use Rattle.ada_stored.specs.Stored.{Stop, Goes, Fails, MemoryFault, outset, put_out, outcome_of, stored}
+use Rattle.ada_stored.specs.Stored.{Fails, MemoryFault, outset, outcome_of}
 use Rattle.ada_stored.proofs.StoredProof.{stored_law}
 use Rattle.ada_typed.specs.Programs.{program}
 use Rattle.ada_typed.specs.Syntax.{Program}
@@ -20,7 +18,7 @@ use Rattle.run_store.specs.Shows.{Image}
 use Rattle.run_store.specs.declared.ends.End.{End}
 use Rattle.run_store.specs.declared.ends.End.TheVariants as end
 use Rattle.run_store.specs.declared.ends.Leave.TheVariants as leave
-use Rattle.ada_run.specs.Running.{Causes, Comes, EndsAs, Runs, TellsOf, end_of, faults_of}
+use Rattle.ada_run.specs.Running.{Causes, Comes, EndsAs, Runs, end_of, faults_of}
 use Rattle.ada_run.specs.declared.runner.Finals.{Finals}
 use Rattle.ada_run.specs.declared.runner.RunEnd.{RunEnd}
 use Rattle.ada_run.specs.declared.runner.RunEnd.TheVariants as run_end
@@ -84,27 +82,30 @@ pub run_comes : {Tells : Type 0} (w : Work) (r : Result (Unit {0}) End) (s t : I
 run_comes {Tells} w r s t f p j q end is ended left same =
     subst (λ (e : RunEnd). Comes Tells w e s j q) (sym same) (ran_comes w r s t f j q is ended.1 ended.2 (left_is t p j q ended.0 left))
 
--- a run from the outset
-outset_runs : {Tells : Type 0} (w : Work) (end : RunEnd) (slots : ℕ) (i j o q : Stream) → Comes Tells w end (begins_at slots (opened Nothing i o)) j q
-    → Runs Tells (program w.typed.now) (setting_of w) end i j o q
-outset_runs w end slots i j o q c = record { causes = c.causes i o refl; run = λ told rule. c.run told rule slots refl }
+abbrev pub in_order : Plan → ℕ → Setting
+in_order plan limit = record { plan = plan; one = true; limit = limit }
 
-pub begun_runs : {Tells : Type 0} (w : Work) (set : Setting) (end : RunEnd) (slots : ℕ) (n : Outside) (s : Image) (i j o q : Stream) → n ≡ opened Nothing i o → s ≡ begins_at slots n → setting_of w ≡ set → Comes Tells w end s j q
+-- a run from the outset
+outset_runs : {Tells : Type 0} (w : Work) (end : RunEnd) (slots : ℕ) (i j o q : Stream) → KeepsRule (program w.typed.now) → Comes Tells w end (begins_at slots (opened Nothing i o)) j q
+    → Runs Tells (program w.typed.now) (setting_of w) end i j o q
+outset_runs w end slots i j o q rule c = record { causes = c.causes i o refl; run = λ told. c.run told rule slots refl }
+
+pub begun_runs : {Tells : Type 0} (w : Work) (set : Setting) (end : RunEnd) (slots : ℕ) (n : Outside) (s : Image) (i j o q : Stream) → KeepsRule (program w.typed.now) → n ≡ opened Nothing i o → s ≡ begins_at slots n → setting_of w ≡ set → Comes Tells w end s j q
     → Runs Tells (program w.typed.now) set end i j o q
-begun_runs {Tells} w set end slots n s i j o q new begun same c =
+begun_runs {Tells} w set end slots n s i j o q rule new begun same c =
     let from : Comes Tells w end (begins_at slots (opened Nothing i o)) j q = subst (λ (x : Image). Comes Tells w end x j q) (begun ∙ ap (begins_at slots) new) c in
-    subst (λ (x : Setting). Runs Tells (program w.typed.now) x end i j o q) same (outset_runs w end slots i j o q from)
+    subst (λ (x : Setting). Runs Tells (program w.typed.now) x end i j o q) same (outset_runs w end slots i j o q rule from)
 
 -- a run that isn't begun
 back_is : (p n : Outside) (i j o q : Stream) → n ≡ opened Nothing i o → p ≡ n → opened p.held j q ≡ p → opened Nothing j q ≡ opened Nothing i o
 back_is p n i j o q new same left = subst (λ (x : Outside). opened x.held j q ≡ x) (same ∙ new) left
 
-pub unbegun_runs : {Tells : Type 0} (p : Program) (set : Setting) (slots : ℕ) (b n : Outside) (i j o q : Stream) → n ≡ opened Nothing i o → b ≡ n → opened b.held j q ≡ b → Runs Tells p set run_end.NoMemory i j o q
-unbegun_runs p set slots b n i j o q new back left =
+pub unbegun_runs : {Tells : Type 0} (p : Program) (set : Setting) (slots : ℕ) (b n : Outside) (i j o q : Stream) → KeepsRule p → n ≡ opened Nothing i o → b ≡ n → opened b.held j q ≡ b → Runs Tells p set run_end.NoMemory i j o q
+unbegun_runs p set slots b n i j o q rule new back left =
     let e : opened Nothing j q ≡ opened Nothing i o = back_is b n i j o q new back left in
     record {
       causes = both_same (faults_of i o) (faults_of j q) (ap (λ (x : Outside). x.faults) e);
-      run = λ told rule.
+      run = λ told.
           let both = stored_law p set slots (bytes_of i) (bytes_of o) (Err (Fails MemoryFault)) (outset slots (bytes_of i) (bytes_of o)) rule (inl (refl, refl)) in
           record {
             outcome = outcome_of p (bytes_of o) (Err (Fails MemoryFault)) (outset slots (bytes_of i) (bytes_of o));

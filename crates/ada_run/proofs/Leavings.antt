@@ -1,5 +1,5 @@
 -- Numbers that no word and no mark has.
-use Rattle.std.proofs.Common.{◌≡◌, ℕ, ◌≤◌, None, length, refl, arith}
+use Rattle.std.proofs.Common.{◌≡◌, ℕ, ◌≤◌, None, length, refl}
 use Rattle.std.specs.Prelude.{slice_get}
 use Rattle.std.proofs.lemmas.Option.{slice_get_past}
 use Rattle.ada_tree.specs.Words.{words, marks}

@@ -1,5 +1,5 @@
 -- Exact phases that follow one another are exact.
-use Rattle.std.proofs.Common.{◌≡◌, ◌⊎◌, inl, inr, subst, sym, ◌∙◌, Result, Ok, Err}
+use Rattle.std.proofs.Common.{◌≡◌, inl, inr, subst, sym, ◌∙◌, Result, Ok, Err}
 use Rattle.ada_run.specs.Phases.{Phase, IsExact, followed, by_function}
 
 pub followed_exact : {A B C F : Type 0} → (p : Phase A B F) → (q : A → Phase B C F) → IsExact p → ((a : A) → IsExact (q a)) → IsExact (followed p q)

@@ -1,5 +1,5 @@
 -- The tokens of a text stand at places that rise, so that a place has one token at most.
-use Rattle.std.proofs.Common.{◌≡◌, ◌≢◌, ◌⊎◌, inl, inr, ℕ, zero, suc, ◌+◌, ◌-◌, ◌<◌, ◌≤◌, Bool, true, false, not, cond, List, [], ◌∷◌, ◌++◌, length, take, drop, reverse, Option, refl, sym, ap, ◌∙◌, subst, append_assoc, take-add, arith, true≢false, ⊎_elim}
+use Rattle.std.proofs.Common.{◌≡◌, ◌≢◌, ◌⊎◌, inl, inr, ℕ, zero, suc, ◌+◌, ◌-◌, ◌<◌, ◌≤◌, Bool, true, false, not, cond, List, [], ◌∷◌, ◌++◌, length, take, drop, Option, refl, sym, ap, ◌∙◌, subst, append_assoc, take-add, arith, true≢false, ⊎_elim}
 use Rattle.std.specs.Prelude.{All, count_by, encode_utf8_all, slice_index_or}
 use Rattle.std.specs.List.{after_last, prefix_len, suffix_len}
 use Rattle.std.specs.Str.{chars, IsUtf8, IsCharBoundary}

@@ -1,11 +1,10 @@
 -- What a phase answers is what all phases answer.
-use Rattle.std.proofs.Common.{◌≡◌, ◌⊎◌, inl, inr, ℕ, List, [], ◌∷◌, Option, Bool, true, false, Some, None, refl, subst, sym, ◌∙◌, ap, Result, Ok, Err}
+use Rattle.std.proofs.Common.{◌≡◌, inl, inr, ℕ, List, [], ◌∷◌, Option, Bool, true, false, Some, None, refl, subst, sym, ◌∙◌, ap, Result, Ok, Err}
 use Rattle.ada_base.specs.Tokens.{Tokenized, kind_at, place_of_token}
-use Rattle.std.specs.List.{list_any}
-use Rattle.std.specs.Prelude.{◌||◌, map, slice_get}
-use Rattle.ada_typed.specs.Programs.{sub_of}
-use Rattle.ada_typed.specs.declared.node.Node.{Node}
-use Rattle.ada_typed.specs.declared.program.Sub as program
+use Rattle.std.specs.Prelude.{slice_get}
+use Rattle.ada_nonblock.specs.Answer.{Answers}
+use Rattle.ada_nonblock.specs.declared.calls.Blocked.{Blocked}
+use Rattle.ada_nonblock.specs.declared.calls.Blocked.TheVariants.{Call}
 use Rattle.ada_tree.specs.Parsed.{IsSyntaxFault, IsTooDeep, is_left_out}
 use Rattle.ada_tree.specs.Syntax as syntax
 use Rattle.ada_typed.specs.Syntax as typed
@@ -14,13 +13,13 @@ use Rattle.name_programs.specs.Resolving.{IsTold, Resolved, fault_of}
 use Rattle.name_programs.specs.declared.resolving.NameFault.{NameFault}
 use Rattle.name_rules.specs.declared.log.Fault as names
 use Rattle.name_symbols.specs.Naming.{names_of}
-use Rattle.ada_run.specs.Built.{built, built_with, is_nonblocking, misnamed}
-use Rattle.ada_run.specs.Compile.{compiling, parsing, naming, building, IsRefusal, Decides, named_refusal, refusal_of, GivesUnit, GivesRefusal}
-use Rattle.ada_run.specs.Complaints.{Complaint, complaint, left_out, unexpected, unexpected_kind, too_deep, beginning, not_built}
+use Rattle.ada_run.specs.Built.{built, built_with, misnamed}
+use Rattle.ada_run.specs.Compile.{compiling, parsing, naming, blocking, building, IsRefusal, Decides, named_refusal, refusal_of, GivesUnit, GivesRefusal}
+use Rattle.ada_run.specs.Complaints.{Complaint, complaint, left_out, unexpected, unexpected_kind, too_deep, blocking_call, not_built}
 use Rattle.ada_run.specs.declared.note.Note.TheVariants as note
 use Rattle.ada_run.specs.Phases.{Phase, followed}
 use Rattle.ada_run.specs.Compiled.{Compiled, compiled, compiled_of}
-use Rattle.ada_run.specs.declared.units.Unit.{Unit}
+use Rattle.ada_run.specs.declared.unit.Unit.{Unit}
 use Rattle.ada_run.specs.declared.refusal.Refusal.{Refusal}
 use Rattle.ada_run.specs.declared.refusal.Refusal.TheVariants.{Refused, OutOfMemory}
 use Rattle.ada_run.proofs.Exact.{compiling_exact}
@@ -72,6 +71,13 @@ refuses_told t tree (Some f) told = (misnamed t f, (f, told, refl), refl)
 pub refuses_names : (t : Tokenized) (tree : syntax.Program) (fault : NameFault) (r : Refusal) → Resolved (names_of t tree) tree (Err fault) → r ≡ named_refusal t (fault_of fault) → IsRefusal (naming t) tree r
 refuses_names t tree fault r told same = subst (IsRefusal (naming t) tree) (sym same) (refuses_told t tree (fault_of fault) told)
 
+abbrev token_of : Blocked → ℕ
+token_of (Call at callee) = at
+
+-- the refusal of a call that breaks the rule on nonblocking text
+pub refuses_blocking : (t : Tokenized) (p : typed.Program) (fault : Blocked) (r : Refusal) → Answers p (Err fault) → r ≡ refusal_of (blocking_call t (token_of fault)) → IsRefusal (blocking t) p r
+refuses_blocking t p (Call at callee) r told same = refuses (blocking t) p (blocking_call t at) r (at, callee, told.0, refl) same
+
 -- the refusals of what isn't built, and the unit of what is
 some_is : {A : Type 0} (x y : A) → (let a : Option A = Some x in a ≡ Some y) → x ≡ y
 some_is x y e = cc
@@ -82,9 +88,9 @@ some_or_none x e = absurd cc
 none_or_some : {A : Type 0} (x : A) → (let a : Option A = None in a ≡ Some x) → ⊥
 none_or_some x e = absurd cc
 
-site_told : (t : Tokenized) (p : typed.Program) (sites : List Site) (s : Site) (b : Bool) → slice_get sites 0 ≡ Some s → built_with t p sites b ≡ Err (not_built (place_of_token t s.at))
-site_told t p [] s b e = absurd (none_or_some s e)
-site_told t p (x ∷ xs) s b e = ap (λ (y : Site). told y) (some_is x s e) where
+site_told : (t : Tokenized) (p : typed.Program) (sites : List Site) (s : Site) → slice_get sites 0 ≡ Some s → built_with t p sites ≡ Err (not_built (place_of_token t s.at))
+site_told t p [] s e = absurd (none_or_some s e)
+site_told t p (x ∷ xs) s e = ap (λ (y : Site). told y) (some_is x s e) where
   told : Site → Result Compiled Complaint
   told y = Err (not_built (place_of_token t y.at))
 
@@ -93,22 +99,11 @@ no_site [] e = refl
 no_site (x ∷ xs) e = absurd (some_or_none x e)
 
 pub refuses_site : (t : Tokenized) (p : typed.Program) (s : Site) (r : Refusal) → slice_get p.sites 0 ≡ Some s → r ≡ refusal_of (complaint note.NotBuilt (place_of_token t s.at)) → IsRefusal (building t) p r
-refuses_site t p s r sites same = refuses (building t) p (not_built (place_of_token t s.at)) r (site_told t p p.sites s (p.nonblocking || is_nonblocking p.subs) sites) same
-
-both : (t : Tokenized) (p : typed.Program) (b : Bool) → slice_get p.sites 0 ≡ None → (p.nonblocking || is_nonblocking p.subs) ≡ b → built t p ≡ built_with t p [] b
-both t p b sites is = ap (λ (x : List Site). built_with t p x (p.nonblocking || is_nonblocking p.subs)) (no_site p.sites sites) ∙ ap (built_with t p []) is
-
-pub refuses_nonblocking : (t : Tokenized) (p : typed.Program) (r : Refusal) → slice_get p.sites 0 ≡ None → (p.nonblocking || is_nonblocking p.subs) ≡ true → r ≡ refusal_of (complaint note.NotBuilt beginning) → IsRefusal (building t) p r
-refuses_nonblocking t p r sites is same = refuses (building t) p (not_built beginning) r (both t p true sites is) same
+refuses_site t p s r sites same = refuses (building t) p (not_built (place_of_token t s.at)) r (site_told t p p.sites s sites) same
 
 ok_compiled : Compiled → Result Compiled Complaint
 ok_compiled x = Ok x
 
-pub builds : (t : Tokenized) (p : typed.Program) (c : Compiled) → slice_get p.sites 0 ≡ None → (p.nonblocking || is_nonblocking p.subs) ≡ false → c ≡ compiled t p → built t p ≡ Ok c
+pub builds : (t : Tokenized) (p : typed.Program) (c : Compiled) → slice_get p.sites 0 ≡ None → c ≡ compiled t p → built t p ≡ Ok c
 unfolding ok_compiled
-builds t p c sites is same = both t p false sites is ∙ ap ok_compiled (sym same)
-
--- whether one of some subprograms is nonblocking, as a table has them
-pub any_decoded : (nodes : List Node) (ss : List program.Sub) → is_nonblocking (map (sub_of nodes) ss) ≡ list_any (λ (s : program.Sub). s.nonblocking) ss
-any_decoded nodes [] = refl
-any_decoded nodes (s ∷ ss) = ap (λ z. s.nonblocking || z) (any_decoded nodes ss)
+builds t p c sites same = ap (built_with t p) (no_site p.sites sites) ∙ ap ok_compiled (sym same)

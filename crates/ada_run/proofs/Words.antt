@@ -1,12 +1,10 @@
 -- The word of a fault is that of the token at its place.
-use Rattle.std.proofs.Common.{◌≡◌, ◌⊎◌, inl, inr, ℕ, ◌<◌, ◌≤◌, Bool, true, false, List, [], ◌∷◌, length, Option, Some, None, Result, Ok, Err, refl, sym, ap, ◌∙◌, subst, arith, true≢false, ⊎_elim}
+use Rattle.std.proofs.Common.{◌≡◌, ◌⊎◌, inl, inr, ℕ, ◌<◌, ◌≤◌, Bool, true, false, List, [], ◌∷◌, length, Some, None, Err, refl, sym, ap, ◌∙◌, subst, arith, true≢false, ⊎_elim}
 use Rattle.std.proofs.lemmas.Bool.{cases_lt}
-use Rattle.std.specs.Prelude.{◌||◌}
 use lib.ListN.{get_or-eq_default}
 use Rattle.ada_base.specs.Place.{place_at}
 use Rattle.ada_base.specs.Tokens.{Tokenized, kind_at, place_of_token}
 use Rattle.ada_base.specs.declared.place.Place.{Place}
-use Rattle.ada_base.specs.declared.token.Kind.{Kind}
 use Rattle.ada_base.specs.declared.token.Kind.TheVariants.{End}
 use Rattle.ada_base.specs.declared.token.Token.{Token}
 use Rattle.ada_lexer.specs.Lexed.{AreLexed}
@@ -17,10 +15,10 @@ use Rattle.ada_typed.specs.Syntax as typed
 use Rattle.ada_typed.specs.declared.program.Site.{Site}
 use Rattle.name_rules.specs.declared.log.Rule.{Rule}
 use Rattle.name_rules.specs.declared.log.Rule.TheVariants as rule
-use Rattle.ada_run.specs.Built.{built_with, is_nonblocking, misnamed, note_of}
+use Rattle.ada_run.specs.Built.{built_with, note_of}
 use Rattle.ada_run.specs.Compile.{IsFaultOf}
-use Rattle.ada_run.specs.Compiled.{Compiled, compiled}
-use Rattle.ada_run.specs.Complaints.{Complaint, complaint, beginning, lexical, left_out, unexpected, unexpected_kind, too_deep, not_built}
+use Rattle.ada_run.specs.Compiled.{compiled}
+use Rattle.ada_run.specs.Complaints.{Complaint, complaint, beginning, lexical, unexpected, unexpected_kind, not_built}
 use Rattle.ada_run.specs.Lines.{HasFaultAt, IsWordOf, word_text, left_out_text}
 use Rattle.ada_run.specs.Notes.{code_of}
 use Rattle.ada_run.specs.declared.note.Note.{Note}
@@ -86,17 +84,17 @@ not_left_out (rule.Limit which count) e = omega (arith, e)
 unbuilt : (text : List ℕ) (place : Place) (fault : Complaint) → not_built place ≡ fault → Tells text fault
 unbuilt text place fault e = subst (Tells text) e (inl (plain note.NotBuilt place (λ h. omega (arith, h))))
 
-tells_built : (text : List ℕ) (t : Tokenized) (p : typed.Program) (sites : List Site) (b : Bool) (fault : Complaint) → built_with t p sites b ≡ Err fault → Tells text fault
-tells_built text t p (s ∷ ss) b fault e = unbuilt text (place_of_token t s.at) fault (err_is (not_built (place_of_token t s.at)) fault e)
-tells_built text t p [] true fault e = unbuilt text beginning fault (err_is (not_built beginning) fault e)
-tells_built text t p [] false fault e = absurd (ok_or_err (compiled t p) fault e)
+tells_built : (text : List ℕ) (t : Tokenized) (p : typed.Program) (sites : List Site) (fault : Complaint) → built_with t p sites ≡ Err fault → Tells text fault
+tells_built text t p (s ∷ ss) fault e = unbuilt text (place_of_token t s.at) fault (err_is (not_built (place_of_token t s.at)) fault e)
+tells_built text t p [] fault e = absurd (ok_or_err (compiled t p) fault e)
 
 tells : (text : List ℕ) (fault : Complaint) → IsFaultOf text fault → Tells text fault
 tells text fault (inl (f, first, same)) = subst (Tells text) (sym same) (inl (tells_lexical text f))
 tells text fault (inr (t, lexed, inl (inl (token, first, same)))) = subst (Tells text) (sym same) (tells_unexpected text t token lexed)
 tells text fault (inr (t, lexed, inl (inr (token, deep, same)))) = subst (Tells text) (sym same) (inl (plain note.LimitPassed (place_of_token t token) (λ e. omega (arith, e))))
 tells text fault (inr (t, lexed, inr (tree, parsed, inl (f, told, same)))) = subst (Tells text) (sym same) (inl (plain (note_of f.rule) (place_of_token t f.at) (not_left_out f.rule)))
-tells text fault (inr (t, lexed, inr (tree, parsed, inr (p, named, wrong)))) = tells_built text t p p.sites (p.nonblocking || is_nonblocking p.subs) fault wrong
+tells text fault (inr (t, lexed, inr (tree, parsed, inr (p, named, inl (at, callee, first, same))))) = subst (Tells text) (sym same) (inl (plain note.BlockingCall (place_of_token t at) (λ e. omega (arith, e))))
+tells text fault (inr (t, lexed, inr (tree, parsed, inr (p, named, inr (q, kept, wrong))))) = tells_built text t q q.sites fault wrong
 
 module _ (text : List ℕ) (at : Place) where
   -- a fault with another note has no word

@@ -1,13 +1,12 @@
 -- What is wrong with the names and types of a text, and which programs aren't built yet.
-use Rattle.std.specs.Prelude.{ℕ, List, [], ◌∷◌, Bool, true, false, ◌||◌, Option, Some, None, Result, Ok, Err}
-use Rattle.std.specs.List.{list_any}
+use Rattle.std.specs.Prelude.{List, [], ◌∷◌, Result, Ok, Err}
 use Rattle.ada_base.specs.Tokens.{Tokenized, place_of_token}
-use Rattle.ada_typed.specs.Syntax.{Program, Sub}
+use Rattle.ada_typed.specs.Syntax.{Program}
 use Rattle.ada_typed.specs.declared.program.Site.{Site}
 use Rattle.name_rules.specs.declared.log.Fault.{Fault}
 use Rattle.name_rules.specs.declared.log.Rule.{Rule}
 use Rattle.name_rules.specs.declared.log.Rule.TheVariants as rule
-use Rattle.ada_run.specs.Complaints.{Complaint, complaint, beginning, not_built}
+use Rattle.ada_run.specs.Complaints.{Complaint, complaint, not_built}
 use Rattle.ada_run.specs.Compiled.{Compiled, compiled}
 use Rattle.ada_run.specs.declared.note.Note.{Note}
 use Rattle.ada_run.specs.declared.note.Note.TheVariants as note
@@ -29,15 +28,10 @@ note_of (rule.Limit which count) = note.LimitPassed
 abbrev pub misnamed : Tokenized → Fault → Complaint
 misnamed t f = complaint (note_of f.rule) (place_of_token t f.at)
 
-abbrev pub is_nonblocking : List Sub → Bool
-is_nonblocking ss = list_any (λ s. s.nonblocking) ss
-
--- So far no program has a parallel construct: the first one is told. As blocking calls aren't looked for (9.5), none is
--- nonblocking either.
-abbrev pub built_with : Tokenized → Program → List Site → Bool → Result Compiled Complaint
-built_with t p (s ∷ ss) nonblocking = Err (not_built (place_of_token t s.at))
-built_with t p [] true = Err (not_built beginning)
-built_with t p [] false = Ok (compiled t p)
+-- So far no program has a parallel construct: the first one is told.
+abbrev pub built_with : Tokenized → Program → List Site → Result Compiled Complaint
+built_with t p (s ∷ ss) = Err (not_built (place_of_token t s.at))
+built_with t p [] = Ok (compiled t p)
 
 abbrev pub built : Tokenized → Program → Result Compiled Complaint
-built t p = built_with t p p.sites (p.nonblocking || is_nonblocking p.subs)
+built t p = built_with t p p.sites

@@ -2,6 +2,8 @@
 use Rattle.std.specs.Prelude.{◌≡◌, ◌⊎◌, ⊤, ℕ, List, Option, Some, None, Result, Ok, Err}
 use Rattle.ada_base.specs.Tokens.{Tokenized}
 use Rattle.ada_lexer.specs.Lexed.{AreLexed}
+use Rattle.ada_meaning.specs.Nonblocking.{KeepsRule}
+use Rattle.ada_nonblock.specs.Answer.{IsFirst}
 use Rattle.ada_tree.specs.Faults.{Fault, IsFirstFault}
 use Rattle.ada_tree.specs.Parsed.{IsParsed, IsSyntaxFault, IsTooDeep}
 use Rattle.ada_tree.specs.Syntax as syntax
@@ -10,12 +12,12 @@ use Rattle.name_rules.specs.Resolved.{TypedOf}
 use Rattle.name_rules.specs.declared.log.Fault as names
 use Rattle.name_programs.specs.Resolving.{IsTold}
 use Rattle.name_symbols.specs.Naming.{names_of}
-use Rattle.ada_run.specs.Complaints.{Complaint, lexical, unexpected, too_deep}
+use Rattle.ada_run.specs.Complaints.{Complaint, lexical, unexpected, too_deep, blocking_call}
 use Rattle.ada_run.specs.Built.{misnamed, built}
 use Rattle.ada_run.specs.Notes.{code_of}
 use Rattle.ada_run.specs.Phases.{Phase, followed, by_function}
 use Rattle.ada_run.specs.Compiled.{Compiled, compiled_of}
-use Rattle.ada_run.specs.declared.units.Unit.{Unit}
+use Rattle.ada_run.specs.declared.unit.Unit.{Unit}
 use Rattle.ada_run.specs.declared.refusal.Refusal.{Refusal}
 use Rattle.ada_run.specs.declared.refusal.Refusal.TheVariants.{Refused, OutOfMemory}
 
@@ -42,13 +44,26 @@ naming t = record {
   wrong = λ tree c. (fault : names.Fault) × IsTold (names_of t tree) tree (Some fault) × (c ≡ misnamed t fault);
 }
 
+-- from a typed program that keeps the rule on nonblocking text to itself; wrong is the first call that breaks it (9.5)
+abbrev pub blocking : Tokenized → Phase typed.Program typed.Program Complaint
+blocking t = record {
+  right = λ program same. KeepsRule program × (same ≡ program);
+  wrong = λ program c. (at callee : ℕ) × IsFirst program at callee × (c ≡ blocking_call t at);
+}
+
 -- from a typed program to its unit; wrong is what isn't built yet
 abbrev pub building : Tokenized → Phase typed.Program Compiled Complaint
 building t = by_function (built t)
 
--- all of it
+-- from a typed program, from a tree and from tokens to the unit
+abbrev pub checking : Tokenized → Phase typed.Program Compiled Complaint
+checking t = followed (blocking t) (λ program. building t)
+
+abbrev pub resolving : Tokenized → Phase syntax.Program Compiled Complaint
+resolving t = followed (naming t) (λ tree. checking t)
+
 abbrev pub reading : Phase Tokenized Compiled Complaint
-reading = followed parsing (λ t. followed (naming t) (λ tree. building t))
+reading = followed parsing resolving
 
 abbrev pub compiling : Phase (List ℕ) Compiled Complaint
 compiling = followed lexing (λ text. reading)

@@ -48,6 +48,10 @@ unexpected t token = unexpected_kind (is_left_out (kind_at t.items token)) (kind
 abbrev pub too_deep : Tokenized → ℕ → Complaint
 too_deep t token = complaint note.LimitPassed (place_of_token t token)
 
+-- the call at a token, which breaks the rule on nonblocking text
+abbrev pub blocking_call : Tokenized → ℕ → Complaint
+blocking_call t token = complaint note.BlockingCall (place_of_token t token)
+
 -- what isn't built yet
 abbrev pub not_built : Place → Complaint
 not_built place = complaint note.NotBuilt place

@@ -53,11 +53,10 @@ Causes run_end.ReadFault input input' out out' = Rose input input' × (out'.faul
 Causes run_end.WriteFault input input' out out' = (input'.faults ≡ input.faults) × Rose out out'
 Causes _ input input' out out' = (input'.faults ≡ input.faults) × (out'.faults ≡ out.faults)
 
--- A run: where the input and the output tell, and the program keeps the rule on blocking calls, the answer tells of a
--- permitted one.
+-- A run: where the input and the output tell, the answer tells of a permitted one.
 pub record Runs (Tells : Type 0) (p : Program) (set : Setting) (end : RunEnd) (input input' out out' : Stream) : Type 0 where
   pub causes : Causes end input input' out out'
-  pub run : Tells → KeepsRule p → TellsOf p set end (bytes_of input) (bytes_of out) (bytes_of out')
+  pub run : Tells → TellsOf p set end (bytes_of input) (bytes_of out) (bytes_of out')
 
 -- the answer that an interpreter's end is, with what the variables were then; a main procedure isn't left by an exit or
 -- a return

@@ -6,27 +6,28 @@ ghost use Rattle.ada_base.specs.Place.{place_at};
 ghost use Rattle.ada_tree.specs.Faults.{byte_limit};
 ghost use Rattle.ada_grammar.specs.Parsed.{Parsed};
 ghost use Rattle.ada_lexer.specs.Lexed.{Tells};
+ghost use Rattle.ada_typed.specs.Programs.{program};
 ghost use Rattle.tree_views.specs.Trees.{program_of};
 ghost use Rattle.ada_run.specs.Complaints.{Complaint};
-ghost use Rattle.ada_run.specs.Compile.{Decides, IsRefusal, lexing, parsing, naming, building, reading, compiling, refusal_of, IsAccepted, IsFaultOf, IsRefusalOf, GivesUnit, GivesRefusal};
-ghost use Rattle.ada_run.specs.Phases.{followed};
+ghost use Rattle.ada_run.specs.Compile.{Decides, IsRefusal, lexing, parsing, checking, resolving, reading, compiling, refusal_of, IsAccepted, IsFaultOf, IsRefusalOf, GivesUnit, GivesRefusal};
 ghost use Rattle.ada_run.specs.Compiled.{Compiled, compiled_of};
 
-use crate::naming::{built, typed_of};
+use crate::naming::{built, keeps, typed_of};
 use crate::note::Note;
 use crate::refusal::{BEGINNING, Refusal};
-use crate::units::Unit;
+use crate::unit::Unit;
 use ada_base::{Place, Tokens, place_of};
 use ada_grammar::{ParseFault, parse};
 use ada_lexer::{LexFault, lex};
+use ada_typed::Typed;
 use std::alloc::Global;
 use tree_views::Tree;
 
 /// Compiles a text, which is given by its bytes. A text that isn't accepted is refused by its one fault: its first
 /// lexical fault (`E01`, `E02`, `E12`); else its first syntax fault, at a token that the language leaves out (`E04`) or
 /// at another (`E03`), or the first token that stands deeper than 64 (`E12`), whichever comes first; else the least fault
-/// of its names and types (`E05`, `E06`, `E07`, `E11`, `E12`); and else `E13 not built yet`, at its first parallel
-/// construct, or at the text's beginning where a subprogram is nonblocking. An accepted text gets its unit, and every
+/// of its names and types (`E05`, `E06`, `E07`, `E11`, `E12`); else its first call that breaks the rule on nonblocking
+/// text (`E08`); and else `E13 not built yet`, at its first parallel construct. An accepted text gets its unit, and every
 /// fault of a text its refusal, unless memory runs out.
 pub fn compile(alloc: Global, text: &[u8]) -> Result<Unit, Refusal>
     ensures accepted { IfOk result (λ unit. IsAccepted text.now (compiled_of unit)) }
@@ -60,12 +61,24 @@ fn unit_of(alloc: Global, tokens: &Tokens) -> Result<Unit, Refusal>
 }
 
 fn whole_of(alloc: Global, tokens: &Tokens, tree: &Tree) -> Result<Unit, Refusal>
-    ensures { Decides (followed (naming tokens.now) (λ tree. building tokens.now)) compiled_of (program_of tree.now) result }
+    ensures { Decides (resolving tokens.now) compiled_of (program_of tree.now) result }
 {
     let typed = match typed_of(alloc, tokens, tree) {
         Ok(typed) => typed,
         Err(refusal) => return Err(refusal),
     };
+    match checked(alloc, tokens, typed) {
+        Ok(unit) => Ok(unit),
+        Err(refusal) => Err(refusal),
+    }
+}
+
+fn checked(alloc: Global, tokens: &Tokens, typed: Typed) -> Result<Unit, Refusal>
+    ensures { Decides (checking tokens.now) compiled_of (program typed) result }
+{
+    if let Err(refusal) = keeps(tokens, &typed) {
+        return Err(refusal);
+    }
     match built(alloc, tokens, typed) {
         Ok(unit) => Ok(unit),
         Err(refusal) => Err(refusal),

@@ -7,10 +7,11 @@ mod note;
 mod refusal;
 mod runner;
 mod shapes;
+mod unit;
 mod units;
 
 pub use compiler::{compile, one_answer};
 pub use note::Note;
 pub use refusal::Refusal;
 pub use runner::{Finals, Ran, RunEnd, execute};
-pub use units::{Final, Unit};
+pub use unit::{Final, Unit};

@@ -1,21 +1,22 @@
-//! The typed program of a text, and its unit.
+//! The typed program of a text, the rule on nonblocking text, and the unit.
 
-ghost use Rattle.std.specs.Prelude.{◌≡◌, ◌||◌};
-ghost use Rattle.std.specs.List.{list_any};
+ghost use Rattle.std.specs.Prelude.{◌≡◌};
 ghost use Rattle.ada_base.specs.Tokens.{place_of_token};
+ghost use Rattle.ada_meaning.specs.Nonblocking.{KeepsRule};
 ghost use Rattle.ada_typed.specs.Programs.{program};
 ghost use Rattle.name_programs.specs.Resolving.{fault_of};
 ghost use Rattle.tree_views.specs.Trees.{program_of};
 ghost use Rattle.ada_run.specs.Complaints.{complaint};
-ghost use Rattle.ada_run.specs.Compile.{Decides, building, naming, named_refusal, refusal_of};
-ghost use Rattle.ada_run.specs.Built.{is_nonblocking};
+ghost use Rattle.ada_run.specs.Compile.{Decides, blocking, building, naming, named_refusal, refusal_of};
 ghost use Rattle.ada_run.specs.Compiled.{compiled_of};
 
 use crate::note::Note;
-use crate::refusal::{BEGINNING, Refusal};
-use crate::units::{Unit, finish};
+use crate::refusal::Refusal;
+use crate::unit::Unit;
+use crate::units::finish;
 use ada_base::Tokens;
-use ada_typed::{Sub, Typed};
+use ada_nonblock::{Blocked, check};
+use ada_typed::Typed;
 use name_programs::{NameFault, resolve};
 use std::alloc::Global;
 use tree_views::Tree;
@@ -57,32 +58,26 @@ fn refused(tokens: &Tokens, note: Note, at: u32) -> Refusal
     Refusal::of(note, tokens.place(at))
 }
 
-/// The unit of a typed program, or what of it isn't built yet.
+/// Whether a typed program keeps the rule on nonblocking text, or the first call that breaks it (9.5).
+pub fn keeps(tokens: &Tokens, typed: &Typed) -> Result<(), Refusal>
+    ensures { Decides (blocking tokens.now) (λ u. program typed.now) (program typed.now) result }
+{
+    match check(typed) {
+        Ok(()) => Ok(()),
+        Err(Blocked::Call { at, .. }) => Err(refused(tokens, Note::BlockingCall, at)),
+    }
+}
+
+/// The unit of a typed program that keeps the rule on nonblocking text, or what of it isn't built yet.
 pub fn built(alloc: Global, tokens: &Tokens, typed: Typed) -> Result<Unit, Refusal>
+    requires { KeepsRule (program typed) }
     ensures { Decides (building tokens.now) compiled_of (program typed) result }
 {
     if let Some(site) = typed.sites.get(0) {
         return Err(refused(tokens, Note::NotBuilt, site.at));
     }
-    if nonblocking(&typed) {
-        return Err(Refusal::of(Note::NotBuilt, BEGINNING));
-    }
     match finish(alloc, tokens, typed) {
         Ok(unit) => Ok(unit),
         Err(_) => Err(Refusal::OutOfMemory),
     }
-}
-
-/// Whether the main procedure or a subprogram is nonblocking (9.5).
-#[tactic(auto, using(crate::proofs::Steps::any_decoded))]
-fn nonblocking(typed: &Typed) -> bool
-    ensures { result ≡ ((program typed.now).nonblocking || is_nonblocking (program typed.now).subs) }
-{
-    typed.nonblocking || any_nonblocking(typed.subs.as_slice())
-}
-
-fn any_nonblocking(subs: &[Sub]) -> bool
-    ensures { result ≡ list_any (λ s. s.nonblocking) subs.now }
-{
-    subs.iter().any(|sub| sub.nonblocking)
 }

@@ -6,7 +6,7 @@ ghost use Rattle.ada_typed.specs.Programs.{program};
 ghost use Rattle.chunk_plan.specs.Plans.{HasNoZero};
 ghost use Rattle.ada_run.specs.Running.{Comes, Runs, end_of, setting_of};
 
-use crate::units::Unit;
+use crate::unit::Unit;
 use ada_base::{Items, Reason};
 use ada_interpreter::{SoundPlan, Work, run};
 use ada_port::{Pulse, Sink, Source};

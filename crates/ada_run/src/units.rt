@@ -1,34 +1,21 @@
-//! What a text is compiled to.
+//! The unit of a typed program.
 
 ghost use Rattle.std.specs.Prelude.{◌≡◌, ◌++◌, ◌∷◌, [], IfOk, slice_get};
 ghost use Rattle.ada_meaning.specs.Meaning.{object_layout};
+ghost use Rattle.ada_meaning.specs.Nonblocking.{KeepsRule};
 ghost use Rattle.ada_typed.specs.Decoded.{decls_at};
 ghost use Rattle.ada_typed.specs.Programs.{program};
 ghost use Rattle.ada_run.specs.Compiled.{also_final, compiled, compiled_of, declared_variable, exception_names, final_of, finals_behind, name_of, truths};
 
 use crate::shapes::truths_of;
+use crate::unit::{Final, Unit};
 use ada_base::{Items, Tokens};
 use ada_typed::{Decl, Declared, Typed};
 use std::alloc::{AllocError, Global};
 
-/// A variable of the main procedure's declarative part: its name as declared, and which of its cells are Boolean.
-#[derive(Drop)]
-pub struct Final {
-    pub name: Items<u8>,
-    pub booleans: Items<bool>,
-}
-
-/// What a text is compiled to: its typed program; the variables of the main procedure's declarative part, in order; and
-/// the names of the exceptions that it declares, by their numbers.
-#[derive(Drop)]
-pub struct Unit {
-    pub typed: Typed,
-    pub finals: Items<Final>,
-    pub exceptions: Items<Items<u8>>,
-}
-
 /// The unit of a typed program, whose names are those of these tokens. An Err is want of memory.
 pub fn finish(alloc: Global, tokens: &Tokens, typed: Typed) -> Result<Unit, AllocError>
+    requires { KeepsRule (program typed) }
     ensures { IfOk result (λ unit. compiled_of unit ≡ compiled tokens.now (program typed)) }
 {
     let finals = finals(alloc, tokens, &typed)?;

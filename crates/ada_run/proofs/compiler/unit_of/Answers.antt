@@ -1,10 +1,9 @@
-use Rattle.ada_run.specs.Compile.{parsing, naming, building}
-use Rattle.ada_run.specs.Phases.{followed}
+use Rattle.ada_run.specs.Compile.{parsing, resolving}
 use Rattle.ada_run.proofs.Steps.{refuses_first, refuses_next}
 use Rattle.ada_run.proofs.compiler.unit_of.Goals as goal
 
 pub returns-in-Err : goal.returns-in-Err
-returns-in-Err c = refuses_first parsing (λ t. followed (naming t) (λ tree. building t)) c.args.tokens.now c.in-Err.refusal c.in-Err.ensures
+returns-in-Err c = refuses_first parsing resolving c.args.tokens.now c.in-Err.refusal c.in-Err.ensures
 
 pub returns : goal.returns
-returns c = refuses_next parsing (λ t. followed (naming t) (λ tree. building t)) c.args.tokens.now _ c.in-Err-whole_of.refusal c.in-Ok.ensures c.in-Err-whole_of.ensures
+returns c = refuses_next parsing resolving c.args.tokens.now _ c.in-Err-whole_of.refusal c.in-Ok.ensures c.in-Err-whole_of.ensures

@@ -1,0 +1,26 @@
+//! What a text is compiled to.
+
+ghost use Rattle.std.specs.Prelude.{ℕ};
+ghost use Rattle.ada_meaning.specs.Blocked.{Blocked};
+ghost use Rattle.ada_typed.specs.Programs.{program};
+
+use ada_base::Items;
+use ada_typed::Typed;
+
+/// A variable of the main procedure's declarative part: its name as declared, and which of its cells are Boolean.
+#[derive(Drop)]
+pub struct Final {
+    pub name: Items<u8>,
+    pub booleans: Items<bool>,
+}
+
+/// What a text is compiled to: its typed program, in which no call breaks the rule on nonblocking text (9.5); the
+/// variables of the main procedure's declarative part, in order; and the names of the exceptions that it declares, by
+/// their numbers.
+#[derive(Drop)]
+pub struct Unit {
+    pub typed: Typed,
+    pub finals: Items<Final>,
+    pub exceptions: Items<Items<u8>>,
+    pub ghost unblocked: { (token last : ℕ) → Blocked (program typed) token last → ⊥ },
+}
