@@ -1,5 +1,7 @@
--- A text that no rule refuses, of a form that isn't built yet.
-procedure Main with Nonblocking is
+-- A text that no rule refuses, with a parallel construct.
+procedure Main is
 begin
-   null;
+   parallel for I in 1 .. 2 loop
+      null;
+   end loop;
 end Main;
