@@ -19,7 +19,7 @@ trap 'rm -rf "$work"' EXIT
 
 # Proves every crate below the program, and the program, and builds it.
 build() {
-  say "proving and building; with nothing kept this takes half an hour on four cores"
+  say "proving and building; with nothing kept this takes about an hour on two cores"
   if (cd "$crate" && rt run -- run data/t.ada) >"$work/log" 2>&1 </dev/null; then
     touch "$program"
   else
@@ -31,7 +31,7 @@ build() {
 
 # Compiles the program without proving it, and runs it in a folder of its own, which gets the files that words name.
 try() {
-  say "no proved program is built (ada build): compiling without proof, which takes half a minute"
+  say "no proved program is built (ada build): compiling without proof, which takes a minute or two"
   local from=$PWD word data=() words=()
   for word in "$@"; do
     case $word in
