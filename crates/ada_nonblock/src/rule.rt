@@ -52,7 +52,6 @@ fn first(typed: &Typed) -> Option<Breach>
 }
 
 /// Whether a typed program keeps the rule on nonblocking text (9.5); if not, the call that breaks it first in the text.
-
 pub fn check(typed: &Typed) -> Result<(), Blocked>
     ensures { Answers (program typed.now) result }
 {
