@@ -1,5 +1,5 @@
 -- What is said of a refusal is what becomes of its text.
-use Rattle.std.proofs.Common.{◌≡◌, ℕ, List, refl, sym, ap, ◌∙◌, subst, inl, inr}
+use Rattle.std.proofs.Common.{ℕ, List, refl, ap, ◌∙◌, subst, inl, inr}
 use Rattle.ada_port.specs.Ports.{Stream}
 use Rattle.ada_run.specs.Compile.{IsRefusalOf}
 use Rattle.ada_run.specs.declared.refusal.Refusal.{Refusal}

@@ -1,10 +1,9 @@
 -- The causes of the statuses, from what became of the words.
-use Rattle.std.proofs.Common.{◌≡◌, ◌⊎◌, ◌<◌, ℕ, zero, suc, List, Bool, true, false, Option, Some, None, Result, Ok, Err, refl, sym, ap, subst, inl, inr, ◌∙◌, arith}
+use Rattle.std.proofs.Common.{◌≡◌, ℕ, zero, suc, List, Bool, true, false, Option, Some, None, refl, sym, ap, subst, inl, inr, ◌∙◌}
 use Rattle.std.specs.Prelude.{IfSome}
-use Rattle.ada_base.specs.declared.reason.Reason.{Reason}
 use Rattle.ada_meaning.specs.Law as law
 use Rattle.ada_meaning.specs.Law.{Ending}
-use Rattle.ada_port.specs.Ports.{Texts, Stream, Grows, GrowsByPrefix, Breaks, Rose, fetched}
+use Rattle.ada_port.specs.Ports.{Stream, Rose, fetched}
 use Rattle.ada_port.proofs.Faults.{Rose-after_same}
 use Rattle.ada_run.specs.Compile.{IsAccepted, IsFaultOf}
 use Rattle.ada_run.specs.Compiled.{Compiled}
@@ -15,11 +14,9 @@ use Rattle.ada_run.specs.declared.runner.RunEnd.{RunEnd}
 use Rattle.ada_run.specs.declared.runner.RunEnd.TheVariants as run_end
 use Rattle.ada_run.proofs.Exact.{compiling_exact}
 use Rattle.command_words.specs.Words.{Asked, asked}
-use Rattle.command_words.specs.declared.request.Mode.{Mode}
 use Rattle.command_words.specs.declared.request.Mode.TheVariants as mode
-use Rattle.ada_cmd.specs.Answer.{Answers, Wrong, Right, Unasked, AnswersFile, Unread, Read, Short, AnswersText, Refuses, Checks, Starts, Lacks, Closes, Whole, OutFailed, Lacked, Devices, EndsBy, IsFetched, Outside, RunsUnit, Says, SaysNoMemory, SaysOrLacks, Untouched, number_of, setting_of}
-use Rattle.ada_cmd.specs.Causes as causes
-use Rattle.ada_cmd.specs.Causes.{Asks, Cause, Fails, ShelfFails, ErrFails, MemoryFails, HasCheck, HasEnding, IsNotAccepted, MayEnd, Meets}
+use Rattle.ada_cmd.specs.Answer.{Answers, Wrong, Right, Unasked, AnswersFile, Unread, Read, Short, AnswersText, Refuses, Checks, Starts, Lacks, Closes, Whole, OutFailed, Lacked, EndsBy, IsFetched, Outside, RunsUnit, Says, SaysNoMemory, SaysOrLacks, Untouched, number_of, setting_of}
+use Rattle.ada_cmd.specs.Causes.{Asks, Cause, ShelfFails, ErrFails, MemoryFails, MayEnd, Meets}
 use Rattle.ada_cmd.specs.Lines.{accepted_line, ended, usage_line}
 use Rattle.ada_cmd.specs.declared.status.Status.{Status}
 use Rattle.ada_cmd.specs.declared.status.Status.TheVariants as status

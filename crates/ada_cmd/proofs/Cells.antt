@@ -1,5 +1,5 @@
 -- The cells of a variable, one by one.
-use Rattle.std.proofs.Common.{◌≡◌, ℕ, zero, suc, ◌+◌, ◌-◌, ◌<◌, ◌≤◌, ℤ, length, get_or, List, [], ◌∷◌, ◌++◌, drop, Bool, refl, sym, ap, ◌∙◌, arith, append_assoc}
+use Rattle.std.proofs.Common.{◌≡◌, ℕ, suc, ◌+◌, ◌-◌, ◌<◌, ◌≤◌, ℤ, length, get_or, List, [], ◌∷◌, ◌++◌, drop, Bool, refl, sym, ap, ◌∙◌, arith, append_assoc}
 use Rattle.std.proofs.lemmas.List.{append-nil, drop_more}
 use Rattle.ada_stored.specs.Stored.{filled}
 use Rattle.ada_cmd.specs.Vars.{cell_text, cells_text, first_or_zero}

@@ -1,12 +1,12 @@
 -- A count that rose gives its status.
-use Rattle.std.proofs.Common.{◌≡◌, ◌⊎◌, ◌<◌, ℕ, List, Bool, true, false, refl, sym, ap, subst, inl, inr, ◌∙◌, arith}
-use Rattle.ada_port.specs.Ports.{Texts, Stream, Grows, GrowsByPrefix, Breaks, Rose}
+use Rattle.std.proofs.Common.{◌≡◌, ◌⊎◌, ◌<◌, ℕ, List, Bool, true, false, ap, inl, inr, ◌∙◌, arith}
+use Rattle.ada_port.specs.Ports.{Texts, Stream}
 use Rattle.ada_run.specs.Compiled.{Compiled}
 use Rattle.ada_run.specs.Running as running
 use Rattle.ada_run.specs.declared.runner.RunEnd.{RunEnd}
 use Rattle.ada_run.specs.declared.runner.RunEnd.TheVariants as run_end
 use Rattle.command_words.specs.Words.{Asked}
-use Rattle.ada_cmd.specs.Answer.{Answers, Wrong, Right, Unasked, AnswersFile, Unread, Read, Short, AnswersText, Refuses, Checks, Starts, Lacks, Closes, Whole, OutFailed, Lacked, Devices, EndsBy, Outside, RunsUnit, Says, SaysNoMemory, SaysOrLacks, Untouched, number_of}
+use Rattle.ada_cmd.specs.Answer.{Answers, Wrong, Right, Unasked, AnswersFile, Unread, Read, Short, AnswersText, Refuses, Checks, Starts, Lacks, Closes, Whole, OutFailed, Lacked, Devices, EndsBy, Outside, Says, SaysOrLacks, Untouched, number_of}
 use Rattle.ada_cmd.specs.declared.status.Status.{Status}
 use Rattle.ada_cmd.specs.declared.status.Status.TheVariants as status
 

@@ -1,5 +1,5 @@
 -- What is put piece by piece.
-use Rattle.std.proofs.Common.{◌≡◌, ℕ, List, [], ◌++◌, Result, Ok, Err, refl, sym, ap, ◌∙◌, subst, append_assoc}
+use Rattle.std.proofs.Common.{ℕ, List, [], ◌++◌, Err, refl, sym, ◌∙◌, subst, append_assoc}
 use Rattle.std.proofs.lemmas.List.{append-nil}
 use Rattle.ada_port.proofs.Growth.{Grows-none, Grows-append, GrowsByPrefix-append, GrowsByPrefix-longer, Breaks-append, Breaks-longer}
 use Rattle.ada_port.specs.Ports.{Stream, Grows, GrowsByPrefix, Breaks}

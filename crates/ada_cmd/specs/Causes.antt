@@ -1,5 +1,5 @@
 -- The causes of the statuses, each in both directions.
-use Rattle.std.specs.Prelude.{◌≡◌, ◌⊎◌, ⊤, ℕ, List, Option, Some, None, Bool}
+use Rattle.std.specs.Prelude.{◌≡◌, ◌⊎◌, ⊤, ℕ, List, Some, None, Bool}
 use Rattle.ada_base.specs.declared.reason.Reason.{Reason}
 use Rattle.ada_meaning.specs.Law.{Ending, Ended, Raised, TurnsSpent, IsPermitted, Outcome}
 use Rattle.ada_port.specs.Ports.{Texts, Rose, bytes_of, fetched}
@@ -7,7 +7,7 @@ use Rattle.ada_run.specs.Compile.{IsAccepted}
 use Rattle.ada_run.specs.Compiled.{Compiled}
 use Rattle.command_words.specs.Words.{Asked, asked}
 use Rattle.command_words.specs.declared.request.Mode.TheVariants as mode
-use Rattle.ada_cmd.specs.Answer.{Answers, Devices, Outside, IsFetched, RunsUnit, Untouched, number_of, setting_of}
+use Rattle.ada_cmd.specs.Answer.{Answers, Devices, Outside, IsFetched, Untouched, number_of, setting_of}
 use Rattle.ada_cmd.specs.declared.status.Status.{Status}
 use Rattle.ada_cmd.specs.declared.status.Status.TheVariants as status
 

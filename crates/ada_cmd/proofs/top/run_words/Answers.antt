@@ -1,4 +1,4 @@
-use Rattle.std.proofs.Common.{◌≡◌, sym, ap, ◌∙◌, inl, inr, ⊎_elim}
+use Rattle.std.proofs.Common.{ap, ◌∙◌}
 use Rattle.ada_cmd.specs.Answer.{number_of}
 use Rattle.ada_cmd.specs.declared.status.Status.TheVariants as status
 use Rattle.ada_cmd.proofs.Causes as causes
