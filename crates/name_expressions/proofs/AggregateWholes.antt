@@ -116,11 +116,11 @@ pub two_placed : (here : Context) (component : spec.Component) (d : Dimension) (
     → spec.array_values here component d apart d.low (placed p s) (exprs_in at first (Some n) more) log ≡ spec.array_values here component d apart z (placed r w) (the_exprs (at more)) b
 two_placed here component d apart at first n more log a b p q r s t u v w x y z f g xs ys zs e k l h i j =
     let first' : spec.with_ranges d apart None Nothing (placed p s) ((d.low, d.low) ∷ []) (part_if f (top t)) ≡ placed q u =
-    ap (λ (o : ℤ). spec.with_ranges d apart None Nothing (placed p s) ((o, o) ∷ []) (part_if f (top t))) (sym xs)
-    ∙ (ap (λ (o : List Part). spec.with_ranges d apart None Nothing (placed p o) ((x, x) ∷ []) (part_if f (top t))) (sym k) ∙ l) in
+        ap (λ (o : ℤ). spec.with_ranges d apart None Nothing (placed p s) ((o, o) ∷ []) (part_if f (top t))) (sym xs)
+        ∙ (ap (λ (o : List Part). spec.with_ranges d apart None Nothing (placed p o) ((x, x) ∷ []) (part_if f (top t))) (sym k) ∙ l) in
     let second' : spec.with_ranges d apart None Nothing (placed q u) ((d.low +ℤ pos 1, d.low +ℤ pos 1) ∷ []) (part_if g (top v)) ≡ placed r w =
-    ap (λ (o : ℤ). spec.with_ranges d apart None Nothing (placed q u) ((o, o) ∷ []) (part_if g (top v))) (sym ys)
-    ∙ (ap (λ (o : List Part). spec.with_ranges d apart None Nothing (placed q o) ((y, y) ∷ []) (part_if g (top v))) (sym i) ∙ j) in
+        ap (λ (o : ℤ). spec.with_ranges d apart None Nothing (placed q u) ((o, o) ∷ []) (part_if g (top v))) (sym ys)
+        ∙ (ap (λ (o : List Part). spec.with_ranges d apart None Nothing (placed q o) ((y, y) ∷ []) (part_if g (top v))) (sym i) ∙ j) in
     ap (λ (o : Option Part × Log). spec.array_values here component d apart (d.low +ℤ pos 1) (spec.with_ranges d apart None Nothing (placed p s) ((d.low, d.low) ∷ []) o.0) (syntax.AlsoExpr (the_expr (at n)) (the_exprs (at more))) o.1) e
     ∙ (ap (λ (o : spec.Placing). spec.array_values here component d apart (d.low +ℤ pos 1) o (syntax.AlsoExpr (the_expr (at n)) (the_exprs (at more))) a) first'
     ∙ (ap (λ (o : Option Part × Log). spec.array_values here component d apart ((d.low +ℤ pos 1) +ℤ pos 1) (spec.with_ranges d apart None Nothing (placed q u) ((d.low +ℤ pos 1, d.low +ℤ pos 1) ∷ []) o.0) (the_exprs (at more)) o.1) h

@@ -34,6 +34,6 @@ shape_gone names inside here place ss bracket a as' t cells cells' ds log b c x 
     gone (indexes names inside here (dimensions_of t) cells (Some ss) (syntax.AlsoArg a as')) (indexed place bracket (length (dimensions_of t)) (count (syntax.AlsoArg a as')) (component_of t))
     log c (part_if r p) m n r
     (ap (λ (k : List Dimension). indexes names inside here k cells (Some ss) (syntax.AlsoArg a as') log) (sym d)
-    ∙ (ap (λ (k : ℕ). indexes names inside here ds k (Some ss) (syntax.AlsoArg a as') log) (sym e)
-    ∙ (ap (λ (o : Option Part × Log). indexes names inside here (drop 1 ds) cells' o.0 as' o.1) f ∙ g)))
+        ∙ (ap (λ (k : ℕ). indexes names inside here ds k (Some ss) (syntax.AlsoArg a as') log) (sym e)
+        ∙ (ap (λ (o : Option Part × Log). indexes names inside here (drop 1 ds) cells' o.0 as' o.1) f ∙ g)))
     h i (none_if r p) j

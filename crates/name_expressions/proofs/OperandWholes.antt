@@ -71,8 +71,8 @@ pub bound_kept : {E : Type 0} (names : Names) (inside : Inside) (here : Context)
 bound_kept names inside here first a bracket as' ds log now zs ks z all m n s t result last u d e g h i j k q w =
     judges_so (bound_with names inside here first (top s) a bracket as' ds log) (one_dimension first bracket (second t) a ds (arg_names as') (founds ks (top t)) now) (pop s) (pop (pop t)) result last u
     (bound_where names inside here first (top s) a bracket as' ds log d
-    ∙ (operands_kept names inside here as' (one_dimension first bracket (top s) a ds (arg_names as')) log now zs ks z (top t) all m n e g h i j k
-    ∙ ap (λ x. one_dimension first bracket (top x) a ds (arg_names as') (founds ks (top t)) now) (sym q)))
+        ∙ (operands_kept names inside here as' (one_dimension first bracket (top s) a ds (arg_names as')) log now zs ks z (top t) all m n e g h i j k
+        ∙ ap (λ x. one_dimension first bracket (top x) a ds (arg_names as') (founds ks (top t)) now) (sym q)))
     (ap pop (sym q)) w
 
 pub one_gone : (names : Names) (inside : Inside) (here : Context) (bracket : ℕ) (k : Kind) (make : Expr → Denoted) (as' : Args) (log now : Log) (zs ks : List Known) (z p : Part) (all : Bool) (m n : ℕ)

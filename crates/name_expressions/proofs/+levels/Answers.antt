@@ -58,16 +58,15 @@ array_aggregates::array_positions-returns-in_ok-position_given-in-Some t c =
     let b : SFits w128 f = search rules in
     rw c.in-Some.is (ok_so _ _ _ (placed c.array_values-in-Some.new.placing (parts c.array_values-in-Some.new.out), c.array_values-in-Some.new.log) (pop (pop (parts c.array_values-in-Some.new.out))) _ _
     (two_placed c.args.here.now (rows.component c.args.names.now (inside c.args.names.now c.args.levels) c.args.row) c.args.row.dimension c.args.row.apart (part_at c.args.tree.now.nodes) c.args.first c.in-Some.second c.args.more c.args.log.now c.component.new.log c.component-in-Some.new.log c.args.placing.now c.position_given.new.placing c.position_given-in-Some.new.placing (parts c.args.out.now) (parts c.component.new.out) (parts c.position_given.new.out) (parts c.component-in-Some.new.out) (parts c.position_given-in-Some.new.out) _ _ _ c.in_ok-given.given c.in_ok-given-in-Some.given
-    (wide low f a b c.from-low.ensures) (wide_next low f a b c.from-low.ensures) (wide_second low f a b c.from-low.ensures)
-    c.in_ok-given.ensures.0 c.in_ok-given.ensures.1 c.in_ok-position_given.ensures.0 c.in_ok-given-in-Some.ensures.0 c.in_ok-given-in-Some.ensures.1 c.in_ok-position_given-in-Some.ensures.0)
+        (wide low f a b c.from-low.ensures) (wide_next low f a b c.from-low.ensures) (wide_second low f a b c.from-low.ensures)
+        c.in_ok-given.ensures.0 c.in_ok-given.ensures.1 c.in_ok-position_given.ensures.0 c.in_ok-given-in-Some.ensures.0 c.in_ok-given-in-Some.ensures.1 c.in_ok-position_given-in-Some.ensures.0)
     (sym (c.in_ok-position_given-in-Some.ensures.1 ∙ (ap (λ (s : List Part). pop (pop s)) c.in_ok-given-in-Some.ensures.1 ∙ (c.in_ok-position_given.ensures.1 ∙ ap (λ (s : List Part). pop (pop s)) c.in_ok-given.ensures.1))))
     c.array_values-in-Some.ensures)
 
 pub array_aggregates::named_array-returns-then-len-before : goal.array_aggregates::named_array-returns-then-len-before
 array_aggregates::named_array-returns-then-len-before t c = (
-  dimension_gone _ _ _ _ _ _ _ _ _ _ _ _ _ (assocs_placed _ _ _ _ _ _ _ _ _ _ _ _ _ _ _ c.in_ok-placing.ensures.0 c.is_final-last.ensures c.in_ok-array_assoc.ensures.0 c.in_ok-array_assocs.ensures.0) c.len-before.ensures c.len.ensures c.if-len-before.true,
-  ap pop c.leave_out.ensures ∙ (c.in_ok-array_assocs.ensures.1 ∙ (c.in_ok-array_assoc.ensures.1 ∙ c.in_ok-placing.ensures.1)),
-)
+    dimension_gone _ _ _ _ _ _ _ _ _ _ _ _ _ (assocs_placed _ _ _ _ _ _ _ _ _ _ _ _ _ _ _ c.in_ok-placing.ensures.0 c.is_final-last.ensures c.in_ok-array_assoc.ensures.0 c.in_ok-array_assocs.ensures.0) c.len-before.ensures c.len.ensures c.if-len-before.true,
+    ap pop c.leave_out.ensures ∙ (c.in_ok-array_assocs.ensures.1 ∙ (c.in_ok-array_assoc.ensures.1 ∙ c.in_ok-placing.ensures.1)))
 
 pub array_aggregates::named_array-returns : goal.array_aggregates::named_array-returns
 array_aggregates::named_array-returns t c = gives_so _ _ _ _ _ _ _
@@ -76,9 +75,8 @@ array_aggregates::named_array-returns t c = gives_so _ _ _ _ _ _ _
 
 pub array_aggregates::positional_array-returns-then-len-before : goal.array_aggregates::positional_array-returns-then-len-before
 array_aggregates::positional_array-returns-then-len-before t c = (
-  dimension_gone _ _ _ _ _ _ _ _ _ _ _ _ _ (values_placed c.args.names.now (inside c.args.names.now c.args.levels) c.args.here.now (rows.component c.args.names.now (inside c.args.names.now c.args.levels) c.args.row) c.args.row.dimension c.args.row.apart (exprs_in (part_at c.args.tree.now.nodes) c.args.first c.args.second c.args.more) (optional_expr (part_at c.args.tree.now.nodes) c.args.others) c.args.log.now c.array_positions.new.log c.array_rest.new.log (placed c.in_ok-placing.placing (parts c.nothing_placed.new.out)) (placed c.array_positions.new.placing (parts c.array_positions.new.out)) (placed c.array_rest.new.placing (parts c.array_rest.new.out)) c.in_ok-placing.ensures.0 c.in_ok-array_positions.ensures.0 c.in_ok-array_rest.ensures.0) c.len-before.ensures c.len.ensures c.if-len-before.true,
-  ap pop c.leave_out.ensures ∙ (c.in_ok-array_rest.ensures.1 ∙ (c.in_ok-array_positions.ensures.1 ∙ c.in_ok-placing.ensures.1)),
-)
+    dimension_gone _ _ _ _ _ _ _ _ _ _ _ _ _ (values_placed c.args.names.now (inside c.args.names.now c.args.levels) c.args.here.now (rows.component c.args.names.now (inside c.args.names.now c.args.levels) c.args.row) c.args.row.dimension c.args.row.apart (exprs_in (part_at c.args.tree.now.nodes) c.args.first c.args.second c.args.more) (optional_expr (part_at c.args.tree.now.nodes) c.args.others) c.args.log.now c.array_positions.new.log c.array_rest.new.log (placed c.in_ok-placing.placing (parts c.nothing_placed.new.out)) (placed c.array_positions.new.placing (parts c.array_positions.new.out)) (placed c.array_rest.new.placing (parts c.array_rest.new.out)) c.in_ok-placing.ensures.0 c.in_ok-array_positions.ensures.0 c.in_ok-array_rest.ensures.0) c.len-before.ensures c.len.ensures c.if-len-before.true,
+    ap pop c.leave_out.ensures ∙ (c.in_ok-array_rest.ensures.1 ∙ (c.in_ok-array_positions.ensures.1 ∙ c.in_ok-placing.ensures.1)))
 
 pub array_aggregates::positional_array-returns : goal.array_aggregates::positional_array-returns
 array_aggregates::positional_array-returns t c = gives_so _ _ _ _ _ _ _
@@ -87,10 +85,9 @@ array_aggregates::positional_array-returns t c = gives_so _ _ _ _ _ _ _
 
 pub attributes::bound_with-returns-then-len-before : goal.attributes::bound_with-returns-then-len-before
 attributes::bound_with-returns-then-len-before t c = (
-  bound_gone c.args.names.now (inside c.args.names.now c.args.levels) c.args.here.now c.args.first (top (parts c.args.out.now)) c.args.attribute c.args.bracket (syntax.AlsoArg (the_arg (part_at c.args.tree.now.nodes c.args.arg)) (the_args (part_at c.args.tree.now.nodes c.args.more))) c.args.dimensions.now c.args.log.now c.all_operands.new.log c.new-found.result c.all_operands.new.found (top (parts c.nothing.new.self)) (top (parts c.all_operands.new.out)) c.in_ok-all.all c.len-before.result c.len.result
-      (search rules) c.new-found.ensures c.in_ok-all.ensures.0 c.len-before.ensures c.len.ensures c.then-len-before.either,
-  ap pop c.leave_out.ensures ∙ (ap pop c.in_ok-all.ensures.1 ∙ ap (λ (s : List Part). pop (pop s)) c.in_ok-nothing.ensures),
-)
+    bound_gone c.args.names.now (inside c.args.names.now c.args.levels) c.args.here.now c.args.first (top (parts c.args.out.now)) c.args.attribute c.args.bracket (syntax.AlsoArg (the_arg (part_at c.args.tree.now.nodes c.args.arg)) (the_args (part_at c.args.tree.now.nodes c.args.more))) c.args.dimensions.now c.args.log.now c.all_operands.new.log c.new-found.result c.all_operands.new.found (top (parts c.nothing.new.self)) (top (parts c.all_operands.new.out)) c.in_ok-all.all c.len-before.result c.len.result
+    (search rules) c.new-found.ensures c.in_ok-all.ensures.0 c.len-before.ensures c.len.ensures c.then-len-before.either,
+    ap pop c.leave_out.ensures ∙ (ap pop c.in_ok-all.ensures.1 ∙ ap (λ (s : List Part). pop (pop s)) c.in_ok-nothing.ensures))
 
 pub attributes::bound_with-returns : goal.attributes::bound_with-returns
 attributes::bound_with-returns t c =
@@ -100,9 +97,7 @@ attributes::bound_with-returns t c =
 
 pub attributes::one_argument-returns-then-len-before : goal.attributes::one_argument-returns-then-len-before
 attributes::one_argument-returns-then-len-before t c = (
-  one_gone _ _ _ _ _ _ _ _ _ _ _ _ _ _ _ _ c.new-found.ensures c.in_ok-all.ensures.0 c.len-before.ensures c.len.ensures c.then-len-before.either,
-  c.in_ok-all.ensures.1 ∙ ap pop c.in_ok-cleared.ensures,
-)
+    one_gone _ _ _ _ _ _ _ _ _ _ _ _ _ _ _ _ c.new-found.ensures c.in_ok-all.ensures.0 c.len-before.ensures c.len.ensures c.then-len-before.either, c.in_ok-all.ensures.1 ∙ ap pop c.in_ok-cleared.ensures)
 
 pub attributes::one_argument-returns : goal.attributes::one_argument-returns
 attributes::one_argument-returns t c = judges_so _ _ _ _ _ _ _
@@ -111,9 +106,7 @@ attributes::one_argument-returns t c = judges_so _ _ _ _ _ _ _
 
 pub attributes::two_arguments-returns-then-len-before : goal.attributes::two_arguments-returns-then-len-before
 attributes::two_arguments-returns-then-len-before t c = (
-  two_gone _ _ _ _ _ _ _ _ _ _ _ _ _ _ _ _ c.new-found.ensures c.in_ok-all.ensures.0 c.len-before.ensures c.len.ensures c.then-len-before.either,
-  c.in_ok-all.ensures.1 ∙ ap pop c.in_ok-cleared.ensures,
-)
+    two_gone _ _ _ _ _ _ _ _ _ _ _ _ _ _ _ _ c.new-found.ensures c.in_ok-all.ensures.0 c.len-before.ensures c.len.ensures c.then-len-before.either, c.in_ok-all.ensures.1 ∙ ap pop c.in_ok-cleared.ensures)
 
 pub attributes::two_arguments-returns : goal.attributes::two_arguments-returns
 attributes::two_arguments-returns t c = judges_so _ _ _ _ _ _ _
@@ -122,9 +115,7 @@ attributes::two_arguments-returns t c = judges_so _ _ _ _ _ _ _
 
 pub calls::scalar_conversion-returns-then-len-before : goal.calls::scalar_conversion-returns-then-len-before
 calls::scalar_conversion-returns-then-len-before t c = (
-  conversion_gone c.args.names.now (inside c.args.names.now c.args.levels) c.args.here.now c.args.bracket c.args.first c.args.scalar (syntax.AlsoArg (the_arg (part_at c.args.tree.now.nodes c.args.arg)) (the_args (part_at c.args.tree.now.nodes c.args.more))) c.args.log.now c.all_operands.new.log c.new-found.result c.all_operands.new.found (top (parts c.cleared.new.out)) (top (parts c.all_operands.new.out)) c.in_ok-all.all c.len-before.result c.len.result c.new-found.ensures c.in_ok-all.ensures.0 c.len-before.ensures c.len.ensures c.then-len-before.either,
-  c.in_ok-all.ensures.1 ∙ ap pop c.in_ok-cleared.ensures,
-)
+    conversion_gone c.args.names.now (inside c.args.names.now c.args.levels) c.args.here.now c.args.bracket c.args.first c.args.scalar (syntax.AlsoArg (the_arg (part_at c.args.tree.now.nodes c.args.arg)) (the_args (part_at c.args.tree.now.nodes c.args.more))) c.args.log.now c.all_operands.new.log c.new-found.result c.all_operands.new.found (top (parts c.cleared.new.out)) (top (parts c.all_operands.new.out)) c.in_ok-all.all c.len-before.result c.len.result c.new-found.ensures c.in_ok-all.ensures.0 c.len-before.ensures c.len.ensures c.then-len-before.either, c.in_ok-all.ensures.1 ∙ ap pop c.in_ok-cleared.ensures)
 
 pub calls::scalar_conversion-returns-then-is_integer : goal.calls::scalar_conversion-returns-then-is_integer
 calls::scalar_conversion-returns-then-is_integer t c = judges_so _ _ _ _ c.operand_converted.result c.operand_converted.new.log (parts c.operand_converted.new.out)
@@ -138,15 +129,11 @@ calls::scalar_conversion-returns t c = judges_so _ _ _ _ c.wrong_name.result c.w
 
 pub calls::sub_call-returns-then-len-before : goal.calls::sub_call-returns-then-len-before
 calls::sub_call-returns-then-len-before t c = (
-  call_gone _ _ _ _ _ _ _ _ _ _ _ _ c.begun_call-calling.result c.given_arguments.new.calling _ _ _ _ c.in_ok-takes.ensures c.as_slice.ensures c.begun_call-calling.ensures (ap top c.in_ok-cleared.ensures) c.in_ok-given_arguments.ensures.0 c.len-before.ensures c.len.ensures c.if-len-before.true,
-  c.in_ok-given_arguments.ensures.1 ∙ ap pop c.in_ok-cleared.ensures,
-)
+    call_gone _ _ _ _ _ _ _ _ _ _ _ _ c.begun_call-calling.result c.given_arguments.new.calling _ _ _ _ c.in_ok-takes.ensures c.as_slice.ensures c.begun_call-calling.ensures (ap top c.in_ok-cleared.ensures) c.in_ok-given_arguments.ensures.0 c.len-before.ensures c.len.ensures c.if-len-before.true, c.in_ok-given_arguments.ensures.1 ∙ ap pop c.in_ok-cleared.ensures)
 
 pub calls::sub_call-returns : goal.calls::sub_call-returns
 calls::sub_call-returns t c = (
-  call_wrong _ _ _ _ _ _ _ _ _ _ _ _ _ _ c.begun_call-calling.result c.given_arguments.new.calling _ _ _ _ _ c.in_ok-takes.ensures c.as_slice.ensures c.begun_call-calling.ensures (ap top c.in_ok-cleared.ensures) c.in_ok-given_arguments.ensures.0 c.len-before.ensures c.len.ensures c.if-len-before.false c.len-2.ensures c.in_ok-complete.ensures.0 c.if-branch.false,
-  c.in_ok-given_arguments.ensures.1 ∙ ap pop c.in_ok-cleared.ensures,
-)
+    call_wrong _ _ _ _ _ _ _ _ _ _ _ _ _ _ c.begun_call-calling.result c.given_arguments.new.calling _ _ _ _ _ c.in_ok-takes.ensures c.as_slice.ensures c.begun_call-calling.ensures (ap top c.in_ok-cleared.ensures) c.in_ok-given_arguments.ensures.0 c.len-before.ensures c.len.ensures c.if-len-before.false c.len-2.ensures c.in_ok-complete.ensures.0 c.if-branch.false, c.in_ok-given_arguments.ensures.1 ∙ ap pop c.in_ok-cleared.ensures)
 
 pub calls::sub_call-returns-then-branch : goal.calls::sub_call-returns-then-branch
 calls::sub_call-returns-then-branch t c = judges_so _ _ _ _ _ _ _
@@ -155,11 +142,10 @@ calls::sub_call-returns-then-branch t c = judges_so _ _ _ _ _ _ _
 
 pub indexes::index_shape-returns-then-len-before : goal.indexes::index_shape-returns-then-len-before
 indexes::index_shape-returns-then-len-before t c = (
-  shape_gone c.args.names.now (inside c.args.names.now c.args.levels) c.args.here.now c.args.place (top (parts c.args.out.now)) c.args.bracket (the_arg (part_at c.args.tree.now.nodes c.args.arg)) (the_args (part_at c.args.tree.now.nodes c.args.more)) (shape_in c.args.log.now c.args.number) (component_cells c.args.log.now (component_of (shape_in c.args.log.now c.args.number))) c.component_cells-cells.result c.in_ok-dimensions.dimensions c.args.log.now c.index.new.log c.indexes.new.log _ c.in_ok-r.r (top (parts c.indexes.new.out)) c.len-before.result c.len.result
-      c.in_ok-dimensions.ensures (c.component_cells-cells.ensures ∙ ap (component_cells c.args.log.now) c.component_of-component.ensures)
-      c.in_ok-s.ensures.0 c.in_ok-r.ensures.0 c.len-before.ensures c.len.ensures c.then-len-before.either,
-  c.in_ok-r.ensures.1 ∙ c.in_ok-s.ensures.1,
-)
+    shape_gone c.args.names.now (inside c.args.names.now c.args.levels) c.args.here.now c.args.place (top (parts c.args.out.now)) c.args.bracket (the_arg (part_at c.args.tree.now.nodes c.args.arg)) (the_args (part_at c.args.tree.now.nodes c.args.more)) (shape_in c.args.log.now c.args.number) (component_cells c.args.log.now (component_of (shape_in c.args.log.now c.args.number))) c.component_cells-cells.result c.in_ok-dimensions.dimensions c.args.log.now c.index.new.log c.indexes.new.log _ c.in_ok-r.r (top (parts c.indexes.new.out)) c.len-before.result c.len.result
+    c.in_ok-dimensions.ensures (c.component_cells-cells.ensures ∙ ap (component_cells c.args.log.now) c.component_of-component.ensures)
+    c.in_ok-s.ensures.0 c.in_ok-r.ensures.0 c.len-before.ensures c.len.ensures c.then-len-before.either,
+    c.in_ok-r.ensures.1 ∙ c.in_ok-s.ensures.1)
 
 pub iterations::sequence-returns : goal.iterations::sequence-returns
 iterations::sequence-returns t c = judges_so _ _ _ _ _ _ _
@@ -173,9 +159,8 @@ output::io_given-returns-then-is_number_put t c = rw c.arg-given.ensures.is (jud
 
 pub output::io_given-returns-then-len-before : goal.output::io_given-returns-then-len-before
 output::io_given-returns-then-len-before t c = rw c.arg-given.ensures.is (
-  procedure_gone _ _ _ _ _ _ _ _ _ _ _ _ _ _ _ _ _ _ c.in_ok-no_formal.ensures c.in_ok-x.ensures.0 (sym c.is_number_put.ensures ∙ c.if-is_number_put.false) c.in_ok-others_alone.ensures.0 c.len-before.ensures c.len.ensures c.if-len-before.true,
-  ap pop c.in_ok-others_alone.ensures.1 ∙ c.in_ok-x.ensures.1,
-)
+    procedure_gone _ _ _ _ _ _ _ _ _ _ _ _ _ _ _ _ _ _ c.in_ok-no_formal.ensures c.in_ok-x.ensures.0 (sym c.is_number_put.ensures ∙ c.if-is_number_put.false) c.in_ok-others_alone.ensures.0 c.len-before.ensures c.len.ensures c.if-len-before.true,
+    ap pop c.in_ok-others_alone.ensures.1 ∙ c.in_ok-x.ensures.1)
 
 pub output::io_given-returns : goal.output::io_given-returns
 output::io_given-returns t c = rw c.arg-given.ensures.is (judges_so _ _ _ _ _ _ _
@@ -196,10 +181,8 @@ primaries::name_inside-returns-then-levels-eq0 t c =
 
 pub record_aggregates::named_record-returns-then-len-before : goal.record_aggregates::named_record-returns-then-len-before
 record_aggregates::named_record-returns-then-len-before t c = (
-  record_gone c.args.names.now (inside c.args.names.now c.args.levels) c.args.here.now c.args.fields.now c.args.bracket c.args.cells (aggregates.ByAssociation (syntax.AlsoAssoc (the_assoc (part_at c.args.tree.now.nodes c.args.first)) (the_assocs (part_at c.args.tree.now.nodes c.args.more)))) c.args.log.now c.record_assocs.new.log _ c.len-before.result c.len.result
-      (assocs_filled c.args.names.now (inside c.args.names.now c.args.levels) c.args.here.now c.args.fields.now (the_assoc (part_at c.args.tree.now.nodes c.args.first)) (the_assocs (part_at c.args.tree.now.nodes c.args.more)) c.args.log.now c.record_assoc.new.log c.record_assocs.new.log _ _ _ _ c.in_ok-none.ensures.0 c.is_final-last.ensures c.in_ok-all.ensures.0 c.in_ok-all-2.ensures.0) c.len-before.ensures c.len.ensures c.if-len-before.true,
-  c.in_ok-all-2.ensures.1 ∙ (c.in_ok-all.ensures.1 ∙ c.in_ok-none.ensures.1),
-)
+    record_gone c.args.names.now (inside c.args.names.now c.args.levels) c.args.here.now c.args.fields.now c.args.bracket c.args.cells (aggregates.ByAssociation (syntax.AlsoAssoc (the_assoc (part_at c.args.tree.now.nodes c.args.first)) (the_assocs (part_at c.args.tree.now.nodes c.args.more)))) c.args.log.now c.record_assocs.new.log _ c.len-before.result c.len.result
+    (assocs_filled c.args.names.now (inside c.args.names.now c.args.levels) c.args.here.now c.args.fields.now (the_assoc (part_at c.args.tree.now.nodes c.args.first)) (the_assocs (part_at c.args.tree.now.nodes c.args.more)) c.args.log.now c.record_assoc.new.log c.record_assocs.new.log _ _ _ _ c.in_ok-none.ensures.0 c.is_final-last.ensures c.in_ok-all.ensures.0 c.in_ok-all-2.ensures.0) c.len-before.ensures c.len.ensures c.if-len-before.true, c.in_ok-all-2.ensures.1 ∙ (c.in_ok-all.ensures.1 ∙ c.in_ok-none.ensures.1))
 
 pub record_aggregates::named_record-returns : goal.record_aggregates::named_record-returns
 record_aggregates::named_record-returns t c = gives_so _ _ _ _ c.whole_record.result c.whole_record.new.log (parts c.whole_record.new.out)
@@ -220,6 +203,5 @@ whole_names::array_reduced-returns-in-Some t c = judges_so _ _ _ _ _ _ _
 
 pub whole_names::part_alone-returns-in_ok-args_alone-in-Call : goal.whole_names::part_alone-returns-in_ok-args_alone-in-Call
 whole_names::part_alone-returns-in_ok-args_alone-in-Call t c = rw c.in-Call.ensures.is (
-  call_alone c.args.names.now (inside c.args.names.now c.args.levels) c.args.here.now c.in-Call.bracket (the_arg (part_at c.args.tree.now.nodes c.in-Call.first)) (the_args (part_at c.args.tree.now.nodes c.in-Call.more)) c.args.log.now c.arg_alone.new.log c.args_alone.new.log c.in_ok-arg_alone-in-Call.ensures.0 c.in_ok-args_alone-in-Call.ensures.0,
-  ap pop (c.in_ok-args_alone-in-Call.ensures.1 ∙ c.in_ok-arg_alone-in-Call.ensures.1),
-)
+    call_alone c.args.names.now (inside c.args.names.now c.args.levels) c.args.here.now c.in-Call.bracket (the_arg (part_at c.args.tree.now.nodes c.in-Call.first)) (the_args (part_at c.args.tree.now.nodes c.in-Call.more)) c.args.log.now c.arg_alone.new.log c.args_alone.new.log c.in_ok-arg_alone-in-Call.ensures.0 c.in_ok-args_alone-in-Call.ensures.0,
+    ap pop (c.in_ok-args_alone-in-Call.ensures.1 ∙ c.in_ok-arg_alone-in-Call.ensures.1))
