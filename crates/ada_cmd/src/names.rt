@@ -1,12 +1,14 @@
 //! Texts for each rule of names and types: some that break it, and some that just keep it. The places of the faults
 //! were found by hand.
 
-use crate::texts::{check_cases, said_of};
+use ada_run::compile;
 use std::alloc::{AllocError, Global};
+use std::process::Abort;
 
-// Cases have the form of those in texts.rt, with one letter more: N is for statements in a procedure with these
-// declarations.
-pub const DECLARED: &str =
+// A case is a line with three fields. The first tells what stands around the third: P nothing, D a procedure in whose
+// declarations it stands, N one in whose statements, behind the declarations below. The second is `ok` where the whole
+// is accepted, and else what is said of its fault, which is at the bar.
+const DECLARED: &str =
     "with Ada.Text_IO, Ada.Integer_Text_IO; use Ada.Text_IO, Ada.Integer_Text_IO; \
     procedure M is \
     X, Y : Integer := 0; B : Boolean := True; K : constant Integer := 5; \
@@ -18,8 +20,8 @@ pub const DECLARED: &str =
     procedure Go is begin null; end Go; \
     function Twice (N : Integer) return Integer is (2 * N); \
     function One return Integer is (1); \
-    function Mix (V : Boolean; N : Integer) return Boolean is (V) with Nonblocking; \
-    function Sum (V, N : Integer) return Integer is (V + N) with Nonblocking; begin ";
+    function Mix (V : Boolean; N : Integer) return Boolean is (V); \
+    function Sum (V, N : Integer) return Integer is (V + N); begin ";
 
 // An identifier, a package, a component, an attribute, a pragma, an aspect or a named parameter that isn't there.
 const UNKNOWN: &str = "\
@@ -177,7 +179,8 @@ N~E06 wrong type~case ¦A is when others => null; end case;
 D~E06 wrong type~A : array (¦Boolean) of Integer;
 D~E06 wrong type~type T is range 0 .. ¦True;
 D~E06 wrong type~subtype S is Integer range 1 .. ¦False;
-N~ok~for I in False .. B loop null; end loop; for I in Long range 1 .. G loop null; end loop; for V of A loop null; end loop; parallel (2) for I in Boolean loop null; end loop;
+N~ok~for I in False .. B loop null; end loop; for I in Long range 1 .. G loop null; end loop; for V of A loop null; end loop; for I in Boolean loop null; end loop;
+N~E13 not built yet~¦parallel (2) for I in Boolean loop null; end loop;
 N~E06 wrong type~X := ¦B;
 N~E06 wrong type~B := ¦1;
 N~E06 wrong type~G := ¦X;
@@ -305,7 +308,8 @@ D~E07 not static~A : Integer := 1; N : constant := ¦A;
 D~E07 not static~N : constant := ¦(if True then 1 else 2);
 D~E07 not static~B : constant Boolean := True; procedure Q with Nonblocking => ¦B is begin null; end Q;
 D~ok~A : constant Integer := 2 ** 3; N : constant := A - 1; type T is range -N .. N; subtype S is T range T'First .. 0; B : array (1 .. A) of Integer; C : array (B'Range) of Integer;
-D~ok~procedure Q with Nonblocking => True is begin null; end Q;
+D~ok~procedure Q with Nonblocking => False is begin null; end Q;
+P~E13 not built yet~¦procedure M is procedure Q with Nonblocking => True is begin null; end Q; begin null; end;
 N~E07 not static~case X is when ¦Y => null; when others => null; end case;
 N~E07 not static~case X is when 1 .. ¦Y => null; when others => null; end case;
 N~E07 not static~A := (¦X => 1, others => 0);
@@ -387,10 +391,11 @@ N~ok~P := (1, 2); P := (R => 1, L => 2); P := (L | R => 1); P := (1, 2, others =
 const REDUCTIONS: &str = "\
 N~E11 chunk rule~parallel for I in ¦reverse 1 .. 2 loop null; end loop;
 N~E11 chunk rule~parallel (2) for I in ¦reverse A'Range when I > 1 loop null; end loop;
-N~ok~for I in reverse 1 .. 2 loop null; end loop; parallel (2) for I in 1 .. 2 loop null; end loop;
+N~ok~for I in reverse 1 .. 2 loop null; end loop;
+N~E13 not built yet~¦parallel (2) for I in 1 .. 2 loop null; end loop;
 N~E11 chunk rule~X := [for I in ¦reverse 1 .. 2 => I]'Reduce (\"+\", 0);
 N~E11 chunk rule~X := [parallel for I in ¦reverse 1 .. 2 => I]'Reduce (\"+\", 0);
-N~ok~X := [parallel for I in 1 .. 2 => I]'Reduce (\"+\", 0);
+N~E13 not built yet~X := [¦parallel for I in 1 .. 2 => I]'Reduce (\"+\", 0);
 N~E11 reduction rule~X := [for I in 1 .. 2 => I]'Reduce (¦\"&\", 0);
 N~E11 reduction rule~X := [for I in 1 .. 2 => I]'Reduce (¦\"**\", 0);
 N~E11 reduction rule~X := [for I in 1 .. 2 => I]'Reduce (¦X, 0);
@@ -404,8 +409,10 @@ N~E11 reduction rule~X := [for I in 1 .. 2 => B]'Reduce (¦Sum, 0);
 N~E11 reduction rule~X := A'Reduce (¦Long'Max, 0);
 N~E11 reduction rule~B := [for I in 1 .. 2 => I]'Reduce (¦\"and\", True);
 N~E11 reduction rule~B := [parallel for I in 1 .. 2 => I]'Reduce (¦Mix, True);
-N~ok~B := [for I in 1 .. 2 => I]'Reduce (Mix, True); X := [parallel for I in 1 .. 2 => I]'Reduce (Sum, 0);
-N~ok~X := A'Reduce (Integer'Min, 9) + Z'Parallel_Reduce (\"MOD\", 1); B := [for I in 1 .. 2 => I > 1]'Reduce (\"or\", False);
+N~ok~B := [for I in 1 .. 2 => I]'Reduce (Mix, True); X := [for I in 1 .. 2 => I]'Reduce (Sum, 0);
+D~E13 not built yet~function F (V, N : Integer) return Integer is (V + N) with Nonblocking; X : Integer := [¦parallel for I in 1 .. 2 => I]'Reduce (F, 0);
+N~ok~X := A'Reduce (Integer'Min, 9) + Z'Reduce (\"MOD\", 1); B := [for I in 1 .. 2 => I > 1]'Reduce (\"or\", False);
+N~E13 not built yet~X := A'Reduce (Integer'Max, 9) + ¦Z'Parallel_Reduce (\"MOD\", 1);
 N~E11 reduction rule~X := [for I in 1 .. 2 => I]'¦Parallel_Reduce (\"+\", 0);
 N~E11 reduction rule~X := [for I in 1 .. 2 => I]'¦First (\"+\", 0);
 N~E11 reduction rule~X := X'¦Reduce (\"+\", 0);
@@ -477,33 +484,89 @@ N~E05 unknown name~X := Integer'Max (¦Left => X, Right => 1);
 N~ok~X := Integer'Succ (X) + Positive'Pred (1);
 N~E06 wrong type~X := Integer'Pred (¦B);
 N~E06 wrong type~B := ¦Boolean'Succ (B);
-N~ok~X := A'Reduce (\"+\", 0) + Z'Parallel_Reduce (Integer'Max, 0);
+N~ok~X := A'Reduce (\"+\", 0);
+N~E13 not built yet~X := ¦Z'Parallel_Reduce (Integer'Max, 0);
 N~E11 reduction rule~X := A'Reduce (¦\"=\", 0);
 N~E06 wrong type~X := A'Parallel_Reduce ¦(\"+\", 0, 1);
 N~E06 wrong type~X := ¦A'Reduce;";
 
+/// What stands before and behind a case.
+fn frame_of(letter: &str) -> (&'static str, &'static str) {
+    match letter {
+        "D" => ("procedure M is ", " begin null; end;"),
+        "N" => (DECLARED, " end;"),
+        _ => ("", ""),
+    }
+}
+
+fn said_of(alloc: Global, text: &str) -> Result<String, AllocError> {
+    match compile(alloc, text.as_bytes()) {
+        Ok(_) => String::from_str(alloc, "ok"),
+        Err(refusal) => refusal.line(alloc, "t", text.as_bytes()),
+    }
+}
+
+/// The text of a case, and what is to be said of it.
+fn text_and_wanted(
+    alloc: Global,
+    letter: &str,
+    outcome: &str,
+    case: &str,
+) -> Result<(String, String), AllocError> {
+    let (before, behind) = frame_of(letter);
+    match case.split_once('¦') {
+        Some((front, back)) => {
+            let column = before.len() + front.len() + 1;
+            let text = format!(in alloc; "{before}{front}{back}{behind}")?;
+            let wanted = format!(in alloc; "t:1:{column}: {outcome}")?;
+            Ok((text, wanted))
+        }
+        None => {
+            let text = format!(in alloc; "{before}{case}{behind}")?;
+            let wanted = String::from_str(alloc, outcome)?;
+            Ok((text, wanted))
+        }
+    }
+}
+
+/// Compiles the text of each case and compares what is said of it. Gives the number of cases.
+fn check(rt: &impl Abort, alloc: Global, table: &str) -> Result<u32, AllocError> {
+    let mut cases: u32 = 0;
+    for row in table.lines() {
+        if let Some((letter, rest)) = row.split_once('~') {
+            if let Some((outcome, case)) = rest.split_once('~') {
+                let (text, wanted) = text_and_wanted(alloc, letter, outcome, case)?;
+                let said = said_of(alloc, text.as_str())?;
+                assert!(rt; said.as_str() == wanted.as_str(), "{row}: {said}");
+                cases = cases.saturating_add(1);
+            }
+        }
+    }
+    Ok(cases)
+}
+
 #[test]
 fn each_rule_of_names_and_types(rt: HostRuntime) -> Result<(), AllocError> {
-    for table in [
-        UNKNOWN,
-        TWICE,
-        NOT_VISIBLE,
-        ENDS,
-        OPERANDS,
-        PLACES,
-        USES,
-        COUNTS,
-        VARIABLES,
-        FORMS,
-        NOT_STATIC,
-        VALUES,
-        CHOICES,
-        REDUCTIONS,
-        SIZES,
-        PREDEFINED,
-        ATTRIBUTES,
+    for (table, cases) in [
+        (UNKNOWN, 29),
+        (TWICE, 18),
+        (NOT_VISIBLE, 30),
+        (ENDS, 12),
+        (OPERANDS, 24),
+        (PLACES, 44),
+        (USES, 21),
+        (COUNTS, 26),
+        (VARIABLES, 15),
+        (FORMS, 25),
+        (NOT_STATIC, 20),
+        (VALUES, 34),
+        (CHOICES, 27),
+        (REDUCTIONS, 30),
+        (SIZES, 8),
+        (PREDEFINED, 25),
+        (ATTRIBUTES, 28),
     ] {
-        check_cases(&rt, rt.alloc(), table)?;
+        assert!(rt; check(&rt, rt.alloc(), table)? == cases);
     }
     Ok(())
 }
@@ -536,7 +599,7 @@ fn programs_of_six_lines(rt: HostRuntime) -> Result<(), AllocError> {
             "with Ada.Text_IO; use Ada.Text_IO;\nprocedure Main is\n{declarations}\nbegin\n{statements}\nend Main;\n"
         )?;
         let said = said_of(rt.alloc(), text.as_str())?;
-        assert_eq!(rt; said.as_str(), wanted, "of {text}");
+        assert!(rt; said.as_str() == wanted, "{text}: {said}");
     }
     Ok(())
 }
@@ -549,7 +612,7 @@ const LIMITS: [(&str, &str, u32, &str, &str); 4] = [
         "declare A : Integer; begin null; end; ",
         4_096,
         "end;",
-        "t:1:1: E13 not built yet",
+        "ok",
     ),
     (
         "procedure M is begin ",
@@ -563,7 +626,7 @@ const LIMITS: [(&str, &str, u32, &str, &str); 4] = [
         "and null; ",
         4_095,
         "end do; end;",
-        "t:1:1: E13 not built yet",
+        "t:1:22: E13 not built yet",
     ),
     (
         "procedure M is begin parallel do null; ",
@@ -595,7 +658,7 @@ fn as_many_objects_and_arms_as_there_may_be(rt: HostRuntime) -> Result<(), Alloc
     for (front, piece, times, back, wanted) in LIMITS {
         let text = long_text(rt.alloc(), front, piece, times, back)?;
         let said = said_of(rt.alloc(), text.as_str())?;
-        assert_eq!(rt; said.as_str(), wanted);
+        assert!(rt; said.as_str() == wanted, "{said}");
     }
     Ok(())
 }
