@@ -118,7 +118,7 @@ D~ok~procedure Q is begin null; end; function F return Integer is begin return 1
 N~E05 end name differs~L : loop exit; end loop ¦J;
 N~E05 end name differs~L : loop exit; ¦end loop;
 N~E05 end name differs~loop exit; ¦end loop L;
-N~ok~L : loop exit; end loop l; while B loop null; end loop;
+N~ok~L : loop exit; end loop l; while not B loop null; end loop;
 P~E05 policy name~pragma Conflict_Check_Policy (¦No_Parallel_Conflict_Checks); procedure M is begin null; end;
 P~E05 policy name~pragma Conflict_Check_Policy (¦True); procedure M is begin null; end;
 P~ok~pragma Conflict_Check_Policy (All_Parallel_Conflict_Checks); procedure M is begin null; end;
