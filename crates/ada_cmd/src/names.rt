@@ -609,17 +609,17 @@ fn programs_of_six_lines(rt: HostRuntime) -> Result<(), AllocError> {
 const LIMITS: [(&str, &str, u32, &str, &str); 4] = [
     (
         "procedure M is begin ",
-        "declare A : Integer; begin null; end; ",
-        4_096,
+        "declare A, B, C, D, E, F, G, H : Integer; begin null; end; ",
+        512,
         "end;",
         "ok",
     ),
     (
         "procedure M is begin ",
-        "declare A : Integer; begin null; end; ",
-        4_097,
+        "declare A, B, C, D, E, F, G, H : Integer; begin null; end; ",
+        513,
         "end;",
-        "t:1:155678: E12 limit passed",
+        "t:1:30238: E12 limit passed",
     ),
     (
         "procedure M is begin parallel do null; ",
