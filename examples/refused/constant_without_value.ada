@@ -1,0 +1,6 @@
+-- A constant without a value: blamed at its name.
+procedure Main is
+   Limit : constant Integer;
+begin
+   null;
+end Main;

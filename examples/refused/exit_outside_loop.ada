@@ -1,0 +1,5 @@
+-- An exit outside a loop.
+procedure Main is
+begin
+   exit;
+end Main;

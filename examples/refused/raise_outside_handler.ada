@@ -1,0 +1,5 @@
+-- A raise without a name outside a handler.
+procedure Main is
+begin
+   raise;
+end Main;

@@ -1,0 +1,6 @@
+-- A subtype as a value.
+procedure Main is
+   X : Integer;
+begin
+   X := Positive;
+end Main;

@@ -1,0 +1,9 @@
+-- An aspect other than Nonblocking.
+procedure Main is
+   procedure Step with Inline is
+   begin
+      null;
+   end Step;
+begin
+   Step;
+end Main;

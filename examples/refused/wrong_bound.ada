@@ -1,0 +1,7 @@
+-- A bound of another type.
+procedure Main is
+begin
+   for I in 1 .. True loop
+      null;
+   end loop;
+end Main;

@@ -1,0 +1,6 @@
+-- An assigned value of another type.
+procedure Main is
+   X : Integer;
+begin
+   X := True;
+end Main;
