@@ -308,6 +308,7 @@ D~E07 not static~A : Integer := 1; N : constant := ¦A;
 D~E07 not static~N : constant := ¦(if True then 1 else 2);
 D~E07 not static~B : constant Boolean := True; procedure Q with Nonblocking => ¦B is begin null; end Q;
 D~ok~A : constant Integer := 2 ** 3; N : constant := A - 1; type T is range -N .. N; subtype S is T range T'First .. 0; B : array (1 .. A) of Integer; C : array (B'Range) of Integer;
+D~ok~A : constant Integer := 3; B : array (1 .. (A)) of Integer; C : constant Integer := (A); N : constant := ((C)) + 1;
 D~ok~procedure Q with Nonblocking => False is begin null; end Q;
 P~E13 not built yet~¦procedure M is procedure Q with Nonblocking => True is begin null; end Q; begin null; end;
 N~E07 not static~case X is when ¦Y => null; when others => null; end case;
@@ -348,6 +349,8 @@ D~ok~subtype S is Positive range 1 .. 5; A : S range 5 .. 5;
 D~E07 static value out of range~A : array (¦2 .. 1) of Integer;
 D~E07 static value out of range~A : array (Positive range ¦0 .. 3) of Integer;
 D~E07 static value out of range~A : array (¦Natural range 2 .. 1) of Integer;
+D~E07 static value out of range~A : array (¦Natural range 0 .. -1) of Integer;
+D~E07 static value out of range~A : constant Integer := 0; N : constant := ¦1 / (A);
 D~E07 static value out of range~A : array (1 .. 2) of Integer range ¦2 .. 1;
 D~ok~A : array (Natural range 0 .. 3, Positive range 1 .. 1) of Integer range 1 .. 1;
 N~E07 static value out of range~X := A'Length (¦2);
@@ -474,6 +477,8 @@ N~E06 wrong type~A (¦A'Range) := 1;
 N~ok~Put_Line (Integer'Image (X) & Long'Image (G) & X'Image & A (1)'Image & P.L'Image);
 N~ok~for I in 1 .. 2 loop Put_Line (I'Image); end loop; for V of A loop Put_Line (V'Image); end loop;
 N~E06 wrong type~Put_Line (¦A'Image);
+N~E06 wrong type~Put_Line (¦Twice (1)'Image);
+N~E06 wrong type~for I in 1 .. 2 loop Put_Line (¦I'Image (1)); end loop;
 N~E06 wrong type~Put_Line (Integer'Image (¦B));
 N~E06 wrong type~Put_Line (¦X'Image (1));
 N~E06 wrong type~Put_Line (Integer'Image ¦(1, 2));
@@ -558,13 +563,13 @@ fn each_rule_of_names_and_types(rt: HostRuntime) -> Result<(), AllocError> {
         (COUNTS, 26),
         (VARIABLES, 15),
         (FORMS, 25),
-        (NOT_STATIC, 20),
-        (VALUES, 34),
+        (NOT_STATIC, 21),
+        (VALUES, 36),
         (CHOICES, 27),
         (REDUCTIONS, 30),
         (SIZES, 8),
         (PREDEFINED, 25),
-        (ATTRIBUTES, 28),
+        (ATTRIBUTES, 30),
     ] {
         assert!(rt; check(&rt, rt.alloc(), table)? == cases);
     }
