@@ -37,6 +37,7 @@ use Rattle.name_rules.specs.Statements as u_Statements
 use Rattle.name_rules.specs.Types as u_Types
 use Rattle.name_rules.specs.Values as u_Values
 use Rattle.name_rules.specs.TypedParts as u_TypedParts
+use Rattle.typed_parts.specs.Indexes as u_Indexes
 use Rattle.typed_parts.specs.Stack as u_Stack
 
 abbrev term : s.Primary → s.Term
@@ -90,47 +91,47 @@ at token r = record { at = token; rule = r }
 
 -- X : Integer := 2; .. X := X + 3;
 good : faults (tree (variable 10 20 (Some (whole (num 32))) ∷ []) (s.Assign (name 10) (plus (ident 10) 50 (num 33)))) ≡ []
-unfolding u_Aggregates.field_value u_Aggregates.array_assoc u_Aggregates.dimension_of u_Aggregates.aggregate u_Attributes.one_argument u_Attributes.two_arguments_of u_Attributes.settled_attribute u_Calls.variable_given u_Calls.actual_for u_Calls.argument u_Calls.sub_call u_Calls.conversion u_Cases.case_choice u_Cases.closed u_Cases.handled_by u_Declarations.indic u_Declarations.array u_Declarations.record_of u_Declarations.defined u_Declarations.new_object u_Declarations.initial u_Declarations.objects u_Declarations.numbers u_Declarations.declaration u_Expressions.factor u_Expressions.multiplying u_Expressions.term u_Expressions.adding u_Expressions.simple u_Expressions.rel u_Expressions.expr u_Expressions.condition u_Expressions.value_for u_Expressions.judged_alone u_Iterations.chunk_count u_Iterations.chunked_by u_Iterations.walked u_Iterations.entered_with u_Iterations.entered u_Iterations.sequence u_Names.field u_Names.wrong_call u_Names.index u_Names.object_call u_Names.exception u_Operators.static_of u_Operators.static_universal u_Operators.static_operation u_Operators.operation_on u_Operators.typed_operation u_Operators.open_of u_Operators.open_binary u_Operators.universal_operation u_Operators.operation u_Operators.binary u_Operators.universal_power u_Operators.static_power u_Operators.power u_Operators.signed u_Operators.unary u_Operators.plain u_Operators.not_of u_Operators.joined_text u_Operators.logical u_Operators.compared_at u_Operators.compared u_Operators.membership u_Operators.of_subtype u_Output.width_of u_Output.io_call u_Parts.call u_Parts.part_of u_Parts.name u_Parts.valued_by u_Parts.value_named u_Primaries.alternative u_Primaries.scalar_if u_Primaries.composite_if u_Primaries.if_expr u_Primaries.grouped u_Primaries.primary u_Primaries.inside u_Programs.profile u_Programs.with_body u_Programs.with_value_of u_Programs.subprogram u_Programs.main u_Programs.program u_Ranges.two_bounds u_Ranges.bounds_of u_Ranges.own_bounds u_Ranges.checked_range u_Ranges.range u_Ranges.static_bounds u_Ranges.static_checked u_Ranges.static_range u_Ranges.chosen_value u_Ranges.chosen_span u_Reducers.reducer_of u_Reducers.reduced u_Reducers.folded_by u_Resolved.judged u_Scope.free u_Scope.stands_for u_Scope.selected u_Scope.subtype_named u_Scope.scalar_named u_Shapes.primary_of_simple u_Shapes.primary_of_expr u_Shapes.identifier_of_choice u_Statements.stmts u_Statements.assign_place u_Statements.call_stmt u_Statements.exit_from u_Statements.if_stmt u_Statements.case_stmt u_Statements.for_loop u_Statements.loop u_Statements.body u_Statements.block u_Statements.parallel u_Statements.stmt u_Types.number_of u_Values.exact u_Values.valued u_Values.fitting u_Values.settled u_Values.asked u_Values.settled_found u_Values.any_integer u_Values.any_scalar u_Values.static_of_kind u_Values.static_integer u_Values.composite_asked u_Values.stored u_TypedParts.indexes_in u_TypedParts.nested_stmts faults u_TypedParts.also_all u_Stack.turned
+unfolding u_Aggregates.field_value u_Aggregates.array_assoc u_Aggregates.dimension_of u_Aggregates.aggregate u_Attributes.one_argument u_Attributes.two_arguments_of u_Attributes.settled_attribute u_Calls.variable_given u_Calls.actual_for u_Calls.argument u_Calls.sub_call u_Calls.conversion u_Cases.case_choice u_Cases.closed u_Cases.handled_by u_Declarations.indic u_Declarations.array u_Declarations.record_of u_Declarations.defined u_Declarations.new_object u_Declarations.initial u_Declarations.objects u_Declarations.numbers u_Declarations.declaration u_Expressions.factor u_Expressions.multiplying u_Expressions.term u_Expressions.adding u_Expressions.simple u_Expressions.rel u_Expressions.expr u_Expressions.condition u_Expressions.value_for u_Expressions.judged_alone u_Iterations.chunk_count u_Iterations.chunked_by u_Iterations.walked u_Iterations.entered_with u_Iterations.entered u_Iterations.sequence u_Names.field u_Names.wrong_call u_Names.index u_Names.object_call u_Names.exception u_Operators.static_of u_Operators.static_universal u_Operators.static_operation u_Operators.operation_on u_Operators.typed_operation u_Operators.open_of u_Operators.open_binary u_Operators.universal_operation u_Operators.operation u_Operators.binary u_Operators.universal_power u_Operators.static_power u_Operators.power u_Operators.signed u_Operators.unary u_Operators.plain u_Operators.not_of u_Operators.joined_text u_Operators.logical u_Operators.compared_at u_Operators.compared u_Operators.membership u_Operators.of_subtype u_Output.width_of u_Output.io_call u_Parts.call u_Parts.part_of u_Parts.name u_Parts.valued_by u_Parts.value_named u_Primaries.alternative u_Primaries.scalar_if u_Primaries.composite_if u_Primaries.if_expr u_Primaries.grouped u_Primaries.primary u_Primaries.inside u_Programs.profile u_Programs.with_body u_Programs.with_value_of u_Programs.subprogram u_Programs.main u_Programs.program u_Ranges.two_bounds u_Ranges.bounds_of u_Ranges.own_bounds u_Ranges.checked_range u_Ranges.range u_Ranges.static_bounds u_Ranges.static_checked u_Ranges.static_range u_Ranges.chosen_value u_Ranges.chosen_span u_Reducers.reducer_of u_Reducers.reduced u_Reducers.folded_by u_Resolved.judged u_Scope.free u_Scope.stands_for u_Scope.selected u_Scope.subtype_named u_Scope.scalar_named u_Shapes.primary_of_simple u_Shapes.primary_of_expr u_Shapes.identifier_of_choice u_Statements.stmts u_Statements.assign_place u_Statements.call_stmt u_Statements.exit_from u_Statements.if_stmt u_Statements.case_stmt u_Statements.for_loop u_Statements.loop_stmt u_Statements.loop_entered u_Statements.body u_Statements.block u_Statements.parallel u_Statements.stmt u_Types.number_of u_Values.exact u_Values.valued u_Values.fitting u_Values.settled u_Values.asked u_Values.settled_found u_Values.any_integer u_Values.any_scalar u_Values.static_of_kind u_Values.static_integer u_Values.composite_asked u_Values.stored u_Indexes.indexes_in u_TypedParts.nested_stmts faults u_TypedParts.also_all u_Stack.turned
 good = refl
 
 -- X : Integer; .. X := Y;
 unknown : faults (tree (variable 10 20 None ∷ []) (s.Assign (name 10) (whole (ident 11)))) ≡ at 11 rule.Unknown ∷ []
-unfolding u_Aggregates.field_value u_Aggregates.array_assoc u_Aggregates.dimension_of u_Aggregates.aggregate u_Attributes.one_argument u_Attributes.two_arguments_of u_Attributes.settled_attribute u_Calls.variable_given u_Calls.actual_for u_Calls.argument u_Calls.sub_call u_Calls.conversion u_Cases.case_choice u_Cases.closed u_Cases.handled_by u_Declarations.indic u_Declarations.array u_Declarations.record_of u_Declarations.defined u_Declarations.new_object u_Declarations.initial u_Declarations.objects u_Declarations.numbers u_Declarations.declaration u_Expressions.factor u_Expressions.multiplying u_Expressions.term u_Expressions.adding u_Expressions.simple u_Expressions.rel u_Expressions.expr u_Expressions.condition u_Expressions.value_for u_Expressions.judged_alone u_Iterations.chunk_count u_Iterations.chunked_by u_Iterations.walked u_Iterations.entered_with u_Iterations.entered u_Iterations.sequence u_Names.field u_Names.wrong_call u_Names.index u_Names.object_call u_Names.exception u_Operators.static_of u_Operators.static_universal u_Operators.static_operation u_Operators.operation_on u_Operators.typed_operation u_Operators.open_of u_Operators.open_binary u_Operators.universal_operation u_Operators.operation u_Operators.binary u_Operators.universal_power u_Operators.static_power u_Operators.power u_Operators.signed u_Operators.unary u_Operators.plain u_Operators.not_of u_Operators.joined_text u_Operators.logical u_Operators.compared_at u_Operators.compared u_Operators.membership u_Operators.of_subtype u_Output.width_of u_Output.io_call u_Parts.call u_Parts.part_of u_Parts.name u_Parts.valued_by u_Parts.value_named u_Primaries.alternative u_Primaries.scalar_if u_Primaries.composite_if u_Primaries.if_expr u_Primaries.grouped u_Primaries.primary u_Primaries.inside u_Programs.profile u_Programs.with_body u_Programs.with_value_of u_Programs.subprogram u_Programs.main u_Programs.program u_Ranges.two_bounds u_Ranges.bounds_of u_Ranges.own_bounds u_Ranges.checked_range u_Ranges.range u_Ranges.static_bounds u_Ranges.static_checked u_Ranges.static_range u_Ranges.chosen_value u_Ranges.chosen_span u_Reducers.reducer_of u_Reducers.reduced u_Reducers.folded_by u_Resolved.judged u_Scope.free u_Scope.stands_for u_Scope.selected u_Scope.subtype_named u_Scope.scalar_named u_Shapes.primary_of_simple u_Shapes.primary_of_expr u_Shapes.identifier_of_choice u_Statements.stmts u_Statements.assign_place u_Statements.call_stmt u_Statements.exit_from u_Statements.if_stmt u_Statements.case_stmt u_Statements.for_loop u_Statements.loop u_Statements.body u_Statements.block u_Statements.parallel u_Statements.stmt u_Types.number_of u_Values.exact u_Values.valued u_Values.fitting u_Values.settled u_Values.asked u_Values.settled_found u_Values.any_integer u_Values.any_scalar u_Values.static_of_kind u_Values.static_integer u_Values.composite_asked u_Values.stored u_TypedParts.indexes_in u_TypedParts.nested_stmts faults u_TypedParts.also_all u_Stack.turned
+unfolding u_Aggregates.field_value u_Aggregates.array_assoc u_Aggregates.dimension_of u_Aggregates.aggregate u_Attributes.one_argument u_Attributes.two_arguments_of u_Attributes.settled_attribute u_Calls.variable_given u_Calls.actual_for u_Calls.argument u_Calls.sub_call u_Calls.conversion u_Cases.case_choice u_Cases.closed u_Cases.handled_by u_Declarations.indic u_Declarations.array u_Declarations.record_of u_Declarations.defined u_Declarations.new_object u_Declarations.initial u_Declarations.objects u_Declarations.numbers u_Declarations.declaration u_Expressions.factor u_Expressions.multiplying u_Expressions.term u_Expressions.adding u_Expressions.simple u_Expressions.rel u_Expressions.expr u_Expressions.condition u_Expressions.value_for u_Expressions.judged_alone u_Iterations.chunk_count u_Iterations.chunked_by u_Iterations.walked u_Iterations.entered_with u_Iterations.entered u_Iterations.sequence u_Names.field u_Names.wrong_call u_Names.index u_Names.object_call u_Names.exception u_Operators.static_of u_Operators.static_universal u_Operators.static_operation u_Operators.operation_on u_Operators.typed_operation u_Operators.open_of u_Operators.open_binary u_Operators.universal_operation u_Operators.operation u_Operators.binary u_Operators.universal_power u_Operators.static_power u_Operators.power u_Operators.signed u_Operators.unary u_Operators.plain u_Operators.not_of u_Operators.joined_text u_Operators.logical u_Operators.compared_at u_Operators.compared u_Operators.membership u_Operators.of_subtype u_Output.width_of u_Output.io_call u_Parts.call u_Parts.part_of u_Parts.name u_Parts.valued_by u_Parts.value_named u_Primaries.alternative u_Primaries.scalar_if u_Primaries.composite_if u_Primaries.if_expr u_Primaries.grouped u_Primaries.primary u_Primaries.inside u_Programs.profile u_Programs.with_body u_Programs.with_value_of u_Programs.subprogram u_Programs.main u_Programs.program u_Ranges.two_bounds u_Ranges.bounds_of u_Ranges.own_bounds u_Ranges.checked_range u_Ranges.range u_Ranges.static_bounds u_Ranges.static_checked u_Ranges.static_range u_Ranges.chosen_value u_Ranges.chosen_span u_Reducers.reducer_of u_Reducers.reduced u_Reducers.folded_by u_Resolved.judged u_Scope.free u_Scope.stands_for u_Scope.selected u_Scope.subtype_named u_Scope.scalar_named u_Shapes.primary_of_simple u_Shapes.primary_of_expr u_Shapes.identifier_of_choice u_Statements.stmts u_Statements.assign_place u_Statements.call_stmt u_Statements.exit_from u_Statements.if_stmt u_Statements.case_stmt u_Statements.for_loop u_Statements.loop_stmt u_Statements.loop_entered u_Statements.body u_Statements.block u_Statements.parallel u_Statements.stmt u_Types.number_of u_Values.exact u_Values.valued u_Values.fitting u_Values.settled u_Values.asked u_Values.settled_found u_Values.any_integer u_Values.any_scalar u_Values.static_of_kind u_Values.static_integer u_Values.composite_asked u_Values.stored u_Indexes.indexes_in u_TypedParts.nested_stmts faults u_TypedParts.also_all u_Stack.turned
 unknown = refl
 
 -- X : Integer := X;
 hidden : faults (tree (variable 10 20 (Some (whole (ident 10))) ∷ []) (s.Null 60)) ≡ at 10 rule.NotVisible ∷ []
-unfolding u_Aggregates.field_value u_Aggregates.array_assoc u_Aggregates.dimension_of u_Aggregates.aggregate u_Attributes.one_argument u_Attributes.two_arguments_of u_Attributes.settled_attribute u_Calls.variable_given u_Calls.actual_for u_Calls.argument u_Calls.sub_call u_Calls.conversion u_Cases.case_choice u_Cases.closed u_Cases.handled_by u_Declarations.indic u_Declarations.array u_Declarations.record_of u_Declarations.defined u_Declarations.new_object u_Declarations.initial u_Declarations.objects u_Declarations.numbers u_Declarations.declaration u_Expressions.factor u_Expressions.multiplying u_Expressions.term u_Expressions.adding u_Expressions.simple u_Expressions.rel u_Expressions.expr u_Expressions.condition u_Expressions.value_for u_Expressions.judged_alone u_Iterations.chunk_count u_Iterations.chunked_by u_Iterations.walked u_Iterations.entered_with u_Iterations.entered u_Iterations.sequence u_Names.field u_Names.wrong_call u_Names.index u_Names.object_call u_Names.exception u_Operators.static_of u_Operators.static_universal u_Operators.static_operation u_Operators.operation_on u_Operators.typed_operation u_Operators.open_of u_Operators.open_binary u_Operators.universal_operation u_Operators.operation u_Operators.binary u_Operators.universal_power u_Operators.static_power u_Operators.power u_Operators.signed u_Operators.unary u_Operators.plain u_Operators.not_of u_Operators.joined_text u_Operators.logical u_Operators.compared_at u_Operators.compared u_Operators.membership u_Operators.of_subtype u_Output.width_of u_Output.io_call u_Parts.call u_Parts.part_of u_Parts.name u_Parts.valued_by u_Parts.value_named u_Primaries.alternative u_Primaries.scalar_if u_Primaries.composite_if u_Primaries.if_expr u_Primaries.grouped u_Primaries.primary u_Primaries.inside u_Programs.profile u_Programs.with_body u_Programs.with_value_of u_Programs.subprogram u_Programs.main u_Programs.program u_Ranges.two_bounds u_Ranges.bounds_of u_Ranges.own_bounds u_Ranges.checked_range u_Ranges.range u_Ranges.static_bounds u_Ranges.static_checked u_Ranges.static_range u_Ranges.chosen_value u_Ranges.chosen_span u_Reducers.reducer_of u_Reducers.reduced u_Reducers.folded_by u_Resolved.judged u_Scope.free u_Scope.stands_for u_Scope.selected u_Scope.subtype_named u_Scope.scalar_named u_Shapes.primary_of_simple u_Shapes.primary_of_expr u_Shapes.identifier_of_choice u_Statements.stmts u_Statements.assign_place u_Statements.call_stmt u_Statements.exit_from u_Statements.if_stmt u_Statements.case_stmt u_Statements.for_loop u_Statements.loop u_Statements.body u_Statements.block u_Statements.parallel u_Statements.stmt u_Types.number_of u_Values.exact u_Values.valued u_Values.fitting u_Values.settled u_Values.asked u_Values.settled_found u_Values.any_integer u_Values.any_scalar u_Values.static_of_kind u_Values.static_integer u_Values.composite_asked u_Values.stored u_TypedParts.indexes_in u_TypedParts.nested_stmts faults u_TypedParts.also_all u_Stack.turned
+unfolding u_Aggregates.field_value u_Aggregates.array_assoc u_Aggregates.dimension_of u_Aggregates.aggregate u_Attributes.one_argument u_Attributes.two_arguments_of u_Attributes.settled_attribute u_Calls.variable_given u_Calls.actual_for u_Calls.argument u_Calls.sub_call u_Calls.conversion u_Cases.case_choice u_Cases.closed u_Cases.handled_by u_Declarations.indic u_Declarations.array u_Declarations.record_of u_Declarations.defined u_Declarations.new_object u_Declarations.initial u_Declarations.objects u_Declarations.numbers u_Declarations.declaration u_Expressions.factor u_Expressions.multiplying u_Expressions.term u_Expressions.adding u_Expressions.simple u_Expressions.rel u_Expressions.expr u_Expressions.condition u_Expressions.value_for u_Expressions.judged_alone u_Iterations.chunk_count u_Iterations.chunked_by u_Iterations.walked u_Iterations.entered_with u_Iterations.entered u_Iterations.sequence u_Names.field u_Names.wrong_call u_Names.index u_Names.object_call u_Names.exception u_Operators.static_of u_Operators.static_universal u_Operators.static_operation u_Operators.operation_on u_Operators.typed_operation u_Operators.open_of u_Operators.open_binary u_Operators.universal_operation u_Operators.operation u_Operators.binary u_Operators.universal_power u_Operators.static_power u_Operators.power u_Operators.signed u_Operators.unary u_Operators.plain u_Operators.not_of u_Operators.joined_text u_Operators.logical u_Operators.compared_at u_Operators.compared u_Operators.membership u_Operators.of_subtype u_Output.width_of u_Output.io_call u_Parts.call u_Parts.part_of u_Parts.name u_Parts.valued_by u_Parts.value_named u_Primaries.alternative u_Primaries.scalar_if u_Primaries.composite_if u_Primaries.if_expr u_Primaries.grouped u_Primaries.primary u_Primaries.inside u_Programs.profile u_Programs.with_body u_Programs.with_value_of u_Programs.subprogram u_Programs.main u_Programs.program u_Ranges.two_bounds u_Ranges.bounds_of u_Ranges.own_bounds u_Ranges.checked_range u_Ranges.range u_Ranges.static_bounds u_Ranges.static_checked u_Ranges.static_range u_Ranges.chosen_value u_Ranges.chosen_span u_Reducers.reducer_of u_Reducers.reduced u_Reducers.folded_by u_Resolved.judged u_Scope.free u_Scope.stands_for u_Scope.selected u_Scope.subtype_named u_Scope.scalar_named u_Shapes.primary_of_simple u_Shapes.primary_of_expr u_Shapes.identifier_of_choice u_Statements.stmts u_Statements.assign_place u_Statements.call_stmt u_Statements.exit_from u_Statements.if_stmt u_Statements.case_stmt u_Statements.for_loop u_Statements.loop_stmt u_Statements.loop_entered u_Statements.body u_Statements.block u_Statements.parallel u_Statements.stmt u_Types.number_of u_Values.exact u_Values.valued u_Values.fitting u_Values.settled u_Values.asked u_Values.settled_found u_Values.any_integer u_Values.any_scalar u_Values.static_of_kind u_Values.static_integer u_Values.composite_asked u_Values.stored u_Indexes.indexes_in u_TypedParts.nested_stmts faults u_TypedParts.also_all u_Stack.turned
 hidden = refl
 
 -- X : Boolean; .. X := X + 3;
 wrong : faults (tree (variable 10 21 None ∷ []) (s.Assign (name 10) (plus (ident 10) 50 (num 33)))) ≡ at 50 rule.WrongType ∷ []
-unfolding u_Aggregates.field_value u_Aggregates.array_assoc u_Aggregates.dimension_of u_Aggregates.aggregate u_Attributes.one_argument u_Attributes.two_arguments_of u_Attributes.settled_attribute u_Calls.variable_given u_Calls.actual_for u_Calls.argument u_Calls.sub_call u_Calls.conversion u_Cases.case_choice u_Cases.closed u_Cases.handled_by u_Declarations.indic u_Declarations.array u_Declarations.record_of u_Declarations.defined u_Declarations.new_object u_Declarations.initial u_Declarations.objects u_Declarations.numbers u_Declarations.declaration u_Expressions.factor u_Expressions.multiplying u_Expressions.term u_Expressions.adding u_Expressions.simple u_Expressions.rel u_Expressions.expr u_Expressions.condition u_Expressions.value_for u_Expressions.judged_alone u_Iterations.chunk_count u_Iterations.chunked_by u_Iterations.walked u_Iterations.entered_with u_Iterations.entered u_Iterations.sequence u_Names.field u_Names.wrong_call u_Names.index u_Names.object_call u_Names.exception u_Operators.static_of u_Operators.static_universal u_Operators.static_operation u_Operators.operation_on u_Operators.typed_operation u_Operators.open_of u_Operators.open_binary u_Operators.universal_operation u_Operators.operation u_Operators.binary u_Operators.universal_power u_Operators.static_power u_Operators.power u_Operators.signed u_Operators.unary u_Operators.plain u_Operators.not_of u_Operators.joined_text u_Operators.logical u_Operators.compared_at u_Operators.compared u_Operators.membership u_Operators.of_subtype u_Output.width_of u_Output.io_call u_Parts.call u_Parts.part_of u_Parts.name u_Parts.valued_by u_Parts.value_named u_Primaries.alternative u_Primaries.scalar_if u_Primaries.composite_if u_Primaries.if_expr u_Primaries.grouped u_Primaries.primary u_Primaries.inside u_Programs.profile u_Programs.with_body u_Programs.with_value_of u_Programs.subprogram u_Programs.main u_Programs.program u_Ranges.two_bounds u_Ranges.bounds_of u_Ranges.own_bounds u_Ranges.checked_range u_Ranges.range u_Ranges.static_bounds u_Ranges.static_checked u_Ranges.static_range u_Ranges.chosen_value u_Ranges.chosen_span u_Reducers.reducer_of u_Reducers.reduced u_Reducers.folded_by u_Resolved.judged u_Scope.free u_Scope.stands_for u_Scope.selected u_Scope.subtype_named u_Scope.scalar_named u_Shapes.primary_of_simple u_Shapes.primary_of_expr u_Shapes.identifier_of_choice u_Statements.stmts u_Statements.assign_place u_Statements.call_stmt u_Statements.exit_from u_Statements.if_stmt u_Statements.case_stmt u_Statements.for_loop u_Statements.loop u_Statements.body u_Statements.block u_Statements.parallel u_Statements.stmt u_Types.number_of u_Values.exact u_Values.valued u_Values.fitting u_Values.settled u_Values.asked u_Values.settled_found u_Values.any_integer u_Values.any_scalar u_Values.static_of_kind u_Values.static_integer u_Values.composite_asked u_Values.stored u_TypedParts.indexes_in u_TypedParts.nested_stmts faults u_TypedParts.also_all u_Stack.turned
+unfolding u_Aggregates.field_value u_Aggregates.array_assoc u_Aggregates.dimension_of u_Aggregates.aggregate u_Attributes.one_argument u_Attributes.two_arguments_of u_Attributes.settled_attribute u_Calls.variable_given u_Calls.actual_for u_Calls.argument u_Calls.sub_call u_Calls.conversion u_Cases.case_choice u_Cases.closed u_Cases.handled_by u_Declarations.indic u_Declarations.array u_Declarations.record_of u_Declarations.defined u_Declarations.new_object u_Declarations.initial u_Declarations.objects u_Declarations.numbers u_Declarations.declaration u_Expressions.factor u_Expressions.multiplying u_Expressions.term u_Expressions.adding u_Expressions.simple u_Expressions.rel u_Expressions.expr u_Expressions.condition u_Expressions.value_for u_Expressions.judged_alone u_Iterations.chunk_count u_Iterations.chunked_by u_Iterations.walked u_Iterations.entered_with u_Iterations.entered u_Iterations.sequence u_Names.field u_Names.wrong_call u_Names.index u_Names.object_call u_Names.exception u_Operators.static_of u_Operators.static_universal u_Operators.static_operation u_Operators.operation_on u_Operators.typed_operation u_Operators.open_of u_Operators.open_binary u_Operators.universal_operation u_Operators.operation u_Operators.binary u_Operators.universal_power u_Operators.static_power u_Operators.power u_Operators.signed u_Operators.unary u_Operators.plain u_Operators.not_of u_Operators.joined_text u_Operators.logical u_Operators.compared_at u_Operators.compared u_Operators.membership u_Operators.of_subtype u_Output.width_of u_Output.io_call u_Parts.call u_Parts.part_of u_Parts.name u_Parts.valued_by u_Parts.value_named u_Primaries.alternative u_Primaries.scalar_if u_Primaries.composite_if u_Primaries.if_expr u_Primaries.grouped u_Primaries.primary u_Primaries.inside u_Programs.profile u_Programs.with_body u_Programs.with_value_of u_Programs.subprogram u_Programs.main u_Programs.program u_Ranges.two_bounds u_Ranges.bounds_of u_Ranges.own_bounds u_Ranges.checked_range u_Ranges.range u_Ranges.static_bounds u_Ranges.static_checked u_Ranges.static_range u_Ranges.chosen_value u_Ranges.chosen_span u_Reducers.reducer_of u_Reducers.reduced u_Reducers.folded_by u_Resolved.judged u_Scope.free u_Scope.stands_for u_Scope.selected u_Scope.subtype_named u_Scope.scalar_named u_Shapes.primary_of_simple u_Shapes.primary_of_expr u_Shapes.identifier_of_choice u_Statements.stmts u_Statements.assign_place u_Statements.call_stmt u_Statements.exit_from u_Statements.if_stmt u_Statements.case_stmt u_Statements.for_loop u_Statements.loop_stmt u_Statements.loop_entered u_Statements.body u_Statements.block u_Statements.parallel u_Statements.stmt u_Types.number_of u_Values.exact u_Values.valued u_Values.fitting u_Values.settled u_Values.asked u_Values.settled_found u_Values.any_integer u_Values.any_scalar u_Values.static_of_kind u_Values.static_integer u_Values.composite_asked u_Values.stored u_Indexes.indexes_in u_TypedParts.nested_stmts faults u_TypedParts.also_all u_Stack.turned
 wrong = refl
 
 -- X : Integer := 3_000_000_000;
 too_large : faults (tree (variable 10 20 (Some (whole (num 40))) ∷ []) (s.Null 60)) ≡ at 40 rule.StaticRange ∷ []
-unfolding u_Aggregates.field_value u_Aggregates.array_assoc u_Aggregates.dimension_of u_Aggregates.aggregate u_Attributes.one_argument u_Attributes.two_arguments_of u_Attributes.settled_attribute u_Calls.variable_given u_Calls.actual_for u_Calls.argument u_Calls.sub_call u_Calls.conversion u_Cases.case_choice u_Cases.closed u_Cases.handled_by u_Declarations.indic u_Declarations.array u_Declarations.record_of u_Declarations.defined u_Declarations.new_object u_Declarations.initial u_Declarations.objects u_Declarations.numbers u_Declarations.declaration u_Expressions.factor u_Expressions.multiplying u_Expressions.term u_Expressions.adding u_Expressions.simple u_Expressions.rel u_Expressions.expr u_Expressions.condition u_Expressions.value_for u_Expressions.judged_alone u_Iterations.chunk_count u_Iterations.chunked_by u_Iterations.walked u_Iterations.entered_with u_Iterations.entered u_Iterations.sequence u_Names.field u_Names.wrong_call u_Names.index u_Names.object_call u_Names.exception u_Operators.static_of u_Operators.static_universal u_Operators.static_operation u_Operators.operation_on u_Operators.typed_operation u_Operators.open_of u_Operators.open_binary u_Operators.universal_operation u_Operators.operation u_Operators.binary u_Operators.universal_power u_Operators.static_power u_Operators.power u_Operators.signed u_Operators.unary u_Operators.plain u_Operators.not_of u_Operators.joined_text u_Operators.logical u_Operators.compared_at u_Operators.compared u_Operators.membership u_Operators.of_subtype u_Output.width_of u_Output.io_call u_Parts.call u_Parts.part_of u_Parts.name u_Parts.valued_by u_Parts.value_named u_Primaries.alternative u_Primaries.scalar_if u_Primaries.composite_if u_Primaries.if_expr u_Primaries.grouped u_Primaries.primary u_Primaries.inside u_Programs.profile u_Programs.with_body u_Programs.with_value_of u_Programs.subprogram u_Programs.main u_Programs.program u_Ranges.two_bounds u_Ranges.bounds_of u_Ranges.own_bounds u_Ranges.checked_range u_Ranges.range u_Ranges.static_bounds u_Ranges.static_checked u_Ranges.static_range u_Ranges.chosen_value u_Ranges.chosen_span u_Reducers.reducer_of u_Reducers.reduced u_Reducers.folded_by u_Resolved.judged u_Scope.free u_Scope.stands_for u_Scope.selected u_Scope.subtype_named u_Scope.scalar_named u_Shapes.primary_of_simple u_Shapes.primary_of_expr u_Shapes.identifier_of_choice u_Statements.stmts u_Statements.assign_place u_Statements.call_stmt u_Statements.exit_from u_Statements.if_stmt u_Statements.case_stmt u_Statements.for_loop u_Statements.loop u_Statements.body u_Statements.block u_Statements.parallel u_Statements.stmt u_Types.number_of u_Values.exact u_Values.valued u_Values.fitting u_Values.settled u_Values.asked u_Values.settled_found u_Values.any_integer u_Values.any_scalar u_Values.static_of_kind u_Values.static_integer u_Values.composite_asked u_Values.stored u_TypedParts.indexes_in u_TypedParts.nested_stmts faults u_TypedParts.also_all u_Stack.turned
+unfolding u_Aggregates.field_value u_Aggregates.array_assoc u_Aggregates.dimension_of u_Aggregates.aggregate u_Attributes.one_argument u_Attributes.two_arguments_of u_Attributes.settled_attribute u_Calls.variable_given u_Calls.actual_for u_Calls.argument u_Calls.sub_call u_Calls.conversion u_Cases.case_choice u_Cases.closed u_Cases.handled_by u_Declarations.indic u_Declarations.array u_Declarations.record_of u_Declarations.defined u_Declarations.new_object u_Declarations.initial u_Declarations.objects u_Declarations.numbers u_Declarations.declaration u_Expressions.factor u_Expressions.multiplying u_Expressions.term u_Expressions.adding u_Expressions.simple u_Expressions.rel u_Expressions.expr u_Expressions.condition u_Expressions.value_for u_Expressions.judged_alone u_Iterations.chunk_count u_Iterations.chunked_by u_Iterations.walked u_Iterations.entered_with u_Iterations.entered u_Iterations.sequence u_Names.field u_Names.wrong_call u_Names.index u_Names.object_call u_Names.exception u_Operators.static_of u_Operators.static_universal u_Operators.static_operation u_Operators.operation_on u_Operators.typed_operation u_Operators.open_of u_Operators.open_binary u_Operators.universal_operation u_Operators.operation u_Operators.binary u_Operators.universal_power u_Operators.static_power u_Operators.power u_Operators.signed u_Operators.unary u_Operators.plain u_Operators.not_of u_Operators.joined_text u_Operators.logical u_Operators.compared_at u_Operators.compared u_Operators.membership u_Operators.of_subtype u_Output.width_of u_Output.io_call u_Parts.call u_Parts.part_of u_Parts.name u_Parts.valued_by u_Parts.value_named u_Primaries.alternative u_Primaries.scalar_if u_Primaries.composite_if u_Primaries.if_expr u_Primaries.grouped u_Primaries.primary u_Primaries.inside u_Programs.profile u_Programs.with_body u_Programs.with_value_of u_Programs.subprogram u_Programs.main u_Programs.program u_Ranges.two_bounds u_Ranges.bounds_of u_Ranges.own_bounds u_Ranges.checked_range u_Ranges.range u_Ranges.static_bounds u_Ranges.static_checked u_Ranges.static_range u_Ranges.chosen_value u_Ranges.chosen_span u_Reducers.reducer_of u_Reducers.reduced u_Reducers.folded_by u_Resolved.judged u_Scope.free u_Scope.stands_for u_Scope.selected u_Scope.subtype_named u_Scope.scalar_named u_Shapes.primary_of_simple u_Shapes.primary_of_expr u_Shapes.identifier_of_choice u_Statements.stmts u_Statements.assign_place u_Statements.call_stmt u_Statements.exit_from u_Statements.if_stmt u_Statements.case_stmt u_Statements.for_loop u_Statements.loop_stmt u_Statements.loop_entered u_Statements.body u_Statements.block u_Statements.parallel u_Statements.stmt u_Types.number_of u_Values.exact u_Values.valued u_Values.fitting u_Values.settled u_Values.asked u_Values.settled_found u_Values.any_integer u_Values.any_scalar u_Values.static_of_kind u_Values.static_integer u_Values.composite_asked u_Values.stored u_Indexes.indexes_in u_TypedParts.nested_stmts faults u_TypedParts.also_all u_Stack.turned
 too_large = refl
 
 -- X : Integer; X : Integer;
 twice : faults (tree (variable 10 20 None ∷ variable 10 20 None ∷ []) (s.Null 60)) ≡ at 10 rule.Twice ∷ []
-unfolding u_Aggregates.field_value u_Aggregates.array_assoc u_Aggregates.dimension_of u_Aggregates.aggregate u_Attributes.one_argument u_Attributes.two_arguments_of u_Attributes.settled_attribute u_Calls.variable_given u_Calls.actual_for u_Calls.argument u_Calls.sub_call u_Calls.conversion u_Cases.case_choice u_Cases.closed u_Cases.handled_by u_Declarations.indic u_Declarations.array u_Declarations.record_of u_Declarations.defined u_Declarations.new_object u_Declarations.initial u_Declarations.objects u_Declarations.numbers u_Declarations.declaration u_Expressions.factor u_Expressions.multiplying u_Expressions.term u_Expressions.adding u_Expressions.simple u_Expressions.rel u_Expressions.expr u_Expressions.condition u_Expressions.value_for u_Expressions.judged_alone u_Iterations.chunk_count u_Iterations.chunked_by u_Iterations.walked u_Iterations.entered_with u_Iterations.entered u_Iterations.sequence u_Names.field u_Names.wrong_call u_Names.index u_Names.object_call u_Names.exception u_Operators.static_of u_Operators.static_universal u_Operators.static_operation u_Operators.operation_on u_Operators.typed_operation u_Operators.open_of u_Operators.open_binary u_Operators.universal_operation u_Operators.operation u_Operators.binary u_Operators.universal_power u_Operators.static_power u_Operators.power u_Operators.signed u_Operators.unary u_Operators.plain u_Operators.not_of u_Operators.joined_text u_Operators.logical u_Operators.compared_at u_Operators.compared u_Operators.membership u_Operators.of_subtype u_Output.width_of u_Output.io_call u_Parts.call u_Parts.part_of u_Parts.name u_Parts.valued_by u_Parts.value_named u_Primaries.alternative u_Primaries.scalar_if u_Primaries.composite_if u_Primaries.if_expr u_Primaries.grouped u_Primaries.primary u_Primaries.inside u_Programs.profile u_Programs.with_body u_Programs.with_value_of u_Programs.subprogram u_Programs.main u_Programs.program u_Ranges.two_bounds u_Ranges.bounds_of u_Ranges.own_bounds u_Ranges.checked_range u_Ranges.range u_Ranges.static_bounds u_Ranges.static_checked u_Ranges.static_range u_Ranges.chosen_value u_Ranges.chosen_span u_Reducers.reducer_of u_Reducers.reduced u_Reducers.folded_by u_Resolved.judged u_Scope.free u_Scope.stands_for u_Scope.selected u_Scope.subtype_named u_Scope.scalar_named u_Shapes.primary_of_simple u_Shapes.primary_of_expr u_Shapes.identifier_of_choice u_Statements.stmts u_Statements.assign_place u_Statements.call_stmt u_Statements.exit_from u_Statements.if_stmt u_Statements.case_stmt u_Statements.for_loop u_Statements.loop u_Statements.body u_Statements.block u_Statements.parallel u_Statements.stmt u_Types.number_of u_Values.exact u_Values.valued u_Values.fitting u_Values.settled u_Values.asked u_Values.settled_found u_Values.any_integer u_Values.any_scalar u_Values.static_of_kind u_Values.static_integer u_Values.composite_asked u_Values.stored u_TypedParts.indexes_in u_TypedParts.nested_stmts faults u_TypedParts.also_all u_Stack.turned
+unfolding u_Aggregates.field_value u_Aggregates.array_assoc u_Aggregates.dimension_of u_Aggregates.aggregate u_Attributes.one_argument u_Attributes.two_arguments_of u_Attributes.settled_attribute u_Calls.variable_given u_Calls.actual_for u_Calls.argument u_Calls.sub_call u_Calls.conversion u_Cases.case_choice u_Cases.closed u_Cases.handled_by u_Declarations.indic u_Declarations.array u_Declarations.record_of u_Declarations.defined u_Declarations.new_object u_Declarations.initial u_Declarations.objects u_Declarations.numbers u_Declarations.declaration u_Expressions.factor u_Expressions.multiplying u_Expressions.term u_Expressions.adding u_Expressions.simple u_Expressions.rel u_Expressions.expr u_Expressions.condition u_Expressions.value_for u_Expressions.judged_alone u_Iterations.chunk_count u_Iterations.chunked_by u_Iterations.walked u_Iterations.entered_with u_Iterations.entered u_Iterations.sequence u_Names.field u_Names.wrong_call u_Names.index u_Names.object_call u_Names.exception u_Operators.static_of u_Operators.static_universal u_Operators.static_operation u_Operators.operation_on u_Operators.typed_operation u_Operators.open_of u_Operators.open_binary u_Operators.universal_operation u_Operators.operation u_Operators.binary u_Operators.universal_power u_Operators.static_power u_Operators.power u_Operators.signed u_Operators.unary u_Operators.plain u_Operators.not_of u_Operators.joined_text u_Operators.logical u_Operators.compared_at u_Operators.compared u_Operators.membership u_Operators.of_subtype u_Output.width_of u_Output.io_call u_Parts.call u_Parts.part_of u_Parts.name u_Parts.valued_by u_Parts.value_named u_Primaries.alternative u_Primaries.scalar_if u_Primaries.composite_if u_Primaries.if_expr u_Primaries.grouped u_Primaries.primary u_Primaries.inside u_Programs.profile u_Programs.with_body u_Programs.with_value_of u_Programs.subprogram u_Programs.main u_Programs.program u_Ranges.two_bounds u_Ranges.bounds_of u_Ranges.own_bounds u_Ranges.checked_range u_Ranges.range u_Ranges.static_bounds u_Ranges.static_checked u_Ranges.static_range u_Ranges.chosen_value u_Ranges.chosen_span u_Reducers.reducer_of u_Reducers.reduced u_Reducers.folded_by u_Resolved.judged u_Scope.free u_Scope.stands_for u_Scope.selected u_Scope.subtype_named u_Scope.scalar_named u_Shapes.primary_of_simple u_Shapes.primary_of_expr u_Shapes.identifier_of_choice u_Statements.stmts u_Statements.assign_place u_Statements.call_stmt u_Statements.exit_from u_Statements.if_stmt u_Statements.case_stmt u_Statements.for_loop u_Statements.loop_stmt u_Statements.loop_entered u_Statements.body u_Statements.block u_Statements.parallel u_Statements.stmt u_Types.number_of u_Values.exact u_Values.valued u_Values.fitting u_Values.settled u_Values.asked u_Values.settled_found u_Values.any_integer u_Values.any_scalar u_Values.static_of_kind u_Values.static_integer u_Values.composite_asked u_Values.stored u_Indexes.indexes_in u_TypedParts.nested_stmts faults u_TypedParts.also_all u_Stack.turned
 twice = refl
 
 -- exit;
 outside : faults (tree [] (s.Exit 60 None None)) ≡ at 60 rule.NotVisible ∷ []
-unfolding u_Aggregates.field_value u_Aggregates.array_assoc u_Aggregates.dimension_of u_Aggregates.aggregate u_Attributes.one_argument u_Attributes.two_arguments_of u_Attributes.settled_attribute u_Calls.variable_given u_Calls.actual_for u_Calls.argument u_Calls.sub_call u_Calls.conversion u_Cases.case_choice u_Cases.closed u_Cases.handled_by u_Declarations.indic u_Declarations.array u_Declarations.record_of u_Declarations.defined u_Declarations.new_object u_Declarations.initial u_Declarations.objects u_Declarations.numbers u_Declarations.declaration u_Expressions.factor u_Expressions.multiplying u_Expressions.term u_Expressions.adding u_Expressions.simple u_Expressions.rel u_Expressions.expr u_Expressions.condition u_Expressions.value_for u_Expressions.judged_alone u_Iterations.chunk_count u_Iterations.chunked_by u_Iterations.walked u_Iterations.entered_with u_Iterations.entered u_Iterations.sequence u_Names.field u_Names.wrong_call u_Names.index u_Names.object_call u_Names.exception u_Operators.static_of u_Operators.static_universal u_Operators.static_operation u_Operators.operation_on u_Operators.typed_operation u_Operators.open_of u_Operators.open_binary u_Operators.universal_operation u_Operators.operation u_Operators.binary u_Operators.universal_power u_Operators.static_power u_Operators.power u_Operators.signed u_Operators.unary u_Operators.plain u_Operators.not_of u_Operators.joined_text u_Operators.logical u_Operators.compared_at u_Operators.compared u_Operators.membership u_Operators.of_subtype u_Output.width_of u_Output.io_call u_Parts.call u_Parts.part_of u_Parts.name u_Parts.valued_by u_Parts.value_named u_Primaries.alternative u_Primaries.scalar_if u_Primaries.composite_if u_Primaries.if_expr u_Primaries.grouped u_Primaries.primary u_Primaries.inside u_Programs.profile u_Programs.with_body u_Programs.with_value_of u_Programs.subprogram u_Programs.main u_Programs.program u_Ranges.two_bounds u_Ranges.bounds_of u_Ranges.own_bounds u_Ranges.checked_range u_Ranges.range u_Ranges.static_bounds u_Ranges.static_checked u_Ranges.static_range u_Ranges.chosen_value u_Ranges.chosen_span u_Reducers.reducer_of u_Reducers.reduced u_Reducers.folded_by u_Resolved.judged u_Scope.free u_Scope.stands_for u_Scope.selected u_Scope.subtype_named u_Scope.scalar_named u_Shapes.primary_of_simple u_Shapes.primary_of_expr u_Shapes.identifier_of_choice u_Statements.stmts u_Statements.assign_place u_Statements.call_stmt u_Statements.exit_from u_Statements.if_stmt u_Statements.case_stmt u_Statements.for_loop u_Statements.loop u_Statements.body u_Statements.block u_Statements.parallel u_Statements.stmt u_Types.number_of u_Values.exact u_Values.valued u_Values.fitting u_Values.settled u_Values.asked u_Values.settled_found u_Values.any_integer u_Values.any_scalar u_Values.static_of_kind u_Values.static_integer u_Values.composite_asked u_Values.stored u_TypedParts.indexes_in u_TypedParts.nested_stmts faults u_TypedParts.also_all u_Stack.turned
+unfolding u_Aggregates.field_value u_Aggregates.array_assoc u_Aggregates.dimension_of u_Aggregates.aggregate u_Attributes.one_argument u_Attributes.two_arguments_of u_Attributes.settled_attribute u_Calls.variable_given u_Calls.actual_for u_Calls.argument u_Calls.sub_call u_Calls.conversion u_Cases.case_choice u_Cases.closed u_Cases.handled_by u_Declarations.indic u_Declarations.array u_Declarations.record_of u_Declarations.defined u_Declarations.new_object u_Declarations.initial u_Declarations.objects u_Declarations.numbers u_Declarations.declaration u_Expressions.factor u_Expressions.multiplying u_Expressions.term u_Expressions.adding u_Expressions.simple u_Expressions.rel u_Expressions.expr u_Expressions.condition u_Expressions.value_for u_Expressions.judged_alone u_Iterations.chunk_count u_Iterations.chunked_by u_Iterations.walked u_Iterations.entered_with u_Iterations.entered u_Iterations.sequence u_Names.field u_Names.wrong_call u_Names.index u_Names.object_call u_Names.exception u_Operators.static_of u_Operators.static_universal u_Operators.static_operation u_Operators.operation_on u_Operators.typed_operation u_Operators.open_of u_Operators.open_binary u_Operators.universal_operation u_Operators.operation u_Operators.binary u_Operators.universal_power u_Operators.static_power u_Operators.power u_Operators.signed u_Operators.unary u_Operators.plain u_Operators.not_of u_Operators.joined_text u_Operators.logical u_Operators.compared_at u_Operators.compared u_Operators.membership u_Operators.of_subtype u_Output.width_of u_Output.io_call u_Parts.call u_Parts.part_of u_Parts.name u_Parts.valued_by u_Parts.value_named u_Primaries.alternative u_Primaries.scalar_if u_Primaries.composite_if u_Primaries.if_expr u_Primaries.grouped u_Primaries.primary u_Primaries.inside u_Programs.profile u_Programs.with_body u_Programs.with_value_of u_Programs.subprogram u_Programs.main u_Programs.program u_Ranges.two_bounds u_Ranges.bounds_of u_Ranges.own_bounds u_Ranges.checked_range u_Ranges.range u_Ranges.static_bounds u_Ranges.static_checked u_Ranges.static_range u_Ranges.chosen_value u_Ranges.chosen_span u_Reducers.reducer_of u_Reducers.reduced u_Reducers.folded_by u_Resolved.judged u_Scope.free u_Scope.stands_for u_Scope.selected u_Scope.subtype_named u_Scope.scalar_named u_Shapes.primary_of_simple u_Shapes.primary_of_expr u_Shapes.identifier_of_choice u_Statements.stmts u_Statements.assign_place u_Statements.call_stmt u_Statements.exit_from u_Statements.if_stmt u_Statements.case_stmt u_Statements.for_loop u_Statements.loop_stmt u_Statements.loop_entered u_Statements.body u_Statements.block u_Statements.parallel u_Statements.stmt u_Types.number_of u_Values.exact u_Values.valued u_Values.fitting u_Values.settled u_Values.asked u_Values.settled_found u_Values.any_integer u_Values.any_scalar u_Values.static_of_kind u_Values.static_integer u_Values.composite_asked u_Values.stored u_Indexes.indexes_in u_TypedParts.nested_stmts faults u_TypedParts.also_all u_Stack.turned
 outside = refl
 
 -- X : Integer; for Y in 1 .. 3 loop X := Y; end loop;
 looped : faults (tree (variable 10 20 None ∷ []) (s.Loop None (Some (s.For None 61 (s.InRange 11 None (s.Bounded (simple (num 31)) (simple (num 33))) s.AbsentExpr))) 62 (one (s.Assign (name 10) (whole (ident 11)))) 63 None)) ≡ []
-unfolding u_Aggregates.field_value u_Aggregates.array_assoc u_Aggregates.dimension_of u_Aggregates.aggregate u_Attributes.one_argument u_Attributes.two_arguments_of u_Attributes.settled_attribute u_Calls.variable_given u_Calls.actual_for u_Calls.argument u_Calls.sub_call u_Calls.conversion u_Cases.case_choice u_Cases.closed u_Cases.handled_by u_Declarations.indic u_Declarations.array u_Declarations.record_of u_Declarations.defined u_Declarations.new_object u_Declarations.initial u_Declarations.objects u_Declarations.numbers u_Declarations.declaration u_Expressions.factor u_Expressions.multiplying u_Expressions.term u_Expressions.adding u_Expressions.simple u_Expressions.rel u_Expressions.expr u_Expressions.condition u_Expressions.value_for u_Expressions.judged_alone u_Iterations.chunk_count u_Iterations.chunked_by u_Iterations.walked u_Iterations.entered_with u_Iterations.entered u_Iterations.sequence u_Names.field u_Names.wrong_call u_Names.index u_Names.object_call u_Names.exception u_Operators.static_of u_Operators.static_universal u_Operators.static_operation u_Operators.operation_on u_Operators.typed_operation u_Operators.open_of u_Operators.open_binary u_Operators.universal_operation u_Operators.operation u_Operators.binary u_Operators.universal_power u_Operators.static_power u_Operators.power u_Operators.signed u_Operators.unary u_Operators.plain u_Operators.not_of u_Operators.joined_text u_Operators.logical u_Operators.compared_at u_Operators.compared u_Operators.membership u_Operators.of_subtype u_Output.width_of u_Output.io_call u_Parts.call u_Parts.part_of u_Parts.name u_Parts.valued_by u_Parts.value_named u_Primaries.alternative u_Primaries.scalar_if u_Primaries.composite_if u_Primaries.if_expr u_Primaries.grouped u_Primaries.primary u_Primaries.inside u_Programs.profile u_Programs.with_body u_Programs.with_value_of u_Programs.subprogram u_Programs.main u_Programs.program u_Ranges.two_bounds u_Ranges.bounds_of u_Ranges.own_bounds u_Ranges.checked_range u_Ranges.range u_Ranges.static_bounds u_Ranges.static_checked u_Ranges.static_range u_Ranges.chosen_value u_Ranges.chosen_span u_Reducers.reducer_of u_Reducers.reduced u_Reducers.folded_by u_Resolved.judged u_Scope.free u_Scope.stands_for u_Scope.selected u_Scope.subtype_named u_Scope.scalar_named u_Shapes.primary_of_simple u_Shapes.primary_of_expr u_Shapes.identifier_of_choice u_Statements.stmts u_Statements.assign_place u_Statements.call_stmt u_Statements.exit_from u_Statements.if_stmt u_Statements.case_stmt u_Statements.for_loop u_Statements.loop u_Statements.body u_Statements.block u_Statements.parallel u_Statements.stmt u_Types.number_of u_Values.exact u_Values.valued u_Values.fitting u_Values.settled u_Values.asked u_Values.settled_found u_Values.any_integer u_Values.any_scalar u_Values.static_of_kind u_Values.static_integer u_Values.composite_asked u_Values.stored u_TypedParts.indexes_in u_TypedParts.nested_stmts faults u_TypedParts.also_all u_Stack.turned
+unfolding u_Aggregates.field_value u_Aggregates.array_assoc u_Aggregates.dimension_of u_Aggregates.aggregate u_Attributes.one_argument u_Attributes.two_arguments_of u_Attributes.settled_attribute u_Calls.variable_given u_Calls.actual_for u_Calls.argument u_Calls.sub_call u_Calls.conversion u_Cases.case_choice u_Cases.closed u_Cases.handled_by u_Declarations.indic u_Declarations.array u_Declarations.record_of u_Declarations.defined u_Declarations.new_object u_Declarations.initial u_Declarations.objects u_Declarations.numbers u_Declarations.declaration u_Expressions.factor u_Expressions.multiplying u_Expressions.term u_Expressions.adding u_Expressions.simple u_Expressions.rel u_Expressions.expr u_Expressions.condition u_Expressions.value_for u_Expressions.judged_alone u_Iterations.chunk_count u_Iterations.chunked_by u_Iterations.walked u_Iterations.entered_with u_Iterations.entered u_Iterations.sequence u_Names.field u_Names.wrong_call u_Names.index u_Names.object_call u_Names.exception u_Operators.static_of u_Operators.static_universal u_Operators.static_operation u_Operators.operation_on u_Operators.typed_operation u_Operators.open_of u_Operators.open_binary u_Operators.universal_operation u_Operators.operation u_Operators.binary u_Operators.universal_power u_Operators.static_power u_Operators.power u_Operators.signed u_Operators.unary u_Operators.plain u_Operators.not_of u_Operators.joined_text u_Operators.logical u_Operators.compared_at u_Operators.compared u_Operators.membership u_Operators.of_subtype u_Output.width_of u_Output.io_call u_Parts.call u_Parts.part_of u_Parts.name u_Parts.valued_by u_Parts.value_named u_Primaries.alternative u_Primaries.scalar_if u_Primaries.composite_if u_Primaries.if_expr u_Primaries.grouped u_Primaries.primary u_Primaries.inside u_Programs.profile u_Programs.with_body u_Programs.with_value_of u_Programs.subprogram u_Programs.main u_Programs.program u_Ranges.two_bounds u_Ranges.bounds_of u_Ranges.own_bounds u_Ranges.checked_range u_Ranges.range u_Ranges.static_bounds u_Ranges.static_checked u_Ranges.static_range u_Ranges.chosen_value u_Ranges.chosen_span u_Reducers.reducer_of u_Reducers.reduced u_Reducers.folded_by u_Resolved.judged u_Scope.free u_Scope.stands_for u_Scope.selected u_Scope.subtype_named u_Scope.scalar_named u_Shapes.primary_of_simple u_Shapes.primary_of_expr u_Shapes.identifier_of_choice u_Statements.stmts u_Statements.assign_place u_Statements.call_stmt u_Statements.exit_from u_Statements.if_stmt u_Statements.case_stmt u_Statements.for_loop u_Statements.loop_stmt u_Statements.loop_entered u_Statements.body u_Statements.block u_Statements.parallel u_Statements.stmt u_Types.number_of u_Values.exact u_Values.valued u_Values.fitting u_Values.settled u_Values.asked u_Values.settled_found u_Values.any_integer u_Values.any_scalar u_Values.static_of_kind u_Values.static_integer u_Values.composite_asked u_Values.stored u_Indexes.indexes_in u_TypedParts.nested_stmts faults u_TypedParts.also_all u_Stack.turned
 looped = refl
 
 -- for Y in 1 .. 3 loop Y := 1; end loop;
 constant : faults (tree [] (s.Loop None (Some (s.For None 61 (s.InRange 11 None (s.Bounded (simple (num 31)) (simple (num 33))) s.AbsentExpr))) 62 (one (s.Assign (name 11) (whole (num 31)))) 63 None)) ≡ at 11 rule.WrongType ∷ []
-unfolding u_Aggregates.field_value u_Aggregates.array_assoc u_Aggregates.dimension_of u_Aggregates.aggregate u_Attributes.one_argument u_Attributes.two_arguments_of u_Attributes.settled_attribute u_Calls.variable_given u_Calls.actual_for u_Calls.argument u_Calls.sub_call u_Calls.conversion u_Cases.case_choice u_Cases.closed u_Cases.handled_by u_Declarations.indic u_Declarations.array u_Declarations.record_of u_Declarations.defined u_Declarations.new_object u_Declarations.initial u_Declarations.objects u_Declarations.numbers u_Declarations.declaration u_Expressions.factor u_Expressions.multiplying u_Expressions.term u_Expressions.adding u_Expressions.simple u_Expressions.rel u_Expressions.expr u_Expressions.condition u_Expressions.value_for u_Expressions.judged_alone u_Iterations.chunk_count u_Iterations.chunked_by u_Iterations.walked u_Iterations.entered_with u_Iterations.entered u_Iterations.sequence u_Names.field u_Names.wrong_call u_Names.index u_Names.object_call u_Names.exception u_Operators.static_of u_Operators.static_universal u_Operators.static_operation u_Operators.operation_on u_Operators.typed_operation u_Operators.open_of u_Operators.open_binary u_Operators.universal_operation u_Operators.operation u_Operators.binary u_Operators.universal_power u_Operators.static_power u_Operators.power u_Operators.signed u_Operators.unary u_Operators.plain u_Operators.not_of u_Operators.joined_text u_Operators.logical u_Operators.compared_at u_Operators.compared u_Operators.membership u_Operators.of_subtype u_Output.width_of u_Output.io_call u_Parts.call u_Parts.part_of u_Parts.name u_Parts.valued_by u_Parts.value_named u_Primaries.alternative u_Primaries.scalar_if u_Primaries.composite_if u_Primaries.if_expr u_Primaries.grouped u_Primaries.primary u_Primaries.inside u_Programs.profile u_Programs.with_body u_Programs.with_value_of u_Programs.subprogram u_Programs.main u_Programs.program u_Ranges.two_bounds u_Ranges.bounds_of u_Ranges.own_bounds u_Ranges.checked_range u_Ranges.range u_Ranges.static_bounds u_Ranges.static_checked u_Ranges.static_range u_Ranges.chosen_value u_Ranges.chosen_span u_Reducers.reducer_of u_Reducers.reduced u_Reducers.folded_by u_Resolved.judged u_Scope.free u_Scope.stands_for u_Scope.selected u_Scope.subtype_named u_Scope.scalar_named u_Shapes.primary_of_simple u_Shapes.primary_of_expr u_Shapes.identifier_of_choice u_Statements.stmts u_Statements.assign_place u_Statements.call_stmt u_Statements.exit_from u_Statements.if_stmt u_Statements.case_stmt u_Statements.for_loop u_Statements.loop u_Statements.body u_Statements.block u_Statements.parallel u_Statements.stmt u_Types.number_of u_Values.exact u_Values.valued u_Values.fitting u_Values.settled u_Values.asked u_Values.settled_found u_Values.any_integer u_Values.any_scalar u_Values.static_of_kind u_Values.static_integer u_Values.composite_asked u_Values.stored u_TypedParts.indexes_in u_TypedParts.nested_stmts faults u_TypedParts.also_all u_Stack.turned
+unfolding u_Aggregates.field_value u_Aggregates.array_assoc u_Aggregates.dimension_of u_Aggregates.aggregate u_Attributes.one_argument u_Attributes.two_arguments_of u_Attributes.settled_attribute u_Calls.variable_given u_Calls.actual_for u_Calls.argument u_Calls.sub_call u_Calls.conversion u_Cases.case_choice u_Cases.closed u_Cases.handled_by u_Declarations.indic u_Declarations.array u_Declarations.record_of u_Declarations.defined u_Declarations.new_object u_Declarations.initial u_Declarations.objects u_Declarations.numbers u_Declarations.declaration u_Expressions.factor u_Expressions.multiplying u_Expressions.term u_Expressions.adding u_Expressions.simple u_Expressions.rel u_Expressions.expr u_Expressions.condition u_Expressions.value_for u_Expressions.judged_alone u_Iterations.chunk_count u_Iterations.chunked_by u_Iterations.walked u_Iterations.entered_with u_Iterations.entered u_Iterations.sequence u_Names.field u_Names.wrong_call u_Names.index u_Names.object_call u_Names.exception u_Operators.static_of u_Operators.static_universal u_Operators.static_operation u_Operators.operation_on u_Operators.typed_operation u_Operators.open_of u_Operators.open_binary u_Operators.universal_operation u_Operators.operation u_Operators.binary u_Operators.universal_power u_Operators.static_power u_Operators.power u_Operators.signed u_Operators.unary u_Operators.plain u_Operators.not_of u_Operators.joined_text u_Operators.logical u_Operators.compared_at u_Operators.compared u_Operators.membership u_Operators.of_subtype u_Output.width_of u_Output.io_call u_Parts.call u_Parts.part_of u_Parts.name u_Parts.valued_by u_Parts.value_named u_Primaries.alternative u_Primaries.scalar_if u_Primaries.composite_if u_Primaries.if_expr u_Primaries.grouped u_Primaries.primary u_Primaries.inside u_Programs.profile u_Programs.with_body u_Programs.with_value_of u_Programs.subprogram u_Programs.main u_Programs.program u_Ranges.two_bounds u_Ranges.bounds_of u_Ranges.own_bounds u_Ranges.checked_range u_Ranges.range u_Ranges.static_bounds u_Ranges.static_checked u_Ranges.static_range u_Ranges.chosen_value u_Ranges.chosen_span u_Reducers.reducer_of u_Reducers.reduced u_Reducers.folded_by u_Resolved.judged u_Scope.free u_Scope.stands_for u_Scope.selected u_Scope.subtype_named u_Scope.scalar_named u_Shapes.primary_of_simple u_Shapes.primary_of_expr u_Shapes.identifier_of_choice u_Statements.stmts u_Statements.assign_place u_Statements.call_stmt u_Statements.exit_from u_Statements.if_stmt u_Statements.case_stmt u_Statements.for_loop u_Statements.loop_stmt u_Statements.loop_entered u_Statements.body u_Statements.block u_Statements.parallel u_Statements.stmt u_Types.number_of u_Values.exact u_Values.valued u_Values.fitting u_Values.settled u_Values.asked u_Values.settled_found u_Values.any_integer u_Values.any_scalar u_Values.static_of_kind u_Values.static_integer u_Values.composite_asked u_Values.stored u_Indexes.indexes_in u_TypedParts.nested_stmts faults u_TypedParts.also_all u_Stack.turned
 constant = refl
 
 abbrev integer : Scalar
@@ -144,15 +145,15 @@ good_typed : statements (tree (variable 10 20 (Some (whole (num 32))) ∷ []) (s
     ≡ Some (typed.Then (typed.Assign 10 (root.Object 0) typed.Whole
     (typed.Number (record { at = 9; scalar = integer })
     (typed.Binary 50 op.Add (class.Integer Narrow) (typed.Variable 10 (root.Object 0) typed.Whole integer) (typed.Static 33 (pos 3) true typed.NoExpr)))) typed.End)
-unfolding u_Aggregates.field_value u_Aggregates.array_assoc u_Aggregates.dimension_of u_Aggregates.aggregate u_Attributes.one_argument u_Attributes.two_arguments_of u_Attributes.settled_attribute u_Calls.variable_given u_Calls.actual_for u_Calls.argument u_Calls.sub_call u_Calls.conversion u_Cases.case_choice u_Cases.closed u_Cases.handled_by u_Declarations.indic u_Declarations.array u_Declarations.record_of u_Declarations.defined u_Declarations.new_object u_Declarations.initial u_Declarations.objects u_Declarations.numbers u_Declarations.declaration u_Expressions.factor u_Expressions.multiplying u_Expressions.term u_Expressions.adding u_Expressions.simple u_Expressions.rel u_Expressions.expr u_Expressions.condition u_Expressions.value_for u_Expressions.judged_alone u_Iterations.chunk_count u_Iterations.chunked_by u_Iterations.walked u_Iterations.entered_with u_Iterations.entered u_Iterations.sequence u_Names.field u_Names.wrong_call u_Names.index u_Names.object_call u_Names.exception u_Operators.static_of u_Operators.static_universal u_Operators.static_operation u_Operators.operation_on u_Operators.typed_operation u_Operators.open_of u_Operators.open_binary u_Operators.universal_operation u_Operators.operation u_Operators.binary u_Operators.universal_power u_Operators.static_power u_Operators.power u_Operators.signed u_Operators.unary u_Operators.plain u_Operators.not_of u_Operators.joined_text u_Operators.logical u_Operators.compared_at u_Operators.compared u_Operators.membership u_Operators.of_subtype u_Output.width_of u_Output.io_call u_Parts.call u_Parts.part_of u_Parts.name u_Parts.valued_by u_Parts.value_named u_Primaries.alternative u_Primaries.scalar_if u_Primaries.composite_if u_Primaries.if_expr u_Primaries.grouped u_Primaries.primary u_Primaries.inside u_Programs.profile u_Programs.with_body u_Programs.with_value_of u_Programs.subprogram u_Programs.main u_Programs.program u_Ranges.two_bounds u_Ranges.bounds_of u_Ranges.own_bounds u_Ranges.checked_range u_Ranges.range u_Ranges.static_bounds u_Ranges.static_checked u_Ranges.static_range u_Ranges.chosen_value u_Ranges.chosen_span u_Reducers.reducer_of u_Reducers.reduced u_Reducers.folded_by u_Resolved.judged u_Scope.free u_Scope.stands_for u_Scope.selected u_Scope.subtype_named u_Scope.scalar_named u_Shapes.primary_of_simple u_Shapes.primary_of_expr u_Shapes.identifier_of_choice u_Statements.stmts u_Statements.assign_place u_Statements.call_stmt u_Statements.exit_from u_Statements.if_stmt u_Statements.case_stmt u_Statements.for_loop u_Statements.loop u_Statements.body u_Statements.block u_Statements.parallel u_Statements.stmt u_Types.number_of u_Values.exact u_Values.valued u_Values.fitting u_Values.settled u_Values.asked u_Values.settled_found u_Values.any_integer u_Values.any_scalar u_Values.static_of_kind u_Values.static_integer u_Values.composite_asked u_Values.stored u_TypedParts.indexes_in u_TypedParts.nested_stmts statements u_TypedParts.also_all u_Stack.turned
+unfolding u_Aggregates.field_value u_Aggregates.array_assoc u_Aggregates.dimension_of u_Aggregates.aggregate u_Attributes.one_argument u_Attributes.two_arguments_of u_Attributes.settled_attribute u_Calls.variable_given u_Calls.actual_for u_Calls.argument u_Calls.sub_call u_Calls.conversion u_Cases.case_choice u_Cases.closed u_Cases.handled_by u_Declarations.indic u_Declarations.array u_Declarations.record_of u_Declarations.defined u_Declarations.new_object u_Declarations.initial u_Declarations.objects u_Declarations.numbers u_Declarations.declaration u_Expressions.factor u_Expressions.multiplying u_Expressions.term u_Expressions.adding u_Expressions.simple u_Expressions.rel u_Expressions.expr u_Expressions.condition u_Expressions.value_for u_Expressions.judged_alone u_Iterations.chunk_count u_Iterations.chunked_by u_Iterations.walked u_Iterations.entered_with u_Iterations.entered u_Iterations.sequence u_Names.field u_Names.wrong_call u_Names.index u_Names.object_call u_Names.exception u_Operators.static_of u_Operators.static_universal u_Operators.static_operation u_Operators.operation_on u_Operators.typed_operation u_Operators.open_of u_Operators.open_binary u_Operators.universal_operation u_Operators.operation u_Operators.binary u_Operators.universal_power u_Operators.static_power u_Operators.power u_Operators.signed u_Operators.unary u_Operators.plain u_Operators.not_of u_Operators.joined_text u_Operators.logical u_Operators.compared_at u_Operators.compared u_Operators.membership u_Operators.of_subtype u_Output.width_of u_Output.io_call u_Parts.call u_Parts.part_of u_Parts.name u_Parts.valued_by u_Parts.value_named u_Primaries.alternative u_Primaries.scalar_if u_Primaries.composite_if u_Primaries.if_expr u_Primaries.grouped u_Primaries.primary u_Primaries.inside u_Programs.profile u_Programs.with_body u_Programs.with_value_of u_Programs.subprogram u_Programs.main u_Programs.program u_Ranges.two_bounds u_Ranges.bounds_of u_Ranges.own_bounds u_Ranges.checked_range u_Ranges.range u_Ranges.static_bounds u_Ranges.static_checked u_Ranges.static_range u_Ranges.chosen_value u_Ranges.chosen_span u_Reducers.reducer_of u_Reducers.reduced u_Reducers.folded_by u_Resolved.judged u_Scope.free u_Scope.stands_for u_Scope.selected u_Scope.subtype_named u_Scope.scalar_named u_Shapes.primary_of_simple u_Shapes.primary_of_expr u_Shapes.identifier_of_choice u_Statements.stmts u_Statements.assign_place u_Statements.call_stmt u_Statements.exit_from u_Statements.if_stmt u_Statements.case_stmt u_Statements.for_loop u_Statements.loop_stmt u_Statements.loop_entered u_Statements.body u_Statements.block u_Statements.parallel u_Statements.stmt u_Types.number_of u_Values.exact u_Values.valued u_Values.fitting u_Values.settled u_Values.asked u_Values.settled_found u_Values.any_integer u_Values.any_scalar u_Values.static_of_kind u_Values.static_integer u_Values.composite_asked u_Values.stored u_Indexes.indexes_in u_TypedParts.nested_stmts statements u_TypedParts.also_all u_Stack.turned
 good_typed = refl
 
 -- X : Integer; X := (if X = 1 then 2 elsif X = 3 then X else 4);
 chosen : faults (tree (variable 10 20 None ∷ []) (s.Assign (name 10) (whole (s.If 70 71 (equal (ident 10) 72 (num 31)) (whole (num 32)) (s.AlsoElsif (s.elsif 73 (equal (ident 10) 74 (num 33)) (whole (ident 10))) s.NoElsif) (whole (num 34)))))) ≡ []
-unfolding u_Aggregates.field_value u_Aggregates.array_assoc u_Aggregates.dimension_of u_Aggregates.aggregate u_Attributes.one_argument u_Attributes.two_arguments_of u_Attributes.settled_attribute u_Calls.variable_given u_Calls.actual_for u_Calls.argument u_Calls.sub_call u_Calls.conversion u_Cases.case_choice u_Cases.closed u_Cases.handled_by u_Declarations.indic u_Declarations.array u_Declarations.record_of u_Declarations.defined u_Declarations.new_object u_Declarations.initial u_Declarations.objects u_Declarations.numbers u_Declarations.declaration u_Expressions.factor u_Expressions.multiplying u_Expressions.term u_Expressions.adding u_Expressions.simple u_Expressions.rel u_Expressions.expr u_Expressions.condition u_Expressions.value_for u_Expressions.judged_alone u_Iterations.chunk_count u_Iterations.chunked_by u_Iterations.walked u_Iterations.entered_with u_Iterations.entered u_Iterations.sequence u_Names.field u_Names.wrong_call u_Names.index u_Names.object_call u_Names.exception u_Operators.static_of u_Operators.static_universal u_Operators.static_operation u_Operators.operation_on u_Operators.typed_operation u_Operators.open_of u_Operators.open_binary u_Operators.universal_operation u_Operators.operation u_Operators.binary u_Operators.universal_power u_Operators.static_power u_Operators.power u_Operators.signed u_Operators.unary u_Operators.plain u_Operators.not_of u_Operators.joined_text u_Operators.logical u_Operators.compared_at u_Operators.compared u_Operators.membership u_Operators.of_subtype u_Output.width_of u_Output.io_call u_Parts.call u_Parts.part_of u_Parts.name u_Parts.valued_by u_Parts.value_named u_Primaries.alternative u_Primaries.scalar_if u_Primaries.composite_if u_Primaries.if_expr u_Primaries.grouped u_Primaries.primary u_Primaries.inside u_Programs.profile u_Programs.with_body u_Programs.with_value_of u_Programs.subprogram u_Programs.main u_Programs.program u_Ranges.two_bounds u_Ranges.bounds_of u_Ranges.own_bounds u_Ranges.checked_range u_Ranges.range u_Ranges.static_bounds u_Ranges.static_checked u_Ranges.static_range u_Ranges.chosen_value u_Ranges.chosen_span u_Reducers.reducer_of u_Reducers.reduced u_Reducers.folded_by u_Resolved.judged u_Scope.free u_Scope.stands_for u_Scope.selected u_Scope.subtype_named u_Scope.scalar_named u_Shapes.primary_of_simple u_Shapes.primary_of_expr u_Shapes.identifier_of_choice u_Statements.stmts u_Statements.assign_place u_Statements.call_stmt u_Statements.exit_from u_Statements.if_stmt u_Statements.case_stmt u_Statements.for_loop u_Statements.loop u_Statements.body u_Statements.block u_Statements.parallel u_Statements.stmt u_Types.number_of u_Values.exact u_Values.valued u_Values.fitting u_Values.settled u_Values.asked u_Values.settled_found u_Values.any_integer u_Values.any_scalar u_Values.static_of_kind u_Values.static_integer u_Values.composite_asked u_Values.stored u_TypedParts.indexes_in u_TypedParts.nested_stmts faults u_TypedParts.also_all u_Stack.turned
+unfolding u_Aggregates.field_value u_Aggregates.array_assoc u_Aggregates.dimension_of u_Aggregates.aggregate u_Attributes.one_argument u_Attributes.two_arguments_of u_Attributes.settled_attribute u_Calls.variable_given u_Calls.actual_for u_Calls.argument u_Calls.sub_call u_Calls.conversion u_Cases.case_choice u_Cases.closed u_Cases.handled_by u_Declarations.indic u_Declarations.array u_Declarations.record_of u_Declarations.defined u_Declarations.new_object u_Declarations.initial u_Declarations.objects u_Declarations.numbers u_Declarations.declaration u_Expressions.factor u_Expressions.multiplying u_Expressions.term u_Expressions.adding u_Expressions.simple u_Expressions.rel u_Expressions.expr u_Expressions.condition u_Expressions.value_for u_Expressions.judged_alone u_Iterations.chunk_count u_Iterations.chunked_by u_Iterations.walked u_Iterations.entered_with u_Iterations.entered u_Iterations.sequence u_Names.field u_Names.wrong_call u_Names.index u_Names.object_call u_Names.exception u_Operators.static_of u_Operators.static_universal u_Operators.static_operation u_Operators.operation_on u_Operators.typed_operation u_Operators.open_of u_Operators.open_binary u_Operators.universal_operation u_Operators.operation u_Operators.binary u_Operators.universal_power u_Operators.static_power u_Operators.power u_Operators.signed u_Operators.unary u_Operators.plain u_Operators.not_of u_Operators.joined_text u_Operators.logical u_Operators.compared_at u_Operators.compared u_Operators.membership u_Operators.of_subtype u_Output.width_of u_Output.io_call u_Parts.call u_Parts.part_of u_Parts.name u_Parts.valued_by u_Parts.value_named u_Primaries.alternative u_Primaries.scalar_if u_Primaries.composite_if u_Primaries.if_expr u_Primaries.grouped u_Primaries.primary u_Primaries.inside u_Programs.profile u_Programs.with_body u_Programs.with_value_of u_Programs.subprogram u_Programs.main u_Programs.program u_Ranges.two_bounds u_Ranges.bounds_of u_Ranges.own_bounds u_Ranges.checked_range u_Ranges.range u_Ranges.static_bounds u_Ranges.static_checked u_Ranges.static_range u_Ranges.chosen_value u_Ranges.chosen_span u_Reducers.reducer_of u_Reducers.reduced u_Reducers.folded_by u_Resolved.judged u_Scope.free u_Scope.stands_for u_Scope.selected u_Scope.subtype_named u_Scope.scalar_named u_Shapes.primary_of_simple u_Shapes.primary_of_expr u_Shapes.identifier_of_choice u_Statements.stmts u_Statements.assign_place u_Statements.call_stmt u_Statements.exit_from u_Statements.if_stmt u_Statements.case_stmt u_Statements.for_loop u_Statements.loop_stmt u_Statements.loop_entered u_Statements.body u_Statements.block u_Statements.parallel u_Statements.stmt u_Types.number_of u_Values.exact u_Values.valued u_Values.fitting u_Values.settled u_Values.asked u_Values.settled_found u_Values.any_integer u_Values.any_scalar u_Values.static_of_kind u_Values.static_integer u_Values.composite_asked u_Values.stored u_Indexes.indexes_in u_TypedParts.nested_stmts faults u_TypedParts.also_all u_Stack.turned
 chosen = refl
 
 -- X : Integer; X := (if X = 1 then 2 elsif X = 3 then X = 5 else 4);
 mixed : faults (tree (variable 10 20 None ∷ []) (s.Assign (name 10) (whole (s.If 70 71 (equal (ident 10) 72 (num 31)) (whole (num 32)) (s.AlsoElsif (s.elsif 73 (equal (ident 10) 74 (num 33)) (equal (ident 10) 75 (num 35))) s.NoElsif) (whole (num 34)))))) ≡ at 34 rule.WrongType ∷ at 32 rule.WrongType ∷ []
-unfolding u_Aggregates.field_value u_Aggregates.array_assoc u_Aggregates.dimension_of u_Aggregates.aggregate u_Attributes.one_argument u_Attributes.two_arguments_of u_Attributes.settled_attribute u_Calls.variable_given u_Calls.actual_for u_Calls.argument u_Calls.sub_call u_Calls.conversion u_Cases.case_choice u_Cases.closed u_Cases.handled_by u_Declarations.indic u_Declarations.array u_Declarations.record_of u_Declarations.defined u_Declarations.new_object u_Declarations.initial u_Declarations.objects u_Declarations.numbers u_Declarations.declaration u_Expressions.factor u_Expressions.multiplying u_Expressions.term u_Expressions.adding u_Expressions.simple u_Expressions.rel u_Expressions.expr u_Expressions.condition u_Expressions.value_for u_Expressions.judged_alone u_Iterations.chunk_count u_Iterations.chunked_by u_Iterations.walked u_Iterations.entered_with u_Iterations.entered u_Iterations.sequence u_Names.field u_Names.wrong_call u_Names.index u_Names.object_call u_Names.exception u_Operators.static_of u_Operators.static_universal u_Operators.static_operation u_Operators.operation_on u_Operators.typed_operation u_Operators.open_of u_Operators.open_binary u_Operators.universal_operation u_Operators.operation u_Operators.binary u_Operators.universal_power u_Operators.static_power u_Operators.power u_Operators.signed u_Operators.unary u_Operators.plain u_Operators.not_of u_Operators.joined_text u_Operators.logical u_Operators.compared_at u_Operators.compared u_Operators.membership u_Operators.of_subtype u_Output.width_of u_Output.io_call u_Parts.call u_Parts.part_of u_Parts.name u_Parts.valued_by u_Parts.value_named u_Primaries.alternative u_Primaries.scalar_if u_Primaries.composite_if u_Primaries.if_expr u_Primaries.grouped u_Primaries.primary u_Primaries.inside u_Programs.profile u_Programs.with_body u_Programs.with_value_of u_Programs.subprogram u_Programs.main u_Programs.program u_Ranges.two_bounds u_Ranges.bounds_of u_Ranges.own_bounds u_Ranges.checked_range u_Ranges.range u_Ranges.static_bounds u_Ranges.static_checked u_Ranges.static_range u_Ranges.chosen_value u_Ranges.chosen_span u_Reducers.reducer_of u_Reducers.reduced u_Reducers.folded_by u_Resolved.judged u_Scope.free u_Scope.stands_for u_Scope.selected u_Scope.subtype_named u_Scope.scalar_named u_Shapes.primary_of_simple u_Shapes.primary_of_expr u_Shapes.identifier_of_choice u_Statements.stmts u_Statements.assign_place u_Statements.call_stmt u_Statements.exit_from u_Statements.if_stmt u_Statements.case_stmt u_Statements.for_loop u_Statements.loop u_Statements.body u_Statements.block u_Statements.parallel u_Statements.stmt u_Types.number_of u_Values.exact u_Values.valued u_Values.fitting u_Values.settled u_Values.asked u_Values.settled_found u_Values.any_integer u_Values.any_scalar u_Values.static_of_kind u_Values.static_integer u_Values.composite_asked u_Values.stored u_TypedParts.indexes_in u_TypedParts.nested_stmts faults u_TypedParts.also_all u_Stack.turned
+unfolding u_Aggregates.field_value u_Aggregates.array_assoc u_Aggregates.dimension_of u_Aggregates.aggregate u_Attributes.one_argument u_Attributes.two_arguments_of u_Attributes.settled_attribute u_Calls.variable_given u_Calls.actual_for u_Calls.argument u_Calls.sub_call u_Calls.conversion u_Cases.case_choice u_Cases.closed u_Cases.handled_by u_Declarations.indic u_Declarations.array u_Declarations.record_of u_Declarations.defined u_Declarations.new_object u_Declarations.initial u_Declarations.objects u_Declarations.numbers u_Declarations.declaration u_Expressions.factor u_Expressions.multiplying u_Expressions.term u_Expressions.adding u_Expressions.simple u_Expressions.rel u_Expressions.expr u_Expressions.condition u_Expressions.value_for u_Expressions.judged_alone u_Iterations.chunk_count u_Iterations.chunked_by u_Iterations.walked u_Iterations.entered_with u_Iterations.entered u_Iterations.sequence u_Names.field u_Names.wrong_call u_Names.index u_Names.object_call u_Names.exception u_Operators.static_of u_Operators.static_universal u_Operators.static_operation u_Operators.operation_on u_Operators.typed_operation u_Operators.open_of u_Operators.open_binary u_Operators.universal_operation u_Operators.operation u_Operators.binary u_Operators.universal_power u_Operators.static_power u_Operators.power u_Operators.signed u_Operators.unary u_Operators.plain u_Operators.not_of u_Operators.joined_text u_Operators.logical u_Operators.compared_at u_Operators.compared u_Operators.membership u_Operators.of_subtype u_Output.width_of u_Output.io_call u_Parts.call u_Parts.part_of u_Parts.name u_Parts.valued_by u_Parts.value_named u_Primaries.alternative u_Primaries.scalar_if u_Primaries.composite_if u_Primaries.if_expr u_Primaries.grouped u_Primaries.primary u_Primaries.inside u_Programs.profile u_Programs.with_body u_Programs.with_value_of u_Programs.subprogram u_Programs.main u_Programs.program u_Ranges.two_bounds u_Ranges.bounds_of u_Ranges.own_bounds u_Ranges.checked_range u_Ranges.range u_Ranges.static_bounds u_Ranges.static_checked u_Ranges.static_range u_Ranges.chosen_value u_Ranges.chosen_span u_Reducers.reducer_of u_Reducers.reduced u_Reducers.folded_by u_Resolved.judged u_Scope.free u_Scope.stands_for u_Scope.selected u_Scope.subtype_named u_Scope.scalar_named u_Shapes.primary_of_simple u_Shapes.primary_of_expr u_Shapes.identifier_of_choice u_Statements.stmts u_Statements.assign_place u_Statements.call_stmt u_Statements.exit_from u_Statements.if_stmt u_Statements.case_stmt u_Statements.for_loop u_Statements.loop_stmt u_Statements.loop_entered u_Statements.body u_Statements.block u_Statements.parallel u_Statements.stmt u_Types.number_of u_Values.exact u_Values.valued u_Values.fitting u_Values.settled u_Values.asked u_Values.settled_found u_Values.any_integer u_Values.any_scalar u_Values.static_of_kind u_Values.static_integer u_Values.composite_asked u_Values.stored u_Indexes.indexes_in u_TypedParts.nested_stmts faults u_TypedParts.also_all u_Stack.turned
 mixed = refl

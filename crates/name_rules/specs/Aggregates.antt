@@ -4,13 +4,13 @@ use Rattle.name_rules.specs.Expressions.{Inside, expr, judged_alone, value_for}
 use Rattle.ada_tree.specs.FirstTokens as first_token
 use Rattle.name_rules.specs.Found.{Found, rest}
 use Rattle.name_rules.specs.Judging.{Judging, breaks, fault, given, joined, pure, read, some, unless, where_clean, ◌>>=◌}
-use Rattle.name_rules.specs.Names.{count, index}
+use Rattle.name_rules.specs.Names.{count, index, is_record}
 use Rattle.name_rules.specs.Parts.{name, new_parameter}
 use Rattle.name_rules.specs.Ranges.{Chosen, Static, chosen_span, chosen_value, static_range}
 use Rattle.name_rules.specs.Scope.{with_entry}
 use Rattle.name_rules.specs.Shapes.{identifier_of_choice, is_aggregate}
 use Rattle.name_rules.specs.Symbols.{known, symbol}
-use Rattle.name_rules.specs.Types.{array_cells, cells_in, extent, same, shape_in, stride}
+use Rattle.name_rules.specs.Types.{array_cells, cells_in, cells_of_shape, component_of, dimensions_of, extent, fields_of, same, shape_in}
 use Rattle.name_rules.specs.declared.found.Found.TheVariants as known
 use Rattle.name_rules.specs.declared.found.Found.{Found as Known}
 use Rattle.name_rules.specs.declared.log.Dimension.{Dimension}
@@ -193,6 +193,25 @@ count_of r = if int_le r.0 r.1 then unsigned_abs (r.1 -ℤ r.0) + 1 else 0
 abbrev pub span_run : Dimension → ℕ → ℤ × ℤ → Run
 span_run d apart r = run (unsigned_abs (r.0 -ℤ d.low) * apart) (count_of r) apart
 
+-- the runs of these ranges: one without a value has none; with one that lies outside the dimension there are none at all,
+-- since that is a fault in the end
+abbrev pub not_empty : ℤ × ℤ → Bool
+not_empty r = int_le r.0 r.1
+
+abbrev pub is_within : Dimension → ℤ × ℤ → Bool
+is_within d r = int_le d.low r.0 && int_le r.1 d.high
+
+abbrev pub with_run : Dimension → ℕ → ℤ × ℤ → Option (List Run) → Option (List Run)
+with_run d apart r rs = if not (not_empty r) then rs else if is_within d r then option_map (λ xs. span_run d apart r ∷ xs) rs else None
+
+abbrev pub runs_of : Dimension → ℕ → List (ℤ × ℤ) → Option (List Run)
+runs_of d apart [] = Some []
+runs_of d apart (r ∷ rs) = with_run d apart r (runs_of d apart rs)
+
+abbrev pub with_runs : Option Iterated → TypedPart → Option (List Run) → Option TypedPart → Option TypedPart → Option TypedPart
+with_runs i ms None done v = None
+with_runs i ms (Some rs) done v = joined (with_value rs i ms) done v
+
 -- what was given of a dimension so far: the ranges, the associations, and the value of the rest, which comes last
 pub record Placing : Type 0 where
   pub ranges : List (ℤ × ℤ)
@@ -200,7 +219,7 @@ pub record Placing : Type 0 where
   pub rest : Option (Option TypedPart)
 
 abbrev pub with_ranges : Dimension → ℕ → Option Iterated → TypedPart → Placing → List (ℤ × ℤ) → Option TypedPart → Placing
-with_ranges d apart i ms p rs v = record { ranges = p.ranges ++ rs; done = joined (with_value (map (span_run d apart) rs) i ms) p.done v; rest = p.rest }
+with_ranges d apart i ms p rs v = record { ranges = p.ranges ++ rs; done = with_runs i ms (runs_of d apart rs) p.done v; rest = p.rest }
 
 abbrev pub with_rest : Placing → Option TypedPart → Placing
 with_rest p v = record p { rest = Some v }
@@ -284,19 +303,19 @@ abbrev pub array_placed : Names → Inside → Context → Component → Dimensi
 array_placed names level here component d apart (ByPosition es o) = array_values here component d apart d.low nothing_placed es >>= array_rest here component o
 array_placed names level here component d apart (ByAssociation as') = array_assocs names level here component d apart nothing_placed as'
 
-abbrev pub not_empty : ℤ × ℤ → Bool
-not_empty r = int_le r.0 r.1
-
 abbrev pub non_empty : List (ℤ × ℤ) → List (ℤ × ℤ)
 non_empty [] = []
 non_empty (r ∷ rs) = if not_empty r then r ∷ non_empty rs else non_empty rs
 
--- the rest takes what is left open; E07 StaticRange: a component that isn't given exactly once, at the bracket
+-- E07 StaticRange: a component that isn't given exactly once, at the bracket
+abbrev pub covered_alone : ℕ → ℕ → Option TypedPart → List (ℤ × ℤ) → Judging (Option TypedPart)
+covered_alone bracket cells done os = if length os == 0 then pure (option_map (aggregate_part bracket cells) done) else fault bracket StaticRange
+
+-- the rest takes what is left open
 abbrev pub covered : ℕ → Dimension → ℕ → ℕ → Placing → Option (List (ℤ × ℤ)) → Option (Option TypedPart) → Judging (Option TypedPart)
 covered bracket d apart cells p None v = fault bracket StaticRange
-covered bracket d apart cells p (Some []) None = pure (option_map (aggregate_part bracket cells) p.done)
-covered bracket d apart cells p (Some os) None = fault bracket StaticRange
-covered bracket d apart cells p (Some os) (Some v) = pure (option_map (aggregate_part bracket cells) (joined (with_value (map (span_run d apart) os) None part.Nothing) p.done v))
+covered bracket d apart cells p (Some os) None = covered_alone bracket cells p.done os
+covered bracket d apart cells p (Some os) (Some v) = pure (option_map (aggregate_part bracket cells) (with_runs None part.Nothing (runs_of d apart os) p.done v))
 
 -- one dimension of an array
 unfoldable pub dimension_of : Names → Inside → Context → ℕ → Component → Dimension → ℕ → Contents → Judging (Option TypedPart)
@@ -316,20 +335,28 @@ inner_aggregate names level here n i e false = no_aggregate names level here e
 inner_aggregate names level here n i e true = expr names level here (wanted.Rest n i) e >>= λ x. given x (λ f. pure (inner_value f.known f.part))
 
 -- what stands in the last dimension is a component; in another an aggregate of the dimensions behind
-abbrev pub component_at : Names → Inside → ℕ → ℕ → List Dimension → Subtype → Component
-component_at names level n i [] s = λ here e. value_for names level here s e
-component_at names level n i (d ∷ ds) s = λ here e. inner_aggregate names level here n (i + 1) e (is_aggregate e)
+abbrev pub is_last : List Dimension → Bool
+is_last [] = true
+is_last ds = false
+
+abbrev pub component_at : Names → Inside → ℕ → ℕ → Bool → Subtype → Component
+component_at names level n i true s = λ here e. value_for names level here s e
+component_at names level n i false s = λ here e. inner_aggregate names level here n (i + 1) e (is_aggregate e)
 
 abbrev pub array_at : Names → Inside → Context → ℕ → ℕ → ℕ → List Dimension → Subtype → ℕ → Contents → Judging (Option TypedPart)
 array_at names level here bracket n i [] s cells ps = fault bracket WrongType
-array_at names level here bracket n i (d ∷ ds) s cells ps = dimension_of names level here bracket (component_at names level n i ds s) d (array_cells ds cells) ps
+array_at names level here bracket n i (d ∷ ds) s cells ps = dimension_of names level here bracket (component_at names level n i (is_last ds) s) d (array_cells ds cells) ps
 
 -- ---- an aggregate where its type is known, and where it isn't
 
+abbrev pub array_of : Names → Inside → Context → ℕ → ℕ → ℕ → Log → List Dimension → Option Subtype → Contents → Judging (Option TypedPart)
+array_of names level here bracket n i log ds None ps = fault bracket WrongType
+array_of names level here bracket n i log ds (Some s) ps = array_at names level here bracket n i (drop i ds) s (cells_in log s) ps
+
 abbrev pub composite_at : Names → Inside → Context → ℕ → ℕ → ℕ → Log → Option Shape → Contents → Judging (Option TypedPart)
-composite_at names level here bracket n i log (Some (shape.Array ds s m cells)) ps = array_at names level here bracket n i (drop i ds) s (cells_in log s) ps
-composite_at names level here bracket n i log (Some (shape.Record fs cells)) ps = where_clean (record_parts names level here fs ps) (filled bracket cells)
-composite_at names level here bracket n i log _ ps = fault bracket WrongType
+composite_at names level here bracket n i log t ps =
+    if is_record t then where_clean (record_parts names level here (fields_of t) ps) (filled bracket (cells_of_shape t)) else
+    array_of names level here bracket n i log (dimensions_of t) (component_of t) ps
 
 -- the expressions in an aggregate, each for itself
 abbrev pub exprs_alone : Names → Inside → Context → Exprs → Judging (Unit {0})

@@ -5,7 +5,7 @@ use Rattle.name_rules.specs.Declarations.{declarations}
 use Rattle.name_rules.specs.Expressions.{Inside, condition, expr, judged_alone}
 use Rattle.ada_tree.specs.FirstTokens as first_token
 use Rattle.name_rules.specs.Found.{Denoted, Found, With}
-use Rattle.name_rules.specs.Iterations.{chunk_count, entered, parallel_at, thread_owner}
+use Rattle.name_rules.specs.Iterations.{Entered, chunk_count, entered, thread_owner}
 use Rattle.name_rules.specs.Judging.{Judging, both, breaks, clean, fault, given, joined, pure, some, unless, where_clean, ◌>>=◌}
 use Rattle.name_rules.specs.Names.{denoted_first, exception}
 use Rattle.name_rules.specs.Parts.{name, new_site, valued_by}
@@ -31,13 +31,13 @@ use Rattle.name_rules.specs.declared.types.Scalar.{Scalar}
 use Rattle.name_rules.specs.declared.types.Subtype.TheVariants as subtype
 use Rattle.name_rules.specs.declared.types.Wanted.TheVariants as wanted
 use Rattle.ada_tree.specs.Syntax as syntax
-use Rattle.ada_tree.specs.Syntax.{Alts, Arms, Body, Branches, Decl, Declare, Expr, Handlers, Iter, MoreStmts, Name, OptionalParallel, OptionalStmts, Pack, Parallel, Scheme, Simple, Stmt, Stmts}
+use Rattle.ada_tree.specs.Syntax.{Alt, Alts, Arms, Body, Branches, Decl, Declare, Expr, Handler, Handlers, Iter, MoreStmts, Name, OptionalParallel, OptionalStmts, Pack, Parallel, Scheme, Simple, Stmt, Stmts}
 use Rattle.ada_typed.specs.Decoded as part
 use Rattle.ada_typed.specs.Syntax as typed
 use Rattle.ada_typed.specs.Syntax.{Iteration, Optional, Selections, Chunk as TypedChunk, Exprs as TypedExprs, Handled as TypedHandled}
 use Rattle.ada_typed.specs.declared.program.SiteKind.TheVariants as site
 use Rattle.std.specs.List.{find}
-use Rattle.std.specs.Prelude.{Bool, List, None, Option, Some, [], false, if◌then◌else◌, length, nat_le, not, option_map, reverse, suc, true, zero, ℕ, ◌++◌, ◌+◌, ◌-◌, ◌==◌, ◌∷◌}
+use Rattle.std.specs.Prelude.{Bool, List, None, Option, Some, [], false, if◌then◌else◌, length, nat_le, not, option_map, reverse, slice_get, suc, true, zero, ℕ, ◌++◌, ◌+◌, ◌-◌, ◌==◌, ◌∷◌}
 use Rattle.name_rules.specs.TypedParts.{pair, also, exprs_of, selections_of, nested_stmts}
 use Rattle.ada_typed.specs.Decoded.{Part as TypedPart, as_expr, as_optional, as_iteration, as_chunk, as_decls, as_stmts, as_alternatives, as_arms, as_handlers, as_body}
 use Rattle.typed_parts.specs.Stack.{turned}
@@ -75,19 +75,33 @@ abbrev pub assigned : Place → Selections → TypedPart → TypedPart
 assigned p ss v = part.AStmt (typed.Assign p.first p.root ss (part.as_value v))
 
 -- E06: assignment to what is no variable, at its first token; `:=` stands directly before the value
-unfoldable pub assign_place : Around → Context → Place → Selections → Expr → Judging (Option TypedPart)
-assign_place a here p ss e =
-    where_clean (expr a.names a.level (with_target here (target.Of p.subtype)) (wanted_of p.subtype) e) (λ x.
-    if not p.variable then fault p.first WrongType else
-    given x (λ f. stored p.subtype (first_token.of_expr e - 1) f >>= λ v. pure (option_map (assigned p ss) v)))
+abbrev pub stored_place : Place → Selections → ℕ → Found → Judging (Option TypedPart)
+stored_place p ss at f = stored p.subtype at f >>= λ v. pure (option_map (assigned p ss) v)
 
-abbrev pub assign_form : Around → Context → Expr → KnownDenoted → TypedPart → Judging (Option TypedPart)
-assign_form a here e (denoted.Value (known.Object p)) x = assign_place a here p (selections_of x) e
-assign_form a here e d x = where_clean (judged_alone a.names a.level (with_target here target.Faulty) e) (λ u. fault (denoted_first d) WrongType)
+abbrev pub assigned_place : Place → Selections → ℕ → Option Found → Judging (Option TypedPart)
+assigned_place p ss at x = if not p.variable then fault p.first WrongType else given x (stored_place p ss at)
 
-abbrev pub assign : Around → Context → Expr → Option Denoted → Judging (Option TypedPart)
-assign a here e None = judged_alone a.names a.level (with_target here target.Faulty) e >>= λ u. pure None
-assign a here e (Some d) = assign_form a here e d.known d.part
+unfoldable pub assign_place : Names → Inside → Context → Place → Selections → Expr → Judging (Option TypedPart)
+assign_place names level here p ss e =
+    where_clean (expr names level (with_target here (target.Of p.subtype)) (wanted_of p.subtype) e) (assigned_place p ss (first_token.of_expr e - 1))
+
+-- a value whose target has a fault
+abbrev pub assigned_alone : Names → Inside → Context → Expr → Judging (Unit {0})
+assigned_alone names level here e = judged_alone names level (with_target here target.Faulty) e
+
+abbrev pub assign_other : Names → Inside → Context → Expr → ℕ → Judging (Option TypedPart)
+assign_other names level here e first = where_clean (assigned_alone names level here e) (λ u. fault first WrongType)
+
+abbrev pub assign_form : Names → Inside → Context → Expr → KnownDenoted → TypedPart → Judging (Option TypedPart)
+assign_form names level here e (denoted.Value (known.Object p)) x = assign_place names level here p (selections_of x) e
+assign_form names level here e d x = assign_other names level here e (denoted_first d)
+
+abbrev pub assign_to : Names → Inside → Context → Expr → Option Denoted → Judging (Option TypedPart)
+assign_to names level here e None = assigned_alone names level here e >>= λ u. pure None
+assign_to names level here e (Some d) = assign_form names level here e d.known d.part
+
+abbrev pub assign : Names → Inside → Context → Name → Expr → Judging (Option TypedPart)
+assign names level here n e = level.name here n >>= assign_to names level here e
 
 -- ---- calls of procedures (6.4)
 
@@ -96,24 +110,27 @@ abbrev pub as_statement : KnownDenoted → TypedPart → Judging (Option TypedPa
 as_statement (denoted.Done first) x = some x
 as_statement d x = fault (denoted_first d) WrongType
 
-unfoldable pub call_stmt : Around → Context → Name → Judging (Option TypedPart)
-call_stmt a here n = do
-  d ← a.level.name here n
-  e ← given d (valued_by a.names a.level here)
+unfoldable pub call_stmt : Names → Inside → Context → Name → Judging (Option TypedPart)
+call_stmt names level here n = do
+  d ← level.name here n
+  e ← given d (valued_by names level here)
   given e (λ x. as_statement x.known x.part)
 
 -- ---- exit, return, raise
 
-abbrev pub condition_where : Around → Context → Option Expr → Judging (Option TypedPart)
-condition_where a here None = some part.Nothing
-condition_where a here (Some e) = condition a.names a.level here e
+abbrev pub condition_where : Names → Inside → Context → Option Expr → Judging (Option TypedPart)
+condition_where names level here None = some part.Nothing
+condition_where names level here (Some e) = condition names level here e
 
 abbrev pub is_name : ℕ → Option ℕ → Bool
 is_name name None = false
 is_name name (Some s) = s == name
 
 abbrev pub innermost : List LoopName → Option LoopName
-innermost ls = find (λ l. true) (reverse ls)
+innermost ls = slice_get ls (length ls - 1)
+
+abbrev pub loop_named : ℕ → List LoopName → Option LoopName
+loop_named name ls = find (λ l. is_name name l.symbol) (reverse ls)
 
 -- E05 NotVisible: `exit` outside a loop, at the word; an exit name that isn't an enclosing loop's, at the name
 abbrev pub loop_or : ℕ → Option LoopName → Judging (Option ℕ)
@@ -123,45 +140,48 @@ loop_or at (Some l) = some l.number
 abbrev pub exited : Names → Context → ℕ → Option ℕ → Option LoopName → Judging (Option ℕ)
 exited names here at from None = fault at NotVisible
 exited names here at None (Some l) = some l.number
-exited names here at (Some token) (Some l) = loop_or token (find (λ m. is_name (symbol names token) m.symbol) (reverse here.loops))
+exited names here at (Some token) (Some l) = loop_or token (loop_named (symbol names token) here.loops)
 
 abbrev pub exit_part : ℕ → TypedPart → TypedPart
 exit_part n c = part.AStmt (typed.Exit n (as_optional c))
 
-unfoldable pub exit_from : Around → Context → ℕ → Option ℕ → Option Expr → Judging (Option TypedPart)
-exit_from a here at from e = do
-  n ← exited a.names here at from (innermost here.loops)
-  c ← condition_where a here e
+unfoldable pub exit_from : Names → Inside → Context → ℕ → Option ℕ → Option Expr → Judging (Option TypedPart)
+exit_from names level here at from e = do
+  n ← exited names here at from (innermost here.loops)
+  c ← condition_where names level here e
   pure (joined exit_part n c)
 
 abbrev pub returned : TypedPart → TypedPart
 returned v = part.AStmt (typed.ReturnValue (part.as_value v))
 
 -- a value is checked at `return`, and a wrong one is blamed at its first token
-abbrev pub value_at : Around → Context → ℕ → Scalar → Expr → Judging (Option TypedPart)
-value_at a here at s e = expr a.names a.level here wanted.Other e >>= λ x. given x (stored (subtype.Scalar s) at)
+unfoldable pub value_at : Names → Inside → Context → ℕ → Scalar → Expr → Judging (Option TypedPart)
+value_at names level here at s e = expr names level here wanted.Other e >>= λ x. given x (stored (subtype.Scalar s) at)
 
 -- E06: `return` with a value in a procedure or without one in a function, at the word
-abbrev pub return_value : Around → Context → ℕ → Expr → Returns → Judging (Option TypedPart)
-return_value a here at e returns.Nothing = where_clean (expr a.names a.level here wanted.Other e) (λ x. given x (λ f. fault at WrongType))
-return_value a here at e (returns.Value s) = value_at a here at s e >>= λ v. pure (option_map returned v)
-return_value a here at e returns.Faulty = judged_alone a.names a.level here e >>= λ u. pure None
+abbrev pub value_of_nothing : Names → Inside → Context → ℕ → Expr → Judging (Option TypedPart)
+value_of_nothing names level here at e = where_clean (expr names level here wanted.Other e) (λ x. given x (λ f. fault at WrongType))
+
+abbrev pub return_value : Names → Inside → Context → ℕ → Expr → Returns → Judging (Option TypedPart)
+return_value names level here at e returns.Nothing = value_of_nothing names level here at e
+return_value names level here at e (returns.Value s) = value_at names level here at s e >>= λ v. pure (option_map returned v)
+return_value names level here at e returns.Faulty = judged_alone names level here e >>= λ u. pure None
 
 abbrev pub return_alone : ℕ → Returns → Judging (Option TypedPart)
 return_alone at returns.Nothing = some (part.AStmt typed.Return)
 return_alone at _ = fault at WrongType
 
-abbrev pub return_from : Around → Context → ℕ → Option Expr → Judging (Option TypedPart)
-return_from a here at None = return_alone at here.returns
-return_from a here at (Some e) = return_value a here at e here.returns
+abbrev pub return_from : Names → Inside → Context → ℕ → Option Expr → Judging (Option TypedPart)
+return_from names level here at None = return_alone at here.returns
+return_from names level here at (Some e) = return_value names level here at e here.returns
 
 abbrev pub raised : Reason → TypedPart
 raised r = part.AStmt (typed.Raise r)
 
 -- E05 NotVisible: `raise;` outside a handler, at the word
-abbrev pub raise_from : Around → Context → ℕ → Option Pack → Judging (Option TypedPart)
-raise_from a here at None = if here.in_handler then some (part.AStmt typed.Reraise) else fault at NotVisible
-raise_from a here at (Some p) = exception a.names here p >>= λ r. pure (option_map raised r)
+abbrev pub raise_from : Names → Context → ℕ → Option Pack → Judging (Option TypedPart)
+raise_from names here at None = if here.in_handler then some (part.AStmt typed.Reraise) else fault at NotVisible
+raise_from names here at (Some p) = exception names here p >>= λ r. pure (option_map raised r)
 
 -- ---- if statements (5.3)
 
@@ -186,13 +206,16 @@ otherwise_where a here (syntax.PresentStmts s) = stmts a here s
 abbrev pub if_stmt_part : TypedPart → TypedPart → TypedPart → TypedPart → TypedPart
 if_stmt_part c ss xs o = part.AStmt (typed.IfThen (as_expr c) (as_stmts ss) (as_stmts (nested_stmts xs o)))
 
+abbrev pub if_stmt_made : Option TypedPart → Option TypedPart → TypedPart → TypedPart → Judging (Option TypedPart)
+if_stmt_made xs ys c ss = pure (joined (if_stmt_part c ss) xs ys)
+
 unfoldable pub if_stmt : Around → Context → Expr → Stmts → Arms → OptionalStmts → Judging (Option TypedPart)
 if_stmt a here e s more o = do
   c ← condition a.names a.level here e
   ss ← stmts a here s
   xs ← elsifs a here (Some part.Nothing) more
   ys ← otherwise_where a here o
-  both c ss (λ x y. pure (joined (if_stmt_part x y) xs ys))
+  both c ss (if_stmt_made xs ys)
 
 -- ---- case statements (5.4)
 
@@ -203,12 +226,21 @@ is_last xs = false
 abbrev pub with_alternative : Choosing → TypedPart → TypedPart → TypedPart
 with_alternative d done ss = also done (part.AnAlternative (typed.Alternative d.others d.spans (exprs_of d.mentions) (as_stmts ss)))
 
+unfoldable pub also_alternative : Choosing → Option TypedPart → Option TypedPart → Option TypedPart
+also_alternative d done ss = joined (with_alternative d) done ss
+
+abbrev pub no_choosing : Choosing
+no_choosing = record { spans = []; others = false; mentions = part.Nothing }
+
+unfoldable pub alternative : Around → Context → Option Kind → Bool → Covering → Option TypedPart → Alt → Judging (Covering × Option TypedPart)
+alternative a here k last c done (syntax.alt at x ys s) = do
+  r ← case_choices a.level here k (length ys == 0) last c no_choosing (x ∷ ys)
+  ss ← stmts a here s
+  pure (r.0, also_alternative r.1 done ss)
+
 abbrev pub alts : Around → Context → Option Kind → Covering → Option TypedPart → Alts → Judging (Covering × Option TypedPart)
 alts a here k c done syntax.NoAlt = pure (c, done)
-alts a here k c done (syntax.AlsoAlt (syntax.alt at x ys s) xs) = do
-  r ← case_choices a.level here k (length ys == 0) (is_last xs) c (record { spans = []; others = false; mentions = part.Nothing }) (x ∷ ys)
-  ss ← stmts a here s
-  alts a here k r.0 (joined (with_alternative r.1) done ss) xs
+alts a here k c done (syntax.AlsoAlt x xs) = alternative a here k (is_last xs) c done x >>= λ r. alts a here k r.0 r.1 xs
 
 -- the selecting subtype: the nominal one of a name, or else the base range
 abbrev pub subtype_or : Option Scalar → Kind → Scalar
@@ -273,16 +305,21 @@ for_part n i ss = part.AStmt (typed.For n (as_iteration i) (as_stmts ss))
 abbrev pub parallel_part : ℕ → ℕ → TypedPart → TypedPart → TypedPart → TypedPart
 parallel_part n s i ss c = part.AStmt (typed.ParallelFor n s (as_chunk c) (as_iteration i) (as_stmts ss))
 
-abbrev pub for_made : ℕ → Option ℕ → Option TypedPart → TypedPart → TypedPart → Option TypedPart
-for_made n None c i ss = Some (for_part n i ss)
-for_made n (Some s) c i ss = option_map (parallel_part n s i ss) c
+abbrev pub for_made : ℕ → Option ℕ → Option TypedPart → TypedPart → TypedPart → Judging (Option TypedPart)
+for_made n None c i ss = some (for_part n i ss)
+for_made n (Some s) c i ss = pure (option_map (parallel_part n s i ss) c)
+
+unfoldable pub loop_entered : Around → Context → OptionalParallel → Iter → Judging Entered
+loop_entered a here p i = do
+  e ← clean (entered a.names a.level a.inner here site.Loop p i)
+  u ← backwards_rule e.1 e.0.construct e.0.reverse
+  pure e.0
 
 unfoldable pub for_loop : Around → Context → Option ℕ → ℕ → Stmts → OptionalParallel → Iter → Judging (Option TypedPart)
 for_loop a here label n s p i = do
-  e ← clean (entered a.names a.level a.inner here site.Loop p i)
-  u ← backwards_rule e.1 e.0.construct e.0.reverse
-  ss ← stmts a (in_loop a.names e.0.here label n) s
-  both e.0.iteration ss (λ j xs. pure (for_made n e.0.construct e.0.chunk j xs))
+  e ← loop_entered a here p i
+  ss ← stmts a (in_loop a.names e.here label n) s
+  both e.iteration ss (for_made n e.construct e.chunk)
 
 abbrev pub loop_part : ℕ → TypedPart → TypedPart → TypedPart
 loop_part n c ss = part.AStmt (typed.Loop n (as_optional c) (as_stmts ss))
@@ -291,16 +328,19 @@ abbrev pub optional_parallel : Option Parallel → OptionalParallel
 optional_parallel None = syntax.AbsentParallel
 optional_parallel (Some p) = syntax.PresentParallel p
 
-abbrev pub loop_by : Around → Context → Option ℕ → ℕ → Stmts → Option Scheme → Judging (Option TypedPart)
-loop_by a here label n s None = stmts a (in_loop a.names here label n) s >>= λ ss. pure (option_map (loop_part n part.Nothing) ss)
-loop_by a here label n s (Some (syntax.While at e)) = do
+abbrev pub loop_with : Around → Context → Option ℕ → ℕ → Stmts → Scheme → Judging (Option TypedPart)
+loop_with a here label n s (syntax.While at e) = do
   c ← condition a.names a.level here e
   ss ← stmts a (in_loop a.names here label n) s
   pure (joined (loop_part n) c ss)
-loop_by a here label n s (Some (syntax.For p at i)) = for_loop a here label n s (optional_parallel p) i
+loop_with a here label n s (syntax.For p at i) = for_loop a here label n s (optional_parallel p) i
 
-unfoldable pub loop : Around → Context → Option ℕ → Option Scheme → Stmts → ℕ → Option ℕ → Judging (Option TypedPart)
-loop a here label by s last name = do
+abbrev pub loop_by : Around → Context → Option ℕ → ℕ → Stmts → Option Scheme → Judging (Option TypedPart)
+loop_by a here label n s None = stmts a (in_loop a.names here label n) s >>= λ ss. pure (joined (loop_part n) (Some part.Nothing) ss)
+loop_by a here label n s (Some by) = loop_with a here label n s by
+
+unfoldable pub loop_stmt : Around → Context → Option ℕ → Option Scheme → Stmts → ℕ → Option ℕ → Judging (Option TypedPart)
+loop_stmt a here label by s last name = do
   u ← loop_ends a.names label last name
   n ← new_loop
   loop_by a here label n s by
@@ -321,12 +361,15 @@ abbrev pub with_handler_if : Option TypedPart → Option TypedHandled → Option
 with_handler_if done (Some h) ss = joined (with_handler h) done ss
 with_handler_if xs None ss = None
 
+unfoldable pub handler : Around → Context → Bool → List Reason → Option TypedPart → Handler → Judging (List Reason × Option TypedPart)
+handler a here last seen done (syntax.handler at h s) = do
+  r ← handled_by a.names here seen last h
+  ss ← stmts a (in_handler_of here) s
+  pure (r.0, with_handler_if done r.1 ss)
+
 abbrev pub handlers : Around → Context → List Reason → Option TypedPart → Handlers → Judging (Option TypedPart)
 handlers a here seen done syntax.NoHandler = pure done
-handlers a here seen done (syntax.AlsoHandler (syntax.handler at h s) xs) = do
-  r ← handled_by a.names here seen (is_last_handler xs) h
-  ss ← stmts a (in_handler_of here) s
-  handlers a here r.0 (with_handler_if done r.1 ss) xs
+handlers a here seen done (syntax.AlsoHandler h hs) = handler a here (is_last_handler hs) seen done h >>= λ r. handlers a here r.0 r.1 hs
 
 -- a body: its declarations, its statements, its handlers
 abbrev pub body_part : TypedPart → TypedPart → TypedPart → TypedPart
@@ -336,11 +379,14 @@ body_part ds ss hs = part.ABody (record { decls = as_decls (turned ds); stmts = 
 abbrev pub block_part : TypedPart → TypedPart
 block_part b = part.AStmt (typed.Block (as_body b).decls (as_body b).stmts (as_body b).handlers)
 
+abbrev pub body_made : Option TypedPart → Option TypedPart → TypedPart → Judging (Option TypedPart)
+body_made ss hs ds = pure (joined (body_part ds) ss hs)
+
 unfoldable pub body : Around → Context → Option TypedPart → Body → Judging (Option TypedPart)
 body a here ds (syntax.body s hs) = do
   ss ← stmts a here s
   xs ← handlers a here [] (Some part.Nothing) hs
-  given ds (λ d. pure (joined (body_part d) ss xs))
+  given ds (body_made ss xs)
 
 abbrev pub no_decls : TypedPart
 no_decls = part.Nothing
@@ -349,11 +395,11 @@ abbrev pub block_decls : Option Declare → List Decl
 block_decls None = []
 block_decls (Some d) = d.decls
 
+abbrev pub block_of : Around → Context → Option TypedPart → Body → Judging (Option TypedPart)
+block_of a here ds b = body a here ds b >>= λ x. pure (option_map block_part x)
+
 unfoldable pub block : Around → Context → Option Declare → Body → Judging (Option TypedPart)
-block a here d b = do
-  r ← declarations a.names a.level (length here.scope) here (Some no_decls) (block_decls d)
-  x ← body a r.0 r.1 b
-  pure (option_map block_part x)
+block a here d b = declarations a.names a.level (length here.scope) here (Some no_decls) (block_decls d) >>= λ r. block_of a r.0 r.1 b
 
 -- ---- parallel blocks (5.6.1)
 
@@ -361,9 +407,9 @@ block a here d b = do
 abbrev pub arm_limit : ℕ → ℕ → Judging (Unit {0})
 arm_limit at n = unless (nat_le n 4096) at (Limit 3 n)
 
-abbrev pub count_where : Around → Context → Option Simple → Judging (Option TypedPart)
-count_where a here None = some part.Nothing
-count_where a here (Some s) = chunk_count a.inner here s
+abbrev pub count_where : Inside → Context → Option Simple → Judging (Option TypedPart)
+count_where inner here None = some part.Nothing
+count_where inner here (Some s) = chunk_count inner here s
 
 abbrev pub with_arm : TypedPart → TypedPart → TypedPart
 with_arm done ss = also done ss
@@ -385,7 +431,7 @@ arms_part n c xs = part.AStmt (typed.Parallel n (as_optional c) (as_arms (turned
 unfoldable pub parallel : Around → Context → ℕ → Option Simple → Branches → Judging (Option TypedPart)
 parallel a here at e ss = do
   n ← new_site here at (site.Block (branch_count ss))
-  c ← count_where a here e
+  c ← count_where a.inner here e
   xs ← branches a (in_threads a.names here n) (Some part.Nothing) ss
   u ← arm_limit at (branch_count ss)
   pure (joined (arms_part n) c xs)
@@ -394,48 +440,21 @@ parallel a here at e ss = do
 
 abbrev pub stmt_form : Around → Context → Stmt → Judging (Option TypedPart)
 stmt_form a here (syntax.Null at) = some (part.AStmt typed.Null)
-stmt_form a here (syntax.Assign n e) = a.level.name here n >>= assign a here e
-stmt_form a here (syntax.CallStmt n) = call_stmt a here n
-stmt_form a here (syntax.Exit at from e) = exit_from a here at from e
-stmt_form a here (syntax.Return at e) = return_from a here at e
-stmt_form a here (syntax.Raise at p) = raise_from a here at p
+stmt_form a here (syntax.Assign n e) = assign a.names a.level here n e
+stmt_form a here (syntax.CallStmt n) = call_stmt a.names a.level here n
+stmt_form a here (syntax.Exit at from e) = exit_from a.names a.level here at from e
+stmt_form a here (syntax.Return at e) = return_from a.names a.level here at e
+stmt_form a here (syntax.Raise at p) = raise_from a.names here at p
 stmt_form a here (syntax.IfStmt at e s more o) = if_stmt a here e s more o
 stmt_form a here (syntax.Case at e x xs) = case_stmt a here at e (syntax.AlsoAlt x xs)
-stmt_form a here (syntax.Loop label by at s last name) = loop a here label by s last name
+stmt_form a here (syntax.Loop label by at s last name) = loop_stmt a here label by s last name
 stmt_form a here (syntax.Block d at b) = block a here d b
 stmt_form a here (syntax.ParallelBlock at e s t more) = parallel a here at e (syntax.AlsoBranch s (syntax.AlsoBranch t more))
-
-abbrev pub first_of_declare : Option Declare → ℕ → ℕ
-first_of_declare None at = at
-first_of_declare (Some d) at = d.at
-
-abbrev pub scheme_first : Option Scheme → ℕ → ℕ
-scheme_first None at = at
-scheme_first (Some (syntax.While first e)) at = first
-scheme_first (Some (syntax.For None first i)) at = first
-scheme_first (Some (syntax.For (Some p) first i)) at = parallel_at p
-
-abbrev pub loop_first : Option ℕ → Option Scheme → ℕ → ℕ
-loop_first (Some label) by at = label
-loop_first None by at = scheme_first by at
-
-abbrev pub first_of_stmt : Stmt → ℕ
-first_of_stmt (syntax.Null at) = at
-first_of_stmt (syntax.Assign n e) = first_token.of_name n
-first_of_stmt (syntax.CallStmt n) = first_token.of_name n
-first_of_stmt (syntax.Exit at from e) = at
-first_of_stmt (syntax.Return at e) = at
-first_of_stmt (syntax.Raise at p) = at
-first_of_stmt (syntax.IfStmt at e s more o) = at
-first_of_stmt (syntax.Case at e x xs) = at
-first_of_stmt (syntax.Loop label by at s last name) = loop_first label by at
-first_of_stmt (syntax.Block d at b) = first_of_declare d at
-first_of_stmt (syntax.ParallelBlock at e s t more) = at
 
 -- where so many levels of statements and brackets may still be open
 abbrev pub around : Names → ℕ → Within → Around
 around names n within = record { names = names; level = level_above names (inside names n); inner = inside names n; within = within }
 
 unfoldable pub stmt : Names → ℕ → Within
-stmt names zero here s = fault (first_of_stmt s) (Limit 5 65)
+stmt names zero here s = fault (first_token.of_stmt s) (Limit 5 65)
 stmt names (suc n) here s = stmt_form (around names n (stmt names n)) here s

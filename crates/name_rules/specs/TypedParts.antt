@@ -1,7 +1,5 @@
 -- The parts of a typed program while it is made: lists that grow, pairs, and what static values mention.
-use Rattle.std.specs.Prelude.{ℕ, ℤ}
-use Rattle.ada_typed.specs.declared.expressions.Root.{Root}
-use Rattle.ada_typed.specs.Decoded.{Part, Nothing, Cons, AnExpr, AStmt, ASelection, as_expr, as_exprs, as_selections, as_stmts}
+use Rattle.ada_typed.specs.Decoded.{Part, Nothing, Cons, AStmt, as_expr, as_exprs, as_selections, as_stmts}
 use Rattle.ada_typed.specs.Syntax.{Expr, Exprs, Selections, Stmts}
 use Rattle.ada_typed.specs.Syntax as typed
 use Rattle.typed_parts.specs.Stack.{onto, turned}
@@ -41,15 +39,6 @@ exprs_of p = as_exprs (turned p)
 -- the selections of an object's name, which grow from left to right
 abbrev pub selections_of : Part → Selections
 selections_of p = as_selections (turned p)
-
--- the indexes of a name, which an attribute of it mentions
-abbrev pub indexes_from : Part → Selections → Part
-indexes_from done typed.Whole = done
-indexes_from done (typed.Field n o s) = indexes_from done s
-indexes_from done (typed.Index at e l h d s) = indexes_from (also done (AnExpr e)) s
-
-unfoldable pub indexes_in : Selections → Part
-indexes_in s = indexes_from Nothing s
 
 -- conditions and statements behind the first of an if statement, the last of which stand first
 unfoldable pub nested_stmts : Part → Part → Part

@@ -1,2 +1,5 @@
 pub mod Classes
+pub mod Indexes
+pub mod Lists
+pub mod Looks
 pub mod Stack

@@ -8,8 +8,10 @@ ghost use Rattle.typed_parts.specs.Stack.{parts, pop, top, IsLatest};
 mod bodies;
 mod expressions;
 mod finishing;
+mod indexes;
 mod iterations;
 mod lists;
+mod looks;
 mod names;
 mod output;
 mod settling;
@@ -57,6 +59,11 @@ impl Parts {
             roots: Items::new(alloc),
             alloc,
         })
+    }
+
+    /// The allocator of the table.
+    pub fn alloc(&self) -> Global {
+        self.alloc
     }
 
     /// Takes the latest part, and gives its number.

@@ -2,6 +2,7 @@
 
 ghost use Rattle.std.specs.Prelude.{◌≡◌, ◌<◌, ◌∷◌, OnOk, IfOk, MatchOption, length};
 ghost use Rattle.ada_typed.specs.Decoded.{part_at, Cons, LeafCons, Nothing};
+ghost use Rattle.typed_parts.specs.Lists.{has_item};
 ghost use Rattle.typed_parts.specs.Stack.{first_of, onto, parts, pop, rest_of, second, third, top, turned};
 
 use crate::parts::Parts;
@@ -15,6 +16,15 @@ impl Parts {
     {
         let none = self.none();
         self.hold(none)
+    }
+
+    /// The latest part once more.
+    pub fn again(&mut self) -> Result<(), AllocError>
+        ensures { OnOk result (parts self.new ≡ top (parts self.old) ∷ top (parts self.old) ∷ pop (parts self.old)) }
+    {
+        let last = self.take();
+        self.hold(last)?;
+        self.hold(last)
     }
 
     /// Leaves the latest part out.
@@ -109,6 +119,18 @@ impl Parts {
                 self.nothing()?;
                 self.nothing()
             }
+        }
+    }
+
+    /// Whether the latest part is a list of parts with an item. It stays the latest part.
+    pub fn has_item(&mut self) -> Result<bool, AllocError>
+        ensures { IfOk result (λ b. (b ≡ has_item (top (parts self.old))) × (parts self.new ≡ top (parts self.old) ∷ pop (parts self.old))) }
+    {
+        let last = self.take();
+        self.hold(last)?;
+        match self.node(last) {
+            Node::Cell { .. } => Ok(true),
+            _ => Ok(false),
         }
     }
 

@@ -204,7 +204,7 @@ impl Parts {
 
     /// The expression of a number becomes the latest part.
     #[tactic(auto, using(crate::proofs::Stacks::stays_same))]
-    fn hold_expr(&mut self, id: u32) -> Result<(), AllocError>
+    pub(super) fn hold_expr(&mut self, id: u32) -> Result<(), AllocError>
         requires { id < length self.old.nodes }
         ensures { OnOk result ((parts self.new ≡ AnExpr (as_expr (part_at self.old.nodes id)) ∷ parts self.old) × Stays self.old.nodes self.new.nodes) }
     {
@@ -218,7 +218,7 @@ impl Parts {
     }
 
     /// Writes a node, and what stood in the table stands for the same.
-    fn put_on(&mut self, node: Node) -> Result<(), AllocError>
+    pub(super) fn put_on(&mut self, node: Node) -> Result<(), AllocError>
         requires { NodeBelow (length self.old.nodes) node }
         ensures { OnOk result ((parts self.new ≡ of_node (part_at self.old.nodes) node ∷ parts self.old) × Stays self.old.nodes self.new.nodes) }
     {

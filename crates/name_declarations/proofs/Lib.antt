@@ -1,0 +1,4 @@
+mod FromPlaces
+mod Mentions
+mod Options
+mod Rooms

@@ -1,0 +1,3 @@
+pub mod Declares
+pub mod OneObject
+pub mod Steps

@@ -1,0 +1,14 @@
+use Rattle.std.proofs.Common.{◌≡◌}
+use Rattle.name_rules.specs.Cases as cases
+use Rattle.name_rules.specs.Primaries.{inside}
+use Rattle.name_values.specs.Coverage.{as_choosing, as_covering}
+use Rattle.tree_nodes.specs.Parts.{the_choice_list}
+use Rattle.tree_nodes.specs.Tables.{part_at}
+use Rattle.typed_parts.specs.Stack.{parts, pop, top}
+use Rattle.name_expressions.proofs.choices.more_choices.Given as goal
+
+abbrev pub invariant-choices : goal.invariant-choices
+invariant-choices l = (cases.case_choices (inside l.names l.levels) l.here l.kind l.single l.last (as_covering l.fn.covering) (as_choosing l.fn.choosing (top (parts l.fn.out))) (the_choice_list (part_at l.tree.nodes l.fn.more)) l.fn.log ≡ cases.case_choices (inside l.names l.levels) l.here l.kind l.single l.last (as_covering l.covering) (as_choosing l.choosing (top (parts l.out))) (the_choice_list (part_at l.tree.nodes l.next)) l.log) × (pop (parts l.out) ≡ pop (parts l.fn.out))
+
+abbrev pub decreases-choices : goal.decreases-choices
+decreases-choices l = l.next

@@ -1,0 +1,2 @@
+mod Smallest
+mod Lists

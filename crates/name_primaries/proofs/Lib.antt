@@ -1,0 +1,2 @@
+mod Backward
+mod Arguments

@@ -1,0 +1,6 @@
+mod Levels
+mod Lists
+mod Options
+mod Outcomes
+mod Scopes
+mod Subs

@@ -1,0 +1,3 @@
+pub mod Forms
+pub mod Resolving
+pub mod Steps

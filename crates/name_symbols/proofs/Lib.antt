@@ -1,0 +1,3 @@
+mod Alike
+mod Lists
+mod Places

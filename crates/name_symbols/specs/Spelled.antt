@@ -1,0 +1,16 @@
+-- The numbers of identifiers so far, where those that aren't the language's are known by the tokens at which each stands
+-- first.
+use Rattle.ada_base.specs.Folding.{folded}
+use Rattle.ada_base.specs.Tokens.{Tokenized, slice_at}
+use Rattle.name_symbols.specs.Naming.{Symbols}
+use Rattle.name_symbols.specs.declared.symbols.Numbered.{Numbered}
+use Rattle.std.specs.Prelude.{List, map, ℕ}
+
+abbrev pub spelling : Tokenized → ℕ → List ℕ
+spelling t k = folded (slice_at t k)
+
+abbrev pub spelled : Tokenized → List ℕ → List (List ℕ)
+spelled t ks = map (spelling t) ks
+
+abbrev pub symbols : Tokenized → Numbered → Symbols
+symbols t s = record { numbers = s.numbers; spellings = spelled t s.firsts }

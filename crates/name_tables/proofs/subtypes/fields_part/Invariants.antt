@@ -1,0 +1,12 @@
+use Rattle.std.proofs.Common.{◌≡◌, drop}
+use Rattle.std.specs.Prelude.{map}
+use Rattle.ada_typed.specs.Decoded.{as_fields}
+use Rattle.name_rules.specs.Resolved.{typed_field}
+use Rattle.typed_parts.specs.Stack.{parts, pop, top}
+use Rattle.name_tables.proofs.subtypes.fields_part.Given as goal
+
+abbrev pub invariant-parts : goal.invariant-parts
+invariant-parts l = (as_fields (top (parts l.out)) ≡ map typed_field (drop l.i l.fields)) × (pop (parts l.out) ≡ parts l.fn.out)
+
+abbrev pub decreases-parts : goal.decreases-parts
+decreases-parts l = l.i

@@ -1,0 +1,13 @@
+use Rattle.std.proofs.Common.{◌≡◌}
+use Rattle.name_rules.specs.Judges.{found_of}
+use Rattle.name_rules.specs.Names as spec
+use Rattle.tree_nodes.specs.Parts.{the_tokens}
+use Rattle.tree_nodes.specs.Tables.{part_at}
+use Rattle.typed_parts.specs.Stack.{parts, pop, top}
+use Rattle.name_values.proofs.exceptions.pack_from.Given as goal
+
+abbrev pub invariant-identifiers : goal.invariant-identifiers
+invariant-identifiers l = (spec.pack_from l.names l.here (found_of l.fn.denoted (top (parts l.fn.out))) (the_tokens (part_at l.tree.nodes l.fn.more)) l.fn.log ≡ spec.pack_from l.names l.here (found_of l.d (top (parts l.out))) (the_tokens (part_at l.tree.nodes l.next)) l.log) × (pop (parts l.out) ≡ pop (parts l.fn.out))
+
+abbrev pub decreases-identifiers : goal.decreases-identifiers
+decreases-identifiers l = l.next

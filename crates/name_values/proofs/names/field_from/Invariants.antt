@@ -1,0 +1,13 @@
+use Rattle.std.proofs.Common.{◌≡◌, ◌-◌, length, drop}
+use Rattle.name_rules.specs.Names as spec
+use Rattle.name_rules.specs.Types.{fields_of, shape_in}
+use Rattle.typed_parts.specs.Stack.{parts, top}
+use Rattle.name_values.proofs.names.field_from.Given as goal
+
+abbrev pub invariant-fields : goal.invariant-fields
+invariant-fields l =
+    (spec.field_from l.names l.place (top (parts l.fn.out)) l.at 0 (fields_of (shape_in l.log l.number)) l.log ≡ spec.field_from l.names l.place (top (parts l.fn.out)) l.at l.i (drop l.i (fields_of (shape_in l.log l.number))) l.log)
+    × (parts l.out ≡ parts l.fn.out)
+
+abbrev pub decreases-fields : goal.decreases-fields
+decreases-fields l = length (fields_of (shape_in l.log l.number)) - l.i

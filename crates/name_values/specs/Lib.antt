@@ -1,0 +1,9 @@
+pub mod Bounds
+pub mod Calling
+pub mod Coverage
+pub mod Operands
+pub mod Putting
+pub mod Reductions
+pub mod Shapes
+pub mod Statics
+pub mod Walks

@@ -1,0 +1,23 @@
+-- What is found of the arguments of Put, with its parts: the item and then the width.
+use Rattle.std.specs.Prelude.{◌≡◌, ℕ, List, Option, Result, Ok, Err}
+use Rattle.ada_tree.specs.Syntax.{Args}
+use Rattle.ada_typed.specs.Decoded.{Part}
+use Rattle.name_rules.specs.Found.{Denoted, Found}
+use Rattle.name_rules.specs.Judges.{part_if}
+use Rattle.name_rules.specs.Judging.{Judging, given, ◌>>=◌}
+use Rattle.name_rules.specs.Output.{Putting, alone_given, get_of}
+use Rattle.name_rules.specs.declared.log.Log.{Log}
+use Rattle.name_values.specs.declared.putting.Putting.{Putting as KnownPutting}
+use Rattle.typed_parts.specs.Stack.{pop, second, top}
+
+abbrev pub putting_of : KnownPutting → Part → Part → Putting
+putting_of p item width = record { count = p.count; item = part_if p.item item; has_width = p.has_width; width = part_if p.width width }
+
+-- it goes on with a Put, whose item and width are the latest parts
+abbrev pub Puts : {E : Type 0} → Putting × Log → List Part → Result (Unit {0}) E → KnownPutting → Log → List Part → Type 0
+Puts outcome rest (Ok u) p log now = (outcome ≡ (putting_of p (second now) (top now), log)) × (pop (pop now) ≡ rest)
+Puts outcome rest (Err e) p log now = Unit {0}
+
+-- Get, whose argument is the only one
+abbrev pub get_given : ℕ → ℕ → ℕ → Args → Found → Judging (Option Denoted)
+get_given at first last more f = alone_given at more f >>= λ g. given g (λ h. get_of first last h.known h.part)

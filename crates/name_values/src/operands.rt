@@ -1,0 +1,89 @@
+//! Operands that have no parameter, of conversions (4.6) and attributes (3.5), in the order of the text.
+
+ghost use Rattle.std.specs.Prelude.{◌≡◌, ◌∷◌, [], IfOk, None};
+ghost use Rattle.name_rules.specs.Calls as spec;
+ghost use Rattle.name_rules.specs.Judges.{Judges, found, found_of};
+ghost use Rattle.name_values.specs.Operands.{founds, operands_of};
+ghost use Rattle.typed_parts.specs.Stack.{parts, pop, second, top};
+
+use crate::names::wrong_name;
+use crate::types::check_at;
+use crate::values::{first_of, is_number, settled_found};
+use ada_base::Items;
+use name_rules::found::{Denoted, Found};
+use name_rules::log::{Log, Rule};
+use name_rules::types::Scalar;
+use std::alloc::AllocError;
+use typed_parts::Parts;
+
+/// One more operand, which is the latest part, joins those before it, whose list is the part before; whether each could
+/// be judged.
+#[tactic(auto, using(crate::proofs::Founds::founds_more))]
+pub fn with_operand(
+    out: &mut Parts,
+    operands: &mut Items<Found>,
+    good: bool,
+    given: Option<Found>,
+) -> Result<bool, AllocError>
+    ensures { IfOk result (λ all. (operands_of all operands.new (top (parts out.new)) ≡ spec.with_operand (operands_of good operands.old (second (parts out.old))) (found_of given (top (parts out.old)))) × (pop (parts out.new) ≡ pop (pop (parts out.old)))) }
+{
+    let Some(given) = given else {
+        out.leave_out();
+        return Ok(false);
+    };
+    if !good {
+        out.leave_out();
+        return Ok(false);
+    }
+    operands.push(given)?;
+    out.also()?;
+    Ok(true)
+}
+
+/// The conversion (4.6) of an operand, which is the latest part, to an integer type: WrongType at its first token where
+/// it is no number.
+fn converted(
+    log: &mut Log,
+    out: &mut Parts,
+    first: u32,
+    scalar: Scalar,
+    given: Found,
+) -> Result<Option<Denoted>, AllocError>
+    ensures { Judges (spec.converted first scalar (found given (top (parts out.old))) log.old) (pop (parts out.old)) result log.new (parts out.new) }
+{
+    if !is_number(given) {
+        return wrong_name(log, out, first_of(given), Rule::WrongType);
+    }
+    if !settled_found(log, out, given)? {
+        return Ok(None);
+    }
+    out.convert(check_at(first, scalar))?;
+    Ok(Some(Denoted::Value(Found::Scalar {
+        first,
+        kind: scalar.kind,
+        nominal: Some(scalar),
+    })))
+}
+
+/// The conversion of the operand, of a list of operands that is the latest part: WrongType at the bracket where there is
+/// another number of them.
+#[tactic(auto, using(crate::proofs::Founds::one_found, crate::proofs::Founds::not_one))]
+pub fn one_operand(
+    log: &mut Log,
+    out: &mut Parts,
+    bracket: u32,
+    first: u32,
+    scalar: Scalar,
+    operands: &Items<Found>,
+) -> Result<Option<Denoted>, AllocError>
+    ensures { Judges (spec.one_operand bracket first scalar (None ∷ []) (founds operands.now (top (parts out.old))) log.old) (pop (parts out.old)) result log.new (parts out.new) }
+{
+    match operands.as_slice() {
+        [given] => {
+            out.apart()?;
+            out.leave_out();
+            converted(log, out, first, scalar, *given)
+        }
+        _ => wrong_name(log, out, bracket, Rule::WrongType),
+    }
+}

@@ -1,0 +1,393 @@
+//! The rules of what a reduction folds by, its values and its initial value (4.5.10).
+
+ghost use Rattle.std.specs.Prelude.{◌≡◌, ◌∷◌, ◌&&◌, ◌||◌, OnOk, is_some, not};
+ghost use Rattle.ada_typed.specs.Decoded as part;
+ghost use Rattle.name_rules.specs.Calls as calls;
+ghost use Rattle.name_rules.specs.Judges.{Judges, Says, found};
+ghost use Rattle.name_rules.specs.Judging.{fault, joined, pure};
+ghost use Rattle.name_rules.specs.Operators as operators;
+ghost use Rattle.name_rules.specs.Reducers as spec;
+ghost use Rattle.name_rules.specs.Types as types;
+ghost use Rattle.name_rules.specs.Values as values;
+ghost use Rattle.name_rules.specs.declared.log.Rule.TheVariants.{ReduceRule};
+ghost use Rattle.name_values.specs.Reductions.{two_of};
+ghost use Rattle.typed_parts.specs.Stack.{fourth, parts, pop, second, third, top};
+
+use crate::actuals::gives_in;
+use crate::logs::{breaks, no_part};
+use crate::operators::{joint, open_of};
+use crate::symbols::{MAX, MIN, symbol};
+use crate::types::{class_of, same, typed_scalar};
+use crate::values::{asked, is_number, kind_of, suits};
+use ada_base::Op;
+use ada_typed::{Class, Reducer};
+use name_rules::found::{Denoted, Folding, Found, Going};
+use name_rules::log::{Log, Rule, Taken};
+use name_rules::scope::Names;
+use name_rules::types::{Kind, Scalar, Subtype};
+use std::alloc::AllocError;
+use typed_parts::Parts;
+
+/// Writes that what stands for a reducer is none.
+pub fn no_folding(log: &mut Log, at: u32) -> Result<Option<Folding>, AllocError>
+    ensures { Says (fault at ReduceRule log.old) result log.new }
+{
+    breaks(log, at, Rule::ReduceRule)?;
+    Ok(None)
+}
+
+/// The reducer that a string is, by the operator that it names.
+pub fn operator_reducer(
+    log: &mut Log,
+    at: u32,
+    op: Option<Op>,
+) -> Result<Option<Folding>, AllocError>
+    ensures { Says (spec.operator_reducer at op log.old) result log.new }
+{
+    match op {
+        None => no_folding(log, at),
+        Some(op) => Ok(Some(Folding::Operator { at, op })),
+    }
+}
+
+/// The reducer `S'Max` or `S'Min`, by what S is.
+pub fn extreme_of(
+    log: &mut Log,
+    at: u32,
+    op: Op,
+    denoted: Denoted,
+) -> Result<Option<Folding>, AllocError>
+    ensures { Says (spec.extreme_of at op denoted log.old) result log.new }
+{
+    match denoted {
+        Denoted::Type {
+            subtype: Subtype::Scalar(scalar),
+            ..
+        } => Ok(Some(Folding::Extreme { at, op, scalar })),
+        _ => no_folding(log, at),
+    }
+}
+
+/// The reducer that a name is, which is a function's.
+pub fn function_of(log: &mut Log, at: u32, denoted: Denoted) -> Result<Option<Folding>, AllocError>
+    ensures { Says (spec.function_of at denoted log.old) result log.new }
+{
+    match denoted {
+        Denoted::Sub { number, .. } => match gives_in(log, number) {
+            Some(_) => Ok(Some(Folding::Function { at, number })),
+            None => no_folding(log, at),
+        },
+        _ => no_folding(log, at),
+    }
+}
+
+/// The operation that the identifier of an attribute folds by.
+pub fn extreme_name(names: &Names, at: u32) -> Option<Op>
+    ensures { result ≡ spec.extreme_name names.now at }
+{
+    let name = symbol(names, at);
+    if name == MAX {
+        Some(Op::Max)
+    } else if name == MIN {
+        Some(Op::Min)
+    } else {
+        None
+    }
+}
+
+fn reducer(out: &mut Parts, reducer: Reducer) -> Result<(), AllocError>
+    ensures { OnOk result (parts out.new ≡ part.AReducer reducer ∷ parts out.old) }
+{
+    match reducer {
+        Reducer::Operator { at, op, class } => out.fold_operator(at, op, class),
+        Reducer::Function {
+            at,
+            sub,
+            accumulator,
+            value,
+        } => {
+            out.scalar(accumulator)?;
+            out.scalar(value)?;
+            out.fold_function(at, sub)
+        }
+    }
+}
+
+/// A reduction of a chunk specification, an iteration, a value and an initial value, which are the latest parts.
+fn reduction(out: &mut Parts, going: Going, by: Reducer) -> Result<(), AllocError>
+    ensures { OnOk result (parts out.new ≡ part.AnExpr (spec.reduction going (fourth (parts out.old)) (third (parts out.old)) by (second (parts out.old)) (top (parts out.old))) ∷ pop (pop (pop (pop (parts out.old))))) }
+{
+    reducer(out, by)?;
+    out.swap()?;
+    out.reduction(going.at, going.attribute, going.site)
+}
+
+/// Nothing is the reduction of four parts.
+fn not_reduced(out: &mut Parts)
+    ensures { parts out.new ≡ pop (pop (pop (parts out.old))) }
+{
+    out.leave_out();
+    out.leave_out();
+    out.leave_out();
+}
+
+/// Writes that a reducer doesn't fit, in place of the four latest parts.
+fn no_reduction(log: &mut Log, out: &mut Parts, at: u32) -> Result<Option<Found>, AllocError>
+    ensures { Judges (fault at ReduceRule log.old) (pop (pop (pop (pop (parts out.old))))) result log.new (parts out.new) }
+{
+    not_reduced(out);
+    no_part(log, out, at, Rule::ReduceRule)
+}
+
+/// The reduction of a value of a type and an initial value of its own, which are the latest parts.
+#[tactic(auto, unfolding(name_rules::specs::Reducers::reduced))]
+fn reduced(
+    log: &mut Log,
+    out: &mut Parts,
+    going: Going,
+    kind: Kind,
+    own: Kind,
+    by: Reducer,
+    value: Found,
+    initial: Found,
+) -> Result<Option<Found>, AllocError>
+    ensures { Judges (spec.reduced going (fourth (parts out.old)) (third (parts out.old)) kind own by (found value (second (parts out.old))) (found initial (top (parts out.old))) log.old) (pop (pop (pop (pop (parts out.old))))) result log.new (parts out.new) }
+{
+    out.swap()?;
+    let x = asked(log, out, kind, value)?;
+    out.swap()?;
+    let v = asked(log, out, own, initial)?;
+    if !x || !v {
+        not_reduced(out);
+        return Ok(None);
+    }
+    reduction(out, going, by)?;
+    Ok(Some(Found::Scalar {
+        first: going.at,
+        kind: own,
+        nominal: None,
+    }))
+}
+
+fn open_reduction(
+    log: &Log,
+    out: &mut Parts,
+    going: Going,
+    at: u32,
+    op: Op,
+    value: Found,
+    initial: Found,
+) -> Result<Option<Found>, AllocError>
+    ensures { Judges (pure (joined (spec.open_reduction going (fourth (parts out.old)) (third (parts out.old)) at op) (operators.open_of (found value (second (parts out.old)))) (operators.open_of (found initial (top (parts out.old))))) log.now) (pop (pop (pop (pop (parts out.old))))) result log.now (parts out.new) }
+{
+    let _log = log;
+    out.swap()?;
+    let x = open_of(out, value)?;
+    out.swap()?;
+    let v = open_of(out, initial)?;
+    let (Some(x), Some(v)) = (x, v) else {
+        not_reduced(out);
+        return Ok(None);
+    };
+    reduction(
+        out,
+        going,
+        Reducer::Operator {
+            at,
+            op,
+            class: Class::Universal,
+        },
+    )?;
+    Ok(Some(Found::Open {
+        first: going.at,
+        limits: joint(x, v),
+    }))
+}
+
+fn is_logical(op: Op) -> bool
+    ensures { result ≡ spec.is_logical op }
+{
+    match op {
+        Op::And => true,
+        Op::Or => true,
+        Op::Xor => true,
+        _ => false,
+    }
+}
+
+/// Operators, Max and Min take values and an initial value of one type.
+fn of_kind(
+    log: &mut Log,
+    out: &mut Parts,
+    going: Going,
+    at: u32,
+    op: Op,
+    kind: Kind,
+    value: Found,
+    initial: Found,
+) -> Result<Option<Found>, AllocError>
+    ensures { Judges (spec.of_kind going (fourth (parts out.old)) (third (parts out.old)) at op kind (found value (second (parts out.old))) (found initial (top (parts out.old))) log.old) (pop (pop (pop (pop (parts out.old))))) result log.new (parts out.new) }
+{
+    if !(suits(kind, value) && suits(kind, initial)) {
+        return no_reduction(log, out, at);
+    }
+    let by = Reducer::Operator {
+        at,
+        op,
+        class: class_of(kind),
+    };
+    reduced(log, out, going, kind, kind, by, value, initial)
+}
+
+fn numeric(
+    log: &mut Log,
+    out: &mut Parts,
+    going: Going,
+    at: u32,
+    op: Op,
+    value: Found,
+    initial: Found,
+) -> Result<Option<Found>, AllocError>
+    ensures { Judges (spec.numeric going (fourth (parts out.old)) (third (parts out.old)) at op (found value (second (parts out.old))) (found initial (top (parts out.old))) (values.kind_of value) (values.kind_of initial) log.old) (pop (pop (pop (pop (parts out.old))))) result log.new (parts out.new) }
+{
+    match kind_of(value) {
+        Some(kind) => of_kind(log, out, going, at, op, kind, value, initial),
+        None => match kind_of(initial) {
+            Some(kind) => of_kind(log, out, going, at, op, kind, value, initial),
+            None => open_reduction(log, out, going, at, op, value, initial),
+        },
+    }
+}
+
+fn by_operator(
+    log: &mut Log,
+    out: &mut Parts,
+    going: Going,
+    at: u32,
+    op: Op,
+    value: Found,
+    initial: Found,
+) -> Result<Option<Found>, AllocError>
+    ensures { Judges (spec.by_operator going (fourth (parts out.old)) (third (parts out.old)) at op (found value (second (parts out.old))) (found initial (top (parts out.old))) log.old) (pop (pop (pop (pop (parts out.old))))) result log.new (parts out.new) }
+{
+    if is_logical(op) {
+        return of_kind(log, out, going, at, op, Kind::Boolean, value, initial);
+    }
+    if is_number(value) && is_number(initial) {
+        numeric(log, out, going, at, op, value, initial)
+    } else {
+        no_reduction(log, out, at)
+    }
+}
+
+/// Whether the parameters of a function fit its result, the values and the initial value: those of a parallel reduction
+/// are of one type.
+fn fits(
+    going: Going,
+    result_kind: Kind,
+    accumulator: Scalar,
+    item: Scalar,
+    value: Found,
+    initial: Found,
+) -> bool
+    ensures { result ≡ (types.same result_kind accumulator.kind && values.suits item.kind value && values.suits accumulator.kind initial && (not (is_some going.site) || types.same accumulator.kind item.kind)) }
+{
+    same(result_kind, accumulator.kind)
+        && suits(item.kind, value)
+        && suits(accumulator.kind, initial)
+        && (going.site.is_none() || same(accumulator.kind, item.kind))
+}
+
+fn by_subtypes(
+    log: &mut Log,
+    out: &mut Parts,
+    going: Going,
+    at: u32,
+    number: u32,
+    result_kind: Kind,
+    accumulator: Subtype,
+    item: Subtype,
+    value: Found,
+    initial: Found,
+) -> Result<Option<Found>, AllocError>
+    ensures { Judges (spec.by_subtypes going (fourth (parts out.old)) (third (parts out.old)) at number result_kind accumulator item (found value (second (parts out.old))) (found initial (top (parts out.old))) log.old) (pop (pop (pop (pop (parts out.old))))) result log.new (parts out.new) }
+{
+    let (Subtype::Scalar(a), Subtype::Scalar(b)) = (accumulator, item) else {
+        return no_reduction(log, out, at);
+    };
+    if !fits(going, result_kind, a, b, value, initial) {
+        return no_reduction(log, out, at);
+    }
+    let by = Reducer::Function {
+        at,
+        sub: number,
+        accumulator: typed_scalar(a),
+        value: typed_scalar(b),
+    };
+    reduced(log, out, going, b.kind, a.kind, by, value, initial)
+}
+
+/// The two parameters of a subprogram by its number, where it has so many.
+fn two_taken(log: &Log, number: u32) -> Option<(Taken, Taken)>
+    ensures { result ≡ two_of (calls.takes_in (calls.profile_in log.now number)) }
+{
+    match log.profiles.get(number as usize) {
+        None => None,
+        Some(profile) => match profile.takes.as_slice() {
+            [accumulator, item] => Some((*accumulator, *item)),
+            _ => None,
+        },
+    }
+}
+
+fn by_function(
+    log: &mut Log,
+    out: &mut Parts,
+    going: Going,
+    at: u32,
+    number: u32,
+    value: Found,
+    initial: Found,
+) -> Result<Option<Found>, AllocError>
+    ensures { Judges (spec.by_function going (fourth (parts out.old)) (third (parts out.old)) at number (calls.takes_in (calls.profile_in log.old number)) (calls.gives_in (calls.profile_in log.old number)) (found value (second (parts out.old))) (found initial (top (parts out.old))) log.old) (pop (pop (pop (pop (parts out.old))))) result log.new (parts out.new) }
+{
+    match (two_taken(log, number), gives_in(log, number)) {
+        (Some((accumulator, item)), Some(scalar)) => by_subtypes(
+            log,
+            out,
+            going,
+            at,
+            number,
+            scalar.kind,
+            accumulator.subtype,
+            item.subtype,
+            value,
+            initial,
+        ),
+        _ => no_reduction(log, out, at),
+    }
+}
+
+/// A reduction (4.5.10) of a chunk specification, an iteration, a value and an initial value, which are the latest
+/// parts: ReduceRule at the reducer's first token, where its parameters or its result don't fit.
+#[tactic(auto, unfolding(name_rules::specs::Reducers::folded_by))]
+pub fn folded_by(
+    log: &mut Log,
+    out: &mut Parts,
+    going: Going,
+    by: Folding,
+    value: Found,
+    initial: Found,
+) -> Result<Option<Found>, AllocError>
+    ensures { Judges (spec.folded_by going (fourth (parts out.old)) (third (parts out.old)) by (found value (second (parts out.old))) (found initial (top (parts out.old))) log.old) (pop (pop (pop (pop (parts out.old))))) result log.new (parts out.new) }
+{
+    match by {
+        Folding::Operator { at, op } => by_operator(log, out, going, at, op, value, initial),
+        Folding::Extreme { at, op, scalar } => {
+            of_kind(log, out, going, at, op, scalar.kind, value, initial)
+        }
+        Folding::Function { at, number } => {
+            by_function(log, out, going, at, number, value, initial)
+        }
+    }
+}

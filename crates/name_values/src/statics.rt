@@ -1,0 +1,480 @@
+//! Static ranges (3.6, 4.3.3) and the values of choices (3.8.1): what they mention is their part.
+
+ghost use Rattle.std.specs.Prelude.{◌≡◌, ◌&&◌, int_le, not};
+ghost use Rattle.name_rules.specs.Judges.{Judges, Says, found, found_of};
+ghost use Rattle.name_rules.specs.Judging.{fault};
+ghost use Rattle.name_rules.specs.Ranges as spec;
+ghost use Rattle.name_rules.specs.Types as types;
+ghost use Rattle.name_rules.specs.Values as values;
+ghost use Rattle.name_values.specs.Statics as statics;
+ghost use Rattle.typed_parts.specs.Stack.{parts, pop, second, top};
+
+use crate::logs::breaks;
+use crate::names::denoted_first;
+use crate::operators::both_mentions;
+use crate::relations::common_kind;
+use crate::types::{in_base, is_integer, lies_in, same};
+use crate::values::{beyond, first_of, is_number, kind_of, mentions, static_value, suits};
+use ada_typed::Span;
+use name_rules::found::{Denoted, Found, Place};
+use name_rules::log::{Dimension, Log, Rule};
+use name_rules::types::{Kind, Scalar, Subtype};
+use std::alloc::AllocError;
+use typed_parts::Parts;
+
+/// The values of a choice, from the first to the last, with its first token.
+#[derive(Clone, Copy)]
+pub struct Chosen {
+    pub at: u32,
+    pub low: i64,
+    pub high: i64,
+}
+
+/// Whether a test holds: else a rule is broken.
+fn or_breaks(log: &mut Log, holds: bool, at: u32, rule: Rule) -> Result<bool, AllocError>
+    ensures { Says (statics.or_breaks holds at rule log.old) result log.new }
+{
+    if holds {
+        return Ok(true);
+    }
+    breaks(log, at, rule)?;
+    Ok(false)
+}
+
+fn place_takes(log: &mut Log, kind: Kind, place: Place) -> Result<bool, AllocError>
+    ensures { Says (statics.place_takes kind place place.subtype log.old) result log.new }
+{
+    match place.subtype {
+        Subtype::Scalar(scalar) => {
+            or_breaks(log, same(scalar.kind, kind), place.first, Rule::WrongType)
+        }
+        Subtype::Composite(_) => or_breaks(log, false, place.first, Rule::WrongType),
+    }
+}
+
+fn within(log: &mut Log, at: Option<u32>) -> Result<bool, AllocError>
+    ensures { Says (statics.within at log.old) result log.new }
+{
+    match at {
+        None => Ok(true),
+        Some(at) => or_breaks(log, false, at, Rule::StaticRange),
+    }
+}
+
+/// Whether an expression takes the type that its place asks for, where its part isn't needed: WrongType, StaticRange.
+#[tactic(auto, unfolding(crate::specs::Statics::takes))]
+pub fn takes(log: &mut Log, kind: Kind, given: Found) -> Result<bool, AllocError>
+    ensures { Says (statics.takes kind given log.old) result log.new }
+{
+    match given {
+        Found::Universal { first, value, .. } => {
+            if is_integer(kind) {
+                or_breaks(log, in_base(kind, value), first, Rule::StaticRange)
+            } else {
+                or_breaks(log, false, first, Rule::WrongType)
+            }
+        }
+        Found::Open { first, limits } => {
+            if is_integer(kind) {
+                within(log, beyond(kind, limits))
+            } else {
+                or_breaks(log, false, first, Rule::WrongType)
+            }
+        }
+        Found::Static {
+            first,
+            kind: own,
+            ..
+        } => or_breaks(log, same(own, kind), first, Rule::WrongType),
+        Found::Object(place) => place_takes(log, kind, place),
+        Found::Scalar {
+            first,
+            kind: own,
+            ..
+        } => or_breaks(log, same(own, kind), first, Rule::WrongType),
+        _ => or_breaks(log, false, first_of(given), Rule::WrongType),
+    }
+}
+
+/// The static value of an expression in the base range of a type.
+fn value_in(kind: Kind, given: Found) -> Option<i64>
+    ensures { result ≡ statics.value_in kind given }
+{
+    match given {
+        Found::Universal { value, .. } => {
+            if in_base(kind, value) {
+                Some(value as i64)
+            } else {
+                None
+            }
+        }
+        Found::Static { value, .. } => Some(value),
+        Found::Object(place) => place.value,
+        _ => None,
+    }
+}
+
+/// A value that has to be static: NotStatic where there is none.
+fn has_value(log: &mut Log, first: u32, value: Option<i64>) -> Result<Option<i64>, AllocError>
+    ensures { Says (values.static_value first value log.old) result log.new }
+{
+    match value {
+        Some(value) => Ok(Some(value)),
+        None => {
+            breaks(log, first, Rule::NotStatic)?;
+            Ok(None)
+        }
+    }
+}
+
+/// The value of a static expression whose place asks for a type: WrongType, StaticRange, NotStatic.
+#[tactic(auto, unfolding(crate::specs::Statics::value_taken))]
+fn value_taken(log: &mut Log, kind: Kind, given: Found) -> Result<Option<i64>, AllocError>
+    ensures { Says (statics.value_taken kind given log.old) result log.new }
+{
+    if takes(log, kind, given)? {
+        has_value(log, first_of(given), value_in(kind, given))
+    } else {
+        Ok(None)
+    }
+}
+
+fn both_values(
+    log: &mut Log,
+    kind: Kind,
+    low: Found,
+    high: Found,
+) -> Result<Option<Span>, AllocError>
+    ensures { Says (statics.both_values kind low high log.old) result log.new }
+{
+    let u = has_value(log, first_of(low), value_in(kind, low))?;
+    let v = has_value(log, first_of(high), value_in(kind, high))?;
+    match (u, v) {
+        (Some(low), Some(high)) => Ok(Some(Span { low, high })),
+        _ => Ok(None),
+    }
+}
+
+/// Two static bounds of a type: WrongType, StaticRange, and NotStatic at one that isn't static.
+#[tactic(auto, unfolding(crate::specs::Statics::span_taken))]
+pub fn span_taken(
+    log: &mut Log,
+    kind: Kind,
+    low: Found,
+    high: Found,
+) -> Result<Option<Span>, AllocError>
+    ensures { Says (statics.span_taken kind low high log.old) result log.new }
+{
+    let x = takes(log, kind, low)?;
+    let y = takes(log, kind, high)?;
+    if x && y {
+        both_values(log, kind, low, high)
+    } else {
+        Ok(None)
+    }
+}
+
+/// Writes that a rule is broken by a static range, in place of the two latest parts.
+fn no_span(
+    log: &mut Log,
+    out: &mut Parts,
+    at: u32,
+    rule: Rule,
+) -> Result<Option<Dimension>, AllocError>
+    ensures { Judges (fault at rule log.old) (pop (pop (parts out.old))) result log.new (parts out.new) }
+{
+    out.leave_out();
+    breaks(log, at, rule)?;
+    Ok(None)
+}
+
+/// A dimension of these bounds, the latest parts: StaticRange where it must have a value and has none.
+fn spanned(
+    log: &mut Log,
+    out: &mut Parts,
+    first: u32,
+    must_hold: bool,
+    kind: Kind,
+    low: Found,
+    high: Found,
+    span: Span,
+) -> Result<Option<Dimension>, AllocError>
+    ensures { Judges (spec.spanned first must_hold kind (found low (second (parts out.old))) (found high (top (parts out.old))) (span.low, span.high) log.old) (pop (pop (parts out.old))) result log.new (parts out.new) }
+{
+    if must_hold && !(span.low <= span.high) {
+        return no_span(log, out, first, Rule::StaticRange);
+    }
+    both_mentions(out, low, high)?;
+    Ok(Some(Dimension {
+        kind,
+        low: span.low,
+        high: span.high,
+    }))
+}
+
+/// StaticRange where a bound isn't a value of a subtype.
+fn inside_subtype(log: &mut Log, scalar: Scalar, bound: Found, value: i64) -> Result<(), AllocError>
+    ensures { Says (statics.inside_subtype scalar bound value log.old) result log.new }
+{
+    if lies_in(scalar, i128::from(value)) {
+        return Ok(());
+    }
+    breaks(log, first_of(bound), Rule::StaticRange)
+}
+
+/// Whether both bounds are values of a subtype.
+fn holds_both(scalar: Scalar, span: Span) -> bool
+    ensures { result ≡ (types.lies_in scalar span.low && types.lies_in scalar span.high) }
+{
+    lies_in(scalar, i128::from(span.low)) && lies_in(scalar, i128::from(span.high))
+}
+
+/// A dimension of bounds that are checked against a subtype, the latest parts: StaticRange at one that is outside of it.
+fn inside_span(
+    log: &mut Log,
+    out: &mut Parts,
+    first: u32,
+    must_hold: bool,
+    scalar: Scalar,
+    low: Found,
+    high: Found,
+    span: Span,
+) -> Result<Option<Dimension>, AllocError>
+    ensures { Judges (statics.inside_span first must_hold scalar (found low (second (parts out.old))) (found high (top (parts out.old))) (span.low, span.high) log.old) (pop (pop (parts out.old))) result log.new (parts out.new) }
+{
+    inside_subtype(log, scalar, low, span.low)?;
+    inside_subtype(log, scalar, high, span.high)?;
+    if holds_both(scalar, span) {
+        return spanned(log, out, first, must_hold, scalar.kind, low, high, span);
+    }
+    out.leave_out();
+    Ok(None)
+}
+
+/// Whether bounds have no value, and need none.
+fn may_be_empty(must_hold: bool, span: Span) -> bool
+    ensures { result ≡ (not must_hold && not (int_le span.low span.high)) }
+{
+    !must_hold && !(span.low <= span.high)
+}
+
+/// A dimension of bounds of a subtype, the latest parts: StaticRange at one that is outside of it.
+fn checked_span(
+    log: &mut Log,
+    out: &mut Parts,
+    first: u32,
+    must_hold: bool,
+    scalar: Scalar,
+    low: Found,
+    high: Found,
+    span: Span,
+) -> Result<Option<Dimension>, AllocError>
+    ensures { Judges (spec.checked_span first must_hold scalar (found low (second (parts out.old))) (found high (top (parts out.old))) (span.low, span.high) log.old) (pop (pop (parts out.old))) result log.new (parts out.new) }
+{
+    if may_be_empty(must_hold, span) {
+        both_mentions(out, low, high)?;
+        return Ok(Some(Dimension {
+            kind: scalar.kind,
+            low: span.low,
+            high: span.high,
+        }));
+    }
+    inside_span(log, out, first, must_hold, scalar, low, high, span)
+}
+
+/// The type of two static bounds: their own, or the one that is preferred, where neither has one.
+fn preferred(want: Option<Kind>, low: Found, high: Found) -> Kind
+    ensures { result ≡ spec.preferred want low high }
+{
+    let own = kind_of(low);
+    let other = kind_of(high);
+    match want {
+        None => common_kind(own, other),
+        Some(kind) => match (own, other) {
+            (None, None) => kind,
+            _ => common_kind(own, other),
+        },
+    }
+}
+
+/// A static range of two bounds, the latest parts, which are of one integer type: WrongType at a bound that isn't,
+/// NotStatic, StaticRange.
+#[tactic(auto, using(crate::proofs::Taken::bounds_taken))]
+pub fn static_bounds(
+    log: &mut Log,
+    out: &mut Parts,
+    first: u32,
+    must_hold: bool,
+    want: Option<Kind>,
+    low: Found,
+    high: Found,
+) -> Result<Option<Dimension>, AllocError>
+    ensures { Judges (spec.static_bounds first must_hold want (found low (second (parts out.old))) (found high (top (parts out.old))) log.old) (pop (pop (parts out.old))) result log.new (parts out.new) }
+{
+    let kind = preferred(want, low, high);
+    if !is_number(low) {
+        return no_span(log, out, first_of(low), Rule::WrongType);
+    }
+    if !(suits(kind, low) && suits(kind, high)) {
+        return no_span(log, out, first_of(high), Rule::WrongType);
+    }
+    match span_taken(log, kind, low, high)? {
+        None => {
+            out.leave_out();
+            Ok(None)
+        }
+        Some(span) => spanned(log, out, first, must_hold, kind, low, high, span),
+    }
+}
+
+/// The dimension of a scalar subtype, which mentions nothing: WrongType where it is no integer one.
+fn static_scalar(
+    log: &mut Log,
+    out: &mut Parts,
+    first: u32,
+    scalar: Scalar,
+) -> Result<Option<Dimension>, AllocError>
+    ensures { Judges (spec.static_scalar first scalar log.old) (pop (parts out.old)) result log.new (parts out.new) }
+{
+    out.leave_out();
+    out.nothing()?;
+    if is_integer(scalar.kind) {
+        return Ok(Some(Dimension {
+            kind: scalar.kind,
+            low: scalar.low,
+            high: scalar.high,
+        }));
+    }
+    breaks(log, first, Rule::WrongType)?;
+    Ok(None)
+}
+
+/// The dimension that a name is, the latest part: WrongType where it is no range and no integer subtype.
+pub fn static_name(
+    log: &mut Log,
+    out: &mut Parts,
+    first: u32,
+    denoted: Denoted,
+) -> Result<Option<Dimension>, AllocError>
+    ensures { Judges (spec.static_name first denoted (top (parts out.old)) log.old) (pop (parts out.old)) result log.new (parts out.new) }
+{
+    match denoted {
+        Denoted::Range { dimension, .. } => Ok(Some(dimension)),
+        Denoted::Type {
+            subtype: Subtype::Scalar(scalar),
+            ..
+        } => static_scalar(log, out, first, scalar),
+        _ => {
+            breaks(log, denoted_first(denoted), Rule::WrongType)?;
+            Ok(None)
+        }
+    }
+}
+
+/// A static range of a subtype, whose bounds are the latest parts: WrongType, NotStatic, StaticRange.
+#[tactic(auto, using(crate::proofs::Taken::checked_taken))]
+pub fn static_checked(
+    log: &mut Log,
+    out: &mut Parts,
+    first: u32,
+    must_hold: bool,
+    scalar: Scalar,
+    low: Found,
+    high: Found,
+) -> Result<Option<Dimension>, AllocError>
+    ensures { Judges (spec.static_checked first must_hold scalar (found low (second (parts out.old))) (found high (top (parts out.old))) log.old) (pop (pop (parts out.old))) result log.new (parts out.new) }
+{
+    if !is_integer(scalar.kind) {
+        return no_span(log, out, first, Rule::WrongType);
+    }
+    match span_taken(log, scalar.kind, low, high)? {
+        None => {
+            out.leave_out();
+            Ok(None)
+        }
+        Some(span) => checked_span(log, out, first, must_hold, scalar, low, high, span),
+    }
+}
+
+/// The value of a choice, the latest part.
+#[tactic(auto, using(crate::proofs::Taken::one_taken))]
+fn one_value(
+    log: &mut Log,
+    out: &mut Parts,
+    kind: Kind,
+    given: Found,
+) -> Result<Option<Chosen>, AllocError>
+    ensures { statics.Chooses (spec.one_value kind (found given (top (parts out.old))) log.old) (pop (parts out.old)) result log.new (parts out.new) }
+{
+    match value_taken(log, kind, given)? {
+        None => Ok(None),
+        Some(value) => {
+            mentions(out, given)?;
+            Ok(Some(Chosen {
+                at: first_of(given),
+                low: value,
+                high: value,
+            }))
+        }
+    }
+}
+
+/// The values of a choice from a bound to another, the latest parts.
+#[tactic(auto, using(crate::proofs::Taken::one_taken))]
+fn two_values(
+    log: &mut Log,
+    out: &mut Parts,
+    kind: Kind,
+    low: Found,
+    high: Found,
+) -> Result<Option<Chosen>, AllocError>
+    ensures { statics.Chooses (spec.two_values kind (found low (second (parts out.old))) (found high (top (parts out.old))) log.old) (pop (pop (parts out.old))) result log.new (parts out.new) }
+{
+    let u = value_taken(log, kind, low)?;
+    let v = value_taken(log, kind, high)?;
+    let (Some(u), Some(v)) = (u, v) else {
+        out.leave_out();
+        return Ok(None);
+    };
+    both_mentions(out, low, high)?;
+    Ok(Some(Chosen {
+        at: first_of(low),
+        low: u,
+        high: v,
+    }))
+}
+
+/// The value of a choice, the latest part, where its type is known: WrongType, StaticRange, NotStatic.
+pub fn values_of(
+    log: &mut Log,
+    out: &mut Parts,
+    kind: Option<Kind>,
+    given: Option<Found>,
+) -> Result<Option<Chosen>, AllocError>
+    ensures { statics.Chooses (spec.values_of kind (found_of given (top (parts out.old))) log.old) (pop (parts out.old)) result log.new (parts out.new) }
+{
+    match kind {
+        None => Ok(None),
+        Some(kind) => match given {
+            None => Ok(None),
+            Some(given) => one_value(log, out, kind, given),
+        },
+    }
+}
+
+/// The values of a choice from a bound to another, the latest parts, where their type is known.
+pub fn range_values(
+    log: &mut Log,
+    out: &mut Parts,
+    kind: Option<Kind>,
+    low: Option<Found>,
+    high: Option<Found>,
+) -> Result<Option<Chosen>, AllocError>
+    ensures { statics.Chooses (spec.range_values kind (found_of low (second (parts out.old)), found_of high (top (parts out.old))) log.old) (pop (pop (parts out.old))) result log.new (parts out.new) }
+{
+    let (Some(kind), Some(low), Some(high)) = (kind, low, high) else {
+        out.leave_out();
+        return Ok(None);
+    };
+    two_values(log, out, kind, low, high)
+}

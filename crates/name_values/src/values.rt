@@ -1,0 +1,428 @@
+//! What an expression was found to be, static values (4.9), and how an expression takes the type of its place.
+
+ghost use Rattle.std.specs.Prelude.{◌≡◌, ◌∷◌, OnOk};
+ghost use Rattle.ada_typed.specs.Decoded.{as_expr};
+ghost use Rattle.name_rules.specs.Judges.{Gives, Says, found};
+ghost use Rattle.name_rules.specs.TypedParts.{selections_of};
+ghost use Rattle.name_rules.specs.Values as spec;
+ghost use Rattle.typed_parts.specs.Stack.{parts, pop, top};
+
+use crate::logs::{breaks, cleared, not_given};
+use crate::types::{check_at, class_of, in_base, is_integer, same, typed_scalar};
+use name_rules::found::{Found, Limits, Place};
+use name_rules::log::{Log, Rule};
+use name_rules::types::{Kind, Scalar, Subtype};
+use std::alloc::AllocError;
+use typed_parts::Parts;
+
+/// The first token of an expression.
+pub fn first_of(found: Found) -> u32
+    ensures { result ≡ spec.first_of found }
+{
+    match found {
+        Found::Universal { first, .. } => first,
+        Found::Open { first, .. } => first,
+        Found::Static { first, .. } => first,
+        Found::Object(place) => place.first,
+        Found::Scalar { first, .. } => first,
+        Found::Composite { first, .. } => first,
+        Found::Rest { first } => first,
+        Found::Text { first } => first,
+    }
+}
+
+/// Whether an expression is of universal parts alone.
+pub fn is_universal(found: Found) -> bool
+    ensures { result ≡ spec.is_universal found }
+{
+    match found {
+        Found::Universal { .. } | Found::Open { .. } => true,
+        _ => false,
+    }
+}
+
+/// Its scalar type, where it has one.
+pub fn kind_of(found: Found) -> Option<Kind>
+    ensures { result ≡ spec.kind_of found }
+{
+    match found {
+        Found::Static { kind, .. } => Some(kind),
+        Found::Object(place) => match place.subtype {
+            Subtype::Scalar(scalar) => Some(scalar.kind),
+            Subtype::Composite(_) => None,
+        },
+        Found::Scalar { kind, .. } => Some(kind),
+        _ => None,
+    }
+}
+
+/// Its static value, where it has one.
+pub fn value_of(found: Found) -> Option<i128>
+    ensures { result ≡ spec.value_of found }
+{
+    match found {
+        Found::Universal { value, .. } => Some(value),
+        Found::Static { value, .. } => Some(i128::from(value)),
+        Found::Object(place) => match place.value {
+            Some(value) => Some(i128::from(value)),
+            None => None,
+        },
+        _ => None,
+    }
+}
+
+/// The nominal subtype of a name (3.5), which brackets hide.
+pub fn nominal_of(found: Found) -> Option<Scalar>
+    ensures { result ≡ spec.nominal_of found }
+{
+    match found {
+        Found::Object(place) => match place.subtype {
+            Subtype::Scalar(scalar) => Some(scalar),
+            Subtype::Composite(_) => None,
+        },
+        Found::Scalar { nominal, .. } => nominal,
+        _ => None,
+    }
+}
+
+/// Whether an expression is of an integer type or universal.
+pub fn is_number(found: Found) -> bool
+    ensures { result ≡ spec.is_number found }
+{
+    if is_universal(found) {
+        return true;
+    }
+    match kind_of(found) {
+        None => false,
+        Some(kind) => is_integer(kind),
+    }
+}
+
+/// Whether an expression is of a scalar type or universal.
+pub fn is_scalar(found: Found) -> bool
+    ensures { result ≡ spec.is_scalar found }
+{
+    is_universal(found) || kind_of(found).is_some()
+}
+
+/// Whether an expression has a type of its own, which is this one.
+pub fn is_kind(kind: Kind, own: Option<Kind>) -> bool
+    ensures { result ≡ spec.is_kind kind own }
+{
+    match own {
+        None => false,
+        Some(own) => same(own, kind),
+    }
+}
+
+/// Whether an expression is of this type, or a universal one that can take it.
+pub fn suits(kind: Kind, found: Found) -> bool
+    ensures { result ≡ spec.suits kind found }
+{
+    if is_universal(found) && is_integer(kind) {
+        return true;
+    }
+    is_kind(kind, kind_of(found))
+}
+
+/// The type that an expression has where none is asked: a universal one is Integer.
+pub fn own_kind(found: Found) -> Kind
+    ensures { result ≡ spec.own_kind found }
+{
+    match kind_of(found) {
+        None => Kind::Integer,
+        Some(kind) => kind,
+    }
+}
+
+/// What a static expression mentions, in place of its part.
+pub fn mentions(out: &mut Parts, given: Found) -> Result<(), AllocError>
+    ensures { OnOk result ((top (parts out.new) ≡ spec.mentions_of (found given (top (parts out.old)))) × (pop (parts out.new) ≡ pop (parts out.old))) }
+{
+    match given {
+        Found::Object(_) => cleared(out),
+        _ => Ok(()),
+    }
+}
+
+/// A static value, of the list of what it mentions.
+pub fn literal(out: &mut Parts, first: u32, value: i64, alone: bool) -> Result<(), AllocError>
+    ensures { OnOk result (parts out.new ≡ spec.literal first value alone (top (parts out.old)) ∷ pop (parts out.old)) }
+{
+    out.turn()?;
+    out.static_value(first, value, alone)
+}
+
+/// Whether a static value is in its type's base range: StaticRange where it isn't.
+#[tactic(auto, unfolding(name_rules::specs::Values::fitting))]
+pub fn fitting(log: &mut Log, kind: Kind, first: u32, value: i128) -> Result<bool, AllocError>
+    ensures { Says (spec.fitting kind first value log.old) result log.new }
+{
+    if in_base(kind, value) {
+        return Ok(true);
+    }
+    breaks(log, first, Rule::StaticRange)?;
+    Ok(false)
+}
+
+#[tactic(auto, unfolding(name_rules::specs::Values::valued))]
+fn valued(
+    log: &mut Log,
+    out: &mut Parts,
+    kind: Kind,
+    first: u32,
+    value: i128,
+    alone: bool,
+) -> Result<bool, AllocError>
+    ensures { Gives (spec.valued kind first value alone (top (parts out.old)) log.old) (pop (parts out.old)) result log.new (parts out.new) }
+{
+    if !in_base(kind, value) {
+        return not_given(log, out, first, Rule::StaticRange);
+    }
+    literal(out, first, value as i64, alone)?;
+    Ok(true)
+}
+
+/// The first static part of a universal expression that isn't in a type's base range.
+pub fn beyond(kind: Kind, limits: Limits) -> Option<u32>
+    ensures { result ≡ spec.beyond kind limits }
+{
+    match kind {
+        Kind::Own(_) => limits.wide,
+        _ => limits.narrow,
+    }
+}
+
+#[tactic(auto, unfolding(name_rules::specs::Values::settled))]
+fn settled(log: &mut Log, out: &mut Parts, kind: Kind, limits: Limits) -> Result<bool, AllocError>
+    ensures { Gives (spec.settled kind limits (as_expr (top (parts out.old))) log.old) (pop (parts out.old)) result log.new (parts out.new) }
+{
+    match beyond(kind, limits) {
+        Some(at) => not_given(log, out, at, Rule::StaticRange),
+        None => {
+            out.settle(class_of(kind))?;
+            Ok(true)
+        }
+    }
+}
+
+fn object_value(out: &mut Parts, place: Place, scalar: Scalar) -> Result<(), AllocError>
+    ensures { OnOk result (parts out.new ≡ spec.object_value place (selections_of (top (parts out.old))) scalar place.value ∷ pop (parts out.old)) }
+{
+    if let Some(value) = place.value {
+        cleared(out)?;
+        return literal(out, place.first, value, false);
+    }
+    out.turn()?;
+    if place.variable {
+        out.variable(place.first, place.root, typed_scalar(scalar))
+    } else {
+        out.constant(place.first, place.root, typed_scalar(scalar))
+    }
+}
+
+fn place_asked(log: &mut Log, out: &mut Parts, kind: Kind, place: Place) -> Result<bool, AllocError>
+    ensures { Gives (spec.place_asked kind place (selections_of (top (parts out.old))) place.subtype log.old) (pop (parts out.old)) result log.new (parts out.new) }
+{
+    match place.subtype {
+        Subtype::Scalar(scalar) => {
+            if same(scalar.kind, kind) {
+                object_value(out, place, scalar)?;
+                Ok(true)
+            } else {
+                not_given(log, out, place.first, Rule::WrongType)
+            }
+        }
+        Subtype::Composite(_) => not_given(log, out, place.first, Rule::WrongType),
+    }
+}
+
+/// An expression whose place asks for a type (8.6), in place of the latest part: WrongType where it has another one,
+/// StaticRange where a static part of a universal one isn't in the type's base range.
+#[tactic(auto, unfolding(name_rules::specs::Values::asked))]
+pub fn asked(log: &mut Log, out: &mut Parts, kind: Kind, given: Found) -> Result<bool, AllocError>
+    ensures { Gives (spec.asked kind (found given (top (parts out.old))) log.old) (pop (parts out.old)) result log.new (parts out.new) }
+{
+    match given {
+        Found::Universal {
+            first,
+            value,
+            literal,
+        } => {
+            if is_integer(kind) {
+                valued(log, out, kind, first, value, literal)
+            } else {
+                not_given(log, out, first, Rule::WrongType)
+            }
+        }
+        Found::Open { first, limits } => {
+            if is_integer(kind) {
+                settled(log, out, kind, limits)
+            } else {
+                not_given(log, out, first, Rule::WrongType)
+            }
+        }
+        Found::Static {
+            first,
+            kind: own,
+            value,
+        } => {
+            if same(own, kind) {
+                literal(out, first, value, false)?;
+                Ok(true)
+            } else {
+                not_given(log, out, first, Rule::WrongType)
+            }
+        }
+        Found::Object(place) => place_asked(log, out, kind, place),
+        Found::Scalar {
+            first,
+            kind: own,
+            ..
+        } => {
+            if same(own, kind) {
+                Ok(true)
+            } else {
+                not_given(log, out, first, Rule::WrongType)
+            }
+        }
+        Found::Composite { first, .. } => not_given(log, out, first, Rule::WrongType),
+        Found::Rest { first } => not_given(log, out, first, Rule::WrongType),
+        Found::Text { first } => not_given(log, out, first, Rule::WrongType),
+    }
+}
+
+/// An expression whose place asks for no type takes its own.
+#[tactic(auto, unfolding(name_rules::specs::Values::settled_found))]
+pub fn settled_found(log: &mut Log, out: &mut Parts, given: Found) -> Result<bool, AllocError>
+    ensures { Gives (spec.settled_found (found given (top (parts out.old))) log.old) (pop (parts out.old)) result log.new (parts out.new) }
+{
+    asked(log, out, own_kind(given), given)
+}
+
+/// An expression whose place asks for some integer type: WrongType where it has another one.
+#[tactic(auto, unfolding(name_rules::specs::Values::any_integer))]
+pub fn any_integer(log: &mut Log, out: &mut Parts, given: Found) -> Result<bool, AllocError>
+    ensures { Gives (spec.any_integer (found given (top (parts out.old))) log.old) (pop (parts out.old)) result log.new (parts out.new) }
+{
+    if is_number(given) {
+        settled_found(log, out, given)
+    } else {
+        not_given(log, out, first_of(given), Rule::WrongType)
+    }
+}
+
+/// An expression whose place asks for some scalar type: WrongType where it has another one.
+#[tactic(auto, unfolding(name_rules::specs::Values::any_scalar))]
+pub fn any_scalar(log: &mut Log, out: &mut Parts, given: Found) -> Result<bool, AllocError>
+    ensures { Gives (spec.any_scalar (found given (top (parts out.old))) log.old) (pop (parts out.old)) result log.new (parts out.new) }
+{
+    if is_scalar(given) {
+        settled_found(log, out, given)
+    } else {
+        not_given(log, out, first_of(given), Rule::WrongType)
+    }
+}
+
+/// The value of an expression that has to be static (4.9): NotStatic where it has none.
+pub fn static_value(
+    log: &mut Log,
+    first: u32,
+    value: Option<i128>,
+) -> Result<Option<i128>, AllocError>
+    ensures { Says (spec.static_value first value log.old) result log.new }
+{
+    match value {
+        Some(value) => Ok(Some(value)),
+        None => {
+            breaks(log, first, Rule::NotStatic)?;
+            Ok(None)
+        }
+    }
+}
+
+/// The value of a static expression of any integer type, or a universal one: WrongType, NotStatic.
+#[tactic(auto, unfolding(name_rules::specs::Values::static_integer))]
+pub fn static_integer(log: &mut Log, given: Found) -> Result<Option<i128>, AllocError>
+    ensures { Says (spec.static_integer given log.old) result log.new }
+{
+    if is_number(given) {
+        static_value(log, first_of(given), value_of(given))
+    } else {
+        breaks(log, first_of(given), Rule::WrongType)?;
+        Ok(None)
+    }
+}
+
+fn whole_of(log: &mut Log, out: &mut Parts, number: u32, place: Place) -> Result<bool, AllocError>
+    ensures { Gives (spec.whole_of number place (selections_of (top (parts out.old))) place.subtype log.old) (pop (parts out.old)) result log.new (parts out.new) }
+{
+    match place.subtype {
+        Subtype::Scalar(_) => not_given(log, out, place.first, Rule::WrongType),
+        Subtype::Composite(own) => {
+            if number != own {
+                return not_given(log, out, place.first, Rule::WrongType);
+            }
+            out.turn()?;
+            if place.variable {
+                out.whole_variable(place.first, place.root, own)?;
+            } else {
+                out.whole_constant(place.first, place.root, own)?;
+            }
+            Ok(true)
+        }
+    }
+}
+
+/// An expression whose place asks for an array or record type, by its number in the table of subtypes: WrongType
+/// where it has another one. Two are the same only if they come from one declaration.
+#[tactic(auto, unfolding(name_rules::specs::Values::composite_asked))]
+pub fn composite_asked(
+    log: &mut Log,
+    out: &mut Parts,
+    number: u32,
+    given: Found,
+) -> Result<bool, AllocError>
+    ensures { Gives (spec.composite_asked number (found given (top (parts out.old))) log.old) (pop (parts out.old)) result log.new (parts out.new) }
+{
+    match given {
+        Found::Composite { first, number: own } => {
+            if number == own {
+                Ok(true)
+            } else {
+                not_given(log, out, first, Rule::WrongType)
+            }
+        }
+        Found::Object(place) => whole_of(log, out, number, place),
+        _ => not_given(log, out, first_of(given), Rule::WrongType),
+    }
+}
+
+/// A value that is stored in a place of a subtype, with a check at a token where it is a scalar.
+#[tactic(auto, unfolding(name_rules::specs::Values::stored))]
+pub fn stored(
+    log: &mut Log,
+    out: &mut Parts,
+    subtype: Subtype,
+    at: u32,
+    given: Found,
+) -> Result<bool, AllocError>
+    ensures { Gives (spec.stored subtype at (found given (top (parts out.old))) log.old) (pop (parts out.old)) result log.new (parts out.new) }
+{
+    match subtype {
+        Subtype::Scalar(scalar) => {
+            if !asked(log, out, scalar.kind, given)? {
+                return Ok(false);
+            }
+            out.number(check_at(at, scalar))?;
+            Ok(true)
+        }
+        Subtype::Composite(number) => {
+            if !composite_asked(log, out, number, given)? {
+                return Ok(false);
+            }
+            out.cells()?;
+            Ok(true)
+        }
+    }
+}
