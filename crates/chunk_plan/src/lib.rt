@@ -8,4 +8,4 @@ pub mod plan_cuts;
 
 pub use even_division::{Range, even};
 pub use plan::{Cuts, Plan, Setting};
-pub use plan_cuts::cuts;
+pub use plan_cuts::{cuts, evenly};

@@ -42,7 +42,9 @@ fn with_rest(mut sizes: Items<u64>, rest: u64) -> Result<Items<u64>, AllocError>
     Ok(sizes)
 }
 
-fn evenly(alloc: Global, n: u64, chunks: u32) -> Result<Items<u64>, AllocError>
+/// The sizes of so many parts that are as equal as can be, the greater ones first (5.5). A part is empty where there are
+/// fewer iterations than parts. An Err is want of memory.
+pub fn evenly(alloc: Global, n: u64, chunks: u32) -> Result<Items<u64>, AllocError>
     ensures { IfOk result (λ sizes. sizes ≡ evens n chunks) }
 {
     let mut sizes = Items::new(alloc);

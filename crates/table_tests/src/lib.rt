@@ -22,4 +22,6 @@ mod places;
 #[cfg(test)]
 mod plans;
 #[cfg(test)]
+mod readers;
+#[cfg(test)]
 mod tokens;
