@@ -1,3 +1,4 @@
 pub mod FieldLists
 pub mod OpenRanges
 pub mod Runs
+pub mod Widths

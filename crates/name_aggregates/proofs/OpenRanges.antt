@@ -43,6 +43,12 @@ open_next rs i r os low high e f g =
     by true xs = behind_nil os xs
     by false xs = behind_one os (low, r.0 -ℤ pos 1) xs
 
+pub open_further : (rs : List (ℤ × ℤ)) (i : ℕ) (r : ℤ × ℤ) (os ps : List (ℤ × ℤ)) (low high next : ℤ) → slice_get rs i ≡ Some r → int_lt r.0 low ≡ false → int_lt high r.1 ≡ false → ps ≡ os ++ gap_before low r.0 → next ≡ r.1 +ℤ pos 1 → behind os (left_open low high (drop i rs)) ≡ behind ps (left_open next high (drop (i + 1) rs))
+open_further rs i r os ps low high next e f g o n =
+    open_next rs i r os low high e f g
+    ∙ ap (λ xs. behind xs (left_open (r.1 +ℤ pos 1) high (drop (i + 1) rs))) (sym o)
+    ∙ ap (λ z. behind ps (left_open z high (drop (i + 1) rs))) (sym n)
+
 pub open_below : (rs : List (ℤ × ℤ)) (i : ℕ) (r : ℤ × ℤ) (os : List (ℤ × ℤ)) (low high : ℤ) → slice_get rs i ≡ Some r → int_lt r.0 low ≡ true → behind os (left_open low high (drop i rs)) ≡ None
 open_below rs i r os low high e f = ap (λ xs. behind os (left_open low high xs)) (drop_get rs i r e) ∙ rw f refl
 

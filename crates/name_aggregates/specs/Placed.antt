@@ -1,5 +1,5 @@
 -- What code keeps of an array's aggregate while its parts are joined.
-use Rattle.std.specs.Prelude.{Bool, true, false, List, Option, Some, None, ℤ, ℕ, option_map}
+use Rattle.std.specs.Prelude.{Bool, true, false, List, Option, Some, None, ℤ}
 use Rattle.ada_typed.specs.Decoded.{Part}
 use Rattle.ada_typed.specs.declared.expressions.Run.{Run}
 use Rattle.name_aggregates.specs.declared.placing.Choosing.{Choosing}

@@ -1,2 +1,3 @@
 mod Smallest
 mod Lists
+mod Steps

@@ -1,9 +1,9 @@
 -- The least fault of a list is one of it, and none is less.
-use Rattle.std.proofs.Common.{◌≡◌, refl, sym, ap, subst, ◌∙◌, ℕ, ◌≤◌, Bool, true, false, List, [], ◌∷◌, Option, Some, None, arith, ◌⊎◌, inl, inr, ⊎_elim}
+use Rattle.std.proofs.Common.{◌≡◌, refl, ap, subst, ◌∙◌, ◌≤◌, Bool, true, false, List, [], ◌∷◌, Some, None, arith, ◌⊎◌, inl, inr, ⊎_elim}
 use Rattle.std.proofs.lemmas.Bool.{leb-false, leb-true}
 use Rattle.std.specs.Prelude.{if◌then◌else◌, nat_le}
 use Rattle.name_faults.specs.Least.{IsLeastOf, better, least_from, least_of}
-use Rattle.name_rules.specs.Resolved.{IsIn, IsLeast, key}
+use Rattle.name_rules.specs.Resolved.{IsIn, key}
 use Rattle.name_rules.specs.declared.log.Fault.{Fault}
 
 -- one of two faults, and no greater than either

@@ -1,5 +1,5 @@
 -- The least fault of a list: of the least token, then of the least code, then the first.
-use Rattle.std.specs.Prelude.{◌≡◌, ◌≤◌, ℕ, List, [], ◌∷◌, Option, Some, None, if◌then◌else◌, nat_le}
+use Rattle.std.specs.Prelude.{List, [], ◌∷◌, Option, Some, None, if◌then◌else◌, nat_le}
 use Rattle.name_rules.specs.Resolved.{IsIn, IsLeast, key}
 use Rattle.name_rules.specs.declared.log.Fault.{Fault}
 

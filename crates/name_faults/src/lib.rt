@@ -40,7 +40,7 @@ fn less(best: Fault, fault: Fault) -> Fault
 }
 
 /// The least of some faults, of which it gives the first.
-#[tactic(auto, using(crate::proofs::Lists::drop_get, crate::proofs::Lists::drop_none, crate::proofs::Lists::drop_past))]
+#[tactic(auto, using(crate::proofs::Steps::least_empty, crate::proofs::Steps::least_first, crate::proofs::Steps::least_step, crate::proofs::Steps::least_end, crate::proofs::Steps::least_stop))]
 fn first_least(faults: &Items<Fault>) -> Option<Fault>
     ensures { result ≡ least_of faults.now }
 {

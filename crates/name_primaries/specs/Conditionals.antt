@@ -1,11 +1,10 @@
 -- What is found of the values of a conditional expression (4.5.7), with its parts: the conditions and values so far are a
 -- list that grows.
-use Rattle.std.specs.Prelude.{◌≡◌, List, Bool, true, false, Option, Some, None, Result, Ok, Err, reverse, ◌∷◌}
+use Rattle.std.specs.Prelude.{◌≡◌, List, Bool, true, false, Option, Some, None, Result, Ok, Err, reverse}
 use Rattle.ada_typed.specs.Decoded.{Part}
-use Rattle.name_rules.specs.Judges.{part_if, open_with}
+use Rattle.name_rules.specs.Judges.{part_if}
 use Rattle.name_rules.specs.Primaries.{Waiting}
 use Rattle.name_rules.specs.declared.found.Found.{Found}
-use Rattle.name_rules.specs.declared.found.Limits.{Limits}
 use Rattle.name_rules.specs.declared.log.Log.{Log}
 use Rattle.typed_parts.specs.Stack.{top, pop}
 

@@ -1,6 +1,6 @@
 //! The typed program of a syntax tree, or its least fault.
 
-ghost use Rattle.std.specs.Prelude.{◌≡◌, ◌×◌, IfOk, MatchResult, None, Some, option_map};
+ghost use Rattle.std.specs.Prelude.{◌≡◌, IfOk, MatchResult, None, Some, option_map};
 ghost use Rattle.ada_tree.specs.Syntax.{Program};
 ghost use Rattle.ada_typed.specs.Programs as typed_program;
 ghost use Rattle.name_programs.specs.Forms.{whole_if};

@@ -209,8 +209,8 @@ runs_of d apart [] = Some []
 runs_of d apart (r ∷ rs) = with_run d apart r (runs_of d apart rs)
 
 abbrev pub with_runs : Option Iterated → TypedPart → Option (List Run) → Option TypedPart → Option TypedPart → Option TypedPart
-with_runs i ms None done v = None
-with_runs i ms (Some rs) done v = joined (with_value rs i ms) done v
+with_runs i ms None before v = None
+with_runs i ms (Some rs) before v = joined (with_value rs i ms) before v
 
 -- what was given of a dimension so far: the ranges, the associations, and the value of the rest, which comes last
 pub record Placing : Type 0 where

@@ -1,3 +1,4 @@
 mod Lists
 mod Reversed
+mod Taking
 mod Whole

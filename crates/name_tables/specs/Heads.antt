@@ -1,5 +1,5 @@
 -- The subprograms of a typed program, of what is known of them and of their parts.
-use Rattle.std.specs.Prelude.{Bool, true, false, List, [], ◌∷◌, Option, Some, None, reverse}
+use Rattle.std.specs.Prelude.{Bool, List, [], ◌∷◌, reverse}
 use Rattle.ada_typed.specs.Decoded.{Part, as_body, as_formals}
 use Rattle.ada_typed.specs.Syntax.{Sub}
 use Rattle.name_rules.specs.Programs.{Whole}

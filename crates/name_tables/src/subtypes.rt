@@ -128,7 +128,7 @@ fn numbered(nodes: &Nodes, shape: &Shape, list: u32) -> Subtype
 }
 
 /// The subtypes of the latest parts.
-#[tactic(auto, using(crate::proofs::Lists::drop_get, crate::proofs::Lists::drop_none, crate::proofs::Lists::drop_less, crate::proofs::Lists::map_one, crate::proofs::Lists::append_one))]
+#[tactic(auto, using(crate::proofs::Lists::drop_less))]
 pub fn subtypes_taken(
     alloc: Global,
     finished: &mut Finished,

@@ -15,7 +15,6 @@ use std::alloc::AllocError;
 use typed_parts::Parts;
 
 /// The typed program: its latest part is its body, and before it are those of its subprograms.
-#[tactic(auto, using(crate::proofs::Whole::typed_is))]
 pub fn typed(
     out: Parts,
     log: Log,

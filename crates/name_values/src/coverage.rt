@@ -154,7 +154,7 @@ fn later(a: i128, b: i128) -> i128
 }
 
 /// Whether a value from one to another is in none of the ranges, which are in order.
-#[tactic(auto, using(crate::proofs::Open::open_before, crate::proofs::Open::open_behind, crate::proofs::Open::open_end, crate::proofs::Lists::drop_less))]
+#[tactic(auto, using(crate::proofs::Open::open_end, crate::proofs::Lists::drop_less))]
 fn leaves_open(low: i128, high: i128, ranges: &[(i64, i64)]) -> bool
     ensures { result ≡ spec.is_open low high ranges.now }
 {
@@ -170,7 +170,6 @@ fn leaves_open(low: i128, high: i128, ranges: &[(i64, i64)]) -> bool
     from <= high
 }
 
-#[tactic(auto, using(crate::proofs::Covered::open_sorted))]
 fn is_open(scalar: Scalar, ranges: Items<(i64, i64)>) -> bool
     ensures { result ≡ spec.is_open scalar.low scalar.high (sorted (reverse ranges)) }
 {

@@ -1,4 +1,4 @@
-use Rattle.std.proofs.Common.{◌≡◌, ◌≤◌, ◌-◌, length, drop, map}
+use Rattle.std.proofs.Common.{◌≡◌, ◌-◌, length, drop, map}
 use Rattle.std.specs.Prelude.{bytes_eq}
 use Rattle.std.specs.Str.{chars}
 use Rattle.ada_base.specs.Folding.{folded}
