@@ -4,3 +4,4 @@ mod Options
 mod Outcomes
 mod Scopes
 mod Subs
+mod Wholes

@@ -2,7 +2,7 @@
 use Rattle.std.proofs.Common.{◌≡◌, refl, ℕ, zero, suc, ◌≤◌, List, [], ◌∷◌, ◌++◌, length, drop, arith}
 use Rattle.std.proofs.lemmas.List.{append-nil}
 use Rattle.std.proofs.lemmas.Slice.{between_to_end}
-use Rattle.std.specs.Prelude.{between}
+use Rattle.std.specs.List.{between}
 
 pub between_end : {A : Type 0} (xs : List A) (i : ℕ) → between i (length xs) xs ≡ drop i xs
 between_end xs i = between_to_end xs i (length xs) (omega arith)

@@ -4,15 +4,17 @@ use Rattle.ada_tree.specs.declared.operators.ClauseWord.{ClauseWord}
 use Rattle.ada_typed.specs.Syntax.{Sub as TypedSub}
 use Rattle.name_rules.specs.Judging.{Judging, pure, ◌>>=◌}
 use Rattle.name_rules.specs.Programs as whole
-use Rattle.name_rules.specs.Programs.{Profiled, clause_name, clause_packs, pack, profile, with_value_of}
+use Rattle.name_rules.specs.Programs.{Profiled, clause_name, clause_packs, formals_from, pack, profile, with_value_of}
 use Rattle.name_rules.specs.Scope.{entry}
+use Rattle.name_rules.specs.Symbols.{ada_name, integer_io_name, text_io_name}
+use Rattle.name_rules.specs.declared.log.Taken.{Taken}
 use Rattle.name_rules.specs.declared.scope.Context.{Context}
 use Rattle.name_rules.specs.declared.scope.Entry.{Entry}
 use Rattle.name_rules.specs.declared.scope.Names.{Names}
 use Rattle.name_rules.specs.declared.scope.What.TheVariants as what
 use Rattle.name_rules.specs.declared.types.Kind.{Kind}
 use Rattle.name_rules.specs.declared.types.Subtype.TheVariants as subtype
-use Rattle.std.specs.Prelude.{Bool, None, Option, Some, false, true, ℕ, ℤ, ◌∷◌}
+use Rattle.std.specs.Prelude.{Bool, List, None, Option, Some, false, length, true, ℕ, ℤ, ◌&&◌, ◌==◌, ◌||◌, ◌∷◌}
 use Rattle.tree_nodes.specs.Parts.{Bracketed, Implementation}
 
 abbrev pub clause_pack : Names → ClauseWord → Context → Pack → Judging Context
@@ -35,6 +37,14 @@ implemented names n blocking start here name result fs a i = profile names start
 
 abbrev pub expressed : Names → ℕ → Bool → ℕ → Context → ℕ → ℕ → Option Formals → Option Aspect → Bracketed → Judging (Context × Option TypedSub)
 expressed names n blocking start here name result fs a b = profile names start here name (Some result) fs >>= λ p. with_value_of names n blocking p a b.value >>= λ s. pure (p.outer, s)
+
+-- the parameters of a formal part, behind others
+abbrev pub all_formals : Names → Bool → Context → Option (List Taken) → Formals → Judging (Context × Option (List Taken))
+all_formals names function here done f = formals_from names function (length here.scope) here done (f.first ∷ f.more)
+
+-- whether identifiers behind the name of a library may go on with this one
+abbrev pub goes_on : ℕ → ℕ → Bool
+goes_on library name = library == ada_name && (name == text_io_name || name == integer_io_name)
 
 -- a name of package Standard (A.1) that is a subtype
 abbrev pub subtype_entry : ℕ → Kind → ℤ → ℤ → Entry

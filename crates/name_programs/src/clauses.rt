@@ -62,6 +62,12 @@ pub fn policy(
     }
 }
 
+fn goes_on(library: u32, name: u32) -> bool
+    ensures { result ≡ step.goes_on library name }
+{
+    library == ADA && (name == TEXT_IO || name == INTEGER_IO)
+}
+
 /// The library that identifiers behind another one name: Unknown at the first behind which there is none.
 fn pack_end(
     names: &Names,
@@ -77,7 +83,8 @@ fn pack_end(
     'tokens: while let Some(cell) = tree.cell(next) {
         let token = tree.token(cell.first);
         let name = symbol(names, token);
-        if !(named == ADA && (name == TEXT_IO || name == INTEGER_IO)) {
+        let behind = goes_on(named, name);
+        if !behind {
             breaks(log, token, Rule::Unknown)?;
             return Ok(None);
         }

@@ -1,7 +1,8 @@
 //! Formal parameters (6.1), which with the local declarations are one region.
 
-ghost use Rattle.std.specs.Prelude.{◌≡◌, IfOk, OnOk};
+ghost use Rattle.std.specs.Prelude.{◌≡◌, IfOk, OnOk, true};
 ghost use Rattle.name_programs.specs.Forms.{Changes, Takes, taken_if};
+ghost use Rattle.name_programs.specs.Steps as step;
 ghost use Rattle.name_rules.specs.Judging.{joined};
 ghost use Rattle.name_rules.specs.Programs as spec;
 ghost use Rattle.tree_nodes.specs.Parts.{the_formal, the_formal_list, the_formals};
@@ -219,6 +220,30 @@ fn formals_from(
     Ok(whole)
 }
 
+/// The parameter specifications of a formal part, whose parameters join those of the list. No part is left.
+fn all_formals(
+    names: &Names,
+    here: &mut Context,
+    log: &mut Log,
+    out: &mut Parts,
+    function: bool,
+    takes: &mut Items<Taken>,
+    tree: &Tree,
+    id: u32,
+) -> Result<bool, AllocError>
+    ensures { Takes (step.all_formals names.now function here.old (taken_if true takes.old) (the_formals (part_at tree.now.nodes id)) log.old) result here.new takes.new log.new × OnOk result (parts out.new ≡ parts out.old) }
+{
+    let view = tree.formals(id);
+    let start = here.scope.len();
+    let first = formal(
+        names, here, log, out, function, start, true, takes, tree, view.first,
+    )?;
+    let whole = formals_from(
+        names, here, log, out, function, start, first, takes, tree, view.more,
+    )?;
+    Ok(whole)
+}
+
 /// The formal part of a subprogram, whose parameters are all that the list holds then: Twice at a second one of a name; WrongType at
 /// the mode of a function's that isn't of mode `in`. No part is left.
 pub fn formals(
@@ -237,13 +262,6 @@ pub fn formals(
     let Some(id) = given else {
         return Ok(true);
     };
-    let view = tree.formals(id);
-    let start = here.scope.len();
-    let first = formal(
-        names, here, log, out, function, start, true, takes, tree, view.first,
-    )?;
-    let whole = formals_from(
-        names, here, log, out, function, start, first, takes, tree, view.more,
-    )?;
+    let whole = all_formals(names, here, log, out, function, takes, tree, id)?;
     Ok(whole)
 }

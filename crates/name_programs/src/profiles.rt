@@ -194,7 +194,6 @@ fn taken_or(takes: &mut Items<Taken>, whole: bool)
 
 /// The profile of a subprogram, which is declared at its end: Twice at its name where the region has that already;
 /// WrongType at a mode or at the result's name. No part is left.
-#[tactic(auto, unfolding(name_rules::specs::Programs::profile))]
 pub fn profile(
     names: &Names,
     start: usize,

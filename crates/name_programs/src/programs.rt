@@ -1,6 +1,6 @@
 //! The main procedure and the whole program (10.1).
 
-ghost use Rattle.std.specs.Prelude.{◌≡◌, ◌-◌, IfOk};
+ghost use Rattle.std.specs.Prelude.{◌≡◌, ◌-◌, ◌&&◌, IfOk};
 ghost use Rattle.name_programs.specs.Forms.{Units, declared_so, headed_if, subs_if, whole_if};
 ghost use Rattle.name_programs.specs.Steps as step;
 ghost use Rattle.name_rules.specs.Judging.{joined};
@@ -139,9 +139,15 @@ fn units(
     Ok(so_far)
 }
 
+/// Whether a body and subprograms have no fault.
+fn both(body: bool, subs: bool) -> bool
+    ensures { result ≡ (body && subs) }
+{
+    body && subs
+}
+
 /// The main procedure, in so many levels as may be open in a statement of it. The latest parts are its body, and before it
 /// those of its subprograms.
-#[tactic(auto, unfolding(name_rules::specs::Programs::main, name_tables::specs::Heads::subs_of), using(crate::proofs::Levels::around_up, crate::proofs::Subs::main_joined))]
 fn main(
     names: &Names,
     levels: u32,
@@ -189,11 +195,12 @@ fn main(
         view.body,
     )?;
     end_name(names, log, view.defined, view.last_name)?;
+    let whole = both(held, sound.subs);
     Ok(Judged {
         heads,
         nonblocking,
         strict,
-        whole: held && sound.subs,
+        whole,
     })
 }
 
