@@ -17,9 +17,9 @@ ghost use Rattle.typed_parts.specs.Stack.{parts};
 use crate::array_aggregates::array_at;
 use crate::contents::{Contents, listed, one_listed};
 use crate::expressions::judged_alone;
-use crate::primaries::no_primary;
 use crate::record_aggregates::record_aggregate;
 use name_aggregates::fields::fields_of;
+use name_primaries::brackets::no_expression;
 use name_rules::found::Found;
 use name_rules::log::{Log, Rule};
 use name_rules::scope::{Context, Names};
@@ -204,7 +204,7 @@ fn misplaced(
         out.nothing()?;
         return Ok(None);
     }
-    no_primary(log, out, bracket, Rule::WrongType)
+    no_expression(log, out, bracket, Rule::WrongType)
 }
 
 /// An aggregate whose place asks for something.

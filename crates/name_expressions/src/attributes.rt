@@ -32,7 +32,7 @@ fn first_in(tree: &Tree, more: u32) -> Option<u32>
     ensures { result ≡ spec.first_named (calls.arg_names (the_args (part_at tree.now.nodes more))) }
 {
     let mut next = more;
-    'args: while let Some(cell) = tree.cell(next) {
+    'each: while let Some(cell) = tree.cell(next) {
         match tree.arg(cell.first).formal {
             Some(name) => return Some(name),
             None => next = cell.rest,

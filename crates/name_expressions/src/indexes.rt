@@ -58,7 +58,7 @@ pub fn args_alone(
     ensures { OnOk result ((spec.args_alone names.now (primaries.inside names.now levels) here.now (the_args (part_at tree.now.nodes more)) log.old ≡ (tt, log.new)) × (parts out.new ≡ parts out.old)) }
 {
     let mut next = more;
-    'args: while let Some(cell) = tree.cell(next) {
+    'each: while let Some(cell) = tree.cell(next) {
         arg_alone(names, levels, here, log, out, tree, cell.first)?;
         next = cell.rest;
     }
@@ -98,7 +98,7 @@ pub fn count(tree: &Tree, more: u32) -> Result<usize, AllocError>
 {
     let mut n = 0;
     let mut next = more;
-    'args: while let Some(cell) = tree.cell(next) {
+    'each: while let Some(cell) = tree.cell(next) {
         if n == usize::MAX {
             return Err(AllocError);
         }

@@ -266,11 +266,11 @@ fn primary(
                 log,
                 out,
                 bracket,
+                attribute,
                 tree,
                 given.parallel,
                 given.iter,
                 given.value,
-                attribute,
                 reducer,
                 initial,
             )

@@ -67,7 +67,7 @@ fn fields_value(
 {
     let mut whole = done;
     let mut i = place;
-    'fields: while let Some(field) = field_at(fields, i) {
+    'each: while let Some(field) = field_at(fields, i) {
         whole = field_value(names, levels, here, log, out, whole, field, tree, id)?;
         if i == usize::MAX {
             return Err(AllocError);

@@ -1,5 +1,5 @@
 -- A list from a place on.
-use Rattle.std.proofs.Common.{◌≡◌, ap, refl, subst, ℕ, zero, suc, ◌+◌, ◌-◌, ◌<◌, ◌≤◌, List, [], ◌∷◌, ◌++◌, length, Some, None, drop, arith}
+use Rattle.std.proofs.Common.{◌≡◌, ap, refl, ℕ, zero, suc, ◌+◌, ◌-◌, ◌<◌, ◌≤◌, List, [], ◌∷◌, ◌++◌, length, Some, None, drop, arith}
 use Rattle.std.proofs.Math.ListN.{get_or}
 use Rattle.std.proofs.lemmas.List.{append_assoc, drop_more}
 use Rattle.std.proofs.lemmas.Option.{get_or_from_slice_get, slice_get_within}
@@ -23,10 +23,6 @@ drop_none (y ∷ xs) (suc i) e = drop_none xs i e
 pub drop_less : {A : Type 0} (xs : List A) (i : ℕ) (x : A) → slice_get xs i ≡ Some x → length xs - (i + 1) < length xs - i
 drop_less xs i x e = omega (arith, slice_get_within xs i x e)
 
-pub drop_all : {A : Type 0} (xs : List A) → drop (length xs) xs ≡ []
-drop_all [] = refl
-drop_all (x ∷ xs) = drop_all xs
-
 pub map_one : {A B : Type 0} (f : A → B) (xs : List A) (x : A) → map f (xs ++ x ∷ []) ≡ map f xs ++ f x ∷ []
 map_one f [] x = refl
 map_one f (y ∷ xs) x = ap (λ zs. f y ∷ zs) (map_one f xs x)
@@ -40,7 +36,3 @@ drop_past [] zero h = refl
 drop_past [] (suc i) h = refl
 drop_past (y ∷ xs) zero h = absurd (omega (arith, h))
 drop_past (y ∷ xs) (suc i) h = drop_past xs i (omega (arith, h))
-
-pub drop_back : {A : Type 0} (xs : List A) (i : ℕ) (x : A) → 0 < i → slice_get xs (i - 1) ≡ Some x → drop (i - 1) xs ≡ x ∷ drop i xs
-drop_back xs i x h e =
-    let back : i - 1 + 1 ≡ i = omega (arith, h) in subst (λ k. drop (i - 1) xs ≡ x ∷ drop k xs) back (drop_get xs (i - 1) x e)

@@ -19,7 +19,6 @@ pub struct Numbered {
 }
 
 /// Whether two texts are the same identifier.
-#[tactic(auto, using(crate::proofs::Alike::alike_by))]
 fn same(a: &str, b: &str) -> bool
     ensures { result ≡ spec.alike (folded a.now) (folded b.now) }
 {

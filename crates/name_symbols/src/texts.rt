@@ -1,6 +1,6 @@
 //! The bytes of string literals (2.6).
 
-ghost use Rattle.std.specs.Prelude.{◌≡◌, [], IfOk, map};
+ghost use Rattle.std.specs.Prelude.{◌≡◌, [], IfOk, false, map};
 ghost use Rattle.ada_base.specs.Tokens.{kind_at, slice_at};
 ghost use Rattle.name_symbols.specs.Naming as spec;
 

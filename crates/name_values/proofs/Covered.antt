@@ -1,5 +1,5 @@
 -- Which values lists of ranges leave open: it doesn't matter in which order they came.
-use Rattle.std.proofs.Common.{Ordering, ◌≡◌, refl, sym, ◌∙◌, ap, subst, true≢false, ℕ, zero, suc, ◌+◌, ◌<◌, ◌≤◌, ℤ, pos, ◌+ℤ◌, int_le, int_lt, Bool, true, false, cond, ◌&&◌, ◌||◌, not, if◌then◌else◌, List, [], ◌∷◌, ◌++◌, length, reverse, arith}
+use Rattle.std.proofs.Common.{Ordering, ◌≡◌, refl, sym, ◌∙◌, subst, true≢false, suc, ◌+◌, ℤ, pos, ◌+ℤ◌, int_le, int_lt, Bool, true, false, ◌&&◌, ◌||◌, if◌then◌else◌, List, [], ◌∷◌, ◌++◌, reverse, arith}
 use Rattle.std.specs.List.{list_any}
 use Rattle.std.specs.List.Sorted.{IsPermutation, IsSorted}
 use Rattle.std.specs.Ordering.{int_cmp, is_lt, ordering_then}
@@ -7,7 +7,7 @@ use Rattle.std.specs.Prelude.{slice_index_or}
 use Rattle.std.proofs.lemmas.Bool.Decides.{nat_tests}
 use Rattle.std.proofs.lemmas.Int.{ints}
 use Rattle.std.proofs.lemmas.List.{append_assoc, reverse-append}
-use Rattle.std.proofs.lemmas.List.Sorted.{IsPermutation-reverse, IsPermutation-sym, IsPermutation-trans, list_any-IsPermutation}
+use Rattle.std.proofs.lemmas.List.Sorted.{IsPermutation-reverse, list_any-IsPermutation}
 use Rattle.name_rules.specs.Aggregates.{insert, sorted}
 use Rattle.name_rules.specs.Cases as cases
 

@@ -1,5 +1,5 @@
 -- Operands by their parts.
-use Rattle.std.proofs.Common.{◌≡◌, ◌≢◌, refl, ap, ℕ, ◌+◌, List, [], ◌∷◌, ◌++◌, None, reverse, length, arith, length-append}
+use Rattle.std.proofs.Common.{◌≡◌, ◌≢◌, refl, ap, ℕ, List, [], ◌∷◌, ◌++◌, None, reverse, length, arith, length-append}
 use Rattle.std.proofs.lemmas.List.{reverse-append, length-reverse}
 use Rattle.ada_typed.specs.Decoded.{Cons, Part}
 use Rattle.name_rules.specs.Calls.{one_operand}

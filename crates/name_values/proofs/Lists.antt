@@ -1,5 +1,5 @@
 -- A list from a place on.
-use Rattle.std.proofs.Common.{add-one, ◌≡◌, refl, ap, ℕ, zero, suc, ◌+◌, ◌-◌, ◌<◌, ◌≤◌, List, [], ◌∷◌, length, Option, Some, None, drop, arith}
+use Rattle.std.proofs.Common.{add-one, ◌≡◌, refl, ℕ, zero, suc, ◌+◌, ◌-◌, ◌<◌, ◌≤◌, List, [], ◌∷◌, length, Some, None, drop, arith}
 use Rattle.std.specs.Prelude.{slice_get}
 use Rattle.name_rules.specs.Types.{array_cells, stride}
 use Rattle.name_rules.specs.declared.log.Dimension.{Dimension}

@@ -1,5 +1,5 @@
 -- Whether a value is left open by ranges in order, from a place on.
-use Rattle.std.proofs.Common.{◌≡◌, refl, sym, ◌∙◌, ℕ, ◌+◌, ℤ, List, Option, Some, None, Bool, true, false, drop, arith, SFits, to_z, of_z, to_z-of_z, w64}
+use Rattle.std.proofs.Common.{◌≡◌, refl, sym, ◌∙◌, ℕ, ◌+◌, ℤ, List, Some, None, true, false, drop, arith, SFits, to_z, of_z, to_z-of_z, w64}
 use Rattle.std.proofs.lemmas.Int.{ints}
 use Rattle.std.specs.Int.{w128}
 use Rattle.std.specs.Prelude.{slice_get, int_le, int_lt, ◌+ℤ◌, pos}

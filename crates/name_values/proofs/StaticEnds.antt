@@ -8,7 +8,7 @@ use Rattle.name_rules.specs.declared.found.Found.{Found as Known}
 use Rattle.name_rules.specs.declared.log.Log.{Log}
 use Rattle.name_rules.specs.declared.types.Kind.{Kind}
 use Rattle.name_values.proofs.Taken.{both-taken}
-use Rattle.name_values.specs.Bounds.{ends, ends_of}
+use Rattle.name_values.specs.Bounds.{ends_of}
 use Rattle.name_values.specs.Statics.{span_taken}
 
 given-some : (o : Option (ℤ × ℤ)) (log : Log) → given o some log ≡ (o, log)

@@ -1,10 +1,9 @@
 -- What judges static values without their parts judges as the rules do.
-use Rattle.std.proofs.Common.{◌≡◌, refl, sym, ◌∙◌, ℕ, ℤ, Bool, true, false, not, ◌&&◌, Option, Some, None, is_some, if◌then◌else◌}
+use Rattle.std.proofs.Common.{◌≡◌, refl, sym, ℕ, ℤ, Bool, true, false, not, ◌&&◌, Option, Some, None, is_some, if◌then◌else◌}
 use Rattle.ada_typed.specs.Decoded.{Part, as_expr}
 use Rattle.ada_typed.specs.Syntax.{Expr, Selections}
-use Rattle.name_rules.specs.Found.{Found}
 use Rattle.name_rules.specs.Judging.{Judging, both, fault, given, pure, some, ◌>>=◌}
-use Rattle.name_rules.specs.Ranges.{Static, both_static, checked_span, preferred, spanned, static_bounds, static_checked}
+use Rattle.name_rules.specs.Ranges.{both_static, checked_span, preferred, spanned, static_bounds, static_checked}
 use Rattle.name_rules.specs.Types.{in_base, is_integer, same}
 use Rattle.name_rules.specs.TypedParts.{selections_of}
 use Rattle.name_rules.specs.Values.{asked, beyond, first_of, is_number, place_asked, settled, settled_by, static_of_kind, static_value, suits, value_of, valued}
@@ -18,7 +17,7 @@ use Rattle.name_rules.specs.declared.types.Kind.{Kind}
 use Rattle.name_rules.specs.declared.types.Scalar.{Scalar}
 use Rattle.name_rules.specs.declared.types.Subtype.TheVariants as subtype
 use Rattle.name_rules.specs.declared.types.Subtype.{Subtype}
-use Rattle.name_values.specs.Statics.{both_values, or_breaks, place_takes, span_of, span_taken, takes, value_in, value_taken, within}
+use Rattle.name_values.specs.Statics.{or_breaks, place_takes, span_of, span_taken, takes, value_in, value_taken, within}
 
 -- ---- what is judged of an expression that is asked for a type
 

@@ -1,5 +1,5 @@
 -- What the choices of a case statement cover (5.4), and what handlers handle (11.2), as they are held.
-use Rattle.std.specs.Prelude.{◌≡◌, ℕ, ℤ, Bool, true, false, not, ◌||◌, List, [], ◌∷◌, Option, Some, None, Result, Ok, Err, option_map, reverse}
+use Rattle.std.specs.Prelude.{◌≡◌, ℕ, Bool, true, false, List, [], Option, Some, None, Result, Ok, Err, option_map, reverse}
 use Rattle.ada_base.specs.declared.reason.Reason.{Reason}
 use Rattle.ada_tree.specs.Syntax.{Pack}
 use Rattle.ada_typed.specs.Decoded.{Part, as_reasons}

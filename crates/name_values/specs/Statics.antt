@@ -1,5 +1,5 @@
 -- Static values (4.9) that take a type, without their parts; and the values of choices (3.8.1).
-use Rattle.std.specs.Prelude.{◌≡◌, ℕ, ℤ, Bool, true, false, List, Option, Some, None, Result, Ok, Err, if◌then◌else◌, int_le, not, option_map, ◌&&◌}
+use Rattle.std.specs.Prelude.{◌≡◌, ℕ, ℤ, Bool, true, false, List, Option, Some, None, Result, Ok, Err, if◌then◌else◌, option_map, ◌&&◌}
 use Rattle.ada_typed.specs.Decoded.{Part}
 use Rattle.ada_typed.specs.declared.statements.Span.{Span}
 use Rattle.name_rules.specs.Found.{Found}

@@ -24,531 +24,531 @@ use Rattle.name_expressions.proofs.+levels.Given as goal
 
 -- ---- primaries
 
-abbrev pub decreases-inside : goal.decreases-inside
-decreases-inside l = 100 * l.levels + 0
+abbrev pub decreases-primaries::inside : goal.decreases-primaries::inside
+decreases-primaries::inside l = 100 * l.levels + 0
 
-abbrev pub decreases-name_inside : goal.decreases-name_inside
-decreases-name_inside l = 100 * l.levels + 0
+abbrev pub decreases-primaries::name_inside : goal.decreases-primaries::name_inside
+decreases-primaries::name_inside l = 100 * l.levels + 0
 
-abbrev pub decreases-alternative : goal.decreases-alternative
-decreases-alternative l = 100 * l.levels + 86
+abbrev pub decreases-primaries::alternative : goal.decreases-primaries::alternative
+decreases-primaries::alternative l = 100 * l.levels + 86
 
-abbrev pub decreases-alternatives : goal.decreases-alternatives
-decreases-alternatives l = 100 * l.levels + 87
+abbrev pub decreases-primaries::alternatives : goal.decreases-primaries::alternatives
+decreases-primaries::alternatives l = 100 * l.levels + 87
 
-abbrev pub decreases-if_expr : goal.decreases-if_expr
-decreases-if_expr l = 100 * l.levels + 88
+abbrev pub decreases-primaries::if_expr : goal.decreases-primaries::if_expr
+decreases-primaries::if_expr l = 100 * l.levels + 88
 
-abbrev pub decreases-named : goal.decreases-named
-decreases-named l = 100 * l.levels + 98
+abbrev pub decreases-primaries::named : goal.decreases-primaries::named
+decreases-primaries::named l = 100 * l.levels + 98
 
-abbrev pub decreases-primary : goal.decreases-primary
-decreases-primary l = 100 * l.levels + 99
+abbrev pub decreases-primaries::primary : goal.decreases-primaries::primary
+decreases-primaries::primary l = 100 * l.levels + 99
 
-abbrev pub decreases-alternatives-alternatives : goal.decreases-alternatives-alternatives
-decreases-alternatives-alternatives l = l.next
+abbrev pub decreases-primaries::alternatives-alternatives : goal.decreases-primaries::alternatives-alternatives
+decreases-primaries::alternatives-alternatives l = l.next
 
-abbrev pub invariant-alternatives-alternatives : goal.invariant-alternatives-alternatives
-invariant-alternatives-alternatives l = (primaries.alternatives l.names (inside l.names l.levels) l.here l.want (waiting_if l.fn.done l.fn.values (top (parts l.fn.out))) (the_elsifs (part_at l.tree.nodes l.fn.more)) l.fn.log ≡ primaries.alternatives l.names (inside l.names l.levels) l.here l.want (waiting_if l.all l.values (top (parts l.out))) (the_elsifs (part_at l.tree.nodes l.next)) l.log) × (pop (parts l.out) ≡ pop (parts l.fn.out))
+abbrev pub invariant-primaries::alternatives-alternatives : goal.invariant-primaries::alternatives-alternatives
+invariant-primaries::alternatives-alternatives l = (primaries.alternatives l.names (inside l.names l.levels) l.here l.want (waiting_if l.fn.done l.fn.values (top (parts l.fn.out))) (the_elsifs (part_at l.tree.nodes l.fn.more)) l.fn.log ≡ primaries.alternatives l.names (inside l.names l.levels) l.here l.want (waiting_if l.all l.values (top (parts l.out))) (the_elsifs (part_at l.tree.nodes l.next)) l.log) × (pop (parts l.out) ≡ pop (parts l.fn.out))
 
 -- ---- whole names
 
-abbrev pub decreases-array_reduction : goal.decreases-array_reduction
-decreases-array_reduction l = 100 * l.levels + 86
+abbrev pub decreases-whole_names::array_reduction : goal.decreases-whole_names::array_reduction
+decreases-whole_names::array_reduction l = 100 * l.levels + 86
 
-abbrev pub decreases-wrong_arguments : goal.decreases-wrong_arguments
-decreases-wrong_arguments l = 100 * l.levels + 86
+abbrev pub decreases-whole_names::wrong_arguments : goal.decreases-whole_names::wrong_arguments
+decreases-whole_names::wrong_arguments l = 100 * l.levels + 86
 
-abbrev pub decreases-array_reduced : goal.decreases-array_reduced
-decreases-array_reduced l = 100 * l.levels + 87
+abbrev pub decreases-whole_names::array_reduced : goal.decreases-whole_names::array_reduced
+decreases-whole_names::array_reduced l = 100 * l.levels + 87
 
-abbrev pub decreases-not_reduced : goal.decreases-not_reduced
-decreases-not_reduced l = 100 * l.levels + 87
+abbrev pub decreases-whole_names::not_reduced : goal.decreases-whole_names::not_reduced
+decreases-whole_names::not_reduced l = 100 * l.levels + 87
 
-abbrev pub decreases-reduced_with : goal.decreases-reduced_with
-decreases-reduced_with l = 100 * l.levels + 88
+abbrev pub decreases-whole_names::reduced_with : goal.decreases-whole_names::reduced_with
+decreases-whole_names::reduced_with l = 100 * l.levels + 88
 
-abbrev pub decreases-of_array : goal.decreases-of_array
-decreases-of_array l = 100 * l.levels + 87
+abbrev pub decreases-whole_names::of_array : goal.decreases-whole_names::of_array
+decreases-whole_names::of_array l = 100 * l.levels + 87
 
-abbrev pub decreases-other_with : goal.decreases-other_with
-decreases-other_with l = 100 * l.levels + 88
+abbrev pub decreases-whole_names::other_with : goal.decreases-whole_names::other_with
+decreases-whole_names::other_with l = 100 * l.levels + 88
 
-abbrev pub decreases-attribute_with : goal.decreases-attribute_with
-decreases-attribute_with l = 100 * l.levels + 89
+abbrev pub decreases-whole_names::attribute_with : goal.decreases-whole_names::attribute_with
+decreases-whole_names::attribute_with l = 100 * l.levels + 89
 
-abbrev pub decreases-call : goal.decreases-call
-decreases-call l = 100 * l.levels + 90
+abbrev pub decreases-whole_names::call : goal.decreases-whole_names::call
+decreases-whole_names::call l = 100 * l.levels + 90
 
-abbrev pub decreases-part_of : goal.decreases-part_of
-decreases-part_of l = 100 * l.levels + 91
+abbrev pub decreases-whole_names::part_of : goal.decreases-whole_names::part_of
+decreases-whole_names::part_of l = 100 * l.levels + 91
 
-abbrev pub decreases-part_alone : goal.decreases-part_alone
-decreases-part_alone l = 100 * l.levels + 86
+abbrev pub decreases-whole_names::part_alone : goal.decreases-whole_names::part_alone
+decreases-whole_names::part_alone l = 100 * l.levels + 86
 
-abbrev pub decreases-next_part : goal.decreases-next_part
-decreases-next_part l = 100 * l.levels + 92
+abbrev pub decreases-whole_names::next_part : goal.decreases-whole_names::next_part
+decreases-whole_names::next_part l = 100 * l.levels + 92
 
-abbrev pub decreases-parts : goal.decreases-parts
-decreases-parts l = 100 * l.levels + 93
+abbrev pub decreases-whole_names::parts : goal.decreases-whole_names::parts
+decreases-whole_names::parts l = 100 * l.levels + 93
 
-abbrev pub decreases-name : goal.decreases-name
-decreases-name l = 100 * l.levels + 94
+abbrev pub decreases-whole_names::name : goal.decreases-whole_names::name
+decreases-whole_names::name l = 100 * l.levels + 94
 
-abbrev pub decreases-valued_by : goal.decreases-valued_by
-decreases-valued_by l = 100 * l.levels + 95
+abbrev pub decreases-whole_names::valued_by : goal.decreases-whole_names::valued_by
+decreases-whole_names::valued_by l = 100 * l.levels + 95
 
-abbrev pub decreases-value_named : goal.decreases-value_named
-decreases-value_named l = 100 * l.levels + 96
+abbrev pub decreases-whole_names::value_named : goal.decreases-whole_names::value_named
+decreases-whole_names::value_named l = 100 * l.levels + 96
 
-abbrev pub decreases-parts-parts : goal.decreases-parts-parts
-decreases-parts-parts l = l.next
+abbrev pub decreases-whole_names::parts-parts : goal.decreases-whole_names::parts-parts
+decreases-whole_names::parts-parts l = l.next
 
-abbrev pub invariant-parts-parts : goal.invariant-parts-parts
-invariant-parts-parts l = (whole.parts l.names (inside l.names l.levels) l.here (found_of l.fn.before (top (parts l.fn.out))) (the_parts (part_at l.tree.nodes l.fn.more)) l.fn.log ≡ whole.parts l.names (inside l.names l.levels) l.here (found_of l.d (top (parts l.out))) (the_parts (part_at l.tree.nodes l.next)) l.log) × (pop (parts l.out) ≡ pop (parts l.fn.out))
+abbrev pub invariant-whole_names::parts-parts : goal.invariant-whole_names::parts-parts
+invariant-whole_names::parts-parts l = (whole.parts l.names (inside l.names l.levels) l.here (found_of l.fn.before (top (parts l.fn.out))) (the_parts (part_at l.tree.nodes l.fn.more)) l.fn.log ≡ whole.parts l.names (inside l.names l.levels) l.here (found_of l.d (top (parts l.out))) (the_parts (part_at l.tree.nodes l.next)) l.log) × (pop (parts l.out) ≡ pop (parts l.fn.out))
 
 -- ---- attributes
 
-abbrev pub decreases-bound_with : goal.decreases-bound_with
-decreases-bound_with l = 100 * l.levels + 57
+abbrev pub decreases-attributes::bound_with : goal.decreases-attributes::bound_with
+decreases-attributes::bound_with l = 100 * l.levels + 57
 
-abbrev pub decreases-one_argument : goal.decreases-one_argument
-decreases-one_argument l = 100 * l.levels + 57
+abbrev pub decreases-attributes::one_argument : goal.decreases-attributes::one_argument
+decreases-attributes::one_argument l = 100 * l.levels + 57
 
-abbrev pub decreases-two_arguments : goal.decreases-two_arguments
-decreases-two_arguments l = 100 * l.levels + 57
+abbrev pub decreases-attributes::two_arguments : goal.decreases-attributes::two_arguments
+decreases-attributes::two_arguments l = 100 * l.levels + 57
 
-abbrev pub decreases-stepped : goal.decreases-stepped
-decreases-stepped l = 100 * l.levels + 58
+abbrev pub decreases-attributes::stepped : goal.decreases-attributes::stepped
+decreases-attributes::stepped l = 100 * l.levels + 58
 
-abbrev pub decreases-scalar_with : goal.decreases-scalar_with
-decreases-scalar_with l = 100 * l.levels + 59
+abbrev pub decreases-attributes::scalar_with : goal.decreases-attributes::scalar_with
+decreases-attributes::scalar_with l = 100 * l.levels + 59
 
 -- ---- expressions
 
-abbrev pub decreases-factor : goal.decreases-factor
-decreases-factor l = 100 * l.levels + 1
+abbrev pub decreases-expressions::factor : goal.decreases-expressions::factor
+decreases-expressions::factor l = 100 * l.levels + 1
 
-abbrev pub decreases-multiplying : goal.decreases-multiplying
-decreases-multiplying l = 100 * l.levels + 2
+abbrev pub decreases-expressions::multiplying : goal.decreases-expressions::multiplying
+decreases-expressions::multiplying l = 100 * l.levels + 2
 
-abbrev pub decreases-multiplied : goal.decreases-multiplied
-decreases-multiplied l = 100 * l.levels + 3
+abbrev pub decreases-expressions::multiplied : goal.decreases-expressions::multiplied
+decreases-expressions::multiplied l = 100 * l.levels + 3
 
-abbrev pub decreases-term : goal.decreases-term
-decreases-term l = 100 * l.levels + 4
+abbrev pub decreases-expressions::term : goal.decreases-expressions::term
+decreases-expressions::term l = 100 * l.levels + 4
 
-abbrev pub decreases-adding : goal.decreases-adding
-decreases-adding l = 100 * l.levels + 5
+abbrev pub decreases-expressions::adding : goal.decreases-expressions::adding
+decreases-expressions::adding l = 100 * l.levels + 5
 
-abbrev pub decreases-added : goal.decreases-added
-decreases-added l = 100 * l.levels + 6
+abbrev pub decreases-expressions::added : goal.decreases-expressions::added
+decreases-expressions::added l = 100 * l.levels + 6
 
-abbrev pub decreases-first_term : goal.decreases-first_term
-decreases-first_term l = 100 * l.levels + 7
+abbrev pub decreases-expressions::first_term : goal.decreases-expressions::first_term
+decreases-expressions::first_term l = 100 * l.levels + 7
 
-abbrev pub decreases-simple : goal.decreases-simple
-decreases-simple l = 100 * l.levels + 8
+abbrev pub decreases-expressions::simple : goal.decreases-expressions::simple
+decreases-expressions::simple l = 100 * l.levels + 8
 
-abbrev pub decreases-rel : goal.decreases-rel
-decreases-rel l = 100 * l.levels + 9
+abbrev pub decreases-expressions::rel : goal.decreases-expressions::rel
+decreases-expressions::rel l = 100 * l.levels + 9
 
-abbrev pub decreases-conjoined : goal.decreases-conjoined
-decreases-conjoined l = 100 * l.levels + 10
+abbrev pub decreases-expressions::conjoined : goal.decreases-expressions::conjoined
+decreases-expressions::conjoined l = 100 * l.levels + 10
 
-abbrev pub decreases-joined_rels : goal.decreases-joined_rels
-decreases-joined_rels l = 100 * l.levels + 11
+abbrev pub decreases-expressions::joined_rels : goal.decreases-expressions::joined_rels
+decreases-expressions::joined_rels l = 100 * l.levels + 11
 
-abbrev pub decreases-short_operand : goal.decreases-short_operand
-decreases-short_operand l = 100 * l.levels + 10
+abbrev pub decreases-expressions::short_operand : goal.decreases-expressions::short_operand
+decreases-expressions::short_operand l = 100 * l.levels + 10
 
-abbrev pub decreases-short_operands : goal.decreases-short_operands
-decreases-short_operands l = 100 * l.levels + 11
+abbrev pub decreases-expressions::short_operands : goal.decreases-expressions::short_operands
+decreases-expressions::short_operands l = 100 * l.levels + 11
 
-abbrev pub decreases-short_form : goal.decreases-short_form
-decreases-short_form l = 100 * l.levels + 12
+abbrev pub decreases-expressions::short_form : goal.decreases-expressions::short_form
+decreases-expressions::short_form l = 100 * l.levels + 12
 
-abbrev pub decreases-expr : goal.decreases-expr
-decreases-expr l = 100 * l.levels + 13
+abbrev pub decreases-expressions::expr : goal.decreases-expressions::expr
+decreases-expressions::expr l = 100 * l.levels + 13
 
-abbrev pub decreases-condition : goal.decreases-condition
-decreases-condition l = 100 * l.levels + 14
+abbrev pub decreases-expressions::condition : goal.decreases-expressions::condition
+decreases-expressions::condition l = 100 * l.levels + 14
 
-abbrev pub decreases-value_for : goal.decreases-value_for
-decreases-value_for l = 100 * l.levels + 14
+abbrev pub decreases-expressions::value_for : goal.decreases-expressions::value_for
+decreases-expressions::value_for l = 100 * l.levels + 14
 
-abbrev pub decreases-judged_alone : goal.decreases-judged_alone
-decreases-judged_alone l = 100 * l.levels + 14
+abbrev pub decreases-expressions::judged_alone : goal.decreases-expressions::judged_alone
+decreases-expressions::judged_alone l = 100 * l.levels + 14
 
-abbrev pub decreases-multiplied-links : goal.decreases-multiplied-links
-decreases-multiplied-links l = l.next
+abbrev pub decreases-expressions::multiplied-links : goal.decreases-expressions::multiplied-links
+decreases-expressions::multiplied-links l = l.next
 
-abbrev pub decreases-added-links : goal.decreases-added-links
-decreases-added-links l = l.next
+abbrev pub decreases-expressions::added-links : goal.decreases-expressions::added-links
+decreases-expressions::added-links l = l.next
 
-abbrev pub decreases-conjoined-links : goal.decreases-conjoined-links
-decreases-conjoined-links l = l.next
+abbrev pub decreases-expressions::conjoined-links : goal.decreases-expressions::conjoined-links
+decreases-expressions::conjoined-links l = l.next
 
-abbrev pub decreases-short_operands-links : goal.decreases-short_operands-links
-decreases-short_operands-links l = l.next
+abbrev pub decreases-expressions::short_operands-links : goal.decreases-expressions::short_operands-links
+decreases-expressions::short_operands-links l = l.next
 
-abbrev pub invariant-multiplied-links : goal.invariant-multiplied-links
-invariant-multiplied-links l = (spec.multiplied (inside l.names l.levels) l.here (found_of l.fn.left (top (parts l.fn.out))) (the_multiplyings (part_at l.tree.nodes l.fn.more)) l.fn.log ≡ spec.multiplied (inside l.names l.levels) l.here (found_of l.x (top (parts l.out))) (the_multiplyings (part_at l.tree.nodes l.next)) l.log) × (pop (parts l.out) ≡ pop (parts l.fn.out))
+abbrev pub invariant-expressions::multiplied-links : goal.invariant-expressions::multiplied-links
+invariant-expressions::multiplied-links l = (spec.multiplied (inside l.names l.levels) l.here (found_of l.fn.left (top (parts l.fn.out))) (the_multiplyings (part_at l.tree.nodes l.fn.more)) l.fn.log ≡ spec.multiplied (inside l.names l.levels) l.here (found_of l.x (top (parts l.out))) (the_multiplyings (part_at l.tree.nodes l.next)) l.log) × (pop (parts l.out) ≡ pop (parts l.fn.out))
 
-abbrev pub invariant-added-links : goal.invariant-added-links
-invariant-added-links l = (spec.added (inside l.names l.levels) l.here (found_of l.fn.left (top (parts l.fn.out))) (the_addings (part_at l.tree.nodes l.fn.more)) l.fn.log ≡ spec.added (inside l.names l.levels) l.here (found_of l.x (top (parts l.out))) (the_addings (part_at l.tree.nodes l.next)) l.log) × (pop (parts l.out) ≡ pop (parts l.fn.out))
+abbrev pub invariant-expressions::added-links : goal.invariant-expressions::added-links
+invariant-expressions::added-links l = (spec.added (inside l.names l.levels) l.here (found_of l.fn.left (top (parts l.fn.out))) (the_addings (part_at l.tree.nodes l.fn.more)) l.fn.log ≡ spec.added (inside l.names l.levels) l.here (found_of l.x (top (parts l.out))) (the_addings (part_at l.tree.nodes l.next)) l.log) × (pop (parts l.out) ≡ pop (parts l.fn.out))
 
-abbrev pub invariant-conjoined-links : goal.invariant-conjoined-links
-invariant-conjoined-links l = (spec.conjoined l.names (inside l.names l.levels) l.here l.op (found_of l.fn.left (top (parts l.fn.out))) (the_conjuncts (part_at l.tree.nodes l.fn.more)) l.fn.log ≡ spec.conjoined l.names (inside l.names l.levels) l.here l.op (found_of l.x (top (parts l.out))) (the_conjuncts (part_at l.tree.nodes l.next)) l.log) × (pop (parts l.out) ≡ pop (parts l.fn.out))
+abbrev pub invariant-expressions::conjoined-links : goal.invariant-expressions::conjoined-links
+invariant-expressions::conjoined-links l = (spec.conjoined l.names (inside l.names l.levels) l.here l.op (found_of l.fn.left (top (parts l.fn.out))) (the_conjuncts (part_at l.tree.nodes l.fn.more)) l.fn.log ≡ spec.conjoined l.names (inside l.names l.levels) l.here l.op (found_of l.x (top (parts l.out))) (the_conjuncts (part_at l.tree.nodes l.next)) l.log) × (pop (parts l.out) ≡ pop (parts l.fn.out))
 
-abbrev pub invariant-short_operands-links : goal.invariant-short_operands-links
-invariant-short_operands-links l = (spec.short_operands l.names (inside l.names l.levels) l.here l.all (part_if l.fn.left (top (parts l.fn.out))) (the_conjuncts (part_at l.tree.nodes l.fn.more)) l.fn.log ≡ spec.short_operands l.names (inside l.names l.levels) l.here l.all (part_if l.x (top (parts l.out))) (the_conjuncts (part_at l.tree.nodes l.next)) l.log) × (pop (parts l.out) ≡ pop (parts l.fn.out))
+abbrev pub invariant-expressions::short_operands-links : goal.invariant-expressions::short_operands-links
+invariant-expressions::short_operands-links l = (spec.short_operands l.names (inside l.names l.levels) l.here l.all (part_if l.fn.left (top (parts l.fn.out))) (the_conjuncts (part_at l.tree.nodes l.fn.more)) l.fn.log ≡ spec.short_operands l.names (inside l.names l.levels) l.here l.all (part_if l.x (top (parts l.out))) (the_conjuncts (part_at l.tree.nodes l.next)) l.log) × (pop (parts l.out) ≡ pop (parts l.fn.out))
 
 -- ---- ranges
 
-abbrev pub decreases-range : goal.decreases-range
-decreases-range l = 100 * l.levels + 20
+abbrev pub decreases-ranges::range : goal.decreases-ranges::range
+decreases-ranges::range l = 100 * l.levels + 20
 
 -- ---- indexes
 
-abbrev pub decreases-arg_alone : goal.decreases-arg_alone
-decreases-arg_alone l = 100 * l.levels + 31
+abbrev pub decreases-indexes::arg_alone : goal.decreases-indexes::arg_alone
+decreases-indexes::arg_alone l = 100 * l.levels + 31
 
-abbrev pub decreases-args_alone : goal.decreases-args_alone
-decreases-args_alone l = 100 * l.levels + 32
+abbrev pub decreases-indexes::args_alone : goal.decreases-indexes::args_alone
+decreases-indexes::args_alone l = 100 * l.levels + 32
 
-abbrev pub decreases-wrong_call : goal.decreases-wrong_call
-decreases-wrong_call l = 100 * l.levels + 33
+abbrev pub decreases-indexes::wrong_call : goal.decreases-indexes::wrong_call
+decreases-indexes::wrong_call l = 100 * l.levels + 33
 
-abbrev pub decreases-index : goal.decreases-index
-decreases-index l = 100 * l.levels + 34
+abbrev pub decreases-indexes::index : goal.decreases-indexes::index
+decreases-indexes::index l = 100 * l.levels + 34
 
-abbrev pub decreases-indexes : goal.decreases-indexes
-decreases-indexes l = 100 * l.levels + 35
+abbrev pub decreases-indexes::indexes : goal.decreases-indexes::indexes
+decreases-indexes::indexes l = 100 * l.levels + 35
 
-abbrev pub decreases-index_shape : goal.decreases-index_shape
-decreases-index_shape l = 100 * l.levels + 36
+abbrev pub decreases-indexes::index_shape : goal.decreases-indexes::index_shape
+decreases-indexes::index_shape l = 100 * l.levels + 36
 
-abbrev pub decreases-object_call : goal.decreases-object_call
-decreases-object_call l = 100 * l.levels + 37
+abbrev pub decreases-indexes::object_call : goal.decreases-indexes::object_call
+decreases-indexes::object_call l = 100 * l.levels + 37
 
-abbrev pub decreases-args_alone-args : goal.decreases-args_alone-args
-decreases-args_alone-args l = l.next
+abbrev pub decreases-indexes::args_alone-each : goal.decreases-indexes::args_alone-each
+decreases-indexes::args_alone-each l = l.next
 
-abbrev pub decreases-indexes-indexes : goal.decreases-indexes-indexes
-decreases-indexes-indexes l = l.next
+abbrev pub decreases-indexes::indexes-indexes : goal.decreases-indexes::indexes-indexes
+decreases-indexes::indexes-indexes l = l.next
 
-abbrev pub invariant-args_alone-args : goal.invariant-args_alone-args
-invariant-args_alone-args l = (names.args_alone l.names (inside l.names l.levels) l.here (the_args (part_at l.tree.nodes l.fn.more)) l.fn.log ≡ names.args_alone l.names (inside l.names l.levels) l.here (the_args (part_at l.tree.nodes l.next)) l.log) × (parts l.out ≡ parts l.fn.out)
+abbrev pub invariant-indexes::args_alone-each : goal.invariant-indexes::args_alone-each
+invariant-indexes::args_alone-each l = (names.args_alone l.names (inside l.names l.levels) l.here (the_args (part_at l.tree.nodes l.fn.more)) l.fn.log ≡ names.args_alone l.names (inside l.names l.levels) l.here (the_args (part_at l.tree.nodes l.next)) l.log) × (parts l.out ≡ parts l.fn.out)
 
-abbrev pub invariant-indexes-indexes : goal.invariant-indexes-indexes
-invariant-indexes-indexes l = (names.indexes l.names (inside l.names l.levels) l.here (drop l.fn.place l.dimensions) l.cells (part_if l.fn.done (top (parts l.fn.out))) (the_args (part_at l.tree.nodes l.fn.more)) l.fn.log ≡ names.indexes l.names (inside l.names l.levels) l.here (drop l.i l.dimensions) l.cells (part_if l.s (top (parts l.out))) (the_args (part_at l.tree.nodes l.next)) l.log) × (pop (parts l.out) ≡ pop (parts l.fn.out))
+abbrev pub invariant-indexes::indexes-indexes : goal.invariant-indexes::indexes-indexes
+invariant-indexes::indexes-indexes l = (names.indexes l.names (inside l.names l.levels) l.here (drop l.fn.place l.dimensions) l.cells (part_if l.fn.done (top (parts l.fn.out))) (the_args (part_at l.tree.nodes l.fn.more)) l.fn.log ≡ names.indexes l.names (inside l.names l.levels) l.here (drop l.i l.dimensions) l.cells (part_if l.s (top (parts l.out))) (the_args (part_at l.tree.nodes l.next)) l.log) × (pop (parts l.out) ≡ pop (parts l.fn.out))
 
 -- ---- calls
 
-abbrev pub decreases-actual_by : goal.decreases-actual_by
-decreases-actual_by l = 100 * l.levels + 46
+abbrev pub decreases-calls::actual_by : goal.decreases-calls::actual_by
+decreases-calls::actual_by l = 100 * l.levels + 46
 
-abbrev pub decreases-actual_for : goal.decreases-actual_for
-decreases-actual_for l = 100 * l.levels + 47
+abbrev pub decreases-calls::actual_for : goal.decreases-calls::actual_for
+decreases-calls::actual_for l = 100 * l.levels + 47
 
-abbrev pub decreases-argument : goal.decreases-argument
-decreases-argument l = 100 * l.levels + 48
+abbrev pub decreases-calls::argument : goal.decreases-calls::argument
+decreases-calls::argument l = 100 * l.levels + 48
 
-abbrev pub decreases-arguments : goal.decreases-arguments
-decreases-arguments l = 100 * l.levels + 49
+abbrev pub decreases-calls::arguments : goal.decreases-calls::arguments
+decreases-calls::arguments l = 100 * l.levels + 49
 
-abbrev pub decreases-given_arguments : goal.decreases-given_arguments
-decreases-given_arguments l = 100 * l.levels + 50
+abbrev pub decreases-calls::given_arguments : goal.decreases-calls::given_arguments
+decreases-calls::given_arguments l = 100 * l.levels + 50
 
-abbrev pub decreases-sub_call : goal.decreases-sub_call
-decreases-sub_call l = 100 * l.levels + 51
+abbrev pub decreases-calls::sub_call : goal.decreases-calls::sub_call
+decreases-calls::sub_call l = 100 * l.levels + 51
 
-abbrev pub decreases-operand : goal.decreases-operand
-decreases-operand l = 100 * l.levels + 46
+abbrev pub decreases-calls::operand : goal.decreases-calls::operand
+decreases-calls::operand l = 100 * l.levels + 46
 
-abbrev pub decreases-operands : goal.decreases-operands
-decreases-operands l = 100 * l.levels + 47
+abbrev pub decreases-calls::operands : goal.decreases-calls::operands
+decreases-calls::operands l = 100 * l.levels + 47
 
-abbrev pub decreases-all_operands : goal.decreases-all_operands
-decreases-all_operands l = 100 * l.levels + 48
+abbrev pub decreases-calls::all_operands : goal.decreases-calls::all_operands
+decreases-calls::all_operands l = 100 * l.levels + 48
 
-abbrev pub decreases-scalar_conversion : goal.decreases-scalar_conversion
-decreases-scalar_conversion l = 100 * l.levels + 49
+abbrev pub decreases-calls::scalar_conversion : goal.decreases-calls::scalar_conversion
+decreases-calls::scalar_conversion l = 100 * l.levels + 49
 
-abbrev pub decreases-conversion : goal.decreases-conversion
-decreases-conversion l = 100 * l.levels + 50
+abbrev pub decreases-calls::conversion : goal.decreases-calls::conversion
+decreases-calls::conversion l = 100 * l.levels + 50
 
-abbrev pub decreases-arguments-each : goal.decreases-arguments-each
-decreases-arguments-each l = l.next
+abbrev pub decreases-calls::arguments-each : goal.decreases-calls::arguments-each
+decreases-calls::arguments-each l = l.next
 
-abbrev pub decreases-operands-each : goal.decreases-operands-each
-decreases-operands-each l = l.next
+abbrev pub decreases-calls::operands-each : goal.decreases-calls::operands-each
+decreases-calls::operands-each l = l.next
 
-abbrev pub invariant-arguments-each : goal.invariant-arguments-each
-invariant-arguments-each l = (calls.arguments l.names (inside l.names l.levels) l.here l.taken (calling_of l.fn.calling (top (parts l.fn.out))) (the_args (part_at l.tree.nodes l.fn.more)) l.fn.log ≡ calls.arguments l.names (inside l.names l.levels) l.here l.taken (calling_of l.calling (top (parts l.out))) (the_args (part_at l.tree.nodes l.next)) l.log) × (pop (parts l.out) ≡ pop (parts l.fn.out))
+abbrev pub invariant-calls::arguments-each : goal.invariant-calls::arguments-each
+invariant-calls::arguments-each l = (calls.arguments l.names (inside l.names l.levels) l.here l.taken (calling_of l.fn.calling (top (parts l.fn.out))) (the_args (part_at l.tree.nodes l.fn.more)) l.fn.log ≡ calls.arguments l.names (inside l.names l.levels) l.here l.taken (calling_of l.calling (top (parts l.out))) (the_args (part_at l.tree.nodes l.next)) l.log) × (pop (parts l.out) ≡ pop (parts l.fn.out))
 
-abbrev pub invariant-operands-each : goal.invariant-operands-each
-invariant-operands-each l = (calls.operands l.names (inside l.names l.levels) l.here (operands_of l.fn.good l.fn.found (top (parts l.fn.out))) (the_args (part_at l.tree.nodes l.fn.more)) l.fn.log ≡ calls.operands l.names (inside l.names l.levels) l.here (operands_of l.all l.found (top (parts l.out))) (the_args (part_at l.tree.nodes l.next)) l.log) × (pop (parts l.out) ≡ pop (parts l.fn.out))
+abbrev pub invariant-calls::operands-each : goal.invariant-calls::operands-each
+invariant-calls::operands-each l = (calls.operands l.names (inside l.names l.levels) l.here (operands_of l.fn.good l.fn.found (top (parts l.fn.out))) (the_args (part_at l.tree.nodes l.fn.more)) l.fn.log ≡ calls.operands l.names (inside l.names l.levels) l.here (operands_of l.all l.found (top (parts l.out))) (the_args (part_at l.tree.nodes l.next)) l.log) × (pop (parts l.out) ≡ pop (parts l.fn.out))
 
 -- ---- output
 
-abbrev pub decreases-other_alone : goal.decreases-other_alone
-decreases-other_alone l = 100 * l.levels + 46
+abbrev pub decreases-output::other_alone : goal.decreases-output::other_alone
+decreases-output::other_alone l = 100 * l.levels + 46
 
-abbrev pub decreases-others_alone : goal.decreases-others_alone
-decreases-others_alone l = 100 * l.levels + 47
+abbrev pub decreases-output::others_alone : goal.decreases-output::others_alone
+decreases-output::others_alone l = 100 * l.levels + 47
 
-abbrev pub decreases-width_argument : goal.decreases-width_argument
-decreases-width_argument l = 100 * l.levels + 46
+abbrev pub decreases-output::width_argument : goal.decreases-output::width_argument
+decreases-output::width_argument l = 100 * l.levels + 46
 
-abbrev pub decreases-counted_alone : goal.decreases-counted_alone
-decreases-counted_alone l = 100 * l.levels + 46
+abbrev pub decreases-output::counted_alone : goal.decreases-output::counted_alone
+decreases-output::counted_alone l = 100 * l.levels + 46
 
-abbrev pub decreases-put_argument : goal.decreases-put_argument
-decreases-put_argument l = 100 * l.levels + 47
+abbrev pub decreases-output::put_argument : goal.decreases-output::put_argument
+decreases-output::put_argument l = 100 * l.levels + 47
 
-abbrev pub decreases-put_arguments : goal.decreases-put_arguments
-decreases-put_arguments l = 100 * l.levels + 48
+abbrev pub decreases-output::put_arguments : goal.decreases-output::put_arguments
+decreases-output::put_arguments l = 100 * l.levels + 48
 
-abbrev pub decreases-number_put : goal.decreases-number_put
-decreases-number_put l = 100 * l.levels + 49
+abbrev pub decreases-output::number_put : goal.decreases-output::number_put
+decreases-output::number_put l = 100 * l.levels + 49
 
-abbrev pub decreases-io_given : goal.decreases-io_given
-decreases-io_given l = 100 * l.levels + 50
+abbrev pub decreases-output::io_given : goal.decreases-output::io_given
+decreases-output::io_given l = 100 * l.levels + 50
 
-abbrev pub decreases-io_call : goal.decreases-io_call
-decreases-io_call l = 100 * l.levels + 51
+abbrev pub decreases-output::io_call : goal.decreases-output::io_call
+decreases-output::io_call l = 100 * l.levels + 51
 
-abbrev pub decreases-others_alone-each : goal.decreases-others_alone-each
-decreases-others_alone-each l = l.next
+abbrev pub decreases-output::others_alone-each : goal.decreases-output::others_alone-each
+decreases-output::others_alone-each l = l.next
 
-abbrev pub decreases-put_arguments-each : goal.decreases-put_arguments-each
-decreases-put_arguments-each l = l.next
+abbrev pub decreases-output::put_arguments-each : goal.decreases-output::put_arguments-each
+decreases-output::put_arguments-each l = l.next
 
-abbrev pub invariant-others_alone-each : goal.invariant-others_alone-each
-invariant-others_alone-each l = (output.others_alone l.names (inside l.names l.levels) l.here (the_args (part_at l.tree.nodes l.fn.more)) l.fn.log ≡ output.others_alone l.names (inside l.names l.levels) l.here (the_args (part_at l.tree.nodes l.next)) l.log) × (parts l.out ≡ parts l.fn.out)
+abbrev pub invariant-output::others_alone-each : goal.invariant-output::others_alone-each
+invariant-output::others_alone-each l = (output.others_alone l.names (inside l.names l.levels) l.here (the_args (part_at l.tree.nodes l.fn.more)) l.fn.log ≡ output.others_alone l.names (inside l.names l.levels) l.here (the_args (part_at l.tree.nodes l.next)) l.log) × (parts l.out ≡ parts l.fn.out)
 
-abbrev pub invariant-put_arguments-each : goal.invariant-put_arguments-each
-invariant-put_arguments-each l = (output.put_arguments l.names (inside l.names l.levels) l.here (putting_of l.fn.putting (second (parts l.fn.out)) (top (parts l.fn.out))) (the_args (part_at l.tree.nodes l.fn.more)) l.fn.log ≡ output.put_arguments l.names (inside l.names l.levels) l.here (putting_of l.putting (second (parts l.out)) (top (parts l.out))) (the_args (part_at l.tree.nodes l.next)) l.log) × (pop (pop (parts l.out)) ≡ pop (pop (parts l.fn.out)))
+abbrev pub invariant-output::put_arguments-each : goal.invariant-output::put_arguments-each
+invariant-output::put_arguments-each l = (output.put_arguments l.names (inside l.names l.levels) l.here (putting_of l.fn.putting (second (parts l.fn.out)) (top (parts l.fn.out))) (the_args (part_at l.tree.nodes l.fn.more)) l.fn.log ≡ output.put_arguments l.names (inside l.names l.levels) l.here (putting_of l.putting (second (parts l.out)) (top (parts l.out))) (the_args (part_at l.tree.nodes l.next)) l.log) × (pop (pop (parts l.out)) ≡ pop (pop (parts l.fn.out)))
 
 -- ---- reducers
 
-abbrev pub decreases-no_reducer : goal.decreases-no_reducer
-decreases-no_reducer l = 100 * l.levels + 73
+abbrev pub decreases-reducers::no_reducer : goal.decreases-reducers::no_reducer
+decreases-reducers::no_reducer l = 100 * l.levels + 73
 
-abbrev pub decreases-attribute_reducer : goal.decreases-attribute_reducer
-decreases-attribute_reducer l = 100 * l.levels + 74
+abbrev pub decreases-reducers::attribute_reducer : goal.decreases-reducers::attribute_reducer
+decreases-reducers::attribute_reducer l = 100 * l.levels + 74
 
-abbrev pub decreases-name_reducer : goal.decreases-name_reducer
-decreases-name_reducer l = 100 * l.levels + 75
+abbrev pub decreases-reducers::name_reducer : goal.decreases-reducers::name_reducer
+decreases-reducers::name_reducer l = 100 * l.levels + 75
 
-abbrev pub decreases-reducer_of : goal.decreases-reducer_of
-decreases-reducer_of l = 100 * l.levels + 76
+abbrev pub decreases-reducers::reducer_of : goal.decreases-reducers::reducer_of
+decreases-reducers::reducer_of l = 100 * l.levels + 76
 
 -- ---- choices
 
-abbrev pub decreases-static_constrained : goal.decreases-static_constrained
-decreases-static_constrained l = 100 * l.levels + 21
+abbrev pub decreases-choices::static_constrained : goal.decreases-choices::static_constrained
+decreases-choices::static_constrained l = 100 * l.levels + 21
 
-abbrev pub decreases-static_bounded : goal.decreases-static_bounded
-decreases-static_bounded l = 100 * l.levels + 21
+abbrev pub decreases-choices::static_bounded : goal.decreases-choices::static_bounded
+decreases-choices::static_bounded l = 100 * l.levels + 21
 
-abbrev pub decreases-static_range : goal.decreases-static_range
-decreases-static_range l = 100 * l.levels + 22
+abbrev pub decreases-choices::static_range : goal.decreases-choices::static_range
+decreases-choices::static_range l = 100 * l.levels + 22
 
-abbrev pub decreases-chosen_value : goal.decreases-chosen_value
-decreases-chosen_value l = 100 * l.levels + 23
+abbrev pub decreases-choices::chosen_value : goal.decreases-choices::chosen_value
+decreases-choices::chosen_value l = 100 * l.levels + 23
 
-abbrev pub decreases-chosen_span : goal.decreases-chosen_span
-decreases-chosen_span l = 100 * l.levels + 23
+abbrev pub decreases-choices::chosen_span : goal.decreases-choices::chosen_span
+decreases-choices::chosen_span l = 100 * l.levels + 23
 
 -- ---- iterations
 
-abbrev pub decreases-chunk_count : goal.decreases-chunk_count
-decreases-chunk_count l = 100 * l.levels + 63
+abbrev pub decreases-iterations::chunk_count : goal.decreases-iterations::chunk_count
+decreases-iterations::chunk_count l = 100 * l.levels + 63
 
-abbrev pub decreases-chunked_by : goal.decreases-chunked_by
-decreases-chunked_by l = 100 * l.levels + 64
+abbrev pub decreases-iterations::chunked_by : goal.decreases-iterations::chunked_by
+decreases-iterations::chunked_by l = 100 * l.levels + 64
 
-abbrev pub decreases-walked : goal.decreases-walked
-decreases-walked l = 100 * l.levels + 65
+abbrev pub decreases-iterations::walked : goal.decreases-iterations::walked
+decreases-iterations::walked l = 100 * l.levels + 65
 
-abbrev pub decreases-filter_where : goal.decreases-filter_where
-decreases-filter_where l = 100 * l.levels + 65
+abbrev pub decreases-iterations::filter_where : goal.decreases-iterations::filter_where
+decreases-iterations::filter_where l = 100 * l.levels + 65
 
-abbrev pub decreases-entered_with : goal.decreases-entered_with
-decreases-entered_with l = 100 * l.levels + 66
+abbrev pub decreases-iterations::entered_with : goal.decreases-iterations::entered_with
+decreases-iterations::entered_with l = 100 * l.levels + 66
 
 -- the brackets of a loop's chunk specification have a level of their own
-abbrev pub decreases-entered : goal.decreases-entered
-decreases-entered l = 100 * max l.levels l.inner + 67
+abbrev pub decreases-iterations::entered : goal.decreases-iterations::entered
+decreases-iterations::entered l = 100 * max l.levels l.inner + 67
 
-abbrev pub decreases-sequence_folded : goal.decreases-sequence_folded
-decreases-sequence_folded l = 100 * l.levels + 86
+abbrev pub decreases-iterations::sequence_folded : goal.decreases-iterations::sequence_folded
+decreases-iterations::sequence_folded l = 100 * l.levels + 86
 
-abbrev pub decreases-sequence : goal.decreases-sequence
-decreases-sequence l = 100 * l.levels + 87
+abbrev pub decreases-iterations::sequence : goal.decreases-iterations::sequence
+decreases-iterations::sequence l = 100 * l.levels + 87
 
 -- aggregates.rt, array_aggregates.rt, record_aggregates.rt
 
-abbrev pub decreases-field_value : goal.decreases-field_value
-decreases-field_value l = 100 * l.levels + 46
+abbrev pub decreases-record_aggregates::field_value : goal.decreases-record_aggregates::field_value
+decreases-record_aggregates::field_value l = 100 * l.levels + 46
 
-abbrev pub decreases-fields_value : goal.decreases-fields_value
-decreases-fields_value l = 100 * l.levels + 47
+abbrev pub decreases-record_aggregates::fields_value : goal.decreases-record_aggregates::fields_value
+decreases-record_aggregates::fields_value l = 100 * l.levels + 47
 
-abbrev pub decreases-some_fields : goal.decreases-some_fields
-decreases-some_fields l = 100 * l.levels + 48
+abbrev pub decreases-record_aggregates::some_fields : goal.decreases-record_aggregates::some_fields
+decreases-record_aggregates::some_fields l = 100 * l.levels + 48
 
-abbrev pub decreases-by_position : goal.decreases-by_position
-decreases-by_position l = 100 * l.levels + 47
+abbrev pub decreases-record_aggregates::by_position : goal.decreases-record_aggregates::by_position
+decreases-record_aggregates::by_position l = 100 * l.levels + 47
 
-abbrev pub decreases-record_values : goal.decreases-record_values
-decreases-record_values l = 100 * l.levels + 48
+abbrev pub decreases-record_aggregates::record_values : goal.decreases-record_aggregates::record_values
+decreases-record_aggregates::record_values l = 100 * l.levels + 48
 
-abbrev pub decreases-record_positions : goal.decreases-record_positions
-decreases-record_positions l = 100 * l.levels + 49
+abbrev pub decreases-record_aggregates::record_positions : goal.decreases-record_aggregates::record_positions
+decreases-record_aggregates::record_positions l = 100 * l.levels + 49
 
-abbrev pub decreases-record_rest : goal.decreases-record_rest
-decreases-record_rest l = 100 * l.levels + 49
+abbrev pub decreases-record_aggregates::record_rest : goal.decreases-record_aggregates::record_rest
+decreases-record_aggregates::record_rest l = 100 * l.levels + 49
 
-abbrev pub decreases-record_assoc : goal.decreases-record_assoc
-decreases-record_assoc l = 100 * l.levels + 49
+abbrev pub decreases-record_aggregates::record_assoc : goal.decreases-record_aggregates::record_assoc
+decreases-record_aggregates::record_assoc l = 100 * l.levels + 49
 
-abbrev pub decreases-record_assocs : goal.decreases-record_assocs
-decreases-record_assocs l = 100 * l.levels + 50
+abbrev pub decreases-record_aggregates::record_assocs : goal.decreases-record_aggregates::record_assocs
+decreases-record_aggregates::record_assocs l = 100 * l.levels + 50
 
-abbrev pub decreases-positional_record : goal.decreases-positional_record
-decreases-positional_record l = 100 * l.levels + 51
+abbrev pub decreases-record_aggregates::positional_record : goal.decreases-record_aggregates::positional_record
+decreases-record_aggregates::positional_record l = 100 * l.levels + 51
 
-abbrev pub decreases-named_record : goal.decreases-named_record
-decreases-named_record l = 100 * l.levels + 51
+abbrev pub decreases-record_aggregates::named_record : goal.decreases-record_aggregates::named_record
+decreases-record_aggregates::named_record l = 100 * l.levels + 51
 
-abbrev pub decreases-record_aggregate : goal.decreases-record_aggregate
-decreases-record_aggregate l = 100 * l.levels + 52
+abbrev pub decreases-record_aggregates::record_aggregate : goal.decreases-record_aggregates::record_aggregate
+decreases-record_aggregates::record_aggregate l = 100 * l.levels + 52
 
-abbrev pub decreases-no_aggregate : goal.decreases-no_aggregate
-decreases-no_aggregate l = 100 * l.levels + 46
+abbrev pub decreases-array_aggregates::no_aggregate : goal.decreases-array_aggregates::no_aggregate
+decreases-array_aggregates::no_aggregate l = 100 * l.levels + 46
 
-abbrev pub decreases-inner_aggregate : goal.decreases-inner_aggregate
-decreases-inner_aggregate l = 100 * l.levels + 47
+abbrev pub decreases-array_aggregates::inner_aggregate : goal.decreases-array_aggregates::inner_aggregate
+decreases-array_aggregates::inner_aggregate l = 100 * l.levels + 47
 
-abbrev pub decreases-component : goal.decreases-component
-decreases-component l = 100 * l.levels + 48
+abbrev pub decreases-array_aggregates::component : goal.decreases-array_aggregates::component
+decreases-array_aggregates::component l = 100 * l.levels + 48
 
-abbrev pub decreases-array_choice : goal.decreases-array_choice
-decreases-array_choice l = 100 * l.levels + 46
+abbrev pub decreases-array_aggregates::array_choice : goal.decreases-array_aggregates::array_choice
+decreases-array_aggregates::array_choice l = 100 * l.levels + 46
 
-abbrev pub decreases-array_choices : goal.decreases-array_choices
-decreases-array_choices l = 100 * l.levels + 47
+abbrev pub decreases-array_aggregates::array_choices : goal.decreases-array_aggregates::array_choices
+decreases-array_aggregates::array_choices l = 100 * l.levels + 47
 
-abbrev pub decreases-chosen_assoc : goal.decreases-chosen_assoc
-decreases-chosen_assoc l = 100 * l.levels + 49
+abbrev pub decreases-array_aggregates::chosen_assoc : goal.decreases-array_aggregates::chosen_assoc
+decreases-array_aggregates::chosen_assoc l = 100 * l.levels + 49
 
-abbrev pub decreases-each_assoc : goal.decreases-each_assoc
-decreases-each_assoc l = 100 * l.levels + 49
+abbrev pub decreases-array_aggregates::each_assoc : goal.decreases-array_aggregates::each_assoc
+decreases-array_aggregates::each_assoc l = 100 * l.levels + 49
 
-abbrev pub decreases-array_assoc : goal.decreases-array_assoc
-decreases-array_assoc l = 100 * l.levels + 50
+abbrev pub decreases-array_aggregates::array_assoc : goal.decreases-array_aggregates::array_assoc
+decreases-array_aggregates::array_assoc l = 100 * l.levels + 50
 
-abbrev pub decreases-array_assocs : goal.decreases-array_assocs
-decreases-array_assocs l = 100 * l.levels + 51
+abbrev pub decreases-array_aggregates::array_assocs : goal.decreases-array_aggregates::array_assocs
+decreases-array_aggregates::array_assocs l = 100 * l.levels + 51
 
-abbrev pub decreases-array_values : goal.decreases-array_values
-decreases-array_values l = 100 * l.levels + 49
+abbrev pub decreases-array_aggregates::array_values : goal.decreases-array_aggregates::array_values
+decreases-array_aggregates::array_values l = 100 * l.levels + 49
 
-abbrev pub decreases-array_positions : goal.decreases-array_positions
-decreases-array_positions l = 100 * l.levels + 50
+abbrev pub decreases-array_aggregates::array_positions : goal.decreases-array_aggregates::array_positions
+decreases-array_aggregates::array_positions l = 100 * l.levels + 50
 
-abbrev pub decreases-array_rest : goal.decreases-array_rest
-decreases-array_rest l = 100 * l.levels + 49
+abbrev pub decreases-array_aggregates::array_rest : goal.decreases-array_aggregates::array_rest
+decreases-array_aggregates::array_rest l = 100 * l.levels + 49
 
-abbrev pub decreases-positional_array : goal.decreases-positional_array
-decreases-positional_array l = 100 * l.levels + 52
+abbrev pub decreases-array_aggregates::positional_array : goal.decreases-array_aggregates::positional_array
+decreases-array_aggregates::positional_array l = 100 * l.levels + 52
 
-abbrev pub decreases-named_array : goal.decreases-named_array
-decreases-named_array l = 100 * l.levels + 52
+abbrev pub decreases-array_aggregates::named_array : goal.decreases-array_aggregates::named_array
+decreases-array_aggregates::named_array l = 100 * l.levels + 52
 
-abbrev pub decreases-dimension_aggregate : goal.decreases-dimension_aggregate
-decreases-dimension_aggregate l = 100 * l.levels + 53
+abbrev pub decreases-array_aggregates::dimension_aggregate : goal.decreases-array_aggregates::dimension_aggregate
+decreases-array_aggregates::dimension_aggregate l = 100 * l.levels + 53
 
-abbrev pub decreases-array_at : goal.decreases-array_at
-decreases-array_at l = 100 * l.levels + 54
+abbrev pub decreases-array_aggregates::array_at : goal.decreases-array_aggregates::array_at
+decreases-array_aggregates::array_at l = 100 * l.levels + 54
 
-abbrev pub decreases-composite_at : goal.decreases-composite_at
-decreases-composite_at l = 100 * l.levels + 55
+abbrev pub decreases-aggregates::composite_at : goal.decreases-aggregates::composite_at
+decreases-aggregates::composite_at l = 100 * l.levels + 55
 
-abbrev pub decreases-exprs_alone : goal.decreases-exprs_alone
-decreases-exprs_alone l = 100 * l.levels + 46
+abbrev pub decreases-aggregates::exprs_alone : goal.decreases-aggregates::exprs_alone
+decreases-aggregates::exprs_alone l = 100 * l.levels + 46
 
-abbrev pub decreases-optional_alone : goal.decreases-optional_alone
-decreases-optional_alone l = 100 * l.levels + 46
+abbrev pub decreases-aggregates::optional_alone : goal.decreases-aggregates::optional_alone
+decreases-aggregates::optional_alone l = 100 * l.levels + 46
 
-abbrev pub decreases-assocs_alone : goal.decreases-assocs_alone
-decreases-assocs_alone l = 100 * l.levels + 46
+abbrev pub decreases-aggregates::assocs_alone : goal.decreases-aggregates::assocs_alone
+decreases-aggregates::assocs_alone l = 100 * l.levels + 46
 
-abbrev pub decreases-contents_alone : goal.decreases-contents_alone
-decreases-contents_alone l = 100 * l.levels + 47
+abbrev pub decreases-aggregates::contents_alone : goal.decreases-aggregates::contents_alone
+decreases-aggregates::contents_alone l = 100 * l.levels + 47
 
-abbrev pub decreases-misplaced : goal.decreases-misplaced
-decreases-misplaced l = 100 * l.levels + 48
+abbrev pub decreases-aggregates::misplaced : goal.decreases-aggregates::misplaced
+decreases-aggregates::misplaced l = 100 * l.levels + 48
 
-abbrev pub decreases-aggregate_of : goal.decreases-aggregate_of
-decreases-aggregate_of l = 100 * l.levels + 56
+abbrev pub decreases-aggregates::aggregate_of : goal.decreases-aggregates::aggregate_of
+decreases-aggregates::aggregate_of l = 100 * l.levels + 56
 
-abbrev pub decreases-aggregate : goal.decreases-aggregate
-decreases-aggregate l = 100 * l.levels + 57
+abbrev pub decreases-aggregates::aggregate : goal.decreases-aggregates::aggregate
+decreases-aggregates::aggregate l = 100 * l.levels + 57
 
-abbrev pub decreases-one_value : goal.decreases-one_value
-decreases-one_value l = 100 * l.levels + 57
+abbrev pub decreases-aggregates::one_value : goal.decreases-aggregates::one_value
+decreases-aggregates::one_value l = 100 * l.levels + 57
 
-abbrev pub decreases-fields_value-fields : goal.decreases-fields_value-fields
-decreases-fields_value-fields l = length l.fields - l.i
+abbrev pub decreases-record_aggregates::fields_value-each : goal.decreases-record_aggregates::fields_value-each
+decreases-record_aggregates::fields_value-each l = length l.fields - l.i
 
-abbrev pub decreases-record_values-values : goal.decreases-record_values-values
-decreases-record_values-values l = l.next
+abbrev pub decreases-record_aggregates::record_values-values : goal.decreases-record_aggregates::record_values-values
+decreases-record_aggregates::record_values-values l = l.next
 
-abbrev pub decreases-record_assocs-assocs : goal.decreases-record_assocs-assocs
-decreases-record_assocs-assocs l = l.next
+abbrev pub decreases-record_aggregates::record_assocs-assocs : goal.decreases-record_aggregates::record_assocs-assocs
+decreases-record_aggregates::record_assocs-assocs l = l.next
 
-abbrev pub decreases-array_choices-choices : goal.decreases-array_choices-choices
-decreases-array_choices-choices l = l.next
+abbrev pub decreases-array_aggregates::array_choices-choices : goal.decreases-array_aggregates::array_choices-choices
+decreases-array_aggregates::array_choices-choices l = l.next
 
-abbrev pub decreases-array_assocs-assocs : goal.decreases-array_assocs-assocs
-decreases-array_assocs-assocs l = l.next
+abbrev pub decreases-array_aggregates::array_assocs-assocs : goal.decreases-array_aggregates::array_assocs-assocs
+decreases-array_aggregates::array_assocs-assocs l = l.next
 
-abbrev pub decreases-array_values-values : goal.decreases-array_values-values
-decreases-array_values-values l = l.next
+abbrev pub decreases-array_aggregates::array_values-values : goal.decreases-array_aggregates::array_values-values
+decreases-array_aggregates::array_values-values l = l.next
 
-abbrev pub decreases-exprs_alone-exprs : goal.decreases-exprs_alone-exprs
-decreases-exprs_alone-exprs l = l.next
+abbrev pub decreases-aggregates::exprs_alone-exprs : goal.decreases-aggregates::exprs_alone-exprs
+decreases-aggregates::exprs_alone-exprs l = l.next
 
-abbrev pub decreases-assocs_alone-assocs : goal.decreases-assocs_alone-assocs
-decreases-assocs_alone-assocs l = l.next
+abbrev pub decreases-aggregates::assocs_alone-assocs : goal.decreases-aggregates::assocs_alone-assocs
+decreases-aggregates::assocs_alone-assocs l = l.next
 
-abbrev pub invariant-fields_value-fields : goal.invariant-fields_value-fields
-invariant-fields_value-fields l = (aggregates.fields_value l.names (inside l.names l.levels) l.here (part_if l.fn.done (top (parts l.fn.out))) (drop l.fn.place l.fields) (the_expr (part_at l.tree.nodes l.id)) l.fn.log ≡ aggregates.fields_value l.names (inside l.names l.levels) l.here (part_if l.whole (top (parts l.out))) (drop l.i l.fields) (the_expr (part_at l.tree.nodes l.id)) l.log) × (pop (parts l.out) ≡ pop (parts l.fn.out))
+abbrev pub invariant-record_aggregates::fields_value-each : goal.invariant-record_aggregates::fields_value-each
+invariant-record_aggregates::fields_value-each l = (aggregates.fields_value l.names (inside l.names l.levels) l.here (part_if l.fn.done (top (parts l.fn.out))) (drop l.fn.place l.fields) (the_expr (part_at l.tree.nodes l.id)) l.fn.log ≡ aggregates.fields_value l.names (inside l.names l.levels) l.here (part_if l.whole (top (parts l.out))) (drop l.i l.fields) (the_expr (part_at l.tree.nodes l.id)) l.log) × (pop (parts l.out) ≡ pop (parts l.fn.out))
 
-abbrev pub invariant-record_values-values : goal.invariant-record_values-values
-invariant-record_values-values l = (aggregates.record_values l.names (inside l.names l.levels) l.here (counted l.fn.positions l.fields (parts l.fn.out)) (the_exprs (part_at l.tree.nodes l.fn.more)) l.fn.log ≡ aggregates.record_values l.names (inside l.names l.levels) l.here (counted l.all l.fields (parts l.out)) (the_exprs (part_at l.tree.nodes l.next)) l.log) × (pop (parts l.out) ≡ pop (parts l.fn.out))
+abbrev pub invariant-record_aggregates::record_values-values : goal.invariant-record_aggregates::record_values-values
+invariant-record_aggregates::record_values-values l = (aggregates.record_values l.names (inside l.names l.levels) l.here (counted l.fn.positions l.fields (parts l.fn.out)) (the_exprs (part_at l.tree.nodes l.fn.more)) l.fn.log ≡ aggregates.record_values l.names (inside l.names l.levels) l.here (counted l.all l.fields (parts l.out)) (the_exprs (part_at l.tree.nodes l.next)) l.log) × (pop (parts l.out) ≡ pop (parts l.fn.out))
 
-abbrev pub invariant-record_assocs-assocs : goal.invariant-record_assocs-assocs
-invariant-record_assocs-assocs l = (aggregates.record_assocs l.names (inside l.names l.levels) l.here l.all (filled l.fn.filling (parts l.fn.out)) (the_assocs (part_at l.tree.nodes l.fn.more)) l.fn.log ≡ aggregates.record_assocs l.names (inside l.names l.levels) l.here l.all (filled l.whole (parts l.out)) (the_assocs (part_at l.tree.nodes l.next)) l.log) × (pop (parts l.out) ≡ pop (parts l.fn.out))
+abbrev pub invariant-record_aggregates::record_assocs-assocs : goal.invariant-record_aggregates::record_assocs-assocs
+invariant-record_aggregates::record_assocs-assocs l = (aggregates.record_assocs l.names (inside l.names l.levels) l.here l.all (filled l.fn.filling (parts l.fn.out)) (the_assocs (part_at l.tree.nodes l.fn.more)) l.fn.log ≡ aggregates.record_assocs l.names (inside l.names l.levels) l.here l.all (filled l.whole (parts l.out)) (the_assocs (part_at l.tree.nodes l.next)) l.log) × (pop (parts l.out) ≡ pop (parts l.fn.out))
 
-abbrev pub invariant-array_choices-choices : goal.invariant-array_choices-choices
-invariant-array_choices-choices l = (aggregates.array_choices (inside l.names l.levels) l.here l.kind l.alone l.last (chosen l.fn.choosing (parts l.fn.out)) (the_choices (part_at l.tree.nodes l.fn.more)) l.fn.log ≡ aggregates.array_choices (inside l.names l.levels) l.here l.kind l.alone l.last (chosen l.choosing (parts l.out)) (the_choices (part_at l.tree.nodes l.next)) l.log) × (pop (parts l.out) ≡ pop (parts l.fn.out))
+abbrev pub invariant-array_aggregates::array_choices-choices : goal.invariant-array_aggregates::array_choices-choices
+invariant-array_aggregates::array_choices-choices l = (aggregates.array_choices (inside l.names l.levels) l.here l.kind l.alone l.last (chosen l.fn.choosing (parts l.fn.out)) (the_choices (part_at l.tree.nodes l.fn.more)) l.fn.log ≡ aggregates.array_choices (inside l.names l.levels) l.here l.kind l.alone l.last (chosen l.choosing (parts l.out)) (the_choices (part_at l.tree.nodes l.next)) l.log) × (pop (parts l.out) ≡ pop (parts l.fn.out))
 
-abbrev pub invariant-array_assocs-assocs : goal.invariant-array_assocs-assocs
-invariant-array_assocs-assocs l = (aggregates.array_assocs l.names (inside l.names l.levels) l.here (rows.component l.names (inside l.names l.levels) l.row) l.row.dimension l.row.apart (placed l.fn.placing (parts l.fn.out)) (the_assocs (part_at l.tree.nodes l.fn.more)) l.fn.log ≡ aggregates.array_assocs l.names (inside l.names l.levels) l.here (rows.component l.names (inside l.names l.levels) l.row) l.row.dimension l.row.apart (placed l.placing (parts l.out)) (the_assocs (part_at l.tree.nodes l.next)) l.log) × (pop (pop (parts l.out)) ≡ pop (pop (parts l.fn.out)))
+abbrev pub invariant-array_aggregates::array_assocs-assocs : goal.invariant-array_aggregates::array_assocs-assocs
+invariant-array_aggregates::array_assocs-assocs l = (aggregates.array_assocs l.names (inside l.names l.levels) l.here (rows.component l.names (inside l.names l.levels) l.row) l.row.dimension l.row.apart (placed l.fn.placing (parts l.fn.out)) (the_assocs (part_at l.tree.nodes l.fn.more)) l.fn.log ≡ aggregates.array_assocs l.names (inside l.names l.levels) l.here (rows.component l.names (inside l.names l.levels) l.row) l.row.dimension l.row.apart (placed l.placing (parts l.out)) (the_assocs (part_at l.tree.nodes l.next)) l.log) × (pop (pop (parts l.out)) ≡ pop (pop (parts l.fn.out)))
 
-abbrev pub invariant-array_values-values : goal.invariant-array_values-values
-invariant-array_values-values l = (aggregates.array_values l.here (rows.component l.names (inside l.names l.levels) l.row) l.row.dimension l.row.apart l.fn.place (placed l.fn.placing (parts l.fn.out)) (the_exprs (part_at l.tree.nodes l.fn.more)) l.fn.log ≡ aggregates.array_values l.here (rows.component l.names (inside l.names l.levels) l.row) l.row.dimension l.row.apart l.index (placed l.placing (parts l.out)) (the_exprs (part_at l.tree.nodes l.next)) l.log) × (pop (pop (parts l.out)) ≡ pop (pop (parts l.fn.out)))
+abbrev pub invariant-array_aggregates::array_values-values : goal.invariant-array_aggregates::array_values-values
+invariant-array_aggregates::array_values-values l = (aggregates.array_values l.here (rows.component l.names (inside l.names l.levels) l.row) l.row.dimension l.row.apart l.fn.place (placed l.fn.placing (parts l.fn.out)) (the_exprs (part_at l.tree.nodes l.fn.more)) l.fn.log ≡ aggregates.array_values l.here (rows.component l.names (inside l.names l.levels) l.row) l.row.dimension l.row.apart l.index (placed l.placing (parts l.out)) (the_exprs (part_at l.tree.nodes l.next)) l.log) × (pop (pop (parts l.out)) ≡ pop (pop (parts l.fn.out)))
 
-abbrev pub invariant-exprs_alone-exprs : goal.invariant-exprs_alone-exprs
-invariant-exprs_alone-exprs l = (aggregates.exprs_alone l.names (inside l.names l.levels) l.here (the_exprs (part_at l.tree.nodes l.fn.more)) l.fn.log ≡ aggregates.exprs_alone l.names (inside l.names l.levels) l.here (the_exprs (part_at l.tree.nodes l.next)) l.log) × (parts l.out ≡ parts l.fn.out)
+abbrev pub invariant-aggregates::exprs_alone-exprs : goal.invariant-aggregates::exprs_alone-exprs
+invariant-aggregates::exprs_alone-exprs l = (aggregates.exprs_alone l.names (inside l.names l.levels) l.here (the_exprs (part_at l.tree.nodes l.fn.more)) l.fn.log ≡ aggregates.exprs_alone l.names (inside l.names l.levels) l.here (the_exprs (part_at l.tree.nodes l.next)) l.log) × (parts l.out ≡ parts l.fn.out)
 
-abbrev pub invariant-assocs_alone-assocs : goal.invariant-assocs_alone-assocs
-invariant-assocs_alone-assocs l = (aggregates.assocs_alone l.names (inside l.names l.levels) l.here (the_assocs (part_at l.tree.nodes l.fn.more)) l.fn.log ≡ aggregates.assocs_alone l.names (inside l.names l.levels) l.here (the_assocs (part_at l.tree.nodes l.next)) l.log) × (parts l.out ≡ parts l.fn.out)
+abbrev pub invariant-aggregates::assocs_alone-assocs : goal.invariant-aggregates::assocs_alone-assocs
+invariant-aggregates::assocs_alone-assocs l = (aggregates.assocs_alone l.names (inside l.names l.levels) l.here (the_assocs (part_at l.tree.nodes l.fn.more)) l.fn.log ≡ aggregates.assocs_alone l.names (inside l.names l.levels) l.here (the_assocs (part_at l.tree.nodes l.next)) l.log) × (parts l.out ≡ parts l.fn.out)
 
 -- end of aggregates.rt, array_aggregates.rt, record_aggregates.rt

@@ -5,8 +5,8 @@ use Rattle.tree_nodes.specs.Parts.{the_args}
 use Rattle.tree_nodes.specs.Tables.{part_at}
 use Rattle.name_expressions.proofs.attributes.first_in.Given as goal
 
-abbrev pub invariant-args : goal.invariant-args
-invariant-args l = spec.first_named (calls.arg_names (the_args (part_at l.tree.nodes l.next))) ≡ spec.first_named (calls.arg_names (the_args (part_at l.tree.nodes l.more)))
+abbrev pub invariant-each : goal.invariant-each
+invariant-each l = spec.first_named (calls.arg_names (the_args (part_at l.tree.nodes l.next))) ≡ spec.first_named (calls.arg_names (the_args (part_at l.tree.nodes l.more)))
 
-abbrev pub decreases-args : goal.decreases-args
-decreases-args l = l.next
+abbrev pub decreases-each : goal.decreases-each
+decreases-each l = l.next

@@ -1,4 +1,4 @@
-use Rattle.std.proofs.Common.{◌≡◌, sym, ◌∙◌}
+use Rattle.std.proofs.Common.{sym, ◌∙◌}
 use Rattle.name_rules.specs.Names as spec
 use Rattle.name_rules.specs.Types.{fields_of, shape_in}
 use Rattle.typed_parts.specs.Stack.{parts, top}
@@ -9,13 +9,14 @@ pub returns-then-field-name : goal.returns-then-field-name
 returns-then-field-name c =
     rw c.part_place.ensures
     (found_shows c.args.names.now c.args.place c.args.at c.fields.i (fields_of (shape_in c.args.log.now c.args.number)) c.in-Some.field c.args.log.now
-        (parts c.args.out.now) (parts c.fields.out) (parts c.selected_field.new.out)
-        (spec.field_from c.args.names.now c.args.place (top (parts c.args.out.now)) c.args.at 0 (fields_of (shape_in c.args.log.now c.args.number)) c.args.log.now)
-        c.fields.invariant.0 (sym c.field_at.ensures ∙ c.in-Some.is) (c.if-field-name.true ∙ c.symbol-name.ensures) c.fields.invariant.1 c.in_ok-selected_field.ensures)
+    (parts c.args.out.now) (parts c.fields.out) (parts c.selected_field.new.out)
+    (spec.field_from c.args.names.now c.args.place (top (parts c.args.out.now)) c.args.at 0 (fields_of (shape_in c.args.log.now c.args.number)) c.args.log.now)
+    c.fields.invariant.0 (sym c.field_at.ensures ∙ c.in-Some.is) (c.if-field-name.true ∙ c.symbol-name.ensures) c.fields.invariant.1 c.in_ok-selected_field.ensures)
 
 pub fields-preserved : goal.fields-preserved
-fields-preserved c =
-    (c.fields.invariant.0
-        ∙ next_shows c.args.names.now c.args.place (top (parts c.args.out.now)) c.args.at c.fields.i (fields_of (shape_in c.args.log.now c.args.number)) c.in-Some.field c.args.log.now
-            (sym c.field_at.ensures ∙ c.in-Some.is) (λ e. c.if-field-name.false (e ∙ sym c.symbol-name.ensures)),
-     c.fields.invariant.1)
+fields-preserved c = (
+  c.fields.invariant.0
+      ∙ next_shows c.args.names.now c.args.place (top (parts c.args.out.now)) c.args.at c.fields.i (fields_of (shape_in c.args.log.now c.args.number)) c.in-Some.field c.args.log.now
+      (sym c.field_at.ensures ∙ c.in-Some.is) (λ e. c.if-field-name.false (e ∙ sym c.symbol-name.ensures)),
+  c.fields.invariant.1,
+)
