@@ -43,7 +43,7 @@ fn tokens_know_their_places_and_spellings(rt: HostRuntime) {
     for (a, b, want) in SAME {
         assert!(rt; tokens.same(a, b) == want, "{a} {b}");
     }
-    assert!(rt; tokens.kind(3) == Kind::Mark(22));
+    assert!(rt; tokens.kind(3) == Kind::Mark(21));
     assert!(rt; tokens.kind(7) == Kind::End);
     assert!(rt; tokens.place(7) == Place { line: 1, column: 1 });
     assert!(rt; tokens.slice(7).is_empty());
