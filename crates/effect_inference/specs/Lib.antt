@@ -1,0 +1,4 @@
+pub mod Paths
+pub mod Gather
+pub mod Program
+pub mod Exact

@@ -1,0 +1,9 @@
+//! The effects of texts (9.10.1): what each parallel construct and each subprogram of a typed program touches, and what it
+//! calls.
+//!
+//! `infer` walks once over each body, and once more over the text of each parallel construct for every construct around it.
+//! Calls stay calls: what a subprogram touches is listed once, at its number, however often it is called.
+#![tactic(auto)]
+
+pub mod effects;
+pub mod environment;
