@@ -2,7 +2,7 @@
 
 ghost use Rattle.std.specs.Prelude.{◌≡◌, ◌⊎◌, ◌<◌, ℕ, List, Some, None, map, string_bytes};
 ghost use Rattle.ada_base.specs.declared.reason.Reason.{Reason};
-ghost use Rattle.ada_meaning.specs.Law.{Ended, Raised, TurnsSpent};
+ghost use Rattle.ada_meaning.specs.Law.{Ended, IsRaceFree, Raised, TurnsSpent};
 ghost use Rattle.ada_port.specs.Ports.{IsTold, Rose, fetched};
 ghost use Rattle.ada_run.specs.Compile.{IsAccepted, IsFaultOf};
 ghost use Rattle.ada_run.specs.Compiled.{Compiled};
@@ -70,7 +70,8 @@ fn answer_words<
 /// and 8 for want of memory.
 ///
 /// The words are `MODE FILE [--workers N] [--chunks PLAN] [--turns K] [--vars]`, where MODE is `check` or `run`. The text is
-/// fetched, compiled and run; what it writes goes to out, and a line to err says why the status isn't 0. Once a device has
+/// fetched, compiled and run: the bytes written and the final variables are those of a run that the manual permits under the
+/// plan, and where the sequential run is calm, of that run. What it writes goes to out, and a line to err says why the status isn't 0. Once a device has
 /// failed it is not asked again. So far nothing is asked of the runtime and the pulse.
 pub fn run_words<
     R: Threads + Sync,
@@ -92,6 +93,10 @@ pub fn run_words<
     ensures answer { Answered (((s : I) → IsTold (I.state s)) × ((s : O) → IsTold (O.state s))) (map string_bytes words.now) result.status
         (outside (F.state shelf.old) (I.state input) (O.state out) (E.state err.old))
         (outside (F.state shelf.new) (I.state result.input) (O.state result.out) (E.state err.new)) }
+
+    // No two threads of an accepted text touch one variable where one writes, under whatever plan, limit, number of workers
+    // and input.
+    ensures race_free { (q : Asked) (told : List ℕ) (c : Compiled) → asked (map string_bytes words.now) ≡ Some q → (F.state shelf.old).told q.file ≡ Some told → IsAccepted (fetched told) c → IsRaceFree c.program }
 
     // An accepted text is run or accepted, a text with a fault is refused, and wrong words get the usage line.
     ensures runs { (q : Asked) (told : List ℕ) (c : Compiled) → asked (map string_bytes words.now) ≡ Some q → q.mode ≡ modes.Run → (F.state shelf.old).told q.file ≡ Some told → IsAccepted (fetched told) c →

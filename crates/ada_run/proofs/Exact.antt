@@ -1,9 +1,11 @@
 -- Each phase is exact, and so is all of compiling.
-use Rattle.std.proofs.Common.{◌≡◌, ◌⊎◌, inl, inr, ℕ, ◌<◌, ◌≤◌, arith, List, [], ◌∷◌, Option, Some, None, sym, ◌∙◌, ap}
+use Rattle.std.proofs.Common.{◌≡◌, ◌⊎◌, inl, inr, ⊎_elim, ℕ, ◌<◌, ◌≤◌, arith, List, [], ◌∷◌, Option, Some, None, sym, ◌∙◌, ap}
 use Rattle.std.specs.Str.{chars}
 use Rattle.ada_base.specs.Derivations.{Derives, DerivesWithin}
 use Rattle.ada_base.specs.Tokens.{Tokenized}
 use Rattle.ada_base.specs.declared.token.Token.{Token}
+use Rattle.ada_conflict.specs.Answer.{HasNoClash, IsLeastClash, IsLeastTouched, IsNotAfter}
+use Rattle.ada_effects.specs.Conflicts.{ClashPair, Clashes}
 use Rattle.ada_lexer.proofs.OneList.{one_list}
 use Rattle.ada_lexer.proofs.OneFault as lexical'
 use Rattle.ada_lexer.specs.Lexed.{AreLexed}
@@ -21,11 +23,11 @@ use Rattle.name_rules.specs.declared.log.Fault as names
 use Rattle.name_symbols.specs.Naming.{names_of}
 use Rattle.ada_grammar.proofs.Verdicts.{one_tree, one_deep}
 use Rattle.reader_combinators.proofs.FirstFaults as first
-use Rattle.ada_run.specs.Built.{built, misnamed}
-use Rattle.ada_run.specs.Compile.{lexing, parsing, naming, blocking, building, checking, resolving, reading, compiling}
-use Rattle.ada_run.specs.Complaints.{Complaint, lexical, unexpected, too_deep, blocking_call}
+use Rattle.ada_run.specs.Built.{misnamed}
+use Rattle.ada_run.specs.Compile.{lexing, parsing, naming, blocking, forming, separating, building, finishing, shaping, checking, resolving, reading, compiling}
+use Rattle.ada_run.specs.Complaints.{Complaint, lexical, unexpected, too_deep, blocking_call, global_touched, clash}
 use Rattle.ada_run.specs.Phases.{IsExact}
-use Rattle.ada_run.proofs.Phases.{followed_exact, function_exact}
+use Rattle.ada_run.proofs.Phases.{followed_exact}
 
 abbrev tokenized : List ℕ → List Token → Tokenized
 tokenized text items = record { text = text; items = items }
@@ -102,11 +104,71 @@ blocking_exact t = record {
   apart = λ p q x (k, is) (at, callee, f, same). (blocked_law p).0 k at callee f.breaks;
 }
 
+pub forming_exact : IsExact forming
+forming_exact = record {
+  one_result = λ p a b (f, is) (g, are). is ∙ sym are;
+  one_fault = λ p x y (n, is) (m, are). is ∙ sym are;
+  apart = λ p q x (f, is) (n, same). n f;
+}
+
+-- of two pairs of which neither stands behind the other each is the other
+same_pair : (a b c d : ℕ) → IsNotAfter a b c d → IsNotAfter c d a b → (a ≡ c) × (b ≡ d)
+same_pair a b c d (inl less) (inl more) = absurd (omega (arith, less, more))
+same_pair a b c d (inl less) (inr (same, more)) = absurd (omega (arith, less, same))
+same_pair a b c d (inr (same, less)) (inl more) = absurd (omega (arith, same, more))
+same_pair a b c d (inr (same, less)) (inr (same', more)) = (same, omega (arith, less, more))
+
+one_touched : (p : typed.Program) (a x b y : ℕ) → IsLeastTouched p a x → IsLeastTouched p b y → a ≡ b
+one_touched p a x b y f g =
+    let (k, held, touched) = f.touched in
+    let (l, kept, also) = g.touched in
+    (same_pair a x b y (f.least l kept b y also) (g.least k held a x touched)).0
+
+one_clash : (p : typed.Program) (a x b y : ℕ) → IsLeastClash p a x → IsLeastClash p b y → (a ≡ b) × (x ≡ y)
+one_clash p a x b y f g =
+    let (k, held, touched) = f.clash in
+    let (l, kept, also) = g.clash in
+    same_pair a x b y (f.least l kept b y also) (g.least k held a x touched)
+
+no_clash : (p : typed.Program) (a x : ℕ) → HasNoClash p → IsLeastClash p a x → ⊥
+no_clash p a x none f =
+    let (k, held, (order, either)) = f.clash in
+    ⊎_elim (none k held a x) (none k held x a) either
+
+pub separating_exact : (t : Tokenized) → IsExact (separating t)
+separating_exact t = record {
+  one_result = λ p a b (k, is) (l, are). is ∙ sym are;
+  one_fault = λ p x y v w. faults p x y v w;
+  apart = λ p q x r v. none p q x r v;
+}
+  where
+    faults : (p : typed.Program) (x y : Complaint) → (separating t).wrong p x → (separating t).wrong p y → x ≡ y
+    faults p x y (inl (asked, (at, object, f, same))) (inl (also, (at', object', g, same'))) = same ∙ ap (global_touched t) (one_touched p at object at' object' f g) ∙ sym same'
+    faults p x y (inl (asked, (at, object, f, same))) (inr (strict, clashes)) = let (k, held, touched) = f.touched in absurd (strict asked k held at object touched)
+    faults p x y (inr (strict, clashes)) (inl (asked, (at, object, f, same))) = let (k, held, touched) = f.touched in absurd (strict asked k held at object touched)
+    faults p x y (inr (strict, (at, other, f, same))) (inr (strict', (at', other', g, same'))) =
+        let (one, two) = one_clash p at other at' other' f g in
+        same ∙ ap (λ (k : ℕ). clash t k other) one ∙ ap (clash t at') two ∙ sym same'
+
+    none : (p q : typed.Program) (x : Complaint) → (separating t).right p q → (separating t).wrong p x → ⊥
+    none p q x ((strict, free), is) (inl (asked, (at, object, f, same))) = let (k, held, touched) = f.touched in strict asked k held at object touched
+    none p q x ((strict, free), is) (inr (strict', (at, other, f, same))) = no_clash p at other free f
+
 pub building_exact : (t : Tokenized) → IsExact (building t)
-building_exact t = function_exact (built t)
+building_exact t = record {
+  one_result = λ p a b is are. is ∙ sym are;
+  one_fault = λ p x y v w. absurd v;
+  apart = λ p a x is v. v;
+}
+
+pub finishing_exact : (t : Tokenized) → IsExact (finishing t)
+finishing_exact t = followed_exact (separating t) (λ program. building t) (separating_exact t) (λ program. building_exact t)
+
+pub shaping_exact : (t : Tokenized) → IsExact (shaping t)
+shaping_exact t = followed_exact forming (λ program. finishing t) forming_exact (λ program. finishing_exact t)
 
 checking_exact : (t : Tokenized) → IsExact (checking t)
-checking_exact t = followed_exact (blocking t) (λ program. building t) (blocking_exact t) (λ program. building_exact t)
+checking_exact t = followed_exact (blocking t) (λ program. shaping t) (blocking_exact t) (λ program. shaping_exact t)
 
 resolving_exact : (t : Tokenized) → IsExact (resolving t)
 resolving_exact t = followed_exact (naming t) (λ tree. checking t) (naming_exact t) (λ tree. checking_exact t)

@@ -1,9 +1,17 @@
 -- A run of the interpreter is a run of a unit.
-use Rattle.std.proofs.Common.{◌≡◌, ℕ, List, true, Result, Ok, Err, inl, refl, sym, ap, ◌∙◌, subst}
+use Rattle.std.proofs.Common.{◌≡◌, ◌<◌, ℕ, List, [], ◌∷◌, Bool, true, Result, Ok, Err, inl, refl, sym, ap, ◌∙◌, subst}
+use Rattle.std.specs.Prelude.{All}
 use Rattle.ada_base.specs.Cuts.{Plan}
 use Rattle.ada_base.specs.Input.{Nothing}
+use Rattle.ada_meaning.proofs.Law.{one_sequential_law}
+use Rattle.ada_meaning.specs.Law.{EachPositive, EndsItself, IsPermitted, IsPlan, Outcome}
+use Rattle.ada_meaning.specs.Law as law
 use Rattle.ada_meaning.specs.Nonblocking.{KeepsRule}
-use Rattle.ada_meaning.specs.Programs.{Setting}
+use Rattle.ada_meaning.specs.Programs.{Setting, input_of, sequential}
+use Rattle.ada_meaning.specs.Sequential.{IsCalm}
+use Rattle.chunk_plan.specs.Plans.{HasNoZero, plan_of}
+use Rattle.chunk_plan.specs.declared.plan.Plan as given
+use Rattle.chunk_plan.specs.declared.plan.Plan.TheVariants as plan
 use Rattle.ada_port.specs.Ports.{Stream, Rose, bytes_of}
 use Rattle.ada_stored.specs.Stored.{Fails, MemoryFault, outset, outcome_of}
 use Rattle.ada_stored.proofs.StoredProof.{stored_law}
@@ -58,11 +66,16 @@ faults_left t j q e = ap (λ (x : Outside). x.faults) e
 put_left : (t : Image) (j q : Stream) → opened t.state.held j q ≡ outside_of t → bytes_of q ≡ t.state.output
 put_left t j q e = ap (λ (x : Outside). x.put) e
 
+-- a run in order of a program whose sequential run is calm
+calm_comes : (p : Program) (set : Setting) (input : List ℕ) (early : Bool) (o : Outcome) → KeepsRule p → IsPlan set.plan → set.one ≡ true → IsPermitted p set input early o
+    → IsCalm (sequential p set.limit (input_of input)) → EndsItself o.ending → o ≡ law.outcome_of p input (sequential p set.limit (input_of input))
+calm_comes p set input early o rule sound one permitted calm itself = (one_sequential_law p set input rule sound one calm).0 early o permitted itself
+
 pub ran_comes : {Tells : Type 0} (w : Work) (r : Result (Unit {0}) End) (s t : Image) (f : Finals) (j q : Stream) → IsRun Tells w r s t → f.kept ≡ t.state.kept → f.declared ≡ t.state.declared
     → opened t.state.held j q ≡ outside_of t → Comes Tells w (end_of r w.limit f) s j q
 ran_comes w r s t f j q is k d e = record {
   causes = λ i o same. causes_of r w.limit f i j o q (subst (λ (x : Faults). shows.Causes r x (faults_of j q)) same (subst (λ (x : Faults). shows.Causes r s.faults x) (sym (faults_left t j q e)) is.cause));
-  run = λ told rule slots begun.
+  run = λ told rule sound slots begun.
       let both = is.permitted told rule slots begun in
       record {
         outcome = outcome_of (program w.typed.now) s.state.output (answer_of r) t.state;
@@ -70,6 +83,7 @@ ran_comes w r s t f j q is k d e = record {
         permitted = both.1.1;
         ends = ends_as (program w.typed.now) s.state.output w.limit r t f k d;
         output = put_left t j q e ∙ both.0;
+        calm = calm_comes (program w.typed.now) (setting_of w) s.state.input both.1.0 (outcome_of (program w.typed.now) s.state.output (answer_of r) t.state) rule sound refl both.1.1;
       };
 }
 
@@ -86,15 +100,15 @@ abbrev pub in_order : Plan → ℕ → Setting
 in_order plan limit = record { plan = plan; one = true; limit = limit }
 
 -- a run from the outset
-outset_runs : {Tells : Type 0} (w : Work) (end : RunEnd) (slots : ℕ) (i j o q : Stream) → KeepsRule (program w.typed.now) → Comes Tells w end (begins_at slots (opened Nothing i o)) j q
+outset_runs : {Tells : Type 0} (w : Work) (end : RunEnd) (slots : ℕ) (i j o q : Stream) → KeepsRule (program w.typed.now) → IsPlan w.plan.now → Comes Tells w end (begins_at slots (opened Nothing i o)) j q
     → Runs Tells (program w.typed.now) (setting_of w) end i j o q
-outset_runs w end slots i j o q rule c = record { causes = c.causes i o refl; run = λ told. c.run told rule slots refl }
+outset_runs w end slots i j o q rule sound c = record { causes = c.causes i o refl; run = λ told. c.run told rule sound slots refl }
 
-pub begun_runs : {Tells : Type 0} (w : Work) (set : Setting) (end : RunEnd) (slots : ℕ) (n : Outside) (s : Image) (i j o q : Stream) → KeepsRule (program w.typed.now) → n ≡ opened Nothing i o → s ≡ begins_at slots n → setting_of w ≡ set → Comes Tells w end s j q
+pub begun_runs : {Tells : Type 0} (w : Work) (set : Setting) (end : RunEnd) (slots : ℕ) (n : Outside) (s : Image) (i j o q : Stream) → KeepsRule (program w.typed.now) → IsPlan set.plan → n ≡ opened Nothing i o → s ≡ begins_at slots n → setting_of w ≡ set → Comes Tells w end s j q
     → Runs Tells (program w.typed.now) set end i j o q
-begun_runs {Tells} w set end slots n s i j o q rule new begun same c =
+begun_runs {Tells} w set end slots n s i j o q rule sound new begun same c =
     let from : Comes Tells w end (begins_at slots (opened Nothing i o)) j q = subst (λ (x : Image). Comes Tells w end x j q) (begun ∙ ap (begins_at slots) new) c in
-    subst (λ (x : Setting). Runs Tells (program w.typed.now) x end i j o q) same (outset_runs w end slots i j o q rule from)
+    subst (λ (x : Setting). Runs Tells (program w.typed.now) x end i j o q) same (outset_runs w end slots i j o q rule (subst (λ (x : Setting). IsPlan x.plan) (sym same) sound) from)
 
 -- a run that isn't begun
 back_is : (p n : Outside) (i j o q : Stream) → n ≡ opened Nothing i o → p ≡ n → opened p.held j q ≡ p → opened Nothing j q ≡ opened Nothing i o
@@ -113,5 +127,17 @@ unbegun_runs p set slots b n i j o q rule new back left =
             permitted = both.1.1;
             ends = refl;
             output = ap (λ (x : Outside). x.put) e ∙ both.0;
+            calm = λ calm itself. absurd itself;
           };
     }
+
+-- a plan without a zero
+each_positive : (sizes : List ℕ) → All (λ (size : ℕ). 0 < size) sizes → EachPositive sizes
+each_positive [] h = tt
+each_positive (n ∷ ns) h = (h.0, each_positive ns h.1)
+
+pub plan_is : (p : given.Plan) → HasNoZero p → IsPlan (plan_of p)
+plan_is plan.One h = tt
+plan_is (plan.Even chunks) h = h
+plan_is (plan.Sized size) h = h
+plan_is (plan.Listed sizes) h = each_positive sizes h

@@ -2,6 +2,7 @@ pub mod Phases
 pub mod Exact
 pub mod Places
 pub mod Steps
+pub mod RaceFree
 pub mod Words
 mod Leavings
 mod FromTheOutset

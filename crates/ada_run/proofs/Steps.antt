@@ -1,24 +1,25 @@
 -- What a phase answers is what all phases answer.
-use Rattle.std.proofs.Common.{◌≡◌, inl, inr, ℕ, List, [], ◌∷◌, Option, Bool, true, false, Some, None, refl, subst, sym, ◌∙◌, ap, Result, Ok, Err}
+use Rattle.std.proofs.Common.{◌≡◌, inl, inr, ℕ, List, Option, Bool, true, false, Some, None, refl, subst, sym, ◌∙◌, ap, Result, Ok, Err}
 use Rattle.ada_base.specs.Tokens.{Tokenized, kind_at, place_of_token}
-use Rattle.std.specs.Prelude.{slice_get}
+use Rattle.ada_conflict.specs.Answer as conflict
+use Rattle.ada_conflict.specs.declared.faults.ConflictFault.TheVariants as fault
+use Rattle.ada_meaning.specs.Formed.{IsFormed}
 use Rattle.ada_nonblock.specs.Answer.{Answers}
 use Rattle.ada_nonblock.specs.declared.calls.Blocked.{Blocked}
 use Rattle.ada_nonblock.specs.declared.calls.Blocked.TheVariants.{Call}
 use Rattle.ada_tree.specs.Parsed.{IsSyntaxFault, IsTooDeep, is_left_out}
 use Rattle.ada_tree.specs.Syntax as syntax
 use Rattle.ada_typed.specs.Syntax as typed
-use Rattle.ada_typed.specs.declared.program.Site.{Site}
 use Rattle.name_programs.specs.Resolving.{IsTold, Resolved, fault_of}
 use Rattle.name_programs.specs.declared.resolving.NameFault.{NameFault}
 use Rattle.name_rules.specs.declared.log.Fault as names
 use Rattle.name_symbols.specs.Naming.{names_of}
-use Rattle.ada_run.specs.Built.{built, built_with, misnamed}
-use Rattle.ada_run.specs.Compile.{compiling, parsing, naming, blocking, building, IsRefusal, Decides, named_refusal, refusal_of, GivesUnit, GivesRefusal}
-use Rattle.ada_run.specs.Complaints.{Complaint, complaint, left_out, unexpected, unexpected_kind, too_deep, blocking_call, not_built}
+use Rattle.ada_run.specs.Built.{misnamed}
+use Rattle.ada_run.specs.Compile.{compiling, parsing, naming, blocking, forming, separating, IsRefusal, Decides, named_refusal, refusal_of, GivesUnit, GivesRefusal}
+use Rattle.ada_run.specs.Complaints.{Complaint, beginning, complaint, left_out, unexpected, unexpected_kind, too_deep, blocking_call, global_touched, clash, not_built}
 use Rattle.ada_run.specs.declared.note.Note.TheVariants as note
 use Rattle.ada_run.specs.Phases.{Phase, followed}
-use Rattle.ada_run.specs.Compiled.{Compiled, compiled, compiled_of}
+use Rattle.ada_run.specs.Compiled.{Compiled, compiled_of}
 use Rattle.ada_run.specs.declared.unit.Unit.{Unit}
 use Rattle.ada_run.specs.declared.refusal.Refusal.{Refusal}
 use Rattle.ada_run.specs.declared.refusal.Refusal.TheVariants.{Refused, OutOfMemory}
@@ -78,32 +79,12 @@ token_of (Call at callee) = at
 pub refuses_blocking : (t : Tokenized) (p : typed.Program) (fault : Blocked) (r : Refusal) → Answers p (Err fault) → r ≡ refusal_of (blocking_call t (token_of fault)) → IsRefusal (blocking t) p r
 refuses_blocking t p (Call at callee) r told same = refuses (blocking t) p (blocking_call t at) r (at, callee, told.0, refl) same
 
--- the refusals of what isn't built, and the unit of what is
-some_is : {A : Type 0} (x y : A) → (let a : Option A = Some x in a ≡ Some y) → x ≡ y
-some_is x y e = cc
+-- the refusals of what isn't formed, and of threads that aren't apart
+pub refuses_unformed : (p : typed.Program) (r : Refusal) → (IsFormed p → ⊥) → r ≡ refusal_of (not_built beginning) → IsRefusal forming p r
+refuses_unformed p r none same = refuses forming p (not_built beginning) r (none, refl) same
 
-some_or_none : {A : Type 0} (x : A) → (let a : Option A = Some x in a ≡ None) → ⊥
-some_or_none x e = absurd cc
+pub refuses_touched : (t : Tokenized) (p : typed.Program) (at object : ℕ) (r : Refusal) → conflict.Answers p (Err (fault.GlobalTouched at object)) → r ≡ refusal_of (global_touched t at) → IsRefusal (separating t) p r
+refuses_touched t p at object r told same = refuses (separating t) p (global_touched t at) r (inl (told.0, (at, object, told.1, refl))) same
 
-none_or_some : {A : Type 0} (x : A) → (let a : Option A = None in a ≡ Some x) → ⊥
-none_or_some x e = absurd cc
-
-site_told : (t : Tokenized) (p : typed.Program) (sites : List Site) (s : Site) → slice_get sites 0 ≡ Some s → built_with t p sites ≡ Err (not_built (place_of_token t s.at))
-site_told t p [] s e = absurd (none_or_some s e)
-site_told t p (x ∷ xs) s e = ap (λ (y : Site). told y) (some_is x s e) where
-  told : Site → Result Compiled Complaint
-  told y = Err (not_built (place_of_token t y.at))
-
-no_site : (sites : List Site) → slice_get sites 0 ≡ None → sites ≡ []
-no_site [] e = refl
-no_site (x ∷ xs) e = absurd (some_or_none x e)
-
-pub refuses_site : (t : Tokenized) (p : typed.Program) (s : Site) (r : Refusal) → slice_get p.sites 0 ≡ Some s → r ≡ refusal_of (complaint note.NotBuilt (place_of_token t s.at)) → IsRefusal (building t) p r
-refuses_site t p s r sites same = refuses (building t) p (not_built (place_of_token t s.at)) r (site_told t p p.sites s sites) same
-
-ok_compiled : Compiled → Result Compiled Complaint
-ok_compiled x = Ok x
-
-pub builds : (t : Tokenized) (p : typed.Program) (c : Compiled) → slice_get p.sites 0 ≡ None → c ≡ compiled t p → built t p ≡ Ok c
-unfolding ok_compiled
-builds t p c sites same = ap (built_with t p) (no_site p.sites sites) ∙ ap ok_compiled (sym same)
+pub refuses_clash : (t : Tokenized) (p : typed.Program) (at other : ℕ) (r : Refusal) → conflict.Answers p (Err (fault.Clash at other)) → r ≡ refusal_of (clash t at other) → IsRefusal (separating t) p r
+refuses_clash t p at other r told same = refuses (separating t) p (clash t at other) r (inr (told.0, (at, other, told.1, refl))) same

@@ -1,13 +1,9 @@
--- What is wrong with the names and types of a text, and which programs aren't built yet.
-use Rattle.std.specs.Prelude.{List, [], ◌∷◌, Result, Ok, Err}
+-- What is wrong with the names and types of a text.
 use Rattle.ada_base.specs.Tokens.{Tokenized, place_of_token}
-use Rattle.ada_typed.specs.Syntax.{Program}
-use Rattle.ada_typed.specs.declared.program.Site.{Site}
 use Rattle.name_rules.specs.declared.log.Fault.{Fault}
 use Rattle.name_rules.specs.declared.log.Rule.{Rule}
 use Rattle.name_rules.specs.declared.log.Rule.TheVariants as rule
-use Rattle.ada_run.specs.Complaints.{Complaint, complaint, not_built}
-use Rattle.ada_run.specs.Compiled.{Compiled, compiled}
+use Rattle.ada_run.specs.Complaints.{Complaint, complaint}
 use Rattle.ada_run.specs.declared.note.Note.{Note}
 use Rattle.ada_run.specs.declared.note.Note.TheVariants as note
 
@@ -27,11 +23,3 @@ note_of (rule.Limit which count) = note.LimitPassed
 
 abbrev pub misnamed : Tokenized → Fault → Complaint
 misnamed t f = complaint (note_of f.rule) (place_of_token t f.at)
-
--- So far no program has a parallel construct: the first one is told.
-abbrev pub built_with : Tokenized → Program → List Site → Result Compiled Complaint
-built_with t p (s ∷ ss) = Err (not_built (place_of_token t s.at))
-built_with t p [] = Ok (compiled t p)
-
-abbrev pub built : Tokenized → Program → Result Compiled Complaint
-built t p = built_with t p p.sites

@@ -1,7 +1,10 @@
 -- What a text is compiled to, phase by phase, and the answers of compile.
-use Rattle.std.specs.Prelude.{◌≡◌, ◌⊎◌, ⊤, ℕ, List, Option, Some, None, Result, Ok, Err}
+use Rattle.std.specs.Prelude.{◌≡◌, ◌⊎◌, ⊤, ℕ, true, List, Option, Some, None, Result, Ok, Err}
 use Rattle.ada_base.specs.Tokens.{Tokenized}
+use Rattle.ada_conflict.specs.Answer.{HasNoClash, IsLeastClash, IsLeastTouched}
+use Rattle.ada_effects.specs.Conflicts.{IsStrict}
 use Rattle.ada_lexer.specs.Lexed.{AreLexed}
+use Rattle.ada_meaning.specs.Formed.{IsFormed}
 use Rattle.ada_meaning.specs.Nonblocking.{KeepsRule}
 use Rattle.ada_nonblock.specs.Answer.{IsFirst}
 use Rattle.ada_tree.specs.Faults.{Fault, IsFirstFault}
@@ -12,11 +15,11 @@ use Rattle.name_rules.specs.Resolved.{TypedOf}
 use Rattle.name_rules.specs.declared.log.Fault as names
 use Rattle.name_programs.specs.Resolving.{IsTold}
 use Rattle.name_symbols.specs.Naming.{names_of}
-use Rattle.ada_run.specs.Complaints.{Complaint, lexical, unexpected, too_deep, blocking_call}
-use Rattle.ada_run.specs.Built.{misnamed, built}
+use Rattle.ada_run.specs.Complaints.{Complaint, beginning, lexical, unexpected, too_deep, blocking_call, global_touched, clash, not_built}
+use Rattle.ada_run.specs.Built.{misnamed}
 use Rattle.ada_run.specs.Notes.{code_of}
-use Rattle.ada_run.specs.Phases.{Phase, followed, by_function}
-use Rattle.ada_run.specs.Compiled.{Compiled, compiled_of}
+use Rattle.ada_run.specs.Phases.{Phase, followed}
+use Rattle.ada_run.specs.Compiled.{Compiled, compiled, compiled_of}
 use Rattle.ada_run.specs.declared.unit.Unit.{Unit}
 use Rattle.ada_run.specs.declared.refusal.Refusal.{Refusal}
 use Rattle.ada_run.specs.declared.refusal.Refusal.TheVariants.{Refused, OutOfMemory}
@@ -51,13 +54,40 @@ blocking t = record {
   wrong = λ program c. (at callee : ℕ) × IsFirst program at callee × (c ≡ blocking_call t at);
 }
 
--- from a typed program to its unit; wrong is what isn't built yet
+-- from a typed program that is formed to itself; one that isn't isn't built yet
+abbrev pub forming : Phase typed.Program typed.Program Complaint
+forming = record {
+  right = λ program same. IsFormed program × (same ≡ program);
+  wrong = λ program c. (IsFormed program → ⊥) × (c ≡ not_built beginning);
+}
+
+-- no effects of the threads of a parallel construct clash, and where the strict rule is asked for no global variable is
+-- touched (9.10.1)
+abbrev pub AreApart : typed.Program → Type 0
+AreApart program = (program.strict ≡ true → IsStrict program) × HasNoClash program
+
+-- from a typed program whose threads are apart to itself; wrong is the least breach of the strict rule, and where that
+-- holds or isn't asked for the least clash
+abbrev pub separating : Tokenized → Phase typed.Program typed.Program Complaint
+separating t = record {
+  right = λ program same. AreApart program × (same ≡ program);
+  wrong = λ program c. ((program.strict ≡ true) × ((at object : ℕ) × IsLeastTouched program at object × (c ≡ global_touched t at)))
+      ⊎ ((program.strict ≡ true → IsStrict program) × ((at other : ℕ) × IsLeastClash program at other × (c ≡ clash t at other)));
+}
+
+-- from a typed program to its unit
 abbrev pub building : Tokenized → Phase typed.Program Compiled Complaint
-building t = by_function (built t)
+building t = record { right = λ program unit. unit ≡ compiled t program; wrong = λ program c. ⊥ }
 
 -- from a typed program, from a tree and from tokens to the unit
+abbrev pub finishing : Tokenized → Phase typed.Program Compiled Complaint
+finishing t = followed (separating t) (λ program. building t)
+
+abbrev pub shaping : Tokenized → Phase typed.Program Compiled Complaint
+shaping t = followed forming (λ program. finishing t)
+
 abbrev pub checking : Tokenized → Phase typed.Program Compiled Complaint
-checking t = followed (blocking t) (λ program. building t)
+checking t = followed (blocking t) (λ program. shaping t)
 
 abbrev pub resolving : Tokenized → Phase syntax.Program Compiled Complaint
 resolving t = followed (naming t) (λ tree. checking t)

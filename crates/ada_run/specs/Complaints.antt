@@ -52,6 +52,17 @@ too_deep t token = complaint note.LimitPassed (place_of_token t token)
 abbrev pub blocking_call : Tokenized → ℕ → Complaint
 blocking_call t token = complaint note.BlockingCall (place_of_token t token)
 
+-- the name or call at a token, where a parallel construct touches a global variable against the strict rule
+abbrev pub global_touched : Tokenized → ℕ → Complaint
+global_touched t token = complaint note.GlobalTouched (place_of_token t token)
+
+-- two effects at these tokens, which clash
+abbrev pub clash_at : Place → Place → Complaint
+clash_at place other = record { note = note.Clash; at = place; other = Some other; left_out = None }
+
+abbrev pub clash : Tokenized → ℕ → ℕ → Complaint
+clash t token other = clash_at (place_of_token t token) (place_of_token t other)
+
 -- what isn't built yet
 abbrev pub not_built : Place → Complaint
 not_built place = complaint note.NotBuilt place

@@ -1,5 +1,5 @@
 -- Phases of compilation. A phase goes from what the one before gave to a result, or tells what is wrong with it.
-use Rattle.std.specs.Prelude.{◌≡◌, ◌⊎◌, Result, Ok, Err}
+use Rattle.std.specs.Prelude.{◌≡◌, ◌⊎◌}
 
 -- which results a phase has for what it is given, and which faults
 pub record Phase (A B F : Type 0) : Type 1 where
@@ -19,7 +19,3 @@ followed {A} {B} {C} {F} p q = record {
   right = λ a c. (b : B) × p.right a b × (q a).right b c;
   wrong = λ a f. p.wrong a f ⊎ ((b : B) × p.right a b × (q a).wrong b f);
 }
-
--- the phase that a plain function is
-abbrev pub by_function : {A B F : Type 0} → (A → Result B F) → Phase A B F
-by_function {A} {B} {F} f = record { right = λ a b. f a ≡ Ok b; wrong = λ a x. f a ≡ Err x }

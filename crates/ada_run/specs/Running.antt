@@ -1,9 +1,10 @@
 -- How a unit ran: which run an answer tells of, and which devices failed.
 use Rattle.std.specs.Prelude.{◌≡◌, ℕ, ℤ, List, ◌++◌, Bool, true, Result, Ok, Err}
 use Rattle.ada_meaning.specs.Law as law
-use Rattle.ada_meaning.specs.Law.{Outcome, IsPermitted}
+use Rattle.ada_meaning.specs.Law.{EndsItself, IsPermitted, IsPlan, Outcome}
 use Rattle.ada_meaning.specs.Nonblocking.{KeepsRule}
-use Rattle.ada_meaning.specs.Programs.{Setting}
+use Rattle.ada_meaning.specs.Programs.{Setting, input_of, sequential}
+use Rattle.ada_meaning.specs.Sequential.{IsCalm}
 use Rattle.ada_port.specs.Ports.{Stream, Rose, bytes_of}
 use Rattle.ada_interpreter.specs.Run as interpreter
 use Rattle.ada_stored.specs.Stored.{finals_of, outset}
@@ -39,13 +40,15 @@ EndsAs p limit run_end.WriteFault o = o.ending ≡ law.WriteFault
 EndsAs p limit run_end.NoMemory o = o.ending ≡ law.NoMemory
 
 -- The answer tells of a run that is permitted under the setting on these bytes of input, and what was put before is
--- followed by its output.
+-- followed by its output. Where the sequential run is calm (it ends normally within the limit, leaves no parallel
+-- construct early, and its parallel reductions are listed ones without partial overflow), it is that run.
 pub record TellsOf (p : Program) (set : Setting) (end : RunEnd) (input before now : List ℕ) : Type 0 where
   pub outcome : Outcome
   pub early : Bool
   pub permitted : IsPermitted p set input early outcome
   pub ends : EndsAs p set.limit end outcome
   pub output : now ≡ before ++ outcome.output
+  pub calm : IsCalm (sequential p set.limit (input_of input)) → EndsItself outcome.ending → outcome ≡ law.outcome_of p input (sequential p set.limit (input_of input))
 
 -- a fault of a device is answered where its count rose, and nowhere else
 abbrev pub Causes : RunEnd → Stream → Stream → Stream → Stream → Type 0
@@ -76,5 +79,5 @@ faults_of input out = record { input = input.faults; output = out.faults }
 -- what became of a run from a state on, where the devices are now
 pub record Comes (Tells : Type 0) (w : Work) (end : RunEnd) (s : Image) (input out : Stream) : Type 0 where
   pub causes : (i o : Stream) → s.faults ≡ faults_of i o → Causes end i input o out
-  pub run : Tells → KeepsRule (program w.typed.now) → (slots : ℕ) → s.state ≡ outset slots s.state.input s.state.output
+  pub run : Tells → KeepsRule (program w.typed.now) → IsPlan w.plan.now → (slots : ℕ) → s.state ≡ outset slots s.state.input s.state.output
       → TellsOf (program w.typed.now) (interpreter.setting_of w) end s.state.input s.state.output (bytes_of out)

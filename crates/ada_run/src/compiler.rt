@@ -6,13 +6,16 @@ ghost use Rattle.ada_base.specs.Place.{place_at};
 ghost use Rattle.ada_tree.specs.Faults.{byte_limit};
 ghost use Rattle.ada_grammar.specs.Parsed.{Parsed};
 ghost use Rattle.ada_lexer.specs.Lexed.{Tells};
+ghost use Rattle.ada_meaning.specs.Formed.{IsFormed};
+ghost use Rattle.ada_meaning.specs.Law.{IsRaceFree};
+ghost use Rattle.ada_meaning.specs.Nonblocking.{KeepsRule};
 ghost use Rattle.ada_typed.specs.Programs.{program};
 ghost use Rattle.tree_views.specs.Trees.{program_of};
 ghost use Rattle.ada_run.specs.Complaints.{Complaint};
-ghost use Rattle.ada_run.specs.Compile.{Decides, IsRefusal, lexing, parsing, checking, resolving, reading, compiling, refusal_of, IsAccepted, IsFaultOf, IsRefusalOf, GivesUnit, GivesRefusal};
+ghost use Rattle.ada_run.specs.Compile.{Decides, IsRefusal, lexing, parsing, finishing, shaping, checking, resolving, reading, compiling, refusal_of, IsAccepted, IsFaultOf, IsRefusalOf, GivesUnit, GivesRefusal};
 ghost use Rattle.ada_run.specs.Compiled.{Compiled, compiled_of};
 
-use crate::naming::{built, keeps, typed_of};
+use crate::naming::{built, formed, keeps, separated, typed_of};
 use crate::note::Note;
 use crate::refusal::{BEGINNING, Refusal};
 use crate::unit::Unit;
@@ -27,10 +30,16 @@ use tree_views::Tree;
 /// lexical fault (`E01`, `E02`, `E12`); else its first syntax fault, at a token that the language leaves out (`E04`) or
 /// at another (`E03`), or the first token that stands deeper than 64 (`E12`), whichever comes first; else the least fault
 /// of its names and types (`E05`, `E06`, `E07`, `E11`, `E12`); else its first call that breaks the rule on nonblocking
-/// text (`E08`); and else `E13 not built yet`, at its first parallel construct. An accepted text gets its unit, and every
-/// fault of a text its refusal, unless memory runs out.
+/// text (`E08`); else the least token at which a parallel construct breaks the strict rule on global variables (`E09`),
+/// where that rule is asked for; and else the least pair of effects in different threads that clash (`E10`). No two threads
+/// of an accepted text touch one variable where one writes, under whatever plan, limit and number of workers.
+///
+/// An accepted text gets its unit, and every fault of a text its refusal, unless memory runs out. `E13 not built yet` at the
+/// first place is answered where what names give isn't formed as the laws of runs ask; that this never is so isn't proved
+/// yet.
 pub fn compile(alloc: Global, text: &[u8]) -> Result<Unit, Refusal>
     ensures accepted { IfOk result (λ unit. IsAccepted text.now (compiled_of unit)) }
+    ensures race_free { IfOk result (λ unit. IsRaceFree (program unit.typed)) }
     ensures refused { IfErr result (IsRefusalOf text.now) }
     ensures all_accepted { (due : Compiled) → IsAccepted text.now due → GivesUnit result due }
     ensures all_refused { (fault : Complaint) → IsFaultOf text.now fault → GivesRefusal result (refusal_of fault) }
@@ -77,6 +86,33 @@ fn checked(alloc: Global, tokens: &Tokens, typed: Typed) -> Result<Unit, Refusal
     ensures { Decides (checking tokens.now) compiled_of (program typed) result }
 {
     if let Err(refusal) = keeps(tokens, &typed) {
+        return Err(refusal);
+    }
+    match shaped(alloc, tokens, typed) {
+        Ok(unit) => Ok(unit),
+        Err(refusal) => Err(refusal),
+    }
+}
+
+fn shaped(alloc: Global, tokens: &Tokens, typed: Typed) -> Result<Unit, Refusal>
+    requires { KeepsRule (program typed) }
+    ensures { Decides (shaping tokens.now) compiled_of (program typed) result }
+{
+    if let Err(refusal) = formed(alloc, &typed) {
+        return Err(refusal);
+    }
+    match finished(alloc, tokens, typed) {
+        Ok(unit) => Ok(unit),
+        Err(refusal) => Err(refusal),
+    }
+}
+
+fn finished(alloc: Global, tokens: &Tokens, typed: Typed) -> Result<Unit, Refusal>
+    requires keeps { KeepsRule (program typed) }
+    requires formed { IsFormed (program typed) }
+    ensures { Decides (finishing tokens.now) compiled_of (program typed) result }
+{
+    if let Err(refusal) = separated(alloc, tokens, &typed) {
         return Err(refusal);
     }
     match built(alloc, tokens, typed) {

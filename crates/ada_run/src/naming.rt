@@ -1,22 +1,26 @@
-//! The typed program of a text, the rule on nonblocking text, and the unit.
+//! The typed program of a text, the rules on nonblocking text and on conflicts, and the unit.
 
 ghost use Rattle.std.specs.Prelude.{◌≡◌};
 ghost use Rattle.ada_base.specs.Tokens.{place_of_token};
-ghost use Rattle.ada_meaning.specs.Nonblocking.{KeepsRule};
+ghost use Rattle.ada_effects.specs.Accepted.{IsAccepted};
+ghost use Rattle.ada_meaning.specs.Formed.{IsFormed};
 ghost use Rattle.ada_typed.specs.Programs.{program};
 ghost use Rattle.name_programs.specs.Resolving.{fault_of};
 ghost use Rattle.tree_views.specs.Trees.{program_of};
 ghost use Rattle.ada_run.specs.Complaints.{complaint};
-ghost use Rattle.ada_run.specs.Compile.{Decides, blocking, building, naming, named_refusal, refusal_of};
+ghost use Rattle.ada_run.specs.Compile.{Decides, blocking, building, forming, naming, named_refusal, refusal_of, separating};
 ghost use Rattle.ada_run.specs.Compiled.{compiled_of};
 
 use crate::note::Note;
-use crate::refusal::Refusal;
+use crate::refusal::{BEGINNING, Refusal};
 use crate::unit::Unit;
 use crate::units::finish;
 use ada_base::Tokens;
+use ada_conflict::{ConflictFault, accept};
+use ada_formed::is_formed;
 use ada_nonblock::{Blocked, check};
 use ada_typed::Typed;
+use effect_inference::infer;
 use name_programs::{NameFault, resolve};
 use std::alloc::Global;
 use tree_views::Tree;
@@ -68,14 +72,45 @@ pub fn keeps(tokens: &Tokens, typed: &Typed) -> Result<(), Refusal>
     }
 }
 
-/// The unit of a typed program that keeps the rule on nonblocking text, or what of it isn't built yet.
+/// Whether the names and calls of a typed program are formed as the laws of runs ask (3.1, 3.6, 3.8). That names always
+/// are is not proved yet, so it is asked of each program.
+pub fn formed(alloc: Global, typed: &Typed) -> Result<(), Refusal>
+    ensures { Decides forming (λ u. program typed.now) (program typed.now) result }
+{
+    match is_formed(alloc, typed) {
+        Ok(true) => Ok(()),
+        Ok(false) => Err(Refusal::of(Note::NotBuilt, BEGINNING)),
+        Err(_) => Err(Refusal::OutOfMemory),
+    }
+}
+
+/// Whether the threads of each parallel construct are apart; if not, the least breach of the strict rule, or else the
+/// least clash (9.10.1).
+pub fn separated(alloc: Global, tokens: &Tokens, typed: &Typed) -> Result<(), Refusal>
+    requires { IsFormed (program typed.now) }
+    ensures { Decides (separating tokens.now) (λ u. program typed.now) (program typed.now) result }
+{
+    let effects = match infer(typed, alloc) {
+        Ok(effects) => effects,
+        Err(_) => return Err(Refusal::OutOfMemory),
+    };
+    match accept(typed, &effects, alloc) {
+        Ok(()) => Ok(()),
+        Err(ConflictFault::GlobalTouched { at, .. }) => {
+            Err(refused(tokens, Note::GlobalTouched, at))
+        }
+        Err(ConflictFault::Clash { at, other }) => {
+            Err(Refusal::clash(tokens.place(at), tokens.place(other)))
+        }
+        Err(ConflictFault::OutOfMemory) => Err(Refusal::OutOfMemory),
+    }
+}
+
+/// The unit of a typed program that is accepted.
 pub fn built(alloc: Global, tokens: &Tokens, typed: Typed) -> Result<Unit, Refusal>
-    requires { KeepsRule (program typed) }
+    requires { IsAccepted (program typed) }
     ensures { Decides (building tokens.now) compiled_of (program typed) result }
 {
-    if let Some(site) = typed.sites.get(0) {
-        return Err(refused(tokens, Note::NotBuilt, site.at));
-    }
     match finish(alloc, tokens, typed) {
         Ok(unit) => Ok(unit),
         Err(_) => Err(Refusal::OutOfMemory),

@@ -4,7 +4,7 @@ ghost use Rattle.std.specs.Prelude.{◌≡◌, ◌↔◌, ◌<◌, ℕ, IfOk, Is
 ghost use Rattle.ada_base.specs.Tokens.{place_of_token};
 ghost use Rattle.ada_base.specs.declared.token.Kind.TheVariants as kind;
 ghost use Rattle.ada_lexer.specs.declared.fault.LexFault.TheVariants as lex_fault;
-ghost use Rattle.ada_run.specs.Complaints.{complaint};
+ghost use Rattle.ada_run.specs.Complaints.{clash_at, complaint};
 ghost use Rattle.ada_run.specs.Compile.{IsRefusalOf, refusal_of};
 ghost use Rattle.ada_run.specs.Lines.{HasFaultAt, IsLineOf, IsWordOf, Precedes, StandInOrder, said_at, left_out_text, other_text};
 ghost use Rattle.ada_run.specs.declared.note.Note.TheVariants as notes;
@@ -39,6 +39,19 @@ impl Refusal {
             code: note.code(),
             at,
             other: None,
+            note,
+        }
+    }
+
+    /// The refusal for two effects that clash, at these places.
+    pub(crate) fn clash(at: Place, other: Place) -> Refusal
+        ensures { result ≡ refusal_of (clash_at at other) }
+    {
+        let note = Note::Clash;
+        Refusal::Refused {
+            code: note.code(),
+            at,
+            other: Some(other),
             note,
         }
     }

@@ -1,9 +1,14 @@
 use Rattle.std.proofs.Common.{ap, ◌∙◌}
+use Rattle.ada_port.specs.Ports.{fetched}
+use Rattle.ada_run.proofs.RaceFree.{accepted_race_free}
 use Rattle.ada_cmd.specs.Answer.{number_of}
 use Rattle.ada_cmd.specs.declared.status.Status.TheVariants as status
 use Rattle.ada_cmd.proofs.Causes as causes
 use Rattle.ada_cmd.proofs.Counts as counts
 use Rattle.ada_cmd.proofs.top.run_words.Goals as goal
+
+pub returns-clause-race_free : goal.returns-clause-race_free
+returns-clause-race_free g c = λ q told compiled asks has accepted. accepted_race_free (fetched told) compiled accepted
 
 pub returns-clause-runs : goal.returns-clause-runs
 returns-clause-runs g c = rw c.number.ensures (causes.runs _ _ _ _ c.answer_words-status.ensures)

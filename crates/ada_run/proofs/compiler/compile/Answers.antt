@@ -1,3 +1,4 @@
+use Rattle.ada_run.proofs.RaceFree.{unit_race_free}
 use Rattle.ada_run.proofs.Steps.{gives_unit, gives_refusal}
 use Rattle.ada_run.proofs.compiler.compile.Goals as goal
 
@@ -6,3 +7,6 @@ returns-clause-all_accepted c = λ p accepted. gives_unit c.args.text.now c.comp
 
 pub returns-clause-all_refused : goal.returns-clause-all_refused
 returns-clause-all_refused c = λ fault wrong. gives_refusal c.args.text.now c.compiled.result fault c.compiled.ensures wrong
+
+pub returns-clause-race_free : goal.returns-clause-race_free
+returns-clause-race_free c = unit_race_free c.compiled.result

@@ -1,0 +1,27 @@
+-- What compiling accepts has no races.
+use Rattle.std.proofs.Common.{◌≡◌, ℕ, List, Result, Ok, Err, subst, sym}
+use Rattle.std.specs.Prelude.{IfOk}
+use Rattle.ada_effects.proofs.Accepting.{accept_law}
+use Rattle.ada_effects.specs.Accepted as effects
+use Rattle.ada_meaning.proofs.Unblocked.{blocked_law}
+use Rattle.ada_meaning.specs.Formed.{IsFormed}
+use Rattle.ada_meaning.specs.Law.{IsRaceFree}
+use Rattle.ada_meaning.specs.Nonblocking.{KeepsRule}
+use Rattle.ada_typed.specs.Programs.{program}
+use Rattle.ada_typed.specs.Syntax.{Program}
+use Rattle.ada_run.specs.Compile.{AreApart, IsAccepted}
+use Rattle.ada_run.specs.Compiled.{Compiled}
+use Rattle.ada_run.specs.declared.refusal.Refusal.{Refusal}
+use Rattle.ada_run.specs.declared.unit.Unit.{Unit}
+
+pub accepts : (p : Program) → KeepsRule p → IsFormed p → AreApart p → effects.IsAccepted p
+accepts p rule formed (strict, free) = record { formed = formed; unblocked = (blocked_law p).0 rule; apart = free; strict = strict }
+
+pub accepted_race_free : (text : List ℕ) (c : Compiled) → IsAccepted text c → IsRaceFree c.program
+accepted_race_free text c (t, lexed, (tree, parsed, (p, typed, (q, (rule, same), (r, (formed, same'), (s, (apart, same''), unit)))))) =
+    let of_s : IsRaceFree s = subst IsRaceFree (sym same'') (accept_law r (accepts r (subst KeepsRule (sym same') (subst KeepsRule (sym same) rule)) (subst IsFormed (sym same') formed) apart)).0 in
+    subst (λ (x : Compiled). IsRaceFree x.program) (sym unit) of_s
+
+pub unit_race_free : (r : Result Unit Refusal) → IfOk r (λ (unit : Unit). IsRaceFree (program unit.typed))
+unit_race_free (Ok unit) = (accept_law (program unit.typed) unit.accepted).0
+unit_race_free (Err refusal) = tt
