@@ -35,9 +35,6 @@ const TWICE_DECLARED: &str = "t.ada:3:19: E05 declared twice\n";
 
 const OUT_OF_RANGE: &str = "t.ada:3:16: E07 static value out of range\n";
 
-const PARALLEL: &str = "procedure Main is\nbegin\n\
-    parallel for I in 1 .. 2 loop null; end loop;\nend Main;\n";
-
 const NONBLOCKING: &str = "procedure Main with Nonblocking is\nbegin\nnull;\nend Main;\n";
 
 const BLOCKING: &str = "with Ada.Text_IO; use Ada.Text_IO;\nprocedure Main is\n\
@@ -164,13 +161,6 @@ fn each_text_has_its_output_its_line_and_its_status(rt: HostRuntime) -> Result<(
         ("run t.ada", UNDECLARED, "", UNKNOWN, 1),
         ("run t.ada", DECLARED_TWICE, "", TWICE_DECLARED, 1),
         ("run t.ada", TOO_LARGE, "", OUT_OF_RANGE, 1),
-        (
-            "run t.ada",
-            PARALLEL,
-            "",
-            "t.ada:3:1: E13 not built yet\n",
-            1,
-        ),
         (
             "run t.ada",
             BLOCKING,
