@@ -20,7 +20,7 @@ module _ (program : Program) where
         → (t : Touch) × IsIn t found × OfThread block j t.arm × (t.at ≤ at) × Includes t.access a.writes × (effect_path t.path ≡ path_of a)
 
   -- proved as `told`, of any text
-  abbrev pub ToldLaw : Type 0
+  abbrev pub ToldLaw : Type 1
   ToldLaw = (effects : Effects) → CallsBackwards program → AreEffects program effects → (block : Bool) (items : ℕ → Item → Type 0) (uses : Uses)
       → ((j : ℕ) → Tells (items j) (OfThread block j) uses) → Told block items (effects_in effects.subs uses)
 
