@@ -1,1 +1,3 @@
 pub mod Told
+pub mod Least
+pub mod Deciding
