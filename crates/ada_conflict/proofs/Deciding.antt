@@ -62,11 +62,28 @@ pub together : (p q : Path) (a b : law.Access) → path_of a ≡ effect_path p �
 together p q a b e f none h = true≢false (sym ((are_separated_decides p q).1 (turn (effect_path p) (effect_path q) e f h)) ∙ none)
 
 pub not_separated : (p q : Path) (a b : law.Access) → effect_path p ≡ path_of a → effect_path q ≡ path_of b → (AreSeparated a b → ⊥) → are_separated p q ≡ false
-not_separated p q a b e f no = go (are_separated p q) refl
+not_separated p q a b e f denied = go (are_separated p q) refl
   where
     go : (x : Bool) → are_separated p q ≡ x → are_separated p q ≡ false
-    go true known = absurd (no (turn (path_of a) (path_of b) e f ((are_separated_decides p q).0 known)))
+    go true known = absurd (denied (turn (path_of a) (path_of b) e f ((are_separated_decides p q).0 known)))
     go false known = known
+
+-- ---- arms
+
+-- of the thread of that arm
+abbrev pub thread : Bool → ℕ → ℕ
+thread false arm = 0
+thread true arm = arm
+
+pub of_thread : (block : Bool) (arm : ℕ) → OfThread block (thread block arm) arm
+of_thread false arm = tt
+of_thread true arm = refl
+
+unlike : (i j : ℕ) → not (nat_eq i j) ≡ true → i ≡ j → ⊥
+unlike i j = (Decides-not (nat_eq i j) (Decides-eqb i j)).0
+
+differ_so : (i j p q : ℕ) → i ≡ p → j ≡ q → (p ≡ q → ⊥) → not (nat_eq i j) ≡ true
+differ_so i j p q e f denied = (Decides-not (nat_eq i j) (Decides-eqb i j)).1 (λ same. denied (sym e ∙ same ∙ f))
 
 -- ---- names that go by a parameter
 
@@ -94,25 +111,13 @@ module _ (program : Program) where
   not_exempt k block p a same e none h = true≢false (sym ((exempt_one k p a e).1 h) ∙ subst (λ (x : Bool). is_exempt x p ≡ false) same none)
 
   pub is_judged : (k : Construct) (block : Bool) (p : Path) (a : law.Access) → block ≡ is_block k → effect_path p ≡ path_of a → (Exempt program k a → ⊥) → is_exempt block p ≡ false
-  is_judged k block p a same e no = subst (λ (x : Bool). is_exempt x p ≡ false) (sym same) (go (is_exempt (is_block k) p) refl)
+  is_judged k block p a same e denied = subst (λ (x : Bool). is_exempt x p ≡ false) (sym same) (go (is_exempt (is_block k) p) refl)
     where
       go : (x : Bool) → is_exempt (is_block k) p ≡ x → is_exempt (is_block k) p ≡ false
-      go true known = absurd (no ((exempt_one k p a (sym e)).0 known))
+      go true known = absurd (denied ((exempt_one k p a (sym e)).0 known))
       go false known = known
 
   -- ---- threads that are compared
-
-  -- of the thread of that arm
-  abbrev pub thread : Bool → ℕ → ℕ
-  thread false arm = 0
-  thread true arm = arm
-
-  pub of_thread : (block : Bool) (arm : ℕ) → OfThread block (thread block arm) arm
-  of_thread false arm = tt
-  of_thread true arm = refl
-
-  unlike : (i j : ℕ) → not (nat_eq i j) ≡ true → i ≡ j → ⊥
-  unlike i j = (Decides-not (nat_eq i j) (Decides-eqb i j)).0
 
   compared_one : (k : Construct) (i j : ℕ) → are_compared (is_block k) i j ≡ true → Compared program k (thread (is_block k) i) (thread (is_block k) j)
   compared_one (LoopOf site r chunk iteration stmts) i j e = tt
@@ -122,9 +127,6 @@ module _ (program : Program) where
   pub compared : (k : Construct) (block : Bool) (i j : ℕ) → block ≡ is_block k → are_compared block i j ≡ true → Compared program k (thread block i) (thread block j)
   compared k block i j same e =
       subst (λ (x : Bool). Compared program k (thread x i) (thread x j)) (sym same) (compared_one k i j (subst (λ (x : Bool). are_compared x i j ≡ true) same e))
-
-  differ_so : (i j p q : ℕ) → i ≡ p → j ≡ q → (p ≡ q → ⊥) → not (nat_eq i j) ≡ true
-  differ_so i j p q e f no = (Decides-not (nat_eq i j) (Decides-eqb i j)).1 (λ same. no (sym e ∙ same ∙ f))
 
   are_compared_one : (k : Construct) (i j p q : ℕ) → OfThread (is_block k) p i → OfThread (is_block k) q j → Compared program k p q → are_compared (is_block k) i j ≡ true
   are_compared_one (LoopOf site r chunk iteration stmts) i j p q e f c = refl

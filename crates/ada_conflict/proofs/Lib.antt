@@ -1,3 +1,4 @@
 pub mod Told
 pub mod Least
 pub mod Deciding
+pub mod Found
