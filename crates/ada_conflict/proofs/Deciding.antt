@@ -1,7 +1,7 @@
 -- Each test of a path or of arms decides what the rules say of them.
-use Rattle.std.proofs.Common.{◌≡◌, ℕ, ℤ, pos, nat_eq, List, [], ◌∷◌, map, inl, inr, ◌⊎◌, ⊎_elim, Bool, true, false, not, ◌&&◌, ◌||◌, refl, sym, ap, subst, ◌∙◌, true≢false}
+use Rattle.std.proofs.Common.{◌≡◌, ℕ, nat_eq, List, [], ◌∷◌, map, Bool, true, false, not, refl, sym, subst, ◌∙◌, true≢false}
 use Rattle.std.specs.Bool.{Decides}
-use Rattle.std.proofs.lemmas.Bool.Decides.{Decides-eqb, Decides-int_eq, Decides-not, Decides-or, Decides-and}
+use Rattle.std.proofs.lemmas.Bool.Decides.{Decides-eqb, Decides-int_eq, Decides-not, Decides-or}
 use Rattle.ada_typed.specs.Syntax.{Program}
 use Rattle.ada_effects.specs.Effects as law
 use Rattle.ada_effects.specs.Effects.{Construct, LoopOf, BlockOf, ReductionOf}
@@ -99,7 +99,6 @@ module _ (program : Program) where
   unfolding has_parameter
   has_parameter_decides [] = never
   has_parameter_decides (s ∷ ss) = Decides-or (is_parameter s) (has_parameter ss) (is_parameter_decides s) (has_parameter_decides ss)
-
 
   -- an access by that path
   exempt_one : (k : Construct) (p : Path) (a : law.Access) → path_of a ≡ effect_path p → Decides (is_exempt (is_block k) p) (Exempt program k a)

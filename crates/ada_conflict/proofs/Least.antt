@@ -1,5 +1,5 @@
 -- What is found is the least of the pairs that were put in.
-use Rattle.std.proofs.Common.{◌≡◌, ◌<◌, ◌≤◌, ℕ, List, [], ◌∷◌, Option, Some, None, inl, inr, ◌⊎◌, Bool, true, false, not, ◌&&◌, ◌||◌, cond, nat_lt, refl, sym, subst, arith}
+use Rattle.std.proofs.Common.{◌≡◌, ◌≤◌, ℕ, List, [], ◌∷◌, Option, Some, None, inl, inr, ◌⊎◌, Bool, true, false, cond, refl, sym, subst, arith}
 use Rattle.std.proofs.lemmas.Bool.Decides.{nat_tests}
 use Rattle.effect_inference.specs.declared.effects.SiteEffects.{SiteEffects}
 use Rattle.effect_inference.specs.declared.effects.Touch.{Touch}
@@ -91,7 +91,7 @@ unfolding least_touched
 reached_touched block [] found t h e = absurd h
 reached_touched block (u ∷ ts) found t (inl same) e = kept_touched block ts (cond (is_exempt block u.path) found (least (touched_at u) found)) t.at t.path.object
     (subst (λ (x : Touch). AtMost (cond (is_exempt block u.path) found (least (touched_at u) found)) x.at x.path.object) (sym same)
-      (reached_unless (is_exempt block u.path) (touched_at u) found (subst (λ (x : Touch). is_exempt block x.path ≡ false) same e)))
+    (reached_unless (is_exempt block u.path) (touched_at u) found (subst (λ (x : Touch). is_exempt block x.path ≡ false) same e)))
 reached_touched block (u ∷ ts) found t (inr h) e = reached_touched block ts (cond (is_exempt block u.path) found (least (touched_at u) found)) t h e
 
 stated_touched : (block : Bool) (ts : List Touch) (found : Option Pair) (P : ℕ → ℕ → Type 0) → ((t : Touch) → IsIn t ts → is_exempt block t.path ≡ false → P t.at t.path.object)
@@ -151,7 +151,7 @@ unfolding least_with
 reached_with block t [] found u h e = absurd h
 reached_with block t (v ∷ us) found u (inl same) e = kept_with block t us (cond (do_clash block t v) (least (in_order t.at v.at) found) found) (in_order t.at u.at).first (in_order t.at u.at).second
     (subst (λ (x : Touch). AtMost (cond (do_clash block t v) (least (in_order t.at v.at) found) found) (in_order t.at x.at).first (in_order t.at x.at).second) (sym same)
-      (reached_where (do_clash block t v) (in_order t.at v.at) found (subst (λ (x : Touch). do_clash block t x ≡ true) same e)))
+    (reached_where (do_clash block t v) (in_order t.at v.at) found (subst (λ (x : Touch). do_clash block t x ≡ true) same e)))
 reached_with block t (v ∷ us) found u (inr h) e = reached_with block t us (cond (do_clash block t v) (least (in_order t.at v.at) found) found) u h e
 
 stated_with : (block : Bool) (t : Touch) (us : List Touch) (found : Option Pair) (P : ℕ → ℕ → Type 0)
@@ -186,7 +186,7 @@ unfolding least_clash
 reached_clash block all [] found t u h i w e = absurd h
 reached_clash block all (v ∷ ts) found t u (inl same) i w e = kept_clash block all ts (cond (writes v.access) (least_with block v all found) found) (in_order t.at u.at).first (in_order t.at u.at).second
     (subst (λ (x : Touch). AtMost (cond (writes v.access) (least_with block v all found) found) (in_order x.at u.at).first (in_order x.at u.at).second) (sym same)
-      (reached_writing (writes v.access) block v all found u (subst (λ (x : Touch). writes x.access ≡ true) same w) i (subst (λ (x : Touch). do_clash block x u ≡ true) same e)))
+    (reached_writing (writes v.access) block v all found u (subst (λ (x : Touch). writes x.access ≡ true) same w) i (subst (λ (x : Touch). do_clash block x u ≡ true) same e)))
 reached_clash block all (v ∷ ts) found t u (inr h) i w e = reached_clash block all ts (cond (writes v.access) (least_with block v all found) found) t u h i w e
 
 stated_clash : (block : Bool) (all ts : List Touch) (found : Option Pair) (P : ℕ → ℕ → Type 0)
@@ -208,12 +208,12 @@ unfolding clash_of
 reached_clash_of subs [] found site i t u h j w e = absurd i
 reached_clash_of subs (s ∷ sites) found site (inl same) t u h j w e = kept_clash_of subs sites (clash_in subs s found) (in_order t.at u.at).first (in_order t.at u.at).second
     (subst (λ (x : SiteEffects). AtMost (clash_in subs x found) (in_order t.at u.at).first (in_order t.at u.at).second) same
-      (reached_clash site.block (effects_in subs site.threads) (effects_in subs site.threads) found t u h j w e))
+    (reached_clash site.block (effects_in subs site.threads) (effects_in subs site.threads) found t u h j w e))
 reached_clash_of subs (s ∷ sites) found site (inr i) t u h j w e = reached_clash_of subs sites (clash_in subs s found) site i t u h j w e
 
 pub stated_clash_of : (subs : List Uses) (sites : List SiteEffects) (found : Option Pair) (P : ℕ → ℕ → Type 0)
     → ((site : SiteEffects) → IsIn site sites → (t u : Touch) → IsIn t (effects_in subs site.threads) → IsIn u (effects_in subs site.threads) → writes t.access ≡ true → do_clash site.block t u ≡ true
-      → P (in_order t.at u.at).first (in_order t.at u.at).second)
+    → P (in_order t.at u.at).first (in_order t.at u.at).second)
     → States P found → States P (clash_of subs sites found)
 unfolding clash_of
 stated_clash_of subs [] found P given h = h
