@@ -1,5 +1,5 @@
 -- At which tokens subprograms are reached: at that of a call that leads there, and at no token after the least.
-use Rattle.std.proofs.Common.{◌≡◌, ◌<◌, ◌≤◌, ℕ, zero, suc, List, [], ◌∷◌, length, replicate, slice_get, slice_set, Option, Some, None, inl, inr, ◌⊎◌, ⊎_elim, Bool, true, false, cond, nat_eq, refl, sym, ap, subst, ◌∙◌, arith, le_trans, length-set}
+use Rattle.std.proofs.Common.{◌≡◌, ◌<◌, ◌≤◌, ℕ, zero, suc, List, [], ◌∷◌, length, replicate, slice_get, slice_set, Option, Some, None, inl, inr, ◌⊎◌, ⊎_elim, cond, nat_eq, refl, sym, ap, subst, ◌∙◌, arith, le_trans, length-set}
 use Rattle.std.proofs.lemmas.List.{length-replicate}
 use Rattle.std.proofs.lemmas.Bool.{cases_eq, cond_both}
 use Rattle.std.proofs.lemmas.Bool.Decides.{nat_tests}
@@ -232,11 +232,11 @@ module _ (subs : List Uses) where
       let was : slice_get tokens v ≡ Some (Some t) = sym same ∙ ft in
       let n : c.sub < length tokens = (let k = spread_length at uses.calls tokens in omega arith) in
       ⊎_elim
-          (λ d. let here : uses ≡ called = (let x = ap (λ z. slice_get subs z) d in cc) in
-              let token : at ≡ t = (let x = ap (λ z. slice_get tokens z) d in cc) in
-              subst (λ z. AtMost (spread at uses.calls tokens) c.sub z) token (spread_low at uses.calls tokens c (subst (λ z. IsIn c z.calls) (sym here) i) n))
-          (λ d. spread_keeps at uses.calls tokens c.sub t (g v (omega arith) called ec t was c i n))
-          (cases_eq v s)
+      (λ d. let here : uses ≡ called = (let x = ap (λ z. slice_get subs z) d in cc) in
+      let token : at ≡ t = (let x = ap (λ z. slice_get tokens z) d in cc) in
+      subst (λ z. AtMost (spread at uses.calls tokens) c.sub z) token (spread_low at uses.calls tokens c (subst (λ z. IsIn c z.calls) (sym here) i) n))
+      (λ d. spread_keeps at uses.calls tokens c.sub t (g v (omega arith) called ec t was c i n))
+      (cases_eq v s)
 
   step_closed : GoBackwards → (s : ℕ) (tokens : List (Option ℕ)) (o : Option Uses) (p : Option (Option ℕ)) → slice_get subs s ≡ o → slice_get tokens s ≡ p
       → Closed (suc s) tokens → Closed s (spread_of o p tokens)

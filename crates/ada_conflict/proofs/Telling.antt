@@ -1,21 +1,20 @@
 -- What is found of a text with its calls is exactly its effects, each at the least token at which it has them.
-use Rattle.std.proofs.Common.{◌≡◌, ◌<◌, ◌≤◌, ℕ, zero, suc, List, [], ◌∷◌, ◌++◌, length, map, slice_get, Option, Some, None, inl, inr, ◌⊎◌, ⊎_elim, Bool, true, false, cond, nat_lt, refl, sym, ap, subst, ◌∙◌, arith, le_trans}
-use Rattle.std.proofs.lemmas.Bool.{cases_eq, cond_both}
+use Rattle.std.proofs.Common.{◌≡◌, ◌<◌, ◌≤◌, ℕ, zero, suc, List, [], ◌∷◌, ◌++◌, length, map, slice_get, Option, Some, None, inl, inr, ◌⊎◌, ⊎_elim, Bool, false, cond, nat_lt, refl, sym, ap, subst, arith, le_trans}
+use Rattle.std.proofs.lemmas.Bool.{cases_eq}
 use Rattle.std.proofs.lemmas.Bool.Decides.{nat_tests}
 use Rattle.ada_typed.specs.Syntax.{Sub, Program}
 use Rattle.ada_meaning.specs.Meaning.{sub_at}
 use Rattle.ada_effects.specs.Backwards.{CallsBackwards}
-use Rattle.ada_effects.specs.Effects.{Access, Construct, Item, Touches, Calls, InFront, InSub, InCallee, Chain, IsEffect}
+use Rattle.ada_effects.specs.Effects.{Access, Item, Touches, Calls, InFront, InSub, InCallee, Chain, IsEffect}
 use Rattle.ada_effects.specs.Conflicts.{path_of}
 use Rattle.effect_inference.specs.declared.effects.Call.{Call}
 use Rattle.effect_inference.specs.declared.effects.Effects.{Effects}
-use Rattle.effect_inference.specs.declared.effects.SiteEffects.{SiteEffects}
 use Rattle.effect_inference.specs.declared.effects.Touch.{Touch}
 use Rattle.effect_inference.specs.declared.effects.Uses.{Uses}
-use Rattle.effect_inference.specs.Exact.{IsIn, effect_path, Includes, Tells, OfThread, TellsSite, AreEffects}
+use Rattle.effect_inference.specs.Exact.{IsIn, effect_path, Includes, Tells, OfThread, AreEffects}
 use Rattle.ada_conflict.specs.Called.{reached, moved, with_called, arm_bound, with_arms, effects_in}
 use Rattle.ada_conflict.proofs.Reached.{get_within, AtMost, Justified, GoBackwards, LeadsOn, reached_told, reached_low, reached_closed}
-use Rattle.ada_conflict.proofs.Told.{Told, ToldLaw, ThreadsLaw, FrontLaw}
+use Rattle.ada_conflict.proofs.Told.{ToldLaw, ThreadsLaw, FrontLaw}
 
 -- ---- lists
 
@@ -89,7 +88,7 @@ called_whole arm (v ∷ subs) (Some r ∷ tokens) found zero uses at t e f i =
     let same : uses ≡ v = cc in
     let now : at ≡ r = cc in
     called_kept arm subs tokens _ (moved arm at t) (in_right (moved arm at t) found (map (moved arm r) v.touches)
-        (subst (λ z. IsIn (moved arm at t) (map (moved arm z) v.touches)) now (in_map (moved arm at) t v.touches (subst (λ z. IsIn t z.touches) same i))))
+    (subst (λ z. IsIn (moved arm at t) (map (moved arm z) v.touches)) now (in_map (moved arm at) t v.touches (subst (λ z. IsIn t z.touches) same i))))
 called_whole arm (v ∷ subs) (Some r ∷ tokens) found (suc u) uses at t e f i = called_whole arm subs tokens _ u uses at t e f i
 
 -- ---- what is touched by calls of all arms
@@ -203,8 +202,7 @@ module _ (program : Program) where
           let x = (are.subs u w.0 w.1).touched there a (text, global) in
           let from : Chain program n c.0.sub u = subst (λ z. Chain program n z u) (sym c.4) chain in
           let l : c.0.sub < length effects.subs = (let k = chain_within n c.0.sub u (Touches there a) from text in let e = are.count in omega arith) in
-          let r = reached_by back c.0.arm uses.calls n c.0.sub u (Touches there a) c.0.at from text (reached_low effects.subs c.0.arm uses.calls c.0 c.1 refl l) in
-          (
+          let r = reached_by back c.0.arm uses.calls n c.0.sub u (Touches there a) c.0.at from text (reached_low effects.subs c.0.arm uses.calls c.0 c.1 refl l) in (
             moved c.0.arm r.token x.0,
             arms_whole effects.subs uses.calls (arm_bound uses.calls 0) uses.touches c.0.arm (moved c.0.arm r.token x.0) (below_bound uses.calls 0 c.0 c.1)
                 (λ found. called_whole c.0.arm effects.subs (reached effects.subs c.0.arm uses.calls) found u w.0 r.token x.0 w.1 r.is x.1),
