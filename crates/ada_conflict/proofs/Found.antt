@@ -17,7 +17,8 @@ use Rattle.ada_conflict.specs.declared.faults.ConflictFault.TheVariants as fault
 use Rattle.ada_conflict.specs.Answer.{IsLeastTouched, Answers, TouchedFound, ClashFound, FoundLaw}
 use Rattle.ada_conflict.specs.Breaches.{is_exempt, writes, are_compared, are_separated, do_clash, in_order, touched_of, touched_by, clash_of, clash_by}
 use Rattle.ada_conflict.specs.Called.{effects_in}
-use Rattle.ada_conflict.proofs.Told.{Told, ThreadsLaw, FrontLaw}
+use Rattle.ada_conflict.proofs.Told.{Told}
+use Rattle.ada_conflict.proofs.Telling.{threads_told, front_told}
 use Rattle.ada_conflict.proofs.Least.{AtMost, States, IsFound, below, reached_touched_of, stated_touched_of, reached_clash_of, stated_clash_of}
 use Rattle.ada_conflict.proofs.Deciding.{together, not_separated, not_exempt, is_judged, thread, of_thread, compared, are_compared_so}
 
@@ -252,35 +253,5 @@ module _ (program : Program) (effects : Effects) (known : AreEffects program eff
     clash_found program clash (stated_clash_of effects.subs effects.sites None (SomeClash program) clash_given tt) clash_reached_by,
   )
 
--- ---- the law
-
-module _ (threads_told : (program : Program) → ThreadsLaw program) (front_told : (program : Program) → FrontLaw program) where
-  pub found_by : FoundLaw
-  found_by program effects backwards known = both_found program effects known (threads_told program effects backwards known) (front_told program effects backwards known)
-
--- ---- what is answered
-
--- for the strict rule alone where it is asked for
-strict_found : (found : FoundLaw) (strict : Bool) (program : Program) (effects : Effects) → CallsBackwards program → AreEffects program effects → touched_by strict effects ≡ None → strict ≡ true → IsStrict program
-strict_found found true program effects backwards known e s = subst (TouchedFound program) e (found program effects backwards known).0
-strict_found found false program effects backwards known e s = cc
-
-touched_answer : (found : FoundLaw) (strict : Bool) (program : Program) (effects : Effects) (p : Pair) → CallsBackwards program → AreEffects program effects → touched_by strict effects ≡ Some p
-    → (strict ≡ true) × IsLeastTouched program p.first p.second
-touched_answer found true program effects p backwards known e = (refl, subst (TouchedFound program) e (found program effects backwards known).0)
-touched_answer found false program effects p backwards known e = cc
-
--- nothing breaks the rules
-pub answers_ok : (found : FoundLaw) (program : Program) (effects : Effects) → CallsBackwards program → AreEffects program effects → touched_by program.strict effects ≡ None → clash_by effects ≡ None
-    → Answers program (Ok tt)
-answers_ok found program effects backwards known e f = (strict_found found program.strict program effects backwards known e, subst (ClashFound program) f (found program effects backwards known).1)
-
--- the strict rule is asked for and broken
-pub answers_touched : (found : FoundLaw) (program : Program) (effects : Effects) (p : Pair) → CallsBackwards program → AreEffects program effects → touched_by program.strict effects ≡ Some p
-    → Answers program (Err (fault.GlobalTouched p.first p.second))
-answers_touched found program effects p backwards known e = touched_answer found program.strict program effects p backwards known e
-
--- the strict rule holds or isn't asked for, and two effects clash
-pub answers_clash : (found : FoundLaw) (program : Program) (effects : Effects) (p : Pair) → CallsBackwards program → AreEffects program effects → touched_by program.strict effects ≡ None → clash_by effects ≡ Some p
-    → Answers program (Err (fault.Clash p.first p.second))
-answers_clash found program effects p backwards known e f = (strict_found found program.strict program effects backwards known e, subst (ClashFound program) f (found program effects backwards known).1)
+pub found_law : FoundLaw
+found_law program effects backwards known = both_found program effects known (threads_told program effects backwards known) (front_told program effects backwards known)
