@@ -1,11 +1,10 @@
 -- What is found of a program's effects is the least breach of each rule.
-use Rattle.std.proofs.Common.{◌≡◌, ◌≤◌, ℕ, List, Option, Some, None, Ok, Err, inl, inr, ◌⊎◌, Bool, true, false, not, ◌&&◌, cond, nat_lt, refl, sym, ap, subst, ◌∙◌, arith}
+use Rattle.std.proofs.Common.{◌≡◌, ◌≤◌, ℕ, List, Option, Some, None, inl, inr, ◌⊎◌, Bool, true, false, not, ◌&&◌, cond, nat_lt, refl, sym, ap, subst, ◌∙◌, arith}
 use Rattle.std.proofs.lemmas.Bool.Decides.{nat_tests}
 use Rattle.ada_typed.specs.Syntax.{Program}
-use Rattle.ada_effects.specs.Backwards.{CallsBackwards}
 use Rattle.ada_effects.specs.Effects as law
 use Rattle.ada_effects.specs.Effects.{Construct, Holds, InThread, InFront, IsEffect}
-use Rattle.ada_effects.specs.Conflicts.{EffectPath, path_of, Exempt, Clashes, ClashPair, GlobalTouched, InProgram, IsStrict, IsThreadEffect}
+use Rattle.ada_effects.specs.Conflicts.{EffectPath, path_of, Exempt, Clashes, ClashPair, GlobalTouched, InProgram, IsThreadEffect}
 use Rattle.effect_inference.specs.declared.effects.Access.{Access}
 use Rattle.effect_inference.specs.declared.effects.Access.TheVariants.{Read, Write, Update}
 use Rattle.effect_inference.specs.declared.effects.Effects.{Effects}
@@ -13,9 +12,8 @@ use Rattle.effect_inference.specs.declared.effects.SiteEffects.{SiteEffects}
 use Rattle.effect_inference.specs.declared.effects.Touch.{Touch}
 use Rattle.effect_inference.specs.Exact.{IsIn, effect_path, Includes, OfThread, TellsSite, AreEffects}
 use Rattle.ada_conflict.specs.declared.faults.Pair.{Pair}
-use Rattle.ada_conflict.specs.declared.faults.ConflictFault.TheVariants as fault
-use Rattle.ada_conflict.specs.Answer.{IsLeastTouched, Answers, TouchedFound, ClashFound, FoundLaw}
-use Rattle.ada_conflict.specs.Breaches.{is_exempt, writes, are_compared, are_separated, do_clash, in_order, touched_of, touched_by, clash_of, clash_by}
+use Rattle.ada_conflict.specs.Answer.{TouchedFound, ClashFound, FoundLaw}
+use Rattle.ada_conflict.specs.Breaches.{is_exempt, writes, are_compared, are_separated, do_clash, in_order, touched_of, clash_of}
 use Rattle.ada_conflict.specs.Called.{effects_in}
 use Rattle.ada_conflict.proofs.Told.{Told}
 use Rattle.ada_conflict.proofs.Telling.{threads_told, front_told}
