@@ -1,0 +1,6 @@
+pub mod Told
+pub mod Reached
+pub mod Telling
+pub mod Least
+pub mod Deciding
+pub mod Found
