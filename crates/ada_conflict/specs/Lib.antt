@@ -1,3 +1,5 @@
 pub mod Called
+pub mod Touching
 pub mod Breaches
 pub mod Answer
+pub mod Judged

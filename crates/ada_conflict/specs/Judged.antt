@@ -1,0 +1,13 @@
+-- What is answered by what is found.
+use Rattle.std.specs.Prelude.{◌≡◌, Bool, Option, Some, None, Result, Ok, Err}
+use Rattle.effect_inference.specs.declared.effects.Effects.{Effects}
+use Rattle.ada_conflict.specs.declared.faults.ConflictFault.{ConflictFault}
+use Rattle.ada_conflict.specs.declared.faults.ConflictFault.TheVariants as fault
+use Rattle.ada_conflict.specs.Breaches.{touched_by, clash_by}
+
+-- The strict rule first, where it is asked for.
+abbrev pub Judges : Bool → Effects → Result (Unit {0}) ConflictFault → Type 0
+Judges strict effects (Ok u) = (touched_by strict effects ≡ None) × (clash_by effects ≡ None)
+Judges strict effects (Err (fault.GlobalTouched at object)) = touched_by strict effects ≡ Some (record { first = at; second = object })
+Judges strict effects (Err (fault.Clash at other)) = (touched_by strict effects ≡ None) × (clash_by effects ≡ Some (record { first = at; second = other }))
+Judges strict effects (Err fault.OutOfMemory) = Unit {0}
