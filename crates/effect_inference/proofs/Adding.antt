@@ -115,6 +115,9 @@ touch_hold there a k e = cc
 call_hold : (at callee s : ℕ) (k : Construct) → Calls at callee s ≡ Holds k → ⊥
 call_hold at callee s k e = cc
 
+abbrev touch_of : ℕ → ℕ → Access → Name → Touch
+touch_of arm at access n = record { arm = arm; at = at; access = access; path = record { object = n.object; selectors = n.selectors } }
+
 -- a touch comes from items that name the same path
 abbrev pub TouchFrom : (ℕ → Item → Type 0) → Touch → Type 0
 TouchFrom items t = (writes : Bool) → Includes t.access writes → (a : law.Access) × items t.arm (Touches t.at a) × (a.writes ≡ writes) × (path_of a ≡ effect_path t.path)
@@ -138,8 +141,13 @@ module _ (program : Program) where
     pub sites_kept : (s : SiteEffects) → IsIn s old.sites → IsIn s new.sites
     pub held : recorded ≡ true → (arm : ℕ) (k : Construct) → items arm (Holds k) → (s : SiteEffects) × IsIn s new.sites × TellsSite program k s
 
+  -- exactly the items of a text that stands in that place are added
+  pub record Adds (items : Item → Type 0) (p : Place) (old new : Gathered) : Type 0 where
+    pub grows : Grows (λ arm i. (arm ≡ p.arm) × items i) p.hidden p.sites old new
+
+module _ {program : Program} where
   pub grow_like : {P Q : ℕ → Item → Type 0} {hidden : List ℕ} {recorded : Bool} {old new : Gathered} → ((arm : ℕ) (i : Item) → P arm i → Q arm i) → ((arm : ℕ) (i : Item) → Q arm i → P arm i)
-      → Grows P hidden recorded old new → Grows Q hidden recorded old new
+      → Grows program P hidden recorded old new → Grows program Q hidden recorded old new
   grow_like to from g = record {
     touches = λ t h. in_either (g.touches t h) (λ x. inl x) (λ x. inr (x.0, λ w inc. ((x.1 w inc).0, to t.arm (Touches t.at (x.1 w inc).0) (x.1 w inc).1, (x.1 w inc).2, (x.1 w inc).3)));
     touches_kept = g.touches_kept;
@@ -152,7 +160,7 @@ module _ (program : Program) where
     held = λ on arm k h. g.held on arm k (from arm (Holds k) h);
   }
 
-  pub grow_then : {P Q : ℕ → Item → Type 0} {hidden : List ℕ} {recorded : Bool} {old middle new : Gathered} → Grows P hidden recorded old middle → Grows Q hidden recorded middle new → Grows (λ arm i. P arm i ⊎ Q arm i) hidden recorded old new
+  pub grow_then : {P Q : ℕ → Item → Type 0} {hidden : List ℕ} {recorded : Bool} {old middle new : Gathered} → Grows program P hidden recorded old middle → Grows program Q hidden recorded middle new → Grows program (λ arm i. P arm i ⊎ Q arm i) hidden recorded old new
   grow_then {old = old} {middle = middle} {new = new} f g = record {
     touches = λ t h. in_either (g.touches t h)
         (λ m. in_either (f.touches t m) (λ x. inl x) (λ x. inr (x.0, λ w inc. ((x.1 w inc).0, inl (x.1 w inc).1, (x.1 w inc).2, (x.1 w inc).3))))
@@ -168,7 +176,7 @@ module _ (program : Program) where
   }
 
   pub grow_none : {P : ℕ → Item → Type 0} (hidden : List ℕ) (recorded : Bool) (out : Gathered) → ((arm at : ℕ) (a : law.Access) → P arm (Touches at a) → ⊥) → ((arm at callee s : ℕ) → P arm (Calls at callee s) → ⊥) → ((arm : ℕ) (k : Construct) → P arm (Holds k) → ⊥)
-      → Grows P hidden recorded out out
+      → Grows program P hidden recorded out out
   grow_none hidden recorded out touch call hold = record {
     touches = λ t h. inl h;
     touches_kept = λ t h. h;
@@ -182,7 +190,7 @@ module _ (program : Program) where
   }
 
   -- what is behind the declaration of a variable
-  grow_hiding : {P : ℕ → Item → Type 0} (x : ℕ) (hidden : List ℕ) {recorded : Bool} {old new : Gathered} → Grows P (hidden ++ x ∷ []) recorded old new → Grows (λ arm i. P arm i × Outside x i) hidden recorded old new
+  grow_hiding : {P : ℕ → Item → Type 0} (x : ℕ) (hidden : List ℕ) {recorded : Bool} {old new : Gathered} → Grows program P (hidden ++ x ∷ []) recorded old new → Grows program (λ arm i. P arm i × Outside x i) hidden recorded old new
   grow_hiding x hidden g = record {
     touches = λ t h. in_either (g.touches t h) (λ y. inl y)
         (λ y. inr ((hidden_less hidden x t.path.object y.0).0, λ w inc. ((y.1 w inc).0, ((y.1 w inc).1, λ e. (hidden_less hidden x t.path.object y.0).1 (sym (ap (λ (p : EffectPath). p.object) (y.1 w inc).3) ∙ e)), (y.1 w inc).2, (y.1 w inc).3)));
@@ -198,40 +206,36 @@ module _ (program : Program) where
 
   -- ---- one arm
 
-  -- exactly the items of a text that stands in that place are added
-  pub record Adds (items : Item → Type 0) (p : Place) (old new : Gathered) : Type 0 where
-    pub grows : Grows (λ arm i. (arm ≡ p.arm) × items i) p.hidden p.sites old new
-
-  pub like : {P Q : Item → Type 0} {p : Place} {old new : Gathered} → ((i : Item) → P i → Q i) → ((i : Item) → Q i → P i) → Adds P p old new → Adds Q p old new
+  pub like : {P Q : Item → Type 0} {p : Place} {old new : Gathered} → ((i : Item) → P i → Q i) → ((i : Item) → Q i → P i) → Adds program P p old new → Adds program Q p old new
   like to from g = record { grows = grow_like (λ arm i h. (h.0, to i h.1)) (λ arm i h. (h.0, from i h.1)) g.grows }
 
-  pub after : {P Q : Item → Type 0} {p : Place} {old middle new : Gathered} → Adds P p old middle → Adds Q p middle new → Adds (λ i. P i ⊎ Q i) p old new
+  pub after : {P Q : Item → Type 0} {p : Place} {old middle new : Gathered} → Adds program P p old middle → Adds program Q p middle new → Adds program (λ i. P i ⊎ Q i) p old new
   after f g = record { grows = grow_like (λ arm i h. in_either h (λ x. (x.0, inl x.1)) (λ x. (x.0, inr x.1))) (λ arm i h. in_either h.1 (λ x. inl (h.0, x)) (λ x. inr (h.0, x))) (grow_then f.grows g.grows) }
 
   -- the second one stands first in the text
-  pub before : {P Q : Item → Type 0} {p : Place} {old middle new : Gathered} → Adds Q p old middle → Adds P p middle new → Adds (λ i. P i ⊎ Q i) p old new
+  pub before : {P Q : Item → Type 0} {p : Place} {old middle new : Gathered} → Adds program Q p old middle → Adds program P p middle new → Adds program (λ i. P i ⊎ Q i) p old new
   before f g = like (λ i h. in_either h (λ x. inr x) (λ x. inl x)) (λ i h. in_either h (λ x. inr x) (λ x. inl x)) (after f g)
 
   -- what is said of one name in two items
-  pub pair : {P Q R : Item → Type 0} {p : Place} {old middle new : Gathered} → Adds (λ i. P i ⊎ Q i) p old middle → Adds R p middle new → Adds (λ i. P i ⊎ Q i ⊎ R i) p old new
+  pub pair : {P Q R : Item → Type 0} {p : Place} {old middle new : Gathered} → Adds program (λ i. P i ⊎ Q i) p old middle → Adds program R p middle new → Adds program (λ i. P i ⊎ Q i ⊎ R i) p old new
   pair f g = like (λ i h. in_either h (λ x. in_either x (λ y. inl y) (λ y. inr (inl y))) (λ x. inr (inr x))) (λ i h. in_either h (λ x. inl (inl x)) (λ x. in_either x (λ y. inl (inr y)) (λ y. inr y))) (after f g)
 
-  pub none : {P : Item → Type 0} {p : Place} {out : Gathered} → ((i : Item) → P i → ⊥) → Adds P p out out
+  pub none : {P : Item → Type 0} {p : Place} {out : Gathered} → ((i : Item) → P i → ⊥) → Adds program P p out out
   none {p = p} {out = out} h = record { grows = grow_none p.hidden p.sites out (λ arm at a x. h (Touches at a) x.1) (λ arm at callee s x. h (Calls at callee s) x.1) (λ arm k x. h (Holds k) x.1) }
 
   -- what blocks is nothing to gather
-  pub block : {p : Place} {out : Gathered} (at callee : ℕ) → Adds (λ i. i ≡ Blocks at callee) p out out
+  pub block : {p : Place} {out : Gathered} (at callee : ℕ) → Adds program (λ i. i ≡ Blocks at callee) p out out
   block {p = p} {out = out} at callee = record {
     grows = grow_none p.hidden p.sites out (λ arm there a x. no_touch there at callee a x.1) (λ arm there second s x. no_call there at second callee s x.1) (λ arm k x. no_hold at callee k x.1);
   }
 
-  pub moved : {P : Item → Type 0} {q p : Place} {old new : Gathered} → Beside q p → Adds P q old new → Adds P p old new
+  pub moved : {P : Item → Type 0} {q p : Place} {old new : Gathered} → Beside q p → Adds program P q old new → Adds program P p old new
   moved {P = P} {q = q} {p = p} {old = old} {new = new} b g = record {
-    grows = subst (λ a. Grows (λ arm i. (arm ≡ a) × P i) p.hidden p.sites old new) b.arm
-        (subst (λ h. Grows (λ arm i. (arm ≡ q.arm) × P i) h p.sites old new) b.hidden (subst (λ s. Grows (λ arm i. (arm ≡ q.arm) × P i) q.hidden s old new) b.sites g.grows));
+    grows = subst (λ a. Grows program (λ arm i. (arm ≡ a) × P i) p.hidden p.sites old new) b.arm
+        (subst (λ h. Grows program (λ arm i. (arm ≡ q.arm) × P i) h p.sites old new) b.hidden (subst (λ s. Grows program (λ arm i. (arm ≡ q.arm) × P i) q.hidden s old new) b.sites g.grows));
   }
 
-  pub hiding : {P : Item → Type 0} (x : ℕ) (p : Place) {old new : Gathered} → Adds P (declaring x p) old new → Adds (λ i. P i × Outside x i) p old new
+  pub hiding : {P : Item → Type 0} (x : ℕ) (p : Place) {old new : Gathered} → Adds program P (declaring x p) old new → Adds program (λ i. P i × Outside x i) p old new
   hiding x p g = record { grows = grow_like (λ arm i h. (h.0.0, (h.0.1, h.1))) (λ arm i h. ((h.0, h.1.0), h.1.1)) (grow_hiding x p.hidden g.grows) }
 
   -- ---- one item
@@ -239,11 +243,8 @@ module _ (program : Program) where
   module _ (P : Item → Type 0) (arm at : ℕ) (access : Access) (n : Name) (hidden : List ℕ) (recorded : Bool) (out : Gathered)
       (from : (writes : Bool) → Includes access writes → (a : law.Access) × P (Touches at a) × (a.writes ≡ writes) × (path_of a ≡ effect_path (record { object = n.object; selectors = n.selectors })))
       (of : (i : Item) → P i → (a : law.Access) × (i ≡ Touches at a) × Includes access a.writes × (effect_path (record { object = n.object; selectors = n.selectors }) ≡ path_of a)) where
-    abbrev the_touch : Touch
-    the_touch = record { arm = arm; at = at; access = access; path = record { object = n.object; selectors = n.selectors } }
-
-    grow_touch : (b : Bool) → is_hidden hidden n.object ≡ b → Grows (λ k i. (k ≡ arm) × P i) hidden recorded out
-        (cond b out (record out { uses = record out.uses { touches = out.uses.touches ++ record { arm = arm; at = at; access = access; path = record { object = n.object; selectors = n.selectors } } ∷ [] } }))
+    grow_touch : (b : Bool) → is_hidden hidden n.object ≡ b → Grows program (λ k i. (k ≡ arm) × P i) hidden recorded out
+        (cond b out (record out { uses = record out.uses { touches = out.uses.touches ++ touch_of arm at access n ∷ [] } }))
     grow_touch true e = record {
       touches = λ t h. inl h;
       touches_kept = λ t h. h;
@@ -256,13 +257,13 @@ module _ (program : Program) where
       held = λ on k c h. absurd (touch_hold at (of (Holds c) h.1).0 c (sym (of (Holds c) h.1).1));
     }
     grow_touch false e = record {
-      touches = λ t h. in_either (in_cases t the_touch out.uses.touches h) (λ x. inl x)
+      touches = λ t h. in_either (in_cases t (touch_of arm at access n) out.uses.touches h) (λ x. inl x)
           (λ same. inr (subst (λ t. (is_hidden hidden t.path.object ≡ false) × TouchFrom (λ k i. (k ≡ arm) × P i) t) (sym same) (e, λ w inc. ((from w inc).0, (refl, (from w inc).1), (from w inc).2, (from w inc).3))));
-      touches_kept = λ t h. in_before t out.uses.touches (the_touch ∷ []) h;
+      touches_kept = λ t h. in_before t out.uses.touches (touch_of arm at access n ∷ []) h;
       touched = λ k there a h off. let x = of (Touches there a) h.1 in
           let y : Includes access a.writes × (effect_path (record { object = n.object; selectors = n.selectors }) ≡ path_of a)
                 = subst (λ b. Includes access b.writes × (effect_path (record { object = n.object; selectors = n.selectors }) ≡ path_of b)) (sym (touch_access x.1)) (x.2, x.3) in
-          (the_touch, in_last the_touch out.uses.touches, sym h.0, sym (touch_at x.1), y.0, y.1);
+          (touch_of arm at access n, in_last (touch_of arm at access n) out.uses.touches, sym h.0, sym (touch_at x.1), y.0, y.1);
       calls = λ c h. inl h;
       calls_kept = λ c h. h;
       called = λ k there callee s h. absurd (touch_call at there callee s (of (Calls there callee s) h.1).0 (sym (of (Calls there callee s) h.1).1));
@@ -271,18 +272,18 @@ module _ (program : Program) where
       held = λ on k c h. absurd (touch_hold at (of (Holds c) h.1).0 c (sym (of (Holds c) h.1).1));
     }
 
-  pub reads : (p : Place) (at cells : ℕ) (n : Name) (m : law.Named) (out : Gathered) → SameName n m → Adds (λ i. i ≡ Touches at (reading m cells)) p out (with_touch p at Read n out)
+  pub reads : (p : Place) (at cells : ℕ) (n : Name) (m : law.Named) (out : Gathered) → SameName n m → Adds program (λ i. i ≡ Touches at (reading m cells)) p out (with_touch p at Read n out)
   reads p at cells n m out s = record {
     grows = grow_touch (λ i. i ≡ Touches at (reading m cells)) p.arm at Read n p.hidden p.sites out (λ w inc. (reading m cells, refl, sym inc, sym (same_path n m s))) (λ i e. (reading m cells, e, refl, same_path n m s)) (is_hidden p.hidden n.object) refl;
   }
 
-  pub writes : (p : Place) (at cells : ℕ) (n : Name) (m : law.Named) (out : Gathered) → SameName n m → Adds (λ i. i ≡ Touches at (writing m cells)) p out (with_touch p at Write n out)
+  pub writes : (p : Place) (at cells : ℕ) (n : Name) (m : law.Named) (out : Gathered) → SameName n m → Adds program (λ i. i ≡ Touches at (writing m cells)) p out (with_touch p at Write n out)
   writes p at cells n m out s = record {
     grows = grow_touch (λ i. i ≡ Touches at (writing m cells)) p.arm at Write n p.hidden p.sites out (λ w inc. (writing m cells, refl, sym inc, sym (same_path n m s))) (λ i e. (writing m cells, e, refl, same_path n m s)) (is_hidden p.hidden n.object) refl;
   }
 
   pub updates : (p : Place) (at cells : ℕ) (n : Name) (m : law.Named) (out : Gathered) → SameName n m
-      → Adds (λ i. (i ≡ Touches at (reading m cells)) ⊎ (i ≡ Touches at (writing m cells))) p out (with_touch p at Update n out)
+      → Adds program (λ i. (i ≡ Touches at (reading m cells)) ⊎ (i ≡ Touches at (writing m cells))) p out (with_touch p at Update n out)
   updates p at cells n m out s = record {
     grows = grow_touch (λ i. (i ≡ Touches at (reading m cells)) ⊎ (i ≡ Touches at (writing m cells))) p.arm at Update n p.hidden p.sites out from of (is_hidden p.hidden n.object) refl;
   } where
@@ -294,7 +295,7 @@ module _ (program : Program) where
     of i (inl e) = (reading m cells, e, tt, same_path n m s)
     of i (inr e) = (writing m cells, e, tt, same_path n m s)
 
-  pub call : (p : Place) (at callee s : ℕ) (out : Gathered) → Adds (λ i. i ≡ Calls at callee s) p out (with_call p at s out)
+  pub call : (p : Place) (at callee s : ℕ) (out : Gathered) → Adds program (λ i. i ≡ Calls at callee s) p out (with_call p at s out)
   call p at callee s out = record { grows = record {
     touches = λ t h. inl h;
     touches_kept = λ t h. h;
@@ -310,7 +311,7 @@ module _ (program : Program) where
     the_call = record { arm = p.arm; at = at; sub = s }
 
   grow_site : (b : Bool) (arm : ℕ) (hidden : List ℕ) (k : Construct) (site : SiteEffects) (out : Gathered) → (b ≡ true → TellsSite program k site)
-      → Grows (λ a i. (a ≡ arm) × (i ≡ Holds k)) hidden b out (cond b (record out { sites = out.sites ++ site ∷ [] }) out)
+      → Grows program (λ a i. (a ≡ arm) × (i ≡ Holds k)) hidden b out (cond b (record out { sites = out.sites ++ site ∷ [] }) out)
   grow_site true arm hidden k site out tells = record {
     touches = λ t h. inl h;
     touches_kept = λ t h. h;
@@ -334,12 +335,12 @@ module _ (program : Program) where
     held = λ on a j h. both false on refl;
   }
 
-  pub held_site : (p : Place) (k : Construct) (site : SiteEffects) (out : Gathered) → (p.sites ≡ true → TellsSite program k site) → Adds (λ i. i ≡ Holds k) p out (with_site p site out)
+  pub held_site : (p : Place) (k : Construct) (site : SiteEffects) (out : Gathered) → (p.sites ≡ true → TellsSite program k site) → Adds program (λ i. i ≡ Holds k) p out (with_site p site out)
   held_site p k site out tells = record { grows = grow_site p.sites p.arm p.hidden k site out tells }
 
   -- ---- what is told
 
-  pub tells : {P : Item → Type 0} {p : Place} {g : Gathered} (sites : List SiteEffects) → p.hidden ≡ [] → Adds P p (record { uses = no_uses; sites = sites }) g → Tells P any_arm g.uses
+  pub tells : {P : Item → Type 0} {p : Place} {g : Gathered} (sites : List SiteEffects) → p.hidden ≡ [] → Adds program P p (record { uses = no_uses; sites = sites }) g → Tells P any_arm g.uses
   tells {p = p} sites e a = record {
     touches = λ t h asked w inc. in_either (a.grows.touches t h) (λ x. absurd x) (λ x. let y = x.1 w inc in (y.0, y.1.1, y.2, y.3));
     touched = λ at x h. let y = a.grows.touched p.arm at x (refl, h) (subst (λ ys. is_hidden ys x.object ≡ false) (sym e) (none_hidden x.object)) in (y.0, y.1, tt, y.3, y.4, y.5);
@@ -348,7 +349,7 @@ module _ (program : Program) where
   }
 
   -- of the arms of a block by their numbers
-  pub tells_arms : {P : ℕ → Item → Type 0} {g : Gathered} → Grows (λ arm i. (j : ℕ) × (arm ≡ 0 + j) × P j i) [] false nothing g → (j : ℕ) → Tells (P j) (OfThread true j) g.uses
+  pub tells_arms : {P : ℕ → Item → Type 0} {g : Gathered} → Grows program (λ arm i. (j : ℕ) × (arm ≡ 0 + j) × P j i) [] false nothing g → (j : ℕ) → Tells (P j) (OfThread true j) g.uses
   tells_arms {P = P} a j = record {
     touches = λ t h asked w inc. in_either (a.touches t h) (λ x. absurd x) (λ x. let y = x.1 w inc in (y.0, subst (λ k. P k (Touches t.at y.0)) (same y.1.0 t.arm j y.1.1 asked) y.1.2, y.2, y.3));
     touched = λ at x h. a.touched j at x (j, number j, h) (none_hidden x.object);

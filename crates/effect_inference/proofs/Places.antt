@@ -316,3 +316,10 @@ fits_outset = record {
   suits = record { loop = refl; chunk = refl; item = λ k. record { object = refl; selectors = refl }; target = record { object = refl; selectors = refl } };
   around = λ on. record { loop = refl; chunk = refl; item = λ k. refl; target = refl };
 }
+
+-- the text of an iteration
+pub beside_both : (c : Chunk) (i : Iteration) (p : Place) → Beside (below p false i (chunk_hidden c p)) p
+beside_both c i p = beside_all (below p false i (chunk_hidden c p)) (chunk_hidden c p) p (beside_below false i p (chunk_hidden c p)) (beside_chunk c p)
+
+pub beside_threads : (c : Chunk) (i : Iteration) (p : Place) → Beside (threads_below p c i) (judging p)
+beside_threads c i p = let h = beside_below true i (judging p) (record (judging p) { chunk_parameter = chunk_parameter c }) in record { arm = h.arm; hidden = h.hidden; sites = h.sites }
