@@ -2,3 +2,4 @@ pub mod Places
 pub mod Adding
 pub mod Texts
 pub mod Bodies
+pub mod Whole
