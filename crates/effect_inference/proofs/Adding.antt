@@ -10,10 +10,9 @@ use Rattle.effect_inference.specs.declared.effects.Access.{Access}
 use Rattle.effect_inference.specs.declared.effects.Access.TheVariants.{Read, Write, Update}
 use Rattle.effect_inference.specs.declared.effects.Call.{Call}
 use Rattle.effect_inference.specs.declared.effects.Gathered.{Gathered}
-use Rattle.effect_inference.specs.declared.effects.Path.{Path}
 use Rattle.effect_inference.specs.declared.effects.SiteEffects.{SiteEffects}
 use Rattle.effect_inference.specs.declared.effects.Touch.{Touch}
-use Rattle.effect_inference.specs.Exact.{IsIn, plain, effect_path, Includes, Tells, any_arm, OfThread, TellsSite}
+use Rattle.effect_inference.specs.Exact.{IsIn, effect_path, Includes, Tells, any_arm, OfThread, TellsSite}
 use Rattle.effect_inference.specs.Paths.{Name, Place, is_hidden}
 use Rattle.effect_inference.specs.Gather.{no_uses, nothing, with_touch, with_call, with_site, declaring}
 use Rattle.effect_inference.proofs.Places.{SameName, Beside}
@@ -262,7 +261,7 @@ module _ {program : Program} where
       touches_kept = λ t h. in_before t out.uses.touches (touch_of arm at access n ∷ []) h;
       touched = λ k there a h off. let x = of (Touches there a) h.1 in
           let y : Includes access a.writes × (effect_path (record { object = n.object; selectors = n.selectors }) ≡ path_of a)
-                = subst (λ b. Includes access b.writes × (effect_path (record { object = n.object; selectors = n.selectors }) ≡ path_of b)) (sym (touch_access x.1)) (x.2, x.3) in
+          = subst (λ b. Includes access b.writes × (effect_path (record { object = n.object; selectors = n.selectors }) ≡ path_of b)) (sym (touch_access x.1)) (x.2, x.3) in
           (touch_of arm at access n, in_last (touch_of arm at access n) out.uses.touches, sym h.0, sym (touch_at x.1), y.0, y.1);
       calls = λ c h. inl h;
       calls_kept = λ c h. h;
@@ -296,17 +295,19 @@ module _ {program : Program} where
     of i (inr e) = (writing m cells, e, tt, same_path n m s)
 
   pub call : (p : Place) (at callee s : ℕ) (out : Gathered) → Adds program (λ i. i ≡ Calls at callee s) p out (with_call p at s out)
-  call p at callee s out = record { grows = record {
-    touches = λ t h. inl h;
-    touches_kept = λ t h. h;
-    touched = λ k there a h off. absurd (touch_call there at callee s a h.1);
-    calls = λ c h. in_either (in_cases c the_call out.uses.calls h) (λ x. inl x) (λ e. inr (callee, subst (λ c. (c.arm ≡ p.arm) × (Calls c.at callee c.sub ≡ Calls at callee s)) (sym e) (refl, refl)));
-    calls_kept = λ c h. in_before c out.uses.calls (the_call ∷ []) h;
-    called = λ k there second t h. (the_call, in_last the_call out.uses.calls, sym h.0, sym (call_at h.1), sym (call_sub h.1));
-    sites = λ s h. inl h;
-    sites_kept = λ s h. h;
-    held = λ on k c h. absurd (call_hold at callee s c (sym h.1));
-  } } where
+  call p at callee s out = record {
+    grows = record {
+      touches = λ t h. inl h;
+      touches_kept = λ t h. h;
+      touched = λ k there a h off. absurd (touch_call there at callee s a h.1);
+      calls = λ c h. in_either (in_cases c the_call out.uses.calls h) (λ x. inl x) (λ e. inr (callee, subst (λ c. (c.arm ≡ p.arm) × (Calls c.at callee c.sub ≡ Calls at callee s)) (sym e) (refl, refl)));
+      calls_kept = λ c h. in_before c out.uses.calls (the_call ∷ []) h;
+      called = λ k there second t h. (the_call, in_last the_call out.uses.calls, sym h.0, sym (call_at h.1), sym (call_sub h.1));
+      sites = λ s h. inl h;
+      sites_kept = λ s h. h;
+      held = λ on k c h. absurd (call_hold at callee s c (sym h.1));
+    };
+  } where
     the_call : Call
     the_call = record { arm = p.arm; at = at; sub = s }
 

@@ -1,6 +1,6 @@
 -- The walk over statements and bodies adds exactly their items.
-use Rattle.std.proofs.Common.{◌≡◌, ℕ, zero, suc, ◌+◌, List, [], ◌∷◌, ◌⊎◌, inl, inr, Bool, true, false, refl, arith}
-use Rattle.ada_typed.specs.Syntax.{Optional, Decls, NoDecl, DeclareDefault, DeclareVariable, DeclareConstant, Mentions, Stmt, Null, Assign, CallProcedure, Exit, Return, ReturnValue, Raise, Reraise, IfThen, Case, Loop, For, ParallelFor, Parallel, Block, Put, Get, Stmts, End, Then, Alternatives, NoAlternative, Alternative, Arms, NoArm, Arm, Handlers, NoHandler, Handler, Body, Program}
+use Rattle.std.proofs.Common.{◌≡◌, ℕ, zero, suc, ◌+◌, List, [], ◌⊎◌, inl, inr, true, false, refl, arith}
+use Rattle.ada_typed.specs.Syntax.{Decls, NoDecl, DeclareDefault, DeclareVariable, DeclareConstant, Mentions, Stmt, Null, Assign, CallProcedure, Exit, Return, ReturnValue, Raise, Reraise, IfThen, Case, Loop, For, ParallelFor, Parallel, Block, Put, Get, Stmts, End, Then, Alternatives, NoAlternative, Alternative, Arms, NoArm, Arm, Handlers, NoHandler, Handler, Body, Program}
 use Rattle.ada_meaning.specs.Formed.{width}
 use Rattle.ada_effects.specs.Effects as law
 use Rattle.ada_effects.specs.Effects.{Roles, Construct, Item, Holds, LoopOf, BlockOf, forget, InDecls, InStmt, InAll, InAlternatives, InArm, InHandlers, InBody}
@@ -73,16 +73,16 @@ module _ (program : Program) where
     adds_stmt (For number iteration stmts) p r out f = after (adds_course program iteration p r out f)
         (moved (beside_below false iteration p p) (after (adds_filter program iteration _ _ _ (fits_course iteration p r f)) (adds_stmts stmts _ _ _ (fits_course iteration p r f))))
     adds_stmt (ParallelFor number site chunk iteration stmts) p r out f = after (held_site p (LoopOf site (forget r) chunk iteration stmts) _ out (λ on. record {
-          block = refl;
-          front = tells [] refl (after (adds_chunk program chunk _ _ _ (fits_judging p r f on)) (adds_course program iteration _ _ _ (fits_judging p r f on)));
-          threads = λ j. tells [] refl (moved (beside_threads chunk iteration p) (after (adds_filter program iteration _ _ _ (fits_threads chunk iteration p r f on)) (adds_stmts stmts _ _ _ (fits_threads chunk iteration p r f on))));
-        })) (after (adds_chunk program chunk p r _ f) (after (adds_course program iteration p r _ f)
+      block = refl;
+      front = tells [] refl (after (adds_chunk program chunk _ _ _ (fits_judging p r f on)) (adds_course program iteration _ _ _ (fits_judging p r f on)));
+      threads = λ j. tells [] refl (moved (beside_threads chunk iteration p) (after (adds_filter program iteration _ _ _ (fits_threads chunk iteration p r f on)) (adds_stmts stmts _ _ _ (fits_threads chunk iteration p r f on))));
+    })) (after (adds_chunk program chunk p r _ f) (after (adds_course program iteration p r _ f)
         (moved (beside_both chunk iteration p) (after (adds_filter program iteration _ _ _ (fits_below chunk iteration p r f)) (adds_stmts stmts _ _ _ (fits_below chunk iteration p r f))))))
     adds_stmt (Parallel site count arms) p r out f = after (held_site p (BlockOf site (forget r) count arms) _ out (λ on. record {
-          block = refl;
-          front = tells [] refl (adds_optional program count _ _ _ (fits_judging p r f on));
-          threads = λ j. tells_arms (adds_numbered arms 0 _ _ _ (fits_judging p r f on)) j;
-        })) (after (adds_optional program count p r _ f) (adds_arms arms p r _ f))
+      block = refl;
+      front = tells [] refl (adds_optional program count _ _ _ (fits_judging p r f on));
+      threads = λ j. tells_arms (adds_numbered arms 0 _ _ _ (fits_judging p r f on)) j;
+    })) (after (adds_optional program count p r _ f) (adds_arms arms p r _ f))
     adds_stmt (Block decls stmts handlers) p r out f = adds_decls decls p r _ out _ f (after (adds_stmts stmts (declared decls p) r _ (fits_hidden _ p r f)) (adds_handlers handlers (declared decls p) r _ (fits_hidden _ p r f)))
     adds_stmt (Put at callee pieces line) p r out f = after (block at callee) (adds_pieces program pieces p r _ f)
     adds_stmt (Get at callee first from selections scalar) p r out f = after (block at callee) (after (writes p first 1 (named p from selections) (law.name r from selections) out (same_name p r f.suits from selections)) (adds_selections program selections p r _ f))

@@ -1,11 +1,11 @@
 -- What names stand for in the walk is what they stand for in the definition of a text's items, in each place of a text.
-use Rattle.std.proofs.Common.{◌≡◌, ℕ, zero, suc, ℤ, pos, nat_eq, List, [], ◌∷◌, ◌++◌, map, Option, Some, None, Bool, true, false, cond, refl, sym, subst, ap, ap₂, ◌∙◌, append_assoc, append-nil}
+use Rattle.std.proofs.Common.{◌≡◌, ℕ, zero, suc, pos, nat_eq, List, [], ◌∷◌, ◌++◌, map, Option, Some, None, Bool, true, false, cond, refl, sym, subst, ap, ap₂, ◌∙◌, append_assoc, append-nil}
 use Rattle.std.proofs.Math.ListN.{replicate}
 use Rattle.std.proofs.lemmas.List.{map-append}
 use Rattle.ada_typed.specs.declared.expressions.Iterated.{Iterated}
 use Rattle.ada_typed.specs.declared.expressions.Root.{Root}
 use Rattle.ada_typed.specs.declared.expressions.Root.TheVariants as root
-use Rattle.ada_typed.specs.Syntax.{Expr, Static, Variable, Constant, Parameter, Target, Group, Unary, Binary, AndThen, OrElse, Relation, Membership, If, Call, Convert, Reduction, Selections, Whole, Field, Index, Iteration, Range, Components, Chunk, NoChunk, Count, Each}
+use Rattle.ada_typed.specs.Syntax.{Expr, Static, Parameter, Selections, Whole, Field, Index, Iteration, Range, Components, Chunk, NoChunk, Count, Each}
 use Rattle.ada_effects.specs.Effects as law
 use Rattle.ada_effects.specs.Effects.{Step, FieldStep, IndexStep, ItemStep, Roles}
 use Rattle.ada_effects.specs.Conflicts as law-of
@@ -13,7 +13,7 @@ use Rattle.ada_effects.specs.Conflicts.{path}
 use Rattle.effect_inference.specs.declared.effects.Selector.{Selector}
 use Rattle.effect_inference.specs.declared.effects.Selector.TheVariants as selector-of
 use Rattle.effect_inference.specs.Exact.{plain}
-use Rattle.effect_inference.specs.Paths.{Name, Bound, Place, is_one, other, role, selector, selectors_with, item_name, root_name, named, hide, chunk_hidden, chunk_parameter, item_selector, component, with_item, below, judging, no_name, outset}
+use Rattle.effect_inference.specs.Paths.{Name, Place, is_one, other, role, selector, selectors_with, item_name, root_name, named, hide, chunk_hidden, chunk_parameter, item_selector, component, with_item, below, judging, outset}
 use Rattle.effect_inference.specs.Gather.{iterated_hidden, threads_below}
 
 -- an object and selectors are what an object and steps make
@@ -140,7 +140,7 @@ suits_bound : (constant judged : Bool) (k : ℕ) (at : ℕ) (from : Root) (x : S
 suits_bound true judged k at from x count stride dimensions filter q p around r t s = s
 suits_bound false judged k at from x count stride dimensions filter q p around r t s =
     suits_item k (component judged dimensions (named q from x)) (record { object = (law.name around from x).object; steps = (law.name around from x).steps ++ (ItemStep judged count stride dimensions ∷ []) }) p r s
-        (same_component judged count stride dimensions (named q from x) (law.name around from x) (same_name q around t from x))
+    (same_component judged count stride dimensions (named q from x) (law.name around from x) (same_name q around t from x))
 
 suits_below : (i : Iteration) (q p : Place) (around r : Roles) → Suits q around → Suits p r → Suits (below q false i p) (law.course_hidden around i r)
 suits_below (Range k reverse low high check filter) q p around r t s = suits_hide k p r s

@@ -1,5 +1,5 @@
 -- The walk over an expression adds exactly the items of the expression.
-use Rattle.std.proofs.Common.{◌≡◌, ℕ, List, [], ◌∷◌, ◌⊎◌, inl, inr, Option, Some, None, Bool, true, false, refl}
+use Rattle.std.proofs.Common.{[], Some, None, false, refl}
 use Rattle.ada_typed.specs.declared.expressions.Reducer.{Reducer}
 use Rattle.ada_typed.specs.declared.expressions.Reducer.TheVariants.{Operator, Function}
 use Rattle.ada_typed.specs.Syntax.{Expr, Static, Variable, Constant, Parameter, Target, Group, Unary, Binary, AndThen, OrElse, Relation, Membership, If, Call, Convert, Reduction, Exprs, NoExpr, AlsoExpr, Optional, Absent, Present, Selections, Whole, Field, Index, Actuals, NoActual, In, InOut, Out, CompositeInOut, CompositeOut, Value, Number, Cells, Composite, WholeVariable, WholeConstant, WholeTarget, CompositeIf, Aggregate, Associations, NoAssociation, Association, Iteration, Range, Components, Chunk, NoChunk, Count, Each, Pieces, NoPiece, Text, Image, Padded, Program}
@@ -7,7 +7,6 @@ use Rattle.ada_meaning.specs.Shapes.{cells_of}
 use Rattle.ada_effects.specs.Effects as law
 use Rattle.ada_effects.specs.Effects.{Roles, Item, ReductionOf, forget, InReducer, InExpr, InExprs, InOptional, InSelections, InActuals, InValue, InComposite, InAssociations, InCourse, InFilter, InChunk, InPieces}
 use Rattle.effect_inference.specs.declared.effects.Gathered.{Gathered}
-use Rattle.effect_inference.specs.Exact.{TellsSite}
 use Rattle.effect_inference.specs.Paths.{Place, named}
 use Rattle.effect_inference.specs.Gather.{gather_reducer, gather_expr, gather_exprs, gather_optional, gather_selections, gather_actuals, gather_value, gather_composite, gather_associations, gather_course, gather_filter, gather_chunk, gather_pieces}
 use Rattle.effect_inference.proofs.Places.{Fits, same_name, beside_below, beside_iterated, beside_both, beside_threads, fits_course, fits_below, fits_iterated, fits_judging, fits_threads}
@@ -40,10 +39,10 @@ module _ (program : Program) where
     adds_expr (Reduction at attribute by initial None chunk iteration value) p r out f = after (adds_reducer by) (after (adds_expr initial p r _ f) (after (adds_course iteration p r _ f)
         (moved (beside_below false iteration p p) (after (adds_filter iteration _ _ _ (fits_course iteration p r f)) (adds_expr value _ _ _ (fits_course iteration p r f))))))
     adds_expr (Reduction at attribute by initial (Some site) chunk iteration value) p r out f = after (held_site p (ReductionOf site (forget r) by chunk iteration value) _ out (λ on. record {
-          block = refl;
-          front = tells [] refl (after (adds_chunk chunk _ _ _ (fits_judging p r f on)) (adds_course iteration _ _ _ (fits_judging p r f on)));
-          threads = λ j. tells [] refl (after (adds_reducer by) (moved (beside_threads chunk iteration p) (after (adds_filter iteration _ _ _ (fits_threads chunk iteration p r f on)) (adds_expr value _ _ _ (fits_threads chunk iteration p r f on)))));
-        })) (after (adds_reducer by) (after (adds_expr initial p r _ f) (after (adds_chunk chunk p r _ f) (after (adds_course iteration p r _ f)
+      block = refl;
+      front = tells [] refl (after (adds_chunk chunk _ _ _ (fits_judging p r f on)) (adds_course iteration _ _ _ (fits_judging p r f on)));
+      threads = λ j. tells [] refl (after (adds_reducer by) (moved (beside_threads chunk iteration p) (after (adds_filter iteration _ _ _ (fits_threads chunk iteration p r f on)) (adds_expr value _ _ _ (fits_threads chunk iteration p r f on)))));
+    })) (after (adds_reducer by) (after (adds_expr initial p r _ f) (after (adds_chunk chunk p r _ f) (after (adds_course iteration p r _ f)
         (moved (beside_both chunk iteration p) (after (adds_filter iteration _ _ _ (fits_below chunk iteration p r f)) (adds_expr value _ _ _ (fits_below chunk iteration p r f))))))))
 
     pub adds_exprs : (x : Exprs) (p : Place) (r : Roles) (out : Gathered) → Fits p r → Adds program (InExprs program.subtypes r x) p out (gather_exprs p x out)

@@ -1,21 +1,20 @@
 -- The effects of a program are exactly those of its texts, from what is gathered of each body.
-use Rattle.std.proofs.Common.{◌≡◌, ℕ, zero, suc, ◌+◌, nat_eq, List, [], ◌∷◌, ◌++◌, length, slice_get, Option, Some, None, ◌⊎◌, inl, inr, Bool, true, false, ◌||◌, cond, refl, sym, subst, ap, ◌∙◌, arith, append_assoc, append-nil}
+use Rattle.std.proofs.Common.{◌≡◌, ℕ, zero, suc, nat_eq, List, [], ◌∷◌, ◌++◌, length, slice_get, Some, ◌⊎◌, inl, inr, Bool, true, false, ◌||◌, cond, refl, sym, subst, ap, arith, append_assoc, append-nil}
 use Rattle.std.proofs.lemmas.Bool.Decides.{nat_tests}
 use Rattle.ada_typed.specs.Syntax.{Decls, NoDecl, DeclareDefault, DeclareVariable, DeclareConstant, Mentions, Sub, Program}
 use Rattle.ada_meaning.specs.Meaning.{sub_at}
 use Rattle.ada_effects.specs.Effects as law
 use Rattle.ada_effects.specs.Effects.{Construct, Item, Touches, Calls, Blocks, Holds, InBody, InCallee, InSub, IsDeclared, IsGlobal}
-use Rattle.ada_effects.specs.Conflicts.{EffectPath, path_of, InProgram}
-use Rattle.effect_inference.specs.declared.effects.Call.{Call}
+use Rattle.ada_effects.specs.Conflicts.{EffectPath, path_of}
 use Rattle.effect_inference.specs.declared.effects.Effects.{Effects}
 use Rattle.effect_inference.specs.declared.effects.Gathered.{Gathered}
 use Rattle.effect_inference.specs.declared.effects.SiteEffects.{SiteEffects}
 use Rattle.effect_inference.specs.declared.effects.Touch.{Touch}
 use Rattle.effect_inference.specs.declared.effects.Uses.{Uses}
-use Rattle.effect_inference.specs.Exact.{IsIn, effect_path, Includes, Tells, any_arm, TellsSite, InSubGlobally, AreEffects, EffectsLaw}
+use Rattle.effect_inference.specs.Exact.{IsIn, effect_path, Tells, any_arm, TellsSite, InSubGlobally, AreEffects, EffectsLaw}
 use Rattle.effect_inference.specs.Paths.{is_hidden, outset}
 use Rattle.effect_inference.specs.Gather.{gather_body, no_uses}
-use Rattle.effect_inference.specs.Program.{objects_with, globals, kept, global_uses, with_sub, with_subs, with_main, effects_of}
+use Rattle.effect_inference.specs.Program.{objects_with, globals, kept, global_uses, with_sub, with_subs, effects_of}
 use Rattle.effect_inference.proofs.Adding.{in_either, in_before}
 use Rattle.effect_inference.proofs.Bodies.{TellsBody, body_law}
 
