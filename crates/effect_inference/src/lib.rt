@@ -7,3 +7,4 @@
 
 pub mod effects;
 pub mod environment;
+pub mod laws;

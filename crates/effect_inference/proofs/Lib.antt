@@ -1,0 +1,5 @@
+pub mod Places
+pub mod Adding
+pub mod Texts
+pub mod Bodies
+pub mod Whole
