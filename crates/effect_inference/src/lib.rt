@@ -7,3 +7,7 @@
 
 pub mod effects;
 pub mod environment;
+pub mod exprs;
+pub mod gathering;
+pub mod paths;
+pub mod source;
