@@ -27,7 +27,7 @@ pub struct Reduced {
 
 /// A part of which nothing is left.
 fn whole(done: Result<(), AllocError>) -> Result<Option<u32>, AllocError>
-    ensures { MatchResult result (λ rest. (done ≡ Ok ()) × (rest ≡ None)) (λ e. done ≡ Err e) }
+    ensures { MatchResult result (λ rest. (done ≡ Ok tt) × (rest ≡ None)) (λ e. done ≡ Err e) }
 {
     done?;
     Ok(None)
@@ -35,7 +35,7 @@ fn whole(done: Result<(), AllocError>) -> Result<Option<u32>, AllocError>
 
 /// A part of which another part is left.
 fn left(done: Result<(), AllocError>, rest: u32) -> Result<Option<u32>, AllocError>
-    ensures { MatchResult result (λ found. (done ≡ Ok ()) × (found ≡ Some rest)) (λ e. done ≡ Err e) }
+    ensures { MatchResult result (λ found. (done ≡ Ok tt) × (found ≡ Some rest)) (λ e. done ≡ Err e) }
 {
     done?;
     Ok(Some(rest))
@@ -68,7 +68,7 @@ pub fn expr(
     ensures { OnOk result (out.new ≡ spec.gather_expr (place_of env.entry) (expr_at source.entry.typed.now.nodes id) out.old) }
 {
     let mut rest = Some(id);
-    while let Some(at) = rest {
+    'parts: while let Some(at) = rest {
         rest = expr_step(source, env, at, out)?;
     }
     Ok(())
@@ -206,7 +206,7 @@ pub fn exprs(
     ensures { OnOk result (out.new ≡ spec.gather_exprs (place_of env.entry) (exprs_at source.entry.typed.now.nodes id) out.old) }
 {
     let mut at = id;
-    while let Some(cell) = source.typed.nodes.exprs(at) {
+    'cells: while let Some(cell) = source.typed.nodes.exprs(at) {
         expr(source, env, cell.first, out)?;
         at = cell.rest;
     }
@@ -261,7 +261,7 @@ pub fn selections(
     ensures { OnOk result (out.new ≡ spec.gather_selections (place_of env.entry) (selections_at source.entry.typed.now.nodes id) out.old) }
 {
     let mut at = id;
-    while let Some(cell) = source.typed.nodes.selections(at) {
+    'cells: while let Some(cell) = source.typed.nodes.selections(at) {
         selection(source, env, cell.first, out)?;
         at = cell.rest;
     }
@@ -296,7 +296,7 @@ pub fn actuals(
     ensures { OnOk result (out.new ≡ spec.gather_actuals (place_of env.entry) (actuals_at source.entry.typed.now.nodes id) out.old) }
 {
     let mut at = id;
-    while let Some(cell) = source.typed.nodes.actuals(at) {
+    'cells: while let Some(cell) = source.typed.nodes.actuals(at) {
         actual(source, env, cell.first, out)?;
         at = cell.rest;
     }
@@ -376,7 +376,7 @@ fn composite(
     ensures { OnOk result (out.new ≡ spec.gather_composite (place_of env.entry) (composite_at source.entry.typed.now.nodes id) out.old) }
 {
     let mut rest = Some(id);
-    while let Some(at) = rest {
+    'parts: while let Some(at) = rest {
         rest = composite_step(source, env, at, out)?;
     }
     Ok(())
@@ -447,7 +447,7 @@ fn associations(
     ensures { OnOk result (out.new ≡ spec.gather_associations (place_of env.entry) (associations_at source.entry.typed.now.nodes id) out.old) }
 {
     let mut at = id;
-    while let Some(cell) = source.typed.nodes.associations(at) {
+    'cells: while let Some(cell) = source.typed.nodes.associations(at) {
         association(source, env, cell.first, out)?;
         at = cell.rest;
     }
