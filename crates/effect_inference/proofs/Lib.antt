@@ -3,3 +3,4 @@ pub mod Adding
 pub mod Texts
 pub mod Bodies
 pub mod Whole
+pub mod Reading

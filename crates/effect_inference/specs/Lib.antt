@@ -1,4 +1,5 @@
 pub mod Paths
 pub mod Gather
+pub mod Words
 pub mod Program
 pub mod Exact

@@ -8,3 +8,7 @@
 pub mod effects;
 pub mod environment;
 pub mod laws;
+pub mod exprs;
+pub mod gathering;
+pub mod paths;
+pub mod source;
