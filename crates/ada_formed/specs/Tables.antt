@@ -144,7 +144,7 @@ module _ (table : List Subtype) (sizes : List ℕ) where
   field_seen Other k offset = None
 
   abbrev pub index_seen : Seen → ℤ → ℤ → ℕ → Option Place
-  index_seen (Along b q) low high stride = cond (is_equal low b.low && is_equal high b.high && nat_eq stride (cells q)) (Some q) None
+  index_seen (Along b q) low high stride = cond ((is_equal low b.low && is_equal high b.high) && nat_eq stride (cells q)) (Some q) None
   index_seen (Fields fs) low high stride = None
   index_seen Other low high stride = None
 

@@ -6,8 +6,8 @@ use Rattle.ada_typed.specs.Decoded.{expr_at, composite_at, stmt_at}
 use Rattle.ada_typed.specs.Programs.{bounds_at, fields_at}
 use Rattle.ada_formed.specs.declared.places.Part.{Part}
 use Rattle.ada_formed.specs.declared.places.Env.{Env, Outset, Item', Target'}
-use Rattle.ada_formed.specs.declared.places.View.{View}
-use Rattle.ada_formed.specs.declared.places.View.TheVariants as view
+use Rattle.ada_formed.specs.declared.places.Head.{Head}
+use Rattle.ada_formed.specs.declared.places.Head.TheVariants as view
 use Rattle.ada_formed.specs.declared.names.Rest as places-rest
 use Rattle.ada_formed.specs.declared.places.Text as walk
 use Rattle.ada_formed.specs.Decided.{wide_composite, decided_expr, decided_composite, decided_stmt}
@@ -26,7 +26,7 @@ module _ (nodes : List Node) where
   place_in None = None
   place_in (Some p) = Some (place_of p)
 
-  abbrev pub seen_as : View → Seen
+  abbrev pub seen_as : Head → Seen
   seen_as (view.Along bounds rest) = Along bounds (place_of rest)
   seen_as (view.Fields fields) = Fields (fields_at nodes fields)
   seen_as view.Other = Other

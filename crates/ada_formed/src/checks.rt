@@ -96,7 +96,7 @@ fn greater(first: u64, second: u64) -> u64
 
 /// Cells that were found, and the number of an expression that is still to be gone through, if there is one.
 #[derive(Clone, Copy)]
-pub struct Wide {
+pub struct Found {
     pub cells: u64,
     pub rest: Option<u32>,
 }
@@ -107,7 +107,7 @@ pub struct Wide {
 fn wide_composite(text: &Text<'_>, id: u32, count: u64) -> u64
     ensures { result ≡ spec.wide_composite text.now (composite_at text.now.typed.nodes id) count }
 {
-    let mut step = Wide {
+    let mut step = Found {
         cells: count,
         rest: Some(id),
     };
@@ -119,23 +119,25 @@ fn wide_composite(text: &Text<'_>, id: u32, count: u64) -> u64
 
 #[cycle(wide)]
 #[tactic(auto, unfolding(crate::specs::Decided::wide_composite))]
-fn wide_step(text: &Text<'_>, id: u32, count: u64) -> Wide
+fn wide_step(text: &Text<'_>, id: u32, count: u64) -> Found
     ensures { (wide_left text.now result.cells result.rest ≡ spec.wide_composite text.now (composite_at text.now.typed.nodes id) count) × IsBelow id result.rest }
 {
     match text.typed.nodes.composite(id) {
         Composite::WholeVariable { subtype, .. }
         | Composite::WholeConstant { subtype, .. }
-        | Composite::WholeTarget { subtype, .. } => Wide {
+        | Composite::WholeTarget { subtype, .. } => Found {
             cells: greater(count, cells_at(text, subtype)),
             rest: None,
         },
         Composite::If {
-            value, otherwise, ..
-        } => Wide {
+            value,
+            otherwise,
+            ..
+        } => Found {
             cells: wide_composite(text, value, count),
             rest: Some(otherwise),
         },
-        Composite::Aggregate { cells, .. } => Wide {
+        Composite::Aggregate { cells, .. } => Found {
             cells: greater(count, u64::from(cells)),
             rest: None,
         },

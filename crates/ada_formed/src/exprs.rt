@@ -57,10 +57,14 @@ fn expr_step(text: &Text<'_>, env: &Env<'_>, id: u32, found: bool) -> Step
     match text.typed.nodes.expr(id) {
         Expr::Static { mentions, .. } => whole(exprs(text, env, mentions, found)),
         Expr::Variable {
-            root, selections, ..
+            root,
+            selections,
+            ..
         } => whole(name(text, env, false, root, selections, 1, found)),
         Expr::Constant {
-            root, selections, ..
+            root,
+            selections,
+            ..
         } => whole(name(text, env, true, root, selections, 1, found)),
         Expr::Parameter { .. } => whole(found),
         Expr::Target { .. } => whole(aims(text, env, 1, found)),
@@ -143,7 +147,10 @@ fn values(text: &Text<'_>, env: &Env<'_>, course: u32, value: u32, found: bool) 
         None => false,
         Some(
             Iteration::Range {
-                low, high, filter, ..
+                low,
+                high,
+                filter,
+                ..
             },
         ) => {
             let first = ranged(text, env, low, high, filter, found);
@@ -183,14 +190,7 @@ fn values(text: &Text<'_>, env: &Env<'_>, course: u32, value: u32, found: bool) 
 
 /// The limits of a range, and a filter.
 #[cycle(text)]
-pub fn ranged(
-    text: &Text<'_>,
-    env: &Env<'_>,
-    low: u32,
-    high: u32,
-    filter: u32,
-    found: bool,
-) -> bool
+pub fn ranged(text: &Text<'_>, env: &Env<'_>, low: u32, high: u32, filter: u32, found: bool) -> bool
     ensures { result ≡ spec.decided_optional text.now (optional_at text.now.typed.nodes filter) (scope_of text.now.typed.nodes env.now) (spec.decided_expr text.now (expr_at text.now.typed.nodes high) (scope_of text.now.typed.nodes env.now) (spec.decided_expr text.now (expr_at text.now.typed.nodes low) (scope_of text.now.typed.nodes env.now) found)) }
 {
     let first = expr(text, env, low, found);
@@ -293,10 +293,14 @@ fn actual(text: &Text<'_>, env: &Env<'_>, id: u32, found: bool) -> bool
         Some(Actual::In { value: part, .. }) => value(text, env, part, found),
         Some(
             Actual::InOut {
-                root, selections, ..
+                root,
+                selections,
+                ..
             }
             | Actual::Out {
-                root, selections, ..
+                root,
+                selections,
+                ..
             },
         ) => name(text, env, false, root, selections, 1, found),
         Some(

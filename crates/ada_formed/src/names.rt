@@ -11,7 +11,7 @@ ghost use Rattle.ada_formed.specs.Tables as spec;
 ghost use Rattle.ada_formed.specs.Words.{place_of, place_in, rest_in, scope_of};
 
 use crate::lists::next_component;
-use crate::places::{Env, Part, Text, View, cells, view, whole};
+use crate::places::{Env, Head, Part, Text, cells, view, whole};
 use crate::tables::{both, cells_in, span};
 use ada_typed::{Bounds, Object, Root, Selection};
 
@@ -43,7 +43,11 @@ fn field(text: &Text<'_>, fields: u32, number: u32, offset: u32) -> Option<Part>
 fn first(subtype: usize, before: u64) -> Option<Part>
     ensures { (nodes : List Node) → place_in nodes result ≡ cond (nat_eq before 0) (Some (spec.whole_of subtype)) None }
 {
-    if before == 0 { Some(whole(subtype)) } else { None }
+    if before == 0 {
+        Some(whole(subtype))
+    } else {
+        None
+    }
 }
 
 /// The field of a part.
@@ -53,8 +57,8 @@ fn field_step(text: &Text<'_>, part: Option<Part>, number: u32, offset: u32) -> 
     match part {
         None => None,
         Some(whole) => match view(text.typed, whole) {
-            View::Fields { fields } => field(text, fields, number, offset),
-            View::Along { .. } | View::Other => None,
+            Head::Fields { fields } => field(text, fields, number, offset),
+            Head::Along { .. } | Head::Other => None,
         },
     }
 }
@@ -66,20 +70,14 @@ fn is_equal(first: i64, second: i64) -> bool
 }
 
 /// An index of a part.
-fn index_step(
-    text: &Text<'_>,
-    part: Option<Part>,
-    low: i64,
-    high: i64,
-    stride: u32,
-) -> Option<Part>
+fn index_step(text: &Text<'_>, part: Option<Part>, low: i64, high: i64, stride: u32) -> Option<Part>
     ensures { place_in text.now.typed.nodes result ≡ spec.index_step (program text.now.typed).subtypes text.now.sizes (place_in text.now.typed.nodes part) low high stride }
 {
     match part {
         None => None,
         Some(whole) => match view(text.typed, whole) {
-            View::Along { bounds, rest } => along(text, bounds, rest, low, high, stride),
-            View::Fields { .. } | View::Other => None,
+            Head::Along { bounds, rest } => along(text, bounds, rest, low, high, stride),
+            Head::Fields { .. } | Head::Other => None,
         },
     }
 }
@@ -126,7 +124,10 @@ fn selection(text: &Text<'_>, id: u32, part: Option<Part>) -> Option<Part>
         Some(Selection::Field { number, offset }) => field_step(text, part, number, offset),
         Some(
             Selection::Index {
-                low, high, stride, ..
+                low,
+                high,
+                stride,
+                ..
             },
         ) => index_step(text, part, low, high, stride),
     }
@@ -198,11 +199,11 @@ fn further(text: &Text<'_>, part: Part, number: u128) -> Option<Rest>
     ensures { rest_in text.now.typed.nodes result ≡ spec.rest_seen (spec.seen (program text.now.typed).subtypes (place_of text.now.typed.nodes part)) number }
 {
     match view(text.typed, part) {
-        View::Along { bounds, rest } => match quotient(number, span(bounds)) {
+        Head::Along { bounds, rest } => match quotient(number, span(bounds)) {
             None => None,
             Some(number) => Some(Rest { part: rest, number }),
         },
-        View::Fields { .. } | View::Other => None,
+        Head::Fields { .. } | Head::Other => None,
     }
 }
 

@@ -31,7 +31,9 @@ pub struct Part {
 #[derive(Clone, Copy)]
 pub enum Env<'a> {
     /// Where a body begins, which may call the subprograms below a number.
-    Outset { declared: usize },
+    Outset {
+        declared: usize,
+    },
     /// The item of an iteration over the components of an array.
     Item {
         constant: bool,
@@ -40,7 +42,10 @@ pub enum Env<'a> {
         outer: &'a Env<'a>,
     },
     /// The target of an assignment.
-    Target { part: Part, outer: &'a Env<'a> },
+    Target {
+        part: Part,
+        outer: &'a Env<'a>,
+    },
 }
 
 fn is_same(first: bool, second: bool) -> bool
@@ -96,7 +101,7 @@ impl<'a> Env<'a> {
 
 /// How a part begins.
 #[derive(Clone, Copy)]
-pub enum View {
+pub enum Head {
     /// With a dimension before another part.
     Along { bounds: Bounds, rest: Part },
     /// With a list of components of a record.
@@ -115,12 +120,12 @@ pub fn whole(subtype: usize) -> Part
     }
 }
 
-fn array(typed: &Typed, dimensions: u32, component: usize) -> View
+fn array(typed: &Typed, dimensions: u32, component: usize) -> Head
     ensures { seen_as typed.now.nodes result ≡ spec.seen_array (bounds_at typed.now.nodes dimensions) component }
 {
     match next_dimension(&typed.nodes, dimensions) {
-        None => View::Other,
-        Some(dimension) => View::Along {
+        None => Head::Other,
+        Some(dimension) => Head::Along {
             bounds: dimension.bounds,
             rest: Part {
                 dimensions: Some(dimension.rest),
@@ -130,18 +135,18 @@ fn array(typed: &Typed, dimensions: u32, component: usize) -> View
     }
 }
 
-fn entry(typed: &Typed, number: usize) -> View
+fn entry(typed: &Typed, number: usize) -> Head
     ensures { seen_as typed.now.nodes result ≡ spec.seen_entry (slice_get (program typed.now).subtypes number) }
 {
     match subtype_at(typed, number) {
-        None | Some(Subtype::Scalar { .. }) => View::Other,
+        None | Some(Subtype::Scalar { .. }) => Head::Other,
         Some(
             Subtype::Array {
                 dimensions,
                 component,
             },
         ) => array(typed, dimensions, component as usize),
-        Some(Subtype::Record { fields }) => View::Fields { fields },
+        Some(Subtype::Record { fields }) => Head::Fields { fields },
     }
 }
 
@@ -153,14 +158,14 @@ fn subtype_at(typed: &Typed, number: usize) -> Option<Subtype>
 
 /// How a part begins.
 #[tactic(auto, unfolding(crate::specs::Tables::seen))]
-pub fn view(typed: &Typed, part: Part) -> View
+pub fn view(typed: &Typed, part: Part) -> Head
     ensures { seen_as typed.now.nodes result ≡ spec.seen (program typed.now).subtypes (place_of typed.now.nodes part) }
 {
     match part.dimensions {
         None => entry(typed, part.subtype),
         Some(id) => match next_dimension(&typed.nodes, id) {
             None => entry(typed, part.subtype),
-            Some(dimension) => View::Along {
+            Some(dimension) => Head::Along {
                 bounds: dimension.bounds,
                 rest: Part {
                     dimensions: Some(dimension.rest),

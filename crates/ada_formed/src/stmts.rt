@@ -118,14 +118,7 @@ fn stmt_step(text: &Text<'_>, env: &Env<'_>, id: u32, found: bool) -> Step
 /// An assignment (5.2).
 #[inline(never)]
 #[tactic(auto, unfolding(crate::specs::Decided::decided_stmt))]
-fn assign(
-    text: &Text<'_>,
-    env: &Env<'_>,
-    root: Root,
-    parts: u32,
-    part: u32,
-    found: bool,
-) -> bool
+fn assign(text: &Text<'_>, env: &Env<'_>, root: Root, parts: u32, part: u32, found: bool) -> bool
     ensures { (at : ℕ) → result ≡ spec.decided_stmt text.now (Assign at root (selections_at text.now.typed.nodes parts) (value_at text.now.typed.nodes part)) (scope_of text.now.typed.nodes env.now) found }
 {
     match named(text, env, false, root, parts) {
@@ -153,7 +146,10 @@ fn course(text: &Text<'_>, env: &Env<'_>, id: u32, parts: u32, found: bool) -> b
         None => false,
         Some(
             Iteration::Range {
-                low, high, filter, ..
+                low,
+                high,
+                filter,
+                ..
             },
         ) => {
             let first = ranged(text, env, low, high, filter, found);
