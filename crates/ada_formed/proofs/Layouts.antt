@@ -1,5 +1,5 @@
 -- What the tables of a program tell: each subtype stands on those before it, and how many cells it has.
-use Rattle.std.proofs.Common.{◌≡◌, ℕ, zero, suc, ◌+◌, ◌-◌, ◌*◌, ◌<◌, ◌≤◌, min, nat_lt, ℤ, pos, negsuc, ◌+ℤ◌, ◌-ℤ◌, int_le, List, [], ◌∷◌, ◌++◌, map, length, slice_get, Option, Some, None, Bool, true, false, ◌&&◌, refl, sym, subst, ap, ap₂, ◌∙◌, arith, true≢false, ltb-true, ltb-false, lt-ltb}
+use Rattle.std.proofs.Common.{◌≡◌, ℕ, zero, suc, ◌+◌, ◌-◌, ◌*◌, ◌<◌, ◌≤◌, min, nat_lt, List, [], ◌∷◌, ◌++◌, map, length, slice_get, Option, Some, None, Bool, true, false, ◌&&◌, refl, sym, subst, ap, ap₂, ◌∙◌, arith, true≢false, ltb-true, leb-true, leb-false, nat_le}
 use Rattle.std.proofs.Math.ListN.{get_or}
 use Rattle.std.proofs.lemmas.List.{get_or-map, get_or_past, length-map, map-append}
 use Rattle.std.proofs.lemmas.Option.{slice_get_past}
@@ -66,13 +66,15 @@ FullEntry (Some (syntax.OfScalar s)) = Unit {0}
 FullEntry (Some (syntax.Array ds c)) = AreFull ds × (has_dimension ds ≡ true)
 FullEntry (Some (syntax.Record fs)) = Unit {0}
 
-some_values : (low high : ℤ) → int_le low high ≡ true → 1 ≤ count low high
-some_values low high h = ?
-
 values_told : (ds : List Bounds) (b : Bool) → have_values ds b ≡ true → (b ≡ true) × AreFull ds
 unfolding have_values
 values_told [] b h = (h, tt)
-values_told (d ∷ ds) b h = let k = values_told ds (b && int_le d.low d.high) h in let g = and_true b (int_le d.low d.high) k.0 in (g.0, (some_values d.low d.high g.1, k.1))
+values_told (d ∷ ds) b h =
+    let n = count d.low d.high in
+    let k = values_told ds (b && nat_lt 0 n) h in
+    let g = and_true b (nat_lt 0 n) k.0 in
+    let lt = ltb-true 0 n g.1 in
+    (g.0, (omega arith, k.1))
 
 entry_told : (t : Subtype) (b : Bool) → is_full t b ≡ true → (b ≡ true) × FullEntry (Some t)
 unfolding is_full
@@ -94,8 +96,16 @@ are_full table h = (full_told table true h).1
 
 -- ---- cells
 
+most_over : (n c : ℕ) → 18446744073709551615 < n → saturated (18446744073709551615 * c) ≡ saturated (n * c)
+most_over n zero h = let e : 18446744073709551615 * 0 ≡ n * 0 = omega arith in ap saturated e
+most_over n (suc c) h = let e : n * suc c ≡ n * c + n = omega arith in omega arith
+
 most_mul : (n c : ℕ) → saturated (saturated n * c) ≡ saturated (n * c)
-most_mul n c = ?
+most_mul n c = go (nat_le n 18446744073709551615) refl
+  where
+    go : (x : Bool) → nat_le n 18446744073709551615 ≡ x → saturated (saturated n * c) ≡ saturated (n * c)
+    go true e = let le = leb-true n 18446744073709551615 e in let s : saturated n ≡ n = omega arith in ap (λ z. saturated (z * c)) s
+    go false e = let lt = leb-false n 18446744073709551615 e in let s : saturated n ≡ 18446744073709551615 = omega arith in ap (λ z. saturated (z * c)) s ∙ most_over n c lt
 
 most_add : (m n : ℕ) → saturated (saturated m + saturated n) ≡ saturated (m + n)
 most_add m n = omega arith

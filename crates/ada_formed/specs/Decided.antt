@@ -30,21 +30,21 @@ decided_reducer (Function at s accumulator value) w b = called s w b
 
 module _ (text : walk.Text) where
   abbrev pub table : List Subtype
-  table = (program text.typed).subtypes
+  table = (program text.typed.now).subtypes
 
   -- names
 
   unfoldable pub root_place : Bool → Root → Scope → Option Place
-  root_place constant (root.Object x) scope = Some (object_place table (slice_get text.typed.objects x))
+  root_place constant (root.Object x) scope = Some (object_place table (slice_get text.typed.now.objects x))
   root_place constant (root.Item k) scope = item_of constant k scope
 
   unfoldable pub named : Bool → Root → Selections → Scope → Option Place
-  named constant from selections scope = selected table text.sizes selections (root_place constant from scope)
+  named constant from selections scope = selected table text.sizes.now selections (root_place constant from scope)
 
   -- a part has so many cells
   unfoldable pub fits : Option Place → ℕ → Bool → Bool
   fits None n b = false
-  fits (Some p) n b = b && nat_le n (cells table text.sizes p)
+  fits (Some p) n b = b && nat_le n (cells table text.sizes.now p)
 
   unfoldable pub spans : Bool → Root → Selections → ℕ → Scope → Bool → Bool
   spans constant from selections n scope b = fits (named constant from selections scope) n b
@@ -54,7 +54,7 @@ module _ (text : walk.Text) where
 
   -- the cells of a subtype
   abbrev pub cells_at : ℕ → ℕ
-  cells_at n = get_or text.sizes n 0
+  cells_at n = get_or text.sizes.now n 0
 
   -- the most cells that are given, or that number
   unfoldable pub wide_composite : Composite → ℕ → ℕ
@@ -128,7 +128,7 @@ module _ (text : walk.Text) where
     pub decided_iteration : Iteration → (Scope → Bool → Bool) → Scope → Bool → Bool
     decided_iteration (Range k reverse low high check filter) body w b = body w (decided_optional filter w (decided_expr high w (decided_expr low w b)))
     decided_iteration (Components k constant at from selections number stride dimensions filter) body w b =
-        with_place (component_of table text.sizes dimensions number stride (named constant from selections w))
+        with_place (component_of table text.sizes.now dimensions number stride (named constant from selections w))
         (λ p. body (Binding constant k p w) (decided_optional filter (Binding constant k p w) (decided_selections selections w b)))
 
     pub decided_chunk : Chunk → Scope → Bool → Bool
@@ -196,4 +196,4 @@ module _ (text : walk.Text) where
   decided_subs s (sub ∷ subs) b = decided_subs (s + 1) subs (decided_body sub.body (Alone (s + 1)) b)
 
   unfoldable pub decided : Bool
-  decided = decided_subs 0 (program text.typed).subs (decided_body (program text.typed).body (Alone (length (program text.typed).subs)) true)
+  decided = decided_subs 0 (program text.typed.now).subs (decided_body (program text.typed.now).body (Alone (length (program text.typed.now).subs)) true)

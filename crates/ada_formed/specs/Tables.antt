@@ -1,6 +1,6 @@
 -- The tables of a program: whether each subtype stands on those before it, and how many cells each has, where all
 -- numbers from a greatest one on count as that.
-use Rattle.std.specs.Prelude.{ℕ, zero, suc, ◌+◌, ◌-◌, ◌*◌, ◌/◌, ◌%◌, min, nat_eq, nat_lt, nat_le, ℤ, int_le, List, [], ◌∷◌, ◌++◌, Option, Some, None, Bool, true, false, ◌&&◌, cond, slice_get, length}
+use Rattle.std.specs.Prelude.{ℕ, zero, suc, ◌+◌, ◌-◌, ◌*◌, ◌/◌, ◌%◌, min, nat_eq, nat_lt, nat_le, ℤ, List, [], ◌∷◌, ◌++◌, Option, Some, None, Bool, true, false, ◌&&◌, cond, slice_get, length}
 use Rattle.std.proofs.Math.ListN.{get_or}
 use Rattle.ada_typed.specs.declared.program.Bounds.{Bounds}
 use Rattle.ada_typed.specs.declared.program.Field as field
@@ -32,7 +32,7 @@ grounded_from n (t ∷ ts) b = grounded_from (n + 1) ts (stands n t b)
 
 unfoldable pub have_values : List Bounds → Bool → Bool
 have_values [] b = b
-have_values (x ∷ xs) b = have_values xs (b && int_le x.low x.high)
+have_values (x ∷ xs) b = have_values xs (b && nat_lt 0 (count x.low x.high))
 
 unfoldable pub has_dimension : List Bounds → Bool
 has_dimension [] = false

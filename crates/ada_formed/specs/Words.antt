@@ -57,17 +57,17 @@ module _ (text : walk.Text) where
   -- the cells of an expression of which the rest is still to be gone through
   abbrev pub wide_left : ℕ → Option ℕ → ℕ
   wide_left n None = n
-  wide_left n (Some k) = wide_composite text (composite_at text.typed.nodes k) n
+  wide_left n (Some k) = wide_composite text (composite_at text.typed.now.nodes k) n
 
   -- what is decided of a part of which the rest is still to be gone through
   abbrev pub expr_left : Scope → Bool → Option ℕ → Bool
   expr_left w found None = found
-  expr_left w found (Some k) = decided_expr text (expr_at text.typed.nodes k) w found
+  expr_left w found (Some k) = decided_expr text (expr_at text.typed.now.nodes k) w found
 
   abbrev pub composite_left : Scope → Bool → Option ℕ → Bool
   composite_left w found None = found
-  composite_left w found (Some k) = decided_composite text (composite_at text.typed.nodes k) w found
+  composite_left w found (Some k) = decided_composite text (composite_at text.typed.now.nodes k) w found
 
   abbrev pub stmt_left : Scope → Bool → Option ℕ → Bool
   stmt_left w found None = found
-  stmt_left w found (Some k) = decided_stmt text (stmt_at text.typed.nodes k) w found
+  stmt_left w found (Some k) = decided_stmt text (stmt_at text.typed.now.nodes k) w found

@@ -25,7 +25,7 @@ pub fn settled(class: Class, found: bool) -> bool
 /// A call of a subprogram.
 #[tactic(auto, unfolding(crate::specs::Decided::called))]
 pub fn called(text: &Text<'_>, env: &Env<'_>, sub: u32, found: bool) -> bool
-    ensures { result ≡ spec.called sub (scope_of text.now.typed.nodes env.now) found }
+    ensures { result ≡ spec.called sub (scope_of text.now.typed.now.nodes env.now) found }
 {
     both(found, (sub as usize) < env.declared())
 }
@@ -33,7 +33,7 @@ pub fn called(text: &Text<'_>, env: &Env<'_>, sub: u32, found: bool) -> bool
 /// What a reduction folds by (4.5.10).
 #[tactic(auto, unfolding(crate::specs::Decided::decided_reducer))]
 pub fn reducer(text: &Text<'_>, env: &Env<'_>, id: u32, found: bool) -> bool
-    ensures { result ≡ spec.decided_reducer (reducer_at text.now.typed.nodes id) (scope_of text.now.typed.nodes env.now) found }
+    ensures { result ≡ spec.decided_reducer (reducer_at text.now.typed.now.nodes id) (scope_of text.now.typed.now.nodes env.now) found }
 {
     match text.typed.nodes.reducer(id) {
         Reducer::Operator { class, .. } => settled(class, found),
@@ -44,7 +44,7 @@ pub fn reducer(text: &Text<'_>, env: &Env<'_>, id: u32, found: bool) -> bool
 /// A part that is to have so many cells.
 #[tactic(auto, unfolding(crate::specs::Decided::fits))]
 pub fn fits(text: &Text<'_>, part: Option<Part>, count: u64, found: bool) -> bool
-    ensures { result ≡ spec.fits text.now (place_in text.now.typed.nodes part) count found }
+    ensures { result ≡ spec.fits text.now (place_in text.now.typed.now.nodes part) count found }
 {
     match part {
         None => false,
@@ -63,7 +63,7 @@ pub fn spans(
     count: u64,
     found: bool,
 ) -> bool
-    ensures { result ≡ spec.spans text.now constant from (selections_at text.now.typed.nodes selections) count (scope_of text.now.typed.nodes env.now) found }
+    ensures { result ≡ spec.spans text.now constant from (selections_at text.now.typed.now.nodes selections) count (scope_of text.now.typed.now.nodes env.now) found }
 {
     fits(
         text,
@@ -76,7 +76,7 @@ pub fn spans(
 /// The target of an assignment, which is to have so many cells.
 #[tactic(auto, unfolding(crate::specs::Decided::aims))]
 pub fn aims(text: &Text<'_>, env: &Env<'_>, count: u64, found: bool) -> bool
-    ensures { result ≡ spec.aims text.now count (scope_of text.now.typed.nodes env.now) found }
+    ensures { result ≡ spec.aims text.now count (scope_of text.now.typed.now.nodes env.now) found }
 {
     fits(text, env.target(), count, found)
 }
@@ -105,7 +105,7 @@ pub struct Found {
 /// expression is gone through by a loop.
 #[cycle(wide)]
 fn wide_composite(text: &Text<'_>, id: u32, count: u64) -> u64
-    ensures { result ≡ spec.wide_composite text.now (composite_at text.now.typed.nodes id) count }
+    ensures { result ≡ spec.wide_composite text.now (composite_at text.now.typed.now.nodes id) count }
 {
     let mut step = Found {
         cells: count,
@@ -120,7 +120,7 @@ fn wide_composite(text: &Text<'_>, id: u32, count: u64) -> u64
 #[cycle(wide)]
 #[tactic(auto, unfolding(crate::specs::Decided::wide_composite))]
 fn wide_step(text: &Text<'_>, id: u32, count: u64) -> Found
-    ensures { (wide_left text.now result.cells result.rest ≡ spec.wide_composite text.now (composite_at text.now.typed.nodes id) count) × IsBelow id result.rest }
+    ensures { (wide_left text.now result.cells result.rest ≡ spec.wide_composite text.now (composite_at text.now.typed.now.nodes id) count) × IsBelow id result.rest }
 {
     match text.typed.nodes.composite(id) {
         Composite::WholeVariable { subtype, .. }
@@ -147,7 +147,7 @@ fn wide_step(text: &Text<'_>, id: u32, count: u64) -> Found
 /// How many cells a value gives at most.
 #[tactic(auto, unfolding(crate::specs::Decided::wide, crate::specs::Decided::wide_composite))]
 pub fn wide(text: &Text<'_>, id: u32) -> u64
-    ensures { result ≡ spec.wide text.now (value_at text.now.typed.nodes id) }
+    ensures { result ≡ spec.wide text.now (value_at text.now.typed.now.nodes id) }
 {
     match text.typed.nodes.value(id) {
         None => 0,

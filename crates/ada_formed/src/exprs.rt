@@ -38,7 +38,7 @@ pub fn left(found: bool, rest: u32) -> Step
 /// An expression. What stands last in it is gone through by a loop, so that a chain of operators takes no native stack.
 #[cycle(text)]
 pub fn expr(text: &Text<'_>, env: &Env<'_>, id: u32, found: bool) -> bool
-    ensures { result ≡ spec.decided_expr text.now (expr_at text.now.typed.nodes id) (scope_of text.now.typed.nodes env.now) found }
+    ensures { result ≡ spec.decided_expr text.now (expr_at text.now.typed.now.nodes id) (scope_of text.now.typed.now.nodes env.now) found }
 {
     let mut step = left(found, id);
     while let Some(at) = step.rest {
@@ -52,7 +52,7 @@ pub fn expr(text: &Text<'_>, env: &Env<'_>, id: u32, found: bool) -> bool
 #[inline(never)]
 #[tactic(auto, unfolding(crate::specs::Decided::decided_expr))]
 fn expr_step(text: &Text<'_>, env: &Env<'_>, id: u32, found: bool) -> Step
-    ensures { (expr_left text.now (scope_of text.now.typed.nodes env.now) result.found result.rest ≡ spec.decided_expr text.now (expr_at text.now.typed.nodes id) (scope_of text.now.typed.nodes env.now) found) × IsBelow id result.rest }
+    ensures { (expr_left text.now (scope_of text.now.typed.now.nodes env.now) result.found result.rest ≡ spec.decided_expr text.now (expr_at text.now.typed.now.nodes id) (scope_of text.now.typed.now.nodes env.now) found) × IsBelow id result.rest }
 {
     match text.typed.nodes.expr(id) {
         Expr::Static { mentions, .. } => whole(exprs(text, env, mentions, found)),
@@ -141,7 +141,7 @@ fn expr_step(text: &Text<'_>, env: &Env<'_>, id: u32, found: bool) -> Step
 #[inline(never)]
 #[tactic(auto, unfolding(crate::specs::Decided::decided_expr))]
 fn values(text: &Text<'_>, env: &Env<'_>, course: u32, value: u32, found: bool) -> bool
-    ensures { result ≡ spec.decided_iteration text.now (iteration_at text.now.typed.nodes course) (λ v c. spec.decided_expr text.now (expr_at text.now.typed.nodes value) v c) (scope_of text.now.typed.nodes env.now) found }
+    ensures { result ≡ spec.decided_iteration text.now (iteration_at text.now.typed.now.nodes course) (λ v c. spec.decided_expr text.now (expr_at text.now.typed.now.nodes value) v c) (scope_of text.now.typed.now.nodes env.now) found }
 {
     match text.typed.nodes.iteration(course) {
         None => false,
@@ -191,7 +191,7 @@ fn values(text: &Text<'_>, env: &Env<'_>, course: u32, value: u32, found: bool) 
 /// The limits of a range, and a filter.
 #[cycle(text)]
 pub fn ranged(text: &Text<'_>, env: &Env<'_>, low: u32, high: u32, filter: u32, found: bool) -> bool
-    ensures { result ≡ spec.decided_optional text.now (optional_at text.now.typed.nodes filter) (scope_of text.now.typed.nodes env.now) (spec.decided_expr text.now (expr_at text.now.typed.nodes high) (scope_of text.now.typed.nodes env.now) (spec.decided_expr text.now (expr_at text.now.typed.nodes low) (scope_of text.now.typed.nodes env.now) found)) }
+    ensures { result ≡ spec.decided_optional text.now (optional_at text.now.typed.now.nodes filter) (scope_of text.now.typed.now.nodes env.now) (spec.decided_expr text.now (expr_at text.now.typed.now.nodes high) (scope_of text.now.typed.now.nodes env.now) (spec.decided_expr text.now (expr_at text.now.typed.now.nodes low) (scope_of text.now.typed.now.nodes env.now) found)) }
 {
     let first = expr(text, env, low, found);
     let second = expr(text, env, high, first);
@@ -202,7 +202,7 @@ pub fn ranged(text: &Text<'_>, env: &Env<'_>, low: u32, high: u32, filter: u32, 
 #[cycle(text)]
 #[tactic(auto, unfolding(crate::specs::Decided::decided_exprs))]
 pub fn exprs(text: &Text<'_>, env: &Env<'_>, id: u32, found: bool) -> bool
-    ensures { result ≡ spec.decided_exprs text.now (exprs_at text.now.typed.nodes id) (scope_of text.now.typed.nodes env.now) found }
+    ensures { result ≡ spec.decided_exprs text.now (exprs_at text.now.typed.now.nodes id) (scope_of text.now.typed.now.nodes env.now) found }
 {
     let mut at = id;
     let mut all = found;
@@ -217,7 +217,7 @@ pub fn exprs(text: &Text<'_>, env: &Env<'_>, id: u32, found: bool) -> bool
 #[cycle(text)]
 #[tactic(auto, using(crate::proofs::Reading::present_is), unfolding(crate::specs::Decided::decided_optional))]
 pub fn optional(text: &Text<'_>, env: &Env<'_>, id: u32, found: bool) -> bool
-    ensures { result ≡ spec.decided_optional text.now (optional_at text.now.typed.nodes id) (scope_of text.now.typed.nodes env.now) found }
+    ensures { result ≡ spec.decided_optional text.now (optional_at text.now.typed.now.nodes id) (scope_of text.now.typed.now.nodes env.now) found }
 {
     match text.typed.nodes.optional(id) {
         None => found,
@@ -236,7 +236,7 @@ pub fn name(
     count: u64,
     found: bool,
 ) -> bool
-    ensures { result ≡ spec.decided_selections text.now (selections_at text.now.typed.nodes id) (scope_of text.now.typed.nodes env.now) (spec.spans text.now constant from (selections_at text.now.typed.nodes id) count (scope_of text.now.typed.nodes env.now) found) }
+    ensures { result ≡ spec.decided_selections text.now (selections_at text.now.typed.now.nodes id) (scope_of text.now.typed.now.nodes env.now) (spec.spans text.now constant from (selections_at text.now.typed.now.nodes id) count (scope_of text.now.typed.now.nodes env.now) found) }
 {
     let first = spans(text, env, constant, from, id, count, found);
     selections(text, env, id, first)
@@ -246,7 +246,7 @@ pub fn name(
 #[cycle(text)]
 #[tactic(auto, unfolding(crate::specs::Decided::decided_selections))]
 pub fn selections(text: &Text<'_>, env: &Env<'_>, id: u32, found: bool) -> bool
-    ensures { result ≡ spec.decided_selections text.now (selections_at text.now.typed.nodes id) (scope_of text.now.typed.nodes env.now) found }
+    ensures { result ≡ spec.decided_selections text.now (selections_at text.now.typed.now.nodes id) (scope_of text.now.typed.now.nodes env.now) found }
 {
     let mut at = id;
     let mut all = found;
@@ -260,7 +260,7 @@ pub fn selections(text: &Text<'_>, env: &Env<'_>, id: u32, found: bool) -> bool
 #[cycle(text)]
 #[tactic(auto, unfolding(crate::specs::Decided::decided_selections))]
 fn selection(text: &Text<'_>, env: &Env<'_>, id: u32, found: bool) -> bool
-    ensures { (rest : Selections) → spec.decided_selections text.now rest (scope_of text.now.typed.nodes env.now) result ≡ spec.decided_selections text.now (as_selection (part_at text.now.typed.nodes id) rest) (scope_of text.now.typed.nodes env.now) found }
+    ensures { (rest : Selections) → spec.decided_selections text.now rest (scope_of text.now.typed.now.nodes env.now) result ≡ spec.decided_selections text.now (as_selection (part_at text.now.typed.now.nodes id) rest) (scope_of text.now.typed.now.nodes env.now) found }
 {
     match text.typed.nodes.selection(id) {
         Some(Selection::Index { index, .. }) => expr(text, env, index, found),
@@ -272,7 +272,7 @@ fn selection(text: &Text<'_>, env: &Env<'_>, id: u32, found: bool) -> bool
 #[cycle(text)]
 #[tactic(auto, unfolding(crate::specs::Decided::decided_actuals))]
 pub fn actuals(text: &Text<'_>, env: &Env<'_>, id: u32, found: bool) -> bool
-    ensures { result ≡ spec.decided_actuals text.now (actuals_at text.now.typed.nodes id) (scope_of text.now.typed.nodes env.now) found }
+    ensures { result ≡ spec.decided_actuals text.now (actuals_at text.now.typed.now.nodes id) (scope_of text.now.typed.now.nodes env.now) found }
 {
     let mut at = id;
     let mut all = found;
@@ -286,7 +286,7 @@ pub fn actuals(text: &Text<'_>, env: &Env<'_>, id: u32, found: bool) -> bool
 #[cycle(text)]
 #[tactic(auto, unfolding(crate::specs::Decided::decided_actuals))]
 fn actual(text: &Text<'_>, env: &Env<'_>, id: u32, found: bool) -> bool
-    ensures { (rest : Actuals) → spec.decided_actuals text.now rest (scope_of text.now.typed.nodes env.now) result ≡ spec.decided_actuals text.now (as_actual (part_at text.now.typed.nodes id) rest) (scope_of text.now.typed.nodes env.now) found }
+    ensures { (rest : Actuals) → spec.decided_actuals text.now rest (scope_of text.now.typed.now.nodes env.now) result ≡ spec.decided_actuals text.now (as_actual (part_at text.now.typed.now.nodes id) rest) (scope_of text.now.typed.now.nodes env.now) found }
 {
     match text.typed.nodes.actual(id) {
         None => found,
@@ -327,7 +327,7 @@ fn actual(text: &Text<'_>, env: &Env<'_>, id: u32, found: bool) -> bool
 #[cycle(text)]
 #[tactic(auto, unfolding(crate::specs::Decided::decided_value, crate::specs::Decided::decided_composite, crate::specs::Decided::decided_associations))]
 pub fn value(text: &Text<'_>, env: &Env<'_>, id: u32, found: bool) -> bool
-    ensures { result ≡ spec.decided_value text.now (value_at text.now.typed.nodes id) (scope_of text.now.typed.nodes env.now) found }
+    ensures { result ≡ spec.decided_value text.now (value_at text.now.typed.now.nodes id) (scope_of text.now.typed.now.nodes env.now) found }
 {
     match text.typed.nodes.value(id) {
         None => found,
@@ -339,7 +339,7 @@ pub fn value(text: &Text<'_>, env: &Env<'_>, id: u32, found: bool) -> bool
 /// An expression of an array or record type. The last part of a conditional expression is gone through by a loop.
 #[cycle(text)]
 fn composite(text: &Text<'_>, env: &Env<'_>, id: u32, found: bool) -> bool
-    ensures { result ≡ spec.decided_composite text.now (composite_at text.now.typed.nodes id) (scope_of text.now.typed.nodes env.now) found }
+    ensures { result ≡ spec.decided_composite text.now (composite_at text.now.typed.now.nodes id) (scope_of text.now.typed.now.nodes env.now) found }
 {
     let mut step = left(found, id);
     while let Some(at) = step.rest {
@@ -352,7 +352,7 @@ fn composite(text: &Text<'_>, env: &Env<'_>, id: u32, found: bool) -> bool
 #[inline(never)]
 #[tactic(auto, unfolding(crate::specs::Decided::decided_composite))]
 fn composite_step(text: &Text<'_>, env: &Env<'_>, id: u32, found: bool) -> Step
-    ensures { (composite_left text.now (scope_of text.now.typed.nodes env.now) result.found result.rest ≡ spec.decided_composite text.now (composite_at text.now.typed.nodes id) (scope_of text.now.typed.nodes env.now) found) × IsBelow id result.rest }
+    ensures { (composite_left text.now (scope_of text.now.typed.now.nodes env.now) result.found result.rest ≡ spec.decided_composite text.now (composite_at text.now.typed.now.nodes id) (scope_of text.now.typed.now.nodes env.now) found) × IsBelow id result.rest }
 {
     match text.typed.nodes.composite(id) {
         Composite::WholeVariable {
@@ -395,7 +395,7 @@ fn composite_step(text: &Text<'_>, env: &Env<'_>, id: u32, found: bool) -> Step
 #[cycle(text)]
 #[tactic(auto, unfolding(crate::specs::Decided::decided_associations))]
 fn associations(text: &Text<'_>, env: &Env<'_>, id: u32, found: bool) -> bool
-    ensures { result ≡ spec.decided_associations text.now (associations_at text.now.typed.nodes id) (scope_of text.now.typed.nodes env.now) found }
+    ensures { result ≡ spec.decided_associations text.now (associations_at text.now.typed.now.nodes id) (scope_of text.now.typed.now.nodes env.now) found }
 {
     let mut at = id;
     let mut all = found;
@@ -409,7 +409,7 @@ fn associations(text: &Text<'_>, env: &Env<'_>, id: u32, found: bool) -> bool
 #[cycle(text)]
 #[tactic(auto, unfolding(crate::specs::Decided::decided_associations))]
 fn association(text: &Text<'_>, env: &Env<'_>, id: u32, found: bool) -> bool
-    ensures { (rest : Associations) → spec.decided_associations text.now rest (scope_of text.now.typed.nodes env.now) result ≡ spec.decided_associations text.now (as_association (part_at text.now.typed.nodes id) rest) (scope_of text.now.typed.nodes env.now) found }
+    ensures { (rest : Associations) → spec.decided_associations text.now rest (scope_of text.now.typed.now.nodes env.now) result ≡ spec.decided_associations text.now (as_association (part_at text.now.typed.now.nodes id) rest) (scope_of text.now.typed.now.nodes env.now) found }
 {
     match text.typed.nodes.association(id) {
         None => found,
@@ -424,7 +424,7 @@ fn association(text: &Text<'_>, env: &Env<'_>, id: u32, found: bool) -> bool
 #[cycle(text)]
 #[tactic(auto, unfolding(crate::specs::Decided::decided_chunk))]
 pub fn chunk(text: &Text<'_>, env: &Env<'_>, id: u32, found: bool) -> bool
-    ensures { result ≡ spec.decided_chunk text.now (chunk_at text.now.typed.nodes id) (scope_of text.now.typed.nodes env.now) found }
+    ensures { result ≡ spec.decided_chunk text.now (chunk_at text.now.typed.now.nodes id) (scope_of text.now.typed.now.nodes env.now) found }
 {
     match text.typed.nodes.chunk(id) {
         None => found,

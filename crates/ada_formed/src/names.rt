@@ -18,7 +18,7 @@ use ada_typed::{Bounds, Object, Root, Selection};
 /// The field of a number at an offset.
 #[tactic(auto, unfolding(crate::specs::Tables::field_in))]
 fn field(text: &Text<'_>, fields: u32, number: u32, offset: u32) -> Option<Part>
-    ensures { place_in text.now.typed.nodes result ≡ spec.field_in (program text.now.typed).subtypes text.now.sizes (fields_at text.now.typed.nodes fields) number offset }
+    ensures { place_in text.now.typed.now.nodes result ≡ spec.field_in (program text.now.typed.now).subtypes text.now.sizes.now (fields_at text.now.typed.now.nodes fields) number offset }
 {
     let mut at = fields;
     let mut left = number;
@@ -52,7 +52,7 @@ fn first(subtype: usize, before: u64) -> Option<Part>
 
 /// The field of a part.
 fn field_step(text: &Text<'_>, part: Option<Part>, number: u32, offset: u32) -> Option<Part>
-    ensures { place_in text.now.typed.nodes result ≡ spec.field_step (program text.now.typed).subtypes text.now.sizes (place_in text.now.typed.nodes part) number offset }
+    ensures { place_in text.now.typed.now.nodes result ≡ spec.field_step (program text.now.typed.now).subtypes text.now.sizes.now (place_in text.now.typed.now.nodes part) number offset }
 {
     match part {
         None => None,
@@ -71,7 +71,7 @@ fn is_equal(first: i64, second: i64) -> bool
 
 /// An index of a part.
 fn index_step(text: &Text<'_>, part: Option<Part>, low: i64, high: i64, stride: u32) -> Option<Part>
-    ensures { place_in text.now.typed.nodes result ≡ spec.index_step (program text.now.typed).subtypes text.now.sizes (place_in text.now.typed.nodes part) low high stride }
+    ensures { place_in text.now.typed.now.nodes result ≡ spec.index_step (program text.now.typed.now).subtypes text.now.sizes.now (place_in text.now.typed.now.nodes part) low high stride }
 {
     match part {
         None => None,
@@ -91,7 +91,7 @@ fn along(
     high: i64,
     stride: u32,
 ) -> Option<Part>
-    ensures { place_in text.now.typed.nodes result ≡ spec.index_seen (program text.now.typed).subtypes text.now.sizes (spec.Along bounds (place_of text.now.typed.nodes rest)) low high stride }
+    ensures { place_in text.now.typed.now.nodes result ≡ spec.index_seen (program text.now.typed.now).subtypes text.now.sizes.now (spec.Along bounds (place_of text.now.typed.now.nodes rest)) low high stride }
 {
     let bounded = both(is_equal(low, bounds.low), is_equal(high, bounds.high));
     if both(bounded, u64::from(stride) == cells(text, rest)) {
@@ -104,7 +104,7 @@ fn along(
 /// The part to which selections lead.
 #[tactic(auto, unfolding(crate::specs::Tables::selected))]
 fn selected(text: &Text<'_>, id: u32, part: Option<Part>) -> Option<Part>
-    ensures { place_in text.now.typed.nodes result ≡ spec.selected (program text.now.typed).subtypes text.now.sizes (selections_at text.now.typed.nodes id) (place_in text.now.typed.nodes part) }
+    ensures { place_in text.now.typed.now.nodes result ≡ spec.selected (program text.now.typed.now).subtypes text.now.sizes.now (selections_at text.now.typed.now.nodes id) (place_in text.now.typed.now.nodes part) }
 {
     let mut at = id;
     let mut all = part;
@@ -117,7 +117,7 @@ fn selected(text: &Text<'_>, id: u32, part: Option<Part>) -> Option<Part>
 
 #[tactic(auto, unfolding(crate::specs::Tables::selected))]
 fn selection(text: &Text<'_>, id: u32, part: Option<Part>) -> Option<Part>
-    ensures { (rest : Selections) → spec.selected (program text.now.typed).subtypes text.now.sizes rest (place_in text.now.typed.nodes result) ≡ spec.selected (program text.now.typed).subtypes text.now.sizes (as_selection (part_at text.now.typed.nodes id) rest) (place_in text.now.typed.nodes part) }
+    ensures { (rest : Selections) → spec.selected (program text.now.typed.now).subtypes text.now.sizes.now rest (place_in text.now.typed.now.nodes result) ≡ spec.selected (program text.now.typed.now).subtypes text.now.sizes.now (as_selection (part_at text.now.typed.now.nodes id) rest) (place_in text.now.typed.now.nodes part) }
 {
     match text.typed.nodes.selection(id) {
         None => part,
@@ -136,7 +136,7 @@ fn selection(text: &Text<'_>, id: u32, part: Option<Part>) -> Option<Part>
 /// The object of a number.
 #[tactic(auto, unfolding(crate::specs::Tables::object_place))]
 fn object(text: &Text<'_>, number: u32) -> Part
-    ensures { place_of text.now.typed.nodes result ≡ spec.object_place (program text.now.typed).subtypes (slice_get text.now.typed.objects number) }
+    ensures { place_of text.now.typed.now.nodes result ≡ spec.object_place (program text.now.typed.now).subtypes (slice_get text.now.typed.now.objects number) }
 {
     match object_at(text, number) {
         None => whole(text.typed.subtypes.len()),
@@ -145,7 +145,7 @@ fn object(text: &Text<'_>, number: u32) -> Part
 }
 
 fn object_at(text: &Text<'_>, number: u32) -> Option<Object>
-    ensures { result ≡ slice_get text.now.typed.objects number }
+    ensures { result ≡ slice_get text.now.typed.now.objects number }
 {
     text.typed.objects.get(number as usize).copied()
 }
@@ -153,7 +153,7 @@ fn object_at(text: &Text<'_>, number: u32) -> Option<Object>
 /// What a name begins with.
 #[tactic(auto, unfolding(crate::specs::Decided::root_place))]
 fn root(text: &Text<'_>, env: &Env<'_>, constant: bool, root: Root) -> Option<Part>
-    ensures { place_in text.now.typed.nodes result ≡ decided.root_place text.now constant root (scope_of text.now.typed.nodes env.now) }
+    ensures { place_in text.now.typed.now.nodes result ≡ decided.root_place text.now constant root (scope_of text.now.typed.now.nodes env.now) }
 {
     match root {
         Root::Object(number) => Some(object(text, number)),
@@ -170,7 +170,7 @@ pub fn named(
     from: Root,
     selections: u32,
 ) -> Option<Part>
-    ensures { place_in text.now.typed.nodes result ≡ decided.named text.now constant from (selections_at text.now.typed.nodes selections) (scope_of text.now.typed.nodes env.now) }
+    ensures { place_in text.now.typed.now.nodes result ≡ decided.named text.now constant from (selections_at text.now.typed.now.nodes selections) (scope_of text.now.typed.now.nodes env.now) }
 {
     selected(text, selections, root(text, env, constant, from))
 }
@@ -196,7 +196,7 @@ fn quotient(number: u128, count: u128) -> Option<u128>
 
 /// One dimension further.
 fn further(text: &Text<'_>, part: Part, number: u128) -> Option<Rest>
-    ensures { rest_in text.now.typed.nodes result ≡ spec.rest_seen (spec.seen (program text.now.typed).subtypes (place_of text.now.typed.nodes part)) number }
+    ensures { rest_in text.now.typed.now.nodes result ≡ spec.rest_seen (spec.seen (program text.now.typed.now).subtypes (place_of text.now.typed.now.nodes part)) number }
 {
     match view(text.typed, part) {
         Head::Along { bounds, rest } => match quotient(number, span(bounds)) {
@@ -210,7 +210,7 @@ fn further(text: &Text<'_>, part: Part, number: u128) -> Option<Rest>
 /// The component below so many dimensions, where there are so many.
 #[tactic(auto, unfolding(crate::specs::Tables::below), using(crate::proofs::Steps::below_next))]
 fn below(text: &Text<'_>, part: Part, dimensions: u32, number: u32) -> Option<Part>
-    ensures { place_in text.now.typed.nodes result ≡ spec.below (program text.now.typed).subtypes text.now.sizes dimensions (place_of text.now.typed.nodes part) number }
+    ensures { place_in text.now.typed.now.nodes result ≡ spec.below (program text.now.typed.now).subtypes text.now.sizes.now dimensions (place_of text.now.typed.now.nodes part) number }
 {
     let mut at = Rest {
         part,
@@ -249,7 +249,7 @@ pub fn component_of(
     number: u32,
     stride: u32,
 ) -> Option<Part>
-    ensures { place_in text.now.typed.nodes result ≡ spec.component_of (program text.now.typed).subtypes text.now.sizes dimensions number stride (place_in text.now.typed.nodes array) }
+    ensures { place_in text.now.typed.now.nodes result ≡ spec.component_of (program text.now.typed.now).subtypes text.now.sizes.now dimensions number stride (place_in text.now.typed.now.nodes array) }
 {
     match array {
         None => None,
@@ -259,7 +259,7 @@ pub fn component_of(
 
 /// A component, where it has so many cells.
 fn strided(text: &Text<'_>, part: Option<Part>, stride: u32) -> Option<Part>
-    ensures { place_in text.now.typed.nodes result ≡ spec.strided (program text.now.typed).subtypes text.now.sizes stride (place_in text.now.typed.nodes part) }
+    ensures { place_in text.now.typed.now.nodes result ≡ spec.strided (program text.now.typed.now).subtypes text.now.sizes.now stride (place_in text.now.typed.now.nodes part) }
 {
     match part {
         None => None,

@@ -179,7 +179,7 @@ pub fn view(typed: &Typed, part: Part) -> Head
 /// How many cells a part has.
 #[tactic(auto, unfolding(crate::specs::Tables::cells, crate::specs::Tables::product))]
 pub fn cells(text: &Text<'_>, part: Part) -> u64
-    ensures { result ≡ spec.cells (program text.now.typed).subtypes text.now.sizes (place_of text.now.typed.nodes part) }
+    ensures { result ≡ spec.cells (program text.now.typed.now).subtypes text.now.sizes.now (place_of text.now.typed.now.nodes part) }
 {
     let each = cells_in(text.sizes, part.subtype);
     match part.dimensions {

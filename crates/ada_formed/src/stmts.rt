@@ -18,7 +18,7 @@ use ada_typed::{Handler, Iteration, Root, Stmt};
 /// A statement. A statement that stands alone after `else`, as one made of `elsif` does, is gone through by a loop.
 #[cycle(body)]
 fn stmt(text: &Text<'_>, env: &Env<'_>, id: u32, found: bool) -> bool
-    ensures { result ≡ spec.decided_stmt text.now (stmt_at text.now.typed.nodes id) (scope_of text.now.typed.nodes env.now) found }
+    ensures { result ≡ spec.decided_stmt text.now (stmt_at text.now.typed.now.nodes id) (scope_of text.now.typed.now.nodes env.now) found }
 {
     let mut step = left(found, id);
     while let Some(at) = step.rest {
@@ -32,7 +32,7 @@ fn stmt(text: &Text<'_>, env: &Env<'_>, id: u32, found: bool) -> bool
 #[inline(never)]
 #[tactic(auto, unfolding(crate::specs::Decided::decided_stmt))]
 fn stmt_step(text: &Text<'_>, env: &Env<'_>, id: u32, found: bool) -> Step
-    ensures { (stmt_left text.now (scope_of text.now.typed.nodes env.now) result.found result.rest ≡ spec.decided_stmt text.now (stmt_at text.now.typed.nodes id) (scope_of text.now.typed.nodes env.now) found) × IsBelow id result.rest }
+    ensures { (stmt_left text.now (scope_of text.now.typed.now.nodes env.now) result.found result.rest ≡ spec.decided_stmt text.now (stmt_at text.now.typed.now.nodes id) (scope_of text.now.typed.now.nodes env.now) found) × IsBelow id result.rest }
 {
     match text.typed.nodes.stmt(id) {
         Stmt::Null | Stmt::Return | Stmt::Raise { .. } | Stmt::Reraise => whole(found),
@@ -119,7 +119,7 @@ fn stmt_step(text: &Text<'_>, env: &Env<'_>, id: u32, found: bool) -> Step
 #[inline(never)]
 #[tactic(auto, unfolding(crate::specs::Decided::decided_stmt))]
 fn assign(text: &Text<'_>, env: &Env<'_>, root: Root, parts: u32, part: u32, found: bool) -> bool
-    ensures { (at : ℕ) → result ≡ spec.decided_stmt text.now (Assign at root (selections_at text.now.typed.nodes parts) (value_at text.now.typed.nodes part)) (scope_of text.now.typed.nodes env.now) found }
+    ensures { (at : ℕ) → result ≡ spec.decided_stmt text.now (Assign at root (selections_at text.now.typed.now.nodes parts) (value_at text.now.typed.now.nodes part)) (scope_of text.now.typed.now.nodes env.now) found }
 {
     match named(text, env, false, root, parts) {
         None => false,
@@ -140,7 +140,7 @@ fn assign(text: &Text<'_>, env: &Env<'_>, root: Root, parts: u32, part: u32, fou
 #[inline(never)]
 #[tactic(auto, unfolding(crate::specs::Decided::decided_expr))]
 fn course(text: &Text<'_>, env: &Env<'_>, id: u32, parts: u32, found: bool) -> bool
-    ensures { result ≡ spec.decided_iteration text.now (iteration_at text.now.typed.nodes id) (λ v c. spec.decided_stmts text.now (stmts_at text.now.typed.nodes parts) v c) (scope_of text.now.typed.nodes env.now) found }
+    ensures { result ≡ spec.decided_iteration text.now (iteration_at text.now.typed.now.nodes id) (λ v c. spec.decided_stmts text.now (stmts_at text.now.typed.now.nodes parts) v c) (scope_of text.now.typed.now.nodes env.now) found }
 {
     match text.typed.nodes.iteration(id) {
         None => false,
@@ -189,7 +189,7 @@ fn course(text: &Text<'_>, env: &Env<'_>, id: u32, parts: u32, found: bool) -> b
 
 /// The statement of a list of one.
 fn alone(text: &Text<'_>, id: u32) -> Option<u32>
-    ensures { MatchOption result (Unit {0}) (λ first. (stmts_at text.now.typed.nodes id ≡ Then (stmt_at text.now.typed.nodes first) End) × (first < id)) }
+    ensures { MatchOption result (Unit {0}) (λ first. (stmts_at text.now.typed.now.nodes id ≡ Then (stmt_at text.now.typed.now.nodes first) End) × (first < id)) }
 {
     match text.typed.nodes.stmts(id) {
         None => None,
@@ -211,7 +211,7 @@ pub fn block(
     handled: u32,
     found: bool,
 ) -> bool
-    ensures { result ≡ spec.decided_handlers text.now (handlers_at text.now.typed.nodes handled) (scope_of text.now.typed.nodes env.now) (spec.decided_stmts text.now (stmts_at text.now.typed.nodes statements) (scope_of text.now.typed.nodes env.now) (spec.decided_decls text.now (decls_at text.now.typed.nodes declarations) (scope_of text.now.typed.nodes env.now) found)) }
+    ensures { result ≡ spec.decided_handlers text.now (handlers_at text.now.typed.now.nodes handled) (scope_of text.now.typed.now.nodes env.now) (spec.decided_stmts text.now (stmts_at text.now.typed.now.nodes statements) (scope_of text.now.typed.now.nodes env.now) (spec.decided_decls text.now (decls_at text.now.typed.now.nodes declarations) (scope_of text.now.typed.now.nodes env.now) found)) }
 {
     let first = decls(text, env, declarations, found);
     let second = stmts(text, env, statements, first);
@@ -223,7 +223,7 @@ pub fn block(
 #[inline(never)]
 #[tactic(auto, unfolding(crate::specs::Decided::decided_stmts))]
 fn stmts(text: &Text<'_>, env: &Env<'_>, id: u32, found: bool) -> bool
-    ensures { result ≡ spec.decided_stmts text.now (stmts_at text.now.typed.nodes id) (scope_of text.now.typed.nodes env.now) found }
+    ensures { result ≡ spec.decided_stmts text.now (stmts_at text.now.typed.now.nodes id) (scope_of text.now.typed.now.nodes env.now) found }
 {
     let mut at = id;
     let mut all = found;
@@ -239,7 +239,7 @@ fn stmts(text: &Text<'_>, env: &Env<'_>, id: u32, found: bool) -> bool
 #[inline(never)]
 #[tactic(auto, unfolding(crate::specs::Decided::decided_alternatives))]
 fn alternatives(text: &Text<'_>, env: &Env<'_>, id: u32, found: bool) -> bool
-    ensures { result ≡ spec.decided_alternatives text.now (alternatives_at text.now.typed.nodes id) (scope_of text.now.typed.nodes env.now) found }
+    ensures { result ≡ spec.decided_alternatives text.now (alternatives_at text.now.typed.now.nodes id) (scope_of text.now.typed.now.nodes env.now) found }
 {
     let mut at = id;
     let mut all = found;
@@ -253,7 +253,7 @@ fn alternatives(text: &Text<'_>, env: &Env<'_>, id: u32, found: bool) -> bool
 #[cycle(body)]
 #[tactic(auto, unfolding(crate::specs::Decided::decided_alternatives))]
 fn alternative(text: &Text<'_>, env: &Env<'_>, id: u32, found: bool) -> bool
-    ensures { (rest : Alternatives) → spec.decided_alternatives text.now rest (scope_of text.now.typed.nodes env.now) result ≡ spec.decided_alternatives text.now (as_alternative (part_at text.now.typed.nodes id) rest) (scope_of text.now.typed.nodes env.now) found }
+    ensures { (rest : Alternatives) → spec.decided_alternatives text.now rest (scope_of text.now.typed.now.nodes env.now) result ≡ spec.decided_alternatives text.now (as_alternative (part_at text.now.typed.now.nodes id) rest) (scope_of text.now.typed.now.nodes env.now) found }
 {
     match text.typed.nodes.alternative(id) {
         None => found,
@@ -269,7 +269,7 @@ fn alternative(text: &Text<'_>, env: &Env<'_>, id: u32, found: bool) -> bool
 #[inline(never)]
 #[tactic(auto, unfolding(crate::specs::Decided::decided_arms))]
 fn arms(text: &Text<'_>, env: &Env<'_>, id: u32, found: bool) -> bool
-    ensures { result ≡ spec.decided_arms text.now (arms_at text.now.typed.nodes id) (scope_of text.now.typed.nodes env.now) found }
+    ensures { result ≡ spec.decided_arms text.now (arms_at text.now.typed.now.nodes id) (scope_of text.now.typed.now.nodes env.now) found }
 {
     let mut at = id;
     let mut all = found;
@@ -285,7 +285,7 @@ fn arms(text: &Text<'_>, env: &Env<'_>, id: u32, found: bool) -> bool
 #[inline(never)]
 #[tactic(auto, unfolding(crate::specs::Decided::decided_handlers))]
 fn handlers(text: &Text<'_>, env: &Env<'_>, id: u32, found: bool) -> bool
-    ensures { result ≡ spec.decided_handlers text.now (handlers_at text.now.typed.nodes id) (scope_of text.now.typed.nodes env.now) found }
+    ensures { result ≡ spec.decided_handlers text.now (handlers_at text.now.typed.now.nodes id) (scope_of text.now.typed.now.nodes env.now) found }
 {
     let mut at = id;
     let mut all = found;
@@ -299,7 +299,7 @@ fn handlers(text: &Text<'_>, env: &Env<'_>, id: u32, found: bool) -> bool
 #[cycle(body)]
 #[tactic(auto, unfolding(crate::specs::Decided::decided_handlers))]
 fn handler(text: &Text<'_>, env: &Env<'_>, id: u32, found: bool) -> bool
-    ensures { (rest : Handlers) → spec.decided_handlers text.now rest (scope_of text.now.typed.nodes env.now) result ≡ spec.decided_handlers text.now (as_handler (part_at text.now.typed.nodes id) rest) (scope_of text.now.typed.nodes env.now) found }
+    ensures { (rest : Handlers) → spec.decided_handlers text.now rest (scope_of text.now.typed.now.nodes env.now) result ≡ spec.decided_handlers text.now (as_handler (part_at text.now.typed.now.nodes id) rest) (scope_of text.now.typed.now.nodes env.now) found }
 {
     match text.typed.nodes.handler(id) {
         None => found,

@@ -1,6 +1,6 @@
 //! The tables of a program: in what order subtypes stand, and how many cells they have (3.6, 3.8).
 
-ghost use Rattle.std.specs.Prelude.{◌≡◌, ◌*◌, ◌&&◌, [], map, IfOk};
+ghost use Rattle.std.specs.Prelude.{◌≡◌, ◌*◌, ◌&&◌, [], map, true, IfOk};
 ghost use Rattle.std.proofs.Math.ListN.{get_or};
 ghost use Rattle.ada_meaning.specs.Values.{count};
 ghost use Rattle.ada_typed.specs.Programs.{bounds_at, fields_at, program, subtype_of};
@@ -67,7 +67,7 @@ fn have_values(nodes: &Nodes, id: u32, so_far: bool) -> bool
     let mut at = id;
     let mut all = so_far;
     while let Some(dimension) = next_dimension(nodes, at) {
-        all = both(all, dimension.bounds.low <= dimension.bounds.high);
+        all = both(all, 0 < span(dimension.bounds));
         at = dimension.rest;
     }
     all

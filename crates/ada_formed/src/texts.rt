@@ -14,7 +14,7 @@ use ada_typed::{Decl, Piece};
 /// Pieces of output.
 #[tactic(auto, unfolding(crate::specs::Decided::decided_pieces))]
 pub fn pieces(text: &Text<'_>, env: &Env<'_>, id: u32, found: bool) -> bool
-    ensures { result ≡ spec.decided_pieces text.now (pieces_at text.now.typed.nodes id) (scope_of text.now.typed.nodes env.now) found }
+    ensures { result ≡ spec.decided_pieces text.now (pieces_at text.now.typed.now.nodes id) (scope_of text.now.typed.now.nodes env.now) found }
 {
     let mut at = id;
     let mut all = found;
@@ -27,7 +27,7 @@ pub fn pieces(text: &Text<'_>, env: &Env<'_>, id: u32, found: bool) -> bool
 
 #[tactic(auto, unfolding(crate::specs::Decided::decided_pieces))]
 fn piece(text: &Text<'_>, env: &Env<'_>, id: u32, found: bool) -> bool
-    ensures { (rest : Pieces) → spec.decided_pieces text.now rest (scope_of text.now.typed.nodes env.now) result ≡ spec.decided_pieces text.now (as_piece (part_at text.now.typed.nodes id) rest) (scope_of text.now.typed.nodes env.now) found }
+    ensures { (rest : Pieces) → spec.decided_pieces text.now rest (scope_of text.now.typed.now.nodes env.now) result ≡ spec.decided_pieces text.now (as_piece (part_at text.now.typed.now.nodes id) rest) (scope_of text.now.typed.now.nodes env.now) found }
 {
     match text.typed.nodes.piece(id) {
         Some(Piece::Image { class, value: part }) => {
@@ -50,7 +50,7 @@ fn piece(text: &Text<'_>, env: &Env<'_>, id: u32, found: bool) -> bool
 /// Declarations.
 #[tactic(auto, unfolding(crate::specs::Decided::decided_decls))]
 pub fn decls(text: &Text<'_>, env: &Env<'_>, id: u32, found: bool) -> bool
-    ensures { result ≡ spec.decided_decls text.now (decls_at text.now.typed.nodes id) (scope_of text.now.typed.nodes env.now) found }
+    ensures { result ≡ spec.decided_decls text.now (decls_at text.now.typed.now.nodes id) (scope_of text.now.typed.now.nodes env.now) found }
 {
     let mut at = id;
     let mut all = found;
@@ -63,7 +63,7 @@ pub fn decls(text: &Text<'_>, env: &Env<'_>, id: u32, found: bool) -> bool
 
 #[tactic(auto, unfolding(crate::specs::Decided::decided_decls))]
 fn decl(text: &Text<'_>, env: &Env<'_>, id: u32, found: bool) -> bool
-    ensures { (rest : Decls) → spec.decided_decls text.now rest (scope_of text.now.typed.nodes env.now) result ≡ spec.decided_decls text.now (as_decl (part_at text.now.typed.nodes id) rest) (scope_of text.now.typed.nodes env.now) found }
+    ensures { (rest : Decls) → spec.decided_decls text.now rest (scope_of text.now.typed.now.nodes env.now) result ≡ spec.decided_decls text.now (as_decl (part_at text.now.typed.now.nodes id) rest) (scope_of text.now.typed.now.nodes env.now) found }
 {
     match text.typed.nodes.decl(id) {
         Some(Decl::Variable { initial, .. } | Decl::Constant { initial, .. }) => {

@@ -13,7 +13,7 @@ decreases-wide_step l = 2 * l.id + 0
 abbrev pub invariant-wide_composite-loop-step : goal.invariant-wide_composite-loop-step
 invariant-wide_composite-loop-step l = record {
   within : IsWithin l.id l.step.rest;
-  same : wide_left l.text l.step.cells l.step.rest ≡ wide_composite l.text (composite_at l.text.typed.nodes l.id) l.count;
+  same : wide_left l.text l.step.cells l.step.rest ≡ wide_composite l.text (composite_at l.text.typed.now.nodes l.id) l.count;
 }
 
 abbrev pub decreases-wide_composite-loop-step : goal.decreases-wide_composite-loop-step

@@ -60,7 +60,7 @@ decreases-ranged l = 4 * (max l.low (max l.high l.filter)) + 3
 abbrev pub invariant-exprs-loop-cell : goal.invariant-exprs-loop-cell
 invariant-exprs-loop-cell l = record {
   below : l.at ≤ l.id;
-  same : decided_exprs l.text (exprs_at l.text.typed.nodes l.at) (scope_of l.text.typed.nodes l.env) l.all ≡ decided_exprs l.text (exprs_at l.text.typed.nodes l.id) (scope_of l.text.typed.nodes l.env) l.fn.found;
+  same : decided_exprs l.text (exprs_at l.text.typed.now.nodes l.at) (scope_of l.text.typed.now.nodes l.env) l.all ≡ decided_exprs l.text (exprs_at l.text.typed.now.nodes l.id) (scope_of l.text.typed.now.nodes l.env) l.fn.found;
 }
 
 abbrev pub decreases-exprs-loop-cell : goal.decreases-exprs-loop-cell
@@ -69,7 +69,7 @@ decreases-exprs-loop-cell l = l.at
 abbrev pub invariant-selections-loop-cell : goal.invariant-selections-loop-cell
 invariant-selections-loop-cell l = record {
   below : l.at ≤ l.id;
-  same : decided_selections l.text (selections_at l.text.typed.nodes l.at) (scope_of l.text.typed.nodes l.env) l.all ≡ decided_selections l.text (selections_at l.text.typed.nodes l.id) (scope_of l.text.typed.nodes l.env) l.fn.found;
+  same : decided_selections l.text (selections_at l.text.typed.now.nodes l.at) (scope_of l.text.typed.now.nodes l.env) l.all ≡ decided_selections l.text (selections_at l.text.typed.now.nodes l.id) (scope_of l.text.typed.now.nodes l.env) l.fn.found;
 }
 
 abbrev pub decreases-selections-loop-cell : goal.decreases-selections-loop-cell
@@ -78,7 +78,7 @@ decreases-selections-loop-cell l = l.at
 abbrev pub invariant-actuals-loop-cell : goal.invariant-actuals-loop-cell
 invariant-actuals-loop-cell l = record {
   below : l.at ≤ l.id;
-  same : decided_actuals l.text (actuals_at l.text.typed.nodes l.at) (scope_of l.text.typed.nodes l.env) l.all ≡ decided_actuals l.text (actuals_at l.text.typed.nodes l.id) (scope_of l.text.typed.nodes l.env) l.fn.found;
+  same : decided_actuals l.text (actuals_at l.text.typed.now.nodes l.at) (scope_of l.text.typed.now.nodes l.env) l.all ≡ decided_actuals l.text (actuals_at l.text.typed.now.nodes l.id) (scope_of l.text.typed.now.nodes l.env) l.fn.found;
 }
 
 abbrev pub decreases-actuals-loop-cell : goal.decreases-actuals-loop-cell
@@ -87,7 +87,7 @@ decreases-actuals-loop-cell l = l.at
 abbrev pub invariant-associations-loop-cell : goal.invariant-associations-loop-cell
 invariant-associations-loop-cell l = record {
   below : l.at ≤ l.id;
-  same : decided_associations l.text (associations_at l.text.typed.nodes l.at) (scope_of l.text.typed.nodes l.env) l.all ≡ decided_associations l.text (associations_at l.text.typed.nodes l.id) (scope_of l.text.typed.nodes l.env) l.fn.found;
+  same : decided_associations l.text (associations_at l.text.typed.now.nodes l.at) (scope_of l.text.typed.now.nodes l.env) l.all ≡ decided_associations l.text (associations_at l.text.typed.now.nodes l.id) (scope_of l.text.typed.now.nodes l.env) l.fn.found;
 }
 
 abbrev pub decreases-associations-loop-cell : goal.decreases-associations-loop-cell
@@ -96,7 +96,7 @@ decreases-associations-loop-cell l = l.at
 abbrev pub invariant-expr-loop-step : goal.invariant-expr-loop-step
 invariant-expr-loop-step l = record {
   within : IsWithin l.id l.step.rest;
-  same : expr_left l.text (scope_of l.text.typed.nodes l.env) l.step.found l.step.rest ≡ decided_expr l.text (expr_at l.text.typed.nodes l.id) (scope_of l.text.typed.nodes l.env) l.fn.found;
+  same : expr_left l.text (scope_of l.text.typed.now.nodes l.env) l.step.found l.step.rest ≡ decided_expr l.text (expr_at l.text.typed.now.nodes l.id) (scope_of l.text.typed.now.nodes l.env) l.fn.found;
 }
 
 abbrev pub decreases-expr-loop-step : goal.decreases-expr-loop-step
@@ -105,7 +105,7 @@ decreases-expr-loop-step l = rest_size l.step.rest
 abbrev pub invariant-composite-loop-step : goal.invariant-composite-loop-step
 invariant-composite-loop-step l = record {
   within : IsWithin l.id l.step.rest;
-  same : composite_left l.text (scope_of l.text.typed.nodes l.env) l.step.found l.step.rest ≡ decided_composite l.text (composite_at l.text.typed.nodes l.id) (scope_of l.text.typed.nodes l.env) l.fn.found;
+  same : composite_left l.text (scope_of l.text.typed.now.nodes l.env) l.step.found l.step.rest ≡ decided_composite l.text (composite_at l.text.typed.now.nodes l.id) (scope_of l.text.typed.now.nodes l.env) l.fn.found;
 }
 
 abbrev pub decreases-composite-loop-step : goal.decreases-composite-loop-step

@@ -4,8 +4,8 @@ use Rattle.ada_formed.specs.Tables.{below}
 use Rattle.ada_formed.specs.Words.{place_of}
 use Rattle.ada_formed.proofs.names.below.Given as goal
 
-abbrev pub invariant-loop : goal.invariant-loop
-invariant-loop l = below (program l.text.typed).subtypes l.text.sizes l.left (place_of l.text.typed.nodes l.at.part) l.at.number ≡ below (program l.text.typed).subtypes l.text.sizes l.dimensions (place_of l.text.typed.nodes l.part) l.number
+abbrev pub invariant-loop-left : goal.invariant-loop-left
+invariant-loop-left l = below (program l.text.typed.now).subtypes l.text.sizes.now l.left (place_of l.text.typed.now.nodes l.at.part) l.at.number ≡ below (program l.text.typed.now).subtypes l.text.sizes.now l.dimensions (place_of l.text.typed.now.nodes l.part) l.number
 
-abbrev pub decreases-loop : goal.decreases-loop
-decreases-loop l = l.left
+abbrev pub decreases-loop-left : goal.decreases-loop-left
+decreases-loop-left l = l.left

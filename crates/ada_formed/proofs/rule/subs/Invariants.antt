@@ -6,7 +6,7 @@ use Rattle.ada_formed.proofs.rule.subs.Given as goal
 abbrev pub invariant-loop-sub : goal.invariant-loop-sub
 invariant-loop-sub l = record {
   counted : l.number + length l.rest ≡ length l.from;
-  same : decided_subs l.text l.number (map (sub_of l.text.typed.nodes) l.rest) l.all ≡ decided_subs l.text 0 (map (sub_of l.text.typed.nodes) l.from) l.fn.found;
+  same : decided_subs l.text l.number (map (sub_of l.text.typed.now.nodes) l.rest) l.all ≡ decided_subs l.text 0 (map (sub_of l.text.typed.now.nodes) l.from) l.fn.found;
 }
 
 abbrev pub decreases-loop-sub : goal.decreases-loop-sub

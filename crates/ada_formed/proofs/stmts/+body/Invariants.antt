@@ -39,7 +39,7 @@ decreases-block l = 4 * (max l.declarations (max l.statements l.handled)) + 3
 abbrev pub invariant-stmts-loop-cell : goal.invariant-stmts-loop-cell
 invariant-stmts-loop-cell l = record {
   below : l.at ≤ l.id;
-  same : decided_stmts l.text (stmts_at l.text.typed.nodes l.at) (scope_of l.text.typed.nodes l.env) l.all ≡ decided_stmts l.text (stmts_at l.text.typed.nodes l.id) (scope_of l.text.typed.nodes l.env) l.fn.found;
+  same : decided_stmts l.text (stmts_at l.text.typed.now.nodes l.at) (scope_of l.text.typed.now.nodes l.env) l.all ≡ decided_stmts l.text (stmts_at l.text.typed.now.nodes l.id) (scope_of l.text.typed.now.nodes l.env) l.fn.found;
 }
 
 abbrev pub decreases-stmts-loop-cell : goal.decreases-stmts-loop-cell
@@ -48,7 +48,7 @@ decreases-stmts-loop-cell l = l.at
 abbrev pub invariant-alternatives-loop-cell : goal.invariant-alternatives-loop-cell
 invariant-alternatives-loop-cell l = record {
   below : l.at ≤ l.id;
-  same : decided_alternatives l.text (alternatives_at l.text.typed.nodes l.at) (scope_of l.text.typed.nodes l.env) l.all ≡ decided_alternatives l.text (alternatives_at l.text.typed.nodes l.id) (scope_of l.text.typed.nodes l.env) l.fn.found;
+  same : decided_alternatives l.text (alternatives_at l.text.typed.now.nodes l.at) (scope_of l.text.typed.now.nodes l.env) l.all ≡ decided_alternatives l.text (alternatives_at l.text.typed.now.nodes l.id) (scope_of l.text.typed.now.nodes l.env) l.fn.found;
 }
 
 abbrev pub decreases-alternatives-loop-cell : goal.decreases-alternatives-loop-cell
@@ -57,7 +57,7 @@ decreases-alternatives-loop-cell l = l.at
 abbrev pub invariant-arms-loop-cell : goal.invariant-arms-loop-cell
 invariant-arms-loop-cell l = record {
   below : l.at ≤ l.id;
-  same : decided_arms l.text (arms_at l.text.typed.nodes l.at) (scope_of l.text.typed.nodes l.env) l.all ≡ decided_arms l.text (arms_at l.text.typed.nodes l.id) (scope_of l.text.typed.nodes l.env) l.fn.found;
+  same : decided_arms l.text (arms_at l.text.typed.now.nodes l.at) (scope_of l.text.typed.now.nodes l.env) l.all ≡ decided_arms l.text (arms_at l.text.typed.now.nodes l.id) (scope_of l.text.typed.now.nodes l.env) l.fn.found;
 }
 
 abbrev pub decreases-arms-loop-cell : goal.decreases-arms-loop-cell
@@ -66,7 +66,7 @@ decreases-arms-loop-cell l = l.at
 abbrev pub invariant-handlers-loop-cell : goal.invariant-handlers-loop-cell
 invariant-handlers-loop-cell l = record {
   below : l.at ≤ l.id;
-  same : decided_handlers l.text (handlers_at l.text.typed.nodes l.at) (scope_of l.text.typed.nodes l.env) l.all ≡ decided_handlers l.text (handlers_at l.text.typed.nodes l.id) (scope_of l.text.typed.nodes l.env) l.fn.found;
+  same : decided_handlers l.text (handlers_at l.text.typed.now.nodes l.at) (scope_of l.text.typed.now.nodes l.env) l.all ≡ decided_handlers l.text (handlers_at l.text.typed.now.nodes l.id) (scope_of l.text.typed.now.nodes l.env) l.fn.found;
 }
 
 abbrev pub decreases-handlers-loop-cell : goal.decreases-handlers-loop-cell
@@ -75,7 +75,7 @@ decreases-handlers-loop-cell l = l.at
 abbrev pub invariant-stmt-loop-step : goal.invariant-stmt-loop-step
 invariant-stmt-loop-step l = record {
   within : IsWithin l.id l.step.rest;
-  same : stmt_left l.text (scope_of l.text.typed.nodes l.env) l.step.found l.step.rest ≡ decided_stmt l.text (stmt_at l.text.typed.nodes l.id) (scope_of l.text.typed.nodes l.env) l.fn.found;
+  same : stmt_left l.text (scope_of l.text.typed.now.nodes l.env) l.step.found l.step.rest ≡ decided_stmt l.text (stmt_at l.text.typed.now.nodes l.id) (scope_of l.text.typed.now.nodes l.env) l.fn.found;
 }
 
 abbrev pub decreases-stmt-loop-step : goal.decreases-stmt-loop-step
