@@ -1,0 +1,5 @@
+pub mod Steps
+pub mod Reading
+pub mod Adding
+pub mod Layouts
+pub mod Law

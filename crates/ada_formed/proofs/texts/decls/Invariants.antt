@@ -1,0 +1,11 @@
+use Rattle.std.proofs.Common.{◌≡◌}
+use Rattle.ada_typed.specs.Decoded.{decls_at}
+use Rattle.ada_formed.specs.Decided.{decided_decls}
+use Rattle.ada_formed.specs.Words.{scope_of}
+use Rattle.ada_formed.proofs.texts.decls.Given as goal
+
+abbrev pub invariant-loop-cell : goal.invariant-loop-cell
+invariant-loop-cell l = decided_decls l.text (decls_at l.text.typed.now.nodes l.at) (scope_of l.text.typed.now.nodes l.env) l.all ≡ decided_decls l.text (decls_at l.text.typed.now.nodes l.id) (scope_of l.text.typed.now.nodes l.env) l.fn.found
+
+abbrev pub decreases-loop-cell : goal.decreases-loop-cell
+decreases-loop-cell l = l.at
