@@ -57,13 +57,7 @@ pub fn other(number: u32, parameter: Option<u32>) -> Option<u32>
 {
     match parameter {
         None => None,
-        Some(one) => {
-            if one == number {
-                None
-            } else {
-                Some(one)
-            }
-        }
+        Some(one) => { if one == number { None } else { Some(one) } }
     }
 }
 

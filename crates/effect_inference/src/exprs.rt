@@ -468,7 +468,12 @@ fn association(
         None => Ok(()),
         Some(part) => {
             exprs(source, env, part.mentions, out)?;
-            value(source, association_below(env, part.iterated), part.value, out)
+            value(
+                source,
+                association_below(env, part.iterated),
+                part.value,
+                out,
+            )
         }
     }
 }
@@ -509,9 +514,8 @@ pub fn filter(
 {
     match source.typed.nodes.iteration(id) {
         None => Ok(()),
-        Some(
-            Iteration::Range { filter: part, .. } | Iteration::Components { filter: part, .. },
-        ) => optional(source, env, part, out),
+        Some(Iteration::Range { filter: part, .. } | Iteration::Components { filter: part, .. }) =>
+            optional(source, env, part, out),
     }
 }
 
@@ -599,7 +603,13 @@ fn values(
 {
     match source.typed.nodes.iteration(iteration) {
         Some(Iteration::Range { parameter, .. }) => {
-            turn(source, range_below(env, judged, parameter), iteration, value, out)
+            turn(
+                source,
+                range_below(env, judged, parameter),
+                iteration,
+                value,
+                out,
+            )
         }
         Some(
             Iteration::Components {
@@ -625,11 +635,7 @@ fn values(
 /// What the threads of a reduction use that is judged.
 #[cycle(text)]
 #[inline(never)]
-fn thread_uses(
-    source: Source<'_>,
-    env: Environment<'_>,
-    parts: Reduced,
-) -> Result<Uses, AllocError>
+fn thread_uses(source: Source<'_>, env: Environment<'_>, parts: Reduced) -> Result<Uses, AllocError>
     ensures { IfOk result (λ uses. uses ≡ (spec.gather_values (judging_of (place_of env.entry)) (record (judging_of (place_of env.entry)) { chunk_parameter = parameter_of (chunk_at source.entry.typed.now.nodes parts.chunk) }) true (iteration_at source.entry.typed.now.nodes parts.iteration) (expr_at source.entry.typed.now.nodes parts.value) (spec.gather_reducer (judging_of (place_of env.entry)) (reducer_at source.entry.typed.now.nodes parts.reducer) spec.nothing)).uses) }
 {
     let mut out = Gathered::new(source.alloc);
@@ -639,7 +645,15 @@ fn thread_uses(
         chunk_parameter: chunk_parameter(source, parts.chunk),
         ..around
     };
-    values(source, around, inside, true, parts.iteration, parts.value, &mut out)?;
+    values(
+        source,
+        around,
+        inside,
+        true,
+        parts.iteration,
+        parts.value,
+        &mut out,
+    )?;
     let Gathered { uses, .. } = out;
     Ok(uses)
 }
@@ -716,7 +730,15 @@ fn parallel(
     begun(source, env, parts, out)?;
     front(source, env, parts.chunk, parts.iteration, out)?;
     let inside = chunk_below(source, env, parts.chunk);
-    values(source, env, inside, false, parts.iteration, parts.value, out)
+    values(
+        source,
+        env,
+        inside,
+        false,
+        parts.iteration,
+        parts.value,
+        out,
+    )
 }
 
 /// A reduction (4.5.10).
