@@ -11,7 +11,7 @@ use ada_base::Items;
 use std::alloc::{AllocError, Global};
 
 /// Whether a variable is declared in the text around.
-fn hides(hidden: &[u32], object: u32) -> bool
+pub fn hides(hidden: &[u32], object: u32) -> bool
     ensures { result ≡ is_hidden hidden.now object }
 {
     let mut rest = hidden;

@@ -9,5 +9,8 @@ pub mod effects;
 pub mod environment;
 pub mod exprs;
 pub mod gathering;
+pub mod infer;
 pub mod paths;
 pub mod source;
+pub mod stmts;
+pub mod texts;
