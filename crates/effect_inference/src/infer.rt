@@ -67,7 +67,7 @@ fn keep(objects: &[u32], touch: Touch, found: &mut Items<Touch>) -> Result<(), A
 }
 
 /// The touches of those objects, the last first.
-#[tactic(auto, using(crate::proofs::Kept::kept_last, crate::proofs::Kept::less_last), unfolding(crate::specs::Program::kept))]
+#[tactic(auto, unfolding(crate::specs::Program::kept))]
 fn kept(
     alloc: Global,
     objects: &[u32],
