@@ -1,6 +1,6 @@
 -- What a walk gathers of a text: the names of variables in it, its calls, and, where that is asked for, the parallel
 -- constructs in it, each with what it uses. What is gathered stands behind what was found before.
-use Rattle.std.specs.Prelude.{ℕ, zero, suc, List, [], ◌∷◌, ◌++◌, Option, Some, None, Bool, true, false, cond}
+use Rattle.std.specs.Prelude.{ℕ, suc, List, [], ◌∷◌, ◌++◌, Option, Some, None, Bool, true, false, cond}
 use Rattle.ada_typed.specs.declared.expressions.Root.{Root}
 use Rattle.ada_typed.specs.declared.expressions.Reducer.{Reducer}
 use Rattle.ada_typed.specs.declared.expressions.Reducer.TheVariants.{Operator, Function}
@@ -169,10 +169,10 @@ unfoldable mutual
         threads = (gather_stmts (threads_below env chunk iteration) stmts (gather_filter (threads_below env chunk iteration) iteration nothing)).uses;
       }) out))))
   gather_stmt env (Parallel site count arms) out = gather_arms env arms (gather_optional env count (with_site env (record {
-        block = true;
-        front = (gather_optional (judging env) count nothing).uses;
-        threads = (gather_numbered (judging env) 0 arms nothing).uses;
-      }) out))
+    block = true;
+    front = (gather_optional (judging env) count nothing).uses;
+    threads = (gather_numbered (judging env) 0 arms nothing).uses;
+  }) out))
   gather_stmt env (Block decls stmts handlers) out = gather_handlers (declared decls env) handlers (gather_stmts (declared decls env) stmts (gather_decls env decls out))
   gather_stmt env (Put at callee pieces line) out = gather_pieces env pieces out
   gather_stmt env (Get at callee first from selections scalar) out = gather_selections env selections (with_touch env first Write (named env from selections) out)

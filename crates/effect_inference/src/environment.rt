@@ -57,13 +57,7 @@ pub fn other(number: u32, parameter: Option<u32>) -> Option<u32>
 {
     match parameter {
         None => None,
-        Some(one) => {
-            if one == number {
-                None
-            } else {
-                Some(one)
-            }
-        }
+        Some(one) => { if one == number { None } else { Some(one) } }
     }
 }
 
@@ -81,6 +75,7 @@ pub fn role(env: Environment<'_>, number: u32) -> Selector
 }
 
 /// The path of an item.
+#[tactic(auto, unfolding(crate::specs::Paths::item_name))]
 fn item_named<'a>(items: &'a [Item<'a>], item: u32) -> Named<'a>
     ensures { name_of result ≡ spec.item_name (map bound_of items.now) item }
 {

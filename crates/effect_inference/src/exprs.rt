@@ -27,7 +27,7 @@ pub struct Reduced {
 
 /// A part of which nothing is left.
 pub fn whole(done: Result<(), AllocError>) -> Result<Option<u32>, AllocError>
-    ensures { MatchResult result (λ rest. (done ≡ Ok ()) × (rest ≡ None)) (λ e. done ≡ Err e) }
+    ensures { MatchResult result (λ rest. (done ≡ Ok tt) × (rest ≡ None)) (λ e. done ≡ Err e) }
 {
     done?;
     Ok(None)
@@ -35,7 +35,7 @@ pub fn whole(done: Result<(), AllocError>) -> Result<Option<u32>, AllocError>
 
 /// A part of which another part is left.
 fn left(done: Result<(), AllocError>, rest: u32) -> Result<Option<u32>, AllocError>
-    ensures { MatchResult result (λ found. (done ≡ Ok ()) × (found ≡ Some rest)) (λ e. done ≡ Err e) }
+    ensures { MatchResult result (λ found. (done ≡ Ok tt) × (found ≡ Some rest)) (λ e. done ≡ Err e) }
 {
     done?;
     Ok(Some(rest))
@@ -68,7 +68,7 @@ pub fn expr(
     ensures { OnOk result (out.new ≡ spec.gather_expr (place_of env.entry) (expr_at source.entry.typed.now.nodes id) out.old) }
 {
     let mut rest = Some(id);
-    while let Some(at) = rest {
+    'parts: while let Some(at) = rest {
         rest = expr_step(source, env, at, out)?;
     }
     Ok(())
@@ -206,7 +206,7 @@ pub fn exprs(
     ensures { OnOk result (out.new ≡ spec.gather_exprs (place_of env.entry) (exprs_at source.entry.typed.now.nodes id) out.old) }
 {
     let mut at = id;
-    while let Some(cell) = source.typed.nodes.exprs(at) {
+    'cells: while let Some(cell) = source.typed.nodes.exprs(at) {
         expr(source, env, cell.first, out)?;
         at = cell.rest;
     }
@@ -261,7 +261,7 @@ pub fn selections(
     ensures { OnOk result (out.new ≡ spec.gather_selections (place_of env.entry) (selections_at source.entry.typed.now.nodes id) out.old) }
 {
     let mut at = id;
-    while let Some(cell) = source.typed.nodes.selections(at) {
+    'cells: while let Some(cell) = source.typed.nodes.selections(at) {
         selection(source, env, cell.first, out)?;
         at = cell.rest;
     }
@@ -296,7 +296,7 @@ pub fn actuals(
     ensures { OnOk result (out.new ≡ spec.gather_actuals (place_of env.entry) (actuals_at source.entry.typed.now.nodes id) out.old) }
 {
     let mut at = id;
-    while let Some(cell) = source.typed.nodes.actuals(at) {
+    'cells: while let Some(cell) = source.typed.nodes.actuals(at) {
         actual(source, env, cell.first, out)?;
         at = cell.rest;
     }
@@ -376,7 +376,7 @@ fn composite(
     ensures { OnOk result (out.new ≡ spec.gather_composite (place_of env.entry) (composite_at source.entry.typed.now.nodes id) out.old) }
 {
     let mut rest = Some(id);
-    while let Some(at) = rest {
+    'parts: while let Some(at) = rest {
         rest = composite_step(source, env, at, out)?;
     }
     Ok(())
@@ -447,7 +447,7 @@ fn associations(
     ensures { OnOk result (out.new ≡ spec.gather_associations (place_of env.entry) (associations_at source.entry.typed.now.nodes id) out.old) }
 {
     let mut at = id;
-    while let Some(cell) = source.typed.nodes.associations(at) {
+    'cells: while let Some(cell) = source.typed.nodes.associations(at) {
         association(source, env, cell.first, out)?;
         at = cell.rest;
     }
@@ -468,7 +468,12 @@ fn association(
         None => Ok(()),
         Some(part) => {
             exprs(source, env, part.mentions, out)?;
-            value(source, association_below(env, part.iterated), part.value, out)
+            value(
+                source,
+                association_below(env, part.iterated),
+                part.value,
+                out,
+            )
         }
     }
 }
@@ -509,9 +514,8 @@ pub fn filter(
 {
     match source.typed.nodes.iteration(id) {
         None => Ok(()),
-        Some(
-            Iteration::Range { filter: part, .. } | Iteration::Components { filter: part, .. },
-        ) => optional(source, env, part, out),
+        Some(Iteration::Range { filter: part, .. } | Iteration::Components { filter: part, .. }) =>
+            optional(source, env, part, out),
     }
 }
 
@@ -599,7 +603,13 @@ fn values(
 {
     match source.typed.nodes.iteration(iteration) {
         Some(Iteration::Range { parameter, .. }) => {
-            turn(source, range_below(env, judged, parameter), iteration, value, out)
+            turn(
+                source,
+                range_below(env, judged, parameter),
+                iteration,
+                value,
+                out,
+            )
         }
         Some(
             Iteration::Components {
@@ -625,11 +635,7 @@ fn values(
 /// What the threads of a reduction use that is judged.
 #[cycle(text)]
 #[inline(never)]
-fn thread_uses(
-    source: Source<'_>,
-    env: Environment<'_>,
-    parts: Reduced,
-) -> Result<Uses, AllocError>
+fn thread_uses(source: Source<'_>, env: Environment<'_>, parts: Reduced) -> Result<Uses, AllocError>
     ensures { IfOk result (λ uses. uses ≡ (spec.gather_values (judging_of (place_of env.entry)) (record (judging_of (place_of env.entry)) { chunk_parameter = parameter_of (chunk_at source.entry.typed.now.nodes parts.chunk) }) true (iteration_at source.entry.typed.now.nodes parts.iteration) (expr_at source.entry.typed.now.nodes parts.value) (spec.gather_reducer (judging_of (place_of env.entry)) (reducer_at source.entry.typed.now.nodes parts.reducer) spec.nothing)).uses) }
 {
     let mut out = Gathered::new(source.alloc);
@@ -639,7 +645,15 @@ fn thread_uses(
         chunk_parameter: chunk_parameter(source, parts.chunk),
         ..around
     };
-    values(source, around, inside, true, parts.iteration, parts.value, &mut out)?;
+    values(
+        source,
+        around,
+        inside,
+        true,
+        parts.iteration,
+        parts.value,
+        &mut out,
+    )?;
     let Gathered { uses, .. } = out;
     Ok(uses)
 }
@@ -716,7 +730,15 @@ fn parallel(
     begun(source, env, parts, out)?;
     front(source, env, parts.chunk, parts.iteration, out)?;
     let inside = chunk_below(source, env, parts.chunk);
-    values(source, env, inside, false, parts.iteration, parts.value, out)
+    values(
+        source,
+        env,
+        inside,
+        false,
+        parts.iteration,
+        parts.value,
+        out,
+    )
 }
 
 /// A reduction (4.5.10).

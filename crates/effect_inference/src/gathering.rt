@@ -11,6 +11,7 @@ use ada_base::Items;
 use std::alloc::{AllocError, Global};
 
 /// Whether a variable is declared in the text around.
+#[tactic(auto, unfolding(crate::specs::Paths::is_hidden))]
 pub fn hides(hidden: &[u32], object: u32) -> bool
     ensures { result ≡ is_hidden hidden.now object }
 {
@@ -52,14 +53,12 @@ impl Gathered {
         if hides(env.hidden, path.object) {
             return Ok(());
         }
-        self.uses.touches.push(
-            Touch {
-                arm: env.arm,
-                at,
-                access,
-                path,
-            },
-        )
+        self.uses.touches.push(Touch {
+            arm: env.arm,
+            at,
+            access,
+            path,
+        })
     }
 
     /// Adds what a name stands for, as `reach`. An Err is want of memory.
@@ -90,13 +89,11 @@ impl Gathered {
     pub fn call(&mut self, env: Environment<'_>, at: u32, sub: u32) -> Result<(), AllocError>
         ensures { OnOk result (self.new ≡ with_call (place_of env.entry) at sub self.old) }
     {
-        self.uses.calls.push(
-            Call {
-                arm: env.arm,
-                at,
-                sub,
-            },
-        )
+        self.uses.calls.push(Call {
+            arm: env.arm,
+            at,
+            sub,
+        })
     }
 
     /// Adds a parallel construct, where constructs are recorded. An Err is want of memory.

@@ -72,12 +72,10 @@ pub fn path(
     let mut found = Items::new(source.alloc);
     found.extend(named.selectors)?;
     selectors(source, env, selections, &mut found)?;
-    Ok(
-        Path {
-            object: named.object,
-            selectors: found,
-        },
-    )
+    Ok(Path {
+        object: named.object,
+        selectors: found,
+    })
 }
 
 /// What a path is the path of.
@@ -136,12 +134,10 @@ pub fn with_item<'a>(
     ensures { IfOk result (λ list. map bound_of list ≡ record { item = item; name = path_name path.now } ∷ map bound_of items.now) }
 {
     let mut list = Items::new(source.alloc);
-    list.push(
-        Item {
-            item,
-            named: named_by(path),
-        },
-    )?;
+    list.push(Item {
+        item,
+        named: named_by(path),
+    })?;
     list.extend(items)?;
     Ok(list)
 }
