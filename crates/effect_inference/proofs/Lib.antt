@@ -3,4 +3,5 @@ pub mod Adding
 pub mod Texts
 pub mod Bodies
 pub mod Whole
+pub mod Kept
 pub mod Reading

@@ -1,12 +1,12 @@
 -- Words for what the functions of the walk find.
 use Rattle.std.specs.Prelude.{◌<◌, ◌≤◌, ℕ, suc, Bool, true, false, Option, Some, None, IfSome}
 use Rattle.ada_typed.specs.declared.typed.Typed.{Typed}
-use Rattle.ada_typed.specs.Decoded.{chunk_at, composite_at, expr_at, iteration_at, reducer_at}
+use Rattle.ada_typed.specs.Decoded.{chunk_at, composite_at, expr_at, iteration_at, reducer_at, stmt_at}
 use Rattle.effect_inference.specs.declared.effects.Gathered.{Gathered}
 use Rattle.effect_inference.specs.declared.effects.Path.{Path}
 use Rattle.effect_inference.specs.declared.exprs.Reduced.{Reduced}
 use Rattle.effect_inference.specs.Paths.{Name, Place, chunk_hidden, hide, other}
-use Rattle.effect_inference.specs.Gather.{gather_chunk, gather_composite, gather_course, gather_expr, gather_reducer, gather_reduction, gather_values}
+use Rattle.effect_inference.specs.Gather.{gather_chunk, gather_composite, gather_course, gather_expr, gather_reducer, gather_reduction, gather_stmt, gather_values}
 
 -- what a path is the path of
 abbrev pub path_name : Path → Name
@@ -44,3 +44,8 @@ rest_size (Some k) = suc k
 abbrev pub reduced : Typed → Place → Reduced → Option ℕ → Gathered → Gathered
 reduced t env r None out = gather_values env env false (iteration_at t.nodes r.iteration) (expr_at t.nodes r.value) (gather_course env (iteration_at t.nodes r.iteration) (gather_expr env (expr_at t.nodes r.initial) (gather_reducer env (reducer_at t.nodes r.reducer) out)))
 reduced t env r (Some site) out = gather_values env (chunk_hidden (chunk_at t.nodes r.chunk) env) false (iteration_at t.nodes r.iteration) (expr_at t.nodes r.value) (gather_course env (iteration_at t.nodes r.iteration) (gather_chunk env (chunk_at t.nodes r.chunk) (gather_expr env (expr_at t.nodes r.initial) (gather_reducer env (reducer_at t.nodes r.reducer) (gather_reduction env (reducer_at t.nodes r.reducer) (chunk_at t.nodes r.chunk) (iteration_at t.nodes r.iteration) (expr_at t.nodes r.value) out)))))
+
+-- what is gathered of a statement of which the rest is still to be gone through
+abbrev pub stmt_left : Typed → Place → Gathered → Option ℕ → Gathered
+stmt_left t env out None = out
+stmt_left t env out (Some k) = gather_stmt env (stmt_at t.nodes k) out

@@ -26,7 +26,7 @@ pub struct Reduced {
 }
 
 /// A part of which nothing is left.
-fn whole(done: Result<(), AllocError>) -> Result<Option<u32>, AllocError>
+pub fn whole(done: Result<(), AllocError>) -> Result<Option<u32>, AllocError>
     ensures { MatchResult result (λ rest. (done ≡ Ok tt) × (rest ≡ None)) (λ e. done ≡ Err e) }
 {
     done?;

@@ -12,7 +12,7 @@ use std::alloc::{AllocError, Global};
 
 /// Whether a variable is declared in the text around.
 #[tactic(auto, unfolding(crate::specs::Paths::is_hidden))]
-fn hides(hidden: &[u32], object: u32) -> bool
+pub fn hides(hidden: &[u32], object: u32) -> bool
     ensures { result ≡ is_hidden hidden.now object }
 {
     let mut rest = hidden;

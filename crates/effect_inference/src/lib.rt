@@ -10,5 +10,8 @@ pub mod environment;
 pub mod laws;
 pub mod exprs;
 pub mod gathering;
+pub mod infer;
 pub mod paths;
 pub mod source;
+pub mod stmts;
+pub mod texts;
