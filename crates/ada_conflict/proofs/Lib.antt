@@ -1,2 +1,8 @@
+pub mod Told
+pub mod Reached
+pub mod Telling
+pub mod Least
+pub mod Deciding
+pub mod Found
 pub mod Steps
 pub mod Answered
