@@ -1,5 +1,5 @@
 -- What is answered of the rules on conflicts (9.10.1).
-use Rattle.std.specs.Prelude.{◌≡◌, ℕ, ◌<◌, ◌≤◌, ◌⊎◌, Bool, true, Result, Ok, Err, Option, Some, None}
+use Rattle.std.specs.Prelude.{◌≡◌, ℕ, ◌<◌, ◌≤◌, ◌⊎◌, true, Result, Ok, Err, Option, Some, None}
 use Rattle.ada_typed.specs.Syntax.{Program}
 use Rattle.ada_effects.specs.Backwards.{CallsBackwards}
 use Rattle.ada_effects.specs.Effects.{Construct, Holds}

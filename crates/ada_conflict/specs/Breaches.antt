@@ -6,7 +6,7 @@ use Rattle.effect_inference.specs.declared.effects.Access.TheVariants.{Read, Wri
 use Rattle.effect_inference.specs.declared.effects.Effects.{Effects}
 use Rattle.effect_inference.specs.declared.effects.Path.{Path}
 use Rattle.effect_inference.specs.declared.effects.Selector.{Selector}
-use Rattle.effect_inference.specs.declared.effects.Selector.TheVariants.{Field, Fixed, Loop, Chunk, Any}
+use Rattle.effect_inference.specs.declared.effects.Selector.TheVariants.{Field, Fixed, Loop, Chunk}
 use Rattle.effect_inference.specs.declared.effects.SiteEffects.{SiteEffects}
 use Rattle.effect_inference.specs.declared.effects.Touch.{Touch}
 use Rattle.effect_inference.specs.declared.effects.Uses.{Uses}

@@ -1,6 +1,6 @@
 -- The effects of a text with those of its calls: what each subprogram touches that calls lead to, at the least token of a
 -- call that leads there.
-use Rattle.std.specs.Prelude.{ℕ, zero, suc, List, [], ◌∷◌, ◌++◌, length, map, replicate, slice_get, slice_set, Option, Some, None, Bool, cond, nat_eq, nat_lt}
+use Rattle.std.specs.Prelude.{ℕ, zero, suc, List, [], ◌∷◌, ◌++◌, length, map, replicate, slice_get, slice_set, Option, Some, None, cond, nat_eq, nat_lt}
 use Rattle.effect_inference.specs.declared.effects.Call.{Call}
 use Rattle.effect_inference.specs.declared.effects.Touch.{Touch}
 use Rattle.effect_inference.specs.declared.effects.Uses.{Uses}

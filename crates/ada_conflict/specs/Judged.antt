@@ -1,5 +1,5 @@
 -- What is answered by what is found.
-use Rattle.std.specs.Prelude.{◌≡◌, Bool, Option, Some, None, Result, Ok, Err}
+use Rattle.std.specs.Prelude.{◌≡◌, Bool, Some, None, Result, Ok, Err}
 use Rattle.effect_inference.specs.declared.effects.Effects.{Effects}
 use Rattle.ada_conflict.specs.declared.faults.ConflictFault.{ConflictFault}
 use Rattle.ada_conflict.specs.declared.faults.ConflictFault.TheVariants as fault

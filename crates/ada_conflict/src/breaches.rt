@@ -286,7 +286,8 @@ fn clash_of(subs: &[Uses], sites: &[SiteEffects], alloc: Global) -> Result<Optio
     Ok(all)
 }
 
-/// The least breach of the strict rule where it is asked for: a token and an object. An Err is want of memory.
+/// The least breach of the strict rule (9.10.1) where that is asked for: a token and the number of an object. An Err is want
+/// of memory.
 pub fn touched_by(
     strict: bool,
     effects: &Effects,
@@ -301,7 +302,7 @@ pub fn touched_by(
     }
 }
 
-/// The least pair of tokens of effects that clash. An Err is want of memory.
+/// The least pair of tokens of effects that clash (9.10.1), the lesser first. An Err is want of memory.
 pub fn clash_by(effects: &Effects, alloc: Global) -> Result<Option<Pair>, AllocError>
     ensures { IfOk result (λ pair. pair ≡ spec.clash_by effects.now) }
 {

@@ -198,7 +198,8 @@ fn add_arms<'a>(
     Ok(())
 }
 
-/// The effects of a text, its own and those of its calls. An Err is want of memory.
+/// The effects of a text (9.10.1), its own at their tokens and those of its calls at the tokens of the calls. An Err is
+/// want of memory.
 pub fn effects_in<'a>(
     subs: &'a [Uses],
     uses: &'a Uses,
