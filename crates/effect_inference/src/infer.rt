@@ -68,11 +68,7 @@ fn keep(objects: &[u32], touch: Touch, found: &mut Items<Touch>) -> Result<(), A
 
 /// The touches of those objects, the last first.
 #[tactic(auto, unfolding(crate::specs::Program::kept))]
-fn kept(
-    alloc: Global,
-    objects: &[u32],
-    touches: Items<Touch>,
-) -> Result<Items<Touch>, AllocError>
+fn kept(alloc: Global, objects: &[u32], touches: Items<Touch>) -> Result<Items<Touch>, AllocError>
     ensures { IfOk result (λ found. found ≡ spec.kept objects.now touches) }
 {
     let mut rest = touches;
@@ -103,11 +99,7 @@ fn outset<'a>() -> Environment<'a>
 
 /// What a body uses, and its parallel constructs behind those found before.
 #[tactic(auto, unfolding(crate::specs::Gather::gather_decls, crate::specs::Gather::gather_stmts, crate::specs::Gather::gather_handlers))]
-fn body(
-    source: Source<'_>,
-    id: u32,
-    sites: Items<SiteEffects>,
-) -> Result<Gathered, AllocError>
+fn body(source: Source<'_>, id: u32, sites: Items<SiteEffects>) -> Result<Gathered, AllocError>
     ensures { IfOk result (λ out. out ≡ gather_body (outset_of true) (body_at source.entry.typed.now.nodes id) (record { uses = no_uses; sites = sites })) }
 {
     let mut out = Gathered {
@@ -120,7 +112,14 @@ fn body(
     match source.typed.nodes.body(id) {
         None => Ok(out),
         Some(parts) => {
-            block(source, outset(), parts.decls, parts.stmts, parts.handlers, &mut out)?;
+            block(
+                source,
+                outset(),
+                parts.decls,
+                parts.stmts,
+                parts.handlers,
+                &mut out,
+            )?;
             Ok(out)
         }
     }
@@ -138,22 +137,16 @@ fn with_sub(
     let Effects { mut subs, sites } = found;
     let Gathered { uses, sites } = body(source, sub.body, sites)?;
     let touches = kept(source.alloc, objects, uses.touches)?;
-    subs.push(
-        Uses {
-            touches,
-            calls: uses.calls,
-        },
-    )?;
+    subs.push(Uses {
+        touches,
+        calls: uses.calls,
+    })?;
     Ok(Effects { subs, sites })
 }
 
 /// Subprograms.
 #[tactic(auto, unfolding(crate::specs::Program::with_subs))]
-fn with_subs(
-    source: Source<'_>,
-    objects: &[u32],
-    found: Effects,
-) -> Result<Effects, AllocError>
+fn with_subs(source: Source<'_>, objects: &[u32], found: Effects) -> Result<Effects, AllocError>
     ensures { IfOk result (λ effects. effects ≡ spec.with_subs objects.now (program source.entry.typed.now).subs found) }
 {
     let mut rest = source.typed.subs.as_slice();

@@ -9,7 +9,9 @@ ghost use Rattle.effect_inference.specs.Words.{stmt_left, IsBelow};
 
 use crate::effects::{Access, Gathered, SiteEffects, Uses};
 use crate::environment::{Environment, judging, range_below};
-use crate::exprs::{call, course, expr, exprs, filter, front, front_uses, name, optional, value, whole};
+use crate::exprs::{
+    call, course, expr, exprs, filter, front, front_uses, name, optional, value, whole,
+};
 use crate::paths::{chunk_below, chunk_parameter, component, named_by, path, with_item};
 use crate::source::Source;
 use crate::texts::{declared, pieces};
@@ -54,7 +56,12 @@ fn stmt_step(
             selections,
             value,
         } => whole(assignment(source, env, at, root, selections, value, out)),
-        Stmt::Call { at, sub, actuals, .. } => whole(call(source, env, at, sub, actuals, out)),
+        Stmt::Call {
+            at,
+            sub,
+            actuals,
+            ..
+        } => whole(call(source, env, at, sub, actuals, out)),
         Stmt::Exit { condition, .. } => whole(optional(source, env, condition, out)),
         Stmt::ReturnValue { value: part } => whole(value(source, env, part, out)),
         Stmt::If {
@@ -216,7 +223,15 @@ fn parallel_for(
 {
     parallel_loop(source, env, chunk, iteration, parts, out)?;
     front(source, env, chunk, iteration, out)?;
-    turns(source, env, chunk_below(source, env, chunk), false, iteration, parts, out)
+    turns(
+        source,
+        env,
+        chunk_below(source, env, chunk),
+        false,
+        iteration,
+        parts,
+        out,
+    )
 }
 
 /// A parallel loop, where parallel constructs are recorded.
@@ -286,7 +301,13 @@ fn turns(
 {
     match source.typed.nodes.iteration(iteration) {
         Some(Iteration::Range { parameter, .. }) => {
-            turn(source, range_below(env, judged, parameter), iteration, parts, out)
+            turn(
+                source,
+                range_below(env, judged, parameter),
+                iteration,
+                parts,
+                out,
+            )
         }
         Some(
             Iteration::Components {
@@ -450,7 +471,13 @@ pub fn block(
     hidden.extend(env.hidden)?;
     declared(source, env, declarations, &mut hidden, out)?;
     let hidden = hidden.as_slice();
-    held(source, Environment { hidden, ..env }, statements, handled, out)
+    held(
+        source,
+        Environment { hidden, ..env },
+        statements,
+        handled,
+        out,
+    )
 }
 
 /// Statements and handlers of what they raise.
