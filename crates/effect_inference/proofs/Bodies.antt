@@ -11,7 +11,7 @@ use Rattle.effect_inference.specs.Paths.{Place, named, outset}
 use Rattle.effect_inference.specs.Gather.{no_uses, declared, declaring, hidden_with, gather_decls, gather_stmt, gather_stmts, gather_alternatives, gather_arms, gather_numbered, gather_handlers, gather_body}
 use Rattle.effect_inference.proofs.Places.{Fits, same_name, beside_below, beside_both, beside_threads, fits_course, fits_below, fits_target, fits_hidden, fits_arm, fits_judging, fits_threads, fits_outset}
 use Rattle.effect_inference.proofs.Adding.{Grows, Adds, grow_like, grow_then, grow_none, in_either, after, before, none, block, like, moved, hiding, writes, call, held_site, tells, tells_arms}
-use Rattle.effect_inference.proofs.Texts.{adds_expr, adds_exprs, adds_optional, adds_selections, adds_actuals, adds_value, adds_course, adds_filter, adds_chunk, adds_pieces}
+use Rattle.effect_inference.proofs.Expressions.{adds_expr, adds_exprs, adds_optional, adds_selections, adds_actuals, adds_value, adds_course, adds_filter, adds_chunk, adds_pieces}
 
 -- ---- arms by their numbers
 

@@ -1,6 +1,6 @@
 pub mod Places
 pub mod Adding
-pub mod Texts
+pub mod Expressions
 pub mod Bodies
 pub mod Whole
 pub mod Kept
