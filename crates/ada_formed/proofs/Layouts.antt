@@ -11,7 +11,7 @@ use Rattle.ada_typed.specs.Layout as typed
 use Rattle.ada_typed.specs.Syntax as syntax
 use Rattle.ada_typed.specs.Syntax.{Subtype, Program}
 use Rattle.ada_meaning.specs.Values.{count, components}
-use Rattle.ada_meaning.specs.Shapes.{Shape, Shapes, Single, Record, Dimension, NoShape, AlsoShape, size, sizes, array_of, fields_of, shape_of, shape_within, subtype_shape, object_shape, AreBefore, StandsBefore, IsGrounded, cells_of}
+use Rattle.ada_meaning.specs.Shapes.{Shape, Shapes, Single, Record, Dimension, NoShape, AlsoShape, size, array_of, fields_of, shape_of, shape_within, subtype_shape, object_shape, AreBefore, StandsBefore, IsGrounded, cells_of}
 use Rattle.ada_meaning.proofs.Shapes.{shape_law}
 use Rattle.ada_meaning.proofs.Sizes.{size_law}
 use Rattle.ada_formed.specs.Tables.{saturated, fields_stand, stands, grounded_from, have_values, has_dimension, is_full, full_from, product, total, entry_cells, table_from, small_from}
@@ -143,7 +143,7 @@ entry_law shown sizes same (syntax.OfScalar s) = refl
 entry_law shown sizes same (syntax.Array ds c) =
     let x = get_or sizes c 0 in
     ap (product ds) (same c) ∙ product_law ds x ∙ ap saturated (mul_comm x (components ds) ∙ ap (λ z. z * x) (same_components ds))
-entry_law shown sizes same (syntax.Record fs) = total_law shown sizes same fs 0
+entry_law shown sizes same (syntax.Record fs) = let n = typed.fields_cells (λ k. get_or sizes k 0) fs in let e : 0 + n ≡ n = omega arith in total_law shown sizes same fs 0 ∙ ap saturated e
 
 more_alike : (shown sizes : List ℕ) (x y : ℕ) → length shown ≡ length sizes → Alike shown sizes → x ≡ saturated y → Alike (shown ++ x ∷ []) (sizes ++ y ∷ [])
 more_alike [] [] x y l same e zero = e

@@ -149,12 +149,15 @@ module _ (text : walk.Text) where
   decided_decls (DeclareConstant x initial more) w b = decided_decls more w (decided_value initial w b)
   decided_decls (Mentions es more) w b = decided_decls more w (decided_exprs es w b)
 
+  unfoldable pub decided_assign : Root → Selections → Value → Scope → Bool → Bool
+  decided_assign from selections value w b =
+      with_place (named false from selections w)
+      (λ p. decided_value value (Aiming p w) (decided_selections selections w (fits (Some p) (wide value) b)))
+
   unfoldable mutual
     pub decided_stmt : Stmt → Scope → Bool → Bool
     decided_stmt Null w b = b
-    decided_stmt (Assign at from selections value) w b =
-        with_place (named false from selections w)
-        (λ p. decided_value value (Aiming p w) (decided_selections selections w (fits (Some p) (wide value) b)))
+    decided_stmt (Assign at from selections value) w b = decided_assign from selections value w b
     decided_stmt (CallProcedure at callee s actuals) w b = decided_actuals actuals w (called s w b)
     decided_stmt (Exit loop condition) w b = decided_optional condition w b
     decided_stmt Return w b = b
