@@ -620,8 +620,27 @@ module _ (text : walk.Text) (grounded : IsGrounded (table text)) (full : (n : �
   reducer_law (Operator at op class) w b = settled_law class b
   reducer_law (Function at s accumulator value) w b = called_law s w b
 
+  -- what stands in an iteration beside its body
+  abbrev Parts : Iteration → Scope → Type 0
+  Parts (Range k reverse low high check filter) w = (b : Bool) → Adds b (decided_optional text filter w (decided_expr text high w (decided_expr text low w b))) (FormedExpr (program text.typed.now) (known_of w) low × FormedExpr (program text.typed.now) (known_of w) high × FormedOptional (program text.typed.now) (known_of w) filter)
+  Parts (Components k constant at from selections number stride dimensions filter) w = ((b : Bool) → Adds b (decided_selections text selections w b) (FormedSelections (program text.typed.now) (known_of w) selections)) × ((p : Place) → Fits (shape p) → (b : Bool) → Adds b (decided_optional text filter (Binding constant k p w) b) (FormedOptional (program text.typed.now) (known_of (Binding constant k p w)) filter))
+
+  of_parts : (x : Iteration) (body : Scope → Bool → Bool) (Formed : Known → Type 0) → ((w : Scope) → Small w → (b : Bool) → Adds b (body w b) (Formed (known_of w))) → (w : Scope) → Small w → Parts x w → (b : Bool) → Adds b (decided_iteration text x body w b) (FormedIteration (program text.typed.now) (known_of w) x Formed)
+  unfolding decided_iteration
+  of_parts (Range k reverse low high check filter) body Formed law w s parts b = like (λ a. (a.0.0, a.0.1, a.0.2, a.1)) (λ a. ((a.0, a.1, a.2), a.3)) (both (parts b) (law w s _))
+  of_parts (Components k true at from selections number stride dimensions filter) body Formed law w s parts b =
+      item_law true from selections number stride dimensions w s (λ p c. body (Binding true k p w) (decided_optional text filter (Binding true k p w) c))
+      (λ t. FormedOptional (program text.typed.now) (with_constant k t (known_of w)) filter × Formed (with_constant k t (known_of w)))
+      b (decided_selections text selections w b) (FormedSelections (program text.typed.now) (known_of w) selections) (parts.0 b)
+      (λ p f c. both (parts.1 p f c) (law (Binding true k p w) (f, s) _))
+  of_parts (Components k false at from selections number stride dimensions filter) body Formed law w s parts b =
+      item_law false from selections number stride dimensions w s (λ p c. body (Binding false k p w) (decided_optional text filter (Binding false k p w) c))
+      (λ t. FormedOptional (program text.typed.now) (with_shape k t (known_of w)) filter × Formed (with_shape k t (known_of w)))
+      b (decided_selections text selections w b) (FormedSelections (program text.typed.now) (known_of w) selections) (parts.0 b)
+      (λ p f c. both (parts.1 p f c) (law (Binding false k p w) (f, s) _))
+
   mutual
-    unfolding decided_expr decided_exprs decided_optional decided_selections decided_actuals decided_value decided_composite decided_associations decided_iteration component_of decided_chunk
+    unfolding decided_expr decided_exprs decided_optional decided_selections decided_actuals decided_value decided_composite decided_associations decided_iteration decided_chunk
 
     law_expr : (x : Expr) (w : Scope) → Small w → (b : Bool) → Adds b (decided_expr text x w b) (FormedExpr (program text.typed.now) (known_of w) x)
     law_expr (Static at value literal mentions) w s b = law_exprs mentions w s b
@@ -640,7 +659,7 @@ module _ (text : walk.Text) (grounded : IsGrounded (table text)) (full : (n : �
     law_expr (Call at callee sub actuals) w s b = both (called_law sub w b) (law_actuals actuals w s _)
     law_expr (Convert check e) w s b = law_expr e w s b
     law_expr (Reduction at attribute by initial site chunk iteration value) w s b =
-        both (reducer_law by w b) (both (law_expr initial w s _) (both (law_chunk chunk w s _) (law_iteration iteration (λ v c. decided_expr text value v c) (λ v. FormedExpr (program text.typed.now) v value) (λ v t c. law_expr value v t c) w s _)))
+        both (reducer_law by w b) (both (law_expr initial w s _) (both (law_chunk chunk w s _) (of_parts iteration (λ v c. decided_expr text value v c) (λ v. FormedExpr (program text.typed.now) v value) (λ v t c. law_expr value v t c) w s (law_parts iteration w s) _)))
 
     law_exprs : (x : Exprs) (w : Scope) → Small w → (b : Bool) → Adds b (decided_exprs text x w b) (FormedExprs (program text.typed.now) (known_of w) x)
     law_exprs NoExpr w s b = nothing b
@@ -678,18 +697,9 @@ module _ (text : walk.Text) (grounded : IsGrounded (table text)) (full : (n : �
     law_associations NoAssociation w s b = nothing b
     law_associations (Association runs iterated mentions value rest) w s b = both (law_exprs mentions w s b) (both (law_value value w s _) (law_associations rest w s _))
 
-    law_iteration : (x : Iteration) (body : Scope → Bool → Bool) (Formed : Known → Type 0) → ((w : Scope) → Small w → (b : Bool) → Adds b (body w b) (Formed (known_of w))) → (w : Scope) → Small w → (b : Bool) → Adds b (decided_iteration text x body w b) (FormedIteration (program text.typed.now) (known_of w) x Formed)
-    law_iteration (Range k reverse low high check filter) body Formed law w s b = both (law_expr low w s b) (both (law_expr high w s _) (both (law_optional filter w s _) (law w s _)))
-    law_iteration (Components k true at from selections number stride dimensions filter) body Formed law w s b =
-        item_law true from selections number stride dimensions w s (λ p c. body (Binding true k p w) (decided_optional text filter (Binding true k p w) c))
-        (λ t. FormedOptional (program text.typed.now) (with_constant k t (known_of w)) filter × Formed (with_constant k t (known_of w)))
-        b (decided_selections text selections w b) (FormedSelections (program text.typed.now) (known_of w) selections) (law_selections selections w s b)
-        (λ p f c. both (law_optional filter (Binding true k p w) (f, s) c) (law (Binding true k p w) (f, s) _))
-    law_iteration (Components k false at from selections number stride dimensions filter) body Formed law w s b =
-        item_law false from selections number stride dimensions w s (λ p c. body (Binding false k p w) (decided_optional text filter (Binding false k p w) c))
-        (λ t. FormedOptional (program text.typed.now) (with_shape k t (known_of w)) filter × Formed (with_shape k t (known_of w)))
-        b (decided_selections text selections w b) (FormedSelections (program text.typed.now) (known_of w) selections) (law_selections selections w s b)
-        (λ p f c. both (law_optional filter (Binding false k p w) (f, s) c) (law (Binding false k p w) (f, s) _))
+    law_parts : (x : Iteration) (w : Scope) → Small w → Parts x w
+    law_parts (Range k reverse low high check filter) w s = λ b. both (law_expr low w s b) (both (law_expr high w s _) (law_optional filter w s _))
+    law_parts (Components k constant at from selections number stride dimensions filter) w s = ((λ b. law_selections selections w s b), (λ p f b. law_optional filter (Binding constant k p w) (f, s) b))
 
     law_chunk : (x : Chunk) (w : Scope) → Small w → (b : Bool) → Adds b (decided_chunk text x w b) (FormedChunk (program text.typed.now) (known_of w) x)
     law_chunk NoChunk w s b = nothing b
@@ -748,8 +758,8 @@ module _ (text : walk.Text) (grounded : IsGrounded (table text)) (full : (n : �
     law_stmt (IfThen condition stmts otherwise) w s b = both (law_expr condition w s b) (both (law_stmts stmts w s _) (law_stmts otherwise w s _))
     law_stmt (Case e alternatives) w s b = both (law_expr e w s b) (law_alternatives alternatives w s _)
     law_stmt (Loop number condition stmts) w s b = both (law_optional condition w s b) (law_stmts stmts w s _)
-    law_stmt (For number iteration stmts) w s b = law_iteration iteration (λ v c. decided_stmts text stmts v c) (λ v. FormedAll (program text.typed.now) v stmts) (λ v t c. law_stmts stmts v t c) w s b
-    law_stmt (ParallelFor number site chunk iteration stmts) w s b = both (law_chunk chunk w s b) (law_iteration iteration (λ v c. decided_stmts text stmts v c) (λ v. FormedAll (program text.typed.now) v stmts) (λ v t c. law_stmts stmts v t c) w s _)
+    law_stmt (For number iteration stmts) w s b = of_parts iteration (λ v c. decided_stmts text stmts v c) (λ v. FormedAll (program text.typed.now) v stmts) (λ v t c. law_stmts stmts v t c) w s (law_parts iteration w s) b
+    law_stmt (ParallelFor number site chunk iteration stmts) w s b = both (law_chunk chunk w s b) (of_parts iteration (λ v c. decided_stmts text stmts v c) (λ v. FormedAll (program text.typed.now) v stmts) (λ v t c. law_stmts stmts v t c) w s (law_parts iteration w s) _)
     law_stmt (Parallel site count arms) w s b = both (law_optional count w s b) (law_arms arms w s _)
     law_stmt (Block decls stmts handlers) w s b = both (law_decls decls w s b) (both (law_stmts stmts w s _) (law_handlers handlers w s _))
     law_stmt (Put at callee pieces line) w s b = law_pieces pieces w s b
