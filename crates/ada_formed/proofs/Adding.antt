@@ -26,6 +26,15 @@ module _ {b c : Bool} {P Q : Type 0} where
     tells = λ h q. x.tells h (g q);
   }
 
+-- products without brackets
+module _ {b c : Bool} {P Q R : Type 0} where
+  pub three : Adds b c (P × (Q × R)) → Adds b c (P × Q × R)
+  three x = like (λ a. (a.0, a.1.0, a.1.1)) (λ a. (a.0, (a.1, a.2))) x
+
+module _ {b c : Bool} {P Q R S : Type 0} where
+  pub four : Adds b c (P × (Q × (R × S))) → Adds b c (P × Q × R × S)
+  four x = like (λ a. (a.0, a.1.0, a.1.1.0, a.1.1.1)) (λ a. (a.0, (a.1, (a.2, a.3)))) x
+
 pub nothing : (b : Bool) → Adds b b (Unit {0})
 nothing b = record { told = λ h. (h, tt); tells = λ h p. h }
 

@@ -25,7 +25,7 @@ use Rattle.ada_formed.specs.declared.places.Text as walk
 use Rattle.ada_formed.specs.Places.{Place, Scope, Alone, Binding, Aiming, item_of, target_of, declared_of, with_place}
 use Rattle.ada_formed.specs.Tables.{Seen, Along, Fields, Other, saturated, has_dimension, product, small_from, table_from, full_from, grounded_from, seen, seen_of, seen_array, seen_entry, whole_of, object_place, cells, field_in, field_seen, index_seen, field_step, index_step, selected, quotient, Rest, rest_along, rest_seen, follow, below, strided, component_of}
 use Rattle.ada_formed.specs.Decided.{table, settled, called, decided_reducer, root_place, named, fits, spans, aims, cells_at, wide_composite, wide, decided_expr, decided_exprs, decided_optional, decided_selections, decided_actuals, decided_value, decided_composite, decided_associations, decided_iteration, decided_chunk, decided_pieces, decided_decls, decided_assign, decided_stmt, decided_stmts, decided_alternatives, decided_arms, decided_handlers, decided_body, decided_subs, decided}
-use Rattle.ada_formed.proofs.Adding.{Adds, and_true, true_and, both, flip, like, nothing, asks, less}
+use Rattle.ada_formed.proofs.Adding.{Adds, and_true, true_and, both, flip, three, four, like, nothing, asks, less}
 use Rattle.ada_formed.specs.Answer.{Answers, IsMeasured}
 use Rattle.ada_formed.proofs.Layouts.{AreFull, FullEntry, is_grounded, grounded_is, are_full, are_small, product_law, sizes_law}
 
@@ -629,15 +629,15 @@ module _ (text : walk.Text) (grounded : IsGrounded (table text)) (full : (n : �
   unfolding decided_iteration
   of_parts (Range k reverse low high check filter) body Formed law w s parts b = like (λ a. (a.0.0, a.0.1, a.0.2, a.1)) (λ a. ((a.0, a.1, a.2), a.3)) (both (parts b) (law w s _))
   of_parts (Components k true at from selections number stride dimensions filter) body Formed law w s parts b =
-      item_law true from selections number stride dimensions w s (λ p c. body (Binding true k p w) (decided_optional text filter (Binding true k p w) c))
+      like (λ a. (a.0, (a.1.0, a.1.1, a.1.2, a.1.3, a.1.4, a.1.5.0, a.1.5.1))) (λ a. (a.0, (a.1.0, a.1.1, a.1.2, a.1.3, a.1.4, (a.1.5, a.1.6)))) (item_law true from selections number stride dimensions w s (λ p c. body (Binding true k p w) (decided_optional text filter (Binding true k p w) c))
       (λ t. FormedOptional (program text.typed.now) (with_constant k t (known_of w)) filter × Formed (with_constant k t (known_of w)))
       b (decided_selections text selections w b) (FormedSelections (program text.typed.now) (known_of w) selections) (parts.0 b)
-      (λ p f c. both (parts.1 p f c) (law (Binding true k p w) (f, s) _))
+      (λ p f c. both (parts.1 p f c) (law (Binding true k p w) (f, s) _)))
   of_parts (Components k false at from selections number stride dimensions filter) body Formed law w s parts b =
-      item_law false from selections number stride dimensions w s (λ p c. body (Binding false k p w) (decided_optional text filter (Binding false k p w) c))
+      like (λ a. (a.0, (a.1.0, a.1.1, a.1.2, a.1.3, a.1.4, a.1.5.0, a.1.5.1))) (λ a. (a.0, (a.1.0, a.1.1, a.1.2, a.1.3, a.1.4, (a.1.5, a.1.6)))) (item_law false from selections number stride dimensions w s (λ p c. body (Binding false k p w) (decided_optional text filter (Binding false k p w) c))
       (λ t. FormedOptional (program text.typed.now) (with_shape k t (known_of w)) filter × Formed (with_shape k t (known_of w)))
       b (decided_selections text selections w b) (FormedSelections (program text.typed.now) (known_of w) selections) (parts.0 b)
-      (λ p f c. both (parts.1 p f c) (law (Binding false k p w) (f, s) _))
+      (λ p f c. both (parts.1 p f c) (law (Binding false k p w) (f, s) _)))
 
   mutual
     unfolding decided_expr decided_exprs decided_optional decided_selections decided_actuals decided_value decided_composite decided_associations decided_iteration decided_chunk
@@ -650,16 +650,16 @@ module _ (text : walk.Text) (grounded : IsGrounded (table text)) (full : (n : �
     law_expr (Target at scalar) w s b = aims_law w s 1 1 (means_itself 1) b
     law_expr (Group e) w s b = law_expr e w s b
     law_expr (Unary at sign class e) w s b = both (settled_law class b) (law_expr e w s _)
-    law_expr (Binary at op class e f) w s b = both (settled_law class b) (flip (law_expr f w s _) (law_expr e w s _))
+    law_expr (Binary at op class e f) w s b = three (both (settled_law class b) (flip (law_expr f w s _) (law_expr e w s _)))
     law_expr (AndThen e f) w s b = flip (law_expr f w s b) (law_expr e w s _)
     law_expr (OrElse e f) w s b = flip (law_expr f w s b) (law_expr e w s _)
-    law_expr (Relation class comparison e f) w s b = both (settled_law class b) (flip (law_expr f w s _) (law_expr e w s _))
-    law_expr (Membership class negated e low high) w s b = both (settled_law class b) (both (law_expr e w s _) (both (law_expr low w s _) (law_expr high w s _)))
-    law_expr (If condition value otherwise) w s b = both (law_expr condition w s b) (both (law_expr value w s _) (law_expr otherwise w s _))
+    law_expr (Relation class comparison e f) w s b = three (both (settled_law class b) (flip (law_expr f w s _) (law_expr e w s _)))
+    law_expr (Membership class negated e low high) w s b = four (both (settled_law class b) (both (law_expr e w s _) (both (law_expr low w s _) (law_expr high w s _))))
+    law_expr (If condition value otherwise) w s b = three (both (law_expr condition w s b) (both (law_expr value w s _) (law_expr otherwise w s _)))
     law_expr (Call at callee sub actuals) w s b = both (called_law sub w b) (law_actuals actuals w s _)
     law_expr (Convert check e) w s b = law_expr e w s b
     law_expr (Reduction at attribute by initial site chunk iteration value) w s b =
-        both (reducer_law by w b) (both (law_expr initial w s _) (both (law_chunk chunk w s _) (of_parts iteration (λ v c. decided_expr text value v c) (λ v. FormedExpr (program text.typed.now) v value) (λ v t c. law_expr value v t c) w s (law_parts iteration w s) _)))
+        four (both (reducer_law by w b) (both (law_expr initial w s _) (both (law_chunk chunk w s _) (of_parts iteration (λ v c. decided_expr text value v c) (λ v. FormedExpr (program text.typed.now) v value) (λ v t c. law_expr value v t c) w s (law_parts iteration w s) _))))
 
     law_exprs : (x : Exprs) (w : Scope) → Small w → (b : Bool) → Adds b (decided_exprs text x w b) (FormedExprs (program text.typed.now) (known_of w) x)
     law_exprs NoExpr w s b = nothing b
@@ -677,10 +677,10 @@ module _ (text : walk.Text) (grounded : IsGrounded (table text)) (full : (n : �
     law_actuals : (x : Actuals) (w : Scope) → Small w → (b : Bool) → Adds b (decided_actuals text x w b) (FormedActuals (program text.typed.now) (known_of w) x)
     law_actuals NoActual w s b = nothing b
     law_actuals (In formal value rest) w s b = both (law_value value w s b) (law_actuals rest w s _)
-    law_actuals (InOut formal at from selections inner outer rest) w s b = both (spans_law false from selections w s 1 1 (means_itself 1) b) (both (law_selections selections w s _) (law_actuals rest w s _))
-    law_actuals (Out formal at from selections inner outer rest) w s b = both (spans_law false from selections w s 1 1 (means_itself 1) b) (both (law_selections selections w s _) (law_actuals rest w s _))
-    law_actuals (CompositeInOut formal at from selections subtype rest) w s b = both (spans_law false from selections w s (cells_at text subtype) (cells_of (table text) subtype) (means_cells subtype) b) (both (law_selections selections w s _) (law_actuals rest w s _))
-    law_actuals (CompositeOut formal at from selections subtype rest) w s b = both (spans_law false from selections w s (cells_at text subtype) (cells_of (table text) subtype) (means_cells subtype) b) (both (law_selections selections w s _) (law_actuals rest w s _))
+    law_actuals (InOut formal at from selections inner outer rest) w s b = three (both (spans_law false from selections w s 1 1 (means_itself 1) b) (both (law_selections selections w s _) (law_actuals rest w s _)))
+    law_actuals (Out formal at from selections inner outer rest) w s b = three (both (spans_law false from selections w s 1 1 (means_itself 1) b) (both (law_selections selections w s _) (law_actuals rest w s _)))
+    law_actuals (CompositeInOut formal at from selections subtype rest) w s b = three (both (spans_law false from selections w s (cells_at text subtype) (cells_of (table text) subtype) (means_cells subtype) b) (both (law_selections selections w s _) (law_actuals rest w s _)))
+    law_actuals (CompositeOut formal at from selections subtype rest) w s b = three (both (spans_law false from selections w s (cells_at text subtype) (cells_of (table text) subtype) (means_cells subtype) b) (both (law_selections selections w s _) (law_actuals rest w s _)))
 
     law_value : (x : Value) (w : Scope) → Small w → (b : Bool) → Adds b (decided_value text x w b) (FormedValue (program text.typed.now) (known_of w) x)
     law_value (Number check e) w s b = law_expr e w s b
@@ -690,15 +690,15 @@ module _ (text : walk.Text) (grounded : IsGrounded (table text)) (full : (n : �
     law_composite (WholeVariable at from selections subtype) w s b = both (spans_law false from selections w s (cells_at text subtype) (cells_of (table text) subtype) (means_cells subtype) b) (law_selections selections w s _)
     law_composite (WholeConstant at from selections subtype) w s b = both (spans_law true from selections w s (cells_at text subtype) (cells_of (table text) subtype) (means_cells subtype) b) (law_selections selections w s _)
     law_composite (WholeTarget at subtype) w s b = aims_law w s (cells_at text subtype) (cells_of (table text) subtype) (means_cells subtype) b
-    law_composite (CompositeIf condition value otherwise) w s b = both (law_expr condition w s b) (both (law_composite value w s _) (law_composite otherwise w s _))
+    law_composite (CompositeIf condition value otherwise) w s b = three (both (law_expr condition w s b) (both (law_composite value w s _) (law_composite otherwise w s _)))
     law_composite (Aggregate at cells' associations) w s b = law_associations associations w s b
 
     law_associations : (x : Associations) (w : Scope) → Small w → (b : Bool) → Adds b (decided_associations text x w b) (FormedAssociations (program text.typed.now) (known_of w) x)
     law_associations NoAssociation w s b = nothing b
-    law_associations (Association runs iterated mentions value rest) w s b = both (law_exprs mentions w s b) (both (law_value value w s _) (law_associations rest w s _))
+    law_associations (Association runs iterated mentions value rest) w s b = three (both (law_exprs mentions w s b) (both (law_value value w s _) (law_associations rest w s _)))
 
     law_parts : (x : Iteration) (w : Scope) → Small w → Parts x w
-    law_parts (Range k reverse low high check filter) w s = λ b. both (law_expr low w s b) (both (law_expr high w s _) (law_optional filter w s _))
+    law_parts (Range k reverse low high check filter) w s = λ b. three (both (law_expr low w s b) (both (law_expr high w s _) (law_optional filter w s _)))
     law_parts (Components k constant at from selections number stride dimensions filter) w s = ((λ b. law_selections selections w s b), (λ p f b. law_optional filter (Binding constant k p w) (f, s) b))
 
     law_chunk : (x : Chunk) (w : Scope) → Small w → (b : Bool) → Adds b (decided_chunk text x w b) (FormedChunk (program text.typed.now) (known_of w) x)
@@ -710,8 +710,8 @@ module _ (text : walk.Text) (grounded : IsGrounded (table text)) (full : (n : �
   unfolding decided_pieces
   law_pieces NoPiece w s b = nothing b
   law_pieces (Text bytes rest) w s b = law_pieces rest w s b
-  law_pieces (Image class e rest) w s b = both (settled_law class b) (both (law_expr e w s _) (law_pieces rest w s _))
-  law_pieces (Padded class e most rest) w s b = both (settled_law class b) (both (law_expr e w s _) (both (law_expr most w s _) (law_pieces rest w s _)))
+  law_pieces (Image class e rest) w s b = three (both (settled_law class b) (both (law_expr e w s _) (law_pieces rest w s _)))
+  law_pieces (Padded class e most rest) w s b = four (both (settled_law class b) (both (law_expr e w s _) (both (law_expr most w s _) (law_pieces rest w s _))))
 
   law_decls : (x : Decls) (w : Scope) → Small w → (b : Bool) → Adds b (decided_decls text x w b) (FormedDecls (program text.typed.now) (known_of w) x)
   unfolding decided_decls
@@ -729,7 +729,7 @@ module _ (text : walk.Text) (grounded : IsGrounded (table text)) (full : (n : �
       Asked = ((u : Shape) × Names (program text.typed.now) (known_of w) from selections u × (width (table text) value ≤ size u) × FormedValue (program text.typed.now) (with_aim u (known_of w)) value) × FormedSelections (program text.typed.now) (known_of w) selections
 
       inside : (p : Place) → Fits (shape p) → Adds b (decided_value text value (Aiming p w) (decided_selections text selections w (fits text (Some p) (wide text value) b))) ((width (table text) value ≤ size (shape p)) × FormedSelections (program text.typed.now) (known_of w) selections × FormedValue (program text.typed.now) (with_aim (shape p) (known_of w)) value)
-      inside p f = both (asks b (nat_le (wide text value) (cells (table text) text.sizes.now p)) (fit_told p (wide text value) (width (table text) value) (means_wide value) f) (fit_tells p (wide text value) (width (table text) value) (means_wide value) f)) (both (law_selections selections w s _) (law_value value (Aiming p w) (f, s) _))
+      inside p f = three (both (asks b (nat_le (wide text value) (cells (table text) text.sizes.now p)) (fit_told p (wide text value) (width (table text) value) (means_wide value) f) (fit_tells p (wide text value) (width (table text) value) (means_wide value) f)) (both (law_selections selections w s _) (law_value value (Aiming p w) (f, s) _)))
 
       go : (o : Option Place) → named text false from selections w ≡ o → Adds b (with_place o (λ p. decided_value text value (Aiming p w) (decided_selections text selections w (fits text (Some p) (wide text value) b)))) Asked
       go None e = record {
@@ -755,13 +755,13 @@ module _ (text : walk.Text) (grounded : IsGrounded (table text)) (full : (n : �
     law_stmt (ReturnValue value) w s b = law_value value w s b
     law_stmt (Raise reason) w s b = nothing b
     law_stmt Reraise w s b = nothing b
-    law_stmt (IfThen condition stmts otherwise) w s b = both (law_expr condition w s b) (both (law_stmts stmts w s _) (law_stmts otherwise w s _))
+    law_stmt (IfThen condition stmts otherwise) w s b = three (both (law_expr condition w s b) (both (law_stmts stmts w s _) (law_stmts otherwise w s _)))
     law_stmt (Case e alternatives) w s b = both (law_expr e w s b) (law_alternatives alternatives w s _)
     law_stmt (Loop number condition stmts) w s b = both (law_optional condition w s b) (law_stmts stmts w s _)
     law_stmt (For number iteration stmts) w s b = of_parts iteration (λ v c. decided_stmts text stmts v c) (λ v. FormedAll (program text.typed.now) v stmts) (λ v t c. law_stmts stmts v t c) w s (law_parts iteration w s) b
     law_stmt (ParallelFor number site chunk iteration stmts) w s b = both (law_chunk chunk w s b) (of_parts iteration (λ v c. decided_stmts text stmts v c) (λ v. FormedAll (program text.typed.now) v stmts) (λ v t c. law_stmts stmts v t c) w s (law_parts iteration w s) _)
     law_stmt (Parallel site count arms) w s b = both (law_optional count w s b) (law_arms arms w s _)
-    law_stmt (Block decls stmts handlers) w s b = both (law_decls decls w s b) (both (law_stmts stmts w s _) (law_handlers handlers w s _))
+    law_stmt (Block decls stmts handlers) w s b = three (both (law_decls decls w s b) (both (law_stmts stmts w s _) (law_handlers handlers w s _)))
     law_stmt (Put at callee pieces line) w s b = law_pieces pieces w s b
     law_stmt (Get at callee first from selections scalar) w s b = both (spans_law false from selections w s 1 1 (means_itself 1) b) (law_selections selections w s _)
 
@@ -771,7 +771,7 @@ module _ (text : walk.Text) (grounded : IsGrounded (table text)) (full : (n : �
 
     law_alternatives : (x : Alternatives) (w : Scope) → Small w → (b : Bool) → Adds b (decided_alternatives text x w b) (FormedAlternatives (program text.typed.now) (known_of w) x)
     law_alternatives NoAlternative w s b = nothing b
-    law_alternatives (Alternative others choices mentions stmts rest) w s b = both (law_exprs mentions w s b) (both (law_stmts stmts w s _) (law_alternatives rest w s _))
+    law_alternatives (Alternative others choices mentions stmts rest) w s b = three (both (law_exprs mentions w s b) (both (law_stmts stmts w s _) (law_alternatives rest w s _)))
 
     law_arms : (x : Arms) (w : Scope) → Small w → (b : Bool) → Adds b (decided_arms text x w b) (FormedArms (program text.typed.now) (known_of w) x)
     law_arms NoArm w s b = nothing b
@@ -784,7 +784,7 @@ module _ (text : walk.Text) (grounded : IsGrounded (table text)) (full : (n : �
   law_body : (x : Body) (n : ℕ) (b : Bool) → Adds b (decided_body text x (Alone n) b) (FormedBody (program text.typed.now) n x)
   unfolding decided_body
   law_body x n b =
-      like (λ a. record { decls = a.0; stmts = a.1; handlers = a.2 }) (λ f. (f.decls, f.stmts, f.handlers))
+      like (λ a. record { decls = a.0; stmts = a.1.0; handlers = a.1.1 }) (λ f. (f.decls, (f.stmts, f.handlers)))
       (both (law_decls x.decls (Alone n) tt b) (both (law_stmts x.stmts (Alone n) tt _) (law_handlers x.handlers (Alone n) tt _)))
 
   law_subs : (xs : List Sub) (n : ℕ) (b : Bool) → Adds b (decided_subs text n xs b) (FormedSubs (program text.typed.now) n xs)
