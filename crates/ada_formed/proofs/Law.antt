@@ -790,7 +790,10 @@ module _ (text : walk.Text) (grounded : IsGrounded (table text)) (full : (n : �
   law_subs : (xs : List Sub) (n : ℕ) (b : Bool) → Adds b (decided_subs text n xs b) (FormedSubs (program text.typed.now) n xs)
   unfolding decided_subs
   law_subs [] n b = nothing b
-  law_subs (x ∷ xs) n b = both (law_body x.body (n + 1) b) (law_subs xs (n + 1) _)
+  law_subs (x ∷ xs) n b =
+      let e : n + 1 ≡ suc n = omega arith in
+      subst (λ m. Adds b (decided_subs text (n + 1) xs (decided_body text x.body (Alone (n + 1)) b)) (FormedBody (program text.typed.now) m x.body × FormedSubs (program text.typed.now) m xs)) e
+      (both (law_body x.body (n + 1) b) (law_subs xs (n + 1) _))
 
   pub decided_law : Adds true (decided text) (IsFormed (program text.typed.now))
   unfolding decided
