@@ -1,5 +1,5 @@
 -- A decision that is made behind another one.
-use Rattle.std.proofs.Common.{◌≡◌, ℕ, ◌<◌, ◌≤◌, Bool, true, false, ◌&&◌, nat_lt, refl, sym, ◌∙◌, true≢false, ltb-true, lt-ltb}
+use Rattle.std.proofs.Common.{◌≡◌, ℕ, ◌<◌, Bool, true, false, ◌&&◌, nat_lt, refl, sym, true≢false, ltb-true, lt-ltb}
 
 -- the second answer is yes where the first one is and something holds
 pub record Adds (b c : Bool) (P : Type 0) : Type 0 where

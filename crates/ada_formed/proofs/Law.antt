@@ -1,5 +1,5 @@
 -- What is decided of a program is that it is formed.
-use Rattle.std.proofs.Common.{◌≡◌, ℕ, zero, suc, ◌+◌, ◌-◌, ◌*◌, ◌/◌, ◌%◌, ◌<◌, ◌≤◌, min, max, nat_eq, nat_lt, nat_le, ℤ, pos, negsuc, List, [], ◌∷◌, length, slice_get, ◌⊎◌, inl, inr, Option, Some, None, Bool, true, false, not, cond, ◌&&◌, option_map, refl, sym, subst, ap, ap₂, ◌∙◌, arith, true≢false, eqb-true, eq-eqb, leb-true, le-leb}
+use Rattle.std.proofs.Common.{◌≡◌, ℕ, zero, suc, ◌+◌, ◌-◌, ◌*◌, ◌/◌, ◌%◌, ◌<◌, ◌≤◌, nat_eq, nat_le, ℤ, pos, negsuc, List, [], ◌∷◌, length, slice_get, ◌⊎◌, inl, inr, Option, Some, None, Bool, true, false, cond, ◌&&◌, option_map, refl, sym, subst, ap, ap₂, ◌∙◌, arith, true≢false, eqb-true, eq-eqb, leb-true, le-leb}
 use Rattle.std.proofs.Math.ListN.{get_or}
 use Rattle.std.proofs.lemmas.Option.{slice_get_past}
 use Rattle.std.proofs.lemmas.Nat.{div-mul-add, mod-mul-add}
@@ -23,7 +23,7 @@ use Rattle.ada_meaning.specs.Formed.{Known, at_first, with_shape, with_constant,
 use Rattle.ada_meaning.proofs.Shapes.{shape_law}
 use Rattle.ada_formed.specs.declared.places.Text as walk
 use Rattle.ada_formed.specs.Places.{Place, Scope, Alone, Binding, Aiming, item_of, target_of, declared_of, with_place}
-use Rattle.ada_formed.specs.Tables.{Seen, Along, Fields, Other, saturated, has_dimension, product, small_from, table_from, full_from, grounded_from, seen, seen_of, seen_array, seen_entry, whole_of, object_place, cells, field_in, field_seen, index_seen, field_step, index_step, selected, quotient, Rest, rest_along, rest_seen, follow, below, strided, component_of}
+use Rattle.ada_formed.specs.Tables.{Seen, Along, Fields, Other, saturated, has_dimension, product, small_from, table_from, full_from, grounded_from, seen, seen_of, seen_entry, whole_of, object_place, cells, field_in, field_seen, index_seen, selected, quotient, rest_along, rest_seen, follow, below, strided, component_of}
 use Rattle.ada_formed.specs.Decided.{table, settled, called, decided_reducer, root_place, named, fits, spans, aims, cells_at, wide_composite, wide, decided_expr, decided_exprs, decided_optional, decided_selections, decided_actuals, decided_value, decided_composite, decided_associations, decided_iteration, decided_chunk, decided_pieces, decided_decls, decided_assign, decided_stmt, decided_stmts, decided_alternatives, decided_arms, decided_handlers, decided_body, decided_subs, decided}
 use Rattle.ada_formed.proofs.Adding.{Adds, and_true, true_and, both, flip, three, four, like, nothing, asks, less}
 use Rattle.ada_formed.specs.Answer.{Answers, IsMeasured}
@@ -278,9 +278,11 @@ module _ (text : walk.Text) (grounded : IsGrounded (table text)) (full : (n : �
           let g : Fits (Dimension b.low b.high (shape x)) = subst Fits e f in
           let d = dimension_fits b.low b.high (shape x) g in
           let a = along_told b x r low high stride is in
-          let l = ih r (subst (λ x. Fits (shape x)) a.3 d) q h in
-          (subst (λ u. Selects (Index at i low high stride rest) u (shape q)) (sym e)
-            (a.0, a.1, a.2 ∙ cells_exact x d.1, subst (λ (x : Place). Selects rest (shape x) (shape q)) (sym a.3) l.0), l.1)
+          let l = ih r (subst (λ x. Fits (shape x)) a.3 d) q h in (
+            subst (λ u. Selects (Index at i low high stride rest) u (shape q)) (sym e)
+                (a.0, a.1, a.2 ∙ cells_exact x d.1, subst (λ (x : Place). Selects rest (shape x) (shape q)) (sym a.3) l.0),
+            l.1,
+          )
 
   abbrev Lead : Selections → Place → Shape → Type 0
   Lead s p u = (q : Place) × (selected (table text) text.sizes.now s (Some p) ≡ Some q) × (shape q ≡ u) × Fits (shape q)
@@ -511,7 +513,7 @@ module _ (text : walk.Text) (grounded : IsGrounded (table text)) (full : (n : �
           let t = named_told constant from s w small p e in
           asks b (nat_le n (cells (table text) text.sizes.now p)) (λ h. (shape p, t.0, fit_told p n m means t.1 h))
           (λ h. let r = named_tells constant from s w small h.0 h.1 in let same : p ≡ r.0 = some_same p r.0 (sym e ∙ r.1) in
-            fit_tells p n m means t.1 (subst (λ u. m ≤ size u) (sym (ap shape same ∙ r.2)) h.2))
+          fit_tells p n m means t.1 (subst (λ u. m ≤ size u) (sym (ap shape same ∙ r.2)) h.2))
 
   aims_law : (w : Scope) → Small w → (n m : ℕ) → Means n m → (b : Bool) → Adds b (aims text n w b) (Aims (known_of w) m)
   unfolding aims fits
@@ -536,9 +538,10 @@ module _ (text : walk.Text) (grounded : IsGrounded (table text)) (full : (n : �
   most_cells (WholeConstant at from selections subtype) n s h = let m = means_cells subtype s h in ((λ le. (omega arith, m.0 (omega arith))), (λ le ce. let k = m.1 ce in omega arith))
   most_cells (WholeTarget at subtype) n s h = let m = means_cells subtype s h in ((λ le. (omega arith, m.0 (omega arith))), (λ le ce. let k = m.1 ce in omega arith))
   most_cells (CompositeIf condition value otherwise) n s h =
-      let first = most_cells value n s h in let second = most_cells otherwise (wide_composite text value n) s h in
-      ((λ le. let k = second.0 le in let g = first.0 k.0 in let v = g.1 in let o = k.1 in (g.0, omega arith)),
-        (λ le ce. second.1 (first.1 le (omega arith)) (omega arith)))
+      let first = most_cells value n s h in let second = most_cells otherwise (wide_composite text value n) s h in (
+        (λ le. let k = second.0 le in let g = first.0 k.0 in let v = g.1 in let o = k.1 in (g.0, omega arith)),
+        (λ le ce. second.1 (first.1 le (omega arith)) (omega arith)),
+      )
   most_cells (Aggregate at cells' associations) n s h = ((λ le. (omega arith, omega arith)), (λ le ce. omega arith))
 
   means_wide : (v : Value) → Means (wide text v) (width (table text) v)
@@ -581,7 +584,7 @@ module _ (text : walk.Text) (grounded : IsGrounded (table text)) (full : (n : �
       (r.0, ap (component_of (table text) text.sizes.now dimensions number stride) n.1 ∙ ap (strided (table text) text.sizes.now stride) r.1 ∙ ap (λ c. cond c (Some r.0) None) (eq-eqb stride (cells (table text) text.sizes.now r.0) is), r.2, r.3)
 
   item_law : (constant : Bool) (from : Root) (s : Selections) (number stride dimensions : ℕ) (w : Scope) → Small w → (body : Place → Bool → Bool) (Formed : Shape → Type 0) (b c : Bool) (F : Type 0) → Adds b c F → ((p : Place) → Fits (shape p) → (c : Bool) → Adds c (body p c) (Formed (shape p)))
-    → Adds b (with_place (component_of (table text) text.sizes.now dimensions number stride (named text constant from s w)) (λ p. body p c)) (F × ((u t : Shape) × NamesIn constant (known_of w) from s u × ComponentAt u dimensions number t × (stride ≡ size t) × Formed t))
+      → Adds b (with_place (component_of (table text) text.sizes.now dimensions number stride (named text constant from s w)) (λ p. body p c)) (F × ((u t : Shape) × NamesIn constant (known_of w) from s u × ComponentAt u dimensions number t × (stride ≡ size t) × Formed t))
   item_law constant from s number stride dimensions w small body Formed b c F first inside = go (component_of (table text) text.sizes.now dimensions number stride (named text constant from s w)) refl
     where
       Asked : Type 0
@@ -598,9 +601,9 @@ module _ (text : walk.Text) (grounded : IsGrounded (table text)) (full : (n : �
           record {
             told = λ h. let k = i.told h in let g = first.told k.0 in (g.0, (g.1, (t.0, shape q, t.1, t.2, t.3, k.1)));
             tells = λ h p.
-              let r = component_tells constant from s number stride dimensions w small p.1.0 p.1.1 p.1.2 p.1.3 p.1.4 in
-              let same : p.1.1 ≡ shape q = sym r.2 ∙ ap shape (sym (some_same q r.0 (sym e ∙ r.1))) in
-              i.tells (first.tells h p.0) (subst Formed same p.1.5);
+                let r = component_tells constant from s number stride dimensions w small p.1.0 p.1.1 p.1.2 p.1.3 p.1.4 in
+                let same : p.1.1 ≡ shape q = sym r.2 ∙ ap shape (sym (some_same q r.0 (sym e ∙ r.1))) in
+                i.tells (first.tells h p.0) (subst Formed same p.1.5);
           }
 
   -- the text
@@ -740,7 +743,7 @@ module _ (text : walk.Text) (grounded : IsGrounded (table text)) (full : (n : �
           let t = named_told false from selections w s p e in
           like (λ a. ((shape p, t.0, a.0, a.2), a.1))
           (λ a. let r = named_tells false from selections w s a.0.0 a.0.1 in let same : a.0.0 ≡ shape p = sym r.2 ∙ ap shape (sym (some_same p r.0 (sym e ∙ r.1))) in
-            (subst (λ u. width (table text) value ≤ size u) same a.0.2, a.1, subst (λ u. FormedValue (program text.typed.now) (with_aim u (known_of w)) value) same a.0.3))
+          (subst (λ u. width (table text) value ≤ size u) same a.0.2, a.1, subst (λ u. FormedValue (program text.typed.now) (with_aim u (known_of w)) value) same a.0.3))
           (inside p t.1)
 
   mutual

@@ -1,5 +1,5 @@
 -- Steps of a walk down the dimensions of an array.
-use Rattle.std.proofs.Common.{◌≡◌, ℕ, zero, suc, ◌-◌, ◌≤◌, ◌<◌, List, [], ◌∷◌, Option, None, slice_get, Bool, true, false, refl, sym, subst, arith}
+use Rattle.std.proofs.Common.{◌≡◌, ℕ, zero, suc, ◌-◌, ◌<◌, List, [], ◌∷◌, None, slice_get, Bool, true, false, refl, sym, subst, arith}
 use Rattle.std.proofs.Math.ListN.{get_or}
 use Rattle.ada_typed.specs.declared.expressions.Root.TheVariants as root
 use Rattle.ada_typed.specs.Syntax.{Subtype, Iteration, Components, Whole, Absent}
