@@ -1,5 +1,5 @@
 -- A decision that is made behind another one.
-use Rattle.std.proofs.Common.{◌≡◌, ℕ, ◌<◌, ◌≤◌, Bool, true, false, ◌&&◌, nat_lt, refl, sym, ◌∙◌, true≢false, ltb-true, lt-ltb}
+use Rattle.std.proofs.Common.{◌≡◌, ℕ, ◌<◌, Bool, true, false, ◌&&◌, nat_lt, refl, sym, true≢false, ltb-true, lt-ltb}
 
 -- the second answer is yes where the first one is and something holds
 pub record Adds (b c : Bool) (P : Type 0) : Type 0 where
@@ -25,6 +25,15 @@ module _ {b c : Bool} {P Q : Type 0} where
     told = λ h. let k = x.told h in (k.0, f k.1);
     tells = λ h q. x.tells h (g q);
   }
+
+-- products without brackets
+module _ {b c : Bool} {P Q R : Type 0} where
+  pub three : Adds b c (P × (Q × R)) → Adds b c (P × Q × R)
+  three x = like (λ a. (a.0, a.1.0, a.1.1)) (λ a. (a.0, (a.1, a.2))) x
+
+module _ {b c : Bool} {P Q R S : Type 0} where
+  pub four : Adds b c (P × (Q × (R × S))) → Adds b c (P × Q × R × S)
+  four x = like (λ a. (a.0, a.1.0, a.1.1.0, a.1.1.1)) (λ a. (a.0, (a.1, (a.2, a.3)))) x
 
 pub nothing : (b : Bool) → Adds b b (Unit {0})
 nothing b = record { told = λ h. (h, tt); tells = λ h p. h }

@@ -1,5 +1,5 @@
 -- What is decided of a program is that it is formed.
-use Rattle.std.proofs.Common.{◌≡◌, ℕ, zero, suc, ◌+◌, ◌-◌, ◌*◌, ◌/◌, ◌%◌, ◌<◌, ◌≤◌, min, max, nat_eq, nat_lt, nat_le, ℤ, pos, negsuc, List, [], ◌∷◌, length, slice_get, ◌⊎◌, inl, inr, Option, Some, None, Bool, true, false, not, cond, ◌&&◌, option_map, refl, sym, subst, ap, ap₂, ◌∙◌, arith, true≢false, eqb-true, eq-eqb, leb-true, le-leb}
+use Rattle.std.proofs.Common.{◌≡◌, ℕ, zero, suc, ◌+◌, ◌-◌, ◌*◌, ◌/◌, ◌%◌, ◌<◌, ◌≤◌, nat_eq, nat_le, ℤ, pos, negsuc, List, [], ◌∷◌, length, slice_get, ◌⊎◌, inl, inr, Option, Some, None, Bool, true, false, cond, ◌&&◌, option_map, refl, sym, subst, ap, ap₂, ◌∙◌, arith, true≢false, eqb-true, eq-eqb, leb-true, le-leb}
 use Rattle.std.proofs.Math.ListN.{get_or}
 use Rattle.std.proofs.lemmas.Option.{slice_get_past}
 use Rattle.std.proofs.lemmas.Nat.{div-mul-add, mod-mul-add}
@@ -23,9 +23,9 @@ use Rattle.ada_meaning.specs.Formed.{Known, at_first, with_shape, with_constant,
 use Rattle.ada_meaning.proofs.Shapes.{shape_law}
 use Rattle.ada_formed.specs.declared.places.Text as walk
 use Rattle.ada_formed.specs.Places.{Place, Scope, Alone, Binding, Aiming, item_of, target_of, declared_of, with_place}
-use Rattle.ada_formed.specs.Tables.{Seen, Along, Fields, Other, saturated, has_dimension, product, small_from, table_from, full_from, grounded_from, seen, seen_of, seen_array, seen_entry, whole_of, object_place, cells, field_in, field_seen, index_seen, field_step, index_step, selected, quotient, Rest, rest_along, rest_seen, follow, below, strided, component_of}
-use Rattle.ada_formed.specs.Decided.{table, settled, called, decided_reducer, root_place, named, fits, spans, aims, cells_at, wide_composite, wide, decided_expr, decided_exprs, decided_optional, decided_selections, decided_actuals, decided_value, decided_composite, decided_associations, decided_iteration, decided_chunk, decided_pieces, decided_decls, decided_stmt, decided_stmts, decided_alternatives, decided_arms, decided_handlers, decided_body, decided_subs, decided}
-use Rattle.ada_formed.proofs.Adding.{Adds, and_true, true_and, both, flip, like, nothing, asks, less}
+use Rattle.ada_formed.specs.Tables.{Seen, Along, Fields, Other, saturated, has_dimension, product, small_from, table_from, full_from, grounded_from, seen, seen_of, seen_entry, whole_of, object_place, cells, field_in, field_seen, index_seen, selected, quotient, rest_along, rest_seen, follow, below, strided, component_of}
+use Rattle.ada_formed.specs.Decided.{table, settled, called, decided_reducer, root_place, named, fits, spans, aims, cells_at, wide_composite, wide, decided_expr, decided_exprs, decided_optional, decided_selections, decided_actuals, decided_value, decided_composite, decided_associations, decided_iteration, decided_chunk, decided_pieces, decided_decls, decided_assign, decided_stmt, decided_stmts, decided_alternatives, decided_arms, decided_handlers, decided_body, decided_subs, decided}
+use Rattle.ada_formed.proofs.Adding.{Adds, and_true, true_and, both, flip, three, four, like, nothing, asks, less}
 use Rattle.ada_formed.specs.Answer.{Answers, IsMeasured}
 use Rattle.ada_formed.proofs.Layouts.{AreFull, FullEntry, is_grounded, grounded_is, are_full, are_small, product_law, sizes_law}
 
@@ -90,6 +90,13 @@ equal_itself (negsuc a) = let e = le-leb a a (omega arith) in true_and (nat_le a
 
 equal_tells : (a b : ℤ) → a ≡ b → is_equal a b ≡ true
 equal_tells a b h = subst (λ b. is_equal a b ≡ true) h (equal_itself a)
+
+later : (k : ℕ) → nat_eq (suc k) 0 ≡ false
+later k = go (nat_eq (suc k) 0) refl
+  where
+    go : (x : Bool) → nat_eq (suc k) 0 ≡ x → x ≡ false
+    go true e = let z = eqb-true (suc k) 0 e in absurd (omega arith)
+    go false e = refl
 
 no_dimension : has_dimension [] ≡ true → ⊥
 unfolding has_dimension
@@ -191,17 +198,17 @@ module _ (text : walk.Text) (grounded : IsGrounded (table text)) (full : (n : �
       first : (c : Bool) → nat_eq offset 0 ≡ c → cond c (Some (whole_of f.subtype)) None ≡ Some q → (offset ≡ 0) × (shape q ≡ S f.subtype)
       first true e g = (eqb-true offset 0 e, ap shape (sym (some_same (whole_of f.subtype) q g)))
       first false e g = cc
-  field_told (f ∷ fs) (suc k) offset q s h = next (nat_le own offset) refl h
+  field_told (f ∷ fs) (suc k) offset q s h = next (λ m g. field_told fs k m q (omega arith) g) (nat_le own offset) refl (subst (λ (c : Bool). cond c (cond (nat_eq offset 0) (Some (whole_of f.subtype)) None) (cond (nat_le own offset) (field_in (table text) text.sizes.now fs (suc k - 1) (offset - own)) None) ≡ Some q) (later k) h)
     where
       own : ℕ
       own = get_or text.sizes.now f.subtype 0
 
-      next : (c : Bool) → nat_le own offset ≡ c → cond c (field_in (table text) text.sizes.now fs (suc k - 1) (offset - own)) None ≡ Some q → (more : ℕ) × (offset ≡ size (S f.subtype) + more) × FieldAt (fields_of S fs) k more (shape q)
-      next true e g =
+      next : ((m : ℕ) → field_in (table text) text.sizes.now fs k m ≡ Some q → FieldAt (fields_of S fs) k m (shape q)) → (c : Bool) → nat_le own offset ≡ c → cond c (field_in (table text) text.sizes.now fs (suc k - 1) (offset - own)) None ≡ Some q → (more : ℕ) × (offset ≡ size (S f.subtype) + more) × FieldAt (fields_of S fs) k more (shape q)
+      next ih true e g =
           let le = leb-true own offset e in let is = own_exact f.subtype (omega arith) in
           let one : suc k - 1 ≡ k = omega arith in
-          (offset - own, omega arith, field_told fs k (offset - own) q (omega arith) (subst (λ k. field_in (table text) text.sizes.now fs k (offset - own) ≡ Some q) one g))
-      next false e g = cc
+          (offset - own, omega arith, ih (offset - own) (subst (λ k. field_in (table text) text.sizes.now fs k (offset - own) ≡ Some q) one g))
+      next ih false e g = cc
 
   field_tells : (fs : List field.Field) (k offset : ℕ) (t : Shape) → sizes (fields_of S fs) < 18446744073709551615 → FieldAt (fields_of S fs) k offset t → (q : Place) × (field_in (table text) text.sizes.now fs k offset ≡ Some q) × (shape q ≡ t)
   unfolding field_in
@@ -213,7 +220,7 @@ module _ (text : walk.Text) (grounded : IsGrounded (table text)) (full : (n : �
       let one : suc k - 1 ≡ k = omega arith in
       let left : offset - own ≡ more = omega arith in
       let r = field_tells fs k more t (omega arith) h in
-      (r.0, ap (λ c. cond c (field_in (table text) text.sizes.now fs (suc k - 1) (offset - own)) None) (le-leb own offset (omega arith)) ∙ ap₂ (λ j m. field_in (table text) text.sizes.now fs j m) one left ∙ r.1, r.2)
+      (r.0, ap (λ (c : Bool). cond c (cond (nat_eq offset 0) (Some (whole_of f.subtype)) None) (cond (nat_le own offset) (field_in (table text) text.sizes.now fs (suc k - 1) (offset - own)) None)) (later k) ∙ ap (λ c. cond c (field_in (table text) text.sizes.now fs (suc k - 1) (offset - own)) None) (le-leb own offset (omega arith)) ∙ ap₂ (λ j m. field_in (table text) text.sizes.now fs j m) one left ∙ r.1, r.2)
 
   -- selections
 
@@ -250,30 +257,32 @@ module _ (text : walk.Text) (grounded : IsGrounded (table text)) (full : (n : �
   pub selected_told : (s : Selections) (p : Place) → Fits (shape p) → (q : Place) → selected (table text) text.sizes.now s (Some p) ≡ Some q → Led s (shape p) q
   unfolding selected
   selected_told Whole p f q h = let e = some_same p q h in (ap shape (sym e), subst (λ p. Fits (shape p)) e f)
-  selected_told (Field k offset rest) p f q h = go (seen (table text) p) (shape p) (shows p) f (field_seen (table text) text.sizes.now (seen (table text) p) k offset) refl h
+  selected_told (Field k offset rest) p f q h = go (λ r f x h. selected_told rest r f x h) (seen (table text) p) (shape p) (shows p) f (field_seen (table text) text.sizes.now (seen (table text) p) k offset) refl h
     where
-      go : (v : Seen) (u : Shape) → Shows v u → Fits u → (o : Option Place) → field_seen (table text) text.sizes.now v k offset ≡ o → selected (table text) text.sizes.now rest o ≡ Some q → Led (Field k offset rest) u q
-      go v u e f None is h = absurd (none_selected rest q h)
-      go (Along b x) u e f (Some r) is h = cc
-      go Other u e f (Some r) is h = cc
-      go (Fields fs) u e f (Some r) is h =
+      go : ((r : Place) → Fits (shape r) → (x : Place) → selected (table text) text.sizes.now rest (Some r) ≡ Some x → Led rest (shape r) x) → (v : Seen) (u : Shape) → Shows v u → Fits u → (o : Option Place) → field_seen (table text) text.sizes.now v k offset ≡ o → selected (table text) text.sizes.now rest o ≡ Some q → Led (Field k offset rest) u q
+      go ih v u e f None is h = absurd (none_selected rest q h)
+      go ih (Along b x) u e f (Some r) is h = cc
+      go ih Other u e f (Some r) is h = cc
+      go ih (Fields fs) u e f (Some r) is h =
           let g : Fits (Record (fields_of S fs)) = subst Fits e f in
           let at = field_told fs k offset r g.1 is in
-          let l = selected_told rest r (field_fits (fields_of S fs) k offset (shape r) at g.0 g.1) q h in
+          let l = ih r (field_fits (fields_of S fs) k offset (shape r) at g.0 g.1) q h in
           (subst (λ u. Selects (Field k offset rest) u (shape q)) (sym e) (shape r, at, l.0), l.1)
-  selected_told (Index at i low high stride rest) p f q h = go (seen (table text) p) (shape p) (shows p) f (index_seen (table text) text.sizes.now (seen (table text) p) low high stride) refl h
+  selected_told (Index at i low high stride rest) p f q h = go (λ r f x h. selected_told rest r f x h) (seen (table text) p) (shape p) (shows p) f (index_seen (table text) text.sizes.now (seen (table text) p) low high stride) refl h
     where
-      go : (v : Seen) (u : Shape) → Shows v u → Fits u → (o : Option Place) → index_seen (table text) text.sizes.now v low high stride ≡ o → selected (table text) text.sizes.now rest o ≡ Some q → Led (Index at i low high stride rest) u q
-      go v u e f None is h = absurd (none_selected rest q h)
-      go (Fields fs) u e f (Some r) is h = cc
-      go Other u e f (Some r) is h = cc
-      go (Along b x) u e f (Some r) is h =
+      go : ((r : Place) → Fits (shape r) → (x : Place) → selected (table text) text.sizes.now rest (Some r) ≡ Some x → Led rest (shape r) x) → (v : Seen) (u : Shape) → Shows v u → Fits u → (o : Option Place) → index_seen (table text) text.sizes.now v low high stride ≡ o → selected (table text) text.sizes.now rest o ≡ Some q → Led (Index at i low high stride rest) u q
+      go ih v u e f None is h = absurd (none_selected rest q h)
+      go ih (Fields fs) u e f (Some r) is h = cc
+      go ih Other u e f (Some r) is h = cc
+      go ih (Along b x) u e f (Some r) is h =
           let g : Fits (Dimension b.low b.high (shape x)) = subst Fits e f in
           let d = dimension_fits b.low b.high (shape x) g in
           let a = along_told b x r low high stride is in
-          let l = selected_told rest r (subst (λ x. Fits (shape x)) a.3 d) q h in
-          (subst (λ u. Selects (Index at i low high stride rest) u (shape q)) (sym e)
-            (a.0, a.1, a.2 ∙ cells_exact x d.1, subst (λ (x : Place). Selects rest (shape x) (shape q)) (sym a.3) l.0), l.1)
+          let l = ih r (subst (λ x. Fits (shape x)) a.3 d) q h in (
+            subst (λ u. Selects (Index at i low high stride rest) u (shape q)) (sym e)
+                (a.0, a.1, a.2 ∙ cells_exact x d.1, subst (λ (x : Place). Selects rest (shape x) (shape q)) (sym a.3) l.0),
+            l.1,
+          )
 
   abbrev Lead : Selections → Place → Shape → Type 0
   Lead s p u = (q : Place) × (selected (table text) text.sizes.now s (Some p) ≡ Some q) × (shape q ≡ u) × Fits (shape q)
@@ -281,31 +290,31 @@ module _ (text : walk.Text) (grounded : IsGrounded (table text)) (full : (n : �
   pub selected_tells : (s : Selections) (p : Place) → Fits (shape p) → (u : Shape) → Selects s (shape p) u → Lead s p u
   unfolding selected
   selected_tells Whole p f u h = (p, refl, sym h, f)
-  selected_tells (Field k offset rest) p f u h = go (seen (table text) p) (shape p) (shows p) f h
+  selected_tells (Field k offset rest) p f u h = go (λ r f x h. selected_tells rest r f x h) (seen (table text) p) (shape p) (shows p) f h
     where
-      go : (v : Seen) (t : Shape) → Shows v t → Fits t → Selects (Field k offset rest) t u → (q : Place) × (selected (table text) text.sizes.now rest (field_seen (table text) text.sizes.now v k offset) ≡ Some q) × (shape q ≡ u) × Fits (shape q)
-      go (Along b x) t e f h = absurd (subst (λ t. Selects (Field k offset rest) t u) e h)
-      go Other t (inl e) f h = absurd (subst (λ t. Selects (Field k offset rest) t u) e h)
-      go Other t (inr e) f h = let j : Selects (Field k offset rest) (Record NoShape) u = subst (λ t. Selects (Field k offset rest) t u) e h in absurd j.1
-      go (Fields fs) t e f h =
+      go : ((r : Place) → Fits (shape r) → (x : Shape) → Selects rest (shape r) x → Lead rest r x) → (v : Seen) (t : Shape) → Shows v t → Fits t → Selects (Field k offset rest) t u → (q : Place) × (selected (table text) text.sizes.now rest (field_seen (table text) text.sizes.now v k offset) ≡ Some q) × (shape q ≡ u) × Fits (shape q)
+      go ih (Along b x) t e f h = absurd (subst (λ t. Selects (Field k offset rest) t u) e h)
+      go ih Other t (inl e) f h = absurd (subst (λ t. Selects (Field k offset rest) t u) e h)
+      go ih Other t (inr e) f h = let j : Selects (Field k offset rest) (Record NoShape) u = subst (λ t. Selects (Field k offset rest) t u) e h in absurd j.1
+      go ih (Fields fs) t e f h =
           let g : Fits (Record (fields_of S fs)) = subst Fits e f in
           let j : Selects (Field k offset rest) (Record (fields_of S fs)) u = subst (λ t. Selects (Field k offset rest) t u) e h in
           let r = field_tells fs k offset j.0 g.1 j.1 in
           let fits = field_fits (fields_of S fs) k offset j.0 j.1 g.0 g.1 in
-          let l = selected_tells rest r.0 (subst Fits (sym r.2) fits) u (subst (λ t. Selects rest t u) (sym r.2) j.2) in
+          let l = ih r.0 (subst Fits (sym r.2) fits) u (subst (λ t. Selects rest t u) (sym r.2) j.2) in
           (l.0, ap (selected (table text) text.sizes.now rest) r.1 ∙ l.1, l.2, l.3)
-  selected_tells (Index at i low high stride rest) p f u h = go (seen (table text) p) (shape p) (shows p) f h
+  selected_tells (Index at i low high stride rest) p f u h = go (λ r f x h. selected_tells rest r f x h) (seen (table text) p) (shape p) (shows p) f h
     where
-      go : (v : Seen) (t : Shape) → Shows v t → Fits t → Selects (Index at i low high stride rest) t u → (q : Place) × (selected (table text) text.sizes.now rest (index_seen (table text) text.sizes.now v low high stride) ≡ Some q) × (shape q ≡ u) × Fits (shape q)
-      go (Fields fs) t e f h = absurd (subst (λ t. Selects (Index at i low high stride rest) t u) e h)
-      go Other t (inl e) f h = absurd (subst (λ t. Selects (Index at i low high stride rest) t u) e h)
-      go Other t (inr e) f h = absurd (subst (λ t. Selects (Index at i low high stride rest) t u) e h)
-      go (Along b x) t e f h =
+      go : ((r : Place) → Fits (shape r) → (x : Shape) → Selects rest (shape r) x → Lead rest r x) → (v : Seen) (t : Shape) → Shows v t → Fits t → Selects (Index at i low high stride rest) t u → (q : Place) × (selected (table text) text.sizes.now rest (index_seen (table text) text.sizes.now v low high stride) ≡ Some q) × (shape q ≡ u) × Fits (shape q)
+      go ih (Fields fs) t e f h = absurd (subst (λ t. Selects (Index at i low high stride rest) t u) e h)
+      go ih Other t (inl e) f h = absurd (subst (λ t. Selects (Index at i low high stride rest) t u) e h)
+      go ih Other t (inr e) f h = absurd (subst (λ t. Selects (Index at i low high stride rest) t u) e h)
+      go ih (Along b x) t e f h =
           let g : Fits (Dimension b.low b.high (shape x)) = subst Fits e f in
           let d = dimension_fits b.low b.high (shape x) g in
           let j : Selects (Index at i low high stride rest) (Dimension b.low b.high (shape x)) u = subst (λ t. Selects (Index at i low high stride rest) t u) e h in
           let is = along_tells b x low high stride j.0 j.1 (j.2 ∙ sym (cells_exact x d.1)) in
-          let l = selected_tells rest x d u j.3 in
+          let l = ih x d u j.3 in
           (l.0, ap (selected (table text) text.sizes.now rest) is ∙ l.1, l.2, l.3)
 
   -- components
@@ -317,33 +326,33 @@ module _ (text : walk.Text) (grounded : IsGrounded (table text)) (full : (n : �
       go : (c : Bool) → nat_eq n 1 ≡ c → cond c (Some p) None ≡ Some q → ((n ≡ 1) × (shape q ≡ shape p)) × Fits (shape q)
       go true e h = let s = some_same p q h in ((eqb-true n 1 e, ap shape (sym s)), subst (λ p. Fits (shape p)) s f)
       go false e h = cc
-  below_told (suc d) p f n q h = go (seen (table text) p) (shape p) (shows p) f h
+  below_told (suc d) p f n q h = go (λ x f m h. below_told d x f m q h) (seen (table text) p) (shape p) (shows p) f h
     where
-      on : (b : Bounds) (x : Place) (u : Shape) → u ≡ Dimension b.low b.high (shape x) → Fits u → (o : Option ℕ) → quotient n (count b.low b.high) ≡ o → follow (rest_along x o) (λ x m. below (table text) text.sizes.now d x m) ≡ Some q → ComponentAt u (suc d) n (shape q) × Fits (shape q)
-      on b x u e f None is h = cc
-      on b x u e f (Some m) is h =
+      on : ((x : Place) → Fits (shape x) → (m : ℕ) → below (table text) text.sizes.now d x m ≡ Some q → ComponentAt (shape x) d m (shape q) × Fits (shape q)) → (b : Bounds) (x : Place) (u : Shape) → u ≡ Dimension b.low b.high (shape x) → Fits u → (o : Option ℕ) → quotient n (count b.low b.high) ≡ o → follow (rest_along x o) (λ x m. below (table text) text.sizes.now d x m) ≡ Some q → ComponentAt u (suc d) n (shape q) × Fits (shape q)
+      on ih b x u e f None is h = cc
+      on ih b x u e f (Some m) is h =
           let g : Fits (Dimension b.low b.high (shape x)) = subst Fits e f in
-          let r = below_told d x (dimension_fits b.low b.high (shape x) g) m q h in
+          let r = ih x (dimension_fits b.low b.high (shape x) g) m h in
           (subst (λ u. ComponentAt u (suc d) n (shape q)) (sym e) (m, quotient_told n (count b.low b.high) m is, r.0), r.1)
 
-      go : (v : Seen) (u : Shape) → Shows v u → Fits u → follow (rest_seen v n) (λ x m. below (table text) text.sizes.now d x m) ≡ Some q → ComponentAt u (suc d) n (shape q) × Fits (shape q)
-      go (Fields fs) u e f h = cc
-      go Other u e f h = cc
-      go (Along b x) u e f h = on b x u e f (quotient n (count b.low b.high)) refl h
+      go : ((x : Place) → Fits (shape x) → (m : ℕ) → below (table text) text.sizes.now d x m ≡ Some q → ComponentAt (shape x) d m (shape q) × Fits (shape q)) → (v : Seen) (u : Shape) → Shows v u → Fits u → follow (rest_seen v n) (λ x m. below (table text) text.sizes.now d x m) ≡ Some q → ComponentAt u (suc d) n (shape q) × Fits (shape q)
+      go ih (Fields fs) u e f h = cc
+      go ih Other u e f h = cc
+      go ih (Along b x) u e f h = on ih b x u e f (quotient n (count b.low b.high)) refl h
 
   pub below_tells : (d : ℕ) (p : Place) → Fits (shape p) → (n : ℕ) (t : Shape) → ComponentAt (shape p) d n t → (q : Place) × (below (table text) text.sizes.now d p n ≡ Some q) × (shape q ≡ t) × Fits (shape q)
   unfolding below
   below_tells zero p f n t h = (p, ap (λ c. cond c (Some p) None) (eq-eqb n 1 h.0), sym h.1, f)
-  below_tells (suc d) p f n t h = go (seen (table text) p) (shape p) (shows p) f h
+  below_tells (suc d) p f n t h = go (λ x f m h. below_tells d x f m t h) (seen (table text) p) (shape p) (shows p) f h
     where
-      go : (v : Seen) (u : Shape) → Shows v u → Fits u → ComponentAt u (suc d) n t → (q : Place) × (follow (rest_seen v n) (λ x m. below (table text) text.sizes.now d x m) ≡ Some q) × (shape q ≡ t) × Fits (shape q)
-      go (Fields fs) u e f h = absurd (subst (λ u. ComponentAt u (suc d) n t) e h)
-      go Other u (inl e) f h = absurd (subst (λ u. ComponentAt u (suc d) n t) e h)
-      go Other u (inr e) f h = absurd (subst (λ u. ComponentAt u (suc d) n t) e h)
-      go (Along b x) u e f h =
+      go : ((x : Place) → Fits (shape x) → (m : ℕ) → ComponentAt (shape x) d m t → (q : Place) × (below (table text) text.sizes.now d x m ≡ Some q) × (shape q ≡ t) × Fits (shape q)) → (v : Seen) (u : Shape) → Shows v u → Fits u → ComponentAt u (suc d) n t → (q : Place) × (follow (rest_seen v n) (λ x m. below (table text) text.sizes.now d x m) ≡ Some q) × (shape q ≡ t) × Fits (shape q)
+      go ih (Fields fs) u e f h = absurd (subst (λ u. ComponentAt u (suc d) n t) e h)
+      go ih Other u (inl e) f h = absurd (subst (λ u. ComponentAt u (suc d) n t) e h)
+      go ih Other u (inr e) f h = absurd (subst (λ u. ComponentAt u (suc d) n t) e h)
+      go ih (Along b x) u e f h =
           let g : Fits (Dimension b.low b.high (shape x)) = subst Fits e f in
           let j : ComponentAt (Dimension b.low b.high (shape x)) (suc d) n t = subst (λ u. ComponentAt u (suc d) n t) e h in
-          let r = below_tells d x (dimension_fits b.low b.high (shape x) g) j.0 t j.2 in
+          let r = ih x (dimension_fits b.low b.high (shape x) g) j.0 j.2 in
           (r.0, ap (λ o. follow (rest_along x o) (λ x m. below (table text) text.sizes.now d x m)) (quotient_tells n (count b.low b.high) j.0 g.0.0 j.1) ∙ r.1, r.2, r.3)
 
   -- roots
@@ -372,21 +381,21 @@ module _ (text : walk.Text) (grounded : IsGrounded (table text)) (full : (n : �
 
   constant_is : (k : ℕ) (w : Scope) → option_map shape (item_of true k w) ≡ (known_of w).constant k
   constant_is k (Alone n) = refl
-  constant_is k (Binding true j p w) = go (nat_eq k j)
+  constant_is k (Binding true j p w) = go (constant_is k w) (nat_eq k j)
     where
-      go : (c : Bool) → option_map shape (cond c (Some p) (item_of true k w)) ≡ cond c (Some (shape p)) ((known_of w).constant k)
-      go true = refl
-      go false = constant_is k w
+      go : option_map shape (item_of true k w) ≡ (known_of w).constant k → (c : Bool) → option_map shape (cond c (Some p) (item_of true k w)) ≡ cond c (Some (shape p)) ((known_of w).constant k)
+      go ih true = refl
+      go ih false = ih
   constant_is k (Binding false j p w) = constant_is k w
   constant_is k (Aiming p w) = constant_is k w
 
   item_is : (k : ℕ) (w : Scope) → option_map shape (item_of false k w) ≡ (known_of w).item k
   item_is k (Alone n) = refl
-  item_is k (Binding false j p w) = go (nat_eq k j)
+  item_is k (Binding false j p w) = go (item_is k w) (nat_eq k j)
     where
-      go : (c : Bool) → option_map shape (cond c (Some p) (item_of false k w)) ≡ cond c (Some (shape p)) ((known_of w).item k)
-      go true = refl
-      go false = item_is k w
+      go : option_map shape (item_of false k w) ≡ (known_of w).item k → (c : Bool) → option_map shape (cond c (Some p) (item_of false k w)) ≡ cond c (Some (shape p)) ((known_of w).item k)
+      go ih true = refl
+      go ih false = ih
   item_is k (Binding true j p w) = item_is k w
   item_is k (Aiming p w) = item_is k w
 
@@ -404,16 +413,16 @@ module _ (text : walk.Text) (grounded : IsGrounded (table text)) (full : (n : �
 
   item_fits : (constant : Bool) (k : ℕ) (w : Scope) → Small w → (p : Place) → item_of constant k w ≡ Some p → Fits (shape p)
   item_fits constant k (Alone n) s p e = cc
-  item_fits true k (Binding true j q w) s p e = go (nat_eq k j) e
+  item_fits true k (Binding true j q w) s p e = go (λ e. item_fits true k w s.1 p e) (nat_eq k j) e
     where
-      go : (c : Bool) → cond c (Some q) (item_of true k w) ≡ Some p → Fits (shape p)
-      go true e = subst (λ p. Fits (shape p)) (some_same q p e) s.0
-      go false e = item_fits true k w s.1 p e
-  item_fits false k (Binding false j q w) s p e = go (nat_eq k j) e
+      go : (item_of true k w ≡ Some p → Fits (shape p)) → (c : Bool) → cond c (Some q) (item_of true k w) ≡ Some p → Fits (shape p)
+      go ih true e = subst (λ p. Fits (shape p)) (some_same q p e) s.0
+      go ih false e = ih e
+  item_fits false k (Binding false j q w) s p e = go (λ e. item_fits false k w s.1 p e) (nat_eq k j) e
     where
-      go : (c : Bool) → cond c (Some q) (item_of false k w) ≡ Some p → Fits (shape p)
-      go true e = subst (λ p. Fits (shape p)) (some_same q p e) s.0
-      go false e = item_fits false k w s.1 p e
+      go : (item_of false k w ≡ Some p → Fits (shape p)) → (c : Bool) → cond c (Some q) (item_of false k w) ≡ Some p → Fits (shape p)
+      go ih true e = subst (λ p. Fits (shape p)) (some_same q p e) s.0
+      go ih false e = ih e
   item_fits true k (Binding false j q w) s p e = item_fits true k w s.1 p e
   item_fits false k (Binding true j q w) s p e = item_fits false k w s.1 p e
   item_fits constant k (Aiming q w) s p e = item_fits constant k w s.1 p e
@@ -492,7 +501,7 @@ module _ (text : walk.Text) (grounded : IsGrounded (table text)) (full : (n : �
   fit_tells p n m means f h = let le = (means (size (shape p)) f.1).1 h in let e = cells_exact p f.1 in le-leb n (cells (table text) text.sizes.now p) (omega arith)
 
   spans_law : (constant : Bool) (from : Root) (s : Selections) (w : Scope) → Small w → (n m : ℕ) → Means n m → (b : Bool) → Adds b (spans text constant from s n w b) ((u : Shape) × NamesIn constant (known_of w) from s u × (m ≤ size u))
-  unfolding spans, fits
+  unfolding spans fits
   spans_law constant from s w small n m means b = go (named text constant from s w) refl
     where
       go : (o : Option Place) → named text constant from s w ≡ o → Adds b (fits text o n b) ((u : Shape) × NamesIn constant (known_of w) from s u × (m ≤ size u))
@@ -504,10 +513,10 @@ module _ (text : walk.Text) (grounded : IsGrounded (table text)) (full : (n : �
           let t = named_told constant from s w small p e in
           asks b (nat_le n (cells (table text) text.sizes.now p)) (λ h. (shape p, t.0, fit_told p n m means t.1 h))
           (λ h. let r = named_tells constant from s w small h.0 h.1 in let same : p ≡ r.0 = some_same p r.0 (sym e ∙ r.1) in
-            fit_tells p n m means t.1 (subst (λ u. m ≤ size u) (sym (ap shape same ∙ r.2)) h.2))
+          fit_tells p n m means t.1 (subst (λ u. m ≤ size u) (sym (ap shape same ∙ r.2)) h.2))
 
   aims_law : (w : Scope) → Small w → (n m : ℕ) → Means n m → (b : Bool) → Adds b (aims text n w b) (Aims (known_of w) m)
-  unfolding aims, fits
+  unfolding aims fits
   aims_law w small n m means b = go (target_of w) refl
     where
       go : (o : Option Place) → target_of w ≡ o → Adds b (fits text o n b) (Aims (known_of w) m)
@@ -529,10 +538,11 @@ module _ (text : walk.Text) (grounded : IsGrounded (table text)) (full : (n : �
   most_cells (WholeConstant at from selections subtype) n s h = let m = means_cells subtype s h in ((λ le. (omega arith, m.0 (omega arith))), (λ le ce. let k = m.1 ce in omega arith))
   most_cells (WholeTarget at subtype) n s h = let m = means_cells subtype s h in ((λ le. (omega arith, m.0 (omega arith))), (λ le ce. let k = m.1 ce in omega arith))
   most_cells (CompositeIf condition value otherwise) n s h =
-      let first = most_cells value n s h in let second = most_cells otherwise (wide_composite text value n) s h in
-      ((λ le. let k = second.0 le in let g = first.0 k.0 in let v = g.1 in let o = k.1 in (g.0, omega arith)),
-        (λ le ce. second.1 (first.1 le (omega arith)) (omega arith)))
-  most_cells (Aggregate at size associations) n s h = ((λ le. (omega arith, omega arith)), (λ le ce. omega arith))
+      let first = most_cells value n s h in let second = most_cells otherwise (wide_composite text value n) s h in (
+        (λ le. let k = second.0 le in let g = first.0 k.0 in let v = g.1 in let o = k.1 in (g.0, omega arith)),
+        (λ le ce. second.1 (first.1 le (omega arith)) (omega arith)),
+      )
+  most_cells (Aggregate at cells' associations) n s h = ((λ le. (omega arith, omega arith)), (λ le ce. omega arith))
 
   means_wide : (v : Value) → Means (wide text v) (width (table text) v)
   unfolding wide
@@ -553,7 +563,8 @@ module _ (text : walk.Text) (grounded : IsGrounded (table text)) (full : (n : �
           let n = named_told constant from s w small p e in
           let l = below_told dimensions p n.1 number r is in
           let same = some_same r q h in
-          (shape p, n.0, subst (λ (r : Place). ComponentAt (shape p) dimensions number (shape r) × (stride ≡ size (shape r)) × Fits (shape r)) same (l.0, eqb-true stride (cells (table text) text.sizes.now r) f ∙ cells_exact r l.1.1, l.1))
+          let m = eqb-true stride (cells (table text) text.sizes.now r) f ∙ cells_exact r l.1.1 in
+          (shape p, n.0, subst (λ (r : Place). ComponentAt (shape p) dimensions number (shape r)) same l.0, subst (λ (r : Place). stride ≡ size (shape r)) same m, subst (λ (r : Place). Fits (shape r)) same l.1)
       part p e r is false f h = cc
 
       below_at : (p : Place) → named text constant from s w ≡ Some p → (o : Option Place) → below (table text) text.sizes.now dimensions p number ≡ o → strided (table text) text.sizes.now stride o ≡ Some q → Claim
@@ -573,7 +584,7 @@ module _ (text : walk.Text) (grounded : IsGrounded (table text)) (full : (n : �
       (r.0, ap (component_of (table text) text.sizes.now dimensions number stride) n.1 ∙ ap (strided (table text) text.sizes.now stride) r.1 ∙ ap (λ c. cond c (Some r.0) None) (eq-eqb stride (cells (table text) text.sizes.now r.0) is), r.2, r.3)
 
   item_law : (constant : Bool) (from : Root) (s : Selections) (number stride dimensions : ℕ) (w : Scope) → Small w → (body : Place → Bool → Bool) (Formed : Shape → Type 0) (b c : Bool) (F : Type 0) → Adds b c F → ((p : Place) → Fits (shape p) → (c : Bool) → Adds c (body p c) (Formed (shape p)))
-    → Adds b (with_place (component_of (table text) text.sizes.now dimensions number stride (named text constant from s w)) (λ p. body p c)) (F × ((u t : Shape) × NamesIn constant (known_of w) from s u × ComponentAt u dimensions number t × (stride ≡ size t) × Formed t))
+      → Adds b (with_place (component_of (table text) text.sizes.now dimensions number stride (named text constant from s w)) (λ p. body p c)) (F × ((u t : Shape) × NamesIn constant (known_of w) from s u × ComponentAt u dimensions number t × (stride ≡ size t) × Formed t))
   item_law constant from s number stride dimensions w small body Formed b c F first inside = go (component_of (table text) text.sizes.now dimensions number stride (named text constant from s w)) refl
     where
       Asked : Type 0
@@ -590,9 +601,9 @@ module _ (text : walk.Text) (grounded : IsGrounded (table text)) (full : (n : �
           record {
             told = λ h. let k = i.told h in let g = first.told k.0 in (g.0, (g.1, (t.0, shape q, t.1, t.2, t.3, k.1)));
             tells = λ h p.
-              let r = component_tells constant from s number stride dimensions w small p.1.0 p.1.1 p.1.2 p.1.3 p.1.4 in
-              let same : p.1.1 ≡ shape q = sym r.2 ∙ ap shape (sym (some_same q r.0 (sym e ∙ r.1))) in
-              i.tells (first.tells h p.0) (subst Formed same p.1.5);
+                let r = component_tells constant from s number stride dimensions w small p.1.0 p.1.1 p.1.2 p.1.3 p.1.4 in
+                let same : p.1.1 ≡ shape q = sym r.2 ∙ ap shape (sym (some_same q r.0 (sym e ∙ r.1))) in
+                i.tells (first.tells h p.0) (subst Formed same p.1.5);
           }
 
   -- the text
@@ -612,9 +623,29 @@ module _ (text : walk.Text) (grounded : IsGrounded (table text)) (full : (n : �
   reducer_law (Operator at op class) w b = settled_law class b
   reducer_law (Function at s accumulator value) w b = called_law s w b
 
+  -- what stands in an iteration beside its body
+  abbrev Parts : Iteration → Scope → Type 0
+  Parts (Range k reverse low high check filter) w = (b : Bool) → Adds b (decided_optional text filter w (decided_expr text high w (decided_expr text low w b))) (FormedExpr (program text.typed.now) (known_of w) low × FormedExpr (program text.typed.now) (known_of w) high × FormedOptional (program text.typed.now) (known_of w) filter)
+  Parts (Components k constant at from selections number stride dimensions filter) w = ((b : Bool) → Adds b (decided_selections text selections w b) (FormedSelections (program text.typed.now) (known_of w) selections)) × ((p : Place) → Fits (shape p) → (b : Bool) → Adds b (decided_optional text filter (Binding constant k p w) b) (FormedOptional (program text.typed.now) (known_of (Binding constant k p w)) filter))
+
+  of_parts : (x : Iteration) (body : Scope → Bool → Bool) (Formed : Known → Type 0) → ((w : Scope) → Small w → (b : Bool) → Adds b (body w b) (Formed (known_of w))) → (w : Scope) → Small w → Parts x w → (b : Bool) → Adds b (decided_iteration text x body w b) (FormedIteration (program text.typed.now) (known_of w) x Formed)
+  unfolding decided_iteration
+  of_parts (Range k reverse low high check filter) body Formed law w s parts b = like (λ a. (a.0.0, a.0.1, a.0.2, a.1)) (λ a. ((a.0, a.1, a.2), a.3)) (both (parts b) (law w s _))
+  of_parts (Components k true at from selections number stride dimensions filter) body Formed law w s parts b =
+      like (λ a. (a.0, (a.1.0, a.1.1, a.1.2, a.1.3, a.1.4, a.1.5.0, a.1.5.1))) (λ a. (a.0, (a.1.0, a.1.1, a.1.2, a.1.3, a.1.4, (a.1.5, a.1.6)))) (item_law true from selections number stride dimensions w s (λ p c. body (Binding true k p w) (decided_optional text filter (Binding true k p w) c))
+      (λ t. FormedOptional (program text.typed.now) (with_constant k t (known_of w)) filter × Formed (with_constant k t (known_of w)))
+      b (decided_selections text selections w b) (FormedSelections (program text.typed.now) (known_of w) selections) (parts.0 b)
+      (λ p f c. both (parts.1 p f c) (law (Binding true k p w) (f, s) _)))
+  of_parts (Components k false at from selections number stride dimensions filter) body Formed law w s parts b =
+      like (λ a. (a.0, (a.1.0, a.1.1, a.1.2, a.1.3, a.1.4, a.1.5.0, a.1.5.1))) (λ a. (a.0, (a.1.0, a.1.1, a.1.2, a.1.3, a.1.4, (a.1.5, a.1.6)))) (item_law false from selections number stride dimensions w s (λ p c. body (Binding false k p w) (decided_optional text filter (Binding false k p w) c))
+      (λ t. FormedOptional (program text.typed.now) (with_shape k t (known_of w)) filter × Formed (with_shape k t (known_of w)))
+      b (decided_selections text selections w b) (FormedSelections (program text.typed.now) (known_of w) selections) (parts.0 b)
+      (λ p f c. both (parts.1 p f c) (law (Binding false k p w) (f, s) _)))
+
   mutual
+    unfolding decided_expr decided_exprs decided_optional decided_selections decided_actuals decided_value decided_composite decided_associations decided_iteration decided_chunk
+
     law_expr : (x : Expr) (w : Scope) → Small w → (b : Bool) → Adds b (decided_expr text x w b) (FormedExpr (program text.typed.now) (known_of w) x)
-    unfolding decided_expr
     law_expr (Static at value literal mentions) w s b = law_exprs mentions w s b
     law_expr (Variable at from selections scalar) w s b = both (spans_law false from selections w s 1 1 (means_itself 1) b) (law_selections selections w s _)
     law_expr (Constant at from selections scalar) w s b = both (spans_law true from selections w s 1 1 (means_itself 1) b) (law_selections selections w s _)
@@ -622,80 +653,58 @@ module _ (text : walk.Text) (grounded : IsGrounded (table text)) (full : (n : �
     law_expr (Target at scalar) w s b = aims_law w s 1 1 (means_itself 1) b
     law_expr (Group e) w s b = law_expr e w s b
     law_expr (Unary at sign class e) w s b = both (settled_law class b) (law_expr e w s _)
-    law_expr (Binary at op class e f) w s b = both (settled_law class b) (flip (law_expr f w s _) (law_expr e w s _))
+    law_expr (Binary at op class e f) w s b = three (both (settled_law class b) (flip (law_expr f w s _) (law_expr e w s _)))
     law_expr (AndThen e f) w s b = flip (law_expr f w s b) (law_expr e w s _)
     law_expr (OrElse e f) w s b = flip (law_expr f w s b) (law_expr e w s _)
-    law_expr (Relation class comparison e f) w s b = both (settled_law class b) (flip (law_expr f w s _) (law_expr e w s _))
-    law_expr (Membership class negated e low high) w s b = both (settled_law class b) (both (law_expr e w s _) (both (law_expr low w s _) (law_expr high w s _)))
-    law_expr (If condition value otherwise) w s b = both (law_expr condition w s b) (both (law_expr value w s _) (law_expr otherwise w s _))
+    law_expr (Relation class comparison e f) w s b = three (both (settled_law class b) (flip (law_expr f w s _) (law_expr e w s _)))
+    law_expr (Membership class negated e low high) w s b = four (both (settled_law class b) (both (law_expr e w s _) (both (law_expr low w s _) (law_expr high w s _))))
+    law_expr (If condition value otherwise) w s b = three (both (law_expr condition w s b) (both (law_expr value w s _) (law_expr otherwise w s _)))
     law_expr (Call at callee sub actuals) w s b = both (called_law sub w b) (law_actuals actuals w s _)
     law_expr (Convert check e) w s b = law_expr e w s b
     law_expr (Reduction at attribute by initial site chunk iteration value) w s b =
-        both (reducer_law by w b) (both (law_expr initial w s _) (both (law_chunk chunk w s _) (law_iteration iteration (λ v c. decided_expr text value v c) (λ v. FormedExpr (program text.typed.now) v value) (λ v t c. law_expr value v t c) w s _)))
+        four (both (reducer_law by w b) (both (law_expr initial w s _) (both (law_chunk chunk w s _) (of_parts iteration (λ v c. decided_expr text value v c) (λ v. FormedExpr (program text.typed.now) v value) (λ v t c. law_expr value v t c) w s (law_parts iteration w s) _))))
 
     law_exprs : (x : Exprs) (w : Scope) → Small w → (b : Bool) → Adds b (decided_exprs text x w b) (FormedExprs (program text.typed.now) (known_of w) x)
-    unfolding decided_exprs
     law_exprs NoExpr w s b = nothing b
     law_exprs (AlsoExpr e es) w s b = both (law_expr e w s b) (law_exprs es w s _)
 
     law_optional : (x : Optional) (w : Scope) → Small w → (b : Bool) → Adds b (decided_optional text x w b) (FormedOptional (program text.typed.now) (known_of w) x)
-    unfolding decided_optional
     law_optional Absent w s b = nothing b
     law_optional (Present e) w s b = law_expr e w s b
 
     law_selections : (x : Selections) (w : Scope) → Small w → (b : Bool) → Adds b (decided_selections text x w b) (FormedSelections (program text.typed.now) (known_of w) x)
-    unfolding decided_selections
     law_selections Whole w s b = nothing b
     law_selections (Field number offset rest) w s b = law_selections rest w s b
     law_selections (Index at e low high stride rest) w s b = both (law_expr e w s b) (law_selections rest w s _)
 
     law_actuals : (x : Actuals) (w : Scope) → Small w → (b : Bool) → Adds b (decided_actuals text x w b) (FormedActuals (program text.typed.now) (known_of w) x)
-    unfolding decided_actuals
     law_actuals NoActual w s b = nothing b
     law_actuals (In formal value rest) w s b = both (law_value value w s b) (law_actuals rest w s _)
-    law_actuals (InOut formal at from selections inner outer rest) w s b = both (spans_law false from selections w s 1 1 (means_itself 1) b) (both (law_selections selections w s _) (law_actuals rest w s _))
-    law_actuals (Out formal at from selections inner outer rest) w s b = both (spans_law false from selections w s 1 1 (means_itself 1) b) (both (law_selections selections w s _) (law_actuals rest w s _))
-    law_actuals (CompositeInOut formal at from selections subtype rest) w s b = both (spans_law false from selections w s (cells_at text subtype) (cells_of (table text) subtype) (means_cells subtype) b) (both (law_selections selections w s _) (law_actuals rest w s _))
-    law_actuals (CompositeOut formal at from selections subtype rest) w s b = both (spans_law false from selections w s (cells_at text subtype) (cells_of (table text) subtype) (means_cells subtype) b) (both (law_selections selections w s _) (law_actuals rest w s _))
+    law_actuals (InOut formal at from selections inner outer rest) w s b = three (both (spans_law false from selections w s 1 1 (means_itself 1) b) (both (law_selections selections w s _) (law_actuals rest w s _)))
+    law_actuals (Out formal at from selections inner outer rest) w s b = three (both (spans_law false from selections w s 1 1 (means_itself 1) b) (both (law_selections selections w s _) (law_actuals rest w s _)))
+    law_actuals (CompositeInOut formal at from selections subtype rest) w s b = three (both (spans_law false from selections w s (cells_at text subtype) (cells_of (table text) subtype) (means_cells subtype) b) (both (law_selections selections w s _) (law_actuals rest w s _)))
+    law_actuals (CompositeOut formal at from selections subtype rest) w s b = three (both (spans_law false from selections w s (cells_at text subtype) (cells_of (table text) subtype) (means_cells subtype) b) (both (law_selections selections w s _) (law_actuals rest w s _)))
 
     law_value : (x : Value) (w : Scope) → Small w → (b : Bool) → Adds b (decided_value text x w b) (FormedValue (program text.typed.now) (known_of w) x)
-    unfolding decided_value
     law_value (Number check e) w s b = law_expr e w s b
     law_value (Cells c) w s b = law_composite c w s b
 
     law_composite : (x : Composite) (w : Scope) → Small w → (b : Bool) → Adds b (decided_composite text x w b) (FormedComposite (program text.typed.now) (known_of w) x)
-    unfolding decided_composite
     law_composite (WholeVariable at from selections subtype) w s b = both (spans_law false from selections w s (cells_at text subtype) (cells_of (table text) subtype) (means_cells subtype) b) (law_selections selections w s _)
     law_composite (WholeConstant at from selections subtype) w s b = both (spans_law true from selections w s (cells_at text subtype) (cells_of (table text) subtype) (means_cells subtype) b) (law_selections selections w s _)
     law_composite (WholeTarget at subtype) w s b = aims_law w s (cells_at text subtype) (cells_of (table text) subtype) (means_cells subtype) b
-    law_composite (CompositeIf condition value otherwise) w s b = both (law_expr condition w s b) (both (law_composite value w s _) (law_composite otherwise w s _))
-    law_composite (Aggregate at size associations) w s b = law_associations associations w s b
+    law_composite (CompositeIf condition value otherwise) w s b = three (both (law_expr condition w s b) (both (law_composite value w s _) (law_composite otherwise w s _)))
+    law_composite (Aggregate at cells' associations) w s b = law_associations associations w s b
 
     law_associations : (x : Associations) (w : Scope) → Small w → (b : Bool) → Adds b (decided_associations text x w b) (FormedAssociations (program text.typed.now) (known_of w) x)
-    unfolding decided_associations
     law_associations NoAssociation w s b = nothing b
-    law_associations (Association runs iterated mentions value rest) w s b = both (law_exprs mentions w s b) (both (law_value value w s _) (law_associations rest w s _))
+    law_associations (Association runs iterated mentions value rest) w s b = three (both (law_exprs mentions w s b) (both (law_value value w s _) (law_associations rest w s _)))
 
-    law_iteration : (x : Iteration) (body : Scope → Bool → Bool) (Formed : Known → Type 0) → ((w : Scope) → Small w → (b : Bool) → Adds b (body w b) (Formed (known_of w))) → (w : Scope) → Small w → (b : Bool) → Adds b (decided_iteration text x body w b) (FormedIteration (program text.typed.now) (known_of w) x Formed)
-    unfolding decided_iteration, component_of
-    law_iteration (Range k reverse low high check filter) body Formed law w s b = both (law_expr low w s b) (both (law_expr high w s _) (both (law_optional filter w s _) (law w s _)))
-    law_iteration (Components k true at from selections number stride dimensions filter) body Formed law w s b = item_law true from selections number stride dimensions w s body' (λ t. FormedOptional (program text.typed.now) (with_constant k t (known_of w)) filter × Formed (with_constant k t (known_of w))) b (decided_selections text selections w b) (FormedSelections (program text.typed.now) (known_of w) selections) (law_selections selections w s b) inside
-      where
-        body' : Place → Bool → Bool
-        body' p c = body (Binding true k p w) (decided_optional text filter (Binding true k p w) c)
-
-        inside : (p : Place) → Fits (shape p) → (c : Bool) → Adds c (body' p c) (FormedOptional (program text.typed.now) (with_constant k (shape p) (known_of w)) filter × Formed (with_constant k (shape p) (known_of w)))
-        inside p f c = both (law_optional filter (Binding true k p w) (f, s) c) (law (Binding true k p w) (f, s) _)
-    law_iteration (Components k false at from selections number stride dimensions filter) body Formed law w s b = item_law false from selections number stride dimensions w s body' (λ t. FormedOptional (program text.typed.now) (with_shape k t (known_of w)) filter × Formed (with_shape k t (known_of w))) b (decided_selections text selections w b) (FormedSelections (program text.typed.now) (known_of w) selections) (law_selections selections w s b) inside
-      where
-        body' : Place → Bool → Bool
-        body' p c = body (Binding false k p w) (decided_optional text filter (Binding false k p w) c)
-
-        inside : (p : Place) → Fits (shape p) → (c : Bool) → Adds c (body' p c) (FormedOptional (program text.typed.now) (with_shape k (shape p) (known_of w)) filter × Formed (with_shape k (shape p) (known_of w)))
-        inside p f c = both (law_optional filter (Binding false k p w) (f, s) c) (law (Binding false k p w) (f, s) _)
+    law_parts : (x : Iteration) (w : Scope) → Small w → Parts x w
+    law_parts (Range k reverse low high check filter) w s = λ b. three (both (law_expr low w s b) (both (law_expr high w s _) (law_optional filter w s _)))
+    law_parts (Components k constant at from selections number stride dimensions filter) w s = ((λ b. law_selections selections w s b), (λ p f b. law_optional filter (Binding constant k p w) (f, s) b))
 
     law_chunk : (x : Chunk) (w : Scope) → Small w → (b : Bool) → Adds b (decided_chunk text x w b) (FormedChunk (program text.typed.now) (known_of w) x)
-    unfolding decided_chunk
     law_chunk NoChunk w s b = nothing b
     law_chunk (Count e) w s b = law_expr e w s b
     law_chunk (Each k low high check) w s b = both (law_expr low w s b) (law_expr high w s _)
@@ -704,8 +713,8 @@ module _ (text : walk.Text) (grounded : IsGrounded (table text)) (full : (n : �
   unfolding decided_pieces
   law_pieces NoPiece w s b = nothing b
   law_pieces (Text bytes rest) w s b = law_pieces rest w s b
-  law_pieces (Image class e rest) w s b = both (settled_law class b) (both (law_expr e w s _) (law_pieces rest w s _))
-  law_pieces (Padded class e most rest) w s b = both (settled_law class b) (both (law_expr e w s _) (both (law_expr most w s _) (law_pieces rest w s _)))
+  law_pieces (Image class e rest) w s b = three (both (settled_law class b) (both (law_expr e w s _) (law_pieces rest w s _)))
+  law_pieces (Padded class e most rest) w s b = four (both (settled_law class b) (both (law_expr e w s _) (both (law_expr most w s _) (law_pieces rest w s _))))
 
   law_decls : (x : Decls) (w : Scope) → Small w → (b : Bool) → Adds b (decided_decls text x w b) (FormedDecls (program text.typed.now) (known_of w) x)
   unfolding decided_decls
@@ -715,15 +724,15 @@ module _ (text : walk.Text) (grounded : IsGrounded (table text)) (full : (n : �
   law_decls (DeclareConstant x initial more) w s b = both (law_value initial w s b) (law_decls more w s _)
   law_decls (Mentions es more) w s b = both (law_exprs es w s b) (law_decls more w s _)
 
-  law_assign : (from : Root) (selections : Selections) (value : Value) (w : Scope) → Small w → (b : Bool) → Adds b (with_place (named text false from selections w) (λ p. decided_value text value (Aiming p w) (decided_selections text selections w (fits text (Some p) (wide text value) b)))) (((u : Shape) × Names (program text.typed.now) (known_of w) from selections u × (width (table text) value ≤ size u) × FormedValue (program text.typed.now) (with_aim u (known_of w)) value) × FormedSelections (program text.typed.now) (known_of w) selections)
-  unfolding fits
+  law_assign : (from : Root) (selections : Selections) (value : Value) (w : Scope) → Small w → (b : Bool) → Adds b (decided_assign text from selections value w b) (((u : Shape) × Names (program text.typed.now) (known_of w) from selections u × (width (table text) value ≤ size u) × FormedValue (program text.typed.now) (with_aim u (known_of w)) value) × FormedSelections (program text.typed.now) (known_of w) selections)
+  unfolding decided_assign fits
   law_assign from selections value w s b = go (named text false from selections w) refl
     where
       Asked : Type 0
       Asked = ((u : Shape) × Names (program text.typed.now) (known_of w) from selections u × (width (table text) value ≤ size u) × FormedValue (program text.typed.now) (with_aim u (known_of w)) value) × FormedSelections (program text.typed.now) (known_of w) selections
 
       inside : (p : Place) → Fits (shape p) → Adds b (decided_value text value (Aiming p w) (decided_selections text selections w (fits text (Some p) (wide text value) b))) ((width (table text) value ≤ size (shape p)) × FormedSelections (program text.typed.now) (known_of w) selections × FormedValue (program text.typed.now) (with_aim (shape p) (known_of w)) value)
-      inside p f = both (asks b (nat_le (wide text value) (cells (table text) text.sizes.now p)) (fit_told p (wide text value) (width (table text) value) (means_wide value) f) (fit_tells p (wide text value) (width (table text) value) (means_wide value) f)) (both (law_selections selections w s _) (law_value value (Aiming p w) (f, s) _))
+      inside p f = three (both (asks b (nat_le (wide text value) (cells (table text) text.sizes.now p)) (fit_told p (wide text value) (width (table text) value) (means_wide value) f) (fit_tells p (wide text value) (width (table text) value) (means_wide value) f)) (both (law_selections selections w s _) (law_value value (Aiming p w) (f, s) _)))
 
       go : (o : Option Place) → named text false from selections w ≡ o → Adds b (with_place o (λ p. decided_value text value (Aiming p w) (decided_selections text selections w (fits text (Some p) (wide text value) b)))) Asked
       go None e = record {
@@ -734,12 +743,13 @@ module _ (text : walk.Text) (grounded : IsGrounded (table text)) (full : (n : �
           let t = named_told false from selections w s p e in
           like (λ a. ((shape p, t.0, a.0, a.2), a.1))
           (λ a. let r = named_tells false from selections w s a.0.0 a.0.1 in let same : a.0.0 ≡ shape p = sym r.2 ∙ ap shape (sym (some_same p r.0 (sym e ∙ r.1))) in
-            (subst (λ u. width (table text) value ≤ size u) same a.0.2, a.1, subst (λ u. FormedValue (program text.typed.now) (with_aim u (known_of w)) value) same a.0.3))
+          (subst (λ u. width (table text) value ≤ size u) same a.0.2, a.1, subst (λ u. FormedValue (program text.typed.now) (with_aim u (known_of w)) value) same a.0.3))
           (inside p t.1)
 
   mutual
+    unfolding decided_stmt decided_stmts decided_alternatives decided_arms decided_handlers
+
     law_stmt : (x : Stmt) (w : Scope) → Small w → (b : Bool) → Adds b (decided_stmt text x w b) (FormedStmt (program text.typed.now) (known_of w) x)
-    unfolding decided_stmt
     law_stmt Null w s b = nothing b
     law_stmt (Assign at from selections value) w s b = law_assign from selections value w s b
     law_stmt (CallProcedure at callee sub actuals) w s b = both (called_law sub w b) (law_actuals actuals w s _)
@@ -748,46 +758,45 @@ module _ (text : walk.Text) (grounded : IsGrounded (table text)) (full : (n : �
     law_stmt (ReturnValue value) w s b = law_value value w s b
     law_stmt (Raise reason) w s b = nothing b
     law_stmt Reraise w s b = nothing b
-    law_stmt (IfThen condition stmts otherwise) w s b = both (law_expr condition w s b) (both (law_stmts stmts w s _) (law_stmts otherwise w s _))
+    law_stmt (IfThen condition stmts otherwise) w s b = three (both (law_expr condition w s b) (both (law_stmts stmts w s _) (law_stmts otherwise w s _)))
     law_stmt (Case e alternatives) w s b = both (law_expr e w s b) (law_alternatives alternatives w s _)
     law_stmt (Loop number condition stmts) w s b = both (law_optional condition w s b) (law_stmts stmts w s _)
-    law_stmt (For number iteration stmts) w s b = law_iteration iteration (λ v c. decided_stmts text stmts v c) (λ v. FormedAll (program text.typed.now) v stmts) (λ v t c. law_stmts stmts v t c) w s b
-    law_stmt (ParallelFor number site chunk iteration stmts) w s b = both (law_chunk chunk w s b) (law_iteration iteration (λ v c. decided_stmts text stmts v c) (λ v. FormedAll (program text.typed.now) v stmts) (λ v t c. law_stmts stmts v t c) w s _)
+    law_stmt (For number iteration stmts) w s b = of_parts iteration (λ v c. decided_stmts text stmts v c) (λ v. FormedAll (program text.typed.now) v stmts) (λ v t c. law_stmts stmts v t c) w s (law_parts iteration w s) b
+    law_stmt (ParallelFor number site chunk iteration stmts) w s b = both (law_chunk chunk w s b) (of_parts iteration (λ v c. decided_stmts text stmts v c) (λ v. FormedAll (program text.typed.now) v stmts) (λ v t c. law_stmts stmts v t c) w s (law_parts iteration w s) _)
     law_stmt (Parallel site count arms) w s b = both (law_optional count w s b) (law_arms arms w s _)
-    law_stmt (Block decls stmts handlers) w s b = both (law_decls decls w s b) (both (law_stmts stmts w s _) (law_handlers handlers w s _))
+    law_stmt (Block decls stmts handlers) w s b = three (both (law_decls decls w s b) (both (law_stmts stmts w s _) (law_handlers handlers w s _)))
     law_stmt (Put at callee pieces line) w s b = law_pieces pieces w s b
     law_stmt (Get at callee first from selections scalar) w s b = both (spans_law false from selections w s 1 1 (means_itself 1) b) (law_selections selections w s _)
 
     law_stmts : (x : Stmts) (w : Scope) → Small w → (b : Bool) → Adds b (decided_stmts text x w b) (FormedAll (program text.typed.now) (known_of w) x)
-    unfolding decided_stmts
     law_stmts End w s b = nothing b
     law_stmts (Then x xs) w s b = both (law_stmt x w s b) (law_stmts xs w s _)
 
     law_alternatives : (x : Alternatives) (w : Scope) → Small w → (b : Bool) → Adds b (decided_alternatives text x w b) (FormedAlternatives (program text.typed.now) (known_of w) x)
-    unfolding decided_alternatives
     law_alternatives NoAlternative w s b = nothing b
-    law_alternatives (Alternative others choices mentions stmts rest) w s b = both (law_exprs mentions w s b) (both (law_stmts stmts w s _) (law_alternatives rest w s _))
+    law_alternatives (Alternative others choices mentions stmts rest) w s b = three (both (law_exprs mentions w s b) (both (law_stmts stmts w s _) (law_alternatives rest w s _)))
 
     law_arms : (x : Arms) (w : Scope) → Small w → (b : Bool) → Adds b (decided_arms text x w b) (FormedArms (program text.typed.now) (known_of w) x)
-    unfolding decided_arms
     law_arms NoArm w s b = nothing b
     law_arms (Arm stmts rest) w s b = both (law_stmts stmts w s b) (law_arms rest w s _)
 
     law_handlers : (x : Handlers) (w : Scope) → Small w → (b : Bool) → Adds b (decided_handlers text x w b) (FormedHandlers (program text.typed.now) (known_of w) x)
-    unfolding decided_handlers
     law_handlers NoHandler w s b = nothing b
     law_handlers (Handler handled stmts rest) w s b = both (law_stmts stmts w s b) (law_handlers rest w s _)
 
   law_body : (x : Body) (n : ℕ) (b : Bool) → Adds b (decided_body text x (Alone n) b) (FormedBody (program text.typed.now) n x)
   unfolding decided_body
   law_body x n b =
-      like (λ a. record { decls = a.0; stmts = a.1; handlers = a.2 }) (λ f. (f.decls, f.stmts, f.handlers))
+      like (λ a. record { decls = a.0; stmts = a.1.0; handlers = a.1.1 }) (λ f. (f.decls, (f.stmts, f.handlers)))
       (both (law_decls x.decls (Alone n) tt b) (both (law_stmts x.stmts (Alone n) tt _) (law_handlers x.handlers (Alone n) tt _)))
 
   law_subs : (xs : List Sub) (n : ℕ) (b : Bool) → Adds b (decided_subs text n xs b) (FormedSubs (program text.typed.now) n xs)
   unfolding decided_subs
   law_subs [] n b = nothing b
-  law_subs (x ∷ xs) n b = both (law_body x.body (n + 1) b) (law_subs xs (n + 1) _)
+  law_subs (x ∷ xs) n b =
+      let e : n + 1 ≡ suc n = omega arith in
+      subst (λ m. Adds b (decided_subs text (n + 1) xs (decided_body text x.body (Alone (n + 1)) b)) (FormedBody (program text.typed.now) m x.body × FormedSubs (program text.typed.now) m xs)) e
+      (both (law_body x.body (n + 1) b) (law_subs xs (n + 1) _))
 
   pub decided_law : Adds true (decided text) (IsFormed (program text.typed.now))
   unfolding decided

@@ -1,8 +1,6 @@
 -- What the tables of a program tell: each subtype stands on those before it, and how many cells it has.
-use Rattle.std.proofs.Common.{◌≡◌, ℕ, zero, suc, ◌+◌, ◌-◌, ◌*◌, ◌<◌, ◌≤◌, min, nat_lt, List, [], ◌∷◌, ◌++◌, map, length, slice_get, Option, Some, None, Bool, true, false, ◌&&◌, refl, sym, subst, ap, ap₂, ◌∙◌, arith, true≢false, ltb-true, leb-true, leb-false, nat_le}
+use Rattle.std.proofs.Common.{◌≡◌, ℕ, zero, suc, ◌+◌, ◌*◌, ◌<◌, ◌≤◌, nat_lt, List, [], ◌∷◌, ◌++◌, length, slice_get, Option, Some, None, Bool, true, false, ◌&&◌, refl, sym, subst, ap, ◌∙◌, arith, ltb-true, leb-true, leb-false, nat_le}
 use Rattle.std.proofs.Math.ListN.{get_or}
-use Rattle.std.proofs.lemmas.List.{get_or-map, get_or_past, length-map, map-append}
-use Rattle.std.proofs.lemmas.Option.{slice_get_past}
 use native.Mathlib.Nat.{mul_assoc, mul_comm}
 use Rattle.ada_typed.specs.declared.program.Bounds.{Bounds}
 use Rattle.ada_typed.specs.declared.program.Field as field
@@ -11,11 +9,11 @@ use Rattle.ada_typed.specs.Layout as typed
 use Rattle.ada_typed.specs.Syntax as syntax
 use Rattle.ada_typed.specs.Syntax.{Subtype, Program}
 use Rattle.ada_meaning.specs.Values.{count, components}
-use Rattle.ada_meaning.specs.Shapes.{Shape, Shapes, Single, Record, Dimension, NoShape, AlsoShape, size, sizes, array_of, fields_of, shape_of, shape_within, subtype_shape, object_shape, AreBefore, StandsBefore, IsGrounded, cells_of}
+use Rattle.ada_meaning.specs.Shapes.{size, subtype_shape, AreBefore, StandsBefore, IsGrounded, cells_of}
 use Rattle.ada_meaning.proofs.Shapes.{shape_law}
 use Rattle.ada_meaning.proofs.Sizes.{size_law}
 use Rattle.ada_formed.specs.Tables.{saturated, fields_stand, stands, grounded_from, have_values, has_dimension, is_full, full_from, product, total, entry_cells, table_from, small_from}
-use Rattle.ada_formed.proofs.Adding.{Adds, both, like, nothing, asks, and_true, less}
+use Rattle.ada_formed.proofs.Adding.{Adds, both, like, nothing, and_true, less}
 
 -- ---- order
 
@@ -143,7 +141,7 @@ entry_law shown sizes same (syntax.OfScalar s) = refl
 entry_law shown sizes same (syntax.Array ds c) =
     let x = get_or sizes c 0 in
     ap (product ds) (same c) ∙ product_law ds x ∙ ap saturated (mul_comm x (components ds) ∙ ap (λ z. z * x) (same_components ds))
-entry_law shown sizes same (syntax.Record fs) = total_law shown sizes same fs 0
+entry_law shown sizes same (syntax.Record fs) = let n = typed.fields_cells (λ k. get_or sizes k 0) fs in let e : 0 + n ≡ n = omega arith in total_law shown sizes same fs 0 ∙ ap saturated e
 
 more_alike : (shown sizes : List ℕ) (x y : ℕ) → length shown ≡ length sizes → Alike shown sizes → x ≡ saturated y → Alike (shown ++ x ∷ []) (sizes ++ y ∷ [])
 more_alike [] [] x y l same e zero = e

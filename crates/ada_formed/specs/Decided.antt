@@ -9,7 +9,7 @@ use Rattle.ada_typed.specs.declared.expressions.Root.TheVariants as root
 use Rattle.ada_typed.specs.declared.expressions.Reducer.{Reducer}
 use Rattle.ada_typed.specs.declared.expressions.Reducer.TheVariants.{Operator, Function}
 use Rattle.ada_typed.specs.Programs.{program}
-use Rattle.ada_typed.specs.Syntax.{Subtype, Expr, Static, Variable, Constant, Parameter, Target, Group, Unary, Binary, AndThen, OrElse, Relation, Membership, If, Call, Convert, Reduction, Exprs, NoExpr, AlsoExpr, Optional, Absent, Present, Selections, Whole, Field, Index, Actuals, NoActual, In, InOut, Out, CompositeInOut, CompositeOut, Value, Number, Cells, Composite, WholeVariable, WholeConstant, WholeTarget, CompositeIf, Aggregate, Associations, NoAssociation, Association, Iteration, Range, Components, Chunk, NoChunk, Count, Each, Pieces, NoPiece, Text, Image, Padded, Decls, NoDecl, DeclareDefault, DeclareVariable, DeclareConstant, Mentions, Stmt, Null, Assign, CallProcedure, Exit, Return, ReturnValue, Raise, Reraise, IfThen, Case, Loop, For, ParallelFor, Parallel, Block, Put, Get, Stmts, End, Then, Alternatives, NoAlternative, Alternative, Arms, NoArm, Arm, Handlers, NoHandler, Handler, Body, Sub, Program}
+use Rattle.ada_typed.specs.Syntax.{Subtype, Expr, Static, Variable, Constant, Parameter, Target, Group, Unary, Binary, AndThen, OrElse, Relation, Membership, If, Call, Convert, Reduction, Exprs, NoExpr, AlsoExpr, Optional, Absent, Present, Selections, Whole, Field, Index, Actuals, NoActual, In, InOut, Out, CompositeInOut, CompositeOut, Value, Number, Cells, Composite, WholeVariable, WholeConstant, WholeTarget, CompositeIf, Aggregate, Associations, NoAssociation, Association, Iteration, Range, Components, Chunk, NoChunk, Count, Each, Pieces, NoPiece, Text, Image, Padded, Decls, NoDecl, DeclareDefault, DeclareVariable, DeclareConstant, Mentions, Stmt, Null, Assign, CallProcedure, Exit, Return, ReturnValue, Raise, Reraise, IfThen, Case, Loop, For, ParallelFor, Parallel, Block, Put, Get, Stmts, End, Then, Alternatives, NoAlternative, Alternative, Arms, NoArm, Arm, Handlers, NoHandler, Handler, Body, Sub}
 use Rattle.ada_formed.specs.declared.places.Text as walk
 use Rattle.ada_formed.specs.Places.{Place, Scope, Alone, Binding, Aiming, declared_of, item_of, target_of, with_place}
 use Rattle.ada_formed.specs.Tables.{cells, object_place, selected, component_of}
@@ -149,12 +149,15 @@ module _ (text : walk.Text) where
   decided_decls (DeclareConstant x initial more) w b = decided_decls more w (decided_value initial w b)
   decided_decls (Mentions es more) w b = decided_decls more w (decided_exprs es w b)
 
+  unfoldable pub decided_assign : Root → Selections → Value → Scope → Bool → Bool
+  decided_assign from selections value w b =
+      with_place (named false from selections w)
+      (λ p. decided_value value (Aiming p w) (decided_selections selections w (fits (Some p) (wide value) b)))
+
   unfoldable mutual
     pub decided_stmt : Stmt → Scope → Bool → Bool
     decided_stmt Null w b = b
-    decided_stmt (Assign at from selections value) w b =
-        with_place (named false from selections w)
-        (λ p. decided_value value (Aiming p w) (decided_selections selections w (fits (Some p) (wide value) b)))
+    decided_stmt (Assign at from selections value) w b = decided_assign from selections value w b
     decided_stmt (CallProcedure at callee s actuals) w b = decided_actuals actuals w (called s w b)
     decided_stmt (Exit loop condition) w b = decided_optional condition w b
     decided_stmt Return w b = b

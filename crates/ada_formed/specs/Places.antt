@@ -1,5 +1,5 @@
 -- Parts of objects as a walk over a text names them, and what items and the target of an assignment stand for.
-use Rattle.std.specs.Prelude.{ℕ, List, [], ◌∷◌, Option, Some, None, Bool, false, not, ◌&&◌, cond, nat_eq}
+use Rattle.std.specs.Prelude.{ℕ, List, Option, Some, None, Bool, false, not, ◌&&◌, cond, nat_eq}
 use Rattle.ada_typed.specs.declared.program.Bounds.{Bounds}
 
 -- an array with these dimensions, whose components are of a subtype; without a dimension an object of the subtype

@@ -139,7 +139,7 @@ fn expr_step(text: &Text<'_>, env: &Env<'_>, id: u32, found: bool) -> Step
 /// The iteration of a reduction, with its values.
 #[cycle(text)]
 #[inline(never)]
-#[tactic(auto, unfolding(crate::specs::Decided::decided_expr))]
+#[tactic(auto, unfolding(crate::specs::Decided::decided_iteration))]
 fn values(text: &Text<'_>, env: &Env<'_>, course: u32, value: u32, found: bool) -> bool
     ensures { result ≡ spec.decided_iteration text.now (iteration_at text.now.typed.now.nodes course) (λ v c. spec.decided_expr text.now (expr_at text.now.typed.now.nodes value) v c) (scope_of text.now.typed.now.nodes env.now) found }
 {

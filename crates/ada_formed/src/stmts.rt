@@ -1,8 +1,8 @@
 //! Statements (5.1).
 
-ghost use Rattle.std.specs.Prelude.{◌≡◌, ◌<◌, ℕ, MatchOption};
+ghost use Rattle.std.specs.Prelude.{◌≡◌, ◌<◌, MatchOption};
 ghost use Rattle.ada_typed.specs.Decoded.{alternatives_at, arms_at, as_alternative, as_handler, decls_at, handlers_at, iteration_at, part_at, selections_at, stmt_at, stmts_at, value_at};
-ghost use Rattle.ada_typed.specs.Syntax.{Alternatives, Assign, End, Handlers, Then};
+ghost use Rattle.ada_typed.specs.Syntax.{Alternatives, End, Handlers, Then};
 ghost use Rattle.ada_formed.specs.Decided as spec;
 ghost use Rattle.ada_formed.specs.Words.{IsBelow, scope_of, stmt_left};
 
@@ -117,9 +117,9 @@ fn stmt_step(text: &Text<'_>, env: &Env<'_>, id: u32, found: bool) -> Step
 
 /// An assignment (5.2).
 #[inline(never)]
-#[tactic(auto, unfolding(crate::specs::Decided::decided_stmt))]
+#[tactic(auto, unfolding(crate::specs::Decided::decided_assign))]
 fn assign(text: &Text<'_>, env: &Env<'_>, root: Root, parts: u32, part: u32, found: bool) -> bool
-    ensures { (at : ℕ) → result ≡ spec.decided_stmt text.now (Assign at root (selections_at text.now.typed.now.nodes parts) (value_at text.now.typed.now.nodes part)) (scope_of text.now.typed.now.nodes env.now) found }
+    ensures { result ≡ spec.decided_assign text.now root (selections_at text.now.typed.now.nodes parts) (value_at text.now.typed.now.nodes part) (scope_of text.now.typed.now.nodes env.now) found }
 {
     match named(text, env, false, root, parts) {
         None => false,
@@ -138,7 +138,7 @@ fn assign(text: &Text<'_>, env: &Env<'_>, root: Root, parts: u32, part: u32, fou
 /// An iteration with its statements (5.5).
 #[cycle(body)]
 #[inline(never)]
-#[tactic(auto, unfolding(crate::specs::Decided::decided_expr))]
+#[tactic(auto, unfolding(crate::specs::Decided::decided_iteration))]
 fn course(text: &Text<'_>, env: &Env<'_>, id: u32, parts: u32, found: bool) -> bool
     ensures { result ≡ spec.decided_iteration text.now (iteration_at text.now.typed.now.nodes id) (λ v c. spec.decided_stmts text.now (stmts_at text.now.typed.now.nodes parts) v c) (scope_of text.now.typed.now.nodes env.now) found }
 {

@@ -1,4 +1,4 @@
-use Rattle.std.proofs.Common.{◌≡◌, ◌+◌, ◌*◌, ◌≤◌}
+use Rattle.std.proofs.Common.{◌≡◌, ◌+◌, ◌*◌}
 use Rattle.ada_typed.specs.Decoded.{composite_at}
 use Rattle.ada_formed.specs.Decided.{wide_composite}
 use Rattle.ada_formed.specs.Words.{wide_left, IsWithin, rest_size}
