@@ -5,7 +5,6 @@ use Rattle.ada_base.specs.Derivations.{Derives, DerivesWithin}
 use Rattle.ada_base.specs.Tokens.{Tokenized}
 use Rattle.ada_base.specs.declared.token.Token.{Token}
 use Rattle.ada_conflict.specs.Answer.{HasNoClash, IsLeastClash, IsLeastTouched, IsNotAfter}
-use Rattle.ada_effects.specs.Conflicts.{ClashPair, Clashes}
 use Rattle.ada_lexer.proofs.OneList.{one_list}
 use Rattle.ada_lexer.proofs.OneFault as lexical'
 use Rattle.ada_lexer.specs.Lexed.{AreLexed}

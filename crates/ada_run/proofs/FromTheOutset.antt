@@ -1,5 +1,5 @@
 -- A run of the interpreter is a run of a unit.
-use Rattle.std.proofs.Common.{◌≡◌, ◌<◌, ℕ, List, [], ◌∷◌, Bool, true, Result, Ok, Err, inl, refl, sym, ap, ◌∙◌, subst}
+use Rattle.std.proofs.Common.{◌≡◌, ◌<◌, ℕ, suc, arith, List, [], ◌∷◌, Bool, true, Result, Ok, Err, inl, refl, sym, ap, ◌∙◌, subst}
 use Rattle.std.specs.Prelude.{All}
 use Rattle.ada_base.specs.Cuts.{Plan}
 use Rattle.ada_base.specs.Input.{Nothing}
@@ -134,7 +134,7 @@ unbegun_runs p set slots b n i j o q rule new back left =
 -- a plan without a zero
 each_positive : (sizes : List ℕ) → All (λ (size : ℕ). 0 < size) sizes → EachPositive sizes
 each_positive [] h = tt
-each_positive (n ∷ ns) h = (h.0, each_positive ns h.1)
+each_positive (n ∷ ns) h = (h 0 0 (omega (arith)), each_positive ns (λ k d less. h (suc k) d (omega (arith, less))))
 
 pub plan_is : (p : given.Plan) → HasNoZero p → IsPlan (plan_of p)
 plan_is plan.One h = tt

@@ -1,5 +1,5 @@
 -- What compiling accepts has no races.
-use Rattle.std.proofs.Common.{◌≡◌, ℕ, List, Result, Ok, Err, subst, sym}
+use Rattle.std.proofs.Common.{ℕ, List, Result, Ok, Err, subst, sym}
 use Rattle.std.specs.Prelude.{IfOk}
 use Rattle.ada_effects.proofs.Accepting.{accept_law}
 use Rattle.ada_effects.specs.Accepted as effects
@@ -9,8 +9,8 @@ use Rattle.ada_meaning.specs.Law.{IsRaceFree}
 use Rattle.ada_meaning.specs.Nonblocking.{KeepsRule}
 use Rattle.ada_typed.specs.Programs.{program}
 use Rattle.ada_typed.specs.Syntax.{Program}
-use Rattle.ada_run.specs.Compile.{AreApart, IsAccepted}
-use Rattle.ada_run.specs.Compiled.{Compiled}
+use Rattle.ada_run.specs.Compile.{AreApart, Decides, IsAccepted, compiling}
+use Rattle.ada_run.specs.Compiled.{Compiled, compiled_of}
 use Rattle.ada_run.specs.declared.refusal.Refusal.{Refusal}
 use Rattle.ada_run.specs.declared.unit.Unit.{Unit}
 
@@ -22,6 +22,6 @@ accepted_race_free text c (t, lexed, (tree, parsed, (p, typed, (q, (rule, same),
     let of_s : IsRaceFree s = subst IsRaceFree (sym same'') (accept_law r (accepts r (subst KeepsRule (sym same') (subst KeepsRule (sym same) rule)) (subst IsFormed (sym same') formed) apart)).0 in
     subst (λ (x : Compiled). IsRaceFree x.program) (sym unit) of_s
 
-pub unit_race_free : (r : Result Unit Refusal) → IfOk r (λ (unit : Unit). IsRaceFree (program unit.typed))
-unit_race_free (Ok unit) = (accept_law (program unit.typed) unit.accepted).0
-unit_race_free (Err refusal) = tt
+pub unit_race_free : (text : List ℕ) (r : Result Unit Refusal) → Decides compiling compiled_of text r → IfOk r (λ (unit : Unit). IsRaceFree (program unit.typed))
+unit_race_free text (Ok unit) accepted = accepted_race_free text (compiled_of unit) accepted
+unit_race_free text (Err refusal) told = tt

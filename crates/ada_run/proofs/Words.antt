@@ -1,5 +1,5 @@
 -- The word of a fault is that of the token at its place.
-use Rattle.std.proofs.Common.{◌≡◌, ◌⊎◌, inl, inr, ℕ, ◌<◌, ◌≤◌, Bool, true, false, List, [], ◌∷◌, length, Some, None, Err, refl, sym, ap, ◌∙◌, subst, arith, true≢false, ⊎_elim}
+use Rattle.std.proofs.Common.{◌≡◌, ◌⊎◌, inl, inr, ℕ, ◌<◌, ◌≤◌, Bool, true, false, List, length, Some, None, refl, sym, ap, ◌∙◌, subst, arith, true≢false, ⊎_elim}
 use Rattle.std.proofs.lemmas.Bool.{cases_lt}
 use lib.ListN.{get_or-eq_default}
 use Rattle.ada_base.specs.Place.{place_at}
@@ -11,20 +11,16 @@ use Rattle.ada_lexer.specs.Lexed.{AreLexed}
 use Rattle.ada_tree.specs.Faults.{Fault}
 use Rattle.ada_tree.specs.Faults.Fault.{TooManyBytes, NoCharacter, NoToken, TooWide, TooManyTokens}
 use Rattle.ada_tree.specs.Parsed.{is_left_out}
-use Rattle.ada_typed.specs.Syntax as typed
-use Rattle.ada_typed.specs.declared.program.Site.{Site}
 use Rattle.name_rules.specs.declared.log.Rule.{Rule}
 use Rattle.name_rules.specs.declared.log.Rule.TheVariants as rule
-use Rattle.ada_run.specs.Built.{built_with, note_of}
+use Rattle.ada_run.specs.Built.{note_of}
 use Rattle.ada_run.specs.Compile.{IsFaultOf}
-use Rattle.ada_run.specs.Compiled.{compiled}
-use Rattle.ada_run.specs.Complaints.{Complaint, complaint, beginning, lexical, unexpected, unexpected_kind, not_built}
+use Rattle.ada_run.specs.Complaints.{Complaint, complaint, clash_at, beginning, lexical, unexpected, unexpected_kind}
 use Rattle.ada_run.specs.Lines.{HasFaultAt, IsWordOf, word_text, left_out_text}
 use Rattle.ada_run.specs.Notes.{code_of}
 use Rattle.ada_run.specs.declared.note.Note.{Note}
 use Rattle.ada_run.specs.declared.note.Note.TheVariants as note
 use Rattle.ada_run.proofs.Exact.{compiling_exact, same_tokens}
-use Rattle.ada_run.proofs.Phases.{err_is, ok_or_err}
 
 -- the fault is at a token of the text, whose kind is left out
 record IsAtToken (text : List ℕ) (fault : Complaint) : Type 0 where
@@ -81,12 +77,10 @@ not_left_out rule.ChunkRule e = omega (arith, e)
 not_left_out rule.ReduceRule e = omega (arith, e)
 not_left_out (rule.Limit which count) e = omega (arith, e)
 
-unbuilt : (text : List ℕ) (place : Place) (fault : Complaint) → not_built place ≡ fault → Tells text fault
-unbuilt text place fault e = subst (Tells text) e (inl (plain note.NotBuilt place (λ h. omega (arith, h))))
-
-tells_built : (text : List ℕ) (t : Tokenized) (p : typed.Program) (sites : List Site) (fault : Complaint) → built_with t p sites ≡ Err fault → Tells text fault
-tells_built text t p (s ∷ ss) fault e = unbuilt text (place_of_token t s.at) fault (err_is (not_built (place_of_token t s.at)) fault e)
-tells_built text t p [] fault e = absurd (ok_or_err (compiled t p) fault e)
+no_word_of_clash : (place other : Place) → HasNoWord (clash_at place other)
+no_word_of_clash place other = (λ e. ten (ap code_of e), refl) where
+  ten : code_of note.Clash ≡ code_of note.LeftOut → ⊥
+  ten e = omega (arith, e)
 
 tells : (text : List ℕ) (fault : Complaint) → IsFaultOf text fault → Tells text fault
 tells text fault (inl (f, first, same)) = subst (Tells text) (sym same) (inl (tells_lexical text f))
@@ -94,7 +88,12 @@ tells text fault (inr (t, lexed, inl (inl (token, first, same)))) = subst (Tells
 tells text fault (inr (t, lexed, inl (inr (token, deep, same)))) = subst (Tells text) (sym same) (inl (plain note.LimitPassed (place_of_token t token) (λ e. omega (arith, e))))
 tells text fault (inr (t, lexed, inr (tree, parsed, inl (f, told, same)))) = subst (Tells text) (sym same) (inl (plain (note_of f.rule) (place_of_token t f.at) (not_left_out f.rule)))
 tells text fault (inr (t, lexed, inr (tree, parsed, inr (p, named, inl (at, callee, first, same))))) = subst (Tells text) (sym same) (inl (plain note.BlockingCall (place_of_token t at) (λ e. omega (arith, e))))
-tells text fault (inr (t, lexed, inr (tree, parsed, inr (p, named, inr (q, kept, wrong))))) = tells_built text t q q.sites fault wrong
+tells text fault (inr (t, lexed, inr (tree, parsed, inr (p, named, inr (q, kept, inl (none, same)))))) = subst (Tells text) (sym same) (inl (plain note.NotBuilt beginning (λ e. omega (arith, e))))
+tells text fault (inr (t, lexed, inr (tree, parsed, inr (p, named, inr (q, kept, inr (r, formed, inl (inl (asked, (at, object, least, same))))))))) =
+    subst (Tells text) (sym same) (inl (plain note.GlobalTouched (place_of_token t at) (λ e. omega (arith, e))))
+tells text fault (inr (t, lexed, inr (tree, parsed, inr (p, named, inr (q, kept, inr (r, formed, inl (inr (strict, (at, other, least, same))))))))) =
+    subst (Tells text) (sym same) (inl (no_word_of_clash (place_of_token t at) (place_of_token t other)))
+tells text fault (inr (t, lexed, inr (tree, parsed, inr (p, named, inr (q, kept, inr (r, formed, inr (s, apart, wrong))))))) = absurd wrong
 
 module _ (text : List ℕ) (at : Place) where
   -- a fault with another note has no word

@@ -2,8 +2,8 @@
 
 ghost use Rattle.std.specs.Prelude.{◌≡◌};
 ghost use Rattle.ada_base.specs.Tokens.{place_of_token};
-ghost use Rattle.ada_effects.specs.Accepted.{IsAccepted};
 ghost use Rattle.ada_meaning.specs.Formed.{IsFormed};
+ghost use Rattle.ada_meaning.specs.Nonblocking.{KeepsRule};
 ghost use Rattle.ada_typed.specs.Programs.{program};
 ghost use Rattle.name_programs.specs.Resolving.{fault_of};
 ghost use Rattle.tree_views.specs.Trees.{program_of};
@@ -107,9 +107,9 @@ pub fn separated(alloc: Global, tokens: &Tokens, typed: &Typed) -> Result<(), Re
     }
 }
 
-/// The unit of a typed program that is accepted.
+/// The unit of a typed program that keeps the rule on nonblocking text.
 pub fn built(alloc: Global, tokens: &Tokens, typed: Typed) -> Result<Unit, Refusal>
-    requires { IsAccepted (program typed) }
+    requires { KeepsRule (program typed) }
     ensures { Decides (building tokens.now) compiled_of (program typed) result }
 {
     match finish(alloc, tokens, typed) {

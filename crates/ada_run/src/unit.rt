@@ -1,6 +1,7 @@
 //! What a text is compiled to.
 
-ghost use Rattle.ada_effects.specs.Accepted.{IsAccepted};
+ghost use Rattle.std.specs.Prelude.{ℕ};
+ghost use Rattle.ada_meaning.specs.Blocked.{Blocked};
 ghost use Rattle.ada_typed.specs.Programs.{program};
 
 use ada_base::Items;
@@ -13,13 +14,13 @@ pub struct Final {
     pub booleans: Items<bool>,
 }
 
-/// What a text is compiled to: its typed program, in which no call breaks the rule on nonblocking text (9.5) and no two
-/// threads of a parallel construct may touch one variable where one writes (9.10.1); the variables of the main procedure's declarative part, in order; and the names of the exceptions that it declares, by
+/// What a text is compiled to: its typed program, in which no call breaks the rule on nonblocking text (9.5); the
+/// variables of the main procedure's declarative part, in order; and the names of the exceptions that it declares, by
 /// their numbers.
 #[derive(Drop)]
 pub struct Unit {
     pub typed: Typed,
     pub finals: Items<Final>,
     pub exceptions: Items<Items<u8>>,
-    pub ghost accepted: { IsAccepted (program typed) },
+    pub ghost unblocked: { (token last : ℕ) → Blocked (program typed) token last → ⊥ },
 }

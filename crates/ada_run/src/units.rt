@@ -1,8 +1,8 @@
 //! The unit of a typed program.
 
 ghost use Rattle.std.specs.Prelude.{◌≡◌, ◌++◌, ◌∷◌, [], IfOk, slice_get};
-ghost use Rattle.ada_effects.specs.Accepted.{IsAccepted};
 ghost use Rattle.ada_meaning.specs.Meaning.{object_layout};
+ghost use Rattle.ada_meaning.specs.Nonblocking.{KeepsRule};
 ghost use Rattle.ada_typed.specs.Decoded.{decls_at};
 ghost use Rattle.ada_typed.specs.Programs.{program};
 ghost use Rattle.ada_run.specs.Compiled.{also_final, compiled, compiled_of, declared_variable, exception_names, final_of, finals_behind, name_of, truths};
@@ -15,7 +15,7 @@ use std::alloc::{AllocError, Global};
 
 /// The unit of a typed program, whose names are those of these tokens. An Err is want of memory.
 pub fn finish(alloc: Global, tokens: &Tokens, typed: Typed) -> Result<Unit, AllocError>
-    requires { IsAccepted (program typed) }
+    requires { KeepsRule (program typed) }
     ensures { IfOk result (λ unit. compiled_of unit ≡ compiled tokens.now (program typed)) }
 {
     let finals = finals(alloc, tokens, &typed)?;

@@ -9,4 +9,4 @@ pub returns-clause-all_refused : goal.returns-clause-all_refused
 returns-clause-all_refused c = λ fault wrong. gives_refusal c.args.text.now c.compiled.result fault c.compiled.ensures wrong
 
 pub returns-clause-race_free : goal.returns-clause-race_free
-returns-clause-race_free c = unit_race_free c.compiled.result
+returns-clause-race_free c = unit_race_free c.args.text.now c.compiled.result c.compiled.ensures
