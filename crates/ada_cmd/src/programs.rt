@@ -239,7 +239,7 @@ const LOOPS: &str = "\
 ~~~for I in reverse 1 .. 5 when I mod 2 = 1 loop Put (I, Width => 1); end loop;~~0~531~
 ~~~for I in 3 .. 2 loop Put (I, Width => 1); end loop; for I in reverse 3 .. 1 loop Put (I, Width => 1); end loop;~~0~~
 ~~subtype D is Integer range 2 .. 4;~for I in D loop Put (I, Width => 1); end loop; for I in D range 3 .. 4 loop Put (I, Width => 1); end loop; for I in Integer range 7 .. 8 loop Put (I, Width => 1); end loop;~~0~2343478~
-~~~for B in Boolean loop Put_Line (B'Image); end loop; for B in reverse False .. True loop Put_Line (Boolean'Image (not B)); end loop;~~0~FALSE|TRUE|FALSE|TRUE|~
+~~~for B in Boolean loop Put_Line (Boolean'Image (B)); end loop; for B in reverse False .. True loop Put_Line (Boolean'Image (not B)); end loop;~~0~FALSE|TRUE|FALSE|TRUE|~
 ~~Z : Integer := 0;~for I in Positive range Z .. 3 loop Put (I, Width => 1); end loop;~~4~~unhandled CONSTRAINT_ERROR|
 ~~~for I in Positive range 0 .. 3 loop Put (I, Width => 1); end loop;~~4~~unhandled CONSTRAINT_ERROR|
 ~~Z : Integer := 0;~for I in Positive range Z .. -1 loop Put (I, Width => 1); end loop; Put (\"e\");~~0~e~
