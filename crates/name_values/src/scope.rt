@@ -239,11 +239,7 @@ fn stands(
         }
         What::Parameter { number, scalar } => {
             out.parameter(token, number)?;
-            return Ok(Some(Denoted::Value(Found::Scalar {
-                first,
-                kind: scalar.kind,
-                nominal: Some(scalar),
-            })));
+            return Ok(Some(Denoted::Parameter { first, scalar }));
         }
         What::Object {
             number,
