@@ -12,6 +12,7 @@ use std::rc::Rc;
 
 /// How many more entries are searched one by one: so many where others share what is indexed, and else so many less.
 const ROOM: usize = 1024;
+
 const SHARED: usize = 960;
 
 /// What a name is declared as last, and at which place of the list.
@@ -191,11 +192,7 @@ fn past(start: usize, before: usize) -> usize
 }
 
 /// The entries of an index with more behind them; they are copied where others share them.
-fn joined(
-    alloc: Global,
-    below: Rc<Index>,
-    own: &Items<Entry>,
-) -> Result<Index, AllocError>
+fn joined(alloc: Global, below: Rc<Index>, own: &Items<Entry>) -> Result<Index, AllocError>
     ensures { IfOk result (λ index. index ≡ below.value ++ own.now) }
 {
     match Rc::try_unwrap(below) {
