@@ -93,11 +93,13 @@ pub fn grouped(
             Ok(Some(Found::Open { first, limits }))
         }
         Found::Static { kind, value, .. } => Ok(Some(Found::Static { first, kind, value })),
-        Found::Object(Place {
-            subtype: Subtype::Scalar(scalar),
-            value: Some(value),
-            ..
-        }) => {
+        Found::Object(
+            Place {
+                subtype: Subtype::Scalar(scalar),
+                value: Some(value),
+                ..
+            },
+        ) => {
             cleared(out)?;
             Ok(Some(Found::Static {
                 first,
