@@ -4,7 +4,12 @@ use Rattle.std.proofs.lemmas.Bool.Decides.{nat_tests}
 use Rattle.std.specs.Cmp.Lexicographic.{pointwise}
 use Rattle.std.specs.HashMap.{HashMap, IsEmpty, Updates, get}
 use Rattle.std.specs.Prelude.{Vec, is_some, nat_eq, ◌==◌}
+use Rattle.std.proofs.lemmas.List.{append_assoc, length-append}
+use Rattle.ada_base.specs.Tokens.{Tokenized}
 use Rattle.name_symbols.proofs.Alike.{alike_eq}
+use Rattle.name_symbols.proofs.Lists.{map_length, map_one}
+use Rattle.name_symbols.specs.Spelled.{AllListed, spelled, spelling, symbols}
+use Rattle.name_symbols.specs.declared.symbols.Numbered.{Numbered}
 use Rattle.name_symbols.specs.Naming.{Symbols, alike, language, numbered, or_else, place, with_symbol}
 use Rattle.name_symbols.specs.Words.{Listed, same_word}
 
@@ -98,3 +103,36 @@ symbol_known w s n e = ap (λ (o : Option ℕ). with_symbol w s o) (e ∙ langua
 pub symbol_new : (w : List ℕ) (s : Symbols) → None ≡ place w (language ++ s.spellings) 0
     → record { numbers = s.numbers ++ (34 + length s.spellings) ∷ []; spellings = s.spellings ++ w ∷ [] } ≡ with_symbol w s (numbered w s.spellings)
 symbol_new w s e = ap (λ (o : Option ℕ). with_symbol w s o) (e ∙ language_place w s.spellings)
+
+abbrev made : List ℕ → List (List ℕ) → Symbols
+made ns ws = record { numbers = ns; spellings = ws }
+
+-- an identifier that stood before
+pub known_shows : {Z S : Type 0} (t : Tokenized) (seen : HashMap (Vec ℕ Z) ℕ S) (s : Numbered) (token : ℕ) (w numbers : List ℕ) (n : ℕ) (o : Option ℕ)
+    → w ≡ spelling t token → o ≡ Some n → ((all : List (List ℕ)) → Listed seen all → o ≡ place w all 0) → numbers ≡ s.numbers ++ n ∷ []
+    → AllListed t seen s → (made numbers (spelled t s.firsts) ≡ with_symbol (spelling t token) (symbols t s) (numbered (spelling t token) (spelled t s.firsts))) × Listed seen (language ++ spelled t s.firsts)
+known_shows t seen s token w numbers n o e f g k h = (
+  subst (λ (v : List ℕ). made numbers (spelled t s.firsts) ≡ with_symbol v (symbols t s) (numbered v (spelled t s.firsts))) e
+      (ap (λ (ns : List ℕ). made ns (spelled t s.firsts)) k ∙ symbol_known w (symbols t s) n (sym f ∙ g (language ++ spelled t s.firsts) h)),
+  h,
+)
+
+-- one that stands first
+pub new_shows : {Z S : Type 0} (t : Tokenized) (seen new : HashMap (Vec ℕ Z) ℕ S) (s : Numbered) (token : ℕ) (w numbers firsts : List ℕ) (m count : ℕ) (o : Option ℕ)
+    → w ≡ spelling t token → o ≡ None → ((all : List (List ℕ)) → Listed seen all → o ≡ place w all 0) → count ≡ length s.firsts → m ≡ 34 + count
+    → numbers ≡ s.numbers ++ m ∷ [] → firsts ≡ s.firsts ++ token ∷ []
+    → ((all : List (List ℕ)) → Listed seen all → m ≡ length all → Listed new (all ++ w ∷ []))
+    → AllListed t seen s → (made numbers (spelled t firsts) ≡ with_symbol (spelling t token) (symbols t s) (numbered (spelling t token) (spelled t s.firsts))) × Listed new (language ++ spelled t firsts)
+new_shows t seen new s token w numbers firsts m count o e f g c k n p q h =
+    let counted : m ≡ 34 + length (spelled t s.firsts) = k ∙ ap (λ (i : ℕ). 34 + i) (c ∙ sym (map_length (spelling t) s.firsts)) in
+    let spelt : spelled t firsts ≡ spelled t s.firsts ++ w ∷ [] =
+        ap (λ (ks : List ℕ). spelled t ks) p ∙ (map_one (spelling t) s.firsts token ∙ ap (λ (v : List ℕ). spelled t s.firsts ++ v ∷ []) (sym e)) in
+    let numbered_so : made numbers (spelled t firsts) ≡ with_symbol w (symbols t s) (numbered w (spelled t s.firsts)) =
+        ap (λ (ns : List ℕ). made ns (spelled t firsts)) (n ∙ ap (λ (i : ℕ). s.numbers ++ i ∷ []) counted)
+        ∙ (ap (λ (ws : List (List ℕ)). made (s.numbers ++ (34 + length (spelled t s.firsts)) ∷ []) ws) spelt
+        ∙ symbol_new w (symbols t s) (sym f ∙ g (language ++ spelled t s.firsts) h)) in
+    let all : length (language ++ spelled t s.firsts) ≡ 34 + length (spelled t s.firsts) = length-append language (spelled t s.firsts) in (
+      subst (λ (v : List ℕ). made numbers (spelled t firsts) ≡ with_symbol v (symbols t s) (numbered v (spelled t s.firsts))) e numbered_so,
+      subst (λ (ws : List (List ℕ)). Listed new ws) (append_assoc language (spelled t s.firsts) (w ∷ []) ∙ ap (λ (ws : List (List ℕ)). language ++ ws) (sym spelt))
+          (q (language ++ spelled t s.firsts) h (counted ∙ sym all)),
+    )
