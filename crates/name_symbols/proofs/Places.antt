@@ -10,7 +10,7 @@ use Rattle.name_rules.specs.Symbols.{known}
 use Rattle.name_symbols.proofs.Lists.{drop_past}
 use Rattle.name_symbols.specs.Naming.{Symbols, language, next_symbol, symbols_from, text_of, texts_from}
 
-language_length : length language ≡ 34
+pub language_length : length language ≡ 34
 language_length = refl
 
 pub language_count : (i : ℕ) → i ≤ 34 → i ≡ length (take i language)

@@ -1,5 +1,5 @@
 -- Words that stood before, by a map of their places.
-use Rattle.std.proofs.Common.{◌≡◌, refl, sym, ap, subst, ◌∙◌, ℕ, ◌+◌, Bool, true, false, List, [], ◌∷◌, ◌++◌, length, Option, Some, None, cond, ◌&&◌, if◌then◌else◌, arith}
+use Rattle.std.proofs.Common.{◌≡◌, refl, sym, ap, subst, ◌∙◌, ℕ, suc, ◌+◌, Bool, true, false, List, [], ◌∷◌, ◌++◌, length, Option, Some, None, cond, ◌&&◌, if◌then◌else◌, arith}
 use Rattle.std.proofs.lemmas.Bool.Decides.{nat_tests}
 use Rattle.std.specs.Cmp.Lexicographic.{pointwise}
 use Rattle.std.specs.HashMap.{HashMap, IsEmpty, Updates, get}
@@ -8,6 +8,7 @@ use Rattle.std.proofs.lemmas.List.{append_assoc, length-append}
 use Rattle.ada_base.specs.Tokens.{Tokenized}
 use Rattle.name_symbols.proofs.Alike.{alike_eq}
 use Rattle.name_symbols.proofs.Lists.{map_length, map_one}
+use Rattle.name_symbols.proofs.Places.{language_length}
 use Rattle.name_symbols.specs.Spelled.{AllListed, spelled, spelling, symbols}
 use Rattle.name_symbols.specs.declared.symbols.Numbered.{Numbered}
 use Rattle.name_symbols.specs.Naming.{Symbols, alike, language, numbered, or_else, place, with_symbol}
@@ -29,18 +30,24 @@ or_else_step : (b : Bool) (n : ℕ) (o p : Option ℕ) → (if b then Some n els
 or_else_step true n o p = refl
 or_else_step false n o p = refl
 
-next_place : (n k : ℕ) → (n + 1) + k ≡ n + (k + 1)
+next_place : (n k : ℕ) → (n + 1) + k ≡ n + suc k
 next_place n k = omega arith
 
+none_more : (n : ℕ) → n ≡ n + 0
+none_more n = omega arith
+
+zero_more : (n : ℕ) → 0 + n ≡ n
+zero_more n = omega arith
+
 pub place_append : (w : List ℕ) (xs ys : List (List ℕ)) (n : ℕ) → place w (xs ++ ys) n ≡ or_else (place w xs n) (place w ys (n + length xs))
-place_append w [] ys n = refl
+place_append w [] ys n = ap (λ (k : ℕ). place w ys k) (none_more n)
 place_append w (x ∷ xs) ys n =
     ap (λ (o : Option ℕ). if alike w x then Some n else o) (place_append w xs ys (n + 1) ∙ ap (λ (k : ℕ). or_else (place w xs (n + 1)) (place w ys k)) (next_place n (length xs)))
     ∙ or_else_step (alike w x) n (place w xs (n + 1)) (place w ys (n + length (x ∷ xs)))
 
 -- the place of one more word
 last_place : (q w : List ℕ) (all : List (List ℕ)) → place q (all ++ w ∷ []) 0 ≡ or_else (place q all 0) (if alike q w then Some (length all) else None)
-last_place q w all = place_append q all (w ∷ []) 0
+last_place q w all = place_append q all (w ∷ []) 0 ∙ ap (λ (k : ℕ). or_else (place q all 0) (if alike q w then Some k else None)) (zero_more (length all))
 
 known_place : (b : Bool) (q w : List ℕ) (all : List (List ℕ)) (n m : ℕ) → alike q w ≡ b → place w all 0 ≡ Some n
     → place q all 0 ≡ or_else (place q all 0) (if b then Some m else None)
@@ -94,8 +101,11 @@ module _ {Z S : Type 0} where
 
 -- ---- the language's words and the others
 
+language_start : 0 + length language ≡ 34
+language_start = omega (arith, language_length)
+
 language_place : (w : List ℕ) (ws : List (List ℕ)) → place w (language ++ ws) 0 ≡ numbered w ws
-language_place w ws = place_append w language ws 0
+language_place w ws = place_append w language ws 0 ∙ ap (λ (k : ℕ). or_else (place w language 0) (place w ws k)) language_start
 
 pub symbol_known : (w : List ℕ) (s : Symbols) (n : ℕ) → Some n ≡ place w (language ++ s.spellings) 0 → record { numbers = s.numbers ++ n ∷ []; spellings = s.spellings } ≡ with_symbol w s (numbered w s.spellings)
 symbol_known w s n e = ap (λ (o : Option ℕ). with_symbol w s o) (e ∙ language_place w s.spellings)
@@ -126,12 +136,12 @@ pub new_shows : {Z S : Type 0} (t : Tokenized) (seen new : HashMap (Vec ℕ Z) �
 new_shows t seen new s token w numbers firsts m count o e f g c k n p q h =
     let counted : m ≡ 34 + length (spelled t s.firsts) = k ∙ ap (λ (i : ℕ). 34 + i) (c ∙ sym (map_length (spelling t) s.firsts)) in
     let spelt : spelled t firsts ≡ spelled t s.firsts ++ w ∷ [] =
-        ap (λ (ks : List ℕ). spelled t ks) p ∙ (map_one (spelling t) s.firsts token ∙ ap (λ (v : List ℕ). spelled t s.firsts ++ v ∷ []) (sym e)) in
+    ap (λ (ks : List ℕ). spelled t ks) p ∙ (map_one (spelling t) s.firsts token ∙ ap (λ (v : List ℕ). spelled t s.firsts ++ v ∷ []) (sym e)) in
     let numbered_so : made numbers (spelled t firsts) ≡ with_symbol w (symbols t s) (numbered w (spelled t s.firsts)) =
-        ap (λ (ns : List ℕ). made ns (spelled t firsts)) (n ∙ ap (λ (i : ℕ). s.numbers ++ i ∷ []) counted)
-        ∙ (ap (λ (ws : List (List ℕ)). made (s.numbers ++ (34 + length (spelled t s.firsts)) ∷ []) ws) spelt
-        ∙ symbol_new w (symbols t s) (sym f ∙ g (language ++ spelled t s.firsts) h)) in
-    let all : length (language ++ spelled t s.firsts) ≡ 34 + length (spelled t s.firsts) = length-append language (spelled t s.firsts) in (
+    ap (λ (ns : List ℕ). made ns (spelled t firsts)) (n ∙ ap (λ (i : ℕ). s.numbers ++ i ∷ []) counted)
+    ∙ (ap (λ (ws : List (List ℕ)). made (s.numbers ++ (34 + length (spelled t s.firsts)) ∷ []) ws) spelt
+    ∙ symbol_new w (symbols t s) (sym f ∙ g (language ++ spelled t s.firsts) h)) in
+    let all : length (language ++ spelled t s.firsts) ≡ 34 + length (spelled t s.firsts) = length-append language (spelled t s.firsts) ∙ ap (λ (k : ℕ). k + length (spelled t s.firsts)) language_length in (
       subst (λ (v : List ℕ). made numbers (spelled t firsts) ≡ with_symbol v (symbols t s) (numbered v (spelled t s.firsts))) e numbered_so,
       subst (λ (ws : List (List ℕ)). Listed new ws) (append_assoc language (spelled t s.firsts) (w ∷ []) ∙ ap (λ (ws : List (List ℕ)). language ++ ws) (sym spelt))
           (q (language ++ spelled t s.firsts) h (counted ∙ sym all)),
