@@ -2,24 +2,8 @@
 use Rattle.std.proofs.Common.{◌≡◌, refl, ap, sym, ◌∙◌, ℕ, ◌+◌, ℤ, pos, ◌+ℤ◌, ◌-ℤ◌, int_le, int_lt, Bool, true, false, cond, ◌||◌, List, [], ◌∷◌, ◌++◌, Option, Some, None, option_map, drop, slice_get}
 use Rattle.std.proofs.lemmas.List.{append_assoc, append-nil}
 use Rattle.name_aggregates.specs.Gaps.{gap_before, gap_behind}
-use Rattle.name_rules.specs.Aggregates.{left_open, non_empty, not_empty}
+use Rattle.name_rules.specs.Aggregates.{left_open}
 use Rattle.name_values.proofs.Lists.{drop_get, drop_none}
-
-non_empty_cons : (r : ℤ × ℤ) (rs : List (ℤ × ℤ)) → non_empty (r ∷ rs) ≡ non_empty (r ∷ []) ++ non_empty rs
-non_empty_cons r rs = by (not_empty r)
-  where
-    by : (t : Bool) → cond t (r ∷ non_empty rs) (non_empty rs) ≡ cond t (r ∷ []) [] ++ non_empty rs
-    by true = refl
-    by false = refl
-
-pub some_next : (rs : List (ℤ × ℤ)) (i : ℕ) (r : ℤ × ℤ) (some : List (ℤ × ℤ)) → slice_get rs i ≡ Some r → some ++ non_empty (drop i rs) ≡ (some ++ non_empty (r ∷ [])) ++ non_empty (drop (i + 1) rs)
-some_next rs i r some e =
-    ap (λ xs. some ++ non_empty xs) (drop_get rs i r e)
-    ∙ ap (λ xs. some ++ xs) (non_empty_cons r (drop (i + 1) rs))
-    ∙ sym (append_assoc some (non_empty (r ∷ [])) (non_empty (drop (i + 1) rs)))
-
-pub some_end : (rs : List (ℤ × ℤ)) (i : ℕ) (some : List (ℤ × ℤ)) → slice_get rs i ≡ None → some ++ non_empty (drop i rs) ≡ some
-some_end rs i some e = ap (λ xs. some ++ non_empty xs) (drop_none rs i e) ∙ append-nil some
 
 -- what is open of these ranges, behind what is open before them
 abbrev pub behind : List (ℤ × ℤ) → Option (List (ℤ × ℤ)) → Option (List (ℤ × ℤ))

@@ -1,6 +1,7 @@
 //! Whether an aggregate of an array gives each component exactly once (4.3.3).
 
-ghost use Rattle.std.specs.Prelude.{◌≡◌, ◌*◌, ◌++◌, ◌∷◌, [], IfOk, None, OnOk, option_map, slice_get};
+ghost use Rattle.std.specs.List.{list_all};
+ghost use Rattle.std.specs.Prelude.{◌≡◌, ◌*◌, ◌++◌, ◌∷◌, IfOk, None, OnOk, option_map, slice_get};
 ghost use Rattle.ada_typed.specs.Decoded as part;
 ghost use Rattle.name_aggregates.specs.Gaps.{gap_before, gap_behind};
 ghost use Rattle.name_aggregates.specs.Placed.{placed, rest_if};
@@ -27,32 +28,11 @@ fn range_at(ranges: &Items<(i128, i128)>, place: usize) -> Option<(i128, i128)>
     }
 }
 
-/// A range joins the others if it has a value.
-fn also_some(some: &mut Items<(i128, i128)>, range: (i128, i128)) -> Result<(), AllocError>
-    ensures { OnOk result (some.new ≡ some.old ++ spec.non_empty (range ∷ [])) }
+/// Whether each range has a value.
+fn all_hold(ranges: &Items<(i128, i128)>) -> bool
+    ensures { result ≡ list_all spec.not_empty ranges.now }
 {
-    let (low, high) = range;
-    if low > high {
-        return Ok(());
-    }
-    some.push((low, high))
-}
-
-/// The ranges that have a value.
-#[tactic(auto, using(crate::proofs::OpenRanges::some_next, crate::proofs::OpenRanges::some_end, name_values::proofs::Lists::drop_less))]
-fn non_empty(alloc: Global, ranges: &Items<(i128, i128)>) -> Result<Items<(i128, i128)>, AllocError>
-    ensures { IfOk result (λ some. some ≡ spec.non_empty ranges.now) }
-{
-    let mut some = Items::new(alloc);
-    let mut i = 0;
-    'spans: while let Some(range) = range_at(ranges, i) {
-        also_some(&mut some, range)?;
-        if i == usize::MAX {
-            return Err(AllocError);
-        }
-        i += 1;
-    }
-    Ok(some)
+    ranges.as_slice().iter().all(|r| r.0 <= r.1)
 }
 
 /// What is left open before a range, and behind all of them.
@@ -103,6 +83,21 @@ fn left_open(
     }
     open_behind(&mut gaps, start, end)?;
     Ok(Some(gaps))
+}
+
+/// What ranges leave open of a dimension; None where they overlap or lie outside, or one has no value.
+fn gaps_of(
+    alloc: Global,
+    dimension: Dimension,
+    ranges: Items<(i128, i128)>,
+) -> Result<Option<Items<(i128, i128)>>, AllocError>
+    ensures { IfOk result (λ gaps. gaps ≡ spec.gaps_of dimension.low dimension.high ranges) }
+{
+    if !all_hold(&ranges) {
+        return Ok(None);
+    }
+    let ordered = in_order(ranges)?;
+    left_open(alloc, dimension, &ordered)
 }
 
 /// An aggregate of so many cells, of the associations that are the latest part. 2^32 cells are beyond memory.
@@ -183,13 +178,11 @@ pub fn covered(
     apart: u64,
     placing: Placing,
 ) -> Result<bool, AllocError>
-    ensures { Gives (spec.covered bracket dimension apart (types.extent dimension * apart) (placed placing (parts out.old)) (spec.left_open dimension.low dimension.high (spec.sorted (spec.non_empty placing.ranges))) (rest_if placing.rest (second (parts out.old))) log.old) (pop (pop (parts out.old))) result log.new (parts out.new) }
+    ensures { Gives (spec.covered bracket dimension apart (types.extent dimension * apart) (placed placing (parts out.old)) (spec.gaps_of dimension.low dimension.high placing.ranges) (rest_if placing.rest (second (parts out.old))) log.old) (pop (pop (parts out.old))) result log.new (parts out.new) }
 {
     let Placing { ranges, done, rest } = placing;
     let cells = all_cells(dimension, apart);
-    let some = non_empty(out.alloc(), &ranges)?;
-    let some = in_order(some)?;
-    match left_open(out.alloc(), dimension, &some)? {
+    match gaps_of(out.alloc(), dimension, ranges)? {
         None => {
             out.leave_out();
             not_given(log, out, bracket, Rule::StaticRange)

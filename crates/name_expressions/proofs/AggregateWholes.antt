@@ -29,7 +29,7 @@ use Rattle.typed_parts.specs.Stack.{pop, top}
 -- ---- one dimension of an array
 
 abbrev covered : ℕ → Dimension → ℕ → spec.Placing → Judging (Option Part)
-covered bracket d apart p = spec.covered bracket d apart (extent d * apart) p (spec.left_open d.low d.high (spec.sorted (spec.non_empty p.ranges))) p.rest
+covered bracket d apart p = spec.covered bracket d apart (extent d * apart) p (spec.gaps_of d.low d.high p.ranges) p.rest
 
 pub dimension_gone : (names : Names) (level : Inside) (here : Context) (bracket : ℕ) (component : spec.Component) (d : Dimension) (apart : ℕ) (ps : spec.Contents) (log now : Log) (p : spec.Placing) (m n : ℕ)
     → spec.array_placed names level here component d apart ps log ≡ (p, now) → m ≡ length log.faults → n ≡ length now.faults → n ≢ m
@@ -39,7 +39,7 @@ dimension_gone names level here bracket component d apart ps log now p m n e f g
 
 pub dimension_whole : (names : Names) (level : Inside) (here : Context) (bracket : ℕ) (component : spec.Component) (d : Dimension) (apart : ℕ) (ps : spec.Contents) (log now : Log) (p : spec.Placing) (m n : ℕ)
     → spec.array_placed names level here component d apart ps log ≡ (p, now) → m ≡ length log.faults → n ≡ length now.faults → n ≡ m
-    → spec.dimension_of names level here bracket component d apart ps log ≡ spec.covered bracket d apart (extent d * apart) p (spec.left_open d.low d.high (spec.sorted (spec.non_empty p.ranges))) p.rest now
+    → spec.dimension_of names level here bracket component d apart ps log ≡ spec.covered bracket d apart (extent d * apart) p (spec.gaps_of d.low d.high p.ranges) p.rest now
 unfolding spec.dimension_of
 dimension_whole names level here bracket component d apart ps log now p m n e f g h = clean (spec.array_placed names level here component d apart ps) (covered bracket d apart) log now p m n e f g h
 

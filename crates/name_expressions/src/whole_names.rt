@@ -691,6 +691,11 @@ fn value_form(log: &mut Log, out: &Parts, denoted: Denoted) -> Result<Option<Fou
 {
     match denoted {
         Denoted::Value(given) => Ok(Some(given)),
+        Denoted::Parameter { first, scalar } => Ok(Some(Found::Scalar {
+            first,
+            kind: scalar.kind,
+            nominal: Some(scalar),
+        })),
         _ => no_part(log, out, denoted_first(denoted), Rule::WrongType),
     }
 }

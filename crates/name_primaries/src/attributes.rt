@@ -3,6 +3,7 @@
 ghost use Rattle.std.specs.Prelude.{◌≡◌, ◌∷◌, [], IfOk, None, OnOk, pos, slice_get};
 ghost use Rattle.ada_typed.specs.Decoded.{as_expr};
 ghost use Rattle.name_rules.specs.Attributes as spec;
+ghost use Rattle.name_rules.specs.Found.{parameter_found};
 ghost use Rattle.name_rules.specs.Judges.{Judges, found};
 ghost use Rattle.name_rules.specs.Types as types;
 ghost use Rattle.name_primaries.specs.Attributes.{bound_of, one_made, other_alone};
@@ -59,6 +60,7 @@ fn prefix_of(denoted: Denoted) -> Prefix
 {
     match denoted {
         Denoted::Value(Found::Object(place)) => Prefix::Object(place),
+        Denoted::Parameter { scalar, .. } => Prefix::Parameter(scalar),
         Denoted::Type { subtype, .. } => Prefix::Type(subtype),
         Denoted::Sub { number, .. } => Prefix::Function(number),
         _ => Prefix::Other,
@@ -496,6 +498,24 @@ fn object_image(
     }
 }
 
+/// The image of a parameter's value, which is the latest part.
+fn parameter_image(
+    log: &mut Log,
+    out: &mut Parts,
+    first: u32,
+    scalar: Scalar,
+) -> Result<Option<Denoted>, AllocError>
+    ensures { Judges (spec.one_given scalar.kind (spec.image_text first scalar.kind) (parameter_found first scalar (top (parts out.old))) log.old) (pop (parts out.old)) result log.new (parts out.new) }
+{
+    let kind = scalar.kind;
+    let given = Found::Scalar {
+        first,
+        kind,
+        nominal: Some(scalar),
+    };
+    one_given(log, out, first, kind, One::Image, given)
+}
+
 /// Whether an attribute is of a range.
 pub fn is_bound(attribute: Attribute) -> bool
     ensures { result ≡ spec.is_bound attribute }
@@ -580,6 +600,10 @@ fn alone(
     match prefix {
         Prefix::Object(place) => match attribute {
             Attribute::Image => object_image(log, out, first, place),
+            _ => other_alone(log, out, first, prefix, at, attribute),
+        },
+        Prefix::Parameter(scalar) => match attribute {
+            Attribute::Image => parameter_image(log, out, first, scalar),
             _ => other_alone(log, out, first, prefix, at, attribute),
         },
         _ => other_alone(log, out, first, prefix, at, attribute),

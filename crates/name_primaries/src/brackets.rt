@@ -11,11 +11,11 @@ ghost use Rattle.typed_parts.specs.Stack.{parts, pop, top};
 
 use crate::conditionals::composite_in;
 use ada_typed::Leaf;
-use name_rules::found::Found;
+use name_rules::found::{Found, Place};
 use name_rules::log::{Log, Rule};
 use name_rules::scope::{Names, Target};
 use name_rules::types::{Subtype, Wanted};
-use name_values::logs::breaks;
+use name_values::logs::{breaks, cleared};
 use name_values::symbols::text;
 use name_values::types::typed_scalar;
 use name_values::values::{asked, composite_asked, kind_of};
@@ -93,6 +93,20 @@ pub fn grouped(
             Ok(Some(Found::Open { first, limits }))
         }
         Found::Static { kind, value, .. } => Ok(Some(Found::Static { first, kind, value })),
+        Found::Object(
+            Place {
+                subtype: Subtype::Scalar(scalar),
+                value: Some(value),
+                ..
+            },
+        ) => {
+            cleared(out)?;
+            Ok(Some(Found::Static {
+                first,
+                kind: scalar.kind,
+                value,
+            }))
+        }
         Found::Text { .. } => Ok(Some(Found::Text { first })),
         _ => grouped_scalar(log, out, bracket, given),
     }

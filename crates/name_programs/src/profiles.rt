@@ -1,6 +1,6 @@
 //! Profiles of subprograms (6.1): a subprogram's name hides outer ones, and is visible from the end of its profile on.
 
-ghost use Rattle.std.specs.Prelude.{◌≡◌, ◌+◌, ◌++◌, IfOk, OnOk, drop, length};
+ghost use Rattle.std.specs.Prelude.{◌≡◌, ◌+◌, IfOk, OnOk, length};
 ghost use Rattle.name_programs.specs.Forms.{Changes, Profiles, taken_if};
 ghost use Rattle.name_rules.specs.Judges.{Says};
 ghost use Rattle.name_rules.specs.Programs as spec;
@@ -12,7 +12,7 @@ ghost use Rattle.typed_parts.specs.Stack.{parts};
 use crate::formals::formals;
 use ada_base::Items;
 use name_rules::log::{Log, Profile, Taken};
-use name_rules::scope::{Context, Entry, Names, Returns, Target, What};
+use name_rules::scope::{Context, Names, Returns, Target, What};
 use name_rules::types::Scalar;
 use name_values::scope::{copied, declared, free, scalar_named};
 use std::alloc::AllocError;
@@ -133,19 +133,6 @@ fn profile_where(
     }
 }
 
-/// The entries of a scope from a place on join another scope.
-#[tactic(auto, using(crate::proofs::Scopes::between_end, crate::proofs::Scopes::drop_past, crate::proofs::Scopes::append_none))]
-fn also_from(scope: &mut Items<Entry>, inner: &[Entry], start: usize) -> Result<(), AllocError>
-    ensures { OnOk result (scope.new ≡ scope.old ++ drop start inner.now) }
-{
-    let n = inner.len();
-    if start < n {
-        scope.extend(&inner[start..n])?;
-        return Ok(());
-    }
-    Ok(())
-}
-
 /// What is around a subprogram's body: its formal parameters stand behind its own entry.
 fn behind(
     outer: &Context,
@@ -157,9 +144,8 @@ fn behind(
 ) -> Result<Context, AllocError>
     ensures { IfOk result (λ c. c ≡ spec.behind outer.now start inner.now owner returns) }
 {
-    let mut scope = Items::new(out.alloc());
-    scope.extend(outer.scope.as_slice())?;
-    also_from(&mut scope, inner.scope.as_slice(), start)?;
+    let mut scope = outer.scope.copied()?;
+    scope.also_from(&inner.scope, start)?;
     Ok(Context {
         scope,
         withed: outer.withed,

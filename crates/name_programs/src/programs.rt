@@ -15,6 +15,7 @@ use crate::clauses::{clauses, policy};
 use crate::subprograms::{above, subprogram};
 use ada_base::{Items, Reason};
 use name_declarations::declarations::declaration;
+use name_rules::entries::Entries;
 use name_rules::log::Log;
 use name_rules::scope::{Context, Entry, Names, Packages, Returns, Target, What};
 use name_rules::types::{Kind, Scalar, Subtype};
@@ -215,10 +216,10 @@ fn subtype_entry(symbol: u32, kind: Kind, low: i64, high: i64) -> Entry
 }
 
 /// What is declared in package Standard (A.1).
-fn declared_first(out: &Parts) -> Result<Items<Entry>, AllocError>
+fn declared_first(out: &Parts) -> Result<Entries, AllocError>
     ensures { IfOk result (λ scope. scope ≡ standard) }
 {
-    let mut scope = Items::new(out.alloc());
+    let mut scope = Entries::new(out.alloc())?;
     scope.push(subtype_entry(0, Kind::Boolean, 0, 1))?;
     scope.push(Entry {
         symbol: 1,

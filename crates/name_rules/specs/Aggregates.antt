@@ -35,7 +35,7 @@ use Rattle.ada_typed.specs.Syntax as typed
 use Rattle.ada_typed.specs.Syntax.{Exprs as TypedExprs}
 use Rattle.ada_typed.specs.declared.expressions.Iterated.{Iterated}
 use Rattle.ada_typed.specs.declared.expressions.Run.{Run}
-use Rattle.std.specs.List.{list_any}
+use Rattle.std.specs.List.{list_all, list_any}
 use Rattle.std.specs.Prelude.{Bool, List, None, Option, Some, [], drop, false, if◌then◌else◌, int_le, int_lt, length, map, not, option_map, pos, true, unsigned_abs, ℕ, ℤ, ◌&&◌, ◌*◌, ◌++◌, ◌+ℤ◌, ◌+◌, ◌-ℤ◌, ◌==◌, ◌||◌, ◌∷◌}
 use Rattle.name_rules.specs.TypedParts.{also, also_all, exprs_of}
 use Rattle.ada_typed.specs.Decoded.{Part as TypedPart, as_associations}
@@ -303,9 +303,10 @@ abbrev pub array_placed : Names → Inside → Context → Component → Dimensi
 array_placed names level here component d apart (ByPosition es o) = array_values here component d apart d.low nothing_placed es >>= array_rest here component o
 array_placed names level here component d apart (ByAssociation as') = array_assocs names level here component d apart nothing_placed as'
 
-abbrev pub non_empty : List (ℤ × ℤ) → List (ℤ × ℤ)
-non_empty [] = []
-non_empty (r ∷ rs) = if not_empty r then r ∷ non_empty rs else non_empty rs
+-- what these ranges leave open of low .. high, or None where they don't fit: one without a value may only stand as the one
+-- choice of the one association (4.3.3), where it leaves all of a dimension open, which has a value
+abbrev pub gaps_of : ℤ → ℤ → List (ℤ × ℤ) → Option (List (ℤ × ℤ))
+gaps_of low high rs = if list_all not_empty rs then left_open low high (sorted rs) else None
 
 -- E07 StaticRange: a component that isn't given exactly once, at the bracket
 abbrev pub covered_alone : ℕ → ℕ → Option TypedPart → List (ℤ × ℤ) → Judging (Option TypedPart)
@@ -320,7 +321,7 @@ covered bracket d apart cells p (Some os) (Some v) = pure (option_map (aggregate
 -- one dimension of an array
 unfoldable pub dimension_of : Names → Inside → Context → ℕ → Component → Dimension → ℕ → Contents → Judging (Option TypedPart)
 dimension_of names level here bracket component d apart ps =
-    where_clean (array_placed names level here component d apart ps) (λ p. covered bracket d apart (extent d * apart) p (left_open d.low d.high (sorted (non_empty p.ranges))) p.rest)
+    where_clean (array_placed names level here component d apart ps) (λ p. covered bracket d apart (extent d * apart) p (gaps_of d.low d.high p.ranges) p.rest)
 
 -- E06: no aggregate where one of the dimensions behind must stand
 abbrev pub no_aggregate : Names → Inside → Context → Expr → Judging (Option TypedPart)

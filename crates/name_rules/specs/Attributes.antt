@@ -3,7 +3,7 @@ use Rattle.ada_base.specs.declared.operation.Op.TheVariants as op
 use Rattle.ada_base.specs.declared.operation.Op.{Op}
 use Rattle.name_rules.specs.Calls.{arg_names, operands}
 use Rattle.name_rules.specs.Expressions.{Inside}
-use Rattle.name_rules.specs.Found.{Denoted, Found, denote, scalar, static, text_found, universal, value_denoted}
+use Rattle.name_rules.specs.Found.{Denoted, Found, denote, parameter_found, scalar, static, text_found, universal, value_denoted}
 use Rattle.name_rules.specs.Judging.{Judging, fault, given, joined, pure, read, some, where_clean, ◌>>=◌}
 use Rattle.name_rules.specs.Names.{denoted_first, wrong_call}
 use Rattle.name_rules.specs.Operators.{limit_of}
@@ -48,6 +48,7 @@ attribute_at name =
 
 abbrev pub prefix_of : KnownDenoted → Prefix
 prefix_of (denoted.Value (known.Object p)) = prefix.Object p
+prefix_of (denoted.Parameter first s) = prefix.Parameter s
 prefix_of (denoted.Type first s) = prefix.Type s
 prefix_of (denoted.Sub first last n) = prefix.Function n
 prefix_of d = prefix.Other
@@ -199,6 +200,7 @@ is_array_object log _ = false
 
 abbrev pub alone : ℕ → Prefix → TypedPart → ℕ → Attribute → Judging (Option Denoted)
 alone first (prefix.Object p) x at attribute'.Image = object_image first p x p.subtype
+alone first (prefix.Parameter s) x at attribute'.Image = one_given s.kind (image_text first s.kind) (parameter_found first s x)
 alone first p x at a =
     if is_bound a then bound_alone first p x a else
     if is_reduction a then (read (λ log. is_array_object log p) >>= reduced_alone first at) else fault first WrongType

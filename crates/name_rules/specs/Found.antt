@@ -11,7 +11,7 @@ use Rattle.name_rules.specs.declared.types.Scalar.{Scalar}
 use Rattle.ada_typed.specs.Decoded as part
 use Rattle.ada_typed.specs.Syntax as typed
 use Rattle.ada_typed.specs.Syntax.{Composite, Pieces, Expr as TypedExpr, Exprs as TypedExprs}
-use Rattle.std.specs.Prelude.{Bool, Option, ℕ, ℤ}
+use Rattle.std.specs.Prelude.{Bool, Option, Some, ℕ, ℤ}
 use Rattle.ada_typed.specs.Decoded.{Part as TypedPart}
 
 -- what is known of something, and its part of the typed program
@@ -58,6 +58,10 @@ text_found first ps = record { known = known.Text first; part = ps }
 
 abbrev pub denote : KnownDenoted → TypedPart → Denoted
 denote d p = record { known = d; part = p }
+
+-- the value of a parameter of a loop, a chunk or an association (5.5)
+abbrev pub parameter_found : ℕ → Scalar → TypedPart → Found
+parameter_found first s x = record { known = known.Scalar first s.kind (Some s); part = x }
 
 -- a name's value
 abbrev pub value_denoted : Found → Denoted

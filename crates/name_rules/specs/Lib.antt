@@ -24,3 +24,4 @@ pub mod Declarations
 pub mod Statements
 pub mod Programs
 pub mod Resolved
+pub mod Indexed

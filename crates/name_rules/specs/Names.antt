@@ -34,6 +34,7 @@ use Rattle.ada_typed.specs.Decoded.{Part as TypedPart, as_expr}
 
 abbrev pub denoted_first : KnownDenoted → ℕ
 denoted_first (denoted.Value f) = first_of f
+denoted_first (denoted.Parameter first s) = first
 denoted_first (denoted.Type first s) = first
 denoted_first (denoted.Sub first last n) = first
 denoted_first (denoted.Done first) = first

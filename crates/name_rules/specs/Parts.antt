@@ -2,7 +2,7 @@
 use Rattle.name_rules.specs.Attributes.{attribute_at, attribute_found, bound_with, dimensions_in, is_array_object, is_bound, is_reduction, mentioned, prefix_subtype, scalar_with, settled_attribute}
 use Rattle.name_rules.specs.Calls.{conversion, sub_call}
 use Rattle.name_rules.specs.Expressions.{Inside, expr}
-use Rattle.name_rules.specs.Found.{Denoted, Found, denote, value_denoted}
+use Rattle.name_rules.specs.Found.{Denoted, Found, denote, parameter_found, value_denoted}
 use Rattle.name_rules.specs.Judging.{Judging, both, fault, given, pure, read, some, where_clean, ◌>>=◌}
 use Rattle.name_rules.specs.Names.{args_alone, component_cells, denoted_first, field, object_call, wrong_call}
 use Rattle.name_rules.specs.Output.{io_call}
@@ -165,6 +165,7 @@ valued_by names inside here d = valued_form names inside here d.known d.part
 -- E06: a procedure in an expression, a subtype as a value
 abbrev pub value_form : KnownDenoted → TypedPart → Judging (Option Found)
 value_form (denoted.Value f) x = some (record { known = f; part = x })
+value_form (denoted.Parameter first s) x = some (parameter_found first s x)
 value_form d x = fault (denoted_first d) WrongType
 
 unfoldable pub value_named : Names → Inside → Context → Name → Judging (Option Found)

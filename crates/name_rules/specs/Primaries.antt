@@ -3,14 +3,14 @@ use Rattle.name_rules.specs.Aggregates.{ByPosition, aggregate, contents}
 use Rattle.name_rules.specs.Attributes.{alone}
 use Rattle.name_rules.specs.Expressions.{Inside, condition, expr, in_place}
 use Rattle.ada_tree.specs.FirstTokens as first_token
-use Rattle.name_rules.specs.Found.{Found, With, composite, opened, scalar, text_found, universal}
+use Rattle.name_rules.specs.Found.{Found, With, composite, opened, scalar, static, text_found, universal}
 use Rattle.name_rules.specs.Iterations.{sequence}
 use Rattle.name_rules.specs.Judging.{Judging, both, fault, given, joined, pure, some, ◌>>=◌}
 use Rattle.name_rules.specs.Operators.{first_kind, open_of}
 use Rattle.name_rules.specs.Parts.{name, value_named}
 use Rattle.name_rules.specs.Symbols.{known, number, text}
 use Rattle.name_rules.specs.Types.{typed_scalar}
-use Rattle.name_rules.specs.Values.{asked, composite_asked, joint, kind_of}
+use Rattle.name_rules.specs.Values.{asked, composite_asked, joint, kind_of, mentions_of, value_of}
 use Rattle.name_rules.specs.declared.found.Found.TheVariants as known
 use Rattle.name_rules.specs.declared.found.Found.{Found as Known}
 use Rattle.name_rules.specs.declared.found.Limits.{Limits}
@@ -28,7 +28,7 @@ use Rattle.ada_tree.specs.Syntax as syntax
 use Rattle.ada_tree.specs.Syntax.{Elsifs, Expr, Primary}
 use Rattle.ada_typed.specs.Decoded as part
 use Rattle.ada_typed.specs.Syntax as typed
-use Rattle.std.specs.Prelude.{List, None, Option, Some, [], false, option_map, suc, true, zero, ℕ, ◌∷◌}
+use Rattle.std.specs.Prelude.{List, None, Option, Some, [], false, option_map, suc, true, zero, ℕ, ℤ, ◌∷◌}
 use Rattle.name_rules.specs.TypedParts.{pair, left_of, right_of, also}
 use Rattle.ada_typed.specs.Decoded.{Part as TypedPart, as_expr}
 
@@ -142,12 +142,16 @@ grouped_scalar bracket f (Some k) n = asked k f >>= λ x. given x (λ e. some (s
 grouped_scalar bracket f None (Some n) = composite_asked n f >>= λ c. pure (option_map (with_known (known.Composite bracket n)) c)
 grouped_scalar bracket f None None = pure None
 
+-- a static expression of a type stays static
+abbrev pub grouped_by : ℕ → Found → Option Kind → Option ℤ → Judging (Option Found)
+grouped_by bracket f (Some k) (Some z) = some (static bracket k z (mentions_of f))
+grouped_by bracket f k z = grouped_scalar bracket f k (composite_in f.known)
+
 abbrev pub grouped_form : ℕ → Known → TypedPart → Judging (Option Found)
 grouped_form bracket (known.Universal first z alone) x = some (with_known (known.Universal bracket z false) x)
 grouped_form bracket (known.Open first l) x = some (opened bracket l (typed.Group (as_expr x)))
-grouped_form bracket (known.Static first k z) x = some (with_known (known.Static bracket k z) x)
 grouped_form bracket (known.Text first) x = some (with_known (known.Text bracket) x)
-grouped_form bracket f x = grouped_scalar bracket (with_known f x) (kind_of f) (composite_in f)
+grouped_form bracket f x = grouped_by bracket (with_known f x) (kind_of f) (value_of f)
 
 unfoldable pub grouped : ℕ → Found → Judging (Option Found)
 grouped bracket f = grouped_form bracket f.known f.part

@@ -113,13 +113,13 @@ of_static a z d = record { known = d; part = both_mentions a z }
 abbrev pub spanned : ℕ → Bool → Kind → Found → Found → ℤ × ℤ → Judging (Option Static)
 spanned first must_hold k a z r = if must_hold && not (int_le r.0 r.1) then fault first StaticRange else some (of_static a z (dimension k r))
 
--- E07 StaticRange: a bound outside the subtype that is named, at the bound
+-- E07 StaticRange: a bound outside the subtype that is named, at the bound; a range without a value has none such (3.5)
 abbrev pub inside_subtype : Scalar → Found → ℤ → Judging (Unit {0})
 inside_subtype s b z = unless (lies_in s z) (first_of b.known) StaticRange
 
 abbrev pub checked_span : ℕ → Bool → Scalar → Found → Found → ℤ × ℤ → Judging (Option Static)
 checked_span first must_hold s a z r =
-    if not must_hold && not (int_le r.0 r.1) then some (of_static a z (dimension s.kind r)) else
+    if not (int_le r.0 r.1) then spanned first must_hold s.kind a z r else
     (inside_subtype s a r.0 >>= λ u. inside_subtype s z r.1 >>= λ v.
     if lies_in s r.0 && lies_in s r.1 then spanned first must_hold s.kind a z r else pure None)
 

@@ -1,7 +1,7 @@
 -- What names stand for (8.2, 8.3). A scope is the list of what was declared, the latest last: a name hides an outer
 -- one from where its declaration begins, and is visible from its end on; both are entries.
 use Rattle.ada_base.specs.declared.reason.Reason.TheVariants as reason
-use Rattle.name_rules.specs.Found.{Denoted, denote, scalar, value_denoted}
+use Rattle.name_rules.specs.Found.{Denoted, denote}
 use Rattle.name_rules.specs.Judging.{Judging, fault, given, pure, some, ◌>>=◌}
 use Rattle.name_rules.specs.Symbols.{ada_name, boolean_name, constraint_error_name, data_error_name, end_error_name, false_name, get_name, integer_io_name, integer_name, known, natural_name, new_line_name, positive_name, program_error_name, put_line_name, put_name, storage_error_name, symbol, text_io_name, true_name}
 use Rattle.name_rules.specs.declared.found.Denoted.TheVariants as denoted
@@ -145,7 +145,7 @@ stands here token name None = undeclared here token name
 stands here token name (Some what.Hidden) = fault token NotVisible
 stands here token name (Some what.Broken) = pure None
 stands here token name (Some (what.Object n s v z)) = named (denoted.Value (known.Object (object token n s v z)))
-stands here token name (Some (what.Parameter n s)) = some (value_denoted (scalar token s.kind (Some s) (typed.Parameter token n)))
+stands here token name (Some (what.Parameter n s)) = some (denote (denoted.Parameter token s) (part.AnExpr (typed.Parameter token n)))
 stands here token name (Some (what.Item n s v)) = named (denoted.Value (known.Object (item token n s v)))
 stands here token name (Some (what.Number z)) = named (denoted.Value (known.Universal token z false))
 stands here token name (Some (what.Boolean b)) = named (denoted.Value (known.Static token kind.Boolean (bit b)))

@@ -87,6 +87,7 @@ pub enum Attribute {
 #[derive(Clone, Copy)]
 pub enum Prefix {
     Object(Place),
+    Parameter(Scalar),
     Type(Subtype),
     Function(u32),
     Other,
@@ -113,6 +114,11 @@ pub struct Reach {
 #[derive(Clone, Copy)]
 pub enum Denoted {
     Value(Found),
+    /// A parameter of a loop, a chunk or an association (5.5): an object whose part is its value.
+    Parameter {
+        first: u32,
+        scalar: Scalar,
+    },
     Type {
         first: u32,
         subtype: Subtype,

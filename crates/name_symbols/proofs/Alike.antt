@@ -14,7 +14,7 @@ alike_from s t e = subst (λ u. alike s u ≡ true) e (alike_same s)
 cons_eq : (c d : ℕ) (s t : List ℕ) → c ≡ d → s ≡ t → (c ∷ s) ≡ (d ∷ t)
 cons_eq c d s t e f = cc
 
-alike_eq : (s t : List ℕ) → alike s t ≡ true → s ≡ t
+pub alike_eq : (s t : List ℕ) → alike s t ≡ true → s ≡ t
 alike_eq [] [] e = refl
 alike_eq [] (d ∷ t) e = absurd (false≢true e)
 alike_eq (c ∷ s) [] e = absurd (false≢true e)

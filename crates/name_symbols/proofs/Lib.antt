@@ -1,3 +1,4 @@
 mod Alike
 mod Lists
 mod Places
+mod Seen

@@ -6,3 +6,4 @@ pub mod known;
 pub mod naming;
 pub mod symbols;
 pub mod texts;
+mod words;

@@ -27,6 +27,7 @@ pub fn denoted_first(denoted: Denoted) -> u32
 {
     match denoted {
         Denoted::Value(found) => first_of(found),
+        Denoted::Parameter { first, .. } => first,
         Denoted::Type { first, .. } => first,
         Denoted::Sub { first, .. } => first,
         Denoted::Done { first } => first,

@@ -12,6 +12,7 @@ use crate::symbols::{
 };
 use ada_base::{Items, Reason};
 use ada_typed::Root;
+use name_rules::entries::Entries;
 use name_rules::found::{Denoted, Found, Place, Put, Reach};
 use name_rules::log::{Log, Rule};
 use name_rules::scope::{Context, Entry, Names, Packages, What};
@@ -20,24 +21,17 @@ use std::alloc::AllocError;
 use typed_parts::Parts;
 
 /// What a symbol stands for: of several declarations of a name the one that was made last.
-pub fn lookup(name: u32, scope: &[Entry]) -> Option<What>
+pub fn lookup(name: u32, scope: &Entries) -> Option<What>
     ensures { result ≡ spec.lookup name scope.now }
 {
-    match scope.iter().rev().find(|e| e.symbol == name) {
-        Some(entry) => Some(entry.what),
-        None => None,
-    }
+    scope.last(name)
 }
 
 /// Whether a name is declared in the region that begins at that place of the scope.
 pub fn is_taken(name: u32, start: usize, here: &Context) -> bool
     ensures { result ≡ spec.is_taken name start here.now }
 {
-    here.scope
-        .as_slice()
-        .iter()
-        .skip(start)
-        .any(|e| e.symbol == name)
+    here.scope.is_taken(name, start)
 }
 
 fn in_text_io(name: u32) -> bool
@@ -239,11 +233,7 @@ fn stands(
         }
         What::Parameter { number, scalar } => {
             out.parameter(token, number)?;
-            return Ok(Some(Denoted::Value(Found::Scalar {
-                first,
-                kind: scalar.kind,
-                nominal: Some(scalar),
-            })));
+            return Ok(Some(Denoted::Parameter { first, scalar }));
         }
         What::Object {
             number,
@@ -290,7 +280,7 @@ pub fn stands_for(
     ensures { Judges (spec.stands_for names.now here.now token log.old) (parts out.old) result log.new (parts out.new) }
 {
     let name = symbol(names, token);
-    let what = lookup(name, here.scope.as_slice());
+    let what = lookup(name, &here.scope);
     stands(here, log, out, token, name, what)
 }
 
@@ -498,8 +488,7 @@ pub fn declared(
 pub fn copied(here: &Context, out: &Parts) -> Result<Context, AllocError>
     ensures { IfOk result (λ copy. copy ≡ here.now) }
 {
-    let mut scope = Items::new(out.alloc());
-    scope.extend(here.scope.as_slice())?;
+    let scope = here.scope.copied()?;
     let mut loops = Items::new(out.alloc());
     loops.extend(here.loops.as_slice())?;
     Ok(Context {

@@ -1,6 +1,6 @@
 //! Static ranges (3.6, 4.3.3) and the values of choices (3.8.1): what they mention is their part.
 
-ghost use Rattle.std.specs.Prelude.{◌≡◌, ◌&&◌, int_le, not};
+ghost use Rattle.std.specs.Prelude.{◌≡◌, ◌&&◌};
 ghost use Rattle.name_rules.specs.Judges.{Judges, Says, found, found_of};
 ghost use Rattle.name_rules.specs.Judging.{fault};
 ghost use Rattle.name_rules.specs.Ranges as spec;
@@ -251,14 +251,8 @@ fn inside_span(
     Ok(None)
 }
 
-/// Whether bounds have no value, and need none.
-fn may_be_empty(must_hold: bool, span: Span) -> bool
-    ensures { result ≡ (not must_hold && not (int_le span.low span.high)) }
-{
-    !must_hold && !(span.low <= span.high)
-}
-
-/// A dimension of bounds of a subtype, the latest parts: StaticRange at one that is outside of it.
+/// A dimension of bounds of a subtype, the latest parts: StaticRange where it must have a value and has none, and else at
+/// a bound that is outside of the subtype.
 fn checked_span(
     log: &mut Log,
     out: &mut Parts,
@@ -271,13 +265,8 @@ fn checked_span(
 ) -> Result<Option<Dimension>, AllocError>
     ensures { Judges (spec.checked_span first must_hold scalar (found low (second (parts out.old))) (found high (top (parts out.old))) (span.low, span.high) log.old) (pop (pop (parts out.old))) result log.new (parts out.new) }
 {
-    if may_be_empty(must_hold, span) {
-        both_mentions(out, low, high)?;
-        return Ok(Some(Dimension {
-            kind: scalar.kind,
-            low: span.low,
-            high: span.high,
-        }));
+    if !(span.low <= span.high) {
+        return spanned(log, out, first, must_hold, scalar.kind, low, high, span);
     }
     inside_span(log, out, first, must_hold, scalar, low, high, span)
 }
