@@ -404,6 +404,7 @@ const ATTRIBUTES: &str = "\
 ~~~Put_Line (Boolean'Image (Boolean'Max (False, True)) & Boolean'Image (Boolean'Min (False, True)));~~0~TRUEFALSE|~
 ~~N : Integer := -12; B : Boolean := N > 0;~Put_Line (N'Image & Integer'Image (0) & B'Image & Boolean'Image (True) & Natural'Image (3));~~0~-12 0FALSETRUE 3|~
 ~~type Big is range -2 ** 63 .. 2 ** 63 - 1; X : Big := Big'First;~Put_Line (X'Image & Big'Image (Big'Last));~~0~-9223372036854775808 9223372036854775807|~
+~~~for I in 1 .. 2 loop Put_Line (I'Image); end loop; for B in Boolean loop Put_Line (B'Image); end loop;~~0~ 1| 2|FALSE|TRUE|~
 ";
 
 #[test]
