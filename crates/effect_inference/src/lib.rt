@@ -7,10 +7,10 @@
 
 pub mod effects;
 pub mod environment;
-pub mod laws;
 pub mod exprs;
 pub mod gathering;
 pub mod infer;
+pub mod laws;
 pub mod paths;
 pub mod source;
 pub mod stmts;
