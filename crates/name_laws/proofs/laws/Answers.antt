@@ -1,0 +1,16 @@
+use Rattle.name_laws.proofs.laws.Goals as goal
+use Rattle.name_laws.proofs.Lookups.{hiding_law}
+use Rattle.name_laws.proofs.Scopes.{scope_law}
+use Rattle.name_laws.proofs.Own.{main_name_law, own_name_law}
+
+pub returns-clause-hiding : goal.returns-clause-hiding
+returns-clause-hiding c = hiding_law
+
+pub returns-clause-scopes : goal.returns-clause-scopes
+returns-clause-scopes c = scope_law
+
+pub returns-clause-own_name : goal.returns-clause-own_name
+returns-clause-own_name c = own_name_law
+
+pub returns-clause-main_name : goal.returns-clause-main_name
+returns-clause-main_name c = main_name_law
