@@ -1,0 +1,16 @@
+-- Judgements of primaries, names and statements inside others that keep what each line of the log keeps.
+use Rattle.ada_tree.specs.Syntax.{Name, Primary, Stmt}
+use Rattle.name_rules.specs.Expressions.{Inside}
+use Rattle.name_rules.specs.Statements.{Around}
+use Rattle.name_rules.specs.declared.scope.Context.{Context}
+use Rattle.name_rules.specs.declared.types.Wanted.{Wanted}
+use Rattle.name_laws.proofs.Walk.{Keeps, Walk}
+
+pub record KeepsInside (walk : Walk) (level : Inside) : Type 0 where
+  pub primary : (here : Context) (p : Primary) (want : Wanted) → Keeps walk (level.primary here p want)
+  pub name : (here : Context) (n : Name) → Keeps walk (level.name here n)
+
+pub record KeepsAround (walk : Walk) (a : Around) : Type 0 where
+  pub level : KeepsInside walk a.level
+  pub inner : KeepsInside walk a.inner
+  pub within : (here : Context) (s : Stmt) → Keeps walk (a.within here s)
