@@ -77,9 +77,9 @@ k-one_dimension walk first bracket ms a ds (None ∷ []) (f ∷ []) = k-dimensio
 k-one_dimension walk first bracket ms a ds (Some name ∷ []) fs = k-fault walk name WrongType
 k-one_dimension walk first bracket ms a ds ns fs = k-fault walk bracket WrongType
 
-pub k-bound_with : (walk : Walk) (x0 : Names) (x1 : Inside) (x2 : Context) (x3 : ℕ) (x4 : TypedPart) (x5 : Attribute) (x6 : ℕ) (x7 : Args) (x8 : List Dimension) → KeepsInside walk x1 → Keeps walk (bound_with x0 x1 x2 x3 x4 x5 x6 x7 x8)
-k-bound_with walk names inside here first ms a bracket as' [] keeps1 = k-fault walk first WrongType
-k-bound_with walk names inside here first ms a bracket as' (d ∷ ds) keeps1 = k-where_clean walk (operands names inside here (Some []) as') (λ fs. given fs (one_dimension first bracket ms a (d ∷ ds) (arg_names as'))) (k-operands walk names inside here (Some []) as' keeps1) (λ fs. k-given walk fs (one_dimension first bracket ms a (d ∷ ds) (arg_names as')) (λ z3. k-one_dimension walk first bracket ms a (d ∷ ds) (arg_names as') z3))
+pub k-bound_with : (walk : Walk) (x0 : Names) (x1 : Inside) (x2 : Context) (x3 : ℕ) (x4 : TypedPart) (x5 : Attribute) (x6 : ℕ) (x7 : Args) (x8 : List Dimension) → walk.Takes x0 → KeepsInside walk x1 → Keeps walk (bound_with x0 x1 x2 x3 x4 x5 x6 x7 x8)
+k-bound_with walk names inside here first ms a bracket as' [] keeps1 keeps2 = k-fault walk first WrongType
+k-bound_with walk names inside here first ms a bracket as' (d ∷ ds) keeps1 keeps2 = k-where_clean walk (operands names inside here (Some []) as') (λ fs. given fs (one_dimension first bracket ms a (d ∷ ds) (arg_names as'))) (k-operands walk names inside here (Some []) as' keeps1 keeps2) (λ fs. k-given walk fs (one_dimension first bracket ms a (d ∷ ds) (arg_names as')) (λ z3. k-one_dimension walk first bracket ms a (d ∷ ds) (arg_names as') z3))
 
 pub k-one_given : (walk : Walk) (x0 : Kind) (x1 : (TypedExpr → Denoted)) (x2 : Found) → Keeps walk (one_given x0 x1 x2)
 k-one_given walk k make f = k-bind walk (asked k f) (λ e. pure (option_map (λ x. make (as_expr x)) e)) (k-asked walk k f) (λ e. k-pure walk (option_map (λ x. make (as_expr x)) e))
@@ -97,24 +97,24 @@ k-two_named walk bracket k make (Some name) fs = k-fault walk name Unknown
 k-two_named walk bracket k make None (f ∷ g ∷ []) = k-two_given walk k make f g
 k-two_named walk bracket k make None fs = k-fault walk bracket WrongType
 
-pub k-one_argument : (walk : Walk) (x0 : Names) (x1 : Inside) (x2 : Context) (x3 : ℕ) (x4 : Kind) (x5 : (TypedExpr → Denoted)) (x6 : Args) → KeepsInside walk x1 → Keeps walk (one_argument x0 x1 x2 x3 x4 x5 x6)
+pub k-one_argument : (walk : Walk) (x0 : Names) (x1 : Inside) (x2 : Context) (x3 : ℕ) (x4 : Kind) (x5 : (TypedExpr → Denoted)) (x6 : Args) → walk.Takes x0 → KeepsInside walk x1 → Keeps walk (one_argument x0 x1 x2 x3 x4 x5 x6)
 unfolding one_argument
-k-one_argument walk names inside here bracket k make as' keeps1 = k-where_clean walk (operands names inside here (Some []) as') (λ fs. given fs (one_named bracket k make (first_named (arg_names as')))) (k-operands walk names inside here (Some []) as' keeps1) (λ fs. k-given walk fs (one_named bracket k make (first_named (arg_names as'))) (λ z4. k-one_named walk bracket k make (first_named (arg_names as')) z4))
+k-one_argument walk names inside here bracket k make as' keeps1 keeps2 = k-where_clean walk (operands names inside here (Some []) as') (λ fs. given fs (one_named bracket k make (first_named (arg_names as')))) (k-operands walk names inside here (Some []) as' keeps1 keeps2) (λ fs. k-given walk fs (one_named bracket k make (first_named (arg_names as'))) (λ z4. k-one_named walk bracket k make (first_named (arg_names as')) z4))
 
-pub k-two_arguments_of : (walk : Walk) (x0 : Names) (x1 : Inside) (x2 : Context) (x3 : ℕ) (x4 : Kind) (x5 : (TypedExpr → TypedExpr → Denoted)) (x6 : Args) → KeepsInside walk x1 → Keeps walk (two_arguments_of x0 x1 x2 x3 x4 x5 x6)
+pub k-two_arguments_of : (walk : Walk) (x0 : Names) (x1 : Inside) (x2 : Context) (x3 : ℕ) (x4 : Kind) (x5 : (TypedExpr → TypedExpr → Denoted)) (x6 : Args) → walk.Takes x0 → KeepsInside walk x1 → Keeps walk (two_arguments_of x0 x1 x2 x3 x4 x5 x6)
 unfolding two_arguments_of
-k-two_arguments_of walk names inside here bracket k make as' keeps1 = k-where_clean walk (operands names inside here (Some []) as') (λ fs. given fs (two_named bracket k make (first_named (arg_names as')))) (k-operands walk names inside here (Some []) as' keeps1) (λ fs. k-given walk fs (two_named bracket k make (first_named (arg_names as'))) (λ z5. k-two_named walk bracket k make (first_named (arg_names as')) z5))
+k-two_arguments_of walk names inside here bracket k make as' keeps1 keeps2 = k-where_clean walk (operands names inside here (Some []) as') (λ fs. given fs (two_named bracket k make (first_named (arg_names as')))) (k-operands walk names inside here (Some []) as' keeps1 keeps2) (λ fs. k-given walk fs (two_named bracket k make (first_named (arg_names as'))) (λ z5. k-two_named walk bracket k make (first_named (arg_names as')) z5))
 
-pub k-stepped : (walk : Walk) (x0 : Names) (x1 : Inside) (x2 : Context) (x3 : ℕ) (x4 : Scalar) (x5 : Op) (x6 : ℕ) (x7 : Args) → KeepsInside walk x1 → Keeps walk (stepped x0 x1 x2 x3 x4 x5 x6 x7)
-k-stepped walk names inside here first s o bracket as' keeps1 = k-if walk (is_integer s.kind) (one_argument names inside here bracket s.kind (step first s.kind o) as') (fault first WrongType) (k-one_argument walk names inside here bracket s.kind (step first s.kind o) as' keeps1) (k-fault walk first WrongType)
+pub k-stepped : (walk : Walk) (x0 : Names) (x1 : Inside) (x2 : Context) (x3 : ℕ) (x4 : Scalar) (x5 : Op) (x6 : ℕ) (x7 : Args) → walk.Takes x0 → KeepsInside walk x1 → Keeps walk (stepped x0 x1 x2 x3 x4 x5 x6 x7)
+k-stepped walk names inside here first s o bracket as' keeps1 keeps2 = k-if walk (is_integer s.kind) (one_argument names inside here bracket s.kind (step first s.kind o) as') (fault first WrongType) (k-one_argument walk names inside here bracket s.kind (step first s.kind o) as' keeps1 keeps2) (k-fault walk first WrongType)
 
-pub k-scalar_with : (walk : Walk) (x0 : Names) (x1 : Inside) (x2 : Context) (x3 : ℕ) (x4 : Scalar) (x5 : Attribute) (x6 : ℕ) (x7 : Args) → KeepsInside walk x1 → Keeps walk (scalar_with x0 x1 x2 x3 x4 x5 x6 x7)
-k-scalar_with walk names inside here first s attribute'.Image bracket as' keeps1 = k-one_argument walk names inside here bracket s.kind (image_text first s.kind) as' keeps1
-k-scalar_with walk names inside here first s attribute'.Max bracket as' keeps1 = k-two_arguments_of walk names inside here bracket s.kind (extreme first s.kind op.Max) as' keeps1
-k-scalar_with walk names inside here first s attribute'.Min bracket as' keeps1 = k-two_arguments_of walk names inside here bracket s.kind (extreme first s.kind op.Min) as' keeps1
-k-scalar_with walk names inside here first s attribute'.Succ bracket as' keeps1 = k-stepped walk names inside here first s op.Add bracket as' keeps1
-k-scalar_with walk names inside here first s attribute'.Pred bracket as' keeps1 = k-stepped walk names inside here first s op.Sub bracket as' keeps1
-k-scalar_with walk names inside here first s a bracket as' keeps1 = k-bind walk (scalar_bound first s a) (λ d. given d (λ x. wrong_call names inside here first as')) (k-scalar_bound walk first s a) (λ d. k-given walk d (λ x. wrong_call names inside here first as') (λ x. k-wrong_call walk names inside here first as' keeps1))
+pub k-scalar_with : (walk : Walk) (x0 : Names) (x1 : Inside) (x2 : Context) (x3 : ℕ) (x4 : Scalar) (x5 : Attribute) (x6 : ℕ) (x7 : Args) → walk.Takes x0 → KeepsInside walk x1 → Keeps walk (scalar_with x0 x1 x2 x3 x4 x5 x6 x7)
+k-scalar_with walk names inside here first s attribute'.Image bracket as' keeps1 keeps2 = k-one_argument walk names inside here bracket s.kind (image_text first s.kind) as' keeps1 keeps2
+k-scalar_with walk names inside here first s attribute'.Max bracket as' keeps1 keeps2 = k-two_arguments_of walk names inside here bracket s.kind (extreme first s.kind op.Max) as' keeps1 keeps2
+k-scalar_with walk names inside here first s attribute'.Min bracket as' keeps1 keeps2 = k-two_arguments_of walk names inside here bracket s.kind (extreme first s.kind op.Min) as' keeps1 keeps2
+k-scalar_with walk names inside here first s attribute'.Succ bracket as' keeps1 keeps2 = k-stepped walk names inside here first s op.Add bracket as' keeps1 keeps2
+k-scalar_with walk names inside here first s attribute'.Pred bracket as' keeps1 keeps2 = k-stepped walk names inside here first s op.Sub bracket as' keeps1 keeps2
+k-scalar_with walk names inside here first s a bracket as' keeps1 keeps2 = k-bind walk (scalar_bound first s a) (λ d. given d (λ x. wrong_call names inside here first as')) (k-scalar_bound walk first s a) (λ d. k-given walk d (λ x. wrong_call names inside here first as') (λ x. k-wrong_call walk names inside here first as' keeps1 keeps2))
 
 pub k-object_image : (walk : Walk) (x0 : ℕ) (x1 : Place) (x2 : TypedPart) (x3 : Subtype) → Keeps walk (object_image x0 x1 x2 x3)
 k-object_image walk first p x (subtype.Scalar s) = k-one_given walk s.kind (image_text first s.kind) (record { known = known.Object p; part = x })

@@ -54,50 +54,50 @@ pub k-variable_given : (walk : Walk) (x0 : Taken) (x1 : Found) → Keeps walk (v
 unfolding variable_given
 k-variable_given walk t f = k-variable_form walk t f.known f.part
 
-pub k-actual_by : (walk : Walk) (x0 : Names) (x1 : Inside) (x2 : Context) (x3 : Taken) (x4 : Mode) (x5 : Expr) → KeepsInside walk x1 → Keeps walk (actual_by x0 x1 x2 x3 x4 x5)
-k-actual_by walk names inside here t mode.In e keeps1 = k-bind walk (value_for names inside here t.subtype e) (λ v. given v (λ x. some (part.AnActual (typed.In t.object (part.as_value x))))) (k-value_for walk names inside here t.subtype e keeps1) (λ v. k-given walk v (λ x. some (part.AnActual (typed.In t.object (part.as_value x)))) (λ x. k-some walk (part.AnActual (typed.In t.object (part.as_value x)))))
-k-actual_by walk names inside here t _ e keeps1 = k-bind walk (expr names inside here (wanted_of t.subtype) e) (λ x. given x (variable_given t)) (k-expr walk names inside here (wanted_of t.subtype) e keeps1) (λ x. k-given walk x (variable_given t) (λ z1. k-variable_given walk t z1))
+pub k-actual_by : (walk : Walk) (x0 : Names) (x1 : Inside) (x2 : Context) (x3 : Taken) (x4 : Mode) (x5 : Expr) → walk.Takes x0 → KeepsInside walk x1 → Keeps walk (actual_by x0 x1 x2 x3 x4 x5)
+k-actual_by walk names inside here t mode.In e keeps1 keeps2 = k-bind walk (value_for names inside here t.subtype e) (λ v. given v (λ x. some (part.AnActual (typed.In t.object (part.as_value x))))) (k-value_for walk names inside here t.subtype e keeps1 keeps2) (λ v. k-given walk v (λ x. some (part.AnActual (typed.In t.object (part.as_value x)))) (λ x. k-some walk (part.AnActual (typed.In t.object (part.as_value x)))))
+k-actual_by walk names inside here t _ e keeps1 keeps2 = k-bind walk (expr names inside here (wanted_of t.subtype) e) (λ x. given x (variable_given t)) (k-expr walk names inside here (wanted_of t.subtype) e keeps1 keeps2) (λ x. k-given walk x (variable_given t) (λ z1. k-variable_given walk t z1))
 
-pub k-actual_for : (walk : Walk) (x0 : Names) (x1 : Inside) (x2 : Context) (x3 : Option Taken) (x4 : Expr) → KeepsInside walk x1 → Keeps walk (actual_for x0 x1 x2 x3 x4)
+pub k-actual_for : (walk : Walk) (x0 : Names) (x1 : Inside) (x2 : Context) (x3 : Option Taken) (x4 : Expr) → walk.Takes x0 → KeepsInside walk x1 → Keeps walk (actual_for x0 x1 x2 x3 x4)
 unfolding actual_for
-k-actual_for walk names inside here None e keeps1 = k-bind walk (judged_alone names inside here e) (λ u. pure None) (k-judged_alone walk names inside here e keeps1) (λ u. k-pure walk None)
-k-actual_for walk names inside here (Some t) e keeps1 = k-actual_by walk names inside here t t.mode e keeps1
+k-actual_for walk names inside here None e keeps1 keeps2 = k-bind walk (judged_alone names inside here e) (λ u. pure None) (k-judged_alone walk names inside here e keeps1 keeps2) (λ u. k-pure walk None)
+k-actual_for walk names inside here (Some t) e keeps1 keeps2 = k-actual_by walk names inside here t t.mode e keeps1 keeps2
 
 pub k-found_or_unknown : (walk : Walk) (x0 : ℕ) (x1 : Option ℕ) → Keeps walk (found_or_unknown x0 x1)
 k-found_or_unknown walk name None = k-fault walk name Unknown
 k-found_or_unknown walk name (Some i) = k-some walk i
 
-pub k-parameter_of : (walk : Walk) (x0 : Names) (x1 : List Taken) (x2 : ℕ) (x3 : Bool) (x4 : Option ℕ) → Keeps walk (parameter_of x0 x1 x2 x3 x4)
-k-parameter_of walk names ts i named (Some name) = k-found_or_unknown walk name (position (λ t. t.symbol == symbol names name) ts)
-k-parameter_of walk names ts i true None = k-pure walk None
-k-parameter_of walk names ts i false None = k-pure walk (if nat_lt i (length ts) then Some i else None)
+pub k-parameter_of : (walk : Walk) (x0 : Names) (x1 : List Taken) (x2 : ℕ) (x3 : Bool) (x4 : Option ℕ) → walk.Takes x0 → Keeps walk (parameter_of x0 x1 x2 x3 x4)
+k-parameter_of walk names ts i named (Some name) keeps1 = k-found_or_unknown walk name (position (λ t. t.symbol == symbol names name) ts)
+k-parameter_of walk names ts i true None keeps1 = k-pure walk None
+k-parameter_of walk names ts i false None keeps1 = k-pure walk (if nat_lt i (length ts) then Some i else None)
 
 pub k-given_once : (walk : Walk) (x0 : ℕ) (x1 : List ℕ) (x2 : Option ℕ) → Keeps walk (given_once x0 x1 x2)
 k-given_once walk first taken None = k-pure walk tt
 k-given_once walk first taken (Some i) = k-unless walk (not (list_any (λ j. i == j) taken)) first Twice
 
-pub k-argument_form : (walk : Walk) (x0 : Names) (x1 : Inside) (x2 : Context) (x3 : List Taken) (x4 : Calling) (x5 : Option ℕ) (x6 : Expr) (x7 : ℕ) → KeepsInside walk x1 → Keeps walk (argument_form x0 x1 x2 x3 x4 x5 x6 x7)
-k-argument_form walk names inside here ts c name e first keeps1 = k-bind walk ((parameter_of names ts c.count c.named name)) (λ i. (given_once first c.taken i) >>= λ u. (actual_for names inside here (taken_at ts i) e) >>= λ x. pure (record { count = c.count + 1; taken = also_taken c.taken i; named = c.named || is_some name; late = late_at c.late c.named name first; actuals = with_actual i c.actuals x })) (k-parameter_of walk names ts c.count c.named name) (λ i. k-bind walk ((given_once first c.taken i)) (λ u. (actual_for names inside here (taken_at ts i) e) >>= λ x. pure (record { count = c.count + 1; taken = also_taken c.taken i; named = c.named || is_some name; late = late_at c.late c.named name first; actuals = with_actual i c.actuals x })) (k-given_once walk first c.taken i) (λ u. k-bind walk ((actual_for names inside here (taken_at ts i) e)) (λ x. pure (record { count = c.count + 1; taken = also_taken c.taken i; named = c.named || is_some name; late = late_at c.late c.named name first; actuals = with_actual i c.actuals x })) (k-actual_for walk names inside here (taken_at ts i) e keeps1) (λ x. k-pure walk (record { count = c.count + 1; taken = also_taken c.taken i; named = c.named || is_some name; late = late_at c.late c.named name first; actuals = with_actual i c.actuals x }))))
+pub k-argument_form : (walk : Walk) (x0 : Names) (x1 : Inside) (x2 : Context) (x3 : List Taken) (x4 : Calling) (x5 : Option ℕ) (x6 : Expr) (x7 : ℕ) → walk.Takes x0 → KeepsInside walk x1 → Keeps walk (argument_form x0 x1 x2 x3 x4 x5 x6 x7)
+k-argument_form walk names inside here ts c name e first keeps1 keeps2 = k-bind walk ((parameter_of names ts c.count c.named name)) (λ i. (given_once first c.taken i) >>= λ u. (actual_for names inside here (taken_at ts i) e) >>= λ x. pure (record { count = c.count + 1; taken = also_taken c.taken i; named = c.named || is_some name; late = late_at c.late c.named name first; actuals = with_actual i c.actuals x })) (k-parameter_of walk names ts c.count c.named name keeps1) (λ i. k-bind walk ((given_once first c.taken i)) (λ u. (actual_for names inside here (taken_at ts i) e) >>= λ x. pure (record { count = c.count + 1; taken = also_taken c.taken i; named = c.named || is_some name; late = late_at c.late c.named name first; actuals = with_actual i c.actuals x })) (k-given_once walk first c.taken i) (λ u. k-bind walk ((actual_for names inside here (taken_at ts i) e)) (λ x. pure (record { count = c.count + 1; taken = also_taken c.taken i; named = c.named || is_some name; late = late_at c.late c.named name first; actuals = with_actual i c.actuals x })) (k-actual_for walk names inside here (taken_at ts i) e keeps1 keeps2) (λ x. k-pure walk (record { count = c.count + 1; taken = also_taken c.taken i; named = c.named || is_some name; late = late_at c.late c.named name first; actuals = with_actual i c.actuals x }))))
 
-pub k-argument : (walk : Walk) (x0 : Names) (x1 : Inside) (x2 : Context) (x3 : List Taken) (x4 : Calling) (x5 : Arg) → KeepsInside walk x1 → Keeps walk (argument x0 x1 x2 x3 x4 x5)
+pub k-argument : (walk : Walk) (x0 : Names) (x1 : Inside) (x2 : Context) (x3 : List Taken) (x4 : Calling) (x5 : Arg) → walk.Takes x0 → KeepsInside walk x1 → Keeps walk (argument x0 x1 x2 x3 x4 x5)
 unfolding argument
-k-argument walk names inside here ts c (syntax.arg name e) keeps1 = k-argument_form walk names inside here ts c name e (first_token.of_arg (syntax.arg name e)) keeps1
+k-argument walk names inside here ts c (syntax.arg name e) keeps1 keeps2 = k-argument_form walk names inside here ts c name e (first_token.of_arg (syntax.arg name e)) keeps1 keeps2
 
-pub k-arguments : (walk : Walk) (x0 : Names) (x1 : Inside) (x2 : Context) (x3 : List Taken) (x4 : Calling) (x5 : Args) → KeepsInside walk x1 → Keeps walk (arguments x0 x1 x2 x3 x4 x5)
-k-arguments walk names inside here ts c syntax.NoArg keeps1 = k-pure walk c
-k-arguments walk names inside here ts c (syntax.AlsoArg a as') keeps1 = k-bind walk (argument names inside here ts c a) (λ d. arguments names inside here ts d as') (k-argument walk names inside here ts c a keeps1) (λ d. k-arguments walk names inside here ts d as' keeps1)
+pub k-arguments : (walk : Walk) (x0 : Names) (x1 : Inside) (x2 : Context) (x3 : List Taken) (x4 : Calling) (x5 : Args) → walk.Takes x0 → KeepsInside walk x1 → Keeps walk (arguments x0 x1 x2 x3 x4 x5)
+k-arguments walk names inside here ts c syntax.NoArg keeps1 keeps2 = k-pure walk c
+k-arguments walk names inside here ts c (syntax.AlsoArg a as') keeps1 keeps2 = k-bind walk (argument names inside here ts c a) (λ d. arguments names inside here ts d as') (k-argument walk names inside here ts c a keeps1 keeps2) (λ d. k-arguments walk names inside here ts d as' keeps1 keeps2)
 
 pub k-complete : (walk : Walk) (x0 : ℕ) (x1 : ℕ) (x2 : Option ℕ) (x3 : Calling) → Keeps walk (complete x0 x1 x2 x3)
 k-complete walk at count (Some late) c = k-fault walk late WrongType
 k-complete walk at count None c = k-if walk (c.count == count) (pure c.actuals) (fault at WrongType) (k-pure walk c.actuals) (k-fault walk at WrongType)
 
-pub k-sub_call : (walk : Walk) (x0 : Names) (x1 : Inside) (x2 : Context) (x3 : ℕ) (x4 : ℕ) (x5 : ℕ) (x6 : ℕ) (x7 : Args) → KeepsInside walk x1 → Keeps walk (sub_call x0 x1 x2 x3 x4 x5 x6 x7)
+pub k-sub_call : (walk : Walk) (x0 : Names) (x1 : Inside) (x2 : Context) (x3 : ℕ) (x4 : ℕ) (x5 : ℕ) (x6 : ℕ) (x7 : Args) → walk.Takes x0 → KeepsInside walk x1 → Keeps walk (sub_call x0 x1 x2 x3 x4 x5 x6 x7)
 unfolding sub_call
-k-sub_call walk names inside here at first last n as' keeps1 = k-bind walk (read (λ log. profile_in log n)) (λ p. where_clean (arguments names inside here (takes_in p) begun_call as') (λ c. complete at (length (takes_in p)) c.late c >>= λ xs. given xs (λ ys. some (call_given first last n (gives_in p) ys)))) (k-read walk (λ log. profile_in log n)) (λ p. k-where_clean walk (arguments names inside here (takes_in p) begun_call as') (λ c. complete at (length (takes_in p)) c.late c >>= λ xs. given xs (λ ys. some (call_given first last n (gives_in p) ys))) (k-arguments walk names inside here (takes_in p) begun_call as' keeps1) (λ c. k-bind walk (complete at (length (takes_in p)) c.late c) (λ xs. given xs (λ ys. some (call_given first last n (gives_in p) ys))) (k-complete walk at (length (takes_in p)) c.late c) (λ xs. k-given walk xs (λ ys. some (call_given first last n (gives_in p) ys)) (λ ys. k-some walk (call_given first last n (gives_in p) ys)))))
+k-sub_call walk names inside here at first last n as' keeps1 keeps2 = k-bind walk (read (λ log. profile_in log n)) (λ p. where_clean (arguments names inside here (takes_in p) begun_call as') (λ c. complete at (length (takes_in p)) c.late c >>= λ xs. given xs (λ ys. some (call_given first last n (gives_in p) ys)))) (k-read walk (λ log. profile_in log n)) (λ p. k-where_clean walk (arguments names inside here (takes_in p) begun_call as') (λ c. complete at (length (takes_in p)) c.late c >>= λ xs. given xs (λ ys. some (call_given first last n (gives_in p) ys))) (k-arguments walk names inside here (takes_in p) begun_call as' keeps1 keeps2) (λ c. k-bind walk (complete at (length (takes_in p)) c.late c) (λ xs. given xs (λ ys. some (call_given first last n (gives_in p) ys))) (k-complete walk at (length (takes_in p)) c.late c) (λ xs. k-given walk xs (λ ys. some (call_given first last n (gives_in p) ys)) (λ ys. k-some walk (call_given first last n (gives_in p) ys)))))
 
-pub k-operands : (walk : Walk) (x0 : Names) (x1 : Inside) (x2 : Context) (x3 : Option (List Found)) (x4 : Args) → KeepsInside walk x1 → Keeps walk (operands x0 x1 x2 x3 x4)
-k-operands walk names inside here made syntax.NoArg keeps1 = k-pure walk made
-k-operands walk names inside here made (syntax.AlsoArg (syntax.arg name e) as') keeps1 = k-bind walk (expr names inside here wanted.Other e) (λ x. operands names inside here (with_operand made x) as') (k-expr walk names inside here wanted.Other e keeps1) (λ x. k-operands walk names inside here (with_operand made x) as' keeps1)
+pub k-operands : (walk : Walk) (x0 : Names) (x1 : Inside) (x2 : Context) (x3 : Option (List Found)) (x4 : Args) → walk.Takes x0 → KeepsInside walk x1 → Keeps walk (operands x0 x1 x2 x3 x4)
+k-operands walk names inside here made syntax.NoArg keeps1 keeps2 = k-pure walk made
+k-operands walk names inside here made (syntax.AlsoArg (syntax.arg name e) as') keeps1 keeps2 = k-bind walk (expr names inside here wanted.Other e) (λ x. operands names inside here (with_operand made x) as') (k-expr walk names inside here wanted.Other e keeps1 keeps2) (λ x. k-operands walk names inside here (with_operand made x) as' keeps1 keeps2)
 
 pub k-converted : (walk : Walk) (x0 : ℕ) (x1 : Scalar) (x2 : Found) → Keeps walk (converted x0 x1 x2)
 k-converted walk first s f = k-if walk (is_number f.known) ((settled_found f >>= λ e. given e (λ x. some (conversion_of first s x)))) (fault (first_of f.known) WrongType) (k-bind walk (settled_found f) (λ e. given e (λ x. some (conversion_of first s x))) (k-settled_found walk f) (λ e. k-given walk e (λ x. some (conversion_of first s x)) (λ x. k-some walk (conversion_of first s x)))) (k-fault walk (first_of f.known) WrongType)
@@ -107,10 +107,10 @@ k-one_operand walk bracket first s (Some name ∷ ns) fs = k-fault walk name Wro
 k-one_operand walk bracket first s (None ∷ []) (f ∷ []) = k-converted walk first s f
 k-one_operand walk bracket first s _ fs = k-fault walk bracket WrongType
 
-pub k-scalar_conversion : (walk : Walk) (x0 : Names) (x1 : Inside) (x2 : Context) (x3 : ℕ) (x4 : ℕ) (x5 : Scalar) (x6 : Args) → KeepsInside walk x1 → Keeps walk (scalar_conversion x0 x1 x2 x3 x4 x5 x6)
-k-scalar_conversion walk names inside here bracket first s as' keeps1 = k-where_clean walk (operands names inside here (Some []) as') (λ fs. given fs (λ gs. if is_integer s.kind then one_operand bracket first s (arg_names as') gs else fault first WrongType)) (k-operands walk names inside here (Some []) as' keeps1) (λ fs. k-given walk fs (λ gs. if is_integer s.kind then one_operand bracket first s (arg_names as') gs else fault first WrongType) (λ gs. k-if walk (is_integer s.kind) (one_operand bracket first s (arg_names as') gs) (fault first WrongType) (k-one_operand walk bracket first s (arg_names as') gs) (k-fault walk first WrongType)))
+pub k-scalar_conversion : (walk : Walk) (x0 : Names) (x1 : Inside) (x2 : Context) (x3 : ℕ) (x4 : ℕ) (x5 : Scalar) (x6 : Args) → walk.Takes x0 → KeepsInside walk x1 → Keeps walk (scalar_conversion x0 x1 x2 x3 x4 x5 x6)
+k-scalar_conversion walk names inside here bracket first s as' keeps1 keeps2 = k-where_clean walk (operands names inside here (Some []) as') (λ fs. given fs (λ gs. if is_integer s.kind then one_operand bracket first s (arg_names as') gs else fault first WrongType)) (k-operands walk names inside here (Some []) as' keeps1 keeps2) (λ fs. k-given walk fs (λ gs. if is_integer s.kind then one_operand bracket first s (arg_names as') gs else fault first WrongType) (λ gs. k-if walk (is_integer s.kind) (one_operand bracket first s (arg_names as') gs) (fault first WrongType) (k-one_operand walk bracket first s (arg_names as') gs) (k-fault walk first WrongType)))
 
-pub k-conversion : (walk : Walk) (x0 : Names) (x1 : Inside) (x2 : Context) (x3 : ℕ) (x4 : ℕ) (x5 : Subtype) (x6 : Args) → KeepsInside walk x1 → Keeps walk (conversion x0 x1 x2 x3 x4 x5 x6)
+pub k-conversion : (walk : Walk) (x0 : Names) (x1 : Inside) (x2 : Context) (x3 : ℕ) (x4 : ℕ) (x5 : Subtype) (x6 : Args) → walk.Takes x0 → KeepsInside walk x1 → Keeps walk (conversion x0 x1 x2 x3 x4 x5 x6)
 unfolding conversion
-k-conversion walk names inside here bracket first (subtype.Scalar s) as' keeps1 = k-scalar_conversion walk names inside here bracket first s as' keeps1
-k-conversion walk names inside here bracket first (subtype.Composite n) as' keeps1 = k-wrong_call walk names inside here first as' keeps1
+k-conversion walk names inside here bracket first (subtype.Scalar s) as' keeps1 keeps2 = k-scalar_conversion walk names inside here bracket first s as' keeps1 keeps2
+k-conversion walk names inside here bracket first (subtype.Composite n) as' keeps1 keeps2 = k-wrong_call walk names inside here first as' keeps1 keeps2

@@ -52,11 +52,11 @@ pub k-named_once : (walk : Walk) (x0 : Naming) (x1 : ℕ) (x2 : Option Reason) �
 k-named_once walk n first None = k-pure walk (record { seen = n.seen; named = None })
 k-named_once walk n first (Some r) = k-bind walk (unless (not (list_any (same_reason r) n.seen)) first Twice) (λ u. pure (record { seen = r ∷ n.seen; named = option_map (λ rs. with_reason rs r) n.named })) (k-unless walk (not (list_any (same_reason r) n.seen)) first Twice) (λ u. k-pure walk (record { seen = r ∷ n.seen; named = option_map (λ rs. with_reason rs r) n.named }))
 
-pub k-named_reasons : (walk : Walk) (x0 : Names) (x1 : Context) (x2 : Naming) (x3 : List Pack) → Keeps walk (named_reasons x0 x1 x2 x3)
-k-named_reasons walk names here n [] = k-pure walk n
-k-named_reasons walk names here n (p ∷ ps) = k-bind walk (exception names here p) (λ r. named_once n p.first r >>= λ m. named_reasons names here m ps) (k-exception walk names here p) (λ r. k-bind walk (named_once n p.first r) (λ m. named_reasons names here m ps) (k-named_once walk n p.first r) (λ m. k-named_reasons walk names here m ps))
+pub k-named_reasons : (walk : Walk) (x0 : Names) (x1 : Context) (x2 : Naming) (x3 : List Pack) → walk.Takes x0 → Keeps walk (named_reasons x0 x1 x2 x3)
+k-named_reasons walk names here n [] keeps1 = k-pure walk n
+k-named_reasons walk names here n (p ∷ ps) keeps1 = k-bind walk (exception names here p) (λ r. named_once n p.first r >>= λ m. named_reasons names here m ps) (k-exception walk names here p keeps1) (λ r. k-bind walk (named_once n p.first r) (λ m. named_reasons names here m ps) (k-named_once walk n p.first r) (λ m. k-named_reasons walk names here m ps keeps1))
 
-pub k-handled_by : (walk : Walk) (x0 : Names) (x1 : Context) (x2 : List Reason) (x3 : Bool) (x4 : Handled) → Keeps walk (handled_by x0 x1 x2 x3 x4)
+pub k-handled_by : (walk : Walk) (x0 : Names) (x1 : Context) (x2 : List Reason) (x3 : Bool) (x4 : Handled) → walk.Takes x0 → Keeps walk (handled_by x0 x1 x2 x3 x4)
 unfolding handled_by
-k-handled_by walk names here seen last (syntax.AnyOther at) = k-bind walk (unless last at StaticRange) (λ u. pure (seen, Some typed.Others)) (k-unless walk last at StaticRange) (λ u. k-pure walk (seen, Some typed.Others))
-k-handled_by walk names here seen last (syntax.These p ps) = k-bind walk (named_reasons names here (record { seen = seen; named = Some [] }) (p ∷ ps)) (λ n. pure (n.seen, option_map typed.Reasons n.named)) (k-named_reasons walk names here (record { seen = seen; named = Some [] }) (p ∷ ps)) (λ n. k-pure walk (n.seen, option_map typed.Reasons n.named))
+k-handled_by walk names here seen last (syntax.AnyOther at) keeps1 = k-bind walk (unless last at StaticRange) (λ u. pure (seen, Some typed.Others)) (k-unless walk last at StaticRange) (λ u. k-pure walk (seen, Some typed.Others))
+k-handled_by walk names here seen last (syntax.These p ps) keeps1 = k-bind walk (named_reasons names here (record { seen = seen; named = Some [] }) (p ∷ ps)) (λ n. pure (n.seen, option_map typed.Reasons n.named)) (k-named_reasons walk names here (record { seen = seen; named = Some [] }) (p ∷ ps) keeps1) (λ n. k-pure walk (n.seen, option_map typed.Reasons n.named))

@@ -43,9 +43,9 @@ use Rattle.name_laws.proofs.KeepsScope.{k-as_scalar, k-free, k-subtype_named}
 use Rattle.name_laws.proofs.KeepsTypes.{k-number_of, k-written_shape}
 use Rattle.name_laws.proofs.KeepsValues.{k-static_integer, k-stored}
 
-pub k-begun_names : (walk : Walk) (x0 : Names) (x1 : ℕ) (x2 : Context) (x3 : List (Option ℕ)) (x4 : List ℕ) → Keeps walk (begun_names x0 x1 x2 x3 x4)
-k-begun_names walk names start here made [] = k-pure walk (here, made)
-k-begun_names walk names start here made (t ∷ ts) = k-bind walk (free names start here t) (λ f. begun_names names start (hidden_where names here t f) (made ++ f ∷ []) ts) (k-free walk names start here t) (λ f. k-begun_names walk names start (hidden_where names here t f) (made ++ f ∷ []) ts)
+pub k-begun_names : (walk : Walk) (x0 : Names) (x1 : ℕ) (x2 : Context) (x3 : List (Option ℕ)) (x4 : List ℕ) → walk.Takes x0 → Keeps walk (begun_names x0 x1 x2 x3 x4)
+k-begun_names walk names start here made [] keeps1 = k-pure walk (here, made)
+k-begun_names walk names start here made (t ∷ ts) keeps1 = k-bind walk (free names start here t) (λ f. begun_names names start (hidden_where names here t f) (made ++ f ∷ []) ts) (k-free walk names start here t keeps1) (λ f. k-begun_names walk names start (hidden_where names here t f) (made ++ f ∷ []) ts keeps1)
 
 pub k-indic_range : (walk : Walk) (x0 : Scalar) (x1 : ℕ) (x2 : ℕ) (x3 : ℤ × ℤ) → Keeps walk (indic_range x0 x1 x2 x3)
 k-indic_range walk s first last r = k-bind walk ((unless (lies_in s r.0) first StaticRange)) (λ u. (unless (lies_in s r.1) last StaticRange) >>= λ v. (unless (int_le r.0 r.1) first StaticRange) >>= λ w. if lies_in s r.0 && lies_in s r.1 && int_le r.0 r.1 then some (subtype.Scalar (record { kind = s.kind; low = r.0; high = r.1 })) else pure None) (k-unless walk (lies_in s r.0) first StaticRange) (λ u. k-bind walk ((unless (lies_in s r.1) last StaticRange)) (λ v. (unless (int_le r.0 r.1) first StaticRange) >>= λ w. if lies_in s r.0 && lies_in s r.1 && int_le r.0 r.1 then some (subtype.Scalar (record { kind = s.kind; low = r.0; high = r.1 })) else pure None) (k-unless walk (lies_in s r.1) last StaticRange) (λ v. k-bind walk ((unless (int_le r.0 r.1) first StaticRange)) (λ w. if lies_in s r.0 && lies_in s r.1 && int_le r.0 r.1 then some (subtype.Scalar (record { kind = s.kind; low = r.0; high = r.1 })) else pure None) (k-unless walk (int_le r.0 r.1) first StaticRange) (λ w. k-if walk (lies_in s r.0 && lies_in s r.1 && int_le r.0 r.1) (some (subtype.Scalar (record { kind = s.kind; low = r.0; high = r.1 }))) (pure None) (k-some walk (subtype.Scalar (record { kind = s.kind; low = r.0; high = r.1 }))) (k-pure walk None))))
@@ -53,10 +53,10 @@ k-indic_range walk s first last r = k-bind walk ((unless (lies_in s r.0) first S
 pub k-indic_bounds : (walk : Walk) (x0 : Scalar) (x1 : Found) (x2 : Found) → Keeps walk (indic_bounds x0 x1 x2)
 k-indic_bounds walk s a z = k-bind walk (both_static s.kind a z) (λ v. given v (indic_range s (first_of a.known) (first_of z.known)) >>= λ t. pure (option_map (indicated (both_mentions a z)) t)) (k-both_static walk s.kind a z) (λ v. k-bind walk (given v (indic_range s (first_of a.known) (first_of z.known))) (λ t. pure (option_map (indicated (both_mentions a z)) t)) (k-given walk v (indic_range s (first_of a.known) (first_of z.known)) (λ z1. k-indic_range walk s (first_of a.known) (first_of z.known) z1)) (λ t. k-pure walk (option_map (indicated (both_mentions a z)) t)))
 
-pub k-indic : (walk : Walk) (x0 : Names) (x1 : Inside) (x2 : Context) (x3 : Indic) → KeepsInside walk x1 → Keeps walk (indic x0 x1 x2 x3)
+pub k-indic : (walk : Walk) (x0 : Names) (x1 : Inside) (x2 : Context) (x3 : Indic) → walk.Takes x0 → KeepsInside walk x1 → Keeps walk (indic x0 x1 x2 x3)
 unfolding indic
-k-indic walk names level here (syntax.Mark mark) keeps1 = k-bind walk (subtype_named names here mark) (λ s. pure (option_map (indicated part.Nothing) s)) (k-subtype_named walk names here mark) (λ s. k-pure walk (option_map (indicated part.Nothing) s))
-k-indic walk names level here (syntax.RangeMark mark low high) keeps1 = k-bind walk ((subtype_named names here mark)) (λ s. (given s (as_scalar mark)) >>= λ t. (two_bounds level here low high) >>= λ r. given t (λ x. both r.0 r.1 (indic_bounds x))) (k-subtype_named walk names here mark) (λ s. k-bind walk ((given s (as_scalar mark))) (λ t. (two_bounds level here low high) >>= λ r. given t (λ x. both r.0 r.1 (indic_bounds x))) (k-given walk s (as_scalar mark) (λ z4. k-as_scalar walk mark z4)) (λ t. k-bind walk ((two_bounds level here low high)) (λ r. given t (λ x. both r.0 r.1 (indic_bounds x))) (k-two_bounds walk level here low high keeps1) (λ r. k-given walk t (λ x. both r.0 r.1 (indic_bounds x)) (λ x. k-both walk r.0 r.1 (indic_bounds x) (λ z2 z3. k-indic_bounds walk x z2 z3)))))
+k-indic walk names level here (syntax.Mark mark) keeps1 keeps2 = k-bind walk (subtype_named names here mark) (λ s. pure (option_map (indicated part.Nothing) s)) (k-subtype_named walk names here mark keeps1) (λ s. k-pure walk (option_map (indicated part.Nothing) s))
+k-indic walk names level here (syntax.RangeMark mark low high) keeps1 keeps2 = k-bind walk ((subtype_named names here mark)) (λ s. (given s (as_scalar mark)) >>= λ t. (two_bounds level here low high) >>= λ r. given t (λ x. both r.0 r.1 (indic_bounds x))) (k-subtype_named walk names here mark keeps1) (λ s. k-bind walk ((given s (as_scalar mark))) (λ t. (two_bounds level here low high) >>= λ r. given t (λ x. both r.0 r.1 (indic_bounds x))) (k-given walk s (as_scalar mark) (λ z4. k-as_scalar walk mark z4)) (λ t. k-bind walk ((two_bounds level here low high)) (λ r. given t (λ x. both r.0 r.1 (indic_bounds x))) (k-two_bounds walk level here low high keeps2) (λ r. k-given walk t (λ x. both r.0 r.1 (indic_bounds x)) (λ x. k-both walk r.0 r.1 (indic_bounds x) (λ z2 z3. k-indic_bounds walk x z2 z3)))))
 
 pub k-dimensions_from : (walk : Walk) (x0 : Inside) (x1 : Context) (x2 : Option Dimensions) (x3 : List Range) → KeepsInside walk x0 → Keeps walk (dimensions_from x0 x1 x2 x3)
 k-dimensions_from walk level here made [] keeps1 = k-pure walk made
@@ -68,32 +68,32 @@ k-array_written walk ds s = k-bind walk ((number_of s)) (λ m. (read (λ log. ar
 pub k-array_given : (walk : Walk) (x0 : ℕ) (x1 : Dimensions) (x2 : Indicated) → Keeps walk (array_given x0 x1 x2)
 k-array_given walk at ds s = k-if walk (nat_le (length ds.dimensions) 4) ((array_written ds.dimensions s.known >>= λ t. pure (option_map (indicated (also_all ds.mentions s.part)) t))) (fault at (Limit 4 (length ds.dimensions))) (k-bind walk (array_written ds.dimensions s.known) (λ t. pure (option_map (indicated (also_all ds.mentions s.part)) t)) (k-array_written walk ds.dimensions s.known) (λ t. k-pure walk (option_map (indicated (also_all ds.mentions s.part)) t))) (k-fault walk at (Limit 4 (length ds.dimensions)))
 
-pub k-array : (walk : Walk) (x0 : Names) (x1 : Inside) (x2 : Context) (x3 : Array) → KeepsInside walk x1 → Keeps walk (array x0 x1 x2 x3)
+pub k-array : (walk : Walk) (x0 : Names) (x1 : Inside) (x2 : Context) (x3 : Array) → walk.Takes x0 → KeepsInside walk x1 → Keeps walk (array x0 x1 x2 x3)
 unfolding array
-k-array walk names level here a keeps1 = k-bind walk ((dimensions_from level here (Some (record { dimensions = []; mentions = part.Nothing })) (a.first ∷ a.more))) (λ ds. (indic names level here a.component) >>= λ s. both ds s (array_given a.at)) (k-dimensions_from walk level here (Some (record { dimensions = []; mentions = part.Nothing })) (a.first ∷ a.more) keeps1) (λ ds. k-bind walk ((indic names level here a.component)) (λ s. both ds s (array_given a.at)) (k-indic walk names level here a.component keeps1) (λ s. k-both walk ds s (array_given a.at) (λ z5 z6. k-array_given walk a.at z5 z6)))
+k-array walk names level here a keeps1 keeps2 = k-bind walk ((dimensions_from level here (Some (record { dimensions = []; mentions = part.Nothing })) (a.first ∷ a.more))) (λ ds. (indic names level here a.component) >>= λ s. both ds s (array_given a.at)) (k-dimensions_from walk level here (Some (record { dimensions = []; mentions = part.Nothing })) (a.first ∷ a.more) keeps2) (λ ds. k-bind walk ((indic names level here a.component)) (λ s. both ds s (array_given a.at)) (k-indic walk names level here a.component keeps1 keeps2) (λ s. k-both walk ds s (array_given a.at) (λ z5 z6. k-array_given walk a.at z5 z6)))
 
-pub k-with_field : (walk : Walk) (x0 : Names) (x1 : Building) (x2 : Option ℕ) (x3 : ℕ) (x4 : Option Indicated) → Keeps walk (with_field x0 x1 x2 x3 x4)
-k-with_field walk names b None token s = k-pure walk (without_fields b b.here)
-k-with_field walk names b (Some t) token None = k-pure walk (without_fields b (declared names b.here token (Some what.Broken)))
-k-with_field walk names b (Some t) token (Some s) = k-bind walk ((number_of s.known)) (λ n. (read (λ log. cells_in log s.known)) >>= λ cells. pure (record { here = declared names b.here token (Some what.Broken); fields = option_map (also_field (record { symbol = symbol names token; name = token; subtype = s.known; number = n; offset = b.offset })) b.fields; offset = saturated (b.offset + cells); mentions = b.mentions; })) (k-number_of walk s.known) (λ n. k-bind walk ((read (λ log. cells_in log s.known))) (λ cells. pure (record { here = declared names b.here token (Some what.Broken); fields = option_map (also_field (record { symbol = symbol names token; name = token; subtype = s.known; number = n; offset = b.offset })) b.fields; offset = saturated (b.offset + cells); mentions = b.mentions; })) (k-read walk (λ log. cells_in log s.known)) (λ cells. k-pure walk (record { here = declared names b.here token (Some what.Broken); fields = option_map (also_field (record { symbol = symbol names token; name = token; subtype = s.known; number = n; offset = b.offset })) b.fields; offset = saturated (b.offset + cells); mentions = b.mentions; })))
+pub k-with_field : (walk : Walk) (x0 : Names) (x1 : Building) (x2 : Option ℕ) (x3 : ℕ) (x4 : Option Indicated) → walk.Takes x0 → Keeps walk (with_field x0 x1 x2 x3 x4)
+k-with_field walk names b None token s keeps1 = k-pure walk (without_fields b b.here)
+k-with_field walk names b (Some t) token None keeps1 = k-pure walk (without_fields b (declared names b.here token (Some what.Broken)))
+k-with_field walk names b (Some t) token (Some s) keeps1 = k-bind walk ((number_of s.known)) (λ n. (read (λ log. cells_in log s.known)) >>= λ cells. pure (record { here = declared names b.here token (Some what.Broken); fields = option_map (also_field (record { symbol = symbol names token; name = token; subtype = s.known; number = n; offset = b.offset })) b.fields; offset = saturated (b.offset + cells); mentions = b.mentions; })) (k-number_of walk s.known) (λ n. k-bind walk ((read (λ log. cells_in log s.known))) (λ cells. pure (record { here = declared names b.here token (Some what.Broken); fields = option_map (also_field (record { symbol = symbol names token; name = token; subtype = s.known; number = n; offset = b.offset })) b.fields; offset = saturated (b.offset + cells); mentions = b.mentions; })) (k-read walk (λ log. cells_in log s.known)) (λ cells. k-pure walk (record { here = declared names b.here token (Some what.Broken); fields = option_map (also_field (record { symbol = symbol names token; name = token; subtype = s.known; number = n; offset = b.offset })) b.fields; offset = saturated (b.offset + cells); mentions = b.mentions; })))
 
-pub k-with_fields : (walk : Walk) (x0 : Names) (x1 : Building) (x2 : Option Indicated) (x3 : List ℕ) (x4 : List (Option ℕ)) → Keeps walk (with_fields x0 x1 x2 x3 x4)
-k-with_fields walk names b s (t ∷ ts) (f ∷ fs) = k-bind walk (with_field names b f t s) (λ c. with_fields names c s ts fs) (k-with_field walk names b f t s) (λ c. k-with_fields walk names c s ts fs)
-k-with_fields walk names b s _ _ = k-pure walk b
+pub k-with_fields : (walk : Walk) (x0 : Names) (x1 : Building) (x2 : Option Indicated) (x3 : List ℕ) (x4 : List (Option ℕ)) → walk.Takes x0 → Keeps walk (with_fields x0 x1 x2 x3 x4)
+k-with_fields walk names b s (t ∷ ts) (f ∷ fs) keeps1 = k-bind walk (with_field names b f t s) (λ c. with_fields names c s ts fs) (k-with_field walk names b f t s keeps1) (λ c. k-with_fields walk names c s ts fs keeps1)
+k-with_fields walk names b s _ _ keeps1 = k-pure walk b
 
-pub k-component : (walk : Walk) (x0 : Names) (x1 : Inside) (x2 : ℕ) (x3 : Building) (x4 : Comp) → KeepsInside walk x1 → Keeps walk (component x0 x1 x2 x3 x4)
-k-component walk names level start b c keeps1 = k-bind walk ((begun_names names start b.here [] (all_ids c.names))) (λ r. (indic names level r.0 c.component) >>= λ s. with_fields names (record { here = r.0; fields = b.fields; offset = b.offset; mentions = also_all b.mentions (indicated_mentions s) }) s (all_ids c.names) r.1) (k-begun_names walk names start b.here [] (all_ids c.names)) (λ r. k-bind walk ((indic names level r.0 c.component)) (λ s. with_fields names (record { here = r.0; fields = b.fields; offset = b.offset; mentions = also_all b.mentions (indicated_mentions s) }) s (all_ids c.names) r.1) (k-indic walk names level r.0 c.component keeps1) (λ s. k-with_fields walk names (record { here = r.0; fields = b.fields; offset = b.offset; mentions = also_all b.mentions (indicated_mentions s) }) s (all_ids c.names) r.1))
+pub k-component : (walk : Walk) (x0 : Names) (x1 : Inside) (x2 : ℕ) (x3 : Building) (x4 : Comp) → walk.Takes x0 → KeepsInside walk x1 → Keeps walk (component x0 x1 x2 x3 x4)
+k-component walk names level start b c keeps1 keeps2 = k-bind walk ((begun_names names start b.here [] (all_ids c.names))) (λ r. (indic names level r.0 c.component) >>= λ s. with_fields names (record { here = r.0; fields = b.fields; offset = b.offset; mentions = also_all b.mentions (indicated_mentions s) }) s (all_ids c.names) r.1) (k-begun_names walk names start b.here [] (all_ids c.names) keeps1) (λ r. k-bind walk ((indic names level r.0 c.component)) (λ s. with_fields names (record { here = r.0; fields = b.fields; offset = b.offset; mentions = also_all b.mentions (indicated_mentions s) }) s (all_ids c.names) r.1) (k-indic walk names level r.0 c.component keeps1 keeps2) (λ s. k-with_fields walk names (record { here = r.0; fields = b.fields; offset = b.offset; mentions = also_all b.mentions (indicated_mentions s) }) s (all_ids c.names) r.1 keeps1))
 
-pub k-components : (walk : Walk) (x0 : Names) (x1 : Inside) (x2 : ℕ) (x3 : Building) (x4 : List Comp) → KeepsInside walk x1 → Keeps walk (components x0 x1 x2 x3 x4)
-k-components walk names level start b [] keeps1 = k-pure walk b
-k-components walk names level start b (c ∷ cs) keeps1 = k-bind walk (component names level start b c) (λ d. components names level start d cs) (k-component walk names level start b c keeps1) (λ d. k-components walk names level start d cs keeps1)
+pub k-components : (walk : Walk) (x0 : Names) (x1 : Inside) (x2 : ℕ) (x3 : Building) (x4 : List Comp) → walk.Takes x0 → KeepsInside walk x1 → Keeps walk (components x0 x1 x2 x3 x4)
+k-components walk names level start b [] keeps1 keeps2 = k-pure walk b
+k-components walk names level start b (c ∷ cs) keeps1 keeps2 = k-bind walk (component names level start b c) (λ d. components names level start d cs) (k-component walk names level start b c keeps1 keeps2) (λ d. k-components walk names level start d cs keeps1 keeps2)
 
 pub k-record_written : (walk : Walk) (x0 : ℕ) (x1 : TypedPart) (x2 : List Field) → Keeps walk (record_written x0 x1 x2)
 k-record_written walk cells ms fs = k-bind walk (written_shape (shape.Record fs cells)) (λ n. some (indicated ms (subtype.Composite n))) (k-written_shape walk (shape.Record fs cells)) (λ n. k-some walk (indicated ms (subtype.Composite n)))
 
-pub k-record_of : (walk : Walk) (x0 : Names) (x1 : Inside) (x2 : Context) (x3 : List Comp) → KeepsInside walk x1 → Keeps walk (record_of x0 x1 x2 x3)
+pub k-record_of : (walk : Walk) (x0 : Names) (x1 : Inside) (x2 : Context) (x3 : List Comp) → walk.Takes x0 → KeepsInside walk x1 → Keeps walk (record_of x0 x1 x2 x3)
 unfolding record_of
-k-record_of walk names level here cs keeps1 = k-bind walk (components names level (length here.scope) (record { here = here; fields = Some []; offset = 0; mentions = part.Nothing }) cs) (λ b. given b.fields (record_written b.offset b.mentions)) (k-components walk names level (length here.scope) (record { here = here; fields = Some []; offset = 0; mentions = part.Nothing }) cs keeps1) (λ b. k-given walk b.fields (record_written b.offset b.mentions) (λ z7. k-record_written walk b.offset b.mentions z7))
+k-record_of walk names level here cs keeps1 keeps2 = k-bind walk (components names level (length here.scope) (record { here = here; fields = Some []; offset = 0; mentions = part.Nothing }) cs) (λ b. given b.fields (record_written b.offset b.mentions)) (k-components walk names level (length here.scope) (record { here = here; fields = Some []; offset = 0; mentions = part.Nothing }) cs keeps1 keeps2) (λ b. k-given walk b.fields (record_written b.offset b.mentions) (λ z7. k-record_written walk b.offset b.mentions z7))
 
 pub k-own_type : (walk : Walk) (x0 : ℕ) (x1 : ℕ) (x2 : ℕ) (x3 : ℤ) (x4 : ℤ) → Keeps walk (own_type x0 x1 x2 x3 x4)
 k-own_type walk token first last a z = k-bind walk ((unless (in_base (kind.Own token) a) first StaticRange)) (λ u. (unless (in_base (kind.Own token) z) last StaticRange) >>= λ v. (unless (int_le a z) first StaticRange) >>= λ w. if in_base (kind.Own token) a && in_base (kind.Own token) z && int_le a z then some (subtype.Scalar (record { kind = kind.Own token; low = a; high = z })) else pure None) (k-unless walk (in_base (kind.Own token) a) first StaticRange) (λ u. k-bind walk ((unless (in_base (kind.Own token) z) last StaticRange)) (λ v. (unless (int_le a z) first StaticRange) >>= λ w. if in_base (kind.Own token) a && in_base (kind.Own token) z && int_le a z then some (subtype.Scalar (record { kind = kind.Own token; low = a; high = z })) else pure None) (k-unless walk (in_base (kind.Own token) z) last StaticRange) (λ v. k-bind walk ((unless (int_le a z) first StaticRange)) (λ w. if in_base (kind.Own token) a && in_base (kind.Own token) z && int_le a z then some (subtype.Scalar (record { kind = kind.Own token; low = a; high = z })) else pure None) (k-unless walk (int_le a z) first StaticRange) (λ w. k-if walk (in_base (kind.Own token) a && in_base (kind.Own token) z && int_le a z) (some (subtype.Scalar (record { kind = kind.Own token; low = a; high = z }))) (pure None) (k-some walk (subtype.Scalar (record { kind = kind.Own token; low = a; high = z }))) (k-pure walk None))))
@@ -104,67 +104,67 @@ k-static_number walk f = k-static_integer walk f.known
 pub k-own_type_of : (walk : Walk) (x0 : ℕ) (x1 : Option Found × Option Found) → Keeps walk (own_type_of x0 x1)
 k-own_type_of walk token r = k-bind walk ((given r.0 static_number)) (λ a. (given r.1 static_number) >>= λ z. (both a z (own_type token (first_or r.0) (first_or r.1))) >>= λ t. pure (option_map (indicated (also_all (found_mentions r.0) (found_mentions r.1))) t)) (k-given walk r.0 (static_number) (λ z11. k-static_number walk z11)) (λ a. k-bind walk ((given r.1 static_number)) (λ z. (both a z (own_type token (first_or r.0) (first_or r.1))) >>= λ t. pure (option_map (indicated (also_all (found_mentions r.0) (found_mentions r.1))) t)) (k-given walk r.1 (static_number) (λ z10. k-static_number walk z10)) (λ z. k-bind walk ((both a z (own_type token (first_or r.0) (first_or r.1)))) (λ t. pure (option_map (indicated (also_all (found_mentions r.0) (found_mentions r.1))) t)) (k-both walk a z (own_type token (first_or r.0) (first_or r.1)) (λ z8 z9. k-own_type walk token (first_or r.0) (first_or r.1) z8 z9)) (λ t. k-pure walk (option_map (indicated (also_all (found_mentions r.0) (found_mentions r.1))) t))))
 
-pub k-defined : (walk : Walk) (x0 : Names) (x1 : Inside) (x2 : Context) (x3 : ℕ) (x4 : Definition) → KeepsInside walk x1 → Keeps walk (defined x0 x1 x2 x3 x4)
+pub k-defined : (walk : Walk) (x0 : Names) (x1 : Inside) (x2 : Context) (x3 : ℕ) (x4 : Definition) → walk.Takes x0 → KeepsInside walk x1 → Keeps walk (defined x0 x1 x2 x3 x4)
 unfolding defined
-k-defined walk names level here token (syntax.RangeType low high) keeps1 = k-bind walk (two_bounds level here low high) (own_type_of token) (k-two_bounds walk level here low high keeps1) (λ z12. k-own_type_of walk token z12)
-k-defined walk names level here token (syntax.ArrayType a) keeps1 = k-array walk names level here a keeps1
-k-defined walk names level here token (syntax.RecordType c cs) keeps1 = k-record_of walk names level here (c ∷ cs) keeps1
+k-defined walk names level here token (syntax.RangeType low high) keeps1 keeps2 = k-bind walk (two_bounds level here low high) (own_type_of token) (k-two_bounds walk level here low high keeps2) (λ z12. k-own_type_of walk token z12)
+k-defined walk names level here token (syntax.ArrayType a) keeps1 keeps2 = k-array walk names level here a keeps1 keeps2
+k-defined walk names level here token (syntax.RecordType c cs) keeps1 keeps2 = k-record_of walk names level here (c ∷ cs) keeps1 keeps2
 
 pub k-cells_counted : (walk : Walk) (token cells : ℕ) → Keeps walk (cells_counted token cells)
 k-cells_counted walk token cells = record { at = walk.counted token cells }
 
-pub k-object_written : (walk : Walk) (names : Names) (here : Context) (token n cells : ℕ) (constant : Bool) (value : Option ℤ) → Keeps walk (object_written names here token n cells constant value)
-k-object_written walk names here token n cells constant value = record { at = walk.object names here token n cells constant value }
+pub k-object_written : (walk : Walk) (names : Names) (here : Context) (token n cells : ℕ) (constant : Bool) (value : Option ℤ) → walk.Takes names → Keeps walk (object_written names here token n cells constant value)
+k-object_written walk names here token n cells constant value h = record { at = walk.object names here token n cells constant value h }
 
-pub k-new_object : (walk : Walk) (x0 : Names) (x1 : Context) (x2 : ℕ) (x3 : Subtype) (x4 : Bool) (x5 : Option ℤ) → Keeps walk (new_object x0 x1 x2 x3 x4 x5)
+pub k-new_object : (walk : Walk) (x0 : Names) (x1 : Context) (x2 : ℕ) (x3 : Subtype) (x4 : Bool) (x5 : Option ℤ) → walk.Takes x0 → Keeps walk (new_object x0 x1 x2 x3 x4 x5)
 unfolding new_object
-k-new_object walk names here token s constant value = k-bind walk ((read (λ log. cells_in log s))) (λ cells. (cells_counted token cells) >>= λ fits. (number_of s) >>= λ n. if fits then (object_written names here token n cells constant value >>= λ m. some m) else pure None) (k-read walk (λ log. cells_in log s)) (λ cells. k-bind walk ((cells_counted token cells)) (λ fits. (number_of s) >>= λ n. if fits then (object_written names here token n cells constant value >>= λ m. some m) else pure None) (k-cells_counted walk token cells) (λ fits. k-bind walk ((number_of s)) (λ n. if fits then (object_written names here token n cells constant value >>= λ m. some m) else pure None) (k-number_of walk s) (λ n. k-if walk (fits) ((object_written names here token n cells constant value >>= λ m. some m)) (pure None) (k-bind walk (object_written names here token n cells constant value) (λ m. some m) (k-object_written walk names here token n cells constant value) (λ m. k-some walk m)) (k-pure walk None))))
+k-new_object walk names here token s constant value keeps1 = k-bind walk ((read (λ log. cells_in log s))) (λ cells. (cells_counted token cells) >>= λ fits. (number_of s) >>= λ n. if fits then (object_written names here token n cells constant value >>= λ m. some m) else pure None) (k-read walk (λ log. cells_in log s)) (λ cells. k-bind walk ((cells_counted token cells)) (λ fits. (number_of s) >>= λ n. if fits then (object_written names here token n cells constant value >>= λ m. some m) else pure None) (k-cells_counted walk token cells) (λ fits. k-bind walk ((number_of s)) (λ n. if fits then (object_written names here token n cells constant value >>= λ m. some m) else pure None) (k-number_of walk s) (λ n. k-if walk (fits) ((object_written names here token n cells constant value >>= λ m. some m)) (pure None) (k-bind walk (object_written names here token n cells constant value) (λ m. some m) (k-object_written walk names here token n cells constant value keeps1) (λ m. k-some walk m)) (k-pure walk None))))
 
-pub k-initial : (walk : Walk) (x0 : Names) (x1 : Inside) (x2 : Context) (x3 : Option Indicated) (x4 : Option Expr) → KeepsInside walk x1 → Keeps walk (initial x0 x1 x2 x3 x4)
+pub k-initial : (walk : Walk) (x0 : Names) (x1 : Inside) (x2 : Context) (x3 : Option Indicated) (x4 : Option Expr) → walk.Takes x0 → KeepsInside walk x1 → Keeps walk (initial x0 x1 x2 x3 x4)
 unfolding initial
-k-initial walk names level here s None keeps1 = k-some walk no_initial
-k-initial walk names level here None (Some e) keeps1 = k-bind walk (judged_alone names level here e) (λ u. pure None) (k-judged_alone walk names level here e keeps1) (λ u. k-pure walk None)
-k-initial walk names level here (Some s) (Some e) keeps1 = k-bind walk ((expr names level here (wanted_of s.known) e)) (λ x. (given x (stored s.known (first_token.of_expr e))) >>= λ v. pure (joined initial_value v x)) (k-expr walk names level here (wanted_of s.known) e keeps1) (λ x. k-bind walk ((given x (stored s.known (first_token.of_expr e)))) (λ v. pure (joined initial_value v x)) (k-given walk x (stored s.known (first_token.of_expr e)) (λ z13. k-stored walk s.known (first_token.of_expr e) z13)) (λ v. k-pure walk (joined initial_value v x)))
+k-initial walk names level here s None keeps1 keeps2 = k-some walk no_initial
+k-initial walk names level here None (Some e) keeps1 keeps2 = k-bind walk (judged_alone names level here e) (λ u. pure None) (k-judged_alone walk names level here e keeps1 keeps2) (λ u. k-pure walk None)
+k-initial walk names level here (Some s) (Some e) keeps1 keeps2 = k-bind walk ((expr names level here (wanted_of s.known) e)) (λ x. (given x (stored s.known (first_token.of_expr e))) >>= λ v. pure (joined initial_value v x)) (k-expr walk names level here (wanted_of s.known) e keeps1 keeps2) (λ x. k-bind walk ((given x (stored s.known (first_token.of_expr e)))) (λ v. pure (joined initial_value v x)) (k-given walk x (stored s.known (first_token.of_expr e)) (λ z13. k-stored walk s.known (first_token.of_expr e) z13)) (λ v. k-pure walk (joined initial_value v x)))
 
 pub k-valued_constant : (walk : Walk) (x0 : ℕ) (x1 : Bool) (x2 : Option Indicated) (x3 : Option Expr) → Keeps walk (valued_constant x0 x1 x2 x3)
 k-valued_constant walk first true (Some s) None = k-breaks walk first WrongType
 k-valued_constant walk first constant s e = k-pure walk tt
 
-pub k-one_object : (walk : Walk) (x0 : Names) (x1 : Context) (x2 : ℕ) (x3 : Option ℕ) (x4 : Bool) (x5 : Option TypedPart) (x6 : Option Indicated) (x7 : Option Initial) → Keeps walk (one_object x0 x1 x2 x3 x4 x5 x6 x7)
-k-one_object walk names here token f constant made (Some s) (Some v) = k-bind walk (new_object names here token s.known constant (constant_value constant s.known v)) (λ n. pure (object_ended names here token f constant s v made n)) (k-new_object walk names here token s.known constant (constant_value constant s.known v)) (λ n. k-pure walk (object_ended names here token f constant s v made n))
-k-one_object walk names here token f constant ds s v = k-bind walk (cells_counted token 0) (λ b. pure (ended_name names here f None, None)) (k-cells_counted walk token 0) (λ b. k-pure walk (ended_name names here f None, None))
+pub k-one_object : (walk : Walk) (x0 : Names) (x1 : Context) (x2 : ℕ) (x3 : Option ℕ) (x4 : Bool) (x5 : Option TypedPart) (x6 : Option Indicated) (x7 : Option Initial) → walk.Takes x0 → Keeps walk (one_object x0 x1 x2 x3 x4 x5 x6 x7)
+k-one_object walk names here token f constant made (Some s) (Some v) keeps1 = k-bind walk (new_object names here token s.known constant (constant_value constant s.known v)) (λ n. pure (object_ended names here token f constant s v made n)) (k-new_object walk names here token s.known constant (constant_value constant s.known v) keeps1) (λ n. k-pure walk (object_ended names here token f constant s v made n))
+k-one_object walk names here token f constant ds s v keeps1 = k-bind walk (cells_counted token 0) (λ b. pure (ended_name names here f None, None)) (k-cells_counted walk token 0) (λ b. k-pure walk (ended_name names here f None, None))
 
-pub k-typed_object : (walk : Walk) (x0 : Names) (x1 : Inside) (x2 : Context) (x3 : ObjectType) → KeepsInside walk x1 → Keeps walk (typed_object x0 x1 x2 x3)
-k-typed_object walk names level here (syntax.Indicated i) keeps1 = k-indic walk names level here i keeps1
-k-typed_object walk names level here (syntax.Anonymous a) keeps1 = k-array walk names level here a keeps1
+pub k-typed_object : (walk : Walk) (x0 : Names) (x1 : Inside) (x2 : Context) (x3 : ObjectType) → walk.Takes x0 → KeepsInside walk x1 → Keeps walk (typed_object x0 x1 x2 x3)
+k-typed_object walk names level here (syntax.Indicated i) keeps1 keeps2 = k-indic walk names level here i keeps1 keeps2
+k-typed_object walk names level here (syntax.Anonymous a) keeps1 keeps2 = k-array walk names level here a keeps1 keeps2
 
-pub k-each_object : (walk : Walk) (x0 : Names) (x1 : Inside) (x2 : Context) (x3 : Context) (x4 : Bool) (x5 : ℕ) (x6 : ObjectType) (x7 : Option Expr) (x8 : Option TypedPart) (x9 : List ℕ) (x10 : List (Option ℕ)) → KeepsInside walk x1 → Keeps walk (each_object x0 x1 x2 x3 x4 x5 x6 x7 x8 x9 x10)
-k-each_object walk names level inner here constant first t e made (i ∷ is) (f ∷ fs) keeps1 = k-bind walk ((typed_object names level inner t)) (λ s. (initial names level inner s e) >>= λ v. (valued_constant first constant s e) >>= λ u. (one_object names here i f constant made s v) >>= λ r. each_object names level inner r.0 constant first t e r.1 is fs) (k-typed_object walk names level inner t keeps1) (λ s. k-bind walk ((initial names level inner s e)) (λ v. (valued_constant first constant s e) >>= λ u. (one_object names here i f constant made s v) >>= λ r. each_object names level inner r.0 constant first t e r.1 is fs) (k-initial walk names level inner s e keeps1) (λ v. k-bind walk ((valued_constant first constant s e)) (λ u. (one_object names here i f constant made s v) >>= λ r. each_object names level inner r.0 constant first t e r.1 is fs) (k-valued_constant walk first constant s e) (λ u. k-bind walk ((one_object names here i f constant made s v)) (λ r. each_object names level inner r.0 constant first t e r.1 is fs) (k-one_object walk names here i f constant made s v) (λ r. k-each_object walk names level inner r.0 constant first t e r.1 is fs keeps1))))
-k-each_object walk names level inner here constant first t e made _ _ keeps1 = k-pure walk (here, made)
+pub k-each_object : (walk : Walk) (x0 : Names) (x1 : Inside) (x2 : Context) (x3 : Context) (x4 : Bool) (x5 : ℕ) (x6 : ObjectType) (x7 : Option Expr) (x8 : Option TypedPart) (x9 : List ℕ) (x10 : List (Option ℕ)) → walk.Takes x0 → KeepsInside walk x1 → Keeps walk (each_object x0 x1 x2 x3 x4 x5 x6 x7 x8 x9 x10)
+k-each_object walk names level inner here constant first t e made (i ∷ is) (f ∷ fs) keeps1 keeps2 = k-bind walk ((typed_object names level inner t)) (λ s. (initial names level inner s e) >>= λ v. (valued_constant first constant s e) >>= λ u. (one_object names here i f constant made s v) >>= λ r. each_object names level inner r.0 constant first t e r.1 is fs) (k-typed_object walk names level inner t keeps1 keeps2) (λ s. k-bind walk ((initial names level inner s e)) (λ v. (valued_constant first constant s e) >>= λ u. (one_object names here i f constant made s v) >>= λ r. each_object names level inner r.0 constant first t e r.1 is fs) (k-initial walk names level inner s e keeps1 keeps2) (λ v. k-bind walk ((valued_constant first constant s e)) (λ u. (one_object names here i f constant made s v) >>= λ r. each_object names level inner r.0 constant first t e r.1 is fs) (k-valued_constant walk first constant s e) (λ u. k-bind walk ((one_object names here i f constant made s v)) (λ r. each_object names level inner r.0 constant first t e r.1 is fs) (k-one_object walk names here i f constant made s v keeps1) (λ r. k-each_object walk names level inner r.0 constant first t e r.1 is fs keeps1 keeps2))))
+k-each_object walk names level inner here constant first t e made _ _ keeps1 keeps2 = k-pure walk (here, made)
 
-pub k-objects : (walk : Walk) (x0 : Names) (x1 : Inside) (x2 : ℕ) (x3 : Context) (x4 : Option TypedPart) (x5 : Ids) (x6 : Bool) (x7 : ObjectType) (x8 : Option Expr) → KeepsInside walk x1 → Keeps walk (objects x0 x1 x2 x3 x4 x5 x6 x7 x8)
+pub k-objects : (walk : Walk) (x0 : Names) (x1 : Inside) (x2 : ℕ) (x3 : Context) (x4 : Option TypedPart) (x5 : Ids) (x6 : Bool) (x7 : ObjectType) (x8 : Option Expr) → walk.Takes x0 → KeepsInside walk x1 → Keeps walk (objects x0 x1 x2 x3 x4 x5 x6 x7 x8)
 unfolding objects
-k-objects walk names level start here made is constant t e keeps1 = k-bind walk ((begun_names names start here [] (all_ids is))) (λ r. each_object names level r.0 r.0 constant is.first t e made (all_ids is) r.1) (k-begun_names walk names start here [] (all_ids is)) (λ r. k-each_object walk names level r.0 r.0 constant is.first t e made (all_ids is) r.1 keeps1)
+k-objects walk names level start here made is constant t e keeps1 keeps2 = k-bind walk ((begun_names names start here [] (all_ids is))) (λ r. each_object names level r.0 r.0 constant is.first t e made (all_ids is) r.1) (k-begun_names walk names start here [] (all_ids is) keeps1) (λ r. k-each_object walk names level r.0 r.0 constant is.first t e made (all_ids is) r.1 keeps1 keeps2)
 
-pub k-numbers : (walk : Walk) (x0 : Names) (x1 : Inside) (x2 : ℕ) (x3 : Context) (x4 : Option TypedPart) (x5 : Ids) (x6 : Expr) → KeepsInside walk x1 → Keeps walk (numbers x0 x1 x2 x3 x4 x5 x6)
+pub k-numbers : (walk : Walk) (x0 : Names) (x1 : Inside) (x2 : ℕ) (x3 : Context) (x4 : Option TypedPart) (x5 : Ids) (x6 : Expr) → walk.Takes x0 → KeepsInside walk x1 → Keeps walk (numbers x0 x1 x2 x3 x4 x5 x6)
 unfolding numbers
-k-numbers walk names level start here made is e keeps1 = k-bind walk ((begun_names names start here [] (all_ids is))) (λ r. (expr names level r.0 wanted.Other e) >>= λ x. (given x static_number) >>= λ v. pure (all_ended names r.0 (option_map what.Number v) r.1, joined (and_mentions (found_mentions x)) made v)) (k-begun_names walk names start here [] (all_ids is)) (λ r. k-bind walk ((expr names level r.0 wanted.Other e)) (λ x. (given x static_number) >>= λ v. pure (all_ended names r.0 (option_map what.Number v) r.1, joined (and_mentions (found_mentions x)) made v)) (k-expr walk names level r.0 wanted.Other e keeps1) (λ x. k-bind walk ((given x static_number)) (λ v. pure (all_ended names r.0 (option_map what.Number v) r.1, joined (and_mentions (found_mentions x)) made v)) (k-given walk x (static_number) (λ z14. k-static_number walk z14)) (λ v. k-pure walk (all_ended names r.0 (option_map what.Number v) r.1, joined (and_mentions (found_mentions x)) made v))))
+k-numbers walk names level start here made is e keeps1 keeps2 = k-bind walk ((begun_names names start here [] (all_ids is))) (λ r. (expr names level r.0 wanted.Other e) >>= λ x. (given x static_number) >>= λ v. pure (all_ended names r.0 (option_map what.Number v) r.1, joined (and_mentions (found_mentions x)) made v)) (k-begun_names walk names start here [] (all_ids is) keeps1) (λ r. k-bind walk ((expr names level r.0 wanted.Other e)) (λ x. (given x static_number) >>= λ v. pure (all_ended names r.0 (option_map what.Number v) r.1, joined (and_mentions (found_mentions x)) made v)) (k-expr walk names level r.0 wanted.Other e keeps1 keeps2) (λ x. k-bind walk ((given x static_number)) (λ v. pure (all_ended names r.0 (option_map what.Number v) r.1, joined (and_mentions (found_mentions x)) made v)) (k-given walk x (static_number) (λ z14. k-static_number walk z14)) (λ v. k-pure walk (all_ended names r.0 (option_map what.Number v) r.1, joined (and_mentions (found_mentions x)) made v))))
 
 pub k-new_exception : (walk : Walk) (token : ℕ) → Keeps walk (new_exception token)
 k-new_exception walk token = record { at = walk.exception token }
 
-pub k-each_exception : (walk : Walk) (x0 : Names) (x1 : Context) (x2 : List ℕ) (x3 : List (Option ℕ)) → Keeps walk (each_exception x0 x1 x2 x3)
-k-each_exception walk names here (t ∷ ts) (f ∷ fs) = k-bind walk (new_exception t) (λ n. each_exception names (ended_name names here f (Some (what.Exception (reason.Declared n)))) ts fs) (k-new_exception walk t) (λ n. k-each_exception walk names (ended_name names here f (Some (what.Exception (reason.Declared n)))) ts fs)
-k-each_exception walk names here _ _ = k-pure walk here
+pub k-each_exception : (walk : Walk) (x0 : Names) (x1 : Context) (x2 : List ℕ) (x3 : List (Option ℕ)) → walk.Takes x0 → Keeps walk (each_exception x0 x1 x2 x3)
+k-each_exception walk names here (t ∷ ts) (f ∷ fs) keeps1 = k-bind walk (new_exception t) (λ n. each_exception names (ended_name names here f (Some (what.Exception (reason.Declared n)))) ts fs) (k-new_exception walk t) (λ n. k-each_exception walk names (ended_name names here f (Some (what.Exception (reason.Declared n)))) ts fs keeps1)
+k-each_exception walk names here _ _ keeps1 = k-pure walk here
 
-pub k-declaration : (walk : Walk) (x0 : Names) (x1 : Inside) (x2 : ℕ) (x3 : Context) (x4 : Option TypedPart) (x5 : Decl) → KeepsInside walk x1 → Keeps walk (declaration x0 x1 x2 x3 x4 x5)
+pub k-declaration : (walk : Walk) (x0 : Names) (x1 : Inside) (x2 : ℕ) (x3 : Context) (x4 : Option TypedPart) (x5 : Decl) → walk.Takes x0 → KeepsInside walk x1 → Keeps walk (declaration x0 x1 x2 x3 x4 x5)
 unfolding declaration
-k-declaration walk names level start here made (syntax.ObjectDecl is constant t e) keeps1 = k-objects walk names level start here made is (is_some constant) t e keeps1
-k-declaration walk names level start here made (syntax.NumberDecl is at e) keeps1 = k-numbers walk names level start here made is e keeps1
-k-declaration walk names level start here made (syntax.ExceptionDecl is) keeps1 = k-bind walk ((begun_names names start here [] (all_ids is))) (λ r. (each_exception names r.0 (all_ids is) r.1) >>= λ c. pure (c, made)) (k-begun_names walk names start here [] (all_ids is)) (λ r. k-bind walk ((each_exception names r.0 (all_ids is) r.1)) (λ c. pure (c, made)) (k-each_exception walk names r.0 (all_ids is) r.1) (λ c. k-pure walk (c, made)))
-k-declaration walk names level start here made (syntax.TypeDecl at token d) keeps1 = k-bind walk ((free names start here token)) (λ f. (defined names level (hidden_where names here token f) token d) >>= λ s. pure (one_type names (hidden_where names here token f) made f s)) (k-free walk names start here token) (λ f. k-bind walk ((defined names level (hidden_where names here token f) token d)) (λ s. pure (one_type names (hidden_where names here token f) made f s)) (k-defined walk names level (hidden_where names here token f) token d keeps1) (λ s. k-pure walk (one_type names (hidden_where names here token f) made f s)))
-k-declaration walk names level start here made (syntax.SubtypeDecl at token i) keeps1 = k-bind walk ((free names start here token)) (λ f. (indic names level (hidden_where names here token f) i) >>= λ s. pure (one_type names (hidden_where names here token f) made f s)) (k-free walk names start here token) (λ f. k-bind walk ((indic names level (hidden_where names here token f) i)) (λ s. pure (one_type names (hidden_where names here token f) made f s)) (k-indic walk names level (hidden_where names here token f) i keeps1) (λ s. k-pure walk (one_type names (hidden_where names here token f) made f s)))
+k-declaration walk names level start here made (syntax.ObjectDecl is constant t e) keeps1 keeps2 = k-objects walk names level start here made is (is_some constant) t e keeps1 keeps2
+k-declaration walk names level start here made (syntax.NumberDecl is at e) keeps1 keeps2 = k-numbers walk names level start here made is e keeps1 keeps2
+k-declaration walk names level start here made (syntax.ExceptionDecl is) keeps1 keeps2 = k-bind walk ((begun_names names start here [] (all_ids is))) (λ r. (each_exception names r.0 (all_ids is) r.1) >>= λ c. pure (c, made)) (k-begun_names walk names start here [] (all_ids is) keeps1) (λ r. k-bind walk ((each_exception names r.0 (all_ids is) r.1)) (λ c. pure (c, made)) (k-each_exception walk names r.0 (all_ids is) r.1 keeps1) (λ c. k-pure walk (c, made)))
+k-declaration walk names level start here made (syntax.TypeDecl at token d) keeps1 keeps2 = k-bind walk ((free names start here token)) (λ f. (defined names level (hidden_where names here token f) token d) >>= λ s. pure (one_type names (hidden_where names here token f) made f s)) (k-free walk names start here token keeps1) (λ f. k-bind walk ((defined names level (hidden_where names here token f) token d)) (λ s. pure (one_type names (hidden_where names here token f) made f s)) (k-defined walk names level (hidden_where names here token f) token d keeps1 keeps2) (λ s. k-pure walk (one_type names (hidden_where names here token f) made f s)))
+k-declaration walk names level start here made (syntax.SubtypeDecl at token i) keeps1 keeps2 = k-bind walk ((free names start here token)) (λ f. (indic names level (hidden_where names here token f) i) >>= λ s. pure (one_type names (hidden_where names here token f) made f s)) (k-free walk names start here token keeps1) (λ f. k-bind walk ((indic names level (hidden_where names here token f) i)) (λ s. pure (one_type names (hidden_where names here token f) made f s)) (k-indic walk names level (hidden_where names here token f) i keeps1 keeps2) (λ s. k-pure walk (one_type names (hidden_where names here token f) made f s)))
 
-pub k-declarations : (walk : Walk) (x0 : Names) (x1 : Inside) (x2 : ℕ) (x3 : Context) (x4 : Option TypedPart) (x5 : List Decl) → KeepsInside walk x1 → Keeps walk (declarations x0 x1 x2 x3 x4 x5)
-k-declarations walk names level start here made [] keeps1 = k-pure walk (here, made)
-k-declarations walk names level start here made (d ∷ ds) keeps1 = k-bind walk (declaration names level start here made d) (λ r. declarations names level start r.0 r.1 ds) (k-declaration walk names level start here made d keeps1) (λ r. k-declarations walk names level start r.0 r.1 ds keeps1)
+pub k-declarations : (walk : Walk) (x0 : Names) (x1 : Inside) (x2 : ℕ) (x3 : Context) (x4 : Option TypedPart) (x5 : List Decl) → walk.Takes x0 → KeepsInside walk x1 → Keeps walk (declarations x0 x1 x2 x3 x4 x5)
+k-declarations walk names level start here made [] keeps1 keeps2 = k-pure walk (here, made)
+k-declarations walk names level start here made (d ∷ ds) keeps1 keeps2 = k-bind walk (declaration names level start here made d) (λ r. declarations names level start r.0 r.1 ds) (k-declaration walk names level start here made d keeps1 keeps2) (λ r. k-declarations walk names level start r.0 r.1 ds keeps1 keeps2)

@@ -90,47 +90,47 @@ pub k-simple : (walk : Walk) (x0 : Inside) (x1 : Context) (x2 : Wanted) (x3 : Si
 unfolding simple
 k-simple walk level here want (syntax.Sum s t as') keeps1 = k-bind walk ((first_term level here (first_wanted want as') s t)) (λ x. (added level here x as') >>= λ y. given y (λ f. in_place want f.known f)) (k-first_term walk level here (first_wanted want as') s t keeps1) (λ x. k-bind walk ((added level here x as')) (λ y. given y (λ f. in_place want f.known f)) (k-added walk level here x as' keeps1) (λ y. k-given walk y (λ f. in_place want f.known f) (λ f. k-in_place walk want f.known f)))
 
-pub k-rel : (walk : Walk) (x0 : Names) (x1 : Inside) (x2 : Context) (x3 : Wanted) (x4 : Rel) → KeepsInside walk x1 → Keeps walk (rel x0 x1 x2 x3 x4)
+pub k-rel : (walk : Walk) (x0 : Names) (x1 : Inside) (x2 : Context) (x3 : Wanted) (x4 : Rel) → walk.Takes x0 → KeepsInside walk x1 → Keeps walk (rel x0 x1 x2 x3 x4)
 unfolding rel
-k-rel walk names level here want (syntax.Alone s) keeps1 = k-simple walk level here want s keeps1
-k-rel walk names level here want (syntax.Compared left c at right) keeps1 = k-bind walk ((simple level here wanted.Other left)) (λ x. (simple level here wanted.Other right) >>= λ y. compared (comparison_of c) at x y) (k-simple walk level here wanted.Other left keeps1) (λ x. k-bind walk ((simple level here wanted.Other right)) (λ y. compared (comparison_of c) at x y) (k-simple walk level here wanted.Other right keeps1) (λ y. k-compared walk (comparison_of c) at x y))
-k-rel walk names level here want (syntax.Within value negation at low high) keeps1 = k-bind walk ((simple level here wanted.Other value)) (λ x. (simple level here wanted.Other low) >>= λ l. (simple level here wanted.Other high) >>= λ h. membership (blamed negation at) (is_some negation) x l h) (k-simple walk level here wanted.Other value keeps1) (λ x. k-bind walk ((simple level here wanted.Other low)) (λ l. (simple level here wanted.Other high) >>= λ h. membership (blamed negation at) (is_some negation) x l h) (k-simple walk level here wanted.Other low keeps1) (λ l. k-bind walk ((simple level here wanted.Other high)) (λ h. membership (blamed negation at) (is_some negation) x l h) (k-simple walk level here wanted.Other high keeps1) (λ h. k-membership walk (blamed negation at) (is_some negation) x l h)))
-k-rel walk names level here want (syntax.OfMark value negation at mark) keeps1 = k-bind walk ((simple level here wanted.Other value)) (λ x. (scalar_named names here mark) >>= λ s. of_subtype (blamed negation at) (is_some negation) mark x s) (k-simple walk level here wanted.Other value keeps1) (λ x. k-bind walk ((scalar_named names here mark)) (λ s. of_subtype (blamed negation at) (is_some negation) mark x s) (k-scalar_named walk names here mark) (λ s. k-of_subtype walk (blamed negation at) (is_some negation) mark x s))
+k-rel walk names level here want (syntax.Alone s) keeps1 keeps2 = k-simple walk level here want s keeps2
+k-rel walk names level here want (syntax.Compared left c at right) keeps1 keeps2 = k-bind walk ((simple level here wanted.Other left)) (λ x. (simple level here wanted.Other right) >>= λ y. compared (comparison_of c) at x y) (k-simple walk level here wanted.Other left keeps2) (λ x. k-bind walk ((simple level here wanted.Other right)) (λ y. compared (comparison_of c) at x y) (k-simple walk level here wanted.Other right keeps2) (λ y. k-compared walk (comparison_of c) at x y))
+k-rel walk names level here want (syntax.Within value negation at low high) keeps1 keeps2 = k-bind walk ((simple level here wanted.Other value)) (λ x. (simple level here wanted.Other low) >>= λ l. (simple level here wanted.Other high) >>= λ h. membership (blamed negation at) (is_some negation) x l h) (k-simple walk level here wanted.Other value keeps2) (λ x. k-bind walk ((simple level here wanted.Other low)) (λ l. (simple level here wanted.Other high) >>= λ h. membership (blamed negation at) (is_some negation) x l h) (k-simple walk level here wanted.Other low keeps2) (λ l. k-bind walk ((simple level here wanted.Other high)) (λ h. membership (blamed negation at) (is_some negation) x l h) (k-simple walk level here wanted.Other high keeps2) (λ h. k-membership walk (blamed negation at) (is_some negation) x l h)))
+k-rel walk names level here want (syntax.OfMark value negation at mark) keeps1 keeps2 = k-bind walk ((simple level here wanted.Other value)) (λ x. (scalar_named names here mark) >>= λ s. of_subtype (blamed negation at) (is_some negation) mark x s) (k-simple walk level here wanted.Other value keeps2) (λ x. k-bind walk ((scalar_named names here mark)) (λ s. of_subtype (blamed negation at) (is_some negation) mark x s) (k-scalar_named walk names here mark keeps1) (λ s. k-of_subtype walk (blamed negation at) (is_some negation) mark x s))
 
-pub k-conjoined : (walk : Walk) (x0 : Names) (x1 : Inside) (x2 : Context) (x3 : Op) (x4 : Option Found) (x5 : Conjuncts) → KeepsInside walk x1 → Keeps walk (conjoined x0 x1 x2 x3 x4 x5)
-k-conjoined walk names level here o x syntax.NoConjunct keeps1 = k-pure walk x
-k-conjoined walk names level here o x (syntax.AlsoConjunct (syntax.conjunct at r) cs) keeps1 = k-bind walk ((rel names level here wanted.Other r)) (λ y. (logical o at x y) >>= λ z. conjoined names level here o z cs) (k-rel walk names level here wanted.Other r keeps1) (λ y. k-bind walk ((logical o at x y)) (λ z. conjoined names level here o z cs) (k-logical walk o at x y) (λ z. k-conjoined walk names level here o z cs keeps1))
+pub k-conjoined : (walk : Walk) (x0 : Names) (x1 : Inside) (x2 : Context) (x3 : Op) (x4 : Option Found) (x5 : Conjuncts) → walk.Takes x0 → KeepsInside walk x1 → Keeps walk (conjoined x0 x1 x2 x3 x4 x5)
+k-conjoined walk names level here o x syntax.NoConjunct keeps1 keeps2 = k-pure walk x
+k-conjoined walk names level here o x (syntax.AlsoConjunct (syntax.conjunct at r) cs) keeps1 keeps2 = k-bind walk ((rel names level here wanted.Other r)) (λ y. (logical o at x y) >>= λ z. conjoined names level here o z cs) (k-rel walk names level here wanted.Other r keeps1 keeps2) (λ y. k-bind walk ((logical o at x y)) (λ z. conjoined names level here o z cs) (k-logical walk o at x y) (λ z. k-conjoined walk names level here o z cs keeps1 keeps2))
 
-pub k-joined_rels : (walk : Walk) (x0 : Names) (x1 : Inside) (x2 : Context) (x3 : Op) (x4 : Rel) (x5 : ℕ) (x6 : Rel) (x7 : Conjuncts) → KeepsInside walk x1 → Keeps walk (joined_rels x0 x1 x2 x3 x4 x5 x6 x7)
-k-joined_rels walk names level here o first at second more keeps1 = k-bind walk ((rel names level here wanted.Other first)) (λ x. (rel names level here wanted.Other second) >>= λ y. (logical o at x y) >>= λ z. conjoined names level here o z more) (k-rel walk names level here wanted.Other first keeps1) (λ x. k-bind walk ((rel names level here wanted.Other second)) (λ y. (logical o at x y) >>= λ z. conjoined names level here o z more) (k-rel walk names level here wanted.Other second keeps1) (λ y. k-bind walk ((logical o at x y)) (λ z. conjoined names level here o z more) (k-logical walk o at x y) (λ z. k-conjoined walk names level here o z more keeps1)))
+pub k-joined_rels : (walk : Walk) (x0 : Names) (x1 : Inside) (x2 : Context) (x3 : Op) (x4 : Rel) (x5 : ℕ) (x6 : Rel) (x7 : Conjuncts) → walk.Takes x0 → KeepsInside walk x1 → Keeps walk (joined_rels x0 x1 x2 x3 x4 x5 x6 x7)
+k-joined_rels walk names level here o first at second more keeps1 keeps2 = k-bind walk ((rel names level here wanted.Other first)) (λ x. (rel names level here wanted.Other second) >>= λ y. (logical o at x y) >>= λ z. conjoined names level here o z more) (k-rel walk names level here wanted.Other first keeps1 keeps2) (λ x. k-bind walk ((rel names level here wanted.Other second)) (λ y. (logical o at x y) >>= λ z. conjoined names level here o z more) (k-rel walk names level here wanted.Other second keeps1 keeps2) (λ y. k-bind walk ((logical o at x y)) (λ z. conjoined names level here o z more) (k-logical walk o at x y) (λ z. k-conjoined walk names level here o z more keeps1 keeps2)))
 
-pub k-short_operand : (walk : Walk) (x0 : Names) (x1 : Inside) (x2 : Context) (x3 : ℕ) (x4 : Rel) → KeepsInside walk x1 → Keeps walk (short_operand x0 x1 x2 x3 x4)
-k-short_operand walk names level here at r keeps1 = k-bind walk (rel names level here wanted.Other r) (λ x. given x (λ f. if is_kind kind.Boolean (kind_of f.known) then asked kind.Boolean f else fault at WrongType)) (k-rel walk names level here wanted.Other r keeps1) (λ x. k-given walk x (λ f. if is_kind kind.Boolean (kind_of f.known) then asked kind.Boolean f else fault at WrongType) (λ f. k-if walk (is_kind kind.Boolean (kind_of f.known)) (asked kind.Boolean f) (fault at WrongType) (k-asked walk kind.Boolean f) (k-fault walk at WrongType)))
+pub k-short_operand : (walk : Walk) (x0 : Names) (x1 : Inside) (x2 : Context) (x3 : ℕ) (x4 : Rel) → walk.Takes x0 → KeepsInside walk x1 → Keeps walk (short_operand x0 x1 x2 x3 x4)
+k-short_operand walk names level here at r keeps1 keeps2 = k-bind walk (rel names level here wanted.Other r) (λ x. given x (λ f. if is_kind kind.Boolean (kind_of f.known) then asked kind.Boolean f else fault at WrongType)) (k-rel walk names level here wanted.Other r keeps1 keeps2) (λ x. k-given walk x (λ f. if is_kind kind.Boolean (kind_of f.known) then asked kind.Boolean f else fault at WrongType) (λ f. k-if walk (is_kind kind.Boolean (kind_of f.known)) (asked kind.Boolean f) (fault at WrongType) (k-asked walk kind.Boolean f) (k-fault walk at WrongType)))
 
-pub k-short_operands : (walk : Walk) (x0 : Names) (x1 : Inside) (x2 : Context) (x3 : Bool) (x4 : Option TypedPart) (x5 : Conjuncts) → KeepsInside walk x1 → Keeps walk (short_operands x0 x1 x2 x3 x4 x5)
-k-short_operands walk names level here all x syntax.NoConjunct keeps1 = k-pure walk x
-k-short_operands walk names level here all x (syntax.AlsoConjunct (syntax.conjunct at r) cs) keeps1 = k-bind walk ((short_operand names level here at r)) (λ y. short_operands names level here all (joined (short_join all) x y) cs) (k-short_operand walk names level here at r keeps1) (λ y. k-short_operands walk names level here all (joined (short_join all) x y) cs keeps1)
+pub k-short_operands : (walk : Walk) (x0 : Names) (x1 : Inside) (x2 : Context) (x3 : Bool) (x4 : Option TypedPart) (x5 : Conjuncts) → walk.Takes x0 → KeepsInside walk x1 → Keeps walk (short_operands x0 x1 x2 x3 x4 x5)
+k-short_operands walk names level here all x syntax.NoConjunct keeps1 keeps2 = k-pure walk x
+k-short_operands walk names level here all x (syntax.AlsoConjunct (syntax.conjunct at r) cs) keeps1 keeps2 = k-bind walk ((short_operand names level here at r)) (λ y. short_operands names level here all (joined (short_join all) x y) cs) (k-short_operand walk names level here at r keeps1 keeps2) (λ y. k-short_operands walk names level here all (joined (short_join all) x y) cs keeps1 keeps2)
 
-pub k-short_form : (walk : Walk) (x0 : Names) (x1 : Inside) (x2 : Context) (x3 : Bool) (x4 : Rel) (x5 : ℕ) (x6 : Rel) (x7 : Conjuncts) → KeepsInside walk x1 → Keeps walk (short_form x0 x1 x2 x3 x4 x5 x6 x7)
-k-short_form walk names level here all first at second more keeps1 = k-bind walk ((short_operand names level here at first)) (λ x. (short_operands names level here all x (syntax.AlsoConjunct (syntax.conjunct at second) more)) >>= λ z. pure (option_map (short_found (first_token.of_rel first)) z)) (k-short_operand walk names level here at first keeps1) (λ x. k-bind walk ((short_operands names level here all x (syntax.AlsoConjunct (syntax.conjunct at second) more))) (λ z. pure (option_map (short_found (first_token.of_rel first)) z)) (k-short_operands walk names level here all x (syntax.AlsoConjunct (syntax.conjunct at second) more) keeps1) (λ z. k-pure walk (option_map (short_found (first_token.of_rel first)) z)))
+pub k-short_form : (walk : Walk) (x0 : Names) (x1 : Inside) (x2 : Context) (x3 : Bool) (x4 : Rel) (x5 : ℕ) (x6 : Rel) (x7 : Conjuncts) → walk.Takes x0 → KeepsInside walk x1 → Keeps walk (short_form x0 x1 x2 x3 x4 x5 x6 x7)
+k-short_form walk names level here all first at second more keeps1 keeps2 = k-bind walk ((short_operand names level here at first)) (λ x. (short_operands names level here all x (syntax.AlsoConjunct (syntax.conjunct at second) more)) >>= λ z. pure (option_map (short_found (first_token.of_rel first)) z)) (k-short_operand walk names level here at first keeps1 keeps2) (λ x. k-bind walk ((short_operands names level here all x (syntax.AlsoConjunct (syntax.conjunct at second) more))) (λ z. pure (option_map (short_found (first_token.of_rel first)) z)) (k-short_operands walk names level here all x (syntax.AlsoConjunct (syntax.conjunct at second) more) keeps1 keeps2) (λ z. k-pure walk (option_map (short_found (first_token.of_rel first)) z)))
 
-pub k-expr : (walk : Walk) (x0 : Names) (x1 : Inside) (x2 : Context) (x3 : Wanted) (x4 : Expr) → KeepsInside walk x1 → Keeps walk (expr x0 x1 x2 x3 x4)
+pub k-expr : (walk : Walk) (x0 : Names) (x1 : Inside) (x2 : Context) (x3 : Wanted) (x4 : Expr) → walk.Takes x0 → KeepsInside walk x1 → Keeps walk (expr x0 x1 x2 x3 x4)
 unfolding expr
-k-expr walk names level here want (syntax.Single r) keeps1 = k-rel walk names level here want r keeps1
-k-expr walk names level here want (syntax.Joined logical'.And first at second more) keeps1 = k-joined_rels walk names level here op.And first at second more keeps1
-k-expr walk names level here want (syntax.Joined logical'.Or first at second more) keeps1 = k-joined_rels walk names level here op.Or first at second more keeps1
-k-expr walk names level here want (syntax.Joined logical'.Xor first at second more) keeps1 = k-joined_rels walk names level here op.Xor first at second more keeps1
-k-expr walk names level here want (syntax.Joined logical'.AndThen first at second more) keeps1 = k-short_form walk names level here true first at second more keeps1
-k-expr walk names level here want (syntax.Joined logical'.OrElse first at second more) keeps1 = k-short_form walk names level here false first at second more keeps1
+k-expr walk names level here want (syntax.Single r) keeps1 keeps2 = k-rel walk names level here want r keeps1 keeps2
+k-expr walk names level here want (syntax.Joined logical'.And first at second more) keeps1 keeps2 = k-joined_rels walk names level here op.And first at second more keeps1 keeps2
+k-expr walk names level here want (syntax.Joined logical'.Or first at second more) keeps1 keeps2 = k-joined_rels walk names level here op.Or first at second more keeps1 keeps2
+k-expr walk names level here want (syntax.Joined logical'.Xor first at second more) keeps1 keeps2 = k-joined_rels walk names level here op.Xor first at second more keeps1 keeps2
+k-expr walk names level here want (syntax.Joined logical'.AndThen first at second more) keeps1 keeps2 = k-short_form walk names level here true first at second more keeps1 keeps2
+k-expr walk names level here want (syntax.Joined logical'.OrElse first at second more) keeps1 keeps2 = k-short_form walk names level here false first at second more keeps1 keeps2
 
-pub k-condition : (walk : Walk) (x0 : Names) (x1 : Inside) (x2 : Context) (x3 : Expr) → KeepsInside walk x1 → Keeps walk (condition x0 x1 x2 x3)
+pub k-condition : (walk : Walk) (x0 : Names) (x1 : Inside) (x2 : Context) (x3 : Expr) → walk.Takes x0 → KeepsInside walk x1 → Keeps walk (condition x0 x1 x2 x3)
 unfolding condition
-k-condition walk names level here e keeps1 = k-bind walk (expr names level here wanted.Other e) (λ x. given x (asked kind.Boolean)) (k-expr walk names level here wanted.Other e keeps1) (λ x. k-given walk x (asked kind.Boolean) (λ z9. k-asked walk kind.Boolean z9))
+k-condition walk names level here e keeps1 keeps2 = k-bind walk (expr names level here wanted.Other e) (λ x. given x (asked kind.Boolean)) (k-expr walk names level here wanted.Other e keeps1 keeps2) (λ x. k-given walk x (asked kind.Boolean) (λ z9. k-asked walk kind.Boolean z9))
 
-pub k-value_for : (walk : Walk) (x0 : Names) (x1 : Inside) (x2 : Context) (x3 : Subtype) (x4 : Expr) → KeepsInside walk x1 → Keeps walk (value_for x0 x1 x2 x3 x4)
+pub k-value_for : (walk : Walk) (x0 : Names) (x1 : Inside) (x2 : Context) (x3 : Subtype) (x4 : Expr) → walk.Takes x0 → KeepsInside walk x1 → Keeps walk (value_for x0 x1 x2 x3 x4)
 unfolding value_for
-k-value_for walk names level here s e keeps1 = k-bind walk (expr names level here (wanted_of s) e) (λ x. given x (stored s (first_token.of_expr e))) (k-expr walk names level here (wanted_of s) e keeps1) (λ x. k-given walk x (stored s (first_token.of_expr e)) (λ z10. k-stored walk s (first_token.of_expr e) z10))
+k-value_for walk names level here s e keeps1 keeps2 = k-bind walk (expr names level here (wanted_of s) e) (λ x. given x (stored s (first_token.of_expr e))) (k-expr walk names level here (wanted_of s) e keeps1 keeps2) (λ x. k-given walk x (stored s (first_token.of_expr e)) (λ z10. k-stored walk s (first_token.of_expr e) z10))
 
-pub k-judged_alone : (walk : Walk) (x0 : Names) (x1 : Inside) (x2 : Context) (x3 : Expr) → KeepsInside walk x1 → Keeps walk (judged_alone x0 x1 x2 x3)
+pub k-judged_alone : (walk : Walk) (x0 : Names) (x1 : Inside) (x2 : Context) (x3 : Expr) → walk.Takes x0 → KeepsInside walk x1 → Keeps walk (judged_alone x0 x1 x2 x3)
 unfolding judged_alone
-k-judged_alone walk names level here e keeps1 = k-bind walk (expr names level here wanted.Unknown e) (λ x. pure tt) (k-expr walk names level here wanted.Unknown e keeps1) (λ x. k-pure walk tt)
+k-judged_alone walk names level here e keeps1 keeps2 = k-bind walk (expr names level here wanted.Unknown e) (λ x. pure tt) (k-expr walk names level here wanted.Unknown e keeps1 keeps2) (λ x. k-pure walk tt)

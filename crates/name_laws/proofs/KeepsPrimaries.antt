@@ -40,13 +40,13 @@ use Rattle.name_laws.proofs.KeepsIterations.{k-sequence}
 use Rattle.name_laws.proofs.KeepsParts.{k-name, k-value_named}
 use Rattle.name_laws.proofs.KeepsValues.{k-asked, k-composite_asked}
 
-pub k-alternative : (walk : Walk) (x0 : Names) (x1 : Inside) (x2 : Context) (x3 : Wanted) (x4 : Option Waiting) (x5 : Expr) (x6 : Expr) → KeepsInside walk x1 → Keeps walk (alternative x0 x1 x2 x3 x4 x5 x6)
+pub k-alternative : (walk : Walk) (x0 : Names) (x1 : Inside) (x2 : Context) (x3 : Wanted) (x4 : Option Waiting) (x5 : Expr) (x6 : Expr) → walk.Takes x0 → KeepsInside walk x1 → Keeps walk (alternative x0 x1 x2 x3 x4 x5 x6)
 unfolding alternative
-k-alternative walk names level here want made c v keeps1 = k-bind walk ((condition names level here c)) (λ x. (expr names level here want v) >>= λ y. pure (also_choice made x y)) (k-condition walk names level here c keeps1) (λ x. k-bind walk ((expr names level here want v)) (λ y. pure (also_choice made x y)) (k-expr walk names level here want v keeps1) (λ y. k-pure walk (also_choice made x y)))
+k-alternative walk names level here want made c v keeps1 keeps2 = k-bind walk ((condition names level here c)) (λ x. (expr names level here want v) >>= λ y. pure (also_choice made x y)) (k-condition walk names level here c keeps1 keeps2) (λ x. k-bind walk ((expr names level here want v)) (λ y. pure (also_choice made x y)) (k-expr walk names level here want v keeps1 keeps2) (λ y. k-pure walk (also_choice made x y)))
 
-pub k-alternatives : (walk : Walk) (x0 : Names) (x1 : Inside) (x2 : Context) (x3 : Wanted) (x4 : Option Waiting) (x5 : Elsifs) → KeepsInside walk x1 → Keeps walk (alternatives x0 x1 x2 x3 x4 x5)
-k-alternatives walk names level here want made syntax.NoElsif keeps1 = k-pure walk made
-k-alternatives walk names level here want made (syntax.AlsoElsif (syntax.elsif at c v) es) keeps1 = k-bind walk (alternative names level here want made c v) (λ d. alternatives names level here want d es) (k-alternative walk names level here want made c v keeps1) (λ d. k-alternatives walk names level here want d es keeps1)
+pub k-alternatives : (walk : Walk) (x0 : Names) (x1 : Inside) (x2 : Context) (x3 : Wanted) (x4 : Option Waiting) (x5 : Elsifs) → walk.Takes x0 → KeepsInside walk x1 → Keeps walk (alternatives x0 x1 x2 x3 x4 x5)
+k-alternatives walk names level here want made syntax.NoElsif keeps1 keeps2 = k-pure walk made
+k-alternatives walk names level here want made (syntax.AlsoElsif (syntax.elsif at c v) es) keeps1 keeps2 = k-bind walk (alternative names level here want made c v) (λ d. alternatives names level here want d es) (k-alternative walk names level here want made c v keeps1 keeps2) (λ d. k-alternatives walk names level here want d es keeps1 keeps2)
 
 pub k-scalar_ifs : (walk : Walk) (x0 : Kind) (x1 : List Known) (x2 : TypedPart) (x3 : Option TypedPart) → Keeps walk (scalar_ifs x0 x1 x2 x3)
 k-scalar_ifs walk k [] ps o = k-pure walk o
@@ -69,9 +69,9 @@ k-conditional walk bracket w f (Some k) n = k-scalar_if walk bracket k w f
 k-conditional walk bracket w f None (Some n) = k-composite_if walk bracket n w f
 k-conditional walk bracket w f None None = k-pure walk (option_map (open_if bracket) (open_ifs w.known w.part (open_of f)))
 
-pub k-if_expr : (walk : Walk) (x0 : Names) (x1 : Inside) (x2 : Context) (x3 : Wanted) (x4 : ℕ) (x5 : Expr) (x6 : Expr) (x7 : Elsifs) (x8 : Expr) → KeepsInside walk x1 → Keeps walk (if_expr x0 x1 x2 x3 x4 x5 x6 x7 x8)
+pub k-if_expr : (walk : Walk) (x0 : Names) (x1 : Inside) (x2 : Context) (x3 : Wanted) (x4 : ℕ) (x5 : Expr) (x6 : Expr) (x7 : Elsifs) (x8 : Expr) → walk.Takes x0 → KeepsInside walk x1 → Keeps walk (if_expr x0 x1 x2 x3 x4 x5 x6 x7 x8)
 unfolding if_expr
-k-if_expr walk names level here want bracket c v more o keeps1 = k-bind walk ((alternative names level here want (Some (record { known = []; part = part.Nothing })) c v)) (λ d. (alternatives names level here want d more) >>= λ ds. (expr names level here want o) >>= λ f. both ds f (λ w x. conditional bracket w x (common w.known (kind_of x.known)) (common_composite w.known (composite_in x.known)))) (k-alternative walk names level here want (Some (record { known = []; part = part.Nothing })) c v keeps1) (λ d. k-bind walk ((alternatives names level here want d more)) (λ ds. (expr names level here want o) >>= λ f. both ds f (λ w x. conditional bracket w x (common w.known (kind_of x.known)) (common_composite w.known (composite_in x.known)))) (k-alternatives walk names level here want d more keeps1) (λ ds. k-bind walk ((expr names level here want o)) (λ f. both ds f (λ w x. conditional bracket w x (common w.known (kind_of x.known)) (common_composite w.known (composite_in x.known)))) (k-expr walk names level here want o keeps1) (λ f. k-both walk ds f (λ w x. conditional bracket w x (common w.known (kind_of x.known)) (common_composite w.known (composite_in x.known))) (λ w x. k-conditional walk bracket w x (common w.known (kind_of x.known)) (common_composite w.known (composite_in x.known))))))
+k-if_expr walk names level here want bracket c v more o keeps1 keeps2 = k-bind walk ((alternative names level here want (Some (record { known = []; part = part.Nothing })) c v)) (λ d. (alternatives names level here want d more) >>= λ ds. (expr names level here want o) >>= λ f. both ds f (λ w x. conditional bracket w x (common w.known (kind_of x.known)) (common_composite w.known (composite_in x.known)))) (k-alternative walk names level here want (Some (record { known = []; part = part.Nothing })) c v keeps1 keeps2) (λ d. k-bind walk ((alternatives names level here want d more)) (λ ds. (expr names level here want o) >>= λ f. both ds f (λ w x. conditional bracket w x (common w.known (kind_of x.known)) (common_composite w.known (composite_in x.known)))) (k-alternatives walk names level here want d more keeps1 keeps2) (λ ds. k-bind walk ((expr names level here want o)) (λ f. both ds f (λ w x. conditional bracket w x (common w.known (kind_of x.known)) (common_composite w.known (composite_in x.known)))) (k-expr walk names level here want o keeps1 keeps2) (λ f. k-both walk ds f (λ w x. conditional bracket w x (common w.known (kind_of x.known)) (common_composite w.known (composite_in x.known))) (λ w x. k-conditional walk bracket w x (common w.known (kind_of x.known)) (common_composite w.known (composite_in x.known))))))
 
 pub k-grouped_scalar : (walk : Walk) (x0 : ℕ) (x1 : Found) (x2 : Option Kind) (x3 : Option ℕ) → Keeps walk (grouped_scalar x0 x1 x2 x3)
 k-grouped_scalar walk bracket f (Some k) n = k-bind walk (asked k f) (λ x. given x (λ e. some (scalar bracket k None (typed.Group (as_expr e))))) (k-asked walk k f) (λ x. k-given walk x (λ e. some (scalar bracket k None (typed.Group (as_expr e)))) (λ e. k-some walk (scalar bracket k None (typed.Group (as_expr e)))))
@@ -94,30 +94,30 @@ k-target_at walk at target.Nothing = k-fault walk at NotVisible
 k-target_at walk at target.Faulty = k-pure walk None
 k-target_at walk at (target.Of s) = k-some walk (target_found at s)
 
-pub k-text_at : (walk : Walk) (x0 : Names) (x1 : ℕ) (x2 : Wanted) → Keeps walk (text_at x0 x1 x2)
-k-text_at walk names at wanted.Text = k-some walk (text_found at (also part.Nothing (part.APiece (typed.Text (text names at)))))
-k-text_at walk names at want = k-fault walk at WrongType
+pub k-text_at : (walk : Walk) (x0 : Names) (x1 : ℕ) (x2 : Wanted) → walk.Takes x0 → Keeps walk (text_at x0 x1 x2)
+k-text_at walk names at wanted.Text keeps1 = k-some walk (text_found at (also part.Nothing (part.APiece (typed.Text (text names at)))))
+k-text_at walk names at want keeps1 = k-fault walk at WrongType
 
-pub k-primary : (walk : Walk) (x0 : Names) (x1 : Inside) (x2 : Context) (x3 : Primary) (x4 : Wanted) → KeepsInside walk x1 → Keeps walk (primary x0 x1 x2 x3 x4)
+pub k-primary : (walk : Walk) (x0 : Names) (x1 : Inside) (x2 : Context) (x3 : Primary) (x4 : Wanted) → walk.Takes x0 → KeepsInside walk x1 → Keeps walk (primary x0 x1 x2 x3 x4)
 unfolding primary
-k-primary walk names inside here (syntax.Number at) want keeps1 = k-some walk (universal at (number names at) true part.Nothing)
-k-primary walk names inside here (syntax.Text at) want keeps1 = k-text_at walk names at want
-k-primary walk names inside here (syntax.Target at) want keeps1 = k-target_at walk at here.target
-k-primary walk names inside here (syntax.Named n) want keeps1 = k-bind walk (value_named names inside here n) (λ x. given x (λ f. in_place want f.known f)) (k-value_named walk names inside here n keeps1) (λ x. k-given walk x (λ f. in_place want f.known f) (λ f. k-in_place walk want f.known f))
-k-primary walk names inside here (syntax.Group bracket e) want keeps1 = k-bind walk (expr names inside here want e) (λ x. given x (grouped bracket)) (k-expr walk names inside here want e keeps1) (λ x. k-given walk x (grouped bracket) (λ z1. k-grouped walk bracket z1))
-k-primary walk names inside here (syntax.If bracket at c v more o) want keeps1 = k-if_expr walk names inside here (no_text want) bracket c v more o keeps1
-k-primary walk names inside here (syntax.Round bracket many) want keeps1 = k-aggregate walk names inside here want bracket (contents many) keeps1
-k-primary walk names inside here (syntax.Square bracket many) want keeps1 = k-aggregate walk names inside here want bracket (contents many) keeps1
-k-primary walk names inside here (syntax.OneValue bracket e) want keeps1 = k-aggregate walk names inside here want bracket (ByPosition (syntax.AlsoExpr e syntax.NoExpr) syntax.AbsentExpr) keeps1
-k-primary walk names inside here (syntax.Reduction bracket p at i v a r o) want keeps1 = k-sequence walk names inside here bracket p i v a r o keeps1
+k-primary walk names inside here (syntax.Number at) want keeps1 keeps2 = k-some walk (universal at (number names at) true part.Nothing)
+k-primary walk names inside here (syntax.Text at) want keeps1 keeps2 = k-text_at walk names at want keeps1
+k-primary walk names inside here (syntax.Target at) want keeps1 keeps2 = k-target_at walk at here.target
+k-primary walk names inside here (syntax.Named n) want keeps1 keeps2 = k-bind walk (value_named names inside here n) (λ x. given x (λ f. in_place want f.known f)) (k-value_named walk names inside here n keeps1 keeps2) (λ x. k-given walk x (λ f. in_place want f.known f) (λ f. k-in_place walk want f.known f))
+k-primary walk names inside here (syntax.Group bracket e) want keeps1 keeps2 = k-bind walk (expr names inside here want e) (λ x. given x (grouped bracket)) (k-expr walk names inside here want e keeps1 keeps2) (λ x. k-given walk x (grouped bracket) (λ z1. k-grouped walk bracket z1))
+k-primary walk names inside here (syntax.If bracket at c v more o) want keeps1 keeps2 = k-if_expr walk names inside here (no_text want) bracket c v more o keeps1 keeps2
+k-primary walk names inside here (syntax.Round bracket many) want keeps1 keeps2 = k-aggregate walk names inside here want bracket (contents many) keeps1 keeps2
+k-primary walk names inside here (syntax.Square bracket many) want keeps1 keeps2 = k-aggregate walk names inside here want bracket (contents many) keeps1 keeps2
+k-primary walk names inside here (syntax.OneValue bracket e) want keeps1 keeps2 = k-aggregate walk names inside here want bracket (ByPosition (syntax.AlsoExpr e syntax.NoExpr) syntax.AbsentExpr) keeps1 keeps2
+k-primary walk names inside here (syntax.Reduction bracket p at i v a r o) want keeps1 keeps2 = k-sequence walk names inside here bracket p i v a r o keeps1 keeps2
 
-pub k-level_above : (walk : Walk) (names : Names) (level : Inside) → KeepsInside walk level → KeepsInside walk (level_above names level)
-k-level_above walk names level h = record { primary = λ here p want. k-primary walk names level here p want h; name = λ here n. k-name walk names level here n h }
+pub k-level_above : (walk : Walk) (names : Names) (level : Inside) → walk.Takes names → KeepsInside walk level → KeepsInside walk (level_above names level)
+k-level_above walk names level t h = record { primary = λ here p want. k-primary walk names level here p want t h; name = λ here n. k-name walk names level here n t h }
 
 pub k-too_deep : (walk : Walk) (A : Type 0) (at : ℕ) → Keeps walk (too_deep {A = A} at)
 k-too_deep walk A at = k-fault walk at (Limit 5 65)
 
-pub k-inside : (walk : Walk) (names : Names) (n : ℕ) → KeepsInside walk (inside names n)
+pub k-inside : (walk : Walk) (names : Names) (n : ℕ) → walk.Takes names → KeepsInside walk (inside names n)
 unfolding inside
-k-inside walk names zero = record { primary = λ here p want. k-fault walk (first_token.of_primary p) (Limit 5 65); name = λ here n. k-fault walk (first_token.of_name n) (Limit 5 65) }
-k-inside walk names (suc n) = k-level_above walk names (inside names n) (k-inside walk names n)
+k-inside walk names zero t = record { primary = λ here p want. k-fault walk (first_token.of_primary p) (Limit 5 65); name = λ here n. k-fault walk (first_token.of_name n) (Limit 5 65) }
+k-inside walk names (suc n) t = k-level_above walk names (inside names n) t (k-inside walk names n t)

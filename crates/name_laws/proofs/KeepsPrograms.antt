@@ -48,32 +48,32 @@ use Rattle.name_laws.proofs.KeepsPrimaries.{k-inside, k-level_above}
 use Rattle.name_laws.proofs.KeepsScope.{k-free, k-scalar_named, k-stands_for, k-subtype_named}
 use Rattle.name_laws.proofs.KeepsStatements.{k-around, k-body}
 
-pub k-policy_named : (walk : Walk) (x0 : Names) (x1 : Policy) → Keeps walk (policy_named x0 x1)
-k-policy_named walk names p = k-if walk (not (symbol names p.mark == policy_name)) ((breaks p.mark Unknown >>= λ u. pure true)) (if symbol names p.policy == known_parallel_policy then pure false else (unless (symbol names p.policy == all_parallel_policy || symbol names p.policy == all_policy) p.policy PolicyName >>= λ u. pure true)) (k-bind walk (breaks p.mark Unknown) (λ u. pure true) (k-breaks walk p.mark Unknown) (λ u. k-pure walk true)) (k-if walk (symbol names p.policy == known_parallel_policy) (pure false) ((unless (symbol names p.policy == all_parallel_policy || symbol names p.policy == all_policy) p.policy PolicyName >>= λ u. pure true)) (k-pure walk false) (k-bind walk (unless (symbol names p.policy == all_parallel_policy || symbol names p.policy == all_policy) p.policy PolicyName) (λ u. pure true) (k-unless walk (symbol names p.policy == all_parallel_policy || symbol names p.policy == all_policy) p.policy PolicyName) (λ u. k-pure walk true)))
+pub k-policy_named : (walk : Walk) (x0 : Names) (x1 : Policy) → walk.Takes x0 → Keeps walk (policy_named x0 x1)
+k-policy_named walk names p keeps1 = k-if walk (not (symbol names p.mark == policy_name)) ((breaks p.mark Unknown >>= λ u. pure true)) (if symbol names p.policy == known_parallel_policy then pure false else (unless (symbol names p.policy == all_parallel_policy || symbol names p.policy == all_policy) p.policy PolicyName >>= λ u. pure true)) (k-bind walk (breaks p.mark Unknown) (λ u. pure true) (k-breaks walk p.mark Unknown) (λ u. k-pure walk true)) (k-if walk (symbol names p.policy == known_parallel_policy) (pure false) ((unless (symbol names p.policy == all_parallel_policy || symbol names p.policy == all_policy) p.policy PolicyName >>= λ u. pure true)) (k-pure walk false) (k-bind walk (unless (symbol names p.policy == all_parallel_policy || symbol names p.policy == all_policy) p.policy PolicyName) (λ u. pure true) (k-unless walk (symbol names p.policy == all_parallel_policy || symbol names p.policy == all_policy) p.policy PolicyName) (λ u. k-pure walk true)))
 
-pub k-policy : (walk : Walk) (x0 : Names) (x1 : Option Policy) → Keeps walk (policy x0 x1)
-k-policy walk names None = k-pure walk true
-k-policy walk names (Some p) = k-policy_named walk names p
+pub k-policy : (walk : Walk) (x0 : Names) (x1 : Option Policy) → walk.Takes x0 → Keeps walk (policy x0 x1)
+k-policy walk names None keeps1 = k-pure walk true
+k-policy walk names (Some p) keeps1 = k-policy_named walk names p keeps1
 
-pub k-pack_end : (walk : Walk) (x0 : Names) (x1 : ℕ) (x2 : List ℕ) → Keeps walk (pack_end x0 x1 x2)
-k-pack_end walk names library [] = k-some walk library
-k-pack_end walk names library (t ∷ ts) = k-if walk (library == ada_name && (symbol names t == text_io_name || symbol names t == integer_io_name)) (pack_end names (symbol names t) ts) (fault t Unknown) (k-pack_end walk names (symbol names t) ts) (k-fault walk t Unknown)
+pub k-pack_end : (walk : Walk) (x0 : Names) (x1 : ℕ) (x2 : List ℕ) → walk.Takes x0 → Keeps walk (pack_end x0 x1 x2)
+k-pack_end walk names library [] keeps1 = k-some walk library
+k-pack_end walk names library (t ∷ ts) keeps1 = k-if walk (library == ada_name && (symbol names t == text_io_name || symbol names t == integer_io_name)) (pack_end names (symbol names t) ts) (fault t Unknown) (k-pack_end walk names (symbol names t) ts keeps1) (k-fault walk t Unknown)
 
-pub k-pack : (walk : Walk) (x0 : Names) (x1 : Pack) → Keeps walk (pack x0 x1)
-k-pack walk names p = k-if walk (symbol names p.first == ada_name) (pack_end names ada_name p.more) (fault p.first Unknown) (k-pack_end walk names ada_name p.more) (k-fault walk p.first Unknown)
+pub k-pack : (walk : Walk) (x0 : Names) (x1 : Pack) → walk.Takes x0 → Keeps walk (pack x0 x1)
+k-pack walk names p keeps1 = k-if walk (symbol names p.first == ada_name) (pack_end names ada_name p.more) (fault p.first Unknown) (k-pack_end walk names ada_name p.more keeps1) (k-fault walk p.first Unknown)
 
 pub k-clause_name : (walk : Walk) (x0 : ClauseWord) (x1 : Context) (x2 : ℕ) (x3 : Option ℕ) → Keeps walk (clause_name x0 x1 x2 x3)
 k-clause_name walk w here first None = k-pure walk here
 k-clause_name walk word.With here first (Some name) = k-pure walk (withed_by here name)
 k-clause_name walk word.Use here first (Some name) = k-bind walk (unless (has here.withed name) first NotVisible) (λ u. pure (record here { used = with_package here.used name })) (k-unless walk (has here.withed name) first NotVisible) (λ u. k-pure walk (record here { used = with_package here.used name }))
 
-pub k-clause_packs : (walk : Walk) (x0 : Names) (x1 : ClauseWord) (x2 : Context) (x3 : List Pack) → Keeps walk (clause_packs x0 x1 x2 x3)
-k-clause_packs walk names w here [] = k-pure walk here
-k-clause_packs walk names w here (p ∷ ps) = k-bind walk (pack names p) (λ n. clause_name w here p.first n >>= λ c. clause_packs names w c ps) (k-pack walk names p) (λ n. k-bind walk (clause_name w here p.first n) (λ c. clause_packs names w c ps) (k-clause_name walk w here p.first n) (λ c. k-clause_packs walk names w c ps))
+pub k-clause_packs : (walk : Walk) (x0 : Names) (x1 : ClauseWord) (x2 : Context) (x3 : List Pack) → walk.Takes x0 → Keeps walk (clause_packs x0 x1 x2 x3)
+k-clause_packs walk names w here [] keeps1 = k-pure walk here
+k-clause_packs walk names w here (p ∷ ps) keeps1 = k-bind walk (pack names p) (λ n. clause_name w here p.first n >>= λ c. clause_packs names w c ps) (k-pack walk names p keeps1) (λ n. k-bind walk (clause_name w here p.first n) (λ c. clause_packs names w c ps) (k-clause_name walk w here p.first n) (λ c. k-clause_packs walk names w c ps keeps1))
 
-pub k-clauses : (walk : Walk) (x0 : Names) (x1 : Context) (x2 : List Clause) → Keeps walk (clauses x0 x1 x2)
-k-clauses walk names here [] = k-pure walk here
-k-clauses walk names here (c ∷ cs) = k-bind walk (clause_packs names c.word here (c.first ∷ c.more)) (λ d. clauses names d cs) (k-clause_packs walk names c.word here (c.first ∷ c.more)) (λ d. k-clauses walk names d cs)
+pub k-clauses : (walk : Walk) (x0 : Names) (x1 : Context) (x2 : List Clause) → walk.Takes x0 → Keeps walk (clauses x0 x1 x2)
+k-clauses walk names here [] keeps1 = k-pure walk here
+k-clauses walk names here (c ∷ cs) keeps1 = k-bind walk (clause_packs names c.word here (c.first ∷ c.more)) (λ d. clauses names d cs) (k-clause_packs walk names c.word here (c.first ∷ c.more) keeps1) (λ d. k-clauses walk names d cs keeps1)
 
 pub k-boolean_place : (walk : Walk) (x0 : ℕ) (x1 : Subtype) → Keeps walk (boolean_place x0 x1)
 k-boolean_place walk token (subtype.Scalar s) = k-bind walk ((if is_integer s.kind then breaks token WrongType else breaks token NotStatic)) (λ u. pure true) (k-if walk (is_integer s.kind) (breaks token WrongType) (breaks token NotStatic) (k-breaks walk token WrongType) (k-breaks walk token NotStatic)) (λ u. k-pure walk true)
@@ -85,95 +85,95 @@ k-aspect_denoted walk token (Some (denoted.Value (known.Static first kind.Boolea
 k-aspect_denoted walk token (Some (denoted.Value (known.Object p))) = k-boolean_place walk token p.subtype
 k-aspect_denoted walk token (Some d) = k-bind walk (breaks token WrongType) (λ u. pure true) (k-breaks walk token WrongType) (λ u. k-pure walk true)
 
-pub k-aspect_value : (walk : Walk) (x0 : Names) (x1 : Context) (x2 : Option ℕ) → Keeps walk (aspect_value x0 x1 x2)
-k-aspect_value walk names here None = k-pure walk true
-k-aspect_value walk names here (Some token) = k-bind walk (stands_for names here token) (λ d. aspect_denoted token (option_map known_of d)) (k-stands_for walk names here token) (λ d. k-aspect_denoted walk token (option_map known_of d))
+pub k-aspect_value : (walk : Walk) (x0 : Names) (x1 : Context) (x2 : Option ℕ) → walk.Takes x0 → Keeps walk (aspect_value x0 x1 x2)
+k-aspect_value walk names here None keeps1 = k-pure walk true
+k-aspect_value walk names here (Some token) keeps1 = k-bind walk (stands_for names here token) (λ d. aspect_denoted token (option_map known_of d)) (k-stands_for walk names here token keeps1) (λ d. k-aspect_denoted walk token (option_map known_of d))
 
-pub k-aspect : (walk : Walk) (x0 : Names) (x1 : Context) (x2 : Bool) (x3 : Option Aspect) → Keeps walk (aspect x0 x1 x2 x3)
-k-aspect walk names here other None = k-pure walk other
-k-aspect walk names here other (Some a) = k-if walk (symbol names a.mark == nonblocking_name) (aspect_value names here a.value) ((breaks a.mark Unknown >>= λ u. pure true)) (k-aspect_value walk names here a.value) (k-bind walk (breaks a.mark Unknown) (λ u. pure true) (k-breaks walk a.mark Unknown) (λ u. k-pure walk true))
+pub k-aspect : (walk : Walk) (x0 : Names) (x1 : Context) (x2 : Bool) (x3 : Option Aspect) → walk.Takes x0 → Keeps walk (aspect x0 x1 x2 x3)
+k-aspect walk names here other None keeps1 = k-pure walk other
+k-aspect walk names here other (Some a) keeps1 = k-if walk (symbol names a.mark == nonblocking_name) (aspect_value names here a.value) ((breaks a.mark Unknown >>= λ u. pure true)) (k-aspect_value walk names here a.value keeps1) (k-bind walk (breaks a.mark Unknown) (λ u. pure true) (k-breaks walk a.mark Unknown) (λ u. k-pure walk true))
 
-pub k-end_name : (walk : Walk) (x0 : Names) (x1 : ℕ) (x2 : Option ℕ) → Keeps walk (end_name x0 x1 x2)
-k-end_name walk names name None = k-pure walk tt
-k-end_name walk names name (Some token) = k-unless walk (symbol names name == symbol names token) token WrongEnd
+pub k-end_name : (walk : Walk) (x0 : Names) (x1 : ℕ) (x2 : Option ℕ) → walk.Takes x0 → Keeps walk (end_name x0 x1 x2)
+k-end_name walk names name None keeps1 = k-pure walk tt
+k-end_name walk names name (Some token) keeps1 = k-unless walk (symbol names name == symbol names token) token WrongEnd
 
 pub k-mode_rule : (walk : Walk) (x0 : Bool) (x1 : Option FormalMode) → Keeps walk (mode_rule x0 x1)
 k-mode_rule walk true (Some (mode'.Out at)) = k-breaks walk at WrongType
 k-mode_rule walk true (Some (mode'.InOut at)) = k-breaks walk at WrongType
 k-mode_rule walk function m = k-pure walk tt
 
-pub k-one_formal : (walk : Walk) (x0 : Names) (x1 : Context) (x2 : ℕ) (x3 : Option ℕ) (x4 : Mode) (x5 : Option Subtype) → Keeps walk (one_formal x0 x1 x2 x3 x4 x5)
-k-one_formal walk names here token f m None = k-bind walk (cells_counted token 0) (λ b. pure (ended_name names here f None, None)) (k-cells_counted walk token 0) (λ b. k-pure walk (ended_name names here f None, None))
-k-one_formal walk names here token f m (Some s) = k-bind walk (new_object names here token s (is_constant m) None) (λ o. pure (formal_entry names here token f m s 0 o)) (k-new_object walk names here token s (is_constant m) None) (λ o. k-pure walk (formal_entry names here token f m s 0 o))
+pub k-one_formal : (walk : Walk) (x0 : Names) (x1 : Context) (x2 : ℕ) (x3 : Option ℕ) (x4 : Mode) (x5 : Option Subtype) → walk.Takes x0 → Keeps walk (one_formal x0 x1 x2 x3 x4 x5)
+k-one_formal walk names here token f m None keeps1 = k-bind walk (cells_counted token 0) (λ b. pure (ended_name names here f None, None)) (k-cells_counted walk token 0) (λ b. k-pure walk (ended_name names here f None, None))
+k-one_formal walk names here token f m (Some s) keeps1 = k-bind walk (new_object names here token s (is_constant m) None) (λ o. pure (formal_entry names here token f m s 0 o)) (k-new_object walk names here token s (is_constant m) None keeps1) (λ o. k-pure walk (formal_entry names here token f m s 0 o))
 
-pub k-each_formal : (walk : Walk) (x0 : Names) (x1 : Context) (x2 : Mode) (x3 : Option Subtype) (x4 : Option (List Taken)) (x5 : List ℕ) (x6 : List (Option ℕ)) → Keeps walk (each_formal x0 x1 x2 x3 x4 x5 x6)
-k-each_formal walk names here m s made [] fs = k-pure walk (here, made)
-k-each_formal walk names here m s made (t ∷ ts) [] = k-pure walk (here, made)
-k-each_formal walk names here m s made (t ∷ ts) (f ∷ fs) = k-bind walk (one_formal names here t f m s) (λ r. each_formal names r.0 m s (joined also_taken_by made r.1) ts fs) (k-one_formal walk names here t f m s) (λ r. k-each_formal walk names r.0 m s (joined also_taken_by made r.1) ts fs)
+pub k-each_formal : (walk : Walk) (x0 : Names) (x1 : Context) (x2 : Mode) (x3 : Option Subtype) (x4 : Option (List Taken)) (x5 : List ℕ) (x6 : List (Option ℕ)) → walk.Takes x0 → Keeps walk (each_formal x0 x1 x2 x3 x4 x5 x6)
+k-each_formal walk names here m s made [] fs keeps1 = k-pure walk (here, made)
+k-each_formal walk names here m s made (t ∷ ts) [] keeps1 = k-pure walk (here, made)
+k-each_formal walk names here m s made (t ∷ ts) (f ∷ fs) keeps1 = k-bind walk (one_formal names here t f m s) (λ r. each_formal names r.0 m s (joined also_taken_by made r.1) ts fs) (k-one_formal walk names here t f m s keeps1) (λ r. k-each_formal walk names r.0 m s (joined also_taken_by made r.1) ts fs keeps1)
 
-pub k-formal : (walk : Walk) (x0 : Names) (x1 : Bool) (x2 : ℕ) (x3 : Context) (x4 : Option (List Taken)) (x5 : Formal) → Keeps walk (formal x0 x1 x2 x3 x4 x5)
-k-formal walk names function start here made f = k-bind walk ((begun_names names start here [] (all_ids f.names))) (λ r. (mode_rule function f.mode) >>= λ u. (subtype_named names r.0 f.mark) >>= λ s. each_formal names r.0 (mode_of f.mode) s made (all_ids f.names) r.1) (k-begun_names walk names start here [] (all_ids f.names)) (λ r. k-bind walk ((mode_rule function f.mode)) (λ u. (subtype_named names r.0 f.mark) >>= λ s. each_formal names r.0 (mode_of f.mode) s made (all_ids f.names) r.1) (k-mode_rule walk function f.mode) (λ u. k-bind walk ((subtype_named names r.0 f.mark)) (λ s. each_formal names r.0 (mode_of f.mode) s made (all_ids f.names) r.1) (k-subtype_named walk names r.0 f.mark) (λ s. k-each_formal walk names r.0 (mode_of f.mode) s made (all_ids f.names) r.1)))
+pub k-formal : (walk : Walk) (x0 : Names) (x1 : Bool) (x2 : ℕ) (x3 : Context) (x4 : Option (List Taken)) (x5 : Formal) → walk.Takes x0 → Keeps walk (formal x0 x1 x2 x3 x4 x5)
+k-formal walk names function start here made f keeps1 = k-bind walk ((begun_names names start here [] (all_ids f.names))) (λ r. (mode_rule function f.mode) >>= λ u. (subtype_named names r.0 f.mark) >>= λ s. each_formal names r.0 (mode_of f.mode) s made (all_ids f.names) r.1) (k-begun_names walk names start here [] (all_ids f.names) keeps1) (λ r. k-bind walk ((mode_rule function f.mode)) (λ u. (subtype_named names r.0 f.mark) >>= λ s. each_formal names r.0 (mode_of f.mode) s made (all_ids f.names) r.1) (k-mode_rule walk function f.mode) (λ u. k-bind walk ((subtype_named names r.0 f.mark)) (λ s. each_formal names r.0 (mode_of f.mode) s made (all_ids f.names) r.1) (k-subtype_named walk names r.0 f.mark keeps1) (λ s. k-each_formal walk names r.0 (mode_of f.mode) s made (all_ids f.names) r.1 keeps1)))
 
-pub k-formals_from : (walk : Walk) (x0 : Names) (x1 : Bool) (x2 : ℕ) (x3 : Context) (x4 : Option (List Taken)) (x5 : List Formal) → Keeps walk (formals_from x0 x1 x2 x3 x4 x5)
-k-formals_from walk names function start here made [] = k-pure walk (here, made)
-k-formals_from walk names function start here made (f ∷ fs) = k-bind walk (formal names function start here made f) (λ r. formals_from names function start r.0 r.1 fs) (k-formal walk names function start here made f) (λ r. k-formals_from walk names function start r.0 r.1 fs)
+pub k-formals_from : (walk : Walk) (x0 : Names) (x1 : Bool) (x2 : ℕ) (x3 : Context) (x4 : Option (List Taken)) (x5 : List Formal) → walk.Takes x0 → Keeps walk (formals_from x0 x1 x2 x3 x4 x5)
+k-formals_from walk names function start here made [] keeps1 = k-pure walk (here, made)
+k-formals_from walk names function start here made (f ∷ fs) keeps1 = k-bind walk (formal names function start here made f) (λ r. formals_from names function start r.0 r.1 fs) (k-formal walk names function start here made f keeps1) (λ r. k-formals_from walk names function start r.0 r.1 fs keeps1)
 
-pub k-formals : (walk : Walk) (x0 : Names) (x1 : Bool) (x2 : Context) (x3 : Option Formals) → Keeps walk (formals x0 x1 x2 x3)
-k-formals walk names function here None = k-pure walk (here, Some [])
-k-formals walk names function here (Some f) = k-formals_from walk names function (length here.scope) here (Some []) (f.first ∷ f.more)
+pub k-formals : (walk : Walk) (x0 : Names) (x1 : Bool) (x2 : Context) (x3 : Option Formals) → walk.Takes x0 → Keeps walk (formals x0 x1 x2 x3)
+k-formals walk names function here None keeps1 = k-pure walk (here, Some [])
+k-formals walk names function here (Some f) keeps1 = k-formals_from walk names function (length here.scope) here (Some []) (f.first ∷ f.more) keeps1
 
 pub k-written_profile : (walk : Walk) (ts : List Taken) (s : Option Scalar) → Keeps walk (written_profile ts s)
 k-written_profile walk ts s = record { at = walk.profile ts s }
 
-pub k-result_named : (walk : Walk) (x0 : Names) (x1 : Context) (x2 : Option ℕ) → Keeps walk (result_named x0 x1 x2)
-k-result_named walk names here None = k-some walk None
-k-result_named walk names here (Some mark) = k-bind walk (scalar_named names here mark) (λ s. given s (λ t. some (Some t))) (k-scalar_named walk names here mark) (λ s. k-given walk s (λ t. some (Some t)) (λ t. k-some walk (Some t)))
+pub k-result_named : (walk : Walk) (x0 : Names) (x1 : Context) (x2 : Option ℕ) → walk.Takes x0 → Keeps walk (result_named x0 x1 x2)
+k-result_named walk names here None keeps1 = k-some walk None
+k-result_named walk names here (Some mark) keeps1 = k-bind walk (scalar_named names here mark) (λ s. given s (λ t. some (Some t))) (k-scalar_named walk names here mark keeps1) (λ s. k-given walk s (λ t. some (Some t)) (λ t. k-some walk (Some t)))
 
-pub k-profile_where : (walk : Walk) (x0 : Names) (x1 : Context) (x2 : ℕ) (x3 : Option ℕ) (x4 : Option (List Taken)) (x5 : Option (Option Scalar)) → Keeps walk (profile_where x0 x1 x2 x3 x4 x5)
-k-profile_where walk names here name (Some f) (Some ts) (Some r) = k-bind walk (written_profile ts r) (λ n. pure (Some n, declared names here name (Some (what.Sub n)))) (k-written_profile walk ts r) (λ n. k-pure walk (Some n, declared names here name (Some (what.Sub n))))
-k-profile_where walk names here name (Some f) ts r = k-pure walk (None, declared names here name None)
-k-profile_where walk names here name None ts r = k-pure walk (None, here)
+pub k-profile_where : (walk : Walk) (x0 : Names) (x1 : Context) (x2 : ℕ) (x3 : Option ℕ) (x4 : Option (List Taken)) (x5 : Option (Option Scalar)) → walk.Takes x0 → Keeps walk (profile_where x0 x1 x2 x3 x4 x5)
+k-profile_where walk names here name (Some f) (Some ts) (Some r) keeps1 = k-bind walk (written_profile ts r) (λ n. pure (Some n, declared names here name (Some (what.Sub n)))) (k-written_profile walk ts r) (λ n. k-pure walk (Some n, declared names here name (Some (what.Sub n))))
+k-profile_where walk names here name (Some f) ts r keeps1 = k-pure walk (None, declared names here name None)
+k-profile_where walk names here name None ts r keeps1 = k-pure walk (None, here)
 
 pub k-next_owner : (walk : Walk) → Keeps walk (next_owner )
 k-next_owner walk  = k-read walk (λ log. length log.profiles + 1)
 
-pub k-profile : (walk : Walk) (x0 : Names) (x1 : ℕ) (x2 : Context) (x3 : ℕ) (x4 : Option ℕ) (x5 : Option Formals) → Keeps walk (profile x0 x1 x2 x3 x4 x5)
+pub k-profile : (walk : Walk) (x0 : Names) (x1 : ℕ) (x2 : Context) (x3 : ℕ) (x4 : Option ℕ) (x5 : Option Formals) → walk.Takes x0 → Keeps walk (profile x0 x1 x2 x3 x4 x5)
 unfolding profile
-k-profile walk names start here name result fs = k-bind walk ((next_owner)) (λ owner. (formals names (is_function result) (record here { owner = owner }) fs) >>= λ f. (result_named names f.0 result) >>= λ r. (free names start here name) >>= λ one. (profile_where names here name one f.1 r) >>= λ p. pure (record { outer = p.1; inner = behind p.1 (length here.scope) f.0 owner (returns_of result r); number = p.0; takes = taken_or f.1; gives = gives_or r })) (k-next_owner walk ) (λ owner. k-bind walk ((formals names (is_function result) (record here { owner = owner }) fs)) (λ f. (result_named names f.0 result) >>= λ r. (free names start here name) >>= λ one. (profile_where names here name one f.1 r) >>= λ p. pure (record { outer = p.1; inner = behind p.1 (length here.scope) f.0 owner (returns_of result r); number = p.0; takes = taken_or f.1; gives = gives_or r })) (k-formals walk names (is_function result) (record here { owner = owner }) fs) (λ f. k-bind walk ((result_named names f.0 result)) (λ r. (free names start here name) >>= λ one. (profile_where names here name one f.1 r) >>= λ p. pure (record { outer = p.1; inner = behind p.1 (length here.scope) f.0 owner (returns_of result r); number = p.0; takes = taken_or f.1; gives = gives_or r })) (k-result_named walk names f.0 result) (λ r. k-bind walk ((free names start here name)) (λ one. (profile_where names here name one f.1 r) >>= λ p. pure (record { outer = p.1; inner = behind p.1 (length here.scope) f.0 owner (returns_of result r); number = p.0; takes = taken_or f.1; gives = gives_or r })) (k-free walk names start here name) (λ one. k-bind walk ((profile_where names here name one f.1 r)) (λ p. pure (record { outer = p.1; inner = behind p.1 (length here.scope) f.0 owner (returns_of result r); number = p.0; takes = taken_or f.1; gives = gives_or r })) (k-profile_where walk names here name one f.1 r) (λ p. k-pure walk (record { outer = p.1; inner = behind p.1 (length here.scope) f.0 owner (returns_of result r); number = p.0; takes = taken_or f.1; gives = gives_or r }))))))
+k-profile walk names start here name result fs keeps1 = k-bind walk ((next_owner)) (λ owner. (formals names (is_function result) (record here { owner = owner }) fs) >>= λ f. (result_named names f.0 result) >>= λ r. (free names start here name) >>= λ one. (profile_where names here name one f.1 r) >>= λ p. pure (record { outer = p.1; inner = behind p.1 (length here.scope) f.0 owner (returns_of result r); number = p.0; takes = taken_or f.1; gives = gives_or r })) (k-next_owner walk ) (λ owner. k-bind walk ((formals names (is_function result) (record here { owner = owner }) fs)) (λ f. (result_named names f.0 result) >>= λ r. (free names start here name) >>= λ one. (profile_where names here name one f.1 r) >>= λ p. pure (record { outer = p.1; inner = behind p.1 (length here.scope) f.0 owner (returns_of result r); number = p.0; takes = taken_or f.1; gives = gives_or r })) (k-formals walk names (is_function result) (record here { owner = owner }) fs keeps1) (λ f. k-bind walk ((result_named names f.0 result)) (λ r. (free names start here name) >>= λ one. (profile_where names here name one f.1 r) >>= λ p. pure (record { outer = p.1; inner = behind p.1 (length here.scope) f.0 owner (returns_of result r); number = p.0; takes = taken_or f.1; gives = gives_or r })) (k-result_named walk names f.0 result keeps1) (λ r. k-bind walk ((free names start here name)) (λ one. (profile_where names here name one f.1 r) >>= λ p. pure (record { outer = p.1; inner = behind p.1 (length here.scope) f.0 owner (returns_of result r); number = p.0; takes = taken_or f.1; gives = gives_or r })) (k-free walk names start here name keeps1) (λ one. k-bind walk ((profile_where names here name one f.1 r)) (λ p. pure (record { outer = p.1; inner = behind p.1 (length here.scope) f.0 owner (returns_of result r); number = p.0; takes = taken_or f.1; gives = gives_or r })) (k-profile_where walk names here name one f.1 r keeps1) (λ p. k-pure walk (record { outer = p.1; inner = behind p.1 (length here.scope) f.0 owner (returns_of result r); number = p.0; takes = taken_or f.1; gives = gives_or r }))))))
 
-pub k-level_of : (walk : Walk) (names : Names) (n : ℕ) → KeepsInside walk (level_of names n)
-k-level_of walk names n = k-level_above walk names (inside names n) (k-inside walk names n)
+pub k-level_of : (walk : Walk) (names : Names) (n : ℕ) → walk.Takes names → KeepsInside walk (level_of names n)
+k-level_of walk names n t = k-level_above walk names (inside names n) t (k-inside walk names n t)
 
-pub k-with_body : (walk : Walk) (x0 : Names) (x1 : ℕ) (x2 : Bool) (x3 : ℕ) (x4 : Profiled) (x5 : Option Aspect) (x6 : List Decl) (x7 : Body) (x8 : Option ℕ) → Keeps walk (with_body x0 x1 x2 x3 x4 x5 x6 x7 x8)
+pub k-with_body : (walk : Walk) (x0 : Names) (x1 : ℕ) (x2 : Bool) (x3 : ℕ) (x4 : Profiled) (x5 : Option Aspect) (x6 : List Decl) (x7 : Body) (x8 : Option ℕ) → walk.Takes x0 → Keeps walk (with_body x0 x1 x2 x3 x4 x5 x6 x7 x8)
 unfolding with_body
-k-with_body walk names n blocking name p a ds b last = k-bind walk ((aspect names p.inner blocking a)) (λ z. (declarations names (level_of names n) (length p.outer.scope) p.inner (Some no_decls) ds) >>= λ r. (body (around names n (stmt names n)) r.0 r.1 b) >>= λ x. (end_name names name last) >>= λ u. pure (joined (sub_where p z) p.number x)) (k-aspect walk names p.inner blocking a) (λ z. k-bind walk ((declarations names (level_of names n) (length p.outer.scope) p.inner (Some no_decls) ds)) (λ r. (body (around names n (stmt names n)) r.0 r.1 b) >>= λ x. (end_name names name last) >>= λ u. pure (joined (sub_where p z) p.number x)) (k-declarations walk names (level_of names n) (length p.outer.scope) p.inner (Some no_decls) ds (k-level_of walk names n)) (λ r. k-bind walk ((body (around names n (stmt names n)) r.0 r.1 b)) (λ x. (end_name names name last) >>= λ u. pure (joined (sub_where p z) p.number x)) (k-body walk (around names n (stmt names n)) r.0 r.1 b (k-around walk names n)) (λ x. k-bind walk ((end_name names name last)) (λ u. pure (joined (sub_where p z) p.number x)) (k-end_name walk names name last) (λ u. k-pure walk (joined (sub_where p z) p.number x)))))
+k-with_body walk names n blocking name p a ds b last keeps1 = k-bind walk ((aspect names p.inner blocking a)) (λ z. (declarations names (level_of names n) (length p.outer.scope) p.inner (Some no_decls) ds) >>= λ r. (body (around names n (stmt names n)) r.0 r.1 b) >>= λ x. (end_name names name last) >>= λ u. pure (joined (sub_where p z) p.number x)) (k-aspect walk names p.inner blocking a keeps1) (λ z. k-bind walk ((declarations names (level_of names n) (length p.outer.scope) p.inner (Some no_decls) ds)) (λ r. (body (around names n (stmt names n)) r.0 r.1 b) >>= λ x. (end_name names name last) >>= λ u. pure (joined (sub_where p z) p.number x)) (k-declarations walk names (level_of names n) (length p.outer.scope) p.inner (Some no_decls) ds keeps1 (k-level_of walk names n keeps1)) (λ r. k-bind walk ((body (around names n (stmt names n)) r.0 r.1 b)) (λ x. (end_name names name last) >>= λ u. pure (joined (sub_where p z) p.number x)) (k-body walk (around names n (stmt names n)) r.0 r.1 b (k-around walk names n keeps1)) (λ x. k-bind walk ((end_name names name last)) (λ u. pure (joined (sub_where p z) p.number x)) (k-end_name walk names name last keeps1) (λ u. k-pure walk (joined (sub_where p z) p.number x)))))
 
-pub k-result_value : (walk : Walk) (x0 : Names) (x1 : Inside) (x2 : Context) (x3 : Expr) (x4 : Returns) → KeepsInside walk x1 → Keeps walk (result_value x0 x1 x2 x3 x4)
-k-result_value walk names level here e (returns.Value s) keeps1 = k-value_for walk names level here (subtype.Scalar s) e keeps1
-k-result_value walk names level here e r keeps1 = k-bind walk (judged_alone names level here e) (λ u. pure None) (k-judged_alone walk names level here e keeps1) (λ u. k-pure walk None)
+pub k-result_value : (walk : Walk) (x0 : Names) (x1 : Inside) (x2 : Context) (x3 : Expr) (x4 : Returns) → walk.Takes x0 → KeepsInside walk x1 → Keeps walk (result_value x0 x1 x2 x3 x4)
+k-result_value walk names level here e (returns.Value s) keeps1 keeps2 = k-value_for walk names level here (subtype.Scalar s) e keeps1 keeps2
+k-result_value walk names level here e r keeps1 keeps2 = k-bind walk (judged_alone names level here e) (λ u. pure None) (k-judged_alone walk names level here e keeps1 keeps2) (λ u. k-pure walk None)
 
-pub k-with_value_of : (walk : Walk) (x0 : Names) (x1 : ℕ) (x2 : Bool) (x3 : Profiled) (x4 : Option Aspect) (x5 : Expr) → Keeps walk (with_value_of x0 x1 x2 x3 x4 x5)
+pub k-with_value_of : (walk : Walk) (x0 : Names) (x1 : ℕ) (x2 : Bool) (x3 : Profiled) (x4 : Option Aspect) (x5 : Expr) → walk.Takes x0 → Keeps walk (with_value_of x0 x1 x2 x3 x4 x5)
 unfolding with_value_of
-k-with_value_of walk names n blocking p a e = k-bind walk ((aspect names p.inner blocking a)) (λ z. (result_value names (inside names n) p.inner e p.inner.returns) >>= λ v. pure (joined (sub_where p z) p.number (option_map returned_body v))) (k-aspect walk names p.inner blocking a) (λ z. k-bind walk ((result_value names (inside names n) p.inner e p.inner.returns)) (λ v. pure (joined (sub_where p z) p.number (option_map returned_body v))) (k-result_value walk names (inside names n) p.inner e p.inner.returns (k-inside walk names n)) (λ v. k-pure walk (joined (sub_where p z) p.number (option_map returned_body v))))
+k-with_value_of walk names n blocking p a e keeps1 = k-bind walk ((aspect names p.inner blocking a)) (λ z. (result_value names (inside names n) p.inner e p.inner.returns) >>= λ v. pure (joined (sub_where p z) p.number (option_map returned_body v))) (k-aspect walk names p.inner blocking a keeps1) (λ z. k-bind walk ((result_value names (inside names n) p.inner e p.inner.returns)) (λ v. pure (joined (sub_where p z) p.number (option_map returned_body v))) (k-result_value walk names (inside names n) p.inner e p.inner.returns keeps1 (k-inside walk names n keeps1)) (λ v. k-pure walk (joined (sub_where p z) p.number (option_map returned_body v))))
 
-pub k-subprogram : (walk : Walk) (x0 : Names) (x1 : ℕ) (x2 : Bool) (x3 : ℕ) (x4 : Context) (x5 : Sub) → Keeps walk (subprogram x0 x1 x2 x3 x4 x5)
+pub k-subprogram : (walk : Walk) (x0 : Names) (x1 : ℕ) (x2 : Bool) (x3 : ℕ) (x4 : Context) (x5 : Sub) → walk.Takes x0 → Keeps walk (subprogram x0 x1 x2 x3 x4 x5)
 unfolding subprogram
-k-subprogram walk names n blocking start here (syntax.Procedure at name fs a ds b last) = k-bind walk (profile names start here name None fs) (λ p. with_body names n blocking name p a ds b last >>= λ s. pure (p.outer, s)) (k-profile walk names start here name None fs) (λ p. k-bind walk (with_body names n blocking name p a ds b last) (λ s. pure (p.outer, s)) (k-with_body walk names n blocking name p a ds b last) (λ s. k-pure walk (p.outer, s)))
-k-subprogram walk names n blocking start here (syntax.Function at name fs result a ds b last) = k-bind walk (profile names start here name (Some result) fs) (λ p. with_body names n blocking name p a ds b last >>= λ s. pure (p.outer, s)) (k-profile walk names start here name (Some result) fs) (λ p. k-bind walk (with_body names n blocking name p a ds b last) (λ s. pure (p.outer, s)) (k-with_body walk names n blocking name p a ds b last) (λ s. k-pure walk (p.outer, s)))
-k-subprogram walk names n blocking start here (syntax.ExprFunction at name fs result bracket e a) = k-bind walk (profile names start here name (Some result) fs) (λ p. with_value_of names n blocking p a e >>= λ s. pure (p.outer, s)) (k-profile walk names start here name (Some result) fs) (λ p. k-bind walk (with_value_of names n blocking p a e) (λ s. pure (p.outer, s)) (k-with_value_of walk names n blocking p a e) (λ s. k-pure walk (p.outer, s)))
+k-subprogram walk names n blocking start here (syntax.Procedure at name fs a ds b last) keeps1 = k-bind walk (profile names start here name None fs) (λ p. with_body names n blocking name p a ds b last >>= λ s. pure (p.outer, s)) (k-profile walk names start here name None fs keeps1) (λ p. k-bind walk (with_body names n blocking name p a ds b last) (λ s. pure (p.outer, s)) (k-with_body walk names n blocking name p a ds b last keeps1) (λ s. k-pure walk (p.outer, s)))
+k-subprogram walk names n blocking start here (syntax.Function at name fs result a ds b last) keeps1 = k-bind walk (profile names start here name (Some result) fs) (λ p. with_body names n blocking name p a ds b last >>= λ s. pure (p.outer, s)) (k-profile walk names start here name (Some result) fs keeps1) (λ p. k-bind walk (with_body names n blocking name p a ds b last) (λ s. pure (p.outer, s)) (k-with_body walk names n blocking name p a ds b last keeps1) (λ s. k-pure walk (p.outer, s)))
+k-subprogram walk names n blocking start here (syntax.ExprFunction at name fs result bracket e a) keeps1 = k-bind walk (profile names start here name (Some result) fs) (λ p. with_value_of names n blocking p a e >>= λ s. pure (p.outer, s)) (k-profile walk names start here name (Some result) fs keeps1) (λ p. k-bind walk (with_value_of names n blocking p a e) (λ s. pure (p.outer, s)) (k-with_value_of walk names n blocking p a e keeps1) (λ s. k-pure walk (p.outer, s)))
 
-pub k-unit_of : (walk : Walk) (x0 : Names) (x1 : ℕ) (x2 : Bool) (x3 : ℕ) (x4 : Declared') (x5 : Unit') → Keeps walk (unit_of x0 x1 x2 x3 x4 x5)
-k-unit_of walk names n blocking start d (syntax.DeclUnit x) = k-bind walk (declaration names (level_of names n) start d.here d.decls x) (λ r. pure (record { here = r.0; decls = r.1; subs = d.subs })) (k-declaration walk names (level_of names n) start d.here d.decls x (k-level_of walk names n)) (λ r. k-pure walk (record { here = r.0; decls = r.1; subs = d.subs }))
-k-unit_of walk names n blocking start d (syntax.SubUnit s) = k-bind walk (subprogram names (n - 1) blocking start d.here s) (λ r. pure (record { here = r.0; decls = d.decls; subs = joined also_sub d.subs r.1 })) (k-subprogram walk names (n - 1) blocking start d.here s) (λ r. k-pure walk (record { here = r.0; decls = d.decls; subs = joined also_sub d.subs r.1 }))
+pub k-unit_of : (walk : Walk) (x0 : Names) (x1 : ℕ) (x2 : Bool) (x3 : ℕ) (x4 : Declared') (x5 : Unit') → walk.Takes x0 → Keeps walk (unit_of x0 x1 x2 x3 x4 x5)
+k-unit_of walk names n blocking start d (syntax.DeclUnit x) keeps1 = k-bind walk (declaration names (level_of names n) start d.here d.decls x) (λ r. pure (record { here = r.0; decls = r.1; subs = d.subs })) (k-declaration walk names (level_of names n) start d.here d.decls x keeps1 (k-level_of walk names n keeps1)) (λ r. k-pure walk (record { here = r.0; decls = r.1; subs = d.subs }))
+k-unit_of walk names n blocking start d (syntax.SubUnit s) keeps1 = k-bind walk (subprogram names (n - 1) blocking start d.here s) (λ r. pure (record { here = r.0; decls = d.decls; subs = joined also_sub d.subs r.1 })) (k-subprogram walk names (n - 1) blocking start d.here s keeps1) (λ r. k-pure walk (record { here = r.0; decls = d.decls; subs = joined also_sub d.subs r.1 }))
 
-pub k-units : (walk : Walk) (x0 : Names) (x1 : ℕ) (x2 : Bool) (x3 : ℕ) (x4 : Declared') (x5 : List Unit') → Keeps walk (units x0 x1 x2 x3 x4 x5)
-k-units walk names n blocking start d [] = k-pure walk d
-k-units walk names n blocking start d (u ∷ us) = k-bind walk (unit_of names n blocking start d u) (λ e. units names n blocking start e us) (k-unit_of walk names n blocking start d u) (λ e. k-units walk names n blocking start e us)
+pub k-units : (walk : Walk) (x0 : Names) (x1 : ℕ) (x2 : Bool) (x3 : ℕ) (x4 : Declared') (x5 : List Unit') → walk.Takes x0 → Keeps walk (units x0 x1 x2 x3 x4 x5)
+k-units walk names n blocking start d [] keeps1 = k-pure walk d
+k-units walk names n blocking start d (u ∷ us) keeps1 = k-bind walk (unit_of names n blocking start d u) (λ e. units names n blocking start e us) (k-unit_of walk names n blocking start d u keeps1) (λ e. k-units walk names n blocking start e us keeps1)
 
-pub k-main : (walk : Walk) (x0 : Names) (x1 : ℕ) (x2 : Context) (x3 : Main) (x4 : Bool) → Keeps walk (main x0 x1 x2 x3 x4)
+pub k-main : (walk : Walk) (x0 : Names) (x1 : ℕ) (x2 : Context) (x3 : Main) (x4 : Bool) → walk.Takes x0 → Keeps walk (main x0 x1 x2 x3 x4)
 unfolding main
-k-main walk names n here m s = k-bind walk ((aspect names here false m.aspect)) (λ z. (units names n z (length here.scope) (record { here = here; decls = Some no_decls; subs = Some [] }) m.units) >>= λ d. (body (around names n (stmt names n)) d.here d.decls m.body) >>= λ b. (end_name names m.defined m.last_name) >>= λ u. pure (joined (whole z s) b d.subs)) (k-aspect walk names here false m.aspect) (λ z. k-bind walk ((units names n z (length here.scope) (record { here = here; decls = Some no_decls; subs = Some [] }) m.units)) (λ d. (body (around names n (stmt names n)) d.here d.decls m.body) >>= λ b. (end_name names m.defined m.last_name) >>= λ u. pure (joined (whole z s) b d.subs)) (k-units walk names n z (length here.scope) (record { here = here; decls = Some no_decls; subs = Some [] }) m.units) (λ d. k-bind walk ((body (around names n (stmt names n)) d.here d.decls m.body)) (λ b. (end_name names m.defined m.last_name) >>= λ u. pure (joined (whole z s) b d.subs)) (k-body walk (around names n (stmt names n)) d.here d.decls m.body (k-around walk names n)) (λ b. k-bind walk ((end_name names m.defined m.last_name)) (λ u. pure (joined (whole z s) b d.subs)) (k-end_name walk names m.defined m.last_name) (λ u. k-pure walk (joined (whole z s) b d.subs)))))
+k-main walk names n here m s keeps1 = k-bind walk ((aspect names here false m.aspect)) (λ z. (units names n z (length here.scope) (record { here = here; decls = Some no_decls; subs = Some [] }) m.units) >>= λ d. (body (around names n (stmt names n)) d.here d.decls m.body) >>= λ b. (end_name names m.defined m.last_name) >>= λ u. pure (joined (whole z s) b d.subs)) (k-aspect walk names here false m.aspect keeps1) (λ z. k-bind walk ((units names n z (length here.scope) (record { here = here; decls = Some no_decls; subs = Some [] }) m.units)) (λ d. (body (around names n (stmt names n)) d.here d.decls m.body) >>= λ b. (end_name names m.defined m.last_name) >>= λ u. pure (joined (whole z s) b d.subs)) (k-units walk names n z (length here.scope) (record { here = here; decls = Some no_decls; subs = Some [] }) m.units keeps1) (λ d. k-bind walk ((body (around names n (stmt names n)) d.here d.decls m.body)) (λ b. (end_name names m.defined m.last_name) >>= λ u. pure (joined (whole z s) b d.subs)) (k-body walk (around names n (stmt names n)) d.here d.decls m.body (k-around walk names n keeps1)) (λ b. k-bind walk ((end_name names m.defined m.last_name)) (λ u. pure (joined (whole z s) b d.subs)) (k-end_name walk names m.defined m.last_name keeps1) (λ u. k-pure walk (joined (whole z s) b d.subs)))))
 
-pub k-program : (walk : Walk) (x0 : Names) (x1 : ℕ) (x2 : Program) → Keeps walk (program x0 x1 x2)
+pub k-program : (walk : Walk) (x0 : Names) (x1 : ℕ) (x2 : Program) → walk.Takes x0 → Keeps walk (program x0 x1 x2)
 unfolding program
-k-program walk names n t = k-bind walk ((policy names t.policy)) (λ s. (clauses names outermost t.clauses) >>= λ here. main names n here t.main s) (k-policy walk names t.policy) (λ s. k-bind walk ((clauses names outermost t.clauses)) (λ here. main names n here t.main s) (k-clauses walk names outermost t.clauses) (λ here. k-main walk names n here t.main s))
+k-program walk names n t keeps1 = k-bind walk ((policy names t.policy)) (λ s. (clauses names outermost t.clauses) >>= λ here. main names n here t.main s) (k-policy walk names t.policy keeps1) (λ s. k-bind walk ((clauses names outermost t.clauses)) (λ here. main names n here t.main s) (k-clauses walk names outermost t.clauses keeps1) (λ here. k-main walk names n here t.main s keeps1))

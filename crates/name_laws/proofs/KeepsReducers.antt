@@ -60,26 +60,26 @@ pub k-function_of : (walk : Walk) (x0 : ℕ) (x1 : KnownDenoted) → Keeps walk 
 k-function_of walk at (denoted.Sub first last n) = k-bind walk (read (λ log. gives_in (profile_in log n))) (function_given at n) (k-read walk (λ log. gives_in (profile_in log n))) (λ z1. k-function_given walk at n z1)
 k-function_of walk at d = k-fault walk at ReduceRule
 
-pub k-no_reducer : (walk : Walk) (x0 : Names) (x1 : Inside) (x2 : Context) (x3 : Expr) → KeepsInside walk x1 → Keeps walk (no_reducer x0 x1 x2 x3)
-k-no_reducer walk names inside here e keeps1 = k-where_clean walk (judged_alone names inside here e) (λ u. fault (first_token.of_expr e) ReduceRule) (k-judged_alone walk names inside here e keeps1) (λ u. k-fault walk (first_token.of_expr e) ReduceRule)
+pub k-no_reducer : (walk : Walk) (x0 : Names) (x1 : Inside) (x2 : Context) (x3 : Expr) → walk.Takes x0 → KeepsInside walk x1 → Keeps walk (no_reducer x0 x1 x2 x3)
+k-no_reducer walk names inside here e keeps1 keeps2 = k-where_clean walk (judged_alone names inside here e) (λ u. fault (first_token.of_expr e) ReduceRule) (k-judged_alone walk names inside here e keeps1 keeps2) (λ u. k-fault walk (first_token.of_expr e) ReduceRule)
 
-pub k-attribute_reducer : (walk : Walk) (x0 : Names) (x1 : Inside) (x2 : Context) (x3 : Expr) (x4 : ℕ) (x5 : Option Op) → KeepsInside walk x1 → Keeps walk (attribute_reducer x0 x1 x2 x3 x4 x5)
-k-attribute_reducer walk names inside here e first None keeps1 = k-no_reducer walk names inside here e keeps1
-k-attribute_reducer walk names inside here e first (Some o) keeps1 = k-bind walk (stands_for names here first) (λ d. given d (λ x. extreme_of first o x.known)) (k-stands_for walk names here first) (λ d. k-given walk d (λ x. extreme_of first o x.known) (λ x. k-extreme_of walk first o x.known))
+pub k-attribute_reducer : (walk : Walk) (x0 : Names) (x1 : Inside) (x2 : Context) (x3 : Expr) (x4 : ℕ) (x5 : Option Op) → walk.Takes x0 → KeepsInside walk x1 → Keeps walk (attribute_reducer x0 x1 x2 x3 x4 x5)
+k-attribute_reducer walk names inside here e first None keeps1 keeps2 = k-no_reducer walk names inside here e keeps1 keeps2
+k-attribute_reducer walk names inside here e first (Some o) keeps1 keeps2 = k-bind walk (stands_for names here first) (λ d. given d (λ x. extreme_of first o x.known)) (k-stands_for walk names here first keeps1) (λ d. k-given walk d (λ x. extreme_of first o x.known) (λ x. k-extreme_of walk first o x.known))
 
-pub k-name_reducer : (walk : Walk) (x0 : Names) (x1 : Inside) (x2 : Context) (x3 : Expr) (x4 : ℕ) (x5 : Parts) → KeepsInside walk x1 → Keeps walk (name_reducer x0 x1 x2 x3 x4 x5)
-k-name_reducer walk names inside here e first syntax.NoPart keeps1 = k-bind walk (stands_for names here first) (λ d. given d (λ x. function_of first x.known)) (k-stands_for walk names here first) (λ d. k-given walk d (λ x. function_of first x.known) (λ x. k-function_of walk first x.known))
-k-name_reducer walk names inside here e first (syntax.AlsoPart (syntax.Attribute at) syntax.NoPart) keeps1 = k-attribute_reducer walk names inside here e first (extreme_name names at) keeps1
-k-name_reducer walk names inside here e first ps keeps1 = k-no_reducer walk names inside here e keeps1
+pub k-name_reducer : (walk : Walk) (x0 : Names) (x1 : Inside) (x2 : Context) (x3 : Expr) (x4 : ℕ) (x5 : Parts) → walk.Takes x0 → KeepsInside walk x1 → Keeps walk (name_reducer x0 x1 x2 x3 x4 x5)
+k-name_reducer walk names inside here e first syntax.NoPart keeps1 keeps2 = k-bind walk (stands_for names here first) (λ d. given d (λ x. function_of first x.known)) (k-stands_for walk names here first keeps1) (λ d. k-given walk d (λ x. function_of first x.known) (λ x. k-function_of walk first x.known))
+k-name_reducer walk names inside here e first (syntax.AlsoPart (syntax.Attribute at) syntax.NoPart) keeps1 keeps2 = k-attribute_reducer walk names inside here e first (extreme_name names at) keeps1 keeps2
+k-name_reducer walk names inside here e first ps keeps1 keeps2 = k-no_reducer walk names inside here e keeps1 keeps2
 
-pub k-reducer_by : (walk : Walk) (x0 : Names) (x1 : Inside) (x2 : Context) (x3 : Expr) (x4 : Option Primary) → KeepsInside walk x1 → Keeps walk (reducer_by x0 x1 x2 x3 x4)
-k-reducer_by walk names inside here e (Some (syntax.Text at)) keeps1 = k-operator_reducer walk at (operator_named (text names at) operators)
-k-reducer_by walk names inside here e (Some (syntax.Named (syntax.name first ps))) keeps1 = k-name_reducer walk names inside here e first ps keeps1
-k-reducer_by walk names inside here e p keeps1 = k-no_reducer walk names inside here e keeps1
+pub k-reducer_by : (walk : Walk) (x0 : Names) (x1 : Inside) (x2 : Context) (x3 : Expr) (x4 : Option Primary) → walk.Takes x0 → KeepsInside walk x1 → Keeps walk (reducer_by x0 x1 x2 x3 x4)
+k-reducer_by walk names inside here e (Some (syntax.Text at)) keeps1 keeps2 = k-operator_reducer walk at (operator_named (text names at) operators)
+k-reducer_by walk names inside here e (Some (syntax.Named (syntax.name first ps))) keeps1 keeps2 = k-name_reducer walk names inside here e first ps keeps1 keeps2
+k-reducer_by walk names inside here e p keeps1 keeps2 = k-no_reducer walk names inside here e keeps1 keeps2
 
-pub k-reducer_of : (walk : Walk) (x0 : Names) (x1 : Inside) (x2 : Context) (x3 : Expr) → KeepsInside walk x1 → Keeps walk (reducer_of x0 x1 x2 x3)
+pub k-reducer_of : (walk : Walk) (x0 : Names) (x1 : Inside) (x2 : Context) (x3 : Expr) → walk.Takes x0 → KeepsInside walk x1 → Keeps walk (reducer_of x0 x1 x2 x3)
 unfolding reducer_of
-k-reducer_of walk names inside here e keeps1 = k-reducer_by walk names inside here e (primary_of_expr e) keeps1
+k-reducer_of walk names inside here e keeps1 keeps2 = k-reducer_by walk names inside here e (primary_of_expr e) keeps1 keeps2
 
 pub k-reduced : (walk : Walk) (x0 : Going) (x1 : TypedPart) (x2 : TypedPart) (x3 : Kind) (x4 : Kind) (x5 : Reducer) (x6 : Found) (x7 : Found) → Keeps walk (reduced x0 x1 x2 x3 x4 x5 x6 x7)
 unfolding reduced

@@ -29,9 +29,9 @@ use Rattle.name_rules.specs.Judging.{◌>>=◌, Judging, both, breaks, clean, fa
 use Rattle.name_rules.specs.Scope.{boolean, integer, natural, positive, entry, standard, lookup, with_entry, is_taken, free, hidden, hidden_where, declared, named, in_text_io, in_integer_io, procedure_of, predefined, used_name, reach_of, is_withed, undeclared, object, item, bit, stands, stands_for, in_package, expanded_reach, in_ada, selected, as_type, subtype_named, as_scalar, scalar_named}
 use Rattle.name_laws.proofs.Walk.{Walk, Keeps, k-pure, k-some, k-bind, k-fault, k-breaks, k-unless, k-read, k-if, k-given, k-both, k-where_clean, k-clean}
 
-pub k-free : (walk : Walk) (x0 : Names) (x1 : ℕ) (x2 : Context) (x3 : ℕ) → Keeps walk (free x0 x1 x2 x3)
+pub k-free : (walk : Walk) (x0 : Names) (x1 : ℕ) (x2 : Context) (x3 : ℕ) → walk.Takes x0 → Keeps walk (free x0 x1 x2 x3)
 unfolding free
-k-free walk names start here token = k-if walk (is_taken (symbol names token) start here) (fault token Twice) (some token) (k-fault walk token Twice) (k-some walk token)
+k-free walk names start here token keeps1 = k-if walk (is_taken (symbol names token) start here) (fault token Twice) (some token) (k-fault walk token Twice) (k-some walk token)
 
 pub k-named : (walk : Walk) (x0 : KnownDenoted) → Keeps walk (named x0)
 k-named walk d = k-some walk (denote d part.Nothing)
@@ -55,29 +55,29 @@ k-stands walk here token name (Some (what.Type s)) = k-named walk (denoted.Type 
 k-stands walk here token name (Some (what.Sub n)) = k-named walk (denoted.Sub token token n)
 k-stands walk here token name (Some (what.Exception r)) = k-named walk (denoted.Exception token r)
 
-pub k-stands_for : (walk : Walk) (x0 : Names) (x1 : Context) (x2 : ℕ) → Keeps walk (stands_for x0 x1 x2)
+pub k-stands_for : (walk : Walk) (x0 : Names) (x1 : Context) (x2 : ℕ) → walk.Takes x0 → Keeps walk (stands_for x0 x1 x2)
 unfolding stands_for
-k-stands_for walk names here token = k-stands walk here token (symbol names token) (lookup (symbol names token) here.scope)
+k-stands_for walk names here token keeps1 = k-stands walk here token (symbol names token) (lookup (symbol names token) here.scope)
 
 pub k-in_ada : (walk : Walk) (x0 : Context) (x1 : ℕ) (x2 : ℕ) (x3 : ℕ) → Keeps walk (in_ada x0 x1 x2 x3)
 k-in_ada walk here first token name = k-if walk (not (name == text_io_name || name == integer_io_name)) (fault token Unknown) (if is_withed here.withed name then named (denoted.Package first name) else fault first NotVisible) (k-fault walk token Unknown) (k-if walk (is_withed here.withed name) (named (denoted.Package first name)) (fault first NotVisible) (k-named walk (denoted.Package first name)) (k-fault walk first NotVisible))
 
-pub k-selected : (walk : Walk) (x0 : Names) (x1 : Context) (x2 : ℕ) (x3 : ℕ) (x4 : ℕ) → Keeps walk (selected x0 x1 x2 x3 x4)
+pub k-selected : (walk : Walk) (x0 : Names) (x1 : Context) (x2 : ℕ) (x3 : ℕ) (x4 : ℕ) → walk.Takes x0 → Keeps walk (selected x0 x1 x2 x3 x4)
 unfolding selected
-k-selected walk names here first library token = k-if walk (library == ada_name) (in_ada here first token (symbol names token)) (if in_package library (symbol names token) then named (predefined first token (symbol names token) (expanded_reach library)) else fault token Unknown) (k-in_ada walk here first token (symbol names token)) (k-if walk (in_package library (symbol names token)) (named (predefined first token (symbol names token) (expanded_reach library))) (fault token Unknown) (k-named walk (predefined first token (symbol names token) (expanded_reach library))) (k-fault walk token Unknown))
+k-selected walk names here first library token keeps1 = k-if walk (library == ada_name) (in_ada here first token (symbol names token)) (if in_package library (symbol names token) then named (predefined first token (symbol names token) (expanded_reach library)) else fault token Unknown) (k-in_ada walk here first token (symbol names token)) (k-if walk (in_package library (symbol names token)) (named (predefined first token (symbol names token) (expanded_reach library))) (fault token Unknown) (k-named walk (predefined first token (symbol names token) (expanded_reach library))) (k-fault walk token Unknown))
 
 pub k-as_type : (walk : Walk) (x0 : ℕ) (x1 : KnownDenoted) → Keeps walk (as_type x0 x1)
 k-as_type walk token (denoted.Type first s) = k-some walk s
 k-as_type walk token d = k-fault walk token WrongType
 
-pub k-subtype_named : (walk : Walk) (x0 : Names) (x1 : Context) (x2 : ℕ) → Keeps walk (subtype_named x0 x1 x2)
+pub k-subtype_named : (walk : Walk) (x0 : Names) (x1 : Context) (x2 : ℕ) → walk.Takes x0 → Keeps walk (subtype_named x0 x1 x2)
 unfolding subtype_named
-k-subtype_named walk names here token = k-bind walk (stands_for names here token) (λ d. given d (λ x. as_type token x.known)) (k-stands_for walk names here token) (λ d. k-given walk d (λ x. as_type token x.known) (λ x. k-as_type walk token x.known))
+k-subtype_named walk names here token keeps1 = k-bind walk (stands_for names here token) (λ d. given d (λ x. as_type token x.known)) (k-stands_for walk names here token keeps1) (λ d. k-given walk d (λ x. as_type token x.known) (λ x. k-as_type walk token x.known))
 
 pub k-as_scalar : (walk : Walk) (x0 : ℕ) (x1 : Subtype) → Keeps walk (as_scalar x0 x1)
 k-as_scalar walk token (subtype.Scalar s) = k-some walk s
 k-as_scalar walk token (subtype.Composite n) = k-fault walk token WrongType
 
-pub k-scalar_named : (walk : Walk) (x0 : Names) (x1 : Context) (x2 : ℕ) → Keeps walk (scalar_named x0 x1 x2)
+pub k-scalar_named : (walk : Walk) (x0 : Names) (x1 : Context) (x2 : ℕ) → walk.Takes x0 → Keeps walk (scalar_named x0 x1 x2)
 unfolding scalar_named
-k-scalar_named walk names here token = k-bind walk (subtype_named names here token) (λ s. given s (as_scalar token)) (k-subtype_named walk names here token) (λ s. k-given walk s (as_scalar token) (λ z1. k-as_scalar walk token z1))
+k-scalar_named walk names here token keeps1 = k-bind walk (subtype_named names here token) (λ s. given s (as_scalar token)) (k-subtype_named walk names here token keeps1) (λ s. k-given walk s (as_scalar token) (λ z1. k-as_scalar walk token z1))

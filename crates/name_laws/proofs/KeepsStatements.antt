@@ -67,79 +67,79 @@ k-stored_place walk p ss at f = k-bind walk (stored p.subtype at f) (λ v. pure 
 pub k-assigned_place : (walk : Walk) (x0 : Place) (x1 : Selections) (x2 : ℕ) (x3 : Option Found) → Keeps walk (assigned_place x0 x1 x2 x3)
 k-assigned_place walk p ss at x = k-if walk (not p.variable) (fault p.first WrongType) (given x (stored_place p ss at)) (k-fault walk p.first WrongType) (k-given walk x (stored_place p ss at) (λ z1. k-stored_place walk p ss at z1))
 
-pub k-assign_place : (walk : Walk) (x0 : Names) (x1 : Inside) (x2 : Context) (x3 : Place) (x4 : Selections) (x5 : Expr) → KeepsInside walk x1 → Keeps walk (assign_place x0 x1 x2 x3 x4 x5)
+pub k-assign_place : (walk : Walk) (x0 : Names) (x1 : Inside) (x2 : Context) (x3 : Place) (x4 : Selections) (x5 : Expr) → walk.Takes x0 → KeepsInside walk x1 → Keeps walk (assign_place x0 x1 x2 x3 x4 x5)
 unfolding assign_place
-k-assign_place walk names level here p ss e keeps1 = k-where_clean walk (expr names level (with_target here (target.Of p.subtype)) (wanted_of p.subtype) e) (assigned_place p ss (first_token.of_expr e - 1)) (k-expr walk names level (with_target here (target.Of p.subtype)) (wanted_of p.subtype) e keeps1) (λ z2. k-assigned_place walk p ss (first_token.of_expr e - 1) z2)
+k-assign_place walk names level here p ss e keeps1 keeps2 = k-where_clean walk (expr names level (with_target here (target.Of p.subtype)) (wanted_of p.subtype) e) (assigned_place p ss (first_token.of_expr e - 1)) (k-expr walk names level (with_target here (target.Of p.subtype)) (wanted_of p.subtype) e keeps1 keeps2) (λ z2. k-assigned_place walk p ss (first_token.of_expr e - 1) z2)
 
-pub k-assigned_alone : (walk : Walk) (x0 : Names) (x1 : Inside) (x2 : Context) (x3 : Expr) → KeepsInside walk x1 → Keeps walk (assigned_alone x0 x1 x2 x3)
-k-assigned_alone walk names level here e keeps1 = k-judged_alone walk names level (with_target here target.Faulty) e keeps1
+pub k-assigned_alone : (walk : Walk) (x0 : Names) (x1 : Inside) (x2 : Context) (x3 : Expr) → walk.Takes x0 → KeepsInside walk x1 → Keeps walk (assigned_alone x0 x1 x2 x3)
+k-assigned_alone walk names level here e keeps1 keeps2 = k-judged_alone walk names level (with_target here target.Faulty) e keeps1 keeps2
 
-pub k-assign_other : (walk : Walk) (x0 : Names) (x1 : Inside) (x2 : Context) (x3 : Expr) (x4 : ℕ) → KeepsInside walk x1 → Keeps walk (assign_other x0 x1 x2 x3 x4)
-k-assign_other walk names level here e first keeps1 = k-where_clean walk (assigned_alone names level here e) (λ u. fault first WrongType) (k-assigned_alone walk names level here e keeps1) (λ u. k-fault walk first WrongType)
+pub k-assign_other : (walk : Walk) (x0 : Names) (x1 : Inside) (x2 : Context) (x3 : Expr) (x4 : ℕ) → walk.Takes x0 → KeepsInside walk x1 → Keeps walk (assign_other x0 x1 x2 x3 x4)
+k-assign_other walk names level here e first keeps1 keeps2 = k-where_clean walk (assigned_alone names level here e) (λ u. fault first WrongType) (k-assigned_alone walk names level here e keeps1 keeps2) (λ u. k-fault walk first WrongType)
 
-pub k-assign_form : (walk : Walk) (x0 : Names) (x1 : Inside) (x2 : Context) (x3 : Expr) (x4 : KnownDenoted) (x5 : TypedPart) → KeepsInside walk x1 → Keeps walk (assign_form x0 x1 x2 x3 x4 x5)
-k-assign_form walk names level here e (denoted.Value (known.Object p)) x keeps1 = k-assign_place walk names level here p (selections_of x) e keeps1
-k-assign_form walk names level here e d x keeps1 = k-assign_other walk names level here e (denoted_first d) keeps1
+pub k-assign_form : (walk : Walk) (x0 : Names) (x1 : Inside) (x2 : Context) (x3 : Expr) (x4 : KnownDenoted) (x5 : TypedPart) → walk.Takes x0 → KeepsInside walk x1 → Keeps walk (assign_form x0 x1 x2 x3 x4 x5)
+k-assign_form walk names level here e (denoted.Value (known.Object p)) x keeps1 keeps2 = k-assign_place walk names level here p (selections_of x) e keeps1 keeps2
+k-assign_form walk names level here e d x keeps1 keeps2 = k-assign_other walk names level here e (denoted_first d) keeps1 keeps2
 
-pub k-assign_to : (walk : Walk) (x0 : Names) (x1 : Inside) (x2 : Context) (x3 : Expr) (x4 : Option Denoted) → KeepsInside walk x1 → Keeps walk (assign_to x0 x1 x2 x3 x4)
-k-assign_to walk names level here e None keeps1 = k-bind walk (assigned_alone names level here e) (λ u. pure None) (k-assigned_alone walk names level here e keeps1) (λ u. k-pure walk None)
-k-assign_to walk names level here e (Some d) keeps1 = k-assign_form walk names level here e d.known d.part keeps1
+pub k-assign_to : (walk : Walk) (x0 : Names) (x1 : Inside) (x2 : Context) (x3 : Expr) (x4 : Option Denoted) → walk.Takes x0 → KeepsInside walk x1 → Keeps walk (assign_to x0 x1 x2 x3 x4)
+k-assign_to walk names level here e None keeps1 keeps2 = k-bind walk (assigned_alone names level here e) (λ u. pure None) (k-assigned_alone walk names level here e keeps1 keeps2) (λ u. k-pure walk None)
+k-assign_to walk names level here e (Some d) keeps1 keeps2 = k-assign_form walk names level here e d.known d.part keeps1 keeps2
 
-pub k-assign : (walk : Walk) (x0 : Names) (x1 : Inside) (x2 : Context) (x3 : Name) (x4 : Expr) → KeepsInside walk x1 → Keeps walk (assign x0 x1 x2 x3 x4)
-k-assign walk names level here n e keeps1 = k-bind walk (level.name here n) (assign_to names level here e) (keeps1.name here n) (λ z3. k-assign_to walk names level here e z3 keeps1)
+pub k-assign : (walk : Walk) (x0 : Names) (x1 : Inside) (x2 : Context) (x3 : Name) (x4 : Expr) → walk.Takes x0 → KeepsInside walk x1 → Keeps walk (assign x0 x1 x2 x3 x4)
+k-assign walk names level here n e keeps1 keeps2 = k-bind walk (level.name here n) (assign_to names level here e) (keeps2.name here n) (λ z3. k-assign_to walk names level here e z3 keeps1 keeps2)
 
 pub k-as_statement : (walk : Walk) (x0 : KnownDenoted) (x1 : TypedPart) → Keeps walk (as_statement x0 x1)
 k-as_statement walk (denoted.Done first) x = k-some walk x
 k-as_statement walk d x = k-fault walk (denoted_first d) WrongType
 
-pub k-call_stmt : (walk : Walk) (x0 : Names) (x1 : Inside) (x2 : Context) (x3 : Name) → KeepsInside walk x1 → Keeps walk (call_stmt x0 x1 x2 x3)
+pub k-call_stmt : (walk : Walk) (x0 : Names) (x1 : Inside) (x2 : Context) (x3 : Name) → walk.Takes x0 → KeepsInside walk x1 → Keeps walk (call_stmt x0 x1 x2 x3)
 unfolding call_stmt
-k-call_stmt walk names level here n keeps1 = k-bind walk ((level.name here n)) (λ d. (given d (valued_by names level here)) >>= λ e. given e (λ x. as_statement x.known x.part)) (keeps1.name here n) (λ d. k-bind walk ((given d (valued_by names level here))) (λ e. given e (λ x. as_statement x.known x.part)) (k-given walk d (valued_by names level here) (λ z4. k-valued_by walk names level here z4 keeps1)) (λ e. k-given walk e (λ x. as_statement x.known x.part) (λ x. k-as_statement walk x.known x.part)))
+k-call_stmt walk names level here n keeps1 keeps2 = k-bind walk ((level.name here n)) (λ d. (given d (valued_by names level here)) >>= λ e. given e (λ x. as_statement x.known x.part)) (keeps2.name here n) (λ d. k-bind walk ((given d (valued_by names level here))) (λ e. given e (λ x. as_statement x.known x.part)) (k-given walk d (valued_by names level here) (λ z4. k-valued_by walk names level here z4 keeps1 keeps2)) (λ e. k-given walk e (λ x. as_statement x.known x.part) (λ x. k-as_statement walk x.known x.part)))
 
-pub k-condition_where : (walk : Walk) (x0 : Names) (x1 : Inside) (x2 : Context) (x3 : Option Expr) → KeepsInside walk x1 → Keeps walk (condition_where x0 x1 x2 x3)
-k-condition_where walk names level here None keeps1 = k-some walk part.Nothing
-k-condition_where walk names level here (Some e) keeps1 = k-condition walk names level here e keeps1
+pub k-condition_where : (walk : Walk) (x0 : Names) (x1 : Inside) (x2 : Context) (x3 : Option Expr) → walk.Takes x0 → KeepsInside walk x1 → Keeps walk (condition_where x0 x1 x2 x3)
+k-condition_where walk names level here None keeps1 keeps2 = k-some walk part.Nothing
+k-condition_where walk names level here (Some e) keeps1 keeps2 = k-condition walk names level here e keeps1 keeps2
 
 pub k-loop_or : (walk : Walk) (x0 : ℕ) (x1 : Option LoopName) → Keeps walk (loop_or x0 x1)
 k-loop_or walk at None = k-fault walk at NotVisible
 k-loop_or walk at (Some l) = k-some walk l.number
 
-pub k-exited : (walk : Walk) (x0 : Names) (x1 : Context) (x2 : ℕ) (x3 : Option ℕ) (x4 : Option LoopName) → Keeps walk (exited x0 x1 x2 x3 x4)
-k-exited walk names here at from None = k-fault walk at NotVisible
-k-exited walk names here at None (Some l) = k-some walk l.number
-k-exited walk names here at (Some token) (Some l) = k-loop_or walk token (loop_named (symbol names token) here.loops)
+pub k-exited : (walk : Walk) (x0 : Names) (x1 : Context) (x2 : ℕ) (x3 : Option ℕ) (x4 : Option LoopName) → walk.Takes x0 → Keeps walk (exited x0 x1 x2 x3 x4)
+k-exited walk names here at from None keeps1 = k-fault walk at NotVisible
+k-exited walk names here at None (Some l) keeps1 = k-some walk l.number
+k-exited walk names here at (Some token) (Some l) keeps1 = k-loop_or walk token (loop_named (symbol names token) here.loops)
 
-pub k-exit_from : (walk : Walk) (x0 : Names) (x1 : Inside) (x2 : Context) (x3 : ℕ) (x4 : Option ℕ) (x5 : Option Expr) → KeepsInside walk x1 → Keeps walk (exit_from x0 x1 x2 x3 x4 x5)
+pub k-exit_from : (walk : Walk) (x0 : Names) (x1 : Inside) (x2 : Context) (x3 : ℕ) (x4 : Option ℕ) (x5 : Option Expr) → walk.Takes x0 → KeepsInside walk x1 → Keeps walk (exit_from x0 x1 x2 x3 x4 x5)
 unfolding exit_from
-k-exit_from walk names level here at from e keeps1 = k-bind walk ((exited names here at from (innermost here.loops))) (λ n. (condition_where names level here e) >>= λ c. pure (joined exit_part n c)) (k-exited walk names here at from (innermost here.loops)) (λ n. k-bind walk ((condition_where names level here e)) (λ c. pure (joined exit_part n c)) (k-condition_where walk names level here e keeps1) (λ c. k-pure walk (joined exit_part n c)))
+k-exit_from walk names level here at from e keeps1 keeps2 = k-bind walk ((exited names here at from (innermost here.loops))) (λ n. (condition_where names level here e) >>= λ c. pure (joined exit_part n c)) (k-exited walk names here at from (innermost here.loops) keeps1) (λ n. k-bind walk ((condition_where names level here e)) (λ c. pure (joined exit_part n c)) (k-condition_where walk names level here e keeps1 keeps2) (λ c. k-pure walk (joined exit_part n c)))
 
-pub k-value_at : (walk : Walk) (x0 : Names) (x1 : Inside) (x2 : Context) (x3 : ℕ) (x4 : Scalar) (x5 : Expr) → KeepsInside walk x1 → Keeps walk (value_at x0 x1 x2 x3 x4 x5)
+pub k-value_at : (walk : Walk) (x0 : Names) (x1 : Inside) (x2 : Context) (x3 : ℕ) (x4 : Scalar) (x5 : Expr) → walk.Takes x0 → KeepsInside walk x1 → Keeps walk (value_at x0 x1 x2 x3 x4 x5)
 unfolding value_at
-k-value_at walk names level here at s e keeps1 = k-bind walk (expr names level here wanted.Other e) (λ x. given x (stored (subtype.Scalar s) at)) (k-expr walk names level here wanted.Other e keeps1) (λ x. k-given walk x (stored (subtype.Scalar s) at) (λ z5. k-stored walk (subtype.Scalar s) at z5))
+k-value_at walk names level here at s e keeps1 keeps2 = k-bind walk (expr names level here wanted.Other e) (λ x. given x (stored (subtype.Scalar s) at)) (k-expr walk names level here wanted.Other e keeps1 keeps2) (λ x. k-given walk x (stored (subtype.Scalar s) at) (λ z5. k-stored walk (subtype.Scalar s) at z5))
 
-pub k-value_of_nothing : (walk : Walk) (x0 : Names) (x1 : Inside) (x2 : Context) (x3 : ℕ) (x4 : Expr) → KeepsInside walk x1 → Keeps walk (value_of_nothing x0 x1 x2 x3 x4)
-k-value_of_nothing walk names level here at e keeps1 = k-where_clean walk (expr names level here wanted.Other e) (λ x. given x (λ f. fault at WrongType)) (k-expr walk names level here wanted.Other e keeps1) (λ x. k-given walk x (λ f. fault at WrongType) (λ f. k-fault walk at WrongType))
+pub k-value_of_nothing : (walk : Walk) (x0 : Names) (x1 : Inside) (x2 : Context) (x3 : ℕ) (x4 : Expr) → walk.Takes x0 → KeepsInside walk x1 → Keeps walk (value_of_nothing x0 x1 x2 x3 x4)
+k-value_of_nothing walk names level here at e keeps1 keeps2 = k-where_clean walk (expr names level here wanted.Other e) (λ x. given x (λ f. fault at WrongType)) (k-expr walk names level here wanted.Other e keeps1 keeps2) (λ x. k-given walk x (λ f. fault at WrongType) (λ f. k-fault walk at WrongType))
 
-pub k-return_value : (walk : Walk) (x0 : Names) (x1 : Inside) (x2 : Context) (x3 : ℕ) (x4 : Expr) (x5 : Returns) → KeepsInside walk x1 → Keeps walk (return_value x0 x1 x2 x3 x4 x5)
-k-return_value walk names level here at e returns.Nothing keeps1 = k-value_of_nothing walk names level here at e keeps1
-k-return_value walk names level here at e (returns.Value s) keeps1 = k-bind walk (value_at names level here at s e) (λ v. pure (option_map returned v)) (k-value_at walk names level here at s e keeps1) (λ v. k-pure walk (option_map returned v))
-k-return_value walk names level here at e returns.Faulty keeps1 = k-bind walk (judged_alone names level here e) (λ u. pure None) (k-judged_alone walk names level here e keeps1) (λ u. k-pure walk None)
+pub k-return_value : (walk : Walk) (x0 : Names) (x1 : Inside) (x2 : Context) (x3 : ℕ) (x4 : Expr) (x5 : Returns) → walk.Takes x0 → KeepsInside walk x1 → Keeps walk (return_value x0 x1 x2 x3 x4 x5)
+k-return_value walk names level here at e returns.Nothing keeps1 keeps2 = k-value_of_nothing walk names level here at e keeps1 keeps2
+k-return_value walk names level here at e (returns.Value s) keeps1 keeps2 = k-bind walk (value_at names level here at s e) (λ v. pure (option_map returned v)) (k-value_at walk names level here at s e keeps1 keeps2) (λ v. k-pure walk (option_map returned v))
+k-return_value walk names level here at e returns.Faulty keeps1 keeps2 = k-bind walk (judged_alone names level here e) (λ u. pure None) (k-judged_alone walk names level here e keeps1 keeps2) (λ u. k-pure walk None)
 
 pub k-return_alone : (walk : Walk) (x0 : ℕ) (x1 : Returns) → Keeps walk (return_alone x0 x1)
 k-return_alone walk at returns.Nothing = k-some walk (part.AStmt typed.Return)
 k-return_alone walk at _ = k-fault walk at WrongType
 
-pub k-return_from : (walk : Walk) (x0 : Names) (x1 : Inside) (x2 : Context) (x3 : ℕ) (x4 : Option Expr) → KeepsInside walk x1 → Keeps walk (return_from x0 x1 x2 x3 x4)
-k-return_from walk names level here at None keeps1 = k-return_alone walk at here.returns
-k-return_from walk names level here at (Some e) keeps1 = k-return_value walk names level here at e here.returns keeps1
+pub k-return_from : (walk : Walk) (x0 : Names) (x1 : Inside) (x2 : Context) (x3 : ℕ) (x4 : Option Expr) → walk.Takes x0 → KeepsInside walk x1 → Keeps walk (return_from x0 x1 x2 x3 x4)
+k-return_from walk names level here at None keeps1 keeps2 = k-return_alone walk at here.returns
+k-return_from walk names level here at (Some e) keeps1 keeps2 = k-return_value walk names level here at e here.returns keeps1 keeps2
 
-pub k-raise_from : (walk : Walk) (x0 : Names) (x1 : Context) (x2 : ℕ) (x3 : Option Pack) → Keeps walk (raise_from x0 x1 x2 x3)
-k-raise_from walk names here at None = k-if walk (here.in_handler) (some (part.AStmt typed.Reraise)) (fault at NotVisible) (k-some walk (part.AStmt typed.Reraise)) (k-fault walk at NotVisible)
-k-raise_from walk names here at (Some p) = k-bind walk (exception names here p) (λ r. pure (option_map raised r)) (k-exception walk names here p) (λ r. k-pure walk (option_map raised r))
+pub k-raise_from : (walk : Walk) (x0 : Names) (x1 : Context) (x2 : ℕ) (x3 : Option Pack) → walk.Takes x0 → Keeps walk (raise_from x0 x1 x2 x3)
+k-raise_from walk names here at None keeps1 = k-if walk (here.in_handler) (some (part.AStmt typed.Reraise)) (fault at NotVisible) (k-some walk (part.AStmt typed.Reraise)) (k-fault walk at NotVisible)
+k-raise_from walk names here at (Some p) keeps1 = k-bind walk (exception names here p) (λ r. pure (option_map raised r)) (k-exception walk names here p keeps1) (λ r. k-pure walk (option_map raised r))
 
 pub k-elsifs : (walk : Walk) (x0 : Around) (x1 : Context) (x2 : Option TypedPart) (x3 : Arms) → KeepsAround walk x0 → Keeps walk (elsifs x0 x1 x2 x3)
 k-elsifs walk a here made syntax.NoArm keeps1 = k-pure walk made
-k-elsifs walk a here made (syntax.AlsoArm (syntax.arm at e s) xs) keeps1 = k-bind walk ((condition a.names a.level here e)) (λ c. (stmts a here s) >>= λ ss. elsifs a here (with_elsif_if made c ss) xs) (k-condition walk a.names a.level here e keeps1.level) (λ c. k-bind walk ((stmts a here s)) (λ ss. elsifs a here (with_elsif_if made c ss) xs) (k-stmts walk a here s keeps1) (λ ss. k-elsifs walk a here (with_elsif_if made c ss) xs keeps1))
+k-elsifs walk a here made (syntax.AlsoArm (syntax.arm at e s) xs) keeps1 = k-bind walk ((condition a.names a.level here e)) (λ c. (stmts a here s) >>= λ ss. elsifs a here (with_elsif_if made c ss) xs) (k-condition walk a.names a.level here e keeps1.names keeps1.level) (λ c. k-bind walk ((stmts a here s)) (λ ss. elsifs a here (with_elsif_if made c ss) xs) (k-stmts walk a here s keeps1) (λ ss. k-elsifs walk a here (with_elsif_if made c ss) xs keeps1))
 
 pub k-otherwise_where : (walk : Walk) (x0 : Around) (x1 : Context) (x2 : OptionalStmts) → KeepsAround walk x0 → Keeps walk (otherwise_where x0 x1 x2)
 k-otherwise_where walk a here syntax.AbsentStmts keeps1 = k-some walk no_stmts
@@ -150,7 +150,7 @@ k-if_stmt_made walk xs ys c ss = k-pure walk (joined (if_stmt_part c ss) xs ys)
 
 pub k-if_stmt : (walk : Walk) (x0 : Around) (x1 : Context) (x2 : Expr) (x3 : Stmts) (x4 : Arms) (x5 : OptionalStmts) → KeepsAround walk x0 → Keeps walk (if_stmt x0 x1 x2 x3 x4 x5)
 unfolding if_stmt
-k-if_stmt walk a here e s more o keeps1 = k-bind walk ((condition a.names a.level here e)) (λ c. (stmts a here s) >>= λ ss. (elsifs a here (Some part.Nothing) more) >>= λ xs. (otherwise_where a here o) >>= λ ys. both c ss (if_stmt_made xs ys)) (k-condition walk a.names a.level here e keeps1.level) (λ c. k-bind walk ((stmts a here s)) (λ ss. (elsifs a here (Some part.Nothing) more) >>= λ xs. (otherwise_where a here o) >>= λ ys. both c ss (if_stmt_made xs ys)) (k-stmts walk a here s keeps1) (λ ss. k-bind walk ((elsifs a here (Some part.Nothing) more)) (λ xs. (otherwise_where a here o) >>= λ ys. both c ss (if_stmt_made xs ys)) (k-elsifs walk a here (Some part.Nothing) more keeps1) (λ xs. k-bind walk ((otherwise_where a here o)) (λ ys. both c ss (if_stmt_made xs ys)) (k-otherwise_where walk a here o keeps1) (λ ys. k-both walk c ss (if_stmt_made xs ys) (λ z6 z7. k-if_stmt_made walk xs ys z6 z7)))))
+k-if_stmt walk a here e s more o keeps1 = k-bind walk ((condition a.names a.level here e)) (λ c. (stmts a here s) >>= λ ss. (elsifs a here (Some part.Nothing) more) >>= λ xs. (otherwise_where a here o) >>= λ ys. both c ss (if_stmt_made xs ys)) (k-condition walk a.names a.level here e keeps1.names keeps1.level) (λ c. k-bind walk ((stmts a here s)) (λ ss. (elsifs a here (Some part.Nothing) more) >>= λ xs. (otherwise_where a here o) >>= λ ys. both c ss (if_stmt_made xs ys)) (k-stmts walk a here s keeps1) (λ ss. k-bind walk ((elsifs a here (Some part.Nothing) more)) (λ xs. (otherwise_where a here o) >>= λ ys. both c ss (if_stmt_made xs ys)) (k-elsifs walk a here (Some part.Nothing) more keeps1) (λ xs. k-bind walk ((otherwise_where a here o)) (λ ys. both c ss (if_stmt_made xs ys)) (k-otherwise_where walk a here o keeps1) (λ ys. k-both walk c ss (if_stmt_made xs ys) (λ z6 z7. k-if_stmt_made walk xs ys z6 z7)))))
 
 pub k-alternative : (walk : Walk) (x0 : Around) (x1 : Context) (x2 : Option Kind) (x3 : Bool) (x4 : Covering) (x5 : Option TypedPart) (x6 : Alt) → KeepsAround walk x0 → Keeps walk (alternative x0 x1 x2 x3 x4 x5 x6)
 unfolding alternative
@@ -169,12 +169,12 @@ k-closed_where walk at (Some s) c = k-closed walk at s.known c
 
 pub k-case_stmt : (walk : Walk) (x0 : Around) (x1 : Context) (x2 : ℕ) (x3 : Expr) (x4 : Alts) → KeepsAround walk x0 → Keeps walk (case_stmt x0 x1 x2 x3 x4)
 unfolding case_stmt
-k-case_stmt walk a here at e xs keeps1 = k-bind walk ((expr a.names a.level here wanted.Other e)) (λ f. (given f selector) >>= λ s. (alts a here (selector_kind s) (record { ranges = []; faulty = false; others = false }) (Some part.Nothing) xs) >>= λ r. (closed_where at s r.0) >>= λ u. pure (joined case_part s r.1)) (k-expr walk a.names a.level here wanted.Other e keeps1.level) (λ f. k-bind walk ((given f selector)) (λ s. (alts a here (selector_kind s) (record { ranges = []; faulty = false; others = false }) (Some part.Nothing) xs) >>= λ r. (closed_where at s r.0) >>= λ u. pure (joined case_part s r.1)) (k-given walk f (selector) (λ z8. k-selector walk z8)) (λ s. k-bind walk ((alts a here (selector_kind s) (record { ranges = []; faulty = false; others = false }) (Some part.Nothing) xs)) (λ r. (closed_where at s r.0) >>= λ u. pure (joined case_part s r.1)) (k-alts walk a here (selector_kind s) (record { ranges = []; faulty = false; others = false }) (Some part.Nothing) xs keeps1) (λ r. k-bind walk ((closed_where at s r.0)) (λ u. pure (joined case_part s r.1)) (k-closed_where walk at s r.0) (λ u. k-pure walk (joined case_part s r.1)))))
+k-case_stmt walk a here at e xs keeps1 = k-bind walk ((expr a.names a.level here wanted.Other e)) (λ f. (given f selector) >>= λ s. (alts a here (selector_kind s) (record { ranges = []; faulty = false; others = false }) (Some part.Nothing) xs) >>= λ r. (closed_where at s r.0) >>= λ u. pure (joined case_part s r.1)) (k-expr walk a.names a.level here wanted.Other e keeps1.names keeps1.level) (λ f. k-bind walk ((given f selector)) (λ s. (alts a here (selector_kind s) (record { ranges = []; faulty = false; others = false }) (Some part.Nothing) xs) >>= λ r. (closed_where at s r.0) >>= λ u. pure (joined case_part s r.1)) (k-given walk f (selector) (λ z8. k-selector walk z8)) (λ s. k-bind walk ((alts a here (selector_kind s) (record { ranges = []; faulty = false; others = false }) (Some part.Nothing) xs)) (λ r. (closed_where at s r.0) >>= λ u. pure (joined case_part s r.1)) (k-alts walk a here (selector_kind s) (record { ranges = []; faulty = false; others = false }) (Some part.Nothing) xs keeps1) (λ r. k-bind walk ((closed_where at s r.0)) (λ u. pure (joined case_part s r.1)) (k-closed_where walk at s r.0) (λ u. k-pure walk (joined case_part s r.1)))))
 
-pub k-loop_ends : (walk : Walk) (x0 : Names) (x1 : Option ℕ) (x2 : ℕ) (x3 : Option ℕ) → Keeps walk (loop_ends x0 x1 x2 x3)
-k-loop_ends walk names None last None = k-pure walk tt
-k-loop_ends walk names (Some label) last (Some name) = k-unless walk (symbol names label == symbol names name) name WrongEnd
-k-loop_ends walk names label last name = k-breaks walk last WrongEnd
+pub k-loop_ends : (walk : Walk) (x0 : Names) (x1 : Option ℕ) (x2 : ℕ) (x3 : Option ℕ) → walk.Takes x0 → Keeps walk (loop_ends x0 x1 x2 x3)
+k-loop_ends walk names None last None keeps1 = k-pure walk tt
+k-loop_ends walk names (Some label) last (Some name) keeps1 = k-unless walk (symbol names label == symbol names name) name WrongEnd
+k-loop_ends walk names label last name keeps1 = k-breaks walk last WrongEnd
 
 pub k-new_loop : (walk : Walk) → Keeps walk new_loop
 k-new_loop walk = record { at = walk.loop }
@@ -189,14 +189,14 @@ k-for_made walk n (Some s) c i ss = k-pure walk (option_map (parallel_part n s i
 
 pub k-loop_entered : (walk : Walk) (x0 : Around) (x1 : Context) (x2 : OptionalParallel) (x3 : Iter) → KeepsAround walk x0 → Keeps walk (loop_entered x0 x1 x2 x3)
 unfolding loop_entered
-k-loop_entered walk a here p i keeps1 = k-bind walk ((clean (entered a.names a.level a.inner here site.Loop p i))) (λ e. (backwards_rule e.1 e.0.construct e.0.reverse) >>= λ u. pure e.0) (k-clean walk (entered a.names a.level a.inner here site.Loop p i) (k-entered walk a.names a.level a.inner here site.Loop p i keeps1.level keeps1.inner)) (λ e. k-bind walk ((backwards_rule e.1 e.0.construct e.0.reverse)) (λ u. pure e.0) (k-backwards_rule walk e.1 e.0.construct e.0.reverse) (λ u. k-pure walk e.0))
+k-loop_entered walk a here p i keeps1 = k-bind walk ((clean (entered a.names a.level a.inner here site.Loop p i))) (λ e. (backwards_rule e.1 e.0.construct e.0.reverse) >>= λ u. pure e.0) (k-clean walk (entered a.names a.level a.inner here site.Loop p i) (k-entered walk a.names a.level a.inner here site.Loop p i keeps1.names keeps1.level keeps1.inner)) (λ e. k-bind walk ((backwards_rule e.1 e.0.construct e.0.reverse)) (λ u. pure e.0) (k-backwards_rule walk e.1 e.0.construct e.0.reverse) (λ u. k-pure walk e.0))
 
 pub k-for_loop : (walk : Walk) (x0 : Around) (x1 : Context) (x2 : Option ℕ) (x3 : ℕ) (x4 : Stmts) (x5 : OptionalParallel) (x6 : Iter) → KeepsAround walk x0 → Keeps walk (for_loop x0 x1 x2 x3 x4 x5 x6)
 unfolding for_loop
 k-for_loop walk a here label n s p i keeps1 = k-bind walk ((loop_entered a here p i)) (λ e. (stmts a (in_loop a.names e.here label n) s) >>= λ ss. both e.iteration ss (for_made n e.construct e.chunk)) (k-loop_entered walk a here p i keeps1) (λ e. k-bind walk ((stmts a (in_loop a.names e.here label n) s)) (λ ss. both e.iteration ss (for_made n e.construct e.chunk)) (k-stmts walk a (in_loop a.names e.here label n) s keeps1) (λ ss. k-both walk e.iteration ss (for_made n e.construct e.chunk) (λ z9 z10. k-for_made walk n e.construct e.chunk z9 z10)))
 
 pub k-loop_with : (walk : Walk) (x0 : Around) (x1 : Context) (x2 : Option ℕ) (x3 : ℕ) (x4 : Stmts) (x5 : Scheme) → KeepsAround walk x0 → Keeps walk (loop_with x0 x1 x2 x3 x4 x5)
-k-loop_with walk a here label n s (syntax.While at e) keeps1 = k-bind walk ((condition a.names a.level here e)) (λ c. (stmts a (in_loop a.names here label n) s) >>= λ ss. pure (joined (loop_part n) c ss)) (k-condition walk a.names a.level here e keeps1.level) (λ c. k-bind walk ((stmts a (in_loop a.names here label n) s)) (λ ss. pure (joined (loop_part n) c ss)) (k-stmts walk a (in_loop a.names here label n) s keeps1) (λ ss. k-pure walk (joined (loop_part n) c ss)))
+k-loop_with walk a here label n s (syntax.While at e) keeps1 = k-bind walk ((condition a.names a.level here e)) (λ c. (stmts a (in_loop a.names here label n) s) >>= λ ss. pure (joined (loop_part n) c ss)) (k-condition walk a.names a.level here e keeps1.names keeps1.level) (λ c. k-bind walk ((stmts a (in_loop a.names here label n) s)) (λ ss. pure (joined (loop_part n) c ss)) (k-stmts walk a (in_loop a.names here label n) s keeps1) (λ ss. k-pure walk (joined (loop_part n) c ss)))
 k-loop_with walk a here label n s (syntax.For p at i) keeps1 = k-for_loop walk a here label n s (optional_parallel p) i keeps1
 
 pub k-loop_by : (walk : Walk) (x0 : Around) (x1 : Context) (x2 : Option ℕ) (x3 : ℕ) (x4 : Stmts) (x5 : Option Scheme) → KeepsAround walk x0 → Keeps walk (loop_by x0 x1 x2 x3 x4 x5)
@@ -205,11 +205,11 @@ k-loop_by walk a here label n s (Some by) keeps1 = k-loop_with walk a here label
 
 pub k-loop_stmt : (walk : Walk) (x0 : Around) (x1 : Context) (x2 : Option ℕ) (x3 : Option Scheme) (x4 : Stmts) (x5 : ℕ) (x6 : Option ℕ) → KeepsAround walk x0 → Keeps walk (loop_stmt x0 x1 x2 x3 x4 x5 x6)
 unfolding loop_stmt
-k-loop_stmt walk a here label by s last name keeps1 = k-bind walk ((loop_ends a.names label last name)) (λ u. (new_loop) >>= λ n. loop_by a here label n s by) (k-loop_ends walk a.names label last name) (λ u. k-bind walk ((new_loop)) (λ n. loop_by a here label n s by) (k-new_loop walk ) (λ n. k-loop_by walk a here label n s by keeps1))
+k-loop_stmt walk a here label by s last name keeps1 = k-bind walk ((loop_ends a.names label last name)) (λ u. (new_loop) >>= λ n. loop_by a here label n s by) (k-loop_ends walk a.names label last name keeps1.names) (λ u. k-bind walk ((new_loop)) (λ n. loop_by a here label n s by) (k-new_loop walk ) (λ n. k-loop_by walk a here label n s by keeps1))
 
 pub k-handler : (walk : Walk) (x0 : Around) (x1 : Context) (x2 : Bool) (x3 : List Reason) (x4 : Option TypedPart) (x5 : Handler) → KeepsAround walk x0 → Keeps walk (handler x0 x1 x2 x3 x4 x5)
 unfolding handler
-k-handler walk a here last seen made (syntax.handler at h s) keeps1 = k-bind walk ((handled_by a.names here seen last h)) (λ r. (stmts a (in_handler_of here) s) >>= λ ss. pure (r.0, with_handler_if made r.1 ss)) (k-handled_by walk a.names here seen last h) (λ r. k-bind walk ((stmts a (in_handler_of here) s)) (λ ss. pure (r.0, with_handler_if made r.1 ss)) (k-stmts walk a (in_handler_of here) s keeps1) (λ ss. k-pure walk (r.0, with_handler_if made r.1 ss)))
+k-handler walk a here last seen made (syntax.handler at h s) keeps1 = k-bind walk ((handled_by a.names here seen last h)) (λ r. (stmts a (in_handler_of here) s) >>= λ ss. pure (r.0, with_handler_if made r.1 ss)) (k-handled_by walk a.names here seen last h keeps1.names) (λ r. k-bind walk ((stmts a (in_handler_of here) s)) (λ ss. pure (r.0, with_handler_if made r.1 ss)) (k-stmts walk a (in_handler_of here) s keeps1) (λ ss. k-pure walk (r.0, with_handler_if made r.1 ss)))
 
 pub k-handlers : (walk : Walk) (x0 : Around) (x1 : Context) (x2 : List Reason) (x3 : Option TypedPart) (x4 : Handlers) → KeepsAround walk x0 → Keeps walk (handlers x0 x1 x2 x3 x4)
 k-handlers walk a here seen made syntax.NoHandler keeps1 = k-pure walk made
@@ -227,7 +227,7 @@ k-block_of walk a here ds b keeps1 = k-bind walk (body a here ds b) (λ x. pure 
 
 pub k-block : (walk : Walk) (x0 : Around) (x1 : Context) (x2 : Option Declare) (x3 : Body) → KeepsAround walk x0 → Keeps walk (block x0 x1 x2 x3)
 unfolding block
-k-block walk a here d b keeps1 = k-bind walk (declarations a.names a.level (length here.scope) here (Some no_decls) (block_decls d)) (λ r. block_of a r.0 r.1 b) (k-declarations walk a.names a.level (length here.scope) here (Some no_decls) (block_decls d) keeps1.level) (λ r. k-block_of walk a r.0 r.1 b keeps1)
+k-block walk a here d b keeps1 = k-bind walk (declarations a.names a.level (length here.scope) here (Some no_decls) (block_decls d)) (λ r. block_of a r.0 r.1 b) (k-declarations walk a.names a.level (length here.scope) here (Some no_decls) (block_decls d) keeps1.names keeps1.level) (λ r. k-block_of walk a r.0 r.1 b keeps1)
 
 pub k-arm_limit : (walk : Walk) (x0 : ℕ) (x1 : ℕ) → Keeps walk (arm_limit x0 x1)
 k-arm_limit walk at n = k-unless walk (nat_le n 4096) at (Limit 3 n)
@@ -246,11 +246,11 @@ k-parallel walk a here at e ss keeps1 = k-bind walk ((new_site here at (site.Blo
 
 pub k-stmt_form : (walk : Walk) (x0 : Around) (x1 : Context) (x2 : Stmt) → KeepsAround walk x0 → Keeps walk (stmt_form x0 x1 x2)
 k-stmt_form walk a here (syntax.Null at) keeps1 = k-some walk (part.AStmt typed.Null)
-k-stmt_form walk a here (syntax.Assign n e) keeps1 = k-assign walk a.names a.level here n e keeps1.level
-k-stmt_form walk a here (syntax.CallStmt n) keeps1 = k-call_stmt walk a.names a.level here n keeps1.level
-k-stmt_form walk a here (syntax.Exit at from e) keeps1 = k-exit_from walk a.names a.level here at from e keeps1.level
-k-stmt_form walk a here (syntax.Return at e) keeps1 = k-return_from walk a.names a.level here at e keeps1.level
-k-stmt_form walk a here (syntax.Raise at p) keeps1 = k-raise_from walk a.names here at p
+k-stmt_form walk a here (syntax.Assign n e) keeps1 = k-assign walk a.names a.level here n e keeps1.names keeps1.level
+k-stmt_form walk a here (syntax.CallStmt n) keeps1 = k-call_stmt walk a.names a.level here n keeps1.names keeps1.level
+k-stmt_form walk a here (syntax.Exit at from e) keeps1 = k-exit_from walk a.names a.level here at from e keeps1.names keeps1.level
+k-stmt_form walk a here (syntax.Return at e) keeps1 = k-return_from walk a.names a.level here at e keeps1.names keeps1.level
+k-stmt_form walk a here (syntax.Raise at p) keeps1 = k-raise_from walk a.names here at p keeps1.names
 k-stmt_form walk a here (syntax.IfStmt at e s more o) keeps1 = k-if_stmt walk a here e s more o keeps1
 k-stmt_form walk a here (syntax.Case at e x xs) keeps1 = k-case_stmt walk a here at e (syntax.AlsoAlt x xs) keeps1
 k-stmt_form walk a here (syntax.Loop label by at s last name) keeps1 = k-loop_stmt walk a here label by s last name keeps1
@@ -258,11 +258,11 @@ k-stmt_form walk a here (syntax.Block d at b) keeps1 = k-block walk a here d b k
 k-stmt_form walk a here (syntax.ParallelBlock at e s t more) keeps1 = k-parallel walk a here at e (syntax.AlsoBranch s (syntax.AlsoBranch t more)) keeps1
 
 
-pub k-stmt : (walk : Walk) (names : Names) (n : ℕ) (here : Context) (s : Stmt) → Keeps walk (stmt names n here s)
+pub k-stmt : (walk : Walk) (names : Names) (n : ℕ) (here : Context) (s : Stmt) → walk.Takes names → Keeps walk (stmt names n here s)
 unfolding stmt
-k-stmt walk names zero here s = k-fault walk (first_token.of_stmt s) (Limit 5 65)
-k-stmt walk names (suc n) here s = k-stmt_form walk (around names n (stmt names n)) here s
-    (record { level = k-level_above walk names (inside names n) (k-inside walk names n); inner = k-inside walk names n; within = λ there t. k-stmt walk names n there t })
+k-stmt walk names zero here s t = k-fault walk (first_token.of_stmt s) (Limit 5 65)
+k-stmt walk names (suc n) here s t = k-stmt_form walk (around names n (stmt names n)) here s
+    (record { names = t; level = k-level_above walk names (inside names n) t (k-inside walk names n t); inner = k-inside walk names n t; within = λ there x. k-stmt walk names n there x t })
 
-pub k-around : (walk : Walk) (names : Names) (n : ℕ) → KeepsAround walk (around names n (stmt names n))
-k-around walk names n = record { level = k-level_above walk names (inside names n) (k-inside walk names n); inner = k-inside walk names n; within = λ there t. k-stmt walk names n there t }
+pub k-around : (walk : Walk) (names : Names) (n : ℕ) → walk.Takes names → KeepsAround walk (around names n (stmt names n))
+k-around walk names n t = record { names = t; level = k-level_above walk names (inside names n) t (k-inside walk names n t); inner = k-inside walk names n t; within = λ there x. k-stmt walk names n there x t }

@@ -15,14 +15,16 @@ use Rattle.name_rules.specs.declared.scope.Context.{Context}
 use Rattle.name_rules.specs.declared.scope.Names.{Names}
 use Rattle.name_rules.specs.declared.types.Scalar.{Scalar}
 
--- a relation of logs that holds of each line that is written, and so of lines one after the other
+-- a relation of logs that holds of each line that is written, and so of lines one after the other, where what is known of
+-- the tokens is as is asked
 pub record Walk : Type 1 where
+  pub Takes : Names → Type 0
   pub R : Log → Log → Type 0
   pub stays : (log : Log) → R log log
   pub joins : (a b c : Log) → R a b → R b c → R a c
   pub breaks : (at : ℕ) (rule : Rule) (log : Log) → R log (breaks at rule log).1
   pub shape : (t : Shape) (log : Log) → R log (written_shape t log).1
-  pub object : (names : Names) (here : Context) (token n cells : ℕ) (constant : Bool) (value : Option ℤ) (log : Log) → R log (object_written names here token n cells constant value log).1
+  pub object : (names : Names) (here : Context) (token n cells : ℕ) (constant : Bool) (value : Option ℤ) → Takes names → (log : Log) → R log (object_written names here token n cells constant value log).1
   pub counted : (token cells : ℕ) (log : Log) → R log (cells_counted token cells log).1
   pub profile : (ts : List Taken) (s : Option Scalar) (log : Log) → R log (written_profile ts s log).1
   pub exception : (token : ℕ) (log : Log) → R log (new_exception token log).1

@@ -11,6 +11,7 @@ pub record KeepsInside (walk : Walk) (level : Inside) : Type 0 where
   pub name : (here : Context) (n : Name) → Keeps walk (level.name here n)
 
 pub record KeepsAround (walk : Walk) (a : Around) : Type 0 where
+  pub names : walk.Takes a.names
   pub level : KeepsInside walk a.level
   pub inner : KeepsInside walk a.inner
   pub within : (here : Context) (s : Stmt) → Keeps walk (a.within here s)
