@@ -22,3 +22,5 @@ pub mod KeepsDeclarations
 pub mod KeepsCases
 pub mod KeepsStatements
 pub mod KeepsPrograms
+pub mod Sides
+pub mod Lying

@@ -1,2 +1,3 @@
 pub mod Hiding
 pub mod OwnNames
+pub mod Cells

@@ -1,4 +1,5 @@
 use Rattle.name_laws.proofs.laws.Goals as goal
+use Rattle.name_laws.proofs.Lying.{cells_law}
 use Rattle.name_laws.proofs.Lookups.{hiding_law}
 use Rattle.name_laws.proofs.Scopes.{scope_law}
 use Rattle.name_laws.proofs.Own.{main_name_law, own_name_law}
@@ -14,3 +15,6 @@ returns-clause-own_name c = own_name_law
 
 pub returns-clause-main_name : goal.returns-clause-main_name
 returns-clause-main_name c = main_name_law
+
+pub returns-clause-cells : goal.returns-clause-cells
+returns-clause-cells c = cells_law
