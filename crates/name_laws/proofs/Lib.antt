@@ -24,3 +24,4 @@ pub mod KeepsStatements
 pub mod KeepsPrograms
 pub mod Sides
 pub mod Lying
+pub mod Numbering

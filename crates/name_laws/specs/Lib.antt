@@ -1,3 +1,4 @@
 pub mod Hiding
 pub mod OwnNames
 pub mod Cells
+pub mod Alike

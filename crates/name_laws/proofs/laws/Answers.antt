@@ -1,6 +1,7 @@
 use Rattle.name_laws.proofs.laws.Goals as goal
 use Rattle.name_laws.proofs.Lying.{cells_law}
 use Rattle.name_laws.proofs.Lookups.{hiding_law}
+use Rattle.name_laws.proofs.Numbering.{symbol_law}
 use Rattle.name_laws.proofs.Scopes.{scope_law}
 use Rattle.name_laws.proofs.Own.{main_name_law, own_name_law}
 
@@ -18,3 +19,6 @@ returns-clause-main_name c = main_name_law
 
 pub returns-clause-cells : goal.returns-clause-cells
 returns-clause-cells c = cells_law
+
+pub returns-clause-symbols : goal.returns-clause-symbols
+returns-clause-symbols c = symbol_law
