@@ -42,7 +42,7 @@ use Rattle.typed_parts.specs.Stack.{turned}
 use Rattle.name_rules.specs.Judging.{◌>>=◌, Judging, both, breaks, clean, fault, given, joined, pure, read, some, unless, where_clean}
 use Rattle.name_rules.specs.Aggregates.{Contents, ByPosition, ByAssociation, contents, run, with_value, aggregate_part, field_run, field_value, fields_value, some_fields, Filling, filling, by_position, has_symbol, without, one_field, named_field, first_of_choice, value_choice, field_choice, field_choices, is_alone, record_assoc, is_final, record_assocs, record_values, record_rest, record_parts, filled, insert, sorted, left_open, count_of, span_run, not_empty, is_within, with_run, runs_of, with_runs, Placing, with_ranges, with_rest, nothing_placed, Component, Choosing', also_chosen, as_rest, array_choice, array_choices, index_scalar, index_what, of_index_type, broken_placing, iterated_given, chosen_given, array_assoc, array_assocs, array_values, array_rest, array_placed, non_empty, covered_alone, covered, dimension_of, no_aggregate, inner_value, inner_aggregate, is_last, component_at, array_at, array_of, composite_at, exprs_alone, optional_alone, assoc_value, assocs_alone, contents_alone, composite_found, rest_found, aggregate}
 use Rattle.name_laws.proofs.Walk.{Walk, Keeps, k-pure, k-some, k-bind, k-fault, k-breaks, k-unless, k-read, k-if, k-given, k-both, k-where_clean, k-clean}
-use Rattle.name_laws.proofs.Walked.{KeepsInside, KeepsAround}
+use Rattle.name_laws.proofs.Walked.{KeepsInside, KeepsAround, WalksProfiles}
 use Rattle.name_laws.proofs.KeepsExpressions.{k-expr, k-judged_alone, k-value_for}
 use Rattle.name_laws.proofs.KeepsParts.{k-new_parameter}
 use Rattle.name_laws.proofs.KeepsRanges.{k-chosen_span, k-chosen_value, k-static_range}

@@ -23,7 +23,7 @@ use Rattle.ada_typed.specs.Decoded.{Part as TypedPart}
 use Rattle.name_rules.specs.Judging.{◌>>=◌, Judging, both, breaks, clean, fault, given, joined, pure, read, some, unless, where_clean}
 use Rattle.name_rules.specs.Cases.{Covering, Choosing, overlaps, with_span, also_mentioned, also_covered, covered_by, as_faulty, maybe_covered, with_others, case_choice, case_choices, int_max, is_open, closed, same_reason, Naming, with_reason, named_once, named_reasons, handled_by}
 use Rattle.name_laws.proofs.Walk.{Walk, Keeps, k-pure, k-some, k-bind, k-fault, k-breaks, k-unless, k-read, k-if, k-given, k-both, k-where_clean, k-clean}
-use Rattle.name_laws.proofs.Walked.{KeepsInside, KeepsAround}
+use Rattle.name_laws.proofs.Walked.{KeepsInside, KeepsAround, WalksProfiles}
 use Rattle.name_laws.proofs.KeepsNames.{k-exception}
 use Rattle.name_laws.proofs.KeepsRanges.{k-chosen_span, k-chosen_value}
 

@@ -36,7 +36,7 @@ use Rattle.ada_typed.specs.Decoded.{Part as TypedPart}
 use Rattle.name_rules.specs.Judging.{◌>>=◌, Judging, both, breaks, clean, fault, given, joined, pure, read, some, unless, where_clean}
 use Rattle.name_rules.specs.Declarations.{all_ids, begun_names, ended_name, indic_range, Indicated, indicated, indic_bounds, indic, Dimensions, also_dimension, dimensions_from, array_written, array_given, array, Building, also_field, without_fields, with_field, with_fields, indicated_mentions, component, components, record_written, record_of, own_type, first_or, static_number, found_mentions, own_type_of, defined, room, first_room, cells_counted, object_written, new_object, static_in, Initial, static_value_of, initial_value, no_initial, initial, valued_constant, with_mentions, with_object, constant_value, Declaring, object_ended, one_object, typed_object, each_object, objects, all_ended, and_mentions, numbers, new_exception, each_exception, and_type, one_type, declaration, declarations}
 use Rattle.name_laws.proofs.Walk.{Walk, Keeps, k-pure, k-some, k-bind, k-fault, k-breaks, k-unless, k-read, k-if, k-given, k-both, k-where_clean, k-clean}
-use Rattle.name_laws.proofs.Walked.{KeepsInside, KeepsAround}
+use Rattle.name_laws.proofs.Walked.{KeepsInside, KeepsAround, WalksProfiles}
 use Rattle.name_laws.proofs.KeepsExpressions.{k-expr, k-judged_alone}
 use Rattle.name_laws.proofs.KeepsRanges.{k-both_static, k-static_range, k-two_bounds}
 use Rattle.name_laws.proofs.KeepsScope.{k-as_scalar, k-free, k-subtype_named}

@@ -38,7 +38,7 @@ use Rattle.ada_typed.specs.Decoded.{Part as TypedPart, as_expr}
 use Rattle.name_rules.specs.Judging.{◌>>=◌, Judging, both, breaks, clean, fault, given, joined, pure, read, some, unless, where_clean}
 use Rattle.name_rules.specs.Expressions.{Inside, factor, multiplying_op, multiplying, multiplied, term_form, term, adding, added, first_wanted, first_term, in_place, simple, comparison_of, blamed, rel, conjoined, joined_rels, short_operand, short_by, short_join, short_operands, short_found, short_form, expr, condition, value_for, judged_alone}
 use Rattle.name_laws.proofs.Walk.{Walk, Keeps, k-pure, k-some, k-bind, k-fault, k-breaks, k-unless, k-read, k-if, k-given, k-both, k-where_clean, k-clean}
-use Rattle.name_laws.proofs.Walked.{KeepsInside, KeepsAround}
+use Rattle.name_laws.proofs.Walked.{KeepsInside, KeepsAround, WalksProfiles}
 use Rattle.name_laws.proofs.KeepsOperators.{k-binary, k-compared, k-joined_text, k-logical, k-membership, k-not_of, k-of_subtype, k-plain, k-power, k-unary}
 use Rattle.name_laws.proofs.KeepsScope.{k-scalar_named}
 use Rattle.name_laws.proofs.KeepsValues.{k-asked, k-stored}

@@ -43,7 +43,7 @@ use Rattle.ada_typed.specs.Decoded.{Part as TypedPart, as_expr, as_optional, as_
 use Rattle.name_rules.specs.Judging.{◌>>=◌, Judging, both, breaks, clean, fault, given, joined, pure, read, some, unless, where_clean}
 use Rattle.name_rules.specs.Iterations.{parameter_what, check_of, Chunked, counted, each_chunk, chunk_count, chunked_by, Walked, range_made, with_filter, filtered, item_what, array_walked, no_array, over_place, over_form, over_denoted, walked, with_chunk, with_walked, filter_where, thread_owner, Entered, in_construct, entered_with, parallel_at, entered, is_reduce, reverse_rule, is_reduce_rule, only_reduce_rules, sequence_given, sequence_folded, sequence_rules, sequence}
 use Rattle.name_laws.proofs.Walk.{Walk, Keeps, k-pure, k-some, k-bind, k-fault, k-breaks, k-unless, k-read, k-if, k-given, k-both, k-where_clean, k-clean}
-use Rattle.name_laws.proofs.Walked.{KeepsInside, KeepsAround}
+use Rattle.name_laws.proofs.Walked.{KeepsInside, KeepsAround, WalksProfiles}
 use Rattle.name_laws.proofs.KeepsExpressions.{k-condition, k-expr, k-simple}
 use Rattle.name_laws.proofs.KeepsParts.{k-new_parameter, k-new_site}
 use Rattle.name_laws.proofs.KeepsRanges.{k-range}

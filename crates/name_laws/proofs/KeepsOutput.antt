@@ -35,7 +35,7 @@ use Rattle.typed_parts.specs.Stack.{turned}
 use Rattle.name_rules.specs.Judging.{◌>>=◌, Judging, both, breaks, clean, fault, given, joined, pure, read, some, unless, where_clean}
 use Rattle.name_rules.specs.Output.{done_by, no_name, text_only, others_alone, alone_given, put_text, text_call, in_width, width_of, Putting, item_of, with_width, width_argument, with_count, put_argument, put_arguments, put_number, width_or, put_complete, text_known, is_text, is_number_put, nothing_put, judged_arguments, put_of_text, get_place, get_of, put_by, by_procedure, without_arguments, io_call}
 use Rattle.name_laws.proofs.Walk.{Walk, Keeps, k-pure, k-some, k-bind, k-fault, k-breaks, k-unless, k-read, k-if, k-given, k-both, k-where_clean, k-clean}
-use Rattle.name_laws.proofs.Walked.{KeepsInside, KeepsAround}
+use Rattle.name_laws.proofs.Walked.{KeepsInside, KeepsAround, WalksProfiles}
 use Rattle.name_laws.proofs.KeepsExpressions.{k-expr, k-judged_alone}
 use Rattle.name_laws.proofs.KeepsValues.{k-asked, k-static_of_kind}
 

@@ -38,7 +38,7 @@ use Rattle.ada_typed.specs.Decoded.{Part as TypedPart}
 use Rattle.name_rules.specs.Judging.{◌>>=◌, Judging, both, breaks, clean, fault, given, joined, pure, read, some, unless, where_clean}
 use Rattle.name_rules.specs.Parts.{new_parameter, new_site, site_where, array_shape, through, is_parallel, item_subtype, item_found, array_reduction, wrong_arguments, array_reduced, reduced_with, of_array, other_with, attribute_with, call_form, call, part_of, part_alone, next_part, parts, name, valued_form, valued_by, value_form, value_named}
 use Rattle.name_laws.proofs.Walk.{Walk, Keeps, k-pure, k-some, k-bind, k-fault, k-breaks, k-unless, k-read, k-if, k-given, k-both, k-where_clean, k-clean}
-use Rattle.name_laws.proofs.Walked.{KeepsInside, KeepsAround}
+use Rattle.name_laws.proofs.Walked.{KeepsInside, KeepsAround, WalksProfiles}
 use Rattle.name_laws.proofs.KeepsAttributes.{k-attribute_found, k-bound_with, k-scalar_with, k-settled_attribute}
 use Rattle.name_laws.proofs.KeepsCalls.{k-conversion, k-sub_call}
 use Rattle.name_laws.proofs.KeepsExpressions.{k-expr}

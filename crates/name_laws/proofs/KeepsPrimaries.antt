@@ -33,7 +33,7 @@ use Rattle.ada_typed.specs.Decoded.{Part as TypedPart, as_expr}
 use Rattle.name_rules.specs.Judging.{◌>>=◌, Judging, both, breaks, clean, fault, given, joined, pure, read, some, unless, where_clean}
 use Rattle.name_rules.specs.Primaries.{number_of_composite, composite_in, Waiting, also_waiting, also_choice, alternative, alternatives, common, first_some, common_composite, if_part, with_known, scalar_ifs, scalar_if, composite_part, composite_ifs, composite_if, open_part, open_ifs, open_if, conditional, no_text, if_expr, grouped_scalar, grouped_form, grouped, target_found, target_at, text_at, primary, level_above, too_deep, deep, inside}
 use Rattle.name_laws.proofs.Walk.{Walk, Keeps, k-pure, k-some, k-bind, k-fault, k-breaks, k-unless, k-read, k-if, k-given, k-both, k-where_clean, k-clean}
-use Rattle.name_laws.proofs.Walked.{KeepsInside, KeepsAround}
+use Rattle.name_laws.proofs.Walked.{KeepsInside, KeepsAround, WalksProfiles}
 use Rattle.name_laws.proofs.KeepsAggregates.{k-aggregate}
 use Rattle.name_laws.proofs.KeepsExpressions.{k-condition, k-expr, k-in_place}
 use Rattle.name_laws.proofs.KeepsIterations.{k-sequence}

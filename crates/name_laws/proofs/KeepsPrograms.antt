@@ -41,7 +41,7 @@ use Rattle.ada_typed.specs.Decoded.{Part as TypedPart, as_body}
 use Rattle.name_rules.specs.Judging.{◌>>=◌, Judging, both, breaks, clean, fault, given, joined, pure, read, some, unless, where_clean}
 use Rattle.name_rules.specs.Programs.{policy_named, policy, pack_end, pack, has, with_package, withed_by, clause_name, clause_packs, clauses, boolean_place, not_zero, aspect_denoted, known_of, aspect_value, aspect, end_name, mode_of, mode_rule, is_constant, formal_entry, one_formal, also_taken_by, each_formal, formal, formals_from, formals, written_profile, result_named, returns_of, Profiled, is_function, taken_or, gives_or, profile_where, behind, next_owner, profile, typed_formal, typed_sub, level_of, sub_where, with_body, returned_body, result_value, with_value_of, subprogram, Declared', also_sub, unit_of, units, Whole, whole, main, outermost, program}
 use Rattle.name_laws.proofs.Walk.{Walk, Keeps, k-pure, k-some, k-bind, k-fault, k-breaks, k-unless, k-read, k-if, k-given, k-both, k-where_clean, k-clean}
-use Rattle.name_laws.proofs.Walked.{KeepsInside, KeepsAround}
+use Rattle.name_laws.proofs.Walked.{KeepsInside, KeepsAround, WalksProfiles}
 use Rattle.name_laws.proofs.KeepsDeclarations.{k-begun_names, k-cells_counted, k-declaration, k-declarations, k-new_object}
 use Rattle.name_laws.proofs.KeepsExpressions.{k-judged_alone, k-value_for}
 use Rattle.name_laws.proofs.KeepsPrimaries.{k-inside, k-level_above}
@@ -122,24 +122,24 @@ pub k-formals : (walk : Walk) (x0 : Names) (x1 : Bool) (x2 : Context) (x3 : Opti
 k-formals walk names function here None keeps1 = k-pure walk (here, Some [])
 k-formals walk names function here (Some f) keeps1 = k-formals_from walk names function (length here.scope) here (Some []) (f.first ∷ f.more) keeps1
 
-pub k-written_profile : (walk : Walk) (ts : List Taken) (s : Option Scalar) → Keeps walk (written_profile ts s)
-k-written_profile walk ts s = record { at = walk.profile ts s }
+pub k-written_profile : (walk : Walk) (ts : List Taken) (s : Option Scalar) → WalksProfiles walk → Keeps walk (written_profile ts s)
+k-written_profile walk ts s profiles = record { at = profiles.profile ts s }
 
 pub k-result_named : (walk : Walk) (x0 : Names) (x1 : Context) (x2 : Option ℕ) → walk.Takes x0 → Keeps walk (result_named x0 x1 x2)
 k-result_named walk names here None keeps1 = k-some walk None
 k-result_named walk names here (Some mark) keeps1 = k-bind walk (scalar_named names here mark) (λ s. given s (λ t. some (Some t))) (k-scalar_named walk names here mark keeps1) (λ s. k-given walk s (λ t. some (Some t)) (λ t. k-some walk (Some t)))
 
-pub k-profile_where : (walk : Walk) (x0 : Names) (x1 : Context) (x2 : ℕ) (x3 : Option ℕ) (x4 : Option (List Taken)) (x5 : Option (Option Scalar)) → walk.Takes x0 → Keeps walk (profile_where x0 x1 x2 x3 x4 x5)
-k-profile_where walk names here name (Some f) (Some ts) (Some r) keeps1 = k-bind walk (written_profile ts r) (λ n. pure (Some n, declared names here name (Some (what.Sub n)))) (k-written_profile walk ts r) (λ n. k-pure walk (Some n, declared names here name (Some (what.Sub n))))
-k-profile_where walk names here name (Some f) ts r keeps1 = k-pure walk (None, declared names here name None)
-k-profile_where walk names here name None ts r keeps1 = k-pure walk (None, here)
+pub k-profile_where : (walk : Walk) (x0 : Names) (x1 : Context) (x2 : ℕ) (x3 : Option ℕ) (x4 : Option (List Taken)) (x5 : Option (Option Scalar)) → walk.Takes x0 → WalksProfiles walk → Keeps walk (profile_where x0 x1 x2 x3 x4 x5)
+k-profile_where walk names here name (Some f) (Some ts) (Some r) keeps1 profiles = k-bind walk (written_profile ts r) (λ n. pure (Some n, declared names here name (Some (what.Sub n)))) (k-written_profile walk ts r profiles) (λ n. k-pure walk (Some n, declared names here name (Some (what.Sub n))))
+k-profile_where walk names here name (Some f) ts r keeps1 profiles = k-pure walk (None, declared names here name None)
+k-profile_where walk names here name None ts r keeps1 profiles = k-pure walk (None, here)
 
 pub k-next_owner : (walk : Walk) → Keeps walk (next_owner )
 k-next_owner walk  = k-read walk (λ log. length log.profiles + 1)
 
-pub k-profile : (walk : Walk) (x0 : Names) (x1 : ℕ) (x2 : Context) (x3 : ℕ) (x4 : Option ℕ) (x5 : Option Formals) → walk.Takes x0 → Keeps walk (profile x0 x1 x2 x3 x4 x5)
+pub k-profile : (walk : Walk) (x0 : Names) (x1 : ℕ) (x2 : Context) (x3 : ℕ) (x4 : Option ℕ) (x5 : Option Formals) → walk.Takes x0 → WalksProfiles walk → Keeps walk (profile x0 x1 x2 x3 x4 x5)
 unfolding profile
-k-profile walk names start here name result fs keeps1 = k-bind walk ((next_owner)) (λ owner. (formals names (is_function result) (record here { owner = owner }) fs) >>= λ f. (result_named names f.0 result) >>= λ r. (free names start here name) >>= λ one. (profile_where names here name one f.1 r) >>= λ p. pure (record { outer = p.1; inner = behind p.1 (length here.scope) f.0 owner (returns_of result r); number = p.0; takes = taken_or f.1; gives = gives_or r })) (k-next_owner walk ) (λ owner. k-bind walk ((formals names (is_function result) (record here { owner = owner }) fs)) (λ f. (result_named names f.0 result) >>= λ r. (free names start here name) >>= λ one. (profile_where names here name one f.1 r) >>= λ p. pure (record { outer = p.1; inner = behind p.1 (length here.scope) f.0 owner (returns_of result r); number = p.0; takes = taken_or f.1; gives = gives_or r })) (k-formals walk names (is_function result) (record here { owner = owner }) fs keeps1) (λ f. k-bind walk ((result_named names f.0 result)) (λ r. (free names start here name) >>= λ one. (profile_where names here name one f.1 r) >>= λ p. pure (record { outer = p.1; inner = behind p.1 (length here.scope) f.0 owner (returns_of result r); number = p.0; takes = taken_or f.1; gives = gives_or r })) (k-result_named walk names f.0 result keeps1) (λ r. k-bind walk ((free names start here name)) (λ one. (profile_where names here name one f.1 r) >>= λ p. pure (record { outer = p.1; inner = behind p.1 (length here.scope) f.0 owner (returns_of result r); number = p.0; takes = taken_or f.1; gives = gives_or r })) (k-free walk names start here name keeps1) (λ one. k-bind walk ((profile_where names here name one f.1 r)) (λ p. pure (record { outer = p.1; inner = behind p.1 (length here.scope) f.0 owner (returns_of result r); number = p.0; takes = taken_or f.1; gives = gives_or r })) (k-profile_where walk names here name one f.1 r keeps1) (λ p. k-pure walk (record { outer = p.1; inner = behind p.1 (length here.scope) f.0 owner (returns_of result r); number = p.0; takes = taken_or f.1; gives = gives_or r }))))))
+k-profile walk names start here name result fs keeps1 profiles = k-bind walk ((next_owner)) (λ owner. (formals names (is_function result) (record here { owner = owner }) fs) >>= λ f. (result_named names f.0 result) >>= λ r. (free names start here name) >>= λ one. (profile_where names here name one f.1 r) >>= λ p. pure (record { outer = p.1; inner = behind p.1 (length here.scope) f.0 owner (returns_of result r); number = p.0; takes = taken_or f.1; gives = gives_or r })) (k-next_owner walk ) (λ owner. k-bind walk ((formals names (is_function result) (record here { owner = owner }) fs)) (λ f. (result_named names f.0 result) >>= λ r. (free names start here name) >>= λ one. (profile_where names here name one f.1 r) >>= λ p. pure (record { outer = p.1; inner = behind p.1 (length here.scope) f.0 owner (returns_of result r); number = p.0; takes = taken_or f.1; gives = gives_or r })) (k-formals walk names (is_function result) (record here { owner = owner }) fs keeps1) (λ f. k-bind walk ((result_named names f.0 result)) (λ r. (free names start here name) >>= λ one. (profile_where names here name one f.1 r) >>= λ p. pure (record { outer = p.1; inner = behind p.1 (length here.scope) f.0 owner (returns_of result r); number = p.0; takes = taken_or f.1; gives = gives_or r })) (k-result_named walk names f.0 result keeps1) (λ r. k-bind walk ((free names start here name)) (λ one. (profile_where names here name one f.1 r) >>= λ p. pure (record { outer = p.1; inner = behind p.1 (length here.scope) f.0 owner (returns_of result r); number = p.0; takes = taken_or f.1; gives = gives_or r })) (k-free walk names start here name keeps1) (λ one. k-bind walk ((profile_where names here name one f.1 r)) (λ p. pure (record { outer = p.1; inner = behind p.1 (length here.scope) f.0 owner (returns_of result r); number = p.0; takes = taken_or f.1; gives = gives_or r })) (k-profile_where walk names here name one f.1 r keeps1 profiles) (λ p. k-pure walk (record { outer = p.1; inner = behind p.1 (length here.scope) f.0 owner (returns_of result r); number = p.0; takes = taken_or f.1; gives = gives_or r }))))))
 
 pub k-level_of : (walk : Walk) (names : Names) (n : ℕ) → walk.Takes names → KeepsInside walk (level_of names n)
 k-level_of walk names n t = k-level_above walk names (inside names n) t (k-inside walk names n t)
@@ -156,24 +156,24 @@ pub k-with_value_of : (walk : Walk) (x0 : Names) (x1 : ℕ) (x2 : Bool) (x3 : Pr
 unfolding with_value_of
 k-with_value_of walk names n blocking p a e keeps1 = k-bind walk ((aspect names p.inner blocking a)) (λ z. (result_value names (inside names n) p.inner e p.inner.returns) >>= λ v. pure (joined (sub_where p z) p.number (option_map returned_body v))) (k-aspect walk names p.inner blocking a keeps1) (λ z. k-bind walk ((result_value names (inside names n) p.inner e p.inner.returns)) (λ v. pure (joined (sub_where p z) p.number (option_map returned_body v))) (k-result_value walk names (inside names n) p.inner e p.inner.returns keeps1 (k-inside walk names n keeps1)) (λ v. k-pure walk (joined (sub_where p z) p.number (option_map returned_body v))))
 
-pub k-subprogram : (walk : Walk) (x0 : Names) (x1 : ℕ) (x2 : Bool) (x3 : ℕ) (x4 : Context) (x5 : Sub) → walk.Takes x0 → Keeps walk (subprogram x0 x1 x2 x3 x4 x5)
+pub k-subprogram : (walk : Walk) (x0 : Names) (x1 : ℕ) (x2 : Bool) (x3 : ℕ) (x4 : Context) (x5 : Sub) → walk.Takes x0 → WalksProfiles walk → Keeps walk (subprogram x0 x1 x2 x3 x4 x5)
 unfolding subprogram
-k-subprogram walk names n blocking start here (syntax.Procedure at name fs a ds b last) keeps1 = k-bind walk (profile names start here name None fs) (λ p. with_body names n blocking name p a ds b last >>= λ s. pure (p.outer, s)) (k-profile walk names start here name None fs keeps1) (λ p. k-bind walk (with_body names n blocking name p a ds b last) (λ s. pure (p.outer, s)) (k-with_body walk names n blocking name p a ds b last keeps1) (λ s. k-pure walk (p.outer, s)))
-k-subprogram walk names n blocking start here (syntax.Function at name fs result a ds b last) keeps1 = k-bind walk (profile names start here name (Some result) fs) (λ p. with_body names n blocking name p a ds b last >>= λ s. pure (p.outer, s)) (k-profile walk names start here name (Some result) fs keeps1) (λ p. k-bind walk (with_body names n blocking name p a ds b last) (λ s. pure (p.outer, s)) (k-with_body walk names n blocking name p a ds b last keeps1) (λ s. k-pure walk (p.outer, s)))
-k-subprogram walk names n blocking start here (syntax.ExprFunction at name fs result bracket e a) keeps1 = k-bind walk (profile names start here name (Some result) fs) (λ p. with_value_of names n blocking p a e >>= λ s. pure (p.outer, s)) (k-profile walk names start here name (Some result) fs keeps1) (λ p. k-bind walk (with_value_of names n blocking p a e) (λ s. pure (p.outer, s)) (k-with_value_of walk names n blocking p a e keeps1) (λ s. k-pure walk (p.outer, s)))
+k-subprogram walk names n blocking start here (syntax.Procedure at name fs a ds b last) keeps1 profiles = k-bind walk (profile names start here name None fs) (λ p. with_body names n blocking name p a ds b last >>= λ s. pure (p.outer, s)) (k-profile walk names start here name None fs keeps1 profiles) (λ p. k-bind walk (with_body names n blocking name p a ds b last) (λ s. pure (p.outer, s)) (k-with_body walk names n blocking name p a ds b last keeps1) (λ s. k-pure walk (p.outer, s)))
+k-subprogram walk names n blocking start here (syntax.Function at name fs result a ds b last) keeps1 profiles = k-bind walk (profile names start here name (Some result) fs) (λ p. with_body names n blocking name p a ds b last >>= λ s. pure (p.outer, s)) (k-profile walk names start here name (Some result) fs keeps1 profiles) (λ p. k-bind walk (with_body names n blocking name p a ds b last) (λ s. pure (p.outer, s)) (k-with_body walk names n blocking name p a ds b last keeps1) (λ s. k-pure walk (p.outer, s)))
+k-subprogram walk names n blocking start here (syntax.ExprFunction at name fs result bracket e a) keeps1 profiles = k-bind walk (profile names start here name (Some result) fs) (λ p. with_value_of names n blocking p a e >>= λ s. pure (p.outer, s)) (k-profile walk names start here name (Some result) fs keeps1 profiles) (λ p. k-bind walk (with_value_of names n blocking p a e) (λ s. pure (p.outer, s)) (k-with_value_of walk names n blocking p a e keeps1) (λ s. k-pure walk (p.outer, s)))
 
-pub k-unit_of : (walk : Walk) (x0 : Names) (x1 : ℕ) (x2 : Bool) (x3 : ℕ) (x4 : Declared') (x5 : Unit') → walk.Takes x0 → Keeps walk (unit_of x0 x1 x2 x3 x4 x5)
-k-unit_of walk names n blocking start d (syntax.DeclUnit x) keeps1 = k-bind walk (declaration names (level_of names n) start d.here d.decls x) (λ r. pure (record { here = r.0; decls = r.1; subs = d.subs })) (k-declaration walk names (level_of names n) start d.here d.decls x keeps1 (k-level_of walk names n keeps1)) (λ r. k-pure walk (record { here = r.0; decls = r.1; subs = d.subs }))
-k-unit_of walk names n blocking start d (syntax.SubUnit s) keeps1 = k-bind walk (subprogram names (n - 1) blocking start d.here s) (λ r. pure (record { here = r.0; decls = d.decls; subs = joined also_sub d.subs r.1 })) (k-subprogram walk names (n - 1) blocking start d.here s keeps1) (λ r. k-pure walk (record { here = r.0; decls = d.decls; subs = joined also_sub d.subs r.1 }))
+pub k-unit_of : (walk : Walk) (x0 : Names) (x1 : ℕ) (x2 : Bool) (x3 : ℕ) (x4 : Declared') (x5 : Unit') → walk.Takes x0 → WalksProfiles walk → Keeps walk (unit_of x0 x1 x2 x3 x4 x5)
+k-unit_of walk names n blocking start d (syntax.DeclUnit x) keeps1 profiles = k-bind walk (declaration names (level_of names n) start d.here d.decls x) (λ r. pure (record { here = r.0; decls = r.1; subs = d.subs })) (k-declaration walk names (level_of names n) start d.here d.decls x keeps1 (k-level_of walk names n keeps1)) (λ r. k-pure walk (record { here = r.0; decls = r.1; subs = d.subs }))
+k-unit_of walk names n blocking start d (syntax.SubUnit s) keeps1 profiles = k-bind walk (subprogram names (n - 1) blocking start d.here s) (λ r. pure (record { here = r.0; decls = d.decls; subs = joined also_sub d.subs r.1 })) (k-subprogram walk names (n - 1) blocking start d.here s keeps1 profiles) (λ r. k-pure walk (record { here = r.0; decls = d.decls; subs = joined also_sub d.subs r.1 }))
 
-pub k-units : (walk : Walk) (x0 : Names) (x1 : ℕ) (x2 : Bool) (x3 : ℕ) (x4 : Declared') (x5 : List Unit') → walk.Takes x0 → Keeps walk (units x0 x1 x2 x3 x4 x5)
-k-units walk names n blocking start d [] keeps1 = k-pure walk d
-k-units walk names n blocking start d (u ∷ us) keeps1 = k-bind walk (unit_of names n blocking start d u) (λ e. units names n blocking start e us) (k-unit_of walk names n blocking start d u keeps1) (λ e. k-units walk names n blocking start e us keeps1)
+pub k-units : (walk : Walk) (x0 : Names) (x1 : ℕ) (x2 : Bool) (x3 : ℕ) (x4 : Declared') (x5 : List Unit') → walk.Takes x0 → WalksProfiles walk → Keeps walk (units x0 x1 x2 x3 x4 x5)
+k-units walk names n blocking start d [] keeps1 profiles = k-pure walk d
+k-units walk names n blocking start d (u ∷ us) keeps1 profiles = k-bind walk (unit_of names n blocking start d u) (λ e. units names n blocking start e us) (k-unit_of walk names n blocking start d u keeps1 profiles) (λ e. k-units walk names n blocking start e us keeps1 profiles)
 
-pub k-main : (walk : Walk) (x0 : Names) (x1 : ℕ) (x2 : Context) (x3 : Main) (x4 : Bool) → walk.Takes x0 → Keeps walk (main x0 x1 x2 x3 x4)
+pub k-main : (walk : Walk) (x0 : Names) (x1 : ℕ) (x2 : Context) (x3 : Main) (x4 : Bool) → walk.Takes x0 → WalksProfiles walk → Keeps walk (main x0 x1 x2 x3 x4)
 unfolding main
-k-main walk names n here m s keeps1 = k-bind walk ((aspect names here false m.aspect)) (λ z. (units names n z (length here.scope) (record { here = here; decls = Some no_decls; subs = Some [] }) m.units) >>= λ d. (body (around names n (stmt names n)) d.here d.decls m.body) >>= λ b. (end_name names m.defined m.last_name) >>= λ u. pure (joined (whole z s) b d.subs)) (k-aspect walk names here false m.aspect keeps1) (λ z. k-bind walk ((units names n z (length here.scope) (record { here = here; decls = Some no_decls; subs = Some [] }) m.units)) (λ d. (body (around names n (stmt names n)) d.here d.decls m.body) >>= λ b. (end_name names m.defined m.last_name) >>= λ u. pure (joined (whole z s) b d.subs)) (k-units walk names n z (length here.scope) (record { here = here; decls = Some no_decls; subs = Some [] }) m.units keeps1) (λ d. k-bind walk ((body (around names n (stmt names n)) d.here d.decls m.body)) (λ b. (end_name names m.defined m.last_name) >>= λ u. pure (joined (whole z s) b d.subs)) (k-body walk (around names n (stmt names n)) d.here d.decls m.body (k-around walk names n keeps1)) (λ b. k-bind walk ((end_name names m.defined m.last_name)) (λ u. pure (joined (whole z s) b d.subs)) (k-end_name walk names m.defined m.last_name keeps1) (λ u. k-pure walk (joined (whole z s) b d.subs)))))
+k-main walk names n here m s keeps1 profiles = k-bind walk ((aspect names here false m.aspect)) (λ z. (units names n z (length here.scope) (record { here = here; decls = Some no_decls; subs = Some [] }) m.units) >>= λ d. (body (around names n (stmt names n)) d.here d.decls m.body) >>= λ b. (end_name names m.defined m.last_name) >>= λ u. pure (joined (whole z s) b d.subs)) (k-aspect walk names here false m.aspect keeps1) (λ z. k-bind walk ((units names n z (length here.scope) (record { here = here; decls = Some no_decls; subs = Some [] }) m.units)) (λ d. (body (around names n (stmt names n)) d.here d.decls m.body) >>= λ b. (end_name names m.defined m.last_name) >>= λ u. pure (joined (whole z s) b d.subs)) (k-units walk names n z (length here.scope) (record { here = here; decls = Some no_decls; subs = Some [] }) m.units keeps1 profiles) (λ d. k-bind walk ((body (around names n (stmt names n)) d.here d.decls m.body)) (λ b. (end_name names m.defined m.last_name) >>= λ u. pure (joined (whole z s) b d.subs)) (k-body walk (around names n (stmt names n)) d.here d.decls m.body (k-around walk names n keeps1)) (λ b. k-bind walk ((end_name names m.defined m.last_name)) (λ u. pure (joined (whole z s) b d.subs)) (k-end_name walk names m.defined m.last_name keeps1) (λ u. k-pure walk (joined (whole z s) b d.subs)))))
 
-pub k-program : (walk : Walk) (x0 : Names) (x1 : ℕ) (x2 : Program) → walk.Takes x0 → Keeps walk (program x0 x1 x2)
+pub k-program : (walk : Walk) (x0 : Names) (x1 : ℕ) (x2 : Program) → walk.Takes x0 → WalksProfiles walk → Keeps walk (program x0 x1 x2)
 unfolding program
-k-program walk names n t keeps1 = k-bind walk ((policy names t.policy)) (λ s. (clauses names outermost t.clauses) >>= λ here. main names n here t.main s) (k-policy walk names t.policy keeps1) (λ s. k-bind walk ((clauses names outermost t.clauses)) (λ here. main names n here t.main s) (k-clauses walk names outermost t.clauses keeps1) (λ here. k-main walk names n here t.main s keeps1))
+k-program walk names n t keeps1 profiles = k-bind walk ((policy names t.policy)) (λ s. (clauses names outermost t.clauses) >>= λ here. main names n here t.main s) (k-policy walk names t.policy keeps1) (λ s. k-bind walk ((clauses names outermost t.clauses)) (λ here. main names n here t.main s) (k-clauses walk names outermost t.clauses keeps1) (λ here. k-main walk names n here t.main s keeps1 profiles))

@@ -28,7 +28,7 @@ use Rattle.ada_typed.specs.Decoded.{Part as TypedPart}
 use Rattle.name_rules.specs.Judging.{◌>>=◌, Judging, both, breaks, clean, fault, given, joined, pure, read, some, unless, where_clean}
 use Rattle.name_rules.specs.Ranges.{two_bounds, range_part, bounds_of, of_one_type, narrowed, bounded_by, own_range, own_bounds, checked_range, whole_range, named_range, scalar_type, range, Static, both_static, dimension, of_static, spanned, inside_subtype, checked_span, preferred_or, preferred, static_by, static_bounds, static_scalar, static_name, static_checked, static_range, Span', Chosen, one_value, two_values, values_of, range_values, chosen_value, chosen_span}
 use Rattle.name_laws.proofs.Walk.{Walk, Keeps, k-pure, k-some, k-bind, k-fault, k-breaks, k-unless, k-read, k-if, k-given, k-both, k-where_clean, k-clean}
-use Rattle.name_laws.proofs.Walked.{KeepsInside, KeepsAround}
+use Rattle.name_laws.proofs.Walked.{KeepsInside, KeepsAround, WalksProfiles}
 use Rattle.name_laws.proofs.KeepsExpressions.{k-simple}
 use Rattle.name_laws.proofs.KeepsValues.{k-asked, k-static_of_kind, k-static_value}
 

@@ -39,7 +39,7 @@ use Rattle.ada_typed.specs.Decoded.{Part as TypedPart, as_expr, as_iteration, as
 use Rattle.name_rules.specs.Judging.{◌>>=◌, Judging, both, breaks, clean, fault, given, joined, pure, read, some, unless, where_clean}
 use Rattle.name_rules.specs.Reducers.{operators, operator_named, operator_reducer, extreme_of, function_given, function_of, no_reducer, extreme_name, attribute_reducer, name_reducer, reducer_by, reducer_of, reduction, reduced, open_reduction, is_logical, of_kind, numeric, by_operator, by_subtypes, by_function, folded_by}
 use Rattle.name_laws.proofs.Walk.{Walk, Keeps, k-pure, k-some, k-bind, k-fault, k-breaks, k-unless, k-read, k-if, k-given, k-both, k-where_clean, k-clean}
-use Rattle.name_laws.proofs.Walked.{KeepsInside, KeepsAround}
+use Rattle.name_laws.proofs.Walked.{KeepsInside, KeepsAround, WalksProfiles}
 use Rattle.name_laws.proofs.KeepsExpressions.{k-judged_alone}
 use Rattle.name_laws.proofs.KeepsScope.{k-stands_for}
 use Rattle.name_laws.proofs.KeepsValues.{k-asked}

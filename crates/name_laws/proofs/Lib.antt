@@ -1,6 +1,5 @@
 pub mod Lookups
 pub mod Scopes
-pub mod Own
 pub mod Walk
 pub mod Walked
 pub mod KeepsScope
@@ -25,3 +24,5 @@ pub mod KeepsPrograms
 pub mod Sides
 pub mod Lying
 pub mod Numbering
+pub mod Places
+pub mod Own

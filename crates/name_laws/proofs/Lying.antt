@@ -72,7 +72,6 @@ lying subs = record {
   object = λ names here token n cells constant value e log h.
       lies-on log.objects (first_cell subs) _ h (ap (λ f. room f here.owner log.objects) (first-cells names subs here.owner e));
   counted = λ token cells log h. subst (LieFrom (first_cell subs)) (sym (counted-objects token cells log)) h;
-  profile = λ ts s log h. h;
   exception = λ token log h. h;
   site = λ here at k log h. h;
   parameter = λ log h. h;
@@ -81,7 +80,7 @@ lying subs = record {
 
 all-lie : (names : Names) (text : Program) (subs : ℕ) → names.subs ≡ subs → LieFrom (first_cell subs) (judged names text).1.objects
 unfolding judged lying
-all-lie names text subs e = (k-program (lying subs) names depth_limit text e).at fresh tt
+all-lie names text subs e = (k-program (lying subs) names depth_limit text e (record { profile = λ ts s log h. h })).at fresh tt
 
 -- ---- as many subprograms as the text has
 

@@ -24,6 +24,7 @@ use Rattle.name_rules.specs.declared.scope.What.TheVariants as what
 use Rattle.name_rules.specs.declared.types.Scalar.{Scalar}
 use Rattle.name_rules.specs.declared.types.Subtype.{Subtype}
 use Rattle.name_laws.proofs.Lookups.{lookup-last, lookup-other, lookup-passed, none-found, stands-as}
+use Rattle.name_laws.proofs.Places.{own-number, places}
 use Rattle.name_laws.proofs.Scopes.{AddsWhere, AreOthers, IsOther, adds-ended, adds-entry, adds-less, adds-none, adds-then, all-declarations, begun-all, adds-begun, named-left, named-right, one-declaration}
 use Rattle.name_laws.specs.Hiding.{HasNone, IsLast, NoneNamed, all_declared, declares}
 use Rattle.name_laws.specs.OwnNames.{MainNameLaw, OwnNameLaw, around_body, around_main, around_units, formal_names, formals_named, sub_name, unit_names, units_names}
@@ -137,6 +138,8 @@ visible names start here name result fs log n e level place made ds later h k =
 
 pub own_name_law : OwnNameLaw
 own_name_law = record {
+  number = own-number;
+  places = places;
   declared = λ names start here name result fs log n e. own-last names name n here _ (outer-own names start here name result fs log n e);
   visible = λ names start here name result fs log n e level place made ds later h k token same.
       stands-as names _ token (Some (what.Sub n)) (ap (λ s. lookup s (around_body names level place (p.profile names start here name result fs log).0 made ds later).scope) same ∙ visible names start here name result fs log n e level place made ds later h k);

@@ -4,16 +4,13 @@ use Rattle.ada_typed.specs.declared.program.SiteKind.{SiteKind}
 use Rattle.name_rules.specs.Declarations.{cells_counted, new_exception, object_written}
 use Rattle.name_rules.specs.Judging.{Judging, ◌>>=◌, pure, read, breaks, fault, unless, given, both, some, clean, where_clean}
 use Rattle.name_rules.specs.Parts.{new_parameter, new_site}
-use Rattle.name_rules.specs.Programs.{written_profile}
 use Rattle.name_rules.specs.Statements.{new_loop}
 use Rattle.name_rules.specs.Types.{written_shape}
 use Rattle.name_rules.specs.declared.log.Log.{Log}
 use Rattle.name_rules.specs.declared.log.Rule.{Rule}
 use Rattle.name_rules.specs.declared.log.Shape.{Shape}
-use Rattle.name_rules.specs.declared.log.Taken.{Taken}
 use Rattle.name_rules.specs.declared.scope.Context.{Context}
 use Rattle.name_rules.specs.declared.scope.Names.{Names}
-use Rattle.name_rules.specs.declared.types.Scalar.{Scalar}
 
 -- a relation of logs that holds of each line that is written, and so of lines one after the other, where what is known of
 -- the tokens is as is asked
@@ -26,7 +23,6 @@ pub record Walk : Type 1 where
   pub shape : (t : Shape) (log : Log) → R log (written_shape t log).1
   pub object : (names : Names) (here : Context) (token n cells : ℕ) (constant : Bool) (value : Option ℤ) → Takes names → (log : Log) → R log (object_written names here token n cells constant value log).1
   pub counted : (token cells : ℕ) (log : Log) → R log (cells_counted token cells log).1
-  pub profile : (ts : List Taken) (s : Option Scalar) (log : Log) → R log (written_profile ts s log).1
   pub exception : (token : ℕ) (log : Log) → R log (new_exception token log).1
   pub site : (here : Context) (at : ℕ) (k : SiteKind) (log : Log) → R log (new_site here at k log).1
   pub parameter : (log : Log) → R log (new_parameter log).1

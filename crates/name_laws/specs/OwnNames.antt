@@ -1,7 +1,7 @@
 -- Whose own name is visible where: a subprogram's is in its body (6.1, 8.2), the main procedure's isn't.
 use Rattle.name_rules.specs.Declarations.{all_ids, declarations}
 use Rattle.name_rules.specs.Expressions.{Inside}
-use Rattle.name_rules.specs.Programs.{Profiled, clauses, main, outermost, profile, units}
+use Rattle.name_rules.specs.Programs.{Declared', Profiled, clauses, main, outermost, profile, units}
 use Rattle.name_rules.specs.Scope.{named, standard, stands_for, undeclared}
 use Rattle.name_rules.specs.Statements.{no_decls}
 use Rattle.name_rules.specs.Symbols.{symbol}
@@ -13,6 +13,7 @@ use Rattle.name_rules.specs.declared.scope.What.TheVariants as what
 use Rattle.ada_tree.specs.Syntax as syntax
 use Rattle.ada_tree.specs.Syntax.{Clause, Decl, Formal, Formals, Main, Program, Sub, Unit'}
 use Rattle.ada_typed.specs.Decoded.{Part}
+use Rattle.ada_typed.specs.Syntax.{Sub as TypedSub}
 use Rattle.std.specs.Prelude.{Bool, List, None, Option, Some, [], length, ℕ, ◌++◌, ◌∷◌, ◌≡◌}
 use Rattle.name_laws.specs.Hiding.{HasNone, IsLast, NoneNamed, all_declared, declares}
 
@@ -31,8 +32,13 @@ formal_names (Some f) = formals_named (f.first ∷ f.more)
 abbrev pub around_body : Names → Inside → ℕ → Profiled → Option Part → List Decl → Log → Context
 around_body names level start p done ds log = (declarations names level start p.inner done ds log).0.0
 
+-- the subprograms so far are as many as the profiles that were written
+abbrev pub AreNumbered : Option (List TypedSub) → Log → Type 0
+AreNumbered None log = Unit {0}
+AreNumbered (Some ss) log = length ss ≡ length log.profiles
+
 -- A subprogram that is declared is so from the end of its profile on; so in its body too its name stands for itself,
--- unless a formal parameter or a local declaration hides it.
+-- unless a formal parameter or a local declaration hides it. Its number is its place among the subprograms of the program.
 pub record OwnNameLaw : Type 0 where
   pub declared : (names : Names) (start : ℕ) (here : Context) (name : ℕ) (result : Option ℕ) (fs : Option Formals) (log : Log) (n : ℕ)
       → (profile names start here name result fs log).0.number ≡ Some n
@@ -43,6 +49,10 @@ pub record OwnNameLaw : Type 0 where
       → NoneNamed names (symbol names name) (formal_names fs) → NoneNamed names (symbol names name) (all_declared ds)
       → (token : ℕ) → symbol names token ≡ symbol names name
       → stands_for names (around_body names level place (profile names start here name result fs log).0 done ds later) token ≡ named (denoted.Sub token token n)
+  pub number : (names : Names) (start : ℕ) (here : Context) (name : ℕ) (result : Option ℕ) (fs : Option Formals) (log : Log) (n : ℕ)
+      → (profile names start here name result fs log).0.number ≡ Some n → n ≡ length log.profiles
+  pub places : (names : Names) (n : ℕ) (blocking : Bool) (start : ℕ) (d : Declared') (us : List Unit') (log : Log)
+      → AreNumbered d.subs log → AreNumbered (units names n blocking start d us log).0.subs (units names n blocking start d us log).1
 
 -- ---- the main procedure
 
