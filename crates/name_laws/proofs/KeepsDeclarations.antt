@@ -34,6 +34,8 @@ use Rattle.std.specs.Prelude.{Bool, List, None, Option, Some, [], false, if◌th
 use Rattle.name_rules.specs.TypedParts.{also, also_all, exprs_of}
 use Rattle.ada_typed.specs.Decoded.{Part as TypedPart}
 use Rattle.name_rules.specs.Judging.{◌>>=◌, Judging, both, breaks, clean, fault, given, joined, pure, read, some, unless, where_clean}
+use Rattle.name_rules.specs.declared.log.Log.{Log}
+use Rattle.name_laws.proofs.Fitting.{Fits, IsNumber, is_number, fits_constant}
 use Rattle.name_rules.specs.Declarations.{all_ids, begun_names, ended_name, indic_range, Indicated, indicated, indic_bounds, indic, Dimensions, also_dimension, dimensions_from, array_written, array_given, array, Building, also_field, without_fields, with_field, with_fields, indicated_mentions, component, components, record_written, record_of, own_type, first_or, static_number, found_mentions, own_type_of, defined, room, first_room, cells_counted, object_written, new_object, static_in, Initial, static_value_of, initial_value, no_initial, initial, valued_constant, with_mentions, with_object, constant_value, Declaring, object_ended, one_object, typed_object, each_object, objects, all_ended, and_mentions, numbers, new_exception, each_exception, and_type, one_type, declaration, declarations}
 use Rattle.name_laws.proofs.Walk.{Walk, Keeps, k-pure, k-some, k-bind, k-fault, k-breaks, k-unless, k-read, k-if, k-given, k-both, k-where_clean, k-clean}
 use Rattle.name_laws.proofs.Walked.{KeepsInside, KeepsAround, WalksProfiles}
@@ -113,12 +115,22 @@ k-defined walk names level here token (syntax.RecordType c cs) keeps1 keeps2 = k
 pub k-cells_counted : (walk : Walk) (token cells : ℕ) → Keeps walk (cells_counted token cells)
 k-cells_counted walk token cells = record { at = walk.counted token cells }
 
-pub k-object_written : (walk : Walk) (names : Names) (here : Context) (token n cells : ℕ) (constant : Bool) (value : Option ℤ) → walk.Takes names → Keeps walk (object_written names here token n cells constant value)
-k-object_written walk names here token n cells constant value h = record { at = walk.object names here token n cells constant value h }
 
-pub k-new_object : (walk : Walk) (x0 : Names) (x1 : Context) (x2 : ℕ) (x3 : Subtype) (x4 : Bool) (x5 : Option ℤ) → walk.Takes x0 → Keeps walk (new_object x0 x1 x2 x3 x4 x5)
+new-where : (walk : Walk) (names : Names) (here : Context) (token : ℕ) (s : Subtype) (n cells : ℕ) (constant : Bool) (value : Option ℤ) → walk.Takes names → Fits s constant value
+    → (log : Log) → IsNumber s n log → (fits : Bool) → walk.R log ((if fits then (object_written names here token n cells constant value >>= λ m. some m) else pure None) log).1
+new-where walk names here token s n cells constant value t f log i true = walk.object names here token s n cells constant value t f log i
+new-where walk names here token s n cells constant value t f log i false = walk.stays log
+
+pub k-new_object : (walk : Walk) (names : Names) (here : Context) (token : ℕ) (s : Subtype) (constant : Bool) (value : Option ℤ) → walk.Takes names → Fits s constant value
+    → Keeps walk (new_object names here token s constant value)
 unfolding new_object
-k-new_object walk names here token s constant value keeps1 = k-bind walk ((read (λ log. cells_in log s))) (λ cells. (cells_counted token cells) >>= λ fits. (number_of s) >>= λ n. if fits then (object_written names here token n cells constant value >>= λ m. some m) else pure None) (k-read walk (λ log. cells_in log s)) (λ cells. k-bind walk ((cells_counted token cells)) (λ fits. (number_of s) >>= λ n. if fits then (object_written names here token n cells constant value >>= λ m. some m) else pure None) (k-cells_counted walk token cells) (λ fits. k-bind walk ((number_of s)) (λ n. if fits then (object_written names here token n cells constant value >>= λ m. some m) else pure None) (k-number_of walk s) (λ n. k-if walk (fits) ((object_written names here token n cells constant value >>= λ m. some m)) (pure None) (k-bind walk (object_written names here token n cells constant value) (λ m. some m) (k-object_written walk names here token n cells constant value keeps1) (λ m. k-some walk m)) (k-pure walk None))))
+k-new_object walk names here token s constant value t f = record { at = λ log.
+    let cells = cells_in log s in
+    let c = cells_counted token cells log in
+    let r = number_of s c.1 in
+    walk.joins log c.1 (new_object names here token s constant value log).1 (walk.counted token cells log)
+    (walk.joins c.1 r.1 (new_object names here token s constant value log).1 ((k-number_of walk s).at c.1)
+    (new-where walk names here token s r.0 cells constant value t f r.1 (is_number s c.1) c.0)) }
 
 pub k-initial : (walk : Walk) (x0 : Names) (x1 : Inside) (x2 : Context) (x3 : Option Indicated) (x4 : Option Expr) → walk.Takes x0 → KeepsInside walk x1 → Keeps walk (initial x0 x1 x2 x3 x4)
 unfolding initial
@@ -131,7 +143,7 @@ k-valued_constant walk first true (Some s) None = k-breaks walk first WrongType
 k-valued_constant walk first constant s e = k-pure walk tt
 
 pub k-one_object : (walk : Walk) (x0 : Names) (x1 : Context) (x2 : ℕ) (x3 : Option ℕ) (x4 : Bool) (x5 : Option TypedPart) (x6 : Option Indicated) (x7 : Option Initial) → walk.Takes x0 → Keeps walk (one_object x0 x1 x2 x3 x4 x5 x6 x7)
-k-one_object walk names here token f constant made (Some s) (Some v) keeps1 = k-bind walk (new_object names here token s.known constant (constant_value constant s.known v)) (λ n. pure (object_ended names here token f constant s v made n)) (k-new_object walk names here token s.known constant (constant_value constant s.known v) keeps1) (λ n. k-pure walk (object_ended names here token f constant s v made n))
+k-one_object walk names here token f constant made (Some s) (Some v) keeps1 = k-bind walk (new_object names here token s.known constant (constant_value constant s.known v)) (λ n. pure (object_ended names here token f constant s v made n)) (k-new_object walk names here token s.known constant (constant_value constant s.known v) keeps1 (fits_constant constant s.known v)) (λ n. k-pure walk (object_ended names here token f constant s v made n))
 k-one_object walk names here token f constant ds s v keeps1 = k-bind walk (cells_counted token 0) (λ b. pure (ended_name names here f None, None)) (k-cells_counted walk token 0) (λ b. k-pure walk (ended_name names here f None, None))
 
 pub k-typed_object : (walk : Walk) (x0 : Names) (x1 : Inside) (x2 : Context) (x3 : ObjectType) → walk.Takes x0 → KeepsInside walk x1 → Keeps walk (typed_object x0 x1 x2 x3)

@@ -104,7 +104,7 @@ k-mode_rule walk function m = k-pure walk tt
 
 pub k-one_formal : (walk : Walk) (x0 : Names) (x1 : Context) (x2 : ℕ) (x3 : Option ℕ) (x4 : Mode) (x5 : Option Subtype) → walk.Takes x0 → Keeps walk (one_formal x0 x1 x2 x3 x4 x5)
 k-one_formal walk names here token f m None keeps1 = k-bind walk (cells_counted token 0) (λ b. pure (ended_name names here f None, None)) (k-cells_counted walk token 0) (λ b. k-pure walk (ended_name names here f None, None))
-k-one_formal walk names here token f m (Some s) keeps1 = k-bind walk (new_object names here token s (is_constant m) None) (λ o. pure (formal_entry names here token f m s 0 o)) (k-new_object walk names here token s (is_constant m) None keeps1) (λ o. k-pure walk (formal_entry names here token f m s 0 o))
+k-one_formal walk names here token f m (Some s) keeps1 = k-bind walk (new_object names here token s (is_constant m) None) (λ o. pure (formal_entry names here token f m s 0 o)) (k-new_object walk names here token s (is_constant m) None keeps1 tt) (λ o. k-pure walk (formal_entry names here token f m s 0 o))
 
 pub k-each_formal : (walk : Walk) (x0 : Names) (x1 : Context) (x2 : Mode) (x3 : Option Subtype) (x4 : Option (List Taken)) (x5 : List ℕ) (x6 : List (Option ℕ)) → walk.Takes x0 → Keeps walk (each_formal x0 x1 x2 x3 x4 x5 x6)
 k-each_formal walk names here m s made [] fs keeps1 = k-pure walk (here, made)

@@ -1,5 +1,6 @@
 pub mod Lookups
 pub mod Scopes
+pub mod Fitting
 pub mod Walk
 pub mod Walked
 pub mod KeepsScope
@@ -26,3 +27,4 @@ pub mod Lying
 pub mod Numbering
 pub mod Places
 pub mod Own
+pub mod Constants

@@ -69,7 +69,7 @@ lying subs = record {
   joins = λ a b c f g h. g (f h);
   breaks = λ at rule log h. h;
   shape = λ t log h. h;
-  object = λ names here token n cells constant value e log h.
+  object = λ names here token s n cells constant value e f log i h.
       lies-on log.objects (first_cell subs) _ h (ap (λ f. room f here.owner log.objects) (first-cells names subs here.owner e));
   counted = λ token cells log h. subst (LieFrom (first_cell subs)) (sym (counted-objects token cells log)) h;
   exception = λ token log h. h;
@@ -128,7 +128,7 @@ program-subs : (names : Names) (text : Program) (w : p.Whole) → (judged names 
 unfolding judged p.program
 program-subs names text w e = main-subs names depth_limit _ text.main _ _ w e
 
-typed-from : (fs : List Fault) (log : Log) (o : Option p.Whole) (t : typed.Program) → typed_where fs (option_map (typed_by log) o) ≡ Some t
+pub typed-from : (fs : List Fault) (log : Log) (o : Option p.Whole) (t : typed.Program) → typed_where fs (option_map (typed_by log) o) ≡ Some t
     → (w : p.Whole) × (o ≡ Some w) × (typed_by log w ≡ t)
 typed-from [] log (Some w) t e = (w, refl, cc)
 typed-from [] log None t e = absurd cc

@@ -11,6 +11,8 @@ use Rattle.name_rules.specs.declared.log.Rule.{Rule}
 use Rattle.name_rules.specs.declared.log.Shape.{Shape}
 use Rattle.name_rules.specs.declared.scope.Context.{Context}
 use Rattle.name_rules.specs.declared.scope.Names.{Names}
+use Rattle.name_rules.specs.declared.types.Subtype.{Subtype}
+use Rattle.name_laws.proofs.Fitting.{Fits, IsNumber}
 
 -- a relation of logs that holds of each line that is written, and so of lines one after the other, where what is known of
 -- the tokens is as is asked
@@ -21,7 +23,8 @@ pub record Walk : Type 1 where
   pub joins : (a b c : Log) → R a b → R b c → R a c
   pub breaks : (at : ℕ) (rule : Rule) (log : Log) → R log (breaks at rule log).1
   pub shape : (t : Shape) (log : Log) → R log (written_shape t log).1
-  pub object : (names : Names) (here : Context) (token n cells : ℕ) (constant : Bool) (value : Option ℤ) → Takes names → (log : Log) → R log (object_written names here token n cells constant value log).1
+  pub object : (names : Names) (here : Context) (token : ℕ) (s : Subtype) (n cells : ℕ) (constant : Bool) (value : Option ℤ) → Takes names → Fits s constant value
+      → (log : Log) → IsNumber s n log → R log (object_written names here token n cells constant value log).1
   pub counted : (token cells : ℕ) (log : Log) → R log (cells_counted token cells log).1
   pub exception : (token : ℕ) (log : Log) → R log (new_exception token log).1
   pub site : (here : Context) (at : ℕ) (k : SiteKind) (log : Log) → R log (new_site here at k log).1

@@ -2,3 +2,4 @@ pub mod Hiding
 pub mod OwnNames
 pub mod Cells
 pub mod Alike
+pub mod Constants

@@ -3,6 +3,7 @@
 
 ghost use Rattle.name_laws.specs.Alike.{SymbolLaw};
 ghost use Rattle.name_laws.specs.Cells.{CellsLaw};
+ghost use Rattle.name_laws.specs.Constants.{ConstantsLaw};
 ghost use Rattle.name_laws.specs.Hiding.{HidingLaw, ScopeLaw};
 ghost use Rattle.name_laws.specs.OwnNames.{MainNameLaw, OwnNameLaw};
 
@@ -12,6 +13,7 @@ ghost use Rattle.name_laws.specs.OwnNames.{MainNameLaw, OwnNameLaw};
 /// - own_name: a subprogram's name is visible in its body, unless it is hidden there (6.1).
 /// - main_name: the main procedure's name isn't visible in its declarative part and statements.
 /// - cells: different objects of one owner have different cells (3.3).
+/// - constants: the value of a static constant lies in its subtype (4.9).
 /// - symbols: two identifiers have one symbol exactly where they are spelled alike but for the case of letters (2.3).
 pub fn laws()
     ensures hiding { HidingLaw }
@@ -19,5 +21,6 @@ pub fn laws()
     ensures own_name { OwnNameLaw }
     ensures main_name { MainNameLaw }
     ensures cells { CellsLaw }
+    ensures constants { ConstantsLaw }
     ensures symbols { SymbolLaw }
 {}

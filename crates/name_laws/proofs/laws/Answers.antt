@@ -1,4 +1,5 @@
 use Rattle.name_laws.proofs.laws.Goals as goal
+use Rattle.name_laws.proofs.Constants.{constants_law}
 use Rattle.name_laws.proofs.Lying.{cells_law}
 use Rattle.name_laws.proofs.Lookups.{hiding_law}
 use Rattle.name_laws.proofs.Numbering.{symbol_law}
@@ -22,3 +23,6 @@ returns-clause-cells c = cells_law
 
 pub returns-clause-symbols : goal.returns-clause-symbols
 returns-clause-symbols c = symbol_law
+
+pub returns-clause-constants : goal.returns-clause-constants
+returns-clause-constants c = constants_law
