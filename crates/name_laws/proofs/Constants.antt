@@ -1,5 +1,5 @@
 -- Static values of objects lie in their subtypes.
-use Rattle.std.proofs.Common.{◌≡◌, ℕ, ℤ, zero, suc, ◌+◌, List, [], ◌∷◌, ◌++◌, length, Option, Some, None, Bool, true, false, refl, sym, ap, subst, ◌∙◌, ◌⊎◌, inl, inr, slice_get, int_le, nat_le, nat_lt, ◌==◌, map, option_map}
+use Rattle.std.proofs.Common.{◌≡◌, ℕ, ℤ, zero, suc, ◌+◌, List, [], ◌∷◌, ◌++◌, Option, Some, None, Bool, true, false, refl, sym, ap, subst, ◌∙◌, ◌⊎◌, inl, inr, slice_get, int_le, nat_le, nat_lt, ◌==◌, map, option_map}
 use Rattle.std.proofs.lemmas.Bool.{and_parts}
 use Rattle.std.proofs.lemmas.Option.{slice_get-map}
 use Rattle.std.specs.Prelude.{not, ◌||◌}
@@ -9,7 +9,6 @@ use Rattle.ada_typed.specs.declared.program.Object.{Object}
 use Rattle.ada_typed.specs.declared.scalars.Class.TheVariants as class
 use Rattle.name_rules.specs.Declarations.{cells_counted}
 use Rattle.name_rules.specs.Judging.{unless}
-use Rattle.name_rules.specs.Programs as p
 use Rattle.name_rules.specs.Resolved.{depth_limit, fresh, judged, typed_subtype}
 use Rattle.name_rules.specs.Types.{class_of, is_integer, lies_in, saturated, typed_scalar}
 use Rattle.name_rules.specs.declared.log.Log.{Log}

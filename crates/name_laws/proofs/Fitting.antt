@@ -1,5 +1,5 @@
 -- What is known of the static value of an object that is written: it lies in the object's subtype.
-use Rattle.std.proofs.Common.{◌≡◌, ℕ, ℤ, zero, suc, List, [], ◌∷◌, ◌++◌, length, Option, Some, None, Bool, true, false, ◌&&◌, if◌then◌else◌, refl, slice_get}
+use Rattle.std.proofs.Common.{◌≡◌, ℕ, ℤ, List, [], ◌∷◌, ◌++◌, length, Option, Some, None, Bool, true, false, ◌&&◌, if◌then◌else◌, refl, slice_get}
 use Rattle.name_rules.specs.Declarations.{Initial, constant_value, static_in}
 use Rattle.name_rules.specs.Types.{is_integer, lies_in, number_of}
 use Rattle.name_rules.specs.declared.log.Log.{Log}

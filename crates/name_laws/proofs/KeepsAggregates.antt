@@ -2,47 +2,33 @@
 use Rattle.name_rules.specs.Attributes.{alone}
 use Rattle.name_rules.specs.Expressions.{Inside, expr, judged_alone, value_for}
 use Rattle.ada_tree.specs.FirstTokens as first_token
-use Rattle.name_rules.specs.Found.{Found, rest}
-use Rattle.name_rules.specs.Names.{count, index, is_record}
-use Rattle.name_rules.specs.Parts.{name, new_parameter}
-use Rattle.name_rules.specs.Ranges.{Chosen, Static, chosen_span, chosen_value, static_range}
+use Rattle.name_rules.specs.Names.{index, is_record}
+use Rattle.name_rules.specs.Parts.{new_parameter}
+use Rattle.name_rules.specs.Ranges.{Static, chosen_span, chosen_value, static_range}
 use Rattle.name_rules.specs.Scope.{with_entry}
 use Rattle.name_rules.specs.Shapes.{identifier_of_choice, is_aggregate}
-use Rattle.name_rules.specs.Symbols.{known, symbol}
+use Rattle.name_rules.specs.Symbols.{symbol}
 use Rattle.name_rules.specs.Types.{array_cells, cells_in, cells_of_shape, component_of, dimensions_of, extent, fields_of, same, shape_in}
-use Rattle.name_rules.specs.declared.found.Found.TheVariants as known
-use Rattle.name_rules.specs.declared.found.Found.{Found as Known}
 use Rattle.name_rules.specs.declared.log.Dimension.{Dimension}
 use Rattle.name_rules.specs.declared.log.Field.{Field}
 use Rattle.name_rules.specs.declared.log.Log.{Log}
 use Rattle.name_rules.specs.declared.log.Rule.TheVariants.{StaticRange, Twice, Unknown, WrongType}
-use Rattle.name_rules.specs.declared.log.Shape.TheVariants as shape
 use Rattle.name_rules.specs.declared.log.Shape.{Shape}
 use Rattle.name_rules.specs.declared.scope.Context.{Context}
 use Rattle.name_rules.specs.declared.scope.Names.{Names}
-use Rattle.name_rules.specs.declared.scope.What.TheVariants as what
-use Rattle.name_rules.specs.declared.scope.What.{What}
 use Rattle.name_rules.specs.declared.types.Kind.{Kind}
-use Rattle.name_rules.specs.declared.types.Scalar.{Scalar}
 use Rattle.name_rules.specs.declared.types.Subtype.{Subtype}
 use Rattle.name_rules.specs.declared.types.Wanted.TheVariants as wanted
 use Rattle.name_rules.specs.declared.types.Wanted.{Wanted}
 use Rattle.ada_tree.specs.Syntax as syntax
 use Rattle.ada_tree.specs.Syntax.{Assoc, Assocs, Choice, Choices, Expr, Exprs, Many, OptionalExpr}
 use Rattle.ada_typed.specs.Decoded as part
-use Rattle.ada_typed.specs.Syntax as typed
-use Rattle.ada_typed.specs.Syntax.{Exprs as TypedExprs}
-use Rattle.ada_typed.specs.declared.expressions.Iterated.{Iterated}
-use Rattle.ada_typed.specs.declared.expressions.Run.{Run}
-use Rattle.std.specs.List.{list_any}
-use Rattle.std.specs.Prelude.{Bool, List, None, Option, Some, [], drop, false, if◌then◌else◌, int_le, int_lt, length, map, not, option_map, pos, true, unsigned_abs, ℕ, ℤ, ◌&&◌, ◌*◌, ◌++◌, ◌+ℤ◌, ◌+◌, ◌-ℤ◌, ◌==◌, ◌||◌, ◌∷◌}
-use Rattle.name_rules.specs.TypedParts.{also, also_all, exprs_of}
+use Rattle.std.specs.Prelude.{Bool, List, None, Option, Some, [], drop, false, if◌then◌else◌, length, not, option_map, pos, true, ℕ, ℤ, ◌&&◌, ◌*◌, ◌++◌, ◌+ℤ◌, ◌+◌, ◌==◌, ◌||◌, ◌∷◌}
 use Rattle.ada_typed.specs.Decoded.{Part as TypedPart, as_associations}
-use Rattle.typed_parts.specs.Stack.{turned}
-use Rattle.name_rules.specs.Judging.{◌>>=◌, Judging, both, breaks, clean, fault, given, joined, pure, read, some, unless, where_clean}
-use Rattle.name_rules.specs.Aggregates.{Contents, ByPosition, ByAssociation, contents, run, with_value, aggregate_part, field_run, field_value, fields_value, some_fields, Filling, filling, by_position, has_symbol, without, one_field, named_field, first_of_choice, value_choice, field_choice, field_choices, is_alone, record_assoc, is_final, record_assocs, record_values, record_rest, record_parts, filled, insert, sorted, left_open, count_of, span_run, not_empty, is_within, with_run, runs_of, with_runs, Placing, with_ranges, with_rest, nothing_placed, Component, Choosing', also_chosen, as_rest, array_choice, array_choices, index_scalar, index_what, of_index_type, broken_placing, iterated_given, chosen_given, array_assoc, array_assocs, array_values, array_rest, array_placed, non_empty, covered_alone, covered, dimension_of, no_aggregate, inner_value, inner_aggregate, is_last, component_at, array_at, array_of, composite_at, exprs_alone, optional_alone, assoc_value, assocs_alone, contents_alone, composite_found, rest_found, aggregate}
-use Rattle.name_laws.proofs.Walk.{Walk, Keeps, k-pure, k-some, k-bind, k-fault, k-breaks, k-unless, k-read, k-if, k-given, k-both, k-where_clean, k-clean}
-use Rattle.name_laws.proofs.Walked.{KeepsInside, KeepsAround, WalksProfiles}
+use Rattle.name_rules.specs.Judging.{◌>>=◌, breaks, fault, given, joined, pure, read, some, unless, where_clean}
+use Rattle.name_rules.specs.Aggregates.{Contents, ByPosition, ByAssociation, with_value, aggregate_part, field_run, field_value, fields_value, some_fields, Filling, filling, by_position, has_symbol, without, one_field, named_field, first_of_choice, value_choice, field_choice, field_choices, is_alone, record_assoc, is_final, record_assocs, record_values, record_rest, record_parts, filled, sorted, left_open, runs_of, with_runs, Placing, with_ranges, with_rest, nothing_placed, Component, Choosing', also_chosen, as_rest, array_choice, array_choices, index_what, of_index_type, iterated_given, chosen_given, array_assoc, array_assocs, array_values, array_rest, array_placed, non_empty, covered_alone, covered, dimension_of, no_aggregate, inner_value, inner_aggregate, is_last, component_at, array_at, array_of, composite_at, exprs_alone, optional_alone, assoc_value, assocs_alone, contents_alone, composite_found, rest_found, aggregate}
+use Rattle.name_laws.proofs.Walk.{Walk, Keeps, k-pure, k-some, k-bind, k-fault, k-breaks, k-unless, k-read, k-if, k-given, k-where_clean}
+use Rattle.name_laws.proofs.Walked.{KeepsInside}
 use Rattle.name_laws.proofs.KeepsExpressions.{k-expr, k-judged_alone, k-value_for}
 use Rattle.name_laws.proofs.KeepsParts.{k-new_parameter}
 use Rattle.name_laws.proofs.KeepsRanges.{k-chosen_span, k-chosen_value, k-static_range}
@@ -116,7 +102,7 @@ k-of_index_type walk k first r = k-if walk (same r.known.kind k) (some r) (fault
 pub k-array_assoc : (walk : Walk) (x0 : Names) (x1 : Inside) (x2 : Context) (x3 : Component) (x4 : Dimension) (x5 : ℕ) (x6 : Bool) (x7 : Placing) (x8 : Assoc) → walk.Takes x0 → KeepsInside walk x1 → ((here : Context) (e : Expr) → Keeps walk (x3 here e)) → Keeps walk (array_assoc x0 x1 x2 x3 x4 x5 x6 x7 x8)
 unfolding array_assoc
 k-array_assoc walk names level here component d apart last p (syntax.Chosen c cs e) keeps1 keeps2 keeps3 = k-bind walk ((array_choices level here d.kind (is_alone cs) last (Some (record { ranges = []; rest = false; mentions = part.Nothing })) (syntax.AlsoChoice c cs))) (λ r. (component here e) >>= λ v. pure (chosen_given d apart p r v)) (k-array_choices walk level here d.kind (is_alone cs) last (Some (record { ranges = []; rest = false; mentions = part.Nothing })) (syntax.AlsoChoice c cs) keeps2) (λ r. k-bind walk ((component here e)) (λ v. pure (chosen_given d apart p r v)) (keeps3 here e) (λ v. k-pure walk (chosen_given d apart p r v)))
-k-array_assoc walk names level here component d apart last p (syntax.Each at index r e) keeps1 keeps2 keeps3 = k-bind walk ((static_range level here false (Some d.kind) r)) (λ x. (given x (of_index_type d.kind (first_token.of_range r))) >>= λ s. (new_parameter) >>= λ n. (component (with_entry here (symbol names index) (index_what n s)) e) >>= λ v. pure (iterated_given d apart n p s v)) (k-static_range walk level here false (Some d.kind) r keeps2) (λ x. k-bind walk ((given x (of_index_type d.kind (first_token.of_range r)))) (λ s. (new_parameter) >>= λ n. (component (with_entry here (symbol names index) (index_what n s)) e) >>= λ v. pure (iterated_given d apart n p s v)) (k-given walk x (of_index_type d.kind (first_token.of_range r)) (λ z1. k-of_index_type walk d.kind (first_token.of_range r) z1)) (λ s. k-bind walk ((new_parameter)) (λ n. (component (with_entry here (symbol names index) (index_what n s)) e) >>= λ v. pure (iterated_given d apart n p s v)) (k-new_parameter walk ) (λ n. k-bind walk ((component (with_entry here (symbol names index) (index_what n s)) e)) (λ v. pure (iterated_given d apart n p s v)) (keeps3 (with_entry here (symbol names index) (index_what n s)) e) (λ v. k-pure walk (iterated_given d apart n p s v)))))
+k-array_assoc walk names level here component d apart last p (syntax.Each at index r e) keeps1 keeps2 keeps3 = k-bind walk ((static_range level here false (Some d.kind) r)) (λ x. (given x (of_index_type d.kind (first_token.of_range r))) >>= λ s. (new_parameter) >>= λ n. (component (with_entry here (symbol names index) (index_what n s)) e) >>= λ v. pure (iterated_given d apart n p s v)) (k-static_range walk level here false (Some d.kind) r keeps2) (λ x. k-bind walk ((given x (of_index_type d.kind (first_token.of_range r)))) (λ s. (new_parameter) >>= λ n. (component (with_entry here (symbol names index) (index_what n s)) e) >>= λ v. pure (iterated_given d apart n p s v)) (k-given walk x (of_index_type d.kind (first_token.of_range r)) (λ z1. k-of_index_type walk d.kind (first_token.of_range r) z1)) (λ s. k-bind walk ((new_parameter)) (λ n. (component (with_entry here (symbol names index) (index_what n s)) e) >>= λ v. pure (iterated_given d apart n p s v)) (k-new_parameter walk) (λ n. k-bind walk ((component (with_entry here (symbol names index) (index_what n s)) e)) (λ v. pure (iterated_given d apart n p s v)) (keeps3 (with_entry here (symbol names index) (index_what n s)) e) (λ v. k-pure walk (iterated_given d apart n p s v)))))
 
 pub k-array_assocs : (walk : Walk) (x0 : Names) (x1 : Inside) (x2 : Context) (x3 : Component) (x4 : Dimension) (x5 : ℕ) (x6 : Placing) (x7 : Assocs) → walk.Takes x0 → KeepsInside walk x1 → ((here : Context) (e : Expr) → Keeps walk (x3 here e)) → Keeps walk (array_assocs x0 x1 x2 x3 x4 x5 x6 x7)
 k-array_assocs walk names level here component d apart p syntax.NoAssoc keeps1 keeps2 keeps3 = k-pure walk p

@@ -3,11 +3,9 @@ use Rattle.ada_base.specs.declared.operation.Op.TheVariants as op
 use Rattle.ada_base.specs.declared.operation.Op.{Op}
 use Rattle.name_rules.specs.Calls.{arg_names, operands}
 use Rattle.name_rules.specs.Expressions.{Inside}
-use Rattle.name_rules.specs.Found.{Denoted, Found, denote, scalar, static, text_found, universal, value_denoted}
+use Rattle.name_rules.specs.Found.{Denoted, Found, denote, static, universal, value_denoted}
 use Rattle.name_rules.specs.Names.{denoted_first, wrong_call}
-use Rattle.name_rules.specs.Operators.{limit_of}
-use Rattle.name_rules.specs.Symbols.{first_name, image_name, known, last_name, length_name, max_name, min_name, parallel_reduce_name, pred_name, reduce_name, succ_name}
-use Rattle.name_rules.specs.Types.{class_of, dimensions_of, extent, is_integer, shape_in}
+use Rattle.name_rules.specs.Types.{extent, is_integer}
 use Rattle.name_rules.specs.Values.{asked, first_of, is_number, mentions_of, own_kind, static_of_kind}
 use Rattle.name_rules.specs.declared.found.Attribute.TheVariants as attribute'
 use Rattle.name_rules.specs.declared.found.Attribute.{Attribute}
@@ -18,7 +16,6 @@ use Rattle.name_rules.specs.declared.found.Place.{Place}
 use Rattle.name_rules.specs.declared.found.Prefix.TheVariants as prefix
 use Rattle.name_rules.specs.declared.found.Prefix.{Prefix}
 use Rattle.name_rules.specs.declared.log.Dimension.{Dimension}
-use Rattle.name_rules.specs.declared.log.Log.{Log}
 use Rattle.name_rules.specs.declared.log.Rule.TheVariants.{ReduceRule, StaticRange, Unknown, WrongType}
 use Rattle.name_rules.specs.declared.scope.Context.{Context}
 use Rattle.name_rules.specs.declared.scope.Names.{Names}
@@ -28,16 +25,14 @@ use Rattle.name_rules.specs.declared.types.Subtype.TheVariants as subtype
 use Rattle.name_rules.specs.declared.types.Subtype.{Subtype}
 use Rattle.ada_tree.specs.Syntax.{Args}
 use Rattle.ada_typed.specs.Decoded as part
-use Rattle.ada_typed.specs.Syntax as typed
-use Rattle.ada_typed.specs.Syntax.{Expr as TypedExpr, Exprs as TypedExprs}
-use Rattle.std.specs.Prelude.{Bool, List, None, Option, Some, [], false, if◌then◌else◌, int_le, length, nat_lt, option_map, pos, slice_get, true, unsigned_abs, ℕ, ℤ, ◌&&◌, ◌-◌, ◌==◌, ◌∷◌}
-use Rattle.name_rules.specs.TypedParts.{also, also_all, selections_of}
-use Rattle.typed_parts.specs.Indexes.{indexes_in}
+use Rattle.ada_typed.specs.Syntax.{Expr as TypedExpr}
+use Rattle.std.specs.Prelude.{Bool, List, None, Option, Some, [], false, if◌then◌else◌, int_le, length, option_map, pos, slice_get, true, unsigned_abs, ℕ, ℤ, ◌&&◌, ◌-◌, ◌∷◌}
+use Rattle.name_rules.specs.TypedParts.{also_all}
 use Rattle.ada_typed.specs.Decoded.{Part as TypedPart, as_expr}
-use Rattle.name_rules.specs.Judging.{◌>>=◌, Judging, both, breaks, clean, fault, given, joined, pure, read, some, unless, where_clean}
-use Rattle.name_rules.specs.Attributes.{attribute_at, prefix_of, attribute_found, scalar_bound, dimension_bound, mentioned, prefix_subtype, dimensions_in, bound_in, bound_alone, dimension_at, dimension_given, one_dimension, bound_with, first_named, one_given, two_given, one_named, two_named, one_argument, two_arguments_of, image_text, extreme, step, stepped, scalar_with, object_image, is_bound, is_reduction, reduced_alone, is_array_object, alone, settled_form, settled_attribute}
-use Rattle.name_laws.proofs.Walk.{Walk, Keeps, k-pure, k-some, k-bind, k-fault, k-breaks, k-unless, k-read, k-if, k-given, k-both, k-where_clean, k-clean}
-use Rattle.name_laws.proofs.Walked.{KeepsInside, KeepsAround, WalksProfiles}
+use Rattle.name_rules.specs.Judging.{◌>>=◌, fault, given, joined, pure, read}
+use Rattle.name_rules.specs.Attributes.{prefix_of, attribute_found, scalar_bound, dimension_bound, mentioned, prefix_subtype, dimensions_in, bound_in, bound_alone, dimension_at, dimension_given, one_dimension, bound_with, first_named, one_given, two_given, one_named, two_named, one_argument, two_arguments_of, image_text, extreme, step, stepped, scalar_with, object_image, is_bound, is_reduction, reduced_alone, is_array_object, alone, settled_form, settled_attribute}
+use Rattle.name_laws.proofs.Walk.{Walk, Keeps, k-pure, k-some, k-bind, k-fault, k-read, k-if, k-given, k-where_clean}
+use Rattle.name_laws.proofs.Walked.{KeepsInside}
 use Rattle.name_laws.proofs.KeepsCalls.{k-operands}
 use Rattle.name_laws.proofs.KeepsNames.{k-wrong_call}
 use Rattle.name_laws.proofs.KeepsValues.{k-asked, k-static_of_kind}

@@ -1,18 +1,15 @@
 -- What is judged by the rules of Calls keeps what each line of the log keeps.
 use Rattle.name_rules.specs.Expressions.{Inside, expr, judged_alone, value_for}
 use Rattle.ada_tree.specs.FirstTokens as first_token
-use Rattle.name_rules.specs.Found.{Denoted, Found, denote, scalar, value_denoted}
-use Rattle.name_rules.specs.Names.{count, wrong_call}
+use Rattle.name_rules.specs.Found.{Found}
+use Rattle.name_rules.specs.Names.{count}
 use Rattle.name_rules.specs.Scope.{named}
-use Rattle.name_rules.specs.Symbols.{known, symbol}
-use Rattle.name_rules.specs.Types.{check_at, is_integer, same, typed_scalar, wanted_of}
+use Rattle.name_rules.specs.Symbols.{symbol}
+use Rattle.name_rules.specs.Types.{is_integer, same, wanted_of}
 use Rattle.name_rules.specs.Values.{first_of, is_number, settled_found}
-use Rattle.name_rules.specs.declared.found.Denoted.TheVariants as denoted
 use Rattle.name_rules.specs.declared.found.Found.TheVariants as known
 use Rattle.name_rules.specs.declared.found.Found.{Found as Known}
 use Rattle.name_rules.specs.declared.found.Place.{Place}
-use Rattle.name_rules.specs.declared.log.Log.{Log}
-use Rattle.name_rules.specs.declared.log.Profile.{Profile}
 use Rattle.name_rules.specs.declared.log.Rule.TheVariants.{Twice, Unknown, WrongType}
 use Rattle.name_rules.specs.declared.log.Taken.{Taken}
 use Rattle.name_rules.specs.declared.scope.Context.{Context}
@@ -29,14 +26,13 @@ use Rattle.ada_typed.specs.Syntax.{Actuals, Selections}
 use Rattle.ada_typed.specs.declared.program.Mode.TheVariants as mode
 use Rattle.ada_typed.specs.declared.program.Mode.{Mode}
 use Rattle.std.specs.List.{list_any, position}
-use Rattle.std.specs.Prelude.{Bool, List, None, Option, Some, [], false, if◌then◌else◌, is_some, length, nat_lt, not, slice_get, true, ℕ, ◌++◌, ◌+◌, ◌==◌, ◌||◌, ◌∷◌}
-use Rattle.name_rules.specs.TypedParts.{also, selections_of}
+use Rattle.std.specs.Prelude.{Bool, List, None, Option, Some, [], false, if◌then◌else◌, is_some, length, nat_lt, not, true, ℕ, ◌+◌, ◌==◌, ◌||◌, ◌∷◌}
+use Rattle.name_rules.specs.TypedParts.{selections_of}
 use Rattle.ada_typed.specs.Decoded.{Part as TypedPart, as_expr, as_actuals}
-use Rattle.typed_parts.specs.Stack.{turned}
-use Rattle.name_rules.specs.Judging.{◌>>=◌, Judging, both, breaks, clean, fault, given, joined, pure, read, some, unless, where_clean}
-use Rattle.name_rules.specs.Calls.{takes_in, gives_in, profile_in, is_out, scalar_actual, composite_actual, place_given, variable_form, variable_given, actual_by, actual_for, found_or_unknown, parameter_of, given_once, also_taken, late_at, Calling, taken_at, with_actual, argument_form, argument, arguments, complete, begun_call, call_given, sub_call, with_operand, operands, arg_names, conversion_of, converted, one_operand, scalar_conversion, conversion}
-use Rattle.name_laws.proofs.Walk.{Walk, Keeps, k-pure, k-some, k-bind, k-fault, k-breaks, k-unless, k-read, k-if, k-given, k-both, k-where_clean, k-clean}
-use Rattle.name_laws.proofs.Walked.{KeepsInside, KeepsAround, WalksProfiles}
+use Rattle.name_rules.specs.Judging.{◌>>=◌, fault, given, pure, read, some, where_clean}
+use Rattle.name_rules.specs.Calls.{takes_in, gives_in, profile_in, scalar_actual, composite_actual, place_given, variable_form, variable_given, actual_by, actual_for, found_or_unknown, parameter_of, given_once, also_taken, late_at, Calling, taken_at, with_actual, argument_form, argument, arguments, complete, begun_call, call_given, sub_call, with_operand, operands, arg_names, conversion_of, converted, one_operand, scalar_conversion, conversion}
+use Rattle.name_laws.proofs.Walk.{Walk, Keeps, k-pure, k-some, k-bind, k-fault, k-unless, k-read, k-if, k-given, k-where_clean}
+use Rattle.name_laws.proofs.Walked.{KeepsInside}
 use Rattle.name_laws.proofs.KeepsExpressions.{k-expr, k-judged_alone, k-value_for}
 use Rattle.name_laws.proofs.KeepsNames.{k-wrong_call}
 use Rattle.name_laws.proofs.KeepsValues.{k-settled_found}

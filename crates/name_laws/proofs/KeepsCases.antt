@@ -1,11 +1,9 @@
 -- What is judged by the rules of Cases keeps what each line of the log keeps.
-use Rattle.ada_base.specs.declared.reason.Reason.TheVariants as reason
 use Rattle.ada_base.specs.declared.reason.Reason.{Reason}
 use Rattle.name_rules.specs.Aggregates.{sorted}
 use Rattle.name_rules.specs.Expressions.{Inside}
 use Rattle.name_rules.specs.Names.{exception}
 use Rattle.name_rules.specs.Ranges.{Chosen, chosen_span, chosen_value}
-use Rattle.name_rules.specs.Scope.{named}
 use Rattle.name_rules.specs.declared.log.Rule.TheVariants.{StaticRange, Twice}
 use Rattle.name_rules.specs.declared.scope.Context.{Context}
 use Rattle.name_rules.specs.declared.scope.Names.{Names}
@@ -15,15 +13,12 @@ use Rattle.ada_tree.specs.Syntax as syntax
 use Rattle.ada_tree.specs.Syntax.{Choice, Handled, Pack}
 use Rattle.ada_typed.specs.Syntax as typed
 use Rattle.ada_typed.specs.Syntax.{Exprs as TypedExprs, Handled as TypedHandled}
-use Rattle.ada_typed.specs.declared.statements.Span.{Span}
 use Rattle.std.specs.List.{list_any}
-use Rattle.std.specs.Prelude.{Bool, List, None, Option, Some, [], false, if◌then◌else◌, int_le, int_lt, not, option_map, pos, true, ℕ, ℤ, ◌&&◌, ◌++◌, ◌+ℤ◌, ◌+◌, ◌==◌, ◌||◌, ◌∷◌}
-use Rattle.name_rules.specs.TypedParts.{also_all}
-use Rattle.ada_typed.specs.Decoded.{Part as TypedPart}
-use Rattle.name_rules.specs.Judging.{◌>>=◌, Judging, both, breaks, clean, fault, given, joined, pure, read, some, unless, where_clean}
-use Rattle.name_rules.specs.Cases.{Covering, Choosing, overlaps, with_span, also_mentioned, also_covered, covered_by, as_faulty, maybe_covered, with_others, case_choice, case_choices, int_max, is_open, closed, same_reason, Naming, with_reason, named_once, named_reasons, handled_by}
-use Rattle.name_laws.proofs.Walk.{Walk, Keeps, k-pure, k-some, k-bind, k-fault, k-breaks, k-unless, k-read, k-if, k-given, k-both, k-where_clean, k-clean}
-use Rattle.name_laws.proofs.Walked.{KeepsInside, KeepsAround, WalksProfiles}
+use Rattle.std.specs.Prelude.{Bool, List, None, Option, Some, [], int_le, not, option_map, true, ℕ, ℤ, ◌&&◌, ◌||◌, ◌∷◌}
+use Rattle.name_rules.specs.Judging.{◌>>=◌, pure, unless}
+use Rattle.name_rules.specs.Cases.{Covering, Choosing, overlaps, with_span, also_mentioned, also_covered, covered_by, as_faulty, maybe_covered, with_others, case_choice, case_choices, is_open, closed, same_reason, Naming, with_reason, named_once, named_reasons, handled_by}
+use Rattle.name_laws.proofs.Walk.{Walk, Keeps, k-pure, k-bind, k-unless, k-if}
+use Rattle.name_laws.proofs.Walked.{KeepsInside}
 use Rattle.name_laws.proofs.KeepsNames.{k-exception}
 use Rattle.name_laws.proofs.KeepsRanges.{k-chosen_span, k-chosen_value}
 

@@ -2,15 +2,13 @@
 use Rattle.ada_base.specs.declared.reason.Reason.TheVariants as reason
 use Rattle.name_rules.specs.Expressions.{Inside, expr, judged_alone}
 use Rattle.ada_tree.specs.FirstTokens as first_token
-use Rattle.name_rules.specs.Found.{Found, With}
+use Rattle.name_rules.specs.Found.{Found}
 use Rattle.name_rules.specs.Operators.{both_mentions}
-use Rattle.name_rules.specs.Parts.{name}
-use Rattle.name_rules.specs.Ranges.{Static, both_static, static_range, two_bounds}
+use Rattle.name_rules.specs.Ranges.{both_static, static_range, two_bounds}
 use Rattle.name_rules.specs.Scope.{as_scalar, declared, free, hidden_where, subtype_named}
-use Rattle.name_rules.specs.Symbols.{known, number, symbol}
-use Rattle.name_rules.specs.Types.{array_cells, cells_in, in_base, is_integer, lies_in, number_of, saturated, wanted_of, written_shape}
-use Rattle.name_rules.specs.Values.{first_of, mentions_of, static_integer, stored, value_of}
-use Rattle.name_rules.specs.declared.found.Found.{Found as Known}
+use Rattle.name_rules.specs.Symbols.{symbol}
+use Rattle.name_rules.specs.Types.{array_cells, cells_in, in_base, lies_in, number_of, saturated, wanted_of, written_shape}
+use Rattle.name_rules.specs.Values.{first_of, stored}
 use Rattle.name_rules.specs.declared.log.Dimension.{Dimension}
 use Rattle.name_rules.specs.declared.log.Field.{Field}
 use Rattle.name_rules.specs.declared.log.Rule.TheVariants.{Limit, StaticRange, WrongType}
@@ -18,7 +16,6 @@ use Rattle.name_rules.specs.declared.log.Shape.TheVariants as shape
 use Rattle.name_rules.specs.declared.scope.Context.{Context}
 use Rattle.name_rules.specs.declared.scope.Names.{Names}
 use Rattle.name_rules.specs.declared.scope.What.TheVariants as what
-use Rattle.name_rules.specs.declared.scope.What.{What}
 use Rattle.name_rules.specs.declared.types.Kind.TheVariants as kind
 use Rattle.name_rules.specs.declared.types.Scalar.{Scalar}
 use Rattle.name_rules.specs.declared.types.Subtype.TheVariants as subtype
@@ -27,18 +24,15 @@ use Rattle.name_rules.specs.declared.types.Wanted.TheVariants as wanted
 use Rattle.ada_tree.specs.Syntax as syntax
 use Rattle.ada_tree.specs.Syntax.{Array, Comp, Decl, Definition, Expr, Ids, Indic, ObjectType, Range}
 use Rattle.ada_typed.specs.Decoded as part
-use Rattle.ada_typed.specs.Syntax as typed
-use Rattle.ada_typed.specs.Syntax.{Decls, Exprs as TypedExprs}
-use Rattle.ada_typed.specs.declared.program.Object.{Object}
-use Rattle.std.specs.Prelude.{Bool, List, None, Option, Some, [], false, if◌then◌else◌, int_le, is_some, length, nat_le, nat_lt, not, option_map, true, ℕ, ℤ, ◌&&◌, ◌++◌, ◌+◌, ◌==◌, ◌||◌, ◌∷◌}
-use Rattle.name_rules.specs.TypedParts.{also, also_all, exprs_of}
+use Rattle.std.specs.Prelude.{Bool, List, None, Option, Some, [], false, if◌then◌else◌, int_le, is_some, length, nat_le, option_map, true, ℕ, ℤ, ◌&&◌, ◌++◌, ◌+◌, ◌∷◌}
+use Rattle.name_rules.specs.TypedParts.{also_all}
 use Rattle.ada_typed.specs.Decoded.{Part as TypedPart}
-use Rattle.name_rules.specs.Judging.{◌>>=◌, Judging, both, breaks, clean, fault, given, joined, pure, read, some, unless, where_clean}
+use Rattle.name_rules.specs.Judging.{◌>>=◌, both, fault, given, joined, pure, read, some, unless}
 use Rattle.name_rules.specs.declared.log.Log.{Log}
 use Rattle.name_laws.proofs.Fitting.{Fits, IsNumber, is_number, fits_constant}
-use Rattle.name_rules.specs.Declarations.{all_ids, begun_names, ended_name, indic_range, Indicated, indicated, indic_bounds, indic, Dimensions, also_dimension, dimensions_from, array_written, array_given, array, Building, also_field, without_fields, with_field, with_fields, indicated_mentions, component, components, record_written, record_of, own_type, first_or, static_number, found_mentions, own_type_of, defined, room, first_room, cells_counted, object_written, new_object, static_in, Initial, static_value_of, initial_value, no_initial, initial, valued_constant, with_mentions, with_object, constant_value, Declaring, object_ended, one_object, typed_object, each_object, objects, all_ended, and_mentions, numbers, new_exception, each_exception, and_type, one_type, declaration, declarations}
-use Rattle.name_laws.proofs.Walk.{Walk, Keeps, k-pure, k-some, k-bind, k-fault, k-breaks, k-unless, k-read, k-if, k-given, k-both, k-where_clean, k-clean}
-use Rattle.name_laws.proofs.Walked.{KeepsInside, KeepsAround, WalksProfiles}
+use Rattle.name_rules.specs.Declarations.{all_ids, begun_names, ended_name, indic_range, Indicated, indicated, indic_bounds, indic, Dimensions, also_dimension, dimensions_from, array_written, array_given, array, Building, also_field, without_fields, with_field, with_fields, indicated_mentions, component, components, record_written, record_of, own_type, first_or, static_number, found_mentions, own_type_of, defined, cells_counted, object_written, new_object, Initial, initial_value, no_initial, initial, valued_constant, constant_value, object_ended, one_object, typed_object, each_object, objects, all_ended, and_mentions, numbers, new_exception, each_exception, one_type, declaration, declarations}
+use Rattle.name_laws.proofs.Walk.{Walk, Keeps, k-pure, k-some, k-bind, k-fault, k-breaks, k-unless, k-read, k-if, k-given, k-both}
+use Rattle.name_laws.proofs.Walked.{KeepsInside}
 use Rattle.name_laws.proofs.KeepsExpressions.{k-expr, k-judged_alone}
 use Rattle.name_laws.proofs.KeepsRanges.{k-both_static, k-static_range, k-two_bounds}
 use Rattle.name_laws.proofs.KeepsScope.{k-as_scalar, k-free, k-subtype_named}
@@ -77,7 +71,7 @@ k-array walk names level here a keeps1 keeps2 = k-bind walk ((dimensions_from le
 pub k-with_field : (walk : Walk) (x0 : Names) (x1 : Building) (x2 : Option ℕ) (x3 : ℕ) (x4 : Option Indicated) → walk.Takes x0 → Keeps walk (with_field x0 x1 x2 x3 x4)
 k-with_field walk names b None token s keeps1 = k-pure walk (without_fields b b.here)
 k-with_field walk names b (Some t) token None keeps1 = k-pure walk (without_fields b (declared names b.here token (Some what.Broken)))
-k-with_field walk names b (Some t) token (Some s) keeps1 = k-bind walk ((number_of s.known)) (λ n. (read (λ log. cells_in log s.known)) >>= λ cells. pure (record { here = declared names b.here token (Some what.Broken); fields = option_map (also_field (record { symbol = symbol names token; name = token; subtype = s.known; number = n; offset = b.offset })) b.fields; offset = saturated (b.offset + cells); mentions = b.mentions; })) (k-number_of walk s.known) (λ n. k-bind walk ((read (λ log. cells_in log s.known))) (λ cells. pure (record { here = declared names b.here token (Some what.Broken); fields = option_map (also_field (record { symbol = symbol names token; name = token; subtype = s.known; number = n; offset = b.offset })) b.fields; offset = saturated (b.offset + cells); mentions = b.mentions; })) (k-read walk (λ log. cells_in log s.known)) (λ cells. k-pure walk (record { here = declared names b.here token (Some what.Broken); fields = option_map (also_field (record { symbol = symbol names token; name = token; subtype = s.known; number = n; offset = b.offset })) b.fields; offset = saturated (b.offset + cells); mentions = b.mentions; })))
+k-with_field walk names b (Some t) token (Some s) keeps1 = k-bind walk ((number_of s.known)) (λ n. (read (λ log. cells_in log s.known)) >>= λ cells. pure (record { here = declared names b.here token (Some what.Broken); fields = option_map (also_field (record { symbol = symbol names token; name = token; subtype = s.known; number = n; offset = b.offset })) b.fields; offset = saturated (b.offset + cells); mentions = b.mentions })) (k-number_of walk s.known) (λ n. k-bind walk ((read (λ log. cells_in log s.known))) (λ cells. pure (record { here = declared names b.here token (Some what.Broken); fields = option_map (also_field (record { symbol = symbol names token; name = token; subtype = s.known; number = n; offset = b.offset })) b.fields; offset = saturated (b.offset + cells); mentions = b.mentions })) (k-read walk (λ log. cells_in log s.known)) (λ cells. k-pure walk (record { here = declared names b.here token (Some what.Broken); fields = option_map (also_field (record { symbol = symbol names token; name = token; subtype = s.known; number = n; offset = b.offset })) b.fields; offset = saturated (b.offset + cells); mentions = b.mentions })))
 
 pub k-with_fields : (walk : Walk) (x0 : Names) (x1 : Building) (x2 : Option Indicated) (x3 : List ℕ) (x4 : List (Option ℕ)) → walk.Takes x0 → Keeps walk (with_fields x0 x1 x2 x3 x4)
 k-with_fields walk names b s (t ∷ ts) (f ∷ fs) keeps1 = k-bind walk (with_field names b f t s) (λ c. with_fields names c s ts fs) (k-with_field walk names b f t s keeps1) (λ c. k-with_fields walk names c s ts fs keeps1)
@@ -115,7 +109,6 @@ k-defined walk names level here token (syntax.RecordType c cs) keeps1 keeps2 = k
 pub k-cells_counted : (walk : Walk) (token cells : ℕ) → Keeps walk (cells_counted token cells)
 k-cells_counted walk token cells = record { at = walk.counted token cells }
 
-
 new-where : (walk : Walk) (names : Names) (here : Context) (token : ℕ) (s : Subtype) (n cells : ℕ) (constant : Bool) (value : Option ℤ) → walk.Takes names → Fits s constant value
     → (log : Log) → IsNumber s n log → (fits : Bool) → walk.R log ((if fits then (object_written names here token n cells constant value >>= λ m. some m) else pure None) log).1
 new-where walk names here token s n cells constant value t f log i true = walk.object names here token s n cells constant value t f log i
@@ -124,13 +117,15 @@ new-where walk names here token s n cells constant value t f log i false = walk.
 pub k-new_object : (walk : Walk) (names : Names) (here : Context) (token : ℕ) (s : Subtype) (constant : Bool) (value : Option ℤ) → walk.Takes names → Fits s constant value
     → Keeps walk (new_object names here token s constant value)
 unfolding new_object
-k-new_object walk names here token s constant value t f = record { at = λ log.
-    let cells = cells_in log s in
-    let c = cells_counted token cells log in
-    let r = number_of s c.1 in
-    walk.joins log c.1 (new_object names here token s constant value log).1 (walk.counted token cells log)
-    (walk.joins c.1 r.1 (new_object names here token s constant value log).1 ((k-number_of walk s).at c.1)
-    (new-where walk names here token s r.0 cells constant value t f r.1 (is_number s c.1) c.0)) }
+k-new_object walk names here token s constant value t f = record {
+  at = λ log.
+      let cells = cells_in log s in
+      let c = cells_counted token cells log in
+      let r = number_of s c.1 in
+      walk.joins log c.1 (new_object names here token s constant value log).1 (walk.counted token cells log)
+      (walk.joins c.1 r.1 (new_object names here token s constant value log).1 ((k-number_of walk s).at c.1)
+      (new-where walk names here token s r.0 cells constant value t f r.1 (is_number s c.1) c.0));
+}
 
 pub k-initial : (walk : Walk) (x0 : Names) (x1 : Inside) (x2 : Context) (x3 : Option Indicated) (x4 : Option Expr) → walk.Takes x0 → KeepsInside walk x1 → Keeps walk (initial x0 x1 x2 x3 x4)
 unfolding initial

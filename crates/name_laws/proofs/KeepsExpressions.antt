@@ -2,10 +2,9 @@
 use Rattle.ada_base.specs.declared.operation.Op.TheVariants as op
 use Rattle.ada_base.specs.declared.operation.Op.{Op}
 use Rattle.ada_tree.specs.FirstTokens as first_token
-use Rattle.name_rules.specs.Found.{Denoted, Found}
+use Rattle.name_rules.specs.Found.{Found}
 use Rattle.name_rules.specs.Operators.{binary, compared, joined_text, logical, membership, negation, not_of, of_subtype, plain, power, unary}
 use Rattle.name_rules.specs.Scope.{scalar_named}
-use Rattle.name_rules.specs.Symbols.{known}
 use Rattle.name_rules.specs.Types.{wanted_of}
 use Rattle.name_rules.specs.Values.{asked, is_kind, kind_of, stored}
 use Rattle.name_rules.specs.declared.found.Found.TheVariants as known
@@ -20,25 +19,16 @@ use Rattle.name_rules.specs.declared.types.Wanted.{Wanted}
 use Rattle.ada_tree.specs.Syntax as syntax
 use Rattle.ada_tree.specs.Syntax.{Adding, Addings, Conjuncts, Expr, Factor, Multiplying, Multiplyings, Name, Primary, Rel, Simple, Term}
 use Rattle.ada_tree.specs.declared.operators.Additive.TheVariants as additive
-use Rattle.ada_tree.specs.declared.operators.Comparison.TheVariants as comparison
-use Rattle.ada_tree.specs.declared.operators.Comparison.{Comparison}
 use Rattle.ada_tree.specs.declared.operators.Logical.TheVariants as logical'
-use Rattle.ada_tree.specs.declared.operators.Multiplicative.TheVariants as multiplicative
-use Rattle.ada_tree.specs.declared.operators.Multiplicative.{Multiplicative}
 use Rattle.ada_tree.specs.declared.operators.Sign.TheVariants as sign
 use Rattle.ada_tree.specs.declared.operators.Sign.{Sign}
-use Rattle.ada_typed.specs.Decoded as part
-use Rattle.ada_typed.specs.Syntax as typed
-use Rattle.ada_typed.specs.Syntax.{Expr as TypedExpr}
 use Rattle.ada_typed.specs.declared.expressions.Sign.TheVariants as unary'
-use Rattle.ada_typed.specs.declared.scalars.Comparison.TheVariants as comparison'
-use Rattle.ada_typed.specs.declared.scalars.Comparison.{Comparison as TypedComparison}
 use Rattle.std.specs.Prelude.{Bool, None, Option, Some, false, if◌then◌else◌, is_some, option_map, true, ℕ}
-use Rattle.ada_typed.specs.Decoded.{Part as TypedPart, as_expr}
-use Rattle.name_rules.specs.Judging.{◌>>=◌, Judging, both, breaks, clean, fault, given, joined, pure, read, some, unless, where_clean}
-use Rattle.name_rules.specs.Expressions.{Inside, factor, multiplying_op, multiplying, multiplied, term_form, term, adding, added, first_wanted, first_term, in_place, simple, comparison_of, blamed, rel, conjoined, joined_rels, short_operand, short_by, short_join, short_operands, short_found, short_form, expr, condition, value_for, judged_alone}
-use Rattle.name_laws.proofs.Walk.{Walk, Keeps, k-pure, k-some, k-bind, k-fault, k-breaks, k-unless, k-read, k-if, k-given, k-both, k-where_clean, k-clean}
-use Rattle.name_laws.proofs.Walked.{KeepsInside, KeepsAround, WalksProfiles}
+use Rattle.ada_typed.specs.Decoded.{Part as TypedPart}
+use Rattle.name_rules.specs.Judging.{◌>>=◌, fault, given, joined, pure}
+use Rattle.name_rules.specs.Expressions.{Inside, factor, multiplying_op, multiplying, multiplied, term_form, term, adding, added, first_wanted, first_term, in_place, simple, comparison_of, blamed, rel, conjoined, joined_rels, short_operand, short_join, short_operands, short_found, short_form, expr, condition, value_for, judged_alone}
+use Rattle.name_laws.proofs.Walk.{Walk, Keeps, k-pure, k-some, k-bind, k-fault, k-if, k-given}
+use Rattle.name_laws.proofs.Walked.{KeepsInside}
 use Rattle.name_laws.proofs.KeepsOperators.{k-binary, k-compared, k-joined_text, k-logical, k-membership, k-not_of, k-of_subtype, k-plain, k-power, k-unary}
 use Rattle.name_laws.proofs.KeepsScope.{k-scalar_named}
 use Rattle.name_laws.proofs.KeepsValues.{k-asked, k-stored}

@@ -1,49 +1,37 @@
 -- What is judged by the rules of Iterations keeps what each line of the log keeps.
 use Rattle.name_rules.specs.Attributes.{attribute_at}
-use Rattle.name_rules.specs.Expressions.{Inside, condition, expr, simple}
-use Rattle.name_rules.specs.Found.{Bounded, Denoted, Found}
+use Rattle.name_rules.specs.Expressions.{Inside, expr, simple}
+use Rattle.name_rules.specs.Found.{Denoted, Found}
 use Rattle.name_rules.specs.Names.{denoted_first, index, is_array}
-use Rattle.name_rules.specs.Parts.{array_shape, new_parameter, new_site, through}
+use Rattle.name_rules.specs.Parts.{array_shape, new_parameter, new_site}
 use Rattle.name_rules.specs.Ranges.{range}
 use Rattle.name_rules.specs.Reducers.{folded_by, reducer_of}
-use Rattle.name_rules.specs.Scope.{entry, is_taken, with_entry}
-use Rattle.name_rules.specs.Symbols.{known, symbol}
-use Rattle.name_rules.specs.Types.{check_at, component_of}
+use Rattle.name_rules.specs.Scope.{is_taken, with_entry}
+use Rattle.name_rules.specs.Symbols.{symbol}
 use Rattle.name_rules.specs.Values.{any_integer}
-use Rattle.name_rules.specs.declared.found.Attribute.TheVariants as attribute'
 use Rattle.name_rules.specs.declared.found.Attribute.{Attribute}
-use Rattle.name_rules.specs.declared.found.Bounded.{Bounded as KnownBounded}
 use Rattle.name_rules.specs.declared.found.Denoted.TheVariants as denoted
 use Rattle.name_rules.specs.declared.found.Denoted.{Denoted as KnownDenoted}
 use Rattle.name_rules.specs.declared.found.Folding.{Folding}
 use Rattle.name_rules.specs.declared.found.Found.TheVariants as known
 use Rattle.name_rules.specs.declared.found.Place.{Place}
-use Rattle.name_rules.specs.declared.log.Log.{Log}
 use Rattle.name_rules.specs.declared.log.Rule.TheVariants.{ChunkRule, ReduceRule, Twice, Unknown, WrongType}
-use Rattle.name_rules.specs.declared.log.Rule.{Rule}
-use Rattle.name_rules.specs.declared.log.Shape.{Shape}
 use Rattle.name_rules.specs.declared.scope.Context.{Context}
 use Rattle.name_rules.specs.declared.scope.Names.{Names}
-use Rattle.name_rules.specs.declared.scope.What.TheVariants as what
-use Rattle.name_rules.specs.declared.scope.What.{What}
-use Rattle.name_rules.specs.declared.types.Subtype.{Subtype}
 use Rattle.name_rules.specs.declared.types.Wanted.TheVariants as wanted
 use Rattle.ada_tree.specs.Syntax as syntax
 use Rattle.ada_tree.specs.Syntax.{Expr, Iter, OptionalExpr, OptionalParallel, Parallel, Simple}
-use Rattle.ada_typed.specs.Syntax as typed
-use Rattle.ada_typed.specs.Syntax.{Iteration, Optional, Selections, Chunk as TypedChunk}
+use Rattle.ada_typed.specs.Syntax.{Selections}
 use Rattle.ada_typed.specs.declared.program.SiteKind.TheVariants as site
 use Rattle.ada_typed.specs.declared.program.SiteKind.{SiteKind}
-use Rattle.ada_typed.specs.declared.scalars.Check.{Check}
-use Rattle.std.specs.List.{list_all}
-use Rattle.std.specs.Prelude.{Bool, None, Option, Some, drop, false, if◌then◌else◌, is_some, length, not, option_map, reverse, true, ℕ, ◌+◌, ◌||◌}
+use Rattle.std.specs.Prelude.{Bool, None, Option, Some, is_some, length, not, option_map, ℕ, ◌||◌}
 use Rattle.ada_typed.specs.Decoded as part
-use Rattle.name_rules.specs.TypedParts.{low_of, high_of, selections_of}
+use Rattle.name_rules.specs.TypedParts.{selections_of}
 use Rattle.ada_typed.specs.Decoded.{Part as TypedPart, as_expr, as_optional, as_iteration}
-use Rattle.name_rules.specs.Judging.{◌>>=◌, Judging, both, breaks, clean, fault, given, joined, pure, read, some, unless, where_clean}
-use Rattle.name_rules.specs.Iterations.{parameter_what, check_of, Chunked, counted, each_chunk, chunk_count, chunked_by, Walked, range_made, with_filter, filtered, item_what, array_walked, no_array, over_place, over_form, over_denoted, walked, with_chunk, with_walked, filter_where, thread_owner, Entered, in_construct, entered_with, parallel_at, entered, is_reduce, reverse_rule, is_reduce_rule, only_reduce_rules, sequence_given, sequence_folded, sequence_rules, sequence}
-use Rattle.name_laws.proofs.Walk.{Walk, Keeps, k-pure, k-some, k-bind, k-fault, k-breaks, k-unless, k-read, k-if, k-given, k-both, k-where_clean, k-clean}
-use Rattle.name_laws.proofs.Walked.{KeepsInside, KeepsAround, WalksProfiles}
+use Rattle.name_rules.specs.Judging.{◌>>=◌, Judging, both, breaks, given, joined, pure, unless}
+use Rattle.name_rules.specs.Iterations.{parameter_what, Chunked, counted, each_chunk, chunk_count, chunked_by, Walked, range_made, filtered, array_walked, no_array, over_place, over_form, over_denoted, walked, with_chunk, with_walked, filter_where, Entered, in_construct, entered_with, parallel_at, entered, is_reduce, reverse_rule, only_reduce_rules, sequence_given, sequence_folded, sequence_rules, sequence}
+use Rattle.name_laws.proofs.Walk.{Walk, Keeps, k-pure, k-some, k-bind, k-breaks, k-unless, k-if, k-given, k-both}
+use Rattle.name_laws.proofs.Walked.{KeepsInside}
 use Rattle.name_laws.proofs.KeepsExpressions.{k-condition, k-expr, k-simple}
 use Rattle.name_laws.proofs.KeepsParts.{k-new_parameter, k-new_site}
 use Rattle.name_laws.proofs.KeepsRanges.{k-range}
@@ -58,7 +46,7 @@ pub k-chunked_by : (walk : Walk) (x0 : Inside) (x1 : Context) (x2 : Parallel) �
 unfolding chunked_by
 k-chunked_by walk inner here (syntax.Unchunked at) keeps1 = k-pure walk (record { chunk = Some part.Nothing; entry = None })
 k-chunked_by walk inner here (syntax.Counted at s) keeps1 = k-bind walk (chunk_count inner here s) (λ e. pure (record { chunk = option_map counted e; entry = None })) (k-chunk_count walk inner here s keeps1) (λ e. k-pure walk (record { chunk = option_map counted e; entry = None }))
-k-chunked_by walk inner here (syntax.Chunked at index r) keeps1 = k-bind walk ((range inner here r)) (λ b. (new_parameter) >>= λ n. pure (record { chunk = option_map (each_chunk n) b; entry = Some (index, parameter_what n b) })) (k-range walk inner here r keeps1) (λ b. k-bind walk ((new_parameter)) (λ n. pure (record { chunk = option_map (each_chunk n) b; entry = Some (index, parameter_what n b) })) (k-new_parameter walk ) (λ n. k-pure walk (record { chunk = option_map (each_chunk n) b; entry = Some (index, parameter_what n b) })))
+k-chunked_by walk inner here (syntax.Chunked at index r) keeps1 = k-bind walk ((range inner here r)) (λ b. (new_parameter) >>= λ n. pure (record { chunk = option_map (each_chunk n) b; entry = Some (index, parameter_what n b) })) (k-range walk inner here r keeps1) (λ b. k-bind walk ((new_parameter)) (λ n. pure (record { chunk = option_map (each_chunk n) b; entry = Some (index, parameter_what n b) })) (k-new_parameter walk) (λ n. k-pure walk (record { chunk = option_map (each_chunk n) b; entry = Some (index, parameter_what n b) })))
 
 pub k-over_place : (walk : Walk) (x0 : ℕ) (x1 : ℕ) (x2 : OptionalExpr) (x3 : Place) (x4 : Selections) → Keeps walk (over_place x0 x1 x2 x3 x4)
 k-over_place walk n token f p ss = (record { at = λ log. (k-if walk (is_array (array_shape log p.subtype)) (pure (array_walked log n token f p ss (array_shape log p.subtype))) ((breaks p.first WrongType >>= λ u. pure (no_array token f))) (k-pure walk (array_walked log n token f p ss (array_shape log p.subtype))) (k-bind walk (breaks p.first WrongType) (λ u. pure (no_array token f)) (k-breaks walk p.first WrongType) (λ u. k-pure walk (no_array token f)))).at log })
@@ -73,8 +61,8 @@ k-over_denoted walk n token f (Some d) = k-over_form walk n token f d.known d.pa
 
 pub k-walked : (walk : Walk) (x0 : Inside) (x1 : Context) (x2 : Iter) → KeepsInside walk x0 → Keeps walk (walked x0 x1 x2)
 unfolding walked
-k-walked walk level here (syntax.InRange index back r f) keeps1 = k-bind walk ((range level here r)) (λ b. (new_parameter) >>= λ n. pure (record { made = option_map (range_made n (is_some back)) b; token = index; entry = parameter_what n b; filter = f; reverse = back })) (k-range walk level here r keeps1) (λ b. k-bind walk ((new_parameter)) (λ n. pure (record { made = option_map (range_made n (is_some back)) b; token = index; entry = parameter_what n b; filter = f; reverse = back })) (k-new_parameter walk ) (λ n. k-pure walk (record { made = option_map (range_made n (is_some back)) b; token = index; entry = parameter_what n b; filter = f; reverse = back })))
-k-walked walk level here (syntax.OfName index nm f) keeps1 = k-bind walk ((level.name here nm)) (λ d. (new_parameter) >>= λ n. over_denoted n index f d) (keeps1.name here nm) (λ d. k-bind walk ((new_parameter)) (λ n. over_denoted n index f d) (k-new_parameter walk ) (λ n. k-over_denoted walk n index f d))
+k-walked walk level here (syntax.InRange index back r f) keeps1 = k-bind walk ((range level here r)) (λ b. (new_parameter) >>= λ n. pure (record { made = option_map (range_made n (is_some back)) b; token = index; entry = parameter_what n b; filter = f; reverse = back })) (k-range walk level here r keeps1) (λ b. k-bind walk ((new_parameter)) (λ n. pure (record { made = option_map (range_made n (is_some back)) b; token = index; entry = parameter_what n b; filter = f; reverse = back })) (k-new_parameter walk) (λ n. k-pure walk (record { made = option_map (range_made n (is_some back)) b; token = index; entry = parameter_what n b; filter = f; reverse = back })))
+k-walked walk level here (syntax.OfName index nm f) keeps1 = k-bind walk ((level.name here nm)) (λ d. (new_parameter) >>= λ n. over_denoted n index f d) (keeps1.name here nm) (λ d. k-bind walk ((new_parameter)) (λ n. over_denoted n index f d) (k-new_parameter walk) (λ n. k-over_denoted walk n index f d))
 
 pub k-with_walked : (walk : Walk) (x0 : Names) (x1 : Context) (x2 : ℕ) (x3 : Walked) → walk.Takes x0 → Keeps walk (with_walked x0 x1 x2 x3)
 k-with_walked walk names here start w keeps1 = k-bind walk (unless (not (is_taken (symbol names w.token) start here)) w.token Twice) (λ u. pure (with_entry here (symbol names w.token) w.entry)) (k-unless walk (not (is_taken (symbol names w.token) start here)) w.token Twice) (λ u. k-pure walk (with_entry here (symbol names w.token) w.entry))

@@ -1,11 +1,10 @@
 -- What is judged by the rules of Names keeps what each line of the log keeps.
-use Rattle.ada_base.specs.declared.reason.Reason.{Reason}
 use Rattle.name_rules.specs.Expressions.{Inside, expr, judged_alone}
 use Rattle.name_rules.specs.Found.{Denoted, Found, denote}
-use Rattle.name_rules.specs.Scope.{selected, stands_for}
+use Rattle.name_rules.specs.Scope.{stands_for}
 use Rattle.name_rules.specs.Shapes.{primary_of_expr}
-use Rattle.name_rules.specs.Symbols.{known, symbol}
-use Rattle.name_rules.specs.Types.{cells_in, component_of, dimensions_of, fields_of, shape_in, stride}
+use Rattle.name_rules.specs.Symbols.{symbol}
+use Rattle.name_rules.specs.Types.{component_of, dimensions_of, fields_of, shape_in, stride}
 use Rattle.name_rules.specs.Values.{asked, first_of}
 use Rattle.name_rules.specs.declared.found.Denoted.TheVariants as denoted
 use Rattle.name_rules.specs.declared.found.Denoted.{Denoted as KnownDenoted}
@@ -13,9 +12,7 @@ use Rattle.name_rules.specs.declared.found.Found.TheVariants as known
 use Rattle.name_rules.specs.declared.found.Place.{Place}
 use Rattle.name_rules.specs.declared.log.Dimension.{Dimension}
 use Rattle.name_rules.specs.declared.log.Field.{Field}
-use Rattle.name_rules.specs.declared.log.Log.{Log}
 use Rattle.name_rules.specs.declared.log.Rule.TheVariants.{Unknown, WrongType}
-use Rattle.name_rules.specs.declared.log.Shape.TheVariants as shape
 use Rattle.name_rules.specs.declared.log.Shape.{Shape}
 use Rattle.name_rules.specs.declared.scope.Context.{Context}
 use Rattle.name_rules.specs.declared.scope.Names.{Names}
@@ -26,14 +23,14 @@ use Rattle.ada_tree.specs.Syntax as syntax
 use Rattle.ada_tree.specs.Syntax.{Arg, Args, Pack, Primary}
 use Rattle.ada_typed.specs.Decoded as part
 use Rattle.ada_typed.specs.Syntax.{Selections}
-use Rattle.std.specs.Prelude.{Bool, List, None, Option, Some, [], drop, false, if◌then◌else◌, length, slice_get, true, ℕ, ◌+◌, ◌==◌, ◌∷◌}
+use Rattle.std.specs.Prelude.{List, None, Option, Some, [], drop, length, slice_get, ℕ, ◌+◌, ◌==◌, ◌∷◌}
 use Rattle.ada_typed.specs.Syntax as typed
 use Rattle.name_rules.specs.TypedParts.{also}
 use Rattle.ada_typed.specs.Decoded.{Part as TypedPart, as_expr}
-use Rattle.name_rules.specs.Judging.{◌>>=◌, Judging, both, breaks, clean, fault, given, joined, pure, read, some, unless, where_clean}
+use Rattle.name_rules.specs.Judging.{◌>>=◌, fault, given, joined, pure, some}
 use Rattle.name_rules.specs.Names.{denoted_first, part_place, field_from, is_record, is_array, field_in, field_of, field_form, field, is_string, arg_alone, args_alone, wrong_call, count, selected_by, index_in, index_where, unnamed, index, indexes, indexed, component_cells, index_shape, array_call, object_call, field_of_pack, pack_from, as_exception, exception}
-use Rattle.name_laws.proofs.Walk.{Walk, Keeps, k-pure, k-some, k-bind, k-fault, k-breaks, k-unless, k-read, k-if, k-given, k-both, k-where_clean, k-clean}
-use Rattle.name_laws.proofs.Walked.{KeepsInside, KeepsAround, WalksProfiles}
+use Rattle.name_laws.proofs.Walk.{Walk, Keeps, k-pure, k-some, k-bind, k-fault, k-if, k-given, k-where_clean}
+use Rattle.name_laws.proofs.Walked.{KeepsInside}
 use Rattle.name_laws.proofs.KeepsExpressions.{k-expr, k-judged_alone}
 use Rattle.name_laws.proofs.KeepsScope.{k-selected, k-stands_for}
 use Rattle.name_laws.proofs.KeepsValues.{k-asked}

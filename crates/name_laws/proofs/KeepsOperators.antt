@@ -1,32 +1,27 @@
 -- What is judged by the rules of Operators keeps what each line of the log keeps.
-use Rattle.ada_base.specs.Operation.{is_in_base}
-use Rattle.ada_base.specs.declared.operation.Base.TheVariants.{Narrow, Wide}
 use Rattle.ada_base.specs.declared.operation.Op.TheVariants as op
 use Rattle.ada_base.specs.declared.operation.Op.{Op}
-use Rattle.name_rules.specs.Found.{Found, opened, scalar, static, text_found, universal}
-use Rattle.name_rules.specs.Symbols.{known}
+use Rattle.name_rules.specs.Found.{Found, scalar, static, text_found, universal}
 use Rattle.name_rules.specs.Types.{class_of, in_base, same}
-use Rattle.name_rules.specs.Values.{asked, bounded, exact, first_of, fitting, is_kind, is_number, is_scalar, joint, kind_of, mentions_of, suits, value_of}
+use Rattle.name_rules.specs.Values.{asked, exact, first_of, fitting, is_kind, is_number, is_scalar, kind_of, suits, value_of}
 use Rattle.name_rules.specs.declared.found.Found.TheVariants as known
 use Rattle.name_rules.specs.declared.found.Found.{Found as Known}
-use Rattle.name_rules.specs.declared.found.Limits.{Limits}
 use Rattle.name_rules.specs.declared.log.Rule.TheVariants.{StaticRange, WrongType}
 use Rattle.name_rules.specs.declared.types.Kind.TheVariants as kind
 use Rattle.name_rules.specs.declared.types.Kind.{Kind}
 use Rattle.name_rules.specs.declared.types.Scalar.{Scalar}
-use Rattle.ada_typed.specs.Decoded as part
 use Rattle.ada_typed.specs.Syntax as typed
 use Rattle.ada_typed.specs.Syntax.{Expr as TypedExpr, Exprs as TypedExprs}
 use Rattle.ada_typed.specs.declared.expressions.Sign.TheVariants as unary'
 use Rattle.ada_typed.specs.declared.expressions.Sign.{Sign as Unary}
 use Rattle.ada_typed.specs.declared.scalars.Class.TheVariants as class
 use Rattle.ada_typed.specs.declared.scalars.Comparison.{Comparison as TypedComparison}
-use Rattle.std.specs.Prelude.{Bool, None, Option, Some, false, if◌then◌else◌, neg_ℤ, not, option_map, pos, unsigned_abs, ℕ, ℤ, ◌&&◌}
-use Rattle.name_rules.specs.TypedParts.{also_all, exprs_of}
+use Rattle.std.specs.Prelude.{Bool, None, Option, Some, false, if◌then◌else◌, not, option_map, ℕ, ℤ, ◌&&◌}
+use Rattle.name_rules.specs.TypedParts.{also_all}
 use Rattle.ada_typed.specs.Decoded.{Part as TypedPart, as_expr}
-use Rattle.name_rules.specs.Judging.{◌>>=◌, Judging, both, breaks, clean, fault, given, joined, pure, read, some, unless, where_clean}
-use Rattle.name_rules.specs.Operators.{static_of, static_universal, both_mentions, static_operation, operation_on, operation_by, typed_operation, leaf, leaf_limits, open_form, open_of, open_two, open_binary, universal_by, universal_operation, by_kinds, operand_blamed, operation, binary, open_power, universal_power, static_power, universal_to, power_to, power, signed, static_unary, unary_typed, open_unary, unary_open, unary_by, unary, plain_typed, plain_open, plain_by, plain, negation, not_of, joined_texts, joined_text, logical, compared_at, common_kind, compared_by, compared, member, within_bounds, first_kind, member_of, membership, limit_of, of_subtype}
-use Rattle.name_laws.proofs.Walk.{Walk, Keeps, k-pure, k-some, k-bind, k-fault, k-breaks, k-unless, k-read, k-if, k-given, k-both, k-where_clean, k-clean}
+use Rattle.name_rules.specs.Judging.{◌>>=◌, both, fault, given, pure, some}
+use Rattle.name_rules.specs.Operators.{static_of, static_universal, both_mentions, static_operation, operation_on, operation_by, typed_operation, open_of, open_binary, universal_by, universal_operation, by_kinds, operand_blamed, operation, binary, open_power, universal_power, static_power, universal_to, power_to, power, signed, static_unary, unary_typed, open_unary, unary_open, unary_by, unary, plain_typed, plain_open, plain_by, plain, negation, not_of, joined_texts, joined_text, logical, compared_at, common_kind, compared_by, compared, member, within_bounds, first_kind, member_of, membership, limit_of, of_subtype}
+use Rattle.name_laws.proofs.Walk.{Walk, Keeps, k-pure, k-some, k-bind, k-fault, k-if, k-given, k-both}
 use Rattle.name_laws.proofs.KeepsValues.{k-asked, k-fitting}
 
 pub k-static_of : (walk : Walk) (x0 : ℕ) (x1 : Kind) (x2 : TypedPart) (x3 : Option ℤ) → Keeps walk (static_of x0 x1 x2 x3)

@@ -1,14 +1,12 @@
 -- What is judged by the rules of Parts keeps what each line of the log keeps.
-use Rattle.name_rules.specs.Attributes.{attribute_at, attribute_found, bound_with, dimensions_in, is_array_object, is_bound, is_reduction, mentioned, prefix_subtype, scalar_with, settled_attribute}
-use Rattle.name_rules.specs.Calls.{conversion, sub_call}
+use Rattle.name_rules.specs.Attributes.{attribute_at, attribute_found, bound_with, dimensions_in, is_array_object, is_bound, is_reduction, mentioned, prefix_subtype, settled_attribute}
 use Rattle.name_rules.specs.Expressions.{Inside, expr}
-use Rattle.name_rules.specs.Found.{Denoted, Found, denote, value_denoted}
-use Rattle.name_rules.specs.Names.{args_alone, component_cells, denoted_first, field, object_call, wrong_call}
-use Rattle.name_rules.specs.Output.{io_call}
+use Rattle.name_rules.specs.Found.{Denoted, denote, value_denoted}
+use Rattle.name_rules.specs.Names.{args_alone, denoted_first, field, wrong_call}
 use Rattle.name_rules.specs.Reducers.{folded_by, reducer_of}
-use Rattle.name_rules.specs.Scope.{item, stands_for}
-use Rattle.name_rules.specs.Symbols.{known, symbol}
-use Rattle.name_rules.specs.Types.{cells_of_shape, component_of, dimensions_of, shape_in}
+use Rattle.name_rules.specs.Scope.{stands_for}
+use Rattle.name_rules.specs.Symbols.{symbol}
+use Rattle.name_rules.specs.Types.{component_of}
 use Rattle.name_rules.specs.declared.found.Attribute.TheVariants as attribute'
 use Rattle.name_rules.specs.declared.found.Attribute.{Attribute}
 use Rattle.name_rules.specs.declared.found.Denoted.TheVariants as denoted
@@ -17,13 +15,10 @@ use Rattle.name_rules.specs.declared.found.Found.TheVariants as known
 use Rattle.name_rules.specs.declared.found.Place.{Place}
 use Rattle.name_rules.specs.declared.found.Prefix.TheVariants as prefix
 use Rattle.name_rules.specs.declared.found.Prefix.{Prefix}
-use Rattle.name_rules.specs.declared.log.Log.{Log}
 use Rattle.name_rules.specs.declared.log.Rule.TheVariants.{ReduceRule, WrongType}
-use Rattle.name_rules.specs.declared.log.Shape.{Shape}
 use Rattle.name_rules.specs.declared.scope.Context.{Context}
 use Rattle.name_rules.specs.declared.scope.Names.{Names}
 use Rattle.name_rules.specs.declared.types.Subtype.TheVariants as subtype
-use Rattle.name_rules.specs.declared.types.Subtype.{Subtype}
 use Rattle.name_rules.specs.declared.types.Wanted.TheVariants as wanted
 use Rattle.ada_tree.specs.Syntax as syntax
 use Rattle.ada_tree.specs.Syntax.{Args, Expr, Name, Part, Parts}
@@ -32,13 +27,13 @@ use Rattle.ada_typed.specs.Syntax as typed
 use Rattle.ada_typed.specs.Syntax.{Iteration, Optional, Selections}
 use Rattle.ada_typed.specs.declared.program.SiteKind.TheVariants as site
 use Rattle.ada_typed.specs.declared.program.SiteKind.{SiteKind}
-use Rattle.std.specs.Prelude.{Bool, None, Option, Some, [], false, if◌then◌else◌, length, not, option_map, true, ℕ, ◌++◌, ◌+◌, ◌/◌, ◌∷◌}
+use Rattle.std.specs.Prelude.{Bool, None, Option, Some, false, option_map, true, ℕ}
 use Rattle.name_rules.specs.TypedParts.{selections_of}
 use Rattle.ada_typed.specs.Decoded.{Part as TypedPart}
-use Rattle.name_rules.specs.Judging.{◌>>=◌, Judging, both, breaks, clean, fault, given, joined, pure, read, some, unless, where_clean}
-use Rattle.name_rules.specs.Parts.{new_parameter, new_site, site_where, array_shape, through, is_parallel, item_subtype, item_found, array_reduction, wrong_arguments, array_reduced, reduced_with, of_array, other_with, attribute_with, call_form, call, part_of, part_alone, next_part, parts, name, valued_form, valued_by, value_form, value_named}
-use Rattle.name_laws.proofs.Walk.{Walk, Keeps, k-pure, k-some, k-bind, k-fault, k-breaks, k-unless, k-read, k-if, k-given, k-both, k-where_clean, k-clean}
-use Rattle.name_laws.proofs.Walked.{KeepsInside, KeepsAround, WalksProfiles}
+use Rattle.name_rules.specs.Judging.{◌>>=◌, both, fault, given, pure, read}
+use Rattle.name_rules.specs.Parts.{new_parameter, new_site, site_where, array_shape, through, is_parallel, item_found, array_reduction, wrong_arguments, array_reduced, reduced_with, of_array, other_with, attribute_with, call_form, call, part_of, part_alone, next_part, parts, name, valued_form, valued_by, value_form, value_named}
+use Rattle.name_laws.proofs.Walk.{Walk, Keeps, k-pure, k-some, k-bind, k-fault, k-read, k-if, k-given, k-both, k-where_clean}
+use Rattle.name_laws.proofs.Walked.{KeepsInside}
 use Rattle.name_laws.proofs.KeepsAttributes.{k-attribute_found, k-bound_with, k-scalar_with, k-settled_attribute}
 use Rattle.name_laws.proofs.KeepsCalls.{k-conversion, k-sub_call}
 use Rattle.name_laws.proofs.KeepsExpressions.{k-expr}
@@ -58,7 +53,7 @@ k-site_where walk here at false = k-pure walk None
 k-site_where walk here at true = k-bind walk (new_site here at site.Reduction) (λ n. pure (Some n)) (k-new_site walk here at site.Reduction) (λ n. k-pure walk (Some n))
 
 pub k-array_reduction : (walk : Walk) (x0 : Names) (x1 : Inside) (x2 : Context) (x3 : Place) (x4 : Selections) (x5 : ℕ) (x6 : Attribute) (x7 : Expr) (x8 : Expr) → walk.Takes x0 → KeepsInside walk x1 → Keeps walk (array_reduction x0 x1 x2 x3 x4 x5 x6 x7 x8)
-k-array_reduction walk names inside here p ss at a r v keeps1 keeps2 = k-bind walk ((site_where here p.first (is_parallel a))) (λ construct. (new_parameter) >>= λ n. (read (λ log. through log p ss (array_shape log p.subtype) n typed.Absent)) >>= λ i. (read (λ log. component_of (array_shape log p.subtype))) >>= λ c. (reducer_of names inside here r) >>= λ f. (expr names inside here wanted.Other v) >>= λ x. (both f x (λ g. folded_by (record { at = p.first; attribute = at; site = construct }) part.Nothing (part.AnIteration i) g (item_found p.first n p.variable c))) >>= λ y. pure (option_map value_denoted y)) (k-site_where walk here p.first (is_parallel a)) (λ construct. k-bind walk ((new_parameter)) (λ n. (read (λ log. through log p ss (array_shape log p.subtype) n typed.Absent)) >>= λ i. (read (λ log. component_of (array_shape log p.subtype))) >>= λ c. (reducer_of names inside here r) >>= λ f. (expr names inside here wanted.Other v) >>= λ x. (both f x (λ g. folded_by (record { at = p.first; attribute = at; site = construct }) part.Nothing (part.AnIteration i) g (item_found p.first n p.variable c))) >>= λ y. pure (option_map value_denoted y)) (k-new_parameter walk ) (λ n. k-bind walk ((read (λ log. through log p ss (array_shape log p.subtype) n typed.Absent))) (λ i. (read (λ log. component_of (array_shape log p.subtype))) >>= λ c. (reducer_of names inside here r) >>= λ f. (expr names inside here wanted.Other v) >>= λ x. (both f x (λ g. folded_by (record { at = p.first; attribute = at; site = construct }) part.Nothing (part.AnIteration i) g (item_found p.first n p.variable c))) >>= λ y. pure (option_map value_denoted y)) (k-read walk (λ log. through log p ss (array_shape log p.subtype) n typed.Absent)) (λ i. k-bind walk ((read (λ log. component_of (array_shape log p.subtype)))) (λ c. (reducer_of names inside here r) >>= λ f. (expr names inside here wanted.Other v) >>= λ x. (both f x (λ g. folded_by (record { at = p.first; attribute = at; site = construct }) part.Nothing (part.AnIteration i) g (item_found p.first n p.variable c))) >>= λ y. pure (option_map value_denoted y)) (k-read walk (λ log. component_of (array_shape log p.subtype))) (λ c. k-bind walk ((reducer_of names inside here r)) (λ f. (expr names inside here wanted.Other v) >>= λ x. (both f x (λ g. folded_by (record { at = p.first; attribute = at; site = construct }) part.Nothing (part.AnIteration i) g (item_found p.first n p.variable c))) >>= λ y. pure (option_map value_denoted y)) (k-reducer_of walk names inside here r keeps1 keeps2) (λ f. k-bind walk ((expr names inside here wanted.Other v)) (λ x. (both f x (λ g. folded_by (record { at = p.first; attribute = at; site = construct }) part.Nothing (part.AnIteration i) g (item_found p.first n p.variable c))) >>= λ y. pure (option_map value_denoted y)) (k-expr walk names inside here wanted.Other v keeps1 keeps2) (λ x. k-bind walk ((both f x (λ g. folded_by (record { at = p.first; attribute = at; site = construct }) part.Nothing (part.AnIteration i) g (item_found p.first n p.variable c)))) (λ y. pure (option_map value_denoted y)) (k-both walk f x (λ g. folded_by (record { at = p.first; attribute = at; site = construct }) part.Nothing (part.AnIteration i) g (item_found p.first n p.variable c)) (λ g z1. k-folded_by walk (record { at = p.first; attribute = at; site = construct }) part.Nothing (part.AnIteration i) g (item_found p.first n p.variable c) z1)) (λ y. k-pure walk (option_map value_denoted y))))))))
+k-array_reduction walk names inside here p ss at a r v keeps1 keeps2 = k-bind walk ((site_where here p.first (is_parallel a))) (λ construct. (new_parameter) >>= λ n. (read (λ log. through log p ss (array_shape log p.subtype) n typed.Absent)) >>= λ i. (read (λ log. component_of (array_shape log p.subtype))) >>= λ c. (reducer_of names inside here r) >>= λ f. (expr names inside here wanted.Other v) >>= λ x. (both f x (λ g. folded_by (record { at = p.first; attribute = at; site = construct }) part.Nothing (part.AnIteration i) g (item_found p.first n p.variable c))) >>= λ y. pure (option_map value_denoted y)) (k-site_where walk here p.first (is_parallel a)) (λ construct. k-bind walk ((new_parameter)) (λ n. (read (λ log. through log p ss (array_shape log p.subtype) n typed.Absent)) >>= λ i. (read (λ log. component_of (array_shape log p.subtype))) >>= λ c. (reducer_of names inside here r) >>= λ f. (expr names inside here wanted.Other v) >>= λ x. (both f x (λ g. folded_by (record { at = p.first; attribute = at; site = construct }) part.Nothing (part.AnIteration i) g (item_found p.first n p.variable c))) >>= λ y. pure (option_map value_denoted y)) (k-new_parameter walk) (λ n. k-bind walk ((read (λ log. through log p ss (array_shape log p.subtype) n typed.Absent))) (λ i. (read (λ log. component_of (array_shape log p.subtype))) >>= λ c. (reducer_of names inside here r) >>= λ f. (expr names inside here wanted.Other v) >>= λ x. (both f x (λ g. folded_by (record { at = p.first; attribute = at; site = construct }) part.Nothing (part.AnIteration i) g (item_found p.first n p.variable c))) >>= λ y. pure (option_map value_denoted y)) (k-read walk (λ log. through log p ss (array_shape log p.subtype) n typed.Absent)) (λ i. k-bind walk ((read (λ log. component_of (array_shape log p.subtype)))) (λ c. (reducer_of names inside here r) >>= λ f. (expr names inside here wanted.Other v) >>= λ x. (both f x (λ g. folded_by (record { at = p.first; attribute = at; site = construct }) part.Nothing (part.AnIteration i) g (item_found p.first n p.variable c))) >>= λ y. pure (option_map value_denoted y)) (k-read walk (λ log. component_of (array_shape log p.subtype))) (λ c. k-bind walk ((reducer_of names inside here r)) (λ f. (expr names inside here wanted.Other v) >>= λ x. (both f x (λ g. folded_by (record { at = p.first; attribute = at; site = construct }) part.Nothing (part.AnIteration i) g (item_found p.first n p.variable c))) >>= λ y. pure (option_map value_denoted y)) (k-reducer_of walk names inside here r keeps1 keeps2) (λ f. k-bind walk ((expr names inside here wanted.Other v)) (λ x. (both f x (λ g. folded_by (record { at = p.first; attribute = at; site = construct }) part.Nothing (part.AnIteration i) g (item_found p.first n p.variable c))) >>= λ y. pure (option_map value_denoted y)) (k-expr walk names inside here wanted.Other v keeps1 keeps2) (λ x. k-bind walk ((both f x (λ g. folded_by (record { at = p.first; attribute = at; site = construct }) part.Nothing (part.AnIteration i) g (item_found p.first n p.variable c)))) (λ y. pure (option_map value_denoted y)) (k-both walk f x (λ g. folded_by (record { at = p.first; attribute = at; site = construct }) part.Nothing (part.AnIteration i) g (item_found p.first n p.variable c)) (λ g z1. k-folded_by walk (record { at = p.first; attribute = at; site = construct }) part.Nothing (part.AnIteration i) g (item_found p.first n p.variable c) z1)) (λ y. k-pure walk (option_map value_denoted y))))))))
 
 pub k-wrong_arguments : (walk : Walk) (x0 : Names) (x1 : Inside) (x2 : Context) (x3 : ℕ) (x4 : Args) → walk.Takes x0 → KeepsInside walk x1 → Keeps walk (wrong_arguments x0 x1 x2 x3 x4)
 k-wrong_arguments walk names inside here bracket as' keeps1 keeps2 = k-where_clean walk (args_alone names inside here as') (λ u. fault bracket WrongType) (k-args_alone walk names inside here as' keeps1 keeps2) (λ u. k-fault walk bracket WrongType)

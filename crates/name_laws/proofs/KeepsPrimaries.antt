@@ -1,26 +1,21 @@
 -- What is judged by the rules of Primaries keeps what each line of the log keeps.
-use Rattle.name_rules.specs.Aggregates.{ByPosition, aggregate, contents}
+use Rattle.name_rules.specs.Aggregates.{ByPosition, contents}
 use Rattle.name_rules.specs.Attributes.{alone}
 use Rattle.name_rules.specs.Expressions.{Inside, condition, expr, in_place}
 use Rattle.ada_tree.specs.FirstTokens as first_token
-use Rattle.name_rules.specs.Found.{Found, With, composite, opened, scalar, text_found, universal}
-use Rattle.name_rules.specs.Iterations.{sequence}
-use Rattle.name_rules.specs.Operators.{first_kind, open_of}
-use Rattle.name_rules.specs.Parts.{name, value_named}
-use Rattle.name_rules.specs.Symbols.{known, number, text}
-use Rattle.name_rules.specs.Types.{typed_scalar}
-use Rattle.name_rules.specs.Values.{asked, composite_asked, joint, kind_of}
+use Rattle.name_rules.specs.Found.{Found, opened, scalar, text_found, universal}
+use Rattle.name_rules.specs.Operators.{open_of}
+use Rattle.name_rules.specs.Parts.{value_named}
+use Rattle.name_rules.specs.Symbols.{number, text}
+use Rattle.name_rules.specs.Values.{asked, composite_asked, kind_of}
 use Rattle.name_rules.specs.declared.found.Found.TheVariants as known
 use Rattle.name_rules.specs.declared.found.Found.{Found as Known}
-use Rattle.name_rules.specs.declared.found.Limits.{Limits}
 use Rattle.name_rules.specs.declared.log.Rule.TheVariants.{Limit, NotVisible, WrongType}
 use Rattle.name_rules.specs.declared.scope.Context.{Context}
 use Rattle.name_rules.specs.declared.scope.Names.{Names}
 use Rattle.name_rules.specs.declared.scope.Target.TheVariants as target
 use Rattle.name_rules.specs.declared.scope.Target.{Target}
 use Rattle.name_rules.specs.declared.types.Kind.{Kind}
-use Rattle.name_rules.specs.declared.types.Subtype.TheVariants as subtype
-use Rattle.name_rules.specs.declared.types.Subtype.{Subtype}
 use Rattle.name_rules.specs.declared.types.Wanted.TheVariants as wanted
 use Rattle.name_rules.specs.declared.types.Wanted.{Wanted}
 use Rattle.ada_tree.specs.Syntax as syntax
@@ -28,12 +23,12 @@ use Rattle.ada_tree.specs.Syntax.{Elsifs, Expr, Primary}
 use Rattle.ada_typed.specs.Decoded as part
 use Rattle.ada_typed.specs.Syntax as typed
 use Rattle.std.specs.Prelude.{List, None, Option, Some, [], false, option_map, suc, true, zero, ℕ, ◌∷◌}
-use Rattle.name_rules.specs.TypedParts.{pair, left_of, right_of, also}
+use Rattle.name_rules.specs.TypedParts.{left_of, right_of, also}
 use Rattle.ada_typed.specs.Decoded.{Part as TypedPart, as_expr}
-use Rattle.name_rules.specs.Judging.{◌>>=◌, Judging, both, breaks, clean, fault, given, joined, pure, read, some, unless, where_clean}
-use Rattle.name_rules.specs.Primaries.{number_of_composite, composite_in, Waiting, also_waiting, also_choice, alternative, alternatives, common, first_some, common_composite, if_part, with_known, scalar_ifs, scalar_if, composite_part, composite_ifs, composite_if, open_part, open_ifs, open_if, conditional, no_text, if_expr, grouped_scalar, grouped_form, grouped, target_found, target_at, text_at, primary, level_above, too_deep, deep, inside}
-use Rattle.name_laws.proofs.Walk.{Walk, Keeps, k-pure, k-some, k-bind, k-fault, k-breaks, k-unless, k-read, k-if, k-given, k-both, k-where_clean, k-clean}
-use Rattle.name_laws.proofs.Walked.{KeepsInside, KeepsAround, WalksProfiles}
+use Rattle.name_rules.specs.Judging.{◌>>=◌, both, given, joined, pure, some}
+use Rattle.name_rules.specs.Primaries.{composite_in, Waiting, also_choice, alternative, alternatives, common, common_composite, if_part, with_known, scalar_ifs, scalar_if, composite_part, composite_ifs, composite_if, open_ifs, open_if, conditional, no_text, if_expr, grouped_scalar, grouped_form, grouped, target_found, target_at, text_at, primary, level_above, too_deep, inside}
+use Rattle.name_laws.proofs.Walk.{Walk, Keeps, k-pure, k-some, k-bind, k-fault, k-given, k-both}
+use Rattle.name_laws.proofs.Walked.{KeepsInside}
 use Rattle.name_laws.proofs.KeepsAggregates.{k-aggregate}
 use Rattle.name_laws.proofs.KeepsExpressions.{k-condition, k-expr, k-in_place}
 use Rattle.name_laws.proofs.KeepsIterations.{k-sequence}

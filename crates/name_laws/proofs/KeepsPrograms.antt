@@ -1,13 +1,12 @@
 -- What is judged by the rules of Programs keeps what each line of the log keeps.
 use Rattle.name_rules.specs.Declarations.{all_ids, begun_names, cells_counted, declaration, declarations, ended_name, new_object}
-use Rattle.name_rules.specs.Expressions.{Inside, judged_alone, value_for}
-use Rattle.name_rules.specs.Found.{Denoted}
+use Rattle.name_rules.specs.Expressions.{Inside, judged_alone}
 use Rattle.name_rules.specs.Parts.{name}
-use Rattle.name_rules.specs.Primaries.{inside, level_above}
-use Rattle.name_rules.specs.Scope.{declared, free, object, scalar_named, standard, stands_for, subtype_named}
+use Rattle.name_rules.specs.Primaries.{inside}
+use Rattle.name_rules.specs.Scope.{declared, free, scalar_named, stands_for, subtype_named}
 use Rattle.name_rules.specs.Statements.{around, body, no_decls, stmt}
-use Rattle.name_rules.specs.Symbols.{ada_name, all_parallel_policy, all_policy, integer_io_name, known, known_parallel_policy, nonblocking_name, number, policy_name, symbol, text_io_name}
-use Rattle.name_rules.specs.Types.{is_integer, typed_scalar}
+use Rattle.name_rules.specs.Symbols.{ada_name, all_parallel_policy, all_policy, integer_io_name, known_parallel_policy, nonblocking_name, policy_name, symbol, text_io_name}
+use Rattle.name_rules.specs.Types.{is_integer}
 use Rattle.name_rules.specs.declared.found.Denoted.TheVariants as denoted
 use Rattle.name_rules.specs.declared.found.Denoted.{Denoted as KnownDenoted}
 use Rattle.name_rules.specs.declared.found.Found.TheVariants as known
@@ -15,10 +14,8 @@ use Rattle.name_rules.specs.declared.log.Rule.TheVariants.{NotStatic, NotVisible
 use Rattle.name_rules.specs.declared.log.Taken.{Taken}
 use Rattle.name_rules.specs.declared.scope.Context.{Context}
 use Rattle.name_rules.specs.declared.scope.Names.{Names}
-use Rattle.name_rules.specs.declared.scope.Packages.{Packages}
 use Rattle.name_rules.specs.declared.scope.Returns.TheVariants as returns
 use Rattle.name_rules.specs.declared.scope.Returns.{Returns}
-use Rattle.name_rules.specs.declared.scope.Target.TheVariants as target
 use Rattle.name_rules.specs.declared.scope.What.TheVariants as what
 use Rattle.name_rules.specs.declared.types.Kind.TheVariants as kind
 use Rattle.name_rules.specs.declared.types.Scalar.{Scalar}
@@ -30,18 +27,12 @@ use Rattle.ada_tree.specs.declared.operators.ClauseWord.TheVariants as word
 use Rattle.ada_tree.specs.declared.operators.ClauseWord.{ClauseWord}
 use Rattle.ada_tree.specs.declared.operators.Mode.TheVariants as mode'
 use Rattle.ada_tree.specs.declared.operators.Mode.{Mode as FormalMode}
-use Rattle.ada_typed.specs.Decoded as part
-use Rattle.ada_typed.specs.Syntax as typed
-use Rattle.ada_typed.specs.Syntax.{Body as TypedBody, Sub as TypedSub}
-use Rattle.ada_typed.specs.declared.program.Formal.{Formal as TypedFormal}
-use Rattle.ada_typed.specs.declared.program.Mode.TheVariants as mode
 use Rattle.ada_typed.specs.declared.program.Mode.{Mode}
-use Rattle.std.specs.Prelude.{Bool, List, None, Option, Some, [], drop, false, if◌then◌else◌, int_le, length, map, not, option_map, pos, true, ℕ, ℤ, ◌&&◌, ◌++◌, ◌+◌, ◌-◌, ◌==◌, ◌||◌, ◌∷◌}
-use Rattle.ada_typed.specs.Decoded.{Part as TypedPart, as_body}
-use Rattle.name_rules.specs.Judging.{◌>>=◌, Judging, both, breaks, clean, fault, given, joined, pure, read, some, unless, where_clean}
-use Rattle.name_rules.specs.Programs.{policy_named, policy, pack_end, pack, has, with_package, withed_by, clause_name, clause_packs, clauses, boolean_place, not_zero, aspect_denoted, known_of, aspect_value, aspect, end_name, mode_of, mode_rule, is_constant, formal_entry, one_formal, also_taken_by, each_formal, formal, formals_from, formals, written_profile, result_named, returns_of, Profiled, is_function, taken_or, gives_or, profile_where, behind, next_owner, profile, typed_formal, typed_sub, level_of, sub_where, with_body, returned_body, result_value, with_value_of, subprogram, Declared', also_sub, unit_of, units, Whole, whole, main, outermost, program}
-use Rattle.name_laws.proofs.Walk.{Walk, Keeps, k-pure, k-some, k-bind, k-fault, k-breaks, k-unless, k-read, k-if, k-given, k-both, k-where_clean, k-clean}
-use Rattle.name_laws.proofs.Walked.{KeepsInside, KeepsAround, WalksProfiles}
+use Rattle.std.specs.Prelude.{Bool, List, None, Option, Some, [], false, if◌then◌else◌, length, not, option_map, true, ℕ, ◌&&◌, ◌+◌, ◌-◌, ◌==◌, ◌||◌, ◌∷◌}
+use Rattle.name_rules.specs.Judging.{◌>>=◌, breaks, fault, given, joined, pure, some, unless}
+use Rattle.name_rules.specs.Programs.{policy_named, policy, pack_end, pack, has, with_package, withed_by, clause_name, clause_packs, clauses, boolean_place, not_zero, aspect_denoted, known_of, aspect_value, aspect, end_name, mode_of, mode_rule, is_constant, formal_entry, one_formal, also_taken_by, each_formal, formal, formals_from, formals, written_profile, result_named, returns_of, Profiled, is_function, taken_or, gives_or, profile_where, behind, next_owner, profile, level_of, sub_where, with_body, returned_body, result_value, with_value_of, subprogram, Declared', also_sub, unit_of, units, whole, main, outermost, program}
+use Rattle.name_laws.proofs.Walk.{Walk, Keeps, k-pure, k-some, k-bind, k-fault, k-breaks, k-unless, k-read, k-if, k-given}
+use Rattle.name_laws.proofs.Walked.{KeepsInside, WalksProfiles}
 use Rattle.name_laws.proofs.KeepsDeclarations.{k-begun_names, k-cells_counted, k-declaration, k-declarations, k-new_object}
 use Rattle.name_laws.proofs.KeepsExpressions.{k-judged_alone, k-value_for}
 use Rattle.name_laws.proofs.KeepsPrimaries.{k-inside, k-level_above}
@@ -134,12 +125,12 @@ k-profile_where walk names here name (Some f) (Some ts) (Some r) keeps1 profiles
 k-profile_where walk names here name (Some f) ts r keeps1 profiles = k-pure walk (None, declared names here name None)
 k-profile_where walk names here name None ts r keeps1 profiles = k-pure walk (None, here)
 
-pub k-next_owner : (walk : Walk) → Keeps walk (next_owner )
-k-next_owner walk  = k-read walk (λ log. length log.profiles + 1)
+pub k-next_owner : (walk : Walk) → Keeps walk (next_owner)
+k-next_owner walk = k-read walk (λ log. length log.profiles + 1)
 
 pub k-profile : (walk : Walk) (x0 : Names) (x1 : ℕ) (x2 : Context) (x3 : ℕ) (x4 : Option ℕ) (x5 : Option Formals) → walk.Takes x0 → WalksProfiles walk → Keeps walk (profile x0 x1 x2 x3 x4 x5)
 unfolding profile
-k-profile walk names start here name result fs keeps1 profiles = k-bind walk ((next_owner)) (λ owner. (formals names (is_function result) (record here { owner = owner }) fs) >>= λ f. (result_named names f.0 result) >>= λ r. (free names start here name) >>= λ one. (profile_where names here name one f.1 r) >>= λ p. pure (record { outer = p.1; inner = behind p.1 (length here.scope) f.0 owner (returns_of result r); number = p.0; takes = taken_or f.1; gives = gives_or r })) (k-next_owner walk ) (λ owner. k-bind walk ((formals names (is_function result) (record here { owner = owner }) fs)) (λ f. (result_named names f.0 result) >>= λ r. (free names start here name) >>= λ one. (profile_where names here name one f.1 r) >>= λ p. pure (record { outer = p.1; inner = behind p.1 (length here.scope) f.0 owner (returns_of result r); number = p.0; takes = taken_or f.1; gives = gives_or r })) (k-formals walk names (is_function result) (record here { owner = owner }) fs keeps1) (λ f. k-bind walk ((result_named names f.0 result)) (λ r. (free names start here name) >>= λ one. (profile_where names here name one f.1 r) >>= λ p. pure (record { outer = p.1; inner = behind p.1 (length here.scope) f.0 owner (returns_of result r); number = p.0; takes = taken_or f.1; gives = gives_or r })) (k-result_named walk names f.0 result keeps1) (λ r. k-bind walk ((free names start here name)) (λ one. (profile_where names here name one f.1 r) >>= λ p. pure (record { outer = p.1; inner = behind p.1 (length here.scope) f.0 owner (returns_of result r); number = p.0; takes = taken_or f.1; gives = gives_or r })) (k-free walk names start here name keeps1) (λ one. k-bind walk ((profile_where names here name one f.1 r)) (λ p. pure (record { outer = p.1; inner = behind p.1 (length here.scope) f.0 owner (returns_of result r); number = p.0; takes = taken_or f.1; gives = gives_or r })) (k-profile_where walk names here name one f.1 r keeps1 profiles) (λ p. k-pure walk (record { outer = p.1; inner = behind p.1 (length here.scope) f.0 owner (returns_of result r); number = p.0; takes = taken_or f.1; gives = gives_or r }))))))
+k-profile walk names start here name result fs keeps1 profiles = k-bind walk ((next_owner)) (λ owner. (formals names (is_function result) (record here { owner = owner }) fs) >>= λ f. (result_named names f.0 result) >>= λ r. (free names start here name) >>= λ one. (profile_where names here name one f.1 r) >>= λ p. pure (record { outer = p.1; inner = behind p.1 (length here.scope) f.0 owner (returns_of result r); number = p.0; takes = taken_or f.1; gives = gives_or r })) (k-next_owner walk) (λ owner. k-bind walk ((formals names (is_function result) (record here { owner = owner }) fs)) (λ f. (result_named names f.0 result) >>= λ r. (free names start here name) >>= λ one. (profile_where names here name one f.1 r) >>= λ p. pure (record { outer = p.1; inner = behind p.1 (length here.scope) f.0 owner (returns_of result r); number = p.0; takes = taken_or f.1; gives = gives_or r })) (k-formals walk names (is_function result) (record here { owner = owner }) fs keeps1) (λ f. k-bind walk ((result_named names f.0 result)) (λ r. (free names start here name) >>= λ one. (profile_where names here name one f.1 r) >>= λ p. pure (record { outer = p.1; inner = behind p.1 (length here.scope) f.0 owner (returns_of result r); number = p.0; takes = taken_or f.1; gives = gives_or r })) (k-result_named walk names f.0 result keeps1) (λ r. k-bind walk ((free names start here name)) (λ one. (profile_where names here name one f.1 r) >>= λ p. pure (record { outer = p.1; inner = behind p.1 (length here.scope) f.0 owner (returns_of result r); number = p.0; takes = taken_or f.1; gives = gives_or r })) (k-free walk names start here name keeps1) (λ one. k-bind walk ((profile_where names here name one f.1 r)) (λ p. pure (record { outer = p.1; inner = behind p.1 (length here.scope) f.0 owner (returns_of result r); number = p.0; takes = taken_or f.1; gives = gives_or r })) (k-profile_where walk names here name one f.1 r keeps1 profiles) (λ p. k-pure walk (record { outer = p.1; inner = behind p.1 (length here.scope) f.0 owner (returns_of result r); number = p.0; takes = taken_or f.1; gives = gives_or r }))))))
 
 pub k-level_of : (walk : Walk) (names : Names) (n : ℕ) → walk.Takes names → KeepsInside walk (level_of names n)
 k-level_of walk names n t = k-level_above walk names (inside names n) t (k-inside walk names n t)

@@ -1,16 +1,14 @@
 -- What is judged by the rules of Ranges keeps what each line of the log keeps.
 use Rattle.name_rules.specs.Expressions.{Inside, simple}
 use Rattle.ada_tree.specs.FirstTokens as first_token
-use Rattle.name_rules.specs.Found.{Bounded, Found, With, scalar}
+use Rattle.name_rules.specs.Found.{Found}
 use Rattle.name_rules.specs.Names.{denoted_first}
 use Rattle.name_rules.specs.Operators.{both_mentions, common_kind}
-use Rattle.name_rules.specs.Symbols.{known}
 use Rattle.name_rules.specs.Types.{base_of, is_integer, lies_in}
-use Rattle.name_rules.specs.Values.{asked, first_of, is_number, is_scalar, kind_of, mentions_of, static_of_kind, static_value, suits, value_of, literal}
+use Rattle.name_rules.specs.Values.{asked, first_of, is_number, is_scalar, kind_of, mentions_of, static_of_kind, static_value, suits, value_of}
 use Rattle.name_rules.specs.declared.found.Denoted.TheVariants as denoted
 use Rattle.name_rules.specs.declared.found.Denoted.{Denoted as KnownDenoted}
 use Rattle.name_rules.specs.declared.found.Found.{Found as Known}
-use Rattle.name_rules.specs.declared.log.Dimension.{Dimension}
 use Rattle.name_rules.specs.declared.log.Rule.TheVariants.{StaticRange, WrongType}
 use Rattle.name_rules.specs.declared.scope.Context.{Context}
 use Rattle.name_rules.specs.declared.types.Kind.{Kind}
@@ -20,15 +18,12 @@ use Rattle.name_rules.specs.declared.types.Wanted.TheVariants as wanted
 use Rattle.ada_tree.specs.Syntax as syntax
 use Rattle.ada_tree.specs.Syntax.{Range, Simple}
 use Rattle.ada_typed.specs.Decoded as part
-use Rattle.ada_typed.specs.Syntax as typed
-use Rattle.ada_typed.specs.Syntax.{Exprs as TypedExprs}
-use Rattle.std.specs.Prelude.{Bool, None, Option, Some, false, if◌then◌else◌, int_le, not, option_map, ℕ, ℤ, ◌&&◌}
-use Rattle.name_rules.specs.TypedParts.{pair}
+use Rattle.std.specs.Prelude.{Bool, None, Option, Some, if◌then◌else◌, int_le, not, option_map, ℕ, ℤ, ◌&&◌}
 use Rattle.ada_typed.specs.Decoded.{Part as TypedPart}
-use Rattle.name_rules.specs.Judging.{◌>>=◌, Judging, both, breaks, clean, fault, given, joined, pure, read, some, unless, where_clean}
-use Rattle.name_rules.specs.Ranges.{two_bounds, range_part, bounds_of, of_one_type, narrowed, bounded_by, own_range, own_bounds, checked_range, whole_range, named_range, scalar_type, range, Static, both_static, dimension, of_static, spanned, inside_subtype, checked_span, preferred_or, preferred, static_by, static_bounds, static_scalar, static_name, static_checked, static_range, Span', Chosen, one_value, two_values, values_of, range_values, chosen_value, chosen_span}
-use Rattle.name_laws.proofs.Walk.{Walk, Keeps, k-pure, k-some, k-bind, k-fault, k-breaks, k-unless, k-read, k-if, k-given, k-both, k-where_clean, k-clean}
-use Rattle.name_laws.proofs.Walked.{KeepsInside, KeepsAround, WalksProfiles}
+use Rattle.name_rules.specs.Judging.{◌>>=◌, Judging, both, fault, given, joined, pure, some}
+use Rattle.name_rules.specs.Ranges.{two_bounds, range_part, bounds_of, of_one_type, bounded_by, own_range, own_bounds, checked_range, whole_range, named_range, scalar_type, range, both_static, dimension, of_static, spanned, inside_subtype, checked_span, preferred, static_by, static_bounds, static_scalar, static_name, static_checked, static_range, one_value, two_values, values_of, range_values, chosen_value, chosen_span}
+use Rattle.name_laws.proofs.Walk.{Walk, Keeps, k-pure, k-some, k-bind, k-fault, k-unless, k-if, k-given, k-both}
+use Rattle.name_laws.proofs.Walked.{KeepsInside}
 use Rattle.name_laws.proofs.KeepsExpressions.{k-simple}
 use Rattle.name_laws.proofs.KeepsValues.{k-asked, k-static_of_kind, k-static_value}
 

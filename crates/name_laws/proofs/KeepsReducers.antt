@@ -1,23 +1,20 @@
 -- What is judged by the rules of Reducers keeps what each line of the log keeps.
-use Rattle.ada_base.specs.Folding.{folded}
-use Rattle.ada_base.specs.declared.operation.Op.TheVariants as op
 use Rattle.ada_base.specs.declared.operation.Op.{Op}
 use Rattle.name_rules.specs.Calls.{gives_in, profile_in, takes_in}
 use Rattle.name_rules.specs.Expressions.{Inside, judged_alone}
 use Rattle.ada_tree.specs.FirstTokens as first_token
-use Rattle.name_rules.specs.Found.{Found, opened, scalar}
+use Rattle.name_rules.specs.Found.{Found, scalar}
 use Rattle.name_rules.specs.Operators.{open_of}
 use Rattle.name_rules.specs.Scope.{stands_for}
 use Rattle.name_rules.specs.Shapes.{primary_of_expr}
-use Rattle.name_rules.specs.Symbols.{max_name, min_name, symbol, text}
+use Rattle.name_rules.specs.Symbols.{text}
 use Rattle.name_rules.specs.Types.{class_of, same, typed_scalar}
-use Rattle.name_rules.specs.Values.{asked, is_number, joint, kind_of, suits}
+use Rattle.name_rules.specs.Values.{asked, is_number, kind_of, suits}
 use Rattle.name_rules.specs.declared.found.Denoted.TheVariants as denoted
 use Rattle.name_rules.specs.declared.found.Denoted.{Denoted as KnownDenoted}
 use Rattle.name_rules.specs.declared.found.Folding.TheVariants as folding
 use Rattle.name_rules.specs.declared.found.Folding.{Folding}
 use Rattle.name_rules.specs.declared.found.Going.{Going}
-use Rattle.name_rules.specs.declared.found.Limits.{Limits}
 use Rattle.name_rules.specs.declared.log.Rule.TheVariants.{ReduceRule}
 use Rattle.name_rules.specs.declared.log.Taken.{Taken}
 use Rattle.name_rules.specs.declared.scope.Context.{Context}
@@ -29,17 +26,14 @@ use Rattle.name_rules.specs.declared.types.Subtype.TheVariants as subtype
 use Rattle.name_rules.specs.declared.types.Subtype.{Subtype}
 use Rattle.ada_tree.specs.Syntax as syntax
 use Rattle.ada_tree.specs.Syntax.{Expr, Parts, Primary}
-use Rattle.ada_typed.specs.Syntax as typed
-use Rattle.ada_typed.specs.Syntax.{Iteration, Chunk as TypedChunk, Expr as TypedExpr}
 use Rattle.ada_typed.specs.declared.expressions.Reducer.TheVariants as reducer'
 use Rattle.ada_typed.specs.declared.expressions.Reducer.{Reducer}
-use Rattle.ada_typed.specs.declared.scalars.Class.TheVariants as class
-use Rattle.std.specs.Prelude.{Bool, List, None, Option, Some, [], bytes_eq, codes, false, if◌then◌else◌, is_some, not, true, ℕ, ◌&&◌, ◌*◌, ◌+◌, ◌==◌, ◌||◌, ◌∷◌}
-use Rattle.ada_typed.specs.Decoded.{Part as TypedPart, as_expr, as_iteration, as_chunk}
-use Rattle.name_rules.specs.Judging.{◌>>=◌, Judging, both, breaks, clean, fault, given, joined, pure, read, some, unless, where_clean}
+use Rattle.std.specs.Prelude.{List, None, Option, Some, [], if◌then◌else◌, is_some, not, ℕ, ◌&&◌, ◌||◌, ◌∷◌}
+use Rattle.ada_typed.specs.Decoded.{Part as TypedPart}
+use Rattle.name_rules.specs.Judging.{◌>>=◌, both, fault, given, joined, read, some}
 use Rattle.name_rules.specs.Reducers.{operators, operator_named, operator_reducer, extreme_of, function_given, function_of, no_reducer, extreme_name, attribute_reducer, name_reducer, reducer_by, reducer_of, reduction, reduced, open_reduction, is_logical, of_kind, numeric, by_operator, by_subtypes, by_function, folded_by}
-use Rattle.name_laws.proofs.Walk.{Walk, Keeps, k-pure, k-some, k-bind, k-fault, k-breaks, k-unless, k-read, k-if, k-given, k-both, k-where_clean, k-clean}
-use Rattle.name_laws.proofs.Walked.{KeepsInside, KeepsAround, WalksProfiles}
+use Rattle.name_laws.proofs.Walk.{Walk, Keeps, k-pure, k-some, k-bind, k-fault, k-read, k-if, k-given, k-both, k-where_clean}
+use Rattle.name_laws.proofs.Walked.{KeepsInside}
 use Rattle.name_laws.proofs.KeepsExpressions.{k-judged_alone}
 use Rattle.name_laws.proofs.KeepsScope.{k-stands_for}
 use Rattle.name_laws.proofs.KeepsValues.{k-asked}

@@ -1,33 +1,24 @@
 -- What is judged by the rules of Scope keeps what each line of the log keeps.
-use Rattle.ada_base.specs.declared.reason.Reason.TheVariants as reason
-use Rattle.name_rules.specs.Found.{Denoted, denote, scalar, value_denoted}
-use Rattle.name_rules.specs.Symbols.{ada_name, boolean_name, constraint_error_name, data_error_name, end_error_name, false_name, get_name, integer_io_name, integer_name, known, natural_name, new_line_name, positive_name, program_error_name, put_line_name, put_name, storage_error_name, symbol, text_io_name, true_name}
+use Rattle.name_rules.specs.Found.{denote, scalar, value_denoted}
+use Rattle.name_rules.specs.Symbols.{ada_name, integer_io_name, symbol, text_io_name}
 use Rattle.name_rules.specs.declared.found.Denoted.TheVariants as denoted
 use Rattle.name_rules.specs.declared.found.Denoted.{Denoted as KnownDenoted}
 use Rattle.name_rules.specs.declared.found.Found.TheVariants as known
-use Rattle.name_rules.specs.declared.found.Place.{Place}
-use Rattle.name_rules.specs.declared.found.Put.TheVariants as put
-use Rattle.name_rules.specs.declared.found.Put.{Put}
 use Rattle.name_rules.specs.declared.found.Reach.{Reach}
 use Rattle.name_rules.specs.declared.log.Rule.TheVariants.{NotVisible, Twice, Unknown, WrongType}
 use Rattle.name_rules.specs.declared.scope.Context.{Context}
-use Rattle.name_rules.specs.declared.scope.Entry.{Entry}
 use Rattle.name_rules.specs.declared.scope.Names.{Names}
-use Rattle.name_rules.specs.declared.scope.Packages.{Packages}
 use Rattle.name_rules.specs.declared.scope.What.TheVariants as what
 use Rattle.name_rules.specs.declared.scope.What.{What}
 use Rattle.name_rules.specs.declared.types.Kind.TheVariants as kind
-use Rattle.name_rules.specs.declared.types.Scalar.{Scalar}
 use Rattle.name_rules.specs.declared.types.Subtype.TheVariants as subtype
 use Rattle.name_rules.specs.declared.types.Subtype.{Subtype}
 use Rattle.ada_typed.specs.Decoded as part
 use Rattle.ada_typed.specs.Syntax as typed
-use Rattle.ada_typed.specs.declared.expressions.Root.TheVariants as root
-use Rattle.std.specs.List.{find, list_any}
-use Rattle.std.specs.Prelude.{Bool, List, None, Option, Some, [], drop, false, if◌then◌else◌, negsuc, not, option_map, pos, reverse, true, ℕ, ℤ, ◌&&◌, ◌++◌, ◌+◌, ◌==◌, ◌||◌, ◌∷◌}
-use Rattle.name_rules.specs.Judging.{◌>>=◌, Judging, both, breaks, clean, fault, given, joined, pure, read, some, unless, where_clean}
-use Rattle.name_rules.specs.Scope.{boolean, integer, natural, positive, entry, standard, lookup, with_entry, is_taken, free, hidden, hidden_where, declared, named, in_text_io, in_integer_io, procedure_of, predefined, used_name, reach_of, is_withed, undeclared, object, item, bit, stands, stands_for, in_package, expanded_reach, in_ada, selected, as_type, subtype_named, as_scalar, scalar_named}
-use Rattle.name_laws.proofs.Walk.{Walk, Keeps, k-pure, k-some, k-bind, k-fault, k-breaks, k-unless, k-read, k-if, k-given, k-both, k-where_clean, k-clean}
+use Rattle.std.specs.Prelude.{None, Option, Some, false, if◌then◌else◌, not, ℕ, ◌&&◌, ◌==◌, ◌||◌}
+use Rattle.name_rules.specs.Judging.{fault, given, some}
+use Rattle.name_rules.specs.Scope.{lookup, is_taken, free, named, in_text_io, in_integer_io, predefined, used_name, reach_of, is_withed, undeclared, object, item, bit, stands, stands_for, in_package, expanded_reach, in_ada, selected, as_type, subtype_named, as_scalar, scalar_named}
+use Rattle.name_laws.proofs.Walk.{Walk, Keeps, k-pure, k-some, k-bind, k-fault, k-if, k-given}
 
 pub k-free : (walk : Walk) (x0 : Names) (x1 : ℕ) (x2 : Context) (x3 : ℕ) → walk.Takes x0 → Keeps walk (free x0 x1 x2 x3)
 unfolding free

@@ -1,21 +1,20 @@
 -- What is judged by the rules of Statements keeps what each line of the log keeps.
 use Rattle.ada_base.specs.declared.reason.Reason.{Reason}
-use Rattle.name_rules.specs.Cases.{Choosing, Covering, case_choices, closed, handled_by}
+use Rattle.name_rules.specs.Cases.{Covering, case_choices, handled_by}
 use Rattle.name_rules.specs.Declarations.{declarations}
 use Rattle.name_rules.specs.Expressions.{Inside, condition, expr, judged_alone}
 use Rattle.ada_tree.specs.FirstTokens as first_token
-use Rattle.name_rules.specs.Found.{Denoted, Found, With}
-use Rattle.name_rules.specs.Iterations.{Entered, chunk_count, entered, thread_owner}
+use Rattle.name_rules.specs.Found.{Denoted, Found}
+use Rattle.name_rules.specs.Iterations.{entered}
 use Rattle.name_rules.specs.Names.{denoted_first, exception}
 use Rattle.name_rules.specs.Parts.{name, new_site, valued_by}
-use Rattle.name_rules.specs.Primaries.{inside, level_above}
-use Rattle.name_rules.specs.Symbols.{known, number, symbol}
-use Rattle.name_rules.specs.Types.{base_of, wanted_of}
-use Rattle.name_rules.specs.Values.{first_of, is_scalar, nominal_of, own_kind, settled_found, stored}
+use Rattle.name_rules.specs.Primaries.{inside}
+use Rattle.name_rules.specs.Symbols.{symbol}
+use Rattle.name_rules.specs.Types.{wanted_of}
+use Rattle.name_rules.specs.Values.{first_of, is_scalar, settled_found, stored}
 use Rattle.name_rules.specs.declared.found.Denoted.TheVariants as denoted
 use Rattle.name_rules.specs.declared.found.Denoted.{Denoted as KnownDenoted}
 use Rattle.name_rules.specs.declared.found.Found.TheVariants as known
-use Rattle.name_rules.specs.declared.found.Found.{Found as Known}
 use Rattle.name_rules.specs.declared.found.Place.{Place}
 use Rattle.name_rules.specs.declared.log.Rule.TheVariants.{ChunkRule, Limit, NotVisible, WrongEnd, WrongType}
 use Rattle.name_rules.specs.declared.scope.Context.{Context}
@@ -24,7 +23,6 @@ use Rattle.name_rules.specs.declared.scope.Names.{Names}
 use Rattle.name_rules.specs.declared.scope.Returns.TheVariants as returns
 use Rattle.name_rules.specs.declared.scope.Returns.{Returns}
 use Rattle.name_rules.specs.declared.scope.Target.TheVariants as target
-use Rattle.name_rules.specs.declared.scope.Target.{Target}
 use Rattle.name_rules.specs.declared.types.Kind.{Kind}
 use Rattle.name_rules.specs.declared.types.Scalar.{Scalar}
 use Rattle.name_rules.specs.declared.types.Subtype.TheVariants as subtype
@@ -35,15 +33,14 @@ use Rattle.ada_typed.specs.Decoded as part
 use Rattle.ada_typed.specs.Syntax as typed
 use Rattle.ada_typed.specs.Syntax.{Iteration, Optional, Selections, Chunk as TypedChunk, Exprs as TypedExprs, Handled as TypedHandled}
 use Rattle.ada_typed.specs.declared.program.SiteKind.TheVariants as site
-use Rattle.std.specs.List.{find}
-use Rattle.std.specs.Prelude.{Bool, List, None, Option, Some, [], false, if◌then◌else◌, length, nat_le, not, option_map, reverse, slice_get, suc, true, zero, ℕ, ◌++◌, ◌+◌, ◌-◌, ◌==◌, ◌∷◌}
-use Rattle.name_rules.specs.TypedParts.{pair, also, exprs_of, selections_of, nested_stmts}
+use Rattle.std.specs.Prelude.{Bool, List, None, Option, Some, [], false, length, nat_le, not, option_map, suc, true, zero, ℕ, ◌-◌, ◌==◌, ◌∷◌}
+use Rattle.name_rules.specs.TypedParts.{selections_of}
 use Rattle.ada_typed.specs.Decoded.{Part as TypedPart, as_expr, as_optional, as_iteration, as_chunk, as_decls, as_stmts, as_alternatives, as_arms, as_handlers, as_body}
 use Rattle.typed_parts.specs.Stack.{turned}
-use Rattle.name_rules.specs.Judging.{◌>>=◌, Judging, both, breaks, clean, fault, given, joined, pure, read, some, unless, where_clean}
-use Rattle.name_rules.specs.Statements.{Within, Around, with_stmt, no_stmts, stmts_from, stmts, with_target, assigned, stored_place, assigned_place, assign_place, assigned_alone, assign_other, assign_form, assign_to, assign, as_statement, call_stmt, condition_where, is_name, innermost, loop_named, loop_or, exited, exit_part, exit_from, returned, value_at, value_of_nothing, return_value, return_alone, return_from, raised, raise_from, with_elsif, with_elsif_if, elsifs, otherwise_where, if_stmt_part, if_stmt_made, if_stmt, is_last, with_alternative, also_alternative, no_choosing, alternative, alts, subtype_or, selecting, Selector, selector_of, selector, closed_where, selector_kind, case_part, case_stmt, loop_ends, new_loop, in_loop, backwards_rule, for_part, parallel_part, for_made, loop_entered, for_loop, loop_part, optional_parallel, loop_with, loop_by, loop_stmt, in_handler_of, is_last_handler, with_handler, with_handler_if, handler, handlers, body_part, block_part, body_made, body, no_decls, block_decls, block_of, block, arm_limit, count_where, with_arm, branches, branch_count, in_threads, arms_part, parallel, stmt_form, around, stmt}
-use Rattle.name_laws.proofs.Walk.{Walk, Keeps, k-pure, k-some, k-bind, k-fault, k-breaks, k-unless, k-read, k-if, k-given, k-both, k-where_clean, k-clean}
-use Rattle.name_laws.proofs.Walked.{KeepsInside, KeepsAround, WalksProfiles}
+use Rattle.name_rules.specs.Judging.{◌>>=◌, both, clean, fault, given, joined, pure, some}
+use Rattle.name_rules.specs.Statements.{Around, with_stmt, no_stmts, stmts_from, stmts, with_target, assigned, stored_place, assigned_place, assign_place, assigned_alone, assign_other, assign_form, assign_to, assign, as_statement, call_stmt, condition_where, innermost, loop_named, loop_or, exited, exit_part, exit_from, returned, value_at, value_of_nothing, return_value, return_alone, return_from, raised, raise_from, with_elsif_if, elsifs, otherwise_where, if_stmt_part, if_stmt_made, if_stmt, is_last, also_alternative, no_choosing, alternative, alts, selecting, Selector, selector_of, selector, closed_where, selector_kind, case_part, case_stmt, loop_ends, new_loop, in_loop, backwards_rule, for_part, parallel_part, for_made, loop_entered, for_loop, loop_part, optional_parallel, loop_with, loop_by, loop_stmt, in_handler_of, is_last_handler, with_handler_if, handler, handlers, body_part, block_part, body_made, body, no_decls, block_decls, block_of, block, arm_limit, count_where, with_arm, branches, branch_count, in_threads, arms_part, parallel, stmt_form, around, stmt}
+use Rattle.name_laws.proofs.Walk.{Walk, Keeps, k-pure, k-some, k-bind, k-fault, k-breaks, k-unless, k-if, k-given, k-both, k-where_clean, k-clean}
+use Rattle.name_laws.proofs.Walked.{KeepsInside, KeepsAround}
 use Rattle.name_laws.proofs.KeepsCases.{k-case_choices, k-closed, k-handled_by}
 use Rattle.name_laws.proofs.KeepsDeclarations.{k-declarations}
 use Rattle.name_laws.proofs.KeepsExpressions.{k-condition, k-expr, k-judged_alone}
@@ -205,7 +202,7 @@ k-loop_by walk a here label n s (Some by) keeps1 = k-loop_with walk a here label
 
 pub k-loop_stmt : (walk : Walk) (x0 : Around) (x1 : Context) (x2 : Option ℕ) (x3 : Option Scheme) (x4 : Stmts) (x5 : ℕ) (x6 : Option ℕ) → KeepsAround walk x0 → Keeps walk (loop_stmt x0 x1 x2 x3 x4 x5 x6)
 unfolding loop_stmt
-k-loop_stmt walk a here label by s last name keeps1 = k-bind walk ((loop_ends a.names label last name)) (λ u. (new_loop) >>= λ n. loop_by a here label n s by) (k-loop_ends walk a.names label last name keeps1.names) (λ u. k-bind walk ((new_loop)) (λ n. loop_by a here label n s by) (k-new_loop walk ) (λ n. k-loop_by walk a here label n s by keeps1))
+k-loop_stmt walk a here label by s last name keeps1 = k-bind walk ((loop_ends a.names label last name)) (λ u. (new_loop) >>= λ n. loop_by a here label n s by) (k-loop_ends walk a.names label last name keeps1.names) (λ u. k-bind walk ((new_loop)) (λ n. loop_by a here label n s by) (k-new_loop walk) (λ n. k-loop_by walk a here label n s by keeps1))
 
 pub k-handler : (walk : Walk) (x0 : Around) (x1 : Context) (x2 : Bool) (x3 : List Reason) (x4 : Option TypedPart) (x5 : Handler) → KeepsAround walk x0 → Keeps walk (handler x0 x1 x2 x3 x4 x5)
 unfolding handler
@@ -256,7 +253,6 @@ k-stmt_form walk a here (syntax.Case at e x xs) keeps1 = k-case_stmt walk a here
 k-stmt_form walk a here (syntax.Loop label by at s last name) keeps1 = k-loop_stmt walk a here label by s last name keeps1
 k-stmt_form walk a here (syntax.Block d at b) keeps1 = k-block walk a here d b keeps1
 k-stmt_form walk a here (syntax.ParallelBlock at e s t more) keeps1 = k-parallel walk a here at e (syntax.AlsoBranch s (syntax.AlsoBranch t more)) keeps1
-
 
 pub k-stmt : (walk : Walk) (names : Names) (n : ℕ) (here : Context) (s : Stmt) → walk.Takes names → Keeps walk (stmt names n here s)
 unfolding stmt

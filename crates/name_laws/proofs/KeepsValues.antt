@@ -1,29 +1,24 @@
 -- What is judged by the rules of Values keeps what each line of the log keeps.
-use Rattle.ada_base.specs.Operation.{unbounded}
-use Rattle.ada_base.specs.declared.operation.Op.{Op}
 use Rattle.name_rules.specs.Found.{Found}
-use Rattle.name_rules.specs.Symbols.{known}
-use Rattle.name_rules.specs.Types.{check_at, class_of, in_base, is_integer, same, typed_scalar}
+use Rattle.name_rules.specs.Types.{check_at, class_of, in_base, is_integer, same}
 use Rattle.name_rules.specs.declared.found.Found.TheVariants as known
 use Rattle.name_rules.specs.declared.found.Found.{Found as Known}
 use Rattle.name_rules.specs.declared.found.Limits.{Limits}
 use Rattle.name_rules.specs.declared.found.Place.{Place}
 use Rattle.name_rules.specs.declared.log.Rule.TheVariants.{NotStatic, StaticRange, WrongType}
-use Rattle.name_rules.specs.declared.types.Kind.TheVariants as kind
 use Rattle.name_rules.specs.declared.types.Kind.{Kind}
-use Rattle.name_rules.specs.declared.types.Scalar.{Scalar}
 use Rattle.name_rules.specs.declared.types.Subtype.TheVariants as subtype
 use Rattle.name_rules.specs.declared.types.Subtype.{Subtype}
 use Rattle.ada_typed.specs.Decoded as part
 use Rattle.ada_typed.specs.Syntax as typed
 use Rattle.ada_typed.specs.Syntax.{Composite, Selections, Expr as TypedExpr, Exprs as TypedExprs}
-use Rattle.std.specs.Prelude.{Bool, None, Option, Some, false, if◌then◌else◌, int_le, is_some, negsuc, option_map, pos, true, ℕ, ℤ, ◌&&◌, ◌==◌, ◌||◌}
-use Rattle.name_rules.specs.TypedParts.{exprs_of, selections_of}
+use Rattle.std.specs.Prelude.{Bool, None, Option, Some, false, ℕ, ℤ, ◌==◌}
+use Rattle.name_rules.specs.TypedParts.{selections_of}
 use Rattle.typed_parts.specs.Classes.{with_class}
 use Rattle.ada_typed.specs.Decoded.{Part as TypedPart, as_expr}
-use Rattle.name_rules.specs.Judging.{◌>>=◌, Judging, both, breaks, clean, fault, given, joined, pure, read, some, unless, where_clean}
-use Rattle.name_rules.specs.Values.{first_of, is_universal, place_scalar, kind_in, kind_of, value_of, mentions_in, mentions_of, nominal_of, is_integer_kind, is_kind, is_number, is_scalar, suits, in_universal, bounded, exact, literal, valued, fitting, beyond, no_limits, sooner, joint, settled_by, settled, object_expr, object_value, place_asked, asked_form, asked, kind_or_integer, own_kind, settled_found, any_integer, any_scalar, static_value, static_of_kind, static_integer, whole_object, whole_of, composite_form, composite_asked, stored}
-use Rattle.name_laws.proofs.Walk.{Walk, Keeps, k-pure, k-some, k-bind, k-fault, k-breaks, k-unless, k-read, k-if, k-given, k-both, k-where_clean, k-clean}
+use Rattle.name_rules.specs.Judging.{fault, given, pure, some, unless}
+use Rattle.name_rules.specs.Values.{first_of, value_of, is_number, is_scalar, literal, valued, fitting, beyond, settled_by, settled, object_value, place_asked, asked_form, asked, own_kind, settled_found, any_integer, any_scalar, static_value, static_of_kind, static_integer, whole_object, whole_of, composite_form, composite_asked, stored}
+use Rattle.name_laws.proofs.Walk.{Walk, Keeps, k-pure, k-some, k-bind, k-fault, k-unless, k-if, k-given}
 
 pub k-valued : (walk : Walk) (x0 : Kind) (x1 : ℕ) (x2 : ℤ) (x3 : Bool) (x4 : TypedPart) → Keeps walk (valued x0 x1 x2 x3 x4)
 unfolding valued

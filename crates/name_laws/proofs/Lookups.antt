@@ -2,11 +2,8 @@
 use Rattle.std.proofs.Common.{◌≡◌, ℕ, List, [], ◌∷◌, ◌++◌, Option, Some, None, option_map, reverse, Bool, true, false, ◌==◌, refl, sym, ap, ◌∙◌, true≢false, eqb-true, eq-eqb, ◌⊎◌, inl, inr, arith}
 use Rattle.std.proofs.lemmas.List.{append_assoc, append-nil, reverse-append}
 use Rattle.std.specs.List.{find}
-use Rattle.name_rules.specs.Judging.{fault, Judging}
-use Rattle.name_rules.specs.Found.{Denoted}
-use Rattle.name_rules.specs.Scope.{entry, hidden, lookup, stands, stands_for, undeclared, with_entry}
+use Rattle.name_rules.specs.Scope.{entry, lookup, stands, stands_for, undeclared, with_entry}
 use Rattle.name_rules.specs.Symbols.{symbol}
-use Rattle.name_rules.specs.declared.log.Rule.TheVariants.{NotVisible}
 use Rattle.name_rules.specs.declared.scope.Context.{Context}
 use Rattle.name_rules.specs.declared.scope.Entry.{Entry}
 use Rattle.name_rules.specs.declared.scope.Names.{Names}

@@ -1,5 +1,5 @@
 -- Each object that is written lies at the next free cell of its owner.
-use Rattle.std.proofs.Common.{◌≡◌, ℕ, ℤ, zero, suc, ◌+◌, ◌<◌, ◌≤◌, nat_eq, nat_le, nat_lt, List, [], ◌∷◌, ◌++◌, length, length-append, Option, Some, None, Bool, true, false, cond, if◌then◌else◌, refl, sym, ap, subst, ◌∙◌, arith, ◌==◌, eqb-true}
+use Rattle.std.proofs.Common.{◌≡◌, ℕ, ◌+◌, nat_eq, nat_le, nat_lt, List, [], ◌∷◌, ◌++◌, length, length-append, Option, Some, None, Bool, true, false, refl, sym, ap, subst, ◌∙◌, arith, ◌==◌}
 use Rattle.std.specs.Prelude.{not, option_map, ◌||◌}
 use Rattle.ada_tree.specs.Syntax as syntax
 use Rattle.ada_tree.specs.Syntax.{Main, Program, Unit'}
@@ -11,7 +11,7 @@ use Rattle.ada_typed.specs.declared.program.Object.{Object}
 use Rattle.name_rules.specs.Declarations.{cells_counted, first_room, room}
 use Rattle.name_rules.specs.Judging.{joined, unless}
 use Rattle.name_rules.specs.Programs as p
-use Rattle.name_rules.specs.Resolved.{TypedOf, depth_limit, fresh, judged, typed_by, typed_where}
+use Rattle.name_rules.specs.Resolved.{depth_limit, fresh, judged, typed_by, typed_where}
 use Rattle.name_rules.specs.declared.log.Fault.{Fault}
 use Rattle.name_rules.specs.Statements.{no_decls}
 use Rattle.name_rules.specs.Types.{saturated}

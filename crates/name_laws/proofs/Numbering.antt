@@ -1,7 +1,7 @@
 -- Each identifier's number is the place of its spelling.
-use Rattle.std.proofs.Common.{◌≡◌, ℕ, zero, suc, ◌+◌, ◌<◌, ◌≤◌, List, [], ◌∷◌, ◌++◌, length, length-append, Option, Some, None, Bool, true, false, refl, sym, ap, subst, ◌∙◌, arith, ◌==◌, eqb-true, eq-eqb, slice_get, true≢false, if◌then◌else◌, ◌⊎◌, inl, inr}
+use Rattle.std.proofs.Common.{◌≡◌, ℕ, zero, suc, ◌+◌, ◌<◌, ◌≤◌, List, [], ◌∷◌, ◌++◌, length, length-append, Option, Some, None, Bool, true, false, refl, sym, ap, subst, ◌∙◌, arith, ◌==◌, eqb-true, eq-eqb, slice_get, true≢false, ◌⊎◌, inl, inr}
 use Rattle.std.proofs.lemmas.Bool.{and_from, and_parts, false≢true}
-use Rattle.std.specs.Prelude.{unwrap_or, ◌↔◌}
+use Rattle.std.specs.Prelude.{unwrap_or}
 use Rattle.ada_base.specs.Folding.{folded}
 use Rattle.ada_base.specs.Tokens.{Tokenized, kind_at, slice_at}
 use Rattle.ada_base.specs.declared.token.Kind.{Kind}
@@ -104,8 +104,6 @@ numbered-same w v ws n e f = by (place w language 0) (place v language 0) refl r
         let large : 34 ≤ n = place-above w ws 34 n (sym (ap (λ o. or_else o (place w ws 34)) a) ∙ e) in
         absurd (omega (arith, below-34 n small, large))
     by None None a z = place-same w v ws 34 n (sym (ap (λ o. or_else o (place w ws 34)) a) ∙ e) (sym (ap (λ o. or_else o (place v ws 34)) z) ∙ f)
-
-
 
 numbered-kept : (w : List ℕ) (ws more : List (List ℕ)) (n : ℕ) → numbered w ws ≡ Some n → numbered w (ws ++ more) ≡ Some n
 numbered-kept w ws more n e = by (place w language 0) refl
@@ -217,10 +215,9 @@ unfolding names_of or-zero
 symbol_law t text a b la lb ea eb =
     let s = symbols_from t no_symbols 0 t.items in
     let x = (all-numbers t).each a la ea in
-    let y = (all-numbers t).each b lb eb in
-    (
+    let y = (all-numbers t).each b lb eb in (
       λ e. let m : x.0 ≡ y.0 = ap or-zero (sym x.1) ∙ e ∙ ap or-zero y.1 in
-        numbered-same (folded (slice_at t a)) (folded (slice_at t b)) s.spellings x.0 x.2 (y.2 ∙ ap Some (sym m)),
+          numbered-same (folded (slice_at t a)) (folded (slice_at t b)) s.spellings x.0 x.2 (y.2 ∙ ap Some (sym m)),
       λ e. let m : Some x.0 ≡ Some y.0 = sym x.2 ∙ ap (λ w. numbered w s.spellings) e ∙ y.2 in
-        ap or-zero x.1 ∙ some-same x.0 y.0 m ∙ sym (ap or-zero y.1),
+          ap or-zero x.1 ∙ some-same x.0 y.0 m ∙ sym (ap or-zero y.1),
     )

@@ -1,6 +1,5 @@
 -- Whose own name is visible in a body.
-use Rattle.std.proofs.Common.{◌≡◌, ℕ, List, [], ◌∷◌, ◌++◌, Option, Some, None, Bool, refl, sym, ap, ◌∙◌, drop, length, subst}
-use Rattle.std.proofs.lemmas.List.{append_assoc}
+use Rattle.std.proofs.Common.{◌≡◌, ℕ, List, [], ◌∷◌, ◌++◌, Option, Some, None, Bool, refl, ap, ◌∙◌, drop, length}
 use Rattle.std.proofs.Math.Seq.{drop-append_seam}
 use Rattle.ada_tree.specs.Syntax as syntax
 use Rattle.ada_tree.specs.Syntax.{Aspect, Clause, Decl, Formal, Formals, Pack, Program, Sub, Unit'}
@@ -12,7 +11,7 @@ use Rattle.name_rules.specs.Declarations as d
 use Rattle.name_rules.specs.Expressions.{Inside}
 use Rattle.name_rules.specs.Judging.{joined}
 use Rattle.name_rules.specs.Programs as p
-use Rattle.name_rules.specs.Scope.{entry, free, standard, lookup, stands_for, undeclared, with_entry}
+use Rattle.name_rules.specs.Scope.{standard, lookup, with_entry}
 use Rattle.name_rules.specs.Statements.{no_decls}
 use Rattle.name_rules.specs.Symbols.{symbol}
 use Rattle.name_rules.specs.declared.log.Log.{Log}
@@ -23,10 +22,10 @@ use Rattle.name_rules.specs.declared.scope.Names.{Names}
 use Rattle.name_rules.specs.declared.scope.What.TheVariants as what
 use Rattle.name_rules.specs.declared.types.Scalar.{Scalar}
 use Rattle.name_rules.specs.declared.types.Subtype.{Subtype}
-use Rattle.name_laws.proofs.Lookups.{lookup-last, lookup-other, lookup-passed, none-found, stands-as}
+use Rattle.name_laws.proofs.Lookups.{lookup-last, lookup-passed, none-found, stands-as}
 use Rattle.name_laws.proofs.Places.{own-number, places}
 use Rattle.name_laws.proofs.Scopes.{AddsWhere, AreOthers, IsOther, adds-ended, adds-entry, adds-less, adds-none, adds-then, all-declarations, begun-all, adds-begun, named-left, named-right, one-declaration}
-use Rattle.name_laws.specs.Hiding.{HasNone, IsLast, NoneNamed, all_declared, declares}
+use Rattle.name_laws.specs.Hiding.{HasNone, IsLast, NoneNamed, all_declared}
 use Rattle.name_laws.specs.OwnNames.{MainNameLaw, OwnNameLaw, around_body, around_main, around_units, formal_names, formals_named, sub_name, unit_names, units_names}
 
 -- ---- formal parameters

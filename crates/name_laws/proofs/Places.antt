@@ -1,5 +1,5 @@
 -- A subprogram's number is its place: each writes one profile, and nothing else writes any.
-use Rattle.std.proofs.Common.{◌≡◌, ℕ, ◌+◌, List, [], ◌∷◌, ◌++◌, length, length-append, Option, Some, None, Bool, true, false, refl, sym, ap, subst, ◌∙◌, nat_le, nat_lt, ◌==◌}
+use Rattle.std.proofs.Common.{◌≡◌, ℕ, ◌+◌, List, [], ◌∷◌, length, length-append, Option, Some, None, Bool, true, false, refl, sym, ap, ◌∙◌, nat_le, nat_lt, ◌==◌}
 use Rattle.std.specs.Prelude.{not, ◌||◌}
 use Rattle.ada_tree.specs.Syntax as syntax
 use Rattle.ada_tree.specs.Syntax.{Aspect, Body, Decl, Expr, Formals, Sub, Unit'}
@@ -157,7 +157,7 @@ one-place : (names : Names) (n : ℕ) (blocking : Bool) (start : ℕ) (d : p.Dec
     → AreNumbered d.subs log → AreNumbered (p.unit_of names n blocking start d u log).0.subs (p.unit_of names n blocking start d u log).1
 one-place names n blocking start d (syntax.DeclUnit x) log h =
     numbered-alike d.subs log (p.unit_of names n blocking start d (syntax.DeclUnit x) log).1
-        ((k-declaration steady names (p.level_of names n) start d.here d.decls x tt (k-level_of steady names n tt)).at log) h
+    ((k-declaration steady names (p.level_of names n) start d.here d.decls x tt (k-level_of steady names n tt)).at log) h
 one-place names n blocking start d (syntax.SubUnit s) log h =
     also-numbered d.subs _ log (p.unit_of names n blocking start d (syntax.SubUnit s) log).1 h (λ x e. sub-profiles names _ blocking start d.here s log x e)
 

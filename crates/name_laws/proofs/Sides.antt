@@ -1,5 +1,5 @@
 -- Objects that lie side by side share no cell.
-use Rattle.std.specs.Prelude.{◌≡◌, ℕ, zero, suc, ◌+◌, ◌<◌, ◌≤◌, List, [], ◌∷◌, length, slice_get, Some}
+use Rattle.std.specs.Prelude.{◌≡◌, ℕ, zero, suc, ◌+◌, ◌<◌, ◌≤◌, List, [], ◌∷◌, slice_get, Some}
 use Rattle.std.proofs.Common.{ap, sym, subst, ◌∙◌, arith}
 use Rattle.ada_typed.specs.declared.program.Object.{Object}
 use Rattle.ada_typed.specs.Layout.{first_cell, after, LieFrom, HasCell}
@@ -45,4 +45,3 @@ apart os free i j a b l e f differ s cell h k =
     let not_before : i < j → ⊥ = λ lt. less os free i j a b l e f lt s cell h k in
     let not_after : j < i → ⊥ = λ lt. less os free j i b a l f e lt (sym s) cell k h in
     differ (omega (arith, not_before, not_after))
-

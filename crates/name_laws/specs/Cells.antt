@@ -1,5 +1,4 @@
 -- Where the objects of a typed program lie (3.3): different objects of one owner have different cells.
-use Rattle.ada_tree.specs.Syntax as syntax
 use Rattle.ada_tree.specs.Syntax.{Program}
 use Rattle.ada_typed.specs.Layout.{HasCell, LieFrom, first_cell}
 use Rattle.ada_typed.specs.Syntax as typed
