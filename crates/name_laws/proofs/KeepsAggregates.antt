@@ -25,8 +25,8 @@ use Rattle.ada_tree.specs.Syntax.{Assoc, Assocs, Choice, Choices, Expr, Exprs, M
 use Rattle.ada_typed.specs.Decoded as part
 use Rattle.std.specs.Prelude.{Bool, List, None, Option, Some, [], drop, false, if◌then◌else◌, length, not, option_map, pos, true, ℕ, ℤ, ◌&&◌, ◌*◌, ◌++◌, ◌+ℤ◌, ◌+◌, ◌==◌, ◌||◌, ◌∷◌}
 use Rattle.ada_typed.specs.Decoded.{Part as TypedPart, as_associations}
-use Rattle.name_rules.specs.Judging.{◌>>=◌, breaks, fault, given, joined, pure, read, some, unless, where_clean}
-use Rattle.name_rules.specs.Aggregates.{Contents, ByPosition, ByAssociation, with_value, aggregate_part, field_run, field_value, fields_value, some_fields, Filling, filling, by_position, has_symbol, without, one_field, named_field, first_of_choice, value_choice, field_choice, field_choices, is_alone, record_assoc, is_final, record_assocs, record_values, record_rest, record_parts, filled, sorted, left_open, runs_of, with_runs, Placing, with_ranges, with_rest, nothing_placed, Component, Choosing', also_chosen, as_rest, array_choice, array_choices, index_what, of_index_type, iterated_given, chosen_given, array_assoc, array_assocs, array_values, array_rest, array_placed, non_empty, covered_alone, covered, dimension_of, no_aggregate, inner_value, inner_aggregate, is_last, component_at, array_at, array_of, composite_at, exprs_alone, optional_alone, assoc_value, assocs_alone, contents_alone, composite_found, rest_found, aggregate}
+use Rattle.name_rules.specs.Judging.{◌>>=◌, breaks, fault, given, joined, pure, some, unless, where_clean}
+use Rattle.name_rules.specs.Aggregates.{Contents, ByPosition, ByAssociation, aggregate_part, field_run, field_value, fields_value, some_fields, Filling, filling, by_position, has_symbol, without, one_field, named_field, first_of_choice, value_choice, field_choice, field_choices, is_alone, record_assoc, is_final, record_assocs, record_values, record_rest, record_parts, filled, sorted, left_open, runs_of, with_runs, Placing, with_ranges, with_rest, nothing_placed, Component, Choosing', also_chosen, as_rest, array_choice, array_choices, index_what, of_index_type, array_assoc, array_assocs, array_values, array_rest, array_placed, non_empty, covered_alone, covered, dimension_of, no_aggregate, inner_value, inner_aggregate, is_last, component_at, array_at, array_of, composite_at, exprs_alone, optional_alone, assoc_value, assocs_alone, contents_alone, composite_found, rest_found, aggregate}
 use Rattle.name_laws.proofs.Walk.{Walk, Keeps, k-pure, k-some, k-bind, k-fault, k-breaks, k-unless, k-read, k-if, k-given, k-where_clean}
 use Rattle.name_laws.proofs.Walked.{KeepsInside}
 use Rattle.name_laws.proofs.KeepsExpressions.{k-expr, k-judged_alone, k-value_for}
@@ -35,7 +35,13 @@ use Rattle.name_laws.proofs.KeepsRanges.{k-chosen_span, k-chosen_value, k-static
 
 pub k-field_value : (walk : Walk) (x0 : Names) (x1 : Inside) (x2 : Context) (x3 : Option TypedPart) (x4 : Field) (x5 : Expr) → walk.Takes x0 → KeepsInside walk x1 → Keeps walk (field_value x0 x1 x2 x3 x4 x5)
 unfolding field_value
-k-field_value walk names level here made f e keeps1 keeps2 = k-bind walk ((value_for names level here f.subtype e)) (λ v. (read (λ log. field_run log f)) >>= λ r. pure (joined (with_value (r ∷ []) None part.Nothing) made v)) (k-value_for walk names level here f.subtype e keeps1 keeps2) (λ v. k-bind walk ((read (λ log. field_run log f))) (λ r. pure (joined (with_value (r ∷ []) None part.Nothing) made v)) (k-read walk (λ log. field_run log f)) (λ r. k-pure walk (joined (with_value (r ∷ []) None part.Nothing) made v)))
+k-field_value walk names level here made f e keeps1 keeps2 = record {
+  at = λ log.
+      let out1 = value_for names level here f.subtype e log in
+      let v = out1.0 in
+      walk.joins _ _ _ ((k-value_for walk names level here f.subtype e keeps1 keeps2).at log)
+      ((k-read walk (λ log. field_run log f)).at out1.1);
+}
 
 pub k-fields_value : (walk : Walk) (x0 : Names) (x1 : Inside) (x2 : Context) (x3 : Option TypedPart) (x4 : List Field) (x5 : Expr) → walk.Takes x0 → KeepsInside walk x1 → Keeps walk (fields_value x0 x1 x2 x3 x4 x5)
 k-fields_value walk names level here made [] e keeps1 keeps2 = k-pure walk made
@@ -65,7 +71,13 @@ k-field_choices walk names all alone last left taken syntax.NoChoice keeps1 = k-
 k-field_choices walk names all alone last left taken (syntax.AlsoChoice c cs) keeps1 = k-bind walk (field_choice names all alone last left taken c) (λ r. field_choices names all alone last r.1 r.0 cs) (k-field_choice walk names all alone last left taken c keeps1) (λ r. k-field_choices walk names all alone last r.1 r.0 cs keeps1)
 
 pub k-record_assoc : (walk : Walk) (x0 : Names) (x1 : Inside) (x2 : Context) (x3 : List Field) (x4 : Bool) (x5 : Filling) (x6 : Assoc) → walk.Takes x0 → KeepsInside walk x1 → Keeps walk (record_assoc x0 x1 x2 x3 x4 x5 x6)
-k-record_assoc walk names level here all last f (syntax.Chosen c cs e) keeps1 keeps2 = k-bind walk ((field_choices names all (is_alone cs) last f.left [] (syntax.AlsoChoice c cs))) (λ r. (some_fields names level here f.done r.0 e) >>= λ x. pure (filling x r.1 f.over)) (k-field_choices walk names all (is_alone cs) last f.left [] (syntax.AlsoChoice c cs) keeps1) (λ r. k-bind walk ((some_fields names level here f.done r.0 e)) (λ x. pure (filling x r.1 f.over)) (k-some_fields walk names level here f.done r.0 e keeps1 keeps2) (λ x. k-pure walk (filling x r.1 f.over)))
+k-record_assoc walk names level here all last f (syntax.Chosen c cs e) keeps1 keeps2 = record {
+  at = λ log.
+      let out1 = field_choices names all (is_alone cs) last f.left [] (syntax.AlsoChoice c cs) log in
+      let r = out1.0 in
+      walk.joins _ _ _ ((k-field_choices walk names all (is_alone cs) last f.left [] (syntax.AlsoChoice c cs) keeps1).at log)
+      ((k-some_fields walk names level here f.done r.0 e keeps1 keeps2).at out1.1);
+}
 k-record_assoc walk names level here all last f (syntax.Each at index r e) keeps1 keeps2 = k-bind walk (breaks at WrongType) (λ u. pure f) (k-breaks walk at WrongType) (λ u. k-pure walk f)
 
 pub k-record_assocs : (walk : Walk) (x0 : Names) (x1 : Inside) (x2 : Context) (x3 : List Field) (x4 : Filling) (x5 : Assocs) → walk.Takes x0 → KeepsInside walk x1 → Keeps walk (record_assocs x0 x1 x2 x3 x4 x5)
@@ -101,8 +113,26 @@ k-of_index_type walk k first r = k-if walk (same r.known.kind k) (some r) (fault
 
 pub k-array_assoc : (walk : Walk) (x0 : Names) (x1 : Inside) (x2 : Context) (x3 : Component) (x4 : Dimension) (x5 : ℕ) (x6 : Bool) (x7 : Placing) (x8 : Assoc) → walk.Takes x0 → KeepsInside walk x1 → ((here : Context) (e : Expr) → Keeps walk (x3 here e)) → Keeps walk (array_assoc x0 x1 x2 x3 x4 x5 x6 x7 x8)
 unfolding array_assoc
-k-array_assoc walk names level here component d apart last p (syntax.Chosen c cs e) keeps1 keeps2 keeps3 = k-bind walk ((array_choices level here d.kind (is_alone cs) last (Some (record { ranges = []; rest = false; mentions = part.Nothing })) (syntax.AlsoChoice c cs))) (λ r. (component here e) >>= λ v. pure (chosen_given d apart p r v)) (k-array_choices walk level here d.kind (is_alone cs) last (Some (record { ranges = []; rest = false; mentions = part.Nothing })) (syntax.AlsoChoice c cs) keeps2) (λ r. k-bind walk ((component here e)) (λ v. pure (chosen_given d apart p r v)) (keeps3 here e) (λ v. k-pure walk (chosen_given d apart p r v)))
-k-array_assoc walk names level here component d apart last p (syntax.Each at index r e) keeps1 keeps2 keeps3 = k-bind walk ((static_range level here false (Some d.kind) r)) (λ x. (given x (of_index_type d.kind (first_token.of_range r))) >>= λ s. (new_parameter) >>= λ n. (component (with_entry here (symbol names index) (index_what n s)) e) >>= λ v. pure (iterated_given d apart n p s v)) (k-static_range walk level here false (Some d.kind) r keeps2) (λ x. k-bind walk ((given x (of_index_type d.kind (first_token.of_range r)))) (λ s. (new_parameter) >>= λ n. (component (with_entry here (symbol names index) (index_what n s)) e) >>= λ v. pure (iterated_given d apart n p s v)) (k-given walk x (of_index_type d.kind (first_token.of_range r)) (λ z1. k-of_index_type walk d.kind (first_token.of_range r) z1)) (λ s. k-bind walk ((new_parameter)) (λ n. (component (with_entry here (symbol names index) (index_what n s)) e) >>= λ v. pure (iterated_given d apart n p s v)) (k-new_parameter walk) (λ n. k-bind walk ((component (with_entry here (symbol names index) (index_what n s)) e)) (λ v. pure (iterated_given d apart n p s v)) (keeps3 (with_entry here (symbol names index) (index_what n s)) e) (λ v. k-pure walk (iterated_given d apart n p s v)))))
+k-array_assoc walk names level here component d apart last p (syntax.Chosen c cs e) keeps1 keeps2 keeps3 = record {
+  at = λ log.
+      let out1 = array_choices level here d.kind (is_alone cs) last (Some (record { ranges = []; rest = false; mentions = part.Nothing })) (syntax.AlsoChoice c cs) log in
+      let r = out1.0 in
+      walk.joins _ _ _ ((k-array_choices walk level here d.kind (is_alone cs) last (Some (record { ranges = []; rest = false; mentions = part.Nothing })) (syntax.AlsoChoice c cs) keeps2).at log)
+      ((keeps3 here e).at out1.1);
+}
+k-array_assoc walk names level here component d apart last p (syntax.Each at index r e) keeps1 keeps2 keeps3 = record {
+  at = λ log.
+      let out1 = static_range level here false (Some d.kind) r log in
+      let x = out1.0 in
+      let out3 = given x (of_index_type d.kind (first_token.of_range r)) out1.1 in
+      let s = out3.0 in
+      let out4 = new_parameter out3.1 in
+      let n = out4.0 in
+      walk.joins _ _ _ ((k-static_range walk level here false (Some d.kind) r keeps2).at log)
+      (walk.joins _ _ _ ((k-given walk x (of_index_type d.kind (first_token.of_range r)) (λ z2. k-of_index_type walk d.kind (first_token.of_range r) z2)).at out1.1)
+      (walk.joins _ _ _ ((k-new_parameter walk).at out3.1)
+      ((keeps3 (with_entry here (symbol names index) (index_what n s)) e).at out4.1)));
+}
 
 pub k-array_assocs : (walk : Walk) (x0 : Names) (x1 : Inside) (x2 : Context) (x3 : Component) (x4 : Dimension) (x5 : ℕ) (x6 : Placing) (x7 : Assocs) → walk.Takes x0 → KeepsInside walk x1 → ((here : Context) (e : Expr) → Keeps walk (x3 here e)) → Keeps walk (array_assocs x0 x1 x2 x3 x4 x5 x6 x7)
 k-array_assocs walk names level here component d apart p syntax.NoAssoc keeps1 keeps2 keeps3 = k-pure walk p
@@ -152,7 +182,7 @@ k-array_of walk names level here bracket n i log ds None ps keeps1 keeps2 = k-fa
 k-array_of walk names level here bracket n i log ds (Some s) ps keeps1 keeps2 = k-array_at walk names level here bracket n i (drop i ds) s (cells_in log s) ps keeps1 keeps2
 
 pub k-composite_at : (walk : Walk) (x0 : Names) (x1 : Inside) (x2 : Context) (x3 : ℕ) (x4 : ℕ) (x5 : ℕ) (x6 : Log) (x7 : Option Shape) (x8 : Contents) → walk.Takes x0 → KeepsInside walk x1 → Keeps walk (composite_at x0 x1 x2 x3 x4 x5 x6 x7 x8)
-k-composite_at walk names level here bracket n i log t ps keeps1 keeps2 = k-if walk (is_record t) (where_clean (record_parts names level here (fields_of t) ps) (filled bracket (cells_of_shape t))) (array_of names level here bracket n i log (dimensions_of t) (component_of t) ps) (k-where_clean walk (record_parts names level here (fields_of t) ps) (filled bracket (cells_of_shape t)) (k-record_parts walk names level here (fields_of t) ps keeps1 keeps2) (λ z3. k-filled walk bracket (cells_of_shape t) z3)) (k-array_of walk names level here bracket n i log (dimensions_of t) (component_of t) ps keeps1 keeps2)
+k-composite_at walk names level here bracket n i log t ps keeps1 keeps2 = k-if walk (is_record t) (where_clean (record_parts names level here (fields_of t) ps) (filled bracket (cells_of_shape t))) (array_of names level here bracket n i log (dimensions_of t) (component_of t) ps) (k-where_clean walk (record_parts names level here (fields_of t) ps) (filled bracket (cells_of_shape t)) (k-record_parts walk names level here (fields_of t) ps keeps1 keeps2) (λ z1. k-filled walk bracket (cells_of_shape t) z1)) (k-array_of walk names level here bracket n i log (dimensions_of t) (component_of t) ps keeps1 keeps2)
 
 pub k-exprs_alone : (walk : Walk) (x0 : Names) (x1 : Inside) (x2 : Context) (x3 : Exprs) → walk.Takes x0 → KeepsInside walk x1 → Keeps walk (exprs_alone x0 x1 x2 x3)
 k-exprs_alone walk names level here syntax.NoExpr keeps1 keeps2 = k-pure walk tt

@@ -29,7 +29,7 @@ use Rattle.ada_typed.specs.Syntax.{Expr as TypedExpr}
 use Rattle.std.specs.Prelude.{Bool, List, None, Option, Some, [], false, if◌then◌else◌, int_le, length, option_map, pos, slice_get, true, unsigned_abs, ℕ, ℤ, ◌&&◌, ◌-◌, ◌∷◌}
 use Rattle.name_rules.specs.TypedParts.{also_all}
 use Rattle.ada_typed.specs.Decoded.{Part as TypedPart, as_expr}
-use Rattle.name_rules.specs.Judging.{◌>>=◌, fault, given, joined, pure, read}
+use Rattle.name_rules.specs.Judging.{◌>>=◌, fault, given, pure, read}
 use Rattle.name_rules.specs.Attributes.{prefix_of, attribute_found, scalar_bound, dimension_bound, mentioned, prefix_subtype, dimensions_in, bound_in, bound_alone, dimension_at, dimension_given, one_dimension, bound_with, first_named, one_given, two_given, one_named, two_named, one_argument, two_arguments_of, image_text, extreme, step, stepped, scalar_with, object_image, is_bound, is_reduction, reduced_alone, is_array_object, alone, settled_form, settled_attribute}
 use Rattle.name_laws.proofs.Walk.{Walk, Keeps, k-pure, k-some, k-bind, k-fault, k-read, k-if, k-given, k-where_clean}
 use Rattle.name_laws.proofs.Walked.{KeepsInside}
@@ -59,13 +59,13 @@ k-bound_in walk first ms a (Some d) = k-dimension_bound walk first ms a d
 
 pub k-bound_alone : (walk : Walk) (x0 : ℕ) (x1 : Prefix) (x2 : TypedPart) (x3 : Attribute) → Keeps walk (bound_alone x0 x1 x2 x3)
 k-bound_alone walk first (prefix.Type (subtype.Scalar s)) x a = k-scalar_bound walk first s a
-k-bound_alone walk first p x a = k-bind walk (read (λ log. slice_get (dimensions_in log (prefix_subtype p)) 0)) (bound_in first (mentioned p x) a) (k-read walk (λ log. slice_get (dimensions_in log (prefix_subtype p)) 0)) (λ z1. k-bound_in walk first (mentioned p x) a z1)
+k-bound_alone walk first p x a = k-bind walk (read (λ log. slice_get (dimensions_in log (prefix_subtype p)) 0)) (bound_in first (mentioned p x) a) (k-read walk (λ log. slice_get (dimensions_in log (prefix_subtype p)) 0)) (λ z2. k-bound_in walk first (mentioned p x) a z2)
 
 pub k-dimension_at : (walk : Walk) (x0 : ℕ) (x1 : TypedPart) (x2 : Attribute) (x3 : List Dimension) (x4 : ℕ) (x5 : ℤ) → Keeps walk (dimension_at x0 x1 x2 x3 x4 x5)
 k-dimension_at walk first ms a ds at z = k-if walk (int_le (pos 1) z && int_le z (pos (length ds))) (bound_in first ms a (slice_get ds (unsigned_abs z - 1))) (fault at StaticRange) (k-bound_in walk first ms a (slice_get ds (unsigned_abs z - 1))) (k-fault walk at StaticRange)
 
 pub k-dimension_given : (walk : Walk) (x0 : ℕ) (x1 : TypedPart) (x2 : Attribute) (x3 : List Dimension) (x4 : Found) → Keeps walk (dimension_given x0 x1 x2 x3 x4)
-k-dimension_given walk first ms a ds f = k-if walk (is_number f.known) ((static_of_kind (own_kind f.known) f >>= λ v. given v (dimension_at first (also_all ms (mentions_of f)) a ds (first_of f.known)))) (fault (first_of f.known) WrongType) (k-bind walk (static_of_kind (own_kind f.known) f) (λ v. given v (dimension_at first (also_all ms (mentions_of f)) a ds (first_of f.known))) (k-static_of_kind walk (own_kind f.known) f) (λ v. k-given walk v (dimension_at first (also_all ms (mentions_of f)) a ds (first_of f.known)) (λ z2. k-dimension_at walk first (also_all ms (mentions_of f)) a ds (first_of f.known) z2))) (k-fault walk (first_of f.known) WrongType)
+k-dimension_given walk first ms a ds f = k-if walk (is_number f.known) ((static_of_kind (own_kind f.known) f >>= λ v. given v (dimension_at first (also_all ms (mentions_of f)) a ds (first_of f.known)))) (fault (first_of f.known) WrongType) (k-bind walk (static_of_kind (own_kind f.known) f) (λ v. given v (dimension_at first (also_all ms (mentions_of f)) a ds (first_of f.known))) (k-static_of_kind walk (own_kind f.known) f) (λ v. k-given walk v (dimension_at first (also_all ms (mentions_of f)) a ds (first_of f.known)) (λ z1. k-dimension_at walk first (also_all ms (mentions_of f)) a ds (first_of f.known) z1))) (k-fault walk (first_of f.known) WrongType)
 
 pub k-one_dimension : (walk : Walk) (x0 : ℕ) (x1 : ℕ) (x2 : TypedPart) (x3 : Attribute) (x4 : List Dimension) (x5 : List (Option ℕ)) (x6 : List Found) → Keeps walk (one_dimension x0 x1 x2 x3 x4 x5 x6)
 k-one_dimension walk first bracket ms a ds (None ∷ []) (f ∷ []) = k-dimension_given walk first ms a ds f
@@ -74,13 +74,19 @@ k-one_dimension walk first bracket ms a ds ns fs = k-fault walk bracket WrongTyp
 
 pub k-bound_with : (walk : Walk) (x0 : Names) (x1 : Inside) (x2 : Context) (x3 : ℕ) (x4 : TypedPart) (x5 : Attribute) (x6 : ℕ) (x7 : Args) (x8 : List Dimension) → walk.Takes x0 → KeepsInside walk x1 → Keeps walk (bound_with x0 x1 x2 x3 x4 x5 x6 x7 x8)
 k-bound_with walk names inside here first ms a bracket as' [] keeps1 keeps2 = k-fault walk first WrongType
-k-bound_with walk names inside here first ms a bracket as' (d ∷ ds) keeps1 keeps2 = k-where_clean walk (operands names inside here (Some []) as') (λ fs. given fs (one_dimension first bracket ms a (d ∷ ds) (arg_names as'))) (k-operands walk names inside here (Some []) as' keeps1 keeps2) (λ fs. k-given walk fs (one_dimension first bracket ms a (d ∷ ds) (arg_names as')) (λ z3. k-one_dimension walk first bracket ms a (d ∷ ds) (arg_names as') z3))
+k-bound_with walk names inside here first ms a bracket as' (d ∷ ds) keeps1 keeps2 = k-where_clean walk (operands names inside here (Some []) as') (λ fs. given fs (one_dimension first bracket ms a (d ∷ ds) (arg_names as'))) (k-operands walk names inside here (Some []) as' keeps1 keeps2) (λ fs. k-given walk fs (one_dimension first bracket ms a (d ∷ ds) (arg_names as')) (λ z1. k-one_dimension walk first bracket ms a (d ∷ ds) (arg_names as') z1))
 
 pub k-one_given : (walk : Walk) (x0 : Kind) (x1 : (TypedExpr → Denoted)) (x2 : Found) → Keeps walk (one_given x0 x1 x2)
 k-one_given walk k make f = k-bind walk (asked k f) (λ e. pure (option_map (λ x. make (as_expr x)) e)) (k-asked walk k f) (λ e. k-pure walk (option_map (λ x. make (as_expr x)) e))
 
 pub k-two_given : (walk : Walk) (x0 : Kind) (x1 : (TypedExpr → TypedExpr → Denoted)) (x2 : Found) (x3 : Found) → Keeps walk (two_given x0 x1 x2 x3)
-k-two_given walk k make f g = k-bind walk ((asked k f)) (λ x. (asked k g) >>= λ y. pure (joined (λ d e. make (as_expr d) (as_expr e)) x y)) (k-asked walk k f) (λ x. k-bind walk ((asked k g)) (λ y. pure (joined (λ d e. make (as_expr d) (as_expr e)) x y)) (k-asked walk k g) (λ y. k-pure walk (joined (λ d e. make (as_expr d) (as_expr e)) x y)))
+k-two_given walk k make f g = record {
+  at = λ log.
+      let out1 = asked k f log in
+      let x = out1.0 in
+      walk.joins _ _ _ ((k-asked walk k f).at log)
+      ((k-asked walk k g).at out1.1);
+}
 
 pub k-one_named : (walk : Walk) (x0 : ℕ) (x1 : Kind) (x2 : (TypedExpr → Denoted)) (x3 : Option ℕ) (x4 : List Found) → Keeps walk (one_named x0 x1 x2 x3 x4)
 k-one_named walk bracket k make (Some name) fs = k-fault walk name Unknown
@@ -94,11 +100,11 @@ k-two_named walk bracket k make None fs = k-fault walk bracket WrongType
 
 pub k-one_argument : (walk : Walk) (x0 : Names) (x1 : Inside) (x2 : Context) (x3 : ℕ) (x4 : Kind) (x5 : (TypedExpr → Denoted)) (x6 : Args) → walk.Takes x0 → KeepsInside walk x1 → Keeps walk (one_argument x0 x1 x2 x3 x4 x5 x6)
 unfolding one_argument
-k-one_argument walk names inside here bracket k make as' keeps1 keeps2 = k-where_clean walk (operands names inside here (Some []) as') (λ fs. given fs (one_named bracket k make (first_named (arg_names as')))) (k-operands walk names inside here (Some []) as' keeps1 keeps2) (λ fs. k-given walk fs (one_named bracket k make (first_named (arg_names as'))) (λ z4. k-one_named walk bracket k make (first_named (arg_names as')) z4))
+k-one_argument walk names inside here bracket k make as' keeps1 keeps2 = k-where_clean walk (operands names inside here (Some []) as') (λ fs. given fs (one_named bracket k make (first_named (arg_names as')))) (k-operands walk names inside here (Some []) as' keeps1 keeps2) (λ fs. k-given walk fs (one_named bracket k make (first_named (arg_names as'))) (λ z1. k-one_named walk bracket k make (first_named (arg_names as')) z1))
 
 pub k-two_arguments_of : (walk : Walk) (x0 : Names) (x1 : Inside) (x2 : Context) (x3 : ℕ) (x4 : Kind) (x5 : (TypedExpr → TypedExpr → Denoted)) (x6 : Args) → walk.Takes x0 → KeepsInside walk x1 → Keeps walk (two_arguments_of x0 x1 x2 x3 x4 x5 x6)
 unfolding two_arguments_of
-k-two_arguments_of walk names inside here bracket k make as' keeps1 keeps2 = k-where_clean walk (operands names inside here (Some []) as') (λ fs. given fs (two_named bracket k make (first_named (arg_names as')))) (k-operands walk names inside here (Some []) as' keeps1 keeps2) (λ fs. k-given walk fs (two_named bracket k make (first_named (arg_names as'))) (λ z5. k-two_named walk bracket k make (first_named (arg_names as')) z5))
+k-two_arguments_of walk names inside here bracket k make as' keeps1 keeps2 = k-where_clean walk (operands names inside here (Some []) as') (λ fs. given fs (two_named bracket k make (first_named (arg_names as')))) (k-operands walk names inside here (Some []) as' keeps1 keeps2) (λ fs. k-given walk fs (two_named bracket k make (first_named (arg_names as'))) (λ z1. k-two_named walk bracket k make (first_named (arg_names as')) z1))
 
 pub k-stepped : (walk : Walk) (x0 : Names) (x1 : Inside) (x2 : Context) (x3 : ℕ) (x4 : Scalar) (x5 : Op) (x6 : ℕ) (x7 : Args) → walk.Takes x0 → KeepsInside walk x1 → Keeps walk (stepped x0 x1 x2 x3 x4 x5 x6 x7)
 k-stepped walk names inside here first s o bracket as' keeps1 keeps2 = k-if walk (is_integer s.kind) (one_argument names inside here bracket s.kind (step first s.kind o) as') (fault first WrongType) (k-one_argument walk names inside here bracket s.kind (step first s.kind o) as' keeps1 keeps2) (k-fault walk first WrongType)
@@ -121,7 +127,7 @@ k-reduced_alone walk first at false = k-fault walk at ReduceRule
 
 pub k-alone : (walk : Walk) (x0 : ℕ) (x1 : Prefix) (x2 : TypedPart) (x3 : ℕ) (x4 : Attribute) → Keeps walk (alone x0 x1 x2 x3 x4)
 k-alone walk first (prefix.Object p) x at attribute'.Image = k-object_image walk first p x p.subtype
-k-alone walk first p x at a = k-if walk (is_bound a) (bound_alone first p x a) (if is_reduction a then (read (λ log. is_array_object log p) >>= reduced_alone first at) else fault first WrongType) (k-bound_alone walk first p x a) (k-if walk (is_reduction a) ((read (λ log. is_array_object log p) >>= reduced_alone first at)) (fault first WrongType) (k-bind walk (read (λ log. is_array_object log p)) (reduced_alone first at) (k-read walk (λ log. is_array_object log p)) (λ z6. k-reduced_alone walk first at z6)) (k-fault walk first WrongType))
+k-alone walk first p x at a = k-if walk (is_bound a) (bound_alone first p x a) (if is_reduction a then (read (λ log. is_array_object log p) >>= reduced_alone first at) else fault first WrongType) (k-bound_alone walk first p x a) (k-if walk (is_reduction a) ((read (λ log. is_array_object log p) >>= reduced_alone first at)) (fault first WrongType) (k-bind walk (read (λ log. is_array_object log p)) (reduced_alone first at) (k-read walk (λ log. is_array_object log p)) (λ z2. k-reduced_alone walk first at z2)) (k-fault walk first WrongType))
 
 pub k-settled_form : (walk : Walk) (x0 : KnownDenoted) (x1 : TypedPart) → Keeps walk (settled_form x0 x1)
 k-settled_form walk (denoted.Attribute first p at a) x = k-alone walk first p x at a

@@ -26,11 +26,11 @@ use Rattle.ada_typed.specs.Syntax.{Actuals, Selections}
 use Rattle.ada_typed.specs.declared.program.Mode.TheVariants as mode
 use Rattle.ada_typed.specs.declared.program.Mode.{Mode}
 use Rattle.std.specs.List.{list_any, position}
-use Rattle.std.specs.Prelude.{Bool, List, None, Option, Some, [], false, if◌then◌else◌, is_some, length, nat_lt, not, true, ℕ, ◌+◌, ◌==◌, ◌||◌, ◌∷◌}
+use Rattle.std.specs.Prelude.{Bool, List, None, Option, Some, [], false, if◌then◌else◌, length, nat_lt, not, true, ℕ, ◌==◌, ◌∷◌}
 use Rattle.name_rules.specs.TypedParts.{selections_of}
 use Rattle.ada_typed.specs.Decoded.{Part as TypedPart, as_expr, as_actuals}
 use Rattle.name_rules.specs.Judging.{◌>>=◌, fault, given, pure, read, some, where_clean}
-use Rattle.name_rules.specs.Calls.{takes_in, gives_in, profile_in, scalar_actual, composite_actual, place_given, variable_form, variable_given, actual_by, actual_for, found_or_unknown, parameter_of, given_once, also_taken, late_at, Calling, taken_at, with_actual, argument_form, argument, arguments, complete, begun_call, call_given, sub_call, with_operand, operands, arg_names, conversion_of, converted, one_operand, scalar_conversion, conversion}
+use Rattle.name_rules.specs.Calls.{takes_in, gives_in, profile_in, scalar_actual, composite_actual, place_given, variable_form, variable_given, actual_by, actual_for, found_or_unknown, parameter_of, given_once, Calling, taken_at, argument_form, argument, arguments, complete, begun_call, call_given, sub_call, with_operand, operands, arg_names, conversion_of, converted, one_operand, scalar_conversion, conversion}
 use Rattle.name_laws.proofs.Walk.{Walk, Keeps, k-pure, k-some, k-bind, k-fault, k-unless, k-read, k-if, k-given, k-where_clean}
 use Rattle.name_laws.proofs.Walked.{KeepsInside}
 use Rattle.name_laws.proofs.KeepsExpressions.{k-expr, k-judged_alone, k-value_for}
@@ -73,7 +73,15 @@ k-given_once walk first taken None = k-pure walk tt
 k-given_once walk first taken (Some i) = k-unless walk (not (list_any (λ j. i == j) taken)) first Twice
 
 pub k-argument_form : (walk : Walk) (x0 : Names) (x1 : Inside) (x2 : Context) (x3 : List Taken) (x4 : Calling) (x5 : Option ℕ) (x6 : Expr) (x7 : ℕ) → walk.Takes x0 → KeepsInside walk x1 → Keeps walk (argument_form x0 x1 x2 x3 x4 x5 x6 x7)
-k-argument_form walk names inside here ts c name e first keeps1 keeps2 = k-bind walk ((parameter_of names ts c.count c.named name)) (λ i. (given_once first c.taken i) >>= λ u. (actual_for names inside here (taken_at ts i) e) >>= λ x. pure (record { count = c.count + 1; taken = also_taken c.taken i; named = c.named || is_some name; late = late_at c.late c.named name first; actuals = with_actual i c.actuals x })) (k-parameter_of walk names ts c.count c.named name keeps1) (λ i. k-bind walk ((given_once first c.taken i)) (λ u. (actual_for names inside here (taken_at ts i) e) >>= λ x. pure (record { count = c.count + 1; taken = also_taken c.taken i; named = c.named || is_some name; late = late_at c.late c.named name first; actuals = with_actual i c.actuals x })) (k-given_once walk first c.taken i) (λ u. k-bind walk ((actual_for names inside here (taken_at ts i) e)) (λ x. pure (record { count = c.count + 1; taken = also_taken c.taken i; named = c.named || is_some name; late = late_at c.late c.named name first; actuals = with_actual i c.actuals x })) (k-actual_for walk names inside here (taken_at ts i) e keeps1 keeps2) (λ x. k-pure walk (record { count = c.count + 1; taken = also_taken c.taken i; named = c.named || is_some name; late = late_at c.late c.named name first; actuals = with_actual i c.actuals x }))))
+k-argument_form walk names inside here ts c name e first keeps1 keeps2 = record {
+  at = λ log.
+      let out1 = parameter_of names ts c.count c.named name log in
+      let i = out1.0 in
+      let out2 = given_once first c.taken i out1.1 in
+      walk.joins _ _ _ ((k-parameter_of walk names ts c.count c.named name keeps1).at log)
+      (walk.joins _ _ _ ((k-given_once walk first c.taken i).at out1.1)
+      ((k-actual_for walk names inside here (taken_at ts i) e keeps1 keeps2).at out2.1));
+}
 
 pub k-argument : (walk : Walk) (x0 : Names) (x1 : Inside) (x2 : Context) (x3 : List Taken) (x4 : Calling) (x5 : Arg) → walk.Takes x0 → KeepsInside walk x1 → Keeps walk (argument x0 x1 x2 x3 x4 x5)
 unfolding argument

@@ -31,7 +31,7 @@ k-maybe_covered walk c d (Some x) = k-covered_by walk c (also_mentioned d x.part
 
 pub k-case_choice : (walk : Walk) (x0 : Inside) (x1 : Context) (x2 : Option Kind) (x3 : Bool) (x4 : Bool) (x5 : Covering) (x6 : Choosing) (x7 : Choice) → KeepsInside walk x0 → Keeps walk (case_choice x0 x1 x2 x3 x4 x5 x6 x7)
 unfolding case_choice
-k-case_choice walk level here k single last c d (syntax.Value s) keeps1 = k-bind walk (chosen_value level here k s) (maybe_covered c d) (k-chosen_value walk level here k s keeps1) (λ z1. k-maybe_covered walk c d z1)
+k-case_choice walk level here k single last c d (syntax.Value s) keeps1 = k-bind walk (chosen_value level here k s) (maybe_covered c d) (k-chosen_value walk level here k s keeps1) (λ z2. k-maybe_covered walk c d z2)
 k-case_choice walk level here k single last c d (syntax.Span low high) keeps1 = k-bind walk (chosen_span level here k low high) (maybe_covered c d) (k-chosen_span walk level here k low high keeps1) (λ z2. k-maybe_covered walk c d z2)
 k-case_choice walk level here k single last c d (syntax.Others at) keeps1 = k-bind walk (unless (single && last) at StaticRange) (λ u. pure (with_others c (single && last), record { spans = d.spans; others = true; mentions = d.mentions })) (k-unless walk (single && last) at StaticRange) (λ u. k-pure walk (with_others c (single && last), record { spans = d.spans; others = true; mentions = d.mentions }))
 
@@ -49,7 +49,16 @@ k-named_once walk n first (Some r) = k-bind walk (unless (not (list_any (same_re
 
 pub k-named_reasons : (walk : Walk) (x0 : Names) (x1 : Context) (x2 : Naming) (x3 : List Pack) → walk.Takes x0 → Keeps walk (named_reasons x0 x1 x2 x3)
 k-named_reasons walk names here n [] keeps1 = k-pure walk n
-k-named_reasons walk names here n (p ∷ ps) keeps1 = k-bind walk (exception names here p) (λ r. named_once n p.first r >>= λ m. named_reasons names here m ps) (k-exception walk names here p keeps1) (λ r. k-bind walk (named_once n p.first r) (λ m. named_reasons names here m ps) (k-named_once walk n p.first r) (λ m. k-named_reasons walk names here m ps keeps1))
+k-named_reasons walk names here n (p ∷ ps) keeps1 = record {
+  at = λ log.
+      let out1 = exception names here p log in
+      let r = out1.0 in
+      let out2 = named_once n p.first r out1.1 in
+      let m = out2.0 in
+      walk.joins _ _ _ ((k-exception walk names here p keeps1).at log)
+      (walk.joins _ _ _ ((k-named_once walk n p.first r).at out1.1)
+      ((k-named_reasons walk names here m ps keeps1).at out2.1));
+}
 
 pub k-handled_by : (walk : Walk) (x0 : Names) (x1 : Context) (x2 : List Reason) (x3 : Bool) (x4 : Handled) → walk.Takes x0 → Keeps walk (handled_by x0 x1 x2 x3 x4)
 unfolding handled_by

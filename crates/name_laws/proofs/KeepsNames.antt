@@ -27,7 +27,7 @@ use Rattle.std.specs.Prelude.{List, None, Option, Some, [], drop, length, slice_
 use Rattle.ada_typed.specs.Syntax as typed
 use Rattle.name_rules.specs.TypedParts.{also}
 use Rattle.ada_typed.specs.Decoded.{Part as TypedPart, as_expr}
-use Rattle.name_rules.specs.Judging.{◌>>=◌, fault, given, joined, pure, some}
+use Rattle.name_rules.specs.Judging.{fault, given, joined, pure, some}
 use Rattle.name_rules.specs.Names.{denoted_first, part_place, field_from, is_record, is_array, field_in, field_of, field_form, field, is_string, arg_alone, args_alone, wrong_call, count, selected_by, index_in, index_where, unnamed, index, indexes, indexed, component_cells, index_shape, array_call, object_call, field_of_pack, pack_from, as_exception, exception}
 use Rattle.name_laws.proofs.Walk.{Walk, Keeps, k-pure, k-some, k-bind, k-fault, k-if, k-given, k-where_clean}
 use Rattle.name_laws.proofs.Walked.{KeepsInside}
@@ -80,7 +80,16 @@ k-unnamed walk (Some name) x = k-fault walk name WrongType
 
 pub k-index : (walk : Walk) (x0 : Names) (x1 : Inside) (x2 : Context) (x3 : List Dimension) (x4 : ℕ) (x5 : Option TypedPart) (x6 : Arg) → walk.Takes x0 → KeepsInside walk x1 → Keeps walk (index x0 x1 x2 x3 x4 x5 x6)
 unfolding index
-k-index walk names inside here ds cells made (syntax.arg name e) keeps1 keeps2 = k-bind walk ((expr names inside here wanted.Other e)) (λ x. (index_where (slice_get ds 0) (stride ds cells) made x) >>= λ s. unnamed name s) (k-expr walk names inside here wanted.Other e keeps1 keeps2) (λ x. k-bind walk ((index_where (slice_get ds 0) (stride ds cells) made x)) (λ s. unnamed name s) (k-index_where walk (slice_get ds 0) (stride ds cells) made x) (λ s. k-unnamed walk name s))
+k-index walk names inside here ds cells made (syntax.arg name e) keeps1 keeps2 = record {
+  at = λ log.
+      let out1 = expr names inside here wanted.Other e log in
+      let x = out1.0 in
+      let out2 = index_where (slice_get ds 0) (stride ds cells) made x out1.1 in
+      let s = out2.0 in
+      walk.joins _ _ _ ((k-expr walk names inside here wanted.Other e keeps1 keeps2).at log)
+      (walk.joins _ _ _ ((k-index_where walk (slice_get ds 0) (stride ds cells) made x).at out1.1)
+      ((k-unnamed walk name s).at out2.1));
+}
 
 pub k-indexes : (walk : Walk) (x0 : Names) (x1 : Inside) (x2 : Context) (x3 : List Dimension) (x4 : ℕ) (x5 : Option TypedPart) (x6 : Args) → walk.Takes x0 → KeepsInside walk x1 → Keeps walk (indexes x0 x1 x2 x3 x4 x5 x6)
 k-indexes walk names inside here ds cells made syntax.NoArg keeps1 keeps2 = k-pure walk made
@@ -115,4 +124,13 @@ k-as_exception walk d = k-fault walk (denoted_first d) WrongType
 
 pub k-exception : (walk : Walk) (x0 : Names) (x1 : Context) (x2 : Pack) → walk.Takes x0 → Keeps walk (exception x0 x1 x2)
 unfolding exception
-k-exception walk names here p keeps1 = k-bind walk ((stands_for names here p.first)) (λ d. (pack_from names here d p.more) >>= λ e. given e (λ x. as_exception x.known)) (k-stands_for walk names here p.first keeps1) (λ d. k-bind walk ((pack_from names here d p.more)) (λ e. given e (λ x. as_exception x.known)) (k-pack_from walk names here d p.more keeps1) (λ e. k-given walk e (λ x. as_exception x.known) (λ x. k-as_exception walk x.known)))
+k-exception walk names here p keeps1 = record {
+  at = λ log.
+      let out1 = stands_for names here p.first log in
+      let d = out1.0 in
+      let out2 = pack_from names here d p.more out1.1 in
+      let e = out2.0 in
+      walk.joins _ _ _ ((k-stands_for walk names here p.first keeps1).at log)
+      (walk.joins _ _ _ ((k-pack_from walk names here d p.more keeps1).at out1.1)
+      ((k-given walk e (λ x. as_exception x.known) (λ x. k-as_exception walk x.known)).at out2.1));
+}

@@ -36,11 +36,29 @@ k-static_universal walk first ms (Some z) = k-some walk (universal first z false
 
 pub k-static_operation : (walk : Walk) (x0 : Op) (x1 : Kind) (x2 : Kind) (x3 : Found) (x4 : ℤ) (x5 : Found) (x6 : ℤ) → Keeps walk (static_operation x0 x1 x2 x3 x4 x5 x6)
 unfolding static_operation
-k-static_operation walk o k j a u b v = k-bind walk ((fitting k (first_of a.known) u)) (λ x. (fitting j (first_of b.known) v) >>= λ y. if x && y then static_of (first_of a.known) k (both_mentions a b) (exact o u v) else pure None) (k-fitting walk k (first_of a.known) u) (λ x. k-bind walk ((fitting j (first_of b.known) v)) (λ y. if x && y then static_of (first_of a.known) k (both_mentions a b) (exact o u v) else pure None) (k-fitting walk j (first_of b.known) v) (λ y. k-if walk (x && y) (static_of (first_of a.known) k (both_mentions a b) (exact o u v)) (pure None) (k-static_of walk (first_of a.known) k (both_mentions a b) (exact o u v)) (k-pure walk None)))
+k-static_operation walk o k j a u b v = record {
+  at = λ log.
+      let out1 = fitting k (first_of a.known) u log in
+      let x = out1.0 in
+      let out2 = fitting j (first_of b.known) v out1.1 in
+      let y = out2.0 in
+      walk.joins _ _ _ ((k-fitting walk k (first_of a.known) u).at log)
+      (walk.joins _ _ _ ((k-fitting walk j (first_of b.known) v).at out1.1)
+      ((k-if walk (x && y) (static_of (first_of a.known) k (both_mentions a b) (exact o u v)) (pure None) (k-static_of walk (first_of a.known) k (both_mentions a b) (exact o u v)) (k-pure walk None)).at out2.1));
+}
 
 pub k-operation_on : (walk : Walk) (x0 : Op) (x1 : ℕ) (x2 : Kind) (x3 : Kind) (x4 : Found) (x5 : Found) → Keeps walk (operation_on x0 x1 x2 x3 x4 x5)
 unfolding operation_on
-k-operation_on walk o at k j a b = k-bind walk ((asked k a)) (λ x. (asked j b) >>= λ y. both x y (λ m n. some (scalar (first_of a.known) k None (typed.Binary at o (class_of k) (as_expr m) (as_expr n))))) (k-asked walk k a) (λ x. k-bind walk ((asked j b)) (λ y. both x y (λ m n. some (scalar (first_of a.known) k None (typed.Binary at o (class_of k) (as_expr m) (as_expr n))))) (k-asked walk j b) (λ y. k-both walk x y (λ m n. some (scalar (first_of a.known) k None (typed.Binary at o (class_of k) (as_expr m) (as_expr n)))) (λ m n. k-some walk (scalar (first_of a.known) k None (typed.Binary at o (class_of k) (as_expr m) (as_expr n))))))
+k-operation_on walk o at k j a b = record {
+  at = λ log.
+      let out1 = asked k a log in
+      let x = out1.0 in
+      let out2 = asked j b out1.1 in
+      let y = out2.0 in
+      walk.joins _ _ _ ((k-asked walk k a).at log)
+      (walk.joins _ _ _ ((k-asked walk j b).at out1.1)
+      ((k-both walk x y (λ m n. some (scalar (first_of a.known) k None (typed.Binary at o (class_of k) (as_expr m) (as_expr n)))) (λ m n. k-some walk (scalar (first_of a.known) k None (typed.Binary at o (class_of k) (as_expr m) (as_expr n))))).at out2.1));
+}
 
 pub k-operation_by : (walk : Walk) (x0 : Op) (x1 : ℕ) (x2 : Kind) (x3 : Kind) (x4 : Found) (x5 : Found) (x6 : Option ℤ) (x7 : Option ℤ) → Keeps walk (operation_by x0 x1 x2 x3 x4 x5 x6 x7)
 k-operation_by walk o at k j a b (Some u) (Some v) = k-static_operation walk o k j a u b v
@@ -148,7 +166,16 @@ k-logical walk o at x y = k-both walk x y (λ a b. if is_kind kind.Boolean (kind
 
 pub k-compared_at : (walk : Walk) (x0 : Kind) (x1 : TypedComparison) (x2 : Found) (x3 : Found) → Keeps walk (compared_at x0 x1 x2 x3)
 unfolding compared_at
-k-compared_at walk k c a b = k-bind walk ((asked k a)) (λ x. (asked k b) >>= λ y. both x y (λ e f. some (scalar (first_of a.known) kind.Boolean None (typed.Relation (class_of k) c (as_expr e) (as_expr f))))) (k-asked walk k a) (λ x. k-bind walk ((asked k b)) (λ y. both x y (λ e f. some (scalar (first_of a.known) kind.Boolean None (typed.Relation (class_of k) c (as_expr e) (as_expr f))))) (k-asked walk k b) (λ y. k-both walk x y (λ e f. some (scalar (first_of a.known) kind.Boolean None (typed.Relation (class_of k) c (as_expr e) (as_expr f)))) (λ e f. k-some walk (scalar (first_of a.known) kind.Boolean None (typed.Relation (class_of k) c (as_expr e) (as_expr f))))))
+k-compared_at walk k c a b = record {
+  at = λ log.
+      let out1 = asked k a log in
+      let x = out1.0 in
+      let out2 = asked k b out1.1 in
+      let y = out2.0 in
+      walk.joins _ _ _ ((k-asked walk k a).at log)
+      (walk.joins _ _ _ ((k-asked walk k b).at out1.1)
+      ((k-both walk x y (λ e f. some (scalar (first_of a.known) kind.Boolean None (typed.Relation (class_of k) c (as_expr e) (as_expr f)))) (λ e f. k-some walk (scalar (first_of a.known) kind.Boolean None (typed.Relation (class_of k) c (as_expr e) (as_expr f))))).at out2.1));
+}
 
 pub k-compared_by : (walk : Walk) (x0 : TypedComparison) (x1 : ℕ) (x2 : Found) (x3 : Found) (x4 : Kind) → Keeps walk (compared_by x0 x1 x2 x3 x4)
 k-compared_by walk c at a b k = k-if walk (suits k a.known && suits k b.known) (compared_at k c a b) (fault at WrongType) (k-compared_at walk k c a b) (k-fault walk at WrongType)
@@ -158,14 +185,14 @@ unfolding compared
 k-compared walk c at x y = k-both walk x y (λ a b. compared_by c at a b (common_kind (kind_of a.known) (kind_of b.known))) (λ a b. k-compared_by walk c at a b (common_kind (kind_of a.known) (kind_of b.known)))
 
 pub k-within_bounds : (walk : Walk) (x0 : ℕ) (x1 : Bool) (x2 : Kind) (x3 : Found) (x4 : Found) (x5 : Found) → Keeps walk (within_bounds x0 x1 x2 x3 x4 x5)
-k-within_bounds walk at negated k x low high = k-if walk (not (suits k x.known)) (fault at WrongType) ((asked k x >>= λ e. asked k low >>= λ l. asked k high >>= λ h. given e (λ u. both l h (λ v w. some (member (first_of x.known) negated k (as_expr u) (as_expr v) (as_expr w)))))) (k-fault walk at WrongType) (k-bind walk (asked k x) (λ e. asked k low >>= λ l. asked k high >>= λ h. given e (λ u. both l h (λ v w. some (member (first_of x.known) negated k (as_expr u) (as_expr v) (as_expr w))))) (k-asked walk k x) (λ e. k-bind walk (asked k low) (λ l. asked k high >>= λ h. given e (λ u. both l h (λ v w. some (member (first_of x.known) negated k (as_expr u) (as_expr v) (as_expr w))))) (k-asked walk k low) (λ l. k-bind walk (asked k high) (λ h. given e (λ u. both l h (λ v w. some (member (first_of x.known) negated k (as_expr u) (as_expr v) (as_expr w))))) (k-asked walk k high) (λ h. k-given walk e (λ u. both l h (λ v w. some (member (first_of x.known) negated k (as_expr u) (as_expr v) (as_expr w)))) (λ u. k-both walk l h (λ v w. some (member (first_of x.known) negated k (as_expr u) (as_expr v) (as_expr w))) (λ v w. k-some walk (member (first_of x.known) negated k (as_expr u) (as_expr v) (as_expr w))))))))
+k-within_bounds walk at negated k x low high = k-if walk (not (suits k x.known)) (fault at WrongType) ((asked k x >>= λ e. asked k low >>= λ l. asked k high >>= λ h. given e (λ u. both l h (λ v w. some (member (first_of x.known) negated k (as_expr u) (as_expr v) (as_expr w)))))) (k-fault walk at WrongType) (record { at = λ log. let out1 = asked k x log in let e = out1.0 in let out2 = asked k low out1.1 in let l = out2.0 in let out3 = asked k high out2.1 in let h = out3.0 in walk.joins _ _ _ ((k-asked walk k x).at log) (walk.joins _ _ _ ((k-asked walk k low).at out1.1) (walk.joins _ _ _ ((k-asked walk k high).at out2.1) ((k-given walk e (λ u. both l h (λ v w. some (member (first_of x.known) negated k (as_expr u) (as_expr v) (as_expr w)))) (λ u. k-both walk l h (λ v w. some (member (first_of x.known) negated k (as_expr u) (as_expr v) (as_expr w))) (λ v w. k-some walk (member (first_of x.known) negated k (as_expr u) (as_expr v) (as_expr w))))).at out3.1))) })
 
 pub k-member_of : (walk : Walk) (x0 : ℕ) (x1 : Bool) (x2 : Found) (x3 : Found) (x4 : Found) → Keeps walk (member_of x0 x1 x2 x3 x4)
 k-member_of walk at negated a l h = k-if walk (not (is_scalar a.known)) (fault at WrongType) (if not (is_scalar l.known) then fault (first_of l.known) WrongType else if not (is_scalar h.known) then fault (first_of h.known) WrongType else within_bounds at negated (common_kind (first_kind (kind_of a.known) (kind_of l.known)) (kind_of h.known)) a l h) (k-fault walk at WrongType) (k-if walk (not (is_scalar l.known)) (fault (first_of l.known) WrongType) (if not (is_scalar h.known) then fault (first_of h.known) WrongType else within_bounds at negated (common_kind (first_kind (kind_of a.known) (kind_of l.known)) (kind_of h.known)) a l h) (k-fault walk (first_of l.known) WrongType) (k-if walk (not (is_scalar h.known)) (fault (first_of h.known) WrongType) (within_bounds at negated (common_kind (first_kind (kind_of a.known) (kind_of l.known)) (kind_of h.known)) a l h) (k-fault walk (first_of h.known) WrongType) (k-within_bounds walk at negated (common_kind (first_kind (kind_of a.known) (kind_of l.known)) (kind_of h.known)) a l h)))
 
 pub k-membership : (walk : Walk) (x0 : ℕ) (x1 : Bool) (x2 : Option Found) (x3 : Option Found) (x4 : Option Found) → Keeps walk (membership x0 x1 x2 x3 x4)
 unfolding membership
-k-membership walk at negated x low high = k-given walk x (λ a. both low high (member_of at negated a)) (λ a. k-both walk low high (member_of at negated a) (λ z3 z4. k-member_of walk at negated a z3 z4))
+k-membership walk at negated x low high = k-given walk x (λ a. both low high (member_of at negated a)) (λ a. k-both walk low high (member_of at negated a) (λ z1 z2. k-member_of walk at negated a z1 z2))
 
 pub k-of_subtype : (walk : Walk) (x0 : ℕ) (x1 : Bool) (x2 : ℕ) (x3 : Option Found) (x4 : Option Scalar) → Keeps walk (of_subtype x0 x1 x2 x3 x4)
 unfolding of_subtype

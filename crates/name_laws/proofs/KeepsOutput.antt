@@ -26,7 +26,7 @@ use Rattle.std.specs.Prelude.{Bool, None, Option, Some, false, if◌then◌else�
 use Rattle.name_rules.specs.TypedParts.{selections_of}
 use Rattle.ada_typed.specs.Decoded.{Part as TypedPart}
 use Rattle.name_rules.specs.Judging.{◌>>=◌, breaks, fault, given, joined, pure, some, unless}
-use Rattle.name_rules.specs.Output.{done_by, no_name, text_only, others_alone, alone_given, put_text, text_call, in_width, width_of, Putting, item_of, with_width, width_argument, with_count, put_argument, put_arguments, put_number, width_or, put_complete, is_text, is_number_put, nothing_put, judged_arguments, put_of_text, get_place, get_of, put_by, by_procedure, without_arguments, io_call}
+use Rattle.name_rules.specs.Output.{done_by, no_name, text_only, others_alone, alone_given, put_text, text_call, in_width, width_of, Putting, item_of, width_argument, with_count, put_argument, put_arguments, put_number, width_or, put_complete, is_text, is_number_put, nothing_put, judged_arguments, put_of_text, get_place, get_of, put_by, by_procedure, without_arguments, io_call}
 use Rattle.name_laws.proofs.Walk.{Walk, Keeps, k-pure, k-some, k-bind, k-fault, k-breaks, k-unless, k-if, k-given, k-where_clean}
 use Rattle.name_laws.proofs.Walked.{KeepsInside}
 use Rattle.name_laws.proofs.KeepsExpressions.{k-expr, k-judged_alone}
@@ -42,7 +42,14 @@ k-text_only walk f x = k-fault walk (first_of f) WrongType
 
 pub k-others_alone : (walk : Walk) (x0 : Names) (x1 : Inside) (x2 : Context) (x3 : Args) → walk.Takes x0 → KeepsInside walk x1 → Keeps walk (others_alone x0 x1 x2 x3)
 k-others_alone walk names inside here syntax.NoArg keeps1 keeps2 = k-pure walk tt
-k-others_alone walk names inside here (syntax.AlsoArg (syntax.arg name e) as') keeps1 keeps2 = k-bind walk ((no_name name)) (λ u. (judged_alone names inside here e) >>= λ v. others_alone names inside here as') (k-no_name walk name) (λ u. k-bind walk ((judged_alone names inside here e)) (λ v. others_alone names inside here as') (k-judged_alone walk names inside here e keeps1 keeps2) (λ v. k-others_alone walk names inside here as' keeps1 keeps2))
+k-others_alone walk names inside here (syntax.AlsoArg (syntax.arg name e) as') keeps1 keeps2 = record {
+  at = λ log.
+      let out1 = no_name name log in
+      let out2 = judged_alone names inside here e out1.1 in
+      walk.joins _ _ _ ((k-no_name walk name).at log)
+      (walk.joins _ _ _ ((k-judged_alone walk names inside here e keeps1 keeps2).at out1.1)
+      ((k-others_alone walk names inside here as' keeps1 keeps2).at out2.1));
+}
 
 pub k-alone_given : (walk : Walk) {A : Type 0} (x0 : ℕ) (x1 : Args) (x2 : A) → Keeps walk (alone_given x0 x1 x2)
 k-alone_given walk at syntax.NoArg x = k-some walk x
@@ -62,10 +69,16 @@ pub k-item_of : (walk : Walk) (x0 : Bool) (x1 : Found) → Keeps walk (item_of x
 k-item_of walk integer_io f = k-if walk (suits kind.Integer f.known && integer_io) (asked kind.Integer f) (fault (first_of f.known) WrongType) (k-asked walk kind.Integer f) (k-fault walk (first_of f.known) WrongType)
 
 pub k-width_argument : (walk : Walk) (x0 : Names) (x1 : Inside) (x2 : Context) (x3 : Putting) (x4 : Expr) → walk.Takes x0 → KeepsInside walk x1 → Keeps walk (width_argument x0 x1 x2 x3 x4)
-k-width_argument walk names inside here p e keeps1 keeps2 = k-bind walk (expr names inside here wanted.Other e) (λ x. given x width_of >>= λ w. pure (with_width p w)) (k-expr walk names inside here wanted.Other e keeps1 keeps2) (λ x. k-bind walk (given x width_of) (λ w. pure (with_width p w)) (k-given walk x (width_of) (λ z2. k-width_of walk z2)) (λ w. k-pure walk (with_width p w)))
+k-width_argument walk names inside here p e keeps1 keeps2 = record {
+  at = λ log.
+      let out1 = expr names inside here wanted.Other e log in
+      let x = out1.0 in
+      walk.joins _ _ _ ((k-expr walk names inside here wanted.Other e keeps1 keeps2).at log)
+      ((k-given walk x (width_of) (λ z2. k-width_of walk z2)).at out1.1);
+}
 
 pub k-put_argument : (walk : Walk) (x0 : Names) (x1 : Inside) (x2 : Context) (x3 : Putting) (x4 : Option ℕ) (x5 : Expr) (x6 : ℕ) → walk.Takes x0 → KeepsInside walk x1 → Keeps walk (put_argument x0 x1 x2 x3 x4 x5 x6)
-k-put_argument walk names inside here p (Some name) e first keeps1 keeps2 = k-if walk (symbol names name == width_name) ((unless (not p.has_width) first Twice >>= λ u. width_argument names inside here p e)) ((breaks name Unknown >>= λ u. judged_alone names inside here e >>= λ v. pure (with_count p 1))) (k-bind walk (unless (not p.has_width) first Twice) (λ u. width_argument names inside here p e) (k-unless walk (not p.has_width) first Twice) (λ u. k-width_argument walk names inside here p e keeps1 keeps2)) (k-bind walk (breaks name Unknown) (λ u. judged_alone names inside here e >>= λ v. pure (with_count p 1)) (k-breaks walk name Unknown) (λ u. k-bind walk (judged_alone names inside here e) (λ v. pure (with_count p 1)) (k-judged_alone walk names inside here e keeps1 keeps2) (λ v. k-pure walk (with_count p 1))))
+k-put_argument walk names inside here p (Some name) e first keeps1 keeps2 = k-if walk (symbol names name == width_name) ((unless (not p.has_width) first Twice >>= λ u. width_argument names inside here p e)) ((breaks name Unknown >>= λ u. judged_alone names inside here e >>= λ v. pure (with_count p 1))) (k-bind walk (unless (not p.has_width) first Twice) (λ u. width_argument names inside here p e) (k-unless walk (not p.has_width) first Twice) (λ u. k-width_argument walk names inside here p e keeps1 keeps2)) (record { at = λ log. let out1 = breaks name Unknown log in walk.joins _ _ _ ((k-breaks walk name Unknown).at log) ((k-judged_alone walk names inside here e keeps1 keeps2).at out1.1) })
 k-put_argument walk names inside here p None e first keeps1 keeps2 = k-if walk (p.count == 1 && not p.has_width) (width_argument names inside here p e) ((judged_alone names inside here e >>= λ v. pure (with_count p 2))) (k-width_argument walk names inside here p e keeps1 keeps2) (k-bind walk (judged_alone names inside here e) (λ v. pure (with_count p 2)) (k-judged_alone walk names inside here e keeps1 keeps2) (λ v. k-pure walk (with_count p 2)))
 
 pub k-put_arguments : (walk : Walk) (x0 : Names) (x1 : Inside) (x2 : Context) (x3 : Putting) (x4 : Args) → walk.Takes x0 → KeepsInside walk x1 → Keeps walk (put_arguments x0 x1 x2 x3 x4)
@@ -76,7 +89,7 @@ pub k-put_complete : (walk : Walk) (x0 : ℕ) (x1 : ℕ) (x2 : ℕ) (x3 : Puttin
 k-put_complete walk at first last p = k-if walk (nat_le p.count 2) (pure (joined (put_number first last) p.item (width_or first p))) (fault at WrongType) (k-pure walk (joined (put_number first last) p.item (width_or first p))) (k-fault walk at WrongType)
 
 pub k-judged_arguments : (walk : Walk) (x0 : Names) (x1 : Inside) (x2 : Context) (x3 : Reach) (x4 : Put) (x5 : Args) (x6 : Option Found) → walk.Takes x0 → KeepsInside walk x1 → Keeps walk (judged_arguments x0 x1 x2 x3 x4 x5 x6)
-k-judged_arguments walk names inside here reach p more x keeps1 keeps2 = k-if walk (is_number_put p x) ((given x (item_of reach.integer_io) >>= λ e. put_arguments names inside here (nothing_put 1 e) more >>= λ r. pure (x, r))) ((others_alone names inside here more >>= λ u. pure (x, nothing_put 1 None))) (k-bind walk (given x (item_of reach.integer_io)) (λ e. put_arguments names inside here (nothing_put 1 e) more >>= λ r. pure (x, r)) (k-given walk x (item_of reach.integer_io) (λ z3. k-item_of walk reach.integer_io z3)) (λ e. k-bind walk (put_arguments names inside here (nothing_put 1 e) more) (λ r. pure (x, r)) (k-put_arguments walk names inside here (nothing_put 1 e) more keeps1 keeps2) (λ r. k-pure walk (x, r)))) (k-bind walk (others_alone names inside here more) (λ u. pure (x, nothing_put 1 None)) (k-others_alone walk names inside here more keeps1 keeps2) (λ u. k-pure walk (x, nothing_put 1 None)))
+k-judged_arguments walk names inside here reach p more x keeps1 keeps2 = k-if walk (is_number_put p x) ((given x (item_of reach.integer_io) >>= λ e. put_arguments names inside here (nothing_put 1 e) more >>= λ r. pure (x, r))) ((others_alone names inside here more >>= λ u. pure (x, nothing_put 1 None))) (record { at = λ log. let out2 = given x (item_of reach.integer_io) log in let e = out2.0 in walk.joins _ _ _ ((k-given walk x (item_of reach.integer_io) (λ z1. k-item_of walk reach.integer_io z1)).at log) ((k-put_arguments walk names inside here (nothing_put 1 e) more keeps1 keeps2).at out2.1) }) (k-bind walk (others_alone names inside here more) (λ u. pure (x, nothing_put 1 None)) (k-others_alone walk names inside here more keeps1 keeps2) (λ u. k-pure walk (x, nothing_put 1 None)))
 
 pub k-put_of_text : (walk : Walk) (x0 : ℕ) (x1 : ℕ) (x2 : ℕ) (x3 : Reach) (x4 : Args) (x5 : Found) → Keeps walk (put_of_text x0 x1 x2 x3 x4 x5)
 k-put_of_text walk at first last reach more f = k-if walk (reach.text_io) (text_call at first last false more f) (if reach.expanded then fault (first_of f.known) WrongType else fault first NotVisible) (k-text_call walk at first last false more f) (k-if walk (reach.expanded) (fault (first_of f.known) WrongType) (fault first NotVisible) (k-fault walk (first_of f.known) WrongType) (k-fault walk first NotVisible))
@@ -90,11 +103,11 @@ k-get_of walk first last (known.Object p) x = k-get_place walk first last p (sel
 k-get_of walk first last f x = k-fault walk (first_of f) WrongType
 
 pub k-put_by : (walk : Walk) (x0 : ℕ) (x1 : ℕ) (x2 : ℕ) (x3 : Reach) (x4 : Args) (x5 : Option Found) (x6 : Putting) → Keeps walk (put_by x0 x1 x2 x3 x4 x5 x6)
-k-put_by walk at first last reach more x q = k-if walk (is_text x) (given x (put_of_text at first last reach more)) (put_complete at first last q) (k-given walk x (put_of_text at first last reach more) (λ z4. k-put_of_text walk at first last reach more z4)) (k-put_complete walk at first last q)
+k-put_by walk at first last reach more x q = k-if walk (is_text x) (given x (put_of_text at first last reach more)) (put_complete at first last q) (k-given walk x (put_of_text at first last reach more) (λ z1. k-put_of_text walk at first last reach more z1)) (k-put_complete walk at first last q)
 
 pub k-by_procedure : (walk : Walk) (x0 : ℕ) (x1 : ℕ) (x2 : ℕ) (x3 : Reach) (x4 : Args) (x5 : Put) (x6 : Option Found × Putting) → Keeps walk (by_procedure x0 x1 x2 x3 x4 x5 x6)
 k-by_procedure walk at first last reach more put.Put r = k-put_by walk at first last reach more r.0 r.1
-k-by_procedure walk at first last reach more put.PutLine r = k-given walk r.0 (text_call at first last true more) (λ z5. k-text_call walk at first last true more z5)
+k-by_procedure walk at first last reach more put.PutLine r = k-given walk r.0 (text_call at first last true more) (λ z1. k-text_call walk at first last true more z1)
 k-by_procedure walk at first last reach more put.Get r = k-given walk r.0 (λ f. alone_given at more f >>= λ g. given g (λ h. get_of first last h.known h.part)) (λ f. k-bind walk (alone_given at more f) (λ g. given g (λ h. get_of first last h.known h.part)) (k-alone_given walk at more f) (λ g. k-given walk g (λ h. get_of first last h.known h.part) (λ h. k-get_of walk first last h.known h.part)))
 k-by_procedure walk at first last reach more put.NewLine r = k-fault walk at WrongType
 
@@ -105,4 +118,4 @@ k-without_arguments walk at first last p = k-fault walk at WrongType
 pub k-io_call : (walk : Walk) (x0 : Names) (x1 : Inside) (x2 : Context) (x3 : ℕ) (x4 : ℕ) (x5 : ℕ) (x6 : Put) (x7 : Reach) (x8 : Args) → walk.Takes x0 → KeepsInside walk x1 → Keeps walk (io_call x0 x1 x2 x3 x4 x5 x6 x7 x8)
 unfolding io_call
 k-io_call walk names inside here at first last p reach syntax.NoArg keeps1 keeps2 = k-without_arguments walk at first last p
-k-io_call walk names inside here at first last p reach (syntax.AlsoArg (syntax.arg name e) as') keeps1 keeps2 = k-where_clean walk (no_name name >>= λ u. expr names inside here wanted.Text e >>= judged_arguments names inside here reach p as') (by_procedure at first last reach as' p) (k-bind walk (no_name name) (λ u. expr names inside here wanted.Text e >>= judged_arguments names inside here reach p as') (k-no_name walk name) (λ u. k-bind walk (expr names inside here wanted.Text e) (judged_arguments names inside here reach p as') (k-expr walk names inside here wanted.Text e keeps1 keeps2) (λ z7. k-judged_arguments walk names inside here reach p as' z7 keeps1 keeps2))) (λ z6. k-by_procedure walk at first last reach as' p z6)
+k-io_call walk names inside here at first last p reach (syntax.AlsoArg (syntax.arg name e) as') keeps1 keeps2 = k-where_clean walk (no_name name >>= λ u. expr names inside here wanted.Text e >>= judged_arguments names inside here reach p as') (by_procedure at first last reach as' p) (record { at = λ log. let out3 = no_name name log in let out4 = expr names inside here wanted.Text e out3.1 in let z2 = out4.0 in walk.joins _ _ _ ((k-no_name walk name).at log) (walk.joins _ _ _ ((k-expr walk names inside here wanted.Text e keeps1 keeps2).at out3.1) ((k-judged_arguments walk names inside here reach p as' z2 keeps1 keeps2).at out4.1)) }) (λ z1. k-by_procedure walk at first last reach as' p z1)

@@ -1,7 +1,7 @@
 -- What is judged by the rules of Parts keeps what each line of the log keeps.
 use Rattle.name_rules.specs.Attributes.{attribute_at, attribute_found, bound_with, dimensions_in, is_array_object, is_bound, is_reduction, mentioned, prefix_subtype, settled_attribute}
 use Rattle.name_rules.specs.Expressions.{Inside, expr}
-use Rattle.name_rules.specs.Found.{Denoted, denote, value_denoted}
+use Rattle.name_rules.specs.Found.{Denoted, denote}
 use Rattle.name_rules.specs.Names.{args_alone, denoted_first, field, wrong_call}
 use Rattle.name_rules.specs.Reducers.{folded_by, reducer_of}
 use Rattle.name_rules.specs.Scope.{stands_for}
@@ -27,10 +27,10 @@ use Rattle.ada_typed.specs.Syntax as typed
 use Rattle.ada_typed.specs.Syntax.{Iteration, Optional, Selections}
 use Rattle.ada_typed.specs.declared.program.SiteKind.TheVariants as site
 use Rattle.ada_typed.specs.declared.program.SiteKind.{SiteKind}
-use Rattle.std.specs.Prelude.{Bool, None, Option, Some, false, option_map, true, ℕ}
+use Rattle.std.specs.Prelude.{Bool, None, Option, Some, false, true, ℕ}
 use Rattle.name_rules.specs.TypedParts.{selections_of}
 use Rattle.ada_typed.specs.Decoded.{Part as TypedPart}
-use Rattle.name_rules.specs.Judging.{◌>>=◌, both, fault, given, pure, read}
+use Rattle.name_rules.specs.Judging.{◌>>=◌, fault, given, pure, read}
 use Rattle.name_rules.specs.Parts.{new_parameter, new_site, site_where, array_shape, through, is_parallel, item_found, array_reduction, wrong_arguments, array_reduced, reduced_with, of_array, other_with, attribute_with, call_form, call, part_of, part_alone, next_part, parts, name, valued_form, valued_by, value_form, value_named}
 use Rattle.name_laws.proofs.Walk.{Walk, Keeps, k-pure, k-some, k-bind, k-fault, k-read, k-if, k-given, k-both, k-where_clean}
 use Rattle.name_laws.proofs.Walked.{KeepsInside}
@@ -53,7 +53,28 @@ k-site_where walk here at false = k-pure walk None
 k-site_where walk here at true = k-bind walk (new_site here at site.Reduction) (λ n. pure (Some n)) (k-new_site walk here at site.Reduction) (λ n. k-pure walk (Some n))
 
 pub k-array_reduction : (walk : Walk) (x0 : Names) (x1 : Inside) (x2 : Context) (x3 : Place) (x4 : Selections) (x5 : ℕ) (x6 : Attribute) (x7 : Expr) (x8 : Expr) → walk.Takes x0 → KeepsInside walk x1 → Keeps walk (array_reduction x0 x1 x2 x3 x4 x5 x6 x7 x8)
-k-array_reduction walk names inside here p ss at a r v keeps1 keeps2 = k-bind walk ((site_where here p.first (is_parallel a))) (λ construct. (new_parameter) >>= λ n. (read (λ log. through log p ss (array_shape log p.subtype) n typed.Absent)) >>= λ i. (read (λ log. component_of (array_shape log p.subtype))) >>= λ c. (reducer_of names inside here r) >>= λ f. (expr names inside here wanted.Other v) >>= λ x. (both f x (λ g. folded_by (record { at = p.first; attribute = at; site = construct }) part.Nothing (part.AnIteration i) g (item_found p.first n p.variable c))) >>= λ y. pure (option_map value_denoted y)) (k-site_where walk here p.first (is_parallel a)) (λ construct. k-bind walk ((new_parameter)) (λ n. (read (λ log. through log p ss (array_shape log p.subtype) n typed.Absent)) >>= λ i. (read (λ log. component_of (array_shape log p.subtype))) >>= λ c. (reducer_of names inside here r) >>= λ f. (expr names inside here wanted.Other v) >>= λ x. (both f x (λ g. folded_by (record { at = p.first; attribute = at; site = construct }) part.Nothing (part.AnIteration i) g (item_found p.first n p.variable c))) >>= λ y. pure (option_map value_denoted y)) (k-new_parameter walk) (λ n. k-bind walk ((read (λ log. through log p ss (array_shape log p.subtype) n typed.Absent))) (λ i. (read (λ log. component_of (array_shape log p.subtype))) >>= λ c. (reducer_of names inside here r) >>= λ f. (expr names inside here wanted.Other v) >>= λ x. (both f x (λ g. folded_by (record { at = p.first; attribute = at; site = construct }) part.Nothing (part.AnIteration i) g (item_found p.first n p.variable c))) >>= λ y. pure (option_map value_denoted y)) (k-read walk (λ log. through log p ss (array_shape log p.subtype) n typed.Absent)) (λ i. k-bind walk ((read (λ log. component_of (array_shape log p.subtype)))) (λ c. (reducer_of names inside here r) >>= λ f. (expr names inside here wanted.Other v) >>= λ x. (both f x (λ g. folded_by (record { at = p.first; attribute = at; site = construct }) part.Nothing (part.AnIteration i) g (item_found p.first n p.variable c))) >>= λ y. pure (option_map value_denoted y)) (k-read walk (λ log. component_of (array_shape log p.subtype))) (λ c. k-bind walk ((reducer_of names inside here r)) (λ f. (expr names inside here wanted.Other v) >>= λ x. (both f x (λ g. folded_by (record { at = p.first; attribute = at; site = construct }) part.Nothing (part.AnIteration i) g (item_found p.first n p.variable c))) >>= λ y. pure (option_map value_denoted y)) (k-reducer_of walk names inside here r keeps1 keeps2) (λ f. k-bind walk ((expr names inside here wanted.Other v)) (λ x. (both f x (λ g. folded_by (record { at = p.first; attribute = at; site = construct }) part.Nothing (part.AnIteration i) g (item_found p.first n p.variable c))) >>= λ y. pure (option_map value_denoted y)) (k-expr walk names inside here wanted.Other v keeps1 keeps2) (λ x. k-bind walk ((both f x (λ g. folded_by (record { at = p.first; attribute = at; site = construct }) part.Nothing (part.AnIteration i) g (item_found p.first n p.variable c)))) (λ y. pure (option_map value_denoted y)) (k-both walk f x (λ g. folded_by (record { at = p.first; attribute = at; site = construct }) part.Nothing (part.AnIteration i) g (item_found p.first n p.variable c)) (λ g z1. k-folded_by walk (record { at = p.first; attribute = at; site = construct }) part.Nothing (part.AnIteration i) g (item_found p.first n p.variable c) z1)) (λ y. k-pure walk (option_map value_denoted y))))))))
+k-array_reduction walk names inside here p ss at a r v keeps1 keeps2 = record {
+  at = λ log.
+      let out1 = site_where here p.first (is_parallel a) log in
+      let construct = out1.0 in
+      let out2 = new_parameter out1.1 in
+      let n = out2.0 in
+      let out3 = read (λ log. through log p ss (array_shape log p.subtype) n typed.Absent) out2.1 in
+      let i = out3.0 in
+      let out4 = read (λ log. component_of (array_shape log p.subtype)) out3.1 in
+      let c = out4.0 in
+      let out5 = reducer_of names inside here r out4.1 in
+      let f = out5.0 in
+      let out6 = expr names inside here wanted.Other v out5.1 in
+      let x = out6.0 in
+      walk.joins _ _ _ ((k-site_where walk here p.first (is_parallel a)).at log)
+      (walk.joins _ _ _ ((k-new_parameter walk).at out1.1)
+      (walk.joins _ _ _ ((k-read walk (λ log. through log p ss (array_shape log p.subtype) n typed.Absent)).at out2.1)
+      (walk.joins _ _ _ ((k-read walk (λ log. component_of (array_shape log p.subtype))).at out3.1)
+      (walk.joins _ _ _ ((k-reducer_of walk names inside here r keeps1 keeps2).at out4.1)
+      (walk.joins _ _ _ ((k-expr walk names inside here wanted.Other v keeps1 keeps2).at out5.1)
+      ((k-both walk f x (λ g. folded_by (record { at = p.first; attribute = at; site = construct }) part.Nothing (part.AnIteration i) g (item_found p.first n p.variable c)) (λ g z7. k-folded_by walk (record { at = p.first; attribute = at; site = construct }) part.Nothing (part.AnIteration i) g (item_found p.first n p.variable c) z7)).at out6.1))))));
+}
 
 pub k-wrong_arguments : (walk : Walk) (x0 : Names) (x1 : Inside) (x2 : Context) (x3 : ℕ) (x4 : Args) → walk.Takes x0 → KeepsInside walk x1 → Keeps walk (wrong_arguments x0 x1 x2 x3 x4)
 k-wrong_arguments walk names inside here bracket as' keeps1 keeps2 = k-where_clean walk (args_alone names inside here as') (λ u. fault bracket WrongType) (k-args_alone walk names inside here as' keeps1 keeps2) (λ u. k-fault walk bracket WrongType)
@@ -74,7 +95,7 @@ k-other_with walk names inside here first (prefix.Type (subtype.Scalar s)) x at 
 k-other_with walk names inside here first p x at a bracket as' keeps1 keeps2 = k-of_array walk names inside here first p x at a bracket as' keeps1 keeps2
 
 pub k-attribute_with : (walk : Walk) (x0 : Names) (x1 : Inside) (x2 : Context) (x3 : ℕ) (x4 : Prefix) (x5 : TypedPart) (x6 : ℕ) (x7 : Attribute) (x8 : ℕ) (x9 : Args) → walk.Takes x0 → KeepsInside walk x1 → Keeps walk (attribute_with x0 x1 x2 x3 x4 x5 x6 x7 x8 x9)
-k-attribute_with walk names inside here first p x at a bracket as' keeps1 keeps2 = k-if walk (is_reduction a) ((read (λ log. is_array_object log p) >>= reduced_with names inside here first p x at a bracket as')) (other_with names inside here first p x at a bracket as') (k-bind walk (read (λ log. is_array_object log p)) (reduced_with names inside here first p x at a bracket as') (k-read walk (λ log. is_array_object log p)) (λ z3. k-reduced_with walk names inside here first p x at a bracket as' z3 keeps1 keeps2)) (k-other_with walk names inside here first p x at a bracket as' keeps1 keeps2)
+k-attribute_with walk names inside here first p x at a bracket as' keeps1 keeps2 = k-if walk (is_reduction a) ((read (λ log. is_array_object log p) >>= reduced_with names inside here first p x at a bracket as')) (other_with names inside here first p x at a bracket as') (k-bind walk (read (λ log. is_array_object log p)) (reduced_with names inside here first p x at a bracket as') (k-read walk (λ log. is_array_object log p)) (λ z2. k-reduced_with walk names inside here first p x at a bracket as' z2 keeps1 keeps2)) (k-other_with walk names inside here first p x at a bracket as' keeps1 keeps2)
 
 pub k-call_form : (walk : Walk) (x0 : Names) (x1 : Inside) (x2 : Context) (x3 : ℕ) (x4 : Args) (x5 : KnownDenoted) (x6 : TypedPart) → walk.Takes x0 → KeepsInside walk x1 → Keeps walk (call_form x0 x1 x2 x3 x4 x5 x6)
 k-call_form walk names inside here bracket as' (denoted.Value (known.Object p)) x keeps1 keeps2 = k-object_call walk names inside here p x bracket as' p.subtype keeps1 keeps2
@@ -90,7 +111,7 @@ k-call walk names inside here bracket as' d keeps1 keeps2 = k-call_form walk nam
 
 pub k-part_of : (walk : Walk) (x0 : Names) (x1 : Inside) (x2 : Context) (x3 : Part) (x4 : Denoted) → walk.Takes x0 → KeepsInside walk x1 → Keeps walk (part_of x0 x1 x2 x3 x4)
 unfolding part_of
-k-part_of walk names inside here (syntax.Field at) d keeps1 keeps2 = k-bind walk (settled_attribute d) (λ x. given x (field names here at)) (k-settled_attribute walk d) (λ x. k-given walk x (field names here at) (λ z4. k-field walk names here at z4 keeps1))
+k-part_of walk names inside here (syntax.Field at) d keeps1 keeps2 = k-bind walk (settled_attribute d) (λ x. given x (field names here at)) (k-settled_attribute walk d) (λ x. k-given walk x (field names here at) (λ z1. k-field walk names here at z1 keeps1))
 k-part_of walk names inside here (syntax.Call bracket a as') d keeps1 keeps2 = k-call walk names inside here bracket (syntax.AlsoArg a as') d keeps1 keeps2
 k-part_of walk names inside here (syntax.Attribute at) d keeps1 keeps2 = k-bind walk (settled_attribute d) (λ x. given x (λ e. attribute_found e at (attribute_at (symbol names at)))) (k-settled_attribute walk d) (λ x. k-given walk x (λ e. attribute_found e at (attribute_at (symbol names at))) (λ e. k-attribute_found walk e at (attribute_at (symbol names at))))
 k-part_of walk names inside here (syntax.RangeAttribute at) d keeps1 keeps2 = k-bind walk (settled_attribute d) (λ x. given x (λ e. attribute_found e at (Some attribute'.Range))) (k-settled_attribute walk d) (λ x. k-given walk x (λ e. attribute_found e at (Some attribute'.Range)) (λ e. k-attribute_found walk e at (Some attribute'.Range)))
@@ -109,7 +130,16 @@ k-parts walk names inside here d (syntax.AlsoPart p ps) keeps1 keeps2 = k-bind w
 
 pub k-name : (walk : Walk) (x0 : Names) (x1 : Inside) (x2 : Context) (x3 : Name) → walk.Takes x0 → KeepsInside walk x1 → Keeps walk (name x0 x1 x2 x3)
 unfolding name
-k-name walk names inside here (syntax.name first ps) keeps1 keeps2 = k-bind walk ((stands_for names here first)) (λ d. (parts names inside here d ps) >>= λ e. given e settled_attribute) (k-stands_for walk names here first keeps1) (λ d. k-bind walk ((parts names inside here d ps)) (λ e. given e settled_attribute) (k-parts walk names inside here d ps keeps1 keeps2) (λ e. k-given walk e (settled_attribute) (λ z5. k-settled_attribute walk z5)))
+k-name walk names inside here (syntax.name first ps) keeps1 keeps2 = record {
+  at = λ log.
+      let out1 = stands_for names here first log in
+      let d = out1.0 in
+      let out2 = parts names inside here d ps out1.1 in
+      let e = out2.0 in
+      walk.joins _ _ _ ((k-stands_for walk names here first keeps1).at log)
+      (walk.joins _ _ _ ((k-parts walk names inside here d ps keeps1 keeps2).at out1.1)
+      ((k-given walk e (settled_attribute) (λ z3. k-settled_attribute walk z3)).at out2.1));
+}
 
 pub k-valued_form : (walk : Walk) (x0 : Names) (x1 : Inside) (x2 : Context) (x3 : KnownDenoted) (x4 : TypedPart) → walk.Takes x0 → KeepsInside walk x1 → Keeps walk (valued_form x0 x1 x2 x3 x4)
 k-valued_form walk names inside here (denoted.Sub first last n) x keeps1 keeps2 = k-sub_call walk names inside here first first last n syntax.NoArg keeps1 keeps2
@@ -126,4 +156,13 @@ k-value_form walk d x = k-fault walk (denoted_first d) WrongType
 
 pub k-value_named : (walk : Walk) (x0 : Names) (x1 : Inside) (x2 : Context) (x3 : Name) → walk.Takes x0 → KeepsInside walk x1 → Keeps walk (value_named x0 x1 x2 x3)
 unfolding value_named
-k-value_named walk names inside here n keeps1 keeps2 = k-bind walk ((name names inside here n)) (λ d. (given d (valued_by names inside here)) >>= λ e. given e (λ x. value_form x.known x.part)) (k-name walk names inside here n keeps1 keeps2) (λ d. k-bind walk ((given d (valued_by names inside here))) (λ e. given e (λ x. value_form x.known x.part)) (k-given walk d (valued_by names inside here) (λ z6. k-valued_by walk names inside here z6 keeps1 keeps2)) (λ e. k-given walk e (λ x. value_form x.known x.part) (λ x. k-value_form walk x.known x.part)))
+k-value_named walk names inside here n keeps1 keeps2 = record {
+  at = λ log.
+      let out1 = name names inside here n log in
+      let d = out1.0 in
+      let out3 = given d (valued_by names inside here) out1.1 in
+      let e = out3.0 in
+      walk.joins _ _ _ ((k-name walk names inside here n keeps1 keeps2).at log)
+      (walk.joins _ _ _ ((k-given walk d (valued_by names inside here) (λ z2. k-valued_by walk names inside here z2 keeps1 keeps2)).at out1.1)
+      ((k-given walk e (λ x. value_form x.known x.part) (λ x. k-value_form walk x.known x.part)).at out3.1));
+}

@@ -25,8 +25,8 @@ use Rattle.ada_typed.specs.Syntax as typed
 use Rattle.std.specs.Prelude.{List, None, Option, Some, [], false, option_map, suc, true, zero, ℕ, ◌∷◌}
 use Rattle.name_rules.specs.TypedParts.{left_of, right_of, also}
 use Rattle.ada_typed.specs.Decoded.{Part as TypedPart, as_expr}
-use Rattle.name_rules.specs.Judging.{◌>>=◌, both, given, joined, pure, some}
-use Rattle.name_rules.specs.Primaries.{composite_in, Waiting, also_choice, alternative, alternatives, common, common_composite, if_part, with_known, scalar_ifs, scalar_if, composite_part, composite_ifs, composite_if, open_ifs, open_if, conditional, no_text, if_expr, grouped_scalar, grouped_form, grouped, target_found, target_at, text_at, primary, level_above, too_deep, inside}
+use Rattle.name_rules.specs.Judging.{given, joined, pure, some}
+use Rattle.name_rules.specs.Primaries.{composite_in, Waiting, alternative, alternatives, common, common_composite, if_part, with_known, scalar_ifs, scalar_if, composite_part, composite_ifs, composite_if, open_ifs, open_if, conditional, no_text, if_expr, grouped_scalar, grouped_form, grouped, target_found, target_at, text_at, primary, level_above, too_deep, inside}
 use Rattle.name_laws.proofs.Walk.{Walk, Keeps, k-pure, k-some, k-bind, k-fault, k-given, k-both}
 use Rattle.name_laws.proofs.Walked.{KeepsInside}
 use Rattle.name_laws.proofs.KeepsAggregates.{k-aggregate}
@@ -37,7 +37,13 @@ use Rattle.name_laws.proofs.KeepsValues.{k-asked, k-composite_asked}
 
 pub k-alternative : (walk : Walk) (x0 : Names) (x1 : Inside) (x2 : Context) (x3 : Wanted) (x4 : Option Waiting) (x5 : Expr) (x6 : Expr) → walk.Takes x0 → KeepsInside walk x1 → Keeps walk (alternative x0 x1 x2 x3 x4 x5 x6)
 unfolding alternative
-k-alternative walk names level here want made c v keeps1 keeps2 = k-bind walk ((condition names level here c)) (λ x. (expr names level here want v) >>= λ y. pure (also_choice made x y)) (k-condition walk names level here c keeps1 keeps2) (λ x. k-bind walk ((expr names level here want v)) (λ y. pure (also_choice made x y)) (k-expr walk names level here want v keeps1 keeps2) (λ y. k-pure walk (also_choice made x y)))
+k-alternative walk names level here want made c v keeps1 keeps2 = record {
+  at = λ log.
+      let out1 = condition names level here c log in
+      let x = out1.0 in
+      walk.joins _ _ _ ((k-condition walk names level here c keeps1 keeps2).at log)
+      ((k-expr walk names level here want v keeps1 keeps2).at out1.1);
+}
 
 pub k-alternatives : (walk : Walk) (x0 : Names) (x1 : Inside) (x2 : Context) (x3 : Wanted) (x4 : Option Waiting) (x5 : Elsifs) → walk.Takes x0 → KeepsInside walk x1 → Keeps walk (alternatives x0 x1 x2 x3 x4 x5)
 k-alternatives walk names level here want made syntax.NoElsif keeps1 keeps2 = k-pure walk made
@@ -49,7 +55,13 @@ k-scalar_ifs walk k (f ∷ fs) ps o = k-bind walk (asked k (record { known = f; 
 
 pub k-scalar_if : (walk : Walk) (x0 : ℕ) (x1 : Kind) (x2 : Waiting) (x3 : Found) → Keeps walk (scalar_if x0 x1 x2 x3)
 unfolding scalar_if
-k-scalar_if walk bracket k w f = k-bind walk ((asked k f)) (λ o. (scalar_ifs k w.known w.part o) >>= λ e. pure (option_map (with_known (known.Scalar bracket k None)) e)) (k-asked walk k f) (λ o. k-bind walk ((scalar_ifs k w.known w.part o)) (λ e. pure (option_map (with_known (known.Scalar bracket k None)) e)) (k-scalar_ifs walk k w.known w.part o) (λ e. k-pure walk (option_map (with_known (known.Scalar bracket k None)) e)))
+k-scalar_if walk bracket k w f = record {
+  at = λ log.
+      let out1 = asked k f log in
+      let o = out1.0 in
+      walk.joins _ _ _ ((k-asked walk k f).at log)
+      ((k-scalar_ifs walk k w.known w.part o).at out1.1);
+}
 
 pub k-composite_ifs : (walk : Walk) (x0 : ℕ) (x1 : List Known) (x2 : TypedPart) (x3 : Option TypedPart) → Keeps walk (composite_ifs x0 x1 x2 x3)
 k-composite_ifs walk n [] ps o = k-pure walk o
@@ -57,7 +69,13 @@ k-composite_ifs walk n (f ∷ fs) ps o = k-bind walk (composite_asked n (record 
 
 pub k-composite_if : (walk : Walk) (x0 : ℕ) (x1 : ℕ) (x2 : Waiting) (x3 : Found) → Keeps walk (composite_if x0 x1 x2 x3)
 unfolding composite_if
-k-composite_if walk bracket n w f = k-bind walk ((composite_asked n f)) (λ o. (composite_ifs n w.known w.part o) >>= λ c. pure (option_map (with_known (known.Composite bracket n)) c)) (k-composite_asked walk n f) (λ o. k-bind walk ((composite_ifs n w.known w.part o)) (λ c. pure (option_map (with_known (known.Composite bracket n)) c)) (k-composite_ifs walk n w.known w.part o) (λ c. k-pure walk (option_map (with_known (known.Composite bracket n)) c)))
+k-composite_if walk bracket n w f = record {
+  at = λ log.
+      let out1 = composite_asked n f log in
+      let o = out1.0 in
+      walk.joins _ _ _ ((k-composite_asked walk n f).at log)
+      ((k-composite_ifs walk n w.known w.part o).at out1.1);
+}
 
 pub k-conditional : (walk : Walk) (x0 : ℕ) (x1 : Waiting) (x2 : Found) (x3 : Option Kind) (x4 : Option ℕ) → Keeps walk (conditional x0 x1 x2 x3 x4)
 k-conditional walk bracket w f (Some k) n = k-scalar_if walk bracket k w f
@@ -66,7 +84,19 @@ k-conditional walk bracket w f None None = k-pure walk (option_map (open_if brac
 
 pub k-if_expr : (walk : Walk) (x0 : Names) (x1 : Inside) (x2 : Context) (x3 : Wanted) (x4 : ℕ) (x5 : Expr) (x6 : Expr) (x7 : Elsifs) (x8 : Expr) → walk.Takes x0 → KeepsInside walk x1 → Keeps walk (if_expr x0 x1 x2 x3 x4 x5 x6 x7 x8)
 unfolding if_expr
-k-if_expr walk names level here want bracket c v more o keeps1 keeps2 = k-bind walk ((alternative names level here want (Some (record { known = []; part = part.Nothing })) c v)) (λ d. (alternatives names level here want d more) >>= λ ds. (expr names level here want o) >>= λ f. both ds f (λ w x. conditional bracket w x (common w.known (kind_of x.known)) (common_composite w.known (composite_in x.known)))) (k-alternative walk names level here want (Some (record { known = []; part = part.Nothing })) c v keeps1 keeps2) (λ d. k-bind walk ((alternatives names level here want d more)) (λ ds. (expr names level here want o) >>= λ f. both ds f (λ w x. conditional bracket w x (common w.known (kind_of x.known)) (common_composite w.known (composite_in x.known)))) (k-alternatives walk names level here want d more keeps1 keeps2) (λ ds. k-bind walk ((expr names level here want o)) (λ f. both ds f (λ w x. conditional bracket w x (common w.known (kind_of x.known)) (common_composite w.known (composite_in x.known)))) (k-expr walk names level here want o keeps1 keeps2) (λ f. k-both walk ds f (λ w x. conditional bracket w x (common w.known (kind_of x.known)) (common_composite w.known (composite_in x.known))) (λ w x. k-conditional walk bracket w x (common w.known (kind_of x.known)) (common_composite w.known (composite_in x.known))))))
+k-if_expr walk names level here want bracket c v more o keeps1 keeps2 = record {
+  at = λ log.
+      let out1 = alternative names level here want (Some (record { known = []; part = part.Nothing })) c v log in
+      let d = out1.0 in
+      let out2 = alternatives names level here want d more out1.1 in
+      let ds = out2.0 in
+      let out3 = expr names level here want o out2.1 in
+      let f = out3.0 in
+      walk.joins _ _ _ ((k-alternative walk names level here want (Some (record { known = []; part = part.Nothing })) c v keeps1 keeps2).at log)
+      (walk.joins _ _ _ ((k-alternatives walk names level here want d more keeps1 keeps2).at out1.1)
+      (walk.joins _ _ _ ((k-expr walk names level here want o keeps1 keeps2).at out2.1)
+      ((k-both walk ds f (λ w x. conditional bracket w x (common w.known (kind_of x.known)) (common_composite w.known (composite_in x.known))) (λ w x. k-conditional walk bracket w x (common w.known (kind_of x.known)) (common_composite w.known (composite_in x.known)))).at out3.1)));
+}
 
 pub k-grouped_scalar : (walk : Walk) (x0 : ℕ) (x1 : Found) (x2 : Option Kind) (x3 : Option ℕ) → Keeps walk (grouped_scalar x0 x1 x2 x3)
 k-grouped_scalar walk bracket f (Some k) n = k-bind walk (asked k f) (λ x. given x (λ e. some (scalar bracket k None (typed.Group (as_expr e))))) (k-asked walk k f) (λ x. k-given walk x (λ e. some (scalar bracket k None (typed.Group (as_expr e)))) (λ e. k-some walk (scalar bracket k None (typed.Group (as_expr e)))))

@@ -30,7 +30,7 @@ use Rattle.ada_tree.specs.declared.operators.Mode.{Mode as FormalMode}
 use Rattle.ada_typed.specs.declared.program.Mode.{Mode}
 use Rattle.std.specs.Prelude.{Bool, List, None, Option, Some, [], false, if◌then◌else◌, length, not, option_map, true, ℕ, ◌&&◌, ◌+◌, ◌-◌, ◌==◌, ◌||◌, ◌∷◌}
 use Rattle.name_rules.specs.Judging.{◌>>=◌, breaks, fault, given, joined, pure, some, unless}
-use Rattle.name_rules.specs.Programs.{policy_named, policy, pack_end, pack, has, with_package, withed_by, clause_name, clause_packs, clauses, boolean_place, not_zero, aspect_denoted, known_of, aspect_value, aspect, end_name, mode_of, mode_rule, is_constant, formal_entry, one_formal, also_taken_by, each_formal, formal, formals_from, formals, written_profile, result_named, returns_of, Profiled, is_function, taken_or, gives_or, profile_where, behind, next_owner, profile, level_of, sub_where, with_body, returned_body, result_value, with_value_of, subprogram, Declared', also_sub, unit_of, units, whole, main, outermost, program}
+use Rattle.name_rules.specs.Programs.{policy_named, policy, pack_end, pack, has, with_package, withed_by, clause_name, clause_packs, clauses, boolean_place, not_zero, aspect_denoted, known_of, aspect_value, aspect, end_name, mode_of, mode_rule, is_constant, formal_entry, one_formal, also_taken_by, each_formal, formal, formals_from, formals, written_profile, result_named, Profiled, is_function, profile_where, next_owner, profile, level_of, with_body, result_value, with_value_of, subprogram, Declared', also_sub, unit_of, units, main, outermost, program}
 use Rattle.name_laws.proofs.Walk.{Walk, Keeps, k-pure, k-some, k-bind, k-fault, k-breaks, k-unless, k-read, k-if, k-given}
 use Rattle.name_laws.proofs.Walked.{KeepsInside, WalksProfiles}
 use Rattle.name_laws.proofs.KeepsDeclarations.{k-begun_names, k-cells_counted, k-declaration, k-declarations, k-new_object}
@@ -60,7 +60,16 @@ k-clause_name walk word.Use here first (Some name) = k-bind walk (unless (has he
 
 pub k-clause_packs : (walk : Walk) (x0 : Names) (x1 : ClauseWord) (x2 : Context) (x3 : List Pack) → walk.Takes x0 → Keeps walk (clause_packs x0 x1 x2 x3)
 k-clause_packs walk names w here [] keeps1 = k-pure walk here
-k-clause_packs walk names w here (p ∷ ps) keeps1 = k-bind walk (pack names p) (λ n. clause_name w here p.first n >>= λ c. clause_packs names w c ps) (k-pack walk names p keeps1) (λ n. k-bind walk (clause_name w here p.first n) (λ c. clause_packs names w c ps) (k-clause_name walk w here p.first n) (λ c. k-clause_packs walk names w c ps keeps1))
+k-clause_packs walk names w here (p ∷ ps) keeps1 = record {
+  at = λ log.
+      let out1 = pack names p log in
+      let n = out1.0 in
+      let out2 = clause_name w here p.first n out1.1 in
+      let c = out2.0 in
+      walk.joins _ _ _ ((k-pack walk names p keeps1).at log)
+      (walk.joins _ _ _ ((k-clause_name walk w here p.first n).at out1.1)
+      ((k-clause_packs walk names w c ps keeps1).at out2.1));
+}
 
 pub k-clauses : (walk : Walk) (x0 : Names) (x1 : Context) (x2 : List Clause) → walk.Takes x0 → Keeps walk (clauses x0 x1 x2)
 k-clauses walk names here [] keeps1 = k-pure walk here
@@ -103,7 +112,18 @@ k-each_formal walk names here m s made (t ∷ ts) [] keeps1 = k-pure walk (here,
 k-each_formal walk names here m s made (t ∷ ts) (f ∷ fs) keeps1 = k-bind walk (one_formal names here t f m s) (λ r. each_formal names r.0 m s (joined also_taken_by made r.1) ts fs) (k-one_formal walk names here t f m s keeps1) (λ r. k-each_formal walk names r.0 m s (joined also_taken_by made r.1) ts fs keeps1)
 
 pub k-formal : (walk : Walk) (x0 : Names) (x1 : Bool) (x2 : ℕ) (x3 : Context) (x4 : Option (List Taken)) (x5 : Formal) → walk.Takes x0 → Keeps walk (formal x0 x1 x2 x3 x4 x5)
-k-formal walk names function start here made f keeps1 = k-bind walk ((begun_names names start here [] (all_ids f.names))) (λ r. (mode_rule function f.mode) >>= λ u. (subtype_named names r.0 f.mark) >>= λ s. each_formal names r.0 (mode_of f.mode) s made (all_ids f.names) r.1) (k-begun_names walk names start here [] (all_ids f.names) keeps1) (λ r. k-bind walk ((mode_rule function f.mode)) (λ u. (subtype_named names r.0 f.mark) >>= λ s. each_formal names r.0 (mode_of f.mode) s made (all_ids f.names) r.1) (k-mode_rule walk function f.mode) (λ u. k-bind walk ((subtype_named names r.0 f.mark)) (λ s. each_formal names r.0 (mode_of f.mode) s made (all_ids f.names) r.1) (k-subtype_named walk names r.0 f.mark keeps1) (λ s. k-each_formal walk names r.0 (mode_of f.mode) s made (all_ids f.names) r.1 keeps1)))
+k-formal walk names function start here made f keeps1 = record {
+  at = λ log.
+      let out1 = begun_names names start here [] (all_ids f.names) log in
+      let r = out1.0 in
+      let out2 = mode_rule function f.mode out1.1 in
+      let out3 = subtype_named names r.0 f.mark out2.1 in
+      let s = out3.0 in
+      walk.joins _ _ _ ((k-begun_names walk names start here [] (all_ids f.names) keeps1).at log)
+      (walk.joins _ _ _ ((k-mode_rule walk function f.mode).at out1.1)
+      (walk.joins _ _ _ ((k-subtype_named walk names r.0 f.mark keeps1).at out2.1)
+      ((k-each_formal walk names r.0 (mode_of f.mode) s made (all_ids f.names) r.1 keeps1).at out3.1)));
+}
 
 pub k-formals_from : (walk : Walk) (x0 : Names) (x1 : Bool) (x2 : ℕ) (x3 : Context) (x4 : Option (List Taken)) (x5 : List Formal) → walk.Takes x0 → Keeps walk (formals_from x0 x1 x2 x3 x4 x5)
 k-formals_from walk names function start here made [] keeps1 = k-pure walk (here, made)
@@ -130,14 +150,41 @@ k-next_owner walk = k-read walk (λ log. length log.profiles + 1)
 
 pub k-profile : (walk : Walk) (x0 : Names) (x1 : ℕ) (x2 : Context) (x3 : ℕ) (x4 : Option ℕ) (x5 : Option Formals) → walk.Takes x0 → WalksProfiles walk → Keeps walk (profile x0 x1 x2 x3 x4 x5)
 unfolding profile
-k-profile walk names start here name result fs keeps1 profiles = k-bind walk ((next_owner)) (λ owner. (formals names (is_function result) (record here { owner = owner }) fs) >>= λ f. (result_named names f.0 result) >>= λ r. (free names start here name) >>= λ one. (profile_where names here name one f.1 r) >>= λ p. pure (record { outer = p.1; inner = behind p.1 (length here.scope) f.0 owner (returns_of result r); number = p.0; takes = taken_or f.1; gives = gives_or r })) (k-next_owner walk) (λ owner. k-bind walk ((formals names (is_function result) (record here { owner = owner }) fs)) (λ f. (result_named names f.0 result) >>= λ r. (free names start here name) >>= λ one. (profile_where names here name one f.1 r) >>= λ p. pure (record { outer = p.1; inner = behind p.1 (length here.scope) f.0 owner (returns_of result r); number = p.0; takes = taken_or f.1; gives = gives_or r })) (k-formals walk names (is_function result) (record here { owner = owner }) fs keeps1) (λ f. k-bind walk ((result_named names f.0 result)) (λ r. (free names start here name) >>= λ one. (profile_where names here name one f.1 r) >>= λ p. pure (record { outer = p.1; inner = behind p.1 (length here.scope) f.0 owner (returns_of result r); number = p.0; takes = taken_or f.1; gives = gives_or r })) (k-result_named walk names f.0 result keeps1) (λ r. k-bind walk ((free names start here name)) (λ one. (profile_where names here name one f.1 r) >>= λ p. pure (record { outer = p.1; inner = behind p.1 (length here.scope) f.0 owner (returns_of result r); number = p.0; takes = taken_or f.1; gives = gives_or r })) (k-free walk names start here name keeps1) (λ one. k-bind walk ((profile_where names here name one f.1 r)) (λ p. pure (record { outer = p.1; inner = behind p.1 (length here.scope) f.0 owner (returns_of result r); number = p.0; takes = taken_or f.1; gives = gives_or r })) (k-profile_where walk names here name one f.1 r keeps1 profiles) (λ p. k-pure walk (record { outer = p.1; inner = behind p.1 (length here.scope) f.0 owner (returns_of result r); number = p.0; takes = taken_or f.1; gives = gives_or r }))))))
+k-profile walk names start here name result fs keeps1 profiles = record {
+  at = λ log.
+      let out1 = next_owner log in
+      let owner = out1.0 in
+      let out2 = formals names (is_function result) (record here { owner = owner }) fs out1.1 in
+      let f = out2.0 in
+      let out3 = result_named names f.0 result out2.1 in
+      let r = out3.0 in
+      let out4 = free names start here name out3.1 in
+      let one = out4.0 in
+      walk.joins _ _ _ ((k-next_owner walk).at log)
+      (walk.joins _ _ _ ((k-formals walk names (is_function result) (record here { owner = owner }) fs keeps1).at out1.1)
+      (walk.joins _ _ _ ((k-result_named walk names f.0 result keeps1).at out2.1)
+      (walk.joins _ _ _ ((k-free walk names start here name keeps1).at out3.1)
+      ((k-profile_where walk names here name one f.1 r keeps1 profiles).at out4.1))));
+}
 
 pub k-level_of : (walk : Walk) (names : Names) (n : ℕ) → walk.Takes names → KeepsInside walk (level_of names n)
 k-level_of walk names n t = k-level_above walk names (inside names n) t (k-inside walk names n t)
 
 pub k-with_body : (walk : Walk) (x0 : Names) (x1 : ℕ) (x2 : Bool) (x3 : ℕ) (x4 : Profiled) (x5 : Option Aspect) (x6 : List Decl) (x7 : Body) (x8 : Option ℕ) → walk.Takes x0 → Keeps walk (with_body x0 x1 x2 x3 x4 x5 x6 x7 x8)
 unfolding with_body
-k-with_body walk names n blocking name p a ds b last keeps1 = k-bind walk ((aspect names p.inner blocking a)) (λ z. (declarations names (level_of names n) (length p.outer.scope) p.inner (Some no_decls) ds) >>= λ r. (body (around names n (stmt names n)) r.0 r.1 b) >>= λ x. (end_name names name last) >>= λ u. pure (joined (sub_where p z) p.number x)) (k-aspect walk names p.inner blocking a keeps1) (λ z. k-bind walk ((declarations names (level_of names n) (length p.outer.scope) p.inner (Some no_decls) ds)) (λ r. (body (around names n (stmt names n)) r.0 r.1 b) >>= λ x. (end_name names name last) >>= λ u. pure (joined (sub_where p z) p.number x)) (k-declarations walk names (level_of names n) (length p.outer.scope) p.inner (Some no_decls) ds keeps1 (k-level_of walk names n keeps1)) (λ r. k-bind walk ((body (around names n (stmt names n)) r.0 r.1 b)) (λ x. (end_name names name last) >>= λ u. pure (joined (sub_where p z) p.number x)) (k-body walk (around names n (stmt names n)) r.0 r.1 b (k-around walk names n keeps1)) (λ x. k-bind walk ((end_name names name last)) (λ u. pure (joined (sub_where p z) p.number x)) (k-end_name walk names name last keeps1) (λ u. k-pure walk (joined (sub_where p z) p.number x)))))
+k-with_body walk names n blocking name p a ds b last keeps1 = record {
+  at = λ log.
+      let out1 = aspect names p.inner blocking a log in
+      let z = out1.0 in
+      let out2 = declarations names (level_of names n) (length p.outer.scope) p.inner (Some no_decls) ds out1.1 in
+      let r = out2.0 in
+      let out3 = body (around names n (stmt names n)) r.0 r.1 b out2.1 in
+      let x = out3.0 in
+      walk.joins _ _ _ ((k-aspect walk names p.inner blocking a keeps1).at log)
+      (walk.joins _ _ _ ((k-declarations walk names (level_of names n) (length p.outer.scope) p.inner (Some no_decls) ds keeps1 (k-level_of walk names n keeps1)).at out1.1)
+      (walk.joins _ _ _ ((k-body walk (around names n (stmt names n)) r.0 r.1 b (k-around walk names n keeps1)).at out2.1)
+      ((k-end_name walk names name last keeps1).at out3.1)));
+}
 
 pub k-result_value : (walk : Walk) (x0 : Names) (x1 : Inside) (x2 : Context) (x3 : Expr) (x4 : Returns) → walk.Takes x0 → KeepsInside walk x1 → Keeps walk (result_value x0 x1 x2 x3 x4)
 k-result_value walk names level here e (returns.Value s) keeps1 keeps2 = k-value_for walk names level here (subtype.Scalar s) e keeps1 keeps2
@@ -145,13 +192,37 @@ k-result_value walk names level here e r keeps1 keeps2 = k-bind walk (judged_alo
 
 pub k-with_value_of : (walk : Walk) (x0 : Names) (x1 : ℕ) (x2 : Bool) (x3 : Profiled) (x4 : Option Aspect) (x5 : Expr) → walk.Takes x0 → Keeps walk (with_value_of x0 x1 x2 x3 x4 x5)
 unfolding with_value_of
-k-with_value_of walk names n blocking p a e keeps1 = k-bind walk ((aspect names p.inner blocking a)) (λ z. (result_value names (inside names n) p.inner e p.inner.returns) >>= λ v. pure (joined (sub_where p z) p.number (option_map returned_body v))) (k-aspect walk names p.inner blocking a keeps1) (λ z. k-bind walk ((result_value names (inside names n) p.inner e p.inner.returns)) (λ v. pure (joined (sub_where p z) p.number (option_map returned_body v))) (k-result_value walk names (inside names n) p.inner e p.inner.returns keeps1 (k-inside walk names n keeps1)) (λ v. k-pure walk (joined (sub_where p z) p.number (option_map returned_body v))))
+k-with_value_of walk names n blocking p a e keeps1 = record {
+  at = λ log.
+      let out1 = aspect names p.inner blocking a log in
+      let z = out1.0 in
+      walk.joins _ _ _ ((k-aspect walk names p.inner blocking a keeps1).at log)
+      ((k-result_value walk names (inside names n) p.inner e p.inner.returns keeps1 (k-inside walk names n keeps1)).at out1.1);
+}
 
 pub k-subprogram : (walk : Walk) (x0 : Names) (x1 : ℕ) (x2 : Bool) (x3 : ℕ) (x4 : Context) (x5 : Sub) → walk.Takes x0 → WalksProfiles walk → Keeps walk (subprogram x0 x1 x2 x3 x4 x5)
 unfolding subprogram
-k-subprogram walk names n blocking start here (syntax.Procedure at name fs a ds b last) keeps1 profiles = k-bind walk (profile names start here name None fs) (λ p. with_body names n blocking name p a ds b last >>= λ s. pure (p.outer, s)) (k-profile walk names start here name None fs keeps1 profiles) (λ p. k-bind walk (with_body names n blocking name p a ds b last) (λ s. pure (p.outer, s)) (k-with_body walk names n blocking name p a ds b last keeps1) (λ s. k-pure walk (p.outer, s)))
-k-subprogram walk names n blocking start here (syntax.Function at name fs result a ds b last) keeps1 profiles = k-bind walk (profile names start here name (Some result) fs) (λ p. with_body names n blocking name p a ds b last >>= λ s. pure (p.outer, s)) (k-profile walk names start here name (Some result) fs keeps1 profiles) (λ p. k-bind walk (with_body names n blocking name p a ds b last) (λ s. pure (p.outer, s)) (k-with_body walk names n blocking name p a ds b last keeps1) (λ s. k-pure walk (p.outer, s)))
-k-subprogram walk names n blocking start here (syntax.ExprFunction at name fs result bracket e a) keeps1 profiles = k-bind walk (profile names start here name (Some result) fs) (λ p. with_value_of names n blocking p a e >>= λ s. pure (p.outer, s)) (k-profile walk names start here name (Some result) fs keeps1 profiles) (λ p. k-bind walk (with_value_of names n blocking p a e) (λ s. pure (p.outer, s)) (k-with_value_of walk names n blocking p a e keeps1) (λ s. k-pure walk (p.outer, s)))
+k-subprogram walk names n blocking start here (syntax.Procedure at name fs a ds b last) keeps1 profiles = record {
+  at = λ log.
+      let out1 = profile names start here name None fs log in
+      let p = out1.0 in
+      walk.joins _ _ _ ((k-profile walk names start here name None fs keeps1 profiles).at log)
+      ((k-with_body walk names n blocking name p a ds b last keeps1).at out1.1);
+}
+k-subprogram walk names n blocking start here (syntax.Function at name fs result a ds b last) keeps1 profiles = record {
+  at = λ log.
+      let out1 = profile names start here name (Some result) fs log in
+      let p = out1.0 in
+      walk.joins _ _ _ ((k-profile walk names start here name (Some result) fs keeps1 profiles).at log)
+      ((k-with_body walk names n blocking name p a ds b last keeps1).at out1.1);
+}
+k-subprogram walk names n blocking start here (syntax.ExprFunction at name fs result bracket e a) keeps1 profiles = record {
+  at = λ log.
+      let out1 = profile names start here name (Some result) fs log in
+      let p = out1.0 in
+      walk.joins _ _ _ ((k-profile walk names start here name (Some result) fs keeps1 profiles).at log)
+      ((k-with_value_of walk names n blocking p a e keeps1).at out1.1);
+}
 
 pub k-unit_of : (walk : Walk) (x0 : Names) (x1 : ℕ) (x2 : Bool) (x3 : ℕ) (x4 : Declared') (x5 : Unit') → walk.Takes x0 → WalksProfiles walk → Keeps walk (unit_of x0 x1 x2 x3 x4 x5)
 k-unit_of walk names n blocking start d (syntax.DeclUnit x) keeps1 profiles = k-bind walk (declaration names (level_of names n) start d.here d.decls x) (λ r. pure (record { here = r.0; decls = r.1; subs = d.subs })) (k-declaration walk names (level_of names n) start d.here d.decls x keeps1 (k-level_of walk names n keeps1)) (λ r. k-pure walk (record { here = r.0; decls = r.1; subs = d.subs }))
@@ -163,8 +234,29 @@ k-units walk names n blocking start d (u ∷ us) keeps1 profiles = k-bind walk (
 
 pub k-main : (walk : Walk) (x0 : Names) (x1 : ℕ) (x2 : Context) (x3 : Main) (x4 : Bool) → walk.Takes x0 → WalksProfiles walk → Keeps walk (main x0 x1 x2 x3 x4)
 unfolding main
-k-main walk names n here m s keeps1 profiles = k-bind walk ((aspect names here false m.aspect)) (λ z. (units names n z (length here.scope) (record { here = here; decls = Some no_decls; subs = Some [] }) m.units) >>= λ d. (body (around names n (stmt names n)) d.here d.decls m.body) >>= λ b. (end_name names m.defined m.last_name) >>= λ u. pure (joined (whole z s) b d.subs)) (k-aspect walk names here false m.aspect keeps1) (λ z. k-bind walk ((units names n z (length here.scope) (record { here = here; decls = Some no_decls; subs = Some [] }) m.units)) (λ d. (body (around names n (stmt names n)) d.here d.decls m.body) >>= λ b. (end_name names m.defined m.last_name) >>= λ u. pure (joined (whole z s) b d.subs)) (k-units walk names n z (length here.scope) (record { here = here; decls = Some no_decls; subs = Some [] }) m.units keeps1 profiles) (λ d. k-bind walk ((body (around names n (stmt names n)) d.here d.decls m.body)) (λ b. (end_name names m.defined m.last_name) >>= λ u. pure (joined (whole z s) b d.subs)) (k-body walk (around names n (stmt names n)) d.here d.decls m.body (k-around walk names n keeps1)) (λ b. k-bind walk ((end_name names m.defined m.last_name)) (λ u. pure (joined (whole z s) b d.subs)) (k-end_name walk names m.defined m.last_name keeps1) (λ u. k-pure walk (joined (whole z s) b d.subs)))))
+k-main walk names n here m s keeps1 profiles = record {
+  at = λ log.
+      let out1 = aspect names here false m.aspect log in
+      let z = out1.0 in
+      let out2 = units names n z (length here.scope) (record { here = here; decls = Some no_decls; subs = Some [] }) m.units out1.1 in
+      let d = out2.0 in
+      let out3 = body (around names n (stmt names n)) d.here d.decls m.body out2.1 in
+      let b = out3.0 in
+      walk.joins _ _ _ ((k-aspect walk names here false m.aspect keeps1).at log)
+      (walk.joins _ _ _ ((k-units walk names n z (length here.scope) (record { here = here; decls = Some no_decls; subs = Some [] }) m.units keeps1 profiles).at out1.1)
+      (walk.joins _ _ _ ((k-body walk (around names n (stmt names n)) d.here d.decls m.body (k-around walk names n keeps1)).at out2.1)
+      ((k-end_name walk names m.defined m.last_name keeps1).at out3.1)));
+}
 
 pub k-program : (walk : Walk) (x0 : Names) (x1 : ℕ) (x2 : Program) → walk.Takes x0 → WalksProfiles walk → Keeps walk (program x0 x1 x2)
 unfolding program
-k-program walk names n t keeps1 profiles = k-bind walk ((policy names t.policy)) (λ s. (clauses names outermost t.clauses) >>= λ here. main names n here t.main s) (k-policy walk names t.policy keeps1) (λ s. k-bind walk ((clauses names outermost t.clauses)) (λ here. main names n here t.main s) (k-clauses walk names outermost t.clauses keeps1) (λ here. k-main walk names n here t.main s keeps1 profiles))
+k-program walk names n t keeps1 profiles = record {
+  at = λ log.
+      let out1 = policy names t.policy log in
+      let s = out1.0 in
+      let out2 = clauses names outermost t.clauses out1.1 in
+      let here = out2.0 in
+      walk.joins _ _ _ ((k-policy walk names t.policy keeps1).at log)
+      (walk.joins _ _ _ ((k-clauses walk names outermost t.clauses keeps1).at out1.1)
+      ((k-main walk names n here t.main s keeps1 profiles).at out2.1));
+}

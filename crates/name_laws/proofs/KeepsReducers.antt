@@ -30,7 +30,7 @@ use Rattle.ada_typed.specs.declared.expressions.Reducer.TheVariants as reducer'
 use Rattle.ada_typed.specs.declared.expressions.Reducer.{Reducer}
 use Rattle.std.specs.Prelude.{List, None, Option, Some, [], if◌then◌else◌, is_some, not, ℕ, ◌&&◌, ◌||◌, ◌∷◌}
 use Rattle.ada_typed.specs.Decoded.{Part as TypedPart}
-use Rattle.name_rules.specs.Judging.{◌>>=◌, both, fault, given, joined, read, some}
+use Rattle.name_rules.specs.Judging.{fault, given, joined, read, some}
 use Rattle.name_rules.specs.Reducers.{operators, operator_named, operator_reducer, extreme_of, function_given, function_of, no_reducer, extreme_name, attribute_reducer, name_reducer, reducer_by, reducer_of, reduction, reduced, open_reduction, is_logical, of_kind, numeric, by_operator, by_subtypes, by_function, folded_by}
 use Rattle.name_laws.proofs.Walk.{Walk, Keeps, k-pure, k-some, k-bind, k-fault, k-read, k-if, k-given, k-both, k-where_clean}
 use Rattle.name_laws.proofs.Walked.{KeepsInside}
@@ -51,7 +51,7 @@ k-function_given walk at n None = k-fault walk at ReduceRule
 k-function_given walk at n (Some s) = k-some walk (folding.Function at n)
 
 pub k-function_of : (walk : Walk) (x0 : ℕ) (x1 : KnownDenoted) → Keeps walk (function_of x0 x1)
-k-function_of walk at (denoted.Sub first last n) = k-bind walk (read (λ log. gives_in (profile_in log n))) (function_given at n) (k-read walk (λ log. gives_in (profile_in log n))) (λ z1. k-function_given walk at n z1)
+k-function_of walk at (denoted.Sub first last n) = k-bind walk (read (λ log. gives_in (profile_in log n))) (function_given at n) (k-read walk (λ log. gives_in (profile_in log n))) (λ z2. k-function_given walk at n z2)
 k-function_of walk at d = k-fault walk at ReduceRule
 
 pub k-no_reducer : (walk : Walk) (x0 : Names) (x1 : Inside) (x2 : Context) (x3 : Expr) → walk.Takes x0 → KeepsInside walk x1 → Keeps walk (no_reducer x0 x1 x2 x3)
@@ -77,7 +77,16 @@ k-reducer_of walk names inside here e keeps1 keeps2 = k-reducer_by walk names in
 
 pub k-reduced : (walk : Walk) (x0 : Going) (x1 : TypedPart) (x2 : TypedPart) (x3 : Kind) (x4 : Kind) (x5 : Reducer) (x6 : Found) (x7 : Found) → Keeps walk (reduced x0 x1 x2 x3 x4 x5 x6 x7)
 unfolding reduced
-k-reduced walk g c i k j r x v = k-bind walk ((asked k x)) (λ e. (asked j v) >>= λ f. both e f (λ value initial. some (scalar g.at j None (reduction g c i r value initial)))) (k-asked walk k x) (λ e. k-bind walk ((asked j v)) (λ f. both e f (λ value initial. some (scalar g.at j None (reduction g c i r value initial)))) (k-asked walk j v) (λ f. k-both walk e f (λ value initial. some (scalar g.at j None (reduction g c i r value initial))) (λ value initial. k-some walk (scalar g.at j None (reduction g c i r value initial)))))
+k-reduced walk g c i k j r x v = record {
+  at = λ log.
+      let out1 = asked k x log in
+      let e = out1.0 in
+      let out2 = asked j v out1.1 in
+      let f = out2.0 in
+      walk.joins _ _ _ ((k-asked walk k x).at log)
+      (walk.joins _ _ _ ((k-asked walk j v).at out1.1)
+      ((k-both walk e f (λ value initial. some (scalar g.at j None (reduction g c i r value initial))) (λ value initial. k-some walk (scalar g.at j None (reduction g c i r value initial)))).at out2.1));
+}
 
 pub k-of_kind : (walk : Walk) (x0 : Going) (x1 : TypedPart) (x2 : TypedPart) (x3 : ℕ) (x4 : Op) (x5 : Kind) (x6 : Found) (x7 : Found) → Keeps walk (of_kind x0 x1 x2 x3 x4 x5 x6 x7)
 k-of_kind walk g c i at o k x v = k-if walk (suits k x.known && suits k v.known) (reduced g c i k k (reducer'.Operator at o (class_of k)) x v) (fault at ReduceRule) (k-reduced walk g c i k k (reducer'.Operator at o (class_of k)) x v) (k-fault walk at ReduceRule)

@@ -37,8 +37,8 @@ use Rattle.std.specs.Prelude.{Bool, List, None, Option, Some, [], false, length,
 use Rattle.name_rules.specs.TypedParts.{selections_of}
 use Rattle.ada_typed.specs.Decoded.{Part as TypedPart, as_expr, as_optional, as_iteration, as_chunk, as_decls, as_stmts, as_alternatives, as_arms, as_handlers, as_body}
 use Rattle.typed_parts.specs.Stack.{turned}
-use Rattle.name_rules.specs.Judging.{◌>>=◌, both, clean, fault, given, joined, pure, some}
-use Rattle.name_rules.specs.Statements.{Around, with_stmt, no_stmts, stmts_from, stmts, with_target, assigned, stored_place, assigned_place, assign_place, assigned_alone, assign_other, assign_form, assign_to, assign, as_statement, call_stmt, condition_where, innermost, loop_named, loop_or, exited, exit_part, exit_from, returned, value_at, value_of_nothing, return_value, return_alone, return_from, raised, raise_from, with_elsif_if, elsifs, otherwise_where, if_stmt_part, if_stmt_made, if_stmt, is_last, also_alternative, no_choosing, alternative, alts, selecting, Selector, selector_of, selector, closed_where, selector_kind, case_part, case_stmt, loop_ends, new_loop, in_loop, backwards_rule, for_part, parallel_part, for_made, loop_entered, for_loop, loop_part, optional_parallel, loop_with, loop_by, loop_stmt, in_handler_of, is_last_handler, with_handler_if, handler, handlers, body_part, block_part, body_made, body, no_decls, block_decls, block_of, block, arm_limit, count_where, with_arm, branches, branch_count, in_threads, arms_part, parallel, stmt_form, around, stmt}
+use Rattle.name_rules.specs.Judging.{◌>>=◌, clean, fault, given, joined, pure, some}
+use Rattle.name_rules.specs.Statements.{Around, with_stmt, no_stmts, stmts_from, stmts, with_target, assigned, stored_place, assigned_place, assign_place, assigned_alone, assign_other, assign_form, assign_to, assign, as_statement, call_stmt, condition_where, innermost, loop_named, loop_or, exited, exit_from, returned, value_at, value_of_nothing, return_value, return_alone, return_from, raised, raise_from, with_elsif_if, elsifs, otherwise_where, if_stmt_part, if_stmt_made, if_stmt, is_last, no_choosing, alternative, alts, selecting, Selector, selector_of, selector, closed_where, selector_kind, case_stmt, loop_ends, new_loop, in_loop, backwards_rule, for_part, parallel_part, for_made, loop_entered, for_loop, loop_part, optional_parallel, loop_with, loop_by, loop_stmt, in_handler_of, is_last_handler, handler, handlers, body_part, block_part, body_made, body, no_decls, block_decls, block_of, block, arm_limit, count_where, with_arm, branches, branch_count, in_threads, parallel, stmt_form, around, stmt}
 use Rattle.name_laws.proofs.Walk.{Walk, Keeps, k-pure, k-some, k-bind, k-fault, k-breaks, k-unless, k-if, k-given, k-both, k-where_clean, k-clean}
 use Rattle.name_laws.proofs.Walked.{KeepsInside, KeepsAround}
 use Rattle.name_laws.proofs.KeepsCases.{k-case_choices, k-closed, k-handled_by}
@@ -66,7 +66,7 @@ k-assigned_place walk p ss at x = k-if walk (not p.variable) (fault p.first Wron
 
 pub k-assign_place : (walk : Walk) (x0 : Names) (x1 : Inside) (x2 : Context) (x3 : Place) (x4 : Selections) (x5 : Expr) → walk.Takes x0 → KeepsInside walk x1 → Keeps walk (assign_place x0 x1 x2 x3 x4 x5)
 unfolding assign_place
-k-assign_place walk names level here p ss e keeps1 keeps2 = k-where_clean walk (expr names level (with_target here (target.Of p.subtype)) (wanted_of p.subtype) e) (assigned_place p ss (first_token.of_expr e - 1)) (k-expr walk names level (with_target here (target.Of p.subtype)) (wanted_of p.subtype) e keeps1 keeps2) (λ z2. k-assigned_place walk p ss (first_token.of_expr e - 1) z2)
+k-assign_place walk names level here p ss e keeps1 keeps2 = k-where_clean walk (expr names level (with_target here (target.Of p.subtype)) (wanted_of p.subtype) e) (assigned_place p ss (first_token.of_expr e - 1)) (k-expr walk names level (with_target here (target.Of p.subtype)) (wanted_of p.subtype) e keeps1 keeps2) (λ z1. k-assigned_place walk p ss (first_token.of_expr e - 1) z1)
 
 pub k-assigned_alone : (walk : Walk) (x0 : Names) (x1 : Inside) (x2 : Context) (x3 : Expr) → walk.Takes x0 → KeepsInside walk x1 → Keeps walk (assigned_alone x0 x1 x2 x3)
 k-assigned_alone walk names level here e keeps1 keeps2 = k-judged_alone walk names level (with_target here target.Faulty) e keeps1 keeps2
@@ -83,7 +83,7 @@ k-assign_to walk names level here e None keeps1 keeps2 = k-bind walk (assigned_a
 k-assign_to walk names level here e (Some d) keeps1 keeps2 = k-assign_form walk names level here e d.known d.part keeps1 keeps2
 
 pub k-assign : (walk : Walk) (x0 : Names) (x1 : Inside) (x2 : Context) (x3 : Name) (x4 : Expr) → walk.Takes x0 → KeepsInside walk x1 → Keeps walk (assign x0 x1 x2 x3 x4)
-k-assign walk names level here n e keeps1 keeps2 = k-bind walk (level.name here n) (assign_to names level here e) (keeps2.name here n) (λ z3. k-assign_to walk names level here e z3 keeps1 keeps2)
+k-assign walk names level here n e keeps1 keeps2 = k-bind walk (level.name here n) (assign_to names level here e) (keeps2.name here n) (λ z2. k-assign_to walk names level here e z2 keeps1 keeps2)
 
 pub k-as_statement : (walk : Walk) (x0 : KnownDenoted) (x1 : TypedPart) → Keeps walk (as_statement x0 x1)
 k-as_statement walk (denoted.Done first) x = k-some walk x
@@ -91,7 +91,16 @@ k-as_statement walk d x = k-fault walk (denoted_first d) WrongType
 
 pub k-call_stmt : (walk : Walk) (x0 : Names) (x1 : Inside) (x2 : Context) (x3 : Name) → walk.Takes x0 → KeepsInside walk x1 → Keeps walk (call_stmt x0 x1 x2 x3)
 unfolding call_stmt
-k-call_stmt walk names level here n keeps1 keeps2 = k-bind walk ((level.name here n)) (λ d. (given d (valued_by names level here)) >>= λ e. given e (λ x. as_statement x.known x.part)) (keeps2.name here n) (λ d. k-bind walk ((given d (valued_by names level here))) (λ e. given e (λ x. as_statement x.known x.part)) (k-given walk d (valued_by names level here) (λ z4. k-valued_by walk names level here z4 keeps1 keeps2)) (λ e. k-given walk e (λ x. as_statement x.known x.part) (λ x. k-as_statement walk x.known x.part)))
+k-call_stmt walk names level here n keeps1 keeps2 = record {
+  at = λ log.
+      let out1 = level.name here n log in
+      let d = out1.0 in
+      let out3 = given d (valued_by names level here) out1.1 in
+      let e = out3.0 in
+      walk.joins _ _ _ ((keeps2.name here n).at log)
+      (walk.joins _ _ _ ((k-given walk d (valued_by names level here) (λ z2. k-valued_by walk names level here z2 keeps1 keeps2)).at out1.1)
+      ((k-given walk e (λ x. as_statement x.known x.part) (λ x. k-as_statement walk x.known x.part)).at out3.1));
+}
 
 pub k-condition_where : (walk : Walk) (x0 : Names) (x1 : Inside) (x2 : Context) (x3 : Option Expr) → walk.Takes x0 → KeepsInside walk x1 → Keeps walk (condition_where x0 x1 x2 x3)
 k-condition_where walk names level here None keeps1 keeps2 = k-some walk part.Nothing
@@ -108,11 +117,17 @@ k-exited walk names here at (Some token) (Some l) keeps1 = k-loop_or walk token 
 
 pub k-exit_from : (walk : Walk) (x0 : Names) (x1 : Inside) (x2 : Context) (x3 : ℕ) (x4 : Option ℕ) (x5 : Option Expr) → walk.Takes x0 → KeepsInside walk x1 → Keeps walk (exit_from x0 x1 x2 x3 x4 x5)
 unfolding exit_from
-k-exit_from walk names level here at from e keeps1 keeps2 = k-bind walk ((exited names here at from (innermost here.loops))) (λ n. (condition_where names level here e) >>= λ c. pure (joined exit_part n c)) (k-exited walk names here at from (innermost here.loops) keeps1) (λ n. k-bind walk ((condition_where names level here e)) (λ c. pure (joined exit_part n c)) (k-condition_where walk names level here e keeps1 keeps2) (λ c. k-pure walk (joined exit_part n c)))
+k-exit_from walk names level here at from e keeps1 keeps2 = record {
+  at = λ log.
+      let out1 = exited names here at from (innermost here.loops) log in
+      let n = out1.0 in
+      walk.joins _ _ _ ((k-exited walk names here at from (innermost here.loops) keeps1).at log)
+      ((k-condition_where walk names level here e keeps1 keeps2).at out1.1);
+}
 
 pub k-value_at : (walk : Walk) (x0 : Names) (x1 : Inside) (x2 : Context) (x3 : ℕ) (x4 : Scalar) (x5 : Expr) → walk.Takes x0 → KeepsInside walk x1 → Keeps walk (value_at x0 x1 x2 x3 x4 x5)
 unfolding value_at
-k-value_at walk names level here at s e keeps1 keeps2 = k-bind walk (expr names level here wanted.Other e) (λ x. given x (stored (subtype.Scalar s) at)) (k-expr walk names level here wanted.Other e keeps1 keeps2) (λ x. k-given walk x (stored (subtype.Scalar s) at) (λ z5. k-stored walk (subtype.Scalar s) at z5))
+k-value_at walk names level here at s e keeps1 keeps2 = k-bind walk (expr names level here wanted.Other e) (λ x. given x (stored (subtype.Scalar s) at)) (k-expr walk names level here wanted.Other e keeps1 keeps2) (λ x. k-given walk x (stored (subtype.Scalar s) at) (λ z1. k-stored walk (subtype.Scalar s) at z1))
 
 pub k-value_of_nothing : (walk : Walk) (x0 : Names) (x1 : Inside) (x2 : Context) (x3 : ℕ) (x4 : Expr) → walk.Takes x0 → KeepsInside walk x1 → Keeps walk (value_of_nothing x0 x1 x2 x3 x4)
 k-value_of_nothing walk names level here at e keeps1 keeps2 = k-where_clean walk (expr names level here wanted.Other e) (λ x. given x (λ f. fault at WrongType)) (k-expr walk names level here wanted.Other e keeps1 keeps2) (λ x. k-given walk x (λ f. fault at WrongType) (λ f. k-fault walk at WrongType))
@@ -136,7 +151,16 @@ k-raise_from walk names here at (Some p) keeps1 = k-bind walk (exception names h
 
 pub k-elsifs : (walk : Walk) (x0 : Around) (x1 : Context) (x2 : Option TypedPart) (x3 : Arms) → KeepsAround walk x0 → Keeps walk (elsifs x0 x1 x2 x3)
 k-elsifs walk a here made syntax.NoArm keeps1 = k-pure walk made
-k-elsifs walk a here made (syntax.AlsoArm (syntax.arm at e s) xs) keeps1 = k-bind walk ((condition a.names a.level here e)) (λ c. (stmts a here s) >>= λ ss. elsifs a here (with_elsif_if made c ss) xs) (k-condition walk a.names a.level here e keeps1.names keeps1.level) (λ c. k-bind walk ((stmts a here s)) (λ ss. elsifs a here (with_elsif_if made c ss) xs) (k-stmts walk a here s keeps1) (λ ss. k-elsifs walk a here (with_elsif_if made c ss) xs keeps1))
+k-elsifs walk a here made (syntax.AlsoArm (syntax.arm at e s) xs) keeps1 = record {
+  at = λ log.
+      let out1 = condition a.names a.level here e log in
+      let c = out1.0 in
+      let out2 = stmts a here s out1.1 in
+      let ss = out2.0 in
+      walk.joins _ _ _ ((k-condition walk a.names a.level here e keeps1.names keeps1.level).at log)
+      (walk.joins _ _ _ ((k-stmts walk a here s keeps1).at out1.1)
+      ((k-elsifs walk a here (with_elsif_if made c ss) xs keeps1).at out2.1));
+}
 
 pub k-otherwise_where : (walk : Walk) (x0 : Around) (x1 : Context) (x2 : OptionalStmts) → KeepsAround walk x0 → Keeps walk (otherwise_where x0 x1 x2)
 k-otherwise_where walk a here syntax.AbsentStmts keeps1 = k-some walk no_stmts
@@ -147,11 +171,32 @@ k-if_stmt_made walk xs ys c ss = k-pure walk (joined (if_stmt_part c ss) xs ys)
 
 pub k-if_stmt : (walk : Walk) (x0 : Around) (x1 : Context) (x2 : Expr) (x3 : Stmts) (x4 : Arms) (x5 : OptionalStmts) → KeepsAround walk x0 → Keeps walk (if_stmt x0 x1 x2 x3 x4 x5)
 unfolding if_stmt
-k-if_stmt walk a here e s more o keeps1 = k-bind walk ((condition a.names a.level here e)) (λ c. (stmts a here s) >>= λ ss. (elsifs a here (Some part.Nothing) more) >>= λ xs. (otherwise_where a here o) >>= λ ys. both c ss (if_stmt_made xs ys)) (k-condition walk a.names a.level here e keeps1.names keeps1.level) (λ c. k-bind walk ((stmts a here s)) (λ ss. (elsifs a here (Some part.Nothing) more) >>= λ xs. (otherwise_where a here o) >>= λ ys. both c ss (if_stmt_made xs ys)) (k-stmts walk a here s keeps1) (λ ss. k-bind walk ((elsifs a here (Some part.Nothing) more)) (λ xs. (otherwise_where a here o) >>= λ ys. both c ss (if_stmt_made xs ys)) (k-elsifs walk a here (Some part.Nothing) more keeps1) (λ xs. k-bind walk ((otherwise_where a here o)) (λ ys. both c ss (if_stmt_made xs ys)) (k-otherwise_where walk a here o keeps1) (λ ys. k-both walk c ss (if_stmt_made xs ys) (λ z6 z7. k-if_stmt_made walk xs ys z6 z7)))))
+k-if_stmt walk a here e s more o keeps1 = record {
+  at = λ log.
+      let out1 = condition a.names a.level here e log in
+      let c = out1.0 in
+      let out2 = stmts a here s out1.1 in
+      let ss = out2.0 in
+      let out3 = elsifs a here (Some part.Nothing) more out2.1 in
+      let xs = out3.0 in
+      let out4 = otherwise_where a here o out3.1 in
+      let ys = out4.0 in
+      walk.joins _ _ _ ((k-condition walk a.names a.level here e keeps1.names keeps1.level).at log)
+      (walk.joins _ _ _ ((k-stmts walk a here s keeps1).at out1.1)
+      (walk.joins _ _ _ ((k-elsifs walk a here (Some part.Nothing) more keeps1).at out2.1)
+      (walk.joins _ _ _ ((k-otherwise_where walk a here o keeps1).at out3.1)
+      ((k-both walk c ss (if_stmt_made xs ys) (λ z5 z6. k-if_stmt_made walk xs ys z5 z6)).at out4.1))));
+}
 
 pub k-alternative : (walk : Walk) (x0 : Around) (x1 : Context) (x2 : Option Kind) (x3 : Bool) (x4 : Covering) (x5 : Option TypedPart) (x6 : Alt) → KeepsAround walk x0 → Keeps walk (alternative x0 x1 x2 x3 x4 x5 x6)
 unfolding alternative
-k-alternative walk a here k last c made (syntax.alt at x ys s) keeps1 = k-bind walk ((case_choices a.level here k (length ys == 0) last c no_choosing (x ∷ ys))) (λ r. (stmts a here s) >>= λ ss. pure (r.0, also_alternative r.1 made ss)) (k-case_choices walk a.level here k (length ys == 0) last c no_choosing (x ∷ ys) keeps1.level) (λ r. k-bind walk ((stmts a here s)) (λ ss. pure (r.0, also_alternative r.1 made ss)) (k-stmts walk a here s keeps1) (λ ss. k-pure walk (r.0, also_alternative r.1 made ss)))
+k-alternative walk a here k last c made (syntax.alt at x ys s) keeps1 = record {
+  at = λ log.
+      let out1 = case_choices a.level here k (length ys == 0) last c no_choosing (x ∷ ys) log in
+      let r = out1.0 in
+      walk.joins _ _ _ ((k-case_choices walk a.level here k (length ys == 0) last c no_choosing (x ∷ ys) keeps1.level).at log)
+      ((k-stmts walk a here s keeps1).at out1.1);
+}
 
 pub k-alts : (walk : Walk) (x0 : Around) (x1 : Context) (x2 : Option Kind) (x3 : Covering) (x4 : Option TypedPart) (x5 : Alts) → KeepsAround walk x0 → Keeps walk (alts x0 x1 x2 x3 x4 x5)
 k-alts walk a here k c made syntax.NoAlt keeps1 = k-pure walk (c, made)
@@ -166,7 +211,19 @@ k-closed_where walk at (Some s) c = k-closed walk at s.known c
 
 pub k-case_stmt : (walk : Walk) (x0 : Around) (x1 : Context) (x2 : ℕ) (x3 : Expr) (x4 : Alts) → KeepsAround walk x0 → Keeps walk (case_stmt x0 x1 x2 x3 x4)
 unfolding case_stmt
-k-case_stmt walk a here at e xs keeps1 = k-bind walk ((expr a.names a.level here wanted.Other e)) (λ f. (given f selector) >>= λ s. (alts a here (selector_kind s) (record { ranges = []; faulty = false; others = false }) (Some part.Nothing) xs) >>= λ r. (closed_where at s r.0) >>= λ u. pure (joined case_part s r.1)) (k-expr walk a.names a.level here wanted.Other e keeps1.names keeps1.level) (λ f. k-bind walk ((given f selector)) (λ s. (alts a here (selector_kind s) (record { ranges = []; faulty = false; others = false }) (Some part.Nothing) xs) >>= λ r. (closed_where at s r.0) >>= λ u. pure (joined case_part s r.1)) (k-given walk f (selector) (λ z8. k-selector walk z8)) (λ s. k-bind walk ((alts a here (selector_kind s) (record { ranges = []; faulty = false; others = false }) (Some part.Nothing) xs)) (λ r. (closed_where at s r.0) >>= λ u. pure (joined case_part s r.1)) (k-alts walk a here (selector_kind s) (record { ranges = []; faulty = false; others = false }) (Some part.Nothing) xs keeps1) (λ r. k-bind walk ((closed_where at s r.0)) (λ u. pure (joined case_part s r.1)) (k-closed_where walk at s r.0) (λ u. k-pure walk (joined case_part s r.1)))))
+k-case_stmt walk a here at e xs keeps1 = record {
+  at = λ log.
+      let out1 = expr a.names a.level here wanted.Other e log in
+      let f = out1.0 in
+      let out3 = given f selector out1.1 in
+      let s = out3.0 in
+      let out4 = alts a here (selector_kind s) (record { ranges = []; faulty = false; others = false }) (Some part.Nothing) xs out3.1 in
+      let r = out4.0 in
+      walk.joins _ _ _ ((k-expr walk a.names a.level here wanted.Other e keeps1.names keeps1.level).at log)
+      (walk.joins _ _ _ ((k-given walk f (selector) (λ z2. k-selector walk z2)).at out1.1)
+      (walk.joins _ _ _ ((k-alts walk a here (selector_kind s) (record { ranges = []; faulty = false; others = false }) (Some part.Nothing) xs keeps1).at out3.1)
+      ((k-closed_where walk at s r.0).at out4.1)));
+}
 
 pub k-loop_ends : (walk : Walk) (x0 : Names) (x1 : Option ℕ) (x2 : ℕ) (x3 : Option ℕ) → walk.Takes x0 → Keeps walk (loop_ends x0 x1 x2 x3)
 k-loop_ends walk names None last None keeps1 = k-pure walk tt
@@ -186,14 +243,35 @@ k-for_made walk n (Some s) c i ss = k-pure walk (option_map (parallel_part n s i
 
 pub k-loop_entered : (walk : Walk) (x0 : Around) (x1 : Context) (x2 : OptionalParallel) (x3 : Iter) → KeepsAround walk x0 → Keeps walk (loop_entered x0 x1 x2 x3)
 unfolding loop_entered
-k-loop_entered walk a here p i keeps1 = k-bind walk ((clean (entered a.names a.level a.inner here site.Loop p i))) (λ e. (backwards_rule e.1 e.0.construct e.0.reverse) >>= λ u. pure e.0) (k-clean walk (entered a.names a.level a.inner here site.Loop p i) (k-entered walk a.names a.level a.inner here site.Loop p i keeps1.names keeps1.level keeps1.inner)) (λ e. k-bind walk ((backwards_rule e.1 e.0.construct e.0.reverse)) (λ u. pure e.0) (k-backwards_rule walk e.1 e.0.construct e.0.reverse) (λ u. k-pure walk e.0))
+k-loop_entered walk a here p i keeps1 = record {
+  at = λ log.
+      let out1 = clean (entered a.names a.level a.inner here site.Loop p i) log in
+      let e = out1.0 in
+      walk.joins _ _ _ ((k-clean walk (entered a.names a.level a.inner here site.Loop p i) (k-entered walk a.names a.level a.inner here site.Loop p i keeps1.names keeps1.level keeps1.inner)).at log)
+      ((k-backwards_rule walk e.1 e.0.construct e.0.reverse).at out1.1);
+}
 
 pub k-for_loop : (walk : Walk) (x0 : Around) (x1 : Context) (x2 : Option ℕ) (x3 : ℕ) (x4 : Stmts) (x5 : OptionalParallel) (x6 : Iter) → KeepsAround walk x0 → Keeps walk (for_loop x0 x1 x2 x3 x4 x5 x6)
 unfolding for_loop
-k-for_loop walk a here label n s p i keeps1 = k-bind walk ((loop_entered a here p i)) (λ e. (stmts a (in_loop a.names e.here label n) s) >>= λ ss. both e.iteration ss (for_made n e.construct e.chunk)) (k-loop_entered walk a here p i keeps1) (λ e. k-bind walk ((stmts a (in_loop a.names e.here label n) s)) (λ ss. both e.iteration ss (for_made n e.construct e.chunk)) (k-stmts walk a (in_loop a.names e.here label n) s keeps1) (λ ss. k-both walk e.iteration ss (for_made n e.construct e.chunk) (λ z9 z10. k-for_made walk n e.construct e.chunk z9 z10)))
+k-for_loop walk a here label n s p i keeps1 = record {
+  at = λ log.
+      let out1 = loop_entered a here p i log in
+      let e = out1.0 in
+      let out2 = stmts a (in_loop a.names e.here label n) s out1.1 in
+      let ss = out2.0 in
+      walk.joins _ _ _ ((k-loop_entered walk a here p i keeps1).at log)
+      (walk.joins _ _ _ ((k-stmts walk a (in_loop a.names e.here label n) s keeps1).at out1.1)
+      ((k-both walk e.iteration ss (for_made n e.construct e.chunk) (λ z3 z4. k-for_made walk n e.construct e.chunk z3 z4)).at out2.1));
+}
 
 pub k-loop_with : (walk : Walk) (x0 : Around) (x1 : Context) (x2 : Option ℕ) (x3 : ℕ) (x4 : Stmts) (x5 : Scheme) → KeepsAround walk x0 → Keeps walk (loop_with x0 x1 x2 x3 x4 x5)
-k-loop_with walk a here label n s (syntax.While at e) keeps1 = k-bind walk ((condition a.names a.level here e)) (λ c. (stmts a (in_loop a.names here label n) s) >>= λ ss. pure (joined (loop_part n) c ss)) (k-condition walk a.names a.level here e keeps1.names keeps1.level) (λ c. k-bind walk ((stmts a (in_loop a.names here label n) s)) (λ ss. pure (joined (loop_part n) c ss)) (k-stmts walk a (in_loop a.names here label n) s keeps1) (λ ss. k-pure walk (joined (loop_part n) c ss)))
+k-loop_with walk a here label n s (syntax.While at e) keeps1 = record {
+  at = λ log.
+      let out1 = condition a.names a.level here e log in
+      let c = out1.0 in
+      walk.joins _ _ _ ((k-condition walk a.names a.level here e keeps1.names keeps1.level).at log)
+      ((k-stmts walk a (in_loop a.names here label n) s keeps1).at out1.1);
+}
 k-loop_with walk a here label n s (syntax.For p at i) keeps1 = k-for_loop walk a here label n s (optional_parallel p) i keeps1
 
 pub k-loop_by : (walk : Walk) (x0 : Around) (x1 : Context) (x2 : Option ℕ) (x3 : ℕ) (x4 : Stmts) (x5 : Option Scheme) → KeepsAround walk x0 → Keeps walk (loop_by x0 x1 x2 x3 x4 x5)
@@ -202,11 +280,25 @@ k-loop_by walk a here label n s (Some by) keeps1 = k-loop_with walk a here label
 
 pub k-loop_stmt : (walk : Walk) (x0 : Around) (x1 : Context) (x2 : Option ℕ) (x3 : Option Scheme) (x4 : Stmts) (x5 : ℕ) (x6 : Option ℕ) → KeepsAround walk x0 → Keeps walk (loop_stmt x0 x1 x2 x3 x4 x5 x6)
 unfolding loop_stmt
-k-loop_stmt walk a here label by s last name keeps1 = k-bind walk ((loop_ends a.names label last name)) (λ u. (new_loop) >>= λ n. loop_by a here label n s by) (k-loop_ends walk a.names label last name keeps1.names) (λ u. k-bind walk ((new_loop)) (λ n. loop_by a here label n s by) (k-new_loop walk) (λ n. k-loop_by walk a here label n s by keeps1))
+k-loop_stmt walk a here label by s last name keeps1 = record {
+  at = λ log.
+      let out1 = loop_ends a.names label last name log in
+      let out2 = new_loop out1.1 in
+      let n = out2.0 in
+      walk.joins _ _ _ ((k-loop_ends walk a.names label last name keeps1.names).at log)
+      (walk.joins _ _ _ ((k-new_loop walk).at out1.1)
+      ((k-loop_by walk a here label n s by keeps1).at out2.1));
+}
 
 pub k-handler : (walk : Walk) (x0 : Around) (x1 : Context) (x2 : Bool) (x3 : List Reason) (x4 : Option TypedPart) (x5 : Handler) → KeepsAround walk x0 → Keeps walk (handler x0 x1 x2 x3 x4 x5)
 unfolding handler
-k-handler walk a here last seen made (syntax.handler at h s) keeps1 = k-bind walk ((handled_by a.names here seen last h)) (λ r. (stmts a (in_handler_of here) s) >>= λ ss. pure (r.0, with_handler_if made r.1 ss)) (k-handled_by walk a.names here seen last h keeps1.names) (λ r. k-bind walk ((stmts a (in_handler_of here) s)) (λ ss. pure (r.0, with_handler_if made r.1 ss)) (k-stmts walk a (in_handler_of here) s keeps1) (λ ss. k-pure walk (r.0, with_handler_if made r.1 ss)))
+k-handler walk a here last seen made (syntax.handler at h s) keeps1 = record {
+  at = λ log.
+      let out1 = handled_by a.names here seen last h log in
+      let r = out1.0 in
+      walk.joins _ _ _ ((k-handled_by walk a.names here seen last h keeps1.names).at log)
+      ((k-stmts walk a (in_handler_of here) s keeps1).at out1.1);
+}
 
 pub k-handlers : (walk : Walk) (x0 : Around) (x1 : Context) (x2 : List Reason) (x3 : Option TypedPart) (x4 : Handlers) → KeepsAround walk x0 → Keeps walk (handlers x0 x1 x2 x3 x4)
 k-handlers walk a here seen made syntax.NoHandler keeps1 = k-pure walk made
@@ -217,7 +309,16 @@ k-body_made walk ss hs ds = k-pure walk (joined (body_part ds) ss hs)
 
 pub k-body : (walk : Walk) (x0 : Around) (x1 : Context) (x2 : Option TypedPart) (x3 : Body) → KeepsAround walk x0 → Keeps walk (body x0 x1 x2 x3)
 unfolding body
-k-body walk a here ds (syntax.body s hs) keeps1 = k-bind walk ((stmts a here s)) (λ ss. (handlers a here [] (Some part.Nothing) hs) >>= λ xs. given ds (body_made ss xs)) (k-stmts walk a here s keeps1) (λ ss. k-bind walk ((handlers a here [] (Some part.Nothing) hs)) (λ xs. given ds (body_made ss xs)) (k-handlers walk a here [] (Some part.Nothing) hs keeps1) (λ xs. k-given walk ds (body_made ss xs) (λ z11. k-body_made walk ss xs z11)))
+k-body walk a here ds (syntax.body s hs) keeps1 = record {
+  at = λ log.
+      let out1 = stmts a here s log in
+      let ss = out1.0 in
+      let out2 = handlers a here [] (Some part.Nothing) hs out1.1 in
+      let xs = out2.0 in
+      walk.joins _ _ _ ((k-stmts walk a here s keeps1).at log)
+      (walk.joins _ _ _ ((k-handlers walk a here [] (Some part.Nothing) hs keeps1).at out1.1)
+      ((k-given walk ds (body_made ss xs) (λ z3. k-body_made walk ss xs z3)).at out2.1));
+}
 
 pub k-block_of : (walk : Walk) (x0 : Around) (x1 : Context) (x2 : Option TypedPart) (x3 : Body) → KeepsAround walk x0 → Keeps walk (block_of x0 x1 x2 x3)
 k-block_of walk a here ds b keeps1 = k-bind walk (body a here ds b) (λ x. pure (option_map block_part x)) (k-body walk a here ds b keeps1) (λ x. k-pure walk (option_map block_part x))
@@ -239,7 +340,19 @@ k-branches walk a here made (syntax.AlsoBranch s ss) keeps1 = k-bind walk (stmts
 
 pub k-parallel : (walk : Walk) (x0 : Around) (x1 : Context) (x2 : ℕ) (x3 : Option Simple) (x4 : Branches) → KeepsAround walk x0 → Keeps walk (parallel x0 x1 x2 x3 x4)
 unfolding parallel
-k-parallel walk a here at e ss keeps1 = k-bind walk ((new_site here at (site.Block (branch_count ss)))) (λ n. (count_where a.inner here e) >>= λ c. (branches a (in_threads a.names here n) (Some part.Nothing) ss) >>= λ xs. (arm_limit at (branch_count ss)) >>= λ u. pure (joined (arms_part n) c xs)) (k-new_site walk here at (site.Block (branch_count ss))) (λ n. k-bind walk ((count_where a.inner here e)) (λ c. (branches a (in_threads a.names here n) (Some part.Nothing) ss) >>= λ xs. (arm_limit at (branch_count ss)) >>= λ u. pure (joined (arms_part n) c xs)) (k-count_where walk a.inner here e keeps1.inner) (λ c. k-bind walk ((branches a (in_threads a.names here n) (Some part.Nothing) ss)) (λ xs. (arm_limit at (branch_count ss)) >>= λ u. pure (joined (arms_part n) c xs)) (k-branches walk a (in_threads a.names here n) (Some part.Nothing) ss keeps1) (λ xs. k-bind walk ((arm_limit at (branch_count ss))) (λ u. pure (joined (arms_part n) c xs)) (k-arm_limit walk at (branch_count ss)) (λ u. k-pure walk (joined (arms_part n) c xs)))))
+k-parallel walk a here at e ss keeps1 = record {
+  at = λ log.
+      let out1 = new_site here at (site.Block (branch_count ss)) log in
+      let n = out1.0 in
+      let out2 = count_where a.inner here e out1.1 in
+      let c = out2.0 in
+      let out3 = branches a (in_threads a.names here n) (Some part.Nothing) ss out2.1 in
+      let xs = out3.0 in
+      walk.joins _ _ _ ((k-new_site walk here at (site.Block (branch_count ss))).at log)
+      (walk.joins _ _ _ ((k-count_where walk a.inner here e keeps1.inner).at out1.1)
+      (walk.joins _ _ _ ((k-branches walk a (in_threads a.names here n) (Some part.Nothing) ss keeps1).at out2.1)
+      ((k-arm_limit walk at (branch_count ss)).at out3.1)));
+}
 
 pub k-stmt_form : (walk : Walk) (x0 : Around) (x1 : Context) (x2 : Stmt) → KeepsAround walk x0 → Keeps walk (stmt_form x0 x1 x2)
 k-stmt_form walk a here (syntax.Null at) keeps1 = k-some walk (part.AStmt typed.Null)
