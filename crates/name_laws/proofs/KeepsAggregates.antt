@@ -1,4 +1,4 @@
--- What is judged by the rules of Aggregates keeps what each line of the log keeps.
+-- What holds of each line of the log holds of what Aggregates judges.
 use Rattle.name_rules.specs.Attributes.{alone}
 use Rattle.name_rules.specs.Expressions.{Inside, expr, judged_alone, value_for}
 use Rattle.ada_tree.specs.FirstTokens as first_token

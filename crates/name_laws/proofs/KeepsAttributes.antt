@@ -1,4 +1,4 @@
--- What is judged by the rules of Attributes keeps what each line of the log keeps.
+-- What holds of each line of the log holds of what Attributes judges.
 use Rattle.ada_base.specs.declared.operation.Op.TheVariants as op
 use Rattle.ada_base.specs.declared.operation.Op.{Op}
 use Rattle.name_rules.specs.Calls.{arg_names, operands}

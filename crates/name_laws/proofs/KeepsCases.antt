@@ -1,4 +1,4 @@
--- What is judged by the rules of Cases keeps what each line of the log keeps.
+-- What holds of each line of the log holds of what Cases judges.
 use Rattle.ada_base.specs.declared.reason.Reason.{Reason}
 use Rattle.name_rules.specs.Aggregates.{sorted}
 use Rattle.name_rules.specs.Expressions.{Inside}

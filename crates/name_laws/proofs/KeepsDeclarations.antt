@@ -1,4 +1,4 @@
--- What is judged by the rules of Declarations keeps what each line of the log keeps.
+-- What holds of each line of the log holds of what Declarations judges.
 use Rattle.ada_base.specs.declared.reason.Reason.TheVariants as reason
 use Rattle.name_rules.specs.Expressions.{Inside, expr, judged_alone}
 use Rattle.ada_tree.specs.FirstTokens as first_token

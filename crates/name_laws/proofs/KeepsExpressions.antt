@@ -1,4 +1,4 @@
--- What is judged by the rules of Expressions keeps what each line of the log keeps.
+-- What holds of each line of the log holds of what Expressions judges.
 use Rattle.ada_base.specs.declared.operation.Op.TheVariants as op
 use Rattle.ada_base.specs.declared.operation.Op.{Op}
 use Rattle.ada_tree.specs.FirstTokens as first_token

@@ -1,4 +1,4 @@
--- What is judged by the rules of Iterations keeps what each line of the log keeps.
+-- What holds of each line of the log holds of what Iterations judges.
 use Rattle.name_rules.specs.Attributes.{attribute_at}
 use Rattle.name_rules.specs.Expressions.{Inside, expr, simple}
 use Rattle.name_rules.specs.Found.{Denoted, Found}

@@ -1,4 +1,4 @@
--- What is judged by the rules of Names keeps what each line of the log keeps.
+-- What holds of each line of the log holds of what Names judges.
 use Rattle.name_rules.specs.Expressions.{Inside, expr, judged_alone}
 use Rattle.name_rules.specs.Found.{Denoted, Found, denote}
 use Rattle.name_rules.specs.Scope.{stands_for}

@@ -1,4 +1,4 @@
--- What is judged by the rules of Operators keeps what each line of the log keeps.
+-- What holds of each line of the log holds of what Operators judges.
 use Rattle.ada_base.specs.declared.operation.Op.TheVariants as op
 use Rattle.ada_base.specs.declared.operation.Op.{Op}
 use Rattle.name_rules.specs.Found.{Found, scalar, static, text_found, universal}

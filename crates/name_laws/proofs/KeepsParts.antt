@@ -1,4 +1,4 @@
--- What is judged by the rules of Parts keeps what each line of the log keeps.
+-- What holds of each line of the log holds of what Parts judges.
 use Rattle.name_rules.specs.Attributes.{attribute_at, attribute_found, bound_with, dimensions_in, is_array_object, is_bound, is_reduction, mentioned, prefix_subtype, settled_attribute}
 use Rattle.name_rules.specs.Expressions.{Inside, expr}
 use Rattle.name_rules.specs.Found.{Denoted, denote}

@@ -1,4 +1,4 @@
--- What is judged by the rules of Primaries keeps what each line of the log keeps.
+-- What holds of each line of the log holds of what Primaries judges.
 use Rattle.name_rules.specs.Aggregates.{ByPosition, contents}
 use Rattle.name_rules.specs.Attributes.{alone}
 use Rattle.name_rules.specs.Expressions.{Inside, condition, expr, in_place}

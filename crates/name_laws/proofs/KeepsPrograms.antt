@@ -1,4 +1,4 @@
--- What is judged by the rules of Programs keeps what each line of the log keeps.
+-- What holds of each line of the log holds of what Programs judges.
 use Rattle.name_rules.specs.Declarations.{all_ids, begun_names, cells_counted, declaration, declarations, ended_name, new_object}
 use Rattle.name_rules.specs.Expressions.{Inside, judged_alone}
 use Rattle.name_rules.specs.Parts.{name}

@@ -1,4 +1,4 @@
--- What is judged by the rules of Ranges keeps what each line of the log keeps.
+-- What holds of each line of the log holds of what Ranges judges.
 use Rattle.name_rules.specs.Expressions.{Inside, simple}
 use Rattle.ada_tree.specs.FirstTokens as first_token
 use Rattle.name_rules.specs.Found.{Found}

@@ -1,4 +1,4 @@
--- What is judged by the rules of Reducers keeps what each line of the log keeps.
+-- What holds of each line of the log holds of what Reducers judges.
 use Rattle.ada_base.specs.declared.operation.Op.{Op}
 use Rattle.name_rules.specs.Calls.{gives_in, profile_in, takes_in}
 use Rattle.name_rules.specs.Expressions.{Inside, judged_alone}

@@ -1,4 +1,4 @@
--- What is judged by the rules of Scope keeps what each line of the log keeps.
+-- What holds of each line of the log holds of what Scope judges.
 use Rattle.name_rules.specs.Found.{denote, scalar, value_denoted}
 use Rattle.name_rules.specs.Symbols.{ada_name, integer_io_name, symbol, text_io_name}
 use Rattle.name_rules.specs.declared.found.Denoted.TheVariants as denoted

@@ -1,4 +1,4 @@
--- What is judged by the rules of Statements keeps what each line of the log keeps.
+-- What holds of each line of the log holds of what Statements judges.
 use Rattle.ada_base.specs.declared.reason.Reason.{Reason}
 use Rattle.name_rules.specs.Cases.{Covering, case_choices, handled_by}
 use Rattle.name_rules.specs.Declarations.{declarations}

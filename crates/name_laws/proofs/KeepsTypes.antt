@@ -1,4 +1,4 @@
--- What is judged by the rules of Types keeps what each line of the log keeps.
+-- What holds of each line of the log holds of what Types judges.
 use Rattle.name_rules.specs.declared.log.Shape.TheVariants as shape
 use Rattle.name_rules.specs.declared.log.Shape.{Shape}
 use Rattle.name_rules.specs.declared.types.Subtype.TheVariants as subtype

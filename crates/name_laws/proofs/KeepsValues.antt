@@ -1,4 +1,4 @@
--- What is judged by the rules of Values keeps what each line of the log keeps.
+-- What holds of each line of the log holds of what Values judges.
 use Rattle.name_rules.specs.Found.{Found}
 use Rattle.name_rules.specs.Types.{check_at, class_of, in_base, is_integer, same}
 use Rattle.name_rules.specs.declared.found.Found.TheVariants as known
