@@ -20,7 +20,7 @@ use Rattle.name_rules.specs.declared.log.Rule.{Rule}
 use Rattle.name_rules.specs.declared.log.Rule.TheVariants.{Limit}
 use Rattle.name_rules.specs.declared.scope.Context.{Context}
 use Rattle.name_rules.specs.declared.scope.Names.{Names}
-use Rattle.name_symbols.specs.Naming.{one_sub, sub_count}
+use Rattle.name_symbols.specs.Naming.{names_of, one_sub, sub_count}
 use Rattle.name_laws.proofs.KeepsPrograms.{k-program}
 use Rattle.name_laws.proofs.Sides.{apart, begins_above, own_cells}
 use Rattle.name_laws.proofs.Walk.{Walk}
@@ -148,7 +148,9 @@ lie names text program h =
     (all-lie names text (length program.subs) (h.counted ∙ sym (same-subs names text program h)))
 
 pub cells_law : CellsLaw
+unfolding names_of
 cells_law = record {
+  counted = λ t text. refl;
   lie = lie;
   apart = λ names text program h i j a b e f differ s cell k m. apart program.objects (first_cell (length program.subs)) i j a b (lie names text program h) e f differ s cell k m;
   threads = λ names text program h i a e less. omega (arith, begins_above program.objects (first_cell (length program.subs)) i a (lie names text program h) e, own_cells (length program.subs) a.owner less);
