@@ -78,9 +78,8 @@ around_main names cs log = (clauses names outermost cs log).0
 abbrev pub around_units : Names → ℕ → Bool → Context → List Unit' → Log → Context
 around_units names n blocking here us log = (units names n blocking (length here.scope) (record { here = here; decls = Some no_decls; subs = Some [] }) us log).0.here
 
--- The name of the main procedure is no declaration in its own declarative part and statements: it stands there for
--- nothing, unless it is declared there too or is a name of Standard. Apart from the name behind its `end` the rules say
--- nothing of it.
+-- The name of the main procedure is no declaration in its own declarative part and statements: it is undeclared there, unless
+-- it is declared there too or is a name of Standard. Apart from the name behind its `end` the rules say nothing of it.
 pub record MainNameLaw : Type 0 where
   pub undeclared : (names : Names) (n : ℕ) (blocking : Bool) (program : Program) (us : List Unit') (log later : Log)
       → HasNone (symbol names program.main.defined) standard → NoneNamed names (symbol names program.main.defined) (units_names us)
