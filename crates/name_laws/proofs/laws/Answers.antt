@@ -1,0 +1,28 @@
+use Rattle.name_laws.proofs.laws.Goals as goal
+use Rattle.name_laws.proofs.Constants.{constants_law}
+use Rattle.name_laws.proofs.Lying.{cells_law}
+use Rattle.name_laws.proofs.Lookups.{hiding_law}
+use Rattle.name_laws.proofs.Numbering.{symbol_law}
+use Rattle.name_laws.proofs.Scopes.{scope_law}
+use Rattle.name_laws.proofs.Own.{main_name_law, own_name_law}
+
+pub returns-clause-hiding : goal.returns-clause-hiding
+returns-clause-hiding c = hiding_law
+
+pub returns-clause-scopes : goal.returns-clause-scopes
+returns-clause-scopes c = scope_law
+
+pub returns-clause-own_name : goal.returns-clause-own_name
+returns-clause-own_name c = own_name_law
+
+pub returns-clause-main_name : goal.returns-clause-main_name
+returns-clause-main_name c = main_name_law
+
+pub returns-clause-cells : goal.returns-clause-cells
+returns-clause-cells c = cells_law
+
+pub returns-clause-symbols : goal.returns-clause-symbols
+returns-clause-symbols c = symbol_law
+
+pub returns-clause-constants : goal.returns-clause-constants
+returns-clause-constants c = constants_law

@@ -1,0 +1,5 @@
+pub mod Hiding
+pub mod OwnNames
+pub mod Cells
+pub mod Alike
+pub mod Constants

@@ -1,0 +1,26 @@
+//! Laws of the definitions of names and types. Every function here has no body: its contract is what is proved.
+#![tactic(auto)]
+
+ghost use Rattle.name_laws.specs.Alike.{SymbolLaw};
+ghost use Rattle.name_laws.specs.Cells.{CellsLaw};
+ghost use Rattle.name_laws.specs.Constants.{ConstantsLaw};
+ghost use Rattle.name_laws.specs.Hiding.{HidingLaw, ScopeLaw};
+ghost use Rattle.name_laws.specs.OwnNames.{MainNameLaw, OwnNameLaw};
+
+/// Laws of all programs.
+/// - hiding: a simple name stands for the last declaration of its name in scope, which isn't visible before it ends (8.3).
+/// - scopes: declarations put declarations of their own identifiers into scope, and leave other names as they were (8.2).
+/// - own_name: a subprogram's name is visible in its body, unless it is hidden there (6.1).
+/// - main_name: the main procedure's name isn't visible in its declarative part and statements.
+/// - cells: different objects of one owner have different cells (3.3).
+/// - constants: the value of a static constant lies in its subtype (4.9).
+/// - symbols: two identifiers have one symbol exactly where they are spelled alike but for the case of letters (2.3).
+pub fn laws()
+    ensures hiding { HidingLaw }
+    ensures scopes { ScopeLaw }
+    ensures own_name { OwnNameLaw }
+    ensures main_name { MainNameLaw }
+    ensures cells { CellsLaw }
+    ensures constants { ConstantsLaw }
+    ensures symbols { SymbolLaw }
+{}
