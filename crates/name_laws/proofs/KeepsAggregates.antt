@@ -26,7 +26,7 @@ use Rattle.ada_typed.specs.Decoded as part
 use Rattle.std.specs.Prelude.{Bool, List, None, Option, Some, [], drop, false, if◌then◌else◌, length, not, option_map, pos, true, ℕ, ℤ, ◌&&◌, ◌*◌, ◌++◌, ◌+ℤ◌, ◌+◌, ◌==◌, ◌||◌, ◌∷◌}
 use Rattle.ada_typed.specs.Decoded.{Part as TypedPart, as_associations}
 use Rattle.name_rules.specs.Judging.{◌>>=◌, breaks, fault, given, joined, pure, some, unless, where_clean}
-use Rattle.name_rules.specs.Aggregates.{Contents, ByPosition, ByAssociation, aggregate_part, field_run, field_value, fields_value, some_fields, Filling, filling, by_position, has_symbol, without, one_field, named_field, first_of_choice, value_choice, field_choice, field_choices, is_alone, record_assoc, is_final, record_assocs, record_values, record_rest, record_parts, filled, sorted, left_open, runs_of, with_runs, Placing, with_ranges, with_rest, nothing_placed, Component, Choosing', also_chosen, as_rest, array_choice, array_choices, index_what, of_index_type, array_assoc, array_assocs, array_values, array_rest, array_placed, non_empty, covered_alone, covered, dimension_of, no_aggregate, inner_value, inner_aggregate, is_last, component_at, array_at, array_of, composite_at, exprs_alone, optional_alone, assoc_value, assocs_alone, contents_alone, composite_found, rest_found, aggregate}
+use Rattle.name_rules.specs.Aggregates.{Contents, ByPosition, ByAssociation, aggregate_part, field_run, field_value, fields_value, some_fields, Filling, filling, by_position, has_symbol, without, one_field, named_field, first_of_choice, value_choice, field_choice, field_choices, is_alone, record_assoc, is_final, record_assocs, record_values, record_rest, record_parts, filled, runs_of, with_runs, Placing, with_ranges, with_rest, nothing_placed, Component, Choosing', also_chosen, as_rest, array_choice, array_choices, index_what, of_index_type, array_assoc, array_assocs, array_values, array_rest, array_placed, gaps_of, covered_alone, covered, dimension_of, no_aggregate, inner_value, inner_aggregate, is_last, component_at, array_at, array_of, composite_at, exprs_alone, optional_alone, assoc_value, assocs_alone, contents_alone, composite_found, rest_found, aggregate}
 use Rattle.name_laws.proofs.Walk.{Walk, Keeps, k-pure, k-some, k-bind, k-fault, k-breaks, k-unless, k-read, k-if, k-given, k-where_clean}
 use Rattle.name_laws.proofs.Walked.{KeepsInside}
 use Rattle.name_laws.proofs.KeepsExpressions.{k-expr, k-judged_alone, k-value_for}
@@ -160,7 +160,7 @@ k-covered walk bracket d apart cells p (Some os) (Some v) = k-pure walk (option_
 
 pub k-dimension_of : (walk : Walk) (x0 : Names) (x1 : Inside) (x2 : Context) (x3 : ℕ) (x4 : Component) (x5 : Dimension) (x6 : ℕ) (x7 : Contents) → walk.Takes x0 → KeepsInside walk x1 → ((here : Context) (e : Expr) → Keeps walk (x4 here e)) → Keeps walk (dimension_of x0 x1 x2 x3 x4 x5 x6 x7)
 unfolding dimension_of
-k-dimension_of walk names level here bracket component d apart ps keeps1 keeps2 keeps3 = k-where_clean walk (array_placed names level here component d apart ps) (λ p. covered bracket d apart (extent d * apart) p (left_open d.low d.high (sorted (non_empty p.ranges))) p.rest) (k-array_placed walk names level here component d apart ps keeps1 keeps2 keeps3) (λ p. k-covered walk bracket d apart (extent d * apart) p (left_open d.low d.high (sorted (non_empty p.ranges))) p.rest)
+k-dimension_of walk names level here bracket component d apart ps keeps1 keeps2 keeps3 = k-where_clean walk (array_placed names level here component d apart ps) (λ p. covered bracket d apart (extent d * apart) p (gaps_of d.low d.high p.ranges) p.rest) (k-array_placed walk names level here component d apart ps keeps1 keeps2 keeps3) (λ p. k-covered walk bracket d apart (extent d * apart) p (gaps_of d.low d.high p.ranges) p.rest)
 
 pub k-no_aggregate : (walk : Walk) (x0 : Names) (x1 : Inside) (x2 : Context) (x3 : Expr) → walk.Takes x0 → KeepsInside walk x1 → Keeps walk (no_aggregate x0 x1 x2 x3)
 k-no_aggregate walk names level here e keeps1 keeps2 = k-bind walk (expr names level here wanted.Other e) (λ x. given x (λ f. fault (first_token.of_expr e) WrongType)) (k-expr walk names level here wanted.Other e keeps1 keeps2) (λ x. k-given walk x (λ f. fault (first_token.of_expr e) WrongType) (λ f. k-fault walk (first_token.of_expr e) WrongType))

@@ -3,7 +3,7 @@ use Rattle.ada_base.specs.declared.operation.Op.TheVariants as op
 use Rattle.ada_base.specs.declared.operation.Op.{Op}
 use Rattle.name_rules.specs.Calls.{arg_names, operands}
 use Rattle.name_rules.specs.Expressions.{Inside}
-use Rattle.name_rules.specs.Found.{Denoted, Found, denote, static, universal, value_denoted}
+use Rattle.name_rules.specs.Found.{Denoted, Found, denote, parameter_found, static, universal, value_denoted}
 use Rattle.name_rules.specs.Names.{denoted_first, wrong_call}
 use Rattle.name_rules.specs.Types.{extent, is_integer}
 use Rattle.name_rules.specs.Values.{asked, first_of, is_number, mentions_of, own_kind, static_of_kind}
@@ -127,6 +127,7 @@ k-reduced_alone walk first at false = k-fault walk at ReduceRule
 
 pub k-alone : (walk : Walk) (x0 : ℕ) (x1 : Prefix) (x2 : TypedPart) (x3 : ℕ) (x4 : Attribute) → Keeps walk (alone x0 x1 x2 x3 x4)
 k-alone walk first (prefix.Object p) x at attribute'.Image = k-object_image walk first p x p.subtype
+k-alone walk first (prefix.Parameter s) x at attribute'.Image = k-one_given walk s.kind (image_text first s.kind) (parameter_found first s x)
 k-alone walk first p x at a = k-if walk (is_bound a) (bound_alone first p x a) (if is_reduction a then (read (λ log. is_array_object log p) >>= reduced_alone first at) else fault first WrongType) (k-bound_alone walk first p x a) (k-if walk (is_reduction a) ((read (λ log. is_array_object log p) >>= reduced_alone first at)) (fault first WrongType) (k-bind walk (read (λ log. is_array_object log p)) (reduced_alone first at) (k-read walk (λ log. is_array_object log p)) (λ z2. k-reduced_alone walk first at z2)) (k-fault walk first WrongType))
 
 pub k-settled_form : (walk : Walk) (x0 : KnownDenoted) (x1 : TypedPart) → Keeps walk (settled_form x0 x1)

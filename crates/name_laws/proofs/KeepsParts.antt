@@ -1,7 +1,7 @@
 -- What holds of each line of the log holds of what Parts judges.
 use Rattle.name_rules.specs.Attributes.{attribute_at, attribute_found, bound_with, dimensions_in, is_array_object, is_bound, is_reduction, mentioned, prefix_subtype, settled_attribute}
 use Rattle.name_rules.specs.Expressions.{Inside, expr}
-use Rattle.name_rules.specs.Found.{Denoted, denote}
+use Rattle.name_rules.specs.Found.{Denoted, denote, parameter_found}
 use Rattle.name_rules.specs.Names.{args_alone, denoted_first, field, wrong_call}
 use Rattle.name_rules.specs.Reducers.{folded_by, reducer_of}
 use Rattle.name_rules.specs.Scope.{stands_for}
@@ -152,6 +152,7 @@ k-valued_by walk names inside here d keeps1 keeps2 = k-valued_form walk names in
 
 pub k-value_form : (walk : Walk) (x0 : KnownDenoted) (x1 : TypedPart) → Keeps walk (value_form x0 x1)
 k-value_form walk (denoted.Value f) x = k-some walk (record { known = f; part = x })
+k-value_form walk (denoted.Parameter first s) x = k-some walk (parameter_found first s x)
 k-value_form walk d x = k-fault walk (denoted_first d) WrongType
 
 pub k-value_named : (walk : Walk) (x0 : Names) (x1 : Inside) (x2 : Context) (x3 : Name) → walk.Takes x0 → KeepsInside walk x1 → Keeps walk (value_named x0 x1 x2 x3)

@@ -3,11 +3,11 @@ use Rattle.name_rules.specs.Aggregates.{ByPosition, contents}
 use Rattle.name_rules.specs.Attributes.{alone}
 use Rattle.name_rules.specs.Expressions.{Inside, condition, expr, in_place}
 use Rattle.ada_tree.specs.FirstTokens as first_token
-use Rattle.name_rules.specs.Found.{Found, opened, scalar, text_found, universal}
+use Rattle.name_rules.specs.Found.{Found, opened, scalar, static, text_found, universal}
 use Rattle.name_rules.specs.Operators.{open_of}
 use Rattle.name_rules.specs.Parts.{value_named}
 use Rattle.name_rules.specs.Symbols.{number, text}
-use Rattle.name_rules.specs.Values.{asked, composite_asked, kind_of}
+use Rattle.name_rules.specs.Values.{asked, composite_asked, kind_of, mentions_of, value_of}
 use Rattle.name_rules.specs.declared.found.Found.TheVariants as known
 use Rattle.name_rules.specs.declared.found.Found.{Found as Known}
 use Rattle.name_rules.specs.declared.log.Rule.TheVariants.{Limit, NotVisible, WrongType}
@@ -22,11 +22,11 @@ use Rattle.ada_tree.specs.Syntax as syntax
 use Rattle.ada_tree.specs.Syntax.{Elsifs, Expr, Primary}
 use Rattle.ada_typed.specs.Decoded as part
 use Rattle.ada_typed.specs.Syntax as typed
-use Rattle.std.specs.Prelude.{List, None, Option, Some, [], false, option_map, suc, true, zero, ℕ, ◌∷◌}
+use Rattle.std.specs.Prelude.{List, None, Option, Some, [], false, option_map, suc, true, zero, ℕ, ℤ, ◌∷◌}
 use Rattle.name_rules.specs.TypedParts.{left_of, right_of, also}
 use Rattle.ada_typed.specs.Decoded.{Part as TypedPart, as_expr}
 use Rattle.name_rules.specs.Judging.{given, joined, pure, some}
-use Rattle.name_rules.specs.Primaries.{composite_in, Waiting, alternative, alternatives, common, common_composite, if_part, with_known, scalar_ifs, scalar_if, composite_part, composite_ifs, composite_if, open_ifs, open_if, conditional, no_text, if_expr, grouped_scalar, grouped_form, grouped, target_found, target_at, text_at, primary, level_above, too_deep, inside}
+use Rattle.name_rules.specs.Primaries.{composite_in, Waiting, alternative, alternatives, common, common_composite, if_part, with_known, scalar_ifs, scalar_if, composite_part, composite_ifs, composite_if, open_ifs, open_if, conditional, no_text, if_expr, grouped_scalar, grouped_by, grouped_form, grouped, target_found, target_at, text_at, primary, level_above, too_deep, inside}
 use Rattle.name_laws.proofs.Walk.{Walk, Keeps, k-pure, k-some, k-bind, k-fault, k-given, k-both}
 use Rattle.name_laws.proofs.Walked.{KeepsInside}
 use Rattle.name_laws.proofs.KeepsAggregates.{k-aggregate}
@@ -103,12 +103,15 @@ k-grouped_scalar walk bracket f (Some k) n = k-bind walk (asked k f) (λ x. give
 k-grouped_scalar walk bracket f None (Some n) = k-bind walk (composite_asked n f) (λ c. pure (option_map (with_known (known.Composite bracket n)) c)) (k-composite_asked walk n f) (λ c. k-pure walk (option_map (with_known (known.Composite bracket n)) c))
 k-grouped_scalar walk bracket f None None = k-pure walk None
 
+pub k-grouped_by : (walk : Walk) (x0 : ℕ) (x1 : Found) (x2 : Option Kind) (x3 : Option ℤ) → Keeps walk (grouped_by x0 x1 x2 x3)
+k-grouped_by walk bracket f (Some k) (Some z) = k-some walk (static bracket k z (mentions_of f))
+k-grouped_by walk bracket f k z = k-grouped_scalar walk bracket f k (composite_in f.known)
+
 pub k-grouped_form : (walk : Walk) (x0 : ℕ) (x1 : Known) (x2 : TypedPart) → Keeps walk (grouped_form x0 x1 x2)
 k-grouped_form walk bracket (known.Universal first z alone) x = k-some walk (with_known (known.Universal bracket z false) x)
 k-grouped_form walk bracket (known.Open first l) x = k-some walk (opened bracket l (typed.Group (as_expr x)))
-k-grouped_form walk bracket (known.Static first k z) x = k-some walk (with_known (known.Static bracket k z) x)
 k-grouped_form walk bracket (known.Text first) x = k-some walk (with_known (known.Text bracket) x)
-k-grouped_form walk bracket f x = k-grouped_scalar walk bracket (with_known f x) (kind_of f) (composite_in f)
+k-grouped_form walk bracket f x = k-grouped_by walk bracket (with_known f x) (kind_of f) (value_of f)
 
 pub k-grouped : (walk : Walk) (x0 : ℕ) (x1 : Found) → Keeps walk (grouped x0 x1)
 unfolding grouped

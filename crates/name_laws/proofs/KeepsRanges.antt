@@ -107,7 +107,7 @@ pub k-inside_subtype : (walk : Walk) (x0 : Scalar) (x1 : Found) (x2 : ℤ) → K
 k-inside_subtype walk s b z = k-unless walk (lies_in s z) (first_of b.known) StaticRange
 
 pub k-checked_span : (walk : Walk) (x0 : ℕ) (x1 : Bool) (x2 : Scalar) (x3 : Found) (x4 : Found) (x5 : ℤ × ℤ) → Keeps walk (checked_span x0 x1 x2 x3 x4 x5)
-k-checked_span walk first must_hold s a z r = k-if walk (not must_hold && not (int_le r.0 r.1)) (some (of_static a z (dimension s.kind r))) ((inside_subtype s a r.0 >>= λ u. inside_subtype s z r.1 >>= λ v. if lies_in s r.0 && lies_in s r.1 then spanned first must_hold s.kind a z r else pure None)) (k-some walk (of_static a z (dimension s.kind r))) (record { at = λ log. let out1 = inside_subtype s a r.0 log in let out2 = inside_subtype s z r.1 out1.1 in walk.joins _ _ _ ((k-inside_subtype walk s a r.0).at log) (walk.joins _ _ _ ((k-inside_subtype walk s z r.1).at out1.1) ((k-if walk (lies_in s r.0 && lies_in s r.1) (spanned first must_hold s.kind a z r) (pure None) (k-spanned walk first must_hold s.kind a z r) (k-pure walk None)).at out2.1)) })
+k-checked_span walk first must_hold s a z r = k-if walk (not (int_le r.0 r.1)) (spanned first must_hold s.kind a z r) ((inside_subtype s a r.0 >>= λ u. inside_subtype s z r.1 >>= λ v. if lies_in s r.0 && lies_in s r.1 then spanned first must_hold s.kind a z r else pure None)) (k-spanned walk first must_hold s.kind a z r) (record { at = λ log. let out1 = inside_subtype s a r.0 log in let out2 = inside_subtype s z r.1 out1.1 in walk.joins _ _ _ ((k-inside_subtype walk s a r.0).at log) (walk.joins _ _ _ ((k-inside_subtype walk s z r.1).at out1.1) ((k-if walk (lies_in s r.0 && lies_in s r.1) (spanned first must_hold s.kind a z r) (pure None) (k-spanned walk first must_hold s.kind a z r) (k-pure walk None)).at out2.1)) })
 
 pub k-static_by : (walk : Walk) (x0 : ℕ) (x1 : Bool) (x2 : Found) (x3 : Found) (x4 : Kind) → Keeps walk (static_by x0 x1 x2 x3 x4)
 k-static_by walk first must_hold a z k = k-if walk (not (is_number a.known)) (fault (first_of a.known) WrongType) (if not (suits k a.known && suits k z.known) then fault (first_of z.known) WrongType else (both_static k a z >>= λ s. given s (spanned first must_hold k a z))) (k-fault walk (first_of a.known) WrongType) (k-if walk (not (suits k a.known && suits k z.known)) (fault (first_of z.known) WrongType) ((both_static k a z >>= λ s. given s (spanned first must_hold k a z))) (k-fault walk (first_of z.known) WrongType) (k-bind walk (both_static k a z) (λ s. given s (spanned first must_hold k a z)) (k-both_static walk k a z) (λ s. k-given walk s (spanned first must_hold k a z) (λ z1. k-spanned walk first must_hold k a z z1))))

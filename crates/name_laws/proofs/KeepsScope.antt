@@ -1,5 +1,5 @@
 -- What holds of each line of the log holds of what Scope judges.
-use Rattle.name_rules.specs.Found.{denote, scalar, value_denoted}
+use Rattle.name_rules.specs.Found.{denote}
 use Rattle.name_rules.specs.Symbols.{ada_name, integer_io_name, symbol, text_io_name}
 use Rattle.name_rules.specs.declared.found.Denoted.TheVariants as denoted
 use Rattle.name_rules.specs.declared.found.Denoted.{Denoted as KnownDenoted}
@@ -38,7 +38,7 @@ k-stands walk here token name None = k-undeclared walk here token name
 k-stands walk here token name (Some what.Hidden) = k-fault walk token NotVisible
 k-stands walk here token name (Some what.Broken) = k-pure walk None
 k-stands walk here token name (Some (what.Object n s v z)) = k-named walk (denoted.Value (known.Object (object token n s v z)))
-k-stands walk here token name (Some (what.Parameter n s)) = k-some walk (value_denoted (scalar token s.kind (Some s) (typed.Parameter token n)))
+k-stands walk here token name (Some (what.Parameter n s)) = k-some walk (denote (denoted.Parameter token s) (part.AnExpr (typed.Parameter token n)))
 k-stands walk here token name (Some (what.Item n s v)) = k-named walk (denoted.Value (known.Object (item token n s v)))
 k-stands walk here token name (Some (what.Number z)) = k-named walk (denoted.Value (known.Universal token z false))
 k-stands walk here token name (Some (what.Boolean b)) = k-named walk (denoted.Value (known.Static token kind.Boolean (bit b)))
