@@ -459,3 +459,37 @@ fn programs_that_read(rt: HostRuntime) -> Result<(), Fail> {
     }
     Ok(())
 }
+
+const READS_AND_WRITES: &str = "with Ada.Text_IO, Ada.Integer_Text_IO;\n\
+    use Ada.Text_IO, Ada.Integer_Text_IO;\nprocedure Main is\nX : Integer;\nbegin\n\
+    for I in 1 .. 2 loop Get (X); Put_Line (Integer'Image (X)); end loop;\nend Main;\n";
+
+fn fails_at(next: Option<u64>, out: Option<(u64, u64)>) -> Faults {
+    Faults { next, out, ..NONE }
+}
+
+// The input is asked for `7`, the space, `8` and the end; two lines are put.
+#[test]
+fn each_call_of_a_device_may_fail(rt: HostRuntime) -> Result<(), Fail> {
+    let cases = [
+        (fails_at(Some(0), None), "", "read fault\n", 6),
+        (fails_at(Some(1), None), "", "read fault\n", 6),
+        (fails_at(Some(2), None), " 7\n", "read fault\n", 6),
+        (fails_at(Some(3), None), " 7\n", "read fault\n", 6),
+        (fails_at(Some(4), None), " 7\n 8\n", "", 0),
+        (fails_at(None, Some((0, 0))), "", "write fault\n", 7),
+        (fails_at(None, Some((0, 2))), " 7", "write fault\n", 7),
+        (fails_at(None, Some((1, 1))), " 7\n ", "write fault\n", 7),
+        (fails_at(None, Some((2, 0))), " 7\n 8\n", "", 0),
+        (fails_at(Some(2), Some((0, 1))), " ", "write fault\n", 7),
+    ];
+    for (faults, out, err, status) in cases {
+        expect_with(
+            &rt,
+            rt.alloc(),
+            ("run t.ada", READS_AND_WRITES, "7 8", faults),
+            (out, err, status),
+        )?;
+    }
+    Ok(())
+}
