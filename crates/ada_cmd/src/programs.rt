@@ -302,8 +302,6 @@ const EXCEPTIONS: &str = "\
 ~~Z : Integer := 0;~while 1 / Z > 0 loop null; end loop; exception when Constraint_Error => Put (\"h\");~~0~h~
 --vars~~Z, N : Integer := 0;~for I in 1 .. 9 loop N := N + 10 / (3 - I); end loop; exception when Constraint_Error => Z := 1;~~0~Z = 1|N = 15|~
 ~~E : exception; procedure P (N : Integer) is begin if N = 0 then raise E; end if; P (N - 1); exception when E => Put (N, Width => 1); if N < 2 then raise; end if; end P;~P (4);~~0~012~
-~~function Down (N : Natural) return Natural is begin if N <= 1 then return 1; else return 1 + Down (N - 1); end if; end Down;~Put_Line (Integer'Image (Down (1000))); begin Put_Line (Integer'Image (Down (1001))); exception when Storage_Error => Put_Line (\"deep\"); end;~~0~ 1000|deep|~
-~~procedure P is begin P; end P;~P;~~4~~unhandled STORAGE_ERROR|
 ~~~declare Local : exception; begin raise Local; exception when Local => Put (\"l\"); end; declare Late : exception; begin raise Late; end;~~4~l~unhandled Late|
 ~~E : exception;~begin declare E : exception; begin raise E; end; exception when E => Put (\"outer\"); when others => Put (\"inner\"); end;~~0~inner~
 ";

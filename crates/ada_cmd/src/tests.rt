@@ -410,20 +410,21 @@ fn programs_that_run(rt: HostRuntime) -> Result<(), Fail> {
 }
 
 const DOWN: &str = "function Down (N : Natural) return Natural is begin if N <= 1 then return 1; \
-    else return 1 + Down (N - 1); end if; end Down;";
+    else return 1 + Down (N - 1); end if; end Down; procedure P is begin P; end P;";
 
 #[test]
 fn a_thousand_calls_may_be_active(rt: HostRuntime) {
     let started = Builder::new().stack_size(1 << 30).spawn(&rt, move || {
         let statements = "Put_Line (Natural'Image (Down (1000))); \
             begin Put_Line (Natural'Image (Down (1001))); \
-            exception when others => Put_Line (\"deep\"); end;";
+            exception when others => Put_Line (\"deep\"); end; \
+            begin P; exception when Storage_Error => Put_Line (\"again\"); end;";
         match program(rt.alloc(), DOWN, statements) {
             Ok(text) => expect(
                 &rt,
                 rt.alloc(),
                 ("run t.ada", text.as_str(), NONE),
-                (" 1000\ndeep\n", "", 0),
+                (" 1000\ndeep\nagain\n", "", 0),
             )
             .is_ok(),
             Err(_) => false,
