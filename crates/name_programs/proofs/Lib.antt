@@ -1,7 +1,13 @@
-mod Levels
+pub mod Contexts
+mod FromPlaces
 mod Lists
+mod Mentions
+pub mod Nested
 mod Options
 mod Outcomes
+mod Rooms
 mod Scopes
+pub mod StatementLevels
+mod SubprogramLevels
 mod Subs
 mod Wholes
