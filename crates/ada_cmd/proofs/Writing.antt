@@ -5,8 +5,8 @@ use Rattle.std.proofs.lemmas.List.{drop_more}
 use Rattle.std.proofs.lemmas.Option.{get_or_from_slice_get, slice_get_within}
 use Rattle.std.specs.Prelude.{slice_get}
 use Rattle.ada_port.specs.Ports.{Stream, Grows}
-use Rattle.ada_stored.specs.Stored.{final_of, finals_of}
-use Rattle.ada_stored.specs.declared.slots.Variable.{Variable}
+use Rattle.ada_meaning.specs.Stored.{final_of, finals_of}
+use Rattle.ada_meaning.specs.declared.slots.Variable.{Variable}
 use Rattle.ada_typed.specs.Syntax.{Program}
 use Rattle.ada_run.specs.declared.unit.Final.{Final}
 use Rattle.ada_cmd.specs.Puts.{Puts, Putting}

@@ -2,7 +2,7 @@
 
 ghost use Rattle.std.specs.Prelude.{◌≡◌, ◌∷◌, ◌++◌, take, drop, length, true, IfOk};
 ghost use Rattle.ada_meaning.specs.Meaning.{object_layout};
-ghost use Rattle.ada_stored.specs.Stored.{filled, final_of, finals_of};
+ghost use Rattle.ada_meaning.specs.Stored.{filled, final_of, finals_of};
 ghost use Rattle.ada_typed.specs.Programs.{program};
 ghost use Rattle.ada_run.specs.Running.{values_of};
 ghost use Rattle.ada_cmd.specs.Puts.{Puts};
@@ -10,9 +10,9 @@ ghost use Rattle.ada_cmd.specs.Vars.{cell_text, cells_text, first_or_zero, vars_
 
 use ada_base::Items;
 use ada_io::truth_image;
+use ada_meaning::Variable;
 use ada_port::Sink;
 use ada_run::{Final, Finals, Unit};
-use ada_stored::Variable;
 use ada_typed::Typed;
 use run_store::{cells_of, is_true};
 use std::alloc::{AllocError, Global};

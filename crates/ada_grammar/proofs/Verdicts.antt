@@ -10,7 +10,7 @@ use Rattle.ada_tree.specs.Grammar.{ProgramWords}
 use Rattle.ada_tree.specs.Parsed.{IsParsed, IsSyntaxFault, IsTooDeep, depth_limit}
 use Rattle.ada_base.specs.TokenKinds.{kinds_of}
 use Rattle.ada_tree.specs.Syntax.{Program}
-use Rattle.tree_views.specs.Trees.{Table, program_of}
+use Rattle.tree_nodes.specs.Trees.{Table, program_of}
 use Rattle.reader_exactness.proofs.Units.{one_program}
 use Rattle.ada_grammar.specs.Parsed.{Parsed, GivesTree, GivesFault, GivesTooDeep}
 use Rattle.ada_grammar.specs.declared.parser.ParseFault.{ParseFault}

@@ -7,7 +7,7 @@ use Rattle.reader_combinators.specs.declared.fault.Refusal.{Refusal}
 use Rattle.ada_tree.specs.Grammar.{ProgramWords}
 use Rattle.ada_tree.specs.Parsed.{IsParsed, IsSyntaxFault, IsTooDeep, depth_limit, is_left_out}
 use Rattle.ada_tree.specs.Syntax.{Program}
-use Rattle.tree_views.specs.Trees.{Table, program_of}
+use Rattle.tree_nodes.specs.Trees.{Table, program_of}
 use Rattle.ada_grammar.specs.declared.parser.ParseFault.{ParseFault}
 use Rattle.ada_grammar.specs.declared.parser.ParseFault.TheVariants.{LeftOut, Unexpected, TooDeep, OutOfMemory}
 

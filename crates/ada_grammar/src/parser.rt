@@ -17,8 +17,7 @@ use reader_combinators::{Cursor, Refusal, verdict};
 use statement_parser::program;
 use std::alloc::{AllocError, Global};
 use thiserror::Error;
-use tree_nodes::Parts;
-use tree_views::{Tree, finish};
+use tree_nodes::{Parts, Tree, finish};
 
 /// How deep a token of a program may stand.
 const DEPTH_LIMIT: u32 = 64;

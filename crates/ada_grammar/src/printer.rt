@@ -3,13 +3,13 @@
 ghost use Rattle.std.specs.Prelude.{◌≡◌, ◌≤◌, length, string_bytes, IfOk};
 ghost use Rattle.ada_tree.specs.Faults.{byte_limit};
 ghost use Rattle.canonical_text.specs.Canonical.{canonical};
-ghost use Rattle.tree_views.specs.Trees.{program_of};
+ghost use Rattle.tree_nodes.specs.Trees.{program_of};
 ghost use Rattle.ada_grammar.specs.Printed.{IsPrintable, IsReadAgain};
 
 use ada_base::Tokens;
 use canonical_text::canonical_text;
 use std::alloc::{AllocError, Global};
-use tree_views::Tree;
+use tree_nodes::Tree;
 
 /// The canonical text of a program, which is given by its tokens and its tree. The error is for want of memory.
 /// Where the text is within the limit of bytes, its tokens have the same tree.

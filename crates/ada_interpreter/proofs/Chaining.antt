@@ -7,7 +7,7 @@ use Rattle.ada_typed.specs.Syntax.{Expr}
 use Rattle.ada_typed.specs.Decoded.{part_at}
 use Rattle.ada_typed.specs.Chained.{applied, linked, right_of, AreBelow}
 use Rattle.ada_meaning.specs.Meaning.{Env}
-use Rattle.ada_stored.specs.Stored.{Stored, After, Fault, MemoryFault, Stops, State, next, next_halts, bind}
+use Rattle.ada_meaning.specs.Stored.{Stored, After, Fault, MemoryFault, Stops, State, next, next_halts, bind}
 use Rattle.run_store.specs.declared.ends.End.{End}
 use Rattle.run_store.specs.Shows.{Image, Goes, Shows}
 use Rattle.run_store.proofs.Going.{goes_refl, goes_instead, goes_then, goes_ends, goes_shows}

@@ -9,9 +9,9 @@ use Rattle.ada_typed.specs.declared.expressions.Reducer.{Reducer}
 use Rattle.ada_typed.specs.Decoded.{expr_at, iteration_at, stmts_at, arms_at}
 use Rattle.ada_meaning.specs.Meaning as meaning
 use Rattle.ada_meaning.specs.Meaning.{Env, Course, inside}
-use Rattle.ada_stored.specs.Stored
-use Rattle.ada_stored.specs.Stored.{Stored, threads, first_of_both, bind, ret}
-use Rattle.ada_stored.proofs.Computing.{through_more, through_done}
+use Rattle.ada_meaning.specs.Stored
+use Rattle.ada_meaning.specs.Stored.{Stored, threads, first_of_both, bind, ret}
+use Rattle.ada_meaning.proofs.Computing.{through_more, through_done}
 use Rattle.run_store.specs.declared.ends.End.{End}
 use Rattle.run_store.specs.declared.ends.End.TheVariants as end
 use Rattle.run_store.specs.Shows.{Image, Goes, ShowsAs, Shows}

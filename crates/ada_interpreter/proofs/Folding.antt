@@ -6,10 +6,10 @@ use Rattle.behaviours.specs.Joins.{Share, deal}
 use Rattle.ada_typed.specs.Decoded.{iteration_at}
 use Rattle.ada_meaning.specs.Meaning as meaning
 use Rattle.ada_meaning.specs.Meaning.{Env, Course, inside}
-use Rattle.ada_stored.specs.Stored
-use Rattle.ada_stored.specs.Stored.{Stored, doings, bind, par, threads, after_all}
+use Rattle.ada_meaning.specs.Stored
+use Rattle.ada_meaning.specs.Stored.{Stored, doings, bind, par, threads, after_all}
 use Rattle.ada_base.specs.Cuts.{cuts_of}
-use Rattle.ada_stored.proofs.Computing.{through_more, through_done}
+use Rattle.ada_meaning.proofs.Computing.{through_more, through_done}
 use Rattle.run_store.specs.Shows.{Image, Goes, Shows}
 use Rattle.run_store.specs.declared.ends.End.{End}
 use Rattle.run_store.proofs.Going.{goes_refl, goes_instead, goes_then, goes_ends, goes_gives, then_shows, same_shows}

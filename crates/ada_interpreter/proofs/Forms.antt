@@ -10,7 +10,7 @@ use Rattle.ada_meaning.specs.Values.{is_in, count}
 use Rattle.ada_meaning.specs.Operations.{RangeCheck}
 use Rattle.ada_meaning.specs.Meaning as meaning
 use Rattle.ada_meaning.specs.Meaning.{Env, variable_root, with_parameter}
-use Rattle.ada_stored.specs.Stored.{Stored, ret, bind, reads, writes, checks}
+use Rattle.ada_meaning.specs.Stored.{Stored, ret, bind, reads, writes, checks}
 use Rattle.run_store.specs.declared.ends.End.{End}
 use Rattle.run_store.specs.declared.env.Part.{Part}
 use Rattle.run_store.specs.declared.values.Range as code

@@ -1,13 +1,13 @@
 -- Loops that are left, and handlers.
 use Rattle.std.proofs.Common.{◌≡◌, ℕ, ℤ, List, Bool, true, false, ◌&&◌, cond, nat_eq, Option, Some, None, refl, sym, subst, ap, ◌∙◌, inl, inr}
-use Rattle.std.specs.Prelude.{Result, Ok, Err}
+use Rattle.std.specs.Prelude.{Result, Ok, Err, ◌||◌}
 use Rattle.ada_base.specs.declared.reason.Reason.{Reason}
 use Rattle.ada_base.specs.declared.reason.Reason.TheVariants as reason
 use Rattle.behaviours.specs.Paths as paths
 use Rattle.ada_typed.specs.Syntax.{Expr, Stmts, Handlers, NoHandler, Handler, Alternatives, NoAlternative, Alternative}
 use Rattle.ada_meaning.specs.Values.{handles_reason, is_chosen}
 use Rattle.ada_meaning.specs.Meaning.{Env, exits, raises, has_handlers, with_handled, reason_of}
-use Rattle.ada_stored.specs.Stored.{Stored, ret, bind, leaves}
+use Rattle.ada_meaning.specs.Stored.{Stored, ret, bind, leaves}
 use Rattle.run_store.specs.Shows.{Image, Shows, leave_of}
 use Rattle.run_store.specs.declared.ends.End as ends
 use Rattle.run_store.specs.declared.ends.End.TheVariants as end
@@ -19,7 +19,6 @@ use Rattle.run_parts.specs.Found.{found_handler, found_alternative}
 use Rattle.run_parts.specs.Caught.{caught, caught_exit}
 use Rattle.ada_interpreter.specs.Walk as walk
 use Rattle.ada_interpreter.proofs.Looping.{handles_not, handles_so}
-use Rattle.std.specs.Prelude.{◌||◌}
 
 -- ---- exits
 

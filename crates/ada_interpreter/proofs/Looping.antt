@@ -9,8 +9,8 @@ use Rattle.ada_typed.specs.declared.expressions.Iterated.{Iterated}
 use Rattle.ada_meaning.specs.Values.{laid, handles_reason}
 use Rattle.ada_meaning.specs.Meaning as meaning
 use Rattle.ada_meaning.specs.Meaning.{Env, Course, exits, raises, reason_of, has_handlers, with_handled}
-use Rattle.ada_stored.specs.Stored.{Stored, After, Left, OutOfTurns, MemoryFault, InputFault, OutputFault, Fault, Stops, at, State, ret, bind, leaves, spent, handles, handled, handled_halts, doings}
-use Rattle.ada_stored.proofs.Computing.{through_more, through_done}
+use Rattle.ada_meaning.specs.Stored.{Stored, After, Left, OutOfTurns, MemoryFault, InputFault, OutputFault, Fault, Stops, at, State, ret, bind, leaves, spent, handles, handled, handled_halts, doings}
+use Rattle.ada_meaning.proofs.Computing.{through_more, through_done}
 use Rattle.run_store.specs.Shows.{Image, Goes, ShowsAs, Shows, Answers, leave_of}
 use Rattle.run_store.specs.declared.ends.End as ends
 use Rattle.run_store.specs.declared.ends.End.TheVariants as end

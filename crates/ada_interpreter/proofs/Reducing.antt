@@ -12,7 +12,7 @@ use Rattle.ada_meaning.specs.Values.{is_in}
 use Rattle.ada_meaning.specs.Operations.{operate, reduce}
 use Rattle.ada_meaning.specs.Meaning as meaning
 use Rattle.ada_meaning.specs.Meaning.{sub_at}
-use Rattle.ada_stored.specs.Stored.{Stored, doings, checks, ret, bind, leaves}
+use Rattle.ada_meaning.specs.Stored.{Stored, doings, checks, ret, bind, leaves}
 use Rattle.run_store.specs.Shows.{Image, ShowsAs, Shows}
 use Rattle.run_store.specs.declared.ends.End.{End}
 use Rattle.run_store.specs.declared.ends.End.TheVariants as end

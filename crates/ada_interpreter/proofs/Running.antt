@@ -6,8 +6,8 @@ use Rattle.behaviours.specs.Paths as paths
 use Rattle.behaviours.specs.Paths.{Everywhere}
 use Rattle.ada_meaning.specs.Meaning as meaning
 use Rattle.ada_meaning.specs.Meaning.{raises}
-use Rattle.ada_stored.specs.Stored.{State, Stored, Computes, outset, handles, ret}
-use Rattle.ada_stored.proofs.StoredProof.{stored_law}
+use Rattle.ada_meaning.specs.Stored.{State, Stored, Computes, outset, handles, ret}
+use Rattle.ada_meaning.proofs.StoredProof.{stored_law}
 use Rattle.run_store.specs.declared.ends.End.{End}
 use Rattle.run_store.specs.declared.ends.End.TheVariants as end
 use Rattle.run_store.specs.declared.ends.Leave as ends-leave

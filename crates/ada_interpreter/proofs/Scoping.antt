@@ -9,7 +9,7 @@ use Rattle.ada_typed.specs.Programs.{program}
 use Rattle.ada_meaning.specs.Values.{defaults}
 use Rattle.ada_meaning.specs.Meaning as meaning
 use Rattle.ada_meaning.specs.Meaning.{Env, sub_at, object_layout}
-use Rattle.ada_stored.specs.Stored.{Stored, ret, bind, leaves, elaborates, apart}
+use Rattle.ada_meaning.specs.Stored.{Stored, ret, bind, leaves, elaborates, apart}
 use Rattle.run_store.specs.Shows.{Image, ShowsAs, Shows, Begins, finished, Enters, unframed, entity_of}
 use Rattle.run_store.specs.declared.ends.Mark.{Mark}
 use Rattle.run_store.specs.declared.ends.End.{End}

@@ -2,7 +2,7 @@
 use Rattle.std.proofs.Common.{◌≡◌, ℕ, zero, suc, ◌+◌, max, List, [], ◌∷◌, drop, slice_get, Bool, true, false, ◌||◌, cond, Option, Some, None, refl, sym, subst, ap, ◌∙◌, arith}
 use Rattle.std.specs.Prelude.{Result, Ok, Err}
 use Rattle.behaviours.specs.Joins.{Share, deal}
-use Rattle.ada_stored.specs.Stored.{Stored, After, Took, took, Left, at, bind, ret, spent, rewinds, thread, threads, par, is_spent, gathered, first_of_both}
+use Rattle.ada_meaning.specs.Stored.{Stored, After, Took, took, Left, at, bind, ret, spent, rewinds, thread, threads, par, is_spent, gathered, first_of_both}
 use Rattle.run_store.specs.declared.ends.End.{End}
 use Rattle.run_store.specs.declared.ends.End.TheVariants as end
 use Rattle.run_store.specs.declared.ends.Leave.{Leave}

@@ -1,6 +1,6 @@
 -- What code holds of a thread that isn't left.
 use Rattle.std.specs.Prelude.{ℕ, max, ℤ, Option, Some, None, cond}
-use Rattle.ada_stored.specs.Stored as stored
+use Rattle.ada_meaning.specs.Stored as stored
 use Rattle.ada_interpreter.specs.declared.constructs.Took.{Took}
 use Rattle.ada_interpreter.specs.declared.constructs.Task.{Task}
 use Rattle.ada_interpreter.specs.declared.constructs.Task.TheVariants as task

@@ -27,8 +27,8 @@ use Rattle.ada_meaning.specs.Values.{truth, bit, compares, between, to_nat, layo
 use Rattle.ada_meaning.specs.Operations.{Operations, IndexCheck, RangeCheck, Sized, operate, reduce}
 use Rattle.ada_meaning.specs.Meaning as meaning
 use Rattle.ada_meaning.specs.Meaning.{Env, Part, Passed, Returned, Back, Course, Chunking, inside, variable_root, constant_root, moved, with_target, iterated_env, outset, returns, exits, value_of, sub_at}
-use Rattle.ada_stored.specs.Stored
-use Rattle.ada_stored.specs.Stored.{Stored, Took, thread, par, first_of_both, after_all, doings, bind, ret, leaves, handles, apart, reads, writes, checks, puts}
+use Rattle.ada_meaning.specs.Stored
+use Rattle.ada_meaning.specs.Stored.{Stored, Took, thread, par, first_of_both, after_all, doings, bind, ret, leaves, handles, apart, reads, writes, checks, puts}
 use Rattle.ada_base.specs.Image.{padded}
 use Rattle.run_store.specs.Operating.{unary_then, got}
 use Rattle.run_parts.specs.declared.work.Work.{Work}

@@ -18,7 +18,7 @@ use run_store::{End, Env, Leave, Object, Port, Store, is_in};
 /// Actual parameters, evaluated, read and checked from left to right, behind others.
 #[cycle(walk)]
 #[inline(never)]
-#[tactic(auto, unfolding(ada_stored::specs::Stored::bind, ada_stored::specs::Stored::ret, ada_stored::specs::Stored::leaves, ada_stored::specs::Stored::spent, ada_stored::specs::Stored::handles, crate::specs::Walk::pass, crate::specs::Walk::select, crate::specs::Walk::cells, run_parts::specs::Words::read_all))]
+#[tactic(auto, unfolding(ada_meaning::specs::Stored::bind, ada_meaning::specs::Stored::ret, ada_meaning::specs::Stored::leaves, ada_meaning::specs::Stored::spent, ada_meaning::specs::Stored::handles, crate::specs::Walk::pass, crate::specs::Walk::select, crate::specs::Walk::cells, run_parts::specs::Words::read_all))]
 pub fn pass<P: Port + Drop>(
     work: &Work<'_>,
     calls: u32,

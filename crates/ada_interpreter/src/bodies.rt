@@ -18,7 +18,7 @@ use run_store::{End, Env, Leave, Object, Port, Region, Store};
 /// A body.
 #[cycle(walk)]
 #[inline(never)]
-#[tactic(auto, unfolding(ada_stored::specs::Stored::bind, ada_stored::specs::Stored::ret, ada_stored::specs::Stored::leaves, ada_stored::specs::Stored::spent, ada_stored::specs::Stored::handles, crate::specs::Walk::block, crate::specs::Walk::exec_all, crate::specs::Walk::exec_handler))]
+#[tactic(auto, unfolding(ada_meaning::specs::Stored::bind, ada_meaning::specs::Stored::ret, ada_meaning::specs::Stored::leaves, ada_meaning::specs::Stored::spent, ada_meaning::specs::Stored::handles, crate::specs::Walk::block, crate::specs::Walk::exec_all, crate::specs::Walk::exec_handler))]
 pub fn body<P: Port + Drop>(
     work: &Work<'_>,
     calls: u32,
@@ -50,7 +50,7 @@ pub fn body<P: Port + Drop>(
 /// Declarations, and what follows them and sees their objects.
 #[cycle(walk)]
 #[inline(never)]
-#[tactic(auto, unfolding(ada_stored::specs::Stored::bind, ada_stored::specs::Stored::ret, ada_stored::specs::Stored::leaves, ada_stored::specs::Stored::spent, ada_stored::specs::Stored::handles, crate::specs::Walk::block, crate::specs::Walk::cells))]
+#[tactic(auto, unfolding(ada_meaning::specs::Stored::bind, ada_meaning::specs::Stored::ret, ada_meaning::specs::Stored::leaves, ada_meaning::specs::Stored::spent, ada_meaning::specs::Stored::handles, crate::specs::Walk::block, crate::specs::Walk::cells))]
 pub fn block<P: Port + Drop>(
     work: &Work<'_>,
     calls: u32,

@@ -4,7 +4,7 @@ ghost use Rattle.std.specs.Prelude.{◌≡◌, ◌<◌, ◌++◌, ◌∷◌, [],
 ghost use Rattle.ada_typed.specs.Decoded.{body_at};
 ghost use Rattle.ada_typed.specs.Programs.{program, sub_of};
 ghost use Rattle.ada_meaning.specs.Meaning as meaning;
-ghost use Rattle.ada_stored.specs.Stored.{ret};
+ghost use Rattle.ada_meaning.specs.Stored.{ret};
 ghost use Rattle.run_store.specs.Shows.{Shows, ShowsAs, OrNoMemory, entity_of};
 ghost use Rattle.run_parts.specs.Passing.{passed_of, passed_list, back_option, returned_of, shape_of};
 ghost use Rattle.run_parts.specs.Words as words;
@@ -20,7 +20,7 @@ use run_store::{End, Env, Leave, Port, Region, Store};
 /// A call, where so many more may be active.
 #[cycle(walk)]
 #[inline(never)]
-#[tactic(auto, unfolding(ada_stored::specs::Stored::bind, ada_stored::specs::Stored::ret, ada_stored::specs::Stored::leaves, ada_stored::specs::Stored::spent, ada_stored::specs::Stored::handles, run_parts::specs::Words::calls_of))]
+#[tactic(auto, unfolding(ada_meaning::specs::Stored::bind, ada_meaning::specs::Stored::ret, ada_meaning::specs::Stored::leaves, ada_meaning::specs::Stored::spent, ada_meaning::specs::Stored::handles, run_parts::specs::Words::calls_of))]
 pub fn call<P: Port + Drop>(
     work: &Work<'_>,
     calls: u32,
@@ -44,7 +44,7 @@ pub fn call<P: Port + Drop>(
 /// its turn.
 #[cycle(walk)]
 #[inline(never)]
-#[tactic(auto, unfolding(ada_stored::specs::Stored::bind, ada_stored::specs::Stored::ret, ada_stored::specs::Stored::leaves, ada_stored::specs::Stored::spent, ada_stored::specs::Stored::handles, run_parts::specs::Words::calls_of))]
+#[tactic(auto, unfolding(ada_meaning::specs::Stored::bind, ada_meaning::specs::Stored::ret, ada_meaning::specs::Stored::leaves, ada_meaning::specs::Stored::spent, ada_meaning::specs::Stored::handles, run_parts::specs::Words::calls_of))]
 pub fn call_checked<P: Port + Drop>(
     work: &Work<'_>,
     calls: u32,
@@ -93,7 +93,7 @@ fn called<P: Port + Drop>(
 // the formals of a call with their first cells, and then the body
 #[cycle(walk)]
 #[inline(never)]
-#[tactic(auto, unfolding(ada_stored::specs::Stored::bind, ada_stored::specs::Stored::ret, ada_stored::specs::Stored::leaves, ada_stored::specs::Stored::spent, ada_stored::specs::Stored::handles, crate::specs::Walk::with_formals))]
+#[tactic(auto, unfolding(ada_meaning::specs::Stored::bind, ada_meaning::specs::Stored::ret, ada_meaning::specs::Stored::leaves, ada_meaning::specs::Stored::spent, ada_meaning::specs::Stored::handles, crate::specs::Walk::with_formals))]
 fn with_formals<P: Port + Drop>(
     work: &Work<'_>,
     calls: u32,

@@ -165,7 +165,7 @@ fn dealt_arms<P: Port + Drop>(
 // the greatest number of a block's threads
 #[cycle(walk)]
 #[inline(never)]
-#[tactic(auto, using(crate::proofs::Parts::present_is), unfolding(ada_stored::specs::Stored::bind, ada_stored::specs::Stored::ret, ada_stored::specs::Stored::leaves, ada_stored::specs::Stored::spent, ada_stored::specs::Stored::handles, crate::specs::Walk::eval, crate::specs::Walk::threads_of))]
+#[tactic(auto, using(crate::proofs::Parts::present_is), unfolding(ada_meaning::specs::Stored::bind, ada_meaning::specs::Stored::ret, ada_meaning::specs::Stored::leaves, ada_meaning::specs::Stored::spent, ada_meaning::specs::Stored::handles, crate::specs::Walk::eval, crate::specs::Walk::threads_of))]
 fn threads_of<P: Port + Drop>(
     work: &Work<'_>,
     calls: u32,
@@ -188,7 +188,7 @@ fn threads_of<P: Port + Drop>(
 /// A chunk specification (5.5).
 #[cycle(walk)]
 #[inline(never)]
-#[tactic(auto, unfolding(ada_stored::specs::Stored::bind, ada_stored::specs::Stored::ret, ada_stored::specs::Stored::leaves, ada_stored::specs::Stored::spent, ada_stored::specs::Stored::handles, crate::specs::Walk::chunking, crate::specs::Walk::eval))]
+#[tactic(auto, unfolding(ada_meaning::specs::Stored::bind, ada_meaning::specs::Stored::ret, ada_meaning::specs::Stored::leaves, ada_meaning::specs::Stored::spent, ada_meaning::specs::Stored::handles, crate::specs::Walk::chunking, crate::specs::Walk::eval))]
 pub fn begin_chunks<P: Port + Drop>(
     work: &Work<'_>,
     calls: u32,
@@ -260,7 +260,7 @@ fn run_threads<P: Port + Drop>(
 
 #[cycle(walk)]
 #[inline(never)]
-#[tactic(auto, unfolding(ada_stored::specs::Stored::bind, ada_stored::specs::Stored::ret, ada_stored::specs::Stored::leaves, ada_stored::specs::Stored::spent, ada_stored::specs::Stored::handles, ada_stored::specs::Stored::thread, ada_stored::specs::Stored::rewinds))]
+#[tactic(auto, unfolding(ada_meaning::specs::Stored::bind, ada_meaning::specs::Stored::ret, ada_meaning::specs::Stored::leaves, ada_meaning::specs::Stored::spent, ada_meaning::specs::Stored::handles, ada_meaning::specs::Stored::thread, ada_meaning::specs::Stored::rewinds))]
 fn run_thread<P: Port + Drop>(
     work: &Work<'_>,
     calls: u32,

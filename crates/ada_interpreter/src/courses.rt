@@ -19,7 +19,7 @@ use run_store::{End, Env, Leave, Part, Port, Range, Store};
 /// The range or array of an iteration.
 #[cycle(walk)]
 #[inline(never)]
-#[tactic(auto, unfolding(ada_stored::specs::Stored::bind, ada_stored::specs::Stored::ret, ada_stored::specs::Stored::leaves, ada_stored::specs::Stored::spent, ada_stored::specs::Stored::handles, crate::specs::Walk::course, crate::specs::Walk::eval, crate::specs::Walk::select))]
+#[tactic(auto, unfolding(ada_meaning::specs::Stored::bind, ada_meaning::specs::Stored::ret, ada_meaning::specs::Stored::leaves, ada_meaning::specs::Stored::spent, ada_meaning::specs::Stored::handles, crate::specs::Walk::course, crate::specs::Walk::eval, crate::specs::Walk::select))]
 pub fn begin_course<P: Port + Drop>(
     work: &Work<'_>,
     calls: u32,
@@ -95,7 +95,7 @@ pub fn begin_course<P: Port + Drop>(
 
 /// Whether an iteration passes its filter (5.5).
 #[cycle(walk)]
-#[tactic(auto, unfolding(ada_stored::specs::Stored::bind, ada_stored::specs::Stored::ret, ada_stored::specs::Stored::leaves, ada_stored::specs::Stored::spent, ada_stored::specs::Stored::handles, crate::specs::Walk::filtered, crate::specs::Walk::holds))]
+#[tactic(auto, unfolding(ada_meaning::specs::Stored::bind, ada_meaning::specs::Stored::ret, ada_meaning::specs::Stored::leaves, ada_meaning::specs::Stored::spent, ada_meaning::specs::Stored::handles, crate::specs::Walk::filtered, crate::specs::Walk::holds))]
 pub fn filtered<P: Port + Drop>(
     work: &Work<'_>,
     calls: u32,

@@ -19,7 +19,7 @@ use run_store::{End, Env, Leave, Object, Port, Store, between, bit, compares, is
 
 /// The value of an expression, where so many more calls may be active.
 #[cycle(walk)]
-#[tactic(auto, unfolding(ada_stored::specs::Stored::bind, ada_stored::specs::Stored::ret, ada_stored::specs::Stored::leaves, ada_stored::specs::Stored::spent, ada_stored::specs::Stored::handles, crate::specs::Walk::eval, crate::specs::Walk::select, crate::specs::Walk::pass, crate::specs::Walk::course, crate::specs::Walk::filtered, crate::specs::Walk::fold_left, crate::specs::Walk::chunking))]
+#[tactic(auto, unfolding(ada_meaning::specs::Stored::bind, ada_meaning::specs::Stored::ret, ada_meaning::specs::Stored::leaves, ada_meaning::specs::Stored::spent, ada_meaning::specs::Stored::handles, crate::specs::Walk::eval, crate::specs::Walk::select, crate::specs::Walk::pass, crate::specs::Walk::course, crate::specs::Walk::filtered, crate::specs::Walk::fold_left, crate::specs::Walk::chunking))]
 pub fn eval<P: Port + Drop>(
     work: &Work<'_>,
     calls: u32,
@@ -266,7 +266,7 @@ fn converted<P: Port + Drop>(
 
 /// Whether an expression holds, or is left out.
 #[cycle(walk)]
-#[tactic(auto, using(crate::proofs::Parts::present_is), unfolding(ada_stored::specs::Stored::bind, ada_stored::specs::Stored::ret, ada_stored::specs::Stored::leaves, ada_stored::specs::Stored::spent, ada_stored::specs::Stored::handles, crate::specs::Walk::eval, crate::specs::Walk::holds))]
+#[tactic(auto, using(crate::proofs::Parts::present_is), unfolding(ada_meaning::specs::Stored::bind, ada_meaning::specs::Stored::ret, ada_meaning::specs::Stored::leaves, ada_meaning::specs::Stored::spent, ada_meaning::specs::Stored::handles, crate::specs::Walk::eval, crate::specs::Walk::holds))]
 pub fn holds<P: Port + Drop>(
     work: &Work<'_>,
     calls: u32,

@@ -326,7 +326,7 @@ fn fold_threads<P: Port + Drop>(
 
 #[cycle(walk)]
 #[inline(never)]
-#[tactic(auto, unfolding(ada_stored::specs::Stored::bind, ada_stored::specs::Stored::ret, ada_stored::specs::Stored::leaves, ada_stored::specs::Stored::spent, ada_stored::specs::Stored::handles, ada_stored::specs::Stored::thread, ada_stored::specs::Stored::rewinds))]
+#[tactic(auto, unfolding(ada_meaning::specs::Stored::bind, ada_meaning::specs::Stored::ret, ada_meaning::specs::Stored::leaves, ada_meaning::specs::Stored::spent, ada_meaning::specs::Stored::handles, ada_meaning::specs::Stored::thread, ada_meaning::specs::Stored::rewinds))]
 fn fold_thread<P: Port + Drop>(
     work: &Work<'_>,
     calls: u32,
@@ -394,7 +394,7 @@ fn fold_share<P: Port + Drop>(
 // the accumulators of the threads, in their order; the initial value where there was none
 #[cycle(walk)]
 #[inline(never)]
-#[tactic(auto, unfolding(ada_stored::specs::Stored::bind, ada_stored::specs::Stored::ret, ada_stored::specs::Stored::leaves, ada_stored::specs::Stored::spent, ada_stored::specs::Stored::handles, crate::specs::Walk::combined, crate::specs::Walk::combined_onto))]
+#[tactic(auto, unfolding(ada_meaning::specs::Stored::bind, ada_meaning::specs::Stored::ret, ada_meaning::specs::Stored::leaves, ada_meaning::specs::Stored::spent, ada_meaning::specs::Stored::handles, crate::specs::Walk::combined, crate::specs::Walk::combined_onto))]
 fn combined<P: Port + Drop>(
     work: &Work<'_>,
     calls: u32,

@@ -17,7 +17,7 @@ use run_store::{End, Env, Leave, Part, Port, Range, Store, between};
 
 /// The part that selections lead to (4.1.1, 4.1.3).
 #[cycle(walk)]
-#[tactic(auto, unfolding(ada_stored::specs::Stored::bind, ada_stored::specs::Stored::ret, ada_stored::specs::Stored::leaves, ada_stored::specs::Stored::spent, ada_stored::specs::Stored::handles, crate::specs::Walk::eval, crate::specs::Walk::select))]
+#[tactic(auto, unfolding(ada_meaning::specs::Stored::bind, ada_meaning::specs::Stored::ret, ada_meaning::specs::Stored::leaves, ada_meaning::specs::Stored::spent, ada_meaning::specs::Stored::handles, crate::specs::Walk::eval, crate::specs::Walk::select))]
 pub fn select<P: Port + Drop>(
     work: &Work<'_>,
     calls: u32,

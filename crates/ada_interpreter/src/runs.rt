@@ -1,7 +1,7 @@
 //! Runs of whole programs.
 
 ghost use Rattle.std.specs.Prelude.{◌≡◌, ℕ};
-ghost use Rattle.ada_stored.specs.Stored.{outset};
+ghost use Rattle.ada_meaning.specs.Stored.{outset};
 ghost use Rattle.run_store.specs.Shows.{Shows};
 ghost use Rattle.ada_interpreter.specs.Run.{IsRun};
 ghost use Rattle.ada_interpreter.specs.Run as spec;

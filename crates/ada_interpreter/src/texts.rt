@@ -36,7 +36,7 @@ pub fn put<P: Port + Drop>(
 // the bytes of pieces, behind others
 #[cycle(walk)]
 #[inline(never)]
-#[tactic(auto, unfolding(ada_stored::specs::Stored::bind, ada_stored::specs::Stored::ret, ada_stored::specs::Stored::leaves, ada_stored::specs::Stored::spent, ada_stored::specs::Stored::handles, crate::specs::Walk::written, crate::specs::Walk::eval))]
+#[tactic(auto, unfolding(ada_meaning::specs::Stored::bind, ada_meaning::specs::Stored::ret, ada_meaning::specs::Stored::leaves, ada_meaning::specs::Stored::spent, ada_meaning::specs::Stored::handles, crate::specs::Walk::written, crate::specs::Walk::eval))]
 fn written<P: Port + Drop>(
     work: &Work<'_>,
     calls: u32,
@@ -132,7 +132,7 @@ fn field<P: Port + Drop>(
 /// `Get (X);`: the number is read and checked, and then X gets it.
 #[cycle(walk)]
 #[inline(never)]
-#[tactic(auto, unfolding(ada_stored::specs::Stored::bind, ada_stored::specs::Stored::ret, ada_stored::specs::Stored::leaves, ada_stored::specs::Stored::spent, ada_stored::specs::Stored::handles, crate::specs::Walk::select))]
+#[tactic(auto, unfolding(ada_meaning::specs::Stored::bind, ada_meaning::specs::Stored::ret, ada_meaning::specs::Stored::leaves, ada_meaning::specs::Stored::spent, ada_meaning::specs::Stored::handles, crate::specs::Walk::select))]
 pub fn get<P: Port + Drop>(
     work: &Work<'_>,
     calls: u32,

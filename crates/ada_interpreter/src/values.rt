@@ -17,7 +17,7 @@ use run_store::{End, Env, Leave, Object, Part, Port, Store, is_in, is_true};
 /// The cells of what is stored.
 #[cycle(walk)]
 #[inline(never)]
-#[tactic(auto, unfolding(ada_stored::specs::Stored::bind, ada_stored::specs::Stored::ret, ada_stored::specs::Stored::leaves, ada_stored::specs::Stored::spent, ada_stored::specs::Stored::handles, crate::specs::Walk::cells, crate::specs::Walk::composite, crate::specs::Walk::eval))]
+#[tactic(auto, unfolding(ada_meaning::specs::Stored::bind, ada_meaning::specs::Stored::ret, ada_meaning::specs::Stored::leaves, ada_meaning::specs::Stored::spent, ada_meaning::specs::Stored::handles, crate::specs::Walk::cells, crate::specs::Walk::composite, crate::specs::Walk::eval))]
 pub fn cells<P: Port + Drop>(
     work: &Work<'_>,
     calls: u32,
@@ -63,7 +63,7 @@ fn number<P: Port + Drop>(
 /// The cells of an expression of an array or record type.
 #[cycle(walk)]
 #[inline(never)]
-#[tactic(auto, unfolding(ada_stored::specs::Stored::bind, ada_stored::specs::Stored::ret, ada_stored::specs::Stored::leaves, ada_stored::specs::Stored::spent, ada_stored::specs::Stored::handles, crate::specs::Walk::composite, crate::specs::Walk::associated, crate::specs::Walk::eval, crate::specs::Walk::select, run_parts::specs::Words::read_all))]
+#[tactic(auto, unfolding(ada_meaning::specs::Stored::bind, ada_meaning::specs::Stored::ret, ada_meaning::specs::Stored::leaves, ada_meaning::specs::Stored::spent, ada_meaning::specs::Stored::handles, crate::specs::Walk::composite, crate::specs::Walk::associated, crate::specs::Walk::eval, crate::specs::Walk::select, run_parts::specs::Words::read_all))]
 pub fn composite<P: Port + Drop>(
     work: &Work<'_>,
     calls: u32,
@@ -197,7 +197,7 @@ fn composite_if<P: Port + Drop>(
 /// The components that associations give, from left to right, laid over cells (4.3).
 #[cycle(walk)]
 #[inline(never)]
-#[tactic(auto, unfolding(ada_stored::specs::Stored::bind, ada_stored::specs::Stored::ret, ada_stored::specs::Stored::leaves, ada_stored::specs::Stored::spent, ada_stored::specs::Stored::handles, crate::specs::Walk::associated, crate::specs::Walk::runs_values, crate::specs::Walk::cells))]
+#[tactic(auto, unfolding(ada_meaning::specs::Stored::bind, ada_meaning::specs::Stored::ret, ada_meaning::specs::Stored::leaves, ada_meaning::specs::Stored::spent, ada_meaning::specs::Stored::handles, crate::specs::Walk::associated, crate::specs::Walk::runs_values, crate::specs::Walk::cells))]
 fn associated<P: Port + Drop>(
     work: &Work<'_>,
     calls: u32,
@@ -235,7 +235,7 @@ fn associated<P: Port + Drop>(
 
 #[cycle(walk)]
 #[inline(never)]
-#[tactic(auto, unfolding(ada_stored::specs::Stored::bind, ada_stored::specs::Stored::ret, ada_stored::specs::Stored::leaves, ada_stored::specs::Stored::spent, ada_stored::specs::Stored::handles, crate::specs::Walk::runs_values, crate::specs::Walk::run_values))]
+#[tactic(auto, unfolding(ada_meaning::specs::Stored::bind, ada_meaning::specs::Stored::ret, ada_meaning::specs::Stored::leaves, ada_meaning::specs::Stored::spent, ada_meaning::specs::Stored::handles, crate::specs::Walk::runs_values, crate::specs::Walk::run_values))]
 fn runs_values<P: Port + Drop>(
     work: &Work<'_>,
     calls: u32,
@@ -291,7 +291,7 @@ fn run_values<P: Port + Drop>(
 // the cells of one component of an association
 #[cycle(walk)]
 #[inline(never)]
-#[tactic(auto, unfolding(ada_stored::specs::Stored::bind, ada_stored::specs::Stored::ret, ada_stored::specs::Stored::turn))]
+#[tactic(auto, unfolding(ada_meaning::specs::Stored::bind, ada_meaning::specs::Stored::ret, ada_meaning::specs::Stored::turn))]
 fn given<P: Port + Drop>(
     work: &Work<'_>,
     calls: u32,
@@ -325,7 +325,7 @@ fn given<P: Port + Drop>(
 /// A part of a variable gets what is stored there (5.2).
 #[cycle(walk)]
 #[inline(never)]
-#[tactic(auto, unfolding(ada_stored::specs::Stored::bind, ada_stored::specs::Stored::ret, ada_stored::specs::Stored::leaves, ada_stored::specs::Stored::spent, ada_stored::specs::Stored::handles, crate::specs::Walk::cells, crate::specs::Walk::composite, crate::specs::Walk::eval, run_parts::specs::Words::write_all))]
+#[tactic(auto, unfolding(ada_meaning::specs::Stored::bind, ada_meaning::specs::Stored::ret, ada_meaning::specs::Stored::leaves, ada_meaning::specs::Stored::spent, ada_meaning::specs::Stored::handles, crate::specs::Walk::cells, crate::specs::Walk::composite, crate::specs::Walk::eval, run_parts::specs::Words::write_all))]
 fn assigned<P: Port + Drop>(
     work: &Work<'_>,
     calls: u32,

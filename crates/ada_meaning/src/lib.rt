@@ -1,5 +1,6 @@
 //! What programs mean: the definitions of their runs (chapters 3 to 6, 9 and 11), and the laws of these definitions.
-//! Every function here has no body: its contract is what is proved.
+//! Every function here has no body: its contract is what is proved. `stored` has the laws of a run over a state that code
+//! can hold.
 #![tactic(auto)]
 
 ghost use Rattle.ada_meaning.specs.Blocked.{BlockedLaw};
@@ -12,8 +13,12 @@ ghost use Rattle.ada_meaning.specs.BlockedRows.{BlockedRows};
 ghost use Rattle.ada_meaning.specs.LookRows.{LookRows};
 ghost use Rattle.ada_meaning.specs.CallRows.{Downs, Begins, NotCopied, NoReturn, Reraised, Elaborated, Combines};
 
+pub mod slots;
+pub mod stored;
+
 use ada_typed::Typed;
 pub use behaviours::shuffle_law;
+pub use slots::{Slot, Variable};
 
 /// Laws of all programs.
 /// - stops: a program may be stopped before it begins.

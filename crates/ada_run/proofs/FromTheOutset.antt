@@ -13,8 +13,8 @@ use Rattle.chunk_plan.specs.Plans.{HasNoZero, plan_of}
 use Rattle.chunk_plan.specs.declared.plan.Plan as given
 use Rattle.chunk_plan.specs.declared.plan.Plan.TheVariants as plan
 use Rattle.ada_port.specs.Ports.{Stream, Rose, bytes_of}
-use Rattle.ada_stored.specs.Stored.{Fails, MemoryFault, outset, outcome_of}
-use Rattle.ada_stored.proofs.StoredProof.{stored_law}
+use Rattle.ada_meaning.specs.Stored.{Fails, MemoryFault, outset, outcome_of}
+use Rattle.ada_meaning.proofs.StoredProof.{stored_law}
 use Rattle.ada_typed.specs.Programs.{program}
 use Rattle.ada_typed.specs.Syntax.{Program}
 use Rattle.ada_interpreter.specs.Run.{IsRun, answer_of, setting_of}

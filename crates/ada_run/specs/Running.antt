@@ -7,7 +7,7 @@ use Rattle.ada_meaning.specs.Programs.{Setting, input_of, sequential}
 use Rattle.ada_meaning.specs.Sequential.{IsCalm}
 use Rattle.ada_port.specs.Ports.{Stream, Rose, bytes_of}
 use Rattle.ada_interpreter.specs.Run as interpreter
-use Rattle.ada_stored.specs.Stored.{finals_of, outset}
+use Rattle.ada_meaning.specs.Stored.{finals_of, outset}
 use Rattle.ada_typed.specs.Programs.{program}
 use Rattle.ada_typed.specs.Syntax.{Program}
 use Rattle.chunk_plan.specs.Plans.{plan_of}

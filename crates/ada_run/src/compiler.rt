@@ -10,7 +10,7 @@ ghost use Rattle.ada_meaning.specs.Formed.{IsFormed};
 ghost use Rattle.ada_meaning.specs.Law.{IsRaceFree};
 ghost use Rattle.ada_meaning.specs.Nonblocking.{KeepsRule};
 ghost use Rattle.ada_typed.specs.Programs.{program};
-ghost use Rattle.tree_views.specs.Trees.{program_of};
+ghost use Rattle.tree_nodes.specs.Trees.{program_of};
 ghost use Rattle.ada_run.specs.Complaints.{Complaint};
 ghost use Rattle.ada_run.specs.Compile.{Decides, IsRefusal, lexing, parsing, finishing, shaping, checking, resolving, reading, compiling, refusal_of, IsAccepted, IsFaultOf, IsRefusalOf, GivesUnit, GivesRefusal};
 ghost use Rattle.ada_run.specs.Compiled.{Compiled, compiled_of};
@@ -24,7 +24,7 @@ use ada_grammar::{ParseFault, parse};
 use ada_lexer::{LexFault, lex};
 use ada_typed::Typed;
 use std::alloc::Global;
-use tree_views::Tree;
+use tree_nodes::Tree;
 
 /// Compiles a text, which is given by its bytes. A text that isn't accepted is refused by its one fault: its first
 /// lexical fault (`E01`, `E02`, `E12`); else its first syntax fault, at a token that the language leaves out (`E04`) or

@@ -6,7 +6,7 @@ ghost use Rattle.ada_meaning.specs.Formed.{IsFormed};
 ghost use Rattle.ada_meaning.specs.Nonblocking.{KeepsRule};
 ghost use Rattle.ada_typed.specs.Programs.{program};
 ghost use Rattle.name_programs.specs.Resolving.{fault_of};
-ghost use Rattle.tree_views.specs.Trees.{program_of};
+ghost use Rattle.tree_nodes.specs.Trees.{program_of};
 ghost use Rattle.ada_run.specs.Complaints.{complaint};
 ghost use Rattle.ada_run.specs.Compile.{Decides, blocking, building, forming, naming, named_refusal, refusal_of, separating};
 ghost use Rattle.ada_run.specs.Compiled.{compiled_of};
@@ -24,10 +24,10 @@ use ada_typed::Typed;
 use effect_inference::infer::infer;
 use name_programs::{NameFault, resolve};
 use std::alloc::Global;
-use tree_views::Tree;
+use tree_nodes::Tree;
 
 /// The typed program of a tree, or the least fault of its names and types.
-#[tactic(auto, unfolding(tree_views::specs::Trees::program_of))]
+#[tactic(auto, unfolding(tree_nodes::specs::Trees::program_of))]
 pub fn typed_of(alloc: Global, tokens: &Tokens, tree: &Tree) -> Result<Typed, Refusal>
     ensures { Decides (naming tokens.now) program (program_of tree.now) result }
 {

@@ -1,5 +1,8 @@
 pub mod Chained
+pub mod Classes
 pub mod Decoded
+pub mod Indexes
+pub mod Latest
 pub mod Laws
 pub mod Layout
 pub mod Ordered

@@ -8,7 +8,7 @@ ghost use Rattle.tree_nodes.specs.Parts.{the_arg, the_assoc, the_body, the_choic
 ghost use Rattle.tree_nodes.specs.Tables.{part_at};
 
 use ada_tree::Sign;
-use tree_views::{
+use tree_nodes::{
     Assoc, Choice, Decl, Expr, Factor, Indic, Iter, Many, Parallel, Primary, Range, Rel, Scheme,
     Stmt, Sub, Tree, Unit,
 };

@@ -4,11 +4,12 @@ use Rattle.std.specs.Prelude.{◌==◌, ◌*◌, ◌+ℤ◌, pos, ◌∷◌, [],
 use Rattle.ada_tree.specs.Syntax as syntax
 use Rattle.ada_tree.specs.Syntax.{Assoc, Assocs, Expr, Exprs, OptionalExpr}
 use Rattle.ada_typed.specs.Decoded.{Nothing, Part}
-use Rattle.name_aggregates.specs.Filled.{counted, filled}
-use Rattle.name_aggregates.specs.Placed.{placed, rest_if}
-use Rattle.name_aggregates.specs.declared.fields.Filling.{Filling}
-use Rattle.name_aggregates.specs.declared.fields.Positions.{Positions}
-use Rattle.name_aggregates.specs.declared.placing.Placing.{Placing}
+use Rattle.ada_typed.specs.Latest.{pop, top}
+use Rattle.name_expressions.specs.Filled.{counted, filled}
+use Rattle.name_expressions.specs.Placed.{placed, rest_if}
+use Rattle.name_expressions.specs.declared.fields.Filling.{Filling}
+use Rattle.name_expressions.specs.declared.fields.Positions.{Positions}
+use Rattle.name_expressions.specs.declared.placing.Placing.{Placing}
 use Rattle.name_expressions.proofs.Wholes.{clean, faulty}
 use Rattle.name_expressions.specs.Contents.{contents_in, exprs_in, second_in}
 use Rattle.name_rules.specs.Aggregates as spec
@@ -23,8 +24,7 @@ use Rattle.name_rules.specs.declared.log.Rule.TheVariants.{StaticRange}
 use Rattle.name_rules.specs.declared.scope.Context.{Context}
 use Rattle.name_rules.specs.declared.scope.Names.{Names}
 use Rattle.tree_nodes.specs.Parts.{Part as TreePart, the_expr, the_exprs}
-use Rattle.tree_views.specs.Views.{optional_expr}
-use Rattle.typed_parts.specs.Stack.{pop, top}
+use Rattle.tree_nodes.specs.Views.{optional_expr}
 
 -- ---- one dimension of an array
 

@@ -4,6 +4,7 @@ use Rattle.std.specs.Prelude.{if◌then◌else◌}
 use Rattle.ada_tree.specs.Syntax.{Args}
 use Rattle.ada_typed.specs.Decoded.{Part}
 use Rattle.ada_typed.specs.Syntax.{Expr}
+use Rattle.ada_typed.specs.Latest.{pop, second, top}
 use Rattle.name_expressions.proofs.Wholes.{gone, kept, judges_so}
 use Rattle.name_rules.specs.Attributes.{bound_with, first_named, one_argument, one_dimension, one_named, two_arguments_of, two_named}
 use Rattle.name_rules.specs.Calls.{arg_names, one_operand, operands, scalar_conversion}
@@ -23,7 +24,6 @@ use Rattle.name_rules.specs.declared.scope.Names.{Names}
 use Rattle.name_rules.specs.declared.types.Kind.{Kind}
 use Rattle.name_rules.specs.declared.types.Scalar.{Scalar}
 use Rattle.name_values.specs.Operands.{founds, operands_of}
-use Rattle.typed_parts.specs.Stack.{pop, second, top}
 
 none_of : (all : Bool) (ks : List Known) (p : Part) → all ≡ false → operands_of all ks p ≡ None
 none_of all ks p e = rw e refl

@@ -5,7 +5,7 @@ use Rattle.name_expressions.specs.declared.contents.Contents.{Contents}
 use Rattle.name_expressions.specs.declared.contents.Contents.TheVariants as contents'
 use Rattle.name_rules.specs.Aggregates as spec
 use Rattle.tree_nodes.specs.Parts.{Part, the_assoc, the_assocs, the_expr, the_exprs}
-use Rattle.tree_views.specs.Views.{optional_expr}
+use Rattle.tree_nodes.specs.Views.{optional_expr}
 
 abbrev pub second_in : (ℕ → Part) → Option ℕ → syntax.Exprs → syntax.Exprs
 second_in at None es = es

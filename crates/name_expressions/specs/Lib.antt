@@ -1,8 +1,14 @@
 pub mod Arguments
+pub mod Attributes
+pub mod Conditionals
 pub mod Contents
+pub mod Filled
+pub mod Gaps
+pub mod Placed
 pub mod Primaries
 pub mod Putting
 pub mod Reducers
 pub mod Reducing
 pub mod Rows
 pub mod Sequences
+pub mod Spelt

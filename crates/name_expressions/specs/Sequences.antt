@@ -1,6 +1,7 @@
 -- What a value sequence is folded to, as it is held.
 use Rattle.std.specs.Prelude.{◌≡◌, ℕ, List, Option, Some, None, Result, Ok, Err}
 use Rattle.ada_typed.specs.Decoded.{Part}
+use Rattle.ada_typed.specs.Latest.{top, second, third, fourth, pop}
 use Rattle.name_rules.specs.Found.{Found}
 use Rattle.name_rules.specs.Judges.{found_of, part_if}
 use Rattle.name_rules.specs.Judging.{Judging, both, given}
@@ -10,7 +11,6 @@ use Rattle.name_rules.specs.declared.found.Found.{Found as Known}
 use Rattle.name_rules.specs.declared.log.Log.{Log}
 use Rattle.name_expressions.specs.declared.iterations.Folded.{Folded}
 use Rattle.name_values.specs.declared.walks.Entering.{Entering}
-use Rattle.typed_parts.specs.Stack.{top, second, third, fourth, pop}
 
 -- it judges a sequence so, and leaves what it is folded to
 abbrev pub Folds : {E : Type 0} → (Option ℕ × Option Found) × Log → List Part → Result Folded E → Log → List Part → Type 0

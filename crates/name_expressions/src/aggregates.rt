@@ -11,15 +11,15 @@ ghost use Rattle.name_rules.specs.Primaries as primaries;
 ghost use Rattle.name_rules.specs.Types as types;
 ghost use Rattle.tree_nodes.specs.Parts.{the_assoc, the_assocs, the_expr, the_exprs, the_many};
 ghost use Rattle.tree_nodes.specs.Tables.{part_at};
-ghost use Rattle.tree_views.specs.Views.{optional_expr};
+ghost use Rattle.tree_nodes.specs.Views.{optional_expr};
 ghost use Rattle.typed_parts.specs.Stack.{parts};
 
 use crate::array_aggregates::array_at;
+use crate::brackets::no_expression;
 use crate::contents::{Contents, listed, one_listed};
 use crate::expressions::judged_alone;
+use crate::fields::fields_of;
 use crate::record_aggregates::record_aggregate;
-use name_aggregates::fields::fields_of;
-use name_primaries::brackets::no_expression;
 use name_rules::found::Found;
 use name_rules::log::{Log, Rule};
 use name_rules::scope::{Context, Names};
@@ -28,7 +28,7 @@ use name_values::arrays::dimensions_of;
 use name_values::logs::not_given;
 use name_values::names::{cells_in, component_of, is_record};
 use std::alloc::AllocError;
-use tree_views::{Assoc, Tree};
+use tree_nodes::{Assoc, Tree};
 use typed_parts::Parts;
 
 /// An aggregate of an array or record type, by its number in the table of subtypes, from a dimension on: WrongType at its

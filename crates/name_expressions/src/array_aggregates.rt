@@ -2,7 +2,7 @@
 
 ghost use Rattle.std.specs.Prelude.{◌≡◌, IfOk, OnOk, drop, option_map};
 ghost use Rattle.ada_tree.specs.Syntax as syntax;
-ghost use Rattle.name_aggregates.specs.Placed.{chosen, placed};
+ghost use Rattle.name_expressions.specs.Placed.{chosen, placed};
 ghost use Rattle.name_expressions.specs.Contents.{contents_in, exprs_in, of_contents};
 ghost use Rattle.name_expressions.specs.Rows as rows;
 ghost use Rattle.name_rules.specs.Aggregates as spec;
@@ -13,19 +13,20 @@ ghost use Rattle.name_rules.specs.Shapes as shapes;
 ghost use Rattle.name_values.specs.Statics.{as_span};
 ghost use Rattle.tree_nodes.specs.Parts.{the_assoc, the_assocs, the_choice, the_choices, the_expr, the_exprs, the_range};
 ghost use Rattle.tree_nodes.specs.Tables.{part_at};
-ghost use Rattle.tree_views.specs.Views.{optional_expr};
-ghost use Rattle.typed_parts.specs.Stack.{parts, pop, top};
+ghost use Rattle.tree_nodes.specs.Views.{optional_expr};
+ghost use Rattle.ada_typed.specs.Latest.{pop, top};
+ghost use Rattle.typed_parts.specs.Stack.{parts};
 
 use crate::choices::{chosen_span, chosen_value, static_range};
 use crate::contents::Contents;
+use crate::coverage::covered;
 use crate::expressions::{expr, value_for};
-use ada_base::Items;
-use name_aggregates::coverage::covered;
-use name_aggregates::fields::{is_alone, is_final, others_last};
-use name_aggregates::placing::{
+use crate::fields::{is_alone, is_final, others_last};
+use crate::placing::{
     Choosing, Placing, chosen_given, index_what, is_last, iterated_given, new_parameter, no_choice,
     nothing_placed, nth_dimension, of_index_type, position_given, with_rest,
 };
+use ada_base::Items;
 use name_rules::found::Found;
 use name_rules::log::{Dimension, Log, Rule};
 use name_rules::scope::{Context, Names};
@@ -37,7 +38,7 @@ use name_values::shapes::is_aggregate;
 use name_values::statics::Chosen;
 use name_values::symbols::symbol;
 use std::alloc::AllocError;
-use tree_views::{Assoc, Choice, Tree};
+use tree_nodes::{Assoc, Choice, Tree};
 use typed_parts::Parts;
 
 /// A dimension of an array type, by the type's number and the dimension's place from 0 on: whether it is the last one, the

@@ -2,7 +2,7 @@
 
 ghost use Rattle.std.specs.Prelude.{◌≡◌};
 ghost use Rattle.ada_tree.specs.Syntax as syntax;
-ghost use Rattle.name_primaries.specs.Attributes.{one_made};
+ghost use Rattle.name_expressions.specs.Attributes.{one_made};
 ghost use Rattle.name_rules.specs.Attributes as spec;
 ghost use Rattle.name_rules.specs.Calls as calls;
 ghost use Rattle.name_rules.specs.Judges.{Judges};
@@ -10,12 +10,13 @@ ghost use Rattle.name_rules.specs.Primaries as primaries;
 ghost use Rattle.name_values.specs.Operands.{founds};
 ghost use Rattle.tree_nodes.specs.Parts.{the_arg, the_args};
 ghost use Rattle.tree_nodes.specs.Tables.{part_at};
-ghost use Rattle.typed_parts.specs.Stack.{parts, pop, second, top};
+ghost use Rattle.ada_typed.specs.Latest.{pop, second, top};
+ghost use Rattle.typed_parts.specs.Stack.{parts};
 
+use crate::attribute_rules::{One, one_dimension, one_named, scalar_bound, two_named};
 use crate::calls::all_operands;
 use crate::indexes::wrong_call;
 use ada_base::{Items, Op};
-use name_primaries::attributes::{One, one_dimension, one_named, scalar_bound, two_named};
 use name_rules::found::{Attribute, Denoted, Found};
 use name_rules::log::{Dimension, Log, Rule};
 use name_rules::scope::{Context, Names};
@@ -24,7 +25,7 @@ use name_values::logs::cleared;
 use name_values::names::wrong_name;
 use name_values::types::is_integer;
 use std::alloc::AllocError;
-use tree_views::Tree;
+use tree_nodes::Tree;
 use typed_parts::Parts;
 
 /// The first name before an argument of a list.

@@ -10,7 +10,8 @@ ghost use Rattle.name_values.specs.Calling.{Calls, calling_of};
 ghost use Rattle.name_values.specs.Operands.{founds, operands_of};
 ghost use Rattle.tree_nodes.specs.Parts.{the_arg, the_args, the_expr};
 ghost use Rattle.tree_nodes.specs.Tables.{part_at};
-ghost use Rattle.typed_parts.specs.Stack.{parts, pop, top};
+ghost use Rattle.ada_typed.specs.Latest.{pop, top};
+ghost use Rattle.typed_parts.specs.Stack.{parts};
 
 use crate::expressions::{expr, judged_alone, value_for};
 use crate::indexes::wrong_call;
@@ -29,7 +30,7 @@ use name_values::names::wrong_name;
 use name_values::operands::{one_operand, with_operand};
 use name_values::types::{is_integer, wanted_of};
 use std::alloc::AllocError;
-use tree_views::Tree;
+use tree_nodes::Tree;
 use typed_parts::Parts;
 
 #[cycle(levels)]

@@ -11,7 +11,8 @@ ghost use Rattle.name_values.specs.Coverage.{Covers, as_choosing, as_covering};
 ghost use Rattle.name_values.specs.Statics.{Chooses};
 ghost use Rattle.tree_nodes.specs.Parts.{the_choice, the_choice_list, the_name, the_range, the_simple};
 ghost use Rattle.tree_nodes.specs.Tables.{part_at};
-ghost use Rattle.typed_parts.specs.Stack.{parts, pop, second, top};
+ghost use Rattle.ada_typed.specs.Latest.{pop, second, top};
+ghost use Rattle.typed_parts.specs.Stack.{parts};
 
 use crate::expressions::simple;
 use crate::primaries::name_inside;
@@ -25,7 +26,7 @@ use name_values::statics::{
     Chosen, range_values, static_bounds, static_checked, static_name, values_of,
 };
 use std::alloc::AllocError;
-use tree_views::{Choice, Range, Tree};
+use tree_nodes::{Choice, Range, Tree};
 use typed_parts::Parts;
 
 /// The scalar subtype that a name is, which is the latest part: WrongType at its first token where it is none. No part is

@@ -7,7 +7,7 @@ ghost use Rattle.name_rules.specs.Aggregates as spec;
 ghost use Rattle.tree_nodes.specs.Parts.{the_expr, the_many};
 ghost use Rattle.tree_nodes.specs.Tables.{part_at};
 
-use tree_views::{Many, Tree};
+use tree_nodes::{Many, Tree};
 
 /// Values by position and that of `others`, or associations. A list is given by the number of its first cell, or 0.
 #[derive(Clone, Copy)]

@@ -7,7 +7,8 @@ ghost use Rattle.name_rules.specs.Judging.{joined, pure};
 ghost use Rattle.name_rules.specs.Primaries as primaries;
 ghost use Rattle.tree_nodes.specs.Parts.{the_adding, the_addings, the_conjunct, the_conjuncts, the_expr, the_factor, the_multiplying, the_multiplyings, the_rel, the_simple, the_term};
 ghost use Rattle.tree_nodes.specs.Tables.{part_at};
-ghost use Rattle.typed_parts.specs.Stack.{parts, pop, second, top};
+ghost use Rattle.ada_typed.specs.Latest.{pop, second, top};
+ghost use Rattle.typed_parts.specs.Stack.{parts};
 
 use crate::primaries::inside;
 use ada_base::Op;
@@ -23,7 +24,7 @@ use name_values::scope::scalar_named;
 use name_values::types::wanted_of;
 use name_values::values::{asked, is_kind, kind_of, stored};
 use std::alloc::AllocError;
-use tree_views::{Expr, Factor, Rel, Tree};
+use tree_nodes::{Expr, Factor, Rel, Tree};
 use typed_parts::Parts;
 
 /// A factor (4.4).

@@ -8,7 +8,8 @@ ghost use Rattle.name_rules.specs.Primaries as primaries;
 ghost use Rattle.name_rules.specs.Types as types;
 ghost use Rattle.tree_nodes.specs.Parts.{the_arg, the_args};
 ghost use Rattle.tree_nodes.specs.Tables.{part_at};
-ghost use Rattle.typed_parts.specs.Stack.{parts, pop, second, top};
+ghost use Rattle.ada_typed.specs.Latest.{pop, second, top};
+ghost use Rattle.typed_parts.specs.Stack.{parts};
 
 use crate::expressions::{expr, judged_alone};
 use ada_base::Items;
@@ -22,7 +23,7 @@ use name_values::names::{component_of, is_array, part_place, wrong_name};
 use name_values::shapes::is_string;
 use name_values::values::{asked, first_of};
 use std::alloc::AllocError;
-use tree_views::Tree;
+use tree_nodes::Tree;
 use typed_parts::Parts;
 
 #[cycle(levels)]

@@ -11,15 +11,16 @@ ghost use Rattle.name_expressions.specs.Sequences.{Folds, folded_where};
 ghost use Rattle.name_values.specs.Walks.{Chunks, Enters, Walks, as_chunked};
 ghost use Rattle.tree_nodes.specs.Parts.{the_expr, the_iter, the_parallel, the_simple};
 ghost use Rattle.tree_nodes.specs.Tables.{part_at};
-ghost use Rattle.tree_views.specs.Views.{optional_expr, optional_parallel};
-ghost use Rattle.typed_parts.specs.Stack.{parts, pop, top};
+ghost use Rattle.tree_nodes.specs.Views.{optional_expr, optional_parallel};
+ghost use Rattle.ada_typed.specs.Latest.{pop, top};
+ghost use Rattle.typed_parts.specs.Stack.{parts};
 
+use crate::attribute_rules::attribute_at;
 use crate::expressions::{condition, expr, simple};
 use crate::primaries::name_inside;
 use crate::ranges::range;
 use crate::reducers::reducer_of;
 use ada_typed::SiteKind;
-use name_primaries::attributes::attribute_at;
 use name_rules::found::{Attribute, Folding, Found, Going};
 use name_rules::log::{Log, Rule};
 use name_rules::scope::{Context, Names};
@@ -34,7 +35,7 @@ use name_values::walks::{
     over_denoted, parallel_at, range_walked, within,
 };
 use std::alloc::AllocError;
-use tree_views::{Iter, Parallel, Tree};
+use tree_nodes::{Iter, Parallel, Tree};
 use typed_parts::Parts;
 
 /// A number of chunks: WrongType where it is no integer.

@@ -10,7 +10,8 @@ ghost use Rattle.name_rules.specs.Primaries as primaries;
 ghost use Rattle.name_values.specs.Putting.{Puts, putting_of};
 ghost use Rattle.tree_nodes.specs.Parts.{the_arg, the_args, the_expr};
 ghost use Rattle.tree_nodes.specs.Tables.{part_at};
-ghost use Rattle.typed_parts.specs.Stack.{parts, pop, second, top};
+ghost use Rattle.ada_typed.specs.Latest.{pop, second, top};
+ghost use Rattle.typed_parts.specs.Stack.{parts};
 
 use crate::expressions::{expr, judged_alone};
 use name_rules::found::{Denoted, Found, Put, Reach};
@@ -24,7 +25,7 @@ use name_values::putting::{
 };
 use name_values::symbols::{WIDTH, symbol};
 use std::alloc::AllocError;
-use tree_views::Tree;
+use tree_nodes::Tree;
 use typed_parts::Parts;
 
 #[cycle(levels)]

@@ -2,20 +2,21 @@
 
 ghost use Rattle.std.specs.Prelude.{◌≡◌};
 ghost use Rattle.name_expressions.specs.Primaries.{named_in};
-ghost use Rattle.name_primaries.specs.Conditionals.{Waits, waiting_if};
+ghost use Rattle.name_expressions.specs.Conditionals.{Waits, waiting_if};
 ghost use Rattle.name_rules.specs.Judges.{Judges};
 ghost use Rattle.name_rules.specs.Primaries as spec;
 ghost use Rattle.tree_nodes.specs.Parts.{the_elsifs, the_expr, the_name, the_primary};
 ghost use Rattle.tree_nodes.specs.Tables.{part_at};
-ghost use Rattle.typed_parts.specs.Stack.{parts, pop, top};
+ghost use Rattle.ada_typed.specs.Latest.{pop, top};
+ghost use Rattle.typed_parts.specs.Stack.{parts};
 
 use crate::aggregates::{aggregate, one_value};
+use crate::brackets::{grouped, no_expression, target_at, text_at};
+use crate::conditionals::{also_choice, if_found};
 use crate::expressions::{condition, expr, in_place};
 use crate::iterations::sequence;
 use crate::whole_names::{name, value_named};
 use ada_base::Items;
-use name_primaries::brackets::{grouped, no_expression, target_at, text_at};
-use name_primaries::conditionals::{also_choice, if_found};
 use name_rules::found::{Denoted, Found};
 use name_rules::log::{Log, Rule};
 use name_rules::scope::{Context, Names};
@@ -23,7 +24,7 @@ use name_rules::types::Wanted;
 use name_values::scope::no_name;
 use name_values::symbols::number;
 use std::alloc::AllocError;
-use tree_views::{Primary, Tree};
+use tree_nodes::{Primary, Tree};
 use typed_parts::Parts;
 
 /// A primary in so many brackets less one as may still be open: Limit where none may.

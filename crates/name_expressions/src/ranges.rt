@@ -7,7 +7,8 @@ ghost use Rattle.name_rules.specs.Primaries as primaries;
 ghost use Rattle.name_rules.specs.Ranges as spec;
 ghost use Rattle.tree_nodes.specs.Parts.{the_range};
 ghost use Rattle.tree_nodes.specs.Tables.{part_at};
-ghost use Rattle.typed_parts.specs.Stack.{parts, pop, second, top};
+ghost use Rattle.ada_typed.specs.Latest.{pop, second, top};
+ghost use Rattle.typed_parts.specs.Stack.{parts};
 
 use crate::expressions::simple;
 use crate::primaries::name_inside;
@@ -21,7 +22,7 @@ use name_values::relations::common_kind;
 use name_values::types::{base_of, lies_in};
 use name_values::values::{asked, first_of, is_scalar, kind_of, literal, suits, value_of};
 use std::alloc::AllocError;
-use tree_views::{Range, Tree};
+use tree_nodes::{Range, Tree};
 use typed_parts::Parts;
 
 /// Writes that a rule is broken by a range, in place of the latest part.

@@ -2,7 +2,7 @@
 
 ghost use Rattle.std.specs.Prelude.{◌≡◌, IfOk, drop};
 ghost use Rattle.ada_tree.specs.Syntax as syntax;
-ghost use Rattle.name_aggregates.specs.Filled.{counted, filled};
+ghost use Rattle.name_expressions.specs.Filled.{counted, filled};
 ghost use Rattle.name_expressions.specs.Contents.{contents_in, exprs_in, of_contents};
 ghost use Rattle.name_rules.specs.Aggregates as spec;
 ghost use Rattle.name_rules.specs.Judges.{Gives, part_if};
@@ -10,22 +10,23 @@ ghost use Rattle.name_rules.specs.Judging.{where_clean};
 ghost use Rattle.name_rules.specs.Primaries as primaries;
 ghost use Rattle.tree_nodes.specs.Parts.{the_assoc, the_assocs, the_expr, the_exprs};
 ghost use Rattle.tree_nodes.specs.Tables.{part_at};
-ghost use Rattle.tree_views.specs.Views.{optional_expr};
-ghost use Rattle.typed_parts.specs.Stack.{parts, pop, top};
+ghost use Rattle.tree_nodes.specs.Views.{optional_expr};
+ghost use Rattle.ada_typed.specs.Latest.{pop, top};
+ghost use Rattle.typed_parts.specs.Stack.{parts};
 
+use crate::associations::field_association;
 use crate::contents::Contents;
 use crate::expressions::{judged_alone, value_for};
-use ada_base::Items;
-use name_aggregates::associations::field_association;
-use name_aggregates::fields::{
+use crate::fields::{
     Filling, Positions, field_at, field_choices, is_final, is_incomplete, is_incomplete_at,
     nothing_filled, whole_record,
 };
+use ada_base::Items;
 use name_rules::log::{Field, Log, Rule};
 use name_rules::scope::{Context, Names};
 use name_values::logs::breaks;
 use std::alloc::AllocError;
-use tree_views::{Assoc, Tree};
+use tree_nodes::{Assoc, Tree};
 use typed_parts::Parts;
 
 /// The value of one component joins the associations before it, the latest part.

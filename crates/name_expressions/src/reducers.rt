@@ -10,6 +10,7 @@ ghost use Rattle.tree_nodes.specs.Tables.{part_at};
 ghost use Rattle.typed_parts.specs.Stack.{parts};
 
 use crate::expressions::judged_alone;
+use crate::operator_symbols::operator_named;
 use ada_base::Op;
 use name_rules::found::Folding;
 use name_rules::log::Log;
@@ -19,9 +20,8 @@ use name_values::reductions::{
 };
 use name_values::scope::stands_for;
 use name_values::shapes::primary_of_expr;
-use operator_symbols::operator_named;
 use std::alloc::AllocError;
-use tree_views::{NamePart, Primary, Tree};
+use tree_nodes::{NamePart, Primary, Tree};
 use typed_parts::Parts;
 
 /// An expression that is no reducer is judged for itself.

@@ -4,6 +4,7 @@ ghost use Rattle.std.specs.Prelude.{◌≡◌, ◌∷◌, OnOk};
 ghost use Rattle.ada_tree.specs.Syntax as syntax;
 ghost use Rattle.ada_typed.specs.Decoded.{AnIteration};
 ghost use Rattle.ada_typed.specs.Syntax as typed;
+ghost use Rattle.ada_typed.specs.Latest.{fourth, pop, second, third, top};
 ghost use Rattle.name_expressions.specs.Reducing.{array_reduction_by, reduced_from, reducing_of, two_of};
 ghost use Rattle.name_rules.specs.Judges.{Judges, Says, found, found_of};
 ghost use Rattle.name_rules.specs.Judging.{fault, where_clean};
@@ -15,8 +16,12 @@ ghost use Rattle.name_rules.specs.Types as types;
 ghost use Rattle.name_rules.specs.declared.log.Rule.TheVariants.{ReduceRule};
 ghost use Rattle.tree_nodes.specs.Parts.{the_arg, the_args, the_expr, the_name, the_part, the_parts};
 ghost use Rattle.tree_nodes.specs.Tables.{part_at};
-ghost use Rattle.typed_parts.specs.Stack.{fourth, parts as joined, pop, second, third, top};
+ghost use Rattle.typed_parts.specs.Stack.{parts as joined};
 
+use crate::attribute_rules::{
+    attribute_at, attribute_found, dimensions_in, is_array_object, is_bound, is_reduction,
+    mentioned, prefix_subtype, settled_attribute,
+};
 use crate::attributes::{bound_with, scalar_with};
 use crate::calls::{conversion, sub_call};
 use crate::expressions::expr;
@@ -24,10 +29,6 @@ use crate::indexes::{arg_alone, args_alone, object_call, wrong_call};
 use crate::output::io_call;
 use crate::reducers::reducer_of;
 use ada_typed::SiteKind;
-use name_primaries::attributes::{
-    attribute_at, attribute_found, dimensions_in, is_array_object, is_bound, is_reduction,
-    mentioned, prefix_subtype, settled_attribute,
-};
 use name_rules::found::{Attribute, Denoted, Folding, Found, Going, Place, Prefix};
 use name_rules::log::{Log, Rule};
 use name_rules::scope::{Context, Names};
@@ -39,7 +40,7 @@ use name_values::scope::{item, stands_for};
 use name_values::symbols::symbol;
 use name_values::walks::{components_of, new_parameter, new_site};
 use std::alloc::AllocError;
-use tree_views::{NamePart, Tree};
+use tree_nodes::{NamePart, Tree};
 use typed_parts::Parts;
 
 fn is_parallel(attribute: Attribute) -> bool

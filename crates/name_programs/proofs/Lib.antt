@@ -1,6 +1,12 @@
-mod Levels
+pub mod Contexts
+mod FromPlaces
 mod Lists
+mod Mentions
+pub mod Nested
 mod Options
 mod Outcomes
+mod Rooms
+pub mod StatementLevels
+mod SubprogramLevels
 mod Subs
 mod Wholes

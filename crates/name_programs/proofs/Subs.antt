@@ -4,14 +4,14 @@ use Rattle.std.proofs.lemmas.List.{reverse-append}
 use Rattle.std.specs.Prelude.{option_map, reverse, ◌&&◌}
 use Rattle.ada_typed.specs.Decoded.{Part}
 use Rattle.ada_typed.specs.Syntax.{Sub as TypedSub}
+use Rattle.ada_typed.specs.Latest.{pop, second, top}
 use Rattle.name_programs.specs.Forms.{sub_if, subs_if, whole_by}
-use Rattle.name_programs.specs.Steps as step
+use Rattle.name_programs.specs.SubprogramSteps as step
 use Rattle.name_rules.specs.Judges.{part_if}
 use Rattle.name_rules.specs.Judging.{joined}
 use Rattle.name_rules.specs.Programs.{Profiled, returned_body, sub_where, whole}
 use Rattle.name_tables.specs.Heads.{headed, subs_back, subs_of}
 use Rattle.name_tables.specs.declared.heads.Head.{Head}
-use Rattle.typed_parts.specs.Stack.{pop, second, top}
 
 pub sub_joined : (p : Profiled) (n : Option ℕ) (z b : Bool) (x : Part) → joined (sub_where p z) n (part_if b x) ≡ sub_if p.takes p.gives (step.sub_where n z b) x
 sub_joined p None z true x = refl

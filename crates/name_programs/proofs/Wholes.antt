@@ -3,9 +3,10 @@ use Rattle.std.proofs.Common.{◌≡◌, refl, sym, subst, ap, ℕ, ◌+◌, Boo
 use Rattle.std.specs.Prelude.{◌&&◌}
 use Rattle.ada_tree.specs.Syntax.{Aspect, Body, Formals, Main, Unit'}
 use Rattle.ada_typed.specs.Decoded.{Part, Nothing}
+use Rattle.ada_typed.specs.Latest.{pop, top}
 use Rattle.name_programs.specs.Forms.{declared_so, profiled, subs_if, whole_by}
 use Rattle.name_programs.specs.declared.programs.Sound.{Sound}
-use Rattle.name_programs.proofs.Levels.{around_up}
+use Rattle.name_programs.proofs.SubprogramLevels.{around_up}
 use Rattle.name_programs.proofs.Subs.{main_joined}
 use Rattle.name_rules.specs.Judges.{part_if}
 use Rattle.name_rules.specs.Judging.{joined}
@@ -18,10 +19,9 @@ use Rattle.name_rules.specs.declared.scope.Context.{Context}
 use Rattle.name_rules.specs.declared.scope.Names.{Names}
 use Rattle.name_rules.specs.declared.scope.Returns.{Returns}
 use Rattle.name_rules.specs.declared.types.Scalar.{Scalar}
-use Rattle.name_statements.specs.Around.{in_levels}
+use Rattle.name_programs.specs.Around.{in_levels}
 use Rattle.name_tables.specs.Heads.{subs_of}
 use Rattle.name_tables.specs.declared.heads.Head.{Head}
-use Rattle.typed_parts.specs.Stack.{pop, top}
 
 pub profile_is : (names : Names) (start : ℕ) (here : Context) (name : ℕ) (result : Option ℕ) (fs : Option Formals) (l0 l1 l2 l3 l4 : Log)
     (inner outer : Context) (found : Option (List Taken)) (gives : Option (Option Scalar)) (one number : Option ℕ)

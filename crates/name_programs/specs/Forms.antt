@@ -3,6 +3,7 @@ use Rattle.std.specs.Prelude.{◌≡◌, List, Bool, true, false, Option, Some, 
 use Rattle.ada_typed.specs.Decoded.{Part, as_body}
 use Rattle.ada_typed.specs.Syntax.{Sub as TypedSub}
 use Rattle.ada_typed.specs.declared.scalars.Scalar.{Scalar as TypedScalar}
+use Rattle.ada_typed.specs.Latest.{top, pop, second}
 use Rattle.name_programs.specs.declared.profiles.Profiled.{Profiled as Found}
 use Rattle.name_programs.specs.declared.programs.Judged.{Judged}
 use Rattle.name_programs.specs.declared.programs.Sound.{Sound}
@@ -15,7 +16,6 @@ use Rattle.name_rules.specs.declared.scope.Context.{Context}
 use Rattle.name_rules.specs.declared.types.Scalar.{Scalar}
 use Rattle.name_tables.specs.Heads.{headed, subs_of, whole_of}
 use Rattle.name_tables.specs.declared.heads.Head.{Head}
-use Rattle.typed_parts.specs.Stack.{top, pop, second}
 
 -- it judges so, joins nothing, and leaves what is around those behind it
 abbrev pub Changes : {A E : Type 0} → (Context × A) × Log → Result A E → Context → Log → Type 0

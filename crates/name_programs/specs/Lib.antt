@@ -1,3 +1,8 @@
+pub mod Around
+pub mod DeclarationSteps
+pub mod Declares
 pub mod Forms
+pub mod Nested
+pub mod OneObject
 pub mod Resolving
-pub mod Steps
+pub mod SubprogramSteps

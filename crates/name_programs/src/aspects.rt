@@ -5,10 +5,10 @@ ghost use Rattle.name_rules.specs.Judges.{Says};
 ghost use Rattle.name_rules.specs.Programs as spec;
 ghost use Rattle.tree_nodes.specs.Parts.{the_aspect};
 ghost use Rattle.tree_nodes.specs.Tables.{part_at};
-ghost use Rattle.tree_views.specs.Views.{optional};
+ghost use Rattle.tree_nodes.specs.Views.{optional};
 ghost use Rattle.typed_parts.specs.Stack.{parts};
 
-use name_declarations::rules::unless;
+use crate::rules::unless;
 use name_rules::found::{Denoted, Found};
 use name_rules::log::{Log, Rule};
 use name_rules::scope::{Context, Names};
@@ -18,7 +18,7 @@ use name_values::scope::stands_for;
 use name_values::symbols::symbol;
 use name_values::types::is_integer;
 use std::alloc::AllocError;
-use tree_views::Tree;
+use tree_nodes::Tree;
 use typed_parts::Parts;
 
 const NONBLOCKING: u32 = 33;

@@ -1,21 +1,21 @@
 //! The policy (2.8), and with and use clauses (10.1.2, 8.4).
 
 ghost use Rattle.std.specs.Prelude.{◌≡◌, ◌∷◌, OnOk};
-ghost use Rattle.name_programs.specs.Steps as step;
+ghost use Rattle.name_programs.specs.SubprogramSteps as step;
 ghost use Rattle.name_rules.specs.Judges.{Says};
 ghost use Rattle.name_rules.specs.Programs as spec;
 ghost use Rattle.tree_nodes.specs.Parts.{the_clause, the_clauses, the_pack, the_packs, the_policy, the_tokens};
 ghost use Rattle.tree_nodes.specs.Tables.{part_at};
-ghost use Rattle.tree_views.specs.Views.{optional};
+ghost use Rattle.tree_nodes.specs.Views.{optional};
 
+use crate::rules::unless;
 use ada_tree::ClauseWord;
-use name_declarations::rules::unless;
 use name_rules::log::{Log, Rule};
 use name_rules::scope::{Context, Names, Packages};
 use name_values::logs::breaks;
 use name_values::symbols::{ADA, INTEGER_IO, TEXT_IO, symbol};
 use std::alloc::AllocError;
-use tree_views::Tree;
+use tree_nodes::Tree;
 
 const POLICY: u32 = 29;
 

@@ -2,19 +2,19 @@
 
 ghost use Rattle.std.specs.Prelude.{◌≡◌, IfOk, OnOk, true};
 ghost use Rattle.name_programs.specs.Forms.{Changes, Takes, taken_if};
-ghost use Rattle.name_programs.specs.Steps as step;
+ghost use Rattle.name_programs.specs.SubprogramSteps as step;
 ghost use Rattle.name_rules.specs.Judging.{joined};
 ghost use Rattle.name_rules.specs.Programs as spec;
 ghost use Rattle.tree_nodes.specs.Parts.{the_formal, the_formal_list, the_formals};
 ghost use Rattle.tree_nodes.specs.Tables.{part_at};
-ghost use Rattle.tree_views.specs.Views.{optional};
+ghost use Rattle.tree_nodes.specs.Views.{optional};
 ghost use Rattle.typed_parts.specs.Stack.{parts};
 
+use crate::declaration_lists::{all_ids, begun_names, ended_name};
+use crate::objects::{cells_counted, new_object};
 use ada_base::Items;
 use ada_tree::Mode as TreeMode;
 use ada_typed::Mode;
-use name_declarations::lists::{all_ids, begun_names, ended_name};
-use name_declarations::objects::{cells_counted, new_object};
 use name_rules::log::{Log, Rule, Taken};
 use name_rules::scope::{Context, Names, What};
 use name_rules::types::Subtype;
@@ -22,7 +22,7 @@ use name_values::logs::breaks;
 use name_values::scope::subtype_named;
 use name_values::symbols::symbol;
 use std::alloc::AllocError;
-use tree_views::Tree;
+use tree_nodes::Tree;
 use typed_parts::Parts;
 
 fn mode_of(mode: Option<TreeMode>) -> Mode

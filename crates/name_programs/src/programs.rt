@@ -2,27 +2,28 @@
 
 ghost use Rattle.std.specs.Prelude.{◌≡◌, ◌-◌, ◌&&◌, IfOk};
 ghost use Rattle.name_programs.specs.Forms.{Units, declared_so, headed_if, subs_if, whole_if};
-ghost use Rattle.name_programs.specs.Steps as step;
+ghost use Rattle.name_programs.specs.SubprogramSteps as step;
 ghost use Rattle.name_rules.specs.Judging.{joined};
 ghost use Rattle.name_rules.specs.Programs as spec;
 ghost use Rattle.name_rules.specs.Scope.{standard};
 ghost use Rattle.tree_nodes.specs.Parts.{the_main, the_program, the_unit, the_units};
 ghost use Rattle.tree_nodes.specs.Tables.{part_at};
-ghost use Rattle.typed_parts.specs.Stack.{parts, pop, second, third, top};
+ghost use Rattle.ada_typed.specs.Latest.{pop, second, third, top};
+ghost use Rattle.typed_parts.specs.Stack.{parts};
 
 use crate::aspects::{aspect, end_name};
+use crate::bodies::body;
 use crate::clauses::{clauses, policy};
+use crate::declarations::declaration;
 use crate::subprograms::{above, subprogram};
 use ada_base::{Items, Reason};
-use name_declarations::declarations::declaration;
 use name_rules::entries::Entries;
 use name_rules::log::Log;
 use name_rules::scope::{Context, Entry, Names, Packages, Returns, Target, What};
 use name_rules::types::{Kind, Scalar, Subtype};
-use name_statements::bodies::body;
 use name_tables::heads::Head;
 use std::alloc::AllocError;
-use tree_views::{Tree, Unit};
+use tree_nodes::{Tree, Unit};
 use typed_parts::Parts;
 
 /// What has no fault in a declarative part so far: what is elaborated, and the subprograms.
@@ -76,7 +77,7 @@ fn also_sub(
 }
 
 /// A declaration or a subprogram of the main procedure, in so many levels as may be open in a statement of it.
-#[tactic(auto, using(crate::proofs::Levels::level_up))]
+#[tactic(auto, using(crate::proofs::SubprogramLevels::level_up))]
 fn unit(
     names: &Names,
     levels: u32,

@@ -21,7 +21,7 @@ use name_symbols::naming::names_of;
 use name_tables::tables::typed;
 use std::alloc::{AllocError, Global};
 use thiserror::Error;
-use tree_views::Tree;
+use tree_nodes::Tree;
 use typed_parts::Parts;
 
 /// How many levels of statements and brackets may stand in one another.

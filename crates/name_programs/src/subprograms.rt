@@ -2,31 +2,32 @@
 
 ghost use Rattle.std.specs.Prelude.{◌≡◌, ◌+◌, ◌∷◌, IfOk, OnOk, map, option_map};
 ghost use Rattle.ada_typed.specs.Decoded.{as_formals};
+ghost use Rattle.ada_typed.specs.Latest.{pop, second, top};
 ghost use Rattle.name_programs.specs.Forms.{Bodies, Subprograms, headed_if, profiled, sub_if};
-ghost use Rattle.name_programs.specs.Steps as step;
+ghost use Rattle.name_programs.specs.SubprogramSteps as step;
 ghost use Rattle.name_rules.specs.Judges.{Gives};
 ghost use Rattle.name_rules.specs.Primaries as primaries;
 ghost use Rattle.name_rules.specs.Programs as spec;
 ghost use Rattle.name_rules.specs.Types.{typed_scalar};
 ghost use Rattle.tree_nodes.specs.Parts.{the_aspect, the_bracketed, the_expr, the_formals, the_implementation, the_sub};
 ghost use Rattle.tree_nodes.specs.Tables.{part_at};
-ghost use Rattle.tree_views.specs.Views.{optional};
-ghost use Rattle.typed_parts.specs.Stack.{parts, pop, second, top};
+ghost use Rattle.tree_nodes.specs.Views.{optional};
+ghost use Rattle.typed_parts.specs.Stack.{parts};
 
 use crate::aspects::{aspect, end_name};
+use crate::bodies::body;
+use crate::declarations::declarations;
 use crate::profiles::{Profiled, profile};
 use ada_base::Items;
 use ada_typed::{Formal, Leaf};
-use name_declarations::declarations::declarations;
 use name_expressions::expressions::{judged_alone, value_for};
 use name_rules::log::{Log, Taken};
 use name_rules::scope::{Context, Names, Returns};
 use name_rules::types::{Scalar, Subtype};
-use name_statements::bodies::body;
 use name_tables::heads::Head;
 use name_values::types::typed_scalar;
 use std::alloc::AllocError;
-use tree_views::{Sub, Tree};
+use tree_nodes::{Sub, Tree};
 use typed_parts::Parts;
 
 /// One level more than this. There are never so many.
@@ -51,7 +52,7 @@ fn sub_where(number: Option<u32>, nonblocking: bool, given: bool) -> Option<bool
 
 /// A subprogram of its declarations, its statements and its handlers, in so many levels as may be open in a statement of
 /// it: whether it is nonblocking, unless it has a fault. Its body is the latest part.
-#[tactic(auto, unfolding(name_rules::specs::Programs::with_body), using(crate::proofs::Levels::level_up, crate::proofs::Levels::around_up, crate::proofs::Subs::sub_joined))]
+#[tactic(auto, unfolding(name_rules::specs::Programs::with_body), using(crate::proofs::SubprogramLevels::level_up, crate::proofs::SubprogramLevels::around_up, crate::proofs::Subs::sub_joined))]
 fn with_body(
     names: &Names,
     levels: u32,

@@ -13,6 +13,8 @@ use Rattle.ada_typed.specs.declared.expressions.Root.TheVariants as root
 use Rattle.ada_typed.specs.declared.scalars.Class.TheVariants as class
 use Rattle.ada_typed.specs.Syntax.{Stmts}
 use Rattle.ada_typed.specs.declared.scalars.Scalar.{Scalar}
+use Rattle.ada_typed.specs.Indexes as u_Indexes
+use Rattle.ada_typed.specs.Latest as u_Stack
 use Rattle.name_rules.specs.declared.log.Fault.{Fault}
 use Rattle.name_rules.specs.declared.log.Rule.{Rule}
 use Rattle.name_rules.specs.declared.log.Rule.TheVariants as rule
@@ -40,8 +42,6 @@ use Rattle.name_rules.specs.Statements as u_Statements
 use Rattle.name_rules.specs.Types as u_Types
 use Rattle.name_rules.specs.Values as u_Values
 use Rattle.name_rules.specs.TypedParts as u_TypedParts
-use Rattle.typed_parts.specs.Indexes as u_Indexes
-use Rattle.typed_parts.specs.Stack as u_Stack
 
 abbrev term : s.Primary → s.Term
 term p = s.Product (s.Operand p) s.NoMultiplying

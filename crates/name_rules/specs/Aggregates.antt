@@ -39,7 +39,7 @@ use Rattle.std.specs.List.{list_all, list_any}
 use Rattle.std.specs.Prelude.{Bool, List, None, Option, Some, [], drop, false, if◌then◌else◌, int_le, int_lt, length, map, not, option_map, pos, true, unsigned_abs, ℕ, ℤ, ◌&&◌, ◌*◌, ◌++◌, ◌+ℤ◌, ◌+◌, ◌-ℤ◌, ◌==◌, ◌||◌, ◌∷◌}
 use Rattle.name_rules.specs.TypedParts.{also, also_all, exprs_of}
 use Rattle.ada_typed.specs.Decoded.{Part as TypedPart, as_associations}
-use Rattle.typed_parts.specs.Stack.{turned}
+use Rattle.ada_typed.specs.Latest.{turned}
 
 -- ---- what stands in an aggregate's brackets
 

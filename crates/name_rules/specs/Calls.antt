@@ -33,7 +33,7 @@ use Rattle.std.specs.List.{list_any, position}
 use Rattle.std.specs.Prelude.{Bool, List, None, Option, Some, [], false, if◌then◌else◌, is_some, length, nat_lt, not, slice_get, true, ℕ, ◌++◌, ◌+◌, ◌==◌, ◌||◌, ◌∷◌}
 use Rattle.name_rules.specs.TypedParts.{also, selections_of}
 use Rattle.ada_typed.specs.Decoded.{Part as TypedPart, as_expr, as_actuals}
-use Rattle.typed_parts.specs.Stack.{turned}
+use Rattle.ada_typed.specs.Latest.{turned}
 
 -- ---- actual parameters (6.4.1)
 

@@ -32,7 +32,7 @@ use Rattle.ada_typed.specs.declared.scalars.Class.TheVariants as class
 use Rattle.std.specs.Prelude.{Bool, None, Option, Some, false, if◌then◌else◌, int_le, nat_le, not, option_map, pos, true, ℕ, ℤ, ◌&&◌, ◌+◌, ◌==◌}
 use Rattle.name_rules.specs.TypedParts.{selections_of}
 use Rattle.ada_typed.specs.Decoded.{Part as TypedPart, as_expr, as_pieces}
-use Rattle.typed_parts.specs.Stack.{turned}
+use Rattle.ada_typed.specs.Latest.{turned}
 
 abbrev pub done_by : ℕ → TypedStmt → Denoted
 done_by first s = denote (denoted.Done first) (part.AStmt s)

@@ -40,7 +40,7 @@ use Rattle.std.specs.List.{find}
 use Rattle.std.specs.Prelude.{Bool, List, None, Option, Some, [], false, if◌then◌else◌, length, nat_le, not, option_map, reverse, slice_get, suc, true, zero, ℕ, ◌++◌, ◌+◌, ◌-◌, ◌==◌, ◌∷◌}
 use Rattle.name_rules.specs.TypedParts.{pair, also, exprs_of, selections_of, nested_stmts}
 use Rattle.ada_typed.specs.Decoded.{Part as TypedPart, as_expr, as_optional, as_iteration, as_chunk, as_decls, as_stmts, as_alternatives, as_arms, as_handlers, as_body}
-use Rattle.typed_parts.specs.Stack.{turned}
+use Rattle.ada_typed.specs.Latest.{turned}
 
 -- how the statements in a statement are judged
 abbrev pub Within : Type 0

@@ -2,8 +2,8 @@
 use Rattle.ada_typed.specs.Decoded.{Part, Nothing, Cons, AStmt, as_expr, as_exprs, as_selections, as_stmts}
 use Rattle.ada_typed.specs.Syntax.{Expr, Exprs, Selections, Stmts}
 use Rattle.ada_typed.specs.Syntax as typed
-use Rattle.typed_parts.specs.Stack.{onto, turned}
-use Rattle.typed_parts.specs.Stack as stack
+use Rattle.ada_typed.specs.Latest.{onto, turned}
+use Rattle.ada_typed.specs.Latest as stack
 
 -- ---- pairs
 

@@ -10,7 +10,7 @@ use crate::texts::{texts_of, values_of};
 use ada_base::Tokens;
 use name_rules::scope::Names;
 use std::alloc::{AllocError, Global};
-use tree_views::{Tree, Unit};
+use tree_nodes::{Tree, Unit};
 
 fn one_sub(tree: &Tree, id: u32) -> u32
     ensures { result ≡ spec.one_sub (the_unit (part_at tree.now.nodes id)) }

@@ -5,12 +5,12 @@ use Rattle.ada_typed.specs.Decoded.{Part, as_body, body_at, part_at}
 use Rattle.ada_typed.specs.Programs.{program, sub_of, subtype_of}
 use Rattle.ada_typed.specs.declared.node.Node.{Node}
 use Rattle.ada_typed.specs.declared.typed.Typed.{Typed}
+use Rattle.ada_typed.specs.Latest.{pop, top}
 use Rattle.name_rules.specs.Resolved.{typed_by, typed_subtype}
 use Rattle.name_rules.specs.declared.log.Log.{Log}
 use Rattle.name_tables.specs.Heads.{subs_of, whole_of}
 use Rattle.name_tables.specs.Shapes.{rest_of, with_parts}
 use Rattle.name_tables.specs.declared.heads.Head.{Head}
-use Rattle.typed_parts.specs.Stack.{pop, top}
 
 typed_is : (t : Typed) (log : Log) (hs : List Head) (ps : List Part)
     → map (subtype_of t.nodes) t.subtypes ≡ map typed_subtype log.shapes → map (sub_of t.nodes) t.subs ≡ subs_of hs (pop ps)

@@ -2,9 +2,9 @@
 use Rattle.std.specs.Prelude.{Bool, List, [], ◌∷◌, reverse}
 use Rattle.ada_typed.specs.Decoded.{Part, as_body, as_formals}
 use Rattle.ada_typed.specs.Syntax.{Sub}
+use Rattle.ada_typed.specs.Latest.{top, pop, second}
 use Rattle.name_rules.specs.Programs.{Whole}
 use Rattle.name_tables.specs.declared.heads.Head.{Head}
-use Rattle.typed_parts.specs.Stack.{top, pop, second}
 
 -- a subprogram of the parts that are the list of its formal parameters and its body
 abbrev pub headed : Head → Part → Part → Sub

@@ -3,10 +3,10 @@
 use Rattle.std.specs.Prelude.{List, [], ◌∷◌}
 use Rattle.ada_typed.specs.Decoded.{Part, as_bounds, as_fields}
 use Rattle.ada_typed.specs.Syntax.{Subtype, OfScalar, Array, Record}
+use Rattle.ada_typed.specs.Latest.{top, pop}
 use Rattle.name_rules.specs.Types.{typed_scalar}
 use Rattle.name_rules.specs.declared.log.Shape.{Shape}
 use Rattle.name_rules.specs.declared.log.Shape.TheVariants as shape
-use Rattle.typed_parts.specs.Stack.{top, pop}
 
 abbrev pub with_part : Shape → Part → Subtype
 with_part (shape.Scalar s) p = OfScalar (typed_scalar s)

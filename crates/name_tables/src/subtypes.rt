@@ -3,10 +3,11 @@
 ghost use Rattle.std.specs.Prelude.{◌≡◌, ◌++◌, IfOk, OnOk, map};
 ghost use Rattle.ada_typed.specs.Decoded.{as_bounds, as_fields, part_at};
 ghost use Rattle.ada_typed.specs.Programs.{subtype_of};
+ghost use Rattle.ada_typed.specs.Latest.{pop, top};
 ghost use Rattle.name_rules.specs.Resolved.{dimension_bounds, typed_field, typed_subtype};
 ghost use Rattle.name_rules.specs.Types as types;
 ghost use Rattle.name_tables.specs.Shapes.{rest_of, with_part, with_parts};
-ghost use Rattle.typed_parts.specs.Stack.{parts, parts_in, pop, top};
+ghost use Rattle.typed_parts.specs.Stack.{parts, parts_in};
 
 use ada_base::{Base, Items};
 use ada_typed::{Bounds, Class, Leaf, Nodes, Subtype};

@@ -5,6 +5,7 @@ use Rattle.std.proofs.lemmas.Bool.Decides.{nat_tests}
 use Rattle.ada_typed.specs.Decoded.{Part}
 use Rattle.ada_typed.specs.Decoded as part
 use Rattle.ada_typed.specs.Syntax as typed
+use Rattle.ada_typed.specs.Latest.{top, pop}
 use Rattle.name_rules.specs.Judging.{fault, some}
 use Rattle.name_rules.specs.Found.{Denoted, denote}
 use Rattle.name_rules.specs.Names.{field_from, part_place}
@@ -15,7 +16,6 @@ use Rattle.name_rules.specs.declared.log.Field.{Field}
 use Rattle.name_rules.specs.declared.log.Log.{Log}
 use Rattle.name_rules.specs.declared.log.Rule.TheVariants.{Unknown}
 use Rattle.name_rules.specs.declared.scope.Names.{Names}
-use Rattle.typed_parts.specs.Stack.{top, pop}
 use Rattle.name_values.proofs.Lists.{drop_get, drop_none}
 
 eq-true : (a b : ℕ) → a ≡ b → (a == b) ≡ true

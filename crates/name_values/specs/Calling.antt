@@ -1,11 +1,11 @@
 -- What is found of the arguments of a call, with its parts: the actual parameters so far are a list that grows.
 use Rattle.std.specs.Prelude.{◌≡◌, ◌+◌, ◌||◌, ◌∷◌, ◌++◌, [], ℕ, Bool, List, Option, Some, None, Result, Ok, Err, is_some, reverse}
 use Rattle.ada_typed.specs.Decoded.{Part}
+use Rattle.ada_typed.specs.Latest.{top, pop}
 use Rattle.name_rules.specs.Calls.{Calling, late_at}
 use Rattle.name_rules.specs.Judges.{part_if}
 use Rattle.name_rules.specs.declared.log.Log.{Log}
 use Rattle.name_values.specs.declared.actuals.Calling.{Calling as KnownCalling}
-use Rattle.typed_parts.specs.Stack.{top, pop}
 
 -- the parameters that were given stand the latest first
 abbrev pub calling_of : KnownCalling → Part → Calling

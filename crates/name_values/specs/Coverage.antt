@@ -4,6 +4,7 @@ use Rattle.ada_base.specs.declared.reason.Reason.{Reason}
 use Rattle.ada_tree.specs.Syntax.{Pack}
 use Rattle.ada_typed.specs.Decoded.{Part, as_reasons}
 use Rattle.ada_typed.specs.Syntax as typed
+use Rattle.ada_typed.specs.Latest.{top, pop}
 use Rattle.name_rules.specs.Cases as cases
 use Rattle.name_rules.specs.Judging.{Judging, pure, unless, ◌>>=◌}
 use Rattle.name_rules.specs.Names.{exception}
@@ -15,7 +16,6 @@ use Rattle.name_values.specs.declared.coverage.Choosing.{Choosing}
 use Rattle.name_values.specs.declared.coverage.Covering.{Covering}
 use Rattle.name_values.specs.declared.handled.Handling.TheVariants as handling
 use Rattle.name_values.specs.declared.handled.Handling.{Handling}
-use Rattle.typed_parts.specs.Stack.{top, pop}
 
 -- ---- choices
 

@@ -2,13 +2,13 @@
 use Rattle.std.specs.Prelude.{◌≡◌, ℕ, List, Option, Result, Ok, Err}
 use Rattle.ada_tree.specs.Syntax.{Args}
 use Rattle.ada_typed.specs.Decoded.{Part}
+use Rattle.ada_typed.specs.Latest.{pop, second, top}
 use Rattle.name_rules.specs.Found.{Denoted, Found}
 use Rattle.name_rules.specs.Judges.{part_if}
 use Rattle.name_rules.specs.Judging.{Judging, given, ◌>>=◌}
 use Rattle.name_rules.specs.Output.{Putting, alone_given, get_of}
 use Rattle.name_rules.specs.declared.log.Log.{Log}
 use Rattle.name_values.specs.declared.putting.Putting.{Putting as KnownPutting}
-use Rattle.typed_parts.specs.Stack.{pop, second, top}
 
 abbrev pub putting_of : KnownPutting → Part → Part → Putting
 putting_of p item width = record { count = p.count; item = part_if p.item item; has_width = p.has_width; width = part_if p.width width }

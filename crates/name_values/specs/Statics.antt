@@ -2,6 +2,7 @@
 use Rattle.std.specs.Prelude.{◌≡◌, ℕ, ℤ, Bool, true, false, List, Option, Some, None, Result, Ok, Err, if◌then◌else◌, option_map, ◌&&◌}
 use Rattle.ada_typed.specs.Decoded.{Part}
 use Rattle.ada_typed.specs.declared.statements.Span.{Span}
+use Rattle.ada_typed.specs.Latest.{top, pop}
 use Rattle.name_rules.specs.Found.{Found}
 use Rattle.name_rules.specs.Judges.{found_of}
 use Rattle.name_rules.specs.Judging.{Judging, breaks, pure, unless, ◌>>=◌}
@@ -19,7 +20,6 @@ use Rattle.name_rules.specs.declared.types.Scalar.{Scalar}
 use Rattle.name_rules.specs.declared.types.Subtype.TheVariants as subtype
 use Rattle.name_rules.specs.declared.types.Subtype.{Subtype}
 use Rattle.name_values.specs.declared.statics.Chosen.{Chosen}
-use Rattle.typed_parts.specs.Stack.{top, pop}
 
 -- ---- whether an expression takes a type, as `asked` judges it
 

@@ -4,6 +4,7 @@ use Rattle.ada_tree.specs.Syntax.{OptionalExpr}
 use Rattle.ada_typed.specs.Decoded as part
 use Rattle.ada_typed.specs.Decoded.{Part}
 use Rattle.ada_typed.specs.Syntax as typed
+use Rattle.ada_typed.specs.Latest.{top, second, pop}
 use Rattle.name_rules.specs.Iterations as iterations
 use Rattle.name_rules.specs.Judges.{part_if}
 use Rattle.name_rules.specs.Judging.{Judging, breaks, pure, ◌>>=◌}
@@ -20,8 +21,7 @@ use Rattle.name_values.specs.declared.walks.Way.TheVariants as way
 use Rattle.name_values.specs.declared.walks.Way.{Way}
 use Rattle.tree_nodes.specs.Tables.{part_at}
 use Rattle.tree_nodes.specs.declared.nodes.Node.{Node}
-use Rattle.tree_views.specs.Views.{optional_expr}
-use Rattle.typed_parts.specs.Stack.{top, second, pop}
+use Rattle.tree_nodes.specs.Views.{optional_expr}
 
 -- an iteration without its filter, by its bounds or the selections of its array
 abbrev pub made_by : Way → Part → Part

@@ -3,12 +3,13 @@
 ghost use Rattle.std.specs.Prelude.{◌≡◌, ◌==◌, ◌∷◌, IfOk, OnOk, reverse};
 ghost use Rattle.std.specs.List.{list_any, position};
 ghost use Rattle.ada_typed.specs.Decoded as part;
+ghost use Rattle.ada_typed.specs.Latest.{pop, second, top};
 ghost use Rattle.name_rules.specs.Calls as spec;
 ghost use Rattle.name_rules.specs.Judges.{Gives, Judges, Says, found, part_if};
 ghost use Rattle.name_rules.specs.Judging.{some};
 ghost use Rattle.name_rules.specs.TypedParts.{selections_of};
 ghost use Rattle.name_values.specs.Calling.{Leaves, calling_of, next_calling};
-ghost use Rattle.typed_parts.specs.Stack.{parts, pop, second, top};
+ghost use Rattle.typed_parts.specs.Stack.{parts};
 
 use crate::logs::{breaks, not_given};
 use crate::symbols::symbol;

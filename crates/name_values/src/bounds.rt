@@ -4,7 +4,8 @@ ghost use Rattle.std.specs.Prelude.{◌≡◌, IfOk};
 ghost use Rattle.name_rules.specs.Judges.{found};
 ghost use Rattle.name_rules.specs.Ranges as spec;
 ghost use Rattle.name_values.specs.Bounds.{ends_of};
-ghost use Rattle.typed_parts.specs.Stack.{parts, second, top};
+ghost use Rattle.ada_typed.specs.Latest.{second, top};
+ghost use Rattle.typed_parts.specs.Stack.{parts};
 
 use crate::statics::span_taken;
 use ada_typed::Span;

@@ -1,15 +1,15 @@
 //! Which values the choices of a case statement cover (5.4).
 
-ghost use Rattle.std.specs.Prelude.{◌≡◌, [], OnOk, false};
+ghost use Rattle.std.specs.Prelude.{◌≡◌, [], OnOk, false, int_le, option_map, reverse, ◌&&◌};
 ghost use Rattle.ada_typed.specs.Decoded.{as_spans};
+ghost use Rattle.ada_typed.specs.Latest.{pop, second, top, turned};
 ghost use Rattle.name_rules.specs.Aggregates.{sorted};
 ghost use Rattle.name_rules.specs.Cases as spec;
 ghost use Rattle.name_rules.specs.Judges.{Says, found_of};
 ghost use Rattle.name_values.specs.Coverage.{Covers, as_choosing, as_covering, others_chosen};
 ghost use Rattle.name_values.specs.Statics.{as_span};
 ghost use Rattle.std.specs.List.{list_any};
-ghost use Rattle.std.specs.Prelude.{int_le, option_map, reverse, ◌&&◌};
-ghost use Rattle.typed_parts.specs.Stack.{parts, pop, second, top, turned};
+ghost use Rattle.typed_parts.specs.Stack.{parts};
 
 use crate::logs::{also_all, breaks};
 use crate::statics::Chosen;

@@ -6,7 +6,8 @@ ghost use Rattle.name_rules.specs.Judging.{given};
 ghost use Rattle.name_rules.specs.Names as spec;
 ghost use Rattle.tree_nodes.specs.Parts.{the_pack, the_token, the_tokens};
 ghost use Rattle.tree_nodes.specs.Tables.{part_at};
-ghost use Rattle.typed_parts.specs.Stack.{parts, pop, top};
+ghost use Rattle.ada_typed.specs.Latest.{pop, top};
+ghost use Rattle.typed_parts.specs.Stack.{parts};
 
 use crate::logs::breaks;
 use crate::names::{denoted_first, wrong_name};
@@ -16,7 +17,7 @@ use name_rules::found::Denoted;
 use name_rules::log::{Log, Rule};
 use name_rules::scope::{Context, Names};
 use std::alloc::AllocError;
-use tree_views::Tree;
+use tree_nodes::Tree;
 use typed_parts::Parts;
 
 fn field_of_pack(

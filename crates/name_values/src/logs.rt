@@ -2,10 +2,11 @@
 
 ghost use Rattle.std.specs.Prelude.{◌≡◌, ◌∷◌, OnOk};
 ghost use Rattle.ada_typed.specs.Decoded as part;
+ghost use Rattle.ada_typed.specs.Latest.{pop, second, top, turned};
 ghost use Rattle.name_rules.specs.Judges.{Gives, Judges};
 ghost use Rattle.name_rules.specs.Judging.{breaks, fault};
 ghost use Rattle.name_rules.specs.TypedParts.{also_all};
-ghost use Rattle.typed_parts.specs.Stack.{parts, pop, second, top, turned};
+ghost use Rattle.typed_parts.specs.Stack.{parts};
 
 use name_rules::found::Found;
 use name_rules::log::{Fault, Log, Rule};

@@ -3,12 +3,13 @@
 ghost use Rattle.std.specs.Prelude.{◌≡◌, ◌∷◌, OnOk, slice_get};
 ghost use Rattle.ada_typed.specs.Decoded.{ASelection};
 ghost use Rattle.ada_typed.specs.Syntax as typed;
+ghost use Rattle.ada_typed.specs.Latest.{pop, top};
 ghost use Rattle.name_rules.specs.Judges.{Judges, found};
 ghost use Rattle.name_rules.specs.Judging.{fault};
 ghost use Rattle.name_rules.specs.Names as spec;
 ghost use Rattle.name_rules.specs.Types as types;
 ghost use Rattle.name_rules.specs.TypedParts.{also};
-ghost use Rattle.typed_parts.specs.Stack.{parts, pop, top};
+ghost use Rattle.typed_parts.specs.Stack.{parts};
 
 use crate::logs::breaks;
 use crate::scope::selected;

@@ -3,11 +3,12 @@
 
 ghost use Rattle.std.specs.Prelude.{◌≡◌, ◌∷◌, OnOk};
 ghost use Rattle.ada_typed.specs.Decoded as part;
+ghost use Rattle.ada_typed.specs.Latest.{pop, second, top};
 ghost use Rattle.name_rules.specs.Judges.{Judges, Opens, found, found_of};
 ghost use Rattle.name_rules.specs.Judging.{pure};
 ghost use Rattle.name_rules.specs.Operators as spec;
 ghost use Rattle.name_rules.specs.Values as values;
-ghost use Rattle.typed_parts.specs.Stack.{parts, pop, second, top};
+ghost use Rattle.typed_parts.specs.Stack.{parts};
 
 use crate::exact::{exact, signed};
 use crate::logs::{also_all, no_part, no_parts};

@@ -11,7 +11,8 @@ ghost use Rattle.name_rules.specs.declared.log.Rule.TheVariants.{Twice};
 ghost use Rattle.name_values.specs.Calling.{Leaves};
 ghost use Rattle.tree_nodes.specs.Parts.{the_args};
 ghost use Rattle.tree_nodes.specs.Tables.{part_at};
-ghost use Rattle.typed_parts.specs.Stack.{parts, pop, second, third, top};
+ghost use Rattle.ada_typed.specs.Latest.{pop, second, third, top};
+ghost use Rattle.typed_parts.specs.Stack.{parts};
 
 use crate::logs::{breaks, cleared, not_given};
 use crate::names::wrong_name;
@@ -23,7 +24,7 @@ use name_rules::found::{Denoted, Found, Place, Put, Reach};
 use name_rules::log::{Log, Rule};
 use name_rules::types::{Kind, Subtype};
 use std::alloc::AllocError;
-use tree_views::Tree;
+use tree_nodes::Tree;
 use typed_parts::Parts;
 
 /// What was found of the arguments of Put of a number: how many, whether the item could be judged, and whether there

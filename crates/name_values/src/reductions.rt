@@ -2,6 +2,7 @@
 
 ghost use Rattle.std.specs.Prelude.{◌≡◌, ◌∷◌, ◌&&◌, ◌||◌, OnOk, is_some, not};
 ghost use Rattle.ada_typed.specs.Decoded as part;
+ghost use Rattle.ada_typed.specs.Latest.{fourth, pop, second, third, top};
 ghost use Rattle.name_rules.specs.Calls as calls;
 ghost use Rattle.name_rules.specs.Judges.{Judges, Says, found};
 ghost use Rattle.name_rules.specs.Judging.{fault, joined, pure};
@@ -11,7 +12,7 @@ ghost use Rattle.name_rules.specs.Types as types;
 ghost use Rattle.name_rules.specs.Values as values;
 ghost use Rattle.name_rules.specs.declared.log.Rule.TheVariants.{ReduceRule};
 ghost use Rattle.name_values.specs.Reductions.{two_of};
-ghost use Rattle.typed_parts.specs.Stack.{fourth, parts, pop, second, third, top};
+ghost use Rattle.typed_parts.specs.Stack.{parts};
 
 use crate::actuals::gives_in;
 use crate::logs::{breaks, no_part};

@@ -5,7 +5,8 @@ ghost use Rattle.std.specs.Prelude.{◌≡◌};
 ghost use Rattle.name_rules.specs.Judges.{Judges, found, found_of};
 ghost use Rattle.name_rules.specs.Judging.{fault};
 ghost use Rattle.name_rules.specs.Operators as spec;
-ghost use Rattle.typed_parts.specs.Stack.{parts, pop, second, third, top};
+ghost use Rattle.ada_typed.specs.Latest.{pop, second, third, top};
+ghost use Rattle.typed_parts.specs.Stack.{parts};
 
 use crate::logs::{also_all, no_part, no_parts};
 use crate::operators::operation_on;

@@ -7,7 +7,7 @@ ghost use Rattle.name_rules.specs.Shapes as spec;
 ghost use Rattle.tree_nodes.specs.Parts.{the_choice, the_expr, the_simple};
 ghost use Rattle.tree_nodes.specs.Tables.{part_at};
 
-use tree_views::{Choice, Expr, Factor, Primary, Rel, Tree};
+use tree_nodes::{Choice, Expr, Factor, Primary, Rel, Tree};
 
 /// The number of the primary that a simple expression is.
 #[tactic(auto, unfolding(name_rules::specs::Shapes::primary_of_simple))]

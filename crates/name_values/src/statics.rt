@@ -7,7 +7,8 @@ ghost use Rattle.name_rules.specs.Ranges as spec;
 ghost use Rattle.name_rules.specs.Types as types;
 ghost use Rattle.name_rules.specs.Values as values;
 ghost use Rattle.name_values.specs.Statics as statics;
-ghost use Rattle.typed_parts.specs.Stack.{parts, pop, second, top};
+ghost use Rattle.ada_typed.specs.Latest.{pop, second, top};
+ghost use Rattle.typed_parts.specs.Stack.{parts};
 
 use crate::logs::breaks;
 use crate::names::denoted_first;

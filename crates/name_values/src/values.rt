@@ -2,10 +2,11 @@
 
 ghost use Rattle.std.specs.Prelude.{◌≡◌, ◌∷◌, OnOk};
 ghost use Rattle.ada_typed.specs.Decoded.{as_expr};
+ghost use Rattle.ada_typed.specs.Latest.{pop, top};
 ghost use Rattle.name_rules.specs.Judges.{Gives, Says, found};
 ghost use Rattle.name_rules.specs.TypedParts.{selections_of};
 ghost use Rattle.name_rules.specs.Values as spec;
-ghost use Rattle.typed_parts.specs.Stack.{parts, pop, top};
+ghost use Rattle.typed_parts.specs.Stack.{parts};
 
 use crate::logs::{breaks, cleared, not_given};
 use crate::types::{check_at, class_of, in_base, is_integer, same, typed_scalar};

@@ -2,6 +2,7 @@
 
 ghost use Rattle.std.specs.Prelude.{◌≡◌, ◌/◌, IfOk, OnOk, is_some, length, not, option_map};
 ghost use Rattle.ada_typed.specs.Decoded.{as_check};
+ghost use Rattle.ada_typed.specs.Latest.{pop, second, top};
 ghost use Rattle.name_rules.specs.Iterations as spec;
 ghost use Rattle.name_rules.specs.Judges.{Gives, Says, found_of, part_if};
 ghost use Rattle.name_rules.specs.Judging.{joined, pure};
@@ -12,8 +13,8 @@ ghost use Rattle.name_rules.specs.Types as types;
 ghost use Rattle.name_values.specs.Walks.{Chunks, Walks, as_walked, entry_of, made_of, over_wrong};
 ghost use Rattle.tree_nodes.specs.Parts.{the_parallel};
 ghost use Rattle.tree_nodes.specs.Tables.{part_at};
-ghost use Rattle.tree_views.specs.Views.{optional_expr};
-ghost use Rattle.typed_parts.specs.Stack.{parts, pop, second, top};
+ghost use Rattle.tree_nodes.specs.Views.{optional_expr};
+ghost use Rattle.typed_parts.specs.Stack.{parts};
 
 use crate::arrays::component_cells;
 use crate::logs::breaks;
@@ -27,7 +28,7 @@ use name_rules::log::{Log, Rule, Shape};
 use name_rules::scope::{Context, Names, What};
 use name_rules::types::Subtype;
 use std::alloc::AllocError;
-use tree_views::{Parallel, Tree};
+use tree_nodes::{Parallel, Tree};
 use typed_parts::Parts;
 
 /// The components of an array that an iteration goes through (5.5.2): its item, whether that is a constant, the array's

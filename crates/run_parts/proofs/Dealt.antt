@@ -11,7 +11,7 @@ use Rattle.ada_meaning.specs.Values.{count, without_zeros, is_in}
 use Rattle.ada_meaning.specs.Operations.{RangeCheck}
 use Rattle.ada_meaning.specs.Meaning as meaning
 use Rattle.ada_meaning.specs.Meaning.{arms_of, with_parameter}
-use Rattle.ada_stored.specs.Stored.{Stored, ret, bind, leaves, checks}
+use Rattle.ada_meaning.specs.Stored.{Stored, ret, bind, leaves, checks}
 use Rattle.run_store.specs.declared.ends.End.{End}
 use Rattle.run_store.specs.declared.ends.End.TheVariants as end
 use Rattle.run_store.specs.declared.ends.Leave.TheVariants as leave

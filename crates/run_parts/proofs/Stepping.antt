@@ -4,8 +4,8 @@ use Rattle.std.proofs.lemmas.List.{drop_more, drop_all}
 use Rattle.behaviours.specs.Paths.{Entity}
 use Rattle.ada_typed.specs.declared.scalars.Scalar.{Scalar}
 use Rattle.ada_meaning.specs.Values.{laid, zeros}
-use Rattle.ada_stored.specs.Stored.{Stored, bind, reads, writes}
-use Rattle.ada_stored.proofs.Cells.{get_within}
+use Rattle.ada_meaning.specs.Stored.{Stored, bind, reads, writes}
+use Rattle.ada_meaning.proofs.Cells.{get_within}
 use Rattle.run_store.specs.Shows.{Image, Goes, ShowsAs, Shows, OrNoMemory}
 use Rattle.run_store.specs.declared.ends.End.TheVariants as end
 use Rattle.run_store.specs.declared.ends.End.{End}

@@ -5,7 +5,7 @@ use Rattle.ada_base.specs.declared.reason.Reason.TheVariants as reason
 use Rattle.ada_meaning.specs.Values.{count, to_nat}
 use Rattle.ada_meaning.specs.Meaning as meaning
 use Rattle.ada_meaning.specs.Meaning.{Env, with_parameter, cut_of, value_cut_of, most_threads, most_iterations}
-use Rattle.ada_stored.specs.Stored.{Stored, sizes_of, bind, ret, is_spent}
+use Rattle.ada_meaning.specs.Stored.{Stored, sizes_of, bind, ret, is_spent}
 use Rattle.ada_typed.specs.declared.scalars.Check.{Check}
 use Rattle.ada_typed.specs.Syntax.{Arms, NoArm, Arm, Stmts}
 use Rattle.run_parts.specs.declared.chunks.Chunking.{Chunking}

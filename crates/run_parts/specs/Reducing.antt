@@ -2,7 +2,7 @@
 use Rattle.std.specs.Prelude.{Bool, ◌&&◌}
 use Rattle.ada_meaning.specs.Values.{is_in}
 use Rattle.ada_meaning.specs.Operations.{RangeCheck}
-use Rattle.ada_stored.specs.Stored.{Stored, bind, checks}
+use Rattle.ada_meaning.specs.Stored.{Stored, bind, checks}
 use Rattle.run_parts.specs.declared.reducers.Both.{Both}
 use Rattle.run_parts.specs.declared.work.Work.{Work}
 

@@ -2,7 +2,7 @@
 
 ghost use Rattle.std.specs.Prelude.{◌≡◌, ◌+◌, ◌+ℤ◌, pos, [], ◌∷◌, ◌++◌, ◌<◌, length, slice_get, slice_set, IfSome};
 ghost use Rattle.ada_meaning.specs.Values.{zeros, laid};
-ghost use Rattle.ada_stored.specs.Stored.{after_all, gathered};
+ghost use Rattle.ada_meaning.specs.Stored.{after_all, gathered};
 ghost use Rattle.run_store.specs.Shows.{Shows, entity_of, OrNoMemory};
 ghost use Rattle.run_parts.specs.Passing.{shape_of};
 ghost use Rattle.run_parts.specs.Words as spec;
@@ -14,7 +14,7 @@ use ada_base::Items;
 use run_store::{End, Object, Port, Store, cells_of};
 
 /// An iteration or a call begins.
-#[tactic(auto, unfolding(ada_stored::specs::Stored::bind, ada_stored::specs::Stored::ret, ada_stored::specs::Stored::turn))]
+#[tactic(auto, unfolding(ada_meaning::specs::Stored::bind, ada_meaning::specs::Stored::ret, ada_meaning::specs::Stored::turn))]
 pub fn turned<P: Port + Drop>(work: &Work<'_>, store: &mut Store<P>) -> Result<(), End>
     ensures { Shows P.Tells (spec.turned work.now) result store.old store.new }
 {

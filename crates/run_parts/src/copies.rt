@@ -23,7 +23,7 @@ pub fn find_sub(work: &Work<'_>, number: u32) -> Option<Sub>
 }
 
 /// The cells of the formals that are copied back, behind others.
-#[tactic(auto, unfolding(ada_stored::specs::Stored::bind, ada_stored::specs::Stored::ret, ada_stored::specs::Stored::leaves, ada_stored::specs::Stored::spent, ada_stored::specs::Stored::handles, crate::specs::Words::back_cells))]
+#[tactic(auto, unfolding(ada_meaning::specs::Stored::bind, ada_meaning::specs::Stored::ret, ada_meaning::specs::Stored::leaves, ada_meaning::specs::Stored::spent, ada_meaning::specs::Stored::handles, crate::specs::Words::back_cells))]
 pub fn back_cells<P: Port + Drop>(
     work: &Work<'_>,
     passed: &[Passed],
@@ -43,7 +43,7 @@ pub fn back_cells<P: Port + Drop>(
     }
 }
 
-#[tactic(auto, unfolding(ada_stored::specs::Stored::bind, ada_stored::specs::Stored::ret, ada_stored::specs::Stored::leaves, ada_stored::specs::Stored::spent, ada_stored::specs::Stored::handles, crate::specs::Words::read_all))]
+#[tactic(auto, unfolding(ada_meaning::specs::Stored::bind, ada_meaning::specs::Stored::ret, ada_meaning::specs::Stored::leaves, ada_meaning::specs::Stored::spent, ada_meaning::specs::Stored::handles, crate::specs::Words::read_all))]
 fn cells_back<P: Port + Drop>(
     work: &Work<'_>,
     formal: Object,
@@ -79,7 +79,7 @@ fn push_cells(out: Items<Items<i64>>, cells: Items<i64>) -> Result<Items<Items<i
 }
 
 /// What is copied back after a call, from left to right.
-#[tactic(auto, unfolding(ada_stored::specs::Stored::bind, ada_stored::specs::Stored::ret, ada_stored::specs::Stored::leaves, ada_stored::specs::Stored::spent, ada_stored::specs::Stored::handles, crate::specs::Words::all_copied_back))]
+#[tactic(auto, unfolding(ada_meaning::specs::Stored::bind, ada_meaning::specs::Stored::ret, ada_meaning::specs::Stored::leaves, ada_meaning::specs::Stored::spent, ada_meaning::specs::Stored::handles, crate::specs::Words::all_copied_back))]
 pub fn all_copied_back<P: Port + Drop>(
     work: &Work<'_>,
     calls: u32,
@@ -102,7 +102,7 @@ pub fn all_copied_back<P: Port + Drop>(
     }
 }
 
-#[tactic(auto, unfolding(ada_stored::specs::Stored::bind, ada_stored::specs::Stored::ret, ada_stored::specs::Stored::leaves, ada_stored::specs::Stored::spent, ada_stored::specs::Stored::handles, crate::specs::Words::write_all))]
+#[tactic(auto, unfolding(ada_meaning::specs::Stored::bind, ada_meaning::specs::Stored::ret, ada_meaning::specs::Stored::leaves, ada_meaning::specs::Stored::spent, ada_meaning::specs::Stored::handles, crate::specs::Words::write_all))]
 fn copied_back<P: Port + Drop>(
     work: &Work<'_>,
     calls: u32,

@@ -1,6 +1,6 @@
 //! What a walk over a program's nodes uses beside that walk: cells of objects, what calls and iterations hold, and what a
 //! reason or a value leads to.
-#![tactic(auto, unfolding(ada_stored::specs::Stored::bind, ada_stored::specs::Stored::ret, ada_stored::specs::Stored::leaves, ada_stored::specs::Stored::spent, ada_stored::specs::Stored::handles))]
+#![tactic(auto, unfolding(ada_meaning::specs::Stored::bind, ada_meaning::specs::Stored::ret, ada_meaning::specs::Stored::leaves, ada_meaning::specs::Stored::spent, ada_meaning::specs::Stored::handles))]
 
 pub mod cells;
 pub mod chains;

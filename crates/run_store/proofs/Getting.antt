@@ -8,7 +8,7 @@ use Rattle.ada_io.specs.declared.input.Got.{Got}
 use Rattle.ada_io.specs.Gets.{Last, Open, AtEnd, Broken, Gave, askings, last_of, Gets}
 use Rattle.ada_port.specs.declared.ports.Failed.{Failed}
 use Rattle.ada_port.specs.Ports.{Stream, IsTold, bytes_of, bytes_told, Puts}
-use Rattle.ada_stored.specs.Stored.{State, Stored, Computes}
+use Rattle.ada_meaning.specs.Stored.{State, Stored, Computes}
 use Rattle.run_store.specs.declared.ends.End.{End}
 use Rattle.run_store.specs.Outside.{Outside, Faults, HasGot, HasPut, GetCauses, told_input, opened}
 use Rattle.run_store.specs.Shows.{Image, Shows, Answers, Causes}

@@ -2,7 +2,7 @@
 use Rattle.std.proofs.Common.{◌≡◌, ℕ, ℤ, ◌+◌, List, Bool, true, false, cond, length, inl, inr, Result, Ok, Err, refl, sym, subst, ap, ◌∙◌}
 use Rattle.behaviours.specs.Paths as operations
 use Rattle.behaviours.specs.Paths.{Here, Everywhere}
-use Rattle.ada_stored.specs.Stored.{State, Stored, After, Cause, Left, OutOfTurns, Fault, MemoryFault, InputFault, OutputFault, Stops, at, next, next_halts, ret, bind, elaborates, apart, begun, ended, has_room, key, slot_at}
+use Rattle.ada_meaning.specs.Stored.{State, Stored, After, Cause, Left, OutOfTurns, Fault, MemoryFault, InputFault, OutputFault, Stops, at, next, next_halts, ret, bind, elaborates, apart, begun, ended, has_room, key, slot_at}
 use Rattle.run_store.specs.declared.ends.Mark.{Mark}
 use Rattle.run_store.specs.declared.ends.Object.{Object}
 use Rattle.run_store.specs.declared.ends.End.{End}

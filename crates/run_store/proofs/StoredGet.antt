@@ -10,8 +10,8 @@ use Rattle.ada_base.proofs.Readings.{Relates}
 use Rattle.behaviours.specs.Paths.{Raises}
 use Rattle.ada_meaning.specs.Operations.{Operations}
 use Rattle.ada_meaning.specs.Meaning
-use Rattle.ada_stored.specs.Stored
-use Rattle.ada_stored.specs.Stored.{State, Stored, Left, OutOfTurns, InputFault, Goes, Fails, Stops, next_halts, Computes}
+use Rattle.ada_meaning.specs.Stored
+use Rattle.ada_meaning.specs.Stored.{State, Stored, Left, OutOfTurns, InputFault, Goes, Fails, Stops, next_halts, Computes}
 use Rattle.ada_io.specs.declared.input.GetEnd.{GetEnd}
 use Rattle.ada_io.specs.declared.input.Got.{Got}
 use Rattle.ada_io.specs.declared.input.GetEnd.TheVariants.{Number, Raise, ReadFault, Spent}

@@ -8,7 +8,7 @@ use Rattle.ada_base.specs.Cuts.{One, cuts_of}
 use Rattle.ada_io.specs.declared.input.GetEnd.{GetEnd}
 use Rattle.ada_io.specs.declared.input.GetEnd.TheVariants as get
 use Rattle.ada_io.specs.declared.input.Got.{Got}
-use Rattle.ada_stored.specs.Stored.{Stored, operations, outset, bind, ret}
+use Rattle.ada_meaning.specs.Stored.{Stored, operations, outset, bind, ret}
 use Rattle.run_store.specs.Outside.{Outside}
 use Rattle.run_store.specs.Shows.{Image}
 use Rattle.run_store.specs.declared.ends.End.{End}

@@ -1,12 +1,12 @@
 -- What code shows of a part of a run that it carries out.
 use Rattle.std.specs.Prelude.{◌≡◌, ◌⊎◌, ℕ, ◌+◌, ◌-◌, ◌^◌, ◌≤◌, min, ℤ, List, [], ◌∷◌, ◌++◌, length, take, set, slice_get, nat_lt, Option, Some, None, Result, Ok, Err, true, false}
 use Rattle.ada_base.specs.declared.reason.Reason.TheVariants as reason
-use Rattle.ada_stored.specs.declared.slots.Slot.{Slot}
-use Rattle.ada_stored.specs.declared.slots.Variable.{Variable}
+use Rattle.ada_meaning.specs.declared.slots.Slot.{Slot}
+use Rattle.ada_meaning.specs.declared.slots.Variable.{Variable}
 use Rattle.run_store.specs.Outside.{Faults, Risen}
 use Rattle.behaviours.specs.Paths as operations
 use Rattle.behaviours.specs.Paths.{Entity, VariableOf, ConstantOf, Region, Here, Everywhere}
-use Rattle.ada_stored.specs.Stored.{State, Stored, Left, OutOfTurns, MemoryFault, InputFault, OutputFault, Fault, Stops, at, key, slot_at, begun, has_room, declares}
+use Rattle.ada_meaning.specs.Stored.{State, Stored, Left, OutOfTurns, MemoryFault, InputFault, OutputFault, Fault, Stops, at, key, slot_at, begun, has_room, declares}
 use Rattle.run_store.specs.declared.ends.Mark.{Mark}
 use Rattle.run_store.specs.declared.ends.Leave.{Leave}
 use Rattle.run_store.specs.declared.ends.Leave.TheVariants as leave

@@ -1,11 +1,11 @@
 //! How parts of runs end, and what they name.
 
 ghost use Rattle.std.specs.Prelude.{◌≡◌};
-ghost use Rattle.ada_stored.specs.Stored as spec;
+ghost use Rattle.ada_meaning.specs.Stored as spec;
 ghost use Rattle.run_store.specs.Shows.{entity_of};
 
 use ada_base::Reason;
-use ada_stored::Slot;
+use ada_meaning::Slot;
 
 /// How a statement is left (5.7, 6.5, 11.3).
 #[derive(Clone, Copy)]

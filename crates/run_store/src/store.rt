@@ -1,7 +1,7 @@
 //! The state of a run.
 
 ghost use Rattle.std.specs.Prelude.{◌≡◌, ◌<◌, ◌*◌, ◌+◌, length, replicate, slice_get, slice_set, IfOk, MatchResult, Ok};
-ghost use Rattle.ada_stored.specs.Stored as spec;
+ghost use Rattle.ada_meaning.specs.Stored as spec;
 ghost use Rattle.behaviours.specs.Paths as spec';
 ghost use Rattle.run_store.specs.Operating.{begins_at, got, number_of, outside_of};
 ghost use Rattle.run_store.specs.Shows.{Shows, Does, entity_of, region_of, Enters, unframed, Begins, Declares, finished, IsCell, IsSet};
@@ -10,7 +10,7 @@ use crate::ends::{End, Leave, Mark, Object, Region};
 use crate::outside::Port;
 use ada_base::{Items, Reason};
 use ada_io::GetEnd;
-use ada_stored::{Slot, Variable};
+use ada_meaning::{Slot, Variable};
 use std::alloc::{AllocError, Global};
 use std::marker::Model;
 
@@ -106,7 +106,7 @@ impl<P: Port + Drop> Store<P> {
     }
 
     /// An iteration or a call begins.
-    #[tactic(auto, unfolding(ada_stored::specs::Stored::turn))]
+    #[tactic(auto, unfolding(ada_meaning::specs::Stored::turn))]
     pub fn turn(&mut self, limit: u64) -> Result<(), End>
         ensures { Shows P.Tells (spec.turn limit) result self.old self.new }
     {
@@ -119,7 +119,7 @@ impl<P: Port + Drop> Store<P> {
     }
 
     /// The turns of a thread count from here.
-    #[tactic(auto, unfolding(ada_stored::specs::Stored::rewinds))]
+    #[tactic(auto, unfolding(ada_meaning::specs::Stored::rewinds))]
     pub fn rewind(&mut self, turns: u64)
         ensures { Does P.Tells (spec.rewinds turns) self.old self.new }
     {
@@ -127,7 +127,7 @@ impl<P: Port + Drop> Store<P> {
     }
 
     /// A cell of an object.
-    #[tactic(auto, unfolding(ada_stored::specs::Stored::reads))]
+    #[tactic(auto, unfolding(ada_meaning::specs::Stored::reads))]
     pub fn read(&self, object: Object, offset: u64) -> Result<i64, End>
         ensures { Shows P.Tells (spec.reads (entity_of object) offset) result self.now self.now }
     {
@@ -146,7 +146,7 @@ impl<P: Port + Drop> Store<P> {
     }
 
     /// A cell of a variable gets a value.
-    #[tactic(auto, unfolding(ada_stored::specs::Stored::writes))]
+    #[tactic(auto, unfolding(ada_meaning::specs::Stored::writes))]
     pub fn write(&mut self, number: u32, offset: u64, value: i64) -> Result<(), End>
         ensures { Shows P.Tells (spec.writes number offset value) result self.old self.new }
     {
@@ -288,7 +288,7 @@ impl<P: Port + Drop> Store<P> {
     }
 
     /// A piece of output.
-    #[tactic(auto, unfolding(ada_stored::specs::Stored::puts))]
+    #[tactic(auto, unfolding(ada_meaning::specs::Stored::puts))]
     pub fn put(&mut self, piece: &[u8]) -> Result<(), End>
         ensures { Shows P.Tells (spec.puts piece.now) result self.old self.new }
     {

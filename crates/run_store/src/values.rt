@@ -4,7 +4,7 @@ ghost use Rattle.std.specs.Prelude.{◌≡◌, ◌<◌, ◌+◌, ◌+ℤ◌, ◌
 ghost use Rattle.ada_base.specs.Operation as operation;
 ghost use Rattle.ada_meaning.specs.Values as spec;
 ghost use Rattle.ada_meaning.specs.Operations as meaning;
-ghost use Rattle.ada_stored.specs.Stored as stored;
+ghost use Rattle.ada_meaning.specs.Stored as stored;
 ghost use Rattle.run_store.specs.Shows.{Shows, OrNoMemory};
 ghost use Rattle.run_store.specs.Operating.{unary_then};
 
@@ -145,7 +145,7 @@ fn in_base(base: Base, op: Op, x: i64, y: i64) -> Option<i64>
 
 impl<P: Port + Drop> Store<P> {
     /// An operator on two values, with its checks (4.5).
-    #[tactic(auto, unfolding(ada_stored::specs::Stored::bind, ada_stored::specs::Stored::ret, ada_stored::specs::Stored::leaves))]
+    #[tactic(auto, unfolding(ada_meaning::specs::Stored::bind, ada_meaning::specs::Stored::ret, ada_meaning::specs::Stored::leaves))]
     pub fn operate(&self, op: Op, at: u32, class: Class, x: i64, y: i64) -> Result<i64, End>
         ensures { Shows P.Tells (meaning.operate stored.doings stored.checks op at class x y) result self.now self.now }
     {
@@ -166,7 +166,7 @@ impl<P: Port + Drop> Store<P> {
     }
 
     /// A unary operator, with its check (4.5.4, 4.5.6).
-    #[tactic(auto, unfolding(ada_stored::specs::Stored::bind, ada_stored::specs::Stored::ret, ada_stored::specs::Stored::leaves))]
+    #[tactic(auto, unfolding(ada_meaning::specs::Stored::bind, ada_meaning::specs::Stored::ret, ada_meaning::specs::Stored::leaves))]
     pub fn unary(&self, sign: Sign, at: u32, class: Class, value: i64) -> Result<i64, End>
         ensures { Shows P.Tells (unary_then sign at class value) result self.now self.now }
     {

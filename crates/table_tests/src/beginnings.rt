@@ -3,10 +3,9 @@ use first_tokens::{of_stmt, of_stmts};
 use reader_combinators::Fault;
 use std::alloc::Global;
 use tree_nodes::{
-    Four, Leaf, ListKind, One, Parts, Three, Two, also, bare, begin, close, four, leaf, leave_out,
-    nothing, one, swap, take_name, three, two,
+    Four, Leaf, ListKind, One, Parts, Three, Tree, Two, also, bare, begin, close, finish, four,
+    leaf, leave_out, nothing, one, swap, take_name, three, two,
 };
-use tree_views::{Tree, finish};
 
 /// A call that joins parts.
 enum Step {

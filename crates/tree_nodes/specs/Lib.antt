@@ -1,7 +1,10 @@
+pub mod Below
 pub mod Names
 pub mod Parts
 pub mod Props
 pub mod Rooted
 pub mod Stack
 pub mod Tables
+pub mod Trees
 pub mod Values
+pub mod Views

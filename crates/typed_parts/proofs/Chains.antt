@@ -4,8 +4,10 @@ use Rattle.ada_typed.specs.declared.node.Node.{Node}
 use Rattle.ada_typed.specs.declared.scalars.Class.{Class}
 use Rattle.ada_typed.specs.Decoded.{Part, AnExpr, as_expr, part_at}
 use Rattle.ada_typed.specs.Syntax.{Expr}
-use Rattle.typed_parts.specs.Classes.{with_class, joined, rejoined, GoesOn, Leads}
-use Rattle.typed_parts.specs.Stack.{top, pop, AllBelow}
+use Rattle.ada_typed.specs.Classes.{with_class}
+use Rattle.ada_typed.specs.Latest.{top, pop}
+use Rattle.typed_parts.specs.ClassChains.{joined, rejoined, GoesOn, Leads}
+use Rattle.typed_parts.specs.Stack.{AllBelow}
 use Rattle.typed_parts.proofs.Stacks.{below_end, below_front}
 
 pub rejoined_end : (c : Class) (at : ℕ → Part) (ks : List ℕ) (k : ℕ) (e : Expr) → rejoined c at (ks ++ k ∷ []) e ≡ rejoined c at ks (joined c (as_expr (at k)) e)

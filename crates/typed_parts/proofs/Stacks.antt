@@ -11,7 +11,8 @@ use Rattle.ada_typed.specs.Ordered.{NodeBelow, IsOrdered}
 use Rattle.ada_typed.specs.Written.{put, last}
 use Rattle.ada_typed.proofs.Reading.{part_stable, part_below, part_last, part_none, part_read}
 use Rattle.ada_typed.proofs.Order.{ordered_put}
-use Rattle.typed_parts.specs.Stack.{Table, parts, parts_in, stacked, top, pop, onto, IsLatest, AllBelow, Fit, Stays}
+use Rattle.ada_typed.specs.Latest.{top, pop, onto}
+use Rattle.typed_parts.specs.Stack.{Table, parts, parts_in, stacked, IsLatest, AllBelow, Fit, Stays}
 
 abbrev table : List Node → List ℕ → Table
 table ns rs = record { nodes = ns; roots = rs }

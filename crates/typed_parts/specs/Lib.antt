@@ -1,5 +1,5 @@
-pub mod Classes
-pub mod Indexes
+pub mod ClassChains
+pub mod IndexChains
 pub mod Lists
 pub mod Looks
 pub mod Stack

@@ -2,7 +2,7 @@
 use Rattle.std.specs.Prelude.{ℕ, ◌≡◌, ◌<◌, ◌≤◌, List, [], ◌∷◌, ◌++◌, length, slice_get, Some}
 use Rattle.ada_typed.specs.declared.node.Node.TheVariants as node
 use Rattle.ada_typed.specs.declared.node.Node.{Node}
-use Rattle.ada_typed.specs.Decoded.{Part, Nothing, Cons, LeafCons, part_at}
+use Rattle.ada_typed.specs.Decoded.{Part, part_at}
 use Rattle.ada_typed.specs.Ordered.{IsOrdered}
 
 -- a table of nodes, and the numbers of the parts that are being joined, the latest last
@@ -21,45 +21,6 @@ parts_in nodes roots = stacked (part_at nodes) roots []
 -- the parts that are being joined, the latest first
 abbrev pub parts : Table → List Part
 parts t = parts_in t.nodes t.roots
-
-abbrev pub top : List Part → Part
-top [] = Nothing
-top (p ∷ ps) = p
-
-abbrev pub pop : List Part → List Part
-pop [] = []
-pop (p ∷ ps) = ps
-
-abbrev pub second : List Part → Part
-second ps = top (pop ps)
-
-abbrev pub third : List Part → Part
-third ps = top (pop (pop ps))
-
-abbrev pub fourth : List Part → Part
-fourth ps = top (pop (pop (pop ps)))
-
-abbrev pub fifth : List Part → Part
-fifth ps = top (pop (pop (pop (pop ps))))
-
--- a list in the other order, before what is there; a part that is no list is an empty one
-abbrev pub onto : Part → Part → Part
-onto (Cons p q) rest = onto q (Cons p rest)
-onto (LeafCons l q) rest = onto q (LeafCons l rest)
-onto p rest = rest
-
--- a list that was joined item by item, the latest first, in the order of the items
-unfoldable pub turned : Part → Part
-turned p = onto p Nothing
-
--- the first part of a pair, and the second
-abbrev pub first_of : Part → Part
-first_of (Cons p q) = p
-first_of p = Nothing
-
-abbrev pub rest_of : Part → Part
-rest_of (Cons p q) = q
-rest_of p = Nothing
 
 -- the last of some numbers, with those before it, or 0 where there is none
 abbrev pub IsLatest : List ℕ → List ℕ → ℕ → Type 0

@@ -3,7 +3,8 @@
 ghost use Rattle.std.specs.Prelude.{◌≡◌, ◌<◌, ◌∷◌, ◌++◌, [], OnOk, IfOk, length};
 ghost use Rattle.ada_typed.specs.Decoded.{Nothing, of_node, part_at};
 ghost use Rattle.ada_typed.specs.Ordered.{NodeBelow};
-ghost use Rattle.typed_parts.specs.Stack.{parts, pop, top, IsLatest};
+ghost use Rattle.ada_typed.specs.Latest.{pop, top};
+ghost use Rattle.typed_parts.specs.Stack.{parts, IsLatest};
 
 mod bodies;
 mod expressions;

@@ -8,7 +8,7 @@ use Rattle.run_store.specs.Shows.{Shows, ShowsAs, region_of}
 use Rattle.run_parts.specs.Passing.{course_of, passed_list, returned_of}
 use Rattle.run_parts.specs.Reducing.{both_checked}
 use Rattle.run_parts.specs.Dealing.{chunking_of}
-use Rattle.ada_stored.specs.Stored.{first_of_both, after_all, ret}
+use Rattle.ada_meaning.specs.Stored.{first_of_both, after_all, ret}
 use Rattle.run_parts.specs.Caught.{caught}
 use Rattle.run_parts.proofs.Stepping.{next_fails}
 use Rattle.run_store.proofs.Going.{then_shows, goes_refl}

@@ -3,7 +3,7 @@ use Rattle.run_store.specs.Shows.{Goes}
 use Rattle.run_store.specs.Environment.{env_of}
 use Rattle.ada_typed.specs.Decoded.{stmts_at, expr_at, optional_at, iteration_at, value_at}
 use Rattle.behaviours.specs.Joins.{deal}
-use Rattle.ada_stored.specs.Stored.{threads, after_all, first_of_both}
+use Rattle.ada_meaning.specs.Stored.{threads, after_all, first_of_both}
 use Rattle.run_parts.specs.Passing.{course_of}
 use Rattle.run_parts.specs.Dealing.{chunking_of}
 use Rattle.ada_interpreter.specs.Threads.{task_top}

@@ -3,8 +3,9 @@ use Rattle.std.specs.Int.{w128}
 use Rattle.ada_tree.specs.Syntax as syntax
 use Rattle.ada_tree.specs.Syntax.{Expr}
 use Rattle.ada_typed.specs.Decoded.{Part}
-use Rattle.name_aggregates.specs.Filled.{counted}
-use Rattle.name_aggregates.specs.Placed.{placed}
+use Rattle.ada_typed.specs.Latest.{pop, top}
+use Rattle.name_expressions.specs.Filled.{counted}
+use Rattle.name_expressions.specs.Placed.{placed}
 use Rattle.name_rules.specs.Aggregates as aggregates
 use Rattle.name_rules.specs.Judges.{found_of}
 use Rattle.name_rules.specs.Names.{component_cells}
@@ -15,8 +16,8 @@ use Rattle.name_rules.specs.Types.{component_of, shape_in}
 use Rattle.name_values.proofs.Open.{wide, wide_next}
 use Rattle.tree_nodes.specs.Parts.{the_arg, the_args, the_assoc, the_assocs, the_name, the_primary}
 use Rattle.tree_nodes.specs.Tables.{part_at}
-use Rattle.tree_views.specs.Views.{optional_expr}
-use Rattle.typed_parts.specs.Stack.{parts, pop, top}
+use Rattle.tree_nodes.specs.Views.{optional_expr}
+use Rattle.typed_parts.specs.Stack.{parts}
 use Rattle.name_expressions.specs.Contents.{contents_in, exprs_in}
 use Rattle.name_expressions.specs.Reducing.{reduced_two}
 use Rattle.name_expressions.specs.Rows as rows

@@ -1,6 +1,6 @@
 use Rattle.std.proofs.Common.{◌≡◌, ◌+◌, ◌-◌, ◌*◌, drop, length, max}
-use Rattle.name_aggregates.specs.Filled.{counted, filled}
-use Rattle.name_aggregates.specs.Placed.{chosen, placed}
+use Rattle.name_expressions.specs.Filled.{counted, filled}
+use Rattle.name_expressions.specs.Placed.{chosen, placed}
 use Rattle.name_expressions.specs.Rows as rows
 use Rattle.name_rules.specs.Aggregates as aggregates
 use Rattle.name_rules.specs.Expressions as spec
@@ -9,10 +9,11 @@ use Rattle.name_rules.specs.Names as names
 use Rattle.name_rules.specs.Parts as whole
 use Rattle.name_rules.specs.Primaries as primaries
 use Rattle.name_rules.specs.Primaries.{inside}
-use Rattle.name_primaries.specs.Conditionals.{waiting_if}
+use Rattle.name_expressions.specs.Conditionals.{waiting_if}
 use Rattle.tree_nodes.specs.Parts.{the_addings, the_args, the_assocs, the_choices, the_conjuncts, the_elsifs, the_expr, the_exprs, the_multiplyings, the_parts}
 use Rattle.tree_nodes.specs.Tables.{part_at}
-use Rattle.typed_parts.specs.Stack.{parts, pop, second, top}
+use Rattle.ada_typed.specs.Latest.{pop, second, top}
+use Rattle.typed_parts.specs.Stack.{parts}
 use Rattle.name_rules.specs.Calls as calls
 use Rattle.name_rules.specs.Output as output
 use Rattle.name_values.specs.Calling.{calling_of}

@@ -3,7 +3,8 @@
 ghost use Rattle.std.specs.Prelude.{◌≡◌, ◌∷◌, OnOk};
 ghost use Rattle.ada_typed.specs.Decoded.{ABody, ADecl, AHandler, as_decls, as_exprs, as_handlers, as_reasons, as_stmts, as_value};
 ghost use Rattle.ada_typed.specs.Syntax as syntax;
-ghost use Rattle.typed_parts.specs.Stack.{parts, pop, second, third, top};
+ghost use Rattle.ada_typed.specs.Latest.{pop, second, third, top};
+ghost use Rattle.typed_parts.specs.Stack.{parts};
 
 use crate::parts::Parts;
 use ada_typed::{Body, Decl, Handler, Node};

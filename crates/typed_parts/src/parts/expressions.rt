@@ -3,7 +3,8 @@
 ghost use Rattle.std.specs.Prelude.{◌≡◌, ◌∷◌, OnOk};
 ghost use Rattle.ada_typed.specs.Decoded.{AnExpr, as_actuals, as_chunk, as_expr, as_exprs, as_iteration, as_reducer, as_selections};
 ghost use Rattle.ada_typed.specs.Syntax as syntax;
-ghost use Rattle.typed_parts.specs.Stack.{fifth, fourth, parts, pop, second, third, top};
+ghost use Rattle.ada_typed.specs.Latest.{fifth, fourth, pop, second, third, top};
+ghost use Rattle.typed_parts.specs.Stack.{parts};
 
 use crate::parts::Parts;
 use ada_base::Op;

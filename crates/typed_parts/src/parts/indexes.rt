@@ -3,8 +3,10 @@
 ghost use Rattle.std.specs.Prelude.{◌≡◌, ◌<◌, ◌∷◌, IfOk, MatchOption, OnOk, length};
 ghost use Rattle.ada_typed.specs.Decoded.{as_selection, as_selections, part_at};
 ghost use Rattle.ada_typed.specs.Syntax.{Whole};
-ghost use Rattle.typed_parts.specs.Indexes.{GoesOn, indexes_from, indexes_in};
-ghost use Rattle.typed_parts.specs.Stack.{parts, pop, top, Stays};
+ghost use Rattle.ada_typed.specs.Indexes.{indexes_from, indexes_in};
+ghost use Rattle.ada_typed.specs.Latest.{pop, top};
+ghost use Rattle.typed_parts.specs.IndexChains.{GoesOn};
+ghost use Rattle.typed_parts.specs.Stack.{parts, Stays};
 
 use crate::parts::Parts;
 use ada_typed::{Node, Selection};
@@ -12,7 +14,7 @@ use std::alloc::AllocError;
 
 impl Parts {
     /// The indexes in a complete list of selections, as a list of expressions that grows.
-    #[tactic(auto, unfolding(crate::specs::Indexes::indexes_in))]
+    #[tactic(auto, unfolding(ada_typed::specs::Indexes::indexes_in))]
     pub fn indexes(&mut self) -> Result<(), AllocError>
         ensures { OnOk result (parts self.new ≡ indexes_in (as_selections (top (parts self.old))) ∷ pop (parts self.old)) }
     {

@@ -4,7 +4,8 @@ ghost use Rattle.std.specs.Prelude.{◌≡◌, ◌∷◌, OnOk};
 ghost use Rattle.ada_typed.specs.Decoded.{ACheck, AChunk, AReducer, AnIteration, as_check, as_expr, as_optional, as_scalar, as_selections};
 ghost use Rattle.ada_typed.specs.declared.expressions.Reducer.TheVariants as reducer;
 ghost use Rattle.ada_typed.specs.Syntax as syntax;
-ghost use Rattle.typed_parts.specs.Stack.{fourth, parts, pop, second, third, top};
+ghost use Rattle.ada_typed.specs.Latest.{fourth, pop, second, third, top};
+ghost use Rattle.typed_parts.specs.Stack.{parts};
 
 use crate::parts::Parts;
 use ada_base::Op;

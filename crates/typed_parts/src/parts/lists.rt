@@ -2,8 +2,9 @@
 
 ghost use Rattle.std.specs.Prelude.{◌≡◌, ◌<◌, ◌∷◌, OnOk, IfOk, MatchOption, length};
 ghost use Rattle.ada_typed.specs.Decoded.{part_at, Cons, LeafCons, Nothing};
+ghost use Rattle.ada_typed.specs.Latest.{first_of, onto, pop, rest_of, second, third, top, turned};
 ghost use Rattle.typed_parts.specs.Lists.{has_item};
-ghost use Rattle.typed_parts.specs.Stack.{first_of, onto, parts, pop, rest_of, second, third, top, turned};
+ghost use Rattle.typed_parts.specs.Stack.{parts};
 
 use crate::parts::Parts;
 use ada_typed::{Leaf, Node};
@@ -94,7 +95,7 @@ impl Parts {
     }
 
     /// A list that grew item by item is complete: its items stand in the order in which they came.
-    #[tactic(auto, unfolding(crate::specs::Stack::turned))]
+    #[tactic(auto, unfolding(ada_typed::specs::Latest::turned))]
     pub fn turn(&mut self) -> Result<(), AllocError>
         ensures { OnOk result (parts self.new ≡ turned (top (parts self.old)) ∷ pop (parts self.old)) }
     {

@@ -2,8 +2,9 @@
 
 ghost use Rattle.std.specs.Prelude.{◌≡◌, IfOk};
 ghost use Rattle.ada_typed.specs.Decoded.{part_at};
+ghost use Rattle.ada_typed.specs.Latest.{pop, top};
 ghost use Rattle.typed_parts.specs.Looks.{is_nothing};
-ghost use Rattle.typed_parts.specs.Stack.{parts, pop, top};
+ghost use Rattle.typed_parts.specs.Stack.{parts};
 
 use crate::parts::Parts;
 use ada_typed::Node;

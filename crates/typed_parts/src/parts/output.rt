@@ -3,7 +3,8 @@
 ghost use Rattle.std.specs.Prelude.{◌≡◌, ◌∷◌, OnOk};
 ghost use Rattle.ada_typed.specs.Decoded.{APiece, as_bytes, as_expr};
 ghost use Rattle.ada_typed.specs.Syntax as syntax;
-ghost use Rattle.typed_parts.specs.Stack.{parts, pop, second, top};
+ghost use Rattle.ada_typed.specs.Latest.{pop, second, top};
+ghost use Rattle.typed_parts.specs.Stack.{parts};
 
 use crate::parts::Parts;
 use ada_typed::{Class, Node, Piece};

@@ -3,8 +3,10 @@
 ghost use Rattle.std.specs.Prelude.{◌≡◌, ◌<◌, ◌∷◌, [], IfOk, MatchOption, OnOk, length};
 ghost use Rattle.ada_typed.specs.Decoded.{AnExpr, as_expr, as_reducer, of_expr, of_fold, of_node, part_at};
 ghost use Rattle.ada_typed.specs.Ordered.{ExprBelow, NodeBelow};
-ghost use Rattle.typed_parts.specs.Classes.{class_or, joined, with_class, Ends, GoesOn, Leads};
-ghost use Rattle.typed_parts.specs.Stack.{parts, pop, top, Stays};
+ghost use Rattle.ada_typed.specs.Classes.{class_or, with_class};
+ghost use Rattle.ada_typed.specs.Latest.{pop, top};
+ghost use Rattle.typed_parts.specs.ClassChains.{joined, Ends, GoesOn, Leads};
+ghost use Rattle.typed_parts.specs.Stack.{parts, Stays};
 
 use crate::parts::Parts;
 use ada_base::{Items, Op};

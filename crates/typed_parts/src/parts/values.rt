@@ -3,7 +3,8 @@
 ghost use Rattle.std.specs.Prelude.{◌≡◌, ◌∷◌, OnOk};
 ghost use Rattle.ada_typed.specs.Decoded.{AComposite, AValue, AnAssociation, as_associations, as_composite, as_expr, as_exprs, as_runs, as_selections, as_value};
 ghost use Rattle.ada_typed.specs.Syntax as syntax;
-ghost use Rattle.typed_parts.specs.Stack.{parts, pop, second, third, top};
+ghost use Rattle.ada_typed.specs.Latest.{pop, second, third, top};
+ghost use Rattle.typed_parts.specs.Stack.{parts};
 
 use crate::parts::Parts;
 use ada_typed::{Association, Check, Composite, Iterated, Node, Root, Value};

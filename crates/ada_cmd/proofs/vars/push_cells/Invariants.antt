@@ -1,5 +1,5 @@
 use Rattle.std.proofs.Common.{◌≡◌, ◌++◌, drop}
-use Rattle.ada_stored.specs.Stored.{filled}
+use Rattle.ada_meaning.specs.Stored.{filled}
 use Rattle.ada_cmd.specs.Vars.{cells_text}
 use Rattle.ada_cmd.proofs.vars.push_cells.Given as goal
 

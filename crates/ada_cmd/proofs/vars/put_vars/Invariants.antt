@@ -1,5 +1,5 @@
 use Rattle.std.proofs.Common.{◌-◌, drop, length}
-use Rattle.ada_stored.specs.Stored.{finals_of}
+use Rattle.ada_meaning.specs.Stored.{finals_of}
 use Rattle.ada_typed.specs.Programs.{program}
 use Rattle.ada_run.specs.Running.{values_of}
 use Rattle.ada_cmd.specs.Puts.{Putting}

@@ -11,7 +11,7 @@ use Rattle.tree_nodes.specs.Rooted.{top}
 use Rattle.tree_nodes.specs.Stack.{parts}
 use Rattle.ada_parser.specs.Reading.{Reads}
 use Rattle.ada_grammar.proofs.Judging.{judged, told_of}
-use Rattle.tree_views.specs.Trees as trees
+use Rattle.tree_nodes.specs.Trees as trees
 use Rattle.ada_grammar.proofs.parser.judge.Goals as goal
 
 pub returns-in-Ok-verdict : goal.returns-in-Ok-verdict

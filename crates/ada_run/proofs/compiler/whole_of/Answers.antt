@@ -1,6 +1,6 @@
 use Rattle.ada_run.specs.Compile.{naming, checking}
 use Rattle.ada_run.proofs.Steps.{refuses_first}
-use Rattle.tree_views.specs.Trees.{program_of}
+use Rattle.tree_nodes.specs.Trees.{program_of}
 use Rattle.ada_run.proofs.compiler.whole_of.Goals as goal
 
 pub returns-in-Err : goal.returns-in-Err

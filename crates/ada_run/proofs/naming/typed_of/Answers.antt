@@ -1,4 +1,4 @@
-use Rattle.tree_views.specs.Trees.{program_of}
+use Rattle.tree_nodes.specs.Trees.{program_of}
 use Rattle.ada_run.proofs.Steps.{refuses_names}
 use Rattle.ada_run.proofs.naming.typed_of.Goals as goal
 

@@ -1,8 +1,9 @@
 use Rattle.std.proofs.Common.{◌≡◌, drop}
 use Rattle.std.specs.Prelude.{map}
 use Rattle.ada_typed.specs.Decoded.{as_formals}
+use Rattle.ada_typed.specs.Latest.{pop, top}
 use Rattle.name_rules.specs.Programs.{typed_formal}
-use Rattle.typed_parts.specs.Stack.{parts, pop, top}
+use Rattle.typed_parts.specs.Stack.{parts}
 use Rattle.name_programs.proofs.subprograms.formals_part.Given as goal
 
 abbrev pub invariant-formals : goal.invariant-formals

@@ -1,8 +1,9 @@
 use Rattle.std.proofs.Common.{◌≡◌, drop}
 use Rattle.std.specs.Prelude.{map}
 use Rattle.ada_typed.specs.Decoded.{as_fields}
+use Rattle.ada_typed.specs.Latest.{pop, top}
 use Rattle.name_rules.specs.Resolved.{typed_field}
-use Rattle.typed_parts.specs.Stack.{parts, pop, top}
+use Rattle.typed_parts.specs.Stack.{parts}
 use Rattle.name_tables.proofs.subtypes.fields_part.Given as goal
 
 abbrev pub invariant-parts : goal.invariant-parts

@@ -1,5 +1,5 @@
 use Rattle.std.proofs.Common.{ℤ, Ok, subst, ◌≡◌, to_z, of_z, w64, rules, Err, refl, ◌+◌, drop}
-use Rattle.ada_stored.specs.Stored.{writes}
+use Rattle.ada_meaning.specs.Stored.{writes}
 use Rattle.run_store.specs.Shows.{Shows}
 use Rattle.run_parts.specs.Words.{write_all}
 use Rattle.run_parts.proofs.Stepping.{write_step, write_ends, write_done, next_fails, same_answer}

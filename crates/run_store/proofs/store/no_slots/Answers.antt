@@ -1,5 +1,5 @@
 use Rattle.std.proofs.Common.{arith}
-use Rattle.ada_stored.specs.Stored.{no_slot}
+use Rattle.ada_meaning.specs.Stored.{no_slot}
 use Rattle.run_store.proofs.Layouts.{slots_more}
 use Rattle.run_store.proofs.store.no_slots.Goals as goal
 

@@ -1,5 +1,5 @@
 use Rattle.std.proofs.Common.{◌≡◌, ◌-◌, ◌++◌, replicate}
-use Rattle.ada_stored.specs.Stored.{no_slot}
+use Rattle.ada_meaning.specs.Stored.{no_slot}
 use Rattle.run_store.proofs.store.no_slots.Given as goal
 
 -- what is there, and what is still to come

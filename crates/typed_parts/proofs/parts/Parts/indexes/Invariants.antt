@@ -1,7 +1,8 @@
 use Rattle.std.proofs.Common.{◌≡◌, ◌<◌, length}
 use Rattle.ada_typed.specs.Decoded.{Nothing, as_selections, part_at}
-use Rattle.typed_parts.specs.Indexes.{indexes_from}
-use Rattle.typed_parts.specs.Stack.{parts, pop, top}
+use Rattle.ada_typed.specs.Indexes.{indexes_from}
+use Rattle.ada_typed.specs.Latest.{pop, top}
+use Rattle.typed_parts.specs.Stack.{parts}
 use Rattle.typed_parts.proofs.parts.Parts.indexes.Given as goal
 
 abbrev pub invariant-selections : goal.invariant-selections

@@ -1,4 +1,4 @@
-use Rattle.typed_parts.specs.Classes.{Leads}
+use Rattle.typed_parts.specs.ClassChains.{Leads}
 use Rattle.ada_typed.specs.Decoded.{part_at}
 use Rattle.typed_parts.proofs.parts.Parts.last_of.Given as goal
 

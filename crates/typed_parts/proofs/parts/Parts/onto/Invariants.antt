@@ -1,6 +1,7 @@
 use Rattle.std.proofs.Common.{◌≡◌, ◌<◌, length}
 use Rattle.ada_typed.specs.Decoded.{part_at}
-use Rattle.typed_parts.specs.Stack.{onto, parts}
+use Rattle.ada_typed.specs.Latest.{onto}
+use Rattle.typed_parts.specs.Stack.{parts}
 use Rattle.typed_parts.proofs.parts.Parts.onto.Given as goal
 
 abbrev pub invariant-loop-next : goal.invariant-loop-next

@@ -1,0 +1,15 @@
+use Rattle.ada_meaning.proofs.stored.rows.Goals as goal
+use Rattle.ada_meaning.proofs.StoredComputed.{stored_rows, soaks}
+use Rattle.ada_meaning.proofs.StoredFault.{fault_of_input, fault_of_output}
+
+pub returns-clause-stored : goal.returns-clause-stored
+returns-clause-stored c = stored_rows
+
+pub returns-clause-fault : goal.returns-clause-fault
+returns-clause-fault c = fault_of_input
+
+pub returns-clause-write_fault : goal.returns-clause-write_fault
+returns-clause-write_fault c = fault_of_output
+
+pub returns-clause-soaks : goal.returns-clause-soaks
+returns-clause-soaks c = soaks

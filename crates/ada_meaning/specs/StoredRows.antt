@@ -1,0 +1,83 @@
+-- Programs written by hand, and what their stored runs come to.
+use Rattle.std.specs.Prelude.{◌≡◌, ℕ, pos, negsuc, List, [], ◌∷◌, replicate, Some, Err, true, false}
+use Rattle.ada_base.specs.declared.operation.Op.TheVariants as op
+use Rattle.ada_base.specs.declared.reason.Reason.TheVariants as reason
+use Rattle.ada_typed.specs.declared.expressions.Root.TheVariants as root
+use Rattle.ada_typed.specs.declared.expressions.Reducer.TheVariants as reducer
+use Rattle.ada_typed.specs.Syntax.{Expr, Parameter, Binary, Variable, Reduction, Absent, Whole, Components, NoChunk, NoPiece, Text, NoDecl, DeclareVariable, Stmt, Assign, ParallelFor, Put, End, Then, Raise, Program}
+use Rattle.ada_base.specs.Cuts.{Plan, One, Even, Chunked}
+use Rattle.ada_base.specs.Input.{Nothing}
+use Rattle.ada_meaning.specs.Law.{Outcome, Ended, Raised, TurnsSpent, WriteFault}
+use Rattle.ada_meaning.specs.Rows as rows
+use Rattle.ada_meaning.specs.Rows.{integers, integer, number, sum, put_image, object_of, made_of, upto, array_of, filled_with, indexed, component, adds, reduced, dealt, find, gets, keeps, leaves, passes, spends}
+use Rattle.ada_meaning.specs.Stored.{State, no_slot, Computes, Fails, InputFault, OutputFault, stored, outset, outcome_of, comes_to}
+
+abbrev comes : Program → Plan → ℕ → List ℕ → Outcome
+comes program plan limit input = comes_to program (record { plan = plan; one = true; limit = limit }) 12 input
+
+abbrev pub StoredRows : Type 0
+StoredRows =
+    (comes adds One 1000 [] ≡ record { output = 32 ∷ 53 ∷ 10 ∷ []; taken = 0; finals = (pos 5 ∷ []) ∷ []; ending = Ended })
+    × (comes (reduced op.Sub (pos 0)) One 1000 [] ≡ record { output = 45 ∷ 49 ∷ 48 ∷ 10 ∷ []; taken = 0; finals = []; ending = Ended })
+    × (comes (reduced op.Sub (pos 0)) (Even 2) 1000 [] ≡ record { output = 32 ∷ 52 ∷ 10 ∷ []; taken = 0; finals = []; ending = Ended })
+    × (comes dealt (Even 8) 1000 [] ≡ record { output = []; taken = 0; finals = (pos 10 ∷ pos 18 ∷ pos 27 ∷ []) ∷ []; ending = Ended })
+    × (comes find (Chunked 1) 1000 [] ≡ record { output = 32 ∷ 49 ∷ 10 ∷ []; taken = 0; finals = (pos 9 ∷ pos 1 ∷ pos 9 ∷ pos 1 ∷ []) ∷ []; ending = Ended })
+    × (comes gets One 1000 (55 ∷ []) ≡ record { output = []; taken = 1; finals = (pos 7 ∷ []) ∷ []; ending = Raised reason.EndError })
+    × (comes keeps (Even 2) 1000 [] ≡ record { output = 32 ∷ 51 ∷ 52 ∷ 10 ∷ []; taken = 0; finals = []; ending = Ended })
+    × (comes leaves (Chunked 1) 1000 [] ≡ record { output = []; taken = 0; finals = (pos 1 ∷ pos 2 ∷ pos 0 ∷ pos 0 ∷ []) ∷ []; ending = Ended })
+    × (comes passes One 1000 [] ≡ record { output = 32 ∷ 52 ∷ 48 ∷ 10 ∷ []; taken = 0; finals = (pos 3 ∷ []) ∷ (pos 5 ∷ pos 3 ∷ []) ∷ []; ending = Ended })
+    × (comes (spends (Then (Raise reason.ConstraintError) End)) One 100 [] ≡ record { output = []; taken = 0; finals = []; ending = Raised reason.ConstraintError })
+    × (comes (spends End) One 100 [] ≡ record { output = []; taken = 0; finals = []; ending = TurnsSpent })
+
+-- where a Get's first byte can't be read
+abbrev pub at_fault : State
+at_fault = record {
+  cells = [];
+  kept = negsuc 2147483647 ∷ [];
+  here = replicate 4 no_slot;
+  everywhere = replicate 4 no_slot;
+  frame = 1;
+  turns = 1;
+  taken = 0;
+  held = Nothing;
+  input = 55 ∷ [];
+  output = [];
+  declared = record { object = 0; address = 0; cells = 1 } ∷ [];
+}
+
+abbrev pub FaultRow : Type 0
+FaultRow = Computes (stored gets (record { plan = One; one = true; limit = 9 })) (outset 4 (55 ∷ []) []) (Err (Fails InputFault)) at_fault
+
+-- Put_Line ("ab"); Put_Line ("cd"); behind "!", where the second piece fails after one byte
+
+abbrev put_line : List ℕ → Stmt
+put_line bytes = Put 0 0 (Text bytes NoPiece) true
+
+abbrev pub lines : Program
+lines = made_of [] [] [] NoDecl (Then (put_line (97 ∷ 98 ∷ [])) (Then (put_line (99 ∷ 100 ∷ [])) End))
+
+abbrev pub at_write_fault : State
+at_write_fault = record (outset 4 [] (33 ∷ [])) { output = 33 ∷ 97 ∷ 98 ∷ 10 ∷ 99 ∷ [] }
+
+abbrev pub WriteFaultRow : Type 0
+WriteFaultRow = Computes (stored lines (record { plan = One; one = true; limit = 9 })) (outset 4 [] (33 ∷ [])) (Err (Fails OutputFault)) at_write_fault
+    × (outcome_of lines (33 ∷ []) (Err (Fails OutputFault)) at_write_fault ≡ record { output = 97 ∷ 98 ∷ 10 ∷ 99 ∷ []; taken = 0; finals = []; ending = WriteFault })
+
+-- A : array (1 .. 1000) of Integer := (others => 0);
+-- parallel for I in 1 .. 1000 loop A (I) := (A (I) * 3 + I + 1) mod 1000; end loop;
+-- Put_Line (Integer'Image (A'Parallel_Reduce ("+", 0)));
+
+abbrev item : Expr
+item = component 0 1000 (Parameter 0 0)
+
+abbrev operation : op.the_data → Expr → Expr → Expr
+operation o e f = Binary 0 o integers e f
+
+abbrev pub soaks : Program
+soaks = made_of (array_of 1000 ∷ []) (object_of 1 1000 ∷ []) [] (DeclareVariable 0 (filled_with 1000 (number (pos 0))) NoDecl)
+    (Then (ParallelFor 0 0 NoChunk (upto 0 1000) (Then (Assign 0 (root.Object 0) (indexed 1000 (Parameter 0 0))
+    (rows.stored (operation op.Mod (sum (sum (operation op.Mul item (number (pos 3))) (Parameter 0 0)) (number (pos 1))) (number (pos 1000))))) End))
+    (Then (put_image (Reduction 0 0 (reducer.Operator 0 op.Add integers) (number (pos 0)) (Some 1) NoChunk (Components 1 false 0 (root.Object 0) Whole 1000 1 1 Absent) (Variable 0 (root.Item 1) Whole integer))) End))
+
+abbrev pub Soaks : Type 0
+Soaks = (comes soaks (Even 8) 1000000 []).output ≡ 32 ∷ 52 ∷ 57 ∷ 57 ∷ 53 ∷ 48 ∷ 48 ∷ 10 ∷ []

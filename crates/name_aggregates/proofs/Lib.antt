@@ -1,4 +1,0 @@
-pub mod FieldLists
-pub mod OpenRanges
-pub mod Runs
-pub mod Widths

@@ -1,4 +1,0 @@
-mod FromPlaces
-mod Mentions
-mod Options
-mod Rooms

@@ -1,3 +1,0 @@
-pub mod Declares
-pub mod OneObject
-pub mod Steps

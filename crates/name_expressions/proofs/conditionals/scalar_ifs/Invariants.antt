@@ -1,0 +1,12 @@
+use Rattle.std.proofs.Common.{◌≡◌, length, reverse}
+use Rattle.name_rules.specs.Judges.{part_if}
+use Rattle.name_rules.specs.Primaries as spec
+use Rattle.ada_typed.specs.Latest.{pop, second, top}
+use Rattle.typed_parts.specs.Stack.{parts}
+use Rattle.name_expressions.proofs.conditionals.scalar_ifs.Given as goal
+
+abbrev pub invariant-values : goal.invariant-values
+invariant-values l = (spec.scalar_ifs l.kind (reverse l.fn.values) (second (parts l.fn.out)) (part_if l.fn.last (top (parts l.fn.out))) l.fn.log ≡ spec.scalar_ifs l.kind (reverse l.values) (second (parts l.out)) (part_if l.done (top (parts l.out))) l.log) × (pop (pop (parts l.out)) ≡ pop (pop (parts l.fn.out)))
+
+abbrev pub decreases-values : goal.decreases-values
+decreases-values l = length l.values

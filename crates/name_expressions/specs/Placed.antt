@@ -1,0 +1,30 @@
+-- What code keeps of an array's aggregate while its parts are joined.
+use Rattle.std.specs.Prelude.{Bool, true, false, List, Option, Some, None, ℤ}
+use Rattle.ada_typed.specs.Decoded.{Part}
+use Rattle.ada_typed.specs.declared.expressions.Run.{Run}
+use Rattle.ada_typed.specs.Latest.{second, top}
+use Rattle.name_expressions.specs.declared.placing.Choosing.{Choosing}
+use Rattle.name_expressions.specs.declared.placing.Placing.{Placing}
+use Rattle.name_rules.specs.Aggregates as spec
+use Rattle.name_rules.specs.Aggregates.{Choosing'}
+use Rattle.name_rules.specs.Judges.{part_if}
+
+abbrev pub runs_if : Bool → List Run → Option (List Run)
+runs_if true rs = Some rs
+runs_if false rs = None
+
+-- the value of the rest lies below the associations
+abbrev pub rest_if : Option Bool → Part → Option (Option Part)
+rest_if None p = None
+rest_if (Some b) p = Some (part_if b p)
+
+abbrev pub placed : Placing → List Part → spec.Placing
+placed p s = record { ranges = p.ranges; done = part_if p.done (top s); rest = rest_if p.rest (second s) }
+
+abbrev pub chosen_if : Bool → List (ℤ × ℤ) → Bool → Part → Option Choosing'
+chosen_if true rs b p = Some (record { ranges = rs; rest = b; mentions = p })
+chosen_if false rs b p = None
+
+-- what was chosen so far, whose mentions are the latest part
+abbrev pub chosen : Choosing → List Part → Option Choosing'
+chosen c s = chosen_if c.good c.ranges c.rest (top s)

@@ -1,0 +1,182 @@
+//! Brackets (4.4), `@` (5.2.1) and string literals (2.6).
+
+ghost use Rattle.std.specs.Prelude.{◌≡◌, ◌∷◌, OnOk};
+ghost use Rattle.ada_typed.specs.Decoded as part;
+ghost use Rattle.ada_typed.specs.Syntax as typed;
+ghost use Rattle.ada_typed.specs.Latest.{pop, top};
+ghost use Rattle.name_rules.specs.Judges.{Judges, found};
+ghost use Rattle.name_rules.specs.Judging.{fault};
+ghost use Rattle.name_rules.specs.Primaries as spec;
+ghost use Rattle.name_rules.specs.Values as values;
+ghost use Rattle.typed_parts.specs.Stack.{parts};
+
+use crate::conditionals::composite_in;
+use ada_typed::Leaf;
+use name_rules::found::{Found, Place};
+use name_rules::log::{Log, Rule};
+use name_rules::scope::{Names, Target};
+use name_rules::types::{Subtype, Wanted};
+use name_values::logs::{breaks, cleared};
+use name_values::symbols::text;
+use name_values::types::typed_scalar;
+use name_values::values::{asked, composite_asked, kind_of};
+use std::alloc::AllocError;
+use typed_parts::Parts;
+
+/// Writes that a rule is broken by an expression, of which nothing is the part.
+pub fn no_expression(
+    log: &mut Log,
+    out: &mut Parts,
+    at: u32,
+    rule: Rule,
+) -> Result<Option<Found>, AllocError>
+    ensures { Judges (fault at rule log.old) (parts out.old) result log.new (parts out.new) }
+{
+    out.nothing()?;
+    breaks(log, at, rule)?;
+    Ok(None)
+}
+
+fn grouped_scalar(
+    log: &mut Log,
+    out: &mut Parts,
+    bracket: u32,
+    given: Found,
+) -> Result<Option<Found>, AllocError>
+    ensures { Judges (spec.grouped_scalar bracket (found given (top (parts out.old))) (values.kind_of given) (spec.composite_in given) log.old) (pop (parts out.old)) result log.new (parts out.new) }
+{
+    match kind_of(given) {
+        Some(kind) => {
+            if !asked(log, out, kind, given)? {
+                return Ok(None);
+            }
+            out.group()?;
+            Ok(Some(Found::Scalar {
+                first: bracket,
+                kind,
+                nominal: None,
+            }))
+        }
+        None => match composite_in(given) {
+            None => Ok(None),
+            Some(number) => {
+                if !composite_asked(log, out, number, given)? {
+                    return Ok(None);
+                }
+                Ok(Some(Found::Composite {
+                    first: bracket,
+                    number,
+                }))
+            }
+        },
+    }
+}
+
+/// An expression in brackets, which is no name, in place of the latest part; it begins at the bracket.
+#[tactic(auto, unfolding(name_rules::specs::Primaries::grouped))]
+pub fn grouped(
+    log: &mut Log,
+    out: &mut Parts,
+    bracket: u32,
+    given: Found,
+) -> Result<Option<Found>, AllocError>
+    ensures { Judges (spec.grouped bracket (found given (top (parts out.old))) log.old) (pop (parts out.old)) result log.new (parts out.new) }
+{
+    let first = bracket;
+    match given {
+        Found::Universal { value, .. } => Ok(Some(Found::Universal {
+            first,
+            value,
+            literal: false,
+        })),
+        Found::Open { limits, .. } => {
+            out.group()?;
+            Ok(Some(Found::Open { first, limits }))
+        }
+        Found::Static { kind, value, .. } => Ok(Some(Found::Static { first, kind, value })),
+        Found::Object(
+            Place {
+                subtype: Subtype::Scalar(scalar),
+                value: Some(value),
+                ..
+            },
+        ) => {
+            cleared(out)?;
+            Ok(Some(Found::Static {
+                first,
+                kind: scalar.kind,
+                value,
+            }))
+        }
+        Found::Text { .. } => Ok(Some(Found::Text { first })),
+        _ => grouped_scalar(log, out, bracket, given),
+    }
+}
+
+/// `@`, the target of the assignment around it (5.2.1): NotVisible elsewhere.
+pub fn target_at(
+    log: &mut Log,
+    out: &mut Parts,
+    at: u32,
+    target: Target,
+) -> Result<Option<Found>, AllocError>
+    ensures { Judges (spec.target_at at target log.old) (parts out.old) result log.new (parts out.new) }
+{
+    match target {
+        Target::Nothing => no_expression(log, out, at, Rule::NotVisible),
+        Target::Faulty => {
+            out.nothing()?;
+            Ok(None)
+        }
+        Target::Of(Subtype::Scalar(scalar)) => {
+            out.target(at, typed_scalar(scalar))?;
+            Ok(Some(Found::Scalar {
+                first: at,
+                kind: scalar.kind,
+                nominal: Some(scalar),
+            }))
+        }
+        Target::Of(Subtype::Composite(number)) => {
+            out.whole_target(at, number)?;
+            Ok(Some(Found::Composite { first: at, number }))
+        }
+    }
+}
+
+/// A text, by its bytes, as a piece of output.
+#[tactic(auto, using(crate::proofs::Backward::back_drop, crate::proofs::Backward::back_dropped, crate::proofs::Backward::drop_whole))]
+fn piece(out: &mut Parts, text: &[u8]) -> Result<(), AllocError>
+    ensures { OnOk result (parts out.new ≡ part.APiece (typed.Text text.now) ∷ parts out.old) }
+{
+    out.nothing()?;
+    let mut i = text.len();
+    'bytes: while i > 0 {
+        i -= 1;
+        match text.get(i) {
+            Some(byte) => out.also_leaf(Leaf::Byte(*byte))?,
+            None => (),
+        }
+    }
+    out.piece_text()
+}
+
+/// A string literal, which stands in Put or Put_Line alone: WrongType elsewhere (A.10.7).
+pub fn text_at(
+    names: &Names,
+    log: &mut Log,
+    out: &mut Parts,
+    at: u32,
+    want: Wanted,
+) -> Result<Option<Found>, AllocError>
+    ensures { Judges (spec.text_at names.now at want log.old) (parts out.old) result log.new (parts out.new) }
+{
+    match want {
+        Wanted::Text => {
+            out.nothing()?;
+            piece(out, text(names, at))?;
+            out.also()?;
+            Ok(Some(Found::Text { first: at }))
+        }
+        _ => no_expression(log, out, at, Rule::WrongType),
+    }
+}

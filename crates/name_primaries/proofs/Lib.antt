@@ -1,2 +1,0 @@
-mod Backward
-mod Arguments

@@ -1,0 +1,15 @@
+use Rattle.std.proofs.Common.{◌≡◌}
+use Rattle.name_rules.specs.Declarations as spec
+use Rattle.name_rules.specs.Judges.{part_if}
+use Rattle.name_rules.specs.Primaries.{inside}
+use Rattle.tree_nodes.specs.Parts.{the_decls}
+use Rattle.tree_nodes.specs.Tables.{part_at}
+use Rattle.ada_typed.specs.Latest.{pop, top}
+use Rattle.typed_parts.specs.Stack.{parts}
+use Rattle.name_programs.proofs.declarations.declarations_from.Given as goal
+
+abbrev pub invariant-decls : goal.invariant-decls
+invariant-decls l = (spec.declarations l.names (inside l.names l.levels) l.start l.fn.here (part_if l.done (top (parts l.fn.out))) (the_decls (part_at l.tree.nodes l.more)) l.fn.log ≡ spec.declarations l.names (inside l.names l.levels) l.start l.here (part_if l.whole (top (parts l.out))) (the_decls (part_at l.tree.nodes l.next)) l.log) × (pop (parts l.out) ≡ pop (parts l.fn.out))
+
+abbrev pub decreases-decls : goal.decreases-decls
+decreases-decls l = l.next

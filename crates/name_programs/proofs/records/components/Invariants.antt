@@ -1,0 +1,15 @@
+use Rattle.std.proofs.Common.{◌≡◌}
+use Rattle.name_programs.specs.Declares.{building}
+use Rattle.name_rules.specs.Declarations as spec
+use Rattle.name_rules.specs.Primaries.{inside}
+use Rattle.tree_nodes.specs.Parts.{the_comps}
+use Rattle.tree_nodes.specs.Tables.{part_at}
+use Rattle.ada_typed.specs.Latest.{pop, top}
+use Rattle.typed_parts.specs.Stack.{parts}
+use Rattle.name_programs.proofs.records.components.Given as goal
+
+abbrev pub invariant-comps : goal.invariant-comps
+invariant-comps l = (spec.components l.names (inside l.names l.levels) l.start (building l.fn.growing (top (parts l.fn.out))) (the_comps (part_at l.tree.nodes l.more)) l.fn.log ≡ spec.components l.names (inside l.names l.levels) l.start (building l.growing (top (parts l.out))) (the_comps (part_at l.tree.nodes l.next)) l.log) × (pop (parts l.out) ≡ pop (parts l.fn.out))
+
+abbrev pub decreases-comps : goal.decreases-comps
+decreases-comps l = l.next

@@ -1,0 +1,540 @@
+//! Objects (3.3.1): their cells, their initial values, and what is elaborated.
+
+ghost use Rattle.std.specs.Prelude.{◌≡◌, ◌∷◌, IfOk, OnOk};
+ghost use Rattle.ada_tree.specs.Syntax as syntax;
+ghost use Rattle.name_programs.specs.OneObject as single;
+ghost use Rattle.name_programs.specs.DeclarationSteps as step;
+ghost use Rattle.name_programs.specs.Declares.{Declares, Ends, Initials, given_initial, initial_of};
+ghost use Rattle.name_rules.specs.Declarations as spec;
+ghost use Rattle.name_rules.specs.Judges.{Judges, Says, found, found_of, part_if};
+ghost use Rattle.name_rules.specs.Primaries as primaries;
+ghost use Rattle.tree_nodes.specs.Parts.{the_expr, the_ids, the_object_type};
+ghost use Rattle.tree_nodes.specs.Tables.{part_at};
+ghost use Rattle.tree_nodes.specs.Views.{optional};
+ghost use Rattle.ada_typed.specs.Latest.{pop, second, third, top};
+ghost use Rattle.typed_parts.specs.Stack.{parts};
+
+use crate::arrays::array;
+use crate::declaration_lists::{all_ids, begun_names, ended_name, with_mentions};
+use crate::rules::{counted_on, unless};
+use crate::subtypes::indic;
+use ada_base::Items;
+use ada_typed::Object;
+use name_expressions::expressions::{expr, judged_alone};
+use name_rules::found::Found;
+use name_rules::log::{Log, Rule};
+use name_rules::scope::{Context, Names, What};
+use name_rules::types::Subtype;
+use name_values::logs::breaks;
+use name_values::names::cells_in;
+use name_values::scope::copied;
+use name_values::types::{is_integer, lies_in, number_of, wanted_of};
+use name_values::values::{stored, value_of};
+use std::alloc::AllocError;
+use tree_nodes::{ObjectType, Tree};
+use typed_parts::Parts;
+
+/// An initial value: whether there is one, which is a part then, and its static value.
+#[derive(Clone, Copy)]
+pub struct Given {
+    pub stored: bool,
+    pub value: Option<i128>,
+}
+
+/// The first cell of an owner's objects: the first four of a thread's body are the thread's.
+fn first_room(names: &Names, owner: u32) -> u32
+    ensures { result ≡ spec.first_room names.now owner }
+{
+    if names.subs < owner { 4 } else { 0 }
+}
+
+/// The place behind an object's cells, if it is one of the owner's; 2^32 cells are beyond memory.
+fn room_behind(object: Object, owner: u32, room: u32) -> Result<u32, AllocError>
+    ensures { IfOk result (λ n. n ≡ step.room_behind room owner object) }
+{
+    if object.owner == owner {
+        if object.cells > u32::MAX - room {
+            return Err(AllocError);
+        }
+        return Ok(room + object.cells);
+    }
+    Ok(room)
+}
+
+/// Where the next object of an owner begins among its cells.
+#[tactic(auto, using(crate::proofs::Rooms::room_step, crate::proofs::FromPlaces::drop_none, crate::proofs::FromPlaces::drop_less))]
+fn room(names: &Names, log: &Log, owner: u32) -> Result<u32, AllocError>
+    ensures { IfOk result (λ n. n ≡ spec.room (spec.first_room names.now owner) owner log.now.objects) }
+{
+    let mut room = first_room(names, owner);
+    let mut i = 0;
+    'objects: while let Some(object) = log.objects.get(i) {
+        room = room_behind(*object, owner, room)?;
+        if i == usize::MAX {
+            return Err(AllocError);
+        }
+        i += 1;
+    }
+    Ok(room)
+}
+
+/// Counts an object of so many cells: Limit at the token that passes the limit of objects or of cells. Whether it keeps
+/// both.
+pub fn cells_counted(log: &mut Log, token: u32, cells: u64) -> Result<bool, AllocError>
+    ensures { Says (spec.cells_counted token cells log.old) result log.new }
+{
+    let declared = log.declared;
+    let before = log.cells;
+    let all = counted_on(before, cells);
+    if declared == u32::MAX {
+        return Err(AllocError);
+    }
+    log.declared = declared + 1;
+    log.cells = all;
+    unless(
+        log,
+        !(declared == 4096),
+        token,
+        Rule::Limit {
+            which: 1,
+            count: 4097,
+        },
+    )?;
+    unless(
+        log,
+        4_194_304 < before || all <= 4_194_304,
+        token,
+        Rule::Limit {
+            which: 2,
+            count: all,
+        },
+    )?;
+    Ok(declared < 4096 && all <= 4_194_304)
+}
+
+/// Writes an object of so many cells into the table of objects, and gives its number.
+fn object_written(
+    names: &Names,
+    here: &Context,
+    log: &mut Log,
+    token: u32,
+    number: u32,
+    cells: u64,
+    constant: bool,
+    value: Option<i64>,
+) -> Result<u32, AllocError>
+    ensures { IfOk result (λ n. spec.object_written names.now here.now token number cells constant value log.old ≡ (n, log.new)) }
+{
+    let written = log.objects.len();
+    if written > 4_294_967_295 || cells > 4_294_967_295 {
+        return Err(AllocError);
+    }
+    let offset = room(names, log, here.owner)?;
+    log.objects.push(Object {
+        name: token,
+        subtype: number,
+        constant,
+        owner: here.owner,
+        offset,
+        cells: cells as u32,
+        value,
+    })?;
+    Ok(written as u32)
+}
+
+/// An object of a subtype, with its number, unless it passes a limit: Limit at its token.
+#[tactic(auto, unfolding(name_rules::specs::Declarations::new_object))]
+pub fn new_object(
+    names: &Names,
+    here: &Context,
+    log: &mut Log,
+    token: u32,
+    subtype: Subtype,
+    constant: bool,
+    value: Option<i64>,
+) -> Result<Option<u32>, AllocError>
+    ensures { Says (spec.new_object names.now here.now token subtype constant value log.old) result log.new }
+{
+    let cells = cells_in(log, subtype);
+    let fits = cells_counted(log, token, cells)?;
+    let number = number_of(log, subtype)?;
+    if !fits {
+        return Ok(None);
+    }
+    let object = object_written(names, here, log, token, number, cells, constant, value)?;
+    Ok(Some(object))
+}
+
+/// The value of an integer constant whose initial value is static and lies in its subtype (4.9).
+fn static_in(subtype: Subtype, value: Option<i128>) -> Option<i64>
+    ensures { result ≡ spec.static_in subtype value }
+{
+    match subtype {
+        Subtype::Scalar(scalar) => match value {
+            Some(value) => {
+                if is_integer(scalar.kind) && lies_in(scalar, value) {
+                    Some(value as i64)
+                } else {
+                    None
+                }
+            }
+            None => None,
+        },
+        Subtype::Composite(_) => None,
+    }
+}
+
+/// The value of an object that is a static constant, whose initial value is the latest part.
+fn constant_value(out: &Parts, constant: bool, subtype: Subtype, given: Given) -> Option<i64>
+    ensures { result ≡ spec.constant_value constant subtype (given_initial given (top (parts out.now))) }
+{
+    let _out = out;
+    if constant {
+        static_in(subtype, given.value)
+    } else {
+        None
+    }
+}
+
+/// An initial value of an object of a subtype, which is the latest part.
+#[tactic(auto, unfolding(name_rules::specs::Declarations::initial))]
+fn initial(
+    names: &Names,
+    levels: u32,
+    here: &Context,
+    log: &mut Log,
+    out: &mut Parts,
+    subtype: Option<Subtype>,
+    tree: &Tree,
+    value: Option<u32>,
+) -> Result<Option<Given>, AllocError>
+    ensures { Initials (spec.initial names.now (primaries.inside names.now levels) here.now (found_of subtype (top (parts out.old))) (optional (part_at tree.now.nodes) the_expr value) log.old) (parts out.old) result log.new (parts out.new) }
+{
+    let Some(value) = value else {
+        out.nothing()?;
+        return Ok(Some(Given {
+            stored: false,
+            value: None,
+        }));
+    };
+    let Some(subtype) = subtype else {
+        judged_alone(names, levels, here, log, out, tree, value)?;
+        out.nothing()?;
+        return Ok(None);
+    };
+    let found = expr(
+        names,
+        levels,
+        here,
+        log,
+        out,
+        wanted_of(subtype),
+        tree,
+        value,
+    )?;
+    match found {
+        None => Ok(None),
+        Some(found) => {
+            let first = first_tokens::of_expr(tree, value);
+            if stored(log, out, subtype, first, found)? {
+                Ok(Some(Given {
+                    stored: true,
+                    value: value_of(found),
+                }))
+            } else {
+                Ok(None)
+            }
+        }
+    }
+}
+
+/// WrongType at a constant's first identifier where it has no value. Its subtype is the part before the latest one.
+fn valued_constant(
+    log: &mut Log,
+    out: &Parts,
+    first: u32,
+    constant: bool,
+    subtype: Option<Subtype>,
+    tree: &Tree,
+    value: Option<u32>,
+) -> Result<(), AllocError>
+    ensures { OnOk result (spec.valued_constant first constant (found_of subtype (second (parts out.now))) (optional (part_at tree.now.nodes) the_expr value) log.old ≡ (tt, log.new)) }
+{
+    let _out = out;
+    let _tree = tree;
+    if !constant {
+        return Ok(());
+    }
+    match subtype {
+        None => Ok(()),
+        Some(_) => match value {
+            Some(_) => Ok(()),
+            None => breaks(log, first, Rule::WrongType),
+        },
+    }
+}
+
+/// An object is elaborated behind what is before: with its initial value, the latest part, if it has one.
+fn with_object(out: &mut Parts, constant: bool, number: u32, given: bool) -> Result<(), AllocError>
+    ensures { OnOk result ((top (parts out.new) ≡ spec.with_object (second (parts out.old)) constant number (part_if given (top (parts out.old)))) × (pop (parts out.new) ≡ pop (pop (parts out.old)))) }
+{
+    if constant {
+        if given {
+            out.declare_constant(number)?;
+            out.also()?;
+            return Ok(());
+        }
+        out.leave_out();
+        return Ok(());
+    }
+    if given {
+        out.declare_variable(number)?;
+        out.also()?;
+        return Ok(());
+    }
+    out.leave_out();
+    out.declare_default(number)?;
+    out.also()?;
+    Ok(())
+}
+
+/// An object is elaborated behind what its subtype mentions and what is before that.
+fn elaborated(out: &mut Parts, constant: bool, number: u32, given: bool) -> Result<(), AllocError>
+    ensures { OnOk result ((top (parts out.new) ≡ spec.with_object (spec.with_mentions (third (parts out.old)) (second (parts out.old))) constant number (part_if given (top (parts out.old)))) × (pop (parts out.new) ≡ pop (pop (pop (parts out.old))))) }
+{
+    out.rotate()?;
+    out.rotate()?;
+    with_mentions(out)?;
+    out.swap()?;
+    with_object(out, constant, number, given)
+}
+
+/// The end of an object's declaration, with its number unless it passed a limit. The latest parts are what is elaborated
+/// before it, its subtype, and its initial value.
+fn object_ended(
+    names: &Names,
+    here: &mut Context,
+    out: &mut Parts,
+    free: Option<u32>,
+    token: u32,
+    constant: bool,
+    done: bool,
+    subtype: Subtype,
+    given: Given,
+    number: Option<u32>,
+) -> Result<bool, AllocError>
+    ensures { Ends (spec.object_ended names.now here.old token free constant (found subtype (second (parts out.old))) (given_initial given (top (parts out.old))) (part_if done (third (parts out.old))) number) (pop (pop (pop (parts out.old)))) result here.new (parts out.new) }
+{
+    let _token = token;
+    let Some(number) = number else {
+        ended_name(names, here, free, None)?;
+        out.leave_out();
+        out.leave_out();
+        return Ok(false);
+    };
+    let value = constant_value(out, constant, subtype, given);
+    let what = What::Object {
+        number,
+        subtype,
+        variable: !constant,
+        value,
+    };
+    ended_name(names, here, free, Some(what))?;
+    if !done {
+        out.leave_out();
+        out.leave_out();
+        return Ok(false);
+    }
+    elaborated(out, constant, number, given.stored)?;
+    Ok(true)
+}
+
+/// The declaration of an object whose subtype or initial value has a fault: it counts, and declares nothing else. The
+/// three latest parts give way to one.
+fn no_object(
+    names: &Names,
+    here: &mut Context,
+    log: &mut Log,
+    out: &mut Parts,
+    token: u32,
+    free: Option<u32>,
+) -> Result<bool, AllocError>
+    ensures { Declares (step.no_object names.now here.old token free log.old) (pop (pop (pop (parts out.old)))) result here.new log.new (parts out.new) }
+{
+    let _fits = cells_counted(log, token, 0)?;
+    ended_name(names, here, free, None)?;
+    out.leave_out();
+    out.leave_out();
+    Ok(false)
+}
+
+/// The declaration of one object. The latest parts are what is elaborated before it, its subtype, and its initial value.
+fn one_object(
+    names: &Names,
+    here: &mut Context,
+    log: &mut Log,
+    out: &mut Parts,
+    token: u32,
+    free: Option<u32>,
+    constant: bool,
+    done: bool,
+    subtype: Option<Subtype>,
+    given: Option<Given>,
+) -> Result<bool, AllocError>
+    ensures { Declares (spec.one_object names.now here.old token free constant (part_if done (third (parts out.old))) (found_of subtype (second (parts out.old))) (initial_of given (top (parts out.old))) log.old) (pop (pop (pop (parts out.old)))) result here.new log.new (parts out.new) }
+{
+    let Some(subtype) = subtype else {
+        return no_object(names, here, log, out, token, free);
+    };
+    let Some(given) = given else {
+        return no_object(names, here, log, out, token, free);
+    };
+    let value = constant_value(out, constant, subtype, given);
+    let number = new_object(names, here, log, token, subtype, constant, value)?;
+    let whole = object_ended(
+        names, here, out, free, token, constant, done, subtype, given, number,
+    )?;
+    Ok(whole)
+}
+
+/// The subtype of an object.
+fn typed_object(
+    names: &Names,
+    levels: u32,
+    here: &Context,
+    log: &mut Log,
+    out: &mut Parts,
+    tree: &Tree,
+    id: u32,
+) -> Result<Option<Subtype>, AllocError>
+    ensures { Judges (spec.typed_object names.now (primaries.inside names.now levels) here.now (the_object_type (part_at tree.now.nodes id)) log.old) (parts out.old) result log.new (parts out.new) }
+{
+    match tree.object_type(id) {
+        ObjectType::Indicated(indication) => {
+            indic(names, levels, here, log, out, tree, indication)
+        }
+        ObjectType::Anonymous(definition) => {
+            array(names, levels, here, log, out, tree, definition)
+        }
+    }
+}
+
+/// One object of a declaration, whose type and value are judged among the names around it. What is elaborated before it
+/// is the latest part.
+fn next_object(
+    names: &Names,
+    levels: u32,
+    inner: &Context,
+    here: &mut Context,
+    log: &mut Log,
+    out: &mut Parts,
+    constant: bool,
+    first: u32,
+    done: bool,
+    token: u32,
+    free: Option<u32>,
+    tree: &Tree,
+    object_type: u32,
+    value: Option<u32>,
+) -> Result<bool, AllocError>
+    ensures { Declares (single.object names.now (primaries.inside names.now levels) inner.now here.old constant first (the_object_type (part_at tree.now.nodes object_type)) (optional (part_at tree.now.nodes) the_expr value) (part_if done (top (parts out.old))) token free log.old) (pop (parts out.old)) result here.new log.new (parts out.new) }
+{
+    let subtype = typed_object(names, levels, inner, log, out, tree, object_type)?;
+    let given = initial(names, levels, inner, log, out, subtype, tree, value)?;
+    valued_constant(log, out, first, constant, subtype, tree, value)?;
+    let whole = one_object(
+        names, here, log, out, token, free, constant, done, subtype, given,
+    )?;
+    Ok(whole)
+}
+
+/// The objects of one declaration, whose type and value are judged for each among the names around it.
+#[tactic(auto, using(crate::proofs::FromPlaces::drop_get, crate::proofs::FromPlaces::drop_none, crate::proofs::FromPlaces::drop_less))]
+fn each_object(
+    names: &Names,
+    levels: u32,
+    inner: &Context,
+    here: &mut Context,
+    log: &mut Log,
+    out: &mut Parts,
+    constant: bool,
+    first: u32,
+    done: bool,
+    ids: &Items<u32>,
+    free: &Items<Option<u32>>,
+    tree: &Tree,
+    object_type: u32,
+    value: Option<u32>,
+) -> Result<bool, AllocError>
+    ensures { Declares (spec.each_object names.now (primaries.inside names.now levels) inner.now here.old constant first (the_object_type (part_at tree.now.nodes object_type)) (optional (part_at tree.now.nodes) the_expr value) (part_if done (top (parts out.old))) ids.now free.now log.old) (pop (parts out.old)) result here.new log.new (parts out.new) }
+{
+    let mut whole = done;
+    let mut i = 0;
+    'objects: while let Some(token) = ids.get(i) {
+        let Some(one) = free.get(i) else {
+            return Ok(whole);
+        };
+        whole = next_object(
+            names,
+            levels,
+            inner,
+            here,
+            log,
+            out,
+            constant,
+            first,
+            whole,
+            *token,
+            *one,
+            tree,
+            object_type,
+            value,
+        )?;
+        if i == usize::MAX {
+            return Err(AllocError);
+        }
+        i += 1;
+    }
+    Ok(whole)
+}
+
+/// The declaration of objects (3.3.1), behind what is elaborated before it.
+#[tactic(auto, unfolding(name_rules::specs::Declarations::objects))]
+pub fn objects(
+    names: &Names,
+    levels: u32,
+    start: usize,
+    here: &mut Context,
+    log: &mut Log,
+    out: &mut Parts,
+    done: bool,
+    tree: &Tree,
+    identifiers: u32,
+    constant: bool,
+    object_type: u32,
+    value: Option<u32>,
+) -> Result<bool, AllocError>
+    ensures { Declares (spec.objects names.now (primaries.inside names.now levels) start here.old (part_if done (top (parts out.old))) (the_ids (part_at tree.now.nodes identifiers)) constant (the_object_type (part_at tree.now.nodes object_type)) (optional (part_at tree.now.nodes) the_expr value) log.old) (pop (parts out.old)) result here.new log.new (parts out.new) }
+{
+    let alloc = out.alloc();
+    let first = tree.ids(identifiers).first;
+    let ids = all_ids(tree, alloc, identifiers)?;
+    let free = begun_names(names, start, here, log, alloc, &ids)?;
+    let inner = copied(here, out)?;
+    each_object(
+        names,
+        levels,
+        &inner,
+        here,
+        log,
+        out,
+        constant,
+        first,
+        done,
+        &ids,
+        &free,
+        tree,
+        object_type,
+        value,
+    )
+}

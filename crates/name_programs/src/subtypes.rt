@@ -1,0 +1,218 @@
+//! Subtype indications (3.2.2) and integer types (3.5.4). What bounds mention is their part.
+
+ghost use Rattle.std.specs.Prelude.{◌≡◌, OnOk, option_map};
+ghost use Rattle.name_programs.specs.DeclarationSteps as step;
+ghost use Rattle.name_rules.specs.Declarations as spec;
+ghost use Rattle.name_rules.specs.Judges.{Judges, Says, found, found_of};
+ghost use Rattle.name_rules.specs.Judging as judging;
+ghost use Rattle.name_rules.specs.Primaries as primaries;
+ghost use Rattle.tree_nodes.specs.Parts.{the_indic};
+ghost use Rattle.tree_nodes.specs.Tables.{part_at};
+ghost use Rattle.ada_typed.specs.Latest.{pop, second, top};
+ghost use Rattle.typed_parts.specs.Stack.{parts};
+
+use crate::rules::unless;
+use name_expressions::expressions::simple;
+use name_rules::found::Found;
+use name_rules::log::{Log, Rule};
+use name_rules::scope::{Context, Names};
+use name_rules::types::{Kind, Scalar, Subtype, Wanted};
+use name_values::bounds::both_static;
+use name_values::logs::{also_all, cleared};
+use name_values::operators::both_mentions;
+use name_values::scope::{scalar_named, subtype_named};
+use name_values::types::{in_base, lies_in};
+use name_values::values::{first_of, mentions, static_integer};
+use std::alloc::AllocError;
+use tree_nodes::{Indic, Tree};
+use typed_parts::Parts;
+
+/// The subtype of a range, if it is one of another subtype and isn't empty.
+fn range_within(
+    log: &Log,
+    scalar: Scalar,
+    low: i128,
+    high: i128,
+) -> Result<Option<Subtype>, AllocError>
+    ensures { Says (step.range_within scalar low high log.now) result log.now }
+{
+    let _log = log;
+    if lies_in(scalar, low) && lies_in(scalar, high) && low <= high {
+        Ok(Some(Subtype::Scalar(Scalar {
+            kind: scalar.kind,
+            low: low as i64,
+            high: high as i64,
+        })))
+    } else {
+        Ok(None)
+    }
+}
+
+/// The subtype of a range that narrows another one: StaticRange at a bound that isn't in that one, and at the first where
+/// the range is empty.
+fn indic_range(
+    log: &mut Log,
+    scalar: Scalar,
+    first: u32,
+    last: u32,
+    low: i128,
+    high: i128,
+) -> Result<Option<Subtype>, AllocError>
+    ensures { Says (spec.indic_range scalar first last (low, high) log.old) result log.new }
+{
+    unless(log, lies_in(scalar, low), first, Rule::StaticRange)?;
+    unless(log, lies_in(scalar, high), last, Rule::StaticRange)?;
+    unless(log, low <= high, first, Rule::StaticRange)?;
+    let found = range_within(log, scalar, low, high)?;
+    Ok(found)
+}
+
+/// The subtype of two bounds, the latest parts, in another one.
+#[tactic(auto, using(crate::proofs::Options::indicated_found))]
+fn indic_bounds(
+    log: &mut Log,
+    out: &mut Parts,
+    scalar: Scalar,
+    low: Found,
+    high: Found,
+) -> Result<Option<Subtype>, AllocError>
+    ensures { Judges (spec.indic_bounds scalar (found low (second (parts out.old))) (found high (top (parts out.old))) log.old) (pop (pop (parts out.old))) result log.new (parts out.new) }
+{
+    let bounds = both_static(log, out, scalar.kind, low, high)?;
+    both_mentions(out, low, high)?;
+    match bounds {
+        None => Ok(None),
+        Some(span) => {
+            let first = first_of(low);
+            let last = first_of(high);
+            indic_range(
+                log,
+                scalar,
+                first,
+                last,
+                i128::from(span.low),
+                i128::from(span.high),
+            )
+        }
+    }
+}
+
+/// The subtype of an indication: WrongType where a range narrows one that isn't scalar; NotStatic, StaticRange at its
+/// bounds.
+#[tactic(auto, unfolding(name_rules::specs::Declarations::indic, name_rules::specs::Ranges::two_bounds, name_rules::specs::Scope::scalar_named), using(crate::proofs::Options::indicated_found))]
+pub fn indic(
+    names: &Names,
+    levels: u32,
+    here: &Context,
+    log: &mut Log,
+    out: &mut Parts,
+    tree: &Tree,
+    id: u32,
+) -> Result<Option<Subtype>, AllocError>
+    ensures { Judges (spec.indic names.now (primaries.inside names.now levels) here.now (the_indic (part_at tree.now.nodes id)) log.old) (parts out.old) result log.new (parts out.new) }
+{
+    match tree.indic(id) {
+        Indic::Mark(mark) => {
+            let subtype = subtype_named(names, here, log, out, mark)?;
+            out.nothing()?;
+            Ok(subtype)
+        }
+        Indic::RangeMark { mark, low, high } => {
+            let scalar = scalar_named(names, here, log, out, mark)?;
+            let x = simple(names, levels, here, log, out, Wanted::Other, tree, low)?;
+            let y = simple(names, levels, here, log, out, Wanted::Other, tree, high)?;
+            let (Some(scalar), Some(x), Some(y)) = (scalar, x, y) else {
+                out.leave_out();
+                return Ok(None);
+            };
+            indic_bounds(log, out, scalar, x, y)
+        }
+    }
+}
+
+/// The type of a range (3.5.4), which the token of its name tells from others: StaticRange at a bound outside 64 bits,
+/// and at the first where the range is empty.
+fn own_type(
+    log: &mut Log,
+    token: u32,
+    first: u32,
+    last: u32,
+    low: i128,
+    high: i128,
+) -> Result<Option<Subtype>, AllocError>
+    ensures { Says (spec.own_type token first last low high log.old) result log.new }
+{
+    let kind = Kind::Own(token);
+    let has_low = in_base(kind, low);
+    let has_high = in_base(kind, high);
+    let holds = low <= high;
+    unless(log, has_low, first, Rule::StaticRange)?;
+    unless(log, has_high, last, Rule::StaticRange)?;
+    unless(log, holds, first, Rule::StaticRange)?;
+    if has_low && has_high && holds {
+        Ok(Some(Subtype::Scalar(Scalar {
+            kind,
+            low: low as i64,
+            high: high as i64,
+        })))
+    } else {
+        Ok(None)
+    }
+}
+
+/// The first token of an expression, the latest part, or 0 where it has a fault.
+fn first_or(out: &Parts, given: Option<Found>) -> u32
+    ensures { result ≡ spec.first_or (found_of given (top (parts out.now))) }
+{
+    let _out = out;
+    match given {
+        None => 0,
+        Some(found) => first_of(found),
+    }
+}
+
+/// The value of an integer that has to be static, where it has no fault; what it mentions is left in its place.
+/// WrongType, NotStatic.
+pub fn static_bound(
+    log: &mut Log,
+    out: &mut Parts,
+    given: Option<Found>,
+) -> Result<Option<i128>, AllocError>
+    ensures { Says (judging.given (found_of given (top (parts out.old))) spec.static_number log.old) result log.new × OnOk result ((top (parts out.new) ≡ spec.found_mentions (found_of given (top (parts out.old)))) × (pop (parts out.new) ≡ pop (parts out.old))) }
+{
+    match given {
+        None => {
+            cleared(out)?;
+            Ok(None)
+        }
+        Some(found) => {
+            mentions(out, found)?;
+            let value = static_integer(log, found)?;
+            Ok(value)
+        }
+    }
+}
+
+/// The type of two bounds, the latest parts.
+#[tactic(auto, using(crate::proofs::Options::indicated_found))]
+pub fn own_type_of(
+    log: &mut Log,
+    out: &mut Parts,
+    token: u32,
+    low: Option<Found>,
+    high: Option<Found>,
+) -> Result<Option<Subtype>, AllocError>
+    ensures { Judges (spec.own_type_of token (found_of low (second (parts out.old)), found_of high (top (parts out.old))) log.old) (pop (pop (parts out.old))) result log.new (parts out.new) }
+{
+    out.swap()?;
+    let first = first_or(out, low);
+    let a = static_bound(log, out, low)?;
+    out.swap()?;
+    let last = first_or(out, high);
+    let z = static_bound(log, out, high)?;
+    also_all(out)?;
+    let (Some(a), Some(z)) = (a, z) else {
+        return Ok(None);
+    };
+    own_type(log, token, first, last, a, z)
+}

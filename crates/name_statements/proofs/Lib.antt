@@ -1,3 +1,0 @@
-pub mod Contexts
-pub mod Levels
-pub mod Nested

@@ -1,0 +1,9 @@
+-- How the indexes in the name of an object are gathered, selection by selection.
+use Rattle.std.specs.Prelude.{◌≡◌}
+use Rattle.ada_typed.specs.Decoded.{Part}
+use Rattle.ada_typed.specs.Indexes.{indexes_from}
+use Rattle.ada_typed.specs.Syntax.{Selections}
+
+-- after a selection the indexes go on so
+abbrev pub GoesOn : Part → (Selections → Selections) → Part → Type 0
+GoesOn done selection next = (s : Selections) → indexes_from done (selection s) ≡ indexes_from next s
