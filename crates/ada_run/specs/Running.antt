@@ -40,8 +40,9 @@ EndsAs p limit run_end.WriteFault o = o.ending ≡ law.WriteFault
 EndsAs p limit run_end.NoMemory o = o.ending ≡ law.NoMemory
 
 -- The answer tells of a run that is permitted under the setting on these bytes of input, and what was put before is
--- followed by its output. Where the sequential run is calm (it ends normally within the limit, leaves no parallel
--- construct early, and its parallel reductions are listed ones without partial overflow), it is that run.
+-- followed by its output. Where that run ended by itself and the sequential run is calm (it ends within the limit,
+-- normally or by an exception, leaves no parallel construct early, and its parallel reductions are listed ones without
+-- partial overflow), it is that run.
 pub record TellsOf (p : Program) (set : Setting) (end : RunEnd) (input before now : List ℕ) : Type 0 where
   pub outcome : Outcome
   pub early : Bool
