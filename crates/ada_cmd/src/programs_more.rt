@@ -222,13 +222,7 @@ const PARALLEL: &str = "\
 
 #[test]
 fn more_programs_by_topic(rt: HostRuntime) -> Result<(), AllocError> {
-    for rows in [
-        INPUT,
-        REDUCTIONS,
-        TURNS,
-        PARALLEL_REDUCTIONS,
-        PARALLEL,
-    ] {
+    for rows in [INPUT, REDUCTIONS, TURNS, PARALLEL_REDUCTIONS, PARALLEL] {
         check_rows(&rt, rt.alloc(), rows)?;
     }
     Ok(())
