@@ -1,18 +1,9 @@
 //! Programs as rows of a table, each with its words, its output, what is said of it, and its status.
 
-use crate::top::run_words;
-use ada_port::{MemShelf, MemSink, MemSource, Quiet, ShelfText};
+use crate::tests::{Given, NONE, answer};
 use std::alloc::{AllocError, Global};
 use std::process::Abort;
 use std::thread::Threads;
-
-/// What comes of a program: the bytes put to out and to err, and the status.
-#[derive(Drop)]
-struct Said {
-    out: MemSink,
-    err: MemSink,
-    status: u8,
-}
 
 /// A row: the options behind `run t.ada`; K (for the policy that asks for the disjoint rule alone) or nothing; the
 /// declarations, which stand in line 3; the statements, in line 5; the input, where a bar stands for the end of a line; and
@@ -43,52 +34,13 @@ fn row_of(line: &str) -> Row<'_> {
     }
 }
 
-/// The bytes of a field, where a bar stands for the end of a line.
-fn bytes_of(alloc: Global, field: &str) -> Result<Vec<u8>, AllocError> {
-    let mut bytes = Vec::from_slice(alloc, field.as_bytes())?;
-    for byte in bytes.iter_mut() {
-        if *byte == b'|' {
-            *byte = b'\n';
-        }
+/// A field as a text, where a bar stands for the end of a line.
+fn lines_of(alloc: Global, field: &str) -> Result<String, AllocError> {
+    let mut lines = String::new(alloc);
+    for part in field.chars() {
+        lines.push(if part == '|' { '\n' } else { part })?;
     }
-    Ok(bytes)
-}
-
-fn words_of(alloc: Global, options: &str) -> Result<Vec<String>, AllocError> {
-    let mut words = Vec::new(alloc);
-    words.push(String::from_str(alloc, "run")?)?;
-    words.push(String::from_str(alloc, "t.ada")?)?;
-    for word in options.split_whitespace() {
-        words.push(String::from_str(alloc, word)?)?;
-    }
-    Ok(words)
-}
-
-fn shelf_of(alloc: Global, text: &str) -> Result<MemShelf, AllocError> {
-    let name = String::from_str(alloc, "t.ada")?;
-    let bytes = Vec::from_slice(alloc, text.as_bytes())?;
-    let texts = vec![in alloc; ShelfText { name, bytes }]?;
-    Ok(MemShelf::new(texts, Vec::new(alloc)))
-}
-
-fn ran<R: Threads + Sync>(
-    rt: &R,
-    alloc: Global,
-    row: &Row<'_>,
-    text: &str,
-) -> Result<Said, AllocError> {
-    let words = words_of(alloc, row.options)?;
-    let mut shelf = shelf_of(alloc, text)?;
-    let input = MemSource::new(bytes_of(alloc, row.input)?, Vec::new(alloc));
-    let out = MemSink::new(alloc, 2_000, Vec::new(alloc))?;
-    let mut err = MemSink::new(alloc, 200, Vec::new(alloc))?;
-    let pulse = Quiet::new();
-    let answer = run_words(rt, alloc, &words, &mut shelf, input, out, &mut err, &pulse);
-    Ok(Said {
-        out: answer.out,
-        err,
-        status: answer.status,
-    })
+    Ok(lines)
 }
 
 /// The text of a row.
@@ -118,19 +70,28 @@ fn push_field(line: &mut String, bytes: &[u8]) -> Result<(), AllocError> {
 }
 
 /// The fields of what came of a program: the status, and what was put to out and to err.
-fn fields_of(alloc: Global, said: &Said) -> Result<String, AllocError> {
-    let mut line = format!(in alloc; "{}~", said.status)?;
-    push_field(&mut line, said.out.bytes())?;
+fn fields_of(alloc: Global, given: &Given) -> Result<String, AllocError> {
+    let mut line = format!(in alloc; "{}~", given.answer.status)?;
+    push_field(&mut line, given.answer.out.bytes())?;
     line.push('~')?;
-    push_field(&mut line, said.err.bytes())?;
+    push_field(&mut line, given.err.bytes())?;
     Ok(line)
 }
 
 /// What comes of a row's program.
 fn outcome<R: Threads + Sync>(rt: &R, alloc: Global, row: &Row<'_>) -> Result<String, AllocError> {
+    let words = format!(in alloc; "run t.ada {}", row.options)?;
     let text = text_of(alloc, row)?;
-    let said = ran(rt, alloc, row, text.as_str())?;
-    fields_of(alloc, &said)
+    let input = lines_of(alloc, row.input)?;
+    let given = answer(
+        rt,
+        alloc,
+        words.as_str(),
+        text.as_bytes(),
+        input.as_str(),
+        NONE,
+    )?;
+    fields_of(alloc, &given)
 }
 
 /// Runs each row of a table.
