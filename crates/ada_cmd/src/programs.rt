@@ -3,7 +3,7 @@
 use crate::rows::check_rows;
 use std::alloc::AllocError;
 
-// The fields of a row are told at `check_row`.
+// The fields of a row are told at `Row`.
 
 // Precedence, signs and exact results (4.5).
 const ARITHMETIC: &str = "\
@@ -28,11 +28,6 @@ const ARITHMETIC: &str = "\
 ~~X : Integer := 5; Z : Integer := 0;~X := X rem Z;~~4~~unhandled CONSTRAINT_ERROR|
 ~~X : Integer := 5; Z : Integer := 0;~X := X / 0;~~4~~unhandled CONSTRAINT_ERROR|
 ";
-
-#[test]
-fn arithmetic_by_the_rules_of_operators(rt: HostRuntime) -> Result<(), AllocError> {
-    check_rows(&rt, rt.alloc(), ARITHMETIC)
-}
 
 // The last result inside the base range of Integer and the first one outside, at both ends (3.5.4, 4.5).
 const OVERFLOW: &str = "\
@@ -71,11 +66,6 @@ const OVERFLOW: &str = "\
 --vars~~X : Integer := 2147483647; Y : Integer := 1;~X := X - Y + Y;~~0~X = 2147483647|Y = 1|~
 ";
 
-#[test]
-fn results_at_the_ends_of_integer(rt: HostRuntime) -> Result<(), AllocError> {
-    check_rows(&rt, rt.alloc(), OVERFLOW)
-}
-
 // The same for a type of one's own, whose base range has 64 bits.
 const WIDE_OVERFLOW: &str = "\
 --vars~~type Big is range -2 ** 63 .. 2 ** 63 - 1; X : Big := 9223372036854775806; Y : Big := 1;~X := X + Y;~~0~X = 9223372036854775807|Y = 1|~
@@ -108,11 +98,6 @@ const WIDE_OVERFLOW: &str = "\
 --vars~~type Big is range -2 ** 63 .. 2 ** 63 - 1; X : Big := 3; Y : Integer := 40;~X := X ** Y;~~4~~unhandled CONSTRAINT_ERROR|
 --vars~~type Big is range -2 ** 63 .. 2 ** 63 - 1; X : Big := 3; Y : Integer := -1;~X := X ** Y;~~4~~unhandled CONSTRAINT_ERROR|
 ";
-
-#[test]
-fn results_at_the_ends_of_64_bits(rt: HostRuntime) -> Result<(), AllocError> {
-    check_rows(&rt, rt.alloc(), WIDE_OVERFLOW)
-}
 
 // Values at both ends of a subtype and just outside, at each place that checks (4.6, 5.2, 6.4.1, 6.5).
 const RANGES: &str = "\
@@ -151,11 +136,6 @@ const RANGES: &str = "\
 --vars~~X : Integer := 7; Y : Natural := 7;~Y := X - 8 + 1; X := Positive'Pred (1);~~0~X = 0|Y = 0|~
 ";
 
-#[test]
-fn checks_of_subtypes(rt: HostRuntime) -> Result<(), AllocError> {
-    check_rows(&rt, rt.alloc(), RANGES)
-}
-
 // Indexes at the bounds of each dimension and just outside (4.1.1).
 const INDEXES: &str = "\
 ~~A : array (2 .. 4) of Integer := (5, 6, 7); I : Integer := 2;~Put_Line (Integer'Image (A (I)));~~0~ 5|~
@@ -181,11 +161,6 @@ const INDEXES: &str = "\
 ~~type Bin is range 10 .. 11; A : array (Bin) of Integer := (5, 6); K : Bin := 11;~Put_Line (Integer'Image (A (K)) & Integer'Image (A (10))); Put_Line (Integer'Image (A (K + 1)));~~4~ 6 5|~unhandled CONSTRAINT_ERROR|
 ";
 
-#[test]
-fn checks_of_indexes(rt: HostRuntime) -> Result<(), AllocError> {
-    check_rows(&rt, rt.alloc(), INDEXES)
-}
-
 // Which declaration a name means (8.2, 8.3).
 const HIDING: &str = "\
 ~~X : Integer := 1;~declare X : Integer := 2; begin X := X + 1; Put_Line (X'Image); end; Put_Line (X'Image);~~0~ 3| 1|~
@@ -208,11 +183,6 @@ const HIDING: &str = "\
 ~~A : array (1 .. 2) of Integer := (4, 5); I : Integer := 2;~Put_Line (Integer'Image ([for I in 1 .. 1 => A (I)]'Reduce (\"+\", A (I))));~~0~ 9|~
 ";
 
-#[test]
-fn names_that_hide(rt: HostRuntime) -> Result<(), AllocError> {
-    check_rows(&rt, rt.alloc(), HIDING)
-}
-
 // The target's name and `@` (5.2, 5.2.1).
 const TARGETS: &str = "\
 --vars~~function F return Integer is begin Put (\"f\"); return 2; end F; A : array (1 .. 2) of Integer := (3, 4);~A (F) := @ * @ + 1;~~0~fA = 3 17|~
@@ -227,11 +197,6 @@ const TARGETS: &str = "\
 --vars~~I : Integer := 1; A : array (1 .. 2) of Integer := (0, 0); function Move return Integer is begin I := 2; return 5; end Move;~A (I) := Move;~~0~I = 2|A = 5 0|~
 --vars~~N : Integer := 0; function Next return Integer is begin N := N + 1; return N; end Next; A, B : Integer := Next;~null;~~0~N = 2|A = 1|B = 2|~
 ";
-
-#[test]
-fn assignments(rt: HostRuntime) -> Result<(), AllocError> {
-    check_rows(&rt, rt.alloc(), TARGETS)
-}
 
 // Ranges, filters, arrays, conditions and exits (5.5, 5.5.2, 5.7).
 const LOOPS: &str = "\
@@ -267,11 +232,6 @@ const LOOPS: &str = "\
 ~~~for I in 1 .. 3 loop declare subtype Low is Integer range 1 .. 2; X : Low := I; begin Put (X, Width => 1); end; end loop;~~4~12~unhandled CONSTRAINT_ERROR|
 ";
 
-#[test]
-fn loops_and_exits(rt: HostRuntime) -> Result<(), AllocError> {
-    check_rows(&rt, rt.alloc(), LOOPS)
-}
-
 // What is raised, which handler takes it, and what is unhandled (11.2 to 11.4).
 const EXCEPTIONS: &str = "\
 ~~My_Error : exception;~Put_Line (\"first\"); raise My_Error;~~4~first|~unhandled My_Error|
@@ -305,11 +265,6 @@ const EXCEPTIONS: &str = "\
 ~~~declare Local : exception; begin raise Local; exception when Local => Put (\"l\"); end; declare Late : exception; begin raise Late; end;~~4~l~unhandled Late|
 ~~E : exception;~begin declare E : exception; begin raise E; end; exception when E => Put (\"outer\"); when others => Put (\"inner\"); end;~~0~inner~
 ";
-
-#[test]
-fn exceptions(rt: HostRuntime) -> Result<(), AllocError> {
-    check_rows(&rt, rt.alloc(), EXCEPTIONS)
-}
 
 // Modes, copies and their order, and results (6.2 to 6.5).
 const CALLS: &str = "\
@@ -347,11 +302,6 @@ const CALLS: &str = "\
 ~~N : Integer := 0; procedure P is L : Integer; begin Put_Line (L'Image); L := 5; end P;~P; P;~~0~-2147483648|-2147483648|~
 ";
 
-#[test]
-fn parameters_and_results(rt: HostRuntime) -> Result<(), AllocError> {
-    check_rows(&rt, rt.alloc(), CALLS)
-}
-
 // First values, order of cells, and each form of aggregate (4.3).
 const COMPOSITES: &str = "\
 --vars~~A : array (1 .. 2) of Positive; B : Boolean; N : Integer; type Rec is record P : Natural; Q : Boolean; R : Integer range 4 .. 6; end record; R : Rec;~null;~~0~A = 1 1|B = FALSE|N = -2147483648|R = 0 FALSE 4|~
@@ -381,11 +331,6 @@ const COMPOSITES: &str = "\
 ~~type Row is array (1 .. 2) of Integer; A, B : Row; C : Boolean;~C := A = B;~~1~~t.ada:5:8: E06 wrong type|
 ";
 
-#[test]
-fn arrays_records_and_aggregates(rt: HostRuntime) -> Result<(), AllocError> {
-    check_rows(&rt, rt.alloc(), COMPOSITES)
-}
-
 // What attributes give (3.5, 3.6.2, 4.10).
 const ATTRIBUTES: &str = "\
 ~~~Put_Line (Integer'Image (Integer'First) & Integer'Image (Integer'Last) & Integer'Image (Natural'First) & Integer'Image (Positive'First) & Integer'Image (Positive'Last));~~0~-2147483648 2147483647 0 1 2147483647|~
@@ -404,11 +349,6 @@ const ATTRIBUTES: &str = "\
 ~~type Big is range -2 ** 63 .. 2 ** 63 - 1; X : Big := Big'First;~Put_Line (X'Image & Big'Image (Big'Last));~~0~-9223372036854775808 9223372036854775807|~
 ~~~for I in 1 .. 2 loop Put_Line (I'Image); end loop; for B in Boolean loop Put_Line (B'Image); end loop;~~0~ 1| 2|FALSE|TRUE|~
 ";
-
-#[test]
-fn attributes(rt: HostRuntime) -> Result<(), AllocError> {
-    check_rows(&rt, rt.alloc(), ATTRIBUTES)
-}
 
 // If, case, membership, relations and Boolean operators (4.5, 4.5.7, 5.3, 5.4).
 const CONDITIONS: &str = "\
@@ -434,11 +374,6 @@ const CONDITIONS: &str = "\
 ~~X : Integer := 4;~case X is when 1 => Put (\"a\"); when 5 .. 3 => Put (\"b\"); when others => case X mod 3 is when 1 => Put (\"c\"); when others => null; end case; end case;~~0~c~
 ";
 
-#[test]
-fn conditions_and_choices(rt: HostRuntime) -> Result<(), AllocError> {
-    check_rows(&rt, rt.alloc(), CONDITIONS)
-}
-
 // Strings, images, widths and lines (A.10.6 to A.10.8).
 const OUTPUT: &str = "\
 ~~~Put (5); Put (-5, Width => 4); Put (12345, Width => 2); Put (7, 3);~~0~          5  -512345  7~
@@ -453,6 +388,24 @@ const OUTPUT: &str = "\
 ";
 
 #[test]
-fn what_is_put_out(rt: HostRuntime) -> Result<(), AllocError> {
-    check_rows(&rt, rt.alloc(), OUTPUT)
+fn programs_by_topic(rt: HostRuntime) -> Result<(), AllocError> {
+    for rows in [
+        ARITHMETIC,
+        OVERFLOW,
+        WIDE_OVERFLOW,
+        RANGES,
+        INDEXES,
+        HIDING,
+        TARGETS,
+        LOOPS,
+        EXCEPTIONS,
+        CALLS,
+        COMPOSITES,
+        ATTRIBUTES,
+        CONDITIONS,
+        OUTPUT,
+    ] {
+        check_rows(&rt, rt.alloc(), rows)?;
+    }
+    Ok(())
 }

@@ -3,7 +3,7 @@
 use crate::rows::check_rows;
 use std::alloc::AllocError;
 
-// The fields of a row are told at `check_row`.
+// The fields of a row are told at `Row`.
 
 // Get, its errors, and what is left for the next Get (A.10.8).
 const INPUT: &str = "\
@@ -45,11 +45,6 @@ const INPUT: &str = "\
 ~~N, S : Integer := 0;~loop Get (N); S := S + N; end loop; exception when End_Error => Put (S, Width => 1);~10 20|30|~0~60~
 ";
 
-#[test]
-fn numbers_that_are_read(rt: HostRuntime) -> Result<(), AllocError> {
-    check_rows(&rt, rt.alloc(), INPUT)
-}
-
 // Each reducer, in the order of the values (4.5.10).
 const REDUCTIONS: &str = "\
 ~~~Put_Line (Integer'Image ([for I in 1 .. 4 => I]'Reduce (\"+\", 0)) & Integer'Image ([for I in 1 .. 4 => I]'Reduce (\"-\", 3)) & Integer'Image ([for I in 1 .. 5 => I]'Reduce (\"*\", 1)));~~0~ 10-7 120|~
@@ -76,11 +71,6 @@ const REDUCTIONS: &str = "\
 ~~V : array (1 .. 4) of Integer := (1, 2, 3, 4);~Put_Line (Integer'Image ([for X of V when X mod 2 = 0 => X * X]'Reduce (\"+\", 0)));~~0~ 20|~
 ~~~Put_Line (Boolean'Image ([for B in Boolean => not B]'Reduce (\"and\", True)) & Boolean'Image ([for B in Boolean => B]'Reduce (\"or\", False)));~~0~FALSETRUE|~
 ";
-
-#[test]
-fn sequential_reductions(rt: HostRuntime) -> Result<(), AllocError> {
-    check_rows(&rt, rt.alloc(), REDUCTIONS)
-}
 
 // The least limit that is enough for each thing that counts as a turn, and one less.
 const TURNS: &str = "\
@@ -136,11 +126,6 @@ const TURNS: &str = "\
 --turns 2~K~X, Y : Integer := 0;~parallel do for I in 1 .. 2 loop X := I; end loop; and for I in 1 .. 1 loop Y := I; end loop; end do; Put (X + Y, Width => 1);~~0~3~
 --turns 1~K~X, Y : Integer := 0;~parallel do for I in 1 .. 2 loop X := I; end loop; and for I in 1 .. 1 loop Y := I; end loop; end do; Put (X + Y, Width => 1);~~5~~turns spent: 1|
 ";
-
-#[test]
-fn turns_are_counted(rt: HostRuntime) -> Result<(), AllocError> {
-    check_rows(&rt, rt.alloc(), TURNS)
-}
 
 // Each reducer under plans: each chunk begins at the initial value, and the results are folded from the left (4.5.10).
 const PARALLEL_REDUCTIONS: &str = "\
@@ -204,11 +189,6 @@ const PARALLEL_REDUCTIONS: &str = "\
 --chunks even:2~~~Put_Line (Integer'Image ([parallel for I in 1 .. 3 => [parallel for J in 1 .. I => J]'Reduce (\"+\", 0)]'Reduce (\"*\", 1)));~~0~ 18|~
 ";
 
-#[test]
-fn parallel_reductions_under_plans(rt: HostRuntime) -> Result<(), AllocError> {
-    check_rows(&rt, rt.alloc(), PARALLEL_REDUCTIONS)
-}
-
 // Loops and blocks under plans: chunk parameters, filters, arms, leaving early, and limits (5.5, 5.6.1).
 const PARALLEL: &str = "\
 --chunks sized:1 --vars~~A : array (1 .. 5) of Integer := (others => 0);~parallel for I in 1 .. 5 when I mod 2 = 1 loop A (I) := I * I; end loop;~~0~A = 1 0 9 0 25|~
@@ -241,6 +221,9 @@ const PARALLEL: &str = "\
 ";
 
 #[test]
-fn parallel_loops_and_blocks(rt: HostRuntime) -> Result<(), AllocError> {
-    check_rows(&rt, rt.alloc(), PARALLEL)
+fn more_programs_by_topic(rt: HostRuntime) -> Result<(), AllocError> {
+    for rows in [INPUT, REDUCTIONS, TURNS, PARALLEL_REDUCTIONS, PARALLEL] {
+        check_rows(&rt, rt.alloc(), rows)?;
+    }
+    Ok(())
 }

@@ -53,27 +53,29 @@ const IN_CAPITALS: &str = "WITH ADA.TEXT_IO; USE ADA.TEXT_IO; -- clauses\n\
 const IN_EITHER_CASE: &str = "with Ada.Text_IO; use Ada.Text_IO;\nprocedure Main is\n\
     x : INTEGER := 16#F#;\nbegin\nX := x - 8; put_line (integer'IMAGE (X));\nend Main;\n";
 
-// What the objects around a call do: which fetch fails, which call of the input fails, and which put on out and on err
-// fails after how many bytes.
+/// What the objects around a call do: which fetch fails, which call of the input fails, and which put on out and on err
+/// fails after how many bytes.
 #[derive(Clone, Copy)]
-struct Faults {
+pub struct Faults {
     fetch: Option<u64>,
     next: Option<u64>,
     out: Option<(u64, u64)>,
     err: Option<(u64, u64)>,
 }
 
-const NONE: Faults = Faults {
+/// Nothing fails.
+pub const NONE: Faults = Faults {
     fetch: None,
     next: None,
     out: None,
     err: None,
 };
 
+/// The answer of a call, and what was put to err.
 #[derive(Drop)]
-struct Given {
-    answer: Finished<MemSource, MemSink>,
-    err: MemSink,
+pub struct Given {
+    pub answer: Finished<MemSource, MemSink>,
+    pub err: MemSink,
 }
 
 fn source(alloc: Global, bytes: &str, fail: Option<u64>) -> Result<MemSource, AllocError> {
@@ -89,7 +91,7 @@ fn sink(alloc: Global, fail: Option<(u64, u64)>) -> Result<MemSink, AllocError> 
     if let Some((call, pass)) = fail {
         fails.push(SinkFail { call, pass })?;
     }
-    MemSink::new(alloc, 200, fails)
+    MemSink::new(alloc, 2_000, fails)
 }
 
 fn shelf(alloc: Global, text: &[u8], fail: Option<u64>) -> Result<MemShelf, AllocError> {
@@ -112,7 +114,8 @@ fn words_of(alloc: Global, line: &str) -> Result<Vec<String>, AllocError> {
     Ok(words)
 }
 
-fn answer<R: Threads + Sync>(
+/// Calls `run_words` on a shelf that has this text.
+pub fn answer<R: Threads + Sync>(
     rt: &R,
     alloc: Global,
     words: &str,

@@ -4,7 +4,7 @@
 use crate::rows::check_rows;
 use std::alloc::AllocError;
 
-// The fields of a row are told at `check_row`.
+// The fields of a row are told at `Row`.
 const PARALLEL: &str = "\
 --chunks one~~~Put_Line (Integer'Image ([parallel for I in 1 .. 100 => I]'Reduce (\"+\", 0)));~~0~ 5050|~
 --chunks even:7 --workers 4~~~Put_Line (Integer'Image ([parallel for I in 1 .. 100 => I]'Reduce (\"+\", 0)));~~0~ 5050|~

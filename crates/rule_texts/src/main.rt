@@ -1,0 +1,34 @@
+//! Reads rows from its input, each a text and what is to be said of it, compiles each text, and writes each row of which
+//! something else is said, and how many rows there were.
+#![tactic(auto)]
+
+mod rows;
+
+use rows::{Row, row_of, said_of, text_of, wanted_of};
+use std::alloc::{AllocError, Global};
+use std::io;
+
+/// What is said of a row, where it isn't what is to be said.
+fn difference(alloc: Global, row: &Row<'_>) -> Result<Option<String>, AllocError> {
+    let text = text_of(alloc, row)?;
+    let (front, back) = text.split_once('¦').unwrap_or((text.as_str(), ""));
+    let whole = format!(in alloc; "{front}{back}")?;
+    let said = said_of(alloc, row.outcome, whole.as_str())?;
+    let wanted = wanted_of(alloc, row.outcome, front, text.len() > whole.len())?;
+    Ok((said.as_str() != wanted.as_str()).then_some(said))
+}
+
+fn main(rt: HostRuntime) -> io::Result<()> {
+    let alloc = rt.alloc();
+    let rows = io::read_to_string(alloc, rt.stdin())?;
+    let mut count: u64 = 0;
+    let mut others: u64 = 0;
+    for line in rows.lines() {
+        count = count.saturating_add(1);
+        if let Some(said) = difference(alloc, &row_of(line))? {
+            others = others.saturating_add(1);
+            println!(rt; "{line}: {said}")?;
+        }
+    }
+    println!(rt; "{count} texts, {others} not as they should be")
+}
