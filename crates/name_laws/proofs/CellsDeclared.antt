@@ -35,7 +35,9 @@ use Rattle.name_rules.specs.declared.types.Kind.TheVariants as kind
 use Rattle.name_rules.specs.declared.types.Scalar.{Scalar}
 use Rattle.name_rules.specs.declared.types.Subtype.{Subtype}
 use Rattle.name_rules.specs.declared.types.Subtype.TheVariants as subtype
-use Rattle.name_laws.proofs.CellsSound.{AreRight, FieldsBefore, IsRight, IsRightWhat, Next, Sound, are_both, are_later, longer_shapes, minding, more_objects, more_shapes, number_within, one_of, right_later}
+use Rattle.ada_typed.specs.Layout.{cells_of}
+use Rattle.name_laws.proofs.CellsCounted.{array_counted}
+use Rattle.name_laws.proofs.CellsSound.{number_counted, table_of, AreRight, FieldsBefore, IsRight, IsRightWhat, Next, Sound, are_both, are_later, longer_shapes, minding, more_objects, more_shapes, number_within, one_of, right_later}
 use Rattle.name_laws.proofs.Fitting.{is_number}
 use Rattle.name_laws.proofs.KeepsDeclarations.{k-begun_names, k-cells_counted, k-dimensions_from, k-indic, k-initial, k-numbers, k-own_type_of, k-valued_constant}
 use Rattle.name_laws.proofs.KeepsRanges.{k-two_bounds}
@@ -178,7 +180,7 @@ none-leaves : (log : Log) → Sound log → Leaves IsIndicated log (None, log)
 none-leaves log h = record { longer = omega arith; sound = h; right = tt }
 
 fault-leaves : (at : ℕ) (rule : Rule) (log : Log) → Sound log → Leaves IsIndicated log (fault at rule log)
-fault-leaves at rule log h = record { longer = omega arith; sound = record { shapes = h.shapes; objects = h.objects }; right = tt }
+fault-leaves at rule log h = record { longer = omega arith; sound = h; right = tt }
 
 -- ---- arrays
 
@@ -188,9 +190,11 @@ array-written ds s log h r =
     let k = now log (number_of s) (k-number_of (minding 0) s) h in
     let cells = array_cells ds (cells_in m.1 s) in
     let l = longer_shapes (shape.Array ds s m.0 cells) m.1.shapes in
+    let q = right_later (length log.shapes) (length m.1.shapes) s k.0 r in
     record {
       longer = subst (λ n. length log.shapes ≤ n) (sym l) (omega (arith, k.0));
-      sound = more_shapes (shape.Array ds s m.0 cells) m.1 k.1 (number_within s m.0 m.1 (right_later (length log.shapes) (length m.1.shapes) s k.0 r) (is_number s log));
+      sound = more_shapes (shape.Array ds s m.0 cells) m.1 k.1 (number_within s m.0 m.1 q (is_number s log))
+          (λ v w. ap (array_cells ds) (number_counted s m.0 m.1 k.1 q (is_number s log) v) ∙ array_counted ds (cells_of (table_of m.1.shapes) m.0) w);
       right = subst (λ n. length m.1.shapes < n) (sym l) (omega arith);
     }
 

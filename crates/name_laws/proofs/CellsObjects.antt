@@ -1,5 +1,5 @@
 -- Record types, objects and declarations leave what is right.
-use Rattle.std.proofs.Common.{◌≡◌, ℕ, ℤ, ◌+◌, ◌<◌, ◌≤◌, int_le, List, [], ◌∷◌, ◌++◌, length, Option, Some, None, Bool, true, false, refl, sym, ap, subst, ◌∙◌, arith, if◌then◌else◌, option_map, ◌&&◌}
+use Rattle.std.proofs.Common.{true≢false, leb-true, nat_le, nat_lt, map, ◌≡◌, ℕ, ℤ, ◌+◌, ◌<◌, ◌≤◌, int_le, List, [], ◌∷◌, ◌++◌, length, Option, Some, None, Bool, true, false, refl, sym, ap, subst, ◌∙◌, arith, if◌then◌else◌, option_map, ◌&&◌}
 use Rattle.std.specs.Prelude.{is_some, not}
 use Rattle.ada_base.specs.declared.reason.Reason.TheVariants as reason
 use Rattle.ada_tree.specs.Syntax as syntax
@@ -14,7 +14,7 @@ use Rattle.name_rules.specs.Judging.{Judging, ◌>>=◌, both, given, pure, some
 use Rattle.name_rules.specs.Ranges.{two_bounds}
 use Rattle.name_rules.specs.Scope.{declared, free, hidden_where}
 use Rattle.name_rules.specs.Symbols.{symbol}
-use Rattle.name_rules.specs.Types.{cells_in, in_base, number_of, saturated, wanted_of}
+use Rattle.name_rules.specs.Types.{cells_of_shape, cells_in, in_base, number_of, saturated, wanted_of}
 use Rattle.name_rules.specs.TypedParts.{also_all}
 use Rattle.name_rules.specs.declared.log.Field.{Field}
 use Rattle.name_rules.specs.declared.log.Log.{Log}
@@ -29,7 +29,14 @@ use Rattle.name_rules.specs.declared.types.Subtype.{Subtype}
 use Rattle.name_rules.specs.declared.types.Subtype.TheVariants as subtype
 use Rattle.name_rules.specs.declared.types.Wanted.TheVariants as wanted
 use Rattle.name_laws.proofs.CellsDeclared.{IsIndicated, IsRightMaybe, IsRightOne, Leaves, array-leaves, begun-right, declared-right, ended-right, hidden-right, indic-right, next-leaves, now}
-use Rattle.name_laws.proofs.CellsSound.{AreRight, FieldsBefore, IsRight, Sound, are_later, longer_shapes, minding, more_objects, more_shapes, number_within, right_later}
+use Rattle.std.proofs.lemmas.List.{map-append}
+use Rattle.std.proofs.lemmas.Option.{slice_get-get_or}
+use Rattle.ada_typed.specs.Layout.{cells_of, fields_cells}
+use Rattle.name_rules.specs.Resolved.{typed_field}
+use Rattle.name_rules.specs.declared.log.Shape.{Shape}
+use Rattle.name_laws.proofs.CellsCounted.{fields_sum, saturated_least, saturated_sum}
+use Rattle.name_laws.proofs.CellsGrown.{Extends, extending, extends_joined, fields_later, shape_later, values_before}
+use Rattle.name_laws.proofs.CellsSound.{AllValues, number_counted, table_of, AreRight, FieldsBefore, IsRight, Sound, are_later, longer_shapes, minding, more_objects, more_shapes, number_within, right_later}
 use Rattle.name_laws.proofs.Fitting.{is_number}
 use Rattle.name_laws.proofs.KeepsDeclarations.{k-begun_names, k-cells_counted, k-each_exception, k-indic, k-initial, k-numbers, k-own_type_of, k-valued_constant}
 use Rattle.name_laws.proofs.KeepsRanges.{k-two_bounds}
@@ -62,6 +69,11 @@ fields-both n (f ∷ a) b h k = (h.0, fields-both n a b h.1 k)
 one-more : (n : ℕ) (f : Field) (fs : Option (List Field)) → f.number < n → AreBefore n fs → AreBefore n (option_map (d.also_field f) fs)
 one-more n f None l h = tt
 one-more n f (Some fs) l h = fields-both n fs (f ∷ []) h (l, tt)
+
+-- what is judged in brackets
+pub record KeepsBoth (level : Inside) : Type 0 where
+  pub minds : KeepsInside (minding 0) level
+  pub extends : KeepsInside extending level
 
 same-leaves : (b : Building) (log : Log) → Sound log → IsBuilt (length log.shapes) b → Leaves IsBuilt log (b, log)
 same-leaves b log h r = record { longer = omega arith; sound = h; right = r }
@@ -99,13 +111,13 @@ fields-leaves names b s (t ∷ ts) (f ∷ fs) log h r i =
 fields-leaves names b s [] fs log h r i = same-leaves b log h r
 fields-leaves names b s (t ∷ ts) [] log h r i = same-leaves b log h r
 
-component-leaves : (names : Names) (level : Inside) (start : ℕ) (b : Building) (c : Comp) (log : Log) → KeepsInside (minding 0) level → Sound log → IsBuilt (length log.shapes) b
+component-leaves : (names : Names) (level : Inside) (start : ℕ) (b : Building) (c : Comp) (log : Log) → KeepsBoth level → Sound log → IsBuilt (length log.shapes) b
     → Leaves IsBuilt log (d.component names level start b c log)
 component-leaves names level start b c log keeps h r =
     let x = d.begun_names names start b.here [] (all_ids c.names) log in
     let k = now log (d.begun_names names start b.here [] (all_ids c.names)) (k-begun_names (minding 0) names start b.here [] (all_ids c.names) tt) h in
     let s = d.indic names level x.0.0 c.component x.1 in
-    let j = now x.1 (d.indic names level x.0.0 c.component) (k-indic (minding 0) names level x.0.0 c.component tt keeps) k.1 in
+    let j = now x.1 (d.indic names level x.0.0 c.component) (k-indic (minding 0) names level x.0.0 c.component tt keeps.minds) k.1 in
     let n = length s.1.shapes in
     let l : length log.shapes ≤ n = omega (arith, k.0, j.0) in
     let e = begun-right n names start b.here [] (all_ids c.names) log (are_later (length log.shapes) n b.here.scope l r.0) in
@@ -113,7 +125,7 @@ component-leaves names level start b c log keeps h r =
     next-leaves IsBuilt log s.1 (d.with_fields names more s.0 (all_ids c.names) x.0.1 s.1) l
     (fields-leaves names more s.0 (all_ids c.names) x.0.1 s.1 j.1 (e, maybe-later (length log.shapes) n b.fields l r.1) (indic-right n names level x.0.0 c.component e x.1))
 
-components-leaves : (names : Names) (level : Inside) (start : ℕ) (b : Building) (cs : List Comp) (log : Log) → KeepsInside (minding 0) level → Sound log → IsBuilt (length log.shapes) b
+components-leaves : (names : Names) (level : Inside) (start : ℕ) (b : Building) (cs : List Comp) (log : Log) → KeepsBoth level → Sound log → IsBuilt (length log.shapes) b
     → Leaves IsBuilt log (d.components names level start b cs log)
 components-leaves names level start b [] log keeps h r = same-leaves b log h r
 components-leaves names level start b (c ∷ cs) log keeps h r =
@@ -121,24 +133,94 @@ components-leaves names level start b (c ∷ cs) log keeps h r =
     let k = component-leaves names level start b c log keeps h r in
     next-leaves IsBuilt log x.1 (d.components names level start x.0 cs x.1) k.longer (components-leaves names level start x.0 cs x.1 keeps k.sound k.right)
 
-written-leaves : (b : Building) (fs : Option (List Field)) (log : Log) → Sound log → AreBefore (length log.shapes) fs → Leaves IsIndicated log (given fs (d.record_written b.offset b.mentions) log)
-written-leaves b None log h r = record { longer = omega arith; sound = h; right = tt }
-written-leaves b (Some fs) log h r =
+-- ---- the cells of fields
+
+-- the next field begins behind those so far
+abbrev AreCounted : List Shape → ℕ → Option (List Field) → Type 0
+AreCounted shapes offset None = Unit {0}
+AreCounted shapes offset (Some fs) = offset ≡ saturated (fields_cells (cells_of (table_of shapes)) (map typed_field fs))
+
+abbrev Counts : Log → Building → Type 0
+Counts log b = AllValues log.shapes → AreCounted log.shapes b.offset b.fields
+
+counted-later : (a b : Log) (offset : ℕ) (fs : Option (List Field)) → Extends a b → AreBefore (length a.shapes) fs → (AllValues a.shapes → AreCounted a.shapes offset fs) → AllValues b.shapes → AreCounted b.shapes offset fs
+counted-later a b offset None x h c v = tt
+counted-later a b offset (Some fs) x h c v = c (values_before a b x v) ∙ ap saturated (sym (fields_later a b x fs h))
+
+field-more : (shapes : List Shape) (offset cells : ℕ) (f : Field) (fs : Option (List Field)) → cells ≡ saturated (cells_of (table_of shapes) f.number) → AreCounted shapes offset fs
+    → AreCounted shapes (saturated (offset + cells)) (option_map (d.also_field f) fs)
+field-more shapes offset cells f None e h = tt
+field-more shapes offset cells f (Some fs) e h =
+    let many = cells_of (table_of shapes) in
+    let before = fields_cells many (map typed_field fs) in
+    let all : fields_cells many (map typed_field (fs ++ f ∷ [])) ≡ before + many f.number =
+    ap (fields_cells many) (map-append typed_field fs (f ∷ [])) ∙ fields_sum many (map typed_field fs) (typed_field f ∷ []) ∙ omega arith in
+    ap saturated (ap (λ n. n + cells) h ∙ ap (λ n. saturated before + n) e) ∙ saturated_sum before (many f.number) ∙ ap saturated (sym all)
+
+field-counts : (names : Names) (b : Building) (f : Option ℕ) (token : ℕ) (s : Option Indicated) (log : Log) → Sound log → IsBuilt (length log.shapes) b → IsIndicated (length log.shapes) s → Counts log b
+    → Counts (d.with_field names b f token s log).1 (d.with_field names b f token s log).0
+field-counts names b None token s log h r i c v = tt
+field-counts names b (Some t) token None log h r i c v = tt
+field-counts names b (Some t) token (Some s) log h r i c v =
+    let m = number_of s.known log in
+    let k = now log (number_of s.known) (k-number_of (minding 0) s.known) h in
+    let x = (k-number_of extending s.known).at log in
+    let q = right_later (length log.shapes) (length m.1.shapes) s.known k.0 i in
+    let f : Field = record { symbol = symbol names token; name = token; subtype = s.known; number = m.0; offset = b.offset } in
+    field-more m.1.shapes b.offset (cells_in m.1 s.known) f b.fields (number_counted s.known m.0 m.1 k.1 q (is_number s.known log) v) (counted-later log m.1 b.offset b.fields x r.1 c v)
+
+fields-count : (names : Names) (b : Building) (s : Option Indicated) (ts : List ℕ) (fs : List (Option ℕ)) (log : Log) → Sound log → IsBuilt (length log.shapes) b → IsIndicated (length log.shapes) s → Counts log b
+    → Counts (d.with_fields names b s ts fs log).1 (d.with_fields names b s ts fs log).0
+fields-count names b s (t ∷ ts) (f ∷ fs) log h r i c =
+    let x = d.with_field names b f t s log in
+    let k = field-leaves names b f t s log h r i in
+    fields-count names x.0 s ts fs x.1 k.sound k.right (indicated-later (length log.shapes) (length x.1.shapes) s k.longer i) (field-counts names b f t s log h r i c)
+fields-count names b s [] fs log h r i c = c
+fields-count names b s (t ∷ ts) [] log h r i c = c
+
+component-counts : (names : Names) (level : Inside) (start : ℕ) (b : Building) (c : Comp) (log : Log) → KeepsBoth level → Sound log → IsBuilt (length log.shapes) b → Counts log b
+    → Counts (d.component names level start b c log).1 (d.component names level start b c log).0
+component-counts names level start b c log keeps h r counts =
+    let x = d.begun_names names start b.here [] (all_ids c.names) log in
+    let k = now log (d.begun_names names start b.here [] (all_ids c.names)) (k-begun_names (minding 0) names start b.here [] (all_ids c.names) tt) h in
+    let s = d.indic names level x.0.0 c.component x.1 in
+    let j = now x.1 (d.indic names level x.0.0 c.component) (k-indic (minding 0) names level x.0.0 c.component tt keeps.minds) k.1 in
+    let n = length s.1.shapes in
+    let l : length log.shapes ≤ n = omega (arith, k.0, j.0) in
+    let e = begun-right n names start b.here [] (all_ids c.names) log (are_later (length log.shapes) n b.here.scope l r.0) in
+    let more : Building = record { here = x.0.0; fields = b.fields; offset = b.offset; mentions = also_all b.mentions (d.indicated_mentions s.0) } in
+    let y = extends_joined log x.1 s.1 ((k-begun_names extending names start b.here [] (all_ids c.names) tt).at log) ((k-indic extending names level x.0.0 c.component tt keeps.extends).at x.1) in
+    fields-count names more s.0 (all_ids c.names) x.0.1 s.1 j.1 (e, maybe-later (length log.shapes) n b.fields l r.1) (indic-right n names level x.0.0 c.component e x.1)
+    (counted-later log s.1 b.offset b.fields y r.1 counts)
+
+components-count : (names : Names) (level : Inside) (start : ℕ) (b : Building) (cs : List Comp) (log : Log) → KeepsBoth level → Sound log → IsBuilt (length log.shapes) b → Counts log b
+    → Counts (d.components names level start b cs log).1 (d.components names level start b cs log).0
+components-count names level start b [] log keeps h r counts = counts
+components-count names level start b (c ∷ cs) log keeps h r counts =
+    let x = d.component names level start b c log in
+    let k = component-leaves names level start b c log keeps h r in
+    components-count names level start x.0 cs x.1 keeps k.sound k.right (component-counts names level start b c log keeps h r counts)
+
+written-leaves : (b : Building) (fs : Option (List Field)) (log : Log) → Sound log → AreBefore (length log.shapes) fs → (AllValues log.shapes → AreCounted log.shapes b.offset fs)
+    → Leaves IsIndicated log (given fs (d.record_written b.offset b.mentions) log)
+written-leaves b None log h r c = record { longer = omega arith; sound = h; right = tt }
+written-leaves b (Some fs) log h r c =
     let l = longer_shapes (shape.Record fs b.offset) log.shapes in
     record {
       longer = subst (λ n. length log.shapes ≤ n) (sym l) (omega arith);
-      sound = more_shapes (shape.Record fs b.offset) log h r;
+      sound = more_shapes (shape.Record fs b.offset) log h r (λ v w. c v);
       right = subst (λ n. length log.shapes < n) (sym l) (omega arith);
     }
 
-record-leaves : (names : Names) (level : Inside) (here : Context) (cs : List Comp) (log : Log) → KeepsInside (minding 0) level → Sound log → AreRight (length log.shapes) here.scope
+record-leaves : (names : Names) (level : Inside) (here : Context) (cs : List Comp) (log : Log) → KeepsBoth level → Sound log → AreRight (length log.shapes) here.scope
     → Leaves IsIndicated log (d.record_of names level here cs log)
 unfolding d.record_of
 record-leaves names level here cs log keeps h r =
     let start : Building = record { here = here; fields = Some []; offset = 0; mentions = part.Nothing } in
     let b = d.components names level (length here.scope) start cs log in
     let k = components-leaves names level (length here.scope) start cs log keeps h (r, tt) in
-    next-leaves IsIndicated log b.1 (given b.0.fields (d.record_written b.0.offset b.0.mentions) b.1) k.longer (written-leaves b.0 b.0.fields b.1 k.sound k.right.1)
+    let c = components-count names level (length here.scope) start cs log keeps h (r, tt) (λ v. refl) in
+    next-leaves IsIndicated log b.1 (given b.0.fields (d.record_written b.0.offset b.0.mentions) b.1) k.longer (written-leaves b.0 b.0.fields b.1 k.sound k.right.1 c)
 
 -- ---- types
 
@@ -151,11 +233,11 @@ own-right n token first last x (Some a) (Some z) log = by (in_base (kind.Own tok
     by true log = tt
     by false log = tt
 
-range-type : (names : Names) (level : Inside) (here : Context) (token : ℕ) (low high : Simple) (log : Log) → KeepsInside (minding 0) level → Sound log
+range-type : (names : Names) (level : Inside) (here : Context) (token : ℕ) (low high : Simple) (log : Log) → KeepsBoth level → Sound log
     → Leaves IsIndicated log ((two_bounds level here low high >>= d.own_type_of token) log)
 range-type names level here token low high log keeps h =
     let r = two_bounds level here low high log in
-    let k = now log (two_bounds level here low high) (k-two_bounds (minding 0) level here low high keeps) h in
+    let k = now log (two_bounds level here low high) (k-two_bounds (minding 0) level here low high keeps.minds) h in
     let j = now r.1 (d.own_type_of token r.0) (k-own_type_of (minding 0) token r.0) k.1 in
     let a = given r.0.0 d.static_number r.1 in
     let z = given r.0.1 d.static_number a.1 in
@@ -165,11 +247,11 @@ range-type names level here token low high log keeps h =
       right = own-right _ token (d.first_or r.0.0) (d.first_or r.0.1) (also_all (d.found_mentions r.0.0) (d.found_mentions r.0.1)) a.0 z.0 z.1;
     }
 
-defined-leaves : (names : Names) (level : Inside) (here : Context) (token : ℕ) (x : Definition) (log : Log) → KeepsInside (minding 0) level → Sound log → AreRight (length log.shapes) here.scope
+defined-leaves : (names : Names) (level : Inside) (here : Context) (token : ℕ) (x : Definition) (log : Log) → KeepsBoth level → Sound log → AreRight (length log.shapes) here.scope
     → Leaves IsIndicated log (d.defined names level here token x log)
 unfolding d.defined
 defined-leaves names level here token (syntax.RangeType low high) log keeps h r = range-type names level here token low high log keeps h
-defined-leaves names level here token (syntax.ArrayType a) log keeps h r = array-leaves names level here a log keeps h r
+defined-leaves names level here token (syntax.ArrayType a) log keeps h r = array-leaves names level here a log keeps.minds h r
 defined-leaves names level here token (syntax.RecordType c cs) log keeps h r = record-leaves names level here (c ∷ cs) log keeps h r
 
 -- ---- objects
@@ -179,9 +261,23 @@ abbrev pub IsAround : {B : Type 0} → ℕ → Context × B → Type 0
 IsAround n c = AreRight n c.0.scope
 
 object-written : (names : Names) (here : Context) (token n cells : ℕ) (constant : Bool) (value : Option ℤ) (log : Log) (b : Bool) → Sound log → n < length log.shapes
+    → (b ≡ true → AllValues log.shapes → cells ≡ cells_of (table_of log.shapes) n)
     → (length log.shapes ≤ length ((if b then (d.object_written names here token n cells constant value >>= λ m. some m) else pure None) log).1.shapes) × Sound ((if b then (d.object_written names here token n cells constant value >>= λ m. some m) else pure None) log).1
-object-written names here token n cells constant value log true h l = (omega arith, more_objects _ log h l)
-object-written names here token n cells constant value log false h l = (omega arith, h)
+object-written names here token n cells constant value log true h l c = (omega arith, more_objects _ log h l (c refl))
+object-written names here token n cells constant value log false h l c = (omega arith, h)
+
+cells-same : (a b : Log) (s : Subtype) → Extends a b → IsRight (length a.shapes) s → cells_in a s ≡ cells_in b s
+cells-same a b (subtype.Scalar s) x r = refl
+cells-same a b (subtype.Composite n) x r =
+    let t = slice_get-get_or a.shapes n (shape.Record [] 0) r in
+    ap cells_of_shape t ∙ sym (ap cells_of_shape (shape_later a b x n _ t))
+
+both-true : (a b : Bool) → a && b ≡ true → b ≡ true
+both-true true b e = e
+both-true false b e = absurd (true≢false (sym e))
+
+few-cells : (all cells : ℕ) → nat_le (saturated (all + cells)) 4194304 ≡ true → cells ≤ 4194304
+few-cells all cells e = omega (arith, leb-true (saturated (all + cells)) 4194304 e)
 
 pub object-sound : (names : Names) (here : Context) (token : ℕ) (s : Subtype) (constant : Bool) (value : Option ℤ) (log : Log) → Sound log → IsRight (length log.shapes) s
     → (length log.shapes ≤ length (d.new_object names here token s constant value log).1.shapes) × Sound (d.new_object names here token s constant value log).1
@@ -192,8 +288,13 @@ object-sound names here token s constant value log h r =
     let k = now log (d.cells_counted token cells) (k-cells_counted (minding 0) token cells) h in
     let m = number_of s c.1 in
     let j = now c.1 (number_of s) (k-number_of (minding 0) s) k.1 in
-    let within = number_within s m.0 m.1 (right_later (length log.shapes) (length m.1.shapes) s (omega (arith, k.0, j.0)) r) (is_number s c.1) in
-    let x = object-written names here token m.0 cells constant value m.1 c.0 j.1 within in
+    let q = right_later (length log.shapes) (length m.1.shapes) s (omega (arith, k.0, j.0)) r in
+    let y = extends_joined log c.1 m.1 ((k-cells_counted extending token cells).at log) ((k-number_of extending s).at c.1) in
+    let count : c.0 ≡ true → AllValues m.1.shapes → cells ≡ cells_of (table_of m.1.shapes) m.0 =
+    λ e v. let few = few-cells log.cells cells (both-true (nat_lt log.declared 4096) (nat_le (saturated (log.cells + cells)) 4194304) e) in
+    let same : cells ≡ saturated (cells_of (table_of m.1.shapes) m.0) = cells-same log m.1 s y r ∙ number_counted s m.0 m.1 j.1 q (is_number s c.1) v in
+    same ∙ saturated_least (cells_of (table_of m.1.shapes) m.0) (subst (λ n. n ≤ 4194304) same few) in
+    let x = object-written names here token m.0 cells constant value m.1 c.0 j.1 (number_within s m.0 m.1 q (is_number s c.1)) count in
     (omega (arith, k.0, j.0, x.0), x.1)
 
 object-ended : (n : ℕ) (names : Names) (here : Context) (token : ℕ) (f : Option ℕ) (constant : Bool) (s : Indicated) (v : Initial) (made : Option Part) (m : Option ℕ) → AreRight n here.scope
@@ -216,18 +317,18 @@ one-object names here token f constant made (Some s) (Some v) log h r i =
 one-object names here token f constant made (Some s) None log h r i = counted-leaves names here f token None log h r
 one-object names here token f constant made None v log h r i = counted-leaves names here f token None log h r
 
-typed-leaves : (names : Names) (level : Inside) (here : Context) (t : ObjectType) (log : Log) → KeepsInside (minding 0) level → Sound log → AreRight (length log.shapes) here.scope
+typed-leaves : (names : Names) (level : Inside) (here : Context) (t : ObjectType) (log : Log) → KeepsBoth level → Sound log → AreRight (length log.shapes) here.scope
     → Leaves IsIndicated log (d.typed_object names level here t log)
 typed-leaves names level here (syntax.Indicated i) log keeps h r =
-    let k = now log (d.indic names level here i) (k-indic (minding 0) names level here i tt keeps) h in
+    let k = now log (d.indic names level here i) (k-indic (minding 0) names level here i tt keeps.minds) h in
     record { longer = k.0; sound = k.1; right = indic-right _ names level here i (are_later _ _ here.scope k.0 r) log }
-typed-leaves names level here (syntax.Anonymous a) log keeps h r = array-leaves names level here a log keeps h r
+typed-leaves names level here (syntax.Anonymous a) log keeps h r = array-leaves names level here a log keeps.minds h r
 
 pub around-leaves : {B : Type 0} (here : Context) (x : B) (log : Log) → Sound log → AreRight (length log.shapes) here.scope → Leaves IsAround log ((here, x), log)
 around-leaves here x log h r = record { longer = omega arith; sound = h; right = r }
 
 each-object : (names : Names) (level : Inside) (inner here : Context) (constant : Bool) (first : ℕ) (t : ObjectType) (e : Option Expr) (made : Option Part) (is : List ℕ) (fs : List (Option ℕ)) (log : Log)
-    → KeepsInside (minding 0) level → Sound log → AreRight (length log.shapes) inner.scope → AreRight (length log.shapes) here.scope
+    → KeepsBoth level → Sound log → AreRight (length log.shapes) inner.scope → AreRight (length log.shapes) here.scope
     → Leaves IsAround log (d.each_object names level inner here constant first t e made is fs log)
 each-object names level inner here constant first t e made [] fs log keeps h i r = around-leaves here made log h r
 each-object names level inner here constant first t e made (x ∷ is) [] log keeps h i r = around-leaves here made log h r
@@ -235,7 +336,7 @@ each-object names level inner here constant first t e made (x ∷ is) (f ∷ fs)
     let s = d.typed_object names level inner t log in
     let k = typed-leaves names level inner t log keeps h i in
     let v = d.initial names level inner s.0 e s.1 in
-    let j = now s.1 (d.initial names level inner s.0 e) (k-initial (minding 0) names level inner s.0 e tt keeps) k.sound in
+    let j = now s.1 (d.initial names level inner s.0 e) (k-initial (minding 0) names level inner s.0 e tt keeps.minds) k.sound in
     let u = d.valued_constant first constant s.0 e v.1 in
     let q = now v.1 (d.valued_constant first constant s.0 e) (k-valued_constant (minding 0) first constant s.0 e) j.1 in
     let l : length s.1.shapes ≤ length u.1.shapes = omega (arith, j.0, q.0) in
@@ -247,7 +348,7 @@ each-object names level inner here constant first t e made (x ∷ is) (f ∷ fs)
     (each-object names level inner o.0.0 constant first t e o.0.1 is fs o.1 keeps y.sound (are_later _ _ inner.scope z i) y.right)
 
 objects-leaves : (names : Names) (level : Inside) (start : ℕ) (here : Context) (made : Option Part) (is : Ids) (constant : Bool) (t : ObjectType) (e : Option Expr) (log : Log)
-    → KeepsInside (minding 0) level → Sound log → AreRight (length log.shapes) here.scope → Leaves IsAround log (d.objects names level start here made is constant t e log)
+    → KeepsBoth level → Sound log → AreRight (length log.shapes) here.scope → Leaves IsAround log (d.objects names level start here made is constant t e log)
 unfolding d.objects
 objects-leaves names level start here made is constant t e log keeps h r =
     let x = d.begun_names names start here [] (all_ids is) log in
@@ -267,10 +368,10 @@ number-right n None = tt
 number-right n (Some z) = tt
 
 numbers-leaves : (names : Names) (level : Inside) (start : ℕ) (here : Context) (made : Option Part) (is : Ids) (e : Expr) (log : Log)
-    → KeepsInside (minding 0) level → Sound log → AreRight (length log.shapes) here.scope → Leaves IsAround log (d.numbers names level start here made is e log)
+    → KeepsBoth level → Sound log → AreRight (length log.shapes) here.scope → Leaves IsAround log (d.numbers names level start here made is e log)
 unfolding d.numbers
 numbers-leaves names level start here made is e log keeps h r =
-    let k = now log (d.numbers names level start here made is e) (k-numbers (minding 0) names level start here made is e tt keeps) h in
+    let k = now log (d.numbers names level start here made is e) (k-numbers (minding 0) names level start here made is e tt keeps.minds) h in
     let x = d.begun_names names start here [] (all_ids is) log in
     let f = expr names level x.0.0 wanted.Other e x.1 in
     let v = given f.0 d.static_number f.1 in
@@ -313,7 +414,7 @@ type-leaves names here made f log s r h = record {
 }
 
 pub declaration-leaves : (names : Names) (level : Inside) (start : ℕ) (here : Context) (made : Option Part) (x : Decl) (log : Log)
-    → KeepsInside (minding 0) level → Sound log → AreRight (length log.shapes) here.scope → Leaves IsAround log (d.declaration names level start here made x log)
+    → KeepsBoth level → Sound log → AreRight (length log.shapes) here.scope → Leaves IsAround log (d.declaration names level start here made x log)
 unfolding d.declaration
 declaration-leaves names level start here made (syntax.ObjectDecl is constant t e) log keeps h r = objects-leaves names level start here made is (is_some constant) t e log keeps h r
 declaration-leaves names level start here made (syntax.NumberDecl is at e) log keeps h r = numbers-leaves names level start here made is e log keeps h r
@@ -331,12 +432,12 @@ declaration-leaves names level start here made (syntax.SubtypeDecl at token i) l
     let c = hidden_where names here token f.0 in
     let a = hidden-right _ names here token f.0 (are_later _ _ here.scope k.0 r) in
     let s = d.indic names level c i f.1 in
-    let j = now f.1 (d.indic names level c i) (k-indic (minding 0) names level c i tt keeps) k.1 in
+    let j = now f.1 (d.indic names level c i) (k-indic (minding 0) names level c i tt keeps.minds) k.1 in
     next-leaves IsAround log f.1 (d.one_type names c made f.0 s.0, s.1) k.0
     (type-leaves names c made f.0 f.1 s a (record { longer = j.0; sound = j.1; right = indic-right _ names level c i (are_later _ _ c.scope j.0 a) f.1 }))
 
 pub declarations-leaves : (names : Names) (level : Inside) (start : ℕ) (here : Context) (made : Option Part) (ds : List Decl) (log : Log)
-    → KeepsInside (minding 0) level → Sound log → AreRight (length log.shapes) here.scope → Leaves IsAround log (d.declarations names level start here made ds log)
+    → KeepsBoth level → Sound log → AreRight (length log.shapes) here.scope → Leaves IsAround log (d.declarations names level start here made ds log)
 declarations-leaves names level start here made [] log keeps h r = around-leaves here made log h r
 declarations-leaves names level start here made (x ∷ ds) log keeps h r =
     let y = d.declaration names level start here made x log in

@@ -23,7 +23,8 @@ use Rattle.name_rules.specs.declared.scope.What.TheVariants as what
 use Rattle.name_rules.specs.declared.types.Scalar.{Scalar}
 use Rattle.name_rules.specs.declared.types.Subtype.{Subtype}
 use Rattle.name_laws.proofs.CellsDeclared.{IsRightOne, Leaves, begun-right, declared-right, ended-right, next-leaves, now, subtype-right}
-use Rattle.name_laws.proofs.CellsObjects.{IsAround, around-leaves, counted-leaves, declaration-leaves, declarations-leaves, object-sound}
+use Rattle.name_laws.proofs.CellsGrown.{extending}
+use Rattle.name_laws.proofs.CellsObjects.{KeepsBoth, IsAround, around-leaves, counted-leaves, declaration-leaves, declarations-leaves, object-sound}
 use Rattle.name_laws.proofs.CellsSound.{AreRight, IsRight, Sound, are_both, are_dropped, are_later, minding, next_same, right_later}
 use Rattle.name_laws.proofs.CellsStatements.{c-body, minds_around}
 use Rattle.name_laws.proofs.KeepsDeclarations.{k-begun_names}
@@ -122,6 +123,9 @@ profile-leaves names start here name result fs log h r =
       right = (outer, are_both _ w.0.1.scope _ outer (are_dropped _ (length here.scope) f.0.0.scope (are_later _ _ f.0.0.scope l k.right)));
     }
 
+both-level : (names : Names) (n : ℕ) → KeepsBoth (p.level_of names n)
+both-level names n = record { minds = k-level_of (minding 0) names n tt; extends = k-level_of extending names n tt }
+
 -- ---- subprograms
 
 body-sound : (names : Names) (n : ℕ) (blocking : Bool) (name : ℕ) (q : Profiled) (a : Option Aspect) (ds : List Decl) (b : Body) (last : Option ℕ) (log : Log) → Sound log → AreRight (length log.shapes) q.inner.scope
@@ -131,7 +135,7 @@ body-sound names n blocking name q a ds b last log h r =
     let z = p.aspect names q.inner blocking a log in
     let k = now log (p.aspect names q.inner blocking a) (k-aspect (minding 0) names q.inner blocking a tt) h in
     let x = d.declarations names (p.level_of names n) (length q.outer.scope) q.inner (Some no_decls) ds z.1 in
-    let j = declarations-leaves names (p.level_of names n) (length q.outer.scope) q.inner (Some no_decls) ds z.1 (k-level_of (minding 0) names n tt) k.1 (are_later _ _ q.inner.scope k.0 r) in
+    let j = declarations-leaves names (p.level_of names n) (length q.outer.scope) q.inner (Some no_decls) ds z.1 (both-level names n) k.1 (are_later _ _ q.inner.scope k.0 r) in
     let y = body (around names n (stmt names n)) x.0.0 x.0.1 b x.1 in
     let i = ((c-body (length x.1.shapes) (around names n (stmt names n)) x.0.0 x.0.1 b (minds_around names n) j.right).at x.1).at (omega arith) j.sound in
     let e = now y.1 (p.end_name names name last) (k-end_name (minding 0) names name last tt) i.1 in
@@ -168,7 +172,7 @@ IsRead n x = AreRight n x.here.scope
 
 unit-leaves : (names : Names) (n : ℕ) (blocking : Bool) (start : ℕ) (x : Declared') (u : Unit') (log : Log) → Sound log → AreRight (length log.shapes) x.here.scope → Leaves IsRead log (p.unit_of names n blocking start x u log)
 unit-leaves names n blocking start x (syntax.DeclUnit y) log h r =
-    let k = declaration-leaves names (p.level_of names n) start x.here x.decls y log (k-level_of (minding 0) names n tt) h r in
+    let k = declaration-leaves names (p.level_of names n) start x.here x.decls y log (both-level names n) h r in
     record { longer = k.longer; sound = k.sound; right = k.right }
 unit-leaves names n blocking start x (syntax.SubUnit s) log h r =
     let k = subprogram-leaves names (n - 1) blocking start x.here s log h r in
@@ -217,7 +221,7 @@ outermost-right : (n : ℕ) → AreRight n p.outermost.scope
 outermost-right n = (tt, (tt, (tt, (tt, (tt, (tt, (tt, (tt, (tt, tt)))))))))
 
 fresh-sound : Sound fresh
-fresh-sound = record { shapes = λ n t e. absurd cc; objects = λ n o e. absurd cc }
+fresh-sound = record { before = λ n t e. absurd cc; within = λ n o e. absurd cc; counted = λ v n t e. absurd cc; cells = λ v n o e. absurd cc }
 
 pub all-sound : (names : Names) (text : Program) → Sound (judged names text).1
 unfolding judged p.program

@@ -51,6 +51,7 @@ use Rattle.name_laws.proofs.KeepsValues.{k-settled_found, k-stored}
 use Rattle.std.proofs.Common.{arith}
 use Rattle.std.specs.Prelude.{◌≤◌}
 use Rattle.name_laws.proofs.CellsAround.{entered-right}
+use Rattle.name_laws.proofs.CellsGrown.{extending}
 use Rattle.name_laws.proofs.CellsObjects.{declarations-leaves}
 use Rattle.name_laws.proofs.CellsSound.{AreRight, Next, are_later, minding, next_joined}
 use Rattle.name_laws.proofs.KeepsStatements.{k-for_made, k-arm_limit, k-assign, k-backwards_rule, k-body_made, k-call_stmt, k-closed_where, k-count_where, k-exit_from, k-if_stmt_made, k-loop_ends, k-new_loop, k-raise_from, k-return_from, k-selector}
@@ -59,6 +60,7 @@ use Rattle.name_laws.proofs.Walked.{KeepsInside}
 -- what judges statements keeps logs right
 pub record Minds (a : Around) : Type 0 where
   pub level : (known : ℕ) → KeepsInside (minding known) a.level
+  pub extends : KeepsInside extending a.level
   pub inner : (known : ℕ) → KeepsInside (minding known) a.inner
   pub within : (known : ℕ) (here : Context) → AreRight known here.scope → (s : Stmt) → Keeps (minding known) (a.within here s)
 
@@ -225,7 +227,7 @@ c-block known a here d b keeps1 right = record {
   at = λ log. record {
     at = λ l h.
         let r = declarations a.names a.level (length here.scope) here (Some no_decls) (block_decls d) log in
-        let k = declarations-leaves a.names a.level (length here.scope) here (Some no_decls) (block_decls d) log (keeps1.level 0) h (are_later known (length log.shapes) here.scope l right) in
+        let k = declarations-leaves a.names a.level (length here.scope) here (Some no_decls) (block_decls d) log (record { minds = keeps1.level 0; extends = keeps1.extends }) h (are_later known (length log.shapes) here.scope l right) in
         let j = ((c-block_of (length r.1.shapes) a r.0.0 r.0.1 b keeps1 k.right).at r.1).at (omega arith) k.sound in
         (omega (arith, k.longer, j.0), j.1);
   };
@@ -267,6 +269,7 @@ c-stmt_form known a here (syntax.ParallelBlock at e s t more) keeps1 right = c-p
 minds : (names : Names) (n : ℕ) → ((known : ℕ) (here : Context) → AreRight known here.scope → (s : Stmt) → Keeps (minding known) (stmt names n here s)) → Minds (around names n (stmt names n))
 minds names n f = record {
   level = λ known. k-level_above (minding known) names (inside names n) tt (k-inside (minding known) names n tt);
+  extends = k-level_above extending names (inside names n) tt (k-inside extending names n tt);
   inner = λ known. k-inside (minding known) names n tt;
   within = f;
 }
