@@ -2,7 +2,6 @@
 use Rattle.std.proofs.Common.{ℕ, Option, Some, None, Bool, true, false, if◌then◌else◌, [], ◌∷◌, length}
 use Rattle.ada_tree.specs.Syntax as syntax
 use Rattle.ada_tree.specs.Syntax.{Iter, OptionalExpr, OptionalParallel, Parallel}
-use Rattle.ada_typed.specs.Decoded.{Part}
 use Rattle.ada_typed.specs.Syntax.{Selections}
 use Rattle.ada_typed.specs.declared.program.SiteKind.{SiteKind}
 use Rattle.name_rules.specs.Expressions.{Inside}
@@ -22,10 +21,8 @@ use Rattle.name_rules.specs.declared.found.Found.TheVariants as known
 use Rattle.name_rules.specs.declared.found.Place.{Place}
 use Rattle.name_rules.specs.declared.log.Log.{Log}
 use Rattle.name_rules.specs.declared.log.Rule.TheVariants.{WrongType}
-use Rattle.name_rules.specs.declared.log.Shape.{Shape}
 use Rattle.name_rules.specs.declared.scope.Context.{Context}
 use Rattle.name_rules.specs.declared.scope.Names.{Names}
-use Rattle.name_rules.specs.declared.scope.What.{What}
 use Rattle.name_rules.specs.declared.types.Subtype.{Subtype}
 use Rattle.name_laws.proofs.CellsSound.{AreRight, IsRightWhat, are_both}
 

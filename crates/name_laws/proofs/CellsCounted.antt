@@ -1,12 +1,11 @@
 -- Counts of cells: those of the table of subtypes stand still at the greatest number of 64 bits, those of the layout don't.
-use Rattle.std.proofs.Common.{◌≡◌, ℕ, zero, suc, ◌+◌, ◌*◌, ◌-◌, ◌<◌, ◌≤◌, min, nat_le, ℤ, pos, negsuc, neg_ℤ, ◌+ℤ◌, ◌-ℤ◌, int_le, List, [], ◌∷◌, ◌++◌, length, length-append, Option, Some, None, Bool, true, false, true≢false, refl, sym, ap, ap₂, subst, ◌∙◌, arith, map, leb-true, leb-false}
-use Rattle.std.proofs.Math.IntN.{neg_ℤ-neg_ℤ, neg_ℤ-+ℤ, +ℤ_assoc, +ℤ_invl, +ℤ_idl, +ℤ-neg_ℤ_cancel, -ℤ-+ℤ_cancel, +ℤ_comm, pos-+ℤ-pos}
+use Rattle.std.proofs.Common.{◌≡◌, ℕ, suc, ◌+◌, ◌*◌, ◌-◌, ◌<◌, ◌≤◌, nat_le, ℤ, pos, negsuc, neg_ℤ, ◌+ℤ◌, ◌-ℤ◌, int_le, List, [], ◌∷◌, ◌++◌, length, length-append, Bool, true, false, true≢false, refl, sym, ap, subst, ◌∙◌, arith, map, leb-true, leb-false}
+use Rattle.std.proofs.Math.IntN.{neg_ℤ-+ℤ, +ℤ_assoc, +ℤ_invl, +ℤ_idl, +ℤ-neg_ℤ_cancel, -ℤ-+ℤ_cancel, +ℤ_comm, pos-+ℤ-pos}
 use Rattle.std.proofs.Math.ListN.{get_or, get_or-append}
 use Rattle.std.proofs.Math.Nat.{le-mul_of_pos_right, mul_comm, mul_assoc}
 use Rattle.std.proofs.Math.Seq.{get_or-append_seam}
 use Rattle.std.specs.Prelude.{unsigned_abs}
 use Rattle.ada_typed.specs.Layout.{cells_of, components, count, fields_cells, sizes_from, subtype_cells, to_nat}
-use Rattle.ada_typed.specs.Syntax as typed
 use Rattle.ada_typed.specs.Syntax.{Subtype}
 use Rattle.ada_typed.specs.declared.program.Field.{Field}
 use Rattle.name_rules.specs.Resolved.{dimension_bounds}

@@ -1,6 +1,6 @@
 -- Declarations leave what is right: the subtypes that they name stand in the table.
-use Rattle.std.proofs.Common.{◌≡◌, ℕ, ℤ, zero, suc, ◌+◌, ◌<◌, ◌≤◌, int_le, List, [], ◌∷◌, ◌++◌, length, Option, Some, None, Bool, true, false, refl, sym, ap, subst, ◌∙◌, ◌⊎◌, inl, inr, arith, if◌then◌else◌, nat_le, nat_lt, option_map, ◌==◌, ◌&&◌}
-use Rattle.std.specs.Prelude.{is_some, not, ◌||◌}
+use Rattle.std.proofs.Common.{ℕ, ℤ, ◌<◌, ◌≤◌, int_le, List, [], ◌∷◌, ◌++◌, length, Option, Some, None, Bool, true, false, sym, ap, subst, ◌∙◌, ◌⊎◌, inl, inr, arith, if◌then◌else◌, nat_le, option_map, ◌==◌, ◌&&◌}
+use Rattle.std.specs.Prelude.{◌||◌}
 use Rattle.ada_base.specs.declared.reason.Reason.TheVariants as reason
 use Rattle.ada_tree.specs.Syntax as syntax
 use Rattle.ada_tree.specs.Syntax.{Array, Comp, Decl, Definition, Expr, Ids, Indic, ObjectType, Simple}
@@ -8,40 +8,36 @@ use Rattle.ada_typed.specs.Decoded as part
 use Rattle.ada_typed.specs.Decoded.{Part}
 use Rattle.name_rules.specs.Declarations as d
 use Rattle.name_rules.specs.Declarations.{Building, Dimensions, Indicated, Initial, all_ids, indicated}
-use Rattle.name_rules.specs.Expressions.{Inside, expr}
+use Rattle.name_rules.specs.Expressions.{Inside}
 use Rattle.name_rules.specs.Found.{Denoted, Found, denote}
-use Rattle.name_rules.specs.Judging.{Judging, ◌>>=◌, both, fault, given, pure, some, unless}
+use Rattle.name_rules.specs.Judging.{Judging, ◌>>=◌, both, fault, given, pure, some}
 use Rattle.name_rules.specs.Operators.{both_mentions}
 use Rattle.name_rules.specs.Ranges.{both_static, two_bounds}
-use Rattle.name_rules.specs.Scope.{as_scalar, as_type, declared, entry, free, hidden_where, in_integer_io, in_text_io, is_withed, named, predefined, procedure_of, reach_of, stands, stands_for, subtype_named, undeclared, used_name, with_entry}
+use Rattle.name_rules.specs.Scope.{as_scalar, as_type, declared, entry, free, hidden_where, in_integer_io, in_text_io, is_withed, named, predefined, procedure_of, reach_of, stands, stands_for, subtype_named, undeclared, used_name}
 use Rattle.name_rules.specs.Symbols.{ada_name, data_error_name, end_error_name, integer_io_name, symbol, text_io_name}
-use Rattle.name_rules.specs.Types.{array_cells, cells_in, in_base, lies_in, number_of, saturated, wanted_of}
+use Rattle.name_rules.specs.Types.{array_cells, cells_in, lies_in, number_of}
 use Rattle.name_rules.specs.TypedParts.{also_all}
 use Rattle.name_rules.specs.Values.{first_of}
 use Rattle.name_rules.specs.declared.found.Denoted.TheVariants as denoted
 use Rattle.name_rules.specs.declared.found.Denoted.{Denoted as Known}
 use Rattle.name_rules.specs.declared.found.Reach.{Reach}
 use Rattle.name_rules.specs.declared.log.Dimension.{Dimension}
-use Rattle.name_rules.specs.declared.log.Field.{Field}
 use Rattle.name_rules.specs.declared.log.Log.{Log}
 use Rattle.name_rules.specs.declared.log.Rule.{Rule}
-use Rattle.name_rules.specs.declared.log.Rule.TheVariants.{Limit, NotVisible, StaticRange, Unknown}
+use Rattle.name_rules.specs.declared.log.Rule.TheVariants.{Limit, NotVisible, Unknown}
 use Rattle.name_rules.specs.declared.log.Shape.TheVariants as shape
 use Rattle.name_rules.specs.declared.scope.Context.{Context}
 use Rattle.name_rules.specs.declared.scope.Names.{Names}
 use Rattle.name_rules.specs.declared.scope.What.{What}
 use Rattle.name_rules.specs.declared.scope.What.TheVariants as what
-use Rattle.name_rules.specs.declared.types.Kind.TheVariants as kind
 use Rattle.name_rules.specs.declared.types.Scalar.{Scalar}
 use Rattle.name_rules.specs.declared.types.Subtype.{Subtype}
 use Rattle.name_rules.specs.declared.types.Subtype.TheVariants as subtype
 use Rattle.ada_typed.specs.Layout.{cells_of}
 use Rattle.name_laws.proofs.CellsCounted.{array_counted}
-use Rattle.name_laws.proofs.CellsSound.{number_counted, table_of, AreRight, FieldsBefore, IsRight, IsRightWhat, Next, Sound, are_both, are_later, longer_shapes, minding, more_objects, more_shapes, number_within, one_of, right_later}
+use Rattle.name_laws.proofs.CellsSound.{number_counted, table_of, AreRight, IsRight, IsRightWhat, Sound, are_both, are_later, longer_shapes, minding, more_shapes, number_within, one_of, right_later}
 use Rattle.name_laws.proofs.Fitting.{is_number}
-use Rattle.name_laws.proofs.KeepsDeclarations.{k-begun_names, k-cells_counted, k-dimensions_from, k-indic, k-initial, k-numbers, k-own_type_of, k-valued_constant}
-use Rattle.name_laws.proofs.KeepsRanges.{k-two_bounds}
-use Rattle.name_laws.proofs.KeepsScope.{k-free}
+use Rattle.name_laws.proofs.KeepsDeclarations.{k-dimensions_from, k-indic}
 use Rattle.name_laws.proofs.KeepsTypes.{k-number_of}
 use Rattle.name_laws.proofs.Lookups.{hiding_law}
 use Rattle.name_laws.proofs.Walk.{Keeps}

@@ -3,7 +3,7 @@ use Rattle.std.proofs.Common.{◌≡◌, ℕ, zero, suc, ◌<◌, List, [], ◌�
 use Rattle.std.proofs.lemmas.List.{length-map}
 use Rattle.std.proofs.lemmas.Option.{slice_get-map}
 use Rattle.ada_tree.specs.Syntax.{Program}
-use Rattle.ada_typed.specs.Layout.{HaveCells, IsLaidOut, cells_of}
+use Rattle.ada_typed.specs.Layout.{HaveCells, cells_of}
 use Rattle.ada_typed.specs.Syntax as typed
 use Rattle.ada_typed.specs.Syntax.{Subtype}
 use Rattle.ada_typed.specs.declared.program.Object.{Object}

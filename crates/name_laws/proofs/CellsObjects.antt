@@ -9,12 +9,11 @@ use Rattle.ada_typed.specs.Decoded.{Part}
 use Rattle.name_rules.specs.Declarations as d
 use Rattle.name_rules.specs.Declarations.{Building, Indicated, Initial, all_ids, indicated}
 use Rattle.name_rules.specs.Expressions.{Inside, expr}
-use Rattle.name_rules.specs.Found.{Found}
-use Rattle.name_rules.specs.Judging.{Judging, ◌>>=◌, both, given, pure, some, unless}
+use Rattle.name_rules.specs.Judging.{◌>>=◌, both, given, pure, some, unless}
 use Rattle.name_rules.specs.Ranges.{two_bounds}
 use Rattle.name_rules.specs.Scope.{declared, free, hidden_where}
 use Rattle.name_rules.specs.Symbols.{symbol}
-use Rattle.name_rules.specs.Types.{cells_of_shape, cells_in, in_base, number_of, saturated, wanted_of}
+use Rattle.name_rules.specs.Types.{cells_of_shape, cells_in, in_base, number_of, saturated}
 use Rattle.name_rules.specs.TypedParts.{also_all}
 use Rattle.name_rules.specs.declared.log.Field.{Field}
 use Rattle.name_rules.specs.declared.log.Log.{Log}
@@ -28,7 +27,7 @@ use Rattle.name_rules.specs.declared.types.Kind.TheVariants as kind
 use Rattle.name_rules.specs.declared.types.Subtype.{Subtype}
 use Rattle.name_rules.specs.declared.types.Subtype.TheVariants as subtype
 use Rattle.name_rules.specs.declared.types.Wanted.TheVariants as wanted
-use Rattle.name_laws.proofs.CellsDeclared.{IsIndicated, IsRightMaybe, IsRightOne, Leaves, array-leaves, begun-right, declared-right, ended-right, hidden-right, indic-right, next-leaves, now}
+use Rattle.name_laws.proofs.CellsDeclared.{IsIndicated, IsRightMaybe, Leaves, array-leaves, begun-right, declared-right, ended-right, hidden-right, indic-right, next-leaves, now}
 use Rattle.std.proofs.lemmas.List.{map-append}
 use Rattle.std.proofs.lemmas.Option.{slice_get-get_or}
 use Rattle.ada_typed.specs.Layout.{cells_of, fields_cells}
@@ -42,7 +41,6 @@ use Rattle.name_laws.proofs.KeepsDeclarations.{k-begun_names, k-cells_counted, k
 use Rattle.name_laws.proofs.KeepsRanges.{k-two_bounds}
 use Rattle.name_laws.proofs.KeepsScope.{k-free}
 use Rattle.name_laws.proofs.KeepsTypes.{k-number_of}
-use Rattle.name_laws.proofs.Walk.{Keeps}
 use Rattle.name_laws.proofs.Walked.{KeepsInside}
 
 -- ---- records

@@ -1,5 +1,5 @@
 -- Whole programs leave what is right.
-use Rattle.std.proofs.Common.{◌≡◌, ℕ, ◌+◌, ◌-◌, ◌<◌, ◌≤◌, List, [], ◌∷◌, ◌++◌, length, Option, Some, None, Bool, true, false, refl, sym, ap, subst, ◌∙◌, arith, drop, slice_get}
+use Rattle.std.proofs.Common.{ℕ, ◌-◌, ◌≤◌, List, [], ◌∷◌, length, Option, Some, None, Bool, false, refl, arith}
 use Rattle.ada_tree.specs.Syntax as syntax
 use Rattle.ada_tree.specs.Syntax.{Aspect, Body, Clause, Decl, Expr, Formal, Formals, Main, Program, Sub, Unit'}
 use Rattle.ada_tree.specs.declared.operators.ClauseWord.TheVariants as word
@@ -18,14 +18,13 @@ use Rattle.name_rules.specs.declared.log.Log.{Log}
 use Rattle.name_rules.specs.declared.log.Taken.{Taken}
 use Rattle.name_rules.specs.declared.scope.Context.{Context}
 use Rattle.name_rules.specs.declared.scope.Names.{Names}
-use Rattle.name_rules.specs.declared.scope.Returns.{Returns}
 use Rattle.name_rules.specs.declared.scope.What.TheVariants as what
 use Rattle.name_rules.specs.declared.types.Scalar.{Scalar}
 use Rattle.name_rules.specs.declared.types.Subtype.{Subtype}
 use Rattle.name_laws.proofs.CellsDeclared.{IsRightOne, Leaves, begun-right, declared-right, ended-right, next-leaves, now, subtype-right}
 use Rattle.name_laws.proofs.CellsGrown.{extending}
 use Rattle.name_laws.proofs.CellsObjects.{KeepsBoth, IsAround, around-leaves, counted-leaves, declaration-leaves, declarations-leaves, object-sound}
-use Rattle.name_laws.proofs.CellsSound.{AreRight, IsRight, Sound, are_both, are_dropped, are_later, minding, next_same, right_later}
+use Rattle.name_laws.proofs.CellsSound.{AreRight, Sound, are_both, are_dropped, are_later, minding, next_same, right_later}
 use Rattle.name_laws.proofs.CellsStatements.{c-body, minds_around}
 use Rattle.name_laws.proofs.KeepsDeclarations.{k-begun_names}
 use Rattle.name_laws.proofs.KeepsPrograms.{k-aspect, k-clauses, k-end_name, k-level_of, k-mode_rule, k-policy, k-profile_where, k-result_named, k-with_value_of}

@@ -2,31 +2,16 @@
 use Rattle.ada_base.specs.declared.reason.Reason.{Reason}
 use Rattle.name_rules.specs.Cases.{Covering, case_choices, handled_by}
 use Rattle.name_rules.specs.Declarations.{declarations}
-use Rattle.name_rules.specs.Expressions.{Inside, condition, expr, judged_alone}
+use Rattle.name_rules.specs.Expressions.{condition, expr}
 use Rattle.ada_tree.specs.FirstTokens as first_token
-use Rattle.name_rules.specs.Found.{Denoted, Found}
 use Rattle.name_rules.specs.Iterations.{entered}
-use Rattle.name_rules.specs.Names.{denoted_first, exception}
-use Rattle.name_rules.specs.Parts.{name, new_site, valued_by}
+use Rattle.name_rules.specs.Parts.{name, new_site}
 use Rattle.name_rules.specs.Primaries.{inside}
-use Rattle.name_rules.specs.Symbols.{symbol}
-use Rattle.name_rules.specs.Types.{wanted_of}
-use Rattle.name_rules.specs.Values.{first_of, is_scalar, settled_found, stored}
-use Rattle.name_rules.specs.declared.found.Denoted.TheVariants as denoted
-use Rattle.name_rules.specs.declared.found.Denoted.{Denoted as KnownDenoted}
-use Rattle.name_rules.specs.declared.found.Found.TheVariants as known
-use Rattle.name_rules.specs.declared.found.Place.{Place}
-use Rattle.name_rules.specs.declared.log.Rule.TheVariants.{ChunkRule, Limit, NotVisible, WrongEnd, WrongType}
+use Rattle.name_rules.specs.declared.log.Rule.TheVariants.{Limit}
 use Rattle.name_rules.specs.declared.log.Log.{Log}
 use Rattle.name_rules.specs.declared.scope.Context.{Context}
-use Rattle.name_rules.specs.declared.scope.LoopName.{LoopName}
 use Rattle.name_rules.specs.declared.scope.Names.{Names}
-use Rattle.name_rules.specs.declared.scope.Returns.TheVariants as returns
-use Rattle.name_rules.specs.declared.scope.Returns.{Returns}
-use Rattle.name_rules.specs.declared.scope.Target.TheVariants as target
 use Rattle.name_rules.specs.declared.types.Kind.{Kind}
-use Rattle.name_rules.specs.declared.types.Scalar.{Scalar}
-use Rattle.name_rules.specs.declared.types.Subtype.TheVariants as subtype
 use Rattle.name_rules.specs.declared.types.Wanted.TheVariants as wanted
 use Rattle.ada_tree.specs.Syntax as syntax
 use Rattle.ada_tree.specs.Syntax.{Alt, Alts, Arms, Body, Branches, Decl, Declare, Expr, Handler, Handlers, Iter, MoreStmts, Name, OptionalParallel, OptionalStmts, Pack, Parallel, Scheme, Simple, Stmt, Stmts}
@@ -34,26 +19,22 @@ use Rattle.ada_typed.specs.Decoded as part
 use Rattle.ada_typed.specs.Syntax as typed
 use Rattle.ada_typed.specs.Syntax.{Iteration, Optional, Selections, Chunk as TypedChunk, Exprs as TypedExprs, Handled as TypedHandled}
 use Rattle.ada_typed.specs.declared.program.SiteKind.TheVariants as site
-use Rattle.std.specs.Prelude.{Bool, List, None, Option, Some, [], false, length, nat_le, not, option_map, suc, true, zero, ℕ, ◌-◌, ◌==◌, ◌∷◌}
-use Rattle.name_rules.specs.TypedParts.{selections_of}
+use Rattle.std.specs.Prelude.{Bool, List, None, Option, Some, [], false, length, option_map, suc, zero, ℕ, ◌==◌, ◌∷◌}
 use Rattle.ada_typed.specs.Decoded.{Part as TypedPart, as_expr, as_optional, as_iteration, as_chunk, as_decls, as_stmts, as_alternatives, as_arms, as_handlers, as_body}
 use Rattle.ada_typed.specs.Latest.{turned}
-use Rattle.name_rules.specs.Judging.{◌>>=◌, clean, fault, given, joined, pure, some}
-use Rattle.name_rules.specs.Statements.{Around, with_stmt, no_stmts, stmts_from, stmts, with_target, assigned, stored_place, assigned_place, assign_place, assigned_alone, assign_other, assign_form, assign_to, assign, as_statement, call_stmt, condition_where, innermost, loop_named, loop_or, exited, exit_from, returned, value_at, value_of_nothing, return_value, return_alone, return_from, raised, raise_from, with_elsif_if, elsifs, otherwise_where, if_stmt_part, if_stmt_made, if_stmt, is_last, no_choosing, alternative, alts, selecting, Selector, selector_of, selector, closed_where, selector_kind, case_stmt, loop_ends, new_loop, in_loop, backwards_rule, for_part, parallel_part, for_made, loop_entered, for_loop, loop_part, optional_parallel, loop_with, loop_by, loop_stmt, in_handler_of, is_last_handler, handler, handlers, body_part, block_part, body_made, body, no_decls, block_decls, block_of, block, arm_limit, count_where, with_arm, branches, branch_count, in_threads, parallel, stmt_form, around, stmt}
-use Rattle.name_laws.proofs.Walk.{Keeps, k-pure, k-some, k-bind, k-fault, k-breaks, k-unless, k-if, k-given, k-both, k-where_clean, k-clean}
-use Rattle.name_laws.proofs.KeepsCases.{k-case_choices, k-closed, k-handled_by}
-use Rattle.name_laws.proofs.KeepsExpressions.{k-condition, k-expr, k-judged_alone}
-use Rattle.name_laws.proofs.KeepsIterations.{k-chunk_count, k-entered}
-use Rattle.name_laws.proofs.KeepsNames.{k-exception}
-use Rattle.name_laws.proofs.KeepsParts.{k-new_site, k-valued_by}
+use Rattle.name_rules.specs.Judging.{clean, given, joined, pure}
+use Rattle.name_rules.specs.Statements.{Around, with_stmt, no_stmts, stmts_from, stmts, with_elsif_if, elsifs, otherwise_where, if_stmt_made, if_stmt, is_last, no_choosing, alternative, alts, selector, selector_kind, case_stmt, loop_ends, new_loop, in_loop, for_made, loop_entered, for_loop, loop_part, optional_parallel, loop_with, loop_by, loop_stmt, in_handler_of, is_last_handler, handler, handlers, block_part, body_made, body, no_decls, block_decls, block_of, block, count_where, with_arm, branches, branch_count, in_threads, parallel, stmt_form, around, stmt}
+use Rattle.name_laws.proofs.Walk.{Keeps, k-pure, k-some, k-bind, k-fault, k-given, k-both, k-clean}
+use Rattle.name_laws.proofs.KeepsCases.{k-case_choices, k-handled_by}
+use Rattle.name_laws.proofs.KeepsExpressions.{k-condition, k-expr}
+use Rattle.name_laws.proofs.KeepsIterations.{k-entered}
+use Rattle.name_laws.proofs.KeepsParts.{k-new_site}
 use Rattle.name_laws.proofs.KeepsPrimaries.{k-inside, k-level_above}
-use Rattle.name_laws.proofs.KeepsValues.{k-settled_found, k-stored}
 use Rattle.std.proofs.Common.{arith}
-use Rattle.std.specs.Prelude.{◌≤◌}
 use Rattle.name_laws.proofs.CellsAround.{entered-right}
 use Rattle.name_laws.proofs.CellsGrown.{extending}
 use Rattle.name_laws.proofs.CellsObjects.{declarations-leaves}
-use Rattle.name_laws.proofs.CellsSound.{AreRight, Next, are_later, minding, next_joined}
+use Rattle.name_laws.proofs.CellsSound.{AreRight, are_later, minding, next_joined}
 use Rattle.name_laws.proofs.KeepsStatements.{k-for_made, k-arm_limit, k-assign, k-backwards_rule, k-body_made, k-call_stmt, k-closed_where, k-count_where, k-exit_from, k-if_stmt_made, k-loop_ends, k-new_loop, k-raise_from, k-return_from, k-selector}
 use Rattle.name_laws.proofs.Walked.{KeepsInside}
 
