@@ -25,7 +25,7 @@ use Rattle.name_rules.specs.declared.types.Subtype.TheVariants as subtype
 use Rattle.name_laws.proofs.Fitting.{Fits, IsNumber}
 use Rattle.name_laws.proofs.KeepsPrograms.{k-program}
 use Rattle.name_laws.proofs.Lying.{typed-from}
-use Rattle.name_laws.proofs.Walk.{Walk}
+use Rattle.name_laws.proofs.Walk.{Wide}
 use Rattle.name_laws.specs.Constants.{ConstantsLaw, IsConstantIn}
 
 -- what is known of an object with a static value
@@ -101,20 +101,23 @@ counted-grows token cells log =
     joined-grows log now _ (alike log now refl refl)
     (joined-grows now mid _ (unless-grows (not (log.declared == 4096)) token (Limit 1 4097) now) (unless-grows (nat_lt 4194304 log.cells || nat_le all 4194304) token (Limit 2 all) mid))
 
-growing : Walk
+growing : Wide
 growing = record {
-  Takes = λ names. Unit {0};
-  R = Grows;
-  stays = λ log. alike log log refl refl;
-  joins = joined-grows;
-  breaks = λ at rule log. alike log _ refl refl;
+  walk = record {
+    Takes = λ names. Unit {0};
+    R = Grows;
+    stays = λ log. alike log log refl refl;
+    joins = joined-grows;
+    breaks = λ at rule log. alike log _ refl refl;
+    scalar = λ s log. more-shapes (shape.Scalar s) log;
+    counted = counted-grows;
+    exception = λ token log. alike log _ refl refl;
+    site = λ here at k log. alike log _ refl refl;
+    parameter = λ log. alike log _ refl refl;
+    loop = λ log. alike log _ refl refl;
+  };
   shape = more-shapes;
   object = λ names here token s n cells constant value e f log i. more-objects _ s log i f;
-  counted = counted-grows;
-  exception = λ token log. alike log _ refl refl;
-  site = λ here at k log. alike log _ refl refl;
-  parameter = λ log. alike log _ refl refl;
-  loop = λ log. alike log _ refl refl;
 }
 
 all-hold : (names : Names) (text : Program) → AllHold (judged names text).1

@@ -29,7 +29,7 @@ use Rattle.name_rules.specs.Judging.{◌>>=◌, both, fault, given, joined, pure
 use Rattle.name_rules.specs.declared.log.Log.{Log}
 use Rattle.name_laws.proofs.Fitting.{Fits, IsNumber, is_number, fits_constant}
 use Rattle.name_rules.specs.Declarations.{all_ids, begun_names, ended_name, indic_range, Indicated, indicated, indic_bounds, indic, Dimensions, also_dimension, dimensions_from, array_written, array_given, array, Building, without_fields, with_field, with_fields, indicated_mentions, component, components, record_written, record_of, own_type, first_or, static_number, own_type_of, defined, cells_counted, object_written, new_object, Initial, no_initial, initial, valued_constant, constant_value, object_ended, one_object, typed_object, each_object, objects, numbers, new_exception, each_exception, declaration, declarations}
-use Rattle.name_laws.proofs.Walk.{Walk, Keeps, k-pure, k-some, k-bind, k-fault, k-breaks, k-unless, k-read, k-if, k-given, k-both}
+use Rattle.name_laws.proofs.Walk.{Walk, Wide, Keeps, k-pure, k-some, k-bind, k-fault, k-breaks, k-unless, k-read, k-if, k-given, k-both}
 use Rattle.name_laws.proofs.Walked.{KeepsInside}
 use Rattle.name_laws.proofs.KeepsExpressions.{k-expr, k-judged_alone}
 use Rattle.name_laws.proofs.KeepsRanges.{k-both_static, k-static_range, k-two_bounds}
@@ -83,32 +83,32 @@ pub k-dimensions_from : (walk : Walk) (x0 : Inside) (x1 : Context) (x2 : Option 
 k-dimensions_from walk level here made [] keeps1 = k-pure walk made
 k-dimensions_from walk level here made (r ∷ rs) keeps1 = k-bind walk (static_range level here true None r) (λ d. dimensions_from level here (joined also_dimension made d) rs) (k-static_range walk level here true None r keeps1) (λ d. k-dimensions_from walk level here (joined also_dimension made d) rs keeps1)
 
-pub k-array_written : (walk : Walk) (x0 : List Dimension) (x1 : Subtype) → Keeps walk (array_written x0 x1)
-k-array_written walk ds s = record {
+pub k-array_written : (wide : Wide) (x0 : List Dimension) (x1 : Subtype) → Keeps wide.walk (array_written x0 x1)
+k-array_written wide ds s = record {
   at = λ log.
       let out1 = number_of s log in
       let m = out1.0 in
       let out2 = read (λ log. array_cells ds (cells_in log s)) out1.1 in
       let cells = out2.0 in
-      walk.joins _ _ _ ((k-number_of walk s).at log)
-      (walk.joins _ _ _ ((k-read walk (λ log. array_cells ds (cells_in log s))).at out1.1)
-      ((k-written_shape walk (shape.Array ds s m cells)).at out2.1));
+      wide.walk.joins _ _ _ ((k-number_of wide.walk s).at log)
+      (wide.walk.joins _ _ _ ((k-read wide.walk (λ log. array_cells ds (cells_in log s))).at out1.1)
+      ((k-written_shape wide (shape.Array ds s m cells)).at out2.1));
 }
 
-pub k-array_given : (walk : Walk) (x0 : ℕ) (x1 : Dimensions) (x2 : Indicated) → Keeps walk (array_given x0 x1 x2)
-k-array_given walk at ds s = k-if walk (nat_le (length ds.dimensions) 4) ((array_written ds.dimensions s.known >>= λ t. pure (option_map (indicated (also_all ds.mentions s.part)) t))) (fault at (Limit 4 (length ds.dimensions))) (k-bind walk (array_written ds.dimensions s.known) (λ t. pure (option_map (indicated (also_all ds.mentions s.part)) t)) (k-array_written walk ds.dimensions s.known) (λ t. k-pure walk (option_map (indicated (also_all ds.mentions s.part)) t))) (k-fault walk at (Limit 4 (length ds.dimensions)))
+pub k-array_given : (wide : Wide) (x0 : ℕ) (x1 : Dimensions) (x2 : Indicated) → Keeps wide.walk (array_given x0 x1 x2)
+k-array_given wide at ds s = k-if wide.walk (nat_le (length ds.dimensions) 4) ((array_written ds.dimensions s.known >>= λ t. pure (option_map (indicated (also_all ds.mentions s.part)) t))) (fault at (Limit 4 (length ds.dimensions))) (k-bind wide.walk (array_written ds.dimensions s.known) (λ t. pure (option_map (indicated (also_all ds.mentions s.part)) t)) (k-array_written wide ds.dimensions s.known) (λ t. k-pure wide.walk (option_map (indicated (also_all ds.mentions s.part)) t))) (k-fault wide.walk at (Limit 4 (length ds.dimensions)))
 
-pub k-array : (walk : Walk) (x0 : Names) (x1 : Inside) (x2 : Context) (x3 : Array) → walk.Takes x0 → KeepsInside walk x1 → Keeps walk (array x0 x1 x2 x3)
+pub k-array : (wide : Wide) (x0 : Names) (x1 : Inside) (x2 : Context) (x3 : Array) → wide.walk.Takes x0 → KeepsInside wide.walk x1 → Keeps wide.walk (array x0 x1 x2 x3)
 unfolding array
-k-array walk names level here a keeps1 keeps2 = record {
+k-array wide names level here a keeps1 keeps2 = record {
   at = λ log.
       let out1 = dimensions_from level here (Some (record { dimensions = []; mentions = part.Nothing })) (a.first ∷ a.more) log in
       let ds = out1.0 in
       let out2 = indic names level here a.component out1.1 in
       let s = out2.0 in
-      walk.joins _ _ _ ((k-dimensions_from walk level here (Some (record { dimensions = []; mentions = part.Nothing })) (a.first ∷ a.more) keeps2).at log)
-      (walk.joins _ _ _ ((k-indic walk names level here a.component keeps1 keeps2).at out1.1)
-      ((k-both walk ds s (array_given a.at) (λ z3 z4. k-array_given walk a.at z3 z4)).at out2.1));
+      wide.walk.joins _ _ _ ((k-dimensions_from wide.walk level here (Some (record { dimensions = []; mentions = part.Nothing })) (a.first ∷ a.more) keeps2).at log)
+      (wide.walk.joins _ _ _ ((k-indic wide.walk names level here a.component keeps1 keeps2).at out1.1)
+      ((k-both wide.walk ds s (array_given a.at) (λ z3 z4. k-array_given wide a.at z3 z4)).at out2.1));
 }
 
 pub k-with_field : (walk : Walk) (x0 : Names) (x1 : Building) (x2 : Option ℕ) (x3 : ℕ) (x4 : Option Indicated) → walk.Takes x0 → Keeps walk (with_field x0 x1 x2 x3 x4)
@@ -142,12 +142,12 @@ pub k-components : (walk : Walk) (x0 : Names) (x1 : Inside) (x2 : ℕ) (x3 : Bui
 k-components walk names level start b [] keeps1 keeps2 = k-pure walk b
 k-components walk names level start b (c ∷ cs) keeps1 keeps2 = k-bind walk (component names level start b c) (λ d. components names level start d cs) (k-component walk names level start b c keeps1 keeps2) (λ d. k-components walk names level start d cs keeps1 keeps2)
 
-pub k-record_written : (walk : Walk) (x0 : ℕ) (x1 : TypedPart) (x2 : List Field) → Keeps walk (record_written x0 x1 x2)
-k-record_written walk cells ms fs = k-bind walk (written_shape (shape.Record fs cells)) (λ n. some (indicated ms (subtype.Composite n))) (k-written_shape walk (shape.Record fs cells)) (λ n. k-some walk (indicated ms (subtype.Composite n)))
+pub k-record_written : (wide : Wide) (x0 : ℕ) (x1 : TypedPart) (x2 : List Field) → Keeps wide.walk (record_written x0 x1 x2)
+k-record_written wide cells ms fs = k-bind wide.walk (written_shape (shape.Record fs cells)) (λ n. some (indicated ms (subtype.Composite n))) (k-written_shape wide (shape.Record fs cells)) (λ n. k-some wide.walk (indicated ms (subtype.Composite n)))
 
-pub k-record_of : (walk : Walk) (x0 : Names) (x1 : Inside) (x2 : Context) (x3 : List Comp) → walk.Takes x0 → KeepsInside walk x1 → Keeps walk (record_of x0 x1 x2 x3)
+pub k-record_of : (wide : Wide) (x0 : Names) (x1 : Inside) (x2 : Context) (x3 : List Comp) → wide.walk.Takes x0 → KeepsInside wide.walk x1 → Keeps wide.walk (record_of x0 x1 x2 x3)
 unfolding record_of
-k-record_of walk names level here cs keeps1 keeps2 = k-bind walk (components names level (length here.scope) (record { here = here; fields = Some []; offset = 0; mentions = part.Nothing }) cs) (λ b. given b.fields (record_written b.offset b.mentions)) (k-components walk names level (length here.scope) (record { here = here; fields = Some []; offset = 0; mentions = part.Nothing }) cs keeps1 keeps2) (λ b. k-given walk b.fields (record_written b.offset b.mentions) (λ z1. k-record_written walk b.offset b.mentions z1))
+k-record_of wide names level here cs keeps1 keeps2 = k-bind wide.walk (components names level (length here.scope) (record { here = here; fields = Some []; offset = 0; mentions = part.Nothing }) cs) (λ b. given b.fields (record_written b.offset b.mentions)) (k-components wide.walk names level (length here.scope) (record { here = here; fields = Some []; offset = 0; mentions = part.Nothing }) cs keeps1 keeps2) (λ b. k-given wide.walk b.fields (record_written b.offset b.mentions) (λ z1. k-record_written wide b.offset b.mentions z1))
 
 pub k-own_type : (walk : Walk) (x0 : ℕ) (x1 : ℕ) (x2 : ℕ) (x3 : ℤ) (x4 : ℤ) → Keeps walk (own_type x0 x1 x2 x3 x4)
 k-own_type walk token first last a z = record {
@@ -176,31 +176,31 @@ k-own_type_of walk token r = record {
       ((k-both walk a z (own_type token (first_or r.0) (first_or r.1)) (λ z5 z6. k-own_type walk token (first_or r.0) (first_or r.1) z5 z6)).at out4.1));
 }
 
-pub k-defined : (walk : Walk) (x0 : Names) (x1 : Inside) (x2 : Context) (x3 : ℕ) (x4 : Definition) → walk.Takes x0 → KeepsInside walk x1 → Keeps walk (defined x0 x1 x2 x3 x4)
+pub k-defined : (wide : Wide) (x0 : Names) (x1 : Inside) (x2 : Context) (x3 : ℕ) (x4 : Definition) → wide.walk.Takes x0 → KeepsInside wide.walk x1 → Keeps wide.walk (defined x0 x1 x2 x3 x4)
 unfolding defined
-k-defined walk names level here token (syntax.RangeType low high) keeps1 keeps2 = k-bind walk (two_bounds level here low high) (own_type_of token) (k-two_bounds walk level here low high keeps2) (λ z2. k-own_type_of walk token z2)
-k-defined walk names level here token (syntax.ArrayType a) keeps1 keeps2 = k-array walk names level here a keeps1 keeps2
-k-defined walk names level here token (syntax.RecordType c cs) keeps1 keeps2 = k-record_of walk names level here (c ∷ cs) keeps1 keeps2
+k-defined wide names level here token (syntax.RangeType low high) keeps1 keeps2 = k-bind wide.walk (two_bounds level here low high) (own_type_of token) (k-two_bounds wide.walk level here low high keeps2) (λ z2. k-own_type_of wide.walk token z2)
+k-defined wide names level here token (syntax.ArrayType a) keeps1 keeps2 = k-array wide names level here a keeps1 keeps2
+k-defined wide names level here token (syntax.RecordType c cs) keeps1 keeps2 = k-record_of wide names level here (c ∷ cs) keeps1 keeps2
 
 pub k-cells_counted : (walk : Walk) (token cells : ℕ) → Keeps walk (cells_counted token cells)
 k-cells_counted walk token cells = record { at = walk.counted token cells }
 
-new-where : (walk : Walk) (names : Names) (here : Context) (token : ℕ) (s : Subtype) (n cells : ℕ) (constant : Bool) (value : Option ℤ) → walk.Takes names → Fits s constant value
-    → (log : Log) → IsNumber s n log → (fits : Bool) → walk.R log ((if fits then (object_written names here token n cells constant value >>= λ m. some m) else pure None) log).1
-new-where walk names here token s n cells constant value t f log i true = walk.object names here token s n cells constant value t f log i
-new-where walk names here token s n cells constant value t f log i false = walk.stays log
+new-where : (wide : Wide) (names : Names) (here : Context) (token : ℕ) (s : Subtype) (n cells : ℕ) (constant : Bool) (value : Option ℤ) → wide.walk.Takes names → Fits s constant value
+    → (log : Log) → IsNumber s n log → (fits : Bool) → wide.walk.R log ((if fits then (object_written names here token n cells constant value >>= λ m. some m) else pure None) log).1
+new-where wide names here token s n cells constant value t f log i true = wide.object names here token s n cells constant value t f log i
+new-where wide names here token s n cells constant value t f log i false = wide.walk.stays log
 
-pub k-new_object : (walk : Walk) (names : Names) (here : Context) (token : ℕ) (s : Subtype) (constant : Bool) (value : Option ℤ) → walk.Takes names → Fits s constant value
-    → Keeps walk (new_object names here token s constant value)
+pub k-new_object : (wide : Wide) (names : Names) (here : Context) (token : ℕ) (s : Subtype) (constant : Bool) (value : Option ℤ) → wide.walk.Takes names → Fits s constant value
+    → Keeps wide.walk (new_object names here token s constant value)
 unfolding new_object
-k-new_object walk names here token s constant value t f = record {
+k-new_object wide names here token s constant value t f = record {
   at = λ log.
       let cells = cells_in log s in
       let c = cells_counted token cells log in
       let r = number_of s c.1 in
-      walk.joins log c.1 (new_object names here token s constant value log).1 (walk.counted token cells log)
-      (walk.joins c.1 r.1 (new_object names here token s constant value log).1 ((k-number_of walk s).at c.1)
-      (new-where walk names here token s r.0 cells constant value t f r.1 (is_number s c.1) c.0));
+      wide.walk.joins log c.1 (new_object names here token s constant value log).1 (wide.walk.counted token cells log)
+      (wide.walk.joins c.1 r.1 (new_object names here token s constant value log).1 ((k-number_of wide.walk s).at c.1)
+      (new-where wide names here token s r.0 cells constant value t f r.1 (is_number s c.1) c.0));
 }
 
 pub k-initial : (walk : Walk) (x0 : Names) (x1 : Inside) (x2 : Context) (x3 : Option Indicated) (x4 : Option Expr) → walk.Takes x0 → KeepsInside walk x1 → Keeps walk (initial x0 x1 x2 x3 x4)
@@ -219,16 +219,16 @@ pub k-valued_constant : (walk : Walk) (x0 : ℕ) (x1 : Bool) (x2 : Option Indica
 k-valued_constant walk first true (Some s) None = k-breaks walk first WrongType
 k-valued_constant walk first constant s e = k-pure walk tt
 
-pub k-one_object : (walk : Walk) (x0 : Names) (x1 : Context) (x2 : ℕ) (x3 : Option ℕ) (x4 : Bool) (x5 : Option TypedPart) (x6 : Option Indicated) (x7 : Option Initial) → walk.Takes x0 → Keeps walk (one_object x0 x1 x2 x3 x4 x5 x6 x7)
-k-one_object walk names here token f constant made (Some s) (Some v) keeps1 = k-bind walk (new_object names here token s.known constant (constant_value constant s.known v)) (λ n. pure (object_ended names here token f constant s v made n)) (k-new_object walk names here token s.known constant (constant_value constant s.known v) keeps1 (fits_constant constant s.known v)) (λ n. k-pure walk (object_ended names here token f constant s v made n))
-k-one_object walk names here token f constant ds s v keeps1 = k-bind walk (cells_counted token 0) (λ b. pure (ended_name names here f None, None)) (k-cells_counted walk token 0) (λ b. k-pure walk (ended_name names here f None, None))
+pub k-one_object : (wide : Wide) (x0 : Names) (x1 : Context) (x2 : ℕ) (x3 : Option ℕ) (x4 : Bool) (x5 : Option TypedPart) (x6 : Option Indicated) (x7 : Option Initial) → wide.walk.Takes x0 → Keeps wide.walk (one_object x0 x1 x2 x3 x4 x5 x6 x7)
+k-one_object wide names here token f constant made (Some s) (Some v) keeps1 = k-bind wide.walk (new_object names here token s.known constant (constant_value constant s.known v)) (λ n. pure (object_ended names here token f constant s v made n)) (k-new_object wide names here token s.known constant (constant_value constant s.known v) keeps1 (fits_constant constant s.known v)) (λ n. k-pure wide.walk (object_ended names here token f constant s v made n))
+k-one_object wide names here token f constant ds s v keeps1 = k-bind wide.walk (cells_counted token 0) (λ b. pure (ended_name names here f None, None)) (k-cells_counted wide.walk token 0) (λ b. k-pure wide.walk (ended_name names here f None, None))
 
-pub k-typed_object : (walk : Walk) (x0 : Names) (x1 : Inside) (x2 : Context) (x3 : ObjectType) → walk.Takes x0 → KeepsInside walk x1 → Keeps walk (typed_object x0 x1 x2 x3)
-k-typed_object walk names level here (syntax.Indicated i) keeps1 keeps2 = k-indic walk names level here i keeps1 keeps2
-k-typed_object walk names level here (syntax.Anonymous a) keeps1 keeps2 = k-array walk names level here a keeps1 keeps2
+pub k-typed_object : (wide : Wide) (x0 : Names) (x1 : Inside) (x2 : Context) (x3 : ObjectType) → wide.walk.Takes x0 → KeepsInside wide.walk x1 → Keeps wide.walk (typed_object x0 x1 x2 x3)
+k-typed_object wide names level here (syntax.Indicated i) keeps1 keeps2 = k-indic wide.walk names level here i keeps1 keeps2
+k-typed_object wide names level here (syntax.Anonymous a) keeps1 keeps2 = k-array wide names level here a keeps1 keeps2
 
-pub k-each_object : (walk : Walk) (x0 : Names) (x1 : Inside) (x2 : Context) (x3 : Context) (x4 : Bool) (x5 : ℕ) (x6 : ObjectType) (x7 : Option Expr) (x8 : Option TypedPart) (x9 : List ℕ) (x10 : List (Option ℕ)) → walk.Takes x0 → KeepsInside walk x1 → Keeps walk (each_object x0 x1 x2 x3 x4 x5 x6 x7 x8 x9 x10)
-k-each_object walk names level inner here constant first t e made (i ∷ is) (f ∷ fs) keeps1 keeps2 = record {
+pub k-each_object : (wide : Wide) (x0 : Names) (x1 : Inside) (x2 : Context) (x3 : Context) (x4 : Bool) (x5 : ℕ) (x6 : ObjectType) (x7 : Option Expr) (x8 : Option TypedPart) (x9 : List ℕ) (x10 : List (Option ℕ)) → wide.walk.Takes x0 → KeepsInside wide.walk x1 → Keeps wide.walk (each_object x0 x1 x2 x3 x4 x5 x6 x7 x8 x9 x10)
+k-each_object wide names level inner here constant first t e made (i ∷ is) (f ∷ fs) keeps1 keeps2 = record {
   at = λ log.
       let out1 = typed_object names level inner t log in
       let s = out1.0 in
@@ -237,17 +237,17 @@ k-each_object walk names level inner here constant first t e made (i ∷ is) (f 
       let out3 = valued_constant first constant s e out2.1 in
       let out4 = one_object names here i f constant made s v out3.1 in
       let r = out4.0 in
-      walk.joins _ _ _ ((k-typed_object walk names level inner t keeps1 keeps2).at log)
-      (walk.joins _ _ _ ((k-initial walk names level inner s e keeps1 keeps2).at out1.1)
-      (walk.joins _ _ _ ((k-valued_constant walk first constant s e).at out2.1)
-      (walk.joins _ _ _ ((k-one_object walk names here i f constant made s v keeps1).at out3.1)
-      ((k-each_object walk names level inner r.0 constant first t e r.1 is fs keeps1 keeps2).at out4.1))));
+      wide.walk.joins _ _ _ ((k-typed_object wide names level inner t keeps1 keeps2).at log)
+      (wide.walk.joins _ _ _ ((k-initial wide.walk names level inner s e keeps1 keeps2).at out1.1)
+      (wide.walk.joins _ _ _ ((k-valued_constant wide.walk first constant s e).at out2.1)
+      (wide.walk.joins _ _ _ ((k-one_object wide names here i f constant made s v keeps1).at out3.1)
+      ((k-each_object wide names level inner r.0 constant first t e r.1 is fs keeps1 keeps2).at out4.1))));
 }
-k-each_object walk names level inner here constant first t e made _ _ keeps1 keeps2 = k-pure walk (here, made)
+k-each_object wide names level inner here constant first t e made _ _ keeps1 keeps2 = k-pure wide.walk (here, made)
 
-pub k-objects : (walk : Walk) (x0 : Names) (x1 : Inside) (x2 : ℕ) (x3 : Context) (x4 : Option TypedPart) (x5 : Ids) (x6 : Bool) (x7 : ObjectType) (x8 : Option Expr) → walk.Takes x0 → KeepsInside walk x1 → Keeps walk (objects x0 x1 x2 x3 x4 x5 x6 x7 x8)
+pub k-objects : (wide : Wide) (x0 : Names) (x1 : Inside) (x2 : ℕ) (x3 : Context) (x4 : Option TypedPart) (x5 : Ids) (x6 : Bool) (x7 : ObjectType) (x8 : Option Expr) → wide.walk.Takes x0 → KeepsInside wide.walk x1 → Keeps wide.walk (objects x0 x1 x2 x3 x4 x5 x6 x7 x8)
 unfolding objects
-k-objects walk names level start here made is constant t e keeps1 keeps2 = k-bind walk ((begun_names names start here [] (all_ids is))) (λ r. each_object names level r.0 r.0 constant is.first t e made (all_ids is) r.1) (k-begun_names walk names start here [] (all_ids is) keeps1) (λ r. k-each_object walk names level r.0 r.0 constant is.first t e made (all_ids is) r.1 keeps1 keeps2)
+k-objects wide names level start here made is constant t e keeps1 keeps2 = k-bind wide.walk ((begun_names names start here [] (all_ids is))) (λ r. each_object names level r.0 r.0 constant is.first t e made (all_ids is) r.1) (k-begun_names wide.walk names start here [] (all_ids is) keeps1) (λ r. k-each_object wide names level r.0 r.0 constant is.first t e made (all_ids is) r.1 keeps1 keeps2)
 
 pub k-numbers : (walk : Walk) (x0 : Names) (x1 : Inside) (x2 : ℕ) (x3 : Context) (x4 : Option TypedPart) (x5 : Ids) (x6 : Expr) → walk.Takes x0 → KeepsInside walk x1 → Keeps walk (numbers x0 x1 x2 x3 x4 x5 x6)
 unfolding numbers
@@ -269,32 +269,32 @@ pub k-each_exception : (walk : Walk) (x0 : Names) (x1 : Context) (x2 : List ℕ)
 k-each_exception walk names here (t ∷ ts) (f ∷ fs) keeps1 = k-bind walk (new_exception t) (λ n. each_exception names (ended_name names here f (Some (what.Exception (reason.Declared n)))) ts fs) (k-new_exception walk t) (λ n. k-each_exception walk names (ended_name names here f (Some (what.Exception (reason.Declared n)))) ts fs keeps1)
 k-each_exception walk names here _ _ keeps1 = k-pure walk here
 
-pub k-declaration : (walk : Walk) (x0 : Names) (x1 : Inside) (x2 : ℕ) (x3 : Context) (x4 : Option TypedPart) (x5 : Decl) → walk.Takes x0 → KeepsInside walk x1 → Keeps walk (declaration x0 x1 x2 x3 x4 x5)
+pub k-declaration : (wide : Wide) (x0 : Names) (x1 : Inside) (x2 : ℕ) (x3 : Context) (x4 : Option TypedPart) (x5 : Decl) → wide.walk.Takes x0 → KeepsInside wide.walk x1 → Keeps wide.walk (declaration x0 x1 x2 x3 x4 x5)
 unfolding declaration
-k-declaration walk names level start here made (syntax.ObjectDecl is constant t e) keeps1 keeps2 = k-objects walk names level start here made is (is_some constant) t e keeps1 keeps2
-k-declaration walk names level start here made (syntax.NumberDecl is at e) keeps1 keeps2 = k-numbers walk names level start here made is e keeps1 keeps2
-k-declaration walk names level start here made (syntax.ExceptionDecl is) keeps1 keeps2 = record {
+k-declaration wide names level start here made (syntax.ObjectDecl is constant t e) keeps1 keeps2 = k-objects wide names level start here made is (is_some constant) t e keeps1 keeps2
+k-declaration wide names level start here made (syntax.NumberDecl is at e) keeps1 keeps2 = k-numbers wide.walk names level start here made is e keeps1 keeps2
+k-declaration wide names level start here made (syntax.ExceptionDecl is) keeps1 keeps2 = record {
   at = λ log.
       let out1 = begun_names names start here [] (all_ids is) log in
       let r = out1.0 in
-      walk.joins _ _ _ ((k-begun_names walk names start here [] (all_ids is) keeps1).at log)
-      ((k-each_exception walk names r.0 (all_ids is) r.1 keeps1).at out1.1);
+      wide.walk.joins _ _ _ ((k-begun_names wide.walk names start here [] (all_ids is) keeps1).at log)
+      ((k-each_exception wide.walk names r.0 (all_ids is) r.1 keeps1).at out1.1);
 }
-k-declaration walk names level start here made (syntax.TypeDecl at token d) keeps1 keeps2 = record {
+k-declaration wide names level start here made (syntax.TypeDecl at token d) keeps1 keeps2 = record {
   at = λ log.
       let out1 = free names start here token log in
       let f = out1.0 in
-      walk.joins _ _ _ ((k-free walk names start here token keeps1).at log)
-      ((k-defined walk names level (hidden_where names here token f) token d keeps1 keeps2).at out1.1);
+      wide.walk.joins _ _ _ ((k-free wide.walk names start here token keeps1).at log)
+      ((k-defined wide names level (hidden_where names here token f) token d keeps1 keeps2).at out1.1);
 }
-k-declaration walk names level start here made (syntax.SubtypeDecl at token i) keeps1 keeps2 = record {
+k-declaration wide names level start here made (syntax.SubtypeDecl at token i) keeps1 keeps2 = record {
   at = λ log.
       let out1 = free names start here token log in
       let f = out1.0 in
-      walk.joins _ _ _ ((k-free walk names start here token keeps1).at log)
-      ((k-indic walk names level (hidden_where names here token f) i keeps1 keeps2).at out1.1);
+      wide.walk.joins _ _ _ ((k-free wide.walk names start here token keeps1).at log)
+      ((k-indic wide.walk names level (hidden_where names here token f) i keeps1 keeps2).at out1.1);
 }
 
-pub k-declarations : (walk : Walk) (x0 : Names) (x1 : Inside) (x2 : ℕ) (x3 : Context) (x4 : Option TypedPart) (x5 : List Decl) → walk.Takes x0 → KeepsInside walk x1 → Keeps walk (declarations x0 x1 x2 x3 x4 x5)
-k-declarations walk names level start here made [] keeps1 keeps2 = k-pure walk (here, made)
-k-declarations walk names level start here made (d ∷ ds) keeps1 keeps2 = k-bind walk (declaration names level start here made d) (λ r. declarations names level start r.0 r.1 ds) (k-declaration walk names level start here made d keeps1 keeps2) (λ r. k-declarations walk names level start r.0 r.1 ds keeps1 keeps2)
+pub k-declarations : (wide : Wide) (x0 : Names) (x1 : Inside) (x2 : ℕ) (x3 : Context) (x4 : Option TypedPart) (x5 : List Decl) → wide.walk.Takes x0 → KeepsInside wide.walk x1 → Keeps wide.walk (declarations x0 x1 x2 x3 x4 x5)
+k-declarations wide names level start here made [] keeps1 keeps2 = k-pure wide.walk (here, made)
+k-declarations wide names level start here made (d ∷ ds) keeps1 keeps2 = k-bind wide.walk (declaration names level start here made d) (λ r. declarations names level start r.0 r.1 ds) (k-declaration wide names level start here made d keeps1 keeps2) (λ r. k-declarations wide names level start r.0 r.1 ds keeps1 keeps2)

@@ -31,7 +31,7 @@ use Rattle.ada_typed.specs.declared.program.Mode.{Mode}
 use Rattle.std.specs.Prelude.{Bool, List, None, Option, Some, [], false, if◌then◌else◌, length, not, option_map, true, ℕ, ◌&&◌, ◌+◌, ◌-◌, ◌==◌, ◌||◌, ◌∷◌}
 use Rattle.name_rules.specs.Judging.{◌>>=◌, breaks, fault, given, joined, pure, some, unless}
 use Rattle.name_rules.specs.Programs.{policy_named, policy, pack_end, pack, has, with_package, withed_by, clause_name, clause_packs, clauses, boolean_place, not_zero, aspect_denoted, known_of, aspect_value, aspect, end_name, mode_of, mode_rule, is_constant, formal_entry, one_formal, also_taken_by, each_formal, formal, formals_from, formals, written_profile, result_named, Profiled, is_function, profile_where, next_owner, profile, level_of, with_body, result_value, with_value_of, subprogram, Declared', also_sub, unit_of, units, main, outermost, program}
-use Rattle.name_laws.proofs.Walk.{Walk, Keeps, k-pure, k-some, k-bind, k-fault, k-breaks, k-unless, k-read, k-if, k-given}
+use Rattle.name_laws.proofs.Walk.{Walk, Wide, Keeps, k-pure, k-some, k-bind, k-fault, k-breaks, k-unless, k-read, k-if, k-given}
 use Rattle.name_laws.proofs.Walked.{KeepsInside, WalksProfiles}
 use Rattle.name_laws.proofs.KeepsDeclarations.{k-begun_names, k-cells_counted, k-declaration, k-declarations, k-new_object}
 use Rattle.name_laws.proofs.KeepsExpressions.{k-judged_alone, k-value_for}
@@ -102,36 +102,36 @@ k-mode_rule walk true (Some (mode'.Out at)) = k-breaks walk at WrongType
 k-mode_rule walk true (Some (mode'.InOut at)) = k-breaks walk at WrongType
 k-mode_rule walk function m = k-pure walk tt
 
-pub k-one_formal : (walk : Walk) (x0 : Names) (x1 : Context) (x2 : ℕ) (x3 : Option ℕ) (x4 : Mode) (x5 : Option Subtype) → walk.Takes x0 → Keeps walk (one_formal x0 x1 x2 x3 x4 x5)
-k-one_formal walk names here token f m None keeps1 = k-bind walk (cells_counted token 0) (λ b. pure (ended_name names here f None, None)) (k-cells_counted walk token 0) (λ b. k-pure walk (ended_name names here f None, None))
-k-one_formal walk names here token f m (Some s) keeps1 = k-bind walk (new_object names here token s (is_constant m) None) (λ o. pure (formal_entry names here token f m s 0 o)) (k-new_object walk names here token s (is_constant m) None keeps1 tt) (λ o. k-pure walk (formal_entry names here token f m s 0 o))
+pub k-one_formal : (wide : Wide) (x0 : Names) (x1 : Context) (x2 : ℕ) (x3 : Option ℕ) (x4 : Mode) (x5 : Option Subtype) → wide.walk.Takes x0 → Keeps wide.walk (one_formal x0 x1 x2 x3 x4 x5)
+k-one_formal wide names here token f m None keeps1 = k-bind wide.walk (cells_counted token 0) (λ b. pure (ended_name names here f None, None)) (k-cells_counted wide.walk token 0) (λ b. k-pure wide.walk (ended_name names here f None, None))
+k-one_formal wide names here token f m (Some s) keeps1 = k-bind wide.walk (new_object names here token s (is_constant m) None) (λ o. pure (formal_entry names here token f m s 0 o)) (k-new_object wide names here token s (is_constant m) None keeps1 tt) (λ o. k-pure wide.walk (formal_entry names here token f m s 0 o))
 
-pub k-each_formal : (walk : Walk) (x0 : Names) (x1 : Context) (x2 : Mode) (x3 : Option Subtype) (x4 : Option (List Taken)) (x5 : List ℕ) (x6 : List (Option ℕ)) → walk.Takes x0 → Keeps walk (each_formal x0 x1 x2 x3 x4 x5 x6)
-k-each_formal walk names here m s made [] fs keeps1 = k-pure walk (here, made)
-k-each_formal walk names here m s made (t ∷ ts) [] keeps1 = k-pure walk (here, made)
-k-each_formal walk names here m s made (t ∷ ts) (f ∷ fs) keeps1 = k-bind walk (one_formal names here t f m s) (λ r. each_formal names r.0 m s (joined also_taken_by made r.1) ts fs) (k-one_formal walk names here t f m s keeps1) (λ r. k-each_formal walk names r.0 m s (joined also_taken_by made r.1) ts fs keeps1)
+pub k-each_formal : (wide : Wide) (x0 : Names) (x1 : Context) (x2 : Mode) (x3 : Option Subtype) (x4 : Option (List Taken)) (x5 : List ℕ) (x6 : List (Option ℕ)) → wide.walk.Takes x0 → Keeps wide.walk (each_formal x0 x1 x2 x3 x4 x5 x6)
+k-each_formal wide names here m s made [] fs keeps1 = k-pure wide.walk (here, made)
+k-each_formal wide names here m s made (t ∷ ts) [] keeps1 = k-pure wide.walk (here, made)
+k-each_formal wide names here m s made (t ∷ ts) (f ∷ fs) keeps1 = k-bind wide.walk (one_formal names here t f m s) (λ r. each_formal names r.0 m s (joined also_taken_by made r.1) ts fs) (k-one_formal wide names here t f m s keeps1) (λ r. k-each_formal wide names r.0 m s (joined also_taken_by made r.1) ts fs keeps1)
 
-pub k-formal : (walk : Walk) (x0 : Names) (x1 : Bool) (x2 : ℕ) (x3 : Context) (x4 : Option (List Taken)) (x5 : Formal) → walk.Takes x0 → Keeps walk (formal x0 x1 x2 x3 x4 x5)
-k-formal walk names function start here made f keeps1 = record {
+pub k-formal : (wide : Wide) (x0 : Names) (x1 : Bool) (x2 : ℕ) (x3 : Context) (x4 : Option (List Taken)) (x5 : Formal) → wide.walk.Takes x0 → Keeps wide.walk (formal x0 x1 x2 x3 x4 x5)
+k-formal wide names function start here made f keeps1 = record {
   at = λ log.
       let out1 = begun_names names start here [] (all_ids f.names) log in
       let r = out1.0 in
       let out2 = mode_rule function f.mode out1.1 in
       let out3 = subtype_named names r.0 f.mark out2.1 in
       let s = out3.0 in
-      walk.joins _ _ _ ((k-begun_names walk names start here [] (all_ids f.names) keeps1).at log)
-      (walk.joins _ _ _ ((k-mode_rule walk function f.mode).at out1.1)
-      (walk.joins _ _ _ ((k-subtype_named walk names r.0 f.mark keeps1).at out2.1)
-      ((k-each_formal walk names r.0 (mode_of f.mode) s made (all_ids f.names) r.1 keeps1).at out3.1)));
+      wide.walk.joins _ _ _ ((k-begun_names wide.walk names start here [] (all_ids f.names) keeps1).at log)
+      (wide.walk.joins _ _ _ ((k-mode_rule wide.walk function f.mode).at out1.1)
+      (wide.walk.joins _ _ _ ((k-subtype_named wide.walk names r.0 f.mark keeps1).at out2.1)
+      ((k-each_formal wide names r.0 (mode_of f.mode) s made (all_ids f.names) r.1 keeps1).at out3.1)));
 }
 
-pub k-formals_from : (walk : Walk) (x0 : Names) (x1 : Bool) (x2 : ℕ) (x3 : Context) (x4 : Option (List Taken)) (x5 : List Formal) → walk.Takes x0 → Keeps walk (formals_from x0 x1 x2 x3 x4 x5)
-k-formals_from walk names function start here made [] keeps1 = k-pure walk (here, made)
-k-formals_from walk names function start here made (f ∷ fs) keeps1 = k-bind walk (formal names function start here made f) (λ r. formals_from names function start r.0 r.1 fs) (k-formal walk names function start here made f keeps1) (λ r. k-formals_from walk names function start r.0 r.1 fs keeps1)
+pub k-formals_from : (wide : Wide) (x0 : Names) (x1 : Bool) (x2 : ℕ) (x3 : Context) (x4 : Option (List Taken)) (x5 : List Formal) → wide.walk.Takes x0 → Keeps wide.walk (formals_from x0 x1 x2 x3 x4 x5)
+k-formals_from wide names function start here made [] keeps1 = k-pure wide.walk (here, made)
+k-formals_from wide names function start here made (f ∷ fs) keeps1 = k-bind wide.walk (formal names function start here made f) (λ r. formals_from names function start r.0 r.1 fs) (k-formal wide names function start here made f keeps1) (λ r. k-formals_from wide names function start r.0 r.1 fs keeps1)
 
-pub k-formals : (walk : Walk) (x0 : Names) (x1 : Bool) (x2 : Context) (x3 : Option Formals) → walk.Takes x0 → Keeps walk (formals x0 x1 x2 x3)
-k-formals walk names function here None keeps1 = k-pure walk (here, Some [])
-k-formals walk names function here (Some f) keeps1 = k-formals_from walk names function (length here.scope) here (Some []) (f.first ∷ f.more) keeps1
+pub k-formals : (wide : Wide) (x0 : Names) (x1 : Bool) (x2 : Context) (x3 : Option Formals) → wide.walk.Takes x0 → Keeps wide.walk (formals x0 x1 x2 x3)
+k-formals wide names function here None keeps1 = k-pure wide.walk (here, Some [])
+k-formals wide names function here (Some f) keeps1 = k-formals_from wide names function (length here.scope) here (Some []) (f.first ∷ f.more) keeps1
 
 pub k-written_profile : (walk : Walk) (ts : List Taken) (s : Option Scalar) → WalksProfiles walk → Keeps walk (written_profile ts s)
 k-written_profile walk ts s profiles = record { at = profiles.profile ts s }
@@ -148,9 +148,9 @@ k-profile_where walk names here name None ts r keeps1 profiles = k-pure walk (No
 pub k-next_owner : (walk : Walk) → Keeps walk (next_owner)
 k-next_owner walk = k-read walk (λ log. length log.profiles + 1)
 
-pub k-profile : (walk : Walk) (x0 : Names) (x1 : ℕ) (x2 : Context) (x3 : ℕ) (x4 : Option ℕ) (x5 : Option Formals) → walk.Takes x0 → WalksProfiles walk → Keeps walk (profile x0 x1 x2 x3 x4 x5)
+pub k-profile : (wide : Wide) (x0 : Names) (x1 : ℕ) (x2 : Context) (x3 : ℕ) (x4 : Option ℕ) (x5 : Option Formals) → wide.walk.Takes x0 → WalksProfiles wide.walk → Keeps wide.walk (profile x0 x1 x2 x3 x4 x5)
 unfolding profile
-k-profile walk names start here name result fs keeps1 profiles = record {
+k-profile wide names start here name result fs keeps1 profiles = record {
   at = λ log.
       let out1 = next_owner log in
       let owner = out1.0 in
@@ -160,19 +160,19 @@ k-profile walk names start here name result fs keeps1 profiles = record {
       let r = out3.0 in
       let out4 = free names start here name out3.1 in
       let one = out4.0 in
-      walk.joins _ _ _ ((k-next_owner walk).at log)
-      (walk.joins _ _ _ ((k-formals walk names (is_function result) (record here { owner = owner }) fs keeps1).at out1.1)
-      (walk.joins _ _ _ ((k-result_named walk names f.0 result keeps1).at out2.1)
-      (walk.joins _ _ _ ((k-free walk names start here name keeps1).at out3.1)
-      ((k-profile_where walk names here name one f.1 r keeps1 profiles).at out4.1))));
+      wide.walk.joins _ _ _ ((k-next_owner wide.walk).at log)
+      (wide.walk.joins _ _ _ ((k-formals wide names (is_function result) (record here { owner = owner }) fs keeps1).at out1.1)
+      (wide.walk.joins _ _ _ ((k-result_named wide.walk names f.0 result keeps1).at out2.1)
+      (wide.walk.joins _ _ _ ((k-free wide.walk names start here name keeps1).at out3.1)
+      ((k-profile_where wide.walk names here name one f.1 r keeps1 profiles).at out4.1))));
 }
 
 pub k-level_of : (walk : Walk) (names : Names) (n : ℕ) → walk.Takes names → KeepsInside walk (level_of names n)
 k-level_of walk names n t = k-level_above walk names (inside names n) t (k-inside walk names n t)
 
-pub k-with_body : (walk : Walk) (x0 : Names) (x1 : ℕ) (x2 : Bool) (x3 : ℕ) (x4 : Profiled) (x5 : Option Aspect) (x6 : List Decl) (x7 : Body) (x8 : Option ℕ) → walk.Takes x0 → Keeps walk (with_body x0 x1 x2 x3 x4 x5 x6 x7 x8)
+pub k-with_body : (wide : Wide) (x0 : Names) (x1 : ℕ) (x2 : Bool) (x3 : ℕ) (x4 : Profiled) (x5 : Option Aspect) (x6 : List Decl) (x7 : Body) (x8 : Option ℕ) → wide.walk.Takes x0 → Keeps wide.walk (with_body x0 x1 x2 x3 x4 x5 x6 x7 x8)
 unfolding with_body
-k-with_body walk names n blocking name p a ds b last keeps1 = record {
+k-with_body wide names n blocking name p a ds b last keeps1 = record {
   at = λ log.
       let out1 = aspect names p.inner blocking a log in
       let z = out1.0 in
@@ -180,10 +180,10 @@ k-with_body walk names n blocking name p a ds b last keeps1 = record {
       let r = out2.0 in
       let out3 = body (around names n (stmt names n)) r.0 r.1 b out2.1 in
       let x = out3.0 in
-      walk.joins _ _ _ ((k-aspect walk names p.inner blocking a keeps1).at log)
-      (walk.joins _ _ _ ((k-declarations walk names (level_of names n) (length p.outer.scope) p.inner (Some no_decls) ds keeps1 (k-level_of walk names n keeps1)).at out1.1)
-      (walk.joins _ _ _ ((k-body walk (around names n (stmt names n)) r.0 r.1 b (k-around walk names n keeps1)).at out2.1)
-      ((k-end_name walk names name last keeps1).at out3.1)));
+      wide.walk.joins _ _ _ ((k-aspect wide.walk names p.inner blocking a keeps1).at log)
+      (wide.walk.joins _ _ _ ((k-declarations wide names (level_of names n) (length p.outer.scope) p.inner (Some no_decls) ds keeps1 (k-level_of wide.walk names n keeps1)).at out1.1)
+      (wide.walk.joins _ _ _ ((k-body wide.walk (around names n (stmt names n)) r.0 r.1 b (k-around wide names n keeps1)).at out2.1)
+      ((k-end_name wide.walk names name last keeps1).at out3.1)));
 }
 
 pub k-result_value : (walk : Walk) (x0 : Names) (x1 : Inside) (x2 : Context) (x3 : Expr) (x4 : Returns) → walk.Takes x0 → KeepsInside walk x1 → Keeps walk (result_value x0 x1 x2 x3 x4)
@@ -200,41 +200,41 @@ k-with_value_of walk names n blocking p a e keeps1 = record {
       ((k-result_value walk names (inside names n) p.inner e p.inner.returns keeps1 (k-inside walk names n keeps1)).at out1.1);
 }
 
-pub k-subprogram : (walk : Walk) (x0 : Names) (x1 : ℕ) (x2 : Bool) (x3 : ℕ) (x4 : Context) (x5 : Sub) → walk.Takes x0 → WalksProfiles walk → Keeps walk (subprogram x0 x1 x2 x3 x4 x5)
+pub k-subprogram : (wide : Wide) (x0 : Names) (x1 : ℕ) (x2 : Bool) (x3 : ℕ) (x4 : Context) (x5 : Sub) → wide.walk.Takes x0 → WalksProfiles wide.walk → Keeps wide.walk (subprogram x0 x1 x2 x3 x4 x5)
 unfolding subprogram
-k-subprogram walk names n blocking start here (syntax.Procedure at name fs a ds b last) keeps1 profiles = record {
+k-subprogram wide names n blocking start here (syntax.Procedure at name fs a ds b last) keeps1 profiles = record {
   at = λ log.
       let out1 = profile names start here name None fs log in
       let p = out1.0 in
-      walk.joins _ _ _ ((k-profile walk names start here name None fs keeps1 profiles).at log)
-      ((k-with_body walk names n blocking name p a ds b last keeps1).at out1.1);
+      wide.walk.joins _ _ _ ((k-profile wide names start here name None fs keeps1 profiles).at log)
+      ((k-with_body wide names n blocking name p a ds b last keeps1).at out1.1);
 }
-k-subprogram walk names n blocking start here (syntax.Function at name fs result a ds b last) keeps1 profiles = record {
+k-subprogram wide names n blocking start here (syntax.Function at name fs result a ds b last) keeps1 profiles = record {
   at = λ log.
       let out1 = profile names start here name (Some result) fs log in
       let p = out1.0 in
-      walk.joins _ _ _ ((k-profile walk names start here name (Some result) fs keeps1 profiles).at log)
-      ((k-with_body walk names n blocking name p a ds b last keeps1).at out1.1);
+      wide.walk.joins _ _ _ ((k-profile wide names start here name (Some result) fs keeps1 profiles).at log)
+      ((k-with_body wide names n blocking name p a ds b last keeps1).at out1.1);
 }
-k-subprogram walk names n blocking start here (syntax.ExprFunction at name fs result bracket e a) keeps1 profiles = record {
+k-subprogram wide names n blocking start here (syntax.ExprFunction at name fs result bracket e a) keeps1 profiles = record {
   at = λ log.
       let out1 = profile names start here name (Some result) fs log in
       let p = out1.0 in
-      walk.joins _ _ _ ((k-profile walk names start here name (Some result) fs keeps1 profiles).at log)
-      ((k-with_value_of walk names n blocking p a e keeps1).at out1.1);
+      wide.walk.joins _ _ _ ((k-profile wide names start here name (Some result) fs keeps1 profiles).at log)
+      ((k-with_value_of wide.walk names n blocking p a e keeps1).at out1.1);
 }
 
-pub k-unit_of : (walk : Walk) (x0 : Names) (x1 : ℕ) (x2 : Bool) (x3 : ℕ) (x4 : Declared') (x5 : Unit') → walk.Takes x0 → WalksProfiles walk → Keeps walk (unit_of x0 x1 x2 x3 x4 x5)
-k-unit_of walk names n blocking start d (syntax.DeclUnit x) keeps1 profiles = k-bind walk (declaration names (level_of names n) start d.here d.decls x) (λ r. pure (record { here = r.0; decls = r.1; subs = d.subs })) (k-declaration walk names (level_of names n) start d.here d.decls x keeps1 (k-level_of walk names n keeps1)) (λ r. k-pure walk (record { here = r.0; decls = r.1; subs = d.subs }))
-k-unit_of walk names n blocking start d (syntax.SubUnit s) keeps1 profiles = k-bind walk (subprogram names (n - 1) blocking start d.here s) (λ r. pure (record { here = r.0; decls = d.decls; subs = joined also_sub d.subs r.1 })) (k-subprogram walk names (n - 1) blocking start d.here s keeps1 profiles) (λ r. k-pure walk (record { here = r.0; decls = d.decls; subs = joined also_sub d.subs r.1 }))
+pub k-unit_of : (wide : Wide) (x0 : Names) (x1 : ℕ) (x2 : Bool) (x3 : ℕ) (x4 : Declared') (x5 : Unit') → wide.walk.Takes x0 → WalksProfiles wide.walk → Keeps wide.walk (unit_of x0 x1 x2 x3 x4 x5)
+k-unit_of wide names n blocking start d (syntax.DeclUnit x) keeps1 profiles = k-bind wide.walk (declaration names (level_of names n) start d.here d.decls x) (λ r. pure (record { here = r.0; decls = r.1; subs = d.subs })) (k-declaration wide names (level_of names n) start d.here d.decls x keeps1 (k-level_of wide.walk names n keeps1)) (λ r. k-pure wide.walk (record { here = r.0; decls = r.1; subs = d.subs }))
+k-unit_of wide names n blocking start d (syntax.SubUnit s) keeps1 profiles = k-bind wide.walk (subprogram names (n - 1) blocking start d.here s) (λ r. pure (record { here = r.0; decls = d.decls; subs = joined also_sub d.subs r.1 })) (k-subprogram wide names (n - 1) blocking start d.here s keeps1 profiles) (λ r. k-pure wide.walk (record { here = r.0; decls = d.decls; subs = joined also_sub d.subs r.1 }))
 
-pub k-units : (walk : Walk) (x0 : Names) (x1 : ℕ) (x2 : Bool) (x3 : ℕ) (x4 : Declared') (x5 : List Unit') → walk.Takes x0 → WalksProfiles walk → Keeps walk (units x0 x1 x2 x3 x4 x5)
-k-units walk names n blocking start d [] keeps1 profiles = k-pure walk d
-k-units walk names n blocking start d (u ∷ us) keeps1 profiles = k-bind walk (unit_of names n blocking start d u) (λ e. units names n blocking start e us) (k-unit_of walk names n blocking start d u keeps1 profiles) (λ e. k-units walk names n blocking start e us keeps1 profiles)
+pub k-units : (wide : Wide) (x0 : Names) (x1 : ℕ) (x2 : Bool) (x3 : ℕ) (x4 : Declared') (x5 : List Unit') → wide.walk.Takes x0 → WalksProfiles wide.walk → Keeps wide.walk (units x0 x1 x2 x3 x4 x5)
+k-units wide names n blocking start d [] keeps1 profiles = k-pure wide.walk d
+k-units wide names n blocking start d (u ∷ us) keeps1 profiles = k-bind wide.walk (unit_of names n blocking start d u) (λ e. units names n blocking start e us) (k-unit_of wide names n blocking start d u keeps1 profiles) (λ e. k-units wide names n blocking start e us keeps1 profiles)
 
-pub k-main : (walk : Walk) (x0 : Names) (x1 : ℕ) (x2 : Context) (x3 : Main) (x4 : Bool) → walk.Takes x0 → WalksProfiles walk → Keeps walk (main x0 x1 x2 x3 x4)
+pub k-main : (wide : Wide) (x0 : Names) (x1 : ℕ) (x2 : Context) (x3 : Main) (x4 : Bool) → wide.walk.Takes x0 → WalksProfiles wide.walk → Keeps wide.walk (main x0 x1 x2 x3 x4)
 unfolding main
-k-main walk names n here m s keeps1 profiles = record {
+k-main wide names n here m s keeps1 profiles = record {
   at = λ log.
       let out1 = aspect names here false m.aspect log in
       let z = out1.0 in
@@ -242,21 +242,21 @@ k-main walk names n here m s keeps1 profiles = record {
       let d = out2.0 in
       let out3 = body (around names n (stmt names n)) d.here d.decls m.body out2.1 in
       let b = out3.0 in
-      walk.joins _ _ _ ((k-aspect walk names here false m.aspect keeps1).at log)
-      (walk.joins _ _ _ ((k-units walk names n z (length here.scope) (record { here = here; decls = Some no_decls; subs = Some [] }) m.units keeps1 profiles).at out1.1)
-      (walk.joins _ _ _ ((k-body walk (around names n (stmt names n)) d.here d.decls m.body (k-around walk names n keeps1)).at out2.1)
-      ((k-end_name walk names m.defined m.last_name keeps1).at out3.1)));
+      wide.walk.joins _ _ _ ((k-aspect wide.walk names here false m.aspect keeps1).at log)
+      (wide.walk.joins _ _ _ ((k-units wide names n z (length here.scope) (record { here = here; decls = Some no_decls; subs = Some [] }) m.units keeps1 profiles).at out1.1)
+      (wide.walk.joins _ _ _ ((k-body wide.walk (around names n (stmt names n)) d.here d.decls m.body (k-around wide names n keeps1)).at out2.1)
+      ((k-end_name wide.walk names m.defined m.last_name keeps1).at out3.1)));
 }
 
-pub k-program : (walk : Walk) (x0 : Names) (x1 : ℕ) (x2 : Program) → walk.Takes x0 → WalksProfiles walk → Keeps walk (program x0 x1 x2)
+pub k-program : (wide : Wide) (x0 : Names) (x1 : ℕ) (x2 : Program) → wide.walk.Takes x0 → WalksProfiles wide.walk → Keeps wide.walk (program x0 x1 x2)
 unfolding program
-k-program walk names n t keeps1 profiles = record {
+k-program wide names n t keeps1 profiles = record {
   at = λ log.
       let out1 = policy names t.policy log in
       let s = out1.0 in
       let out2 = clauses names outermost t.clauses out1.1 in
       let here = out2.0 in
-      walk.joins _ _ _ ((k-policy walk names t.policy keeps1).at log)
-      (walk.joins _ _ _ ((k-clauses walk names outermost t.clauses keeps1).at out1.1)
-      ((k-main walk names n here t.main s keeps1 profiles).at out2.1));
+      wide.walk.joins _ _ _ ((k-policy wide.walk names t.policy keeps1).at log)
+      (wide.walk.joins _ _ _ ((k-clauses wide.walk names outermost t.clauses keeps1).at out1.1)
+      ((k-main wide names n here t.main s keeps1 profiles).at out2.1));
 }

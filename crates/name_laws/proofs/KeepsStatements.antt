@@ -39,7 +39,7 @@ use Rattle.ada_typed.specs.Decoded.{Part as TypedPart, as_expr, as_optional, as_
 use Rattle.ada_typed.specs.Latest.{turned}
 use Rattle.name_rules.specs.Judging.{◌>>=◌, clean, fault, given, joined, pure, some}
 use Rattle.name_rules.specs.Statements.{Around, with_stmt, no_stmts, stmts_from, stmts, with_target, assigned, stored_place, assigned_place, assign_place, assigned_alone, assign_other, assign_form, assign_to, assign, as_statement, call_stmt, condition_where, innermost, loop_named, loop_or, exited, exit_from, returned, value_at, value_of_nothing, return_value, return_alone, return_from, raised, raise_from, with_elsif_if, elsifs, otherwise_where, if_stmt_part, if_stmt_made, if_stmt, is_last, no_choosing, alternative, alts, selecting, Selector, selector_of, selector, closed_where, selector_kind, case_stmt, loop_ends, new_loop, in_loop, backwards_rule, for_part, parallel_part, for_made, loop_entered, for_loop, loop_part, optional_parallel, loop_with, loop_by, loop_stmt, in_handler_of, is_last_handler, handler, handlers, body_part, block_part, body_made, body, no_decls, block_decls, block_of, block, arm_limit, count_where, with_arm, branches, branch_count, in_threads, parallel, stmt_form, around, stmt}
-use Rattle.name_laws.proofs.Walk.{Walk, Keeps, k-pure, k-some, k-bind, k-fault, k-breaks, k-unless, k-if, k-given, k-both, k-where_clean, k-clean}
+use Rattle.name_laws.proofs.Walk.{Walk, Wide, Keeps, k-pure, k-some, k-bind, k-fault, k-breaks, k-unless, k-if, k-given, k-both, k-where_clean, k-clean}
 use Rattle.name_laws.proofs.Walked.{KeepsInside, KeepsAround}
 use Rattle.name_laws.proofs.KeepsCases.{k-case_choices, k-closed, k-handled_by}
 use Rattle.name_laws.proofs.KeepsDeclarations.{k-declarations}
@@ -323,9 +323,9 @@ k-body walk a here ds (syntax.body s hs) keeps1 = record {
 pub k-block_of : (walk : Walk) (x0 : Around) (x1 : Context) (x2 : Option TypedPart) (x3 : Body) → KeepsAround walk x0 → Keeps walk (block_of x0 x1 x2 x3)
 k-block_of walk a here ds b keeps1 = k-bind walk (body a here ds b) (λ x. pure (option_map block_part x)) (k-body walk a here ds b keeps1) (λ x. k-pure walk (option_map block_part x))
 
-pub k-block : (walk : Walk) (x0 : Around) (x1 : Context) (x2 : Option Declare) (x3 : Body) → KeepsAround walk x0 → Keeps walk (block x0 x1 x2 x3)
+pub k-block : (wide : Wide) (x0 : Around) (x1 : Context) (x2 : Option Declare) (x3 : Body) → KeepsAround wide.walk x0 → Keeps wide.walk (block x0 x1 x2 x3)
 unfolding block
-k-block walk a here d b keeps1 = k-bind walk (declarations a.names a.level (length here.scope) here (Some no_decls) (block_decls d)) (λ r. block_of a r.0 r.1 b) (k-declarations walk a.names a.level (length here.scope) here (Some no_decls) (block_decls d) keeps1.names keeps1.level) (λ r. k-block_of walk a r.0 r.1 b keeps1)
+k-block wide a here d b keeps1 = k-bind wide.walk (declarations a.names a.level (length here.scope) here (Some no_decls) (block_decls d)) (λ r. block_of a r.0 r.1 b) (k-declarations wide a.names a.level (length here.scope) here (Some no_decls) (block_decls d) keeps1.names keeps1.level) (λ r. k-block_of wide.walk a r.0 r.1 b keeps1)
 
 pub k-arm_limit : (walk : Walk) (x0 : ℕ) (x1 : ℕ) → Keeps walk (arm_limit x0 x1)
 k-arm_limit walk at n = k-unless walk (nat_le n 4096) at (Limit 3 n)
@@ -354,24 +354,24 @@ k-parallel walk a here at e ss keeps1 = record {
       ((k-arm_limit walk at (branch_count ss)).at out3.1)));
 }
 
-pub k-stmt_form : (walk : Walk) (x0 : Around) (x1 : Context) (x2 : Stmt) → KeepsAround walk x0 → Keeps walk (stmt_form x0 x1 x2)
-k-stmt_form walk a here (syntax.Null at) keeps1 = k-some walk (part.AStmt typed.Null)
-k-stmt_form walk a here (syntax.Assign n e) keeps1 = k-assign walk a.names a.level here n e keeps1.names keeps1.level
-k-stmt_form walk a here (syntax.CallStmt n) keeps1 = k-call_stmt walk a.names a.level here n keeps1.names keeps1.level
-k-stmt_form walk a here (syntax.Exit at from e) keeps1 = k-exit_from walk a.names a.level here at from e keeps1.names keeps1.level
-k-stmt_form walk a here (syntax.Return at e) keeps1 = k-return_from walk a.names a.level here at e keeps1.names keeps1.level
-k-stmt_form walk a here (syntax.Raise at p) keeps1 = k-raise_from walk a.names here at p keeps1.names
-k-stmt_form walk a here (syntax.IfStmt at e s more o) keeps1 = k-if_stmt walk a here e s more o keeps1
-k-stmt_form walk a here (syntax.Case at e x xs) keeps1 = k-case_stmt walk a here at e (syntax.AlsoAlt x xs) keeps1
-k-stmt_form walk a here (syntax.Loop label by at s last name) keeps1 = k-loop_stmt walk a here label by s last name keeps1
-k-stmt_form walk a here (syntax.Block d at b) keeps1 = k-block walk a here d b keeps1
-k-stmt_form walk a here (syntax.ParallelBlock at e s t more) keeps1 = k-parallel walk a here at e (syntax.AlsoBranch s (syntax.AlsoBranch t more)) keeps1
+pub k-stmt_form : (wide : Wide) (x0 : Around) (x1 : Context) (x2 : Stmt) → KeepsAround wide.walk x0 → Keeps wide.walk (stmt_form x0 x1 x2)
+k-stmt_form wide a here (syntax.Null at) keeps1 = k-some wide.walk (part.AStmt typed.Null)
+k-stmt_form wide a here (syntax.Assign n e) keeps1 = k-assign wide.walk a.names a.level here n e keeps1.names keeps1.level
+k-stmt_form wide a here (syntax.CallStmt n) keeps1 = k-call_stmt wide.walk a.names a.level here n keeps1.names keeps1.level
+k-stmt_form wide a here (syntax.Exit at from e) keeps1 = k-exit_from wide.walk a.names a.level here at from e keeps1.names keeps1.level
+k-stmt_form wide a here (syntax.Return at e) keeps1 = k-return_from wide.walk a.names a.level here at e keeps1.names keeps1.level
+k-stmt_form wide a here (syntax.Raise at p) keeps1 = k-raise_from wide.walk a.names here at p keeps1.names
+k-stmt_form wide a here (syntax.IfStmt at e s more o) keeps1 = k-if_stmt wide.walk a here e s more o keeps1
+k-stmt_form wide a here (syntax.Case at e x xs) keeps1 = k-case_stmt wide.walk a here at e (syntax.AlsoAlt x xs) keeps1
+k-stmt_form wide a here (syntax.Loop label by at s last name) keeps1 = k-loop_stmt wide.walk a here label by s last name keeps1
+k-stmt_form wide a here (syntax.Block d at b) keeps1 = k-block wide a here d b keeps1
+k-stmt_form wide a here (syntax.ParallelBlock at e s t more) keeps1 = k-parallel wide.walk a here at e (syntax.AlsoBranch s (syntax.AlsoBranch t more)) keeps1
 
-pub k-stmt : (walk : Walk) (names : Names) (n : ℕ) (here : Context) (s : Stmt) → walk.Takes names → Keeps walk (stmt names n here s)
+pub k-stmt : (wide : Wide) (names : Names) (n : ℕ) (here : Context) (s : Stmt) → wide.walk.Takes names → Keeps wide.walk (stmt names n here s)
 unfolding stmt
-k-stmt walk names zero here s t = k-fault walk (first_token.of_stmt s) (Limit 5 65)
-k-stmt walk names (suc n) here s t = k-stmt_form walk (around names n (stmt names n)) here s
-    (record { names = t; level = k-level_above walk names (inside names n) t (k-inside walk names n t); inner = k-inside walk names n t; within = λ there x. k-stmt walk names n there x t })
+k-stmt wide names zero here s t = k-fault wide.walk (first_token.of_stmt s) (Limit 5 65)
+k-stmt wide names (suc n) here s t = k-stmt_form wide (around names n (stmt names n)) here s
+    (record { names = t; level = k-level_above wide.walk names (inside names n) t (k-inside wide.walk names n t); inner = k-inside wide.walk names n t; within = λ there x. k-stmt wide names n there x t })
 
-pub k-around : (walk : Walk) (names : Names) (n : ℕ) → walk.Takes names → KeepsAround walk (around names n (stmt names n))
-k-around walk names n t = record { names = t; level = k-level_above walk names (inside names n) t (k-inside walk names n t); inner = k-inside walk names n t; within = λ there x. k-stmt walk names n there x t }
+pub k-around : (wide : Wide) (names : Names) (n : ℕ) → wide.walk.Takes names → KeepsAround wide.walk (around names n (stmt names n))
+k-around wide names n t = record { names = t; level = k-level_above wide.walk names (inside names n) t (k-inside wide.walk names n t); inner = k-inside wide.walk names n t; within = λ there x. k-stmt wide names n there x t }

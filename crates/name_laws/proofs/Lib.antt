@@ -28,3 +28,12 @@ pub mod Numbering
 pub mod Places
 pub mod Own
 pub mod Constants
+pub mod CellsCounted
+pub mod CellsSound
+pub mod CellsGrown
+pub mod CellsDeclared
+pub mod CellsObjects
+pub mod CellsAround
+pub mod CellsStatements
+pub mod CellsPrograms
+pub mod CellsFormed

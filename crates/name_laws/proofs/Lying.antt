@@ -23,7 +23,7 @@ use Rattle.name_rules.specs.declared.scope.Names.{Names}
 use Rattle.name_symbols.specs.Naming.{names_of, one_sub, sub_count}
 use Rattle.name_laws.proofs.KeepsPrograms.{k-program}
 use Rattle.name_laws.proofs.Sides.{apart, begins_above, own_cells}
-use Rattle.name_laws.proofs.Walk.{Walk}
+use Rattle.name_laws.proofs.Walk.{Wide}
 use Rattle.name_laws.specs.Cells.{CellsLaw, IsTyped}
 
 -- ---- the room behind the objects of an owner is the next free cell
@@ -61,21 +61,24 @@ counted-objects token cells log =
     let mid = (unless (not (log.declared == 4096)) token (Limit 1 4097) now).1 in
     unless-objects (nat_lt 4194304 log.cells || nat_le all 4194304) token (Limit 2 all) mid ∙ unless-objects (not (log.declared == 4096)) token (Limit 1 4097) now
 
-lying : ℕ → Walk
+lying : ℕ → Wide
 lying subs = record {
-  Takes = λ names. names.subs ≡ subs;
-  R = λ a b. LieFrom (first_cell subs) a.objects → LieFrom (first_cell subs) b.objects;
-  stays = λ log h. h;
-  joins = λ a b c f g h. g (f h);
-  breaks = λ at rule log h. h;
+  walk = record {
+    Takes = λ names. names.subs ≡ subs;
+    R = λ a b. LieFrom (first_cell subs) a.objects → LieFrom (first_cell subs) b.objects;
+    stays = λ log h. h;
+    joins = λ a b c f g h. g (f h);
+    breaks = λ at rule log h. h;
+    scalar = λ s log h. h;
+    counted = λ token cells log h. subst (LieFrom (first_cell subs)) (sym (counted-objects token cells log)) h;
+    exception = λ token log h. h;
+    site = λ here at k log h. h;
+    parameter = λ log h. h;
+    loop = λ log h. h;
+  };
   shape = λ t log h. h;
   object = λ names here token s n cells constant value e f log i h.
       lies-on log.objects (first_cell subs) _ h (ap (λ f. room f here.owner log.objects) (first-cells names subs here.owner e));
-  counted = λ token cells log h. subst (LieFrom (first_cell subs)) (sym (counted-objects token cells log)) h;
-  exception = λ token log h. h;
-  site = λ here at k log h. h;
-  parameter = λ log h. h;
-  loop = λ log h. h;
 }
 
 all-lie : (names : Names) (text : Program) (subs : ℕ) → names.subs ≡ subs → LieFrom (first_cell subs) (judged names text).1.objects

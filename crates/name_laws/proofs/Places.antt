@@ -19,7 +19,7 @@ use Rattle.name_rules.specs.Scope.{free}
 use Rattle.name_laws.proofs.KeepsDeclarations.{k-declaration}
 use Rattle.name_laws.proofs.KeepsPrograms.{k-formals, k-level_of, k-result_named, k-with_body, k-with_value_of}
 use Rattle.name_laws.proofs.KeepsScope.{k-free}
-use Rattle.name_laws.proofs.Walk.{Walk}
+use Rattle.name_laws.proofs.Walk.{Wide}
 use Rattle.name_laws.specs.OwnNames.{AreNumbered}
 
 unless-profiles : (b : Bool) (at : ℕ) (rule : Rule) (log : Log) → (unless b at rule log).1.profiles ≡ log.profiles
@@ -34,20 +34,23 @@ counted-profiles token cells log =
     unless-profiles (nat_lt 4194304 log.cells || nat_le all 4194304) token (Limit 2 all) mid ∙ unless-profiles (not (log.declared == 4096)) token (Limit 1 4097) now
 
 -- profiles stay as they are
-abbrev steady : Walk
+abbrev steady : Wide
 steady = record {
-  Takes = λ names. Unit {0};
-  R = λ a b. length b.profiles ≡ length a.profiles;
-  stays = λ log. refl;
-  joins = λ a b c f g. g ∙ f;
-  breaks = λ at rule log. refl;
+  walk = record {
+    Takes = λ names. Unit {0};
+    R = λ a b. length b.profiles ≡ length a.profiles;
+    stays = λ log. refl;
+    joins = λ a b c f g. g ∙ f;
+    breaks = λ at rule log. refl;
+    scalar = λ s log. refl;
+    counted = λ token cells log. ap length (counted-profiles token cells log);
+    exception = λ token log. refl;
+    site = λ here at k log. refl;
+    parameter = λ log. refl;
+    loop = λ log. refl;
+  };
   shape = λ t log. refl;
   object = λ names here token s n cells constant value e f log i. refl;
-  counted = λ token cells log. ap length (counted-profiles token cells log);
-  exception = λ token log. refl;
-  site = λ here at k log. refl;
-  parameter = λ log. refl;
-  loop = λ log. refl;
 }
 
 -- ---- the number of a profile
@@ -86,8 +89,8 @@ before-steady names start here name result fs log =
     let around = record here { owner = (p.next_owner log).0 } in
     let f = p.formals names (p.is_function result) around fs log in
     let r = p.result_named names f.0.0 result f.1 in
-    (k-free steady names start here name tt).at r.1
-    ∙ (k-result_named steady names f.0.0 result tt).at f.1
+    (k-free steady.walk names start here name tt).at r.1
+    ∙ (k-result_named steady.walk names f.0.0 result tt).at f.1
     ∙ (k-formals steady names (p.is_function result) around fs tt).at log
 
 pub own-number : (names : Names) (start : ℕ) (here : Context) (name : ℕ) (result : Option ℕ) (fs : Option Formals) (log : Log) (n : ℕ)
@@ -132,7 +135,7 @@ with-value : (names : Names) (n : ℕ) (blocking : Bool) (start : ℕ) (here : C
 with-value names n blocking start here name result fs a x log s e =
     let q = p.profile names start here name result fs log in
     let k = value-number names n blocking q.0 a x q.1 s e in
-    (k-with_value_of steady names n blocking q.0 a x tt).at q.1 ∙ own-length names start here name result fs log k.0 k.1
+    (k-with_value_of steady.walk names n blocking q.0 a x tt).at q.1 ∙ own-length names start here name result fs log k.0 k.1
 
 sub-profiles : (names : Names) (n : ℕ) (blocking : Bool) (start : ℕ) (here : Context) (x : Sub) (log : Log) (s : TypedSub)
     → (p.subprogram names n blocking start here x log).0.1 ≡ Some s → length (p.subprogram names n blocking start here x log).1.profiles ≡ length log.profiles + 1
@@ -157,7 +160,7 @@ one-place : (names : Names) (n : ℕ) (blocking : Bool) (start : ℕ) (d : p.Dec
     → AreNumbered d.subs log → AreNumbered (p.unit_of names n blocking start d u log).0.subs (p.unit_of names n blocking start d u log).1
 one-place names n blocking start d (syntax.DeclUnit x) log h =
     numbered-alike d.subs log (p.unit_of names n blocking start d (syntax.DeclUnit x) log).1
-    ((k-declaration steady names (p.level_of names n) start d.here d.decls x tt (k-level_of steady names n tt)).at log) h
+    ((k-declaration steady names (p.level_of names n) start d.here d.decls x tt (k-level_of steady.walk names n tt)).at log) h
 one-place names n blocking start d (syntax.SubUnit s) log h =
     also-numbered d.subs _ log (p.unit_of names n blocking start d (syntax.SubUnit s) log).1 h (λ x e. sub-profiles names _ blocking start d.here s log x e)
 

@@ -8,9 +8,11 @@ use Rattle.name_rules.specs.Statements.{new_loop}
 use Rattle.name_rules.specs.Types.{written_shape}
 use Rattle.name_rules.specs.declared.log.Log.{Log}
 use Rattle.name_rules.specs.declared.log.Rule.{Rule}
+use Rattle.name_rules.specs.declared.log.Shape.TheVariants as shape
 use Rattle.name_rules.specs.declared.log.Shape.{Shape}
 use Rattle.name_rules.specs.declared.scope.Context.{Context}
 use Rattle.name_rules.specs.declared.scope.Names.{Names}
+use Rattle.name_rules.specs.declared.types.Scalar.{Scalar}
 use Rattle.name_rules.specs.declared.types.Subtype.{Subtype}
 use Rattle.name_laws.proofs.Fitting.{Fits, IsNumber}
 
@@ -22,14 +24,19 @@ pub record Walk : Type 1 where
   pub stays : (log : Log) → R log log
   pub joins : (a b c : Log) → R a b → R b c → R a c
   pub breaks : (at : ℕ) (rule : Rule) (log : Log) → R log (breaks at rule log).1
-  pub shape : (t : Shape) (log : Log) → R log (written_shape t log).1
-  pub object : (names : Names) (here : Context) (token : ℕ) (s : Subtype) (n cells : ℕ) (constant : Bool) (value : Option ℤ) → Takes names → Fits s constant value
-      → (log : Log) → IsNumber s n log → R log (object_written names here token n cells constant value log).1
+  pub scalar : (s : Scalar) (log : Log) → R log (written_shape (shape.Scalar s) log).1
   pub counted : (token cells : ℕ) (log : Log) → R log (cells_counted token cells log).1
   pub exception : (token : ℕ) (log : Log) → R log (new_exception token log).1
   pub site : (here : Context) (at : ℕ) (k : SiteKind) (log : Log) → R log (new_site here at k log).1
   pub parameter : (log : Log) → R log (new_parameter log).1
   pub loop : (log : Log) → R log (new_loop log).1
+
+-- it holds of objects and of array and record types that are written too; declarations alone write them
+pub record Wide : Type 1 where
+  pub walk : Walk
+  pub shape : (t : Shape) (log : Log) → walk.R log (written_shape t log).1
+  pub object : (names : Names) (here : Context) (token : ℕ) (s : Subtype) (n cells : ℕ) (constant : Bool) (value : Option ℤ) → walk.Takes names → Fits s constant value
+      → (log : Log) → IsNumber s n log → walk.R log (object_written names here token n cells constant value log).1
 
 -- it holds of the log before and after what is judged
 pub record Keeps (walk : Walk) {A : Type 0} (p : Judging A) : Type 0 where

@@ -4,6 +4,7 @@
 ghost use Rattle.name_laws.specs.Alike.{SymbolLaw};
 ghost use Rattle.name_laws.specs.Cells.{CellsLaw};
 ghost use Rattle.name_laws.specs.Constants.{ConstantsLaw};
+ghost use Rattle.name_laws.specs.Formed.{FormedLaw};
 ghost use Rattle.name_laws.specs.Hiding.{HidingLaw, ScopeLaw};
 ghost use Rattle.name_laws.specs.OwnNames.{MainNameLaw, OwnNameLaw};
 
@@ -14,6 +15,7 @@ ghost use Rattle.name_laws.specs.OwnNames.{MainNameLaw, OwnNameLaw};
 /// - main_name: the main procedure's name isn't visible in its declarative part and statements.
 /// - cells: different objects of one owner have different cells (3.3).
 /// - constants: the value of a static constant lies in its subtype (4.9).
+/// - formed: each subtype of a typed program stands on earlier ones, and each object has the cells of its subtype, where no array type is empty (3.2, 3.6, 3.8).
 /// - symbols: two identifiers have one symbol exactly where they are spelled alike but for the case of letters (2.3).
 pub fn laws()
     ensures hiding { HidingLaw }
@@ -22,5 +24,6 @@ pub fn laws()
     ensures main_name { MainNameLaw }
     ensures cells { CellsLaw }
     ensures constants { ConstantsLaw }
+    ensures formed { FormedLaw }
     ensures symbols { SymbolLaw }
 {}

@@ -1,4 +1,5 @@
 use Rattle.name_laws.proofs.laws.Goals as goal
+use Rattle.name_laws.proofs.CellsFormed.{formed_law}
 use Rattle.name_laws.proofs.Constants.{constants_law}
 use Rattle.name_laws.proofs.Lying.{cells_law}
 use Rattle.name_laws.proofs.Lookups.{hiding_law}
@@ -20,6 +21,9 @@ returns-clause-main_name c = main_name_law
 
 pub returns-clause-cells : goal.returns-clause-cells
 returns-clause-cells c = cells_law
+
+pub returns-clause-formed : goal.returns-clause-formed
+returns-clause-formed c = formed_law
 
 pub returns-clause-symbols : goal.returns-clause-symbols
 returns-clause-symbols c = symbol_law

@@ -1,0 +1,242 @@
+-- Declarations leave what is right: the subtypes that they name stand in the table.
+use Rattle.std.proofs.Common.{ℕ, ℤ, ◌<◌, ◌≤◌, int_le, List, [], ◌∷◌, ◌++◌, length, Option, Some, None, Bool, true, false, sym, ap, subst, ◌∙◌, ◌⊎◌, inl, inr, arith, if◌then◌else◌, nat_le, option_map, ◌==◌, ◌&&◌}
+use Rattle.std.specs.Prelude.{◌||◌}
+use Rattle.ada_base.specs.declared.reason.Reason.TheVariants as reason
+use Rattle.ada_tree.specs.Syntax as syntax
+use Rattle.ada_tree.specs.Syntax.{Array, Comp, Decl, Definition, Expr, Ids, Indic, ObjectType, Simple}
+use Rattle.ada_typed.specs.Decoded as part
+use Rattle.ada_typed.specs.Decoded.{Part}
+use Rattle.name_rules.specs.Declarations as d
+use Rattle.name_rules.specs.Declarations.{Building, Dimensions, Indicated, Initial, all_ids, indicated}
+use Rattle.name_rules.specs.Expressions.{Inside}
+use Rattle.name_rules.specs.Found.{Denoted, Found, denote}
+use Rattle.name_rules.specs.Judging.{Judging, ◌>>=◌, both, fault, given, pure, some}
+use Rattle.name_rules.specs.Operators.{both_mentions}
+use Rattle.name_rules.specs.Ranges.{both_static, two_bounds}
+use Rattle.name_rules.specs.Scope.{as_scalar, as_type, declared, entry, free, hidden_where, in_integer_io, in_text_io, is_withed, named, predefined, procedure_of, reach_of, stands, stands_for, subtype_named, undeclared, used_name}
+use Rattle.name_rules.specs.Symbols.{ada_name, data_error_name, end_error_name, integer_io_name, symbol, text_io_name}
+use Rattle.name_rules.specs.Types.{array_cells, cells_in, lies_in, number_of}
+use Rattle.name_rules.specs.TypedParts.{also_all}
+use Rattle.name_rules.specs.Values.{first_of}
+use Rattle.name_rules.specs.declared.found.Denoted.TheVariants as denoted
+use Rattle.name_rules.specs.declared.found.Denoted.{Denoted as Known}
+use Rattle.name_rules.specs.declared.found.Reach.{Reach}
+use Rattle.name_rules.specs.declared.log.Dimension.{Dimension}
+use Rattle.name_rules.specs.declared.log.Log.{Log}
+use Rattle.name_rules.specs.declared.log.Rule.{Rule}
+use Rattle.name_rules.specs.declared.log.Rule.TheVariants.{Limit, NotVisible, Unknown}
+use Rattle.name_rules.specs.declared.log.Shape.TheVariants as shape
+use Rattle.name_rules.specs.declared.scope.Context.{Context}
+use Rattle.name_rules.specs.declared.scope.Names.{Names}
+use Rattle.name_rules.specs.declared.scope.What.{What}
+use Rattle.name_rules.specs.declared.scope.What.TheVariants as what
+use Rattle.name_rules.specs.declared.types.Scalar.{Scalar}
+use Rattle.name_rules.specs.declared.types.Subtype.{Subtype}
+use Rattle.name_rules.specs.declared.types.Subtype.TheVariants as subtype
+use Rattle.ada_typed.specs.Layout.{cells_of}
+use Rattle.name_laws.proofs.CellsCounted.{array_counted}
+use Rattle.name_laws.proofs.CellsSound.{number_counted, table_of, AreRight, IsRight, IsRightWhat, Sound, are_both, are_later, longer_shapes, minding, more_shapes, number_within, one_of, right_later}
+use Rattle.name_laws.proofs.Fitting.{is_number}
+use Rattle.name_laws.proofs.KeepsDeclarations.{k-dimensions_from, k-indic}
+use Rattle.name_laws.proofs.KeepsTypes.{k-number_of}
+use Rattle.name_laws.proofs.Lookups.{hiding_law}
+use Rattle.name_laws.proofs.Walk.{Keeps}
+use Rattle.name_laws.proofs.Walked.{KeepsInside}
+use Rattle.name_laws.specs.Hiding.{HasNone, IsLast}
+
+-- ---- what a name denotes
+
+abbrev IsRightly : ℕ → Known → Type 0
+IsRightly n (denoted.Type first t) = IsRight n t
+IsRightly n d = Unit {0}
+
+abbrev Named : ℕ → Option Denoted → Type 0
+Named n None = Unit {0}
+Named n (Some d) = IsRightly n d.known
+
+record Ends (n : ℕ) (p : Judging (Option Denoted)) : Type 0 where
+  pub at : (log : Log) → Named n (p log).0
+
+e-none : (n : ℕ) → Ends n (pure None)
+e-none n = record { at = λ log. tt }
+
+e-some : (n : ℕ) (d : Denoted) → IsRightly n d.known → Ends n (some d)
+e-some n d h = record { at = λ log. h }
+
+e-fault : (n at : ℕ) (rule : Rule) → Ends n (fault at rule)
+e-fault n at rule = record { at = λ log. tt }
+
+e-if : (n : ℕ) (b : Bool) (p q : Judging (Option Denoted)) → Ends n p → Ends n q → Ends n (if b then p else q)
+e-if n true p q h k = h
+e-if n false p q h k = k
+
+e-predefined : (n first token name : ℕ) (reach : Reach) → Ends n (named (predefined first token name reach))
+e-predefined n first token name reach = e-some n (denote (predefined first token name reach) part.Nothing) (by (name == data_error_name) (name == end_error_name))
+  where
+    by : (x y : Bool) → IsRightly n (if x then denoted.Exception first reason.DataError else if y then denoted.Exception first reason.EndError else denoted.Io first token (procedure_of name) reach)
+    by true y = tt
+    by false true = tt
+    by false false = tt
+
+e-used_name : (n : ℕ) (x0 : ℕ) (x1 : ℕ) (x2 : Reach) → Ends n (used_name x0 x1 x2)
+e-used_name n token name reach = e-if n (reach.text_io || reach.integer_io) (named (predefined token token name reach)) (fault token NotVisible) (e-predefined n token token name reach) (e-fault n token NotVisible)
+
+e-undeclared : (n : ℕ) (x0 : Context) (x1 : ℕ) (x2 : ℕ) → Ends n (undeclared x0 x1 x2)
+e-undeclared n here token name = e-if n (in_text_io name || in_integer_io name) (used_name token name (reach_of here.used name)) (if name == ada_name then named (denoted.Package token ada_name) else if (name == text_io_name || name == integer_io_name) && here.used.ada then (if is_withed here.withed name then named (denoted.Package token name) else fault token NotVisible) else fault token Unknown) (e-used_name n token name (reach_of here.used name)) (e-if n (name == ada_name) (named (denoted.Package token ada_name)) (if (name == text_io_name || name == integer_io_name) && here.used.ada then (if is_withed here.withed name then named (denoted.Package token name) else fault token NotVisible) else fault token Unknown) (e-some n (denote (denoted.Package token ada_name) part.Nothing) tt) (e-if n ((name == text_io_name || name == integer_io_name) && here.used.ada) ((if is_withed here.withed name then named (denoted.Package token name) else fault token NotVisible)) (fault token Unknown) (e-if n (is_withed here.withed name) (named (denoted.Package token name)) (fault token NotVisible) (e-some n (denote (denoted.Package token name) part.Nothing) tt) (e-fault n token NotVisible)) (e-fault n token Unknown)))
+
+e-stands : (n : ℕ) (here : Context) (token name : ℕ) (w : What) → IsRightWhat n w → (log : Log) → Named n (stands here token name (Some w) log).0
+e-stands n here token name (what.Type t) h log = h
+e-stands n here token name what.Hidden h log = tt
+e-stands n here token name what.Broken h log = tt
+e-stands n here token name (what.Object k t v z) h log = tt
+e-stands n here token name (what.Parameter k t) h log = tt
+e-stands n here token name (what.Item k t v) h log = tt
+e-stands n here token name (what.Number z) h log = tt
+e-stands n here token name (what.Boolean b) h log = tt
+e-stands n here token name (what.Sub k) h log = tt
+e-stands n here token name (what.Exception r) h log = tt
+
+stands-named : (n : ℕ) (names : Names) (here : Context) (token : ℕ) → AreRight n here.scope → (log : Log) → Named n (stands_for names here token log).0
+stands-named n names here token h log = by (hiding_law.either (symbol names token) here.scope)
+  where
+    by : HasNone (symbol names token) here.scope ⊎ ((w : What) × IsLast (symbol names token) w here.scope) → Named n (stands_for names here token log).0
+    by (inl none) = subst (λ p. Named n (p log).0) (sym (hiding_law.none names here token none)) ((e-undeclared n here token (symbol names token)).at log)
+    by (inr l) =
+        subst (λ p. Named n (p log).0) (sym (hiding_law.last names here token l.0 l.1))
+        (e-stands n here token (symbol names token) l.0 (one_of n l.1.before (entry (symbol names token) l.0) l.1.after (subst (AreRight n) l.1.splits h)) log)
+
+abbrev pub IsRightOne : ℕ → Option Subtype → Type 0
+IsRightOne n None = Unit {0}
+IsRightOne n (Some s) = IsRight n s
+
+abbrev pub IsIndicated : ℕ → Option Indicated → Type 0
+IsIndicated n None = Unit {0}
+IsIndicated n (Some s) = IsRight n s.known
+
+type-right : (n token : ℕ) (k : Known) → IsRightly n k → (log : Log) → IsRightOne n (as_type token k log).0
+type-right n token (denoted.Type first s) h log = h
+type-right n token k h log = tt
+
+pub subtype-right : (n : ℕ) (names : Names) (here : Context) (token : ℕ) → AreRight n here.scope → (log : Log) → IsRightOne n (subtype_named names here token log).0
+unfolding subtype_named
+subtype-right n names here token h log = by (stands_for names here token log).0 (stands-named n names here token h log) (stands_for names here token log).1
+  where
+    by : (x : Option Denoted) → Named n x → (log : Log) → IsRightOne n (given x (λ y. as_type token y.known) log).0
+    by None h log = tt
+    by (Some x) h log = type-right n token x.known h log
+
+mapped : (n : ℕ) (x : Part) (s : Option Subtype) → IsRightOne n s → IsIndicated n (option_map (indicated x) s)
+mapped n x None h = tt
+mapped n x (Some s) h = h
+
+-- a scalar subtype
+scalar-if : (n : ℕ) (b : Bool) (s : Scalar) (log : Log) → IsRightOne n ((if b then some (subtype.Scalar s) else pure None) log).0
+scalar-if n true s log = tt
+scalar-if n false s log = tt
+
+bounds-right : (n : ℕ) (s : Scalar) (a z : Found) (log : Log) → IsIndicated n (d.indic_bounds s a z log).0
+bounds-right n s a z log = by (both_static s.kind a z log).0 (both_static s.kind a z log).1
+  where
+    by : (v : Option (ℤ × ℤ)) (log : Log) → IsIndicated n (option_map (indicated (both_mentions a z)) (given v (d.indic_range s (first_of a.known) (first_of z.known)) log).0)
+    by None log = tt
+    by (Some r) log = mapped n (both_mentions a z) _ (scalar-if n (lies_in s r.0 && lies_in s r.1 && int_le r.0 r.1) _ _)
+
+ranged : (n : ℕ) (t : Option Scalar) (x y : Option Found) (log : Log) → IsIndicated n (given t (λ s. both x y (d.indic_bounds s)) log).0
+ranged n None x y log = tt
+ranged n (Some s) None y log = tt
+ranged n (Some s) (Some a) None log = tt
+ranged n (Some s) (Some a) (Some z) log = bounds-right n s a z log
+
+pub indic-right : (n : ℕ) (names : Names) (level : Inside) (here : Context) (i : Indic) → AreRight n here.scope → (log : Log) → IsIndicated n (d.indic names level here i log).0
+unfolding d.indic
+indic-right n names level here (syntax.Mark mark) h log = mapped n part.Nothing (subtype_named names here mark log).0 (subtype-right n names here mark h log)
+indic-right n names level here (syntax.RangeMark mark low high) h log =
+    let s = subtype_named names here mark log in
+    let t = given s.0 (as_scalar mark) s.1 in
+    let r = two_bounds level here low high t.1 in
+    ranged n t.0 r.0.0 r.0.1 r.1
+
+-- ---- what is left: a later log in which what was found is right
+
+pub record Leaves {A : Type 0} (Q : ℕ → A → Type 0) (log : Log) (r : A × Log) : Type 0 where
+  pub longer : length log.shapes ≤ length r.1.shapes
+  pub sound : Sound r.1
+  pub right : Q (length r.1.shapes) r.0
+
+pub now : {A : Type 0} (log : Log) (p : Judging A) → Keeps (minding 0) p → Sound log → (length log.shapes ≤ length (p log).1.shapes) × Sound (p log).1
+now log p k h = (k.at log).at (omega arith) h
+
+pub next-leaves : {A : Type 0} (Q : ℕ → A → Type 0) (log mid : Log) (r : A × Log) → length log.shapes ≤ length mid.shapes → Leaves Q mid r → Leaves Q log r
+next-leaves Q log mid r l h = record { longer = omega (arith, l, h.longer); sound = h.sound; right = h.right }
+
+indicated-leaves : (x : Part) (log : Log) (r : Option Subtype × Log) → Leaves IsRightOne log r → Leaves IsIndicated log (option_map (indicated x) r.0, r.1)
+indicated-leaves x log r h = record { longer = h.longer; sound = h.sound; right = mapped (length r.1.shapes) x r.0 h.right }
+
+none-leaves : (log : Log) → Sound log → Leaves IsIndicated log (None, log)
+none-leaves log h = record { longer = omega arith; sound = h; right = tt }
+
+fault-leaves : (at : ℕ) (rule : Rule) (log : Log) → Sound log → Leaves IsIndicated log (fault at rule log)
+fault-leaves at rule log h = record { longer = omega arith; sound = h; right = tt }
+
+-- ---- arrays
+
+array-written : (ds : List Dimension) (s : Subtype) (log : Log) → Sound log → IsRight (length log.shapes) s → Leaves IsRightOne log (d.array_written ds s log)
+array-written ds s log h r =
+    let m = number_of s log in
+    let k = now log (number_of s) (k-number_of (minding 0) s) h in
+    let cells = array_cells ds (cells_in m.1 s) in
+    let l = longer_shapes (shape.Array ds s m.0 cells) m.1.shapes in
+    let q = right_later (length log.shapes) (length m.1.shapes) s k.0 r in
+    record {
+      longer = subst (λ n. length log.shapes ≤ n) (sym l) (omega (arith, k.0));
+      sound = more_shapes (shape.Array ds s m.0 cells) m.1 k.1 (number_within s m.0 m.1 q (is_number s log))
+          (λ v w. ap (array_cells ds) (number_counted s m.0 m.1 k.1 q (is_number s log) v) ∙ array_counted ds (cells_of (table_of m.1.shapes) m.0) w);
+      right = subst (λ n. length m.1.shapes < n) (sym l) (omega arith);
+    }
+
+array-given : (at : ℕ) (ds : Dimensions) (s : Indicated) (log : Log) → Sound log → IsRight (length log.shapes) s.known → Leaves IsIndicated log (d.array_given at ds s log)
+array-given at ds s log h r = by (nat_le (length ds.dimensions) 4)
+  where
+    by : (b : Bool) → Leaves IsIndicated log ((if b then (d.array_written ds.dimensions s.known >>= λ t. pure (option_map (indicated (also_all ds.mentions s.part)) t)) else fault at (Limit 4 (length ds.dimensions))) log)
+    by true = indicated-leaves (also_all ds.mentions s.part) log (d.array_written ds.dimensions s.known log) (array-written ds.dimensions s.known log h r)
+    by false = fault-leaves at (Limit 4 (length ds.dimensions)) log h
+
+both-given : (at : ℕ) (ds : Option Dimensions) (s : Option Indicated) (log : Log) → Sound log → IsIndicated (length log.shapes) s → Leaves IsIndicated log (both ds s (d.array_given at) log)
+both-given at None s log h r = none-leaves log h
+both-given at (Some ds) None log h r = none-leaves log h
+both-given at (Some ds) (Some s) log h r = array-given at ds s log h r
+
+pub array-leaves : (names : Names) (level : Inside) (here : Context) (a : Array) (log : Log) → KeepsInside (minding 0) level → Sound log → AreRight (length log.shapes) here.scope → Leaves IsIndicated log (d.array names level here a log)
+unfolding d.array
+array-leaves names level here a log keeps h r =
+    let start = Some (record { dimensions = []; mentions = part.Nothing }) in
+    let ds = d.dimensions_from level here start (a.first ∷ a.more) log in
+    let k = now log (d.dimensions_from level here start (a.first ∷ a.more)) (k-dimensions_from (minding 0) level here start (a.first ∷ a.more) keeps) h in
+    let s = d.indic names level here a.component ds.1 in
+    let j = now ds.1 (d.indic names level here a.component) (k-indic (minding 0) names level here a.component tt keeps) k.1 in
+    let i = indic-right (length s.1.shapes) names level here a.component (are_later (length log.shapes) (length s.1.shapes) here.scope (omega (arith, k.0, j.0)) r) ds.1 in
+    next-leaves IsIndicated log s.1 (both ds.0 s.0 (d.array_given a.at) s.1) (omega (arith, k.0, j.0)) (both-given a.at ds.0 s.0 s.1 j.1 i)
+
+-- ---- contexts
+
+pub hidden-right : (n : ℕ) (names : Names) (here : Context) (t : ℕ) (f : Option ℕ) → AreRight n here.scope → AreRight n (hidden_where names here t f).scope
+hidden-right n names here t None h = h
+hidden-right n names here t (Some u) h = are_both n here.scope (entry (symbol names t) what.Hidden ∷ []) h (tt, tt)
+
+abbrev pub IsRightMaybe : ℕ → Option What → Type 0
+IsRightMaybe n None = Unit {0}
+IsRightMaybe n (Some w) = IsRightWhat n w
+
+pub declared-right : (n : ℕ) (names : Names) (here : Context) (t : ℕ) (w : Option What) → AreRight n here.scope → IsRightMaybe n w → AreRight n (declared names here t w).scope
+declared-right n names here t None h k = are_both n here.scope (entry (symbol names t) what.Broken ∷ []) h (tt, tt)
+declared-right n names here t (Some w) h k = are_both n here.scope (entry (symbol names t) w ∷ []) h (k, tt)
+
+pub ended-right : (n : ℕ) (names : Names) (here : Context) (f : Option ℕ) (w : Option What) → AreRight n here.scope → IsRightMaybe n w → AreRight n (d.ended_name names here f w).scope
+ended-right n names here None w h k = h
+ended-right n names here (Some t) w h k = declared-right n names here t w h k
+
+pub begun-right : (n : ℕ) (names : Names) (start : ℕ) (here : Context) (made : List (Option ℕ)) (ts : List ℕ) (log : Log) → AreRight n here.scope → AreRight n (d.begun_names names start here made ts log).0.0.scope
+begun-right n names start here made [] log h = h
+begun-right n names start here made (t ∷ ts) log h =
+    let f = free names start here t log in
+    begun-right n names start (hidden_where names here t f.0) (made ++ f.0 ∷ []) ts f.1 (hidden-right n names here t f.0 h)
