@@ -28,3 +28,4 @@ pub mod Numbering
 pub mod Places
 pub mod Own
 pub mod Constants
+pub mod Statics

@@ -3,3 +3,4 @@ pub mod OwnNames
 pub mod Cells
 pub mod Alike
 pub mod Constants
+pub mod Statics

@@ -6,6 +6,7 @@ ghost use Rattle.name_laws.specs.Cells.{CellsLaw};
 ghost use Rattle.name_laws.specs.Constants.{ConstantsLaw};
 ghost use Rattle.name_laws.specs.Hiding.{HidingLaw, ScopeLaw};
 ghost use Rattle.name_laws.specs.OwnNames.{MainNameLaw, OwnNameLaw};
+ghost use Rattle.name_laws.specs.Statics.{StaticLaw};
 
 /// Laws of all programs.
 /// - hiding: a simple name stands for the last declaration of its name in scope, which isn't visible before it ends (8.3).
@@ -14,6 +15,8 @@ ghost use Rattle.name_laws.specs.OwnNames.{MainNameLaw, OwnNameLaw};
 /// - main_name: the main procedure's name isn't visible in its declarative part and statements.
 /// - cells: different objects of one owner have different cells (3.3).
 /// - constants: the value of a static constant lies in its subtype (4.9).
+/// - statics: operators on static operands are exact, and what stands for a static expression is its value alone, in the base
+///   range of its type (4.9).
 /// - symbols: two identifiers have one symbol exactly where they are spelled alike but for the case of letters (2.3).
 pub fn laws()
     ensures hiding { HidingLaw }
@@ -22,5 +25,6 @@ pub fn laws()
     ensures main_name { MainNameLaw }
     ensures cells { CellsLaw }
     ensures constants { ConstantsLaw }
+    ensures statics { StaticLaw }
     ensures symbols { SymbolLaw }
 {}
