@@ -15,8 +15,8 @@ ghost use Rattle.name_laws.specs.Statics.{StaticLaw};
 /// - main_name: the main procedure's name isn't visible in its declarative part and statements.
 /// - cells: different objects of one owner have different cells (3.3).
 /// - constants: the value of a static constant lies in its subtype (4.9).
-/// - statics: operators on static operands are exact, and what stands for a static expression is its value alone, in the base
-///   range of its type (4.9).
+/// - statics: a static result of an operator is exact and in its base range, and an expression with such a value
+///   leaves in its place that value alone (4.9).
 /// - symbols: two identifiers have one symbol exactly where they are spelled alike but for the case of letters (2.3).
 pub fn laws()
     ensures hiding { HidingLaw }
