@@ -37,3 +37,4 @@ pub mod CellsAround
 pub mod CellsStatements
 pub mod CellsPrograms
 pub mod CellsFormed
+pub mod Statics

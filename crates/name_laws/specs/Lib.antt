@@ -4,3 +4,4 @@ pub mod Cells
 pub mod Alike
 pub mod Constants
 pub mod Formed
+pub mod Statics

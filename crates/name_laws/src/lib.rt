@@ -7,6 +7,7 @@ ghost use Rattle.name_laws.specs.Constants.{ConstantsLaw};
 ghost use Rattle.name_laws.specs.Formed.{FormedLaw};
 ghost use Rattle.name_laws.specs.Hiding.{HidingLaw, ScopeLaw};
 ghost use Rattle.name_laws.specs.OwnNames.{MainNameLaw, OwnNameLaw};
+ghost use Rattle.name_laws.specs.Statics.{StaticLaw};
 
 /// Laws of all programs.
 /// - hiding: a simple name stands for the last declaration of its name in scope, which isn't visible before it ends (8.3).
@@ -16,6 +17,8 @@ ghost use Rattle.name_laws.specs.OwnNames.{MainNameLaw, OwnNameLaw};
 /// - cells: different objects of one owner have different cells (3.3).
 /// - constants: the value of a static constant lies in its subtype (4.9).
 /// - formed: each subtype of a typed program stands on earlier ones, and each object has the cells of its subtype, where no array type is empty (3.2, 3.6, 3.8).
+/// - statics: a static result of an operator is exact and in its base range, and an expression with such a value
+///   leaves in its place that value alone (4.9).
 /// - symbols: two identifiers have one symbol exactly where they are spelled alike but for the case of letters (2.3).
 pub fn laws()
     ensures hiding { HidingLaw }
@@ -25,5 +28,6 @@ pub fn laws()
     ensures cells { CellsLaw }
     ensures constants { ConstantsLaw }
     ensures formed { FormedLaw }
+    ensures statics { StaticLaw }
     ensures symbols { SymbolLaw }
 {}

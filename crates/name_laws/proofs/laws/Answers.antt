@@ -5,6 +5,7 @@ use Rattle.name_laws.proofs.Lying.{cells_law}
 use Rattle.name_laws.proofs.Lookups.{hiding_law}
 use Rattle.name_laws.proofs.Numbering.{symbol_law}
 use Rattle.name_laws.proofs.Scopes.{scope_law}
+use Rattle.name_laws.proofs.Statics.{static_law}
 use Rattle.name_laws.proofs.Own.{main_name_law, own_name_law}
 
 pub returns-clause-hiding : goal.returns-clause-hiding
@@ -30,3 +31,6 @@ returns-clause-symbols c = symbol_law
 
 pub returns-clause-constants : goal.returns-clause-constants
 returns-clause-constants c = constants_law
+
+pub returns-clause-statics : goal.returns-clause-statics
+returns-clause-statics c = static_law
