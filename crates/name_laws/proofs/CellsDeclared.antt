@@ -1,5 +1,5 @@
 -- Declarations leave what is right: the subtypes that they name stand in the table.
-use Rattle.std.proofs.Common.{ℕ, ℤ, ◌<◌, ◌≤◌, int_le, List, [], ◌∷◌, ◌++◌, length, Option, Some, None, Bool, true, false, sym, ap, subst, ◌∙◌, ◌⊎◌, inl, inr, arith, if◌then◌else◌, nat_le, option_map, ◌==◌, ◌&&◌}
+use Rattle.std.proofs.Common.{◌≡◌, refl, true≢false, ℕ, ℤ, ◌<◌, ◌≤◌, int_le, List, [], ◌∷◌, ◌++◌, length, Option, Some, None, Bool, true, false, sym, ap, subst, ◌∙◌, ◌⊎◌, inl, inr, arith, if◌then◌else◌, nat_le, option_map, ◌==◌, ◌&&◌}
 use Rattle.std.specs.Prelude.{◌||◌}
 use Rattle.ada_base.specs.declared.reason.Reason.TheVariants as reason
 use Rattle.ada_tree.specs.Syntax as syntax
@@ -129,17 +129,22 @@ mapped : (n : ℕ) (x : Part) (s : Option Subtype) → IsRightOne n s → IsIndi
 mapped n x None h = tt
 mapped n x (Some s) h = h
 
--- a scalar subtype
-scalar-if : (n : ℕ) (b : Bool) (s : Scalar) (log : Log) → IsRightOne n ((if b then some (subtype.Scalar s) else pure None) log).0
-scalar-if n true s log = tt
-scalar-if n false s log = tt
+-- a scalar subtype has a value: its bounds were tested
+pub last-true : (a b c : Bool) → (a && b && c) ≡ true → c ≡ true
+last-true true true c e = e
+last-true true false c e = absurd (true≢false (sym e))
+last-true false b c e = absurd (true≢false (sym e))
+
+scalar-if : (n : ℕ) (b : Bool) (s : Scalar) (log : Log) → (b ≡ true → int_le s.low s.high ≡ true) → IsRightOne n ((if b then some (subtype.Scalar s) else pure None) log).0
+scalar-if n true s log h = h refl
+scalar-if n false s log h = tt
 
 bounds-right : (n : ℕ) (s : Scalar) (a z : Found) (log : Log) → IsIndicated n (d.indic_bounds s a z log).0
 bounds-right n s a z log = by (both_static s.kind a z log).0 (both_static s.kind a z log).1
   where
     by : (v : Option (ℤ × ℤ)) (log : Log) → IsIndicated n (option_map (indicated (both_mentions a z)) (given v (d.indic_range s (first_of a.known) (first_of z.known)) log).0)
     by None log = tt
-    by (Some r) log = mapped n (both_mentions a z) _ (scalar-if n (lies_in s r.0 && lies_in s r.1 && int_le r.0 r.1) _ _)
+    by (Some r) log = mapped n (both_mentions a z) _ (scalar-if n (lies_in s r.0 && lies_in s r.1 && int_le r.0 r.1) _ _ (last-true (lies_in s r.0) (lies_in s r.1) (int_le r.0 r.1)))
 
 ranged : (n : ℕ) (t : Option Scalar) (x y : Option Found) (log : Log) → IsIndicated n (given t (λ s. both x y (d.indic_bounds s)) log).0
 ranged n None x y log = tt

@@ -27,7 +27,7 @@ use Rattle.name_rules.specs.declared.types.Kind.TheVariants as kind
 use Rattle.name_rules.specs.declared.types.Subtype.{Subtype}
 use Rattle.name_rules.specs.declared.types.Subtype.TheVariants as subtype
 use Rattle.name_rules.specs.declared.types.Wanted.TheVariants as wanted
-use Rattle.name_laws.proofs.CellsDeclared.{IsIndicated, IsRightMaybe, Leaves, array-leaves, begun-right, declared-right, ended-right, hidden-right, indic-right, next-leaves, now}
+use Rattle.name_laws.proofs.CellsDeclared.{IsIndicated, IsRightMaybe, Leaves, array-leaves, begun-right, declared-right, ended-right, hidden-right, indic-right, last-true, next-leaves, now}
 use Rattle.std.proofs.lemmas.List.{map-append}
 use Rattle.std.proofs.lemmas.Option.{slice_get-get_or}
 use Rattle.ada_typed.specs.Layout.{cells_of, fields_cells}
@@ -225,11 +225,11 @@ record-leaves names level here cs log keeps h r =
 own-right : (n token first last : ℕ) (x : Part) (a z : Option ℤ) (log : Log) → IsIndicated n (option_map (indicated x) (both a z (d.own_type token first last) log).0)
 own-right n token first last x None z log = tt
 own-right n token first last x (Some a) None log = tt
-own-right n token first last x (Some a) (Some z) log = by (in_base (kind.Own token) a && in_base (kind.Own token) z && int_le a z) (unless (int_le a z) first StaticRange (unless (in_base (kind.Own token) z) last StaticRange (unless (in_base (kind.Own token) a) first StaticRange log).1).1).1
+own-right n token first last x (Some a) (Some z) log = by (in_base (kind.Own token) a && in_base (kind.Own token) z && int_le a z) (last-true (in_base (kind.Own token) a) (in_base (kind.Own token) z) (int_le a z)) (unless (int_le a z) first StaticRange (unless (in_base (kind.Own token) z) last StaticRange (unless (in_base (kind.Own token) a) first StaticRange log).1).1).1
   where
-    by : (b : Bool) (log : Log) → IsIndicated n (option_map (indicated x) ((if b then some (subtype.Scalar (record { kind = kind.Own token; low = a; high = z })) else pure None) log).0)
-    by true log = tt
-    by false log = tt
+    by : (b : Bool) → (b ≡ true → int_le a z ≡ true) → (log : Log) → IsIndicated n (option_map (indicated x) ((if b then some (subtype.Scalar (record { kind = kind.Own token; low = a; high = z })) else pure None) log).0)
+    by true h log = h refl
+    by false h log = tt
 
 range-type : (names : Names) (level : Inside) (here : Context) (token : ℕ) (low high : Simple) (log : Log) → KeepsBoth level → Sound log
     → Leaves IsIndicated log ((two_bounds level here low high >>= d.own_type_of token) log)

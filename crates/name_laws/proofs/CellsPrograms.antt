@@ -217,7 +217,7 @@ clauses-right n names here (c ∷ cs) log h =
     clauses-right n names x.0 cs x.1 (packs-right n names c.word here (c.first ∷ c.more) log h)
 
 outermost-right : (n : ℕ) → AreRight n p.outermost.scope
-outermost-right n = (tt, (tt, (tt, (tt, (tt, (tt, (tt, (tt, (tt, tt)))))))))
+outermost-right n = (refl, (tt, (tt, (refl, (refl, (refl, (tt, (tt, (tt, tt)))))))))
 
 fresh-sound : Sound fresh
 fresh-sound = record { before = λ n t e. absurd cc; within = λ n o e. absurd cc; counted = λ v n t e. absurd cc; cells = λ v n o e. absurd cc }
