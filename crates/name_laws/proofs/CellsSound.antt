@@ -31,7 +31,7 @@ FieldsBefore n (f ∷ fs) = (f.number < n) × FieldsBefore n fs
 
 abbrev pub IsBefore : ℕ → Shape → Type 0
 IsBefore n (shape.Scalar s) = Unit {0}
-IsBefore n (shape.Array ds c k cells) = k < n
+IsBefore n (shape.Array ds c k cells) = HaveValues ds × (k < n)
 IsBefore n (shape.Record fs cells) = FieldsBefore n fs
 
 abbrev pub table_of : List Shape → List TypedSubtype
