@@ -27,7 +27,7 @@ use Rattle.name_rules.specs.declared.types.Kind.TheVariants as kind
 use Rattle.name_rules.specs.declared.types.Subtype.{Subtype}
 use Rattle.name_rules.specs.declared.types.Subtype.TheVariants as subtype
 use Rattle.name_rules.specs.declared.types.Wanted.TheVariants as wanted
-use Rattle.name_laws.proofs.CellsDeclared.{IsIndicated, IsRightMaybe, Leaves, array-leaves, begun-right, declared-right, ended-right, hidden-right, indic-right, next-leaves, now}
+use Rattle.name_laws.proofs.CellsDeclared.{NamesRight, IsIndicated, IsRightMaybe, Leaves, array-leaves, begun-right, declared-right, ended-right, hidden-right, indic-right, last-true, next-leaves, now}
 use Rattle.std.proofs.lemmas.List.{map-append}
 use Rattle.std.proofs.lemmas.Option.{slice_get-get_or}
 use Rattle.ada_typed.specs.Layout.{cells_of, fields_cells}
@@ -72,6 +72,7 @@ one-more n f (Some fs) l h = fields-both n fs (f ∷ []) h (l, tt)
 pub record KeepsBoth (level : Inside) : Type 0 where
   pub minds : KeepsInside (minding 0) level
   pub extends : KeepsInside extending level
+  pub named : NamesRight level
 
 same-leaves : (b : Building) (log : Log) → Sound log → IsBuilt (length log.shapes) b → Leaves IsBuilt log (b, log)
 same-leaves b log h r = record { longer = omega arith; sound = h; right = r }
@@ -225,11 +226,11 @@ record-leaves names level here cs log keeps h r =
 own-right : (n token first last : ℕ) (x : Part) (a z : Option ℤ) (log : Log) → IsIndicated n (option_map (indicated x) (both a z (d.own_type token first last) log).0)
 own-right n token first last x None z log = tt
 own-right n token first last x (Some a) None log = tt
-own-right n token first last x (Some a) (Some z) log = by (in_base (kind.Own token) a && in_base (kind.Own token) z && int_le a z) (unless (int_le a z) first StaticRange (unless (in_base (kind.Own token) z) last StaticRange (unless (in_base (kind.Own token) a) first StaticRange log).1).1).1
+own-right n token first last x (Some a) (Some z) log = by (in_base (kind.Own token) a && in_base (kind.Own token) z && int_le a z) (last-true (in_base (kind.Own token) a) (in_base (kind.Own token) z) (int_le a z)) (unless (int_le a z) first StaticRange (unless (in_base (kind.Own token) z) last StaticRange (unless (in_base (kind.Own token) a) first StaticRange log).1).1).1
   where
-    by : (b : Bool) (log : Log) → IsIndicated n (option_map (indicated x) ((if b then some (subtype.Scalar (record { kind = kind.Own token; low = a; high = z })) else pure None) log).0)
-    by true log = tt
-    by false log = tt
+    by : (b : Bool) → (b ≡ true → int_le a z ≡ true) → (log : Log) → IsIndicated n (option_map (indicated x) ((if b then some (subtype.Scalar (record { kind = kind.Own token; low = a; high = z })) else pure None) log).0)
+    by true h log = h refl
+    by false h log = tt
 
 range-type : (names : Names) (level : Inside) (here : Context) (token : ℕ) (low high : Simple) (log : Log) → KeepsBoth level → Sound log
     → Leaves IsIndicated log ((two_bounds level here low high >>= d.own_type_of token) log)
@@ -249,7 +250,7 @@ defined-leaves : (names : Names) (level : Inside) (here : Context) (token : ℕ)
     → Leaves IsIndicated log (d.defined names level here token x log)
 unfolding d.defined
 defined-leaves names level here token (syntax.RangeType low high) log keeps h r = range-type names level here token low high log keeps h
-defined-leaves names level here token (syntax.ArrayType a) log keeps h r = array-leaves names level here a log keeps.minds h r
+defined-leaves names level here token (syntax.ArrayType a) log keeps h r = array-leaves names level here a log keeps.minds keeps.named h r
 defined-leaves names level here token (syntax.RecordType c cs) log keeps h r = record-leaves names level here (c ∷ cs) log keeps h r
 
 -- ---- objects
@@ -320,7 +321,7 @@ typed-leaves : (names : Names) (level : Inside) (here : Context) (t : ObjectType
 typed-leaves names level here (syntax.Indicated i) log keeps h r =
     let k = now log (d.indic names level here i) (k-indic (minding 0) names level here i tt keeps.minds) h in
     record { longer = k.0; sound = k.1; right = indic-right _ names level here i (are_later _ _ here.scope k.0 r) log }
-typed-leaves names level here (syntax.Anonymous a) log keeps h r = array-leaves names level here a log keeps.minds h r
+typed-leaves names level here (syntax.Anonymous a) log keeps h r = array-leaves names level here a log keeps.minds keeps.named h r
 
 pub around-leaves : {B : Type 0} (here : Context) (x : B) (log : Log) → Sound log → AreRight (length log.shapes) here.scope → Leaves IsAround log ((here, x), log)
 around-leaves here x log h r = record { longer = omega arith; sound = h; right = r }

@@ -23,6 +23,7 @@ use Rattle.name_rules.specs.declared.types.Scalar.{Scalar}
 use Rattle.name_rules.specs.declared.types.Subtype.{Subtype}
 use Rattle.name_laws.proofs.CellsDeclared.{IsRightOne, Leaves, begun-right, declared-right, ended-right, next-leaves, now, subtype-right}
 use Rattle.name_laws.proofs.CellsGrown.{extending}
+use Rattle.name_laws.proofs.EndsParts.{level-named}
 use Rattle.name_laws.proofs.CellsObjects.{KeepsBoth, IsAround, around-leaves, counted-leaves, declaration-leaves, declarations-leaves, object-sound}
 use Rattle.name_laws.proofs.CellsSound.{AreRight, Sound, are_both, are_dropped, are_later, minding, next_same, right_later}
 use Rattle.name_laws.proofs.CellsStatements.{c-body, minds_around}
@@ -123,7 +124,7 @@ profile-leaves names start here name result fs log h r =
     }
 
 both-level : (names : Names) (n : ℕ) → KeepsBoth (p.level_of names n)
-both-level names n = record { minds = k-level_of (minding 0) names n tt; extends = k-level_of extending names n tt }
+both-level names n = record { minds = k-level_of (minding 0) names n tt; extends = k-level_of extending names n tt; named = level-named names n }
 
 -- ---- subprograms
 
@@ -217,7 +218,7 @@ clauses-right n names here (c ∷ cs) log h =
     clauses-right n names x.0 cs x.1 (packs-right n names c.word here (c.first ∷ c.more) log h)
 
 outermost-right : (n : ℕ) → AreRight n p.outermost.scope
-outermost-right n = (tt, (tt, (tt, (tt, (tt, (tt, (tt, (tt, (tt, tt)))))))))
+outermost-right n = (refl, (tt, (tt, (refl, (refl, (refl, (tt, (tt, (tt, tt)))))))))
 
 fresh-sound : Sound fresh
 fresh-sound = record { before = λ n t e. absurd cc; within = λ n o e. absurd cc; counted = λ v n t e. absurd cc; cells = λ v n o e. absurd cc }

@@ -1,5 +1,5 @@
 -- What is known of a log on the way: each subtype stands on those before it, and each object's stands in the table.
-use Rattle.std.proofs.Common.{◌≡◌, ℕ, zero, suc, ◌+◌, ◌<◌, ◌≤◌, nat_le, nat_lt, List, [], ◌∷◌, ◌++◌, length, length-append, Some, Bool, true, false, refl, sym, ap, subst, ◌∙◌, ◌⊎◌, inl, inr, arith, slice_get, drop, map, ◌==◌}
+use Rattle.std.proofs.Common.{◌≡◌, ℕ, zero, suc, ◌+◌, ◌<◌, ◌≤◌, nat_le, nat_lt, int_le, List, [], ◌∷◌, ◌++◌, length, length-append, Some, Bool, true, false, refl, sym, ap, subst, ◌∙◌, ◌⊎◌, inl, inr, arith, slice_get, drop, map, ◌==◌}
 use Rattle.std.proofs.lemmas.List.{length-map, map-append}
 use Rattle.std.proofs.lemmas.Option.{slice_get-get_or, slice_get_within}
 use Rattle.std.specs.Prelude.{not, ◌||◌}
@@ -31,7 +31,7 @@ FieldsBefore n (f ∷ fs) = (f.number < n) × FieldsBefore n fs
 
 abbrev pub IsBefore : ℕ → Shape → Type 0
 IsBefore n (shape.Scalar s) = Unit {0}
-IsBefore n (shape.Array ds c k cells) = k < n
+IsBefore n (shape.Array ds c k cells) = HaveValues ds × (k < n)
 IsBefore n (shape.Record fs cells) = FieldsBefore n fs
 
 abbrev pub table_of : List Shape → List TypedSubtype
@@ -169,11 +169,11 @@ minding known = record {
 -- ---- subtypes that are known, and declarations of such
 
 abbrev pub IsRight : ℕ → Subtype → Type 0
-IsRight n (subtype.Scalar s) = Unit {0}
+IsRight n (subtype.Scalar s) = int_le s.low s.high ≡ true
 IsRight n (subtype.Composite m) = m < n
 
 pub right_later : (n m : ℕ) (s : Subtype) → n ≤ m → IsRight n s → IsRight m s
-right_later n m (subtype.Scalar s) l h = tt
+right_later n m (subtype.Scalar s) l h = h
 right_later n m (subtype.Composite k) l h = omega (arith, l, h)
 
 -- its number stands in the table

@@ -30,6 +30,8 @@ use Rattle.name_laws.proofs.KeepsExpressions.{k-condition, k-expr}
 use Rattle.name_laws.proofs.KeepsIterations.{k-entered}
 use Rattle.name_laws.proofs.KeepsParts.{k-new_site}
 use Rattle.name_laws.proofs.KeepsPrimaries.{k-inside, k-level_above}
+use Rattle.name_laws.proofs.CellsDeclared.{NamesRight}
+use Rattle.name_laws.proofs.EndsParts.{level-named}
 use Rattle.std.proofs.Common.{arith}
 use Rattle.name_laws.proofs.CellsAround.{entered-right}
 use Rattle.name_laws.proofs.CellsGrown.{extending}
@@ -42,6 +44,7 @@ use Rattle.name_laws.proofs.Walked.{KeepsInside}
 pub record Minds (a : Around) : Type 0 where
   pub level : (known : ℕ) → KeepsInside (minding known) a.level
   pub extends : KeepsInside extending a.level
+  pub named : NamesRight a.level
   pub inner : (known : ℕ) → KeepsInside (minding known) a.inner
   pub within : (known : ℕ) (here : Context) → AreRight known here.scope → (s : Stmt) → Keeps (minding known) (a.within here s)
 
@@ -208,7 +211,7 @@ c-block known a here d b keeps1 right = record {
   at = λ log. record {
     at = λ l h.
         let r = declarations a.names a.level (length here.scope) here (Some no_decls) (block_decls d) log in
-        let k = declarations-leaves a.names a.level (length here.scope) here (Some no_decls) (block_decls d) log (record { minds = keeps1.level 0; extends = keeps1.extends }) h (are_later known (length log.shapes) here.scope l right) in
+        let k = declarations-leaves a.names a.level (length here.scope) here (Some no_decls) (block_decls d) log (record { minds = keeps1.level 0; extends = keeps1.extends; named = keeps1.named }) h (are_later known (length log.shapes) here.scope l right) in
         let j = ((c-block_of (length r.1.shapes) a r.0.0 r.0.1 b keeps1 k.right).at r.1).at (omega arith) k.sound in
         (omega (arith, k.longer, j.0), j.1);
   };
@@ -251,6 +254,7 @@ minds : (names : Names) (n : ℕ) → ((known : ℕ) (here : Context) → AreRig
 minds names n f = record {
   level = λ known. k-level_above (minding known) names (inside names n) tt (k-inside (minding known) names n tt);
   extends = k-level_above extending names (inside names n) tt (k-inside extending names n tt);
+  named = level-named names n;
   inner = λ known. k-inside (minding known) names n tt;
   within = f;
 }

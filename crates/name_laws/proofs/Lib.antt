@@ -32,6 +32,12 @@ pub mod CellsCounted
 pub mod CellsSound
 pub mod CellsGrown
 pub mod CellsDeclared
+pub mod EndsScope
+pub mod EndsNames
+pub mod EndsCalls
+pub mod EndsOutput
+pub mod EndsAttributes
+pub mod EndsParts
 pub mod CellsObjects
 pub mod CellsAround
 pub mod CellsStatements

@@ -37,7 +37,7 @@ HaveComponents [] = Unit {0}
 HaveComponents (t ∷ ts) = HasComponents t × HaveComponents ts
 
 -- In a text's typed program each subtype stands on earlier ones alone, so none has a part of its own type, and the subtype
--- of each object is one of the table. Where no array type of it is empty, each object has as many cells as the layout
+-- of each object is one of the table. No array type of it is empty, and each object has as many cells as the layout
 -- gives its subtype, though names count them on the way and stand still at the greatest number of 64 bits; so the objects
 -- are laid out side by side.
 pub record FormedLaw : Type 0 where
@@ -45,7 +45,8 @@ pub record FormedLaw : Type 0 where
       → (n : ℕ) → StandsBefore n (slice_get program.subtypes n)
   pub objects : (names : Names) (text : Program) (program : typed.Program) → TypedOf names text ≡ Some program
       → (i : ℕ) (o : Object) → slice_get program.objects i ≡ Some o → o.subtype < length program.subtypes
+  pub components : (names : Names) (text : Program) (program : typed.Program) → TypedOf names text ≡ Some program → HaveComponents program.subtypes
   pub cells : (names : Names) (text : Program) (program : typed.Program) → TypedOf names text ≡ Some program
-      → HaveComponents program.subtypes → HaveCells program.subtypes program.objects
+      → HaveCells program.subtypes program.objects
   pub laid : (names : Names) (text : Program) (program : typed.Program) → IsTyped names text program
-      → HaveComponents program.subtypes → IsLaidOut program
+      → IsLaidOut program
