@@ -32,10 +32,9 @@ use Rattle.ada_typed.specs.Decoded.{Part as TypedPart, as_expr}
 use Rattle.name_rules.specs.Judging.{◌>>=◌, fault, given, pure, read}
 use Rattle.name_rules.specs.Attributes.{prefix_of, attribute_found, scalar_bound, dimension_bound, mentioned, prefix_subtype, dimensions_in, bound_in, bound_alone, dimension_at, dimension_given, one_dimension, bound_with, first_named, one_given, two_given, one_named, two_named, one_argument, two_arguments_of, image_text, extreme, step, stepped, scalar_with, object_image, is_bound, is_reduction, reduced_alone, is_array_object, alone, settled_form, settled_attribute}
 use Rattle.name_laws.proofs.CellsCounted.{HaveValues}
-use Rattle.name_laws.proofs.CellsDeclared.{Ends, IsRightly, Named, e-bind, e-fault, e-given, e-if, e-joined, e-map, e-none, e-some, e-where_clean}
+use Rattle.name_laws.proofs.CellsDeclared.{Ends, IsRightly, Named, e-bind, e-fault, e-given, e-if, e-joined, e-map, e-some, e-where_clean}
 use Rattle.name_laws.proofs.CellsSound.{Sound}
 use Rattle.name_laws.proofs.EndsNames.{e-wrong_call}
-use Rattle.name_rules.specs.Judging.{Judging, joined}
 use Rattle.name_rules.specs.Types.{dimensions_of, shape_in}
 use Rattle.name_rules.specs.declared.log.Log.{Log}
 use Rattle.name_rules.specs.declared.log.Shape.{Shape}

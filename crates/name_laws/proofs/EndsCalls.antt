@@ -1,36 +1,19 @@
 -- What names denote is right: what Calls finds.
-use Rattle.name_rules.specs.Expressions.{Inside, expr, judged_alone, value_for}
-use Rattle.ada_tree.specs.FirstTokens as first_token
+use Rattle.name_rules.specs.Expressions.{Inside}
 use Rattle.name_rules.specs.Found.{Found}
-use Rattle.name_rules.specs.Names.{count}
-use Rattle.name_rules.specs.Scope.{named}
-use Rattle.name_rules.specs.Symbols.{symbol}
-use Rattle.name_rules.specs.Types.{is_integer, same, wanted_of}
+use Rattle.name_rules.specs.Types.{is_integer}
 use Rattle.name_rules.specs.Values.{first_of, is_number, settled_found}
-use Rattle.name_rules.specs.declared.found.Found.TheVariants as known
-use Rattle.name_rules.specs.declared.found.Found.{Found as Known}
-use Rattle.name_rules.specs.declared.found.Place.{Place}
-use Rattle.name_rules.specs.declared.log.Rule.TheVariants.{Twice, Unknown, WrongType}
-use Rattle.name_rules.specs.declared.log.Taken.{Taken}
+use Rattle.name_rules.specs.declared.log.Rule.TheVariants.{WrongType}
 use Rattle.name_rules.specs.declared.scope.Context.{Context}
 use Rattle.name_rules.specs.declared.scope.Names.{Names}
 use Rattle.name_rules.specs.declared.types.Scalar.{Scalar}
 use Rattle.name_rules.specs.declared.types.Subtype.TheVariants as subtype
 use Rattle.name_rules.specs.declared.types.Subtype.{Subtype}
-use Rattle.name_rules.specs.declared.types.Wanted.TheVariants as wanted
-use Rattle.ada_tree.specs.Syntax as syntax
-use Rattle.ada_tree.specs.Syntax.{Arg, Args, Expr}
-use Rattle.ada_typed.specs.Decoded as part
-use Rattle.ada_typed.specs.Syntax as typed
-use Rattle.ada_typed.specs.Syntax.{Actuals, Selections}
-use Rattle.ada_typed.specs.declared.program.Mode.TheVariants as mode
-use Rattle.ada_typed.specs.declared.program.Mode.{Mode}
-use Rattle.std.specs.List.{list_any, position}
-use Rattle.std.specs.Prelude.{Bool, List, None, Option, Some, [], false, if◌then◌else◌, length, nat_lt, not, true, ℕ, ◌==◌, ◌∷◌}
-use Rattle.name_rules.specs.TypedParts.{selections_of}
-use Rattle.ada_typed.specs.Decoded.{Part as TypedPart, as_expr, as_actuals}
-use Rattle.name_rules.specs.Judging.{◌>>=◌, fault, given, pure, read, some, where_clean}
-use Rattle.name_rules.specs.Calls.{takes_in, gives_in, profile_in, scalar_actual, composite_actual, place_given, variable_form, variable_given, actual_by, actual_for, found_or_unknown, parameter_of, given_once, Calling, taken_at, argument_form, argument, arguments, complete, begun_call, call_given, sub_call, with_operand, operands, arg_names, conversion_of, converted, one_operand, scalar_conversion, conversion}
+use Rattle.ada_tree.specs.Syntax.{Args}
+use Rattle.std.specs.Prelude.{List, None, Option, Some, [], if◌then◌else◌, length, ℕ, ◌∷◌}
+use Rattle.ada_typed.specs.Decoded.{Part as TypedPart}
+use Rattle.name_rules.specs.Judging.{◌>>=◌, fault, given, read, some, where_clean}
+use Rattle.name_rules.specs.Calls.{takes_in, gives_in, profile_in, arguments, complete, begun_call, call_given, sub_call, operands, arg_names, conversion_of, converted, one_operand, scalar_conversion, conversion}
 use Rattle.name_laws.proofs.CellsDeclared.{Ends, IsRightly, e-bind, e-fault, e-given, e-if, e-some, e-where_clean}
 use Rattle.name_laws.proofs.EndsNames.{e-wrong_call}
 

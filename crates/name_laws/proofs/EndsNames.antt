@@ -1,16 +1,12 @@
 -- What names denote is right: what Names finds.
-use Rattle.name_rules.specs.Expressions.{Inside, expr, judged_alone}
-use Rattle.name_rules.specs.Found.{Denoted, Found, denote}
-use Rattle.name_rules.specs.Scope.{stands_for}
-use Rattle.name_rules.specs.Shapes.{primary_of_expr}
+use Rattle.name_rules.specs.Expressions.{Inside}
+use Rattle.name_rules.specs.Found.{Denoted, denote}
 use Rattle.name_rules.specs.Symbols.{symbol}
-use Rattle.name_rules.specs.Types.{component_of, dimensions_of, fields_of, shape_in, stride}
-use Rattle.name_rules.specs.Values.{asked, first_of}
+use Rattle.name_rules.specs.Types.{component_of, dimensions_of, fields_of, shape_in}
 use Rattle.name_rules.specs.declared.found.Denoted.TheVariants as denoted
 use Rattle.name_rules.specs.declared.found.Denoted.{Denoted as KnownDenoted}
 use Rattle.name_rules.specs.declared.found.Found.TheVariants as known
 use Rattle.name_rules.specs.declared.found.Place.{Place}
-use Rattle.name_rules.specs.declared.log.Dimension.{Dimension}
 use Rattle.name_rules.specs.declared.log.Field.{Field}
 use Rattle.name_rules.specs.declared.log.Rule.TheVariants.{Unknown, WrongType}
 use Rattle.name_rules.specs.declared.log.Shape.{Shape}
@@ -18,18 +14,16 @@ use Rattle.name_rules.specs.declared.scope.Context.{Context}
 use Rattle.name_rules.specs.declared.scope.Names.{Names}
 use Rattle.name_rules.specs.declared.types.Subtype.TheVariants as subtype
 use Rattle.name_rules.specs.declared.types.Subtype.{Subtype}
-use Rattle.name_rules.specs.declared.types.Wanted.TheVariants as wanted
-use Rattle.ada_tree.specs.Syntax as syntax
-use Rattle.ada_tree.specs.Syntax.{Arg, Args, Pack, Primary}
+use Rattle.ada_tree.specs.Syntax.{Args}
 use Rattle.ada_typed.specs.Decoded as part
 use Rattle.ada_typed.specs.Syntax.{Selections}
-use Rattle.std.specs.Prelude.{List, None, Option, Some, [], drop, length, slice_get, ℕ, ◌+◌, ◌==◌, ◌∷◌}
+use Rattle.std.specs.Prelude.{List, None, Option, Some, [], length, ℕ, ◌+◌, ◌==◌, ◌∷◌}
 use Rattle.ada_typed.specs.Syntax as typed
 use Rattle.name_rules.specs.TypedParts.{also}
 use Rattle.ada_typed.specs.Decoded.{Part as TypedPart, as_expr}
-use Rattle.name_rules.specs.Judging.{fault, given, joined, pure, some}
-use Rattle.name_rules.specs.Names.{denoted_first, part_place, field_from, is_record, is_array, field_in, field_of, field_form, field, is_string, arg_alone, args_alone, wrong_call, count, selected_by, index_in, index_where, unnamed, index, indexes, indexed, component_cells, index_shape, array_call, object_call, field_of_pack, pack_from, as_exception, exception}
-use Rattle.name_laws.proofs.CellsDeclared.{Ends, IsRightly, e-fault, e-given, e-if, e-some, e-where_clean}
+use Rattle.name_rules.specs.Judging.{fault, given, some}
+use Rattle.name_rules.specs.Names.{denoted_first, part_place, field_from, is_record, is_array, field_in, field_of, field_form, field, args_alone, wrong_call, count, indexes, indexed, component_cells, index_shape, array_call, object_call}
+use Rattle.name_laws.proofs.CellsDeclared.{Ends, e-fault, e-given, e-if, e-some, e-where_clean}
 use Rattle.name_laws.proofs.EndsScope.{e-selected}
 
 pub e-field_from : (m0 : ℕ) (x0 : Names) (x1 : Place) (x2 : TypedPart) (x3 : ℕ) (x4 : ℕ) (x5 : List Field) → Ends m0 (field_from x0 x1 x2 x3 x4 x5)

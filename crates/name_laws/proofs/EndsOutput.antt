@@ -1,17 +1,15 @@
 -- What names denote is right: what Output finds.
-use Rattle.name_rules.specs.Expressions.{Inside, expr, judged_alone}
-use Rattle.ada_tree.specs.FirstTokens as first_token
+use Rattle.name_rules.specs.Expressions.{Inside, expr}
 use Rattle.name_rules.specs.Found.{Found}
-use Rattle.name_rules.specs.Symbols.{symbol, width_name}
 use Rattle.name_rules.specs.Types.{same, typed_scalar}
-use Rattle.name_rules.specs.Values.{asked, first_of, literal, mentions_of, static_of_kind, suits}
+use Rattle.name_rules.specs.Values.{first_of}
 use Rattle.name_rules.specs.declared.found.Found.TheVariants as known
 use Rattle.name_rules.specs.declared.found.Found.{Found as Known}
 use Rattle.name_rules.specs.declared.found.Place.{Place}
 use Rattle.name_rules.specs.declared.found.Put.TheVariants as put
 use Rattle.name_rules.specs.declared.found.Put.{Put}
 use Rattle.name_rules.specs.declared.found.Reach.{Reach}
-use Rattle.name_rules.specs.declared.log.Rule.TheVariants.{NotVisible, StaticRange, Twice, Unknown, WrongType}
+use Rattle.name_rules.specs.declared.log.Rule.TheVariants.{NotVisible, WrongType}
 use Rattle.name_rules.specs.declared.scope.Context.{Context}
 use Rattle.name_rules.specs.declared.scope.Names.{Names}
 use Rattle.name_rules.specs.declared.types.Kind.TheVariants as kind
@@ -22,12 +20,12 @@ use Rattle.ada_tree.specs.Syntax as syntax
 use Rattle.ada_tree.specs.Syntax.{Args, Expr}
 use Rattle.ada_typed.specs.Syntax as typed
 use Rattle.ada_typed.specs.Syntax.{Selections, Stmt as TypedStmt}
-use Rattle.std.specs.Prelude.{Bool, None, Option, Some, false, if◌then◌else◌, int_le, nat_le, not, option_map, pos, true, ℕ, ℤ, ◌&&◌, ◌==◌}
+use Rattle.std.specs.Prelude.{Bool, Option, false, if◌then◌else◌, nat_le, option_map, true, ℕ, ◌&&◌}
 use Rattle.name_rules.specs.TypedParts.{selections_of}
 use Rattle.ada_typed.specs.Decoded.{Part as TypedPart}
-use Rattle.name_rules.specs.Judging.{◌>>=◌, breaks, fault, given, joined, pure, some, unless}
-use Rattle.name_rules.specs.Output.{done_by, no_name, text_only, others_alone, alone_given, put_text, text_call, in_width, width_of, Putting, item_of, width_argument, with_count, put_argument, put_arguments, put_number, width_or, put_complete, is_text, is_number_put, nothing_put, judged_arguments, put_of_text, get_place, get_of, put_by, by_procedure, without_arguments, io_call}
-use Rattle.name_laws.proofs.CellsDeclared.{Ends, IsRightly, e-bind, e-fault, e-given, e-if, e-joined, e-map, e-some, e-where_clean}
+use Rattle.name_rules.specs.Judging.{◌>>=◌, fault, given, joined, pure, some}
+use Rattle.name_rules.specs.Output.{done_by, no_name, text_only, alone_given, put_text, text_call, Putting, put_number, width_or, put_complete, is_text, judged_arguments, put_of_text, get_place, get_of, put_by, by_procedure, without_arguments, io_call}
+use Rattle.name_laws.proofs.CellsDeclared.{Ends, e-bind, e-fault, e-given, e-if, e-joined, e-map, e-some, e-where_clean}
 
 pub e-text_call : (m0 : ℕ) (x0 : ℕ) (x1 : ℕ) (x2 : ℕ) (x3 : Bool) (x4 : Args) (x5 : Found) → Ends m0 (text_call x0 x1 x2 x3 x4 x5)
 e-text_call m0 at first last line more f = e-bind m0 (alone_given at more f) (λ g. given g (λ h. text_only h.known h.part >>= λ ps. pure (option_map (put_text first last line) ps))) (λ g. e-given m0 g (λ h. text_only h.known h.part >>= λ ps. pure (option_map (put_text first last line) ps)) (λ h. e-bind m0 (text_only h.known h.part) (λ ps. pure (option_map (put_text first last line) ps)) (λ ps. e-map m0 (put_text first last line) ps (λ y. tt))))

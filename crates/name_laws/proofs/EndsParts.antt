@@ -1,7 +1,7 @@
 -- What names denote is right: names as wholes.
 use Rattle.name_rules.specs.Attributes.{attribute_at, attribute_found, bound_with, dimensions_in, is_array_object, is_bound, is_reduction, mentioned, prefix_subtype, settled_attribute}
 use Rattle.name_rules.specs.Expressions.{Inside, expr}
-use Rattle.name_rules.specs.Found.{Denoted, denote, parameter_found}
+use Rattle.name_rules.specs.Found.{Denoted}
 use Rattle.name_rules.specs.Names.{args_alone, denoted_first, field, wrong_call}
 use Rattle.name_rules.specs.Reducers.{folded_by, reducer_of}
 use Rattle.name_rules.specs.Scope.{stands_for}
@@ -25,28 +25,25 @@ use Rattle.ada_tree.specs.Syntax.{Args, Expr, Name, Part, Parts}
 use Rattle.ada_typed.specs.Decoded as part
 use Rattle.ada_typed.specs.Syntax as typed
 use Rattle.ada_typed.specs.Syntax.{Iteration, Optional, Selections}
-use Rattle.ada_typed.specs.declared.program.SiteKind.TheVariants as site
-use Rattle.ada_typed.specs.declared.program.SiteKind.{SiteKind}
 use Rattle.std.specs.Prelude.{if◌then◌else◌, Bool, None, Option, Some, false, true, ℕ}
 use Rattle.name_rules.specs.TypedParts.{selections_of}
 use Rattle.ada_typed.specs.Decoded.{Part as TypedPart}
-use Rattle.name_rules.specs.Judging.{◌>>=◌, both, fault, given, pure, read}
-use Rattle.name_rules.specs.Parts.{new_parameter, new_site, site_where, array_shape, through, is_parallel, item_found, array_reduction, wrong_arguments, array_reduced, reduced_with, of_array, other_with, attribute_with, call_form, call, part_of, part_alone, next_part, parts, name, valued_form, valued_by, value_form, value_named}
-use Rattle.name_laws.proofs.CellsDeclared.{Ends, IsRightly, Named, NamesRight, e-bind, e-fault, e-given, e-if, e-map, e-none, e-some, e-where_clean, now, stands-named}
+use Rattle.name_rules.specs.Judging.{◌>>=◌, both, fault, given, read}
+use Rattle.name_rules.specs.Parts.{new_parameter, site_where, array_shape, through, is_parallel, item_found, array_reduced, reduced_with, of_array, other_with, attribute_with, call_form, call, part_of, next_part, parts, name}
+use Rattle.name_laws.proofs.CellsDeclared.{Ends, Named, NamesRight, e-fault, e-given, e-map, e-where_clean, now, stands-named}
 use Rattle.name_laws.proofs.CellsSound.{AreRight, Sound, minding}
 use Rattle.name_laws.proofs.EndsAttributes.{e-attribute_found, e-bound_with, e-scalar_with, e-settled, values-in}
 use Rattle.name_laws.proofs.EndsCalls.{e-conversion, e-sub_call}
 use Rattle.name_laws.proofs.EndsNames.{e-field, e-object_call, e-wrong_call}
 use Rattle.name_laws.proofs.EndsOutput.{e-io_call}
 use Rattle.name_laws.proofs.KeepsParts.{k-next_part, k-parts}
-use Rattle.name_laws.proofs.KeepsAttributes.{k-settled_attribute}
 use Rattle.name_laws.proofs.KeepsScope.{k-stands_for}
 use Rattle.name_laws.proofs.KeepsPrimaries.{k-inside}
 use Rattle.name_laws.proofs.Walked.{KeepsInside}
 use Rattle.name_rules.specs.Found.{value_denoted}
 use Rattle.name_rules.specs.Primaries as primaries
 use Rattle.name_rules.specs.declared.log.Log.{Log}
-use Rattle.std.proofs.Common.{length, option_map, zero, suc}
+use Rattle.std.proofs.Common.{length}
 
 e-array_reduced : (m0 : ℕ) (names : Names) (inside : Inside) (here : Context) (p : Place) (x : Selections) (at : ℕ) (a : Attribute) (bracket : ℕ) (as' : Args) (log : Log) → Named m0 (array_reduced names inside here p x at a bracket as' log).0
 e-array_reduced m0 names inside here p x at a bracket (syntax.AlsoArg (syntax.arg None r) (syntax.AlsoArg (syntax.arg None v) syntax.NoArg)) log =

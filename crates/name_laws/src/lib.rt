@@ -16,7 +16,8 @@ ghost use Rattle.name_laws.specs.Statics.{StaticLaw};
 /// - main_name: the main procedure's name isn't visible in its declarative part and statements.
 /// - cells: different objects of one owner have different cells (3.3).
 /// - constants: the value of a static constant lies in its subtype (4.9).
-/// - formed: each subtype of a typed program stands on earlier ones, and each object has the cells of its subtype, where no array type is empty (3.2, 3.6, 3.8).
+/// - formed: each subtype of a typed program stands on earlier ones, no array type is empty, and each object has exactly
+///   the cells of its subtype (3.2, 3.6, 3.8).
 /// - statics: a static result of an operator is exact and in its base range, and an expression with such a value
 ///   leaves in its place that value alone (4.9).
 /// - symbols: two identifiers have one symbol exactly where they are spelled alike but for the case of letters (2.3).
