@@ -1,0 +1,4 @@
+pub mod Form
+pub mod Facing
+pub mod Inputs
+pub mod Named
