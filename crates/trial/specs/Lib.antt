@@ -1,4 +1,3 @@
 pub mod Form
 pub mod Facing
 pub mod Inputs
-pub mod Named

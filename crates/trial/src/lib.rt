@@ -6,7 +6,6 @@ ghost use Rattle.ada_meaning.specs.Stored.{apart, bind, checks, ret};
 ghost use Rattle.run_store.specs.Outside.{Outside};
 ghost use Rattle.run_store.specs.Shows.{Image};
 ghost use Rattle.trial.specs.Facing.{Shows};
-ghost use Rattle.trial.specs.Named.{ShowsN};
 ghost use Rattle.trial.specs.Form.{first, second, third};
 
 use run_store::End;
@@ -45,29 +44,5 @@ pub fn all<P: Held>(p: &mut P) -> Result<i64, End>
     let x = p.one()?;
     let y = p.two(x)?;
     let _z = p.three()?;
-    Ok(y)
-}
-
-/// A store, in the form with names.
-pub trait Keep {
-    ghost Tells: { List ℕ → Outside → Type 0 };
-
-    ghost image: { Self → Image };
-
-    /// One part.
-    fn one(&mut self) -> Result<i64, End>
-        ensures { ShowsN Tells first result (image self.old) (image self.new) };
-
-    /// Another.
-    fn two(&mut self, x: i64) -> Result<i64, End>
-        ensures { ShowsN Tells (second x) result (image self.old) (image self.new) };
-}
-
-/// Two parts, in the form with names.
-pub fn named<P: Keep>(p: &mut P) -> Result<i64, End>
-    ensures { ShowsN P.Tells (bind first (λ x. second x)) result (P.image p.old) (P.image p.new) }
-{
-    let x = p.one()?;
-    let y = p.two(x)?;
     Ok(y)
 }
