@@ -5,10 +5,11 @@ use Rattle.ada_run.specs.Compile.{IsRefusalOf}
 use Rattle.ada_run.specs.declared.refusal.Refusal.{Refusal}
 use Rattle.ada_run.specs.declared.refusal.Refusal.TheVariants as refusal
 use Rattle.command_words.specs.Words.{Asked}
-use Rattle.ada_cmd.specs.Answer.{AnswersText, Refuses, Lacks, Says, SaysRefusal, devices}
-use Rattle.ada_cmd.specs.Lines.{ended}
-use Rattle.ada_cmd.specs.declared.status.Status.{Status}
-use Rattle.ada_cmd.specs.declared.status.Status.TheVariants as status
+use Rattle.ada_cmd.specs.Answer.{AnswersText, Refuses, Lacks, SaysRefusal, devices}
+use Rattle.run_reports.specs.Says.{Says}
+use Rattle.run_reports.specs.Lines.{ended}
+use Rattle.run_reports.specs.declared.status.Status.{Status}
+use Rattle.run_reports.specs.declared.status.Status.TheVariants as status
 
 pub refuses_text : {Tells : Type 0} (q : Asked) (text : List ℕ) (r : Refusal) (given : Status) (i o e e' : Stream) → IsRefusalOf text r → SaysRefusal q.file text r given e e' → AnswersText Tells q text given (devices i o e) (devices i o e')
 refuses_text q text refusal.OutOfMemory given i o e e' is says = Lacks (record { input = refl; out = refl }) says

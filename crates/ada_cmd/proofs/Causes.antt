@@ -10,16 +10,17 @@ use Rattle.ada_run.specs.Compiled.{Compiled}
 use Rattle.ada_run.specs.Complaints.{Complaint}
 use Rattle.ada_run.specs.Lines.{line_of}
 use Rattle.ada_run.specs.Running as running
-use Rattle.ada_run.specs.declared.runner.RunEnd.{RunEnd}
-use Rattle.ada_run.specs.declared.runner.RunEnd.TheVariants as run_end
+use Rattle.run_reports.specs.declared.ends.RunEnd.{RunEnd}
+use Rattle.run_reports.specs.declared.ends.RunEnd.TheVariants as run_end
 use Rattle.ada_run.proofs.Exact.{compiling_exact}
 use Rattle.command_words.specs.Words.{Asked, asked}
 use Rattle.command_words.specs.declared.request.Mode.TheVariants as mode
-use Rattle.ada_cmd.specs.Answer.{Answers, Wrong, Right, Unasked, AnswersFile, Unread, Read, Short, AnswersText, Refuses, Checks, Starts, Lacks, Closes, Whole, OutFailed, Lacked, EndsBy, IsFetched, Outside, RunsUnit, Says, SaysNoMemory, SaysOrLacks, Untouched, number_of, setting_of}
+use Rattle.ada_cmd.specs.Answer.{Answers, Wrong, Right, Unasked, AnswersFile, Unread, Read, Short, AnswersText, Refuses, Checks, Starts, Lacks, Closes, Whole, OutFailed, Lacked, EndsBy, IsFetched, Outside, RunsUnit, Untouched, setting_of}
+use Rattle.run_reports.specs.Says.{Says, SaysNoMemory, SaysOrLacks, number_of}
 use Rattle.ada_cmd.specs.Causes.{Asks, Cause, ShelfFails, ErrFails, MemoryFails, MayEnd, Meets}
-use Rattle.ada_cmd.specs.Lines.{accepted_line, ended, usage_line}
-use Rattle.ada_cmd.specs.declared.status.Status.{Status}
-use Rattle.ada_cmd.specs.declared.status.Status.TheVariants as status
+use Rattle.run_reports.specs.Lines.{accepted_line, ended, usage_line}
+use Rattle.run_reports.specs.declared.status.Status.{Status}
+use Rattle.run_reports.specs.declared.status.Status.TheVariants as status
 
 -- the text that is told was fetched
 same_text : (told : Option (List ℕ)) (whole text : List ℕ) → told ≡ Some whole → IsFetched told text → text ≡ fetched whole

@@ -3,12 +3,13 @@ use Rattle.std.proofs.Common.{◌≡◌, ◌⊎◌, ◌<◌, ℕ, List, Bool, tr
 use Rattle.ada_port.specs.Ports.{Texts, Stream}
 use Rattle.ada_run.specs.Compiled.{Compiled}
 use Rattle.ada_run.specs.Running as running
-use Rattle.ada_run.specs.declared.runner.RunEnd.{RunEnd}
-use Rattle.ada_run.specs.declared.runner.RunEnd.TheVariants as run_end
+use Rattle.run_reports.specs.declared.ends.RunEnd.{RunEnd}
+use Rattle.run_reports.specs.declared.ends.RunEnd.TheVariants as run_end
 use Rattle.command_words.specs.Words.{Asked}
-use Rattle.ada_cmd.specs.Answer.{Answers, Wrong, Right, Unasked, AnswersFile, Unread, Read, Short, AnswersText, Refuses, Checks, Starts, Lacks, Closes, Whole, OutFailed, Lacked, Devices, EndsBy, Outside, Says, SaysOrLacks, Untouched, number_of}
-use Rattle.ada_cmd.specs.declared.status.Status.{Status}
-use Rattle.ada_cmd.specs.declared.status.Status.TheVariants as status
+use Rattle.ada_cmd.specs.Answer.{Answers, Wrong, Right, Unasked, AnswersFile, Unread, Read, Short, AnswersText, Refuses, Checks, Starts, Lacks, Closes, Whole, OutFailed, Lacked, Devices, EndsBy, Outside, Untouched}
+use Rattle.run_reports.specs.Says.{Says, SaysOrLacks, number_of}
+use Rattle.run_reports.specs.declared.status.Status.{Status}
+use Rattle.run_reports.specs.declared.status.Status.TheVariants as status
 
 -- which status a risen count of faults gives
 pub record Counts (given : Status) (before now : Outside) : Type 0 where

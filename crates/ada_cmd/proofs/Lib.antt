@@ -1,6 +1,3 @@
 pub mod Answering
 pub mod Causes
 pub mod Counts
-pub mod Putting
-pub mod Cells
-pub mod Writing

@@ -8,26 +8,16 @@ use Rattle.ada_run.specs.Complaints.{Complaint}
 use Rattle.ada_run.specs.Lines.{line_of, IsLineOf}
 use Rattle.ada_run.specs.declared.refusal.Refusal.{Refusal}
 use Rattle.ada_run.specs.declared.refusal.Refusal.TheVariants as refusal
-use Rattle.ada_run.specs.Running.{Runs, values_of}
-use Rattle.ada_run.specs.declared.runner.RunEnd.{RunEnd}
-use Rattle.ada_run.specs.declared.runner.RunEnd.TheVariants as run_end
+use Rattle.ada_run.specs.Running.{Runs}
+use Rattle.run_reports.specs.Ends.{values_of}
+use Rattle.run_reports.specs.declared.ends.RunEnd.{RunEnd}
+use Rattle.run_reports.specs.declared.ends.RunEnd.TheVariants as run_end
 use Rattle.command_words.specs.Words.{Asked, Settings, asked}
 use Rattle.command_words.specs.declared.request.Mode.TheVariants as mode
-use Rattle.ada_cmd.specs.Lines.{ended, usage_line, unreadable_line, accepted_line, read_fault_line, write_fault_line, memory_line, spent_line, unhandled_line}
-use Rattle.ada_cmd.specs.Vars.{vars_lines}
-use Rattle.ada_cmd.specs.declared.status.Status.{Status}
-use Rattle.ada_cmd.specs.declared.status.Status.TheVariants as status
-
-abbrev pub number_of : Status → ℕ
-number_of status.Done = 0
-number_of status.Refused = 1
-number_of status.Usage = 2
-number_of status.ShelfFault = 3
-number_of status.Raised = 4
-number_of status.Spent = 5
-number_of status.ReadFault = 6
-number_of status.WriteFault = 7
-number_of status.OutOfMemory = 8
+use Rattle.run_reports.specs.Lines.{ended, usage_line, unreadable_line, accepted_line, read_fault_line, write_fault_line, memory_line, spent_line, unhandled_line}
+use Rattle.run_reports.specs.Vars.{vars_lines}
+use Rattle.run_reports.specs.declared.status.Status.{Status}
+use Rattle.run_reports.specs.declared.status.Status.TheVariants as status
 
 -- the devices around a call, as they are before it or after it
 pub record Devices : Type 0 where
@@ -44,17 +34,6 @@ pub record Outside : Type 0 where
 
 abbrev pub outside : Texts → Stream → Stream → Stream → Outside
 outside shelf input out err = record { shelf = shelf; devices = devices input out err }
-
--- the status comes with its line on err; where err fails in the line, the status is that of a write fault
-abbrev pub Says : Status → List ℕ → Status → Stream → Stream → Type 0
-Says due line given old new = ((given ≡ due) × Grows old new line) ⊎ ((given ≡ status.WriteFault) × Breaks old new line)
-
-abbrev pub SaysNoMemory : Status → Stream → Stream → Type 0
-SaysNoMemory given old new = Says status.OutOfMemory memory_line given old new
-
--- memory may run out before a line is there
-abbrev pub SaysOrLacks : Status → List ℕ → Status → Stream → Stream → Type 0
-SaysOrLacks due line given old new = Says due line given old new ⊎ SaysNoMemory given old new
 
 -- The work ends with these bytes on out: all of them, or a put failed, or memory ran out after some.
 pub data Closes (bytes : List ℕ) (given : Status) (out out' err err' : Stream) : Type 0 where

@@ -7,9 +7,10 @@ use Rattle.ada_run.specs.Compile.{IsAccepted}
 use Rattle.ada_run.specs.Compiled.{Compiled}
 use Rattle.command_words.specs.Words.{Asked, asked}
 use Rattle.command_words.specs.declared.request.Mode.TheVariants as mode
-use Rattle.ada_cmd.specs.Answer.{Answers, Devices, Outside, IsFetched, Untouched, number_of, setting_of}
-use Rattle.ada_cmd.specs.declared.status.Status.{Status}
-use Rattle.ada_cmd.specs.declared.status.Status.TheVariants as status
+use Rattle.ada_cmd.specs.Answer.{Answers, Devices, Outside, IsFetched, Untouched, setting_of}
+use Rattle.run_reports.specs.Says.{number_of}
+use Rattle.run_reports.specs.declared.status.Status.{Status}
+use Rattle.run_reports.specs.declared.status.Status.TheVariants as status
 
 -- the number of a status, with what became of the words
 abbrev pub Answered : Type 0 → List (List ℕ) → ℕ → Outside → Outside → Type 0

@@ -5,22 +5,21 @@ ghost use Rattle.ada_port.specs.Ports.{IsTold};
 ghost use Rattle.chunk_plan.specs.Plans.{HasNoZero};
 ghost use Rattle.ada_run.specs.Compile.{IsAccepted, IsRefusalOf};
 ghost use Rattle.ada_run.specs.Compiled.{compiled_of};
-ghost use Rattle.ada_run.specs.Running.{values_of};
+ghost use Rattle.run_reports.specs.Ends.{values_of};
 ghost use Rattle.command_words.specs.Answers.{asked_of, settings_of};
 ghost use Rattle.command_words.specs.Words.{Asked};
 ghost use Rattle.ada_cmd.specs.Answer.{AnswersFile, AnswersText, Closes, EndsBy, IsRefusedLine, RunsUnit, SaysRefusal, devices, outside};
-ghost use Rattle.ada_cmd.specs.Lines.{accepted_line};
-ghost use Rattle.ada_cmd.specs.Vars.{vars_lines};
+ghost use Rattle.run_reports.specs.Lines.{accepted_line};
+ghost use Rattle.run_reports.specs.Vars.{vars_lines};
 
-use crate::report::{
-    say, say_out_of_memory, say_raised, say_read_fault, say_spent, say_unreadable, say_write_fault,
-};
-use crate::status::Status;
-use crate::vars::{Unput, put_vars};
 use ada_port::{Pulse, Shelf, ShelfFault, Sink, Source};
 use ada_run::{Finals, Ran, Refusal, RunEnd, Unit, compile, execute};
 use chunk_plan::Setting;
 use command_words::{Mode, Request};
+use run_reports::{
+    Status, Unput, put_vars, say, say_out_of_memory, say_raised, say_read_fault, say_spent,
+    say_unreadable, say_write_fault,
+};
 use std::alloc::{AllocError, Global};
 use std::thread::Threads;
 
@@ -68,7 +67,7 @@ fn say_vars<O: Sink, E: Sink>(
 ) -> Status
     ensures { Closes (vars_lines unit.now.finals (values_of (compiled_of unit.now).program finals.now)) result (O.state out.old) (O.state out.new) (E.state err.old) (E.state err.new) }
 {
-    match put_vars(alloc, unit, finals, out) {
+    match put_vars(alloc, &unit.typed, &unit.finals, finals, out) {
         Ok(()) => Status::Done,
         Err(Unput::Failed) => say_write_fault(err),
         Err(Unput::OutOfMemory) => say_out_of_memory(err),

@@ -10,15 +10,16 @@ ghost use Rattle.ada_run.specs.Complaints.{Complaint};
 ghost use Rattle.ada_run.specs.Lines.{line_of};
 ghost use Rattle.command_words.specs.Words.{Asked, asked};
 ghost use Rattle.command_words.specs.declared.request.Mode.TheVariants as modes;
-ghost use Rattle.ada_cmd.specs.Answer.{Answers, Closes, RunsUnit, Says, SaysOrLacks, Untouched, devices, outside};
+ghost use Rattle.ada_cmd.specs.Answer.{Answers, Closes, RunsUnit, Untouched, devices, outside};
+ghost use Rattle.run_reports.specs.Says.{Says, SaysOrLacks};
 ghost use Rattle.ada_cmd.specs.Causes.{Answered, HasCheck, HasEnding, IsNotAccepted, Meets};
-ghost use Rattle.ada_cmd.specs.Lines.{accepted_line, ended, usage_line};
-ghost use Rattle.ada_cmd.specs.declared.status.Status.TheVariants as statuses;
+ghost use Rattle.run_reports.specs.Lines.{accepted_line, ended, usage_line};
+ghost use Rattle.run_reports.specs.declared.status.Status.TheVariants as statuses;
 
-use crate::report::{say_out_of_memory, say_usage};
 use crate::run::{Given, answer_request};
 use ada_port::{Pulse, Shelf, Sink, Source};
 use command_words::{WordsFault, read};
+use run_reports::{say_out_of_memory, say_usage};
 use std::alloc::Global;
 use std::thread::Threads;
 

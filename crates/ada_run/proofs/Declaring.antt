@@ -9,7 +9,7 @@ use Rattle.ada_typed.specs.declared.node.Node.{Node}
 use Rattle.ada_typed.specs.declared.statements.Decl.{Decl}
 use Rattle.ada_typed.specs.declared.statements.Decl.TheVariants as decl
 use Rattle.ada_run.specs.Compiled.{also_final, declared_variable, finals_behind}
-use Rattle.ada_run.specs.declared.unit.Final.{Final}
+use Rattle.run_reports.specs.declared.ends.Final.{Final}
 
 also_is : (t : Tokenized) (p : Program) (done : List Final) (at : ℕ → Part) (d : Option Decl) (rest : Decls) → finals_behind t p done (decl_of at d rest) ≡ finals_behind t p (also_final t p done (declared_variable d)) rest
 also_is t p done at None rest = refl

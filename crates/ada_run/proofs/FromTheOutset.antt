@@ -26,10 +26,11 @@ use Rattle.run_store.specs.Shows.{Image}
 use Rattle.run_store.specs.declared.ends.End.{End}
 use Rattle.run_store.specs.declared.ends.End.TheVariants as end
 use Rattle.run_store.specs.declared.ends.Leave.TheVariants as leave
-use Rattle.ada_run.specs.Running.{Causes, Comes, EndsAs, Runs, end_of, faults_of}
-use Rattle.ada_run.specs.declared.runner.Finals.{Finals}
-use Rattle.ada_run.specs.declared.runner.RunEnd.{RunEnd}
-use Rattle.ada_run.specs.declared.runner.RunEnd.TheVariants as run_end
+use Rattle.ada_run.specs.Running.{Causes, Comes, EndsAs, Runs, faults_of}
+use Rattle.run_reports.specs.Ends.{end_of}
+use Rattle.run_reports.specs.declared.ends.Finals.{Finals}
+use Rattle.run_reports.specs.declared.ends.RunEnd.{RunEnd}
+use Rattle.run_reports.specs.declared.ends.RunEnd.TheVariants as run_end
 
 rose_of : (i j : Stream) → Risen i.faults j.faults → Rose i j
 rose_of i j h = record { later = h.0; higher = h.1 }

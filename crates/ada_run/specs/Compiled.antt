@@ -11,7 +11,7 @@ use Rattle.ada_typed.specs.declared.statements.Decl.TheVariants as decl
 use Rattle.ada_typed.specs.declared.scalars.Class.{Class}
 use Rattle.ada_typed.specs.declared.scalars.Class.TheVariants as class
 use Rattle.ada_typed.specs.declared.scalars.Scalar.{Scalar}
-use Rattle.ada_run.specs.declared.unit.Final.{Final}
+use Rattle.run_reports.specs.declared.ends.Final.{Final}
 use Rattle.ada_run.specs.declared.unit.Unit.{Unit}
 
 -- the program; the variables of the main procedure's declarative part in order; the names of the declared exceptions

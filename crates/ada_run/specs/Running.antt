@@ -18,17 +18,13 @@ use Rattle.run_store.specs.Shows.{Image}
 use Rattle.run_store.specs.declared.ends.End.{End}
 use Rattle.run_store.specs.declared.ends.End.TheVariants as end
 use Rattle.run_store.specs.declared.ends.Leave.TheVariants as leave
-use Rattle.ada_run.specs.declared.runner.Finals.{Finals}
-use Rattle.ada_run.specs.declared.runner.RunEnd.{RunEnd}
-use Rattle.ada_run.specs.declared.runner.RunEnd.TheVariants as run_end
+use Rattle.run_reports.specs.declared.ends.Finals.{Finals}
+use Rattle.run_reports.specs.declared.ends.RunEnd.{RunEnd}
+use Rattle.run_reports.specs.declared.ends.RunEnd.TheVariants as run_end
 
 -- so far the threads of a construct are taken in order, as one worker does
 abbrev pub setting_of : plan.Setting → Setting
 setting_of s = record { plan = plan_of s.plan; one = true; limit = s.turns }
-
--- the values of the main procedure's variables
-abbrev pub values_of : Program → Finals → List (List ℤ)
-values_of p f = finals_of p f.kept f.declared
 
 -- the answer tells how the run ended, and what its variables were where it ended normally
 abbrev pub EndsAs : Program → ℕ → RunEnd → Outcome → Type 0
@@ -61,18 +57,6 @@ Causes _ input input' out out' = (input'.faults ≡ input.faults) × (out'.fault
 pub record Runs (Tells : Type 0) (p : Program) (set : Setting) (end : RunEnd) (input input' out out' : Stream) : Type 0 where
   pub causes : Causes end input input' out out'
   pub run : Tells → TellsOf p set end (bytes_of input) (bytes_of out) (bytes_of out')
-
--- the answer that an interpreter's end is, with what the variables were then; a main procedure isn't left by an exit or
--- a return
-abbrev pub end_of : Result (Unit {0}) End → ℕ → Finals → RunEnd
-end_of (Ok u) limit finals = run_end.Ended finals
-end_of (Err (end.Left (leave.Exits n))) limit finals = run_end.Ended finals
-end_of (Err (end.Left (leave.Returns v))) limit finals = run_end.Ended finals
-end_of (Err (end.Left (leave.Raises r))) limit finals = run_end.Raised r
-end_of (Err end.Spent) limit finals = run_end.TurnsSpent limit
-end_of (Err end.NoMemory) limit finals = run_end.NoMemory
-end_of (Err end.ReadFault) limit finals = run_end.ReadFault
-end_of (Err end.WriteFault) limit finals = run_end.WriteFault
 
 abbrev pub faults_of : Stream → Stream → Faults
 faults_of input out = record { input = input.faults; output = out.faults }

@@ -13,5 +13,6 @@ mod units;
 pub use compiler::{compile, one_answer};
 pub use note::Note;
 pub use refusal::Refusal;
-pub use runner::{Finals, Ran, RunEnd, execute};
-pub use unit::{Final, Unit};
+pub use run_reports::{Final, Finals, RunEnd};
+pub use runner::{Ran, execute};
+pub use unit::Unit;

@@ -4,36 +4,16 @@ ghost use Rattle.std.specs.Prelude.{◌≡◌};
 ghost use Rattle.ada_port.specs.Ports.{IsTold};
 ghost use Rattle.ada_typed.specs.Programs.{program};
 ghost use Rattle.chunk_plan.specs.Plans.{HasNoZero};
-ghost use Rattle.ada_run.specs.Running.{Comes, Runs, end_of, setting_of};
+ghost use Rattle.ada_run.specs.Running.{Comes, Runs, setting_of};
 
 use crate::unit::Unit;
-use ada_base::{Items, Reason};
 use ada_interpreter::{SoundPlan, Work, run};
-use ada_meaning::Variable;
 use ada_port::{Pulse, Sink, Source};
 use chunk_plan::Setting;
-use run_store::{End, Leave, Ports, Store};
+use run_reports::{Finals, RunEnd, end_of};
+use run_store::{Ports, Store};
 use std::alloc::Global;
 use std::thread::Threads;
-
-/// The values of the main procedure's variables at the end of a run: their cells, and which of the cells each has.
-#[derive(Drop)]
-pub struct Finals {
-    pub kept: Items<i64>,
-    pub declared: Items<Variable>,
-}
-
-/// How a run ended: normally, with the values of the main procedure's variables; by an exception that no handler took;
-/// by its turns, of which there are so many; or before its end, because the input or the output failed or memory ran out.
-#[derive(Drop)]
-pub enum RunEnd {
-    Ended(Finals),
-    Raised(Reason),
-    TurnsSpent(u64),
-    ReadFault,
-    WriteFault,
-    NoMemory,
-}
 
 /// A run's end, with its input and its output as it left them.
 #[derive(Drop)]
@@ -41,20 +21,6 @@ pub struct Ran<I: Source + Drop, O: Sink + Drop> {
     pub end: RunEnd,
     pub input: I,
     pub out: O,
-}
-
-fn end_of(how: Result<(), End>, limit: u64, finals: Finals) -> RunEnd
-    ensures { result ≡ end_of how limit finals }
-{
-    match how {
-        Ok(()) => RunEnd::Ended(finals),
-        Err(End::Left(Leave::Raises(reason))) => RunEnd::Raised(reason),
-        Err(End::Left(_)) => RunEnd::Ended(finals),
-        Err(End::Spent) => RunEnd::TurnsSpent(limit),
-        Err(End::NoMemory) => RunEnd::NoMemory,
-        Err(End::ReadFault) => RunEnd::ReadFault,
-        Err(End::WriteFault) => RunEnd::WriteFault,
-    }
 }
 
 fn run_from<I: Source + Drop, O: Sink + Drop>(

@@ -6,13 +6,7 @@ ghost use Rattle.ada_typed.specs.Programs.{program};
 
 use ada_base::Items;
 use ada_typed::Typed;
-
-/// A variable of the main procedure's declarative part: its name as declared, and which of its cells are Boolean.
-#[derive(Drop)]
-pub struct Final {
-    pub name: Items<u8>,
-    pub booleans: Items<bool>,
-}
+use run_reports::Final;
 
 /// What a text is compiled to: its typed program, in which no call breaks the rule on nonblocking text (9.5); the
 /// variables of the main procedure's declarative part, in order; and the names of the exceptions that it declares, by

@@ -8,7 +8,8 @@ ghost use Rattle.ada_typed.specs.Programs.{program};
 ghost use Rattle.ada_run.specs.Compiled.{also_final, compiled, compiled_of, declared_variable, exception_names, final_of, finals_behind, name_of, truths};
 
 use crate::shapes::truths_of;
-use crate::unit::{Final, Unit};
+use crate::unit::Unit;
+use run_reports::Final;
 use ada_base::{Items, Tokens};
 use ada_typed::{Decl, Declared, Typed};
 use std::alloc::{AllocError, Global};

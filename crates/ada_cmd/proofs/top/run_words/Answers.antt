@@ -1,8 +1,8 @@
 use Rattle.std.proofs.Common.{ap, ◌∙◌}
 use Rattle.ada_port.specs.Ports.{fetched}
 use Rattle.ada_run.proofs.RaceFree.{accepted_race_free}
-use Rattle.ada_cmd.specs.Answer.{number_of}
-use Rattle.ada_cmd.specs.declared.status.Status.TheVariants as status
+use Rattle.run_reports.specs.Says.{number_of}
+use Rattle.run_reports.specs.declared.status.Status.TheVariants as status
 use Rattle.ada_cmd.proofs.Causes as causes
 use Rattle.ada_cmd.proofs.Counts as counts
 use Rattle.ada_cmd.proofs.top.run_words.Goals as goal

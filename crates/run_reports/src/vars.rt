@@ -4,15 +4,15 @@ ghost use Rattle.std.specs.Prelude.{◌≡◌, ◌∷◌, ◌++◌, take, drop, 
 ghost use Rattle.ada_meaning.specs.Meaning.{object_layout};
 ghost use Rattle.ada_meaning.specs.Stored.{filled, final_of, finals_of};
 ghost use Rattle.ada_typed.specs.Programs.{program};
-ghost use Rattle.ada_run.specs.Running.{values_of};
-ghost use Rattle.ada_cmd.specs.Puts.{Puts};
-ghost use Rattle.ada_cmd.specs.Vars.{cell_text, cells_text, first_or_zero, vars_line, vars_lines};
+ghost use Rattle.run_reports.specs.Ends.{values_of};
+ghost use Rattle.run_reports.specs.Puts.{Puts};
+ghost use Rattle.run_reports.specs.Vars.{cell_text, cells_text, first_or_zero, vars_line, vars_lines};
 
+use crate::ends::{Final, Finals};
 use ada_base::Items;
 use ada_io::truth_image;
 use ada_meaning::Variable;
 use ada_port::Sink;
-use ada_run::{Final, Finals, Unit};
 use ada_typed::Typed;
 use run_store::{cells_of, is_true};
 use std::alloc::{AllocError, Global};
@@ -24,25 +24,26 @@ pub enum Unput {
     OutOfMemory,
 }
 
-/// Puts a line for each variable that was elaborated.
+/// Puts a line for each variable of the main procedure that was elaborated.
 pub fn put_vars<O: Sink>(
     alloc: Global,
-    unit: &Unit,
+    typed: &Typed,
+    variables: &Items<Final>,
     finals: &Finals,
     out: &mut O,
 ) -> Result<(), Unput>
-    ensures { Puts (vars_lines unit.now.finals (values_of (program unit.now.typed) finals.now)) result (O.state out.old) (O.state out.new) }
+    ensures { Puts (vars_lines variables.now (values_of (program typed.now) finals.now)) result (O.state out.old) (O.state out.new) }
 {
-    let n = unit.finals.len();
+    let n = variables.len();
     let mut i = 0;
     while i < n {
-        let Some(variable) = unit.finals.get(i) else {
+        let Some(variable) = variables.get(i) else {
             return Ok(());
         };
         let Some(place) = finals.declared.get(i) else {
             return Ok(());
         };
-        if let Err(fault) = put_line(alloc, unit, finals, variable, *place, out) {
+        if let Err(fault) = put_line(alloc, typed, finals, variable, *place, out) {
             return Err(fault);
         }
         i += 1;
@@ -52,15 +53,15 @@ pub fn put_vars<O: Sink>(
 
 fn put_line<O: Sink>(
     alloc: Global,
-    unit: &Unit,
+    typed: &Typed,
     finals: &Finals,
     variable: &Final,
     place: Variable,
     out: &mut O,
 ) -> Result<(), Unput>
-    ensures { Puts (vars_line variable.now (final_of (program unit.now.typed) finals.now.kept place)) result (O.state out.old) (O.state out.new) }
+    ensures { Puts (vars_line variable.now (final_of (program typed.now) finals.now.kept place)) result (O.state out.old) (O.state out.new) }
 {
-    let Ok(line) = line_of(alloc, &unit.typed, variable, place, finals.kept.as_slice()) else {
+    let Ok(line) = line_of(alloc, typed, variable, place, finals.kept.as_slice()) else {
         return Err(Unput::OutOfMemory);
     };
     match out.put(line.as_slice()) {

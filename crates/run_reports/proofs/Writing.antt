@@ -8,11 +8,11 @@ use Rattle.ada_port.specs.Ports.{Stream, Grows}
 use Rattle.ada_meaning.specs.Stored.{final_of, finals_of}
 use Rattle.ada_meaning.specs.declared.slots.Variable.{Variable}
 use Rattle.ada_typed.specs.Syntax.{Program}
-use Rattle.ada_run.specs.declared.unit.Final.{Final}
-use Rattle.ada_cmd.specs.Puts.{Puts, Putting}
-use Rattle.ada_cmd.specs.Vars.{vars_line, vars_lines}
-use Rattle.ada_cmd.specs.declared.vars.Unput.{Unput}
-use Rattle.ada_cmd.proofs.Putting.{put_more, put_done, put_stops}
+use Rattle.run_reports.specs.declared.ends.Final.{Final}
+use Rattle.run_reports.specs.Puts.{Puts, Putting}
+use Rattle.run_reports.specs.Vars.{vars_line, vars_lines}
+use Rattle.run_reports.specs.declared.vars.Unput.{Unput}
+use Rattle.run_reports.proofs.Putting.{put_more, put_done, put_stops}
 
 drop_get : {A : Type 0} (xs : List A) (i : ℕ) (x : A) → slice_get xs i ≡ Some x → drop i xs ≡ x ∷ drop (i + 1) xs
 drop_get xs i x e =

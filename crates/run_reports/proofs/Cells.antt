@@ -2,7 +2,7 @@
 use Rattle.std.proofs.Common.{◌≡◌, ℕ, suc, ◌+◌, ◌-◌, ◌<◌, ◌≤◌, ℤ, length, get_or, List, [], ◌∷◌, ◌++◌, drop, Bool, refl, sym, ap, ◌∙◌, arith, append_assoc}
 use Rattle.std.proofs.lemmas.List.{append-nil, drop_more}
 use Rattle.ada_meaning.specs.Stored.{filled}
-use Rattle.ada_cmd.specs.Vars.{cell_text, cells_text, first_or_zero}
+use Rattle.run_reports.specs.Vars.{cell_text, cells_text, first_or_zero}
 
 filled_more : (n : ℕ) (vs : List ℤ) → filled (suc n) vs ≡ first_or_zero vs ∷ filled n (drop 1 vs)
 filled_more n [] = refl

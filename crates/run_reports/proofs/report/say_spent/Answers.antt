@@ -1,7 +1,7 @@
 use Rattle.std.proofs.Common.{ℕ, List, inl, ◌∙◌, subst}
-use Rattle.ada_cmd.specs.Answer.{Says}
-use Rattle.ada_cmd.specs.declared.status.Status.TheVariants as status
-use Rattle.ada_cmd.proofs.report.say_spent.Goals as goal
+use Rattle.run_reports.specs.Says.{Says}
+use Rattle.run_reports.specs.declared.status.Status.TheVariants as status
+use Rattle.run_reports.proofs.report.say_spent.Goals as goal
 
 pub returns-in-Ok : goal.returns-in-Ok
 returns-in-Ok g c =

@@ -1,9 +1,9 @@
 //! The lines on err.
 
 ghost use Rattle.std.specs.Prelude.{◌≡◌, IfOk, slice_get, string_bytes};
-ghost use Rattle.ada_cmd.specs.Answer.{Says, SaysNoMemory, SaysOrLacks};
-ghost use Rattle.ada_cmd.specs.Lines.{exception_name, name_or_none, read_fault_line, spent_line, unhandled_line, unreadable_line, usage_line, write_fault_line};
-ghost use Rattle.ada_cmd.specs.declared.status.Status.TheVariants as statuses;
+ghost use Rattle.run_reports.specs.Says.{Says, SaysNoMemory, SaysOrLacks};
+ghost use Rattle.run_reports.specs.Lines.{exception_name, name_or_none, read_fault_line, spent_line, unhandled_line, unreadable_line, usage_line, write_fault_line};
+ghost use Rattle.run_reports.specs.declared.status.Status.TheVariants as statuses;
 
 use crate::status::Status;
 use ada_base::{Items, Reason};

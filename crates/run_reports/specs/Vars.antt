@@ -3,7 +3,7 @@ use Rattle.std.specs.Prelude.{ℕ, ℤ, pos, List, [], ◌∷◌, ◌++◌, code
 use Rattle.std.specs.Fmt.{signed_decimal}
 use Rattle.ada_base.specs.Image.{truth_image}
 use Rattle.ada_meaning.specs.Values.{truth}
-use Rattle.ada_run.specs.declared.unit.Final.{Final}
+use Rattle.run_reports.specs.declared.ends.Final.{Final}
 
 -- a scalar cell: in decimal, or `TRUE` or `FALSE` where it is Boolean
 abbrev pub cell_text : Bool → ℤ → List ℕ

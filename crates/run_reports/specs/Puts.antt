@@ -1,8 +1,8 @@
 -- What is put in several pieces.
 use Rattle.std.specs.Prelude.{◌≡◌, ◌++◌, List, ℕ, Result, Ok, Err}
 use Rattle.ada_port.specs.Ports.{Stream, Grows, GrowsByPrefix, Breaks}
-use Rattle.ada_cmd.specs.declared.vars.Unput.{Unput}
-use Rattle.ada_cmd.specs.declared.vars.Unput.TheVariants as unput
+use Rattle.run_reports.specs.declared.vars.Unput.{Unput}
+use Rattle.run_reports.specs.declared.vars.Unput.TheVariants as unput
 
 -- all of the bytes were put; or a put failed, or memory ran out, after some
 abbrev pub Puts : List ℕ → Result (Unit {0}) Unput → Stream → Stream → Type 0

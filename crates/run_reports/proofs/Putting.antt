@@ -3,9 +3,9 @@ use Rattle.std.proofs.Common.{ℕ, List, [], ◌++◌, Err, refl, sym, ◌∙◌
 use Rattle.std.proofs.lemmas.List.{append-nil}
 use Rattle.ada_port.proofs.Growth.{Grows-none, Grows-append, GrowsByPrefix-append, GrowsByPrefix-longer, Breaks-append, Breaks-longer}
 use Rattle.ada_port.specs.Ports.{Stream, Grows, GrowsByPrefix, Breaks}
-use Rattle.ada_cmd.specs.Puts.{Puts, Putting}
-use Rattle.ada_cmd.specs.declared.vars.Unput.{Unput}
-use Rattle.ada_cmd.specs.declared.vars.Unput.TheVariants as unput
+use Rattle.run_reports.specs.Puts.{Puts, Putting}
+use Rattle.run_reports.specs.declared.vars.Unput.{Unput}
+use Rattle.run_reports.specs.declared.vars.Unput.TheVariants as unput
 
 pub put_begun : (whole : List ℕ) (s : Stream) → Putting whole s s whole
 put_begun whole s = record { bytes = []; grown = Grows-none; parts = refl }

@@ -1,5 +1,5 @@
 ghost use Rattle.std.specs.Prelude.{◌≡◌};
-ghost use Rattle.ada_cmd.specs.Answer.{number_of};
+ghost use Rattle.run_reports.specs.Says.{number_of};
 
 /// How a call of the program ended.
 #[derive(Clone, Copy, Debug, PartialEq, Eq)]

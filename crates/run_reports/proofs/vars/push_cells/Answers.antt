@@ -1,6 +1,6 @@
 use Rattle.std.proofs.Common.{arith, drop, false}
-use Rattle.ada_cmd.proofs.Cells.{cells_next, cells_spent}
-use Rattle.ada_cmd.proofs.vars.push_cells.Goals as goal
+use Rattle.run_reports.proofs.Cells.{cells_next, cells_spent}
+use Rattle.run_reports.proofs.vars.push_cells.Goals as goal
 
 pub returns-then-left-eq0 : goal.returns-then-left-eq0
 returns-then-left-eq0 c = cells_spent c.loop-truth.line _ (drop c.loop-truth.truth-index c.args.booleans.now) c.loop-truth.left c.loop-truth.rest.now (omega (arith, c.if-left-eq0.true)) c.loop-truth.invariant

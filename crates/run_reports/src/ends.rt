@@ -1,0 +1,49 @@
+//! How a run ended, and the values of the main procedure's variables then.
+
+ghost use Rattle.std.specs.Prelude.{◌≡◌};
+ghost use Rattle.run_reports.specs.Ends.{end_of};
+
+use ada_base::{Items, Reason};
+use ada_meaning::Variable;
+use run_store::{End, Leave};
+
+/// A variable of the main procedure's declarative part: its name as declared, and which of its cells are Boolean.
+#[derive(Drop)]
+pub struct Final {
+    pub name: Items<u8>,
+    pub booleans: Items<bool>,
+}
+
+/// The values of the main procedure's variables at the end of a run: their cells, and which of the cells each has.
+#[derive(Drop)]
+pub struct Finals {
+    pub kept: Items<i64>,
+    pub declared: Items<Variable>,
+}
+
+/// How a run ended: normally, with the values of the main procedure's variables; by an exception that no handler took;
+/// by its turns, of which there are so many; or before its end, because the input or the output failed or memory ran out.
+#[derive(Drop)]
+pub enum RunEnd {
+    Ended(Finals),
+    Raised(Reason),
+    TurnsSpent(u64),
+    ReadFault,
+    WriteFault,
+    NoMemory,
+}
+
+/// The end of a run that an interpreter ended so, under a limit of turns, where the variables had these values then.
+pub fn end_of(how: Result<(), End>, limit: u64, finals: Finals) -> RunEnd
+    ensures { result ≡ end_of how limit finals }
+{
+    match how {
+        Ok(()) => RunEnd::Ended(finals),
+        Err(End::Left(Leave::Raises(reason))) => RunEnd::Raised(reason),
+        Err(End::Left(_)) => RunEnd::Ended(finals),
+        Err(End::Spent) => RunEnd::TurnsSpent(limit),
+        Err(End::NoMemory) => RunEnd::NoMemory,
+        Err(End::ReadFault) => RunEnd::ReadFault,
+        Err(End::WriteFault) => RunEnd::WriteFault,
+    }
+}
