@@ -1,9 +1,11 @@
-//! Reads rows from its input, each a text and what is to be said of it, compiles each text, and writes each row of which
-//! something else is said, and how many rows there were.
+//! Reads rows from its input, each a text and what is to be said of it, or a program and what is to come of it; compiles each
+//! text and runs each program, and writes each row of which something else comes, and how many rows there were.
 #![tactic(auto)]
 
+mod programs;
 mod rows;
 
+use programs::program_difference;
 use rows::{Row, row_of, said_of, text_of, wanted_of};
 use std::alloc::{AllocError, Global};
 use std::io;
@@ -25,10 +27,14 @@ fn main(rt: HostRuntime) -> io::Result<()> {
     let mut others: u64 = 0;
     for line in rows.lines() {
         count = count.saturating_add(1);
-        if let Some(said) = difference(alloc, &row_of(line))? {
+        let difference = match line.strip_prefix("R~") {
+            Some(fields) => program_difference(&rt, alloc, fields)?,
+            None => difference(alloc, &row_of(line))?,
+        };
+        if let Some(said) = difference {
             others = others.saturating_add(1);
             println!(rt; "{line}: {said}")?;
         }
     }
-    println!(rt; "{count} texts, {others} not as they should be")
+    println!(rt; "{count} rows, {others} not as they should be")
 }
