@@ -68,20 +68,21 @@ impl Reader {
     /// Reads an integer as Get does (A.10.8): blanks, a sign if there is one, and the longest run of digits with single
     /// underscores between them. What ends the run is held for the next Get. Each asking of the source takes a turn. Once
     /// the end was met the source isn't asked again. `ReadFault` comes only where the source's count of faults rose, and
-    /// `Spent` exactly where `turns_left` turns were taken and one more is needed; both leave what is held.
+    /// `Spent` exactly where `turns_left` turns were taken and one more is needed; both leave what is held. The bytes that
+    /// come are added to those that came before.
     pub fn get<S: Source>(&mut self, source: &mut S, turns_left: u64) -> Got
         ensures { Gets (S.state source.old) (S.state source.new) self.old self.new turns_left result }
     {
         let mut phase = Phase::Blanks;
-        let mut held = self.held;
+        let mut at = self.held;
         let mut took = 0;
         let mut came = 0;
         loop {
-            match look(held, source, turns_left, &mut took, &mut came, &mut self.log) {
+            match look(at, source, turns_left, &mut took, &mut came, &mut self.log) {
                 Looked::At(symbol) => match step(phase, symbol) {
                     Outcome::Asks(later) => {
                         phase = later;
-                        held = Holding::Nothing;
+                        at = Holding::Nothing;
                     }
                     Outcome::Gives(value) => {
                         self.held = Holding::Symbol(symbol);
