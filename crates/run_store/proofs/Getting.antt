@@ -1,5 +1,5 @@
 -- What ports of a source and a sink do; and a number that is read is the one of the stored run.
-use Rattle.std.proofs.Common.{◌≡◌, ◌⊎◌, inl, inr, ℕ, ◌+◌, ◌≤◌, ℤ, List, [], ◌++◌, length, drop, Option, Some, None, IsSome, Result, Ok, Err, Bool, true, false, true≢false, refl, sym, ap, subst, ◌∙◌, arith, append_assoc}
+use Rattle.std.proofs.Common.{◌≡◌, ◌⊎◌, inl, inr, ℕ, ◌+◌, ◌≤◌, ℤ, List, [], ◌++◌, length, drop, Option, Some, None, IsSome, Result, Ok, Err, IsErr, Bool, true, false, true≢false, refl, sym, ap, subst, ◌∙◌, arith, append_assoc}
 use Rattle.std.proofs.Math.Seq.{drop-append_seam}
 use Rattle.std.proofs.lemmas.List.{append-nil}
 use Rattle.ada_base.specs.Cuts.{One, cuts_of}
@@ -144,8 +144,9 @@ module _ (source begun old new : Stream) (reader : ReaderState) (pieces : List �
     pub port_puts : (piece : List ℕ) → Puts {T = Unit {0}} old new piece (Ok tt) → HasPut (MayBe InTells) piece (Ok tt) (opened reader source begun old pieces) (opened reader source begun new (pieces ++ piece))
     port_puts piece p = (ap (λ n. record { input = source.faults; output = n }) p.faults, may_still (pieces ++ piece), refl, refl, refl, grown piece p)
 
-    pub port_breaks : (piece : List ℕ) (e : Failed) → Puts {T = Unit {0}} old new piece (Err e) → HasPut (MayBe InTells) piece (Err e) (opened reader source begun old pieces) (opened reader source begun new pieces)
-    port_breaks piece e p = ((refl, (p.rose.later, p.rose.higher)), may_still pieces, refl, refl, refl, broken piece e p)
+    pub port_breaks : (piece : List ℕ) (e : Failed) (r : Result (Unit {0}) Failed) → Puts {T = Unit {0}} old new piece (Err e) → IsErr r → HasPut (MayBe InTells) piece r (opened reader source begun old pieces) (opened reader source begun new pieces)
+    port_breaks piece e (Ok u) p is = cc
+    port_breaks piece e (Err f) p is = ((refl, (p.rose.later, p.rose.higher)), may_still pieces, refl, refl, refl, broken piece e p)
 
 -- what ports leave
 pub port_leaves : {OutTells : Type 0} (source begun sink : Stream) (reader : ReaderState) (pieces : List ℕ) → (OutTells → IsTold begun) → Leaves OutTells (opened reader source begun sink pieces) source sink
