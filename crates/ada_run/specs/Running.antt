@@ -1,5 +1,5 @@
 -- How a unit ran: which run an answer tells of, and which devices failed.
-use Rattle.std.specs.Prelude.{◌≡◌, ℕ, ℤ, List, ◌++◌, Bool, true, Result, Ok, Err}
+use Rattle.std.specs.Prelude.{◌≡◌, ℕ, ℤ, List, [], ◌++◌, drop, Bool, true, Result, Ok, Err}
 use Rattle.ada_meaning.specs.Law as law
 use Rattle.ada_meaning.specs.Law.{EndsItself, IsPermitted, IsPlan, Outcome}
 use Rattle.ada_meaning.specs.Nonblocking.{KeepsRule}
@@ -13,8 +13,8 @@ use Rattle.ada_typed.specs.Syntax.{Program}
 use Rattle.chunk_plan.specs.Plans.{plan_of}
 use Rattle.chunk_plan.specs.declared.plan.Setting as plan
 use Rattle.run_parts.specs.declared.work.Work.{Work}
-use Rattle.run_store.specs.Outside.{Faults}
-use Rattle.run_store.specs.Shows.{Image}
+use Rattle.run_store.specs.Outside.{Faults, MayBe}
+use Rattle.run_store.specs.Shows.{Image, outside_of}
 use Rattle.run_store.specs.declared.ends.End.{End}
 use Rattle.run_store.specs.declared.ends.End.TheVariants as end
 use Rattle.run_store.specs.declared.ends.Leave.TheVariants as leave
@@ -35,16 +35,17 @@ EndsAs p limit run_end.ReadFault o = o.ending ≡ law.ReadFault
 EndsAs p limit run_end.WriteFault o = o.ending ≡ law.WriteFault
 EndsAs p limit run_end.NoMemory o = o.ending ≡ law.NoMemory
 
--- The answer tells of a run that is permitted under the setting on these bytes of input, and what was put before is
--- followed by its output. Where that run ended by itself and the sequential run is calm (it ends within the limit,
--- normally or by an exception, leaves no parallel construct early, and its parallel reductions are listed ones without
--- partial overflow), it is that run.
-pub record TellsOf (p : Program) (set : Setting) (end : RunEnd) (input before now : List ℕ) : Type 0 where
+-- The answer tells of a run that is permitted under the setting on these bytes of input. Where the input tells, what is left
+-- of it is what that run didn't take; where the output tells, what was put before is followed by that run's output. Where the
+-- run ended by itself and the sequential run is calm (it ends within the limit, normally or by an exception, leaves no
+-- parallel construct early, and its parallel reductions are listed ones without partial overflow), it is that run.
+pub record TellsOf (InTells OutTells : Type 0) (p : Program) (set : Setting) (end : RunEnd) (input rest before now : List ℕ) : Type 0 where
   pub outcome : Outcome
   pub early : Bool
   pub permitted : IsPermitted p set input early outcome
   pub ends : EndsAs p set.limit end outcome
-  pub output : now ≡ before ++ outcome.output
+  pub left : InTells → rest ≡ drop outcome.taken input
+  pub output : OutTells → now ≡ before ++ outcome.output
   pub calm : IsCalm (sequential p set.limit (input_of input)) → EndsItself outcome.ending → outcome ≡ law.outcome_of p input (sequential p set.limit (input_of input))
 
 -- a fault of a device is answered where its count rose, and nowhere else
@@ -53,16 +54,18 @@ Causes run_end.ReadFault input input' out out' = Rose input input' × (out'.faul
 Causes run_end.WriteFault input input' out out' = (input'.faults ≡ input.faults) × Rose out out'
 Causes _ input input' out out' = (input'.faults ≡ input.faults) × (out'.faults ≡ out.faults)
 
--- A run: where the input and the output tell, the answer tells of a permitted one.
-pub record Runs (Tells : Type 0) (p : Program) (set : Setting) (end : RunEnd) (input input' out out' : Stream) : Type 0 where
+-- A run: the answer tells of one that is permitted on some input, which is what the input tells, where it tells.
+pub record Runs (InTells OutTells : Type 0) (p : Program) (set : Setting) (end : RunEnd) (input input' out out' : Stream) : Type 0 where
   pub causes : Causes end input input' out out'
-  pub run : Tells → TellsOf p set end (bytes_of input) (bytes_of out) (bytes_of out')
+  pub on : List ℕ
+  pub told : InTells → on ≡ bytes_of input
+  pub run : TellsOf InTells OutTells p set end on (bytes_of input') (bytes_of out) (bytes_of out')
 
 abbrev pub faults_of : Stream → Stream → Faults
 faults_of input out = record { input = input.faults; output = out.faults }
 
 -- what became of a run from a state on, where the devices are now
-pub record Comes (Tells : Type 0) (w : Work) (end : RunEnd) (s : Image) (input out : Stream) : Type 0 where
+pub record Comes (InTells OutTells : Type 0) (w : Work) (end : RunEnd) (s : Image) (input out : Stream) : Type 0 where
   pub causes : (i o : Stream) → s.faults ≡ faults_of i o → Causes end i input o out
-  pub run : Tells → KeepsRule (program w.typed.now) → IsPlan w.plan.now → (slots : ℕ) → s.state ≡ outset slots s.state.input s.state.output
-      → TellsOf (program w.typed.now) (interpreter.setting_of w) end s.state.input s.state.output (bytes_of out)
+  pub run : KeepsRule (program w.typed.now) → IsPlan w.plan.now → (slots : ℕ) → s.state ≡ outset slots [] s.state.output
+      → (on : List ℕ) × (MayBe InTells on (outside_of s) × TellsOf InTells OutTells (program w.typed.now) (interpreter.setting_of w) end on (bytes_of input) s.state.output (bytes_of out))
