@@ -18,7 +18,7 @@ use Rattle.run_store.specs.Shows.{Image, outside_of}
 use Rattle.run_store.specs.declared.ends.End.{End}
 use Rattle.run_store.specs.declared.ends.End.TheVariants as end
 use Rattle.run_store.specs.declared.ends.Leave.TheVariants as leave
-use Rattle.run_reports.specs.declared.ends.Finals.{Finals}
+use Rattle.run_reports.specs.Ends.{values_of}
 use Rattle.run_reports.specs.declared.ends.RunEnd.{RunEnd}
 use Rattle.run_reports.specs.declared.ends.RunEnd.TheVariants as run_end
 
