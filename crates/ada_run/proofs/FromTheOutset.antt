@@ -3,7 +3,6 @@ use Rattle.std.proofs.Common.{◌≡◌, ◌<◌, ℕ, suc, arith, List, [], ◌
 use Rattle.std.specs.Prelude.{All}
 use Rattle.std.proofs.Math.Seq.{drop-append_seam}
 use Rattle.ada_base.specs.Cuts.{Plan}
-use Rattle.ada_io.specs.Gets.{met_end}
 use Rattle.ada_meaning.proofs.Law.{one_sequential_law}
 use Rattle.ada_meaning.specs.Law.{EachPositive, EndsItself, IsPermitted, IsPlan, Outcome}
 use Rattle.ada_meaning.specs.Law as law
@@ -71,14 +70,14 @@ calm_comes : (p : Program) (set : Setting) (input : List ℕ) (early : Bool) (o 
     → IsCalm (sequential p set.limit (input_of input)) → EndsItself o.ending → o ≡ law.outcome_of p input (sequential p set.limit (input_of input))
 calm_comes p set input early o rule sound one permitted calm itself = (one_sequential_law p set input rule sound one calm).0 early o permitted itself
 
--- what is left of an input that may be the whole one
-left_over : (InTells : Type 0) (o : Outside) (w : List ℕ) → (InTells → met_end o.held ≡ true → o.coming ≡ []) → MayBe InTells w o → InTells → o.coming ≡ drop (length o.came) w
+-- what a source that tells has left of an input that may be the whole one
+left_over : {InTells OutTells : Type 0} (o : Outside) (j q : Stream) (w : List ℕ) → Leaves InTells OutTells o j q → MayBe InTells w o → InTells → bytes_of j ≡ drop (length o.came) w
 unfolding MayBe
-left_over InTells o w over k told = sym (ap (drop (length o.came)) k.1.0 ∙ drop-append_seam o.came k.0 ∙ go (met_end o.held) refl)
+left_over o j q w left k told = left.coming ∙ sym (ap (drop (length o.came)) k.1.0 ∙ drop-append_seam o.came k.0 ∙ go _ k.1.1.0 (k.1.1.1 told) (left.over told))
   where
-    go : (b : Bool) → met_end o.held ≡ b → k.0 ≡ o.coming
-    go true e = k.1.1.0 e ∙ sym (over told e)
-    go false e = k.1.1.1 told e
+    go : (over : Bool) → (over ≡ true → k.0 ≡ []) → (over ≡ false → k.0 ≡ o.coming) → (over ≡ true → o.coming ≡ []) → k.0 ≡ o.coming
+    go true none follows left = none refl ∙ sym (left refl)
+    go false none follows left = follows refl
 
 ran_comes : {InTells OutTells : Type 0} (w : Work) (r : Result (Unit {0}) End) (s t : Image) (f : Finals) (j q : Stream) → IsRun (MayBe InTells) w r s t → f.kept ≡ t.state.kept → f.declared ≡ t.state.declared
     → t.state.taken ≡ length t.state.input → Leaves InTells OutTells (outside_of t) j q → Comes InTells OutTells w (end_of r w.limit f) s j q
@@ -86,8 +85,7 @@ ran_comes {InTells} w r s t f j q is k d taken left = record {
   causes = λ i o same. causes_of r w.limit f i j o q (subst (λ (x : Faults). shows.Causes r x (faults_of j q)) same (subst (λ (x : Faults). shows.Causes r s.faults x) (sym (faults_left (outside_of t) j q left)) is.cause));
   run = λ rule sound slots begun.
       let some = some_input InTells (outside_of t) in
-      let both = is.permitted some.0 some.1 rule slots begun in
-      (
+      let both = is.permitted some.0 some.1 rule slots begun in (
         some.0,
         (
           is.back some.0 some.1,
@@ -96,7 +94,7 @@ ran_comes {InTells} w r s t f j q is k d taken left = record {
             early = both.1.0;
             permitted = both.1.1;
             ends = ends_as (program w.typed.now) s.state.output w.limit r t f k d;
-            left = λ told. left.coming ∙ left_over InTells (outside_of t) some.0 left.over some.1 told ∙ ap (λ n. drop n some.0) (sym taken);
+            left = λ told. left_over (outside_of t) j q some.0 left some.1 told ∙ ap (λ n. drop n some.0) (sym taken);
             output = λ told. left.put told ∙ both.0;
             calm = calm_comes (program w.typed.now) (setting_of w) some.0 both.1.0 (outcome_of (program w.typed.now) s.state.output (answer_of r) t.state) rule sound refl both.1.1;
           },
