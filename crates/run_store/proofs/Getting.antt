@@ -1,5 +1,5 @@
 -- What ports of a source and a sink do; and a number that is read is the one of the stored run.
-use Rattle.std.proofs.Common.{◌≡◌, ◌⊎◌, inl, inr, ℕ, ◌+◌, ◌≤◌, ℤ, List, [], ◌++◌, length, drop, Option, Some, None, IsSome, Result, Ok, Err, IsErr, Bool, true, false, true≢false, refl, sym, ap, subst, ◌∙◌, arith, append_assoc}
+use Rattle.std.proofs.Common.{◌≡◌, ◌⊎◌, inl, inr, ℕ, ◌+◌, ◌≤◌, ℤ, List, [], ◌++◌, length, drop, Option, Some, None, IsSome, Result, Ok, Err, IsErr, Bool, true, false, true≢false, refl, sym, ap, subst, ◌∙◌, arith, append_assoc, length-append}
 use Rattle.std.proofs.Math.Seq.{drop-append_seam}
 use Rattle.std.proofs.lemmas.List.{append-nil}
 use Rattle.ada_base.specs.Cuts.{One, cuts_of}
@@ -81,6 +81,14 @@ module _ (old new begun sink : Stream) (pieces : List ℕ) (before after : Reade
     unfolding MayBe
     fits w k = record { more = k.0; whole = k.1.0; none = k.1.1.0 }
 
+    -- a source that told its end has nothing left, and gives nothing more
+    pub still_over : (met_end before.held ≡ true → bytes_of old ≡ []) → InTells → met_end after.held ≡ true → bytes_of new ≡ []
+    still_over over told e = go (g.meets e)
+      where
+        go : (met_end before.held ≡ true) ⊎ (last_of r.end g.ended ≡ AtEnd) → bytes_of new ≡ []
+        go (inl was) = ap (λ bs. bs ++ bytes_of new) (sym (g.kept was).0) ∙ sym (left_before old new (last_of r.end g.ended) g.bytes g.gave (telling told)) ∙ over was
+        go (inr at) = left_at_end old new (last_of r.end g.ended) g.bytes g.gave (telling told) at
+
     pub port_gets : HasGot (MayBe InTells) turns r from to
     port_gets = record {
       cause = get_cause r.end g.ended g.bytes g.gave;
@@ -148,8 +156,8 @@ module _ (source begun old new : Stream) (reader : ReaderState) (pieces : List �
     port_breaks piece e (Err f) p is = ((refl, (p.rose.later, p.rose.higher)), may_still pieces, refl, refl, refl, broken piece e p)
 
 -- what ports leave
-pub port_leaves : {OutTells : Type 0} (source begun sink : Stream) (reader : ReaderState) (pieces : List ℕ) → (OutTells → IsTold begun) → Leaves OutTells (opened reader source begun sink pieces) source sink
-port_leaves source begun sink reader pieces told = record { coming = refl; put = λ t. go begun.told (told t); input = refl; output = refl }
+pub port_leaves : {InTells OutTells : Type 0} (source begun sink : Stream) (reader : ReaderState) (pieces : List ℕ) → (InTells → met_end reader.held ≡ true → bytes_of source ≡ []) → (OutTells → IsTold begun) → Leaves InTells OutTells (opened reader source begun sink pieces) source sink
+port_leaves source begun sink reader pieces over told = record { coming = refl; over = over; put = λ t. go begun.told (told t); input = refl; output = refl }
   where
     go : (x : Option (List ℕ)) → IsSome x → bytes_of sink ≡ put_of x sink.told pieces
     go None t = cc
@@ -174,8 +182,8 @@ rest_of Open after more h none = tt
 rest_of AtEnd after more h none = none h
 rest_of Broken after more h none = tt
 
-pub get_shows : {Tells : List ℕ → Outside → Type 0} (limit left : ℕ) (s : Image) (o : Outside) (r : Got) → s.state.turns + left ≡ limit → HasGot Tells left r (outside_of s) o → Shows Tells (got limit) (number_of r.end) s (read_to s r o)
-get_shows {Tells = Tells} limit left s o r e h = (causes_as r.end s.faults o.faults h.cause, h.keeps, λ w told. shown w (h.follows w told) h.came)
+pub get_shows : {Tells : List ℕ → Outside → Type 0} (limit left : ℕ) (s : Image) (o : Outside) (r : Got) → s.state.taken ≡ length s.state.input → s.state.turns + left ≡ limit → HasGot Tells left r (outside_of s) o → Shows Tells (got limit) (number_of r.end) s (read_to s r o)
+get_shows {Tells = Tells} limit left s o r counted e h = (causes_as r.end s.faults o.faults h.cause, h.keeps, λ w told. shown w (h.follows w told) h.came)
   where
     shown : (w : List ℕ) → Follows w o → Came left r (outside_of s) o → Answers (λ a. a) (got limit) (number_of r.end) (facing w s.state) (facing w (read_to s r o).state)
     shown w f c =
@@ -184,8 +192,10 @@ get_shows {Tells = Tells} limit left s o r e h = (causes_as r.end s.faults o.fau
         let after : ReaderState = record { held = o.held; came = o.came } in
         let front : drop (length s.state.input) w ≡ g.bytes ++ f.more = ap (drop (length s.state.input)) (f.whole ∙ ap (λ bs. bs ++ f.more) g.log ∙ append_assoc s.state.input g.bytes f.more) ∙ drop-append_seam s.state.input (g.bytes ++ f.more) in
         let over : drop (length o.came) w ≡ f.more = ap (drop (length o.came)) f.whole ∙ drop-append_seam o.came f.more in
+        let taken : s.state.taken + r.came ≡ length o.came = ap (λ n. n + r.came) counted ∙ ap (λ n. length s.state.input + n) g.came ∙ sym (length-append s.state.input g.bytes) ∙ ap length (sym g.log) in
         let ends : IsRest 0 (cuts_of One) (last_of r.end g.ended) f.more = rest_of (last_of r.end g.ended) o.held f.more g.ends f.none in
         let c = stored_get limit (cuts_of One) c.old c.new before after left r g (facing w s.state) f.more refl e front ends in
         let d = subst (λ bs. Computes (got limit) (facing w s.state) (end_of 0 (cuts_of One) r.end) (record (s.state) { held = o.held; input = f.more; turns = s.state.turns + r.took; taken = s.state.taken + r.came; output = bs })) (sym h.put) c in
         let d = subst (λ bs. Computes (got limit) (facing w s.state) (end_of 0 (cuts_of One) r.end) (record (s.state) { held = o.held; input = bs; turns = s.state.turns + r.took; taken = s.state.taken + r.came; output = o.put })) (sym over) d in
+        let d = subst (λ n. Computes (got limit) (facing w s.state) (end_of 0 (cuts_of One) r.end) (record (s.state) { held = o.held; input = drop (length o.came) w; turns = s.state.turns + r.took; taken = n; output = o.put })) taken d in
         shows_as (got limit) r.end (facing w s.state) (facing w (read_to s r o).state) d

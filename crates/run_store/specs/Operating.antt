@@ -1,5 +1,5 @@
 -- Operators, as code goes through them.
-use Rattle.std.specs.Prelude.{ℕ, ◌+◌, ℤ, Result, Ok, Err}
+use Rattle.std.specs.Prelude.{ℕ, ◌+◌, ℤ, length, Result, Ok, Err}
 use Rattle.ada_typed.specs.declared.scalars.Class.{Class}
 use Rattle.ada_typed.specs.declared.expressions.Sign.{Sign}
 use Rattle.ada_meaning.specs.Values.{unary}
@@ -32,12 +32,12 @@ number_of (get.Raise r) = Err (end.Left (leave.Raises r))
 number_of get.ReadFault = Err end.ReadFault
 number_of get.Spent = Err end.Spent
 
--- the run after a number was read
+-- the run after a number was read; what was taken is what came
 abbrev pub read_to : Image → Got → Outside → Image
-read_to s got o = record { state = record (s.state) { held = o.held; input = o.came; turns = s.state.turns + got.took; taken = s.state.taken + got.came; output = o.put }; coming = o.coming; faults = o.faults }
+read_to s got o = record { state = record (s.state) { held = o.held; input = o.came; turns = s.state.turns + got.took; taken = length o.came; output = o.put }; coming = o.coming; faults = o.faults }
 
 -- ---- the beginning
 
 -- where a run begins, with so many slots and this outside
 abbrev pub begins_at : ℕ → Outside → Image
-begins_at slots o = record { state = record (outset slots o.came o.put) { held = o.held }; coming = o.coming; faults = o.faults }
+begins_at slots o = record { state = record (outset slots o.came o.put) { held = o.held; taken = length o.came }; coming = o.coming; faults = o.faults }

@@ -41,9 +41,10 @@ opened reader source begun sink pieces = record {
 abbrev pub fresh : Stream → Stream → Outside
 fresh source sink = record { held = Nothing; came = []; coming = bytes_of source; put = bytes_of sink; faults = record { input = source.faults; output = sink.faults } }
 
--- the streams that an outside leaves, where such sinks tell
-pub record Leaves (OutTells : Type 0) (o : Outside) (source sink : Stream) : Type 0 where
+-- the streams that an outside leaves, where such sources and such sinks tell; a source that told its end has nothing left
+pub record Leaves (InTells OutTells : Type 0) (o : Outside) (source sink : Stream) : Type 0 where
   pub coming : bytes_of source ≡ o.coming
+  pub over : InTells → met_end o.held ≡ true → o.coming ≡ []
   pub put : OutTells → bytes_of sink ≡ o.put
   pub input : source.faults ≡ o.faults.input
   pub output : sink.faults ≡ o.faults.output

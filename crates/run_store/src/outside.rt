@@ -38,15 +38,17 @@ pub struct Ports<In: Source + Drop, Out: Sink + Drop> {
 }
 
 impl<In: Source + Drop, Out: Sink + Drop> Model for Ports<In, Out> {
-    ghost use Rattle.ada_port.specs.Ports.{IsTold};
+    ghost use Rattle.std.specs.Prelude.{◌≡◌, [], true};
+    ghost use Rattle.ada_io.specs.Gets.{met_end};
+    ghost use Rattle.ada_port.specs.Ports.{IsTold, bytes_of};
     ghost use Rattle.run_store.specs.Outside.{Outside, opened};
 
     ghost Value = { Outside };
 
     ghost view = { λ p. opened p.reader (In.state p.source) (Out.state p.begun.value) (Out.state p.sink) p.pieces.bytes };
 
-    // a sink that told what it held tells it still
-    ghost invariant = { λ p. IsTold (Out.state p.begun.value) → IsTold (Out.state p.sink) };
+    // a sink that told what it held tells it still, and a source that told its end has nothing left
+    ghost invariant = { λ p. (IsTold (Out.state p.begun.value) → IsTold (Out.state p.sink)) × (((s : In) → IsTold (In.state s)) → met_end p.reader.held ≡ true → bytes_of (In.state p.source) ≡ []) };
 }
 
 impl<In: Source + Drop, Out: Sink + Drop> Port for Ports<In, Out> {
@@ -85,7 +87,7 @@ impl<In: Source + Drop, Out: Sink + Drop> Ports<In, Out> {
 
     /// The source and the sink, where the run left them.
     pub fn into_parts(self) -> (In, Out)
-        ensures { Leaves ((s : Out) → IsTold (Out.state s)) self (In.state result.0) (Out.state result.1) }
+        ensures { Leaves ((s : In) → IsTold (In.state s)) ((s : Out) → IsTold (Out.state s)) self (In.state result.0) (Out.state result.1) }
     {
         (self.source, self.sink)
     }

@@ -23,17 +23,17 @@ pub struct Store<P: Port + Drop> {
     everywhere: Items<Slot>,
     frame: u64,
     turns: u64,
-    taken: u64,
     declared: Items<Variable>,
     port: P,
 }
 
 impl<P: Port + Drop> Model for Store<P> {
+    ghost use Rattle.std.specs.Prelude.{length};
     ghost use Rattle.run_store.specs.Shows.{Image};
 
     ghost Value = { Image };
 
-    ghost view = { λ s. record { state = record { cells = s.cells; kept = s.kept; here = s.here; everywhere = s.everywhere; frame = s.frame; turns = s.turns; taken = s.taken; held = (P.outside s.port).held; input = (P.outside s.port).came; output = (P.outside s.port).put; declared = s.declared }; coming = (P.outside s.port).coming; faults = (P.outside s.port).faults } };
+    ghost view = { λ s. record { state = record { cells = s.cells; kept = s.kept; here = s.here; everywhere = s.everywhere; frame = s.frame; turns = s.turns; taken = length (P.outside s.port).came; held = (P.outside s.port).held; input = (P.outside s.port).came; output = (P.outside s.port).put; declared = s.declared }; coming = (P.outside s.port).coming; faults = (P.outside s.port).faults } };
 }
 
 /// The slot at a key, or none.
@@ -84,7 +84,6 @@ impl<P: Port + Drop> Store<P> {
             everywhere,
             frame: 1,
             turns: 0,
-            taken: 0,
             declared: Items::new(alloc),
             port,
         })
@@ -98,9 +97,9 @@ impl<P: Port + Drop> Store<P> {
     }
 
     /// The outside as the run left it, the cells of what is visible everywhere, and the variables of the main procedure that
-    /// were elaborated, in order. It takes no memory.
+    /// were elaborated, in order. The bytes that were taken are those that came. It takes no memory.
     pub fn into_end(self) -> (P, Items<i64>, Items<Variable>)
-        ensures { (P.outside result.0 ≡ outside_of self) × (result.1 ≡ self.state.kept) × (result.2 ≡ self.state.declared) }
+        ensures { (P.outside result.0 ≡ outside_of self) × (result.1 ≡ self.state.kept) × (result.2 ≡ self.state.declared) × (self.state.taken ≡ length self.state.input) }
     {
         (self.port, self.kept, self.declared)
     }
@@ -178,12 +177,8 @@ impl<P: Port + Drop> Store<P> {
         let Some(left) = limit.checked_sub(self.turns) else {
             return Err(End::NoMemory);
         };
-        if self.taken.checked_add(left).is_none() {
-            return Err(End::NoMemory);
-        }
         let got = self.port.get(left);
         self.turns += got.took;
-        self.taken += got.came;
         number_of(got.end)
     }
 
