@@ -10,7 +10,7 @@ use Rattle.ada_cmd.specs.Lines.{ended}
 use Rattle.ada_cmd.specs.declared.status.Status.{Status}
 use Rattle.ada_cmd.specs.declared.status.Status.TheVariants as status
 
-pub refuses_text : {Tells : Type 0} (q : Asked) (text : List ℕ) (r : Refusal) (given : Status) (i o e e' : Stream) → IsRefusalOf text r → SaysRefusal q.file text r given e e' → AnswersText Tells q text given (devices i o e) (devices i o e')
+pub refuses_text : {InTells OutTells : Type 0} (q : Asked) (text : List ℕ) (r : Refusal) (given : Status) (i o e e' : Stream) → IsRefusalOf text r → SaysRefusal q.file text r given e e' → AnswersText InTells OutTells q text given (devices i o e) (devices i o e')
 refuses_text q text refusal.OutOfMemory given i o e e' is says = Lacks (record { input = refl; out = refl }) says
 refuses_text q text (refusal.Refused code at other note) given i o e e' is (inr lacks) = Lacks (record { input = refl; out = refl }) lacks
 refuses_text q text (refusal.Refused code at other note) given i o e e' is (inl (whole, (line, (fault, is_fault, same, line_is), ended_is), says)) =

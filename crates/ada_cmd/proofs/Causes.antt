@@ -44,8 +44,8 @@ closes_cause C bytes given o o' e e' err_rose out_rose lack own (Whole is grown 
 closes_cause C bytes given o o' e e' err_rose out_rose lack own (OutFailed broke says) = says_cause C status.WriteFault given _ e e' err_rose (out_rose broke.rose) says
 closes_cause C bytes given o o' e e' err_rose out_rose lack own (Lacked front says) = says_cause C status.OutOfMemory given _ e e' err_rose lack says
 
-module _ (Tells : Type 0) (words : List (List ℕ)) (before now : Outside) where
-  err_fault : Rose before.devices.err now.devices.err → Cause Tells words before now status.WriteFault
+module _ (InTells OutTells : Type 0) (words : List (List ℕ)) (before now : Outside) where
+  err_fault : Rose before.devices.err now.devices.err → Cause InTells words before now status.WriteFault
   err_fault rose = inr rose
 
   module _ (q : Asked) (text : List ℕ) (asks : asked words ≡ Some q) (has : IsFetched (before.shelf.told q.file) text) where
@@ -53,56 +53,61 @@ module _ (Tells : Type 0) (words : List (List ℕ)) (before now : Outside) where
     asks_for c accepted = record { asks = asks; text = text; has = has; accepted = accepted }
 
     -- the run's outcome has the ending that the answer tells
-    may_end : (c : Compiled) (end : RunEnd) (ending : Ending) (left : Stream) → running.Runs Tells c.program (setting_of q.settings) end before.devices.input now.devices.input before.devices.out left
-        → ((o : law.Outcome) → running.EndsAs c.program q.settings.turns end o → o.ending ≡ ending) → MayEnd Tells q c before.devices ending
-    may_end c end ending left runs gives = λ told. let r = runs.run told in (r.outcome, (r.early, r.permitted, gives r.outcome r.ends))
+    may_end : (c : Compiled) (end : RunEnd) (ending : Ending) (left : Stream) → running.Runs InTells OutTells c.program (setting_of q.settings) end before.devices.input now.devices.input before.devices.out left
+        → ((o : law.Outcome) → running.EndsAs c.program q.settings.turns end o → o.ending ≡ ending) → MayEnd InTells q c before.devices ending
+    may_end c end ending left runs gives = let r = runs.run in (runs.on, (runs.told, (r.outcome, (r.early, r.permitted, gives r.outcome r.ends))))
 
-    run_cause : (given : Status) (c : Compiled) (vars : Bool) (end : RunEnd) (left : Stream) → IsAccepted text c → q.mode ≡ mode.Run → running.Runs Tells c.program (setting_of q.settings) end before.devices.input now.devices.input before.devices.out left
-        → EndsBy c vars end given left now.devices.out before.devices.err now.devices.err → Cause Tells words before now given
-    run_cause given c true (run_end.Ended finals) left accepted runs_it runs ends =
-        closes_cause (λ s. Cause Tells words before now s) _ given left now.devices.out before.devices.err now.devices.err err_fault (λ rose. inl (out_rose rose)) tt
-        (inr (q, c, asks_for c accepted, runs_it, may_end c (run_end.Ended finals) law.Ended left runs (λ o h. h.0))) ends
+    run_cause : (given : Status) (c : Compiled) (vars : Bool) (end : RunEnd) (left : Stream) → IsAccepted text c → q.mode ≡ mode.Run → q.vars ≡ vars
+        → running.Runs InTells OutTells c.program (setting_of q.settings) end before.devices.input now.devices.input before.devices.out left
+        → EndsBy c vars end given left now.devices.out before.devices.err now.devices.err → Cause InTells words before now given
+    run_cause given c true (run_end.Ended finals) left accepted runs_it asks_vars runs ends =
+        closes_cause (λ s. Cause InTells words before now s) _ given left now.devices.out before.devices.err now.devices.err err_fault
+        (λ rose. inl (inr (inl (q, c, asks_for c accepted, runs_it, asks_vars, ended)), out_rose rose)) tt (inr (q, c, asks_for c accepted, runs_it, ended)) ends
       where
+        ended : MayEnd InTells q c before.devices law.Ended
+        ended = may_end c (run_end.Ended finals) law.Ended left runs (λ o h. h.0)
+
         out_rose : Rose left now.devices.out → Rose before.devices.out now.devices.out
         out_rose rose = Rose-after_same runs.causes.1 rose
-    run_cause given c false (run_end.Ended finals) left accepted runs_it runs ends =
-        subst (λ s. Cause Tells words before now s) (sym ends.0) (inr (q, c, asks_for c accepted, runs_it, may_end c (run_end.Ended finals) law.Ended left runs (λ o h. h.0)))
-    run_cause given c vars (run_end.Raised why) left accepted runs_it runs ends =
-        or_lacks_cause (λ s. Cause Tells words before now s) status.Raised given _ before.devices.err now.devices.err err_fault tt
+    run_cause given c false (run_end.Ended finals) left accepted runs_it asks_vars runs ends =
+        subst (λ s. Cause InTells words before now s) (sym ends.0) (inr (q, c, asks_for c accepted, runs_it, may_end c (run_end.Ended finals) law.Ended left runs (λ o h. h.0)))
+    run_cause given c vars (run_end.Raised why) left accepted runs_it asks_vars runs ends =
+        or_lacks_cause (λ s. Cause InTells words before now s) status.Raised given _ before.devices.err now.devices.err err_fault tt
         (why, (q, c, asks_for c accepted, runs_it, may_end c (run_end.Raised why) (law.Raised why) left runs (λ o h. h))) ends.1
-    run_cause given c vars (run_end.TurnsSpent turns) left accepted runs_it runs ends =
-        or_lacks_cause (λ s. Cause Tells words before now s) status.Spent given _ before.devices.err now.devices.err err_fault tt
+    run_cause given c vars (run_end.TurnsSpent turns) left accepted runs_it asks_vars runs ends =
+        or_lacks_cause (λ s. Cause InTells words before now s) status.Spent given _ before.devices.err now.devices.err err_fault tt
         (q, c, asks_for c accepted, runs_it, may_end c (run_end.TurnsSpent turns) law.TurnsSpent left runs (λ o h. h.0)) ends.1
-    run_cause given c vars run_end.ReadFault left accepted runs_it runs ends =
-        says_cause (λ s. Cause Tells words before now s) status.ReadFault given _ before.devices.err now.devices.err err_fault runs.causes.0 ends.1
-    run_cause given c vars run_end.WriteFault left accepted runs_it runs ends =
-        says_cause (λ s. Cause Tells words before now s) status.WriteFault given _ before.devices.err now.devices.err err_fault
-        (inl (subst (λ (s : Stream). Rose before.devices.out s) (sym ends.0) runs.causes.1)) ends.1
-    run_cause given c vars run_end.NoMemory left accepted runs_it runs ends =
-        says_cause (λ s. Cause Tells words before now s) status.OutOfMemory given _ before.devices.err now.devices.err err_fault tt ends.1
+    run_cause given c vars run_end.ReadFault left accepted runs_it asks_vars runs ends =
+        says_cause (λ s. Cause InTells words before now s) status.ReadFault given _ before.devices.err now.devices.err err_fault
+        ((q, c, asks_for c accepted, runs_it, may_end c run_end.ReadFault law.ReadFault left runs (λ o h. h)), runs.causes.0) ends.1
+    run_cause given c vars run_end.WriteFault left accepted runs_it asks_vars runs ends =
+        says_cause (λ s. Cause InTells words before now s) status.WriteFault given _ before.devices.err now.devices.err err_fault
+        (inl (inl (q, c, asks_for c accepted, runs_it, may_end c run_end.WriteFault law.WriteFault left runs (λ o h. h)), subst (λ (s : Stream). Rose before.devices.out s) (sym ends.0) runs.causes.1)) ends.1
+    run_cause given c vars run_end.NoMemory left accepted runs_it asks_vars runs ends =
+        says_cause (λ s. Cause InTells words before now s) status.OutOfMemory given _ before.devices.err now.devices.err err_fault tt ends.1
 
-    text_cause : (given : Status) → AnswersText Tells q text given before.devices now.devices → Cause Tells words before now given
+    text_cause : (given : Status) → AnswersText InTells OutTells q text given before.devices now.devices → Cause InTells words before now given
     text_cause given (Refuses fault is same says) =
-        or_lacks_cause (λ s. Cause Tells words before now s) status.Refused given _ before.devices.err now.devices.err err_fault tt (q, asks, never) says
+        or_lacks_cause (λ s. Cause InTells words before now s) status.Refused given _ before.devices.err now.devices.err err_fault tt (q, asks, never) says
       where
         never : (told : List ℕ) (c : Compiled) → before.shelf.told q.file ≡ Some told → IsAccepted (fetched told) c → ⊥
         never told c told_is accepted = compiling_exact.apart text c fault (subst (λ (t : List ℕ). IsAccepted t c) (sym (same_text (before.shelf.told q.file) told text told_is has)) accepted) is
     text_cause given (Checks c accepted checks same closes) =
-        closes_cause (λ s. Cause Tells words before now s) _ given before.devices.out now.devices.out before.devices.err now.devices.err err_fault (λ rose. inl rose) tt
+        closes_cause (λ s. Cause InTells words before now s) _ given before.devices.out now.devices.out before.devices.err now.devices.err err_fault (λ rose. inl (inr (inr (q, c, asks_for c accepted, checks)), rose)) tt
         (inl (q, c, asks_for c accepted, checks)) closes
-    text_cause given (Starts c accepted runs_it run) = run_cause given c q.vars run.end run.left accepted runs_it run.runs run.ends
-    text_cause given (Lacks same says) = says_cause (λ s. Cause Tells words before now s) status.OutOfMemory given _ before.devices.err now.devices.err err_fault tt says
+    text_cause given (Starts c accepted runs_it run) = run_cause given c q.vars run.end run.left accepted runs_it refl run.runs run.ends
+    text_cause given (Lacks same says) = says_cause (λ s. Cause InTells words before now s) status.OutOfMemory given _ before.devices.err now.devices.err err_fault tt says
 
-  file_cause : (q : Asked) (given : Status) → asked words ≡ Some q → AnswersFile Tells q given before now → Cause Tells words before now given
+  file_cause : (q : Asked) (given : Status) → asked words ≡ Some q → AnswersFile InTells OutTells q given before now → Cause InTells words before now given
   file_cause q given asks (Unread rose same says) =
-      or_lacks_cause (λ s. Cause Tells words before now s) status.ShelfFault given _ before.devices.err now.devices.err err_fault tt rose says
+      or_lacks_cause (λ s. Cause InTells words before now s) status.ShelfFault given _ before.devices.err now.devices.err err_fault tt rose says
   file_cause q given asks (Read text has same answers) = text_cause q text asks has given answers
-  file_cause q given asks (Short same untouched says) = says_cause (λ s. Cause Tells words before now s) status.OutOfMemory given _ before.devices.err now.devices.err err_fault tt says
+  file_cause q given asks (Short same untouched says) = says_cause (λ s. Cause InTells words before now s) status.OutOfMemory given _ before.devices.err now.devices.err err_fault tt says
 
-  pub caused : (given : Status) → Answers Tells words given before now → Cause Tells words before now given
-  caused given (Wrong none same untouched says) = says_cause (λ s. Cause Tells words before now s) status.Usage given _ before.devices.err now.devices.err err_fault none says
+  pub caused : (given : Status) → Answers InTells OutTells words given before now → Cause InTells words before now given
+  caused given (Wrong none same untouched says) = says_cause (λ s. Cause InTells words before now s) status.Usage given _ before.devices.err now.devices.err err_fault none says
   caused given (Right q asks answers) = file_cause q given asks answers
-  caused given (Unasked same untouched says) = says_cause (λ s. Cause Tells words before now s) status.OutOfMemory given _ before.devices.err now.devices.err err_fault tt says
+  caused given (Unasked same untouched says) = says_cause (λ s. Cause InTells words before now s) status.OutOfMemory given _ before.devices.err now.devices.err err_fault tt says
 
 -- ---- what is due comes, or something failed
 
@@ -116,40 +121,40 @@ unread_fails P given line before now rose same (inl (inr (is, broke))) = inr (Er
 unread_fails P given line before now rose same (inr lacks) = fails_says P given before now same lacks
 
 -- what becomes of a text that is told
-told_meets : {Tells : Type 0} (P : Status → Type 0) (words : List (List ℕ)) (given : Status) (before now : Outside) (q : Asked) (told : List ℕ) → asked words ≡ Some q → before.shelf.told q.file ≡ Some told
-    → (AnswersText Tells q (fetched told) given before.devices now.devices → Meets P (number_of given) before now) → Answers Tells words given before now → Meets P (number_of given) before now
+told_meets : {InTells OutTells : Type 0} (P : Status → Type 0) (words : List (List ℕ)) (given : Status) (before now : Outside) (q : Asked) (told : List ℕ) → asked words ≡ Some q → before.shelf.told q.file ≡ Some told
+    → (AnswersText InTells OutTells q (fetched told) given before.devices now.devices → Meets P (number_of given) before now) → Answers InTells OutTells words given before now → Meets P (number_of given) before now
 told_meets P words given before now q told asks has go (Wrong none same untouched says) = absurd (different (sym none ∙ asks)) where
   different : (let a : Option Asked = None in a ≡ Some q) → ⊥
   different e = absurd cc
 told_meets P words given before now q told asks has go (Unasked same untouched says) = fails_says P given before now untouched says
-told_meets {Tells} P words given before now q told asks has go (Right r asks' answers) = file (subst (λ (x : Asked). AnswersFile Tells x given before now) (some_is r q (sym asks' ∙ asks)) answers) where
-  file : AnswersFile Tells q given before now → Meets P (number_of given) before now
+told_meets {InTells} {OutTells} P words given before now q told asks has go (Right r asks' answers) = file (subst (λ (x : Asked). AnswersFile InTells OutTells x given before now) (some_is r q (sym asks' ∙ asks)) answers) where
+  file : AnswersFile InTells OutTells q given before now → Meets P (number_of given) before now
   file (Unread rose same says) = unread_fails P given _ before now rose same says
   file (Short same untouched says) = fails_says P given before now untouched says
-  file (Read text is same answers) = go (subst (λ (t : List ℕ). AnswersText Tells q t given before.devices now.devices) (same_text (before.shelf.told q.file) told text has is) answers)
+  file (Read text is same answers) = go (subst (λ (t : List ℕ). AnswersText InTells OutTells q t given before.devices now.devices) (same_text (before.shelf.told q.file) told text has is) answers)
 
-pub runs : {Tells : Type 0} (words : List (List ℕ)) (given : Status) (before now : Outside) → Answers Tells words given before now → (q : Asked) (told : List ℕ) (c : Compiled) → asked words ≡ Some q → q.mode ≡ mode.Run → before.shelf.told q.file ≡ Some told → IsAccepted (fetched told) c
-    → Meets (λ s. RunsUnit Tells c q.settings q.vars s before.devices now.devices) (number_of given) before now
-runs {Tells} words given before now answers q told c asks runs_it has accepted = told_meets (λ s. RunsUnit Tells c q.settings q.vars s before.devices now.devices) words given before now q told asks has go answers where
+pub runs : {InTells OutTells : Type 0} (words : List (List ℕ)) (given : Status) (before now : Outside) → Answers InTells OutTells words given before now → (q : Asked) (told : List ℕ) (c : Compiled) → asked words ≡ Some q → q.mode ≡ mode.Run → before.shelf.told q.file ≡ Some told → IsAccepted (fetched told) c
+    → Meets (λ s. RunsUnit InTells OutTells c q.settings q.vars s before.devices now.devices) (number_of given) before now
+runs {InTells} {OutTells} words given before now answers q told c asks runs_it has accepted = told_meets (λ s. RunsUnit InTells OutTells c q.settings q.vars s before.devices now.devices) words given before now q told asks has go answers where
   check_or_run : mode.Check ≡ mode.Run → ⊥
   check_or_run e = absurd cc
 
-  go : AnswersText Tells q (fetched told) given before.devices now.devices → Meets (λ s. RunsUnit Tells c q.settings q.vars s before.devices now.devices) (number_of given) before now
+  go : AnswersText InTells OutTells q (fetched told) given before.devices now.devices → Meets (λ s. RunsUnit InTells OutTells c q.settings q.vars s before.devices now.devices) (number_of given) before now
   go (Refuses fault is same says) = absurd (compiling_exact.apart (fetched told) c fault accepted is)
   go (Checks d is checks same closes) = absurd (check_or_run (sym checks ∙ runs_it))
-  go (Starts d is runs' run) = inl (given, refl, subst (λ (x : Compiled). RunsUnit Tells x q.settings q.vars given before.devices now.devices) (compiling_exact.one_result (fetched told) d c is accepted) run)
-  go (Lacks same says) = fails_says (λ s. RunsUnit Tells c q.settings q.vars s before.devices now.devices) given before now same says
+  go (Starts d is runs' run) = inl (given, refl, subst (λ (x : Compiled). RunsUnit InTells OutTells x q.settings q.vars given before.devices now.devices) (compiling_exact.one_result (fetched told) d c is accepted) run)
+  go (Lacks same says) = fails_says (λ s. RunsUnit InTells OutTells c q.settings q.vars s before.devices now.devices) given before now same says
 
 abbrev ChecksSo : Outside → Outside → Status → Type 0
 ChecksSo before now s = (now.devices.input ≡ before.devices.input) × Closes accepted_line s before.devices.out now.devices.out before.devices.err now.devices.err
 
-pub checks : {Tells : Type 0} (words : List (List ℕ)) (given : Status) (before now : Outside) → Answers Tells words given before now → (q : Asked) (told : List ℕ) (c : Compiled) → asked words ≡ Some q → q.mode ≡ mode.Check → before.shelf.told q.file ≡ Some told → IsAccepted (fetched told) c
+pub checks : {InTells OutTells : Type 0} (words : List (List ℕ)) (given : Status) (before now : Outside) → Answers InTells OutTells words given before now → (q : Asked) (told : List ℕ) (c : Compiled) → asked words ≡ Some q → q.mode ≡ mode.Check → before.shelf.told q.file ≡ Some told → IsAccepted (fetched told) c
     → Meets (λ s. (now.devices.input ≡ before.devices.input) × Closes accepted_line s before.devices.out now.devices.out before.devices.err now.devices.err) (number_of given) before now
-checks {Tells} words given before now answers q told c asks checks_it has accepted = told_meets (ChecksSo before now) words given before now q told asks has go answers where
+checks {InTells} {OutTells} words given before now answers q told c asks checks_it has accepted = told_meets (ChecksSo before now) words given before now q told asks has go answers where
   run_or_check : mode.Run ≡ mode.Check → ⊥
   run_or_check e = absurd cc
 
-  go : AnswersText Tells q (fetched told) given before.devices now.devices → Meets (ChecksSo before now) (number_of given) before now
+  go : AnswersText InTells OutTells q (fetched told) given before.devices now.devices → Meets (ChecksSo before now) (number_of given) before now
   go (Refuses fault is same says) = absurd (compiling_exact.apart (fetched told) c fault accepted is)
   go (Checks d is checks' same closes) = inl (given, refl, (same, closes))
   go (Starts d is runs' run) = absurd (run_or_check (sym runs' ∙ checks_it))
@@ -158,16 +163,16 @@ checks {Tells} words given before now answers q told c asks checks_it has accept
 abbrev RefusesSo : List ℕ → Complaint → Outside → Outside → Status → Type 0
 RefusesSo file fault before now s = Untouched before.devices now.devices × SaysOrLacks status.Refused (ended (line_of file fault)) s before.devices.err now.devices.err
 
-pub refuses : {Tells : Type 0} (words : List (List ℕ)) (given : Status) (before now : Outside) → Answers Tells words given before now → (q : Asked) (told : List ℕ) (fault : Complaint) → asked words ≡ Some q → before.shelf.told q.file ≡ Some told → IsFaultOf (fetched told) fault
+pub refuses : {InTells OutTells : Type 0} (words : List (List ℕ)) (given : Status) (before now : Outside) → Answers InTells OutTells words given before now → (q : Asked) (told : List ℕ) (fault : Complaint) → asked words ≡ Some q → before.shelf.told q.file ≡ Some told → IsFaultOf (fetched told) fault
     → Meets (λ s. Untouched before.devices now.devices × SaysOrLacks status.Refused (ended (line_of q.file fault)) s before.devices.err now.devices.err) (number_of given) before now
-refuses {Tells} words given before now answers q told fault asks has is_fault = told_meets (RefusesSo q.file fault before now) words given before now q told asks has go answers where
-  go : AnswersText Tells q (fetched told) given before.devices now.devices → Meets (RefusesSo q.file fault before now) (number_of given) before now
+refuses {InTells} {OutTells} words given before now answers q told fault asks has is_fault = told_meets (RefusesSo q.file fault before now) words given before now q told asks has go answers where
+  go : AnswersText InTells OutTells q (fetched told) given before.devices now.devices → Meets (RefusesSo q.file fault before now) (number_of given) before now
   go (Refuses own is same says) = inl (given, refl, (same, subst (λ (f : Complaint). SaysOrLacks status.Refused (ended (line_of q.file f)) given before.devices.err now.devices.err) (compiling_exact.one_fault (fetched told) own fault is is_fault) says))
   go (Checks d is checks' same closes) = absurd (compiling_exact.apart (fetched told) d fault is is_fault)
   go (Starts d is runs' run) = absurd (compiling_exact.apart (fetched told) d fault is is_fault)
   go (Lacks same says) = fails_says (RefusesSo q.file fault before now) given before now same says
 
-pub wrong_words : {Tells : Type 0} (words : List (List ℕ)) (given : Status) (before now : Outside) → Answers Tells words given before now → asked words ≡ None
+pub wrong_words : {InTells OutTells : Type 0} (words : List (List ℕ)) (given : Status) (before now : Outside) → Answers InTells OutTells words given before now → asked words ≡ None
     → Meets (λ s. Untouched before.devices now.devices × Says status.Usage usage_line s before.devices.err now.devices.err) (number_of given) before now
 wrong_words words given before now (Wrong none same untouched says) wrong = inl (given, refl, (untouched, says))
 wrong_words words given before now (Right q asks answers) wrong = absurd (different (sym asks ∙ wrong)) where
@@ -205,5 +210,5 @@ pub same_status : (s t : Status) → number_of s ≡ number_of t → s ≡ t
 same_status s t e = sym (numbered s) ∙ ap status_at e ∙ numbered t
 
 -- the cause of a number's status
-pub cause_of : {Tells : Type 0} (words : List (List ℕ)) (given due : Status) (before now : Outside) → Answers Tells words given before now → number_of given ≡ number_of due → Cause Tells words before now due
-cause_of {Tells} words given due before now answers e = subst (λ s. Cause Tells words before now s) (same_status given due e) (caused Tells words before now given answers)
+pub cause_of : {InTells OutTells : Type 0} (words : List (List ℕ)) (given due : Status) (before now : Outside) → Answers InTells OutTells words given before now → number_of given ≡ number_of due → Cause InTells words before now due
+cause_of {InTells} {OutTells} words given due before now answers e = subst (λ s. Cause InTells words before now s) (same_status given due e) (caused InTells OutTells words before now given answers)

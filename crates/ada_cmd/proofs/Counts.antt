@@ -87,19 +87,19 @@ module _ (c : Compiled) (given : Status) (before now : Devices) where
 -- of a text
 
 module _ (q : Asked) (text : List ℕ) (given : Status) (before now : Devices) where
-  pub err_text : {Tells : Type 0} → AnswersText Tells q text given before now → before.err.faults < now.err.faults → given ≡ status.WriteFault
+  pub err_text : {InTells OutTells : Type 0} → AnswersText InTells OutTells q text given before now → before.err.faults < now.err.faults → given ≡ status.WriteFault
   err_text (Refuses fault is same says) h = err_lacks status.Refused given _ before.err now.err says h
   err_text (Checks c is checks same closes) h = err_closes _ given before.out now.out before.err now.err closes h
   err_text (Starts c is runs run) h = err_run c given before now q.vars run.end run.left run.ends h
   err_text (Lacks same says) h = err_says status.OutOfMemory given _ before.err now.err says h
 
-  pub out_text : {Tells : Type 0} → AnswersText Tells q text given before now → before.out.faults < now.out.faults → given ≡ status.WriteFault
+  pub out_text : {InTells OutTells : Type 0} → AnswersText InTells OutTells q text given before now → before.out.faults < now.out.faults → given ≡ status.WriteFault
   out_text (Refuses fault is same says) h = no_rise before.out.faults now.out.faults (given ≡ status.WriteFault) (faults_of same.out) h
   out_text (Checks c is checks same closes) h = out_closes _ given before.out now.out before.err now.err closes h
   out_text (Starts c is runs run) h = out_run c given before now q.vars run.end run.left run.runs.causes run.ends h
   out_text (Lacks same says) h = no_rise before.out.faults now.out.faults (given ≡ status.WriteFault) (faults_of same.out) h
 
-  pub input_text : {Tells : Type 0} → AnswersText Tells q text given before now → before.input.faults < now.input.faults → (given ≡ status.ReadFault) ⊎ (given ≡ status.WriteFault)
+  pub input_text : {InTells OutTells : Type 0} → AnswersText InTells OutTells q text given before now → before.input.faults < now.input.faults → (given ≡ status.ReadFault) ⊎ (given ≡ status.WriteFault)
   input_text (Refuses fault is same says) h = no_rise before.input.faults now.input.faults ((given ≡ status.ReadFault) ⊎ (given ≡ status.WriteFault)) (faults_of same.input) h
   input_text (Checks c is checks same closes) h = no_rise before.input.faults now.input.faults ((given ≡ status.ReadFault) ⊎ (given ≡ status.WriteFault)) (faults_of same) h
   input_text (Starts c is runs run) h = input_run c given before now q.vars run.end run.left run.runs.causes run.ends h
@@ -122,7 +122,7 @@ untouched_counts given before now same err shelf = record {
   shelf = shelf;
 }
 
-file_counts : {Tells : Type 0} (q : Asked) (given : Status) (before now : Outside) → AnswersFile Tells q given before now → Counts given before now
+file_counts : {InTells OutTells : Type 0} (q : Asked) (given : Status) (before now : Outside) → AnswersFile InTells OutTells q given before now → Counts given before now
 file_counts q given before now (Unread rose same says) =
     untouched_counts given before now same (err_lacks status.ShelfFault given _ before.devices.err now.devices.err says) (λ h. shelf_says given _ before.devices.err now.devices.err says)
 file_counts q given before now (Short same untouched says) =
@@ -137,7 +137,7 @@ file_counts q given before now (Read text is same answers) = record {
 texts_of : {s t : Texts} → t ≡ s → t.faults ≡ s.faults
 texts_of e = ap (λ (x : Texts). x.faults) e
 
-pub counted : {Tells : Type 0} (words : List (List ℕ)) (given : Status) (before now : Outside) → Answers Tells words given before now → Counts given before now
+pub counted : {InTells OutTells : Type 0} (words : List (List ℕ)) (given : Status) (before now : Outside) → Answers InTells OutTells words given before now → Counts given before now
 counted words given before now (Wrong none same untouched says) =
     untouched_counts given before now untouched (err_says status.Usage given _ before.devices.err now.devices.err says) (λ h. no_rise before.shelf.faults now.shelf.faults (Shelved given) (texts_of same) h)
 counted words given before now (Right q asks answers) = file_counts q given before now answers

@@ -77,10 +77,10 @@ abbrev pub setting_of : Settings → Setting
 setting_of s = record { plan = s.plan; one = true; limit = s.turns }
 
 -- A unit was run under a setting, and its end was told.
-pub record RunsUnit (Tells : Type 0) (c : Compiled) (settings : Settings) (vars : Bool) (given : Status) (before now : Devices) : Type 0 where
+pub record RunsUnit (InTells OutTells : Type 0) (c : Compiled) (settings : Settings) (vars : Bool) (given : Status) (before now : Devices) : Type 0 where
   pub end : RunEnd
   pub left : Stream
-  pub runs : Runs Tells c.program (setting_of settings) end before.input now.input before.out left
+  pub runs : Runs InTells OutTells c.program (setting_of settings) end before.input now.input before.out left
   pub ends : EndsBy c vars end given left now.out before.err now.err
 
 -- the text that was fetched, of what is told
@@ -93,29 +93,29 @@ pub record Untouched (before now : Devices) : Type 0 where
   pub out : now.out ≡ before.out
 
 -- what becomes of a text
-pub data AnswersText (Tells : Type 0) (q : Asked) (text : List ℕ) (given : Status) (before now : Devices) : Type 0 where
+pub data AnswersText (InTells OutTells : Type 0) (q : Asked) (text : List ℕ) (given : Status) (before now : Devices) : Type 0 where
   Refuses : (fault : Complaint) → IsFaultOf text fault → Untouched before now
-      → SaysOrLacks status.Refused (ended (line_of q.file fault)) given before.err now.err → AnswersText Tells q text given before now
+      → SaysOrLacks status.Refused (ended (line_of q.file fault)) given before.err now.err → AnswersText InTells OutTells q text given before now
   Checks : (c : Compiled) → IsAccepted text c → q.mode ≡ mode.Check → now.input ≡ before.input
-      → Closes accepted_line given before.out now.out before.err now.err → AnswersText Tells q text given before now
-  Starts : (c : Compiled) → IsAccepted text c → q.mode ≡ mode.Run → RunsUnit Tells c q.settings q.vars given before now → AnswersText Tells q text given before now
-  Lacks : Untouched before now → SaysNoMemory given before.err now.err → AnswersText Tells q text given before now
+      → Closes accepted_line given before.out now.out before.err now.err → AnswersText InTells OutTells q text given before now
+  Starts : (c : Compiled) → IsAccepted text c → q.mode ≡ mode.Run → RunsUnit InTells OutTells c q.settings q.vars given before now → AnswersText InTells OutTells q text given before now
+  Lacks : Untouched before now → SaysNoMemory given before.err now.err → AnswersText InTells OutTells q text given before now
 
 -- what becomes of a file, what is asked of it, and its text; where memory runs out before the text is there, nothing does
-pub data AnswersFile (Tells : Type 0) (q : Asked) (given : Status) (before now : Outside) : Type 0 where
+pub data AnswersFile (InTells OutTells : Type 0) (q : Asked) (given : Status) (before now : Outside) : Type 0 where
   Unread : Rose before.shelf now.shelf → Untouched before.devices now.devices
-      → SaysOrLacks status.ShelfFault (unreadable_line q.file) given before.devices.err now.devices.err → AnswersFile Tells q given before now
+      → SaysOrLacks status.ShelfFault (unreadable_line q.file) given before.devices.err now.devices.err → AnswersFile InTells OutTells q given before now
   Read : (text : List ℕ) → IsFetched (before.shelf.told q.file) text → now.shelf.faults ≡ before.shelf.faults
-      → AnswersText Tells q text given before.devices now.devices → AnswersFile Tells q given before now
+      → AnswersText InTells OutTells q text given before.devices now.devices → AnswersFile InTells OutTells q given before now
   Short : now.shelf.faults ≡ before.shelf.faults → Untouched before.devices now.devices → SaysNoMemory given before.devices.err now.devices.err
-      → AnswersFile Tells q given before now
+      → AnswersFile InTells OutTells q given before now
 
 -- what becomes of the words; where memory runs out before they are read, nothing does
-pub data Answers (Tells : Type 0) (words : List (List ℕ)) (given : Status) (before now : Outside) : Type 0 where
+pub data Answers (InTells OutTells : Type 0) (words : List (List ℕ)) (given : Status) (before now : Outside) : Type 0 where
   Wrong : asked words ≡ None → now.shelf ≡ before.shelf → Untouched before.devices now.devices → Says status.Usage usage_line given before.devices.err now.devices.err
-      → Answers Tells words given before now
-  Right : (q : Asked) → asked words ≡ Some q → AnswersFile Tells q given before now → Answers Tells words given before now
-  Unasked : now.shelf ≡ before.shelf → Untouched before.devices now.devices → SaysNoMemory given before.devices.err now.devices.err → Answers Tells words given before now
+      → Answers InTells OutTells words given before now
+  Right : (q : Asked) → asked words ≡ Some q → AnswersFile InTells OutTells q given before now → Answers InTells OutTells words given before now
+  Unasked : now.shelf ≡ before.shelf → Untouched before.devices now.devices → SaysNoMemory given before.devices.err now.devices.err → Answers InTells OutTells words given before now
 
 -- the line on err for a refusal of the text in a file
 abbrev pub IsRefusedLine : List ℕ → List ℕ → Refusal → List ℕ → Type 0

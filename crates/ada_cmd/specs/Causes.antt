@@ -1,7 +1,7 @@
 -- The causes of the statuses, each in both directions.
-use Rattle.std.specs.Prelude.{◌≡◌, ◌⊎◌, ⊤, ℕ, List, Some, None, Bool}
+use Rattle.std.specs.Prelude.{◌≡◌, ◌⊎◌, ⊤, ℕ, List, Some, None, Bool, true}
 use Rattle.ada_base.specs.declared.reason.Reason.{Reason}
-use Rattle.ada_meaning.specs.Law.{Ending, Ended, Raised, TurnsSpent, IsPermitted, Outcome}
+use Rattle.ada_meaning.specs.Law.{Ending, Ended, Raised, TurnsSpent, ReadFault, WriteFault, IsPermitted, Outcome}
 use Rattle.ada_port.specs.Ports.{Texts, Rose, bytes_of, fetched}
 use Rattle.ada_run.specs.Compile.{IsAccepted}
 use Rattle.ada_run.specs.Compiled.{Compiled}
@@ -12,8 +12,8 @@ use Rattle.ada_cmd.specs.declared.status.Status.{Status}
 use Rattle.ada_cmd.specs.declared.status.Status.TheVariants as status
 
 -- the number of a status, with what became of the words
-abbrev pub Answered : Type 0 → List (List ℕ) → ℕ → Outside → Outside → Type 0
-Answered Tells words number before now = (given : Status) × (number ≡ number_of given) × Answers Tells words given before now
+abbrev pub Answered : Type 0 → Type 0 → List (List ℕ) → ℕ → Outside → Outside → Type 0
+Answered InTells OutTells words number before now = (given : Status) × (number ≡ number_of given) × Answers InTells OutTells words given before now
 
 -- the words ask for a file whose text is accepted
 pub record Asks (words : List (List ℕ)) (shelf : Texts) (q : Asked) (c : Compiled) : Type 0 where
@@ -22,13 +22,18 @@ pub record Asks (words : List (List ℕ)) (shelf : Texts) (q : Asked) (c : Compi
   pub has : IsFetched (shelf.told q.file) text
   pub accepted : IsAccepted text c
 
--- a run that is permitted under what is asked for ends so, where the devices tell
+-- On some input a run that is permitted under what is asked for ends so; where the input tells, that is what it tells.
 abbrev pub MayEnd : Type 0 → Asked → Compiled → Devices → Ending → Type 0
-MayEnd Tells q c before ending = Tells → (o : Outcome) × ((early : Bool) × IsPermitted c.program (setting_of q.settings) (bytes_of before.input) early o × (o.ending ≡ ending))
+MayEnd InTells q c before ending =
+    (on : List ℕ) × ((InTells → on ≡ bytes_of before.input) × ((o : Outcome) × ((early : Bool) × IsPermitted c.program (setting_of q.settings) on early o × (o.ending ≡ ending))))
 
 -- the words ask for a run of an accepted text, and it has this ending
 abbrev pub HasEnding : Type 0 → List (List ℕ) → Outside → Ending → Type 0
-HasEnding Tells words before ending = (q : Asked) × (c : Compiled) × Asks words before.shelf q c × (q.mode ≡ mode.Run) × MayEnd Tells q c before.devices ending
+HasEnding InTells words before ending = (q : Asked) × (c : Compiled) × Asks words before.shelf q c × (q.mode ≡ mode.Run) × MayEnd InTells q c before.devices ending
+
+-- the words ask for a run with the values of its variables, and it has ended normally
+abbrev pub HasVars : Type 0 → List (List ℕ) → Outside → Type 0
+HasVars InTells words before = (q : Asked) × (c : Compiled) × Asks words before.shelf q c × (q.mode ≡ mode.Run) × (q.vars ≡ true) × MayEnd InTells q c before.devices Ended
 
 -- the words ask whether an accepted text is accepted
 abbrev pub HasCheck : List (List ℕ) → Outside → Type 0
@@ -39,17 +44,21 @@ abbrev pub IsNotAccepted : List (List ℕ) → Outside → Type 0
 IsNotAccepted words before =
     (q : Asked) × (asked words ≡ Some q) × ((told : List ℕ) (c : Compiled) → before.shelf.told q.file ≡ Some told → IsAccepted (fetched told) c → ⊥)
 
+-- out failed in a piece of a run's output, in a line of a variable, or in the word for an accepted text
+abbrev pub OutFails : Type 0 → List (List ℕ) → Outside → Outside → Type 0
+OutFails InTells words before now = (HasEnding InTells words before WriteFault ⊎ HasVars InTells words before ⊎ HasCheck words before) × Rose before.devices.out now.devices.out
+
 -- why a status is given
 abbrev pub Cause : Type 0 → List (List ℕ) → Outside → Outside → Status → Type 0
-Cause Tells words before now status.Done = HasCheck words before ⊎ HasEnding Tells words before Ended
-Cause Tells words before now status.Refused = IsNotAccepted words before
-Cause Tells words before now status.Usage = asked words ≡ None
-Cause Tells words before now status.ShelfFault = Rose before.shelf now.shelf
-Cause Tells words before now status.Raised = (why : Reason) × HasEnding Tells words before (Raised why)
-Cause Tells words before now status.Spent = HasEnding Tells words before TurnsSpent
-Cause Tells words before now status.ReadFault = Rose before.devices.input now.devices.input
-Cause Tells words before now status.WriteFault = Rose before.devices.out now.devices.out ⊎ Rose before.devices.err now.devices.err
-Cause Tells words before now status.OutOfMemory = ⊤
+Cause InTells words before now status.Done = HasCheck words before ⊎ HasEnding InTells words before Ended
+Cause InTells words before now status.Refused = IsNotAccepted words before
+Cause InTells words before now status.Usage = asked words ≡ None
+Cause InTells words before now status.ShelfFault = Rose before.shelf now.shelf
+Cause InTells words before now status.Raised = (why : Reason) × HasEnding InTells words before (Raised why)
+Cause InTells words before now status.Spent = HasEnding InTells words before TurnsSpent
+Cause InTells words before now status.ReadFault = HasEnding InTells words before ReadFault × Rose before.devices.input now.devices.input
+Cause InTells words before now status.WriteFault = OutFails InTells words before now ⊎ Rose before.devices.err now.devices.err
+Cause InTells words before now status.OutOfMemory = ⊤
 
 -- Nothing is asked of the input and nothing put to out, since the shelf or err failed or memory ran out.
 pub data Fails (number : ℕ) (before now : Outside) : Type 0 where

@@ -88,7 +88,7 @@ fn run_unit<R: Threads + Sync, I: Source + Drop, O: Sink + Drop, E: Sink, P: Pul
     pulse: &P,
 ) -> Given<I, O>
     requires { HasNoZero setting.plan }
-    ensures { RunsUnit (((s : I) → IsTold (I.state s)) × ((s : O) → IsTold (O.state s))) (compiled_of unit.now) (settings_of setting) vars result.status
+    ensures { RunsUnit ((s : I) → IsTold (I.state s)) ((s : O) → IsTold (O.state s)) (compiled_of unit.now) (settings_of setting) vars result.status
         (devices (I.state input) (O.state out) (E.state err.old)) (devices (I.state result.input) (O.state result.out) (E.state err.new)) }
 {
     let Ran { end, input, out } = execute(rt, alloc, unit, setting, input, out, pulse);
@@ -152,7 +152,7 @@ fn answer_text<R: Threads + Sync, I: Source + Drop, O: Sink + Drop, E: Sink, P: 
     pulse: &P,
 ) -> Given<I, O>
     requires { HasNoZero request.setting.plan }
-    ensures { AnswersText (((s : I) → IsTold (I.state s)) × ((s : O) → IsTold (O.state s))) (asked_of request.entry) text.now result.status
+    ensures { AnswersText ((s : I) → IsTold (I.state s)) ((s : O) → IsTold (O.state s)) (asked_of request.entry) text.now result.status
         (devices (I.state input) (O.state out) (E.state err.old)) (devices (I.state result.input) (O.state result.out) (E.state err.new)) }
 {
     let Request {
@@ -196,7 +196,7 @@ pub fn answer_request<
     pulse: &P,
 ) -> Given<I, O>
     requires { HasNoZero request.setting.plan }
-    ensures { AnswersFile (((s : I) → IsTold (I.state s)) × ((s : O) → IsTold (O.state s))) (asked_of request.entry) result.status
+    ensures { AnswersFile ((s : I) → IsTold (I.state s)) ((s : O) → IsTold (O.state s)) (asked_of request.entry) result.status
         (outside (F.state shelf.old) (I.state input) (O.state out) (E.state err.old))
         (outside (F.state shelf.new) (I.state result.input) (O.state result.out) (E.state err.new)) }
 {

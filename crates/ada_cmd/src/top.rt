@@ -2,7 +2,7 @@
 
 ghost use Rattle.std.specs.Prelude.{◌≡◌, ◌⊎◌, ◌<◌, ℕ, List, Some, None, map, string_bytes};
 ghost use Rattle.ada_base.specs.declared.reason.Reason.{Reason};
-ghost use Rattle.ada_meaning.specs.Law.{Ended, IsRaceFree, Raised, TurnsSpent};
+ghost use Rattle.ada_meaning.specs.Law.{Ended, IsRaceFree, Raised, ReadFault, TurnsSpent};
 ghost use Rattle.ada_port.specs.Ports.{IsTold, Rose, fetched};
 ghost use Rattle.ada_run.specs.Compile.{IsAccepted, IsFaultOf};
 ghost use Rattle.ada_run.specs.Compiled.{Compiled};
@@ -11,7 +11,7 @@ ghost use Rattle.ada_run.specs.Lines.{line_of};
 ghost use Rattle.command_words.specs.Words.{Asked, asked};
 ghost use Rattle.command_words.specs.declared.request.Mode.TheVariants as modes;
 ghost use Rattle.ada_cmd.specs.Answer.{Answers, Closes, RunsUnit, Says, SaysOrLacks, Untouched, devices, outside};
-ghost use Rattle.ada_cmd.specs.Causes.{Answered, HasCheck, HasEnding, IsNotAccepted, Meets};
+ghost use Rattle.ada_cmd.specs.Causes.{Answered, HasCheck, HasEnding, IsNotAccepted, Meets, OutFails};
 ghost use Rattle.ada_cmd.specs.Lines.{accepted_line, ended, usage_line};
 ghost use Rattle.ada_cmd.specs.declared.status.Status.TheVariants as statuses;
 
@@ -47,7 +47,7 @@ fn answer_words<
     err: &mut E,
     pulse: &P,
 ) -> Given<I, O>
-    ensures { Answers (((s : I) → IsTold (I.state s)) × ((s : O) → IsTold (O.state s))) (map string_bytes words.now) result.status
+    ensures { Answers ((s : I) → IsTold (I.state s)) ((s : O) → IsTold (O.state s)) (map string_bytes words.now) result.status
         (outside (F.state shelf.old) (I.state input) (O.state out) (E.state err.old))
         (outside (F.state shelf.new) (I.state result.input) (O.state result.out) (E.state err.new)) }
 {
@@ -90,7 +90,7 @@ pub fn run_words<
     err: &mut E,
     pulse: &P,
 ) -> Finished<I, O>
-    ensures answer { Answered (((s : I) → IsTold (I.state s)) × ((s : O) → IsTold (O.state s))) (map string_bytes words.now) result.status
+    ensures answer { Answered ((s : I) → IsTold (I.state s)) ((s : O) → IsTold (O.state s)) (map string_bytes words.now) result.status
         (outside (F.state shelf.old) (I.state input) (O.state out) (E.state err.old))
         (outside (F.state shelf.new) (I.state result.input) (O.state result.out) (E.state err.new)) }
 
@@ -100,7 +100,7 @@ pub fn run_words<
 
     // An accepted text is run or accepted, a text with a fault is refused, and wrong words get the usage line.
     ensures runs { (q : Asked) (told : List ℕ) (c : Compiled) → asked (map string_bytes words.now) ≡ Some q → q.mode ≡ modes.Run → (F.state shelf.old).told q.file ≡ Some told → IsAccepted (fetched told) c →
-        Meets (λ given. RunsUnit (((s : I) → IsTold (I.state s)) × ((s : O) → IsTold (O.state s))) c q.settings q.vars given
+        Meets (λ given. RunsUnit ((s : I) → IsTold (I.state s)) ((s : O) → IsTold (O.state s)) c q.settings q.vars given
         (devices (I.state input) (O.state out) (E.state err.old)) (devices (I.state result.input) (O.state result.out) (E.state err.new))) result.status
         (outside (F.state shelf.old) (I.state input) (O.state out) (E.state err.old))
         (outside (F.state shelf.new) (I.state result.input) (O.state result.out) (E.state err.new)) }
@@ -121,14 +121,17 @@ pub fn run_words<
 
     // Each status comes by its cause alone.
     ensures done { result.status ≡ 0 → HasCheck (map string_bytes words.now) (outside (F.state shelf.old) (I.state input) (O.state out) (E.state err.old))
-        ⊎ HasEnding (((s : I) → IsTold (I.state s)) × ((s : O) → IsTold (O.state s))) (map string_bytes words.now) (outside (F.state shelf.old) (I.state input) (O.state out) (E.state err.old)) Ended }
+        ⊎ HasEnding ((s : I) → IsTold (I.state s)) (map string_bytes words.now) (outside (F.state shelf.old) (I.state input) (O.state out) (E.state err.old)) Ended }
     ensures refused { result.status ≡ 1 → IsNotAccepted (map string_bytes words.now) (outside (F.state shelf.old) (I.state input) (O.state out) (E.state err.old)) }
     ensures usage { result.status ≡ 2 → asked (map string_bytes words.now) ≡ None }
     ensures shelf_fault { result.status ≡ 3 → Rose (F.state shelf.old) (F.state shelf.new) }
-    ensures raised { result.status ≡ 4 → (why : Reason) × HasEnding (((s : I) → IsTold (I.state s)) × ((s : O) → IsTold (O.state s))) (map string_bytes words.now) (outside (F.state shelf.old) (I.state input) (O.state out) (E.state err.old)) (Raised why) }
-    ensures spent { result.status ≡ 5 → HasEnding (((s : I) → IsTold (I.state s)) × ((s : O) → IsTold (O.state s))) (map string_bytes words.now) (outside (F.state shelf.old) (I.state input) (O.state out) (E.state err.old)) TurnsSpent }
-    ensures read_fault { result.status ≡ 6 → Rose (I.state input) (I.state result.input) }
-    ensures write_fault { result.status ≡ 7 → Rose (O.state out) (O.state result.out) ⊎ Rose (E.state err.old) (E.state err.new) }
+    ensures raised { result.status ≡ 4 → (why : Reason) × HasEnding ((s : I) → IsTold (I.state s)) (map string_bytes words.now) (outside (F.state shelf.old) (I.state input) (O.state out) (E.state err.old)) (Raised why) }
+    ensures spent { result.status ≡ 5 → HasEnding ((s : I) → IsTold (I.state s)) (map string_bytes words.now) (outside (F.state shelf.old) (I.state input) (O.state out) (E.state err.old)) TurnsSpent }
+    ensures read_fault { result.status ≡ 6 → HasEnding ((s : I) → IsTold (I.state s)) (map string_bytes words.now) (outside (F.state shelf.old) (I.state input) (O.state out) (E.state err.old)) ReadFault × Rose (I.state input) (I.state result.input) }
+    ensures write_fault { result.status ≡ 7 → OutFails ((s : I) → IsTold (I.state s)) (map string_bytes words.now)
+        (outside (F.state shelf.old) (I.state input) (O.state out) (E.state err.old))
+        (outside (F.state shelf.new) (I.state result.input) (O.state result.out) (E.state err.new))
+        ⊎ Rose (E.state err.old) (E.state err.new) }
 
     // A call that failed is not made good: a count that is greater than before gives its status.
     ensures out_counts { (O.state out).faults < (O.state result.out).faults → result.status ≡ 7 }

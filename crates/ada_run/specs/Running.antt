@@ -39,16 +39,16 @@ EndsAs p limit run_end.ReadFault o = o.ending ≡ law.ReadFault
 EndsAs p limit run_end.WriteFault o = o.ending ≡ law.WriteFault
 EndsAs p limit run_end.NoMemory o = o.ending ≡ law.NoMemory
 
--- The answer tells of a run that is permitted under the setting on these bytes of input, and what was put before is
--- followed by its output. Where that run ended by itself and the sequential run is calm (it ends within the limit,
--- normally or by an exception, leaves no parallel construct early, and its parallel reductions are listed ones without
--- partial overflow), it is that run.
-pub record TellsOf (p : Program) (set : Setting) (end : RunEnd) (input before now : List ℕ) : Type 0 where
+-- The answer tells of a run that is permitted under the setting on these bytes of input, and where the output tells, what was
+-- put before is followed by that run's output. Where the run ended by itself and the sequential run is calm (it ends within
+-- the limit, normally or by an exception, leaves no parallel construct early, and its parallel reductions are listed ones
+-- without partial overflow), it is that run.
+pub record TellsOf (OutTells : Type 0) (p : Program) (set : Setting) (end : RunEnd) (input before now : List ℕ) : Type 0 where
   pub outcome : Outcome
   pub early : Bool
   pub permitted : IsPermitted p set input early outcome
   pub ends : EndsAs p set.limit end outcome
-  pub output : now ≡ before ++ outcome.output
+  pub output : OutTells → now ≡ before ++ outcome.output
   pub calm : IsCalm (sequential p set.limit (input_of input)) → EndsItself outcome.ending → outcome ≡ law.outcome_of p input (sequential p set.limit (input_of input))
 
 -- a fault of a device is answered where its count rose, and nowhere else
@@ -57,10 +57,12 @@ Causes run_end.ReadFault input input' out out' = Rose input input' × (out'.faul
 Causes run_end.WriteFault input input' out out' = (input'.faults ≡ input.faults) × Rose out out'
 Causes _ input input' out out' = (input'.faults ≡ input.faults) × (out'.faults ≡ out.faults)
 
--- A run: where the input and the output tell, the answer tells of a permitted one.
-pub record Runs (Tells : Type 0) (p : Program) (set : Setting) (end : RunEnd) (input input' out out' : Stream) : Type 0 where
+-- A run: the answer tells of one that is permitted on some input, which is what the input tells, where it tells.
+pub record Runs (InTells OutTells : Type 0) (p : Program) (set : Setting) (end : RunEnd) (input input' out out' : Stream) : Type 0 where
   pub causes : Causes end input input' out out'
-  pub run : Tells → TellsOf p set end (bytes_of input) (bytes_of out) (bytes_of out')
+  pub on : List ℕ
+  pub told : InTells → on ≡ bytes_of input
+  pub run : TellsOf OutTells p set end on (bytes_of out) (bytes_of out')
 
 -- the answer that an interpreter's end is, with what the variables were then; a main procedure isn't left by an exit or
 -- a return
