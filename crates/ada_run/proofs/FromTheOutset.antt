@@ -1,8 +1,8 @@
 -- A run of the interpreter is a run of a unit.
-use Rattle.std.proofs.Common.{◌≡◌, ◌<◌, ℕ, suc, arith, List, [], ◌∷◌, Bool, true, Result, Ok, Err, inl, refl, sym, ap, ◌∙◌, subst}
+use Rattle.std.proofs.Common.{◌≡◌, ◌<◌, ℕ, suc, arith, List, [], ◌∷◌, ◌++◌, Bool, true, false, true≢false, Result, Ok, Err, inl, refl, sym, ap, ◌∙◌, subst}
 use Rattle.std.specs.Prelude.{All}
 use Rattle.ada_base.specs.Cuts.{Plan}
-use Rattle.ada_base.specs.Input.{Nothing}
+use Rattle.ada_io.specs.Gets.{met_end}
 use Rattle.ada_meaning.proofs.Law.{one_sequential_law}
 use Rattle.ada_meaning.specs.Law.{EachPositive, EndsItself, IsPermitted, IsPlan, Outcome}
 use Rattle.ada_meaning.specs.Law as law
@@ -19,10 +19,10 @@ use Rattle.ada_typed.specs.Programs.{program}
 use Rattle.ada_typed.specs.Syntax.{Program}
 use Rattle.ada_interpreter.specs.Run.{IsRun, answer_of, setting_of}
 use Rattle.run_parts.specs.declared.work.Work.{Work}
-use Rattle.run_store.specs.Operating.{begins_at, outside_of}
-use Rattle.run_store.specs.Outside.{Faults, Outside, Risen, opened}
+use Rattle.run_store.specs.Operating.{begins_at}
+use Rattle.run_store.specs.Outside.{Faults, Leaves, MayBe, Outside, Risen, fresh}
 use Rattle.run_store.specs.Shows as shows
-use Rattle.run_store.specs.Shows.{Image}
+use Rattle.run_store.specs.Shows.{Image, outside_of}
 use Rattle.run_store.specs.declared.ends.End.{End}
 use Rattle.run_store.specs.declared.ends.End.TheVariants as end
 use Rattle.run_store.specs.declared.ends.Leave.TheVariants as leave
@@ -59,76 +59,91 @@ ends_as p before limit (Err end.NoMemory) t f k d = refl
 ends_as p before limit (Err end.ReadFault) t f k d = refl
 ends_as p before limit (Err end.WriteFault) t f k d = refl
 
--- where devices are that a run left so
-faults_left : (t : Image) (j q : Stream) → opened t.state.held j q ≡ outside_of t → faults_of j q ≡ t.faults
-faults_left t j q e = ap (λ (x : Outside). x.faults) e
+-- the counts of devices that a run left so
+faults_left : {OutTells : Type 0} (o : Outside) (j q : Stream) → Leaves OutTells o j q → faults_of j q ≡ o.faults
+faults_left o j q l = ap (λ n. let f : Faults = record { input = n; output = q.faults } in f) l.input ∙ ap (λ n. let f : Faults = record { input = o.faults.input; output = n } in f) l.output
 
-put_left : (t : Image) (j q : Stream) → opened t.state.held j q ≡ outside_of t → bytes_of q ≡ t.state.output
-put_left t j q e = ap (λ (x : Outside). x.put) e
+-- some input may be the whole one, whatever came
+some_input : (InTells : Type 0) (o : Outside) → (w : List ℕ) × MayBe InTells w o
+unfolding MayBe
+some_input InTells o = go (met_end o.held) refl
+  where
+    go : (b : Bool) → met_end o.held ≡ b → (w : List ℕ) × MayBe InTells w o
+    go true e = (o.came ++ [], ([], (refl, ((λ _. refl), λ told no. absurd (true≢false (sym e ∙ no))))))
+    go false e = (o.came ++ o.coming, (o.coming, (refl, ((λ yes. absurd (true≢false (sym yes ∙ e))), λ told no. refl))))
+
+-- where nothing came, that is what is told
+told_input : (InTells : Type 0) (w : List ℕ) (i o : Stream) → MayBe InTells w (fresh i o) → InTells → w ≡ bytes_of i
+unfolding MayBe
+told_input InTells w i o k told = k.1.0 ∙ k.1.1.1 told refl
 
 -- a run in order of a program whose sequential run is calm
 calm_comes : (p : Program) (set : Setting) (input : List ℕ) (early : Bool) (o : Outcome) → KeepsRule p → IsPlan set.plan → set.one ≡ true → IsPermitted p set input early o
     → IsCalm (sequential p set.limit (input_of input)) → EndsItself o.ending → o ≡ law.outcome_of p input (sequential p set.limit (input_of input))
 calm_comes p set input early o rule sound one permitted calm itself = (one_sequential_law p set input rule sound one calm).0 early o permitted itself
 
-pub ran_comes : {Tells : Type 0} (w : Work) (r : Result (Unit {0}) End) (s t : Image) (f : Finals) (j q : Stream) → IsRun Tells w r s t → f.kept ≡ t.state.kept → f.declared ≡ t.state.declared
-    → opened t.state.held j q ≡ outside_of t → Comes Tells w (end_of r w.limit f) s j q
-ran_comes w r s t f j q is k d e = record {
-  causes = λ i o same. causes_of r w.limit f i j o q (subst (λ (x : Faults). shows.Causes r x (faults_of j q)) same (subst (λ (x : Faults). shows.Causes r s.faults x) (sym (faults_left t j q e)) is.cause));
-  run = λ told rule sound slots begun.
-      let both = is.permitted told rule slots begun in
-      record {
-        outcome = outcome_of (program w.typed.now) s.state.output (answer_of r) t.state;
-        early = both.1.0;
-        permitted = both.1.1;
-        ends = ends_as (program w.typed.now) s.state.output w.limit r t f k d;
-        output = put_left t j q e ∙ both.0;
-        calm = calm_comes (program w.typed.now) (setting_of w) s.state.input both.1.0 (outcome_of (program w.typed.now) s.state.output (answer_of r) t.state) rule sound refl both.1.1;
-      };
+ran_comes : {InTells OutTells : Type 0} (w : Work) (r : Result (Unit {0}) End) (s t : Image) (f : Finals) (j q : Stream) → IsRun (MayBe InTells) w r s t → f.kept ≡ t.state.kept → f.declared ≡ t.state.declared
+    → Leaves OutTells (outside_of t) j q → Comes InTells OutTells w (end_of r w.limit f) s j q
+ran_comes {InTells} w r s t f j q is k d left = record {
+  causes = λ i o same. causes_of r w.limit f i j o q (subst (λ (x : Faults). shows.Causes r x (faults_of j q)) same (subst (λ (x : Faults). shows.Causes r s.faults x) (sym (faults_left (outside_of t) j q left)) is.cause));
+  run = λ rule sound slots begun.
+      let some = some_input InTells (outside_of t) in
+      let both = is.permitted some.0 some.1 rule slots begun in
+      (
+        some.0,
+        (
+          is.back some.0 some.1,
+          record {
+            outcome = outcome_of (program w.typed.now) s.state.output (answer_of r) t.state;
+            early = both.1.0;
+            permitted = both.1.1;
+            ends = ends_as (program w.typed.now) s.state.output w.limit r t f k d;
+            output = λ told. left.put told ∙ both.0;
+            calm = calm_comes (program w.typed.now) (setting_of w) some.0 both.1.0 (outcome_of (program w.typed.now) s.state.output (answer_of r) t.state) rule sound refl both.1.1;
+          },
+        ),
+      );
 }
 
-left_is : (t : Image) (p : Outside) (j q : Stream) → p ≡ outside_of t → opened p.held j q ≡ p → opened t.state.held j q ≡ outside_of t
-left_is t p j q same left = subst (λ (x : Outside). opened x.held j q ≡ x) same left
-
 -- a run from a state on, and what was taken apart at its end
-pub run_comes : {Tells : Type 0} (w : Work) (r : Result (Unit {0}) End) (s t : Image) (f : Finals) (p : Outside) (j q : Stream) (end : RunEnd) → IsRun Tells w r s t
-    → (p ≡ outside_of t) × (f.kept ≡ t.state.kept) × (f.declared ≡ t.state.declared) → opened p.held j q ≡ p → end ≡ end_of r w.limit f → Comes Tells w end s j q
-run_comes {Tells} w r s t f p j q end is ended left same =
-    subst (λ (e : RunEnd). Comes Tells w e s j q) (sym same) (ran_comes w r s t f j q is ended.1 ended.2 (left_is t p j q ended.0 left))
+pub run_comes : {InTells OutTells : Type 0} (w : Work) (r : Result (Unit {0}) End) (s t : Image) (f : Finals) (p : Outside) (j q : Stream) (end : RunEnd) → IsRun (MayBe InTells) w r s t
+    → (p ≡ outside_of t) × (f.kept ≡ t.state.kept) × (f.declared ≡ t.state.declared) → Leaves OutTells p j q → end ≡ end_of r w.limit f → Comes InTells OutTells w end s j q
+run_comes {InTells} {OutTells} w r s t f p j q end is ended left same =
+    subst (λ (e : RunEnd). Comes InTells OutTells w e s j q) (sym same) (ran_comes w r s t f j q is ended.1 ended.2 (subst (λ (x : Outside). Leaves OutTells x j q) ended.0 left))
 
 abbrev pub in_order : Plan → ℕ → Setting
 in_order plan limit = record { plan = plan; one = true; limit = limit }
 
 -- a run from the outset
-outset_runs : {Tells : Type 0} (w : Work) (end : RunEnd) (slots : ℕ) (i j o q : Stream) → KeepsRule (program w.typed.now) → IsPlan w.plan.now → Comes Tells w end (begins_at slots (opened Nothing i o)) j q
-    → Runs Tells (program w.typed.now) (setting_of w) end i j o q
-outset_runs w end slots i j o q rule sound c = record { causes = c.causes i o refl; run = λ told. c.run told rule sound slots refl }
+outset_runs : {InTells OutTells : Type 0} (w : Work) (end : RunEnd) (slots : ℕ) (i j o q : Stream) → KeepsRule (program w.typed.now) → IsPlan w.plan.now → Comes InTells OutTells w end (begins_at slots (fresh i o)) j q
+    → Runs InTells OutTells (program w.typed.now) (setting_of w) end i j o q
+outset_runs {InTells} w end slots i j o q rule sound c =
+    let run = c.run rule sound slots refl in
+    record { causes = c.causes i o refl; on = run.0; told = told_input InTells run.0 i o run.1.0; run = run.1.1 }
 
-pub begun_runs : {Tells : Type 0} (w : Work) (set : Setting) (end : RunEnd) (slots : ℕ) (n : Outside) (s : Image) (i j o q : Stream) → KeepsRule (program w.typed.now) → IsPlan set.plan → n ≡ opened Nothing i o → s ≡ begins_at slots n → setting_of w ≡ set → Comes Tells w end s j q
-    → Runs Tells (program w.typed.now) set end i j o q
-begun_runs {Tells} w set end slots n s i j o q rule sound new begun same c =
-    let from : Comes Tells w end (begins_at slots (opened Nothing i o)) j q = subst (λ (x : Image). Comes Tells w end x j q) (begun ∙ ap (begins_at slots) new) c in
-    subst (λ (x : Setting). Runs Tells (program w.typed.now) x end i j o q) same (outset_runs w end slots i j o q rule (subst (λ (x : Setting). IsPlan x.plan) (sym same) sound) from)
+pub begun_runs : {InTells OutTells : Type 0} (w : Work) (set : Setting) (end : RunEnd) (slots : ℕ) (n : Outside) (s : Image) (i j o q : Stream) → KeepsRule (program w.typed.now) → IsPlan set.plan → n ≡ fresh i o → s ≡ begins_at slots n → setting_of w ≡ set → Comes InTells OutTells w end s j q
+    → Runs InTells OutTells (program w.typed.now) set end i j o q
+begun_runs {InTells} {OutTells} w set end slots n s i j o q rule sound new begun same c =
+    let from : Comes InTells OutTells w end (begins_at slots (fresh i o)) j q = subst (λ (x : Image). Comes InTells OutTells w end x j q) (begun ∙ ap (begins_at slots) new) c in
+    subst (λ (x : Setting). Runs InTells OutTells (program w.typed.now) x end i j o q) same (outset_runs w end slots i j o q rule (subst (λ (x : Setting). IsPlan x.plan) (sym same) sound) from)
 
 -- a run that isn't begun
-back_is : (p n : Outside) (i j o q : Stream) → n ≡ opened Nothing i o → p ≡ n → opened p.held j q ≡ p → opened Nothing j q ≡ opened Nothing i o
-back_is p n i j o q new same left = subst (λ (x : Outside). opened x.held j q ≡ x) (same ∙ new) left
-
-pub unbegun_runs : {Tells : Type 0} (p : Program) (set : Setting) (slots : ℕ) (b n : Outside) (i j o q : Stream) → KeepsRule p → n ≡ opened Nothing i o → b ≡ n → opened b.held j q ≡ b → Runs Tells p set run_end.NoMemory i j o q
-unbegun_runs p set slots b n i j o q rule new back left =
-    let e : opened Nothing j q ≡ opened Nothing i o = back_is b n i j o q new back left in
+pub unbegun_runs : {InTells OutTells : Type 0} (p : Program) (set : Setting) (slots : ℕ) (b n : Outside) (i j o q : Stream) → KeepsRule p → n ≡ fresh i o → b ≡ n → Leaves OutTells b j q → Runs InTells OutTells p set run_end.NoMemory i j o q
+unbegun_runs {InTells} {OutTells} p set slots b n i j o q rule new back left =
+    let here : Leaves OutTells (fresh i o) j q = subst (λ (x : Outside). Leaves OutTells x j q) (back ∙ new) left in
+    let both = stored_law p set slots (bytes_of i) (bytes_of o) (Err (Fails MemoryFault)) (outset slots (bytes_of i) (bytes_of o)) rule (inl (refl, refl)) in
     record {
-      causes = both_same (faults_of i o) (faults_of j q) (ap (λ (x : Outside). x.faults) e);
-      run = λ told.
-          let both = stored_law p set slots (bytes_of i) (bytes_of o) (Err (Fails MemoryFault)) (outset slots (bytes_of i) (bytes_of o)) rule (inl (refl, refl)) in
-          record {
-            outcome = outcome_of p (bytes_of o) (Err (Fails MemoryFault)) (outset slots (bytes_of i) (bytes_of o));
-            early = both.1.0;
-            permitted = both.1.1;
-            ends = refl;
-            output = ap (λ (x : Outside). x.put) e ∙ both.0;
-            calm = λ calm itself. absurd itself;
-          };
+      causes = (here.input, here.output);
+      on = bytes_of i;
+      told = λ told. refl;
+      run = record {
+        outcome = outcome_of p (bytes_of o) (Err (Fails MemoryFault)) (outset slots (bytes_of i) (bytes_of o));
+        early = both.1.0;
+        permitted = both.1.1;
+        ends = refl;
+        output = λ told. here.put told ∙ both.0;
+        calm = λ calm itself. absurd itself;
+      };
     }
 
 -- a plan without a zero

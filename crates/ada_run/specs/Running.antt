@@ -1,5 +1,5 @@
 -- How a unit ran: which run an answer tells of, and which devices failed.
-use Rattle.std.specs.Prelude.{◌≡◌, ℕ, ℤ, List, ◌++◌, Bool, true, Result, Ok, Err}
+use Rattle.std.specs.Prelude.{◌≡◌, ℕ, ℤ, List, [], ◌++◌, Bool, true, Result, Ok, Err}
 use Rattle.ada_meaning.specs.Law as law
 use Rattle.ada_meaning.specs.Law.{EndsItself, IsPermitted, IsPlan, Outcome}
 use Rattle.ada_meaning.specs.Nonblocking.{KeepsRule}
@@ -13,8 +13,8 @@ use Rattle.ada_typed.specs.Syntax.{Program}
 use Rattle.chunk_plan.specs.Plans.{plan_of}
 use Rattle.chunk_plan.specs.declared.plan.Setting as plan
 use Rattle.run_parts.specs.declared.work.Work.{Work}
-use Rattle.run_store.specs.Outside.{Faults}
-use Rattle.run_store.specs.Shows.{Image}
+use Rattle.run_store.specs.Outside.{Faults, MayBe}
+use Rattle.run_store.specs.Shows.{Image, outside_of}
 use Rattle.run_store.specs.declared.ends.End.{End}
 use Rattle.run_store.specs.declared.ends.End.TheVariants as end
 use Rattle.run_store.specs.declared.ends.Leave.TheVariants as leave
@@ -80,7 +80,7 @@ abbrev pub faults_of : Stream → Stream → Faults
 faults_of input out = record { input = input.faults; output = out.faults }
 
 -- what became of a run from a state on, where the devices are now
-pub record Comes (Tells : Type 0) (w : Work) (end : RunEnd) (s : Image) (input out : Stream) : Type 0 where
+pub record Comes (InTells OutTells : Type 0) (w : Work) (end : RunEnd) (s : Image) (input out : Stream) : Type 0 where
   pub causes : (i o : Stream) → s.faults ≡ faults_of i o → Causes end i input o out
-  pub run : Tells → KeepsRule (program w.typed.now) → IsPlan w.plan.now → (slots : ℕ) → s.state ≡ outset slots s.state.input s.state.output
-      → TellsOf (program w.typed.now) (interpreter.setting_of w) end s.state.input s.state.output (bytes_of out)
+  pub run : KeepsRule (program w.typed.now) → IsPlan w.plan.now → (slots : ℕ) → s.state ≡ outset slots [] s.state.output
+      → (on : List ℕ) × (MayBe InTells on (outside_of s) × TellsOf OutTells (program w.typed.now) (interpreter.setting_of w) end on s.state.output (bytes_of out))

@@ -61,7 +61,7 @@ fn run_from<I: Source + Drop, O: Sink + Drop>(
     work: &Work<'_>,
     store: Store<Ports<I, O>>,
 ) -> Ran<I, O>
-    ensures { Comes (((s : I) → IsTold (I.state s)) × ((s : O) → IsTold (O.state s))) work.now result.end store (I.state result.input) (O.state result.out) }
+    ensures { Comes ((s : I) → IsTold (I.state s)) ((s : O) → IsTold (O.state s)) work.now result.end store (I.state result.input) (O.state result.out) }
 {
     let mut store = store;
     let how = run(work, &mut store);
@@ -72,10 +72,10 @@ fn run_from<I: Source + Drop, O: Sink + Drop>(
 }
 
 /// Runs a unit under a setting, on an input and an output, which it gives back as the run left them. `ReadFault` and
-/// `WriteFault` come only where the count of that device's faults rose. Where both tell what they hold, the answer is the
-/// ending of a run that is permitted under the setting's plan and limit, whose output was put, whichever way it ended. So
-/// far the threads of parallel constructs are taken in order: the runtime and the pulse, which is told of each thread that
-/// a worker begins, aren't asked.
+/// `WriteFault` come only where the count of that device's faults rose. The answer is the ending of a run that is permitted
+/// under the setting's plan and limit on some input, whichever way it ended; where the input tells what it holds, on that,
+/// and where the output tells, that run's output was put. So far the threads of parallel constructs are taken in order: the
+/// runtime and the pulse, which is told of each thread that a worker begins, aren't asked.
 pub fn execute<R: Threads + Sync, I: Source + Drop, O: Sink + Drop, P: Pulse + Sync>(
     rt: &R,
     alloc: Global,
@@ -86,7 +86,7 @@ pub fn execute<R: Threads + Sync, I: Source + Drop, O: Sink + Drop, P: Pulse + S
     pulse: &P,
 ) -> Ran<I, O>
     requires { HasNoZero setting.plan }
-    ensures { Runs (((s : I) → IsTold (I.state s)) × ((s : O) → IsTold (O.state s))) (program unit.now.typed) (setting_of setting) result.end (I.state input) (I.state result.input) (O.state out) (O.state result.out) }
+    ensures { Runs ((s : I) → IsTold (I.state s)) ((s : O) → IsTold (O.state s)) (program unit.now.typed) (setting_of setting) result.end (I.state input) (I.state result.input) (O.state out) (O.state result.out) }
 {
     let _ = rt;
     let _ = pulse;
