@@ -70,9 +70,10 @@ fn answer_words<
 /// and 8 for want of memory.
 ///
 /// The words are `MODE FILE [--workers N] [--chunks PLAN] [--turns K] [--vars]`, where MODE is `check` or `run`. The text is
-/// fetched, compiled and run: the bytes written and the final variables are those of a run that the manual permits under the
-/// plan, and where the sequential run is calm, of that run. What it writes goes to out, and a line to err says why the status isn't 0. Once a device has
-/// failed it is not asked again. So far nothing is asked of the runtime and the pulse.
+/// fetched, compiled and run: how that ends and its final variables are those of a run that the manual permits under the plan
+/// on some input, on what the input tells, where it tells, and the bytes written are that run's; where the sequential run is
+/// calm, it is that run. What it writes goes to out, and a line to err says why the status isn't 0. Once a device has failed
+/// it is not asked again. So far nothing is asked of the runtime and the pulse.
 pub fn run_words<
     R: Threads + Sync,
     F: Shelf,

@@ -1,8 +1,7 @@
 -- A run of the interpreter is a run of a unit.
-use Rattle.std.proofs.Common.{◌≡◌, ◌<◌, ℕ, suc, arith, List, [], ◌∷◌, ◌++◌, Bool, true, false, true≢false, Result, Ok, Err, inl, refl, sym, ap, ◌∙◌, subst}
+use Rattle.std.proofs.Common.{◌≡◌, ◌<◌, ℕ, suc, arith, List, [], ◌∷◌, Bool, true, Result, Ok, Err, inl, refl, sym, ap, ◌∙◌, subst}
 use Rattle.std.specs.Prelude.{All}
 use Rattle.ada_base.specs.Cuts.{Plan}
-use Rattle.ada_io.specs.Gets.{met_end}
 use Rattle.ada_meaning.proofs.Law.{one_sequential_law}
 use Rattle.ada_meaning.specs.Law.{EachPositive, EndsItself, IsPermitted, IsPlan, Outcome}
 use Rattle.ada_meaning.specs.Law as law
@@ -20,6 +19,7 @@ use Rattle.ada_typed.specs.Syntax.{Program}
 use Rattle.ada_interpreter.specs.Run.{IsRun, answer_of, setting_of}
 use Rattle.run_parts.specs.declared.work.Work.{Work}
 use Rattle.run_store.specs.Operating.{begins_at}
+use Rattle.run_store.proofs.Getting.{some_input, told_input}
 use Rattle.run_store.specs.Outside.{Faults, Leaves, MayBe, Outside, Risen, fresh}
 use Rattle.run_store.specs.Shows as shows
 use Rattle.run_store.specs.Shows.{Image, outside_of}
@@ -63,20 +63,6 @@ ends_as p before limit (Err end.WriteFault) t f k d = refl
 faults_left : {OutTells : Type 0} (o : Outside) (j q : Stream) → Leaves OutTells o j q → faults_of j q ≡ o.faults
 faults_left o j q l = ap (λ n. let f : Faults = record { input = n; output = q.faults } in f) l.input ∙ ap (λ n. let f : Faults = record { input = o.faults.input; output = n } in f) l.output
 
--- some input may be the whole one, whatever came
-some_input : (InTells : Type 0) (o : Outside) → (w : List ℕ) × MayBe InTells w o
-unfolding MayBe
-some_input InTells o = go (met_end o.held) refl
-  where
-    go : (b : Bool) → met_end o.held ≡ b → (w : List ℕ) × MayBe InTells w o
-    go true e = (o.came ++ [], ([], (refl, ((λ _. refl), λ told no. absurd (true≢false (sym e ∙ no))))))
-    go false e = (o.came ++ o.coming, (o.coming, (refl, ((λ yes. absurd (true≢false (sym yes ∙ e))), λ told no. refl))))
-
--- where nothing came, that is what is told
-told_input : (InTells : Type 0) (w : List ℕ) (i o : Stream) → MayBe InTells w (fresh i o) → InTells → w ≡ bytes_of i
-unfolding MayBe
-told_input InTells w i o k told = k.1.0 ∙ k.1.1.1 told refl
-
 -- a run in order of a program whose sequential run is calm
 calm_comes : (p : Program) (set : Setting) (input : List ℕ) (early : Bool) (o : Outcome) → KeepsRule p → IsPlan set.plan → set.one ≡ true → IsPermitted p set input early o
     → IsCalm (sequential p set.limit (input_of input)) → EndsItself o.ending → o ≡ law.outcome_of p input (sequential p set.limit (input_of input))
@@ -117,9 +103,9 @@ in_order plan limit = record { plan = plan; one = true; limit = limit }
 -- a run from the outset
 outset_runs : {InTells OutTells : Type 0} (w : Work) (end : RunEnd) (slots : ℕ) (i j o q : Stream) → KeepsRule (program w.typed.now) → IsPlan w.plan.now → Comes InTells OutTells w end (begins_at slots (fresh i o)) j q
     → Runs InTells OutTells (program w.typed.now) (setting_of w) end i j o q
-outset_runs {InTells} w end slots i j o q rule sound c =
+outset_runs w end slots i j o q rule sound c =
     let run = c.run rule sound slots refl in
-    record { causes = c.causes i o refl; on = run.0; told = told_input InTells run.0 i o run.1.0; run = run.1.1 }
+    record { causes = c.causes i o refl; on = run.0; told = λ told. told_input run.0 (fresh i o) told refl refl run.1.0; run = run.1.1 }
 
 pub begun_runs : {InTells OutTells : Type 0} (w : Work) (set : Setting) (end : RunEnd) (slots : ℕ) (n : Outside) (s : Image) (i j o q : Stream) → KeepsRule (program w.typed.now) → IsPlan set.plan → n ≡ fresh i o → s ≡ begins_at slots n → setting_of w ≡ set → Comes InTells OutTells w end s j q
     → Runs InTells OutTells (program w.typed.now) set end i j o q
