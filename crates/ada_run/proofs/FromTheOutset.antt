@@ -1,6 +1,7 @@
 -- A run of the interpreter is a run of a unit.
-use Rattle.std.proofs.Common.{◌≡◌, ◌<◌, ℕ, suc, arith, List, [], ◌∷◌, Bool, true, Result, Ok, Err, inl, refl, sym, ap, ◌∙◌, subst}
+use Rattle.std.proofs.Common.{◌≡◌, ◌<◌, ℕ, suc, arith, List, [], ◌∷◌, length, drop, Bool, true, false, Result, Ok, Err, inl, refl, sym, ap, ◌∙◌, subst}
 use Rattle.std.specs.Prelude.{All}
+use Rattle.std.proofs.Math.Seq.{drop-append_seam}
 use Rattle.ada_base.specs.Cuts.{Plan}
 use Rattle.ada_meaning.proofs.Law.{one_sequential_law}
 use Rattle.ada_meaning.specs.Law.{EachPositive, EndsItself, IsPermitted, IsPlan, Outcome}
@@ -60,7 +61,7 @@ ends_as p before limit (Err end.ReadFault) t f k d = refl
 ends_as p before limit (Err end.WriteFault) t f k d = refl
 
 -- the counts of devices that a run left so
-faults_left : {OutTells : Type 0} (o : Outside) (j q : Stream) → Leaves OutTells o j q → faults_of j q ≡ o.faults
+faults_left : {InTells OutTells : Type 0} (o : Outside) (j q : Stream) → Leaves InTells OutTells o j q → faults_of j q ≡ o.faults
 faults_left o j q l = ap (λ n. let f : Faults = record { input = n; output = q.faults } in f) l.input ∙ ap (λ n. let f : Faults = record { input = o.faults.input; output = n } in f) l.output
 
 -- a run in order of a program whose sequential run is calm
@@ -68,14 +69,22 @@ calm_comes : (p : Program) (set : Setting) (input : List ℕ) (early : Bool) (o 
     → IsCalm (sequential p set.limit (input_of input)) → EndsItself o.ending → o ≡ law.outcome_of p input (sequential p set.limit (input_of input))
 calm_comes p set input early o rule sound one permitted calm itself = (one_sequential_law p set input rule sound one calm).0 early o permitted itself
 
+-- what a source that tells has left of an input that may be the whole one
+left_over : {InTells OutTells : Type 0} (o : Outside) (j q : Stream) (w : List ℕ) → Leaves InTells OutTells o j q → MayBe InTells w o → InTells → bytes_of j ≡ drop (length o.came) w
+unfolding MayBe
+left_over o j q w left k told = left.coming ∙ sym (ap (drop (length o.came)) k.1.0 ∙ drop-append_seam o.came k.0 ∙ go _ k.1.1.0 (k.1.1.1 told) (left.over told))
+  where
+    go : (over : Bool) → (over ≡ true → k.0 ≡ []) → (over ≡ false → k.0 ≡ o.coming) → (over ≡ true → o.coming ≡ []) → k.0 ≡ o.coming
+    go true none follows left = none refl ∙ sym (left refl)
+    go false none follows left = follows refl
+
 ran_comes : {InTells OutTells : Type 0} (w : Work) (r : Result (Unit {0}) End) (s t : Image) (f : Finals) (j q : Stream) → IsRun (MayBe InTells) w r s t → f.kept ≡ t.state.kept → f.declared ≡ t.state.declared
-    → Leaves OutTells (outside_of t) j q → Comes InTells OutTells w (end_of r w.limit f) s j q
-ran_comes {InTells} w r s t f j q is k d left = record {
+    → t.state.taken ≡ length t.state.input → Leaves InTells OutTells (outside_of t) j q → Comes InTells OutTells w (end_of r w.limit f) s j q
+ran_comes {InTells} w r s t f j q is k d taken left = record {
   causes = λ i o same. causes_of r w.limit f i j o q (subst (λ (x : Faults). shows.Causes r x (faults_of j q)) same (subst (λ (x : Faults). shows.Causes r s.faults x) (sym (faults_left (outside_of t) j q left)) is.cause));
   run = λ rule sound slots begun.
       let some = some_input InTells (outside_of t) in
-      let both = is.permitted some.0 some.1 rule slots begun in
-      (
+      let both = is.permitted some.0 some.1 rule slots begun in (
         some.0,
         (
           is.back some.0 some.1,
@@ -84,6 +93,7 @@ ran_comes {InTells} w r s t f j q is k d left = record {
             early = both.1.0;
             permitted = both.1.1;
             ends = ends_as (program w.typed.now) s.state.output w.limit r t f k d;
+            left = λ told. left_over (outside_of t) j q some.0 left some.1 told ∙ ap (λ n. drop n some.0) (sym taken);
             output = λ told. left.put told ∙ both.0;
             calm = calm_comes (program w.typed.now) (setting_of w) some.0 both.1.0 (outcome_of (program w.typed.now) s.state.output (answer_of r) t.state) rule sound refl both.1.1;
           },
@@ -93,9 +103,9 @@ ran_comes {InTells} w r s t f j q is k d left = record {
 
 -- a run from a state on, and what was taken apart at its end
 pub run_comes : {InTells OutTells : Type 0} (w : Work) (r : Result (Unit {0}) End) (s t : Image) (f : Finals) (p : Outside) (j q : Stream) (end : RunEnd) → IsRun (MayBe InTells) w r s t
-    → (p ≡ outside_of t) × (f.kept ≡ t.state.kept) × (f.declared ≡ t.state.declared) → Leaves OutTells p j q → end ≡ end_of r w.limit f → Comes InTells OutTells w end s j q
+    → (p ≡ outside_of t) × (f.kept ≡ t.state.kept) × (f.declared ≡ t.state.declared) × (t.state.taken ≡ length t.state.input) → Leaves InTells OutTells p j q → end ≡ end_of r w.limit f → Comes InTells OutTells w end s j q
 run_comes {InTells} {OutTells} w r s t f p j q end is ended left same =
-    subst (λ (e : RunEnd). Comes InTells OutTells w e s j q) (sym same) (ran_comes w r s t f j q is ended.1 ended.2 (subst (λ (x : Outside). Leaves OutTells x j q) ended.0 left))
+    subst (λ (e : RunEnd). Comes InTells OutTells w e s j q) (sym same) (ran_comes w r s t f j q is ended.1 ended.2 ended.3 (subst (λ (x : Outside). Leaves InTells OutTells x j q) ended.0 left))
 
 abbrev pub in_order : Plan → ℕ → Setting
 in_order plan limit = record { plan = plan; one = true; limit = limit }
@@ -114,9 +124,9 @@ begun_runs {InTells} {OutTells} w set end slots n s i j o q rule sound new begun
     subst (λ (x : Setting). Runs InTells OutTells (program w.typed.now) x end i j o q) same (outset_runs w end slots i j o q rule (subst (λ (x : Setting). IsPlan x.plan) (sym same) sound) from)
 
 -- a run that isn't begun
-pub unbegun_runs : {InTells OutTells : Type 0} (p : Program) (set : Setting) (slots : ℕ) (b n : Outside) (i j o q : Stream) → KeepsRule p → n ≡ fresh i o → b ≡ n → Leaves OutTells b j q → Runs InTells OutTells p set run_end.NoMemory i j o q
+pub unbegun_runs : {InTells OutTells : Type 0} (p : Program) (set : Setting) (slots : ℕ) (b n : Outside) (i j o q : Stream) → KeepsRule p → n ≡ fresh i o → b ≡ n → Leaves InTells OutTells b j q → Runs InTells OutTells p set run_end.NoMemory i j o q
 unbegun_runs {InTells} {OutTells} p set slots b n i j o q rule new back left =
-    let here : Leaves OutTells (fresh i o) j q = subst (λ (x : Outside). Leaves OutTells x j q) (back ∙ new) left in
+    let here : Leaves InTells OutTells (fresh i o) j q = subst (λ (x : Outside). Leaves InTells OutTells x j q) (back ∙ new) left in
     let both = stored_law p set slots (bytes_of i) (bytes_of o) (Err (Fails MemoryFault)) (outset slots (bytes_of i) (bytes_of o)) rule (inl (refl, refl)) in
     record {
       causes = (here.input, here.output);
@@ -127,6 +137,7 @@ unbegun_runs {InTells} {OutTells} p set slots b n i j o q rule new back left =
         early = both.1.0;
         permitted = both.1.1;
         ends = refl;
+        left = λ told. here.coming;
         output = λ told. here.put told ∙ both.0;
         calm = λ calm itself. absurd itself;
       };

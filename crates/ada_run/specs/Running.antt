@@ -1,5 +1,5 @@
 -- How a unit ran: which run an answer tells of, and which devices failed.
-use Rattle.std.specs.Prelude.{◌≡◌, ℕ, ℤ, List, [], ◌++◌, Bool, true, Result, Ok, Err}
+use Rattle.std.specs.Prelude.{◌≡◌, ℕ, ℤ, List, [], ◌++◌, drop, Bool, true, Result, Ok, Err}
 use Rattle.ada_meaning.specs.Law as law
 use Rattle.ada_meaning.specs.Law.{EndsItself, IsPermitted, IsPlan, Outcome}
 use Rattle.ada_meaning.specs.Nonblocking.{KeepsRule}
@@ -39,15 +39,16 @@ EndsAs p limit run_end.ReadFault o = o.ending ≡ law.ReadFault
 EndsAs p limit run_end.WriteFault o = o.ending ≡ law.WriteFault
 EndsAs p limit run_end.NoMemory o = o.ending ≡ law.NoMemory
 
--- The answer tells of a run that is permitted under the setting on these bytes of input, and where the output tells, what was
--- put before is followed by that run's output. Where the run ended by itself and the sequential run is calm (it ends within
--- the limit, normally or by an exception, leaves no parallel construct early, and its parallel reductions are listed ones
--- without partial overflow), it is that run.
-pub record TellsOf (OutTells : Type 0) (p : Program) (set : Setting) (end : RunEnd) (input before now : List ℕ) : Type 0 where
+-- The answer tells of a run that is permitted under the setting on these bytes of input. Where the input tells, what is left
+-- of it is what that run didn't take; where the output tells, what was put before is followed by that run's output. Where the
+-- run ended by itself and the sequential run is calm (it ends within the limit, normally or by an exception, leaves no
+-- parallel construct early, and its parallel reductions are listed ones without partial overflow), it is that run.
+pub record TellsOf (InTells OutTells : Type 0) (p : Program) (set : Setting) (end : RunEnd) (input rest before now : List ℕ) : Type 0 where
   pub outcome : Outcome
   pub early : Bool
   pub permitted : IsPermitted p set input early outcome
   pub ends : EndsAs p set.limit end outcome
+  pub left : InTells → rest ≡ drop outcome.taken input
   pub output : OutTells → now ≡ before ++ outcome.output
   pub calm : IsCalm (sequential p set.limit (input_of input)) → EndsItself outcome.ending → outcome ≡ law.outcome_of p input (sequential p set.limit (input_of input))
 
@@ -62,7 +63,7 @@ pub record Runs (InTells OutTells : Type 0) (p : Program) (set : Setting) (end :
   pub causes : Causes end input input' out out'
   pub on : List ℕ
   pub told : InTells → on ≡ bytes_of input
-  pub run : TellsOf OutTells p set end on (bytes_of out) (bytes_of out')
+  pub run : TellsOf InTells OutTells p set end on (bytes_of input') (bytes_of out) (bytes_of out')
 
 -- the answer that an interpreter's end is, with what the variables were then; a main procedure isn't left by an exit or
 -- a return
@@ -83,4 +84,4 @@ faults_of input out = record { input = input.faults; output = out.faults }
 pub record Comes (InTells OutTells : Type 0) (w : Work) (end : RunEnd) (s : Image) (input out : Stream) : Type 0 where
   pub causes : (i o : Stream) → s.faults ≡ faults_of i o → Causes end i input o out
   pub run : KeepsRule (program w.typed.now) → IsPlan w.plan.now → (slots : ℕ) → s.state ≡ outset slots [] s.state.output
-      → (on : List ℕ) × (MayBe InTells on (outside_of s) × TellsOf OutTells (program w.typed.now) (interpreter.setting_of w) end on s.state.output (bytes_of out))
+      → (on : List ℕ) × (MayBe InTells on (outside_of s) × TellsOf InTells OutTells (program w.typed.now) (interpreter.setting_of w) end on (bytes_of input) s.state.output (bytes_of out))
