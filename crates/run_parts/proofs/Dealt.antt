@@ -15,8 +15,9 @@ use Rattle.ada_meaning.specs.Stored.{Stored, ret, bind, leaves, checks}
 use Rattle.run_store.specs.declared.ends.End.{End}
 use Rattle.run_store.specs.declared.ends.End.TheVariants as end
 use Rattle.run_store.specs.declared.ends.Leave.TheVariants as leave
+use Rattle.run_store.specs.Outside.{Outside}
 use Rattle.run_store.specs.Shows.{Image, ShowsAs, Shows}
-use Rattle.run_store.proofs.Going.{goes_refl, goes_ends, then_shows}
+use Rattle.run_store.proofs.Going.{stays, goes_refl, goes_ends, then_shows}
 use Rattle.run_parts.specs.declared.chunks.Chunking.{Chunking}
 use Rattle.run_parts.specs.declared.chunks.Chunking.TheVariants as chunking
 use Rattle.run_parts.specs.declared.work.Work.{Work}
@@ -91,14 +92,14 @@ bounds_not w (Some c) low high e = go (int_le low high) (is_in c.scalar low && i
     go true b e = rw e refl
     go false b e = cc
 
-module _ {Tells : Type 0} (w : Work) (s : Image) where
+module _ {Tells : List ℕ → Outside → Type 0} (w : Work) (s : Image) where
   unless_so : (b : Bool) (r : Reason) → b ≡ true → Shows Tells (meaning.unless (ops w) b r) (Ok tt) s s
   unfolding ret
-  unless_so b r e = subst (λ z. Shows Tells (meaning.unless (ops w) z r) (Ok tt) s s) (sym e) (refl, λ told. refl)
+  unless_so b r e = subst (λ z. Shows Tells (meaning.unless (ops w) z r) (Ok tt) s s) (sym e) (refl, stays, λ w told. refl)
 
   unless_not : (b : Bool) (r : Reason) → b ≡ false → Shows Tells (meaning.unless (ops w) b r) (Err (end.Left (leave.Raises r))) s s
   unfolding leaves
-  unless_not b r e = subst (λ z. Shows Tells (meaning.unless (ops w) z r) (Err (end.Left (leave.Raises r))) s s) (sym e) (refl, λ told. refl)
+  unless_not b r e = subst (λ z. Shows Tells (meaning.unless (ops w) z r) (Err (end.Left (leave.Raises r))) s s) (sym e) (refl, stays, λ w told. refl)
 
 module _ (w : Work) (k : ℕ) (check : Option Check) (l h : ℤ) where
   abbrev given : Stored meaning.Chunking
@@ -110,15 +111,15 @@ module _ (w : Work) (k : ℕ) (check : Option Check) (l h : ℤ) where
   abbrev some : Stored meaning.Chunking
   some = bind (meaning.unless (ops w) (int_le l h) reason.ProgramError) (λ _. few)
 
-  module _ {Tells : Type 0} (s : Image) where
+  module _ {Tells : List ℕ → Outside → Type 0} (s : Image) where
     pub each_not : bounds_hold check l h ≡ false → ShowsAs chunking_of Tells (each_chunk w k check l h) (Err (end.Left (leave.Raises reason.ConstraintError))) s s
     unfolding leaves
-    each_not e = goes_ends (λ a. a) chunking_of _ (meaning.bounds_checked (ops w) check l h) (λ _. some) s s s (end.Left (leave.Raises reason.ConstraintError)) (goes_refl _ s) (subst (λ (z : Stored (Unit {0})). Shows Tells z (Err (end.Left (leave.Raises reason.ConstraintError))) s s) (sym (bounds_not w check l h e)) (refl, λ told. refl))
+    each_not e = goes_ends (λ a. a) chunking_of _ (meaning.bounds_checked (ops w) check l h) (λ _. some) s s s (end.Left (leave.Raises reason.ConstraintError)) (goes_refl _ s) (subst (λ (z : Stored (Unit {0})). Shows Tells z (Err (end.Left (leave.Raises reason.ConstraintError))) s s) (sym (bounds_not w check l h e)) (refl, stays, λ w told. refl))
 
     module _ (e : bounds_hold check l h ≡ true) where
       within : (r : Result Chunking End) → ShowsAs chunking_of Tells some r s s → ShowsAs chunking_of Tells (each_chunk w k check l h) r s s
       unfolding ret
-      within r g = then_shows (λ a. a) chunking_of (meaning.bounds_checked (ops w) check l h) (λ _. some) s s s tt r (subst (λ (z : Stored (Unit {0})). Shows Tells z (Ok tt) s s) (sym (bounds_so w check l h e)) (refl, λ told. refl)) g
+      within r g = then_shows (λ a. a) chunking_of (meaning.bounds_checked (ops w) check l h) (λ _. some) s s s tt r (subst (λ (z : Stored (Unit {0})). Shows Tells z (Ok tt) s s) (sym (bounds_so w check l h e)) (refl, stays, λ w told. refl)) g
 
       pub each_none : int_le l h ≡ false → ShowsAs chunking_of Tells (each_chunk w k check l h) (Err (end.Left (leave.Raises reason.ProgramError))) s s
       each_none f = within (Err (end.Left (leave.Raises reason.ProgramError))) (goes_ends (λ a. a) chunking_of _ (meaning.unless (ops w) (int_le l h) reason.ProgramError) (λ _. few) s s s (end.Left (leave.Raises reason.ProgramError)) (goes_refl _ s) (unless_not w s (int_le l h) reason.ProgramError f))
@@ -135,4 +136,4 @@ module _ (w : Work) (k : ℕ) (check : Option Check) (l h : ℤ) where
         each_some m low n p q =
             subst (λ z. ShowsAs chunking_of Tells (each_chunk w k check l h) (Ok (chunking.Each k z n)) s s) (sym p)
             (subst (λ z. ShowsAs chunking_of Tells (each_chunk w k check l h) (Ok (chunking.Each k l z)) s s) (sym q)
-            (ordered (Ok (chunking.Each k l (count l h))) (then_shows (λ a. a) chunking_of (meaning.unless (ops w) (nat_le (count l h) 4096) reason.StorageError) (λ _. given) s s s tt (Ok (chunking.Each k l (count l h))) (unless_so w s (nat_le (count l h) 4096) reason.StorageError m) (refl, λ told. refl))))
+            (ordered (Ok (chunking.Each k l (count l h))) (then_shows (λ a. a) chunking_of (meaning.unless (ops w) (nat_le (count l h) 4096) reason.StorageError) (λ _. given) s s s tt (Ok (chunking.Each k l (count l h))) (unless_so w s (nat_le (count l h) 4096) reason.StorageError m) (refl, stays, λ w told. refl))))

@@ -6,6 +6,7 @@ use Rattle.ada_typed.specs.declared.scalars.Scalar.{Scalar}
 use Rattle.ada_meaning.specs.Values.{laid, zeros}
 use Rattle.ada_meaning.specs.Stored.{Stored, bind, reads, writes}
 use Rattle.ada_meaning.proofs.Cells.{get_within}
+use Rattle.run_store.specs.Outside.{Outside}
 use Rattle.run_store.specs.Shows.{Image, Goes, ShowsAs, Shows, OrNoMemory}
 use Rattle.run_store.specs.declared.ends.End.TheVariants as end
 use Rattle.run_store.specs.declared.ends.End.{End}
@@ -14,7 +15,7 @@ use Rattle.std.specs.Prelude.{Result, Ok, Err}
 use Rattle.run_parts.specs.declared.work.Work.{Work}
 use Rattle.run_parts.specs.Words.{read_all, write_all}
 
-module _ {Tells : Type 0} (whole : Stored (List ℤ)) (s t u : Image) (w : Work) (x : Entity) (at : ℕ) (so_far : List ℤ) (layout : List Scalar) (k : ℕ) (lt : k < length layout) (g : Goes Tells whole s (read_all w x at so_far (drop k layout)) t) where
+module _ {Tells : List ℕ → Outside → Type 0} (whole : Stored (List ℤ)) (s t u : Image) (w : Work) (x : Entity) (at : ℕ) (so_far : List ℤ) (layout : List Scalar) (k : ℕ) (lt : k < length layout) (g : Goes Tells whole s (read_all w x at so_far (drop k layout)) t) where
   read_more : Goes Tells whole s (bind (reads x at) (λ v. read_all w x (at + 1) (so_far ++ v ∷ []) (drop (k + 1) layout))) t
   unfolding read_all
   read_more = go (get_within layout k lt)
@@ -30,7 +31,7 @@ module _ {Tells : Type 0} (whole : Stored (List ℤ)) (s t u : Image) (w : Work)
   pub read_ends : (e : End) → Shows Tells (reads x at) (Err e) t u → Shows Tells whole (Err e) s u
   read_ends e h = goes_ends (λ a. a) (λ a. a) whole (reads x at) (λ v. read_all w x (at + 1) (so_far ++ v ∷ []) (drop (k + 1) layout)) s t u e read_more h
 
-pub read_done : {Tells : Type 0} (whole : Stored (List ℤ)) (s t : Image) (w : Work) (x : Entity) (at : ℕ) (so_far : List ℤ) (layout : List Scalar) (k : ℕ) → length layout ≤ k → Goes Tells whole s (read_all w x at so_far (drop k layout)) t → Shows Tells whole (Ok so_far) s t
+pub read_done : {Tells : List ℕ → Outside → Type 0} (whole : Stored (List ℤ)) (s t : Image) (w : Work) (x : Entity) (at : ℕ) (so_far : List ℤ) (layout : List Scalar) (k : ℕ) → length layout ≤ k → Goes Tells whole s (read_all w x at so_far (drop k layout)) t → Shows Tells whole (Ok so_far) s t
 unfolding read_all
 read_done {Tells = Tells} whole s t w x at so_far layout k le g = goes_gives (λ a. a) whole so_far s t (subst (λ ss. Goes Tells whole s (read_all w x at so_far ss) t) (drop_all k layout le) g)
 
@@ -45,7 +46,7 @@ drop_none [] (suc k) e = refl
 drop_none (x ∷ xs) zero e = cc
 drop_none (x ∷ xs) (suc k) e = drop_none xs k e
 
-module _ {Tells : Type 0} (whole : Stored (Unit {0})) (s t u : Image) (w : Work) (x at : ℕ) (vs : List ℤ) (k : ℕ) (v : ℤ) (is : slice_get vs k ≡ Some v) (g : Goes Tells whole s (write_all w x at (drop k vs)) t) where
+module _ {Tells : List ℕ → Outside → Type 0} (whole : Stored (Unit {0})) (s t u : Image) (w : Work) (x at : ℕ) (vs : List ℤ) (k : ℕ) (v : ℤ) (is : slice_get vs k ≡ Some v) (g : Goes Tells whole s (write_all w x at (drop k vs)) t) where
   write_more : Goes Tells whole s (bind (writes x at v) (λ _. write_all w x (at + 1) (drop (k + 1) vs))) t
   unfolding write_all
   write_more = subst (λ ss. Goes Tells whole s (write_all w x at ss) t) (drop_some vs k v is) g
@@ -58,7 +59,7 @@ module _ {Tells : Type 0} (whole : Stored (Unit {0})) (s t u : Image) (w : Work)
   pub write_ends : (e : End) → Shows Tells (writes x at v) (Err e) t u → Shows Tells whole (Err e) s u
   write_ends e h = goes_ends (λ a. a) (λ a. a) whole (writes x at v) (λ _. write_all w x (at + 1) (drop (k + 1) vs)) s t u e write_more h
 
-pub write_done : {Tells : Type 0} (whole : Stored (Unit {0})) (s t : Image) (w : Work) (x at : ℕ) (vs : List ℤ) (k : ℕ) → slice_get vs k ≡ None → Goes Tells whole s (write_all w x at (drop k vs)) t → Shows Tells whole (Ok tt) s t
+pub write_done : {Tells : List ℕ → Outside → Type 0} (whole : Stored (Unit {0})) (s t : Image) (w : Work) (x at : ℕ) (vs : List ℤ) (k : ℕ) → slice_get vs k ≡ None → Goes Tells whole s (write_all w x at (drop k vs)) t → Shows Tells whole (Ok tt) s t
 unfolding write_all
 write_done {Tells = Tells} whole s t w x at vs k le g = goes_gives (λ a. a) whole tt s t (subst (λ ss. Goes Tells whole s (write_all w x at ss) t) (drop_none vs k le) g)
 
@@ -91,11 +92,11 @@ laid_all out cs f k vs e h = h ∙ ap (laid cs f) (take_none vs k e)
     take_none (x ∷ xs) (suc k) e = ap (λ z. x ∷ z) (take_none xs k e)
 
 -- an answer that is known to be another
-pub same_answer : {Tells A C : Type 0} (f : C → A) (m : Stored A) (q r : Result C End) (s t : Image) → r ≡ q → ShowsAs f Tells m q s t → ShowsAs f Tells m r s t
+pub same_answer : {Tells : List ℕ → Outside → Type 0} {A C : Type 0} (f : C → A) (m : Stored A) (q r : Result C End) (s t : Image) → r ≡ q → ShowsAs f Tells m q s t → ShowsAs f Tells m r s t
 same_answer {Tells = Tells} f m q r s t e h = subst (λ z. ShowsAs f Tells m z s t) (sym e) h
 
 -- memory fails after a part
-pub next_fails : {Tells A : Type 0} (P : ℕ → Type 0) (whole m : Stored A) (s t : Image) (r : Result A End) (e : End) → r ≡ Err e → OrNoMemory P (Err e) → Goes Tells whole s m t → Shows Tells whole r s t
+pub next_fails : {Tells : List ℕ → Outside → Type 0} {A : Type 0} (P : ℕ → Type 0) (whole m : Stored A) (s t : Image) (r : Result A End) (e : End) → r ≡ Err e → OrNoMemory P (Err e) → Goes Tells whole s m t → Shows Tells whole r s t
 next_fails {Tells = Tells} P whole m s t r e q h g = subst (λ z. Shows Tells whole z s t) (sym q) (go e h)
   where
     go : (e : End) → OrNoMemory P (Err e) → Shows Tells whole (Err e) s t

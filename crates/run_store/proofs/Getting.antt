@@ -1,19 +1,21 @@
 -- What ports of a source and a sink do; and a number that is read is the one of the stored run.
-use Rattle.std.proofs.Common.{◌≡◌, ℕ, ◌+◌, ◌≤◌, ℤ, List, ◌++◌, length, Option, Some, None, IsSome, Result, Ok, Err, Bool, true, false, refl, sym, ap, subst, ◌∙◌, arith}
+use Rattle.std.proofs.Common.{◌≡◌, ◌⊎◌, inl, inr, ℕ, ◌+◌, ◌≤◌, ℤ, List, [], ◌++◌, length, drop, Option, Some, None, IsSome, Result, Ok, Err, IsErr, Bool, true, false, true≢false, refl, sym, ap, subst, ◌∙◌, arith, append_assoc}
+use Rattle.std.proofs.Math.Seq.{drop-append_seam}
+use Rattle.std.proofs.lemmas.List.{append-nil}
 use Rattle.ada_base.specs.Cuts.{One, cuts_of}
 use Rattle.ada_base.specs.Input.{Held}
 use Rattle.ada_io.specs.declared.input.GetEnd.{GetEnd}
 use Rattle.ada_io.specs.declared.input.GetEnd.TheVariants as get
 use Rattle.ada_io.specs.declared.input.Got.{Got}
-use Rattle.ada_io.specs.Gets.{Last, Open, AtEnd, Broken, Gave, askings, last_of, Gets}
+use Rattle.ada_io.specs.Gets.{Last, Open, AtEnd, Broken, Gave, EndsHeld, ReaderState, askings, last_of, met_end, Gets}
 use Rattle.ada_port.specs.declared.ports.Failed.{Failed}
 use Rattle.ada_port.specs.Ports.{Stream, IsTold, bytes_of, bytes_told, Puts}
 use Rattle.ada_meaning.specs.Stored.{State, Stored, Computes}
 use Rattle.run_store.specs.declared.ends.End.{End}
-use Rattle.run_store.specs.Outside.{Outside, Faults, HasGot, HasPut, GetCauses, told_input, opened}
-use Rattle.run_store.specs.Shows.{Image, Shows, Answers, Causes}
-use Rattle.run_store.specs.Operating.{got, number_of, outside_of, read_to}
-use Rattle.run_store.proofs.StoredGet.{end_of, stored_get_told}
+use Rattle.run_store.specs.Outside.{Outside, Faults, HasGot, HasPut, GetCauses, Keeps, MayBe, Follows, Came, Leaves, put_of, opened}
+use Rattle.run_store.specs.Shows.{Image, Shows, Answers, Causes, outside_of, facing}
+use Rattle.run_store.specs.Operating.{got, number_of, read_to}
+use Rattle.run_store.proofs.StoredGet.{IsRest, end_of, stored_get}
 
 told_at : (s : Stream) → IsTold s → s.told ≡ Some (bytes_of s)
 told_at s t = go s.told t
@@ -22,16 +24,32 @@ told_at s t = go s.told t
     go None t = cc
     go (Some bs) t = refl
 
-as_told : (s : Stream) → IsTold s → s ≡ record { told = Some (bytes_of s); faults = s.faults }
-as_told s t = ap (λ (x : Option (List ℕ)). record { told = x; faults = s.faults }) (told_at s t)
-
 fewest : (l : Last) (bytes : List ℕ) → length bytes ≤ askings l bytes
 fewest Open bytes = omega arith
 fewest AtEnd bytes = omega arith
 fewest Broken bytes = omega arith
 
-module _ (old new sink : Stream) (before after : Held) where
-  get_cause : (e : GetEnd) (ended : Bool) (bytes : List ℕ) → Gave (last_of e ended) old new bytes → GetCauses e (opened before old sink).faults (opened after new sink).faults
+-- ---- the input
+
+-- what a source that tells had left before, and after its end
+left_before : (old new : Stream) (last : Last) (bytes : List ℕ) → Gave last old new bytes → IsTold old → bytes_of old ≡ bytes ++ bytes_of new
+left_before old new Open bytes g t = let k = g.told (bytes_of old) (told_at old t) in k.1 ∙ ap (λ bs. bytes ++ bs) (ap bytes_told (sym k.2))
+left_before old new AtEnd bytes g t = let k = g.told (bytes_of old) (told_at old t) in k.0 ∙ sym (append-nil bytes) ∙ ap (λ bs. bytes ++ bs) (ap bytes_told (sym k.1))
+left_before old new Broken bytes g t = let k = g.told (bytes_of old) (told_at old t) in k.1 ∙ ap (λ bs. bytes ++ bs) (ap bytes_told (sym k.2))
+
+left_at_end : (old new : Stream) (last : Last) (bytes : List ℕ) → Gave last old new bytes → IsTold old → last ≡ AtEnd → bytes_of new ≡ []
+left_at_end old new Open bytes g t e = cc
+left_at_end old new AtEnd bytes g t e = let k = g.told (bytes_of old) (told_at old t) in ap bytes_told k.1
+left_at_end old new Broken bytes g t e = cc
+
+module _ (old new begun sink : Stream) (pieces : List ℕ) (before after : ReaderState) where
+  abbrev from : Outside
+  from = opened before old begun sink pieces
+
+  abbrev to : Outside
+  to = opened after new begun sink pieces
+
+  get_cause : (e : GetEnd) (ended : Bool) (bytes : List ℕ) → Gave (last_of e ended) old new bytes → GetCauses e from.faults to.faults
   get_cause (get.Number v) true bytes g = ap (λ n. record { input = n; output = sink.faults }) g.faults
   get_cause (get.Number v) false bytes g = ap (λ n. record { input = n; output = sink.faults }) g.faults
   get_cause (get.Raise r) true bytes g = ap (λ n. record { input = n; output = sink.faults }) g.faults
@@ -40,22 +58,105 @@ module _ (old new sink : Stream) (before after : Held) where
   get_cause get.Spent true bytes g = ap (λ n. record { input = n; output = sink.faults }) g.faults
   get_cause get.Spent false bytes g = ap (λ n. record { input = n; output = sink.faults }) g.faults
 
-module _ {Tells : Type 0} (old new sink : Stream) (before after : Held) where
-  pub port_gets : (turns : ℕ) (r : Got) → (Tells → IsTold old) → (Tells → IsTold new) → Gets old new before after turns r → HasGot Tells turns r (opened before old sink) (opened after new sink)
-  port_gets turns r told-old told-new g = record {
-    cause = get_cause old new sink before after r.end g.ended g.bytes g.gave;
-    within = g.within;
-    fewer = let f = fewest (last_of r.end g.ended) g.bytes in omega (arith, f, g.took, g.came);
-    gets = λ told.
-        subst (λ (x : Stream). Gets x (told_input (opened after new sink)) before after turns r) (as_told old (told-old told))
-        (subst (λ (x : Stream). Gets old x before after turns r) (as_told new (told-new told)) g);
-    put = λ told. refl;
-  }
+  module _ {InTells : Type 0} (turns : ℕ) (r : Got) (telling : InTells → IsTold old) (g : Gets old new before after turns r) where
+    -- an input that may be the whole one after the Get may be it before
+    may_before : (w : List ℕ) → MayBe InTells w to → MayBe InTells w from
+    unfolding MayBe
+    may_before w k = (g.bytes ++ k.0, (k.1.0 ∙ ap (λ bs. bs ++ k.0) g.log ∙ append_assoc before.came g.bytes k.0, (none, follows)))
+      where
+        none : met_end before.held ≡ true → g.bytes ++ k.0 ≡ []
+        none e = let b = g.kept e in ap (λ bs. bs ++ k.0) b.0 ∙ k.1.1.0 b.1
 
-module _ {Tells : Type 0} (source old new : Stream) (held : Held) where
-  pub port_puts : (piece : List ℕ) (r : Result (Unit {0}) Failed) → (Tells → IsTold old) → Puts old new piece r → HasPut Tells piece r (opened held source old) (opened held source new)
-  port_puts piece (Ok u) t p = (ap (λ n. record { input = source.faults; output = n }) p.faults, λ told. (refl, refl, ap bytes_told (p.told (bytes_of old) (told_at old (t told)))))
-  port_puts piece (Err e) t p = ((refl, (p.rose.later, p.rose.higher)), λ told. let k = p.told (bytes_of old) (told_at old (t told)) in (refl, refl, (k.0, k.1, k.2, ap bytes_told k.3)))
+        later : InTells → met_end before.held ≡ false → (b : Bool) → met_end after.held ≡ b → k.0 ≡ bytes_of new
+        later told open_yet true e = go (g.meets e)
+          where
+            go : (met_end before.held ≡ true) ⊎ (last_of r.end g.ended ≡ AtEnd) → k.0 ≡ bytes_of new
+            go (inl was) = absurd (true≢false (sym was ∙ open_yet))
+            go (inr at) = k.1.1.0 e ∙ sym (left_at_end old new (last_of r.end g.ended) g.bytes g.gave (telling told) at)
+        later told open_yet false e = k.1.1.1 told e
+
+        follows : InTells → met_end before.held ≡ false → g.bytes ++ k.0 ≡ bytes_of old
+        follows told open_yet = ap (λ bs. g.bytes ++ bs) (later told open_yet (met_end after.held) refl) ∙ sym (left_before old new (last_of r.end g.ended) g.bytes g.gave (telling told))
+
+    fits : (w : List ℕ) → MayBe InTells w to → Follows w to
+    unfolding MayBe
+    fits w k = record { more = k.0; whole = k.1.0; none = k.1.1.0 }
+
+    pub port_gets : HasGot (MayBe InTells) turns r from to
+    port_gets = record {
+      cause = get_cause r.end g.ended g.bytes g.gave;
+      within = g.within;
+      fewer = let f = fewest (last_of r.end g.ended) g.bytes in omega (arith, f, g.took, g.came);
+      keeps = record { back = may_before };
+      follows = fits;
+      came = record { old = old; new = new; gets = g };
+      put = refl;
+    }
+
+-- at the end of a run some input may be the one
+pub some_input : (InTells : Type 0) (o : Outside) → (w : List ℕ) × MayBe InTells w o
+unfolding MayBe
+some_input InTells o = go (met_end o.held) refl
+  where
+    go : (b : Bool) → met_end o.held ≡ b → (w : List ℕ) × MayBe InTells w o
+    go true e = (o.came ++ [], ([], (refl, ((λ _. refl), λ told no. absurd (true≢false (sym e ∙ no))))))
+    go false e = (o.came ++ o.coming, (o.coming, (refl, ((λ yes. absurd (true≢false (sym yes ∙ e))), λ told no. refl))))
+
+-- and of a source that tells it is what that told at the outset
+pub told_input : {InTells : Type 0} (w : List ℕ) (o : Outside) → InTells → met_end o.held ≡ false → o.came ≡ [] → MayBe InTells w o → w ≡ o.coming
+unfolding MayBe
+told_input w o told open_yet none k = k.1.0 ∙ ap (λ bs. bs ++ k.0) none ∙ k.1.1.1 told open_yet
+
+-- ---- the output
+
+still_told : (old new : Stream) (piece : List ℕ) (r : Result (Unit {0}) Failed) → Puts old new piece r → IsTold old → IsTold new
+still_told old new piece (Ok u) p t = subst IsSome (sym (p.told (bytes_of old) (told_at old t))) refl
+still_told old new piece (Err e) p t = subst IsSome (sym (p.told (bytes_of old) (told_at old t)).3) refl
+
+module _ (source begun old new : Stream) (reader : ReaderState) (pieces : List ℕ) (tells : IsTold begun → IsTold old) where
+  -- a sink that told what it held tells it still
+  pub tells_still : (piece : List ℕ) (r : Result (Unit {0}) Failed) → Puts old new piece r → IsTold begun → IsTold new
+  tells_still piece r p t = still_told old new piece r p (tells t)
+
+  grown : (piece : List ℕ) → Puts {T = Unit {0}} old new piece (Ok tt) → put_of begun.told new.told (pieces ++ piece) ≡ put_of begun.told old.told pieces ++ piece
+  grown piece p = go begun.told tells
+    where
+      go : (told : Option (List ℕ)) → (IsSome told → IsTold old) → put_of told new.told (pieces ++ piece) ≡ put_of told old.told pieces ++ piece
+      go None t = refl
+      go (Some before) t = ap bytes_told (p.told (bytes_of old) (told_at old (t refl)))
+
+  abbrev Part : List ℕ → Option (List ℕ) → Type 0
+  Part piece told = (passed : List ℕ) × (rest : List ℕ) × (piece ≡ passed ++ rest) × (put_of told new.told pieces ≡ put_of told old.told pieces ++ passed)
+
+  broken : (piece : List ℕ) (e : Failed) → Puts {T = Unit {0}} old new piece (Err e) → Part piece begun.told
+  broken piece e p = go begun.told tells
+    where
+      go : (told : Option (List ℕ)) → (IsSome told → IsTold old) → Part piece told
+      go None t = ([], piece, refl, sym (append-nil pieces))
+      go (Some before) t = let k = p.told (bytes_of old) (told_at old (t refl)) in (k.0, k.1, k.2, ap bytes_told k.3)
+
+  module _ (InTells : Type 0) where
+    -- what is put changes nothing of which bytes may be the whole input
+    may_still : (more : List ℕ) → Keeps (MayBe InTells) (opened reader source begun old pieces) (opened reader source begun new more)
+    unfolding MayBe
+    may_still more = record { back = λ w k. k }
+
+    pub port_puts : (piece : List ℕ) → Puts {T = Unit {0}} old new piece (Ok tt) → HasPut (MayBe InTells) piece (Ok tt) (opened reader source begun old pieces) (opened reader source begun new (pieces ++ piece))
+    port_puts piece p = (ap (λ n. record { input = source.faults; output = n }) p.faults, may_still (pieces ++ piece), refl, refl, refl, grown piece p)
+
+    pub port_breaks : (piece : List ℕ) (e : Failed) (r : Result (Unit {0}) Failed) → Puts {T = Unit {0}} old new piece (Err e) → IsErr r → HasPut (MayBe InTells) piece r (opened reader source begun old pieces) (opened reader source begun new pieces)
+    port_breaks piece e (Ok u) p is = cc
+    port_breaks piece e (Err f) p is = ((refl, (p.rose.later, p.rose.higher)), may_still pieces, refl, refl, refl, broken piece e p)
+
+-- what ports leave
+pub port_leaves : {OutTells : Type 0} (source begun sink : Stream) (reader : ReaderState) (pieces : List ℕ) → (OutTells → IsTold begun) → Leaves OutTells (opened reader source begun sink pieces) source sink
+port_leaves source begun sink reader pieces told = record { coming = refl; put = λ t. go begun.told (told t); input = refl; output = refl }
+  where
+    go : (x : Option (List ℕ)) → IsSome x → bytes_of sink ≡ put_of x sink.told pieces
+    go None t = cc
+    go (Some before) t = refl
+
+-- ---- a number that is read
 
 shows_as : (m : Stored ℤ) (e : GetEnd) (s t : State) → Computes m s (end_of 0 (cuts_of One) e) t → Answers (λ a. a) m (number_of e) s t
 shows_as m (get.Number v) s t h = h
@@ -69,11 +170,23 @@ causes_as (get.Raise r) f g h = h
 causes_as get.ReadFault f g h = h
 causes_as get.Spent f g h = h
 
-pub get_shows : {Tells : Type 0} (limit left : ℕ) (s : Image) (o : Outside) (r : Got) → s.state.turns + left ≡ limit → HasGot Tells left r (outside_of s) o → Shows Tells (got limit) (number_of r.end) s (read_to s r o)
-get_shows {Tells = Tells} limit left s o r e h = (causes_as r.end s.faults o.faults h.cause, λ told. shown told)
+rest_of : (last : Last) (after : Held) (more : List ℕ) → EndsHeld last after → (met_end after ≡ true → more ≡ []) → IsRest 0 (cuts_of One) last more
+rest_of Open after more h none = tt
+rest_of AtEnd after more h none = none h
+rest_of Broken after more h none = tt
+
+pub get_shows : {Tells : List ℕ → Outside → Type 0} (limit left : ℕ) (s : Image) (o : Outside) (r : Got) → s.state.turns + left ≡ limit → HasGot Tells left r (outside_of s) o → Shows Tells (got limit) (number_of r.end) s (read_to s r o)
+get_shows {Tells = Tells} limit left s o r e h = (causes_as r.end s.faults o.faults h.cause, h.keeps, λ w told. shown w (h.follows w told) h.came)
   where
-    shown : Tells → Answers (λ a. a) (got limit) (number_of r.end) s.state (read_to s r o).state
-    shown told =
-        let c = stored_get_told limit (cuts_of One) (told_input (outside_of s)) (told_input o) s.state.held o.held left r o.coming (h.gets told) s.state refl e refl refl in
-        let d = subst (λ bs. Computes (got limit) s.state (end_of 0 (cuts_of One) r.end) (record (s.state) { held = o.held; input = o.coming; turns = s.state.turns + r.took; taken = s.state.taken + r.came; output = bs })) (sym (h.put told)) c in
-        shows_as (got limit) r.end s.state (read_to s r o).state d
+    shown : (w : List ℕ) → Follows w o → Came left r (outside_of s) o → Answers (λ a. a) (got limit) (number_of r.end) (facing w s.state) (facing w (read_to s r o).state)
+    shown w f c =
+        let g = c.gets in
+        let before : ReaderState = record { held = s.state.held; came = s.state.input } in
+        let after : ReaderState = record { held = o.held; came = o.came } in
+        let front : drop (length s.state.input) w ≡ g.bytes ++ f.more = ap (drop (length s.state.input)) (f.whole ∙ ap (λ bs. bs ++ f.more) g.log ∙ append_assoc s.state.input g.bytes f.more) ∙ drop-append_seam s.state.input (g.bytes ++ f.more) in
+        let over : drop (length o.came) w ≡ f.more = ap (drop (length o.came)) f.whole ∙ drop-append_seam o.came f.more in
+        let ends : IsRest 0 (cuts_of One) (last_of r.end g.ended) f.more = rest_of (last_of r.end g.ended) o.held f.more g.ends f.none in
+        let c = stored_get limit (cuts_of One) c.old c.new before after left r g (facing w s.state) f.more refl e front ends in
+        let d = subst (λ bs. Computes (got limit) (facing w s.state) (end_of 0 (cuts_of One) r.end) (record (s.state) { held = o.held; input = f.more; turns = s.state.turns + r.took; taken = s.state.taken + r.came; output = bs })) (sym h.put) c in
+        let d = subst (λ bs. Computes (got limit) (facing w s.state) (end_of 0 (cuts_of One) r.end) (record (s.state) { held = o.held; input = bs; turns = s.state.turns + r.took; taken = s.state.taken + r.came; output = o.put })) (sym over) d in
+        shows_as (got limit) r.end (facing w s.state) (facing w (read_to s r o).state) d

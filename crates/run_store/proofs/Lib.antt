@@ -2,3 +2,4 @@ pub mod Going
 pub mod StoredGet
 pub mod Getting
 pub mod Layouts
+pub mod Signs

@@ -17,9 +17,9 @@ use Rattle.ada_io.specs.declared.input.Got.{Got}
 use Rattle.ada_io.specs.declared.input.GetEnd.TheVariants.{Number, Raise, ReadFault, Spent}
 use Rattle.ada_io.specs.Plain.{Feed, Byte, End, Fault, fed, Raised, Failed, TurnsSpent, Doing, given, asked, plain}
 use Rattle.ada_io.specs.Plain
-use Rattle.ada_io.specs.Gets.{Last, Open, AtEnd, Broken, Gave, MayFollow, last_of, answer_of, Gets}
+use Rattle.ada_io.specs.Gets.{Last, Open, AtEnd, Broken, Gave, MayFollow, last_of, answer_of, ReaderState, Gets}
 use Rattle.ada_io.proofs.Enough.{enough}
-use Rattle.ada_port.specs.Ports.{Stream, bytes_told}
+use Rattle.ada_port.specs.Ports.{Stream}
 
 -- the bytes that are still to come, where these come after a fault
 abbrev pub bytes_of : Feed → List ℕ → List ℕ
@@ -177,36 +177,22 @@ module _ (limit : ℕ) (cuts : ℕ → ℕ → List ℕ) where
   put_same s h k bs cs m n taken d e f = ap (λ x. put s x bs m taken) d ∙ ap (λ x. put s k x m taken) e ∙ ap (λ x. put s k cs x taken) f
 
   -- the law: what the code's Get gives is what the stored run's does
-  pub stored_get : (old new : Stream) (before after : Held) (turns : ℕ) (result : Got) (g : Gets old new before after turns result) (s : State) (later : List ℕ) → s.held ≡ before → s.turns + turns ≡ limit
+  pub stored_get : (old new : Stream) (before after : ReaderState) (turns : ℕ) (result : Got) (g : Gets old new before after turns result) (s : State) (later : List ℕ) → s.held ≡ before.held → s.turns + turns ≡ limit
       → s.input ≡ g.bytes ++ later → IsRest (last_of result.end g.ended) later
       → Computes (Meaning.got (Stored.operations limit cuts) limit) s (end_of result.end)
-      (record s { held = after; input = later; turns = s.turns + result.took; taken = s.taken + result.came })
+      (record s { held = after.held; input = later; turns = s.turns + result.took; taken = s.taken + result.came })
   stored_get old new before after turns result g s later e f i r =
       let q = Meaning.got (Stored.operations limit cuts) limit in
       let last = last_of result.end g.ended in
       let more = more_of last later in
-      let p = plainly before (fed g.bytes more) turns s.taken in
+      let p = plainly before.held (fed g.bytes more) turns s.taken in
       let within : turns ≤ limit = omega arith in
       let whole = enough limit p within ∙ g.same more (follows last later r) s.taken in
       let ends = got_same.same s later p within in
       let moved = subst (λ (x : Plain.After ℤ). Ends q (around s later p) x.answer (around s later x.state)) whole ends in
-      let begun : around s later p ≡ s = put_same s before s.held _ s.input _ s.turns s.taken (sym e) (bytes-append g.bytes more later ∙ ap (λ bs. g.bytes ++ bs) (rest_bytes last later) ∙ sym i) (omega arith) in
+      let begun : around s later p ≡ s = put_same s before.held s.held _ s.input _ s.turns s.taken (sym e) (bytes-append g.bytes more later ∙ ap (λ bs. g.bytes ++ bs) (rest_bytes last later) ∙ sym i) (omega arith) in
       let few : result.took ≤ turns = g.within in
-      let over : around s later (plainly after more (turns - result.took) (s.taken + result.came)) ≡ put s after later (s.turns + result.took) (s.taken + result.came) = put_same s after after _ later _ _ _ refl (rest_bytes last later) (omega arith) in
-      computed q s (put s after later (s.turns + result.took) (s.taken + result.came)) result.end
-      (subst (λ (x : State). Ends q x (answer_of result.end) (put s after later (s.turns + result.took) (s.taken + result.came))) begun
+      let over : around s later (plainly after.held more (turns - result.took) (s.taken + result.came)) ≡ put s after.held later (s.turns + result.took) (s.taken + result.came) = put_same s after.held after.held _ later _ _ _ refl (rest_bytes last later) (omega arith) in
+      computed q s (put s after.held later (s.turns + result.took) (s.taken + result.came)) result.end
+      (subst (λ (x : State). Ends q x (answer_of result.end) (put s after.held later (s.turns + result.took) (s.taken + result.came))) begun
       (subst (λ (x : State). Ends q (around s later p) (answer_of result.end) x) over moved))
-
-  -- what a source that tells its bytes has left
-  left_over : (old new : Stream) (last : Last) (bytes left : List ℕ) → Gave last old new bytes → old.told ≡ Some left → (later : List ℕ) × (left ≡ bytes ++ later) × IsRest last later × (new.told ≡ Some later)
-  left_over old new Open bytes left g e = let k = g.told left e in (k.0, k.1, tt, k.2)
-  left_over old new AtEnd bytes left g e = let k = g.told left e in ([], k.0 ∙ sym (append-nil bytes), refl, k.1)
-  left_over old new Broken bytes left g e = let k = g.told left e in (k.0, k.1, tt, k.2)
-
-  pub stored_get_told : (old new : Stream) (before after : Held) (turns : ℕ) (result : Got) (left : List ℕ) → Gets old new before after turns result → (s : State) → s.held ≡ before → s.turns + turns ≡ limit → old.told ≡ Some s.input → new.told ≡ Some left
-      → Computes (Meaning.got (Stored.operations limit cuts) limit) s (end_of result.end) (record s { held = after; input = left; turns = s.turns + result.took; taken = s.taken + result.came })
-  stored_get_told old new before after turns result left g s e f h i =
-      let k = left_over old new (last_of result.end g.ended) g.bytes s.input g.gave h in
-      let same : k.0 ≡ left = ap bytes_told (sym k.3 ∙ i) in
-      subst (λ l. Computes (Meaning.got (Stored.operations limit cuts) limit) s (end_of result.end) (record s { held = after; input = l; turns = s.turns + result.took; taken = s.taken + result.came })) same
-      (stored_get old new before after turns result g s k.0 e f k.1 k.2)
