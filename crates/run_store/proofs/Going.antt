@@ -7,8 +7,8 @@ use Rattle.run_store.specs.declared.ends.Mark.{Mark}
 use Rattle.run_store.specs.declared.ends.Object.{Object}
 use Rattle.run_store.specs.declared.ends.End.{End}
 use Rattle.run_store.specs.declared.ends.End.TheVariants as end
-use Rattle.run_store.specs.Outside.{Faults}
-use Rattle.run_store.specs.Shows.{Image, Causes, ShowsAs, Does, Goes, leave_of, entity_of, table_of, Begins, cut_back, finished, Enters, unframed}
+use Rattle.run_store.specs.Outside.{Outside, Faults, Keeps}
+use Rattle.run_store.specs.Shows.{Image, outside_of, facing, Causes, ShowsAs, Does, Goes, leave_of, entity_of, table_of, Begins, cut_back, finished, Enters, unframed}
 
 -- a fault's cause, where nothing failed before
 pub causes_later : (A B : Type 0) (e : End) (f g h : Faults) → g ≡ f → Causes {A = A} (Err e) g h → Causes {A = B} (Err e) f h
@@ -18,13 +18,34 @@ causes_later A B end.NoMemory f g h q c = c ∙ q
 causes_later A B end.ReadFault f g h q c = subst (λ (z : Faults). Causes {A = B} (Err end.ReadFault) z h) q c
 causes_later A B end.WriteFault f g h q c = subst (λ (z : Faults). Causes {A = B} (Err end.WriteFault) z h) q c
 
-module _ (region : operations.Region) (x : Object) where
-  ends_so : (mark : Mark) (s u : Image) → mark.slot ≡ slot_at (table_of region s.state) (key (entity_of x)) → mark.height ≡ length s.state.cells → cut_back region x mark u.state ≡ ended region (entity_of x) s.state u.state
-  ends_so mark s u p q = go region p
-    where
-      go : (r : operations.Region) → mark.slot ≡ slot_at (table_of r s.state) (key (entity_of x)) → cut_back r x mark u.state ≡ ended r (entity_of x) s.state u.state
-      go Here p = rw (p, q) refl
-      go Everywhere p = rw p refl
+-- ---- a whole input doesn't matter where an object begins and ends
+
+ends_so : (region : operations.Region) (x : Object) (mark : Mark) (s u : Image) (w : List ℕ) → mark.slot ≡ slot_at (table_of region s.state) (key (entity_of x)) → mark.height ≡ length s.state.cells
+    → facing w (cut_back region x mark u.state) ≡ ended region (entity_of x) (facing w s.state) (facing w u.state)
+ends_so Here x mark s u w p q = rw (p, q) refl
+ends_so Everywhere x mark s u w p q = rw p refl
+
+pub begins_facing : (region : operations.Region) (x : Object) (vs : List ℤ) (s : State) (w : List ℕ) → facing w (begun region (entity_of x) vs s) ≡ begun region (entity_of x) vs (facing w s)
+begins_facing Here x vs s w = refl
+begins_facing Everywhere x vs s w = refl
+
+pub has_room_facing : (region : operations.Region) (x : Object) (s : State) (w : List ℕ) → has_room region (entity_of x) (facing w s) ≡ has_room region (entity_of x) s
+has_room_facing Here x s w = refl
+has_room_facing Everywhere x s w = refl
+
+pub outside_finished : (region : operations.Region) (x : Object) (mark : Mark) (s : Image) → outside_of (finished region x mark s) ≡ outside_of s
+outside_finished Here x mark s = refl
+outside_finished Everywhere x mark s = refl
+
+pub outside_begun : (region : operations.Region) (x : Object) (vs : List ℤ) (s t : Image) → t.faults ≡ s.faults → t.state ≡ begun region (entity_of x) vs s.state → t.coming ≡ s.coming → outside_of t ≡ outside_of s
+outside_begun region x vs s t faults state coming =
+    ap (λ (z : State). outside_of (record { state = z; coming = t.coming; faults = t.faults })) state
+    ∙ ap (λ z. outside_of (record { state = begun region (entity_of x) vs s.state; coming = z; faults = t.faults })) coming
+    ∙ ap (λ z. outside_of (record { state = begun region (entity_of x) vs s.state; coming = s.coming; faults = z })) faults ∙ same region
+  where
+    same : (region : operations.Region) → outside_of (record { state = begun region (entity_of x) vs s.state; coming = s.coming; faults = s.faults }) ≡ outside_of s
+    same Here = refl
+    same Everywhere = refl
 
 module _ {A : Type 0} (region : operations.Region) (x : Object) (vs : List ℤ) (m : Stored A) where
   does_so : (s u : State) (e : Result A Cause) → has_room region (entity_of x) s ≡ true → m.does (begun region (entity_of x) vs s) ≡ at u e → (elaborates region (entity_of x) vs m).does s ≡ at (ended region (entity_of x) s u) e
@@ -35,9 +56,19 @@ module _ {A : Type 0} (region : operations.Region) (x : Object) (vs : List ℤ) 
   unfolding elaborates
   halts_so s u c room h = inr (room, (u, h, refl))
 
-module _ {Tells : Type 0} where
+module _ {Tells : List ℕ → Outside → Type 0} where
+  -- what an outside tells of, where nothing is done to it, and from one thing to the next
+  pub stays : {o : Outside} → Keeps Tells o o
+  stays = record { back = λ w k. k }
+
+  pub also : {o p q : Outside} → Keeps Tells o p → Keeps Tells p q → Keeps Tells o q
+  also a b = record { back = λ w k. a.back w (b.back w k) }
+
+  pub same_keeps : {o p : Outside} → p ≡ o → Keeps Tells o p
+  same_keeps {o = o} e = subst (λ (x : Outside). Keeps Tells o x) (sym e) stays
+
   pub goes_refl : {A : Type 0} (m : Stored A) (s : Image) → Goes Tells m s m s
-  goes_refl m s = record { faults = refl; same = λ h. refl; stops = λ h f u k. k }
+  goes_refl m s = record { faults = refl; keeps = stays; same = λ w h. refl; stops = λ w h f u k. k }
 
   pub goes_instead : {A : Type 0} (whole m n : Stored A) (s t : Image) → m ≡ n → Goes Tells whole s m t → Goes Tells whole s n t
   goes_instead whole m n s t e g = subst (λ (x : Stored _). Goes Tells whole s x t) e g
@@ -48,45 +79,47 @@ module _ {Tells : Type 0} where
     unfolding bind
     goes_then c w h = record {
       faults = h.0 ∙ w.faults;
-      same = λ told. w.same told ∙ ap (λ (z : After _). next z.state z.end k) (h.1 told);
-      stops = λ told e x j. w.stops told e x (inr (inr (subst (λ (z : After _). next_halts z.state z.end k e x) (sym (h.1 told)) j)));
+      keeps = also w.keeps h.1;
+      same = λ x told. w.same x (h.1.back x told) ∙ ap (λ (z : After _). next z.state z.end k) (h.2 x told);
+      stops = λ x told e y j. w.stops x (h.1.back x told) e y (inr (inr (subst (λ (z : After _). next_halts z.state z.end k e y) (sym (h.2 x told)) j)));
     }
 
     -- a part that isn't gone through
     pub goes_ends : (e : End) → Goes Tells whole s (bind m k) t → ShowsAs f Tells m (Err e) t u → ShowsAs g Tells whole (Err e) s u
     unfolding bind
-    goes_ends (end.Left x) w h = (h.0 ∙ w.faults, λ told. w.same told ∙ ap (λ (z : After _). next z.state z.end k) (h.1 told))
-    goes_ends end.Spent w h = (h.0 ∙ w.faults, λ told. w.same told ∙ ap (λ (z : After _). next z.state z.end k) (h.1 told))
-    goes_ends end.NoMemory w h = (h.0 ∙ w.faults, λ told. w.stops told MemoryFault u.state (inr (inl (h.1 told))))
-    goes_ends end.ReadFault w h = (causes_later C D end.ReadFault s.faults t.faults u.faults w.faults h.0, λ told. w.stops told InputFault u.state (inr (inl (h.1 told))))
-    goes_ends end.WriteFault w h = (causes_later C D end.WriteFault s.faults t.faults u.faults w.faults h.0, λ told. w.stops told OutputFault u.state (inr (inl (h.1 told))))
+    goes_ends (end.Left y) w h = (h.0 ∙ w.faults, also w.keeps h.1, λ x told. w.same x (h.1.back x told) ∙ ap (λ (z : After _). next z.state z.end k) (h.2 x told))
+    goes_ends end.Spent w h = (h.0 ∙ w.faults, also w.keeps h.1, λ x told. w.same x (h.1.back x told) ∙ ap (λ (z : After _). next z.state z.end k) (h.2 x told))
+    goes_ends end.NoMemory w h = (h.0 ∙ w.faults, also w.keeps h.1, λ x told. w.stops x (h.1.back x told) MemoryFault (facing x u.state) (inr (inl (h.2 x told))))
+    goes_ends end.ReadFault w h = (causes_later C D end.ReadFault s.faults t.faults u.faults w.faults h.0, also w.keeps h.1, λ x told. w.stops x (h.1.back x told) InputFault (facing x u.state) (inr (inl (h.2 x told))))
+    goes_ends end.WriteFault w h = (causes_later C D end.WriteFault s.faults t.faults u.faults w.faults h.0, also w.keeps h.1, λ x told. w.stops x (h.1.back x told) OutputFault (facing x u.state) (inr (inl (h.2 x told))))
 
   -- a part that can't fail
   pub goes_on : {B : Type 0} (whole : Stored B) (m : Stored (Unit {0})) (k : Unit {0} → Stored B) (s t u : Image) → Goes Tells whole s (bind m k) t → Does Tells m t u → Goes Tells whole s (k tt) u
   unfolding bind
   goes_on whole m k s t u w h = record {
     faults = h.0 ∙ w.faults;
-    same = λ told. w.same told ∙ ap (λ (z : After _). next z.state z.end k) (h.1 told);
-    stops = λ told e x j. w.stops told e x (inr (inr (subst (λ (z : After _). next_halts z.state z.end k e x) (sym (h.1 told)) j)));
+    keeps = also w.keeps h.1;
+    same = λ x told. w.same x (h.1.back x told) ∙ ap (λ (z : After _). next z.state z.end k) (h.2 x told);
+    stops = λ x told e y j. w.stops x (h.1.back x told) e y (inr (inr (subst (λ (z : After _). next_halts z.state z.end k e y) (sym (h.2 x told)) j)));
   }
 
   module _ {A C : Type 0} (f : C → A) (whole : Stored A) where
     -- the rest at once
     pub goes_shows : (m : Stored A) (s t u : Image) (r : Result C End) → Goes Tells whole s m t → ShowsAs f Tells m r t u → ShowsAs f Tells whole r s u
-    goes_shows m s t u (Ok a) w h = (h.0 ∙ w.faults, λ told. w.same told ∙ h.1 told)
-    goes_shows m s t u (Err (end.Left x)) w h = (h.0 ∙ w.faults, λ told. w.same told ∙ h.1 told)
-    goes_shows m s t u (Err end.Spent) w h = (h.0 ∙ w.faults, λ told. w.same told ∙ h.1 told)
-    goes_shows m s t u (Err end.NoMemory) w h = (h.0 ∙ w.faults, λ told. w.stops told MemoryFault u.state (h.1 told))
-    goes_shows m s t u (Err end.ReadFault) w h = (causes_later C C end.ReadFault s.faults t.faults u.faults w.faults h.0, λ told. w.stops told InputFault u.state (h.1 told))
-    goes_shows m s t u (Err end.WriteFault) w h = (causes_later C C end.WriteFault s.faults t.faults u.faults w.faults h.0, λ told. w.stops told OutputFault u.state (h.1 told))
+    goes_shows m s t u (Ok a) w h = (h.0 ∙ w.faults, also w.keeps h.1, λ x told. w.same x (h.1.back x told) ∙ h.2 x told)
+    goes_shows m s t u (Err (end.Left y)) w h = (h.0 ∙ w.faults, also w.keeps h.1, λ x told. w.same x (h.1.back x told) ∙ h.2 x told)
+    goes_shows m s t u (Err end.Spent) w h = (h.0 ∙ w.faults, also w.keeps h.1, λ x told. w.same x (h.1.back x told) ∙ h.2 x told)
+    goes_shows m s t u (Err end.NoMemory) w h = (h.0 ∙ w.faults, also w.keeps h.1, λ x told. w.stops x (h.1.back x told) MemoryFault (facing x u.state) (h.2 x told))
+    goes_shows m s t u (Err end.ReadFault) w h = (causes_later C C end.ReadFault s.faults t.faults u.faults w.faults h.0, also w.keeps h.1, λ x told. w.stops x (h.1.back x told) InputFault (facing x u.state) (h.2 x told))
+    goes_shows m s t u (Err end.WriteFault) w h = (causes_later C C end.WriteFault s.faults t.faults u.faults w.faults h.0, also w.keeps h.1, λ x told. w.stops x (h.1.back x told) OutputFault (facing x u.state) (h.2 x told))
 
     -- want of memory, wherever it is
     pub goes_fails : (m : Stored A) (s t : Image) → Goes Tells whole s m t → ShowsAs f Tells whole (Err end.NoMemory) s t
-    goes_fails m s t w = (w.faults, λ told. w.stops told MemoryFault t.state (inl (refl, refl)))
+    goes_fails m s t w = (w.faults, w.keeps, λ x told. w.stops x told MemoryFault (facing x t.state) (inl (refl, refl)))
 
     pub goes_gives : (c : C) (s t : Image) → Goes Tells whole s (ret (f c)) t → ShowsAs f Tells whole (Ok c) s t
     unfolding ret
-    goes_gives c s t w = (w.faults, w.same)
+    goes_gives c s t w = (w.faults, w.keeps, w.same)
 
   -- ---- one thing and then another
 
@@ -109,28 +142,37 @@ module _ {Tells : Type 0} where
     pub elaborates_shows : (mark : Mark) (r : Result C End) (s t u : Image) → Begins region x vs (Ok mark) s t → ShowsAs f Tells m r t u → ShowsAs f Tells (elaborates region (entity_of x) vs m) r s (finished region x mark u)
     elaborates_shows mark r s t u b h = go r h
       where
-        same : cut_back region x mark u.state ≡ ended region (entity_of x) s.state u.state
-        same = ends_so region x mark s u b.2 b.3
+        same : (w : List ℕ) → facing w (cut_back region x mark u.state) ≡ ended region (entity_of x) (facing w s.state) (facing w u.state)
+        same w = ends_so region x mark s u w b.2 b.3
 
-        ok : (e : Result A Cause) → m.does t.state ≡ at u.state e → (elaborates region (entity_of x) vs m).does s.state ≡ at (cut_back region x mark u.state) e
-        ok e h = does_so region x vs m s.state u.state e b.1 (subst (λ z. m.does z ≡ at u.state e) b.4 h) ∙ ap (λ z. at z e) (sym same)
+        told_of : (w : List ℕ) → Tells w (outside_of (finished region x mark u)) → Tells w (outside_of u)
+        told_of w told = subst (λ (o : Outside). Tells w o) (outside_finished region x mark u) told
 
-        stop : (c : Fault) → Stops m t.state c u.state → Stops (elaborates region (entity_of x) vs m) s.state c (cut_back region x mark u.state)
-        stop c h = subst (λ z. Stops (elaborates region (entity_of x) vs m) s.state c z) (sym same) (halts_so region x vs m s.state u.state c b.1 (subst (λ z. Stops m z c u.state) b.4 h))
+        from : (w : List ℕ) → facing w t.state ≡ begun region (entity_of x) vs (facing w s.state)
+        from w = ap (facing w) b.4 ∙ begins_facing region x vs s.state w
+
+        kept : Keeps Tells (outside_of t) (outside_of u) → Keeps Tells (outside_of s) (outside_of (finished region x mark u))
+        kept k = also (same_keeps (outside_begun region x vs s t b.0 b.4 b.5)) (also k (same_keeps (outside_finished region x mark u)))
+
+        ok : (w : List ℕ) (e : Result A Cause) → m.does (facing w t.state) ≡ at (facing w u.state) e → (elaborates region (entity_of x) vs m).does (facing w s.state) ≡ at (facing w (cut_back region x mark u.state)) e
+        ok w e h = does_so region x vs m (facing w s.state) (facing w u.state) e (has_room_facing region x s.state w ∙ b.1) (subst (λ (z : State). m.does z ≡ at (facing w u.state) e) (from w) h) ∙ ap (λ (z : State). at z e) (sym (same w))
+
+        stop : (w : List ℕ) (c : Fault) → Stops m (facing w t.state) c (facing w u.state) → Stops (elaborates region (entity_of x) vs m) (facing w s.state) c (facing w (cut_back region x mark u.state))
+        stop w c h = subst (λ (z : State). Stops (elaborates region (entity_of x) vs m) (facing w s.state) c z) (sym (same w)) (halts_so region x vs m (facing w s.state) (facing w u.state) c (has_room_facing region x s.state w ∙ b.1) (subst (λ (z : State). Stops m z c (facing w u.state)) (from w) h))
 
         go : (r : Result C End) → ShowsAs f Tells m r t u → ShowsAs f Tells (elaborates region (entity_of x) vs m) r s (finished region x mark u)
-        go (Ok a) h = (h.0 ∙ b.0, λ told. ok (Ok (f a)) (h.1 told))
-        go (Err (end.Left y)) h = (h.0 ∙ b.0, λ told. ok (Err (Left (leave_of y))) (h.1 told))
-        go (Err end.Spent) h = (h.0 ∙ b.0, λ told. ok (Err OutOfTurns) (h.1 told))
-        go (Err end.NoMemory) h = (h.0 ∙ b.0, λ told. stop MemoryFault (h.1 told))
-        go (Err end.ReadFault) h = (causes_later C C end.ReadFault s.faults t.faults u.faults b.0 h.0, λ told. stop InputFault (h.1 told))
-        go (Err end.WriteFault) h = (causes_later C C end.WriteFault s.faults t.faults u.faults b.0 h.0, λ told. stop OutputFault (h.1 told))
+        go (Ok a) h = (h.0 ∙ b.0, kept h.1, λ w told. ok w (Ok (f a)) (h.2 w (told_of w told)))
+        go (Err (end.Left y)) h = (h.0 ∙ b.0, kept h.1, λ w told. ok w (Err (Left (leave_of y))) (h.2 w (told_of w told)))
+        go (Err end.Spent) h = (h.0 ∙ b.0, kept h.1, λ w told. ok w (Err OutOfTurns) (h.2 w (told_of w told)))
+        go (Err end.NoMemory) h = (h.0 ∙ b.0, kept h.1, λ w told. stop w MemoryFault (h.2 w (told_of w told)))
+        go (Err end.ReadFault) h = (causes_later C C end.ReadFault s.faults t.faults u.faults b.0 h.0, kept h.1, λ w told. stop w InputFault (h.2 w (told_of w told)))
+        go (Err end.WriteFault) h = (causes_later C C end.WriteFault s.faults t.faults u.faults b.0 h.0, kept h.1, λ w told. stop w OutputFault (h.2 w (told_of w told)))
 
     -- no memory for a new instance
     pub elaborates_fails : (e : End) (s t : Image) → Begins region x vs (Err e) s t → ShowsAs f Tells (elaborates region (entity_of x) vs m) (Err e) s t
     elaborates_fails (end.Left y) s t b = absurd b
     elaborates_fails end.Spent s t b = absurd b
-    elaborates_fails end.NoMemory s t b = (ap (λ (z : Image). z.faults) b, λ told. inl (refl, ap (λ (z : Image). z.state) b))
+    elaborates_fails end.NoMemory s t b = (ap (λ (z : Image). z.faults) b, same_keeps (ap outside_of b), λ w told. inl (refl, ap (λ (z : Image). facing w z.state) b))
     elaborates_fails end.ReadFault s t b = absurd b
     elaborates_fails end.WriteFault s t b = absurd b
 
@@ -139,20 +181,17 @@ module _ {Tells : Type 0} where
     unfolding apart
     apart_shows before r s t u b h = subst (λ z. ShowsAs f Tells (apart m) r s (unframed z u)) (sym b.0) (go r (subst (λ z. ShowsAs f Tells m r z u) b.1 h))
       where
-        inner : Image
-        inner = unframed (s.state.frame + 1) s
-
         go : (r : Result C End) → ShowsAs f Tells m r (unframed (s.state.frame + 1) s) u → ShowsAs f Tells (apart m) r s (unframed s.state.frame u)
-        go (Ok a) h = (h.0, λ told. ap (λ (z : After _). at (record (z.state) { frame = s.state.frame }) z.end) (h.1 told))
-        go (Err (end.Left y)) h = (h.0, λ told. ap (λ (z : After _). at (record (z.state) { frame = s.state.frame }) z.end) (h.1 told))
-        go (Err end.Spent) h = (h.0, λ told. ap (λ (z : After _). at (record (z.state) { frame = s.state.frame }) z.end) (h.1 told))
-        go (Err end.NoMemory) h = (h.0, λ told. inr (u.state, h.1 told, refl))
-        go (Err end.ReadFault) h = (h.0, λ told. inr (u.state, h.1 told, refl))
-        go (Err end.WriteFault) h = (h.0, λ told. inr (u.state, h.1 told, refl))
+        go (Ok a) h = (h.0, h.1, λ w told. ap (λ (z : After _). at (record (z.state) { frame = s.state.frame }) z.end) (h.2 w told))
+        go (Err (end.Left y)) h = (h.0, h.1, λ w told. ap (λ (z : After _). at (record (z.state) { frame = s.state.frame }) z.end) (h.2 w told))
+        go (Err end.Spent) h = (h.0, h.1, λ w told. ap (λ (z : After _). at (record (z.state) { frame = s.state.frame }) z.end) (h.2 w told))
+        go (Err end.NoMemory) h = (h.0, h.1, λ w told. inr (facing w u.state, h.2 w told, refl))
+        go (Err end.ReadFault) h = (h.0, h.1, λ w told. inr (facing w u.state, h.2 w told, refl))
+        go (Err end.WriteFault) h = (h.0, h.1, λ w told. inr (facing w u.state, h.2 w told, refl))
 
     pub apart_fails : (e : End) (s t : Image) → Enters (Err e) s t → ShowsAs f Tells (apart m) (Err e) s t
     apart_fails (end.Left y) s t b = absurd b
     apart_fails end.Spent s t b = absurd b
-    apart_fails end.NoMemory s t b = (ap (λ (z : Image). z.faults) b, λ told. inl (refl, ap (λ (z : Image). z.state) b))
+    apart_fails end.NoMemory s t b = (ap (λ (z : Image). z.faults) b, same_keeps (ap outside_of b), λ w told. inl (refl, ap (λ (z : Image). facing w z.state) b))
     apart_fails end.ReadFault s t b = absurd b
     apart_fails end.WriteFault s t b = absurd b

@@ -11,6 +11,7 @@ use Rattle.ada_io.specs.declared.input.Got.{Got}
 use Rattle.ada_meaning.specs.Stored.{Stored, operations, outset, bind, ret}
 use Rattle.run_store.specs.Outside.{Outside}
 use Rattle.run_store.specs.Shows.{Image}
+pub use Rattle.run_store.specs.Shows.{outside_of}
 use Rattle.run_store.specs.declared.ends.End.{End}
 use Rattle.run_store.specs.declared.ends.End.TheVariants as end
 use Rattle.run_store.specs.declared.ends.Leave.TheVariants as leave
@@ -31,15 +32,12 @@ number_of (get.Raise r) = Err (end.Left (leave.Raises r))
 number_of get.ReadFault = Err end.ReadFault
 number_of get.Spent = Err end.Spent
 
--- the outside of a run, and the run after a number was read
-abbrev pub outside_of : Image → Outside
-outside_of s = record { held = s.state.held; coming = s.state.input; put = s.state.output; faults = s.faults }
-
+-- the run after a number was read
 abbrev pub read_to : Image → Got → Outside → Image
-read_to s got o = record { state = record (s.state) { held = o.held; input = o.coming; turns = s.state.turns + got.took; taken = s.state.taken + got.came; output = o.put }; faults = o.faults }
+read_to s got o = record { state = record (s.state) { held = o.held; input = o.came; turns = s.state.turns + got.took; taken = s.state.taken + got.came; output = o.put }; coming = o.coming; faults = o.faults }
 
 -- ---- the beginning
 
 -- where a run begins, with so many slots and this outside
 abbrev pub begins_at : ℕ → Outside → Image
-begins_at slots o = record { state = record (outset slots o.coming o.put) { held = o.held }; faults = o.faults }
+begins_at slots o = record { state = record (outset slots o.came o.put) { held = o.held }; coming = o.coming; faults = o.faults }

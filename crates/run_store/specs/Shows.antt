@@ -1,9 +1,9 @@
 -- What code shows of a part of a run that it carries out.
-use Rattle.std.specs.Prelude.{◌≡◌, ◌⊎◌, ℕ, ◌+◌, ◌-◌, ◌^◌, ◌≤◌, min, ℤ, List, [], ◌∷◌, ◌++◌, length, take, set, slice_get, nat_lt, Option, Some, None, Result, Ok, Err, true, false}
+use Rattle.std.specs.Prelude.{◌≡◌, ◌⊎◌, ℕ, ◌+◌, ◌-◌, ◌^◌, ◌≤◌, min, ℤ, List, [], ◌∷◌, ◌++◌, length, take, drop, set, slice_get, nat_lt, Option, Some, None, Result, Ok, Err, true, false}
 use Rattle.ada_base.specs.declared.reason.Reason.TheVariants as reason
 use Rattle.ada_meaning.specs.declared.slots.Slot.{Slot}
 use Rattle.ada_meaning.specs.declared.slots.Variable.{Variable}
-use Rattle.run_store.specs.Outside.{Faults, Risen}
+use Rattle.run_store.specs.Outside.{Outside, Faults, Risen, Keeps}
 use Rattle.behaviours.specs.Paths as operations
 use Rattle.behaviours.specs.Paths.{Entity, VariableOf, ConstantOf, Region, Here, Everywhere}
 use Rattle.ada_meaning.specs.Stored.{State, Stored, Left, OutOfTurns, MemoryFault, InputFault, OutputFault, Fault, Stops, at, key, slot_at, begun, has_room, declares}
@@ -17,11 +17,20 @@ use Rattle.run_store.specs.declared.ends.Object.TheVariants as object
 use Rattle.run_store.specs.declared.ends.Region as ends
 use Rattle.run_store.specs.declared.ends.Region.TheVariants as region
 
--- ---- the state of a run, and how often the outside has failed
+-- ---- the state of a run, whose input is what came so far, what the source tells to be left, and how often the outside has failed
 
 pub record Image : Type 0 where
   pub state : State
+  pub coming : List ℕ
   pub faults : Faults
+
+-- the outside of a run
+abbrev pub outside_of : Image → Outside
+outside_of s = record { held = s.state.held; came = s.state.input; coming = s.coming; put = s.state.output; faults = s.faults }
+
+-- a state as it faces a whole input, of which it has what didn't come so far
+abbrev pub facing : List ℕ → State → State
+facing w s = record s { input = drop (length s.input) w }
 
 abbrev pub leave_of : Leave → operations.Leave
 leave_of (leave.Exits n) = operations.Exits n
@@ -50,16 +59,23 @@ Answers f m (Err end.NoMemory) s t = Stops m s MemoryFault t
 Answers f m (Err end.ReadFault) s t = Stops m s InputFault t
 Answers f m (Err end.WriteFault) s t = Stops m s OutputFault t
 
--- what code shows of a part, where the outside tells what comes and what was put
-abbrev pub ShowsAs : {A B : Type 0} → (B → A) → Type 0 → Stored A → Result B End → Image → Image → Type 0
-ShowsAs f Tells m r s t = Causes r s.faults t.faults × (Tells → Answers f m r s.state t.state)
+-- what code shows of a part: an input of which the outside then tells was one of which it told before, and on each such
+-- input the part comes to this answer
+abbrev pub ShowsAs : {A B : Type 0} → (B → A) → (List ℕ → Outside → Type 0) → Stored A → Result B End → Image → Image → Type 0
+ShowsAs f Tells m r s t =
+    Causes r s.faults t.faults
+    × Keeps Tells (outside_of s) (outside_of t)
+    × ((w : List ℕ) → Tells w (outside_of t) → Answers f m r (facing w s.state) (facing w t.state))
 
-abbrev pub Shows : {A : Type 0} → Type 0 → Stored A → Result A End → Image → Image → Type 0
+abbrev pub Shows : {A : Type 0} → (List ℕ → Outside → Type 0) → Stored A → Result A End → Image → Image → Type 0
 Shows Tells m r s t = ShowsAs (λ a. a) Tells m r s t
 
 -- a part that can't fail, and has no answer
-abbrev pub Does : Type 0 → Stored (Unit {0}) → Image → Image → Type 0
-Does Tells m s t = (t.faults ≡ s.faults) × (Tells → m.does s.state ≡ at t.state (Ok tt))
+abbrev pub Does : (List ℕ → Outside → Type 0) → Stored (Unit {0}) → Image → Image → Type 0
+Does Tells m s t =
+    (t.faults ≡ s.faults)
+    × Keeps Tells (outside_of s) (outside_of t)
+    × ((w : List ℕ) → Tells w (outside_of t) → m.does (facing w s.state) ≡ at (facing w t.state) (Ok tt))
 
 -- ---- instances of objects
 
@@ -73,7 +89,7 @@ table_of Everywhere s = s.everywhere
 
 -- an object has got its cells; and what it was
 abbrev pub Begins : Region → Object → List ℤ → Result Mark End → Image → Image → Type 0
-Begins region x vs (Ok mark) s t = (t.faults ≡ s.faults) × (has_room region (entity_of x) s.state ≡ true) × (mark.slot ≡ slot_at (table_of region s.state) (key (entity_of x))) × (mark.height ≡ length s.state.cells) × (t.state ≡ begun region (entity_of x) vs s.state)
+Begins region x vs (Ok mark) s t = (t.faults ≡ s.faults) × (has_room region (entity_of x) s.state ≡ true) × (mark.slot ≡ slot_at (table_of region s.state) (key (entity_of x))) × (mark.height ≡ length s.state.cells) × (t.state ≡ begun region (entity_of x) vs s.state) × (t.coming ≡ s.coming)
 Begins region x vs (Err end.NoMemory) s t = t ≡ s
 Begins region x vs (Err _) s t = ⊥
 
@@ -115,10 +131,11 @@ IsSet cells slot i v (Err end.NoMemory) cells' = cells' ≡ cells
 IsSet cells slot i v (Err _) cells' = ⊥
 
 -- a whole from one state goes on as a rest from another
-pub record Goes {A : Type 0} (Tells : Type 0) (whole : Stored A) (s : Image) (rest : Stored A) (t : Image) : Type 0 where
+pub record Goes {A : Type 0} (Tells : List ℕ → Outside → Type 0) (whole : Stored A) (s : Image) (rest : Stored A) (t : Image) : Type 0 where
   pub faults : t.faults ≡ s.faults
-  pub same : Tells → whole.does s.state ≡ rest.does t.state
-  pub stops : Tells → (f : Fault) (u : State) → Stops rest t.state f u → Stops whole s.state f u
+  pub keeps : Keeps Tells (outside_of s) (outside_of t)
+  pub same : (w : List ℕ) → Tells w (outside_of t) → whole.does (facing w s.state) ≡ rest.does (facing w t.state)
+  pub stops : (w : List ℕ) → Tells w (outside_of t) → (f : Fault) (u : State) → Stops rest (facing w t.state) f u → Stops whole (facing w s.state) f u
 
 -- nothing but want of memory is in the way
 abbrev pub OrNoMemory : {A : Type 0} → (A → Type 0) → Result A End → Type 0

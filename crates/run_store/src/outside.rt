@@ -1,17 +1,18 @@
 //! The outside of a run: its input and its output.
 
-ghost use Rattle.std.specs.Prelude.{◌≡◌};
-ghost use Rattle.ada_base.specs.Input.{Nothing};
-ghost use Rattle.run_store.specs.Outside.{HasGot, HasPut, Outside, opened};
+ghost use Rattle.std.specs.Prelude.{◌≡◌, ℕ, List};
+ghost use Rattle.ada_port.specs.Ports.{IsTold};
+ghost use Rattle.run_store.specs.Outside.{HasGot, HasPut, Leaves, Outside, fresh};
 
 use ada_io::{Got, Reader};
-use ada_port::{Failed, Sink, Source};
+use ada_port::{Failed, Log, Sink, Source};
 use std::marker::Model;
+use std::snapshot::Snapshot;
 
 /// Where the input of a run comes from, and where its output goes.
 pub trait Port {
-    // Whether it tells what comes and what was put.
-    ghost Tells: { Type 0 };
+    // Which bytes may be the whole input, as far as it came.
+    ghost Tells: { List ℕ → Outside → Type 0 };
 
     ghost outside: { Self → Outside };
 
@@ -24,26 +25,35 @@ pub trait Port {
         ensures { HasPut Tells piece.now result (outside self.old) (outside self.new) };
 }
 
-/// A source and a sink.
+/// A source and a sink. Contracts see what came and what was put, also where the source and the sink tell nothing.
 #[derive(Drop)]
 pub struct Ports<In: Source + Drop, Out: Sink + Drop> {
     source: In,
     reader: Reader,
     sink: Out,
+    // the sink as it was at the outset
+    begun: Snapshot<Out>,
+    // the pieces that were put, one after the other
+    pieces: Log,
 }
 
 impl<In: Source + Drop, Out: Sink + Drop> Model for Ports<In, Out> {
+    ghost use Rattle.ada_port.specs.Ports.{IsTold};
     ghost use Rattle.run_store.specs.Outside.{Outside, opened};
 
     ghost Value = { Outside };
 
-    ghost view = { λ p. opened p.reader (In.state p.source) (Out.state p.sink) };
+    ghost view = { λ p. opened p.reader (In.state p.source) (Out.state p.begun.value) (Out.state p.sink) p.pieces.bytes };
+
+    // a sink that told what it held tells it still
+    ghost invariant = { λ p. IsTold (Out.state p.begun.value) → IsTold (Out.state p.sink) };
 }
 
 impl<In: Source + Drop, Out: Sink + Drop> Port for Ports<In, Out> {
     ghost use Rattle.ada_port.specs.Ports.{IsTold};
+    ghost use Rattle.run_store.specs.Outside.{MayBe};
 
-    ghost Tells = { ((s : In) → IsTold (In.state s)) × ((s : Out) → IsTold (Out.state s)) };
+    ghost Tells = { MayBe ((s : In) → IsTold (In.state s)) };
 
     ghost outside = { λ p. p };
 
@@ -52,25 +62,30 @@ impl<In: Source + Drop, Out: Sink + Drop> Port for Ports<In, Out> {
     }
 
     fn put(&mut self, piece: &[u8]) -> Result<(), Failed> {
-        self.sink.put(piece)
+        self.sink.put(piece)?;
+        self.pieces = self.pieces.with(piece);
+        Ok(())
     }
 }
 
 impl<In: Source + Drop, Out: Sink + Drop> Ports<In, Out> {
     /// A source of which nothing was looked at, and a sink.
     pub fn new(source: In, sink: Out) -> Ports<In, Out>
-        ensures { result ≡ opened Nothing (In.state source) (Out.state sink) }
+        ensures { result ≡ fresh (In.state source) (Out.state sink) }
     {
+        let begun = Snapshot::of(&sink);
         Ports {
             source,
             reader: Reader::new(),
             sink,
+            begun,
+            pieces: Log::new(),
         }
     }
 
     /// The source and the sink, where the run left them.
     pub fn into_parts(self) -> (In, Out)
-        ensures { opened self.held (In.state result.0) (Out.state result.1) ≡ self }
+        ensures { Leaves ((s : Out) → IsTold (Out.state s)) self (In.state result.0) (Out.state result.1) }
     {
         (self.source, self.sink)
     }

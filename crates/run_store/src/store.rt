@@ -3,8 +3,8 @@
 ghost use Rattle.std.specs.Prelude.{◌≡◌, ◌<◌, ◌*◌, ◌+◌, length, replicate, slice_get, slice_set, IfOk, MatchResult, Ok};
 ghost use Rattle.ada_meaning.specs.Stored as spec;
 ghost use Rattle.behaviours.specs.Paths as spec';
-ghost use Rattle.run_store.specs.Operating.{begins_at, got, number_of, outside_of};
-ghost use Rattle.run_store.specs.Shows.{Shows, Does, entity_of, region_of, Enters, unframed, Begins, Declares, finished, IsCell, IsSet};
+ghost use Rattle.run_store.specs.Operating.{begins_at, got, number_of};
+ghost use Rattle.run_store.specs.Shows.{Shows, Does, outside_of, entity_of, region_of, Enters, unframed, Begins, Declares, finished, IsCell, IsSet};
 
 use crate::ends::{End, Leave, Mark, Object, Region};
 use crate::outside::Port;
@@ -33,7 +33,7 @@ impl<P: Port + Drop> Model for Store<P> {
 
     ghost Value = { Image };
 
-    ghost view = { λ s. record { state = record { cells = s.cells; kept = s.kept; here = s.here; everywhere = s.everywhere; frame = s.frame; turns = s.turns; taken = s.taken; held = (P.outside s.port).held; input = (P.outside s.port).coming; output = (P.outside s.port).put; declared = s.declared }; faults = (P.outside s.port).faults } };
+    ghost view = { λ s. record { state = record { cells = s.cells; kept = s.kept; here = s.here; everywhere = s.everywhere; frame = s.frame; turns = s.turns; taken = s.taken; held = (P.outside s.port).held; input = (P.outside s.port).came; output = (P.outside s.port).put; declared = s.declared }; coming = (P.outside s.port).coming; faults = (P.outside s.port).faults } };
 }
 
 /// The slot at a key, or none.
