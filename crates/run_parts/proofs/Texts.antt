@@ -1,5 +1,5 @@
 -- The bytes of a text, one after the other.
-use Rattle.std.proofs.Common.{◌≡◌, ℕ, List, [], ◌∷◌, ◌++◌, refl, sym, ap, subst, ◌∙◌, append_assoc}
+use Rattle.std.proofs.Common.{◌≡◌, ℕ, List, [], ◌∷◌, ◌++◌, refl, sym, ap, ◌∙◌, append_assoc}
 use Rattle.std.proofs.lemmas.List.{append-nil}
 use Rattle.ada_typed.specs.declared.node.Leaf.{Leaf}
 use Rattle.ada_typed.specs.declared.node.Leaf.TheVariants as leaf

@@ -2,7 +2,7 @@
 use Rattle.std.specs.Prelude.{ℕ, zero, suc, ℤ, pos, ◌+ℤ◌, int_le, nat_le, List, [], ◌∷◌, ◌++◌, Option, Some, None, Bool, true, false}
 use Rattle.ada_base.specs.Cuts.{cuts_of}
 use Rattle.ada_base.specs.declared.reason.Reason.TheVariants as reason
-use Rattle.ada_meaning.specs.Values.{count, to_nat}
+use Rattle.ada_meaning.specs.Values.{count}
 use Rattle.ada_meaning.specs.Meaning as meaning
 use Rattle.ada_meaning.specs.Meaning.{Env, with_parameter, cut_of, value_cut_of, most_threads, most_iterations}
 use Rattle.ada_meaning.specs.Stored.{Stored, sizes_of, bind, ret, is_spent}

@@ -11,7 +11,6 @@ use Rattle.ada_io.specs.Gets.{Last, Open, AtEnd, Broken, Gave, EndsHeld, ReaderS
 use Rattle.ada_port.specs.declared.ports.Failed.{Failed}
 use Rattle.ada_port.specs.Ports.{Stream, IsTold, bytes_of, bytes_told, Puts}
 use Rattle.ada_meaning.specs.Stored.{State, Stored, Computes}
-use Rattle.run_store.specs.declared.ends.End.{End}
 use Rattle.run_store.specs.Outside.{Outside, Faults, HasGot, HasPut, GetCauses, Keeps, MayBe, Follows, Came, Leaves, put_of, opened}
 use Rattle.run_store.specs.Shows.{Image, Shows, Answers, Causes, outside_of, facing}
 use Rattle.run_store.specs.Operating.{got, number_of, read_to}

@@ -1,5 +1,5 @@
 -- A value that a check lets pass.
-use Rattle.std.proofs.Common.{◌≡◌, ℕ, ℤ, List, Option, Some, None, Ok, Bool, true, false, cond, refl, sym, subst}
+use Rattle.std.proofs.Common.{◌≡◌, ℕ, ℤ, List, Some, None, Ok, Bool, true, false, cond, refl, subst}
 use Rattle.ada_base.specs.declared.operation.Base.{Base}
 use Rattle.ada_base.specs.Operation.{within, is_in_base}
 use Rattle.ada_meaning.specs.Operations.{CheckKind}

@@ -1,14 +1,12 @@
 -- A Get of the plain reading is the one of a stored run.
-use Rattle.std.proofs.Common.{◌≡◌, ℕ, zero, suc, ◌+◌, ◌-◌, ◌<◌, ◌≤◌, nat_lt, List, [], ◌∷◌, ◌++◌, length, Option, Some, None, Result, Ok, Err, Bool, true, false, cond, ℤ, refl, sym, ap, subst, ◌∙◌, ◌⊎◌, inl, inr, arith}
+use Rattle.std.proofs.Common.{◌≡◌, ℕ, zero, suc, ◌+◌, ◌-◌, ◌≤◌, nat_lt, List, [], ◌∷◌, ◌++◌, Result, Ok, Err, true, false, ℤ, refl, sym, ap, subst, ◌∙◌, inl, inr, arith}
 use Rattle.std.proofs.lemmas.Bool.{lt-ltb, lt-leb}
 use Rattle.std.proofs.lemmas.List.{append-nil}
-use Rattle.ada_base.specs.declared.reason.Reason.{Reason}
 use Rattle.ada_base.specs.Input.{Held}
 use Rattle.ada_base.specs.Input as input
 use Rattle.ada_base.proofs.Readings
 use Rattle.ada_base.proofs.Readings.{Relates}
 use Rattle.behaviours.specs.Paths.{Raises}
-use Rattle.ada_meaning.specs.Operations.{Operations}
 use Rattle.ada_meaning.specs.Meaning
 use Rattle.ada_meaning.specs.Stored
 use Rattle.ada_meaning.specs.Stored.{State, Stored, Left, OutOfTurns, InputFault, Goes, Fails, Stops, next_halts, Computes}
@@ -17,7 +15,7 @@ use Rattle.ada_io.specs.declared.input.Got.{Got}
 use Rattle.ada_io.specs.declared.input.GetEnd.TheVariants.{Number, Raise, ReadFault, Spent}
 use Rattle.ada_io.specs.Plain.{Feed, Byte, End, Fault, fed, Raised, Failed, TurnsSpent, Doing, given, asked, plain}
 use Rattle.ada_io.specs.Plain
-use Rattle.ada_io.specs.Gets.{Last, Open, AtEnd, Broken, Gave, MayFollow, last_of, answer_of, ReaderState, Gets}
+use Rattle.ada_io.specs.Gets.{Last, Open, AtEnd, Broken, MayFollow, last_of, answer_of, ReaderState, Gets}
 use Rattle.ada_io.proofs.Enough.{enough}
 use Rattle.ada_port.specs.Ports.{Stream}
 

@@ -6,7 +6,7 @@ use Rattle.ada_io.specs.declared.input.GetEnd.TheVariants as get
 use Rattle.ada_io.specs.declared.input.Got.{Got}
 use Rattle.ada_io.specs.Gets.{Gets, ReaderState, met_end}
 use Rattle.ada_port.specs.declared.ports.Failed.{Failed}
-use Rattle.ada_port.specs.Ports.{Stream, IsTold, bytes_of, bytes_told}
+use Rattle.ada_port.specs.Ports.{Stream, bytes_of, bytes_told}
 
 -- how often the input and the output have failed, up to the greatest u64
 pub record Faults : Type 0 where

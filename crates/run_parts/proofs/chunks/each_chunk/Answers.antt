@@ -1,4 +1,4 @@
-use Rattle.std.proofs.Common.{rules, sym, ◌∙◌}
+use Rattle.std.proofs.Common.{rules}
 use Rattle.run_parts.proofs.Dealt.{each_not, each_none, each_some, each_many}
 use Rattle.run_parts.proofs.chunks.each_chunk.Goals as goal
 

@@ -1,4 +1,4 @@
-use Rattle.std.proofs.Common.{rules, arith}
+use Rattle.std.proofs.Common.{arith}
 use Rattle.ada_meaning.specs.Values.{count}
 use Rattle.run_parts.proofs.Dealt.{few_none, few_some, few_many}
 use Rattle.run_parts.proofs.chunks.few.Goals as goal
