@@ -1,15 +1,15 @@
 -- Forms of the language, as the functions that go by them.
-use Rattle.std.proofs.Common.{◌≡◌, ◌&&◌, ◌+◌, ◌+ℤ◌, ◌-ℤ◌, pos, ℕ, ℤ, List, [], ◌∷◌, ◌++◌, Bool, true, false, cond, int_le, Option, Some, None, refl, sym, subst, ap, ◌∙◌}
+use Rattle.std.proofs.Common.{◌≡◌, ◌&&◌, ◌+◌, ◌+ℤ◌, ◌-ℤ◌, ◌*◌, pos, ℕ, ℤ, List, [], ◌∷◌, ◌++◌, Bool, true, false, cond, int_le, Option, Some, None, refl, sym, subst, ap, ◌∙◌}
 use Rattle.std.specs.Prelude.{Result, Ok, Err}
 use Rattle.behaviours.specs.Paths.{VariableOf}
 use Rattle.ada_typed.specs.declared.scalars.Scalar.{Scalar}
 use Rattle.ada_typed.specs.declared.scalars.Check.{Check}
 use Rattle.ada_typed.specs.declared.expressions.Root.{Root}
 use Rattle.ada_typed.specs.Syntax.{Expr, Optional, Selections, Index, Actuals, InOut, Iteration, Range, Stmt, Get, Value, Number}
-use Rattle.ada_meaning.specs.Values.{is_in, count}
-use Rattle.ada_meaning.specs.Operations.{RangeCheck}
+use Rattle.ada_meaning.specs.Values.{is_in, count, between, to_nat}
+use Rattle.ada_meaning.specs.Operations.{IndexCheck, RangeCheck}
 use Rattle.ada_meaning.specs.Meaning as meaning
-use Rattle.ada_meaning.specs.Meaning.{Env, variable_root, with_parameter}
+use Rattle.ada_meaning.specs.Meaning.{Env, variable_root, with_parameter, moved}
 use Rattle.ada_meaning.specs.Stored.{Stored, ret, bind, reads, writes, checks}
 use Rattle.run_store.specs.declared.ends.End.{End}
 use Rattle.run_store.specs.declared.env.Part.{Part}
@@ -46,6 +46,19 @@ module _ {Tells : List ℕ → Outside → Type 0} (w : Work) (d : ℕ) (env : E
       subst (λ z. ShowsAs part_of Tells (walk.select w d z env p) r s t) (sym is)
       (subst (λ z. ShowsAs part_of Tells (walk.index w d at e z high stride rest env p) r s t) k
       (subst (λ z. ShowsAs part_of Tells (walk.index w d at e a z stride rest env p) r s t) l h))
+
+  -- an index in its range, and the part behind it
+  pub index_on : (at : ℕ) (e : Expr) (low high i : ℤ) (stride : ℕ) (rest : Selections) (p inner : meaning.Part) (r : Result Part End) (u : Image) → Shows Tells (walk.eval w d e env) (Ok i) s u → between low i high ≡ true → inner ≡ moved p (to_nat (i -ℤ low) * stride)
+      → ShowsAs part_of Tells (walk.select w d rest env inner) r u t → ShowsAs part_of Tells (walk.index w d at e low high stride rest env p) r s t
+  unfolding ret
+  index_on at e low high i stride rest p inner r u h within q k =
+      let on : ℤ → Stored meaning.Part = λ i. walk.select w d rest env (moved p (to_nat (i -ℤ low) * stride)) in
+      then_shows (λ a. a) part_of (walk.eval w d e env) (λ i. bind (checks IndexCheck at (between low i high)) (λ _. on i)) s u t i r h
+      (then_shows (λ a. a) part_of (checks IndexCheck at (between low i high)) (λ _. on i) u u t tt r (refl, stays, λ input told. rw within refl) (subst (λ z. ShowsAs part_of Tells (walk.select w d rest env z) r u t) q k))
+
+  pub index_ends : (at : ℕ) (e : Expr) (low high i : ℤ) (stride : ℕ) (rest : Selections) (p inner : meaning.Part) (y : End) (r : Result Part End) (u : Image) → r ≡ Err y → Shows Tells (walk.eval w d e env) (Ok i) s u → between low i high ≡ true
+      → inner ≡ moved p (to_nat (i -ℤ low) * stride) → ShowsAs part_of Tells (walk.select w d rest env inner) (Err y) u t → ShowsAs part_of Tells (walk.index w d at e low high stride rest env p) r s t
+  index_ends at e low high i stride rest p inner y r u is h within q k = subst (λ z. ShowsAs part_of Tells (walk.index w d at e low high stride rest env p) z s t) (sym is) (index_on at e low high i stride rest p inner (Err y) u h within q k)
 
   module _ (formal at : ℕ) (root : Root) (ss : Selections) (inner outer : Scalar) (rest : Actuals) (so_far : List meaning.Passed) where
     pub in_out_as : (r : Result (List Passed) End) (as' : Actuals) → ShowsAs (passed_list w) Tells (walk.pass_in_out w d formal at root ss inner outer rest env so_far) r s t → as' ≡ InOut formal at root ss inner outer rest → ShowsAs (passed_list w) Tells (walk.pass w d as' env so_far) r s t
