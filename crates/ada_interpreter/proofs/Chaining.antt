@@ -9,26 +9,29 @@ use Rattle.ada_typed.specs.Chained.{applied, linked, right_of, AreBelow}
 use Rattle.ada_meaning.specs.Meaning.{Env}
 use Rattle.ada_meaning.specs.Stored.{Stored, After, Fault, MemoryFault, Stops, State, next, next_halts, bind}
 use Rattle.run_store.specs.declared.ends.End.{End}
-use Rattle.run_store.specs.Shows.{Image, Goes, Shows}
-use Rattle.run_store.proofs.Going.{goes_refl, goes_instead, goes_then, goes_ends, goes_shows}
+use Rattle.run_store.specs.Outside.{Outside}
+use Rattle.run_store.specs.Operating.{outside_of}
+use Rattle.run_store.specs.Shows.{Image, facing, Goes, Shows}
+use Rattle.run_store.proofs.Going.{also, goes_refl, goes_instead, goes_then, goes_ends, goes_shows}
 use Rattle.run_parts.specs.declared.work.Work.{Work}
 use Rattle.run_parts.specs.Words.{nodes_of}
 use Rattle.ada_interpreter.specs.Walk as walk
 
-module _ {Tells : Type 0} where
+module _ {Tells : List ℕ → Outside → Type 0} where
   -- the first of two parts goes on
   pub goes_within : {A B : Type 0} (m n : Stored A) (k : A → Stored B) (s t : Image) → Goes Tells m s n t → Goes Tells (bind m k) s (bind n k) t
   unfolding bind
   goes_within m n k s t g = record {
     faults = g.faults;
-    same = λ told. ap (λ (z : After _). next z.state z.end k) (g.same told);
-    stops = λ told f u h. stopped told f u h;
+    keeps = g.keeps;
+    same = λ input told. ap (λ (z : After _). next z.state z.end k) (g.same input told);
+    stops = λ input told f u h. stopped input told f u h;
   }
     where
-      stopped : Tells → (f : Fault) (u : State) → Stops (bind n k) t.state f u → Stops (bind m k) s.state f u
-      stopped told f u (inl h) = inr (inl (g.stops told f u (inl h)))
-      stopped told f u (inr (inl h)) = inr (inl (g.stops told f u h))
-      stopped told f u (inr (inr h)) = inr (inr (subst (λ (z : After _). next_halts z.state z.end k f u) (sym (g.same told)) h))
+      stopped : (input : List ℕ) → Tells input (outside_of t) → (f : Fault) (u : State) → Stops (bind n k) (facing input t.state) f u → Stops (bind m k) (facing input s.state) f u
+      stopped input told f u (inl h) = inr (inl (g.stops input told f u (inl h)))
+      stopped input told f u (inr (inl h)) = inr (inl (g.stops input told f u h))
+      stopped input told f u (inr (inr h)) = inr (inr (subst (λ (z : After _). next_halts z.state z.end k f u) (sym (g.same input told)) h))
 
 module _ (w : Work) (d : ℕ) (env : Env) where
   -- an expression whose operators stand in a list is these operators over its first operand
@@ -39,7 +42,7 @@ module _ (w : Work) (d : ℕ) (env : Env) where
   chain_as (link.AndThen right ∷ ls) e = ap (λ m. bind m (λ x. walk.operator w d (link.AndThen right) env x)) (chain_as ls e)
   chain_as (link.OrElse right ∷ ls) e = ap (λ m. bind m (λ x. walk.operator w d (link.OrElse right) env x)) (chain_as ls e)
 
-module _ {Tells : Type 0} (w : Work) (d : ℕ) (env : Env) where
+module _ {Tells : List ℕ → Outside → Type 0} (w : Work) (d : ℕ) (env : Env) where
   -- with a value of what is applied first, where operators are left
   pub chain_begins : (l : Link) (ls : List Link) (m : Stored ℤ) (s t : Image) (v : ℤ) → Shows Tells m (Ok v) s t → Goes Tells (walk.linked_on w d (l ∷ ls) env m) s (walk.chain_left w d (l ∷ ls) env v) t
   chain_begins l [] m s t v h = goes_then (λ a. a) (λ a. a) (bind m (λ x. walk.operator w d l env x)) m (λ x. walk.operator w d l env x) s s t v (goes_refl _ s) h
@@ -59,14 +62,19 @@ module _ {Tells : Type 0} (w : Work) (d : ℕ) (env : Env) where
       (chain_ends (k ∷ ls) last s t v e h)
 
   goes_trans : {A : Type 0} (whole m n : Stored A) (s t u : Image) → Goes Tells whole s m t → Goes Tells m t n u → Goes Tells whole s n u
-  goes_trans whole m n s t u g h = record { faults = h.faults ∙ g.faults; same = λ told. g.same told ∙ h.same told; stops = λ told f x k. g.stops told f x (h.stops told f x k) }
+  goes_trans whole m n s t u g h = record {
+    faults = h.faults ∙ g.faults;
+    keeps = also g.keeps h.keeps;
+    same = λ input told. g.same input (h.keeps.back input told) ∙ h.same input told;
+    stops = λ input told f x k. g.stops input (h.keeps.back input told) f x (h.stops input told f x k);
+  }
 
 -- how a whole stands with the operators that are left, after a value
-abbrev pub Stands : Type 0 → Work → ℕ → Env → Stored ℤ → Image → List Link → ℤ → Image → Type 0
+abbrev pub Stands : (List ℕ → Outside → Type 0) → Work → ℕ → Env → Stored ℤ → Image → List Link → ℤ → Image → Type 0
 Stands Tells w d env whole s [] v t = Shows Tells whole (Ok v) s t
 Stands Tells w d env whole s (l ∷ ls) v t = Goes Tells whole s (walk.chain_left w d (l ∷ ls) env v) t
 
-module _ {Tells : Type 0} (w : Work) (d : ℕ) (env : Env) where
+module _ {Tells : List ℕ → Outside → Type 0} (w : Work) (d : ℕ) (env : Env) where
   module _ (whole : Stored ℤ) (s : Image) where
     pub stands_step : (ls new : List Link) (last : Link) (v v' x x' : ℤ) (t u : Image) → ls ≡ new ++ last ∷ [] → Stands Tells w d env whole s ls v t → Shows Tells (walk.operator w d last env v') (Ok x') t u → v' ≡ v → x' ≡ x → Stands Tells w d env whole s new x u
     stands_step ls new last v v' x x' t u is g h p q = go new (subst (λ z. Stands Tells w d env whole s z v t) is g)

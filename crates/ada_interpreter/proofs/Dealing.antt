@@ -14,8 +14,9 @@ use Rattle.ada_meaning.specs.Stored.{Stored, threads, first_of_both, bind, ret}
 use Rattle.ada_meaning.proofs.Computing.{through_more, through_done}
 use Rattle.run_store.specs.declared.ends.End.{End}
 use Rattle.run_store.specs.declared.ends.End.TheVariants as end
+use Rattle.run_store.specs.Outside.{Outside}
 use Rattle.run_store.specs.Shows.{Image, Goes, ShowsAs, Shows}
-use Rattle.run_store.proofs.Going.{goes_refl, goes_instead, goes_then, goes_ends, goes_gives, then_shows, same_shows}
+use Rattle.run_store.proofs.Going.{stays, goes_refl, goes_instead, goes_then, goes_ends, goes_gives, then_shows, same_shows}
 use Rattle.run_parts.specs.declared.work.Work.{Work}
 use Rattle.run_parts.specs.declared.chunks.Chunking.{Chunking}
 use Rattle.run_parts.specs.declared.chunks.Chunking.TheVariants as chunking
@@ -48,7 +49,7 @@ module _ (w : Work) (d : ℕ) (env : Env) where
   unfolding walk.threads_run walk.share_run
   arms_as most arms = refl
 
-module _ {Tells : Type 0} (w : Work) (d : ℕ) (env : Env) (s t : Image) where
+module _ {Tells : List ℕ → Outside → Type 0} (w : Work) (d : ℕ) (env : Env) (s t : Image) where
   pub dealt_loop_shows : (n : ℕ) (k : Chunking) (c : courses.Course) (it ss count : ℕ) (sizes : List ℕ) (r : Result (Unit {0}) End) → count ≡ (course_of c).count → sizes ≡ loop_sizes w k count → Shows Tells (walk.threads_run w d (task.Loop k c it ss) sizes env) r s t
       → Shows Tells (walk.dealt_loop w d n (chunking_of k) (course_of c) (iteration_at (nodes_of w) it) (stmts_at (nodes_of w) ss) env) (caught n r) s t
   dealt_loop_shows n k c it ss count sizes r e f h =
@@ -67,7 +68,7 @@ module _ {Tells : Type 0} (w : Work) (d : ℕ) (env : Env) (s t : Image) where
       → Shows Tells (walk.dealt_arms w d most (arms_at (nodes_of w) arms) env) r s t
   dealt_arms_ends most arms n sizes y r q e f h = subst (λ z. Shows Tells (walk.dealt_arms w d most (arms_at (nodes_of w) arms) env) z s t) (sym q) (dealt_arms_shows most arms n sizes (Err y) e f h)
 
-module _ {Tells : Type 0} (w : Work) (d : ℕ) (env inner : Env) (is : inner ≡ inside env) (s t u : Image) where
+module _ {Tells : List ℕ → Outside → Type 0} (w : Work) (d : ℕ) (env inner : Env) (is : inner ≡ inside env) (s t u : Image) where
   module _ (n : ℕ) (chunk : Chunk) (it : Iteration) (ss : Stmts) (h : Shows Tells (opened w env) (Ok tt) s s) where
     pub parallel_for_ends : (e : End) (r : Result (Unit {0}) End) → r ≡ Err e → ShowsAs chunking_of Tells (walk.chunking w d chunk inner) (Err e) s t → Shows Tells (walk.parallel_for w d n chunk it ss env) r s t
     parallel_for_ends e r q k =
@@ -100,7 +101,7 @@ module _ {Tells : Type 0} (w : Work) (d : ℕ) (env inner : Env) (is : inner ≡
     pub parallel_block_stops : (most : ℕ) (e : End) (r : Result (Unit {0}) End) → r ≡ Err e → Shows Tells (walk.threads_of w d count inner) (Ok most) s t → Shows Tells (walk.dealt_arms w d most arms inner) (Err e) t u → Shows Tells (walk.parallel_block w d count arms env) r s u
     parallel_block_stops most e r q c l = subst (λ z. Shows Tells (walk.parallel_block w d count arms env) z s u) (sym q) (parallel_block_on most (Err e) c l)
 
-module _ {Tells : Type 0} (w : Work) (d n : ℕ) (k : Chunking) (it : Iteration) (ss : Stmts) (env : Env) (s t u : Image) (c : courses.Course) (h : ShowsAs course_of Tells (walk.course w d it env) (Ok c) s t) where
+module _ {Tells : List ℕ → Outside → Type 0} (w : Work) (d n : ℕ) (k : Chunking) (it : Iteration) (ss : Stmts) (env : Env) (s t u : Image) (c : courses.Course) (h : ShowsAs course_of Tells (walk.course w d it env) (Ok c) s t) where
   abbrev after : Course → Stored (Unit {0})
   after c = bind (count_checked w c.count) (λ _. walk.dealt_loop w d n (chunking_of k) c it ss env)
 
@@ -120,7 +121,7 @@ module _ {Tells : Type 0} (w : Work) (d n : ℕ) (k : Chunking) (it : Iteration)
 
 -- ---- what a thread goes through
 
-module _ {Tells : Type 0} (w : Work) (d : ℕ) (todo : Task) (number : ℕ) (env : Env) where
+module _ {Tells : List ℕ → Outside → Type 0} (w : Work) (d : ℕ) (todo : Task) (number : ℕ) (env : Env) where
   pub share_begins : (s : Image) (first size last : ℕ) → last ≡ first + size → Goes Tells (walk.share_run w d todo env (record { number = number; first = first; size = size })) s (walk.share_left w d todo number first (last - first) env) s
   unfolding walk.share_run
   share_begins s first size last e =
@@ -156,11 +157,11 @@ module _ (w : Work) (d : ℕ) (env : Env) where
   arm_none_as (Arm stmts rest) zero e = cc
   arm_none_as (Arm stmts rest) (suc i) e = arm_none_as rest i e
 
-module _ {Tells : Type 0} (w : Work) (d : ℕ) (env : Env) where
+module _ {Tells : List ℕ → Outside → Type 0} (w : Work) (d : ℕ) (env : Env) where
   module _ (arms : Arms) (i : ℕ) (s t : Image) where
     pub arm_none : found_arm arms i ≡ None → Shows Tells (walk.exec_arm w d arms i env) (Ok tt) s s
     unfolding ret
-    arm_none e = same_shows (λ a. a) (walk.exec_arm w d arms i env) (ret tt) (Ok tt) s s (arm_none_as w d env arms i e) (refl, λ told. refl)
+    arm_none e = same_shows (λ a. a) (walk.exec_arm w d arms i env) (ret tt) (Ok tt) s s (arm_none_as w d env arms i e) (refl, stays, λ input told. refl)
 
     pub arm_some : (ss : Stmts) (r : Result (Unit {0}) End) → found_arm arms i ≡ Some ss → Shows Tells (walk.exec_all w d ss env) r s t → Shows Tells (walk.exec_arm w d arms i env) r s t
     arm_some ss r e h = same_shows (λ a. a) (walk.exec_arm w d arms i env) (walk.exec_all w d ss env) r s t (arm_some_as w d env arms i ss e) h
@@ -169,7 +170,7 @@ module _ {Tells : Type 0} (w : Work) (d : ℕ) (env : Env) where
     arm_ends ss e r q is h = subst (λ z. Shows Tells (walk.exec_arm w d arms i env) z s t) (sym q) (arm_some ss (Err e) is h)
 
 -- an arm in a thread
-module _ {Tells : Type 0} (w : Work) (d : ℕ) (env : Env) (todo : Task) (arms number i : ℕ) (s t : Image) (is : todo ≡ task.Arms arms) where
+module _ {Tells : List ℕ → Outside → Type 0} (w : Work) (d : ℕ) (env : Env) (todo : Task) (arms number i : ℕ) (s t : Image) (is : todo ≡ task.Arms arms) where
   pub turn_none : found_arm (arms_at (nodes_of w) arms) i ≡ None → Shows Tells (walk.task_turn w d todo number i env) (Ok tt) s s
   turn_none e = subst (λ z. Shows Tells (walk.task_turn w d z number i env) (Ok tt) s s) (sym is) (arm_none w d env (arms_at (nodes_of w) arms) i s s e)
 
@@ -185,7 +186,7 @@ abbrev fold : (attribute iteration value : ℕ) → Reducer → Fold
 fold attribute iteration value z = record { attribute = attribute; reducer = z; iteration = iteration; value = value }
 
 -- an expression that is one
-module _ {Tells : Type 0} (w : Work) (d : ℕ) (x initial : Expr) (n attribute : ℕ) (by by' : Reducer) (chunk : Chunk) (iteration value : ℕ) (env : Env) (r : Result ℤ End) (s t : Image) (is : by' ≡ by) where
+module _ {Tells : List ℕ → Outside → Type 0} (w : Work) (d : ℕ) (x initial : Expr) (n attribute : ℕ) (by by' : Reducer) (chunk : Chunk) (iteration value : ℕ) (env : Env) (r : Result ℤ End) (s t : Image) (is : by' ≡ by) where
   pub reduction_shows : x ≡ Reduction n attribute by initial None chunk (iteration_at (nodes_of w) iteration) (expr_at (nodes_of w) value) → Shows Tells (walk.reduction w d (fold attribute iteration value by') initial env) r s t → Shows Tells (walk.eval w d x env) r s t
   unfolding walk.eval walk.course walk.filtered walk.fold_left
   reduction_shows e h = subst (λ z. Shows Tells (walk.eval w d z env) r s t) (sym e) (subst (λ z. Shows Tells (walk.reduction w d (fold attribute iteration value z) initial env) r s t) is h)
@@ -194,7 +195,7 @@ module _ {Tells : Type 0} (w : Work) (d : ℕ) (x initial : Expr) (n attribute :
   unfolding walk.eval walk.course walk.filtered walk.chunking
   parallel_reduction_shows site e h = subst (λ z. Shows Tells (walk.eval w d z env) r s t) (sym e) (subst (λ z. Shows Tells (walk.parallel_reduction w d (fold attribute iteration value z) initial chunk env) r s t) is h)
 
-module _ {Tells : Type 0} (w : Work) (d : ℕ) (by : Fold) (env inner : Env) (is : inner ≡ inside env) where
+module _ {Tells : List ℕ → Outside → Type 0} (w : Work) (d : ℕ) (by : Fold) (env inner : Env) (is : inner ≡ inside env) where
   module _ (initial : Expr) (chunk : Chunk) (s t u v : Image) (start : ℤ) (h : Shows Tells (walk.eval w d initial env) (Ok start) s t) (o : Shows Tells (opened w env) (Ok tt) t t) where
     abbrev chunks : ℤ → Stored ℤ
     chunks start = bind (walk.chunking w d chunk (inside env)) (λ k. walk.chunked_fold w d by k start env)
@@ -263,7 +264,7 @@ module _ {Tells : Type 0} (w : Work) (d : ℕ) (by : Fold) (env inner : Env) (is
 
 -- ---- a chunk for each value of a range
 
-module _ {Tells : Type 0} (w : Work) (d : ℕ) (env : Env) (parameter : ℕ) (low high : Expr) (check : Option Check) (c : Chunk) (l h l' h' : ℤ) (s t u : Image) where
+module _ {Tells : List ℕ → Outside → Type 0} (w : Work) (d : ℕ) (env : Env) (parameter : ℕ) (low high : Expr) (check : Option Check) (c : Chunk) (l h l' h' : ℤ) (s t u : Image) where
   pub each_on : (r : Result Chunking End) → c ≡ Each parameter low high check → Shows Tells (walk.eval w d low env) (Ok l) s t → Shows Tells (walk.eval w d high env) (Ok h) t u → ShowsAs chunking_of Tells (each_chunk w parameter check l' h') r u u → l' ≡ l → h' ≡ h
       → ShowsAs chunking_of Tells (walk.chunking w d c env) r s u
   unfolding walk.chunking walk.eval
@@ -277,7 +278,7 @@ module _ {Tells : Type 0} (w : Work) (d : ℕ) (env : Env) (parameter : ℕ) (lo
       → ShowsAs chunking_of Tells (walk.chunking w d c env) r s u
   each_ends e r x is y z k p q = subst (λ r. ShowsAs chunking_of Tells (walk.chunking w d c env) r s u) (sym x) (each_on (Err e) is y z k p q)
 
-pub loops_begin : {Tells : Type 0} (w : Work) (d : ℕ) (todo : Task) (sizes : List ℕ) (env : Env) (s : Image) (n most : ℕ) → n ≡ s.state.turns → most ≡ s.state.turns
+pub loops_begin : {Tells : List ℕ → Outside → Type 0} (w : Work) (d : ℕ) (todo : Task) (sizes : List ℕ) (env : Env) (s : Image) (n most : ℕ) → n ≡ s.state.turns → most ≡ s.state.turns
     → Goes Tells (walk.threads_run w d todo sizes env) s (threads first_of_both (walk.share_run w d todo env) n (deal 0 0 (drop 0 sizes)) most false tt) s
 unfolding walk.threads_run
 loops_begin w d todo sizes env s n most e q = threads_begin first_of_both tt sizes (walk.share_run w d todo env) s n most e q

@@ -10,9 +10,10 @@ use Rattle.ada_meaning.specs.Stored
 use Rattle.ada_meaning.specs.Stored.{Stored, doings, bind, par, threads, after_all}
 use Rattle.ada_base.specs.Cuts.{cuts_of}
 use Rattle.ada_meaning.proofs.Computing.{through_more, through_done}
+use Rattle.run_store.specs.Outside.{Outside}
 use Rattle.run_store.specs.Shows.{Image, Goes, Shows}
 use Rattle.run_store.specs.declared.ends.End.{End}
-use Rattle.run_store.proofs.Going.{goes_refl, goes_instead, goes_then, goes_ends, goes_gives, then_shows, same_shows}
+use Rattle.run_store.proofs.Going.{stays, goes_refl, goes_instead, goes_then, goes_ends, goes_gives, then_shows, same_shows}
 use Rattle.run_parts.specs.declared.work.Work.{Work}
 use Rattle.run_parts.specs.declared.chunks.Chunking.{Chunking}
 use Rattle.run_parts.specs.declared.chunks.Chunking.TheVariants as chunking
@@ -25,7 +26,7 @@ use Rattle.ada_interpreter.specs.Walk as walk
 abbrev one : Work → ℕ → Fold → Course → Env → ℕ → ℤ → Stored ℤ
 one w d by c env i total = walk.fold_one w d by env.nested (c.bound i env) total
 
-module _ {Tells : Type 0} (w : Work) (d : ℕ) (by : Fold) (c : Course) (env : Env) where
+module _ {Tells : List ℕ → Outside → Type 0} (w : Work) (d : ℕ) (by : Fold) (c : Course) (env : Env) where
   module _ (whole : Stored ℤ) (s t u : Image) (i n : ℕ) (total : ℤ) where
     module _ (lt : i < n) (g : Goes Tells whole s (walk.fold_left w d by i (n - i) c total env) t) where
       fold_more : Goes Tells whole s (bind (one w d by c env i total) (λ v. walk.fold_left w d by (i + 1) (n - (i + 1)) c v env)) t
@@ -47,7 +48,7 @@ module _ {Tells : Type 0} (w : Work) (d : ℕ) (by : Fold) (c : Course) (env : E
   -- none, and all
   pub fold_none : (n : ℕ) (start r : ℤ) (s : Image) → n ≡ 0 → r ≡ start → Shows Tells (walk.fold_left w d by 0 n c start env) (Ok r) s s
   unfolding walk.fold_left Stored.ret
-  fold_none n start r s e p = subst (λ z. Shows Tells (walk.fold_left w d by 0 n c start env) (Ok z) s s) (sym p) (subst (λ n. Shows Tells (walk.fold_left w d by 0 n c start env) (Ok start) s s) (sym e) (refl, λ told. refl))
+  fold_none n start r s e p = subst (λ z. Shows Tells (walk.fold_left w d by 0 n c start env) (Ok z) s s) (sym p) (subst (λ n. Shows Tells (walk.fold_left w d by 0 n c start env) (Ok start) s s) (sym e) (refl, stays, λ input told. refl))
 
   pub fold_as : (first m n : ℕ) (start a : ℤ) (r : Result ℤ End) (s t : Image) → m ≡ n → Shows Tells (walk.fold_left w d by first m c a env) r s t → a ≡ start → Shows Tells (walk.fold_left w d by first n c start env) r s t
   fold_as first m n start a r s t e h p = subst (λ z. Shows Tells (walk.fold_left w d by first n c z env) r s t) p (subst (λ n. Shows Tells (walk.fold_left w d by first n c a env) r s t) e h)
@@ -68,7 +69,7 @@ drop_end [] (suc k) e = refl
 drop_end (x ∷ xs) zero e = cc
 drop_end (x ∷ xs) (suc k) e = drop_end xs k e
 
-module _ {Tells : Type 0} (w : Work) (d : ℕ) (by : Fold) (nested : ℕ) (whole : Stored ℤ) (s t u : Image) (total : ℤ) (vs : List ℤ) (k : ℕ) (g : Goes Tells whole s (walk.combined_onto w d by nested total (drop k vs)) t) where
+module _ {Tells : List ℕ → Outside → Type 0} (w : Work) (d : ℕ) (by : Fold) (nested : ℕ) (whole : Stored ℤ) (s t u : Image) (total : ℤ) (vs : List ℤ) (k : ℕ) (g : Goes Tells whole s (walk.combined_onto w d by nested total (drop k vs)) t) where
   module _ (v : ℤ) (is : slice_get vs k ≡ Some v) where
     onto_more : Goes Tells whole s (bind (walk.combined_two w d by nested total v) (λ c. walk.combined_onto w d by nested c (drop (k + 1) vs))) t
     unfolding walk.combined_onto
@@ -97,12 +98,12 @@ module _ (w : Work) (d : ℕ) (by : Fold) (c : Course) (start : ℤ) (env : Env)
   share_as (chunking.ByPlan most) s = refl
   share_as (chunking.Each p low n) s = refl
 
-  module _ {Tells : Type 0} (k : Chunking) (number first size : ℕ) (s t : Image) where
+  module _ {Tells : List ℕ → Outside → Type 0} (k : Chunking) (number first size : ℕ) (s t : Image) where
     pub fold_share_none : (r : ℤ) → size ≡ 0 → r ≡ start → Shows Tells (walk.share_folded w d by (chunking_of k) c start env (record { number = number; first = first; size = size })) (Ok r) s s
     unfolding walk.share_folded Stored.ret
     fold_share_none r e p =
         subst (λ z. Shows Tells (walk.share_folded w d by (chunking_of k) c start env (record { number = number; first = first; size = size })) (Ok z) s s) (sym p)
-        (subst (λ n. Shows Tells (walk.share_folded w d by (chunking_of k) c start env (record { number = number; first = first; size = n })) (Ok start) s s) (sym e) (refl, λ told. refl))
+        (subst (λ n. Shows Tells (walk.share_folded w d by (chunking_of k) c start env (record { number = number; first = first; size = n })) (Ok start) s s) (sym e) (refl, stays, λ input told. refl))
 
     pub fold_share_on : (inner : Env) (m : ℕ) (a : ℤ) (r : Result ℤ End) → inner ≡ (chunking_of k).bound number env → m ≡ size → Shows Tells (walk.fold_left w d by first m c a inner) r s t → a ≡ start → Shows Tells (walk.share_folded w d by (chunking_of k) c start env (record { number = number; first = first; size = size })) r s t
     fold_share_on inner m a r is e h p =
@@ -122,20 +123,20 @@ module _ (w : Work) (d : ℕ) (by : Fold) (c : Course) (start : ℤ) (env : Env)
   dealt_fold_as (chunking.Each p low n) = refl
 
 -- a number under another name
-pub gives_as : {Tells : Type 0} (m : Stored ℤ) (a b : ℤ) (s t : Image) → Shows Tells m (Ok a) s t → b ≡ a → Shows Tells m (Ok b) s t
+pub gives_as : {Tells : List ℕ → Outside → Type 0} (m : Stored ℤ) (a b : ℤ) (s t : Image) → Shows Tells m (Ok a) s t → b ≡ a → Shows Tells m (Ok b) s t
 gives_as {Tells} m a b s t h p = subst (λ z. Shows Tells m (Ok z) s t) (sym p) h
 
-pub onto_as : {Tells : Type 0} (w : Work) (d : ℕ) (by : Fold) (nested : ℕ) (first a : ℤ) (vs : List ℤ) (r : Result ℤ End) (s t : Image) → Shows Tells (walk.combined_onto w d by nested a vs) r s t → a ≡ first → Shows Tells (walk.combined_onto w d by nested first vs) r s t
+pub onto_as : {Tells : List ℕ → Outside → Type 0} (w : Work) (d : ℕ) (by : Fold) (nested : ℕ) (first a : ℤ) (vs : List ℤ) (r : Result ℤ End) (s t : Image) → Shows Tells (walk.combined_onto w d by nested a vs) r s t → a ≡ first → Shows Tells (walk.combined_onto w d by nested first vs) r s t
 onto_as {Tells} w d by nested first a vs r s t h p = subst (λ z. Shows Tells (walk.combined_onto w d by nested z vs) r s t) p h
 
-pub share_folded_as : {Tells : Type 0} (w : Work) (d : ℕ) (by : Fold) (k : meaning.Chunking) (c : Course) (start a : ℤ) (env : Env) (j : Share) (r : Result ℤ End) (s t : Image) → Shows Tells (walk.share_folded w d by k c a env j) r s t → a ≡ start → Shows Tells (walk.share_folded w d by k c start env j) r s t
+pub share_folded_as : {Tells : List ℕ → Outside → Type 0} (w : Work) (d : ℕ) (by : Fold) (k : meaning.Chunking) (c : Course) (start a : ℤ) (env : Env) (j : Share) (r : Result ℤ End) (s t : Image) → Shows Tells (walk.share_folded w d by k c a env j) r s t → a ≡ start → Shows Tells (walk.share_folded w d by k c start env j) r s t
 share_folded_as {Tells} w d by k c start a env j r s t h p = subst (λ z. Shows Tells (walk.share_folded w d by k c z env j) r s t) p h
 
-pub threads_folded_as : {Tells : Type 0} (w : Work) (d : ℕ) (by : Fold) (k : meaning.Chunking) (c : Course) (start a : ℤ) (ns : List ℕ) (env : Env) (r : Result (List ℤ) End) (s t : Image) → Shows Tells (walk.threads_folded w d by k c a ns env) r s t → a ≡ start → Shows Tells (walk.threads_folded w d by k c start ns env) r s t
+pub threads_folded_as : {Tells : List ℕ → Outside → Type 0} (w : Work) (d : ℕ) (by : Fold) (k : meaning.Chunking) (c : Course) (start a : ℤ) (ns : List ℕ) (env : Env) (r : Result (List ℤ) End) (s t : Image) → Shows Tells (walk.threads_folded w d by k c a ns env) r s t → a ≡ start → Shows Tells (walk.threads_folded w d by k c start ns env) r s t
 threads_folded_as {Tells} w d by k c start a ns env r s t h p = subst (λ z. Shows Tells (walk.threads_folded w d by k c z ns env) r s t) p h
 
 -- a step that ends the fold
-pub fold_one_stops : {Tells : Type 0} (w : Work) (d : ℕ) (by : Fold) (nested n : ℕ) (env i : Env) (so_far v a b : ℤ) (found : Option ℤ) (e : End) (r : Result ℤ End) (s t u : Image) → r ≡ Err e → Shows Tells (walk.iterated_value w d by i) (Ok found) s t → found ≡ Some v
+pub fold_one_stops : {Tells : List ℕ → Outside → Type 0} (w : Work) (d : ℕ) (by : Fold) (nested n : ℕ) (env i : Env) (so_far v a b : ℤ) (found : Option ℤ) (e : End) (r : Result ℤ End) (s t u : Image) → r ≡ Err e → Shows Tells (walk.iterated_value w d by i) (Ok found) s t → found ≡ Some v
     → Shows Tells (walk.reduced w d by n a b) (Err e) t u → i ≡ env → n ≡ nested → a ≡ so_far → b ≡ v → Shows Tells (walk.fold_one w d by nested env so_far) r s u
 fold_one_stops {Tells} w d by nested n env i so_far v a b found e r s t u q h is k x y p z =
     subst (λ r. Shows Tells (walk.fold_one w d by nested env so_far) r s u) (sym q)
@@ -143,7 +144,7 @@ fold_one_stops {Tells} w d by nested n env i so_far v a b found e r s t u q h is
     (subst (λ i. Shows Tells (walk.iterated_value w d by i) (Ok (Some v)) s t) x (subst (λ f. Shows Tells (walk.iterated_value w d by i) (Ok f) s t) is h))
     (subst (λ n. Shows Tells (walk.reduced w d by n so_far v) (Err e) t u) y (subst (λ a. Shows Tells (walk.reduced w d by n a v) (Err e) t u) p (subst (λ b. Shows Tells (walk.reduced w d by n a b) (Err e) t u) z k))))
 
-pub folds_begin : {Tells : Type 0} (w : Work) (d : ℕ) (by : Fold) (k : meaning.Chunking) (c : Course) (start : ℤ) (sizes : List ℕ) (env : Env) (s : Image) (n most : ℕ) → n ≡ s.state.turns → most ≡ s.state.turns
+pub folds_begin : {Tells : List ℕ → Outside → Type 0} (w : Work) (d : ℕ) (by : Fold) (k : meaning.Chunking) (c : Course) (start : ℤ) (sizes : List ℕ) (env : Env) (s : Image) (n most : ℕ) → n ≡ s.state.turns → most ≡ s.state.turns
     → Goes Tells (walk.threads_folded w d by k c start sizes env) s (threads after_all (walk.share_folded w d by k c start env) n (deal 0 0 (drop 0 sizes)) most false []) s
 unfolding walk.threads_folded
 folds_begin w d by k c start sizes env s n most e q = threads_begin after_all [] sizes (walk.share_folded w d by k c start env) s n most e q

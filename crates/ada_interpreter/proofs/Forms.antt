@@ -1,23 +1,24 @@
 -- Forms of the language, as the functions that go by them.
-use Rattle.std.proofs.Common.{◌≡◌, ◌&&◌, ◌+◌, ◌+ℤ◌, ◌-ℤ◌, pos, ℕ, ℤ, List, [], ◌∷◌, ◌++◌, Bool, true, false, cond, int_le, Option, Some, None, refl, sym, subst, ap, ◌∙◌}
+use Rattle.std.proofs.Common.{◌≡◌, ◌&&◌, ◌+◌, ◌+ℤ◌, ◌-ℤ◌, ◌*◌, pos, ℕ, ℤ, List, [], ◌∷◌, ◌++◌, Bool, true, false, cond, int_le, Option, Some, None, refl, sym, subst, ap, ◌∙◌}
 use Rattle.std.specs.Prelude.{Result, Ok, Err}
 use Rattle.behaviours.specs.Paths.{VariableOf}
 use Rattle.ada_typed.specs.declared.scalars.Scalar.{Scalar}
 use Rattle.ada_typed.specs.declared.scalars.Check.{Check}
 use Rattle.ada_typed.specs.declared.expressions.Root.{Root}
 use Rattle.ada_typed.specs.Syntax.{Expr, Optional, Selections, Index, Actuals, InOut, Iteration, Range, Stmt, Get, Value, Number}
-use Rattle.ada_meaning.specs.Values.{is_in, count}
-use Rattle.ada_meaning.specs.Operations.{RangeCheck}
+use Rattle.ada_meaning.specs.Values.{is_in, count, between, to_nat}
+use Rattle.ada_meaning.specs.Operations.{IndexCheck, RangeCheck}
 use Rattle.ada_meaning.specs.Meaning as meaning
-use Rattle.ada_meaning.specs.Meaning.{Env, variable_root, with_parameter}
+use Rattle.ada_meaning.specs.Meaning.{Env, variable_root, with_parameter, moved}
 use Rattle.ada_meaning.specs.Stored.{Stored, ret, bind, reads, writes, checks}
 use Rattle.run_store.specs.declared.ends.End.{End}
 use Rattle.run_store.specs.declared.env.Part.{Part}
 use Rattle.run_store.specs.declared.values.Range as code
 use Rattle.run_store.specs.Operating.{got}
 use Rattle.run_store.specs.Environment.{part_of}
+use Rattle.run_store.specs.Outside.{Outside}
 use Rattle.run_store.specs.Shows.{Image, ShowsAs, Shows}
-use Rattle.run_store.proofs.Going.{goes_refl, goes_ends, then_shows, same_shows}
+use Rattle.run_store.proofs.Going.{stays, goes_refl, goes_ends, then_shows, same_shows}
 use Rattle.run_parts.specs.declared.work.Work.{Work}
 use Rattle.run_parts.specs.declared.passed.Passed.{Passed}
 use Rattle.run_parts.specs.declared.courses.Course.{Course}
@@ -37,7 +38,7 @@ bounds_so w (Some c) low high e = go (int_le low high) (is_in c.scalar low && is
     go true b e = rw e refl
     go false b e = refl
 
-module _ {Tells : Type 0} (w : Work) (d : ℕ) (env : Env) (s t : Image) where
+module _ {Tells : List ℕ → Outside → Type 0} (w : Work) (d : ℕ) (env : Env) (s t : Image) where
   pub index_as : (at : ℕ) (e : Expr) (low high a b : ℤ) (stride : ℕ) (rest ss : Selections) (p : meaning.Part) (r : Result Part End) → ShowsAs part_of Tells (walk.index w d at e a b stride rest env p) r s t → a ≡ low → b ≡ high → ss ≡ Index at e low high stride rest
       → ShowsAs part_of Tells (walk.select w d ss env p) r s t
   unfolding walk.eval walk.select
@@ -45,6 +46,19 @@ module _ {Tells : Type 0} (w : Work) (d : ℕ) (env : Env) (s t : Image) where
       subst (λ z. ShowsAs part_of Tells (walk.select w d z env p) r s t) (sym is)
       (subst (λ z. ShowsAs part_of Tells (walk.index w d at e z high stride rest env p) r s t) k
       (subst (λ z. ShowsAs part_of Tells (walk.index w d at e a z stride rest env p) r s t) l h))
+
+  -- an index in its range, and the part behind it
+  pub index_on : (at : ℕ) (e : Expr) (low high i : ℤ) (stride : ℕ) (rest : Selections) (p inner : meaning.Part) (r : Result Part End) (u : Image) → Shows Tells (walk.eval w d e env) (Ok i) s u → between low i high ≡ true → inner ≡ moved p (to_nat (i -ℤ low) * stride)
+      → ShowsAs part_of Tells (walk.select w d rest env inner) r u t → ShowsAs part_of Tells (walk.index w d at e low high stride rest env p) r s t
+  unfolding ret
+  index_on at e low high i stride rest p inner r u h within q k =
+      let on : ℤ → Stored meaning.Part = λ i. walk.select w d rest env (moved p (to_nat (i -ℤ low) * stride)) in
+      then_shows (λ a. a) part_of (walk.eval w d e env) (λ i. bind (checks IndexCheck at (between low i high)) (λ _. on i)) s u t i r h
+      (then_shows (λ a. a) part_of (checks IndexCheck at (between low i high)) (λ _. on i) u u t tt r (refl, stays, λ input told. rw within refl) (subst (λ z. ShowsAs part_of Tells (walk.select w d rest env z) r u t) q k))
+
+  pub index_ends : (at : ℕ) (e : Expr) (low high i : ℤ) (stride : ℕ) (rest : Selections) (p inner : meaning.Part) (y : End) (r : Result Part End) (u : Image) → r ≡ Err y → Shows Tells (walk.eval w d e env) (Ok i) s u → between low i high ≡ true
+      → inner ≡ moved p (to_nat (i -ℤ low) * stride) → ShowsAs part_of Tells (walk.select w d rest env inner) (Err y) u t → ShowsAs part_of Tells (walk.index w d at e low high stride rest env p) r s t
+  index_ends at e low high i stride rest p inner y r u is h within q k = subst (λ z. ShowsAs part_of Tells (walk.index w d at e low high stride rest env p) z s t) (sym is) (index_on at e low high i stride rest p inner (Err y) u h within q k)
 
   module _ (formal at : ℕ) (root : Root) (ss : Selections) (inner outer : Scalar) (rest : Actuals) (so_far : List meaning.Passed) where
     pub in_out_as : (r : Result (List Passed) End) (as' : Actuals) → ShowsAs (passed_list w) Tells (walk.pass_in_out w d formal at root ss inner outer rest env so_far) r s t → as' ≡ InOut formal at root ss inner outer rest → ShowsAs (passed_list w) Tells (walk.pass w d as' env so_far) r s t
@@ -68,7 +82,7 @@ module _ {Tells : Type 0} (w : Work) (d : ℕ) (env : Env) (s t : Image) where
         (λ v. bind (meaning.checked (ops w) (record { at = at; scalar = inner }) v) (λ _. on (part_of p) (v ∷ [])))
         u u t v r k
         (then_shows (λ a. a) (passed_list w) (meaning.checked (ops w) (record { at = at; scalar = inner }) v) (λ _. on (part_of p) (v ∷ []))
-        u u t tt r (refl, λ told. rw within refl)
+        u u t tt r (refl, stays, λ input told. rw within refl)
         (subst (λ z. ShowsAs (passed_list w) Tells (on (part_of p) z) r u t) (e ∙ ap (λ z. z ∷ []) same)
         (subst (λ z. ShowsAs (passed_list w) Tells (walk.pass w d rest env z) r u t) f l))))
 
@@ -82,8 +96,8 @@ module _ {Tells : Type 0} (w : Work) (d : ℕ) (env : Env) (s t : Image) where
       (then_shows (λ a. a) course_of (walk.eval w d low env) (λ l. bind (walk.eval w d high env) (λ h. done l h)) s u t range.low (Ok (course.Values k reverse range)) (subst (λ z. Shows Tells (walk.eval w d low env) (Ok z) s u) (sym a) e)
       (then_shows (λ a. a) course_of (walk.eval w d high env) (λ h. done range.low h) u t t range.high (Ok (course.Values k reverse range)) (subst (λ z. Shows Tells (walk.eval w d high env) (Ok z) u t) (sym b) f)
       (then_shows (λ a. a) course_of (meaning.bounds_checked (ops w) check range.low range.high) (λ _. ret (course_of (course.Values k reverse range))) t t t tt (Ok (course.Values k reverse range))
-      (same_shows (λ a. a) (meaning.bounds_checked (ops w) check range.low range.high) (ret tt) (Ok tt) t t (bounds_so w check range.low range.high within) (refl, λ told. refl))
-      (refl, λ told. refl))))
+      (same_shows (λ a. a) (meaning.bounds_checked (ops w) check range.low range.high) (ret tt) (Ok tt) t t (bounds_so w check range.low range.high within) (refl, stays, λ input told. refl))
+      (refl, stays, λ input told. refl))))
 
   -- a number that is stored, up to the store
   pub number_ends : (check : Check) (e : Expr) (v : Value) (p : meaning.Part) (x z : ℤ) (u : Image) (y : End) (r : Result (Unit {0}) End) → r ≡ Err y → Shows Tells (walk.eval w d e env) (Ok x) s u → is_in check.scalar x ≡ true → Shows Tells (writes p.object p.offset z) (Err y) u t → z ≡ x
@@ -95,7 +109,7 @@ module _ {Tells : Type 0} (w : Work) (d : ℕ) (env : Env) (s t : Image) where
       (subst (λ z. Shows Tells (walk.assigned w d z p env) (Err y) s t) (sym is)
       (then_shows (λ a. a) (λ a. a) (walk.number w d check e env) put s u t (x ∷ []) (Err y)
       (then_shows (λ a. a) (λ a. a) (walk.eval w d e env) (λ v. bind (meaning.checked (ops w) check v) (λ _. ret (v ∷ []))) s u u x (Ok (x ∷ [])) h
-      (then_shows (λ a. a) (λ a. a) (meaning.checked (ops w) check x) (λ _. ret (x ∷ [])) u u u tt (Ok (x ∷ [])) (refl, λ told. rw within refl) (refl, λ told. refl)))
+      (then_shows (λ a. a) (λ a. a) (meaning.checked (ops w) check x) (λ _. ret (x ∷ [])) u u u tt (Ok (x ∷ [])) (refl, stays, λ input told. rw within refl) (refl, stays, λ input told. refl)))
       (goes_ends (λ a. a) (λ a. a) (put (x ∷ [])) (writes p.object p.offset x) (λ _. write_all w p.object (p.offset + 1) []) u u t y (goes_refl _ u) (subst (λ z. Shows Tells (writes p.object p.offset z) (Err y) u t) same k))))
 
   -- a number that was read, up to the store
@@ -107,7 +121,7 @@ module _ {Tells : Type 0} (w : Work) (d : ℕ) (env : Env) (s t : Image) where
       (then_shows part_of (λ a. a) (walk.select w d ss env (variable_root root env)) (λ p. bind (got w.limit) (λ v. bind (checks RangeCheck first (is_in scalar v)) (λ _. writes p.object p.offset v))) s u t p (Err y)
       (subst (λ z. ShowsAs part_of Tells (walk.select w d ss env z) (Ok p) s u) e h)
       (then_shows (λ a. a) (λ a. a) (got w.limit) (λ v. bind (checks RangeCheck first (is_in scalar v)) (λ _. writes p.object p.offset v)) u x t v (Err y) k
-      (then_shows (λ a. a) (λ a. a) (checks RangeCheck first (is_in scalar v)) (λ _. writes p.object p.offset v) x x t tt (Err y) (refl, λ told. rw within refl)
+      (then_shows (λ a. a) (λ a. a) (checks RangeCheck first (is_in scalar v)) (λ _. writes p.object p.offset v) x x t tt (Err y) (refl, stays, λ input told. rw within refl)
       (subst (λ z. Shows Tells (writes p.object p.offset z) (Err y) x t) same l))))
 
   -- a statement that reads a number

@@ -8,12 +8,13 @@ use Rattle.ada_typed.specs.Syntax.{Expr, Stmts, Handlers, NoHandler, Handler, Al
 use Rattle.ada_meaning.specs.Values.{handles_reason, is_chosen}
 use Rattle.ada_meaning.specs.Meaning.{Env, exits, raises, has_handlers, with_handled, reason_of}
 use Rattle.ada_meaning.specs.Stored.{Stored, ret, bind, leaves}
+use Rattle.run_store.specs.Outside.{Outside}
 use Rattle.run_store.specs.Shows.{Image, Shows, leave_of}
 use Rattle.run_store.specs.declared.ends.End as ends
 use Rattle.run_store.specs.declared.ends.End.TheVariants as end
 use Rattle.run_store.specs.declared.ends.Leave as ends-leave
 use Rattle.run_store.specs.declared.ends.Leave.TheVariants as leave
-use Rattle.run_store.proofs.Going.{same_shows, then_shows}
+use Rattle.run_store.proofs.Going.{stays, same_shows, then_shows}
 use Rattle.run_parts.specs.declared.work.Work.{Work}
 use Rattle.run_parts.specs.Found.{found_handler, found_alternative}
 use Rattle.run_parts.specs.Caught.{caught, caught_exit}
@@ -25,10 +26,10 @@ use Rattle.ada_interpreter.proofs.Looping.{handles_not, handles_so}
 abbrev err_of : ends.End → Result (Unit {0}) ends.End
 err_of e = Err e
 
-module _ {Tells : Type 0} (w : Work) (d n : ℕ) (m : Stored (Unit {0})) (s t : Image) where
+module _ {Tells : List ℕ → Outside → Type 0} (w : Work) (d n : ℕ) (m : Stored (Unit {0})) (s t : Image) where
   exit_so : (k : ℕ) (b : Bool) → nat_eq n k ≡ b → Shows Tells m (Err (end.Left (leave.Exits k))) s t → Shows Tells (walk.in_loop w d n m) (cond b (Ok tt) (Err (end.Left (leave.Exits k)))) s t
   unfolding ret
-  exit_so k true e h = handles_so m (exits n) (λ _. ret tt) s t (leave.Exits k) (Ok tt) t e h (refl, λ told. refl)
+  exit_so k true e h = handles_so m (exits n) (λ _. ret tt) s t (leave.Exits k) (Ok tt) t e h (refl, stays, λ input told. refl)
   exit_so k false e h = handles_not m (exits n) (λ _. ret tt) s t (Err (end.Left (leave.Exits k))) (λ x y q p. subst (λ z. exits n z ≡ false) p (same y q)) h
     where
       same : (y : ends-leave.Leave) → err_of (end.Left (leave.Exits k)) ≡ Err (end.Left y) → exits n (leave_of y) ≡ false
@@ -87,7 +88,7 @@ has_some : (hs : Handlers) (x : Reason) (ss : Stmts) → found_handler hs x ≡ 
 has_some NoHandler x ss e = cc
 has_some (Handler handled stmts rest) x ss e = refl
 
-module _ {Tells : Type 0} (w : Work) (d : ℕ) (ss : Stmts) (hs : Handlers) (env : Env) (s t : Image) where
+module _ {Tells : List ℕ → Outside → Type 0} (w : Work) (d : ℕ) (ss : Stmts) (hs : Handlers) (env : Env) (s t : Image) where
   pub guarded_other : (r : Result (Unit {0}) ends.End) → ((x : Reason) → r ≡ Err (end.Left (leave.Raises x)) → ⊥) → Shows Tells (walk.exec_all w d ss env) r s t → Shows Tells (walk.guarded w d ss hs env) r s t
   guarded_other r n h = handles_not (walk.exec_all w d ss env) (λ how. has_handlers hs && raises how) (λ how. bind (ret {A = Unit {0}} tt) (λ _. walk.exec_handler w d hs (reason_of how) env)) s t r (λ x y q p. subst (λ z. (has_handlers hs && raises z) ≡ false) p (not y q)) h
     where
@@ -106,16 +107,16 @@ module _ {Tells : Type 0} (w : Work) (d : ℕ) (ss : Stmts) (hs : Handlers) (env
       after (Ok a) k = k
       after (Err (end.Left y)) k = k
       after (Err end.Spent) k = k
-      after (Err end.NoMemory) k = (k.0, λ told. inr (inr (k.1 told)))
-      after (Err end.ReadFault) k = (k.0, λ told. inr (inr (k.1 told)))
-      after (Err end.WriteFault) k = (k.0, λ told. inr (inr (k.1 told)))
+      after (Err end.NoMemory) k = (k.0, k.1, λ input told. inr (inr (k.2 input told)))
+      after (Err end.ReadFault) k = (k.0, k.1, λ input told. inr (inr (k.2 input told)))
+      after (Err end.WriteFault) k = (k.0, k.1, λ input told. inr (inr (k.2 input told)))
 
   pub guarded_none : (x : Reason) → found_handler hs x ≡ None → Shows Tells (walk.exec_all w d ss env) (Err (end.Left (leave.Raises x))) s t → Shows Tells (walk.guarded w d ss hs env) (Err (end.Left (leave.Raises x))) s t
   unfolding bind ret leaves
   guarded_none x e h = go (has_handlers hs) refl
     where
       go : (b : Bool) → has_handlers hs ≡ b → Shows Tells (walk.guarded w d ss hs env) (Err (end.Left (leave.Raises x))) s t
-      go true q = handles_so (walk.exec_all w d ss env) (λ how. has_handlers hs && raises how) (λ how. bind (ret {A = Unit {0}} tt) (λ _. walk.exec_handler w d hs (reason_of how) env)) s t (leave.Raises x) (Err (end.Left (leave.Raises x))) t (rw q refl) h (same_shows (λ a. a) (bind (ret {A = Unit {0}} tt) (λ _. walk.exec_handler w d hs x env)) (bind (ret {A = Unit {0}} tt) (λ _. leaves (paths.Raises x))) (Err (end.Left (leave.Raises x))) t t (ap (λ z. bind (ret {A = Unit {0}} tt) (λ _. z)) (handler_none w d env hs x e)) (refl, λ told. refl))
+      go true q = handles_so (walk.exec_all w d ss env) (λ how. has_handlers hs && raises how) (λ how. bind (ret {A = Unit {0}} tt) (λ _. walk.exec_handler w d hs (reason_of how) env)) s t (leave.Raises x) (Err (end.Left (leave.Raises x))) t (rw q refl) h (same_shows (λ a. a) (bind (ret {A = Unit {0}} tt) (λ _. walk.exec_handler w d hs x env)) (bind (ret {A = Unit {0}} tt) (λ _. leaves (paths.Raises x))) (Err (end.Left (leave.Raises x))) t t (ap (λ z. bind (ret {A = Unit {0}} tt) (λ _. z)) (handler_none w d env hs x e)) (refl, stays, λ input told. refl))
       go false q = handles_not (walk.exec_all w d ss env) (λ how. has_handlers hs && raises how) (λ how. bind (ret {A = Unit {0}} tt) (λ _. walk.exec_handler w d hs (reason_of how) env)) s t (Err (end.Left (leave.Raises x))) (λ y z p o. rw q refl) h
 
 -- ---- alternatives
@@ -141,7 +142,7 @@ module _ (w : Work) (d : ℕ) (env : Env) where
   alternative_none NoAlternative v e = refl
   alternative_none (Alternative others choices mentions stmts rest) v e = unchosen_of (others || is_chosen choices v) stmts rest v (alternative_none rest v) e
 
-module _ {Tells : Type 0} (w : Work) (d : ℕ) (env : Env) (e : Expr) (as' : Alternatives) (v : ℤ) (s t : Image) (h : Shows Tells (walk.eval w d e env) (Ok v) s t) where
+module _ {Tells : List ℕ → Outside → Type 0} (w : Work) (d : ℕ) (env : Env) (e : Expr) (as' : Alternatives) (v : ℤ) (s t : Image) (h : Shows Tells (walk.eval w d e env) (Ok v) s t) where
   pub chosen_some : (ss : Stmts) (r : Result (Unit {0}) ends.End) (u : Image) → found_alternative as' v ≡ Some ss → Shows Tells (walk.exec_all w d ss env) r t u → Shows Tells (walk.chosen w d e as' env) r s u
   chosen_some ss r u q k = then_shows (λ a. a) (λ a. a) (walk.eval w d e env) (λ v. walk.exec_chosen w d as' v env) s t u v r h (same_shows (λ a. a) (walk.exec_chosen w d as' v env) (walk.exec_all w d ss env) r t u (alternative_some w d env as' v ss q) k)
 
@@ -149,4 +150,4 @@ module _ {Tells : Type 0} (w : Work) (d : ℕ) (env : Env) (e : Expr) (as' : Alt
   unfolding leaves
   chosen_none q =
       then_shows (λ a. a) (λ a. a) (walk.eval w d e env) (λ v. walk.exec_chosen w d as' v env) s t t v (Err (end.Left (leave.Raises reason.ConstraintError))) h
-      (same_shows (λ a. a) (walk.exec_chosen w d as' v env) (leaves (paths.Raises reason.ConstraintError)) (Err (end.Left (leave.Raises reason.ConstraintError))) t t (alternative_none w d env as' v q) (refl, λ told. refl))
+      (same_shows (λ a. a) (walk.exec_chosen w d as' v env) (leaves (paths.Raises reason.ConstraintError)) (Err (end.Left (leave.Raises reason.ConstraintError))) t t (alternative_none w d env as' v q) (refl, stays, λ input told. refl))

@@ -11,7 +11,8 @@ use Rattle.ada_meaning.specs.Meaning as meaning
 use Rattle.ada_meaning.specs.Meaning.{Env, Course, exits, raises, reason_of, has_handlers, with_handled}
 use Rattle.ada_meaning.specs.Stored.{Stored, After, Left, OutOfTurns, MemoryFault, InputFault, OutputFault, Fault, Stops, at, State, ret, bind, leaves, spent, handles, handled, handled_halts, doings}
 use Rattle.ada_meaning.proofs.Computing.{through_more, through_done}
-use Rattle.run_store.specs.Shows.{Image, Goes, ShowsAs, Shows, Answers, leave_of}
+use Rattle.run_store.specs.Outside.{Outside}
+use Rattle.run_store.specs.Shows.{Image, facing, Goes, ShowsAs, Shows, Answers, leave_of}
 use Rattle.run_store.specs.declared.ends.End as ends
 use Rattle.run_store.specs.declared.ends.End.TheVariants as end
 use Rattle.run_store.specs.declared.ends.Leave as ends-leave
@@ -23,7 +24,7 @@ use Rattle.run_parts.specs.Caught.{caught, caught_exit}
 use Rattle.run_parts.specs.Words.{turned, ops}
 use Rattle.ada_interpreter.specs.Walk as walk
 
-module _ {Tells : Type 0} (whole : Stored (Unit {0})) (s t u : Image) (w : Work) (d : ℕ) (env : Env) where
+module _ {Tells : List ℕ → Outside → Type 0} (whole : Stored (Unit {0})) (s t u : Image) (w : Work) (d : ℕ) (env : Env) where
   module _ (ss : Stmts) (st : Stmt) (rest : Stmts) (is : ss ≡ Then st rest) (g : Goes Tells whole s (walk.exec_all w d ss env) t) where
     all_more : Goes Tells whole s (bind (walk.exec w d st env) (λ _. walk.exec_all w d rest env)) t
     unfolding walk.exec_all walk.exec
@@ -35,13 +36,13 @@ module _ {Tells : Type 0} (whole : Stored (Unit {0})) (s t u : Image) (w : Work)
     pub all_ends : (e : ends.End) (r : Result (Unit {0}) ends.End) → r ≡ Err e → Shows Tells (walk.exec w d st env) (Err e) t u → Shows Tells whole r s u
     all_ends e r q h = subst (λ z. Shows Tells whole z s u) (sym q) (goes_ends (λ a. a) (λ a. a) whole (walk.exec w d st env) (λ _. walk.exec_all w d rest env) s t u e all_more h)
 
-pub all_done : {Tells : Type 0} (whole : Stored (Unit {0})) (s t : Image) (w : Work) (d : ℕ) (env : Env) (ss : Stmts) → ss ≡ End → Goes Tells whole s (walk.exec_all w d ss env) t → Shows Tells whole (Ok tt) s t
+pub all_done : {Tells : List ℕ → Outside → Type 0} (whole : Stored (Unit {0})) (s t : Image) (w : Work) (d : ℕ) (env : Env) (ss : Stmts) → ss ≡ End → Goes Tells whole s (walk.exec_all w d ss env) t → Shows Tells whole (Ok tt) s t
 unfolding walk.exec_all
 all_done {Tells = Tells} whole s t w d env ss e g = goes_gives (λ a. a) whole tt s t (subst (λ z. Goes Tells whole s (walk.exec_all w d z env) t) e g)
 
 -- ---- loops
 
-module _ {Tells : Type 0} (whole : Stored (Unit {0})) (s t u : Image) (w : Work) (d n more : ℕ) (e : Optional) (ss : Stmts) (env : Env) (is : n ≡ suc more) (g : Goes Tells whole s (walk.while_left w d n e ss env) t) where
+module _ {Tells : List ℕ → Outside → Type 0} (whole : Stored (Unit {0})) (s t u : Image) (w : Work) (d n more : ℕ) (e : Optional) (ss : Stmts) (env : Env) (is : n ≡ suc more) (g : Goes Tells whole s (walk.while_left w d n e ss env) t) where
   body : Bool → Stored (Unit {0})
   body goes_on = cond goes_on (bind (turned w) (λ _. bind (walk.exec_all w d ss env) (λ _. walk.while_left w d more e ss env))) (ret tt)
 
@@ -75,11 +76,11 @@ module _ {Tells : Type 0} (whole : Stored (Unit {0})) (s t u : Image) (w : Work)
       pub while_step : Shows Tells (walk.exec_all w d ss env) (Ok tt) v x → Goes Tells whole s (walk.while_left w d more e ss env) x
       while_step l = goes_then (λ a. a) (λ a. a) whole (walk.exec_all w d ss env) (λ _. walk.while_left w d more e ss env) s v x tt while_in l
 
-pub while_spent : {Tells : Type 0} (whole : Stored (Unit {0})) (s t : Image) (w : Work) (d n : ℕ) (e : Optional) (ss : Stmts) (env : Env) → n ≡ 0 → Goes Tells whole s (walk.while_left w d n e ss env) t → Shows Tells whole (Err end.Spent) s t
+pub while_spent : {Tells : List ℕ → Outside → Type 0} (whole : Stored (Unit {0})) (s t : Image) (w : Work) (d n : ℕ) (e : Optional) (ss : Stmts) (env : Env) → n ≡ 0 → Goes Tells whole s (walk.while_left w d n e ss env) t → Shows Tells whole (Err end.Spent) s t
 unfolding spent
-while_spent {Tells = Tells} whole s t w d n e ss env q g = let k = subst (λ z. Goes Tells whole s (walk.while_left w d z e ss env) t) q g in (k.faults, k.same)
+while_spent {Tells = Tells} whole s t w d n e ss env q g = let k = subst (λ z. Goes Tells whole s (walk.while_left w d z e ss env) t) q g in (k.faults, k.keeps, k.same)
 
-module _ {Tells : Type 0} (whole : Stored (Unit {0})) (s t u : Image) (w : Work) (d i : ℕ) (c : Course) (it : Iteration) (ss : Stmts) (env : Env) (lt : i < c.count) (g : Goes Tells whole s (walk.for_left w d i (c.count - i) c it ss env) t) where
+module _ {Tells : List ℕ → Outside → Type 0} (whole : Stored (Unit {0})) (s t u : Image) (w : Work) (d i : ℕ) (c : Course) (it : Iteration) (ss : Stmts) (env : Env) (lt : i < c.count) (g : Goes Tells whole s (walk.for_left w d i (c.count - i) c it ss env) t) where
   for_more : Goes Tells whole s (bind (walk.iterate w d it ss (c.bound i env)) (λ _. walk.for_left w d (i + 1) (c.count - (i + 1)) c it ss env)) t
   for_more = goes_instead whole _ _ s t (through_more i c.count tt (λ i _. walk.iterate w d it ss (c.bound i env)) lt) g
 
@@ -89,20 +90,20 @@ module _ {Tells : Type 0} (whole : Stored (Unit {0})) (s t u : Image) (w : Work)
   pub for_ends : (e : ends.End) (r : Result (Unit {0}) ends.End) → r ≡ Err e → Shows Tells (walk.iterate w d it ss (c.bound i env)) (Err e) t u → Shows Tells whole r s u
   for_ends e r q h = subst (λ z. Shows Tells whole z s u) (sym q) (goes_ends (λ a. a) (λ a. a) whole (walk.iterate w d it ss (c.bound i env)) (λ _. walk.for_left w d (i + 1) (c.count - (i + 1)) c it ss env) s t u e for_more h)
 
-pub for_done : {Tells : Type 0} (whole : Stored (Unit {0})) (s t : Image) (w : Work) (d i : ℕ) (c : Course) (it : Iteration) (ss : Stmts) (env : Env) → c.count ≤ i → Goes Tells whole s (walk.for_left w d i (c.count - i) c it ss env) t → Shows Tells whole (Ok tt) s t
+pub for_done : {Tells : List ℕ → Outside → Type 0} (whole : Stored (Unit {0})) (s t : Image) (w : Work) (d i : ℕ) (c : Course) (it : Iteration) (ss : Stmts) (env : Env) → c.count ≤ i → Goes Tells whole s (walk.for_left w d i (c.count - i) c it ss env) t → Shows Tells whole (Ok tt) s t
 for_done whole s t w d i c it ss env le g = goes_gives (λ a. a) whole tt s t (goes_instead whole _ _ s t (through_done i c.count tt (λ i _. walk.iterate w d it ss (c.bound i env)) le) g)
 
-pub for_begins : {Tells : Type 0} (s : Image) (w : Work) (d : ℕ) (c : Course) (it : Iteration) (ss : Stmts) (env : Env) → Goes Tells (walk.for_loop w d c it ss env) s (walk.for_left w d 0 (c.count - 0) c it ss env) s
+pub for_begins : {Tells : List ℕ → Outside → Type 0} (s : Image) (w : Work) (d : ℕ) (c : Course) (it : Iteration) (ss : Stmts) (env : Env) → Goes Tells (walk.for_loop w d c it ss env) s (walk.for_left w d 0 (c.count - 0) c it ss env) s
 unfolding walk.for_loop
 for_begins {Tells = Tells} s w d c it ss env = let e : c.count - 0 ≡ c.count = omega arith in subst (λ z. Goes Tells (walk.for_loop w d c it ss env) s (walk.for_left w d 0 z c it ss env) s) (sym e) (goes_refl _ s)
 
-pub while_begins : {Tells : Type 0} (s : Image) (w : Work) (d : ℕ) (e : Optional) (ss : Stmts) (env : Env) → Goes Tells (walk.while_loop w d e ss env) s (walk.while_left w d (suc w.limit - 0) e ss env) s
+pub while_begins : {Tells : List ℕ → Outside → Type 0} (s : Image) (w : Work) (d : ℕ) (e : Optional) (ss : Stmts) (env : Env) → Goes Tells (walk.while_loop w d e ss env) s (walk.while_left w d (suc w.limit - 0) e ss env) s
 unfolding walk.while_loop
 while_begins {Tells = Tells} s w d e ss env = let q : suc w.limit - 0 ≡ suc w.limit = omega arith in subst (λ z. Goes Tells (walk.while_loop w d e ss env) s (walk.while_left w d z e ss env) s) (sym q) (goes_refl _ s)
 
 -- ---- components of an aggregate
 
-module _ {Tells : Type 0} (whole : Stored (List ℤ)) (s t u : Image) (w : Work) (d k n first stride : ℕ) (iterated : Option Iterated) (v : Value) (env : Env) (cells : List ℤ) (lt : k < n) (g : Goes Tells whole s (walk.run_values w d k (n - k) first stride iterated v env cells) t) where
+module _ {Tells : List ℕ → Outside → Type 0} (whole : Stored (List ℤ)) (s t u : Image) (w : Work) (d k n first stride : ℕ) (iterated : Option Iterated) (v : Value) (env : Env) (cells : List ℤ) (lt : k < n) (g : Goes Tells whole s (walk.run_values w d k (n - k) first stride iterated v env cells) t) where
   run_more : Goes Tells whole s (bind (walk.given w d iterated k v env) (λ cs. walk.run_values w d (k + 1) (n - (k + 1)) (first + stride) stride iterated v env (laid cells first cs))) t
   unfolding walk.run_values
   run_more = let e : n - k ≡ suc (n - (k + 1)) = omega arith in subst (λ z. Goes Tells whole s (walk.run_values w d k z first stride iterated v env cells) t) e g
@@ -116,36 +117,45 @@ module _ {Tells : Type 0} (whole : Stored (List ℤ)) (s t u : Image) (w : Work)
   run_ends e r q h =
       subst (λ z. Shows Tells whole z s u) (sym q) (goes_ends (λ a. a) (λ a. a) whole (walk.given w d iterated k v env) (λ cs. walk.run_values w d (k + 1) (n - (k + 1)) (first + stride) stride iterated v env (laid cells first cs)) s t u e run_more h)
 
-pub run_begins : {Tells : Type 0} (s : Image) (w : Work) (d n first stride : ℕ) (iterated : Option Iterated) (v : Value) (env : Env) (out : List ℤ) → Goes Tells (walk.run_values w d 0 n first stride iterated v env out) s (walk.run_values w d 0 (n - 0) first stride iterated v env out) s
+pub run_begins : {Tells : List ℕ → Outside → Type 0} (s : Image) (w : Work) (d n first stride : ℕ) (iterated : Option Iterated) (v : Value) (env : Env) (out : List ℤ) → Goes Tells (walk.run_values w d 0 n first stride iterated v env out) s (walk.run_values w d 0 (n - 0) first stride iterated v env out) s
 run_begins {Tells = Tells} s w d n first stride iterated v env out = let q : n - 0 ≡ n = omega arith in subst (λ z. Goes Tells (walk.run_values w d 0 n first stride iterated v env out) s (walk.run_values w d 0 z first stride iterated v env out) s) (sym q) (goes_refl _ s)
 
-pub run_done : {Tells : Type 0} (whole : Stored (List ℤ)) (s t : Image) (w : Work) (d k n first stride : ℕ) (iterated : Option Iterated) (v : Value) (env : Env) (cells : List ℤ) → n ≤ k → Goes Tells whole s (walk.run_values w d k (n - k) first stride iterated v env cells) t → Shows Tells whole (Ok cells) s t
+pub run_done : {Tells : List ℕ → Outside → Type 0} (whole : Stored (List ℤ)) (s t : Image) (w : Work) (d k n first stride : ℕ) (iterated : Option Iterated) (v : Value) (env : Env) (cells : List ℤ) → n ≤ k → Goes Tells whole s (walk.run_values w d k (n - k) first stride iterated v env cells) t → Shows Tells whole (Ok cells) s t
 unfolding walk.run_values
 run_done {Tells = Tells} whole s t w d k n first stride iterated v env cells le g =
     let e : n - k ≡ 0 = omega arith in goes_gives (λ a. a) whole cells s t (subst (λ z. Goes Tells whole s (walk.run_values w d k z first stride iterated v env cells) t) e g)
 
 -- ---- ways to be left
 
-module _ (m : Stored (Unit {0})) (takes : paths.Leave → Bool) (h : paths.Leave → Stored (Unit {0})) (s t : Image) where
-  stops_so : (y : paths.Leave) (c : Fault) (v : State) → takes y ≡ true → m.does s.state ≡ at t.state (Err (Left y)) → Stops (h y) t.state c v → Stops (handles m takes h) s.state c v
+module _ (m : Stored (Unit {0})) (takes : paths.Leave → Bool) (h : paths.Leave → Stored (Unit {0})) (s t : State) where
+  stops_so : (y : paths.Leave) (c : Fault) (v : State) → takes y ≡ true → m.does s ≡ at t (Err (Left y)) → Stops (h y) t c v → Stops (handles m takes h) s c v
   unfolding handles
-  stops_so y c v q k l = inr (inr (subst (λ (z : After _). handled_halts z.state z.end takes h c v) (sym k) (subst (λ b. cond b (Stops (h y) t.state c v) ⊥) (sym q) l)))
+  stops_so y c v q k l = inr (inr (subst (λ (z : After _). handled_halts z.state z.end takes h c v) (sym k) (subst (λ b. cond b (Stops (h y) t c v) ⊥) (sym q) l)))
 
-  does_so : (y : paths.Leave) → takes y ≡ true → m.does s.state ≡ at t.state (Err (Left y)) → (handles m takes h).does s.state ≡ (h y).does t.state
+  does_so : (y : paths.Leave) → takes y ≡ true → m.does s ≡ at t (Err (Left y)) → (handles m takes h).does s ≡ (h y).does t
   unfolding handles
-  does_so y q k = ap (λ (z : After _). handled z.state z.end takes h) k ∙ ap (λ b. cond b ((h y).does t.state) (at t.state (Err (Left y)))) q
+  does_so y q k = ap (λ (z : After _). handled z.state z.end takes h) k ∙ ap (λ b. cond b ((h y).does t) (at t (Err (Left y)))) q
 
-module _ {Tells : Type 0} (m : Stored (Unit {0})) (takes : paths.Leave → Bool) (h : paths.Leave → Stored (Unit {0})) (s t : Image) where
+module _ {Tells : List ℕ → Outside → Type 0} (m : Stored (Unit {0})) (takes : paths.Leave → Bool) (h : paths.Leave → Stored (Unit {0})) (s t : Image) where
   -- what isn't handled
   pub handles_not : (r : Result (Unit {0}) ends.End) → ((x : paths.Leave) (y : ends-leave.Leave) → r ≡ Err (end.Left y) → leave_of y ≡ x → takes x ≡ false) → Shows Tells m r s t → Shows Tells (handles m takes h) r s t
   unfolding handles
-  handles_not (Ok a) n k = (k.0, λ told. ap (λ (z : After _). handled z.state z.end takes h) (k.1 told))
-  handles_not (Err (end.Left y)) n k = (k.0, λ told. ap (λ (z : After _). handled z.state z.end takes h) (k.1 told) ∙ ap (λ b. cond b ((h (leave_of y)).does t.state) (at t.state (Err (Left (leave_of y))))) (n (leave_of y) y refl refl))
-  handles_not (Err end.Spent) n k = (k.0, λ told. ap (λ (z : After _). handled z.state z.end takes h) (k.1 told))
-  handles_not (Err end.NoMemory) n k = (k.0, λ told. inr (inl (k.1 told)))
-  handles_not (Err end.ReadFault) n k = (k.0, λ told. inr (inl (k.1 told)))
-  handles_not (Err end.WriteFault) n k = (k.0, λ told. inr (inl (k.1 told)))
+  handles_not (Ok a) n k = (k.0, k.1, λ input told. ap (λ (z : After _). handled z.state z.end takes h) (k.2 input told))
+  handles_not (Err (end.Left y)) n k =
+      (k.0, k.1, λ input told. ap (λ (z : After _). handled z.state z.end takes h) (k.2 input told) ∙ ap (λ b. cond b ((h (leave_of y)).does (facing input t.state)) (at (facing input t.state) (Err (Left (leave_of y))))) (n (leave_of y) y refl refl))
+  handles_not (Err end.Spent) n k = (k.0, k.1, λ input told. ap (λ (z : After _). handled z.state z.end takes h) (k.2 input told))
+  handles_not (Err end.NoMemory) n k = (k.0, k.1, λ input told. inr (inl (k.2 input told)))
+  handles_not (Err end.ReadFault) n k = (k.0, k.1, λ input told. inr (inl (k.2 input told)))
+  handles_not (Err end.WriteFault) n k = (k.0, k.1, λ input told. inr (inl (k.2 input told)))
 
   -- what is left in a way that is handled
   pub handles_so : (y : ends-leave.Leave) (r : Result (Unit {0}) ends.End) (u : Image) → takes (leave_of y) ≡ true → Shows Tells m (Err (end.Left y)) s t → Shows Tells (h (leave_of y)) r t u → Shows Tells (handles m takes h) r s u
-  handles_so y r u q k l = goes_shows (λ a. a) (handles m takes h) (h (leave_of y)) s t u r (record { faults = k.0; same = λ told. does_so m takes h s t (leave_of y) q (k.1 told); stops = λ told c v j. stops_so m takes h s t (leave_of y) c v q (k.1 told) j }) l
+  handles_so y r u q k l = goes_shows (λ a. a) (handles m takes h) (h (leave_of y)) s t u r goes l
+    where
+      goes : Goes Tells (handles m takes h) s (h (leave_of y)) t
+      goes = record {
+        faults = k.0;
+        keeps = k.1;
+        same = λ input told. does_so m takes h (facing input s.state) (facing input t.state) (leave_of y) q (k.2 input told);
+        stops = λ input told c v j. stops_so m takes h (facing input s.state) (facing input t.state) (leave_of y) c v q (k.2 input told) j;
+      }

@@ -13,11 +13,12 @@ use Rattle.ada_meaning.specs.Operations.{operate, reduce}
 use Rattle.ada_meaning.specs.Meaning as meaning
 use Rattle.ada_meaning.specs.Meaning.{sub_at}
 use Rattle.ada_meaning.specs.Stored.{Stored, doings, checks, ret, bind, leaves}
+use Rattle.run_store.specs.Outside.{Outside}
 use Rattle.run_store.specs.Shows.{Image, ShowsAs, Shows}
 use Rattle.run_store.specs.declared.ends.End.{End}
 use Rattle.run_store.specs.declared.ends.End.TheVariants as end
 use Rattle.run_store.specs.declared.ends.Leave.TheVariants as leave
-use Rattle.run_store.proofs.Going.{goes_refl, goes_ends, then_shows, same_shows}
+use Rattle.run_store.proofs.Going.{stays, goes_refl, goes_ends, then_shows, same_shows}
 use Rattle.run_parts.specs.declared.work.Work.{Work}
 use Rattle.run_parts.specs.declared.passed.Returned.{Returned}
 use Rattle.run_parts.specs.declared.reducers.Both.{Both}
@@ -28,13 +29,13 @@ use Rattle.ada_interpreter.specs.declared.folds.Fold.{Fold}
 use Rattle.ada_interpreter.proofs.Scoping.{sub_as}
 use Rattle.ada_interpreter.specs.Walk as walk
 
-module _ {Tells : Type 0} (w : Work) (both : Both) (t : Image) where
+module _ {Tells : List ℕ → Outside → Type 0} (w : Work) (both : Both) (t : Image) where
   both_so : both_hold both ≡ true → Shows Tells (both_checked w both) (Ok tt) t t
   unfolding bind ret
   both_so e = go (is_in both.accumulator both.a) (is_in both.value both.b) refl refl e
     where
       go : (a b : Bool) → is_in both.accumulator both.a ≡ a → is_in both.value both.b ≡ b → (a && b) ≡ true → Shows Tells (both_checked w both) (Ok tt) t t
-      go true true p q e = rw (p, q) (refl, λ told. refl)
+      go true true p q e = rw (p, q) (refl, stays, λ input told. refl)
       go true false p q e = absurd (true≢false (sym e))
       go false b p q e = absurd (true≢false (sym e))
 
@@ -44,10 +45,10 @@ module _ {Tells : Type 0} (w : Work) (both : Both) (t : Image) where
     where
       go : (a b : Bool) → is_in both.accumulator both.a ≡ a → is_in both.value both.b ≡ b → (a && b) ≡ false → Shows Tells (both_checked w both) (Err (end.Left (leave.Raises reason.ConstraintError))) t t
       go true true p q e = absurd (true≢false e)
-      go true false p q e = rw (p, q) (refl, λ told. refl)
-      go false b p q e = rw p (refl, λ told. refl)
+      go true false p q e = rw (p, q) (refl, stays, λ input told. refl)
+      go false b p q e = rw p (refl, stays, λ input told. refl)
 
-module _ {Tells : Type 0} (w : Work) (nested number : ℕ) (both : Both) (passed : List meaning.Passed) (s t : Image) where
+module _ {Tells : List ℕ → Outside → Type 0} (w : Work) (nested number : ℕ) (both : Both) (passed : List meaning.Passed) (s t : Image) where
   pub checked_ends : (d : ℕ) (e : End) (r : Result Returned End) → r ≡ Err e → Shows Tells (turned w) (Err e) s t → ShowsAs returned_of Tells (calls_of w d nested number (both_checked w both) passed) r s t
   unfolding calls_of
   checked_ends zero e r q h = subst (λ z. ShowsAs returned_of Tells (calls_of w zero nested number (both_checked w both) passed) z s t) (sym q) (goes_ends (λ a. a) returned_of _ (turned w) (λ _. leaves (paths.Raises reason.StorageError)) s s t e (goes_refl _ s) h)
@@ -75,12 +76,12 @@ module _ {Tells : Type 0} (w : Work) (nested number : ℕ) (both : Both) (passed
       then_shows (λ a. a) returned_of (turned w) (λ _. bind (both_checked w both) (λ _. meaning.exec_sub (ops w) w.limit (program w.typed.now) (calls_of w d) (sub_at (program w.typed.now).subs number) nested passed)) s t t tt (Err (end.Left (leave.Raises reason.ConstraintError))) h
       (goes_ends (λ a. a) returned_of _ (both_checked w both) (λ _. meaning.exec_sub (ops w) w.limit (program w.typed.now) (calls_of w d) (sub_at (program w.typed.now).subs number) nested passed) t t t (end.Left (leave.Raises reason.ConstraintError)) (goes_refl _ t) (both_not w both t b))
 
-module _ {Tells : Type 0} (w : Work) (d nested number : ℕ) (both : Both) (s t : Image) where
+module _ {Tells : List ℕ → Outside → Type 0} (w : Work) (d nested number : ℕ) (both : Both) (s t : Image) where
   pub reduced_on : (passed : List meaning.Passed) (r : Returned) → passed ≡ reduced_by w number both.a both.b → both_hold both ≡ true → ShowsAs returned_of Tells (calls_of w d nested number (ret {A = Unit {0}} tt) passed) (Ok r) s t → Shows Tells (walk.reduced_by_call w d nested number both) (Ok r.value) s t
   unfolding ret
   reduced_on passed r e b h =
       then_shows (λ a. a) (λ a. a) (both_checked w both) (λ _. bind (calls_of w d nested number (ret {A = Unit {0}} tt) (reduced_by w number both.a both.b)) (λ r. ret r.value)) s s t tt (Ok r.value) (both_so w both s b)
-      (then_shows returned_of (λ a. a) (calls_of w d nested number (ret {A = Unit {0}} tt) (reduced_by w number both.a both.b)) (λ r. ret r.value) s t t r (Ok r.value) (subst (λ z. ShowsAs returned_of Tells (calls_of w d nested number (ret {A = Unit {0}} tt) z) (Ok r) s t) e h) (refl, λ told. refl))
+      (then_shows returned_of (λ a. a) (calls_of w d nested number (ret {A = Unit {0}} tt) (reduced_by w number both.a both.b)) (λ r. ret r.value) s t t r (Ok r.value) (subst (λ z. ShowsAs returned_of Tells (calls_of w d nested number (ret {A = Unit {0}} tt) z) (Ok r) s t) e h) (refl, stays, λ input told. refl))
 
   pub reduced_ends : (passed : List meaning.Passed) (e : End) (r : Result ℤ End) → r ≡ Err e → passed ≡ reduced_by w number both.a both.b → both_hold both ≡ true → ShowsAs returned_of Tells (calls_of w d nested number (ret {A = Unit {0}} tt) passed) (Err e) s t → Shows Tells (walk.reduced_by_call w d nested number both) r s t
   reduced_ends passed e r q is b h =
@@ -94,7 +95,7 @@ module _ {Tells : Type 0} (w : Work) (d nested number : ℕ) (both : Both) (s t 
   pub combined_on : (passed : List meaning.Passed) (r : Returned) → passed ≡ reduced_by w number both.a both.b → ShowsAs returned_of Tells (calls_of w d nested number (both_checked w both) passed) (Ok r) s t → Shows Tells (walk.combined_by_call w d nested number both) (Ok r.value) s t
   unfolding ret
   combined_on passed r e h =
-      then_shows returned_of (λ a. a) (calls_of w d nested number (both_checked w both) (reduced_by w number both.a both.b)) (λ r. ret r.value) s t t r (Ok r.value) (subst (λ z. ShowsAs returned_of Tells (calls_of w d nested number (both_checked w both) z) (Ok r) s t) e h) (refl, λ told. refl)
+      then_shows returned_of (λ a. a) (calls_of w d nested number (both_checked w both) (reduced_by w number both.a both.b)) (λ r. ret r.value) s t t r (Ok r.value) (subst (λ z. ShowsAs returned_of Tells (calls_of w d nested number (both_checked w both) z) (Ok r) s t) e h) (refl, stays, λ input told. refl)
 
   pub combined_ends : (passed : List meaning.Passed) (e : End) (r : Result ℤ End) → r ≡ Err e → passed ≡ reduced_by w number both.a both.b → ShowsAs returned_of Tells (calls_of w d nested number (both_checked w both) passed) (Err e) s t → Shows Tells (walk.combined_by_call w d nested number both) r s t
   combined_ends passed e r q is h =
@@ -109,7 +110,7 @@ abbrev pub named : ℕ → Scalar → Scalar → ℤ → ℤ → Both
 named at accumulator value a b = record { at = at; accumulator = accumulator; value = value; a = a; b = b }
 
 -- a step by a declared function
-module _ {Tells : Type 0} (w : Work) (d : ℕ) (by : Fold) (nested at sub : ℕ) (accumulator value : Scalar) (a b a' b' : ℤ) (r : Result ℤ End) (s t : Image) (is : by.reducer ≡ reducer.Function at sub accumulator value) where
+module _ {Tells : List ℕ → Outside → Type 0} (w : Work) (d : ℕ) (by : Fold) (nested at sub : ℕ) (accumulator value : Scalar) (a b a' b' : ℤ) (r : Result ℤ End) (s t : Image) (is : by.reducer ≡ reducer.Function at sub accumulator value) where
   pub reduced_shows : Shows Tells (walk.reduced_by_call w d nested sub (named at accumulator value a' b')) r s t → a' ≡ a → b' ≡ b → Shows Tells (walk.reduced w d by nested a b) r s t
   reduced_shows h p q =
       subst (λ (z : Stored ℤ). Shows Tells z r s t) (sym (ap (λ z. reduce doings checks z by.attribute (meaning.fold_call (ops w) w.limit (program w.typed.now) (calls_of w d) z nested) a b) is))
@@ -121,7 +122,7 @@ module _ {Tells : Type 0} (w : Work) (d : ℕ) (by : Fold) (nested at sub : ℕ)
       (subst (λ z. Shows Tells (walk.combined_by_call w d nested sub (named at accumulator value z b)) r s t) p (subst (λ z. Shows Tells (walk.combined_by_call w d nested sub (named at accumulator value a' z)) r s t) q h))
 
 -- a step by an operator
-module _ {Tells : Type 0} (w : Work) (d : ℕ) (by : Fold) (nested at : ℕ) (op : Op) (class : Class) (a b a' b' : ℤ) (r : Result ℤ End) (s t : Image) (is : by.reducer ≡ reducer.Operator at op class) where
+module _ {Tells : List ℕ → Outside → Type 0} (w : Work) (d : ℕ) (by : Fold) (nested at : ℕ) (op : Op) (class : Class) (a b a' b' : ℤ) (r : Result ℤ End) (s t : Image) (is : by.reducer ≡ reducer.Operator at op class) where
   operator_shows : Shows Tells (operate doings checks op by.attribute class a' b') r s t → a' ≡ a → b' ≡ b → (call : ℤ → ℤ → Stored ℤ) → Shows Tells (reduce doings checks (reducer.Operator at op class) by.attribute call a b) r s t
   operator_shows h p q call =
       subst (λ z. Shows Tells (operate doings checks op by.attribute class z b) r s t) p (subst (λ z. Shows Tells (operate doings checks op by.attribute class a' z) r s t) q h)

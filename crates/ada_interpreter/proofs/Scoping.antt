@@ -10,11 +10,12 @@ use Rattle.ada_meaning.specs.Values.{defaults}
 use Rattle.ada_meaning.specs.Meaning as meaning
 use Rattle.ada_meaning.specs.Meaning.{Env, sub_at, object_layout}
 use Rattle.ada_meaning.specs.Stored.{Stored, ret, bind, leaves, elaborates, apart}
+use Rattle.run_store.specs.Outside.{Outside}
 use Rattle.run_store.specs.Shows.{Image, ShowsAs, Shows, Begins, finished, Enters, unframed, entity_of}
 use Rattle.run_store.specs.declared.ends.Mark.{Mark}
 use Rattle.run_store.specs.declared.ends.End.{End}
 use Rattle.run_store.specs.declared.ends.Object.TheVariants as object
-use Rattle.run_store.proofs.Going.{goes_refl, goes_ends, then_shows, same_shows, elaborates_shows, elaborates_fails, apart_shows, apart_fails}
+use Rattle.run_store.proofs.Going.{stays, goes_refl, goes_ends, then_shows, same_shows, elaborates_shows, elaborates_fails, apart_shows, apart_fails}
 use Rattle.run_parts.specs.declared.work.Work.{Work}
 use Rattle.run_parts.specs.declared.passed.Passed.{Passed}
 use Rattle.run_parts.specs.declared.passed.Returned.{Returned}
@@ -22,7 +23,7 @@ use Rattle.run_parts.specs.Passing.{passed_list, returned_of}
 use Rattle.run_parts.specs.Words.{object_defaults, defaults_at, turned, calls_of, back_cells, ops}
 use Rattle.ada_interpreter.specs.Walk as walk
 
-module _ {Tells : Type 0} (w : Work) (d number nested : ℕ) (passed : List meaning.Passed) (sub : Sub) (is : sub_at (program w.typed.now).subs number ≡ Some sub) where
+module _ {Tells : List ℕ → Outside → Type 0} (w : Work) (d number nested : ℕ) (passed : List meaning.Passed) (sub : Sub) (is : sub_at (program w.typed.now).subs number ≡ Some sub) where
   called_as : (r : Result Returned End) (s u : Image) → ShowsAs returned_of Tells (apart (walk.with_formals w d sub nested passed passed)) r s u → ShowsAs returned_of Tells (walk.called w d number nested passed) r s u
   called_as r s u h = subst (λ z. ShowsAs returned_of Tells (walk.called_sub w d z nested passed) r s u) (sym is) h
 
@@ -32,7 +33,7 @@ module _ {Tells : Type 0} (w : Work) (d number nested : ℕ) (passed : List mean
   pub called_fails : (e : End) (r : Result Returned End) (s t : Image) → r ≡ Err e → Enters (Err e) s t → ShowsAs returned_of Tells (walk.called w d number nested passed) r s t
   called_fails e r s t q b = subst (λ z. ShowsAs returned_of Tells (walk.called w d number nested passed) z s t) (sym q) (called_as (Err e) s t (apart_fails returned_of (walk.with_formals w d sub nested passed passed) e s t b))
 
-module _ {Tells : Type 0} (w : Work) (d nested : ℕ) (sub : Sub) (all : List meaning.Passed) where
+module _ {Tells : List ℕ → Outside → Type 0} (w : Work) (d nested : ℕ) (sub : Sub) (all : List meaning.Passed) where
   pub formals_none : (rest : List Passed) (r : Result Returned End) (s u : Image) → rest ≡ [] → ShowsAs returned_of Tells (walk.carried_out w d sub nested all) r s u → ShowsAs returned_of Tells (walk.with_formals w d sub nested all (passed_list w rest)) r s u
   unfolding walk.with_formals
   formals_none rest r s u e h = subst (λ z. ShowsAs returned_of Tells (walk.with_formals w d sub nested all (passed_list w z)) r s u) (sym e) h
@@ -58,7 +59,7 @@ first_cells w x = go (slice_get w.typed.now.objects x) refl
     go None e = rw e refl
     go (Some o) e = rw e refl
 
-module _ {Tells : Type 0} (w : Work) (d : ℕ) (region : paths.Region) (ss : Stmts) (hs : Handlers) (env : Env) (ds more : Decls) (x : ℕ) where
+module _ {Tells : List ℕ → Outside → Type 0} (w : Work) (d : ℕ) (region : paths.Region) (ss : Stmts) (hs : Handlers) (env : Env) (ds more : Decls) (x : ℕ) where
   -- a variable without an initial value
   module _ (is : ds ≡ DeclareDefault x more) (vs : List ℤ) (are : vs ≡ object_defaults w x) where
     default_as : (r : Result (Unit {0}) End) (s u : Image) → Shows Tells (elaborates region (paths.VariableOf x) vs (walk.block w d more region ss hs env)) r s u → Shows Tells (walk.block w d ds region ss hs env) r s u
@@ -122,7 +123,7 @@ module _ {Tells : Type 0} (w : Work) (d : ℕ) (region : paths.Region) (ss : Stm
 
 -- ---- bodies and calls
 
-pub body_as : {Tells : Type 0} (w : Work) (d : ℕ) (b : Body) (ds : Decls) (ss : Stmts) (hs : Handlers) (region : paths.Region) (env : Env) (r : Result (Unit {0}) End) (s t : Image) → b ≡ record { decls = ds; stmts = ss; handlers = hs }
+pub body_as : {Tells : List ℕ → Outside → Type 0} (w : Work) (d : ℕ) (b : Body) (ds : Decls) (ss : Stmts) (hs : Handlers) (region : paths.Region) (env : Env) (r : Result (Unit {0}) End) (s t : Image) → b ≡ record { decls = ds; stmts = ss; handlers = hs }
     → Shows Tells (walk.block w d ds region ss hs env) r s t → Shows Tells (walk.body w d b region env) r s t
 unfolding walk.block walk.exec_all walk.exec_handler
 body_as {Tells = Tells} w d b ds ss hs region env r s t e h = subst (λ (z : Body). Shows Tells (walk.body w d z region env) r s t) (sym e) h
@@ -132,7 +133,7 @@ unfolding walk.with_formals back_cells
 sub_as w d None nested passed = refl
 sub_as w d (Some sub) nested passed = refl
 
-module _ {Tells : Type 0} (w : Work) (nested number : ℕ) (passed : List meaning.Passed) (s t : Image) where
+module _ {Tells : List ℕ → Outside → Type 0} (w : Work) (nested number : ℕ) (passed : List meaning.Passed) (s t : Image) where
   pub call_ends : (d : ℕ) (e : End) (r : Result Returned End) → r ≡ Err e → Shows Tells (turned w) (Err e) s t → ShowsAs returned_of Tells (calls_of w d nested number (ret {A = Unit {0}} tt) passed) r s t
   unfolding calls_of
   call_ends zero e r q h = subst (λ z. ShowsAs returned_of Tells (calls_of w zero nested number (ret {A = Unit {0}} tt) passed) z s t) (sym q) (goes_ends (λ a. a) returned_of _ (turned w) (λ _. leaves (paths.Raises reason.StorageError)) s s t e (goes_refl _ s) h)
@@ -147,5 +148,5 @@ module _ {Tells : Type 0} (w : Work) (nested number : ℕ) (passed : List meanin
       let m : suc d - 1 ≡ d = omega arith in
       let k' = subst (λ z. ShowsAs returned_of Tells (walk.called w z number nested passed) r t u) m k in
       then_shows (λ a. a) returned_of (turned w) (λ _. bind (ret {A = Unit {0}} tt) (λ _. meaning.exec_sub (ops w) w.limit (program w.typed.now) (calls_of w d) (sub_at (program w.typed.now).subs number) nested passed)) s t u tt r h
-      (then_shows (λ a. a) returned_of (ret {A = Unit {0}} tt) (λ _. meaning.exec_sub (ops w) w.limit (program w.typed.now) (calls_of w d) (sub_at (program w.typed.now).subs number) nested passed) t t u tt r (refl, λ told. refl)
+      (then_shows (λ a. a) returned_of (ret {A = Unit {0}} tt) (λ _. meaning.exec_sub (ops w) w.limit (program w.typed.now) (calls_of w d) (sub_at (program w.typed.now).subs number) nested passed) t t u tt r (refl, stays, λ input told. refl)
       (same_shows returned_of _ (walk.called w d number nested passed) r t u (sub_as w d (sub_at (program w.typed.now).subs number) nested passed) k'))

@@ -6,25 +6,26 @@ use Rattle.ada_meaning.specs.Stored.{Stored, After, Took, took, Left, at, bind, 
 use Rattle.run_store.specs.declared.ends.End.{End}
 use Rattle.run_store.specs.declared.ends.End.TheVariants as end
 use Rattle.run_store.specs.declared.ends.Leave.{Leave}
-use Rattle.run_store.specs.Shows.{Image, Goes, ShowsAs, Shows, Does, OrNoMemory, leave_of}
-use Rattle.run_store.proofs.Going.{goes_refl, goes_on, goes_then, goes_ends, goes_gives, goes_fails, then_shows}
+use Rattle.run_store.specs.Outside.{Outside}
+use Rattle.run_store.specs.Shows.{Image, facing, Goes, ShowsAs, Shows, Does, OrNoMemory, leave_of}
+use Rattle.run_store.proofs.Going.{also, stays, goes_refl, goes_on, goes_then, goes_ends, goes_gives, goes_fails, then_shows}
 
 -- ---- one thread, where an answer of the code stands for what it took
 
-module _ {Tells : Type 0} {A C : Type 0} (h : C → Took A) (most : ℕ) (m : Stored A) (s t : Image) where
+module _ {Tells : List ℕ → Outside → Type 0} {A C : Type 0} (h : C → Took A) (most : ℕ) (m : Stored A) (s t : Image) where
   pub thread_gives : (a : A) (c : C) → h c ≡ record { value = Some a; most = max most t.state.turns } → Shows Tells m (Ok a) s t → ShowsAs h Tells (thread most m) (Ok c) s t
   unfolding thread
-  thread_gives a c e k = (k.0, λ told. ap (λ (z : After A). took most z.state z.end) (k.1 told) ∙ ap (λ (z : Took A). at t.state (Ok z)) (sym e))
+  thread_gives a c e k = (k.0, k.1, λ input told. ap (λ (z : After A). took most z.state z.end) (k.2 input told) ∙ ap (λ (z : Took A). at (facing input t.state) (Ok z)) (sym e))
 
   pub thread_spent : (c : C) → h c ≡ record { value = None; most = max most t.state.turns } → Shows Tells m (Err end.Spent) s t → ShowsAs h Tells (thread most m) (Ok c) s t
   unfolding thread
-  thread_spent c e k = (k.0, λ told. ap (λ (z : After A). took most z.state z.end) (k.1 told) ∙ ap (λ (z : Took A). at t.state (Ok z)) (sym e))
+  thread_spent c e k = (k.0, k.1, λ input told. ap (λ (z : After A). took most z.state z.end) (k.2 input told) ∙ ap (λ (z : Took A). at (facing input t.state) (Ok z)) (sym e))
 
   pub thread_left : (y : Leave) (n : ℕ) (u : Image) → n ≡ max most t.state.turns → Shows Tells m (Err (end.Left y)) s t → Does Tells (rewinds n) t u → ShowsAs h Tells (thread most m) (Err (end.Left y)) s u
   unfolding thread rewinds
   thread_left y n u e k d =
       let d' : Does Tells (rewinds (max most t.state.turns)) t u = subst (λ n. Does Tells (rewinds n) t u) e d in
-      (d'.0 ∙ k.0, λ told. ap (λ (z : After A). took most z.state z.end) (k.1 told) ∙ ap (λ (z : After _). at z.state (Err (Left (leave_of y)))) (d'.1 told))
+      (d'.0 ∙ k.0, also k.1 d'.1, λ input told. ap (λ (z : After A). took most z.state z.end) (k.2 input (d'.1.back input told)) ∙ ap (λ (z : After _). at z.state (Err (Left (leave_of y)))) (d'.2 input told))
 
   pub thread_memory : Shows Tells m (Err end.NoMemory) s t → ShowsAs h Tells (thread most m) (Err end.NoMemory) s t
   unfolding thread
@@ -59,14 +60,14 @@ deal_none ns k first e = ap (λ ms. deal k first ms) (drop_none ns k e)
 
 -- ---- all threads
 
-pub threads_begin : {Tells A B : Type 0} (f : B → A → B) (b : B) (sizes : List ℕ) (body : Share → Stored A) (s : Image) (n most : ℕ) → n ≡ s.state.turns → most ≡ s.state.turns → Goes Tells (par f b (deal 0 0 sizes) body) s (threads f body n (deal 0 0 (drop 0 sizes)) most false b) s
+pub threads_begin : {Tells : List ℕ → Outside → Type 0} {A B : Type 0} (f : B → A → B) (b : B) (sizes : List ℕ) (body : Share → Stored A) (s : Image) (n most : ℕ) → n ≡ s.state.turns → most ≡ s.state.turns → Goes Tells (par f b (deal 0 0 sizes) body) s (threads f body n (deal 0 0 (drop 0 sizes)) most false b) s
 unfolding par
 threads_begin {Tells} f b sizes body s n most e q =
     subst (λ n. Goes Tells (par f b (deal 0 0 sizes) body) s (threads f body n (deal 0 0 sizes) most false b) s) (sym e)
     (subst (λ n. Goes Tells (par f b (deal 0 0 sizes) body) s (threads f body s.state.turns (deal 0 0 sizes) n false b) s) (sym q)
-    (record { faults = refl; same = λ told. refl; stops = λ told x u h. h }))
+    (record { faults = refl; keeps = stays; same = λ input told. refl; stops = λ input told x u h. h }))
 
-module _ {Tells : Type 0} {A B : Type 0} (whole : Stored B) (f : B → A → B) (body : Share → Stored A) (from most k first : ℕ) (sizes : List ℕ) (over : Bool) (b : B) (s t u : Image) (g : Goes Tells whole s (threads f body from (deal k first (drop k sizes)) most over b) t) where
+module _ {Tells : List ℕ → Outside → Type 0} {A B : Type 0} (whole : Stored B) (f : B → A → B) (body : Share → Stored A) (from most k first : ℕ) (sizes : List ℕ) (over : Bool) (b : B) (s t u : Image) (g : Goes Tells whole s (threads f body from (deal k first (drop k sizes)) most over b) t) where
   module _ (n : ℕ) (is : slice_get sizes k ≡ Some n) (r : Does Tells (rewinds from) t u) where
     abbrev share : Share
     share = record { number = k; first = first; size = n }
@@ -113,12 +114,12 @@ module _ {Tells : Type 0} {A B : Type 0} (whole : Stored B) (f : B → A → B) 
 
     pub threads_spent : over ≡ true → Shows Tells whole (Err end.Spent) s u
     unfolding spent
-    threads_spent e = let q = subst (λ z. Goes Tells whole s (cond z spent (ret b)) u) e joined in (q.faults, q.same)
+    threads_spent e = let q = subst (λ z. Goes Tells whole s (cond z spent (ret b)) u) e joined in (q.faults, q.keeps, q.same)
 
 -- a part, and nothing after it
-pub then_done : {Tells : Type 0} (m : Stored (Unit {0})) (r : Result (Unit {0}) End) (s t : Image) → Shows Tells m r s t → Shows Tells (bind m (λ _. ret tt)) r s t
+pub then_done : {Tells : List ℕ → Outside → Type 0} (m : Stored (Unit {0})) (r : Result (Unit {0}) End) (s t : Image) → Shows Tells m r s t → Shows Tells (bind m (λ _. ret tt)) r s t
 unfolding ret
-then_done m (Ok u) s t h = then_shows (λ a. a) (λ a. a) m (λ _. ret tt) s t t tt (Ok tt) h (refl, λ told. refl)
+then_done m (Ok u) s t h = then_shows (λ a. a) (λ a. a) m (λ _. ret tt) s t t tt (Ok tt) h (refl, stays, λ input told. refl)
 then_done m (Err e) s t h = goes_ends (λ a. a) (λ a. a) _ m (λ _. ret tt) s s t e (goes_refl _ s) h
 
 -- what code holds of a thread of a loop

@@ -1,12 +1,13 @@
 -- What a whole run shows.
-use Rattle.std.specs.Prelude.{◌≡◌, ℕ, List, ◌++◌, Bool, true, Result, Ok, Err}
+use Rattle.std.specs.Prelude.{◌≡◌, ℕ, List, [], ◌++◌, Bool, true, Result, Ok, Err}
 use Rattle.ada_typed.specs.Programs.{program}
 use Rattle.ada_meaning.specs.Nonblocking.{KeepsRule}
 use Rattle.ada_meaning.specs.Programs.{Setting}
 use Rattle.ada_meaning.specs.Law.{IsPermitted}
 use Rattle.ada_meaning.specs.Meaning as meaning
 use Rattle.ada_meaning.specs.Stored.{Stored, Stop, Goes, Fails, Left, OutOfTurns, MemoryFault, InputFault, OutputFault, outset, put_out, outcome_of}
-use Rattle.run_store.specs.Shows.{Image, Causes, leave_of}
+use Rattle.run_store.specs.Outside.{Outside}
+use Rattle.run_store.specs.Shows.{Image, outside_of, Causes, leave_of}
 use Rattle.run_store.specs.declared.ends.End.{End}
 use Rattle.run_store.specs.declared.ends.End.TheVariants as end
 use Rattle.run_store.specs.declared.ends.Leave.TheVariants as leave
@@ -37,10 +38,12 @@ answer_of (Err e) = Err (stop_of e)
 abbrev pub setting_of : Work → Setting
 setting_of w = record { plan = w.plan.now; one = true; limit = w.limit }
 
--- A run: a fault of a device is answered where its count rose and nowhere else; and where the outside tells, the program
--- keeps the rule on blocking calls, and no run had begun, the output that was there is followed by what the run put out, and
--- what the run comes to is permitted.
-pub record IsRun (Tells : Type 0) (w : Work) (r : Result (Unit {0}) End) (s t : Image) : Type 0 where
+-- A run: a fault of a device is answered where its count rose and nowhere else; and an input of which the outside tells
+-- after it was one of which it told before. On each such input, where the program keeps the rule on blocking calls, no run had
+-- begun, and nothing had come, the output that was there is followed by what the run put out, and what the run comes to is
+-- permitted.
+pub record IsRun (Tells : List ℕ → Outside → Type 0) (w : Work) (r : Result (Unit {0}) End) (s t : Image) : Type 0 where
   pub cause : Causes r s.faults t.faults
-  pub permitted : Tells → KeepsRule (program w.typed.now) → (slots : ℕ) → s.state ≡ outset slots s.state.input s.state.output
-      → (t.state.output ≡ s.state.output ++ put_out s.state.output t.state) × ((early : Bool) × IsPermitted (program w.typed.now) (setting_of w) s.state.input early (outcome_of (program w.typed.now) s.state.output (answer_of r) t.state))
+  pub back : (input : List ℕ) → Tells input (outside_of t) → Tells input (outside_of s)
+  pub permitted : (input : List ℕ) → Tells input (outside_of t) → KeepsRule (program w.typed.now) → (slots : ℕ) → s.state ≡ outset slots [] s.state.output
+      → (t.state.output ≡ s.state.output ++ put_out s.state.output t.state) × ((early : Bool) × IsPermitted (program w.typed.now) (setting_of w) input early (outcome_of (program w.typed.now) s.state.output (answer_of r) t.state))

@@ -20,7 +20,7 @@ use Rattle.ada_interpreter.proofs.Handling.{caught_shows, chosen_some, chosen_no
 use Rattle.ada_interpreter.proofs.Folding.{folds_begin, gives_as, onto_as, share_folded_as, threads_folded_as, fold_one_stops, fold_step, fold_ends, fold_done, fold_none, fold_as, fold_fails, fold_share_none, fold_share_on, fold_share_ends, onto_step, onto_ends, onto_done}
 use Rattle.ada_typed.specs.Chained.{right_of}
 use Rattle.ada_interpreter.proofs.Chaining.{stands_begins, first_ends, stands_step, stands_ends, stands_done, all_below, last_below}
-use Rattle.ada_interpreter.proofs.Forms.{index_as, in_out_as, in_out_ends, in_out_on, range_holds, number_ends, get_on, get_shows}
+use Rattle.ada_interpreter.proofs.Forms.{index_as, index_on, index_ends, in_out_as, in_out_ends, in_out_on, range_holds, number_ends, get_on, get_shows}
 use Rattle.ada_interpreter.proofs.Threading.{thread_gives, thread_spent, thread_left, threads_more, threads_end, threads_fail, threads_joined, threads_spent, spent_as, gathered_none}
 use Rattle.ada_interpreter.proofs.Dealing.{loops_begin, each_on, each_ends, dealt_loop_shows, dealt_arms_shows, dealt_arms_ends, parallel_for_ends, parallel_for_on, parallel_for_stops, parallel_block_ends, parallel_block_on, parallel_block_stops, chunked_loop_on, chunked_loop_stops, chunked_loop_many, turn_none, turn_some, turn_ends, reduction_shows, parallel_reduction_shows, parallel_reduction_ends, parallel_reduction_on, parallel_reduction_stops, chunked_fold_on, chunked_fold_stops, chunked_fold_many, chunked_fold_ends, dealt_fold_ends, dealt_fold_on, dealt_fold_stops, share_begins, share_step, share_ends, share_done}
 use Rattle.ada_interpreter.specs.declared.constructs.Task.TheVariants as task
@@ -108,6 +108,12 @@ values::run_values-returns-in_err-first g t c = next_fails (λ next. next ≡ c.
 
 pub names::select-returns-in-Some-Index : goal.names::select-returns-in-Some-Index
 names::select-returns-in-Some-Index g t c = index_as c.args.work.now c.args.calls (env_of c.args.env.now) c.args.store.now c.index.new.store c.in-Some-Index.at (expr_at (nodes_of c.args.work.now) c.in-Some-Index.value) c.in-Some-Index.low c.in-Some-Index.high _ _ c.in-Some-Index.stride (selections_at (nodes_of c.args.work.now) c.in-Some.cell.rest) (selections_at (nodes_of c.args.work.now) c.args.id) (part_of c.args.part) c.index.result c.index.ensures (search rules) (search rules) (search rules)
+
+pub names::index-returns-in_ok-found : goal.names::index-returns-in_ok-found
+names::index-returns-in_ok-found g t c = index_on c.args.work.now c.args.calls (env_of c.args.env.now) c.args.store.now c.select.new.store c.args.at (expr_at (nodes_of c.args.work.now) c.args.value) c.args.range.low c.args.range.high c.in_ok-i.i c.args.stride (selections_at (nodes_of c.args.work.now) c.args.rest) (part_of c.args.part) (part_of c.in_ok-inner.inner) (Ok c.in_ok-found.found) c.eval.new.store c.in_ok-i.ensures (search rules) (search rules) c.in_ok-found.ensures
+
+pub names::index-returns-in_err-found : goal.names::index-returns-in_err-found
+names::index-returns-in_err-found g t c = index_ends c.args.work.now c.args.calls (env_of c.args.env.now) c.args.store.now c.select.new.store c.args.at (expr_at (nodes_of c.args.work.now) c.args.value) c.args.range.low c.args.range.high c.in_ok-i.i c.args.stride (selections_at (nodes_of c.args.work.now) c.args.rest) (part_of c.args.part) (part_of c.in_ok-inner.inner) c.in_err-found.field-0.0 _ c.eval.new.store (search rules) c.in_ok-i.ensures (search rules) (search rules) c.in_err-found.ensures
 
 pub actuals::pass-returns-in_err-all-in-Some-InOut : goal.actuals::pass-returns-in_err-all-in-Some-InOut
 actuals::pass-returns-in_err-all-in-Some-InOut g t c = in_out_ends c.args.work.now c.args.calls (env_of c.args.env.now) c.args.store.now c.pass_in_out.new.store c.in-Some-InOut.formal c.in-Some-InOut.at c.in-Some-InOut.root (selections_at (nodes_of c.args.work.now) c.in-Some-InOut.selections) _ _ (actuals_at (nodes_of c.args.work.now) c.in-Some.cell.rest) (passed_list c.args.work.now c.args.passed) c.in_err-all-in-Some-InOut.field-0.0 _ (actuals_at (nodes_of c.args.work.now) c.args.id) (search rules) c.in_err-all-in-Some-InOut.ensures (search rules)
