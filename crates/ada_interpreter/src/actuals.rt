@@ -33,7 +33,7 @@ pub fn pass<P: Port + Drop>(
         None => Ok(passed),
         Some(cell) => match work.typed.nodes.actual(cell.first) {
             None => {
-                let all = pass(work, calls, cell.rest, env, passed, store)?;
+                let all = pass_rest(work, calls, cell.rest, env, passed, store)?;
                 Ok(all)
             }
             Some(Actual::In { formal, value }) => {
@@ -117,6 +117,24 @@ pub fn pass<P: Port + Drop>(
     }
 }
 
+// the actual parameters behind one, one frame deeper
+#[cycle(walk)]
+fn pass_rest<P: Port + Drop>(
+    work: &Work<'_>,
+    calls: u32,
+    id: u32,
+    env: &Env<'_>,
+    passed: Items<Passed>,
+    store: &mut Store<P>,
+) -> Result<Items<Passed>, End>
+    ensures { ShowsAs (passed_list work.now) P.Tells (spec.pass work.now calls (actuals_at (nodes_of work.now) id) (env_of env.now) (passed_list work.now passed)) result store.old store.new }
+{
+    store.take_room()?;
+    let all = pass(work, calls, id, env, passed, store);
+    store.give_room();
+    all
+}
+
 #[cycle(walk)]
 #[inline(never)]
 fn pass_in<P: Port + Drop>(
@@ -141,7 +159,7 @@ fn pass_in<P: Port + Drop>(
             back: None,
         },
     )?;
-    let all = pass(work, calls, rest, env, more, store)?;
+    let all = pass_rest(work, calls, rest, env, more, store)?;
     Ok(all)
 }
 
@@ -184,7 +202,7 @@ fn pass_in_out<P: Port + Drop>(
                 back: Some(back),
             },
         )?;
-        let all = pass(work, calls, rest, env, more, store)?;
+        let all = pass_rest(work, calls, rest, env, more, store)?;
         Ok(all)
     } else {
         Err(End::Left(Leave::Raises(Reason::ConstraintError)))
@@ -228,7 +246,7 @@ fn pass_out<P: Port + Drop>(
             back: Some(back),
         },
     )?;
-    let all = pass(work, calls, rest, env, more, store)?;
+    let all = pass_rest(work, calls, rest, env, more, store)?;
     Ok(all)
 }
 
@@ -270,6 +288,6 @@ fn pass_whole<P: Port + Drop>(
             back: Some(back),
         },
     )?;
-    let all = pass(work, calls, rest, env, more, store)?;
+    let all = pass_rest(work, calls, rest, env, more, store)?;
     Ok(all)
 }

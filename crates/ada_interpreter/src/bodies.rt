@@ -70,7 +70,7 @@ pub fn block<P: Port + Drop>(
         }
         Some(cell) => match work.typed.nodes.decl(cell.first) {
             None | Some(Decl::Mentions { .. }) => {
-                block(work, calls, cell.rest, region, stmts, handlers, env, store)?;
+                block_rest(work, calls, cell.rest, region, stmts, handlers, env, store)?;
                 Ok(())
             }
             Some(Decl::Default { object }) => {
@@ -96,6 +96,26 @@ pub fn block<P: Port + Drop>(
             }
         },
     }
+}
+
+// declarations behind one that has no object, one frame deeper
+#[cycle(walk)]
+fn block_rest<P: Port + Drop>(
+    work: &Work<'_>,
+    calls: u32,
+    decls: u32,
+    region: Region,
+    stmts: u32,
+    handlers: u32,
+    env: &Env<'_>,
+    store: &mut Store<P>,
+) -> Result<(), End>
+    ensures { Shows P.Tells (spec.block work.now calls (decls_at (nodes_of work.now) decls) (region_of region) (stmts_at (nodes_of work.now) stmts) (handlers_at (nodes_of work.now) handlers) (env_of env.now)) result store.old store.new }
+{
+    store.take_room()?;
+    let result = block(work, calls, decls, region, stmts, handlers, env, store);
+    store.give_room();
+    result
 }
 
 // statements whose exceptions are handled (11.4)

@@ -239,9 +239,26 @@ fn conditional<P: Port + Drop>(
         let x = eval(work, calls, value, env, store)?;
         Ok(x)
     } else {
-        let y = eval(work, calls, otherwise, env, store)?;
+        let y = eval_else(work, calls, otherwise, env, store)?;
         Ok(y)
     }
+}
+
+// the value of what stands behind `else` or `elsif`, one frame deeper
+#[cycle(walk)]
+fn eval_else<P: Port + Drop>(
+    work: &Work<'_>,
+    calls: u32,
+    id: u32,
+    env: &Env<'_>,
+    store: &mut Store<P>,
+) -> Result<i64, End>
+    ensures { Shows P.Tells (spec.eval work.now calls (expr_at (nodes_of work.now) id) (env_of env.now)) result store.old store.new }
+{
+    store.take_room()?;
+    let value = eval(work, calls, id, env, store);
+    store.give_room();
+    value
 }
 
 #[cycle(walk)]

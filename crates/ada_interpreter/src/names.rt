@@ -31,7 +31,7 @@ pub fn select<P: Port + Drop>(
     match work.typed.nodes.selections(id) {
         None => Ok(part),
         Some(cell) => match work.typed.nodes.selection(cell.first) {
-            None => select(work, calls, cell.rest, env, part, store),
+            None => select_rest(work, calls, cell.rest, env, part, store),
             Some(Selection::Field { offset, .. }) => field(
                 work, calls, offset, cell.rest, env, part, store,
             ),
@@ -53,6 +53,24 @@ pub fn select<P: Port + Drop>(
     }
 }
 
+// the part that the selections behind one lead to, one frame deeper
+#[cycle(walk)]
+fn select_rest<P: Port + Drop>(
+    work: &Work<'_>,
+    calls: u32,
+    id: u32,
+    env: &Env<'_>,
+    part: Part,
+    store: &mut Store<P>,
+) -> Result<Part, End>
+    ensures { ShowsAs part_of P.Tells (spec.select work.now calls (selections_at (nodes_of work.now) id) (env_of env.now) (part_of part)) result store.old store.new }
+{
+    store.take_room()?;
+    let found = select(work, calls, id, env, part, store);
+    store.give_room();
+    found
+}
+
 #[cycle(walk)]
 #[inline(never)]
 fn field<P: Port + Drop>(
@@ -67,7 +85,7 @@ fn field<P: Port + Drop>(
     ensures { ShowsAs part_of P.Tells (spec.field work.now calls offset (selections_at (nodes_of work.now) rest) (env_of env.now) (part_of part)) result store.old store.new }
 {
     let inner = moved(part, u64::from(offset))?;
-    let found = select(work, calls, rest, env, inner, store)?;
+    let found = select_rest(work, calls, rest, env, inner, store)?;
     Ok(found)
 }
 
@@ -91,7 +109,7 @@ fn index<P: Port + Drop>(
     let i = eval(work, calls, value, env, store)?;
     if between(range.low, i, range.high) {
         let inner = component(part, i, range.low, stride)?;
-        let found = select(work, calls, rest, env, inner, store)?;
+        let found = select_rest(work, calls, rest, env, inner, store)?;
         Ok(found)
     } else {
         Err(End::Left(Leave::Raises(Reason::ConstraintError)))

@@ -199,9 +199,26 @@ fn branch<P: Port + Drop>(
         exec_all(work, calls, stmts, env, store)?;
         Ok(())
     } else {
-        exec_all(work, calls, otherwise, env, store)?;
+        exec_else(work, calls, otherwise, env, store)?;
         Ok(())
     }
+}
+
+// the statements behind `else` or `elsif`, one frame deeper
+#[cycle(walk)]
+fn exec_else<P: Port + Drop>(
+    work: &Work<'_>,
+    calls: u32,
+    id: u32,
+    env: &Env<'_>,
+    store: &mut Store<P>,
+) -> Result<(), End>
+    ensures { Shows P.Tells (spec.exec_all work.now calls (stmts_at (nodes_of work.now) id) (env_of env.now)) result store.old store.new }
+{
+    store.take_room()?;
+    let result = exec_all(work, calls, id, env, store);
+    store.give_room();
+    result
 }
 
 #[cycle(walk)]

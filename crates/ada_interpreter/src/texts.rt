@@ -51,7 +51,7 @@ fn written<P: Port + Drop>(
         None => Ok(out),
         Some(cell) => match work.typed.nodes.piece(cell.first) {
             None => {
-                let all = written(work, calls, cell.rest, env, out, store)?;
+                let all = written_rest(work, calls, cell.rest, env, out, store)?;
                 Ok(all)
             }
             Some(Piece::Text { bytes }) => {
@@ -70,6 +70,24 @@ fn written<P: Port + Drop>(
     }
 }
 
+// the bytes of the pieces behind one, one frame deeper
+#[cycle(walk)]
+fn written_rest<P: Port + Drop>(
+    work: &Work<'_>,
+    calls: u32,
+    id: u32,
+    env: &Env<'_>,
+    out: Items<u8>,
+    store: &mut Store<P>,
+) -> Result<Items<u8>, End>
+    ensures { Shows P.Tells (spec.written work.now calls (pieces_at (nodes_of work.now) id) (env_of env.now) out) result store.old store.new }
+{
+    store.take_room()?;
+    let all = written(work, calls, id, env, out, store);
+    store.give_room();
+    all
+}
+
 #[cycle(walk)]
 #[inline(never)]
 fn text<P: Port + Drop>(
@@ -84,7 +102,7 @@ fn text<P: Port + Drop>(
     ensures { Shows P.Tells (spec.text work.now calls (bytes_in (leaves_at (nodes_of work.now) bytes)) (pieces_at (nodes_of work.now) rest) (env_of env.now) out) result store.old store.new }
 {
     let more = with_text(work, out, bytes)?;
-    let all = written(work, calls, rest, env, more, store)?;
+    let all = written_rest(work, calls, rest, env, more, store)?;
     Ok(all)
 }
 
@@ -104,7 +122,7 @@ fn image<P: Port + Drop>(
 {
     let x = eval(work, calls, value, env, store)?;
     let more = with_image(out, class, x)?;
-    let all = written(work, calls, rest, env, more, store)?;
+    let all = written_rest(work, calls, rest, env, more, store)?;
     Ok(all)
 }
 
@@ -125,7 +143,7 @@ fn field<P: Port + Drop>(
     let x = eval(work, calls, value, env, store)?;
     let places = eval(work, calls, width, env, store)?;
     let more = with_field(out, x, places)?;
-    let all = written(work, calls, rest, env, more, store)?;
+    let all = written_rest(work, calls, rest, env, more, store)?;
     Ok(all)
 }
 

@@ -189,9 +189,26 @@ fn composite_if<P: Port + Drop>(
         let values = composite(work, calls, value, env, store)?;
         Ok(values)
     } else {
-        let values = composite(work, calls, otherwise, env, store)?;
+        let values = composite_else(work, calls, otherwise, env, store)?;
         Ok(values)
     }
+}
+
+// the cells of what stands behind `else` or `elsif`, one frame deeper
+#[cycle(walk)]
+fn composite_else<P: Port + Drop>(
+    work: &Work<'_>,
+    calls: u32,
+    id: u32,
+    env: &Env<'_>,
+    store: &mut Store<P>,
+) -> Result<Items<i64>, End>
+    ensures { Shows P.Tells (spec.composite work.now calls (composite_at (nodes_of work.now) id) (env_of env.now)) result store.old store.new }
+{
+    store.take_room()?;
+    let values = composite(work, calls, id, env, store);
+    store.give_room();
+    values
 }
 
 /// The components that associations give, from left to right, laid over cells (4.3).
@@ -212,7 +229,7 @@ fn associated<P: Port + Drop>(
         None => Ok(out),
         Some(cell) => match work.typed.nodes.association(cell.first) {
             None => {
-                let all = associated(work, calls, cell.rest, env, out, store)?;
+                let all = associated_rest(work, calls, cell.rest, env, out, store)?;
                 Ok(all)
             }
             Some(association) => {
@@ -226,11 +243,29 @@ fn associated<P: Port + Drop>(
                     out,
                     store,
                 )?;
-                let all = associated(work, calls, cell.rest, env, more, store)?;
+                let all = associated_rest(work, calls, cell.rest, env, more, store)?;
                 Ok(all)
             }
         },
     }
+}
+
+// the components of the associations behind one, one frame deeper
+#[cycle(walk)]
+fn associated_rest<P: Port + Drop>(
+    work: &Work<'_>,
+    calls: u32,
+    id: u32,
+    env: &Env<'_>,
+    out: Items<i64>,
+    store: &mut Store<P>,
+) -> Result<Items<i64>, End>
+    ensures { Shows P.Tells (spec.associated work.now calls (associations_at (nodes_of work.now) id) (env_of env.now) out) result store.old store.new }
+{
+    store.take_room()?;
+    let all = associated(work, calls, id, env, out, store);
+    store.give_room();
+    all
 }
 
 #[cycle(walk)]
@@ -253,15 +288,35 @@ fn runs_values<P: Port + Drop>(
         Some(cell) => match cell.leaf {
             Leaf::Run(run) => {
                 let more = run_values(work, calls, run, iterated, value, env, out, store)?;
-                let all = runs_values(work, calls, cell.rest, iterated, value, env, more, store)?;
+                let all = runs_rest(work, calls, cell.rest, iterated, value, env, more, store)?;
                 Ok(all)
             }
             _ => {
-                let all = runs_values(work, calls, cell.rest, iterated, value, env, out, store)?;
+                let all = runs_rest(work, calls, cell.rest, iterated, value, env, out, store)?;
                 Ok(all)
             }
         },
     }
+}
+
+// the components of the runs behind one, one frame deeper
+#[cycle(walk)]
+fn runs_rest<P: Port + Drop>(
+    work: &Work<'_>,
+    calls: u32,
+    runs: u32,
+    iterated: Option<Iterated>,
+    value: u32,
+    env: &Env<'_>,
+    out: Items<i64>,
+    store: &mut Store<P>,
+) -> Result<Items<i64>, End>
+    ensures { Shows P.Tells (spec.runs_values work.now calls (runs_in (leaves_at (nodes_of work.now) runs)) iterated (value_at (nodes_of work.now) value) (env_of env.now) out) result store.old store.new }
+{
+    store.take_room()?;
+    let all = runs_values(work, calls, runs, iterated, value, env, out, store);
+    store.give_room();
+    all
 }
 
 #[cycle(walk)]

@@ -3,7 +3,7 @@ use ada_interpreter::{SoundPlan, Work, run};
 use ada_port::{HeldSink, SureSource};
 use ada_typed::{Check, Class, Object, Root, Scalar, Subtype, Typed};
 use chunk_plan::Plan;
-use run_store::{End, Leave, Ports, Store};
+use run_store::{End, Leave, Object, Ports, Region, Store};
 use std::alloc::{AllocError, Global};
 use std::test::Fail;
 use typed_parts::Parts;
@@ -461,6 +461,33 @@ fn sums_in_order_are_put_out(rt: HostRuntime) -> Result<(), Fail> {
         let text = shown(alloc, steps, Plan::One, input, limit)?;
         assert_eq!(rt; text.as_str(), ends, "{input}");
     }
+    Ok(())
+}
+
+// what is active takes room on the native stack, and gives it back
+#[test]
+fn room_is_taken_and_given_back(rt: HostRuntime) -> Result<(), Fail> {
+    let alloc = rt.alloc();
+    let ports = Ports::new(SureSource::new(Vec::new(alloc)), HeldSink::new(alloc));
+    let Ok(mut store) = Store::new(alloc, 2, ports) else {
+        return Err(AllocError.into());
+    };
+    for _k in 0..400_000 {
+        assert!(rt; store.take_room().is_ok());
+    }
+    let object = Object::Variable(0);
+    assert!(rt; store.take_room().is_err());
+    assert!(rt; store.begin(Region::Here, object, &[7]).is_err());
+    store.give_room();
+    match store.begin(Region::Here, object, &[7]) {
+        Ok(mark) => {
+            assert!(rt; store.take_room().is_err());
+            store.end(Region::Here, object, mark);
+        }
+        Err(_) => assert!(rt; false, "no room"),
+    }
+    assert!(rt; store.take_room().is_ok());
+    assert!(rt; store.take_room().is_err());
     Ok(())
 }
 

@@ -4,7 +4,7 @@ ghost use Rattle.std.specs.Prelude.{◌≡◌, ◌<◌, ◌*◌, ◌+◌, length
 ghost use Rattle.ada_meaning.specs.Stored as spec;
 ghost use Rattle.behaviours.specs.Paths as spec';
 ghost use Rattle.run_store.specs.Operating.{begins_at, got, number_of};
-ghost use Rattle.run_store.specs.Shows.{Shows, Does, outside_of, entity_of, region_of, Enters, unframed, Begins, Declares, finished, IsCell, IsSet};
+ghost use Rattle.run_store.specs.Shows.{Shows, Does, outside_of, entity_of, region_of, Enters, unframed, Begins, Declares, finished, IsCell, IsSet, OrNoMemory};
 
 use crate::ends::{End, Leave, Mark, Object, Region};
 use crate::outside::Port;
@@ -24,8 +24,12 @@ pub struct Store<P: Port + Drop> {
     frame: u64,
     turns: u64,
     declared: Items<Variable>,
+    room: u64,
     port: P,
 }
+
+/// How many objects and items of lists may be active at once, in all calls together: the walk goes one frame deeper for each.
+const ROOM: u64 = 500_000;
 
 impl<P: Port + Drop> Model for Store<P> {
     ghost use Rattle.std.specs.Prelude.{length};
@@ -85,8 +89,30 @@ impl<P: Port + Drop> Store<P> {
             frame: 1,
             turns: 0,
             declared: Items::new(alloc),
+            room: ROOM,
             port,
         })
+    }
+
+    /// Room on the native stack for one item more of a list. An Err is want of memory.
+    pub fn take_room(&mut self) -> Result<(), End>
+        ensures same { self.new ≡ self.old }
+        ensures only { OrNoMemory (λ u. Unit {0}) result }
+    {
+        match self.room.checked_sub(1) {
+            None => Err(End::NoMemory),
+            Some(room) => {
+                self.room = room;
+                Ok(())
+            }
+        }
+    }
+
+    /// The room of an item that is no longer active.
+    pub fn give_room(&mut self)
+        ensures { self.new ≡ self.old }
+    {
+        self.room = self.room.saturating_add(1);
     }
 
     /// The outside, as the run left it.
@@ -207,10 +233,15 @@ impl<P: Port + Drop> Store<P> {
     pub fn begin(&mut self, region: Region, object: Object, values: &[i64]) -> Result<Mark, End>
         ensures { Begins (region_of region) object values.now result self.old self.new }
     {
-        match region {
-            Region::Here => self.begin_here(object, values),
-            Region::Everywhere => self.begin_everywhere(object, values),
-        }
+        let Some(room) = self.room.checked_sub(1) else {
+            return Err(End::NoMemory);
+        };
+        let mark = match region {
+            Region::Here => self.begin_here(object, values)?,
+            Region::Everywhere => self.begin_everywhere(object, values)?,
+        };
+        self.room = room;
+        Ok(mark)
     }
 
     fn begin_here(&mut self, object: Object, values: &[i64]) -> Result<Mark, End>
@@ -272,6 +303,7 @@ impl<P: Port + Drop> Store<P> {
     pub fn end(&mut self, region: Region, object: Object, mark: Mark)
         ensures { self.new ≡ finished (region_of region) object mark self.old }
     {
+        self.room = self.room.saturating_add(1);
         let key = object.key();
         match region {
             Region::Here => {

@@ -18,8 +18,14 @@ use Rattle.ada_interpreter.proofs.+walk.Given as goal
 abbrev pub decreases-exprs::eval : goal.decreases-exprs::eval
 decreases-exprs::eval g l = 1208925819614629174706176 * l.calls + 1099511627776 * l.id + 274877906944
 
+abbrev pub decreases-exprs::eval_else : goal.decreases-exprs::eval_else
+decreases-exprs::eval_else g l = 1208925819614629174706176 * l.calls + 1099511627776 * l.id + 412316860416
+
 abbrev pub decreases-names::select : goal.decreases-names::select
 decreases-names::select g l = 1208925819614629174706176 * l.calls + 1099511627776 * l.id + 274877906944
+
+abbrev pub decreases-names::select_rest : goal.decreases-names::select_rest
+decreases-names::select_rest g l = 1208925819614629174706176 * l.calls + 1099511627776 * l.id + 412316860416
 
 abbrev pub decreases-exprs::holds : goal.decreases-exprs::holds
 decreases-exprs::holds g l = 1208925819614629174706176 * l.calls + 1099511627776 * l.id + 412316860416
@@ -27,14 +33,23 @@ decreases-exprs::holds g l = 1208925819614629174706176 * l.calls + 1099511627776
 abbrev pub decreases-actuals::pass : goal.decreases-actuals::pass
 decreases-actuals::pass g l = 1208925819614629174706176 * l.calls + 1099511627776 * l.id + 274877906944
 
+abbrev pub decreases-actuals::pass_rest : goal.decreases-actuals::pass_rest
+decreases-actuals::pass_rest g l = 1208925819614629174706176 * l.calls + 1099511627776 * l.id + 412316860416
+
 abbrev pub decreases-values::cells : goal.decreases-values::cells
 decreases-values::cells g l = 1208925819614629174706176 * l.calls + 1099511627776 * l.id + 274877906944
 
 abbrev pub decreases-values::composite : goal.decreases-values::composite
 decreases-values::composite g l = 1208925819614629174706176 * l.calls + 1099511627776 * l.id + 274877906944
 
+abbrev pub decreases-values::composite_else : goal.decreases-values::composite_else
+decreases-values::composite_else g l = 1208925819614629174706176 * l.calls + 1099511627776 * l.id + 412316860416
+
 abbrev pub decreases-values::associated : goal.decreases-values::associated
 decreases-values::associated g l = 1208925819614629174706176 * l.calls + 1099511627776 * l.id + 274877906944
+
+abbrev pub decreases-values::associated_rest : goal.decreases-values::associated_rest
+decreases-values::associated_rest g l = 1208925819614629174706176 * l.calls + 1099511627776 * l.id + 412316860416
 
 abbrev pub decreases-courses::begin_course : goal.decreases-courses::begin_course
 decreases-courses::begin_course g l = 1208925819614629174706176 * l.calls + 1099511627776 * l.id + 274877906944
@@ -53,6 +68,9 @@ decreases-stmts::exec g l = 1208925819614629174706176 * l.calls + 1099511627776 
 
 abbrev pub decreases-stmts::exec_all : goal.decreases-stmts::exec_all
 decreases-stmts::exec_all g l = 1208925819614629174706176 * l.calls + 1099511627776 * l.id + 274877906944
+
+abbrev pub decreases-stmts::exec_else : goal.decreases-stmts::exec_else
+decreases-stmts::exec_else g l = 1208925819614629174706176 * l.calls + 1099511627776 * l.id + 412316860416
 
 abbrev pub decreases-exprs::variable : goal.decreases-exprs::variable
 decreases-exprs::variable g l = 1208925819614629174706176 * l.calls + 1099511627776 * l.selections + 549755813888
@@ -118,10 +136,16 @@ abbrev pub decreases-values::given : goal.decreases-values::given
 decreases-values::given g l = 1208925819614629174706176 * l.calls + 1099511627776 * l.value + 343597383680
 
 abbrev pub decreases-values::runs_values : goal.decreases-values::runs_values
-decreases-values::runs_values g l = 1208925819614629174706176 * l.calls + 1099511627776 * l.value + 446676598784 + l.runs
+decreases-values::runs_values g l = 1208925819614629174706176 * l.calls + 1099511627776 * l.value + 446676598784 + 2 * l.runs
+
+abbrev pub decreases-values::runs_rest : goal.decreases-values::runs_rest
+decreases-values::runs_rest g l = 1208925819614629174706176 * l.calls + 1099511627776 * l.value + 446676598784 + 2 * l.runs + 1
 
 abbrev pub decreases-bodies::block : goal.decreases-bodies::block
-decreases-bodies::block g l = 1208925819614629174706176 * l.calls + 1099511627776 * (max l.decls (max l.stmts l.handlers)) + 687194767360 + l.decls
+decreases-bodies::block g l = 1208925819614629174706176 * l.calls + 1099511627776 * (max l.decls (max l.stmts l.handlers)) + 687194767360 + 2 * l.decls
+
+abbrev pub decreases-bodies::block_rest : goal.decreases-bodies::block_rest
+decreases-bodies::block_rest g l = 1208925819614629174706176 * l.calls + 1099511627776 * (max l.decls (max l.stmts l.handlers)) + 687194767360 + 2 * l.decls + 1
 
 abbrev pub decreases-bodies::guarded : goal.decreases-bodies::guarded
 decreases-bodies::guarded g l = 1208925819614629174706176 * l.calls + 1099511627776 * (max l.stmts l.handlers) + 549755813888
@@ -205,6 +229,9 @@ decreases-texts::put g l = 1208925819614629174706176 * l.calls + 1099511627776 *
 
 abbrev pub decreases-texts::written : goal.decreases-texts::written
 decreases-texts::written g l = 1208925819614629174706176 * l.calls + 1099511627776 * l.id + 274877906944
+
+abbrev pub decreases-texts::written_rest : goal.decreases-texts::written_rest
+decreases-texts::written_rest g l = 1208925819614629174706176 * l.calls + 1099511627776 * l.id + 412316860416
 
 abbrev pub decreases-texts::text : goal.decreases-texts::text
 decreases-texts::text g l = 1208925819614629174706176 * l.calls + 1099511627776 * l.rest + 549755813888
