@@ -1,4 +1,4 @@
--- The causes of the statuses, each in both directions.
+-- Why each status comes, and what comes where something is due.
 use Rattle.std.specs.Prelude.{◌≡◌, ◌⊎◌, ⊤, ℕ, List, Some, None, Bool, true}
 use Rattle.ada_base.specs.declared.reason.Reason.{Reason}
 use Rattle.ada_meaning.specs.Law.{Ending, Ended, Raised, TurnsSpent, ReadFault, WriteFault, IsPermitted, Outcome}
@@ -28,11 +28,11 @@ abbrev pub MayEnd : Type 0 → Asked → Compiled → Devices → Ending → Typ
 MayEnd InTells q c before ending =
     (on : List ℕ) × ((InTells → on ≡ bytes_of before.input) × ((o : Outcome) × ((early : Bool) × IsPermitted c.program (setting_of q.settings) on early o × (o.ending ≡ ending))))
 
--- the words ask for a run of an accepted text, and it has this ending
+-- the words ask for a run of an accepted text, and on some input a permitted run of it ends so
 abbrev pub HasEnding : Type 0 → List (List ℕ) → Outside → Ending → Type 0
 HasEnding InTells words before ending = (q : Asked) × (c : Compiled) × Asks words before.shelf q c × (q.mode ≡ mode.Run) × MayEnd InTells q c before.devices ending
 
--- the words ask for a run with the values of its variables, and it has ended normally
+-- the same of a normal end, and the values of its variables are asked for
 abbrev pub HasVars : Type 0 → List (List ℕ) → Outside → Type 0
 HasVars InTells words before = (q : Asked) × (c : Compiled) × Asks words before.shelf q c × (q.mode ≡ mode.Run) × (q.vars ≡ true) × MayEnd InTells q c before.devices Ended
 
@@ -45,7 +45,8 @@ abbrev pub IsNotAccepted : List (List ℕ) → Outside → Type 0
 IsNotAccepted words before =
     (q : Asked) × (asked words ≡ Some q) × ((told : List ℕ) (c : Compiled) → before.shelf.told q.file ≡ Some told → IsAccepted (fetched told) c → ⊥)
 
--- out failed in a piece of a run's output, in a line of a variable, or in the word for an accepted text
+-- Out failed; and a permitted run ends by a write fault, or one ends normally whose variables are asked for, or it is asked
+-- whether an accepted text is accepted.
 abbrev pub OutFails : Type 0 → List (List ℕ) → Outside → Outside → Type 0
 OutFails InTells words before now = (HasEnding InTells words before WriteFault ⊎ HasVars InTells words before ⊎ HasCheck words before) × Rose before.devices.out now.devices.out
 

@@ -318,9 +318,12 @@ fn programs_that_are_refused(rt: HostRuntime) -> Result<(), Fail> {
     Ok(())
 }
 
+// In one chunk (((0 - 1) - 2) - 3) - 4; in two, each begun at the initial value, ((0 - 1) - 2) - ((0 - 3) - 4).
+const MINUS: &str = "Put_Line (Integer'Image ([parallel for I in 1 .. 4 => I]'Reduce (\"-\", 0)));";
+
 // Programs whose declarations are in line 3 and whose statements are in line 5, with what they put out, what is said, and the
 // status.
-const RUNS: [(&str, &str, &str, &str, &str, u8); 11] = [
+const RUNS: [(&str, &str, &str, &str, &str, u8); 16] = [
     ("run t.ada", "X : Integer := 2;", DEEPEST, "", "", 0),
     (
         "run t.ada",
@@ -396,6 +399,32 @@ const RUNS: [(&str, &str, &str, &str, &str, u8); 11] = [
         0,
     ),
     ("run t.ada", "", "Put (\"a\"); New_Line;", "a\n", "", 0),
+    ("run t.ada --chunks one", "", MINUS, "-10\n", "", 0),
+    ("run t.ada --workers 4 --chunks even:2", "", MINUS, " 4\n", "", 0),
+    (
+        "run t.ada --chunks list:1,2",
+        "V : constant array (1 .. 3) of Integer := (-5, 2147483647, 5);",
+        "Put_Line (Integer'Image (V'Parallel_Reduce (\"+\", 0)));",
+        "",
+        "unhandled CONSTRAINT_ERROR\n",
+        4,
+    ),
+    (
+        "run t.ada --vars --chunks sized:1",
+        "P : array (1 .. 3) of Integer := (others => 0);",
+        "parallel (C in 1 .. 3) for I in 1 .. 10 loop P (C) := P (C) + I; end loop;",
+        "P = 10 18 27\n",
+        "",
+        0,
+    ),
+    (
+        "run t.ada",
+        "S : Integer := 0;",
+        "parallel for I in 1 .. 4 loop S := S + I; end loop;",
+        "",
+        "t.ada:5:31: E09 global variable in a parallel construct\n",
+        1,
+    ),
 ];
 
 #[test]

@@ -71,10 +71,11 @@ fn answer_words<
 /// and 8 for want of memory.
 ///
 /// The words are `MODE FILE [--workers N] [--chunks PLAN] [--turns K] [--vars]`, where MODE is `check` or `run`. The text is
-/// fetched, compiled and run: how that ends and its final variables are those of a run that the manual permits under the plan
-/// on some input, on what the input tells, where it tells, and the bytes written are that run's; where the sequential run is
-/// calm, it is that run. What it writes goes to out, and a line to err says why the status isn't 0. Once a device has failed
-/// it is not asked again. So far nothing is asked of the runtime and the pulse.
+/// fetched, compiled and run. There is an input on which the manual permits, under the plan, a run that ends so, with these
+/// final variables: the one that the input tells, where it tells, of which what that run didn't take is left. Where out tells,
+/// the bytes written are that run's. Where no device failed and the sequential run on that input is calm, it is that run. A
+/// line to err says why the status isn't 0. Once a device has failed it is not asked again. So far nothing is asked of the
+/// runtime and the pulse.
 pub fn run_words<
     R: Threads + Sync,
     F: Shelf,
@@ -98,7 +99,7 @@ pub fn run_words<
 
     // No two threads of an accepted text touch one variable where one writes, under whatever plan, limit, number of workers
     // and input.
-    ensures race_free { (q : Asked) (told : List ℕ) (c : Compiled) → asked (map string_bytes words.now) ≡ Some q → (F.state shelf.old).told q.file ≡ Some told → IsAccepted (fetched told) c → IsRaceFree c.program }
+    ensures race_free { (text : List ℕ) (c : Compiled) → IsAccepted text c → IsRaceFree c.program }
 
     // An accepted text is run or accepted, a text with a fault is refused, and wrong words get the usage line.
     ensures runs { (q : Asked) (told : List ℕ) (c : Compiled) → asked (map string_bytes words.now) ≡ Some q → q.mode ≡ modes.Run → (F.state shelf.old).told q.file ≡ Some told → IsAccepted (fetched told) c →

@@ -38,8 +38,8 @@ answer_of (Err e) = Err (stop_of e)
 abbrev pub setting_of : Work → Setting
 setting_of w = record { plan = w.plan.now; one = true; limit = w.limit }
 
--- A run: a fault of a device is answered where its count rose and nowhere else; and an input of which the outside tells
--- after it was one of which it told before. On each such input, where the program keeps the rule on blocking calls, no run had
+-- A run: a fault of a device is answered where its count rose and nowhere else; and an input that may be the whole one after
+-- it may have been it before. On each such input, where the program keeps the rule on blocking calls, no run had
 -- begun, and nothing had come, the output that was there is followed by what the run put out, and what the run comes to is
 -- permitted.
 pub record IsRun (Tells : List ℕ → Outside → Type 0) (w : Work) (r : Result (Unit {0}) End) (s t : Image) : Type 0 where

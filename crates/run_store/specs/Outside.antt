@@ -60,11 +60,11 @@ Risen old new = (old ≤ new) × (min (old + 1) (2 ^ 64 - 1) ≤ new)
 unfoldable pub MayBe : Type 0 → List ℕ → Outside → Type 0
 MayBe InTells w o = (more : List ℕ) × ((w ≡ o.came ++ more) × ((met_end o.held ≡ true → more ≡ []) × (InTells → met_end o.held ≡ false → more ≡ o.coming)))
 
--- an input of which an outside then tells was one of which it told before
+-- an input that may be the whole one then may have been it before
 pub record Keeps (Tells : List ℕ → Outside → Type 0) (s t : Outside) : Type 0 where
   pub back : (w : List ℕ) → Tells w t → Tells w s
 
--- an input of which an outside tells is what came and what follows, which is nothing behind the end
+-- an input that may be the whole one is what came and what follows, which is nothing behind the end
 pub record Follows (w : List ℕ) (o : Outside) : Type 0 where
   pub more : List ℕ
   pub whole : w ≡ o.came ++ more
@@ -79,7 +79,7 @@ GetCauses (get.Raise r) f g = g ≡ f
 GetCauses get.ReadFault f g = Risen f.input g.input × (g.output ≡ f.output)
 GetCauses get.Spent f g = g ≡ f
 
--- a Get of some streams, of which the bytes came
+-- A Get of some streams, of which the bytes came. Which bytes a source that tells gave is said by `keeps`.
 pub record Came (turns : ℕ) (got : Got) (s t : Outside) : Type 0 where
   pub old : Stream
   pub new : Stream

@@ -59,8 +59,8 @@ Answers f m (Err end.NoMemory) s t = Stops m s MemoryFault t
 Answers f m (Err end.ReadFault) s t = Stops m s InputFault t
 Answers f m (Err end.WriteFault) s t = Stops m s OutputFault t
 
--- what code shows of a part: an input of which the outside then tells was one of which it told before, and on each such
--- input the part comes to this answer
+-- what code shows of a part: an input that may be the whole one after it may have been it before, and on each such input the
+-- part comes to this answer
 abbrev pub ShowsAs : {A B : Type 0} → (B → A) → (List ℕ → Outside → Type 0) → Stored A → Result B End → Image → Image → Type 0
 ShowsAs f Tells m r s t =
     Causes r s.faults t.faults

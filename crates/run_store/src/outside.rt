@@ -11,7 +11,7 @@ use std::snapshot::Snapshot;
 
 /// Where the input of a run comes from, and where its output goes.
 pub trait Port {
-    // Which bytes may be the whole input, as far as it came.
+    // Which bytes may be the whole input, where so much of it came.
     ghost Tells: { List ℕ → Outside → Type 0 };
 
     ghost outside: { Self → Outside };

@@ -1,5 +1,4 @@
 use Rattle.std.proofs.Common.{ap, ◌∙◌}
-use Rattle.ada_port.specs.Ports.{fetched}
 use Rattle.ada_run.proofs.RaceFree.{accepted_race_free}
 use Rattle.run_reports.specs.Says.{number_of}
 use Rattle.run_reports.specs.declared.status.Status.TheVariants as status
@@ -8,7 +7,7 @@ use Rattle.ada_cmd.proofs.Counts as counts
 use Rattle.ada_cmd.proofs.top.run_words.Goals as goal
 
 pub returns-clause-race_free : goal.returns-clause-race_free
-returns-clause-race_free g c = λ q told compiled asks has accepted. accepted_race_free (fetched told) compiled accepted
+returns-clause-race_free g c = λ text compiled accepted. accepted_race_free text compiled accepted
 
 pub returns-clause-runs : goal.returns-clause-runs
 returns-clause-runs g c = rw c.number.ensures (causes.runs _ _ _ _ c.answer_words-status.ensures)
