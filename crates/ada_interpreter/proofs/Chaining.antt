@@ -4,15 +4,18 @@ use Rattle.std.specs.Prelude.{Result, Ok, Err}
 use Rattle.ada_typed.specs.declared.node.Link.{Link}
 use Rattle.ada_typed.specs.declared.node.Link.TheVariants as link
 use Rattle.ada_typed.specs.Syntax.{Expr}
-use Rattle.ada_typed.specs.Decoded.{part_at}
+use Rattle.ada_base.specs.declared.operation.Op.{Op}
+use Rattle.ada_typed.specs.declared.scalars.Class.{Class}
+use Rattle.ada_typed.specs.Decoded.{part_at, expr_at}
+use Rattle.ada_meaning.specs.Operations.{operate}
 use Rattle.ada_typed.specs.Chained.{applied, linked, right_of, AreBelow}
 use Rattle.ada_meaning.specs.Meaning.{Env}
-use Rattle.ada_meaning.specs.Stored.{Stored, After, Fault, MemoryFault, Stops, State, next, next_halts, bind}
+use Rattle.ada_meaning.specs.Stored.{Stored, After, Fault, MemoryFault, Stops, State, next, next_halts, bind, doings, checks}
 use Rattle.run_store.specs.declared.ends.End.{End}
 use Rattle.run_store.specs.Outside.{Outside}
 use Rattle.run_store.specs.Operating.{outside_of}
 use Rattle.run_store.specs.Shows.{Image, facing, Goes, Shows}
-use Rattle.run_store.proofs.Going.{also, goes_refl, goes_instead, goes_then, goes_ends, goes_shows}
+use Rattle.run_store.proofs.Going.{also, goes_refl, goes_instead, goes_then, goes_ends, goes_shows, then_shows}
 use Rattle.run_parts.specs.declared.work.Work.{Work}
 use Rattle.run_parts.specs.Words.{nodes_of}
 use Rattle.ada_interpreter.specs.Walk as walk
@@ -43,6 +46,14 @@ module _ (w : Work) (d : ℕ) (env : Env) where
   chain_as (link.OrElse right ∷ ls) e = ap (λ m. bind m (λ x. walk.operator w d (link.OrElse right) env x)) (chain_as ls e)
 
 module _ {Tells : List ℕ → Outside → Type 0} (w : Work) (d : ℕ) (env : Env) where
+  -- an operator, after its right operand
+  pub operated : (at : ℕ) (op : Op) (class : Class) (right : ℕ) (l : Link) (x x' y y' : ℤ) (s t : Image) (r : Result ℤ End) → l ≡ link.Operator at op class right → Shows Tells (walk.eval w d (expr_at (nodes_of w) right) env) (Ok y) s t → Shows Tells (operate doings checks op at class x' y') r t t → x' ≡ x → y' ≡ y
+      → Shows Tells (walk.operator w d l env x) r s t
+  operated at op class right l x x' y y' s t r is h k p q =
+      subst (λ z. Shows Tells (walk.operator w d z env x) r s t) (sym is)
+      (then_shows (λ a. a) (λ a. a) (walk.eval w d (expr_at (nodes_of w) right) env) (λ y. operate doings checks op at class x y) s t t y r h
+      (subst (λ z. Shows Tells (operate doings checks op at class x z) r t t) q (subst (λ z. Shows Tells (operate doings checks op at class z y') r t t) p k)))
+
   -- with a value of what is applied first, where operators are left
   pub chain_begins : (l : Link) (ls : List Link) (m : Stored ℤ) (s t : Image) (v : ℤ) → Shows Tells m (Ok v) s t → Goes Tells (walk.linked_on w d (l ∷ ls) env m) s (walk.chain_left w d (l ∷ ls) env v) t
   chain_begins l [] m s t v h = goes_then (λ a. a) (λ a. a) (bind m (λ x. walk.operator w d l env x)) m (λ x. walk.operator w d l env x) s s t v (goes_refl _ s) h

@@ -2,11 +2,11 @@
 use Rattle.std.proofs.Common.{◌≡◌, ◌<◌, ◌≤◌, ◌+◌, ◌-◌, arith, ℕ, zero, suc, min, ℤ, List, [], ◌∷◌, drop, false, Option, Some, None, refl, sym, subst, ap, ◌∙◌}
 use Rattle.std.specs.Prelude.{Result, Ok, Err}
 use Rattle.ada_base.specs.Cuts.{evens, cuts_of}
-use Rattle.ada_typed.specs.Syntax.{Expr, Reduction, Chunk, Each, Iteration, Stmts, Arms, NoArm, Arm, Optional}
+use Rattle.ada_typed.specs.Syntax.{Expr, Reduction, Chunk, Count, Each, Iteration, Stmts, Arms, NoArm, Arm, Optional, Present}
 use Rattle.behaviours.specs.Joins.{deal}
 use Rattle.ada_typed.specs.declared.scalars.Check.{Check}
 use Rattle.ada_typed.specs.declared.expressions.Reducer.{Reducer}
-use Rattle.ada_typed.specs.Decoded.{expr_at, iteration_at, stmts_at, arms_at}
+use Rattle.ada_typed.specs.Decoded.{part_at, expr_at, optional_at, iteration_at, stmts_at, arms_at}
 use Rattle.ada_meaning.specs.Meaning as meaning
 use Rattle.ada_meaning.specs.Meaning.{Env, Course, inside}
 use Rattle.ada_meaning.specs.Stored
@@ -22,12 +22,13 @@ use Rattle.run_parts.specs.declared.chunks.Chunking.{Chunking}
 use Rattle.run_parts.specs.declared.chunks.Chunking.TheVariants as chunking
 use Rattle.run_parts.specs.declared.courses.Course as courses
 use Rattle.run_parts.specs.Caught.{caught}
-use Rattle.run_parts.specs.Dealing.{chunking_of, loop_sizes, fold_sizes, opened, count_checked, found_arm, each_chunk}
+use Rattle.run_parts.specs.Dealing.{chunking_of, loop_sizes, fold_sizes, most_of, opened, count_checked, found_arm, each_chunk}
 use Rattle.run_parts.specs.Passing.{course_of}
 use Rattle.run_parts.specs.Words.{nodes_of}
 use Rattle.ada_interpreter.specs.declared.constructs.Task.{Task}
 use Rattle.ada_interpreter.specs.declared.constructs.Task.TheVariants as task
 use Rattle.ada_interpreter.specs.declared.folds.Fold.{Fold}
+use Rattle.ada_interpreter.proofs.Parts.{present_is}
 use Rattle.ada_interpreter.proofs.Handling.{caught_shows}
 use Rattle.ada_interpreter.proofs.Threading.{threads_begin, then_done}
 use Rattle.ada_interpreter.proofs.Folding.{dealt_fold_as}
@@ -261,6 +262,36 @@ module _ {Tells : List ℕ → Outside → Type 0} (w : Work) (d : ℕ) (by : Fo
 
     pub dealt_fold_stops : (a b : ℤ) (vs : List ℤ) (y : End) (r : Result ℤ End) → r ≡ Err y → Shows Tells (walk.threads_folded w d by (chunking_of k) c a sizes inner) (Ok vs) s t → Shows Tells (walk.combined w d by env.nested b vs) (Err y) t u → a ≡ start → b ≡ start → Shows Tells (walk.dealt_fold w d by (chunking_of k) c start env) r s u
     dealt_fold_stops a b vs y r x h l p q = subst (λ z. Shows Tells (walk.dealt_fold w d by (chunking_of k) c start env) z s u) (sym x) (dealt_fold_on a b vs (Err y) h l p q)
+
+-- ---- numbers of threads and chunks
+
+module _ {Tells : List ℕ → Outside → Type 0} (w : Work) (d : ℕ) (env : Env) (id : ℕ) (e : Expr) (is : optional_at (nodes_of w) id ≡ Present e) (v v' : ℤ) (s t : Image) (h : Shows Tells (walk.eval w d (expr_at (nodes_of w) id) env) (Ok v) s t) where
+  pub threads_on : (r : Result ℕ End) → Shows Tells (most_of w v') r t t → v' ≡ v → Shows Tells (walk.threads_of w d (optional_at (nodes_of w) id) env) r s t
+  unfolding walk.threads_of walk.eval
+  threads_on r k p =
+      subst (λ z. Shows Tells (walk.threads_of w d z env) r s t) (sym is)
+      (then_shows (λ a. a) (λ a. a) (walk.eval w d e env) (λ v. most_of w v) s t t v r (subst (λ z. Shows Tells (walk.eval w d z env) (Ok v) s t) (present_is (part_at (nodes_of w) id) e is) h)
+      (subst (λ z. Shows Tells (most_of w z) r t t) p k))
+
+  pub threads_ends : (y : End) (r : Result ℕ End) → r ≡ Err y → Shows Tells (most_of w v') (Err y) t t → v' ≡ v → Shows Tells (walk.threads_of w d (optional_at (nodes_of w) id) env) r s t
+  threads_ends y r q k p = subst (λ z. Shows Tells (walk.threads_of w d (optional_at (nodes_of w) id) env) z s t) (sym q) (threads_on (Err y) k p)
+
+module _ {Tells : List ℕ → Outside → Type 0} (w : Work) (d : ℕ) (env : Env) (e : Expr) (c : Chunk) (is : c ≡ Count e) (v v' : ℤ) (s t : Image) (h : Shows Tells (walk.eval w d e env) (Ok v) s t) where
+  abbrev chunks_of : ℕ → Stored meaning.Chunking
+  chunks_of n = ret (chunking_of (chunking.ByPlan n))
+
+  counts : (r : Result Chunking End) → ShowsAs chunking_of Tells (bind (most_of w v) chunks_of) r t t → ShowsAs chunking_of Tells (walk.chunking w d c env) r s t
+  unfolding walk.chunking walk.eval
+  counts r k = subst (λ z. ShowsAs chunking_of Tells (walk.chunking w d z env) r s t) (sym is) (then_shows (λ a. a) chunking_of (walk.eval w d e env) (λ v. bind (most_of w v) chunks_of) s t t v r h k)
+
+  pub count_on : (n : ℕ) → Shows Tells (most_of w v') (Ok n) t t → v' ≡ v → ShowsAs chunking_of Tells (walk.chunking w d c env) (Ok (chunking.ByPlan n)) s t
+  unfolding ret
+  count_on n k p = counts (Ok (chunking.ByPlan n)) (then_shows (λ a. a) chunking_of (most_of w v) chunks_of t t t n (Ok (chunking.ByPlan n)) (subst (λ z. Shows Tells (most_of w z) (Ok n) t t) p k) (refl, stays, λ input told. refl))
+
+  pub count_ends : (y : End) (r : Result Chunking End) → r ≡ Err y → Shows Tells (most_of w v') (Err y) t t → v' ≡ v → ShowsAs chunking_of Tells (walk.chunking w d c env) r s t
+  count_ends y r q k p =
+      subst (λ z. ShowsAs chunking_of Tells (walk.chunking w d c env) z s t) (sym q)
+      (counts (Err y) (goes_ends (λ a. a) chunking_of _ (most_of w v) chunks_of t t t y (goes_refl _ t) (subst (λ z. Shows Tells (most_of w z) (Err y) t t) p k)))
 
 -- ---- a chunk for each value of a range
 

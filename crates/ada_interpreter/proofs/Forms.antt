@@ -6,7 +6,7 @@ use Rattle.behaviours.specs.Paths.{VariableOf}
 use Rattle.ada_typed.specs.declared.scalars.Scalar.{Scalar}
 use Rattle.ada_typed.specs.declared.scalars.Check.{Check}
 use Rattle.ada_typed.specs.declared.expressions.Root.{Root}
-use Rattle.ada_typed.specs.Syntax.{Expr, Optional, Selections, Index, Actuals, InOut, Iteration, Range, Stmt, Get, Value, Number}
+use Rattle.ada_typed.specs.Syntax.{Expr, Optional, Selections, Index, Actuals, InOut, Iteration, Range, Stmt, Get, Value, Number, CompositeInOut, CompositeOut}
 use Rattle.ada_meaning.specs.Values.{is_in, count, between, to_nat}
 use Rattle.ada_meaning.specs.Operations.{IndexCheck, RangeCheck}
 use Rattle.ada_meaning.specs.Meaning as meaning
@@ -27,7 +27,7 @@ use Rattle.run_parts.specs.declared.passed.Passed.{Passed}
 use Rattle.run_parts.specs.declared.courses.Course.{Course}
 use Rattle.run_parts.specs.declared.courses.Course.TheVariants as course
 use Rattle.run_parts.specs.Passing.{passed_list, course_of}
-use Rattle.run_parts.specs.Words.{ops, bounds_hold, write_all}
+use Rattle.run_parts.specs.Words.{ops, bounds_hold, read_all, write_all}
 use Rattle.ada_interpreter.specs.Walk as walk
 
 abbrev given : (w : Work) (d formal at : ℕ) (inner outer : Scalar) → List meaning.Passed → meaning.Part → List ℤ → List meaning.Passed
@@ -88,6 +88,16 @@ module _ {Tells : List ℕ → Outside → Type 0} (w : Work) (d : ℕ) (env : E
         u u t tt r (refl, stays, λ input told. rw within refl)
         (subst (λ z. ShowsAs (passed_list w) Tells (on (part_of p) z) r u t) (e ∙ ap (λ z. z ∷ []) same)
         (subst (λ z. ShowsAs (passed_list w) Tells (walk.pass w d rest env z) r u t) f l))))
+
+  -- a whole variable that isn't passed
+  module _ (formal at : ℕ) (root : Root) (ss : Selections) (subtype : ℕ) (rest : Actuals) (so_far : List meaning.Passed) (y : End) (r : Result (List Passed) End) (as' : Actuals) (q : r ≡ Err y) (h : ShowsAs (passed_list w) Tells (walk.pass_whole w d formal root ss subtype rest env so_far) (Err y) s t) where
+    pub whole_in_out_ends : as' ≡ CompositeInOut formal at root ss subtype rest → ShowsAs (passed_list w) Tells (walk.pass w d as' env so_far) r s t
+    unfolding walk.select walk.pass read_all
+    whole_in_out_ends is = subst (λ z. ShowsAs (passed_list w) Tells (walk.pass w d as' env so_far) z s t) (sym q) (subst (λ z. ShowsAs (passed_list w) Tells (walk.pass w d z env so_far) (Err y) s t) (sym is) h)
+
+    pub whole_out_ends : as' ≡ CompositeOut formal at root ss subtype rest → ShowsAs (passed_list w) Tells (walk.pass w d as' env so_far) r s t
+    unfolding walk.select walk.pass read_all
+    whole_out_ends is = subst (λ z. ShowsAs (passed_list w) Tells (walk.pass w d as' env so_far) z s t) (sym q) (subst (λ z. ShowsAs (passed_list w) Tells (walk.pass w d z env so_far) (Err y) s t) (sym is) h)
 
   -- a range whose bounds are in its subtype
   pub range_holds : (k : ℕ) (reverse : Bool) (low high : Expr) (check : Option Check) (filter : Optional) (it : Iteration) (l h : ℤ) (range : code.Range) (u : Image) → Shows Tells (walk.eval w d low env) (Ok l) s u → Shows Tells (walk.eval w d high env) (Ok h) u t
