@@ -110,10 +110,10 @@ pub names::select-returns-in-Some-Index : goal.names::select-returns-in-Some-Ind
 names::select-returns-in-Some-Index g t c = index_as c.args.work.now c.args.calls (env_of c.args.env.now) c.args.store.now c.index.new.store c.in-Some-Index.at (expr_at (nodes_of c.args.work.now) c.in-Some-Index.value) c.in-Some-Index.low c.in-Some-Index.high _ _ c.in-Some-Index.stride (selections_at (nodes_of c.args.work.now) c.in-Some.cell.rest) (selections_at (nodes_of c.args.work.now) c.args.id) (part_of c.args.part) c.index.result c.index.ensures (search rules) (search rules) (search rules)
 
 pub names::index-returns-in_ok-found : goal.names::index-returns-in_ok-found
-names::index-returns-in_ok-found g t c = index_on c.args.work.now c.args.calls (env_of c.args.env.now) c.args.store.now c.select.new.store c.args.at (expr_at (nodes_of c.args.work.now) c.args.value) c.args.range.low c.args.range.high c.in_ok-i.i c.args.stride (selections_at (nodes_of c.args.work.now) c.args.rest) (part_of c.args.part) (part_of c.in_ok-inner.inner) (Ok c.in_ok-found.found) c.eval.new.store c.in_ok-i.ensures (search rules) (search rules) c.in_ok-found.ensures
+names::index-returns-in_ok-found g t c = index_on c.args.work.now c.args.calls (env_of c.args.env.now) c.args.store.now c.select_rest.new.store c.args.at (expr_at (nodes_of c.args.work.now) c.args.value) c.args.range.low c.args.range.high c.in_ok-i.i c.args.stride (selections_at (nodes_of c.args.work.now) c.args.rest) (part_of c.args.part) (part_of c.in_ok-inner.inner) (Ok c.in_ok-found.found) c.eval.new.store c.in_ok-i.ensures (search rules) (search rules) c.in_ok-found.ensures
 
 pub names::index-returns-in_err-found : goal.names::index-returns-in_err-found
-names::index-returns-in_err-found g t c = index_ends c.args.work.now c.args.calls (env_of c.args.env.now) c.args.store.now c.select.new.store c.args.at (expr_at (nodes_of c.args.work.now) c.args.value) c.args.range.low c.args.range.high c.in_ok-i.i c.args.stride (selections_at (nodes_of c.args.work.now) c.args.rest) (part_of c.args.part) (part_of c.in_ok-inner.inner) c.in_err-found.field-0.0 _ c.eval.new.store (search rules) c.in_ok-i.ensures (search rules) (search rules) c.in_err-found.ensures
+names::index-returns-in_err-found g t c = index_ends c.args.work.now c.args.calls (env_of c.args.env.now) c.args.store.now c.select_rest.new.store c.args.at (expr_at (nodes_of c.args.work.now) c.args.value) c.args.range.low c.args.range.high c.in_ok-i.i c.args.stride (selections_at (nodes_of c.args.work.now) c.args.rest) (part_of c.args.part) (part_of c.in_ok-inner.inner) c.in_err-found.field-0.0 _ c.eval.new.store (search rules) c.in_ok-i.ensures (search rules) (search rules) c.in_err-found.ensures
 
 pub actuals::pass-returns-in_err-all-in-Some-InOut : goal.actuals::pass-returns-in_err-all-in-Some-InOut
 actuals::pass-returns-in_err-all-in-Some-InOut g t c = in_out_ends c.args.work.now c.args.calls (env_of c.args.env.now) c.args.store.now c.pass_in_out.new.store c.in-Some-InOut.formal c.in-Some-InOut.at c.in-Some-InOut.root (selections_at (nodes_of c.args.work.now) c.in-Some-InOut.selections) _ _ (actuals_at (nodes_of c.args.work.now) c.in-Some.cell.rest) (passed_list c.args.work.now c.args.passed) c.in_err-all-in-Some-InOut.field-0.0 _ (actuals_at (nodes_of c.args.work.now) c.args.id) (search rules) c.in_err-all-in-Some-InOut.ensures (search rules)
@@ -122,7 +122,7 @@ pub actuals::pass-returns-in_ok-all-in-Some-InOut : goal.actuals::pass-returns-i
 actuals::pass-returns-in_ok-all-in-Some-InOut g t c = in_out_as c.args.work.now c.args.calls (env_of c.args.env.now) c.args.store.now c.pass_in_out.new.store c.in-Some-InOut.formal c.in-Some-InOut.at c.in-Some-InOut.root (selections_at (nodes_of c.args.work.now) c.in-Some-InOut.selections) _ _ (actuals_at (nodes_of c.args.work.now) c.in-Some.cell.rest) (passed_list c.args.work.now c.args.passed) (Ok c.in_ok-all-in-Some-InOut.all) (actuals_at (nodes_of c.args.work.now) c.args.id) c.in_ok-all-in-Some-InOut.ensures (search rules)
 
 pub actuals::pass_in_out-returns-in_err-all : goal.actuals::pass_in_out-returns-in_err-all
-actuals::pass_in_out-returns-in_err-all g t c = in_out_on c.args.work.now c.args.calls (env_of c.args.env.now) c.args.store.now c.pass.new.store c.args.formal c.args.at c.args.root (selections_at (nodes_of c.args.work.now) c.args.selections) c.args.inside c.args.outside (actuals_at (nodes_of c.args.work.now) c.args.rest) (passed_list c.args.work.now c.args.passed) c.from_residual-in_err-all.result (part_of c.variable_root.result) c.in_ok-part.part c.in_ok-value.value _ c.in_ok-values.values (passed_list c.args.work.now c.in_ok-more.more) c.select.new.store c.in_ok-part.ensures c.variable_root.ensures c.in_ok-value.ensures (search rules) c.in_ok-values.ensures (search rules) c.in_ok-more.ensures (search rules)
+actuals::pass_in_out-returns-in_err-all g t c = in_out_on c.args.work.now c.args.calls (env_of c.args.env.now) c.args.store.now c.pass_rest.new.store c.args.formal c.args.at c.args.root (selections_at (nodes_of c.args.work.now) c.args.selections) c.args.inside c.args.outside (actuals_at (nodes_of c.args.work.now) c.args.rest) (passed_list c.args.work.now c.args.passed) c.from_residual-in_err-all.result (part_of c.variable_root.result) c.in_ok-part.part c.in_ok-value.value _ c.in_ok-values.values (passed_list c.args.work.now c.in_ok-more.more) c.select.new.store c.in_ok-part.ensures c.variable_root.ensures c.in_ok-value.ensures (search rules) c.in_ok-values.ensures (search rules) c.in_ok-more.ensures (search rules)
 
 pub courses::begin_course-returns-then-bounds_hold : goal.courses::begin_course-returns-then-bounds_hold
 courses::begin_course-returns-then-bounds_hold g t c = range_holds c.args.work.now c.args.calls (env_of c.args.env.now) c.args.store.now c.eval-in-Some-Range.new.store c.in-Some-Range.parameter c.in-Some-Range.reverse (expr_at (nodes_of c.args.work.now) c.in-Some-Range.low) (expr_at (nodes_of c.args.work.now) c.in-Some-Range.high) c.check.result (optional_at (nodes_of c.args.work.now) c.in-Some-Range.field-0-5) (iteration_at (nodes_of c.args.work.now) c.args.id) c.in_ok-l-in-Some-Range.l c.in_ok-h-in-Some-Range.h (record { low = to_z w64 (of_z w64 c.in_ok-l-in-Some-Range.l); high = to_z w64 (of_z w64 c.in_ok-h-in-Some-Range.h) }) c.eval.new.store c.in_ok-l-in-Some-Range.ensures c.in_ok-h-in-Some-Range.ensures (search rules) (search rules) (sym c.bounds_hold.ensures ∙ c.if-bounds_hold.true) (search rules)
@@ -410,7 +410,7 @@ pub actuals::pass-returns-in_err-all-in-Some-CompositeInOut : goal.actuals::pass
 actuals::pass-returns-in_err-all-in-Some-CompositeInOut g t c = whole_in_out_ends c.args.work.now c.args.calls (env_of c.args.env.now) c.args.store.now c.pass_whole.new.store c.in-Some-CompositeInOut.match-this-own.zzz c.in-Some-CompositeInOut.field-0-1 c.in-Some-CompositeInOut.root (selections_at (nodes_of c.args.work.now) c.in-Some-CompositeInOut.selections) c.in-Some-CompositeInOut.subtype (actuals_at (nodes_of c.args.work.now) c.in-Some.cell.rest) (passed_list c.args.work.now c.args.passed) c.in_err-all-in-Some-CompositeInOut.field-0.0 _ (actuals_at (nodes_of c.args.work.now) c.args.id) (search rules) c.in_err-all-in-Some-CompositeInOut.ensures (search rules)
 
 pub actuals::pass_in_out-returns-in_ok-all : goal.actuals::pass_in_out-returns-in_ok-all
-actuals::pass_in_out-returns-in_ok-all g t c = in_out_on c.args.work.now c.args.calls (env_of c.args.env.now) c.args.store.now c.pass.new.store c.args.formal c.args.at c.args.root (selections_at (nodes_of c.args.work.now) c.args.selections) c.args.inside c.args.outside (actuals_at (nodes_of c.args.work.now) c.args.rest) (passed_list c.args.work.now c.args.passed) (Ok c.in_ok-all.all) (part_of c.variable_root.result) c.in_ok-part.part c.in_ok-value.value _ c.in_ok-values.values (passed_list c.args.work.now c.in_ok-more.more) c.select.new.store c.in_ok-part.ensures c.variable_root.ensures c.in_ok-value.ensures (search rules) c.in_ok-values.ensures (search rules) c.in_ok-more.ensures c.in_ok-all.ensures
+actuals::pass_in_out-returns-in_ok-all g t c = in_out_on c.args.work.now c.args.calls (env_of c.args.env.now) c.args.store.now c.pass_rest.new.store c.args.formal c.args.at c.args.root (selections_at (nodes_of c.args.work.now) c.args.selections) c.args.inside c.args.outside (actuals_at (nodes_of c.args.work.now) c.args.rest) (passed_list c.args.work.now c.args.passed) (Ok c.in_ok-all.all) (part_of c.variable_root.result) c.in_ok-part.part c.in_ok-value.value _ c.in_ok-values.values (passed_list c.args.work.now c.in_ok-more.more) c.select.new.store c.in_ok-part.ensures c.variable_root.ensures c.in_ok-value.ensures (search rules) c.in_ok-values.ensures (search rules) c.in_ok-more.ensures c.in_ok-all.ensures
 
 pub chains::operator-returns-in_ok-y-in-Operator : goal.chains::operator-returns-in_ok-y-in-Operator
 chains::operator-returns-in_ok-y-in-Operator g t c = operated c.args.work.now c.args.calls (env_of c.args.env.now) c.in-Operator.at c.in-Operator.op c.in-Operator.class c.in-Operator.right c.args.link c.args.x _ c.in_ok-y-in-Operator.y _ c.args.store.now c.eval.new.store c.operate.result (search rules) c.in_ok-y-in-Operator.ensures c.operate.ensures (search rules) (search rules)
