@@ -135,14 +135,16 @@ share_folded_as {Tells} w d by k c start a env j r s t h p = subst (λ z. Shows 
 pub threads_folded_as : {Tells : List ℕ → Outside → Type 0} (w : Work) (d : ℕ) (by : Fold) (k : meaning.Chunking) (c : Course) (start a : ℤ) (ns : List ℕ) (env : Env) (r : Result (List ℤ) End) (s t : Image) → Shows Tells (walk.threads_folded w d by k c a ns env) r s t → a ≡ start → Shows Tells (walk.threads_folded w d by k c start ns env) r s t
 threads_folded_as {Tells} w d by k c start a ns env r s t h p = subst (λ z. Shows Tells (walk.threads_folded w d by k c z ns env) r s t) p h
 
--- a step that ends the fold
-pub fold_one_stops : {Tells : List ℕ → Outside → Type 0} (w : Work) (d : ℕ) (by : Fold) (nested n : ℕ) (env i : Env) (so_far v a b : ℤ) (found : Option ℤ) (e : End) (r : Result ℤ End) (s t u : Image) → r ≡ Err e → Shows Tells (walk.iterated_value w d by i) (Ok found) s t → found ≡ Some v
-    → Shows Tells (walk.reduced w d by n a b) (Err e) t u → i ≡ env → n ≡ nested → a ≡ so_far → b ≡ v → Shows Tells (walk.fold_one w d by nested env so_far) r s u
-fold_one_stops {Tells} w d by nested n env i so_far v a b found e r s t u q h is k x y p z =
-    subst (λ r. Shows Tells (walk.fold_one w d by nested env so_far) r s u) (sym q)
-    (then_shows (λ a. a) (λ a. a) (walk.iterated_value w d by env) (λ v. folded doings (walk.reduced w d by nested) so_far v) s t u (Some v) (Err e)
-    (subst (λ i. Shows Tells (walk.iterated_value w d by i) (Ok (Some v)) s t) x (subst (λ f. Shows Tells (walk.iterated_value w d by i) (Ok f) s t) is h))
-    (subst (λ n. Shows Tells (walk.reduced w d by n so_far v) (Err e) t u) y (subst (λ a. Shows Tells (walk.reduced w d by n a v) (Err e) t u) p (subst (λ b. Shows Tells (walk.reduced w d by n a b) (Err e) t u) z k))))
+-- a step of a fold
+module _ {Tells : List ℕ → Outside → Type 0} (w : Work) (d : ℕ) (by : Fold) (nested n : ℕ) (env i : Env) (so_far v a b : ℤ) (found : Option ℤ) (s t u : Image) (h : Shows Tells (walk.iterated_value w d by i) (Ok found) s t) (is : found ≡ Some v) where
+  pub fold_one_on : (r : Result ℤ End) → Shows Tells (walk.reduced w d by n a b) r t u → i ≡ env → n ≡ nested → a ≡ so_far → b ≡ v → Shows Tells (walk.fold_one w d by nested env so_far) r s u
+  fold_one_on r k x y p z =
+      then_shows (λ a. a) (λ a. a) (walk.iterated_value w d by env) (λ v. folded doings (walk.reduced w d by nested) so_far v) s t u (Some v) r
+      (subst (λ i. Shows Tells (walk.iterated_value w d by i) (Ok (Some v)) s t) x (subst (λ f. Shows Tells (walk.iterated_value w d by i) (Ok f) s t) is h))
+      (subst (λ n. Shows Tells (walk.reduced w d by n so_far v) r t u) y (subst (λ a. Shows Tells (walk.reduced w d by n a v) r t u) p (subst (λ b. Shows Tells (walk.reduced w d by n a b) r t u) z k)))
+
+  pub fold_one_stops : (e : End) (r : Result ℤ End) → r ≡ Err e → Shows Tells (walk.reduced w d by n a b) (Err e) t u → i ≡ env → n ≡ nested → a ≡ so_far → b ≡ v → Shows Tells (walk.fold_one w d by nested env so_far) r s u
+  fold_one_stops e r q k x y p z = subst (λ r. Shows Tells (walk.fold_one w d by nested env so_far) r s u) (sym q) (fold_one_on (Err e) k x y p z)
 
 pub folds_begin : {Tells : List ℕ → Outside → Type 0} (w : Work) (d : ℕ) (by : Fold) (k : meaning.Chunking) (c : Course) (start : ℤ) (sizes : List ℕ) (env : Env) (s : Image) (n most : ℕ) → n ≡ s.state.turns → most ≡ s.state.turns
     → Goes Tells (walk.threads_folded w d by k c start sizes env) s (threads after_all (walk.share_folded w d by k c start env) n (deal 0 0 (drop 0 sizes)) most false []) s

@@ -1,17 +1,20 @@
 -- Forms of the language, as the functions that go by them.
-use Rattle.std.proofs.Common.{◌≡◌, ◌&&◌, ◌+◌, ◌+ℤ◌, ◌-ℤ◌, pos, ℕ, ℤ, List, [], ◌∷◌, ◌++◌, Bool, true, false, cond, int_le, Option, Some, None, refl, sym, subst, ap, ◌∙◌}
+use Rattle.std.proofs.Common.{◌≡◌, ◌&&◌, ◌+◌, ◌+ℤ◌, ◌-ℤ◌, ◌*◌, pos, ℕ, ℤ, List, [], ◌∷◌, ◌++◌, Bool, true, false, cond, int_le, Option, Some, None, refl, sym, subst, ap, ◌∙◌}
 use Rattle.std.specs.Prelude.{Result, Ok, Err}
+use Rattle.ada_base.specs.declared.reason.Reason.TheVariants as reason
 use Rattle.behaviours.specs.Paths.{VariableOf}
 use Rattle.ada_typed.specs.declared.scalars.Scalar.{Scalar}
 use Rattle.ada_typed.specs.declared.scalars.Check.{Check}
 use Rattle.ada_typed.specs.declared.expressions.Root.{Root}
 use Rattle.ada_typed.specs.Syntax.{Expr, Optional, Selections, Index, Actuals, NoActual, In, InOut, Out, CompositeInOut, CompositeOut, Iteration, Range, Stmt, Get, Value, Number}
-use Rattle.ada_meaning.specs.Values.{is_in, count}
-use Rattle.ada_meaning.specs.Operations.{RangeCheck}
+use Rattle.ada_meaning.specs.Values.{is_in, count, between, to_nat}
+use Rattle.ada_meaning.specs.Operations.{IndexCheck, RangeCheck}
 use Rattle.ada_meaning.specs.Meaning as meaning
-use Rattle.ada_meaning.specs.Meaning.{Env, variable_root, with_parameter}
-use Rattle.ada_meaning.specs.Stored.{Stored, ret, bind, reads, writes, checks}
+use Rattle.ada_meaning.specs.Meaning.{Env, variable_root, with_parameter, moved}
+use Rattle.ada_meaning.specs.Stored.{Stored, ret, bind, leaves, reads, writes, checks}
 use Rattle.run_store.specs.declared.ends.End.{End}
+use Rattle.run_store.specs.declared.ends.End.TheVariants as end
+use Rattle.run_store.specs.declared.ends.Leave.TheVariants as leave
 use Rattle.run_store.specs.declared.env.Part.{Part}
 use Rattle.run_store.specs.declared.values.Range as code
 use Rattle.run_store.specs.Operating.{got}
@@ -67,6 +70,19 @@ module _ {Tells : List ℕ → Outside → Type 0} (w : Work) (d : ℕ) (env : E
       (subst (λ z. ShowsAs part_of Tells (walk.index w d at e z high stride rest env p) r s t) k
       (subst (λ z. ShowsAs part_of Tells (walk.index w d at e a z stride rest env p) r s t) l h))
 
+  -- an index in its range, and the part behind it
+  pub index_on : (at : ℕ) (e : Expr) (low high i : ℤ) (stride : ℕ) (rest : Selections) (p inner : meaning.Part) (r : Result Part End) (u : Image) → Shows Tells (walk.eval w d e env) (Ok i) s u → between low i high ≡ true → inner ≡ moved p (to_nat (i -ℤ low) * stride)
+      → ShowsAs part_of Tells (walk.select w d rest env inner) r u t → ShowsAs part_of Tells (walk.index w d at e low high stride rest env p) r s t
+  unfolding ret
+  index_on at e low high i stride rest p inner r u h within q k =
+      let on : ℤ → Stored meaning.Part = λ i. walk.select w d rest env (moved p (to_nat (i -ℤ low) * stride)) in
+      then_shows (λ a. a) part_of (walk.eval w d e env) (λ i. bind (checks IndexCheck at (between low i high)) (λ _. on i)) s u t i r h
+      (then_shows (λ a. a) part_of (checks IndexCheck at (between low i high)) (λ _. on i) u u t tt r (refl, stays, λ input told. rw within refl) (subst (λ z. ShowsAs part_of Tells (walk.select w d rest env z) r u t) q k))
+
+  pub index_ends : (at : ℕ) (e : Expr) (low high i : ℤ) (stride : ℕ) (rest : Selections) (p inner : meaning.Part) (y : End) (r : Result Part End) (u : Image) → r ≡ Err y → Shows Tells (walk.eval w d e env) (Ok i) s u → between low i high ≡ true
+      → inner ≡ moved p (to_nat (i -ℤ low) * stride) → ShowsAs part_of Tells (walk.select w d rest env inner) (Err y) u t → ShowsAs part_of Tells (walk.index w d at e low high stride rest env p) r s t
+  index_ends at e low high i stride rest p inner y r u is h within q k = subst (λ z. ShowsAs part_of Tells (walk.index w d at e low high stride rest env p) z s t) (sym is) (index_on at e low high i stride rest p inner (Err y) u h within q k)
+
   module _ (formal at : ℕ) (root : Root) (ss : Selections) (inner outer : Scalar) (rest : Actuals) (so_far : List meaning.Passed) where
     pub in_out_as : (r : Result (List Passed) End) (as' : Actuals) → ShowsAs (passed_list w) Tells (walk.pass_in_out w d formal at root ss inner outer rest env so_far) r s t → as' ≡ InOut formal at root ss inner outer rest → ShowsAs (passed_list w) Tells (walk.pass w d as' env so_far) r s t
     unfolding walk.select walk.pass
@@ -112,30 +128,51 @@ module _ {Tells : List ℕ → Outside → Type 0} (w : Work) (d : ℕ) (env : E
       (same_shows (λ a. a) (meaning.bounds_checked (ops w) check range.low range.high) (ret tt) (Ok tt) t t (bounds_so w check range.low range.high within) (refl, stays, λ input told. refl))
       (refl, stays, λ input told. refl))))
 
-  -- a number that is stored, up to the store
-  pub number_ends : (check : Check) (e : Expr) (v : Value) (p : meaning.Part) (x z : ℤ) (u : Image) (y : End) (r : Result (Unit {0}) End) → r ≡ Err y → Shows Tells (walk.eval w d e env) (Ok x) s u → is_in check.scalar x ≡ true → Shows Tells (writes p.object p.offset z) (Err y) u t → z ≡ x
-      → v ≡ Number check e → Shows Tells (walk.assigned w d v p env) r s t
-  unfolding walk.cells walk.eval write_all ret
-  number_ends check e v p x z u y r q h within k same is =
+  -- a number that is stored
+  number_stored : (check : Check) (e : Expr) (v : Value) (p : meaning.Part) (x z : ℤ) (u : Image) (r : Result (Unit {0}) End) → Shows Tells (walk.eval w d e env) (Ok x) s u → is_in check.scalar x ≡ true → Shows Tells (write_all w p.object p.offset (z ∷ [])) r u t → z ≡ x → v ≡ Number check e
+      → Shows Tells (walk.assigned w d v p env) r s t
+  unfolding walk.cells walk.eval ret
+  number_stored check e v p x z u r h within k same is =
       let put : List ℤ → Stored (Unit {0}) = λ cs. write_all w p.object p.offset cs in
-      subst (λ z. Shows Tells (walk.assigned w d v p env) z s t) (sym q)
-      (subst (λ z. Shows Tells (walk.assigned w d z p env) (Err y) s t) (sym is)
-      (then_shows (λ a. a) (λ a. a) (walk.number w d check e env) put s u t (x ∷ []) (Err y)
+      subst (λ z. Shows Tells (walk.assigned w d z p env) r s t) (sym is)
+      (then_shows (λ a. a) (λ a. a) (walk.number w d check e env) put s u t (x ∷ []) r
       (then_shows (λ a. a) (λ a. a) (walk.eval w d e env) (λ v. bind (meaning.checked (ops w) check v) (λ _. ret (v ∷ []))) s u u x (Ok (x ∷ [])) h
       (then_shows (λ a. a) (λ a. a) (meaning.checked (ops w) check x) (λ _. ret (x ∷ [])) u u u tt (Ok (x ∷ [])) (refl, stays, λ input told. rw within refl) (refl, stays, λ input told. refl)))
-      (goes_ends (λ a. a) (λ a. a) (put (x ∷ [])) (writes p.object p.offset x) (λ _. write_all w p.object (p.offset + 1) []) u u t y (goes_refl _ u) (subst (λ z. Shows Tells (writes p.object p.offset z) (Err y) u t) same k))))
+      (subst (λ z. Shows Tells (put (z ∷ [])) r u t) same k))
 
-  -- a number that was read, up to the store
-  pub get_on : (first : ℕ) (root : Root) (ss : Selections) (scalar : Scalar) (from : meaning.Part) (p : Part) (v a : ℤ) (u x : Image) (y : End) (r : Result (Unit {0}) End) → r ≡ Err y → from ≡ variable_root root env → ShowsAs part_of Tells (walk.select w d ss env from) (Ok p) s u
-      → Shows Tells (got w.limit) (Ok v) u x → is_in scalar v ≡ true → Shows Tells (writes p.object p.offset a) (Err y) x t → a ≡ v → Shows Tells (walk.get w d first root ss scalar env) r s t
-  unfolding ret
-  get_on first root ss scalar from p v a u x y r q e h k within l same =
-      subst (λ z. Shows Tells (walk.get w d first root ss scalar env) z s t) (sym q)
-      (then_shows part_of (λ a. a) (walk.select w d ss env (variable_root root env)) (λ p. bind (got w.limit) (λ v. bind (checks RangeCheck first (is_in scalar v)) (λ _. writes p.object p.offset v))) s u t p (Err y)
-      (subst (λ z. ShowsAs part_of Tells (walk.select w d ss env z) (Ok p) s u) e h)
-      (then_shows (λ a. a) (λ a. a) (got w.limit) (λ v. bind (checks RangeCheck first (is_in scalar v)) (λ _. writes p.object p.offset v)) u x t v (Err y) k
-      (then_shows (λ a. a) (λ a. a) (checks RangeCheck first (is_in scalar v)) (λ _. writes p.object p.offset v) x x t tt (Err y) (refl, stays, λ input told. rw within refl)
-      (subst (λ z. Shows Tells (writes p.object p.offset z) (Err y) x t) same l))))
+  pub number_gives : (check : Check) (e : Expr) (v : Value) (p : meaning.Part) (x z : ℤ) (u : Image) → Shows Tells (walk.eval w d e env) (Ok x) s u → is_in check.scalar x ≡ true → Shows Tells (writes p.object p.offset z) (Ok tt) u t → z ≡ x → v ≡ Number check e → Shows Tells (walk.assigned w d v p env) (Ok tt) s t
+  unfolding write_all ret
+  number_gives check e v p x z u h within k same is = number_stored check e v p x z u (Ok tt) h within (then_shows (λ a. a) (λ a. a) (writes p.object p.offset z) (λ _. write_all w p.object (p.offset + 1) []) u t t tt (Ok tt) k (refl, stays, λ input told. refl)) same is
+
+  pub number_ends : (check : Check) (e : Expr) (v : Value) (p : meaning.Part) (x z : ℤ) (u : Image) (y : End) (r : Result (Unit {0}) End) → r ≡ Err y → Shows Tells (walk.eval w d e env) (Ok x) s u → is_in check.scalar x ≡ true → Shows Tells (writes p.object p.offset z) (Err y) u t → z ≡ x
+      → v ≡ Number check e → Shows Tells (walk.assigned w d v p env) r s t
+  unfolding write_all
+  number_ends check e v p x z u y r q h within k same is =
+      subst (λ r. Shows Tells (walk.assigned w d v p env) r s t) (sym q)
+      (number_stored check e v p x z u (Err y) h within (goes_ends (λ a. a) (λ a. a) (write_all w p.object p.offset (z ∷ [])) (writes p.object p.offset z) (λ _. write_all w p.object (p.offset + 1) []) u u t y (goes_refl _ u) k) same is)
+
+  -- a number that was read
+  module _ (first : ℕ) (root : Root) (ss : Selections) (scalar : Scalar) (from : meaning.Part) (p : Part) (v : ℤ) (u x : Image) (e : from ≡ variable_root root env) (h : ShowsAs part_of Tells (walk.select w d ss env from) (Ok p) s u) (k : Shows Tells (got w.limit) (Ok v) u x) where
+    get_as : (r : Result (Unit {0}) End) (y : Image) → Shows Tells (bind (checks RangeCheck first (is_in scalar v)) (λ _. writes p.object p.offset v)) r x y → Shows Tells (walk.get w d first root ss scalar env) r s y
+    get_as r y l =
+        then_shows part_of (λ a. a) (walk.select w d ss env (variable_root root env)) (λ p. bind (got w.limit) (λ v. bind (checks RangeCheck first (is_in scalar v)) (λ _. writes p.object p.offset v))) s u y p r
+        (subst (λ z. ShowsAs part_of Tells (walk.select w d ss env z) (Ok p) s u) e h)
+        (then_shows (λ a. a) (λ a. a) (got w.limit) (λ v. bind (checks RangeCheck first (is_in scalar v)) (λ _. writes p.object p.offset v)) u x y v r k l)
+
+    pub get_on : (a : ℤ) (r : Result (Unit {0}) End) → is_in scalar v ≡ true → Shows Tells (writes p.object p.offset a) r x t → a ≡ v → Shows Tells (walk.get w d first root ss scalar env) r s t
+    unfolding ret
+    get_on a r within l same =
+        get_as r t
+        (then_shows (λ a. a) (λ a. a) (checks RangeCheck first (is_in scalar v)) (λ _. writes p.object p.offset v) x x t tt r (refl, stays, λ input told. rw within refl) (subst (λ z. Shows Tells (writes p.object p.offset z) r x t) same l))
+
+    pub get_ends : (a : ℤ) (y : End) (r : Result (Unit {0}) End) → r ≡ Err y → is_in scalar v ≡ true → Shows Tells (writes p.object p.offset a) (Err y) x t → a ≡ v → Shows Tells (walk.get w d first root ss scalar env) r s t
+    get_ends a y r q within l same = subst (λ z. Shows Tells (walk.get w d first root ss scalar env) z s t) (sym q) (get_on a (Err y) within l same)
+
+    pub get_not : is_in scalar v ≡ false → Shows Tells (walk.get w d first root ss scalar env) (Err (end.Left (leave.Raises reason.ConstraintError))) s x
+    unfolding leaves
+    get_not outside =
+        get_as (Err (end.Left (leave.Raises reason.ConstraintError))) x
+        (goes_ends (λ a. a) (λ a. a) _ (checks RangeCheck first (is_in scalar v)) (λ _. writes p.object p.offset v) x x x (end.Left (leave.Raises reason.ConstraintError)) (goes_refl _ x) (refl, stays, λ input told. rw outside refl))
 
   -- a statement that reads a number
   pub get_shows : (x : Stmt) (n callee first : ℕ) (root : Root) (ss : Selections) (scalar : Scalar) (r : Result (Unit {0}) End) → x ≡ Get n callee first root ss scalar → Shows Tells (walk.get w d first root ss scalar env) r s t → Shows Tells (walk.exec w d x env) r s t

@@ -1,27 +1,21 @@
 -- Statements and loops, a part at a time.
-use Rattle.std.proofs.Common.{◌≡◌, ℕ, zero, suc, ◌+◌, ◌-◌, ◌<◌, ◌≤◌, ℤ, List, [], ◌∷◌, ◌++◌, Bool, true, false, cond, nat_eq, Option, Some, None, refl, sym, subst, ap, ◌∙◌, arith, inl, inr}
+use Rattle.std.proofs.Common.{◌≡◌, ℕ, suc, ◌+◌, ◌-◌, ◌<◌, ◌≤◌, ℤ, List, Bool, true, false, cond, Option, refl, sym, subst, ap, ◌∙◌, arith, inl, inr}
 use Rattle.std.specs.Prelude.{Result, Ok, Err}
-use Rattle.ada_base.specs.declared.reason.Reason.{Reason}
 use Rattle.behaviours.specs.Paths as paths
-use Rattle.behaviours.specs.Doings.{through}
-use Rattle.ada_typed.specs.Syntax.{Stmt, Stmts, End, Then, Optional, Iteration, Value, Handlers, NoHandler, Handler}
+use Rattle.ada_typed.specs.Syntax.{Stmt, Stmts, End, Then, Optional, Iteration, Value}
 use Rattle.ada_typed.specs.declared.expressions.Iterated.{Iterated}
-use Rattle.ada_meaning.specs.Values.{laid, handles_reason}
-use Rattle.ada_meaning.specs.Meaning as meaning
-use Rattle.ada_meaning.specs.Meaning.{Env, Course, exits, raises, reason_of, has_handlers, with_handled}
-use Rattle.ada_meaning.specs.Stored.{Stored, After, Left, OutOfTurns, MemoryFault, InputFault, OutputFault, Fault, Stops, at, State, ret, bind, leaves, spent, handles, handled, handled_halts, doings}
+use Rattle.ada_meaning.specs.Values.{laid}
+use Rattle.ada_meaning.specs.Meaning.{Env, Course}
+use Rattle.ada_meaning.specs.Stored.{Stored, After, Left, Fault, Stops, at, State, ret, bind, spent, handles, handled, handled_halts}
 use Rattle.ada_meaning.proofs.Computing.{through_more, through_done}
 use Rattle.run_store.specs.Outside.{Outside}
-use Rattle.run_store.specs.Shows.{Image, facing, Goes, ShowsAs, Shows, Answers, leave_of}
+use Rattle.run_store.specs.Shows.{Image, facing, Goes, Shows, leave_of}
 use Rattle.run_store.specs.declared.ends.End as ends
 use Rattle.run_store.specs.declared.ends.End.TheVariants as end
 use Rattle.run_store.specs.declared.ends.Leave as ends-leave
-use Rattle.run_store.specs.declared.ends.Leave.TheVariants as leave
-use Rattle.run_store.proofs.Going.{goes_refl, goes_instead, goes_then, goes_ends, goes_gives, goes_shows, then_shows, true_shows, false_shows, same_shows}
+use Rattle.run_store.proofs.Going.{goes_refl, goes_instead, goes_then, goes_ends, goes_gives, goes_shows}
 use Rattle.run_parts.specs.declared.work.Work.{Work}
-use Rattle.run_parts.specs.Found.{found_handler}
-use Rattle.run_parts.specs.Caught.{caught, caught_exit}
-use Rattle.run_parts.specs.Words.{turned, ops}
+use Rattle.run_parts.specs.Words.{turned}
 use Rattle.ada_interpreter.specs.Walk as walk
 
 module _ {Tells : List ℕ → Outside → Type 0} (whole : Stored (Unit {0})) (s t u : Image) (w : Work) (d : ℕ) (env : Env) where

@@ -1,12 +1,12 @@
 -- What a whole run shows.
-use Rattle.std.proofs.Common.{◌≡◌, ℕ, List, Bool, true, false, not, Result, Ok, Err, refl, sym, ap, subst}
+use Rattle.std.proofs.Common.{◌≡◌, ℕ, List, Bool, false, not, Result, Ok, Err, refl, ap, subst}
 use Rattle.ada_typed.specs.Programs.{program}
 use Rattle.ada_typed.specs.Decoded.{body_at}
 use Rattle.behaviours.specs.Paths as paths
 use Rattle.behaviours.specs.Paths.{Everywhere}
 use Rattle.ada_meaning.specs.Meaning as meaning
 use Rattle.ada_meaning.specs.Meaning.{raises}
-use Rattle.ada_meaning.specs.Stored.{State, Stored, Computes, outset, handles, ret}
+use Rattle.ada_meaning.specs.Stored.{State, Stored, Computes, handles, ret}
 use Rattle.ada_meaning.proofs.StoredProof.{stored_law}
 use Rattle.run_store.specs.declared.ends.End.{End}
 use Rattle.run_store.specs.declared.ends.End.TheVariants as end

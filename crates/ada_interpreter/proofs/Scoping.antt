@@ -1,5 +1,5 @@
 -- Calls and declarations, a part at a time.
-use Rattle.std.proofs.Common.{◌≡◌, ℕ, zero, suc, ◌-◌, ◌≤◌, arith, ℤ, List, [], ◌∷◌, ◌++◌, Option, Some, None, slice_get, refl, sym, subst, ap, ◌∙◌}
+use Rattle.std.proofs.Common.{◌≡◌, ℕ, zero, suc, ◌-◌, ◌≤◌, arith, ℤ, List, [], ◌∷◌, Option, Some, None, slice_get, refl, sym, subst, ◌∙◌}
 use Rattle.std.specs.Prelude.{Result, Ok, Err}
 use Rattle.ada_base.specs.declared.reason.Reason.TheVariants as reason
 use Rattle.behaviours.specs.Paths as paths
@@ -9,9 +9,9 @@ use Rattle.ada_typed.specs.Programs.{program}
 use Rattle.ada_meaning.specs.Values.{defaults}
 use Rattle.ada_meaning.specs.Meaning as meaning
 use Rattle.ada_meaning.specs.Meaning.{Env, sub_at, object_layout}
-use Rattle.ada_meaning.specs.Stored.{Stored, ret, bind, leaves, elaborates, apart}
+use Rattle.ada_meaning.specs.Stored.{ret, bind, leaves, elaborates, apart}
 use Rattle.run_store.specs.Outside.{Outside}
-use Rattle.run_store.specs.Shows.{Image, ShowsAs, Shows, Begins, finished, Enters, unframed, entity_of}
+use Rattle.run_store.specs.Shows.{Image, ShowsAs, Shows, Begins, finished, Enters, unframed}
 use Rattle.run_store.specs.declared.ends.Mark.{Mark}
 use Rattle.run_store.specs.declared.ends.End.{End}
 use Rattle.run_store.specs.declared.ends.Object.TheVariants as object
@@ -20,7 +20,7 @@ use Rattle.run_parts.specs.declared.work.Work.{Work}
 use Rattle.run_parts.specs.declared.passed.Passed.{Passed}
 use Rattle.run_parts.specs.declared.passed.Returned.{Returned}
 use Rattle.run_parts.specs.Passing.{passed_list, returned_of}
-use Rattle.run_parts.specs.Words.{object_defaults, defaults_at, turned, calls_of, back_cells, ops}
+use Rattle.run_parts.specs.Words.{object_defaults, turned, calls_of, back_cells, ops}
 use Rattle.ada_interpreter.specs.Walk as walk
 
 module _ {Tells : List ℕ → Outside → Type 0} (w : Work) (d number nested : ℕ) (passed : List meaning.Passed) (sub : Sub) (is : sub_at (program w.typed.now).subs number ≡ Some sub) where

@@ -1,5 +1,5 @@
 -- Threads in order, one after the other.
-use Rattle.std.proofs.Common.{◌≡◌, ℕ, zero, suc, ◌+◌, max, List, [], ◌∷◌, drop, slice_get, Bool, true, false, ◌||◌, cond, Option, Some, None, refl, sym, subst, ap, ◌∙◌, arith}
+use Rattle.std.proofs.Common.{◌≡◌, ℕ, zero, suc, ◌+◌, max, List, [], ◌∷◌, drop, slice_get, Bool, true, false, ◌||◌, cond, Some, None, refl, sym, subst, ap, ◌∙◌, arith}
 use Rattle.std.specs.Prelude.{Result, Ok, Err}
 use Rattle.behaviours.specs.Joins.{Share, deal}
 use Rattle.ada_meaning.specs.Stored.{Stored, After, Took, took, Left, at, bind, ret, spent, rewinds, thread, threads, par, is_spent, gathered, first_of_both}

@@ -13,14 +13,14 @@ use Rattle.run_parts.specs.Caught.{caught}
 use Rattle.run_parts.proofs.Stepping.{next_fails}
 use Rattle.run_store.proofs.Going.{then_shows, goes_refl}
 use Rattle.run_parts.specs.Words.{nodes_of, calls_of}
-use Rattle.ada_interpreter.specs.Walk.{combined, chunked_fold, dealt_fold, reduced_by_call, exec_all, while_loop, for_loop, course, in_loop, run_values, eval, fold_left, combined_onto, threads_run, share_run, threads_folded, share_folded}
+use Rattle.ada_interpreter.specs.Walk.{combined, chunked_fold, dealt_fold, reduced_by_call, combined_by_call, fold_one, exec_all, while_loop, for_loop, course, in_loop, run_values, eval, fold_left, combined_onto, threads_run, share_run, threads_folded, share_folded}
 use Rattle.ada_interpreter.proofs.Looping.{while_begins, run_begins, all_step, all_ends, all_done, while_test_ends, while_stops, while_turn_ends, while_body_ends, while_step, while_spent, for_step, for_ends, for_done, for_begins, run_step, run_ends, run_done}
 use Rattle.ada_interpreter.proofs.Scoping.{body_as, call_ends, call_step, called_more, called_fails, formals_none, formals_more, formals_fails, default_more, default_fails, variable_ends, variable_more, variable_fails, constant_ends, constant_more, constant_fails}
 use Rattle.ada_interpreter.proofs.Handling.{caught_shows, chosen_some, chosen_none, guarded_other, guarded_some, guarded_none, alternative_some, alternative_none}
-use Rattle.ada_interpreter.proofs.Folding.{folds_begin, gives_as, onto_as, share_folded_as, threads_folded_as, fold_one_stops, fold_step, fold_ends, fold_done, fold_none, fold_as, fold_fails, fold_share_none, fold_share_on, fold_share_ends, onto_step, onto_ends, onto_done}
+use Rattle.ada_interpreter.proofs.Folding.{folds_begin, gives_as, onto_as, share_folded_as, threads_folded_as, fold_one_on, fold_one_stops, fold_step, fold_ends, fold_done, fold_none, fold_as, fold_fails, fold_share_none, fold_share_on, fold_share_ends, onto_step, onto_ends, onto_done}
 use Rattle.ada_typed.specs.Chained.{right_of}
 use Rattle.ada_interpreter.proofs.Chaining.{operated, stands_begins, first_ends, stands_step, stands_ends, stands_done, all_below, last_below}
-use Rattle.ada_interpreter.proofs.Forms.{whole_ends, index_as, in_out_as, in_out_ends, in_out_on, range_holds, number_ends, get_on, get_shows}
+use Rattle.ada_interpreter.proofs.Forms.{whole_ends, index_as, index_on, index_ends, in_out_as, in_out_ends, in_out_on, range_holds, number_gives, number_ends, get_on, get_ends, get_not, get_shows}
 use Rattle.ada_interpreter.proofs.Threading.{thread_gives, thread_spent, thread_left, threads_more, threads_end, threads_fail, threads_joined, threads_spent, spent_as, gathered_none}
 use Rattle.ada_interpreter.proofs.Dealing.{threads_on, threads_ends, count_on, count_ends, loops_begin, each_on, each_ends, dealt_loop_shows, dealt_arms_shows, dealt_arms_ends, parallel_for_ends, parallel_for_on, parallel_for_stops, parallel_block_ends, parallel_block_on, parallel_block_stops, chunked_loop_on, chunked_loop_stops, chunked_loop_many, turn_none, turn_some, turn_ends, reduction_shows, parallel_reduction_shows, parallel_reduction_ends, parallel_reduction_on, parallel_reduction_stops, chunked_fold_on, chunked_fold_stops, chunked_fold_many, chunked_fold_ends, dealt_fold_ends, dealt_fold_on, dealt_fold_stops, share_begins, share_step, share_ends, share_done}
 use Rattle.ada_interpreter.specs.declared.constructs.Task.TheVariants as task
@@ -109,6 +109,12 @@ values::run_values-returns-in_err-first g t c = next_fails (λ next. next ≡ c.
 pub names::select-returns-in-Some-Index : goal.names::select-returns-in-Some-Index
 names::select-returns-in-Some-Index g t c = index_as c.args.work.now c.args.calls (env_of c.args.env.now) c.args.store.now c.index.new.store c.in-Some-Index.at (expr_at (nodes_of c.args.work.now) c.in-Some-Index.value) c.in-Some-Index.low c.in-Some-Index.high _ _ c.in-Some-Index.stride (selections_at (nodes_of c.args.work.now) c.in-Some.cell.rest) (selections_at (nodes_of c.args.work.now) c.args.id) (part_of c.args.part) c.index.result c.index.ensures (search rules) (search rules) (search rules)
 
+pub names::index-returns-in_ok-found : goal.names::index-returns-in_ok-found
+names::index-returns-in_ok-found g t c = index_on c.args.work.now c.args.calls (env_of c.args.env.now) c.args.store.now c.select.new.store c.args.at (expr_at (nodes_of c.args.work.now) c.args.value) c.args.range.low c.args.range.high c.in_ok-i.i c.args.stride (selections_at (nodes_of c.args.work.now) c.args.rest) (part_of c.args.part) (part_of c.in_ok-inner.inner) (Ok c.in_ok-found.found) c.eval.new.store c.in_ok-i.ensures (search rules) (search rules) c.in_ok-found.ensures
+
+pub names::index-returns-in_err-found : goal.names::index-returns-in_err-found
+names::index-returns-in_err-found g t c = index_ends c.args.work.now c.args.calls (env_of c.args.env.now) c.args.store.now c.select.new.store c.args.at (expr_at (nodes_of c.args.work.now) c.args.value) c.args.range.low c.args.range.high c.in_ok-i.i c.args.stride (selections_at (nodes_of c.args.work.now) c.args.rest) (part_of c.args.part) (part_of c.in_ok-inner.inner) c.in_err-found.field-0.0 _ c.eval.new.store (search rules) c.in_ok-i.ensures (search rules) (search rules) c.in_err-found.ensures
+
 pub actuals::pass-returns-in_err-all-in-Some-InOut : goal.actuals::pass-returns-in_err-all-in-Some-InOut
 actuals::pass-returns-in_err-all-in-Some-InOut g t c = in_out_ends c.args.work.now c.args.calls (env_of c.args.env.now) c.args.store.now c.pass_in_out.new.store c.in-Some-InOut.formal c.in-Some-InOut.at c.in-Some-InOut.root (selections_at (nodes_of c.args.work.now) c.in-Some-InOut.selections) _ _ (actuals_at (nodes_of c.args.work.now) c.in-Some.cell.rest) (passed_list c.args.work.now c.args.passed) c.in_err-all-in-Some-InOut.field-0.0 _ (actuals_at (nodes_of c.args.work.now) c.args.id) (search rules) c.in_err-all-in-Some-InOut.ensures (search rules)
 
@@ -120,6 +126,9 @@ actuals::pass_in_out-returns-in_err-all g t c = in_out_on c.args.work.now c.args
 
 pub courses::begin_course-returns-then-bounds_hold : goal.courses::begin_course-returns-then-bounds_hold
 courses::begin_course-returns-then-bounds_hold g t c = range_holds c.args.work.now c.args.calls (env_of c.args.env.now) c.args.store.now c.eval-in-Some-Range.new.store c.in-Some-Range.parameter c.in-Some-Range.reverse (expr_at (nodes_of c.args.work.now) c.in-Some-Range.low) (expr_at (nodes_of c.args.work.now) c.in-Some-Range.high) c.check.result (optional_at (nodes_of c.args.work.now) c.in-Some-Range.field-0-5) (iteration_at (nodes_of c.args.work.now) c.args.id) c.in_ok-l-in-Some-Range.l c.in_ok-h-in-Some-Range.h (record { low = to_z w64 (of_z w64 c.in_ok-l-in-Some-Range.l); high = to_z w64 (of_z w64 c.in_ok-h-in-Some-Range.h) }) c.eval.new.store c.in_ok-l-in-Some-Range.ensures c.in_ok-h-in-Some-Range.ensures (search rules) (search rules) (sym c.bounds_hold.ensures ∙ c.if-bounds_hold.true) (search rules)
+
+pub values::assigned-returns-in_ok-write-in-Some-Number : goal.values::assigned-returns-in_ok-write-in-Some-Number
+values::assigned-returns-in_ok-write-in-Some-Number g t c = number_gives c.args.work.now c.args.calls (env_of c.args.env.now) c.args.store.now c.write.new.self c.in-Some-Number.check (expr_at (nodes_of c.args.work.now) c.in-Some-Number.value) (value_at (nodes_of c.args.work.now) c.args.id) (part_of c.args.part) c.in_ok-x-in-Some-Number.x _ c.eval.new.store c.in_ok-x-in-Some-Number.ensures (search rules) c.in_ok-write-in-Some-Number.ensures (search rules) (search rules)
 
 pub values::assigned-returns-in_err-write-in-Some-Number : goal.values::assigned-returns-in_err-write-in-Some-Number
 values::assigned-returns-in_err-write-in-Some-Number g t c = number_ends c.args.work.now c.args.calls (env_of c.args.env.now) c.args.store.now c.write.new.self c.in-Some-Number.check (expr_at (nodes_of c.args.work.now) c.in-Some-Number.value) (value_at (nodes_of c.args.work.now) c.args.id) (part_of c.args.part) c.in_ok-x-in-Some-Number.x _ c.eval.new.store c.in_err-write-in-Some-Number.field-0.0 _ (search rules) c.in_ok-x-in-Some-Number.ensures (search rules) c.in_err-write-in-Some-Number.ensures (search rules) (search rules)
@@ -319,6 +328,9 @@ folds::reduced_by_call-returns-in_err-returned g t c = reduced_ends c.args.work.
 pub folds::reduced_by_call-returns-else-hold : goal.folds::reduced_by_call-returns-else-hold
 folds::reduced_by_call-returns-else-hold g t c = reduced_not c.args.work.now c.args.calls c.args.nested c.args.sub c.args.both c.args.store.now c.args.store.now (search rules)
 
+pub folds::combined_by_call-returns : goal.folds::combined_by_call-returns
+folds::combined_by_call-returns g t c = gives_as (combined_by_call c.args.work.now c.args.calls c.args.nested c.args.sub c.args.both) c.in_ok-returned.returned.value _ c.args.store.now c.call_checked.new.store (combined_on c.args.work.now c.args.calls c.args.nested c.args.sub c.args.both c.args.store.now c.call_checked.new.store (passed_list c.args.work.now c.in_ok-passed.passed) c.in_ok-returned.returned (passed_as c.args.work.now c.args.sub c.args.both.a c.args.both.b _ _ (passed_list c.args.work.now c.in_ok-passed.passed) c.in_ok-passed.ensures (search rules) (search rules)) (subst (λ z. ShowsAs returned_of g.P.Port.Tells (calls_of c.args.work.now c.args.calls c.args.nested c.args.sub (both_checked c.args.work.now c.args.both) (passed_list c.args.work.now z)) (Ok c.in_ok-returned.returned) c.args.store.now c.call_checked.new.store) c.as_slice.ensures c.in_ok-returned.ensures)) (search rules)
+
 pub folds::combined_by_call-returns-in_err-returned : goal.folds::combined_by_call-returns-in_err-returned
 folds::combined_by_call-returns-in_err-returned g t c = combined_ends c.args.work.now c.args.calls c.args.nested c.args.sub c.args.both c.args.store.now c.call_checked.new.store (passed_list c.args.work.now c.in_ok-passed.passed) c.in_err-returned.field-0.0 _ (search rules) (passed_as c.args.work.now c.args.sub c.args.both.a c.args.both.b _ _ (passed_list c.args.work.now c.in_ok-passed.passed) c.in_ok-passed.ensures (search rules) (search rules)) (subst (λ z. ShowsAs returned_of g.P.Port.Tells (calls_of c.args.work.now c.args.calls c.args.nested c.args.sub (both_checked c.args.work.now c.args.both) (passed_list c.args.work.now z)) (Err c.in_err-returned.field-0.0) c.args.store.now c.call_checked.new.store) c.as_slice.ensures c.in_err-returned.ensures)
 
@@ -341,7 +353,13 @@ pub folds::fold_threads-returns-in_err-push_some : goal.folds::fold_threads-retu
 folds::fold_threads-returns-in_err-push_some g t c = threads_folded_as c.args.work.now c.args.calls c.args.by (chunking_of c.args.chunking) (course_of c.args.course) c.args.start (to_z w64 (of_z w64 c.args.start)) c.args.sizes.now (env_of c.args.env.now) _ c.args.store.now c.fold_thread.new.store (threads_fail (threads_folded c.args.work.now c.args.calls c.args.by (chunking_of c.args.chunking) (course_of c.args.course) (to_z w64 (of_z w64 c.args.start)) c.args.sizes.now (env_of c.args.env.now)) after_all (share_folded c.args.work.now c.args.calls c.args.by (chunking_of c.args.chunking) (course_of c.args.course) (to_z w64 (of_z w64 c.args.start)) (env_of c.args.env.now)) c.turns-from.result c.loop-size.most c.loop-size.k c.loop-size.first c.args.sizes.now c.loop-size.over c.loop-size.values c.args.store.now c.loop-size.store c.rewind.new.self c.loop-size.invariant c.in-Some.size (search rules) c.rewind.ensures folded_of c.fold_thread.new.store (λ (done : Unit {0}). Unit {0}) c.in_ok-folded.folded c.in_err-push_some.field-0.0 _ (search rules) c.in_err-push_some.ensures c.in_ok-folded.ensures) (search rules)
 
 pub texts::get-returns-in_err-write : goal.texts::get-returns-in_err-write
-texts::get-returns-in_err-write g t c = get_on c.args.work.now c.args.calls (env_of c.args.env.now) c.args.store.now c.write.new.self c.args.first c.args.root (selections_at (nodes_of c.args.work.now) c.args.selections) c.args.scalar (part_of c.variable_root.result) c.in_ok-part.part c.in_ok-value.value _ c.select.new.store c.get.new.self c.in_err-write.field-0.0 _ (search rules) c.variable_root.ensures c.in_ok-part.ensures c.in_ok-value.ensures (search rules) c.in_err-write.ensures (search rules)
+texts::get-returns-in_err-write g t c = get_ends c.args.work.now c.args.calls (env_of c.args.env.now) c.args.store.now c.write.new.self c.args.first c.args.root (selections_at (nodes_of c.args.work.now) c.args.selections) c.args.scalar (part_of c.variable_root.result) c.in_ok-part.part c.in_ok-value.value c.select.new.store c.get.new.self c.variable_root.ensures c.in_ok-part.ensures c.in_ok-value.ensures _ c.in_err-write.field-0.0 _ (search rules) (search rules) c.in_err-write.ensures (search rules)
+
+pub texts::get-returns-in_ok-write : goal.texts::get-returns-in_ok-write
+texts::get-returns-in_ok-write g t c = get_on c.args.work.now c.args.calls (env_of c.args.env.now) c.args.store.now c.write.new.self c.args.first c.args.root (selections_at (nodes_of c.args.work.now) c.args.selections) c.args.scalar (part_of c.variable_root.result) c.in_ok-part.part c.in_ok-value.value c.select.new.store c.get.new.self c.variable_root.ensures c.in_ok-part.ensures c.in_ok-value.ensures _ (Ok tt) (search rules) c.in_ok-write.ensures (search rules)
+
+pub texts::get-returns-else-is_in : goal.texts::get-returns-else-is_in
+texts::get-returns-else-is_in g t c = get_not c.args.work.now c.args.calls (env_of c.args.env.now) c.args.store.now c.get.new.self c.args.first c.args.root (selections_at (nodes_of c.args.work.now) c.args.selections) c.args.scalar (part_of c.variable_root.result) c.in_ok-part.part c.in_ok-value.value c.select.new.store c.get.new.self c.variable_root.ensures c.in_ok-part.ensures c.in_ok-value.ensures (search rules)
 
 pub loops::for_loop-returns-in-None : goal.loops::for_loop-returns-in-None
 loops::for_loop-returns-in-None g t c = let none : (course_of c.args.course).count ≡ 0 = search rules in for_done (for_loop c.args.work.now c.args.calls (course_of c.args.course) (iteration_at (nodes_of c.args.work.now) c.args.iteration) (stmts_at (nodes_of c.args.work.now) c.args.stmts) (env_of c.args.env.now)) c.args.store.now c.args.store.now c.args.work.now c.args.calls 0 (course_of c.args.course) (iteration_at (nodes_of c.args.work.now) c.args.iteration) (stmts_at (nodes_of c.args.work.now) c.args.stmts) (env_of c.args.env.now) (omega (arith, none)) (for_begins c.args.store.now c.args.work.now c.args.calls (course_of c.args.course) (iteration_at (nodes_of c.args.work.now) c.args.iteration) (stmts_at (nodes_of c.args.work.now) c.args.stmts) (env_of c.args.env.now))
@@ -362,7 +380,10 @@ pub folds::combined_two-returns-in-Function : goal.folds::combined_two-returns-i
 folds::combined_two-returns-in-Function g t c = combined_shows c.args.work.now c.args.calls c.args.by c.args.nested c.in-Function.at c.in-Function.sub c.in-Function.accumulator c.in-Function.value c.args.a c.args.b _ _ _ c.args.store.now c.combined_by_call.new.store (search rules) c.combined_by_call.ensures (search rules) (search rules)
 
 pub folds::fold_one-returns-in_err-total-in-Some : goal.folds::fold_one-returns-in_err-total-in-Some
-folds::fold_one-returns-in_err-total-in-Some g t c = fold_one_stops c.args.work.now c.args.calls c.args.by (env_of c.args.env.now).nested _ ((course_of c.args.course).bound c.args.index (env_of c.args.env.now)) (env_of c.in_ok-inner.inner) c.args.so_far c.in-Some.v _ _ c.in_ok-found.found c.in_err-total-in-Some.field-0.0 _ c.args.store.now c.iterated_value.new.store c.reduced.new.store (search rules) c.in_ok-found.ensures (search rules) c.in_err-total-in-Some.ensures c.in_ok-inner.ensures (search rules) (search rules) (search rules)
+folds::fold_one-returns-in_err-total-in-Some g t c = fold_one_stops c.args.work.now c.args.calls c.args.by (env_of c.args.env.now).nested _ ((course_of c.args.course).bound c.args.index (env_of c.args.env.now)) (env_of c.in_ok-inner.inner) c.args.so_far c.in-Some.v _ _ c.in_ok-found.found c.args.store.now c.iterated_value.new.store c.reduced.new.store c.in_ok-found.ensures (search rules) c.in_err-total-in-Some.field-0.0 _ (search rules) c.in_err-total-in-Some.ensures c.in_ok-inner.ensures (search rules) (search rules) (search rules)
+
+pub folds::fold_one-returns-in_ok-total-in-Some : goal.folds::fold_one-returns-in_ok-total-in-Some
+folds::fold_one-returns-in_ok-total-in-Some g t c = gives_as (fold_one c.args.work.now c.args.calls c.args.by (env_of c.args.env.now).nested ((course_of c.args.course).bound c.args.index (env_of c.args.env.now)) c.args.so_far) c.in_ok-total-in-Some.total _ c.args.store.now c.reduced.new.store (fold_one_on c.args.work.now c.args.calls c.args.by (env_of c.args.env.now).nested _ ((course_of c.args.course).bound c.args.index (env_of c.args.env.now)) (env_of c.in_ok-inner.inner) c.args.so_far c.in-Some.v _ _ c.in_ok-found.found c.args.store.now c.iterated_value.new.store c.reduced.new.store c.in_ok-found.ensures (search rules) (Ok c.in_ok-total-in-Some.total) c.in_ok-total-in-Some.ensures c.in_ok-inner.ensures (search rules) (search rules) (search rules)) (search rules)
 
 pub constructs::begin_chunks-returns-in_ok-chunking-in-Some-Each : goal.constructs::begin_chunks-returns-in_ok-chunking-in-Some-Each
 constructs::begin_chunks-returns-in_ok-chunking-in-Some-Each g t c = each_on c.args.work.now c.args.calls (env_of c.args.env.now) c.in-Some-Each.parameter (expr_at (nodes_of c.args.work.now) c.in-Some-Each.low) (expr_at (nodes_of c.args.work.now) c.in-Some-Each.high) c.check.result (chunk_at (nodes_of c.args.work.now) c.args.id) c.in_ok-l-in-Some-Each.l c.in_ok-h-in-Some-Each.h _ _ c.args.store.now c.eval-in-Some-Each.new.store c.eval-in-Some-Each-2.new.store (Ok c.in_ok-chunking-in-Some-Each.chunking) (search rules) c.in_ok-l-in-Some-Each.ensures c.in_ok-h-in-Some-Each.ensures c.in_ok-chunking-in-Some-Each.ensures (search rules) (search rules)
