@@ -6,7 +6,7 @@ use Rattle.behaviours.specs.Paths.{VariableOf}
 use Rattle.ada_typed.specs.declared.scalars.Scalar.{Scalar}
 use Rattle.ada_typed.specs.declared.scalars.Check.{Check}
 use Rattle.ada_typed.specs.declared.expressions.Root.{Root}
-use Rattle.ada_typed.specs.Syntax.{Expr, Optional, Selections, Index, Actuals, InOut, Iteration, Range, Stmt, Get, Value, Number, CompositeInOut, CompositeOut}
+use Rattle.ada_typed.specs.Syntax.{Expr, Optional, Selections, Index, Actuals, NoActual, In, InOut, Out, CompositeInOut, CompositeOut, Iteration, Range, Stmt, Get, Value, Number}
 use Rattle.ada_meaning.specs.Values.{is_in, count, between, to_nat}
 use Rattle.ada_meaning.specs.Operations.{IndexCheck, RangeCheck}
 use Rattle.ada_meaning.specs.Meaning as meaning
@@ -40,6 +40,26 @@ bounds_so w (Some c) low high e = go (int_le low high) (is_in c.scalar low && is
     go : (a b : Bool) → cond a b true ≡ true → cond a (checks RangeCheck c.at b) (ret tt) ≡ ret tt
     go true b e = rw e refl
     go false b e = refl
+
+-- the formal, the variable, the subtype and the rest where an array or record is copied back
+abbrev pub whole_of : Actuals → Option (ℕ × Root × Selections × ℕ × Actuals)
+whole_of (CompositeInOut formal at root ss subtype rest) = Some (formal, root, ss, subtype, rest)
+whole_of (CompositeOut formal at root ss subtype rest) = Some (formal, root, ss, subtype, rest)
+whole_of _ = None
+
+module _ (w : Work) (d : ℕ) (env : Env) (so_far : List meaning.Passed) where
+  abbrev passed_whole : Option (ℕ × Root × Selections × ℕ × Actuals) → Stored (List meaning.Passed)
+  passed_whole None = ret so_far
+  passed_whole (Some x) = walk.pass_whole w d x.0 x.1 x.2 x.3 x.4 env so_far
+
+  whole_as : (as' : Actuals) (formal : ℕ) (root : Root) (ss : Selections) (subtype : ℕ) (rest : Actuals) → whole_of as' ≡ Some (formal, root, ss, subtype, rest) → walk.pass w d as' env so_far ≡ walk.pass_whole w d formal root ss subtype rest env so_far
+  unfolding walk.select walk.pass read_all
+  whole_as NoActual formal root ss subtype rest e = cc
+  whole_as (In f v more) formal root ss subtype rest e = cc
+  whole_as (InOut f at r s i o more) formal root ss subtype rest e = cc
+  whole_as (Out f at r s i o more) formal root ss subtype rest e = cc
+  whole_as (CompositeInOut f at r s n more) formal root ss subtype rest e = ap passed_whole e
+  whole_as (CompositeOut f at r s n more) formal root ss subtype rest e = ap passed_whole e
 
 module _ {Tells : List ℕ → Outside → Type 0} (w : Work) (d : ℕ) (env : Env) (s t : Image) where
   pub index_as : (at : ℕ) (e : Expr) (low high a b : ℤ) (stride : ℕ) (rest ss : Selections) (p : meaning.Part) (r : Result Part End) → ShowsAs part_of Tells (walk.index w d at e a b stride rest env p) r s t → a ≡ low → b ≡ high → ss ≡ Index at e low high stride rest
@@ -89,15 +109,11 @@ module _ {Tells : List ℕ → Outside → Type 0} (w : Work) (d : ℕ) (env : E
         (subst (λ z. ShowsAs (passed_list w) Tells (on (part_of p) z) r u t) (e ∙ ap (λ z. z ∷ []) same)
         (subst (λ z. ShowsAs (passed_list w) Tells (walk.pass w d rest env z) r u t) f l))))
 
-  -- a whole variable that isn't passed
-  module _ (formal at : ℕ) (root : Root) (ss : Selections) (subtype : ℕ) (rest : Actuals) (so_far : List meaning.Passed) (y : End) (r : Result (List Passed) End) (as' : Actuals) (q : r ≡ Err y) (h : ShowsAs (passed_list w) Tells (walk.pass_whole w d formal root ss subtype rest env so_far) (Err y) s t) where
-    pub whole_in_out_ends : as' ≡ CompositeInOut formal at root ss subtype rest → ShowsAs (passed_list w) Tells (walk.pass w d as' env so_far) r s t
-    unfolding walk.select walk.pass read_all
-    whole_in_out_ends is = subst (λ z. ShowsAs (passed_list w) Tells (walk.pass w d as' env so_far) z s t) (sym q) (subst (λ z. ShowsAs (passed_list w) Tells (walk.pass w d z env so_far) (Err y) s t) (sym is) h)
-
-    pub whole_out_ends : as' ≡ CompositeOut formal at root ss subtype rest → ShowsAs (passed_list w) Tells (walk.pass w d as' env so_far) r s t
-    unfolding walk.select walk.pass read_all
-    whole_out_ends is = subst (λ z. ShowsAs (passed_list w) Tells (walk.pass w d as' env so_far) z s t) (sym q) (subst (λ z. ShowsAs (passed_list w) Tells (walk.pass w d z env so_far) (Err y) s t) (sym is) h)
+  -- a whole variable, or what is behind it, that isn't passed
+  pub whole_ends : (formal : ℕ) (root : Root) (ss : Selections) (subtype : ℕ) (rest : Actuals) (so_far : List meaning.Passed) (y : End) (r : Result (List Passed) End) (as' : Actuals) → r ≡ Err y → ShowsAs (passed_list w) Tells (walk.pass_whole w d formal root ss subtype rest env so_far) (Err y) s t
+      → whole_of as' ≡ Some (formal, root, ss, subtype, rest) → ShowsAs (passed_list w) Tells (walk.pass w d as' env so_far) r s t
+  whole_ends formal root ss subtype rest so_far y r as' q h is =
+      subst (λ z. ShowsAs (passed_list w) Tells (walk.pass w d as' env so_far) z s t) (sym q) (same_shows (passed_list w) (walk.pass w d as' env so_far) (walk.pass_whole w d formal root ss subtype rest env so_far) (Err y) s t (whole_as w d env so_far as' formal root ss subtype rest is) h)
 
   -- a range whose bounds are in its subtype
   pub range_holds : (k : ℕ) (reverse : Bool) (low high : Expr) (check : Option Check) (filter : Optional) (it : Iteration) (l h : ℤ) (range : code.Range) (u : Image) → Shows Tells (walk.eval w d low env) (Ok l) s u → Shows Tells (walk.eval w d high env) (Ok h) u t

@@ -19,8 +19,8 @@ use Rattle.ada_interpreter.proofs.Scoping.{body_as, call_ends, call_step, called
 use Rattle.ada_interpreter.proofs.Handling.{caught_shows, chosen_some, chosen_none, guarded_other, guarded_some, guarded_none, alternative_some, alternative_none}
 use Rattle.ada_interpreter.proofs.Folding.{folds_begin, gives_as, onto_as, share_folded_as, threads_folded_as, fold_one_on, fold_one_stops, fold_step, fold_ends, fold_done, fold_none, fold_as, fold_fails, fold_share_none, fold_share_on, fold_share_ends, onto_step, onto_ends, onto_done}
 use Rattle.ada_typed.specs.Chained.{right_of}
-use Rattle.ada_interpreter.proofs.Chaining.{stands_begins, first_ends, stands_step, stands_ends, stands_done, all_below, last_below, operated}
-use Rattle.ada_interpreter.proofs.Forms.{index_as, index_on, index_ends, in_out_as, in_out_ends, in_out_on, range_holds, number_gives, number_ends, get_on, get_ends, get_not, get_shows, whole_in_out_ends}
+use Rattle.ada_interpreter.proofs.Chaining.{operated, stands_begins, first_ends, stands_step, stands_ends, stands_done, all_below, last_below}
+use Rattle.ada_interpreter.proofs.Forms.{whole_ends, index_as, index_on, index_ends, in_out_as, in_out_ends, in_out_on, range_holds, number_gives, number_ends, get_on, get_ends, get_not, get_shows}
 use Rattle.ada_interpreter.proofs.Threading.{thread_gives, thread_spent, thread_left, threads_more, threads_end, threads_fail, threads_joined, threads_spent, spent_as, gathered_none}
 use Rattle.ada_interpreter.proofs.Dealing.{threads_on, threads_ends, count_on, count_ends, loops_begin, each_on, each_ends, dealt_loop_shows, dealt_arms_shows, dealt_arms_ends, parallel_for_ends, parallel_for_on, parallel_for_stops, parallel_block_ends, parallel_block_on, parallel_block_stops, chunked_loop_on, chunked_loop_stops, chunked_loop_many, turn_none, turn_some, turn_ends, reduction_shows, parallel_reduction_shows, parallel_reduction_ends, parallel_reduction_on, parallel_reduction_stops, chunked_fold_on, chunked_fold_stops, chunked_fold_many, chunked_fold_ends, dealt_fold_ends, dealt_fold_on, dealt_fold_stops, share_begins, share_step, share_ends, share_done}
 use Rattle.ada_interpreter.specs.declared.constructs.Task.TheVariants as task
@@ -407,7 +407,7 @@ pub stmts::exec-returns-in-Get : goal.stmts::exec-returns-in-Get
 stmts::exec-returns-in-Get g t c = get_shows c.args.work.now c.args.calls (env_of c.args.env.now) c.args.store.now c.get.new.store (stmt_at (nodes_of c.args.work.now) c.args.id) c.in-Get.at c.in-Get.callee c.in-Get.first c.in-Get.root (selections_at (nodes_of c.args.work.now) c.in-Get.selections) c.in-Get.scalar _ (search rules) c.get.ensures
 
 pub actuals::pass-returns-in_err-all-in-Some-CompositeInOut : goal.actuals::pass-returns-in_err-all-in-Some-CompositeInOut
-actuals::pass-returns-in_err-all-in-Some-CompositeInOut g t c = whole_in_out_ends c.args.work.now c.args.calls (env_of c.args.env.now) c.args.store.now c.pass_whole.new.store c.in-Some-CompositeInOut.match-this-own.zzz c.in-Some-CompositeInOut.field-0-1 c.in-Some-CompositeInOut.root (selections_at (nodes_of c.args.work.now) c.in-Some-CompositeInOut.selections) c.in-Some-CompositeInOut.subtype (actuals_at (nodes_of c.args.work.now) c.in-Some.cell.rest) (passed_list c.args.work.now c.args.passed) c.in_err-all-in-Some-CompositeInOut.field-0.0 _ (actuals_at (nodes_of c.args.work.now) c.args.id) (search rules) c.in_err-all-in-Some-CompositeInOut.ensures (search rules)
+actuals::pass-returns-in_err-all-in-Some-CompositeInOut g t c = whole_ends c.args.work.now c.args.calls (env_of c.args.env.now) c.args.store.now c.pass_whole.new.store c.in-Some-CompositeInOut.match-this-own.formal c.in-Some-CompositeInOut.match-this-own.root (selections_at (nodes_of c.args.work.now) c.in-Some-CompositeInOut.match-this-own.selections) c.in-Some-CompositeInOut.match-this-own.subtype (actuals_at (nodes_of c.args.work.now) c.in-Some.cell.rest) (passed_list c.args.work.now c.args.passed) c.in_err-all-in-Some-CompositeInOut.field-0.0 _ (actuals_at (nodes_of c.args.work.now) c.args.id) (search rules) c.in_err-all-in-Some-CompositeInOut.ensures (search rules)
 
 pub actuals::pass_in_out-returns-in_ok-all : goal.actuals::pass_in_out-returns-in_ok-all
 actuals::pass_in_out-returns-in_ok-all g t c = in_out_on c.args.work.now c.args.calls (env_of c.args.env.now) c.args.store.now c.pass_rest.new.store c.args.formal c.args.at c.args.root (selections_at (nodes_of c.args.work.now) c.args.selections) c.args.inside c.args.outside (actuals_at (nodes_of c.args.work.now) c.args.rest) (passed_list c.args.work.now c.args.passed) (Ok c.in_ok-all.all) (part_of c.variable_root.result) c.in_ok-part.part c.in_ok-value.value _ c.in_ok-values.values (passed_list c.args.work.now c.in_ok-more.more) c.select.new.store c.in_ok-part.ensures c.variable_root.ensures c.in_ok-value.ensures (search rules) c.in_ok-values.ensures (search rules) c.in_ok-more.ensures c.in_ok-all.ensures
