@@ -3,8 +3,8 @@
 ghost use Rattle.std.specs.Prelude.{◌≡◌};
 ghost use Rattle.ada_typed.specs.Decoded.{as_decl, as_piece, decls_at, part_at, pieces_at};
 ghost use Rattle.ada_typed.specs.Syntax.{Decls, Pieces};
-ghost use Rattle.ada_nonblock.specs.First as spec;
-ghost use Rattle.ada_nonblock.specs.Words.{rule_of};
+ghost use Rattle.blocking_calls.specs.First as spec;
+ghost use Rattle.blocking_calls.specs.Words.{rule_of};
 
 use crate::calls::Breach;
 use crate::exprs::{expr, exprs, value};

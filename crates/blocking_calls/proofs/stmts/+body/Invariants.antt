@@ -1,8 +1,8 @@
 use Rattle.std.proofs.Common.{◌≡◌, ◌+◌, ◌*◌, ◌≤◌, max}
 use Rattle.ada_typed.specs.Decoded.{alternatives_at, arms_at, handlers_at, stmt_at, stmts_at}
-use Rattle.ada_nonblock.specs.First.{first_alternatives, first_arms, first_handlers, first_stmt, first_stmts}
-use Rattle.ada_nonblock.specs.Words.{rule_of, stmt_left, IsWithin, rest_size}
-use Rattle.ada_nonblock.proofs.stmts.+body.Given as goal
+use Rattle.blocking_calls.specs.First.{first_alternatives, first_arms, first_handlers, first_stmt, first_stmts}
+use Rattle.blocking_calls.specs.Words.{rule_of, stmt_left, IsWithin, rest_size}
+use Rattle.blocking_calls.proofs.stmts.+body.Given as goal
 
 -- Numbers of nodes, then the order in which functions that go by one node call each other.
 

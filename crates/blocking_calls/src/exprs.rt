@@ -3,8 +3,8 @@
 ghost use Rattle.std.specs.Prelude.{◌≡◌, ◌<◌};
 ghost use Rattle.ada_typed.specs.Decoded.{actuals_at, as_actual, as_association, as_selection, associations_at, chunk_at, composite_at, expr_at, exprs_at, iteration_at, optional_at, part_at, selections_at, value_at};
 ghost use Rattle.ada_typed.specs.Syntax.{Actuals, Associations, Selections};
-ghost use Rattle.ada_nonblock.specs.First as spec;
-ghost use Rattle.ada_nonblock.specs.Words.{rule_of, expr_left, composite_left, inside, IsBelow};
+ghost use Rattle.blocking_calls.specs.First as spec;
+ghost use Rattle.blocking_calls.specs.Words.{rule_of, expr_left, composite_left, inside, IsBelow};
 
 use crate::calls::{Breach, Step, call, left, reducer, whole};
 use ada_typed::{Actual, Chunk, Composite, Expr, Iteration, Selection, Typed, Value};

@@ -3,8 +3,8 @@
 ghost use Rattle.std.specs.Prelude.{◌≡◌, ◌<◌, MatchOption};
 ghost use Rattle.ada_typed.specs.Decoded.{alternatives_at, arms_at, as_alternative, as_handler, decls_at, handlers_at, part_at, stmt_at, stmts_at};
 ghost use Rattle.ada_typed.specs.Syntax.{Alternatives, End, Handlers, Then};
-ghost use Rattle.ada_nonblock.specs.First as spec;
-ghost use Rattle.ada_nonblock.specs.Words.{rule_of, stmt_left, IsBelow};
+ghost use Rattle.blocking_calls.specs.First as spec;
+ghost use Rattle.blocking_calls.specs.Words.{rule_of, stmt_left, IsBelow};
 
 use crate::calls::{Breach, Step, call, left, port, whole};
 use crate::exprs::{actuals, chunk, expr, exprs, iteration, optional, selections, value};

@@ -7,7 +7,7 @@ use Rattle.ada_typed.specs.declared.program.Sub as tree-sub
 use Rattle.ada_typed.specs.Programs.{program, sub_of}
 use Rattle.ada_typed.specs.Decoded.{Part, as_expr, as_optional, AnExpr}
 use Rattle.ada_meaning.specs.Nonblocking.{nonblocking_of}
-use Rattle.ada_nonblock.specs.Words.{rule_of}
+use Rattle.blocking_calls.specs.Words.{rule_of}
 
 abbrev of_found : Option Sub → Bool
 of_found None = false

@@ -1,5 +1,5 @@
-use Rattle.ada_nonblock.proofs.Reading.{rule_none, rule_some}
-use Rattle.ada_nonblock.proofs.calls.is_nonblocking.Goals as goal
+use Rattle.blocking_calls.proofs.Reading.{rule_none, rule_some}
+use Rattle.blocking_calls.proofs.calls.is_nonblocking.Goals as goal
 
 pub returns-in-None : goal.returns-in-None
 returns-in-None c = rule_none c.args.typed.now c.args.sub c.in-None.ensures

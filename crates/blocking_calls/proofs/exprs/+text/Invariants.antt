@@ -1,8 +1,8 @@
 use Rattle.std.proofs.Common.{◌≡◌, ◌+◌, ◌*◌, ◌≤◌, max}
 use Rattle.ada_typed.specs.Decoded.{actuals_at, associations_at, composite_at, expr_at, exprs_at, selections_at}
-use Rattle.ada_nonblock.specs.First.{first_actuals, first_associations, first_composite, first_expr, first_exprs, first_selections}
-use Rattle.ada_nonblock.specs.Words.{rule_of, expr_left, composite_left, IsWithin, rest_size}
-use Rattle.ada_nonblock.proofs.exprs.+text.Given as goal
+use Rattle.blocking_calls.specs.First.{first_actuals, first_associations, first_composite, first_expr, first_exprs, first_selections}
+use Rattle.blocking_calls.specs.Words.{rule_of, expr_left, composite_left, IsWithin, rest_size}
+use Rattle.blocking_calls.proofs.exprs.+text.Given as goal
 
 -- Numbers of nodes, then the order in which functions that go by one node call each other.
 

@@ -4,8 +4,8 @@ use Rattle.ada_typed.specs.declared.typed.Typed.{Typed}
 use Rattle.ada_typed.specs.Decoded.{expr_at, composite_at, stmt_at}
 use Rattle.ada_typed.specs.Programs.{program}
 use Rattle.ada_meaning.specs.Nonblocking.{nonblocking_of}
-use Rattle.ada_nonblock.specs.First.{first_expr, first_composite, first_stmt}
-use Rattle.ada_nonblock.specs.declared.calls.Breach.{Breach}
+use Rattle.blocking_calls.specs.First.{first_expr, first_composite, first_stmt}
+use Rattle.blocking_calls.specs.declared.calls.Breach.{Breach}
 
 -- which subprograms are nonblocking
 unfoldable pub rule_of : Typed → ℕ → Bool
