@@ -1,11 +1,11 @@
 ghost use Rattle.ada_base.specs.Input.{Nothing};
-ghost use Rattle.std.specs.Prelude.{◌≡◌};
+ghost use Rattle.std.specs.Prelude.{◌≡◌, []};
 ghost use Rattle.ada_io.specs.Gets.{Gets};
 
 use crate::asking::{Looked, look};
 use crate::phases::{Outcome, Phase, step};
 use ada_base::Reason;
-use ada_port::Source;
+use ada_port::{Log, Source};
 use std::marker::Model;
 
 /// How a Get ends (A.10.8).
@@ -38,48 +38,51 @@ pub(crate) enum Holding {
 }
 
 /// Reads integers from a source, one after the other. Contracts see what it holds for the next Get: nothing, or the byte
-/// or end of the input that was looked at last.
+/// or end of the input that was looked at last; and all the bytes that came so far.
 #[derive(Drop)]
 pub struct Reader {
     held: Holding,
+    log: Log,
 }
 
 impl Model for Reader {
-    ghost use Rattle.ada_base.specs.Input.{Held};
+    ghost use Rattle.ada_io.specs.Gets.{ReaderState};
     ghost use Rattle.ada_io.specs.Phases.{held_of};
 
-    ghost Value = { Held };
+    ghost Value = { ReaderState };
 
-    ghost view = { λ reader. held_of reader.held };
+    ghost view = { λ reader. record { held = held_of reader.held; came = reader.log.bytes } };
 }
 
 impl Reader {
-    /// A reader that holds nothing yet.
+    /// A reader that holds nothing yet, and to which nothing came.
     pub fn new() -> Reader
-        ensures { result ≡ Nothing }
+        ensures { result ≡ record { held = Nothing; came = [] } }
     {
         Reader {
             held: Holding::Nothing,
+            log: Log::new(),
         }
     }
 
     /// Reads an integer as Get does (A.10.8): blanks, a sign if there is one, and the longest run of digits with single
     /// underscores between them. What ends the run is held for the next Get. Each asking of the source takes a turn. Once
     /// the end was met the source isn't asked again. `ReadFault` comes only where the source's count of faults rose, and
-    /// `Spent` exactly where `turns_left` turns were taken and one more is needed; both leave what is held.
+    /// `Spent` exactly where `turns_left` turns were taken and one more is needed; both leave what is held. The bytes that
+    /// come are added to those that came before.
     pub fn get<S: Source>(&mut self, source: &mut S, turns_left: u64) -> Got
         ensures { Gets (S.state source.old) (S.state source.new) self.old self.new turns_left result }
     {
         let mut phase = Phase::Blanks;
-        let mut held = self.held;
+        let mut at = self.held;
         let mut took = 0;
         let mut came = 0;
         loop {
-            match look(held, source, turns_left, &mut took, &mut came) {
+            match look(at, source, turns_left, &mut took, &mut came, &mut self.log) {
                 Looked::At(symbol) => match step(phase, symbol) {
                     Outcome::Asks(later) => {
                         phase = later;
-                        held = Holding::Nothing;
+                        at = Holding::Nothing;
                     }
                     Outcome::Gives(value) => {
                         self.held = Holding::Symbol(symbol);

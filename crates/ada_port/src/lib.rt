@@ -4,6 +4,7 @@
 
 mod counts;
 pub mod files;
+pub mod log;
 pub mod ports;
 pub mod pulses;
 pub mod shelves;
@@ -12,6 +13,7 @@ pub mod sources;
 pub mod streams;
 
 pub use files::FileShelf;
+pub use log::Log;
 pub use ports::{Failed, Pulse, Shelf, ShelfFault, Sink, Source};
 pub use pulses::Quiet;
 pub use shelves::{MemShelf, ShelfText, SureShelf};
