@@ -3,12 +3,12 @@ use Rattle.std.proofs.Common.{◌≡◌, Bool, true, false, Some, None, Result, 
 use Rattle.ada_typed.specs.Syntax.{Program}
 use Rattle.ada_effects.specs.Backwards.{CallsBackwards}
 use Rattle.ada_effects.specs.Conflicts.{IsStrict}
-use Rattle.effect_inference.specs.declared.effects.Effects.{Effects}
+use Rattle.effect_clashes.specs.declared.effects.Effects.{Effects}
 use Rattle.effect_inference.specs.Exact.{AreEffects}
-use Rattle.ada_conflict.specs.declared.faults.Pair.{Pair}
+use Rattle.effect_clashes.specs.declared.breaches.Pair.{Pair}
 use Rattle.ada_conflict.specs.declared.faults.ConflictFault.{ConflictFault}
 use Rattle.ada_conflict.specs.declared.faults.ConflictFault.TheVariants as fault
-use Rattle.ada_conflict.specs.Breaches.{touched_by, clash_by}
+use Rattle.effect_clashes.specs.Breaches.{touched_by, clash_by}
 use Rattle.ada_conflict.specs.Answer.{Answers, IsLeastTouched, TouchedFound, ClashFound, FoundLaw}
 use Rattle.ada_conflict.specs.Judged.{Judges}
 

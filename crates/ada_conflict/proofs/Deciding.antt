@@ -6,11 +6,11 @@ use Rattle.ada_typed.specs.Syntax.{Program}
 use Rattle.ada_effects.specs.Effects as law
 use Rattle.ada_effects.specs.Effects.{Construct, LoopOf, BlockOf, ReductionOf}
 use Rattle.ada_effects.specs.Conflicts.{EffectPath, path_of, Differ, SomeDiffer, ArePathsSeparated, AreSeparated, IsParameter, HasParameter, Exempt, Compared}
-use Rattle.effect_inference.specs.declared.effects.Path.{Path}
-use Rattle.effect_inference.specs.declared.effects.Selector.{Selector}
-use Rattle.effect_inference.specs.declared.effects.Selector.TheVariants.{Field, Fixed, Loop, Chunk, Any}
+use Rattle.effect_clashes.specs.declared.effects.Path.{Path}
+use Rattle.effect_clashes.specs.declared.effects.Selector.{Selector}
+use Rattle.effect_clashes.specs.declared.effects.Selector.TheVariants.{Field, Fixed, Loop, Chunk, Any}
 use Rattle.effect_inference.specs.Exact.{plain, effect_path, OfThread, is_block}
-use Rattle.ada_conflict.specs.Breaches.{is_parameter, has_parameter, is_exempt, differ, some_differ, are_separated, are_compared}
+use Rattle.effect_clashes.specs.Breaches.{is_parameter, has_parameter, is_exempt, differ, some_differ, are_separated, are_compared}
 
 never : Decides false ⊥
 never = (λ e. true≢false (sym e), λ h. absurd h)

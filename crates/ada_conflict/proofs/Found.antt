@@ -5,16 +5,16 @@ use Rattle.ada_typed.specs.Syntax.{Program}
 use Rattle.ada_effects.specs.Effects as law
 use Rattle.ada_effects.specs.Effects.{Construct, Holds, InThread, InFront, IsEffect}
 use Rattle.ada_effects.specs.Conflicts.{EffectPath, path_of, Exempt, Clashes, ClashPair, GlobalTouched, InProgram, IsThreadEffect}
-use Rattle.effect_inference.specs.declared.effects.Access.{Access}
-use Rattle.effect_inference.specs.declared.effects.Access.TheVariants.{Read, Write, Update}
-use Rattle.effect_inference.specs.declared.effects.Effects.{Effects}
-use Rattle.effect_inference.specs.declared.effects.SiteEffects.{SiteEffects}
-use Rattle.effect_inference.specs.declared.effects.Touch.{Touch}
+use Rattle.effect_clashes.specs.declared.effects.Access.{Access}
+use Rattle.effect_clashes.specs.declared.effects.Access.TheVariants.{Read, Write, Update}
+use Rattle.effect_clashes.specs.declared.effects.Effects.{Effects}
+use Rattle.effect_clashes.specs.declared.effects.SiteEffects.{SiteEffects}
+use Rattle.effect_clashes.specs.declared.effects.Touch.{Touch}
 use Rattle.effect_inference.specs.Exact.{IsIn, effect_path, Includes, OfThread, TellsSite, AreEffects}
-use Rattle.ada_conflict.specs.declared.faults.Pair.{Pair}
+use Rattle.effect_clashes.specs.declared.breaches.Pair.{Pair}
 use Rattle.ada_conflict.specs.Answer.{TouchedFound, ClashFound, FoundLaw}
-use Rattle.ada_conflict.specs.Breaches.{is_exempt, writes, are_compared, are_separated, do_clash, in_order, touched_of, clash_of}
-use Rattle.ada_conflict.specs.Called.{effects_in}
+use Rattle.effect_clashes.specs.Breaches.{is_exempt, writes, are_compared, are_separated, do_clash, in_order, touched_of, clash_of}
+use Rattle.effect_clashes.specs.Called.{effects_in}
 use Rattle.ada_conflict.proofs.Told.{Told}
 use Rattle.ada_conflict.proofs.Telling.{threads_told, front_told}
 use Rattle.ada_conflict.proofs.Least.{AtMost, States, IsFound, below, reached_touched_of, stated_touched_of, reached_clash_of, stated_clash_of}

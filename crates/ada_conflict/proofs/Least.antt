@@ -1,14 +1,14 @@
 -- What is found is the least of the pairs that were put in.
 use Rattle.std.proofs.Common.{◌≡◌, ◌≤◌, ℕ, List, [], ◌∷◌, Option, Some, None, inl, inr, ◌⊎◌, Bool, true, false, cond, refl, sym, subst, arith}
 use Rattle.std.proofs.lemmas.Bool.Decides.{nat_tests}
-use Rattle.effect_inference.specs.declared.effects.SiteEffects.{SiteEffects}
-use Rattle.effect_inference.specs.declared.effects.Touch.{Touch}
-use Rattle.effect_inference.specs.declared.effects.Uses.{Uses}
+use Rattle.effect_clashes.specs.declared.effects.SiteEffects.{SiteEffects}
+use Rattle.effect_clashes.specs.declared.effects.Touch.{Touch}
+use Rattle.effect_clashes.specs.declared.effects.Uses.{Uses}
 use Rattle.effect_inference.specs.Exact.{IsIn}
-use Rattle.ada_conflict.specs.declared.faults.Pair.{Pair}
+use Rattle.effect_clashes.specs.declared.breaches.Pair.{Pair}
 use Rattle.ada_conflict.specs.Answer.{IsNotAfter}
-use Rattle.ada_conflict.specs.Breaches.{is_before, least, is_exempt, least_touched, touched_in, touched_of, writes, do_clash, in_order, least_with, least_clash, clash_in, clash_of}
-use Rattle.ada_conflict.specs.Called.{effects_in}
+use Rattle.effect_clashes.specs.Breaches.{is_before, least, is_exempt, least_touched, touched_in, touched_of, writes, do_clash, in_order, least_with, least_clash, clash_in, clash_of}
+use Rattle.effect_clashes.specs.Called.{effects_in}
 
 -- what is found doesn't stand behind this pair
 abbrev pub AtMost : Option Pair → ℕ → ℕ → Type 0

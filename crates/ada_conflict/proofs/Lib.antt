@@ -4,5 +4,4 @@ pub mod Telling
 pub mod Least
 pub mod Deciding
 pub mod Found
-pub mod Steps
 pub mod Answered

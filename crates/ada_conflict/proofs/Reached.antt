@@ -3,10 +3,10 @@ use Rattle.std.proofs.Common.{◌≡◌, ◌<◌, ◌≤◌, ℕ, zero, suc, Lis
 use Rattle.std.proofs.lemmas.List.{length-replicate}
 use Rattle.std.proofs.lemmas.Bool.{cases_eq, cond_both}
 use Rattle.std.proofs.lemmas.Bool.Decides.{nat_tests}
-use Rattle.effect_inference.specs.declared.effects.Call.{Call}
-use Rattle.effect_inference.specs.declared.effects.Uses.{Uses}
+use Rattle.effect_clashes.specs.declared.effects.Call.{Call}
+use Rattle.effect_clashes.specs.declared.effects.Uses.{Uses}
 use Rattle.effect_inference.specs.Exact.{IsIn}
-use Rattle.ada_conflict.specs.Called.{least_token, lowered, with_calls, spread, spread_of, spread_all, reached}
+use Rattle.effect_clashes.specs.Called.{least_token, lowered, with_calls, spread, spread_of, spread_all, reached}
 
 -- ---- lists
 

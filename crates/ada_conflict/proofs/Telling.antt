@@ -7,12 +7,12 @@ use Rattle.ada_meaning.specs.Meaning.{sub_at}
 use Rattle.ada_effects.specs.Backwards.{CallsBackwards}
 use Rattle.ada_effects.specs.Effects.{Access, Item, Touches, Calls, InFront, InSub, InCallee, Chain, IsEffect}
 use Rattle.ada_effects.specs.Conflicts.{path_of}
-use Rattle.effect_inference.specs.declared.effects.Call.{Call}
-use Rattle.effect_inference.specs.declared.effects.Effects.{Effects}
-use Rattle.effect_inference.specs.declared.effects.Touch.{Touch}
-use Rattle.effect_inference.specs.declared.effects.Uses.{Uses}
+use Rattle.effect_clashes.specs.declared.effects.Call.{Call}
+use Rattle.effect_clashes.specs.declared.effects.Effects.{Effects}
+use Rattle.effect_clashes.specs.declared.effects.Touch.{Touch}
+use Rattle.effect_clashes.specs.declared.effects.Uses.{Uses}
 use Rattle.effect_inference.specs.Exact.{IsIn, effect_path, Includes, Tells, OfThread, AreEffects}
-use Rattle.ada_conflict.specs.Called.{reached, moved, with_called, arm_bound, with_arms, effects_in}
+use Rattle.effect_clashes.specs.Called.{reached, moved, with_called, arm_bound, with_arms, effects_in}
 use Rattle.ada_conflict.proofs.Reached.{get_within, AtMost, Justified, GoBackwards, LeadsOn, reached_told, reached_low, reached_closed}
 use Rattle.ada_conflict.proofs.Told.{ToldLaw, ThreadsLaw, FrontLaw}
 

@@ -4,12 +4,12 @@ use Rattle.ada_typed.specs.Syntax.{Program}
 use Rattle.ada_effects.specs.Backwards.{CallsBackwards}
 use Rattle.ada_effects.specs.Effects.{Access, Construct, Item, InThread, InFront, IsEffect}
 use Rattle.ada_effects.specs.Conflicts.{path_of}
-use Rattle.effect_inference.specs.declared.effects.Effects.{Effects}
-use Rattle.effect_inference.specs.declared.effects.SiteEffects.{SiteEffects}
-use Rattle.effect_inference.specs.declared.effects.Touch.{Touch}
-use Rattle.effect_inference.specs.declared.effects.Uses.{Uses}
+use Rattle.effect_clashes.specs.declared.effects.Effects.{Effects}
+use Rattle.effect_clashes.specs.declared.effects.SiteEffects.{SiteEffects}
+use Rattle.effect_clashes.specs.declared.effects.Touch.{Touch}
+use Rattle.effect_clashes.specs.declared.effects.Uses.{Uses}
 use Rattle.effect_inference.specs.Exact.{IsIn, effect_path, Includes, Tells, OfThread, TellsSite, AreEffects}
-use Rattle.ada_conflict.specs.Called.{effects_in}
+use Rattle.effect_clashes.specs.Called.{effects_in}
 
 module _ (program : Program) where
   -- what is found of a text whose threads have those items by their number; all have the same where it is no block

@@ -4,12 +4,12 @@ use Rattle.ada_typed.specs.Syntax.{Program}
 use Rattle.ada_effects.specs.Backwards.{CallsBackwards}
 use Rattle.ada_effects.specs.Effects.{Construct, Holds}
 use Rattle.ada_effects.specs.Conflicts.{InProgram, IsStrict, GlobalTouched, Clashes, ClashPair}
-use Rattle.effect_inference.specs.declared.effects.Effects.{Effects}
+use Rattle.effect_clashes.specs.declared.effects.Effects.{Effects}
 use Rattle.effect_inference.specs.Exact.{AreEffects}
-use Rattle.ada_conflict.specs.declared.faults.Pair.{Pair}
+use Rattle.effect_clashes.specs.declared.breaches.Pair.{Pair}
 use Rattle.ada_conflict.specs.declared.faults.ConflictFault.{ConflictFault}
 use Rattle.ada_conflict.specs.declared.faults.ConflictFault.TheVariants as fault
-use Rattle.ada_conflict.specs.Breaches.{touched_by, clash_by}
+use Rattle.effect_clashes.specs.Breaches.{touched_by, clash_by}
 
 -- one pair of numbers doesn't stand behind another
 abbrev pub IsNotAfter : ℕ → ℕ → ℕ → ℕ → Type 0

@@ -1,9 +1,9 @@
 -- What is answered by what is found.
 use Rattle.std.specs.Prelude.{◌≡◌, Bool, Some, None, Result, Ok, Err}
-use Rattle.effect_inference.specs.declared.effects.Effects.{Effects}
+use Rattle.effect_clashes.specs.declared.effects.Effects.{Effects}
 use Rattle.ada_conflict.specs.declared.faults.ConflictFault.{ConflictFault}
 use Rattle.ada_conflict.specs.declared.faults.ConflictFault.TheVariants as fault
-use Rattle.ada_conflict.specs.Breaches.{touched_by, clash_by}
+use Rattle.effect_clashes.specs.Breaches.{touched_by, clash_by}
 
 -- The strict rule first, where it is asked for.
 abbrev pub Judges : Bool → Effects → Result (Unit {0}) ConflictFault → Type 0

@@ -1,5 +1,2 @@
-pub mod Called
-pub mod Touching
-pub mod Breaches
 pub mod Answer
 pub mod Judged

@@ -6,10 +6,10 @@ ghost use Rattle.effect_inference.specs.Exact.{AreEffects};
 ghost use Rattle.ada_conflict.specs.Answer.{Answers};
 ghost use Rattle.ada_conflict.specs.Judged.{Judges};
 
-use crate::breaches::{clash_by, touched_by};
-use crate::faults::{ConflictFault, Pair};
+use crate::faults::ConflictFault;
 use ada_typed::Typed;
-use effect_inference::effects::Effects;
+use effect_clashes::breaches::{Pair, clash_by, touched_by};
+use effect_clashes::effects::Effects;
 use std::alloc::Global;
 
 /// Judges effects by the strict rule, where it is asked for, and then by the disjoint rule.

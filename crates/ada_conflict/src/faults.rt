@@ -1,12 +1,5 @@
 //! How the rules on conflicts are broken (9.10.1).
 
-/// Two tokens, or a token and an object.
-#[derive(Clone, Copy)]
-pub struct Pair {
-    pub first: u32,
-    pub second: u32,
-}
-
 /// How the rules on conflicts are broken.
 /// - GlobalTouched: the strict rule is asked for and broken: the least token at which a parallel construct touches a
 ///   variable that is declared outside it, without its own parameter as an index; and the least number of such an object

@@ -2,7 +2,4 @@
 #![tactic(auto)]
 
 pub mod accept;
-pub mod breaches;
-pub mod called;
-pub mod effects;
 pub mod faults;

@@ -4,14 +4,15 @@ ghost use Rattle.std.specs.Prelude.{◌≡◌, not, ◌&&◌, map};
 ghost use Rattle.ada_typed.specs.Decoded.{body_at};
 ghost use Rattle.ada_typed.specs.Programs.{program, sub_of};
 ghost use Rattle.ada_nonblock.specs.Answer.{Answers};
-ghost use Rattle.ada_nonblock.specs.First as spec;
-ghost use Rattle.ada_nonblock.specs.Words.{rule_of};
+ghost use Rattle.blocking_calls.specs.First as spec;
+ghost use Rattle.blocking_calls.specs.Words.{rule_of};
 
-use crate::calls::{Blocked, Breach};
-use crate::stmts::block;
+use crate::calls::Blocked;
 use ada_typed::{Sub, Typed};
+use blocking_calls::calls::Breach;
+use blocking_calls::stmts::block;
 
-#[tactic(auto, unfolding(crate::specs::First::first_body, crate::specs::First::first_decls, crate::specs::First::first_stmts, crate::specs::First::first_handlers))]
+#[tactic(auto, unfolding(blocking_calls::specs::First::first_body, blocking_calls::specs::First::first_decls, blocking_calls::specs::First::first_stmts, blocking_calls::specs::First::first_handlers))]
 fn body(typed: &Typed, id: u32, blocking: bool, found: Option<Breach>) -> Option<Breach>
     ensures { result ≡ spec.first_body (rule_of typed.now) (body_at typed.now.nodes id) blocking found }
 {
@@ -29,7 +30,7 @@ fn body(typed: &Typed, id: u32, blocking: bool, found: Option<Breach>) -> Option
 }
 
 /// Subprograms.
-#[tactic(auto, unfolding(crate::specs::First::first_subs))]
+#[tactic(auto, unfolding(blocking_calls::specs::First::first_subs))]
 fn subs(typed: &Typed, from: &[Sub], found: Option<Breach>) -> Option<Breach>
     ensures { result ≡ spec.first_subs (rule_of typed.now) typed.now.nonblocking (map (sub_of typed.now.nodes) from.now) found }
 {
@@ -43,7 +44,7 @@ fn subs(typed: &Typed, from: &[Sub], found: Option<Breach>) -> Option<Breach>
 }
 
 /// The first call that breaks the rule.
-#[tactic(auto, unfolding(crate::specs::First::first_of, crate::specs::Words::rule_of))]
+#[tactic(auto, unfolding(blocking_calls::specs::First::first_of, blocking_calls::specs::Words::rule_of))]
 fn first(typed: &Typed) -> Option<Breach>
     ensures { result ≡ spec.first_of (program typed.now) }
 {

@@ -1,5 +1,5 @@
 -- A shelf in memory.
-use Rattle.std.specs.Prelude.{ℕ, Bool, List, Option, Some, Result, Ok, Err, ◌==◌, ◌||◌, is_none, find, option_map, string_bytes}
+use Rattle.std.specs.Prelude.{ℕ, Bool, List, Option, Some, None, Result, Ok, Err, ◌==◌, ◌||◌, is_none, find, option_map, string_bytes}
 use Rattle.std.specs.List.{list_any}
 use Rattle.std.specs.Str.{bytes_eq}
 use Rattle.ada_port.specs.Counts.{next_count}
@@ -34,6 +34,10 @@ texts_of s = record { told = text_of s.texts; faults = s.faults }
 -- a shelf that has this text for every name, and never fails
 abbrev pub one_text : List ℕ → Texts
 one_text text = record { told = λ _. Some text; faults = 0 }
+
+-- a shelf that tells of no text, which has failed so often
+abbrev pub untold : ℕ → Texts
+untold faults = record { told = λ _. None; faults = faults }
 
 -- whether a fetch fails: its call is listed, or no text has the name
 abbrev pub fetch_fails : ShelfState → List ℕ → Bool

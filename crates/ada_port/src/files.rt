@@ -1,5 +1,6 @@
 ghost use Rattle.std.specs.Prelude.{◌≡◌, ◌≤◌, IfOk, IfSome, vec_len};
-ghost use Rattle.ada_port.specs.Ports.{fetched};
+ghost use Rattle.ada_port.specs.Ports.{Fetches, fetched};
+ghost use Rattle.ada_port.specs.Shelves.{untold};
 
 use crate::counts::raise;
 use crate::ports::{MOST_BYTES, Shelf, ShelfFault};
@@ -38,13 +39,16 @@ impl<R: Files + Drop> FileShelf<R> {
 }
 
 impl<R: Files + Drop> Shelf for FileShelf<R> {
-    ghost use Rattle.std.specs.Prelude.{None};
-
-    ghost state = { λ s. record { told = λ _. None; faults = s } };
+    ghost state = { untold };
 
     /// Reads the file of that path. `Failed` comes where the system can't open or read it, and
     /// `OutOfMemory` where it or the allocator has no memory left.
-    fn fetch(&mut self, alloc: Global, name: &str) -> Result<Vec<u8>, ShelfFault> {
+    fn fetch(&mut self, alloc: Global, name: &str) -> Result<Vec<u8>, ShelfFault>
+        ensures fetches { Fetches (untold self.old) (untold self.new) name.now result }
+
+        // Of what the file holds nothing is told, but that no more than this is given.
+        ensures most { IfOk result (λ text. vec_len text ≤ MOST_BYTES) }
+    {
         let text = read_file(&self.files, alloc, name);
         if matches!(text, Err(ShelfFault::Failed)) {
             self.failed = raise(self.failed);
@@ -57,7 +61,10 @@ impl<R: Files + Drop> Shelf for FileShelf<R> {
     }
 }
 
-fn read_file<R: Files>(files: &R, alloc: Global, name: &str) -> Result<Vec<u8>, ShelfFault> {
+// What of a file is fetched.
+fn read_file<R: Files>(files: &R, alloc: Global, name: &str) -> Result<Vec<u8>, ShelfFault>
+    ensures { IfOk result (λ text. vec_len text ≤ MOST_BYTES) }
+{
     let mut file = File::open(files, name).map_err(fault_of)?;
     read_text(&mut file, alloc)
 }

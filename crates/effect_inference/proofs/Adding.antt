@@ -6,12 +6,12 @@ use Rattle.ada_typed.specs.Syntax.{Program}
 use Rattle.ada_effects.specs.Effects as law
 use Rattle.ada_effects.specs.Effects.{Construct, Item, Touches, Calls, Blocks, Holds, Outside, reading, writing}
 use Rattle.ada_effects.specs.Conflicts.{EffectPath, path, path_of}
-use Rattle.effect_inference.specs.declared.effects.Access.{Access}
-use Rattle.effect_inference.specs.declared.effects.Access.TheVariants.{Read, Write, Update}
-use Rattle.effect_inference.specs.declared.effects.Call.{Call}
-use Rattle.effect_inference.specs.declared.effects.Gathered.{Gathered}
-use Rattle.effect_inference.specs.declared.effects.SiteEffects.{SiteEffects}
-use Rattle.effect_inference.specs.declared.effects.Touch.{Touch}
+use Rattle.effect_clashes.specs.declared.effects.Access.{Access}
+use Rattle.effect_clashes.specs.declared.effects.Access.TheVariants.{Read, Write, Update}
+use Rattle.effect_clashes.specs.declared.effects.Call.{Call}
+use Rattle.effect_inference.specs.declared.gathering.Gathered.{Gathered}
+use Rattle.effect_clashes.specs.declared.effects.SiteEffects.{SiteEffects}
+use Rattle.effect_clashes.specs.declared.effects.Touch.{Touch}
 use Rattle.effect_inference.specs.Exact.{IsIn, effect_path, Includes, Tells, any_arm, OfThread, TellsSite}
 use Rattle.effect_inference.specs.Paths.{Name, Place, is_hidden}
 use Rattle.effect_inference.specs.Gather.{no_uses, nothing, with_touch, with_call, with_site, declaring}

@@ -4,8 +4,8 @@ use Rattle.ada_typed.specs.Syntax.{Decls, NoDecl, DeclareDefault, DeclareVariabl
 use Rattle.ada_meaning.specs.Formed.{width}
 use Rattle.ada_effects.specs.Effects as law
 use Rattle.ada_effects.specs.Effects.{Roles, Construct, Item, Holds, LoopOf, BlockOf, forget, InDecls, InStmt, InAll, InAlternatives, InArm, InHandlers, InBody}
-use Rattle.effect_inference.specs.declared.effects.Gathered.{Gathered}
-use Rattle.effect_inference.specs.declared.effects.SiteEffects.{SiteEffects}
+use Rattle.effect_inference.specs.declared.gathering.Gathered.{Gathered}
+use Rattle.effect_clashes.specs.declared.effects.SiteEffects.{SiteEffects}
 use Rattle.effect_inference.specs.Exact.{IsIn, Tells, any_arm, TellsSite}
 use Rattle.effect_inference.specs.Paths.{Place, named, outset}
 use Rattle.effect_inference.specs.Gather.{no_uses, declared, declaring, hidden_with, gather_decls, gather_stmt, gather_stmts, gather_alternatives, gather_arms, gather_numbered, gather_handlers, gather_body}

@@ -6,7 +6,7 @@ use Rattle.ada_typed.specs.Syntax.{Expr, Static, Variable, Constant, Parameter, 
 use Rattle.ada_meaning.specs.Shapes.{cells_of}
 use Rattle.ada_effects.specs.Effects as law
 use Rattle.ada_effects.specs.Effects.{Roles, Item, ReductionOf, forget, InReducer, InExpr, InExprs, InOptional, InSelections, InActuals, InValue, InComposite, InAssociations, InCourse, InFilter, InChunk, InPieces}
-use Rattle.effect_inference.specs.declared.effects.Gathered.{Gathered}
+use Rattle.effect_inference.specs.declared.gathering.Gathered.{Gathered}
 use Rattle.effect_inference.specs.Paths.{Place, named}
 use Rattle.effect_inference.specs.Gather.{gather_reducer, gather_expr, gather_exprs, gather_optional, gather_selections, gather_actuals, gather_value, gather_composite, gather_associations, gather_course, gather_filter, gather_chunk, gather_pieces}
 use Rattle.effect_inference.proofs.Places.{Fits, same_name, beside_below, beside_iterated, beside_both, beside_threads, fits_course, fits_below, fits_iterated, fits_judging, fits_threads}

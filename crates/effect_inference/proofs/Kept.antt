@@ -1,7 +1,7 @@
 -- Touches that are kept, from the last to the first.
 use Rattle.std.proofs.Common.{◌≡◌, ℕ, List, [], ◌∷◌, ◌++◌, cond, sym, ap, ◌∙◌, append_assoc}
 use Rattle.std.proofs.lemmas.List.{append-nil}
-use Rattle.effect_inference.specs.declared.effects.Touch.{Touch}
+use Rattle.effect_clashes.specs.declared.effects.Touch.{Touch}
 use Rattle.effect_inference.specs.Paths.{is_hidden}
 use Rattle.effect_inference.specs.Program.{kept}
 

@@ -10,8 +10,8 @@ use Rattle.ada_effects.specs.Effects as law
 use Rattle.ada_effects.specs.Effects.{Step, FieldStep, IndexStep, ItemStep, Roles}
 use Rattle.ada_effects.specs.Conflicts as law-of
 use Rattle.ada_effects.specs.Conflicts.{path}
-use Rattle.effect_inference.specs.declared.effects.Selector.{Selector}
-use Rattle.effect_inference.specs.declared.effects.Selector.TheVariants as selector-of
+use Rattle.effect_clashes.specs.declared.effects.Selector.{Selector}
+use Rattle.effect_clashes.specs.declared.effects.Selector.TheVariants as selector-of
 use Rattle.effect_inference.specs.Exact.{plain}
 use Rattle.effect_inference.specs.Paths.{Name, Place, is_one, other, role, selector, selectors_with, item_name, root_name, named, hide, chunk_hidden, chunk_parameter, item_selector, component, with_item, below, judging, outset}
 use Rattle.effect_inference.specs.Gather.{iterated_hidden, threads_below}

@@ -6,11 +6,11 @@ use Rattle.ada_meaning.specs.Meaning.{sub_at}
 use Rattle.ada_effects.specs.Effects as law
 use Rattle.ada_effects.specs.Effects.{Construct, Item, Touches, Calls, Blocks, Holds, InBody, InCallee, InSub, IsDeclared, IsGlobal}
 use Rattle.ada_effects.specs.Conflicts.{EffectPath, path_of}
-use Rattle.effect_inference.specs.declared.effects.Effects.{Effects}
-use Rattle.effect_inference.specs.declared.effects.Gathered.{Gathered}
-use Rattle.effect_inference.specs.declared.effects.SiteEffects.{SiteEffects}
-use Rattle.effect_inference.specs.declared.effects.Touch.{Touch}
-use Rattle.effect_inference.specs.declared.effects.Uses.{Uses}
+use Rattle.effect_clashes.specs.declared.effects.Effects.{Effects}
+use Rattle.effect_inference.specs.declared.gathering.Gathered.{Gathered}
+use Rattle.effect_clashes.specs.declared.effects.SiteEffects.{SiteEffects}
+use Rattle.effect_clashes.specs.declared.effects.Touch.{Touch}
+use Rattle.effect_clashes.specs.declared.effects.Uses.{Uses}
 use Rattle.effect_inference.specs.Exact.{IsIn, effect_path, Tells, any_arm, TellsSite, InSubGlobally, AreEffects, EffectsLaw}
 use Rattle.effect_inference.specs.Paths.{is_hidden, outset}
 use Rattle.effect_inference.specs.Gather.{gather_body, no_uses}

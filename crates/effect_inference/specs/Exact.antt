@@ -5,16 +5,16 @@ use Rattle.ada_typed.specs.Syntax.{Program}
 use Rattle.ada_effects.specs.Effects as law
 use Rattle.ada_effects.specs.Effects.{Construct, LoopOf, BlockOf, ReductionOf, Item, Touches, Calls, Holds, InThread, InFront, InSub, IsGlobal}
 use Rattle.ada_effects.specs.Conflicts.{EffectPath, path_of, InProgram}
-use Rattle.effect_inference.specs.declared.effects.Access.{Access}
-use Rattle.effect_inference.specs.declared.effects.Access.TheVariants.{Read, Write, Update}
-use Rattle.effect_inference.specs.declared.effects.Call.{Call}
-use Rattle.effect_inference.specs.declared.effects.Effects.{Effects}
-use Rattle.effect_inference.specs.declared.effects.Path.{Path}
-use Rattle.effect_inference.specs.declared.effects.Selector.{Selector}
-use Rattle.effect_inference.specs.declared.effects.Selector.TheVariants as selector
-use Rattle.effect_inference.specs.declared.effects.SiteEffects.{SiteEffects}
-use Rattle.effect_inference.specs.declared.effects.Touch.{Touch}
-use Rattle.effect_inference.specs.declared.effects.Uses.{Uses}
+use Rattle.effect_clashes.specs.declared.effects.Access.{Access}
+use Rattle.effect_clashes.specs.declared.effects.Access.TheVariants.{Read, Write, Update}
+use Rattle.effect_clashes.specs.declared.effects.Call.{Call}
+use Rattle.effect_clashes.specs.declared.effects.Effects.{Effects}
+use Rattle.effect_clashes.specs.declared.effects.Path.{Path}
+use Rattle.effect_clashes.specs.declared.effects.Selector.{Selector}
+use Rattle.effect_clashes.specs.declared.effects.Selector.TheVariants as selector
+use Rattle.effect_clashes.specs.declared.effects.SiteEffects.{SiteEffects}
+use Rattle.effect_clashes.specs.declared.effects.Touch.{Touch}
+use Rattle.effect_clashes.specs.declared.effects.Uses.{Uses}
 use Rattle.effect_inference.specs.Program.{effects_of}
 
 abbrev pub IsIn : {A : Type 0} → A → List A → Type 0

@@ -6,11 +6,11 @@ use Rattle.ada_typed.specs.declared.expressions.Reducer.{Reducer}
 use Rattle.ada_typed.specs.declared.expressions.Reducer.TheVariants.{Operator, Function}
 use Rattle.ada_typed.specs.Syntax.{Expr, Static, Variable, Constant, Parameter, Target, Group, Unary, Binary, AndThen, OrElse, Relation, Membership, If, Call, Convert, Reduction, Exprs, NoExpr, AlsoExpr, Optional, Absent, Present, Selections, Whole, Field, Index, Actuals, NoActual, In, InOut, Out, CompositeInOut, CompositeOut, Value, Number, Cells, Composite, WholeVariable, WholeConstant, WholeTarget, CompositeIf, Aggregate, Associations, NoAssociation, Association, Iteration, Range, Components, Chunk, NoChunk, Count, Each, Pieces, NoPiece, Text, Image, Padded, Decls, NoDecl, DeclareDefault, DeclareVariable, DeclareConstant, Mentions, Stmt, Null, Assign, CallProcedure, Exit, Return, ReturnValue, Raise, Reraise, IfThen, Case, Loop, For, ParallelFor, Parallel, Block, Put, Get, Stmts, End, Then, Alternatives, NoAlternative, Alternative, Arms, NoArm, Arm, Handlers, NoHandler, Handler, Body}
 use Rattle.ada_typed.specs.declared.expressions.Iterated.{Iterated}
-use Rattle.effect_inference.specs.declared.effects.Access.{Access}
-use Rattle.effect_inference.specs.declared.effects.Access.TheVariants.{Read, Write, Update}
-use Rattle.effect_inference.specs.declared.effects.Uses.{Uses}
-use Rattle.effect_inference.specs.declared.effects.SiteEffects.{SiteEffects}
-use Rattle.effect_inference.specs.declared.effects.Gathered.{Gathered}
+use Rattle.effect_clashes.specs.declared.effects.Access.{Access}
+use Rattle.effect_clashes.specs.declared.effects.Access.TheVariants.{Read, Write, Update}
+use Rattle.effect_clashes.specs.declared.effects.Uses.{Uses}
+use Rattle.effect_clashes.specs.declared.effects.SiteEffects.{SiteEffects}
+use Rattle.effect_inference.specs.declared.gathering.Gathered.{Gathered}
 use Rattle.effect_inference.specs.Paths.{Name, Place, named, hide, chunk_hidden, chunk_parameter, below, is_hidden, judging}
 
 abbrev pub no_uses : Uses

@@ -3,8 +3,8 @@ use Rattle.std.specs.Prelude.{ℕ, List, [], ◌∷◌, ◌++◌, map, replicate
 use Rattle.ada_typed.specs.declared.expressions.Root.{Root}
 use Rattle.ada_typed.specs.declared.expressions.Root.TheVariants as root
 use Rattle.ada_typed.specs.Syntax.{Expr, Static, Parameter, Selections, Whole, Field, Index, Iteration, Range, Components, Chunk, NoChunk, Count, Each}
-use Rattle.effect_inference.specs.declared.effects.Selector.{Selector}
-use Rattle.effect_inference.specs.declared.effects.Selector.TheVariants as selector-of
+use Rattle.effect_clashes.specs.declared.effects.Selector.{Selector}
+use Rattle.effect_clashes.specs.declared.effects.Selector.TheVariants as selector-of
 use Rattle.effect_inference.specs.declared.environment.Environment.{Environment}
 use Rattle.effect_inference.specs.declared.environment.Item.{Item}
 use Rattle.effect_inference.specs.declared.environment.Named.{Named}

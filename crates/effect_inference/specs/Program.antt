@@ -1,10 +1,10 @@
 -- The effects of a whole program.
 use Rattle.std.specs.Prelude.{ℕ, List, [], ◌∷◌, ◌++◌, true, cond}
 use Rattle.ada_typed.specs.Syntax.{Decls, NoDecl, DeclareDefault, DeclareVariable, DeclareConstant, Mentions, Sub, Program}
-use Rattle.effect_inference.specs.declared.effects.Touch.{Touch}
-use Rattle.effect_inference.specs.declared.effects.Uses.{Uses}
-use Rattle.effect_inference.specs.declared.effects.Gathered.{Gathered}
-use Rattle.effect_inference.specs.declared.effects.Effects.{Effects}
+use Rattle.effect_clashes.specs.declared.effects.Touch.{Touch}
+use Rattle.effect_clashes.specs.declared.effects.Uses.{Uses}
+use Rattle.effect_inference.specs.declared.gathering.Gathered.{Gathered}
+use Rattle.effect_clashes.specs.declared.effects.Effects.{Effects}
 use Rattle.effect_inference.specs.Gather.{gather_body, no_uses}
 use Rattle.effect_inference.specs.Paths.{is_hidden, outset}
 

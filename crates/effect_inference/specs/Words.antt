@@ -2,8 +2,8 @@
 use Rattle.std.specs.Prelude.{◌<◌, ◌≤◌, ℕ, suc, Bool, true, false, Option, Some, None, IfSome}
 use Rattle.ada_typed.specs.declared.typed.Typed.{Typed}
 use Rattle.ada_typed.specs.Decoded.{chunk_at, composite_at, expr_at, iteration_at, reducer_at, stmt_at}
-use Rattle.effect_inference.specs.declared.effects.Gathered.{Gathered}
-use Rattle.effect_inference.specs.declared.effects.Path.{Path}
+use Rattle.effect_inference.specs.declared.gathering.Gathered.{Gathered}
+use Rattle.effect_clashes.specs.declared.effects.Path.{Path}
 use Rattle.effect_inference.specs.declared.exprs.Reduced.{Reduced}
 use Rattle.effect_inference.specs.Paths.{Name, Place, chunk_hidden, hide, other}
 use Rattle.effect_inference.specs.Gather.{gather_chunk, gather_composite, gather_course, gather_expr, gather_reducer, gather_reduction, gather_stmt, gather_values}

@@ -6,8 +6,8 @@ ghost use Rattle.effect_inference.specs.Paths as spec;
 ghost use Rattle.effect_inference.specs.Paths.{bound_of, name_of, place_of};
 ghost use Rattle.effect_inference.specs.Words.{ranged};
 
-use crate::effects::Selector;
 use ada_typed::{Iterated, Root};
+use effect_clashes::effects::Selector;
 
 /// A variable and how the path goes on from it.
 #[derive(Clone, Copy)]

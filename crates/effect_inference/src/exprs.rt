@@ -7,11 +7,12 @@ ghost use Rattle.effect_inference.specs.Gather as spec;
 ghost use Rattle.effect_inference.specs.Paths.{place_of, judging as judging_of, chunk_hidden, chunk_parameter as parameter_of, below};
 ghost use Rattle.effect_inference.specs.Words.{expr_left, composite_left, reduced, IsBelow};
 
-use crate::effects::{Access, Gathered, SiteEffects, Uses};
 use crate::environment::{Environment, association_below, judging, range_below};
+use crate::gathering::Gathered;
 use crate::paths::{chunk_below, chunk_parameter, component, path, with_item};
 use crate::source::Source;
 use ada_typed::{Actual, Chunk, Composite, Expr, Iteration, Reducer, Root, Selection, Value};
+use effect_clashes::effects::{Access, SiteEffects, Uses};
 use std::alloc::AllocError;
 
 /// The numbers of the parts of a reduction (4.5.10): its reducer, its initial value, its chunk specification, its

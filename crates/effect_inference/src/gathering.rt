@@ -5,10 +5,17 @@ ghost use Rattle.effect_inference.specs.Gather.{nothing, with_call, with_site, w
 ghost use Rattle.effect_inference.specs.Paths.{is_hidden, name_of, place_of};
 ghost use Rattle.effect_inference.specs.Words.{path_name};
 
-use crate::effects::{Access, Call, Gathered, Path, SiteEffects, Touch, Uses};
 use crate::environment::{Environment, Named};
 use ada_base::Items;
+use effect_clashes::effects::{Access, Call, Path, SiteEffects, Touch, Uses};
 use std::alloc::{AllocError, Global};
+
+/// What was gathered of a text: what it uses, and the parallel constructs in it.
+#[derive(Drop)]
+pub struct Gathered {
+    pub uses: Uses,
+    pub sites: Items<SiteEffects>,
+}
 
 /// Whether a variable is declared in the text around.
 #[tactic(auto, unfolding(crate::specs::Paths::is_hidden))]

@@ -8,13 +8,13 @@ ghost use Rattle.effect_inference.specs.Gather.{gather_body, no_uses};
 ghost use Rattle.effect_inference.specs.Paths.{is_hidden, outset as outset_of, place_of};
 ghost use Rattle.effect_inference.specs.Program as spec;
 
-use crate::effects::{Effects, Gathered, SiteEffects, Touch, Uses};
 use crate::environment::{Environment, Named};
-use crate::gathering::hides;
+use crate::gathering::{Gathered, hides};
 use crate::source::Source;
 use crate::stmts::block;
 use ada_base::Items;
 use ada_typed::{Decl, Sub, Typed};
+use effect_clashes::effects::{Effects, SiteEffects, Touch, Uses};
 use std::alloc::{AllocError, Global};
 
 #[tactic(auto, unfolding(crate::specs::Program::objects_with))]

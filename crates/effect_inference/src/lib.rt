@@ -5,7 +5,6 @@
 //! Calls stay calls: what a subprogram touches is listed once, at its number, however often it is called.
 #![tactic(auto)]
 
-pub mod effects;
 pub mod environment;
 pub mod exprs;
 pub mod gathering;

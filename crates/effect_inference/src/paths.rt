@@ -7,11 +7,11 @@ ghost use Rattle.effect_inference.specs.Paths as spec;
 ghost use Rattle.effect_inference.specs.Paths.{bound_of, name_of, place_of};
 ghost use Rattle.effect_inference.specs.Words.{path_name};
 
-use crate::effects::{Path, Selector};
 use crate::environment::{Environment, Item, Named, hide, role, root_named};
 use crate::source::Source;
 use ada_base::Items;
 use ada_typed::{Chunk, Expr, Root, Selection};
+use effect_clashes::effects::{Path, Selector};
 use std::alloc::AllocError;
 
 /// What an index is.

@@ -7,16 +7,17 @@ ghost use Rattle.effect_inference.specs.Gather as spec;
 ghost use Rattle.effect_inference.specs.Paths.{place_of, judging as judging_of, chunk_hidden, chunk_parameter as parameter_of};
 ghost use Rattle.effect_inference.specs.Words.{stmt_left, IsBelow};
 
-use crate::effects::{Access, Gathered, SiteEffects, Uses};
 use crate::environment::{Environment, judging, range_below};
 use crate::exprs::{
     call, course, expr, exprs, filter, front, front_uses, name, optional, value, whole,
 };
+use crate::gathering::Gathered;
 use crate::paths::{chunk_below, chunk_parameter, component, named_by, path, with_item};
 use crate::source::Source;
 use crate::texts::{declared, pieces};
 use ada_base::Items;
 use ada_typed::{Handler, Iteration, Root, Stmt};
+use effect_clashes::effects::{Access, SiteEffects, Uses};
 use std::alloc::AllocError;
 
 /// A statement. A statement that stands alone after `else`, as one made of `elsif` does, is gone through by a loop.

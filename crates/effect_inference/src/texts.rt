@@ -6,9 +6,9 @@ ghost use Rattle.ada_typed.specs.Syntax.{Decls, Pieces};
 ghost use Rattle.effect_inference.specs.Gather as spec;
 ghost use Rattle.effect_inference.specs.Paths.{place_of};
 
-use crate::effects::Gathered;
 use crate::environment::Environment;
 use crate::exprs::{expr, exprs, value};
+use crate::gathering::Gathered;
 use crate::source::Source;
 use ada_base::Items;
 use ada_typed::{Decl, Piece};

@@ -1,7 +1,7 @@
 use Rattle.std.proofs.Common.{◌≡◌, map, length}
 use Rattle.ada_typed.specs.Programs.{sub_of}
-use Rattle.ada_nonblock.specs.First.{first_subs}
-use Rattle.ada_nonblock.specs.Words.{rule_of}
+use Rattle.blocking_calls.specs.First.{first_subs}
+use Rattle.blocking_calls.specs.Words.{rule_of}
 use Rattle.ada_nonblock.proofs.rule.subs.Given as goal
 
 abbrev pub invariant-loop-sub : goal.invariant-loop-sub

@@ -7,7 +7,7 @@ use Rattle.ada_typed.specs.Syntax.{Program}
 use Rattle.effect_inference.proofs.Whole.{effects_law}
 use Rattle.effect_inference.specs.Exact.{AreEffects}
 use Rattle.effect_inference.specs.Program.{effects_of}
-use Rattle.effect_inference.specs.declared.effects.Effects.{Effects}
+use Rattle.effect_clashes.specs.declared.effects.Effects.{Effects}
 use Rattle.ada_run.proofs.Steps.{refuses_touched, refuses_clash}
 use Rattle.ada_run.proofs.naming.separated.Goals as goal
 

@@ -1,9 +1,0 @@
-use Rattle.std.proofs.Common.{◌≡◌, length}
-use Rattle.ada_conflict.specs.Called.{arm_bound}
-use Rattle.ada_conflict.proofs.called.arm_bound.Given as goal
-
-abbrev pub invariant-loop-call : goal.invariant-loop-call
-invariant-loop-call l = arm_bound l.rest l.most ≡ arm_bound l.calls 0
-
-abbrev pub decreases-loop-call : goal.decreases-loop-call
-decreases-loop-call l = length l.rest
