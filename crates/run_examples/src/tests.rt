@@ -3,7 +3,7 @@ use ada_interpreter::{SoundPlan, Work, run};
 use ada_port::{HeldSink, SureSource};
 use ada_typed::{Check, Class, Object, Root, Scalar, Subtype, Typed};
 use chunk_plan::Plan;
-use run_store::{End, Leave, Object, Ports, Region, Store};
+use run_store::{End, Leave, Ports, Region, Store};
 use std::alloc::{AllocError, Global};
 use std::test::Fail;
 use typed_parts::Parts;
@@ -475,7 +475,7 @@ fn room_is_taken_and_given_back(rt: HostRuntime) -> Result<(), Fail> {
     for _k in 0..400_000 {
         assert!(rt; store.take_room().is_ok());
     }
-    let object = Object::Variable(0);
+    let object = run_store::Object::Variable(0);
     assert!(rt; store.take_room().is_err());
     assert!(rt; store.begin(Region::Here, object, &[7]).is_err());
     store.give_room();
