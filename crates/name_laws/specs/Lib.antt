@@ -5,3 +5,4 @@ pub mod Alike
 pub mod Constants
 pub mod Formed
 pub mod Statics
+pub mod Based

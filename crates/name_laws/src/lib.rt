@@ -2,6 +2,7 @@
 #![tactic(auto)]
 
 ghost use Rattle.name_laws.specs.Alike.{SymbolLaw};
+ghost use Rattle.name_laws.specs.Based.{BasedLaw};
 ghost use Rattle.name_laws.specs.Cells.{CellsLaw};
 ghost use Rattle.name_laws.specs.Constants.{ConstantsLaw};
 ghost use Rattle.name_laws.specs.Formed.{FormedLaw};
@@ -20,6 +21,8 @@ ghost use Rattle.name_laws.specs.Statics.{StaticLaw};
 ///   the cells of its subtype (3.2, 3.6, 3.8).
 /// - statics: a static result of an operator is exact and in its base range, and an expression with such a value
 ///   leaves in its place that value alone (4.9).
+/// - based: whatever an expression is found to be has its static value in its base range, where the bounds of the subtypes
+///   and the values of the constants that are declared around it lie in theirs (3.5.4, 4.9).
 /// - symbols: two identifiers have one symbol exactly where they are spelled alike but for the case of letters (2.3).
 pub fn laws()
     ensures hiding { HidingLaw }
@@ -30,5 +33,6 @@ pub fn laws()
     ensures constants { ConstantsLaw }
     ensures formed { FormedLaw }
     ensures statics { StaticLaw }
+    ensures based { BasedLaw }
     ensures symbols { SymbolLaw }
 {}

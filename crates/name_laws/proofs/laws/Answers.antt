@@ -1,4 +1,5 @@
 use Rattle.name_laws.proofs.laws.Goals as goal
+use Rattle.name_laws.proofs.BasedLaw.{based_law}
 use Rattle.name_laws.proofs.CellsFormed.{formed_law}
 use Rattle.name_laws.proofs.Constants.{constants_law}
 use Rattle.name_laws.proofs.Lying.{cells_law}
@@ -34,3 +35,6 @@ returns-clause-constants c = constants_law
 
 pub returns-clause-statics : goal.returns-clause-statics
 returns-clause-statics c = static_law
+
+pub returns-clause-based : goal.returns-clause-based
+returns-clause-based c = based_law
