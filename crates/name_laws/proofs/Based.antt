@@ -48,7 +48,7 @@ between a b low high z e f g h =
     let y = and_parts (int_le a high) (int_le high b) f in
     both-true (int_le a z) (int_le z b) (int-trans a low z x.0 g) (int-trans z high b h y.1)
 
-base-between : (k : Kind) (low high z : ℤ) → in_base k low ≡ true → in_base k high ≡ true → int_le low z ≡ true → int_le z high ≡ true → in_base k z ≡ true
+pub base-between : (k : Kind) (low high z : ℤ) → in_base k low ≡ true → in_base k high ≡ true → int_le low z ≡ true → int_le z high ≡ true → in_base k z ≡ true
 base-between kind.Boolean low high z = between (pos 0) (pos 1) low high z
 base-between kind.Integer low high z = between (least_of Narrow) (greatest_of Narrow) low high z
 base-between (kind.Own n) low high z = between (least_of Wide) (greatest_of Wide) low high z

@@ -180,11 +180,11 @@ both-given at (Some ds) (Some s) log vs h r = array-given at ds s log vs h r
 
 -- ---- dimensions have values
 
-abbrev HasSpan : Option Static → Type 0
+abbrev pub HasSpan : Option Static → Type 0
 HasSpan None = Unit {0}
 HasSpan (Some s) = IsSpan s.known.kind s.known.low s.known.high
 
-record Spans (p : Judging (Option Static)) : Type 0 where
+pub record Spans (p : Judging (Option Static)) : Type 0 where
   pub at : (log : Log) → HasSpan (p log).0
 
 s-none : Spans (pure None)
@@ -204,17 +204,17 @@ s-if false p q h k = k
 abbrev AreFound : Option Found × Option Found → Type 0
 AreFound r = FoundBased r.0 × FoundBased r.1
 
-s-both : (x y : Option Found) (f : Found → Found → Judging (Option Static)) → FoundBased x → FoundBased y → ((a b : Found) → InBase a.known → InBase b.known → Spans (f a b)) → Spans (both x y f)
+pub s-both : (x y : Option Found) (f : Found → Found → Judging (Option Static)) → FoundBased x → FoundBased y → ((a b : Found) → InBase a.known → InBase b.known → Spans (f a b)) → Spans (both x y f)
 s-both None y f h k m = s-none
 s-both (Some x) None f h k m = s-none
 s-both (Some x) (Some y) f h k m = m x y h k
 
 -- the values of two static bounds that take a type
-abbrev ArePair : Kind → Option (ℤ × ℤ) → Type 0
+abbrev pub ArePair : Kind → Option (ℤ × ℤ) → Type 0
 ArePair k None = Unit {0}
 ArePair k (Some r) = (in_base k r.0 ≡ true) × (in_base k r.1 ≡ true)
 
-static-pair : (k : Kind) (a z : Found) (log : Log) → InBase a.known → InBase z.known → ArePair k (both_static k a z log).0
+pub static-pair : (k : Kind) (a z : Found) (log : Log) → InBase a.known → InBase z.known → ArePair k (both_static k a z log).0
 static-pair k a z log g h = by (asked k a log).0 refl (asked k z (asked k a log).1).0 refl (value_of a.known) refl (value_of z.known) refl (asked k z (asked k a log).1).1
   where
     by : (x : Option Part) → (asked k a log).0 ≡ x → (y : Option Part) → (asked k z (asked k a log).1).0 ≡ y → (u : Option ℤ) → value_of a.known ≡ u → (v : Option ℤ) → value_of z.known ≡ v → (end : Log)
@@ -248,7 +248,7 @@ s-checked first s a z r g h =
     s-if (not (int_le r.0 r.1)) sp (ranges.inside_subtype s a r.0 >>= λ u. ranges.inside_subtype s z r.1 >>= λ v. last) known
     (s-bind (ranges.inside_subtype s a r.0) (λ u. ranges.inside_subtype s z r.1 >>= λ v. last) (λ u. s-bind (ranges.inside_subtype s z r.1) (λ v. last) (λ v. s-if (lies_in s r.0 && lies_in s r.1) sp (pure None) known s-none)))
 
-s-bounds : (first : ℕ) (a z : Found) → InBase a.known → InBase z.known → Spans (ranges.static_bounds first true None a z)
+pub s-bounds : (first : ℕ) (a z : Found) → InBase a.known → InBase z.known → Spans (ranges.static_bounds first true None a z)
 unfolding ranges.static_bounds
 s-bounds first a z h i =
     let k = ranges.preferred None a.known z.known in
@@ -259,14 +259,14 @@ s-bounds first a z h i =
     (s-if (not (suits k a.known && suits k z.known)) (fault (first_of z.known) WrongType) w (s-fault (first_of z.known) WrongType)
     (s-static k a z g h i (λ r p q. s-spanned first k a z r p q)))
 
-s-static_checked : (first : ℕ) (t : Scalar) (a z : Found) → InBase a.known → InBase z.known → Spans (ranges.static_checked first true t a z)
+pub s-static_checked : (first : ℕ) (t : Scalar) (a z : Found) → InBase a.known → InBase z.known → Spans (ranges.static_checked first true t a z)
 unfolding ranges.static_checked
 s-static_checked first t a z h i =
     let g = ranges.checked_span first true t a z in
     s-if (is_integer t.kind) (both_static t.kind a z >>= λ v. given v g) (fault first WrongType)
     (s-static t.kind a z g h i (λ r p q. s-checked first t a z r p q)) (s-fault first WrongType)
 
-name-span : (n first : ℕ) (k : Known) (x : Part) → IsRightly n k → Spans (ranges.static_name first k x)
+pub name-span : (n first : ℕ) (k : Known) (x : Part) → IsRightly n k → Spans (ranges.static_name first k x)
 name-span n first (denoted.Range at d) x h = record { at = λ log. h }
 name-span n first (denoted.Type at (subtype.Scalar s)) x h = by (is_integer s.kind)
   where

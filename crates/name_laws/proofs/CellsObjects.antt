@@ -227,7 +227,7 @@ record-leaves names level here cs log keeps h r =
 
 -- ---- types
 
-own-span : (token : ℕ) (a z : ℤ) → (in_base (kind.Own token) a && in_base (kind.Own token) z && int_le a z) ≡ true → IsSpan (kind.Own token) a z
+pub own-span : (token : ℕ) (a z : ℤ) → (in_base (kind.Own token) a && in_base (kind.Own token) z && int_le a z) ≡ true → IsSpan (kind.Own token) a z
 own-span token a z e =
     let x = and_parts (in_base (kind.Own token) a && in_base (kind.Own token) z) (int_le a z) e in
     let y = and_parts (in_base (kind.Own token) a) (in_base (kind.Own token) z) x.0 in

@@ -6,3 +6,4 @@ pub mod Constants
 pub mod Formed
 pub mod Statics
 pub mod Based
+pub mod Classes
