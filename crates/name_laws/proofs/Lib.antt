@@ -65,3 +65,4 @@ pub mod MakesAggregates
 pub mod MakesPrimaries
 pub mod MakesDeclarations
 pub mod MakesStatements
+pub mod MakesPrograms

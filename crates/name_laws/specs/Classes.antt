@@ -1,5 +1,6 @@
 -- What stands in a typed program (4.9, 4.5): each static expression that is evaluated is a value of the base range of the
 -- class that its place or its operator has, and no operator is universal any more.
+use Rattle.ada_tree.specs.Syntax as syntax
 use Rattle.ada_base.specs.Operation.{is_in_base}
 use Rattle.ada_base.specs.declared.operation.Base.TheVariants.{Narrow}
 use Rattle.ada_base.specs.declared.operation.Op.{Op}
@@ -10,7 +11,9 @@ use Rattle.ada_typed.specs.declared.expressions.Reducer.{Reducer}
 use Rattle.ada_typed.specs.declared.expressions.Reducer.TheVariants.{Operator, Function}
 use Rattle.ada_typed.specs.declared.scalars.Class.{Class}
 use Rattle.ada_typed.specs.declared.scalars.Class.TheVariants as class
-use Rattle.std.specs.Prelude.{List, [], ◌∷◌, int_le, pos, true, ℕ, ℤ, ◌&&◌, ◌≡◌, ◌⊎◌}
+use Rattle.name_rules.specs.Resolved.{TypedOf}
+use Rattle.name_rules.specs.declared.scope.Names.{Names}
+use Rattle.std.specs.Prelude.{List, Some, [], ◌∷◌, int_le, pos, true, ℕ, ℤ, ◌&&◌, ◌≡◌, ◌⊎◌}
 
 abbrev pub HasValue : Class → ℤ → Type 0
 HasValue class.Boolean z = (int_le (pos 0) z && int_le z (pos 1)) ≡ true
@@ -154,3 +157,8 @@ SubsFit (s ∷ ss) = BodyFits s.body × SubsFit ss
 
 abbrev pub ProgramFits : Program → Type 0
 ProgramFits p = SubsFit p.subs × BodyFits p.body
+
+-- Every static expression that a text's typed program evaluates is a value of the base range of its class, whatever it
+-- stands in: under an operator, in a place with a subtype, as an index, a bound, an actual parameter or a condition.
+abbrev pub ClassesLaw : Type 0
+ClassesLaw = (names : Names) (text : syntax.Program) (program : Program) → TypedOf names text ≡ Some program → ProgramFits program

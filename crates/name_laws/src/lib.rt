@@ -4,6 +4,7 @@
 ghost use Rattle.name_laws.specs.Alike.{SymbolLaw};
 ghost use Rattle.name_laws.specs.Based.{BasedLaw};
 ghost use Rattle.name_laws.specs.Cells.{CellsLaw};
+ghost use Rattle.name_laws.specs.Classes.{ClassesLaw};
 ghost use Rattle.name_laws.specs.Constants.{ConstantsLaw};
 ghost use Rattle.name_laws.specs.Formed.{FormedLaw};
 ghost use Rattle.name_laws.specs.Hiding.{HidingLaw, ScopeLaw};
@@ -23,6 +24,8 @@ ghost use Rattle.name_laws.specs.Statics.{StaticLaw};
 ///   leaves in its place that value alone (4.9).
 /// - based: whatever an expression is found to be has its static value in its base range, where the bounds of the subtypes
 ///   and the values of the constants that are declared around it lie in theirs (3.5.4, 4.9).
+/// - classes: every static expression that a typed program evaluates is a value of the base range of its class, and no
+///   operator waits for its type (4.9, 3.4.1).
 /// - symbols: two identifiers have one symbol exactly where they are spelled alike but for the case of letters (2.3).
 pub fn laws()
     ensures hiding { HidingLaw }
@@ -34,5 +37,6 @@ pub fn laws()
     ensures formed { FormedLaw }
     ensures statics { StaticLaw }
     ensures based { BasedLaw }
+    ensures classes { ClassesLaw }
     ensures symbols { SymbolLaw }
 {}

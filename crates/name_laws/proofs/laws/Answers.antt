@@ -4,6 +4,7 @@ use Rattle.name_laws.proofs.CellsFormed.{formed_law}
 use Rattle.name_laws.proofs.Constants.{constants_law}
 use Rattle.name_laws.proofs.Lying.{cells_law}
 use Rattle.name_laws.proofs.Lookups.{hiding_law}
+use Rattle.name_laws.proofs.MakesPrograms.{classes_law}
 use Rattle.name_laws.proofs.Numbering.{symbol_law}
 use Rattle.name_laws.proofs.Scopes.{scope_law}
 use Rattle.name_laws.proofs.Statics.{static_law}
@@ -38,3 +39,6 @@ returns-clause-statics c = static_law
 
 pub returns-clause-based : goal.returns-clause-based
 returns-clause-based c = based_law
+
+pub returns-clause-classes : goal.returns-clause-classes
+returns-clause-classes c = classes_law
