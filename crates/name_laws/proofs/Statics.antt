@@ -275,7 +275,7 @@ g-plain at a = g-if (Stays a) (is_number a.known) (plain_by at a (kind_of a.know
 
 -- ---- places that ask for a type
 
-same-base : (j k : Kind) (z : ℤ) → same j k ≡ true → in_base j z ≡ in_base k z
+pub same-base : (j k : Kind) (z : ℤ) → same j k ≡ true → in_base j z ≡ in_base k z
 same-base kind.Boolean kind.Boolean z e = refl
 same-base kind.Integer kind.Integer z e = refl
 same-base (kind.Own m) (kind.Own n) z e = refl

@@ -5,3 +5,5 @@ pub mod Alike
 pub mod Constants
 pub mod Formed
 pub mod Statics
+pub mod Based
+pub mod Classes

@@ -2,7 +2,9 @@
 #![tactic(auto)]
 
 ghost use Rattle.name_laws.specs.Alike.{SymbolLaw};
+ghost use Rattle.name_laws.specs.Based.{BasedLaw};
 ghost use Rattle.name_laws.specs.Cells.{CellsLaw};
+ghost use Rattle.name_laws.specs.Classes.{ClassesLaw};
 ghost use Rattle.name_laws.specs.Constants.{ConstantsLaw};
 ghost use Rattle.name_laws.specs.Formed.{FormedLaw};
 ghost use Rattle.name_laws.specs.Hiding.{HidingLaw, ScopeLaw};
@@ -20,6 +22,10 @@ ghost use Rattle.name_laws.specs.Statics.{StaticLaw};
 ///   the cells of its subtype (3.2, 3.6, 3.8).
 /// - statics: a static result of an operator is exact and in its base range, and an expression with such a value
 ///   leaves in its place that value alone (4.9).
+/// - based: whatever an expression is found to be has its static value in its base range, where the bounds of the subtypes
+///   and the values of the constants that are declared around it lie in theirs (3.5.4, 4.9).
+/// - classes: every static expression that a typed program evaluates is a value of the base range of its class, and no
+///   operator waits for its type (4.9, 3.4.1).
 /// - symbols: two identifiers have one symbol exactly where they are spelled alike but for the case of letters (2.3).
 pub fn laws()
     ensures hiding { HidingLaw }
@@ -30,5 +36,7 @@ pub fn laws()
     ensures constants { ConstantsLaw }
     ensures formed { FormedLaw }
     ensures statics { StaticLaw }
+    ensures based { BasedLaw }
+    ensures classes { ClassesLaw }
     ensures symbols { SymbolLaw }
 {}

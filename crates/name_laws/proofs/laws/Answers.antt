@@ -1,8 +1,10 @@
 use Rattle.name_laws.proofs.laws.Goals as goal
+use Rattle.name_laws.proofs.BasedLaw.{based_law}
 use Rattle.name_laws.proofs.CellsFormed.{formed_law}
 use Rattle.name_laws.proofs.Constants.{constants_law}
 use Rattle.name_laws.proofs.Lying.{cells_law}
 use Rattle.name_laws.proofs.Lookups.{hiding_law}
+use Rattle.name_laws.proofs.MakesPrograms.{classes_law}
 use Rattle.name_laws.proofs.Numbering.{symbol_law}
 use Rattle.name_laws.proofs.Scopes.{scope_law}
 use Rattle.name_laws.proofs.Statics.{static_law}
@@ -34,3 +36,9 @@ returns-clause-constants c = constants_law
 
 pub returns-clause-statics : goal.returns-clause-statics
 returns-clause-statics c = static_law
+
+pub returns-clause-based : goal.returns-clause-based
+returns-clause-based c = based_law
+
+pub returns-clause-classes : goal.returns-clause-classes
+returns-clause-classes c = classes_law

@@ -1,0 +1,299 @@
+-- What is found fits: operators.
+use Rattle.std.proofs.Common.{◌≡◌, refl, sym, ap, subst, ◌∙◌, ◌⊎◌, inl, inr, ℕ, ℤ, pos, Option, Some, None, Bool, true, false, if◌then◌else◌, option_map, ◌&&◌}
+use Rattle.std.specs.Prelude.{not}
+use Rattle.ada_base.specs.Operation.{is_in_base}
+use Rattle.ada_base.specs.declared.operation.Base.TheVariants.{Narrow, Wide}
+use Rattle.ada_base.specs.declared.operation.Op.{Op}
+use Rattle.ada_base.specs.declared.operation.Op.TheVariants as op
+use Rattle.ada_typed.specs.Classes.{with_class}
+use Rattle.ada_typed.specs.Decoded as part
+use Rattle.ada_typed.specs.Decoded.{Part, as_expr}
+use Rattle.ada_typed.specs.Syntax as typed
+use Rattle.ada_typed.specs.Syntax.{Expr as TypedExpr}
+use Rattle.ada_typed.specs.declared.expressions.Sign.TheVariants as unary'
+use Rattle.ada_typed.specs.declared.expressions.Sign.{Sign}
+use Rattle.ada_typed.specs.declared.scalars.Class.TheVariants as class
+use Rattle.ada_typed.specs.declared.scalars.Comparison.{Comparison}
+use Rattle.name_rules.specs.Found.{Found, opened, scalar, static, text_found, universal}
+use Rattle.name_rules.specs.Judging.{◌>>=◌, both, fault, given, joined, pure, some}
+use Rattle.name_rules.specs.Operators.{binary, both_mentions, by_kinds, common_kind, compared, compared_at, compared_by, first_kind, joined_text, joined_texts, leaf, leaf_limits, limit_of, logical, member, member_of, membership, negation, not_of, of_subtype, open_binary, open_form, open_of, open_power, open_two, open_unary, operand_blamed, operation, operation_by, operation_on, plain, plain_by, plain_open, plain_typed, power, power_to, signed, static_of, static_operation, static_power, static_unary, static_universal, typed_operation, unary, unary_by, unary_open, unary_typed, universal_by, universal_operation, universal_power, universal_to, within_bounds}
+use Rattle.name_rules.specs.TypedParts.{also_all, exprs_of}
+use Rattle.name_rules.specs.Types.{class_of, in_base, is_integer, same}
+use Rattle.name_rules.specs.Values.{asked, beyond, exact, first_of, fitting, is_kind, is_number, is_scalar, joint, kind_of, sooner, suits, value_of}
+use Rattle.name_rules.specs.declared.found.Found.TheVariants as known
+use Rattle.name_rules.specs.declared.found.Found.{Found as Known}
+use Rattle.name_rules.specs.declared.found.Limits.{Limits}
+use Rattle.name_rules.specs.declared.log.Rule.TheVariants.{StaticRange, WrongType}
+use Rattle.name_rules.specs.declared.types.Kind.{Kind}
+use Rattle.name_rules.specs.declared.types.Kind.TheVariants as kind
+use Rattle.name_rules.specs.declared.types.Scalar.{Scalar}
+use Rattle.name_laws.proofs.Based.{spanning}
+use Rattle.name_laws.proofs.KeepsValues.{k-fitting}
+use Rattle.name_laws.proofs.Makes.{Any, Each, Makes, Maybe, each-all, joint as joined-parts, m-bind, m-both, m-fault, m-given, m-if, m-kept, m-none, m-pure, m-some, m-test, mapped}
+use Rattle.name_laws.proofs.MakesValues.{AskedOf, FoundOf, IsOpen, IsPiece, KnownOf, SpanOf, has-value, is-typed, m-asked, with-same}
+use Rattle.name_laws.specs.Classes.{ExprFits, HasValue, exponent}
+
+-- ---- static results
+
+m-static_of : (first : ℕ) (k : Kind) (ms : Part) (z : Option ℤ) → Makes (Maybe FoundOf) (static_of first k ms z)
+unfolding static_of
+m-static_of first k ms None = m-fault FoundOf first StaticRange
+m-static_of first k ms (Some z) = m-test (Maybe FoundOf) (in_base k z) (some (static first k z ms)) (fault first StaticRange) (λ e. m-some FoundOf (static first k z ms) e) (m-fault FoundOf first StaticRange)
+
+m-static_universal : (first : ℕ) (ms : Part) (z : Option ℤ) → Makes (Maybe FoundOf) (static_universal first ms z)
+unfolding static_universal
+m-static_universal first ms None = m-fault FoundOf first StaticRange
+m-static_universal first ms (Some z) = m-some FoundOf (universal first z false ms) tt
+
+m-static_operation : (o : Op) (k j : Kind) (a : Found) (u : ℤ) (b : Found) (v : ℤ) → Makes (Maybe FoundOf) (static_operation o k j a u b v)
+unfolding static_operation
+m-static_operation o k j a u b v =
+    m-bind Any (Maybe FoundOf) (fitting k (first_of a.known) u) _ (m-kept (fitting k (first_of a.known) u) (k-fitting spanning k (first_of a.known) u)) (λ x p.
+    m-bind Any (Maybe FoundOf) (fitting j (first_of b.known) v) _ (m-kept (fitting j (first_of b.known) v) (k-fitting spanning j (first_of b.known) v)) (λ y q.
+    m-if (Maybe FoundOf) (x && y) (static_of (first_of a.known) k (both_mentions a b) (exact o u v)) (pure None) (m-static_of (first_of a.known) k (both_mentions a b) (exact o u v)) (m-none FoundOf)))
+
+-- ---- binary operators on values of a type
+
+-- the type of the right operand is that of the left one, or Integer as an exponent's
+abbrev pub Operands : Op → Kind → Kind → Type 0
+Operands o k j = (j ≡ k) ⊎ ((o ≡ op.Pow) × (j ≡ kind.Integer))
+
+right-fits : (o : Op) (k j : Kind) (e : TypedExpr) → Operands o k j → ExprFits (class_of j) e → ExprFits (class_of k) e ⊎ ((o ≡ op.Pow) × ExprFits exponent e)
+right-fits o k j e (inl p) h = inl (subst (λ i. ExprFits (class_of i) e) p h)
+right-fits o k j e (inr p) h = inr (p.0, subst (λ i. ExprFits (class_of i) e) p.1 h)
+
+m-operation_on : (o : Op) (at : ℕ) (k j : Kind) (a b : Found) → Operands o k j → FoundOf a → FoundOf b → Makes (Maybe FoundOf) (operation_on o at k j a b)
+unfolding operation_on
+m-operation_on o at k j a b p g h =
+    m-bind (Maybe (AskedOf k)) (Maybe FoundOf) (asked k a) _ (m-asked k a g) (λ x q.
+    m-bind (Maybe (AskedOf j)) (Maybe FoundOf) (asked j b) _ (m-asked j b h) (λ y r.
+    m-both (AskedOf k) (AskedOf j) FoundOf x y _ q r (λ m n s t.
+    m-some FoundOf (scalar (first_of a.known) k None (typed.Binary at o (class_of k) (as_expr m) (as_expr n))) (is-typed k, s, right-fits o k j (as_expr n) p t))))
+
+m-operation_by : (o : Op) (at : ℕ) (k j : Kind) (a b : Found) (x y : Option ℤ) → Operands o k j → FoundOf a → FoundOf b → Makes (Maybe FoundOf) (operation_by o at k j a b x y)
+m-operation_by o at k j a b (Some u) (Some v) p g h = m-static_operation o k j a u b v
+m-operation_by o at k j a b (Some u) None p g h = m-operation_on o at k j a b p g h
+m-operation_by o at k j a b None y p g h = m-operation_on o at k j a b p g h
+
+m-typed_operation : (o : Op) (at : ℕ) (k j : Kind) (a b : Found) → Operands o k j → FoundOf a → FoundOf b → Makes (Maybe FoundOf) (typed_operation o at k j a b)
+unfolding typed_operation
+m-typed_operation o at k j a b p g h = m-operation_by o at k j a b (value_of a.known) (value_of b.known) p g h
+
+-- ---- on universal values
+
+-- a part that waits for its type
+abbrev pub OpenOf : Limits × Part → Type 0
+OpenOf x = IsOpen x.0 (as_expr x.1)
+
+none-if : (b : Bool) (first : ℕ) → (if b then None else Some first) ≡ None → b ≡ true
+none-if true first e = refl
+none-if false first e = absurd cc
+
+leaf-wide : (first : ℕ) (z : ℤ) (ms : Part) (b : Bool) → is_in_base Wide z ≡ b → b ≡ true → is_in_base Wide (if b then z else pos 0) ≡ true
+leaf-wide first z ms true e h = e
+leaf-wide first z ms false e h = refl
+
+leaf-narrow : (z : ℤ) (b : Bool) → is_in_base Narrow z ≡ true → is_in_base Narrow (if b then z else pos 0) ≡ true
+leaf-narrow z true h = h
+leaf-narrow z false h = refl
+
+leaf-open : (first : ℕ) (z : ℤ) (x : Part) → IsOpen (leaf_limits first z) (leaf first z x)
+leaf-open first z x kind.Boolean i e = absurd cc
+leaf-open first z x kind.Integer i e = leaf-narrow z (is_in_base Wide z) (none-if (is_in_base Narrow z) first e)
+leaf-open first z x (kind.Own n) i e = leaf-wide first z x (is_in_base Wide z) refl (none-if (is_in_base Wide z) first e)
+
+open-form : (f : Known) (x : Part) → KnownOf f x → Maybe OpenOf (open_form f x)
+open-form (known.Universal first z alone) x h = leaf-open first z x
+open-form (known.Open first l) x h = h
+open-form f x h = tt
+
+pub open-found : (f : Found) → FoundOf f → Maybe OpenOf (open_of f)
+unfolding open_of
+open-found f h = open-form f.known f.part h
+
+sooner-none : (a b : Option ℕ) → sooner a b ≡ None → (a ≡ None) × (b ≡ None)
+sooner-none None b e = (refl, e)
+sooner-none (Some a) b e = absurd cc
+
+pub joint-none : (k : Kind) (l m : Limits) → beyond k (joint l m) ≡ None → (beyond k l ≡ None) × (beyond k m ≡ None)
+joint-none (kind.Own n) l m e = sooner-none l.wide m.wide e
+joint-none kind.Boolean l m e = sooner-none l.narrow m.narrow e
+joint-none kind.Integer l m e = sooner-none l.narrow m.narrow e
+
+open-two : (o : Op) (at first : ℕ) (x y : Limits × Part) → OpenOf x → OpenOf y → FoundOf (open_two o at first x y)
+open-two o at first x y g h k i e = let n = joint-none k x.0 y.0 e in (is-typed k, g k i n.0, inl (h k i n.1))
+
+m-open_binary : (o : Op) (at : ℕ) (a b : Found) → FoundOf a → FoundOf b → Maybe FoundOf (open_binary o at a b)
+unfolding open_binary
+m-open_binary o at a b g h = joined-parts OpenOf OpenOf FoundOf (open_two o at (first_of a.known)) (open_of a) (open_of b) (open-found a g) (open-found b h) (λ x y p q. open-two o at (first_of a.known) x y p q)
+
+m-universal_by : (o : Op) (at : ℕ) (a b : Found) (x y : Option ℤ) → FoundOf a → FoundOf b → Makes (Maybe FoundOf) (universal_by o at a b x y)
+m-universal_by o at a b (Some u) (Some v) g h = m-static_universal (first_of a.known) (both_mentions a b) (exact o u v)
+m-universal_by o at a b (Some u) None g h = m-pure (Maybe FoundOf) (open_binary o at a b) (m-open_binary o at a b g h)
+m-universal_by o at a b None y g h = m-pure (Maybe FoundOf) (open_binary o at a b) (m-open_binary o at a b g h)
+
+m-universal_operation : (o : Op) (at : ℕ) (a b : Found) → FoundOf a → FoundOf b → Makes (Maybe FoundOf) (universal_operation o at a b)
+unfolding universal_operation
+m-universal_operation o at a b g h = m-universal_by o at a b (value_of a.known) (value_of b.known) g h
+
+m-by_kinds : (o : Op) (at : ℕ) (a b : Found) (x y : Option Kind) → FoundOf a → FoundOf b → Makes (Maybe FoundOf) (by_kinds o at a b x y)
+m-by_kinds o at a b None None g h = m-universal_operation o at a b g h
+m-by_kinds o at a b None (Some k) g h = m-typed_operation o at k k a b (inl refl) g h
+m-by_kinds o at a b (Some k) None g h = m-typed_operation o at k k a b (inl refl) g h
+m-by_kinds o at a b (Some j) (Some k) g h = m-if (Maybe FoundOf) (same j k) (typed_operation o at k k a b) (fault at WrongType) (m-typed_operation o at k k a b (inl refl) g h) (m-fault FoundOf at WrongType)
+
+m-operation : (o : Op) (at : ℕ) (a b : Found) → FoundOf a → FoundOf b → Makes (Maybe FoundOf) (operation o at a b)
+unfolding operation
+m-operation o at a b g h =
+    m-if (Maybe FoundOf) (is_number a.known && is_number b.known) (by_kinds o at a b (kind_of a.known) (kind_of b.known)) (fault (operand_blamed a.known at) WrongType)
+    (m-by_kinds o at a b (kind_of a.known) (kind_of b.known) g h) (m-fault FoundOf (operand_blamed a.known at) WrongType)
+
+pub m-binary : (o : Op) (at : ℕ) (x y : Option Found) → Maybe FoundOf x → Maybe FoundOf y → Makes (Maybe FoundOf) (binary o at x y)
+unfolding binary
+m-binary o at x y g h = m-both FoundOf FoundOf FoundOf x y (operation o at) g h (λ a b p q. m-operation o at a b p q)
+
+-- ---- powers
+
+open-power : (at first : ℕ) (n : Part) (x : Limits × Part) → AskedOf kind.Integer n → OpenOf x → FoundOf (open_power at first n x)
+open-power at first n x g h k i e = (is-typed k, h k i e, inr (refl, subst (λ y. ExprFits exponent y) (sym (with-same (class_of k) exponent (as_expr n) g)) g))
+
+m-universal_power : (at : ℕ) (a b : Found) → FoundOf a → FoundOf b → Makes (Maybe FoundOf) (universal_power at a b)
+unfolding universal_power
+m-universal_power at a b g h =
+    m-bind (Maybe (AskedOf kind.Integer)) (Maybe FoundOf) (asked kind.Integer b) _ (m-asked kind.Integer b h) (λ y q.
+    m-given (AskedOf kind.Integer) FoundOf y _ q (λ n r.
+    m-pure (Maybe FoundOf) (option_map (open_power at (first_of a.known) n) (open_of a)) (mapped OpenOf FoundOf (open_power at (first_of a.known) n) (open_of a) (open-found a g) (λ x p. open-power at (first_of a.known) n x r p))))
+
+m-static_power : (a : Found) (u : ℤ) (b : Found) (v : ℤ) → Makes (Maybe FoundOf) (static_power a u b v)
+unfolding static_power
+m-static_power a u b v =
+    m-bind Any (Maybe FoundOf) (fitting kind.Integer (first_of b.known) v) _ (m-kept (fitting kind.Integer (first_of b.known) v) (k-fitting spanning kind.Integer (first_of b.known) v)) (λ y q.
+    m-if (Maybe FoundOf) y (static_universal (first_of a.known) (both_mentions a b) (exact op.Pow u v)) (pure None) (m-static_universal (first_of a.known) (both_mentions a b) (exact op.Pow u v)) (m-none FoundOf))
+
+m-universal_to : (at : ℕ) (a b : Found) (x y : Option ℤ) → FoundOf a → FoundOf b → Makes (Maybe FoundOf) (universal_to at a b x y)
+m-universal_to at a b (Some u) (Some v) g h = m-static_power a u b v
+m-universal_to at a b (Some u) None g h = m-universal_power at a b g h
+m-universal_to at a b None y g h = m-universal_power at a b g h
+
+m-power_to : (at : ℕ) (a b : Found) (k : Option Kind) → FoundOf a → FoundOf b → Makes (Maybe FoundOf) (power_to at a b k)
+m-power_to at a b (Some k) g h = m-typed_operation op.Pow at k kind.Integer a b (inr (refl, refl)) g h
+m-power_to at a b None g h = m-universal_to at a b (value_of a.known) (value_of b.known) g h
+
+pub m-power : (at : ℕ) (x y : Option Found) → Maybe FoundOf x → Maybe FoundOf y → Makes (Maybe FoundOf) (power at x y)
+unfolding power
+m-power at x y g h = m-both FoundOf FoundOf FoundOf x y _ g h (λ a b p q.
+    m-if (Maybe FoundOf) (is_number a.known && suits kind.Integer b.known) (power_to at a b (kind_of a.known)) (fault at WrongType) (m-power_to at a b (kind_of a.known) p q) (m-fault FoundOf at WrongType))
+
+-- ---- unary operators
+
+m-static_unary : (s : Sign) (at : ℕ) (k : Kind) (a : Found) (z : ℤ) → Makes (Maybe FoundOf) (static_unary s at k a z)
+m-static_unary s at k a z =
+    m-bind Any (Maybe FoundOf) (fitting k (first_of a.known) z) _ (m-kept (fitting k (first_of a.known) z) (k-fitting spanning k (first_of a.known) z)) (λ x q.
+    m-if (Maybe FoundOf) x (static_of at k a.part (signed s z)) (pure None) (m-static_of at k a.part (signed s z)) (m-none FoundOf))
+
+m-unary_typed : (s : Sign) (at : ℕ) (k : Kind) (a : Found) (z : Option ℤ) → FoundOf a → Makes (Maybe FoundOf) (unary_typed s at k a z)
+m-unary_typed s at k a (Some z) g = m-static_unary s at k a z
+m-unary_typed s at k a None g =
+    m-bind (Maybe (AskedOf k)) (Maybe FoundOf) (asked k a) _ (m-asked k a g) (λ x q.
+    m-given (AskedOf k) FoundOf x _ q (λ n r. m-some FoundOf (scalar at k None (typed.Unary at s (class_of k) (as_expr n))) (is-typed k, r)))
+
+m-unary_open : (s : Sign) (at : ℕ) (a : Found) (z : Option ℤ) → FoundOf a → Makes (Maybe FoundOf) (unary_open s at a z)
+m-unary_open s at a (Some z) g = m-static_universal at a.part (signed s z)
+m-unary_open s at a None g = m-pure (Maybe FoundOf) (option_map (open_unary s at) (open_of a)) (mapped OpenOf FoundOf (open_unary s at) (open_of a) (open-found a g) (λ x p k i e. (is-typed k, p k i e)))
+
+m-unary_by : (s : Sign) (at : ℕ) (a : Found) (k : Option Kind) → FoundOf a → Makes (Maybe FoundOf) (unary_by s at a k)
+m-unary_by s at a (Some k) g = m-unary_typed s at k a (value_of a.known) g
+m-unary_by s at a None g = m-unary_open s at a (value_of a.known) g
+
+pub m-unary : (s : Sign) (at : ℕ) (x : Option Found) → Maybe FoundOf x → Makes (Maybe FoundOf) (unary s at x)
+unfolding unary
+m-unary s at x g = m-given FoundOf FoundOf x _ g (λ a p.
+    m-if (Maybe FoundOf) (is_number a.known) (unary_by s at a (kind_of a.known)) (fault at WrongType) (m-unary_by s at a (kind_of a.known) p) (m-fault FoundOf at WrongType))
+
+m-plain_typed : (at : ℕ) (k : Kind) (a : Found) (z : Option ℤ) → FoundOf a → Makes (Maybe FoundOf) (plain_typed at k a z)
+m-plain_typed at k a (Some z) g = m-static_of at k a.part (Some z)
+m-plain_typed at k a None g =
+    m-bind (Maybe (AskedOf k)) (Maybe FoundOf) (asked k a) _ (m-asked k a g) (λ x q.
+    m-given (AskedOf k) FoundOf x _ q (λ n r. m-some FoundOf (record { known = known.Scalar at k None; part = n }) r))
+
+m-plain_open : (at : ℕ) (a : Found) (z : Option ℤ) → FoundOf a → Makes (Maybe FoundOf) (plain_open at a z)
+m-plain_open at a (Some z) g = m-some FoundOf (universal at z false a.part) tt
+m-plain_open at a None g = m-pure (Maybe FoundOf) _ (mapped OpenOf FoundOf (λ x. record { known = known.Open at x.0; part = x.1 }) (open_of a) (open-found a g) (λ x p. p))
+
+m-plain_by : (at : ℕ) (a : Found) (k : Option Kind) → FoundOf a → Makes (Maybe FoundOf) (plain_by at a k)
+m-plain_by at a (Some k) g = m-plain_typed at k a (value_of a.known) g
+m-plain_by at a None g = m-plain_open at a (value_of a.known) g
+
+pub m-plain : (at : ℕ) (x : Option Found) → Maybe FoundOf x → Makes (Maybe FoundOf) (plain at x)
+unfolding plain
+m-plain at x g = m-given FoundOf FoundOf x _ g (λ a p.
+    m-if (Maybe FoundOf) (is_number a.known) (plain_by at a (kind_of a.known)) (fault at WrongType) (m-plain_by at a (kind_of a.known) p) (m-fault FoundOf at WrongType))
+
+m-negation : (at : ℕ) (a : Found) → FoundOf a → Makes (Maybe FoundOf) (negation at a)
+m-negation at a g =
+    m-bind (Maybe (AskedOf kind.Boolean)) (Maybe FoundOf) (asked kind.Boolean a) _ (m-asked kind.Boolean a g) (λ x q.
+    m-given (AskedOf kind.Boolean) FoundOf x _ q (λ e r. m-some FoundOf (scalar at kind.Boolean None (typed.Unary at unary'.Not class.Boolean (as_expr e))) (tt, r)))
+
+pub m-not_of : (at : ℕ) (x : Option Found) → Maybe FoundOf x → Makes (Maybe FoundOf) (not_of at x)
+unfolding not_of
+m-not_of at x g = m-given FoundOf FoundOf x _ g (λ a p.
+    m-if (Maybe FoundOf) (is_kind kind.Boolean (kind_of a.known)) (negation at a) (fault at WrongType) (m-negation at a p) (m-fault FoundOf at WrongType))
+
+-- ---- strings, logical operators, relations, membership
+
+m-joined_texts : (at : ℕ) (j : Known) (ps : Part) (k : Known) (qs : Part) → KnownOf j ps → KnownOf k qs → Makes (Maybe FoundOf) (joined_texts at j ps k qs)
+m-joined_texts at (known.Text first) ps (known.Text second) qs g h = m-some FoundOf (text_found first (also_all ps qs)) (each-all IsPiece ps qs g h)
+m-joined_texts at j ps k qs g h = m-fault FoundOf at WrongType
+
+pub m-joined_text : (at : ℕ) (x y : Option Found) → Maybe FoundOf x → Maybe FoundOf y → Makes (Maybe FoundOf) (joined_text at x y)
+unfolding joined_text
+m-joined_text at x y g h = m-both FoundOf FoundOf FoundOf x y _ g h (λ a b p q. m-joined_texts at a.known a.part b.known b.part p q)
+
+pub m-logical : (o : Op) (at : ℕ) (x y : Option Found) → Maybe FoundOf x → Maybe FoundOf y → Makes (Maybe FoundOf) (logical o at x y)
+unfolding logical
+m-logical o at x y g h = m-both FoundOf FoundOf FoundOf x y _ g h (λ a b p q.
+    m-if (Maybe FoundOf) (is_kind kind.Boolean (kind_of a.known) && is_kind kind.Boolean (kind_of b.known)) (operation_on o at kind.Boolean kind.Boolean a b) (fault at WrongType)
+    (m-operation_on o at kind.Boolean kind.Boolean a b (inl refl) p q) (m-fault FoundOf at WrongType))
+
+m-compared_at : (k : Kind) (c : Comparison) (a b : Found) → FoundOf a → FoundOf b → Makes (Maybe FoundOf) (compared_at k c a b)
+unfolding compared_at
+m-compared_at k c a b g h =
+    m-bind (Maybe (AskedOf k)) (Maybe FoundOf) (asked k a) _ (m-asked k a g) (λ x q.
+    m-bind (Maybe (AskedOf k)) (Maybe FoundOf) (asked k b) _ (m-asked k b h) (λ y r.
+    m-both (AskedOf k) (AskedOf k) FoundOf x y _ q r (λ e f s t. m-some FoundOf (scalar (first_of a.known) kind.Boolean None (typed.Relation (class_of k) c (as_expr e) (as_expr f))) (s, t))))
+
+m-compared_by : (c : Comparison) (at : ℕ) (a b : Found) (k : Kind) → FoundOf a → FoundOf b → Makes (Maybe FoundOf) (compared_by c at a b k)
+m-compared_by c at a b k g h = m-if (Maybe FoundOf) (suits k a.known && suits k b.known) (compared_at k c a b) (fault at WrongType) (m-compared_at k c a b g h) (m-fault FoundOf at WrongType)
+
+pub m-compared : (c : Comparison) (at : ℕ) (x y : Option Found) → Maybe FoundOf x → Maybe FoundOf y → Makes (Maybe FoundOf) (compared c at x y)
+unfolding compared
+m-compared c at x y g h = m-both FoundOf FoundOf FoundOf x y _ g h (λ a b p q. m-compared_by c at a b (common_kind (kind_of a.known) (kind_of b.known)) p q)
+
+m-within_bounds : (at : ℕ) (negated : Bool) (k : Kind) (x low high : Found) → FoundOf x → FoundOf low → FoundOf high → Makes (Maybe FoundOf) (within_bounds at negated k x low high)
+m-within_bounds at negated k x low high f g h =
+    m-if (Maybe FoundOf) (not (suits k x.known)) (fault at WrongType) _ (m-fault FoundOf at WrongType)
+    (m-bind (Maybe (AskedOf k)) (Maybe FoundOf) (asked k x) _ (m-asked k x f) (λ e p.
+    m-bind (Maybe (AskedOf k)) (Maybe FoundOf) (asked k low) _ (m-asked k low g) (λ l q.
+    m-bind (Maybe (AskedOf k)) (Maybe FoundOf) (asked k high) _ (m-asked k high h) (λ m r.
+    m-given (AskedOf k) FoundOf e _ p (λ u s. m-both (AskedOf k) (AskedOf k) FoundOf l m _ q r (λ v w t i.
+    m-some FoundOf (member (first_of x.known) negated k (as_expr u) (as_expr v) (as_expr w)) (s, t, i)))))))
+
+m-member_of : (at : ℕ) (negated : Bool) (a l h : Found) → FoundOf a → FoundOf l → FoundOf h → Makes (Maybe FoundOf) (member_of at negated a l h)
+m-member_of at negated a l h p q r =
+    m-if (Maybe FoundOf) (not (is_scalar a.known)) (fault at WrongType) _ (m-fault FoundOf at WrongType)
+    (m-if (Maybe FoundOf) (not (is_scalar l.known)) (fault (first_of l.known) WrongType) _ (m-fault FoundOf (first_of l.known) WrongType)
+    (m-if (Maybe FoundOf) (not (is_scalar h.known)) (fault (first_of h.known) WrongType) _ (m-fault FoundOf (first_of h.known) WrongType)
+    (m-within_bounds at negated (common_kind (first_kind (kind_of a.known) (kind_of l.known)) (kind_of h.known)) a l h p q r)))
+
+pub m-membership : (at : ℕ) (negated : Bool) (x low high : Option Found) → Maybe FoundOf x → Maybe FoundOf low → Maybe FoundOf high → Makes (Maybe FoundOf) (membership at negated x low high)
+unfolding membership
+m-membership at negated x low high f g h = m-given FoundOf FoundOf x _ f (λ a p. m-both FoundOf FoundOf FoundOf low high (member_of at negated a) g h (λ l m q r. m-member_of at negated a l m p q r))
+
+pub m-of_subtype : (at : ℕ) (negated : Bool) (mark : ℕ) (x : Option Found) (s : Option Scalar) → Maybe FoundOf x → Maybe SpanOf s → Makes (Maybe FoundOf) (of_subtype at negated mark x s)
+unfolding of_subtype
+m-of_subtype at negated mark x s g h = m-both FoundOf SpanOf FoundOf x s _ g h (λ a t p q.
+    m-if (Maybe FoundOf) (suits t.kind a.known) _ (fault at WrongType)
+    (m-bind (Maybe (AskedOf t.kind)) (Maybe FoundOf) (asked t.kind a) _ (m-asked t.kind a p) (λ e r.
+    m-given (AskedOf t.kind) FoundOf e _ r (λ u i.
+    m-some FoundOf (member (first_of a.known) negated t.kind (as_expr u) (limit_of mark t.low) (limit_of mark t.high)) (i, has-value t.kind t.low q.first, has-value t.kind t.high q.last))))
+    (m-fault FoundOf at WrongType))
