@@ -8,14 +8,14 @@ use Rattle.ada_base.specs.declared.operation.Op.{Op}
 use Rattle.ada_typed.specs.declared.scalars.Class.{Class}
 use Rattle.ada_typed.specs.Decoded.{part_at, expr_at}
 use Rattle.ada_meaning.specs.Operations.{operate}
-use Rattle.ada_typed.specs.Chained.{applied, linked, right_of, AreBelow}
+use Rattle.ada_typed.specs.Chained.{linked, right_of, AreBelow}
 use Rattle.ada_meaning.specs.Meaning.{Env}
-use Rattle.ada_meaning.specs.Stored.{Stored, After, Fault, MemoryFault, Stops, State, next, next_halts, bind, doings, checks}
+use Rattle.ada_meaning.specs.Stored.{Stored, After, Fault, Stops, State, next, next_halts, bind, doings, checks}
 use Rattle.run_store.specs.declared.ends.End.{End}
 use Rattle.run_store.specs.Outside.{Outside}
 use Rattle.run_store.specs.Operating.{outside_of}
 use Rattle.run_store.specs.Shows.{Image, facing, Goes, Shows}
-use Rattle.run_store.proofs.Going.{also, goes_refl, goes_instead, goes_then, goes_ends, goes_shows, then_shows}
+use Rattle.run_store.proofs.Going.{also, goes_refl, goes_then, goes_ends, goes_shows, then_shows}
 use Rattle.run_parts.specs.declared.work.Work.{Work}
 use Rattle.run_parts.specs.Words.{nodes_of}
 use Rattle.ada_interpreter.specs.Walk as walk

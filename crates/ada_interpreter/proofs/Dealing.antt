@@ -1,5 +1,5 @@
 -- Parallel constructs, as the functions that go by them.
-use Rattle.std.proofs.Common.{◌≡◌, ◌<◌, ◌≤◌, ◌+◌, ◌-◌, arith, ℕ, zero, suc, min, ℤ, List, [], ◌∷◌, drop, false, Option, Some, None, refl, sym, subst, ap, ◌∙◌}
+use Rattle.std.proofs.Common.{◌≡◌, ◌<◌, ◌≤◌, ◌+◌, ◌-◌, arith, ℕ, zero, suc, min, ℤ, List, drop, false, Option, Some, None, refl, sym, subst, ap, ◌∙◌}
 use Rattle.std.specs.Prelude.{Result, Ok, Err}
 use Rattle.ada_base.specs.Cuts.{evens, cuts_of}
 use Rattle.ada_typed.specs.Syntax.{Expr, Reduction, Chunk, Count, Each, Iteration, Stmts, Arms, NoArm, Arm, Optional, Present}
@@ -13,7 +13,6 @@ use Rattle.ada_meaning.specs.Stored
 use Rattle.ada_meaning.specs.Stored.{Stored, threads, first_of_both, bind, ret}
 use Rattle.ada_meaning.proofs.Computing.{through_more, through_done}
 use Rattle.run_store.specs.declared.ends.End.{End}
-use Rattle.run_store.specs.declared.ends.End.TheVariants as end
 use Rattle.run_store.specs.Outside.{Outside}
 use Rattle.run_store.specs.Shows.{Image, Goes, ShowsAs, Shows}
 use Rattle.run_store.proofs.Going.{stays, goes_refl, goes_instead, goes_then, goes_ends, goes_gives, then_shows, same_shows}

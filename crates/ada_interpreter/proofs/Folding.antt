@@ -1,24 +1,21 @@
 -- Reductions, an iteration at a time, and accumulators, one after the other.
-use Rattle.std.proofs.Common.{◌≡◌, ℕ, zero, suc, ◌+◌, ◌-◌, ◌<◌, ◌≤◌, ℤ, List, [], ◌∷◌, drop, slice_get, false, Option, Some, None, refl, sym, subst, ap, ◌∙◌, arith}
+use Rattle.std.proofs.Common.{◌≡◌, ℕ, zero, suc, ◌+◌, ◌-◌, ◌<◌, ◌≤◌, ℤ, List, [], ◌∷◌, drop, slice_get, false, Option, Some, None, refl, sym, subst, arith}
 use Rattle.std.specs.Prelude.{Result, Ok, Err}
 use Rattle.behaviours.specs.Doings.{folded}
 use Rattle.behaviours.specs.Joins.{Share, deal}
-use Rattle.ada_typed.specs.Decoded.{iteration_at}
 use Rattle.ada_meaning.specs.Meaning as meaning
 use Rattle.ada_meaning.specs.Meaning.{Env, Course, inside}
 use Rattle.ada_meaning.specs.Stored
 use Rattle.ada_meaning.specs.Stored.{Stored, doings, bind, par, threads, after_all}
-use Rattle.ada_base.specs.Cuts.{cuts_of}
 use Rattle.ada_meaning.proofs.Computing.{through_more, through_done}
 use Rattle.run_store.specs.Outside.{Outside}
 use Rattle.run_store.specs.Shows.{Image, Goes, Shows}
 use Rattle.run_store.specs.declared.ends.End.{End}
-use Rattle.run_store.proofs.Going.{stays, goes_refl, goes_instead, goes_then, goes_ends, goes_gives, then_shows, same_shows}
+use Rattle.run_store.proofs.Going.{stays, goes_instead, goes_then, goes_ends, goes_gives, then_shows, same_shows}
 use Rattle.run_parts.specs.declared.work.Work.{Work}
 use Rattle.run_parts.specs.declared.chunks.Chunking.{Chunking}
 use Rattle.run_parts.specs.declared.chunks.Chunking.TheVariants as chunking
 use Rattle.run_parts.specs.Dealing.{chunking_of, fold_sizes}
-use Rattle.run_parts.specs.Words.{nodes_of}
 use Rattle.ada_interpreter.specs.declared.folds.Fold.{Fold}
 use Rattle.ada_interpreter.proofs.Threading.{threads_begin}
 use Rattle.ada_interpreter.specs.Walk as walk

@@ -24,7 +24,6 @@ use Rattle.run_store.specs.Shows.{Image, ShowsAs, Shows}
 use Rattle.run_store.proofs.Going.{stays, goes_refl, goes_ends, then_shows, same_shows}
 use Rattle.run_parts.specs.declared.work.Work.{Work}
 use Rattle.run_parts.specs.declared.passed.Passed.{Passed}
-use Rattle.run_parts.specs.declared.courses.Course.{Course}
 use Rattle.run_parts.specs.declared.courses.Course.TheVariants as course
 use Rattle.run_parts.specs.Passing.{passed_list, course_of}
 use Rattle.run_parts.specs.Words.{ops, bounds_hold, read_all, write_all}

@@ -1,5 +1,5 @@
 -- Loops that are left, and handlers.
-use Rattle.std.proofs.Common.{◌≡◌, ℕ, ℤ, List, Bool, true, false, ◌&&◌, cond, nat_eq, Option, Some, None, refl, sym, subst, ap, ◌∙◌, inl, inr}
+use Rattle.std.proofs.Common.{◌≡◌, ℕ, ℤ, List, Bool, true, false, ◌&&◌, cond, nat_eq, Some, None, refl, subst, ap, inr}
 use Rattle.std.specs.Prelude.{Result, Ok, Err, ◌||◌}
 use Rattle.ada_base.specs.declared.reason.Reason.{Reason}
 use Rattle.ada_base.specs.declared.reason.Reason.TheVariants as reason
@@ -17,7 +17,7 @@ use Rattle.run_store.specs.declared.ends.Leave.TheVariants as leave
 use Rattle.run_store.proofs.Going.{stays, same_shows, then_shows}
 use Rattle.run_parts.specs.declared.work.Work.{Work}
 use Rattle.run_parts.specs.Found.{found_handler, found_alternative}
-use Rattle.run_parts.specs.Caught.{caught, caught_exit}
+use Rattle.run_parts.specs.Caught.{caught}
 use Rattle.ada_interpreter.specs.Walk as walk
 use Rattle.ada_interpreter.proofs.Looping.{handles_not, handles_so}
 

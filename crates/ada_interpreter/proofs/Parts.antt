@@ -1,6 +1,6 @@
 -- Parts of the table, as what they are taken for.
-use Rattle.std.proofs.Common.{◌≡◌, refl}
-use Rattle.ada_typed.specs.Syntax.{Expr, Optional, Present, Absent}
+use Rattle.std.proofs.Common.{◌≡◌}
+use Rattle.ada_typed.specs.Syntax.{Expr, Present}
 use Rattle.ada_typed.specs.Decoded.{Part, as_expr, as_optional, AnExpr}
 
 pub present_is : (p : Part) (e : Expr) → as_optional p ≡ Present e → as_expr p ≡ e
