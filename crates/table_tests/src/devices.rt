@@ -57,8 +57,7 @@ fn shelf_in_memory_fails_where_listed_or_absent(rt: HostRuntime) -> Result<(), A
     }
     let mut shelf = MemShelf::new(texts, Vec::from_slice(alloc, &[1, 1, 4])?);
     for (name, want, faults) in FETCHES {
-        assert!(rt; gives(&mut shelf, alloc, name, want));
-        assert!(rt; shelf.faults() == faults);
+        assert!(rt; gives(&mut shelf, alloc, name, want) && shelf.faults() == faults);
     }
     Ok(())
 }
@@ -73,8 +72,7 @@ fn shelf_that_is_sure_gives_at_most_so_many_bytes(rt: HostRuntime) -> Result<(),
         (1_048_578, 1_048_577),
     ] {
         let mut shelf = SureShelf::new(vec![in alloc; b'x'; held]?);
-        assert!(rt; lent(&mut shelf, alloc, "any name") == Some(given));
-        assert!(rt; shelf.faults() == 0);
+        assert!(rt; lent(&mut shelf, alloc, "any name") == Some(given) && shelf.faults() == 0);
     }
     Ok(())
 }
@@ -88,17 +86,22 @@ fn next<S: Source>(source: &mut S) -> u32 {
     }
 }
 
+// Whether this comes of the source, which then has so many faults.
+fn tells<S: Source>(source: &mut S, want: u32, faults: u64) -> bool {
+    next(source) == want && source.faults() == faults
+}
+
 #[test]
 fn sources_in_memory_give_each_byte_once(rt: HostRuntime) -> Result<(), AllocError> {
     let alloc = rt.alloc();
     let mut sure = SureSource::new(Vec::from_slice(alloc, b"ab")?);
     for want in [97, 98, 256, 256] {
-        assert!(rt; next(&mut sure) == want && sure.faults() == 0);
+        assert!(rt; tells(&mut sure, want, 0));
     }
     let fails = Vec::from_slice(alloc, &[1, 1, 4, 9])?;
     let mut source = MemSource::new(Vec::from_slice(alloc, b"ab")?, fails);
     for (want, faults) in [(97, 0), (257, 1), (98, 1), (256, 1), (257, 2), (256, 2)] {
-        assert!(rt; next(&mut source) == want && source.faults() == faults);
+        assert!(rt; tells(&mut source, want, faults));
     }
     Ok(())
 }
@@ -123,15 +126,19 @@ const PUTS: [(&str, &str, u64); 9] = [
     ("gh", "abcdef", 5),
 ];
 
+// Whether the sink takes the piece or not, as is wanted, and then has so many faults.
+fn takes<S: Sink>(sink: &mut S, piece: &str, want: bool, faults: u64) -> bool {
+    sink.put(piece.as_bytes()).is_ok() == want && sink.faults() == faults
+}
+
 #[test]
 fn sink_in_memory_fails_where_listed_or_full(rt: HostRuntime) -> Result<(), AllocError> {
     let alloc = rt.alloc();
     let mut sink = MemSink::new(alloc, 6, Vec::from_slice(alloc, &FAILS)?)?;
     let mut before = 0;
     for (piece, held, faults) in PUTS {
-        assert!(rt; sink.put(piece.as_bytes()).is_ok() == (before == faults));
-        assert!(rt; sink.faults() == faults);
-        assert!(rt; *sink.bytes() == *held.as_bytes());
+        let taken = takes(&mut sink, piece, before == faults, faults);
+        assert!(rt; taken && *sink.bytes() == *held.as_bytes());
         before = faults;
     }
     Ok(())
@@ -142,10 +149,8 @@ fn sinks_that_are_sure_take_all(rt: HostRuntime) {
     let mut held = HeldSink::new(rt.alloc());
     let mut sure = SureSink::new();
     for (piece, bytes, count) in [("abc", "abc", 3), ("", "abc", 3), ("d", "abcd", 4)] {
-        assert!(rt; held.put(piece.as_bytes()).is_ok() && held.faults() == 0);
-        assert!(rt; *held.bytes() == *bytes.as_bytes());
-        assert!(rt; sure.put(piece.as_bytes()).is_ok() && sure.faults() == 0);
-        assert!(rt; sure.count() == count);
+        let taken = takes(&mut held, piece, true, 0) && takes(&mut sure, piece, true, 0);
+        assert!(rt; taken && *held.bytes() == *bytes.as_bytes() && sure.count() == count);
     }
 }
 
@@ -170,12 +175,10 @@ fn shelf_of_files_reads_what_was_written(rt: HostRuntime) -> Result<(), Fail> {
 // A test is run on empty input.
 #[test]
 fn standard_ports_are_asked(rt: HostRuntime) {
-    let mut source = StdSource::new(rt.stdin());
-    assert!(rt; next(&mut source) == 256 && source.faults() == 0);
-    let mut out = StdSink::new(rt.stdout());
-    assert!(rt; out.put(b"a piece\n").is_ok() && out.faults() == 0);
-    let mut err = ErrSink::new(rt.stderr());
-    assert!(rt; err.put(b"a piece\n").is_ok() && err.faults() == 0);
+    let asked = tells(&mut StdSource::new(rt.stdin()), 256, 0);
+    let put = takes(&mut StdSink::new(rt.stdout()), "a piece\n", true, 0);
+    let told = takes(&mut ErrSink::new(rt.stderr()), "a piece\n", true, 0);
+    assert!(rt; asked && put && told);
     Quiet::new().begins(3);
 }
 
@@ -244,10 +247,10 @@ fn source_over_a_reader_fails_where_it_does(rt: HostRuntime) {
     for (halt, last, faults) in [(Ok(0), 256, 0), (Err(ErrorKind::BrokenPipe), 257, 2)] {
         let mut source = StreamSource::new(Halting { left: 2, halt });
         for byte in [97, 98, 97, 98] {
-            assert!(rt; next(&mut source) == byte && source.faults() == 0);
+            assert!(rt; tells(&mut source, byte, 0));
         }
-        assert!(rt; next(&mut source) == last);
-        assert!(rt; next(&mut source) == last && source.faults() == faults);
+        let ended = next(&mut source) == last;
+        assert!(rt; ended && tells(&mut source, last, faults));
     }
 }
 
@@ -259,7 +262,6 @@ fn writing_fails_where_no_byte_is_taken(rt: HostRuntime) {
         (3, Err(ErrorKind::BrokenPipe), 1),
     ] {
         let mut sink = StreamSink::new(Halting { left, halt });
-        assert!(rt; sink.put(b"abcd").is_ok() == (faults == 0));
-        assert!(rt; sink.faults() == faults);
+        assert!(rt; takes(&mut sink, "abcd", faults == 0, faults));
     }
 }
