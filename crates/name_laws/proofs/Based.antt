@@ -20,8 +20,7 @@ use Rattle.name_rules.specs.declared.types.Kind.TheVariants as kind
 use Rattle.name_rules.specs.declared.types.Scalar.{Scalar}
 use Rattle.name_rules.specs.declared.types.Subtype.{Subtype}
 use Rattle.name_rules.specs.declared.types.Subtype.TheVariants as subtype
-use Rattle.name_laws.proofs.CellsCounted.{HaveValues}
-use Rattle.name_laws.proofs.CellsSound.{get_either}
+use Rattle.name_laws.proofs.Constants.{get-either}
 use Rattle.name_laws.proofs.Fitting.{Fits, fits_constant}
 use Rattle.name_laws.proofs.Walk.{Walk}
 use Rattle.name_laws.specs.Based.{AreSpans, ArraysBased, HasBased, IsBased, IsSpan}
@@ -85,10 +84,6 @@ pub spans_both : (a b : List Dimension) → AreSpans a → AreSpans b → AreSpa
 spans_both [] b h k = k
 spans_both (d ∷ a) b h k = (h.0, spans_both a b h.1 k)
 
-pub have_values : (ds : List Dimension) → AreSpans ds → HaveValues ds
-have_values [] h = tt
-have_values (d ∷ ds) h = (h.0.some, have_values ds h.1)
-
 -- ---- arrays, where nothing but scalar subtypes is written
 
 pub record Spanning (a b : Log) : Type 0 where
@@ -100,12 +95,13 @@ spanning_same a b e = record { at = λ h. subst ArraysBased e h }
 pub spanning_joined : (a b c : Log) → Spanning a b → Spanning b c → Spanning a c
 spanning_joined a b c f g = record { at = λ h. g.at (f.at h) }
 
-pub scalar_more : (shapes : List Shape) (s : Scalar) → ArraysBased shapes → ArraysBased (shapes ++ shape.Scalar s ∷ [])
-scalar_more shapes s h n ds c k cells e = by (get_either shapes (shape.Scalar s) n (shape.Array ds c k cells) e)
+-- one more shape, whose bounds are based where it is an array
+pub shape_more : (shapes : List Shape) (t : Shape) → ((ds : List Dimension) (c : Subtype) (k cells : ℕ) → t ≡ shape.Array ds c k cells → AreSpans ds) → ArraysBased shapes → ArraysBased (shapes ++ t ∷ [])
+shape_more shapes t f h n ds c k cells e = by (get-either shapes t n (shape.Array ds c k cells) e)
   where
-    by : (slice_get shapes n ≡ Some (shape.Array ds c k cells)) ⊎ ((n ≡ length shapes) × (shape.Scalar s ≡ shape.Array ds c k cells)) → AreSpans ds
+    by : (slice_get shapes n ≡ Some (shape.Array ds c k cells)) ⊎ (t ≡ shape.Array ds c k cells) → AreSpans ds
     by (inl g) = h n ds c k cells g
-    by (inr g) = let no : shape.Scalar s ≡ shape.Array ds c k cells = g.1 in absurd cc
+    by (inr g) = f ds c k cells g
 
 unless_spanning : (b : Bool) (at : ℕ) (rule : Rule) (log : Log) → Spanning log (unless b at rule log).1
 unless_spanning true at rule log = spanning_same log log refl
@@ -126,7 +122,7 @@ spanning = record {
   stays = λ log. spanning_same log log refl;
   joins = spanning_joined;
   breaks = λ at rule log. spanning_same log _ refl;
-  scalar = λ s log. record { at = scalar_more log.shapes s };
+  scalar = λ s log. record { at = shape_more log.shapes (shape.Scalar s) (λ ds c k cells e. absurd cc) };
   counted = counted_spanning;
   exception = λ token log. spanning_same log _ refl;
   site = λ here at k log. spanning_same log _ refl;

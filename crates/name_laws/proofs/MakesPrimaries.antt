@@ -53,7 +53,6 @@ use Rattle.name_rules.specs.declared.types.Subtype.TheVariants as subtype
 use Rattle.name_rules.specs.declared.types.Wanted.TheVariants as wanted
 use Rattle.name_rules.specs.declared.types.Wanted.{Wanted}
 use Rattle.name_laws.proofs.Based.{none-based, spanning}
-use Rattle.name_laws.proofs.EndsAttributes.{values-in}
 use Rattle.name_laws.proofs.KeepsIterations.{k-reverse_rule}
 use Rattle.name_laws.proofs.KeepsNames.{k-args_alone}
 use Rattle.name_laws.proofs.KeepsParts.{k-new_parameter, k-site_where}
@@ -61,7 +60,7 @@ use Rattle.name_laws.proofs.KeepsPrimaries.{k-inside}
 use Rattle.name_laws.proofs.KeepsReducers.{k-reducer_of}
 use Rattle.name_laws.proofs.Makes.{Any, Each, Makes, Maybe, joint, m-bind, m-both, m-fault, m-given, m-if, m-kept, m-none, m-pure, m-read, m-some, m-unless, m-where_clean, mapped}
 use Rattle.name_laws.proofs.MakesAggregates.{m-aggregate}
-use Rattle.name_laws.proofs.MakesAttributes.{m-attribute_found, m-bound_with, m-scalar_with, m-settled_attribute}
+use Rattle.name_laws.proofs.MakesAttributes.{m-attribute_found, m-bound_with, m-scalar_with, m-settled_attribute, spans-in}
 use Rattle.name_laws.proofs.MakesCalls.{m-conversion, m-sub_call}
 use Rattle.name_laws.proofs.MakesExpressions.{Finding, LevelFits, m-condition, m-expr, m-placed}
 use Rattle.name_laws.proofs.MakesNames.{m-field, m-object_call, m-wrong_call}
@@ -117,7 +116,7 @@ m-reduced_with names inside here first p x at a bracket as' b l r h = m-no_array
 m-of_array : (names : Names) (inside : Inside) (here : Context) (first : ℕ) (p : Prefix) (x : Part) (at : ℕ) (a : Attribute) (bracket : ℕ) (as' : Args) → LevelFits inside → AreBased here.scope → Makes (Maybe DenotedOf) (of_array names inside here first p x at a bracket as')
 m-of_array names inside here first p x at a bracket as' l r =
     m-if (Maybe DenotedOf) (is_bound a) (read (λ log. dimensions_in log (prefix_subtype p)) >>= bound_with names inside here first (mentioned p x) a bracket as') (wrong_call names inside here first as')
-    (record { at = λ log h. (m-bound_with names inside here first (mentioned p x) a bracket as' (dimensions_in log (prefix_subtype p)) l r (values-in log (prefix_subtype p) h)).at log h })
+    (record { at = λ log h. (m-bound_with names inside here first (mentioned p x) a bracket as' (dimensions_in log (prefix_subtype p)) l r (spans-in log (prefix_subtype p) h)).at log h })
     (m-wrong_call names inside here first as' l)
 
 m-other_with : (names : Names) (inside : Inside) (here : Context) (first : ℕ) (p : Prefix) (x : Part) (at : ℕ) (a : Attribute) (bracket : ℕ) (as' : Args) → LevelFits inside → AreBased here.scope → PrefixOf p x → Makes (Maybe DenotedOf) (other_with names inside here first p x at a bracket as')
