@@ -32,7 +32,6 @@ pub mod CellsCounted
 pub mod Based
 pub mod CellsSound
 pub mod CellsGrown
-pub mod Statics
 pub mod CellsDeclared
 pub mod EndsScope
 pub mod EndsNames
@@ -45,7 +44,7 @@ pub mod CellsAround
 pub mod CellsStatements
 pub mod CellsPrograms
 pub mod CellsFormed
-pub mod BasedLaw
+pub mod Statics
 pub mod Makes
 pub mod MakesValues
 pub mod MakesOperators
@@ -62,3 +61,4 @@ pub mod MakesPrimaries
 pub mod MakesDeclarations
 pub mod MakesStatements
 pub mod MakesPrograms
+pub mod BasedLaw

@@ -2,18 +2,19 @@
 -- class that its place or its operator has, and no operator is universal any more.
 use Rattle.ada_tree.specs.Syntax as syntax
 use Rattle.ada_base.specs.Operation.{is_in_base}
-use Rattle.ada_base.specs.declared.operation.Base.TheVariants.{Narrow}
+use Rattle.ada_base.specs.declared.operation.Base.TheVariants.{Narrow, Wide}
 use Rattle.ada_base.specs.declared.operation.Op.{Op}
 use Rattle.ada_base.specs.declared.operation.Op.TheVariants as op
 use Rattle.ada_typed.specs.Syntax.{Actuals, Aggregate, AlsoExpr, AndThen, Association, Associations, Binary, Call, Cells, Chunk, Components, Composite, CompositeIf, CompositeInOut, CompositeOut, Constant, Convert, Count, Each, Expr, Exprs, Field, Group, If, In, InOut, Index, Iteration, Membership, NoActual, NoAssociation, NoChunk, NoExpr, Number, Optional, Absent, Present, OrElse, Out, Parameter, Range, Reduction, Relation, Selections, Static, Target, Unary, Value, Variable, Whole, WholeConstant, WholeTarget, WholeVariable}
-use Rattle.ada_typed.specs.Syntax.{Alternative, Alternatives, Arm, Arms, Assign, Block, Body, CallProcedure, Case, DeclareConstant, DeclareDefault, DeclareVariable, Decls, End, Exit, For, Get, Handler, Handlers, IfThen, Image, Loop, Mentions, NoAlternative, NoArm, NoDecl, NoHandler, NoPiece, Null, Padded, Parallel, ParallelFor, Pieces, Program, Put, Raise, Reraise, Return, ReturnValue, Stmt, Stmts, Sub, Text, Then}
+use Rattle.ada_typed.specs.Syntax.{Alternative, Alternatives, Arm, Arms, Array, Assign, Block, Body, CallProcedure, Case, DeclareConstant, DeclareDefault, DeclareVariable, Decls, End, Exit, For, Get, Handler, Handlers, IfThen, Image, Loop, Mentions, NoAlternative, NoArm, NoDecl, NoHandler, NoPiece, Null, Padded, Parallel, ParallelFor, Pieces, Program, Put, Raise, Reraise, Return, ReturnValue, Stmt, Stmts, Sub, Text, Then}
 use Rattle.ada_typed.specs.declared.expressions.Reducer.{Reducer}
 use Rattle.ada_typed.specs.declared.expressions.Reducer.TheVariants.{Operator, Function}
+use Rattle.ada_typed.specs.declared.program.Bounds.{Bounds}
 use Rattle.ada_typed.specs.declared.scalars.Class.{Class}
 use Rattle.ada_typed.specs.declared.scalars.Class.TheVariants as class
 use Rattle.name_rules.specs.Resolved.{TypedOf}
 use Rattle.name_rules.specs.declared.scope.Names.{Names}
-use Rattle.std.specs.Prelude.{List, Some, [], ◌∷◌, int_le, pos, true, ℕ, ℤ, ◌&&◌, ◌≡◌, ◌⊎◌}
+use Rattle.std.specs.Prelude.{List, Some, [], ◌∷◌, int_le, pos, slice_get, true, ℕ, ℤ, ◌&&◌, ◌≡◌, ◌⊎◌}
 
 abbrev pub HasValue : Class → ℤ → Type 0
 HasValue class.Boolean z = (int_le (pos 0) z && int_le z (pos 1)) ≡ true
@@ -158,7 +159,15 @@ SubsFit (s ∷ ss) = BodyFits s.body × SubsFit ss
 abbrev pub ProgramFits : Program → Type 0
 ProgramFits p = SubsFit p.subs × BodyFits p.body
 
+-- the bounds of an array type's dimensions
+abbrev pub BoundsFit : List Bounds → Type 0
+BoundsFit [] = Unit {0}
+BoundsFit (b ∷ bs) = (is_in_base Wide b.low ≡ true) × (is_in_base Wide b.high ≡ true) × BoundsFit bs
+
 -- Every static expression that a text's typed program evaluates is a value of the base range of its class, whatever it
--- stands in: under an operator, in a place with a subtype, as an index, a bound, an actual parameter or a condition.
-abbrev pub ClassesLaw : Type 0
-ClassesLaw = (names : Names) (text : syntax.Program) (program : Program) → TypedOf names text ≡ Some program → ProgramFits program
+-- stands in: under an operator, in a place with a subtype, as an index, a bound, an actual parameter or a condition. The
+-- bounds of its array types are values of 64 bits.
+pub record ClassesLaw : Type 0 where
+  pub expressions : (names : Names) (text : syntax.Program) (program : Program) → TypedOf names text ≡ Some program → ProgramFits program
+  pub bounds : (names : Names) (text : syntax.Program) (program : Program) → TypedOf names text ≡ Some program
+      → (n : ℕ) (bs : List Bounds) (component : ℕ) → slice_get program.subtypes n ≡ Some (Array bs component) → BoundsFit bs
