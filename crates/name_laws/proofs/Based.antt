@@ -1,14 +1,12 @@
 -- What lies between the bounds of a subtype lies in its base range, and arrays keep bounds of base ranges.
-use Rattle.std.proofs.Common.{◌≡◌, ℕ, suc, ◌+◌, ◌≤◌, ℤ, pos, negsuc, int_le, List, [], ◌∷◌, ◌++◌, length, Option, Some, None, Bool, true, false, true≢false, refl, sym, ap, ◌∙◌, ◌⊎◌, inl, inr, arith, ◌&&◌, le-leb, leb-true, nat_le, nat_lt, slice_get, subst, ◌==◌}
+use Rattle.std.proofs.Common.{◌≡◌, ℕ, ◌+◌, ℤ, pos, negsuc, int_le, List, [], ◌∷◌, ◌++◌, Option, Some, None, Bool, true, false, true≢false, refl, sym, ap, ◌∙◌, ◌⊎◌, inl, inr, arith, ◌&&◌, le-leb, leb-true, nat_le, nat_lt, slice_get, subst, ◌==◌}
 use Rattle.std.specs.Prelude.{not, ◌||◌}
 use Rattle.std.proofs.lemmas.Bool.{and_parts}
-use Rattle.ada_base.specs.Operation.{greatest_of, is_in_base, least_of}
-use Rattle.ada_base.specs.declared.operation.Base.{Base}
+use Rattle.ada_base.specs.Operation.{greatest_of, least_of}
 use Rattle.ada_base.specs.declared.operation.Base.TheVariants.{Narrow, Wide}
 use Rattle.name_rules.specs.Declarations.{Initial, cells_counted, constant_value}
 use Rattle.name_rules.specs.Judging.{unless}
 use Rattle.name_rules.specs.Types.{in_base, lies_in, saturated}
-use Rattle.name_rules.specs.Values.{kind_in, place_scalar}
 use Rattle.name_rules.specs.declared.log.Dimension.{Dimension}
 use Rattle.name_rules.specs.declared.log.Log.{Log}
 use Rattle.name_rules.specs.declared.log.Rule.{Rule}

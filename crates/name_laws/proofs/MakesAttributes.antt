@@ -11,7 +11,7 @@ use Rattle.name_rules.specs.Attributes.{alone, attribute_found, bound_alone, bou
 use Rattle.name_rules.specs.Calls.{arg_names, operands}
 use Rattle.name_rules.specs.Expressions.{Inside}
 use Rattle.name_rules.specs.Found.{Denoted, Found, denote, parameter_found, static, universal, value_denoted}
-use Rattle.name_rules.specs.Judging.{◌>>=◌, fault, given, joined, pure, read, some}
+use Rattle.name_rules.specs.Judging.{◌>>=◌, fault, given, joined, read}
 use Rattle.name_rules.specs.Names.{denoted_first, wrong_call}
 use Rattle.name_rules.specs.Operators.{limit_of}
 use Rattle.name_rules.specs.TypedParts.{also_all}

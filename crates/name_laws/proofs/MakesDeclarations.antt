@@ -1,5 +1,5 @@
 -- What is found fits: declarations, and what is around those behind them.
-use Rattle.std.proofs.Common.{◌≡◌, refl, sym, subst, ◌⊎◌, inl, inr, ℕ, ℤ, List, [], ◌∷◌, ◌++◌, length, Option, Some, None, Bool, true, false, if◌then◌else◌, option_map, ◌&&◌, ◌+◌, int_le, nat_le, nat_lt, slice_get}
+use Rattle.std.proofs.Common.{◌≡◌, refl, subst, ℕ, ℤ, List, [], ◌∷◌, ◌++◌, length, Option, Some, None, Bool, true, false, if◌then◌else◌, option_map, ◌&&◌, ◌+◌, int_le, nat_le}
 use Rattle.std.proofs.lemmas.Bool.{and_parts}
 use Rattle.std.specs.Prelude.{is_some, not}
 use Rattle.ada_base.specs.declared.reason.Reason.TheVariants as reason
@@ -9,20 +9,19 @@ use Rattle.ada_tree.specs.Syntax.{Array, Comp, Decl, Definition, Expr, Ids, Indi
 use Rattle.ada_typed.specs.Decoded as part
 use Rattle.ada_typed.specs.Decoded.{Part, as_decl, as_decls, as_value}
 use Rattle.ada_typed.specs.Latest.{turned}
-use Rattle.ada_typed.specs.Syntax as typed
 use Rattle.ada_typed.specs.Syntax.{Decls}
 use Rattle.name_rules.specs.Declarations as d
 use Rattle.name_rules.specs.Declarations.{Building, Dimensions, Indicated, Initial, all_ids, indicated}
 use Rattle.name_rules.specs.Expressions.{Inside, expr, judged_alone}
-use Rattle.name_rules.specs.Found.{Denoted, Found}
-use Rattle.name_rules.specs.Judging.{Judging, ◌>>=◌, both, fault, given, joined, pure, read, some, unless}
+use Rattle.name_rules.specs.Found.{Found}
+use Rattle.name_rules.specs.Judging.{◌>>=◌, both, fault, given, joined, pure, read, some, unless}
 use Rattle.name_rules.specs.Names.{denoted_first}
 use Rattle.name_rules.specs.Operators.{both_mentions}
 use Rattle.name_rules.specs.Ranges as ranges
 use Rattle.name_rules.specs.Ranges.{Static, both_static, scalar_type, static_range, two_bounds}
 use Rattle.name_rules.specs.Scope.{as_scalar, declared, entry, free, hidden_where, subtype_named}
 use Rattle.name_rules.specs.Symbols.{symbol}
-use Rattle.name_rules.specs.TypedParts.{also, also_all}
+use Rattle.name_rules.specs.TypedParts.{also_all}
 use Rattle.name_rules.specs.Types.{array_cells, cells_in, in_base, is_integer, lies_in, number_of, saturated, wanted_of, written_shape}
 use Rattle.name_rules.specs.Values.{asked, first_of, is_number, static_value, stored, suits, value_of}
 use Rattle.name_rules.specs.declared.found.Denoted.TheVariants as denoted
@@ -31,7 +30,6 @@ use Rattle.name_rules.specs.declared.log.Dimension.{Dimension}
 use Rattle.name_rules.specs.declared.log.Field.{Field}
 use Rattle.name_rules.specs.declared.log.Log.{Log}
 use Rattle.name_rules.specs.declared.log.Rule.TheVariants.{Limit, StaticRange, WrongType}
-use Rattle.name_rules.specs.declared.log.Shape.{Shape}
 use Rattle.name_rules.specs.declared.log.Shape.TheVariants as shape
 use Rattle.name_rules.specs.declared.scope.Context.{Context}
 use Rattle.name_rules.specs.declared.scope.Names.{Names}
@@ -44,7 +42,7 @@ use Rattle.name_rules.specs.declared.types.Subtype.{Subtype}
 use Rattle.name_rules.specs.declared.types.Subtype.TheVariants as subtype
 use Rattle.name_rules.specs.declared.types.Wanted.TheVariants as wanted
 use Rattle.name_laws.proofs.Based.{constant-based, shape_more, spanning, spans_both, within-based}
-use Rattle.name_laws.proofs.KeepsDeclarations.{k-begun_names, k-cells_counted, k-new_exception, k-own_type, k-static_number, k-valued_constant}
+use Rattle.name_laws.proofs.KeepsDeclarations.{k-cells_counted, k-new_exception, k-static_number, k-valued_constant}
 use Rattle.name_laws.proofs.KeepsRanges.{k-both_static}
 use Rattle.name_laws.proofs.KeepsScope.{k-free}
 use Rattle.name_laws.proofs.KeepsTypes.{k-number_of}
@@ -55,7 +53,7 @@ use Rattle.name_laws.proofs.MakesRanges.{AreFinding, any, are-based, m-scalar_ty
 use Rattle.name_laws.proofs.MakesScope.{DenotedOf, DenotesOf, m-as_scalar, m-subtype_named}
 use Rattle.name_laws.proofs.MakesValues.{FoundOf, SpanOf, ValueOf, m-stored}
 use Rattle.name_laws.proofs.Statics.{static_law}
-use Rattle.name_laws.specs.Based.{AreBased, AreSpans, ArraysBased, IsBased, IsBasedWhat, IsSpan}
+use Rattle.name_laws.specs.Based.{AreBased, AreSpans, IsBased, IsBasedWhat, IsSpan}
 use Rattle.name_laws.specs.Classes.{DeclsFit}
 
 -- ---- subtype indications

@@ -1,12 +1,10 @@
 -- What is found fits: operators.
-use Rattle.std.proofs.Common.{◌≡◌, refl, sym, ap, subst, ◌∙◌, ◌⊎◌, inl, inr, ℕ, ℤ, pos, Option, Some, None, Bool, true, false, if◌then◌else◌, option_map, ◌&&◌}
+use Rattle.std.proofs.Common.{◌≡◌, refl, sym, subst, ◌⊎◌, inl, inr, ℕ, ℤ, pos, Option, Some, None, Bool, true, false, if◌then◌else◌, option_map, ◌&&◌}
 use Rattle.std.specs.Prelude.{not}
 use Rattle.ada_base.specs.Operation.{is_in_base}
 use Rattle.ada_base.specs.declared.operation.Base.TheVariants.{Narrow, Wide}
 use Rattle.ada_base.specs.declared.operation.Op.{Op}
 use Rattle.ada_base.specs.declared.operation.Op.TheVariants as op
-use Rattle.ada_typed.specs.Classes.{with_class}
-use Rattle.ada_typed.specs.Decoded as part
 use Rattle.ada_typed.specs.Decoded.{Part, as_expr}
 use Rattle.ada_typed.specs.Syntax as typed
 use Rattle.ada_typed.specs.Syntax.{Expr as TypedExpr}
@@ -14,11 +12,11 @@ use Rattle.ada_typed.specs.declared.expressions.Sign.TheVariants as unary'
 use Rattle.ada_typed.specs.declared.expressions.Sign.{Sign}
 use Rattle.ada_typed.specs.declared.scalars.Class.TheVariants as class
 use Rattle.ada_typed.specs.declared.scalars.Comparison.{Comparison}
-use Rattle.name_rules.specs.Found.{Found, opened, scalar, static, text_found, universal}
-use Rattle.name_rules.specs.Judging.{◌>>=◌, both, fault, given, joined, pure, some}
+use Rattle.name_rules.specs.Found.{Found, scalar, static, text_found, universal}
+use Rattle.name_rules.specs.Judging.{fault, pure, some}
 use Rattle.name_rules.specs.Operators.{binary, both_mentions, by_kinds, common_kind, compared, compared_at, compared_by, first_kind, joined_text, joined_texts, leaf, leaf_limits, limit_of, logical, member, member_of, membership, negation, not_of, of_subtype, open_binary, open_form, open_of, open_power, open_two, open_unary, operand_blamed, operation, operation_by, operation_on, plain, plain_by, plain_open, plain_typed, power, power_to, signed, static_of, static_operation, static_power, static_unary, static_universal, typed_operation, unary, unary_by, unary_open, unary_typed, universal_by, universal_operation, universal_power, universal_to, within_bounds}
-use Rattle.name_rules.specs.TypedParts.{also_all, exprs_of}
-use Rattle.name_rules.specs.Types.{class_of, in_base, is_integer, same}
+use Rattle.name_rules.specs.TypedParts.{also_all}
+use Rattle.name_rules.specs.Types.{class_of, in_base, same}
 use Rattle.name_rules.specs.Values.{asked, beyond, exact, first_of, fitting, is_kind, is_number, is_scalar, joint, kind_of, sooner, suits, value_of}
 use Rattle.name_rules.specs.declared.found.Found.TheVariants as known
 use Rattle.name_rules.specs.declared.found.Found.{Found as Known}
@@ -29,9 +27,9 @@ use Rattle.name_rules.specs.declared.types.Kind.TheVariants as kind
 use Rattle.name_rules.specs.declared.types.Scalar.{Scalar}
 use Rattle.name_laws.proofs.Based.{spanning}
 use Rattle.name_laws.proofs.KeepsValues.{k-fitting}
-use Rattle.name_laws.proofs.Makes.{Any, Each, Makes, Maybe, each-all, joint as joined-parts, m-bind, m-both, m-fault, m-given, m-if, m-kept, m-none, m-pure, m-some, m-test, mapped}
+use Rattle.name_laws.proofs.Makes.{Any, Makes, Maybe, each-all, joint as joined-parts, m-bind, m-both, m-fault, m-given, m-if, m-kept, m-none, m-pure, m-some, m-test, mapped}
 use Rattle.name_laws.proofs.MakesValues.{AskedOf, FoundOf, IsOpen, IsPiece, KnownOf, SpanOf, has-value, is-typed, m-asked, with-same}
-use Rattle.name_laws.specs.Classes.{ExprFits, HasValue, exponent}
+use Rattle.name_laws.specs.Classes.{ExprFits, exponent}
 
 -- ---- static results
 

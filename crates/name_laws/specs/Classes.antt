@@ -3,9 +3,8 @@
 use Rattle.ada_tree.specs.Syntax as syntax
 use Rattle.ada_base.specs.Operation.{is_in_base}
 use Rattle.ada_base.specs.declared.operation.Base.TheVariants.{Narrow, Wide}
-use Rattle.ada_base.specs.declared.operation.Op.{Op}
 use Rattle.ada_base.specs.declared.operation.Op.TheVariants as op
-use Rattle.ada_typed.specs.Syntax.{Actuals, Aggregate, AlsoExpr, AndThen, Association, Associations, Binary, Call, Cells, Chunk, Components, Composite, CompositeIf, CompositeInOut, CompositeOut, Constant, Convert, Count, Each, Expr, Exprs, Field, Group, If, In, InOut, Index, Iteration, Membership, NoActual, NoAssociation, NoChunk, NoExpr, Number, Optional, Absent, Present, OrElse, Out, Parameter, Range, Reduction, Relation, Selections, Static, Target, Unary, Value, Variable, Whole, WholeConstant, WholeTarget, WholeVariable}
+use Rattle.ada_typed.specs.Syntax.{Actuals, Aggregate, AndThen, Association, Associations, Binary, Call, Cells, Chunk, Components, Composite, CompositeIf, CompositeInOut, CompositeOut, Constant, Convert, Count, Each, Expr, Field, Group, If, In, InOut, Index, Iteration, Membership, NoActual, NoAssociation, NoChunk, Number, Optional, Absent, Present, OrElse, Out, Parameter, Range, Reduction, Relation, Selections, Static, Target, Unary, Value, Variable, Whole, WholeConstant, WholeTarget, WholeVariable}
 use Rattle.ada_typed.specs.Syntax.{Alternative, Alternatives, Arm, Arms, Array, Assign, Block, Body, CallProcedure, Case, DeclareConstant, DeclareDefault, DeclareVariable, Decls, End, Exit, For, Get, Handler, Handlers, IfThen, Image, Loop, Mentions, NoAlternative, NoArm, NoDecl, NoHandler, NoPiece, Null, Padded, Parallel, ParallelFor, Pieces, Program, Put, Raise, Reraise, Return, ReturnValue, Stmt, Stmts, Sub, Text, Then}
 use Rattle.ada_typed.specs.declared.expressions.Reducer.{Reducer}
 use Rattle.ada_typed.specs.declared.expressions.Reducer.TheVariants.{Operator, Function}
