@@ -6,7 +6,7 @@ use Rattle.ada_base.specs.Operation.{greatest_of, least_of}
 use Rattle.ada_base.specs.declared.operation.Base.TheVariants.{Narrow, Wide}
 use Rattle.name_rules.specs.Declarations.{Initial, cells_counted, constant_value}
 use Rattle.name_rules.specs.Judging.{unless}
-use Rattle.name_rules.specs.Types.{in_base, lies_in, saturated}
+use Rattle.name_rules.specs.Types.{in_base, lies_in, saturated, written_shape}
 use Rattle.name_rules.specs.declared.log.Dimension.{Dimension}
 use Rattle.name_rules.specs.declared.log.Log.{Log}
 use Rattle.name_rules.specs.declared.log.Rule.{Rule}
@@ -101,6 +101,9 @@ shape_more shapes t f h n ds c k cells e = by (get-either shapes t n (shape.Arra
     by (inl g) = h n ds c k cells g
     by (inr g) = f ds c k cells g
 
+pub scalar_spanning : (s : Scalar) (log : Log) → Spanning log (written_shape (shape.Scalar s) log).1
+scalar_spanning s log = record { at = shape_more log.shapes (shape.Scalar s) (λ ds c k cells e. absurd cc) }
+
 unless_spanning : (b : Bool) (at : ℕ) (rule : Rule) (log : Log) → Spanning log (unless b at rule log).1
 unless_spanning true at rule log = spanning_same log log refl
 unless_spanning false at rule log = spanning_same log _ refl
@@ -120,7 +123,7 @@ spanning = record {
   stays = λ log. spanning_same log log refl;
   joins = spanning_joined;
   breaks = λ at rule log. spanning_same log _ refl;
-  scalar = λ s log. record { at = shape_more log.shapes (shape.Scalar s) (λ ds c k cells e. absurd cc) };
+  scalar = scalar_spanning;
   counted = counted_spanning;
   exception = λ token log. spanning_same log _ refl;
   site = λ here at k log. spanning_same log _ refl;

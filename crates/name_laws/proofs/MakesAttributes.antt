@@ -169,7 +169,7 @@ m-two_arguments_of names inside here bracket k make as' l r t =
     m-given AllFound DenotedOf fs (two_named bracket k make (first_named (arg_names as'))) q (λ gs s. m-two_named bracket k make (first_named (arg_names as')) gs t s))
 
 takes-image : (first : ℕ) (k : Kind) → Takes k (image_text first k)
-takes-image first k x h = ((λ ps r. (h, r)), tt)
+takes-image first k x h = ((λ ps r. (is-typed k, h, r)), tt)
 
 takes-extreme : (first : ℕ) (k : Kind) (o : Op) → TakesTwo k (extreme first k o)
 takes-extreme first k o x y g h = (is-typed k, g, inl h)

@@ -258,7 +258,7 @@ unfolding compared_at
 m-compared_at k c a b g h =
     m-bind (Maybe (AskedOf k)) (Maybe FoundOf) (asked k a) _ (m-asked k a g) (λ x q.
     m-bind (Maybe (AskedOf k)) (Maybe FoundOf) (asked k b) _ (m-asked k b h) (λ y r.
-    m-both (AskedOf k) (AskedOf k) FoundOf x y _ q r (λ e f s t. m-some FoundOf (scalar (first_of a.known) kind.Boolean None (typed.Relation (class_of k) c (as_expr e) (as_expr f))) (s, t))))
+    m-both (AskedOf k) (AskedOf k) FoundOf x y _ q r (λ e f s t. m-some FoundOf (scalar (first_of a.known) kind.Boolean None (typed.Relation (class_of k) c (as_expr e) (as_expr f))) (is-typed k, s, t))))
 
 m-compared_by : (c : Comparison) (at : ℕ) (a b : Found) (k : Kind) → FoundOf a → FoundOf b → Makes (Maybe FoundOf) (compared_by c at a b k)
 m-compared_by c at a b k g h = m-if (Maybe FoundOf) (suits k a.known && suits k b.known) (compared_at k c a b) (fault at WrongType) (m-compared_at k c a b g h) (m-fault FoundOf at WrongType)
@@ -274,7 +274,7 @@ m-within_bounds at negated k x low high f g h =
     m-bind (Maybe (AskedOf k)) (Maybe FoundOf) (asked k low) _ (m-asked k low g) (λ l q.
     m-bind (Maybe (AskedOf k)) (Maybe FoundOf) (asked k high) _ (m-asked k high h) (λ m r.
     m-given (AskedOf k) FoundOf e _ p (λ u s. m-both (AskedOf k) (AskedOf k) FoundOf l m _ q r (λ v w t i.
-    m-some FoundOf (member (first_of x.known) negated k (as_expr u) (as_expr v) (as_expr w)) (s, t, i)))))))
+    m-some FoundOf (member (first_of x.known) negated k (as_expr u) (as_expr v) (as_expr w)) (is-typed k, s, t, i)))))))
 
 m-member_of : (at : ℕ) (negated : Bool) (a l h : Found) → FoundOf a → FoundOf l → FoundOf h → Makes (Maybe FoundOf) (member_of at negated a l h)
 m-member_of at negated a l h p q r =
@@ -293,5 +293,5 @@ m-of_subtype at negated mark x s g h = m-both FoundOf SpanOf FoundOf x s _ g h (
     m-if (Maybe FoundOf) (suits t.kind a.known) _ (fault at WrongType)
     (m-bind (Maybe (AskedOf t.kind)) (Maybe FoundOf) (asked t.kind a) _ (m-asked t.kind a p) (λ e r.
     m-given (AskedOf t.kind) FoundOf e _ r (λ u i.
-    m-some FoundOf (member (first_of a.known) negated t.kind (as_expr u) (limit_of mark t.low) (limit_of mark t.high)) (i, has-value t.kind t.low q.first, has-value t.kind t.high q.last))))
+    m-some FoundOf (member (first_of a.known) negated t.kind (as_expr u) (limit_of mark t.low) (limit_of mark t.high)) (is-typed t.kind, i, has-value t.kind t.low q.first, has-value t.kind t.high q.last))))
     (m-fault FoundOf at WrongType))

@@ -118,7 +118,7 @@ width-or first p h = by p.has_width
 m-put_complete : (at first last : ℕ) (p : Putting) → PuttingOf p → Makes (Maybe DenotedOf) (put_complete at first last p)
 m-put_complete at first last p h =
     m-if (Maybe DenotedOf) (nat_le p.count 2) _ (fault at WrongType)
-    (m-pure (Maybe DenotedOf) (judging.joined (put_number first last) p.item (width_or first p)) (joint NumberOf NumberOf DenotedOf (put_number first last) p.item (width_or first p) h.0 (width-or first p h) (λ a b s t. (s, t, tt)))) (m-fault DenotedOf at WrongType)
+    (m-pure (Maybe DenotedOf) (judging.joined (put_number first last) p.item (width_or first p)) (joint NumberOf NumberOf DenotedOf (put_number first last) p.item (width_or first p) h.0 (width-or first p h) (λ a b s t. (tt, s, t, tt)))) (m-fault DenotedOf at WrongType)
 
 -- ---- calls
 

@@ -38,7 +38,7 @@ abbrev pub exponent : Class
 exponent = class.Integer Narrow
 
 abbrev mutual
-  -- an expression of a class; one that is converted, and an index, a bound and a number of chunks, has a class of its own
+  -- an expression of a class; what is converted, an index, a bound and a number of chunks have one that isn't written down
   pub ExprFits : Class → Expr → Type 0
   ExprFits c (Static at z alone mentions) = HasValue c z
   ExprFits c (Variable at root ss s) = SelectionsFit ss
@@ -50,8 +50,8 @@ abbrev mutual
   ExprFits c (Binary at o d l r) = IsTyped d × ExprFits d l × (ExprFits d r ⊎ ((o ≡ op.Pow) × ExprFits exponent r))
   ExprFits c (AndThen x y) = ExprFits class.Boolean x × ExprFits class.Boolean y
   ExprFits c (OrElse x y) = ExprFits class.Boolean x × ExprFits class.Boolean y
-  ExprFits c (Relation d by x y) = ExprFits d x × ExprFits d y
-  ExprFits c (Membership d negated x low high) = ExprFits d x × ExprFits d low × ExprFits d high
+  ExprFits c (Relation d by x y) = IsTyped d × ExprFits d x × ExprFits d y
+  ExprFits c (Membership d negated x low high) = IsTyped d × ExprFits d x × ExprFits d low × ExprFits d high
   ExprFits c (If x v o) = ExprFits class.Boolean x × ExprFits c v × ExprFits c o
   ExprFits c (Call at callee n as') = ActualsFit as'
   ExprFits c (Convert check e) = (d : Class) × ExprFits d e
@@ -102,8 +102,8 @@ abbrev mutual
 abbrev pub PiecesFit : Pieces → Type 0
 PiecesFit NoPiece = Unit {0}
 PiecesFit (Text bytes ps) = PiecesFit ps
-PiecesFit (Image c e ps) = ExprFits c e × PiecesFit ps
-PiecesFit (Padded c e width ps) = ExprFits c e × ExprFits (class.Integer Narrow) width × PiecesFit ps
+PiecesFit (Image c e ps) = IsTyped c × ExprFits c e × PiecesFit ps
+PiecesFit (Padded c e width ps) = IsTyped c × ExprFits c e × ExprFits (class.Integer Narrow) width × PiecesFit ps
 
 abbrev pub DeclsFit : Decls → Type 0
 DeclsFit NoDecl = Unit {0}
