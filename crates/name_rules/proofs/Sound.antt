@@ -1,15 +1,12 @@
 -- What is judged without a value has a fault: the rules of values and operators.
-use Rattle.std.proofs.Common.{◌≡◌, ℕ, ◌+◌, ◌<◌, ◌≤◌, List, [], ◌∷◌, ◌++◌, length, Option, Some, None, ℤ, pos, Bool, true, false, cond, if◌then◌else◌, is_none, IsTrue, refl, arith, length-append, ◌&&◌, ◌||◌, option_map}
+use Rattle.std.proofs.Common.{ℕ, ◌+◌, ◌≤◌, length, Option, Some, None, ℤ, Bool, true, false, if◌then◌else◌, arith}
 use Rattle.std.proofs.lemmas.Grind.{common_steps}
 use Rattle.ada_base.specs.declared.operation.Op.{Op}
-use Rattle.ada_base.specs.declared.operation.Op.TheVariants as op
-use Rattle.ada_typed.specs.Decoded.{Part, as_expr, as_exprs}
-use Rattle.name_rules.specs.TypedParts.{selections_of}
-use Rattle.ada_typed.specs.Syntax.{Expr, Exprs, Selections}
-use Rattle.ada_typed.specs.declared.expressions.Sign.{Sign}
+use Rattle.ada_typed.specs.Decoded.{Part}
+use Rattle.ada_typed.specs.Syntax.{Expr, Selections}
 use Rattle.ada_typed.specs.declared.scalars.Comparison.{Comparison}
 use Rattle.name_rules.specs.Found.{Found}
-use Rattle.name_rules.specs.Judging.{Judging, ◌>>=◌, pure, given, both, fault, breaks, some, joined}
+use Rattle.name_rules.specs.Judging.{Judging, ◌>>=◌, given, both, fault, some}
 use Rattle.name_rules.specs.Types.{same, is_integer, in_base}
 use Rattle.name_rules.specs.Values as v
 use Rattle.name_rules.specs.Operators as o
@@ -20,8 +17,6 @@ use Rattle.name_rules.specs.declared.found.Place.{Place}
 use Rattle.name_rules.specs.declared.log.Log.{Log}
 use Rattle.name_rules.specs.declared.log.Rule.{Rule}
 use Rattle.name_rules.specs.declared.types.Kind.{Kind}
-use Rattle.name_rules.specs.declared.types.Kind.TheVariants as kind
-use Rattle.name_rules.specs.declared.types.Scalar.{Scalar}
 use Rattle.name_rules.specs.declared.types.Subtype.{Subtype}
 use Rattle.name_rules.specs.declared.types.Subtype.TheVariants as subtype
 

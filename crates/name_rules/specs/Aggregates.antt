@@ -2,14 +2,14 @@
 use Rattle.name_rules.specs.Attributes.{alone}
 use Rattle.name_rules.specs.Expressions.{Inside, expr, judged_alone, value_for}
 use Rattle.ada_tree.specs.FirstTokens as first_token
-use Rattle.name_rules.specs.Found.{Found, rest}
+use Rattle.name_rules.specs.Found.{Found}
 use Rattle.name_rules.specs.Judging.{Judging, breaks, fault, given, joined, pure, read, some, unless, where_clean, ◌>>=◌}
 use Rattle.name_rules.specs.Names.{count, index, is_record}
 use Rattle.name_rules.specs.Parts.{name, new_parameter}
 use Rattle.name_rules.specs.Ranges.{Chosen, Static, chosen_span, chosen_value, static_range}
 use Rattle.name_rules.specs.Scope.{with_entry}
 use Rattle.name_rules.specs.Shapes.{identifier_of_choice, is_aggregate}
-use Rattle.name_rules.specs.Symbols.{known, symbol}
+use Rattle.name_rules.specs.Symbols.{symbol}
 use Rattle.name_rules.specs.Types.{array_cells, cells_in, cells_of_shape, component_of, dimensions_of, extent, fields_of, same, shape_in}
 use Rattle.name_rules.specs.declared.found.Found.TheVariants as known
 use Rattle.name_rules.specs.declared.found.Found.{Found as Known}
@@ -17,7 +17,6 @@ use Rattle.name_rules.specs.declared.log.Dimension.{Dimension}
 use Rattle.name_rules.specs.declared.log.Field.{Field}
 use Rattle.name_rules.specs.declared.log.Log.{Log}
 use Rattle.name_rules.specs.declared.log.Rule.TheVariants.{StaticRange, Twice, Unknown, WrongType}
-use Rattle.name_rules.specs.declared.log.Shape.TheVariants as shape
 use Rattle.name_rules.specs.declared.log.Shape.{Shape}
 use Rattle.name_rules.specs.declared.scope.Context.{Context}
 use Rattle.name_rules.specs.declared.scope.Names.{Names}
@@ -36,7 +35,7 @@ use Rattle.ada_typed.specs.Syntax.{Exprs as TypedExprs}
 use Rattle.ada_typed.specs.declared.expressions.Iterated.{Iterated}
 use Rattle.ada_typed.specs.declared.expressions.Run.{Run}
 use Rattle.std.specs.List.{list_all, list_any}
-use Rattle.std.specs.Prelude.{Bool, List, None, Option, Some, [], drop, false, if◌then◌else◌, int_le, int_lt, length, map, not, option_map, pos, true, unsigned_abs, ℕ, ℤ, ◌&&◌, ◌*◌, ◌++◌, ◌+ℤ◌, ◌+◌, ◌-ℤ◌, ◌==◌, ◌||◌, ◌∷◌}
+use Rattle.std.specs.Prelude.{Bool, List, None, Option, Some, [], drop, false, if◌then◌else◌, int_le, int_lt, length, not, option_map, pos, true, unsigned_abs, ℕ, ℤ, ◌&&◌, ◌*◌, ◌++◌, ◌+ℤ◌, ◌+◌, ◌-ℤ◌, ◌==◌, ◌||◌, ◌∷◌}
 use Rattle.name_rules.specs.TypedParts.{also, also_all, exprs_of}
 use Rattle.ada_typed.specs.Decoded.{Part as TypedPart, as_associations}
 use Rattle.ada_typed.specs.Latest.{turned}

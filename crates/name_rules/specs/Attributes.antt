@@ -7,7 +7,7 @@ use Rattle.name_rules.specs.Found.{Denoted, Found, denote, parameter_found, scal
 use Rattle.name_rules.specs.Judging.{Judging, fault, given, joined, pure, read, some, where_clean, ◌>>=◌}
 use Rattle.name_rules.specs.Names.{denoted_first, wrong_call}
 use Rattle.name_rules.specs.Operators.{limit_of}
-use Rattle.name_rules.specs.Symbols.{first_name, image_name, known, last_name, length_name, max_name, min_name, parallel_reduce_name, pred_name, reduce_name, succ_name}
+use Rattle.name_rules.specs.Symbols.{first_name, image_name, last_name, length_name, max_name, min_name, parallel_reduce_name, pred_name, reduce_name, succ_name}
 use Rattle.name_rules.specs.Types.{class_of, dimensions_of, extent, is_integer, shape_in}
 use Rattle.name_rules.specs.Values.{asked, first_of, is_number, mentions_of, own_kind, static_of_kind}
 use Rattle.name_rules.specs.declared.found.Attribute.TheVariants as attribute'

@@ -5,7 +5,7 @@ use Rattle.name_rules.specs.Found.{Denoted, Found, denote, scalar, value_denoted
 use Rattle.name_rules.specs.Judging.{Judging, fault, given, joined, pure, read, some, unless, where_clean, ◌>>=◌}
 use Rattle.name_rules.specs.Names.{count, wrong_call}
 use Rattle.name_rules.specs.Scope.{named}
-use Rattle.name_rules.specs.Symbols.{known, symbol}
+use Rattle.name_rules.specs.Symbols.{symbol}
 use Rattle.name_rules.specs.Types.{check_at, is_integer, same, typed_scalar, wanted_of}
 use Rattle.name_rules.specs.Values.{first_of, is_number, settled_found}
 use Rattle.name_rules.specs.declared.found.Denoted.TheVariants as denoted

@@ -6,7 +6,6 @@ use Rattle.name_rules.specs.Expressions.{Inside}
 use Rattle.name_rules.specs.Judging.{Judging, pure, unless, ◌>>=◌}
 use Rattle.name_rules.specs.Names.{exception}
 use Rattle.name_rules.specs.Ranges.{Chosen, chosen_span, chosen_value}
-use Rattle.name_rules.specs.Scope.{named}
 use Rattle.name_rules.specs.declared.log.Rule.TheVariants.{StaticRange, Twice}
 use Rattle.name_rules.specs.declared.scope.Context.{Context}
 use Rattle.name_rules.specs.declared.scope.Names.{Names}
@@ -18,7 +17,7 @@ use Rattle.ada_typed.specs.Syntax as typed
 use Rattle.ada_typed.specs.Syntax.{Exprs as TypedExprs, Handled as TypedHandled}
 use Rattle.ada_typed.specs.declared.statements.Span.{Span}
 use Rattle.std.specs.List.{list_any}
-use Rattle.std.specs.Prelude.{Bool, List, None, Option, Some, [], false, if◌then◌else◌, int_le, int_lt, not, option_map, pos, true, ℕ, ℤ, ◌&&◌, ◌++◌, ◌+ℤ◌, ◌+◌, ◌==◌, ◌||◌, ◌∷◌}
+use Rattle.std.specs.Prelude.{Bool, List, None, Option, Some, [], false, if◌then◌else◌, int_le, int_lt, not, option_map, pos, true, ℕ, ℤ, ◌&&◌, ◌++◌, ◌+ℤ◌, ◌==◌, ◌||◌, ◌∷◌}
 use Rattle.name_rules.specs.TypedParts.{also_all}
 use Rattle.ada_typed.specs.Decoded.{Part as TypedPart}
 

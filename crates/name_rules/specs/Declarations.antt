@@ -5,10 +5,9 @@ use Rattle.ada_tree.specs.FirstTokens as first_token
 use Rattle.name_rules.specs.Found.{Found, With}
 use Rattle.name_rules.specs.Judging.{Judging, both, breaks, fault, given, joined, pure, read, some, unless, ◌>>=◌}
 use Rattle.name_rules.specs.Operators.{both_mentions}
-use Rattle.name_rules.specs.Parts.{name}
 use Rattle.name_rules.specs.Ranges.{Static, both_static, static_range, two_bounds}
 use Rattle.name_rules.specs.Scope.{as_scalar, declared, free, hidden_where, subtype_named}
-use Rattle.name_rules.specs.Symbols.{known, number, symbol}
+use Rattle.name_rules.specs.Symbols.{symbol}
 use Rattle.name_rules.specs.Types.{array_cells, cells_in, in_base, is_integer, lies_in, number_of, saturated, wanted_of, written_shape}
 use Rattle.name_rules.specs.Values.{first_of, mentions_of, static_integer, stored, value_of}
 use Rattle.name_rules.specs.declared.found.Found.{Found as Known}

@@ -6,7 +6,6 @@ use Rattle.name_rules.specs.Found.{Denoted, Found}
 use Rattle.name_rules.specs.Judging.{Judging, fault, given, joined, pure, some, ◌>>=◌}
 use Rattle.name_rules.specs.Operators.{binary, compared, joined_text, logical, membership, negation, not_of, of_subtype, plain, power, unary}
 use Rattle.name_rules.specs.Scope.{scalar_named}
-use Rattle.name_rules.specs.Symbols.{known}
 use Rattle.name_rules.specs.Types.{wanted_of}
 use Rattle.name_rules.specs.Values.{asked, is_kind, kind_of, stored}
 use Rattle.name_rules.specs.declared.found.Found.TheVariants as known

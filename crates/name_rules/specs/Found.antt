@@ -9,8 +9,7 @@ use Rattle.name_rules.specs.declared.found.Limits.{Limits}
 use Rattle.name_rules.specs.declared.types.Kind.{Kind}
 use Rattle.name_rules.specs.declared.types.Scalar.{Scalar}
 use Rattle.ada_typed.specs.Decoded as part
-use Rattle.ada_typed.specs.Syntax as typed
-use Rattle.ada_typed.specs.Syntax.{Composite, Pieces, Expr as TypedExpr, Exprs as TypedExprs}
+use Rattle.ada_typed.specs.Syntax.{Composite, Expr as TypedExpr}
 use Rattle.std.specs.Prelude.{Bool, Option, Some, ℕ, ℤ}
 use Rattle.ada_typed.specs.Decoded.{Part as TypedPart}
 

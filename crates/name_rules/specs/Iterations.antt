@@ -7,8 +7,8 @@ use Rattle.name_rules.specs.Names.{denoted_first, index, is_array}
 use Rattle.name_rules.specs.Parts.{array_shape, new_parameter, new_site, through}
 use Rattle.name_rules.specs.Ranges.{range}
 use Rattle.name_rules.specs.Reducers.{folded_by, reducer_of}
-use Rattle.name_rules.specs.Scope.{entry, is_taken, with_entry}
-use Rattle.name_rules.specs.Symbols.{known, symbol}
+use Rattle.name_rules.specs.Scope.{is_taken, with_entry}
+use Rattle.name_rules.specs.Symbols.{symbol}
 use Rattle.name_rules.specs.Types.{check_at, component_of}
 use Rattle.name_rules.specs.Values.{any_integer}
 use Rattle.name_rules.specs.declared.found.Attribute.TheVariants as attribute'
@@ -37,7 +37,7 @@ use Rattle.ada_typed.specs.declared.program.SiteKind.TheVariants as site
 use Rattle.ada_typed.specs.declared.program.SiteKind.{SiteKind}
 use Rattle.ada_typed.specs.declared.scalars.Check.{Check}
 use Rattle.std.specs.List.{list_all}
-use Rattle.std.specs.Prelude.{Bool, None, Option, Some, drop, false, if◌then◌else◌, is_some, length, not, option_map, reverse, true, ℕ, ◌+◌, ◌||◌}
+use Rattle.std.specs.Prelude.{Bool, None, Option, Some, drop, false, if◌then◌else◌, is_some, length, not, option_map, true, ℕ, ◌+◌, ◌||◌}
 use Rattle.ada_typed.specs.Decoded as part
 use Rattle.name_rules.specs.TypedParts.{low_of, high_of, selections_of}
 use Rattle.ada_typed.specs.Decoded.{Part as TypedPart, as_expr, as_optional, as_iteration}

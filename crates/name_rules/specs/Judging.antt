@@ -1,7 +1,7 @@
 -- Judging: what is found, and what is written on the way in the order of the text.
 use Rattle.name_rules.specs.declared.log.Log.{Log}
 use Rattle.name_rules.specs.declared.log.Rule.{Rule}
-use Rattle.std.specs.Prelude.{Bool, None, Option, Some, [], false, if◌then◌else◌, length, true, ℕ, ◌++◌, ◌+◌, ◌==◌, ◌∷◌}
+use Rattle.std.specs.Prelude.{Bool, None, Option, Some, [], false, if◌then◌else◌, length, true, ℕ, ◌++◌, ◌==◌, ◌∷◌}
 
 abbrev pub Judging : Type 0 → Type 0
 Judging A = Log → A × Log

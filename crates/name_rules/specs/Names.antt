@@ -5,7 +5,7 @@ use Rattle.name_rules.specs.Found.{Denoted, Found, denote}
 use Rattle.name_rules.specs.Judging.{Judging, fault, given, joined, pure, some, where_clean, ◌>>=◌}
 use Rattle.name_rules.specs.Scope.{selected, stands_for}
 use Rattle.name_rules.specs.Shapes.{primary_of_expr}
-use Rattle.name_rules.specs.Symbols.{known, symbol}
+use Rattle.name_rules.specs.Symbols.{symbol}
 use Rattle.name_rules.specs.Types.{cells_in, component_of, dimensions_of, fields_of, shape_in, stride}
 use Rattle.name_rules.specs.Values.{asked, first_of}
 use Rattle.name_rules.specs.declared.found.Denoted.TheVariants as denoted

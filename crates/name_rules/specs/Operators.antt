@@ -5,7 +5,6 @@ use Rattle.ada_base.specs.declared.operation.Op.TheVariants as op
 use Rattle.ada_base.specs.declared.operation.Op.{Op}
 use Rattle.name_rules.specs.Found.{Found, opened, scalar, static, text_found, universal}
 use Rattle.name_rules.specs.Judging.{Judging, both, fault, given, joined, pure, some, ◌>>=◌}
-use Rattle.name_rules.specs.Symbols.{known}
 use Rattle.name_rules.specs.Types.{class_of, in_base, same}
 use Rattle.name_rules.specs.Values.{asked, bounded, exact, first_of, fitting, is_kind, is_number, is_scalar, joint, kind_of, mentions_of, suits, value_of}
 use Rattle.name_rules.specs.declared.found.Found.TheVariants as known

@@ -4,9 +4,7 @@ use Rattle.name_rules.specs.Expressions.{Inside, expr, judged_alone}
 use Rattle.ada_tree.specs.FirstTokens as first_token
 use Rattle.name_rules.specs.Found.{Denoted, Found, denote}
 use Rattle.name_rules.specs.Judging.{Judging, breaks, fault, given, joined, pure, some, unless, where_clean, ◌>>=◌}
-use Rattle.name_rules.specs.Names.{count}
-use Rattle.name_rules.specs.Scope.{item}
-use Rattle.name_rules.specs.Symbols.{known, symbol, width_name}
+use Rattle.name_rules.specs.Symbols.{symbol, width_name}
 use Rattle.name_rules.specs.Types.{same, typed_scalar}
 use Rattle.name_rules.specs.Values.{asked, first_of, literal, mentions_of, static_of_kind, suits}
 use Rattle.name_rules.specs.declared.found.Denoted.TheVariants as denoted

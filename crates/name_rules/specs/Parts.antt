@@ -8,7 +8,7 @@ use Rattle.name_rules.specs.Names.{args_alone, component_cells, denoted_first, f
 use Rattle.name_rules.specs.Output.{io_call}
 use Rattle.name_rules.specs.Reducers.{folded_by, reducer_of}
 use Rattle.name_rules.specs.Scope.{item, stands_for}
-use Rattle.name_rules.specs.Symbols.{known, symbol}
+use Rattle.name_rules.specs.Symbols.{symbol}
 use Rattle.name_rules.specs.Types.{cells_of_shape, component_of, dimensions_of, shape_in}
 use Rattle.name_rules.specs.declared.found.Attribute.TheVariants as attribute'
 use Rattle.name_rules.specs.declared.found.Attribute.{Attribute}

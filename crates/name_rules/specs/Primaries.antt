@@ -8,7 +8,7 @@ use Rattle.name_rules.specs.Iterations.{sequence}
 use Rattle.name_rules.specs.Judging.{Judging, both, fault, given, joined, pure, some, ◌>>=◌}
 use Rattle.name_rules.specs.Operators.{first_kind, open_of}
 use Rattle.name_rules.specs.Parts.{name, value_named}
-use Rattle.name_rules.specs.Symbols.{known, number, text}
+use Rattle.name_rules.specs.Symbols.{number, text}
 use Rattle.name_rules.specs.Types.{typed_scalar}
 use Rattle.name_rules.specs.Values.{asked, composite_asked, joint, kind_of, mentions_of, value_of}
 use Rattle.name_rules.specs.declared.found.Found.TheVariants as known

@@ -5,9 +5,9 @@ use Rattle.name_rules.specs.Found.{Denoted}
 use Rattle.name_rules.specs.Judging.{Judging, breaks, fault, given, joined, pure, read, some, unless, ◌>>=◌}
 use Rattle.name_rules.specs.Parts.{name}
 use Rattle.name_rules.specs.Primaries.{inside, level_above}
-use Rattle.name_rules.specs.Scope.{declared, free, object, scalar_named, standard, stands_for, subtype_named}
+use Rattle.name_rules.specs.Scope.{declared, free, scalar_named, standard, stands_for, subtype_named}
 use Rattle.name_rules.specs.Statements.{around, body, no_decls, stmt}
-use Rattle.name_rules.specs.Symbols.{ada_name, all_parallel_policy, all_policy, integer_io_name, known, known_parallel_policy, nonblocking_name, number, policy_name, symbol, text_io_name}
+use Rattle.name_rules.specs.Symbols.{ada_name, all_parallel_policy, all_policy, integer_io_name, known_parallel_policy, nonblocking_name, policy_name, symbol, text_io_name}
 use Rattle.name_rules.specs.Types.{is_integer, typed_scalar}
 use Rattle.name_rules.specs.declared.found.Denoted.TheVariants as denoted
 use Rattle.name_rules.specs.declared.found.Denoted.{Denoted as KnownDenoted}

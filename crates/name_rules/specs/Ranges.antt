@@ -1,11 +1,10 @@
 -- Ranges (3.5), static ones of dimensions (3.6) and associations, and choices (3.8.1).
 use Rattle.name_rules.specs.Expressions.{Inside, simple}
 use Rattle.ada_tree.specs.FirstTokens as first_token
-use Rattle.name_rules.specs.Found.{Bounded, Found, With, scalar}
+use Rattle.name_rules.specs.Found.{Bounded, Found, With}
 use Rattle.name_rules.specs.Judging.{Judging, both, fault, given, joined, pure, some, unless, ◌>>=◌}
 use Rattle.name_rules.specs.Names.{denoted_first}
 use Rattle.name_rules.specs.Operators.{both_mentions, common_kind}
-use Rattle.name_rules.specs.Symbols.{known}
 use Rattle.name_rules.specs.Types.{base_of, is_integer, lies_in}
 use Rattle.name_rules.specs.Values.{asked, first_of, is_number, is_scalar, kind_of, mentions_of, static_of_kind, static_value, suits, value_of, literal}
 use Rattle.name_rules.specs.declared.found.Denoted.TheVariants as denoted
@@ -21,8 +20,6 @@ use Rattle.name_rules.specs.declared.types.Wanted.TheVariants as wanted
 use Rattle.ada_tree.specs.Syntax as syntax
 use Rattle.ada_tree.specs.Syntax.{Range, Simple}
 use Rattle.ada_typed.specs.Decoded as part
-use Rattle.ada_typed.specs.Syntax as typed
-use Rattle.ada_typed.specs.Syntax.{Exprs as TypedExprs}
 use Rattle.std.specs.Prelude.{Bool, None, Option, Some, false, if◌then◌else◌, int_le, not, option_map, ℕ, ℤ, ◌&&◌}
 use Rattle.name_rules.specs.TypedParts.{pair}
 use Rattle.ada_typed.specs.Decoded.{Part as TypedPart}

@@ -35,7 +35,7 @@ use Rattle.ada_typed.specs.Syntax.{Iteration, Chunk as TypedChunk, Expr as Typed
 use Rattle.ada_typed.specs.declared.expressions.Reducer.TheVariants as reducer'
 use Rattle.ada_typed.specs.declared.expressions.Reducer.{Reducer}
 use Rattle.ada_typed.specs.declared.scalars.Class.TheVariants as class
-use Rattle.std.specs.Prelude.{Bool, List, None, Option, Some, [], bytes_eq, codes, false, if◌then◌else◌, is_some, not, true, ℕ, ◌&&◌, ◌*◌, ◌+◌, ◌==◌, ◌||◌, ◌∷◌}
+use Rattle.std.specs.Prelude.{Bool, List, None, Option, Some, [], bytes_eq, codes, false, if◌then◌else◌, is_some, not, true, ℕ, ◌&&◌, ◌==◌, ◌||◌, ◌∷◌}
 use Rattle.ada_typed.specs.Decoded.{Part as TypedPart, as_expr, as_iteration, as_chunk}
 
 -- ---- the reducer

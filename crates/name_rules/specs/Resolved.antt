@@ -1,9 +1,5 @@
 -- The faults of a program, its typed program, and the least fault.
-use Rattle.name_rules.specs.Declarations.{objects}
-use Rattle.name_rules.specs.Parts.{name}
 use Rattle.name_rules.specs.Programs.{Whole, program}
-use Rattle.name_rules.specs.Scope.{declared}
-use Rattle.name_rules.specs.Statements.{body}
 use Rattle.name_rules.specs.Types.{typed_scalar}
 use Rattle.name_rules.specs.declared.log.Dimension.{Dimension}
 use Rattle.name_rules.specs.declared.log.Fault.{Fault}

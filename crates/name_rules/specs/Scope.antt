@@ -3,7 +3,7 @@
 use Rattle.ada_base.specs.declared.reason.Reason.TheVariants as reason
 use Rattle.name_rules.specs.Found.{Denoted, denote}
 use Rattle.name_rules.specs.Judging.{Judging, fault, given, pure, some, ◌>>=◌}
-use Rattle.name_rules.specs.Symbols.{ada_name, boolean_name, constraint_error_name, data_error_name, end_error_name, false_name, get_name, integer_io_name, integer_name, known, natural_name, new_line_name, positive_name, program_error_name, put_line_name, put_name, storage_error_name, symbol, text_io_name, true_name}
+use Rattle.name_rules.specs.Symbols.{ada_name, boolean_name, constraint_error_name, data_error_name, end_error_name, false_name, get_name, integer_io_name, integer_name, natural_name, new_line_name, positive_name, program_error_name, put_line_name, put_name, storage_error_name, symbol, text_io_name, true_name}
 use Rattle.name_rules.specs.declared.found.Denoted.TheVariants as denoted
 use Rattle.name_rules.specs.declared.found.Denoted.{Denoted as KnownDenoted}
 use Rattle.name_rules.specs.declared.found.Found.TheVariants as known
@@ -26,7 +26,7 @@ use Rattle.ada_typed.specs.Decoded as part
 use Rattle.ada_typed.specs.Syntax as typed
 use Rattle.ada_typed.specs.declared.expressions.Root.TheVariants as root
 use Rattle.std.specs.List.{find, list_any}
-use Rattle.std.specs.Prelude.{Bool, List, None, Option, Some, [], drop, false, if◌then◌else◌, negsuc, not, option_map, pos, reverse, true, ℕ, ℤ, ◌&&◌, ◌++◌, ◌+◌, ◌==◌, ◌||◌, ◌∷◌}
+use Rattle.std.specs.Prelude.{Bool, List, None, Option, Some, [], drop, false, if◌then◌else◌, negsuc, not, option_map, pos, reverse, true, ℕ, ℤ, ◌&&◌, ◌++◌, ◌==◌, ◌||◌, ◌∷◌}
 
 -- ---- the standard library (A.1)
 

@@ -10,7 +10,7 @@ use Rattle.name_rules.specs.Judging.{Judging, both, breaks, clean, fault, given,
 use Rattle.name_rules.specs.Names.{denoted_first, exception}
 use Rattle.name_rules.specs.Parts.{name, new_site, valued_by}
 use Rattle.name_rules.specs.Primaries.{inside, level_above}
-use Rattle.name_rules.specs.Symbols.{known, number, symbol}
+use Rattle.name_rules.specs.Symbols.{symbol}
 use Rattle.name_rules.specs.Types.{base_of, wanted_of}
 use Rattle.name_rules.specs.Values.{first_of, is_scalar, nominal_of, own_kind, settled_found, stored}
 use Rattle.name_rules.specs.declared.found.Denoted.TheVariants as denoted

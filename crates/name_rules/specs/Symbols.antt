@@ -1,7 +1,7 @@
 -- Identifiers by numbers: those of the language (annex A, K) have the first, another has that of the first token
 -- that is spelled like it, behind these.
 use Rattle.name_rules.specs.declared.scope.Names.{Names}
-use Rattle.std.specs.Prelude.{List, [], codes, false, length, max, min, pos, slice_get, true, unwrap_or, ℕ, ℤ, ◌∷◌}
+use Rattle.std.specs.Prelude.{List, [], codes, pos, slice_get, unwrap_or, ℕ, ℤ, ◌∷◌}
 
 abbrev pub symbol : Names → ℕ → ℕ
 symbol names token = unwrap_or (slice_get names.symbols token) 0

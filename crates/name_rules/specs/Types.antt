@@ -1,7 +1,6 @@
 -- Types and subtypes (3.2 to 3.8): the table of subtypes, and how many cells an object has.
 use Rattle.ada_base.specs.Operation.{is_in_base}
 use Rattle.ada_base.specs.declared.operation.Base.TheVariants.{Narrow, Wide}
-use Rattle.name_rules.specs.Found.{scalar}
 use Rattle.name_rules.specs.Judging.{Judging}
 use Rattle.name_rules.specs.declared.log.Dimension.{Dimension}
 use Rattle.name_rules.specs.declared.log.Field.{Field}
