@@ -56,7 +56,6 @@ fn open_behind(gaps: &mut Items<(i128, i128)>, start: i128, end: i128) -> Result
 }
 
 /// What ranges in order leave open of a dimension; None where they overlap or lie outside.
-#[tactic(auto, using(crate::proofs::OpenRanges::open_next, crate::proofs::OpenRanges::open_below, crate::proofs::OpenRanges::open_above, crate::proofs::OpenRanges::open_end, name_values::proofs::Lists::drop_less))]
 fn left_open(
     alloc: Global,
     dimension: Dimension,

@@ -1,11 +1,26 @@
-use Rattle.std.proofs.Common.{◌≡◌, ◌∙◌, sym, rules, w64, to_z, of_z, pos, ◌+ℤ◌, ◌++◌}
+use Rattle.std.proofs.Common.{◌≡◌, ◌∙◌, ap, sym, Some, None, rules, w64, to_z, of_z, pos, ◌+ℤ◌, ◌++◌}
 use Rattle.std.proofs.lemmas.Int.{to_z-of_z}
 use mir.Syntax.{w128}
 use mir.Val.{SFits}
-use Rattle.name_expressions.proofs.OpenRanges.{open_above, open_further}
+use Rattle.name_expressions.proofs.OpenRanges.{open_above, open_below, open_end, open_further}
 use Rattle.name_expressions.proofs.Widths.{next_value}
 use Rattle.name_expressions.specs.Gaps.{gap_before}
+use Rattle.name_values.proofs.Lists.{drop_less}
 use Rattle.name_expressions.proofs.coverage.left_open.Goals as goal
+
+pub returns-then-range-start : goal.returns-then-range-start
+returns-then-range-start c =
+    let p : SFits w128 c.in-Some.range.0 = search rules in
+    let f = rw (to_z-of_z w128 c.in-Some.range.0 p) at c.if-range-start.true in
+    sym (c.spans.invariant ∙ open_below c.args.ranges.now c.spans.i c.in-Some.range c.spans.gaps (to_z w128 c.spans.start-bits) (to_z w128 (of_z w128 c.from-end.result)) (sym c.range_at.ensures ∙ c.in-Some.is) f)
+
+pub spans-smaller : goal.spans-smaller
+spans-smaller c = drop_less c.args.ranges.now c.spans.i c.in-Some.range (sym c.range_at.ensures ∙ c.in-Some.is)
+
+pub returns : goal.returns
+returns c =
+    let none : c.range_at.result ≡ None = search rules in
+    sym (c.spans.invariant ∙ open_end c.args.ranges.now c.spans.i c.spans.gaps (to_z w128 c.spans.start-bits) (to_z w128 (of_z w128 c.from-end.result)) (sym c.range_at.ensures ∙ none) ∙ ap Some (sym c.in_ok-open_behind.ensures))
 
 pub returns-then-end-range : goal.returns-then-end-range
 returns-then-end-range c =
