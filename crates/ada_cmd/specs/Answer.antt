@@ -14,7 +14,7 @@ use Rattle.run_reports.specs.declared.ends.RunEnd.{RunEnd}
 use Rattle.run_reports.specs.declared.ends.RunEnd.TheVariants as run_end
 use Rattle.command_words.specs.Words.{Asked, Settings, asked}
 use Rattle.command_words.specs.declared.request.Mode.TheVariants as mode
-use Rattle.run_reports.specs.Lines.{ended, usage_line, unreadable_line, accepted_line, read_fault_line, write_fault_line, memory_line, spent_line, unhandled_line}
+use Rattle.run_reports.specs.Lines.{ended, usage_line, unreadable_line, accepted_line, read_fault_line, write_fault_line, spent_line, unhandled_line}
 use Rattle.run_reports.specs.Says.{Says, SaysNoMemory, SaysOrLacks}
 use Rattle.run_reports.specs.Vars.{vars_lines}
 use Rattle.run_reports.specs.declared.status.Status.{Status}

@@ -1,5 +1,5 @@
 -- How a unit ran: which run an answer tells of, and which devices failed.
-use Rattle.std.specs.Prelude.{◌≡◌, ℕ, ℤ, List, [], ◌++◌, drop, Bool, true, Result, Ok, Err}
+use Rattle.std.specs.Prelude.{◌≡◌, ℕ, List, [], ◌++◌, drop, Bool, true}
 use Rattle.ada_meaning.specs.Law as law
 use Rattle.ada_meaning.specs.Law.{EndsItself, IsPermitted, IsPlan, Outcome}
 use Rattle.ada_meaning.specs.Nonblocking.{KeepsRule}
@@ -7,7 +7,7 @@ use Rattle.ada_meaning.specs.Programs.{Setting, input_of, sequential}
 use Rattle.ada_meaning.specs.Sequential.{IsCalm}
 use Rattle.ada_port.specs.Ports.{Stream, Rose, bytes_of}
 use Rattle.ada_interpreter.specs.Run as interpreter
-use Rattle.ada_meaning.specs.Stored.{finals_of, outset}
+use Rattle.ada_meaning.specs.Stored.{outset}
 use Rattle.ada_typed.specs.Programs.{program}
 use Rattle.ada_typed.specs.Syntax.{Program}
 use Rattle.chunk_plan.specs.Plans.{plan_of}
@@ -15,9 +15,6 @@ use Rattle.chunk_plan.specs.declared.plan.Setting as plan
 use Rattle.run_parts.specs.declared.work.Work.{Work}
 use Rattle.run_store.specs.Outside.{Faults, MayBe}
 use Rattle.run_store.specs.Shows.{Image, outside_of}
-use Rattle.run_store.specs.declared.ends.End.{End}
-use Rattle.run_store.specs.declared.ends.End.TheVariants as end
-use Rattle.run_store.specs.declared.ends.Leave.TheVariants as leave
 use Rattle.run_reports.specs.Ends.{values_of}
 use Rattle.run_reports.specs.declared.ends.RunEnd.{RunEnd}
 use Rattle.run_reports.specs.declared.ends.RunEnd.TheVariants as run_end
