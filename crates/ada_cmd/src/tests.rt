@@ -400,7 +400,14 @@ const RUNS: [(&str, &str, &str, &str, &str, u8); 16] = [
     ),
     ("run t.ada", "", "Put (\"a\"); New_Line;", "a\n", "", 0),
     ("run t.ada --chunks one", "", MINUS, "-10\n", "", 0),
-    ("run t.ada --workers 4 --chunks even:2", "", MINUS, " 4\n", "", 0),
+    (
+        "run t.ada --workers 4 --chunks even:2",
+        "",
+        MINUS,
+        " 4\n",
+        "",
+        0,
+    ),
     (
         "run t.ada --chunks list:1,2",
         "V : constant array (1 .. 3) of Integer := (-5, 2147483647, 5);",

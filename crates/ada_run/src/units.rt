@@ -9,9 +9,9 @@ ghost use Rattle.ada_run.specs.Compiled.{also_final, compiled, compiled_of, decl
 
 use crate::shapes::truths_of;
 use crate::unit::Unit;
-use run_reports::Final;
 use ada_base::{Items, Tokens};
 use ada_typed::{Decl, Declared, Typed};
+use run_reports::Final;
 use std::alloc::{AllocError, Global};
 
 /// The unit of a typed program, whose names are those of these tokens. An Err is want of memory.

@@ -163,10 +163,12 @@ pub through-fits : (log : Log) (p : Place) (ss : Selections) (t : Option Shape) 
 through-fits log p ss t n h = (h, tt)
 
 m-over_place : (n token : ℕ) (f : OptionalExpr) (p : Place) (ss : Selections) → SelectionsFit ss → Makes WalkedOf (over_place n token f p ss)
-m-over_place n token f p ss h = record { at = λ log g.
-    (m-if WalkedOf (is_array (array_shape log p.subtype)) (pure (array_walked log n token f p ss (array_shape log p.subtype))) _
-    (m-pure WalkedOf (array_walked log n token f p ss (array_shape log p.subtype)) ((h, tt), item-based n p.variable (component_of (array_shape log p.subtype))))
-    (m-bind Any WalkedOf (breaks p.first WrongType) _ (m-breaks p.first WrongType) (λ u q. m-pure WalkedOf (no_array token f) (tt, tt)))).at log g }
+m-over_place n token f p ss h = record {
+  at = λ log g.
+      (m-if WalkedOf (is_array (array_shape log p.subtype)) (pure (array_walked log n token f p ss (array_shape log p.subtype))) _
+      (m-pure WalkedOf (array_walked log n token f p ss (array_shape log p.subtype)) ((h, tt), item-based n p.variable (component_of (array_shape log p.subtype))))
+      (m-bind Any WalkedOf (breaks p.first WrongType) _ (m-breaks p.first WrongType) (λ u q. m-pure WalkedOf (no_array token f) (tt, tt)))).at log g;
+}
 
 m-no_place : (at token : ℕ) (f : OptionalExpr) → Makes WalkedOf (breaks at WrongType >>= λ u. pure (no_array token f))
 m-no_place at token f = m-bind Any WalkedOf (breaks at WrongType) _ (m-breaks at WrongType) (λ u q. m-pure WalkedOf (no_array token f) (tt, tt))
