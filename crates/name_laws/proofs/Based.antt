@@ -1,14 +1,12 @@
 -- What lies between the bounds of a subtype lies in its base range, and arrays keep bounds of base ranges.
-use Rattle.std.proofs.Common.{◌≡◌, ℕ, suc, ◌+◌, ◌≤◌, ℤ, pos, negsuc, int_le, List, [], ◌∷◌, ◌++◌, length, Option, Some, None, Bool, true, false, true≢false, refl, sym, ap, ◌∙◌, ◌⊎◌, inl, inr, arith, ◌&&◌, le-leb, leb-true, nat_le, nat_lt, slice_get, subst, ◌==◌}
+use Rattle.std.proofs.Common.{◌≡◌, ℕ, ◌+◌, ℤ, pos, negsuc, int_le, List, [], ◌∷◌, ◌++◌, Option, Some, None, Bool, true, false, true≢false, refl, sym, ap, ◌∙◌, ◌⊎◌, inl, inr, arith, ◌&&◌, le-leb, leb-true, nat_le, nat_lt, slice_get, subst, ◌==◌}
 use Rattle.std.specs.Prelude.{not, ◌||◌}
 use Rattle.std.proofs.lemmas.Bool.{and_parts}
-use Rattle.ada_base.specs.Operation.{greatest_of, is_in_base, least_of}
-use Rattle.ada_base.specs.declared.operation.Base.{Base}
+use Rattle.ada_base.specs.Operation.{greatest_of, least_of}
 use Rattle.ada_base.specs.declared.operation.Base.TheVariants.{Narrow, Wide}
 use Rattle.name_rules.specs.Declarations.{Initial, cells_counted, constant_value}
 use Rattle.name_rules.specs.Judging.{unless}
-use Rattle.name_rules.specs.Types.{in_base, lies_in, saturated}
-use Rattle.name_rules.specs.Values.{kind_in, place_scalar}
+use Rattle.name_rules.specs.Types.{in_base, lies_in, saturated, written_shape}
 use Rattle.name_rules.specs.declared.log.Dimension.{Dimension}
 use Rattle.name_rules.specs.declared.log.Log.{Log}
 use Rattle.name_rules.specs.declared.log.Rule.{Rule}
@@ -20,8 +18,7 @@ use Rattle.name_rules.specs.declared.types.Kind.TheVariants as kind
 use Rattle.name_rules.specs.declared.types.Scalar.{Scalar}
 use Rattle.name_rules.specs.declared.types.Subtype.{Subtype}
 use Rattle.name_rules.specs.declared.types.Subtype.TheVariants as subtype
-use Rattle.name_laws.proofs.CellsCounted.{HaveValues}
-use Rattle.name_laws.proofs.CellsSound.{get_either}
+use Rattle.name_laws.proofs.Constants.{get-either}
 use Rattle.name_laws.proofs.Fitting.{Fits, fits_constant}
 use Rattle.name_laws.proofs.Walk.{Walk}
 use Rattle.name_laws.specs.Based.{AreSpans, ArraysBased, HasBased, IsBased, IsSpan}
@@ -85,10 +82,6 @@ pub spans_both : (a b : List Dimension) → AreSpans a → AreSpans b → AreSpa
 spans_both [] b h k = k
 spans_both (d ∷ a) b h k = (h.0, spans_both a b h.1 k)
 
-pub have_values : (ds : List Dimension) → AreSpans ds → HaveValues ds
-have_values [] h = tt
-have_values (d ∷ ds) h = (h.0.some, have_values ds h.1)
-
 -- ---- arrays, where nothing but scalar subtypes is written
 
 pub record Spanning (a b : Log) : Type 0 where
@@ -100,12 +93,16 @@ spanning_same a b e = record { at = λ h. subst ArraysBased e h }
 pub spanning_joined : (a b c : Log) → Spanning a b → Spanning b c → Spanning a c
 spanning_joined a b c f g = record { at = λ h. g.at (f.at h) }
 
-pub scalar_more : (shapes : List Shape) (s : Scalar) → ArraysBased shapes → ArraysBased (shapes ++ shape.Scalar s ∷ [])
-scalar_more shapes s h n ds c k cells e = by (get_either shapes (shape.Scalar s) n (shape.Array ds c k cells) e)
+-- one more shape, whose bounds are based where it is an array
+pub shape_more : (shapes : List Shape) (t : Shape) → ((ds : List Dimension) (c : Subtype) (k cells : ℕ) → t ≡ shape.Array ds c k cells → AreSpans ds) → ArraysBased shapes → ArraysBased (shapes ++ t ∷ [])
+shape_more shapes t f h n ds c k cells e = by (get-either shapes t n (shape.Array ds c k cells) e)
   where
-    by : (slice_get shapes n ≡ Some (shape.Array ds c k cells)) ⊎ ((n ≡ length shapes) × (shape.Scalar s ≡ shape.Array ds c k cells)) → AreSpans ds
+    by : (slice_get shapes n ≡ Some (shape.Array ds c k cells)) ⊎ (t ≡ shape.Array ds c k cells) → AreSpans ds
     by (inl g) = h n ds c k cells g
-    by (inr g) = let no : shape.Scalar s ≡ shape.Array ds c k cells = g.1 in absurd cc
+    by (inr g) = f ds c k cells g
+
+pub scalar_spanning : (s : Scalar) (log : Log) → Spanning log (written_shape (shape.Scalar s) log).1
+scalar_spanning s log = record { at = shape_more log.shapes (shape.Scalar s) (λ ds c k cells e. absurd cc) }
 
 unless_spanning : (b : Bool) (at : ℕ) (rule : Rule) (log : Log) → Spanning log (unless b at rule log).1
 unless_spanning true at rule log = spanning_same log log refl
@@ -126,7 +123,7 @@ spanning = record {
   stays = λ log. spanning_same log log refl;
   joins = spanning_joined;
   breaks = λ at rule log. spanning_same log _ refl;
-  scalar = λ s log. record { at = scalar_more log.shapes s };
+  scalar = scalar_spanning;
   counted = counted_spanning;
   exception = λ token log. spanning_same log _ refl;
   site = λ here at k log. spanning_same log _ refl;

@@ -11,20 +11,13 @@ use Rattle.name_rules.specs.Declarations.{Building, Dimensions, Indicated, Initi
 use Rattle.name_rules.specs.Expressions.{Inside}
 use Rattle.name_rules.specs.Found.{Denoted, Found, denote}
 use Rattle.name_rules.specs.Judging.{Judging, ◌>>=◌, both, clean, fault, given, joined, pure, some, where_clean}
-use Rattle.name_laws.proofs.Based.{spans_both, within-based}
-use Rattle.name_laws.proofs.EndsExpressions.{f-simple}
-use Rattle.name_laws.proofs.KeepsExpressions.{k-simple}
-use Rattle.name_laws.proofs.KeepsRanges.{k-scalar_type, k-static_range}
-use Rattle.name_laws.proofs.Statics.{static_law}
-use Rattle.name_laws.specs.Based.{AreSpans, IsSpan}
-use Rattle.name_laws.specs.Statics.{InBase}
+use Rattle.name_laws.proofs.CellsCounted.{HasValue, HaveValues, values_both}
+use Rattle.name_laws.proofs.KeepsRanges.{k-static_range}
 use Rattle.ada_tree.specs.FirstTokens as first_token
 use Rattle.name_rules.specs.Ranges as ranges
 use Rattle.name_rules.specs.Ranges.{Static}
 use Rattle.name_rules.specs.declared.log.Rule.TheVariants.{StaticRange, WrongType}
-use Rattle.name_rules.specs.Types.{in_base, is_integer}
-use Rattle.name_rules.specs.Expressions.{simple}
-use Rattle.name_rules.specs.declared.types.Wanted.TheVariants as wanted
+use Rattle.name_rules.specs.Types.{is_integer}
 use Rattle.name_rules.specs.Values.{is_number as is_numeric, suits}
 use Rattle.name_rules.specs.declared.types.Kind.{Kind}
 use Rattle.std.specs.Prelude.{not}
@@ -34,7 +27,7 @@ use Rattle.name_rules.specs.Scope.{as_scalar, as_type, declared, entry, free, hi
 use Rattle.name_rules.specs.Symbols.{ada_name, data_error_name, end_error_name, integer_io_name, symbol, text_io_name}
 use Rattle.name_rules.specs.Types.{array_cells, cells_in, lies_in, number_of}
 use Rattle.name_rules.specs.TypedParts.{also_all}
-use Rattle.name_rules.specs.Values.{asked, first_of, static_value, value_of}
+use Rattle.name_rules.specs.Values.{first_of}
 use Rattle.name_rules.specs.declared.found.Denoted.TheVariants as denoted
 use Rattle.name_rules.specs.declared.found.Denoted.{Denoted as Known}
 use Rattle.name_rules.specs.declared.found.Reach.{Reach}
@@ -52,15 +45,95 @@ use Rattle.name_rules.specs.declared.types.Subtype.{Subtype}
 use Rattle.name_rules.specs.declared.types.Subtype.TheVariants as subtype
 use Rattle.ada_typed.specs.Layout.{cells_of}
 use Rattle.name_laws.proofs.CellsCounted.{array_counted}
-use Rattle.name_laws.proofs.CellsSound.{arrays-based, number_counted, table_of, AreRight, IsRight, IsRightWhat, Sound, are_both, are_later, longer_shapes, minding, more_shapes, number_within, one_of, right_later}
-use Rattle.name_laws.proofs.Ends.{FoundBased, IsRightly, Named, NamesRight, now, stands-named}
+use Rattle.name_laws.proofs.CellsSound.{number_counted, table_of, AreRight, IsRight, IsRightWhat, Sound, are_both, are_later, longer_shapes, minding, more_shapes, number_within, one_of, right_later}
 use Rattle.name_laws.proofs.Fitting.{is_number}
 use Rattle.name_laws.proofs.KeepsDeclarations.{k-dimensions_from, k-indic}
 use Rattle.name_laws.proofs.KeepsTypes.{k-number_of}
 use Rattle.name_laws.proofs.Lookups.{hiding_law}
-use Rattle.name_laws.proofs.Walk.{Keeps, k-given}
+use Rattle.name_laws.proofs.Walk.{Keeps}
 use Rattle.name_laws.proofs.Walked.{KeepsInside}
 use Rattle.name_laws.specs.Hiding.{HasNone, IsLast}
+
+-- ---- what a name denotes
+
+abbrev pub IsRightly : ℕ → Known → Type 0
+IsRightly n (denoted.Type first t) = IsRight n t
+IsRightly n (denoted.Range first d) = HasValue d
+IsRightly n d = Unit {0}
+
+abbrev pub Named : ℕ → Option Denoted → Type 0
+Named n None = Unit {0}
+Named n (Some d) = IsRightly n d.known
+
+pub record Ends (n : ℕ) (p : Judging (Option Denoted)) : Type 0 where
+  pub at : (log : Log) → Named n (p log).0
+
+pub e-none : (n : ℕ) → Ends n (pure None)
+e-none n = record { at = λ log. tt }
+
+pub e-some : (n : ℕ) (d : Denoted) → IsRightly n d.known → Ends n (some d)
+e-some n d h = record { at = λ log. h }
+
+pub e-fault : (n at : ℕ) (rule : Rule) → Ends n (fault at rule)
+e-fault n at rule = record { at = λ log. tt }
+
+pub e-if : (n : ℕ) (b : Bool) (p q : Judging (Option Denoted)) → Ends n p → Ends n q → Ends n (if b then p else q)
+e-if n true p q h k = h
+e-if n false p q h k = k
+
+pub e-bind : (n : ℕ) {A : Type 0} (p : Judging A) (f : A → Judging (Option Denoted)) → ((a : A) → Ends n (f a)) → Ends n (p >>= f)
+e-bind n p f h = record { at = λ log. (h (p log).0).at (p log).1 }
+
+pub e-given : (n : ℕ) {A : Type 0} (x : Option A) (f : A → Judging (Option Denoted)) → ((a : A) → Ends n (f a)) → Ends n (given x f)
+e-given n None f h = e-none n
+e-given n (Some x) f h = h x
+
+pub e-where_clean : (n : ℕ) {A : Type 0} (p : Judging A) (f : A → Judging (Option Denoted)) → ((a : A) → Ends n (f a)) → Ends n (where_clean p f)
+e-where_clean n p f h = e-bind n (clean p) (λ r. if r.1 then f r.0 else pure None) (λ r. e-if n r.1 (f r.0) (pure None) (h r.0) (e-none n))
+
+pub e-map : (n : ℕ) {A : Type 0} (g : A → Denoted) (x : Option A) → ((a : A) → IsRightly n (g a).known) → Ends n (pure (option_map g x))
+e-map n g None h = e-none n
+e-map n g (Some x) h = e-some n (g x) (h x)
+
+pub e-joined : (n : ℕ) {A B : Type 0} (g : A → B → Denoted) (x : Option A) (y : Option B) → ((a : A) (b : B) → IsRightly n (g a b).known) → Ends n (pure (joined g x y))
+e-joined n g None y h = e-none n
+e-joined n g (Some x) None h = e-none n
+e-joined n g (Some x) (Some y) h = e-some n (g x y) (h x y)
+
+pub e-predefined : (n first token name : ℕ) (reach : Reach) → Ends n (named (predefined first token name reach))
+e-predefined n first token name reach = e-some n (denote (predefined first token name reach) part.Nothing) (by (name == data_error_name) (name == end_error_name))
+  where
+    by : (x y : Bool) → IsRightly n (if x then denoted.Exception first reason.DataError else if y then denoted.Exception first reason.EndError else denoted.Io first token (procedure_of name) reach)
+    by true y = tt
+    by false true = tt
+    by false false = tt
+
+e-used_name : (n : ℕ) (x0 : ℕ) (x1 : ℕ) (x2 : Reach) → Ends n (used_name x0 x1 x2)
+e-used_name n token name reach = e-if n (reach.text_io || reach.integer_io) (named (predefined token token name reach)) (fault token NotVisible) (e-predefined n token token name reach) (e-fault n token NotVisible)
+
+e-undeclared : (n : ℕ) (x0 : Context) (x1 : ℕ) (x2 : ℕ) → Ends n (undeclared x0 x1 x2)
+e-undeclared n here token name = e-if n (in_text_io name || in_integer_io name) (used_name token name (reach_of here.used name)) (if name == ada_name then named (denoted.Package token ada_name) else if (name == text_io_name || name == integer_io_name) && here.used.ada then (if is_withed here.withed name then named (denoted.Package token name) else fault token NotVisible) else fault token Unknown) (e-used_name n token name (reach_of here.used name)) (e-if n (name == ada_name) (named (denoted.Package token ada_name)) (if (name == text_io_name || name == integer_io_name) && here.used.ada then (if is_withed here.withed name then named (denoted.Package token name) else fault token NotVisible) else fault token Unknown) (e-some n (denote (denoted.Package token ada_name) part.Nothing) tt) (e-if n ((name == text_io_name || name == integer_io_name) && here.used.ada) ((if is_withed here.withed name then named (denoted.Package token name) else fault token NotVisible)) (fault token Unknown) (e-if n (is_withed here.withed name) (named (denoted.Package token name)) (fault token NotVisible) (e-some n (denote (denoted.Package token name) part.Nothing) tt) (e-fault n token NotVisible)) (e-fault n token Unknown)))
+
+e-stands : (n : ℕ) (here : Context) (token name : ℕ) (w : What) → IsRightWhat n w → (log : Log) → Named n (stands here token name (Some w) log).0
+e-stands n here token name (what.Type t) h log = h
+e-stands n here token name what.Hidden h log = tt
+e-stands n here token name what.Broken h log = tt
+e-stands n here token name (what.Object k t v z) h log = tt
+e-stands n here token name (what.Parameter k t) h log = tt
+e-stands n here token name (what.Item k t v) h log = tt
+e-stands n here token name (what.Number z) h log = tt
+e-stands n here token name (what.Boolean b) h log = tt
+e-stands n here token name (what.Sub k) h log = tt
+e-stands n here token name (what.Exception r) h log = tt
+
+pub stands-named : (n : ℕ) (names : Names) (here : Context) (token : ℕ) → AreRight n here.scope → (log : Log) → Named n (stands_for names here token log).0
+stands-named n names here token h log = by (hiding_law.either (symbol names token) here.scope)
+  where
+    by : HasNone (symbol names token) here.scope ⊎ ((w : What) × IsLast (symbol names token) w here.scope) → Named n (stands_for names here token log).0
+    by (inl none) = subst (λ p. Named n (p log).0) (sym (hiding_law.none names here token none)) ((e-undeclared n here token (symbol names token)).at log)
+    by (inr l) =
+        subst (λ p. Named n (p log).0) (sym (hiding_law.last names here token l.0 l.1))
+        (e-stands n here token (symbol names token) l.0 (one_of n l.1.before (entry (symbol names token) l.0) l.1.after (subst (AreRight n) l.1.splits h)) log)
 
 abbrev pub IsRightOne : ℕ → Option Subtype → Type 0
 IsRightOne n None = Unit {0}
@@ -92,31 +165,22 @@ last-true true true c e = e
 last-true true false c e = absurd (true≢false (sym e))
 last-true false b c e = absurd (true≢false (sym e))
 
-scalar-if : (n : ℕ) (b : Bool) (s : Scalar) (log : Log) → (b ≡ true → IsSpan s.kind s.low s.high) → IsRightOne n ((if b then some (subtype.Scalar s) else pure None) log).0
+scalar-if : (n : ℕ) (b : Bool) (s : Scalar) (log : Log) → (b ≡ true → int_le s.low s.high ≡ true) → IsRightOne n ((if b then some (subtype.Scalar s) else pure None) log).0
 scalar-if n true s log h = h refl
 scalar-if n false s log h = tt
 
-bounds-right : (n : ℕ) (s : Scalar) (a z : Found) (log : Log) → IsSpan s.kind s.low s.high → IsIndicated n (d.indic_bounds s a z log).0
-bounds-right n s a z log h = by (both_static s.kind a z log).0 (both_static s.kind a z log).1
+bounds-right : (n : ℕ) (s : Scalar) (a z : Found) (log : Log) → IsIndicated n (d.indic_bounds s a z log).0
+bounds-right n s a z log = by (both_static s.kind a z log).0 (both_static s.kind a z log).1
   where
     by : (v : Option (ℤ × ℤ)) (log : Log) → IsIndicated n (option_map (indicated (both_mentions a z)) (given v (d.indic_range s (first_of a.known) (first_of z.known)) log).0)
     by None log = tt
-    by (Some r) log = mapped n (both_mentions a z) _ (scalar-if n (lies_in s r.0 && lies_in s r.1 && int_le r.0 r.1) _ _ (within-based s r.0 r.1 h))
+    by (Some r) log = mapped n (both_mentions a z) _ (scalar-if n (lies_in s r.0 && lies_in s r.1 && int_le r.0 r.1) _ _ (last-true (lies_in s r.0) (lies_in s r.1) (int_le r.0 r.1)))
 
-abbrev IsRightScalar : Option Scalar → Type 0
-IsRightScalar None = Unit {0}
-IsRightScalar (Some s) = IsSpan s.kind s.low s.high
-
-scalar-right : (n : ℕ) (t : Option Subtype) (mark : ℕ) (log : Log) → IsRightOne n t → IsRightScalar (given t (as_scalar mark) log).0
-scalar-right n None mark log h = tt
-scalar-right n (Some (subtype.Scalar s)) mark log h = h
-scalar-right n (Some (subtype.Composite m)) mark log h = tt
-
-ranged : (n : ℕ) (t : Option Scalar) (x y : Option Found) (log : Log) → IsRightScalar t → IsIndicated n (given t (λ s. both x y (d.indic_bounds s)) log).0
-ranged n None x y log h = tt
-ranged n (Some s) None y log h = tt
-ranged n (Some s) (Some a) None log h = tt
-ranged n (Some s) (Some a) (Some z) log h = bounds-right n s a z log h
+ranged : (n : ℕ) (t : Option Scalar) (x y : Option Found) (log : Log) → IsIndicated n (given t (λ s. both x y (d.indic_bounds s)) log).0
+ranged n None x y log = tt
+ranged n (Some s) None y log = tt
+ranged n (Some s) (Some a) None log = tt
+ranged n (Some s) (Some a) (Some z) log = bounds-right n s a z log
 
 pub indic-right : (n : ℕ) (names : Names) (level : Inside) (here : Context) (i : Indic) → AreRight n here.scope → (log : Log) → IsIndicated n (d.indic names level here i log).0
 unfolding d.indic
@@ -125,7 +189,7 @@ indic-right n names level here (syntax.RangeMark mark low high) h log =
     let s = subtype_named names here mark log in
     let t = given s.0 (as_scalar mark) s.1 in
     let r = two_bounds level here low high t.1 in
-    ranged n t.0 r.0.0 r.0.1 r.1 (scalar-right n s.0 mark s.1 (subtype-right n names here mark h log))
+    ranged n t.0 r.0.0 r.0.1 r.1
 
 -- ---- what is left: a later log in which what was found is right
 
@@ -133,6 +197,9 @@ pub record Leaves {A : Type 0} (Q : ℕ → A → Type 0) (log : Log) (r : A × 
   pub longer : length log.shapes ≤ length r.1.shapes
   pub sound : Sound r.1
   pub right : Q (length r.1.shapes) r.0
+
+pub now : {A : Type 0} (log : Log) (p : Judging A) → Keeps (minding 0) p → Sound log → (length log.shapes ≤ length (p log).1.shapes) × Sound (p log).1
+now log p k h = (k.at log).at (omega arith) h
 
 pub next-leaves : {A : Type 0} (Q : ℕ → A → Type 0) (log mid : Log) (r : A × Log) → length log.shapes ≤ length mid.shapes → Leaves Q mid r → Leaves Q log r
 next-leaves Q log mid r l h = record { longer = omega (arith, l, h.longer); sound = h.sound; right = h.right }
@@ -148,7 +215,7 @@ fault-leaves at rule log h = record { longer = omega arith; sound = h; right = t
 
 -- ---- arrays
 
-array-written : (ds : List Dimension) (s : Subtype) (log : Log) → AreSpans ds → Sound log → IsRight (length log.shapes) s → Leaves IsRightOne log (d.array_written ds s log)
+array-written : (ds : List Dimension) (s : Subtype) (log : Log) → HaveValues ds → Sound log → IsRight (length log.shapes) s → Leaves IsRightOne log (d.array_written ds s log)
 array-written ds s log vs h r =
     let m = number_of s log in
     let k = now log (number_of s) (k-number_of (minding 0) s) h in
@@ -162,7 +229,7 @@ array-written ds s log vs h r =
       right = subst (λ n. length m.1.shapes < n) (sym l) (omega arith);
     }
 
-array-given : (at : ℕ) (ds : Dimensions) (s : Indicated) (log : Log) → AreSpans ds.dimensions → Sound log → IsRight (length log.shapes) s.known → Leaves IsIndicated log (d.array_given at ds s log)
+array-given : (at : ℕ) (ds : Dimensions) (s : Indicated) (log : Log) → HaveValues ds.dimensions → Sound log → IsRight (length log.shapes) s.known → Leaves IsIndicated log (d.array_given at ds s log)
 array-given at ds s log vs h r = by (nat_le (length ds.dimensions) 4)
   where
     by : (b : Bool) → Leaves IsIndicated log ((if b then (d.array_written ds.dimensions s.known >>= λ t. pure (option_map (indicated (also_all ds.mentions s.part)) t)) else fault at (Limit 4 (length ds.dimensions))) log)
@@ -171,7 +238,7 @@ array-given at ds s log vs h r = by (nat_le (length ds.dimensions) 4)
 
 abbrev HaveDimensions : Option Dimensions → Type 0
 HaveDimensions None = Unit {0}
-HaveDimensions (Some ds) = AreSpans ds.dimensions
+HaveDimensions (Some ds) = HaveValues ds.dimensions
 
 both-given : (at : ℕ) (ds : Option Dimensions) (s : Option Indicated) (log : Log) → HaveDimensions ds → Sound log → IsIndicated (length log.shapes) s → Leaves IsIndicated log (both ds s (d.array_given at) log)
 both-given at None s log vs h r = none-leaves log h
@@ -180,15 +247,16 @@ both-given at (Some ds) (Some s) log vs h r = array-given at ds s log vs h r
 
 -- ---- dimensions have values
 
-abbrev pub HasSpan : Option Static → Type 0
+-- the level below finds what is right
+pub record NamesRight (level : Inside) : Type 0 where
+  pub name : (here : Context) (x : syntax.Name) (log : Log) → Sound log → AreRight (length log.shapes) here.scope → Named (length log.shapes) (level.name here x log).0
+
+abbrev HasSpan : Option Static → Type 0
 HasSpan None = Unit {0}
-HasSpan (Some s) = IsSpan s.known.kind s.known.low s.known.high
+HasSpan (Some s) = HasValue s.known
 
-pub record Spans (p : Judging (Option Static)) : Type 0 where
+record Spans (p : Judging (Option Static)) : Type 0 where
   pub at : (log : Log) → HasSpan (p log).0
-
-s-none : Spans (pure None)
-s-none = record { at = λ log. tt }
 
 s-fault : (at : ℕ) (rule : Rule) → Spans (fault at rule)
 s-fault at rule = record { at = λ log. tt }
@@ -196,77 +264,52 @@ s-fault at rule = record { at = λ log. tt }
 s-bind : {A : Type 0} (p : Judging A) (f : A → Judging (Option Static)) → ((a : A) → Spans (f a)) → Spans (p >>= f)
 s-bind p f h = record { at = λ log. (h (p log).0).at (p log).1 }
 
+s-given : {A : Type 0} (x : Option A) (f : A → Judging (Option Static)) → ((a : A) → Spans (f a)) → Spans (given x f)
+s-given None f h = record { at = λ log. tt }
+s-given (Some x) f h = h x
+
+s-both : {A B : Type 0} (x : Option A) (y : Option B) (f : A → B → Judging (Option Static)) → ((a : A) (b : B) → Spans (f a b)) → Spans (both x y f)
+s-both None y f h = record { at = λ log. tt }
+s-both (Some x) None f h = record { at = λ log. tt }
+s-both (Some x) (Some y) f h = h x y
+
 s-if : (b : Bool) (p q : Judging (Option Static)) → Spans p → Spans q → Spans (if b then p else q)
 s-if true p q h k = h
 s-if false p q h k = k
 
--- two bounds that were found
-abbrev AreFound : Option Found × Option Found → Type 0
-AreFound r = FoundBased r.0 × FoundBased r.1
-
-pub s-both : (x y : Option Found) (f : Found → Found → Judging (Option Static)) → FoundBased x → FoundBased y → ((a b : Found) → InBase a.known → InBase b.known → Spans (f a b)) → Spans (both x y f)
-s-both None y f h k m = s-none
-s-both (Some x) None f h k m = s-none
-s-both (Some x) (Some y) f h k m = m x y h k
-
--- the values of two static bounds that take a type
-abbrev pub ArePair : Kind → Option (ℤ × ℤ) → Type 0
-ArePair k None = Unit {0}
-ArePair k (Some r) = (in_base k r.0 ≡ true) × (in_base k r.1 ≡ true)
-
-pub static-pair : (k : Kind) (a z : Found) (log : Log) → InBase a.known → InBase z.known → ArePair k (both_static k a z log).0
-static-pair k a z log g h = by (asked k a log).0 refl (asked k z (asked k a log).1).0 refl (value_of a.known) refl (value_of z.known) refl (asked k z (asked k a log).1).1
-  where
-    by : (x : Option Part) → (asked k a log).0 ≡ x → (y : Option Part) → (asked k z (asked k a log).1).0 ≡ y → (u : Option ℤ) → value_of a.known ≡ u → (v : Option ℤ) → value_of z.known ≡ v → (end : Log)
-        → ArePair k (both x y (λ e f. static_value (first_of a.known) u >>= λ i. static_value (first_of z.known) v >>= λ j. both i j (λ i j. some (i, j))) end).0
-    by None p y q u s v t end = tt
-    by (Some x) p None q u s v t end = tt
-    by (Some x) p (Some y) q None s None t end = tt
-    by (Some x) p (Some y) q None s (Some v) t end = tt
-    by (Some x) p (Some y) q (Some u) s None t end = tt
-    by (Some x) p (Some y) q (Some u) s (Some v) t end = ((static_law.places k a x u log g s p).ranged, (static_law.places k z y v (asked k a log).1 h t q).ranged)
-
-s-given : (k : Kind) (x : Option (ℤ × ℤ)) (f : ℤ × ℤ → Judging (Option Static)) → ArePair k x → ((r : ℤ × ℤ) → in_base k r.0 ≡ true → in_base k r.1 ≡ true → Spans (f r)) → Spans (given x f)
-s-given k None f p h = s-none
-s-given k (Some r) f p h = h r p.0 p.1
-
-s-static : (k : Kind) (a z : Found) (f : ℤ × ℤ → Judging (Option Static)) → InBase a.known → InBase z.known → ((r : ℤ × ℤ) → in_base k r.0 ≡ true → in_base k r.1 ≡ true → Spans (f r)) → Spans (both_static k a z >>= λ v. given v f)
-s-static k a z f g h m = record { at = λ log. let v = both_static k a z log in (s-given k v.0 f (static-pair k a z log g h) m).at v.1 }
-
-s-spanned : (first : ℕ) (k : Kind) (a z : Found) (r : ℤ × ℤ) → in_base k r.0 ≡ true → in_base k r.1 ≡ true → Spans (ranges.spanned first true k a z r)
-s-spanned first k a z r g h = by (int_le r.0 r.1) refl
+s-spanned : (first : ℕ) (k : Kind) (a z : Found) (r : ℤ × ℤ) → Spans (ranges.spanned first true k a z r)
+s-spanned first k a z r = by (int_le r.0 r.1) refl
   where
     by : (b : Bool) → int_le r.0 r.1 ≡ b → Spans (if not b then fault first StaticRange else some (ranges.of_static a z (ranges.dimension k r)))
-    by true e = record { at = λ log. record { some = e; first = g; last = h } }
+    by true e = record { at = λ log. e }
     by false e = s-fault first StaticRange
 
-s-checked : (first : ℕ) (s : Scalar) (a z : Found) (r : ℤ × ℤ) → in_base s.kind r.0 ≡ true → in_base s.kind r.1 ≡ true → Spans (ranges.checked_span first true s a z r)
-s-checked first s a z r g h =
+s-checked : (first : ℕ) (s : Scalar) (a z : Found) (r : ℤ × ℤ) → Spans (ranges.checked_span first true s a z r)
+s-checked first s a z r =
     let sp = ranges.spanned first true s.kind a z r in
-    let known = s-spanned first s.kind a z r g h in
     let last = if lies_in s r.0 && lies_in s r.1 then sp else pure None in
-    s-if (not (int_le r.0 r.1)) sp (ranges.inside_subtype s a r.0 >>= λ u. ranges.inside_subtype s z r.1 >>= λ v. last) known
-    (s-bind (ranges.inside_subtype s a r.0) (λ u. ranges.inside_subtype s z r.1 >>= λ v. last) (λ u. s-bind (ranges.inside_subtype s z r.1) (λ v. last) (λ v. s-if (lies_in s r.0 && lies_in s r.1) sp (pure None) known s-none)))
+    s-if (not (int_le r.0 r.1)) sp (ranges.inside_subtype s a r.0 >>= λ u. ranges.inside_subtype s z r.1 >>= λ v. last) (s-spanned first s.kind a z r)
+    (s-bind (ranges.inside_subtype s a r.0) (λ u. ranges.inside_subtype s z r.1 >>= λ v. last) (λ u. s-bind (ranges.inside_subtype s z r.1) (λ v. last) (λ v. s-if (lies_in s r.0 && lies_in s r.1) sp (pure None) (s-spanned first s.kind a z r) (record { at = λ log. tt }))))
 
-pub s-bounds : (first : ℕ) (a z : Found) → InBase a.known → InBase z.known → Spans (ranges.static_bounds first true None a z)
+s-bounds : (first : ℕ) (a z : Found) → Spans (ranges.static_bounds first true None a z)
 unfolding ranges.static_bounds
-s-bounds first a z h i =
+s-bounds first a z =
     let k = ranges.preferred None a.known z.known in
     let g = ranges.spanned first true k a z in
     let w = both_static k a z >>= λ s. given s g in
     let v = if not (suits k a.known && suits k z.known) then fault (first_of z.known) WrongType else w in
     s-if (not (is_numeric a.known)) (fault (first_of a.known) WrongType) v (s-fault (first_of a.known) WrongType)
     (s-if (not (suits k a.known && suits k z.known)) (fault (first_of z.known) WrongType) w (s-fault (first_of z.known) WrongType)
-    (s-static k a z g h i (λ r p q. s-spanned first k a z r p q)))
+    (s-bind (both_static k a z) (λ s. given s g) (λ s. s-given s g (λ r. s-spanned first k a z r))))
 
-pub s-static_checked : (first : ℕ) (t : Scalar) (a z : Found) → InBase a.known → InBase z.known → Spans (ranges.static_checked first true t a z)
+s-static_checked : (first : ℕ) (t : Scalar) (a z : Found) → Spans (ranges.static_checked first true t a z)
 unfolding ranges.static_checked
-s-static_checked first t a z h i =
+s-static_checked first t a z =
     let g = ranges.checked_span first true t a z in
     s-if (is_integer t.kind) (both_static t.kind a z >>= λ v. given v g) (fault first WrongType)
-    (s-static t.kind a z g h i (λ r p q. s-checked first t a z r p q)) (s-fault first WrongType)
+    (s-bind (both_static t.kind a z) (λ v. given v g) (λ v. s-given v g (λ r. s-checked first t a z r))) (s-fault first WrongType)
 
-pub name-span : (n first : ℕ) (k : Known) (x : Part) → IsRightly n k → Spans (ranges.static_name first k x)
+name-span : (n first : ℕ) (k : Known) (x : Part) → IsRightly n k → Spans (ranges.static_name first k x)
 name-span n first (denoted.Range at d) x h = record { at = λ log. h }
 name-span n first (denoted.Type at (subtype.Scalar s)) x h = by (is_integer s.kind)
   where
@@ -275,41 +318,28 @@ name-span n first (denoted.Type at (subtype.Scalar s)) x h = by (is_integer s.ki
     by false = s-fault first WrongType
 name-span n first d x h = s-fault _ WrongType
 
-bounds-found : (level : Inside) (here : Context) (low high : Simple) (log : Log) → KeepsInside (minding 0) level → NamesRight level → Sound log → AreRight (length log.shapes) here.scope → AreFound (two_bounds level here low high log).0
-unfolding two_bounds
-bounds-found level here low high log keeps named h r =
-    let x = simple level here wanted.Other low log in
-    let k = now log (simple level here wanted.Other low) (k-simple (minding 0) level here wanted.Other low keeps) h in
-    (f-simple (length log.shapes) level here wanted.Other low log named (arrays-based log h) r, f-simple (length log.shapes) level here wanted.Other high x.1 named (arrays-based x.1 k.1) r)
-
-static-span : (level : Inside) (here : Context) (r : syntax.Range) (log : Log) → KeepsInside (minding 0) level → NamesRight level → Sound log → AreRight (length log.shapes) here.scope → HasSpan (ranges.static_range level here true None r log).0
+static-span : (level : Inside) (here : Context) (r : syntax.Range) (log : Log) → NamesRight level → Sound log → AreRight (length log.shapes) here.scope → HasSpan (ranges.static_range level here true None r log).0
 unfolding ranges.static_range
-static-span level here (syntax.Bounded low high) log keeps named h r =
+static-span level here (syntax.Bounded low high) log named h r =
     let x = two_bounds level here low high log in
-    let f = bounds-found level here low high log keeps named h r in
-    (s-both x.0.0 x.0.1 (ranges.static_bounds (first_token.of_simple low) true None) f.0 f.1 (s-bounds (first_token.of_simple low))).at x.1
-static-span level here (syntax.Whole x) log keeps named h r = by (level.name here x log).0 (named.name (length log.shapes) here x log (arrays-based log h) r) (level.name here x log).1
+    let g = ranges.static_bounds (first_token.of_simple low) true None in
+    (s-both x.0.0 x.0.1 g (λ a z. s-bounds (first_token.of_simple low) a z)).at x.1
+static-span level here (syntax.Whole x) log named h r = by (level.name here x log).0 (named.name here x log h r) (level.name here x log).1
   where
     by : (d : Option Denoted) → Named (length log.shapes) d → (end : Log) → HasSpan (given d (λ y. ranges.static_name (first_token.of_name x) y.known y.part) end).0
     by None k end = tt
     by (Some d) k end = (name-span (length log.shapes) (first_token.of_name x) d.known d.part k).at end
-static-span level here (syntax.Constrained x low high) log keeps named h r =
+static-span level here (syntax.Constrained x low high) log named h r =
     let d = level.name here x log in
-    let k = now log (level.name here x) (keeps.name here x) h in
     let s = given d.0 (λ y. ranges.scalar_type y.known) d.1 in
-    let j = now d.1 (given d.0 (λ y. ranges.scalar_type y.known)) (k-given (minding 0) d.0 (λ y. ranges.scalar_type y.known) (λ y. k-scalar_type (minding 0) y.known)) k.1 in
     let b = two_bounds level here low high s.1 in
-    let f = bounds-found level here low high s.1 keeps named j.1 (are_later (length log.shapes) (length s.1.shapes) here.scope (omega (arith, k.0, j.0)) r) in
-    by s.0 b.0.0 b.0.1 f.0 f.1 b.1
-  where
-    by : (s : Option Scalar) (a z : Option Found) → FoundBased a → FoundBased z → (end : Log) → HasSpan (given s (λ t. both a z (ranges.static_checked (first_token.of_name x) true t)) end).0
-    by None a z g h end = tt
-    by (Some t) a z g h end = (s-both a z (ranges.static_checked (first_token.of_name x) true t) g h (s-static_checked (first_token.of_name x) t)).at end
+    let g : Scalar → Judging (Option Static) = λ t. both b.0.0 b.0.1 (ranges.static_checked (first_token.of_name x) true t) in
+    (s-given s.0 g (λ t. s-both b.0.0 b.0.1 (ranges.static_checked (first_token.of_name x) true t) (λ a z. s-static_checked (first_token.of_name x) t a z))).at b.1
 
 also-values : (ds : Option Dimensions) (s : Option Static) → HaveDimensions ds → HasSpan s → HaveDimensions (joined d.also_dimension ds s)
 also-values None s h k = tt
 also-values (Some ds) None h k = tt
-also-values (Some ds) (Some s) h k = spans_both ds.dimensions (s.known ∷ []) h (k, tt)
+also-values (Some ds) (Some s) h k = values_both ds.dimensions (s.known ∷ []) h (k, tt)
 
 dimensions-values : (level : Inside) (here : Context) (made : Option Dimensions) (rs : List syntax.Range) (log : Log) → KeepsInside (minding 0) level → NamesRight level → Sound log → AreRight (length log.shapes) here.scope
     → HaveDimensions made → HaveDimensions (d.dimensions_from level here made rs log).0
@@ -317,7 +347,7 @@ dimensions-values level here made [] log keeps named h r vs = vs
 dimensions-values level here made (x ∷ rs) log keeps named h r vs =
     let s = ranges.static_range level here true None x log in
     let k = now log (ranges.static_range level here true None x) (k-static_range (minding 0) level here true None x keeps) h in
-    dimensions-values level here (joined d.also_dimension made s.0) rs s.1 keeps named k.1 (are_later (length log.shapes) (length s.1.shapes) here.scope k.0 r) (also-values made s.0 vs (static-span level here x log keeps named h r))
+    dimensions-values level here (joined d.also_dimension made s.0) rs s.1 keeps named k.1 (are_later (length log.shapes) (length s.1.shapes) here.scope k.0 r) (also-values made s.0 vs (static-span level here x log named h r))
 
 pub array-leaves : (names : Names) (level : Inside) (here : Context) (a : Array) (log : Log) → KeepsInside (minding 0) level → NamesRight level → Sound log → AreRight (length log.shapes) here.scope → Leaves IsIndicated log (d.array names level here a log)
 unfolding d.array

@@ -14,7 +14,6 @@ use Rattle.name_rules.specs.declared.log.Log.{Log}
 use Rattle.name_rules.specs.declared.log.Shape.TheVariants as shape
 use Rattle.name_rules.specs.declared.log.Shape.{Shape}
 use Rattle.name_rules.specs.declared.scope.Names.{Names}
-use Rattle.name_laws.proofs.Based.{have_values}
 use Rattle.name_laws.proofs.CellsCounted.{HaveValues}
 use Rattle.name_laws.proofs.CellsPrograms.{all-sound}
 use Rattle.name_laws.proofs.CellsSound.{AllValues, FieldsBefore, IsBefore, Sound}
@@ -45,7 +44,7 @@ have-indexes (d ∷ ds) h = (h.0, have-indexes ds h.1)
 
 shape-components : (n : ℕ) (t : Shape) → IsBefore n t → HasComponents (typed_subtype t)
 shape-components n (shape.Scalar s) h = tt
-shape-components n (shape.Array ds c k cells) h = have-indexes ds (have_values ds h.0)
+shape-components n (shape.Array ds c k cells) h = have-indexes ds h.0
 shape-components n (shape.Record fs cells) h = tt
 
 components-from : (k : ℕ) (shapes : List Shape) → ((n : ℕ) (t : Shape) → slice_get shapes n ≡ Some t → IsBefore (k + n) t) → HaveComponents (map typed_subtype shapes)

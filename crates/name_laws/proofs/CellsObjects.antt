@@ -27,11 +27,7 @@ use Rattle.name_rules.specs.declared.types.Kind.TheVariants as kind
 use Rattle.name_rules.specs.declared.types.Subtype.{Subtype}
 use Rattle.name_rules.specs.declared.types.Subtype.TheVariants as subtype
 use Rattle.name_rules.specs.declared.types.Wanted.TheVariants as wanted
-use Rattle.std.proofs.lemmas.Bool.{and_parts}
-use Rattle.name_laws.proofs.Based.{constant-based}
-use Rattle.name_laws.specs.Based.{IsSpan}
-use Rattle.name_laws.proofs.CellsDeclared.{IsIndicated, IsRightMaybe, Leaves, array-leaves, begun-right, declared-right, ended-right, hidden-right, indic-right, last-true, next-leaves}
-use Rattle.name_laws.proofs.Ends.{NamesRight, now}
+use Rattle.name_laws.proofs.CellsDeclared.{NamesRight, IsIndicated, IsRightMaybe, Leaves, array-leaves, begun-right, declared-right, ended-right, hidden-right, indic-right, last-true, next-leaves, now}
 use Rattle.std.proofs.lemmas.List.{map-append}
 use Rattle.std.proofs.lemmas.Option.{slice_get-get_or}
 use Rattle.ada_typed.specs.Layout.{cells_of, fields_cells}
@@ -39,7 +35,7 @@ use Rattle.name_rules.specs.Resolved.{typed_field}
 use Rattle.name_rules.specs.declared.log.Shape.{Shape}
 use Rattle.name_laws.proofs.CellsCounted.{fields_sum, saturated_least, saturated_sum}
 use Rattle.name_laws.proofs.CellsGrown.{Extends, extending, extends_joined, fields_later, shape_later, values_before}
-use Rattle.name_laws.proofs.CellsSound.{right-based, AllValues, number_counted, table_of, AreRight, FieldsBefore, IsRight, Sound, are_later, longer_shapes, minding, more_objects, more_shapes, number_within, right_later}
+use Rattle.name_laws.proofs.CellsSound.{AllValues, number_counted, table_of, AreRight, FieldsBefore, IsRight, Sound, are_later, longer_shapes, minding, more_objects, more_shapes, number_within, right_later}
 use Rattle.name_laws.proofs.Fitting.{is_number}
 use Rattle.name_laws.proofs.KeepsDeclarations.{k-begun_names, k-cells_counted, k-each_exception, k-indic, k-initial, k-numbers, k-own_type_of, k-valued_constant}
 use Rattle.name_laws.proofs.KeepsRanges.{k-two_bounds}
@@ -227,18 +223,12 @@ record-leaves names level here cs log keeps h r =
 
 -- ---- types
 
-pub own-span : (token : ℕ) (a z : ℤ) → (in_base (kind.Own token) a && in_base (kind.Own token) z && int_le a z) ≡ true → IsSpan (kind.Own token) a z
-own-span token a z e =
-    let x = and_parts (in_base (kind.Own token) a && in_base (kind.Own token) z) (int_le a z) e in
-    let y = and_parts (in_base (kind.Own token) a) (in_base (kind.Own token) z) x.0 in
-    record { some = x.1; first = y.0; last = y.1 }
-
 own-right : (n token first last : ℕ) (x : Part) (a z : Option ℤ) (log : Log) → IsIndicated n (option_map (indicated x) (both a z (d.own_type token first last) log).0)
 own-right n token first last x None z log = tt
 own-right n token first last x (Some a) None log = tt
-own-right n token first last x (Some a) (Some z) log = by (in_base (kind.Own token) a && in_base (kind.Own token) z && int_le a z) (own-span token a z) (unless (int_le a z) first StaticRange (unless (in_base (kind.Own token) z) last StaticRange (unless (in_base (kind.Own token) a) first StaticRange log).1).1).1
+own-right n token first last x (Some a) (Some z) log = by (in_base (kind.Own token) a && in_base (kind.Own token) z && int_le a z) (last-true (in_base (kind.Own token) a) (in_base (kind.Own token) z) (int_le a z)) (unless (int_le a z) first StaticRange (unless (in_base (kind.Own token) z) last StaticRange (unless (in_base (kind.Own token) a) first StaticRange log).1).1).1
   where
-    by : (b : Bool) → (b ≡ true → IsSpan (kind.Own token) a z) → (log : Log) → IsIndicated n (option_map (indicated x) ((if b then some (subtype.Scalar (record { kind = kind.Own token; low = a; high = z })) else pure None) log).0)
+    by : (b : Bool) → (b ≡ true → int_le a z ≡ true) → (log : Log) → IsIndicated n (option_map (indicated x) ((if b then some (subtype.Scalar (record { kind = kind.Own token; low = a; high = z })) else pure None) log).0)
     by true h log = h refl
     by false h log = tt
 
@@ -306,11 +296,10 @@ object-sound names here token s constant value log h r =
     let x = object-written names here token m.0 cells constant value m.1 c.0 j.1 (number_within s m.0 m.1 q (is_number s c.1)) count in
     (omega (arith, k.0, j.0, x.0), x.1)
 
-object-ended : (n : ℕ) (names : Names) (here : Context) (token : ℕ) (f : Option ℕ) (constant : Bool) (s : Indicated) (v : Initial) (made : Option Part) (m : Option ℕ) → AreRight n here.scope → IsRight n s.known
+object-ended : (n : ℕ) (names : Names) (here : Context) (token : ℕ) (f : Option ℕ) (constant : Bool) (s : Indicated) (v : Initial) (made : Option Part) (m : Option ℕ) → AreRight n here.scope
     → AreRight n (d.object_ended names here token f constant s v made m).0.scope
-object-ended n names here token f constant s v made None h i = ended-right n names here f None h tt
-object-ended n names here token f constant s v made (Some m) h i =
-    ended-right n names here f (Some (what.Object m s.known (not constant) (d.constant_value constant s.known v))) h (constant-based constant s.known v (right-based n s.known i))
+object-ended n names here token f constant s v made None h = ended-right n names here f None h tt
+object-ended n names here token f constant s v made (Some m) h = ended-right n names here f (Some (what.Object m s.known (not constant) (d.constant_value constant s.known v))) h tt
 
 pub counted-leaves : {B : Type 0} (names : Names) (here : Context) (f : Option ℕ) (token : ℕ) (x : B) (log : Log) → Sound log → AreRight (length log.shapes) here.scope
     → Leaves IsAround log ((d.ended_name names here f None, x), (d.cells_counted token 0 log).1)
@@ -323,7 +312,7 @@ one-object : (names : Names) (here : Context) (token : ℕ) (f : Option ℕ) (co
 one-object names here token f constant made (Some s) (Some v) log h r i =
     let x = d.new_object names here token s.known constant (d.constant_value constant s.known v) log in
     let k = object-sound names here token s.known constant (d.constant_value constant s.known v) log h i in
-    record { longer = k.0; sound = k.1; right = object-ended _ names here token f constant s v made x.0 (are_later _ _ here.scope k.0 r) (right_later _ _ s.known k.0 i) }
+    record { longer = k.0; sound = k.1; right = object-ended _ names here token f constant s v made x.0 (are_later _ _ here.scope k.0 r) }
 one-object names here token f constant made (Some s) None log h r i = counted-leaves names here f token None log h r
 one-object names here token f constant made None v log h r i = counted-leaves names here f token None log h r
 

@@ -21,11 +21,9 @@ use Rattle.name_rules.specs.declared.scope.Names.{Names}
 use Rattle.name_rules.specs.declared.scope.What.TheVariants as what
 use Rattle.name_rules.specs.declared.types.Scalar.{Scalar}
 use Rattle.name_rules.specs.declared.types.Subtype.{Subtype}
-use Rattle.name_laws.proofs.Based.{none-based}
-use Rattle.name_laws.proofs.CellsDeclared.{IsRightOne, Leaves, begun-right, declared-right, ended-right, next-leaves, subtype-right}
-use Rattle.name_laws.proofs.Ends.{now}
+use Rattle.name_laws.proofs.CellsDeclared.{IsRightOne, Leaves, begun-right, declared-right, ended-right, next-leaves, now, subtype-right}
 use Rattle.name_laws.proofs.CellsGrown.{extending}
-use Rattle.name_laws.proofs.EndsPrimaries.{level-named}
+use Rattle.name_laws.proofs.EndsParts.{level-named}
 use Rattle.name_laws.proofs.CellsObjects.{KeepsBoth, IsAround, around-leaves, counted-leaves, declaration-leaves, declarations-leaves, object-sound}
 use Rattle.name_laws.proofs.CellsSound.{AreRight, Sound, are_both, are_dropped, are_later, minding, next_same, right_later}
 use Rattle.name_laws.proofs.CellsStatements.{c-body, minds_around}
@@ -38,7 +36,7 @@ use Rattle.name_laws.proofs.Walked.{WalksProfiles}
 
 entry-right : (n : ℕ) (names : Names) (here : Context) (token : ℕ) (f : Option ℕ) (m : Mode) (s : Subtype) (k : ℕ) (o : Option ℕ) → AreRight n here.scope → AreRight n (p.formal_entry names here token f m s k o).0.scope
 entry-right n names here token f m s k None h = ended-right n names here f None h tt
-entry-right n names here token f m s k (Some o) h = ended-right n names here f (Some (what.Object o s _ None)) h (none-based s)
+entry-right n names here token f m s k (Some o) h = ended-right n names here f (Some (what.Object o s _ None)) h tt
 
 one-formal : (names : Names) (here : Context) (token : ℕ) (f : Option ℕ) (m : Mode) (s : Option Subtype) (log : Log) → Sound log → AreRight (length log.shapes) here.scope → IsRightOne (length log.shapes) s
     → Leaves IsAround log (p.one_formal names here token f m s log)
@@ -220,8 +218,7 @@ clauses-right n names here (c ∷ cs) log h =
     clauses-right n names x.0 cs x.1 (packs-right n names c.word here (c.first ∷ c.more) log h)
 
 outermost-right : (n : ℕ) → AreRight n p.outermost.scope
-outermost-right n =
-    (record { some = refl; first = refl; last = refl }, (tt, (tt, (record { some = refl; first = refl; last = refl }, (record { some = refl; first = refl; last = refl }, (record { some = refl; first = refl; last = refl }, (tt, (tt, (tt, tt)))))))))
+outermost-right n = (refl, (tt, (tt, (refl, (refl, (refl, (tt, (tt, (tt, tt)))))))))
 
 fresh-sound : Sound fresh
 fresh-sound = record { before = λ n t e. absurd cc; within = λ n o e. absurd cc; counted = λ v n t e. absurd cc; cells = λ v n o e. absurd cc }

@@ -24,7 +24,6 @@ use Rattle.name_rules.specs.declared.types.Subtype.TheVariants as subtype
 use Rattle.name_laws.proofs.CellsCounted.{HaveValues, cells_kept, cells_last}
 use Rattle.name_laws.proofs.Fitting.{IsNumber}
 use Rattle.name_laws.proofs.Walk.{Walk}
-use Rattle.name_laws.specs.Based.{AreSpans, ArraysBased, HasBased, IsBased, IsSpan}
 
 abbrev pub FieldsBefore : ℕ → List Field → Type 0
 FieldsBefore n [] = Unit {0}
@@ -32,7 +31,7 @@ FieldsBefore n (f ∷ fs) = (f.number < n) × FieldsBefore n fs
 
 abbrev pub IsBefore : ℕ → Shape → Type 0
 IsBefore n (shape.Scalar s) = Unit {0}
-IsBefore n (shape.Array ds c k cells) = AreSpans ds × (k < n)
+IsBefore n (shape.Array ds c k cells) = HaveValues ds × (k < n)
 IsBefore n (shape.Record fs cells) = FieldsBefore n fs
 
 abbrev pub table_of : List Shape → List TypedSubtype
@@ -53,9 +52,6 @@ pub record SoundIn (shapes : List Shape) (objects : List Object) : Type 0 where
 abbrev pub Sound : Log → Type 0
 Sound log = SoundIn log.shapes log.objects
 
-pub arrays-based : (log : Log) → Sound log → ArraysBased log.shapes
-arrays-based log h n ds c k cells e = (h.before n (shape.Array ds c k cells) e).0
-
 -- where so many subtypes are known, and the log before is right, the later one is longer and right
 pub record Next (known : ℕ) (a b : Log) : Type 0 where
   pub at : known ≤ length a.shapes → Sound a → (length a.shapes ≤ length b.shapes) × Sound b
@@ -70,7 +66,7 @@ next_joined known a b c f g = record {
   at = λ l h. let x = f.at l h in let y = g.at (omega (arith, l, x.0)) x.1 in (omega (arith, x.0, y.0), y.1);
 }
 
-pub get_either : {A : Type 0} (xs : List A) (x : A) (i : ℕ) (y : A) → slice_get (xs ++ x ∷ []) i ≡ Some y → (slice_get xs i ≡ Some y) ⊎ ((i ≡ length xs) × (x ≡ y))
+get_either : {A : Type 0} (xs : List A) (x : A) (i : ℕ) (y : A) → slice_get (xs ++ x ∷ []) i ≡ Some y → (slice_get xs i ≡ Some y) ⊎ ((i ≡ length xs) × (x ≡ y))
 get_either [] x zero y e = inr (refl, cc)
 get_either [] x (suc i) y e = absurd cc
 get_either (a ∷ xs) x zero y e = inl e
@@ -173,12 +169,8 @@ minding known = record {
 -- ---- subtypes that are known, and declarations of such
 
 abbrev pub IsRight : ℕ → Subtype → Type 0
-IsRight n (subtype.Scalar s) = IsSpan s.kind s.low s.high
+IsRight n (subtype.Scalar s) = int_le s.low s.high ≡ true
 IsRight n (subtype.Composite m) = m < n
-
-pub right-based : (n : ℕ) (s : Subtype) → IsRight n s → IsBased s
-right-based n (subtype.Scalar s) h = h
-right-based n (subtype.Composite m) h = tt
 
 pub right_later : (n m : ℕ) (s : Subtype) → n ≤ m → IsRight n s → IsRight m s
 right_later n m (subtype.Scalar s) l h = h
@@ -198,7 +190,6 @@ number_counted (subtype.Composite m) n log h r i v =
 
 abbrev pub IsRightWhat : ℕ → What → Type 0
 IsRightWhat n (what.Type t) = IsRight n t
-IsRightWhat n (what.Object k t v z) = HasBased t z
 IsRightWhat n w = Unit {0}
 
 abbrev pub AreRight : ℕ → List Entry → Type 0
@@ -207,7 +198,6 @@ AreRight n (e ∷ es) = IsRightWhat n e.what × AreRight n es
 
 what_later : (n m : ℕ) (w : What) → n ≤ m → IsRightWhat n w → IsRightWhat m w
 what_later n m (what.Type t) l h = right_later n m t l h
-what_later n m (what.Object k t v z) l h = h
 what_later n m w l h = tt
 
 pub are_later : (n m : ℕ) (es : List Entry) → n ≤ m → AreRight n es → AreRight m es

@@ -30,8 +30,8 @@ use Rattle.name_laws.proofs.KeepsExpressions.{k-condition, k-expr}
 use Rattle.name_laws.proofs.KeepsIterations.{k-entered}
 use Rattle.name_laws.proofs.KeepsParts.{k-new_site}
 use Rattle.name_laws.proofs.KeepsPrimaries.{k-inside, k-level_above}
-use Rattle.name_laws.proofs.Ends.{NamesRight}
-use Rattle.name_laws.proofs.EndsPrimaries.{level-named}
+use Rattle.name_laws.proofs.CellsDeclared.{NamesRight}
+use Rattle.name_laws.proofs.EndsParts.{level-named}
 use Rattle.std.proofs.Common.{arith}
 use Rattle.name_laws.proofs.CellsAround.{entered-right}
 use Rattle.name_laws.proofs.CellsGrown.{extending}

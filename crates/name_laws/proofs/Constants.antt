@@ -49,7 +49,7 @@ get-kept [] x i y e = absurd cc
 get-kept (a ∷ xs) x zero y e = e
 get-kept (a ∷ xs) x (suc i) y e = get-kept xs x i y e
 
-get-either : {A : Type 0} (xs : List A) (x : A) (i : ℕ) (y : A) → slice_get (xs ++ x ∷ []) i ≡ Some y → (slice_get xs i ≡ Some y) ⊎ (x ≡ y)
+pub get-either : {A : Type 0} (xs : List A) (x : A) (i : ℕ) (y : A) → slice_get (xs ++ x ∷ []) i ≡ Some y → (slice_get xs i ≡ Some y) ⊎ (x ≡ y)
 get-either [] x zero y e = inr cc
 get-either [] x (suc i) y e = absurd cc
 get-either (a ∷ xs) x zero y e = inl e

@@ -31,58 +31,52 @@ use Rattle.name_rules.specs.TypedParts.{also_all}
 use Rattle.ada_typed.specs.Decoded.{Part as TypedPart, as_expr}
 use Rattle.name_rules.specs.Judging.{◌>>=◌, fault, given, pure, read}
 use Rattle.name_rules.specs.Attributes.{prefix_of, attribute_found, scalar_bound, dimension_bound, mentioned, prefix_subtype, dimensions_in, bound_in, bound_alone, dimension_at, dimension_given, one_dimension, bound_with, first_named, one_given, two_given, one_named, two_named, one_argument, two_arguments_of, image_text, extreme, step, stepped, scalar_with, object_image, is_bound, is_reduction, reduced_alone, is_array_object, alone, settled_form, settled_attribute}
-use Rattle.name_laws.proofs.Ends.{Ends, IsPrefix, IsRightly, Named, e-bind, e-fault, e-given, e-if, e-joined, e-map, e-some, e-where_clean, static-based}
+use Rattle.name_laws.proofs.CellsCounted.{HaveValues}
+use Rattle.name_laws.proofs.CellsDeclared.{Ends, IsRightly, Named, e-bind, e-fault, e-given, e-if, e-joined, e-map, e-some, e-where_clean}
+use Rattle.name_laws.proofs.CellsSound.{Sound}
 use Rattle.name_laws.proofs.EndsNames.{e-wrong_call}
-use Rattle.name_laws.specs.Based.{AreSpans, ArraysBased, IsSpan}
 use Rattle.name_rules.specs.Types.{dimensions_of, shape_in}
 use Rattle.name_rules.specs.declared.log.Log.{Log}
 use Rattle.name_rules.specs.declared.log.Shape.{Shape}
 use Rattle.name_rules.specs.declared.log.Shape.TheVariants as shape
 use Rattle.std.proofs.Common.{◌≡◌, refl, zero, suc}
 
-prefix-right : (m0 : ℕ) (k : KnownDenoted) → IsRightly m0 k → IsPrefix m0 (prefix_of k)
-prefix-right m0 (denoted.Value (known.Object p)) h = tt
-prefix-right m0 (denoted.Type first t) h = h
-prefix-right m0 (denoted.Parameter first s) h = tt
-prefix-right m0 (denoted.Sub first last n) h = tt
-prefix-right m0 k h = tt
+pub e-attribute_found : (m0 : ℕ) (d : Denoted) (at : ℕ) (a : Option Attribute) → Ends m0 (attribute_found d at a)
+e-attribute_found m0 d at None = e-fault m0 at Unknown
+e-attribute_found m0 d at (Some a) = e-some m0 (denote (denoted.Attribute (denoted_first d.known) (prefix_of d.known) at a) d.part) tt
 
-pub e-attribute_found : (m0 : ℕ) (d : Denoted) (at : ℕ) (a : Option Attribute) → IsRightly m0 d.known → Ends m0 (attribute_found d at a)
-e-attribute_found m0 d at None h = e-fault m0 at Unknown
-e-attribute_found m0 d at (Some a) h = e-some m0 (denote (denoted.Attribute (denoted_first d.known) (prefix_of d.known) at a) d.part) (prefix-right m0 d.known h)
+e-scalar_bound : (m0 first : ℕ) (s : Scalar) (a : Attribute) → Ends m0 (scalar_bound first s a)
+e-scalar_bound m0 first s attribute'.First = e-some m0 (value_denoted (static first s.kind s.low part.Nothing)) tt
+e-scalar_bound m0 first s attribute'.Last = e-some m0 (value_denoted (static first s.kind s.high part.Nothing)) tt
+e-scalar_bound m0 first s a = e-fault m0 first WrongType
 
-e-scalar_bound : (m0 first : ℕ) (s : Scalar) (a : Attribute) → IsSpan s.kind s.low s.high → Ends m0 (scalar_bound first s a)
-e-scalar_bound m0 first s attribute'.First h = e-some m0 (value_denoted (static first s.kind s.low part.Nothing)) (static-based first s.kind s.low h.first)
-e-scalar_bound m0 first s attribute'.Last h = e-some m0 (value_denoted (static first s.kind s.high part.Nothing)) (static-based first s.kind s.high h.last)
-e-scalar_bound m0 first s a h = e-fault m0 first WrongType
-
-e-dimension_bound : (m0 first : ℕ) (ms : TypedPart) (a : Attribute) (d : Dimension) → IsSpan d.kind d.low d.high → Ends m0 (dimension_bound first ms a d)
-e-dimension_bound m0 first ms attribute'.First d h = e-some m0 (value_denoted (static first d.kind d.low ms)) (static-based first d.kind d.low h.first)
-e-dimension_bound m0 first ms attribute'.Last d h = e-some m0 (value_denoted (static first d.kind d.high ms)) (static-based first d.kind d.high h.last)
-e-dimension_bound m0 first ms attribute'.Length d h = e-some m0 (value_denoted (universal first (pos (extent d)) false ms)) (λ k z e f. absurd cc)
+e-dimension_bound : (m0 first : ℕ) (ms : TypedPart) (a : Attribute) (d : Dimension) → int_le d.low d.high ≡ true → Ends m0 (dimension_bound first ms a d)
+e-dimension_bound m0 first ms attribute'.First d h = e-some m0 (value_denoted (static first d.kind d.low ms)) tt
+e-dimension_bound m0 first ms attribute'.Last d h = e-some m0 (value_denoted (static first d.kind d.high ms)) tt
+e-dimension_bound m0 first ms attribute'.Length d h = e-some m0 (value_denoted (universal first (pos (extent d)) false ms)) tt
 e-dimension_bound m0 first ms attribute'.Range d h = e-some m0 (denote (denoted.Range first d) ms) h
 e-dimension_bound m0 first ms a d h = e-fault m0 first WrongType
 
-e-bound_in : (m0 first : ℕ) (ms : TypedPart) (a : Attribute) (ds : List Dimension) (i : ℕ) → AreSpans ds → Ends m0 (bound_in first ms a (slice_get ds i))
+e-bound_in : (m0 first : ℕ) (ms : TypedPart) (a : Attribute) (ds : List Dimension) (i : ℕ) → HaveValues ds → Ends m0 (bound_in first ms a (slice_get ds i))
 e-bound_in m0 first ms a [] i h = e-fault m0 first WrongType
 e-bound_in m0 first ms a (d ∷ ds) zero h = e-dimension_bound m0 first ms a d h.0
 e-bound_in m0 first ms a (d ∷ ds) (suc i) h = e-bound_in m0 first ms a ds i h.1
 
-e-dimension_at : (m0 first : ℕ) (ms : TypedPart) (a : Attribute) (ds : List Dimension) (at : ℕ) (z : ℤ) → AreSpans ds → Ends m0 (dimension_at first ms a ds at z)
+e-dimension_at : (m0 first : ℕ) (ms : TypedPart) (a : Attribute) (ds : List Dimension) (at : ℕ) (z : ℤ) → HaveValues ds → Ends m0 (dimension_at first ms a ds at z)
 e-dimension_at m0 first ms a ds at z h = e-if m0 (int_le (pos 1) z && int_le z (pos (length ds))) (bound_in first ms a (slice_get ds (unsigned_abs z - 1))) (fault at StaticRange) (e-bound_in m0 first ms a ds (unsigned_abs z - 1) h) (e-fault m0 at StaticRange)
 
-e-dimension_given : (m0 first : ℕ) (ms : TypedPart) (a : Attribute) (ds : List Dimension) (f : Found) → AreSpans ds → Ends m0 (dimension_given first ms a ds f)
+e-dimension_given : (m0 first : ℕ) (ms : TypedPart) (a : Attribute) (ds : List Dimension) (f : Found) → HaveValues ds → Ends m0 (dimension_given first ms a ds f)
 e-dimension_given m0 first ms a ds f h =
     let g = dimension_at first (also_all ms (mentions_of f)) a ds (first_of f.known) in
     e-if m0 (is_number f.known) (static_of_kind (own_kind f.known) f >>= λ v. given v g) (fault (first_of f.known) WrongType)
     (e-bind m0 (static_of_kind (own_kind f.known) f) (λ v. given v g) (λ v. e-given m0 v g (λ z. e-dimension_at m0 first (also_all ms (mentions_of f)) a ds (first_of f.known) z h))) (e-fault m0 (first_of f.known) WrongType)
 
-e-one_dimension : (m0 first bracket : ℕ) (ms : TypedPart) (a : Attribute) (ds : List Dimension) (ns : List (Option ℕ)) (fs : List Found) → AreSpans ds → Ends m0 (one_dimension first bracket ms a ds ns fs)
+e-one_dimension : (m0 first bracket : ℕ) (ms : TypedPart) (a : Attribute) (ds : List Dimension) (ns : List (Option ℕ)) (fs : List Found) → HaveValues ds → Ends m0 (one_dimension first bracket ms a ds ns fs)
 e-one_dimension m0 first bracket ms a ds (None ∷ []) (f ∷ []) h = e-dimension_given m0 first ms a ds f h
 e-one_dimension m0 first bracket ms a ds (Some name ∷ []) fs h = e-fault m0 name WrongType
 e-one_dimension m0 first bracket ms a ds ns fs h = e-fault m0 bracket WrongType
 
-pub e-bound_with : (m0 : ℕ) (names : Names) (inside : Inside) (here : Context) (first : ℕ) (ms : TypedPart) (a : Attribute) (bracket : ℕ) (as' : Args) (ds : List Dimension) → AreSpans ds → Ends m0 (bound_with names inside here first ms a bracket as' ds)
+pub e-bound_with : (m0 : ℕ) (names : Names) (inside : Inside) (here : Context) (first : ℕ) (ms : TypedPart) (a : Attribute) (bracket : ℕ) (as' : Args) (ds : List Dimension) → HaveValues ds → Ends m0 (bound_with names inside here first ms a bracket as' ds)
 e-bound_with m0 names inside here first ms a bracket as' [] h = e-fault m0 first WrongType
 e-bound_with m0 names inside here first ms a bracket as' (d ∷ ds) h =
     let g = one_dimension first bracket ms a (d ∷ ds) (arg_names as') in
@@ -120,61 +114,61 @@ e-two_arguments_of m0 names inside here bracket k make as' h =
     e-where_clean m0 (operands names inside here (Some []) as') (λ fs. given fs g) (λ fs. e-given m0 fs g (λ z. e-two_named m0 bracket k make (first_named (arg_names as')) z h))
 
 e-stepped : (m0 : ℕ) (names : Names) (inside : Inside) (here : Context) (first : ℕ) (s : Scalar) (o : Op) (bracket : ℕ) (as' : Args) → Ends m0 (stepped names inside here first s o bracket as')
-e-stepped m0 names inside here first s o bracket as' = e-if m0 (is_integer s.kind) (one_argument names inside here bracket s.kind (step first s.kind o) as') (fault first WrongType) (e-one_argument m0 names inside here bracket s.kind (step first s.kind o) as' (λ y k z e f. absurd cc)) (e-fault m0 first WrongType)
+e-stepped m0 names inside here first s o bracket as' = e-if m0 (is_integer s.kind) (one_argument names inside here bracket s.kind (step first s.kind o) as') (fault first WrongType) (e-one_argument m0 names inside here bracket s.kind (step first s.kind o) as' (λ y. tt)) (e-fault m0 first WrongType)
 
 pub e-scalar_with : (m0 : ℕ) (names : Names) (inside : Inside) (here : Context) (first : ℕ) (s : Scalar) (a : Attribute) (bracket : ℕ) (as' : Args) → Ends m0 (scalar_with names inside here first s a bracket as')
-e-scalar_with m0 names inside here first s attribute'.Image bracket as' = e-one_argument m0 names inside here bracket s.kind (image_text first s.kind) as' (λ y k z e f. absurd cc)
-e-scalar_with m0 names inside here first s attribute'.Max bracket as' = e-two_arguments_of m0 names inside here bracket s.kind (extreme first s.kind op.Max) as' (λ x y k z e f. absurd cc)
-e-scalar_with m0 names inside here first s attribute'.Min bracket as' = e-two_arguments_of m0 names inside here bracket s.kind (extreme first s.kind op.Min) as' (λ x y k z e f. absurd cc)
+e-scalar_with m0 names inside here first s attribute'.Image bracket as' = e-one_argument m0 names inside here bracket s.kind (image_text first s.kind) as' (λ y. tt)
+e-scalar_with m0 names inside here first s attribute'.Max bracket as' = e-two_arguments_of m0 names inside here bracket s.kind (extreme first s.kind op.Max) as' (λ x y. tt)
+e-scalar_with m0 names inside here first s attribute'.Min bracket as' = e-two_arguments_of m0 names inside here bracket s.kind (extreme first s.kind op.Min) as' (λ x y. tt)
 e-scalar_with m0 names inside here first s attribute'.Succ bracket as' = e-stepped m0 names inside here first s op.Add bracket as'
 e-scalar_with m0 names inside here first s attribute'.Pred bracket as' = e-stepped m0 names inside here first s op.Sub bracket as'
 e-scalar_with m0 names inside here first s a bracket as' = e-bind m0 (scalar_bound first s a) (λ d. given d (λ x. wrong_call names inside here first as')) (λ d. e-given m0 d (λ x. wrong_call names inside here first as') (λ x. e-wrong_call m0 names inside here first as'))
 
 e-object_image : (m0 first : ℕ) (p : Place) (x : TypedPart) (t : Subtype) → Ends m0 (object_image first p x t)
-e-object_image m0 first p x (subtype.Scalar s) = e-one_given m0 s.kind (image_text first s.kind) (record { known = known.Object p; part = x }) (λ y k z e f. absurd cc)
+e-object_image m0 first p x (subtype.Scalar s) = e-one_given m0 s.kind (image_text first s.kind) (record { known = known.Object p; part = x }) (λ y. tt)
 e-object_image m0 first p x (subtype.Composite n) = e-fault m0 first WrongType
 
 e-reduced_alone : (m0 first at : ℕ) (b : Bool) → Ends m0 (reduced_alone first at b)
 e-reduced_alone m0 first at true = e-fault m0 first WrongType
 e-reduced_alone m0 first at false = e-fault m0 at ReduceRule
 
-values-at : (log : Log) (m : ℕ) → ArraysBased log.shapes → AreSpans (dimensions_of (shape_in log m))
+values-at : (log : Log) (m : ℕ) → Sound log → HaveValues (dimensions_of (shape_in log m))
 values-at log m h = by (slice_get log.shapes m) refl
   where
-    by : (t : Option Shape) → slice_get log.shapes m ≡ t → AreSpans (dimensions_of t)
+    by : (t : Option Shape) → slice_get log.shapes m ≡ t → HaveValues (dimensions_of t)
     by None e = tt
-    by (Some (shape.Array ds c k cells)) e = h m ds c k cells e
+    by (Some (shape.Array ds c k cells)) e = (h.before m (shape.Array ds c k cells) e).0
     by (Some (shape.Scalar s)) e = tt
     by (Some (shape.Record fs cells)) e = tt
 
-pub values-in : (log : Log) (t : Option Subtype) → ArraysBased log.shapes → AreSpans (dimensions_in log t)
+pub values-in : (log : Log) (t : Option Subtype) → Sound log → HaveValues (dimensions_in log t)
 values-in log None h = tt
 values-in log (Some (subtype.Scalar s)) h = tt
 values-in log (Some (subtype.Composite m)) h = values-at log m h
 
-e-of_subtype : (m0 first : ℕ) (p : Prefix) (x : TypedPart) (a : Attribute) (log : Log) → ArraysBased log.shapes → Named m0 (bound_in first (mentioned p x) a (slice_get (dimensions_in log (prefix_subtype p)) 0) log).0
+e-of_subtype : (m0 first : ℕ) (p : Prefix) (x : TypedPart) (a : Attribute) (log : Log) → Sound log → Named m0 (bound_in first (mentioned p x) a (slice_get (dimensions_in log (prefix_subtype p)) 0) log).0
 e-of_subtype m0 first p x a log h = (e-bound_in m0 first (mentioned p x) a (dimensions_in log (prefix_subtype p)) 0 (values-in log (prefix_subtype p) h)).at log
 
-e-bound_alone : (m0 first : ℕ) (p : Prefix) (x : TypedPart) (a : Attribute) (log : Log) → IsPrefix m0 p → ArraysBased log.shapes → Named m0 (bound_alone first p x a log).0
-e-bound_alone m0 first (prefix.Type (subtype.Scalar s)) x a log r h = (e-scalar_bound m0 first s a r).at log
-e-bound_alone m0 first p x a log r h = e-of_subtype m0 first p x a log h
+e-bound_alone : (m0 first : ℕ) (p : Prefix) (x : TypedPart) (a : Attribute) (log : Log) → Sound log → Named m0 (bound_alone first p x a log).0
+e-bound_alone m0 first (prefix.Type (subtype.Scalar s)) x a log h = (e-scalar_bound m0 first s a).at log
+e-bound_alone m0 first p x a log h = e-of_subtype m0 first p x a log h
 
-e-others_alone : (m0 first : ℕ) (p : Prefix) (x : TypedPart) (at : ℕ) (a : Attribute) (b : Bool) (log : Log) → IsPrefix m0 p → ArraysBased log.shapes
+e-others_alone : (m0 first : ℕ) (p : Prefix) (x : TypedPart) (at : ℕ) (a : Attribute) (b : Bool) (log : Log) → Sound log
     → Named m0 ((if b then bound_alone first p x a else if is_reduction a then (read (λ log. is_array_object log p) >>= reduced_alone first at) else fault first WrongType) log).0
-e-others_alone m0 first p x at a true log r h = e-bound_alone m0 first p x a log r h
-e-others_alone m0 first p x at a false log r h =
+e-others_alone m0 first p x at a true log h = e-bound_alone m0 first p x a log h
+e-others_alone m0 first p x at a false log h =
     (e-if m0 (is_reduction a) (read (λ log. is_array_object log p) >>= reduced_alone first at) (fault first WrongType)
     (e-bind m0 (read (λ log. is_array_object log p)) (reduced_alone first at) (λ b. e-reduced_alone m0 first at b)) (e-fault m0 first WrongType)).at log
 
-e-alone : (m0 first : ℕ) (p : Prefix) (x : TypedPart) (at : ℕ) (a : Attribute) (log : Log) → IsPrefix m0 p → ArraysBased log.shapes → Named m0 (alone first p x at a log).0
-e-alone m0 first (prefix.Object p) x at attribute'.Image log r h = (e-object_image m0 first p x p.subtype).at log
-e-alone m0 first (prefix.Parameter s) x at attribute'.Image log r h = (e-one_given m0 s.kind (image_text first s.kind) (parameter_found first s x) (λ y k z e f. absurd cc)).at log
-e-alone m0 first p x at a log r h = e-others_alone m0 first p x at a (is_bound a) log r h
+e-alone : (m0 first : ℕ) (p : Prefix) (x : TypedPart) (at : ℕ) (a : Attribute) (log : Log) → Sound log → Named m0 (alone first p x at a log).0
+e-alone m0 first (prefix.Object p) x at attribute'.Image log h = (e-object_image m0 first p x p.subtype).at log
+e-alone m0 first (prefix.Parameter s) x at attribute'.Image log h = (e-one_given m0 s.kind (image_text first s.kind) (parameter_found first s x) (λ y. tt)).at log
+e-alone m0 first p x at a log h = e-others_alone m0 first p x at a (is_bound a) log h
 
-pub e-settled : (m0 : ℕ) (d : Denoted) (log : Log) → IsRightly m0 d.known → ArraysBased log.shapes → Named m0 (settled_attribute d log).0
+pub e-settled : (m0 : ℕ) (d : Denoted) (log : Log) → IsRightly m0 d.known → Sound log → Named m0 (settled_attribute d log).0
 unfolding settled_attribute
 e-settled m0 d log h sound = by d.known h
   where
     by : (k : KnownDenoted) → IsRightly m0 k → Named m0 (settled_form k d.part log).0
-    by (denoted.Attribute first p at a) h = e-alone m0 first p d.part at a log h sound
+    by (denoted.Attribute first p at a) h = e-alone m0 first p d.part at a log sound
     by k h = h

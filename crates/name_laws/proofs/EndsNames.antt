@@ -23,13 +23,12 @@ use Rattle.name_rules.specs.TypedParts.{also}
 use Rattle.ada_typed.specs.Decoded.{Part as TypedPart, as_expr}
 use Rattle.name_rules.specs.Judging.{fault, given, some}
 use Rattle.name_rules.specs.Names.{denoted_first, part_place, field_from, is_record, is_array, field_in, field_of, field_form, field, args_alone, wrong_call, count, indexes, indexed, component_cells, index_shape, array_call, object_call}
-use Rattle.name_laws.proofs.Based.{none-based}
-use Rattle.name_laws.proofs.Ends.{Ends, e-fault, e-given, e-if, e-some, e-where_clean}
+use Rattle.name_laws.proofs.CellsDeclared.{Ends, e-fault, e-given, e-if, e-some, e-where_clean}
 use Rattle.name_laws.proofs.EndsScope.{e-selected}
 
 pub e-field_from : (m0 : ℕ) (x0 : Names) (x1 : Place) (x2 : TypedPart) (x3 : ℕ) (x4 : ℕ) (x5 : List Field) → Ends m0 (field_from x0 x1 x2 x3 x4 x5)
 e-field_from m0 names p ss at i [] = e-fault m0 at Unknown
-e-field_from m0 names p ss at i (f ∷ fs) = e-if m0 (f.symbol == symbol names at) (some (denote (part_place p f.subtype) (also ss (part.ASelection (typed.Field i f.offset))))) (field_from names p ss at (i + 1) fs) (e-some m0 (denote (part_place p f.subtype) (also ss (part.ASelection (typed.Field i f.offset)))) (none-based f.subtype)) (e-field_from m0 names p ss at (i + 1) fs)
+e-field_from m0 names p ss at i (f ∷ fs) = e-if m0 (f.symbol == symbol names at) (some (denote (part_place p f.subtype) (also ss (part.ASelection (typed.Field i f.offset))))) (field_from names p ss at (i + 1) fs) (e-some m0 (denote (part_place p f.subtype) (also ss (part.ASelection (typed.Field i f.offset)))) tt) (e-field_from m0 names p ss at (i + 1) fs)
 
 pub e-field_in : (m0 : ℕ) (x0 : Names) (x1 : Place) (x2 : TypedPart) (x3 : ℕ) (x4 : Option Shape) → Ends m0 (field_in x0 x1 x2 x3 x4)
 e-field_in m0 names p ss at t = e-if m0 (is_record t) (field_from names p ss at 0 (fields_of t)) (fault p.first WrongType) (e-field_from m0 names p ss at 0 (fields_of t)) (e-fault m0 p.first WrongType)
@@ -53,7 +52,7 @@ e-wrong_call m0 names inside here first as' = e-where_clean m0 (args_alone names
 
 pub e-indexed : (m0 : ℕ) (x0 : Place) (x1 : ℕ) (x2 : ℕ) (x3 : ℕ) (x4 : Option Subtype) (x5 : TypedPart) → Ends m0 (indexed x0 x1 x2 x3 x4 x5)
 e-indexed m0 p bracket wanted given None ss = e-fault m0 p.first WrongType
-e-indexed m0 p bracket wanted given (Some c) ss = e-if m0 (wanted == given) (some (denote (part_place p c) ss)) (fault bracket WrongType) (e-some m0 (denote (part_place p c) ss) (none-based c)) (e-fault m0 bracket WrongType)
+e-indexed m0 p bracket wanted given (Some c) ss = e-if m0 (wanted == given) (some (denote (part_place p c) ss)) (fault bracket WrongType) (e-some m0 (denote (part_place p c) ss) tt) (e-fault m0 bracket WrongType)
 
 pub e-index_shape : (m0 : ℕ) (x0 : Names) (x1 : Inside) (x2 : Context) (x3 : Place) (x4 : TypedPart) (x5 : ℕ) (x6 : Args) (x7 : Option Shape) (x8 : ℕ) → Ends m0 (index_shape x0 x1 x2 x3 x4 x5 x6 x7 x8)
 e-index_shape m0 names inside here p ss bracket as' t cells = e-where_clean m0 (indexes names inside here (dimensions_of t) cells (Some ss) as') (λ r. given r (indexed p bracket (length (dimensions_of t)) (count as') (component_of t))) (λ r. e-given m0 r (indexed p bracket (length (dimensions_of t)) (count as') (component_of t)) (λ z1. e-indexed m0 p bracket (length (dimensions_of t)) (count as') (component_of t) z1))

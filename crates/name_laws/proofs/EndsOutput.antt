@@ -25,7 +25,7 @@ use Rattle.name_rules.specs.TypedParts.{selections_of}
 use Rattle.ada_typed.specs.Decoded.{Part as TypedPart}
 use Rattle.name_rules.specs.Judging.{◌>>=◌, fault, given, joined, pure, some}
 use Rattle.name_rules.specs.Output.{done_by, no_name, text_only, alone_given, put_text, text_call, Putting, put_number, width_or, put_complete, is_text, judged_arguments, put_of_text, get_place, get_of, put_by, by_procedure, without_arguments, io_call}
-use Rattle.name_laws.proofs.Ends.{Ends, e-bind, e-fault, e-given, e-if, e-joined, e-map, e-some, e-where_clean}
+use Rattle.name_laws.proofs.CellsDeclared.{Ends, e-bind, e-fault, e-given, e-if, e-joined, e-map, e-some, e-where_clean}
 
 pub e-text_call : (m0 : ℕ) (x0 : ℕ) (x1 : ℕ) (x2 : ℕ) (x3 : Bool) (x4 : Args) (x5 : Found) → Ends m0 (text_call x0 x1 x2 x3 x4 x5)
 e-text_call m0 at first last line more f = e-bind m0 (alone_given at more f) (λ g. given g (λ h. text_only h.known h.part >>= λ ps. pure (option_map (put_text first last line) ps))) (λ g. e-given m0 g (λ h. text_only h.known h.part >>= λ ps. pure (option_map (put_text first last line) ps)) (λ h. e-bind m0 (text_only h.known h.part) (λ ps. pure (option_map (put_text first last line) ps)) (λ ps. e-map m0 (put_text first last line) ps (λ y. tt))))

@@ -9,7 +9,7 @@ use Rattle.ada_typed.specs.Decoded as part
 use Rattle.std.specs.Prelude.{if◌then◌else◌, not, ℕ, ◌==◌, ◌||◌}
 use Rattle.name_rules.specs.Judging.{fault}
 use Rattle.name_rules.specs.Scope.{named, predefined, is_withed, in_package, expanded_reach, in_ada, selected}
-use Rattle.name_laws.proofs.Ends.{Ends, e-fault, e-if, e-predefined, e-some}
+use Rattle.name_laws.proofs.CellsDeclared.{Ends, e-fault, e-if, e-predefined, e-some}
 
 pub e-in_ada : (m0 : ℕ) (x0 : Context) (x1 : ℕ) (x2 : ℕ) (x3 : ℕ) → Ends m0 (in_ada x0 x1 x2 x3)
 e-in_ada m0 here first token name = e-if m0 (not (name == text_io_name || name == integer_io_name)) (fault token Unknown) (if is_withed here.withed name then named (denoted.Package first name) else fault first NotVisible) (e-fault m0 token Unknown) (e-if m0 (is_withed here.withed name) (named (denoted.Package first name)) (fault first NotVisible) (e-some m0 (denote (denoted.Package first name) part.Nothing) tt) (e-fault m0 first NotVisible))

@@ -11,7 +11,7 @@ use Rattle.name_rules.specs.Attributes.{alone, attribute_found, bound_alone, bou
 use Rattle.name_rules.specs.Calls.{arg_names, operands}
 use Rattle.name_rules.specs.Expressions.{Inside}
 use Rattle.name_rules.specs.Found.{Denoted, Found, denote, parameter_found, static, universal, value_denoted}
-use Rattle.name_rules.specs.Judging.{◌>>=◌, fault, given, joined, pure, read, some}
+use Rattle.name_rules.specs.Judging.{◌>>=◌, fault, given, joined, read}
 use Rattle.name_rules.specs.Names.{denoted_first, wrong_call}
 use Rattle.name_rules.specs.Operators.{limit_of}
 use Rattle.name_rules.specs.TypedParts.{also_all}
@@ -38,7 +38,6 @@ use Rattle.name_rules.specs.declared.types.Scalar.{Scalar}
 use Rattle.name_rules.specs.declared.types.Subtype.{Subtype}
 use Rattle.name_rules.specs.declared.types.Subtype.TheVariants as subtype
 use Rattle.name_laws.proofs.Based.{spanning}
-use Rattle.name_laws.proofs.EndsAttributes.{values-in}
 use Rattle.name_laws.proofs.KeepsValues.{k-static_of_kind}
 use Rattle.name_laws.proofs.Makes.{Any, Makes, Maybe, joint, m-bind, m-fault, m-given, m-if, m-kept, m-pure, m-read, m-some, m-where_clean, mapped}
 use Rattle.name_laws.proofs.MakesCalls.{AllFound, m-operands}
@@ -79,8 +78,22 @@ m-bound_in first ms a [] i h = m-fault DenotedOf first WrongType
 m-bound_in first ms a (d ∷ ds) zero h = m-dimension_bound first ms a d h.0
 m-bound_in first ms a (d ∷ ds) (suc i) h = m-bound_in first ms a ds i h.1
 
+spans-at : (log : Log) (m : ℕ) → ArraysBased log.shapes → AreSpans (dimensions_of (shape_in log m))
+spans-at log m h = by (slice_get log.shapes m) refl
+  where
+    by : (t : Option Shape) → slice_get log.shapes m ≡ t → AreSpans (dimensions_of t)
+    by None e = tt
+    by (Some (shape.Array ds c k cells)) e = h m ds c k cells e
+    by (Some (shape.Scalar s)) e = tt
+    by (Some (shape.Record fs cells)) e = tt
+
+pub spans-in : (log : Log) (t : Option Subtype) → ArraysBased log.shapes → AreSpans (dimensions_in log t)
+spans-in log None h = tt
+spans-in log (Some (subtype.Scalar s)) h = tt
+spans-in log (Some (subtype.Composite m)) h = spans-at log m h
+
 m-bound_by : (first : ℕ) (p : Prefix) (x : Part) (a : Attribute) → Makes (Maybe DenotedOf) (read (λ log. slice_get (dimensions_in log (prefix_subtype p)) 0) >>= bound_in first (mentioned p x) a)
-m-bound_by first p x a = record { at = λ log h. (m-bound_in first (mentioned p x) a (dimensions_in log (prefix_subtype p)) 0 (values-in log (prefix_subtype p) h)).at log h }
+m-bound_by first p x a = record { at = λ log h. (m-bound_in first (mentioned p x) a (dimensions_in log (prefix_subtype p)) 0 (spans-in log (prefix_subtype p) h)).at log h }
 
 m-bound_alone : (first : ℕ) (p : Prefix) (x : Part) (a : Attribute) → PrefixOf p x → Makes (Maybe DenotedOf) (bound_alone first p x a)
 m-bound_alone first (prefix.Type (subtype.Scalar s)) x a h = m-scalar_bound first s a h
@@ -156,7 +169,7 @@ m-two_arguments_of names inside here bracket k make as' l r t =
     m-given AllFound DenotedOf fs (two_named bracket k make (first_named (arg_names as'))) q (λ gs s. m-two_named bracket k make (first_named (arg_names as')) gs t s))
 
 takes-image : (first : ℕ) (k : Kind) → Takes k (image_text first k)
-takes-image first k x h = ((λ ps r. (h, r)), tt)
+takes-image first k x h = ((λ ps r. (is-typed k, h, r)), tt)
 
 takes-extreme : (first : ℕ) (k : Kind) (o : Op) → TakesTwo k (extreme first k o)
 takes-extreme first k o x y g h = (is-typed k, g, inl h)

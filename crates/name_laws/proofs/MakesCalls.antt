@@ -1,5 +1,5 @@
 -- What is found fits: calls and conversions.
-use Rattle.std.proofs.Common.{◌≡◌, refl, ℕ, List, [], ◌∷◌, ◌++◌, length, Option, Some, None, Bool, true, false, if◌then◌else◌, ◌==◌, ◌+◌, slice_get}
+use Rattle.std.proofs.Common.{ℕ, List, [], ◌∷◌, ◌++◌, length, Option, Some, None, Bool, true, false, if◌then◌else◌, ◌==◌, ◌+◌}
 use Rattle.std.specs.Prelude.{is_some, ◌||◌}
 use Rattle.ada_tree.specs.FirstTokens as first_token
 use Rattle.ada_tree.specs.Syntax as syntax
@@ -11,19 +11,16 @@ use Rattle.ada_typed.specs.Syntax as typed
 use Rattle.ada_typed.specs.Syntax.{Actuals, Selections}
 use Rattle.ada_typed.specs.declared.program.Mode.TheVariants as mode
 use Rattle.ada_typed.specs.declared.program.Mode.{Mode}
-use Rattle.name_rules.specs.Calls.{Calling, actual_by, actual_for, also_taken, arg_names, argument, argument_form, arguments, begun_call, call_given, complete, composite_actual, conversion, conversion_of, converted, given_once, gives_in, is_out, late_at, one_operand, operands, parameter_of, place_given, profile_in, scalar_actual, scalar_conversion, sub_call, taken_at, takes_in, variable_form, variable_given, with_actual, with_operand}
+use Rattle.name_rules.specs.Calls.{Calling, actual_by, actual_for, also_taken, arg_names, argument, arguments, begun_call, call_given, complete, composite_actual, conversion, conversion_of, converted, given_once, gives_in, is_out, late_at, one_operand, operands, parameter_of, place_given, profile_in, scalar_actual, scalar_conversion, sub_call, taken_at, takes_in, variable_form, variable_given, with_actual, with_operand}
 use Rattle.name_rules.specs.Expressions.{Inside, expr, judged_alone, value_for}
-use Rattle.name_rules.specs.Found.{Denoted, Found}
-use Rattle.name_rules.specs.Judging.{◌>>=◌, fault, given, joined, pure, read, some}
-use Rattle.name_rules.specs.Names.{wrong_call}
+use Rattle.name_rules.specs.Found.{Found}
+use Rattle.name_rules.specs.Judging.{◌>>=◌, fault, given, pure, read, some}
 use Rattle.name_rules.specs.TypedParts.{also, selections_of}
 use Rattle.name_rules.specs.Types.{is_integer, same, typed_scalar, wanted_of}
 use Rattle.name_rules.specs.Values.{first_of, is_number, settled_found}
 use Rattle.name_rules.specs.declared.found.Found.TheVariants as known
 use Rattle.name_rules.specs.declared.found.Found.{Found as Known}
 use Rattle.name_rules.specs.declared.found.Place.{Place}
-use Rattle.name_rules.specs.declared.log.Log.{Log}
-use Rattle.name_rules.specs.declared.log.Profile.{Profile}
 use Rattle.name_rules.specs.declared.log.Rule.TheVariants.{WrongType}
 use Rattle.name_rules.specs.declared.log.Taken.{Taken}
 use Rattle.name_rules.specs.declared.scope.Context.{Context}

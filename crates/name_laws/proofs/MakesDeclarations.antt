@@ -1,5 +1,6 @@
 -- What is found fits: declarations, and what is around those behind them.
-use Rattle.std.proofs.Common.{◌≡◌, refl, sym, subst, ◌⊎◌, inl, inr, ℕ, ℤ, List, [], ◌∷◌, ◌++◌, length, Option, Some, None, Bool, true, false, if◌then◌else◌, option_map, ◌&&◌, ◌+◌, int_le, nat_le, nat_lt, slice_get}
+use Rattle.std.proofs.Common.{◌≡◌, refl, subst, ℕ, ℤ, List, [], ◌∷◌, ◌++◌, length, Option, Some, None, Bool, true, false, if◌then◌else◌, option_map, ◌&&◌, ◌+◌, int_le, nat_le}
+use Rattle.std.proofs.lemmas.Bool.{and_parts}
 use Rattle.std.specs.Prelude.{is_some, not}
 use Rattle.ada_base.specs.declared.reason.Reason.TheVariants as reason
 use Rattle.ada_tree.specs.FirstTokens as first_token
@@ -8,45 +9,41 @@ use Rattle.ada_tree.specs.Syntax.{Array, Comp, Decl, Definition, Expr, Ids, Indi
 use Rattle.ada_typed.specs.Decoded as part
 use Rattle.ada_typed.specs.Decoded.{Part, as_decl, as_decls, as_value}
 use Rattle.ada_typed.specs.Latest.{turned}
-use Rattle.ada_typed.specs.Syntax as typed
 use Rattle.ada_typed.specs.Syntax.{Decls}
 use Rattle.name_rules.specs.Declarations as d
 use Rattle.name_rules.specs.Declarations.{Building, Dimensions, Indicated, Initial, all_ids, indicated}
 use Rattle.name_rules.specs.Expressions.{Inside, expr, judged_alone}
-use Rattle.name_rules.specs.Found.{Denoted, Found}
-use Rattle.name_rules.specs.Judging.{Judging, ◌>>=◌, both, fault, given, joined, pure, read, some, unless}
+use Rattle.name_rules.specs.Found.{Found}
+use Rattle.name_rules.specs.Judging.{◌>>=◌, both, fault, given, joined, pure, read, some, unless}
+use Rattle.name_rules.specs.Names.{denoted_first}
 use Rattle.name_rules.specs.Operators.{both_mentions}
 use Rattle.name_rules.specs.Ranges as ranges
 use Rattle.name_rules.specs.Ranges.{Static, both_static, scalar_type, static_range, two_bounds}
 use Rattle.name_rules.specs.Scope.{as_scalar, declared, entry, free, hidden_where, subtype_named}
 use Rattle.name_rules.specs.Symbols.{symbol}
-use Rattle.name_rules.specs.TypedParts.{also, also_all}
+use Rattle.name_rules.specs.TypedParts.{also_all}
 use Rattle.name_rules.specs.Types.{array_cells, cells_in, in_base, is_integer, lies_in, number_of, saturated, wanted_of, written_shape}
-use Rattle.name_rules.specs.Values.{first_of, stored}
+use Rattle.name_rules.specs.Values.{asked, first_of, is_number, static_value, stored, suits, value_of}
 use Rattle.name_rules.specs.declared.found.Denoted.TheVariants as denoted
 use Rattle.name_rules.specs.declared.found.Denoted.{Denoted as KnownDenoted}
 use Rattle.name_rules.specs.declared.log.Dimension.{Dimension}
 use Rattle.name_rules.specs.declared.log.Field.{Field}
 use Rattle.name_rules.specs.declared.log.Log.{Log}
 use Rattle.name_rules.specs.declared.log.Rule.TheVariants.{Limit, StaticRange, WrongType}
-use Rattle.name_rules.specs.declared.log.Shape.{Shape}
 use Rattle.name_rules.specs.declared.log.Shape.TheVariants as shape
 use Rattle.name_rules.specs.declared.scope.Context.{Context}
 use Rattle.name_rules.specs.declared.scope.Names.{Names}
 use Rattle.name_rules.specs.declared.scope.What.{What}
 use Rattle.name_rules.specs.declared.scope.What.TheVariants as what
 use Rattle.name_rules.specs.declared.types.Kind.TheVariants as kind
+use Rattle.name_rules.specs.declared.types.Kind.{Kind}
 use Rattle.name_rules.specs.declared.types.Scalar.{Scalar}
 use Rattle.name_rules.specs.declared.types.Subtype.{Subtype}
 use Rattle.name_rules.specs.declared.types.Subtype.TheVariants as subtype
 use Rattle.name_rules.specs.declared.types.Wanted.TheVariants as wanted
-use Rattle.name_laws.proofs.Based.{constant-based, spanning, spans_both, within-based}
-use Rattle.name_laws.proofs.CellsDeclared.{HasSpan, Spans, s-both, s-bounds, s-static_checked}
-use Rattle.name_laws.proofs.CellsObjects.{own-span}
-use Rattle.name_laws.proofs.CellsSound.{get_either}
-use Rattle.name_laws.proofs.Ends.{FoundBased}
-use Rattle.name_laws.proofs.KeepsDeclarations.{k-begun_names, k-cells_counted, k-new_exception, k-own_type, k-static_number, k-valued_constant}
-use Rattle.name_laws.proofs.KeepsRanges.{k-both_static, k-static_bounds, k-static_checked, k-static_name}
+use Rattle.name_laws.proofs.Based.{constant-based, shape_more, spanning, spans_both, within-based}
+use Rattle.name_laws.proofs.KeepsDeclarations.{k-cells_counted, k-new_exception, k-static_number, k-valued_constant}
+use Rattle.name_laws.proofs.KeepsRanges.{k-both_static}
 use Rattle.name_laws.proofs.KeepsScope.{k-free}
 use Rattle.name_laws.proofs.KeepsTypes.{k-number_of}
 use Rattle.name_laws.proofs.Makes.{Any, Each, Makes, Maybe, each-turned, joint, m-bind, m-both, m-fault, m-given, m-if, m-kept, m-none, m-pure, m-read, m-some, m-test, m-unless, mapped}
@@ -55,8 +52,8 @@ use Rattle.name_laws.proofs.MakesPrimaries.{based-value}
 use Rattle.name_laws.proofs.MakesRanges.{AreFinding, any, are-based, m-scalar_type, m-two_bounds}
 use Rattle.name_laws.proofs.MakesScope.{DenotedOf, DenotesOf, m-as_scalar, m-subtype_named}
 use Rattle.name_laws.proofs.MakesValues.{FoundOf, SpanOf, ValueOf, m-stored}
-use Rattle.name_laws.proofs.Walk.{Keeps, k-both}
-use Rattle.name_laws.specs.Based.{AreBased, AreSpans, ArraysBased, IsBased, IsBasedWhat, IsSpan}
+use Rattle.name_laws.proofs.Statics.{static_law}
+use Rattle.name_laws.specs.Based.{AreBased, AreSpans, IsBased, IsBasedWhat, IsSpan}
 use Rattle.name_laws.specs.Classes.{DeclsFit}
 
 -- ---- subtype indications
@@ -93,71 +90,99 @@ m-indic names level here (syntax.RangeMark mark low high) l r =
 
 -- ---- dimensions
 
-found-based : (x : Option Found) → Finding x → FoundBased x
-found-based None h = tt
-found-based (Some f) h = λ k z e g. based-value f.known f.part k z h e g
+abbrev StaticOf : Static → Type 0
+StaticOf s = IsSpan s.known.kind s.known.low s.known.high
 
-m-spans : (p : Judging (Option Static)) → Keeps spanning p → Spans p → Makes HasSpan p
-m-spans p k s = record { at = λ log h. ((k.at log).at h, s.at log) }
+-- the values of two static bounds that take a type
+abbrev PairOf : Kind → ℤ × ℤ → Type 0
+PairOf k r = (in_base k r.0 ≡ true) × (in_base k r.1 ≡ true)
 
-m-bounded : (first : ℕ) (x y : Option Found) → Finding x → Finding y → Makes HasSpan (both x y (ranges.static_bounds first true None))
-m-bounded first x y g h =
-    m-spans (both x y (ranges.static_bounds first true None)) (k-both spanning x y (ranges.static_bounds first true None) (λ a z. k-static_bounds spanning first true None a z))
-    (s-both x y (ranges.static_bounds first true None) (found-based x g) (found-based y h) (s-bounds first))
+static-pair : (k : Kind) (a z : Found) (log : Log) → FoundOf a → FoundOf z → Maybe (PairOf k) (both_static k a z log).0
+static-pair k a z log g h = by (asked k a log).0 refl (asked k z (asked k a log).1).0 refl (value_of a.known) refl (value_of z.known) refl (asked k z (asked k a log).1).1
+  where
+    by : (x : Option Part) → (asked k a log).0 ≡ x → (y : Option Part) → (asked k z (asked k a log).1).0 ≡ y → (u : Option ℤ) → value_of a.known ≡ u → (v : Option ℤ) → value_of z.known ≡ v → (end : Log)
+        → Maybe (PairOf k) (both x y (λ e f. static_value (first_of a.known) u >>= λ i. static_value (first_of z.known) v >>= λ j. both i j (λ i j. some (i, j))) end).0
+    by None p y q u s v t end = tt
+    by (Some x) p None q u s v t end = tt
+    by (Some x) p (Some y) q None s None t end = tt
+    by (Some x) p (Some y) q None s (Some v) t end = tt
+    by (Some x) p (Some y) q (Some u) s None t end = tt
+    by (Some x) p (Some y) q (Some u) s (Some v) t end = ((static_law.places k a x u log (λ j w e f. based-value a.known a.part j w g e f) s p).ranged, (static_law.places k z y v (asked k a log).1 (λ j w e f. based-value z.known z.part j w h e f) t q).ranged)
 
-m-constrained : (first : ℕ) (t : Scalar) (x y : Option Found) → Finding x → Finding y → Makes HasSpan (both x y (ranges.static_checked first true t))
-m-constrained first t x y g h =
-    m-spans (both x y (ranges.static_checked first true t)) (k-both spanning x y (ranges.static_checked first true t) (λ a z. k-static_checked spanning first true t a z))
-    (s-both x y (ranges.static_checked first true t) (found-based x g) (found-based y h) (s-static_checked first t))
+m-pair : (k : Kind) (a z : Found) → FoundOf a → FoundOf z → Makes (Maybe (PairOf k)) (both_static k a z)
+m-pair k a z g h = record { at = λ log i. (((k-both_static spanning k a z).at log).at i, static-pair k a z log g h) }
 
-m-given-span : {A : Type 0} (Q : A → Type 0) (x : Option A) (f : A → Judging (Option Static)) → Maybe Q x → ((a : A) → Q a → Makes HasSpan (f a)) → Makes HasSpan (given x f)
-m-given-span Q None f q m = record { at = λ log h. (h, tt) }
-m-given-span Q (Some a) f q m = m a q
+m-spanned : (first : ℕ) (k : Kind) (a z : Found) (r : ℤ × ℤ) → PairOf k r → Makes (Maybe StaticOf) (ranges.spanned first true k a z r)
+m-spanned first k a z r h = by (int_le r.0 r.1) refl
+  where
+    by : (b : Bool) → int_le r.0 r.1 ≡ b → Makes (Maybe StaticOf) (if not b then fault first StaticRange else some (ranges.of_static a z (ranges.dimension k r)))
+    by true e = m-some StaticOf (ranges.of_static a z (ranges.dimension k r)) (record { some = e; first = h.0; last = h.1 })
+    by false e = m-fault StaticOf first StaticRange
 
-m-static_scalar : (first : ℕ) (s : Scalar) → SpanOf s → Makes HasSpan (ranges.static_scalar first s)
-m-static_scalar first s h = m-if HasSpan (is_integer s.kind) (some (record { known = record { kind = s.kind; low = s.low; high = s.high }; part = part.Nothing })) (fault first WrongType) (record { at = λ log g. (g, h) }) (record { at = λ log g. (g, tt) })
+m-inside_subtype : (s : Scalar) (b : Found) (z : ℤ) → Makes Any (ranges.inside_subtype s b z)
+m-inside_subtype s b z = m-unless (lies_in s z) (first_of b.known) StaticRange
 
-m-static_name : (first : ℕ) (k : KnownDenoted) (x : Part) → DenotesOf k x → Makes HasSpan (ranges.static_name first k x)
-m-static_name first (denoted.Range at e) x h = record { at = λ log g. (g, h) }
+m-checked_span : (first : ℕ) (s : Scalar) (a z : Found) (r : ℤ × ℤ) → PairOf s.kind r → Makes (Maybe StaticOf) (ranges.checked_span first true s a z r)
+m-checked_span first s a z r h =
+    m-if (Maybe StaticOf) (not (int_le r.0 r.1)) (ranges.spanned first true s.kind a z r) _ (m-spanned first s.kind a z r h)
+    (m-bind Any (Maybe StaticOf) (ranges.inside_subtype s a r.0) _ (m-inside_subtype s a r.0) (λ u p.
+    m-bind Any (Maybe StaticOf) (ranges.inside_subtype s z r.1) _ (m-inside_subtype s z r.1) (λ v q.
+    m-if (Maybe StaticOf) (lies_in s r.0 && lies_in s r.1) (ranges.spanned first true s.kind a z r) (pure None) (m-spanned first s.kind a z r h) (m-none StaticOf))))
+
+m-static_bounds : (first : ℕ) (a z : Found) → FoundOf a → FoundOf z → Makes (Maybe StaticOf) (ranges.static_bounds first true None a z)
+unfolding ranges.static_bounds
+m-static_bounds first a z g h =
+    let k = ranges.preferred None a.known z.known in
+    m-if (Maybe StaticOf) (not (is_number a.known)) (fault (first_of a.known) WrongType) _ (m-fault StaticOf (first_of a.known) WrongType)
+    (m-if (Maybe StaticOf) (not (suits k a.known && suits k z.known)) (fault (first_of z.known) WrongType) _ (m-fault StaticOf (first_of z.known) WrongType)
+    (m-bind (Maybe (PairOf k)) (Maybe StaticOf) (both_static k a z) _ (m-pair k a z g h) (λ v q. m-given (PairOf k) StaticOf v (ranges.spanned first true k a z) q (λ r p. m-spanned first k a z r p))))
+
+m-static_checked : (first : ℕ) (t : Scalar) (a z : Found) → FoundOf a → FoundOf z → Makes (Maybe StaticOf) (ranges.static_checked first true t a z)
+unfolding ranges.static_checked
+m-static_checked first t a z g h =
+    m-if (Maybe StaticOf) (is_integer t.kind) _ (fault first WrongType)
+    (m-bind (Maybe (PairOf t.kind)) (Maybe StaticOf) (both_static t.kind a z) _ (m-pair t.kind a z g h) (λ v q. m-given (PairOf t.kind) StaticOf v (ranges.checked_span first true t a z) q (λ r p. m-checked_span first t a z r p)))
+    (m-fault StaticOf first WrongType)
+
+m-static_scalar : (first : ℕ) (s : Scalar) → SpanOf s → Makes (Maybe StaticOf) (ranges.static_scalar first s)
+m-static_scalar first s h =
+    let x : Static = record { known = record { kind = s.kind; low = s.low; high = s.high }; part = part.Nothing } in
+    m-if (Maybe StaticOf) (is_integer s.kind) (some x) (fault first WrongType) (m-some StaticOf x h) (m-fault StaticOf first WrongType)
+
+m-static_name : (first : ℕ) (k : KnownDenoted) (x : Part) → DenotesOf k x → Makes (Maybe StaticOf) (ranges.static_name first k x)
+m-static_name first (denoted.Range at e) x h = m-some StaticOf (record { known = e; part = x }) h
 m-static_name first (denoted.Type at (subtype.Scalar s)) x h = m-static_scalar first s h
-m-static_name first k x h = record { at = λ log g. (g, tt) }
+m-static_name first k x h = m-fault StaticOf (denoted_first k) WrongType
 
-m-static_range : (level : Inside) (here : Context) (x : Range) → LevelFits level → AreBased here.scope → Makes HasSpan (static_range level here true None x)
+m-static_range : (level : Inside) (here : Context) (x : Range) → LevelFits level → AreBased here.scope → Makes (Maybe StaticOf) (static_range level here true None x)
 unfolding static_range
 m-static_range level here (syntax.Bounded low high) l r =
-    m-bind AreFinding HasSpan (two_bounds level here low high) _ (m-two_bounds level here low high l r) (λ x q. m-bounded (first_token.of_simple low) x.0 x.1 q.0 q.1)
+    m-bind AreFinding (Maybe StaticOf) (two_bounds level here low high) _ (m-two_bounds level here low high l r) (λ x q.
+    m-both FoundOf FoundOf StaticOf x.0 x.1 (ranges.static_bounds (first_token.of_simple low) true None) q.0 q.1 (λ a z g h. m-static_bounds (first_token.of_simple low) a z g h))
 m-static_range level here (syntax.Whole n) l r =
-    m-bind (Maybe DenotedOf) HasSpan (level.name here n) _ (l.name here n r) (λ y q. m-given-span DenotedOf y _ q (λ x s. m-static_name (first_token.of_name n) x.known x.part s))
+    m-bind (Maybe DenotedOf) (Maybe StaticOf) (level.name here n) _ (l.name here n r) (λ y q. m-given DenotedOf StaticOf y _ q (λ x s. m-static_name (first_token.of_name n) x.known x.part s))
 m-static_range level here (syntax.Constrained n low high) l r =
-    m-bind (Maybe DenotedOf) HasSpan (level.name here n) _ (l.name here n r) (λ y q.
-    m-bind (Maybe Any) HasSpan (given y (λ x. scalar_type x.known)) _ (m-scalar_type y) (λ s p.
-    m-bind AreFinding HasSpan (two_bounds level here low high) _ (m-two_bounds level here low high l r) (λ x t.
-    m-given-span Any s _ p (λ u v. m-constrained (first_token.of_name n) u x.0 x.1 t.0 t.1))))
+    m-bind (Maybe DenotedOf) (Maybe StaticOf) (level.name here n) _ (l.name here n r) (λ y q.
+    m-bind (Maybe Any) (Maybe StaticOf) (given y (λ x. scalar_type x.known)) _ (m-scalar_type y) (λ s p.
+    m-bind AreFinding (Maybe StaticOf) (two_bounds level here low high) _ (m-two_bounds level here low high l r) (λ x t.
+    m-given Any StaticOf s _ p (λ u v. m-both FoundOf FoundOf StaticOf x.0 x.1 (ranges.static_checked (first_token.of_name n) true u) t.0 t.1 (λ a z g h. m-static_checked (first_token.of_name n) u a z g h)))))
 
 -- ---- arrays
 
 abbrev DimensionsOf : Dimensions → Type 0
 DimensionsOf ds = AreSpans ds.dimensions
 
-also-dimension : (ds : Option Dimensions) (s : Option Static) → Maybe DimensionsOf ds → HasSpan s → Maybe DimensionsOf (joined d.also_dimension ds s)
+also-dimension : (ds : Option Dimensions) (s : Option Static) → Maybe DimensionsOf ds → Maybe StaticOf s → Maybe DimensionsOf (joined d.also_dimension ds s)
 also-dimension None s g h = tt
 also-dimension (Some ds) None g h = tt
 also-dimension (Some ds) (Some s) g h = spans_both ds.dimensions (s.known ∷ []) g (h, tt)
 
 m-dimensions_from : (level : Inside) (here : Context) (made : Option Dimensions) (rs : List Range) → LevelFits level → AreBased here.scope → Maybe DimensionsOf made → Makes (Maybe DimensionsOf) (d.dimensions_from level here made rs)
 m-dimensions_from level here made [] l r g = m-pure (Maybe DimensionsOf) made g
-m-dimensions_from level here made (x ∷ xs) l r g = m-bind HasSpan (Maybe DimensionsOf) (static_range level here true None x) _ (m-static_range level here x l r) (λ s q. m-dimensions_from level here (joined d.also_dimension made s) xs l r (also-dimension made s g q))
-
--- one more shape, whose bounds are based where it is an array
-shape-more : (shapes : List Shape) (t : Shape) → ((ds : List Dimension) (c : Subtype) (k cells : ℕ) → t ≡ shape.Array ds c k cells → AreSpans ds) → ArraysBased shapes → ArraysBased (shapes ++ t ∷ [])
-shape-more shapes t f h n ds c k cells e = by (get_either shapes t n (shape.Array ds c k cells) e)
-  where
-    by : (slice_get shapes n ≡ Some (shape.Array ds c k cells)) ⊎ ((n ≡ length shapes) × (t ≡ shape.Array ds c k cells)) → AreSpans ds
-    by (inl g) = h n ds c k cells g
-    by (inr g) = f ds c k cells g.1
+m-dimensions_from level here made (x ∷ xs) l r g = m-bind (Maybe StaticOf) (Maybe DimensionsOf) (static_range level here true None x) _ (m-static_range level here x l r) (λ s q. m-dimensions_from level here (joined d.also_dimension made s) xs l r (also-dimension made s g q))
 
 m-array_shape : (ds : List Dimension) (s : Subtype) (m cells : ℕ) → AreSpans ds → Makes Any (written_shape (shape.Array ds s m cells))
-m-array_shape ds s m cells h = record { at = λ log g. (shape-more log.shapes (shape.Array ds s m cells) (λ es c k n e. let same : ds ≡ es = cc in subst AreSpans same h) g, tt) }
+m-array_shape ds s m cells h = record { at = λ log g. (shape_more log.shapes (shape.Array ds s m cells) (λ es c k n e. let same : ds ≡ es = cc in subst AreSpans same h) g, tt) }
 
 m-number_of : (s : Subtype) → Makes Any (number_of s)
 m-number_of s = m-kept (number_of s) (k-number_of spanning s)
@@ -242,7 +267,7 @@ m-components names level start b (c ∷ cs) l h = m-bind BuildingOf BuildingOf (
 
 m-record_written : (cells : ℕ) (ms : Part) (fs : List Field) → Makes (Maybe IndicatedOf) (d.record_written cells ms fs)
 m-record_written cells ms fs =
-    m-bind Any (Maybe IndicatedOf) (written_shape (shape.Record fs cells)) _ (record { at = λ log g. (shape-more log.shapes (shape.Record fs cells) (λ ds c k n e. absurd cc) g, tt) }) (λ n q. m-some IndicatedOf (indicated ms (subtype.Composite n)) tt)
+    m-bind Any (Maybe IndicatedOf) (written_shape (shape.Record fs cells)) _ (record { at = λ log g. (shape_more log.shapes (shape.Record fs cells) (λ ds c k n e. absurd cc) g, tt) }) (λ n q. m-some IndicatedOf (indicated ms (subtype.Composite n)) tt)
 
 m-record_of : (names : Names) (level : Inside) (here : Context) (cs : List Comp) → LevelFits level → AreBased here.scope → Makes (Maybe IndicatedOf) (d.record_of names level here cs)
 unfolding d.record_of
@@ -252,6 +277,12 @@ m-record_of names level here cs l r =
     m-given Any IndicatedOf b.fields (d.record_written b.offset b.mentions) (any b.fields) (λ fs s. m-record_written b.offset b.mentions fs))
 
 -- ---- types
+
+own-span : (token : ℕ) (a z : ℤ) → (in_base (kind.Own token) a && in_base (kind.Own token) z && int_le a z) ≡ true → IsSpan (kind.Own token) a z
+own-span token a z e =
+    let x = and_parts (in_base (kind.Own token) a && in_base (kind.Own token) z) (int_le a z) e in
+    let y = and_parts (in_base (kind.Own token) a) (in_base (kind.Own token) z) x.0 in
+    record { some = x.1; first = y.0; last = y.1 }
 
 m-own_type : (token first last : ℕ) (a z : ℤ) → Makes (Maybe IsBased) (d.own_type token first last a z)
 m-own_type token first last a z =

@@ -1,5 +1,5 @@
 -- What is found fits: what operators join, where what primaries and names are found to be fits.
-use Rattle.std.proofs.Common.{◌≡◌, refl, ℕ, Option, Some, None, Bool, true, false, if◌then◌else◌, option_map}
+use Rattle.std.proofs.Common.{ℕ, Option, Some, None, Bool, true, false, option_map}
 use Rattle.std.specs.Prelude.{is_some}
 use Rattle.ada_base.specs.declared.operation.Op.TheVariants as op
 use Rattle.ada_base.specs.declared.operation.Op.{Op}
@@ -10,12 +10,12 @@ use Rattle.ada_tree.specs.declared.operators.Additive.TheVariants as additive
 use Rattle.ada_tree.specs.declared.operators.Logical.TheVariants as logical'
 use Rattle.ada_tree.specs.declared.operators.Sign.{Sign as Signed}
 use Rattle.ada_tree.specs.declared.operators.Sign.TheVariants as sign
-use Rattle.ada_typed.specs.Decoded.{Part, as_expr}
+use Rattle.ada_typed.specs.Decoded.{Part}
 use Rattle.ada_typed.specs.declared.expressions.Sign.TheVariants as unary'
 use Rattle.name_rules.specs.Expressions.{Inside, added, adding, blamed, comparison_of, condition, conjoined, expr, factor, first_term, first_wanted, in_place, joined_rels, judged_alone, multiplied, multiplying, multiplying_op, rel, short_form, short_found, short_join, short_operand, short_operands, simple, term, value_for}
 use Rattle.name_rules.specs.Found.{Found}
-use Rattle.name_rules.specs.Judging.{◌>>=◌, fault, given, joined, pure, some}
-use Rattle.name_rules.specs.Operators.{binary, compared, joined_text, logical, membership, not_of, of_subtype, plain, power, unary}
+use Rattle.name_rules.specs.Judging.{fault, given, joined}
+use Rattle.name_rules.specs.Operators.{binary, joined_text, logical, not_of, plain, unary}
 use Rattle.name_rules.specs.Scope.{scalar_named}
 use Rattle.name_rules.specs.Types.{wanted_of}
 use Rattle.name_rules.specs.Values.{asked, is_kind, kind_of, stored}
@@ -28,10 +28,10 @@ use Rattle.name_rules.specs.declared.types.Kind.TheVariants as kind
 use Rattle.name_rules.specs.declared.types.Subtype.{Subtype}
 use Rattle.name_rules.specs.declared.types.Wanted.TheVariants as wanted
 use Rattle.name_rules.specs.declared.types.Wanted.{Wanted}
-use Rattle.name_laws.proofs.Makes.{Any, Makes, Maybe, joint, m-bind, m-fault, m-given, m-if, m-none, m-pure, m-some, mapped}
+use Rattle.name_laws.proofs.Makes.{Any, Makes, Maybe, joint, m-bind, m-fault, m-given, m-if, m-pure, m-some, mapped}
 use Rattle.name_laws.proofs.MakesOperators.{m-binary, m-compared, m-joined_text, m-logical, m-membership, m-not_of, m-of_subtype, m-plain, m-power, m-unary}
 use Rattle.name_laws.proofs.MakesScope.{DenotedOf, m-scalar_named}
-use Rattle.name_laws.proofs.MakesValues.{AskedOf, FoundOf, KnownOf, SpanOf, ValueOf, m-asked, m-stored}
+use Rattle.name_laws.proofs.MakesValues.{AskedOf, FoundOf, SpanOf, ValueOf, m-asked, m-stored}
 use Rattle.name_laws.proofs.Based.{spanning}
 use Rattle.name_laws.proofs.Walked.{KeepsInside}
 use Rattle.name_laws.specs.Based.{AreBased}

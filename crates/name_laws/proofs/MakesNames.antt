@@ -1,5 +1,5 @@
 -- What is found fits: parts of names, where what stands in their brackets fits.
-use Rattle.std.proofs.Common.{◌≡◌, refl, ℕ, List, [], ◌∷◌, length, Option, Some, None, Bool, true, false, if◌then◌else◌, ◌==◌, ◌+◌, drop, slice_get}
+use Rattle.std.proofs.Common.{ℕ, List, [], ◌∷◌, length, Option, Some, None, ◌==◌, ◌+◌, drop, slice_get}
 use Rattle.ada_tree.specs.Syntax as syntax
 use Rattle.ada_tree.specs.Syntax.{Arg, Args}
 use Rattle.ada_typed.specs.Decoded as part
@@ -7,9 +7,8 @@ use Rattle.ada_typed.specs.Decoded.{Part, as_expr}
 use Rattle.ada_typed.specs.Syntax as typed
 use Rattle.name_rules.specs.Expressions.{Inside, expr}
 use Rattle.name_rules.specs.Found.{Denoted, Found, denote}
-use Rattle.name_rules.specs.Judging.{◌>>=◌, fault, given, joined, pure, some}
+use Rattle.name_rules.specs.Judging.{fault, given, joined}
 use Rattle.name_rules.specs.Names.{args_alone, array_call, component_cells, count, denoted_first, field, field_form, field_from, field_in, field_of, index, index_in, index_shape, index_where, indexed, indexes, is_array, is_record, object_call, part_place, selected_by, unnamed, wrong_call}
-use Rattle.name_rules.specs.Scope.{selected}
 use Rattle.name_rules.specs.Symbols.{symbol}
 use Rattle.name_rules.specs.TypedParts.{also}
 use Rattle.name_rules.specs.Types.{class_of, component_of, dimensions_of, fields_of, shape_in, stride}
@@ -20,7 +19,6 @@ use Rattle.name_rules.specs.declared.found.Found.TheVariants as known
 use Rattle.name_rules.specs.declared.found.Place.{Place}
 use Rattle.name_rules.specs.declared.log.Dimension.{Dimension}
 use Rattle.name_rules.specs.declared.log.Field.{Field}
-use Rattle.name_rules.specs.declared.log.Log.{Log}
 use Rattle.name_rules.specs.declared.log.Rule.TheVariants.{Unknown, WrongType}
 use Rattle.name_rules.specs.declared.log.Shape.{Shape}
 use Rattle.name_rules.specs.declared.scope.Context.{Context}

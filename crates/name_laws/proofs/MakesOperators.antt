@@ -1,12 +1,10 @@
 -- What is found fits: operators.
-use Rattle.std.proofs.Common.{◌≡◌, refl, sym, ap, subst, ◌∙◌, ◌⊎◌, inl, inr, ℕ, ℤ, pos, Option, Some, None, Bool, true, false, if◌then◌else◌, option_map, ◌&&◌}
+use Rattle.std.proofs.Common.{◌≡◌, refl, sym, subst, ◌⊎◌, inl, inr, ℕ, ℤ, pos, Option, Some, None, Bool, true, false, if◌then◌else◌, option_map, ◌&&◌}
 use Rattle.std.specs.Prelude.{not}
 use Rattle.ada_base.specs.Operation.{is_in_base}
 use Rattle.ada_base.specs.declared.operation.Base.TheVariants.{Narrow, Wide}
 use Rattle.ada_base.specs.declared.operation.Op.{Op}
 use Rattle.ada_base.specs.declared.operation.Op.TheVariants as op
-use Rattle.ada_typed.specs.Classes.{with_class}
-use Rattle.ada_typed.specs.Decoded as part
 use Rattle.ada_typed.specs.Decoded.{Part, as_expr}
 use Rattle.ada_typed.specs.Syntax as typed
 use Rattle.ada_typed.specs.Syntax.{Expr as TypedExpr}
@@ -14,11 +12,11 @@ use Rattle.ada_typed.specs.declared.expressions.Sign.TheVariants as unary'
 use Rattle.ada_typed.specs.declared.expressions.Sign.{Sign}
 use Rattle.ada_typed.specs.declared.scalars.Class.TheVariants as class
 use Rattle.ada_typed.specs.declared.scalars.Comparison.{Comparison}
-use Rattle.name_rules.specs.Found.{Found, opened, scalar, static, text_found, universal}
-use Rattle.name_rules.specs.Judging.{◌>>=◌, both, fault, given, joined, pure, some}
+use Rattle.name_rules.specs.Found.{Found, scalar, static, text_found, universal}
+use Rattle.name_rules.specs.Judging.{fault, pure, some}
 use Rattle.name_rules.specs.Operators.{binary, both_mentions, by_kinds, common_kind, compared, compared_at, compared_by, first_kind, joined_text, joined_texts, leaf, leaf_limits, limit_of, logical, member, member_of, membership, negation, not_of, of_subtype, open_binary, open_form, open_of, open_power, open_two, open_unary, operand_blamed, operation, operation_by, operation_on, plain, plain_by, plain_open, plain_typed, power, power_to, signed, static_of, static_operation, static_power, static_unary, static_universal, typed_operation, unary, unary_by, unary_open, unary_typed, universal_by, universal_operation, universal_power, universal_to, within_bounds}
-use Rattle.name_rules.specs.TypedParts.{also_all, exprs_of}
-use Rattle.name_rules.specs.Types.{class_of, in_base, is_integer, same}
+use Rattle.name_rules.specs.TypedParts.{also_all}
+use Rattle.name_rules.specs.Types.{class_of, in_base, same}
 use Rattle.name_rules.specs.Values.{asked, beyond, exact, first_of, fitting, is_kind, is_number, is_scalar, joint, kind_of, sooner, suits, value_of}
 use Rattle.name_rules.specs.declared.found.Found.TheVariants as known
 use Rattle.name_rules.specs.declared.found.Found.{Found as Known}
@@ -29,9 +27,9 @@ use Rattle.name_rules.specs.declared.types.Kind.TheVariants as kind
 use Rattle.name_rules.specs.declared.types.Scalar.{Scalar}
 use Rattle.name_laws.proofs.Based.{spanning}
 use Rattle.name_laws.proofs.KeepsValues.{k-fitting}
-use Rattle.name_laws.proofs.Makes.{Any, Each, Makes, Maybe, each-all, joint as joined-parts, m-bind, m-both, m-fault, m-given, m-if, m-kept, m-none, m-pure, m-some, m-test, mapped}
+use Rattle.name_laws.proofs.Makes.{Any, Makes, Maybe, each-all, joint as joined-parts, m-bind, m-both, m-fault, m-given, m-if, m-kept, m-none, m-pure, m-some, m-test, mapped}
 use Rattle.name_laws.proofs.MakesValues.{AskedOf, FoundOf, IsOpen, IsPiece, KnownOf, SpanOf, has-value, is-typed, m-asked, with-same}
-use Rattle.name_laws.specs.Classes.{ExprFits, HasValue, exponent}
+use Rattle.name_laws.specs.Classes.{ExprFits, exponent}
 
 -- ---- static results
 
@@ -260,7 +258,7 @@ unfolding compared_at
 m-compared_at k c a b g h =
     m-bind (Maybe (AskedOf k)) (Maybe FoundOf) (asked k a) _ (m-asked k a g) (λ x q.
     m-bind (Maybe (AskedOf k)) (Maybe FoundOf) (asked k b) _ (m-asked k b h) (λ y r.
-    m-both (AskedOf k) (AskedOf k) FoundOf x y _ q r (λ e f s t. m-some FoundOf (scalar (first_of a.known) kind.Boolean None (typed.Relation (class_of k) c (as_expr e) (as_expr f))) (s, t))))
+    m-both (AskedOf k) (AskedOf k) FoundOf x y _ q r (λ e f s t. m-some FoundOf (scalar (first_of a.known) kind.Boolean None (typed.Relation (class_of k) c (as_expr e) (as_expr f))) (is-typed k, s, t))))
 
 m-compared_by : (c : Comparison) (at : ℕ) (a b : Found) (k : Kind) → FoundOf a → FoundOf b → Makes (Maybe FoundOf) (compared_by c at a b k)
 m-compared_by c at a b k g h = m-if (Maybe FoundOf) (suits k a.known && suits k b.known) (compared_at k c a b) (fault at WrongType) (m-compared_at k c a b g h) (m-fault FoundOf at WrongType)
@@ -276,7 +274,7 @@ m-within_bounds at negated k x low high f g h =
     m-bind (Maybe (AskedOf k)) (Maybe FoundOf) (asked k low) _ (m-asked k low g) (λ l q.
     m-bind (Maybe (AskedOf k)) (Maybe FoundOf) (asked k high) _ (m-asked k high h) (λ m r.
     m-given (AskedOf k) FoundOf e _ p (λ u s. m-both (AskedOf k) (AskedOf k) FoundOf l m _ q r (λ v w t i.
-    m-some FoundOf (member (first_of x.known) negated k (as_expr u) (as_expr v) (as_expr w)) (s, t, i)))))))
+    m-some FoundOf (member (first_of x.known) negated k (as_expr u) (as_expr v) (as_expr w)) (is-typed k, s, t, i)))))))
 
 m-member_of : (at : ℕ) (negated : Bool) (a l h : Found) → FoundOf a → FoundOf l → FoundOf h → Makes (Maybe FoundOf) (member_of at negated a l h)
 m-member_of at negated a l h p q r =
@@ -295,5 +293,5 @@ m-of_subtype at negated mark x s g h = m-both FoundOf SpanOf FoundOf x s _ g h (
     m-if (Maybe FoundOf) (suits t.kind a.known) _ (fault at WrongType)
     (m-bind (Maybe (AskedOf t.kind)) (Maybe FoundOf) (asked t.kind a) _ (m-asked t.kind a p) (λ e r.
     m-given (AskedOf t.kind) FoundOf e _ r (λ u i.
-    m-some FoundOf (member (first_of a.known) negated t.kind (as_expr u) (limit_of mark t.low) (limit_of mark t.high)) (i, has-value t.kind t.low q.first, has-value t.kind t.high q.last))))
+    m-some FoundOf (member (first_of a.known) negated t.kind (as_expr u) (limit_of mark t.low) (limit_of mark t.high)) (is-typed t.kind, i, has-value t.kind t.low q.first, has-value t.kind t.high q.last))))
     (m-fault FoundOf at WrongType))

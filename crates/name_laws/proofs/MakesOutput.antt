@@ -1,18 +1,16 @@
 -- What is found fits: the predefined procedures.
-use Rattle.std.proofs.Common.{◌≡◌, refl, ℕ, ℤ, pos, Option, Some, None, Bool, true, false, if◌then◌else◌, option_map, ◌&&◌, ◌==◌, ◌+◌, int_le, nat_le}
+use Rattle.std.proofs.Common.{◌≡◌, refl, ℕ, ℤ, pos, Option, Some, None, Bool, true, false, if◌then◌else◌, option_map, ◌&&◌, ◌==◌, int_le, nat_le}
 use Rattle.std.specs.Prelude.{not}
 use Rattle.std.proofs.lemmas.Bool.{and_parts}
-use Rattle.ada_base.specs.declared.operation.Base.TheVariants.{Narrow}
 use Rattle.ada_tree.specs.FirstTokens as first_token
 use Rattle.ada_tree.specs.Syntax as syntax
 use Rattle.ada_tree.specs.Syntax.{Args, Expr}
 use Rattle.ada_typed.specs.Decoded as part
 use Rattle.ada_typed.specs.Decoded.{Part, as_expr, as_pieces}
-use Rattle.ada_typed.specs.Latest.{turned}
 use Rattle.ada_typed.specs.Syntax as typed
 use Rattle.ada_typed.specs.Syntax.{Selections}
 use Rattle.name_rules.specs.Expressions.{Inside, expr, judged_alone}
-use Rattle.name_rules.specs.Found.{Denoted, Found}
+use Rattle.name_rules.specs.Found.{Found}
 use Rattle.name_rules.specs.Judging as judging
 use Rattle.name_rules.specs.Judging.{◌>>=◌, breaks, fault, given, pure, some, unless}
 use Rattle.name_rules.specs.Output.{Putting, alone_given, by_procedure, done_by, get_of, get_place, in_width, io_call, is_number_put, is_text, item_of, judged_arguments, no_name, nothing_put, others_alone, put_argument, put_arguments, put_by, put_complete, put_number, put_of_text, put_text, text_call, text_only, width_argument, width_of, width_or, with_count, with_width, without_arguments}
@@ -39,7 +37,7 @@ use Rattle.name_laws.proofs.KeepsValues.{k-static_of_kind}
 use Rattle.name_laws.proofs.Makes.{Any, Each, Makes, Maybe, joint, m-bind, m-breaks, m-fault, m-given, m-if, m-kept, m-pure, m-some, m-test, m-unless, m-where_clean, mapped}
 use Rattle.name_laws.proofs.MakesExpressions.{Finding, LevelFits, m-expr, m-judged_alone}
 use Rattle.name_laws.proofs.MakesScope.{DenotedOf}
-use Rattle.name_laws.proofs.MakesValues.{AskedOf, FoundOf, IsPiece, KnownOf, has-value, m-asked, pieces-fit, selections-fit}
+use Rattle.name_laws.proofs.MakesValues.{AskedOf, FoundOf, IsPiece, KnownOf, m-asked, pieces-fit, selections-fit}
 use Rattle.name_laws.specs.Based.{AreBased}
 use Rattle.name_laws.specs.Classes.{SelectionsFit}
 
@@ -120,7 +118,7 @@ width-or first p h = by p.has_width
 m-put_complete : (at first last : ℕ) (p : Putting) → PuttingOf p → Makes (Maybe DenotedOf) (put_complete at first last p)
 m-put_complete at first last p h =
     m-if (Maybe DenotedOf) (nat_le p.count 2) _ (fault at WrongType)
-    (m-pure (Maybe DenotedOf) (judging.joined (put_number first last) p.item (width_or first p)) (joint NumberOf NumberOf DenotedOf (put_number first last) p.item (width_or first p) h.0 (width-or first p h) (λ a b s t. (s, t, tt)))) (m-fault DenotedOf at WrongType)
+    (m-pure (Maybe DenotedOf) (judging.joined (put_number first last) p.item (width_or first p)) (joint NumberOf NumberOf DenotedOf (put_number first last) p.item (width_or first p) h.0 (width-or first p h) (λ a b s t. (tt, s, t, tt)))) (m-fault DenotedOf at WrongType)
 
 -- ---- calls
 

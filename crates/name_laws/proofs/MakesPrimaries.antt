@@ -1,5 +1,5 @@
 -- What is found fits: names as wholes, conditional expressions, brackets, primaries, at every level.
-use Rattle.std.proofs.Common.{◌≡◌, refl, ℕ, ℤ, zero, suc, List, [], ◌∷◌, length, Option, Some, None, Bool, true, false, if◌then◌else◌, option_map, ◌&&◌}
+use Rattle.std.proofs.Common.{◌≡◌, refl, ℕ, ℤ, zero, suc, List, [], ◌∷◌, Option, Some, None, Bool, true, false, option_map}
 use Rattle.std.specs.Prelude.{is_some, not, ◌||◌}
 use Rattle.ada_tree.specs.FirstTokens as first_token
 use Rattle.ada_tree.specs.Syntax as syntax
@@ -11,22 +11,20 @@ use Rattle.ada_typed.specs.Syntax.{Selections}
 use Rattle.ada_typed.specs.declared.program.SiteKind.TheVariants as site
 use Rattle.ada_typed.specs.declared.scalars.Class.TheVariants as class
 use Rattle.name_rules.specs.Aggregates.{ByPosition, contents}
-use Rattle.name_rules.specs.Attributes.{attribute_at, attribute_found, bound_with, dimensions_in, is_array_object, is_bound, is_reduction, mentioned, prefix_subtype, scalar_with, settled_attribute}
-use Rattle.name_rules.specs.Calls.{conversion, sub_call}
-use Rattle.name_rules.specs.Expressions.{Inside, condition, expr, in_place}
+use Rattle.name_rules.specs.Attributes.{attribute_at, bound_with, dimensions_in, is_array_object, is_bound, is_reduction, mentioned, prefix_subtype, settled_attribute}
+use Rattle.name_rules.specs.Expressions.{Inside, condition, expr}
 use Rattle.name_rules.specs.Found.{Denoted, Found, denote, opened, parameter_found, scalar, static, value_denoted}
 use Rattle.name_rules.specs.Iterations.{Entered, entered, is_reduce, only_reduce_rules, reverse_rule, sequence, sequence_folded, sequence_given, sequence_rules}
-use Rattle.name_rules.specs.Judging.{◌>>=◌, both, fault, given, joined, pure, read, some, unless, where_clean}
-use Rattle.name_rules.specs.Names.{args_alone, component_cells, denoted_first, field, object_call, wrong_call}
+use Rattle.name_rules.specs.Judging.{◌>>=◌, both, fault, given, joined, pure, read, unless, where_clean}
+use Rattle.name_rules.specs.Names.{args_alone, denoted_first, field, wrong_call}
 use Rattle.name_rules.specs.Operators.{open_of}
-use Rattle.name_rules.specs.Output.{io_call}
 use Rattle.name_rules.specs.Parts.{array_reduced, array_reduction, array_shape, attribute_with, call, call_form, is_parallel, item_found, name, new_parameter, next_part, of_array, other_with, part_alone, part_of, parts, reduced_with, site_where, through, value_form, value_named, valued_by, valued_form, wrong_arguments}
 use Rattle.name_rules.specs.Primaries as primaries
 use Rattle.name_rules.specs.Primaries.{Waiting, also_choice, also_waiting, alternative, alternatives, common, common_composite, composite_if, composite_ifs, composite_in, composite_part, conditional, grouped, grouped_by, grouped_form, grouped_scalar, if_expr, if_part, no_text, open_if, open_ifs, open_part, primary, scalar_if, scalar_ifs, target_at, target_found, text_at, with_known}
 use Rattle.name_rules.specs.Reducers.{folded_by, reducer_of}
 use Rattle.name_rules.specs.Scope.{stands_for}
-use Rattle.name_rules.specs.Symbols.{number, symbol, text}
-use Rattle.name_rules.specs.TypedParts.{also, left_of, right_of, selections_of}
+use Rattle.name_rules.specs.Symbols.{symbol}
+use Rattle.name_rules.specs.TypedParts.{left_of, right_of, selections_of}
 use Rattle.name_rules.specs.Types.{component_of, in_base}
 use Rattle.name_rules.specs.Values.{asked, composite_asked, kind_of, mentions_of, value_of}
 use Rattle.name_rules.specs.declared.found.Attribute.{Attribute}
@@ -40,7 +38,6 @@ use Rattle.name_rules.specs.declared.found.Limits.{Limits}
 use Rattle.name_rules.specs.declared.found.Place.{Place}
 use Rattle.name_rules.specs.declared.found.Prefix.TheVariants as prefix
 use Rattle.name_rules.specs.declared.found.Prefix.{Prefix}
-use Rattle.name_rules.specs.declared.log.Log.{Log}
 use Rattle.name_rules.specs.declared.log.Rule.TheVariants.{Limit, NotVisible, ReduceRule, Unknown, WrongType}
 use Rattle.name_rules.specs.declared.scope.Context.{Context}
 use Rattle.name_rules.specs.declared.scope.Names.{Names}
@@ -53,15 +50,14 @@ use Rattle.name_rules.specs.declared.types.Subtype.TheVariants as subtype
 use Rattle.name_rules.specs.declared.types.Wanted.TheVariants as wanted
 use Rattle.name_rules.specs.declared.types.Wanted.{Wanted}
 use Rattle.name_laws.proofs.Based.{none-based, spanning}
-use Rattle.name_laws.proofs.EndsAttributes.{values-in}
 use Rattle.name_laws.proofs.KeepsIterations.{k-reverse_rule}
 use Rattle.name_laws.proofs.KeepsNames.{k-args_alone}
 use Rattle.name_laws.proofs.KeepsParts.{k-new_parameter, k-site_where}
 use Rattle.name_laws.proofs.KeepsPrimaries.{k-inside}
 use Rattle.name_laws.proofs.KeepsReducers.{k-reducer_of}
-use Rattle.name_laws.proofs.Makes.{Any, Each, Makes, Maybe, joint, m-bind, m-both, m-fault, m-given, m-if, m-kept, m-none, m-pure, m-read, m-some, m-unless, m-where_clean, mapped}
+use Rattle.name_laws.proofs.Makes.{Any, Makes, Maybe, joint, m-bind, m-both, m-fault, m-given, m-if, m-kept, m-none, m-pure, m-read, m-some, m-unless, m-where_clean, mapped}
 use Rattle.name_laws.proofs.MakesAggregates.{m-aggregate}
-use Rattle.name_laws.proofs.MakesAttributes.{m-attribute_found, m-bound_with, m-scalar_with, m-settled_attribute}
+use Rattle.name_laws.proofs.MakesAttributes.{m-attribute_found, m-bound_with, m-scalar_with, m-settled_attribute, spans-in}
 use Rattle.name_laws.proofs.MakesCalls.{m-conversion, m-sub_call}
 use Rattle.name_laws.proofs.MakesExpressions.{Finding, LevelFits, m-condition, m-expr, m-placed}
 use Rattle.name_laws.proofs.MakesNames.{m-field, m-object_call, m-wrong_call}
@@ -70,10 +66,10 @@ use Rattle.name_laws.proofs.MakesOutput.{m-io_call}
 use Rattle.name_laws.proofs.MakesRanges.{EnteredOf, m-entered, through-fits}
 use Rattle.name_laws.proofs.MakesReducers.{ChunkOf, IterationOf, m-folded_by}
 use Rattle.name_laws.proofs.MakesScope.{DenotedOf, DenotesOf, PrefixOf, m-stands_for}
-use Rattle.name_laws.proofs.MakesValues.{AskedOf, CompositeOf, FoundOf, IsPiece, IsSelection, KnownOf, m-asked, m-composite_asked, selections-fit}
+use Rattle.name_laws.proofs.MakesValues.{AskedOf, CompositeOf, FoundOf, KnownOf, m-asked, m-composite_asked, selections-fit}
 use Rattle.name_laws.proofs.Walked.{KeepsInside}
 use Rattle.name_laws.specs.Based.{AreBased}
-use Rattle.name_laws.specs.Classes.{CompositeFits, ExprFits, SelectionsFit}
+use Rattle.name_laws.specs.Classes.{ExprFits, SelectionsFit}
 
 -- ---- attributes with what stands in brackets behind them
 
@@ -117,7 +113,7 @@ m-reduced_with names inside here first p x at a bracket as' b l r h = m-no_array
 m-of_array : (names : Names) (inside : Inside) (here : Context) (first : ℕ) (p : Prefix) (x : Part) (at : ℕ) (a : Attribute) (bracket : ℕ) (as' : Args) → LevelFits inside → AreBased here.scope → Makes (Maybe DenotedOf) (of_array names inside here first p x at a bracket as')
 m-of_array names inside here first p x at a bracket as' l r =
     m-if (Maybe DenotedOf) (is_bound a) (read (λ log. dimensions_in log (prefix_subtype p)) >>= bound_with names inside here first (mentioned p x) a bracket as') (wrong_call names inside here first as')
-    (record { at = λ log h. (m-bound_with names inside here first (mentioned p x) a bracket as' (dimensions_in log (prefix_subtype p)) l r (values-in log (prefix_subtype p) h)).at log h })
+    (record { at = λ log h. (m-bound_with names inside here first (mentioned p x) a bracket as' (dimensions_in log (prefix_subtype p)) l r (spans-in log (prefix_subtype p) h)).at log h })
     (m-wrong_call names inside here first as' l)
 
 m-other_with : (names : Names) (inside : Inside) (here : Context) (first : ℕ) (p : Prefix) (x : Part) (at : ℕ) (a : Attribute) (bracket : ℕ) (as' : Args) → LevelFits inside → AreBased here.scope → PrefixOf p x → Makes (Maybe DenotedOf) (other_with names inside here first p x at a bracket as')

@@ -1,24 +1,32 @@
 -- What is found fits: subprograms and programs. So the static expressions of a typed program have values of their classes.
-use Rattle.std.proofs.Common.{◌≡◌, refl, sym, subst, ℕ, zero, suc, List, [], ◌∷◌, ◌++◌, length, Option, Some, None, Bool, true, false, if◌then◌else◌, option_map, ◌-◌, drop, slice_get}
+use Rattle.std.proofs.Common.{◌≡◌, refl, sym, ap, ◌∙◌, subst, ℤ, pos, int_le, map, ℕ, zero, suc, List, [], ◌∷◌, ◌++◌, length, Option, Some, None, Bool, true, false, option_map, ◌-◌, drop, slice_get}
+use Rattle.std.proofs.lemmas.Bool.{and_parts}
+use Rattle.std.proofs.lemmas.Option.{slice_get-map}
+use Rattle.ada_base.specs.Operation.{greatest_of, is_in_base, least_of}
+use Rattle.ada_base.specs.declared.operation.Base.TheVariants.{Narrow, Wide}
 use Rattle.ada_tree.specs.Syntax as syntax
 use Rattle.ada_tree.specs.Syntax.{Aspect, Body, Clause, Decl, Expr, Formal, Formals, Main, Pack, Program, Sub, Unit'}
 use Rattle.ada_tree.specs.declared.operators.ClauseWord.{ClauseWord}
 use Rattle.ada_tree.specs.declared.operators.ClauseWord.TheVariants as word
-use Rattle.ada_typed.specs.Decoded as part
-use Rattle.ada_typed.specs.Decoded.{Part, as_body}
 use Rattle.ada_typed.specs.Syntax as typed
 use Rattle.ada_typed.specs.Syntax.{Sub as TypedSub}
+use Rattle.ada_typed.specs.declared.program.Bounds.{Bounds}
 use Rattle.ada_typed.specs.declared.program.Mode.{Mode}
 use Rattle.name_rules.specs.Declarations.{all_ids, begun_names, cells_counted, declaration, declarations, ended_name, new_object}
-use Rattle.name_rules.specs.Expressions.{Inside, judged_alone, value_for}
+use Rattle.name_rules.specs.Expressions.{Inside, judged_alone}
 use Rattle.name_rules.specs.Judging.{◌>>=◌, joined, pure, unless}
 use Rattle.name_rules.specs.Primaries.{inside}
 use Rattle.name_rules.specs.Programs as p
 use Rattle.name_rules.specs.Programs.{Declared', Profiled, Whole}
-use Rattle.name_rules.specs.Resolved.{TypedOf, depth_limit, fresh, judged}
+use Rattle.name_rules.specs.Resolved.{depth_limit, dimension_bounds, fresh, judged, typed_subtype}
 use Rattle.name_rules.specs.Scope.{free, subtype_named}
 use Rattle.name_rules.specs.Statements.{around, body, no_decls, stmt}
-use Rattle.name_rules.specs.declared.log.Log.{Log}
+use Rattle.name_rules.specs.Types.{in_base}
+use Rattle.name_rules.specs.declared.log.Dimension.{Dimension}
+use Rattle.name_rules.specs.declared.log.Shape.{Shape}
+use Rattle.name_rules.specs.declared.log.Shape.TheVariants as shape
+use Rattle.name_rules.specs.declared.types.Kind.{Kind}
+use Rattle.name_rules.specs.declared.types.Kind.TheVariants as kind
 use Rattle.name_rules.specs.declared.log.Rule.TheVariants.{NotVisible}
 use Rattle.name_rules.specs.declared.log.Taken.{Taken}
 use Rattle.name_rules.specs.declared.scope.Context.{Context}
@@ -30,7 +38,7 @@ use Rattle.name_rules.specs.declared.scope.What.TheVariants as what
 use Rattle.name_rules.specs.declared.types.Scalar.{Scalar}
 use Rattle.name_rules.specs.declared.types.Subtype.{Subtype}
 use Rattle.name_rules.specs.declared.types.Subtype.TheVariants as subtype
-use Rattle.name_laws.proofs.Based.{none-based, spanning}
+use Rattle.name_laws.proofs.Based.{base-between, none-based, spanning}
 use Rattle.name_laws.proofs.KeepsDeclarations.{k-cells_counted}
 use Rattle.name_laws.proofs.KeepsPrograms.{k-aspect, k-end_name, k-mode_rule, k-next_owner, k-pack, k-policy, k-result_named}
 use Rattle.name_laws.proofs.KeepsScope.{k-free}
@@ -43,8 +51,8 @@ use Rattle.name_laws.proofs.MakesRanges.{any, are-based}
 use Rattle.name_laws.proofs.MakesScope.{m-subtype_named}
 use Rattle.name_laws.proofs.MakesStatements.{BodyOf, around-fits, level-fits, m-body}
 use Rattle.name_laws.proofs.MakesValues.{ValueOf}
-use Rattle.name_laws.specs.Based.{AreBased, ArraysBased, IsBased}
-use Rattle.name_laws.specs.Classes.{BodyFits, ClassesLaw, ProgramFits, SubsFit}
+use Rattle.name_laws.specs.Based.{AreBased, AreSpans, ArraysBased, IsBased}
+use Rattle.name_laws.specs.Classes.{BodyFits, BoundsFit, ClassesLaw, ProgramFits, SubsFit}
 
 -- ---- formal parameters
 
@@ -219,12 +227,39 @@ m-program names n t =
     m-bind Any (Maybe WholeOf) (p.policy names t.policy) _ (m-kept (p.policy names t.policy) (k-policy spanning names t.policy tt)) (λ s q1.
     m-bind PlaceOf (Maybe WholeOf) (p.clauses names p.outermost t.clauses) _ (m-clauses names p.outermost t.clauses outermost-based) (λ here q2. m-main names n here t.main s q2))
 
-whole-fits : (names : Names) (text : Program) → Maybe WholeOf (judged names text).0
+judged-fits : (names : Names) (text : Program) → ArraysBased (judged names text).1.shapes × Maybe WholeOf (judged names text).0
 unfolding judged
-whole-fits names text = ((m-program names depth_limit text).at fresh (λ n ds c k cells e. absurd cc)).1
+judged-fits names text = (m-program names depth_limit text).at fresh (λ n ds c k cells e. absurd cc)
+
+-- ---- bounds of array types
+
+wide : (k : Kind) (z : ℤ) → in_base k z ≡ true → is_in_base Wide z ≡ true
+wide kind.Boolean z e = let x = and_parts (int_le (pos 0) z) (int_le z (pos 1)) e in base-between (kind.Own 0) (pos 0) (pos 1) z refl refl x.0 x.1
+wide kind.Integer z e = let x = and_parts (int_le (least_of Narrow) z) (int_le z (greatest_of Narrow)) e in base-between (kind.Own 0) (least_of Narrow) (greatest_of Narrow) z refl refl x.0 x.1
+wide (kind.Own n) z e = e
+
+bounds-fit : (ds : List Dimension) → AreSpans ds → BoundsFit (map dimension_bounds ds)
+bounds-fit [] h = tt
+bounds-fit (d ∷ ds) h = (wide d.kind d.low h.0.first, wide d.kind d.high h.0.last, bounds-fit ds h.1)
+
+shape-bounds : (t : Option Shape) (bs : List Bounds) (component : ℕ) → ((ds : List Dimension) (c : Subtype) (k cells : ℕ) → t ≡ Some (shape.Array ds c k cells) → AreSpans ds)
+    → option_map typed_subtype t ≡ Some (typed.Array bs component) → BoundsFit bs
+shape-bounds None bs component f e = absurd cc
+shape-bounds (Some (shape.Scalar s)) bs component f e = absurd cc
+shape-bounds (Some (shape.Record fs cells)) bs component f e = absurd cc
+shape-bounds (Some (shape.Array ds c k cells)) bs component f e = let same : map dimension_bounds ds ≡ bs = cc in subst BoundsFit same (bounds-fit ds (f ds c k cells refl))
+
+-- ---- the law
 
 pub classes_law : ClassesLaw
-classes_law names text program e =
-    let log = (judged names text).1 in
-    let r = typed-from log.faults log (judged names text).0 program e in
-    subst ProgramFits r.2 (subst (Maybe WholeOf) r.1 (whole-fits names text))
+classes_law = record {
+  expressions = λ names text program e.
+      let log = (judged names text).1 in
+      let r = typed-from log.faults log (judged names text).0 program e in
+      subst ProgramFits r.2 (subst (Maybe WholeOf) r.1 (judged-fits names text).1);
+  bounds = λ names text program e n bs component g.
+      let log = (judged names text).1 in
+      let r = typed-from log.faults log (judged names text).0 program e in
+      shape-bounds (slice_get log.shapes n) bs component (λ ds c k cells t. (judged-fits names text).0 n ds c k cells t)
+      (sym (slice_get-map typed_subtype log.shapes n) ∙ ap (λ t. slice_get t.subtypes n) r.2 ∙ g);
+}

@@ -1,5 +1,5 @@
 -- What is found fits: ranges and what iterations go through.
-use Rattle.std.proofs.Common.{◌≡◌, refl, ℕ, ℤ, List, [], ◌∷◌, ◌++◌, length, Option, Some, None, Bool, true, false, if◌then◌else◌, option_map, ◌&&◌}
+use Rattle.std.proofs.Common.{ℕ, ℤ, List, [], ◌∷◌, ◌++◌, length, Option, Some, None, Bool, option_map}
 use Rattle.std.specs.Prelude.{is_some, not}
 use Rattle.ada_tree.specs.FirstTokens as first_token
 use Rattle.ada_tree.specs.Syntax as syntax
@@ -14,11 +14,11 @@ use Rattle.ada_typed.specs.declared.scalars.Class.TheVariants as class
 use Rattle.name_rules.specs.Expressions.{Inside, condition, simple}
 use Rattle.name_rules.specs.Found.{Bounded, Denoted, Found}
 use Rattle.name_rules.specs.Iterations.{Chunked, Entered, Walked, array_walked, chunk_count, chunked_by, counted, each_chunk, entered, entered_with, filter_where, filtered, in_construct, item_what, no_array, over_denoted, over_form, over_place, parallel_at, parameter_what, range_made, walked, with_chunk, with_filter, with_walked}
-use Rattle.name_rules.specs.Judging.{Judging, ◌>>=◌, both, breaks, fault, given, joined, pure, some, unless}
+use Rattle.name_rules.specs.Judging.{◌>>=◌, breaks, fault, given, joined, pure, unless}
 use Rattle.name_rules.specs.Names.{denoted_first, is_array}
 use Rattle.name_rules.specs.Operators.{common_kind}
 use Rattle.name_rules.specs.Parts.{array_shape, new_parameter, new_site, through}
-use Rattle.name_rules.specs.Ranges.{bounded_by, bounds_of, checked_range, named_range, of_one_type, own_bounds, own_range, range, range_part, scalar_type, two_bounds, whole_range}
+use Rattle.name_rules.specs.Ranges.{bounded_by, bounds_of, checked_range, named_range, own_bounds, own_range, range, range_part, scalar_type, two_bounds, whole_range}
 use Rattle.name_rules.specs.Scope.{entry, is_taken, with_entry}
 use Rattle.name_rules.specs.Symbols.{symbol}
 use Rattle.name_rules.specs.TypedParts.{high_of, low_of, selections_of}
@@ -27,7 +27,6 @@ use Rattle.name_rules.specs.Values.{any_integer, asked, first_of, is_scalar, kin
 use Rattle.name_rules.specs.declared.found.Denoted.TheVariants as denoted
 use Rattle.name_rules.specs.declared.found.Denoted.{Denoted as KnownDenoted}
 use Rattle.name_rules.specs.declared.found.Found.TheVariants as known
-use Rattle.name_rules.specs.declared.found.Found.{Found as Known}
 use Rattle.name_rules.specs.declared.found.Place.{Place}
 use Rattle.name_rules.specs.declared.log.Log.{Log}
 use Rattle.name_rules.specs.declared.log.Rule.TheVariants.{Twice, WrongType}
@@ -36,7 +35,6 @@ use Rattle.name_rules.specs.declared.scope.Context.{Context}
 use Rattle.name_rules.specs.declared.scope.Entry.{Entry}
 use Rattle.name_rules.specs.declared.scope.Names.{Names}
 use Rattle.name_rules.specs.declared.scope.What.{What}
-use Rattle.name_rules.specs.declared.scope.What.TheVariants as what
 use Rattle.name_rules.specs.declared.types.Kind.{Kind}
 use Rattle.name_rules.specs.declared.types.Kind.TheVariants as kind
 use Rattle.name_rules.specs.declared.types.Scalar.{Scalar}
@@ -50,8 +48,8 @@ use Rattle.name_laws.proofs.Makes.{Any, Makes, Maybe, joint, m-bind, m-both, m-b
 use Rattle.name_laws.proofs.MakesExpressions.{Finding, LevelFits, m-condition, m-simple}
 use Rattle.name_laws.proofs.MakesReducers.{ChunkOf, IterationOf}
 use Rattle.name_laws.proofs.MakesScope.{DenotedOf, DenotesOf}
-use Rattle.name_laws.proofs.MakesValues.{AskedOf, ExprOf, FoundOf, KnownOf, SpanOf, has-value, m-any_integer, m-asked, selections-fit}
-use Rattle.name_laws.specs.Based.{AreBased, IsBased, IsBasedWhat, IsSpan}
+use Rattle.name_laws.proofs.MakesValues.{AskedOf, ExprOf, FoundOf, has-value, m-any_integer, m-asked, selections-fit}
+use Rattle.name_laws.specs.Based.{AreBased, IsBasedWhat, IsSpan}
 use Rattle.name_laws.specs.Classes.{ExprFits, IterationFits, OptionalFits, SelectionsFit}
 
 -- ---- ranges

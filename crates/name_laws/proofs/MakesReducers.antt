@@ -1,14 +1,13 @@
 -- What is found fits: reductions.
-use Rattle.std.proofs.Common.{◌≡◌, refl, sym, subst, ℕ, List, [], ◌∷◌, Option, Some, None, Bool, true, false, if◌then◌else◌, ◌&&◌}
+use Rattle.std.proofs.Common.{◌≡◌, refl, sym, subst, ℕ, List, [], ◌∷◌, Option, Some, None, ◌&&◌}
 use Rattle.std.specs.Prelude.{is_some, not, ◌||◌}
 use Rattle.ada_base.specs.declared.operation.Op.{Op}
 use Rattle.ada_typed.specs.Decoded.{Part, as_chunk, as_expr, as_iteration}
 use Rattle.ada_typed.specs.declared.expressions.Reducer.{Reducer}
 use Rattle.ada_typed.specs.declared.expressions.Reducer.TheVariants as reducer'
-use Rattle.ada_typed.specs.declared.scalars.Class.TheVariants as class
 use Rattle.name_rules.specs.Calls.{gives_in, profile_in, takes_in}
 use Rattle.name_rules.specs.Found.{Found, scalar}
-use Rattle.name_rules.specs.Judging.{◌>>=◌, both, fault, joined, pure, read, some}
+use Rattle.name_rules.specs.Judging.{fault, joined, read}
 use Rattle.name_rules.specs.Operators.{open_of}
 use Rattle.name_rules.specs.Reducers.{by_function, by_operator, by_subtypes, folded_by, is_logical, numeric, of_kind, open_reduction, reduced, reduction}
 use Rattle.name_rules.specs.Types.{class_of, same, typed_scalar}
@@ -17,7 +16,6 @@ use Rattle.name_rules.specs.declared.found.Folding.{Folding}
 use Rattle.name_rules.specs.declared.found.Folding.TheVariants as folding
 use Rattle.name_rules.specs.declared.found.Going.{Going}
 use Rattle.name_rules.specs.declared.found.Limits.{Limits}
-use Rattle.name_rules.specs.declared.log.Log.{Log}
 use Rattle.name_rules.specs.declared.log.Rule.TheVariants.{ReduceRule}
 use Rattle.name_rules.specs.declared.log.Taken.{Taken}
 use Rattle.name_rules.specs.declared.types.Kind.{Kind}

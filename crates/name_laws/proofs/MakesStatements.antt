@@ -1,5 +1,5 @@
 -- What is found fits: statements.
-use Rattle.std.proofs.Common.{◌≡◌, refl, ℕ, zero, suc, List, [], ◌∷◌, ◌++◌, length, Option, Some, None, Bool, true, false, if◌then◌else◌, option_map, ◌==◌, ◌-◌}
+use Rattle.std.proofs.Common.{ℕ, zero, suc, List, [], ◌∷◌, length, Option, Some, None, Bool, false, option_map, ◌==◌, ◌-◌}
 use Rattle.std.specs.Prelude.{not}
 use Rattle.ada_base.specs.declared.reason.Reason.{Reason}
 use Rattle.ada_tree.specs.FirstTokens as first_token
@@ -7,7 +7,7 @@ use Rattle.ada_tree.specs.Syntax as syntax
 use Rattle.ada_tree.specs.Syntax.{Alt, Alts, Arms, Body, Branches, Declare, Expr, Handler, Handlers, Iter, MoreStmts, Name, OptionalParallel, OptionalStmts, Pack, Scheme, Simple, Stmt, Stmts}
 use Rattle.ada_typed.specs.Decoded as part
 use Rattle.ada_typed.specs.Decoded.{Part, as_alternative, as_alternatives, as_arms, as_body, as_expr, as_handler, as_handlers, as_optional, as_stmt, as_stmts, as_value}
-use Rattle.ada_typed.specs.Latest.{onto, turned}
+use Rattle.ada_typed.specs.Latest.{turned}
 use Rattle.ada_typed.specs.Syntax as typed
 use Rattle.ada_typed.specs.Syntax.{Alternatives, Selections, Handlers as TypedHandlers, Handled as TypedHandled}
 use Rattle.ada_typed.specs.declared.program.SiteKind.TheVariants as site
@@ -17,21 +17,20 @@ use Rattle.name_rules.specs.Cases.{Choosing, Covering, case_choices, handled_by}
 use Rattle.name_rules.specs.Declarations.{declarations}
 use Rattle.name_rules.specs.Expressions.{condition, expr, judged_alone, Inside}
 use Rattle.name_rules.specs.Found.{Denoted, Found}
-use Rattle.name_rules.specs.Iterations.{Entered, chunk_count, entered}
-use Rattle.name_rules.specs.Judging.{Judging, ◌>>=◌, both, clean, fault, given, joined, pure, some, where_clean}
+use Rattle.name_rules.specs.Iterations.{chunk_count, entered}
+use Rattle.name_rules.specs.Judging.{clean, fault, given, joined}
 use Rattle.name_rules.specs.Names.{denoted_first, exception}
 use Rattle.name_rules.specs.Parts.{new_site, valued_by}
 use Rattle.name_rules.specs.Primaries.{inside, level_above}
 use Rattle.name_rules.specs.Statements as s
 use Rattle.name_rules.specs.Statements.{Around, Selector, around, stmt}
-use Rattle.name_rules.specs.TypedParts.{also, nested_stmts, pair, selections_of, left_of, right_of}
+use Rattle.name_rules.specs.TypedParts.{nested_stmts, selections_of, left_of, right_of}
 use Rattle.name_rules.specs.Types.{wanted_of}
 use Rattle.name_rules.specs.Values.{first_of, is_scalar, settled_found, stored}
 use Rattle.name_rules.specs.declared.found.Denoted.TheVariants as denoted
 use Rattle.name_rules.specs.declared.found.Denoted.{Denoted as KnownDenoted}
 use Rattle.name_rules.specs.declared.found.Found.TheVariants as known
 use Rattle.name_rules.specs.declared.found.Place.{Place}
-use Rattle.name_rules.specs.declared.log.Log.{Log}
 use Rattle.name_rules.specs.declared.log.Rule.TheVariants.{Limit, NotVisible, WrongType}
 use Rattle.name_rules.specs.declared.scope.Context.{Context}
 use Rattle.name_rules.specs.declared.scope.LoopName.{LoopName}
@@ -50,7 +49,7 @@ use Rattle.name_laws.proofs.KeepsNames.{k-exception}
 use Rattle.name_laws.proofs.KeepsParts.{k-new_site}
 use Rattle.name_laws.proofs.KeepsPrimaries.{k-inside, k-level_above}
 use Rattle.name_laws.proofs.KeepsStatements.{k-arm_limit, k-backwards_rule, k-closed_where, k-exited, k-loop_ends, k-new_loop}
-use Rattle.name_laws.proofs.Makes.{Any, Each, Makes, Maybe, each-onto, each-turned, joint, m-bind, m-both, m-fault, m-given, m-if, m-kept, m-none, m-pure, m-some, m-where_clean, mapped}
+use Rattle.name_laws.proofs.Makes.{Any, Each, Makes, Maybe, each-turned, joint, m-bind, m-both, m-fault, m-given, m-if, m-kept, m-none, m-pure, m-some, m-where_clean, mapped}
 use Rattle.name_laws.proofs.MakesDeclarations.{DeclaringOf, DeclsOf, decls-fit, m-declarations}
 use Rattle.name_laws.proofs.MakesExpressions.{Finding, LevelFits, m-condition, m-expr, m-judged_alone}
 use Rattle.name_laws.proofs.MakesPrimaries.{above-fits, inside-fits, m-valued_by}

@@ -1,7 +1,5 @@
 -- What is found fits: values, and expressions that take the type of their place.
-use Rattle.std.proofs.Common.{◌≡◌, refl, sym, ap, subst, ◌∙◌, ◌⊎◌, inl, inr, ℕ, ℤ, pos, Option, Some, None, Bool, true, false, if◌then◌else◌, ◌==◌}
-use Rattle.ada_base.specs.Operation.{is_in_base}
-use Rattle.ada_base.specs.declared.operation.Base.TheVariants.{Narrow, Wide}
+use Rattle.std.proofs.Common.{◌≡◌, refl, sym, ap, subst, ◌∙◌, ◌⊎◌, inl, inr, ℕ, ℤ, Option, Some, None, Bool, true, false, ◌==◌}
 use Rattle.ada_base.specs.declared.operation.Op.TheVariants as op
 use Rattle.ada_typed.specs.Classes.{class_or, with_class}
 use Rattle.ada_typed.specs.Decoded as part
@@ -13,22 +11,21 @@ use Rattle.ada_typed.specs.declared.expressions.Reducer.TheVariants as reducer'
 use Rattle.ada_typed.specs.declared.scalars.Class.{Class}
 use Rattle.ada_typed.specs.declared.scalars.Class.TheVariants as class
 use Rattle.name_rules.specs.Found.{Found}
-use Rattle.name_rules.specs.Judging.{◌>>=◌, fault, given, pure, some}
+use Rattle.name_rules.specs.Judging.{fault, some}
 use Rattle.name_rules.specs.TypedParts.{selections_of}
-use Rattle.name_rules.specs.Types.{check_at, class_of, in_base, is_integer, same, typed_scalar}
+use Rattle.name_rules.specs.Types.{check_at, class_of, in_base, is_integer, same}
 use Rattle.name_rules.specs.Values.{any_integer, any_scalar, asked, asked_form, beyond, composite_asked, composite_form, first_of, is_number, is_scalar, literal, object_expr, object_value, own_kind, place_asked, settled, settled_by, settled_found, stored, valued, whole_object, whole_of}
 use Rattle.name_rules.specs.declared.found.Found.TheVariants as known
 use Rattle.name_rules.specs.declared.found.Found.{Found as Known}
 use Rattle.name_rules.specs.declared.found.Limits.{Limits}
 use Rattle.name_rules.specs.declared.found.Place.{Place}
-use Rattle.name_rules.specs.declared.log.Log.{Log}
 use Rattle.name_rules.specs.declared.log.Rule.TheVariants.{StaticRange, WrongType}
 use Rattle.name_rules.specs.declared.types.Kind.{Kind}
 use Rattle.name_rules.specs.declared.types.Kind.TheVariants as kind
 use Rattle.name_rules.specs.declared.types.Scalar.{Scalar}
 use Rattle.name_rules.specs.declared.types.Subtype.{Subtype}
 use Rattle.name_rules.specs.declared.types.Subtype.TheVariants as subtype
-use Rattle.name_laws.proofs.Makes.{Any, Each, Makes, Maybe, each-turned, m-bind, m-fault, m-given, m-if, m-some, m-test}
+use Rattle.name_laws.proofs.Makes.{Each, Makes, Maybe, each-turned, m-bind, m-fault, m-given, m-if, m-some, m-test}
 use Rattle.name_laws.proofs.Statics.{same-base}
 use Rattle.name_laws.specs.Based.{HasBased, IsSpan}
 use Rattle.name_laws.specs.Classes.{CompositeFits, ExprFits, exponent, HasValue, IsTyped, PiecesFit, SelectionsFit, ValueFits}

@@ -2,18 +2,18 @@
 -- class that its place or its operator has, and no operator is universal any more.
 use Rattle.ada_tree.specs.Syntax as syntax
 use Rattle.ada_base.specs.Operation.{is_in_base}
-use Rattle.ada_base.specs.declared.operation.Base.TheVariants.{Narrow}
-use Rattle.ada_base.specs.declared.operation.Op.{Op}
+use Rattle.ada_base.specs.declared.operation.Base.TheVariants.{Narrow, Wide}
 use Rattle.ada_base.specs.declared.operation.Op.TheVariants as op
-use Rattle.ada_typed.specs.Syntax.{Actuals, Aggregate, AlsoExpr, AndThen, Association, Associations, Binary, Call, Cells, Chunk, Components, Composite, CompositeIf, CompositeInOut, CompositeOut, Constant, Convert, Count, Each, Expr, Exprs, Field, Group, If, In, InOut, Index, Iteration, Membership, NoActual, NoAssociation, NoChunk, NoExpr, Number, Optional, Absent, Present, OrElse, Out, Parameter, Range, Reduction, Relation, Selections, Static, Target, Unary, Value, Variable, Whole, WholeConstant, WholeTarget, WholeVariable}
-use Rattle.ada_typed.specs.Syntax.{Alternative, Alternatives, Arm, Arms, Assign, Block, Body, CallProcedure, Case, DeclareConstant, DeclareDefault, DeclareVariable, Decls, End, Exit, For, Get, Handler, Handlers, IfThen, Image, Loop, Mentions, NoAlternative, NoArm, NoDecl, NoHandler, NoPiece, Null, Padded, Parallel, ParallelFor, Pieces, Program, Put, Raise, Reraise, Return, ReturnValue, Stmt, Stmts, Sub, Text, Then}
+use Rattle.ada_typed.specs.Syntax.{Actuals, Aggregate, AndThen, Association, Associations, Binary, Call, Cells, Chunk, Components, Composite, CompositeIf, CompositeInOut, CompositeOut, Constant, Convert, Count, Each, Expr, Field, Group, If, In, InOut, Index, Iteration, Membership, NoActual, NoAssociation, NoChunk, Number, Optional, Absent, Present, OrElse, Out, Parameter, Range, Reduction, Relation, Selections, Static, Target, Unary, Value, Variable, Whole, WholeConstant, WholeTarget, WholeVariable}
+use Rattle.ada_typed.specs.Syntax.{Alternative, Alternatives, Arm, Arms, Array, Assign, Block, Body, CallProcedure, Case, DeclareConstant, DeclareDefault, DeclareVariable, Decls, End, Exit, For, Get, Handler, Handlers, IfThen, Image, Loop, Mentions, NoAlternative, NoArm, NoDecl, NoHandler, NoPiece, Null, Padded, Parallel, ParallelFor, Pieces, Program, Put, Raise, Reraise, Return, ReturnValue, Stmt, Stmts, Sub, Text, Then}
 use Rattle.ada_typed.specs.declared.expressions.Reducer.{Reducer}
 use Rattle.ada_typed.specs.declared.expressions.Reducer.TheVariants.{Operator, Function}
+use Rattle.ada_typed.specs.declared.program.Bounds.{Bounds}
 use Rattle.ada_typed.specs.declared.scalars.Class.{Class}
 use Rattle.ada_typed.specs.declared.scalars.Class.TheVariants as class
 use Rattle.name_rules.specs.Resolved.{TypedOf}
 use Rattle.name_rules.specs.declared.scope.Names.{Names}
-use Rattle.std.specs.Prelude.{List, Some, [], ◌∷◌, int_le, pos, true, ℕ, ℤ, ◌&&◌, ◌≡◌, ◌⊎◌}
+use Rattle.std.specs.Prelude.{List, Some, [], ◌∷◌, int_le, pos, slice_get, true, ℕ, ℤ, ◌&&◌, ◌≡◌, ◌⊎◌}
 
 abbrev pub HasValue : Class → ℤ → Type 0
 HasValue class.Boolean z = (int_le (pos 0) z && int_le z (pos 1)) ≡ true
@@ -38,7 +38,7 @@ abbrev pub exponent : Class
 exponent = class.Integer Narrow
 
 abbrev mutual
-  -- an expression of a class; one that is converted, and an index, a bound and a number of chunks, has a class of its own
+  -- an expression of a class; what is converted, an index, a bound and a number of chunks have one that isn't written down
   pub ExprFits : Class → Expr → Type 0
   ExprFits c (Static at z alone mentions) = HasValue c z
   ExprFits c (Variable at root ss s) = SelectionsFit ss
@@ -50,8 +50,8 @@ abbrev mutual
   ExprFits c (Binary at o d l r) = IsTyped d × ExprFits d l × (ExprFits d r ⊎ ((o ≡ op.Pow) × ExprFits exponent r))
   ExprFits c (AndThen x y) = ExprFits class.Boolean x × ExprFits class.Boolean y
   ExprFits c (OrElse x y) = ExprFits class.Boolean x × ExprFits class.Boolean y
-  ExprFits c (Relation d by x y) = ExprFits d x × ExprFits d y
-  ExprFits c (Membership d negated x low high) = ExprFits d x × ExprFits d low × ExprFits d high
+  ExprFits c (Relation d by x y) = IsTyped d × ExprFits d x × ExprFits d y
+  ExprFits c (Membership d negated x low high) = IsTyped d × ExprFits d x × ExprFits d low × ExprFits d high
   ExprFits c (If x v o) = ExprFits class.Boolean x × ExprFits c v × ExprFits c o
   ExprFits c (Call at callee n as') = ActualsFit as'
   ExprFits c (Convert check e) = (d : Class) × ExprFits d e
@@ -102,8 +102,8 @@ abbrev mutual
 abbrev pub PiecesFit : Pieces → Type 0
 PiecesFit NoPiece = Unit {0}
 PiecesFit (Text bytes ps) = PiecesFit ps
-PiecesFit (Image c e ps) = ExprFits c e × PiecesFit ps
-PiecesFit (Padded c e width ps) = ExprFits c e × ExprFits (class.Integer Narrow) width × PiecesFit ps
+PiecesFit (Image c e ps) = IsTyped c × ExprFits c e × PiecesFit ps
+PiecesFit (Padded c e width ps) = IsTyped c × ExprFits c e × ExprFits (class.Integer Narrow) width × PiecesFit ps
 
 abbrev pub DeclsFit : Decls → Type 0
 DeclsFit NoDecl = Unit {0}
@@ -158,7 +158,15 @@ SubsFit (s ∷ ss) = BodyFits s.body × SubsFit ss
 abbrev pub ProgramFits : Program → Type 0
 ProgramFits p = SubsFit p.subs × BodyFits p.body
 
+-- the bounds of an array type's dimensions
+abbrev pub BoundsFit : List Bounds → Type 0
+BoundsFit [] = Unit {0}
+BoundsFit (b ∷ bs) = (is_in_base Wide b.low ≡ true) × (is_in_base Wide b.high ≡ true) × BoundsFit bs
+
 -- Every static expression that a text's typed program evaluates is a value of the base range of its class, whatever it
--- stands in: under an operator, in a place with a subtype, as an index, a bound, an actual parameter or a condition.
-abbrev pub ClassesLaw : Type 0
-ClassesLaw = (names : Names) (text : syntax.Program) (program : Program) → TypedOf names text ≡ Some program → ProgramFits program
+-- stands in: under an operator, in a place with a subtype, as an index, a bound, an actual parameter or a condition. The
+-- bounds of its array types are values of 64 bits.
+pub record ClassesLaw : Type 0 where
+  pub expressions : (names : Names) (text : syntax.Program) (program : Program) → TypedOf names text ≡ Some program → ProgramFits program
+  pub bounds : (names : Names) (text : syntax.Program) (program : Program) → TypedOf names text ≡ Some program
+      → (n : ℕ) (bs : List Bounds) (component : ℕ) → slice_get program.subtypes n ≡ Some (Array bs component) → BoundsFit bs
