@@ -1,5 +1,7 @@
 //! Rows of programs that run: each with the words behind its file, its input, and what is to come of it.
 
+ghost use Rattle.chunk_plan.specs.Plans.{HasNoZero};
+
 use ada_port::{HeldSink, MemSource, Quiet};
 use ada_run::{Unit, compile, execute};
 use command_words::{Request, read};
@@ -119,7 +121,9 @@ fn run_text<R: Threads + Sync>(
     request: Request<'_>,
     text: &str,
     input: MemSource,
-) -> Result<(Status, Said), AllocError> {
+) -> Result<(Status, Said), AllocError>
+    requires { HasNoZero request.setting.plan }
+{
     let mut said = Said {
         out: HeldSink::new(alloc),
         err: HeldSink::new(alloc),
