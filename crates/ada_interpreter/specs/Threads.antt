@@ -1,5 +1,5 @@
 -- What code holds of a thread that isn't left.
-use Rattle.std.specs.Prelude.{ℕ, max, ℤ, Option, Some, None, cond}
+use Rattle.std.specs.Prelude.{ℕ, max, ℤ, Some, None, cond}
 use Rattle.ada_meaning.specs.Stored as stored
 use Rattle.ada_interpreter.specs.declared.constructs.Took.{Took}
 use Rattle.ada_interpreter.specs.declared.constructs.Task.{Task}

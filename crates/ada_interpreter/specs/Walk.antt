@@ -1,14 +1,11 @@
 -- What the functions of the walk compute, a word for each.
-use Rattle.std.specs.Prelude.{ℕ, suc, min, ℤ, pos, ◌*◌, ◌-ℤ◌, int_le, ◌&&◌, Bool, not, true, false, List, [], ◌∷◌, ◌++◌, slice_get, Option, Some, None, cond}
-use Rattle.ada_base.specs.declared.operation.Op.{Op}
+use Rattle.std.specs.Prelude.{ℕ, suc, min, ℤ, ◌*◌, ◌-ℤ◌, Bool, not, true, false, List, [], ◌∷◌, ◌++◌, slice_get, Option, Some, None, cond}
 use Rattle.ada_base.specs.Cuts.{evens, cuts_of}
 use Rattle.ada_base.specs.declared.reason.Reason.{Reason}
 use Rattle.ada_base.specs.declared.reason.Reason.TheVariants as reason
-use Rattle.ada_typed.specs.declared.program.Object.{Object}
 use Rattle.behaviours.specs.Doings.{through, folded, onto}
 use Rattle.behaviours.specs.Joins.{Share, deal}
-use Rattle.behaviours.specs.Paths.{Entity, VariableOf, ConstantOf, Region, Here, Exits, Returns, Raises}
-use Rattle.ada_typed.specs.declared.node.Node.{Node}
+use Rattle.behaviours.specs.Paths.{VariableOf, ConstantOf, Region, Here, Exits, Returns, Raises}
 use Rattle.ada_typed.specs.declared.node.Link.{Link}
 use Rattle.ada_typed.specs.declared.node.Link.TheVariants as link
 use Rattle.ada_typed.specs.Decoded.{expr_at, iteration_at, stmts_at, arms_at}
@@ -18,13 +15,12 @@ use Rattle.ada_typed.specs.declared.scalars.Check.{Check}
 use Rattle.ada_typed.specs.declared.scalars.Comparison.{Comparison}
 use Rattle.ada_typed.specs.declared.expressions.Sign.{Sign}
 use Rattle.ada_typed.specs.declared.expressions.Root.{Root}
-use Rattle.ada_typed.specs.declared.expressions.Reducer.{Reducer}
 use Rattle.ada_typed.specs.declared.expressions.Run.{Run}
 use Rattle.ada_typed.specs.declared.expressions.Iterated.{Iterated}
-use Rattle.ada_typed.specs.Syntax.{Expr, Optional, Selections, Actuals, Value, Composite, Associations, Iteration, Chunk, Pieces, Stmt, Stmts, Alternatives, Arms, Handlers, Decls, Body, Sub, Program}
+use Rattle.ada_typed.specs.Syntax.{Expr, Optional, Selections, Actuals, Value, Composite, Associations, Iteration, Chunk, Pieces, Stmt, Stmts, Alternatives, Arms, Handlers, Decls, Body, Sub}
 use Rattle.ada_typed.specs.Programs.{program}
-use Rattle.ada_meaning.specs.Values.{truth, bit, compares, between, to_nat, layout, is_in, defaults, image_of}
-use Rattle.ada_meaning.specs.Operations.{Operations, IndexCheck, RangeCheck, Sized, operate, reduce}
+use Rattle.ada_meaning.specs.Values.{truth, bit, compares, between, to_nat, is_in, image_of}
+use Rattle.ada_meaning.specs.Operations.{IndexCheck, RangeCheck, Sized, operate, reduce}
 use Rattle.ada_meaning.specs.Meaning as meaning
 use Rattle.ada_meaning.specs.Meaning.{Env, Part, Passed, Returned, Back, Course, Chunking, inside, variable_root, constant_root, moved, with_target, iterated_env, outset, returns, exits, value_of, sub_at}
 use Rattle.ada_meaning.specs.Stored
@@ -37,7 +33,7 @@ use Rattle.run_parts.specs.Passing.{course_of}
 use Rattle.ada_interpreter.specs.declared.constructs.Task.{Task}
 use Rattle.ada_interpreter.specs.declared.constructs.Task.TheVariants as task
 use Rattle.ada_interpreter.specs.declared.folds.Fold.{Fold}
-use Rattle.run_parts.specs.Words.{nodes_of, ops, calls_of, cells_at, turned, read_all, write_all, back_cells, all_copied_back, reduced_by}
+use Rattle.run_parts.specs.Words.{nodes_of, ops, calls_of, cells_at, read_all, write_all, back_cells, all_copied_back, reduced_by}
 use Rattle.run_parts.specs.declared.reducers.Both.{Both}
 use Rattle.run_parts.specs.Reducing.{both_checked}
 

@@ -4,7 +4,7 @@ use Rattle.ada_typed.specs.declared.scalars.Scalar.{Scalar}
 use Rattle.behaviours.specs.Paths.{ConstantOf}
 use Rattle.ada_meaning.specs.Values.{count}
 use Rattle.ada_meaning.specs.Meaning as meaning
-use Rattle.ada_meaning.specs.Meaning.{Env, with_parameter, with_item, moved}
+use Rattle.ada_meaning.specs.Meaning.{with_parameter, with_item, moved}
 use Rattle.run_store.specs.Environment.{part_of}
 use Rattle.run_store.specs.Shows.{entity_of}
 use Rattle.run_parts.specs.declared.passed.Shape.{Shape}

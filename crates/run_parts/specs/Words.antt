@@ -12,9 +12,9 @@ use Rattle.ada_typed.specs.Programs.{program}
 use Rattle.ada_meaning.specs.Values.{layout, is_in, defaults}
 use Rattle.ada_meaning.specs.Operations.{Operations}
 use Rattle.ada_meaning.specs.Meaning as meaning
-use Rattle.ada_meaning.specs.Meaning.{Env, Part, Passed, Returned, Back, Course, variable_root, constant_root, moved, with_target, iterated_env, outset, returns, exits, value_of, sub_at}
+use Rattle.ada_meaning.specs.Meaning.{Passed, Returned, Back}
 use Rattle.ada_meaning.specs.Stored
-use Rattle.ada_meaning.specs.Stored.{Stored, doings, bind, ret, leaves, handles, apart, reads, checks}
+use Rattle.ada_meaning.specs.Stored.{Stored}
 use Rattle.run_parts.specs.declared.work.Work.{Work}
 
 abbrev pub nodes_of : Work → List Node

@@ -3,4 +3,6 @@
 #![tactic(auto)]
 
 #[cfg(test)]
+mod readings;
+#[cfg(test)]
 mod tests;
