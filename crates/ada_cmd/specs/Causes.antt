@@ -1,7 +1,9 @@
 -- Why each status comes, and what comes where something is due.
-use Rattle.std.specs.Prelude.{◌≡◌, ◌⊎◌, ⊤, ℕ, List, Some, None, Bool, true}
+use Rattle.std.specs.Prelude.{◌≡◌, ◌⊎◌, ◌++◌, ⊤, ℕ, List, Some, None, Bool, true}
 use Rattle.ada_base.specs.declared.reason.Reason.{Reason}
-use Rattle.ada_meaning.specs.Law.{Ending, Ended, Raised, TurnsSpent, ReadFault, WriteFault, IsPermitted, Outcome}
+use Rattle.ada_meaning.specs.Law.{Ending, Ended, Raised, TurnsSpent, ReadFault, WriteFault, IsPermitted, IsPrefix, Outcome}
+use Rattle.ada_meaning.specs.Programs.{input_of, sequential}
+use Rattle.ada_meaning.specs.Sequential.{IsCalm}
 use Rattle.ada_port.specs.Ports.{Texts, Rose, bytes_of, fetched}
 use Rattle.ada_run.specs.Compile.{IsAccepted}
 use Rattle.ada_run.specs.Compiled.{Compiled}
@@ -61,6 +63,12 @@ Cause InTells words before now status.Spent = HasEnding InTells words before Tur
 Cause InTells words before now status.ReadFault = HasEnding InTells words before ReadFault × Rose before.devices.input now.devices.input
 Cause InTells words before now status.WriteFault = OutFails InTells words before now ⊎ Rose before.devices.err now.devices.err
 Cause InTells words before now status.OutOfMemory = ⊤
+
+-- Where input and out tell, and the sequential run on that input is calm, a prefix of that run's output was put out.
+abbrev pub PutsPrefix : Type 0 → Type 0 → Asked → Compiled → Devices → Devices → Type 0
+PutsPrefix InTells OutTells q c before now =
+    InTells → OutTells → IsCalm (sequential c.program q.settings.turns (input_of (bytes_of before.input)))
+    → (part : List ℕ) × (bytes_of now.out ≡ bytes_of before.out ++ part) × IsPrefix part (sequential c.program q.settings.turns (input_of (bytes_of before.input))).output
 
 -- Nothing is asked of the input and nothing put to out, since the shelf or err failed or memory ran out.
 pub data Fails (number : ℕ) (before now : Outside) : Type 0 where

@@ -371,7 +371,7 @@ pub fillings_fit : (x : Instance) (i : ℕ) (vs : List ℤ) (rest : Trace Instan
 fillings_fit x i [] rest m f = f
 fillings_fit x i (v ∷ vs) rest m f = (tt, fillings_fit x (suc i) vs rest (put m x i v) f)
 
-rest_fits : (x : Instance) (i : ℕ) (vs : List ℤ) (rest : Trace Instance) (m : Memory) → Fits m (Behaviours.fillings x i vs ++ rest) → Fits (put_all m x i vs) rest
+pub rest_fits : (x : Instance) (i : ℕ) (vs : List ℤ) (rest : Trace Instance) (m : Memory) → Fits m (Behaviours.fillings x i vs ++ rest) → Fits (put_all m x i vs) rest
 rest_fits x i [] rest m f = f
 rest_fits x i (v ∷ vs) rest m f = rest_fits x (suc i) vs rest (put m x i v) f.1
 

@@ -1,10 +1,10 @@
 -- The laws that are proved.
-use Rattle.std.proofs.Common.{◌≡◌, ℕ, zero, suc, ℤ, min, length, List, [], ◌∷◌, Bool, true, false, not, inl, inr, refl, sym, ap, ap₂, subst, ◌∙◌, le_refl}
+use Rattle.std.proofs.Common.{◌≡◌, ℕ, zero, suc, ℤ, min, length, List, [], ◌∷◌, ◌++◌, Bool, true, false, not, inl, inr, refl, sym, ap, ap₂, subst, ◌∙◌, le_refl, append-nil, append_assoc}
 use Rattle.ada_typed.specs.Syntax.{Program}
 use Rattle.ada_base.specs.Cuts.{cuts_of}
 use Rattle.behaviours.specs.Paths.{Exits, Returns, Raises, Entity, VariableOf, ConstantOf, Everywhere, Instance, Path, End, Gives, Leaves, Spent, Stopped, Scope, start, nothing_visible}
-use Rattle.behaviours.specs.Events.{Trace, output_of}
-use Rattle.behaviours.specs.Memory.{Memory, empty}
+use Rattle.behaviours.specs.Events.{Trace, Puts, output_of}
+use Rattle.behaviours.specs.Memory.{Memory, Fits, empty}
 use Rattle.behaviours.specs.Behaviours.{asks_apart, asks_at_once}
 use Rattle.ada_meaning.specs.Meaning
 use Rattle.ada_meaning.specs.Meaning.{main, raises, outset, most_calls, object_layout}
@@ -15,15 +15,17 @@ use Rattle.ada_meaning.specs.Planned
 use Rattle.ada_meaning.specs.Planned.{Result, Planned, continued, handled}
 use Rattle.ada_meaning.specs.Sequential.{IsCalm}
 use Rattle.ada_meaning.specs.Programs.{this, Setting, input_of, planned, sequential, values, with_final, finals}
-use Rattle.ada_meaning.specs.Law.{Ending, Ended, Raised, TurnsSpent, ReadFault, WriteFault, NoMemory, Outcome, behaviour, EndsAs, EndsItself, IsPermitted, ending_of, outcome_of, StopsLaw, AloneLaw, AtOnceLaw, SilentLaw, OnlyLaw, OneLaw, IsPlan, IsSequential, SequentialLaw, OneSequentialLaw, SubtypeLaw}
-use Rattle.ada_meaning.proofs.Agrees.{AgreesAt, Settled, gives-ne-stopped, leaves-ne-stopped, spent-ne-stopped}
+use Rattle.ada_meaning.specs.Law.{Ending, Ended, Raised, TurnsSpent, ReadFault, WriteFault, NoMemory, Outcome, behaviour, BeginsRun, EndsAs, EndsItself, IsPermitted, IsPrefix, ending_of, outcome_of, StopsLaw, AloneLaw, AtOnceLaw, SilentLaw, OnlyLaw, OneLaw, IsPlan, IsSequential, SequentialLaw, OneSequentialLaw, SubtypeLaw}
+use Rattle.ada_meaning.proofs.Agrees.{AgreesAt, Settled, output_of_append, gives-ne-stopped, leaves-ne-stopped, spent-ne-stopped}
 use Rattle.ada_meaning.proofs.PlanLaw.{program_agrees}
+use Rattle.ada_meaning.proofs.Prefixes.{BeginsAt, prefix_shorter, program_begins}
 use Rattle.ada_meaning.proofs.Stops.{program_stops, program_safe}
 use Rattle.ada_meaning.proofs.Ties.{Agree, fair_start}
 use Rattle.ada_meaning.proofs.Follows.{EachOuter, Follows}
 use Rattle.ada_meaning.proofs.SeqLaw.{program_follows}
 use Rattle.ada_meaning.proofs.Wholes.{cuts_whole}
 use Rattle.ada_meaning.proofs.Silence.{program_silent}
+use Rattle.behaviours.proofs.Shuffle.{fits_append}
 use Rattle.ada_meaning.proofs.Among.{apart_more, at_once_more, fewer_at_once, program_among}
 
 pub stops_law : StopsLaw
@@ -72,6 +74,35 @@ module _ (program : Program) (set : Setting) (input : List ℕ) (keeps : KeepsRu
       let last = run.finals ∙ ap₂ (λ m (p : Path Instance). finals program m p.globals) (sym a.3.memory) a.0 in
       let ending = e.2 ∙ ap ending_of a.1 in
       (λ i. record { output = output i; taken = taken i; finals = last i; ending = ending i }, a.2)
+
+  -- where no construct of the planned run is left early, what a run put out is a prefix of what that puts out
+  module _ (calm : plan.early ≡ false) where
+    begins : BeginsAt set.one (λ tr y p' e. (behaviour program set).runs nothing_visible start tr y p' e) (empty (input_of input)) plan
+    begins = program_begins set.limit (cuts_of set.plan) set.one program keeps nothing_visible start (empty (input_of input)) free
+
+    put_whole : (tr : Trace Instance) (y : Bool) (path : Path Instance) (end : End (Unit {0})) → (behaviour program set).runs nothing_visible start tr y path end → Fits (empty (input_of input)) tr → IsPrefix (output_of tr) plan.output
+    put_whole tr y path end run fits = begins tr [] y path end (subst (λ z. (behaviour program set).runs nothing_visible start z y path end) (sym (append-nil tr)) run) fits (inl calm)
+
+    -- of the piece that failed a front may have passed
+    put_broken : (tr : Trace Instance) (passed rest : List ℕ) → BeginsRun program set (tr ++ (Puts (passed ++ rest) ∷ [])) → Fits (empty (input_of input)) tr → IsPrefix (output_of tr ++ passed) plan.output
+    put_broken tr passed rest run fits =
+        let piece : Trace Instance = Puts (passed ++ rest) ∷ [] in
+        let is : output_of (tr ++ piece) ≡ (output_of tr ++ passed) ++ rest =
+          output_of_append tr piece ∙ ap (λ z. output_of tr ++ z) (append-nil (passed ++ rest)) ∙ sym (append_assoc (output_of tr) passed rest) in
+        prefix_shorter (output_of tr ++ passed) rest plan.output
+        (subst (λ z. IsPrefix z plan.output) is (begins (tr ++ piece) run.rest run.early run.path run.end run.run (fits_append tr piece (empty (input_of input)) fits (tt, tt)) (inl calm)))
+
+    put_by : (tr : Trace Instance) (y : Bool) (path : Path Instance) (end : End (Unit {0})) (output : List ℕ) (e : Ending) → (behaviour program set).runs nothing_visible start tr y path end → Fits (empty (input_of input)) tr
+        → EndsAs program set tr path end output e → IsPrefix output plan.output
+    put_by tr y path end output Ended run fits h = subst (λ z. IsPrefix z plan.output) (sym h.1) (put_whole tr y path end run fits)
+    put_by tr y path end output (Raised r) run fits h = subst (λ z. IsPrefix z plan.output) (sym h.1) (put_whole tr y path end run fits)
+    put_by tr y path end output TurnsSpent run fits h = subst (λ z. IsPrefix z plan.output) (sym h.1) (put_whole tr y path end run fits)
+    put_by tr y path end output ReadFault run fits h = subst (λ z. IsPrefix z plan.output) (sym h.1) (put_whole tr y path end run fits)
+    put_by tr y path end output WriteFault run fits h = subst (λ z. IsPrefix z plan.output) (sym h.1.2) (put_broken tr h.1.0 h.1.1 h.1.3 fits)
+    put_by tr y path end output NoMemory run fits h = subst (λ z. IsPrefix z plan.output) (sym h.1) (put_whole tr y path end run fits)
+
+    puts_prefix : (early : Bool) (o : Outcome) → IsPermitted program set input early o → IsPrefix o.output plan.output
+    puts_prefix early o run = put_by run.trace early run.path run.end o.output o.ending run.run run.fits run.ends
 
 pub only_law : OnlyLaw
 only_law program set input o o' early keeps free run itself run' itself' =
@@ -161,6 +192,7 @@ comes_to program set input keeps positive free calm =
             taken = refl;
             finals = ap (λ z. finals program z g.path.globals) t.does.memory;
           }),
+      λ early o run. subst (λ (z : Outcome). IsPrefix o.output z.output) same (puts_prefix program set input keeps free f.alike.early early o run),
     )
 
 pub sequential_law : SequentialLaw

@@ -16,6 +16,7 @@ pub mod LooksComputed
 pub mod LoopsComputed
 pub mod Operators
 pub mod PlanLaw
+pub mod Prefixes
 pub mod Quiet
 pub mod Segments
 pub mod SeqLaw

@@ -34,19 +34,19 @@ module _ (limit : ℕ) (cuts : ℕ → ℕ → List ℕ) (one : Bool) where
   plans = Planned.operations limit cuts
 
   -- where nothing is put out unless that is allowed
-  record AgreesIn {A : Type 0} (w : Bool) (b : Behaviour Instance A) (g : Planned A) : Type 0 where
+  pub record AgreesIn {A : Type 0} (w : Bool) (b : Behaviour Instance A) (g : Planned A) : Type 0 where
     pub agrees : Agrees one b g
     pub quiet : w ≡ false → Quiet b
 
-  quietly : {A : Type 0} (w : Bool) (b : Behaviour Instance A) (g : Planned A) → Agrees one b g → Quiet b → AgreesIn w b g
+  pub quietly : {A : Type 0} (w : Bool) (b : Behaviour Instance A) (g : Planned A) → Agrees one b g → Quiet b → AgreesIn w b g
   quietly w b g a q = record { agrees = a; quiet = λ e. q }
 
   -- silent, and so related inside a thread
-  record Silent {A : Type 0} (b : Behaviour Instance A) (g : Planned A) : Type 0 where
+  pub record Silent {A : Type 0} (b : Behaviour Instance A) (g : Planned A) : Type 0 where
     pub agrees : Agrees one b g
     pub quiet : Quiet b
 
-  silent : {A : Type 0} {b : Behaviour Instance A} {g : Planned A} → AgreesIn false b g → Silent b g
+  pub silent : {A : Type 0} {b : Behaviour Instance A} {g : Planned A} → AgreesIn false b g → Silent b g
   silent r = record { agrees = r.agrees; quiet = r.quiet refl }
 
   both : {A B : Type 0} (m : Behaviour Instance A) (n : Planned A) (k : A → Behaviour Instance B) (l : A → Planned B) → Silent m n → ((a : A) → Silent (k a) (l a)) → Silent (Behaviours.◌>>=◌ m k) (Planned.◌>>=◌ n l)
@@ -59,7 +59,7 @@ module _ (limit : ℕ) (cuts : ℕ → ℕ → List ℕ) (one : Bool) where
   choose true r s = r
   choose false r s = s
 
-  operates : (op : Op) (at : ℕ) (class : Class) (x y : ℤ) → Silent (operate runs.doings runs.checks op at class x y) (operate plans.doings plans.checks op at class x y)
+  pub operates : (op : Op) (at : ℕ) (class : Class) (x y : ℤ) → Silent (operate runs.doings runs.checks op at class x y) (operate plans.doings plans.checks op at class x y)
   operates op at class x y =
       let z = result op class x y in
       both (zero_checked runs.doings runs.checks op at y) (zero_checked plans.doings plans.checks op at y)
@@ -96,7 +96,7 @@ module _ (limit : ℕ) (cuts : ℕ → ℕ → List ℕ) (one : Bool) where
         quiet = par_quiet limit cuts one site js (Runs.loop_thread f) (λ c. (loop_thread f g r c).quiet);
       }) (λ _. gives tt)
 
-  loops : (site : ℕ) (cut : Cut) (f : ℕ → ℕ → Behaviour Instance (Unit {0})) (g : ℕ → ℕ → Planned (Unit {0})) → ((j i : ℕ) → Silent (f j i) (g j i)) → Silent (runs.loops site cut f) (plans.loops site cut g)
+  pub loops : (site : ℕ) (cut : Cut) (f : ℕ → ℕ → Behaviour Instance (Unit {0})) (g : ℕ → ℕ → Planned (Unit {0})) → ((j i : ℕ) → Silent (f j i) (g j i)) → Silent (runs.loops site cut f) (plans.loops site cut g)
   loops site cut f g r = dealt_loops site cut (λ j. f (chunk_of cut j)) (λ j. g (chunk_of cut j)) (λ j. r (chunk_of cut j))
 
   fold_thread : (by : Reducer) (at : ℕ) (v : ℤ) (f : ℕ → ℕ → Behaviour Instance (Option ℤ)) (g : ℕ → ℕ → Planned (Option ℤ)) (c : ℤ → ℤ → Behaviour Instance ℤ) (d : ℤ → ℤ → Planned ℤ)
@@ -108,7 +108,7 @@ module _ (limit : ℕ) (cuts : ℕ → ℕ → List ℕ) (one : Bool) where
       (goes_through k.first k.size v step step' (λ i so_far. both (f k.number i) (g k.number i) (folded runs.doings (reduce runs.doings runs.checks by at c) so_far) (folded plans.doings (reduce plans.doings plans.checks by at d) so_far)
       (r k.number i) (λ o. folds (reduce runs.doings runs.checks by at c) (reduce plans.doings plans.checks by at d) (reduces_step by at c d t) so_far o)))
 
-  accumulators : (by : Reducer) (at : ℕ) (v : ℤ) (f : ℕ → ℕ → Behaviour Instance (Option ℤ)) (g : ℕ → ℕ → Planned (Option ℤ)) (c : ℤ → ℤ → Behaviour Instance ℤ) (d : ℤ → ℤ → Planned ℤ)
+  pub accumulators : (by : Reducer) (at : ℕ) (v : ℤ) (f : ℕ → ℕ → Behaviour Instance (Option ℤ)) (g : ℕ → ℕ → Planned (Option ℤ)) (c : ℤ → ℤ → Behaviour Instance ℤ) (d : ℤ → ℤ → Planned ℤ)
       → ((j i : ℕ) → Silent (f j i) (g j i)) → ((a b : ℤ) → Silent (c a b) (d a b)) → (site : ℕ) (js : List Share)
       → Silent (Behaviours.par asks_at_once one site js (Runs.fold_thread by at v f c)) (Planned.par js (Planned.fold_thread by at v g d))
   accumulators by at v f g c d r t site js = record {
@@ -117,7 +117,7 @@ module _ (limit : ℕ) (cuts : ℕ → ℕ → List ℕ) (one : Bool) where
   }
 
   -- where accumulators are combined something may be put out
-  step_in : (w : Bool) (by : Reducer) (at : ℕ) (f : ℤ → ℤ → Behaviour Instance ℤ) (g : ℤ → ℤ → Planned ℤ) → ((a b : ℤ) → AgreesIn w (f a b) (g a b)) → (a b : ℤ) → AgreesIn w (reduce runs.doings runs.checks by at f a b) (reduce plans.doings plans.checks by at g a b)
+  pub step_in : (w : Bool) (by : Reducer) (at : ℕ) (f : ℤ → ℤ → Behaviour Instance ℤ) (g : ℤ → ℤ → Planned ℤ) → ((a b : ℤ) → AgreesIn w (f a b) (g a b)) → (a b : ℤ) → AgreesIn w (reduce runs.doings runs.checks by at f a b) (reduce plans.doings plans.checks by at g a b)
   step_in w (Operator t op class) at f g r a b = quietly w (operate runs.doings runs.checks op at class a b) (operate plans.doings plans.checks op at class a b) (operates op at class a b).agrees (operates op at class a b).quiet
   step_in w (Function t s x y) at f g r a b = r a b
 
@@ -126,7 +126,7 @@ module _ (limit : ℕ) (cuts : ℕ → ℕ → List ℕ) (one : Bool) where
   combines w f g r v [] = quietly w (runs.ret v) (plans.ret v) (ret_agrees one v) (ret_quiet v)
   combines w f g r v (a ∷ more) = record { agrees = onto_agrees one a more f g (λ b c. (r b c).agrees); quiet = λ e. onto_quiet a more f (λ b c. (r b c).quiet e) }
 
-  reduces : (w : Bool) (site : ℕ) (cut : Cut) (by : Reducer) (at : ℕ) (v : ℤ) (f : ℕ → ℕ → Behaviour Instance (Option ℤ)) (g : ℕ → ℕ → Planned (Option ℤ)) (c c' : ℤ → ℤ → Behaviour Instance ℤ) (d d' : ℤ → ℤ → Planned ℤ)
+  pub reduces : (w : Bool) (site : ℕ) (cut : Cut) (by : Reducer) (at : ℕ) (v : ℤ) (f : ℕ → ℕ → Behaviour Instance (Option ℤ)) (g : ℕ → ℕ → Planned (Option ℤ)) (c c' : ℤ → ℤ → Behaviour Instance ℤ) (d d' : ℤ → ℤ → Planned ℤ)
       → ((j i : ℕ) → Silent (f j i) (g j i)) → ((a b : ℤ) → Silent (c a b) (d a b)) → ((a b : ℤ) → AgreesIn w (c' a b) (d' a b)) → AgreesIn w (runs.reduces site cut by at v f c c') (plans.reduces site cut by at v g d d')
   reduces w site cut by at v f g c c' d d' r t u =
       let js = deal 0 0 (Runs.sizes_of Instance this anything asks_at_once limit cuts one cut) in
@@ -138,7 +138,7 @@ module _ (limit : ℕ) (cuts : ℕ → ℕ → List ℕ) (one : Bool) where
       let b = λ (values : List ℤ). combines w (reduce runs.doings runs.checks by at c') (reduce plans.doings plans.checks by at d') (step_in w by at c' d' u) v values in
       record { agrees = bind_agrees one m n k l a.agrees (λ values. (b values).agrees); quiet = λ e. bind_quiet m k a.quiet (λ values. (b values).quiet e) }
 
-  agree : Relates {1, 0, 0} runs plans
+  unfoldable pub agree : Relates {1, 0, 0} runs plans
   agree = record {
     World = Bool;
     Open = λ w. w ≡ true;

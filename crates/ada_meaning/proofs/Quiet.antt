@@ -78,7 +78,7 @@ fillings_quiet x i [] h = h
 fillings_quiet x i (v ∷ vs) (inl h) = h
 fillings_quiet x i (v ∷ vs) (inr h) = fillings_quiet x (suc i) vs h
 
-has_front : (F : Event Instance → Type 0) (t u : Trace Instance) → Has F t → Has F (t ++ u)
+pub has_front : (F : Event Instance → Type 0) (t u : Trace Instance) → Has F t → Has F (t ++ u)
 has_front F [] u h = absurd h
 has_front F (a ∷ t) u (inl h) = inl h
 has_front F (a ∷ t) u (inr h) = inr (has_front F t u h)

@@ -104,11 +104,16 @@ IsPlan (Even k) = 0 < k
 IsPlan (Chunked s) = 0 < s
 IsPlan (Listed ss) = EachPositive ss
 
--- each permitted run that ends by itself comes to what the sequential run comes to, and there is such a run
+abbrev pub IsPrefix : List ℕ → List ℕ → Type 0
+IsPrefix part whole = (rest : List ℕ) × (whole ≡ part ++ rest)
+
+-- Each permitted run that ends by itself comes to what the sequential run comes to, and there is such a run. However a
+-- permitted run ends, and wherever it is stopped, its output is a prefix of the sequential run's.
 abbrev pub IsSequential : Program → Setting → List ℕ → Type 0
 IsSequential program set input =
     ((early : Bool) (o : Outcome) → IsPermitted program set input early o → EndsItself o.ending → o ≡ outcome_of program input (sequential program set.limit (input_of input)))
     × IsPermitted program set input false (outcome_of program input (sequential program set.limit (input_of input)))
+    × ((early : Bool) (o : Outcome) → IsPermitted program set input early o → IsPrefix o.output (sequential program set.limit (input_of input)).output)
 
 -- Let a program keep the rule on blocking calls, be free of races, and its sequential run be calm. Then its runs come to
 -- what the sequential run comes to.

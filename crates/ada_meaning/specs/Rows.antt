@@ -20,7 +20,7 @@ use Rattle.ada_base.specs.Cuts.{One, Even, Chunked, Listed}
 use Rattle.behaviours.specs.Paths.{Raises, Gives, Leaves, Spent}
 use Rattle.ada_meaning.specs.Sequential.{IsCalm}
 use Rattle.ada_meaning.specs.Programs.{Setting, answer_of, planned, sequential, input_of}
-use Rattle.ada_meaning.specs.Law.{Outcome, Ended, EndsItself, IsPermitted}
+use Rattle.ada_meaning.specs.Law.{Outcome, Ended, EndsItself, IsPermitted, IsPrefix}
 
 -- pieces of programs
 
@@ -386,3 +386,4 @@ abbrev pub Sums : Type 0
 Sums =
     ((early : Bool) (o : Outcome) → IsPermitted (reduced op.Add (pos 0)) four_chunks [] early o → EndsItself o.ending → o ≡ ten)
     × IsPermitted (reduced op.Add (pos 0)) four_chunks [] false ten
+    × ((early : Bool) (o : Outcome) → IsPermitted (reduced op.Add (pos 0)) four_chunks [] early o → IsPrefix o.output ten.output)

@@ -26,7 +26,8 @@ pub use slots::{Slot, Variable};
 /// - silent: where the rule on blocking calls (9.5) is kept no thread of a construct takes input or puts output.
 /// - only, one: permitted runs that end by themselves come to one thing, where one of them left no construct early and
 ///   the program has no races, or where there is one worker.
-/// - sequential, one_sequential: where the sequential run is calm, that is what it comes to.
+/// - sequential, one_sequential: where the sequential run is calm, that is what it comes to; and where it is stopped, what it
+///   put out is a prefix of the sequential run's output.
 /// - operators: for operands of its type an operator has the result of the operation on the base range (4.5).
 /// - subtypes: runs whose reads give values of the cells' subtypes (3.2.2) are among the runs.
 /// - blocked: the rule on blocking calls is kept exactly where no call breaks it.
@@ -49,7 +50,8 @@ pub fn laws()
 {}
 
 /// A typed program that keeps the rule on blocking calls, has no races and whose sequential run is calm comes to what that
-/// run comes to, for every input, every plan of numbers of at least 1, and any number of workers.
+/// run comes to, for every input, every plan of numbers of at least 1, and any number of workers. Where it is stopped, what
+/// it put out is a prefix of that run's output.
 pub fn seq_law(typed: &Typed)
     ensures { ComesToSequential (program typed.now) }
 {}

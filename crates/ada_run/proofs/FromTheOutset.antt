@@ -1,10 +1,10 @@
 -- A run of the interpreter is a run of a unit.
-use Rattle.std.proofs.Common.{◌≡◌, ◌<◌, ℕ, suc, arith, List, [], ◌∷◌, length, drop, Bool, true, false, Result, Ok, Err, inl, refl, sym, ap, ◌∙◌, subst}
+use Rattle.std.proofs.Common.{◌≡◌, ◌<◌, ℕ, suc, arith, List, [], ◌∷◌, ◌++◌, length, drop, Bool, true, false, Result, Ok, Err, inl, refl, sym, ap, ◌∙◌, subst}
 use Rattle.std.specs.Prelude.{All}
 use Rattle.std.proofs.Math.Seq.{drop-append_seam}
 use Rattle.ada_base.specs.Cuts.{Plan}
 use Rattle.ada_meaning.proofs.Law.{one_sequential_law}
-use Rattle.ada_meaning.specs.Law.{EachPositive, EndsItself, IsPermitted, IsPlan, Outcome}
+use Rattle.ada_meaning.specs.Law.{EachPositive, EndsItself, IsPermitted, IsPlan, IsPrefix, Outcome}
 use Rattle.ada_meaning.specs.Law as law
 use Rattle.ada_meaning.specs.Nonblocking.{KeepsRule}
 use Rattle.ada_meaning.specs.Programs.{Setting, input_of, sequential}
@@ -70,6 +70,11 @@ calm_comes : (p : Program) (set : Setting) (input : List ℕ) (early : Bool) (o 
     → IsCalm (sequential p set.limit (input_of input)) → EndsItself o.ending → o ≡ law.outcome_of p input (sequential p set.limit (input_of input))
 calm_comes p set input early o rule sound one permitted calm itself = (one_sequential_law p set input rule sound one calm).0 early o permitted itself
 
+-- what it put out, however it ended
+calm_begins : (p : Program) (set : Setting) (input : List ℕ) (early : Bool) (o : Outcome) → KeepsRule p → IsPlan set.plan → set.one ≡ true → IsPermitted p set input early o
+    → IsCalm (sequential p set.limit (input_of input)) → IsPrefix o.output (sequential p set.limit (input_of input)).output
+calm_begins p set input early o rule sound one permitted calm = (one_sequential_law p set input rule sound one calm).2 early o permitted
+
 -- what a source that tells has left of an input that may be the whole one
 left_over : {InTells OutTells : Type 0} (o : Outside) (j q : Stream) (w : List ℕ) → Leaves InTells OutTells o j q → MayBe InTells w o → InTells → bytes_of j ≡ drop (length o.came) w
 unfolding MayBe
@@ -97,6 +102,7 @@ ran_comes {InTells} w r s t f j q is k d taken left = record {
             left = λ told. left_over (outside_of t) j q some.0 left some.1 told ∙ ap (λ n. drop n some.0) (sym taken);
             output = λ told. left.put told ∙ both.0;
             calm = calm_comes (program w.typed.now) (setting_of w) some.0 both.1.0 (outcome_of (program w.typed.now) s.state.output (answer_of r) t.state) rule sound refl both.1.1;
+            prefix = calm_begins (program w.typed.now) (setting_of w) some.0 both.1.0 (outcome_of (program w.typed.now) s.state.output (answer_of r) t.state) rule sound refl both.1.1;
           },
         ),
       );
@@ -124,6 +130,10 @@ begun_runs {InTells} {OutTells} w set end slots n s i j o q rule sound new begun
     let from : Comes InTells OutTells w end (begins_at slots (fresh i o)) j q = subst (λ (x : Image). Comes InTells OutTells w end x j q) (begun ∙ ap (begins_at slots) new) c in
     subst (λ (x : Setting). Runs InTells OutTells (program w.typed.now) x end i j o q) same (outset_runs w end slots i j o q rule (subst (λ (x : Setting). IsPlan x.plan) (sym same) sound) from)
 
+nothing_behind : (before : List ℕ) → drop (length before) before ≡ []
+nothing_behind [] = refl
+nothing_behind (b ∷ before) = nothing_behind before
+
 -- a run that isn't begun
 pub unbegun_runs : {InTells OutTells : Type 0} (p : Program) (set : Setting) (slots : ℕ) (b n : Outside) (i j o q : Stream) → KeepsRule p → n ≡ fresh i o → b ≡ n → Leaves InTells OutTells b j q → Runs InTells OutTells p set run_end.NoMemory i j o q
 unbegun_runs {InTells} {OutTells} p set slots b n i j o q rule new back left =
@@ -141,6 +151,7 @@ unbegun_runs {InTells} {OutTells} p set slots b n i j o q rule new back left =
         left = λ told. here.coming;
         output = λ told. here.put told ∙ both.0;
         calm = λ calm itself. absurd itself;
+        prefix = λ calm. ((sequential p set.limit (input_of (bytes_of i))).output, ap (λ z. z ++ (sequential p set.limit (input_of (bytes_of i))).output) (sym (nothing_behind (bytes_of o))));
       };
     }
 

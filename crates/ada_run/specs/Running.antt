@@ -1,7 +1,7 @@
 -- How a unit ran: which run an answer tells of, and which devices failed.
 use Rattle.std.specs.Prelude.{◌≡◌, ℕ, List, [], ◌++◌, drop, Bool, true}
 use Rattle.ada_meaning.specs.Law as law
-use Rattle.ada_meaning.specs.Law.{EndsItself, IsPermitted, IsPlan, Outcome}
+use Rattle.ada_meaning.specs.Law.{EndsItself, IsPermitted, IsPlan, IsPrefix, Outcome}
 use Rattle.ada_meaning.specs.Nonblocking.{KeepsRule}
 use Rattle.ada_meaning.specs.Programs.{Setting, input_of, sequential}
 use Rattle.ada_meaning.specs.Sequential.{IsCalm}
@@ -33,9 +33,10 @@ EndsAs p limit run_end.WriteFault o = o.ending ≡ law.WriteFault
 EndsAs p limit run_end.NoMemory o = o.ending ≡ law.NoMemory
 
 -- The answer tells of a run that is permitted under the setting on these bytes of input. Where the input tells, what is left
--- of it is what that run didn't take; where the output tells, what was put before is followed by that run's output. Where the
--- run ended by itself and the sequential run is calm (it ends within the limit, normally or by an exception, leaves no
--- parallel construct early, and its parallel reductions are listed ones without partial overflow), it is that run.
+-- of it is what that run didn't take; where the output tells, what was put before is followed by that run's output. Let the
+-- sequential run be calm: it ends within the limit, normally or by an exception, leaves no parallel construct early, and its
+-- parallel reductions are listed ones without partial overflow. Then a run that ended by itself is that run; and however the
+-- run ended, also where a fault or want of memory stopped it, its output is a prefix of that run's.
 pub record TellsOf (InTells OutTells : Type 0) (p : Program) (set : Setting) (end : RunEnd) (input rest before now : List ℕ) : Type 0 where
   pub outcome : Outcome
   pub early : Bool
@@ -44,6 +45,7 @@ pub record TellsOf (InTells OutTells : Type 0) (p : Program) (set : Setting) (en
   pub left : InTells → rest ≡ drop outcome.taken input
   pub output : OutTells → now ≡ before ++ outcome.output
   pub calm : IsCalm (sequential p set.limit (input_of input)) → EndsItself outcome.ending → outcome ≡ law.outcome_of p input (sequential p set.limit (input_of input))
+  pub prefix : IsCalm (sequential p set.limit (input_of input)) → IsPrefix outcome.output (sequential p set.limit (input_of input)).output
 
 -- a fault of a device is answered where its count rose, and nowhere else
 abbrev pub Causes : RunEnd → Stream → Stream → Stream → Stream → Type 0

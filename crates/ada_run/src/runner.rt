@@ -40,8 +40,9 @@ fn run_from<I: Source + Drop, O: Sink + Drop>(
 /// Runs a unit under a setting, on an input and an output, which it gives back as the run left them. `ReadFault` and
 /// `WriteFault` come only where the count of that device's faults rose. There is an input on which a run is permitted under
 /// the setting's plan and limit that ends as the answer says: where the input tells what it holds, that, and what that run
-/// didn't take is left; where the output tells, that run's output was put. So far the threads of parallel constructs are taken
-/// in order: the runtime and the pulse, which is told of each thread that a worker begins, aren't asked.
+/// didn't take is left; where the output tells, that run's output was put. Where the sequential run on that input is calm, the
+/// output is a prefix of that run's, also where a fault or want of memory stopped the run. So far the threads of parallel
+/// constructs are taken in order: the runtime and the pulse, which is told of each thread that a worker begins, aren't asked.
 pub fn execute<R: Threads + Sync, I: Source + Drop, O: Sink + Drop, P: Pulse + Sync>(
     rt: &R,
     alloc: Global,

@@ -4,6 +4,7 @@ use Rattle.run_reports.specs.Says.{number_of}
 use Rattle.run_reports.specs.declared.status.Status.TheVariants as status
 use Rattle.ada_cmd.proofs.Causes as causes
 use Rattle.ada_cmd.proofs.Counts as counts
+use Rattle.ada_cmd.proofs.Prefixes as prefixes
 use Rattle.ada_cmd.proofs.top.run_words.Goals as goal
 
 pub returns-clause-race_free : goal.returns-clause-race_free
@@ -11,6 +12,9 @@ returns-clause-race_free g c = λ text compiled accepted. accepted_race_free tex
 
 pub returns-clause-runs : goal.returns-clause-runs
 returns-clause-runs g c = rw c.number.ensures (causes.runs _ _ _ _ c.answer_words-status.ensures)
+
+pub returns-clause-prefix : goal.returns-clause-prefix
+returns-clause-prefix g c = λ q told compiled asks mode none has accepted. prefixes.meets_puts q compiled _ _ _ none (causes.runs _ _ _ _ c.answer_words-status.ensures q told compiled asks mode has accepted)
 
 pub returns-clause-checks : goal.returns-clause-checks
 returns-clause-checks g c = rw c.number.ensures (causes.checks _ _ _ _ c.answer_words-status.ensures)
