@@ -27,8 +27,7 @@ module _ {InTells OutTells : Type 0} (q : Asked) (c : Compiled) where
   unit_puts given before now none unit input out calm =
       let run = unit.runs.run in
       let ends = subst (λ vars. EndsBy c vars unit.end given unit.left now.out before.err now.err) none unit.ends in
-      let left = as_left c unit.end given unit.left now.out before.err now.err ends in
-      (
+      let left = as_left c unit.end given unit.left now.out before.err now.err ends in (
         run.outcome.output,
         ap bytes_of left ∙ run.output out,
         subst (λ w. IsCalm (sequential c.program q.settings.turns (input_of w)) → IsPrefix run.outcome.output (sequential c.program q.settings.turns (input_of w)).output) (unit.runs.told input) run.prefix calm,

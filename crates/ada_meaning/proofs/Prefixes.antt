@@ -287,7 +287,7 @@ module _ (limit : ℕ) (cuts : ℕ → ℕ → List ℕ) (one : Bool) where
       let k = λ (values : List ℤ). Runs.combined Instance this anything asks_at_once limit cuts one v values (reduce runs.doings runs.checks by at c') in
       let l = λ (values : List ℤ). Planned.combined limit cuts v values (reduce plans.doings plans.checks by at d') in
       let a = PlanLaw.accumulators limit cuts one by at v (λ j. f (chunk_of cut j)) (λ j. g (chunk_of cut j)) c d
-          (λ j i. PlanLaw.silent limit cuts one (r (chunk_of cut j) i).agrees) (λ x y. PlanLaw.silent limit cuts one (t x y).agrees) site js in
+      (λ j i. PlanLaw.silent limit cuts one (r (chunk_of cut j) i).agrees) (λ x y. PlanLaw.silent limit cuts one (t x y).agrees) site js in
       bind_begins one m n k l a.agrees (quiet_begins one m n a.quiet) (λ values. combined_begins (reduce runs.doings runs.checks by at c') (reduce plans.doings plans.checks by at d')
       (λ x y. (PlanLaw.step_in limit cuts one w by at c' d' (λ a b. (u a b).agrees) x y).agrees) (step_begins w by at c' d' u) v values)
 
