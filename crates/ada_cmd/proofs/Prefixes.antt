@@ -1,5 +1,5 @@
 -- What a run put out is a prefix of what a calm sequential run puts out.
-use Rattle.std.proofs.Common.{◌≡◌, ℕ, List, [], Bool, false, inl, inr, refl, sym, ap, subst, ◌∙◌}
+use Rattle.std.proofs.Common.{◌≡◌, ℕ, [], false, inl, inr, refl, sym, ap, subst, ◌∙◌}
 use Rattle.std.proofs.lemmas.List.{append-nil}
 use Rattle.ada_meaning.specs.Law.{IsPrefix}
 use Rattle.ada_meaning.specs.Programs.{input_of, sequential}
@@ -11,7 +11,7 @@ use Rattle.run_reports.specs.declared.ends.RunEnd.TheVariants as run_end
 use Rattle.run_reports.specs.declared.status.Status.{Status}
 use Rattle.command_words.specs.Words.{Asked}
 use Rattle.ada_cmd.specs.Answer.{Devices, EndsBy, Outside, RunsUnit, Untouched}
-use Rattle.ada_cmd.specs.Causes.{ErrFails, Fails, MemoryFails, Meets, PutsPrefix, ShelfFails}
+use Rattle.ada_cmd.specs.Causes.{ErrFails, MemoryFails, Meets, PutsPrefix, ShelfFails}
 
 -- where no variables are asked for nothing is put out behind the run
 as_left : (c : Compiled) (end : RunEnd) (given : Status) (left now err err' : Stream) → EndsBy c false end given left now err err' → now ≡ left
@@ -27,8 +27,7 @@ module _ {InTells OutTells : Type 0} (q : Asked) (c : Compiled) where
   unit_puts given before now none unit input out calm =
       let run = unit.runs.run in
       let ends = subst (λ vars. EndsBy c vars unit.end given unit.left now.out before.err now.err) none unit.ends in
-      let left = as_left c unit.end given unit.left now.out before.err now.err ends in
-      (
+      let left = as_left c unit.end given unit.left now.out before.err now.err ends in (
         run.outcome.output,
         ap bytes_of left ∙ run.output out,
         subst (λ w. IsCalm (sequential c.program q.settings.turns (input_of w)) → IsPrefix run.outcome.output (sequential c.program q.settings.turns (input_of w)).output) (unit.runs.told input) run.prefix calm,

@@ -88,7 +88,7 @@ module _ (program : Program) (set : Setting) (input : List ℕ) (keeps : KeepsRu
     put_broken tr passed rest run fits =
         let piece : Trace Instance = Puts (passed ++ rest) ∷ [] in
         let is : output_of (tr ++ piece) ≡ (output_of tr ++ passed) ++ rest =
-          output_of_append tr piece ∙ ap (λ z. output_of tr ++ z) (append-nil (passed ++ rest)) ∙ sym (append_assoc (output_of tr) passed rest) in
+        output_of_append tr piece ∙ ap (λ z. output_of tr ++ z) (append-nil (passed ++ rest)) ∙ sym (append_assoc (output_of tr) passed rest) in
         prefix_shorter (output_of tr ++ passed) rest plan.output
         (subst (λ z. IsPrefix z plan.output) is (begins (tr ++ piece) run.rest run.early run.path run.end run.run (fits_append tr piece (empty (input_of input)) fits (tt, tt)) (inl calm)))
 
