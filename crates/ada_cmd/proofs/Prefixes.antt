@@ -1,5 +1,5 @@
 -- What a run put out is a prefix of what a calm sequential run puts out.
-use Rattle.std.proofs.Common.{◌≡◌, ℕ, List, [], Bool, false, inl, inr, refl, sym, ap, subst, ◌∙◌}
+use Rattle.std.proofs.Common.{◌≡◌, ℕ, [], false, inl, inr, refl, sym, ap, subst, ◌∙◌}
 use Rattle.std.proofs.lemmas.List.{append-nil}
 use Rattle.ada_meaning.specs.Law.{IsPrefix}
 use Rattle.ada_meaning.specs.Programs.{input_of, sequential}
@@ -11,7 +11,7 @@ use Rattle.run_reports.specs.declared.ends.RunEnd.TheVariants as run_end
 use Rattle.run_reports.specs.declared.status.Status.{Status}
 use Rattle.command_words.specs.Words.{Asked}
 use Rattle.ada_cmd.specs.Answer.{Devices, EndsBy, Outside, RunsUnit, Untouched}
-use Rattle.ada_cmd.specs.Causes.{ErrFails, Fails, MemoryFails, Meets, PutsPrefix, ShelfFails}
+use Rattle.ada_cmd.specs.Causes.{ErrFails, MemoryFails, Meets, PutsPrefix, ShelfFails}
 
 -- where no variables are asked for nothing is put out behind the run
 as_left : (c : Compiled) (end : RunEnd) (given : Status) (left now err err' : Stream) → EndsBy c false end given left now err err' → now ≡ left

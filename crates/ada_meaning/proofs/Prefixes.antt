@@ -1,6 +1,6 @@
 -- What a run has put out up to some place in it is a prefix of what the planned run puts out, where no construct is left
 -- early and no thread has a race.
-use Rattle.std.proofs.Common.{◌≡◌, length, ℕ, zero, suc, ℤ, List, [], ◌∷◌, ◌++◌, ◌⊎◌, Option, Some, None, inl, inr, ⊎_elim, Bool, true, false, cond, ◌||◌, refl, sym, subst, ap, ◌∙◌, true≢false}
+use Rattle.std.proofs.Common.{◌≡◌, length, ℕ, ℤ, List, [], ◌∷◌, ◌++◌, ◌⊎◌, Option, inl, inr, ⊎_elim, Bool, true, false, cond, ◌||◌, refl, sym, subst, ap, ◌∙◌, true≢false}
 use Rattle.std.proofs.lemmas.List.{append_assoc, append-nil}
 use Rattle.ada_typed.specs.declared.expressions.Reducer.{Reducer}
 use Rattle.ada_typed.specs.declared.expressions.Reducer.TheVariants.{Operator, Function}
@@ -12,7 +12,7 @@ use Rattle.behaviours.specs.Events.{Reads, Writes, Recalls, Keeps, Takes, Puts, 
 use Rattle.behaviours.specs.Memory.{Memory, put_all, Fits}
 use Rattle.behaviours.specs.Joins.{deal}
 use Rattle.behaviours.specs.Behaviours
-use Rattle.behaviours.specs.Behaviours.{Behaviour, Did, Carries, Untaken, asks_at_once}
+use Rattle.behaviours.specs.Behaviours.{Behaviour, Did, asks_at_once}
 use Rattle.ada_meaning.specs.Operations.{Cut, chunk_of, Operations, reduce, operate}
 use Rattle.ada_meaning.specs.Meaning.{main}
 use Rattle.ada_meaning.specs.Runs
@@ -25,7 +25,7 @@ use Rattle.ada_meaning.specs.Nonblocking.{KeepsRule}
 use Rattle.ada_meaning.proofs.Agrees.{Agrees, AgreesAt, Does, Settled, gives_inj, gives-ne-leaves, gives-ne-spent, gives-ne-stopped, leaves_inj, leaves-ne-spent, leaves-ne-stopped, or_left, settled_left, settled_right, settled_first, output_of_append, output_fillings, rest_fits}
 use Rattle.ada_meaning.proofs.Quiet.{Quiet, has_front, ret_quiet, reads_quiet, writes_quiet, turn_quiet, checks_quiet, leaves_quiet, spent_quiet, emits_quiet}
 use Rattle.ada_meaning.proofs.PlanLaw
-use Rattle.ada_meaning.proofs.PlanLaw.{AgreesIn, Silent}
+use Rattle.ada_meaning.proofs.PlanLaw.{AgreesIn}
 use Rattle.ada_meaning.proofs.Induction
 use Rattle.ada_meaning.proofs.Induction.{Relates}
 use Rattle.behaviours.proofs.Shuffle.{fits_split}
