@@ -150,7 +150,6 @@ fn entry_of<'a>(texts: &'a [ShelfText], name: &str) -> Option<&'a ShelfText>
 }
 
 // All the bytes of a text, or as many as a fetch gives.
-#[tactic(auto, using(std::proofs::lemmas::List::take_min))]
 fn copy_of(alloc: Global, text: &[u8]) -> Result<Vec<u8>, ShelfFault>
     ensures bytes { IfOk result (λ bytes. bytes.items ≡ fetched text.now) }
     ensures memory { IfErr result (λ fault. fault ≡ ShelfFault.OutOfMemory) }
