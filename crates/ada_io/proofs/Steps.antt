@@ -1,6 +1,7 @@
 -- What a Get does with what it looks at, phase by phase.
 use Rattle.std.proofs.Common.{◌≡◌, ℕ, suc, ◌+◌, ◌*◌, ◌-◌, ◌^◌, ◌<◌, ◌≤◌, min, Option, Some, None, is_some, Bool, true, false, refl, sym, ap, ◌∙◌, ◌⊎◌, inl, inr, arith, true≢false}
 use Rattle.std.proofs.lemmas.Bool.{cases_lt}
+use Rattle.ada_base.specs.declared.reason.Reason.TheVariants as reason
 use Rattle.ada_base.specs.Input.{Held, Nothing, Symbol, is_blank, is_byte, is_digit, digit_of}
 use Rattle.ada_base.specs.Input as input
 use Rattle.ada_io.specs.declared.phases.Phase.TheVariants.{Blanks, NeedsDigit, Digits}
@@ -57,6 +58,9 @@ digit_asks negative m n d s e f g =
 pub needed_digit_asks : (negative : Bool) (m n d : ℕ) (s : Option ℕ) → is_digit s ≡ true → d ≡ digit_of s → n ≡ min (m * 10 + d) (2 ^ 32 - 1) → Takes (NeedsDigit negative m) s (Asks (Digits negative n))
 needed_digit_asks negative m n d s e f g =
     (some_digit s e, record { same = λ t. rw e (digits_asked t.turns negative m n s t refl (same_least n (m * 10 + digit_of s) (g ∙ ap (λ k. min (m * 10 + k) (2 ^ 32 - 1)) f))) })
+
+pub needed_digit_fails : (negative : Bool) (m : ℕ) (s : Option ℕ) → is_digit s ≡ false → Takes (NeedsDigit negative m) s (Raises reason.DataError)
+needed_digit_fails negative m s e = λ t. rw e refl
 
 pub underscore_asks : (negative : Bool) (m : ℕ) (s : Option ℕ) → is_digit s ≡ false → is_byte 95 s ≡ true → Takes (Digits negative m) s (Asks (NeedsDigit negative m))
 underscore_asks negative m s e f =

@@ -2,7 +2,8 @@
 use Rattle.std.proofs.Common.{◌≡◌, ℕ, suc, ◌+◌, ◌-◌, ◌<◌, ◌≤◌, List, [], ◌∷◌, ◌++◌, length, get_or, take, drop, Option, Some, None, refl, ◌∙◌, arith, add-one, drop-cons}
 use Rattle.std.specs.List.{slice_range}
 use Rattle.std.specs.Io.KnownBytes.{Consumes, prepend_known}
-use Rattle.ada_port.specs.Ports.{Loses}
+use Rattle.ada_port.specs.Ports.{Gives, Loses}
+use Rattle.ada_port.specs.Sources.{sure_left}
 
 -- the first of the bytes from one place to another
 pub slice_range-first : (bytes : List ℕ) (start end : ℕ) → start < end → end ≤ length bytes → slice_range bytes start end ≡ get_or bytes start 0 ∷ slice_range bytes (start + 1) end
@@ -24,6 +25,12 @@ Loses-buffered (Some rest) buffer start end some within left e =
 pub prepend-none : (known : Option (List ℕ)) (buffer : List ℕ) (start end : ℕ) → end ≤ start → prepend_known (slice_range buffer start end) known ≡ known
 prepend-none None buffer start end none = refl
 prepend-none (Some rest) buffer start end none = let e : end - start ≡ 0 = omega arith in rw e refl
+
+-- a byte of a list is taken from those that are left of it
+pub first-given : (bytes : List ℕ) (k byte : ℕ) → k < length bytes → byte ≡ get_or bytes k 0 → Gives (sure_left (drop k bytes)) (sure_left (drop (k + 1) bytes)) (byte ∷ [])
+first-given bytes k byte within is =
+    let first : drop k bytes ≡ byte ∷ drop (k + 1) bytes = rw (drop-cons bytes k 0, ← is, add-one) refl in
+    record { told = λ left e. (drop (k + 1) bytes, unwrapped e ∙ first, refl); faults = refl }
 
 drop-none : (bytes : List ℕ) → drop 0 bytes ≡ bytes
 drop-none [] = refl

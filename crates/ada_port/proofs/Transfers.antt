@@ -1,7 +1,10 @@
 -- What writers and readers that tell their bytes do, in the words of sinks and shelves.
-use Rattle.std.proofs.Common.{◌≡◌, ℕ, ◌≤◌, ◌<◌, ◌-◌, List, [], ◌++◌, length, take, drop, Option, Some, None, IfSome, Result, Ok, Err, append_assoc, length-drop, subst, take-append-drop, refl, sym, ap, ◌∙◌, arith}
-use Rattle.std.proofs.lemmas.List.{append-nil, take-append-le, take_all}
-use Rattle.std.specs.Io.KnownBytes.{Appends, Keeps, Consumes, IsAtEnd, ReadConsumes}
+use Rattle.std.proofs.Common.{◌≡◌, ℕ, ◌-◌, List, [], ◌++◌, length, take, drop, Option, Some, None, IfSome, append_assoc, length-drop, length-take, subst, take-append-drop, refl, sym, ap, ◌∙◌, arith}
+use Rattle.std.proofs.lemmas.List.{append-nil, take_all}
+use Rattle.std.specs.Io.KnownBytes.{Appends, Keeps}
+use Rattle.std.specs.Io.Take.{take_inner, take_limit, take_remaining}
+use Rattle.std.specs.declared.io.traits.Take.{Take}
+use Rattle.std.specs.Option.{option_map}
 use Rattle.ada_port.specs.Ports.{Adds, AddsPrefix, fetched}
 use Rattle.ada_port.proofs.Growth.{Adds-append, Adds-none}
 
@@ -49,23 +52,13 @@ Written-all old mid new piece w k held e =
     let h = Adds-append old mid new w.front [] w.grown (Adds-from_Keeps mid new k) held e in
     h ∙ ap (λ x. Some (held ++ x)) (append-nil w.front ∙ sym (append-nil w.front) ∙ sym w.parts)
 
--- a read that gives no byte though there is room for one: none is left
-pub read_ends : {E : Type 0} (mid new : Option (List ℕ)) (answer : Result ℕ E) (buffer : List ℕ) → ReadConsumes mid new answer buffer → answer ≡ Ok 0 → 0 < length buffer → IsAtEnd mid
-read_ends None new answer buffer r e l = tt
-read_ends (Some xs) new (Err _) buffer r e l = cc
-read_ends (Some xs) None (Ok n) buffer r e l = absurd r.0
-read_ends (Some xs) (Some ys) (Ok n) buffer r e l =
-    let zero_bytes : n ≡ 0 = cc in r.0 ∙ ap (λ k. take k buffer ++ ys) zero_bytes ∙ r.1 zero_bytes l
+-- what was read of the front of a reader, and cut where it is longer, is what a fetch gives
+fetched-known : (left : Option (List ℕ)) (read text : List ℕ) → IfSome (option_map (take 1048577) left) (λ front. read ≡ [] ++ front) → text ≡ take 1048577 read → IfSome left (λ all. text ≡ fetched all)
+fetched-known None read text h e = tt
+fetched-known (Some all) read text h e =
+    e ∙ ap (take 1048577) h ∙ take_all 1048577 (take 1048577 all) (omega (arith, length-take 1048577 all))
 
--- what was read is what a fetch gives, at the end or where it is as long as can be
-pub fetched-at_end : (old new : Option (List ℕ)) (text : List ℕ) → Consumes old new text → IsAtEnd new → length text ≤ 1048577 → IfSome old (λ left. text ≡ fetched left)
-fetched-at_end None new text h e l = tt
-fetched-at_end (Some xs) None text h e l = absurd h
-fetched-at_end (Some xs) (Some ys) text h e l =
-    sym (ap fetched (h ∙ ap (λ x. text ++ x) e ∙ append-nil text) ∙ take_all 1048577 text l)
-
-pub fetched-full : (old new : Option (List ℕ)) (text : List ℕ) → Consumes old new text → length text ≡ 1048577 → IfSome old (λ left. text ≡ fetched left)
-fetched-full None new text h l = tt
-fetched-full (Some xs) None text h l = absurd h
-fetched-full (Some xs) (Some ys) text h l =
-    sym (ap fetched h ∙ take-append-le 1048577 text ys (omega arith) ∙ take_all 1048577 text (omega arith))
+pub fetched-front : {F : Type 0} (remaining : F → Option (List ℕ)) (file : F) (front : Take F) (before read text : List ℕ) → take_limit front ≡ 1048577 → take_inner front ≡ file → before ≡ [] → IfSome (take_remaining remaining front) (λ bytes. read ≡ before ++ bytes) → text ≡ take 1048577 read → IfSome (remaining file) (λ all. text ≡ fetched all)
+fetched-front remaining file front before read text l i none h e =
+    let known : take_remaining remaining front ≡ option_map (take 1048577) (remaining file) = rw (l, i) refl in
+    fetched-known (remaining file) read text (subst (λ k. IfSome k (λ bytes. read ≡ [] ++ bytes)) known (subst (λ b. IfSome (take_remaining remaining front) (λ bytes. read ≡ b ++ bytes)) none h)) e

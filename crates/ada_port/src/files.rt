@@ -6,12 +6,9 @@ use crate::counts::raise;
 use crate::ports::{MOST_BYTES, Shelf, ShelfFault};
 use std::alloc::Global;
 use std::fs::File;
-use std::io;
-use std::io::{ErrorKind, Read};
+use std::io::Read;
 use std::marker::Model;
 use std::rt::Files;
-
-const BUFFER_BYTES: usize = 4096;
 
 /// The files of the system, each fetched by its path. Contracts see the count of faults and nothing of
 /// what a file holds.
@@ -65,32 +62,21 @@ impl<R: Files + Drop> Shelf for FileShelf<R> {
 fn read_file<R: Files>(files: &R, alloc: Global, name: &str) -> Result<Vec<u8>, ShelfFault>
     ensures { IfOk result (λ text. vec_len text ≤ MOST_BYTES) }
 {
-    let mut file = File::open(files, name).map_err(fault_of)?;
-    read_text(&mut file, alloc)
+    let file = File::open(files, name)?;
+    read_text(file, alloc)
 }
 
 /// All the bytes that a reader has left, or as many as a fetch gives. `Failed` comes where it can't be read, and
 /// `OutOfMemory` where it or the allocator has no memory left.
-pub fn read_text<F: Read>(file: &mut F, alloc: Global) -> Result<Vec<u8>, ShelfFault>
+pub fn read_text<F: Read + Drop>(file: F, alloc: Global) -> Result<Vec<u8>, ShelfFault>
     ensures most { IfOk result (λ text. vec_len text ≤ MOST_BYTES) }
-    ensures bytes { IfOk result (λ text. IfSome (F.remaining file.old) (λ left. text.items ≡ fetched left)) }
+    ensures bytes { IfOk result (λ text. IfSome (F.remaining file) (λ left. text.items ≡ fetched left)) }
 {
     let mut text = Vec::new(alloc);
-    let mut buffer = [0; BUFFER_BYTES];
-    while text.len() < MOST_BYTES {
-        let room = BUFFER_BYTES.min(MOST_BYTES - text.len());
-        let count = file.read(&mut buffer[..room]).map_err(fault_of)?;
-        if count == 0 {
-            break;
-        }
-        text.extend_from_slice(&buffer[..count])?;
-    }
-    Ok(text)
-}
+    let mut front = file.take(MOST_BYTES as u64);
+    front.read_to_end(&mut text)?;
 
-fn fault_of(error: io::Error) -> ShelfFault {
-    match error.kind() {
-        ErrorKind::OutOfMemory => ShelfFault::OutOfMemory,
-        _ => ShelfFault::Failed,
-    }
+    // Of a reader that tells nothing no contract says that so many bytes come.
+    text.truncate(MOST_BYTES);
+    Ok(text)
 }

@@ -2,22 +2,22 @@ ghost use Rattle.std.specs.Prelude.{◌≡◌, ℕ, List, Option};
 ghost use Rattle.ada_port.specs.Ports.{Fetches, Puts, Stream, Takes, Texts};
 
 use std::alloc::{AllocError, Global};
-use thiserror::Error;
+use std::io;
+use std::io::ErrorKind;
 
 // The most bytes that a fetch gives: one more than a text may have.
 pub(crate) const MOST_BYTES: usize = 1_048_577;
 
 /// A source could not be asked, or a sink could not take a piece.
-#[derive(Clone, Copy, Debug, PartialEq, Eq, Error)]
-#[error("the device failed")]
+#[derive(Clone, Copy)]
 pub struct Failed;
 
 /// Why a shelf gave no text.
-#[derive(Clone, Copy, Debug, PartialEq, Eq, Error)]
+#[derive(Clone, Copy)]
 pub enum ShelfFault {
-    #[error("the text cannot be read")]
+    /// The text can't be read.
     Failed,
-    #[error("out of memory")]
+    /// There is no memory for it.
     OutOfMemory,
 }
 
@@ -28,6 +28,15 @@ impl From<AllocError> for ShelfFault {
 
     fn from(_: AllocError) -> ShelfFault {
         ShelfFault::OutOfMemory
+    }
+}
+
+impl From<io::Error> for ShelfFault {
+    fn from(error: io::Error) -> ShelfFault {
+        match error.kind() {
+            ErrorKind::OutOfMemory => ShelfFault::OutOfMemory,
+            _ => ShelfFault::Failed,
+        }
     }
 }
 

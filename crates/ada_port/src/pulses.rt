@@ -1,7 +1,7 @@
 use crate::ports::Pulse;
 
 /// Nobody is told that a thread begins.
-#[derive(Clone, Copy, Debug)]
+#[derive(Drop)]
 pub struct Quiet;
 
 impl Quiet {

@@ -5,7 +5,7 @@ ghost use Rattle.ada_port.specs.Shelves.{after_fetch, fetch_fails, named_text, o
 
 use crate::counts::raise;
 use crate::ports::{MOST_BYTES, Shelf, ShelfFault};
-use std::alloc::{AllocError, Global};
+use std::alloc::Global;
 use std::marker::Model;
 
 /// One text on a shelf.
@@ -64,7 +64,7 @@ impl MemShelf {
             return Err(ShelfFault::Failed);
         }
         match text_of(&self.texts, name) {
-            Some(text) => Ok(copy_of(alloc, text)?),
+            Some(text) => copy_of(alloc, text),
             None => Err(ShelfFault::Failed),
         }
     }
@@ -127,7 +127,7 @@ impl Shelf for SureShelf {
         ensures memory { IfErr result (λ fault. fault ≡ ShelfFault.OutOfMemory) }
         ensures same { self.new ≡ self.old }
     {
-        Ok(copy_of(alloc, &self.text)?)
+        copy_of(alloc, &self.text)
     }
 
     fn faults(&self) -> u64 {
@@ -150,10 +150,10 @@ fn entry_of<'a>(texts: &'a [ShelfText], name: &str) -> Option<&'a ShelfText>
 }
 
 // All the bytes of a text, or as many as a fetch gives.
-#[tactic(auto, using(std::proofs::lemmas::List::take_min))]
-fn copy_of(alloc: Global, text: &[u8]) -> Result<Vec<u8>, AllocError>
-    ensures { IfOk result (λ bytes. bytes.items ≡ fetched text.now) }
+fn copy_of(alloc: Global, text: &[u8]) -> Result<Vec<u8>, ShelfFault>
+    ensures bytes { IfOk result (λ bytes. bytes.items ≡ fetched text.now) }
+    ensures memory { IfErr result (λ fault. fault ≡ ShelfFault.OutOfMemory) }
 {
     let most = MOST_BYTES.min(text.len());
-    Vec::from_slice(alloc, &text[..most])
+    Ok(Vec::from_slice(alloc, &text[..most])?)
 }

@@ -8,7 +8,7 @@ use std::alloc::{AllocError, Global};
 use std::marker::Model;
 
 /// A put that fails, and how much of its piece is appended all the same.
-#[derive(Clone, Copy, Debug)]
+#[derive(Clone, Copy)]
 pub struct SinkFail {
     /// The number of the call, counted from 0.
     pub call: u64,

@@ -1,4 +1,4 @@
-use Rattle.std.proofs.Common.{refl, arith}
+use Rattle.std.proofs.Common.{refl, arith, rules}
 use Rattle.ada_port.proofs.Buffers.{Loses-buffered, Loses-read, prepend-none}
 use Rattle.ada_port.proofs.streams.StreamSourceSource.next.Goals as goal
 
@@ -15,3 +15,6 @@ returns-in-Ok g c =
       told = Loses-read (g.R.Read.remaining c.self.inside.from) (g.R.Read.remaining c.read.new.self) c.read.new.buf c.in-Ok.count c.in-Ok.ensures.bytes.0 (omega (arith, c.in-Ok.count-test.1)) c.in-Ok.ensures.bound.0;
       faults = refl;
     })
+
+pub returns-in-Ok-eq0 : goal.returns-in-Ok-eq0
+returns-in-Ok-eq0 g c = search rules
