@@ -12,7 +12,7 @@ use crate::names::select;
 use crate::values::cells;
 use ada_base::{Items, Reason};
 use ada_typed::{Actual, Check, Root, Scalar};
-use run_parts::{Back, Passed, Shape, Work, one, push, read_whole};
+use run_parts::{Back, Cells, Passed, Shape, Work, one, push, read_whole};
 use run_store::{End, Env, Leave, Object, Port, Store, is_in};
 
 /// Actual parameters, evaluated, read and checked from left to right, behind others.
@@ -284,7 +284,7 @@ fn pass_whole<P: Port + Drop>(
         passed,
         Passed {
             formal: Object::Variable(formal),
-            cells: values,
+            cells: Cells::many(values),
             back: Some(back),
         },
     )?;

@@ -12,9 +12,9 @@ ghost use Rattle.run_parts.specs.Reducing.{both_checked};
 ghost use Rattle.ada_interpreter.specs.Walk as spec;
 
 use crate::bodies::body;
-use ada_base::{Items, Reason};
+use ada_base::Reason;
 use ada_typed::Sub;
-use run_parts::{Both, Passed, Returned, Work, back_cells, find_sub, turned};
+use run_parts::{BackCells, Both, Passed, Returned, Work, back_cells, find_sub, turned};
 use run_store::{End, Env, Leave, Port, Region, Store};
 
 /// A call, where so many more may be active.
@@ -132,7 +132,7 @@ fn carried_out<P: Port + Drop>(
     ensures { ShowsAs returned_of P.Tells (spec.carried_out work.now calls (sub_of work.now.typed.now.nodes sub) nested (passed_list work.now all.now)) result store.old store.new }
 {
     let value = function_value(work, calls, nested, sub, store)?;
-    let cells = back_cells(work, all, Items::new(work.alloc), store)?;
+    let cells = back_cells(work, all, BackCells::new(work.alloc), store)?;
     Ok(Returned { value, cells })
 }
 

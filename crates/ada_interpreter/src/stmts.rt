@@ -136,13 +136,7 @@ fn call_procedure<P: Port + Drop>(
 {
     let passed = pass(work, calls, actuals, env, Items::new(work.alloc), store)?;
     let returned = call(work, calls, env.nested(), sub, passed.as_slice(), store)?;
-    all_copied_back(
-        work,
-        calls,
-        passed.as_slice(),
-        returned.cells.as_slice(),
-        store,
-    )?;
+    all_copied_back(work, calls, passed.as_slice(), &returned.cells, store)?;
     Ok(())
 }
 
@@ -178,7 +172,7 @@ fn return_value<P: Port + Drop>(
     ensures { Shows P.Tells (spec.return_value work.now calls (value_at (nodes_of work.now) value) (env_of env.now)) result store.old store.new }
 {
     let values = cells(work, calls, value, env, store)?;
-    Err(End::Left(Leave::Returns(values.get(0).copied())))
+    Err(End::Left(Leave::Returns(values.first())))
 }
 
 #[cycle(walk)]

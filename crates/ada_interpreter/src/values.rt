@@ -11,7 +11,7 @@ use crate::exprs::eval;
 use crate::names::select;
 use ada_base::{Items, Reason};
 use ada_typed::{Check, Composite, Iterated, Leaf, Root, Run, Value};
-use run_parts::{Work, further, lay, one, placed, read_whole, turned, write_all, zeros};
+use run_parts::{Cells, Work, further, lay, one, placed, read_whole, turned, write_all, zeros};
 use run_store::{End, Env, Leave, Object, Part, Port, Store, is_in, is_true};
 
 /// The cells of what is stored.
@@ -24,18 +24,18 @@ pub fn cells<P: Port + Drop>(
     id: u32,
     env: &Env<'_>,
     store: &mut Store<P>,
-) -> Result<Items<i64>, End>
+) -> Result<Cells, End>
     ensures { Shows P.Tells (spec.cells work.now calls (value_at (nodes_of work.now) id) (env_of env.now)) result store.old store.new }
 {
     match work.typed.nodes.value(id) {
-        None => Ok(Items::new(work.alloc)),
+        None => Ok(Cells::many(Items::new(work.alloc))),
         Some(Value::Number { check, value }) => {
             let values = number(work, calls, check, value, env, store)?;
             Ok(values)
         }
         Some(Value::Cells { composite: value }) => {
             let values = composite(work, calls, value, env, store)?;
-            Ok(values)
+            Ok(Cells::many(values))
         }
     }
 }
@@ -48,7 +48,7 @@ fn number<P: Port + Drop>(
     value: u32,
     env: &Env<'_>,
     store: &mut Store<P>,
-) -> Result<Items<i64>, End>
+) -> Result<Cells, End>
     ensures { Shows P.Tells (spec.number work.now calls check (expr_at (nodes_of work.now) value) (env_of env.now)) result store.old store.new }
 {
     let x = eval(work, calls, value, env, store)?;
@@ -355,7 +355,7 @@ fn given<P: Port + Drop>(
     value: u32,
     env: &Env<'_>,
     store: &mut Store<P>,
-) -> Result<Items<i64>, End>
+) -> Result<Cells, End>
     ensures { Shows P.Tells (spec.given work.now calls iterated index (value_at (nodes_of work.now) value) (env_of env.now)) result store.old store.new }
 {
     match iterated {

@@ -1,14 +1,18 @@
 -- Copies out of calls, a parameter at a time.
-use Rattle.std.proofs.Common.{◌≡◌, ℕ, ℤ, List, [], ◌∷◌, ◌++◌, sym, subst}
-use Rattle.std.specs.Prelude.{Result, Ok, Err}
+use Rattle.std.proofs.Common.{arith, ◌≡◌, ℕ, ◌+◌, suc, zero, ℤ, List, [], ◌∷◌, ◌++◌, drop, refl, sym, subst, ap}
+use Rattle.std.specs.Prelude.{Result, Ok, Err, Option, Some, None, replicate}
 use Rattle.run_store.specs.Outside.{Outside}
 use Rattle.run_store.specs.Shows.{Image, Shows, entity_of}
 use Rattle.run_store.specs.declared.ends.End.{End}
-use Rattle.run_store.proofs.Going.{goes_refl, goes_ends, then_shows}
+use Rattle.run_store.proofs.Going.{goes_refl, goes_ends, stays, then_shows}
+use Rattle.ada_typed.specs.declared.scalars.Check.{Check}
+use Rattle.ada_meaning.specs.Stored.{bind, ret}
 use Rattle.run_parts.specs.declared.work.Work.{Work}
 use Rattle.run_parts.specs.declared.passed.Passed.{Passed}
-use Rattle.run_parts.specs.Passing.{passed_list, back_option}
-use Rattle.run_parts.specs.Words.{cells_back, back_cells, copied_back, all_copied_back}
+use Rattle.run_parts.specs.declared.passed.Back.{Back}
+use Rattle.run_store.specs.Environment.{part_of}
+use Rattle.run_parts.specs.Passing.{passed_list, back_option, shape_of}
+use Rattle.run_parts.specs.Words.{cells_back, back_cells, copied_back, all_copied_back, write_all}
 
 module _ {Tells : List ℕ → Outside → Type 0} (w : Work) (p : Passed) (ps all : List Passed) (is : all ≡ p ∷ ps) (out : List (List ℤ)) (s : Image) where
   pub back_step : (vs : List ℤ) (more : List (List ℤ)) (r : Result (List (List ℤ)) End) → Shows Tells (cells_back w (entity_of p.formal) (back_option w p.back)) (Ok vs) s s → more ≡ out ++ vs ∷ [] → Shows Tells (back_cells w (passed_list w ps) more) r s s
@@ -36,3 +40,41 @@ module _ {Tells : List ℕ → Outside → Type 0} (w : Work) (d : ℕ) (p : Pas
   copy_ends e r q h =
       subst (λ z. Shows Tells (all_copied_back w d (passed_list w all) whole) z s t) (sym q) (subst (λ z. Shows Tells (all_copied_back w d (passed_list w z) whole) (Err e) s t) (sym is) (subst (λ z. Shows Tells (all_copied_back w d (passed_list w (p ∷ ps)) z) (Err e) s t) (sym are)
       (goes_ends (λ a. a) (λ a. a) _ (copied_back w d (back_option w p.back) vs) (λ _. all_copied_back w d (passed_list w ps) vss) s s t e (goes_refl _ s) h)))
+
+-- ---- empty lists in front
+
+one_more : (before : ℕ) → replicate {A = List ℤ} (suc before) [] ++ [] ≡ (replicate before [] ++ []) ++ [] ∷ []
+one_more zero = refl
+one_more (suc before) = ap (λ z. [] ∷ z) (one_more before)
+
+pub one_before : (before more : ℕ) (cells : List ℤ) (lists : List (List ℤ)) → more ≡ before + 1 → cells ≡ [] → lists ≡ [] → replicate more [] ++ lists ≡ (replicate before [] ++ lists) ++ cells ∷ []
+one_before before more cells lists m c l =
+    let n : more ≡ suc before = omega (arith, m) in
+    subst (λ z. replicate z [] ++ lists ≡ (replicate before [] ++ lists) ++ cells ∷ []) (sym n)
+    (subst (λ z. replicate (suc before) [] ++ z ≡ (replicate before [] ++ z) ++ cells ∷ []) (sym l)
+    (subst (λ z. replicate (suc before) [] ++ [] ≡ (replicate before [] ++ []) ++ z ∷ []) (sym c) (one_more before)))
+
+pub one_behind : (before : ℕ) (cells : List ℤ) (lists more : List (List ℤ)) → more ≡ lists ++ cells ∷ [] → replicate before [] ++ more ≡ (replicate before [] ++ lists) ++ cells ∷ []
+one_behind zero cells lists more m = m
+one_behind (suc before) cells lists more m = ap (λ z. [] ∷ z) (one_behind before cells lists more m)
+
+module _ {Tells : List ℕ → Outside → Type 0} (w : Work) (d : ℕ) where
+  nothing_back : (b : Option Back) (s : Image) → Shows Tells (copied_back w d (back_option w b) []) (Ok tt) s s
+  unfolding bind ret write_all
+  nothing_back None s = (refl, stays, λ input told. refl)
+  nothing_back (Some b) s = nothing_checked b.check where
+    nothing_checked : (c : Option Check) → Shows Tells (copied_back w d (Some (record { part = part_of b.part; cells = shape_of w b.shape; check = c })) []) (Ok tt) s s
+    nothing_checked None = (refl, stays, λ input told. refl)
+    nothing_checked (Some c) = (refl, stays, λ input told. refl)
+
+  skipped : (n : ℕ) (ps : List Passed) (vss : List (List ℤ)) (r : Result (Unit {0}) End) (s t : Image) → Shows Tells (all_copied_back w d (passed_list w (drop n ps)) vss) r s t → Shows Tells (all_copied_back w d (passed_list w ps) (replicate n [] ++ vss)) r s t
+  unfolding all_copied_back
+  skipped zero ps vss r s t h = h
+  skipped (suc n) [] vss r s t h = h
+  skipped (suc n) (p ∷ ps) vss r s t h = copy_step w d p ps (p ∷ ps) refl [] (replicate n [] ++ vss) (replicate (suc n) [] ++ vss) refl s s t r (nothing_back p.back s) (skipped n ps vss r s t h)
+
+  pub copied_from : (n : ℕ) (ps rest : List Passed) (vss given whole : List (List ℤ)) (r : Result (Unit {0}) End) (s t : Image) → rest ≡ drop n ps → given ≡ vss → whole ≡ replicate n [] ++ vss → Shows Tells (all_copied_back w d (passed_list w rest) given) r s t
+      → Shows Tells (all_copied_back w d (passed_list w ps) whole) r s t
+  copied_from n ps rest vss given whole r s t e f is h =
+      subst (λ z. Shows Tells (all_copied_back w d (passed_list w ps) z) r s t) (sym is)
+      (skipped n ps vss r s t (subst (λ z. Shows Tells (all_copied_back w d (passed_list w z) vss) r s t) e (subst (λ z. Shows Tells (all_copied_back w d (passed_list w rest) z) r s t) f h)))

@@ -8,6 +8,7 @@ ghost use Rattle.run_parts.specs.Passing.{shape_of};
 ghost use Rattle.run_parts.specs.Words as spec;
 ghost use Rattle.run_parts.specs.Words.{cells_at};
 
+use crate::held::Cells;
 use crate::passed::Shape;
 use crate::work::Work;
 use ada_base::Items;
@@ -84,12 +85,10 @@ pub fn push_value(values: &mut Items<i64>, value: i64) -> Result<(), End>
 }
 
 /// The list of one value.
-pub fn one(work: &Work<'_>, value: i64) -> Result<Items<i64>, End>
+pub fn one(work: &Work<'_>, value: i64) -> Result<Cells, End>
     ensures { OrNoMemory (λ values. values ≡ value ∷ []) result }
 {
-    let mut values = Items::new(work.alloc);
-    push_value(&mut values, value)?;
-    Ok(values)
+    Ok(Cells::one(work.alloc, value))
 }
 
 /// A list of zeros.

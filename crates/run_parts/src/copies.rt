@@ -1,6 +1,6 @@
 //! Copies into and out of calls (6.4.1), and first cells of objects.
 
-ghost use Rattle.std.specs.Prelude.{◌≡◌, ◌++◌, ◌∷◌, [], option_map};
+ghost use Rattle.std.specs.Prelude.{◌≡◌, ◌++◌, ◌∷◌, [], drop, option_map};
 ghost use Rattle.ada_typed.specs.Programs.{program, sub_of};
 ghost use Rattle.ada_meaning.specs.Meaning as meaning;
 ghost use Rattle.run_store.specs.Shows.{Shows, OrNoMemory, entity_of};
@@ -9,11 +9,61 @@ ghost use Rattle.run_parts.specs.Words as spec;
 ghost use Rattle.run_parts.specs.Words.{object_defaults};
 
 use crate::cells::{one, read_whole, write_all};
+use crate::held::Cells;
 use crate::passed::{Back, Passed, Shape};
 use crate::work::Work;
 use ada_base::{Items, Reason};
 use ada_typed::{Check, Sub};
 use run_store::{End, Leave, Object, Port, Store, defaults_of, is_in};
+use std::alloc::Global;
+use std::marker::Model;
+
+/// What is copied back of each parameter, in order, which contracts see as a list of lists. The empty ones in front take
+/// no memory.
+#[derive(Drop)]
+pub struct BackCells {
+    before: usize,
+    lists: Items<Cells>,
+}
+
+impl Model for BackCells {
+    ghost use Rattle.std.specs.Prelude.{ℤ, List, [], ◌++◌, replicate};
+
+    ghost Value = { List (List ℤ) };
+
+    ghost view = { λ b. replicate b.before [] ++ b.lists };
+}
+
+impl BackCells {
+    /// Of no parameter.
+    pub fn new(alloc: Global) -> BackCells
+        ensures { result ≡ [] }
+    {
+        BackCells {
+            before: 0,
+            lists: Items::new(alloc),
+        }
+    }
+
+    /// One parameter more.
+    #[tactic(auto, using(crate::proofs::Copying::one_before, crate::proofs::Copying::one_behind))]
+    pub fn push(self, cells: Cells) -> Result<BackCells, End>
+        ensures { OrNoMemory (λ more. more ≡ self ++ cells ∷ []) result }
+    {
+        let BackCells { before, mut lists } = self;
+        if cells.is_empty() && lists.is_empty() {
+            match before.checked_add(1) {
+                Some(before) => Ok(BackCells { before, lists }),
+                None => Err(End::NoMemory),
+            }
+        } else {
+            match lists.push(cells) {
+                Ok(()) => Ok(BackCells { before, lists }),
+                Err(_) => Err(End::NoMemory),
+            }
+        }
+    }
+}
 
 /// The subprogram of a number.
 pub fn find_sub(work: &Work<'_>, number: u32) -> Option<Sub>
@@ -27,16 +77,16 @@ pub fn find_sub(work: &Work<'_>, number: u32) -> Option<Sub>
 pub fn back_cells<P: Port + Drop>(
     work: &Work<'_>,
     passed: &[Passed],
-    out: Items<Items<i64>>,
+    out: BackCells,
     store: &Store<P>,
-) -> Result<Items<Items<i64>>, End>
+) -> Result<BackCells, End>
     ensures { Shows P.Tells (spec.back_cells work.now (passed_list work.now passed.now) out) result store.now store.now }
 {
     match passed.split_first() {
         None => Ok(out),
         Some((first, rest)) => {
             let cells = cells_back(work, first.formal, first.back, store)?;
-            let more = push_cells(out, cells)?;
+            let more = out.push(cells)?;
             let all = back_cells(work, rest, more, store)?;
             Ok(all)
         }
@@ -49,11 +99,11 @@ fn cells_back<P: Port + Drop>(
     formal: Object,
     back: Option<Back>,
     store: &Store<P>,
-) -> Result<Items<i64>, End>
+) -> Result<Cells, End>
     ensures { Shows P.Tells (spec.cells_back work.now (entity_of formal) (back_option work.now back)) result store.now store.now }
 {
     match back {
-        None => Ok(Items::new(work.alloc)),
+        None => Ok(Cells::many(Items::new(work.alloc))),
         Some(back) => match back.shape {
             Shape::Single(_) => {
                 let value = store.read(formal, 0)?;
@@ -62,29 +112,43 @@ fn cells_back<P: Port + Drop>(
             }
             Shape::Whole(subtype) => {
                 let values = read_whole(work, formal, 0, subtype, store)?;
-                Ok(values)
+                Ok(Cells::many(values))
             }
         },
     }
 }
 
-fn push_cells(out: Items<Items<i64>>, cells: Items<i64>) -> Result<Items<Items<i64>>, End>
-    ensures { OrNoMemory (λ more. more ≡ out ++ cells ∷ []) result }
-{
-    let mut more = out;
-    match more.push(cells) {
-        Ok(()) => Ok(more),
-        Err(_) => Err(End::NoMemory),
-    }
-}
-
 /// What is copied back after a call, from left to right.
-#[tactic(auto, unfolding(ada_meaning::specs::Stored::bind, ada_meaning::specs::Stored::ret, ada_meaning::specs::Stored::leaves, ada_meaning::specs::Stored::spent, ada_meaning::specs::Stored::handles, crate::specs::Words::all_copied_back))]
 pub fn all_copied_back<P: Port + Drop>(
     work: &Work<'_>,
     calls: u32,
     passed: &[Passed],
-    cells: &[Items<i64>],
+    cells: &BackCells,
+    store: &mut Store<P>,
+) -> Result<(), End>
+    ensures { Shows P.Tells (spec.all_copied_back work.now calls (passed_list work.now passed.now) cells.now) result store.old store.new }
+{
+    let rest = behind(passed, cells.before);
+    copied_behind(work, calls, rest, cells.lists.as_slice(), store)
+}
+
+// the actual parameters behind so many
+fn behind(passed: &[Passed], count: usize) -> &[Passed]
+    ensures { result.now ≡ drop count passed.now }
+{
+    if count <= passed.len() {
+        &passed[count..]
+    } else {
+        &passed[passed.len()..]
+    }
+}
+
+#[tactic(auto, unfolding(ada_meaning::specs::Stored::bind, ada_meaning::specs::Stored::ret, ada_meaning::specs::Stored::leaves, ada_meaning::specs::Stored::spent, ada_meaning::specs::Stored::handles, crate::specs::Words::all_copied_back))]
+fn copied_behind<P: Port + Drop>(
+    work: &Work<'_>,
+    calls: u32,
+    passed: &[Passed],
+    cells: &[Cells],
     store: &mut Store<P>,
 ) -> Result<(), End>
     ensures { Shows P.Tells (spec.all_copied_back work.now calls (passed_list work.now passed.now) cells.now) result store.old store.new }
@@ -95,7 +159,7 @@ pub fn all_copied_back<P: Port + Drop>(
             None => Ok(()),
             Some((values, others)) => {
                 copied_back(work, calls, first.back, values.as_slice(), store)?;
-                all_copied_back(work, calls, rest, others, store)?;
+                copied_behind(work, calls, rest, others, store)?;
                 Ok(())
             }
         },

@@ -4,6 +4,8 @@ ghost use Rattle.std.specs.Prelude.{◌≡◌, ◌∷◌, ◌++◌, []};
 ghost use Rattle.run_store.specs.Shows.{OrNoMemory};
 ghost use Rattle.run_parts.specs.Passing.{passed_of, passed_list};
 
+use crate::copies::BackCells;
+use crate::held::Cells;
 use crate::work::Work;
 use ada_base::Items;
 use ada_typed::{Check, Scalar};
@@ -28,7 +30,7 @@ pub struct Back {
 #[derive(Drop)]
 pub struct Passed {
     pub formal: Object,
-    pub cells: Items<i64>,
+    pub cells: Cells,
     pub back: Option<Back>,
 }
 
@@ -36,7 +38,7 @@ pub struct Passed {
 #[derive(Drop)]
 pub struct Returned {
     pub value: i64,
-    pub cells: Items<Items<i64>>,
+    pub cells: BackCells,
 }
 
 /// One more actual parameter.
