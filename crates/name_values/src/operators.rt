@@ -111,7 +111,6 @@ fn static_operation(
     }
 }
 
-/// A static value in place of the latest part.
 /// An operation on two operands that take these types, the first of which its result has.
 #[tactic(auto, unfolding(name_rules::specs::Operators::operation_on))]
 pub fn operation_on(
@@ -307,6 +306,8 @@ fn operation(
     }
 }
 
+/// An operator on two numbers (4.5.3, 4.5.5), either of which may have a fault: WrongType at the operator, or at a string
+/// that stands before it.
 #[tactic(auto, unfolding(name_rules::specs::Operators::binary))]
 pub fn binary(
     log: &mut Log,
@@ -395,6 +396,7 @@ fn power_to(
     universal_power(log, out, at, base, exponent)
 }
 
+/// `**` (4.5.6), of a number and an Integer, either of which may have a fault: WrongType at the operator.
 #[tactic(auto, unfolding(name_rules::specs::Operators::power))]
 pub fn power(
     log: &mut Log,
