@@ -55,7 +55,7 @@ pub fn takes_in(log: &Log, out: &Parts, number: u32) -> Result<Items<Taken>, All
 {
     let mut all = Items::new(out.alloc());
     match log.profiles.get(number as usize) {
-        Some(profile) => all.extend(profile.takes.as_slice())?,
+        Some(profile) => attempt!(all.extend(profile.takes.as_slice())),
         None => (),
     }
     Ok(all)
@@ -89,9 +89,9 @@ fn scalar_actual(
 ) -> Result<(), AllocError>
     ensures { OnOk result (parts out.new ≡ spec.scalar_actual taken inside place (selections_of (top (parts out.old))) outside ∷ pop (parts out.old)) }
 {
-    out.turn()?;
-    out.scalar(typed_scalar(inside))?;
-    out.scalar(typed_scalar(outside))?;
+    attempt!(out.turn());
+    attempt!(out.scalar(typed_scalar(inside)));
+    attempt!(out.scalar(typed_scalar(outside)));
     if is_out(taken.mode) {
         out.actual_out(taken.object, place.first, place.root)
     } else {
@@ -107,7 +107,7 @@ fn composite_actual(
 ) -> Result<(), AllocError>
     ensures { OnOk result (parts out.new ≡ spec.composite_actual taken place (selections_of (top (parts out.old))) number ∷ pop (parts out.old)) }
 {
-    out.turn()?;
+    attempt!(out.turn());
     if is_out(taken.mode) {
         out.composite_out(taken.object, place.first, place.root, number)
     } else {
@@ -128,14 +128,14 @@ fn place_given(
             if !same(inside.kind, outside.kind) {
                 return not_given(log, out, place.first, Rule::WrongType);
             }
-            scalar_actual(out, taken, inside, place, outside)?;
+            attempt!(scalar_actual(out, taken, inside, place, outside));
             Ok(true)
         }
         (Subtype::Composite(number), Subtype::Composite(own)) => {
             if number != own {
                 return not_given(log, out, place.first, Rule::WrongType);
             }
-            composite_actual(out, taken, place, number)?;
+            attempt!(composite_actual(out, taken, place, number));
             Ok(true)
         }
         _ => not_given(log, out, place.first, Rule::WrongType),
@@ -181,7 +181,7 @@ fn found_or_unknown(
     match index {
         Some(i) => Ok(Some(i)),
         None => {
-            breaks(log, name, Rule::Unknown)?;
+            attempt!(breaks(log, name, Rule::Unknown));
             Ok(None)
         }
     }
@@ -235,7 +235,7 @@ pub fn given_once(
         None => Ok(()),
         Some(i) => {
             if is_given(&calling.taken, i) {
-                breaks(log, first, Rule::Twice)?;
+                attempt!(breaks(log, first, Rule::Twice));
             }
             Ok(())
         }
@@ -272,7 +272,7 @@ pub fn with_actual(
                 out.leave_out();
                 return Ok(false);
             }
-            out.also()?;
+            attempt!(out.also());
             Ok(true)
         }
     }
@@ -303,7 +303,7 @@ pub fn next(
         return Err(AllocError);
     }
     if let Some(i) = index {
-        calling.taken.push(i)?;
+        attempt!(calling.taken.push(i));
     }
     calling.late = late_at(calling.late, calling.named, formal, first);
     calling.named = calling.named || formal.is_some();
@@ -348,14 +348,14 @@ pub fn call_given(
     ensures { Judges (some (spec.call_given first last number gives (top (parts out.old))) log.now) (pop (parts out.old)) result log.now (parts out.new) }
 {
     let _log = log;
-    out.turn()?;
+    attempt!(out.turn());
     match gives {
         None => {
-            out.call_procedure(first, last, number)?;
+            attempt!(out.call_procedure(first, last, number));
             Ok(Some(Denoted::Done { first }))
         }
         Some(scalar) => {
-            out.call(first, last, number)?;
+            attempt!(out.call(first, last, number));
             Ok(Some(Denoted::Value(Found::Scalar {
                 first,
                 kind: scalar.kind,

@@ -87,16 +87,18 @@ fn covered_by(
     ensures { Covers (spec.covered_by (as_covering covering.old) (as_choosing choosing.old (top (parts out.now))) chosen.at chosen.low chosen.high log.old) (pop (parts out.now)) result log.new covering.new choosing.new (parts out.now) }
 {
     let _out = out;
-    choosing.spans.push(Span {
-        low: chosen.low,
-        high: chosen.high,
-    })?;
+    attempt!(
+        choosing.spans.push(Span {
+            low: chosen.low,
+            high: chosen.high,
+        })
+    );
     if !(chosen.low <= chosen.high) {
         return Ok(());
     }
     let twice = overlaps(chosen.low, chosen.high, &covering.ranges);
     covering.faulty = covering.faulty || twice;
-    covering.ranges.push((chosen.low, chosen.high))?;
+    attempt!(covering.ranges.push((chosen.low, chosen.high)));
     if twice {
         return breaks(log, chosen.at, Rule::StaticRange);
     }
@@ -120,7 +122,7 @@ pub fn maybe_covered(
             Ok(())
         }
         Some(chosen) => {
-            also_all(out)?;
+            attempt!(also_all(out));
             covered_by(log, out, covering, choosing, chosen)
         }
     }
@@ -205,9 +207,9 @@ fn spans_part(out: &mut Parts, spans: Items<Span>) -> Result<(), AllocError>
     ensures { OnOk result ((as_spans (top (parts out.new)) ≡ spans) × (pop (parts out.new) ≡ parts out.old)) }
 {
     let mut left = spans;
-    out.nothing()?;
+    attempt!(out.nothing());
     'each: while let Some(span) = left.pop() {
-        out.also_leaf(Leaf::Span(span))?;
+        attempt!(out.also_leaf(Leaf::Span(span)));
     }
     Ok(())
 }
@@ -216,7 +218,7 @@ fn spans_part(out: &mut Parts, spans: Items<Span>) -> Result<(), AllocError>
 pub fn choices_part(out: &mut Parts, choosing: Choosing) -> Result<(), AllocError>
     ensures { OnOk result ((as_spans (second (parts out.new)) ≡ choosing.spans) × (top (parts out.new) ≡ turned (top (parts out.old))) × (pop (pop (parts out.new)) ≡ pop (parts out.old))) }
 {
-    out.turn()?;
-    spans_part(out, choosing.spans)?;
+    attempt!(out.turn());
+    attempt!(spans_part(out, choosing.spans));
     out.swap()
 }

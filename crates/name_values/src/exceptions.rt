@@ -73,7 +73,7 @@ fn pack_from(
     let mut d = denoted;
     let mut next = more;
     'identifiers: while let Some(cell) = tree.cell(next) {
-        d = field_where(names, here, log, out, d, tree, cell.first)?;
+        d = attempt!(field_where(names, here, log, out, d, tree, cell.first));
         next = cell.rest;
     }
     Ok(d)
@@ -85,7 +85,7 @@ fn as_exception(log: &mut Log, denoted: Denoted) -> Result<Option<Reason>, Alloc
     match denoted {
         Denoted::Exception { reason, .. } => Ok(Some(reason)),
         _ => {
-            breaks(log, denoted_first(denoted), Rule::WrongType)?;
+            attempt!(breaks(log, denoted_first(denoted), Rule::WrongType));
             Ok(None)
         }
     }
@@ -104,8 +104,8 @@ pub fn exception(
     ensures { Says (spec.exception names.now here.now (the_pack (part_at tree.now.nodes id)) log.old) result log.new × OnOk result (parts out.new ≡ parts out.old) }
 {
     let pack = tree.pack(id);
-    let d = stands_for(names, here, log, out, pack.first)?;
-    let e = pack_from(names, here, log, out, d, tree, pack.more)?;
+    let d = attempt!(stands_for(names, here, log, out, pack.first));
+    let e = attempt!(pack_from(names, here, log, out, d, tree, pack.more));
     out.leave_out();
     match e {
         Some(denoted) => as_exception(log, denoted),

@@ -70,10 +70,10 @@ fn named_once(
         None => Ok(false),
         Some(reason) => {
             let twice = is_named(reason, seen);
-            seen.push(reason)?;
-            named.push(reason)?;
+            attempt!(seen.push(reason));
+            attempt!(named.push(reason));
             if twice {
-                breaks(log, first, Rule::Twice)?;
+                attempt!(breaks(log, first, Rule::Twice));
                 return Ok(whole);
             }
             Ok(whole)
@@ -94,7 +94,7 @@ fn next_named(
 ) -> Result<bool, AllocError>
     ensures { NamesOnce (named_next names.now here.now (as_naming seen.old whole named.old) (the_pack (part_at tree.now.nodes id)) log.old) result log.new seen.new named.new × OnOk result (parts out.new ≡ parts out.old) }
 {
-    let reason = exception(names, here, log, out, tree, id)?;
+    let reason = attempt!(exception(names, here, log, out, tree, id));
     let first = tree.pack(id).first;
     named_once(log, seen, named, whole, first, reason)
 }
@@ -115,7 +115,7 @@ fn named_reasons(
     let mut all = whole;
     let mut next = more;
     'packs: while let Some(cell) = tree.cell(next) {
-        all = next_named(names, here, log, out, seen, named, all, tree, cell.first)?;
+        all = attempt!(next_named(names, here, log, out, seen, named, all, tree, cell.first));
         next = cell.rest;
     }
     Ok(all)
@@ -127,9 +127,9 @@ fn reasons_part(out: &mut Parts, reasons: Items<Reason>) -> Result<(), AllocErro
     ensures { OnOk result ((as_reasons (top (parts out.new)) ≡ reasons) × (pop (parts out.new) ≡ parts out.old)) }
 {
     let mut left = reasons;
-    out.nothing()?;
+    attempt!(out.nothing());
     'each: while let Some(reason) = left.pop() {
-        out.also_leaf(Leaf::Reason(reason))?;
+        attempt!(out.also_leaf(Leaf::Reason(reason)));
     }
     Ok(())
 }
@@ -147,9 +147,9 @@ fn these_handled(
     ensures { Handles (these_handled_by names.now here.now (reverse seen.old) (the_pack (part_at tree.now.nodes first) ∷ the_packs (part_at tree.now.nodes more)) log.old) (parts out.old) result log.new seen.new (parts out.new) }
 {
     let mut named = Items::new(out.alloc());
-    let whole = next_named(names, here, log, out, seen, &mut named, true, tree, first)?;
-    let whole = named_reasons(names, here, log, out, seen, &mut named, whole, tree, more)?;
-    reasons_part(out, named)?;
+    let whole = attempt!(next_named(names, here, log, out, seen, &mut named, true, tree, first));
+    let whole = attempt!(named_reasons(names, here, log, out, seen, &mut named, whole, tree, more));
+    attempt!(reasons_part(out, named));
     if whole {
         Ok(Handling::Reasons)
     } else {
@@ -174,11 +174,11 @@ pub fn handled_by(
 {
     match tree.handled(id) {
         Handled::AnyOther(at) => {
-            out.nothing()?;
+            attempt!(out.nothing());
             if last {
                 return Ok(Handling::Others);
             }
-            breaks(log, at, Rule::StaticRange)?;
+            attempt!(breaks(log, at, Rule::StaticRange));
             Ok(Handling::Others)
         }
         Handled::These { first, more } => {

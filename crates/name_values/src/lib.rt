@@ -3,6 +3,17 @@
 //! latest one, and writes the faults in the order of the text.
 #![tactic(auto)]
 
+/// What a call gave; where that is an Err, it is what the function gives.
+#[macro_export]
+macro_rules! attempt {
+    ($given:expr) => {
+        match $given {
+            Ok(found) => found,
+            Err(error) => return Err(error),
+        }
+    };
+}
+
 pub mod actuals;
 pub mod arrays;
 pub mod bounds;

@@ -25,7 +25,7 @@ pub fn no_part(log: &mut Log, out: &Parts, at: u32, rule: Rule) -> Result<Option
     ensures { Judges (fault at rule log.old) (pop (parts out.now)) result log.new (parts out.now) }
 {
     let _out = out;
-    breaks(log, at, rule)?;
+    attempt!(breaks(log, at, rule));
     Ok(None)
 }
 
@@ -39,7 +39,7 @@ pub fn no_parts(
     ensures { Judges (fault at rule log.old) (pop (pop (parts out.old))) result log.new (parts out.new) }
 {
     out.leave_out();
-    breaks(log, at, rule)?;
+    attempt!(breaks(log, at, rule));
     Ok(None)
 }
 
@@ -48,7 +48,7 @@ pub fn not_given(log: &mut Log, out: &Parts, at: u32, rule: Rule) -> Result<bool
     ensures { Gives (fault at rule log.old) (pop (parts out.now)) result log.new (parts out.now) }
 {
     let _out = out;
-    breaks(log, at, rule)?;
+    attempt!(breaks(log, at, rule));
     Ok(false)
 }
 
@@ -65,6 +65,6 @@ pub fn cleared(out: &mut Parts) -> Result<(), AllocError>
 pub fn also_all(out: &mut Parts) -> Result<(), AllocError>
     ensures { OnOk result (parts out.new ≡ also_all (second (parts out.old)) (top (parts out.old)) ∷ pop (pop (parts out.old))) }
 {
-    out.turn()?;
+    attempt!(out.turn());
     out.also_all()
 }

@@ -63,7 +63,7 @@ pub fn wrong_name(
     ensures { Judges (fault at rule log.old) (pop (parts out.now)) result log.new (parts out.now) }
 {
     let _out = out;
-    breaks(log, at, rule)?;
+    attempt!(breaks(log, at, rule));
     Ok(None)
 }
 
@@ -144,7 +144,7 @@ fn selected_field(out: &mut Parts, place: usize, offset: u64) -> Result<(), Allo
     if place > 4_294_967_295 || offset > 4_294_967_295 {
         return Err(AllocError);
     }
-    out.field(place as u32, offset as u32)?;
+    attempt!(out.field(place as u32, offset as u32));
     out.also()
 }
 

@@ -36,8 +36,8 @@ pub fn with_operand(
         out.leave_out();
         return Ok(false);
     }
-    operands.push(given)?;
-    out.also()?;
+    attempt!(operands.push(given));
+    attempt!(out.also());
     Ok(true)
 }
 
@@ -55,10 +55,10 @@ fn converted(
     if !is_number(given) {
         return wrong_name(log, out, first_of(given), Rule::WrongType);
     }
-    if !settled_found(log, out, given)? {
+    if !attempt!(settled_found(log, out, given)) {
         return Ok(None);
     }
-    out.convert(check_at(first, scalar))?;
+    attempt!(out.convert(check_at(first, scalar)));
     Ok(Some(Denoted::Value(Found::Scalar {
         first,
         kind: scalar.kind,
@@ -81,7 +81,7 @@ pub fn one_operand(
 {
     match operands.as_slice() {
         [given] => {
-            out.apart()?;
+            attempt!(out.apart());
             out.leave_out();
             converted(log, out, first, scalar, *given)
         }

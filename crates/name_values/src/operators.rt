@@ -73,10 +73,10 @@ fn static_universal(
 pub fn both_mentions(out: &mut Parts, left: Found, right: Found) -> Result<(), AllocError>
     ensures { OnOk result (parts out.new ≡ spec.both_mentions (found left (second (parts out.old))) (found right (top (parts out.old))) ∷ pop (pop (parts out.old))) }
 {
-    mentions(out, right)?;
-    out.swap()?;
-    mentions(out, left)?;
-    out.swap()?;
+    attempt!(mentions(out, right));
+    attempt!(out.swap());
+    attempt!(mentions(out, left));
+    attempt!(out.swap());
     also_all(out)
 }
 
@@ -95,9 +95,9 @@ fn static_operation(
 ) -> Result<Option<Found>, AllocError>
     ensures { Judges (spec.static_operation op left_kind right_kind (found left (second (parts out.old))) left_value (found right (top (parts out.old))) right_value log.old) (pop (pop (parts out.old))) result log.new (parts out.new) }
 {
-    both_mentions(out, left, right)?;
-    let fits = fitting(log, left_kind, first_of(left), left_value)?;
-    let also = fitting(log, right_kind, first_of(right), right_value)?;
+    attempt!(both_mentions(out, left, right));
+    let fits = attempt!(fitting(log, left_kind, first_of(left), left_value));
+    let also = attempt!(fitting(log, right_kind, first_of(right), right_value));
     if fits && also {
         static_of(
             log,
@@ -111,7 +111,6 @@ fn static_operation(
     }
 }
 
-/// A static value in place of the latest part.
 /// An operation on two operands that take these types, the first of which its result has.
 #[tactic(auto, unfolding(name_rules::specs::Operators::operation_on))]
 pub fn operation_on(
@@ -126,15 +125,15 @@ pub fn operation_on(
 ) -> Result<Option<Found>, AllocError>
     ensures { Judges (spec.operation_on op at left_kind right_kind (found left (second (parts out.old))) (found right (top (parts out.old))) log.old) (pop (pop (parts out.old))) result log.new (parts out.new) }
 {
-    out.swap()?;
-    let x = asked(log, out, left_kind, left)?;
-    out.swap()?;
-    let y = asked(log, out, right_kind, right)?;
+    attempt!(out.swap());
+    let x = attempt!(asked(log, out, left_kind, left));
+    attempt!(out.swap());
+    let y = attempt!(asked(log, out, right_kind, right));
     if !x || !y {
         out.leave_out();
         return Ok(None);
     }
-    out.binary(at, op, class_of(left_kind))?;
+    attempt!(out.binary(at, op, class_of(left_kind)));
     Ok(Some(Found::Scalar {
         first: first_of(left),
         kind: left_kind,
@@ -216,7 +215,7 @@ pub fn open_of(out: &mut Parts, given: Found) -> Result<Option<Limits>, AllocErr
 {
     match given {
         Found::Universal { first, value, .. } => {
-            leaf(out, first, value)?;
+            attempt!(leaf(out, first, value));
             Ok(Some(leaf_limits(first, value)))
         }
         Found::Open { limits, .. } => Ok(Some(limits)),
@@ -236,15 +235,15 @@ fn open_binary(
     ensures { Judges (pure (spec.open_binary op at (found left (second (parts out.old))) (found right (top (parts out.old)))) log.now) (pop (pop (parts out.old))) result log.now (parts out.new) }
 {
     let _log = log;
-    out.swap()?;
-    let x = open_of(out, left)?;
-    out.swap()?;
-    let y = open_of(out, right)?;
+    attempt!(out.swap());
+    let x = attempt!(open_of(out, left));
+    attempt!(out.swap());
+    let y = attempt!(open_of(out, right));
     let (Some(x), Some(y)) = (x, y) else {
         out.leave_out();
         return Ok(None);
     };
-    out.binary(at, op, Class::Universal)?;
+    attempt!(out.binary(at, op, Class::Universal));
     Ok(Some(Found::Open {
         first: first_of(left),
         limits: joint(x, y),
@@ -263,7 +262,7 @@ fn universal_operation(
     ensures { Judges (spec.universal_operation op at (found left (second (parts out.old))) (found right (top (parts out.old))) log.old) (pop (pop (parts out.old))) result log.new (parts out.new) }
 {
     if let (Some(u), Some(v)) = (value_of(left), value_of(right)) {
-        both_mentions(out, left, right)?;
+        attempt!(both_mentions(out, left, right));
         return static_universal(log, out, first_of(left), exact(op, u, v));
     }
     open_binary(log, out, op, at, left, right)
@@ -307,6 +306,8 @@ fn operation(
     }
 }
 
+/// An operator on two numbers (4.5.3, 4.5.5), either of which may have a fault: WrongType at the operator, or at a string
+/// that stands before it.
 #[tactic(auto, unfolding(name_rules::specs::Operators::binary))]
 pub fn binary(
     log: &mut Log,
@@ -335,18 +336,18 @@ fn universal_power(
 ) -> Result<Option<Found>, AllocError>
     ensures { Judges (spec.universal_power at (found base (second (parts out.old))) (found exponent (top (parts out.old))) log.old) (pop (pop (parts out.old))) result log.new (parts out.new) }
 {
-    if !asked(log, out, Kind::Integer, exponent)? {
+    if !attempt!(asked(log, out, Kind::Integer, exponent)) {
         out.leave_out();
         return Ok(None);
     }
-    out.swap()?;
-    let x = open_of(out, base)?;
-    out.swap()?;
+    attempt!(out.swap());
+    let x = attempt!(open_of(out, base));
+    attempt!(out.swap());
     let Some(limits) = x else {
         out.leave_out();
         return Ok(None);
     };
-    out.binary(at, Op::Pow, Class::Universal)?;
+    attempt!(out.binary(at, Op::Pow, Class::Universal));
     Ok(Some(Found::Open {
         first: first_of(base),
         limits,
@@ -364,8 +365,8 @@ fn static_power(
 ) -> Result<Option<Found>, AllocError>
     ensures { Judges (spec.static_power (found base (second (parts out.old))) base_value (found exponent (top (parts out.old))) exponent_value log.old) (pop (pop (parts out.old))) result log.new (parts out.new) }
 {
-    both_mentions(out, base, exponent)?;
-    if fitting(log, Kind::Integer, first_of(exponent), exponent_value)? {
+    attempt!(both_mentions(out, base, exponent));
+    if attempt!(fitting(log, Kind::Integer, first_of(exponent), exponent_value)) {
         static_universal(
             log,
             out,
@@ -395,6 +396,7 @@ fn power_to(
     universal_power(log, out, at, base, exponent)
 }
 
+/// `**` (4.5.6), of a number and an Integer, either of which may have a fault: WrongType at the operator.
 #[tactic(auto, unfolding(name_rules::specs::Operators::power))]
 pub fn power(
     log: &mut Log,
@@ -428,10 +430,10 @@ fn unary_open(
     if let Some(value) = value_of(operand) {
         return static_universal(log, out, at, signed(sign, value));
     }
-    let Some(limits) = open_of(out, operand)? else {
+    let Some(limits) = attempt!(open_of(out, operand)) else {
         return Ok(None);
     };
-    out.unary(at, sign, Class::Universal)?;
+    attempt!(out.unary(at, sign, Class::Universal));
     Ok(Some(Found::Open { first: at, limits }))
 }
 
@@ -446,15 +448,15 @@ fn unary_typed(
     ensures { Judges (spec.unary_typed sign at kind (found operand (top (parts out.old))) (values.value_of operand) log.old) (pop (parts out.old)) result log.new (parts out.new) }
 {
     if let Some(value) = value_of(operand) {
-        if fitting(log, kind, first_of(operand), value)? {
+        if attempt!(fitting(log, kind, first_of(operand), value)) {
             return static_of(log, out, at, kind, signed(sign, value));
         }
         return Ok(None);
     }
-    if !asked(log, out, kind, operand)? {
+    if !attempt!(asked(log, out, kind, operand)) {
         return Ok(None);
     }
-    out.unary(at, sign, class_of(kind))?;
+    attempt!(out.unary(at, sign, class_of(kind)));
     Ok(Some(Found::Scalar {
         first: at,
         kind,
@@ -501,7 +503,7 @@ fn plain_open(
             literal: false,
         }));
     }
-    match open_of(out, operand)? {
+    match attempt!(open_of(out, operand)) {
         None => Ok(None),
         Some(limits) => Ok(Some(Found::Open { first: at, limits })),
     }
@@ -519,7 +521,7 @@ fn plain_typed(
     if let Some(value) = value_of(operand) {
         return static_of(log, out, at, kind, Some(value));
     }
-    if asked(log, out, kind, operand)? {
+    if attempt!(asked(log, out, kind, operand)) {
         Ok(Some(Found::Scalar {
             first: at,
             kind,

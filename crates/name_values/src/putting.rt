@@ -67,8 +67,8 @@ fn text_call(
     }
     match given {
         Found::Text { .. } => {
-            out.turn()?;
-            out.put_pieces(first, last, line)?;
+            attempt!(out.turn());
+            attempt!(out.put_pieces(first, last, line));
             Ok(Some(Denoted::Done { first }))
         }
         _ => wrong_name(log, out, first_of(given), Rule::WrongType),
@@ -86,8 +86,8 @@ pub fn static_of_kind(
 ) -> Result<Option<i128>, AllocError>
     ensures { Says (values.static_of_kind kind (found given (top (parts out.old))) log.old) result log.new × OnOk result ((top (parts out.new) ≡ top (parts out.old)) × (pop (parts out.new) ≡ pop (parts out.old))) }
 {
-    out.again()?;
-    let fits = asked(log, out, kind, given)?;
+    attempt!(out.again());
+    let fits = attempt!(asked(log, out, kind, given));
     out.leave_out();
     if fits {
         static_value(log, first_of(given), value_of(given))
@@ -100,8 +100,8 @@ fn in_width(log: &mut Log, out: &mut Parts, given: Found, value: i128) -> Result
     ensures { Gives (spec.in_width (found given (top (parts out.old))) value log.old) (pop (parts out.old)) result log.new (parts out.new) }
 {
     if 0 <= value && value <= 255 {
-        mentions(out, given)?;
-        literal(out, first_of(given), value as i64, false)?;
+        attempt!(mentions(out, given));
+        attempt!(literal(out, first_of(given), value as i64, false));
         Ok(true)
     } else {
         not_given(log, out, first_of(given), Rule::StaticRange)
@@ -113,7 +113,7 @@ fn in_width(log: &mut Log, out: &mut Parts, given: Found, value: i128) -> Result
 pub fn width_of(log: &mut Log, out: &mut Parts, given: Found) -> Result<bool, AllocError>
     ensures { Gives (spec.width_of (found given (top (parts out.old))) log.old) (pop (parts out.old)) result log.new (parts out.new) }
 {
-    match static_of_kind(log, out, Kind::Integer, given)? {
+    match attempt!(static_of_kind(log, out, Kind::Integer, given)) {
         Some(value) => in_width(log, out, given, value),
         None => Ok(false),
     }
@@ -166,7 +166,7 @@ pub fn once(log: &mut Log, has_width: bool, first: u32) -> Result<(), AllocError
     ensures { Says (unless (not has_width) first Twice log.old) result log.new }
 {
     if has_width {
-        breaks(log, first, Rule::Twice)?;
+        attempt!(breaks(log, first, Rule::Twice));
     }
     Ok(())
 }
@@ -178,7 +178,7 @@ pub fn with_width(out: &mut Parts, putting: &mut Putting, width: bool) -> Result
     if putting.count == usize::MAX {
         return Err(AllocError);
     }
-    out.swap()?;
+    attempt!(out.swap());
     out.leave_out();
     putting.count += 1;
     putting.has_width = true;
@@ -204,8 +204,8 @@ fn width_or(out: &mut Parts, first: u32, putting: Putting) -> Result<bool, Alloc
     if putting.has_width {
         return Ok(putting.width);
     }
-    cleared(out)?;
-    literal(out, first, 11, false)?;
+    attempt!(cleared(out));
+    attempt!(literal(out, first, 11, false));
     Ok(true)
 }
 
@@ -213,9 +213,9 @@ fn width_or(out: &mut Parts, first: u32, putting: Putting) -> Result<bool, Alloc
 fn put_number(out: &mut Parts, first: u32, last: u32) -> Result<(), AllocError>
     ensures { OnOk result (parts out.new ≡ (spec.put_number first last (second (parts out.old)) (top (parts out.old))).part ∷ pop (pop (parts out.old))) }
 {
-    out.piece_padded(Class::Integer(Base::Narrow))?;
-    out.nothing()?;
-    out.before()?;
+    attempt!(out.piece_padded(Class::Integer(Base::Narrow)));
+    attempt!(out.nothing());
+    attempt!(out.before());
     out.put_pieces(first, last, false)
 }
 
@@ -234,12 +234,12 @@ pub fn put_complete(
         out.leave_out();
         return wrong_name(log, out, at, Rule::WrongType);
     }
-    let width = width_or(out, first, putting)?;
+    let width = attempt!(width_or(out, first, putting));
     if !putting.item || !width {
         out.leave_out();
         return Ok(None);
     }
-    put_number(out, first, last)?;
+    attempt!(put_number(out, first, last));
     Ok(Some(Denoted::Done { first }))
 }
 
@@ -302,8 +302,8 @@ fn get_place(
             if !(place.variable && same(scalar.kind, Kind::Integer)) {
                 return wrong_name(log, out, place.first, Rule::WrongType);
             }
-            out.turn()?;
-            out.get(first, last, place.first, place.root, typed_scalar(scalar))?;
+            attempt!(out.turn());
+            attempt!(out.get(first, last, place.first, place.root, typed_scalar(scalar)));
             Ok(Some(Denoted::Done { first }))
         }
         Subtype::Composite(_) => wrong_name(log, out, place.first, Rule::WrongType),
@@ -395,10 +395,10 @@ pub fn without_arguments(
 ) -> Result<Option<Denoted>, AllocError>
     ensures { Judges (spec.without_arguments at first last put log.old) (parts out.old) result log.new (parts out.new) }
 {
-    out.nothing()?;
+    attempt!(out.nothing());
     match put {
         Put::NewLine => {
-            out.put_pieces(first, last, true)?;
+            attempt!(out.put_pieces(first, last, true));
             Ok(Some(Denoted::Done { first }))
         }
         _ => wrong_name(log, out, at, Rule::WrongType),

@@ -33,7 +33,7 @@ use typed_parts::Parts;
 pub fn no_folding(log: &mut Log, at: u32) -> Result<Option<Folding>, AllocError>
     ensures { Says (fault at ReduceRule log.old) result log.new }
 {
-    breaks(log, at, Rule::ReduceRule)?;
+    attempt!(breaks(log, at, Rule::ReduceRule));
     Ok(None)
 }
 
@@ -107,8 +107,8 @@ fn reducer(out: &mut Parts, reducer: Reducer) -> Result<(), AllocError>
             accumulator,
             value,
         } => {
-            out.scalar(accumulator)?;
-            out.scalar(value)?;
+            attempt!(out.scalar(accumulator));
+            attempt!(out.scalar(value));
             out.fold_function(at, sub)
         }
     }
@@ -118,8 +118,8 @@ fn reducer(out: &mut Parts, reducer: Reducer) -> Result<(), AllocError>
 fn reduction(out: &mut Parts, going: Going, by: Reducer) -> Result<(), AllocError>
     ensures { OnOk result (parts out.new ≡ part.AnExpr (spec.reduction going (fourth (parts out.old)) (third (parts out.old)) by (second (parts out.old)) (top (parts out.old))) ∷ pop (pop (pop (pop (parts out.old))))) }
 {
-    reducer(out, by)?;
-    out.swap()?;
+    attempt!(reducer(out, by));
+    attempt!(out.swap());
     out.reduction(going.at, going.attribute, going.site)
 }
 
@@ -154,15 +154,15 @@ fn reduced(
 ) -> Result<Option<Found>, AllocError>
     ensures { Judges (spec.reduced going (fourth (parts out.old)) (third (parts out.old)) kind own by (found value (second (parts out.old))) (found initial (top (parts out.old))) log.old) (pop (pop (pop (pop (parts out.old))))) result log.new (parts out.new) }
 {
-    out.swap()?;
-    let x = asked(log, out, kind, value)?;
-    out.swap()?;
-    let v = asked(log, out, own, initial)?;
+    attempt!(out.swap());
+    let x = attempt!(asked(log, out, kind, value));
+    attempt!(out.swap());
+    let v = attempt!(asked(log, out, own, initial));
     if !x || !v {
         not_reduced(out);
         return Ok(None);
     }
-    reduction(out, going, by)?;
+    attempt!(reduction(out, going, by));
     Ok(Some(Found::Scalar {
         first: going.at,
         kind: own,
@@ -182,15 +182,15 @@ fn open_reduction(
     ensures { Judges (pure (joined (spec.open_reduction going (fourth (parts out.old)) (third (parts out.old)) at op) (operators.open_of (found value (second (parts out.old)))) (operators.open_of (found initial (top (parts out.old))))) log.now) (pop (pop (pop (pop (parts out.old))))) result log.now (parts out.new) }
 {
     let _log = log;
-    out.swap()?;
-    let x = open_of(out, value)?;
-    out.swap()?;
-    let v = open_of(out, initial)?;
+    attempt!(out.swap());
+    let x = attempt!(open_of(out, value));
+    attempt!(out.swap());
+    let v = attempt!(open_of(out, initial));
     let (Some(x), Some(v)) = (x, v) else {
         not_reduced(out);
         return Ok(None);
     };
-    reduction(
+    attempt!(reduction(
         out,
         going,
         Reducer::Operator {
@@ -198,7 +198,7 @@ fn open_reduction(
             op,
             class: Class::Universal,
         },
-    )?;
+    ));
     Ok(Some(Found::Open {
         first: going.at,
         limits: joint(x, v),

@@ -36,10 +36,10 @@ pub fn not_of(
     if !is_kind(Kind::Boolean, kind_of(operand)) {
         return no_part(log, out, at, Rule::WrongType);
     }
-    if !asked(log, out, Kind::Boolean, operand)? {
+    if !attempt!(asked(log, out, Kind::Boolean, operand)) {
         return Ok(None);
     }
-    out.unary(at, Sign::Not, Class::Boolean)?;
+    attempt!(out.unary(at, Sign::Not, Class::Boolean));
     Ok(Some(Found::Scalar {
         first: at,
         kind: Kind::Boolean,
@@ -64,7 +64,7 @@ pub fn joined_text(
     };
     match (left, right) {
         (Found::Text { first }, Found::Text { .. }) => {
-            also_all(out)?;
+            attempt!(also_all(out));
             Ok(Some(Found::Text { first }))
         }
         _ => no_parts(log, out, at, Rule::WrongType),
@@ -105,15 +105,15 @@ fn compared_at(
 ) -> Result<Option<Found>, AllocError>
     ensures { Judges (spec.compared_at kind comparison (found left (second (parts out.old))) (found right (top (parts out.old))) log.old) (pop (pop (parts out.old))) result log.new (parts out.new) }
 {
-    out.swap()?;
-    let x = asked(log, out, kind, left)?;
-    out.swap()?;
-    let y = asked(log, out, kind, right)?;
+    attempt!(out.swap());
+    let x = attempt!(asked(log, out, kind, left));
+    attempt!(out.swap());
+    let y = attempt!(asked(log, out, kind, right));
     if !x || !y {
         out.leave_out();
         return Ok(None);
     }
-    out.relation(class_of(kind), comparison)?;
+    attempt!(out.relation(class_of(kind), comparison));
     Ok(Some(Found::Scalar {
         first: first_of(left),
         kind: Kind::Boolean,
@@ -186,18 +186,18 @@ fn within_bounds(
     if !suits(kind, value) {
         return none_of_three(log, out, at, Rule::WrongType);
     }
-    out.rotate()?;
-    let x = asked(log, out, kind, value)?;
-    out.rotate()?;
-    let l = asked(log, out, kind, low)?;
-    out.rotate()?;
-    let h = asked(log, out, kind, high)?;
+    attempt!(out.rotate());
+    let x = attempt!(asked(log, out, kind, value));
+    attempt!(out.rotate());
+    let l = attempt!(asked(log, out, kind, low));
+    attempt!(out.rotate());
+    let h = attempt!(asked(log, out, kind, high));
     if !x || !l || !h {
         out.leave_out();
         out.leave_out();
         return Ok(None);
     }
-    out.membership(class_of(kind), negated)?;
+    attempt!(out.membership(class_of(kind), negated));
     Ok(Some(Found::Scalar {
         first: first_of(value),
         kind: Kind::Boolean,
@@ -279,14 +279,14 @@ pub fn of_subtype(
     if !suits(scalar.kind, value) {
         return no_part(log, out, at, Rule::WrongType);
     }
-    if !asked(log, out, scalar.kind, value)? {
+    if !attempt!(asked(log, out, scalar.kind, value)) {
         return Ok(None);
     }
-    out.nothing()?;
-    out.static_value(mark, scalar.low, false)?;
-    out.nothing()?;
-    out.static_value(mark, scalar.high, false)?;
-    out.membership(class_of(scalar.kind), negated)?;
+    attempt!(out.nothing());
+    attempt!(out.static_value(mark, scalar.low, false));
+    attempt!(out.nothing());
+    attempt!(out.static_value(mark, scalar.high, false));
+    attempt!(out.membership(class_of(scalar.kind), negated));
     Ok(Some(Found::Scalar {
         first: first_of(value),
         kind: Kind::Boolean,

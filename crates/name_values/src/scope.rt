@@ -92,8 +92,8 @@ pub fn no_name(
 ) -> Result<Option<Denoted>, AllocError>
     ensures { Judges (fault at rule log.old) (parts out.old) result log.new (parts out.new) }
 {
-    out.nothing()?;
-    breaks(log, at, rule)?;
+    attempt!(out.nothing());
+    attempt!(breaks(log, at, rule));
     Ok(None)
 }
 
@@ -102,7 +102,7 @@ pub fn named(log: &Log, out: &mut Parts, denoted: Denoted) -> Result<Option<Deno
     ensures { Judges (spec.named denoted log.now) (parts out.old) result log.now (parts out.new) }
 {
     let _log = log;
-    out.nothing()?;
+    attempt!(out.nothing());
     Ok(Some(denoted))
 }
 
@@ -228,11 +228,11 @@ fn stands(
     let denoted = match what {
         What::Hidden => return no_name(log, out, token, Rule::NotVisible),
         What::Broken => {
-            out.nothing()?;
+            attempt!(out.nothing());
             return Ok(None);
         }
         What::Parameter { number, scalar } => {
-            out.parameter(token, number)?;
+            attempt!(out.parameter(token, number));
             return Ok(Some(Denoted::Parameter { first, scalar }));
         }
         What::Object {
@@ -366,7 +366,7 @@ fn as_type(log: &mut Log, token: u32, denoted: Denoted) -> Result<Option<Subtype
     match denoted {
         Denoted::Type { subtype, .. } => Ok(Some(subtype)),
         _ => {
-            breaks(log, token, Rule::WrongType)?;
+            attempt!(breaks(log, token, Rule::WrongType));
             Ok(None)
         }
     }
@@ -383,7 +383,7 @@ pub fn subtype_named(
 ) -> Result<Option<Subtype>, AllocError>
     ensures { Says (spec.subtype_named names.now here.now token log.old) result log.new × OnOk result (parts out.new ≡ parts out.old) }
 {
-    let denoted = stands_for(names, here, log, out, token)?;
+    let denoted = attempt!(stands_for(names, here, log, out, token));
     out.leave_out();
     match denoted {
         Some(denoted) => as_type(log, token, denoted),
@@ -397,7 +397,7 @@ fn as_scalar(log: &mut Log, token: u32, subtype: Subtype) -> Result<Option<Scala
     match subtype {
         Subtype::Scalar(scalar) => Ok(Some(scalar)),
         Subtype::Composite(_) => {
-            breaks(log, token, Rule::WrongType)?;
+            attempt!(breaks(log, token, Rule::WrongType));
             Ok(None)
         }
     }
@@ -414,7 +414,7 @@ pub fn scalar_named(
 ) -> Result<Option<Scalar>, AllocError>
     ensures { Says (spec.scalar_named names.now here.now token log.old) result log.new × OnOk result (parts out.new ≡ parts out.old) }
 {
-    match subtype_named(names, here, log, out, token)? {
+    match attempt!(subtype_named(names, here, log, out, token)) {
         Some(subtype) => as_scalar(log, token, subtype),
         None => Ok(None),
     }
@@ -433,7 +433,7 @@ pub fn free(
     ensures { Says (spec.free names.now start here.now token log.old) result log.new }
 {
     if is_taken(symbol(names, token), start, here) {
-        breaks(log, token, Rule::Twice)?;
+        attempt!(breaks(log, token, Rule::Twice));
         Ok(None)
     } else {
         Ok(Some(token))
@@ -488,9 +488,9 @@ pub fn declared(
 pub fn copied(here: &Context, out: &Parts) -> Result<Context, AllocError>
     ensures { IfOk result (λ copy. copy ≡ here.now) }
 {
-    let scope = here.scope.copied()?;
+    let scope = attempt!(here.scope.copied());
     let mut loops = Items::new(out.alloc());
-    loops.extend(here.loops.as_slice())?;
+    attempt!(loops.extend(here.loops.as_slice()));
     Ok(Context {
         scope,
         withed: here.withed,

@@ -38,7 +38,7 @@ fn or_breaks(log: &mut Log, holds: bool, at: u32, rule: Rule) -> Result<bool, Al
     if holds {
         return Ok(true);
     }
-    breaks(log, at, rule)?;
+    attempt!(breaks(log, at, rule));
     Ok(false)
 }
 
@@ -122,7 +122,7 @@ fn has_value(log: &mut Log, first: u32, value: Option<i64>) -> Result<Option<i64
     match value {
         Some(value) => Ok(Some(value)),
         None => {
-            breaks(log, first, Rule::NotStatic)?;
+            attempt!(breaks(log, first, Rule::NotStatic));
             Ok(None)
         }
     }
@@ -133,7 +133,7 @@ fn has_value(log: &mut Log, first: u32, value: Option<i64>) -> Result<Option<i64
 fn value_taken(log: &mut Log, kind: Kind, given: Found) -> Result<Option<i64>, AllocError>
     ensures { Says (statics.value_taken kind given log.old) result log.new }
 {
-    if takes(log, kind, given)? {
+    if attempt!(takes(log, kind, given)) {
         has_value(log, first_of(given), value_in(kind, given))
     } else {
         Ok(None)
@@ -148,8 +148,8 @@ fn both_values(
 ) -> Result<Option<Span>, AllocError>
     ensures { Says (statics.both_values kind low high log.old) result log.new }
 {
-    let u = has_value(log, first_of(low), value_in(kind, low))?;
-    let v = has_value(log, first_of(high), value_in(kind, high))?;
+    let u = attempt!(has_value(log, first_of(low), value_in(kind, low)));
+    let v = attempt!(has_value(log, first_of(high), value_in(kind, high)));
     match (u, v) {
         (Some(low), Some(high)) => Ok(Some(Span { low, high })),
         _ => Ok(None),
@@ -166,8 +166,8 @@ pub fn span_taken(
 ) -> Result<Option<Span>, AllocError>
     ensures { Says (statics.span_taken kind low high log.old) result log.new }
 {
-    let x = takes(log, kind, low)?;
-    let y = takes(log, kind, high)?;
+    let x = attempt!(takes(log, kind, low));
+    let y = attempt!(takes(log, kind, high));
     if x && y {
         both_values(log, kind, low, high)
     } else {
@@ -185,7 +185,7 @@ fn no_span(
     ensures { Judges (fault at rule log.old) (pop (pop (parts out.old))) result log.new (parts out.new) }
 {
     out.leave_out();
-    breaks(log, at, rule)?;
+    attempt!(breaks(log, at, rule));
     Ok(None)
 }
 
@@ -205,7 +205,7 @@ fn spanned(
     if must_hold && !(span.low <= span.high) {
         return no_span(log, out, first, Rule::StaticRange);
     }
-    both_mentions(out, low, high)?;
+    attempt!(both_mentions(out, low, high));
     Ok(Some(Dimension {
         kind,
         low: span.low,
@@ -243,8 +243,8 @@ fn inside_span(
 ) -> Result<Option<Dimension>, AllocError>
     ensures { Judges (statics.inside_span first must_hold scalar (found low (second (parts out.old))) (found high (top (parts out.old))) (span.low, span.high) log.old) (pop (pop (parts out.old))) result log.new (parts out.new) }
 {
-    inside_subtype(log, scalar, low, span.low)?;
-    inside_subtype(log, scalar, high, span.high)?;
+    attempt!(inside_subtype(log, scalar, low, span.low));
+    attempt!(inside_subtype(log, scalar, high, span.high));
     if holds_both(scalar, span) {
         return spanned(log, out, first, must_hold, scalar.kind, low, high, span);
     }
@@ -308,7 +308,7 @@ pub fn static_bounds(
     if !(suits(kind, low) && suits(kind, high)) {
         return no_span(log, out, first_of(high), Rule::WrongType);
     }
-    match span_taken(log, kind, low, high)? {
+    match attempt!(span_taken(log, kind, low, high)) {
         None => {
             out.leave_out();
             Ok(None)
@@ -327,7 +327,7 @@ fn static_scalar(
     ensures { Judges (spec.static_scalar first scalar log.old) (pop (parts out.old)) result log.new (parts out.new) }
 {
     out.leave_out();
-    out.nothing()?;
+    attempt!(out.nothing());
     if is_integer(scalar.kind) {
         return Ok(Some(Dimension {
             kind: scalar.kind,
@@ -335,7 +335,7 @@ fn static_scalar(
             high: scalar.high,
         }));
     }
-    breaks(log, first, Rule::WrongType)?;
+    attempt!(breaks(log, first, Rule::WrongType));
     Ok(None)
 }
 
@@ -355,7 +355,7 @@ pub fn static_name(
             ..
         } => static_scalar(log, out, first, scalar),
         _ => {
-            breaks(log, denoted_first(denoted), Rule::WrongType)?;
+            attempt!(breaks(log, denoted_first(denoted), Rule::WrongType));
             Ok(None)
         }
     }
@@ -377,7 +377,7 @@ pub fn static_checked(
     if !is_integer(scalar.kind) {
         return no_span(log, out, first, Rule::WrongType);
     }
-    match span_taken(log, scalar.kind, low, high)? {
+    match attempt!(span_taken(log, scalar.kind, low, high)) {
         None => {
             out.leave_out();
             Ok(None)
@@ -396,10 +396,10 @@ fn one_value(
 ) -> Result<Option<Chosen>, AllocError>
     ensures { statics.Chooses (spec.one_value kind (found given (top (parts out.old))) log.old) (pop (parts out.old)) result log.new (parts out.new) }
 {
-    match value_taken(log, kind, given)? {
+    match attempt!(value_taken(log, kind, given)) {
         None => Ok(None),
         Some(value) => {
-            mentions(out, given)?;
+            attempt!(mentions(out, given));
             Ok(Some(Chosen {
                 at: first_of(given),
                 low: value,
@@ -420,13 +420,13 @@ fn two_values(
 ) -> Result<Option<Chosen>, AllocError>
     ensures { statics.Chooses (spec.two_values kind (found low (second (parts out.old))) (found high (top (parts out.old))) log.old) (pop (pop (parts out.old))) result log.new (parts out.new) }
 {
-    let u = value_taken(log, kind, low)?;
-    let v = value_taken(log, kind, high)?;
+    let u = attempt!(value_taken(log, kind, low));
+    let v = attempt!(value_taken(log, kind, high));
     let (Some(u), Some(v)) = (u, v) else {
         out.leave_out();
         return Ok(None);
     };
-    both_mentions(out, low, high)?;
+    attempt!(both_mentions(out, low, high));
     Ok(Some(Chosen {
         at: first_of(low),
         low: u,

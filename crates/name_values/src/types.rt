@@ -123,7 +123,7 @@ pub fn written_shape(log: &mut Log, shape: Shape) -> Result<u32, AllocError>
     if number > 4_294_967_295 {
         return Err(AllocError);
     }
-    log.shapes.push(shape)?;
+    attempt!(log.shapes.push(shape));
     Ok(number as u32)
 }
 

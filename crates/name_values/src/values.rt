@@ -150,7 +150,7 @@ pub fn mentions(out: &mut Parts, given: Found) -> Result<(), AllocError>
 pub fn literal(out: &mut Parts, first: u32, value: i64, alone: bool) -> Result<(), AllocError>
     ensures { OnOk result (parts out.new ≡ spec.literal first value alone (top (parts out.old)) ∷ pop (parts out.old)) }
 {
-    out.turn()?;
+    attempt!(out.turn());
     out.static_value(first, value, alone)
 }
 
@@ -162,7 +162,7 @@ pub fn fitting(log: &mut Log, kind: Kind, first: u32, value: i128) -> Result<boo
     if in_base(kind, value) {
         return Ok(true);
     }
-    breaks(log, first, Rule::StaticRange)?;
+    attempt!(breaks(log, first, Rule::StaticRange));
     Ok(false)
 }
 
@@ -180,7 +180,7 @@ fn valued(
     if !in_base(kind, value) {
         return not_given(log, out, first, Rule::StaticRange);
     }
-    literal(out, first, value as i64, alone)?;
+    attempt!(literal(out, first, value as i64, alone));
     Ok(true)
 }
 
@@ -201,7 +201,7 @@ fn settled(log: &mut Log, out: &mut Parts, kind: Kind, limits: Limits) -> Result
     match beyond(kind, limits) {
         Some(at) => not_given(log, out, at, Rule::StaticRange),
         None => {
-            out.settle(class_of(kind))?;
+            attempt!(out.settle(class_of(kind)));
             Ok(true)
         }
     }
@@ -211,10 +211,10 @@ fn object_value(out: &mut Parts, place: Place, scalar: Scalar) -> Result<(), All
     ensures { OnOk result (parts out.new ≡ spec.object_value place (selections_of (top (parts out.old))) scalar place.value ∷ pop (parts out.old)) }
 {
     if let Some(value) = place.value {
-        cleared(out)?;
+        attempt!(cleared(out));
         return literal(out, place.first, value, false);
     }
-    out.turn()?;
+    attempt!(out.turn());
     if place.variable {
         out.variable(place.first, place.root, typed_scalar(scalar))
     } else {
@@ -228,7 +228,7 @@ fn place_asked(log: &mut Log, out: &mut Parts, kind: Kind, place: Place) -> Resu
     match place.subtype {
         Subtype::Scalar(scalar) => {
             if same(scalar.kind, kind) {
-                object_value(out, place, scalar)?;
+                attempt!(object_value(out, place, scalar));
                 Ok(true)
             } else {
                 not_given(log, out, place.first, Rule::WrongType)
@@ -269,7 +269,7 @@ pub fn asked(log: &mut Log, out: &mut Parts, kind: Kind, given: Found) -> Result
             value,
         } => {
             if same(own, kind) {
-                literal(out, first, value, false)?;
+                attempt!(literal(out, first, value, false));
                 Ok(true)
             } else {
                 not_given(log, out, first, Rule::WrongType)
@@ -336,7 +336,7 @@ pub fn static_value(
     match value {
         Some(value) => Ok(Some(value)),
         None => {
-            breaks(log, first, Rule::NotStatic)?;
+            attempt!(breaks(log, first, Rule::NotStatic));
             Ok(None)
         }
     }
@@ -350,7 +350,7 @@ pub fn static_integer(log: &mut Log, given: Found) -> Result<Option<i128>, Alloc
     if is_number(given) {
         static_value(log, first_of(given), value_of(given))
     } else {
-        breaks(log, first_of(given), Rule::WrongType)?;
+        attempt!(breaks(log, first_of(given), Rule::WrongType));
         Ok(None)
     }
 }
@@ -364,11 +364,11 @@ fn whole_of(log: &mut Log, out: &mut Parts, number: u32, place: Place) -> Result
             if number != own {
                 return not_given(log, out, place.first, Rule::WrongType);
             }
-            out.turn()?;
+            attempt!(out.turn());
             if place.variable {
-                out.whole_variable(place.first, place.root, own)?;
+                attempt!(out.whole_variable(place.first, place.root, own));
             } else {
-                out.whole_constant(place.first, place.root, own)?;
+                attempt!(out.whole_constant(place.first, place.root, own));
             }
             Ok(true)
         }
@@ -412,17 +412,17 @@ pub fn stored(
 {
     match subtype {
         Subtype::Scalar(scalar) => {
-            if !asked(log, out, scalar.kind, given)? {
+            if !attempt!(asked(log, out, scalar.kind, given)) {
                 return Ok(false);
             }
-            out.number(check_at(at, scalar))?;
+            attempt!(out.number(check_at(at, scalar)));
             Ok(true)
         }
         Subtype::Composite(number) => {
-            if !composite_asked(log, out, number, given)? {
+            if !attempt!(composite_asked(log, out, number, given)) {
                 return Ok(false);
             }
-            out.cells()?;
+            attempt!(out.cells());
             Ok(true)
         }
     }

@@ -110,11 +110,13 @@ pub fn new_site(log: &mut Log, here: &Context, at: u32, kind: SiteKind) -> Resul
     if number > 4_294_967_295 {
         return Err(AllocError);
     }
-    log.sites.push(Site {
-        at,
-        around: here.owner,
-        kind,
-    })?;
+    attempt!(
+        log.sites.push(Site {
+            at,
+            around: here.owner,
+            kind,
+        })
+    );
     Ok(number as u32)
 }
 
@@ -265,7 +267,7 @@ fn no_object(
 ) -> Result<Walked, AllocError>
     ensures { Walks (over_wrong at token (optional_expr (part_at tree.now.nodes) filter) log.old) tree.now.nodes (pop (parts out.now)) result log.new (parts out.now) }
 {
-    breaks(log, at, Rule::WrongType)?;
+    attempt!(breaks(log, at, Rule::WrongType));
     Ok(no_array(out, tree, token, filter))
 }
 
@@ -286,7 +288,7 @@ fn over_place(
             if !is_array(log, subtype) {
                 return no_object(log, out, tree, place.first, token, filter);
             }
-            let components = components_of(log, place, subtype, number)?;
+            let components = attempt!(components_of(log, place, subtype, number));
             Ok(Walked {
                 way: Some(Way::Components(components)),
                 token,
@@ -338,23 +340,23 @@ pub fn filtered(
         out.leave_out();
         return Ok(false);
     }
-    out.swap()?;
+    attempt!(out.swap());
     match way {
         Way::Range {
             parameter,
             reverse,
             check,
         } => {
-            out.apart()?;
-            out.rotate()?;
-            check_part(out, check)?;
-            out.swap()?;
-            out.range(parameter, reverse)?;
+            attempt!(out.apart());
+            attempt!(out.rotate());
+            attempt!(check_part(out, check));
+            attempt!(out.swap());
+            attempt!(out.range(parameter, reverse));
         }
         Way::Components(c) => {
-            out.turn()?;
-            out.swap()?;
-            out.components(
+            attempt!(out.turn());
+            attempt!(out.swap());
+            attempt!(out.components(
                 c.item,
                 c.constant,
                 c.at,
@@ -362,7 +364,7 @@ pub fn filtered(
                 c.count,
                 c.stride,
                 c.dimensions,
-            )?;
+            ));
         }
     }
     Ok(true)
@@ -374,7 +376,7 @@ pub fn counted(log: &Log, out: &mut Parts, given: bool) -> Result<Chunking, Allo
 {
     let _log = log;
     if given {
-        out.chunk_count()?;
+        attempt!(out.chunk_count());
     }
     Ok(Chunking {
         given,
@@ -402,9 +404,9 @@ pub fn chunk_each(
             }),
         });
     };
-    out.apart()?;
-    check_part(out, check_of(bounded))?;
-    out.chunk_each(number)?;
+    attempt!(out.apart());
+    attempt!(check_part(out, check_of(bounded)));
+    attempt!(out.chunk_each(number));
     Ok(Chunking {
         given: true,
         parameter: Some(ChunkParameter {
@@ -435,7 +437,7 @@ fn in_construct(names: &Names, here: &mut Context, construct: Option<u32>) -> Re
     match construct {
         None => Ok(()),
         Some(number) => {
-            here.owner = thread_owner(names, number)?;
+            here.owner = attempt!(thread_owner(names, number));
             Ok(())
         }
     }
@@ -468,7 +470,7 @@ fn with_walked(
     let (_tree, _out) = (tree, out);
     let name = symbol(names, walked.token);
     let twice = is_taken(name, start, here);
-    with_entry(here, name, walked.entry)?;
+    attempt!(with_entry(here, name, walked.entry));
     if twice {
         return breaks(log, walked.token, Rule::Twice);
     }
@@ -490,7 +492,7 @@ pub fn within(
 ) -> Result<(), AllocError>
     ensures { OnOk result (spec.with_walked names.now (spec.with_chunk names.now (spec.in_construct names.now here.old construct) (entry_of parameter)) start (as_walked tree.now.nodes walked (top (parts out.now))) log.old ≡ (here.new, log.new)) }
 {
-    in_construct(names, here, construct)?;
-    with_chunk(names, here, parameter)?;
+    attempt!(in_construct(names, here, construct));
+    attempt!(with_chunk(names, here, parameter));
     with_walked(names, here, log, start, tree, out, walked)
 }
