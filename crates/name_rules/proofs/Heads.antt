@@ -36,17 +36,6 @@ append_one xs x ys = append_assoc xs (x ∷ []) ys
 pub append_none : {A : Type 0} (xs : List A) → xs ++ [] ≡ xs
 append_none xs = append-nil xs
 
--- one more entry of a list goes over to another, and then all did
-pub noted_further : (done more all next : List Entry) (i : ℕ) (e : Entry)
-    → slice_get more i ≡ Some e → next ≡ done ++ e ∷ [] → done ++ drop i more ≡ all → next ++ drop (i + 1) more ≡ all
-noted_further done more all next i e g n w =
-    ap (λ (xs : List Entry). xs ++ drop (i + 1) more) n
-    ∙ (append_one done e (drop (i + 1) more)
-    ∙ (sym (ap (λ (xs : List Entry). done ++ xs) (drop_get more i e g)) ∙ w))
-
-pub noted_all : (done more all : List Entry) (i : ℕ) → slice_get more i ≡ None → done ++ drop i more ≡ all → done ≡ all
-noted_all done more all i g w = sym (append_none done) ∙ (sym (ap (λ (xs : List Entry). done ++ xs) (drop_none more i g)) ∙ w)
-
 abbrev none : List Entry
 none = []
 

@@ -7,10 +7,13 @@ use crate::scope::{Entry, What};
 use ada_base::Items;
 use std::alloc::{AllocError, Global};
 use std::marker::Model;
+use std::mem::replace;
 use std::rc::Rc;
 
-/// How many entries are searched one by one before all are indexed.
-const ROOM: usize = 512;
+/// How many more entries are searched one by one: so many where others share what is indexed, and else so many less.
+const ROOM: usize = 1024;
+
+const SHARED: usize = 960;
 
 /// What a name is declared as last, and at which place of the list.
 #[derive(Clone, Copy)]
@@ -71,6 +74,7 @@ fn noted(
 }
 
 /// More entries, the latest ones, in a list and its table of names.
+#[tactic(auto, using(crate::proofs::Heads::append_one, crate::proofs::Heads::append_none, crate::proofs::Heads::drop_get, crate::proofs::Heads::drop_none, crate::proofs::Heads::drop_less))]
 fn all_noted(
     entries: &mut Items<Entry>,
     heads: &mut Items<Option<Latest>>,
@@ -99,6 +103,18 @@ impl Index {
             entries: Items::new(alloc),
             heads: Items::new(alloc),
         }
+    }
+
+    /// These entries with more behind them.
+    fn with_all(self, more: &Items<Entry>) -> Result<Index, AllocError>
+        ensures { IfOk result (λ index. index ≡ self ++ more.now) }
+    {
+        let Index {
+            mut entries,
+            mut heads,
+        } = self;
+        all_noted(&mut entries, &mut heads, more)?;
+        Ok(Index { entries, heads })
     }
 
     /// A copy of these entries with more behind them.
@@ -175,6 +191,16 @@ fn past(start: usize, before: usize) -> usize
     if start > before { start - before } else { 0 }
 }
 
+/// The entries of an index with more behind them; they are copied where others share them.
+fn joined(alloc: Global, below: Rc<Index>, own: &Items<Entry>) -> Result<Index, AllocError>
+    ensures { IfOk result (λ index. index ≡ below.value ++ own.now) }
+{
+    match Rc::try_unwrap(below) {
+        Ok(index) => index.with_all(own),
+        Err(shared) => shared.as_ref().extended(alloc, own),
+    }
+}
+
 /// A list of entries, the latest last. Its copies share what is indexed.
 #[derive(Drop)]
 pub struct Entries {
@@ -232,16 +258,27 @@ impl Entries {
         })
     }
 
-    /// Indexes all entries, in a copy of what is indexed.
+    /// Indexes all entries.
     #[tactic(auto, using(crate::proofs::Heads::append_none))]
     fn seal(&mut self) -> Result<(), AllocError>
         ensures { OnOk result (self.new ≡ self.old) }
     {
-        let all = self.below.as_ref().extended(self.alloc, &self.own)?;
-        self.below = Rc::new(self.alloc, all)?;
-        self.own.truncate(0);
+        let alloc = self.alloc;
+        let none = Rc::new(alloc, Index::new(alloc))?;
+        let below = replace(&mut self.below, none);
+        let own = replace(&mut self.own, Items::new(alloc));
+        let len = self.len;
+        self.len = 0;
+        let all = joined(alloc, below, &own)?;
+        self.below = Rc::new(alloc, all)?;
+        self.len = len;
         self.room = ROOM;
         Ok(())
+    }
+
+    /// Whether more entries are to be searched one by one. It is a question of time alone.
+    fn has_room(&self) -> bool {
+        self.room > SHARED || Rc::strong_count(&self.below) > 1
     }
 
     /// One more entry, the latest. An Err is want of memory.
@@ -253,7 +290,7 @@ impl Entries {
         }
         self.own.push(entry)?;
         self.len += 1;
-        if self.room == 0 {
+        if self.room == 0 || !self.has_room() {
             return self.seal();
         }
         self.room -= 1;
@@ -261,6 +298,7 @@ impl Entries {
     }
 
     /// More entries, those of a list from a place on. An Err is want of memory.
+    #[tactic(auto, using(crate::proofs::Heads::append_one, crate::proofs::Heads::append_none, crate::proofs::Heads::drop_get, crate::proofs::Heads::drop_none, crate::proofs::Heads::drop_less))]
     fn with_more(&mut self, more: &Items<Entry>, start: usize) -> Result<(), AllocError>
         ensures { OnOk result (self.new ≡ self.old ++ drop start more.now) }
     {
