@@ -12,6 +12,7 @@ use crate::calls::call;
 use crate::chains::operators;
 use crate::folds::{Fold, parallel_reduction, reduction};
 use crate::names::select;
+use crate::quick::{LEVELS, quick};
 use ada_base::{Items, Reason};
 use ada_typed::{Check, Class, Comparison, Expr, Link, Root, Sign};
 use run_parts::Work;
@@ -29,89 +30,92 @@ pub fn eval<P: Port + Drop>(
 ) -> Result<i64, End>
     ensures { Shows P.Tells (spec.eval work.now calls (expr_at (nodes_of work.now) id) (env_of env.now)) result store.old store.new }
 {
-    match work.typed.nodes.expr(id) {
-        Expr::Static { value, .. } => Ok(value),
-        Expr::Variable {
-            root,
-            selections,
-            ..
-        } => variable(work, calls, root, selections, env, store),
-        Expr::Constant {
-            root,
-            selections,
-            ..
-        } => constant(work, calls, root, selections, env, store),
-        Expr::Parameter { parameter, .. } => Ok(env.parameter(parameter)),
-        Expr::Target { .. } => target(work, calls, env, store),
-        Expr::Group { inside } => eval(work, calls, inside, env, store),
-        Expr::Unary {
-            at,
-            sign,
-            class,
-            operand,
-        } => unary(work, calls, at, sign, class, operand, env, store),
-        Expr::Binary {
-            at,
-            op,
-            class,
-            left,
-            right,
-        } => {
-            let last = Link::Operator {
+    match quick(work, calls, LEVELS, id, env, &*store) {
+        Some(value) => Ok(value),
+        None => match work.typed.nodes.expr(id) {
+            Expr::Static { value, .. } => Ok(value),
+            Expr::Variable {
+                root,
+                selections,
+                ..
+            } => variable(work, calls, root, selections, env, store),
+            Expr::Constant {
+                root,
+                selections,
+                ..
+            } => constant(work, calls, root, selections, env, store),
+            Expr::Parameter { parameter, .. } => Ok(env.parameter(parameter)),
+            Expr::Target { .. } => target(work, calls, env, store),
+            Expr::Group { inside } => eval(work, calls, inside, env, store),
+            Expr::Unary {
+                at,
+                sign,
+                class,
+                operand,
+            } => unary(work, calls, at, sign, class, operand, env, store),
+            Expr::Binary {
                 at,
                 op,
                 class,
+                left,
                 right,
-            };
-            operators(work, calls, last, left, env, store)
-        }
-        Expr::AndThen { left, right } => {
-            operators(work, calls, Link::AndThen { right }, left, env, store)
-        }
-        Expr::OrElse { left, right } => {
-            operators(work, calls, Link::OrElse { right }, left, env, store)
-        }
-        Expr::Relation {
-            comparison,
-            left,
-            right,
-            ..
-        } => relation(work, calls, comparison, left, right, env, store),
-        Expr::Membership {
-            negated,
-            value,
-            low,
-            high,
-            ..
-        } => membership(work, calls, negated, value, low, high, env, store),
-        Expr::If {
-            condition,
-            value,
-            otherwise,
-        } => conditional(work, calls, condition, value, otherwise, env, store),
-        Expr::Convert { check, value } => converted(work, calls, check, value, env, store),
-        Expr::Call { sub, actuals, .. } => call_function(work, calls, sub, actuals, env, store),
-        Expr::Reduction {
-            attribute,
-            reducer,
-            initial,
-            site,
-            chunk,
-            iteration,
-            value,
-            ..
-        } => {
-            let by = Fold {
+            } => {
+                let last = Link::Operator {
+                    at,
+                    op,
+                    class,
+                    right,
+                };
+                operators(work, calls, last, left, env, store)
+            }
+            Expr::AndThen { left, right } => {
+                operators(work, calls, Link::AndThen { right }, left, env, store)
+            }
+            Expr::OrElse { left, right } => {
+                operators(work, calls, Link::OrElse { right }, left, env, store)
+            }
+            Expr::Relation {
+                comparison,
+                left,
+                right,
+                ..
+            } => relation(work, calls, comparison, left, right, env, store),
+            Expr::Membership {
+                negated,
+                value,
+                low,
+                high,
+                ..
+            } => membership(work, calls, negated, value, low, high, env, store),
+            Expr::If {
+                condition,
+                value,
+                otherwise,
+            } => conditional(work, calls, condition, value, otherwise, env, store),
+            Expr::Convert { check, value } => converted(work, calls, check, value, env, store),
+            Expr::Call { sub, actuals, .. } => call_function(work, calls, sub, actuals, env, store),
+            Expr::Reduction {
                 attribute,
-                reducer: work.typed.nodes.reducer(reducer),
+                reducer,
+                initial,
+                site,
+                chunk,
                 iteration,
                 value,
-            };
-            match site {
-                None => reduction(work, calls, by, initial, env, store),
-                Some(_) => parallel_reduction(work, calls, by, initial, chunk, env, store),
+                ..
+            } => {
+                let by = Fold {
+                    attribute,
+                    reducer: work.typed.nodes.reducer(reducer),
+                    iteration,
+                    value,
+                };
+                match site {
+                    None => reduction(work, calls, by, initial, env, store),
+                    Some(_) => parallel_reduction(work, calls, by, initial, chunk, env, store),
+                }
             }
-        }
+        },
     }
 }
 

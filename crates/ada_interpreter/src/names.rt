@@ -10,6 +10,7 @@ ghost use Rattle.ada_interpreter.specs.Walk as spec;
 ghost use Rattle.run_parts.specs.Words.{nodes_of};
 
 use crate::exprs::eval;
+use crate::quick::{LEVELS, quick_offset};
 use ada_base::Reason;
 use ada_typed::Selection;
 use run_parts::{Work, component, moved};
@@ -28,27 +29,42 @@ pub fn select<P: Port + Drop>(
 ) -> Result<Part, End>
     ensures { ShowsAs part_of P.Tells (spec.select work.now calls (selections_at (nodes_of work.now) id) (env_of env.now) (part_of part)) result store.old store.new }
 {
-    match work.typed.nodes.selections(id) {
-        None => Ok(part),
-        Some(cell) => match work.typed.nodes.selection(cell.first) {
-            None => select_rest(work, calls, cell.rest, env, part, store),
-            Some(Selection::Field { offset, .. }) => field(
-                work, calls, offset, cell.rest, env, part, store,
-            ),
-            Some(
-                Selection::Index {
-                    at,
-                    index: value,
-                    low,
-                    high,
-                    stride,
-                },
-            ) => {
-                let range = Range { low, high };
-                index(
-                    work, calls, at, value, range, stride, cell.rest, env, part, store,
-                )
-            }
+    match quick_offset(
+        work,
+        calls,
+        LEVELS,
+        id,
+        env,
+        part.object,
+        part.offset,
+        &*store,
+    ) {
+        Some(offset) => Ok(Part {
+            object: part.object,
+            offset,
+        }),
+        None => match work.typed.nodes.selections(id) {
+            None => Ok(part),
+            Some(cell) => match work.typed.nodes.selection(cell.first) {
+                None => select_rest(work, calls, cell.rest, env, part, store),
+                Some(Selection::Field { offset, .. }) => field(
+                    work, calls, offset, cell.rest, env, part, store,
+                ),
+                Some(
+                    Selection::Index {
+                        at,
+                        index: value,
+                        low,
+                        high,
+                        stride,
+                    },
+                ) => {
+                    let range = Range { low, high };
+                    index(
+                        work, calls, at, value, range, stride, cell.rest, env, part, store,
+                    )
+                }
+            },
         },
     }
 }
