@@ -20,7 +20,6 @@ use run_store::{End, Env, Leave, Object, Port, Store, between, bit, compares, is
 
 /// The value of an expression, where so many more calls may be active.
 #[cycle(walk)]
-#[tactic(auto, unfolding(ada_meaning::specs::Stored::bind, ada_meaning::specs::Stored::ret, ada_meaning::specs::Stored::leaves, ada_meaning::specs::Stored::spent, ada_meaning::specs::Stored::handles, crate::specs::Walk::eval, crate::specs::Walk::select, crate::specs::Walk::pass, crate::specs::Walk::course, crate::specs::Walk::filtered, crate::specs::Walk::fold_left, crate::specs::Walk::chunking))]
 pub fn eval<P: Port + Drop>(
     work: &Work<'_>,
     calls: u32,
@@ -32,90 +31,105 @@ pub fn eval<P: Port + Drop>(
 {
     match quick(work, calls, LEVELS, id, env, &*store) {
         Some(value) => Ok(value),
-        None => match work.typed.nodes.expr(id) {
-            Expr::Static { value, .. } => Ok(value),
-            Expr::Variable {
-                root,
-                selections,
-                ..
-            } => variable(work, calls, root, selections, env, store),
-            Expr::Constant {
-                root,
-                selections,
-                ..
-            } => constant(work, calls, root, selections, env, store),
-            Expr::Parameter { parameter, .. } => Ok(env.parameter(parameter)),
-            Expr::Target { .. } => target(work, calls, env, store),
-            Expr::Group { inside } => eval(work, calls, inside, env, store),
-            Expr::Unary {
-                at,
-                sign,
-                class,
-                operand,
-            } => unary(work, calls, at, sign, class, operand, env, store),
-            Expr::Binary {
+        None => eval_by_parts(work, calls, id, env, store),
+    }
+}
+
+#[cycle(walk)]
+#[inline(never)]
+#[tactic(auto, unfolding(ada_meaning::specs::Stored::bind, ada_meaning::specs::Stored::ret, ada_meaning::specs::Stored::leaves, ada_meaning::specs::Stored::spent, ada_meaning::specs::Stored::handles, crate::specs::Walk::eval, crate::specs::Walk::select, crate::specs::Walk::pass, crate::specs::Walk::course, crate::specs::Walk::filtered, crate::specs::Walk::fold_left, crate::specs::Walk::chunking))]
+fn eval_by_parts<P: Port + Drop>(
+    work: &Work<'_>,
+    calls: u32,
+    id: u32,
+    env: &Env<'_>,
+    store: &mut Store<P>,
+) -> Result<i64, End>
+    ensures { Shows P.Tells (spec.eval work.now calls (expr_at (nodes_of work.now) id) (env_of env.now)) result store.old store.new }
+{
+    match work.typed.nodes.expr(id) {
+        Expr::Static { value, .. } => Ok(value),
+        Expr::Variable {
+            root,
+            selections,
+            ..
+        } => variable(work, calls, root, selections, env, store),
+        Expr::Constant {
+            root,
+            selections,
+            ..
+        } => constant(work, calls, root, selections, env, store),
+        Expr::Parameter { parameter, .. } => Ok(env.parameter(parameter)),
+        Expr::Target { .. } => target(work, calls, env, store),
+        Expr::Group { inside } => eval(work, calls, inside, env, store),
+        Expr::Unary {
+            at,
+            sign,
+            class,
+            operand,
+        } => unary(work, calls, at, sign, class, operand, env, store),
+        Expr::Binary {
+            at,
+            op,
+            class,
+            left,
+            right,
+        } => {
+            let last = Link::Operator {
                 at,
                 op,
                 class,
-                left,
                 right,
-            } => {
-                let last = Link::Operator {
-                    at,
-                    op,
-                    class,
-                    right,
-                };
-                operators(work, calls, last, left, env, store)
-            }
-            Expr::AndThen { left, right } => {
-                operators(work, calls, Link::AndThen { right }, left, env, store)
-            }
-            Expr::OrElse { left, right } => {
-                operators(work, calls, Link::OrElse { right }, left, env, store)
-            }
-            Expr::Relation {
-                comparison,
-                left,
-                right,
-                ..
-            } => relation(work, calls, comparison, left, right, env, store),
-            Expr::Membership {
-                negated,
-                value,
-                low,
-                high,
-                ..
-            } => membership(work, calls, negated, value, low, high, env, store),
-            Expr::If {
-                condition,
-                value,
-                otherwise,
-            } => conditional(work, calls, condition, value, otherwise, env, store),
-            Expr::Convert { check, value } => converted(work, calls, check, value, env, store),
-            Expr::Call { sub, actuals, .. } => call_function(work, calls, sub, actuals, env, store),
-            Expr::Reduction {
+            };
+            operators(work, calls, last, left, env, store)
+        }
+        Expr::AndThen { left, right } => {
+            operators(work, calls, Link::AndThen { right }, left, env, store)
+        }
+        Expr::OrElse { left, right } => {
+            operators(work, calls, Link::OrElse { right }, left, env, store)
+        }
+        Expr::Relation {
+            comparison,
+            left,
+            right,
+            ..
+        } => relation(work, calls, comparison, left, right, env, store),
+        Expr::Membership {
+            negated,
+            value,
+            low,
+            high,
+            ..
+        } => membership(work, calls, negated, value, low, high, env, store),
+        Expr::If {
+            condition,
+            value,
+            otherwise,
+        } => conditional(work, calls, condition, value, otherwise, env, store),
+        Expr::Convert { check, value } => converted(work, calls, check, value, env, store),
+        Expr::Call { sub, actuals, .. } => call_function(work, calls, sub, actuals, env, store),
+        Expr::Reduction {
+            attribute,
+            reducer,
+            initial,
+            site,
+            chunk,
+            iteration,
+            value,
+            ..
+        } => {
+            let by = Fold {
                 attribute,
-                reducer,
-                initial,
-                site,
-                chunk,
+                reducer: work.typed.nodes.reducer(reducer),
                 iteration,
                 value,
-                ..
-            } => {
-                let by = Fold {
-                    attribute,
-                    reducer: work.typed.nodes.reducer(reducer),
-                    iteration,
-                    value,
-                };
-                match site {
-                    None => reduction(work, calls, by, initial, env, store),
-                    Some(_) => parallel_reduction(work, calls, by, initial, chunk, env, store),
-                }
+            };
+            match site {
+                None => reduction(work, calls, by, initial, env, store),
+                Some(_) => parallel_reduction(work, calls, by, initial, chunk, env, store),
             }
-        },
+        }
     }
 }
 

@@ -18,7 +18,6 @@ use run_store::{End, Env, Leave, Part, Port, Range, Store, between};
 
 /// The part that selections lead to (4.1.1, 4.1.3).
 #[cycle(walk)]
-#[tactic(auto, unfolding(ada_meaning::specs::Stored::bind, ada_meaning::specs::Stored::ret, ada_meaning::specs::Stored::leaves, ada_meaning::specs::Stored::spent, ada_meaning::specs::Stored::handles, crate::specs::Walk::eval, crate::specs::Walk::select))]
 pub fn select<P: Port + Drop>(
     work: &Work<'_>,
     calls: u32,
@@ -43,28 +42,44 @@ pub fn select<P: Port + Drop>(
             object: part.object,
             offset,
         }),
-        None => match work.typed.nodes.selections(id) {
-            None => Ok(part),
-            Some(cell) => match work.typed.nodes.selection(cell.first) {
-                None => select_rest(work, calls, cell.rest, env, part, store),
-                Some(Selection::Field { offset, .. }) => field(
-                    work, calls, offset, cell.rest, env, part, store,
-                ),
-                Some(
-                    Selection::Index {
-                        at,
-                        index: value,
-                        low,
-                        high,
-                        stride,
-                    },
-                ) => {
-                    let range = Range { low, high };
-                    index(
-                        work, calls, at, value, range, stride, cell.rest, env, part, store,
-                    )
-                }
-            },
+        None => select_by_parts(work, calls, id, env, part, store),
+    }
+}
+
+#[cycle(walk)]
+#[inline(never)]
+#[tactic(auto, unfolding(ada_meaning::specs::Stored::bind, ada_meaning::specs::Stored::ret, ada_meaning::specs::Stored::leaves, ada_meaning::specs::Stored::spent, ada_meaning::specs::Stored::handles, crate::specs::Walk::eval, crate::specs::Walk::select))]
+fn select_by_parts<P: Port + Drop>(
+    work: &Work<'_>,
+    calls: u32,
+    id: u32,
+    env: &Env<'_>,
+    part: Part,
+    store: &mut Store<P>,
+) -> Result<Part, End>
+    ensures { ShowsAs part_of P.Tells (spec.select work.now calls (selections_at (nodes_of work.now) id) (env_of env.now) (part_of part)) result store.old store.new }
+{
+    match work.typed.nodes.selections(id) {
+        None => Ok(part),
+        Some(cell) => match work.typed.nodes.selection(cell.first) {
+            None => select_rest(work, calls, cell.rest, env, part, store),
+            Some(Selection::Field { offset, .. }) => field(
+                work, calls, offset, cell.rest, env, part, store,
+            ),
+            Some(
+                Selection::Index {
+                    at,
+                    index: value,
+                    low,
+                    high,
+                    stride,
+                },
+            ) => {
+                let range = Range { low, high };
+                index(
+                    work, calls, at, value, range, stride, cell.rest, env, part, store,
+                )
+            }
         },
     }
 }
