@@ -391,11 +391,11 @@ constructs::begin_chunks-returns-in_ok-chunking-in-Some-Each g t c = each_on c.a
 pub constructs::begin_chunks-returns-in_err-chunking-in-Some-Each : goal.constructs::begin_chunks-returns-in_err-chunking-in-Some-Each
 constructs::begin_chunks-returns-in_err-chunking-in-Some-Each g t c = each_ends c.args.work.now c.args.calls (env_of c.args.env.now) c.in-Some-Each.parameter (expr_at (nodes_of c.args.work.now) c.in-Some-Each.low) (expr_at (nodes_of c.args.work.now) c.in-Some-Each.high) c.check.result (chunk_at (nodes_of c.args.work.now) c.args.id) c.in_ok-l-in-Some-Each.l c.in_ok-h-in-Some-Each.h _ _ c.args.store.now c.eval-in-Some-Each.new.store c.eval-in-Some-Each-2.new.store c.in_err-chunking-in-Some-Each.field-0.0 _ (search rules) (search rules) c.in_ok-l-in-Some-Each.ensures c.in_ok-h-in-Some-Each.ensures c.in_err-chunking-in-Some-Each.ensures (search rules) (search rules)
 
-pub exprs::eval-returns-in-None : goal.exprs::eval-returns-in-None
-exprs::eval-returns-in-None g t c = reduction_shows c.args.work.now c.args.calls (expr_at (nodes_of c.args.work.now) c.args.id) (expr_at (nodes_of c.args.work.now) c.in-Reduction.initial) c.in-Reduction.at c.in-Reduction.attribute (reducer_at (nodes_of c.args.work.now) c.in-Reduction.reducer) c.reducer.result (chunk_at (nodes_of c.args.work.now) c.in-Reduction.chunk) c.in-Reduction.iteration c.in-Reduction.value (env_of c.args.env.now) _ c.args.store.now c.reduction.new.store c.reducer.ensures (search rules) c.reduction.ensures
+pub exprs::eval_by_parts-returns-in-None : goal.exprs::eval_by_parts-returns-in-None
+exprs::eval_by_parts-returns-in-None g t c = reduction_shows c.args.work.now c.args.calls (expr_at (nodes_of c.args.work.now) c.args.id) (expr_at (nodes_of c.args.work.now) c.in-Reduction.initial) c.in-Reduction.at c.in-Reduction.attribute (reducer_at (nodes_of c.args.work.now) c.in-Reduction.reducer) c.reducer.result (chunk_at (nodes_of c.args.work.now) c.in-Reduction.chunk) c.in-Reduction.iteration c.in-Reduction.value (env_of c.args.env.now) _ c.args.store.now c.reduction.new.store c.reducer.ensures (search rules) c.reduction.ensures
 
-pub exprs::eval-returns-in-Some : goal.exprs::eval-returns-in-Some
-exprs::eval-returns-in-Some g t c = parallel_reduction_shows c.args.work.now c.args.calls (expr_at (nodes_of c.args.work.now) c.args.id) (expr_at (nodes_of c.args.work.now) c.in-Reduction.initial) c.in-Reduction.at c.in-Reduction.attribute (reducer_at (nodes_of c.args.work.now) c.in-Reduction.reducer) c.reducer.result (chunk_at (nodes_of c.args.work.now) c.in-Reduction.chunk) c.in-Reduction.iteration c.in-Reduction.value (env_of c.args.env.now) _ c.args.store.now c.parallel_reduction.new.store c.reducer.ensures c.in-Some.field-0 (search rules) c.parallel_reduction.ensures
+pub exprs::eval_by_parts-returns-in-Some : goal.exprs::eval_by_parts-returns-in-Some
+exprs::eval_by_parts-returns-in-Some g t c = parallel_reduction_shows c.args.work.now c.args.calls (expr_at (nodes_of c.args.work.now) c.args.id) (expr_at (nodes_of c.args.work.now) c.in-Reduction.initial) c.in-Reduction.at c.in-Reduction.attribute (reducer_at (nodes_of c.args.work.now) c.in-Reduction.reducer) c.reducer.result (chunk_at (nodes_of c.args.work.now) c.in-Reduction.chunk) c.in-Reduction.iteration c.in-Reduction.value (env_of c.args.env.now) _ c.args.store.now c.parallel_reduction.new.store c.reducer.ensures c.in-Some.field-0 (search rules) c.parallel_reduction.ensures
 
 pub folds::reduced-returns-in-Operator : goal.folds::reduced-returns-in-Operator
 folds::reduced-returns-in-Operator g t c = reduced_operator c.args.work.now c.args.calls c.args.by c.args.nested c.in-Operator.at c.in-Operator.op c.in-Operator.class c.args.a c.args.b _ _ _ c.args.store.now c.args.store.now (search rules) c.operate.ensures (search rules) (search rules)
