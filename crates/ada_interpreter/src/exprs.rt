@@ -12,6 +12,7 @@ use crate::calls::call;
 use crate::chains::operators;
 use crate::folds::{Fold, parallel_reduction, reduction};
 use crate::names::select;
+use crate::quick::{LEVELS, quick};
 use ada_base::{Items, Reason};
 use ada_typed::{Check, Class, Comparison, Expr, Link, Root, Sign};
 use run_parts::Work;
@@ -19,8 +20,25 @@ use run_store::{End, Env, Leave, Object, Port, Store, between, bit, compares, is
 
 /// The value of an expression, where so many more calls may be active.
 #[cycle(walk)]
-#[tactic(auto, unfolding(ada_meaning::specs::Stored::bind, ada_meaning::specs::Stored::ret, ada_meaning::specs::Stored::leaves, ada_meaning::specs::Stored::spent, ada_meaning::specs::Stored::handles, crate::specs::Walk::eval, crate::specs::Walk::select, crate::specs::Walk::pass, crate::specs::Walk::course, crate::specs::Walk::filtered, crate::specs::Walk::fold_left, crate::specs::Walk::chunking))]
 pub fn eval<P: Port + Drop>(
+    work: &Work<'_>,
+    calls: u32,
+    id: u32,
+    env: &Env<'_>,
+    store: &mut Store<P>,
+) -> Result<i64, End>
+    ensures { Shows P.Tells (spec.eval work.now calls (expr_at (nodes_of work.now) id) (env_of env.now)) result store.old store.new }
+{
+    match quick(work, calls, LEVELS, id, env, &*store) {
+        Some(value) => Ok(value),
+        None => eval_by_parts(work, calls, id, env, store),
+    }
+}
+
+#[cycle(walk)]
+#[inline(never)]
+#[tactic(auto, unfolding(ada_meaning::specs::Stored::bind, ada_meaning::specs::Stored::ret, ada_meaning::specs::Stored::leaves, ada_meaning::specs::Stored::spent, ada_meaning::specs::Stored::handles, crate::specs::Walk::eval, crate::specs::Walk::select, crate::specs::Walk::pass, crate::specs::Walk::course, crate::specs::Walk::filtered, crate::specs::Walk::fold_left, crate::specs::Walk::chunking))]
+fn eval_by_parts<P: Port + Drop>(
     work: &Work<'_>,
     calls: u32,
     id: u32,

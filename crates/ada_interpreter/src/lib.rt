@@ -11,6 +11,7 @@ mod exprs;
 mod folds;
 mod loops;
 mod names;
+mod quick;
 mod runs;
 mod stmts;
 mod texts;

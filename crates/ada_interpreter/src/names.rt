@@ -10,6 +10,7 @@ ghost use Rattle.ada_interpreter.specs.Walk as spec;
 ghost use Rattle.run_parts.specs.Words.{nodes_of};
 
 use crate::exprs::eval;
+use crate::quick::{LEVELS, quick_offset};
 use ada_base::Reason;
 use ada_typed::Selection;
 use run_parts::{Work, component, moved};
@@ -17,8 +18,38 @@ use run_store::{End, Env, Leave, Part, Port, Range, Store, between};
 
 /// The part that selections lead to (4.1.1, 4.1.3).
 #[cycle(walk)]
-#[tactic(auto, unfolding(ada_meaning::specs::Stored::bind, ada_meaning::specs::Stored::ret, ada_meaning::specs::Stored::leaves, ada_meaning::specs::Stored::spent, ada_meaning::specs::Stored::handles, crate::specs::Walk::eval, crate::specs::Walk::select))]
 pub fn select<P: Port + Drop>(
+    work: &Work<'_>,
+    calls: u32,
+    id: u32,
+    env: &Env<'_>,
+    part: Part,
+    store: &mut Store<P>,
+) -> Result<Part, End>
+    ensures { ShowsAs part_of P.Tells (spec.select work.now calls (selections_at (nodes_of work.now) id) (env_of env.now) (part_of part)) result store.old store.new }
+{
+    match quick_offset(
+        work,
+        calls,
+        LEVELS,
+        id,
+        env,
+        part.object,
+        part.offset,
+        &*store,
+    ) {
+        Some(offset) => Ok(Part {
+            object: part.object,
+            offset,
+        }),
+        None => select_by_parts(work, calls, id, env, part, store),
+    }
+}
+
+#[cycle(walk)]
+#[inline(never)]
+#[tactic(auto, unfolding(ada_meaning::specs::Stored::bind, ada_meaning::specs::Stored::ret, ada_meaning::specs::Stored::leaves, ada_meaning::specs::Stored::spent, ada_meaning::specs::Stored::handles, crate::specs::Walk::eval, crate::specs::Walk::select))]
+fn select_by_parts<P: Port + Drop>(
     work: &Work<'_>,
     calls: u32,
     id: u32,

@@ -106,8 +106,8 @@ values::run_values-returns g t c = run_done (run_values c.args.work.now c.args.c
 pub values::run_values-returns-in_err-first : goal.values::run_values-returns-in_err-first
 values::run_values-returns-in_err-first g t c = next_fails (λ next. next ≡ c.loop-k.first + c.args.run.stride) (run_values c.args.work.now c.args.calls 0 c.args.run.count c.args.run.first c.args.run.stride c.args.iterated (value_at (nodes_of c.args.work.now) c.args.value) (env_of c.args.env.now) c.args.out) (run_values c.args.work.now c.args.calls (c.loop-k.k + 1) (c.args.run.count - (c.loop-k.k + 1)) (c.loop-k.first + c.args.run.stride) c.args.run.stride c.args.iterated (value_at (nodes_of c.args.work.now) c.args.value) (env_of c.args.env.now) c.lay.new.out) c.args.store.now c.given.new.store _ c.in_err-first.field-0.0 (search rules) c.in_err-first.ensures (run_step (run_values c.args.work.now c.args.calls 0 c.args.run.count c.args.run.first c.args.run.stride c.args.iterated (value_at (nodes_of c.args.work.now) c.args.value) (env_of c.args.env.now) c.args.out) c.args.store.now c.loop-k.store c.given.new.store c.args.work.now c.args.calls c.loop-k.k c.args.run.count c.loop-k.first c.args.run.stride c.args.iterated (value_at (nodes_of c.args.work.now) c.args.value) (env_of c.args.env.now) c.loop-k.cells (omega arith) c.loop-k.invariant c.in_ok-values.values c.lay.new.out (c.loop-k.first + c.args.run.stride) c.in_ok-values.ensures (search rules) refl)
 
-pub names::select-returns-in-Some-Index : goal.names::select-returns-in-Some-Index
-names::select-returns-in-Some-Index g t c = index_as c.args.work.now c.args.calls (env_of c.args.env.now) c.args.store.now c.index.new.store c.in-Some-Index.at (expr_at (nodes_of c.args.work.now) c.in-Some-Index.value) c.in-Some-Index.low c.in-Some-Index.high _ _ c.in-Some-Index.stride (selections_at (nodes_of c.args.work.now) c.in-Some.cell.rest) (selections_at (nodes_of c.args.work.now) c.args.id) (part_of c.args.part) c.index.result c.index.ensures (search rules) (search rules) (search rules)
+pub names::select_by_parts-returns-in-Some-Index : goal.names::select_by_parts-returns-in-Some-Index
+names::select_by_parts-returns-in-Some-Index g t c = index_as c.args.work.now c.args.calls (env_of c.args.env.now) c.args.store.now c.index.new.store c.in-Some-Index.at (expr_at (nodes_of c.args.work.now) c.in-Some-Index.value) c.in-Some-Index.low c.in-Some-Index.high _ _ c.in-Some-Index.stride (selections_at (nodes_of c.args.work.now) c.in-Some.cell.rest) (selections_at (nodes_of c.args.work.now) c.args.id) (part_of c.args.part) c.index.result c.index.ensures (search rules) (search rules) (search rules)
 
 pub names::index-returns-in_ok-found : goal.names::index-returns-in_ok-found
 names::index-returns-in_ok-found g t c = index_on c.args.work.now c.args.calls (env_of c.args.env.now) c.args.store.now c.select_rest.new.store c.args.at (expr_at (nodes_of c.args.work.now) c.args.value) c.args.range.low c.args.range.high c.in_ok-i.i c.args.stride (selections_at (nodes_of c.args.work.now) c.args.rest) (part_of c.args.part) (part_of c.in_ok-inner.inner) (Ok c.in_ok-found.found) c.eval.new.store c.in_ok-i.ensures (search rules) (search rules) c.in_ok-found.ensures
@@ -391,11 +391,11 @@ constructs::begin_chunks-returns-in_ok-chunking-in-Some-Each g t c = each_on c.a
 pub constructs::begin_chunks-returns-in_err-chunking-in-Some-Each : goal.constructs::begin_chunks-returns-in_err-chunking-in-Some-Each
 constructs::begin_chunks-returns-in_err-chunking-in-Some-Each g t c = each_ends c.args.work.now c.args.calls (env_of c.args.env.now) c.in-Some-Each.parameter (expr_at (nodes_of c.args.work.now) c.in-Some-Each.low) (expr_at (nodes_of c.args.work.now) c.in-Some-Each.high) c.check.result (chunk_at (nodes_of c.args.work.now) c.args.id) c.in_ok-l-in-Some-Each.l c.in_ok-h-in-Some-Each.h _ _ c.args.store.now c.eval-in-Some-Each.new.store c.eval-in-Some-Each-2.new.store c.in_err-chunking-in-Some-Each.field-0.0 _ (search rules) (search rules) c.in_ok-l-in-Some-Each.ensures c.in_ok-h-in-Some-Each.ensures c.in_err-chunking-in-Some-Each.ensures (search rules) (search rules)
 
-pub exprs::eval-returns-in-None : goal.exprs::eval-returns-in-None
-exprs::eval-returns-in-None g t c = reduction_shows c.args.work.now c.args.calls (expr_at (nodes_of c.args.work.now) c.args.id) (expr_at (nodes_of c.args.work.now) c.in-Reduction.initial) c.in-Reduction.at c.in-Reduction.attribute (reducer_at (nodes_of c.args.work.now) c.in-Reduction.reducer) c.reducer.result (chunk_at (nodes_of c.args.work.now) c.in-Reduction.chunk) c.in-Reduction.iteration c.in-Reduction.value (env_of c.args.env.now) _ c.args.store.now c.reduction.new.store c.reducer.ensures (search rules) c.reduction.ensures
+pub exprs::eval_by_parts-returns-in-None : goal.exprs::eval_by_parts-returns-in-None
+exprs::eval_by_parts-returns-in-None g t c = reduction_shows c.args.work.now c.args.calls (expr_at (nodes_of c.args.work.now) c.args.id) (expr_at (nodes_of c.args.work.now) c.in-Reduction.initial) c.in-Reduction.at c.in-Reduction.attribute (reducer_at (nodes_of c.args.work.now) c.in-Reduction.reducer) c.reducer.result (chunk_at (nodes_of c.args.work.now) c.in-Reduction.chunk) c.in-Reduction.iteration c.in-Reduction.value (env_of c.args.env.now) _ c.args.store.now c.reduction.new.store c.reducer.ensures (search rules) c.reduction.ensures
 
-pub exprs::eval-returns-in-Some : goal.exprs::eval-returns-in-Some
-exprs::eval-returns-in-Some g t c = parallel_reduction_shows c.args.work.now c.args.calls (expr_at (nodes_of c.args.work.now) c.args.id) (expr_at (nodes_of c.args.work.now) c.in-Reduction.initial) c.in-Reduction.at c.in-Reduction.attribute (reducer_at (nodes_of c.args.work.now) c.in-Reduction.reducer) c.reducer.result (chunk_at (nodes_of c.args.work.now) c.in-Reduction.chunk) c.in-Reduction.iteration c.in-Reduction.value (env_of c.args.env.now) _ c.args.store.now c.parallel_reduction.new.store c.reducer.ensures c.in-Some.field-0 (search rules) c.parallel_reduction.ensures
+pub exprs::eval_by_parts-returns-in-Some : goal.exprs::eval_by_parts-returns-in-Some
+exprs::eval_by_parts-returns-in-Some g t c = parallel_reduction_shows c.args.work.now c.args.calls (expr_at (nodes_of c.args.work.now) c.args.id) (expr_at (nodes_of c.args.work.now) c.in-Reduction.initial) c.in-Reduction.at c.in-Reduction.attribute (reducer_at (nodes_of c.args.work.now) c.in-Reduction.reducer) c.reducer.result (chunk_at (nodes_of c.args.work.now) c.in-Reduction.chunk) c.in-Reduction.iteration c.in-Reduction.value (env_of c.args.env.now) _ c.args.store.now c.parallel_reduction.new.store c.reducer.ensures c.in-Some.field-0 (search rules) c.parallel_reduction.ensures
 
 pub folds::reduced-returns-in-Operator : goal.folds::reduced-returns-in-Operator
 folds::reduced-returns-in-Operator g t c = reduced_operator c.args.work.now c.args.calls c.args.by c.args.nested c.in-Operator.at c.in-Operator.op c.in-Operator.class c.args.a c.args.b _ _ _ c.args.store.now c.args.store.now (search rules) c.operate.ensures (search rules) (search rules)

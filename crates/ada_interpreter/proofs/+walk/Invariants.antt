@@ -15,11 +15,17 @@ use Rattle.ada_interpreter.proofs.+walk.Given as goal
 
 -- Calls first, then numbers of nodes, then the order in which functions that go by one node call each other.
 
+abbrev pub decreases-exprs::eval_by_parts : goal.decreases-exprs::eval_by_parts
+decreases-exprs::eval_by_parts g l = 1208925819614629174706176 * l.calls + 1099511627776 * l.id + 137438953472
+
 abbrev pub decreases-exprs::eval : goal.decreases-exprs::eval
 decreases-exprs::eval g l = 1208925819614629174706176 * l.calls + 1099511627776 * l.id + 274877906944
 
 abbrev pub decreases-exprs::eval_else : goal.decreases-exprs::eval_else
 decreases-exprs::eval_else g l = 1208925819614629174706176 * l.calls + 1099511627776 * l.id + 412316860416
+
+abbrev pub decreases-names::select_by_parts : goal.decreases-names::select_by_parts
+decreases-names::select_by_parts g l = 1208925819614629174706176 * l.calls + 1099511627776 * l.id + 137438953472
 
 abbrev pub decreases-names::select : goal.decreases-names::select
 decreases-names::select g l = 1208925819614629174706176 * l.calls + 1099511627776 * l.id + 274877906944

@@ -1,0 +1,401 @@
+//! Values of expressions and places of names that need no call: they are found without a change of the state.
+
+ghost use Rattle.std.specs.Prelude.{◌≡◌, ◌<◌, ◌+◌, ◌*◌, ◌-ℤ◌, IfSome};
+ghost use Rattle.ada_typed.specs.Decoded.{expr_at, selections_at};
+ghost use Rattle.ada_meaning.specs.Values.{to_nat};
+ghost use Rattle.run_store.specs.Environment.{env_of};
+ghost use Rattle.ada_interpreter.specs.Quick.{Gives, GivesAs, at_offset};
+ghost use Rattle.ada_interpreter.specs.Walk as spec;
+ghost use Rattle.run_parts.specs.Words.{nodes_of};
+
+use ada_typed::{Check, Class, Comparison, Expr, Link, Root, Selection, Sign};
+use run_parts::Work;
+use run_store::{Env, Object, Port, Store, between, bit, compares, is_in, is_true};
+
+/// How many levels of operands and selections are gone through before the walk is left to do it: an expression whose quick
+/// evaluation fails is looked at no more often.
+pub const LEVELS: u32 = 12;
+
+/// The value of an expression; None where it calls, reduces, is nested deeper than so many levels, or has no value.
+#[cycle(quick)]
+#[tactic(auto, unfolding(ada_meaning::specs::Stored::bind, ada_meaning::specs::Stored::ret, crate::specs::Walk::eval, crate::specs::Walk::select))]
+pub fn quick<P: Port + Drop>(
+    work: &Work<'_>,
+    calls: u32,
+    levels: u32,
+    id: u32,
+    env: &Env<'_>,
+    store: &Store<P>,
+) -> Option<i64>
+    ensures { Gives P.Tells (spec.eval work.now calls (expr_at (nodes_of work.now) id) (env_of env.now)) store.now result }
+{
+    match levels.checked_sub(1) {
+        None => None,
+        Some(left) => match work.typed.nodes.expr(id) {
+            Expr::Static { value, .. } => Some(value),
+            Expr::Parameter { parameter, .. } => Some(env.parameter(parameter)),
+            Expr::Variable {
+                root,
+                selections,
+                ..
+            } => quick_variable(work, calls, left, root, selections, env, store),
+            Expr::Constant {
+                root,
+                selections,
+                ..
+            } => quick_constant(work, calls, left, root, selections, env, store),
+            Expr::Target { .. } => quick_target(work, calls, env, store),
+            Expr::Group { inside } => quick(work, calls, left, inside, env, store),
+            Expr::Unary {
+                at,
+                sign,
+                class,
+                operand,
+            } => quick_unary(work, calls, left, at, sign, class, operand, env, store),
+            Expr::Binary {
+                at,
+                op,
+                class,
+                left: first,
+                right,
+            } => {
+                let last = Link::Operator {
+                    at,
+                    op,
+                    class,
+                    right,
+                };
+                quick_operators(work, calls, left, last, first, env, store)
+            }
+            Expr::AndThen { left: first, right } => {
+                quick_operators(
+                    work,
+                    calls,
+                    left,
+                    Link::AndThen { right },
+                    first,
+                    env,
+                    store,
+                )
+            }
+            Expr::OrElse { left: first, right } => {
+                quick_operators(work, calls, left, Link::OrElse { right }, first, env, store)
+            }
+            Expr::Relation {
+                comparison,
+                left: first,
+                right,
+                ..
+            } => quick_relation(work, calls, left, comparison, first, right, env, store),
+            Expr::Convert { check, value } => {
+                quick_converted(work, calls, left, check, value, env, store)
+            }
+            _ => None,
+        },
+    }
+}
+
+#[cycle(quick)]
+fn quick_variable<P: Port + Drop>(
+    work: &Work<'_>,
+    calls: u32,
+    levels: u32,
+    root: Root,
+    selections: u32,
+    env: &Env<'_>,
+    store: &Store<P>,
+) -> Option<i64>
+    ensures { Gives P.Tells (spec.variable work.now calls root (selections_at (nodes_of work.now) selections) (env_of env.now)) store.now result }
+{
+    let part = env.variable_root(root);
+    match quick_offset(
+        work,
+        calls,
+        levels,
+        selections,
+        env,
+        part.object,
+        part.offset,
+        store,
+    ) {
+        None => None,
+        Some(offset) => match store.read(Object::Variable(part.object), offset) {
+            Ok(value) => Some(value),
+            Err(_) => None,
+        },
+    }
+}
+
+#[cycle(quick)]
+fn quick_constant<P: Port + Drop>(
+    work: &Work<'_>,
+    calls: u32,
+    levels: u32,
+    root: Root,
+    selections: u32,
+    env: &Env<'_>,
+    store: &Store<P>,
+) -> Option<i64>
+    ensures { Gives P.Tells (spec.constant work.now calls root (selections_at (nodes_of work.now) selections) (env_of env.now)) store.now result }
+{
+    let part = env.constant_root(root);
+    match quick_offset(
+        work,
+        calls,
+        levels,
+        selections,
+        env,
+        part.object,
+        part.offset,
+        store,
+    ) {
+        None => None,
+        Some(offset) => match store.read(Object::Constant(part.object), offset) {
+            Ok(value) => Some(value),
+            Err(_) => None,
+        },
+    }
+}
+
+fn quick_target<P: Port + Drop>(
+    work: &Work<'_>,
+    calls: u32,
+    env: &Env<'_>,
+    store: &Store<P>,
+) -> Option<i64>
+    ensures { Gives P.Tells (spec.target work.now calls (env_of env.now)) store.now result }
+{
+    let part = env.target();
+    match store.read(Object::Variable(part.object), part.offset) {
+        Ok(value) => Some(value),
+        Err(_) => None,
+    }
+}
+
+#[cycle(quick)]
+fn quick_unary<P: Port + Drop>(
+    work: &Work<'_>,
+    calls: u32,
+    levels: u32,
+    at: u32,
+    sign: Sign,
+    class: Class,
+    operand: u32,
+    env: &Env<'_>,
+    store: &Store<P>,
+) -> Option<i64>
+    ensures { Gives P.Tells (spec.unary_of work.now calls sign at class (expr_at (nodes_of work.now) operand) (env_of env.now)) store.now result }
+{
+    match quick(work, calls, levels, operand, env, store) {
+        None => None,
+        Some(x) => match store.unary(sign, at, class, x) {
+            Ok(value) => Some(value),
+            Err(_) => None,
+        },
+    }
+}
+
+#[cycle(quick)]
+fn quick_operators<P: Port + Drop>(
+    work: &Work<'_>,
+    calls: u32,
+    levels: u32,
+    last: Link,
+    first: u32,
+    env: &Env<'_>,
+    store: &Store<P>,
+) -> Option<i64>
+    ensures { Gives P.Tells (spec.operators work.now calls last (expr_at (nodes_of work.now) first) (env_of env.now)) store.now result }
+{
+    match quick(work, calls, levels, first, env, store) {
+        None => None,
+        Some(x) => quick_operator(work, calls, levels, last, x, env, store),
+    }
+}
+
+#[cycle(quick)]
+fn quick_operator<P: Port + Drop>(
+    work: &Work<'_>,
+    calls: u32,
+    levels: u32,
+    link: Link,
+    x: i64,
+    env: &Env<'_>,
+    store: &Store<P>,
+) -> Option<i64>
+    ensures { Gives P.Tells (spec.operator work.now calls link (env_of env.now) x) store.now result }
+{
+    match link {
+        Link::Operator {
+            at,
+            op,
+            class,
+            right,
+        } => match quick(work, calls, levels, right, env, store) {
+            None => None,
+            Some(y) => match store.operate(op, at, class, x, y) {
+                Ok(value) => Some(value),
+                Err(_) => None,
+            },
+        },
+        Link::AndThen { right } => {
+            if is_true(x) {
+                quick(work, calls, levels, right, env, store)
+            } else {
+                Some(0)
+            }
+        }
+        Link::OrElse { right } => {
+            if is_true(x) {
+                Some(1)
+            } else {
+                quick(work, calls, levels, right, env, store)
+            }
+        }
+    }
+}
+
+#[cycle(quick)]
+fn quick_relation<P: Port + Drop>(
+    work: &Work<'_>,
+    calls: u32,
+    levels: u32,
+    comparison: Comparison,
+    first: u32,
+    right: u32,
+    env: &Env<'_>,
+    store: &Store<P>,
+) -> Option<i64>
+    ensures { Gives P.Tells (spec.relation work.now calls comparison (expr_at (nodes_of work.now) first) (expr_at (nodes_of work.now) right) (env_of env.now)) store.now result }
+{
+    match quick(work, calls, levels, first, env, store) {
+        None => None,
+        Some(x) => match quick(work, calls, levels, right, env, store) {
+            None => None,
+            Some(y) => Some(bit(compares(comparison, x, y))),
+        },
+    }
+}
+
+#[cycle(quick)]
+fn quick_converted<P: Port + Drop>(
+    work: &Work<'_>,
+    calls: u32,
+    levels: u32,
+    check: Check,
+    value: u32,
+    env: &Env<'_>,
+    store: &Store<P>,
+) -> Option<i64>
+    ensures { Gives P.Tells (spec.converted work.now calls check (expr_at (nodes_of work.now) value) (env_of env.now)) store.now result }
+{
+    match quick(work, calls, levels, value, env, store) {
+        None => None,
+        Some(x) => {
+            if is_in(check.scalar, x) {
+                Some(x)
+            } else {
+                None
+            }
+        }
+    }
+}
+
+/// How many cells of an object come before the part that selections lead to; None where an index has no quick value, or
+/// there are more selections than levels.
+#[cycle(quick)]
+#[tactic(auto, unfolding(ada_meaning::specs::Stored::bind, ada_meaning::specs::Stored::ret, crate::specs::Walk::eval, crate::specs::Walk::select))]
+pub fn quick_offset<P: Port + Drop>(
+    work: &Work<'_>,
+    calls: u32,
+    levels: u32,
+    id: u32,
+    env: &Env<'_>,
+    object: u32,
+    offset: u64,
+    store: &Store<P>,
+) -> Option<u64>
+    ensures { GivesAs (at_offset object) P.Tells (spec.select work.now calls (selections_at (nodes_of work.now) id) (env_of env.now) (at_offset object offset)) store.now result }
+{
+    match work.typed.nodes.selections(id) {
+        None => Some(offset),
+        Some(cell) => match levels.checked_sub(1) {
+            None => None,
+            Some(left) => match work.typed.nodes.selection(cell.first) {
+                Some(
+                    Selection::Index {
+                        at,
+                        index,
+                        low,
+                        high,
+                        stride,
+                    },
+                ) => quick_index(
+                    work, calls, left, at, index, low, high, stride, cell.rest, env, object,
+                    offset, store,
+                ),
+                Some(Selection::Field { offset: more, .. }) => {
+                    match offset.checked_add(u64::from(more)) {
+                        None => None,
+                        Some(inner) => quick_offset(
+                            work, calls, left, cell.rest, env, object, inner, store,
+                        ),
+                    }
+                }
+                None => None,
+            },
+        },
+    }
+}
+
+#[cycle(quick)]
+fn quick_index<P: Port + Drop>(
+    work: &Work<'_>,
+    calls: u32,
+    levels: u32,
+    at: u32,
+    index: u32,
+    low: i64,
+    high: i64,
+    stride: u32,
+    rest: u32,
+    env: &Env<'_>,
+    object: u32,
+    offset: u64,
+    store: &Store<P>,
+) -> Option<u64>
+    ensures { GivesAs (at_offset object) P.Tells (spec.index work.now calls at (expr_at (nodes_of work.now) index) low high stride (selections_at (nodes_of work.now) rest) (env_of env.now) (at_offset object offset)) store.now result }
+{
+    let _ = at;
+    match quick(work, calls, levels, index, env, store) {
+        None => None,
+        Some(i) => {
+            if between(low, i, high) {
+                match component_offset(offset, i, low, stride) {
+                    None => None,
+                    Some(inner) => {
+                        quick_offset(work, calls, levels, rest, env, object, inner, store)
+                    }
+                }
+            } else {
+                None
+            }
+        }
+    }
+}
+
+/// Where the component of an index begins, in 64 bits.
+fn component_offset(offset: u64, index: i64, low: i64, stride: u32) -> Option<u64>
+    ensures { IfSome result (λ inner. inner ≡ offset + to_nat (index -ℤ low) * stride) }
+{
+    match index.checked_sub(low) {
+        None => None,
+        Some(place) => match u64::try_from(place) {
+            Err(_) => None,
+            Ok(place) => match place.checked_mul(u64::from(stride)) {
+                None => None,
+                Some(count) => offset.checked_add(count),
+            },
+        },
+    }
+}
