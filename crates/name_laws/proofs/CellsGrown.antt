@@ -77,7 +77,7 @@ fields_later a b x (f ∷ fs) h =
 
 pub lie_later : (a b : Log) → Extends a b → (before : ℕ) (fs : List Field) → FieldsBefore (length a.shapes) fs → FieldsLie a.shapes before fs → FieldsLie b.shapes before fs
 lie_later a b x before [] h k = tt
-lie_later a b x before (f ∷ fs) h k = (k.0, subst (λ c. FieldsLie b.shapes (before + c) fs) (sym (count_later a b x f.number h.0)) (lie_later a b x _ fs h.1 k.1))
+lie_later a b x before (f ∷ fs) h k = (k.0, subst (λ c. FieldsLie b.shapes (before + c) fs) (sym (count_later a b x f.number h.0)) (lie_later a b x (before + cells_of (table_of a.shapes) f.number) fs h.1 k.1))
 
 pub numbered_later : (a b : Log) → Extends a b → (fs : List Field) → FieldsNumbered a.shapes fs → FieldsNumbered b.shapes fs
 numbered_later a b x fs h = subst (λ s. FieldsNumbered s fs) (sym x.is) (fields_numbered a.shapes x.more fs h)

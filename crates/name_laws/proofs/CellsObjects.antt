@@ -158,7 +158,7 @@ are-numbered-later a b (Some fs) x h = numbered_later a b x fs h
 
 lie-more : (shapes : List Shape) (before : ℕ) (f : Field) (fs : List Field) → FieldsLie shapes before fs → f.offset ≡ saturated (before + fields_cells (cells_of (table_of shapes)) (map typed_field fs)) → FieldsLie shapes before (fs ++ f ∷ [])
 lie-more shapes before f [] h e = (e ∙ ap saturated (omega arith), tt)
-lie-more shapes before f (g ∷ fs) h e = (h.0, lie-more shapes _ f fs h.1 (e ∙ ap saturated (omega arith)))
+lie-more shapes before f (g ∷ fs) h e = (h.0, lie-more shapes (before + cells_of (table_of shapes) g.number) f fs h.1 (e ∙ ap saturated (omega arith)))
 
 numbered-more : (shapes : List Shape) (f : Field) (fs : List Field) → FieldsNumbered shapes fs → NumberIn shapes f.subtype f.number → FieldsNumbered shapes (fs ++ f ∷ [])
 numbered-more shapes f [] h e = (e, tt)

@@ -141,7 +141,7 @@ numbered_kept shapes more (shape.Record fs cells) h = (h.0, fields_numbered shap
 lie_kept : (shapes : List Shape) (t : Shape) (before : ℕ) (fs : List Field) → FieldsBefore (length shapes) fs → FieldsLie shapes before fs → FieldsLie (shapes ++ t ∷ []) before fs
 lie_kept shapes t before [] b h = tt
 lie_kept shapes t before (f ∷ fs) b h =
-    (h.0, subst (λ k. FieldsLie (shapes ++ t ∷ []) (before + k) fs) (sym (count_kept shapes t f.number b.0)) (lie_kept shapes t _ fs b.1 h.1))
+    (h.0, subst (λ k. FieldsLie (shapes ++ t ∷ []) (before + k) fs) (sym (count_kept shapes t f.number b.0)) (lie_kept shapes t (before + cells_of (table_of shapes) f.number) fs b.1 h.1))
 
 fields_before : (n m : ℕ) (fs : List Field) → n ≤ m → FieldsBefore n fs → FieldsBefore m fs
 fields_before n m [] l h = tt
