@@ -149,7 +149,7 @@ module _ (P : Program) (L : Log) (F : Facts P L) where
       let x = field-in (before + typed.cells_of (table_of L.shapes) g.number) fs h.1 k.1 (omega (arith, l, many)) i f e in
       record { offset = size (subtype_shape P g.number) + x.offset; is = x.is ∙ omega (arith, many); at = (x.offset, refl, x.at); small = omega (arith, x.small) }
 
-  has-fields : (n : ℕ) (fs : List Field) (cells : ℕ) → slice_get L.shapes n ≡ Some (entry.Record fs cells) → Small (subtype_shape P n) → HasFields P n fs
+  pub has-fields : (n : ℕ) (fs : List Field) (cells : ℕ) → slice_get L.shapes n ≡ Some (entry.Record fs cells) → Small (subtype_shape P n) → HasFields P n fs
   has-fields n fs cells e l = record { parts = parts; shape = is; at = λ i f g. by f (field-in 0 fs (F.sound.lie F.values n t e) (F.sound.numbered n t e).1 all i f g) }
     where
       t : Entry
@@ -170,13 +170,13 @@ module _ (P : Program) (L : Log) (F : Facts P L) where
       by : {i : ℕ} (f : Field) → FieldIn parts i 0 f (shape_of P f.subtype) → FieldAt parts i f.offset (shape_of P f.subtype) × Small (shape_of P f.subtype)
       by {i} f x = let same : x.offset ≡ f.offset = omega (arith, x.is) in (subst (λ o. FieldAt parts i o (shape_of P f.subtype)) same x.at, omega (arith, x.small, many))
 
-  fields-few : (n : ℕ) (fs : List Field) (cells : ℕ) → slice_get L.shapes n ≡ Some (entry.Record fs cells) → cells ≤ size (subtype_shape P n)
+  pub fields-few : (n : ℕ) (fs : List Field) (cells : ℕ) → slice_get L.shapes n ≡ Some (entry.Record fs cells) → cells ≤ size (subtype_shape P n)
   fields-few n fs cells e = omega (arith, counted n (entry.Record fs cells) e, no-more (size (subtype_shape P n)))
 
   -- ---- arrays, by a log that leads to the whole one
 
   module _ (now : Log) (more : List Entry) (grows : L.shapes ≡ now.shapes ++ more) where
-    later : (n : ℕ) (t : Entry) → slice_get now.shapes n ≡ Some t → slice_get L.shapes n ≡ Some t
+    pub later : (n : ℕ) (t : Entry) → slice_get now.shapes n ≡ Some t → slice_get L.shapes n ≡ Some t
     later n t e = ap (λ s. slice_get s n) grows ∙ get_kept now.shapes more n t e
 
     one-in : (c : Subtype) (k : ℕ) → NumberIn L.shapes c k → k < length now.shapes → cells_in now c ≡ saturated (size (shape_of P c))
@@ -198,7 +198,7 @@ module _ (P : Program) (L : Log) (F : Facts P L) where
         let t = entry.Array ds c k cells in
         subst (λ u. 0 < size u) (numbered c k (F.sound.numbered n t e)) (some k (omega (arith, (F.sound.before n t e).1, slice_get_within L.shapes n t e)))
 
-    has-dimensions : (n : ℕ) (ds : List Dimension) (c : Subtype) (k cells : ℕ) → slice_get now.shapes n ≡ Some (entry.Array ds c k cells) → Small (subtype_shape P n) → HasDimensions P n ds c (cells_in now c) cells
+    pub has-dimensions : (n : ℕ) (ds : List Dimension) (c : Subtype) (k cells : ℕ) → slice_get now.shapes n ≡ Some (entry.Array ds c k cells) → Small (subtype_shape P n) → HasDimensions P n ds c (cells_in now c) cells
     has-dimensions n ds c k cells e l = record {
       shape = is;
       strides = strides ds t (cells_in now c) values small many;
@@ -237,7 +237,7 @@ module _ (P : Program) (L : Log) (F : Facts P L) where
         divided : cells / cells_in now c ≡ components (map dimension_bounds ds)
         divided = ap₂ (λ x y. x / y) all one ∙ mul-div_cancel (components (map dimension_bounds ds)) (component-some n ds c k cells g)
 
-    dimensions-few : (n : ℕ) (d : Dimension) (ds : List Dimension) (c : Subtype) (k cells : ℕ) → slice_get now.shapes n ≡ Some (entry.Array (d ∷ ds) c k cells) → extent d * array_cells ds (cells_in now c) ≤ size (subtype_shape P n)
+    pub dimensions-few : (n : ℕ) (d : Dimension) (ds : List Dimension) (c : Subtype) (k cells : ℕ) → slice_get now.shapes n ≡ Some (entry.Array (d ∷ ds) c k cells) → extent d * array_cells ds (cells_in now c) ≤ size (subtype_shape P n)
     dimensions-few n d ds c k cells e =
         let g = later n (entry.Array (d ∷ ds) c k cells) e in
         let v = values-at n (d ∷ ds) c k cells g in
@@ -248,10 +248,10 @@ module _ (P : Program) (L : Log) (F : Facts P L) where
 
   -- ---- what is known in a log that leads to the whole one
 
-  leads : (log now : Log) (more : List Entry) → L.shapes ≡ log.shapes ++ more → now.shapes ≡ log.shapes → L.shapes ≡ now.shapes ++ more
+  pub leads : (log now : Log) (more : List Entry) → L.shapes ≡ log.shapes ++ more → now.shapes ≡ log.shapes → L.shapes ≡ now.shapes ++ more
   leads log now more g e = g ∙ ap (λ s. s ++ more) (sym e)
 
-  pub world : (log : Log) (more : List Entry) → L.shapes ≡ log.shapes ++ more → World
+  abbrev pub world : (log : Log) (more : List Entry) → L.shapes ≡ log.shapes ++ more → World
   world log more g = record {
     program = P;
     shapes = log.shapes;
@@ -268,3 +268,7 @@ module _ (P : Program) (L : Log) (F : Facts P L) where
     where
       same : slice_get P.objects n ≡ Some o → object_shape P n ≡ subtype_shape P o.subtype
       same g = rw g
+
+  -- it is no larger than it counts
+  pub object-small : (n : ℕ) (o : Object) (t : Subtype) → slice_get L.objects n ≡ Some o → NumberIn L.shapes t o.subtype → o.cells ≤ 4194304 → Small (shape_of P t)
+  object-small n o t e i l = subst (λ u. size u ≤ 4194304) (numbered t o.subtype i) (subst (λ k. k ≤ 4194304) (F.sound.cells F.values n o e ∙ sized o.subtype) l)

@@ -1,3 +1,4 @@
 pub mod Forms
 pub mod FormsFound
 pub mod FormsShapes
+pub mod FormsBack
