@@ -1,2 +1,11 @@
 pub mod Forms
 pub mod FormsFound
+pub mod FormsValues
+pub mod FormsOperators
+pub mod FormsScope
+pub mod FormsExpressions
+pub mod FormsNames
+pub mod FormsRanges
+pub mod FormsIterations
+pub mod FormsReducers
+pub mod FormsCalls
