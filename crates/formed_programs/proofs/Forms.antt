@@ -65,11 +65,11 @@ pub record Sight : Type 0 where
   pub bound : ℕ
 
 -- what is found is as is asked, where nothing joins the table; it may speak of the numbers of parameters that were given
-pub record Walks (W : World) (V : Sight) {A : Type 0} (Q : ℕ → A → Type 0) (p : Judging A) : Type 0 where
-  pub at : (log : Log) → log.shapes ≡ W.shapes → V.bound ≤ log.parameters → ((p log).1.shapes ≡ W.shapes) × (log.parameters ≤ (p log).1.parameters) × Q (p log).1.parameters (p log).0
+pub record Walks (W : World) (bound : ℕ) {A : Type 0} (Q : ℕ → A → Type 0) (p : Judging A) : Type 0 where
+  pub at : (log : Log) → log.shapes ≡ W.shapes → bound ≤ log.parameters → ((p log).1.shapes ≡ W.shapes) × (log.parameters ≤ (p log).1.parameters) × Q (p log).1.parameters (p log).0
 
 abbrev pub Forms : (W : World) (V : Sight) {A : Type 0} (Q : A → Type 0) (p : Judging A) → Type 0
-Forms W V Q p = Walks W V (λ m. Q) p
+Forms W V Q p = Walks W V.bound (λ m. Q) p
 
 abbrev pub Any : {A : Type 0} → A → Type 0
 Any a = Unit {0}
@@ -119,15 +119,8 @@ module _ (W : World) (V : Sight) where
         (y.0, more log.parameters (p log).1.parameters (f (p log).0 (p log).1).1.parameters x.1 y.1, y.2);
   }
 
-  -- the same, where what is found may have new parameters
-  pub w-bind : {A B : Type 0} (Q : ℕ → A → Type 0) (R : ℕ → B → Type 0) (p : Judging A) (f : A → Judging B) → Walks W V Q p
-      → ((a : A) (m : ℕ) → V.bound ≤ m → Q m a → Walks W (record { known = V.known; bound = m }) R (f a)) → Walks W V R (p >>= f)
-  w-bind Q R p f m n = record {
-    at = λ log h l.
-        let x = m.at log h l in
-        let y = (n (p log).0 (p log).1.parameters (more V.bound log.parameters (p log).1.parameters l x.1) x.2).at (p log).1 x.0 (least (p log).1.parameters) in
-        (y.0, more log.parameters (p log).1.parameters (f (p log).0 (p log).1).1.parameters x.1 y.1, y.2);
-  }
+  pub f-weaken : {A : Type 0} (Q R : A → Type 0) (p : Judging A) → Forms W V Q p → ((a : A) → Q a → R a) → Forms W V R p
+  f-weaken Q R p m f = record { at = λ log h l. let x = m.at log h l in (x.0, x.1, f (p log).0 x.2) }
 
   pub f-if : {A : Type 0} (Q : A → Type 0) (b : Bool) (p q : Judging A) → Forms W V Q p → Forms W V Q q → Forms W V Q (if b then p else q)
   f-if Q true p q m n = m
@@ -152,20 +145,6 @@ module _ (W : World) (V : Sight) where
   f-where_clean Q R p f m n =
       f-bind (λ r. Q r.0) (Maybe R) (clean p) (λ r. if r.1 then f r.0 else pure None) (record { at = m.at }) (λ r q. f-if (Maybe R) r.1 (f r.0) (pure None) (n r.0 q) (f-none R))
 
-  -- a new parameter
-  pub w-new_parameter : Walks W V (λ m n. (V.bound ≤ n) × (suc n ≤ m)) new_parameter
-  w-new_parameter = record { at = λ log h l. (h, later log.parameters, (l, next log.parameters)) }
-    where
-      later : (n : ℕ) → n ≤ n + 1
-      later n = omega arith
-
-      next : (n : ℕ) → suc n ≤ n + 1
-      next n = omega arith
-
--- what was found where fewer parameters were given is so where more were
-pub w-any : (W : World) (V : Sight) {A : Type 0} (Q : A → Type 0) (p : Judging A) → Forms W V Q p → Walks W V (λ m. Q) p
-w-any W V Q p m = m
-
 pub mapped : {A B : Type 0} (Q : A → Type 0) (R : B → Type 0) (g : A → B) (x : Option A) → Maybe Q x → ((a : A) → Q a → R (g a)) → Maybe R (option_map g x)
 mapped Q R g None q m = tt
 mapped Q R g (Some a) q m = m a q
@@ -174,3 +153,38 @@ pub joint : {A B C : Type 0} (Q : A → Type 0) (R : B → Type 0) (S : C → Ty
 joint Q R S g None y q r m = tt
 joint Q R S g (Some a) None q r m = tt
 joint Q R S g (Some a) (Some b) q r m = m a b q r
+
+-- ---- judging that gives numbers to new parameters
+
+module _ (W : World) (b : ℕ) where
+  pub w-pure : {A : Type 0} (Q : ℕ → A → Type 0) (a : A) → ((m : ℕ) → b ≤ m → Q m a) → Walks W b Q (pure a)
+  w-pure Q a q = record { at = λ log h l. (h, least log.parameters, q log.parameters l) }
+
+  pub w-bind : {A B : Type 0} (Q : ℕ → A → Type 0) (R : ℕ → B → Type 0) (p : Judging A) (f : A → Judging B) → Walks W b Q p → ((a : A) (m : ℕ) → b ≤ m → Q m a → Walks W m R (f a)) → Walks W b R (p >>= f)
+  w-bind Q R p f m n = record {
+    at = λ log h l.
+        let x = m.at log h l in
+        let y = (n (p log).0 (p log).1.parameters (more b log.parameters (p log).1.parameters l x.1) x.2).at (p log).1 x.0 (least (p log).1.parameters) in
+        (y.0, more log.parameters (p log).1.parameters (f (p log).0 (p log).1).1.parameters x.1 y.1, y.2);
+  }
+
+  pub w-if : {A : Type 0} (Q : ℕ → A → Type 0) (c : Bool) (p q : Judging A) → Walks W b Q p → Walks W b Q q → Walks W b Q (if c then p else q)
+  w-if Q true p q m n = m
+  w-if Q false p q m n = n
+
+  pub w-weaken : {A : Type 0} (Q R : ℕ → A → Type 0) (p : Judging A) → Walks W b Q p → ((m : ℕ) (a : A) → b ≤ m → Q m a → R m a) → Walks W b R p
+  w-weaken Q R p m f = record { at = λ log h l. let x = m.at log h l in (x.0, x.1, f (p log).1.parameters (p log).0 (more b log.parameters (p log).1.parameters l x.1) x.2) }
+
+  -- a new parameter
+  pub w-new_parameter : Walks W b (λ m n. (b ≤ n) × (suc n ≤ m)) new_parameter
+  w-new_parameter = record { at = λ log h l. (h, later log.parameters, (l, next log.parameters)) }
+    where
+      later : (n : ℕ) → n ≤ n + 1
+      later n = omega arith
+
+      next : (n : ℕ) → suc n ≤ n + 1
+      next n = omega arith
+
+  -- what is so for fewer parameters that were given before is so for more
+  pub w-less : {A : Type 0} (c : ℕ) (Q : ℕ → A → Type 0) (p : Judging A) → c ≤ b → Walks W c Q p → Walks W b Q p
+  w-less c Q p l m = record { at = λ log h k. m.at log h (more c b log.parameters l k) }

@@ -1,4 +1,15 @@
 pub mod Forms
 pub mod FormsFound
+pub mod FormsValues
+pub mod FormsOperators
+pub mod FormsScope
+pub mod FormsExpressions
+pub mod FormsNames
+pub mod FormsRanges
+pub mod FormsIterations
+pub mod FormsReducers
+pub mod FormsCalls
 pub mod FormsShapes
 pub mod FormsBack
+pub mod FormsTypes
+pub mod FormsDeclarations
