@@ -9,3 +9,8 @@ pub mod FormsRanges
 pub mod FormsIterations
 pub mod FormsReducers
 pub mod FormsCalls
+pub mod FormsAttributes
+pub mod FormsOutput
+pub mod FormsAggregates
+pub mod FormsParts
+pub mod FormsPrimaries
