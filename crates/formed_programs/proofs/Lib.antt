@@ -14,3 +14,7 @@ pub mod FormsOutput
 pub mod FormsAggregates
 pub mod FormsParts
 pub mod FormsPrimaries
+pub mod FormsShapes
+pub mod FormsBack
+pub mod FormsTypes
+pub mod FormsDeclarations
