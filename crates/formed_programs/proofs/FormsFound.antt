@@ -74,12 +74,16 @@ abbrev pub RootOf : World → Sight → Bool → Root → Shape → Type 0
 RootOf W V true r t = root_shape W.program V.known r ≡ Some t
 RootOf W V false r t = constant_shape W.program V.known r ≡ Some t
 
-pub record PlaceOf (W : World) (V : Sight) (p : Place) (x : Part) : Type 0 where
+-- the name of an object or of a part of one, where it stands in what is known
+pub record Placed (W : World) (w : Around') (p : Place) (x : Part) : Type 0 where
   pub whole : Shape
-  pub root : RootOf W V p.variable p.root whole
-  pub path : PathOf W V whole (shape_of W.program p.subtype) x
+  pub root : RootOf W (record { known = w; bound = 0 }) p.variable p.root whole
+  pub path : PathOf W (record { known = w; bound = 0 }) whole (shape_of W.program p.subtype) x
   pub small : Small (shape_of W.program p.subtype)
-  pub static : (z : ℤ) → p.value ≡ Some z → MentionsOf W V x
+  pub static : (z : ℤ) → p.value ≡ Some z → MentionsOf W (record { known = w; bound = 0 }) x
+
+abbrev pub PlaceOf : World → Sight → Place → Part → Type 0
+PlaceOf W V p x = Placed W V.known p x
 
 -- ---- values
 

@@ -208,7 +208,7 @@ module _ (W : World) (V : Sight) where
   no-walk m token f l = record { known = V.known; made = tt; entry = tt; around = λ here h. around-later W V.known V.bound m here l h }
 
   -- an item of a component's shape
-  item-walk : (p : Place) (x : Part) (n m token : ℕ) (f : OptionalExpr) (k : ℕ) (ds : List Dimension) (c : Subtype) (one cells : ℕ) → V.bound ≤ n → suc n ≤ m → PlaceOf W V p x → p.subtype ≡ subtype.Composite k → HasDimensions W.program k ds c one cells
+  pub item-walk : (p : Place) (x : Part) (n m token : ℕ) (f : OptionalExpr) (k : ℕ) (ds : List Dimension) (c : Subtype) (one cells : ℕ) → V.bound ≤ n → suc n ≤ m → PlaceOf W V p x → p.subtype ≡ subtype.Composite k → HasDimensions W.program k ds c one cells
       → (b : Bool) → p.variable ≡ b
       → WalkedOf W V m (record { made = Some (part.AnIteration (typed.Components n (not b) p.first p.root (selections_of x) (cells / one) one (length ds) typed.Absent)); token = token; entry = what.Item n c b; filter = f; reverse = None })
   item-walk p x n m token f k ds c one cells l g h e d true v =

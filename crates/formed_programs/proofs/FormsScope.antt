@@ -69,8 +69,8 @@ module _ (W : World) (V : Sight) where
   -- ---- identifiers
 
   -- an object or an item stands for all of itself
-  whole : (p : Place) → RootOf W V p.variable p.root (shape_of W.program p.subtype) → Small (shape_of W.program p.subtype) → PlaceOf W V p part.Nothing
-  whole p g h = record { whole = shape_of W.program p.subtype; root = g; path = λ r u s f. (s, f); small = h; static = λ z e. tt }
+  pub whole-place : (p : Place) → RootOf W V p.variable p.root (shape_of W.program p.subtype) → Small (shape_of W.program p.subtype) → PlaceOf W V p part.Nothing
+  whole-place p g h = record { whole = shape_of W.program p.subtype; root = g; path = λ r u s f. (s, f); small = h; static = λ z e. tt }
 
   object-root : (n : ℕ) (t : Shape) (v : Bool) → object_shape W.program n ≡ t → RootOf W V v (root.Object n) t
   object-root n t true e = ap Some e
@@ -79,9 +79,9 @@ module _ (W : World) (V : Sight) where
   f-stands : (here : Context) (token name : ℕ) (w : What) → WhatOf W V w → Forms W V (Maybe (DenotedOf W V)) (stands here token name (Some w))
   f-stands here token name what.Hidden h = f-fault W V (DenotedOf W V) token NotVisible
   f-stands here token name what.Broken h = f-none W V (DenotedOf W V)
-  f-stands here token name (what.Object n t v z) h = f-some W V (DenotedOf W V) _ (whole (object token n t v z) (object-root n (shape_of W.program t) v h.0) h.1)
+  f-stands here token name (what.Object n t v z) h = f-some W V (DenotedOf W V) _ (whole-place (object token n t v z) (object-root n (shape_of W.program t) v h.0) h.1)
   f-stands here token name (what.Parameter n s) h = f-some W V (DenotedOf W V) _ tt
-  f-stands here token name (what.Item n t v) h = f-some W V (DenotedOf W V) _ (whole (item token n t v) h.1 h.2)
+  f-stands here token name (what.Item n t v) h = f-some W V (DenotedOf W V) _ (whole-place (item token n t v) h.1 h.2)
   f-stands here token name (what.Number z) h = f-some W V (DenotedOf W V) _ tt
   f-stands here token name (what.Boolean b) h = f-some W V (DenotedOf W V) _ tt
   f-stands here token name (what.Type t) h = f-some W V (DenotedOf W V) _ tt

@@ -271,7 +271,7 @@ module _ (W : World) (V : Sight) where
   -- ---- what is stored
 
   -- a whole object has the cells of its subtype
-  of-cells : (n : ℕ) → cells_of W.program.subtypes n ≤ size (subtype_shape W.program n)
+  pub of-cells : (n : ℕ) → cells_of W.program.subtypes n ≤ size (subtype_shape W.program n)
   of-cells n = subst (λ c. c ≤ size (subtype_shape W.program n)) (sym (W.counted n)) (least (size (subtype_shape W.program n)))
 
   f-whole_of : (n : ℕ) (p : Place) (x : Part) (s : Subtype) → p.subtype ≡ s → PlaceOf W V p x → Forms W V (Maybe (WideOf W V n)) (whole_of n p (selections_of x) s)

@@ -9,6 +9,11 @@ pub mod FormsRanges
 pub mod FormsIterations
 pub mod FormsReducers
 pub mod FormsCalls
+pub mod FormsAttributes
+pub mod FormsOutput
+pub mod FormsAggregates
+pub mod FormsParts
+pub mod FormsPrimaries
 pub mod FormsShapes
 pub mod FormsBack
 pub mod FormsTypes
