@@ -34,7 +34,8 @@ use Rattle.name_rules.specs.declared.types.Subtype.{Subtype}
 use Rattle.name_rules.specs.declared.types.Subtype.TheVariants as subtype
 use Rattle.name_laws.proofs.CellsFormed.{all-values, formed_law}
 use Rattle.name_laws.proofs.CellsPrograms.{all-sound}
-use Rattle.name_laws.proofs.KeepsDeclarations.{k-cells_counted, k-declaration, k-declarations}
+use Rattle.name_laws.proofs.Fitting.{Fits}
+use Rattle.name_laws.proofs.KeepsDeclarations.{k-cells_counted, k-declaration}
 use Rattle.name_laws.proofs.KeepsExpressions.{k-judged_alone, k-value_for}
 use Rattle.name_laws.proofs.KeepsPrimaries.{k-inside}
 use Rattle.name_laws.proofs.KeepsPrograms as k
@@ -42,7 +43,7 @@ use Rattle.name_laws.proofs.KeepsScope.{k-free, k-subtype_named}
 use Rattle.name_laws.proofs.KeepsStatements.{k-around, k-body}
 use Rattle.name_laws.proofs.Lying.{typed-from}
 use Rattle.name_laws.proofs.Places.{one-place, steady}
-use Rattle.name_laws.proofs.Walk.{k-unless}
+use Rattle.name_laws.specs.Formed.{HaveComponents}
 use Rattle.name_laws.specs.OwnNames.{AreNumbered}
 use Rattle.formed_programs.proofs.Forms.{Any, Maybe, Sight, World, any, joint, mapped}
 use Rattle.formed_programs.proofs.FormsBack.{And, Back, Leads, Near, b-any, b-bind, b-lift, b-none, b-pure, leading, leads_here, leads_joined, now, profiling}
@@ -345,8 +346,8 @@ module _ (P : typed.Program) (L : Log) (F : Facts P L) where
 
   clause-near : (V : Sight) (w : ClauseWord) (here : Context) (first : ℕ) (name : Option ℕ) (log : Log) → Near P L F V here → Near P L F V (p.clause_name w here first name log).0
   clause-near V w here first None log r = r
-  clause-near V word.With here first (Some name) log r mid l = let x = r mid l in record { scope = x.scope; target = x.target }
-  clause-near V word.Use here first (Some name) log r mid l = let x = r mid l in record { scope = x.scope; target = x.target }
+  clause-near V word.With here first (Some name) log r = λ mid l. let x = r mid l in record { scope = x.scope; target = x.target }
+  clause-near V word.Use here first (Some name) log r = λ mid l. let x = r mid l in record { scope = x.scope; target = x.target }
 
   packs-near : (V : Sight) (names : Names) (w : ClauseWord) (here : Context) (ps : List Pack) (log : Log) → Near P L F V here → Near P L F V (p.clause_packs names w here ps log).0
   packs-near V names w here [] log r = r

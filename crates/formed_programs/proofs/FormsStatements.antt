@@ -223,7 +223,7 @@ module _ (P : Program) (L : Log) (F : Facts P L) where
 
   also-alternative : (V : Sight) (d : Choosing) (made ss : Option Part) → Each (ExprIn V) d.mentions → Maybe (Each (IsAlternative V)) made → Maybe (StmtsIn V) ss → Maybe (Each (IsAlternative V)) (s.also_alternative d made ss)
   unfolding s.also_alternative
-  also-alternative V d made ss e g h = joint (Each (IsAlternative V)) (StmtsIn V) (Each (IsAlternative V)) (s.with_alternative d) made ss g h (λ a b m n. ((λ as' r. (exprs-formed P V d.mentions e, n, r)), m))
+  also-alternative V d made ss e g h = joint (Each (IsAlternative V)) (StmtsIn V) (Each (IsAlternative V)) (s.with_alternative d) made ss g h (λ a b m n. ((λ as' r. (exprs-formed P L F V d.mentions e, n, r)), m))
 
   b-alternative : (V : Sight) (G : Type 0) (a : Judges) (here : Context) (kind : Option Kind) (last : Bool) (c : Covering) (made : Option Part) (x : Alt) → AroundForms a → (G → Near P L F V here) → (G → Maybe (Each (IsAlternative V)) made)
       → Back L V G (CasesIn V) (s.alternative a here kind last c made x)
@@ -345,14 +345,14 @@ module _ (P : Program) (L : Log) (F : Facts P L) where
     pub stmts : FormedAll P V.known (as_body x).stmts
     pub handlers : FormedHandlers P V.known (as_body x).handlers
 
-  pub b-body : (V : Sight) (G : Type 0) (a : Judges) (here : Context) (ds : Option Part) (b : Body) → AroundForms a → (G → Near P L F V here) → (G → Maybe (DeclsIn P V) ds) → Back L V G (Maybe (BodyIn V)) (s.body a here ds b)
+  pub b-body : (V : Sight) (G : Type 0) (a : Judges) (here : Context) (ds : Option Part) (b : Body) → AroundForms a → (G → Near P L F V here) → (G → Maybe (DeclsIn P L F V) ds) → Back L V G (Maybe (BodyIn V)) (s.body a here ds b)
   unfolding s.body
   b-body V G a here ds (syntax.body x hs) f r g =
       b-bind L V G (Maybe (StmtsIn V)) (Maybe (BodyIn V)) (s.stmts a here x) _ (b-stmts V G a here x f r) (λ ss.
       b-bind L V _ (Maybe (Each (IsHandler V))) (Maybe (BodyIn V)) (s.handlers a here [] (Some part.Nothing) hs) _ (b-handlers V _ a here [] (Some part.Nothing) hs f (λ t. r t.old) (λ t. tt)) (λ xs.
-      b-given L V _ (DeclsIn P V) (BodyIn V) ds (s.body_made ss xs) (λ t. g t.old.old) (λ d.
+      b-given L V _ (DeclsIn P L F V) (BodyIn V) ds (s.body_made ss xs) (λ t. g t.old.old) (λ d.
       b-pure L V _ (Maybe (BodyIn V)) (joined (s.body_part d) ss xs) (λ t. joint (StmtsIn V) (Each (IsHandler V)) (BodyIn V) (s.body_part d) ss xs t.old.old.new t.old.new
-      (λ b c m n. record { decls = decls-formed P V d t.new; stmts = m; handlers = handlers-list V (turned c) (each-turned (IsHandler V) c n) })))))
+      (λ b c m n. record { decls = decls-formed P L F V d t.new; stmts = m; handlers = handlers-list V (turned c) (each-turned (IsHandler V) c n) })))))
 
   block-of : (V : Sight) (x : Part) → BodyIn V x → StmtIn V (s.block_part x)
   block-of V x h = (h.decls, h.stmts, h.handlers)

@@ -18,3 +18,6 @@ pub mod FormsShapes
 pub mod FormsBack
 pub mod FormsTypes
 pub mod FormsDeclarations
+pub mod FormsSimple
+pub mod FormsStatements
+pub mod FormsPrograms
