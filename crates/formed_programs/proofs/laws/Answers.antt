@@ -2,4 +2,4 @@ use Rattle.formed_programs.proofs.laws.Goals as goal
 use Rattle.formed_programs.proofs.FormsPrograms.{formed_programs_law}
 
 pub returns : goal.returns
-returns c = formed_programs_law
+returns c = record { formed = formed_programs_law }
