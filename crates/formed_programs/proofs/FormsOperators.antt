@@ -258,7 +258,7 @@ module _ (W : World) (V : Sight) where
   unfolding membership
   f-membership at negated x low high f g h = f-given W V (FoundOf W V) (FoundOf W V) x _ f (λ a p. f-both W V (FoundOf W V) (FoundOf W V) (FoundOf W V) low high (member_of at negated a) g h (λ l m q r. f-member_of at negated a l m p q r))
 
-  pub f-of_subtype : (at : ℕ) (negated : Bool) (mark : ℕ) (x : Option Found) (s : Option Scalar) → Maybe (FoundOf W V) x →  Forms W V (Maybe (FoundOf W V)) (of_subtype at negated mark x s)
+  pub f-of_subtype : (at : ℕ) (negated : Bool) (mark : ℕ) (x : Option Found) (s : Option Scalar) → Maybe (FoundOf W V) x → Forms W V (Maybe (FoundOf W V)) (of_subtype at negated mark x s)
   unfolding of_subtype
   f-of_subtype at negated mark x s g = f-both W V (FoundOf W V) Any (FoundOf W V) x s _ g (any s) (λ a t p q.
       f-if W V (Maybe (FoundOf W V)) (suits t.kind a.known) _ (fault at WrongType)

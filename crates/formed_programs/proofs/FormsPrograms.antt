@@ -231,7 +231,7 @@ module _ (P : typed.Program) (L : Log) (F : Facts P L) where
 
   bodied : (names : Names) (n : ℕ) (blocking : Bool) (start : ℕ) (here : Context) (name : ℕ) (result : Option ℕ) (fs : Option Formals) (a : Option Aspect) (ds : List Decl) (b : Body) (last : Option ℕ) (log : Log)
       → (let q = p.profile names start here name result fs log in let s = p.with_body names n blocking name q.0 a ds b last q.1 in
-        Leads s.1 L → ((m : ℕ) → length log.profiles ≤ m → Near P L F (place m) here) → SubprogramIn log ((q.0.outer, s.0), s.1))
+      Leads s.1 L → ((m : ℕ) → length log.profiles ≤ m → Near P L F (place m) here) → SubprogramIn log ((q.0.outer, s.0), s.1))
   bodied names n blocking start here name result fs a ds b last log l r =
       let q = p.profile names start here name result fs log in
       let s = p.with_body names n blocking name q.0 a ds b last q.1 in
@@ -247,7 +247,7 @@ module _ (P : typed.Program) (L : Log) (F : Facts P L) where
 
   valued : (names : Names) (n : ℕ) (blocking : Bool) (start : ℕ) (here : Context) (name : ℕ) (result : Option ℕ) (fs : Option Formals) (a : Option Aspect) (e : Expr) (log : Log)
       → (let q = p.profile names start here name result fs log in let s = p.with_value_of names n blocking q.0 a e q.1 in
-        Leads s.1 L → ((m : ℕ) → length log.profiles ≤ m → Near P L F (place m) here) → SubprogramIn log ((q.0.outer, s.0), s.1))
+      Leads s.1 L → ((m : ℕ) → length log.profiles ≤ m → Near P L F (place m) here) → SubprogramIn log ((q.0.outer, s.0), s.1))
   valued names n blocking start here name result fs a e log l r =
       let q = p.profile names start here name result fs log in
       let s = p.with_value_of names n blocking q.0 a e q.1 in
