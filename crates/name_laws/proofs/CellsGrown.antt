@@ -1,5 +1,5 @@
 -- The table of subtypes only grows, and what it counts of earlier ones stays.
-use Rattle.std.proofs.Common.{◌≡◌, ℕ, zero, suc, ◌+◌, ◌<◌, nat_le, nat_lt, List, [], ◌∷◌, ◌++◌, length, length-append, Some, Bool, true, false, refl, sym, ap, subst, ◌∙◌, arith, slice_get, map, ◌==◌}
+use Rattle.std.proofs.Common.{◌≡◌, ℕ, ◌+◌, ◌<◌, nat_le, nat_lt, List, [], ◌∷◌, ◌++◌, length, length-append, Some, Bool, true, false, refl, sym, ap, subst, ◌∙◌, arith, slice_get, map, ◌==◌}
 use Rattle.std.proofs.lemmas.List.{append_assoc, append-nil}
 use Rattle.std.specs.Prelude.{not, ◌||◌}
 use Rattle.ada_typed.specs.Layout.{cells_of, fields_cells}
