@@ -1,5 +1,5 @@
 -- Judging that finds what is as is asked, where what is known of a program's table of subtypes holds of the table so far.
-use Rattle.std.proofs.Common.{◌≡◌, refl, ◌∙◌, ℕ, suc, ◌+◌, ◌*◌, ◌≤◌, List, [], ◌∷◌, length, slice_get, Option, Some, None, Bool, true, false, if◌then◌else◌, option_map, map, arith}
+use Rattle.std.proofs.Common.{◌≡◌, refl, ℕ, suc, ◌+◌, ◌*◌, ◌≤◌, List, [], ◌∷◌, length, slice_get, Option, Some, None, Bool, true, false, if◌then◌else◌, option_map, map, arith}
 use Rattle.std.specs.Prelude.{◌/◌}
 use Rattle.ada_meaning.specs.Formed as formed
 use Rattle.ada_meaning.specs.Shapes.{Shape, Shapes, Single, FieldAt, ComponentAt, array_of, cells_of, size, subtype_shape}

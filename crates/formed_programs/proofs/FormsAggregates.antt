@@ -12,17 +12,16 @@ use Rattle.ada_typed.specs.Latest.{turned}
 use Rattle.ada_typed.specs.Syntax.{Associations}
 use Rattle.ada_typed.specs.declared.expressions.Iterated.{Iterated}
 use Rattle.ada_typed.specs.declared.expressions.Run.{Run}
-use Rattle.name_rules.specs.Aggregates.{ByAssociation, ByPosition, Choosing', Component, Contents, Filling, Placing, aggregate, aggregate_part, also_chosen, array_assoc, array_assocs, array_at, array_choice, array_choices, as_rest, assoc_value, assocs_alone, exprs_alone, field_choice, first_of_choice, has_symbol, named_field, one_field, optional_alone, value_choice, without, array_of, array_placed, array_rest, array_values, by_position, chosen_given, component_at, composite_at, composite_found, contents_alone, covered, covered_alone, dimension_of, field_choices, field_run, field_value, fields_value, filled, filling, gaps_of, index_what, inner_aggregate, inner_value, is_alone, is_final, is_last, iterated_given, no_aggregate, nothing_placed, of_index_type, record_assoc, record_assocs, record_parts, record_rest, record_values, rest_found, runs_of, some_fields, with_ranges, with_rest, with_runs, with_value}
+use Rattle.name_rules.specs.Aggregates.{ByAssociation, ByPosition, Choosing', Component, Contents, Filling, Placing, aggregate, aggregate_part, also_chosen, array_assoc, array_assocs, array_at, array_choice, array_choices, as_rest, assoc_value, assocs_alone, exprs_alone, field_choice, first_of_choice, has_symbol, named_field, one_field, optional_alone, value_choice, without, array_placed, array_rest, array_values, by_position, chosen_given, component_at, composite_at, composite_found, contents_alone, covered, covered_alone, dimension_of, field_choices, field_run, field_value, fields_value, filled, filling, gaps_of, index_what, inner_aggregate, inner_value, is_alone, is_final, is_last, iterated_given, no_aggregate, nothing_placed, of_index_type, record_assoc, record_assocs, record_parts, record_rest, record_values, rest_found, runs_of, some_fields, with_ranges, with_rest, with_runs, with_value}
 use Rattle.name_rules.specs.Expressions.{Inside, expr, judged_alone, value_for}
 use Rattle.name_rules.specs.Found.{Found}
 use Rattle.name_rules.specs.Judging.{◌>>=◌, breaks, fault, given, joined, pure, read, some, unless, where_clean}
-use Rattle.name_rules.specs.Names.{is_record}
 use Rattle.name_rules.specs.Parts.{new_parameter}
 use Rattle.name_rules.specs.Ranges.{Chosen, Static, chosen_span, chosen_value, static_range}
-use Rattle.name_rules.specs.Scope.{entry, with_entry}
+use Rattle.name_rules.specs.Scope.{with_entry}
 use Rattle.name_rules.specs.Shapes.{identifier_of_choice, is_aggregate}
 use Rattle.name_rules.specs.Symbols.{symbol}
-use Rattle.name_rules.specs.Types.{array_cells, cells_in, cells_of_shape, component_of, dimensions_of, extent, fields_of, same, shape_in}
+use Rattle.name_rules.specs.Types.{array_cells, cells_in, extent, same, shape_in}
 use Rattle.name_rules.specs.declared.found.Found.TheVariants as known
 use Rattle.name_rules.specs.declared.found.Found.{Found as Known}
 use Rattle.name_rules.specs.declared.log.Dimension.{Dimension}

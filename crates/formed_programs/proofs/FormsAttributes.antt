@@ -1,5 +1,5 @@
 -- What is found is formed: attributes.
-use Rattle.std.proofs.Common.{◌≡◌, refl, inl, ℕ, zero, suc, ℤ, pos, List, [], ◌∷◌, length, Option, Some, None, Bool, true, false, if◌then◌else◌, option_map, ◌&&◌, ◌-◌, int_le, slice_get}
+use Rattle.std.proofs.Common.{ℕ, ℤ, pos, List, [], ◌∷◌, length, Option, Some, None, Bool, true, false, if◌then◌else◌, option_map, ◌&&◌, ◌-◌, int_le, slice_get}
 use Rattle.std.specs.Prelude.{unsigned_abs}
 use Rattle.ada_base.specs.declared.operation.Op.TheVariants as op
 use Rattle.ada_base.specs.declared.operation.Op.{Op}
@@ -17,7 +17,7 @@ use Rattle.name_rules.specs.Judging.{◌>>=◌, fault, given, joined, read}
 use Rattle.name_rules.specs.Names.{denoted_first, wrong_call}
 use Rattle.name_rules.specs.Operators.{limit_of}
 use Rattle.name_rules.specs.TypedParts.{also_all}
-use Rattle.name_rules.specs.Types.{class_of, dimensions_of, extent, in_base, is_integer, shape_in}
+use Rattle.name_rules.specs.Types.{extent, is_integer}
 use Rattle.name_rules.specs.Values.{asked, first_of, is_number, mentions_of, own_kind, static_of_kind}
 use Rattle.name_rules.specs.declared.found.Attribute.TheVariants as attribute'
 use Rattle.name_rules.specs.declared.found.Attribute.{Attribute}
@@ -28,14 +28,10 @@ use Rattle.name_rules.specs.declared.found.Place.{Place}
 use Rattle.name_rules.specs.declared.found.Prefix.TheVariants as prefix
 use Rattle.name_rules.specs.declared.found.Prefix.{Prefix}
 use Rattle.name_rules.specs.declared.log.Dimension.{Dimension}
-use Rattle.name_rules.specs.declared.log.Log.{Log}
 use Rattle.name_rules.specs.declared.log.Rule.TheVariants.{ReduceRule, StaticRange, Unknown, WrongType}
-use Rattle.name_rules.specs.declared.log.Shape.{Shape}
-use Rattle.name_rules.specs.declared.log.Shape.TheVariants as shape
 use Rattle.name_rules.specs.declared.scope.Context.{Context}
 use Rattle.name_rules.specs.declared.scope.Names.{Names}
 use Rattle.name_rules.specs.declared.types.Kind.{Kind}
-use Rattle.name_rules.specs.declared.types.Kind.TheVariants as kind
 use Rattle.name_rules.specs.declared.types.Scalar.{Scalar}
 use Rattle.name_rules.specs.declared.types.Subtype.{Subtype}
 use Rattle.name_rules.specs.declared.types.Subtype.TheVariants as subtype

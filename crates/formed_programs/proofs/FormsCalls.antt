@@ -16,7 +16,7 @@ use Rattle.ada_typed.specs.declared.program.Mode.{Mode}
 use Rattle.name_rules.specs.Calls.{Calling, actual_by, actual_for, also_taken, arg_names, argument, arguments, begun_call, call_given, complete, found_or_unknown, composite_actual, conversion, conversion_of, converted, given_once, gives_in, is_out, late_at, one_operand, operands, parameter_of, place_given, profile_in, scalar_actual, scalar_conversion, sub_call, taken_at, takes_in, variable_form, variable_given, with_actual, with_operand}
 use Rattle.name_rules.specs.Expressions.{Inside, expr, judged_alone, value_for}
 use Rattle.name_rules.specs.Found.{Found}
-use Rattle.name_rules.specs.Judging.{◌>>=◌, fault, given, pure, read, some, unless}
+use Rattle.name_rules.specs.Judging.{◌>>=◌, fault, given, pure, read, some}
 use Rattle.name_rules.specs.TypedParts.{also, selections_of}
 use Rattle.name_rules.specs.Types.{is_integer, same, typed_scalar, wanted_of}
 use Rattle.name_rules.specs.Values.{first_of, is_number, settled_found}

@@ -1,7 +1,6 @@
 -- What is found is formed: declarations, and what is around those behind them.
-use Rattle.std.proofs.Common.{◌≡◌, refl, sym, subst, ap, ◌∙◌, ℕ, ℤ, ◌+◌, ◌≤◌, zero, suc, List, [], ◌∷◌, ◌++◌, length, slice_get, Option, Some, None, Bool, true, false, true≢false, if◌then◌else◌, option_map, ◌&&◌, nat_le, nat_lt, arith, leb-true}
+use Rattle.std.proofs.Common.{◌≡◌, refl, sym, subst, ap, ◌∙◌, ℕ, ℤ, ◌+◌, ◌≤◌, List, [], ◌∷◌, ◌++◌, length, slice_get, Option, Some, None, Bool, true, false, true≢false, if◌then◌else◌, option_map, ◌&&◌, nat_le, nat_lt, arith, leb-true}
 use Rattle.std.specs.Prelude.{is_some, not}
-use Rattle.std.proofs.lemmas.List.{append_assoc}
 use Rattle.ada_base.specs.declared.reason.Reason.TheVariants as reason
 use Rattle.ada_meaning.specs.Formed.{FormedDecls, FormedExpr, FormedExprs, FormedValue}
 use Rattle.ada_meaning.specs.Shapes.{object_shape}
@@ -16,12 +15,12 @@ use Rattle.name_rules.specs.Declarations as d
 use Rattle.name_rules.specs.Declarations.{Building, Dimensions, Indicated, Initial, all_ids, indicated}
 use Rattle.name_rules.specs.Expressions.{Inside, expr}
 use Rattle.name_rules.specs.Found.{Found}
-use Rattle.name_rules.specs.Judging.{Judging, both, fault, given, joined, pure, read, some, ◌>>=◌}
+use Rattle.name_rules.specs.Judging.{fault, given, joined, pure, read, some, ◌>>=◌}
 use Rattle.name_rules.specs.Ranges.{two_bounds}
 use Rattle.name_rules.specs.Scope.{declared, free, hidden_where, with_entry}
 use Rattle.name_rules.specs.Symbols.{symbol}
 use Rattle.name_rules.specs.TypedParts.{also_all, exprs_of}
-use Rattle.name_rules.specs.Types.{array_cells, cells_in, number_of, saturated, written_shape}
+use Rattle.name_rules.specs.Types.{cells_in, number_of, saturated, written_shape}
 use Rattle.name_rules.specs.declared.log.Dimension.{Dimension}
 use Rattle.name_rules.specs.declared.log.Field.{Field}
 use Rattle.name_rules.specs.declared.log.Log.{Log}
@@ -38,16 +37,16 @@ use Rattle.name_rules.specs.declared.types.Subtype.{Subtype}
 use Rattle.name_rules.specs.declared.types.Subtype.TheVariants as subtype
 use Rattle.name_rules.specs.declared.types.Wanted.TheVariants as wanted
 use Rattle.name_laws.proofs.CellsSound.{NumberIn, number_in, number_kept}
-use Rattle.name_laws.proofs.Fitting.{Fits, fits_constant, get-last, is_number}
+use Rattle.name_laws.proofs.Fitting.{Fits, fits_constant, is_number}
 use Rattle.name_laws.proofs.KeepsDeclarations as k
 use Rattle.name_laws.proofs.KeepsExpressions.{k-expr}
 use Rattle.name_laws.proofs.KeepsRanges.{k-two_bounds}
 use Rattle.name_laws.proofs.KeepsScope.{k-free}
 use Rattle.name_laws.proofs.KeepsTypes.{k-number_of, k-written_shape}
-use Rattle.name_laws.proofs.Walk.{Keeps, k-bind, k-given, k-pure, k-read}
+use Rattle.name_laws.proofs.Walk.{k-bind, k-given, k-pure, k-read}
 use Rattle.name_laws.proofs.Walked.{KeepsInside}
 use Rattle.formed_programs.proofs.Forms.{Any, Maybe, Sight, Small, World, any, joint, mapped, shape_of}
-use Rattle.formed_programs.proofs.FormsBack.{And, Back, Leads, Near, b-any, b-bind, b-both, b-fault, b-given, b-if, b-lift, b-none, b-pure, b-some, leading, now}
+use Rattle.formed_programs.proofs.FormsBack.{And, Back, Leads, Near, b-any, b-bind, b-both, b-fault, b-given, b-if, b-lift, b-pure, b-some, leading, now}
 use Rattle.formed_programs.proofs.FormsFound.{AreOf, Around, Each, LevelForms, TargetOf, WhatOf, each-all, each-turned}
 use Rattle.formed_programs.proofs.FormsIterations.{with-entry}
 use Rattle.formed_programs.proofs.FormsShapes.{Facts, object-at, object-small}

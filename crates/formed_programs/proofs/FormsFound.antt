@@ -1,6 +1,6 @@
 -- What is asked of what is found: it is formed, where it stands for what is known around it.
 use Rattle.std.proofs.Common.{◌≡◌, ℕ, ℤ, ◌<◌, ◌≤◌, List, [], ◌∷◌, Option, Some, Bool, true, false}
-use Rattle.ada_meaning.specs.Formed.{FormedChunk, FormedComposite, FormedDecls, FormedExpr, FormedIteration, FormedOptional, FormedPieces, FormedSelections, FormedStmt, FormedValue, IsSettled, Known as Around', Selects, composite_width, constant_shape, root_shape, width}
+use Rattle.ada_meaning.specs.Formed.{FormedChunk, FormedComposite, FormedExpr, FormedIteration, FormedOptional, FormedPieces, FormedSelections, FormedStmt, FormedValue, IsSettled, Known as Around', Selects, composite_width, constant_shape, root_shape, width}
 use Rattle.ada_meaning.specs.Shapes.{Shape, object_shape, size, subtype_shape}
 use Rattle.ada_typed.specs.Classes.{with_class}
 use Rattle.ada_typed.specs.Decoded.{Part, Nothing, Cons, LeafCons, as_chunk, as_composite, as_expr, as_iteration, as_optional, as_piece, as_selections, as_stmt, as_value}

@@ -2,26 +2,25 @@
 use Rattle.std.proofs.Common.{◌≡◌, refl, sym, ap, subst, ◌∙◌, ℕ, suc, ◌+◌, ◌<◌, ◌≤◌, nat_eq, List, [], ◌∷◌, ◌++◌, length, Option, Some, None, Bool, true, false, if◌then◌else◌, option_map, eqb-true, eq-eqb, arith}
 use Rattle.std.specs.Prelude.{cond, is_some, not, ◌/◌}
 use Rattle.ada_meaning.specs.Formed.{FormedIteration, FormedOptional, Known, with_constant, with_shape}
-use Rattle.ada_meaning.specs.Shapes.{ComponentAt, Shape, size, subtype_shape}
+use Rattle.ada_meaning.specs.Shapes.{ComponentAt, Shape, subtype_shape}
 use Rattle.ada_tree.specs.Syntax as syntax
 use Rattle.ada_tree.specs.Syntax.{Iter, OptionalExpr, OptionalParallel, Parallel, Simple}
 use Rattle.ada_typed.specs.Decoded as part
 use Rattle.ada_typed.specs.Decoded.{Part, as_expr, as_iteration, as_optional}
 use Rattle.ada_typed.specs.Syntax as typed
 use Rattle.ada_typed.specs.Syntax.{Iteration, Optional}
-use Rattle.ada_typed.specs.declared.expressions.Root.TheVariants as root
 use Rattle.ada_typed.specs.declared.program.SiteKind.{SiteKind}
 use Rattle.name_rules.specs.Expressions.{Inside, condition, simple}
-use Rattle.name_rules.specs.Found.{Bounded, Denoted, Found}
-use Rattle.name_rules.specs.Iterations.{Chunked, Entered, Walked, array_walked, chunk_count, chunked_by, counted, each_chunk, entered, entered_with, filter_where, filtered, in_construct, item_what, no_array, over_denoted, over_form, over_place, parallel_at, parameter_what, range_made, walked, with_chunk, with_filter, with_walked}
-use Rattle.name_rules.specs.Judging.{◌>>=◌, breaks, given, joined, pure, unless}
+use Rattle.name_rules.specs.Found.{Bounded, Denoted}
+use Rattle.name_rules.specs.Iterations.{Chunked, Entered, Walked, array_walked, chunk_count, chunked_by, counted, each_chunk, entered, entered_with, filter_where, filtered, in_construct, no_array, over_denoted, over_form, over_place, parallel_at, parameter_what, range_made, walked, with_chunk, with_filter, with_walked}
+use Rattle.name_rules.specs.Judging.{◌>>=◌, breaks, joined, pure, unless}
 use Rattle.name_rules.specs.Names.{denoted_first, is_array}
-use Rattle.name_rules.specs.Parts.{array_shape, new_parameter, new_site, through}
+use Rattle.name_rules.specs.Parts.{array_shape, new_parameter, new_site}
 use Rattle.name_rules.specs.Ranges.{range}
 use Rattle.name_rules.specs.Scope.{entry, is_taken, with_entry}
 use Rattle.name_rules.specs.Symbols.{symbol}
 use Rattle.name_rules.specs.TypedParts.{selections_of}
-use Rattle.name_rules.specs.Types.{cells_in, component_of, shape_in}
+use Rattle.name_rules.specs.Types.{cells_in, shape_in}
 use Rattle.name_rules.specs.Values.{any_integer}
 use Rattle.name_rules.specs.declared.found.Denoted.TheVariants as denoted
 use Rattle.name_rules.specs.declared.found.Denoted.{Denoted as KnownDenoted}

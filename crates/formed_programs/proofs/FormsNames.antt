@@ -1,5 +1,5 @@
 -- What is found is formed: parts of names, where what stands in their brackets is formed.
-use Rattle.std.proofs.Common.{◌≡◌, refl, sym, ap, subst, ◌∙◌, ℕ, zero, suc, List, [], ◌∷◌, length, Option, Some, None, ◌==◌, ◌+◌, drop, map, slice_get, true, eqb-true, arith, ℤ}
+use Rattle.std.proofs.Common.{◌≡◌, refl, sym, ap, subst, ◌∙◌, ℕ, suc, List, [], ◌∷◌, length, Option, Some, None, ◌==◌, ◌+◌, drop, map, slice_get, eqb-true, arith}
 use Rattle.ada_meaning.specs.Formed.{FormedSelections, Selects}
 use Rattle.ada_meaning.specs.Shapes.{FieldAt, Shapes, array_of, size, subtype_shape}
 use Rattle.ada_meaning.specs.Shapes as shapes
@@ -7,17 +7,16 @@ use Rattle.ada_tree.specs.Syntax as syntax
 use Rattle.ada_tree.specs.Syntax.{Arg, Args}
 use Rattle.ada_typed.specs.Decoded as part
 use Rattle.ada_typed.specs.Decoded.{Part, Cons, as_expr, as_selections}
-use Rattle.ada_typed.specs.Latest.{onto}
 use Rattle.ada_typed.specs.Syntax as typed
 use Rattle.name_rules.specs.Expressions.{Inside, expr, judged_alone}
 use Rattle.name_rules.specs.Found.{Denoted, Found, denote}
 use Rattle.name_rules.specs.Judging.{fault, given, joined, pure}
-use Rattle.name_rules.specs.Names.{arg_alone, args_alone, array_call, component_cells, count, denoted_first, field, field_form, field_from, field_in, field_of, index, index_in, index_shape, index_where, indexed, indexes, is_array, is_record, is_string, object_call, part_place, selected_by, unnamed, wrong_call}
+use Rattle.name_rules.specs.Names.{arg_alone, args_alone, array_call, component_cells, count, denoted_first, field, field_form, field_from, field_in, field_of, index, index_in, index_shape, index_where, indexed, indexes, is_string, object_call, part_place, selected_by, unnamed, wrong_call}
 use Rattle.name_rules.specs.Resolved.{dimension_bounds}
 use Rattle.name_rules.specs.Shapes.{primary_of_expr}
 use Rattle.name_rules.specs.Symbols.{symbol}
 use Rattle.name_rules.specs.TypedParts.{also}
-use Rattle.name_rules.specs.Types.{cells_in, component_of, dimensions_of, fields_of, shape_in, stride}
+use Rattle.name_rules.specs.Types.{cells_in, component_of, shape_in, stride}
 use Rattle.name_rules.specs.Values.{asked, first_of}
 use Rattle.name_rules.specs.declared.found.Denoted.TheVariants as denoted
 use Rattle.name_rules.specs.declared.found.Denoted.{Denoted as KnownDenoted}

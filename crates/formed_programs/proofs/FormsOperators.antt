@@ -1,8 +1,6 @@
 -- What is found is formed: operators.
-use Rattle.std.proofs.Common.{◌≡◌, refl, ℕ, ℤ, pos, Option, Some, None, Bool, true, false, if◌then◌else◌, option_map, ◌&&◌}
+use Rattle.std.proofs.Common.{◌≡◌, refl, ℕ, ℤ, Option, Some, None, Bool, false, option_map, ◌&&◌}
 use Rattle.std.specs.Prelude.{not}
-use Rattle.ada_base.specs.Operation.{is_in_base}
-use Rattle.ada_base.specs.declared.operation.Base.TheVariants.{Narrow, Wide}
 use Rattle.ada_base.specs.declared.operation.Op.{Op}
 use Rattle.ada_base.specs.declared.operation.Op.TheVariants as op
 use Rattle.ada_typed.specs.Decoded.{Part, as_expr}
@@ -14,10 +12,10 @@ use Rattle.ada_typed.specs.declared.scalars.Class.TheVariants as class
 use Rattle.ada_typed.specs.declared.scalars.Comparison.{Comparison}
 use Rattle.name_rules.specs.Found.{Found, scalar, static, text_found, universal}
 use Rattle.name_rules.specs.Judging.{fault, pure, some}
-use Rattle.name_rules.specs.Operators.{binary, both_mentions, by_kinds, common_kind, compared, compared_at, compared_by, first_kind, joined_text, joined_texts, leaf, leaf_limits, limit_of, logical, member, member_of, membership, negation, not_of, of_subtype, open_binary, open_form, open_of, open_power, open_two, open_unary, operand_blamed, operation, operation_by, operation_on, plain, plain_by, plain_open, plain_typed, power, power_to, signed, static_of, static_operation, static_power, static_unary, static_universal, typed_operation, unary, unary_by, unary_open, unary_typed, universal_by, universal_operation, universal_power, universal_to, within_bounds}
+use Rattle.name_rules.specs.Operators.{binary, both_mentions, by_kinds, common_kind, compared, compared_at, compared_by, first_kind, joined_text, joined_texts, leaf, limit_of, logical, member, member_of, membership, negation, not_of, of_subtype, open_binary, open_form, open_of, open_power, open_two, open_unary, operand_blamed, operation, operation_by, operation_on, plain, plain_by, plain_open, plain_typed, power, power_to, signed, static_of, static_operation, static_power, static_unary, static_universal, typed_operation, unary, unary_by, unary_open, unary_typed, universal_by, universal_operation, universal_power, universal_to, within_bounds}
 use Rattle.name_rules.specs.TypedParts.{also_all}
 use Rattle.name_rules.specs.Types.{class_of, in_base, same}
-use Rattle.name_rules.specs.Values.{asked, beyond, exact, first_of, fitting, is_kind, is_number, is_scalar, kind_of, sooner, mentions_of, suits, value_of}
+use Rattle.name_rules.specs.Values.{asked, exact, first_of, fitting, is_kind, is_number, is_scalar, kind_of, mentions_of, suits, value_of}
 use Rattle.name_rules.specs.declared.found.Found.TheVariants as known
 use Rattle.name_rules.specs.declared.found.Found.{Found as Known}
 use Rattle.name_rules.specs.declared.found.Limits.{Limits}

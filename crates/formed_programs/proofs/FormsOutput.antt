@@ -16,7 +16,7 @@ use Rattle.name_rules.specs.Judging.{◌>>=◌, breaks, fault, given, pure, some
 use Rattle.name_rules.specs.Output.{Putting, alone_given, by_procedure, done_by, get_of, get_place, in_width, io_call, is_number_put, is_text, item_of, judged_arguments, no_name, nothing_put, others_alone, put_argument, put_arguments, put_by, put_complete, put_number, put_of_text, put_text, text_call, text_only, width_argument, width_of, width_or, with_count, with_width, without_arguments}
 use Rattle.name_rules.specs.Symbols.{symbol, width_name}
 use Rattle.name_rules.specs.TypedParts.{selections_of}
-use Rattle.name_rules.specs.Types.{in_base, same, typed_scalar}
+use Rattle.name_rules.specs.Types.{same, typed_scalar}
 use Rattle.name_rules.specs.Values.{asked, first_of, literal, mentions_of, static_of_kind, suits}
 use Rattle.name_rules.specs.declared.found.Found.TheVariants as known
 use Rattle.name_rules.specs.declared.found.Found.{Found as Known}

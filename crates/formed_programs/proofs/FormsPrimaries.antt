@@ -9,43 +9,31 @@ use Rattle.ada_typed.specs.Decoded.{Part, as_composite, as_expr}
 use Rattle.ada_typed.specs.Syntax as typed
 use Rattle.ada_typed.specs.Syntax.{Selections}
 use Rattle.ada_typed.specs.declared.program.SiteKind.TheVariants as site
-use Rattle.ada_typed.specs.declared.scalars.Class.TheVariants as class
 use Rattle.name_rules.specs.Aggregates.{ByPosition, contents}
-use Rattle.name_rules.specs.Attributes.{attribute_at, bound_with, dimensions_in, is_array_object, is_bound, is_reduction, mentioned, prefix_subtype, settled_attribute}
+use Rattle.name_rules.specs.Attributes.{attribute_at}
 use Rattle.name_rules.specs.Expressions.{Inside, condition, expr}
-use Rattle.name_rules.specs.Found.{Denoted, Found, denote, opened, parameter_found, scalar, static, universal, value_denoted}
+use Rattle.name_rules.specs.Found.{Found, opened, scalar, static, universal}
 use Rattle.name_rules.specs.Iterations.{Entered, entered, is_reduce, only_reduce_rules, reverse_rule, sequence, sequence_folded, sequence_given, sequence_rules}
-use Rattle.name_rules.specs.Judging.{◌>>=◌, both, fault, given, joined, pure, read, unless, where_clean}
-use Rattle.name_rules.specs.Names.{args_alone, denoted_first, field, wrong_call}
+use Rattle.name_rules.specs.Judging.{both, given, joined, pure, unless}
 use Rattle.name_rules.specs.Operators.{open_of}
-use Rattle.name_rules.specs.Parts.{new_site, array_reduced, array_reduction, array_shape, attribute_with, call, call_form, is_parallel, item_found, name, new_parameter, next_part, of_array, other_with, part_alone, part_of, parts, reduced_with, site_where, through, value_form, value_named, valued_by, valued_form, wrong_arguments}
+use Rattle.name_rules.specs.Parts.{value_named}
 use Rattle.name_rules.specs.Primaries as primaries
 use Rattle.name_rules.specs.Primaries.{Waiting, also_choice, also_waiting, alternative, alternatives, common, common_composite, composite_if, composite_ifs, composite_in, composite_part, conditional, grouped, grouped_by, grouped_form, grouped_scalar, if_expr, if_part, no_text, open_if, open_ifs, open_part, primary, scalar_if, scalar_ifs, target_at, target_found, text_at, with_known}
-use Rattle.name_rules.specs.Reducers.{folded_by, reducer_of}
-use Rattle.name_rules.specs.Scope.{stands_for}
+use Rattle.name_rules.specs.Reducers.{reducer_of}
 use Rattle.name_rules.specs.Symbols.{symbol}
-use Rattle.name_rules.specs.TypedParts.{left_of, right_of, selections_of}
-use Rattle.name_rules.specs.Types.{component_of, in_base}
+use Rattle.name_rules.specs.TypedParts.{left_of, right_of}
 use Rattle.name_rules.specs.Values.{asked, composite_asked, kind_of, mentions_of, value_of}
 use Rattle.name_rules.specs.declared.found.Attribute.{Attribute}
-use Rattle.name_rules.specs.declared.found.Attribute.TheVariants as attribute'
-use Rattle.name_rules.specs.declared.found.Denoted.TheVariants as denoted
-use Rattle.name_rules.specs.declared.found.Denoted.{Denoted as KnownDenoted}
 use Rattle.name_rules.specs.declared.found.Folding.{Folding}
 use Rattle.name_rules.specs.declared.found.Found.TheVariants as known
 use Rattle.name_rules.specs.declared.found.Found.{Found as Known}
 use Rattle.name_rules.specs.declared.found.Limits.{Limits}
-use Rattle.name_rules.specs.declared.found.Place.{Place}
-use Rattle.name_rules.specs.declared.found.Prefix.TheVariants as prefix
-use Rattle.name_rules.specs.declared.found.Prefix.{Prefix}
 use Rattle.name_rules.specs.declared.log.Rule.TheVariants.{Limit, NotVisible, ReduceRule, Unknown, WrongType}
 use Rattle.name_rules.specs.declared.scope.Context.{Context}
 use Rattle.name_rules.specs.declared.scope.Names.{Names}
 use Rattle.name_rules.specs.declared.scope.Target.TheVariants as target
 use Rattle.name_rules.specs.declared.scope.Target.{Target}
 use Rattle.name_rules.specs.declared.types.Kind.{Kind}
-use Rattle.name_rules.specs.declared.types.Kind.TheVariants as kind
-use Rattle.name_rules.specs.declared.types.Subtype.{Subtype}
 use Rattle.name_rules.specs.declared.types.Subtype.TheVariants as subtype
 use Rattle.name_rules.specs.declared.types.Wanted.TheVariants as wanted
 use Rattle.name_rules.specs.declared.types.Wanted.{Wanted}

@@ -1,27 +1,25 @@
 -- What is found is formed: subprograms and programs. So the typed program of each text without a fault is formed.
-use Rattle.std.proofs.Common.{◌≡◌, refl, sym, subst, ap, ◌∙◌, ℕ, zero, suc, ◌+◌, ◌-◌, ◌<◌, ◌≤◌, List, [], ◌∷◌, ◌++◌, length, length-append, drop, Option, Some, None, Bool, true, false, option_map, arith}
+use Rattle.std.proofs.Common.{◌≡◌, refl, sym, subst, ◌∙◌, ℕ, zero, suc, ◌+◌, ◌-◌, ◌<◌, ◌≤◌, List, [], ◌∷◌, ◌++◌, length, length-append, drop, Option, Some, None, Bool, false, option_map, arith}
 use Rattle.std.specs.Prelude.{not}
 use Rattle.ada_meaning.specs.Formed.{FormedAll, FormedBody, FormedDecls, FormedHandlers, FormedSubs, IsFormed, at_first}
 use Rattle.ada_tree.specs.Syntax as syntax
 use Rattle.ada_tree.specs.Syntax.{Aspect, Body, Clause, Decl, Expr, Formal, Formals, Main, Pack, Program, Sub, Unit'}
 use Rattle.ada_tree.specs.declared.operators.ClauseWord.{ClauseWord}
 use Rattle.ada_tree.specs.declared.operators.ClauseWord.TheVariants as word
-use Rattle.ada_typed.specs.Decoded as part
-use Rattle.ada_typed.specs.Decoded.{Part, as_body, as_value}
+use Rattle.ada_typed.specs.Decoded.{Part, as_body}
 use Rattle.ada_typed.specs.Syntax as typed
 use Rattle.ada_typed.specs.Syntax.{Sub as TypedSub}
 use Rattle.ada_typed.specs.declared.program.Mode.{Mode}
 use Rattle.name_rules.specs.Declarations.{all_ids, begun_names, cells_counted, declaration, declarations, ended_name, new_object}
-use Rattle.name_rules.specs.Expressions.{Inside, judged_alone, value_for}
-use Rattle.name_rules.specs.Judging.{Judging, joined, pure, unless, ◌>>=◌}
+use Rattle.name_rules.specs.Expressions.{judged_alone, value_for}
+use Rattle.name_rules.specs.Judging.{joined}
 use Rattle.name_rules.specs.Primaries.{inside}
 use Rattle.name_rules.specs.Programs as p
 use Rattle.name_rules.specs.Programs.{Declared', Profiled, Whole}
-use Rattle.name_rules.specs.Resolved.{TypedOf, depth_limit, fresh, judged, typed_by}
-use Rattle.name_rules.specs.Scope.{declared, free, subtype_named}
+use Rattle.name_rules.specs.Resolved.{depth_limit, fresh, judged, typed_by}
+use Rattle.name_rules.specs.Scope.{free, subtype_named}
 use Rattle.name_rules.specs.Statements.{around, body, no_decls, stmt}
 use Rattle.name_rules.specs.declared.log.Log.{Log}
-use Rattle.name_rules.specs.declared.log.Rule.TheVariants.{NotVisible}
 use Rattle.name_rules.specs.declared.log.Taken.{Taken}
 use Rattle.name_rules.specs.declared.scope.Context.{Context}
 use Rattle.name_rules.specs.declared.scope.Entry.{Entry}
@@ -45,11 +43,11 @@ use Rattle.name_laws.proofs.Lying.{typed-from}
 use Rattle.name_laws.proofs.Places.{one-place, steady}
 use Rattle.name_laws.specs.Formed.{HaveComponents}
 use Rattle.name_laws.specs.OwnNames.{AreNumbered}
-use Rattle.formed_programs.proofs.Forms.{Any, Maybe, Sight, World, any, joint, mapped}
+use Rattle.formed_programs.proofs.Forms.{Any, Maybe, Sight, World, any, joint}
 use Rattle.formed_programs.proofs.FormsBack.{And, Back, Leads, Near, b-any, b-bind, b-lift, b-none, b-pure, leading, leads_here, leads_joined, now, profiling}
 use Rattle.formed_programs.proofs.FormsDeclarations.{BegunIn, DeclaringIn, DeclsIn, LevelBoth, ObjectIn, b-begun_names, b-declaration, b-declarations, b-new_object, near-declared, near-ended}
 use Rattle.formed_programs.proofs.FormsExpressions.{f-value_for}
-use Rattle.formed_programs.proofs.FormsFound.{AreOf, Around, ValueOf}
+use Rattle.formed_programs.proofs.FormsFound.{AreOf, ValueOf}
 use Rattle.formed_programs.proofs.FormsIterations.{are-both}
 use Rattle.formed_programs.proofs.FormsPrimaries.{inside-forms}
 use Rattle.formed_programs.proofs.FormsShapes.{Facts, grounded}

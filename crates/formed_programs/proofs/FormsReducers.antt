@@ -1,8 +1,7 @@
 -- What is found is formed: reducers and reductions.
-use Rattle.std.proofs.Common.{◌≡◌, sym, subst, ℕ, ◌<◌, List, [], ◌∷◌, Option, Some, None, Bool, true, false, if◌then◌else◌, ◌&&◌, ◌==◌}
+use Rattle.std.proofs.Common.{◌≡◌, sym, subst, ℕ, ◌<◌, List, [], ◌∷◌, Option, Some, None, ◌&&◌}
 use Rattle.std.specs.Prelude.{is_some, not, ◌||◌}
 use Rattle.ada_base.specs.declared.operation.Op.{Op}
-use Rattle.ada_base.specs.declared.operation.Op.TheVariants as op
 use Rattle.ada_meaning.specs.Formed.{FormedExpr, FormedReducer, Known}
 use Rattle.ada_tree.specs.FirstTokens as first_token
 use Rattle.ada_tree.specs.Syntax as syntax
@@ -11,17 +10,16 @@ use Rattle.ada_typed.specs.Classes.{with_class}
 use Rattle.ada_typed.specs.Decoded.{Part, as_expr, as_iteration}
 use Rattle.ada_typed.specs.declared.expressions.Reducer.{Reducer}
 use Rattle.ada_typed.specs.declared.expressions.Reducer.TheVariants as reducer'
-use Rattle.ada_typed.specs.declared.scalars.Class.{Class}
 use Rattle.ada_typed.specs.declared.scalars.Class.TheVariants as class
 use Rattle.name_rules.specs.Calls.{gives_in, profile_in, takes_in}
 use Rattle.name_rules.specs.Expressions.{Inside, judged_alone}
 use Rattle.name_rules.specs.Found.{Found, scalar}
-use Rattle.name_rules.specs.Judging.{fault, given, joined, read, some}
+use Rattle.name_rules.specs.Judging.{fault, joined, read}
 use Rattle.name_rules.specs.Operators.{open_of}
 use Rattle.name_rules.specs.Reducers.{attribute_reducer, by_function, by_operator, by_subtypes, extreme_name, extreme_of, folded_by, function_given, function_of, is_logical, name_reducer, no_reducer, numeric, of_kind, open_reduction, operator_named, operator_reducer, operators, reduced, reducer_by, reducer_of, reduction}
 use Rattle.name_rules.specs.Scope.{stands_for}
 use Rattle.name_rules.specs.Shapes.{primary_of_expr}
-use Rattle.name_rules.specs.Symbols.{max_name, min_name, symbol, text}
+use Rattle.name_rules.specs.Symbols.{text}
 use Rattle.name_rules.specs.Types.{class_of, same, typed_scalar}
 use Rattle.name_rules.specs.Values.{asked, is_number, kind_of, suits}
 use Rattle.name_rules.specs.declared.found.Denoted.TheVariants as denoted

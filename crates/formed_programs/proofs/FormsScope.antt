@@ -1,18 +1,15 @@
 -- What is found is formed: what a name denotes by its declaration.
-use Rattle.std.proofs.Common.{◌≡◌, refl, sym, ap, subst, ◌⊎◌, inl, inr, ℕ, List, [], ◌∷◌, ◌++◌, Some, Bool, true, false, if◌then◌else◌, ◌==◌, ◌&&◌}
+use Rattle.std.proofs.Common.{◌≡◌, sym, ap, subst, ◌⊎◌, inl, inr, ℕ, List, [], ◌∷◌, ◌++◌, Some, Bool, true, false, if◌then◌else◌, ◌==◌, ◌&&◌}
 use Rattle.std.specs.Prelude.{not, ◌||◌}
 use Rattle.ada_base.specs.declared.reason.Reason.TheVariants as reason
 use Rattle.ada_typed.specs.Decoded as part
 use Rattle.ada_typed.specs.Decoded.{Part, as_expr, as_stmt}
-use Rattle.ada_typed.specs.declared.scalars.Class.{Class}
-use Rattle.name_rules.specs.Found.{Denoted, denote}
+use Rattle.name_rules.specs.Found.{denote}
 use Rattle.name_rules.specs.Judging.{fault}
 use Rattle.name_rules.specs.Scope.{as_scalar, as_type, entry, item, object, expanded_reach, in_ada, in_integer_io, in_package, in_text_io, is_withed, named, predefined, procedure_of, reach_of, scalar_named, selected, stands, stands_for, subtype_named, undeclared, used_name}
 use Rattle.name_rules.specs.Symbols.{ada_name, data_error_name, end_error_name, integer_io_name, symbol, text_io_name}
 use Rattle.name_rules.specs.declared.found.Denoted.TheVariants as denoted
 use Rattle.name_rules.specs.declared.found.Denoted.{Denoted as KnownDenoted}
-use Rattle.name_rules.specs.declared.found.Prefix.{Prefix}
-use Rattle.name_rules.specs.declared.found.Prefix.TheVariants as prefix
 use Rattle.name_rules.specs.declared.found.Reach.{Reach}
 use Rattle.name_rules.specs.declared.log.Rule.TheVariants.{NotVisible, Unknown, WrongType}
 use Rattle.name_rules.specs.declared.scope.Context.{Context}

@@ -1,8 +1,7 @@
 -- What is found is formed: assignments, calls, returned values, selecting expressions and choices of case statements.
-use Rattle.std.proofs.Common.{◌≡◌, refl, sym, subst, ℕ, List, [], ◌∷◌, length, Option, Some, None, Bool, true, false, if◌then◌else◌, option_map, ◌-◌, ◌&&◌, int_le, ℤ}
+use Rattle.std.proofs.Common.{◌≡◌, refl, ℕ, List, [], ◌∷◌, Option, Some, None, Bool, true, false, if◌then◌else◌, option_map, ◌-◌, ◌&&◌, int_le, ℤ}
 use Rattle.std.specs.Prelude.{not}
-use Rattle.ada_meaning.specs.Formed as formed
-use Rattle.ada_meaning.specs.Formed.{FormedOptional, FormedSelections, FormedStmt, Names as IsName, Selects, with_aim}
+use Rattle.ada_meaning.specs.Formed.{FormedSelections, FormedStmt, Selects, with_aim}
 use Rattle.ada_meaning.specs.Shapes.{Shape}
 use Rattle.ada_tree.specs.FirstTokens as first_token
 use Rattle.ada_tree.specs.Syntax as syntax
@@ -12,16 +11,15 @@ use Rattle.ada_typed.specs.Decoded.{Part, as_chunk, as_expr, as_optional, as_sel
 use Rattle.ada_typed.specs.Latest.{turned}
 use Rattle.name_rules.specs.Cases as cases
 use Rattle.name_rules.specs.Cases.{Choosing, Covering}
-use Rattle.name_rules.specs.Expressions.{Inside, condition, expr, judged_alone}
+use Rattle.name_rules.specs.Expressions.{Inside, expr}
 use Rattle.name_rules.specs.Found.{Denoted, Found}
-use Rattle.name_rules.specs.Iterations.{chunk_count}
 use Rattle.name_rules.specs.Judging.{Judging, fault, given, pure, unless, ◌>>=◌}
 use Rattle.name_rules.specs.Names.{denoted_first}
 use Rattle.name_rules.specs.Parts.{valued_by}
 use Rattle.name_rules.specs.Ranges.{Chosen, chosen_span, chosen_value}
 use Rattle.name_rules.specs.Statements as s
 use Rattle.name_rules.specs.Statements.{Selector}
-use Rattle.name_rules.specs.TypedParts.{also_all, selections_of}
+use Rattle.name_rules.specs.TypedParts.{selections_of}
 use Rattle.name_rules.specs.Types.{wanted_of}
 use Rattle.name_rules.specs.Values.{first_of, is_scalar, settled_found, stored}
 use Rattle.name_rules.specs.declared.found.Denoted.TheVariants as denoted
@@ -41,11 +39,11 @@ use Rattle.name_rules.specs.declared.types.Subtype.{Subtype}
 use Rattle.name_rules.specs.declared.types.Subtype.TheVariants as subtype
 use Rattle.name_rules.specs.declared.types.Wanted.TheVariants as wanted
 use Rattle.formed_programs.proofs.Forms.{Any, Forms, Maybe, Sight, World, f-bind, f-fault, f-given, f-if, f-none, f-pure, f-some, f-unless, f-where_clean, mapped, shape_of}
-use Rattle.formed_programs.proofs.FormsExpressions.{f-expr, f-judged_alone, f-simple}
-use Rattle.formed_programs.proofs.FormsFound.{AreOf, Around, DenotedOf, DenotesOf, ExprOf, FilterOf, Finding, FoundOf, LevelForms, MentionsOf, PathOf, PlaceOf, RootOf, ValueOf, WhatOf, each-all}
+use Rattle.formed_programs.proofs.FormsExpressions.{f-expr, f-judged_alone}
+use Rattle.formed_programs.proofs.FormsFound.{AreOf, Around, DenotedOf, DenotesOf, ExprOf, Finding, FoundOf, LevelForms, MentionsOf, PathOf, PlaceOf, RootOf, ValueOf, WhatOf, each-all}
 use Rattle.formed_programs.proofs.FormsParts.{f-valued_by}
 use Rattle.formed_programs.proofs.FormsRanges.{f-chosen_span, f-chosen_value}
-use Rattle.formed_programs.proofs.FormsValues.{f-any_integer, f-settled_found, f-stored}
+use Rattle.formed_programs.proofs.FormsValues.{f-settled_found, f-stored}
 
 module _ (W : World) (V : Sight) where
   abbrev StmtOf : Part → Type 0

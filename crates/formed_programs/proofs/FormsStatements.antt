@@ -1,8 +1,7 @@
 -- What is found is formed: statements.
-use Rattle.std.proofs.Common.{◌≡◌, refl, sym, subst, ℕ, zero, suc, ◌≤◌, List, [], ◌∷◌, length, Option, Some, None, Bool, true, false, option_map, ◌==◌}
+use Rattle.std.proofs.Common.{◌≡◌, refl, sym, subst, ℕ, zero, suc, List, [], ◌∷◌, length, Option, Some, None, Bool, false, option_map, ◌==◌}
 use Rattle.ada_base.specs.declared.reason.Reason.{Reason}
-use Rattle.ada_meaning.specs.Formed as formed
-use Rattle.ada_meaning.specs.Formed.{FormedAll, FormedAlternatives, FormedArms, FormedChunk, FormedDecls, FormedExpr, FormedExprs, FormedHandlers, FormedIteration, FormedOptional, FormedStmt}
+use Rattle.ada_meaning.specs.Formed.{FormedAll, FormedAlternatives, FormedArms, FormedChunk, FormedDecls, FormedExpr, FormedHandlers, FormedIteration, FormedOptional, FormedStmt}
 use Rattle.ada_tree.specs.FirstTokens as first_token
 use Rattle.ada_tree.specs.Syntax as syntax
 use Rattle.ada_tree.specs.Syntax.{Alt, Alts, Arms, Body, Branches, Declare, Expr, Handler, Handlers, Iter, MoreStmts, Name, OptionalParallel, OptionalStmts, Pack, Scheme, Simple, Stmt, Stmts}
@@ -14,41 +13,37 @@ use Rattle.ada_typed.specs.Syntax.{Alternatives, Decls, Program, Handlers as Typ
 use Rattle.ada_typed.specs.declared.program.SiteKind.TheVariants as site
 use Rattle.name_rules.specs.Cases.{Choosing, Covering, case_choices, handled_by}
 use Rattle.name_rules.specs.Declarations.{declarations}
-use Rattle.name_rules.specs.Expressions.{Inside, condition, expr, judged_alone}
-use Rattle.name_rules.specs.Iterations.{Entered, chunk_count, entered}
+use Rattle.name_rules.specs.Expressions.{condition, expr, judged_alone}
+use Rattle.name_rules.specs.Iterations.{chunk_count, entered}
 use Rattle.name_rules.specs.Judging.{both, clean, fault, given, joined, pure, ◌>>=◌}
 use Rattle.name_rules.specs.Names.{exception}
 use Rattle.name_rules.specs.Parts.{new_site}
 use Rattle.name_rules.specs.Primaries.{inside, level_above}
 use Rattle.name_rules.specs.Statements as s
 use Rattle.name_rules.specs.Statements.{Around as Judges, Selector, around, stmt}
-use Rattle.name_rules.specs.TypedParts.{exprs_of, left_of, nested_stmts, right_of}
+use Rattle.name_rules.specs.TypedParts.{left_of, nested_stmts, right_of}
 use Rattle.name_rules.specs.declared.log.Log.{Log}
 use Rattle.name_rules.specs.declared.log.Rule.TheVariants.{Limit, NotVisible, WrongType}
 use Rattle.name_rules.specs.declared.scope.Context.{Context}
-use Rattle.name_rules.specs.declared.scope.Entry.{Entry}
 use Rattle.name_rules.specs.declared.scope.Names.{Names}
 use Rattle.name_rules.specs.declared.scope.Returns.TheVariants as returns
 use Rattle.name_rules.specs.declared.scope.Returns.{Returns}
 use Rattle.name_rules.specs.declared.types.Kind.{Kind}
-use Rattle.name_rules.specs.declared.types.Scalar.{Scalar}
-use Rattle.name_rules.specs.declared.types.Subtype.TheVariants as subtype
 use Rattle.name_rules.specs.declared.types.Wanted.TheVariants as wanted
 use Rattle.name_laws.proofs.KeepsCases.{k-case_choices, k-handled_by}
 use Rattle.name_laws.proofs.KeepsExpressions.{k-condition, k-expr, k-judged_alone}
 use Rattle.name_laws.proofs.KeepsNames.{k-exception}
 use Rattle.name_laws.proofs.KeepsIterations.{k-chunk_count}
 use Rattle.name_laws.proofs.KeepsParts.{k-new_site}
-use Rattle.name_laws.proofs.KeepsPrimaries.{k-inside, k-level_above}
 use Rattle.name_laws.proofs.KeepsStatements as k
 use Rattle.name_laws.proofs.Walk.{k-bind, k-both, k-clean, k-given}
-use Rattle.name_laws.proofs.Walked.{KeepsAround, KeepsInside}
-use Rattle.formed_programs.proofs.Forms.{Any, Forms, Maybe, Sight, World, any, joint, mapped}
+use Rattle.name_laws.proofs.Walked.{KeepsAround}
+use Rattle.formed_programs.proofs.Forms.{Any, Maybe, Sight, World, any, joint, mapped}
 use Rattle.formed_programs.proofs.FormsBack.{And, Back, Leads, Near, b-any, b-bind, b-both, b-fault, b-given, b-if, b-lift, b-none, b-pure, b-some, leading, leads_joined, now}
-use Rattle.formed_programs.proofs.FormsDeclarations.{DeclaringIn, DeclsIn, LevelBoth, b-declarations, decls-formed, exprs-formed, near-moved}
-use Rattle.formed_programs.proofs.FormsExpressions.{f-condition, f-expr, f-judged_alone}
-use Rattle.formed_programs.proofs.FormsFound.{Around, ChunkOf, Each, ExprOf, FilterOf, IterationOf, LevelForms, ValueOf, each-turned}
-use Rattle.formed_programs.proofs.FormsIterations.{EnteredOf, f-chunk_count, sight, w-entered}
+use Rattle.formed_programs.proofs.FormsDeclarations.{DeclaringIn, DeclsIn, b-declarations, decls-formed, exprs-formed, near-moved}
+use Rattle.formed_programs.proofs.FormsExpressions.{f-condition}
+use Rattle.formed_programs.proofs.FormsFound.{Each, LevelForms, each-turned}
+use Rattle.formed_programs.proofs.FormsIterations.{f-chunk_count, sight, w-entered}
 use Rattle.formed_programs.proofs.FormsPrimaries.{above-forms, inside-forms}
 use Rattle.formed_programs.proofs.FormsShapes.{Facts}
 use Rattle.formed_programs.proofs.FormsSimple.{f-assign, f-call_stmt, f-case_choices, f-returned, f-selecting}

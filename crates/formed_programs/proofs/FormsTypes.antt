@@ -1,5 +1,5 @@
 -- What is found is formed: what declarations mention, where they write nothing.
-use Rattle.std.proofs.Common.{◌≡◌, refl, ℕ, ℤ, List, [], ◌∷◌, ◌++◌, Option, Some, None, Bool, true, false, if◌then◌else◌, option_map, int_le, ◌&&◌}
+use Rattle.std.proofs.Common.{ℕ, ℤ, List, [], ◌∷◌, Option, Some, None, true, option_map, int_le, ◌&&◌}
 use Rattle.ada_meaning.specs.Formed.{FormedValue}
 use Rattle.ada_tree.specs.FirstTokens as first_token
 use Rattle.ada_tree.specs.Syntax as syntax
@@ -10,7 +10,7 @@ use Rattle.name_rules.specs.Declarations as d
 use Rattle.name_rules.specs.Declarations.{Dimensions, Indicated, Initial, indicated}
 use Rattle.name_rules.specs.Expressions.{Inside, expr, judged_alone}
 use Rattle.name_rules.specs.Found.{Found}
-use Rattle.name_rules.specs.Judging.{Judging, both, fault, given, joined, pure, some, unless, ◌>>=◌}
+use Rattle.name_rules.specs.Judging.{both, given, joined, pure, some, unless, ◌>>=◌}
 use Rattle.name_rules.specs.Operators.{both_mentions}
 use Rattle.name_rules.specs.Ranges.{Static, both_static, static_range, two_bounds}
 use Rattle.name_rules.specs.Scope.{as_scalar, subtype_named}
@@ -25,7 +25,7 @@ use Rattle.name_rules.specs.declared.types.Scalar.{Scalar}
 use Rattle.name_rules.specs.declared.types.Subtype.{Subtype}
 use Rattle.name_rules.specs.declared.types.Subtype.TheVariants as subtype
 use Rattle.name_rules.specs.declared.types.Wanted.TheVariants as wanted
-use Rattle.formed_programs.proofs.Forms.{Any, Forms, Maybe, Sight, World, any, f-bind, f-both, f-fault, f-given, f-if, f-none, f-pure, f-some, f-unless, joint, mapped}
+use Rattle.formed_programs.proofs.Forms.{Any, Forms, Maybe, Sight, World, f-bind, f-both, f-given, f-if, f-none, f-pure, f-some, f-unless, joint, mapped}
 use Rattle.formed_programs.proofs.FormsExpressions.{f-expr, f-judged_alone}
 use Rattle.formed_programs.proofs.FormsFound.{Around, ExprOf, Finding, FoundOf, LevelForms, MentionsOf, ValueOf, each-all}
 use Rattle.formed_programs.proofs.FormsRanges.{AreFinding, StaticOf, f-both_static, f-static_range, f-two_bounds}

@@ -2,19 +2,19 @@
 use Rattle.std.proofs.Common.{◌≡◌, refl, sym, ap, subst, ◌∙◌, ℕ, ℤ, ◌≤◌, Option, Some, None, Bool, true, false, ◌==◌, eqb-true, arith}
 use Rattle.ada_meaning.specs.Formed.{Aims, FormedComposite, FormedExpr, FormedExprs, FormedIteration, FormedPieces, FormedSelections, FormedValue, IsSettled, Names, NamesConstant, Selects, Spans, SpansConstant, composite_width, width, with_constant, with_shape}
 use Rattle.ada_meaning.specs.Formed as formed
-use Rattle.ada_meaning.specs.Shapes.{Shape, Single, cells_of, size, subtype_shape}
+use Rattle.ada_meaning.specs.Shapes.{Shape, cells_of, size, subtype_shape}
 use Rattle.ada_typed.specs.Classes.{class_or, with_class}
 use Rattle.ada_typed.specs.Decoded as part
 use Rattle.ada_typed.specs.Decoded.{Part, Nothing, Cons, as_composite, as_expr, as_exprs, as_piece, as_pieces, as_value}
 use Rattle.ada_typed.specs.Indexes.{indexes_from, indexes_in}
-use Rattle.ada_typed.specs.Latest.{onto, turned}
+use Rattle.ada_typed.specs.Latest.{turned}
 use Rattle.ada_typed.specs.Syntax as typed
 use Rattle.ada_typed.specs.Syntax.{Expr as TypedExpr, Iteration, Selections}
 use Rattle.ada_typed.specs.declared.expressions.Reducer.TheVariants as reducer'
 use Rattle.ada_typed.specs.declared.scalars.Class.{Class}
 use Rattle.ada_typed.specs.declared.scalars.Class.TheVariants as class
 use Rattle.name_rules.specs.Found.{Found}
-use Rattle.name_rules.specs.Judging.{fault, some, unless, given}
+use Rattle.name_rules.specs.Judging.{fault, some, unless}
 use Rattle.name_rules.specs.TypedParts.{exprs_of, selections_of}
 use Rattle.name_rules.specs.Types.{check_at, class_of, in_base, is_integer, same}
 use Rattle.name_rules.specs.Values.{any_integer, any_scalar, asked, asked_form, beyond, composite_asked, composite_form, first_of, fitting, is_number, is_scalar, literal, mentions_of, object_expr, object_value, own_kind, place_asked, settled, settled_by, settled_found, static_integer, static_of_kind, static_value, stored, value_of, valued, whole_object, whole_of}
