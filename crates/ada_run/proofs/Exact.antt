@@ -23,7 +23,7 @@ use Rattle.name_symbols.specs.Naming.{names_of}
 use Rattle.ada_grammar.proofs.Verdicts.{one_tree, one_deep}
 use Rattle.reader_combinators.proofs.FirstFaults as first
 use Rattle.ada_run.specs.Built.{misnamed}
-use Rattle.ada_run.specs.Compile.{lexing, parsing, naming, blocking, forming, separating, building, finishing, shaping, checking, resolving, reading, compiling}
+use Rattle.ada_run.specs.Compile.{lexing, parsing, naming, blocking, separating, building, finishing, checking, resolving, reading, compiling}
 use Rattle.ada_run.specs.Complaints.{Complaint, lexical, unexpected, too_deep, blocking_call, global_touched, clash}
 use Rattle.ada_run.specs.Phases.{IsExact}
 use Rattle.ada_run.proofs.Phases.{followed_exact}
@@ -103,13 +103,6 @@ blocking_exact t = record {
   apart = λ p q x (k, is) (at, callee, f, same). (blocked_law p).0 k at callee f.breaks;
 }
 
-pub forming_exact : IsExact forming
-forming_exact = record {
-  one_result = λ p a b (f, is) (g, are). is ∙ sym are;
-  one_fault = λ p x y (n, is) (m, are). is ∙ sym are;
-  apart = λ p q x (f, is) (n, same). n f;
-}
-
 -- of two pairs of which neither stands behind the other each is the other
 same_pair : (a b c d : ℕ) → IsNotAfter a b c d → IsNotAfter c d a b → (a ≡ c) × (b ≡ d)
 same_pair a b c d (inl less) (inl more) = absurd (omega (arith, less, more))
@@ -163,11 +156,8 @@ building_exact t = record {
 pub finishing_exact : (t : Tokenized) → IsExact (finishing t)
 finishing_exact t = followed_exact (separating t) (λ program. building t) (separating_exact t) (λ program. building_exact t)
 
-pub shaping_exact : (t : Tokenized) → IsExact (shaping t)
-shaping_exact t = followed_exact forming (λ program. finishing t) forming_exact (λ program. finishing_exact t)
-
 checking_exact : (t : Tokenized) → IsExact (checking t)
-checking_exact t = followed_exact (blocking t) (λ program. shaping t) (blocking_exact t) (λ program. shaping_exact t)
+checking_exact t = followed_exact (blocking t) (λ program. finishing t) (blocking_exact t) (λ program. finishing_exact t)
 
 resolving_exact : (t : Tokenized) → IsExact (resolving t)
 resolving_exact t = followed_exact (naming t) (λ tree. checking t) (naming_exact t) (λ tree. checking_exact t)

@@ -9,6 +9,8 @@ use Rattle.ada_meaning.specs.Law.{IsRaceFree}
 use Rattle.ada_meaning.specs.Nonblocking.{KeepsRule}
 use Rattle.ada_typed.specs.Programs.{program}
 use Rattle.ada_typed.specs.Syntax.{Program}
+use Rattle.formed_programs.proofs.FormsPrograms.{formed_programs_law}
+use Rattle.name_symbols.specs.Naming.{names_of}
 use Rattle.ada_run.specs.Compile.{AreApart, Decides, IsAccepted, compiling}
 use Rattle.ada_run.specs.Compiled.{Compiled, compiled_of}
 use Rattle.ada_run.specs.declared.refusal.Refusal.{Refusal}
@@ -18,8 +20,9 @@ pub accepts : (p : Program) → KeepsRule p → IsFormed p → AreApart p → ef
 accepts p rule formed (strict, free) = record { formed = formed; unblocked = (blocked_law p).0 rule; apart = free; strict = strict }
 
 pub accepted_race_free : (text : List ℕ) (c : Compiled) → IsAccepted text c → IsRaceFree c.program
-accepted_race_free text c (t, lexed, (tree, parsed, (p, typed, (q, (rule, same), (r, (formed, same'), (s, (apart, same''), unit)))))) =
-    let of_s : IsRaceFree s = subst IsRaceFree (sym same'') (accept_law r (accepts r (subst KeepsRule (sym same') (subst KeepsRule (sym same) rule)) (subst IsFormed (sym same') formed) apart)).0 in
+accepted_race_free text c (t, lexed, (tree, parsed, (p, typed, (q, (rule, same), (s, (apart, same'), unit))))) =
+    let formed : IsFormed p = formed_programs_law (names_of t tree) tree p (sym typed) in
+    let of_s : IsRaceFree s = subst IsRaceFree (sym same') (accept_law q (accepts q (subst KeepsRule (sym same) rule) (subst IsFormed (sym same) formed) apart)).0 in
     subst (λ (x : Compiled). IsRaceFree x.program) (sym unit) of_s
 
 pub unit_race_free : (text : List ℕ) (r : Result Unit Refusal) → Decides compiling compiled_of text r → IfOk r (λ (unit : Unit). IsRaceFree (program unit.typed))

@@ -3,7 +3,6 @@ use Rattle.std.proofs.Common.{◌≡◌, inl, inr, ℕ, List, Option, Bool, true
 use Rattle.ada_base.specs.Tokens.{Tokenized, kind_at, place_of_token}
 use Rattle.ada_conflict.specs.Answer as conflict
 use Rattle.ada_conflict.specs.declared.faults.ConflictFault.TheVariants as fault
-use Rattle.ada_meaning.specs.Formed.{IsFormed}
 use Rattle.ada_nonblock.specs.Answer.{Answers}
 use Rattle.ada_nonblock.specs.declared.calls.Blocked.{Blocked}
 use Rattle.ada_nonblock.specs.declared.calls.Blocked.TheVariants.{Call}
@@ -15,8 +14,8 @@ use Rattle.name_programs.specs.declared.resolving.NameFault.{NameFault}
 use Rattle.name_rules.specs.declared.log.Fault as names
 use Rattle.name_symbols.specs.Naming.{names_of}
 use Rattle.ada_run.specs.Built.{misnamed}
-use Rattle.ada_run.specs.Compile.{compiling, parsing, naming, blocking, forming, separating, IsRefusal, Decides, named_refusal, refusal_of, GivesUnit, GivesRefusal}
-use Rattle.ada_run.specs.Complaints.{Complaint, beginning, complaint, left_out, unexpected, unexpected_kind, too_deep, blocking_call, global_touched, clash, not_built}
+use Rattle.ada_run.specs.Compile.{compiling, parsing, naming, blocking, separating, IsRefusal, Decides, named_refusal, refusal_of, GivesUnit, GivesRefusal}
+use Rattle.ada_run.specs.Complaints.{Complaint, complaint, left_out, unexpected, unexpected_kind, too_deep, blocking_call, global_touched, clash}
 use Rattle.ada_run.specs.declared.note.Note.TheVariants as note
 use Rattle.ada_run.specs.Phases.{Phase, followed}
 use Rattle.ada_run.specs.Compiled.{Compiled, compiled_of}
@@ -79,10 +78,7 @@ token_of (Call at callee) = at
 pub refuses_blocking : (t : Tokenized) (p : typed.Program) (fault : Blocked) (r : Refusal) → Answers p (Err fault) → r ≡ refusal_of (blocking_call t (token_of fault)) → IsRefusal (blocking t) p r
 refuses_blocking t p (Call at callee) r told same = refuses (blocking t) p (blocking_call t at) r (at, callee, told.0, refl) same
 
--- the refusals of what isn't formed, and of threads that aren't apart
-pub refuses_unformed : (p : typed.Program) (r : Refusal) → (IsFormed p → ⊥) → r ≡ refusal_of (not_built beginning) → IsRefusal forming p r
-refuses_unformed p r none same = refuses forming p (not_built beginning) r (none, refl) same
-
+-- the refusals of threads that aren't apart
 pub refuses_touched : (t : Tokenized) (p : typed.Program) (at object : ℕ) (r : Refusal) → conflict.Answers p (Err (fault.GlobalTouched at object)) → r ≡ refusal_of (global_touched t at) → IsRefusal (separating t) p r
 refuses_touched t p at object r told same = refuses (separating t) p (global_touched t at) r (inl (told.0, (at, object, told.1, refl))) same
 

@@ -88,12 +88,11 @@ tells text fault (inr (t, lexed, inl (inl (token, first, same)))) = subst (Tells
 tells text fault (inr (t, lexed, inl (inr (token, deep, same)))) = subst (Tells text) (sym same) (inl (plain note.LimitPassed (place_of_token t token) (λ e. omega (arith, e))))
 tells text fault (inr (t, lexed, inr (tree, parsed, inl (f, told, same)))) = subst (Tells text) (sym same) (inl (plain (note_of f.rule) (place_of_token t f.at) (not_left_out f.rule)))
 tells text fault (inr (t, lexed, inr (tree, parsed, inr (p, named, inl (at, callee, first, same))))) = subst (Tells text) (sym same) (inl (plain note.BlockingCall (place_of_token t at) (λ e. omega (arith, e))))
-tells text fault (inr (t, lexed, inr (tree, parsed, inr (p, named, inr (q, kept, inl (none, same)))))) = subst (Tells text) (sym same) (inl (plain note.NotBuilt beginning (λ e. omega (arith, e))))
-tells text fault (inr (t, lexed, inr (tree, parsed, inr (p, named, inr (q, kept, inr (r, formed, inl (inl (asked, (at, object, least, same))))))))) =
+tells text fault (inr (t, lexed, inr (tree, parsed, inr (p, named, inr (q, kept, inl (inl (asked, (at, object, least, same)))))))) =
     subst (Tells text) (sym same) (inl (plain note.GlobalTouched (place_of_token t at) (λ e. omega (arith, e))))
-tells text fault (inr (t, lexed, inr (tree, parsed, inr (p, named, inr (q, kept, inr (r, formed, inl (inr (strict, (at, other, least, same))))))))) =
+tells text fault (inr (t, lexed, inr (tree, parsed, inr (p, named, inr (q, kept, inl (inr (strict, (at, other, least, same)))))))) =
     subst (Tells text) (sym same) (inl (no_word_of_clash (place_of_token t at) (place_of_token t other)))
-tells text fault (inr (t, lexed, inr (tree, parsed, inr (p, named, inr (q, kept, inr (r, formed, inr (s, apart, wrong))))))) = absurd wrong
+tells text fault (inr (t, lexed, inr (tree, parsed, inr (p, named, inr (q, kept, inr (s, apart, wrong)))))) = absurd wrong
 
 module _ (text : List ℕ) (at : Place) where
   -- a fault with another note has no word

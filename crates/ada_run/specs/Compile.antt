@@ -4,7 +4,6 @@ use Rattle.ada_base.specs.Tokens.{Tokenized}
 use Rattle.ada_conflict.specs.Answer.{HasNoClash, IsLeastClash, IsLeastTouched}
 use Rattle.ada_effects.specs.Conflicts.{IsStrict}
 use Rattle.ada_lexer.specs.Lexed.{AreLexed}
-use Rattle.ada_meaning.specs.Formed.{IsFormed}
 use Rattle.ada_meaning.specs.Nonblocking.{KeepsRule}
 use Rattle.ada_nonblock.specs.Answer.{IsFirst}
 use Rattle.ada_tree.specs.Faults.{Fault, IsFirstFault}
@@ -15,7 +14,7 @@ use Rattle.name_rules.specs.Resolved.{TypedOf}
 use Rattle.name_rules.specs.declared.log.Fault as names
 use Rattle.name_programs.specs.Resolving.{IsTold}
 use Rattle.name_symbols.specs.Naming.{names_of}
-use Rattle.ada_run.specs.Complaints.{Complaint, beginning, lexical, unexpected, too_deep, blocking_call, global_touched, clash, not_built}
+use Rattle.ada_run.specs.Complaints.{Complaint, lexical, unexpected, too_deep, blocking_call, global_touched, clash}
 use Rattle.ada_run.specs.Built.{misnamed}
 use Rattle.ada_run.specs.Notes.{code_of}
 use Rattle.ada_run.specs.Phases.{Phase, followed}
@@ -54,13 +53,6 @@ blocking t = record {
   wrong = λ program c. (at callee : ℕ) × IsFirst program at callee × (c ≡ blocking_call t at);
 }
 
--- from a typed program that is formed to itself; one that isn't isn't built yet
-abbrev pub forming : Phase typed.Program typed.Program Complaint
-forming = record {
-  right = λ program same. IsFormed program × (same ≡ program);
-  wrong = λ program c. (IsFormed program → ⊥) × (c ≡ not_built beginning);
-}
-
 -- no effects of the threads of a parallel construct clash, and where the strict rule is asked for no global variable is
 -- touched (9.10.1)
 abbrev pub AreApart : typed.Program → Type 0
@@ -83,11 +75,8 @@ building t = record { right = λ program unit. unit ≡ compiled t program; wron
 abbrev pub finishing : Tokenized → Phase typed.Program Compiled Complaint
 finishing t = followed (separating t) (λ program. building t)
 
-abbrev pub shaping : Tokenized → Phase typed.Program Compiled Complaint
-shaping t = followed forming (λ program. finishing t)
-
 abbrev pub checking : Tokenized → Phase typed.Program Compiled Complaint
-checking t = followed (blocking t) (λ program. shaping t)
+checking t = followed (blocking t) (λ program. finishing t)
 
 abbrev pub resolving : Tokenized → Phase syntax.Program Compiled Complaint
 resolving t = followed (naming t) (λ tree. checking t)

@@ -62,7 +62,3 @@ clash_at place other = record { note = note.Clash; at = place; other = Some othe
 
 abbrev pub clash : Tokenized → ℕ → ℕ → Complaint
 clash t token other = clash_at (place_of_token t token) (place_of_token t other)
-
--- what isn't built yet
-abbrev pub not_built : Place → Complaint
-not_built place = complaint note.NotBuilt place

@@ -23,7 +23,6 @@ code_of note.Clash = 10
 code_of note.ChunkRule = 11
 code_of note.ReductionRule = 11
 code_of note.LimitPassed = 12
-code_of note.NotBuilt = 13
 
 -- the text of a note: in front of the word that is left out, or of the place of the other part of a clash
 abbrev pub note_text : Note → List ℕ
@@ -45,4 +44,3 @@ note_text note.Clash = codes "E10 clash with "
 note_text note.ChunkRule = codes "E11 chunk rule"
 note_text note.ReductionRule = codes "E11 reduction rule"
 note_text note.LimitPassed = codes "E12 limit passed"
-note_text note.NotBuilt = codes "E13 not built yet"

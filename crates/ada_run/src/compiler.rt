@@ -12,10 +12,10 @@ ghost use Rattle.ada_meaning.specs.Nonblocking.{KeepsRule};
 ghost use Rattle.ada_typed.specs.Programs.{program};
 ghost use Rattle.tree_nodes.specs.Trees.{program_of};
 ghost use Rattle.ada_run.specs.Complaints.{Complaint};
-ghost use Rattle.ada_run.specs.Compile.{Decides, IsRefusal, lexing, parsing, finishing, shaping, checking, resolving, reading, compiling, refusal_of, IsAccepted, IsFaultOf, IsRefusalOf, GivesUnit, GivesRefusal};
+ghost use Rattle.ada_run.specs.Compile.{Decides, IsRefusal, lexing, parsing, finishing, checking, resolving, reading, compiling, refusal_of, IsAccepted, IsFaultOf, IsRefusalOf, GivesUnit, GivesRefusal};
 ghost use Rattle.ada_run.specs.Compiled.{Compiled, compiled_of};
 
-use crate::naming::{built, formed, keeps, separated, typed_of};
+use crate::naming::{built, keeps, separated, typed_of};
 use crate::note::Note;
 use crate::refusal::{BEGINNING, Refusal};
 use crate::unit::Unit;
@@ -34,9 +34,7 @@ use tree_nodes::Tree;
 /// where that rule is asked for; and else the least pair of effects in different threads that clash (`E10`). No two threads
 /// of an accepted text touch one variable where one writes, under whatever plan, limit and number of workers.
 ///
-/// An accepted text gets its unit, and every fault of a text its refusal, unless memory runs out. `E13 not built yet` at the
-/// first place is answered where what names give isn't formed as the laws of runs ask; that this never is so isn't proved
-/// yet.
+/// An accepted text gets its unit, and every fault of a text its refusal, unless memory runs out.
 pub fn compile(alloc: Global, text: &[u8]) -> Result<Unit, Refusal>
     ensures accepted { IfOk result (λ unit. IsAccepted text.now (compiled_of unit)) }
     ensures race_free { IfOk result (λ unit. IsRaceFree (program unit.typed)) }
@@ -83,22 +81,10 @@ fn whole_of(alloc: Global, tokens: &Tokens, tree: &Tree) -> Result<Unit, Refusal
 }
 
 fn checked(alloc: Global, tokens: &Tokens, typed: Typed) -> Result<Unit, Refusal>
+    requires { IsFormed (program typed) }
     ensures { Decides (checking tokens.now) compiled_of (program typed) result }
 {
     if let Err(refusal) = keeps(tokens, &typed) {
-        return Err(refusal);
-    }
-    match shaped(alloc, tokens, typed) {
-        Ok(unit) => Ok(unit),
-        Err(refusal) => Err(refusal),
-    }
-}
-
-fn shaped(alloc: Global, tokens: &Tokens, typed: Typed) -> Result<Unit, Refusal>
-    requires { KeepsRule (program typed) }
-    ensures { Decides (shaping tokens.now) compiled_of (program typed) result }
-{
-    if let Err(refusal) = formed(alloc, &typed) {
         return Err(refusal);
     }
     match finished(alloc, tokens, typed) {

@@ -8,17 +8,16 @@ ghost use Rattle.ada_typed.specs.Programs.{program};
 ghost use Rattle.name_programs.specs.Resolving.{fault_of};
 ghost use Rattle.tree_nodes.specs.Trees.{program_of};
 ghost use Rattle.ada_run.specs.Complaints.{complaint};
-ghost use Rattle.ada_run.specs.Compile.{Decides, blocking, building, forming, naming, named_refusal, refusal_of, separating};
+ghost use Rattle.ada_run.specs.Compile.{Decides, blocking, building, naming, named_refusal, refusal_of, separating};
 ghost use Rattle.ada_run.specs.Compiled.{compiled_of};
 
 use crate::note::Note;
-use crate::refusal::{BEGINNING, Refusal};
+use crate::refusal::Refusal;
 use crate::unit::Unit;
 use crate::units::finish;
 use ada_base::Tokens;
 use ada_conflict::accept::accept;
 use ada_conflict::faults::ConflictFault;
-use ada_formed::is_formed;
 use ada_nonblock::{Blocked, check};
 use ada_typed::Typed;
 use effect_inference::infer::infer;
@@ -70,18 +69,6 @@ pub fn keeps(tokens: &Tokens, typed: &Typed) -> Result<(), Refusal>
     match check(typed) {
         Ok(()) => Ok(()),
         Err(Blocked::Call { at, .. }) => Err(refused(tokens, Note::BlockingCall, at)),
-    }
-}
-
-/// Whether the names and calls of a typed program are formed as the laws of runs ask (3.1, 3.6, 3.8). That names always
-/// are is not proved yet, so it is asked of each program.
-pub fn formed(alloc: Global, typed: &Typed) -> Result<(), Refusal>
-    ensures { Decides forming (λ u. program typed.now) (program typed.now) result }
-{
-    match is_formed(alloc, typed) {
-        Ok(true) => Ok(()),
-        Ok(false) => Err(Refusal::of(Note::NotBuilt, BEGINNING)),
-        Err(_) => Err(Refusal::OutOfMemory),
     }
 }
 

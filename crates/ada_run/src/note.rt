@@ -42,12 +42,10 @@ pub enum Note {
     ReductionRule,
     /// A limit of this compiler is passed.
     LimitPassed,
-    /// This compiler doesn't translate such programs yet.
-    NotBuilt,
 }
 
 impl Note {
-    /// The number of its kind of fault, 1 to 13, as in `E05`.
+    /// The number of its kind of fault, 1 to 12, as in `E05`.
     pub fn code(self) -> u8
         ensures { result ≡ code_of self }
     {
@@ -68,7 +66,6 @@ impl Note {
             Note::Clash => 10,
             Note::ChunkRule | Note::ReductionRule => 11,
             Note::LimitPassed => 12,
-            Note::NotBuilt => 13,
         }
     }
 
@@ -95,7 +92,6 @@ impl Note {
             Note::ChunkRule => "E11 chunk rule",
             Note::ReductionRule => "E11 reduction rule",
             Note::LimitPassed => "E12 limit passed",
-            Note::NotBuilt => "E13 not built yet",
         }
     }
 }

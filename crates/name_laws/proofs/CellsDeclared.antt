@@ -45,7 +45,7 @@ use Rattle.name_rules.specs.declared.types.Subtype.{Subtype}
 use Rattle.name_rules.specs.declared.types.Subtype.TheVariants as subtype
 use Rattle.ada_typed.specs.Layout.{cells_of}
 use Rattle.name_laws.proofs.CellsCounted.{array_counted}
-use Rattle.name_laws.proofs.CellsSound.{number_counted, table_of, AreRight, IsRight, IsRightWhat, Sound, are_both, are_later, longer_shapes, minding, more_shapes, number_within, one_of, right_later}
+use Rattle.name_laws.proofs.CellsSound.{number_counted, number_in, table_of, AreRight, IsRight, IsRightWhat, Sound, are_both, are_later, longer_shapes, minding, more_shapes, number_within, one_of, right_later}
 use Rattle.name_laws.proofs.Fitting.{is_number}
 use Rattle.name_laws.proofs.KeepsDeclarations.{k-dimensions_from, k-indic}
 use Rattle.name_laws.proofs.KeepsTypes.{k-number_of}
@@ -225,7 +225,7 @@ array-written ds s log vs h r =
     record {
       longer = subst (λ n. length log.shapes ≤ n) (sym l) (omega (arith, k.0));
       sound = more_shapes (shape.Array ds s m.0 cells) m.1 k.1 (vs, number_within s m.0 m.1 q (is_number s log))
-          (λ v w. ap (array_cells ds) (number_counted s m.0 m.1 k.1 q (is_number s log) v) ∙ array_counted ds (cells_of (table_of m.1.shapes) m.0) w);
+          (λ v w. ap (array_cells ds) (number_counted s m.0 m.1 k.1 q (is_number s log) v) ∙ array_counted ds (cells_of (table_of m.1.shapes) m.0) w) (number_in s m.0 m.1 (is_number s log)) (λ v. tt);
       right = subst (λ n. length m.1.shapes < n) (sym l) (omega arith);
     }
 

@@ -60,7 +60,7 @@ values-of : (ds : List Dimension) → HaveIndexes (map dimension_bounds ds) → 
 values-of [] h = tt
 values-of (d ∷ ds) h = (h.0, values-of ds h.1)
 
-all-values : (shapes : List Shape) → HaveComponents (map typed_subtype shapes) → AllValues shapes
+pub all-values : (shapes : List Shape) → HaveComponents (map typed_subtype shapes) → AllValues shapes
 all-values [] h = tt
 all-values (shape.Scalar s ∷ ts) h = (tt, all-values ts h.1)
 all-values (shape.Array ds c k cells ∷ ts) h = (values-of ds h.0, all-values ts h.1)

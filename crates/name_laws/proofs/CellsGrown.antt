@@ -1,5 +1,5 @@
 -- The table of subtypes only grows, and what it counts of earlier ones stays.
-use Rattle.std.proofs.Common.{◌≡◌, ℕ, zero, suc, ◌+◌, ◌<◌, nat_le, nat_lt, List, [], ◌∷◌, ◌++◌, length, length-append, Some, Bool, true, false, refl, sym, ap, subst, ◌∙◌, arith, slice_get, map, ◌==◌}
+use Rattle.std.proofs.Common.{◌≡◌, ℕ, ◌+◌, ◌<◌, nat_le, nat_lt, List, [], ◌∷◌, ◌++◌, length, length-append, Some, Bool, true, false, refl, sym, ap, subst, ◌∙◌, arith, slice_get, map, ◌==◌}
 use Rattle.std.proofs.lemmas.List.{append_assoc, append-nil}
 use Rattle.std.specs.Prelude.{not, ◌||◌}
 use Rattle.ada_typed.specs.Layout.{cells_of, fields_cells}
@@ -13,7 +13,7 @@ use Rattle.name_rules.specs.declared.log.Rule.{Rule}
 use Rattle.name_rules.specs.declared.log.Rule.TheVariants.{Limit}
 use Rattle.name_rules.specs.declared.log.Shape.{Shape}
 use Rattle.name_rules.specs.declared.log.Shape.TheVariants as shape
-use Rattle.name_laws.proofs.CellsSound.{AllValues, FieldsBefore, count_kept, table_of, values_left}
+use Rattle.name_laws.proofs.CellsSound.{AllValues, FieldsBefore, FieldsLie, FieldsNumbered, count_kept, fields_numbered, get_kept, table_of, values_left}
 use Rattle.name_laws.proofs.Walk.{Walk}
 
 pub record Extends (a b : Log) : Type 0 where
@@ -65,11 +65,6 @@ count_later a b x n h = ap (λ s. cells_of (table_of s) n) x.is ∙ count_more a
 pub values_before : (a b : Log) → Extends a b → AllValues b.shapes → AllValues a.shapes
 values_before a b x v = values_left a.shapes x.more (subst AllValues x.is v)
 
-get_kept : (xs more : List Shape) (i : ℕ) (y : Shape) → slice_get xs i ≡ Some y → slice_get (xs ++ more) i ≡ Some y
-get_kept [] more i y e = absurd cc
-get_kept (a ∷ xs) more zero y e = e
-get_kept (a ∷ xs) more (suc i) y e = get_kept xs more i y e
-
 pub shape_later : (a b : Log) → Extends a b → (i : ℕ) (y : Shape) → slice_get a.shapes i ≡ Some y → slice_get b.shapes i ≡ Some y
 shape_later a b x i y e = ap (λ s. slice_get s i) x.is ∙ get_kept a.shapes x.more i y e
 
@@ -79,3 +74,10 @@ fields_later a b x [] h = refl
 fields_later a b x (f ∷ fs) h =
     ap (λ n. n + fields_cells (cells_of (table_of b.shapes)) (map typed_field fs)) (count_later a b x f.number h.0)
     ∙ ap (λ n. cells_of (table_of a.shapes) f.number + n) (fields_later a b x fs h.1)
+
+pub lie_later : (a b : Log) → Extends a b → (before : ℕ) (fs : List Field) → FieldsBefore (length a.shapes) fs → FieldsLie a.shapes before fs → FieldsLie b.shapes before fs
+lie_later a b x before [] h k = tt
+lie_later a b x before (f ∷ fs) h k = (k.0, subst (λ c. FieldsLie b.shapes (before + c) fs) (sym (count_later a b x f.number h.0)) (lie_later a b x (before + cells_of (table_of a.shapes) f.number) fs h.1 k.1))
+
+pub numbered_later : (a b : Log) → Extends a b → (fs : List Field) → FieldsNumbered a.shapes fs → FieldsNumbered b.shapes fs
+numbered_later a b x fs h = subst (λ s. FieldsNumbered s fs) (sym x.is) (fields_numbered a.shapes x.more fs h)

@@ -1,5 +1,5 @@
 -- Record types, objects and declarations leave what is right.
-use Rattle.std.proofs.Common.{true≢false, leb-true, nat_le, nat_lt, map, ◌≡◌, ℕ, ℤ, ◌+◌, ◌<◌, ◌≤◌, int_le, List, [], ◌∷◌, ◌++◌, length, Option, Some, None, Bool, true, false, refl, sym, ap, subst, ◌∙◌, arith, if◌then◌else◌, option_map, ◌&&◌}
+use Rattle.std.proofs.Common.{true≢false, leb-true, nat_le, nat_lt, map, ◌≡◌, ℕ, suc, ℤ, ◌+◌, ◌<◌, ◌≤◌, int_le, List, [], ◌∷◌, ◌++◌, length, length-append, Option, Some, None, Bool, true, false, refl, sym, ap, subst, ◌∙◌, arith, if◌then◌else◌, option_map, ◌&&◌}
 use Rattle.std.specs.Prelude.{is_some, not}
 use Rattle.ada_base.specs.declared.reason.Reason.TheVariants as reason
 use Rattle.ada_tree.specs.Syntax as syntax
@@ -28,14 +28,14 @@ use Rattle.name_rules.specs.declared.types.Subtype.{Subtype}
 use Rattle.name_rules.specs.declared.types.Subtype.TheVariants as subtype
 use Rattle.name_rules.specs.declared.types.Wanted.TheVariants as wanted
 use Rattle.name_laws.proofs.CellsDeclared.{NamesRight, IsIndicated, IsRightMaybe, Leaves, array-leaves, begun-right, declared-right, ended-right, hidden-right, indic-right, last-true, next-leaves, now}
-use Rattle.std.proofs.lemmas.List.{map-append}
+use Rattle.std.proofs.lemmas.List.{append-nil, append_assoc, map-append}
 use Rattle.std.proofs.lemmas.Option.{slice_get-get_or}
 use Rattle.ada_typed.specs.Layout.{cells_of, fields_cells}
 use Rattle.name_rules.specs.Resolved.{typed_field}
 use Rattle.name_rules.specs.declared.log.Shape.{Shape}
 use Rattle.name_laws.proofs.CellsCounted.{fields_sum, saturated_least, saturated_sum}
-use Rattle.name_laws.proofs.CellsGrown.{Extends, extending, extends_joined, fields_later, shape_later, values_before}
-use Rattle.name_laws.proofs.CellsSound.{AllValues, number_counted, table_of, AreRight, FieldsBefore, IsRight, Sound, are_later, longer_shapes, minding, more_objects, more_shapes, number_within, right_later}
+use Rattle.name_laws.proofs.CellsGrown.{Extends, extending, extends_joined, fields_later, lie_later, numbered_later, shape_later, values_before}
+use Rattle.name_laws.proofs.CellsSound.{AllValues, FieldsLie, FieldsNumbered, NumberIn, number_in, number_counted, table_of, AreRight, FieldsBefore, IsRight, Sound, are_later, longer_shapes, minding, more_objects, more_shapes, number_within, right_later}
 use Rattle.name_laws.proofs.Fitting.{is_number}
 use Rattle.name_laws.proofs.KeepsDeclarations.{k-begun_names, k-cells_counted, k-each_exception, k-indic, k-initial, k-numbers, k-own_type_of, k-valued_constant}
 use Rattle.name_laws.proofs.KeepsRanges.{k-two_bounds}
@@ -134,39 +134,64 @@ components-leaves names level start b (c ∷ cs) log keeps h r =
 
 -- ---- the cells of fields
 
--- the next field begins behind those so far
+-- the next field begins behind those so far, as each of them does
 abbrev AreCounted : List Shape → ℕ → Option (List Field) → Type 0
 AreCounted shapes offset None = Unit {0}
-AreCounted shapes offset (Some fs) = offset ≡ saturated (fields_cells (cells_of (table_of shapes)) (map typed_field fs))
+AreCounted shapes offset (Some fs) = (offset ≡ saturated (fields_cells (cells_of (table_of shapes)) (map typed_field fs))) × FieldsLie shapes 0 fs
 
-abbrev Counts : Log → Building → Type 0
-Counts log b = AllValues log.shapes → AreCounted log.shapes b.offset b.fields
+-- their numbers stand for their subtypes
+abbrev AreNumbered : List Shape → Option (List Field) → Type 0
+AreNumbered shapes None = Unit {0}
+AreNumbered shapes (Some fs) = FieldsNumbered shapes fs
+
+pub record Counts (log : Log) (b : Building) : Type 0 where
+  pub counts : AllValues log.shapes → AreCounted log.shapes b.offset b.fields
+  pub numbers : AreNumbered log.shapes b.fields
 
 counted-later : (a b : Log) (offset : ℕ) (fs : Option (List Field)) → Extends a b → AreBefore (length a.shapes) fs → (AllValues a.shapes → AreCounted a.shapes offset fs) → AllValues b.shapes → AreCounted b.shapes offset fs
 counted-later a b offset None x h c v = tt
-counted-later a b offset (Some fs) x h c v = c (values_before a b x v) ∙ ap saturated (sym (fields_later a b x fs h))
+counted-later a b offset (Some fs) x h c v = let k = c (values_before a b x v) in (k.0 ∙ ap saturated (sym (fields_later a b x fs h)), lie_later a b x 0 fs h k.1)
 
-field-more : (shapes : List Shape) (offset cells : ℕ) (f : Field) (fs : Option (List Field)) → cells ≡ saturated (cells_of (table_of shapes) f.number) → AreCounted shapes offset fs
-    → AreCounted shapes (saturated (offset + cells)) (option_map (d.also_field f) fs)
-field-more shapes offset cells f None e h = tt
-field-more shapes offset cells f (Some fs) e h =
+are-numbered-later : (a b : Log) (fs : Option (List Field)) → Extends a b → AreNumbered a.shapes fs → AreNumbered b.shapes fs
+are-numbered-later a b None x h = tt
+are-numbered-later a b (Some fs) x h = numbered_later a b x fs h
+
+lie-more : (shapes : List Shape) (before : ℕ) (f : Field) (fs : List Field) → FieldsLie shapes before fs → f.offset ≡ saturated (before + fields_cells (cells_of (table_of shapes)) (map typed_field fs)) → FieldsLie shapes before (fs ++ f ∷ [])
+lie-more shapes before f [] h e = (e ∙ ap saturated (omega arith), tt)
+lie-more shapes before f (g ∷ fs) h e = (h.0, lie-more shapes (before + cells_of (table_of shapes) g.number) f fs h.1 (e ∙ ap saturated (omega arith)))
+
+numbered-more : (shapes : List Shape) (f : Field) (fs : List Field) → FieldsNumbered shapes fs → NumberIn shapes f.subtype f.number → FieldsNumbered shapes (fs ++ f ∷ [])
+numbered-more shapes f [] h e = (e, tt)
+numbered-more shapes f (g ∷ fs) h e = (h.0, numbered-more shapes f fs h.1 e)
+
+are-numbered-more : (shapes : List Shape) (f : Field) (fs : Option (List Field)) → AreNumbered shapes fs → NumberIn shapes f.subtype f.number → AreNumbered shapes (option_map (d.also_field f) fs)
+are-numbered-more shapes f None h e = tt
+are-numbered-more shapes f (Some fs) h e = numbered-more shapes f fs h e
+
+field-more : (shapes : List Shape) (cells : ℕ) (f : Field) (fs : Option (List Field)) → cells ≡ saturated (cells_of (table_of shapes) f.number) → AreCounted shapes f.offset fs
+    → AreCounted shapes (saturated (f.offset + cells)) (option_map (d.also_field f) fs)
+field-more shapes cells f None e h = tt
+field-more shapes cells f (Some fs) e h =
     let many = cells_of (table_of shapes) in
     let before = fields_cells many (map typed_field fs) in
     let all : fields_cells many (map typed_field (fs ++ f ∷ [])) ≡ before + many f.number =
     ap (fields_cells many) (map-append typed_field fs (f ∷ [])) ∙ fields_sum many (map typed_field fs) (typed_field f ∷ []) ∙ omega arith in
-    ap saturated (ap (λ n. n + cells) h ∙ ap (λ n. saturated before + n) e) ∙ saturated_sum before (many f.number) ∙ ap saturated (sym all)
+    (ap saturated (ap (λ n. n + cells) h.0 ∙ ap (λ n. saturated before + n) e) ∙ saturated_sum before (many f.number) ∙ ap saturated (sym all), lie-more shapes 0 f fs h.1 (h.0 ∙ ap saturated (omega arith)))
 
 field-counts : (names : Names) (b : Building) (f : Option ℕ) (token : ℕ) (s : Option Indicated) (log : Log) → Sound log → IsBuilt (length log.shapes) b → IsIndicated (length log.shapes) s → Counts log b
     → Counts (d.with_field names b f token s log).1 (d.with_field names b f token s log).0
-field-counts names b None token s log h r i c v = tt
-field-counts names b (Some t) token None log h r i c v = tt
-field-counts names b (Some t) token (Some s) log h r i c v =
+field-counts names b None token s log h r i c = record { counts = λ v. tt; numbers = tt }
+field-counts names b (Some t) token None log h r i c = record { counts = λ v. tt; numbers = tt }
+field-counts names b (Some t) token (Some s) log h r i c =
     let m = number_of s.known log in
     let k = now log (number_of s.known) (k-number_of (minding 0) s.known) h in
     let x = (k-number_of extending s.known).at log in
     let q = right_later (length log.shapes) (length m.1.shapes) s.known k.0 i in
     let f : Field = record { symbol = symbol names token; name = token; subtype = s.known; number = m.0; offset = b.offset } in
-    field-more m.1.shapes b.offset (cells_in m.1 s.known) f b.fields (number_counted s.known m.0 m.1 k.1 q (is_number s.known log) v) (counted-later log m.1 b.offset b.fields x r.1 c v)
+    record {
+      counts = λ v. field-more m.1.shapes (cells_in m.1 s.known) f b.fields (number_counted s.known m.0 m.1 k.1 q (is_number s.known log) v) (counted-later log m.1 b.offset b.fields x r.1 c.counts v);
+      numbers = are-numbered-more m.1.shapes f b.fields (are-numbered-later log m.1 b.fields x c.numbers) (number_in s.known m.0 m.1 (is_number s.known log));
+    }
 
 fields-count : (names : Names) (b : Building) (s : Option Indicated) (ts : List ℕ) (fs : List (Option ℕ)) (log : Log) → Sound log → IsBuilt (length log.shapes) b → IsIndicated (length log.shapes) s → Counts log b
     → Counts (d.with_fields names b s ts fs log).1 (d.with_fields names b s ts fs log).0
@@ -190,7 +215,7 @@ component-counts names level start b c log keeps h r counts =
     let more : Building = record { here = x.0.0; fields = b.fields; offset = b.offset; mentions = also_all b.mentions (d.indicated_mentions s.0) } in
     let y = extends_joined log x.1 s.1 ((k-begun_names extending names start b.here [] (all_ids c.names) tt).at log) ((k-indic extending names level x.0.0 c.component tt keeps.extends).at x.1) in
     fields-count names more s.0 (all_ids c.names) x.0.1 s.1 j.1 (e, maybe-later (length log.shapes) n b.fields l r.1) (indic-right n names level x.0.0 c.component e x.1)
-    (counted-later log s.1 b.offset b.fields y r.1 counts)
+    (record { counts = counted-later log s.1 b.offset b.fields y r.1 counts.counts; numbers = are-numbered-later log s.1 b.fields y counts.numbers })
 
 components-count : (names : Names) (level : Inside) (start : ℕ) (b : Building) (cs : List Comp) (log : Log) → KeepsBoth level → Sound log → IsBuilt (length log.shapes) b → Counts log b
     → Counts (d.components names level start b cs log).1 (d.components names level start b cs log).0
@@ -200,26 +225,88 @@ components-count names level start b (c ∷ cs) log keeps h r counts =
     let k = component-leaves names level start b c log keeps h r in
     components-count names level start x.0 cs x.1 keeps k.sound k.right (component-counts names level start b c log keeps h r counts)
 
-written-leaves : (b : Building) (fs : Option (List Field)) (log : Log) → Sound log → AreBefore (length log.shapes) fs → (AllValues log.shapes → AreCounted log.shapes b.offset fs)
+-- ---- a record has at least one component
+
+-- so many fields at least
+abbrev AreMany : ℕ → Option (List Field) → Type 0
+AreMany k None = Unit {0}
+AreMany k (Some fs) = k ≤ length fs
+
+many-less : (j k : ℕ) (fs : Option (List Field)) → j ≤ k → AreMany k fs → AreMany j fs
+many-less j k None l h = tt
+many-less j k (Some fs) l h = omega (arith, l, h)
+
+many-more : (k : ℕ) (f : Field) (fs : Option (List Field)) → AreMany k fs → AreMany (suc k) (option_map (d.also_field f) fs)
+many-more k f None h = tt
+many-more k f (Some fs) h = omega (arith, h, length-append fs (f ∷ []))
+
+field-many : (k : ℕ) (names : Names) (b : Building) (f : Option ℕ) (token : ℕ) (s : Option Indicated) (log : Log) → AreMany k b.fields → AreMany (suc k) (d.with_field names b f token s log).0.fields
+field-many k names b None token s log h = tt
+field-many k names b (Some t) token None log h = tt
+field-many k names b (Some t) token (Some s) log h = many-more k _ b.fields h
+
+fields-many : (k : ℕ) (names : Names) (b : Building) (s : Option Indicated) (ts : List ℕ) (fs : List (Option ℕ)) (log : Log) → AreMany k b.fields → AreMany k (d.with_fields names b s ts fs log).0.fields
+fields-many k names b s [] fs log h = h
+fields-many k names b s (t ∷ ts) [] log h = h
+fields-many k names b s (t ∷ ts) (f ∷ fs) log h =
+    let x = d.with_field names b f t s log in
+    fields-many k names x.0 s ts fs x.1 (many-less k (suc k) x.0.fields (omega arith) (field-many k names b f t s log h))
+
+-- each name has its own place among those that are free
+begun-more : (names : Names) (start : ℕ) (here : Context) (made : List (Option ℕ)) (ts : List ℕ) (log : Log) → (more : List (Option ℕ)) × ((d.begun_names names start here made ts log).0.1 ≡ made ++ more)
+begun-more names start here made [] log = ([], sym (append-nil made))
+begun-more names start here made (t ∷ ts) log =
+    let f = free names start here t log in
+    let x = begun-more names start (hidden_where names here t f.0) (made ++ f.0 ∷ []) ts f.1 in
+    (f.0 ∷ x.0, x.1 ∙ append_assoc made (f.0 ∷ []) x.0)
+
+begun-some : (k : ℕ) (names : Names) (here : Context) (b : Building) (s : Option Indicated) (t : ℕ) (ts : List ℕ) (fs more : List (Option ℕ)) (f : Option ℕ) (log : Log) → fs ≡ f ∷ more → AreMany k b.fields
+    → AreMany (suc k) (d.with_fields names b s (t ∷ ts) fs log).0.fields
+begun-some k names here b s t ts fs more f log e h =
+    let x = d.with_field names b f t s log in
+    subst (λ y. AreMany (suc k) (d.with_fields names b s (t ∷ ts) y log).0.fields) (sym e) (fields-many (suc k) names x.0 s ts more x.1 (field-many k names b f t s log h))
+
+component-many : (k : ℕ) (names : Names) (level : Inside) (start : ℕ) (b : Building) (c : Comp) (log : Log) → AreMany k b.fields → AreMany (suc k) (d.component names level start b c log).0.fields
+component-many k names level start b c log h =
+    let f = free names start b.here c.names.first log in
+    let x = d.begun_names names start b.here [] (all_ids c.names) log in
+    let m = begun-more names start (hidden_where names b.here c.names.first f.0) (f.0 ∷ []) c.names.more f.1 in
+    let s = d.indic names level x.0.0 c.component x.1 in
+    begun-some k names x.0.0 (record { here = x.0.0; fields = b.fields; offset = b.offset; mentions = also_all b.mentions (d.indicated_mentions s.0) }) s.0 c.names.first c.names.more x.0.1 m.0 f.0 s.1 m.1 h
+
+components-many : (k : ℕ) (names : Names) (level : Inside) (start : ℕ) (b : Building) (cs : List Comp) (log : Log) → AreMany k b.fields → AreMany k (d.components names level start b cs log).0.fields
+components-many k names level start b [] log h = h
+components-many k names level start b (c ∷ cs) log h =
+    let x = d.component names level start b c log in
+    components-many k names level start x.0 cs x.1 (many-less k (suc k) x.0.fields (omega arith) (component-many k names level start b c log h))
+
+record-many : (names : Names) (level : Inside) (start : ℕ) (b : Building) (c : Comp) (cs : List Comp) (log : Log) → AreMany 0 b.fields → AreMany 1 (d.components names level start b (c ∷ cs) log).0.fields
+record-many names level start b c cs log h =
+    let x = d.component names level start b c log in
+    components-many 1 names level start x.0 cs x.1 (component-many 0 names level start b c log h)
+
+written-leaves : (b : Building) (fs : Option (List Field)) (log : Log) → Sound log → AreBefore (length log.shapes) fs → (AllValues log.shapes → AreCounted log.shapes b.offset fs) → AreNumbered log.shapes fs → AreMany 1 fs
     → Leaves IsIndicated log (given fs (d.record_written b.offset b.mentions) log)
-written-leaves b None log h r c = record { longer = omega arith; sound = h; right = tt }
-written-leaves b (Some fs) log h r c =
+written-leaves b None log h r c m k = record { longer = omega arith; sound = h; right = tt }
+written-leaves b (Some fs) log h r c m k =
     let l = longer_shapes (shape.Record fs b.offset) log.shapes in
     record {
       longer = subst (λ n. length log.shapes ≤ n) (sym l) (omega arith);
-      sound = more_shapes (shape.Record fs b.offset) log h r (λ v w. c v);
+      sound = more_shapes (shape.Record fs b.offset) log h r (λ v w. (c v).0) (omega (arith, k), m) (λ v. (c v).1);
       right = subst (λ n. length log.shapes < n) (sym l) (omega arith);
     }
 
-record-leaves : (names : Names) (level : Inside) (here : Context) (cs : List Comp) (log : Log) → KeepsBoth level → Sound log → AreRight (length log.shapes) here.scope
-    → Leaves IsIndicated log (d.record_of names level here cs log)
+record-leaves : (names : Names) (level : Inside) (here : Context) (x : Comp) (xs : List Comp) (log : Log) → KeepsBoth level → Sound log → AreRight (length log.shapes) here.scope
+    → Leaves IsIndicated log (d.record_of names level here (x ∷ xs) log)
 unfolding d.record_of
-record-leaves names level here cs log keeps h r =
+record-leaves names level here x xs log keeps h r =
+    let cs = x ∷ xs in
     let start : Building = record { here = here; fields = Some []; offset = 0; mentions = part.Nothing } in
     let b = d.components names level (length here.scope) start cs log in
     let k = components-leaves names level (length here.scope) start cs log keeps h (r, tt) in
-    let c = components-count names level (length here.scope) start cs log keeps h (r, tt) (λ v. refl) in
-    next-leaves IsIndicated log b.1 (given b.0.fields (d.record_written b.0.offset b.0.mentions) b.1) k.longer (written-leaves b.0 b.0.fields b.1 k.sound k.right.1 c)
+    let c = components-count names level (length here.scope) start cs log keeps h (r, tt) (record { counts = λ v. (refl, tt); numbers = tt }) in
+    let m = record-many names level (length here.scope) start x xs log (omega arith) in
+    next-leaves IsIndicated log b.1 (given b.0.fields (d.record_written b.0.offset b.0.mentions) b.1) k.longer (written-leaves b.0 b.0.fields b.1 k.sound k.right.1 c.counts c.numbers m)
 
 -- ---- types
 
@@ -251,7 +338,7 @@ defined-leaves : (names : Names) (level : Inside) (here : Context) (token : ℕ)
 unfolding d.defined
 defined-leaves names level here token (syntax.RangeType low high) log keeps h r = range-type names level here token low high log keeps h
 defined-leaves names level here token (syntax.ArrayType a) log keeps h r = array-leaves names level here a log keeps.minds keeps.named h r
-defined-leaves names level here token (syntax.RecordType c cs) log keeps h r = record-leaves names level here (c ∷ cs) log keeps h r
+defined-leaves names level here token (syntax.RecordType c cs) log keeps h r = record-leaves names level here c cs log keeps h r
 
 -- ---- objects
 

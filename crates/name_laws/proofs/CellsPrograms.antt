@@ -221,7 +221,7 @@ outermost-right : (n : ℕ) → AreRight n p.outermost.scope
 outermost-right n = (refl, (tt, (tt, (refl, (refl, (refl, (tt, (tt, (tt, tt)))))))))
 
 fresh-sound : Sound fresh
-fresh-sound = record { before = λ n t e. absurd cc; within = λ n o e. absurd cc; counted = λ v n t e. absurd cc; cells = λ v n o e. absurd cc }
+fresh-sound = record { before = λ n t e. absurd cc; within = λ n o e. absurd cc; counted = λ v n t e. absurd cc; cells = λ v n o e. absurd cc; numbered = λ n t e. absurd cc; lie = λ v n t e. absurd cc }
 
 pub all-sound : (names : Names) (text : Program) → Sound (judged names text).1
 unfolding judged p.program

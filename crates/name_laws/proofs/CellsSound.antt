@@ -9,7 +9,7 @@ use Rattle.ada_typed.specs.declared.program.Object.{Object}
 use Rattle.name_rules.specs.Declarations.{cells_counted}
 use Rattle.name_rules.specs.Judging.{unless}
 use Rattle.name_rules.specs.Resolved.{typed_subtype}
-use Rattle.name_rules.specs.Types.{cells_in, cells_of_shape, dimensions_of, saturated}
+use Rattle.name_rules.specs.Types.{cells_in, cells_of_shape, dimensions_of, fields_of, saturated}
 use Rattle.name_rules.specs.declared.log.Field.{Field}
 use Rattle.name_rules.specs.declared.log.Log.{Log}
 use Rattle.name_rules.specs.declared.log.Rule.{Rule}
@@ -42,12 +42,34 @@ abbrev pub AllValues : List Shape → Type 0
 AllValues [] = Unit {0}
 AllValues (t ∷ ts) = HaveValues (dimensions_of (Some t)) × AllValues ts
 
+-- a number stands for a subtype
+abbrev pub NumberIn : List Shape → Subtype → ℕ → Type 0
+NumberIn shapes (subtype.Scalar s) n = slice_get shapes n ≡ Some (shape.Scalar s)
+NumberIn shapes (subtype.Composite m) n = n ≡ m
+
+abbrev pub FieldsNumbered : List Shape → List Field → Type 0
+FieldsNumbered shapes [] = Unit {0}
+FieldsNumbered shapes (f ∷ fs) = NumberIn shapes f.subtype f.number × FieldsNumbered shapes fs
+
+-- a record has a component
+abbrev pub IsNumbered : List Shape → Shape → Type 0
+IsNumbered shapes (shape.Scalar s) = Unit {0}
+IsNumbered shapes (shape.Array ds c k cells) = NumberIn shapes c k
+IsNumbered shapes (shape.Record fs cells) = (0 < length fs) × FieldsNumbered shapes fs
+
+-- each field begins behind those before it
+abbrev pub FieldsLie : List Shape → ℕ → List Field → Type 0
+FieldsLie shapes before [] = Unit {0}
+FieldsLie shapes before (f ∷ fs) = (f.offset ≡ saturated before) × FieldsLie shapes (before + cells_of (table_of shapes) f.number) fs
+
 -- where all dimensions have values, counts are those of the layout up to the greatest
 pub record SoundIn (shapes : List Shape) (objects : List Object) : Type 0 where
   pub before : (n : ℕ) (t : Shape) → slice_get shapes n ≡ Some t → IsBefore n t
   pub within : (n : ℕ) (o : Object) → slice_get objects n ≡ Some o → o.subtype < length shapes
   pub counted : AllValues shapes → (n : ℕ) (t : Shape) → slice_get shapes n ≡ Some t → cells_of_shape (Some t) ≡ saturated (cells_of (table_of shapes) n)
   pub cells : AllValues shapes → (n : ℕ) (o : Object) → slice_get objects n ≡ Some o → o.cells ≡ cells_of (table_of shapes) o.subtype
+  pub numbered : (n : ℕ) (t : Shape) → slice_get shapes n ≡ Some t → IsNumbered shapes t
+  pub lie : AllValues shapes → (n : ℕ) (t : Shape) → slice_get shapes n ≡ Some t → FieldsLie shapes 0 (fields_of (Some t))
 
 abbrev pub Sound : Log → Type 0
 Sound log = SoundIn log.shapes log.objects
@@ -98,15 +120,61 @@ count_last shapes t = ap (λ s. cells_of s (length shapes)) (table_more shapes t
 abbrev pub IsCounted : List Shape → Shape → Type 0
 IsCounted shapes t = AllValues shapes → HaveValues (dimensions_of (Some t)) → cells_of_shape (Some t) ≡ saturated (subtype_cells (cells_of (table_of shapes)) (typed_subtype t))
 
+pub get_kept : (xs more : List Shape) (i : ℕ) (y : Shape) → slice_get xs i ≡ Some y → slice_get (xs ++ more) i ≡ Some y
+get_kept [] more i y e = absurd cc
+get_kept (a ∷ xs) more zero y e = e
+get_kept (a ∷ xs) more (suc i) y e = get_kept xs more i y e
+
+pub number_kept : (shapes more : List Shape) (s : Subtype) (n : ℕ) → NumberIn shapes s n → NumberIn (shapes ++ more) s n
+number_kept shapes more (subtype.Scalar s) n h = get_kept shapes more n (shape.Scalar s) h
+number_kept shapes more (subtype.Composite m) n h = h
+
+pub fields_numbered : (shapes more : List Shape) (fs : List Field) → FieldsNumbered shapes fs → FieldsNumbered (shapes ++ more) fs
+fields_numbered shapes more [] h = tt
+fields_numbered shapes more (f ∷ fs) h = (number_kept shapes more f.subtype f.number h.0, fields_numbered shapes more fs h.1)
+
+numbered_kept : (shapes more : List Shape) (t : Shape) → IsNumbered shapes t → IsNumbered (shapes ++ more) t
+numbered_kept shapes more (shape.Scalar s) h = tt
+numbered_kept shapes more (shape.Array ds c k cells) h = number_kept shapes more c k h
+numbered_kept shapes more (shape.Record fs cells) h = (h.0, fields_numbered shapes more fs h.1)
+
+lie_kept : (shapes : List Shape) (t : Shape) (before : ℕ) (fs : List Field) → FieldsBefore (length shapes) fs → FieldsLie shapes before fs → FieldsLie (shapes ++ t ∷ []) before fs
+lie_kept shapes t before [] b h = tt
+lie_kept shapes t before (f ∷ fs) b h =
+    (h.0, subst (λ k. FieldsLie (shapes ++ t ∷ []) (before + k) fs) (sym (count_kept shapes t f.number b.0)) (lie_kept shapes t (before + cells_of (table_of shapes) f.number) fs b.1 h.1))
+
+fields_before : (n m : ℕ) (fs : List Field) → n ≤ m → FieldsBefore n fs → FieldsBefore m fs
+fields_before n m [] l h = tt
+fields_before n m (f ∷ fs) l h = (omega (arith, l, h.0), fields_before n m fs l h.1)
+
+shape_before : (n m : ℕ) (t : Shape) → n ≤ m → IsBefore n t → FieldsBefore m (fields_of (Some t))
+shape_before n m (shape.Scalar s) l h = tt
+shape_before n m (shape.Array ds c k cells) l h = tt
+shape_before n m (shape.Record fs cells) l h = fields_before n m fs l h
+
 -- one shape more
-pub more_shapes : (t : Shape) (log : Log) → Sound log → IsBefore (length log.shapes) t → IsCounted log.shapes t → Sound (record log { shapes = log.shapes ++ t ∷ [] })
-more_shapes t log h new count = record {
+pub more_shapes : (t : Shape) (log : Log) → Sound log → IsBefore (length log.shapes) t → IsCounted log.shapes t → IsNumbered log.shapes t
+    → (AllValues log.shapes → FieldsLie log.shapes 0 (fields_of (Some t))) → Sound (record log { shapes = log.shapes ++ t ∷ [] })
+more_shapes t log h new count number lying = record {
   before = λ n u g. by n u (get_either log.shapes t n u g);
   within = λ n o g. subst (λ k. o.subtype < k) (sym (length-append log.shapes (t ∷ []))) (omega (arith, h.within n o g));
   counted = λ v n u g. counts v n u (get_either log.shapes t n u g);
   cells = λ v n o g. h.cells (values_left log.shapes (t ∷ []) v) n o g ∙ sym (count_kept log.shapes t o.subtype (h.within n o g));
+  numbered = λ n u g. numbers n u (get_either log.shapes t n u g);
+  lie = λ v n u g. lies v n u (get_either log.shapes t n u g);
 }
   where
+    numbers : (n : ℕ) (u : Shape) → (slice_get log.shapes n ≡ Some u) ⊎ ((n ≡ length log.shapes) × (t ≡ u)) → IsNumbered (log.shapes ++ t ∷ []) u
+    numbers n u (inl g) = numbered_kept log.shapes (t ∷ []) u (h.numbered n u g)
+    numbers n u (inr g) = subst (IsNumbered (log.shapes ++ t ∷ [])) g.1 (numbered_kept log.shapes (t ∷ []) t number)
+
+    lies : AllValues (log.shapes ++ t ∷ []) → (n : ℕ) (u : Shape) → (slice_get log.shapes n ≡ Some u) ⊎ ((n ≡ length log.shapes) × (t ≡ u)) → FieldsLie (log.shapes ++ t ∷ []) 0 (fields_of (Some u))
+    lies v n u (inl g) =
+        lie_kept log.shapes t 0 (fields_of (Some u)) (shape_before n (length log.shapes) u (omega (arith, slice_get_within log.shapes n u g)) (h.before n u g)) (h.lie (values_left log.shapes (t ∷ []) v) n u g)
+    lies v n u (inr g) =
+        subst (λ x. FieldsLie (log.shapes ++ t ∷ []) 0 (fields_of (Some x))) g.1
+        (lie_kept log.shapes t 0 (fields_of (Some t)) (shape_before (length log.shapes) (length log.shapes) t (omega arith) new) (lying (values_left log.shapes (t ∷ []) v)))
+
     by : (n : ℕ) (u : Shape) → (slice_get log.shapes n ≡ Some u) ⊎ ((n ≡ length log.shapes) × (t ≡ u)) → IsBefore n u
     by n u (inl g) = h.before n u g
     by n u (inr g) = subst (λ k. IsBefore k u) (sym g.0) (subst (IsBefore (length log.shapes)) g.1 new)
@@ -128,6 +196,8 @@ more_objects o log h new count = record {
   within = λ n x g. by n x (get_either log.objects o n x g);
   counted = h.counted;
   cells = λ v n x g. counts v n x (get_either log.objects o n x g);
+  numbered = h.numbered;
+  lie = h.lie;
 }
   where
     by : (n : ℕ) (x : Object) → (slice_get log.objects n ≡ Some x) ⊎ ((n ≡ length log.objects) × (o ≡ x)) → x.subtype < length log.shapes
@@ -158,7 +228,7 @@ minding known = record {
   stays = λ log. next_same known log log refl refl;
   joins = next_joined known;
   breaks = λ at rule log. next_same known log _ refl refl;
-  scalar = λ s log. record { at = λ l h. (subst (λ n. length log.shapes ≤ n) (sym (longer_shapes (shape.Scalar s) log.shapes)) (omega arith), more_shapes (shape.Scalar s) log h tt (λ v w. refl)) };
+  scalar = λ s log. record { at = λ l h. (subst (λ n. length log.shapes ≤ n) (sym (longer_shapes (shape.Scalar s) log.shapes)) (omega arith), more_shapes (shape.Scalar s) log h tt (λ v w. refl) tt (λ v. tt)) };
   counted = counted_next known;
   exception = λ token log. next_same known log _ refl refl;
   site = λ here at k log. next_same known log _ refl refl;
@@ -180,6 +250,10 @@ right_later n m (subtype.Composite k) l h = omega (arith, l, h)
 pub number_within : (s : Subtype) (n : ℕ) (log : Log) → IsRight (length log.shapes) s → IsNumber s n log → n < length log.shapes
 number_within (subtype.Scalar s) n log r i = slice_get_within log.shapes n (shape.Scalar s) i
 number_within (subtype.Composite m) n log r i = subst (λ k. k < length log.shapes) (sym i) r
+
+pub number_in : (s : Subtype) (n : ℕ) (log : Log) → IsNumber s n log → NumberIn log.shapes s n
+number_in (subtype.Scalar s) n log i = i
+number_in (subtype.Composite m) n log i = i
 
 -- its count is that of the layout
 pub number_counted : (s : Subtype) (n : ℕ) (log : Log) → Sound log → IsRight (length log.shapes) s → IsNumber s n log → AllValues log.shapes → cells_in log s ≡ saturated (cells_of (table_of log.shapes) n)

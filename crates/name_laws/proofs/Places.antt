@@ -22,11 +22,11 @@ use Rattle.name_laws.proofs.KeepsScope.{k-free}
 use Rattle.name_laws.proofs.Walk.{Wide}
 use Rattle.name_laws.specs.OwnNames.{AreNumbered}
 
-unless-profiles : (b : Bool) (at : ℕ) (rule : Rule) (log : Log) → (unless b at rule log).1.profiles ≡ log.profiles
+pub unless-profiles : (b : Bool) (at : ℕ) (rule : Rule) (log : Log) → (unless b at rule log).1.profiles ≡ log.profiles
 unless-profiles true at rule log = refl
 unless-profiles false at rule log = refl
 
-counted-profiles : (token cells : ℕ) (log : Log) → (cells_counted token cells log).1.profiles ≡ log.profiles
+pub counted-profiles : (token cells : ℕ) (log : Log) → (cells_counted token cells log).1.profiles ≡ log.profiles
 counted-profiles token cells log =
     let all = saturated (log.cells + cells) in
     let now = record log { declared = log.declared + 1; cells = all } in
@@ -34,7 +34,7 @@ counted-profiles token cells log =
     unless-profiles (nat_lt 4194304 log.cells || nat_le all 4194304) token (Limit 2 all) mid ∙ unless-profiles (not (log.declared == 4096)) token (Limit 1 4097) now
 
 -- profiles stay as they are
-abbrev steady : Wide
+abbrev pub steady : Wide
 steady = record {
   walk = record {
     Takes = λ names. Unit {0};
@@ -156,7 +156,7 @@ numbered-alike : (ss : Option (List TypedSub)) (before after : Log) → length a
 numbered-alike None before after e h = tt
 numbered-alike (Some ss) before after e h = h ∙ sym e
 
-one-place : (names : Names) (n : ℕ) (blocking : Bool) (start : ℕ) (d : p.Declared') (u : Unit') (log : Log)
+pub one-place : (names : Names) (n : ℕ) (blocking : Bool) (start : ℕ) (d : p.Declared') (u : Unit') (log : Log)
     → AreNumbered d.subs log → AreNumbered (p.unit_of names n blocking start d u log).0.subs (p.unit_of names n blocking start d u log).1
 one-place names n blocking start d (syntax.DeclUnit x) log h =
     numbered-alike d.subs log (p.unit_of names n blocking start d (syntax.DeclUnit x) log).1
