@@ -12,8 +12,8 @@ use ada_typed::{Check, Class, Comparison, Expr, Link, Root, Selection, Sign};
 use run_parts::Work;
 use run_store::{Env, Object, Port, Store, between, bit, compares, is_in, is_true};
 
-/// How many levels of operands and selections are gone through before the walk is left to do it: an expression whose quick
-/// evaluation fails is looked at no more often.
+/// How many levels of operands and selections are gone through before it is left to the walk. So a node is looked at a
+/// bounded number of times before the walk comes to it.
 pub const LEVELS: u32 = 12;
 
 /// The value of an expression; None where it calls, reduces, is nested deeper than so many levels, or has no value.
