@@ -12,7 +12,7 @@ use Rattle.name_rules.specs.declared.log.Rule.{Rule}
 use Rattle.name_rules.specs.declared.log.Rule.TheVariants.{Limit}
 use Rattle.name_rules.specs.declared.log.Shape.{Shape as Entry}
 use Rattle.name_rules.specs.declared.scope.Context.{Context}
-use Rattle.name_laws.proofs.Walk.{Keeps, Walk, Wide}
+use Rattle.name_laws.proofs.Walk.{Keeps, Wide}
 use Rattle.name_laws.proofs.Walk as walk
 use Rattle.name_laws.proofs.Walked.{WalksProfiles}
 use Rattle.formed_programs.proofs.Forms.{Any, Forms, Maybe, Sight, World}

@@ -5,7 +5,7 @@ use Rattle.ada_base.specs.declared.operation.Op.TheVariants as op
 use Rattle.ada_base.specs.declared.operation.Op.{Op}
 use Rattle.ada_tree.specs.FirstTokens as first_token
 use Rattle.ada_tree.specs.Syntax as syntax
-use Rattle.ada_tree.specs.Syntax.{Adding, Addings, Conjuncts, Expr, Factor, Multiplying, Multiplyings, Name, Primary, Rel, Simple, Term}
+use Rattle.ada_tree.specs.Syntax.{Adding, Addings, Conjuncts, Expr, Factor, Multiplying, Multiplyings, Rel, Simple, Term}
 use Rattle.ada_tree.specs.declared.operators.Additive.TheVariants as additive
 use Rattle.ada_tree.specs.declared.operators.Logical.TheVariants as logical'
 use Rattle.ada_tree.specs.declared.operators.Sign.{Sign as Signed}

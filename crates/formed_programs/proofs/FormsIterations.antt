@@ -6,7 +6,7 @@ use Rattle.ada_meaning.specs.Shapes.{ComponentAt, Shape, subtype_shape}
 use Rattle.ada_tree.specs.Syntax as syntax
 use Rattle.ada_tree.specs.Syntax.{Iter, OptionalExpr, OptionalParallel, Parallel, Simple}
 use Rattle.ada_typed.specs.Decoded as part
-use Rattle.ada_typed.specs.Decoded.{Part, as_expr, as_iteration, as_optional}
+use Rattle.ada_typed.specs.Decoded.{Part, as_iteration, as_optional}
 use Rattle.ada_typed.specs.Syntax as typed
 use Rattle.ada_typed.specs.Syntax.{Iteration, Optional}
 use Rattle.ada_typed.specs.declared.program.SiteKind.{SiteKind}

@@ -2,11 +2,10 @@
 use Rattle.std.proofs.Common.{◌≡◌, refl, sym, ap, subst, ◌∙◌, true≢false, ◌≤◌, nat_lt, length, slice_get, arith, ℕ, suc, List, Option, Some, None, Bool, true, false, option_map}
 use Rattle.std.specs.Prelude.{not, ◌/◌}
 use Rattle.ada_tree.specs.Syntax as syntax
-use Rattle.ada_tree.specs.Syntax.{Args, Elsifs, Expr, Iter, Name, OptionalParallel, Parts, Primary}
+use Rattle.ada_tree.specs.Syntax.{Args, Expr, Name, Parts}
 use Rattle.ada_typed.specs.Decoded as part
-use Rattle.ada_typed.specs.Decoded.{Part, as_composite, as_expr}
+use Rattle.ada_typed.specs.Decoded.{Part}
 use Rattle.ada_typed.specs.Syntax as typed
-use Rattle.ada_typed.specs.Syntax.{Selections}
 use Rattle.ada_typed.specs.declared.program.SiteKind.TheVariants as site
 use Rattle.name_rules.specs.Attributes.{attribute_at, bound_with, dimensions_in, is_array_object, is_bound, is_reduction, mentioned, prefix_subtype, settled_attribute}
 use Rattle.name_rules.specs.Expressions.{Inside, expr}

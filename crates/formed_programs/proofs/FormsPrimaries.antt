@@ -3,11 +3,10 @@ use Rattle.std.proofs.Common.{◌≡◌, refl, ◌≤◌, max, arith, ℕ, ℤ, 
 use Rattle.std.specs.Prelude.{is_some, not, ◌||◌}
 use Rattle.ada_tree.specs.FirstTokens as first_token
 use Rattle.ada_tree.specs.Syntax as syntax
-use Rattle.ada_tree.specs.Syntax.{Args, Elsifs, Expr, Iter, Name, OptionalParallel, Parts, Primary}
+use Rattle.ada_tree.specs.Syntax.{Elsifs, Expr, Iter, OptionalParallel, Primary}
 use Rattle.ada_typed.specs.Decoded as part
 use Rattle.ada_typed.specs.Decoded.{Part, as_composite, as_expr}
 use Rattle.ada_typed.specs.Syntax as typed
-use Rattle.ada_typed.specs.Syntax.{Selections}
 use Rattle.ada_typed.specs.declared.program.SiteKind.TheVariants as site
 use Rattle.name_rules.specs.Aggregates.{ByPosition, contents}
 use Rattle.name_rules.specs.Attributes.{attribute_at}
@@ -18,7 +17,7 @@ use Rattle.name_rules.specs.Judging.{both, given, joined, pure, unless}
 use Rattle.name_rules.specs.Operators.{open_of}
 use Rattle.name_rules.specs.Parts.{value_named}
 use Rattle.name_rules.specs.Primaries as primaries
-use Rattle.name_rules.specs.Primaries.{Waiting, also_choice, also_waiting, alternative, alternatives, common, common_composite, composite_if, composite_ifs, composite_in, composite_part, conditional, grouped, grouped_by, grouped_form, grouped_scalar, if_expr, if_part, no_text, open_if, open_ifs, open_part, primary, scalar_if, scalar_ifs, target_at, target_found, text_at, with_known}
+use Rattle.name_rules.specs.Primaries.{Waiting, also_choice, alternative, alternatives, common, common_composite, composite_if, composite_ifs, composite_in, composite_part, conditional, grouped, grouped_by, grouped_form, grouped_scalar, if_expr, if_part, no_text, open_if, open_ifs, open_part, primary, scalar_if, scalar_ifs, target_at, target_found, text_at, with_known}
 use Rattle.name_rules.specs.Reducers.{reducer_of}
 use Rattle.name_rules.specs.Symbols.{symbol}
 use Rattle.name_rules.specs.TypedParts.{left_of, right_of}

@@ -3,7 +3,6 @@ use Rattle.std.proofs.Common.{◌≡◌, sym, ap, subst, ◌⊎◌, inl, inr, �
 use Rattle.std.specs.Prelude.{not, ◌||◌}
 use Rattle.ada_base.specs.declared.reason.Reason.TheVariants as reason
 use Rattle.ada_typed.specs.Decoded as part
-use Rattle.ada_typed.specs.Decoded.{Part, as_expr, as_stmt}
 use Rattle.name_rules.specs.Found.{denote}
 use Rattle.name_rules.specs.Judging.{fault}
 use Rattle.name_rules.specs.Scope.{as_scalar, as_type, entry, item, object, expanded_reach, in_ada, in_integer_io, in_package, in_text_io, is_withed, named, predefined, procedure_of, reach_of, scalar_named, selected, stands, stands_for, subtype_named, undeclared, used_name}

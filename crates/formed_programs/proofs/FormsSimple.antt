@@ -5,9 +5,9 @@ use Rattle.ada_meaning.specs.Formed.{FormedSelections, FormedStmt, Selects, with
 use Rattle.ada_meaning.specs.Shapes.{Shape}
 use Rattle.ada_tree.specs.FirstTokens as first_token
 use Rattle.ada_tree.specs.Syntax as syntax
-use Rattle.ada_tree.specs.Syntax.{Choice, Expr, Name, Simple}
+use Rattle.ada_tree.specs.Syntax.{Choice, Expr, Name}
 use Rattle.ada_typed.specs.Decoded as part
-use Rattle.ada_typed.specs.Decoded.{Part, as_chunk, as_expr, as_optional, as_selections, as_stmt, as_value}
+use Rattle.ada_typed.specs.Decoded.{Part, as_stmt}
 use Rattle.ada_typed.specs.Latest.{turned}
 use Rattle.name_rules.specs.Cases as cases
 use Rattle.name_rules.specs.Cases.{Choosing, Covering}

@@ -5,7 +5,7 @@ use Rattle.ada_tree.specs.FirstTokens as first_token
 use Rattle.ada_tree.specs.Syntax as syntax
 use Rattle.ada_tree.specs.Syntax.{Expr, Indic, Range, Simple}
 use Rattle.ada_typed.specs.Decoded as part
-use Rattle.ada_typed.specs.Decoded.{Part, as_value}
+use Rattle.ada_typed.specs.Decoded.{as_value}
 use Rattle.name_rules.specs.Declarations as d
 use Rattle.name_rules.specs.Declarations.{Dimensions, Indicated, Initial, indicated}
 use Rattle.name_rules.specs.Expressions.{Inside, expr, judged_alone}

@@ -1,11 +1,11 @@
 -- What is found is formed: values, and expressions that take the type of their place.
 use Rattle.std.proofs.Common.{◌≡◌, refl, sym, ap, subst, ◌∙◌, ℕ, ℤ, ◌≤◌, Option, Some, None, Bool, true, false, ◌==◌, eqb-true, arith}
-use Rattle.ada_meaning.specs.Formed.{Aims, FormedComposite, FormedExpr, FormedExprs, FormedIteration, FormedPieces, FormedSelections, FormedValue, IsSettled, Names, NamesConstant, Selects, Spans, SpansConstant, composite_width, width, with_constant, with_shape}
+use Rattle.ada_meaning.specs.Formed.{FormedExpr, FormedExprs, FormedIteration, FormedPieces, FormedSelections, IsSettled, Names, NamesConstant, Selects, with_constant, with_shape}
 use Rattle.ada_meaning.specs.Formed as formed
 use Rattle.ada_meaning.specs.Shapes.{Shape, cells_of, size, subtype_shape}
 use Rattle.ada_typed.specs.Classes.{class_or, with_class}
 use Rattle.ada_typed.specs.Decoded as part
-use Rattle.ada_typed.specs.Decoded.{Part, Nothing, Cons, as_composite, as_expr, as_exprs, as_piece, as_pieces, as_value}
+use Rattle.ada_typed.specs.Decoded.{Part, Nothing, Cons, as_composite, as_expr, as_exprs, as_pieces}
 use Rattle.ada_typed.specs.Indexes.{indexes_from, indexes_in}
 use Rattle.ada_typed.specs.Latest.{turned}
 use Rattle.ada_typed.specs.Syntax as typed
