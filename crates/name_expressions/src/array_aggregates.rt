@@ -9,7 +9,9 @@ ghost use Rattle.name_rules.specs.Aggregates as spec;
 ghost use Rattle.name_rules.specs.Judges.{Gives, found_of, part_if};
 ghost use Rattle.name_rules.specs.Judging.{joined};
 ghost use Rattle.name_rules.specs.Primaries as primaries;
+ghost use Rattle.name_rules.specs.Scope as scopes;
 ghost use Rattle.name_rules.specs.Shapes as shapes;
+ghost use Rattle.name_rules.specs.Symbols as symbols;
 ghost use Rattle.name_values.specs.Statics.{as_span};
 ghost use Rattle.tree_nodes.specs.Parts.{the_assoc, the_assocs, the_choice, the_choices, the_expr, the_exprs, the_range};
 ghost use Rattle.tree_nodes.specs.Tables.{part_at};
@@ -29,7 +31,7 @@ use crate::placing::{
 use ada_base::Items;
 use name_rules::found::Found;
 use name_rules::log::{Dimension, Log, Rule};
-use name_rules::scope::{Context, Names};
+use name_rules::scope::{Context, Names, What};
 use name_rules::types::{Kind, Subtype, Wanted};
 use name_values::arrays::array_cells;
 use name_values::logs::{also_all, not_given};
@@ -276,6 +278,27 @@ fn chosen_assoc(
     chosen_given(out, row.dimension, row.apart, placing, choosing, given)
 }
 
+/// A value in a dimension, where this stands for the index.
+#[cycle(levels)]
+fn component_where(
+    names: &Names,
+    levels: u32,
+    here: &Context,
+    log: &mut Log,
+    out: &mut Parts,
+    index: u32,
+    what: What,
+    row: Row,
+    tree: &Tree,
+    value: u32,
+) -> Result<bool, AllocError>
+    ensures { Gives (rows.component names.now (primaries.inside names.now levels) row (scopes.with_entry here.now (symbols.symbol names.now index) what) (the_expr (part_at tree.now.nodes value)) log.old) (parts out.old) result log.new (parts out.new) }
+{
+    let mut inner = copied(here, out)?;
+    with_entry(&mut inner, symbol(names, index), what)?;
+    component(names, levels, &inner, log, out, row, tree, value)
+}
+
 /// An iterated association, whose index is a constant of the index type.
 #[cycle(levels)]
 #[tactic(auto, unfolding(name_rules::specs::Aggregates::array_assoc))]
@@ -313,9 +336,9 @@ fn each_assoc(
     let span = of_index_type(log, out, kind, first_tokens::of_range(tree, range), bounds)?;
     let parameter = new_parameter(log)?;
     let what = index_what(out, parameter, span);
-    let mut inner = copied(here, out)?;
-    with_entry(&mut inner, symbol(names, index), what)?;
-    let given = component(names, levels, &inner, log, out, row, tree, value)?;
+    let given = component_where(
+        names, levels, here, log, out, index, what, row, tree, value,
+    )?;
     iterated_given(
         out,
         row.dimension,

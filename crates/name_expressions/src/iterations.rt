@@ -7,7 +7,7 @@ ghost use Rattle.name_rules.specs.Judges.{Gives, Judges, Says, found_of};
 ghost use Rattle.name_rules.specs.Judging.{unless};
 ghost use Rattle.name_rules.specs.declared.log.Rule.TheVariants.{Unknown};
 ghost use Rattle.name_rules.specs.Primaries as primaries;
-ghost use Rattle.name_expressions.specs.Sequences.{Folds, folded_where};
+ghost use Rattle.name_expressions.specs.Sequences.{Folds, folded_where, folded_within};
 ghost use Rattle.name_values.specs.Walks.{Chunks, Enters, Walks, as_chunked};
 ghost use Rattle.tree_nodes.specs.Parts.{the_expr, the_iter, the_parallel, the_simple};
 ghost use Rattle.tree_nodes.specs.Tables.{part_at};
@@ -351,6 +351,47 @@ fn sequence_given(
     folded_by(log, out, going, folding, value, initial)
 }
 
+/// What a value sequence is folded to by this reducer, whose iteration is declared in an inner scope.
+#[cycle(levels)]
+fn folded_within(
+    names: &Names,
+    levels: u32,
+    inner: &mut Context,
+    here: &Context,
+    log: &mut Log,
+    out: &mut Parts,
+    bracket: u32,
+    attribute: u32,
+    folding: Option<Folding>,
+    tree: &Tree,
+    parallel: Option<u32>,
+    iter: u32,
+    value: u32,
+    initial: u32,
+) -> Result<Folded, AllocError>
+    ensures { Folds (folded_within names.now (primaries.inside names.now levels) inner.old here.now bracket (optional_parallel (part_at tree.now.nodes) parallel) (the_iter (part_at tree.now.nodes iter)) (the_expr (part_at tree.now.nodes value)) attribute folding (the_expr (part_at tree.now.nodes initial)) log.old) (parts out.old) result log.new (parts out.new) }
+{
+    let e = entered(
+        names,
+        levels,
+        levels,
+        inner,
+        log,
+        out,
+        SiteKind::Reduction,
+        parallel,
+        tree,
+        iter,
+    )?;
+    let x = expr(names, levels, inner, log, out, Wanted::Other, tree, value)?;
+    let v = expr(names, levels, here, log, out, Wanted::Other, tree, initial)?;
+    let found = sequence_given(log, out, bracket, attribute, e, folding, x, v)?;
+    Ok(Folded {
+        reverse: e.reverse,
+        found,
+    })
+}
+
 #[cycle(levels)]
 fn sequence_folded(
     names: &Names,
@@ -369,27 +410,12 @@ fn sequence_folded(
 ) -> Result<Folded, AllocError>
     ensures { Folds (spec.sequence_folded names.now (primaries.inside names.now levels) here.now bracket (optional_parallel (part_at tree.now.nodes) parallel) (the_iter (part_at tree.now.nodes iter)) (the_expr (part_at tree.now.nodes value)) attribute (the_expr (part_at tree.now.nodes reducer)) (the_expr (part_at tree.now.nodes initial)) log.old) (parts out.old) result log.new (parts out.new) }
 {
-    let f = reducer_of(names, levels, here, log, out, tree, reducer)?;
+    let folding = reducer_of(names, levels, here, log, out, tree, reducer)?;
     let mut inner = copied(here, out)?;
-    let e = entered(
-        names,
-        levels,
-        levels,
-        &mut inner,
-        log,
-        out,
-        SiteKind::Reduction,
-        parallel,
-        tree,
-        iter,
-    )?;
-    let x = expr(names, levels, &inner, log, out, Wanted::Other, tree, value)?;
-    let v = expr(names, levels, here, log, out, Wanted::Other, tree, initial)?;
-    let found = sequence_given(log, out, bracket, attribute, e, f, x, v)?;
-    Ok(Folded {
-        reverse: e.reverse,
-        found,
-    })
+    folded_within(
+        names, levels, &mut inner, here, log, out, bracket, attribute, folding, tree, parallel,
+        iter, value, initial,
+    )
 }
 
 /// The reduction of a value sequence (4.5.10), by the token of its bracket and that of its attribute: Unknown where that is
