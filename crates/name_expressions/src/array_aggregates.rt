@@ -336,9 +336,7 @@ fn each_assoc(
     let span = of_index_type(log, out, kind, first_tokens::of_range(tree, range), bounds)?;
     let parameter = new_parameter(log)?;
     let what = index_what(out, parameter, span);
-    let given = component_where(
-        names, levels, here, log, out, index, what, row, tree, value,
-    )?;
+    let given = component_where(names, levels, here, log, out, index, what, row, tree, value)?;
     iterated_given(
         out,
         row.dimension,

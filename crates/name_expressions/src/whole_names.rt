@@ -277,35 +277,6 @@ fn array_reduced(
     }
 }
 
-/// The arguments of a reduction of what is no array object.
-#[cycle(levels)]
-fn not_reduced(
-    names: &Names,
-    levels: u32,
-    here: &Context,
-    log: &mut Log,
-    out: &mut Parts,
-    at: u32,
-    tree: &Tree,
-    arg: u32,
-    more: u32,
-) -> Result<Option<Denoted>, AllocError>
-    ensures { Judges (where_clean (name_rules_of.args_alone names.now (primaries.inside names.now levels) here.now (syntax.AlsoArg (the_arg (part_at tree.now.nodes arg)) (the_args (part_at tree.now.nodes more)))) (λ u. fault at ReduceRule) log.old) (pop (joined out.old)) result log.new (joined out.new) }
-{
-    wrong_arguments(
-        names,
-        levels,
-        here,
-        log,
-        out,
-        at,
-        Rule::ReduceRule,
-        tree,
-        arg,
-        more,
-    )
-}
-
 #[cycle(levels)]
 fn reduced_with(
     names: &Names,
@@ -332,10 +303,32 @@ fn reduced_with(
                     names, levels, here, log, out, place, at, attribute, bracket, tree, arg, more,
                 )
             } else {
-                not_reduced(names, levels, here, log, out, at, tree, arg, more)
+                wrong_arguments(
+                    names,
+                    levels,
+                    here,
+                    log,
+                    out,
+                    at,
+                    Rule::ReduceRule,
+                    tree,
+                    arg,
+                    more,
+                )
             }
         }
-        _ => not_reduced(names, levels, here, log, out, at, tree, arg, more),
+        _ => wrong_arguments(
+            names,
+            levels,
+            here,
+            log,
+            out,
+            at,
+            Rule::ReduceRule,
+            tree,
+            arg,
+            more,
+        ),
     }
 }
 
@@ -361,8 +354,8 @@ fn of_array(
     if !is_bound(attribute) {
         return wrong_call(names, levels, here, log, out, first, tree, arg, more);
     }
-    let dimensions = dimensions_in(log, out, prefix_subtype(prefix))?;
     mentioned(out, prefix)?;
+    let dimensions = dimensions_in(log, out, prefix_subtype(prefix))?;
     bound_with(
         names,
         levels,

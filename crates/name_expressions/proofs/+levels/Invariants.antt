@@ -63,9 +63,6 @@ decreases-whole_names::wrong_arguments l = 100 * l.levels + 86
 abbrev pub decreases-whole_names::array_reduced : goal.decreases-whole_names::array_reduced
 decreases-whole_names::array_reduced l = 100 * l.levels + 87
 
-abbrev pub decreases-whole_names::not_reduced : goal.decreases-whole_names::not_reduced
-decreases-whole_names::not_reduced l = 100 * l.levels + 87
-
 abbrev pub decreases-whole_names::reduced_with : goal.decreases-whole_names::reduced_with
 decreases-whole_names::reduced_with l = 100 * l.levels + 88
 
