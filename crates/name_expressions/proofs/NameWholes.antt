@@ -4,17 +4,17 @@ use Rattle.ada_tree.specs.Syntax as syntax
 use Rattle.ada_tree.specs.Syntax.{Arg, Args}
 use Rattle.ada_typed.specs.Decoded.{Part}
 use Rattle.name_expressions.proofs.Wholes.{gone}
-use Rattle.name_expressions.specs.Indexes.{at_indexes}
 use Rattle.name_rules.specs.Expressions.{Inside}
 use Rattle.name_rules.specs.Judges.{part_if}
-use Rattle.name_rules.specs.Names.{arg_alone, args_alone, count, index, indexed, indexes}
+use Rattle.name_rules.specs.Names.{arg_alone, args_alone, count, index, index_shape, indexed, indexes}
 use Rattle.name_rules.specs.Parts.{part_alone}
+use Rattle.name_rules.specs.Types.{component_of, dimensions_of}
 use Rattle.name_rules.specs.declared.found.Place.{Place}
 use Rattle.name_rules.specs.declared.log.Dimension.{Dimension}
 use Rattle.name_rules.specs.declared.log.Log.{Log}
+use Rattle.name_rules.specs.declared.log.Shape.{Shape}
 use Rattle.name_rules.specs.declared.scope.Context.{Context}
 use Rattle.name_rules.specs.declared.scope.Names.{Names}
-use Rattle.name_rules.specs.declared.types.Subtype.{Subtype}
 
 pub call_alone : (names : Names) (inside : Inside) (here : Context) (bracket : ℕ) (a : Arg) (as' : Args) (log b c : Log)
     → arg_alone names inside here a log ≡ (tt, b) → args_alone names inside here as' b ≡ (tt, c)
@@ -25,12 +25,15 @@ call_alone names inside here bracket a as' log b c e f =
 none_if : (b : Bool) (p : Part) → b ≡ false → part_if b p ≡ None
 none_if b p e = rw e refl
 
-pub indexes_gone : (names : Names) (inside : Inside) (here : Context) (place : Place) (ds : List Dimension) (component : Option Subtype) (cells : ℕ) (ss : Part) (bracket : ℕ) (a : Arg) (as' : Args) (log b c : Log) (x : Option Part) (r : Bool) (p : Part) (m n : ℕ)
-    → index names inside here (drop 0 ds) cells (part_if true ss) a log ≡ (x, b) → indexes names inside here (drop 1 ds) cells x as' b ≡ (part_if r p, c)
+pub shape_gone : (names : Names) (inside : Inside) (here : Context) (place : Place) (ss : Part) (bracket : ℕ) (a : Arg) (as' : Args) (t : Option Shape) (cells cells' : ℕ) (ds : List Dimension) (log b c : Log) (x : Option Part) (r : Bool) (p : Part) (m n : ℕ)
+    → ds ≡ dimensions_of t → cells' ≡ cells
+    → index names inside here (drop 0 ds) cells' (part_if true ss) a log ≡ (x, b) → indexes names inside here (drop 1 ds) cells' x as' b ≡ (part_if r p, c)
     → m ≡ length log.faults → n ≡ length c.faults → (n ≢ m) ⊎ ((n ≡ m) × (r ≡ false))
-    → at_indexes names inside here place ds component cells ss bracket (syntax.AlsoArg a as') log ≡ (None, c)
-indexes_gone names inside here place ds component cells ss bracket a as' log b c x r p m n f g h i j =
-    gone (indexes names inside here ds cells (Some ss) (syntax.AlsoArg a as')) (indexed place bracket (length ds) (count (syntax.AlsoArg a as')) component)
+    → index_shape names inside here place ss bracket (syntax.AlsoArg a as') t cells log ≡ (None, c)
+shape_gone names inside here place ss bracket a as' t cells cells' ds log b c x r p m n d e f g h i j =
+    gone (indexes names inside here (dimensions_of t) cells (Some ss) (syntax.AlsoArg a as')) (indexed place bracket (length (dimensions_of t)) (count (syntax.AlsoArg a as')) (component_of t))
     log c (part_if r p) m n r
-    (ap (λ (o : Option Part × Log). indexes names inside here (drop 1 ds) cells o.0 as' o.1) f ∙ g)
+    (ap (λ (k : List Dimension). indexes names inside here k cells (Some ss) (syntax.AlsoArg a as') log) (sym d)
+    ∙ (ap (λ (k : ℕ). indexes names inside here ds k (Some ss) (syntax.AlsoArg a as') log) (sym e)
+    ∙ (ap (λ (o : Option Part × Log). indexes names inside here (drop 1 ds) cells' o.0 as' o.1) f ∙ g)))
     h i (none_if r p) j

@@ -4,7 +4,6 @@ pub mod Conditionals
 pub mod Contents
 pub mod Filled
 pub mod Gaps
-pub mod Indexes
 pub mod Placed
 pub mod Primaries
 pub mod Putting

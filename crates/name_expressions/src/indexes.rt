@@ -2,7 +2,6 @@
 
 ghost use Rattle.std.specs.Prelude.{◌≡◌, ◌∷◌, IfOk, OnOk, drop};
 ghost use Rattle.ada_tree.specs.Syntax as syntax;
-ghost use Rattle.name_expressions.specs.Indexes.{at_indexes};
 ghost use Rattle.name_rules.specs.Judges.{Gives, Judges, found_of, part_if};
 ghost use Rattle.name_rules.specs.Names as spec;
 ghost use Rattle.name_rules.specs.Primaries as primaries;
@@ -248,42 +247,6 @@ fn indexed(
     }
 }
 
-/// The component of an array with these dimensions, at these indexes.
-#[cycle(levels)]
-fn at_indexes(
-    names: &Names,
-    levels: u32,
-    here: &Context,
-    log: &mut Log,
-    out: &mut Parts,
-    place: Place,
-    dimensions: &Items<Dimension>,
-    component: Option<Subtype>,
-    cells: u64,
-    bracket: u32,
-    tree: &Tree,
-    arg: u32,
-    more: u32,
-) -> Result<Option<Denoted>, AllocError>
-    ensures { Judges (at_indexes names.now (primaries.inside names.now levels) here.now place dimensions.now component cells (top (parts out.old)) bracket (syntax.AlsoArg (the_arg (part_at tree.now.nodes arg)) (the_args (part_at tree.now.nodes more))) log.old) (pop (parts out.old)) result log.new (parts out.new) }
-{
-    let n = count(tree, more)?;
-    if n == usize::MAX {
-        return Err(AllocError);
-    }
-    let before = log.faults.len();
-    let s = index(
-        names, levels, here, log, out, dimensions, 0, cells, true, tree, arg,
-    )?;
-    let r = indexes(
-        names, levels, here, log, out, dimensions, 1, cells, s, tree, more,
-    )?;
-    if log.faults.len() != before || !r {
-        return Ok(None);
-    }
-    indexed(log, out, place, bracket, dimensions.len(), n + 1, component)
-}
-
 #[cycle(levels)]
 fn index_shape(
     names: &Names,
@@ -303,21 +266,41 @@ fn index_shape(
     let dimensions = dimensions_of(log, out, number)?;
     let component = component_of(log, number);
     let cells = component_cells(log, component);
-    at_indexes(
+    let n = count(tree, more)?;
+    if n == usize::MAX {
+        return Err(AllocError);
+    }
+    let before = log.faults.len();
+    let s = index(
         names,
         levels,
         here,
         log,
         out,
-        place,
         &dimensions,
-        component,
+        0,
         cells,
-        bracket,
+        true,
         tree,
         arg,
+    )?;
+    let r = indexes(
+        names,
+        levels,
+        here,
+        log,
+        out,
+        &dimensions,
+        1,
+        cells,
+        s,
+        tree,
         more,
-    )
+    )?;
+    if log.faults.len() != before || !r {
+        return Ok(None);
+    }
+    indexed(log, out, place, bracket, dimensions.len(), n + 1, component)
 }
 
 /// An object with arguments behind it: a component of an array (4.1.1). WrongType at the name's first token where it is

@@ -13,7 +13,6 @@ ghost use Rattle.name_rules.specs.Parts as spec;
 ghost use Rattle.name_rules.specs.Primaries as primaries;
 ghost use Rattle.name_rules.specs.TypedParts.{selections_of};
 ghost use Rattle.name_rules.specs.Types as types;
-ghost use Rattle.name_rules.specs.declared.log.Rule.TheVariants.{ReduceRule};
 ghost use Rattle.tree_nodes.specs.Parts.{the_arg, the_args, the_expr, the_name, the_part, the_parts};
 ghost use Rattle.tree_nodes.specs.Tables.{part_at};
 ghost use Rattle.typed_parts.specs.Stack.{parts as joined};

@@ -24,7 +24,7 @@ use Rattle.name_expressions.specs.Rows as rows
 use Rattle.name_expressions.proofs.AggregateWholes.{all_alone, assocs_filled, assocs_placed, dimension_gone, dimension_whole, record_gone, record_whole, two_placed, values_filled, values_placed}
 use Rattle.name_expressions.proofs.CallWholes.{call_gone, call_whole, call_wrong}
 use Rattle.name_expressions.proofs.Levels.{level_below, level_none}
-use Rattle.name_expressions.proofs.NameWholes.{call_alone, indexes_gone}
+use Rattle.name_expressions.proofs.NameWholes.{call_alone, shape_gone}
 use Rattle.name_expressions.proofs.OperandWholes.{bound_gone, bound_kept, conversion_gone, conversion_whole, conversion_wrong, one_gone, one_kept, two_gone, two_kept}
 use Rattle.name_expressions.proofs.OutputWholes.{number_whole, procedure_gone, procedure_whole}
 use Rattle.name_expressions.proofs.Reducing.{reduced_same}
@@ -154,9 +154,10 @@ calls::sub_call-returns-then-branch t c = judges_so _ _ _ _ _ _ _
     (call_whole _ _ _ _ _ _ _ _ _ _ _ _ _ _ c.begun_call-calling.result c.given_arguments.new.calling _ _ _ _ _ _ c.in_ok-takes.ensures c.as_slice.ensures c.begun_call-calling.ensures (ap top c.in_ok-cleared.ensures) c.in_ok-given_arguments.ensures.0 c.len-before.ensures c.len.ensures c.if-len-before.false c.len-2.ensures c.in_ok-complete.ensures.0 c.if-branch.true c.gives_in-gives.ensures)
     (sym (c.in_ok-given_arguments.ensures.1 ∙ ap pop c.in_ok-cleared.ensures)) c.call_given.ensures
 
-pub indexes::at_indexes-returns-then-len-before : goal.indexes::at_indexes-returns-then-len-before
-indexes::at_indexes-returns-then-len-before t c = (
-  indexes_gone c.args.names.now (inside c.args.names.now c.args.levels) c.args.here.now c.args.place c.args.dimensions.now c.args.component c.args.cells (top (parts c.args.out.now)) c.args.bracket (the_arg (part_at c.args.tree.now.nodes c.args.arg)) (the_args (part_at c.args.tree.now.nodes c.args.more)) c.args.log.now c.index.new.log c.indexes.new.log _ c.in_ok-r.r (top (parts c.indexes.new.out)) c.len-before.result c.len.result
+pub indexes::index_shape-returns-then-len-before : goal.indexes::index_shape-returns-then-len-before
+indexes::index_shape-returns-then-len-before t c = (
+  shape_gone c.args.names.now (inside c.args.names.now c.args.levels) c.args.here.now c.args.place (top (parts c.args.out.now)) c.args.bracket (the_arg (part_at c.args.tree.now.nodes c.args.arg)) (the_args (part_at c.args.tree.now.nodes c.args.more)) (shape_in c.args.log.now c.args.number) (component_cells c.args.log.now (component_of (shape_in c.args.log.now c.args.number))) c.component_cells-cells.result c.in_ok-dimensions.dimensions c.args.log.now c.index.new.log c.indexes.new.log _ c.in_ok-r.r (top (parts c.indexes.new.out)) c.len-before.result c.len.result
+      c.in_ok-dimensions.ensures (c.component_cells-cells.ensures ∙ ap (component_cells c.args.log.now) c.component_of-component.ensures)
       c.in_ok-s.ensures.0 c.in_ok-r.ensures.0 c.len-before.ensures c.len.ensures c.then-len-before.either,
   c.in_ok-r.ensures.1 ∙ c.in_ok-s.ensures.1,
 )

@@ -224,14 +224,11 @@ decreases-indexes::index l = 100 * l.levels + 34
 abbrev pub decreases-indexes::indexes : goal.decreases-indexes::indexes
 decreases-indexes::indexes l = 100 * l.levels + 35
 
-abbrev pub decreases-indexes::at_indexes : goal.decreases-indexes::at_indexes
-decreases-indexes::at_indexes l = 100 * l.levels + 36
-
 abbrev pub decreases-indexes::index_shape : goal.decreases-indexes::index_shape
-decreases-indexes::index_shape l = 100 * l.levels + 37
+decreases-indexes::index_shape l = 100 * l.levels + 36
 
 abbrev pub decreases-indexes::object_call : goal.decreases-indexes::object_call
-decreases-indexes::object_call l = 100 * l.levels + 38
+decreases-indexes::object_call l = 100 * l.levels + 37
 
 abbrev pub decreases-indexes::args_alone-each : goal.decreases-indexes::args_alone-each
 decreases-indexes::args_alone-each l = l.next
