@@ -52,7 +52,10 @@ pub fn chunk_count(
 ) -> Result<bool, AllocError>
     ensures { Gives (spec.chunk_count (primaries.inside names.now levels) here.now (the_simple (part_at tree.now.nodes id)) log.old) (parts out.old) result log.new (parts out.new) }
 {
-    match simple(names, levels, here, log, out, Wanted::Other, tree, id)? {
+    let Ok(given_given) = simple(names, levels, here, log, out, Wanted::Other, tree, id) else {
+        return Err(AllocError);
+    };
+    match given_given {
         None => Ok(false),
         Some(given) => any_integer(log, out, given),
     }
@@ -74,14 +77,18 @@ pub fn chunked_by(
 {
     match tree.parallel(id) {
         Parallel::Unchunked(_) => {
-            out.nothing()?;
+            let Ok(()) = out.nothing() else {
+                return Err(AllocError);
+            };
             Ok(Chunking {
                 given: true,
                 parameter: None,
             })
         }
         Parallel::Counted { count, .. } => {
-            let e = chunk_count(names, levels, here, log, out, tree, count)?;
+            let Ok(e) = chunk_count(names, levels, here, log, out, tree, count) else {
+                return Err(AllocError);
+            };
             counted(log, out, e)
         }
         Parallel::Chunked {
@@ -89,8 +96,12 @@ pub fn chunked_by(
             range: chunks,
             ..
         } => {
-            let b = range(names, levels, here, log, out, tree, chunks)?;
-            let number = new_parameter(log)?;
+            let Ok(b) = range(names, levels, here, log, out, tree, chunks) else {
+                return Err(AllocError);
+            };
+            let Ok(number) = new_parameter(log) else {
+                return Err(AllocError);
+            };
             chunk_each(log, out, number, index, b)
         }
     }
@@ -117,13 +128,21 @@ fn walked(
             range: values,
             filter,
         } => {
-            let b = range(names, levels, here, log, out, tree, values)?;
-            let number = new_parameter(log)?;
+            let Ok(b) = range(names, levels, here, log, out, tree, values) else {
+                return Err(AllocError);
+            };
+            let Ok(number) = new_parameter(log) else {
+                return Err(AllocError);
+            };
             Ok(range_walked(out, tree, number, index, reverse, filter, b))
         }
         Iter::OfName { item, of, filter } => {
-            let d = name_inside(names, levels, here, log, out, tree, of)?;
-            let number = new_parameter(log)?;
+            let Ok(d) = name_inside(names, levels, here, log, out, tree, of) else {
+                return Err(AllocError);
+            };
+            let Ok(number) = new_parameter(log) else {
+                return Err(AllocError);
+            };
             over_denoted(log, out, tree, number, item, filter, d)
         }
     }
@@ -143,7 +162,9 @@ fn filter_where(
 {
     match filter {
         None => {
-            out.nothing()?;
+            let Ok(()) = out.nothing() else {
+                return Err(AllocError);
+            };
             Ok(true)
         }
         Some(id) => condition(names, levels, here, log, out, tree, id),
@@ -168,8 +189,10 @@ fn entered_with(
 ) -> Result<Entering, AllocError>
     ensures { Enters (spec.entered_with names.now (primaries.inside names.now levels) here.old construct start (as_chunked chunking (top (parts out.old))) (the_iter (part_at tree.now.nodes id)) log.old) (pop (parts out.old)) result log.new here.new (parts out.new) }
 {
-    let w = walked(names, levels, here, log, out, tree, id)?;
-    within(
+    let Ok(w) = walked(names, levels, here, log, out, tree, id) else {
+        return Err(AllocError);
+    };
+    let Ok(()) = within(
         names,
         here,
         log,
@@ -179,9 +202,15 @@ fn entered_with(
         tree,
         out,
         w,
-    )?;
-    let filter = filter_where(names, levels, here, log, out, tree, w.filter)?;
-    let iteration = filtered(log, out, w.way, filter)?;
+    ) else {
+        return Err(AllocError);
+    };
+    let Ok(filter) = filter_where(names, levels, here, log, out, tree, w.filter) else {
+        return Err(AllocError);
+    };
+    let Ok(iteration) = filtered(log, out, w.way, filter) else {
+        return Err(AllocError);
+    };
     Ok(Entering {
         construct,
         chunk: chunking.given,
@@ -211,7 +240,9 @@ pub fn entered(
     let start = here.scope.len();
     match parallel {
         None => {
-            out.nothing()?;
+            let Ok(()) = out.nothing() else {
+                return Err(AllocError);
+            };
             let chunking = Chunking {
                 given: true,
                 parameter: None,
@@ -221,8 +252,12 @@ pub fn entered(
             )
         }
         Some(parallel) => {
-            let n = new_site(log, here, parallel_at(tree, parallel), kind)?;
-            let chunking = chunked_by(names, inner, here, log, out, tree, parallel)?;
+            let Ok(n) = new_site(log, here, parallel_at(tree, parallel), kind) else {
+                return Err(AllocError);
+            };
+            let Ok(chunking) = chunked_by(names, inner, here, log, out, tree, parallel) else {
+                return Err(AllocError);
+            };
             entered_with(
                 names,
                 levels,
@@ -371,7 +406,7 @@ fn folded_within(
 ) -> Result<Folded, AllocError>
     ensures { Folds (folded_within names.now (primaries.inside names.now levels) inner.old here.now bracket (optional_parallel (part_at tree.now.nodes) parallel) (the_iter (part_at tree.now.nodes iter)) (the_expr (part_at tree.now.nodes value)) attribute folding (the_expr (part_at tree.now.nodes initial)) log.old) (parts out.old) result log.new (parts out.new) }
 {
-    let e = entered(
+    let Ok(e) = entered(
         names,
         levels,
         levels,
@@ -382,10 +417,18 @@ fn folded_within(
         parallel,
         tree,
         iter,
-    )?;
-    let x = expr(names, levels, inner, log, out, Wanted::Other, tree, value)?;
-    let v = expr(names, levels, here, log, out, Wanted::Other, tree, initial)?;
-    let found = sequence_given(log, out, bracket, attribute, e, folding, x, v)?;
+    ) else {
+        return Err(AllocError);
+    };
+    let Ok(x) = expr(names, levels, inner, log, out, Wanted::Other, tree, value) else {
+        return Err(AllocError);
+    };
+    let Ok(v) = expr(names, levels, here, log, out, Wanted::Other, tree, initial) else {
+        return Err(AllocError);
+    };
+    let Ok(found) = sequence_given(log, out, bracket, attribute, e, folding, x, v) else {
+        return Err(AllocError);
+    };
     Ok(Folded {
         reverse: e.reverse,
         found,
@@ -410,8 +453,12 @@ fn sequence_folded(
 ) -> Result<Folded, AllocError>
     ensures { Folds (spec.sequence_folded names.now (primaries.inside names.now levels) here.now bracket (optional_parallel (part_at tree.now.nodes) parallel) (the_iter (part_at tree.now.nodes iter)) (the_expr (part_at tree.now.nodes value)) attribute (the_expr (part_at tree.now.nodes reducer)) (the_expr (part_at tree.now.nodes initial)) log.old) (parts out.old) result log.new (parts out.new) }
 {
-    let folding = reducer_of(names, levels, here, log, out, tree, reducer)?;
-    let mut inner = copied(here, out)?;
+    let Ok(folding) = reducer_of(names, levels, here, log, out, tree, reducer) else {
+        return Err(AllocError);
+    };
+    let Ok(mut inner) = copied(here, out) else {
+        return Err(AllocError);
+    };
     folded_within(
         names, levels, &mut inner, here, log, out, bracket, attribute, folding, tree, parallel,
         iter, value, initial,
