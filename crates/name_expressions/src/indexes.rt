@@ -276,19 +276,15 @@ fn index_shape(
 ) -> Result<Option<Denoted>, AllocError>
     ensures { Judges (spec.index_shape names.now (primaries.inside names.now levels) here.now place (top (parts out.old)) bracket (syntax.AlsoArg (the_arg (part_at tree.now.nodes arg)) (the_args (part_at tree.now.nodes more))) (types.shape_in log.old number) (spec.component_cells log.old (types.component_of (types.shape_in log.old number))) log.old) (pop (parts out.old)) result log.new (parts out.new) }
 {
-    let Ok(dimensions) = dimensions_of(log, out, number) else {
-        return Err(AllocError);
-    };
+    let dimensions = dimensions_of(log, out, number)?;
     let component = component_of(log, number);
     let cells = component_cells(log, component);
-    let Ok(n) = count(tree, more) else {
-        return Err(AllocError);
-    };
+    let n = count(tree, more)?;
     if n == usize::MAX {
         return Err(AllocError);
     }
     let before = log.faults.len();
-    let Ok(s) = index(
+    let s = index(
         names,
         levels,
         here,
@@ -300,10 +296,8 @@ fn index_shape(
         true,
         tree,
         arg,
-    ) else {
-        return Err(AllocError);
-    };
-    let Ok(r) = indexes(
+    )?;
+    let r = indexes(
         names,
         levels,
         here,
@@ -315,9 +309,7 @@ fn index_shape(
         s,
         tree,
         more,
-    ) else {
-        return Err(AllocError);
-    };
+    )?;
     if log.faults.len() != before || !r {
         return Ok(None);
     }
