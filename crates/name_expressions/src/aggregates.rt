@@ -49,16 +49,22 @@ fn composite_at(
     ensures { Gives (spec.composite_at names.now (primaries.inside names.now levels) here.now bracket number from log.old (types.shape_in log.old number) (of_contents (part_at tree.now.nodes) contents) log.old) (parts out.old) result log.new (parts out.new) }
 {
     if is_record(log, number) {
-        let fields = fields_of(log, out, number)?;
+        let Ok(fields) = fields_of(log, out, number) else {
+            return Err(AllocError);
+        };
         let cells = cells_in(log, Subtype::Composite(number));
         return record_aggregate(
             names, levels, here, log, out, bracket, &fields, cells, tree, contents,
         );
     }
-    let dimensions = dimensions_of(log, out, number)?;
+    let Ok(dimensions) = dimensions_of(log, out, number) else {
+        return Err(AllocError);
+    };
     match component_of(log, number) {
         None => {
-            out.nothing()?;
+            let Ok(()) = out.nothing() else {
+                return Err(AllocError);
+            };
             not_given(log, out, bracket, Rule::WrongType)
         }
         Some(subtype) => {
@@ -97,7 +103,9 @@ fn exprs_alone(
 {
     let mut next = more;
     'exprs: while let Some(cell) = tree.cell(next) {
-        judged_alone(names, levels, here, log, out, tree, cell.first)?;
+        let Ok(()) = judged_alone(names, levels, here, log, out, tree, cell.first) else {
+            return Err(AllocError);
+        };
         next = cell.rest;
     }
     Ok(())
@@ -145,7 +153,9 @@ fn assocs_alone(
     let mut next = more;
     'assocs: while let Some(cell) = tree.cell(next) {
         let value = assoc_value(tree, cell.first);
-        judged_alone(names, levels, here, log, out, tree, value)?;
+        let Ok(()) = judged_alone(names, levels, here, log, out, tree, value) else {
+            return Err(AllocError);
+        };
         next = cell.rest;
     }
     Ok(())
@@ -199,9 +209,13 @@ fn misplaced(
     ensures { Judges (where_clean (spec.contents_alone names.now (primaries.inside names.now levels) here.now (of_contents (part_at tree.now.nodes) contents)) (λ u. fault bracket WrongType) log.old) (parts out.old) result log.new (parts out.new) }
 {
     let before = log.faults.len();
-    contents_alone(names, levels, here, log, out, tree, contents)?;
+    let Ok(()) = contents_alone(names, levels, here, log, out, tree, contents) else {
+        return Err(AllocError);
+    };
     if log.faults.len() != before {
-        out.nothing()?;
+        let Ok(()) = out.nothing() else {
+            return Err(AllocError);
+        };
         return Ok(None);
     }
     no_expression(log, out, bracket, Rule::WrongType)
@@ -226,25 +240,33 @@ fn aggregate_of(
     let first = bracket;
     match want {
         Wanted::Composite(number) => {
-            if composite_at(
+            let Ok(good) = composite_at(
                 names, levels, here, log, out, bracket, number, 0, tree, contents,
-            )? {
+            ) else {
+                return Err(AllocError);
+            };
+            if good {
                 Ok(Some(Found::Composite { first, number }))
             } else {
                 Ok(None)
             }
         }
         Wanted::Rest { number, from } => {
-            if composite_at(
+            let Ok(good_given) = composite_at(
                 names, levels, here, log, out, bracket, number, from, tree, contents,
-            )? {
+            ) else {
+                return Err(AllocError);
+            };
+            if good_given {
                 Ok(Some(Found::Rest { first }))
             } else {
                 Ok(None)
             }
         }
         Wanted::Unknown => {
-            out.nothing()?;
+            let Ok(()) = out.nothing() else {
+                return Err(AllocError);
+            };
             Ok(None)
         }
         _ => misplaced(names, levels, here, log, out, bracket, tree, contents),

@@ -9,7 +9,9 @@ ghost use Rattle.name_rules.specs.Aggregates as spec;
 ghost use Rattle.name_rules.specs.Judges.{Gives, found_of, part_if};
 ghost use Rattle.name_rules.specs.Judging.{joined};
 ghost use Rattle.name_rules.specs.Primaries as primaries;
+ghost use Rattle.name_rules.specs.Scope as scopes;
 ghost use Rattle.name_rules.specs.Shapes as shapes;
+ghost use Rattle.name_rules.specs.Symbols as symbols;
 ghost use Rattle.name_values.specs.Statics.{as_span};
 ghost use Rattle.tree_nodes.specs.Parts.{the_assoc, the_assocs, the_choice, the_choices, the_expr, the_exprs, the_range};
 ghost use Rattle.tree_nodes.specs.Tables.{part_at};
@@ -29,7 +31,7 @@ use crate::placing::{
 use ada_base::Items;
 use name_rules::found::Found;
 use name_rules::log::{Dimension, Log, Rule};
-use name_rules::scope::{Context, Names};
+use name_rules::scope::{Context, Names, What};
 use name_rules::types::{Kind, Subtype, Wanted};
 use name_values::arrays::array_cells;
 use name_values::logs::{also_all, not_given};
@@ -66,7 +68,10 @@ fn no_aggregate(
 ) -> Result<bool, AllocError>
     ensures { Gives (spec.no_aggregate names.now (primaries.inside names.now levels) here.now (the_expr (part_at tree.now.nodes id)) log.old) (parts out.old) result log.new (parts out.new) }
 {
-    match expr(names, levels, here, log, out, Wanted::Other, tree, id)? {
+    let Ok(given) = expr(names, levels, here, log, out, Wanted::Other, tree, id) else {
+        return Err(AllocError);
+    };
+    match given {
         None => Ok(false),
         Some(_) => not_given(log, out, first_tokens::of_expr(tree, id), Rule::WrongType),
     }
@@ -103,7 +108,10 @@ fn inner_aggregate(
         return no_aggregate(names, levels, here, log, out, tree, id);
     }
     let want = Wanted::Rest { number, from };
-    match expr(names, levels, here, log, out, want, tree, id)? {
+    let Ok(given) = expr(names, levels, here, log, out, want, tree, id) else {
+        return Err(AllocError);
+    };
+    match given {
         None => Ok(false),
         Some(found) => inner_value(out, found),
     }
@@ -183,15 +191,23 @@ fn array_choice(
 {
     match tree.choice(id) {
         Choice::Value(value) => {
-            let values = chosen_value(names, levels, here, log, out, Some(kind), tree, value)?;
+            let Ok(values) = chosen_value(names, levels, here, log, out, Some(kind), tree, value)
+            else {
+                return Err(AllocError);
+            };
             also_chosen(out, choosing, values)
         }
         Choice::Span { low, high } => {
-            let values = chosen_span(names, levels, here, log, out, Some(kind), tree, low, high)?;
+            let Ok(values) = chosen_span(names, levels, here, log, out, Some(kind), tree, low, high)
+            else {
+                return Err(AllocError);
+            };
             also_chosen(out, choosing, values)
         }
         Choice::Others(at) => {
-            others_last(log, alone && last, at)?;
+            let Ok(()) = others_last(log, alone && last, at) else {
+                return Err(AllocError);
+            };
             choosing.rest = true;
             Ok(())
         }
@@ -216,9 +232,11 @@ fn array_choices(
 {
     let mut next = more;
     'choices: while let Some(cell) = tree.cell(next) {
-        array_choice(
+        let Ok(()) = array_choice(
             names, levels, here, log, out, kind, alone, last, choosing, tree, cell.first,
-        )?;
+        ) else {
+            return Err(AllocError);
+        };
         next = cell.rest;
     }
     Ok(())
@@ -245,8 +263,10 @@ fn chosen_assoc(
 {
     let alone = is_alone(tree, more);
     let kind = row.dimension.kind;
-    let mut choosing = no_choice(out)?;
-    array_choice(
+    let Ok(mut choosing) = no_choice(out) else {
+        return Err(AllocError);
+    };
+    let Ok(()) = array_choice(
         names,
         levels,
         here,
@@ -258,8 +278,10 @@ fn chosen_assoc(
         &mut choosing,
         tree,
         first,
-    )?;
-    array_choices(
+    ) else {
+        return Err(AllocError);
+    };
+    let Ok(()) = array_choices(
         names,
         levels,
         here,
@@ -271,9 +293,38 @@ fn chosen_assoc(
         &mut choosing,
         tree,
         more,
-    )?;
-    let given = component(names, levels, here, log, out, row, tree, value)?;
+    ) else {
+        return Err(AllocError);
+    };
+    let Ok(given) = component(names, levels, here, log, out, row, tree, value) else {
+        return Err(AllocError);
+    };
     chosen_given(out, row.dimension, row.apart, placing, choosing, given)
+}
+
+/// A value in a dimension, where this stands for the index.
+#[cycle(levels)]
+fn component_where(
+    names: &Names,
+    levels: u32,
+    here: &Context,
+    log: &mut Log,
+    out: &mut Parts,
+    index: u32,
+    what: What,
+    row: Row,
+    tree: &Tree,
+    value: u32,
+) -> Result<bool, AllocError>
+    ensures { Gives (rows.component names.now (primaries.inside names.now levels) row (scopes.with_entry here.now (symbols.symbol names.now index) what) (the_expr (part_at tree.now.nodes value)) log.old) (parts out.old) result log.new (parts out.new) }
+{
+    let Ok(mut inner) = copied(here, out) else {
+        return Err(AllocError);
+    };
+    let Ok(()) = with_entry(&mut inner, symbol(names, index), what) else {
+        return Err(AllocError);
+    };
+    component(names, levels, &inner, log, out, row, tree, value)
 }
 
 /// An iterated association, whose index is a constant of the index type.
@@ -299,7 +350,7 @@ fn each_assoc(
     let _last = last;
     let _at = at;
     let kind = row.dimension.kind;
-    let bounds = static_range(
+    let Ok(bounds) = static_range(
         names,
         levels,
         here,
@@ -309,13 +360,20 @@ fn each_assoc(
         Some(kind),
         tree,
         range,
-    )?;
-    let span = of_index_type(log, out, kind, first_tokens::of_range(tree, range), bounds)?;
-    let parameter = new_parameter(log)?;
+    ) else {
+        return Err(AllocError);
+    };
+    let Ok(span) = of_index_type(log, out, kind, first_tokens::of_range(tree, range), bounds) else {
+        return Err(AllocError);
+    };
+    let Ok(parameter) = new_parameter(log) else {
+        return Err(AllocError);
+    };
     let what = index_what(out, parameter, span);
-    let mut inner = copied(here, out)?;
-    with_entry(&mut inner, symbol(names, index), what)?;
-    let given = component(names, levels, &inner, log, out, row, tree, value)?;
+    let Ok(given) = component_where(names, levels, here, log, out, index, what, row, tree, value)
+    else {
+        return Err(AllocError);
+    };
     iterated_given(
         out,
         row.dimension,
@@ -374,9 +432,11 @@ fn array_assocs(
     let mut next = more;
     'assocs: while let Some(cell) = tree.cell(next) {
         let last = is_final(tree, cell.rest);
-        array_assoc(
+        let Ok(()) = array_assoc(
             names, levels, here, log, out, row, last, placing, tree, cell.first,
-        )?;
+        ) else {
+            return Err(AllocError);
+        };
         next = cell.rest;
     }
     Ok(())
@@ -401,8 +461,12 @@ fn array_values(
     let mut index = place;
     let mut next = more;
     'values: while let Some(cell) = tree.cell(next) {
-        let given = component(names, levels, here, log, out, row, tree, cell.first)?;
-        position_given(out, row.dimension, row.apart, index, placing, given)?;
+        let Ok(given) = component(names, levels, here, log, out, row, tree, cell.first) else {
+            return Err(AllocError);
+        };
+        let Ok(()) = position_given(out, row.dimension, row.apart, index, placing, given) else {
+            return Err(AllocError);
+        };
         if index == i128::MAX {
             return Err(AllocError);
         }
@@ -482,7 +546,9 @@ fn array_rest(
     match others {
         None => Ok(()),
         Some(id) => {
-            let given = component(names, levels, here, log, out, row, tree, id)?;
+            let Ok(given) = component(names, levels, here, log, out, row, tree, id) else {
+                return Err(AllocError);
+            };
             with_rest(out, placing, given)
         }
     }
@@ -635,7 +701,9 @@ pub fn array_at(
     let place = from as usize;
     match nth_dimension(dimensions, place) {
         None => {
-            out.nothing()?;
+            let Ok(()) = out.nothing() else {
+                return Err(AllocError);
+            };
             not_given(log, out, bracket, Rule::WrongType)
         }
         Some(dimension) => {

@@ -48,15 +48,23 @@ fn actual_by(
 {
     match taken.mode {
         Mode::In => {
-            if !value_for(names, levels, here, log, out, taken.subtype, tree, id)? {
+            let Ok(good) = value_for(names, levels, here, log, out, taken.subtype, tree, id) else {
+                return Err(AllocError);
+            };
+            if !good {
                 return Ok(false);
             }
-            out.actual_in(taken.object)?;
+            let Ok(()) = out.actual_in(taken.object) else {
+                return Err(AllocError);
+            };
             Ok(true)
         }
         _ => {
             let want = wanted_of(taken.subtype);
-            match expr(names, levels, here, log, out, want, tree, id)? {
+            let Ok(given_given) = expr(names, levels, here, log, out, want, tree, id) else {
+                return Err(AllocError);
+            };
+            match given_given {
                 Some(given) => variable_given(log, out, taken, given),
                 None => Ok(false),
             }
@@ -82,8 +90,12 @@ fn actual_for(
     match taken {
         Some(taken) => actual_by(names, levels, here, log, out, taken, tree, id),
         None => {
-            judged_alone(names, levels, here, log, out, tree, id)?;
-            out.nothing()?;
+            let Ok(()) = judged_alone(names, levels, here, log, out, tree, id) else {
+                return Err(AllocError);
+            };
+            let Ok(()) = out.nothing() else {
+                return Err(AllocError);
+            };
             Ok(false)
         }
     }
@@ -106,11 +118,19 @@ fn argument(
 {
     let arg = tree.arg(id);
     let first = first_tokens::of_arg(tree, id);
-    let index = parameter_of(names, log, taken, calling.count, calling.named, arg.formal)?;
-    given_once(log, first, calling, index)?;
+    let Ok(index) = parameter_of(names, log, taken, calling.count, calling.named, arg.formal) else {
+        return Err(AllocError);
+    };
+    let Ok(()) = given_once(log, first, calling, index) else {
+        return Err(AllocError);
+    };
     let parameter = taken_at(taken, index);
-    let given = actual_for(names, levels, here, log, out, parameter, tree, arg.value)?;
-    let good = with_actual(out, index, calling.good, given)?;
+    let Ok(given) = actual_for(names, levels, here, log, out, parameter, tree, arg.value) else {
+        return Err(AllocError);
+    };
+    let Ok(good) = with_actual(out, index, calling.good, given) else {
+        return Err(AllocError);
+    };
     next(calling, arg.formal, index, first, good)
 }
 
@@ -130,9 +150,11 @@ fn arguments(
 {
     let mut next = more;
     'each: while let Some(cell) = tree.cell(next) {
-        argument(
+        let Ok(()) = argument(
             names, levels, here, log, out, taken, calling, tree, cell.first,
-        )?;
+        ) else {
+            return Err(AllocError);
+        };
         next = cell.rest;
     }
     Ok(())
@@ -157,7 +179,9 @@ fn given_arguments(
     match arg {
         None => Ok(()),
         Some(arg) => {
-            argument(names, levels, here, log, out, taken, calling, tree, arg)?;
+            let Ok(()) = argument(names, levels, here, log, out, taken, calling, tree, arg) else {
+                return Err(AllocError);
+            };
             arguments(names, levels, here, log, out, taken, calling, tree, more)
         }
     }
@@ -227,7 +251,7 @@ fn operand(
     ensures { IfOk result (λ all. (operand_of names.now (primaries.inside names.now levels) here.now (operands_of good found.old (top (parts out.old))) (the_arg (part_at tree.now.nodes id)) log.old ≡ (operands_of all found.new (top (parts out.new)), log.new)) × (pop (parts out.new) ≡ pop (parts out.old))) }
 {
     let arg = tree.arg(id);
-    let x = expr(
+    let Ok(x) = expr(
         names,
         levels,
         here,
@@ -236,7 +260,9 @@ fn operand(
         Wanted::Other,
         tree,
         arg.value,
-    )?;
+    ) else {
+        return Err(AllocError);
+    };
     with_operand(out, found, good, x)
 }
 
@@ -257,7 +283,11 @@ fn operands(
     let mut all = good;
     let mut next = more;
     'each: while let Some(cell) = tree.cell(next) {
-        all = operand(names, levels, here, log, out, found, all, tree, cell.first)?;
+        let Ok(next_all) = operand(names, levels, here, log, out, found, all, tree, cell.first)
+        else {
+            return Err(AllocError);
+        };
+        all = next_all;
         next = cell.rest;
     }
     Ok(all)
@@ -279,7 +309,9 @@ pub fn all_operands(
 ) -> Result<bool, AllocError>
     ensures { IfOk result (λ all. (spec.operands names.now (primaries.inside names.now levels) here.now (operands_of true found.old (top (parts out.old))) (syntax.AlsoArg (the_arg (part_at tree.now.nodes arg)) (the_args (part_at tree.now.nodes more))) log.old ≡ (operands_of all found.new (top (parts out.new)), log.new)) × (pop (parts out.new) ≡ pop (parts out.old))) }
 {
-    let all = operand(names, levels, here, log, out, found, true, tree, arg)?;
+    let Ok(all) = operand(names, levels, here, log, out, found, true, tree, arg) else {
+        return Err(AllocError);
+    };
     operands(names, levels, here, log, out, found, all, tree, more)
 }
 

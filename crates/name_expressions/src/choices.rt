@@ -81,10 +81,18 @@ fn static_constrained(
 ) -> Result<Option<Dimension>, AllocError>
     ensures { Judges (spec.static_range (primaries.inside names.now levels) here.now must_hold want (syntax.Constrained (the_name (part_at tree.now.nodes name)) (the_simple (part_at tree.now.nodes low)) (the_simple (part_at tree.now.nodes high))) log.old) (parts out.old) result log.new (parts out.new) }
 {
-    let denoted = name_inside(names, levels, here, log, out, tree, name)?;
-    let scalar = scalar_where(log, out, denoted)?;
-    let x = simple(names, levels, here, log, out, Wanted::Other, tree, low)?;
-    let y = simple(names, levels, here, log, out, Wanted::Other, tree, high)?;
+    let Ok(denoted) = name_inside(names, levels, here, log, out, tree, name) else {
+        return Err(AllocError);
+    };
+    let Ok(scalar) = scalar_where(log, out, denoted) else {
+        return Err(AllocError);
+    };
+    let Ok(x) = simple(names, levels, here, log, out, Wanted::Other, tree, low) else {
+        return Err(AllocError);
+    };
+    let Ok(y) = simple(names, levels, here, log, out, Wanted::Other, tree, high) else {
+        return Err(AllocError);
+    };
     let first = first_tokens::of_name(tree, name);
     let _want = want;
     checked_where(log, out, first, must_hold, scalar, x, y)
@@ -106,8 +114,12 @@ fn static_bounded(
 ) -> Result<Option<Dimension>, AllocError>
     ensures { Judges (spec.static_range (primaries.inside names.now levels) here.now must_hold want (syntax.Bounded (the_simple (part_at tree.now.nodes low)) (the_simple (part_at tree.now.nodes high))) log.old) (parts out.old) result log.new (parts out.new) }
 {
-    let x = simple(names, levels, here, log, out, Wanted::Other, tree, low)?;
-    let y = simple(names, levels, here, log, out, Wanted::Other, tree, high)?;
+    let Ok(x) = simple(names, levels, here, log, out, Wanted::Other, tree, low) else {
+        return Err(AllocError);
+    };
+    let Ok(y) = simple(names, levels, here, log, out, Wanted::Other, tree, high) else {
+        return Err(AllocError);
+    };
     let (Some(x), Some(y)) = (x, y) else {
         out.leave_out();
         return Ok(None);
@@ -165,7 +177,9 @@ pub fn chosen_value(
 ) -> Result<Option<Chosen>, AllocError>
     ensures { Chooses (spec.chosen_value (primaries.inside names.now levels) here.now kind (the_simple (part_at tree.now.nodes id)) log.old) (parts out.old) result log.new (parts out.new) }
 {
-    let x = simple(names, levels, here, log, out, Wanted::Other, tree, id)?;
+    let Ok(x) = simple(names, levels, here, log, out, Wanted::Other, tree, id) else {
+        return Err(AllocError);
+    };
     values_of(log, out, kind, x)
 }
 
@@ -185,8 +199,12 @@ pub fn chosen_span(
 ) -> Result<Option<Chosen>, AllocError>
     ensures { Chooses (spec.chosen_span (primaries.inside names.now levels) here.now kind (the_simple (part_at tree.now.nodes low)) (the_simple (part_at tree.now.nodes high)) log.old) (parts out.old) result log.new (parts out.new) }
 {
-    let x = simple(names, levels, here, log, out, Wanted::Other, tree, low)?;
-    let y = simple(names, levels, here, log, out, Wanted::Other, tree, high)?;
+    let Ok(x) = simple(names, levels, here, log, out, Wanted::Other, tree, low) else {
+        return Err(AllocError);
+    };
+    let Ok(y) = simple(names, levels, here, log, out, Wanted::Other, tree, high) else {
+        return Err(AllocError);
+    };
     range_values(log, out, kind, x, y)
 }
 

@@ -45,16 +45,24 @@ pub fn factor(
     match tree.factor(id) {
         Factor::Operand(primary) => inside(names, levels, here, log, out, want, tree, primary),
         Factor::Power { base, at, exponent } => {
-            let x = inside(names, levels, here, log, out, Wanted::Other, tree, base)?;
-            let y = inside(names, levels, here, log, out, Wanted::Other, tree, exponent)?;
+            let Ok(x) = inside(names, levels, here, log, out, Wanted::Other, tree, base) else {
+                return Err(AllocError);
+            };
+            let Ok(y) = inside(names, levels, here, log, out, Wanted::Other, tree, exponent) else {
+                return Err(AllocError);
+            };
             power(log, out, at, x, y)
         }
         Factor::Abs { at, operand } => {
-            let x = inside(names, levels, here, log, out, Wanted::Other, tree, operand)?;
+            let Ok(x) = inside(names, levels, here, log, out, Wanted::Other, tree, operand) else {
+                return Err(AllocError);
+            };
             unary(log, out, ada_typed::Sign::Abs, at, x)
         }
         Factor::Not { at, operand } => {
-            let x = inside(names, levels, here, log, out, Wanted::Other, tree, operand)?;
+            let Ok(x) = inside(names, levels, here, log, out, Wanted::Other, tree, operand) else {
+                return Err(AllocError);
+            };
             not_of(log, out, at, x)
         }
     }
@@ -86,7 +94,7 @@ fn multiplying(
     ensures { Judges (spec.multiplying (primaries.inside names.now levels) here.now (found_of left (top (parts out.old))) (the_multiplying (part_at tree.now.nodes id)) log.old) (pop (parts out.old)) result log.new (parts out.new) }
 {
     let link = tree.multiplying(id);
-    let y = factor(
+    let Ok(y) = factor(
         names,
         levels,
         here,
@@ -95,7 +103,9 @@ fn multiplying(
         Wanted::Other,
         tree,
         link.factor,
-    )?;
+    ) else {
+        return Err(AllocError);
+    };
     binary(log, out, multiplying_op(link.by), link.at, left, y)
 }
 
@@ -115,7 +125,10 @@ fn multiplied(
     let mut x = left;
     let mut next = more;
     'links: while let Some(cell) = tree.cell(next) {
-        x = multiplying(names, levels, here, log, out, x, tree, cell.first)?;
+        let Ok(next_x) = multiplying(names, levels, here, log, out, x, tree, cell.first) else {
+            return Err(AllocError);
+        };
+        x = next_x;
         next = cell.rest;
     }
     Ok(x)
@@ -140,7 +153,7 @@ pub fn term(
     match tree.cell(whole.more) {
         None => factor(names, levels, here, log, out, want, tree, whole.first),
         Some(_) => {
-            let x = factor(
+            let Ok(x) = factor(
                 names,
                 levels,
                 here,
@@ -149,7 +162,9 @@ pub fn term(
                 Wanted::Other,
                 tree,
                 whole.first,
-            )?;
+            ) else {
+                return Err(AllocError);
+            };
             multiplied(names, levels, here, log, out, x, tree, whole.more)
         }
     }
@@ -172,7 +187,7 @@ fn adding(
     let link = tree.adding(id);
     match link.by {
         Additive::Plus => {
-            let y = term(
+            let Ok(y) = term(
                 names,
                 levels,
                 here,
@@ -181,11 +196,13 @@ fn adding(
                 Wanted::Other,
                 tree,
                 link.term,
-            )?;
+            ) else {
+                return Err(AllocError);
+            };
             binary(log, out, Op::Add, link.at, left, y)
         }
         Additive::Minus => {
-            let y = term(
+            let Ok(y) = term(
                 names,
                 levels,
                 here,
@@ -194,11 +211,15 @@ fn adding(
                 Wanted::Other,
                 tree,
                 link.term,
-            )?;
+            ) else {
+                return Err(AllocError);
+            };
             binary(log, out, Op::Sub, link.at, left, y)
         }
         Additive::Joined => {
-            let y = term(names, levels, here, log, out, Wanted::Text, tree, link.term)?;
+            let Ok(y) = term(names, levels, here, log, out, Wanted::Text, tree, link.term) else {
+                return Err(AllocError);
+            };
             joined_text(log, out, link.at, left, y)
         }
     }
@@ -220,7 +241,10 @@ fn added(
     let mut x = left;
     let mut next = more;
     'links: while let Some(cell) = tree.cell(next) {
-        x = adding(names, levels, here, log, out, x, tree, cell.first)?;
+        let Ok(next_x) = adding(names, levels, here, log, out, x, tree, cell.first) else {
+            return Err(AllocError);
+        };
+        x = next_x;
         next = cell.rest;
     }
     Ok(x)
@@ -257,11 +281,15 @@ fn first_term(
     match sign {
         None => term(names, levels, here, log, out, want, tree, id),
         Some(Sign::Plus(at)) => {
-            let x = term(names, levels, here, log, out, Wanted::Other, tree, id)?;
+            let Ok(x) = term(names, levels, here, log, out, Wanted::Other, tree, id) else {
+                return Err(AllocError);
+            };
             plain(log, out, at, x)
         }
         Some(Sign::Minus(at)) => {
-            let x = term(names, levels, here, log, out, Wanted::Other, tree, id)?;
+            let Ok(x) = term(names, levels, here, log, out, Wanted::Other, tree, id) else {
+                return Err(AllocError);
+            };
             unary(log, out, ada_typed::Sign::Minus, at, x)
         }
     }
@@ -302,10 +330,15 @@ pub fn simple(
 {
     let sum = tree.simple(id);
     let asked = first_wanted(want, tree, sum.more);
-    let x = first_term(
+    let Ok(x) = first_term(
         names, levels, here, log, out, asked, sum.sign, tree, sum.first,
-    )?;
-    match added(names, levels, here, log, out, x, tree, sum.more)? {
+    ) else {
+        return Err(AllocError);
+    };
+    let Ok(given_given) = added(names, levels, here, log, out, x, tree, sum.more) else {
+        return Err(AllocError);
+    };
+    match given_given {
         None => Ok(None),
         Some(given) => in_place(log, out, want, given),
     }
@@ -356,8 +389,12 @@ pub fn rel(
             at,
             right,
         } => {
-            let x = simple(names, levels, here, log, out, Wanted::Other, tree, left)?;
-            let y = simple(names, levels, here, log, out, Wanted::Other, tree, right)?;
+            let Ok(x) = simple(names, levels, here, log, out, Wanted::Other, tree, left) else {
+                return Err(AllocError);
+            };
+            let Ok(y) = simple(names, levels, here, log, out, Wanted::Other, tree, right) else {
+                return Err(AllocError);
+            };
             compared(log, out, comparison_of(by), at, x, y)
         }
         Rel::Within {
@@ -367,9 +404,15 @@ pub fn rel(
             low,
             high,
         } => {
-            let x = simple(names, levels, here, log, out, Wanted::Other, tree, value)?;
-            let l = simple(names, levels, here, log, out, Wanted::Other, tree, low)?;
-            let h = simple(names, levels, here, log, out, Wanted::Other, tree, high)?;
+            let Ok(x) = simple(names, levels, here, log, out, Wanted::Other, tree, value) else {
+                return Err(AllocError);
+            };
+            let Ok(l) = simple(names, levels, here, log, out, Wanted::Other, tree, low) else {
+                return Err(AllocError);
+            };
+            let Ok(h) = simple(names, levels, here, log, out, Wanted::Other, tree, high) else {
+                return Err(AllocError);
+            };
             membership(log, out, blamed(negation, at), negation.is_some(), x, l, h)
         }
         Rel::OfMark {
@@ -378,8 +421,12 @@ pub fn rel(
             at,
             mark,
         } => {
-            let x = simple(names, levels, here, log, out, Wanted::Other, tree, value)?;
-            let s = scalar_named(names, here, log, out, mark)?;
+            let Ok(x) = simple(names, levels, here, log, out, Wanted::Other, tree, value) else {
+                return Err(AllocError);
+            };
+            let Ok(s) = scalar_named(names, here, log, out, mark) else {
+                return Err(AllocError);
+            };
             of_subtype(
                 log,
                 out,
@@ -411,8 +458,13 @@ fn conjoined(
     let mut next = more;
     'links: while let Some(cell) = tree.cell(next) {
         let link = tree.conjunct(cell.first);
-        let y = rel(names, levels, here, log, out, Wanted::Other, tree, link.rel)?;
-        x = logical(log, out, op, link.at, x, y)?;
+        let Ok(y) = rel(names, levels, here, log, out, Wanted::Other, tree, link.rel) else {
+            return Err(AllocError);
+        };
+        let Ok(next_x) = logical(log, out, op, link.at, x, y) else {
+            return Err(AllocError);
+        };
+        x = next_x;
         next = cell.rest;
     }
     Ok(x)
@@ -434,9 +486,15 @@ fn joined_rels(
 ) -> Result<Option<Found>, AllocError>
     ensures { Judges (spec.joined_rels names.now (primaries.inside names.now levels) here.now op (the_rel (part_at tree.now.nodes first)) at (the_rel (part_at tree.now.nodes second)) (the_conjuncts (part_at tree.now.nodes more)) log.old) (parts out.old) result log.new (parts out.new) }
 {
-    let x = rel(names, levels, here, log, out, Wanted::Other, tree, first)?;
-    let y = rel(names, levels, here, log, out, Wanted::Other, tree, second)?;
-    let z = logical(log, out, op, at, x, y)?;
+    let Ok(x) = rel(names, levels, here, log, out, Wanted::Other, tree, first) else {
+        return Err(AllocError);
+    };
+    let Ok(y) = rel(names, levels, here, log, out, Wanted::Other, tree, second) else {
+        return Err(AllocError);
+    };
+    let Ok(z) = logical(log, out, op, at, x, y) else {
+        return Err(AllocError);
+    };
     conjoined(names, levels, here, log, out, op, z, tree, more)
 }
 
@@ -503,8 +561,13 @@ fn short_operands(
     let mut next = more;
     'links: while let Some(cell) = tree.cell(next) {
         let link = tree.conjunct(cell.first);
-        let y = short_operand(names, levels, here, log, out, link.at, tree, link.rel)?;
-        x = short_joined(log, out, all, x, y)?;
+        let Ok(y) = short_operand(names, levels, here, log, out, link.at, tree, link.rel) else {
+            return Err(AllocError);
+        };
+        let Ok(next_x) = short_joined(log, out, all, x, y) else {
+            return Err(AllocError);
+        };
+        x = next_x;
         next = cell.rest;
     }
     Ok(x)
@@ -526,10 +589,19 @@ fn short_form(
 ) -> Result<Option<Found>, AllocError>
     ensures { Judges (spec.short_form names.now (primaries.inside names.now levels) here.now all (the_rel (part_at tree.now.nodes first)) at (the_rel (part_at tree.now.nodes second)) (the_conjuncts (part_at tree.now.nodes more)) log.old) (parts out.old) result log.new (parts out.new) }
 {
-    let x = short_operand(names, levels, here, log, out, at, tree, first)?;
-    let y = short_operand(names, levels, here, log, out, at, tree, second)?;
-    let z = short_joined(log, out, all, x, y)?;
-    if short_operands(names, levels, here, log, out, all, z, tree, more)? {
+    let Ok(x) = short_operand(names, levels, here, log, out, at, tree, first) else {
+        return Err(AllocError);
+    };
+    let Ok(y) = short_operand(names, levels, here, log, out, at, tree, second) else {
+        return Err(AllocError);
+    };
+    let Ok(z) = short_joined(log, out, all, x, y) else {
+        return Err(AllocError);
+    };
+    let Ok(good) = short_operands(names, levels, here, log, out, all, z, tree, more) else {
+        return Err(AllocError);
+    };
+    if good {
         Ok(Some(Found::Scalar {
             first: first_tokens::of_rel(tree, first),
             kind: Kind::Boolean,
@@ -637,7 +709,10 @@ pub fn condition(
 ) -> Result<bool, AllocError>
     ensures { Gives (spec.condition names.now (primaries.inside names.now levels) here.now (the_expr (part_at tree.now.nodes id)) log.old) (parts out.old) result log.new (parts out.new) }
 {
-    match expr(names, levels, here, log, out, Wanted::Other, tree, id)? {
+    let Ok(given_given) = expr(names, levels, here, log, out, Wanted::Other, tree, id) else {
+        return Err(AllocError);
+    };
+    match given_given {
         None => Ok(false),
         Some(given) => asked(log, out, Kind::Boolean, given),
     }
@@ -658,7 +733,10 @@ pub fn value_for(
 ) -> Result<bool, AllocError>
     ensures { Gives (spec.value_for names.now (primaries.inside names.now levels) here.now subtype (the_expr (part_at tree.now.nodes id)) log.old) (parts out.old) result log.new (parts out.new) }
 {
-    match expr(names, levels, here, log, out, wanted_of(subtype), tree, id)? {
+    let Ok(given_given) = expr(names, levels, here, log, out, wanted_of(subtype), tree, id) else {
+        return Err(AllocError);
+    };
+    match given_given {
         None => Ok(false),
         Some(given) => stored(log, out, subtype, first_tokens::of_expr(tree, id), given),
     }
@@ -679,7 +757,9 @@ pub fn judged_alone(
 ) -> Result<(), AllocError>
     ensures { OnOk result ((spec.judged_alone names.now (primaries.inside names.now levels) here.now (the_expr (part_at tree.now.nodes id)) log.old ≡ (tt, log.new)) × (parts out.new ≡ parts out.old)) }
 {
-    let _found = expr(names, levels, here, log, out, Wanted::Unknown, tree, id)?;
+    let Ok(_found) = expr(names, levels, here, log, out, Wanted::Unknown, tree, id) else {
+        return Err(AllocError);
+    };
     out.leave_out();
     Ok(())
 }

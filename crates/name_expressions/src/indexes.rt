@@ -60,7 +60,9 @@ pub fn args_alone(
 {
     let mut next = more;
     'each: while let Some(cell) = tree.cell(next) {
-        arg_alone(names, levels, here, log, out, tree, cell.first)?;
+        let Ok(()) = arg_alone(names, levels, here, log, out, tree, cell.first) else {
+            return Err(AllocError);
+        };
         next = cell.rest;
     }
     Ok(())
@@ -84,8 +86,12 @@ pub fn wrong_call(
     ensures { Judges (spec.wrong_call names.now (primaries.inside names.now levels) here.now first (syntax.AlsoArg (the_arg (part_at tree.now.nodes arg)) (the_args (part_at tree.now.nodes more))) log.old) (pop (parts out.old)) result log.new (parts out.new) }
 {
     let before = log.faults.len();
-    arg_alone(names, levels, here, log, out, tree, arg)?;
-    args_alone(names, levels, here, log, out, tree, more)?;
+    let Ok(()) = arg_alone(names, levels, here, log, out, tree, arg) else {
+        return Err(AllocError);
+    };
+    let Ok(()) = args_alone(names, levels, here, log, out, tree, more) else {
+        return Err(AllocError);
+    };
     if log.faults.len() == before {
         wrong_name(log, out, first, Rule::WrongType)
     } else {
@@ -175,7 +181,7 @@ fn index(
     ensures { Gives (spec.index names.now (primaries.inside names.now levels) here.now (drop place dimensions.now) cells (part_if done (top (parts out.old))) (the_arg (part_at tree.now.nodes id)) log.old) (pop (parts out.old)) result log.new (parts out.new) }
 {
     let arg = tree.arg(id);
-    let x = expr(
+    let Ok(x) = expr(
         names,
         levels,
         here,
@@ -184,10 +190,14 @@ fn index(
         Wanted::Other,
         tree,
         arg.value,
-    )?;
+    ) else {
+        return Err(AllocError);
+    };
     let dimension = dimension_of(dimensions, place);
     let apart = stride(dimensions, place, cells);
-    let s = index_in(log, out, dimension, apart, done, x)?;
+    let Ok(s) = index_in(log, out, dimension, apart, done, x) else {
+        return Err(AllocError);
+    };
     unnamed(log, out, arg.formal, s)
 }
 
@@ -212,9 +222,12 @@ fn indexes(
     let mut i = place;
     let mut next = more;
     'indexes: while let Some(cell) = tree.cell(next) {
-        s = index(
+        let Ok(next_s) = index(
             names, levels, here, log, out, dimensions, i, cells, s, tree, cell.first,
-        )?;
+        ) else {
+            return Err(AllocError);
+        };
+        s = next_s;
         if i == usize::MAX {
             return Err(AllocError);
         }

@@ -7,7 +7,7 @@ ghost use Rattle.name_rules.specs.Judges.{Gives, Judges, Says, found_of};
 ghost use Rattle.name_rules.specs.Judging.{unless};
 ghost use Rattle.name_rules.specs.declared.log.Rule.TheVariants.{Unknown};
 ghost use Rattle.name_rules.specs.Primaries as primaries;
-ghost use Rattle.name_expressions.specs.Sequences.{Folds, folded_where};
+ghost use Rattle.name_expressions.specs.Sequences.{Folds, folded_where, folded_within};
 ghost use Rattle.name_values.specs.Walks.{Chunks, Enters, Walks, as_chunked};
 ghost use Rattle.tree_nodes.specs.Parts.{the_expr, the_iter, the_parallel, the_simple};
 ghost use Rattle.tree_nodes.specs.Tables.{part_at};
@@ -52,7 +52,10 @@ pub fn chunk_count(
 ) -> Result<bool, AllocError>
     ensures { Gives (spec.chunk_count (primaries.inside names.now levels) here.now (the_simple (part_at tree.now.nodes id)) log.old) (parts out.old) result log.new (parts out.new) }
 {
-    match simple(names, levels, here, log, out, Wanted::Other, tree, id)? {
+    let Ok(given_given) = simple(names, levels, here, log, out, Wanted::Other, tree, id) else {
+        return Err(AllocError);
+    };
+    match given_given {
         None => Ok(false),
         Some(given) => any_integer(log, out, given),
     }
@@ -74,14 +77,18 @@ pub fn chunked_by(
 {
     match tree.parallel(id) {
         Parallel::Unchunked(_) => {
-            out.nothing()?;
+            let Ok(()) = out.nothing() else {
+                return Err(AllocError);
+            };
             Ok(Chunking {
                 given: true,
                 parameter: None,
             })
         }
         Parallel::Counted { count, .. } => {
-            let e = chunk_count(names, levels, here, log, out, tree, count)?;
+            let Ok(e) = chunk_count(names, levels, here, log, out, tree, count) else {
+                return Err(AllocError);
+            };
             counted(log, out, e)
         }
         Parallel::Chunked {
@@ -89,8 +96,12 @@ pub fn chunked_by(
             range: chunks,
             ..
         } => {
-            let b = range(names, levels, here, log, out, tree, chunks)?;
-            let number = new_parameter(log)?;
+            let Ok(b) = range(names, levels, here, log, out, tree, chunks) else {
+                return Err(AllocError);
+            };
+            let Ok(number) = new_parameter(log) else {
+                return Err(AllocError);
+            };
             chunk_each(log, out, number, index, b)
         }
     }
@@ -117,13 +128,21 @@ fn walked(
             range: values,
             filter,
         } => {
-            let b = range(names, levels, here, log, out, tree, values)?;
-            let number = new_parameter(log)?;
+            let Ok(b) = range(names, levels, here, log, out, tree, values) else {
+                return Err(AllocError);
+            };
+            let Ok(number) = new_parameter(log) else {
+                return Err(AllocError);
+            };
             Ok(range_walked(out, tree, number, index, reverse, filter, b))
         }
         Iter::OfName { item, of, filter } => {
-            let d = name_inside(names, levels, here, log, out, tree, of)?;
-            let number = new_parameter(log)?;
+            let Ok(d) = name_inside(names, levels, here, log, out, tree, of) else {
+                return Err(AllocError);
+            };
+            let Ok(number) = new_parameter(log) else {
+                return Err(AllocError);
+            };
             over_denoted(log, out, tree, number, item, filter, d)
         }
     }
@@ -143,7 +162,9 @@ fn filter_where(
 {
     match filter {
         None => {
-            out.nothing()?;
+            let Ok(()) = out.nothing() else {
+                return Err(AllocError);
+            };
             Ok(true)
         }
         Some(id) => condition(names, levels, here, log, out, tree, id),
@@ -168,8 +189,10 @@ fn entered_with(
 ) -> Result<Entering, AllocError>
     ensures { Enters (spec.entered_with names.now (primaries.inside names.now levels) here.old construct start (as_chunked chunking (top (parts out.old))) (the_iter (part_at tree.now.nodes id)) log.old) (pop (parts out.old)) result log.new here.new (parts out.new) }
 {
-    let w = walked(names, levels, here, log, out, tree, id)?;
-    within(
+    let Ok(w) = walked(names, levels, here, log, out, tree, id) else {
+        return Err(AllocError);
+    };
+    let Ok(()) = within(
         names,
         here,
         log,
@@ -179,9 +202,15 @@ fn entered_with(
         tree,
         out,
         w,
-    )?;
-    let filter = filter_where(names, levels, here, log, out, tree, w.filter)?;
-    let iteration = filtered(log, out, w.way, filter)?;
+    ) else {
+        return Err(AllocError);
+    };
+    let Ok(filter) = filter_where(names, levels, here, log, out, tree, w.filter) else {
+        return Err(AllocError);
+    };
+    let Ok(iteration) = filtered(log, out, w.way, filter) else {
+        return Err(AllocError);
+    };
     Ok(Entering {
         construct,
         chunk: chunking.given,
@@ -211,7 +240,9 @@ pub fn entered(
     let start = here.scope.len();
     match parallel {
         None => {
-            out.nothing()?;
+            let Ok(()) = out.nothing() else {
+                return Err(AllocError);
+            };
             let chunking = Chunking {
                 given: true,
                 parameter: None,
@@ -221,8 +252,12 @@ pub fn entered(
             )
         }
         Some(parallel) => {
-            let n = new_site(log, here, parallel_at(tree, parallel), kind)?;
-            let chunking = chunked_by(names, inner, here, log, out, tree, parallel)?;
+            let Ok(n) = new_site(log, here, parallel_at(tree, parallel), kind) else {
+                return Err(AllocError);
+            };
+            let Ok(chunking) = chunked_by(names, inner, here, log, out, tree, parallel) else {
+                return Err(AllocError);
+            };
             entered_with(
                 names,
                 levels,
@@ -351,6 +386,55 @@ fn sequence_given(
     folded_by(log, out, going, folding, value, initial)
 }
 
+/// What a value sequence is folded to by this reducer, whose iteration is declared in an inner scope.
+#[cycle(levels)]
+fn folded_within(
+    names: &Names,
+    levels: u32,
+    inner: &mut Context,
+    here: &Context,
+    log: &mut Log,
+    out: &mut Parts,
+    bracket: u32,
+    attribute: u32,
+    folding: Option<Folding>,
+    tree: &Tree,
+    parallel: Option<u32>,
+    iter: u32,
+    value: u32,
+    initial: u32,
+) -> Result<Folded, AllocError>
+    ensures { Folds (folded_within names.now (primaries.inside names.now levels) inner.old here.now bracket (optional_parallel (part_at tree.now.nodes) parallel) (the_iter (part_at tree.now.nodes iter)) (the_expr (part_at tree.now.nodes value)) attribute folding (the_expr (part_at tree.now.nodes initial)) log.old) (parts out.old) result log.new (parts out.new) }
+{
+    let Ok(e) = entered(
+        names,
+        levels,
+        levels,
+        inner,
+        log,
+        out,
+        SiteKind::Reduction,
+        parallel,
+        tree,
+        iter,
+    ) else {
+        return Err(AllocError);
+    };
+    let Ok(x) = expr(names, levels, inner, log, out, Wanted::Other, tree, value) else {
+        return Err(AllocError);
+    };
+    let Ok(v) = expr(names, levels, here, log, out, Wanted::Other, tree, initial) else {
+        return Err(AllocError);
+    };
+    let Ok(found) = sequence_given(log, out, bracket, attribute, e, folding, x, v) else {
+        return Err(AllocError);
+    };
+    Ok(Folded {
+        reverse: e.reverse,
+        found,
+    })
+}
+
 #[cycle(levels)]
 fn sequence_folded(
     names: &Names,
@@ -369,27 +453,16 @@ fn sequence_folded(
 ) -> Result<Folded, AllocError>
     ensures { Folds (spec.sequence_folded names.now (primaries.inside names.now levels) here.now bracket (optional_parallel (part_at tree.now.nodes) parallel) (the_iter (part_at tree.now.nodes iter)) (the_expr (part_at tree.now.nodes value)) attribute (the_expr (part_at tree.now.nodes reducer)) (the_expr (part_at tree.now.nodes initial)) log.old) (parts out.old) result log.new (parts out.new) }
 {
-    let f = reducer_of(names, levels, here, log, out, tree, reducer)?;
-    let mut inner = copied(here, out)?;
-    let e = entered(
-        names,
-        levels,
-        levels,
-        &mut inner,
-        log,
-        out,
-        SiteKind::Reduction,
-        parallel,
-        tree,
-        iter,
-    )?;
-    let x = expr(names, levels, &inner, log, out, Wanted::Other, tree, value)?;
-    let v = expr(names, levels, here, log, out, Wanted::Other, tree, initial)?;
-    let found = sequence_given(log, out, bracket, attribute, e, f, x, v)?;
-    Ok(Folded {
-        reverse: e.reverse,
-        found,
-    })
+    let Ok(folding) = reducer_of(names, levels, here, log, out, tree, reducer) else {
+        return Err(AllocError);
+    };
+    let Ok(mut inner) = copied(here, out) else {
+        return Err(AllocError);
+    };
+    folded_within(
+        names, levels, &mut inner, here, log, out, bracket, attribute, folding, tree, parallel,
+        iter, value, initial,
+    )
 }
 
 /// The reduction of a value sequence (4.5.10), by the token of its bracket and that of its attribute: Unknown where that is

@@ -41,7 +41,9 @@ fn other_alone(
     ensures { OnOk result ((own.other_alone names.now (primaries.inside names.now levels) here.now (the_arg (part_at tree.now.nodes id)) log.old ≡ (tt, log.new)) × (parts out.new ≡ parts out.old)) }
 {
     let arg = tree.arg(id);
-    no_formal(log, arg.formal)?;
+    let Ok(()) = no_formal(log, arg.formal) else {
+        return Err(AllocError);
+    };
     judged_alone(names, levels, here, log, out, tree, arg.value)
 }
 
@@ -60,7 +62,9 @@ fn others_alone(
 {
     let mut next = more;
     'each: while let Some(cell) = tree.cell(next) {
-        other_alone(names, levels, here, log, out, tree, cell.first)?;
+        let Ok(()) = other_alone(names, levels, here, log, out, tree, cell.first) else {
+            return Err(AllocError);
+        };
         next = cell.rest;
     }
     Ok(())
@@ -79,8 +83,12 @@ fn width_argument(
 ) -> Result<(), AllocError>
     ensures { Puts (spec.width_argument names.now (primaries.inside names.now levels) here.now (putting_of putting.old (second (parts out.old)) (top (parts out.old))) (the_expr (part_at tree.now.nodes id)) log.old) (pop (pop (parts out.old))) result putting.new log.new (parts out.new) }
 {
-    let x = expr(names, levels, here, log, out, Wanted::Other, tree, id)?;
-    let width = width_given(log, out, x)?;
+    let Ok(x) = expr(names, levels, here, log, out, Wanted::Other, tree, id) else {
+        return Err(AllocError);
+    };
+    let Ok(width) = width_given(log, out, x) else {
+        return Err(AllocError);
+    };
     with_width(out, putting, width)
 }
 
@@ -99,7 +107,9 @@ fn counted_alone(
 ) -> Result<(), AllocError>
     ensures { Puts (own.counted_alone names.now (primaries.inside names.now levels) here.now (putting_of putting.old (second (parts out.old)) (top (parts out.old))) count (the_expr (part_at tree.now.nodes id)) log.old) (pop (pop (parts out.old))) result putting.new log.new (parts out.new) }
 {
-    judged_alone(names, levels, here, log, out, tree, id)?;
+    let Ok(()) = judged_alone(names, levels, here, log, out, tree, id) else {
+        return Err(AllocError);
+    };
     with_count(putting, count)
 }
 
@@ -121,10 +131,14 @@ fn put_argument(
     match formal {
         Some(name) => {
             if symbol(names, name) == WIDTH {
-                once(log, putting.has_width, first)?;
+                let Ok(()) = once(log, putting.has_width, first) else {
+                    return Err(AllocError);
+                };
                 width_argument(names, levels, here, log, out, putting, tree, id)
             } else {
-                breaks(log, name, Rule::Unknown)?;
+                let Ok(()) = breaks(log, name, Rule::Unknown) else {
+                    return Err(AllocError);
+                };
                 counted_alone(names, levels, here, log, out, putting, 1, tree, id)
             }
         }
@@ -155,9 +169,11 @@ fn put_arguments(
     'each: while let Some(cell) = tree.cell(next) {
         let arg = tree.arg(cell.first);
         let first = first_tokens::of_arg(tree, cell.first);
-        put_argument(
+        let Ok(()) = put_argument(
             names, levels, here, log, out, putting, arg.formal, first, tree, arg.value,
-        )?;
+        ) else {
+            return Err(AllocError);
+        };
         next = cell.rest;
     }
     Ok(())
@@ -183,15 +199,21 @@ fn number_put(
 ) -> Result<Option<Denoted>, AllocError>
     ensures { Judges (own.number_put names.now (primaries.inside names.now levels) here.now before at first last reach (found_of given (top (parts out.old))) (the_args (part_at tree.now.nodes more)) log.old) (pop (parts out.old)) result log.new (parts out.new) }
 {
-    let item = item_given(log, out, reach.integer_io, given)?;
-    out.nothing()?;
+    let Ok(item) = item_given(log, out, reach.integer_io, given) else {
+        return Err(AllocError);
+    };
+    let Ok(()) = out.nothing() else {
+        return Err(AllocError);
+    };
     let mut putting = Putting {
         count: 1,
         item,
         has_width: false,
         width: false,
     };
-    put_arguments(names, levels, here, log, out, &mut putting, tree, more)?;
+    let Ok(()) = put_arguments(names, levels, here, log, out, &mut putting, tree, more) else {
+        return Err(AllocError);
+    };
     if log.faults.len() != before {
         out.leave_out();
         return Ok(None);

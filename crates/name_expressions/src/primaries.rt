@@ -74,8 +74,12 @@ fn alternative(
 ) -> Result<bool, AllocError>
     ensures { Waits (spec.alternative names.now (spec.inside names.now levels) here.now want (waiting_if done values.old (top (parts out.old))) (the_expr (part_at tree.now.nodes test)) (the_expr (part_at tree.now.nodes value)) log.old) (pop (parts out.old)) result values.new log.new (parts out.new) }
 {
-    let x = condition(names, levels, here, log, out, tree, test)?;
-    let y = expr(names, levels, here, log, out, want, tree, value)?;
+    let Ok(x) = condition(names, levels, here, log, out, tree, test) else {
+        return Err(AllocError);
+    };
+    let Ok(y) = expr(names, levels, here, log, out, want, tree, value) else {
+        return Err(AllocError);
+    };
     also_choice(out, values, done, x, y)
 }
 
@@ -98,7 +102,7 @@ fn alternatives(
     let mut next = more;
     'alternatives: while let Some(cell) = tree.cell(next) {
         let elsif = tree.elsif(cell.first);
-        all = alternative(
+        let Ok(next_all) = alternative(
             names,
             levels,
             here,
@@ -110,7 +114,10 @@ fn alternatives(
             tree,
             elsif.condition,
             elsif.value,
-        )?;
+        ) else {
+            return Err(AllocError);
+        };
+        all = next_all;
         next = cell.rest;
     }
     Ok(all)
@@ -145,9 +152,11 @@ fn if_expr(
 ) -> Result<Option<Found>, AllocError>
     ensures { Judges (spec.if_expr names.now (spec.inside names.now levels) here.now want bracket (the_expr (part_at tree.now.nodes test)) (the_expr (part_at tree.now.nodes value)) (the_elsifs (part_at tree.now.nodes more)) (the_expr (part_at tree.now.nodes otherwise)) log.old) (parts out.old) result log.new (parts out.new) }
 {
-    out.nothing()?;
+    let Ok(()) = out.nothing() else {
+        return Err(AllocError);
+    };
     let mut values = Items::new(out.alloc());
-    let d = alternative(
+    let Ok(d) = alternative(
         names,
         levels,
         here,
@@ -159,8 +168,10 @@ fn if_expr(
         tree,
         test,
         value,
-    )?;
-    let all = alternatives(
+    ) else {
+        return Err(AllocError);
+    };
+    let Ok(all) = alternatives(
         names,
         levels,
         here,
@@ -171,8 +182,12 @@ fn if_expr(
         d,
         tree,
         more,
-    )?;
-    let last = expr(names, levels, here, log, out, want, tree, otherwise)?;
+    ) else {
+        return Err(AllocError);
+    };
+    let Ok(last) = expr(names, levels, here, log, out, want, tree, otherwise) else {
+        return Err(AllocError);
+    };
     if_found(log, out, bracket, &mut values, all, last)
 }
 
@@ -190,7 +205,10 @@ fn named(
 ) -> Result<Option<Found>, AllocError>
     ensures { Judges (named_in names.now (spec.inside names.now levels) here.now (the_name (part_at tree.now.nodes id)) want log.old) (parts out.old) result log.new (parts out.new) }
 {
-    match value_named(names, levels, here, log, out, tree, id)? {
+    let Ok(given_given) = value_named(names, levels, here, log, out, tree, id) else {
+        return Err(AllocError);
+    };
+    match given_given {
         None => Ok(None),
         Some(given) => in_place(log, out, want, given),
     }
@@ -213,7 +231,9 @@ fn primary(
 {
     match tree.primary(id) {
         Primary::Number(at) => {
-            out.nothing()?;
+            let Ok(()) = out.nothing() else {
+                return Err(AllocError);
+            };
             Ok(Some(Found::Universal {
                 first: at,
                 value: number(names, at),

@@ -217,8 +217,12 @@ pub fn range(
 {
     match tree.range(id) {
         Range::Bounded { low, high } => {
-            let x = simple(names, levels, here, log, out, Wanted::Other, tree, low)?;
-            let y = simple(names, levels, here, log, out, Wanted::Other, tree, high)?;
+            let Ok(x) = simple(names, levels, here, log, out, Wanted::Other, tree, low) else {
+                return Err(AllocError);
+            };
+            let Ok(y) = simple(names, levels, here, log, out, Wanted::Other, tree, high) else {
+                return Err(AllocError);
+            };
             let (Some(x), Some(y)) = (x, y) else {
                 out.leave_out();
                 return Ok(None);
@@ -226,20 +230,29 @@ pub fn range(
             own_bounds(log, out, first_tokens::of_simple(tree, low), x, y)
         }
         Range::Whole(name) => {
-            match name_inside(names, levels, here, log, out, tree, name)? {
+            let Ok(given) = name_inside(names, levels, here, log, out, tree, name) else {
+                return Err(AllocError);
+            };
+            match given {
                 None => Ok(None),
                 Some(denoted) => named_range(log, out, denoted),
             }
         }
         Range::Constrained { name, low, high } => {
-            let denoted = name_inside(names, levels, here, log, out, tree, name)?;
+            let Ok(denoted) = name_inside(names, levels, here, log, out, tree, name) else {
+                return Err(AllocError);
+            };
             out.leave_out();
             let scalar = match denoted {
                 None => None,
                 Some(denoted) => scalar_type(log, denoted)?,
             };
-            let x = simple(names, levels, here, log, out, Wanted::Other, tree, low)?;
-            let y = simple(names, levels, here, log, out, Wanted::Other, tree, high)?;
+            let Ok(x) = simple(names, levels, here, log, out, Wanted::Other, tree, low) else {
+                return Err(AllocError);
+            };
+            let Ok(y) = simple(names, levels, here, log, out, Wanted::Other, tree, high) else {
+                return Err(AllocError);
+            };
             let (Some(scalar), Some(x), Some(y)) = (scalar, x, y) else {
                 out.leave_out();
                 return Ok(None);

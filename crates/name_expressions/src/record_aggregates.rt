@@ -45,7 +45,9 @@ fn field_value(
 ) -> Result<bool, AllocError>
     ensures { Gives (spec.field_value names.now (primaries.inside names.now levels) here.now (part_if done (top (parts out.old))) field (the_expr (part_at tree.now.nodes id)) log.old) (pop (parts out.old)) result log.new (parts out.new) }
 {
-    let given = value_for(names, levels, here, log, out, field.subtype, tree, id)?;
+    let Ok(given) = value_for(names, levels, here, log, out, field.subtype, tree, id) else {
+        return Err(AllocError);
+    };
     field_association(log, out, field, done, given)
 }
 
@@ -69,7 +71,11 @@ fn fields_value(
     let mut whole = done;
     let mut i = place;
     'each: while let Some(field) = field_at(fields, i) {
-        whole = field_value(names, levels, here, log, out, whole, field, tree, id)?;
+        let Ok(next_whole) = field_value(names, levels, here, log, out, whole, field, tree, id)
+        else {
+            return Err(AllocError);
+        };
+        whole = next_whole;
         if i == usize::MAX {
             return Err(AllocError);
         }
@@ -97,7 +103,9 @@ fn some_fields(
 {
     match field_at(fields, place) {
         None => {
-            judged_alone(names, levels, here, log, out, tree, id)?;
+            let Ok(()) = judged_alone(names, levels, here, log, out, tree, id) else {
+                return Err(AllocError);
+            };
             Ok(done)
         }
         Some(_) => fields_value(names, levels, here, log, out, done, fields, place, tree, id),
@@ -123,7 +131,9 @@ fn by_position(
     let Positions { done, place, over } = positions;
     match field_at(fields, place) {
         None => {
-            judged_alone(names, levels, here, log, out, tree, id)?;
+            let Ok(()) = judged_alone(names, levels, here, log, out, tree, id) else {
+                return Err(AllocError);
+            };
             Ok(Positions {
                 done,
                 place,
@@ -131,7 +141,9 @@ fn by_position(
             })
         }
         Some(field) => {
-            let done = field_value(names, levels, here, log, out, done, field, tree, id)?;
+            let Ok(done) = field_value(names, levels, here, log, out, done, field, tree, id) else {
+                return Err(AllocError);
+            };
             if place == usize::MAX {
                 return Err(AllocError);
             }
@@ -161,7 +173,11 @@ fn record_values(
     let mut all = positions;
     let mut next = more;
     'values: while let Some(cell) = tree.cell(next) {
-        all = by_position(names, levels, here, log, out, fields, all, tree, cell.first)?;
+        let Ok(next_all) = by_position(names, levels, here, log, out, fields, all, tree, cell.first)
+        else {
+            return Err(AllocError);
+        };
+        all = next_all;
         next = cell.rest;
     }
     Ok(all)
@@ -184,13 +200,18 @@ fn record_positions(
 ) -> Result<Positions, AllocError>
     ensures { IfOk result (λ p. (spec.record_values names.now (primaries.inside names.now levels) here.now (counted positions fields.now (parts out.old)) (exprs_in (part_at tree.now.nodes) first second more) log.old ≡ (counted p fields.now (parts out.new), log.new)) × (pop (parts out.new) ≡ pop (parts out.old))) }
 {
-    let all = by_position(
+    let Ok(all) = by_position(
         names, levels, here, log, out, fields, positions, tree, first,
-    )?;
+    ) else {
+        return Err(AllocError);
+    };
     match second {
         None => record_values(names, levels, here, log, out, fields, all, tree, more),
         Some(second) => {
-            let all = by_position(names, levels, here, log, out, fields, all, tree, second)?;
+            let Ok(all) = by_position(names, levels, here, log, out, fields, all, tree, second)
+            else {
+                return Err(AllocError);
+            };
             record_values(names, levels, here, log, out, fields, all, tree, more)
         }
     }
@@ -216,7 +237,10 @@ fn record_rest(
     match others {
         None => Ok(positions),
         Some(id) => {
-            let done = some_fields(names, levels, here, log, out, done, fields, place, tree, id)?;
+            let Ok(done) = some_fields(names, levels, here, log, out, done, fields, place, tree, id)
+            else {
+                return Err(AllocError);
+            };
             Ok(Positions {
                 done,
                 place: fields.len(),
@@ -244,15 +268,23 @@ fn record_assoc(
 {
     match tree.assoc(id) {
         Assoc::Each { at, .. } => {
-            breaks(log, at, Rule::WrongType)?;
+            let Ok(()) = breaks(log, at, Rule::WrongType) else {
+                return Err(AllocError);
+            };
             Ok(filling)
         }
         Assoc::Chosen { first, more, value } => {
             let Filling { done, left, over } = filling;
             let alloc = out.alloc();
-            let taking = field_choices(names, log, alloc, all, last, left, tree, first, more)?;
+            let Ok(taking) = field_choices(names, log, alloc, all, last, left, tree, first, more)
+            else {
+                return Err(AllocError);
+            };
             let taken = &taking.taken;
-            let done = some_fields(names, levels, here, log, out, done, taken, 0, tree, value)?;
+            let Ok(done) = some_fields(names, levels, here, log, out, done, taken, 0, tree, value)
+            else {
+                return Err(AllocError);
+            };
             Ok(Filling {
                 done,
                 left: taking.left,
@@ -280,9 +312,12 @@ fn record_assocs(
     let mut next = more;
     'assocs: while let Some(cell) = tree.cell(next) {
         let last = is_final(tree, cell.rest);
-        whole = record_assoc(
+        let Ok(next_whole) = record_assoc(
             names, levels, here, log, out, all, last, whole, tree, cell.first,
-        )?;
+        ) else {
+            return Err(AllocError);
+        };
+        whole = next_whole;
         next = cell.rest;
     }
     Ok(whole)

@@ -38,7 +38,9 @@ fn no_reducer(
     ensures { Says (spec.no_reducer names.now (primaries.inside names.now levels) here.now (the_expr (part_at tree.now.nodes id)) log.old) result log.new × OnOk result (parts out.new ≡ parts out.old) }
 {
     let before = log.faults.len();
-    judged_alone(names, levels, here, log, out, tree, id)?;
+    let Ok(()) = judged_alone(names, levels, here, log, out, tree, id) else {
+        return Err(AllocError);
+    };
     if log.faults.len() == before {
         no_folding(log, first_tokens::of_expr(tree, id))
     } else {

@@ -13,7 +13,6 @@ ghost use Rattle.name_rules.specs.Parts as spec;
 ghost use Rattle.name_rules.specs.Primaries as primaries;
 ghost use Rattle.name_rules.specs.TypedParts.{selections_of};
 ghost use Rattle.name_rules.specs.Types as types;
-ghost use Rattle.name_rules.specs.declared.log.Rule.TheVariants.{ReduceRule};
 ghost use Rattle.tree_nodes.specs.Parts.{the_arg, the_args, the_expr, the_name, the_part, the_parts};
 ghost use Rattle.tree_nodes.specs.Tables.{part_at};
 ghost use Rattle.typed_parts.specs.Stack.{parts as joined};
@@ -155,15 +154,31 @@ fn array_reduction(
     ensures { Judges (array_reduction_by names.now (primaries.inside names.now levels) here.now place (selections_of (top (joined out.old))) at attribute (the_expr (part_at tree.now.nodes reducer)) (the_expr (part_at tree.now.nodes initial)) log.old) (pop (joined out.old)) result log.new (joined out.new) }
 {
     let first = place.first;
-    let site = site_where(log, here, first, is_parallel(attribute))?;
-    let number = new_parameter(log)?;
+    let Ok(site) = site_where(log, here, first, is_parallel(attribute)) else {
+        return Err(AllocError);
+    };
+    let Ok(number) = new_parameter(log) else {
+        return Err(AllocError);
+    };
     let component = component_in(log, place.subtype);
-    through(log, out, place, number)?;
-    out.nothing()?;
-    out.swap()?;
-    out.nothing()?;
-    let by = reducer_of(names, levels, here, log, out, tree, reducer)?;
-    let x = expr(names, levels, here, log, out, Wanted::Other, tree, initial)?;
+    let Ok(()) = through(log, out, place, number) else {
+        return Err(AllocError);
+    };
+    let Ok(()) = out.nothing() else {
+        return Err(AllocError);
+    };
+    let Ok(()) = out.swap() else {
+        return Err(AllocError);
+    };
+    let Ok(()) = out.nothing() else {
+        return Err(AllocError);
+    };
+    let Ok(by) = reducer_of(names, levels, here, log, out, tree, reducer) else {
+        return Err(AllocError);
+    };
+    let Ok(x) = expr(names, levels, here, log, out, Wanted::Other, tree, initial) else {
+        return Err(AllocError);
+    };
     let going = Going {
         at: first,
         attribute: at,
@@ -190,8 +205,12 @@ fn wrong_arguments(
     ensures { Judges (where_clean (name_rules_of.args_alone names.now (primaries.inside names.now levels) here.now (syntax.AlsoArg (the_arg (part_at tree.now.nodes arg)) (the_args (part_at tree.now.nodes more)))) (λ u. fault at rule) log.old) (pop (joined out.old)) result log.new (joined out.new) }
 {
     let before = log.faults.len();
-    arg_alone(names, levels, here, log, out, tree, arg)?;
-    args_alone(names, levels, here, log, out, tree, more)?;
+    let Ok(()) = arg_alone(names, levels, here, log, out, tree, arg) else {
+        return Err(AllocError);
+    };
+    let Ok(()) = args_alone(names, levels, here, log, out, tree, more) else {
+        return Err(AllocError);
+    };
     if log.faults.len() == before {
         wrong_name(log, out, at, rule)
     } else {
@@ -277,35 +296,6 @@ fn array_reduced(
     }
 }
 
-/// The arguments of a reduction of what is no array object.
-#[cycle(levels)]
-fn not_reduced(
-    names: &Names,
-    levels: u32,
-    here: &Context,
-    log: &mut Log,
-    out: &mut Parts,
-    at: u32,
-    tree: &Tree,
-    arg: u32,
-    more: u32,
-) -> Result<Option<Denoted>, AllocError>
-    ensures { Judges (where_clean (name_rules_of.args_alone names.now (primaries.inside names.now levels) here.now (syntax.AlsoArg (the_arg (part_at tree.now.nodes arg)) (the_args (part_at tree.now.nodes more)))) (λ u. fault at ReduceRule) log.old) (pop (joined out.old)) result log.new (joined out.new) }
-{
-    wrong_arguments(
-        names,
-        levels,
-        here,
-        log,
-        out,
-        at,
-        Rule::ReduceRule,
-        tree,
-        arg,
-        more,
-    )
-}
-
 #[cycle(levels)]
 fn reduced_with(
     names: &Names,
@@ -332,10 +322,32 @@ fn reduced_with(
                     names, levels, here, log, out, place, at, attribute, bracket, tree, arg, more,
                 )
             } else {
-                not_reduced(names, levels, here, log, out, at, tree, arg, more)
+                wrong_arguments(
+                    names,
+                    levels,
+                    here,
+                    log,
+                    out,
+                    at,
+                    Rule::ReduceRule,
+                    tree,
+                    arg,
+                    more,
+                )
             }
         }
-        _ => not_reduced(names, levels, here, log, out, at, tree, arg, more),
+        _ => wrong_arguments(
+            names,
+            levels,
+            here,
+            log,
+            out,
+            at,
+            Rule::ReduceRule,
+            tree,
+            arg,
+            more,
+        ),
     }
 }
 
@@ -361,8 +373,12 @@ fn of_array(
     if !is_bound(attribute) {
         return wrong_call(names, levels, here, log, out, first, tree, arg, more);
     }
-    let dimensions = dimensions_in(log, out, prefix_subtype(prefix))?;
-    mentioned(out, prefix)?;
+    let Ok(()) = mentioned(out, prefix) else {
+        return Err(AllocError);
+    };
+    let Ok(dimensions) = dimensions_in(log, out, prefix_subtype(prefix)) else {
+        return Err(AllocError);
+    };
     bound_with(
         names,
         levels,
@@ -624,7 +640,10 @@ fn parts(
     let mut d = before;
     let mut next = more;
     'parts: while let Some(cell) = tree.cell(next) {
-        d = next_part(names, levels, here, log, out, d, tree, cell.first)?;
+        let Ok(next_d) = next_part(names, levels, here, log, out, d, tree, cell.first) else {
+            return Err(AllocError);
+        };
+        d = next_d;
         next = cell.rest;
     }
     Ok(d)
@@ -646,8 +665,13 @@ pub fn name(
     ensures { Judges (spec.name names.now (primaries.inside names.now levels) here.now (the_name (part_at tree.now.nodes id)) log.old) (joined out.old) result log.new (joined out.new) }
 {
     let whole = tree.name(id);
-    let d = stands_for(names, here, log, out, whole.first)?;
-    match parts(names, levels, here, log, out, d, tree, whole.parts)? {
+    let Ok(d) = stands_for(names, here, log, out, whole.first) else {
+        return Err(AllocError);
+    };
+    let Ok(given) = parts(names, levels, here, log, out, d, tree, whole.parts) else {
+        return Err(AllocError);
+    };
+    match given {
         None => Ok(None),
         Some(denoted) => settled_attribute(log, out, denoted),
     }
@@ -715,7 +739,10 @@ pub fn value_named(
 ) -> Result<Option<Found>, AllocError>
     ensures { Judges (spec.value_named names.now (primaries.inside names.now levels) here.now (the_name (part_at tree.now.nodes id)) log.old) (joined out.old) result log.new (joined out.new) }
 {
-    match name(names, levels, here, log, out, tree, id)? {
+    let Ok(given) = name(names, levels, here, log, out, tree, id) else {
+        return Err(AllocError);
+    };
+    match given {
         None => Ok(None),
         Some(denoted) => match valued_by(names, levels, here, log, out, denoted, tree)? {
             None => Ok(None),

@@ -63,9 +63,6 @@ decreases-whole_names::wrong_arguments l = 100 * l.levels + 86
 abbrev pub decreases-whole_names::array_reduced : goal.decreases-whole_names::array_reduced
 decreases-whole_names::array_reduced l = 100 * l.levels + 87
 
-abbrev pub decreases-whole_names::not_reduced : goal.decreases-whole_names::not_reduced
-decreases-whole_names::not_reduced l = 100 * l.levels + 87
-
 abbrev pub decreases-whole_names::reduced_with : goal.decreases-whole_names::reduced_with
 decreases-whole_names::reduced_with l = 100 * l.levels + 88
 
@@ -385,6 +382,9 @@ decreases-iterations::entered_with l = 100 * l.levels + 66
 abbrev pub decreases-iterations::entered : goal.decreases-iterations::entered
 decreases-iterations::entered l = 100 * max l.levels l.inner + 67
 
+abbrev pub decreases-iterations::folded_within : goal.decreases-iterations::folded_within
+decreases-iterations::folded_within l = 100 * l.levels + 85
+
 abbrev pub decreases-iterations::sequence_folded : goal.decreases-iterations::sequence_folded
 decreases-iterations::sequence_folded l = 100 * l.levels + 86
 
@@ -430,13 +430,13 @@ abbrev pub decreases-record_aggregates::record_aggregate : goal.decreases-record
 decreases-record_aggregates::record_aggregate l = 100 * l.levels + 52
 
 abbrev pub decreases-array_aggregates::no_aggregate : goal.decreases-array_aggregates::no_aggregate
-decreases-array_aggregates::no_aggregate l = 100 * l.levels + 46
+decreases-array_aggregates::no_aggregate l = 100 * l.levels + 45
 
 abbrev pub decreases-array_aggregates::inner_aggregate : goal.decreases-array_aggregates::inner_aggregate
-decreases-array_aggregates::inner_aggregate l = 100 * l.levels + 47
+decreases-array_aggregates::inner_aggregate l = 100 * l.levels + 46
 
 abbrev pub decreases-array_aggregates::component : goal.decreases-array_aggregates::component
-decreases-array_aggregates::component l = 100 * l.levels + 48
+decreases-array_aggregates::component l = 100 * l.levels + 47
 
 abbrev pub decreases-array_aggregates::array_choice : goal.decreases-array_aggregates::array_choice
 decreases-array_aggregates::array_choice l = 100 * l.levels + 46
@@ -446,6 +446,9 @@ decreases-array_aggregates::array_choices l = 100 * l.levels + 47
 
 abbrev pub decreases-array_aggregates::chosen_assoc : goal.decreases-array_aggregates::chosen_assoc
 decreases-array_aggregates::chosen_assoc l = 100 * l.levels + 49
+
+abbrev pub decreases-array_aggregates::component_where : goal.decreases-array_aggregates::component_where
+decreases-array_aggregates::component_where l = 100 * l.levels + 48
 
 abbrev pub decreases-array_aggregates::each_assoc : goal.decreases-array_aggregates::each_assoc
 decreases-array_aggregates::each_assoc l = 100 * l.levels + 49
