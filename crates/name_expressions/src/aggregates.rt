@@ -25,6 +25,7 @@ use name_rules::log::{Log, Rule};
 use name_rules::scope::{Context, Names};
 use name_rules::types::{Subtype, Wanted};
 use name_values::arrays::dimensions_of;
+use name_values::attempt;
 use name_values::logs::not_given;
 use name_values::names::{cells_in, component_of, is_record};
 use std::alloc::AllocError;
@@ -49,22 +50,16 @@ fn composite_at(
     ensures { Gives (spec.composite_at names.now (primaries.inside names.now levels) here.now bracket number from log.old (types.shape_in log.old number) (of_contents (part_at tree.now.nodes) contents) log.old) (parts out.old) result log.new (parts out.new) }
 {
     if is_record(log, number) {
-        let Ok(fields) = fields_of(log, out, number) else {
-            return Err(AllocError);
-        };
+        let fields = attempt!(fields_of(log, out, number));
         let cells = cells_in(log, Subtype::Composite(number));
         return record_aggregate(
             names, levels, here, log, out, bracket, &fields, cells, tree, contents,
         );
     }
-    let Ok(dimensions) = dimensions_of(log, out, number) else {
-        return Err(AllocError);
-    };
+    let dimensions = attempt!(dimensions_of(log, out, number));
     match component_of(log, number) {
         None => {
-            let Ok(()) = out.nothing() else {
-                return Err(AllocError);
-            };
+            attempt!(out.nothing());
             not_given(log, out, bracket, Rule::WrongType)
         }
         Some(subtype) => {
@@ -103,9 +98,7 @@ fn exprs_alone(
 {
     let mut next = more;
     'exprs: while let Some(cell) = tree.cell(next) {
-        let Ok(()) = judged_alone(names, levels, here, log, out, tree, cell.first) else {
-            return Err(AllocError);
-        };
+        attempt!(judged_alone(names, levels, here, log, out, tree, cell.first));
         next = cell.rest;
     }
     Ok(())
@@ -153,9 +146,7 @@ fn assocs_alone(
     let mut next = more;
     'assocs: while let Some(cell) = tree.cell(next) {
         let value = assoc_value(tree, cell.first);
-        let Ok(()) = judged_alone(names, levels, here, log, out, tree, value) else {
-            return Err(AllocError);
-        };
+        attempt!(judged_alone(names, levels, here, log, out, tree, value));
         next = cell.rest;
     }
     Ok(())
@@ -209,13 +200,9 @@ fn misplaced(
     ensures { Judges (where_clean (spec.contents_alone names.now (primaries.inside names.now levels) here.now (of_contents (part_at tree.now.nodes) contents)) (λ u. fault bracket WrongType) log.old) (parts out.old) result log.new (parts out.new) }
 {
     let before = log.faults.len();
-    let Ok(()) = contents_alone(names, levels, here, log, out, tree, contents) else {
-        return Err(AllocError);
-    };
+    attempt!(contents_alone(names, levels, here, log, out, tree, contents));
     if log.faults.len() != before {
-        let Ok(()) = out.nothing() else {
-            return Err(AllocError);
-        };
+        attempt!(out.nothing());
         return Ok(None);
     }
     no_expression(log, out, bracket, Rule::WrongType)
@@ -240,33 +227,25 @@ fn aggregate_of(
     let first = bracket;
     match want {
         Wanted::Composite(number) => {
-            let Ok(good) = composite_at(
+            if attempt!(composite_at(
                 names, levels, here, log, out, bracket, number, 0, tree, contents,
-            ) else {
-                return Err(AllocError);
-            };
-            if good {
+            )) {
                 Ok(Some(Found::Composite { first, number }))
             } else {
                 Ok(None)
             }
         }
         Wanted::Rest { number, from } => {
-            let Ok(good_given) = composite_at(
+            if attempt!(composite_at(
                 names, levels, here, log, out, bracket, number, from, tree, contents,
-            ) else {
-                return Err(AllocError);
-            };
-            if good_given {
+            )) {
                 Ok(Some(Found::Rest { first }))
             } else {
                 Ok(None)
             }
         }
         Wanted::Unknown => {
-            let Ok(()) = out.nothing() else {
-                return Err(AllocError);
-            };
+            attempt!(out.nothing());
             Ok(None)
         }
         _ => misplaced(names, levels, here, log, out, bracket, tree, contents),

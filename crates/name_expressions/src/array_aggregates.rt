@@ -34,6 +34,7 @@ use name_rules::log::{Dimension, Log, Rule};
 use name_rules::scope::{Context, Names, What};
 use name_rules::types::{Kind, Subtype, Wanted};
 use name_values::arrays::array_cells;
+use name_values::attempt;
 use name_values::logs::{also_all, not_given};
 use name_values::scope::{copied, with_entry};
 use name_values::shapes::is_aggregate;
@@ -68,10 +69,7 @@ fn no_aggregate(
 ) -> Result<bool, AllocError>
     ensures { Gives (spec.no_aggregate names.now (primaries.inside names.now levels) here.now (the_expr (part_at tree.now.nodes id)) log.old) (parts out.old) result log.new (parts out.new) }
 {
-    let Ok(given) = expr(names, levels, here, log, out, Wanted::Other, tree, id) else {
-        return Err(AllocError);
-    };
-    match given {
+    match attempt!(expr(names, levels, here, log, out, Wanted::Other, tree, id)) {
         None => Ok(false),
         Some(_) => not_given(log, out, first_tokens::of_expr(tree, id), Rule::WrongType),
     }
@@ -83,7 +81,7 @@ fn inner_value(out: &mut Parts, found: Found) -> Result<bool, AllocError>
 {
     match found {
         Found::Rest { .. } => {
-            out.cells()?;
+            attempt!(out.cells());
             Ok(true)
         }
         _ => Ok(false),
@@ -108,10 +106,7 @@ fn inner_aggregate(
         return no_aggregate(names, levels, here, log, out, tree, id);
     }
     let want = Wanted::Rest { number, from };
-    let Ok(given) = expr(names, levels, here, log, out, want, tree, id) else {
-        return Err(AllocError);
-    };
-    match given {
+    match attempt!(expr(names, levels, here, log, out, want, tree, id)) {
         None => Ok(false),
         Some(found) => inner_value(out, found),
     }
@@ -165,7 +160,7 @@ fn also_chosen(
             Ok(())
         }
         Some(values) => {
-            also_all(out)?;
+            attempt!(also_all(out));
             choosing
                 .ranges
                 .push((i128::from(values.low), i128::from(values.high)))
@@ -191,23 +186,34 @@ fn array_choice(
 {
     match tree.choice(id) {
         Choice::Value(value) => {
-            let Ok(values) = chosen_value(names, levels, here, log, out, Some(kind), tree, value)
-            else {
-                return Err(AllocError);
-            };
+            let values = attempt!(chosen_value(
+                names,
+                levels,
+                here,
+                log,
+                out,
+                Some(kind),
+                tree,
+                value
+            ));
             also_chosen(out, choosing, values)
         }
         Choice::Span { low, high } => {
-            let Ok(values) = chosen_span(names, levels, here, log, out, Some(kind), tree, low, high)
-            else {
-                return Err(AllocError);
-            };
+            let values = attempt!(chosen_span(
+                names,
+                levels,
+                here,
+                log,
+                out,
+                Some(kind),
+                tree,
+                low,
+                high
+            ));
             also_chosen(out, choosing, values)
         }
         Choice::Others(at) => {
-            let Ok(()) = others_last(log, alone && last, at) else {
-                return Err(AllocError);
-            };
+            attempt!(others_last(log, alone && last, at));
             choosing.rest = true;
             Ok(())
         }
@@ -232,11 +238,9 @@ fn array_choices(
 {
     let mut next = more;
     'choices: while let Some(cell) = tree.cell(next) {
-        let Ok(()) = array_choice(
+        attempt!(array_choice(
             names, levels, here, log, out, kind, alone, last, choosing, tree, cell.first,
-        ) else {
-            return Err(AllocError);
-        };
+        ));
         next = cell.rest;
     }
     Ok(())
@@ -263,10 +267,8 @@ fn chosen_assoc(
 {
     let alone = is_alone(tree, more);
     let kind = row.dimension.kind;
-    let Ok(mut choosing) = no_choice(out) else {
-        return Err(AllocError);
-    };
-    let Ok(()) = array_choice(
+    let mut choosing = attempt!(no_choice(out));
+    attempt!(array_choice(
         names,
         levels,
         here,
@@ -278,10 +280,8 @@ fn chosen_assoc(
         &mut choosing,
         tree,
         first,
-    ) else {
-        return Err(AllocError);
-    };
-    let Ok(()) = array_choices(
+    ));
+    attempt!(array_choices(
         names,
         levels,
         here,
@@ -293,12 +293,8 @@ fn chosen_assoc(
         &mut choosing,
         tree,
         more,
-    ) else {
-        return Err(AllocError);
-    };
-    let Ok(given) = component(names, levels, here, log, out, row, tree, value) else {
-        return Err(AllocError);
-    };
+    ));
+    let given = attempt!(component(names, levels, here, log, out, row, tree, value));
     chosen_given(out, row.dimension, row.apart, placing, choosing, given)
 }
 
@@ -318,12 +314,8 @@ fn component_where(
 ) -> Result<bool, AllocError>
     ensures { Gives (rows.component names.now (primaries.inside names.now levels) row (scopes.with_entry here.now (symbols.symbol names.now index) what) (the_expr (part_at tree.now.nodes value)) log.old) (parts out.old) result log.new (parts out.new) }
 {
-    let Ok(mut inner) = copied(here, out) else {
-        return Err(AllocError);
-    };
-    let Ok(()) = with_entry(&mut inner, symbol(names, index), what) else {
-        return Err(AllocError);
-    };
+    let mut inner = attempt!(copied(here, out));
+    attempt!(with_entry(&mut inner, symbol(names, index), what));
     component(names, levels, &inner, log, out, row, tree, value)
 }
 
@@ -350,7 +342,7 @@ fn each_assoc(
     let _last = last;
     let _at = at;
     let kind = row.dimension.kind;
-    let Ok(bounds) = static_range(
+    let bounds = attempt!(static_range(
         names,
         levels,
         here,
@@ -360,20 +352,13 @@ fn each_assoc(
         Some(kind),
         tree,
         range,
-    ) else {
-        return Err(AllocError);
-    };
-    let Ok(span) = of_index_type(log, out, kind, first_tokens::of_range(tree, range), bounds) else {
-        return Err(AllocError);
-    };
-    let Ok(parameter) = new_parameter(log) else {
-        return Err(AllocError);
-    };
+    ));
+    let span = attempt!(of_index_type(log, out, kind, first_tokens::of_range(tree, range), bounds));
+    let parameter = attempt!(new_parameter(log));
     let what = index_what(out, parameter, span);
-    let Ok(given) = component_where(names, levels, here, log, out, index, what, row, tree, value)
-    else {
-        return Err(AllocError);
-    };
+    let given = attempt!(component_where(
+        names, levels, here, log, out, index, what, row, tree, value
+    ));
     iterated_given(
         out,
         row.dimension,
@@ -432,11 +417,9 @@ fn array_assocs(
     let mut next = more;
     'assocs: while let Some(cell) = tree.cell(next) {
         let last = is_final(tree, cell.rest);
-        let Ok(()) = array_assoc(
+        attempt!(array_assoc(
             names, levels, here, log, out, row, last, placing, tree, cell.first,
-        ) else {
-            return Err(AllocError);
-        };
+        ));
         next = cell.rest;
     }
     Ok(())
@@ -461,12 +444,8 @@ fn array_values(
     let mut index = place;
     let mut next = more;
     'values: while let Some(cell) = tree.cell(next) {
-        let Ok(given) = component(names, levels, here, log, out, row, tree, cell.first) else {
-            return Err(AllocError);
-        };
-        let Ok(()) = position_given(out, row.dimension, row.apart, index, placing, given) else {
-            return Err(AllocError);
-        };
+        let given = attempt!(component(names, levels, here, log, out, row, tree, cell.first));
+        attempt!(position_given(out, row.dimension, row.apart, index, placing, given));
         if index == i128::MAX {
             return Err(AllocError);
         }
@@ -546,9 +525,7 @@ fn array_rest(
     match others {
         None => Ok(()),
         Some(id) => {
-            let Ok(given) = component(names, levels, here, log, out, row, tree, id) else {
-                return Err(AllocError);
-            };
+            let given = attempt!(component(names, levels, here, log, out, row, tree, id));
             with_rest(out, placing, given)
         }
     }
@@ -701,9 +678,7 @@ pub fn array_at(
     let place = from as usize;
     match nth_dimension(dimensions, place) {
         None => {
-            let Ok(()) = out.nothing() else {
-                return Err(AllocError);
-            };
+            attempt!(out.nothing());
             not_given(log, out, bracket, Rule::WrongType)
         }
         Some(dimension) => {

@@ -14,6 +14,7 @@ ghost use Rattle.typed_parts.specs.Stack.{parts};
 use ada_base::Items;
 use ada_typed::{Iterated, Leaf, Run};
 use name_rules::log::{Dimension, Field, Log};
+use name_values::attempt;
 use name_values::names::cells_in;
 use std::alloc::AllocError;
 use typed_parts::Parts;
@@ -38,10 +39,10 @@ fn also_run(out: &mut Parts, first: u128, count: u128, apart: u64) -> Result<(),
 fn association(out: &mut Parts, iterated: Option<Iterated>) -> Result<(), AllocError>
     ensures { OnOk result (parts out.new ≡ spec.with_value (as_runs (top (parts out.old))) iterated (third (parts out.old)) (fourth (parts out.old)) (second (parts out.old)) ∷ pop (pop (pop (pop (parts out.old))))) }
 {
-    out.rotate()?;
-    out.turn()?;
-    out.rotate()?;
-    out.association(iterated)?;
+    attempt!(out.rotate());
+    attempt!(out.turn());
+    attempt!(out.rotate());
+    attempt!(out.association(iterated));
     out.also()
 }
 
@@ -59,12 +60,12 @@ pub fn field_association(
         out.leave_out();
         return Ok(false);
     }
-    out.nothing()?;
-    out.swap()?;
-    out.nothing()?;
+    attempt!(out.nothing());
+    attempt!(out.swap());
+    attempt!(out.nothing());
     let cells = cells_in(log, field.subtype);
-    also_run(out, u128::from(field.offset), 1, cells)?;
-    association(out, None)?;
+    attempt!(also_run(out, u128::from(field.offset), 1, cells));
+    attempt!(association(out, None));
     Ok(true)
 }
 
@@ -118,7 +119,7 @@ fn also_span(
     requires within { spec.is_within dimension range ≡ true }
     ensures { OnOk result (parts out.new ≡ part.LeafCons (leaf.Run (spec.span_run dimension apart range)) (top (parts out.old)) ∷ pop (parts out.old)) }
 {
-    let first = cells_before(dimension, apart, range)?;
+    let first = attempt!(cells_before(dimension, apart, range));
     let count = count_of(dimension, range);
     also_run(out, first, count, apart)
 }
@@ -142,7 +143,7 @@ fn also_range(
     if !within {
         return Ok(false);
     }
-    also_span(out, dimension, apart, range)?;
+    attempt!(also_span(out, dimension, apart, range));
     Ok(true)
 }
 
@@ -156,11 +157,11 @@ fn runs(
 ) -> Result<bool, AllocError>
     ensures { IfOk result (λ b. (spec.runs_of dimension apart ranges ≡ runs_if b (as_runs (top (parts out.new)))) × (pop (parts out.new) ≡ parts out.old)) }
 {
-    out.nothing()?;
+    attempt!(out.nothing());
     let mut left = ranges;
     let mut within = true;
     'spans: while let Some(range) = left.pop() {
-        within = also_range(out, dimension, apart, range, within)?;
+        within = attempt!(also_range(out, dimension, apart, range, within));
     }
     Ok(within)
 }
@@ -183,12 +184,12 @@ pub fn placed_value(
         out.leave_out();
         return Ok(false);
     }
-    if !runs(out, dimension, apart, ranges)? {
+    if !attempt!(runs(out, dimension, apart, ranges)) {
         out.leave_out();
         out.leave_out();
         out.leave_out();
         return Ok(false);
     }
-    association(out, iterated)?;
+    attempt!(association(out, iterated));
     Ok(true)
 }

@@ -16,6 +16,7 @@ use name_rules::found::{Attribute, Denoted, Found, Place, Prefix};
 use name_rules::log::{Dimension, Log, Rule};
 use name_rules::types::{Kind, Scalar, Subtype};
 use name_values::arrays::dimensions_of;
+use name_values::attempt;
 use name_values::logs::{also_all, cleared};
 use name_values::names::{denoted_first, dimension_at, wrong_name};
 use name_values::putting::static_of_kind;
@@ -102,7 +103,7 @@ pub fn scalar_bound(
     let kind = scalar.kind;
     match attribute {
         Attribute::First => {
-            cleared(out)?;
+            attempt!(cleared(out));
             Ok(Some(Denoted::Value(Found::Static {
                 first,
                 kind,
@@ -110,7 +111,7 @@ pub fn scalar_bound(
             })))
         }
         Attribute::Last => {
-            cleared(out)?;
+            attempt!(cleared(out));
             Ok(Some(Denoted::Value(Found::Static {
                 first,
                 kind,
@@ -167,7 +168,7 @@ pub fn mentioned(out: &mut Parts, prefix: Prefix) -> Result<(), AllocError>
 {
     match prefix {
         Prefix::Object(_) => {
-            out.turn()?;
+            attempt!(out.turn());
             out.indexes()
         }
         _ => cleared(out),
@@ -234,7 +235,7 @@ fn bound_of(
     ensures { Judges (bound_of first prefix (top (parts out.old)) attribute log.old) (pop (parts out.old)) result log.new (parts out.new) }
 {
     let dimension = first_dimension(log, prefix_subtype(prefix));
-    mentioned(out, prefix)?;
+    attempt!(mentioned(out, prefix));
     bound_in(log, out, first, attribute, dimension)
 }
 
@@ -298,9 +299,9 @@ fn dimension_given(
         out.leave_out();
         return wrong_name(log, out, first_of(given), Rule::WrongType);
     }
-    let value = static_of_kind(log, out, own_kind(given), given)?;
-    mentions(out, given)?;
-    also_all(out)?;
+    let value = attempt!(static_of_kind(log, out, own_kind(given), given));
+    attempt!(mentions(out, given));
+    attempt!(also_all(out));
     match value {
         None => Ok(None),
         Some(value) => {
@@ -333,7 +334,7 @@ pub fn one_dimension(
 {
     match operands.as_slice() {
         [given] => {
-            out.apart()?;
+            attempt!(out.apart());
             out.leave_out();
             dimension_given(log, out, first, attribute, dimensions, *given)
         }
@@ -357,15 +358,15 @@ fn made_of_one(out: &mut Parts, first: u32, kind: Kind, one: One) -> Result<Deno
 {
     match one {
         One::Image => {
-            out.piece_image(class_of(kind))?;
-            out.nothing()?;
-            out.before()?;
+            attempt!(out.piece_image(class_of(kind)));
+            attempt!(out.nothing());
+            attempt!(out.before());
             Ok(Denoted::Value(Found::Text { first }))
         }
         One::Step(op) => {
-            out.nothing()?;
-            out.static_value(first, 1, false)?;
-            out.binary(first, op, class_of(kind))?;
+            attempt!(out.nothing());
+            attempt!(out.static_value(first, 1, false));
+            attempt!(out.binary(first, op, class_of(kind)));
             Ok(Denoted::Value(Found::Scalar {
                 first,
                 kind,
@@ -385,10 +386,10 @@ fn one_given(
 ) -> Result<Option<Denoted>, AllocError>
     ensures { Judges (spec.one_given kind (one_made one first kind) (found given (top (parts out.old))) log.old) (pop (parts out.old)) result log.new (parts out.new) }
 {
-    if !asked(log, out, kind, given)? {
+    if !attempt!(asked(log, out, kind, given)) {
         return Ok(None);
     }
-    let denoted = made_of_one(out, first, kind, one)?;
+    let denoted = attempt!(made_of_one(out, first, kind, one));
     Ok(Some(denoted))
 }
 
@@ -411,7 +412,7 @@ pub fn one_named(
         Some(name) => wrong_name(log, out, name, Rule::Unknown),
         None => match operands.as_slice() {
             [given] => {
-                out.apart()?;
+                attempt!(out.apart());
                 out.leave_out();
                 one_given(log, out, first, kind, one, *given)
             }
@@ -432,14 +433,14 @@ fn two_given(
 ) -> Result<Option<Denoted>, AllocError>
     ensures { Judges (spec.two_given kind (spec.extreme first kind op) (found left (top (parts out.old))) (found right (second (parts out.old))) log.old) (pop (pop (parts out.old))) result log.new (parts out.new) }
 {
-    let x = asked(log, out, kind, left)?;
-    out.swap()?;
-    let y = asked(log, out, kind, right)?;
+    let x = attempt!(asked(log, out, kind, left));
+    attempt!(out.swap());
+    let y = attempt!(asked(log, out, kind, right));
     if !x || !y {
         out.leave_out();
         return Ok(None);
     }
-    out.binary(first, op, class_of(kind))?;
+    attempt!(out.binary(first, op, class_of(kind)));
     Ok(Some(Denoted::Value(Found::Scalar {
         first,
         kind,
@@ -466,8 +467,8 @@ pub fn two_named(
         Some(name) => wrong_name(log, out, name, Rule::Unknown),
         None => match operands.as_slice() {
             [left, right] => {
-                out.apart()?;
-                out.apart()?;
+                attempt!(out.apart());
+                attempt!(out.apart());
                 out.leave_out();
                 two_given(log, out, first, kind, op, *left, *right)
             }

@@ -21,6 +21,7 @@ use name_rules::found::{Attribute, Denoted, Found};
 use name_rules::log::{Dimension, Log, Rule};
 use name_rules::scope::{Context, Names};
 use name_rules::types::{Kind, Scalar};
+use name_values::attempt;
 use name_values::logs::cleared;
 use name_values::names::wrong_name;
 use name_values::types::is_integer;
@@ -306,7 +307,7 @@ pub fn scalar_with(
             arg,
             more,
         ),
-        _ => match scalar_bound(log, out, first, scalar, attribute)? {
+        _ => match attempt!(scalar_bound(log, out, first, scalar, attribute)) {
             Some(_) => wrong_call(names, levels, here, log, out, first, tree, arg, more),
             None => Ok(None),
         },

@@ -16,6 +16,7 @@ use name_rules::found::{Found, Place};
 use name_rules::log::{Log, Rule};
 use name_rules::scope::{Names, Target};
 use name_rules::types::{Subtype, Wanted};
+use name_values::attempt;
 use name_values::logs::{breaks, cleared};
 use name_values::symbols::text;
 use name_values::types::typed_scalar;
@@ -32,8 +33,8 @@ pub fn no_expression(
 ) -> Result<Option<Found>, AllocError>
     ensures { Judges (fault at rule log.old) (parts out.old) result log.new (parts out.new) }
 {
-    out.nothing()?;
-    breaks(log, at, rule)?;
+    attempt!(out.nothing());
+    attempt!(breaks(log, at, rule));
     Ok(None)
 }
 
@@ -47,10 +48,10 @@ fn grouped_scalar(
 {
     match kind_of(given) {
         Some(kind) => {
-            if !asked(log, out, kind, given)? {
+            if !attempt!(asked(log, out, kind, given)) {
                 return Ok(None);
             }
-            out.group()?;
+            attempt!(out.group());
             Ok(Some(Found::Scalar {
                 first: bracket,
                 kind,
@@ -60,7 +61,7 @@ fn grouped_scalar(
         None => match composite_in(given) {
             None => Ok(None),
             Some(number) => {
-                if !composite_asked(log, out, number, given)? {
+                if !attempt!(composite_asked(log, out, number, given)) {
                     return Ok(None);
                 }
                 Ok(Some(Found::Composite {
@@ -90,7 +91,7 @@ pub fn grouped(
             literal: false,
         })),
         Found::Open { limits, .. } => {
-            out.group()?;
+            attempt!(out.group());
             Ok(Some(Found::Open { first, limits }))
         }
         Found::Static { kind, value, .. } => Ok(Some(Found::Static { first, kind, value })),
@@ -101,7 +102,7 @@ pub fn grouped(
                 ..
             },
         ) => {
-            cleared(out)?;
+            attempt!(cleared(out));
             Ok(Some(Found::Static {
                 first,
                 kind: scalar.kind,
@@ -125,11 +126,11 @@ pub fn target_at(
     match target {
         Target::Nothing => no_expression(log, out, at, Rule::NotVisible),
         Target::Faulty => {
-            out.nothing()?;
+            attempt!(out.nothing());
             Ok(None)
         }
         Target::Of(Subtype::Scalar(scalar)) => {
-            out.target(at, typed_scalar(scalar))?;
+            attempt!(out.target(at, typed_scalar(scalar)));
             Ok(Some(Found::Scalar {
                 first: at,
                 kind: scalar.kind,
@@ -137,7 +138,7 @@ pub fn target_at(
             }))
         }
         Target::Of(Subtype::Composite(number)) => {
-            out.whole_target(at, number)?;
+            attempt!(out.whole_target(at, number));
             Ok(Some(Found::Composite { first: at, number }))
         }
     }
@@ -148,12 +149,12 @@ pub fn target_at(
 fn piece(out: &mut Parts, text: &[u8]) -> Result<(), AllocError>
     ensures { OnOk result (parts out.new ≡ part.APiece (typed.Text text.now) ∷ parts out.old) }
 {
-    out.nothing()?;
+    attempt!(out.nothing());
     let mut i = text.len();
     'bytes: while i > 0 {
         i -= 1;
         match text.get(i) {
-            Some(byte) => out.also_leaf(Leaf::Byte(*byte))?,
+            Some(byte) => attempt!(out.also_leaf(Leaf::Byte(*byte))),
             None => (),
         }
     }
@@ -172,9 +173,9 @@ pub fn text_at(
 {
     match want {
         Wanted::Text => {
-            out.nothing()?;
-            piece(out, text(names, at))?;
-            out.also()?;
+            attempt!(out.nothing());
+            attempt!(piece(out, text(names, at)));
+            attempt!(out.also());
             Ok(Some(Found::Text { first: at }))
         }
         _ => no_expression(log, out, at, Rule::WrongType),

@@ -25,6 +25,7 @@ use name_values::actuals::{
     Calling, begun_call, call_given, complete, given_once, gives_in, next, parameter_of, taken_at,
     takes_in, variable_given, with_actual,
 };
+use name_values::attempt;
 use name_values::logs::cleared;
 use name_values::names::wrong_name;
 use name_values::operands::{one_operand, with_operand};
@@ -48,23 +49,15 @@ fn actual_by(
 {
     match taken.mode {
         Mode::In => {
-            let Ok(good) = value_for(names, levels, here, log, out, taken.subtype, tree, id) else {
-                return Err(AllocError);
-            };
-            if !good {
+            if !attempt!(value_for(names, levels, here, log, out, taken.subtype, tree, id)) {
                 return Ok(false);
             }
-            let Ok(()) = out.actual_in(taken.object) else {
-                return Err(AllocError);
-            };
+            attempt!(out.actual_in(taken.object));
             Ok(true)
         }
         _ => {
             let want = wanted_of(taken.subtype);
-            let Ok(given_given) = expr(names, levels, here, log, out, want, tree, id) else {
-                return Err(AllocError);
-            };
-            match given_given {
+            match attempt!(expr(names, levels, here, log, out, want, tree, id)) {
                 Some(given) => variable_given(log, out, taken, given),
                 None => Ok(false),
             }
@@ -90,12 +83,8 @@ fn actual_for(
     match taken {
         Some(taken) => actual_by(names, levels, here, log, out, taken, tree, id),
         None => {
-            let Ok(()) = judged_alone(names, levels, here, log, out, tree, id) else {
-                return Err(AllocError);
-            };
-            let Ok(()) = out.nothing() else {
-                return Err(AllocError);
-            };
+            attempt!(judged_alone(names, levels, here, log, out, tree, id));
+            attempt!(out.nothing());
             Ok(false)
         }
     }
@@ -118,19 +107,11 @@ fn argument(
 {
     let arg = tree.arg(id);
     let first = first_tokens::of_arg(tree, id);
-    let Ok(index) = parameter_of(names, log, taken, calling.count, calling.named, arg.formal) else {
-        return Err(AllocError);
-    };
-    let Ok(()) = given_once(log, first, calling, index) else {
-        return Err(AllocError);
-    };
+    let index = attempt!(parameter_of(names, log, taken, calling.count, calling.named, arg.formal));
+    attempt!(given_once(log, first, calling, index));
     let parameter = taken_at(taken, index);
-    let Ok(given) = actual_for(names, levels, here, log, out, parameter, tree, arg.value) else {
-        return Err(AllocError);
-    };
-    let Ok(good) = with_actual(out, index, calling.good, given) else {
-        return Err(AllocError);
-    };
+    let given = attempt!(actual_for(names, levels, here, log, out, parameter, tree, arg.value));
+    let good = attempt!(with_actual(out, index, calling.good, given));
     next(calling, arg.formal, index, first, good)
 }
 
@@ -150,11 +131,9 @@ fn arguments(
 {
     let mut next = more;
     'each: while let Some(cell) = tree.cell(next) {
-        let Ok(()) = argument(
+        attempt!(argument(
             names, levels, here, log, out, taken, calling, tree, cell.first,
-        ) else {
-            return Err(AllocError);
-        };
+        ));
         next = cell.rest;
     }
     Ok(())
@@ -179,9 +158,7 @@ fn given_arguments(
     match arg {
         None => Ok(()),
         Some(arg) => {
-            let Ok(()) = argument(names, levels, here, log, out, taken, calling, tree, arg) else {
-                return Err(AllocError);
-            };
+            attempt!(argument(names, levels, here, log, out, taken, calling, tree, arg));
             arguments(names, levels, here, log, out, taken, calling, tree, more)
         }
     }
@@ -251,7 +228,7 @@ fn operand(
     ensures { IfOk result (λ all. (operand_of names.now (primaries.inside names.now levels) here.now (operands_of good found.old (top (parts out.old))) (the_arg (part_at tree.now.nodes id)) log.old ≡ (operands_of all found.new (top (parts out.new)), log.new)) × (pop (parts out.new) ≡ pop (parts out.old))) }
 {
     let arg = tree.arg(id);
-    let Ok(x) = expr(
+    let x = attempt!(expr(
         names,
         levels,
         here,
@@ -260,9 +237,7 @@ fn operand(
         Wanted::Other,
         tree,
         arg.value,
-    ) else {
-        return Err(AllocError);
-    };
+    ));
     with_operand(out, found, good, x)
 }
 
@@ -283,11 +258,7 @@ fn operands(
     let mut all = good;
     let mut next = more;
     'each: while let Some(cell) = tree.cell(next) {
-        let Ok(next_all) = operand(names, levels, here, log, out, found, all, tree, cell.first)
-        else {
-            return Err(AllocError);
-        };
-        all = next_all;
+        all = attempt!(operand(names, levels, here, log, out, found, all, tree, cell.first));
         next = cell.rest;
     }
     Ok(all)
@@ -309,9 +280,7 @@ pub fn all_operands(
 ) -> Result<bool, AllocError>
     ensures { IfOk result (λ all. (spec.operands names.now (primaries.inside names.now levels) here.now (operands_of true found.old (top (parts out.old))) (syntax.AlsoArg (the_arg (part_at tree.now.nodes arg)) (the_args (part_at tree.now.nodes more))) log.old ≡ (operands_of all found.new (top (parts out.new)), log.new)) × (pop (parts out.new) ≡ pop (parts out.old))) }
 {
-    let Ok(all) = operand(names, levels, here, log, out, found, true, tree, arg) else {
-        return Err(AllocError);
-    };
+    let all = attempt!(operand(names, levels, here, log, out, found, true, tree, arg));
     operands(names, levels, here, log, out, found, all, tree, more)
 }
 

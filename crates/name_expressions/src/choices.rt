@@ -21,6 +21,7 @@ use name_rules::found::{Denoted, Found};
 use name_rules::log::{Dimension, Log};
 use name_rules::scope::{Context, Names};
 use name_rules::types::{Kind, Scalar, Wanted};
+use name_values::attempt;
 use name_values::coverage::{Choosing, Covering, covers_others, maybe_covered};
 use name_values::statics::{
     Chosen, range_values, static_bounds, static_checked, static_name, values_of,
@@ -81,18 +82,10 @@ fn static_constrained(
 ) -> Result<Option<Dimension>, AllocError>
     ensures { Judges (spec.static_range (primaries.inside names.now levels) here.now must_hold want (syntax.Constrained (the_name (part_at tree.now.nodes name)) (the_simple (part_at tree.now.nodes low)) (the_simple (part_at tree.now.nodes high))) log.old) (parts out.old) result log.new (parts out.new) }
 {
-    let Ok(denoted) = name_inside(names, levels, here, log, out, tree, name) else {
-        return Err(AllocError);
-    };
-    let Ok(scalar) = scalar_where(log, out, denoted) else {
-        return Err(AllocError);
-    };
-    let Ok(x) = simple(names, levels, here, log, out, Wanted::Other, tree, low) else {
-        return Err(AllocError);
-    };
-    let Ok(y) = simple(names, levels, here, log, out, Wanted::Other, tree, high) else {
-        return Err(AllocError);
-    };
+    let denoted = attempt!(name_inside(names, levels, here, log, out, tree, name));
+    let scalar = attempt!(scalar_where(log, out, denoted));
+    let x = attempt!(simple(names, levels, here, log, out, Wanted::Other, tree, low));
+    let y = attempt!(simple(names, levels, here, log, out, Wanted::Other, tree, high));
     let first = first_tokens::of_name(tree, name);
     let _want = want;
     checked_where(log, out, first, must_hold, scalar, x, y)
@@ -114,12 +107,8 @@ fn static_bounded(
 ) -> Result<Option<Dimension>, AllocError>
     ensures { Judges (spec.static_range (primaries.inside names.now levels) here.now must_hold want (syntax.Bounded (the_simple (part_at tree.now.nodes low)) (the_simple (part_at tree.now.nodes high))) log.old) (parts out.old) result log.new (parts out.new) }
 {
-    let Ok(x) = simple(names, levels, here, log, out, Wanted::Other, tree, low) else {
-        return Err(AllocError);
-    };
-    let Ok(y) = simple(names, levels, here, log, out, Wanted::Other, tree, high) else {
-        return Err(AllocError);
-    };
+    let x = attempt!(simple(names, levels, here, log, out, Wanted::Other, tree, low));
+    let y = attempt!(simple(names, levels, here, log, out, Wanted::Other, tree, high));
     let (Some(x), Some(y)) = (x, y) else {
         out.leave_out();
         return Ok(None);
@@ -150,7 +139,9 @@ pub fn static_range(
                 names, levels, here, log, out, must_hold, want, tree, low, high,
             )
         }
-        Range::Whole(name) => match name_inside(names, levels, here, log, out, tree, name)? {
+        Range::Whole(name) => match attempt!(name_inside(
+            names, levels, here, log, out, tree, name
+        )) {
             None => Ok(None),
             Some(denoted) => { static_name(log, out, first_tokens::of_name(tree, name), denoted) }
         },
@@ -177,9 +168,7 @@ pub fn chosen_value(
 ) -> Result<Option<Chosen>, AllocError>
     ensures { Chooses (spec.chosen_value (primaries.inside names.now levels) here.now kind (the_simple (part_at tree.now.nodes id)) log.old) (parts out.old) result log.new (parts out.new) }
 {
-    let Ok(x) = simple(names, levels, here, log, out, Wanted::Other, tree, id) else {
-        return Err(AllocError);
-    };
+    let x = attempt!(simple(names, levels, here, log, out, Wanted::Other, tree, id));
     values_of(log, out, kind, x)
 }
 
@@ -199,12 +188,8 @@ pub fn chosen_span(
 ) -> Result<Option<Chosen>, AllocError>
     ensures { Chooses (spec.chosen_span (primaries.inside names.now levels) here.now kind (the_simple (part_at tree.now.nodes low)) (the_simple (part_at tree.now.nodes high)) log.old) (parts out.old) result log.new (parts out.new) }
 {
-    let Ok(x) = simple(names, levels, here, log, out, Wanted::Other, tree, low) else {
-        return Err(AllocError);
-    };
-    let Ok(y) = simple(names, levels, here, log, out, Wanted::Other, tree, high) else {
-        return Err(AllocError);
-    };
+    let x = attempt!(simple(names, levels, here, log, out, Wanted::Other, tree, low));
+    let y = attempt!(simple(names, levels, here, log, out, Wanted::Other, tree, high));
     range_values(log, out, kind, x, y)
 }
 
@@ -227,11 +212,11 @@ fn case_choice(
 {
     match tree.choice(id) {
         Choice::Value(value) => {
-            let x = chosen_value(names, levels, here, log, out, kind, tree, value)?;
+            let x = attempt!(chosen_value(names, levels, here, log, out, kind, tree, value));
             maybe_covered(log, out, covering, choosing, x)
         }
         Choice::Span { low, high } => {
-            let x = chosen_span(names, levels, here, log, out, kind, tree, low, high)?;
+            let x = attempt!(chosen_span(names, levels, here, log, out, kind, tree, low, high));
             maybe_covered(log, out, covering, choosing, x)
         }
         Choice::Others(at) => covers_others(log, out, covering, choosing, at, single && last),
@@ -256,9 +241,9 @@ fn more_choices(
 {
     let mut next = more;
     'choices: while let Some(cell) = tree.cell(next) {
-        case_choice(
+        attempt!(case_choice(
             names, levels, here, log, out, kind, single, last, covering, choosing, tree, cell.first,
-        )?;
+        ));
         next = cell.rest;
     }
     Ok(())
@@ -293,9 +278,9 @@ pub fn case_choices(
     ensures { Covers (cases.case_choices (primaries.inside names.now levels) here.now kind (length (the_choice_list (part_at tree.now.nodes more)) == 0) last (as_covering covering.old) (as_choosing choosing.old (top (parts out.old))) (the_choice (part_at tree.now.nodes first) ∷ the_choice_list (part_at tree.now.nodes more)) log.old) (pop (parts out.old)) result log.new covering.new choosing.new (parts out.new) }
 {
     let single = no_choices(tree, more);
-    case_choice(
+    attempt!(case_choice(
         names, levels, here, log, out, kind, single, last, covering, choosing, tree, first,
-    )?;
+    ));
     more_choices(
         names, levels, here, log, out, kind, single, last, covering, choosing, tree, more,
     )

@@ -16,6 +16,7 @@ use ada_base::Items;
 use name_rules::found::{Found, Limits};
 use name_rules::log::Log;
 use name_rules::types::{Kind, Subtype};
+use name_values::attempt;
 use name_values::operators::{joint, open_of};
 use name_values::values::{asked, composite_asked, kind_of};
 use std::alloc::AllocError;
@@ -48,9 +49,9 @@ pub fn also_choice(
     let Some(value) = value else {
         return no_choice(out, values);
     };
-    values.push(value)?;
-    out.before()?;
-    out.also()?;
+    attempt!(values.push(value));
+    attempt!(out.before());
+    attempt!(out.also());
     Ok(true)
 }
 
@@ -125,10 +126,10 @@ fn common_composite(values: &Items<Found>, last: Option<u32>) -> Option<u32>
 fn next_choice(out: &mut Parts) -> Result<(), AllocError>
     ensures { OnOk result (parts out.new ≡ right_of (left_of (second (parts out.old))) ∷ left_of (left_of (second (parts out.old))) ∷ top (parts out.old) ∷ right_of (second (parts out.old)) ∷ pop (pop (parts out.old))) }
 {
-    out.swap()?;
-    out.apart()?;
-    out.rotate()?;
-    out.rotate()?;
+    attempt!(out.swap());
+    attempt!(out.apart());
+    attempt!(out.rotate());
+    attempt!(out.rotate());
     out.apart()
 }
 
@@ -142,8 +143,8 @@ fn joined_if(out: &mut Parts, done: bool, value: bool) -> Result<bool, AllocErro
         out.leave_out();
         return Ok(false);
     }
-    out.rotate()?;
-    out.conditional()?;
+    attempt!(out.rotate());
+    attempt!(out.conditional());
     Ok(true)
 }
 
@@ -155,8 +156,8 @@ fn joined_composite(out: &mut Parts, done: bool, value: bool) -> Result<bool, Al
         out.leave_out();
         return Ok(false);
     }
-    out.rotate()?;
-    out.composite_conditional()?;
+    attempt!(out.rotate());
+    attempt!(out.composite_conditional());
     Ok(true)
 }
 
@@ -172,8 +173,8 @@ fn joined_open(
         out.leave_out();
         return Ok(None);
     };
-    out.rotate()?;
-    out.conditional()?;
+    attempt!(out.rotate());
+    attempt!(out.conditional());
     Ok(Some(joint(value, last)))
 }
 
@@ -190,11 +191,11 @@ fn scalar_ifs(
 {
     let mut done = last;
     'values: while let Some(value) = values.pop() {
-        next_choice(out)?;
-        let v = asked(log, out, kind, value)?;
-        done = joined_if(out, done, v)?;
+        attempt!(next_choice(out));
+        let v = attempt!(asked(log, out, kind, value));
+        done = attempt!(joined_if(out, done, v));
     }
-    out.swap()?;
+    attempt!(out.swap());
     out.leave_out();
     Ok(done)
 }
@@ -210,8 +211,8 @@ fn scalar_if(
 ) -> Result<Option<Found>, AllocError>
     ensures { Judges (spec.scalar_if bracket kind (found (reverse values.old) (second (parts out.old))) (found last (top (parts out.old))) log.old) (pop (pop (parts out.old))) result log.new (parts out.new) }
 {
-    let o = asked(log, out, kind, last)?;
-    if !scalar_ifs(log, out, kind, values, o)? {
+    let o = attempt!(asked(log, out, kind, last));
+    if !attempt!(scalar_ifs(log, out, kind, values, o)) {
         return Ok(None);
     }
     Ok(Some(Found::Scalar {
@@ -234,11 +235,11 @@ fn composite_ifs(
 {
     let mut done = last;
     'values: while let Some(value) = values.pop() {
-        next_choice(out)?;
-        let v = composite_asked(log, out, number, value)?;
-        done = joined_composite(out, done, v)?;
+        attempt!(next_choice(out));
+        let v = attempt!(composite_asked(log, out, number, value));
+        done = attempt!(joined_composite(out, done, v));
     }
-    out.swap()?;
+    attempt!(out.swap());
     out.leave_out();
     Ok(done)
 }
@@ -254,8 +255,8 @@ fn composite_if(
 ) -> Result<Option<Found>, AllocError>
     ensures { Judges (spec.composite_if bracket number (found (reverse values.old) (second (parts out.old))) (found last (top (parts out.old))) log.old) (pop (pop (parts out.old))) result log.new (parts out.new) }
 {
-    let o = composite_asked(log, out, number, last)?;
-    if !composite_ifs(log, out, number, values, o)? {
+    let o = attempt!(composite_asked(log, out, number, last));
+    if !attempt!(composite_ifs(log, out, number, values, o)) {
         return Ok(None);
     }
     Ok(Some(Found::Composite {
@@ -275,11 +276,11 @@ fn open_ifs(
 {
     let mut limits = last;
     'values: while let Some(value) = values.pop() {
-        next_choice(out)?;
-        let v = open_of(out, value)?;
-        limits = joined_open(out, limits, v)?;
+        attempt!(next_choice(out));
+        let v = attempt!(open_of(out, value));
+        limits = attempt!(joined_open(out, limits, v));
     }
-    out.swap()?;
+    attempt!(out.swap());
     out.leave_out();
     Ok(limits)
 }
@@ -294,8 +295,8 @@ fn open_if(
     ensures { Judges (pure (option_map (spec.open_if bracket) (spec.open_ifs (reverse values.old) (second (parts out.old)) (operators.open_of (found last (top (parts out.old)))))) log.now) (pop (pop (parts out.old))) result log.now (parts out.new) }
 {
     let _log = log;
-    let o = open_of(out, last)?;
-    match open_ifs(out, values, o)? {
+    let o = attempt!(open_of(out, last));
+    match attempt!(open_ifs(out, values, o)) {
         None => Ok(None),
         Some(limits) => Ok(Some(Found::Open {
             first: bracket,

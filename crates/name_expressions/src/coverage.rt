@@ -15,6 +15,7 @@ use crate::associations::placed_value;
 use crate::placing::Placing;
 use ada_base::Items;
 use name_rules::log::{Dimension, Log, Rule};
+use name_values::attempt;
 use name_values::logs::not_given;
 use name_values::order::in_order;
 use std::alloc::{AllocError, Global};
@@ -96,7 +97,7 @@ fn gaps_of(
     if !all_hold(&ranges) {
         return Ok(None);
     }
-    let ordered = in_order(ranges)?;
+    let ordered = attempt!(in_order(ranges));
     left_open(alloc, dimension, &ordered)
 }
 
@@ -107,7 +108,7 @@ fn aggregate_part(out: &mut Parts, bracket: u32, cells: u128) -> Result<(), Allo
     if cells > 4_294_967_295 {
         return Err(AllocError);
     }
-    out.turn()?;
+    attempt!(out.turn());
     out.aggregate(bracket, cells as u32)
 }
 
@@ -126,7 +127,7 @@ pub fn whole(out: &mut Parts, bracket: u32, cells: u128, done: bool) -> Result<b
     if !done {
         return Ok(false);
     }
-    aggregate_part(out, bracket, cells)?;
+    attempt!(aggregate_part(out, bracket, cells));
     Ok(true)
 }
 
@@ -141,7 +142,7 @@ fn covered_alone(
 ) -> Result<bool, AllocError>
     ensures { Gives (spec.covered_alone bracket cells (part_if done (top (parts out.old))) gaps.now log.old) (pop (pop (parts out.old))) result log.new (parts out.new) }
 {
-    out.swap()?;
+    attempt!(out.swap());
     out.leave_out();
     if gaps.len() == 0 {
         return whole(out, bracket, cells, done);
@@ -162,9 +163,9 @@ fn covered_rest(
 ) -> Result<bool, AllocError>
     ensures { IfOk result (λ b. (option_map (spec.aggregate_part bracket cells) (spec.with_runs None part.Nothing (spec.runs_of dimension apart gaps) (part_if done (top (parts out.old))) (part_if value (second (parts out.old)))) ≡ part_if b (top (parts out.new))) × (pop (parts out.new) ≡ pop (pop (parts out.old)))) }
 {
-    out.nothing()?;
-    out.rotate()?;
-    let done = placed_value(out, dimension, apart, None, gaps, done, value)?;
+    attempt!(out.nothing());
+    attempt!(out.rotate());
+    let done = attempt!(placed_value(out, dimension, apart, None, gaps, done, value));
     whole(out, bracket, cells, done)
 }
 
@@ -182,7 +183,7 @@ pub fn covered(
 {
     let Placing { ranges, done, rest } = placing;
     let cells = all_cells(dimension, apart);
-    match gaps_of(out.alloc(), dimension, ranges)? {
+    match attempt!(gaps_of(out.alloc(), dimension, ranges)) {
         None => {
             out.leave_out();
             not_given(log, out, bracket, Rule::StaticRange)

@@ -17,6 +17,7 @@ use name_rules::found::Found;
 use name_rules::log::{Log, Rule};
 use name_rules::scope::{Context, Names};
 use name_rules::types::{Kind, Subtype, Wanted};
+use name_values::attempt;
 use name_values::logs::{no_part, not_given};
 use name_values::operators::{binary, plain, power, unary};
 use name_values::relations::{compared, joined_text, logical, membership, not_of, of_subtype};
@@ -45,24 +46,16 @@ pub fn factor(
     match tree.factor(id) {
         Factor::Operand(primary) => inside(names, levels, here, log, out, want, tree, primary),
         Factor::Power { base, at, exponent } => {
-            let Ok(x) = inside(names, levels, here, log, out, Wanted::Other, tree, base) else {
-                return Err(AllocError);
-            };
-            let Ok(y) = inside(names, levels, here, log, out, Wanted::Other, tree, exponent) else {
-                return Err(AllocError);
-            };
+            let x = attempt!(inside(names, levels, here, log, out, Wanted::Other, tree, base));
+            let y = attempt!(inside(names, levels, here, log, out, Wanted::Other, tree, exponent));
             power(log, out, at, x, y)
         }
         Factor::Abs { at, operand } => {
-            let Ok(x) = inside(names, levels, here, log, out, Wanted::Other, tree, operand) else {
-                return Err(AllocError);
-            };
+            let x = attempt!(inside(names, levels, here, log, out, Wanted::Other, tree, operand));
             unary(log, out, ada_typed::Sign::Abs, at, x)
         }
         Factor::Not { at, operand } => {
-            let Ok(x) = inside(names, levels, here, log, out, Wanted::Other, tree, operand) else {
-                return Err(AllocError);
-            };
+            let x = attempt!(inside(names, levels, here, log, out, Wanted::Other, tree, operand));
             not_of(log, out, at, x)
         }
     }
@@ -94,7 +87,7 @@ fn multiplying(
     ensures { Judges (spec.multiplying (primaries.inside names.now levels) here.now (found_of left (top (parts out.old))) (the_multiplying (part_at tree.now.nodes id)) log.old) (pop (parts out.old)) result log.new (parts out.new) }
 {
     let link = tree.multiplying(id);
-    let Ok(y) = factor(
+    let y = attempt!(factor(
         names,
         levels,
         here,
@@ -103,9 +96,7 @@ fn multiplying(
         Wanted::Other,
         tree,
         link.factor,
-    ) else {
-        return Err(AllocError);
-    };
+    ));
     binary(log, out, multiplying_op(link.by), link.at, left, y)
 }
 
@@ -125,10 +116,7 @@ fn multiplied(
     let mut x = left;
     let mut next = more;
     'links: while let Some(cell) = tree.cell(next) {
-        let Ok(next_x) = multiplying(names, levels, here, log, out, x, tree, cell.first) else {
-            return Err(AllocError);
-        };
-        x = next_x;
+        x = attempt!(multiplying(names, levels, here, log, out, x, tree, cell.first));
         next = cell.rest;
     }
     Ok(x)
@@ -153,7 +141,7 @@ pub fn term(
     match tree.cell(whole.more) {
         None => factor(names, levels, here, log, out, want, tree, whole.first),
         Some(_) => {
-            let Ok(x) = factor(
+            let x = attempt!(factor(
                 names,
                 levels,
                 here,
@@ -162,9 +150,7 @@ pub fn term(
                 Wanted::Other,
                 tree,
                 whole.first,
-            ) else {
-                return Err(AllocError);
-            };
+            ));
             multiplied(names, levels, here, log, out, x, tree, whole.more)
         }
     }
@@ -187,7 +173,7 @@ fn adding(
     let link = tree.adding(id);
     match link.by {
         Additive::Plus => {
-            let Ok(y) = term(
+            let y = attempt!(term(
                 names,
                 levels,
                 here,
@@ -196,13 +182,11 @@ fn adding(
                 Wanted::Other,
                 tree,
                 link.term,
-            ) else {
-                return Err(AllocError);
-            };
+            ));
             binary(log, out, Op::Add, link.at, left, y)
         }
         Additive::Minus => {
-            let Ok(y) = term(
+            let y = attempt!(term(
                 names,
                 levels,
                 here,
@@ -211,15 +195,11 @@ fn adding(
                 Wanted::Other,
                 tree,
                 link.term,
-            ) else {
-                return Err(AllocError);
-            };
+            ));
             binary(log, out, Op::Sub, link.at, left, y)
         }
         Additive::Joined => {
-            let Ok(y) = term(names, levels, here, log, out, Wanted::Text, tree, link.term) else {
-                return Err(AllocError);
-            };
+            let y = attempt!(term(names, levels, here, log, out, Wanted::Text, tree, link.term));
             joined_text(log, out, link.at, left, y)
         }
     }
@@ -241,10 +221,7 @@ fn added(
     let mut x = left;
     let mut next = more;
     'links: while let Some(cell) = tree.cell(next) {
-        let Ok(next_x) = adding(names, levels, here, log, out, x, tree, cell.first) else {
-            return Err(AllocError);
-        };
-        x = next_x;
+        x = attempt!(adding(names, levels, here, log, out, x, tree, cell.first));
         next = cell.rest;
     }
     Ok(x)
@@ -281,15 +258,11 @@ fn first_term(
     match sign {
         None => term(names, levels, here, log, out, want, tree, id),
         Some(Sign::Plus(at)) => {
-            let Ok(x) = term(names, levels, here, log, out, Wanted::Other, tree, id) else {
-                return Err(AllocError);
-            };
+            let x = attempt!(term(names, levels, here, log, out, Wanted::Other, tree, id));
             plain(log, out, at, x)
         }
         Some(Sign::Minus(at)) => {
-            let Ok(x) = term(names, levels, here, log, out, Wanted::Other, tree, id) else {
-                return Err(AllocError);
-            };
+            let x = attempt!(term(names, levels, here, log, out, Wanted::Other, tree, id));
             unary(log, out, ada_typed::Sign::Minus, at, x)
         }
     }
@@ -330,15 +303,10 @@ pub fn simple(
 {
     let sum = tree.simple(id);
     let asked = first_wanted(want, tree, sum.more);
-    let Ok(x) = first_term(
+    let x = attempt!(first_term(
         names, levels, here, log, out, asked, sum.sign, tree, sum.first,
-    ) else {
-        return Err(AllocError);
-    };
-    let Ok(given_given) = added(names, levels, here, log, out, x, tree, sum.more) else {
-        return Err(AllocError);
-    };
-    match given_given {
+    ));
+    match attempt!(added(names, levels, here, log, out, x, tree, sum.more)) {
         None => Ok(None),
         Some(given) => in_place(log, out, want, given),
     }
@@ -389,12 +357,8 @@ pub fn rel(
             at,
             right,
         } => {
-            let Ok(x) = simple(names, levels, here, log, out, Wanted::Other, tree, left) else {
-                return Err(AllocError);
-            };
-            let Ok(y) = simple(names, levels, here, log, out, Wanted::Other, tree, right) else {
-                return Err(AllocError);
-            };
+            let x = attempt!(simple(names, levels, here, log, out, Wanted::Other, tree, left));
+            let y = attempt!(simple(names, levels, here, log, out, Wanted::Other, tree, right));
             compared(log, out, comparison_of(by), at, x, y)
         }
         Rel::Within {
@@ -404,15 +368,9 @@ pub fn rel(
             low,
             high,
         } => {
-            let Ok(x) = simple(names, levels, here, log, out, Wanted::Other, tree, value) else {
-                return Err(AllocError);
-            };
-            let Ok(l) = simple(names, levels, here, log, out, Wanted::Other, tree, low) else {
-                return Err(AllocError);
-            };
-            let Ok(h) = simple(names, levels, here, log, out, Wanted::Other, tree, high) else {
-                return Err(AllocError);
-            };
+            let x = attempt!(simple(names, levels, here, log, out, Wanted::Other, tree, value));
+            let l = attempt!(simple(names, levels, here, log, out, Wanted::Other, tree, low));
+            let h = attempt!(simple(names, levels, here, log, out, Wanted::Other, tree, high));
             membership(log, out, blamed(negation, at), negation.is_some(), x, l, h)
         }
         Rel::OfMark {
@@ -421,12 +379,8 @@ pub fn rel(
             at,
             mark,
         } => {
-            let Ok(x) = simple(names, levels, here, log, out, Wanted::Other, tree, value) else {
-                return Err(AllocError);
-            };
-            let Ok(s) = scalar_named(names, here, log, out, mark) else {
-                return Err(AllocError);
-            };
+            let x = attempt!(simple(names, levels, here, log, out, Wanted::Other, tree, value));
+            let s = attempt!(scalar_named(names, here, log, out, mark));
             of_subtype(
                 log,
                 out,
@@ -458,13 +412,8 @@ fn conjoined(
     let mut next = more;
     'links: while let Some(cell) = tree.cell(next) {
         let link = tree.conjunct(cell.first);
-        let Ok(y) = rel(names, levels, here, log, out, Wanted::Other, tree, link.rel) else {
-            return Err(AllocError);
-        };
-        let Ok(next_x) = logical(log, out, op, link.at, x, y) else {
-            return Err(AllocError);
-        };
-        x = next_x;
+        let y = attempt!(rel(names, levels, here, log, out, Wanted::Other, tree, link.rel));
+        x = attempt!(logical(log, out, op, link.at, x, y));
         next = cell.rest;
     }
     Ok(x)
@@ -486,15 +435,9 @@ fn joined_rels(
 ) -> Result<Option<Found>, AllocError>
     ensures { Judges (spec.joined_rels names.now (primaries.inside names.now levels) here.now op (the_rel (part_at tree.now.nodes first)) at (the_rel (part_at tree.now.nodes second)) (the_conjuncts (part_at tree.now.nodes more)) log.old) (parts out.old) result log.new (parts out.new) }
 {
-    let Ok(x) = rel(names, levels, here, log, out, Wanted::Other, tree, first) else {
-        return Err(AllocError);
-    };
-    let Ok(y) = rel(names, levels, here, log, out, Wanted::Other, tree, second) else {
-        return Err(AllocError);
-    };
-    let Ok(z) = logical(log, out, op, at, x, y) else {
-        return Err(AllocError);
-    };
+    let x = attempt!(rel(names, levels, here, log, out, Wanted::Other, tree, first));
+    let y = attempt!(rel(names, levels, here, log, out, Wanted::Other, tree, second));
+    let z = attempt!(logical(log, out, op, at, x, y));
     conjoined(names, levels, here, log, out, op, z, tree, more)
 }
 
@@ -511,7 +454,7 @@ fn short_operand(
 ) -> Result<bool, AllocError>
     ensures { Gives (spec.short_operand names.now (primaries.inside names.now levels) here.now at (the_rel (part_at tree.now.nodes id)) log.old) (parts out.old) result log.new (parts out.new) }
 {
-    let Some(given) = rel(names, levels, here, log, out, Wanted::Other, tree, id)? else {
+    let Some(given) = attempt!(rel(names, levels, here, log, out, Wanted::Other, tree, id)) else {
         return Ok(false);
     };
     if is_kind(Kind::Boolean, kind_of(given)) {
@@ -536,9 +479,9 @@ fn short_joined(
         return Ok(false);
     }
     if all {
-        out.and_then()?;
+        attempt!(out.and_then());
     } else {
-        out.or_else()?;
+        attempt!(out.or_else());
     }
     Ok(true)
 }
@@ -561,13 +504,8 @@ fn short_operands(
     let mut next = more;
     'links: while let Some(cell) = tree.cell(next) {
         let link = tree.conjunct(cell.first);
-        let Ok(y) = short_operand(names, levels, here, log, out, link.at, tree, link.rel) else {
-            return Err(AllocError);
-        };
-        let Ok(next_x) = short_joined(log, out, all, x, y) else {
-            return Err(AllocError);
-        };
-        x = next_x;
+        let y = attempt!(short_operand(names, levels, here, log, out, link.at, tree, link.rel));
+        x = attempt!(short_joined(log, out, all, x, y));
         next = cell.rest;
     }
     Ok(x)
@@ -589,19 +527,10 @@ fn short_form(
 ) -> Result<Option<Found>, AllocError>
     ensures { Judges (spec.short_form names.now (primaries.inside names.now levels) here.now all (the_rel (part_at tree.now.nodes first)) at (the_rel (part_at tree.now.nodes second)) (the_conjuncts (part_at tree.now.nodes more)) log.old) (parts out.old) result log.new (parts out.new) }
 {
-    let Ok(x) = short_operand(names, levels, here, log, out, at, tree, first) else {
-        return Err(AllocError);
-    };
-    let Ok(y) = short_operand(names, levels, here, log, out, at, tree, second) else {
-        return Err(AllocError);
-    };
-    let Ok(z) = short_joined(log, out, all, x, y) else {
-        return Err(AllocError);
-    };
-    let Ok(good) = short_operands(names, levels, here, log, out, all, z, tree, more) else {
-        return Err(AllocError);
-    };
-    if good {
+    let x = attempt!(short_operand(names, levels, here, log, out, at, tree, first));
+    let y = attempt!(short_operand(names, levels, here, log, out, at, tree, second));
+    let z = attempt!(short_joined(log, out, all, x, y));
+    if attempt!(short_operands(names, levels, here, log, out, all, z, tree, more)) {
         Ok(Some(Found::Scalar {
             first: first_tokens::of_rel(tree, first),
             kind: Kind::Boolean,
@@ -709,10 +638,7 @@ pub fn condition(
 ) -> Result<bool, AllocError>
     ensures { Gives (spec.condition names.now (primaries.inside names.now levels) here.now (the_expr (part_at tree.now.nodes id)) log.old) (parts out.old) result log.new (parts out.new) }
 {
-    let Ok(given_given) = expr(names, levels, here, log, out, Wanted::Other, tree, id) else {
-        return Err(AllocError);
-    };
-    match given_given {
+    match attempt!(expr(names, levels, here, log, out, Wanted::Other, tree, id)) {
         None => Ok(false),
         Some(given) => asked(log, out, Kind::Boolean, given),
     }
@@ -733,10 +659,7 @@ pub fn value_for(
 ) -> Result<bool, AllocError>
     ensures { Gives (spec.value_for names.now (primaries.inside names.now levels) here.now subtype (the_expr (part_at tree.now.nodes id)) log.old) (parts out.old) result log.new (parts out.new) }
 {
-    let Ok(given_given) = expr(names, levels, here, log, out, wanted_of(subtype), tree, id) else {
-        return Err(AllocError);
-    };
-    match given_given {
+    match attempt!(expr(names, levels, here, log, out, wanted_of(subtype), tree, id)) {
         None => Ok(false),
         Some(given) => stored(log, out, subtype, first_tokens::of_expr(tree, id), given),
     }
@@ -757,9 +680,7 @@ pub fn judged_alone(
 ) -> Result<(), AllocError>
     ensures { OnOk result ((spec.judged_alone names.now (primaries.inside names.now levels) here.now (the_expr (part_at tree.now.nodes id)) log.old ≡ (tt, log.new)) × (parts out.new ≡ parts out.old)) }
 {
-    let Ok(_found) = expr(names, levels, here, log, out, Wanted::Unknown, tree, id) else {
-        return Err(AllocError);
-    };
+    let _found = attempt!(expr(names, levels, here, log, out, Wanted::Unknown, tree, id));
     out.leave_out();
     Ok(())
 }

@@ -19,6 +19,7 @@ use crate::coverage::whole;
 use ada_base::Items;
 use name_rules::log::{Field, Log, Rule, Shape};
 use name_rules::scope::Names;
+use name_values::attempt;
 use name_values::logs::{breaks, not_given};
 use name_values::shapes::identifier_of_choice;
 use name_values::symbols::symbol;
@@ -50,7 +51,7 @@ pub fn fields_of(log: &Log, out: &Parts, number: u32) -> Result<Items<Field>, Al
 {
     let mut all = Items::new(out.alloc());
     match log.shapes.get(number as usize) {
-        Some(Shape::Record { fields, .. }) => all.extend(fields.as_slice())?,
+        Some(Shape::Record { fields, .. }) => attempt!(all.extend(fields.as_slice())),
         _ => (),
     }
     Ok(all)
@@ -70,9 +71,9 @@ pub fn field_at(fields: &Items<Field>, place: usize) -> Option<Field>
 pub fn nothing_filled(out: &mut Parts, fields: &Items<Field>) -> Result<Filling, AllocError>
     ensures { IfOk result (λ f. (spec.filling (Some part.Nothing) fields.now false ≡ filled f (parts out.new)) × (pop (parts out.new) ≡ parts out.old)) }
 {
-    out.nothing()?;
+    attempt!(out.nothing());
     let mut left = Items::new(out.alloc());
-    left.extend(fields.as_slice())?;
+    attempt!(left.extend(fields.as_slice()));
     Ok(Filling {
         done: true,
         left,
@@ -125,7 +126,7 @@ fn without(alloc: Global, name: u32, fields: &Items<Field>) -> Result<Items<Fiel
     let mut others = Items::new(alloc);
     let mut i = 0;
     'fields: while let Some(field) = field_at(fields, i) {
-        also_other(&mut others, name, field)?;
+        attempt!(also_other(&mut others, name, field));
         if i == usize::MAX {
             return Err(AllocError);
         }
@@ -160,8 +161,8 @@ fn named_field(
     if !has_symbol(name, &taking.left) {
         return breaks(log, token, Rule::Twice);
     }
-    take_field(name, &taking.left, &mut taking.taken)?;
-    taking.left = without(alloc, name, &taking.left)?;
+    attempt!(take_field(name, &taking.left, &mut taking.taken));
+    taking.left = attempt!(without(alloc, name, &taking.left));
     Ok(())
 }
 
@@ -169,7 +170,7 @@ fn named_field(
 fn take_rest(alloc: Global, taking: &mut Taking) -> Result<(), AllocError>
     ensures { OnOk result ((taking.new.taken ≡ taking.old.taken ++ taking.old.left) × (taking.new.left ≡ [])) }
 {
-    taking.taken.extend(taking.left.as_slice())?;
+    attempt!(taking.taken.extend(taking.left.as_slice()));
     taking.left = Items::new(alloc);
     Ok(())
 }
@@ -217,7 +218,7 @@ fn field_choice(
 {
     match tree.choice(id) {
         Choice::Others(at) => {
-            others_last(log, alone && last, at)?;
+            attempt!(others_last(log, alone && last, at));
             take_rest(alloc, taking)
         }
         _ => {
@@ -257,7 +258,7 @@ pub fn field_choices(
         taken: Items::new(alloc),
         left,
     };
-    field_choice(
+    attempt!(field_choice(
         names,
         log,
         alloc,
@@ -267,10 +268,10 @@ pub fn field_choices(
         &mut taking,
         tree,
         first,
-    )?;
+    ));
     let mut next = more;
     'choices: while let Some(cell) = tree.cell(next) {
-        field_choice(
+        attempt!(field_choice(
             names,
             log,
             alloc,
@@ -280,7 +281,7 @@ pub fn field_choices(
             &mut taking,
             tree,
             cell.first,
-        )?;
+        ));
         next = cell.rest;
     }
     Ok(taking)

@@ -18,6 +18,7 @@ use name_rules::log::{Dimension, Log, Rule};
 use name_rules::scope::{Context, Names};
 use name_rules::types::{Subtype, Wanted};
 use name_values::arrays::{component_cells, dimension_of, dimensions_of, stride};
+use name_values::attempt;
 use name_values::logs::not_given;
 use name_values::names::{component_of, is_array, part_place, wrong_name};
 use name_values::shapes::is_string;
@@ -60,9 +61,7 @@ pub fn args_alone(
 {
     let mut next = more;
     'each: while let Some(cell) = tree.cell(next) {
-        let Ok(()) = arg_alone(names, levels, here, log, out, tree, cell.first) else {
-            return Err(AllocError);
-        };
+        attempt!(arg_alone(names, levels, here, log, out, tree, cell.first));
         next = cell.rest;
     }
     Ok(())
@@ -86,12 +85,8 @@ pub fn wrong_call(
     ensures { Judges (spec.wrong_call names.now (primaries.inside names.now levels) here.now first (syntax.AlsoArg (the_arg (part_at tree.now.nodes arg)) (the_args (part_at tree.now.nodes more))) log.old) (pop (parts out.old)) result log.new (parts out.new) }
 {
     let before = log.faults.len();
-    let Ok(()) = arg_alone(names, levels, here, log, out, tree, arg) else {
-        return Err(AllocError);
-    };
-    let Ok(()) = args_alone(names, levels, here, log, out, tree, more) else {
-        return Err(AllocError);
-    };
+    attempt!(arg_alone(names, levels, here, log, out, tree, arg));
+    attempt!(args_alone(names, levels, here, log, out, tree, more));
     if log.faults.len() == before {
         wrong_name(log, out, first, Rule::WrongType)
     } else {
@@ -122,7 +117,7 @@ fn selected_by(out: &mut Parts, at: u32, dimension: Dimension, apart: u64) -> Re
     if apart > 4_294_967_295 {
         return Err(AllocError);
     }
-    out.index(at, dimension.low, dimension.high, apart as u32)?;
+    attempt!(out.index(at, dimension.low, dimension.high, apart as u32));
     out.also()
 }
 
@@ -144,12 +139,12 @@ fn index_in(
         out.leave_out();
         return Ok(done);
     };
-    let is_index = asked(log, out, dimension.kind, given)?;
+    let is_index = attempt!(asked(log, out, dimension.kind, given));
     if !done || !is_index {
         out.leave_out();
         return Ok(false);
     }
-    selected_by(out, first_of(given), dimension, apart)?;
+    attempt!(selected_by(out, first_of(given), dimension, apart));
     Ok(true)
 }
 
@@ -181,7 +176,7 @@ fn index(
     ensures { Gives (spec.index names.now (primaries.inside names.now levels) here.now (drop place dimensions.now) cells (part_if done (top (parts out.old))) (the_arg (part_at tree.now.nodes id)) log.old) (pop (parts out.old)) result log.new (parts out.new) }
 {
     let arg = tree.arg(id);
-    let Ok(x) = expr(
+    let x = attempt!(expr(
         names,
         levels,
         here,
@@ -190,14 +185,10 @@ fn index(
         Wanted::Other,
         tree,
         arg.value,
-    ) else {
-        return Err(AllocError);
-    };
+    ));
     let dimension = dimension_of(dimensions, place);
     let apart = stride(dimensions, place, cells);
-    let Ok(s) = index_in(log, out, dimension, apart, done, x) else {
-        return Err(AllocError);
-    };
+    let s = attempt!(index_in(log, out, dimension, apart, done, x));
     unnamed(log, out, arg.formal, s)
 }
 
@@ -222,12 +213,9 @@ fn indexes(
     let mut i = place;
     let mut next = more;
     'indexes: while let Some(cell) = tree.cell(next) {
-        let Ok(next_s) = index(
+        s = attempt!(index(
             names, levels, here, log, out, dimensions, i, cells, s, tree, cell.first,
-        ) else {
-            return Err(AllocError);
-        };
-        s = next_s;
+        ));
         if i == usize::MAX {
             return Err(AllocError);
         }

@@ -25,6 +25,7 @@ use name_rules::found::{Attribute, Folding, Found, Going};
 use name_rules::log::{Log, Rule};
 use name_rules::scope::{Context, Names};
 use name_rules::types::Wanted;
+use name_values::attempt;
 use name_values::logs::breaks;
 use name_values::reductions::folded_by;
 use name_values::scope::copied;
@@ -52,10 +53,7 @@ pub fn chunk_count(
 ) -> Result<bool, AllocError>
     ensures { Gives (spec.chunk_count (primaries.inside names.now levels) here.now (the_simple (part_at tree.now.nodes id)) log.old) (parts out.old) result log.new (parts out.new) }
 {
-    let Ok(given_given) = simple(names, levels, here, log, out, Wanted::Other, tree, id) else {
-        return Err(AllocError);
-    };
-    match given_given {
+    match attempt!(simple(names, levels, here, log, out, Wanted::Other, tree, id)) {
         None => Ok(false),
         Some(given) => any_integer(log, out, given),
     }
@@ -77,18 +75,14 @@ pub fn chunked_by(
 {
     match tree.parallel(id) {
         Parallel::Unchunked(_) => {
-            let Ok(()) = out.nothing() else {
-                return Err(AllocError);
-            };
+            attempt!(out.nothing());
             Ok(Chunking {
                 given: true,
                 parameter: None,
             })
         }
         Parallel::Counted { count, .. } => {
-            let Ok(e) = chunk_count(names, levels, here, log, out, tree, count) else {
-                return Err(AllocError);
-            };
+            let e = attempt!(chunk_count(names, levels, here, log, out, tree, count));
             counted(log, out, e)
         }
         Parallel::Chunked {
@@ -96,12 +90,8 @@ pub fn chunked_by(
             range: chunks,
             ..
         } => {
-            let Ok(b) = range(names, levels, here, log, out, tree, chunks) else {
-                return Err(AllocError);
-            };
-            let Ok(number) = new_parameter(log) else {
-                return Err(AllocError);
-            };
+            let b = attempt!(range(names, levels, here, log, out, tree, chunks));
+            let number = attempt!(new_parameter(log));
             chunk_each(log, out, number, index, b)
         }
     }
@@ -128,21 +118,13 @@ fn walked(
             range: values,
             filter,
         } => {
-            let Ok(b) = range(names, levels, here, log, out, tree, values) else {
-                return Err(AllocError);
-            };
-            let Ok(number) = new_parameter(log) else {
-                return Err(AllocError);
-            };
+            let b = attempt!(range(names, levels, here, log, out, tree, values));
+            let number = attempt!(new_parameter(log));
             Ok(range_walked(out, tree, number, index, reverse, filter, b))
         }
         Iter::OfName { item, of, filter } => {
-            let Ok(d) = name_inside(names, levels, here, log, out, tree, of) else {
-                return Err(AllocError);
-            };
-            let Ok(number) = new_parameter(log) else {
-                return Err(AllocError);
-            };
+            let d = attempt!(name_inside(names, levels, here, log, out, tree, of));
+            let number = attempt!(new_parameter(log));
             over_denoted(log, out, tree, number, item, filter, d)
         }
     }
@@ -162,9 +144,7 @@ fn filter_where(
 {
     match filter {
         None => {
-            let Ok(()) = out.nothing() else {
-                return Err(AllocError);
-            };
+            attempt!(out.nothing());
             Ok(true)
         }
         Some(id) => condition(names, levels, here, log, out, tree, id),
@@ -189,10 +169,8 @@ fn entered_with(
 ) -> Result<Entering, AllocError>
     ensures { Enters (spec.entered_with names.now (primaries.inside names.now levels) here.old construct start (as_chunked chunking (top (parts out.old))) (the_iter (part_at tree.now.nodes id)) log.old) (pop (parts out.old)) result log.new here.new (parts out.new) }
 {
-    let Ok(w) = walked(names, levels, here, log, out, tree, id) else {
-        return Err(AllocError);
-    };
-    let Ok(()) = within(
+    let w = attempt!(walked(names, levels, here, log, out, tree, id));
+    attempt!(within(
         names,
         here,
         log,
@@ -202,15 +180,9 @@ fn entered_with(
         tree,
         out,
         w,
-    ) else {
-        return Err(AllocError);
-    };
-    let Ok(filter) = filter_where(names, levels, here, log, out, tree, w.filter) else {
-        return Err(AllocError);
-    };
-    let Ok(iteration) = filtered(log, out, w.way, filter) else {
-        return Err(AllocError);
-    };
+    ));
+    let filter = attempt!(filter_where(names, levels, here, log, out, tree, w.filter));
+    let iteration = attempt!(filtered(log, out, w.way, filter));
     Ok(Entering {
         construct,
         chunk: chunking.given,
@@ -240,9 +212,7 @@ pub fn entered(
     let start = here.scope.len();
     match parallel {
         None => {
-            let Ok(()) = out.nothing() else {
-                return Err(AllocError);
-            };
+            attempt!(out.nothing());
             let chunking = Chunking {
                 given: true,
                 parameter: None,
@@ -252,12 +222,8 @@ pub fn entered(
             )
         }
         Some(parallel) => {
-            let Ok(n) = new_site(log, here, parallel_at(tree, parallel), kind) else {
-                return Err(AllocError);
-            };
-            let Ok(chunking) = chunked_by(names, inner, here, log, out, tree, parallel) else {
-                return Err(AllocError);
-            };
+            let n = attempt!(new_site(log, here, parallel_at(tree, parallel), kind));
+            let chunking = attempt!(chunked_by(names, inner, here, log, out, tree, parallel));
             entered_with(
                 names,
                 levels,
@@ -345,11 +311,11 @@ fn sequence_rules(
         return Ok(None);
     }
     if !attribute.is_some() || is_reduce(attribute) {
-        reverse_rule(log, folded.reverse)?;
+        attempt!(reverse_rule(log, folded.reverse));
         return Ok(folded.found);
     }
-    breaks(log, at, Rule::ReduceRule)?;
-    reverse_rule(log, folded.reverse)?;
+    attempt!(breaks(log, at, Rule::ReduceRule));
+    attempt!(reverse_rule(log, folded.reverse));
     Ok(folded.found)
 }
 
@@ -406,7 +372,7 @@ fn folded_within(
 ) -> Result<Folded, AllocError>
     ensures { Folds (folded_within names.now (primaries.inside names.now levels) inner.old here.now bracket (optional_parallel (part_at tree.now.nodes) parallel) (the_iter (part_at tree.now.nodes iter)) (the_expr (part_at tree.now.nodes value)) attribute folding (the_expr (part_at tree.now.nodes initial)) log.old) (parts out.old) result log.new (parts out.new) }
 {
-    let Ok(e) = entered(
+    let e = attempt!(entered(
         names,
         levels,
         levels,
@@ -417,18 +383,10 @@ fn folded_within(
         parallel,
         tree,
         iter,
-    ) else {
-        return Err(AllocError);
-    };
-    let Ok(x) = expr(names, levels, inner, log, out, Wanted::Other, tree, value) else {
-        return Err(AllocError);
-    };
-    let Ok(v) = expr(names, levels, here, log, out, Wanted::Other, tree, initial) else {
-        return Err(AllocError);
-    };
-    let Ok(found) = sequence_given(log, out, bracket, attribute, e, folding, x, v) else {
-        return Err(AllocError);
-    };
+    ));
+    let x = attempt!(expr(names, levels, inner, log, out, Wanted::Other, tree, value));
+    let v = attempt!(expr(names, levels, here, log, out, Wanted::Other, tree, initial));
+    let found = attempt!(sequence_given(log, out, bracket, attribute, e, folding, x, v));
     Ok(Folded {
         reverse: e.reverse,
         found,
@@ -453,12 +411,8 @@ fn sequence_folded(
 ) -> Result<Folded, AllocError>
     ensures { Folds (spec.sequence_folded names.now (primaries.inside names.now levels) here.now bracket (optional_parallel (part_at tree.now.nodes) parallel) (the_iter (part_at tree.now.nodes iter)) (the_expr (part_at tree.now.nodes value)) attribute (the_expr (part_at tree.now.nodes reducer)) (the_expr (part_at tree.now.nodes initial)) log.old) (parts out.old) result log.new (parts out.new) }
 {
-    let Ok(folding) = reducer_of(names, levels, here, log, out, tree, reducer) else {
-        return Err(AllocError);
-    };
-    let Ok(mut inner) = copied(here, out) else {
-        return Err(AllocError);
-    };
+    let folding = attempt!(reducer_of(names, levels, here, log, out, tree, reducer));
+    let mut inner = attempt!(copied(here, out));
     folded_within(
         names, levels, &mut inner, here, log, out, bracket, attribute, folding, tree, parallel,
         iter, value, initial,

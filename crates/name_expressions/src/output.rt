@@ -18,6 +18,7 @@ use name_rules::found::{Denoted, Found, Put, Reach};
 use name_rules::log::{Log, Rule};
 use name_rules::scope::{Context, Names};
 use name_rules::types::Wanted;
+use name_values::attempt;
 use name_values::logs::breaks;
 use name_values::putting::{
     Putting, by_procedure, is_number_put, item_given, no_formal, once, put_complete, width_given,
@@ -41,9 +42,7 @@ fn other_alone(
     ensures { OnOk result ((own.other_alone names.now (primaries.inside names.now levels) here.now (the_arg (part_at tree.now.nodes id)) log.old ≡ (tt, log.new)) × (parts out.new ≡ parts out.old)) }
 {
     let arg = tree.arg(id);
-    let Ok(()) = no_formal(log, arg.formal) else {
-        return Err(AllocError);
-    };
+    attempt!(no_formal(log, arg.formal));
     judged_alone(names, levels, here, log, out, tree, arg.value)
 }
 
@@ -62,9 +61,7 @@ fn others_alone(
 {
     let mut next = more;
     'each: while let Some(cell) = tree.cell(next) {
-        let Ok(()) = other_alone(names, levels, here, log, out, tree, cell.first) else {
-            return Err(AllocError);
-        };
+        attempt!(other_alone(names, levels, here, log, out, tree, cell.first));
         next = cell.rest;
     }
     Ok(())
@@ -83,12 +80,8 @@ fn width_argument(
 ) -> Result<(), AllocError>
     ensures { Puts (spec.width_argument names.now (primaries.inside names.now levels) here.now (putting_of putting.old (second (parts out.old)) (top (parts out.old))) (the_expr (part_at tree.now.nodes id)) log.old) (pop (pop (parts out.old))) result putting.new log.new (parts out.new) }
 {
-    let Ok(x) = expr(names, levels, here, log, out, Wanted::Other, tree, id) else {
-        return Err(AllocError);
-    };
-    let Ok(width) = width_given(log, out, x) else {
-        return Err(AllocError);
-    };
+    let x = attempt!(expr(names, levels, here, log, out, Wanted::Other, tree, id));
+    let width = attempt!(width_given(log, out, x));
     with_width(out, putting, width)
 }
 
@@ -107,9 +100,7 @@ fn counted_alone(
 ) -> Result<(), AllocError>
     ensures { Puts (own.counted_alone names.now (primaries.inside names.now levels) here.now (putting_of putting.old (second (parts out.old)) (top (parts out.old))) count (the_expr (part_at tree.now.nodes id)) log.old) (pop (pop (parts out.old))) result putting.new log.new (parts out.new) }
 {
-    let Ok(()) = judged_alone(names, levels, here, log, out, tree, id) else {
-        return Err(AllocError);
-    };
+    attempt!(judged_alone(names, levels, here, log, out, tree, id));
     with_count(putting, count)
 }
 
@@ -131,14 +122,10 @@ fn put_argument(
     match formal {
         Some(name) => {
             if symbol(names, name) == WIDTH {
-                let Ok(()) = once(log, putting.has_width, first) else {
-                    return Err(AllocError);
-                };
+                attempt!(once(log, putting.has_width, first));
                 width_argument(names, levels, here, log, out, putting, tree, id)
             } else {
-                let Ok(()) = breaks(log, name, Rule::Unknown) else {
-                    return Err(AllocError);
-                };
+                attempt!(breaks(log, name, Rule::Unknown));
                 counted_alone(names, levels, here, log, out, putting, 1, tree, id)
             }
         }
@@ -169,11 +156,9 @@ fn put_arguments(
     'each: while let Some(cell) = tree.cell(next) {
         let arg = tree.arg(cell.first);
         let first = first_tokens::of_arg(tree, cell.first);
-        let Ok(()) = put_argument(
+        attempt!(put_argument(
             names, levels, here, log, out, putting, arg.formal, first, tree, arg.value,
-        ) else {
-            return Err(AllocError);
-        };
+        ));
         next = cell.rest;
     }
     Ok(())
@@ -199,21 +184,15 @@ fn number_put(
 ) -> Result<Option<Denoted>, AllocError>
     ensures { Judges (own.number_put names.now (primaries.inside names.now levels) here.now before at first last reach (found_of given (top (parts out.old))) (the_args (part_at tree.now.nodes more)) log.old) (pop (parts out.old)) result log.new (parts out.new) }
 {
-    let Ok(item) = item_given(log, out, reach.integer_io, given) else {
-        return Err(AllocError);
-    };
-    let Ok(()) = out.nothing() else {
-        return Err(AllocError);
-    };
+    let item = attempt!(item_given(log, out, reach.integer_io, given));
+    attempt!(out.nothing());
     let mut putting = Putting {
         count: 1,
         item,
         has_width: false,
         width: false,
     };
-    let Ok(()) = put_arguments(names, levels, here, log, out, &mut putting, tree, more) else {
-        return Err(AllocError);
-    };
+    attempt!(put_arguments(names, levels, here, log, out, &mut putting, tree, more));
     if log.faults.len() != before {
         out.leave_out();
         return Ok(None);

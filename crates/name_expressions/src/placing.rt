@@ -17,6 +17,7 @@ use ada_typed::Iterated;
 use name_rules::log::{Dimension, Log, Rule};
 use name_rules::scope::What;
 use name_rules::types::{Kind, Scalar};
+use name_values::attempt;
 use name_values::logs::breaks;
 use name_values::types::same;
 use std::alloc::AllocError;
@@ -44,7 +45,7 @@ pub struct Choosing {
 pub fn no_choice(out: &mut Parts) -> Result<Choosing, AllocError>
     ensures { IfOk result (λ c. (Some (record { ranges = []; rest = false; mentions = part.Nothing }) ≡ chosen c (parts out.new)) × (pop (parts out.new) ≡ parts out.old)) }
 {
-    out.nothing()?;
+    attempt!(out.nothing());
     Ok(Choosing {
         good: true,
         ranges: Items::new(out.alloc()),
@@ -56,8 +57,8 @@ pub fn no_choice(out: &mut Parts) -> Result<Choosing, AllocError>
 pub fn nothing_placed(out: &mut Parts) -> Result<Placing, AllocError>
     ensures { IfOk result (λ p. (spec.nothing_placed ≡ placed p (parts out.new)) × (pop (pop (parts out.new)) ≡ parts out.old)) }
 {
-    out.nothing()?;
-    out.nothing()?;
+    attempt!(out.nothing());
+    attempt!(out.nothing());
     Ok(Placing {
         ranges: Items::new(out.alloc()),
         done: true,
@@ -69,9 +70,9 @@ pub fn nothing_placed(out: &mut Parts) -> Result<Placing, AllocError>
 pub fn with_rest(out: &mut Parts, placing: &mut Placing, value: bool) -> Result<(), AllocError>
     ensures { OnOk result ((spec.with_rest (placed placing.old (pop (parts out.old))) (part_if value (top (parts out.old))) ≡ placed placing.new (parts out.new)) × (pop (pop (parts out.new)) ≡ pop (pop (pop (parts out.old))))) }
 {
-    out.rotate()?;
+    attempt!(out.rotate());
     out.leave_out();
-    out.swap()?;
+    attempt!(out.swap());
     placing.rest = Some(value);
     Ok(())
 }
@@ -88,8 +89,16 @@ pub fn with_ranges(
 ) -> Result<(), AllocError>
     ensures { OnOk result ((spec.with_ranges dimension apart iterated (second (parts out.old)) (placed placing.old (pop (pop (parts out.old)))) ranges (part_if value (top (parts out.old))) ≡ placed placing.new (parts out.new)) × (pop (pop (parts out.new)) ≡ pop (pop (pop (pop (parts out.old)))))) }
 {
-    placing.ranges.extend(ranges.as_slice())?;
-    placing.done = placed_value(out, dimension, apart, iterated, ranges, placing.done, value)?;
+    attempt!(placing.ranges.extend(ranges.as_slice()));
+    placing.done = attempt!(placed_value(
+        out,
+        dimension,
+        apart,
+        iterated,
+        ranges,
+        placing.done,
+        value
+    ));
     Ok(())
 }
 
@@ -104,10 +113,10 @@ pub fn position_given(
 ) -> Result<(), AllocError>
     ensures { OnOk result ((spec.with_ranges dimension apart None part.Nothing (placed placing.old (pop (parts out.old))) ((place, place) ∷ []) (part_if value (top (parts out.old))) ≡ placed placing.new (parts out.new)) × (pop (pop (parts out.new)) ≡ pop (pop (pop (parts out.old))))) }
 {
-    out.nothing()?;
-    out.swap()?;
+    attempt!(out.nothing());
+    attempt!(out.swap());
     let mut ranges = Items::new(out.alloc());
-    ranges.push((place, place))?;
+    attempt!(ranges.push((place, place)));
     with_ranges(out, dimension, apart, None, placing, ranges, value)
 }
 
@@ -137,7 +146,7 @@ pub fn chosen_given(
         return Ok(());
     }
     if rest {
-        out.swap()?;
+        attempt!(out.swap());
         out.leave_out();
         return with_rest(out, placing, value);
     }
@@ -164,7 +173,7 @@ pub fn iterated_given(
         }
         Some(span) => {
             let mut ranges = Items::new(out.alloc());
-            ranges.push((i128::from(span.low), i128::from(span.high)))?;
+            attempt!(ranges.push((i128::from(span.low), i128::from(span.high))));
             let iterated = Some(Iterated {
                 parameter,
                 first: span.low,
@@ -192,7 +201,7 @@ pub fn of_index_type(
             if same(span.kind, kind) {
                 return Ok(Some(span));
             }
-            breaks(log, first, Rule::WrongType)?;
+            attempt!(breaks(log, first, Rule::WrongType));
             Ok(None)
         }
     }

@@ -21,6 +21,7 @@ use name_rules::found::{Denoted, Found};
 use name_rules::log::{Log, Rule};
 use name_rules::scope::{Context, Names};
 use name_rules::types::Wanted;
+use name_values::attempt;
 use name_values::scope::no_name;
 use name_values::symbols::number;
 use std::alloc::AllocError;
@@ -74,12 +75,8 @@ fn alternative(
 ) -> Result<bool, AllocError>
     ensures { Waits (spec.alternative names.now (spec.inside names.now levels) here.now want (waiting_if done values.old (top (parts out.old))) (the_expr (part_at tree.now.nodes test)) (the_expr (part_at tree.now.nodes value)) log.old) (pop (parts out.old)) result values.new log.new (parts out.new) }
 {
-    let Ok(x) = condition(names, levels, here, log, out, tree, test) else {
-        return Err(AllocError);
-    };
-    let Ok(y) = expr(names, levels, here, log, out, want, tree, value) else {
-        return Err(AllocError);
-    };
+    let x = attempt!(condition(names, levels, here, log, out, tree, test));
+    let y = attempt!(expr(names, levels, here, log, out, want, tree, value));
     also_choice(out, values, done, x, y)
 }
 
@@ -102,7 +99,7 @@ fn alternatives(
     let mut next = more;
     'alternatives: while let Some(cell) = tree.cell(next) {
         let elsif = tree.elsif(cell.first);
-        let Ok(next_all) = alternative(
+        all = attempt!(alternative(
             names,
             levels,
             here,
@@ -114,10 +111,7 @@ fn alternatives(
             tree,
             elsif.condition,
             elsif.value,
-        ) else {
-            return Err(AllocError);
-        };
-        all = next_all;
+        ));
         next = cell.rest;
     }
     Ok(all)
@@ -152,11 +146,9 @@ fn if_expr(
 ) -> Result<Option<Found>, AllocError>
     ensures { Judges (spec.if_expr names.now (spec.inside names.now levels) here.now want bracket (the_expr (part_at tree.now.nodes test)) (the_expr (part_at tree.now.nodes value)) (the_elsifs (part_at tree.now.nodes more)) (the_expr (part_at tree.now.nodes otherwise)) log.old) (parts out.old) result log.new (parts out.new) }
 {
-    let Ok(()) = out.nothing() else {
-        return Err(AllocError);
-    };
+    attempt!(out.nothing());
     let mut values = Items::new(out.alloc());
-    let Ok(d) = alternative(
+    let d = attempt!(alternative(
         names,
         levels,
         here,
@@ -168,10 +160,8 @@ fn if_expr(
         tree,
         test,
         value,
-    ) else {
-        return Err(AllocError);
-    };
-    let Ok(all) = alternatives(
+    ));
+    let all = attempt!(alternatives(
         names,
         levels,
         here,
@@ -182,12 +172,8 @@ fn if_expr(
         d,
         tree,
         more,
-    ) else {
-        return Err(AllocError);
-    };
-    let Ok(last) = expr(names, levels, here, log, out, want, tree, otherwise) else {
-        return Err(AllocError);
-    };
+    ));
+    let last = attempt!(expr(names, levels, here, log, out, want, tree, otherwise));
     if_found(log, out, bracket, &mut values, all, last)
 }
 
@@ -205,10 +191,7 @@ fn named(
 ) -> Result<Option<Found>, AllocError>
     ensures { Judges (named_in names.now (spec.inside names.now levels) here.now (the_name (part_at tree.now.nodes id)) want log.old) (parts out.old) result log.new (parts out.new) }
 {
-    let Ok(given_given) = value_named(names, levels, here, log, out, tree, id) else {
-        return Err(AllocError);
-    };
-    match given_given {
+    match attempt!(value_named(names, levels, here, log, out, tree, id)) {
         None => Ok(None),
         Some(given) => in_place(log, out, want, given),
     }
@@ -231,9 +214,7 @@ fn primary(
 {
     match tree.primary(id) {
         Primary::Number(at) => {
-            let Ok(()) = out.nothing() else {
-                return Err(AllocError);
-            };
+            attempt!(out.nothing());
             Ok(Some(Found::Universal {
                 first: at,
                 value: number(names, at),
@@ -246,7 +227,7 @@ fn primary(
         Primary::Group {
             bracket,
             expr: inner,
-        } => match expr(names, levels, here, log, out, want, tree, inner)? {
+        } => match attempt!(expr(names, levels, here, log, out, want, tree, inner)) {
             None => Ok(None),
             Some(given) => grouped(log, out, bracket, given),
         },

@@ -16,6 +16,7 @@ use name_rules::found::{Bounded, Denoted, Found};
 use name_rules::log::{Log, Rule};
 use name_rules::scope::{Context, Names};
 use name_rules::types::{Kind, Scalar, Subtype, Wanted};
+use name_values::attempt;
 use name_values::logs::{breaks, cleared};
 use name_values::names::denoted_first;
 use name_values::relations::common_kind;
@@ -30,7 +31,7 @@ fn no_range(log: &mut Log, out: &Parts, at: u32, rule: Rule) -> Result<Option<Bo
     ensures { Judges (fault at rule log.old) (pop (parts out.now)) result log.new (parts out.now) }
 {
     let _out = out;
-    breaks(log, at, rule)?;
+    attempt!(breaks(log, at, rule));
     Ok(None)
 }
 
@@ -45,15 +46,15 @@ pub fn bounds_of(
 ) -> Result<bool, AllocError>
     ensures { Gives (spec.bounds_of kind (found low (second (parts out.old))) (found high (top (parts out.old))) log.old) (pop (pop (parts out.old))) result log.new (parts out.new) }
 {
-    out.swap()?;
-    let x = asked(log, out, kind, low)?;
-    out.swap()?;
-    let y = asked(log, out, kind, high)?;
+    attempt!(out.swap());
+    let x = attempt!(asked(log, out, kind, low));
+    attempt!(out.swap());
+    let y = attempt!(asked(log, out, kind, high));
     if !x || !y {
         out.leave_out();
         return Ok(false);
     }
-    out.before()?;
+    attempt!(out.before());
     Ok(true)
 }
 
@@ -102,7 +103,7 @@ pub fn own_bounds(
         out.leave_out();
         return no_range(log, out, first_of(high), Rule::WrongType);
     }
-    if !bounds_of(log, out, kind, low, high)? {
+    if !attempt!(bounds_of(log, out, kind, low, high)) {
         return Ok(None);
     }
     Ok(Some(Bounded {
@@ -124,7 +125,7 @@ pub fn checked_range(
 ) -> Result<Option<Bounded>, AllocError>
     ensures { Judges (spec.checked_range first scalar (found low (second (parts out.old))) (found high (top (parts out.old))) log.old) (pop (pop (parts out.old))) result log.new (parts out.new) }
 {
-    if !bounds_of(log, out, scalar.kind, low, high)? {
+    if !attempt!(bounds_of(log, out, scalar.kind, low, high)) {
         return Ok(None);
     }
     Ok(Some(Bounded {
@@ -144,10 +145,10 @@ fn whole_range(
     ensures { Judges (some (spec.whole_range first scalar.kind scalar.low scalar.high (top (parts out.old))) log.now) (pop (parts out.old)) result log.now (parts out.new) }
 {
     let _log = log;
-    literal(out, first, scalar.low, false)?;
-    out.nothing()?;
-    literal(out, first, scalar.high, false)?;
-    out.before()?;
+    attempt!(literal(out, first, scalar.low, false));
+    attempt!(out.nothing());
+    attempt!(literal(out, first, scalar.high, false));
+    attempt!(out.before());
     Ok(Some(Bounded {
         scalar,
         check: None,
@@ -178,7 +179,7 @@ fn named_range(
             first,
             subtype: Subtype::Scalar(scalar),
         } => {
-            cleared(out)?;
+            attempt!(cleared(out));
             whole_range(log, out, first, scalar)
         }
         _ => no_range(log, out, denoted_first(denoted), Rule::WrongType),
@@ -195,7 +196,7 @@ pub fn scalar_type(log: &mut Log, denoted: Denoted) -> Result<Option<Scalar>, Al
             ..
         } => Ok(Some(scalar)),
         _ => {
-            breaks(log, denoted_first(denoted), Rule::WrongType)?;
+            attempt!(breaks(log, denoted_first(denoted), Rule::WrongType));
             Ok(None)
         }
     }
@@ -217,12 +218,8 @@ pub fn range(
 {
     match tree.range(id) {
         Range::Bounded { low, high } => {
-            let Ok(x) = simple(names, levels, here, log, out, Wanted::Other, tree, low) else {
-                return Err(AllocError);
-            };
-            let Ok(y) = simple(names, levels, here, log, out, Wanted::Other, tree, high) else {
-                return Err(AllocError);
-            };
+            let x = attempt!(simple(names, levels, here, log, out, Wanted::Other, tree, low));
+            let y = attempt!(simple(names, levels, here, log, out, Wanted::Other, tree, high));
             let (Some(x), Some(y)) = (x, y) else {
                 out.leave_out();
                 return Ok(None);
@@ -230,29 +227,20 @@ pub fn range(
             own_bounds(log, out, first_tokens::of_simple(tree, low), x, y)
         }
         Range::Whole(name) => {
-            let Ok(given) = name_inside(names, levels, here, log, out, tree, name) else {
-                return Err(AllocError);
-            };
-            match given {
+            match attempt!(name_inside(names, levels, here, log, out, tree, name)) {
                 None => Ok(None),
                 Some(denoted) => named_range(log, out, denoted),
             }
         }
         Range::Constrained { name, low, high } => {
-            let Ok(denoted) = name_inside(names, levels, here, log, out, tree, name) else {
-                return Err(AllocError);
-            };
+            let denoted = attempt!(name_inside(names, levels, here, log, out, tree, name));
             out.leave_out();
             let scalar = match denoted {
                 None => None,
-                Some(denoted) => scalar_type(log, denoted)?,
+                Some(denoted) => attempt!(scalar_type(log, denoted)),
             };
-            let Ok(x) = simple(names, levels, here, log, out, Wanted::Other, tree, low) else {
-                return Err(AllocError);
-            };
-            let Ok(y) = simple(names, levels, here, log, out, Wanted::Other, tree, high) else {
-                return Err(AllocError);
-            };
+            let x = attempt!(simple(names, levels, here, log, out, Wanted::Other, tree, low));
+            let y = attempt!(simple(names, levels, here, log, out, Wanted::Other, tree, high));
             let (Some(scalar), Some(x), Some(y)) = (scalar, x, y) else {
                 out.leave_out();
                 return Ok(None);

@@ -24,6 +24,7 @@ use crate::fields::{
 use ada_base::Items;
 use name_rules::log::{Field, Log, Rule};
 use name_rules::scope::{Context, Names};
+use name_values::attempt;
 use name_values::logs::breaks;
 use std::alloc::AllocError;
 use tree_nodes::{Assoc, Tree};
@@ -45,9 +46,7 @@ fn field_value(
 ) -> Result<bool, AllocError>
     ensures { Gives (spec.field_value names.now (primaries.inside names.now levels) here.now (part_if done (top (parts out.old))) field (the_expr (part_at tree.now.nodes id)) log.old) (pop (parts out.old)) result log.new (parts out.new) }
 {
-    let Ok(given) = value_for(names, levels, here, log, out, field.subtype, tree, id) else {
-        return Err(AllocError);
-    };
+    let given = attempt!(value_for(names, levels, here, log, out, field.subtype, tree, id));
     field_association(log, out, field, done, given)
 }
 
@@ -71,11 +70,7 @@ fn fields_value(
     let mut whole = done;
     let mut i = place;
     'each: while let Some(field) = field_at(fields, i) {
-        let Ok(next_whole) = field_value(names, levels, here, log, out, whole, field, tree, id)
-        else {
-            return Err(AllocError);
-        };
-        whole = next_whole;
+        whole = attempt!(field_value(names, levels, here, log, out, whole, field, tree, id));
         if i == usize::MAX {
             return Err(AllocError);
         }
@@ -103,9 +98,7 @@ fn some_fields(
 {
     match field_at(fields, place) {
         None => {
-            let Ok(()) = judged_alone(names, levels, here, log, out, tree, id) else {
-                return Err(AllocError);
-            };
+            attempt!(judged_alone(names, levels, here, log, out, tree, id));
             Ok(done)
         }
         Some(_) => fields_value(names, levels, here, log, out, done, fields, place, tree, id),
@@ -131,9 +124,7 @@ fn by_position(
     let Positions { done, place, over } = positions;
     match field_at(fields, place) {
         None => {
-            let Ok(()) = judged_alone(names, levels, here, log, out, tree, id) else {
-                return Err(AllocError);
-            };
+            attempt!(judged_alone(names, levels, here, log, out, tree, id));
             Ok(Positions {
                 done,
                 place,
@@ -141,9 +132,7 @@ fn by_position(
             })
         }
         Some(field) => {
-            let Ok(done) = field_value(names, levels, here, log, out, done, field, tree, id) else {
-                return Err(AllocError);
-            };
+            let done = attempt!(field_value(names, levels, here, log, out, done, field, tree, id));
             if place == usize::MAX {
                 return Err(AllocError);
             }
@@ -173,11 +162,7 @@ fn record_values(
     let mut all = positions;
     let mut next = more;
     'values: while let Some(cell) = tree.cell(next) {
-        let Ok(next_all) = by_position(names, levels, here, log, out, fields, all, tree, cell.first)
-        else {
-            return Err(AllocError);
-        };
-        all = next_all;
+        all = attempt!(by_position(names, levels, here, log, out, fields, all, tree, cell.first));
         next = cell.rest;
     }
     Ok(all)
@@ -200,18 +185,15 @@ fn record_positions(
 ) -> Result<Positions, AllocError>
     ensures { IfOk result (λ p. (spec.record_values names.now (primaries.inside names.now levels) here.now (counted positions fields.now (parts out.old)) (exprs_in (part_at tree.now.nodes) first second more) log.old ≡ (counted p fields.now (parts out.new), log.new)) × (pop (parts out.new) ≡ pop (parts out.old))) }
 {
-    let Ok(all) = by_position(
+    let all = attempt!(by_position(
         names, levels, here, log, out, fields, positions, tree, first,
-    ) else {
-        return Err(AllocError);
-    };
+    ));
     match second {
         None => record_values(names, levels, here, log, out, fields, all, tree, more),
         Some(second) => {
-            let Ok(all) = by_position(names, levels, here, log, out, fields, all, tree, second)
-            else {
-                return Err(AllocError);
-            };
+            let all = attempt!(by_position(
+                names, levels, here, log, out, fields, all, tree, second
+            ));
             record_values(names, levels, here, log, out, fields, all, tree, more)
         }
     }
@@ -237,10 +219,9 @@ fn record_rest(
     match others {
         None => Ok(positions),
         Some(id) => {
-            let Ok(done) = some_fields(names, levels, here, log, out, done, fields, place, tree, id)
-            else {
-                return Err(AllocError);
-            };
+            let done = attempt!(some_fields(
+                names, levels, here, log, out, done, fields, place, tree, id
+            ));
             Ok(Positions {
                 done,
                 place: fields.len(),
@@ -268,23 +249,19 @@ fn record_assoc(
 {
     match tree.assoc(id) {
         Assoc::Each { at, .. } => {
-            let Ok(()) = breaks(log, at, Rule::WrongType) else {
-                return Err(AllocError);
-            };
+            attempt!(breaks(log, at, Rule::WrongType));
             Ok(filling)
         }
         Assoc::Chosen { first, more, value } => {
             let Filling { done, left, over } = filling;
             let alloc = out.alloc();
-            let Ok(taking) = field_choices(names, log, alloc, all, last, left, tree, first, more)
-            else {
-                return Err(AllocError);
-            };
+            let taking = attempt!(field_choices(
+                names, log, alloc, all, last, left, tree, first, more
+            ));
             let taken = &taking.taken;
-            let Ok(done) = some_fields(names, levels, here, log, out, done, taken, 0, tree, value)
-            else {
-                return Err(AllocError);
-            };
+            let done = attempt!(some_fields(
+                names, levels, here, log, out, done, taken, 0, tree, value
+            ));
             Ok(Filling {
                 done,
                 left: taking.left,
@@ -312,12 +289,9 @@ fn record_assocs(
     let mut next = more;
     'assocs: while let Some(cell) = tree.cell(next) {
         let last = is_final(tree, cell.rest);
-        let Ok(next_whole) = record_assoc(
+        whole = attempt!(record_assoc(
             names, levels, here, log, out, all, last, whole, tree, cell.first,
-        ) else {
-            return Err(AllocError);
-        };
-        whole = next_whole;
+        ));
         next = cell.rest;
     }
     Ok(whole)

@@ -15,6 +15,7 @@ use ada_base::Op;
 use name_rules::found::Folding;
 use name_rules::log::Log;
 use name_rules::scope::{Context, Names};
+use name_values::attempt;
 use name_values::reductions::{
     extreme_name, extreme_of, function_of, no_folding, operator_reducer,
 };
@@ -38,9 +39,7 @@ fn no_reducer(
     ensures { Says (spec.no_reducer names.now (primaries.inside names.now levels) here.now (the_expr (part_at tree.now.nodes id)) log.old) result log.new × OnOk result (parts out.new ≡ parts out.old) }
 {
     let before = log.faults.len();
-    let Ok(()) = judged_alone(names, levels, here, log, out, tree, id) else {
-        return Err(AllocError);
-    };
+    attempt!(judged_alone(names, levels, here, log, out, tree, id));
     if log.faults.len() == before {
         no_folding(log, first_tokens::of_expr(tree, id))
     } else {
@@ -59,7 +58,7 @@ fn extreme_named(
 ) -> Result<Option<Folding>, AllocError>
     ensures { Says (reducers.extreme_named names.now here.now first op log.old) result log.new × OnOk result (parts out.new ≡ parts out.old) }
 {
-    let denoted = stands_for(names, here, log, out, first)?;
+    let denoted = attempt!(stands_for(names, here, log, out, first));
     out.leave_out();
     match denoted {
         Some(denoted) => extreme_of(log, first, op, denoted),
@@ -77,7 +76,7 @@ fn function_named(
 ) -> Result<Option<Folding>, AllocError>
     ensures { Says (reducers.function_named names.now here.now first log.old) result log.new × OnOk result (parts out.new ≡ parts out.old) }
 {
-    let denoted = stands_for(names, here, log, out, first)?;
+    let denoted = attempt!(stands_for(names, here, log, out, first));
     out.leave_out();
     match denoted {
         Some(denoted) => function_of(log, first, denoted),

@@ -32,6 +32,7 @@ use name_rules::found::{Attribute, Denoted, Folding, Found, Going, Place, Prefix
 use name_rules::log::{Log, Rule};
 use name_rules::scope::{Context, Names};
 use name_rules::types::{Subtype, Wanted};
+use name_values::attempt;
 use name_values::logs::no_part;
 use name_values::names::{component_of, denoted_first, field, wrong_name};
 use name_values::reductions::folded_by;
@@ -63,7 +64,7 @@ fn site_where(
     if !parallel {
         return Ok(None);
     }
-    let number = new_site(log, here, at, SiteKind::Reduction)?;
+    let number = attempt!(new_site(log, here, at, SiteKind::Reduction));
     Ok(Some(number))
 }
 
@@ -71,14 +72,14 @@ fn site_where(
 fn through(log: &Log, out: &mut Parts, place: Place, number: u32) -> Result<(), AllocError>
     ensures { OnOk result (joined out.new ≡ AnIteration (spec.through log.now place (selections_of (top (joined out.old))) (spec.array_shape log.now place.subtype) number typed.Absent) ∷ pop (joined out.old)) }
 {
-    out.turn()?;
-    out.nothing()?;
+    attempt!(out.turn());
+    attempt!(out.nothing());
     match place.subtype {
         Subtype::Scalar(_) => {
             out.components(number, !place.variable, place.first, place.root, 1, 1, 0)
         }
         Subtype::Composite(subtype) => {
-            let c = components_of(log, place, subtype, number)?;
+            let c = attempt!(components_of(log, place, subtype, number));
             out.components(
                 c.item,
                 c.constant,
@@ -130,7 +131,7 @@ fn reduced_by(
         out.leave_out();
         return Ok(None);
     };
-    match folded_by(log, out, going, by, value, initial)? {
+    match attempt!(folded_by(log, out, going, by, value, initial)) {
         None => Ok(None),
         Some(found) => Ok(Some(Denoted::Value(found))),
     }
@@ -154,31 +155,15 @@ fn array_reduction(
     ensures { Judges (array_reduction_by names.now (primaries.inside names.now levels) here.now place (selections_of (top (joined out.old))) at attribute (the_expr (part_at tree.now.nodes reducer)) (the_expr (part_at tree.now.nodes initial)) log.old) (pop (joined out.old)) result log.new (joined out.new) }
 {
     let first = place.first;
-    let Ok(site) = site_where(log, here, first, is_parallel(attribute)) else {
-        return Err(AllocError);
-    };
-    let Ok(number) = new_parameter(log) else {
-        return Err(AllocError);
-    };
+    let site = attempt!(site_where(log, here, first, is_parallel(attribute)));
+    let number = attempt!(new_parameter(log));
     let component = component_in(log, place.subtype);
-    let Ok(()) = through(log, out, place, number) else {
-        return Err(AllocError);
-    };
-    let Ok(()) = out.nothing() else {
-        return Err(AllocError);
-    };
-    let Ok(()) = out.swap() else {
-        return Err(AllocError);
-    };
-    let Ok(()) = out.nothing() else {
-        return Err(AllocError);
-    };
-    let Ok(by) = reducer_of(names, levels, here, log, out, tree, reducer) else {
-        return Err(AllocError);
-    };
-    let Ok(x) = expr(names, levels, here, log, out, Wanted::Other, tree, initial) else {
-        return Err(AllocError);
-    };
+    attempt!(through(log, out, place, number));
+    attempt!(out.nothing());
+    attempt!(out.swap());
+    attempt!(out.nothing());
+    let by = attempt!(reducer_of(names, levels, here, log, out, tree, reducer));
+    let x = attempt!(expr(names, levels, here, log, out, Wanted::Other, tree, initial));
     let going = Going {
         at: first,
         attribute: at,
@@ -205,12 +190,8 @@ fn wrong_arguments(
     ensures { Judges (where_clean (name_rules_of.args_alone names.now (primaries.inside names.now levels) here.now (syntax.AlsoArg (the_arg (part_at tree.now.nodes arg)) (the_args (part_at tree.now.nodes more)))) (λ u. fault at rule) log.old) (pop (joined out.old)) result log.new (joined out.new) }
 {
     let before = log.faults.len();
-    let Ok(()) = arg_alone(names, levels, here, log, out, tree, arg) else {
-        return Err(AllocError);
-    };
-    let Ok(()) = args_alone(names, levels, here, log, out, tree, more) else {
-        return Err(AllocError);
-    };
+    attempt!(arg_alone(names, levels, here, log, out, tree, arg));
+    attempt!(args_alone(names, levels, here, log, out, tree, more));
     if log.faults.len() == before {
         wrong_name(log, out, at, rule)
     } else {
@@ -373,12 +354,8 @@ fn of_array(
     if !is_bound(attribute) {
         return wrong_call(names, levels, here, log, out, first, tree, arg, more);
     }
-    let Ok(()) = mentioned(out, prefix) else {
-        return Err(AllocError);
-    };
-    let Ok(dimensions) = dimensions_in(log, out, prefix_subtype(prefix)) else {
-        return Err(AllocError);
-    };
+    attempt!(mentioned(out, prefix));
+    let dimensions = attempt!(dimensions_in(log, out, prefix_subtype(prefix)));
     bound_with(
         names,
         levels,
@@ -565,15 +542,15 @@ fn part_of(
         } => call(
             names, levels, here, log, out, bracket, denoted, tree, first, more,
         ),
-        NamePart::Field(at) => match settled_attribute(log, out, denoted)? {
+        NamePart::Field(at) => match attempt!(settled_attribute(log, out, denoted)) {
             None => Ok(None),
             Some(whole) => field(names, here, log, out, at, whole),
         },
-        NamePart::Attribute(at) => match settled_attribute(log, out, denoted)? {
+        NamePart::Attribute(at) => match attempt!(settled_attribute(log, out, denoted)) {
             None => Ok(None),
             Some(whole) => attribute_found(log, out, whole, at, attribute_at(symbol(names, at))),
         },
-        NamePart::RangeAttribute(at) => match settled_attribute(log, out, denoted)? {
+        NamePart::RangeAttribute(at) => match attempt!(settled_attribute(log, out, denoted)) {
             None => Ok(None),
             Some(whole) => attribute_found(log, out, whole, at, Some(Attribute::Range)),
         },
@@ -640,10 +617,7 @@ fn parts(
     let mut d = before;
     let mut next = more;
     'parts: while let Some(cell) = tree.cell(next) {
-        let Ok(next_d) = next_part(names, levels, here, log, out, d, tree, cell.first) else {
-            return Err(AllocError);
-        };
-        d = next_d;
+        d = attempt!(next_part(names, levels, here, log, out, d, tree, cell.first));
         next = cell.rest;
     }
     Ok(d)
@@ -665,13 +639,8 @@ pub fn name(
     ensures { Judges (spec.name names.now (primaries.inside names.now levels) here.now (the_name (part_at tree.now.nodes id)) log.old) (joined out.old) result log.new (joined out.new) }
 {
     let whole = tree.name(id);
-    let Ok(d) = stands_for(names, here, log, out, whole.first) else {
-        return Err(AllocError);
-    };
-    let Ok(given) = parts(names, levels, here, log, out, d, tree, whole.parts) else {
-        return Err(AllocError);
-    };
-    match given {
+    let d = attempt!(stands_for(names, here, log, out, whole.first));
+    match attempt!(parts(names, levels, here, log, out, d, tree, whole.parts)) {
         None => Ok(None),
         Some(denoted) => settled_attribute(log, out, denoted),
     }
@@ -739,12 +708,9 @@ pub fn value_named(
 ) -> Result<Option<Found>, AllocError>
     ensures { Judges (spec.value_named names.now (primaries.inside names.now levels) here.now (the_name (part_at tree.now.nodes id)) log.old) (joined out.old) result log.new (joined out.new) }
 {
-    let Ok(given) = name(names, levels, here, log, out, tree, id) else {
-        return Err(AllocError);
-    };
-    match given {
+    match attempt!(name(names, levels, here, log, out, tree, id)) {
         None => Ok(None),
-        Some(denoted) => match valued_by(names, levels, here, log, out, denoted, tree)? {
+        Some(denoted) => match attempt!(valued_by(names, levels, here, log, out, denoted, tree)) {
             None => Ok(None),
             Some(value) => value_form(log, out, value),
         },

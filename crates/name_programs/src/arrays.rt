@@ -18,6 +18,7 @@ use name_rules::log::{Dimension, Log, Rule, Shape};
 use name_rules::scope::{Context, Names};
 use name_rules::types::Subtype;
 use name_values::arrays::array_cells;
+use name_values::attempt;
 use name_values::logs::{also_all, breaks};
 use name_values::names::cells_in;
 use name_values::types::{number_of, written_shape};
@@ -40,7 +41,7 @@ fn dimension(
 ) -> Result<bool, AllocError>
     ensures { Extends (step.dimension (primaries.inside names.now levels) here.now (dimensions_if done dimensions.old (top (parts out.old))) (the_range (part_at tree.now.nodes id)) log.old) (pop (parts out.old)) result dimensions.new log.new (parts out.new) }
 {
-    let found = static_range(names, levels, here, log, out, true, None, tree, id)?;
+    let found = attempt!(static_range(names, levels, here, log, out, true, None, tree, id));
     let Some(found) = found else {
         out.leave_out();
         return Ok(false);
@@ -49,8 +50,8 @@ fn dimension(
         out.leave_out();
         return Ok(false);
     }
-    dimensions.push(found)?;
-    also_all(out)?;
+    attempt!(dimensions.push(found));
+    attempt!(also_all(out));
     Ok(true)
 }
 
@@ -71,9 +72,9 @@ fn dimensions_from(
     let mut whole = done;
     let mut next = more;
     'all: while let Some(cell) = tree.cell(next) {
-        whole = dimension(
+        whole = attempt!(dimension(
             names, levels, here, log, out, whole, dimensions, tree, cell.first,
-        )?;
+        ));
         next = cell.rest;
     }
     Ok(whole)
@@ -87,9 +88,9 @@ fn array_written(
 ) -> Result<Option<Subtype>, AllocError>
     ensures { Says (spec.array_written dimensions component log.old) result log.new }
 {
-    let number = number_of(log, component)?;
+    let number = attempt!(number_of(log, component));
     let cells = array_cells(&dimensions, 0, cells_in(log, component));
-    let written = written_shape(
+    let written = attempt!(written_shape(
         log,
         Shape::Array {
             dimensions,
@@ -97,7 +98,7 @@ fn array_written(
             number,
             cells,
         },
-    )?;
+    ));
     Ok(Some(Subtype::Composite(written)))
 }
 
@@ -114,18 +115,18 @@ fn array_given(
     ensures { Judges (spec.array_given at (record { dimensions = dimensions; mentions = second (parts out.old) }) (found component (top (parts out.old))) log.old) (pop (pop (parts out.old))) result log.new (parts out.new) }
 {
     let count = dimensions.len();
-    also_all(out)?;
+    attempt!(also_all(out));
     if count <= 4 {
         array_written(log, dimensions, component)
     } else {
-        breaks(
+        attempt!(breaks(
             log,
             at,
             Rule::Limit {
                 which: 4,
                 count: count as u64,
             },
-        )?;
+        ));
         Ok(None)
     }
 }
@@ -145,14 +146,14 @@ pub fn array(
 {
     let view = tree.array(id);
     let mut all = Items::new(out.alloc());
-    out.nothing()?;
-    let first = dimension(
+    attempt!(out.nothing());
+    let first = attempt!(dimension(
         names, levels, here, log, out, true, &mut all, tree, view.first,
-    )?;
-    let whole = dimensions_from(
+    ));
+    let whole = attempt!(dimensions_from(
         names, levels, here, log, out, first, &mut all, tree, view.more,
-    )?;
-    let component = indic(names, levels, here, log, out, tree, view.component)?;
+    ));
+    let component = attempt!(indic(names, levels, here, log, out, tree, view.component));
     if !whole {
         out.leave_out();
         return Ok(None);
@@ -163,7 +164,7 @@ pub fn array(
             Ok(None)
         }
         Some(component) => {
-            let written = array_given(log, out, view.at, all, component)?;
+            let written = attempt!(array_given(log, out, view.at, all, component));
             Ok(written)
         }
     }

@@ -13,6 +13,7 @@ use name_rules::found::{Denoted, Found};
 use name_rules::log::{Log, Rule};
 use name_rules::scope::{Context, Names};
 use name_rules::types::{Kind, Subtype};
+use name_values::attempt;
 use name_values::logs::breaks;
 use name_values::scope::stands_for;
 use name_values::symbols::symbol;
@@ -29,14 +30,14 @@ fn boolean_place(log: &mut Log, token: u32, subtype: Subtype) -> Result<bool, Al
     match subtype {
         Subtype::Scalar(scalar) => {
             if is_integer(scalar.kind) {
-                breaks(log, token, Rule::WrongType)?;
+                attempt!(breaks(log, token, Rule::WrongType));
                 return Ok(true);
             }
-            breaks(log, token, Rule::NotStatic)?;
+            attempt!(breaks(log, token, Rule::NotStatic));
             Ok(true)
         }
         Subtype::Composite(_) => {
-            breaks(log, token, Rule::WrongType)?;
+            attempt!(breaks(log, token, Rule::WrongType));
             Ok(true)
         }
     }
@@ -64,7 +65,7 @@ fn aspect_denoted(log: &mut Log, token: u32, denoted: Option<Denoted>) -> Result
         ) => Ok(not_zero(value)),
         Some(Denoted::Value(Found::Object(place))) => boolean_place(log, token, place.subtype),
         Some(_) => {
-            breaks(log, token, Rule::WrongType)?;
+            attempt!(breaks(log, token, Rule::WrongType));
             Ok(true)
         }
     }
@@ -83,9 +84,9 @@ fn aspect_value(
     let Some(token) = value else {
         return Ok(true);
     };
-    let denoted = stands_for(names, here, log, out, token)?;
+    let denoted = attempt!(stands_for(names, here, log, out, token));
     out.leave_out();
-    let given = aspect_denoted(log, token, denoted)?;
+    let given = attempt!(aspect_denoted(log, token, denoted));
     Ok(given)
 }
 
@@ -109,7 +110,7 @@ pub fn aspect(
     if symbol(names, view.mark) == NONBLOCKING {
         return aspect_value(names, here, log, out, view.value);
     }
-    breaks(log, view.mark, Rule::Unknown)?;
+    attempt!(breaks(log, view.mark, Rule::Unknown));
     Ok(true)
 }
 
@@ -126,7 +127,7 @@ pub fn end_name(
         None => Ok(()),
         Some(token) => {
             let same = symbol(names, name) == symbol(names, token);
-            unless(log, same, token, Rule::WrongEnd)?;
+            attempt!(unless(log, same, token, Rule::WrongEnd));
             Ok(())
         }
     }

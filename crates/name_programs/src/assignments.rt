@@ -18,6 +18,7 @@ use name_expressions::whole_names::valued_by;
 use name_rules::found::{Denoted, Found, Place};
 use name_rules::log::{Log, Rule};
 use name_rules::scope::{Context, Names, Target};
+use name_values::attempt;
 use name_values::logs::not_given;
 use name_values::names::denoted_first;
 use name_values::types::wanted_of;
@@ -36,11 +37,11 @@ fn stored_place(
 ) -> Result<bool, AllocError>
     ensures { Gives (spec.stored_place place (as_selections (second (parts out.old))) at (found given (top (parts out.old))) log.old) (pop (pop (parts out.old))) result log.new (parts out.new) }
 {
-    if !stored(log, out, place.subtype, at, given)? {
+    if !attempt!(stored(log, out, place.subtype, at, given)) {
         out.leave_out();
         return Ok(false);
     }
-    out.assign(place.first, place.root)?;
+    attempt!(out.assign(place.first, place.root));
     Ok(true)
 }
 
@@ -85,15 +86,15 @@ fn assign_place(
     let want = wanted_of(place.subtype);
     let outer = here.target;
     let before = log.faults.len();
-    out.turn()?;
+    attempt!(out.turn());
     here.target = Target::Of(place.subtype);
-    let x = expr(names, levels, here, log, out, want, tree, value)?;
+    let x = attempt!(expr(names, levels, here, log, out, want, tree, value));
     here.target = outer;
     if log.faults.len() != before {
         out.leave_out();
         return Ok(false);
     }
-    let given = assigned_place(log, out, place, at, x)?;
+    let given = attempt!(assigned_place(log, out, place, at, x));
     Ok(given)
 }
 
@@ -111,7 +112,7 @@ fn assigned_alone(
 {
     let outer = here.target;
     here.target = Target::Faulty;
-    judged_alone(names, levels, here, log, out, tree, value)?;
+    attempt!(judged_alone(names, levels, here, log, out, tree, value));
     here.target = outer;
     Ok(())
 }
@@ -130,11 +131,11 @@ fn assign_other(
     ensures { Keeps (spec.assign_other names.now (inside names.now levels) here.old (the_expr (part_at tree.now.nodes value)) first log.old) (pop (parts out.old)) here.old result log.new (parts out.new) here.new }
 {
     let before = log.faults.len();
-    assigned_alone(names, levels, here, log, out, tree, value)?;
+    attempt!(assigned_alone(names, levels, here, log, out, tree, value));
     if log.faults.len() != before {
         return Ok(false);
     }
-    not_given(log, out, first, Rule::WrongType)?;
+    attempt!(not_given(log, out, first, Rule::WrongType));
     Ok(false)
 }
 
@@ -174,13 +175,13 @@ pub fn assign(
 ) -> Result<bool, AllocError>
     ensures { Keeps (spec.assign names.now (inside names.now levels) here.old (the_name (part_at tree.now.nodes target)) (the_expr (part_at tree.now.nodes value)) log.old) (parts out.old) here.old result log.new (parts out.new) here.new }
 {
-    match name_inside(names, levels, here, log, out, tree, target)? {
+    match attempt!(name_inside(names, levels, here, log, out, tree, target)) {
         None => {
-            assigned_alone(names, levels, here, log, out, tree, value)?;
+            attempt!(assigned_alone(names, levels, here, log, out, tree, value));
             Ok(false)
         }
         Some(denoted) => {
-            let given = assign_form(names, levels, here, log, out, denoted, tree, value)?;
+            let given = attempt!(assign_form(names, levels, here, log, out, denoted, tree, value));
             Ok(given)
         }
     }
@@ -209,9 +210,9 @@ pub fn call_stmt(
 ) -> Result<bool, AllocError>
     ensures { Gives (spec.call_stmt names.now (inside names.now levels) here.now (the_name (part_at tree.now.nodes name)) log.old) (parts out.old) result log.new (parts out.new) }
 {
-    match name_inside(names, levels, here, log, out, tree, name)? {
+    match attempt!(name_inside(names, levels, here, log, out, tree, name)) {
         None => Ok(false),
-        Some(denoted) => match valued_by(names, levels, here, log, out, denoted, tree)? {
+        Some(denoted) => match attempt!(valued_by(names, levels, here, log, out, denoted, tree)) {
             None => Ok(false),
             Some(called) => as_statement(log, out, called),
         },

@@ -17,6 +17,7 @@ use crate::statements::stmts;
 use ada_base::{Items, Reason};
 use name_rules::log::Log;
 use name_rules::scope::{Context, Names};
+use name_values::attempt;
 use name_values::handled::{Handling, handled_by};
 use name_values::scope::copied;
 use std::alloc::AllocError;
@@ -39,7 +40,7 @@ fn handled(
 {
     let outer = here.in_handler;
     here.in_handler = true;
-    let given = stmts(names, levels, below, here, log, out, tree, id)?;
+    let given = attempt!(stmts(names, levels, below, here, log, out, tree, id));
     here.in_handler = outer;
     Ok(given)
 }
@@ -60,14 +61,14 @@ fn with_handler(
             Ok(false)
         }
         Handling::Others => {
-            out.swap()?;
+            attempt!(out.swap());
             out.leave_out();
             if !done || !then {
                 out.leave_out();
                 return Ok(false);
             }
-            out.handler_others()?;
-            out.also()?;
+            attempt!(out.handler_others());
+            attempt!(out.also());
             Ok(true)
         }
         Handling::Reasons => {
@@ -76,8 +77,8 @@ fn with_handler(
                 out.leave_out();
                 return Ok(false);
             }
-            out.handler_reasons()?;
-            out.also()?;
+            attempt!(out.handler_reasons());
+            attempt!(out.also());
             Ok(true)
         }
     }
@@ -102,9 +103,9 @@ fn handler(
     ensures { KeepsWith (spec.handler (in_levels names.now levels below) here.old last (reverse seen.old) (part_if done (top (parts out.old))) (the_handler (part_at tree.now.nodes id)) log.old) (pop (parts out.old)) here.old result (reverse seen.new) log.new (parts out.new) here.new }
 {
     let one = tree.handler(id);
-    let chosen = handled_by(names, here, log, out, seen, last, tree, one.handled)?;
-    let ss = handled(names, levels, below, here, log, out, tree, one.stmts)?;
-    let given = with_handler(out, done, chosen, ss)?;
+    let chosen = attempt!(handled_by(names, here, log, out, seen, last, tree, one.handled));
+    let ss = attempt!(handled(names, levels, below, here, log, out, tree, one.stmts));
+    let given = attempt!(with_handler(out, done, chosen, ss));
     Ok(given)
 }
 
@@ -130,14 +131,14 @@ fn handlers(
     ensures { Keeps (spec.handlers (in_levels names.now levels below) here.old [] (Some part.Nothing) (the_handlers (part_at tree.now.nodes more)) log.old) (parts out.old) here.old result log.new (parts out.new) here.new }
 {
     let mut seen = Items::new(out.alloc());
-    out.nothing()?;
+    attempt!(out.nothing());
     let mut done = true;
     let mut next = more;
     'handlers: while let Some(cell) = tree.cell(next) {
         let last = is_last(tree, cell.rest);
-        done = handler(
+        done = attempt!(handler(
             names, levels, below, here, log, out, last, &mut seen, done, tree, cell.first,
-        )?;
+        ));
         next = cell.rest;
     }
     Ok(done)
@@ -160,13 +161,13 @@ fn held(
     ensures { Holds (spec.body (in_levels names.now levels below) here.old (part_if declared (top (parts out.old))) (the_body (part_at tree.now.nodes id)) log.old) (pop (parts out.old)) here.old result log.new (parts out.new) here.new }
 {
     let whole = tree.body(id);
-    out.turn()?;
-    let ss = stmts(names, levels, below, here, log, out, tree, whole.stmts)?;
-    let xs = handlers(names, levels, below, here, log, out, tree, whole.handlers)?;
+    attempt!(out.turn());
+    let ss = attempt!(stmts(names, levels, below, here, log, out, tree, whole.stmts));
+    let xs = attempt!(handlers(names, levels, below, here, log, out, tree, whole.handlers));
     if !declared || !ss || !xs {
         return Ok(false);
     }
-    out.turn()?;
+    attempt!(out.turn());
     Ok(true)
 }
 
@@ -184,8 +185,8 @@ pub fn body(
 ) -> Result<bool, AllocError>
     ensures { Keeps (spec.body (in_levels names.now levels below) here.old (part_if declared (top (parts out.old))) (the_body (part_at tree.now.nodes id)) log.old) (pop (parts out.old)) here.old result log.new (parts out.new) here.new }
 {
-    let given = held(names, levels, below, here, log, out, declared, tree, id)?;
-    out.body()?;
+    let given = attempt!(held(names, levels, below, here, log, out, declared, tree, id));
+    attempt!(out.body());
     Ok(given)
 }
 
@@ -204,12 +205,12 @@ fn block_of(
 ) -> Result<bool, AllocError>
     ensures { Keeps (spec.block_of (in_levels names.now levels below) here.old (part_if declared (top (parts out.old))) (the_body (part_at tree.now.nodes id)) log.old) (pop (parts out.old)) here.old result log.new (parts out.new) here.new }
 {
-    if !held(names, levels, below, here, log, out, declared, tree, id)? {
+    if !attempt!(held(names, levels, below, here, log, out, declared, tree, id)) {
         out.leave_out();
         out.leave_out();
         return Ok(false);
     }
-    out.block()?;
+    attempt!(out.block());
     Ok(true)
 }
 
@@ -231,17 +232,19 @@ pub fn block(
 {
     match declare {
         None => {
-            out.nothing()?;
+            attempt!(out.nothing());
             block_of(names, levels, below, here, log, out, true, tree, id)
         }
         Some(declare) => {
-            let mut inner = copied(here, out)?;
+            let mut inner = attempt!(copied(here, out));
             let list = tree.declare(declare).decls;
             let start = here.scope.len();
-            let declared = declarations(names, levels, start, &mut inner, log, out, tree, list)?;
-            let given = block_of(
+            let declared = attempt!(declarations(
+                names, levels, start, &mut inner, log, out, tree, list
+            ));
+            let given = attempt!(block_of(
                 names, levels, below, &mut inner, log, out, declared, tree, id,
-            )?;
+            ));
             Ok(given)
         }
     }

@@ -22,6 +22,7 @@ use name_rules::found::Found;
 use name_rules::log::{Log, Rule};
 use name_rules::scope::{Context, Names};
 use name_rules::types::{Kind, Scalar, Wanted};
+use name_values::attempt;
 use name_values::coverage::{Choosing, Covering, choices_part, closed};
 use name_values::logs::breaks;
 use name_values::types::base_of;
@@ -45,10 +46,10 @@ fn selector(log: &mut Log, out: &mut Parts, value: Found) -> Result<Option<Scala
     ensures { Judges (spec.selector (found value (top (parts out.old))) log.old) (pop (parts out.old)) result log.new (parts out.new) }
 {
     if !is_scalar(value) {
-        breaks(log, first_of(value), Rule::WrongType)?;
+        attempt!(breaks(log, first_of(value), Rule::WrongType));
         return Ok(None);
     }
-    if !settled_found(log, out, value)? {
+    if !attempt!(settled_found(log, out, value)) {
         return Ok(None);
     }
     Ok(Some(selecting(value)))
@@ -100,11 +101,11 @@ fn with_alternative(
         return Ok(false);
     }
     let others = choosing.others;
-    out.swap()?;
-    choices_part(out, choosing)?;
-    out.rotate()?;
-    out.alternative(others)?;
-    out.also()?;
+    attempt!(out.swap());
+    attempt!(choices_part(out, choosing));
+    attempt!(out.rotate());
+    attempt!(out.alternative(others));
+    attempt!(out.also());
     Ok(true)
 }
 
@@ -112,7 +113,7 @@ fn with_alternative(
 fn begun_choices(out: &mut Parts) -> Result<Choosing, AllocError>
     ensures { IfOk result (λ d. (spec.no_choosing ≡ as_choosing d (top (parts out.new))) × (pop (parts out.new) ≡ parts out.old)) }
 {
-    out.nothing()?;
+    attempt!(out.nothing());
     Ok(Choosing::new(out.alloc()))
 }
 
@@ -132,8 +133,8 @@ fn chosen(
 ) -> Result<Choosing, AllocError>
     ensures { IfOk result (λ d. (cases.case_choices (inside names.now levels) here.now kind (length (the_choice_list (part_at tree.now.nodes more)) == 0) last (as_covering covering.old) spec.no_choosing (the_choice (part_at tree.now.nodes first) ∷ the_choice_list (part_at tree.now.nodes more)) log.old ≡ ((as_covering covering.new, as_choosing d (top (parts out.new))), log.new)) × (pop (parts out.new) ≡ parts out.old)) }
 {
-    let mut choosing = begun_choices(out)?;
-    case_choices(
+    let mut choosing = attempt!(begun_choices(out));
+    attempt!(case_choices(
         names,
         levels,
         here,
@@ -146,7 +147,7 @@ fn chosen(
         tree,
         first,
         more,
-    )?;
+    ));
     Ok(choosing)
 }
 
@@ -170,11 +171,11 @@ fn alternative(
     ensures { KeepsWith (spec.alternative (in_levels names.now levels below) here.old kind last (as_covering covering.old) (part_if done (top (parts out.old))) (the_alt (part_at tree.now.nodes id)) log.old) (pop (parts out.old)) here.old result (as_covering covering.new) log.new (parts out.new) here.new }
 {
     let one = tree.alt(id);
-    let choosing = chosen(
+    let choosing = attempt!(chosen(
         names, levels, here, log, out, kind, last, covering, tree, one.first, one.more,
-    )?;
-    let ss = stmts(names, levels, below, here, log, out, tree, one.stmts)?;
-    let given = with_alternative(out, choosing, done, ss)?;
+    ));
+    let ss = attempt!(stmts(names, levels, below, here, log, out, tree, one.stmts));
+    let given = attempt!(with_alternative(out, choosing, done, ss));
     Ok(given)
 }
 
@@ -195,17 +196,17 @@ fn alts(
 ) -> Result<bool, AllocError>
     ensures { KeepsWith (spec.alts (in_levels names.now levels below) here.old kind (as_covering covering.old) (Some part.Nothing) (syntax.AlsoAlt (the_alt (part_at tree.now.nodes first)) (the_alts (part_at tree.now.nodes more))) log.old) (parts out.old) here.old result (as_covering covering.new) log.new (parts out.new) here.new }
 {
-    out.nothing()?;
+    attempt!(out.nothing());
     let only = is_last(tree, more);
-    let mut done = alternative(
+    let mut done = attempt!(alternative(
         names, levels, below, here, log, out, kind, only, covering, true, tree, first,
-    )?;
+    ));
     let mut next = more;
     'alts: while let Some(cell) = tree.cell(next) {
         let last = is_last(tree, cell.rest);
-        done = alternative(
+        done = attempt!(alternative(
             names, levels, below, here, log, out, kind, last, covering, done, tree, cell.first,
-        )?;
+        ));
         next = cell.rest;
     }
     Ok(done)
@@ -241,8 +242,8 @@ fn case_made(out: &mut Parts, selector: Option<Scalar>, more: bool) -> Result<bo
                 out.leave_out();
                 return Ok(false);
             }
-            out.turn()?;
-            out.case()?;
+            attempt!(out.turn());
+            attempt!(out.case());
             Ok(true)
         }
     }
@@ -267,10 +268,10 @@ pub fn case_stmt(
     ensures { Keeps (spec.case_stmt (in_levels names.now levels below) here.old at (the_expr (part_at tree.now.nodes value)) (syntax.AlsoAlt (the_alt (part_at tree.now.nodes first)) (the_alts (part_at tree.now.nodes more))) log.old) (parts out.old) here.old result log.new (parts out.new) here.new }
 {
     let mut covering = Covering::new(out.alloc());
-    let f = expr(names, levels, here, log, out, Wanted::Other, tree, value)?;
-    let s = selector_where(log, out, f)?;
+    let f = attempt!(expr(names, levels, here, log, out, Wanted::Other, tree, value));
+    let s = attempt!(selector_where(log, out, f));
     let kind = kind_of(out, s);
-    let xs = alts(
+    let xs = attempt!(alts(
         names,
         levels,
         below,
@@ -282,8 +283,8 @@ pub fn case_stmt(
         tree,
         first,
         more,
-    )?;
-    closed_where(log, out, at, s, covering)?;
-    let given = case_made(out, s, xs)?;
+    ));
+    attempt!(closed_where(log, out, at, s, covering));
+    let given = attempt!(case_made(out, s, xs));
     Ok(given)
 }

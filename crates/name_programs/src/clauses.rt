@@ -12,6 +12,7 @@ use crate::rules::unless;
 use ada_tree::ClauseWord;
 use name_rules::log::{Log, Rule};
 use name_rules::scope::{Context, Names, Packages};
+use name_values::attempt;
 use name_values::logs::breaks;
 use name_values::symbols::{ADA, INTEGER_IO, TEXT_IO, symbol};
 use std::alloc::AllocError;
@@ -31,19 +32,19 @@ fn policy_named(names: &Names, log: &mut Log, tree: &Tree, id: u32) -> Result<bo
 {
     let view = tree.policy(id);
     if !(symbol(names, view.mark) == POLICY) {
-        breaks(log, view.mark, Rule::Unknown)?;
+        attempt!(breaks(log, view.mark, Rule::Unknown));
         return Ok(true);
     }
     let named = symbol(names, view.policy);
     if named == KNOWN_PARALLEL {
         return Ok(false);
     }
-    unless(
+    attempt!(unless(
         log,
         named == ALL_PARALLEL || named == ALL,
         view.policy,
         Rule::PolicyName,
-    )?;
+    ));
     Ok(true)
 }
 
@@ -85,7 +86,7 @@ fn pack_end(
         let name = symbol(names, token);
         let behind = goes_on(named, name);
         if !behind {
-            breaks(log, token, Rule::Unknown)?;
+            attempt!(breaks(log, token, Rule::Unknown));
             return Ok(None);
         }
         named = name;
@@ -102,7 +103,7 @@ fn pack(names: &Names, log: &mut Log, tree: &Tree, id: u32) -> Result<Option<u32
     if symbol(names, view.first) == ADA {
         pack_end(names, log, ADA, tree, view.more)
     } else {
-        breaks(log, view.first, Rule::Unknown)?;
+        attempt!(breaks(log, view.first, Rule::Unknown));
         Ok(None)
     }
 }
@@ -164,7 +165,7 @@ fn clause_name(
         ClauseWord::Use => {
             let withed = has(here.withed, name);
             here.used = with_package(here.used, name);
-            unless(log, withed, first, Rule::NotVisible)?;
+            attempt!(unless(log, withed, first, Rule::NotVisible));
             Ok(())
         }
     }
@@ -181,8 +182,8 @@ fn clause_pack(
     ensures { OnOk result (step.clause_pack names.now word here.old (the_pack (part_at tree.now.nodes id)) log.old ≡ (here.new, log.new)) }
 {
     let first = tree.pack(id).first;
-    let library = pack(names, log, tree, id)?;
-    clause_name(here, log, word, first, library)?;
+    let library = attempt!(pack(names, log, tree, id));
+    attempt!(clause_name(here, log, word, first, library));
     Ok(())
 }
 
@@ -198,7 +199,7 @@ fn clause_packs(
 {
     let mut next = more;
     'packs: while let Some(cell) = tree.cell(next) {
-        clause_pack(names, here, log, word, tree, cell.first)?;
+        attempt!(clause_pack(names, here, log, word, tree, cell.first));
         next = cell.rest;
     }
     Ok(())
@@ -215,8 +216,8 @@ fn clause(
     ensures { OnOk result (step.clause names.now here.old (the_clause (part_at tree.now.nodes id)) log.old ≡ (here.new, log.new)) }
 {
     let view = tree.clause(id);
-    clause_pack(names, here, log, view.word, tree, view.first)?;
-    clause_packs(names, here, log, view.word, tree, view.more)?;
+    attempt!(clause_pack(names, here, log, view.word, tree, view.first));
+    attempt!(clause_packs(names, here, log, view.word, tree, view.more));
     Ok(())
 }
 
@@ -233,7 +234,7 @@ pub fn clauses(
 {
     let mut next = more;
     'all: while let Some(cell) = tree.cell(next) {
-        clause(names, here, log, tree, cell.first)?;
+        attempt!(clause(names, here, log, tree, cell.first));
         next = cell.rest;
     }
     Ok(())

@@ -11,6 +11,7 @@ ghost use Rattle.typed_parts.specs.Stack.{parts};
 use ada_base::Items;
 use name_rules::log::Log;
 use name_rules::scope::{Context, Names, What};
+use name_values::attempt;
 use name_values::scope::{declared, free, hidden_where};
 use std::alloc::{AllocError, Global};
 use tree_nodes::Tree;
@@ -23,10 +24,10 @@ pub fn all_ids(tree: &Tree, alloc: Global, id: u32) -> Result<Items<u32>, AllocE
 {
     let ids = tree.ids(id);
     let mut all = Items::new(alloc);
-    all.push(ids.first)?;
+    attempt!(all.push(ids.first));
     let mut next = ids.more;
     'ids: while let Some(cell) = tree.cell(next) {
-        all.push(tree.token(cell.first))?;
+        attempt!(all.push(tree.token(cell.first)));
         next = cell.rest;
     }
     Ok(all)
@@ -49,9 +50,9 @@ pub fn begun_names(
     let mut i = 0;
     'begun: while let Some(token) = ids.get(i) {
         let token = *token;
-        let one = free(names, start, here, log, token)?;
-        hidden_where(names, here, token, one)?;
-        done.push(one)?;
+        let one = attempt!(free(names, start, here, log, token));
+        attempt!(hidden_where(names, here, token, one));
+        attempt!(done.push(one));
         if i == usize::MAX {
             return Err(AllocError);
         }
@@ -87,7 +88,7 @@ pub fn all_ended(
 {
     let mut i = 0;
     'ended: while let Some(one) = free.get(i) {
-        ended_name(names, here, *one, what)?;
+        attempt!(ended_name(names, here, *one, what));
         if i == usize::MAX {
             return Err(AllocError);
         }
@@ -102,12 +103,12 @@ pub fn all_ended(
 pub fn with_mentions(out: &mut Parts) -> Result<(), AllocError>
     ensures { OnOk result ((top (parts out.new) ≡ spec.with_mentions (second (parts out.old)) (top (parts out.old))) × (pop (parts out.new) ≡ pop (pop (parts out.old)))) }
 {
-    if out.is_nothing()? {
+    if attempt!(out.is_nothing()) {
         out.leave_out();
         return Ok(());
     }
-    out.turn()?;
-    out.mentions()?;
-    out.also()?;
+    attempt!(out.turn());
+    attempt!(out.mentions());
+    attempt!(out.also());
     Ok(())
 }

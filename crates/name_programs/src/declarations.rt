@@ -25,6 +25,7 @@ use name_expressions::expressions::{expr, simple};
 use name_rules::log::Log;
 use name_rules::scope::{Context, Names, What};
 use name_rules::types::{Subtype, Wanted};
+use name_values::attempt;
 use name_values::scope::{free, hidden_where};
 use std::alloc::AllocError;
 use tree_nodes::{Decl, Definition, Tree};
@@ -59,7 +60,7 @@ fn number_mentions(
         out.leave_out();
         return Ok(false);
     }
-    with_mentions(out)?;
+    attempt!(with_mentions(out));
     Ok(true)
 }
 
@@ -80,11 +81,11 @@ fn numbers(
     ensures { Declares (spec.numbers names.now (primaries.inside names.now levels) start here.old (part_if done (top (parts out.old))) (the_ids (part_at tree.now.nodes identifiers)) (the_expr (part_at tree.now.nodes value)) log.old) (pop (parts out.old)) result here.new log.new (parts out.new) }
 {
     let alloc = out.alloc();
-    let ids = all_ids(tree, alloc, identifiers)?;
-    let free = begun_names(names, start, here, log, alloc, &ids)?;
-    let found = expr(names, levels, here, log, out, Wanted::Other, tree, value)?;
-    let known = static_bound(log, out, found)?;
-    all_ended(names, here, number_what(known), &free)?;
+    let ids = attempt!(all_ids(tree, alloc, identifiers));
+    let free = attempt!(begun_names(names, start, here, log, alloc, &ids));
+    let found = attempt!(expr(names, levels, here, log, out, Wanted::Other, tree, value));
+    let known = attempt!(static_bound(log, out, found));
+    attempt!(all_ended(names, here, number_what(known), &free));
     number_mentions(out, here, done, known)
 }
 
@@ -96,7 +97,7 @@ fn new_exception(log: &mut Log, token: u32) -> Result<u32, AllocError>
     if number > 4_294_967_295 {
         return Err(AllocError);
     }
-    log.exceptions.push(Declared { name: token })?;
+    attempt!(log.exceptions.push(Declared { name: token }));
     Ok(number as u32)
 }
 
@@ -115,13 +116,13 @@ fn each_exception(
         let Some(one) = free.get(i) else {
             return Ok(());
         };
-        let number = new_exception(log, *token)?;
-        ended_name(
+        let number = attempt!(new_exception(log, *token));
+        attempt!(ended_name(
             names,
             here,
             *one,
             Some(What::Exception(Reason::Declared(number))),
-        )?;
+        ));
         if i == usize::MAX {
             return Err(AllocError);
         }
@@ -144,9 +145,9 @@ fn exceptions(
     ensures { Declares (step.exceptions names.now start here.old (part_if done (top (parts out.now))) (the_ids (part_at tree.now.nodes identifiers)) log.old) (pop (parts out.now)) result here.new log.new (parts out.now) }
 {
     let alloc = out.alloc();
-    let ids = all_ids(tree, alloc, identifiers)?;
-    let free = begun_names(names, start, here, log, alloc, &ids)?;
-    each_exception(names, here, log, &ids, &free)?;
+    let ids = attempt!(all_ids(tree, alloc, identifiers));
+    let free = attempt!(begun_names(names, start, here, log, alloc, &ids));
+    attempt!(each_exception(names, here, log, &ids, &free));
     Ok(done)
 }
 
@@ -166,8 +167,8 @@ fn defined(
 {
     match tree.definition(id) {
         Definition::RangeType { low, high } => {
-            let x = simple(names, levels, here, log, out, Wanted::Other, tree, low)?;
-            let y = simple(names, levels, here, log, out, Wanted::Other, tree, high)?;
+            let x = attempt!(simple(names, levels, here, log, out, Wanted::Other, tree, low));
+            let y = attempt!(simple(names, levels, here, log, out, Wanted::Other, tree, high));
             own_type_of(log, out, token, x, y)
         }
         Definition::ArrayType(definition) => {
@@ -193,16 +194,16 @@ fn one_type(
     ensures { Ends (spec.one_type names.now here.old (part_if done (second (parts out.old))) free (found_of subtype (top (parts out.old)))) (pop (pop (parts out.old))) result here.new (parts out.new) }
 {
     let Some(subtype) = subtype else {
-        ended_name(names, here, free, None)?;
+        attempt!(ended_name(names, here, free, None));
         out.leave_out();
         return Ok(false);
     };
-    ended_name(names, here, free, Some(What::Type(subtype)))?;
+    attempt!(ended_name(names, here, free, Some(What::Type(subtype))));
     if !done {
         out.leave_out();
         return Ok(false);
     }
-    with_mentions(out)?;
+    attempt!(with_mentions(out));
     Ok(true)
 }
 
@@ -221,9 +222,9 @@ fn declared_type(
 ) -> Result<bool, AllocError>
     ensures { Declares (step.declared_type names.now (primaries.inside names.now levels) start here.old (part_if done (top (parts out.old))) token (the_definition (part_at tree.now.nodes definition)) log.old) (pop (parts out.old)) result here.new log.new (parts out.new) }
 {
-    let one = free(names, start, here, log, token)?;
-    hidden_where(names, here, token, one)?;
-    let subtype = defined(names, levels, here, log, out, token, tree, definition)?;
+    let one = attempt!(free(names, start, here, log, token));
+    attempt!(hidden_where(names, here, token, one));
+    let subtype = attempt!(defined(names, levels, here, log, out, token, tree, definition));
     one_type(names, here, out, done, one, subtype)
 }
 
@@ -242,9 +243,9 @@ fn declared_subtype(
 ) -> Result<bool, AllocError>
     ensures { Declares (step.declared_subtype names.now (primaries.inside names.now levels) start here.old (part_if done (top (parts out.old))) token (the_indic (part_at tree.now.nodes indication)) log.old) (pop (parts out.old)) result here.new log.new (parts out.new) }
 {
-    let one = free(names, start, here, log, token)?;
-    hidden_where(names, here, token, one)?;
-    let subtype = indic(names, levels, here, log, out, tree, indication)?;
+    let one = attempt!(free(names, start, here, log, token));
+    attempt!(hidden_where(names, here, token, one));
+    let subtype = attempt!(indic(names, levels, here, log, out, tree, indication));
     one_type(names, here, out, done, one, subtype)
 }
 
@@ -336,9 +337,9 @@ pub fn declarations_from(
     let mut whole = done;
     let mut next = more;
     'decls: while let Some(cell) = tree.cell(next) {
-        whole = declaration(
+        whole = attempt!(declaration(
             names, levels, start, here, log, out, whole, tree, cell.first,
-        )?;
+        ));
         next = cell.rest;
     }
     Ok(whole)
@@ -358,6 +359,6 @@ pub fn declarations(
 ) -> Result<bool, AllocError>
     ensures { Declares (spec.declarations names.now (primaries.inside names.now levels) start here.old (Some no_decls) (the_decls (part_at tree.now.nodes list)) log.old) (parts out.old) result here.new log.new (parts out.new) }
 {
-    out.nothing()?;
+    attempt!(out.nothing());
     declarations_from(names, levels, start, here, log, out, true, tree, list)
 }

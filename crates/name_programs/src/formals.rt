@@ -18,6 +18,7 @@ use ada_typed::Mode;
 use name_rules::log::{Log, Rule, Taken};
 use name_rules::scope::{Context, Names, What};
 use name_rules::types::Subtype;
+use name_values::attempt;
 use name_values::logs::breaks;
 use name_values::scope::subtype_named;
 use name_values::symbols::symbol;
@@ -72,7 +73,7 @@ fn formal_entry(
     ensures { IfOk result (λ r. spec.formal_entry names.now here.old token free mode subtype 0 object ≡ (here.new, r)) }
 {
     let Some(object) = object else {
-        ended_name(names, here, free, None)?;
+        attempt!(ended_name(names, here, free, None));
         return Ok(None);
     };
     let what = What::Object {
@@ -81,7 +82,7 @@ fn formal_entry(
         variable: !is_constant(mode),
         value: None,
     };
-    ended_name(names, here, free, Some(what))?;
+    attempt!(ended_name(names, here, free, Some(what)));
     Ok(Some(Taken {
         symbol: symbol(names, token),
         object,
@@ -105,14 +106,14 @@ fn one_formal(
 {
     match subtype {
         None => {
-            let _fits = cells_counted(log, token, 0)?;
-            ended_name(names, here, free, None)?;
+            let _fits = attempt!(cells_counted(log, token, 0));
+            attempt!(ended_name(names, here, free, None));
             Ok(None)
         }
         Some(subtype) => {
             let constant = is_constant(mode);
-            let object = new_object(names, here, log, token, subtype, constant, None)?;
-            let taken = formal_entry(names, here, token, free, mode, subtype, object)?;
+            let object = attempt!(new_object(names, here, log, token, subtype, constant, None));
+            let taken = attempt!(formal_entry(names, here, token, free, mode, subtype, object));
             Ok(taken)
         }
     }
@@ -133,7 +134,7 @@ fn also_taken(
     if !done {
         return Ok(false);
     }
-    takes.push(taken)?;
+    attempt!(takes.push(taken));
     Ok(true)
 }
 
@@ -158,8 +159,8 @@ fn each_formal(
         let Some(one) = free.get(i) else {
             return Ok(whole);
         };
-        let taken = one_formal(names, here, log, *token, *one, mode, subtype)?;
-        whole = also_taken(takes, whole, taken)?;
+        let taken = attempt!(one_formal(names, here, log, *token, *one, mode, subtype));
+        whole = attempt!(also_taken(takes, whole, taken));
         if i == usize::MAX {
             return Err(AllocError);
         }
@@ -185,12 +186,12 @@ fn formal(
 {
     let view = tree.formal(id);
     let alloc = out.alloc();
-    let ids = all_ids(tree, alloc, view.names)?;
-    let free = begun_names(names, start, here, log, alloc, &ids)?;
-    mode_rule(log, function, view.mode)?;
-    let subtype = subtype_named(names, here, log, out, view.mark)?;
+    let ids = attempt!(all_ids(tree, alloc, view.names));
+    let free = attempt!(begun_names(names, start, here, log, alloc, &ids));
+    attempt!(mode_rule(log, function, view.mode));
+    let subtype = attempt!(subtype_named(names, here, log, out, view.mark));
     let mode = mode_of(view.mode);
-    let whole = each_formal(names, here, log, mode, subtype, done, takes, &ids, &free)?;
+    let whole = attempt!(each_formal(names, here, log, mode, subtype, done, takes, &ids, &free));
     Ok(whole)
 }
 
@@ -212,9 +213,9 @@ fn formals_from(
     let mut whole = done;
     let mut next = more;
     'formals: while let Some(cell) = tree.cell(next) {
-        whole = formal(
+        whole = attempt!(formal(
             names, here, log, out, function, start, whole, takes, tree, cell.first,
-        )?;
+        ));
         next = cell.rest;
     }
     Ok(whole)
@@ -235,12 +236,12 @@ fn all_formals(
 {
     let view = tree.formals(id);
     let start = here.scope.len();
-    let first = formal(
+    let first = attempt!(formal(
         names, here, log, out, function, start, true, takes, tree, view.first,
-    )?;
-    let whole = formals_from(
+    ));
+    let whole = attempt!(formals_from(
         names, here, log, out, function, start, first, takes, tree, view.more,
-    )?;
+    ));
     Ok(whole)
 }
 
@@ -262,6 +263,6 @@ pub fn formals(
     let Some(id) = given else {
         return Ok(true);
     };
-    let whole = all_formals(names, here, log, out, function, takes, tree, id)?;
+    let whole = attempt!(all_formals(names, here, log, out, function, takes, tree, id));
     Ok(whole)
 }

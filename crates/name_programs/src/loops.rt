@@ -19,6 +19,7 @@ use name_expressions::expressions::condition;
 use name_expressions::iterations::entered;
 use name_rules::log::{Log, Rule};
 use name_rules::scope::{Context, LoopName, Names};
+use name_values::attempt;
 use name_values::logs::breaks;
 use name_values::scope::copied;
 use name_values::symbols::symbol;
@@ -91,8 +92,8 @@ fn repeated(
 {
     let outer = here.loops.len();
     let symbol = label_symbol(names, label);
-    here.loops.push(LoopName { symbol, number })?;
-    let given = stmts(names, levels, below, here, log, out, tree, id)?;
+    attempt!(here.loops.push(LoopName { symbol, number }));
+    let given = attempt!(stmts(names, levels, below, here, log, out, tree, id));
     here.loops.truncate(outer);
     Ok(given)
 }
@@ -143,8 +144,8 @@ fn for_made(
     }
     match construct {
         None => {
-            out.loop_for(number)?;
-            out.swap()?;
+            attempt!(out.loop_for(number));
+            attempt!(out.swap());
             out.leave_out();
             Ok(true)
         }
@@ -154,7 +155,7 @@ fn for_made(
                 out.leave_out();
                 return Ok(false);
             }
-            out.parallel_for(number, site)?;
+            attempt!(out.parallel_for(number, site));
             Ok(true)
         }
     }
@@ -176,7 +177,7 @@ fn loop_entered(
     ensures { Enters (spec.loop_entered (in_levels names.now levels below) here.old (optional_parallel (part_at tree.now.nodes) parallel) (the_iter (part_at tree.now.nodes iter)) log.old) (parts out.old) result log.new here.new (parts out.new) }
 {
     let before = log.faults.len();
-    let e = entered(
+    let e = attempt!(entered(
         names,
         levels,
         below,
@@ -187,9 +188,9 @@ fn loop_entered(
         parallel,
         tree,
         iter,
-    )?;
+    ));
     let is_clean = is_unchanged(log, before);
-    backwards_rule(log, is_clean, e.construct, e.reverse)?;
+    attempt!(backwards_rule(log, is_clean, e.construct, e.reverse));
     Ok(e)
 }
 
@@ -212,13 +213,13 @@ fn for_loop(
 ) -> Result<bool, AllocError>
     ensures { Gives (spec.for_loop (in_levels names.now levels below) here.now label number (the_stmts (part_at tree.now.nodes id)) (optional_parallel (part_at tree.now.nodes) parallel) (the_iter (part_at tree.now.nodes iter)) log.old) (parts out.old) result log.new (parts out.new) }
 {
-    let mut inner = copied(here, out)?;
-    let e = loop_entered(
+    let mut inner = attempt!(copied(here, out));
+    let e = attempt!(loop_entered(
         names, levels, below, &mut inner, log, out, parallel, tree, iter,
-    )?;
-    let ss = repeated(
+    ));
+    let ss = attempt!(repeated(
         names, levels, below, &mut inner, log, out, label, number, tree, id,
-    )?;
+    ));
     for_made(log, out, number, e.construct, e.chunk, e.iteration, ss)
 }
 
@@ -230,7 +231,7 @@ fn loop_made(out: &mut Parts, number: u32, test: bool, then: bool) -> Result<boo
         out.leave_out();
         return Ok(false);
     }
-    out.loop_while(number)?;
+    attempt!(out.loop_while(number));
     Ok(true)
 }
 
@@ -256,11 +257,11 @@ fn loop_with(
             condition: test,
             ..
         } => {
-            let c = condition(names, levels, here, log, out, tree, test)?;
-            let ss = repeated(
+            let c = attempt!(condition(names, levels, here, log, out, tree, test));
+            let ss = attempt!(repeated(
                 names, levels, below, here, log, out, label, number, tree, id,
-            )?;
-            let given = loop_made(out, number, c, ss)?;
+            ));
+            let given = attempt!(loop_made(out, number, c, ss));
             Ok(given)
         }
         Scheme::For {
@@ -268,9 +269,9 @@ fn loop_with(
             iter,
             ..
         } => {
-            let given = for_loop(
+            let given = attempt!(for_loop(
                 names, levels, below, here, log, out, label, number, tree, None, iter, id,
-            )?;
+            ));
             Ok(given)
         }
         Scheme::For {
@@ -278,7 +279,7 @@ fn loop_with(
             iter,
             ..
         } => {
-            let given = for_loop(
+            let given = attempt!(for_loop(
                 names,
                 levels,
                 below,
@@ -291,7 +292,7 @@ fn loop_with(
                 Some(parallel),
                 iter,
                 id,
-            )?;
+            ));
             Ok(given)
         }
     }
@@ -316,11 +317,11 @@ fn loop_by(
 {
     match scheme {
         None => {
-            out.nothing()?;
-            let ss = repeated(
+            attempt!(out.nothing());
+            let ss = attempt!(repeated(
                 names, levels, below, here, log, out, label, number, tree, id,
-            )?;
-            let given = loop_made(out, number, true, ss)?;
+            ));
+            let given = attempt!(loop_made(out, number, true, ss));
             Ok(given)
         }
         Some(scheme) => loop_with(
@@ -348,8 +349,8 @@ pub fn loop_stmt(
 ) -> Result<bool, AllocError>
     ensures { Keeps (spec.loop_stmt (in_levels names.now levels below) here.old label (optional (part_at tree.now.nodes) the_scheme scheme) (the_stmts (part_at tree.now.nodes id)) last last_name log.old) (parts out.old) here.old result log.new (parts out.new) here.new }
 {
-    loop_ends(names, log, label, last, last_name)?;
-    let number = new_loop(log)?;
+    attempt!(loop_ends(names, log, label, last, last_name));
+    let number = attempt!(new_loop(log));
     loop_by(
         names, levels, below, here, log, out, label, number, tree, scheme, id,
     )

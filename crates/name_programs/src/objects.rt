@@ -25,6 +25,7 @@ use name_rules::found::Found;
 use name_rules::log::{Log, Rule};
 use name_rules::scope::{Context, Names, What};
 use name_rules::types::Subtype;
+use name_values::attempt;
 use name_values::logs::breaks;
 use name_values::names::cells_in;
 use name_values::scope::copied;
@@ -69,7 +70,7 @@ fn room(names: &Names, log: &Log, owner: u32) -> Result<u32, AllocError>
     let mut room = first_room(names, owner);
     let mut i = 0;
     'objects: while let Some(object) = log.objects.get(i) {
-        room = room_behind(*object, owner, room)?;
+        room = attempt!(room_behind(*object, owner, room));
         if i == usize::MAX {
             return Err(AllocError);
         }
@@ -91,7 +92,7 @@ pub fn cells_counted(log: &mut Log, token: u32, cells: u64) -> Result<bool, Allo
     }
     log.declared = declared + 1;
     log.cells = all;
-    unless(
+    attempt!(unless(
         log,
         !(declared == 4096),
         token,
@@ -99,8 +100,8 @@ pub fn cells_counted(log: &mut Log, token: u32, cells: u64) -> Result<bool, Allo
             which: 1,
             count: 4097,
         },
-    )?;
-    unless(
+    ));
+    attempt!(unless(
         log,
         4_194_304 < before || all <= 4_194_304,
         token,
@@ -108,7 +109,7 @@ pub fn cells_counted(log: &mut Log, token: u32, cells: u64) -> Result<bool, Allo
             which: 2,
             count: all,
         },
-    )?;
+    ));
     Ok(declared < 4096 && all <= 4_194_304)
 }
 
@@ -129,16 +130,18 @@ fn object_written(
     if written > 4_294_967_295 || cells > 4_294_967_295 {
         return Err(AllocError);
     }
-    let offset = room(names, log, here.owner)?;
-    log.objects.push(Object {
-        name: token,
-        subtype: number,
-        constant,
-        owner: here.owner,
-        offset,
-        cells: cells as u32,
-        value,
-    })?;
+    let offset = attempt!(room(names, log, here.owner));
+    attempt!(
+        log.objects.push(Object {
+            name: token,
+            subtype: number,
+            constant,
+            owner: here.owner,
+            offset,
+            cells: cells as u32,
+            value,
+        })
+    );
     Ok(written as u32)
 }
 
@@ -156,12 +159,12 @@ pub fn new_object(
     ensures { Says (spec.new_object names.now here.now token subtype constant value log.old) result log.new }
 {
     let cells = cells_in(log, subtype);
-    let fits = cells_counted(log, token, cells)?;
-    let number = number_of(log, subtype)?;
+    let fits = attempt!(cells_counted(log, token, cells));
+    let number = attempt!(number_of(log, subtype));
     if !fits {
         return Ok(None);
     }
-    let object = object_written(names, here, log, token, number, cells, constant, value)?;
+    let object = attempt!(object_written(names, here, log, token, number, cells, constant, value));
     Ok(Some(object))
 }
 
@@ -211,18 +214,18 @@ fn initial(
     ensures { Initials (spec.initial names.now (primaries.inside names.now levels) here.now (found_of subtype (top (parts out.old))) (optional (part_at tree.now.nodes) the_expr value) log.old) (parts out.old) result log.new (parts out.new) }
 {
     let Some(value) = value else {
-        out.nothing()?;
+        attempt!(out.nothing());
         return Ok(Some(Given {
             stored: false,
             value: None,
         }));
     };
     let Some(subtype) = subtype else {
-        judged_alone(names, levels, here, log, out, tree, value)?;
-        out.nothing()?;
+        attempt!(judged_alone(names, levels, here, log, out, tree, value));
+        attempt!(out.nothing());
         return Ok(None);
     };
-    let found = expr(
+    let found = attempt!(expr(
         names,
         levels,
         here,
@@ -231,12 +234,12 @@ fn initial(
         wanted_of(subtype),
         tree,
         value,
-    )?;
+    ));
     match found {
         None => Ok(None),
         Some(found) => {
             let first = first_tokens::of_expr(tree, value);
-            if stored(log, out, subtype, first, found)? {
+            if attempt!(stored(log, out, subtype, first, found)) {
                 Ok(Some(Given {
                     stored: true,
                     value: value_of(found),
@@ -280,21 +283,21 @@ fn with_object(out: &mut Parts, constant: bool, number: u32, given: bool) -> Res
 {
     if constant {
         if given {
-            out.declare_constant(number)?;
-            out.also()?;
+            attempt!(out.declare_constant(number));
+            attempt!(out.also());
             return Ok(());
         }
         out.leave_out();
         return Ok(());
     }
     if given {
-        out.declare_variable(number)?;
-        out.also()?;
+        attempt!(out.declare_variable(number));
+        attempt!(out.also());
         return Ok(());
     }
     out.leave_out();
-    out.declare_default(number)?;
-    out.also()?;
+    attempt!(out.declare_default(number));
+    attempt!(out.also());
     Ok(())
 }
 
@@ -302,10 +305,10 @@ fn with_object(out: &mut Parts, constant: bool, number: u32, given: bool) -> Res
 fn elaborated(out: &mut Parts, constant: bool, number: u32, given: bool) -> Result<(), AllocError>
     ensures { OnOk result ((top (parts out.new) ≡ spec.with_object (spec.with_mentions (third (parts out.old)) (second (parts out.old))) constant number (part_if given (top (parts out.old)))) × (pop (parts out.new) ≡ pop (pop (pop (parts out.old))))) }
 {
-    out.rotate()?;
-    out.rotate()?;
-    with_mentions(out)?;
-    out.swap()?;
+    attempt!(out.rotate());
+    attempt!(out.rotate());
+    attempt!(with_mentions(out));
+    attempt!(out.swap());
     with_object(out, constant, number, given)
 }
 
@@ -327,7 +330,7 @@ fn object_ended(
 {
     let _token = token;
     let Some(number) = number else {
-        ended_name(names, here, free, None)?;
+        attempt!(ended_name(names, here, free, None));
         out.leave_out();
         out.leave_out();
         return Ok(false);
@@ -339,13 +342,13 @@ fn object_ended(
         variable: !constant,
         value,
     };
-    ended_name(names, here, free, Some(what))?;
+    attempt!(ended_name(names, here, free, Some(what)));
     if !done {
         out.leave_out();
         out.leave_out();
         return Ok(false);
     }
-    elaborated(out, constant, number, given.stored)?;
+    attempt!(elaborated(out, constant, number, given.stored));
     Ok(true)
 }
 
@@ -361,8 +364,8 @@ fn no_object(
 ) -> Result<bool, AllocError>
     ensures { Declares (step.no_object names.now here.old token free log.old) (pop (pop (pop (parts out.old)))) result here.new log.new (parts out.new) }
 {
-    let _fits = cells_counted(log, token, 0)?;
-    ended_name(names, here, free, None)?;
+    let _fits = attempt!(cells_counted(log, token, 0));
+    attempt!(ended_name(names, here, free, None));
     out.leave_out();
     out.leave_out();
     Ok(false)
@@ -390,10 +393,10 @@ fn one_object(
         return no_object(names, here, log, out, token, free);
     };
     let value = constant_value(out, constant, subtype, given);
-    let number = new_object(names, here, log, token, subtype, constant, value)?;
-    let whole = object_ended(
+    let number = attempt!(new_object(names, here, log, token, subtype, constant, value));
+    let whole = attempt!(object_ended(
         names, here, out, free, token, constant, done, subtype, given, number,
-    )?;
+    ));
     Ok(whole)
 }
 
@@ -439,12 +442,12 @@ fn next_object(
 ) -> Result<bool, AllocError>
     ensures { Declares (single.object names.now (primaries.inside names.now levels) inner.now here.old constant first (the_object_type (part_at tree.now.nodes object_type)) (optional (part_at tree.now.nodes) the_expr value) (part_if done (top (parts out.old))) token free log.old) (pop (parts out.old)) result here.new log.new (parts out.new) }
 {
-    let subtype = typed_object(names, levels, inner, log, out, tree, object_type)?;
-    let given = initial(names, levels, inner, log, out, subtype, tree, value)?;
-    valued_constant(log, out, first, constant, subtype, tree, value)?;
-    let whole = one_object(
+    let subtype = attempt!(typed_object(names, levels, inner, log, out, tree, object_type));
+    let given = attempt!(initial(names, levels, inner, log, out, subtype, tree, value));
+    attempt!(valued_constant(log, out, first, constant, subtype, tree, value));
+    let whole = attempt!(one_object(
         names, here, log, out, token, free, constant, done, subtype, given,
-    )?;
+    ));
     Ok(whole)
 }
 
@@ -474,7 +477,7 @@ fn each_object(
         let Some(one) = free.get(i) else {
             return Ok(whole);
         };
-        whole = next_object(
+        whole = attempt!(next_object(
             names,
             levels,
             inner,
@@ -489,7 +492,7 @@ fn each_object(
             tree,
             object_type,
             value,
-        )?;
+        ));
         if i == usize::MAX {
             return Err(AllocError);
         }
@@ -518,9 +521,9 @@ pub fn objects(
 {
     let alloc = out.alloc();
     let first = tree.ids(identifiers).first;
-    let ids = all_ids(tree, alloc, identifiers)?;
-    let free = begun_names(names, start, here, log, alloc, &ids)?;
-    let inner = copied(here, out)?;
+    let ids = attempt!(all_ids(tree, alloc, identifiers));
+    let free = attempt!(begun_names(names, start, here, log, alloc, &ids));
+    let inner = attempt!(copied(here, out));
     each_object(
         names,
         levels,

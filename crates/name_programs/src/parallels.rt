@@ -20,6 +20,7 @@ use ada_typed::program::SiteKind;
 use name_expressions::iterations::chunk_count;
 use name_rules::log::{Log, Rule};
 use name_rules::scope::{Context, Names};
+use name_values::attempt;
 use name_values::logs::breaks;
 use name_values::walks::{new_site, thread_owner};
 use std::alloc::AllocError;
@@ -73,7 +74,7 @@ fn count_where(
 {
     match count {
         None => {
-            out.nothing()?;
+            attempt!(out.nothing());
             Ok(true)
         }
         Some(count) => chunk_count(names, levels, here, log, out, tree, count),
@@ -95,15 +96,15 @@ fn branches(
 ) -> Result<bool, AllocError>
     ensures { Keeps (spec.branches (in_levels names.now levels below) here.old (Some part.Nothing) (syntax.AlsoBranch (the_stmts (part_at tree.now.nodes first)) (syntax.AlsoBranch (the_stmts (part_at tree.now.nodes second)) (the_branches (part_at tree.now.nodes more)))) log.old) (parts out.old) here.old result log.new (parts out.new) here.new }
 {
-    out.nothing()?;
-    let x = stmts(names, levels, below, here, log, out, tree, first)?;
-    let one = also_where(out, true, x)?;
-    let y = stmts(names, levels, below, here, log, out, tree, second)?;
-    let mut done = also_where(out, one, y)?;
+    attempt!(out.nothing());
+    let x = attempt!(stmts(names, levels, below, here, log, out, tree, first));
+    let one = attempt!(also_where(out, true, x));
+    let y = attempt!(stmts(names, levels, below, here, log, out, tree, second));
+    let mut done = attempt!(also_where(out, one, y));
     let mut next = more;
     'arms: while let Some(cell) = tree.cell(next) {
-        let z = stmts(names, levels, below, here, log, out, tree, cell.first)?;
-        done = also_where(out, done, z)?;
+        let z = attempt!(stmts(names, levels, below, here, log, out, tree, cell.first));
+        done = attempt!(also_where(out, done, z));
         next = cell.rest;
     }
     Ok(done)
@@ -127,10 +128,10 @@ fn threads(
     ensures { Keeps (spec.branches (in_levels names.now levels below) (spec.in_threads names.now here.old site) (Some part.Nothing) (syntax.AlsoBranch (the_stmts (part_at tree.now.nodes first)) (syntax.AlsoBranch (the_stmts (part_at tree.now.nodes second)) (the_branches (part_at tree.now.nodes more)))) log.old) (parts out.old) here.old result log.new (parts out.new) here.new }
 {
     let outer = here.owner;
-    here.owner = thread_owner(names, site)?;
-    let given = branches(
+    here.owner = attempt!(thread_owner(names, site));
+    let given = attempt!(branches(
         names, levels, below, here, log, out, tree, first, second, more,
-    )?;
+    ));
     here.owner = outer;
     Ok(given)
 }
@@ -143,8 +144,8 @@ fn parallel_made(out: &mut Parts, site: u32, count: bool, arms: bool) -> Result<
         out.leave_out();
         return Ok(false);
     }
-    out.turn()?;
-    out.parallel(site)?;
+    attempt!(out.turn());
+    attempt!(out.parallel(site));
     Ok(true)
 }
 
@@ -167,13 +168,13 @@ pub fn parallel(
 ) -> Result<bool, AllocError>
     ensures { Keeps (spec.parallel (in_levels names.now levels below) here.old at (optional (part_at tree.now.nodes) the_simple count) (syntax.AlsoBranch (the_stmts (part_at tree.now.nodes first)) (syntax.AlsoBranch (the_stmts (part_at tree.now.nodes second)) (the_branches (part_at tree.now.nodes more)))) log.old) (parts out.old) here.old result log.new (parts out.new) here.new }
 {
-    let arms = arm_count(tree, first, second, more)?;
-    let site = new_site(log, here, at, SiteKind::Block(arms))?;
-    let c = count_where(names, below, here, log, out, tree, count)?;
-    let xs = threads(
+    let arms = attempt!(arm_count(tree, first, second, more));
+    let site = attempt!(new_site(log, here, at, SiteKind::Block(arms)));
+    let c = attempt!(count_where(names, below, here, log, out, tree, count));
+    let xs = attempt!(threads(
         names, levels, below, here, log, out, site, tree, first, second, more,
-    )?;
-    arm_limit(log, at, arms)?;
-    let given = parallel_made(out, site, c, xs)?;
+    ));
+    attempt!(arm_limit(log, at, arms));
+    let given = attempt!(parallel_made(out, site, c, xs));
     Ok(given)
 }

@@ -14,6 +14,7 @@ use ada_base::Items;
 use name_rules::log::{Log, Profile, Taken};
 use name_rules::scope::{Context, Names, Returns, Target, What};
 use name_rules::types::Scalar;
+use name_values::attempt;
 use name_values::scope::{copied, declared, free, scalar_named};
 use std::alloc::AllocError;
 use tree_nodes::Tree;
@@ -43,8 +44,8 @@ fn written_profile(
         return Err(AllocError);
     }
     let mut all = Items::new(out.alloc());
-    all.extend(takes.as_slice())?;
-    log.profiles.push(Profile { takes: all, gives })?;
+    attempt!(all.extend(takes.as_slice()));
+    attempt!(log.profiles.push(Profile { takes: all, gives }));
     Ok(number as u32)
 }
 
@@ -62,7 +63,7 @@ fn result_named(
     let Some(mark) = mark else {
         return Ok(Some(None));
     };
-    match scalar_named(names, here, log, out, mark)? {
+    match attempt!(scalar_named(names, here, log, out, mark)) {
         None => Ok(None),
         Some(scalar) => Ok(Some(Some(scalar))),
     }
@@ -117,17 +118,17 @@ fn profile_where(
         return Ok(None);
     };
     if !whole {
-        declared(names, here, name, None)?;
+        attempt!(declared(names, here, name, None));
         return Ok(None);
     }
     match gives {
         None => {
-            declared(names, here, name, None)?;
+            attempt!(declared(names, here, name, None));
             Ok(None)
         }
         Some(gives) => {
-            let number = written_profile(log, out, takes, gives)?;
-            declared(names, here, name, Some(What::Sub(number)))?;
+            let number = attempt!(written_profile(log, out, takes, gives));
+            attempt!(declared(names, here, name, Some(What::Sub(number))));
             Ok(Some(number))
         }
     }
@@ -144,8 +145,8 @@ fn behind(
 ) -> Result<Context, AllocError>
     ensures { IfOk result (λ c. c ≡ spec.behind outer.now start inner.now owner returns) }
 {
-    let mut scope = outer.scope.copied()?;
-    scope.also_from(&inner.scope, start)?;
+    let mut scope = attempt!(outer.scope.copied());
+    attempt!(scope.also_from(&inner.scope, start));
     Ok(Context {
         scope,
         withed: outer.withed,

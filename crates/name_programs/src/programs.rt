@@ -22,6 +22,7 @@ use name_rules::log::Log;
 use name_rules::scope::{Context, Entry, Names, Packages, Returns, Target, What};
 use name_rules::types::{Kind, Scalar, Subtype};
 use name_tables::heads::Head;
+use name_values::attempt;
 use std::alloc::AllocError;
 use tree_nodes::{Tree, Unit};
 use typed_parts::Parts;
@@ -71,8 +72,8 @@ fn also_sub(
         out.leave_out();
         return Ok(false);
     }
-    heads.push(head)?;
-    out.rotate()?;
+    attempt!(heads.push(head));
+    attempt!(out.rotate());
     Ok(true)
 }
 
@@ -95,8 +96,18 @@ fn unit(
 {
     match tree.unit(id) {
         Unit::Decl(decl) => {
-            let up = above(levels)?;
-            let decls = declaration(names, up, start, here, log, out, sound.decls, tree, decl)?;
+            let up = attempt!(above(levels));
+            let decls = attempt!(declaration(
+                names,
+                up,
+                start,
+                here,
+                log,
+                out,
+                sound.decls,
+                tree,
+                decl
+            ));
             Ok(Sound {
                 decls,
                 subs: sound.subs,
@@ -104,8 +115,10 @@ fn unit(
         }
         Unit::Sub(sub) => {
             let less = below(levels);
-            let head = subprogram(names, less, start, here, log, out, blocking, tree, sub)?;
-            let subs = also_sub(out, heads, sound.subs, head)?;
+            let head = attempt!(subprogram(
+                names, less, start, here, log, out, blocking, tree, sub
+            ));
+            let subs = attempt!(also_sub(out, heads, sound.subs, head));
             Ok(Sound {
                 decls: sound.decls,
                 subs,
@@ -133,9 +146,9 @@ fn units(
     let mut so_far = sound;
     let mut next = more;
     'units: while let Some(cell) = tree.cell(next) {
-        so_far = unit(
+        so_far = attempt!(unit(
             names, levels, start, here, log, out, blocking, so_far, heads, tree, cell.first,
-        )?;
+        ));
         next = cell.rest;
     }
     Ok(so_far)
@@ -220,31 +233,31 @@ fn subtype_entry(symbol: u32, kind: Kind, low: i64, high: i64) -> Entry
 fn declared_first(out: &Parts) -> Result<Entries, AllocError>
     ensures { IfOk result (λ scope. scope ≡ standard) }
 {
-    let mut scope = Entries::new(out.alloc())?;
-    scope.push(subtype_entry(0, Kind::Boolean, 0, 1))?;
-    scope.push(Entry {
+    let mut scope = attempt!(Entries::new(out.alloc()));
+    attempt!(scope.push(subtype_entry(0, Kind::Boolean, 0, 1)));
+    attempt!(scope.push(Entry {
         symbol: 1,
         what: What::Boolean(true),
-    })?;
-    scope.push(Entry {
+    }));
+    attempt!(scope.push(Entry {
         symbol: 2,
         what: What::Boolean(false),
-    })?;
-    scope.push(subtype_entry(3, Kind::Integer, -2_147_483_648, 2_147_483_647))?;
-    scope.push(subtype_entry(4, Kind::Integer, 0, 2_147_483_647))?;
-    scope.push(subtype_entry(5, Kind::Integer, 1, 2_147_483_647))?;
-    scope.push(Entry {
+    }));
+    attempt!(scope.push(subtype_entry(3, Kind::Integer, -2_147_483_648, 2_147_483_647)));
+    attempt!(scope.push(subtype_entry(4, Kind::Integer, 0, 2_147_483_647)));
+    attempt!(scope.push(subtype_entry(5, Kind::Integer, 1, 2_147_483_647)));
+    attempt!(scope.push(Entry {
         symbol: 6,
         what: What::Exception(Reason::ConstraintError),
-    })?;
-    scope.push(Entry {
+    }));
+    attempt!(scope.push(Entry {
         symbol: 7,
         what: What::Exception(Reason::ProgramError),
-    })?;
-    scope.push(Entry {
+    }));
+    attempt!(scope.push(Entry {
         symbol: 8,
         what: What::Exception(Reason::StorageError),
-    })?;
+    }));
     Ok(scope)
 }
 
@@ -258,7 +271,7 @@ fn outermost(out: &Parts) -> Result<Context, AllocError>
         integer_io: false,
     };
     Ok(Context {
-        scope: declared_first(out)?,
+        scope: attempt!(declared_first(out)),
         withed: none,
         used: none,
         target: Target::Nothing,
@@ -283,9 +296,9 @@ pub fn program(
     ensures { IfOk result (λ judged. spec.program names.now levels (the_program (part_at tree.now.nodes id)) log.old ≡ (whole_if judged (parts out.new), log.new)) }
 {
     let view = tree.program(id);
-    let strict = policy(names, log, tree, view.policy)?;
-    let mut here = outermost(out)?;
-    clauses(names, &mut here, log, tree, view.clauses)?;
-    let judged = main(names, levels, &mut here, log, out, strict, tree, view.main)?;
+    let strict = attempt!(policy(names, log, tree, view.policy));
+    let mut here = attempt!(outermost(out));
+    attempt!(clauses(names, &mut here, log, tree, view.clauses));
+    let judged = attempt!(main(names, levels, &mut here, log, out, strict, tree, view.main));
     Ok(judged)
 }

@@ -18,6 +18,7 @@ use ada_base::Items;
 use name_rules::log::{Field, Log, Shape};
 use name_rules::scope::{Context, Names, What};
 use name_rules::types::Subtype;
+use name_values::attempt;
 use name_values::logs::also_all;
 use name_values::names::cells_in;
 use name_values::scope::{copied, declared};
@@ -56,20 +57,22 @@ fn with_field(
         return Ok(());
     };
     let Some(subtype) = subtype else {
-        declared(names, &mut growing.here, token, Some(What::Broken))?;
+        attempt!(declared(names, &mut growing.here, token, Some(What::Broken)));
         growing.whole = false;
         return Ok(());
     };
-    let number = number_of(log, subtype)?;
+    let number = attempt!(number_of(log, subtype));
     let cells = cells_in(log, subtype);
-    declared(names, &mut growing.here, token, Some(What::Broken))?;
-    growing.fields.push(Field {
-        symbol: symbol(names, token),
-        name: token,
-        subtype,
-        number,
-        offset: growing.offset,
-    })?;
+    attempt!(declared(names, &mut growing.here, token, Some(What::Broken)));
+    attempt!(
+        growing.fields.push(Field {
+            symbol: symbol(names, token),
+            name: token,
+            subtype,
+            number,
+            offset: growing.offset,
+        })
+    );
     growing.offset = counted_on(growing.offset, cells);
     Ok(())
 }
@@ -92,7 +95,7 @@ fn with_fields(
         let Some(one) = free.get(i) else {
             return Ok(());
         };
-        with_field(names, log, growing, out, *one, *token, subtype)?;
+        attempt!(with_field(names, log, growing, out, *one, *token, subtype));
         if i == usize::MAX {
             return Err(AllocError);
         }
@@ -130,10 +133,10 @@ fn component(
 {
     let view = tree.comp(id);
     let alloc = out.alloc();
-    let ids = all_ids(tree, alloc, view.names)?;
-    let free = begun_names(names, start, &mut growing.here, log, alloc, &ids)?;
-    let subtype = indic(names, levels, &growing.here, log, out, tree, view.component)?;
-    with_fields(names, log, growing, out, subtype, &ids, &free)?;
+    let ids = attempt!(all_ids(tree, alloc, view.names));
+    let free = attempt!(begun_names(names, start, &mut growing.here, log, alloc, &ids));
+    let subtype = attempt!(indic(names, levels, &growing.here, log, out, tree, view.component));
+    attempt!(with_fields(names, log, growing, out, subtype, &ids, &free));
     also_indicated(out, subtype)
 }
 
@@ -152,7 +155,7 @@ fn components(
 {
     let mut next = more;
     'comps: while let Some(cell) = tree.cell(next) {
-        component(names, levels, start, growing, log, out, tree, cell.first)?;
+        attempt!(component(names, levels, start, growing, log, out, tree, cell.first));
         next = cell.rest;
     }
     Ok(())
@@ -168,7 +171,7 @@ fn record_written(
     ensures { Judges (spec.record_written cells (top (parts out.now)) fields log.old) (pop (parts out.now)) result log.new (parts out.now) }
 {
     let _out = out;
-    let number = written_shape(log, Shape::Record { fields, cells })?;
+    let number = attempt!(written_shape(log, Shape::Record { fields, cells }));
     Ok(Some(Subtype::Composite(number)))
 }
 
@@ -189,14 +192,14 @@ pub fn record_of(
     let start = here.scope.len();
     let alloc = out.alloc();
     let mut growing = Growing {
-        here: copied(here, out)?,
+        here: attempt!(copied(here, out)),
         fields: Items::new(alloc),
         whole: true,
         offset: 0,
     };
-    out.nothing()?;
-    component(names, levels, start, &mut growing, log, out, tree, first)?;
-    components(names, levels, start, &mut growing, log, out, tree, more)?;
+    attempt!(out.nothing());
+    attempt!(component(names, levels, start, &mut growing, log, out, tree, first));
+    attempt!(components(names, levels, start, &mut growing, log, out, tree, more));
     let Growing {
         fields,
         whole,

@@ -19,6 +19,7 @@ use name_rules::log::{Fault, Log, Rule};
 use name_rules::scope::Names;
 use name_symbols::naming::names_of;
 use name_tables::tables::typed;
+use name_values::attempt;
 use std::alloc::{AllocError, Global};
 use thiserror::Error;
 use tree_nodes::Tree;
@@ -118,8 +119,8 @@ fn judged(alloc: Global, names: &Names, tree: &Tree) -> Result<Outcome, AllocErr
     ensures { IfOk result (λ o. spec.judged names.now (the_program (part_at tree.now.nodes tree.now.root)) ≡ (whole_if o.judged (parts o.out), o.log)) }
 {
     let mut log = fresh(alloc);
-    let mut out = Parts::new(alloc)?;
-    let judged = program(names, DEPTH_LIMIT, &mut log, &mut out, tree, tree.root())?;
+    let mut out = attempt!(Parts::new(alloc));
+    let judged = attempt!(program(names, DEPTH_LIMIT, &mut log, &mut out, tree, tree.root()));
     Ok(Outcome { log, out, judged })
 }
 

@@ -10,6 +10,7 @@ ghost use Rattle.name_programs.specs.Nested.{nested_once};
 ghost use Rattle.ada_typed.specs.Latest.{first_of, pop, rest_of, second, third, top};
 ghost use Rattle.typed_parts.specs.Stack.{parts};
 
+use name_values::attempt;
 use std::alloc::AllocError;
 use typed_parts::Parts;
 
@@ -21,7 +22,7 @@ pub fn also_where(out: &mut Parts, done: bool, item: bool) -> Result<bool, Alloc
         out.leave_out();
         return Ok(false);
     }
-    out.also()?;
+    attempt!(out.also());
     Ok(true)
 }
 
@@ -39,8 +40,8 @@ pub fn with_elsif(
         out.leave_out();
         return Ok(false);
     }
-    out.before()?;
-    out.also()?;
+    attempt!(out.before());
+    attempt!(out.also());
     Ok(true)
 }
 
@@ -49,14 +50,14 @@ pub fn with_elsif(
 fn nested_once(out: &mut Parts) -> Result<(), AllocError>
     ensures { OnOk result (parts out.new ≡ rest_of (top (parts out.old)) ∷ nested_once (first_of (top (parts out.old))) (second (parts out.old)) ∷ pop (pop (parts out.old))) }
 {
-    out.apart()?;
-    out.rotate()?;
-    out.rotate()?;
-    out.apart()?;
-    out.rotate()?;
-    out.if_then()?;
-    out.nothing()?;
-    out.before()?;
+    attempt!(out.apart());
+    attempt!(out.rotate());
+    attempt!(out.rotate());
+    attempt!(out.apart());
+    attempt!(out.rotate());
+    attempt!(out.if_then());
+    attempt!(out.nothing());
+    attempt!(out.before());
     out.swap()
 }
 
@@ -66,9 +67,9 @@ fn nested_once(out: &mut Parts) -> Result<(), AllocError>
 pub fn nested(out: &mut Parts) -> Result<(), AllocError>
     ensures { OnOk result ((top (parts out.new) ≡ nested_stmts (second (parts out.old)) (top (parts out.old))) × (pop (parts out.new) ≡ pop (pop (parts out.old)))) }
 {
-    out.swap()?;
-    'arms: while out.has_item()? {
-        nested_once(out)?;
+    attempt!(out.swap());
+    'arms: while attempt!(out.has_item()) {
+        attempt!(nested_once(out));
     }
     out.leave_out();
     Ok(())

@@ -23,6 +23,7 @@ use crate::transfers::{exit_from, no_stmt, raise_from, return_from};
 use name_expressions::expressions::condition;
 use name_rules::log::{Log, Rule};
 use name_rules::scope::{Context, Names};
+use name_values::attempt;
 use std::alloc::AllocError;
 use tree_nodes::{Stmt, Tree};
 use typed_parts::Parts;
@@ -47,7 +48,7 @@ pub fn stmt(
             which: 5,
             count: 65,
         };
-        no_stmt(log, out, first, limit)?;
+        attempt!(no_stmt(log, out, first, limit));
         return Ok(false);
     }
     stmt_form(names, levels, levels - 1, here, log, out, tree, id)
@@ -68,14 +69,14 @@ fn stmt_form(
 {
     match tree.stmt(id) {
         Stmt::Null(_) => {
-            out.null()?;
+            attempt!(out.null());
             Ok(true)
         }
         Stmt::Assign { target, value } => {
             assign(names, levels, here, log, out, tree, target, value)
         }
         Stmt::CallStmt(name) => {
-            let given = call_stmt(names, levels, here, log, out, tree, name)?;
+            let given = attempt!(call_stmt(names, levels, here, log, out, tree, name));
             Ok(given)
         }
         Stmt::Exit {
@@ -83,15 +84,15 @@ fn stmt_form(
             from,
             condition: test,
         } => {
-            let given = exit_from(names, levels, here, log, out, at, from, tree, test)?;
+            let given = attempt!(exit_from(names, levels, here, log, out, at, from, tree, test));
             Ok(given)
         }
         Stmt::Return { at, value } => {
-            let given = return_from(names, levels, here, log, out, at, tree, value)?;
+            let given = attempt!(return_from(names, levels, here, log, out, at, tree, value));
             Ok(given)
         }
         Stmt::Raise { at, exception } => {
-            let given = raise_from(names, here, log, out, at, tree, exception)?;
+            let given = attempt!(raise_from(names, here, log, out, at, tree, exception));
             Ok(given)
         }
         Stmt::IfStmt {
@@ -152,13 +153,13 @@ fn stmts_from(
     ensures { Keeps (spec.stmts_from (in_levels names.now levels below) here.old (Some part.Nothing) (syntax.AlsoStmt (the_stmt (part_at tree.now.nodes first)) (the_more_stmts (part_at tree.now.nodes more))) log.old) (parts out.old) here.old result log.new (parts out.new) here.new }
 {
     let _levels = levels;
-    out.nothing()?;
-    let x = stmt(names, below, here, log, out, tree, first)?;
-    let mut done = also_where(out, true, x)?;
+    attempt!(out.nothing());
+    let x = attempt!(stmt(names, below, here, log, out, tree, first));
+    let mut done = attempt!(also_where(out, true, x));
     let mut next = more;
     'more: while let Some(cell) = tree.cell(next) {
-        let y = stmt(names, below, here, log, out, tree, cell.first)?;
-        done = also_where(out, done, y)?;
+        let y = attempt!(stmt(names, below, here, log, out, tree, cell.first));
+        done = attempt!(also_where(out, done, y));
         next = cell.rest;
     }
     Ok(done)
@@ -180,12 +181,12 @@ pub fn stmts(
     ensures { Keeps (spec.stmts (in_levels names.now levels below) here.old (the_stmts (part_at tree.now.nodes id)) log.old) (parts out.old) here.old result log.new (parts out.new) here.new }
 {
     let all = tree.stmts(id);
-    if !stmts_from(
+    if !attempt!(stmts_from(
         names, levels, below, here, log, out, tree, all.first, all.more,
-    )? {
+    )) {
         return Ok(false);
     }
-    out.turn()?;
+    attempt!(out.turn());
     Ok(true)
 }
 
@@ -202,14 +203,14 @@ fn elsifs(
 ) -> Result<bool, AllocError>
     ensures { Keeps (spec.elsifs (in_levels names.now levels below) here.old (Some part.Nothing) (the_arms (part_at tree.now.nodes more)) log.old) (parts out.old) here.old result log.new (parts out.new) here.new }
 {
-    out.nothing()?;
+    attempt!(out.nothing());
     let mut done = true;
     let mut next = more;
     'arms: while let Some(cell) = tree.cell(next) {
         let arm = tree.arm(cell.first);
-        let c = condition(names, levels, here, log, out, tree, arm.condition)?;
-        let ss = stmts(names, levels, below, here, log, out, tree, arm.stmts)?;
-        done = with_elsif(out, done, c, ss)?;
+        let c = attempt!(condition(names, levels, here, log, out, tree, arm.condition));
+        let ss = attempt!(stmts(names, levels, below, here, log, out, tree, arm.stmts));
+        done = attempt!(with_elsif(out, done, c, ss));
         next = cell.rest;
     }
     Ok(done)
@@ -230,7 +231,7 @@ fn otherwise_where(
 {
     match id {
         None => {
-            out.nothing()?;
+            attempt!(out.nothing());
             Ok(true)
         }
         Some(id) => stmts(names, levels, below, here, log, out, tree, id),
@@ -255,8 +256,8 @@ fn if_made(
         out.leave_out();
         return Ok(false);
     }
-    nested(out)?;
-    out.if_then()?;
+    attempt!(nested(out));
+    attempt!(out.if_then());
     Ok(true)
 }
 
@@ -278,10 +279,10 @@ fn if_stmt(
 ) -> Result<bool, AllocError>
     ensures { Keeps (spec.if_stmt (in_levels names.now levels below) here.old (the_expr (part_at tree.now.nodes test)) (the_stmts (part_at tree.now.nodes then)) (the_arms (part_at tree.now.nodes more)) (optional_stmts (part_at tree.now.nodes) otherwise) log.old) (parts out.old) here.old result log.new (parts out.new) here.new }
 {
-    let c = condition(names, levels, here, log, out, tree, test)?;
-    let ss = stmts(names, levels, below, here, log, out, tree, then)?;
-    let xs = elsifs(names, levels, below, here, log, out, tree, more)?;
-    let ys = otherwise_where(names, levels, below, here, log, out, tree, otherwise)?;
-    let given = if_made(log, out, c, ss, xs, ys)?;
+    let c = attempt!(condition(names, levels, here, log, out, tree, test));
+    let ss = attempt!(stmts(names, levels, below, here, log, out, tree, then));
+    let xs = attempt!(elsifs(names, levels, below, here, log, out, tree, more));
+    let ys = attempt!(otherwise_where(names, levels, below, here, log, out, tree, otherwise));
+    let given = attempt!(if_made(log, out, c, ss, xs, ys));
     Ok(given)
 }

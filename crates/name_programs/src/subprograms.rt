@@ -25,6 +25,7 @@ use name_rules::log::{Log, Taken};
 use name_rules::scope::{Context, Names, Returns};
 use name_rules::types::{Scalar, Subtype};
 use name_tables::heads::Head;
+use name_values::attempt;
 use name_values::types::typed_scalar;
 use std::alloc::AllocError;
 use tree_nodes::{Sub, Tree};
@@ -70,9 +71,9 @@ fn with_body(
 {
     let view = tree.implementation(implementation);
     let start = outer.scope.len();
-    let up = above(levels)?;
-    let nonblocking = aspect(names, &found.inner, log, out, blocking, tree, given)?;
-    let declared = declarations(
+    let up = attempt!(above(levels));
+    let nonblocking = attempt!(aspect(names, &found.inner, log, out, blocking, tree, given));
+    let declared = attempt!(declarations(
         names,
         up,
         start,
@@ -81,8 +82,8 @@ fn with_body(
         out,
         tree,
         view.decls,
-    )?;
-    let held = body(
+    ));
+    let held = attempt!(body(
         names,
         up,
         levels,
@@ -92,8 +93,8 @@ fn with_body(
         declared,
         tree,
         view.body,
-    )?;
-    end_name(names, log, name, view.last_name)?;
+    ));
+    attempt!(end_name(names, log, name, view.last_name));
     Ok(sub_where(found.number, nonblocking, held))
 }
 
@@ -122,13 +123,13 @@ fn result_value(
             id,
         ),
         Returns::Nothing => {
-            judged_alone(names, levels, here, log, out, tree, id)?;
-            out.nothing()?;
+            attempt!(judged_alone(names, levels, here, log, out, tree, id));
+            attempt!(out.nothing());
             Ok(false)
         }
         Returns::Faulty => {
-            judged_alone(names, levels, here, log, out, tree, id)?;
-            out.nothing()?;
+            attempt!(judged_alone(names, levels, here, log, out, tree, id));
+            attempt!(out.nothing());
             Ok(false)
         }
     }
@@ -138,13 +139,13 @@ fn result_value(
 fn returned_body(out: &mut Parts) -> Result<(), AllocError>
     ensures { OnOk result (parts out.new ≡ spec.returned_body (top (parts out.old)) ∷ pop (parts out.old)) }
 {
-    out.return_value()?;
-    out.nothing()?;
-    out.before()?;
-    out.nothing()?;
-    out.swap()?;
-    out.nothing()?;
-    out.body()?;
+    attempt!(out.return_value());
+    attempt!(out.nothing());
+    attempt!(out.before());
+    attempt!(out.nothing());
+    attempt!(out.swap());
+    attempt!(out.nothing());
+    attempt!(out.body());
     Ok(())
 }
 
@@ -166,10 +167,10 @@ fn with_value_of(
     ensures { Bodies found.now.takes found.now.gives (spec.with_value_of names.now levels blocking (profiled outer.now found.now) (optional (part_at tree.now.nodes) the_aspect given) (the_expr (part_at tree.now.nodes id)) log.old) (parts out.old) result log.new (parts out.new) }
 {
     let _outer = outer;
-    let nonblocking = aspect(names, &found.inner, log, out, blocking, tree, given)?;
+    let nonblocking = attempt!(aspect(names, &found.inner, log, out, blocking, tree, given));
     let returns = found.inner.returns;
-    let held = result_value(names, levels, &found.inner, log, out, returns, tree, id)?;
-    returned_body(out)?;
+    let held = attempt!(result_value(names, levels, &found.inner, log, out, returns, tree, id));
+    attempt!(returned_body(out));
     Ok(sub_where(found.number, nonblocking, held))
 }
 
@@ -178,17 +179,17 @@ fn with_value_of(
 fn formals_part(out: &mut Parts, takes: &Items<Taken>) -> Result<(), AllocError>
     ensures { OnOk result ((as_formals (top (parts out.new)) ≡ map spec.typed_formal takes.now) × (pop (parts out.new) ≡ parts out.old)) }
 {
-    out.nothing()?;
+    attempt!(out.nothing());
     let mut i = takes.len();
     'formals: while i > 0 {
         i -= 1;
         let Some(taken) = takes.get(i) else {
             return Err(AllocError);
         };
-        out.also_leaf(Leaf::Formal(Formal {
+        attempt!(out.also_leaf(Leaf::Formal(Formal {
             object: taken.object,
             mode: taken.mode,
-        }))?;
+        })));
     }
     Ok(())
 }
@@ -211,8 +212,8 @@ fn headed(
 ) -> Result<Option<Head>, AllocError>
     ensures { IfOk result (λ h. (headed_if h (second (parts out.new)) (top (parts out.new)) ≡ sub_if takes.now gives nonblocking (top (parts out.old))) × (pop (pop (parts out.new)) ≡ pop (parts out.old))) }
 {
-    formals_part(out, takes)?;
-    out.swap()?;
+    attempt!(formals_part(out, takes));
+    attempt!(out.swap());
     match nonblocking {
         None => Ok(None),
         Some(nonblocking) => Ok(Some(Head {
@@ -240,8 +241,8 @@ fn implemented(
 ) -> Result<Option<Head>, AllocError>
     ensures { Subprograms (step.implemented names.now levels blocking start here.old name mark (optional (part_at tree.now.nodes) the_formals formals) (optional (part_at tree.now.nodes) the_aspect given) (the_implementation (part_at tree.now.nodes implementation)) log.old) (parts out.old) result here.new log.new (parts out.new) }
 {
-    let mut found = profile(names, start, here, log, out, name, mark, tree, formals)?;
-    let nonblocking = with_body(
+    let mut found = attempt!(profile(names, start, here, log, out, name, mark, tree, formals));
+    let nonblocking = attempt!(with_body(
         names,
         levels,
         log,
@@ -253,8 +254,8 @@ fn implemented(
         tree,
         given,
         implementation,
-    )?;
-    let head = headed(out, &found.takes, found.gives, nonblocking)?;
+    ));
+    let head = attempt!(headed(out, &found.takes, found.gives, nonblocking));
     Ok(head)
 }
 
@@ -277,7 +278,7 @@ fn expressed(
     ensures { Subprograms (step.expressed names.now levels blocking start here.old name mark (optional (part_at tree.now.nodes) the_formals formals) (optional (part_at tree.now.nodes) the_aspect given) (the_bracketed (part_at tree.now.nodes bracketed)) log.old) (parts out.old) result here.new log.new (parts out.new) }
 {
     let value = tree.bracketed(bracketed).value;
-    let found = profile(
+    let found = attempt!(profile(
         names,
         start,
         here,
@@ -287,11 +288,11 @@ fn expressed(
         Some(mark),
         tree,
         formals,
-    )?;
-    let nonblocking = with_value_of(
+    ));
+    let nonblocking = attempt!(with_value_of(
         names, levels, log, out, blocking, here, &found, tree, given, value,
-    )?;
-    let head = headed(out, &found.takes, found.gives, nonblocking)?;
+    ));
+    let head = attempt!(headed(out, &found.takes, found.gives, nonblocking));
     Ok(head)
 }
 

@@ -17,6 +17,7 @@ use name_rules::found::Found;
 use name_rules::log::{Log, Rule};
 use name_rules::scope::{Context, Names};
 use name_rules::types::{Kind, Scalar, Subtype, Wanted};
+use name_values::attempt;
 use name_values::bounds::both_static;
 use name_values::logs::{also_all, cleared};
 use name_values::operators::both_mentions;
@@ -60,10 +61,10 @@ fn indic_range(
 ) -> Result<Option<Subtype>, AllocError>
     ensures { Says (spec.indic_range scalar first last (low, high) log.old) result log.new }
 {
-    unless(log, lies_in(scalar, low), first, Rule::StaticRange)?;
-    unless(log, lies_in(scalar, high), last, Rule::StaticRange)?;
-    unless(log, low <= high, first, Rule::StaticRange)?;
-    let found = range_within(log, scalar, low, high)?;
+    attempt!(unless(log, lies_in(scalar, low), first, Rule::StaticRange));
+    attempt!(unless(log, lies_in(scalar, high), last, Rule::StaticRange));
+    attempt!(unless(log, low <= high, first, Rule::StaticRange));
+    let found = attempt!(range_within(log, scalar, low, high));
     Ok(found)
 }
 
@@ -78,8 +79,8 @@ fn indic_bounds(
 ) -> Result<Option<Subtype>, AllocError>
     ensures { Judges (spec.indic_bounds scalar (found low (second (parts out.old))) (found high (top (parts out.old))) log.old) (pop (pop (parts out.old))) result log.new (parts out.new) }
 {
-    let bounds = both_static(log, out, scalar.kind, low, high)?;
-    both_mentions(out, low, high)?;
+    let bounds = attempt!(both_static(log, out, scalar.kind, low, high));
+    attempt!(both_mentions(out, low, high));
     match bounds {
         None => Ok(None),
         Some(span) => {
@@ -113,14 +114,14 @@ pub fn indic(
 {
     match tree.indic(id) {
         Indic::Mark(mark) => {
-            let subtype = subtype_named(names, here, log, out, mark)?;
-            out.nothing()?;
+            let subtype = attempt!(subtype_named(names, here, log, out, mark));
+            attempt!(out.nothing());
             Ok(subtype)
         }
         Indic::RangeMark { mark, low, high } => {
-            let scalar = scalar_named(names, here, log, out, mark)?;
-            let x = simple(names, levels, here, log, out, Wanted::Other, tree, low)?;
-            let y = simple(names, levels, here, log, out, Wanted::Other, tree, high)?;
+            let scalar = attempt!(scalar_named(names, here, log, out, mark));
+            let x = attempt!(simple(names, levels, here, log, out, Wanted::Other, tree, low));
+            let y = attempt!(simple(names, levels, here, log, out, Wanted::Other, tree, high));
             let (Some(scalar), Some(x), Some(y)) = (scalar, x, y) else {
                 out.leave_out();
                 return Ok(None);
@@ -146,9 +147,9 @@ fn own_type(
     let has_low = in_base(kind, low);
     let has_high = in_base(kind, high);
     let holds = low <= high;
-    unless(log, has_low, first, Rule::StaticRange)?;
-    unless(log, has_high, last, Rule::StaticRange)?;
-    unless(log, holds, first, Rule::StaticRange)?;
+    attempt!(unless(log, has_low, first, Rule::StaticRange));
+    attempt!(unless(log, has_high, last, Rule::StaticRange));
+    attempt!(unless(log, holds, first, Rule::StaticRange));
     if has_low && has_high && holds {
         Ok(Some(Subtype::Scalar(Scalar {
             kind,
@@ -182,12 +183,12 @@ pub fn static_bound(
 {
     match given {
         None => {
-            cleared(out)?;
+            attempt!(cleared(out));
             Ok(None)
         }
         Some(found) => {
-            mentions(out, found)?;
-            let value = static_integer(log, found)?;
+            attempt!(mentions(out, found));
+            let value = attempt!(static_integer(log, found));
             Ok(value)
         }
     }
@@ -204,13 +205,13 @@ pub fn own_type_of(
 ) -> Result<Option<Subtype>, AllocError>
     ensures { Judges (spec.own_type_of token (found_of low (second (parts out.old)), found_of high (top (parts out.old))) log.old) (pop (pop (parts out.old))) result log.new (parts out.new) }
 {
-    out.swap()?;
+    attempt!(out.swap());
     let first = first_or(out, low);
-    let a = static_bound(log, out, low)?;
-    out.swap()?;
+    let a = attempt!(static_bound(log, out, low));
+    attempt!(out.swap());
     let last = first_or(out, high);
-    let z = static_bound(log, out, high)?;
-    also_all(out)?;
+    let z = attempt!(static_bound(log, out, high));
+    attempt!(also_all(out));
     let (Some(a), Some(z)) = (a, z) else {
         return Ok(None);
     };

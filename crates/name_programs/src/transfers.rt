@@ -14,6 +14,7 @@ use name_expressions::expressions::{condition, expr, judged_alone};
 use name_rules::log::{Log, Rule};
 use name_rules::scope::{Context, LoopName, Names, Returns};
 use name_rules::types::{Scalar, Subtype, Wanted};
+use name_values::attempt;
 use name_values::exceptions::exception;
 use name_values::logs::{breaks, not_given};
 use name_values::symbols::symbol;
@@ -26,7 +27,7 @@ use typed_parts::Parts;
 pub fn no_stmt(log: &mut Log, out: &mut Parts, at: u32, rule: Rule) -> Result<bool, AllocError>
     ensures { Gives (fault at rule log.old) (parts out.old) result log.new (parts out.new) }
 {
-    out.nothing()?;
+    attempt!(out.nothing());
     not_given(log, out, at, rule)
 }
 
@@ -60,7 +61,7 @@ fn loop_or(log: &mut Log, at: u32, named: Option<LoopName>) -> Result<Option<u32
     match named {
         Some(named) => Ok(Some(named.number)),
         None => {
-            breaks(log, at, Rule::NotVisible)?;
+            attempt!(breaks(log, at, Rule::NotVisible));
             Ok(None)
         }
     }
@@ -79,7 +80,7 @@ fn exited(
     let loops = here.loops.as_slice();
     match innermost(loops) {
         None => {
-            breaks(log, at, Rule::NotVisible)?;
+            attempt!(breaks(log, at, Rule::NotVisible));
             Ok(None)
         }
         Some(inner) => match from {
@@ -102,7 +103,7 @@ fn condition_where(
 {
     match id {
         None => {
-            out.nothing()?;
+            attempt!(out.nothing());
             Ok(true)
         }
         Some(id) => condition(names, levels, here, log, out, tree, id),
@@ -124,15 +125,15 @@ pub fn exit_from(
 ) -> Result<bool, AllocError>
     ensures { Gives (spec.exit_from names.now (inside names.now levels) here.now at from (optional (part_at tree.now.nodes) the_expr test) log.old) (parts out.old) result log.new (parts out.new) }
 {
-    let left = exited(names, here, log, at, from)?;
-    let given = condition_where(names, levels, here, log, out, tree, test)?;
+    let left = attempt!(exited(names, here, log, at, from));
+    let given = attempt!(condition_where(names, levels, here, log, out, tree, test));
     match left {
         None => Ok(false),
         Some(number) => {
             if !given {
                 return Ok(false);
             }
-            out.exit(number)?;
+            attempt!(out.exit(number));
             Ok(true)
         }
     }
@@ -153,7 +154,7 @@ fn value_at(
 ) -> Result<bool, AllocError>
     ensures { Gives (spec.value_at names.now (inside names.now levels) here.now at scalar (the_expr (part_at tree.now.nodes value)) log.old) (parts out.old) result log.new (parts out.new) }
 {
-    match expr(names, levels, here, log, out, Wanted::Other, tree, value)? {
+    match attempt!(expr(names, levels, here, log, out, Wanted::Other, tree, value)) {
         None => Ok(false),
         Some(given) => stored(log, out, Subtype::Scalar(scalar), at, given),
     }
@@ -173,7 +174,7 @@ fn value_of_nothing(
     ensures { Gives (spec.value_of_nothing names.now (inside names.now levels) here.now at (the_expr (part_at tree.now.nodes value)) log.old) (parts out.old) result log.new (parts out.new) }
 {
     let before = log.faults.len();
-    let x = expr(names, levels, here, log, out, Wanted::Other, tree, value)?;
+    let x = attempt!(expr(names, levels, here, log, out, Wanted::Other, tree, value));
     if log.faults.len() != before {
         return Ok(false);
     }
@@ -198,15 +199,15 @@ fn return_value(
     match here.returns {
         Returns::Nothing => value_of_nothing(names, levels, here, log, out, at, tree, value),
         Returns::Value(scalar) => {
-            if !value_at(names, levels, here, log, out, at, scalar, tree, value)? {
+            if !attempt!(value_at(names, levels, here, log, out, at, scalar, tree, value)) {
                 return Ok(false);
             }
-            out.return_value()?;
+            attempt!(out.return_value());
             Ok(true)
         }
         Returns::Faulty => {
-            judged_alone(names, levels, here, log, out, tree, value)?;
-            out.nothing()?;
+            attempt!(judged_alone(names, levels, here, log, out, tree, value));
+            attempt!(out.nothing());
             Ok(false)
         }
     }
@@ -222,7 +223,7 @@ fn return_alone(
 {
     match returns {
         Returns::Nothing => {
-            out.return_none()?;
+            attempt!(out.return_none());
             Ok(true)
         }
         _ => no_stmt(log, out, at, Rule::WrongType),
@@ -265,16 +266,16 @@ pub fn raise_from(
             if !here.in_handler {
                 return no_stmt(log, out, at, Rule::NotVisible);
             }
-            out.reraise()?;
+            attempt!(out.reraise());
             Ok(true)
         }
-        Some(raised) => match exception(names, here, log, out, tree, raised)? {
+        Some(raised) => match attempt!(exception(names, here, log, out, tree, raised)) {
             None => {
-                out.nothing()?;
+                attempt!(out.nothing());
                 Ok(false)
             }
             Some(reason) => {
-                out.raise(reason)?;
+                attempt!(out.raise(reason));
                 Ok(true)
             }
         },
