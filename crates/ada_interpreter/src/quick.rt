@@ -97,7 +97,7 @@ pub fn quick<P: Port + Drop>(
 
 /// The value of a static expression, or of the parameter of a loop; None for every other expression. It calls nothing of
 /// the cycle, so it is tried in place, before a call of `quick`.
-#[inline]
+#[inline(always)]
 #[tactic(auto, unfolding(ada_meaning::specs::Stored::bind, ada_meaning::specs::Stored::ret, crate::specs::Walk::eval, crate::specs::Walk::select))]
 fn quick_leaf<P: Port + Drop>(
     work: &Work<'_>,
@@ -117,7 +117,7 @@ fn quick_leaf<P: Port + Drop>(
 
 /// The value of an operand or an index, as `quick` has it.
 #[cycle(quick)]
-#[inline]
+#[inline(always)]
 fn quick_operand<P: Port + Drop>(
     work: &Work<'_>,
     calls: u32,
@@ -235,6 +235,7 @@ fn quick_unary<P: Port + Drop>(
 }
 
 #[cycle(quick)]
+#[inline(always)]
 fn quick_operators<P: Port + Drop>(
     work: &Work<'_>,
     calls: u32,
@@ -253,6 +254,7 @@ fn quick_operators<P: Port + Drop>(
 }
 
 #[cycle(quick)]
+#[inline(always)]
 fn quick_operator<P: Port + Drop>(
     work: &Work<'_>,
     calls: u32,
@@ -342,7 +344,7 @@ fn quick_converted<P: Port + Drop>(
 
 /// What `quick_offset` gives, without a call of it where no selection is left.
 #[cycle(quick)]
-#[inline]
+#[inline(always)]
 #[tactic(auto, unfolding(ada_meaning::specs::Stored::bind, ada_meaning::specs::Stored::ret, crate::specs::Walk::eval, crate::specs::Walk::select))]
 fn quick_rest<P: Port + Drop>(
     work: &Work<'_>,
