@@ -95,6 +95,45 @@ pub fn quick<P: Port + Drop>(
     }
 }
 
+/// The value of a static expression, or of the parameter of a loop; None for every other expression. It calls nothing of
+/// the cycle, so it is tried in place, before a call of `quick`.
+#[inline(always)]
+#[tactic(auto, unfolding(ada_meaning::specs::Stored::bind, ada_meaning::specs::Stored::ret, crate::specs::Walk::eval, crate::specs::Walk::select))]
+fn quick_leaf<P: Port + Drop>(
+    work: &Work<'_>,
+    calls: u32,
+    id: u32,
+    env: &Env<'_>,
+    store: &Store<P>,
+) -> Option<i64>
+    ensures { Gives P.Tells (spec.eval work.now calls (expr_at (nodes_of work.now) id) (env_of env.now)) store.now result }
+{
+    match work.typed.nodes.expr(id) {
+        Expr::Static { value, .. } => Some(value),
+        Expr::Parameter { parameter, .. } => Some(env.parameter(parameter)),
+        _ => None,
+    }
+}
+
+/// The value of an operand or an index, as `quick` has it.
+#[cycle(quick)]
+#[inline(always)]
+fn quick_operand<P: Port + Drop>(
+    work: &Work<'_>,
+    calls: u32,
+    levels: u32,
+    id: u32,
+    env: &Env<'_>,
+    store: &Store<P>,
+) -> Option<i64>
+    ensures { Gives P.Tells (spec.eval work.now calls (expr_at (nodes_of work.now) id) (env_of env.now)) store.now result }
+{
+    match quick_leaf(work, calls, id, env, store) {
+        Some(value) => Some(value),
+        None => quick(work, calls, levels, id, env, store),
+    }
+}
+
 #[cycle(quick)]
 fn quick_variable<P: Port + Drop>(
     work: &Work<'_>,
@@ -108,7 +147,7 @@ fn quick_variable<P: Port + Drop>(
     ensures { Gives P.Tells (spec.variable work.now calls root (selections_at (nodes_of work.now) selections) (env_of env.now)) store.now result }
 {
     let part = env.variable_root(root);
-    match quick_offset(
+    match quick_rest(
         work,
         calls,
         levels,
@@ -139,7 +178,7 @@ fn quick_constant<P: Port + Drop>(
     ensures { Gives P.Tells (spec.constant work.now calls root (selections_at (nodes_of work.now) selections) (env_of env.now)) store.now result }
 {
     let part = env.constant_root(root);
-    match quick_offset(
+    match quick_rest(
         work,
         calls,
         levels,
@@ -186,7 +225,7 @@ fn quick_unary<P: Port + Drop>(
 ) -> Option<i64>
     ensures { Gives P.Tells (spec.unary_of work.now calls sign at class (expr_at (nodes_of work.now) operand) (env_of env.now)) store.now result }
 {
-    match quick(work, calls, levels, operand, env, store) {
+    match quick_operand(work, calls, levels, operand, env, store) {
         None => None,
         Some(x) => match store.unary(sign, at, class, x) {
             Ok(value) => Some(value),
@@ -196,6 +235,7 @@ fn quick_unary<P: Port + Drop>(
 }
 
 #[cycle(quick)]
+#[inline(always)]
 fn quick_operators<P: Port + Drop>(
     work: &Work<'_>,
     calls: u32,
@@ -207,13 +247,14 @@ fn quick_operators<P: Port + Drop>(
 ) -> Option<i64>
     ensures { Gives P.Tells (spec.operators work.now calls last (expr_at (nodes_of work.now) first) (env_of env.now)) store.now result }
 {
-    match quick(work, calls, levels, first, env, store) {
+    match quick_operand(work, calls, levels, first, env, store) {
         None => None,
         Some(x) => quick_operator(work, calls, levels, last, x, env, store),
     }
 }
 
 #[cycle(quick)]
+#[inline(always)]
 fn quick_operator<P: Port + Drop>(
     work: &Work<'_>,
     calls: u32,
@@ -231,7 +272,7 @@ fn quick_operator<P: Port + Drop>(
             op,
             class,
             right,
-        } => match quick(work, calls, levels, right, env, store) {
+        } => match quick_operand(work, calls, levels, right, env, store) {
             None => None,
             Some(y) => match store.operate(op, at, class, x, y) {
                 Ok(value) => Some(value),
@@ -240,7 +281,7 @@ fn quick_operator<P: Port + Drop>(
         },
         Link::AndThen { right } => {
             if is_true(x) {
-                quick(work, calls, levels, right, env, store)
+                quick_operand(work, calls, levels, right, env, store)
             } else {
                 Some(0)
             }
@@ -249,7 +290,7 @@ fn quick_operator<P: Port + Drop>(
             if is_true(x) {
                 Some(1)
             } else {
-                quick(work, calls, levels, right, env, store)
+                quick_operand(work, calls, levels, right, env, store)
             }
         }
     }
@@ -268,9 +309,9 @@ fn quick_relation<P: Port + Drop>(
 ) -> Option<i64>
     ensures { Gives P.Tells (spec.relation work.now calls comparison (expr_at (nodes_of work.now) first) (expr_at (nodes_of work.now) right) (env_of env.now)) store.now result }
 {
-    match quick(work, calls, levels, first, env, store) {
+    match quick_operand(work, calls, levels, first, env, store) {
         None => None,
-        Some(x) => match quick(work, calls, levels, right, env, store) {
+        Some(x) => match quick_operand(work, calls, levels, right, env, store) {
             None => None,
             Some(y) => Some(bit(compares(comparison, x, y))),
         },
@@ -289,7 +330,7 @@ fn quick_converted<P: Port + Drop>(
 ) -> Option<i64>
     ensures { Gives P.Tells (spec.converted work.now calls check (expr_at (nodes_of work.now) value) (env_of env.now)) store.now result }
 {
-    match quick(work, calls, levels, value, env, store) {
+    match quick_operand(work, calls, levels, value, env, store) {
         None => None,
         Some(x) => {
             if is_in(check.scalar, x) {
@@ -298,6 +339,28 @@ fn quick_converted<P: Port + Drop>(
                 None
             }
         }
+    }
+}
+
+/// What `quick_offset` gives, without a call of it where no selection is left.
+#[cycle(quick)]
+#[inline(always)]
+#[tactic(auto, unfolding(ada_meaning::specs::Stored::bind, ada_meaning::specs::Stored::ret, crate::specs::Walk::eval, crate::specs::Walk::select))]
+fn quick_rest<P: Port + Drop>(
+    work: &Work<'_>,
+    calls: u32,
+    levels: u32,
+    id: u32,
+    env: &Env<'_>,
+    object: u32,
+    offset: u64,
+    store: &Store<P>,
+) -> Option<u64>
+    ensures { GivesAs (at_offset object) P.Tells (spec.select work.now calls (selections_at (nodes_of work.now) id) (env_of env.now) (at_offset object offset)) store.now result }
+{
+    match work.typed.nodes.selections(id) {
+        None => Some(offset),
+        Some(_) => quick_offset(work, calls, levels, id, env, object, offset, store),
     }
 }
 
@@ -367,14 +430,14 @@ fn quick_index<P: Port + Drop>(
     ensures { GivesAs (at_offset object) P.Tells (spec.index work.now calls at (expr_at (nodes_of work.now) index) low high stride (selections_at (nodes_of work.now) rest) (env_of env.now) (at_offset object offset)) store.now result }
 {
     let _ = at;
-    match quick(work, calls, levels, index, env, store) {
+    match quick_operand(work, calls, levels, index, env, store) {
         None => None,
         Some(i) => {
             if between(low, i, high) {
                 match component_offset(offset, i, low, stride) {
                     None => None,
                     Some(inner) => {
-                        quick_offset(work, calls, levels, rest, env, object, inner, store)
+                        quick_rest(work, calls, levels, rest, env, object, inner, store)
                     }
                 }
             } else {
