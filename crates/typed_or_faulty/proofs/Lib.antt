@@ -1,1 +1,4 @@
 pub mod Explains
+pub mod Facts
+pub mod SoundValues
+pub mod SoundOperators
