@@ -164,3 +164,7 @@ no G at rule = s-fault G (Is Any) at rule
 
 pub differ : {A : Type 0} → true ≡ false → A
 differ e = absurd (true≢false e)
+
+-- what is found doesn't matter
+pub s-alone : (G H : Type 0) {A : Type 0} (Q : A → Type 0) (p : Judging A) → Sound H Q p → Sound G Any p
+s-alone G H Q p m = record { grows = m.grows; at = λ log c e g. tt }

@@ -3,13 +3,16 @@ use Rattle.std.proofs.Common.{◌≡◌, refl, sym, subst, ◌∙◌, true≢fal
 use Rattle.std.specs.Prelude.{not}
 use Rattle.ada_base.specs.declared.operation.Op.{Op}
 use Rattle.ada_base.specs.declared.operation.Op.TheVariants as op
-use Rattle.ada_typed.specs.Decoded.{Part}
+use Rattle.ada_typed.specs.Decoded.{Part, as_expr}
+use Rattle.ada_typed.specs.Syntax as typed
+use Rattle.ada_typed.specs.declared.scalars.Class.TheVariants as class
+use Rattle.ada_typed.specs.declared.expressions.Sign.TheVariants as unary'
 use Rattle.ada_typed.specs.declared.expressions.Sign.{Sign}
 use Rattle.ada_typed.specs.declared.scalars.Comparison.{Comparison}
-use Rattle.name_rules.specs.Found.{Found}
+use Rattle.name_rules.specs.Found.{Found, scalar}
 use Rattle.name_rules.specs.Judging.{◌>>=◌, fault, given, pure, some}
 use Rattle.name_rules.specs.Operators as o
-use Rattle.name_rules.specs.Types.{in_base, same, is_integer}
+use Rattle.name_rules.specs.Types.{class_of, in_base, same}
 use Rattle.name_rules.specs.Values.{asked, exact, first_of, fitting, is_integer_kind, is_kind, is_number, is_scalar, kind_of, kind_in, place_scalar, suits, value_of}
 use Rattle.name_rules.specs.declared.found.Found.TheVariants as known
 use Rattle.name_rules.specs.declared.found.Found.{Found as Known}
@@ -79,7 +82,7 @@ unfolding o.operation_on
 s-operation_on G p at k j a b =
     s-bind G (Is Any) (Is FoundOk) (asked k a) _ (s-asked G k a) (λ x.
     s-bind _ (Is Any) (Is FoundOk) (asked j b) _ (s-asked _ j b) (λ y.
-    s-both _ Any Any FoundOk x y _ (λ g. g.0.1) (λ g. g.1) (λ m n. s-some _ FoundOk _ (λ g. tt))))
+    s-both _ Any Any FoundOk x y _ (λ g. g.0.1) (λ g. g.1) (λ m n. s-some _ FoundOk (scalar (first_of a.known) k None (typed.Binary at p (class_of k) (as_expr m) (as_expr n))) (λ g. tt))))
 
 s-operation_by : (G : Type 0) (p : Op) (at : ℕ) (k j : Kind) (a b : Found) (u v : Option ℤ) → Sound G (Is FoundOk) (o.operation_by p at k j a b u v)
 s-operation_by G p at k j a b (Some u) (Some v) = s-static_operation G p k j a u b v
@@ -159,7 +162,7 @@ s-static_unary G s at k a z =
 
 s-unary_typed : (G : Type 0) (s : Sign) (at : ℕ) (k : Kind) (a : Found) (z : Option ℤ) → Sound G (Is FoundOk) (o.unary_typed s at k a z)
 s-unary_typed G s at k a (Some z) = s-static_unary G s at k a z
-s-unary_typed G s at k a None = s-bind G (Is Any) (Is FoundOk) (asked k a) _ (s-asked G k a) (λ x. s-given _ Any FoundOk x _ (λ g. g.1) (λ n. s-some _ FoundOk _ (λ g. tt)))
+s-unary_typed G s at k a None = s-bind G (Is Any) (Is FoundOk) (asked k a) _ (s-asked G k a) (λ x. s-given _ Any FoundOk x _ (λ g. g.1) (λ n. s-some _ FoundOk (scalar at k None (typed.Unary at s (class_of k) (as_expr n))) (λ g. tt)))
 
 s-unary_open : (G : Type 0) (s : Sign) (at : ℕ) (a : Found) (z : Option ℤ) → (G → Is Any (o.open_of a)) → Sound G (Is FoundOk) (o.unary_open s at a z)
 s-unary_open G s at a (Some z) h = s-static_universal G at a.part (o.signed s z)
@@ -175,7 +178,7 @@ s-unary G s at x h = s-given G Any FoundOk x _ h (λ a. s-test _ (Is FoundOk) (i
 
 s-plain_typed : (G : Type 0) (at : ℕ) (k : Kind) (a : Found) (z : Option ℤ) → Sound G (Is FoundOk) (o.plain_typed at k a z)
 s-plain_typed G at k a (Some z) = s-static_of G at k a.part (Some z)
-s-plain_typed G at k a None = s-bind G (Is Any) (Is FoundOk) (asked k a) _ (s-asked G k a) (λ x. s-given _ Any FoundOk x _ (λ g. g.1) (λ n. s-some _ FoundOk _ (λ g. tt)))
+s-plain_typed G at k a None = s-bind G (Is Any) (Is FoundOk) (asked k a) _ (s-asked G k a) (λ x. s-given _ Any FoundOk x _ (λ g. g.1) (λ n. s-some _ FoundOk (record { known = known.Scalar at k None; part = n }) (λ g. tt)))
 
 s-plain_open : (G : Type 0) (at : ℕ) (a : Found) (z : Option ℤ) → (G → Is Any (o.open_of a)) → Sound G (Is FoundOk) (o.plain_open at a z)
 s-plain_open G at a (Some z) h = s-some G FoundOk _ (λ g. tt)
@@ -190,7 +193,7 @@ unfolding o.plain
 s-plain G at x h = s-given G Any FoundOk x _ h (λ a. s-test _ (Is FoundOk) (is_number a.known) _ _ (s-plain_by _ at a (kind_of a.known) refl (λ g. g.1)) (s-fault _ (Is FoundOk) at WrongType))
 
 s-negation : (G : Type 0) (at : ℕ) (a : Found) → Sound G (Is FoundOk) (o.negation at a)
-s-negation G at a = s-bind G (Is Any) (Is FoundOk) (asked kind.Boolean a) _ (s-asked G kind.Boolean a) (λ x. s-given _ Any FoundOk x _ (λ g. g.1) (λ n. s-some _ FoundOk _ (λ g. tt)))
+s-negation G at a = s-bind G (Is Any) (Is FoundOk) (asked kind.Boolean a) _ (s-asked G kind.Boolean a) (λ x. s-given _ Any FoundOk x _ (λ g. g.1) (λ n. s-some _ FoundOk (scalar at kind.Boolean None (typed.Unary at unary'.Not class.Boolean (as_expr n))) (λ g. tt)))
 
 pub s-not_of : (G : Type 0) (at : ℕ) (x : Option Found) → (G → Is Any x) → Sound G (Is FoundOk) (o.not_of at x)
 unfolding o.not_of
@@ -216,7 +219,7 @@ unfolding o.compared_at
 s-compared_at G k c a b =
     s-bind G (Is Any) (Is FoundOk) (asked k a) _ (s-asked G k a) (λ x.
     s-bind _ (Is Any) (Is FoundOk) (asked k b) _ (s-asked _ k b) (λ y.
-    s-both _ Any Any FoundOk x y _ (λ g. g.0.1) (λ g. g.1) (λ m n. s-some _ FoundOk _ (λ g. tt))))
+    s-both _ Any Any FoundOk x y _ (λ g. g.0.1) (λ g. g.1) (λ m n. s-some _ FoundOk (scalar (first_of a.known) kind.Boolean None (typed.Relation (class_of k) c (as_expr m) (as_expr n))) (λ g. tt))))
 
 pub s-compared : (G : Type 0) (c : Comparison) (at : ℕ) (x y : Option Found) → (G → Is Any x) → (G → Is Any y) → Sound G (Is FoundOk) (o.compared c at x y)
 unfolding o.compared
@@ -230,7 +233,7 @@ s-within_bounds G at negated k x low high =
     (s-bind G (Is Any) (Is FoundOk) (asked k x) _ (s-asked G k x) (λ e.
     s-bind _ (Is Any) (Is FoundOk) (asked k low) _ (s-asked _ k low) (λ l.
     s-bind _ (Is Any) (Is FoundOk) (asked k high) _ (s-asked _ k high) (λ m.
-    s-given _ Any FoundOk e _ (λ g. g.0.0.1) (λ u. s-both _ Any Any FoundOk l m _ (λ g. g.0.0.1) (λ g. g.0.1) (λ v w. s-some _ FoundOk _ (λ g. tt)))))))
+    s-given _ Any FoundOk e _ (λ g. g.0.0.1) (λ u. s-both _ Any Any FoundOk l m _ (λ g. g.0.0.1) (λ g. g.0.1) (λ v w. s-some _ FoundOk (o.member (first_of x.known) negated k (as_expr u) (as_expr v) (as_expr w)) (λ g. tt)))))))
 
 s-member_of : (G : Type 0) (at : ℕ) (negated : Bool) (a l h : Found) → Sound G (Is FoundOk) (o.member_of at negated a l h)
 s-member_of G at negated a l h =
@@ -247,5 +250,5 @@ pub s-of_subtype : (G : Type 0) (at : ℕ) (negated : Bool) (mark : ℕ) (x : Op
 unfolding o.of_subtype
 s-of_subtype G at negated mark x s h k = s-both G Any Any FoundOk x s _ h k (λ a t.
     s-if _ (Is FoundOk) (suits t.kind a.known) _ _
-    (s-bind _ (Is Any) (Is FoundOk) (asked t.kind a) _ (s-asked _ t.kind a) (λ e. s-given _ Any FoundOk e _ (λ g. g.1) (λ u. s-some _ FoundOk _ (λ g. tt))))
+    (s-bind _ (Is Any) (Is FoundOk) (asked t.kind a) _ (s-asked _ t.kind a) (λ e. s-given _ Any FoundOk e _ (λ g. g.1) (λ u. s-some _ FoundOk (o.member (first_of a.known) negated t.kind (as_expr u) (o.limit_of mark t.low) (o.limit_of mark t.high)) (λ g. tt))))
     (s-fault _ (Is FoundOk) at WrongType))

@@ -3,10 +3,11 @@ use Rattle.std.proofs.Common.{◌≡◌, refl, sym, subst, ◌∙◌, ℕ, ℤ, 
 use Rattle.ada_typed.specs.Decoded.{Part, as_expr}
 use Rattle.ada_typed.specs.Decoded as part
 use Rattle.ada_typed.specs.Syntax.{Expr, Selections}
+use Rattle.ada_typed.specs.Syntax as typed
 use Rattle.name_rules.specs.Found.{Found}
 use Rattle.name_rules.specs.Judging.{◌>>=◌, fault, given, pure, some, unless}
 use Rattle.name_rules.specs.TypedParts.{selections_of}
-use Rattle.name_rules.specs.Types.{in_base, is_integer, same}
+use Rattle.name_rules.specs.Types.{check_at, in_base, is_integer, same}
 use Rattle.name_rules.specs.Values as v
 use Rattle.name_rules.specs.declared.found.Found.TheVariants as known
 use Rattle.name_rules.specs.declared.found.Found.{Found as Known}
@@ -96,5 +97,5 @@ s-composite_asked G n f = s-composite_form G n f.known f.part
 
 pub s-stored : (G : Type 0) (s : Subtype) (at : ℕ) (f : Found) → Sound G (Is Any) (v.stored s at f)
 unfolding v.stored
-s-stored G (subtype.Scalar s) at f = s-bind G (Is Any) (Is Any) (v.asked s.kind f) _ (s-asked G s.kind f) (λ e. s-given _ Any Any e _ (λ g. g.1) (λ x. ok _ _))
-s-stored G (subtype.Composite n) at f = s-bind G (Is Any) (Is Any) (v.composite_asked n f) _ (s-composite_asked G n f) (λ e. s-given _ Any Any e _ (λ g. g.1) (λ x. ok _ _))
+s-stored G (subtype.Scalar s) at f = s-bind G (Is Any) (Is Any) (v.asked s.kind f) _ (s-asked G s.kind f) (λ e. s-given _ Any Any e _ (λ g. g.1) (λ x. ok _ (part.AValue (typed.Number (check_at at s) (as_expr x)))))
+s-stored G (subtype.Composite n) at f = s-bind G (Is Any) (Is Any) (v.composite_asked n f) _ (s-composite_asked G n f) (λ e. s-given _ Any Any e _ (λ g. g.1) (λ x. ok _ (part.AValue (typed.Cells (part.as_composite x)))))
