@@ -4,3 +4,7 @@ pub mod SoundValues
 pub mod SoundOperators
 pub mod SoundScope
 pub mod SoundExpressions
+pub mod SoundRanges
+pub mod SoundNames
+pub mod SoundReducers
+pub mod SoundIterations
