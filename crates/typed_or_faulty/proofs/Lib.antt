@@ -8,3 +8,7 @@ pub mod SoundRanges
 pub mod SoundNames
 pub mod SoundReducers
 pub mod SoundIterations
+pub mod SoundCalls
+pub mod SoundAttributes
+pub mod SoundOutput
+pub mod SoundParts
