@@ -1,5 +1,5 @@
 -- Judging that finds what is asked of it, where no fault is written. No fault is taken back.
-use Rattle.std.proofs.Common.{◌≡◌, refl, sym, ap, subst, ◌∙◌, absurd, true≢false, ℕ, ℤ, ◌≤◌, List, [], ◌∷◌, ◌++◌, length, Option, Some, None, Bool, true, false, if◌then◌else◌, option_map, ◌==◌, ⊥, arith}
+use Rattle.std.proofs.Common.{◌≡◌, refl, sym, ap, subst, ◌∙◌, true≢false, ℕ, ℤ, ◌≤◌, List, [], ◌∷◌, ◌++◌, length, Option, Some, None, Bool, true, false, if◌then◌else◌, option_map, ◌==◌, arith}
 use Rattle.name_rules.specs.Judging.{Judging, ◌>>=◌, both, breaks, clean, fault, given, joined, pure, read, some, unless, where_clean}
 use Rattle.name_rules.specs.declared.log.Fault.{Fault}
 use Rattle.name_rules.specs.declared.log.Log.{Log}
@@ -153,3 +153,14 @@ weaker Q R (Some a) q m = m a q
 pub there : {A : Type 0} (Q : A → Type 0) (x : Option A) → Is Q x → Is Any x
 there Q None q = q
 there Q (Some a) q = tt
+
+-- ---- in short
+
+pub ok : (G : Type 0) {A : Type 0} (a : A) → Sound G (Is Any) (some a)
+ok G a = s-some G Any a (λ g. tt)
+
+pub no : (G : Type 0) {A : Type 0} (at : ℕ) (rule : Rule) → Sound G (Is Any) (fault {A = A} at rule)
+no G at rule = s-fault G (Is Any) at rule
+
+pub differ : {A : Type 0} → true ≡ false → A
+differ e = absurd (true≢false e)

@@ -1,1 +1,5 @@
 pub mod Explains
+pub mod Facts
+pub mod Counting
+pub mod Borrowed
+pub mod SoundDeclarations
