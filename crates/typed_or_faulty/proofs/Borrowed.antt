@@ -58,3 +58,25 @@ pub s-both_static : (G : Type 0) (k : Kind) (a z : Found) → Sound G (Is Any) (
 s-both_static = ?
 pub s-number_of : (G : Type 0) (s : Subtype) → Sound G Any (number_of s)
 s-number_of = ?
+pub s-chosen_value : (G : Type 0) (level : Inside) (here : Context) (k : Option Kind) (s : Simple) → LevelSound level → (G → Clear here) → (G → Is Any k) → Sound G (Is Any) (chosen_value level here k s)
+s-chosen_value = ?
+pub s-chosen_span : (G : Type 0) (level : Inside) (here : Context) (k : Option Kind) (low high : Simple) → LevelSound level → (G → Clear here) → (G → Is Any k) → Sound G (Is Any) (chosen_span level here k low high)
+s-chosen_span = ?
+pub s-exception : (G : Type 0) (names : Names) (here : Context) (p : Pack) → (G → Clear here) → Sound G (Is Any) (exception names here p)
+s-exception = ?
+pub record EnteredOf (e : Entered) : Type 0 where
+  pub around : Clear e.here
+  pub chunk : Is Any e.chunk
+  pub iteration : Is Any e.iteration
+pub s-entered : (G : Type 0) (names : Names) (level inner : Inside) (here : Context) (k : SiteKind) (p : OptionalParallel) (i : Iter) → LevelSound level → LevelSound inner → (G → Clear here) → Sound G EnteredOf (entered names level inner here k p i)
+s-entered = ?
+pub s-chunk_count : (G : Type 0) (inner : Inside) (here : Context) (e : Simple) → LevelSound inner → (G → Clear here) → Sound G (Is Any) (chunk_count inner here e)
+s-chunk_count = ?
+pub s-valued_by : (G : Type 0) (names : Names) (level : Inside) (here : Context) (d : Denoted) → LevelSound level → (G → Clear here) → Sound G (Is Any) (valued_by names level here d)
+s-valued_by = ?
+pub s-new_site : (G : Type 0) (here : Context) (at : ℕ) (k : SiteKind) → Sound G Any (new_site here at k)
+s-new_site = ?
+pub inside-sound : (names : Names) (n : ℕ) → LevelSound (inside names n)
+inside-sound = ?
+pub above-sound : (names : Names) (level : Inside) → LevelSound level → LevelSound (level_above names level)
+above-sound = ?

@@ -205,7 +205,7 @@ s-own_type_of G token r h i =
     s-bind _ (Is Any) (Is Any) (both a z (d.own_type token (d.first_or r.0) (d.first_or r.1))) _ (s-both _ Any Any Any a z (d.own_type token (d.first_or r.0) (d.first_or r.1)) (λ g. g.0.1) (λ g. g.1) (λ x y. s-own_type _ token (d.first_or r.0) (d.first_or r.1) x y)) (λ t.
     s-pure _ (Is Any) (option_map (indicated (also_all (d.found_mentions r.0) (d.found_mentions r.1))) t) (λ g. mapped Any Any (indicated (also_all (d.found_mentions r.0) (d.found_mentions r.1))) t g.1 (λ x m. tt)))))
 
-is-any : {A : Type 0} (Q : A → Type 0) (x : Option A) → Is Q x → Is Any x
+pub is-any : {A : Type 0} (Q : A → Type 0) (x : Option A) → Is Q x → Is Any x
 is-any Q None h = h
 is-any Q (Some a) h = tt
 
@@ -236,7 +236,7 @@ s-new_object G names here token s constant value =
     (s-bind _ Any (Is Any) (d.object_written names here token n cells constant value) _ (s-object_written _ names here token n cells constant value) (λ m. s-some _ Any m (λ g. tt)))
     (s-pure _ (Is Any) None (λ g. true≢false (sym g.0.0.1 ∙ g.1))))))
 
-plain-of : (s : Subtype) → Plain (wanted_of s)
+pub plain-of : (s : Subtype) → Plain (wanted_of s)
 plain-of (subtype.Scalar s) = tt
 plain-of (subtype.Composite n) = tt
 
