@@ -164,3 +164,11 @@ no G at rule = s-fault G (Is Any) at rule
 
 pub differ : {A : Type 0} → true ≡ false → A
 differ e = absurd (true≢false e)
+
+-- what is found doesn't matter
+pub s-alone : (G H : Type 0) {A : Type 0} (Q : A → Type 0) (p : Judging A) → Sound H Q p → Sound G Any p
+s-alone G H Q p m = record { grows = m.grows; at = λ log c e g. tt }
+
+-- what is judged by the log so far
+pub s-logged : (G : Type 0) {A : Type 0} (Q : A → Type 0) (f : Log → Judging A) → ((log : Log) → Sound G Q (f log)) → Sound G Q (λ log. f log log)
+s-logged G Q f m = record { grows = λ log. (m log).grows log; at = λ log c e g. (m log).at log c e g }

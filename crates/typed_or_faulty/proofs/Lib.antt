@@ -1,7 +1,16 @@
 pub mod Explains
 pub mod Facts
+pub mod SoundValues
+pub mod SoundOperators
+pub mod SoundScope
+pub mod SoundExpressions
+pub mod SoundRanges
+pub mod SoundNames
+pub mod SoundReducers
+pub mod SoundIterations
 pub mod Counting
 pub mod Borrowed
+pub mod SoundOutput
 pub mod SoundDeclarations
 pub mod SoundCases
 pub mod SoundStatements

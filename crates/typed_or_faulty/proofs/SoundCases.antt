@@ -19,9 +19,10 @@ use Rattle.name_rules.specs.declared.scope.Context.{Context}
 use Rattle.name_rules.specs.declared.scope.Names.{Names}
 use Rattle.name_rules.specs.declared.types.Kind.{Kind}
 use Rattle.name_rules.specs.declared.types.Scalar.{Scalar}
-use Rattle.typed_or_faulty.proofs.Borrowed.{s-chosen_span, s-chosen_value, s-exception}
 use Rattle.typed_or_faulty.proofs.Explains.{Any, Is, Sound, mapped, s-any, s-bind, s-if, s-pure, s-unless}
 use Rattle.typed_or_faulty.proofs.Facts.{Clear, LevelSound}
+use Rattle.typed_or_faulty.proofs.SoundNames.{s-exception}
+use Rattle.typed_or_faulty.proofs.SoundRanges.{s-chosen_span, s-chosen_value}
 
 -- whatever is supposed, no fault is taken back
 pub s-grown : (G : Type 0) {A : Type 0} (Q : A → Type 0) (p : Judging A) → Sound ⊥ Q p → Sound G Any p

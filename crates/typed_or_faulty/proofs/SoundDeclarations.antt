@@ -33,10 +33,13 @@ use Rattle.name_rules.specs.declared.types.Scalar.{Scalar}
 use Rattle.name_rules.specs.declared.types.Subtype.TheVariants as subtype
 use Rattle.name_rules.specs.declared.types.Subtype.{Subtype}
 use Rattle.name_rules.specs.declared.types.Wanted.TheVariants as wanted
-use Rattle.typed_or_faulty.proofs.Borrowed.{s-as_scalar, s-both_static, s-expr, s-free, s-judged_alone, s-number_of, s-static_integer, s-static_range, s-stored, s-subtype_named, s-two_bounds}
 use Rattle.typed_or_faulty.proofs.Counting.{s-cells_counted}
 use Rattle.typed_or_faulty.proofs.Explains.{Any, Grows, Is, Sound, grows-same, joint, mapped, s-any, s-bind, s-both, s-breaks, s-fault, s-given, s-if, s-never, s-pure, s-read, s-some, s-test, s-under, s-unless, s-weaken}
 use Rattle.typed_or_faulty.proofs.Facts.{Clear, FoundFor, LevelSound, NotBroken, Plain, clear-entry}
+use Rattle.typed_or_faulty.proofs.SoundExpressions.{plain-of, s-expr, s-judged_alone}
+use Rattle.typed_or_faulty.proofs.SoundRanges.{s-both_static, s-static_range, s-two_bounds}
+use Rattle.typed_or_faulty.proofs.SoundScope.{s-as_scalar, s-free, s-subtype_named}
+use Rattle.typed_or_faulty.proofs.SoundValues.{s-static_integer, s-stored}
 
 -- ---- contexts
 
@@ -114,6 +117,11 @@ s-dimensions_from G level here made (r ∷ rs) l c h =
 
 pub s-written_shape : (G : Type 0) (t : Shape) → Sound G Any (written_shape t)
 s-written_shape G t = record { grows = λ log. grows-same log _ refl refl refl; at = λ log c e g. tt }
+
+s-number_of : (G : Type 0) (s : Subtype) → Sound G Any (number_of s)
+unfolding number_of
+s-number_of G (subtype.Scalar s) = s-written_shape G (shape.Scalar s)
+s-number_of G (subtype.Composite n) = s-pure G Any n (λ g. tt)
 
 s-array_written : (G : Type 0) (ds : List Dimension) (s : Subtype) → Sound G (Is Any) (d.array_written ds s)
 s-array_written G ds s =
@@ -235,10 +243,6 @@ s-new_object G names here token s constant value =
     s-test _ (Is Any) fits _ (pure None)
     (s-bind _ Any (Is Any) (d.object_written names here token n cells constant value) _ (s-object_written _ names here token n cells constant value) (λ m. s-some _ Any m (λ g. tt)))
     (s-pure _ (Is Any) None (λ g. true≢false (sym g.0.0.1 ∙ g.1))))))
-
-pub plain-of : (s : Subtype) → Plain (wanted_of s)
-plain-of (subtype.Scalar s) = tt
-plain-of (subtype.Composite n) = tt
 
 pub s-initial : (G : Type 0) (names : Names) (level : Inside) (here : Context) (s : Option Indicated) (e : Option Expr) → LevelSound level → (G → Clear here) → (G → Is Any s) → Sound G (Is Any) (d.initial names level here s e)
 unfolding d.initial

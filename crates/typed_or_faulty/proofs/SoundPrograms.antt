@@ -37,12 +37,14 @@ use Rattle.name_rules.specs.declared.types.Kind.TheVariants as kind
 use Rattle.name_rules.specs.declared.types.Scalar.{Scalar}
 use Rattle.name_rules.specs.declared.types.Subtype.{Subtype}
 use Rattle.name_rules.specs.declared.types.Subtype.TheVariants as subtype
-use Rattle.typed_or_faulty.proofs.Borrowed.{above-sound, inside-sound, s-free, s-judged_alone, s-scalar_named, s-stands_for, s-subtype_named, s-value_for}
+use Rattle.typed_or_faulty.proofs.Borrowed.{above-sound, inside-sound}
 use Rattle.typed_or_faulty.proofs.Counting.{s-cells_counted}
 use Rattle.typed_or_faulty.proofs.Explains.{Any, Counted, Is, Sound, grows-same, joint, mapped, s-any, s-bind, s-breaks, s-broken, s-fault, s-given, s-if, s-never, s-pure, s-read, s-some, s-unless}
 use Rattle.typed_or_faulty.proofs.Facts.{Clear, DenotedOf, LevelSound, ReturnsGood, sane-both, sane-drop}
 use Rattle.typed_or_faulty.proofs.SoundCases.{s-grown}
 use Rattle.typed_or_faulty.proofs.SoundDeclarations.{BegunOf, DeclaringOf, clear-declared, clear-ended, is-any, s-begun_names, s-declaration, s-declarations, s-new_object}
+use Rattle.typed_or_faulty.proofs.SoundExpressions.{s-judged_alone, s-value_for}
+use Rattle.typed_or_faulty.proofs.SoundScope.{s-free, s-scalar_named, s-stands_for, s-subtype_named}
 use Rattle.typed_or_faulty.proofs.SoundStatements.{around-sound, s-body}
 use Rattle.typed_or_faulty.specs.Law.{TypedOrFaultyLaw}
 

@@ -40,11 +40,15 @@ use Rattle.name_rules.specs.declared.types.Kind.{Kind}
 use Rattle.name_rules.specs.declared.types.Scalar.{Scalar}
 use Rattle.name_rules.specs.declared.types.Subtype.TheVariants as subtype
 use Rattle.name_rules.specs.declared.types.Wanted.TheVariants as wanted
-use Rattle.typed_or_faulty.proofs.Borrowed.{EnteredOf, above-sound, inside-sound, s-chunk_count, s-condition, s-entered, s-exception, s-expr, s-judged_alone, s-new_site, s-settled_found, s-stored, s-valued_by}
+use Rattle.typed_or_faulty.proofs.Borrowed.{above-sound, inside-sound, s-valued_by}
 use Rattle.typed_or_faulty.proofs.Explains.{Any, Is, Sound, grows-same, joint, mapped, s-any, s-bind, s-both, s-breaks, s-clean, s-fault, s-given, s-if, s-never, s-pure, s-some, s-unless, s-where_clean}
 use Rattle.typed_or_faulty.proofs.Facts.{Clear, DenotedOf, FoundFor, LevelSound, Plain, ReturnsGood}
 use Rattle.typed_or_faulty.proofs.SoundCases.{HandledOf, s-case_choices, s-closed, s-handled_by}
-use Rattle.typed_or_faulty.proofs.SoundDeclarations.{DeclaringOf, is-any, plain-of, s-declarations}
+use Rattle.typed_or_faulty.proofs.SoundDeclarations.{DeclaringOf, is-any, s-declarations}
+use Rattle.typed_or_faulty.proofs.SoundExpressions.{plain-of, s-condition, s-expr, s-judged_alone}
+use Rattle.typed_or_faulty.proofs.SoundIterations.{EnteredOf, s-chunk_count, s-entered}
+use Rattle.typed_or_faulty.proofs.SoundNames.{s-exception, s-new_site}
+use Rattle.typed_or_faulty.proofs.SoundValues.{s-settled_found, s-stored}
 
 -- what judges statements
 pub record AroundSound (a : Around) : Type 1 where
