@@ -178,11 +178,11 @@ module _ (P : Program) (L : Log) (F : Facts P L) where
       b-bind L V G Any (BuildingIn V) (number_of s.known) _ (b-any L V G (number_of s.known) (k-number_of leading.walk s.known)) (λ n.
       b-bind L V _ Any (BuildingIn V) (read (λ log. cells_in log s.known)) _ (b-any L V _ (read (λ log. cells_in log s.known)) (k-read leading.walk (λ log. cells_in log s.known))) (λ cells.
       b-pure L V _ (BuildingIn V) (record {
-        here = declared names b.here token (Some what.Broken);
+        here = declared names b.here token (Some what.Hidden);
         fields = option_map (d.also_field (record { symbol = symbol names token; name = token; subtype = s.known; number = n; offset = b.offset })) b.fields;
         offset = saturated (b.offset + cells);
         mentions = b.mentions;
-      }) (λ g. record { around = near-declared V names b.here token (Some what.Broken) (h g.old.old).around (λ log l. tt); mentions = (h g.old.old).mentions })))
+      }) (λ g. record { around = near-declared V names b.here token (Some what.Hidden) (h g.old.old).around (λ log l. tt); mentions = (h g.old.old).mentions })))
 
   b-with_fields : (V : Sight) (G : Type 0) (names : Names) (b : Building) (s : Option Indicated) (ts : List ℕ) (fs : List (Option ℕ)) → (G → BuildingIn V b) → Back L V G (BuildingIn V) (d.with_fields names b s ts fs)
   b-with_fields V G names b s (t ∷ ts) (f ∷ fs) h =

@@ -92,7 +92,7 @@ field-leaves names b (Some t) token (Some s) log h r i =
       longer = k.0;
       sound = k.1;
       right = (
-        declared-right n names b.here token (Some what.Broken) (are_later (length log.shapes) n b.here.scope k.0 r.0) tt,
+        declared-right n names b.here token (Some what.Hidden) (are_later (length log.shapes) n b.here.scope k.0 r.0) tt,
         one-more n f b.fields within (maybe-later (length log.shapes) n b.fields k.0 r.1),
       );
     }

@@ -244,11 +244,11 @@ m-with_field names b (Some t) token (Some s) h =
     m-bind Any BuildingOf (number_of s.known) _ (m-number_of s.known) (λ n p.
     m-bind Any BuildingOf (read (λ log. cells_in log s.known)) _ (m-read Any (λ log. cells_in log s.known) (λ log g. tt)) (λ cells q.
     m-pure BuildingOf (record {
-      here = declared names b.here token (Some what.Broken);
+      here = declared names b.here token (Some what.Hidden);
       fields = option_map (d.also_field (record { symbol = symbol names token; name = token; subtype = s.known; number = n; offset = b.offset })) b.fields;
       offset = saturated (b.offset + cells);
       mentions = b.mentions;
-    }) (declared-based names b.here token (Some what.Broken) h tt)))
+    }) (declared-based names b.here token (Some what.Hidden) h tt)))
 
 m-with_fields : (names : Names) (b : Building) (s : Option Indicated) (ts : List ℕ) (fs : List (Option ℕ)) → BuildingOf b → Makes BuildingOf (d.with_fields names b s ts fs)
 m-with_fields names b s (t ∷ ts) (f ∷ fs) h = m-bind BuildingOf BuildingOf (d.with_field names b f t s) _ (m-with_field names b f t s h) (λ c q. m-with_fields names c s ts fs q)

@@ -63,7 +63,7 @@ fn with_field(
     };
     let number = attempt!(number_of(log, subtype));
     let cells = cells_in(log, subtype);
-    attempt!(declared(names, &mut growing.here, token, Some(What::Broken)));
+    attempt!(declared(names, &mut growing.here, token, Some(What::Hidden)));
     attempt!(
         growing.fields.push(Field {
             symbol: symbol(names, token),

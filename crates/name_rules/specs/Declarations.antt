@@ -126,9 +126,11 @@ also_field f fs = fs ++ f ∷ []
 abbrev pub without_fields : Building → Context → Building
 without_fields b here = record { here = here; fields = None; offset = b.offset; mentions = b.mentions }
 
+-- E05 NotVisible: within its record the name of a component hides outer ones and stands for nothing, since a component is
+-- named behind a point (4.1.3, 8.3)
 abbrev pub with_field : Names → Building → Option ℕ → ℕ → Option Indicated → Judging Building
 with_field names b None token s = pure (without_fields b b.here)
-with_field names b (Some t) token None = pure (without_fields b (declared names b.here token (Some what.Hidden)))
+with_field names b (Some t) token None = pure (without_fields b (declared names b.here token (Some what.Broken)))
 with_field names b (Some t) token (Some s) = do
   n ← number_of s.known
   cells ← read (λ log. cells_in log s.known)

@@ -12,3 +12,9 @@ pub mod SoundCalls
 pub mod SoundAttributes
 pub mod SoundOutput
 pub mod SoundParts
+pub mod Counting
+pub mod Borrowed
+pub mod SoundDeclarations
+pub mod SoundCases
+pub mod SoundStatements
+pub mod SoundPrograms

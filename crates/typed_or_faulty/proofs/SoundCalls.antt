@@ -37,7 +37,6 @@ use Rattle.typed_or_faulty.proofs.Explains.{Any, Is, Sound, differ, joint, mappe
 use Rattle.typed_or_faulty.proofs.Facts.{Clear, DenotedOf, DenotedOk, Fit, FoundFor, FoundOk, LevelSound, Plain, RestOf, other-fits}
 use Rattle.std.specs.Prelude.{cond}
 use Rattle.std.specs.List.{list_any, position}
-use Rattle.std.specs.List.{position_or_len}
 use Rattle.ada_tree.specs.Syntax.{Arg, Args, Expr}
 use Rattle.ada_typed.specs.Syntax.{Selections}
 use Rattle.ada_typed.specs.declared.program.Mode.TheVariants as mode
@@ -116,7 +115,7 @@ s-counted G ts i false e = s-pure G (Reached ts) None (λ g. tt)
 s-parameter_of : (G : Type 0) (names : Names) (ts : List Taken) (i : ℕ) (named : Bool) (name : Option ℕ) → Sound G (Reached ts) (a.parameter_of names ts i named name)
 s-parameter_of G names ts i named (Some name) =
     let p : Taken → Bool = λ t. t.symbol == symbol names name in
-    s-found_or_unknown G ts name (position p ts) (λ g. reached-if ts (position_or_len p ts) (nat_lt (position_or_len p ts) (length ts)) refl)
+    s-found_or_unknown G ts name (position p ts) (λ g. reached-if ts _ _ refl)
 s-parameter_of G names ts i true None = s-pure G (Reached ts) None (λ g. tt)
 s-parameter_of G names ts i false None = s-counted G ts i (nat_lt i (length ts)) refl
 
