@@ -13,8 +13,8 @@ pub mod SoundAttributes
 pub mod SoundOutput
 pub mod SoundParts
 pub mod Counting
-pub mod Borrowed
 pub mod SoundDeclarations
 pub mod SoundCases
 pub mod SoundStatements
 pub mod SoundPrograms
+pub mod SoundPrimaries

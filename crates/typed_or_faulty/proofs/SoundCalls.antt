@@ -1,5 +1,5 @@
 -- What is judged without a fault is found: calls and conversions.
-use Rattle.std.proofs.Common.{◌≡◌, refl, sym, ap, subst, ◌∙◌, true≢false, ◌≤◌, ◌++◌, ◌&&◌, ℕ, ℤ, zero, suc, pos, List, [], ◌∷◌, length, Option, Some, None, Bool, true, false, if◌then◌else◌, option_map, ◌==◌, ◌+◌, drop, slice_get, nat_lt, nat_le, arith}
+use Rattle.std.proofs.Common.{◌≡◌, refl, sym, ap, subst, ◌∙◌, true≢false, ◌≤◌, ◌++◌, ◌&&◌, ℕ, ℤ, zero, suc, pos, List, [], ◌∷◌, length, Option, Some, None, Bool, true, false, if◌then◌else◌, option_map, ◌==◌, ◌+◌, drop, slice_get, nat_lt, nat_le, leb-true, arith}
 use Rattle.std.specs.Prelude.{◌+ℤ◌, ◌-ℤ◌, ◌*◌, not, ◌||◌, is_some, int_le}
 use Rattle.ada_base.specs.declared.operation.Op.TheVariants as op
 use Rattle.ada_base.specs.declared.operation.Op.{Op}
@@ -94,11 +94,13 @@ abbrev Filled : Option ℕ → Option Part → Type 0
 Filled None x = Unit {0}
 Filled (Some i) x = Is Any x
 
+reached-at : (ts : List Taken) (i : ℕ) → suc i ≤ length ts → Is Any (slice_get ts i)
+reached-at [] i h = absurd (omega (arith, h))
+reached-at (t ∷ ts) zero h = tt
+reached-at (t ∷ ts) (suc i) h = reached-at ts i (omega (arith, h))
+
 below : (ts : List Taken) (i : ℕ) → nat_lt i (length ts) ≡ true → Is Any (slice_get ts i)
-below [] zero h = differ (sym h)
-below [] (suc i) h = differ (sym h)
-below (t ∷ ts) zero h = tt
-below (t ∷ ts) (suc i) h = below ts i h
+below ts i h = reached-at ts i (leb-true (suc i) (length ts) h)
 
 reached-if : (ts : List Taken) (i : ℕ) (b : Bool) → nat_lt i (length ts) ≡ b → Reached ts (cond b (Some i) None)
 reached-if ts i true e = below ts i e

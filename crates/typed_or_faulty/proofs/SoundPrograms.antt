@@ -37,7 +37,7 @@ use Rattle.name_rules.specs.declared.types.Kind.TheVariants as kind
 use Rattle.name_rules.specs.declared.types.Scalar.{Scalar}
 use Rattle.name_rules.specs.declared.types.Subtype.{Subtype}
 use Rattle.name_rules.specs.declared.types.Subtype.TheVariants as subtype
-use Rattle.typed_or_faulty.proofs.Borrowed.{above-sound, inside-sound}
+use Rattle.typed_or_faulty.proofs.SoundPrimaries.{above-sound, inside-sound}
 use Rattle.typed_or_faulty.proofs.Counting.{s-cells_counted}
 use Rattle.typed_or_faulty.proofs.Explains.{Any, Counted, Is, Sound, grows-same, joint, mapped, s-any, s-bind, s-breaks, s-broken, s-fault, s-given, s-if, s-never, s-pure, s-read, s-some, s-unless}
 use Rattle.typed_or_faulty.proofs.Facts.{Clear, DenotedOf, LevelSound, ReturnsGood, sane-both, sane-drop}

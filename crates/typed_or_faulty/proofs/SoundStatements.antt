@@ -40,7 +40,8 @@ use Rattle.name_rules.specs.declared.types.Kind.{Kind}
 use Rattle.name_rules.specs.declared.types.Scalar.{Scalar}
 use Rattle.name_rules.specs.declared.types.Subtype.TheVariants as subtype
 use Rattle.name_rules.specs.declared.types.Wanted.TheVariants as wanted
-use Rattle.typed_or_faulty.proofs.Borrowed.{above-sound, inside-sound, s-valued_by}
+use Rattle.typed_or_faulty.proofs.SoundParts.{s-valued_by}
+use Rattle.typed_or_faulty.proofs.SoundPrimaries.{above-sound, inside-sound}
 use Rattle.typed_or_faulty.proofs.Explains.{Any, Is, Sound, grows-same, joint, mapped, s-any, s-bind, s-both, s-breaks, s-clean, s-fault, s-given, s-if, s-never, s-pure, s-some, s-unless, s-where_clean}
 use Rattle.typed_or_faulty.proofs.Facts.{Clear, DenotedOf, FoundFor, LevelSound, Plain, ReturnsGood}
 use Rattle.typed_or_faulty.proofs.SoundCases.{HandledOf, s-case_choices, s-closed, s-handled_by}
@@ -118,8 +119,8 @@ s-call_stmt : (G : Type 0) (names : Names) (level : Inside) (here : Context) (n 
 unfolding s.call_stmt
 s-call_stmt G names level here n l c =
     s-bind G (Is DenotedOf) (Is Any) (level.name here n) _ (l.name G here n c) (λ d.
-    s-bind _ (Is Any) (Is Any) (given d (valued_by names level here)) _ (s-given _ DenotedOf Any d (valued_by names level here) (λ g. g.1) (λ x. s-valued_by _ names level here x l (λ g. c g.0.0))) (λ e.
-    s-given _ Any Any e (λ x. s.as_statement x.known x.part) (λ g. g.1) (λ x. s-as_statement _ x.known x.part)))
+    s-bind _ (Is DenotedOf) (Is Any) (given d (valued_by names level here)) _ (s-given _ DenotedOf DenotedOf d (valued_by names level here) (λ g. g.1) (λ x. s-valued_by _ names level here x l (λ g. c g.0.0) (λ g. g.1))) (λ e.
+    s-given _ DenotedOf Any e (λ x. s.as_statement x.known x.part) (λ g. g.1) (λ x. s-as_statement _ x.known x.part)))
 
 -- ---- exit, return, raise
 
