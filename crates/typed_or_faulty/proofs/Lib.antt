@@ -8,9 +8,13 @@ pub mod SoundRanges
 pub mod SoundNames
 pub mod SoundReducers
 pub mod SoundIterations
-pub mod Counting
-pub mod Borrowed
 pub mod SoundOutput
+pub mod SoundCalls
+pub mod SoundAttributes
+pub mod SoundParts
+pub mod Counting
+pub mod Gaps
+pub mod Borrowed
 pub mod SoundDeclarations
 pub mod SoundCases
 pub mod SoundStatements
