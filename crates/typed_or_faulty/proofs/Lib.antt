@@ -14,6 +14,7 @@ pub mod SoundAttributes
 pub mod SoundParts
 pub mod Counting
 pub mod Gaps
+pub mod SoundAggregates
 pub mod Borrowed
 pub mod SoundDeclarations
 pub mod SoundCases

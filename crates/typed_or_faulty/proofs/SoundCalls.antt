@@ -1,5 +1,6 @@
 -- What is judged without a fault is found: calls and conversions.
 use Rattle.std.proofs.Common.{◌≡◌, refl, sym, ap, subst, ◌∙◌, true≢false, ◌≤◌, ◌++◌, ◌&&◌, ℕ, ℤ, zero, suc, pos, List, [], ◌∷◌, length, Option, Some, None, Bool, true, false, if◌then◌else◌, option_map, ◌==◌, ◌+◌, drop, slice_get, nat_lt, nat_le, arith}
+use Rattle.std.proofs.lemmas.Bool.{lt-leb}
 use Rattle.std.specs.Prelude.{◌+ℤ◌, ◌-ℤ◌, ◌*◌, not, ◌||◌, is_some, int_le}
 use Rattle.ada_base.specs.declared.operation.Op.TheVariants as op
 use Rattle.ada_base.specs.declared.operation.Op.{Op}
@@ -37,7 +38,6 @@ use Rattle.typed_or_faulty.proofs.Explains.{Any, Is, Sound, differ, joint, mappe
 use Rattle.typed_or_faulty.proofs.Facts.{Clear, DenotedOf, DenotedOk, Fit, FoundFor, FoundOk, LevelSound, Plain, RestOf, other-fits}
 use Rattle.std.specs.Prelude.{cond}
 use Rattle.std.specs.List.{list_any, position}
-use Rattle.std.specs.List.{position_or_len}
 use Rattle.ada_tree.specs.Syntax.{Arg, Args, Expr}
 use Rattle.ada_typed.specs.Syntax.{Selections}
 use Rattle.ada_typed.specs.declared.program.Mode.TheVariants as mode
@@ -96,8 +96,10 @@ Filled None x = Unit {0}
 Filled (Some i) x = Is Any x
 
 below : (ts : List Taken) (i : ℕ) → nat_lt i (length ts) ≡ true → Is Any (slice_get ts i)
-below [] zero h = differ (sym h)
-below [] (suc i) h = differ (sym h)
+below [] i h = differ (sym h ∙ none-below i)
+  where
+    none-below : (k : ℕ) → nat_lt k 0 ≡ false
+    none-below k = lt-leb (suc k) 0 (omega arith)
 below (t ∷ ts) zero h = tt
 below (t ∷ ts) (suc i) h = below ts i h
 
@@ -116,7 +118,7 @@ s-counted G ts i false e = s-pure G (Reached ts) None (λ g. tt)
 s-parameter_of : (G : Type 0) (names : Names) (ts : List Taken) (i : ℕ) (named : Bool) (name : Option ℕ) → Sound G (Reached ts) (a.parameter_of names ts i named name)
 s-parameter_of G names ts i named (Some name) =
     let p : Taken → Bool = λ t. t.symbol == symbol names name in
-    s-found_or_unknown G ts name (position p ts) (λ g. reached-if ts (position_or_len p ts) (nat_lt (position_or_len p ts) (length ts)) refl)
+    s-found_or_unknown G ts name (position p ts) (λ g. reached-if ts _ _ refl)
 s-parameter_of G names ts i true None = s-pure G (Reached ts) None (λ g. tt)
 s-parameter_of G names ts i false None = s-counted G ts i (nat_lt i (length ts)) refl
 
