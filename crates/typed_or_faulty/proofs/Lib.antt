@@ -13,6 +13,8 @@ pub mod SoundAttributes
 pub mod SoundOutput
 pub mod SoundParts
 pub mod Counting
+pub mod Gaps
+pub mod SoundAggregates
 pub mod SoundDeclarations
 pub mod SoundCases
 pub mod SoundStatements
