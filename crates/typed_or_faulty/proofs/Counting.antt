@@ -7,7 +7,7 @@ use Rattle.name_rules.specs.Types.{saturated}
 use Rattle.name_rules.specs.declared.log.Log.{Log}
 use Rattle.name_rules.specs.declared.log.Rule.TheVariants.{Limit}
 use Rattle.name_rules.specs.declared.log.Rule.{Rule}
-use Rattle.typed_or_faulty.proofs.Explains.{Counted, Grows, Sound, faulty}
+use Rattle.typed_or_faulty.proofs.Explains.{Sound, faulty}
 
 -- two rules, and nothing is counted
 record Quiet (a b : Bool) (now end : Log) : Type 0 where

@@ -1,12 +1,10 @@
 -- What is around a text, and what is found of it, where no fault is written.
-use Rattle.std.proofs.Common.{◌≡◌, refl, sym, ap, subst, ◌∙◌, true≢false, ℕ, zero, suc, List, [], ◌∷◌, ◌++◌, length, Option, Some, None, Bool, true, false, if◌then◌else◌, option_map, reverse, drop, ◌==◌, arith}
+use Rattle.std.proofs.Common.{◌≡◌, sym, subst, ℕ, zero, suc, List, [], ◌∷◌, ◌++◌, Option, Some, None, Bool, true, false, if◌then◌else◌, option_map, reverse, drop, ◌==◌}
 use Rattle.std.proofs.lemmas.List.{reverse-append}
 use Rattle.std.specs.List.{find}
 use Rattle.ada_tree.specs.Syntax.{Name, Primary}
-use Rattle.name_rules.specs.Aggregates.{Contents}
 use Rattle.name_rules.specs.Expressions.{Inside}
 use Rattle.name_rules.specs.Found.{Denoted, Found}
-use Rattle.name_rules.specs.Judging.{Judging}
 use Rattle.name_rules.specs.Scope.{entry, lookup, with_entry}
 use Rattle.name_rules.specs.Shapes.{is_aggregate_form}
 use Rattle.name_rules.specs.declared.found.Denoted.TheVariants as denoted
@@ -23,7 +21,7 @@ use Rattle.name_rules.specs.declared.scope.What.TheVariants as what
 use Rattle.name_rules.specs.declared.scope.What.{What}
 use Rattle.name_rules.specs.declared.types.Wanted.TheVariants as wanted
 use Rattle.name_rules.specs.declared.types.Wanted.{Wanted}
-use Rattle.typed_or_faulty.proofs.Explains.{Any, Is, Sound}
+use Rattle.typed_or_faulty.proofs.Explains.{Is, Sound}
 
 -- ---- what is around a text
 

@@ -1,5 +1,5 @@
 -- What is judged without a fault is there: aggregates.
-use Rattle.std.proofs.Common.{◌≡◌, refl, sym, ◌∙◌, ℕ, ℤ, pos, ◌+◌, ◌*◌, ◌+ℤ◌, List, [], ◌∷◌, ◌++◌, length, drop, Option, Some, None, Bool, true, false, true≢false, if◌then◌else◌, option_map, not, ◌&&◌, ◌||◌, ◌==◌}
+use Rattle.std.proofs.Common.{◌≡◌, refl, ℕ, ℤ, pos, ◌+◌, ◌*◌, ◌+ℤ◌, List, [], ◌∷◌, ◌++◌, length, drop, Option, Some, None, Bool, true, false, if◌then◌else◌, option_map, not, ◌&&◌, ◌||◌, ◌==◌}
 use Rattle.ada_tree.specs.FirstTokens as first_token
 use Rattle.ada_tree.specs.Syntax as syntax
 use Rattle.ada_tree.specs.Syntax.{Assoc, Assocs, Choice, Choices, Expr, Exprs, OptionalExpr}
@@ -11,7 +11,7 @@ use Rattle.name_rules.specs.Aggregates as a
 use Rattle.name_rules.specs.Aggregates.{ByAssociation, ByPosition, Choosing', Component, Contents, Filling, Placing, filling, gaps_of, runs_of}
 use Rattle.name_rules.specs.Expressions.{Inside, expr, judged_alone, value_for}
 use Rattle.name_rules.specs.Found.{Found}
-use Rattle.name_rules.specs.Judging.{Judging, ◌>>=◌, breaks, fault, given, joined, pure, read, unless, where_clean}
+use Rattle.name_rules.specs.Judging.{◌>>=◌, fault, given, joined, pure, read, unless, where_clean}
 use Rattle.name_rules.specs.Names.{is_record}
 use Rattle.name_rules.specs.Parts.{new_parameter}
 use Rattle.name_rules.specs.Ranges.{Static, chosen_span, chosen_value, static_range}
@@ -32,7 +32,7 @@ use Rattle.name_rules.specs.declared.types.Kind.{Kind}
 use Rattle.name_rules.specs.declared.types.Subtype.{Subtype}
 use Rattle.name_rules.specs.declared.types.Wanted.TheVariants as wanted
 use Rattle.name_rules.specs.declared.types.Wanted.{Wanted}
-use Rattle.typed_or_faulty.proofs.Explains.{Any, Is, Sound, joint, mapped, s-any, s-bind, s-broken, s-fault, s-given, s-if, s-never, s-pure, s-read, s-some, s-unless, s-where_clean}
+use Rattle.typed_or_faulty.proofs.Explains.{Any, Is, Sound, joint, mapped, s-bind, s-broken, s-fault, s-given, s-if, s-never, s-pure, s-read, s-some, s-unless, s-where_clean}
 use Rattle.typed_or_faulty.proofs.Facts.{Clear, FoundFor, IsRest, LevelSound, NotBroken, Plain, RestOf, clear-entry}
 use Rattle.typed_or_faulty.proofs.Gaps.{AllWithin, each-both, gaps-within, runs-there}
 use Rattle.typed_or_faulty.proofs.SoundExpressions.{s-expr, s-judged_alone, s-rest, s-value_for}

@@ -1,40 +1,30 @@
 -- What is judged without a fault is found: calls and conversions.
-use Rattle.std.proofs.Common.{◌≡◌, refl, sym, ap, subst, ◌∙◌, true≢false, ◌≤◌, ◌++◌, ◌&&◌, ℕ, ℤ, zero, suc, pos, List, [], ◌∷◌, length, Option, Some, None, Bool, true, false, if◌then◌else◌, option_map, ◌==◌, ◌+◌, drop, slice_get, nat_lt, nat_le, leb-true, arith}
-use Rattle.std.specs.Prelude.{◌+ℤ◌, ◌-ℤ◌, ◌*◌, not, ◌||◌, is_some, int_le}
-use Rattle.ada_base.specs.declared.operation.Op.TheVariants as op
-use Rattle.ada_base.specs.declared.operation.Op.{Op}
+use Rattle.std.proofs.Common.{◌≡◌, refl, ◌≤◌, ℕ, zero, suc, List, [], ◌∷◌, length, Option, Some, None, Bool, true, false, if◌then◌else◌, ◌==◌, ◌+◌, slice_get, nat_lt, leb-true, arith}
+use Rattle.std.specs.Prelude.{not, ◌||◌, is_some}
 use Rattle.ada_tree.specs.FirstTokens as first_token
 use Rattle.ada_tree.specs.Syntax as syntax
 use Rattle.ada_typed.specs.Decoded as part
 use Rattle.ada_typed.specs.Decoded.{Part, as_expr}
 use Rattle.ada_typed.specs.Syntax as typed
-use Rattle.name_rules.specs.Expressions.{Inside, expr, judged_alone, simple, condition, value_for}
-use Rattle.name_rules.specs.Found.{Denoted, Found, denote}
-use Rattle.name_rules.specs.Judging.{Judging, ◌>>=◌, both, breaks, clean, fault, given, joined, pure, read, some, unless, where_clean}
-use Rattle.name_rules.specs.Scope.{stands_for, with_entry}
+use Rattle.name_rules.specs.Expressions.{Inside, expr, judged_alone, value_for}
+use Rattle.name_rules.specs.Found.{Found}
+use Rattle.name_rules.specs.Judging.{◌>>=◌, fault, given, pure, read}
 use Rattle.name_rules.specs.Symbols.{symbol}
-use Rattle.name_rules.specs.TypedParts.{also, left_of, right_of, selections_of}
+use Rattle.name_rules.specs.TypedParts.{also, selections_of}
 use Rattle.name_rules.specs.Values as v
 use Rattle.name_rules.specs.Values.{asked, first_of, is_number, is_scalar, kind_of, value_of}
-use Rattle.name_rules.specs.declared.found.Denoted.TheVariants as denoted
-use Rattle.name_rules.specs.declared.found.Denoted.{Denoted as KnownDenoted}
 use Rattle.name_rules.specs.declared.found.Found.TheVariants as known
 use Rattle.name_rules.specs.declared.found.Found.{Found as Known}
 use Rattle.name_rules.specs.declared.found.Place.{Place}
-use Rattle.name_rules.specs.declared.log.Dimension.{Dimension}
-use Rattle.name_rules.specs.declared.log.Log.{Log}
 use Rattle.name_rules.specs.declared.log.Rule.TheVariants as rule
 use Rattle.name_rules.specs.declared.scope.Context.{Context}
 use Rattle.name_rules.specs.declared.scope.Names.{Names}
-use Rattle.name_rules.specs.declared.types.Kind.{Kind}
-use Rattle.name_rules.specs.declared.types.Kind.TheVariants as kind
 use Rattle.name_rules.specs.declared.types.Scalar.{Scalar}
 use Rattle.name_rules.specs.declared.types.Subtype.TheVariants as subtype
 use Rattle.name_rules.specs.declared.types.Subtype.{Subtype}
 use Rattle.name_rules.specs.declared.types.Wanted.TheVariants as wanted
-use Rattle.name_rules.specs.declared.types.Wanted.{Wanted}
-use Rattle.typed_or_faulty.proofs.Explains.{Any, Is, Sound, differ, joint, mapped, no, ok, s-alone, s-any, s-bind, s-both, s-breaks, s-broken, s-clean, s-fault, s-given, s-if, s-logged, s-pure, s-read, s-some, s-test, s-under, s-unless, s-weaken, s-where_clean, there, weaker}
-use Rattle.typed_or_faulty.proofs.Facts.{Clear, DenotedOf, DenotedOk, Fit, FoundFor, FoundOk, LevelSound, Plain, RestOf, other-fits}
+use Rattle.typed_or_faulty.proofs.Explains.{Any, Is, Sound, joint, no, ok, s-any, s-bind, s-fault, s-given, s-if, s-pure, s-read, s-some, s-unless, s-weaken, s-where_clean}
+use Rattle.typed_or_faulty.proofs.Facts.{Clear, DenotedOf, FoundFor, FoundOk, LevelSound}
 use Rattle.std.specs.Prelude.{cond}
 use Rattle.std.specs.List.{list_any, position}
 use Rattle.ada_tree.specs.Syntax.{Arg, Args, Expr}
@@ -130,9 +120,9 @@ unfolding a.actual_for
 s-actual G names inside here ts None e l c h = s-bind G Any (Filled None) (judged_alone names inside here e) _ (s-judged_alone G names inside here e l) (λ u. s-pure _ (Filled None) None (λ g. tt))
 s-actual G names inside here ts (Some i) e l c h = s-weaken G (Is Any) (Filled (Some i)) (a.actual_for names inside here (slice_get ts i) e) (s-actual_for G names inside here (slice_get ts i) e l c h) (λ x g q. q)
 
-filled-in : (i : Option ℕ) (done x : Option Part) → Is Any done → Filled i x → Is Any (a.with_actual i done x)
-filled-in None done x h k = h
-filled-in (Some i) done x h k = joint Any Any Any also done x h k (λ a b p q. tt)
+filled-in : (i : Option ℕ) (made x : Option Part) → Is Any made → Filled i x → Is Any (a.with_actual i made x)
+filled-in None made x h k = h
+filled-in (Some i) made x h k = joint Any Any Any also made x h k (λ a b p q. tt)
 
 abbrev CallingOf : Calling → Type 0
 CallingOf c = Is Any c.actuals

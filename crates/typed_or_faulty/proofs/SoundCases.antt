@@ -1,10 +1,9 @@
 -- What is judged without a fault is there: choices of case statements, and what handlers handle.
-use Rattle.std.proofs.Common.{◌≡◌, ℕ, ℤ, List, [], ◌∷◌, Option, Some, None, Bool, true, if◌then◌else◌, option_map, int_le, not, ◌&&◌, ◌||◌}
+use Rattle.std.proofs.Common.{◌≡◌, ℕ, ℤ, List, [], ◌∷◌, Option, Some, None, Bool, true, option_map, int_le, not, ◌&&◌, ◌||◌}
 use Rattle.std.specs.List.{list_any}
 use Rattle.ada_base.specs.declared.reason.Reason.{Reason}
 use Rattle.ada_tree.specs.Syntax as syntax
 use Rattle.ada_tree.specs.Syntax.{Choice, Handled, Pack}
-use Rattle.ada_typed.specs.Decoded.{Part}
 use Rattle.ada_typed.specs.Syntax as typed
 use Rattle.ada_typed.specs.Syntax.{Handled as TypedHandled}
 use Rattle.name_rules.specs.Aggregates.{sorted}

@@ -1,5 +1,5 @@
 -- What is judged without a fault is there: types and declarations.
-use Rattle.std.proofs.Common.{◌≡◌, refl, sym, ◌∙◌, ℕ, ℤ, List, [], ◌∷◌, ◌++◌, length, Option, Some, None, Bool, true, false, true≢false, if◌then◌else◌, is_some, option_map, int_le, nat_le, not, ◌&&◌, ◌+◌}
+use Rattle.std.proofs.Common.{◌≡◌, refl, sym, ◌∙◌, ℕ, ℤ, List, [], ◌∷◌, ◌++◌, length, Option, Some, None, Bool, true, false, true≢false, is_some, option_map, int_le, nat_le, not, ◌&&◌, ◌+◌}
 use Rattle.std.proofs.lemmas.Bool.{and_from}
 use Rattle.ada_base.specs.declared.reason.Reason.TheVariants as reason
 use Rattle.ada_tree.specs.FirstTokens as first_token
@@ -11,7 +11,7 @@ use Rattle.name_rules.specs.Declarations as d
 use Rattle.name_rules.specs.Declarations.{Building, Dimensions, Indicated, Initial, all_ids, indicated}
 use Rattle.name_rules.specs.Expressions.{Inside, expr, judged_alone}
 use Rattle.name_rules.specs.Found.{Found}
-use Rattle.name_rules.specs.Judging.{Judging, ◌>>=◌, both, fault, given, joined, pure, read, some, unless}
+use Rattle.name_rules.specs.Judging.{◌>>=◌, both, fault, given, joined, pure, read, unless}
 use Rattle.name_rules.specs.Operators.{both_mentions}
 use Rattle.name_rules.specs.Ranges.{both_static, static_range, two_bounds}
 use Rattle.name_rules.specs.Scope.{as_scalar, declared, free, hidden_where, subtype_named}
@@ -34,8 +34,8 @@ use Rattle.name_rules.specs.declared.types.Subtype.TheVariants as subtype
 use Rattle.name_rules.specs.declared.types.Subtype.{Subtype}
 use Rattle.name_rules.specs.declared.types.Wanted.TheVariants as wanted
 use Rattle.typed_or_faulty.proofs.Counting.{s-cells_counted}
-use Rattle.typed_or_faulty.proofs.Explains.{Any, Grows, Is, Sound, grows-same, joint, mapped, s-any, s-bind, s-both, s-breaks, s-fault, s-given, s-if, s-never, s-pure, s-read, s-some, s-test, s-under, s-unless, s-weaken}
-use Rattle.typed_or_faulty.proofs.Facts.{Clear, FoundFor, LevelSound, NotBroken, Plain, clear-entry}
+use Rattle.typed_or_faulty.proofs.Explains.{Any, Is, Sound, grows-same, joint, mapped, s-bind, s-both, s-breaks, s-fault, s-given, s-if, s-never, s-pure, s-read, s-some, s-test, s-unless}
+use Rattle.typed_or_faulty.proofs.Facts.{Clear, FoundFor, LevelSound, NotBroken, clear-entry}
 use Rattle.typed_or_faulty.proofs.SoundExpressions.{plain-of, s-expr, s-judged_alone}
 use Rattle.typed_or_faulty.proofs.SoundRanges.{s-both_static, s-static_range, s-two_bounds}
 use Rattle.typed_or_faulty.proofs.SoundScope.{s-as_scalar, s-free, s-subtype_named}

@@ -1,5 +1,5 @@
 -- What is judged without a fault is found: what operators join.
-use Rattle.std.proofs.Common.{◌≡◌, refl, sym, subst, ◌∙◌, ℕ, Option, Some, None, Bool, true, false, if◌then◌else◌, option_map}
+use Rattle.std.proofs.Common.{◌≡◌, refl, sym, subst, ℕ, Option, Some, None, Bool, true, false}
 use Rattle.std.specs.Prelude.{is_some}
 use Rattle.ada_base.specs.declared.operation.Op.TheVariants as op
 use Rattle.ada_base.specs.declared.operation.Op.{Op}
@@ -14,12 +14,12 @@ use Rattle.ada_typed.specs.Decoded.{Part}
 use Rattle.ada_typed.specs.declared.expressions.Sign.TheVariants as unary'
 use Rattle.name_rules.specs.Expressions.{Inside, added, adding, blamed, comparison_of, condition, conjoined, expr, factor, first_term, first_wanted, in_place, joined_rels, judged_alone, multiplied, multiplying, multiplying_op, rel, short_form, short_found, short_join, short_operand, short_operands, simple, term, term_form, value_for}
 use Rattle.name_rules.specs.Found.{Found}
-use Rattle.name_rules.specs.Judging.{Judging, ◌>>=◌, fault, given, joined, pure}
-use Rattle.name_rules.specs.Operators.{binary, joined_text, logical, not_of, plain, unary}
+use Rattle.name_rules.specs.Judging.{Judging, joined, pure}
+use Rattle.name_rules.specs.Operators.{logical}
 use Rattle.name_rules.specs.Scope.{scalar_named}
-use Rattle.name_rules.specs.Shapes.{is_aggregate, is_aggregate_form, primary_of_expr, primary_of_simple}
+use Rattle.name_rules.specs.Shapes.{is_aggregate, primary_of_expr, primary_of_simple}
 use Rattle.name_rules.specs.Types.{wanted_of}
-use Rattle.name_rules.specs.Values.{asked, is_kind, kind_of, stored}
+use Rattle.name_rules.specs.Values.{is_kind, kind_of}
 use Rattle.name_rules.specs.declared.found.Found.TheVariants as known
 use Rattle.name_rules.specs.declared.found.Found.{Found as Known}
 use Rattle.name_rules.specs.declared.log.Rule.TheVariants.{WrongType}
@@ -31,7 +31,7 @@ use Rattle.name_rules.specs.declared.types.Subtype.TheVariants as subtype
 use Rattle.name_rules.specs.declared.types.Wanted.TheVariants as wanted
 use Rattle.name_rules.specs.declared.types.Wanted.{Wanted}
 use Rattle.typed_or_faulty.proofs.Explains.{Any, Is, Sound, differ, joint, mapped, no, s-alone, s-bind, s-fault, s-given, s-if, s-pure, s-some, s-weaken, there, weaker}
-use Rattle.typed_or_faulty.proofs.Facts.{Clear, Fit, FoundFor, FoundOk, IsRest, LevelSound, Plain, RestOf, other-fits}
+use Rattle.typed_or_faulty.proofs.Facts.{Clear, Fit, FoundFor, FoundOk, LevelSound, Plain, RestOf, other-fits}
 use Rattle.typed_or_faulty.proofs.SoundOperators.{s-binary, s-compared, s-joined_text, s-logical, s-membership, s-not_of, s-of_subtype, s-plain, s-power, s-unary}
 use Rattle.typed_or_faulty.proofs.SoundScope.{s-scalar_named}
 use Rattle.typed_or_faulty.proofs.SoundValues.{s-asked, s-stored}

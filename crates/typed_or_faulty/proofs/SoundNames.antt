@@ -1,40 +1,26 @@
 -- What is judged without a fault is found: names.
-use Rattle.std.proofs.Common.{◌≡◌, refl, sym, ap, subst, ◌∙◌, true≢false, ◌≤◌, ◌++◌, ◌&&◌, ℕ, ℤ, zero, suc, pos, List, [], ◌∷◌, length, Option, Some, None, Bool, true, false, if◌then◌else◌, option_map, ◌==◌, ◌+◌, drop, slice_get, nat_lt, nat_le, arith}
-use Rattle.std.specs.Prelude.{◌+ℤ◌, ◌-ℤ◌, ◌*◌, not, ◌||◌, is_some, int_le}
-use Rattle.ada_base.specs.declared.operation.Op.TheVariants as op
-use Rattle.ada_base.specs.declared.operation.Op.{Op}
-use Rattle.ada_tree.specs.FirstTokens as first_token
+use Rattle.std.proofs.Common.{refl, ℕ, List, [], ◌∷◌, length, Option, Some, None, ◌==◌, ◌+◌, drop, slice_get}
 use Rattle.ada_tree.specs.Syntax as syntax
-use Rattle.ada_typed.specs.Decoded as part
-use Rattle.ada_typed.specs.Decoded.{Part, as_expr}
-use Rattle.ada_typed.specs.Syntax as typed
-use Rattle.name_rules.specs.Expressions.{Inside, expr, judged_alone, simple, condition, value_for}
-use Rattle.name_rules.specs.Found.{Denoted, Found, denote}
-use Rattle.name_rules.specs.Judging.{Judging, ◌>>=◌, both, breaks, clean, fault, given, joined, pure, read, some, unless, where_clean}
-use Rattle.name_rules.specs.Scope.{stands_for, with_entry}
+use Rattle.ada_typed.specs.Decoded.{Part}
+use Rattle.name_rules.specs.Expressions.{Inside, expr}
+use Rattle.name_rules.specs.Found.{Denoted, Found}
+use Rattle.name_rules.specs.Judging.{fault, given}
+use Rattle.name_rules.specs.Scope.{stands_for}
 use Rattle.name_rules.specs.Symbols.{symbol}
-use Rattle.name_rules.specs.TypedParts.{also, left_of, right_of, selections_of}
-use Rattle.name_rules.specs.Values as v
-use Rattle.name_rules.specs.Values.{asked, first_of, is_number, is_scalar, kind_of, value_of}
+use Rattle.name_rules.specs.Values.{asked, first_of}
 use Rattle.name_rules.specs.declared.found.Denoted.TheVariants as denoted
 use Rattle.name_rules.specs.declared.found.Denoted.{Denoted as KnownDenoted}
 use Rattle.name_rules.specs.declared.found.Found.TheVariants as known
-use Rattle.name_rules.specs.declared.found.Found.{Found as Known}
 use Rattle.name_rules.specs.declared.found.Place.{Place}
 use Rattle.name_rules.specs.declared.log.Dimension.{Dimension}
-use Rattle.name_rules.specs.declared.log.Log.{Log}
 use Rattle.name_rules.specs.declared.log.Rule.TheVariants as rule
 use Rattle.name_rules.specs.declared.scope.Context.{Context}
 use Rattle.name_rules.specs.declared.scope.Names.{Names}
-use Rattle.name_rules.specs.declared.types.Kind.{Kind}
-use Rattle.name_rules.specs.declared.types.Kind.TheVariants as kind
-use Rattle.name_rules.specs.declared.types.Scalar.{Scalar}
 use Rattle.name_rules.specs.declared.types.Subtype.TheVariants as subtype
 use Rattle.name_rules.specs.declared.types.Subtype.{Subtype}
 use Rattle.name_rules.specs.declared.types.Wanted.TheVariants as wanted
-use Rattle.name_rules.specs.declared.types.Wanted.{Wanted}
-use Rattle.typed_or_faulty.proofs.Explains.{Any, Is, Sound, differ, joint, mapped, no, ok, s-alone, s-any, s-bind, s-both, s-breaks, s-broken, s-clean, s-fault, s-given, s-if, s-logged, s-pure, s-read, s-some, s-test, s-under, s-unless, s-weaken, s-where_clean, there, weaker}
-use Rattle.typed_or_faulty.proofs.Facts.{Clear, DenotedOf, DenotedOk, Fit, FoundFor, FoundOk, LevelSound, Plain, RestOf, other-fits}
+use Rattle.typed_or_faulty.proofs.Explains.{Any, Is, Sound, joint, no, ok, s-bind, s-fault, s-given, s-if, s-logged, s-pure, s-some, s-where_clean}
+use Rattle.typed_or_faulty.proofs.Facts.{Clear, DenotedOf, FoundOk, LevelSound}
 use Rattle.ada_tree.specs.Syntax.{Arg, Args, Pack}
 use Rattle.name_rules.specs.Names as n
 use Rattle.name_rules.specs.Parts.{new_parameter, new_site}
@@ -100,8 +86,8 @@ s-index_in G (Some d) apart done f h =
     s-bind G (Is Any) (Is Any) (asked d.kind f) _ (s-asked G d.kind f) (λ e. s-pure _ (Is Any) _ (λ g. joint Any Any Any (n.selected_by (first_of f.known) d apart) done e (h g.0) g.1 (λ a b i j. tt)))
 
 s-index_where : (G : Type 0) (d : Option Dimension) (apart : ℕ) (done : Option Part) (x : Option Found) → (G → Is Any done) → (G → Is FoundOk x) → Sound G (Is Any) (n.index_where d apart done x)
-s-index_where G d apart done None h i = s-pure G (Is Any) None i
-s-index_where G d apart done (Some f) h i = s-index_in G d apart done f h
+s-index_where G d apart made None h i = s-pure G (Is Any) None i
+s-index_where G d apart made (Some f) h i = s-index_in G d apart made f h
 
 s-unnamed : (G : Type 0) {A : Type 0} (name : Option ℕ) (x : Option A) → (G → Is Any x) → Sound G (Is Any) (n.unnamed name x)
 s-unnamed G None x h = s-pure G (Is Any) x h

@@ -1,5 +1,5 @@
 -- What is judged without a fault is found: operators.
-use Rattle.std.proofs.Common.{◌≡◌, refl, sym, subst, ◌∙◌, true≢false, ℕ, ℤ, Option, Some, None, Bool, true, false, if◌then◌else◌, option_map, ◌&&◌}
+use Rattle.std.proofs.Common.{◌≡◌, refl, sym, subst, ◌∙◌, ℕ, ℤ, Option, Some, None, Bool, true, false, ◌&&◌}
 use Rattle.std.specs.Prelude.{not}
 use Rattle.ada_base.specs.declared.operation.Op.{Op}
 use Rattle.ada_base.specs.declared.operation.Op.TheVariants as op
@@ -10,7 +10,6 @@ use Rattle.ada_typed.specs.declared.expressions.Sign.TheVariants as unary'
 use Rattle.ada_typed.specs.declared.expressions.Sign.{Sign}
 use Rattle.ada_typed.specs.declared.scalars.Comparison.{Comparison}
 use Rattle.name_rules.specs.Found.{Found, scalar}
-use Rattle.name_rules.specs.Judging.{◌>>=◌, fault, given, pure, some}
 use Rattle.name_rules.specs.Operators as o
 use Rattle.name_rules.specs.Types.{class_of, in_base, same}
 use Rattle.name_rules.specs.Values.{asked, exact, first_of, fitting, is_integer_kind, is_kind, is_number, is_scalar, kind_of, kind_in, place_scalar, suits, value_of}

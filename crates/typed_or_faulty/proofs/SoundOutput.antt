@@ -1,5 +1,5 @@
 -- What is judged without a fault is there: the predefined procedures.
-use Rattle.std.proofs.Common.{◌≡◌, refl, sym, ◌∙◌, ℕ, ℤ, pos, Option, Some, None, Bool, true, false, true≢false, if◌then◌else◌, option_map, int_le, nat_le, not, ◌&&◌, ◌+◌, ◌==◌}
+use Rattle.std.proofs.Common.{◌≡◌, refl, sym, ◌∙◌, ℕ, ℤ, pos, Option, Some, None, Bool, true, false, true≢false, if◌then◌else◌, option_map, int_le, nat_le, not, ◌&&◌, ◌==◌}
 use Rattle.ada_tree.specs.FirstTokens as first_token
 use Rattle.ada_tree.specs.Syntax as syntax
 use Rattle.ada_tree.specs.Syntax.{Args, Expr}
@@ -9,7 +9,7 @@ use Rattle.ada_typed.specs.Syntax as typed
 use Rattle.ada_typed.specs.Syntax.{Selections}
 use Rattle.name_rules.specs.Expressions.{Inside, expr, judged_alone}
 use Rattle.name_rules.specs.Found.{Found}
-use Rattle.name_rules.specs.Judging.{Judging, ◌>>=◌, breaks, fault, given, joined, pure, some, unless}
+use Rattle.name_rules.specs.Judging.{◌>>=◌, breaks, fault, given, joined, pure, some, unless}
 use Rattle.name_rules.specs.Output as o
 use Rattle.name_rules.specs.Output.{Putting}
 use Rattle.name_rules.specs.Symbols.{symbol, width_name}
@@ -29,7 +29,7 @@ use Rattle.name_rules.specs.declared.types.Kind.TheVariants as kind
 use Rattle.name_rules.specs.declared.types.Subtype.TheVariants as subtype
 use Rattle.name_rules.specs.declared.types.Subtype.{Subtype}
 use Rattle.name_rules.specs.declared.types.Wanted.TheVariants as wanted
-use Rattle.typed_or_faulty.proofs.Explains.{Any, Is, Sound, joint, mapped, s-any, s-bind, s-breaks, s-fault, s-given, s-if, s-pure, s-some, s-test, s-under, s-unless, s-weaken, s-where_clean}
+use Rattle.typed_or_faulty.proofs.Explains.{Any, Is, Sound, joint, mapped, s-bind, s-breaks, s-fault, s-given, s-if, s-pure, s-some, s-test, s-unless, s-where_clean}
 use Rattle.typed_or_faulty.proofs.Facts.{Clear, DenotedOf, FoundFor, LevelSound}
 use Rattle.typed_or_faulty.proofs.SoundExpressions.{s-expr, s-judged_alone}
 use Rattle.typed_or_faulty.proofs.SoundValues.{s-asked, s-static_of_kind}

@@ -1,47 +1,33 @@
 -- What is judged without a fault is found: whole names.
-use Rattle.std.proofs.Common.{◌≡◌, refl, sym, ap, subst, ◌∙◌, true≢false, ◌≤◌, ◌++◌, ◌&&◌, ℕ, ℤ, zero, suc, pos, List, [], ◌∷◌, length, Option, Some, None, Bool, true, false, if◌then◌else◌, option_map, ◌==◌, ◌+◌, drop, slice_get, nat_lt, nat_le, arith}
-use Rattle.std.specs.Prelude.{◌+ℤ◌, ◌-ℤ◌, ◌*◌, not, ◌||◌, is_some, int_le}
-use Rattle.ada_base.specs.declared.operation.Op.TheVariants as op
-use Rattle.ada_base.specs.declared.operation.Op.{Op}
-use Rattle.ada_tree.specs.FirstTokens as first_token
+use Rattle.std.proofs.Common.{ℕ, Option, Some, None, Bool, true, false, option_map}
 use Rattle.ada_tree.specs.Syntax as syntax
 use Rattle.ada_typed.specs.Decoded as part
 use Rattle.ada_typed.specs.Decoded.{Part, as_expr}
 use Rattle.ada_typed.specs.Syntax as typed
-use Rattle.name_rules.specs.Expressions.{Inside, expr, judged_alone, simple, condition, value_for}
-use Rattle.name_rules.specs.Found.{Denoted, Found, denote}
-use Rattle.name_rules.specs.Judging.{Judging, ◌>>=◌, both, breaks, clean, fault, given, joined, pure, read, some, unless, where_clean}
-use Rattle.name_rules.specs.Scope.{stands_for, with_entry}
+use Rattle.name_rules.specs.Expressions.{Inside, expr}
+use Rattle.name_rules.specs.Found.{Denoted, denote}
+use Rattle.name_rules.specs.Judging.{both, fault, given, read, where_clean}
+use Rattle.name_rules.specs.Scope.{stands_for}
 use Rattle.name_rules.specs.Symbols.{symbol}
-use Rattle.name_rules.specs.TypedParts.{also, left_of, right_of, selections_of}
-use Rattle.name_rules.specs.Values as v
-use Rattle.name_rules.specs.Values.{asked, first_of, is_number, is_scalar, kind_of, value_of}
+use Rattle.name_rules.specs.TypedParts.{selections_of}
 use Rattle.name_rules.specs.declared.found.Denoted.TheVariants as denoted
 use Rattle.name_rules.specs.declared.found.Denoted.{Denoted as KnownDenoted}
 use Rattle.name_rules.specs.declared.found.Found.TheVariants as known
-use Rattle.name_rules.specs.declared.found.Found.{Found as Known}
 use Rattle.name_rules.specs.declared.found.Place.{Place}
-use Rattle.name_rules.specs.declared.log.Dimension.{Dimension}
-use Rattle.name_rules.specs.declared.log.Log.{Log}
 use Rattle.name_rules.specs.declared.log.Rule.TheVariants as rule
 use Rattle.name_rules.specs.declared.scope.Context.{Context}
 use Rattle.name_rules.specs.declared.scope.Names.{Names}
-use Rattle.name_rules.specs.declared.types.Kind.{Kind}
-use Rattle.name_rules.specs.declared.types.Kind.TheVariants as kind
-use Rattle.name_rules.specs.declared.types.Scalar.{Scalar}
 use Rattle.name_rules.specs.declared.types.Subtype.TheVariants as subtype
-use Rattle.name_rules.specs.declared.types.Subtype.{Subtype}
 use Rattle.name_rules.specs.declared.types.Wanted.TheVariants as wanted
-use Rattle.name_rules.specs.declared.types.Wanted.{Wanted}
-use Rattle.typed_or_faulty.proofs.Explains.{Any, Is, Sound, differ, joint, mapped, no, ok, s-alone, s-any, s-bind, s-both, s-breaks, s-broken, s-clean, s-fault, s-given, s-if, s-logged, s-pure, s-read, s-some, s-test, s-under, s-unless, s-weaken, s-where_clean, there, weaker}
-use Rattle.typed_or_faulty.proofs.Facts.{Clear, DenotedOf, DenotedOk, Fit, FoundFor, FoundOk, LevelSound, Plain, RestOf, other-fits}
+use Rattle.typed_or_faulty.proofs.Explains.{Any, Is, Sound, mapped, s-bind, s-both, s-fault, s-given, s-if, s-pure, s-read, s-some, s-where_clean}
+use Rattle.typed_or_faulty.proofs.Facts.{Clear, DenotedOf, DenotedOk, FoundFor, FoundOk, LevelSound, other-fits}
 use Rattle.ada_tree.specs.Syntax.{Args, Expr, Name, Parts}
 use Rattle.ada_tree.specs.Syntax.{Part as NamePart}
 use Rattle.ada_typed.specs.Syntax.{Selections}
 use Rattle.ada_typed.specs.declared.program.SiteKind.TheVariants as site
-use Rattle.name_rules.specs.Attributes.{attribute_at, bound_with, dimensions_in, is_array_object, is_bound, is_reduction, mentioned, prefix_subtype, settled_attribute}
+use Rattle.name_rules.specs.Attributes.{attribute_at, dimensions_in, is_array_object, is_bound, is_reduction, mentioned, prefix_subtype, settled_attribute}
 use Rattle.name_rules.specs.Found.{value_denoted}
-use Rattle.name_rules.specs.Names.{args_alone, field}
+use Rattle.name_rules.specs.Names.{args_alone}
 use Rattle.name_rules.specs.Parts as a
 use Rattle.name_rules.specs.Parts.{new_parameter, new_site}
 use Rattle.name_rules.specs.Reducers.{folded_by, reducer_of}

@@ -1,45 +1,33 @@
 -- What is judged without a fault is found: primaries, and levels of brackets.
-use Rattle.std.proofs.Common.{◌≡◌, refl, sym, ap, subst, ◌∙◌, true≢false, ◌≤◌, ◌++◌, ◌&&◌, ℕ, ℤ, zero, suc, pos, List, [], ◌∷◌, length, Option, Some, None, Bool, true, false, if◌then◌else◌, option_map, ◌==◌, ◌+◌, drop, slice_get, nat_lt, nat_le, arith}
-use Rattle.std.specs.Prelude.{◌+ℤ◌, ◌-ℤ◌, ◌*◌, not, ◌||◌, is_some, int_le}
-use Rattle.ada_base.specs.declared.operation.Op.TheVariants as op
-use Rattle.ada_base.specs.declared.operation.Op.{Op}
+use Rattle.std.proofs.Common.{◌≡◌, refl, sym, ℕ, ℤ, zero, suc, List, [], ◌∷◌, Option, Some, None, true}
 use Rattle.ada_tree.specs.FirstTokens as first_token
 use Rattle.ada_tree.specs.Syntax as syntax
 use Rattle.ada_typed.specs.Decoded as part
 use Rattle.ada_typed.specs.Decoded.{Part, as_expr}
 use Rattle.ada_typed.specs.Syntax as typed
-use Rattle.name_rules.specs.Expressions.{Inside, expr, judged_alone, simple, condition, value_for}
-use Rattle.name_rules.specs.Found.{Denoted, Found, denote}
-use Rattle.name_rules.specs.Judging.{Judging, ◌>>=◌, both, breaks, clean, fault, given, joined, pure, read, some, unless, where_clean}
-use Rattle.name_rules.specs.Scope.{stands_for, with_entry}
-use Rattle.name_rules.specs.Symbols.{symbol}
-use Rattle.name_rules.specs.TypedParts.{also, left_of, right_of, selections_of}
+use Rattle.name_rules.specs.Expressions.{Inside, expr, condition}
+use Rattle.name_rules.specs.Found.{Found}
+use Rattle.name_rules.specs.Judging.{joined}
+use Rattle.name_rules.specs.TypedParts.{left_of, right_of}
 use Rattle.name_rules.specs.Values as v
 use Rattle.name_rules.specs.Values.{asked, first_of, is_number, is_scalar, kind_of, value_of}
-use Rattle.name_rules.specs.declared.found.Denoted.TheVariants as denoted
-use Rattle.name_rules.specs.declared.found.Denoted.{Denoted as KnownDenoted}
 use Rattle.name_rules.specs.declared.found.Found.TheVariants as known
 use Rattle.name_rules.specs.declared.found.Found.{Found as Known}
-use Rattle.name_rules.specs.declared.found.Place.{Place}
-use Rattle.name_rules.specs.declared.log.Dimension.{Dimension}
-use Rattle.name_rules.specs.declared.log.Log.{Log}
 use Rattle.name_rules.specs.declared.log.Rule.TheVariants as rule
 use Rattle.name_rules.specs.declared.scope.Context.{Context}
 use Rattle.name_rules.specs.declared.scope.Names.{Names}
 use Rattle.name_rules.specs.declared.types.Kind.{Kind}
-use Rattle.name_rules.specs.declared.types.Kind.TheVariants as kind
-use Rattle.name_rules.specs.declared.types.Scalar.{Scalar}
 use Rattle.name_rules.specs.declared.types.Subtype.TheVariants as subtype
 use Rattle.name_rules.specs.declared.types.Subtype.{Subtype}
 use Rattle.name_rules.specs.declared.types.Wanted.TheVariants as wanted
 use Rattle.name_rules.specs.declared.types.Wanted.{Wanted}
-use Rattle.typed_or_faulty.proofs.Explains.{Any, Is, Sound, differ, joint, mapped, no, ok, s-alone, s-any, s-bind, s-both, s-breaks, s-broken, s-clean, s-fault, s-given, s-if, s-logged, s-pure, s-read, s-some, s-test, s-under, s-unless, s-weaken, s-where_clean, there, weaker}
-use Rattle.typed_or_faulty.proofs.Facts.{Clear, DenotedOf, DenotedOk, Fit, FoundFor, FoundOk, LevelSound, Plain, RestOf, other-fits}
+use Rattle.typed_or_faulty.proofs.Explains.{Any, Is, Sound, differ, joint, mapped, s-bind, s-both, s-fault, s-given, s-pure, s-some}
+use Rattle.typed_or_faulty.proofs.Facts.{Clear, DenotedOf, Fit, FoundFor, FoundOk, LevelSound, Plain, RestOf}
 use Rattle.ada_tree.specs.Syntax.{Elsifs, Expr, Name, Primary}
-use Rattle.name_rules.specs.Aggregates.{ByPosition, aggregate, contents}
-use Rattle.name_rules.specs.Found.{opened, scalar, static, universal}
+use Rattle.name_rules.specs.Aggregates.{ByPosition, contents}
+use Rattle.name_rules.specs.Found.{scalar, static, universal}
 use Rattle.name_rules.specs.Operators.{first_kind, open_form, open_of}
-use Rattle.name_rules.specs.Parts.{name, value_named}
+use Rattle.name_rules.specs.Parts.{value_named}
 use Rattle.name_rules.specs.Primaries as p
 use Rattle.name_rules.specs.Primaries.{Waiting, common, common_composite, composite_in, first_some, inside, level_above, no_text, number_of_composite, with_known}
 use Rattle.name_rules.specs.Shapes.{is_aggregate_form}
@@ -49,7 +37,7 @@ use Rattle.name_rules.specs.Values.{composite_asked, kind_in, place_scalar}
 use Rattle.name_rules.specs.declared.log.Rule.TheVariants.{Limit}
 use Rattle.name_rules.specs.declared.scope.Target.TheVariants as target
 use Rattle.name_rules.specs.declared.scope.Target.{Target}
-use Rattle.typed_or_faulty.proofs.Facts.{IsRest, TargetGood, TextFit}
+use Rattle.typed_or_faulty.proofs.Facts.{TargetGood, TextFit}
 use Rattle.typed_or_faulty.proofs.SoundAggregates.{s-aggregate, s-aggregate_rest}
 use Rattle.typed_or_faulty.proofs.SoundExpressions.{s-condition, s-expr, s-fits, s-in_place}
 use Rattle.typed_or_faulty.proofs.SoundIterations.{s-sequence}

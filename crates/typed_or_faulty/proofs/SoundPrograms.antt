@@ -1,5 +1,5 @@
 -- What is judged without a fault is there: subprograms and programs. So each text without a fault has a typed program.
-use Rattle.std.proofs.Common.{◌≡◌, refl, sym, ap, ◌∙◌, ℕ, ◌+◌, ◌-◌, ◌≤◌, List, [], ◌∷◌, length, drop, Option, Some, None, Bool, true, false, if◌then◌else◌, option_map, not, ◌==◌, ◌||◌, ◌&&◌, arith}
+use Rattle.std.proofs.Common.{◌≡◌, refl, ℕ, ◌+◌, ◌-◌, List, [], ◌∷◌, length, drop, Option, Some, None, Bool, true, false, if◌then◌else◌, option_map, not, ◌==◌, ◌||◌, ◌&&◌, arith}
 use Rattle.ada_tree.specs.Syntax as syntax
 use Rattle.ada_tree.specs.Syntax.{Aspect, Body, Clause, Decl, Expr, Formal, Formals, Main, Pack, Policy, Program, Sub, Unit'}
 use Rattle.ada_tree.specs.declared.operators.ClauseWord.{ClauseWord}
@@ -11,12 +11,12 @@ use Rattle.ada_typed.specs.Syntax as typed
 use Rattle.ada_typed.specs.Syntax.{Sub as TypedSub}
 use Rattle.ada_typed.specs.declared.program.Mode.{Mode}
 use Rattle.name_rules.specs.Declarations.{all_ids, begun_names, cells_counted, declaration, declarations, ended_name, new_object}
-use Rattle.name_rules.specs.Expressions.{Inside, judged_alone, value_for}
-use Rattle.name_rules.specs.Judging.{Judging, ◌>>=◌, breaks, fault, given, joined, pure, some, unless}
-use Rattle.name_rules.specs.Primaries.{inside, level_above}
+use Rattle.name_rules.specs.Expressions.{judged_alone}
+use Rattle.name_rules.specs.Judging.{◌>>=◌, breaks, fault, joined, pure, some, unless}
+use Rattle.name_rules.specs.Primaries.{inside}
 use Rattle.name_rules.specs.Programs as p
 use Rattle.name_rules.specs.Programs.{Declared', Profiled, Whole}
-use Rattle.name_rules.specs.Resolved.{TypedOf, depth_limit, fresh, judged, typed_by, typed_where}
+use Rattle.name_rules.specs.Resolved.{depth_limit, fresh, judged, typed_by, typed_where}
 use Rattle.name_rules.specs.Scope.{declared, free, scalar_named, stands_for, subtype_named}
 use Rattle.name_rules.specs.Statements.{around, body, no_decls, stmt}
 use Rattle.name_rules.specs.Symbols.{ada_name, all_parallel_policy, all_policy, integer_io_name, known_parallel_policy, nonblocking_name, policy_name, symbol, text_io_name}

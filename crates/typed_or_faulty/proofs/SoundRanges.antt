@@ -1,40 +1,26 @@
 -- What is judged without a fault is found: ranges and choices.
-use Rattle.std.proofs.Common.{◌≡◌, refl, sym, ap, subst, ◌∙◌, true≢false, ◌≤◌, ◌++◌, ◌&&◌, ℕ, ℤ, zero, suc, pos, List, [], ◌∷◌, length, Option, Some, None, Bool, true, false, if◌then◌else◌, option_map, ◌==◌, ◌+◌, drop, slice_get, nat_lt, nat_le, arith}
-use Rattle.std.specs.Prelude.{◌+ℤ◌, ◌-ℤ◌, ◌*◌, not, ◌||◌, is_some, int_le}
-use Rattle.ada_base.specs.declared.operation.Op.TheVariants as op
-use Rattle.ada_base.specs.declared.operation.Op.{Op}
+use Rattle.std.proofs.Common.{◌≡◌, sym, ◌∙◌, ◌&&◌, ℕ, ℤ, Option, Some, None, Bool, true, false}
+use Rattle.std.specs.Prelude.{not, int_le}
 use Rattle.ada_tree.specs.FirstTokens as first_token
 use Rattle.ada_tree.specs.Syntax as syntax
 use Rattle.ada_typed.specs.Decoded as part
 use Rattle.ada_typed.specs.Decoded.{Part, as_expr}
-use Rattle.ada_typed.specs.Syntax as typed
-use Rattle.name_rules.specs.Expressions.{Inside, expr, judged_alone, simple, condition, value_for}
-use Rattle.name_rules.specs.Found.{Denoted, Found, denote}
-use Rattle.name_rules.specs.Judging.{Judging, ◌>>=◌, both, breaks, clean, fault, given, joined, pure, read, some, unless, where_clean}
-use Rattle.name_rules.specs.Scope.{stands_for, with_entry}
-use Rattle.name_rules.specs.Symbols.{symbol}
-use Rattle.name_rules.specs.TypedParts.{also, left_of, right_of, selections_of}
+use Rattle.name_rules.specs.Expressions.{Inside, simple}
+use Rattle.name_rules.specs.Found.{Found}
+use Rattle.name_rules.specs.Judging.{Judging, given, joined}
 use Rattle.name_rules.specs.Values as v
 use Rattle.name_rules.specs.Values.{asked, first_of, is_number, is_scalar, kind_of, value_of}
 use Rattle.name_rules.specs.declared.found.Denoted.TheVariants as denoted
 use Rattle.name_rules.specs.declared.found.Denoted.{Denoted as KnownDenoted}
-use Rattle.name_rules.specs.declared.found.Found.TheVariants as known
 use Rattle.name_rules.specs.declared.found.Found.{Found as Known}
-use Rattle.name_rules.specs.declared.found.Place.{Place}
-use Rattle.name_rules.specs.declared.log.Dimension.{Dimension}
-use Rattle.name_rules.specs.declared.log.Log.{Log}
 use Rattle.name_rules.specs.declared.log.Rule.TheVariants as rule
 use Rattle.name_rules.specs.declared.scope.Context.{Context}
-use Rattle.name_rules.specs.declared.scope.Names.{Names}
 use Rattle.name_rules.specs.declared.types.Kind.{Kind}
-use Rattle.name_rules.specs.declared.types.Kind.TheVariants as kind
 use Rattle.name_rules.specs.declared.types.Scalar.{Scalar}
 use Rattle.name_rules.specs.declared.types.Subtype.TheVariants as subtype
-use Rattle.name_rules.specs.declared.types.Subtype.{Subtype}
 use Rattle.name_rules.specs.declared.types.Wanted.TheVariants as wanted
-use Rattle.name_rules.specs.declared.types.Wanted.{Wanted}
-use Rattle.typed_or_faulty.proofs.Explains.{Any, Is, Sound, differ, joint, mapped, no, ok, s-alone, s-any, s-bind, s-both, s-breaks, s-broken, s-clean, s-fault, s-given, s-if, s-pure, s-read, s-some, s-test, s-under, s-unless, s-weaken, s-where_clean, there, weaker}
-use Rattle.typed_or_faulty.proofs.Facts.{Clear, DenotedOf, DenotedOk, Fit, FoundFor, FoundOk, LevelSound, Plain, RestOf, other-fits}
+use Rattle.typed_or_faulty.proofs.Explains.{Any, Is, Sound, differ, joint, mapped, no, ok, s-bind, s-both, s-given, s-if, s-pure, s-test, s-unless}
+use Rattle.typed_or_faulty.proofs.Facts.{Clear, DenotedOf, FoundOk, LevelSound}
 use Rattle.ada_tree.specs.Syntax.{Range, Simple}
 use Rattle.name_rules.specs.Ranges as r
 use Rattle.name_rules.specs.Operators.{both_mentions, common_kind}

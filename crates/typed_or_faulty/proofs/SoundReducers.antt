@@ -1,28 +1,18 @@
 -- What is judged without a fault is found: what reductions fold by.
-use Rattle.std.proofs.Common.{◌≡◌, refl, sym, ap, subst, ◌∙◌, true≢false, ◌≤◌, ◌++◌, ◌&&◌, ℕ, ℤ, zero, suc, pos, List, [], ◌∷◌, length, Option, Some, None, Bool, true, false, if◌then◌else◌, option_map, ◌==◌, ◌+◌, drop, slice_get, nat_lt, nat_le, arith}
-use Rattle.std.specs.Prelude.{◌+ℤ◌, ◌-ℤ◌, ◌*◌, not, ◌||◌, is_some, int_le}
-use Rattle.ada_base.specs.declared.operation.Op.TheVariants as op
+use Rattle.std.proofs.Common.{◌≡◌, refl, ◌&&◌, ℕ, List, [], ◌∷◌, Option, Some, None, true}
+use Rattle.std.specs.Prelude.{not, ◌||◌, is_some}
 use Rattle.ada_base.specs.declared.operation.Op.{Op}
 use Rattle.ada_tree.specs.FirstTokens as first_token
 use Rattle.ada_tree.specs.Syntax as syntax
-use Rattle.ada_typed.specs.Decoded as part
-use Rattle.ada_typed.specs.Decoded.{Part, as_expr}
-use Rattle.ada_typed.specs.Syntax as typed
-use Rattle.name_rules.specs.Expressions.{Inside, expr, judged_alone, simple, condition, value_for}
-use Rattle.name_rules.specs.Found.{Denoted, Found, denote}
-use Rattle.name_rules.specs.Judging.{Judging, ◌>>=◌, both, breaks, clean, fault, given, joined, pure, read, some, unless, where_clean}
-use Rattle.name_rules.specs.Scope.{stands_for, with_entry}
-use Rattle.name_rules.specs.Symbols.{symbol}
-use Rattle.name_rules.specs.TypedParts.{also, left_of, right_of, selections_of}
+use Rattle.ada_typed.specs.Decoded.{Part}
+use Rattle.name_rules.specs.Expressions.{Inside, judged_alone}
+use Rattle.name_rules.specs.Found.{Found}
+use Rattle.name_rules.specs.Judging.{read}
+use Rattle.name_rules.specs.Scope.{stands_for}
 use Rattle.name_rules.specs.Values as v
 use Rattle.name_rules.specs.Values.{asked, first_of, is_number, is_scalar, kind_of, value_of}
 use Rattle.name_rules.specs.declared.found.Denoted.TheVariants as denoted
 use Rattle.name_rules.specs.declared.found.Denoted.{Denoted as KnownDenoted}
-use Rattle.name_rules.specs.declared.found.Found.TheVariants as known
-use Rattle.name_rules.specs.declared.found.Found.{Found as Known}
-use Rattle.name_rules.specs.declared.found.Place.{Place}
-use Rattle.name_rules.specs.declared.log.Dimension.{Dimension}
-use Rattle.name_rules.specs.declared.log.Log.{Log}
 use Rattle.name_rules.specs.declared.log.Rule.TheVariants as rule
 use Rattle.name_rules.specs.declared.scope.Context.{Context}
 use Rattle.name_rules.specs.declared.scope.Names.{Names}
@@ -31,12 +21,9 @@ use Rattle.name_rules.specs.declared.types.Kind.TheVariants as kind
 use Rattle.name_rules.specs.declared.types.Scalar.{Scalar}
 use Rattle.name_rules.specs.declared.types.Subtype.TheVariants as subtype
 use Rattle.name_rules.specs.declared.types.Subtype.{Subtype}
-use Rattle.name_rules.specs.declared.types.Wanted.TheVariants as wanted
-use Rattle.name_rules.specs.declared.types.Wanted.{Wanted}
-use Rattle.typed_or_faulty.proofs.Explains.{Any, Is, Sound, differ, joint, mapped, no, ok, s-alone, s-any, s-bind, s-both, s-breaks, s-broken, s-clean, s-fault, s-given, s-if, s-logged, s-pure, s-read, s-some, s-test, s-under, s-unless, s-weaken, s-where_clean, there, weaker}
-use Rattle.typed_or_faulty.proofs.Facts.{Clear, DenotedOf, DenotedOk, Fit, FoundFor, FoundOk, LevelSound, Plain, RestOf, other-fits}
+use Rattle.typed_or_faulty.proofs.Explains.{Any, Is, Sound, joint, no, ok, s-bind, s-both, s-fault, s-given, s-if, s-pure, s-read, s-some, s-test, s-where_clean}
+use Rattle.typed_or_faulty.proofs.Facts.{Clear, DenotedOf, FoundOk, LevelSound}
 use Rattle.ada_tree.specs.Syntax.{Expr, Parts, Primary}
-use Rattle.ada_typed.specs.Decoded.{as_iteration}
 use Rattle.ada_typed.specs.declared.expressions.Reducer.{Reducer}
 use Rattle.name_rules.specs.Calls.{gives_in, profile_in, takes_in}
 use Rattle.name_rules.specs.Found.{scalar}
@@ -54,7 +41,6 @@ use Rattle.typed_or_faulty.proofs.SoundExpressions.{s-judged_alone}
 use Rattle.typed_or_faulty.proofs.SoundOperators.{first-true, open-there, second-true}
 use Rattle.typed_or_faulty.proofs.SoundScope.{s-stands_for}
 use Rattle.typed_or_faulty.proofs.SoundValues.{s-asked}
-
 
 s-operator_reducer : (G : Type 0) (at : ℕ) (o : Option Op) → Sound G (Is Any) (d.operator_reducer at o)
 s-operator_reducer G at None = no G at rule.ReduceRule

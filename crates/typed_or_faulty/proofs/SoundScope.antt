@@ -1,8 +1,7 @@
 -- What is judged without a fault is found: what names stand for.
 use Rattle.std.proofs.Common.{ℕ, Option, Some, None, Bool, true, false, if◌then◌else◌, ◌==◌, ◌&&◌}
 use Rattle.std.specs.Prelude.{not, ◌||◌}
-use Rattle.name_rules.specs.Found.{denote}
-use Rattle.name_rules.specs.Judging.{◌>>=◌, fault, given, some}
+use Rattle.name_rules.specs.Judging.{fault}
 use Rattle.name_rules.specs.Scope as c
 use Rattle.name_rules.specs.Symbols.{ada_name, data_error_name, end_error_name, integer_io_name, symbol, text_io_name}
 use Rattle.name_rules.specs.declared.found.Denoted.TheVariants as denoted

@@ -1,5 +1,5 @@
 -- What is judged without a fault is there: statements.
-use Rattle.std.proofs.Common.{◌≡◌, refl, ℕ, zero, suc, ◌-◌, List, [], ◌∷◌, length, Option, Some, None, Bool, true, false, if◌then◌else◌, option_map, nat_le, not, ◌==◌}
+use Rattle.std.proofs.Common.{◌≡◌, refl, ℕ, zero, suc, ◌-◌, List, [], ◌∷◌, length, Option, Some, None, Bool, true, false, option_map, nat_le, not, ◌==◌}
 use Rattle.ada_base.specs.declared.reason.Reason.{Reason}
 use Rattle.ada_tree.specs.FirstTokens as first_token
 use Rattle.ada_tree.specs.Syntax as syntax
@@ -10,15 +10,15 @@ use Rattle.ada_typed.specs.Latest.{turned}
 use Rattle.ada_typed.specs.Syntax as typed
 use Rattle.ada_typed.specs.Syntax.{Selections, Handled as TypedHandled}
 use Rattle.ada_typed.specs.declared.program.SiteKind.TheVariants as site
-use Rattle.name_rules.specs.Cases.{Choosing, Covering, case_choices, closed, handled_by}
+use Rattle.name_rules.specs.Cases.{Choosing, Covering, case_choices, handled_by}
 use Rattle.name_rules.specs.Declarations.{declarations}
 use Rattle.name_rules.specs.Expressions.{Inside, condition, expr, judged_alone}
 use Rattle.name_rules.specs.Found.{Denoted, Found}
-use Rattle.name_rules.specs.Iterations.{Entered, chunk_count, entered}
-use Rattle.name_rules.specs.Judging.{Judging, both, breaks, clean, fault, given, joined, pure, some, unless, ◌>>=◌}
+use Rattle.name_rules.specs.Iterations.{entered}
+use Rattle.name_rules.specs.Judging.{clean, fault, given, joined, pure, unless, ◌>>=◌}
 use Rattle.name_rules.specs.Names.{denoted_first, exception}
 use Rattle.name_rules.specs.Parts.{new_site, valued_by}
-use Rattle.name_rules.specs.Primaries.{inside, level_above}
+use Rattle.name_rules.specs.Primaries.{inside}
 use Rattle.name_rules.specs.Statements as s
 use Rattle.name_rules.specs.Statements.{Around, Selector, around, stmt}
 use Rattle.name_rules.specs.Symbols.{symbol}
@@ -43,7 +43,7 @@ use Rattle.name_rules.specs.declared.types.Wanted.TheVariants as wanted
 use Rattle.typed_or_faulty.proofs.SoundParts.{s-valued_by}
 use Rattle.typed_or_faulty.proofs.SoundPrimaries.{above-sound, inside-sound}
 use Rattle.typed_or_faulty.proofs.Explains.{Any, Is, Sound, grows-same, joint, mapped, s-any, s-bind, s-both, s-breaks, s-clean, s-fault, s-given, s-if, s-never, s-pure, s-some, s-unless, s-where_clean}
-use Rattle.typed_or_faulty.proofs.Facts.{Clear, DenotedOf, FoundFor, LevelSound, Plain, ReturnsGood}
+use Rattle.typed_or_faulty.proofs.Facts.{Clear, DenotedOf, FoundFor, LevelSound, ReturnsGood}
 use Rattle.typed_or_faulty.proofs.SoundCases.{HandledOf, s-case_choices, s-closed, s-handled_by}
 use Rattle.typed_or_faulty.proofs.SoundDeclarations.{DeclaringOf, is-any, s-declarations}
 use Rattle.typed_or_faulty.proofs.SoundExpressions.{plain-of, s-condition, s-expr, s-judged_alone}

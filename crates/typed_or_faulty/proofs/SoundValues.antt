@@ -1,11 +1,11 @@
 -- What is judged without a fault is found: values.
-use Rattle.std.proofs.Common.{◌≡◌, refl, sym, subst, ◌∙◌, ℕ, ℤ, Option, Some, None, Bool, true, false, if◌then◌else◌, option_map, ◌==◌}
+use Rattle.std.proofs.Common.{◌≡◌, ℕ, ℤ, Option, Some, None, Bool, true, ◌==◌}
 use Rattle.ada_typed.specs.Decoded.{Part, as_expr}
 use Rattle.ada_typed.specs.Decoded as part
 use Rattle.ada_typed.specs.Syntax.{Expr, Selections}
 use Rattle.ada_typed.specs.Syntax as typed
 use Rattle.name_rules.specs.Found.{Found}
-use Rattle.name_rules.specs.Judging.{◌>>=◌, fault, given, pure, some, unless}
+use Rattle.name_rules.specs.Judging.{unless}
 use Rattle.name_rules.specs.TypedParts.{selections_of}
 use Rattle.name_rules.specs.Types.{check_at, in_base, is_integer, same}
 use Rattle.name_rules.specs.Values as v
