@@ -2,85 +2,20 @@ ghost use Rattle.std.specs.Prelude.{◌≡◌, IfOk};
 
 use ada_port::files::read_text;
 use ada_port::{
-    ErrSink, FileShelf, HeldSink, MemShelf, MemSink, MemSource, Pulse, Quiet, Shelf, ShelfFault,
-    ShelfText, Sink, SinkFail, Source, StdSink, StdSource, StreamSink, StreamSource, SureShelf,
-    SureSink, SureSource,
+    ErrSink, FileShelf, MemSink, Pulse, Quiet, Shelf, ShelfFault, Sink, SinkFail, Source, StdSink,
+    StdSource, StreamSink, StreamSource, SureShelf, SureSink,
 };
 use std::alloc::{AllocError, Global};
 use std::io;
 use std::io::{ErrorKind, Read, Write};
 
-fn text(alloc: Global, name: &str, bytes: &str) -> Result<ShelfText, AllocError> {
-    Ok(ShelfText {
-        name: String::from_str(alloc, name)?,
-        bytes: Vec::from_slice(alloc, bytes.as_bytes())?,
-    })
-}
-
-// Whether a fetch gives these bytes, or fails.
-fn gives<S: Shelf>(shelf: &mut S, alloc: Global, name: &str, want: Option<&str>) -> bool {
-    match shelf.fetch(alloc, name) {
-        Ok(bytes) => match want {
-            Some(text) => bytes.as_slice() == text.as_bytes(),
-            None => false,
-        },
-        Err(fault) => want.is_none() && matches!(fault, ShelfFault::Failed),
-    }
-}
-
-// How many bytes a fetch gives.
-fn lent<S: Shelf>(shelf: &mut S, alloc: Global, name: &str) -> Option<usize> {
-    match shelf.fetch(alloc, name) {
-        Ok(bytes) => Some(bytes.len()),
-        Err(_) => None,
-    }
-}
-
-// What is fetched from the shelf, whether and which text comes, and the number of faults then.
-const FETCHES: [(&str, Option<&str>, u64); 7] = [
-    ("a.ada", Some("one"), 0),
-    ("b.ada", None, 1),
-    ("b.ada", Some("two"), 1),
-    ("c.ada", None, 2),
-    ("a.ada", None, 3),
-    ("a.ada", Some("one"), 3),
-    ("a.ad", None, 4),
-];
-
-#[test]
-fn shelf_in_memory_fails_where_listed_or_absent(rt: HostRuntime) -> Result<(), AllocError> {
-    let alloc = rt.alloc();
-    let mut texts = Vec::new(alloc);
-    for (name, bytes) in [("a.ada", "one"), ("b.ada", "two"), ("a.ada", "three")] {
-        texts.push(text(alloc, name, bytes)?)?;
-    }
-    let mut shelf = MemShelf::new(texts, Vec::from_slice(alloc, &[1, 1, 4])?);
-    for (name, want, faults) in FETCHES {
-        assert!(rt; gives(&mut shelf, alloc, name, want) && shelf.faults() == faults);
-    }
-    Ok(())
-}
-
+// What fails where it is listed is also tested by the answers of ada_cmd: the shelf, the source and the sinks in memory.
 #[test]
 fn shelf_of_files_fails_where_there_is_none(rt: HostRuntime) {
     let alloc = rt.alloc();
     let mut shelf = FileShelf::new(rt);
-    assert!(rt; gives(&mut shelf, alloc, "absent.ada", None) && shelf.faults() == 1);
-}
-
-#[test]
-fn shelf_that_is_sure_gives_at_most_so_many_bytes(rt: HostRuntime) -> Result<(), AllocError> {
-    let alloc = rt.alloc();
-    for (held, given) in [
-        (0, 0),
-        (3, 3),
-        (1_048_577, 1_048_577),
-        (1_048_578, 1_048_577),
-    ] {
-        let mut shelf = SureShelf::new(vec![in alloc; b'x'; held]?);
-        assert!(rt; lent(&mut shelf, alloc, "any name") == Some(given) && shelf.faults() == 0);
-    }
-    Ok(())
+    let failed = matches!(shelf.fetch(alloc, "absent.ada"), Err(ShelfFault::Failed));
+    assert!(rt; failed && shelf.faults() == 1);
 }
 
 // The byte that comes, with 256 for the end and 257 for a fault.
@@ -90,26 +25,6 @@ fn next<S: Source>(source: &mut S) -> u32 {
         Ok(None) => 256,
         Err(_) => 257,
     }
-}
-
-// Whether this comes of the source, which then has so many faults.
-fn tells<S: Source>(source: &mut S, want: u32, faults: u64) -> bool {
-    next(source) == want && source.faults() == faults
-}
-
-#[test]
-fn sources_in_memory_give_each_byte_once(rt: HostRuntime) -> Result<(), AllocError> {
-    let alloc = rt.alloc();
-    let mut sure = SureSource::new(Vec::from_slice(alloc, b"ab")?);
-    for want in [97, 98, 256, 256] {
-        assert!(rt; tells(&mut sure, want, 0));
-    }
-    let fails = Vec::from_slice(alloc, &[1, 1, 4, 9])?;
-    let mut source = MemSource::new(Vec::from_slice(alloc, b"ab")?, fails);
-    for (want, faults) in [(97, 0), (257, 1), (98, 1), (256, 1), (257, 2), (256, 2)] {
-        assert!(rt; tells(&mut source, want, faults));
-    }
-    Ok(())
 }
 
 const FAILS: [SinkFail; 4] = [
@@ -132,9 +47,9 @@ const PUTS: [(&str, &str, u64); 9] = [
     ("gh", "abcdef", 5),
 ];
 
-// Whether the sink takes the piece or not, as is wanted, and then has so many faults.
-fn takes<S: Sink>(sink: &mut S, piece: &str, want: bool, faults: u64) -> bool {
-    sink.put(piece.as_bytes()).is_ok() == want && sink.faults() == faults
+// Whether the sink takes the piece.
+fn takes<S: Sink>(sink: &mut S, piece: &str) -> bool {
+    sink.put(piece.as_bytes()).is_ok()
 }
 
 #[test]
@@ -143,29 +58,33 @@ fn sink_in_memory_fails_where_listed_or_full(rt: HostRuntime) -> Result<(), Allo
     let mut sink = MemSink::new(alloc, 6, Vec::from_slice(alloc, &FAILS)?)?;
     let mut before = 0;
     for (piece, held, faults) in PUTS {
-        let taken = takes(&mut sink, piece, before == faults, faults);
-        assert!(rt; taken && *sink.bytes() == *held.as_bytes());
+        let is_right = takes(&mut sink, piece) == (before == faults);
+        assert!(rt; is_right && sink.faults() == faults && *sink.bytes() == *held.as_bytes());
         before = faults;
     }
     Ok(())
 }
 
 #[test]
-fn sinks_that_are_sure_take_all(rt: HostRuntime) {
-    let mut held = HeldSink::new(rt.alloc());
-    let mut sure = SureSink::new();
-    for (piece, bytes, count) in [("abc", "abc", 3), ("", "abc", 3), ("d", "abcd", 4)] {
-        let taken = takes(&mut held, piece, true, 0) && takes(&mut sure, piece, true, 0);
-        assert!(rt; taken && *held.bytes() == *bytes.as_bytes() && sure.count() == count);
-    }
+fn devices_that_are_sure_give_and_take_all(rt: HostRuntime) -> Result<(), AllocError> {
+    let alloc = rt.alloc();
+    let mut shelf = SureShelf::new(Vec::from_slice(alloc, b"one")?);
+    let mut sink = SureSink::new();
+    let given = match shelf.fetch(alloc, "any name") {
+        Ok(text) => text.as_slice() == "one".as_bytes(),
+        Err(_) => false,
+    };
+    let taken = takes(&mut sink, "abc") && takes(&mut sink, "d");
+    assert!(rt; given && taken && sink.count() == 4);
+    Ok(())
 }
 
 // A test is run on empty input.
 #[test]
 fn standard_ports_are_asked(rt: HostRuntime) {
-    let asked = tells(&mut StdSource::new(rt.stdin()), 256, 0);
-    let put = takes(&mut StdSink::new(rt.stdout()), "a piece\n", true, 0);
-    let told = takes(&mut ErrSink::new(rt.stderr()), "a piece\n", true, 0);
+    let asked = next(&mut StdSource::new(rt.stdin())) == 256;
+    let put = takes(&mut StdSink::new(rt.stdout()), "a piece\n");
+    let told = takes(&mut ErrSink::new(rt.stderr()), "a piece\n");
     assert!(rt; asked && put && told);
     Quiet::new().begins(3);
 }
@@ -240,10 +159,10 @@ fn source_over_a_reader_fails_where_it_does(rt: HostRuntime) {
     for (halt, last, faults) in [(Ok(0), 256, 0), (Err(ErrorKind::BrokenPipe), 257, 2)] {
         let mut source = StreamSource::new(Halting { left: 2, halt });
         for byte in [97, 98, 97, 98] {
-            assert!(rt; tells(&mut source, byte, 0));
+            assert!(rt; next(&mut source) == byte);
         }
-        let ended = next(&mut source) == last;
-        assert!(rt; ended && tells(&mut source, last, faults));
+        let ended = next(&mut source) == last && next(&mut source) == last;
+        assert!(rt; ended && source.faults() == faults);
     }
 }
 
@@ -255,6 +174,7 @@ fn writing_fails_where_no_byte_is_taken(rt: HostRuntime) {
         (3, Err(ErrorKind::BrokenPipe), 1),
     ] {
         let mut sink = StreamSink::new(Halting { left, halt });
-        assert!(rt; takes(&mut sink, "abcd", faults == 0, faults));
+        let is_right = takes(&mut sink, "abcd") == (faults == 0);
+        assert!(rt; is_right && sink.faults() == faults);
     }
 }
