@@ -10,7 +10,7 @@ ghost use Rattle.run_parts.specs.Words.{nodes_of};
 
 use ada_typed::{Check, Class, Comparison, Expr, Link, Root, Selection, Sign};
 use run_parts::Work;
-use run_store::{Env, Object, Port, Store, between, bit, compares, is_in, is_true};
+use run_store::{Env, Object, Port, Store, between, bit, compares, is_in, is_true, operated, unary_result};
 
 /// How many levels of operands and selections are gone through before it is left to the walk. So a node is looked at a
 /// bounded number of times before the walk comes to it.
@@ -158,10 +158,7 @@ fn quick_variable<P: Port + Drop>(
         store,
     ) {
         None => None,
-        Some(offset) => match store.read(Object::Variable(part.object), offset) {
-            Ok(value) => Some(value),
-            Err(_) => None,
-        },
+        Some(offset) => store.cell(Object::Variable(part.object), offset),
     }
 }
 
@@ -189,10 +186,7 @@ fn quick_constant<P: Port + Drop>(
         store,
     ) {
         None => None,
-        Some(offset) => match store.read(Object::Constant(part.object), offset) {
-            Ok(value) => Some(value),
-            Err(_) => None,
-        },
+        Some(offset) => store.cell(Object::Constant(part.object), offset),
     }
 }
 
@@ -205,10 +199,7 @@ fn quick_target<P: Port + Drop>(
     ensures { Gives P.Tells (spec.target work.now calls (env_of env.now)) store.now result }
 {
     let part = env.target();
-    match store.read(Object::Variable(part.object), part.offset) {
-        Ok(value) => Some(value),
-        Err(_) => None,
-    }
+    store.cell(Object::Variable(part.object), part.offset)
 }
 
 #[cycle(quick)]
@@ -227,10 +218,10 @@ fn quick_unary<P: Port + Drop>(
 {
     match quick_operand(work, calls, levels, operand, env, store) {
         None => None,
-        Some(x) => match store.unary(sign, at, class, x) {
-            Ok(value) => Some(value),
-            Err(_) => None,
-        },
+        Some(x) => {
+            let _ = at;
+            unary_result(sign, class, x)
+        }
     }
 }
 
@@ -274,10 +265,10 @@ fn quick_operator<P: Port + Drop>(
             right,
         } => match quick_operand(work, calls, levels, right, env, store) {
             None => None,
-            Some(y) => match store.operate(op, at, class, x, y) {
-                Ok(value) => Some(value),
-                Err(_) => None,
-            },
+            Some(y) => {
+                let _ = at;
+                operated(op, class, x, y)
+            }
         },
         Link::AndThen { right } => {
             if is_true(x) {
@@ -367,7 +358,6 @@ fn quick_rest<P: Port + Drop>(
 /// How many cells of an object come before the part that selections lead to; None where an index has no quick value, or
 /// there are more selections than levels.
 #[cycle(quick)]
-#[tactic(auto, unfolding(ada_meaning::specs::Stored::bind, ada_meaning::specs::Stored::ret, crate::specs::Walk::eval, crate::specs::Walk::select))]
 pub fn quick_offset<P: Port + Drop>(
     work: &Work<'_>,
     calls: u32,
@@ -378,87 +368,85 @@ pub fn quick_offset<P: Port + Drop>(
     offset: u64,
     store: &Store<P>,
 ) -> Option<u64>
-    ensures { GivesAs (at_offset object) P.Tells (spec.select work.now calls (selections_at (nodes_of work.now) id) (env_of env.now) (at_offset object offset)) store.now result }
 {
-    match work.typed.nodes.selections(id) {
-        None => Some(offset),
-        Some(cell) => match levels.checked_sub(1) {
-            None => None,
-            Some(left) => match work.typed.nodes.selection(cell.first) {
-                Some(
-                    Selection::Index {
-                        at,
-                        index,
-                        low,
-                        high,
-                        stride,
-                    },
-                ) => quick_index(
-                    work, calls, left, at, index, low, high, stride, cell.rest, env, object,
-                    offset, store,
-                ),
-                Some(Selection::Field { offset: more, .. }) => {
-                    match offset.checked_add(u64::from(more)) {
-                        None => None,
-                        Some(inner) => quick_offset(
-                            work, calls, left, cell.rest, env, object, inner, store,
-                        ),
-                    }
-                }
-                None => None,
-            },
-        },
+    match levels.checked_sub(1) {
+        None => None,
+        Some(left) => quick_places(work, calls, left, id, env, object, offset, store),
     }
 }
 
 #[cycle(quick)]
-fn quick_index<P: Port + Drop>(
+#[inline(always)]
+fn quick_places<P: Port + Drop>(
     work: &Work<'_>,
     calls: u32,
     levels: u32,
-    at: u32,
-    index: u32,
-    low: i64,
-    high: i64,
-    stride: u32,
-    rest: u32,
+    id: u32,
     env: &Env<'_>,
     object: u32,
     offset: u64,
     store: &Store<P>,
 ) -> Option<u64>
-    ensures { GivesAs (at_offset object) P.Tells (spec.index work.now calls at (expr_at (nodes_of work.now) index) low high stride (selections_at (nodes_of work.now) rest) (env_of env.now) (at_offset object offset)) store.now result }
 {
-    let _ = at;
-    match quick_operand(work, calls, levels, index, env, store) {
-        None => None,
-        Some(i) => {
-            if between(low, i, high) {
-                match component_offset(offset, i, low, stride) {
-                    None => None,
+    let mut at = id;
+    let mut place = offset;
+    for _k in 0..LEVELS {
+        match work.typed.nodes.selections(at) {
+            None => return Some(place),
+            Some(cell) => {
+                match quick_selection(work, calls, levels, cell.first, env, object, place, store) {
+                    None => return None,
                     Some(inner) => {
-                        quick_rest(work, calls, levels, rest, env, object, inner, store)
+                        place = inner;
+                        at = cell.rest;
                     }
                 }
-            } else {
-                None
+            }
+        }
+    }
+    None
+}
+
+// where the part begins that one selection leads to
+#[cycle(quick)]
+#[inline(always)]
+fn quick_selection<P: Port + Drop>(
+    work: &Work<'_>,
+    calls: u32,
+    levels: u32,
+    id: u32,
+    env: &Env<'_>,
+    object: u32,
+    offset: u64,
+    store: &Store<P>,
+) -> Option<u64>
+{
+    match work.typed.nodes.selection(id) {
+        None => None,
+        Some(Selection::Field { offset: more, .. }) => offset.checked_add(u64::from(more)),
+        Some(Selection::Index { index, low, high, stride, .. }) => {
+            match quick_operand(work, calls, levels, index, env, store) {
+                None => None,
+                Some(i) => {
+                    if between(low, i, high) {
+                        component_offset(offset, i, low, stride)
+                    } else {
+                        None
+                    }
+                }
             }
         }
     }
 }
 
 /// Where the component of an index begins, in 64 bits.
+#[inline(always)]
 fn component_offset(offset: u64, index: i64, low: i64, stride: u32) -> Option<u64>
+    requires { low ≤ index }
     ensures { IfSome result (λ inner. inner ≡ offset + to_nat (index -ℤ low) * stride) }
 {
-    match index.checked_sub(low) {
+    match index.abs_diff(low).checked_mul(u64::from(stride)) {
         None => None,
-        Some(place) => match u64::try_from(place) {
-            Err(_) => None,
-            Ok(place) => match place.checked_mul(u64::from(stride)) {
-                None => None,
-                Some(count) => offset.checked_add(count),
-            },
-        },
+        Some(count) => offset.checked_add(count),
     }
 }

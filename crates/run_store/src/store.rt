@@ -172,6 +172,22 @@ impl<P: Port + Drop> Store<P> {
         }
     }
 
+    /// A cell of an object, where it has one.
+    pub fn cell(&self, object: Object, offset: u64) -> Option<i64> {
+        let key = object.key();
+        let here = slot_at(&self.here, key);
+        if here.frame == self.frame {
+            found_cell(&self.cells, here, offset)
+        } else {
+            let everywhere = slot_at(&self.everywhere, key);
+            if everywhere.frame == 1 {
+                found_cell(&self.kept, everywhere, offset)
+            } else {
+                None
+            }
+        }
+    }
+
     /// A cell of a variable gets a value.
     #[tactic(auto, unfolding(ada_meaning::specs::Stored::writes))]
     pub fn write(&mut self, number: u32, offset: u64, value: i64) -> Result<(), End>
@@ -365,6 +381,17 @@ fn declare(declared: &mut Items<Variable>, object: Object, slot: Slot) -> Result
                 Err(_) => Err(End::NoMemory),
             }
         }
+    }
+}
+
+fn found_cell(cells: &Items<i64>, slot: Slot, offset: u64) -> Option<i64> {
+    if offset < slot.cells {
+        match slot.address.checked_add(offset) {
+            None => None,
+            Some(address) => cells.get(address as usize).copied(),
+        }
+    } else {
+        None
     }
 }
 

@@ -143,6 +143,24 @@ fn in_base(base: Base, op: Op, x: i64, y: i64) -> Option<i64>
     }
 }
 
+/// The result of an operator (4.5), where all its checks hold.
+pub fn operated(op: Op, class: Class, x: i64, y: i64) -> Option<i64> {
+    if divides(op) && !is_true(y) {
+        None
+    } else {
+        result_of(op, class, x, y)
+    }
+}
+
+/// The result of a unary operator (4.5.4, 4.5.6), where its check holds.
+pub fn unary_result(sign: Sign, class: Class, value: i64) -> Option<i64> {
+    match sign {
+        Sign::Not => 1_i64.checked_sub(value),
+        Sign::Minus => negated(base_of(class), value),
+        Sign::Abs => magnitude(base_of(class), value),
+    }
+}
+
 impl<P: Port + Drop> Store<P> {
     /// An operator on two values, with its checks (4.5).
     #[tactic(auto, unfolding(ada_meaning::specs::Stored::bind, ada_meaning::specs::Stored::ret, ada_meaning::specs::Stored::leaves))]
