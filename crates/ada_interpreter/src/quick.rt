@@ -1,19 +1,22 @@
 //! Values of expressions and places of names that need no call: they are found without a change of the state.
 
-ghost use Rattle.std.specs.Prelude.{◌≡◌, ◌<◌, ◌+◌, ◌*◌, ◌-ℤ◌, IfSome};
-ghost use Rattle.ada_typed.specs.Decoded.{expr_at, selections_at};
+ghost use Rattle.std.specs.Prelude.{◌≡◌, ◌<◌, ◌≤ℤ◌, ◌+◌, ◌*◌, ◌-ℤ◌, ℕ, IfSome};
+ghost use Rattle.ada_typed.specs.Decoded.{as_selection, expr_at, part_at, selections_at};
+ghost use Rattle.ada_typed.specs.Syntax.{Selections};
 ghost use Rattle.ada_meaning.specs.Values.{to_nat};
 ghost use Rattle.run_store.specs.Environment.{env_of};
-ghost use Rattle.ada_interpreter.specs.Quick.{Gives, GivesAs, at_offset};
+ghost use Rattle.ada_interpreter.specs.Quick.{Gives, GivesAs, SameAs, at_offset};
 ghost use Rattle.ada_interpreter.specs.Walk as spec;
 ghost use Rattle.run_parts.specs.Words.{nodes_of};
 
 use ada_typed::{Check, Class, Comparison, Expr, Link, Root, Selection, Sign};
 use run_parts::Work;
-use run_store::{Env, Object, Port, Store, between, bit, compares, is_in, is_true, operated, unary_result};
+use run_store::{
+    Env, Object, Port, Store, between, bit, compares, is_in, is_true, operated, unary_result,
+};
 
-/// How many levels of operands and selections are gone through before it is left to the walk. So a node is looked at a
-/// bounded number of times before the walk comes to it.
+/// How many levels of operands, and how many selections of a name, are gone through before it is left to the walk. So a
+/// node is looked at a bounded number of times before the walk comes to it.
 pub const LEVELS: u32 = 12;
 
 /// The value of an expression; None where it calls, reduces, is nested deeper than so many levels, or has no value.
@@ -47,11 +50,11 @@ pub fn quick<P: Port + Drop>(
             Expr::Target { .. } => quick_target(work, calls, env, store),
             Expr::Group { inside } => quick(work, calls, left, inside, env, store),
             Expr::Unary {
-                at,
                 sign,
                 class,
                 operand,
-            } => quick_unary(work, calls, left, at, sign, class, operand, env, store),
+                ..
+            } => quick_unary(work, calls, left, sign, class, operand, env, store),
             Expr::Binary {
                 at,
                 op,
@@ -207,21 +210,17 @@ fn quick_unary<P: Port + Drop>(
     work: &Work<'_>,
     calls: u32,
     levels: u32,
-    at: u32,
     sign: Sign,
     class: Class,
     operand: u32,
     env: &Env<'_>,
     store: &Store<P>,
 ) -> Option<i64>
-    ensures { Gives P.Tells (spec.unary_of work.now calls sign at class (expr_at (nodes_of work.now) operand) (env_of env.now)) store.now result }
+    ensures { (at : ℕ) → Gives P.Tells (spec.unary_of work.now calls sign at class (expr_at (nodes_of work.now) operand) (env_of env.now)) store.now result }
 {
     match quick_operand(work, calls, levels, operand, env, store) {
         None => None,
-        Some(x) => {
-            let _ = at;
-            unary_result(sign, class, x)
-        }
+        Some(x) => unary_result(sign, class, x),
     }
 }
 
@@ -259,16 +258,13 @@ fn quick_operator<P: Port + Drop>(
 {
     match link {
         Link::Operator {
-            at,
             op,
             class,
             right,
+            ..
         } => match quick_operand(work, calls, levels, right, env, store) {
             None => None,
-            Some(y) => {
-                let _ = at;
-                operated(op, class, x, y)
-            }
+            Some(y) => operated(op, class, x, y),
         },
         Link::AndThen { right } => {
             if is_true(x) {
@@ -355,8 +351,8 @@ fn quick_rest<P: Port + Drop>(
     }
 }
 
-/// How many cells of an object come before the part that selections lead to; None where an index has no quick value, or
-/// there are more selections than levels.
+/// How many cells of an object come before the part that selections lead to; None where an index has no quick value, no
+/// level is left, or there are `LEVELS` selections or more.
 #[cycle(quick)]
 pub fn quick_offset<P: Port + Drop>(
     work: &Work<'_>,
@@ -368,6 +364,7 @@ pub fn quick_offset<P: Port + Drop>(
     offset: u64,
     store: &Store<P>,
 ) -> Option<u64>
+    ensures { GivesAs (at_offset object) P.Tells (spec.select work.now calls (selections_at (nodes_of work.now) id) (env_of env.now) (at_offset object offset)) store.now result }
 {
     match levels.checked_sub(1) {
         None => None,
@@ -387,6 +384,7 @@ fn quick_places<P: Port + Drop>(
     offset: u64,
     store: &Store<P>,
 ) -> Option<u64>
+    ensures { GivesAs (at_offset object) P.Tells (spec.select work.now calls (selections_at (nodes_of work.now) id) (env_of env.now) (at_offset object offset)) store.now result }
 {
     let mut at = id;
     let mut place = offset;
@@ -410,6 +408,7 @@ fn quick_places<P: Port + Drop>(
 // where the part begins that one selection leads to
 #[cycle(quick)]
 #[inline(always)]
+#[tactic(auto, unfolding(ada_meaning::specs::Stored::bind, ada_meaning::specs::Stored::ret, crate::specs::Walk::eval, crate::specs::Walk::select))]
 fn quick_selection<P: Port + Drop>(
     work: &Work<'_>,
     calls: u32,
@@ -420,11 +419,20 @@ fn quick_selection<P: Port + Drop>(
     offset: u64,
     store: &Store<P>,
 ) -> Option<u64>
+    ensures { IfSome result (λ inner. (rest : Selections) → SameAs P.Tells (spec.select work.now calls (as_selection (part_at (nodes_of work.now) id) rest) (env_of env.now) (at_offset object offset)) (spec.select work.now calls rest (env_of env.now) (at_offset object inner)) store.now) }
 {
     match work.typed.nodes.selection(id) {
         None => None,
         Some(Selection::Field { offset: more, .. }) => offset.checked_add(u64::from(more)),
-        Some(Selection::Index { index, low, high, stride, .. }) => {
+        Some(
+            Selection::Index {
+                index,
+                low,
+                high,
+                stride,
+                ..
+            },
+        ) => {
             match quick_operand(work, calls, levels, index, env, store) {
                 None => None,
                 Some(i) => {
@@ -442,7 +450,7 @@ fn quick_selection<P: Port + Drop>(
 /// Where the component of an index begins, in 64 bits.
 #[inline(always)]
 fn component_offset(offset: u64, index: i64, low: i64, stride: u32) -> Option<u64>
-    requires { low ≤ index }
+    requires { low ≤ℤ index }
     ensures { IfSome result (λ inner. inner ≡ offset + to_nat (index -ℤ low) * stride) }
 {
     match index.abs_diff(low).checked_mul(u64::from(stride)) {
