@@ -118,10 +118,100 @@ fn quick_leaf<P: Port + Drop>(
     }
 }
 
-/// The value of an operand or an index, as `quick` has it.
+/// What `quick_leaf` gives, or the value of an object that is a scalar as a whole. It calls nothing of the cycle either.
+#[inline(always)]
+#[tactic(auto, unfolding(ada_meaning::specs::Stored::bind, ada_meaning::specs::Stored::ret, crate::specs::Walk::eval, crate::specs::Walk::select))]
+fn quick_simple<P: Port + Drop>(
+    work: &Work<'_>,
+    calls: u32,
+    id: u32,
+    env: &Env<'_>,
+    store: &Store<P>,
+) -> Option<i64>
+    ensures { Gives P.Tells (spec.eval work.now calls (expr_at (nodes_of work.now) id) (env_of env.now)) store.now result }
+{
+    match work.typed.nodes.expr(id) {
+        Expr::Variable {
+            root,
+            selections,
+            ..
+        } => scalar_variable(work, calls, root, selections, env, store),
+        Expr::Constant {
+            root,
+            selections,
+            ..
+        } => scalar_constant(work, calls, root, selections, env, store),
+        _ => quick_leaf(work, calls, id, env, store),
+    }
+}
+
+// the value of a variable that is a scalar as a whole
+#[inline(always)]
+#[tactic(auto, unfolding(ada_meaning::specs::Stored::bind, ada_meaning::specs::Stored::ret, crate::specs::Walk::eval, crate::specs::Walk::select))]
+fn scalar_variable<P: Port + Drop>(
+    work: &Work<'_>,
+    calls: u32,
+    root: Root,
+    selections: u32,
+    env: &Env<'_>,
+    store: &Store<P>,
+) -> Option<i64>
+    ensures { Gives P.Tells (spec.variable work.now calls root (selections_at (nodes_of work.now) selections) (env_of env.now)) store.now result }
+{
+    match work.typed.nodes.selections(selections) {
+        Some(_) => None,
+        None => {
+            let part = env.variable_root(root);
+            store.cell(Object::Variable(part.object), part.offset)
+        }
+    }
+}
+
+// the value of a constant that is a scalar as a whole
+#[inline(always)]
+#[tactic(auto, unfolding(ada_meaning::specs::Stored::bind, ada_meaning::specs::Stored::ret, crate::specs::Walk::eval, crate::specs::Walk::select))]
+fn scalar_constant<P: Port + Drop>(
+    work: &Work<'_>,
+    calls: u32,
+    root: Root,
+    selections: u32,
+    env: &Env<'_>,
+    store: &Store<P>,
+) -> Option<i64>
+    ensures { Gives P.Tells (spec.constant work.now calls root (selections_at (nodes_of work.now) selections) (env_of env.now)) store.now result }
+{
+    match work.typed.nodes.selections(selections) {
+        Some(_) => None,
+        None => {
+            let part = env.constant_root(root);
+            store.cell(Object::Constant(part.object), part.offset)
+        }
+    }
+}
+
+/// The value of an operand, as `quick` has it.
 #[cycle(quick)]
 #[inline(always)]
 fn quick_operand<P: Port + Drop>(
+    work: &Work<'_>,
+    calls: u32,
+    levels: u32,
+    id: u32,
+    env: &Env<'_>,
+    store: &Store<P>,
+) -> Option<i64>
+    ensures { Gives P.Tells (spec.eval work.now calls (expr_at (nodes_of work.now) id) (env_of env.now)) store.now result }
+{
+    match quick_simple(work, calls, id, env, store) {
+        Some(value) => Some(value),
+        None => quick(work, calls, levels, id, env, store),
+    }
+}
+
+/// The value of an index, as `quick` has it. It is seldom an object as a whole.
+#[cycle(quick)]
+#[inline(always)]
+fn quick_at_index<P: Port + Drop>(
     work: &Work<'_>,
     calls: u32,
     levels: u32,
@@ -333,7 +423,7 @@ fn quick_converted<P: Port + Drop>(
 #[cycle(quick)]
 #[inline(always)]
 #[tactic(auto, unfolding(ada_meaning::specs::Stored::bind, ada_meaning::specs::Stored::ret, crate::specs::Walk::eval, crate::specs::Walk::select))]
-fn quick_rest<P: Port + Drop>(
+pub fn quick_rest<P: Port + Drop>(
     work: &Work<'_>,
     calls: u32,
     levels: u32,
@@ -433,7 +523,7 @@ fn quick_selection<P: Port + Drop>(
                 ..
             },
         ) => {
-            match quick_operand(work, calls, levels, index, env, store) {
+            match quick_at_index(work, calls, levels, index, env, store) {
                 None => None,
                 Some(i) => {
                     if between(low, i, high) {

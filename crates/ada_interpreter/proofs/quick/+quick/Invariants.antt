@@ -17,6 +17,9 @@ decreases-quick_offset g l = 8 * l.levels + 1
 abbrev pub decreases-quick_operand : goal.decreases-quick_operand
 decreases-quick_operand g l = 8 * l.levels + 1
 
+abbrev pub decreases-quick_at_index : goal.decreases-quick_at_index
+decreases-quick_at_index g l = 8 * l.levels + 1
+
 abbrev pub decreases-quick_rest : goal.decreases-quick_rest
 decreases-quick_rest g l = 8 * l.levels + 2
 
