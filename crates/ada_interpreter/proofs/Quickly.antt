@@ -1,18 +1,23 @@
--- Selections, as the functions that find what they lead to.
-use Rattle.std.proofs.Common.{◌≡◌, List, ℕ, ℤ, Option, sym, subst}
-use Rattle.ada_typed.specs.Syntax.{Expr, Selections, Index}
+-- Expressions and selections, as the functions that find what they give and lead to.
+use Rattle.std.proofs.Common.{◌≡◌, List, ℕ, ℤ, Option, Some, sym, subst}
+use Rattle.ada_typed.specs.declared.expressions.Sign.{Sign}
+use Rattle.ada_typed.specs.declared.scalars.Class.{Class}
+use Rattle.ada_typed.specs.Syntax.{Expr, Unary, Selections, Whole}
 use Rattle.ada_meaning.specs.Meaning as meaning
 use Rattle.ada_meaning.specs.Meaning.{Env}
+use Rattle.ada_meaning.specs.Stored.{Stored, bind, ret}
 use Rattle.run_store.specs.Outside.{Outside}
-use Rattle.run_store.specs.Shows.{Image}
+use Rattle.run_store.specs.Shows.{Image, facing}
 use Rattle.run_parts.specs.declared.work.Work.{Work}
 use Rattle.ada_interpreter.specs.Walk as walk
-use Rattle.ada_interpreter.specs.Quick.{GivesAs}
+use Rattle.ada_interpreter.specs.Quick.{Gives, GivesAs, SameAs}
 
-module _ (Tells : List ℕ → Outside → Type 0) {C : Type 0} (f : C → meaning.Part) (w : Work) (d : ℕ) (env : Env) (s : Image) where
-  pub index_quick : (at : ℕ) (e : Expr) (low high a b : ℤ) (stride : ℕ) (rest ss : Selections) (p : meaning.Part) (r : Option C) → GivesAs f Tells (walk.index w d at e a b stride rest env p) s r → a ≡ low → b ≡ high → ss ≡ Index at e low high stride rest → GivesAs f Tells (walk.select w d ss env p) s r
-  unfolding walk.eval walk.select
-  index_quick at e low high a b stride rest ss p r h k l is =
-      subst (λ z. GivesAs f Tells (walk.select w d z env p) s r) (sym is)
-      (subst (λ z. GivesAs f Tells (walk.index w d at e z high stride rest env p) s r) k
-      (subst (λ z. GivesAs f Tells (walk.index w d at e a z stride rest env p) s r) l h))
+module _ (Tells : List ℕ → Outside → Type 0) (w : Work) (d : ℕ) (env : Env) (s : Image) where
+  pub unary_quick : (at : ℕ) (sign : Sign) (class : Class) (operand e : Expr) (r : Option ℤ) → Gives Tells (walk.unary_of w d sign at class operand env) s r → e ≡ Unary at sign class operand → Gives Tells (walk.eval w d e env) s r
+  unfolding bind ret walk.eval
+  unary_quick at sign class operand e r h is = subst (λ z. Gives Tells (walk.eval w d z env) s r) (sym is) h
+
+  -- no selection is left
+  pub places_end : {C : Type 0} (f : C → meaning.Part) (whole : Stored meaning.Part) (ss : Selections) (c : C) → SameAs Tells whole (walk.select w d ss env (f c)) s → ss ≡ Whole → GivesAs f Tells whole s (Some c)
+  unfolding ret walk.select
+  places_end f whole ss c h is = λ x told. subst (λ z. whole.does (facing x s.state) ≡ (walk.select w d z env (f c)).does (facing x s.state)) is (h x told)

@@ -10,7 +10,7 @@ ghost use Rattle.ada_interpreter.specs.Walk as spec;
 ghost use Rattle.run_parts.specs.Words.{nodes_of};
 
 use crate::exprs::eval;
-use crate::quick::{LEVELS, quick_offset};
+use crate::quick::{LEVELS, quick_rest};
 use ada_base::Reason;
 use ada_typed::Selection;
 use run_parts::{Work, component, moved};
@@ -28,7 +28,7 @@ pub fn select<P: Port + Drop>(
 ) -> Result<Part, End>
     ensures { ShowsAs part_of P.Tells (spec.select work.now calls (selections_at (nodes_of work.now) id) (env_of env.now) (part_of part)) result store.old store.new }
 {
-    match quick_offset(
+    match quick_rest(
         work,
         calls,
         LEVELS,

@@ -1,19 +1,22 @@
 //! Values of expressions and places of names that need no call: they are found without a change of the state.
 
-ghost use Rattle.std.specs.Prelude.{◌≡◌, ◌<◌, ◌+◌, ◌*◌, ◌-ℤ◌, IfSome};
-ghost use Rattle.ada_typed.specs.Decoded.{expr_at, selections_at};
+ghost use Rattle.std.specs.Prelude.{◌≡◌, ◌<◌, ◌≤ℤ◌, ◌+◌, ◌*◌, ◌-ℤ◌, ℕ, IfSome};
+ghost use Rattle.ada_typed.specs.Decoded.{as_selection, expr_at, part_at, selections_at};
+ghost use Rattle.ada_typed.specs.Syntax.{Selections};
 ghost use Rattle.ada_meaning.specs.Values.{to_nat};
 ghost use Rattle.run_store.specs.Environment.{env_of};
-ghost use Rattle.ada_interpreter.specs.Quick.{Gives, GivesAs, at_offset};
+ghost use Rattle.ada_interpreter.specs.Quick.{Gives, GivesAs, SameAs, at_offset};
 ghost use Rattle.ada_interpreter.specs.Walk as spec;
 ghost use Rattle.run_parts.specs.Words.{nodes_of};
 
 use ada_typed::{Check, Class, Comparison, Expr, Link, Root, Selection, Sign};
 use run_parts::Work;
-use run_store::{Env, Object, Port, Store, between, bit, compares, is_in, is_true};
+use run_store::{
+    Env, Object, Port, Store, between, bit, compares, is_in, is_true, operated, unary_result,
+};
 
-/// How many levels of operands and selections are gone through before it is left to the walk. So a node is looked at a
-/// bounded number of times before the walk comes to it.
+/// How many levels of operands, and how many selections of a name, are gone through before it is left to the walk. So a
+/// node is looked at a bounded number of times before the walk comes to it.
 pub const LEVELS: u32 = 12;
 
 /// The value of an expression; None where it calls, reduces, is nested deeper than so many levels, or has no value.
@@ -47,11 +50,11 @@ pub fn quick<P: Port + Drop>(
             Expr::Target { .. } => quick_target(work, calls, env, store),
             Expr::Group { inside } => quick(work, calls, left, inside, env, store),
             Expr::Unary {
-                at,
                 sign,
                 class,
                 operand,
-            } => quick_unary(work, calls, left, at, sign, class, operand, env, store),
+                ..
+            } => quick_unary(work, calls, left, sign, class, operand, env, store),
             Expr::Binary {
                 at,
                 op,
@@ -115,10 +118,100 @@ fn quick_leaf<P: Port + Drop>(
     }
 }
 
-/// The value of an operand or an index, as `quick` has it.
+/// What `quick_leaf` gives, or the value of an object that is a scalar as a whole. It calls nothing of the cycle either.
+#[inline(always)]
+#[tactic(auto, unfolding(ada_meaning::specs::Stored::bind, ada_meaning::specs::Stored::ret, crate::specs::Walk::eval, crate::specs::Walk::select))]
+fn quick_simple<P: Port + Drop>(
+    work: &Work<'_>,
+    calls: u32,
+    id: u32,
+    env: &Env<'_>,
+    store: &Store<P>,
+) -> Option<i64>
+    ensures { Gives P.Tells (spec.eval work.now calls (expr_at (nodes_of work.now) id) (env_of env.now)) store.now result }
+{
+    match work.typed.nodes.expr(id) {
+        Expr::Variable {
+            root,
+            selections,
+            ..
+        } => scalar_variable(work, calls, root, selections, env, store),
+        Expr::Constant {
+            root,
+            selections,
+            ..
+        } => scalar_constant(work, calls, root, selections, env, store),
+        _ => quick_leaf(work, calls, id, env, store),
+    }
+}
+
+// the value of a variable that is a scalar as a whole
+#[inline(always)]
+#[tactic(auto, unfolding(ada_meaning::specs::Stored::bind, ada_meaning::specs::Stored::ret, crate::specs::Walk::eval, crate::specs::Walk::select))]
+fn scalar_variable<P: Port + Drop>(
+    work: &Work<'_>,
+    calls: u32,
+    root: Root,
+    selections: u32,
+    env: &Env<'_>,
+    store: &Store<P>,
+) -> Option<i64>
+    ensures { Gives P.Tells (spec.variable work.now calls root (selections_at (nodes_of work.now) selections) (env_of env.now)) store.now result }
+{
+    match work.typed.nodes.selections(selections) {
+        Some(_) => None,
+        None => {
+            let part = env.variable_root(root);
+            store.cell(Object::Variable(part.object), part.offset)
+        }
+    }
+}
+
+// the value of a constant that is a scalar as a whole
+#[inline(always)]
+#[tactic(auto, unfolding(ada_meaning::specs::Stored::bind, ada_meaning::specs::Stored::ret, crate::specs::Walk::eval, crate::specs::Walk::select))]
+fn scalar_constant<P: Port + Drop>(
+    work: &Work<'_>,
+    calls: u32,
+    root: Root,
+    selections: u32,
+    env: &Env<'_>,
+    store: &Store<P>,
+) -> Option<i64>
+    ensures { Gives P.Tells (spec.constant work.now calls root (selections_at (nodes_of work.now) selections) (env_of env.now)) store.now result }
+{
+    match work.typed.nodes.selections(selections) {
+        Some(_) => None,
+        None => {
+            let part = env.constant_root(root);
+            store.cell(Object::Constant(part.object), part.offset)
+        }
+    }
+}
+
+/// The value of an operand, as `quick` has it.
 #[cycle(quick)]
 #[inline(always)]
 fn quick_operand<P: Port + Drop>(
+    work: &Work<'_>,
+    calls: u32,
+    levels: u32,
+    id: u32,
+    env: &Env<'_>,
+    store: &Store<P>,
+) -> Option<i64>
+    ensures { Gives P.Tells (spec.eval work.now calls (expr_at (nodes_of work.now) id) (env_of env.now)) store.now result }
+{
+    match quick_simple(work, calls, id, env, store) {
+        Some(value) => Some(value),
+        None => quick(work, calls, levels, id, env, store),
+    }
+}
+
+/// The value of an index, as `quick` has it. It is seldom an object as a whole.
+#[cycle(quick)]
+#[inline(always)]
+fn quick_at_index<P: Port + Drop>(
     work: &Work<'_>,
     calls: u32,
     levels: u32,
@@ -158,10 +251,7 @@ fn quick_variable<P: Port + Drop>(
         store,
     ) {
         None => None,
-        Some(offset) => match store.read(Object::Variable(part.object), offset) {
-            Ok(value) => Some(value),
-            Err(_) => None,
-        },
+        Some(offset) => store.cell(Object::Variable(part.object), offset),
     }
 }
 
@@ -189,10 +279,7 @@ fn quick_constant<P: Port + Drop>(
         store,
     ) {
         None => None,
-        Some(offset) => match store.read(Object::Constant(part.object), offset) {
-            Ok(value) => Some(value),
-            Err(_) => None,
-        },
+        Some(offset) => store.cell(Object::Constant(part.object), offset),
     }
 }
 
@@ -205,10 +292,7 @@ fn quick_target<P: Port + Drop>(
     ensures { Gives P.Tells (spec.target work.now calls (env_of env.now)) store.now result }
 {
     let part = env.target();
-    match store.read(Object::Variable(part.object), part.offset) {
-        Ok(value) => Some(value),
-        Err(_) => None,
-    }
+    store.cell(Object::Variable(part.object), part.offset)
 }
 
 #[cycle(quick)]
@@ -216,21 +300,17 @@ fn quick_unary<P: Port + Drop>(
     work: &Work<'_>,
     calls: u32,
     levels: u32,
-    at: u32,
     sign: Sign,
     class: Class,
     operand: u32,
     env: &Env<'_>,
     store: &Store<P>,
 ) -> Option<i64>
-    ensures { Gives P.Tells (spec.unary_of work.now calls sign at class (expr_at (nodes_of work.now) operand) (env_of env.now)) store.now result }
+    ensures { (at : ℕ) → Gives P.Tells (spec.unary_of work.now calls sign at class (expr_at (nodes_of work.now) operand) (env_of env.now)) store.now result }
 {
     match quick_operand(work, calls, levels, operand, env, store) {
         None => None,
-        Some(x) => match store.unary(sign, at, class, x) {
-            Ok(value) => Some(value),
-            Err(_) => None,
-        },
+        Some(x) => unary_result(sign, class, x),
     }
 }
 
@@ -268,16 +348,13 @@ fn quick_operator<P: Port + Drop>(
 {
     match link {
         Link::Operator {
-            at,
             op,
             class,
             right,
+            ..
         } => match quick_operand(work, calls, levels, right, env, store) {
             None => None,
-            Some(y) => match store.operate(op, at, class, x, y) {
-                Ok(value) => Some(value),
-                Err(_) => None,
-            },
+            Some(y) => operated(op, class, x, y),
         },
         Link::AndThen { right } => {
             if is_true(x) {
@@ -346,7 +423,7 @@ fn quick_converted<P: Port + Drop>(
 #[cycle(quick)]
 #[inline(always)]
 #[tactic(auto, unfolding(ada_meaning::specs::Stored::bind, ada_meaning::specs::Stored::ret, crate::specs::Walk::eval, crate::specs::Walk::select))]
-fn quick_rest<P: Port + Drop>(
+pub fn quick_rest<P: Port + Drop>(
     work: &Work<'_>,
     calls: u32,
     levels: u32,
@@ -364,10 +441,9 @@ fn quick_rest<P: Port + Drop>(
     }
 }
 
-/// How many cells of an object come before the part that selections lead to; None where an index has no quick value, or
-/// there are more selections than levels.
+/// How many cells of an object come before the part that selections lead to; None where an index has no quick value, no
+/// level is left, or there are `LEVELS` selections or more.
 #[cycle(quick)]
-#[tactic(auto, unfolding(ada_meaning::specs::Stored::bind, ada_meaning::specs::Stored::ret, crate::specs::Walk::eval, crate::specs::Walk::select))]
 pub fn quick_offset<P: Port + Drop>(
     work: &Work<'_>,
     calls: u32,
@@ -380,85 +456,95 @@ pub fn quick_offset<P: Port + Drop>(
 ) -> Option<u64>
     ensures { GivesAs (at_offset object) P.Tells (spec.select work.now calls (selections_at (nodes_of work.now) id) (env_of env.now) (at_offset object offset)) store.now result }
 {
-    match work.typed.nodes.selections(id) {
-        None => Some(offset),
-        Some(cell) => match levels.checked_sub(1) {
-            None => None,
-            Some(left) => match work.typed.nodes.selection(cell.first) {
-                Some(
-                    Selection::Index {
-                        at,
-                        index,
-                        low,
-                        high,
-                        stride,
-                    },
-                ) => quick_index(
-                    work, calls, left, at, index, low, high, stride, cell.rest, env, object,
-                    offset, store,
-                ),
-                Some(Selection::Field { offset: more, .. }) => {
-                    match offset.checked_add(u64::from(more)) {
-                        None => None,
-                        Some(inner) => quick_offset(
-                            work, calls, left, cell.rest, env, object, inner, store,
-                        ),
-                    }
-                }
-                None => None,
-            },
-        },
+    match levels.checked_sub(1) {
+        None => None,
+        Some(left) => quick_places(work, calls, left, id, env, object, offset, store),
     }
 }
 
 #[cycle(quick)]
-fn quick_index<P: Port + Drop>(
+#[inline(always)]
+fn quick_places<P: Port + Drop>(
     work: &Work<'_>,
     calls: u32,
     levels: u32,
-    at: u32,
-    index: u32,
-    low: i64,
-    high: i64,
-    stride: u32,
-    rest: u32,
+    id: u32,
     env: &Env<'_>,
     object: u32,
     offset: u64,
     store: &Store<P>,
 ) -> Option<u64>
-    ensures { GivesAs (at_offset object) P.Tells (spec.index work.now calls at (expr_at (nodes_of work.now) index) low high stride (selections_at (nodes_of work.now) rest) (env_of env.now) (at_offset object offset)) store.now result }
+    ensures { GivesAs (at_offset object) P.Tells (spec.select work.now calls (selections_at (nodes_of work.now) id) (env_of env.now) (at_offset object offset)) store.now result }
 {
-    let _ = at;
-    match quick_operand(work, calls, levels, index, env, store) {
-        None => None,
-        Some(i) => {
-            if between(low, i, high) {
-                match component_offset(offset, i, low, stride) {
-                    None => None,
+    let mut at = id;
+    let mut place = offset;
+    for _k in 0..LEVELS {
+        match work.typed.nodes.selections(at) {
+            None => return Some(place),
+            Some(cell) => {
+                match quick_selection(work, calls, levels, cell.first, env, object, place, store) {
+                    None => return None,
                     Some(inner) => {
-                        quick_rest(work, calls, levels, rest, env, object, inner, store)
+                        place = inner;
+                        at = cell.rest;
                     }
                 }
-            } else {
-                None
+            }
+        }
+    }
+    None
+}
+
+// where the part begins that one selection leads to
+#[cycle(quick)]
+#[inline(always)]
+#[tactic(auto, unfolding(ada_meaning::specs::Stored::bind, ada_meaning::specs::Stored::ret, crate::specs::Walk::eval, crate::specs::Walk::select))]
+fn quick_selection<P: Port + Drop>(
+    work: &Work<'_>,
+    calls: u32,
+    levels: u32,
+    id: u32,
+    env: &Env<'_>,
+    object: u32,
+    offset: u64,
+    store: &Store<P>,
+) -> Option<u64>
+    ensures { IfSome result (λ inner. (rest : Selections) → SameAs P.Tells (spec.select work.now calls (as_selection (part_at (nodes_of work.now) id) rest) (env_of env.now) (at_offset object offset)) (spec.select work.now calls rest (env_of env.now) (at_offset object inner)) store.now) }
+{
+    match work.typed.nodes.selection(id) {
+        None => None,
+        Some(Selection::Field { offset: more, .. }) => offset.checked_add(u64::from(more)),
+        Some(
+            Selection::Index {
+                index,
+                low,
+                high,
+                stride,
+                ..
+            },
+        ) => {
+            match quick_at_index(work, calls, levels, index, env, store) {
+                None => None,
+                Some(i) => {
+                    if between(low, i, high) {
+                        component_offset(offset, i, low, stride)
+                    } else {
+                        None
+                    }
+                }
             }
         }
     }
 }
 
 /// Where the component of an index begins, in 64 bits.
+#[inline(always)]
 fn component_offset(offset: u64, index: i64, low: i64, stride: u32) -> Option<u64>
+    requires { low ≤ℤ index }
     ensures { IfSome result (λ inner. inner ≡ offset + to_nat (index -ℤ low) * stride) }
 {
-    match index.checked_sub(low) {
+    match index.abs_diff(low).checked_mul(u64::from(stride)) {
         None => None,
-        Some(place) => match u64::try_from(place) {
-            Err(_) => None,
-            Ok(place) => match place.checked_mul(u64::from(stride)) {
-                None => None,
-                Some(count) => offset.checked_add(count),
-            },
-        },
+        Some(count) => offset.checked_add(count),
     }
 }

@@ -24,7 +24,7 @@ use run_store::{End, Env, Leave, Port, Region, Store, is_true};
 
 /// A statement.
 #[cycle(walk)]
-#[inline(never)]
+#[inline(always)]
 #[tactic(auto, unfolding(ada_meaning::specs::Stored::bind, ada_meaning::specs::Stored::ret, ada_meaning::specs::Stored::leaves, ada_meaning::specs::Stored::spent, ada_meaning::specs::Stored::handles, crate::specs::Walk::exec, crate::specs::Walk::exec_all, crate::specs::Walk::eval, crate::specs::Walk::select, crate::specs::Walk::cells, crate::specs::Walk::holds, crate::specs::Walk::pass, crate::specs::Walk::course, crate::specs::Walk::exec_chosen, run_parts::specs::Words::write_all, run_parts::specs::Words::all_copied_back, crate::specs::Walk::written, crate::specs::Walk::while_loop, crate::specs::Walk::for_loop, crate::specs::Walk::block, crate::specs::Walk::exec_handler, crate::specs::Walk::filtered, crate::specs::Walk::chunking, crate::specs::Walk::threads_of, crate::specs::Walk::exec_arm))]
 pub fn exec<P: Port + Drop>(
     work: &Work<'_>,

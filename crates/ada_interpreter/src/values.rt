@@ -379,7 +379,7 @@ fn given<P: Port + Drop>(
 
 /// A part of a variable gets what is stored there (5.2).
 #[cycle(walk)]
-#[inline(never)]
+#[inline(always)]
 #[tactic(auto, unfolding(ada_meaning::specs::Stored::bind, ada_meaning::specs::Stored::ret, ada_meaning::specs::Stored::leaves, ada_meaning::specs::Stored::spent, ada_meaning::specs::Stored::handles, crate::specs::Walk::cells, crate::specs::Walk::composite, crate::specs::Walk::eval, run_parts::specs::Words::write_all))]
 fn assigned<P: Port + Drop>(
     work: &Work<'_>,

@@ -9,8 +9,8 @@ part_of p = record { object = p.object; offset = p.offset }
 
 abbrev pub env_of : Env → meaning.Env
 env_of (Outset n) = meaning.outset n
-env_of (Parameter' k v p outer) = with_parameter k v (env_of outer)
-env_of (Item' constant k part p outer) = with_item constant k (part_of part) (env_of outer)
-env_of (Target' part p outer) = with_target (part_of part) (env_of outer)
-env_of (Handled' r p outer) = with_handled r (env_of outer)
-env_of (Inside' n p outer) = record (env_of outer) { nested = n }
+env_of (Parameter' p outer k v) = with_parameter k v (env_of outer)
+env_of (Item' p outer constant k part) = with_item constant k (part_of part) (env_of outer)
+env_of (Target' p outer part) = with_target (part_of part) (env_of outer)
+env_of (Handled' p outer r) = with_handled r (env_of outer)
+env_of (Inside' p outer n) = record (env_of outer) { nested = n }

@@ -1,5 +1,5 @@
 -- What code shows of a part of a run that it carries out.
-use Rattle.std.specs.Prelude.{◌≡◌, ◌⊎◌, ℕ, ◌+◌, ℤ, List, length, take, drop, set, slice_get, nat_lt, Some, None, Result, Ok, Err, true, false}
+use Rattle.std.specs.Prelude.{◌≡◌, ◌⊎◌, ℕ, ◌+◌, ℤ, List, length, take, drop, set, slice_get, nat_lt, Option, Some, None, Result, Ok, Err, true, false}
 use Rattle.ada_base.specs.declared.reason.Reason.TheVariants as reason
 use Rattle.ada_meaning.specs.declared.slots.Slot.{Slot}
 use Rattle.ada_meaning.specs.declared.slots.Variable.{Variable}
@@ -76,6 +76,19 @@ Does Tells m s t =
     (t.faults ≡ s.faults)
     × Keeps Tells (outside_of s) (outside_of t)
     × ((w : List ℕ) → Tells w (outside_of t) → m.does (facing w s.state) ≡ at (facing w t.state) (Ok tt))
+
+-- from each state a part comes to a value, and leaves the state as it is
+abbrev pub ComesTo : {A : Type 0} → Stored A → A → Type 0
+ComesTo m v = (s : State) → m.does s ≡ at s (Ok v)
+
+-- a value, where there is one, is what the part comes to on each input that may be the whole one, and the state is left as
+-- it is; the value stands for one of the meaning's
+abbrev pub GivesAs : {A B : Type 0} → (B → A) → (List ℕ → Outside → Type 0) → Stored A → Image → Option B → Type 0
+GivesAs f Tells m s None = Unit {0}
+GivesAs f Tells m s (Some b) = (w : List ℕ) → Tells w (outside_of s) → m.does (facing w s.state) ≡ at (facing w s.state) (Ok (f b))
+
+abbrev pub Gives : {A : Type 0} → (List ℕ → Outside → Type 0) → Stored A → Image → Option A → Type 0
+Gives Tells m s r = GivesAs (λ a. a) Tells m s r
 
 -- ---- instances of objects
 

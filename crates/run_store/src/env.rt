@@ -23,27 +23,27 @@ pub enum Env<'a> {
         nested: u32,
     },
     Parameter {
+        outer: &'a Env<'a>,
         number: u32,
         value: i64,
-        outer: &'a Env<'a>,
     },
     Item {
+        outer: &'a Env<'a>,
         constant: bool,
         number: u32,
         part: Part,
-        outer: &'a Env<'a>,
     },
     Target {
-        part: Part,
         outer: &'a Env<'a>,
+        part: Part,
     },
     Handled {
-        reason: Reason,
         outer: &'a Env<'a>,
+        reason: Reason,
     },
     Inside {
-        nested: u32,
         outer: &'a Env<'a>,
+        nested: u32,
     },
 }
 

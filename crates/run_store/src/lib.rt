@@ -13,4 +13,6 @@ pub use env::{Env, Part};
 pub use outside::{Port, Ports};
 pub use store::Store;
 pub use subtypes::{cells_of, components, defaults_of};
-pub use values::{Range, between, bit, compares, count, is_in, is_true, last_of};
+pub use values::{
+    Range, between, bit, compares, count, is_in, is_true, last_of, operated, unary_result,
+};

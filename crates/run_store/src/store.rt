@@ -1,10 +1,10 @@
 //! The state of a run.
 
-ghost use Rattle.std.specs.Prelude.{◌≡◌, ◌<◌, ◌*◌, ◌+◌, length, replicate, slice_get, slice_set, IfOk, MatchResult, Ok};
+ghost use Rattle.std.specs.Prelude.{◌≡◌, ◌<◌, ◌*◌, ◌+◌, length, replicate, slice_get, slice_set, IfOk, IfSome, MatchResult, Ok};
 ghost use Rattle.ada_meaning.specs.Stored as spec;
 ghost use Rattle.behaviours.specs.Paths as spec';
 ghost use Rattle.run_store.specs.Operating.{begins_at, got, number_of};
-ghost use Rattle.run_store.specs.Shows.{Shows, Does, outside_of, entity_of, region_of, Enters, unframed, Begins, Declares, finished, IsCell, IsSet, OrNoMemory};
+ghost use Rattle.run_store.specs.Shows.{Shows, Gives, Does, outside_of, entity_of, region_of, Enters, unframed, Begins, Declares, finished, IsCell, IsSet, OrNoMemory};
 
 use crate::ends::{End, Leave, Mark, Object, Region};
 use crate::outside::Port;
@@ -168,6 +168,25 @@ impl<P: Port + Drop> Store<P> {
                 cell_of(&self.kept, everywhere, offset)
             } else {
                 Err(End::Left(Leave::Raises(Reason::ProgramError)))
+            }
+        }
+    }
+
+    /// A cell of an object, where it has one.
+    #[tactic(auto, unfolding(ada_meaning::specs::Stored::reads))]
+    pub fn cell(&self, object: Object, offset: u64) -> Option<i64>
+        ensures { Gives P.Tells (spec.reads (entity_of object) offset) self.now result }
+    {
+        let key = object.key();
+        let here = slot_at(&self.here, key);
+        if here.frame == self.frame {
+            found_cell(&self.cells, here, offset)
+        } else {
+            let everywhere = slot_at(&self.everywhere, key);
+            if everywhere.frame == 1 {
+                found_cell(&self.kept, everywhere, offset)
+            } else {
+                None
             }
         }
     }
@@ -365,6 +384,19 @@ fn declare(declared: &mut Items<Variable>, object: Object, slot: Slot) -> Result
                 Err(_) => Err(End::NoMemory),
             }
         }
+    }
+}
+
+fn found_cell(cells: &Items<i64>, slot: Slot, offset: u64) -> Option<i64>
+    ensures { IfSome result (λ v. IsCell cells.now slot offset (Ok v)) }
+{
+    if offset < slot.cells {
+        match slot.address.checked_add(offset) {
+            None => None,
+            Some(address) => cells.get(address as usize).copied(),
+        }
+    } else {
+        None
     }
 }
 

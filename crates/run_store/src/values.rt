@@ -1,11 +1,11 @@
 //! Values, and what is computed from them alone.
 
-ghost use Rattle.std.specs.Prelude.{◌≡◌, ◌<◌, ◌+◌, ◌+ℤ◌, ◌-ℤ◌, pos, neg_ℤ, nat_abs, MatchOption, Some};
+ghost use Rattle.std.specs.Prelude.{◌≡◌, ◌<◌, ◌+◌, ◌+ℤ◌, ◌-ℤ◌, ℕ, pos, neg_ℤ, nat_abs, IfSome, MatchOption, Some};
 ghost use Rattle.ada_base.specs.Operation as operation;
 ghost use Rattle.ada_meaning.specs.Values as spec;
 ghost use Rattle.ada_meaning.specs.Operations as meaning;
 ghost use Rattle.ada_meaning.specs.Stored as stored;
-ghost use Rattle.run_store.specs.Shows.{Shows, OrNoMemory};
+ghost use Rattle.run_store.specs.Shows.{Shows, ComesTo, OrNoMemory};
 ghost use Rattle.run_store.specs.Operating.{unary_then};
 
 use crate::ends::{End, Leave};
@@ -140,6 +140,30 @@ fn in_base(base: Base, op: Op, x: i64, y: i64) -> Option<i64>
         Some(value)
     } else {
         None
+    }
+}
+
+/// The result of an operator (4.5), where all its checks hold.
+#[tactic(auto, unfolding(ada_meaning::specs::Stored::bind, ada_meaning::specs::Stored::ret, ada_meaning::specs::Stored::leaves))]
+pub fn operated(op: Op, class: Class, x: i64, y: i64) -> Option<i64>
+    ensures { IfSome result (λ v. (at : ℕ) → ComesTo (meaning.operate stored.doings stored.checks op at class x y) v) }
+{
+    if divides(op) && !is_true(y) {
+        None
+    } else {
+        result_of(op, class, x, y)
+    }
+}
+
+/// The result of a unary operator (4.5.4, 4.5.6), where its check holds.
+#[tactic(auto, unfolding(ada_meaning::specs::Stored::bind, ada_meaning::specs::Stored::ret, ada_meaning::specs::Stored::leaves))]
+pub fn unary_result(sign: Sign, class: Class, value: i64) -> Option<i64>
+    ensures { IfSome result (λ v. (at : ℕ) → ComesTo (unary_then sign at class value) v) }
+{
+    match sign {
+        Sign::Not => 1_i64.checked_sub(value),
+        Sign::Minus => negated(base_of(class), value),
+        Sign::Abs => magnitude(base_of(class), value),
     }
 }
 

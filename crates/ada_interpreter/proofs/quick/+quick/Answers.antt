@@ -3,8 +3,12 @@ use Rattle.ada_typed.specs.Decoded.{expr_at, selections_at}
 use Rattle.run_store.specs.Environment.{env_of}
 use Rattle.run_parts.specs.Words.{nodes_of}
 use Rattle.ada_interpreter.specs.Quick.{at_offset}
-use Rattle.ada_interpreter.proofs.Quickly.{index_quick}
+use Rattle.ada_interpreter.specs.Walk.{select}
+use Rattle.ada_interpreter.proofs.Quickly.{unary_quick, places_end}
 use Rattle.ada_interpreter.proofs.quick.+quick.Goals as goal
 
-pub quick_offset-returns-in-Some-Index : goal.quick_offset-returns-in-Some-Index
-quick_offset-returns-in-Some-Index g t c = index_quick g.P.Port.Tells (at_offset c.args.object) c.args.work.now c.args.calls (env_of c.args.env.now) c.args.store.now c.in-Some-Index.at (expr_at (nodes_of c.args.work.now) c.in-Some-Index.index) c.in-Some-Index.low c.in-Some-Index.high _ _ c.in-Some-Index.stride (selections_at (nodes_of c.args.work.now) c.in-Some.cell.rest) (selections_at (nodes_of c.args.work.now) c.args.id) (at_offset c.args.object c.args.offset) c.quick_index.result c.quick_index.ensures (search rules) (search rules) (search rules)
+pub quick-returns-in-Unary : goal.quick-returns-in-Unary
+quick-returns-in-Unary g t c = unary_quick g.P.Port.Tells c.args.work.now c.args.calls (env_of c.args.env.now) c.args.store.now c.in-Unary.at c.in-Unary.sign c.in-Unary.class (expr_at (nodes_of c.args.work.now) c.in-Unary.operand) (expr_at (nodes_of c.args.work.now) c.args.id) c.quick_unary.result (c.quick_unary.ensures c.in-Unary.at) (search rules)
+
+pub quick_places-returns-in-None : goal.quick_places-returns-in-None
+quick_places-returns-in-None g t c = places_end g.P.Port.Tells c.args.work.now c.args.calls (env_of c.args.env.now) c.args.store.now (at_offset c.args.object) (select c.args.work.now c.args.calls (selections_at (nodes_of c.args.work.now) c.args.id) (env_of c.args.env.now) (at_offset c.args.object c.args.offset)) (selections_at (nodes_of c.args.work.now) c.loop-k.at) c.loop-k.place c.loop-k.invariant (search rules)
