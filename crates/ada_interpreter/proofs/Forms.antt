@@ -10,7 +10,7 @@ use Rattle.ada_meaning.specs.Values.{is_in, count, between, to_nat}
 use Rattle.ada_meaning.specs.Operations.{IndexCheck, RangeCheck}
 use Rattle.ada_meaning.specs.Meaning as meaning
 use Rattle.ada_meaning.specs.Meaning.{Env, variable_root, with_parameter, moved}
-use Rattle.ada_meaning.specs.Stored.{Stored, ret, bind, leaves, reads, writes, checks}
+use Rattle.ada_meaning.specs.Stored.{Stored, ret, bind, leaves, writes, checks}
 use Rattle.run_store.specs.declared.ends.End.{End}
 use Rattle.run_store.specs.declared.ends.End.TheVariants as end
 use Rattle.run_store.specs.declared.ends.Leave.TheVariants as leave
