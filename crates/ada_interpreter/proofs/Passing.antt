@@ -1,6 +1,7 @@
 -- Actual parameters, one after the other.
 use Rattle.std.proofs.Common.{◌≡◌, ◌⊎◌, ℕ, ℤ, List, [], ◌∷◌, ◌++◌, inl, inr, true, None, refl, sym, subst, ap, ◌∙◌}
 use Rattle.std.specs.Prelude.{Result, Ok, Err}
+use Rattle.std.proofs.lemmas.List.{map-append}
 use Rattle.ada_typed.specs.declared.expressions.Actual.{Actual}
 use Rattle.ada_typed.specs.declared.expressions.Actual.TheVariants as actual
 use Rattle.ada_typed.specs.declared.scalars.Check.{Check}
@@ -15,7 +16,7 @@ use Rattle.run_store.specs.declared.ends.End.{End}
 use Rattle.run_store.specs.declared.ends.End.TheVariants as end
 use Rattle.run_store.specs.declared.ends.Object.TheVariants as object
 use Rattle.run_store.specs.Outside.{Outside}
-use Rattle.run_store.specs.Shows.{Image, facing, Goes, ShowsAs, Shows, OrNoMemory}
+use Rattle.run_store.specs.Shows.{Image, facing, Goes, ShowsAs, Shows}
 use Rattle.run_store.proofs.Going.{stays, goes_then, goes_ends, goes_fails, goes_gives, then_shows}
 use Rattle.run_parts.specs.declared.work.Work.{Work}
 use Rattle.run_parts.specs.declared.passed.Passed.{Passed}
@@ -98,15 +99,11 @@ module _ {Tells : List ℕ → Outside → Type 0} (whole : Stored (List meaning
     pass_ends e r q h = subst (λ z. ShowsAs (passed_list w) Tells whole z s u) (sym q) (goes_ends (passed_of w) (passed_list w) whole (walk.one_passed w d a env) (others w d env so_far rest) s t u e more h)
 
     -- no memory to hold it
-    pub pass_fails : (one : Passed) (e : End) (r : Result (List Passed) End) → r ≡ Err e → OrNoMemory (λ now. passed_list w now ≡ so_far ++ (passed_of w one ∷ [])) (Err e) → ShowsAs (passed_of w) Tells (walk.one_passed w d a env) (Ok one) t u → ShowsAs (passed_list w) Tells whole r s u
-    pass_fails one e r q o h = subst (λ z. ShowsAs (passed_list w) Tells whole z s u) (sym q) (go e o)
-      where
-        go : (e : End) → OrNoMemory (λ now. passed_list w now ≡ so_far ++ (passed_of w one ∷ [])) (Err e) → ShowsAs (passed_list w) Tells whole (Err e) s u
-        go (end.Left x) o = absurd o
-        go end.Spent o = absurd o
-        go end.NoMemory o = goes_fails (passed_list w) whole _ s u (pass_step one _ h refl)
-        go end.ReadFault o = absurd o
-        go end.WriteFault o = absurd o
+    pub pass_fails : (one : Passed) → ShowsAs (passed_of w) Tells (walk.one_passed w d a env) (Ok one) t u → ShowsAs (passed_list w) Tells whole (Err end.NoMemory) s u
+    pass_fails one h = goes_fails (passed_list w) whole _ s u (pass_step one _ h refl)
+
+pub one_more : (w : Work) (ps now : List Passed) (one : Passed) → now ≡ ps ++ (one ∷ []) → passed_list w now ≡ passed_list w ps ++ (passed_of w one ∷ [])
+one_more w ps now one e = ap (passed_list w) e ∙ map-append (passed_of w) ps (one ∷ [])
 
 pub pass_done : {Tells : List ℕ → Outside → Type 0} (whole : Stored (List meaning.Passed)) (s t : Image) (w : Work) (d : ℕ) (env : Env) (ps : List Passed) (all : Actuals) → all ≡ NoActual → Goes Tells whole s (walk.pass w d all env (passed_list w ps)) t → ShowsAs (passed_list w) Tells whole (Ok ps) s t
 unfolding walk.pass

@@ -12,7 +12,7 @@ use crate::names::select;
 use crate::values::cells;
 use ada_base::{Items, Reason};
 use ada_typed::{Actual, Check, Root, Value};
-use run_parts::{Back, Cells, Passed, Shape, Work, push, read_whole};
+use run_parts::{Back, Cells, Passed, Shape, Work, read_whole};
 use run_store::{End, Env, Leave, Object, Port, Store, is_in};
 
 /// Actual parameters, evaluated, read and checked from left to right, behind others.
@@ -33,7 +33,10 @@ pub fn pass<P: Port + Drop>(
     while let Some(cell) = work.typed.nodes.actuals(at) {
         if let Some(actual) = work.typed.nodes.actual(cell.first) {
             let one = evaluated(work, calls, actual, env, store)?;
-            all = push(work, all, one)?;
+            match all.push(one) {
+                Ok(()) => {}
+                Err(_) => return Err(End::NoMemory),
+            }
         }
         at = cell.rest;
     }

@@ -21,7 +21,7 @@ use Rattle.ada_interpreter.proofs.Folding.{folds_begin, gives_as, onto_as, share
 use Rattle.ada_typed.specs.Chained.{right_of}
 use Rattle.ada_interpreter.proofs.Chaining.{operated, stands_begins, first_ends, stands_step, stands_ends, stands_done, all_below, last_below}
 use Rattle.ada_interpreter.proofs.Forms.{index_as, index_on, index_ends, range_holds, number_gives, number_ends, get_on, get_ends, get_not, get_shows}
-use Rattle.ada_interpreter.proofs.Passing.{pass_step, pass_ends, pass_fails, pass_done, number_in}
+use Rattle.ada_interpreter.proofs.Passing.{pass_step, pass_ends, pass_fails, one_more, pass_done, number_in}
 use Rattle.ada_interpreter.proofs.Threading.{thread_gives, thread_spent, thread_left, threads_more, threads_end, threads_fail, threads_joined, threads_spent, spent_as, gathered_none}
 use Rattle.ada_interpreter.proofs.Dealing.{threads_on, threads_ends, count_on, count_ends, loops_begin, each_on, each_ends, dealt_loop_shows, dealt_arms_shows, dealt_arms_ends, parallel_for_ends, parallel_for_on, parallel_for_stops, parallel_block_ends, parallel_block_on, parallel_block_stops, chunked_loop_on, chunked_loop_stops, chunked_loop_many, turn_none, turn_some, turn_ends, reduction_shows, parallel_reduction_shows, parallel_reduction_ends, parallel_reduction_on, parallel_reduction_stops, chunked_fold_on, chunked_fold_stops, chunked_fold_many, chunked_fold_ends, dealt_fold_ends, dealt_fold_on, dealt_fold_stops, share_begins, share_step, share_ends, share_done}
 use Rattle.ada_interpreter.specs.declared.constructs.Task.TheVariants as task
@@ -41,11 +41,11 @@ stmts::exec_all-returns g t c = all_done (exec_all c.args.work.now c.args.calls 
 pub actuals::pass-returns-in_err-one : goal.actuals::pass-returns-in_err-one
 actuals::pass-returns-in_err-one g t c = pass_ends (pass c.args.work.now c.args.calls (actuals_at (nodes_of c.args.work.now) c.args.id) (env_of c.args.env.now) (passed_list c.args.work.now c.args.passed)) c.args.store.now c.loop-cell.store c.args.work.now c.args.calls (env_of c.args.env.now) (passed_list c.args.work.now c.loop-cell.all) (actuals_at (nodes_of c.args.work.now) c.loop-cell.at) (actuals_at (nodes_of c.args.work.now) c.in-Some.cell.rest) c.loop-cell.invariant.on c.in-Some-actual.actual (c.in-Some.ensures.is ∙ ap (λ f. f (actuals_at (nodes_of c.args.work.now) c.in-Some.cell.rest)) c.in-Some-actual.ensures.is) c.evaluated.new.store c.in_err-one.field-0.0 _ (search rules) c.in_err-one.ensures
 
-pub actuals::pass-returns-in_err-all : goal.actuals::pass-returns-in_err-all
-actuals::pass-returns-in_err-all g t c = pass_fails (pass c.args.work.now c.args.calls (actuals_at (nodes_of c.args.work.now) c.args.id) (env_of c.args.env.now) (passed_list c.args.work.now c.args.passed)) c.args.store.now c.loop-cell.store c.args.work.now c.args.calls (env_of c.args.env.now) (passed_list c.args.work.now c.loop-cell.all) (actuals_at (nodes_of c.args.work.now) c.loop-cell.at) (actuals_at (nodes_of c.args.work.now) c.in-Some.cell.rest) c.loop-cell.invariant.on c.in-Some-actual.actual (c.in-Some.ensures.is ∙ ap (λ f. f (actuals_at (nodes_of c.args.work.now) c.in-Some.cell.rest)) c.in-Some-actual.ensures.is) c.evaluated.new.store c.in_ok-one.one c.in_err-all.field-0.0 _ (search rules) c.in_err-all.ensures c.in_ok-one.ensures
+pub actuals::pass-returns-in-Err : goal.actuals::pass-returns-in-Err
+actuals::pass-returns-in-Err g t c = pass_fails (pass c.args.work.now c.args.calls (actuals_at (nodes_of c.args.work.now) c.args.id) (env_of c.args.env.now) (passed_list c.args.work.now c.args.passed)) c.args.store.now c.loop-cell.store c.args.work.now c.args.calls (env_of c.args.env.now) (passed_list c.args.work.now c.loop-cell.all) (actuals_at (nodes_of c.args.work.now) c.loop-cell.at) (actuals_at (nodes_of c.args.work.now) c.in-Some.cell.rest) c.loop-cell.invariant.on c.in-Some-actual.actual (c.in-Some.ensures.is ∙ ap (λ f. f (actuals_at (nodes_of c.args.work.now) c.in-Some.cell.rest)) c.in-Some-actual.ensures.is) c.evaluated.new.store c.in_ok-one.one c.in_ok-one.ensures
 
-pub actuals::pass-loop-cell-preserved-in_ok-all : goal.actuals::pass-loop-cell-preserved-in_ok-all
-actuals::pass-loop-cell-preserved-in_ok-all g t c = record { below = omega (arith, c.in-Some.ensures.below.1); on = pass_step (pass c.args.work.now c.args.calls (actuals_at (nodes_of c.args.work.now) c.args.id) (env_of c.args.env.now) (passed_list c.args.work.now c.args.passed)) c.args.store.now c.loop-cell.store c.args.work.now c.args.calls (env_of c.args.env.now) (passed_list c.args.work.now c.loop-cell.all) (actuals_at (nodes_of c.args.work.now) c.loop-cell.at) (actuals_at (nodes_of c.args.work.now) c.in-Some.cell.rest) c.loop-cell.invariant.on c.in-Some-actual.actual (c.in-Some.ensures.is ∙ ap (λ f. f (actuals_at (nodes_of c.args.work.now) c.in-Some.cell.rest)) c.in-Some-actual.ensures.is) c.evaluated.new.store c.in_ok-one.one (passed_list c.args.work.now c.in_ok-all.all) c.in_ok-one.ensures c.in_ok-all.ensures }
+pub actuals::pass-loop-cell-preserved-in-Ok : goal.actuals::pass-loop-cell-preserved-in-Ok
+actuals::pass-loop-cell-preserved-in-Ok g t c = record { below = omega (arith, c.in-Some.ensures.below.1); on = pass_step (pass c.args.work.now c.args.calls (actuals_at (nodes_of c.args.work.now) c.args.id) (env_of c.args.env.now) (passed_list c.args.work.now c.args.passed)) c.args.store.now c.loop-cell.store c.args.work.now c.args.calls (env_of c.args.env.now) (passed_list c.args.work.now c.loop-cell.all) (actuals_at (nodes_of c.args.work.now) c.loop-cell.at) (actuals_at (nodes_of c.args.work.now) c.in-Some.cell.rest) c.loop-cell.invariant.on c.in-Some-actual.actual (c.in-Some.ensures.is ∙ ap (λ f. f (actuals_at (nodes_of c.args.work.now) c.in-Some.cell.rest)) c.in-Some-actual.ensures.is) c.evaluated.new.store c.in_ok-one.one (passed_list c.args.work.now c.push.new.self) c.in_ok-one.ensures (one_more c.args.work.now c.loop-cell.all c.push.new.self c.in_ok-one.one c.in-Ok.ensures.ok) }
 
 pub actuals::pass-returns : goal.actuals::pass-returns
 actuals::pass-returns g t c = pass_done (pass c.args.work.now c.args.calls (actuals_at (nodes_of c.args.work.now) c.args.id) (env_of c.args.env.now) (passed_list c.args.work.now c.args.passed)) c.args.store.now c.loop-cell.store c.args.work.now c.args.calls (env_of c.args.env.now) c.loop-cell.all (actuals_at (nodes_of c.args.work.now) c.loop-cell.at) (search rules) c.loop-cell.invariant.on
