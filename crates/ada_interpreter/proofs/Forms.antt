@@ -1,17 +1,16 @@
 -- Forms of the language, as the functions that go by them.
-use Rattle.std.proofs.Common.{◌≡◌, ◌&&◌, ◌+◌, ◌+ℤ◌, ◌-ℤ◌, ◌*◌, pos, ℕ, ℤ, List, [], ◌∷◌, ◌++◌, Bool, true, false, cond, int_le, Option, Some, None, refl, sym, subst, ap, ◌∙◌}
+use Rattle.std.proofs.Common.{◌≡◌, ◌&&◌, ◌+◌, ◌+ℤ◌, ◌-ℤ◌, ◌*◌, pos, ℕ, ℤ, List, [], ◌∷◌, Bool, true, false, cond, int_le, Option, Some, None, refl, sym, subst}
 use Rattle.std.specs.Prelude.{Result, Ok, Err}
 use Rattle.ada_base.specs.declared.reason.Reason.TheVariants as reason
-use Rattle.behaviours.specs.Paths.{VariableOf}
 use Rattle.ada_typed.specs.declared.scalars.Scalar.{Scalar}
 use Rattle.ada_typed.specs.declared.scalars.Check.{Check}
 use Rattle.ada_typed.specs.declared.expressions.Root.{Root}
-use Rattle.ada_typed.specs.Syntax.{Expr, Optional, Selections, Index, Actuals, NoActual, In, InOut, Out, CompositeInOut, CompositeOut, Iteration, Range, Stmt, Get, Value, Number}
+use Rattle.ada_typed.specs.Syntax.{Expr, Optional, Selections, Index, Iteration, Range, Stmt, Get, Value, Number}
 use Rattle.ada_meaning.specs.Values.{is_in, count, between, to_nat}
 use Rattle.ada_meaning.specs.Operations.{IndexCheck, RangeCheck}
 use Rattle.ada_meaning.specs.Meaning as meaning
 use Rattle.ada_meaning.specs.Meaning.{Env, variable_root, with_parameter, moved}
-use Rattle.ada_meaning.specs.Stored.{Stored, ret, bind, leaves, reads, writes, checks}
+use Rattle.ada_meaning.specs.Stored.{Stored, ret, bind, leaves, writes, checks}
 use Rattle.run_store.specs.declared.ends.End.{End}
 use Rattle.run_store.specs.declared.ends.End.TheVariants as end
 use Rattle.run_store.specs.declared.ends.Leave.TheVariants as leave
@@ -23,14 +22,10 @@ use Rattle.run_store.specs.Outside.{Outside}
 use Rattle.run_store.specs.Shows.{Image, ShowsAs, Shows}
 use Rattle.run_store.proofs.Going.{stays, goes_refl, goes_ends, then_shows, same_shows}
 use Rattle.run_parts.specs.declared.work.Work.{Work}
-use Rattle.run_parts.specs.declared.passed.Passed.{Passed}
 use Rattle.run_parts.specs.declared.courses.Course.TheVariants as course
-use Rattle.run_parts.specs.Passing.{passed_list, course_of}
-use Rattle.run_parts.specs.Words.{ops, bounds_hold, read_all, write_all}
+use Rattle.run_parts.specs.Passing.{course_of}
+use Rattle.run_parts.specs.Words.{ops, bounds_hold, write_all}
 use Rattle.ada_interpreter.specs.Walk as walk
-
-abbrev given : (w : Work) (d formal at : ℕ) (inner outer : Scalar) → List meaning.Passed → meaning.Part → List ℤ → List meaning.Passed
-given w d formal at inner outer so_far p cs = so_far ++ (record { formal = VariableOf formal; cells = cs; back = walk.back_to w d p (inner ∷ []) (Some (record { at = at; scalar = outer })) } ∷ [])
 
 bounds_so : (w : Work) (check : Option Check) (low high : ℤ) → bounds_hold check low high ≡ true → meaning.bounds_checked (ops w) check low high ≡ ret tt
 bounds_so w None low high e = refl
@@ -39,26 +34,6 @@ bounds_so w (Some c) low high e = go (int_le low high) (is_in c.scalar low && is
     go : (a b : Bool) → cond a b true ≡ true → cond a (checks RangeCheck c.at b) (ret tt) ≡ ret tt
     go true b e = rw e refl
     go false b e = refl
-
--- the formal, the variable, the subtype and the rest where an array or record is copied back
-abbrev pub whole_of : Actuals → Option (ℕ × Root × Selections × ℕ × Actuals)
-whole_of (CompositeInOut formal at root ss subtype rest) = Some (formal, root, ss, subtype, rest)
-whole_of (CompositeOut formal at root ss subtype rest) = Some (formal, root, ss, subtype, rest)
-whole_of _ = None
-
-module _ (w : Work) (d : ℕ) (env : Env) (so_far : List meaning.Passed) where
-  abbrev passed_whole : Option (ℕ × Root × Selections × ℕ × Actuals) → Stored (List meaning.Passed)
-  passed_whole None = ret so_far
-  passed_whole (Some x) = walk.pass_whole w d x.0 x.1 x.2 x.3 x.4 env so_far
-
-  whole_as : (as' : Actuals) (formal : ℕ) (root : Root) (ss : Selections) (subtype : ℕ) (rest : Actuals) → whole_of as' ≡ Some (formal, root, ss, subtype, rest) → walk.pass w d as' env so_far ≡ walk.pass_whole w d formal root ss subtype rest env so_far
-  unfolding walk.select walk.pass read_all
-  whole_as NoActual formal root ss subtype rest e = cc
-  whole_as (In f v more) formal root ss subtype rest e = cc
-  whole_as (InOut f at r s i o more) formal root ss subtype rest e = cc
-  whole_as (Out f at r s i o more) formal root ss subtype rest e = cc
-  whole_as (CompositeInOut f at r s n more) formal root ss subtype rest e = ap passed_whole e
-  whole_as (CompositeOut f at r s n more) formal root ss subtype rest e = ap passed_whole e
 
 module _ {Tells : List ℕ → Outside → Type 0} (w : Work) (d : ℕ) (env : Env) (s t : Image) where
   pub index_as : (at : ℕ) (e : Expr) (low high a b : ℤ) (stride : ℕ) (rest ss : Selections) (p : meaning.Part) (r : Result Part End) → ShowsAs part_of Tells (walk.index w d at e a b stride rest env p) r s t → a ≡ low → b ≡ high → ss ≡ Index at e low high stride rest
@@ -81,38 +56,6 @@ module _ {Tells : List ℕ → Outside → Type 0} (w : Work) (d : ℕ) (env : E
   pub index_ends : (at : ℕ) (e : Expr) (low high i : ℤ) (stride : ℕ) (rest : Selections) (p inner : meaning.Part) (y : End) (r : Result Part End) (u : Image) → r ≡ Err y → Shows Tells (walk.eval w d e env) (Ok i) s u → between low i high ≡ true
       → inner ≡ moved p (to_nat (i -ℤ low) * stride) → ShowsAs part_of Tells (walk.select w d rest env inner) (Err y) u t → ShowsAs part_of Tells (walk.index w d at e low high stride rest env p) r s t
   index_ends at e low high i stride rest p inner y r u is h within q k = subst (λ z. ShowsAs part_of Tells (walk.index w d at e low high stride rest env p) z s t) (sym is) (index_on at e low high i stride rest p inner (Err y) u h within q k)
-
-  module _ (formal at : ℕ) (root : Root) (ss : Selections) (inner outer : Scalar) (rest : Actuals) (so_far : List meaning.Passed) where
-    pub in_out_as : (r : Result (List Passed) End) (as' : Actuals) → ShowsAs (passed_list w) Tells (walk.pass_in_out w d formal at root ss inner outer rest env so_far) r s t → as' ≡ InOut formal at root ss inner outer rest → ShowsAs (passed_list w) Tells (walk.pass w d as' env so_far) r s t
-    unfolding walk.select walk.pass
-    in_out_as r as' h is = subst (λ z. ShowsAs (passed_list w) Tells (walk.pass w d z env so_far) r s t) (sym is) h
-
-    pub in_out_ends : (y : End) (r : Result (List Passed) End) (as' : Actuals) → r ≡ Err y → ShowsAs (passed_list w) Tells (walk.pass_in_out w d formal at root ss inner outer rest env so_far) (Err y) s t → as' ≡ InOut formal at root ss inner outer rest
-        → ShowsAs (passed_list w) Tells (walk.pass w d as' env so_far) r s t
-    in_out_ends y r as' q h is = subst (λ z. ShowsAs (passed_list w) Tells (walk.pass w d as' env so_far) z s t) (sym q) (in_out_as (Err y) as' h is)
-
-    pub in_out_on : (r : Result (List Passed) End) (from : meaning.Part) (p : Part) (v a : ℤ) (cs : List ℤ) (now : List meaning.Passed) (u : Image) → ShowsAs part_of Tells (walk.select w d ss env from) (Ok p) s u → from ≡ variable_root root env
-        → Shows Tells (reads (VariableOf p.object) p.offset) (Ok v) u u → is_in inner v ≡ true → cs ≡ a ∷ [] → a ≡ v → now ≡ given w d formal at inner outer so_far (part_of p) cs → ShowsAs (passed_list w) Tells (walk.pass w d rest env now) r u t
-        → ShowsAs (passed_list w) Tells (walk.pass_in_out w d formal at root ss inner outer rest env so_far) r s t
-    unfolding ret
-    in_out_on r from p v a cs now u h q k within e same f l =
-        let on : meaning.Part → List ℤ → Stored (List meaning.Passed) = λ p cs. walk.pass w d rest env (given w d formal at inner outer so_far p cs) in
-        then_shows part_of (passed_list w) (walk.select w d ss env (variable_root root env))
-        (λ p. bind (reads (VariableOf p.object) p.offset) (λ v. bind (meaning.checked (ops w) (record { at = at; scalar = inner }) v) (λ _. on p (v ∷ []))))
-        s u t p r (subst (λ z. ShowsAs part_of Tells (walk.select w d ss env z) (Ok p) s u) q h)
-        (then_shows (λ a. a) (passed_list w) (reads (VariableOf p.object) p.offset)
-        (λ v. bind (meaning.checked (ops w) (record { at = at; scalar = inner }) v) (λ _. on (part_of p) (v ∷ [])))
-        u u t v r k
-        (then_shows (λ a. a) (passed_list w) (meaning.checked (ops w) (record { at = at; scalar = inner }) v) (λ _. on (part_of p) (v ∷ []))
-        u u t tt r (refl, stays, λ input told. rw within refl)
-        (subst (λ z. ShowsAs (passed_list w) Tells (on (part_of p) z) r u t) (e ∙ ap (λ z. z ∷ []) same)
-        (subst (λ z. ShowsAs (passed_list w) Tells (walk.pass w d rest env z) r u t) f l))))
-
-  -- a whole variable, or what is behind it, that isn't passed
-  pub whole_ends : (formal : ℕ) (root : Root) (ss : Selections) (subtype : ℕ) (rest : Actuals) (so_far : List meaning.Passed) (y : End) (r : Result (List Passed) End) (as' : Actuals) → r ≡ Err y → ShowsAs (passed_list w) Tells (walk.pass_whole w d formal root ss subtype rest env so_far) (Err y) s t
-      → whole_of as' ≡ Some (formal, root, ss, subtype, rest) → ShowsAs (passed_list w) Tells (walk.pass w d as' env so_far) r s t
-  whole_ends formal root ss subtype rest so_far y r as' q h is =
-      subst (λ z. ShowsAs (passed_list w) Tells (walk.pass w d as' env so_far) z s t) (sym q) (same_shows (passed_list w) (walk.pass w d as' env so_far) (walk.pass_whole w d formal root ss subtype rest env so_far) (Err y) s t (whole_as w d env so_far as' formal root ss subtype rest is) h)
 
   -- a range whose bounds are in its subtype
   pub range_holds : (k : ℕ) (reverse : Bool) (low high : Expr) (check : Option Check) (filter : Optional) (it : Iteration) (l h : ℤ) (range : code.Range) (u : Image) → Shows Tells (walk.eval w d low env) (Ok l) s u → Shows Tells (walk.eval w d high env) (Ok h) u t

@@ -8,7 +8,7 @@ use Rattle.behaviours.specs.Joins.{Share, deal}
 use Rattle.behaviours.specs.Paths.{VariableOf, ConstantOf, Region, Here, Exits, Returns, Raises}
 use Rattle.ada_typed.specs.declared.node.Link.{Link}
 use Rattle.ada_typed.specs.declared.node.Link.TheVariants as link
-use Rattle.ada_typed.specs.Decoded.{expr_at, iteration_at, stmts_at, arms_at}
+use Rattle.ada_typed.specs.Decoded.{expr_at, iteration_at, stmts_at, arms_at, value_at, selections_at, scalar_at}
 use Rattle.ada_typed.specs.declared.scalars.Class.{Class}
 use Rattle.ada_typed.specs.declared.scalars.Scalar.{Scalar}
 use Rattle.ada_typed.specs.declared.scalars.Check.{Check}
@@ -16,6 +16,8 @@ use Rattle.ada_typed.specs.declared.scalars.Comparison.{Comparison}
 use Rattle.ada_typed.specs.declared.expressions.Sign.{Sign}
 use Rattle.ada_typed.specs.declared.expressions.Root.{Root}
 use Rattle.ada_typed.specs.declared.expressions.Run.{Run}
+use Rattle.ada_typed.specs.declared.expressions.Actual.{Actual}
+use Rattle.ada_typed.specs.declared.expressions.Actual.TheVariants as actual
 use Rattle.ada_typed.specs.declared.expressions.Iterated.{Iterated}
 use Rattle.ada_typed.specs.Syntax.{Expr, Optional, Selections, Actuals, Value, Composite, Associations, Iteration, Chunk, Pieces, Stmt, Stmts, Alternatives, Arms, Handlers, Decls, Body, Sub}
 use Rattle.ada_typed.specs.Programs.{program}
@@ -178,29 +180,34 @@ module _ (w : Work) (d : ℕ) where
   unfoldable pub runs_values : List Run → Option Iterated → Value → Env → List ℤ → Stored (List ℤ)
   runs_values rs iterated v env so_far = meaning.runs_values (ops w) rs (λ k. given iterated k v env) so_far
 
-  -- ---- actual parameters
+  -- ---- actual parameters, each evaluated, read and checked
 
-  abbrev pub pass_in : ℕ → Value → Actuals → Env → List Passed → Stored (List Passed)
-  pass_in formal v rest env so_far =
-      bind (cells w d v env) (λ cs. pass w d rest env (so_far ++ (record { formal = ConstantOf formal; cells = cs; back = None } ∷ [])))
+  abbrev pub in_passed : ℕ → Value → Env → Stored Passed
+  in_passed formal v env = bind (cells w d v env) (λ cs. ret (record { formal = ConstantOf formal; cells = cs; back = None }))
 
   abbrev pub back_to : Part → List Scalar → Option Check → Option Back
   back_to p ss check = Some (record { part = p; cells = ss; check = check })
 
-  abbrev pub pass_in_out : ℕ → ℕ → Root → Selections → Scalar → Scalar → Actuals → Env → List Passed → Stored (List Passed)
-  pass_in_out formal at r ss inner outer rest env so_far =
+  abbrev pub in_out_passed : ℕ → ℕ → Root → Selections → Scalar → Scalar → Env → Stored Passed
+  in_out_passed formal at r ss inner outer env =
       bind (select w d ss env (variable_root r env)) (λ p. bind (reads (VariableOf p.object) p.offset) (λ v. bind (meaning.checked (ops w) (record { at = at; scalar = inner }) v) (λ _.
-      pass w d rest env (so_far ++ (record { formal = VariableOf formal; cells = v ∷ []; back = back_to p (inner ∷ []) (Some (record { at = at; scalar = outer })) } ∷ [])))))
+      ret (record { formal = VariableOf formal; cells = v ∷ []; back = back_to p (inner ∷ []) (Some (record { at = at; scalar = outer })) }))))
 
-  abbrev pub pass_out : ℕ → ℕ → Root → Selections → Scalar → Scalar → Actuals → Env → List Passed → Stored (List Passed)
-  pass_out formal at r ss inner outer rest env so_far =
-      bind (select w d ss env (variable_root r env)) (λ p.
-      pass w d rest env (so_far ++ (record { formal = VariableOf formal; cells = inner.low ∷ []; back = back_to p (inner ∷ []) (Some (record { at = at; scalar = outer })) } ∷ [])))
+  abbrev pub out_passed : ℕ → ℕ → Root → Selections → Scalar → Scalar → Env → Stored Passed
+  out_passed formal at r ss inner outer env =
+      bind (select w d ss env (variable_root r env)) (λ p. ret (record { formal = VariableOf formal; cells = inner.low ∷ []; back = back_to p (inner ∷ []) (Some (record { at = at; scalar = outer })) }))
 
-  abbrev pub pass_whole : ℕ → Root → Selections → ℕ → Actuals → Env → List Passed → Stored (List Passed)
-  pass_whole formal r ss n rest env so_far =
+  abbrev pub whole_passed : ℕ → Root → Selections → ℕ → Env → Stored Passed
+  whole_passed formal r ss n env =
       bind (select w d ss env (variable_root r env)) (λ p. bind (read_all w (VariableOf p.object) p.offset [] (cells_at w n)) (λ vs.
-      pass w d rest env (so_far ++ (record { formal = VariableOf formal; cells = vs; back = back_to p (cells_at w n) None } ∷ []))))
+      ret (record { formal = VariableOf formal; cells = vs; back = back_to p (cells_at w n) None })))
+
+  abbrev pub one_passed : Actual → Env → Stored Passed
+  one_passed (actual.In formal v) env = in_passed formal (value_at (nodes_of w) v) env
+  one_passed (actual.InOut formal at r ss inner outer) env = in_out_passed formal at r (selections_at (nodes_of w) ss) (scalar_at (nodes_of w) inner) (scalar_at (nodes_of w) outer) env
+  one_passed (actual.Out formal at r ss inner outer) env = out_passed formal at r (selections_at (nodes_of w) ss) (scalar_at (nodes_of w) inner) (scalar_at (nodes_of w) outer) env
+  one_passed (actual.CompositeInOut formal at r ss n) env = whole_passed formal r (selections_at (nodes_of w) ss) n env
+  one_passed (actual.CompositeOut formal at r ss n) env = whole_passed formal r (selections_at (nodes_of w) ss) n env
 
   -- ---- calls
 

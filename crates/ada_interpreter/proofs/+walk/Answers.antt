@@ -13,14 +13,15 @@ use Rattle.run_parts.specs.Caught.{caught}
 use Rattle.run_parts.proofs.Stepping.{next_fails}
 use Rattle.run_store.proofs.Going.{then_shows, goes_refl}
 use Rattle.run_parts.specs.Words.{nodes_of, calls_of}
-use Rattle.ada_interpreter.specs.Walk.{combined, chunked_fold, dealt_fold, reduced_by_call, combined_by_call, fold_one, exec_all, while_loop, for_loop, course, in_loop, run_values, eval, fold_left, combined_onto, threads_run, share_run, threads_folded, share_folded}
+use Rattle.ada_interpreter.specs.Walk.{pass, combined, chunked_fold, dealt_fold, reduced_by_call, combined_by_call, fold_one, exec_all, while_loop, for_loop, course, in_loop, run_values, eval, fold_left, combined_onto, threads_run, share_run, threads_folded, share_folded}
 use Rattle.ada_interpreter.proofs.Looping.{while_begins, run_begins, all_step, all_ends, all_done, while_test_ends, while_stops, while_turn_ends, while_body_ends, while_step, while_spent, for_step, for_ends, for_done, for_begins, run_step, run_ends, run_done}
 use Rattle.ada_interpreter.proofs.Scoping.{body_as, call_ends, call_step, called_more, called_fails, formals_none, formals_more, formals_fails, default_more, default_fails, variable_ends, variable_more, variable_fails, constant_ends, constant_more, constant_fails}
 use Rattle.ada_interpreter.proofs.Handling.{caught_shows, chosen_some, chosen_none, guarded_other, guarded_some, guarded_none, alternative_some, alternative_none}
 use Rattle.ada_interpreter.proofs.Folding.{folds_begin, gives_as, onto_as, share_folded_as, threads_folded_as, fold_one_on, fold_one_stops, fold_step, fold_ends, fold_done, fold_none, fold_as, fold_fails, fold_share_none, fold_share_on, fold_share_ends, onto_step, onto_ends, onto_done}
 use Rattle.ada_typed.specs.Chained.{right_of}
 use Rattle.ada_interpreter.proofs.Chaining.{operated, stands_begins, first_ends, stands_step, stands_ends, stands_done, all_below, last_below}
-use Rattle.ada_interpreter.proofs.Forms.{whole_ends, index_as, index_on, index_ends, in_out_as, in_out_ends, in_out_on, range_holds, number_gives, number_ends, get_on, get_ends, get_not, get_shows}
+use Rattle.ada_interpreter.proofs.Forms.{index_as, index_on, index_ends, range_holds, number_gives, number_ends, get_on, get_ends, get_not, get_shows}
+use Rattle.ada_interpreter.proofs.Passing.{pass_step, pass_ends, pass_fails, one_more, pass_done, number_in}
 use Rattle.ada_interpreter.proofs.Threading.{thread_gives, thread_spent, thread_left, threads_more, threads_end, threads_fail, threads_joined, threads_spent, spent_as, gathered_none}
 use Rattle.ada_interpreter.proofs.Dealing.{threads_on, threads_ends, count_on, count_ends, loops_begin, each_on, each_ends, dealt_loop_shows, dealt_arms_shows, dealt_arms_ends, parallel_for_ends, parallel_for_on, parallel_for_stops, parallel_block_ends, parallel_block_on, parallel_block_stops, chunked_loop_on, chunked_loop_stops, chunked_loop_many, turn_none, turn_some, turn_ends, reduction_shows, parallel_reduction_shows, parallel_reduction_ends, parallel_reduction_on, parallel_reduction_stops, chunked_fold_on, chunked_fold_stops, chunked_fold_many, chunked_fold_ends, dealt_fold_ends, dealt_fold_on, dealt_fold_stops, share_begins, share_step, share_ends, share_done}
 use Rattle.ada_interpreter.specs.declared.constructs.Task.TheVariants as task
@@ -36,6 +37,21 @@ stmts::exec_all-loop-cell-preserved g t c = record { below = omega (arith, c.in-
 
 pub stmts::exec_all-returns : goal.stmts::exec_all-returns
 stmts::exec_all-returns g t c = all_done (exec_all c.args.work.now c.args.calls (stmts_at (nodes_of c.args.work.now) c.args.id) (env_of c.args.env.now)) c.args.store.now c.loop-cell.store c.args.work.now c.args.calls (env_of c.args.env.now) (stmts_at (nodes_of c.args.work.now) c.loop-cell.at) (search rules) c.loop-cell.invariant.on
+
+pub actuals::pass-returns-in_err-one : goal.actuals::pass-returns-in_err-one
+actuals::pass-returns-in_err-one g t c = pass_ends (pass c.args.work.now c.args.calls (actuals_at (nodes_of c.args.work.now) c.args.id) (env_of c.args.env.now) (passed_list c.args.work.now c.args.passed)) c.args.store.now c.loop-cell.store c.args.work.now c.args.calls (env_of c.args.env.now) (passed_list c.args.work.now c.loop-cell.all) (actuals_at (nodes_of c.args.work.now) c.loop-cell.at) (actuals_at (nodes_of c.args.work.now) c.in-Some.cell.rest) c.loop-cell.invariant.on c.in-Some-actual.actual (c.in-Some.ensures.is ∙ ap (λ f. f (actuals_at (nodes_of c.args.work.now) c.in-Some.cell.rest)) c.in-Some-actual.ensures.is) c.evaluated.new.store c.in_err-one.field-0.0 _ (search rules) c.in_err-one.ensures
+
+pub actuals::pass-returns-in-Err : goal.actuals::pass-returns-in-Err
+actuals::pass-returns-in-Err g t c = pass_fails (pass c.args.work.now c.args.calls (actuals_at (nodes_of c.args.work.now) c.args.id) (env_of c.args.env.now) (passed_list c.args.work.now c.args.passed)) c.args.store.now c.loop-cell.store c.args.work.now c.args.calls (env_of c.args.env.now) (passed_list c.args.work.now c.loop-cell.all) (actuals_at (nodes_of c.args.work.now) c.loop-cell.at) (actuals_at (nodes_of c.args.work.now) c.in-Some.cell.rest) c.loop-cell.invariant.on c.in-Some-actual.actual (c.in-Some.ensures.is ∙ ap (λ f. f (actuals_at (nodes_of c.args.work.now) c.in-Some.cell.rest)) c.in-Some-actual.ensures.is) c.evaluated.new.store c.in_ok-one.one c.in_ok-one.ensures
+
+pub actuals::pass-loop-cell-preserved-in-Ok : goal.actuals::pass-loop-cell-preserved-in-Ok
+actuals::pass-loop-cell-preserved-in-Ok g t c = record { below = omega (arith, c.in-Some.ensures.below.1); on = pass_step (pass c.args.work.now c.args.calls (actuals_at (nodes_of c.args.work.now) c.args.id) (env_of c.args.env.now) (passed_list c.args.work.now c.args.passed)) c.args.store.now c.loop-cell.store c.args.work.now c.args.calls (env_of c.args.env.now) (passed_list c.args.work.now c.loop-cell.all) (actuals_at (nodes_of c.args.work.now) c.loop-cell.at) (actuals_at (nodes_of c.args.work.now) c.in-Some.cell.rest) c.loop-cell.invariant.on c.in-Some-actual.actual (c.in-Some.ensures.is ∙ ap (λ f. f (actuals_at (nodes_of c.args.work.now) c.in-Some.cell.rest)) c.in-Some-actual.ensures.is) c.evaluated.new.store c.in_ok-one.one (passed_list c.args.work.now c.push.new.self) c.in_ok-one.ensures (one_more c.args.work.now c.loop-cell.all c.push.new.self c.in_ok-one.one c.in-Ok.ensures.ok) }
+
+pub actuals::pass-returns : goal.actuals::pass-returns
+actuals::pass-returns g t c = pass_done (pass c.args.work.now c.args.calls (actuals_at (nodes_of c.args.work.now) c.args.id) (env_of c.args.env.now) (passed_list c.args.work.now c.args.passed)) c.args.store.now c.loop-cell.store c.args.work.now c.args.calls (env_of c.args.env.now) c.loop-cell.all (actuals_at (nodes_of c.args.work.now) c.loop-cell.at) (search rules) c.loop-cell.invariant.on
+
+pub actuals::passed_in-returns-then-is_in : goal.actuals::passed_in-returns-then-is_in
+actuals::passed_in-returns-then-is_in g t c = number_in c.args.work.now c.args.calls (env_of c.args.env.now) c.args.formal c.in-Some-Number.check (expr_at (nodes_of c.args.work.now) c.in-Some-Number.value) (value_at (nodes_of c.args.work.now) c.args.value) c.in_ok-x-in-Some-Number.x (to_z w64 (of_z w64 c.in_ok-x-in-Some-Number.x)) c.one.result c.args.store.now c.eval.new.store c.in_ok-x-in-Some-Number.ensures (search rules) (search rules) c.one.ensures (search rules)
 
 pub calls::called-returns-in_ok-before-in-Some : goal.calls::called-returns-in_ok-before-in-Some
 calls::called-returns-in_ok-before-in-Some g t c = rw c.leave.ensures (called_more c.args.work.now c.args.calls c.args.number c.args.nested (passed_list c.args.work.now c.args.passed.now) (sub_of (nodes_of c.args.work.now) c.in-Some.sub) (search rules) c.in_ok-before-in-Some.before c.with_formals-result.result c.args.store.now c.enter.new.self c.with_formals-result.new.store c.in_ok-before-in-Some.ensures c.with_formals-result.ensures)
@@ -114,15 +130,6 @@ names::index-returns-in_ok-found g t c = index_on c.args.work.now c.args.calls (
 
 pub names::index-returns-in_err-found : goal.names::index-returns-in_err-found
 names::index-returns-in_err-found g t c = index_ends c.args.work.now c.args.calls (env_of c.args.env.now) c.args.store.now c.select_rest.new.store c.args.at (expr_at (nodes_of c.args.work.now) c.args.value) c.args.range.low c.args.range.high c.in_ok-i.i c.args.stride (selections_at (nodes_of c.args.work.now) c.args.rest) (part_of c.args.part) (part_of c.in_ok-inner.inner) c.in_err-found.field-0.0 _ c.eval.new.store (search rules) c.in_ok-i.ensures (search rules) (search rules) c.in_err-found.ensures
-
-pub actuals::pass-returns-in_err-all-in-Some-InOut : goal.actuals::pass-returns-in_err-all-in-Some-InOut
-actuals::pass-returns-in_err-all-in-Some-InOut g t c = in_out_ends c.args.work.now c.args.calls (env_of c.args.env.now) c.args.store.now c.pass_in_out.new.store c.in-Some-InOut.formal c.in-Some-InOut.at c.in-Some-InOut.root (selections_at (nodes_of c.args.work.now) c.in-Some-InOut.selections) _ _ (actuals_at (nodes_of c.args.work.now) c.in-Some.cell.rest) (passed_list c.args.work.now c.args.passed) c.in_err-all-in-Some-InOut.field-0.0 _ (actuals_at (nodes_of c.args.work.now) c.args.id) (search rules) c.in_err-all-in-Some-InOut.ensures (search rules)
-
-pub actuals::pass-returns-in_ok-all-in-Some-InOut : goal.actuals::pass-returns-in_ok-all-in-Some-InOut
-actuals::pass-returns-in_ok-all-in-Some-InOut g t c = in_out_as c.args.work.now c.args.calls (env_of c.args.env.now) c.args.store.now c.pass_in_out.new.store c.in-Some-InOut.formal c.in-Some-InOut.at c.in-Some-InOut.root (selections_at (nodes_of c.args.work.now) c.in-Some-InOut.selections) _ _ (actuals_at (nodes_of c.args.work.now) c.in-Some.cell.rest) (passed_list c.args.work.now c.args.passed) (Ok c.in_ok-all-in-Some-InOut.all) (actuals_at (nodes_of c.args.work.now) c.args.id) c.in_ok-all-in-Some-InOut.ensures (search rules)
-
-pub actuals::pass_in_out-returns-in_err-all : goal.actuals::pass_in_out-returns-in_err-all
-actuals::pass_in_out-returns-in_err-all g t c = in_out_on c.args.work.now c.args.calls (env_of c.args.env.now) c.args.store.now c.pass_rest.new.store c.args.formal c.args.at c.args.root (selections_at (nodes_of c.args.work.now) c.args.selections) c.args.inside c.args.outside (actuals_at (nodes_of c.args.work.now) c.args.rest) (passed_list c.args.work.now c.args.passed) c.from_residual-in_err-all.result (part_of c.variable_root.result) c.in_ok-part.part c.in_ok-value.value _ c.in_ok-values.values (passed_list c.args.work.now c.in_ok-more.more) c.select.new.store c.in_ok-part.ensures c.variable_root.ensures c.in_ok-value.ensures (search rules) c.in_ok-values.ensures (search rules) c.in_ok-more.ensures (search rules)
 
 pub courses::begin_course-returns-then-bounds_hold : goal.courses::begin_course-returns-then-bounds_hold
 courses::begin_course-returns-then-bounds_hold g t c = range_holds c.args.work.now c.args.calls (env_of c.args.env.now) c.args.store.now c.eval-in-Some-Range.new.store c.in-Some-Range.parameter c.in-Some-Range.reverse (expr_at (nodes_of c.args.work.now) c.in-Some-Range.low) (expr_at (nodes_of c.args.work.now) c.in-Some-Range.high) c.check.result (optional_at (nodes_of c.args.work.now) c.in-Some-Range.field-0-5) (iteration_at (nodes_of c.args.work.now) c.args.id) c.in_ok-l-in-Some-Range.l c.in_ok-h-in-Some-Range.h (record { low = to_z w64 (of_z w64 c.in_ok-l-in-Some-Range.l); high = to_z w64 (of_z w64 c.in_ok-h-in-Some-Range.h) }) c.eval.new.store c.in_ok-l-in-Some-Range.ensures c.in_ok-h-in-Some-Range.ensures (search rules) (search rules) (sym c.bounds_hold.ensures ∙ c.if-bounds_hold.true) (search rules)
@@ -405,12 +412,6 @@ folds::combined_two-returns-in-Operator g t c = combined_operator c.args.work.no
 
 pub stmts::exec-returns-in-Get : goal.stmts::exec-returns-in-Get
 stmts::exec-returns-in-Get g t c = get_shows c.args.work.now c.args.calls (env_of c.args.env.now) c.args.store.now c.get.new.store (stmt_at (nodes_of c.args.work.now) c.args.id) c.in-Get.at c.in-Get.callee c.in-Get.first c.in-Get.root (selections_at (nodes_of c.args.work.now) c.in-Get.selections) c.in-Get.scalar _ (search rules) c.get.ensures
-
-pub actuals::pass-returns-in_err-all-in-Some-CompositeInOut : goal.actuals::pass-returns-in_err-all-in-Some-CompositeInOut
-actuals::pass-returns-in_err-all-in-Some-CompositeInOut g t c = whole_ends c.args.work.now c.args.calls (env_of c.args.env.now) c.args.store.now c.pass_whole.new.store c.in-Some-CompositeInOut.match-this-own.formal c.in-Some-CompositeInOut.match-this-own.root (selections_at (nodes_of c.args.work.now) c.in-Some-CompositeInOut.match-this-own.selections) c.in-Some-CompositeInOut.match-this-own.subtype (actuals_at (nodes_of c.args.work.now) c.in-Some.cell.rest) (passed_list c.args.work.now c.args.passed) c.in_err-all-in-Some-CompositeInOut.field-0.0 _ (actuals_at (nodes_of c.args.work.now) c.args.id) (search rules) c.in_err-all-in-Some-CompositeInOut.ensures (search rules)
-
-pub actuals::pass_in_out-returns-in_ok-all : goal.actuals::pass_in_out-returns-in_ok-all
-actuals::pass_in_out-returns-in_ok-all g t c = in_out_on c.args.work.now c.args.calls (env_of c.args.env.now) c.args.store.now c.pass_rest.new.store c.args.formal c.args.at c.args.root (selections_at (nodes_of c.args.work.now) c.args.selections) c.args.inside c.args.outside (actuals_at (nodes_of c.args.work.now) c.args.rest) (passed_list c.args.work.now c.args.passed) (Ok c.in_ok-all.all) (part_of c.variable_root.result) c.in_ok-part.part c.in_ok-value.value _ c.in_ok-values.values (passed_list c.args.work.now c.in_ok-more.more) c.select.new.store c.in_ok-part.ensures c.variable_root.ensures c.in_ok-value.ensures (search rules) c.in_ok-values.ensures (search rules) c.in_ok-more.ensures c.in_ok-all.ensures
 
 pub chains::operator-returns-in_ok-y-in-Operator : goal.chains::operator-returns-in_ok-y-in-Operator
 chains::operator-returns-in_ok-y-in-Operator g t c = operated c.args.work.now c.args.calls (env_of c.args.env.now) c.in-Operator.at c.in-Operator.op c.in-Operator.class c.in-Operator.right c.args.link c.args.x _ c.in_ok-y-in-Operator.y _ c.args.store.now c.eval.new.store c.operate.result (search rules) c.in_ok-y-in-Operator.ensures c.operate.ensures (search rules) (search rules)

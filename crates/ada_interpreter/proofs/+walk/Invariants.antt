@@ -1,16 +1,17 @@
 use Rattle.std.proofs.Common.{◌≡◌, ◌+◌, ◌*◌, ◌-◌, ◌≤◌, max, length, drop, suc, []}
 use Rattle.run_store.specs.Shows.{Goes}
 use Rattle.run_store.specs.Environment.{env_of}
-use Rattle.ada_typed.specs.Decoded.{stmts_at, expr_at, optional_at, iteration_at, value_at}
+use Rattle.ada_typed.specs.Decoded.{actuals_at, stmts_at, expr_at, optional_at, iteration_at, value_at}
 use Rattle.behaviours.specs.Joins.{deal}
 use Rattle.ada_meaning.specs.Stored.{threads, after_all, first_of_both}
-use Rattle.run_parts.specs.Passing.{course_of}
+use Rattle.run_parts.specs.Passing.{course_of, passed_list}
 use Rattle.run_parts.specs.Dealing.{chunking_of}
 use Rattle.ada_interpreter.specs.Threads.{task_top}
 use Rattle.run_parts.specs.Words.{nodes_of}
 use Rattle.ada_typed.specs.Chained.{right_of, AreBelow}
 use Rattle.ada_interpreter.proofs.Chaining.{Stands}
-use Rattle.ada_interpreter.specs.Walk.{eval, exec_all, while_loop, while_left, for_loop, for_left, run_values, fold_left, threads_folded, share_folded, combined_onto, threads_run, share_run, share_left}
+use Rattle.ada_interpreter.proofs.Passing.{actual_top}
+use Rattle.ada_interpreter.specs.Walk.{eval, pass, exec_all, while_loop, while_left, for_loop, for_left, run_values, fold_left, threads_folded, share_folded, combined_onto, threads_run, share_run, share_left}
 use Rattle.ada_interpreter.proofs.+walk.Given as goal
 
 -- Calls first, then numbers of nodes, then the order in which functions that go by one node call each other.
@@ -39,8 +40,20 @@ decreases-exprs::holds g l = 1208925819614629174706176 * l.calls + 1099511627776
 abbrev pub decreases-actuals::pass : goal.decreases-actuals::pass
 decreases-actuals::pass g l = 1208925819614629174706176 * l.calls + 1099511627776 * l.id + 274877906944
 
-abbrev pub decreases-actuals::pass_rest : goal.decreases-actuals::pass_rest
-decreases-actuals::pass_rest g l = 1208925819614629174706176 * l.calls + 1099511627776 * l.id + 412316860416
+abbrev pub decreases-actuals::evaluated : goal.decreases-actuals::evaluated
+decreases-actuals::evaluated g l = 1208925819614629174706176 * l.calls + 1099511627776 * actual_top l.actual + 687194767360
+
+abbrev pub decreases-actuals::passed_in : goal.decreases-actuals::passed_in
+decreases-actuals::passed_in g l = 1208925819614629174706176 * l.calls + 1099511627776 * l.value + 549755813888
+
+abbrev pub decreases-actuals::passed_in_out : goal.decreases-actuals::passed_in_out
+decreases-actuals::passed_in_out g l = 1208925819614629174706176 * l.calls + 1099511627776 * l.selections + 549755813888
+
+abbrev pub decreases-actuals::passed_out : goal.decreases-actuals::passed_out
+decreases-actuals::passed_out g l = 1208925819614629174706176 * l.calls + 1099511627776 * l.selections + 549755813888
+
+abbrev pub decreases-actuals::passed_whole : goal.decreases-actuals::passed_whole
+decreases-actuals::passed_whole g l = 1208925819614629174706176 * l.calls + 1099511627776 * l.selections + 549755813888
 
 abbrev pub decreases-values::cells : goal.decreases-values::cells
 decreases-values::cells g l = 1208925819614629174706176 * l.calls + 1099511627776 * l.id + 274877906944
@@ -107,18 +120,6 @@ decreases-names::index g l = 1208925819614629174706176 * l.calls + 1099511627776
 
 abbrev pub decreases-exprs::call_function : goal.decreases-exprs::call_function
 decreases-exprs::call_function g l = 1208925819614629174706176 * l.calls + 1099511627776 * l.actuals + 549755813888
-
-abbrev pub decreases-actuals::pass_in : goal.decreases-actuals::pass_in
-decreases-actuals::pass_in g l = 1208925819614629174706176 * l.calls + 1099511627776 * (max l.value l.rest) + 549755813888
-
-abbrev pub decreases-actuals::pass_in_out : goal.decreases-actuals::pass_in_out
-decreases-actuals::pass_in_out g l = 1208925819614629174706176 * l.calls + 1099511627776 * (max l.selections l.rest) + 549755813888
-
-abbrev pub decreases-actuals::pass_out : goal.decreases-actuals::pass_out
-decreases-actuals::pass_out g l = 1208925819614629174706176 * l.calls + 1099511627776 * (max l.selections l.rest) + 549755813888
-
-abbrev pub decreases-actuals::pass_whole : goal.decreases-actuals::pass_whole
-decreases-actuals::pass_whole g l = 1208925819614629174706176 * l.calls + 1099511627776 * (max l.selections l.rest) + 549755813888
 
 abbrev pub decreases-values::number : goal.decreases-values::number
 decreases-values::number g l = 1208925819614629174706176 * l.calls + 1099511627776 * l.value + 549755813888
@@ -211,6 +212,15 @@ invariant-stmts::exec_all-loop-cell g l = record {
 
 abbrev pub decreases-stmts::exec_all-loop-cell : goal.decreases-stmts::exec_all-loop-cell
 decreases-stmts::exec_all-loop-cell g l = l.at
+
+abbrev pub invariant-actuals::pass-loop-cell : goal.invariant-actuals::pass-loop-cell
+invariant-actuals::pass-loop-cell g l = record {
+  below : l.at ≤ l.id;
+  on : Goes g.P.Port.Tells (pass l.work l.calls (actuals_at (nodes_of l.work) l.id) (env_of l.env) (passed_list l.work l.fn.passed)) l.fn.store (pass l.work l.calls (actuals_at (nodes_of l.work) l.at) (env_of l.env) (passed_list l.work l.all)) l.store;
+}
+
+abbrev pub decreases-actuals::pass-loop-cell : goal.decreases-actuals::pass-loop-cell
+decreases-actuals::pass-loop-cell g l = l.at
 
 abbrev pub invariant-loops::while_loop-loop-turn : goal.invariant-loops::while_loop-loop-turn
 invariant-loops::while_loop-loop-turn g l =
