@@ -1,7 +1,8 @@
 -- Forms of the language, as the functions that go by them.
 use Rattle.std.proofs.Common.{◌≡◌, ◌&&◌, ◌+◌, ◌+ℤ◌, ◌-ℤ◌, ◌*◌, pos, ℕ, ℤ, List, [], ◌∷◌, Bool, true, false, cond, int_le, Option, Some, None, refl, sym, subst}
-use Rattle.std.specs.Prelude.{Result, Ok, Err}
+use Rattle.std.specs.Prelude.{Result, Ok, Err, slice_get}
 use Rattle.ada_base.specs.declared.reason.Reason.TheVariants as reason
+use Rattle.behaviours.specs.Paths as paths
 use Rattle.ada_typed.specs.declared.scalars.Scalar.{Scalar}
 use Rattle.ada_typed.specs.declared.scalars.Check.{Check}
 use Rattle.ada_typed.specs.declared.expressions.Root.{Root}
@@ -70,16 +71,28 @@ module _ {Tells : List ℕ → Outside → Type 0} (w : Work) (d : ℕ) (env : E
       (same_shows (λ a. a) (meaning.bounds_checked (ops w) check range.low range.high) (ret tt) (Ok tt) t t (bounds_so w check range.low range.high within) (refl, stays, λ input told. refl))
       (refl, stays, λ input told. refl))))
 
+  -- a number in its subtype
+  number_comes : (check : Check) (e : Expr) (x : ℤ) (u : Image) → Shows Tells (walk.eval w d e env) (Ok x) s u → is_in check.scalar x ≡ true → Shows Tells (walk.number w d check e env) (Ok (x ∷ [])) s u
+  unfolding ret
+  number_comes check e x u h within =
+      then_shows (λ a. a) (λ a. a) (walk.eval w d e env) (λ v. bind (meaning.checked (ops w) check v) (λ _. ret (v ∷ []))) s u u x (Ok (x ∷ [])) h
+      (then_shows (λ a. a) (λ a. a) (meaning.checked (ops w) check x) (λ _. ret (x ∷ [])) u u u tt (Ok (x ∷ [])) (refl, stays, λ input told. rw within refl) (refl, stays, λ input told. refl))
+
+  -- a number that is returned
+  pub number_returns : (check : Check) (e : Expr) (v : Value) (x z : ℤ) → Shows Tells (walk.eval w d e env) (Ok x) s t → is_in check.scalar x ≡ true → z ≡ x → v ≡ Number check e → Shows Tells (walk.return_value w d v env) (Err (end.Left (leave.Returns (Some z)))) s t
+  unfolding walk.cells walk.eval leaves
+  number_returns check e v x z h within same is =
+      subst (λ v. Shows Tells (walk.return_value w d v env) (Err (end.Left (leave.Returns (Some z)))) s t) (sym is)
+      (then_shows (λ a. a) (λ a. a) (walk.number w d check e env) (λ cs. leaves (paths.Returns (slice_get cs 0))) s t t (x ∷ []) (Err (end.Left (leave.Returns (Some z)))) (number_comes check e x t h within) (refl, stays, λ input told. rw same refl))
+
   -- a number that is stored
   number_stored : (check : Check) (e : Expr) (v : Value) (p : meaning.Part) (x z : ℤ) (u : Image) (r : Result (Unit {0}) End) → Shows Tells (walk.eval w d e env) (Ok x) s u → is_in check.scalar x ≡ true → Shows Tells (write_all w p.object p.offset (z ∷ [])) r u t → z ≡ x → v ≡ Number check e
       → Shows Tells (walk.assigned w d v p env) r s t
-  unfolding walk.cells walk.eval ret
+  unfolding walk.cells walk.eval
   number_stored check e v p x z u r h within k same is =
       let put : List ℤ → Stored (Unit {0}) = λ cs. write_all w p.object p.offset cs in
       subst (λ z. Shows Tells (walk.assigned w d z p env) r s t) (sym is)
-      (then_shows (λ a. a) (λ a. a) (walk.number w d check e env) put s u t (x ∷ []) r
-      (then_shows (λ a. a) (λ a. a) (walk.eval w d e env) (λ v. bind (meaning.checked (ops w) check v) (λ _. ret (v ∷ []))) s u u x (Ok (x ∷ [])) h
-      (then_shows (λ a. a) (λ a. a) (meaning.checked (ops w) check x) (λ _. ret (x ∷ [])) u u u tt (Ok (x ∷ [])) (refl, stays, λ input told. rw within refl) (refl, stays, λ input told. refl)))
+      (then_shows (λ a. a) (λ a. a) (walk.number w d check e env) put s u t (x ∷ []) r (number_comes check e x u h within)
       (subst (λ z. Shows Tells (put (z ∷ [])) r u t) same k))
 
   pub number_gives : (check : Check) (e : Expr) (v : Value) (p : meaning.Part) (x z : ℤ) (u : Image) → Shows Tells (walk.eval w d e env) (Ok x) s u → is_in check.scalar x ≡ true → Shows Tells (writes p.object p.offset z) (Ok tt) u t → z ≡ x → v ≡ Number check e → Shows Tells (walk.assigned w d v p env) (Ok tt) s t

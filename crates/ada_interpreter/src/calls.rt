@@ -68,7 +68,7 @@ pub fn call_checked<P: Port + Drop>(
 }
 
 #[cycle(walk)]
-#[inline(never)]
+#[inline(always)]
 fn called<P: Port + Drop>(
     work: &Work<'_>,
     calls: u32,
@@ -120,7 +120,7 @@ fn with_formals<P: Port + Drop>(
 }
 
 #[cycle(walk)]
-#[inline(never)]
+#[inline(always)]
 fn carried_out<P: Port + Drop>(
     work: &Work<'_>,
     calls: u32,
@@ -137,7 +137,7 @@ fn carried_out<P: Port + Drop>(
 }
 
 #[cycle(walk)]
-#[inline(never)]
+#[inline(always)]
 fn function_value<P: Port + Drop>(
     work: &Work<'_>,
     calls: u32,

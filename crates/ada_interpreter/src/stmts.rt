@@ -18,9 +18,9 @@ use crate::loops::{for_stmt, while_stmt};
 use crate::texts::{get, put};
 use crate::values::{assign, cells};
 use ada_base::{Items, Reason};
-use ada_typed::Stmt;
+use ada_typed::{Stmt, Value};
 use run_parts::{Work, all_copied_back, find_alternative};
-use run_store::{End, Env, Leave, Port, Region, Store, is_true};
+use run_store::{End, Env, Leave, Port, Region, Store, is_in, is_true};
 
 /// A statement.
 #[cycle(walk)]
@@ -162,6 +162,7 @@ fn exit_when<P: Port + Drop>(
 
 #[cycle(walk)]
 #[inline(never)]
+#[tactic(auto, unfolding(ada_meaning::specs::Stored::bind, ada_meaning::specs::Stored::ret, ada_meaning::specs::Stored::leaves, ada_meaning::specs::Stored::spent, ada_meaning::specs::Stored::handles, crate::specs::Walk::cells, crate::specs::Walk::eval))]
 fn return_value<P: Port + Drop>(
     work: &Work<'_>,
     calls: u32,
@@ -171,8 +172,20 @@ fn return_value<P: Port + Drop>(
 ) -> Result<(), End>
     ensures { Shows P.Tells (spec.return_value work.now calls (value_at (nodes_of work.now) value) (env_of env.now)) result store.old store.new }
 {
-    let values = cells(work, calls, value, env, store)?;
-    Err(End::Left(Leave::Returns(values.first())))
+    match work.typed.nodes.value(value) {
+        Some(Value::Number { check, value }) => {
+            let x = eval(work, calls, value, env, store)?;
+            if is_in(check.scalar, x) {
+                Err(End::Left(Leave::Returns(Some(x))))
+            } else {
+                Err(End::Left(Leave::Raises(Reason::ConstraintError)))
+            }
+        }
+        _ => {
+            let values = cells(work, calls, value, env, store)?;
+            Err(End::Left(Leave::Returns(values.first())))
+        }
+    }
 }
 
 #[cycle(walk)]

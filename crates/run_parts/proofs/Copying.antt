@@ -1,11 +1,12 @@
 -- Copies out of calls, a parameter at a time.
-use Rattle.std.proofs.Common.{arith, ◌≡◌, ℕ, ◌+◌, suc, zero, ℤ, List, [], ◌∷◌, ◌++◌, drop, refl, sym, subst, ap}
+use Rattle.std.proofs.Common.{arith, ◌≡◌, ℕ, ◌+◌, suc, zero, ℤ, List, [], ◌∷◌, ◌++◌, drop, take, map, length, slice_index_or, ◌<◌, refl, sym, subst, ap, ◌∙◌}
 use Rattle.std.specs.Prelude.{Result, Ok, Err, Option, Some, None, replicate}
 use Rattle.run_store.specs.Outside.{Outside}
 use Rattle.run_store.specs.Shows.{Image, Shows, entity_of}
 use Rattle.run_store.specs.declared.ends.End.{End}
 use Rattle.run_store.proofs.Going.{goes_refl, goes_ends, stays, then_shows}
 use Rattle.ada_typed.specs.declared.scalars.Check.{Check}
+use Rattle.behaviours.specs.Paths.{Entity}
 use Rattle.ada_meaning.specs.Stored.{bind, ret}
 use Rattle.run_parts.specs.declared.work.Work.{Work}
 use Rattle.run_parts.specs.declared.passed.Passed.{Passed}
@@ -57,6 +58,37 @@ one_before before more cells lists m c l =
 pub one_behind : (before : ℕ) (cells : List ℤ) (lists more : List (List ℤ)) → more ≡ lists ++ cells ∷ [] → replicate before [] ++ more ≡ (replicate before [] ++ lists) ++ cells ∷ []
 one_behind zero cells lists more m = m
 one_behind (suc before) cells lists more m = ap (λ z. [] ∷ z) (one_behind before cells lists more m)
+
+-- ---- parameters in front that aren't copied back
+
+pub kept_more : (ps : List Passed) (k : ℕ) (p d : Passed) → k < length ps → p ≡ slice_index_or ps k d → p.back ≡ None → map (λ p. p.back) (take k ps) ≡ replicate k None → map (λ p. p.back) (take (k + 1) ps) ≡ replicate (k + 1) None
+kept_more ps k p d lt is none h = let m : k + 1 ≡ suc k = omega arith in rw m (go ps k lt is h)
+  where
+    go : (ps : List Passed) (k : ℕ) → k < length ps → p ≡ slice_index_or ps k d → map (λ p. p.back) (take k ps) ≡ replicate k None → map (λ p. p.back) (take (suc k) ps) ≡ replicate (suc k) None
+    go [] k lt is h = absurd (omega (arith, lt))
+    go (q ∷ ps) zero lt is h = ap (λ (z : Option Back). z ∷ []) (ap (λ (z : Passed). z.back) (sym is) ∙ none)
+    go (q ∷ ps) (suc k) lt is h = let x : q.back ≡ None = cc in let y : map (λ p. p.back) (take k ps) ≡ replicate k None = cc in rw x (ap (λ z. None ∷ z) (go ps k (omega (arith, lt)) is y))
+
+module _ {Tells : List ℕ → Outside → Type 0} (w : Work) (s : Image) (r : Result (List (List ℤ)) End) where
+  none_kept : (formal : Entity) (b : Option Back) → b ≡ None → Shows Tells (cells_back w formal (back_option w b)) (Ok []) s s
+  unfolding ret
+  none_kept formal b e = subst (λ z. Shows Tells (cells_back w formal (back_option w z)) (Ok []) s s) (sym e) (refl, stays, λ input told. refl)
+
+  back_behind : (n b m : ℕ) (ps : List Passed) → map (λ (p : Passed). p.back) (take n ps) ≡ replicate n None → m ≡ b + n → Shows Tells (back_cells w (passed_list w (drop n ps)) (replicate m [] ++ [])) r s s → Shows Tells (back_cells w (passed_list w ps) (replicate b [] ++ [])) r s s
+  back_behind zero b m ps e q h = let same : m ≡ b = omega (arith, q) in subst (λ z. Shows Tells (back_cells w (passed_list w ps) (replicate z [] ++ [])) r s s) same h
+  back_behind (suc n) b m [] e q h = cc
+  back_behind (suc n) b m (p ∷ ps) e q h =
+      let none : p.back ≡ None = cc in
+      let others : map (λ (p : Passed). p.back) (take n ps) ≡ replicate n None = cc in
+      back_step w p ps (p ∷ ps) refl (replicate b [] ++ []) s [] (replicate (suc b) [] ++ []) r (none_kept (entity_of p.formal) p.back none) (one_more b) (back_behind n (suc b) m ps others (omega (arith, q)) h)
+
+  pub back_from : (n b m : ℕ) (ps rest : List Passed) (lists given out : List (List ℤ)) → map (λ (p : Passed). p.back) (take n ps) ≡ replicate n None → m ≡ b + n → rest ≡ drop n ps → lists ≡ [] → given ≡ replicate m [] ++ lists → out ≡ replicate b [] ++ lists
+      → Shows Tells (back_cells w (passed_list w rest) given) r s s → Shows Tells (back_cells w (passed_list w ps) out) r s s
+  back_from n b m ps rest lists given out e q is empty now was h =
+      let on : given ≡ replicate m [] ++ [] = now ∙ ap (λ z. replicate m [] ++ z) empty in
+      let from : out ≡ replicate b [] ++ [] = was ∙ ap (λ z. replicate b [] ++ z) empty in
+      subst (λ z. Shows Tells (back_cells w (passed_list w ps) z) r s s) (sym from)
+      (back_behind n b m ps e q (subst (λ z. Shows Tells (back_cells w (passed_list w z) (replicate m [] ++ [])) r s s) is (subst (λ z. Shows Tells (back_cells w (passed_list w rest) z) r s s) on h)))
 
 module _ {Tells : List ℕ → Outside → Type 0} (w : Work) (d : ℕ) where
   nothing_back : (b : Option Back) (s : Image) → Shows Tells (copied_back w d (back_option w b) []) (Ok tt) s s

@@ -1,6 +1,6 @@
 //! Copies into and out of calls (6.4.1), and first cells of objects.
 
-ghost use Rattle.std.specs.Prelude.{◌≡◌, ◌++◌, ◌∷◌, [], drop, option_map};
+ghost use Rattle.std.specs.Prelude.{◌≡◌, ◌++◌, ◌∷◌, [], drop, map, option_map, replicate, take};
 ghost use Rattle.ada_typed.specs.Programs.{program, sub_of};
 ghost use Rattle.ada_meaning.specs.Meaning as meaning;
 ghost use Rattle.run_store.specs.Shows.{Shows, OrNoMemory, entity_of};
@@ -73,8 +73,45 @@ pub fn find_sub(work: &Work<'_>, number: u32) -> Option<Sub>
 }
 
 /// The cells of the formals that are copied back, behind others.
-#[tactic(auto, unfolding(ada_meaning::specs::Stored::bind, ada_meaning::specs::Stored::ret, ada_meaning::specs::Stored::leaves, ada_meaning::specs::Stored::spent, ada_meaning::specs::Stored::handles, crate::specs::Words::back_cells))]
 pub fn back_cells<P: Port + Drop>(
+    work: &Work<'_>,
+    passed: &[Passed],
+    out: BackCells,
+    store: &Store<P>,
+) -> Result<BackCells, End>
+    ensures { Shows P.Tells (spec.back_cells work.now (passed_list work.now passed.now) out) result store.now store.now }
+{
+    let BackCells { before, lists } = out;
+    if lists.is_empty() {
+        let kept = kept_in_front(passed);
+        match before.checked_add(kept) {
+            None => Err(End::NoMemory),
+            Some(before) => {
+                let rest = behind(passed, kept);
+                back_cells_behind(work, rest, BackCells { before, lists }, store)
+            }
+        }
+    } else {
+        back_cells_behind(work, passed, BackCells { before, lists }, store)
+    }
+}
+
+// how many parameters in front aren't copied back
+fn kept_in_front(passed: &[Passed]) -> usize
+    ensures { map (λ p. p.back) (take result passed.now) ≡ replicate result None }
+{
+    let mut kept = 0;
+    while let Some(first) = passed.get(kept) {
+        if first.back.is_some() {
+            return kept;
+        }
+        kept += 1;
+    }
+    kept
+}
+
+#[tactic(auto, unfolding(ada_meaning::specs::Stored::bind, ada_meaning::specs::Stored::ret, ada_meaning::specs::Stored::leaves, ada_meaning::specs::Stored::spent, ada_meaning::specs::Stored::handles, crate::specs::Words::back_cells))]
+fn back_cells_behind<P: Port + Drop>(
     work: &Work<'_>,
     passed: &[Passed],
     out: BackCells,
@@ -87,7 +124,7 @@ pub fn back_cells<P: Port + Drop>(
         Some((first, rest)) => {
             let cells = cells_back(work, first.formal, first.back, store)?;
             let more = out.push(cells)?;
-            let all = back_cells(work, rest, more, store)?;
+            let all = back_cells_behind(work, rest, more, store)?;
             Ok(all)
         }
     }

@@ -20,7 +20,7 @@ use Rattle.ada_interpreter.proofs.Handling.{caught_shows, chosen_some, chosen_no
 use Rattle.ada_interpreter.proofs.Folding.{folds_begin, gives_as, onto_as, share_folded_as, threads_folded_as, fold_one_on, fold_one_stops, fold_step, fold_ends, fold_done, fold_none, fold_as, fold_fails, fold_share_none, fold_share_on, fold_share_ends, onto_step, onto_ends, onto_done}
 use Rattle.ada_typed.specs.Chained.{right_of}
 use Rattle.ada_interpreter.proofs.Chaining.{operated, stands_begins, first_ends, stands_step, stands_ends, stands_done, all_below, last_below}
-use Rattle.ada_interpreter.proofs.Forms.{index_as, index_on, index_ends, range_holds, number_gives, number_ends, get_on, get_ends, get_not, get_shows}
+use Rattle.ada_interpreter.proofs.Forms.{index_as, index_on, index_ends, range_holds, number_returns, number_gives, number_ends, get_on, get_ends, get_not, get_shows}
 use Rattle.ada_interpreter.proofs.Passing.{pass_step, pass_ends, pass_fails, one_more, pass_done, number_in}
 use Rattle.ada_interpreter.proofs.Threading.{thread_gives, thread_spent, thread_left, threads_more, threads_end, threads_fail, threads_joined, threads_spent, spent_as, gathered_none}
 use Rattle.ada_interpreter.proofs.Dealing.{threads_on, threads_ends, count_on, count_ends, loops_begin, each_on, each_ends, dealt_loop_shows, dealt_arms_shows, dealt_arms_ends, parallel_for_ends, parallel_for_on, parallel_for_stops, parallel_block_ends, parallel_block_on, parallel_block_stops, chunked_loop_on, chunked_loop_stops, chunked_loop_many, turn_none, turn_some, turn_ends, reduction_shows, parallel_reduction_shows, parallel_reduction_ends, parallel_reduction_on, parallel_reduction_stops, chunked_fold_on, chunked_fold_stops, chunked_fold_many, chunked_fold_ends, dealt_fold_ends, dealt_fold_on, dealt_fold_stops, share_begins, share_step, share_ends, share_done}
@@ -133,6 +133,9 @@ names::index-returns-in_err-found g t c = index_ends c.args.work.now c.args.call
 
 pub courses::begin_course-returns-then-bounds_hold : goal.courses::begin_course-returns-then-bounds_hold
 courses::begin_course-returns-then-bounds_hold g t c = range_holds c.args.work.now c.args.calls (env_of c.args.env.now) c.args.store.now c.eval-in-Some-Range.new.store c.in-Some-Range.parameter c.in-Some-Range.reverse (expr_at (nodes_of c.args.work.now) c.in-Some-Range.low) (expr_at (nodes_of c.args.work.now) c.in-Some-Range.high) c.check.result (optional_at (nodes_of c.args.work.now) c.in-Some-Range.field-0-5) (iteration_at (nodes_of c.args.work.now) c.args.id) c.in_ok-l-in-Some-Range.l c.in_ok-h-in-Some-Range.h (record { low = to_z w64 (of_z w64 c.in_ok-l-in-Some-Range.l); high = to_z w64 (of_z w64 c.in_ok-h-in-Some-Range.h) }) c.eval.new.store c.in_ok-l-in-Some-Range.ensures c.in_ok-h-in-Some-Range.ensures (search rules) (search rules) (sym c.bounds_hold.ensures ∙ c.if-bounds_hold.true) (search rules)
+
+pub stmts::return_value-returns-then-is_in : goal.stmts::return_value-returns-then-is_in
+stmts::return_value-returns-then-is_in g t c = number_returns c.args.work.now c.args.calls (env_of c.args.env.now) c.args.store.now c.eval.new.store c.in-Some-Number.check (expr_at (nodes_of c.args.work.now) c.in-Some-Number.value) (value_at (nodes_of c.args.work.now) c.args.value) c.in_ok-x-in-Some-Number.x _ c.in_ok-x-in-Some-Number.ensures (search rules) (search rules) (search rules)
 
 pub values::assigned-returns-in_ok-write-in-Some-Number : goal.values::assigned-returns-in_ok-write-in-Some-Number
 values::assigned-returns-in_ok-write-in-Some-Number g t c = number_gives c.args.work.now c.args.calls (env_of c.args.env.now) c.args.store.now c.write.new.self c.in-Some-Number.check (expr_at (nodes_of c.args.work.now) c.in-Some-Number.value) (value_at (nodes_of c.args.work.now) c.args.id) (part_of c.args.part) c.in_ok-x-in-Some-Number.x _ c.eval.new.store c.in_ok-x-in-Some-Number.ensures (search rules) c.in_ok-write-in-Some-Number.ensures (search rules) (search rules)

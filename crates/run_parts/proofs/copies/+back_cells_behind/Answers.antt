@@ -1,6 +1,6 @@
 use Rattle.std.proofs.Common.{rules, Ok}
 use Rattle.run_parts.proofs.Copying.{back_step, back_ends}
-use Rattle.run_parts.proofs.copies.+back_cells.Goals as goal
+use Rattle.run_parts.proofs.copies.+back_cells_behind.Goals as goal
 
 pub returns-in_err-cells-in-Some : goal.returns-in_err-cells-in-Some
 returns-in_err-cells-in-Some g t c = back_ends c.args.work.now c.in-Some.first.now c.in-Some.rest.now c.args.passed.now (search rules) c.args.out c.args.store.now c.in_err-cells-in-Some.field-0.0 _ (search rules) c.in_err-cells-in-Some.ensures
