@@ -1,17 +1,10 @@
 -- Texts and their names.
-use Rattle.std.proofs.Common.{◌≡◌, ◌↔◌, ℕ, Bool, true, false, IsTrue, cond, List, [], ◌∷◌, map, Some, Result, Ok, Err, IfOk, IfErr, find, refl}
+use Rattle.std.proofs.Common.{◌≡◌, ◌↔◌, ℕ, Bool, false, IsTrue, List, Result, Ok, Err, IfOk, IfErr, refl}
 use Rattle.std.specs.Prelude.{Vec}
-use Rattle.std.specs.Option.{option_map}
 use Rattle.ada_port.specs.Ports.{Fetches, fetched}
 use Rattle.ada_port.specs.Shelves.{one_text}
 use Rattle.ada_port.specs.declared.ports.ShelfFault.{ShelfFault}
 use Rattle.ada_port.specs.declared.ports.ShelfFault.TheVariants as fault
-
--- a search after a map is one before it
-pub find-map : {X Y : Type 0} (f : X → Y) (p : Y → Bool) (xs : List X) → find p (map f xs) ≡ option_map f (find (λ x. p (f x)) xs)
-find-map f p [] = refl
-find-map f p (x ∷ xs) =
-    elim (p (f x)) as (λ b. cond b (Some (f x)) (find p (map f xs)) ≡ option_map f (cond b (Some x) (find (λ y. p (f y)) xs))) [ true ↦ refl | false ↦ find-map f p xs ]
 
 -- a copy in place of a fetch fails for want of memory alone
 pub copied-fails : {V : Type 0} (answer : Result V ShelfFault) (fails : Bool) → IfErr answer (λ f. f ≡ fault.OutOfMemory) → fails ≡ false → (answer ≡ Err fault.Failed) ↔ IsTrue fails

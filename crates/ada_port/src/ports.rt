@@ -32,6 +32,13 @@ impl From<AllocError> for ShelfFault {
 }
 
 impl From<io::Error> for ShelfFault {
+    ghost use Rattle.std.specs.Prelude.{◌≡◌, ◌↔◌};
+    ghost use Rattle.std.specs.IoError.{error_kind};
+    ghost use Rattle.std.specs.declared.io.ErrorKind.{ErrorKind};
+    ghost use Rattle.ada_port.specs.declared.ports.ShelfFault.{ShelfFault};
+
+    ghost from_gives = { λ error fault. (fault ≡ ShelfFault.OutOfMemory) ↔ (error_kind error ≡ ErrorKind.OutOfMemory) };
+
     fn from(error: io::Error) -> ShelfFault {
         match error.kind() {
             ErrorKind::OutOfMemory => ShelfFault::OutOfMemory,

@@ -1,5 +1,4 @@
-ghost use Rattle.std.specs.Prelude.{◌≡◌, ◌↔◌, IfErr, IfOk, IfSome, IsTrue, find, map, option_copied, string_bytes};
-ghost use Rattle.std.specs.Str.{bytes_eq};
+ghost use Rattle.std.specs.Prelude.{◌≡◌, ◌↔◌, IfErr, IfOk, IfSome, IsTrue, map, option_copied};
 ghost use Rattle.ada_port.specs.Ports.{Fetches, fetched};
 ghost use Rattle.ada_port.specs.Shelves.{after_fetch, fetch_fails, named_text, one_text, text_of, texts_of};
 
@@ -139,14 +138,14 @@ impl Shelf for SureShelf {
 fn text_of<'a>(texts: &'a [ShelfText], name: &str) -> Option<&'a [u8]>
     ensures { option_copied result ≡ text_of (map named_text texts.now) name.now }
 {
-    let entry = entry_of(texts, name)?;
-    Some(&entry.bytes)
-}
-
-fn entry_of<'a>(texts: &'a [ShelfText], name: &str) -> Option<&'a ShelfText>
-    ensures { option_copied result ≡ find (λ t. bytes_eq (string_bytes t.name) name.now) texts.now }
-{
-    texts.iter().find(|text| text.name.as_str() == name)
+    let mut rest = texts;
+    while let Some((text, others)) = rest.split_first() {
+        if text.name.as_str() == name {
+            return Some(&text.bytes);
+        }
+        rest = others;
+    }
+    None
 }
 
 // All the bytes of a text, or as many as a fetch gives.

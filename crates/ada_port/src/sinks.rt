@@ -71,8 +71,14 @@ impl MemSink {
     fn entry(&self) -> Option<SinkFail>
         ensures { result ≡ entry_of self.now }
     {
-        let call = self.calls;
-        self.fails.iter().copied().find(|fail| fail.call == call)
+        let mut rest = self.fails.as_slice();
+        while let Some((fail, others)) = rest.split_first() {
+            if fail.call == self.calls {
+                return Some(*fail);
+            }
+            rest = others;
+        }
+        None
     }
 
     fn is_too_long(&self, piece: &[u8]) -> bool
