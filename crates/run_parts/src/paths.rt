@@ -1,9 +1,9 @@
 //! Parts of arrays whose indexes are parameters of loops (4.1.1), which are found before a run.
 
-ghost use Rattle.std.specs.Prelude.{◌≡◌, ◌+ℤ◌, pos, IfSome, option_copied};
+ghost use Rattle.std.specs.Prelude.{◌≡◌, ◌+ℤ◌, pos, [], ◌∷◌, ◌++◌, IfSome, OnErr, OnOk, option_copied};
 ghost use Rattle.ada_typed.specs.Decoded.{as_selection, part_at, selections_at};
 ghost use Rattle.ada_typed.specs.Syntax.{Selections};
-ghost use Rattle.run_parts.specs.Paths.{AreOf, index_by, selections_by};
+ghost use Rattle.run_parts.specs.Paths.{AreOf, index_by, path_at, selections_by};
 
 use ada_base::Items;
 use ada_typed::{Expr, Nodes, Selection};
@@ -37,12 +37,15 @@ pub struct Paths {
 }
 
 impl Model for Paths {
-    ghost use Rattle.std.specs.Prelude.{ℕ, Option, option_and_then, slice_get};
+    ghost use Rattle.std.specs.Prelude.{List, Option};
     ghost use Rattle.run_parts.specs.declared.paths.Path.{Path};
+    ghost use Rattle.run_parts.specs.Paths.{AreWithin, paths_in};
 
-    ghost Value = { ℕ → Option Path };
+    ghost Value = { List (Option Path) };
 
-    ghost view = { λ p id. option_and_then (slice_get p.places id) (λ place. option_and_then place (slice_get p.list)) };
+    ghost view = { λ p. paths_in p.list p.places };
+
+    ghost invariant = { λ p. AreWithin p.list p.places };
 }
 
 impl Paths {
@@ -63,22 +66,26 @@ impl Paths {
         paths
     }
 
-    // what one number more has
+    // What one number more has. An Err is want of memory or of numbers.
     fn push(&mut self, found: Option<Path>) -> Result<(), AllocError>
+        ensures ok { OnOk result (self.new ≡ self.old ++ found ∷ []) }
+        ensures err { OnErr result (self.new ≡ self.old) }
     {
         match found {
             None => self.places.push(None),
             Some(path) => {
-                let place = self.list.len();
+                let Ok(place) = u32::try_from(self.list.len()) else {
+                    return Err(AllocError);
+                };
                 self.list.push(path)?;
-                self.places.push(Some(place as u32))
+                self.places.push(Some(place))
             }
         }
     }
 
     /// The path of selections, where they are one.
     pub fn path(&self, id: u32) -> Option<&Path>
-        ensures { option_copied result ≡ self.now id }
+        ensures { option_copied result ≡ path_at self.now id }
     {
         match self.places.get(id as usize) {
             Some(Some(place)) => self.list.get(*place as usize),

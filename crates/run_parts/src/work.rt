@@ -1,6 +1,7 @@
 //! What a run is of.
 
 ghost use Rattle.run_parts.specs.Paths.{AreOf};
+ghost use Rattle.run_parts.specs.PathProps.{AreOf-prop};
 
 use crate::paths::Paths;
 use crate::plans::SoundPlan;
@@ -15,5 +16,5 @@ pub struct Work<'a> {
     pub plan: &'a SoundPlan,
     pub limit: u64,
     pub alloc: Global,
-    pub ghost are_of: { AreOf typed.now.nodes paths.now },
+    pub ghost are_of: { AreOf typed.now.nodes paths.now } by { AreOf-prop typed.now.nodes paths.now },
 }
