@@ -1,5 +1,5 @@
 -- What a table of paths says has one proof at most.
-use Rattle.std.specs.Prelude.{◌≡◌, ℕ, ◌×◌, ◌+ℤ◌, pos, List, Option, Some, ⊤, ⊥}
+use Rattle.std.specs.Prelude.{◌≡◌, ℕ, ◌+ℤ◌, pos, List, Option, Some, ⊤}
 use mathlib.Core.HLevel.{Π_prop, Unit-prop, ⊥_prop}
 use mathlib.Core.Path.{refl, subst⁻¹, path_j', PathP}
 use denote.Struct.Props as logic
@@ -14,10 +14,10 @@ use Rattle.run_parts.specs.Paths.{AreOf, index_by, path_at, selections_by}
 -- A relation that has one proof at most, holds of a value and leads to equations with it: then those equations have one
 -- proof at most.
 module _ {A : Type 0} {a : A} (Q : A → Type 0) (Q-prop : (x : A) → IsProp (Q x)) (q : Q a) (back : (x : A) → Q x → x ≡ a) where
-  there : (x : A) → x ≡ a → Q x
+  abbrev there : (x : A) → x ≡ a → Q x
   there x p = subst⁻¹ Q p q
 
-  around : (x : A) → x ≡ a → x ≡ a
+  abbrev around : (x : A) → x ≡ a → x ≡ a
   around x p = back x (there x p)
 
   straight : {b : A} (p : b ≡ a) → PathP (λ i. p i ≡ a) (around b p) (around a refl)
@@ -53,17 +53,19 @@ IsIndex-prop i P h s = ⊥_prop
 
 whole-back : (s : Selections) → IsWhole s → s ≡ Whole
 whole-back Whole e = refl
+whole-back s e = elim e [ ]
 
 index-back : (i : ParameterIndex) (P : Selections → Type 0) (r : Selections) → ((s : Selections) → P s → s ≡ r) → (s : Selections) → IsIndex i P s → s ≡ index_by i r
 index-back i P r h (Index at (Parameter token parameter) low high stride rest) (a, t, p, l, u, d, e) =
     λ k. Index (a k) (Parameter (t k) (p k)) (l k) (u k) (d k) (h rest e k)
+index-back i P r h s e = elim e [ ]
 
 One-prop : (i : ParameterIndex) (s : Selections) → IsProp (s ≡ index_by i Whole)
 One-prop i = equation-prop (IsIndex i IsWhole) (IsIndex-prop i IsWhole IsWhole-prop) (refl, refl, refl, refl, refl, refl, tt) (index-back i IsWhole Whole whole-back)
 
 Two-prop : (i j : ParameterIndex) (s : Selections) → IsProp (s ≡ index_by i (index_by j Whole))
 Two-prop i j =
-    equation-prop (IsIndex i (IsIndex j IsWhole)) (IsIndex-prop i (IsIndex j IsWhole) (IsIndex-prop j IsWhole IsWhole-prop)) (refl, refl, refl, refl, refl, refl, refl, refl, refl, refl, refl, refl, tt) (index-back i (IsIndex j IsWhole) (index_by j Whole) (index-back j IsWhole Whole whole-back))
+    equation-prop (IsIndex i (IsIndex j IsWhole)) (IsIndex-prop i (IsIndex j IsWhole) (IsIndex-prop j IsWhole IsWhole-prop)) (refl, refl, refl, refl, refl, refl, (refl, refl, refl, refl, refl, refl, tt)) (index-back i (IsIndex j IsWhole) (index_by j Whole) (index-back j IsWhole Whole whole-back))
 
 path-prop : (p : Path) (s : Selections) → IsProp (s ≡ selections_by p)
 path-prop (path.One i) s = One-prop i s
