@@ -1,5 +1,5 @@
 -- What a table of paths says has one proof at most.
-use Rattle.std.specs.Prelude.{◌≡◌, ℕ, ◌+ℤ◌, pos, List, Option, Some, ⊤}
+use Rattle.std.specs.Prelude.{◌≡◌, ◌+ℤ◌, pos, List, Option, ⊤}
 use mathlib.Core.HLevel.{Π_prop, Unit-prop, ⊥_prop}
 use mathlib.Core.Path.{refl, subst⁻¹, path_j', PathP}
 use denote.Struct.Props as logic
@@ -9,7 +9,7 @@ use Rattle.ada_typed.specs.Syntax.{Parameter, Selections, Whole, Index}
 use Rattle.run_parts.specs.declared.paths.ParameterIndex.{ParameterIndex}
 use Rattle.run_parts.specs.declared.paths.Path.{Path}
 use Rattle.run_parts.specs.declared.paths.Path.TheVariants as path
-use Rattle.run_parts.specs.Paths.{AreOf, index_by, path_at, selections_by}
+use Rattle.run_parts.specs.Paths.{AreOf, index_by, selections_by}
 
 -- A relation that has one proof at most, holds of a value and leads to equations with it: then those equations have one
 -- proof at most.

@@ -1,5 +1,5 @@
 -- Selections whose indexes are parameters of loops (4.1.1).
-use Rattle.std.specs.Prelude.{◌≡◌, ℕ, ◌+ℤ◌, ◌<◌, pos, List, map, slice_get, Option, Some, None, IfSome, option_and_then, All, length}
+use Rattle.std.specs.Prelude.{◌≡◌, ℕ, ◌+ℤ◌, ◌<◌, pos, List, map, slice_get, Option, Some, IfSome, option_and_then, All, length}
 use Rattle.ada_typed.specs.declared.node.Node.{Node}
 use Rattle.ada_typed.specs.Decoded.{selections_at}
 use Rattle.ada_typed.specs.Syntax.{Selections, Whole, Index, Parameter}
