@@ -11,11 +11,12 @@ mod exprs;
 mod folds;
 mod loops;
 mod names;
+mod paths;
 mod quick;
 mod runs;
 mod stmts;
 mod texts;
 mod values;
 
-pub use run_parts::{SoundPlan, Work};
+pub use run_parts::{Paths, SoundPlan, Work};
 pub use runs::run;

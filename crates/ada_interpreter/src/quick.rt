@@ -9,6 +9,7 @@ ghost use Rattle.ada_interpreter.specs.Quick.{Gives, GivesAs, SameAs, at_offset}
 ghost use Rattle.ada_interpreter.specs.Walk as spec;
 ghost use Rattle.run_parts.specs.Words.{nodes_of};
 
+use crate::paths::{constant_by_path, place_by_path, variable_by_path};
 use ada_typed::{Check, Class, Comparison, Expr, Link, Root, Selection, Sign};
 use run_parts::Work;
 use run_store::{
@@ -118,7 +119,8 @@ fn quick_leaf<P: Port + Drop>(
     }
 }
 
-/// What `quick_leaf` gives, or the value of an object that is a scalar as a whole. It calls nothing of the cycle either.
+/// What `quick_leaf` gives, or the value of an object that is a scalar as a whole or of a part to which a path leads. It
+/// calls nothing of the cycle either.
 #[inline(always)]
 #[tactic(auto, unfolding(ada_meaning::specs::Stored::bind, ada_meaning::specs::Stored::ret, crate::specs::Walk::eval, crate::specs::Walk::select))]
 fn quick_simple<P: Port + Drop>(
@@ -135,20 +137,20 @@ fn quick_simple<P: Port + Drop>(
             root,
             selections,
             ..
-        } => scalar_variable(work, calls, root, selections, env, store),
+        } => simple_variable(work, calls, root, selections, env, store),
         Expr::Constant {
             root,
             selections,
             ..
-        } => scalar_constant(work, calls, root, selections, env, store),
+        } => simple_constant(work, calls, root, selections, env, store),
         _ => quick_leaf(work, calls, id, env, store),
     }
 }
 
-// the value of a variable that is a scalar as a whole
+// the value of a variable that is a scalar as a whole, or of a part to which a path leads
 #[inline(always)]
 #[tactic(auto, unfolding(ada_meaning::specs::Stored::bind, ada_meaning::specs::Stored::ret, crate::specs::Walk::eval, crate::specs::Walk::select))]
-fn scalar_variable<P: Port + Drop>(
+fn simple_variable<P: Port + Drop>(
     work: &Work<'_>,
     calls: u32,
     root: Root,
@@ -159,7 +161,7 @@ fn scalar_variable<P: Port + Drop>(
     ensures { Gives P.Tells (spec.variable work.now calls root (selections_at (nodes_of work.now) selections) (env_of env.now)) store.now result }
 {
     match work.typed.nodes.selections(selections) {
-        Some(_) => None,
+        Some(_) => variable_by_path(work, calls, root, selections, env, store),
         None => {
             let part = env.variable_root(root);
             store.cell(Object::Variable(part.object), part.offset)
@@ -167,10 +169,10 @@ fn scalar_variable<P: Port + Drop>(
     }
 }
 
-// the value of a constant that is a scalar as a whole
+// the value of a constant that is a scalar as a whole, or of a part to which a path leads
 #[inline(always)]
 #[tactic(auto, unfolding(ada_meaning::specs::Stored::bind, ada_meaning::specs::Stored::ret, crate::specs::Walk::eval, crate::specs::Walk::select))]
-fn scalar_constant<P: Port + Drop>(
+fn simple_constant<P: Port + Drop>(
     work: &Work<'_>,
     calls: u32,
     root: Root,
@@ -181,7 +183,7 @@ fn scalar_constant<P: Port + Drop>(
     ensures { Gives P.Tells (spec.constant work.now calls root (selections_at (nodes_of work.now) selections) (env_of env.now)) store.now result }
 {
     match work.typed.nodes.selections(selections) {
-        Some(_) => None,
+        Some(_) => constant_by_path(work, calls, root, selections, env, store),
         None => {
             let part = env.constant_root(root);
             store.cell(Object::Constant(part.object), part.offset)
@@ -419,7 +421,7 @@ fn quick_converted<P: Port + Drop>(
     }
 }
 
-/// What `quick_offset` gives, without a call of it where no selection is left.
+/// What `quick_offset` gives, without a call of it where no selection is left or a path leads there.
 #[cycle(quick)]
 #[inline(always)]
 #[tactic(auto, unfolding(ada_meaning::specs::Stored::bind, ada_meaning::specs::Stored::ret, crate::specs::Walk::eval, crate::specs::Walk::select))]
@@ -437,7 +439,10 @@ pub fn quick_rest<P: Port + Drop>(
 {
     match work.typed.nodes.selections(id) {
         None => Some(offset),
-        Some(_) => quick_offset(work, calls, levels, id, env, object, offset, store),
+        Some(_) => match place_by_path(work, id, env, offset) {
+            Some(inner) => Some(inner),
+            None => quick_offset(work, calls, levels, id, env, object, offset, store),
+        },
     }
 }
 

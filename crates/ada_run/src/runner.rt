@@ -7,7 +7,7 @@ ghost use Rattle.chunk_plan.specs.Plans.{HasNoZero};
 ghost use Rattle.ada_run.specs.Running.{Comes, Runs, setting_of};
 
 use crate::unit::Unit;
-use ada_interpreter::{SoundPlan, Work, run};
+use ada_interpreter::{Paths, SoundPlan, Work, run};
 use ada_port::{Pulse, Sink, Source};
 use chunk_plan::Setting;
 use run_reports::{Finals, RunEnd, end_of};
@@ -59,8 +59,10 @@ pub fn execute<R: Threads + Sync, I: Source + Drop, O: Sink + Drop, P: Pulse + S
     let _ = pulse;
     let Setting { plan, turns, .. } = setting;
     let plan = SoundPlan::new(plan);
+    let paths = Paths::of(alloc, &unit.typed.nodes, unit.typed.body);
     let work = Work {
         typed: &unit.typed,
+        paths: &paths,
         plan: &plan,
         limit: turns,
         alloc,

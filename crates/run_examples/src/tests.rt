@@ -1,5 +1,5 @@
 use ada_base::{Base, Items, Op};
-use ada_interpreter::{SoundPlan, Work, run};
+use ada_interpreter::{Paths, SoundPlan, Work, run};
 use ada_port::{HeldSink, SureSource};
 use ada_typed::{Check, Class, Object, Root, Scalar, Subtype, Typed};
 use chunk_plan::Plan;
@@ -431,8 +431,10 @@ fn shown(
     let Some(plan) = SoundPlan::checked(plan) else {
         return format!(in alloc; "a plan with a zero");
     };
+    let paths = Paths::of(alloc, &typed.nodes, typed.body);
     let work = Work {
         typed: &typed,
+        paths: &paths,
         plan: &plan,
         limit,
         alloc,

@@ -3,3 +3,4 @@ pub mod Copying
 pub mod Texts
 pub mod Reducing
 pub mod Dealt
+mod PathTables

@@ -1,3 +1,5 @@
+pub mod Paths
+pub mod PathProps
 pub mod Words
 pub mod Passing
 pub mod Found

@@ -53,19 +53,10 @@ impl<'a> Env<'a> {
         ensures { result ≡ (env_of self.now).parameter wanted }
     {
         match self {
+            Env::Parameter { number, value, .. } if wanted == *number => *value,
             Env::Outset { .. } => 0,
-            Env::Parameter {
-                number,
-                value,
-                outer,
-            } => {
-                if wanted == *number {
-                    *value
-                } else {
-                    outer.parameter(wanted)
-                }
-            }
-            Env::Item { outer, .. }
+            Env::Parameter { outer, .. }
+            | Env::Item { outer, .. }
             | Env::Target { outer, .. }
             | Env::Handled { outer, .. }
             | Env::Inside { outer, .. } => outer.parameter(wanted),

@@ -173,6 +173,7 @@ impl<P: Port + Drop> Store<P> {
     }
 
     /// A cell of an object, where it has one.
+    #[inline(always)]
     #[tactic(auto, unfolding(ada_meaning::specs::Stored::reads))]
     pub fn cell(&self, object: Object, offset: u64) -> Option<i64>
         ensures { Gives P.Tells (spec.reads (entity_of object) offset) self.now result }
