@@ -2,7 +2,7 @@
 use Rattle.std.proofs.Common.{◌≡◌, ℕ, zero, suc, ◌+◌, ◌*◌, ◌<◌, ◌≤◌, Option, Some, None, Ok, Bool, true, false, ◌||◌, cond, ℤ, refl, sym, ap, ◌∙◌, ◌⊎◌, inl, inr, arith}
 use Rattle.std.proofs.lemmas.Bool.Decides.{nat_tests}
 use Rattle.ada_base.specs.declared.reason.Reason.TheVariants as reason
-use Rattle.ada_base.specs.Input.{Held, Nothing, Symbol, is_blank, is_byte, is_digit, digit_of, is_based, is_integer, signed}
+use Rattle.ada_base.specs.Input.{is_blank, is_byte, is_digit, digit_of, is_based, is_integer, signed}
 use Rattle.ada_base.specs.Input as input
 use Rattle.ada_io.specs.Plain.{Feed, Byte, End, Fault, State, After, at, Doing, next, given, asked, then, plain}
 use Rattle.ada_io.specs.Phases.{after_digit, needs_digit}

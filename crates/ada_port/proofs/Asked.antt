@@ -1,6 +1,6 @@
 -- What a source has left shrinks by one byte after another.
-use Rattle.std.proofs.Common.{◌≡◌, ℕ, List, [], ◌++◌, append_assoc, Option, Some, None, IsSome, refl, sym, ap, ◌∙◌}
-use Rattle.ada_port.specs.Ports.{Stream, Loses, Gives, GivesAll, GivesUntil, IsTold, bytes_of, bytes_told}
+use Rattle.std.proofs.Common.{ℕ, List, [], ◌++◌, append_assoc, Option, refl, sym, ap, ◌∙◌}
+use Rattle.ada_port.specs.Ports.{Stream, Loses, Gives, GivesAll, GivesUntil}
 use Rattle.ada_port.proofs.Faults.{Rose-after_same}
 
 pub Loses-none : (a : Option (List ℕ)) → Loses a a []

@@ -1,7 +1,7 @@
 -- What is put grows by one piece after another.
-use Rattle.std.proofs.Common.{◌≡◌, ℕ, List, [], ◌++◌, append_assoc, Option, Some, None, IsSome, refl, sym, ap, ◌∙◌}
+use Rattle.std.proofs.Common.{◌≡◌, ℕ, List, [], ◌++◌, append_assoc, Option, Some, refl, sym, ap, ◌∙◌}
 use Rattle.std.proofs.lemmas.List.{append-nil}
-use Rattle.ada_port.specs.Ports.{Stream, Adds, AddsPrefix, Grows, GrowsByPrefix, Breaks, Rose, IsTold, bytes_of, bytes_told}
+use Rattle.ada_port.specs.Ports.{Stream, Adds, AddsPrefix, Grows, GrowsByPrefix, Breaks, Rose}
 use Rattle.ada_port.proofs.Faults.{Rose-after_same}
 
 pub Adds-none : (a : Option (List ℕ)) → Adds a a []

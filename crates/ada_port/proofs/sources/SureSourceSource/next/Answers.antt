@@ -1,4 +1,4 @@
-use Rattle.std.proofs.Common.{◌<◌, ◌≤◌, length, sym, arith}
+use Rattle.std.proofs.Common.{length, sym, arith}
 use Rattle.std.proofs.lemmas.Bool.{ltb-true, ltb-false}
 use Rattle.ada_port.proofs.Buffers.{first-given, none-given}
 use Rattle.ada_port.proofs.sources.SureSourceSource.next.Goals as goal
