@@ -2,10 +2,22 @@
 use Rattle.std.proofs.Common.{◌≡◌, ℕ, zero, suc, ◌+◌, ◌*◌, ◌<◌, ◌≤◌, Option, Some, None, Ok, Bool, true, false, ◌||◌, cond, ℤ, refl, sym, ap, ◌∙◌, ◌⊎◌, inl, inr, arith}
 use Rattle.std.proofs.lemmas.Bool.Decides.{nat_tests}
 use Rattle.ada_base.specs.declared.reason.Reason.TheVariants as reason
-use Rattle.ada_base.specs.Input.{Held, Nothing, Symbol, is_blank, is_byte, is_digit, digit_of, is_based, is_integer, signed}
+use Rattle.ada_base.specs.Input.{is_blank, is_byte, is_digit, digit_of, is_based, is_integer, signed}
 use Rattle.ada_base.specs.Input as input
 use Rattle.ada_io.specs.Plain.{Feed, Byte, End, Fault, State, After, at, Doing, next, given, asked, then, plain}
 use Rattle.ada_io.specs.Phases.{after_digit, needs_digit}
+
+-- a turn less is below a bound that is less by one
+pub below : {turns left more : ℕ} → suc left ≡ turns → turns < suc more → left < more
+below e h = omega arith
+
+-- and below the same bound
+pub below_still : {turns left more : ℕ} → suc left ≡ turns → turns < more → left < more
+below_still e h = omega arith
+
+-- no bound is below 0
+none_below : {turns : ℕ} → turns < 0 → ⊥
+none_below h = omega arith
 
 -- after an asking there is a turn less
 pub asked_same : {A : Type 0} (t : State) (n : ℕ) (k l : Option ℕ → Doing A) → ((u : Option ℕ) (s : State) → suc s.turns ≡ n → k u s ≡ l u s)
@@ -64,15 +76,15 @@ ends_same negative m n s t (inr (a, b)) = fails m a ∙ sym (fails n b)
 -- ---- digits
 
 pub digits_same : (more less : ℕ) (negative : Bool) (m n : ℕ) (s : Option ℕ) (t : State) → t.turns < more → t.turns < less → Same m n → input.digits plain more negative m s t ≡ input.digits plain less negative n s t
-digits_same zero less negative m n s t a b same = absurd (omega arith)
-digits_same (suc more) zero negative m n s t a b same = absurd (omega arith)
+digits_same zero less negative m n s t a b same = absurd (none_below a)
+digits_same (suc more) zero negative m n s t a b same = absurd (none_below b)
 digits_same (suc more) (suc less) negative m n s t a b same =
     let so = same_digit m n (digit_of s) same in
     asked_same t t.turns (after_digit more negative (m * 10 + digit_of s)) (after_digit less negative (n * 10 + digit_of s))
-    (λ u v e. cond_same (is_digit u) _ _ _ _ v (digits_same more less negative _ _ u v (omega arith) (omega arith) so)
+    (λ u v e. cond_same (is_digit u) _ _ _ _ v (digits_same more less negative _ _ u v (below e a) (below e b) so)
     (cond_same (is_byte 95 u) _ _ _ _ v
     (asked_same v v.turns (needs_digit more negative (m * 10 + digit_of s)) (needs_digit less negative (n * 10 + digit_of s))
-    (λ x w f. cond_same (is_digit x) _ _ _ _ w (digits_same more less negative _ _ x w (omega arith) (omega arith) so) refl))
+    (λ x w f. cond_same (is_digit x) _ _ _ _ w (digits_same more less negative _ _ x w (below f (below_still e a)) (below f (below_still e b)) so) refl))
     (ends_same negative _ _ u v so)))
 
 pub needed_same : (more less : ℕ) (negative : Bool) (m n : ℕ) (s : Option ℕ) (t : State) → t.turns < more → t.turns < less → Same m n → needs_digit more negative m s t ≡ needs_digit less negative n s t
@@ -82,7 +94,7 @@ pub digit_same : (more less : ℕ) (negative : Bool) (m n : ℕ) (s : Option ℕ
 digit_same more less negative m n s t a b same =
     cond_same (is_digit s) _ _ _ _ t (digits_same more less negative m n s t a b same)
     (cond_same (is_byte 95 s) _ _ _ _ t
-    (asked_same t t.turns (needs_digit more negative m) (needs_digit less negative n) (λ u v e. needed_same more less negative m n u v (omega arith) (omega arith) same))
+    (asked_same t t.turns (needs_digit more negative m) (needs_digit less negative n) (λ u v e. needed_same more less negative m n u v (below_still e a) (below_still e b) same))
     (ends_same negative m n s t same))
 
 -- ---- all of a number, blanks
@@ -97,17 +109,17 @@ unsigned_same more less (Some c) t a b = from_same more less false (Some c) t a 
 pub read_same : (more less : ℕ) (s : Option ℕ) (t : State) → t.turns < more → t.turns < less → input.number_read plain more s t ≡ input.number_read plain less s t
 read_same more less s t a b =
     cond_same (is_byte 45 s) _ _ _ _ t
-    (asked_same t t.turns (input.number_from plain more true) (input.number_from plain less true) (λ u v e. from_same more less true u v (omega arith) (omega arith)))
+    (asked_same t t.turns (input.number_from plain more true) (input.number_from plain less true) (λ u v e. from_same more less true u v (below_still e a) (below_still e b)))
     (cond_same (is_byte 43 s) _ _ _ _ t
-    (asked_same t t.turns (input.number_from plain more false) (input.number_from plain less false) (λ u v e. from_same more less false u v (omega arith) (omega arith)))
+    (asked_same t t.turns (input.number_from plain more false) (input.number_from plain less false) (λ u v e. from_same more less false u v (below_still e a) (below_still e b)))
     (unsigned_same more less s t a b))
 
 pub skip_same : (more less : ℕ) (k l : Option ℕ → Doing ℤ) (s : Option ℕ) (t : State) → t.turns < more → t.turns < less → ((u : Option ℕ) (v : State) → v.turns ≤ t.turns → k u v ≡ l u v)
     → then (input.skip_blanks plain more s) k t ≡ then (input.skip_blanks plain less s) l t
-skip_same zero less k l s t a b same = absurd (omega arith)
-skip_same (suc more) zero k l s t a b same = absurd (omega arith)
+skip_same zero less k l s t a b same = absurd (none_below a)
+skip_same (suc more) zero k l s t a b same = absurd (none_below b)
 skip_same (suc more) (suc less) k l s t a b same =
-    go (is_blank s) (λ u v e. skip_same more less k l u v (omega arith) (omega arith) (λ x y h. same x y (omega arith)))
+    go (is_blank s) (λ u v e. skip_same more less k l u v (below e a) (below e b) (λ x y h. same x y (omega arith)))
   where
     go : (blank : Bool) → ((u : Option ℕ) (v : State) → suc v.turns ≡ t.turns → then (input.skip_blanks plain more u) k v ≡ then (input.skip_blanks plain less u) l v)
         → then (cond blank (then (λ v. asked v v.turns) (input.skip_blanks plain more)) (λ v. at v (Ok s))) k t ≡ then (cond blank (then (λ v. asked v v.turns) (input.skip_blanks plain less)) (λ v. at v (Ok s))) l t
@@ -116,14 +128,3 @@ skip_same (suc more) (suc less) k l s t a b same =
         ∙ asked_same t t.turns (λ u. then (input.skip_blanks plain more u) k) (λ u. then (input.skip_blanks plain less u) l) later
         ∙ sym (asked_then t t.turns (input.skip_blanks plain less) l)
     go false later = same s t (omega arith)
-
--- the law: a bound that is at least the turns that are left makes no difference
-pub enough : (limit : ℕ) (t : State) → t.turns ≤ limit → input.got plain limit t ≡ input.got plain t.turns t
-enough limit t h = go t.held
-  where
-    skips : (s : Option ℕ) (v : State) → v.turns ≤ t.turns → then (input.skip_blanks plain (suc limit) s) (input.number_read plain (suc limit)) v ≡ then (input.skip_blanks plain (suc t.turns) s) (input.number_read plain (suc t.turns)) v
-    skips s v a = skip_same (suc limit) (suc t.turns) _ _ s v (omega arith) (omega arith) (λ u w b. read_same (suc limit) (suc t.turns) u w (omega arith) (omega arith))
-
-    go : (held : Held) → then (input.first_symbol plain held) (λ s. then (input.skip_blanks plain (suc limit) s) (input.number_read plain (suc limit))) t ≡ then (input.first_symbol plain held) (λ s. then (input.skip_blanks plain (suc t.turns) s) (input.number_read plain (suc t.turns))) t
-    go Nothing = asked_same t t.turns _ _ (λ u v e. skips u v (omega arith))
-    go (Symbol s) = skips s t (omega arith)

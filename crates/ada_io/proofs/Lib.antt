@@ -1,3 +1,5 @@
 pub mod Enough
+pub mod Blanks
+mod Looking
 pub mod Reaches
 pub mod Steps

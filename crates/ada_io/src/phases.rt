@@ -118,7 +118,7 @@ fn signed(negative: bool, magnitude: u32) -> i64
 fn is_blank(symbol: Option<u8>) -> bool
     ensures { result ≡ is_blank symbol }
 {
-    matches!(symbol, Some(9 | 10 | 12 | 13 | 32))
+    matches!(symbol, Some(byte) if byte.is_ascii_whitespace())
 }
 
 fn is_byte(symbol: Option<u8>, byte: u8) -> bool

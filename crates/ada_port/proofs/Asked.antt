@@ -1,6 +1,6 @@
 -- What a source has left shrinks by one byte after another.
-use Rattle.std.proofs.Common.{◌≡◌, ℕ, List, [], ◌++◌, append_assoc, Option, Some, None, IsSome, refl, sym, ap, ◌∙◌}
-use Rattle.ada_port.specs.Ports.{Stream, Loses, Gives, GivesAll, GivesUntil, IsTold, bytes_of, bytes_told}
+use Rattle.std.proofs.Common.{ℕ, List, [], ◌++◌, append_assoc, Option, refl, sym, ap, ◌∙◌}
+use Rattle.ada_port.specs.Ports.{Stream, Loses, Gives, GivesAll, GivesUntil}
 use Rattle.ada_port.proofs.Faults.{Rose-after_same}
 
 pub Loses-none : (a : Option (List ℕ)) → Loses a a []
@@ -29,11 +29,3 @@ GivesAll-append {a} {b} {c} {p} {q} g h =
 pub GivesUntil-append : {a b c : Stream} {p q : List ℕ} → Gives a b p → GivesUntil b c q → GivesUntil a c (p ++ q)
 GivesUntil-append {a} {b} {c} {p} {q} g h =
     record { told = Loses-append a.told b.told c.told p q g.told h.told; rose = Rose-after_same g.faults h.rose }
-
--- what is taken from a source that tells its bytes stood in front of them
-pub Gives-told : {a b : Stream} {p : List ℕ} → Gives a b p → IsTold a → IsTold b × (bytes_of a ≡ p ++ bytes_of b)
-Gives-told {a} {b} {p} g t = lost a.told b.told g.told t
-  where
-    lost : (x y : Option (List ℕ)) → Loses x y p → IsSome x → IsSome y × (bytes_told x ≡ p ++ bytes_told y)
-    lost None y h t = cc
-    lost (Some left) y h t = let k = h left refl in rw k.2 (refl, k.1)

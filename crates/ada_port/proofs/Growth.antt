@@ -1,7 +1,7 @@
 -- What is put grows by one piece after another.
-use Rattle.std.proofs.Common.{◌≡◌, ℕ, List, [], ◌++◌, append_assoc, Option, Some, None, IsSome, refl, sym, ap, ◌∙◌}
+use Rattle.std.proofs.Common.{◌≡◌, ℕ, List, [], ◌++◌, append_assoc, Option, Some, refl, sym, ap, ◌∙◌}
 use Rattle.std.proofs.lemmas.List.{append-nil}
-use Rattle.ada_port.specs.Ports.{Stream, Adds, AddsPrefix, Grows, GrowsByPrefix, Breaks, Rose, IsTold, bytes_of, bytes_told}
+use Rattle.ada_port.specs.Ports.{Stream, Adds, AddsPrefix, Grows, GrowsByPrefix, Breaks, Rose}
 use Rattle.ada_port.proofs.Faults.{Rose-after_same}
 
 pub Adds-none : (a : Option (List ℕ)) → Adds a a []
@@ -9,12 +9,6 @@ Adds-none a held e = e ∙ ap Some (sym (append-nil held))
 
 pub Adds-append : (a b c : Option (List ℕ)) (p q : List ℕ) → Adds a b p → Adds b c q → Adds a c (p ++ q)
 Adds-append a b c p q g h held e = h (held ++ p) (g held e) ∙ ap Some (append_assoc held p q)
-
-pub AddsPrefix-from_Adds : (a b : Option (List ℕ)) (p : List ℕ) → Adds a b p → AddsPrefix a b p
-AddsPrefix-from_Adds a b p g held e = (p, [], sym (append-nil p), g held e)
-
-pub AddsPrefix-none : (a : Option (List ℕ)) (p : List ℕ) → AddsPrefix a a p
-AddsPrefix-none a p held e = ([], p, refl, e ∙ ap Some (sym (append-nil held)))
 
 pub AddsPrefix-append : (a b c : Option (List ℕ)) (p q : List ℕ) → Adds a b p → AddsPrefix b c q → AddsPrefix a c (p ++ q)
 AddsPrefix-append a b c p q g h held e =
@@ -31,12 +25,6 @@ Grows-none {a} = record { told = Adds-none a.told; faults = refl }
 pub Grows-append : {a b c : Stream} {p q : List ℕ} → Grows a b p → Grows b c q → Grows a c (p ++ q)
 Grows-append {a} {b} {c} {p} {q} g h =
     record { told = Adds-append a.told b.told c.told p q g.told h.told; faults = h.faults ∙ g.faults }
-
-pub GrowsByPrefix-from_Grows : {a b : Stream} {p : List ℕ} → Grows a b p → GrowsByPrefix a b p
-GrowsByPrefix-from_Grows {a} {b} {p} g = record { told = AddsPrefix-from_Adds a.told b.told p g.told; faults = g.faults }
-
-pub GrowsByPrefix-none : {a : Stream} {p : List ℕ} → GrowsByPrefix a a p
-GrowsByPrefix-none {a} {p} = record { told = AddsPrefix-none a.told p; faults = refl }
 
 pub GrowsByPrefix-append : {a b c : Stream} {p q : List ℕ} → Grows a b p → GrowsByPrefix b c q → GrowsByPrefix a c (p ++ q)
 GrowsByPrefix-append {a} {b} {c} {p} {q} g h =
@@ -56,11 +44,3 @@ Breaks-longer {a} {b} {p} q g = record { told = AddsPrefix-longer a.told b.told 
 pub Breaks-front : {old new : Stream} {held piece : List ℕ} (front back : List ℕ) → old.told ≡ Some held → piece ≡ front ++ back → new.told ≡ Some (held ++ front) → Rose old new → Breaks old new piece
 Breaks-front front back was parts grown rose =
     record { told = λ held e. (front, back, parts, grown ∙ ap (λ x. Some (x ++ front)) cc); rose = rose }
-
--- what is put to a sink that tells its bytes stands behind them
-pub Grows-told : {a b : Stream} {p : List ℕ} → Grows a b p → IsTold a → IsTold b × (bytes_of b ≡ bytes_of a ++ p)
-Grows-told {a} {b} {p} g t = added a.told b.told g.told t
-  where
-    added : (x y : Option (List ℕ)) → Adds x y p → IsSome x → IsSome y × (bytes_told y ≡ bytes_told x ++ p)
-    added None y h t = cc
-    added (Some held) y h t = rw (h held refl) (refl, refl)

@@ -2,3 +2,4 @@ pub mod Evens
 mod Parts
 mod Cutting
 mod Sound
+mod Zeros

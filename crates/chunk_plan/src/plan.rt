@@ -26,7 +26,7 @@ impl Plan {
             Plan::One => true,
             Plan::Even(chunks) => *chunks > 0,
             Plan::Sized(size) => *size > 0,
-            Plan::Listed(sizes) => sizes.as_slice().iter().all(|size| *size > 0),
+            Plan::Listed(sizes) => !sizes.as_slice().contains(&0),
         }
     }
 }

@@ -67,8 +67,7 @@ fn by_size(alloc: Global, size: u32, n: u64, most: u32) -> Result<Items<u64>, Al
         rest -= size;
         left -= 1;
     }
-    let whole = with_rest(sizes, rest)?;
-    Ok(whole)
+    with_rest(sizes, rest)
 }
 
 fn by_list(alloc: Global, given: &[u32], n: u64, most: u32) -> Result<Items<u64>, AllocError>
@@ -87,6 +86,5 @@ fn by_list(alloc: Global, given: &[u32], n: u64, most: u32) -> Result<Items<u64>
         rest -= size;
         left -= 1;
     }
-    let whole = with_rest(sizes, rest)?;
-    Ok(whole)
+    with_rest(sizes, rest)
 }

@@ -3,3 +3,4 @@ pub mod GetRows
 pub mod ImageRows
 pub mod OperationRows
 pub mod PlaceRows
+pub mod PutRows
