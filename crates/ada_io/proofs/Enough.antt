@@ -2,7 +2,7 @@
 use Rattle.std.proofs.Common.{◌≡◌, ℕ, zero, suc, ◌+◌, ◌*◌, ◌<◌, ◌≤◌, Option, Some, None, Ok, Bool, true, false, ◌||◌, cond, ℤ, refl, sym, ap, ◌∙◌, ◌⊎◌, inl, inr, arith}
 use Rattle.std.proofs.lemmas.Bool.Decides.{nat_tests}
 use Rattle.ada_base.specs.declared.reason.Reason.TheVariants as reason
-use Rattle.ada_base.specs.Input.{is_blank, is_byte, is_digit, digit_of, is_based, is_integer, signed}
+use Rattle.ada_base.specs.Input.{Held, Nothing, Symbol, is_blank, is_byte, is_digit, digit_of, is_based, is_integer, signed}
 use Rattle.ada_base.specs.Input as input
 use Rattle.ada_io.specs.Plain.{Feed, Byte, End, Fault, State, After, at, Doing, next, given, asked, then, plain}
 use Rattle.ada_io.specs.Phases.{after_digit, needs_digit}
@@ -128,3 +128,14 @@ skip_same (suc more) (suc less) k l s t a b same =
         ∙ asked_same t t.turns (λ u. then (input.skip_blanks plain more u) k) (λ u. then (input.skip_blanks plain less u) l) later
         ∙ sym (asked_then t t.turns (input.skip_blanks plain less) l)
     go false later = same s t (omega arith)
+
+-- the law: a bound that is at least the turns that are left makes no difference; run_store cites it
+pub enough : (limit : ℕ) (t : State) → t.turns ≤ limit → input.got plain limit t ≡ input.got plain t.turns t
+enough limit t h = go t.held
+  where
+    skips : (s : Option ℕ) (v : State) → v.turns ≤ t.turns → then (input.skip_blanks plain (suc limit) s) (input.number_read plain (suc limit)) v ≡ then (input.skip_blanks plain (suc t.turns) s) (input.number_read plain (suc t.turns)) v
+    skips s v a = skip_same (suc limit) (suc t.turns) _ _ s v (omega arith) (omega arith) (λ u w b. read_same (suc limit) (suc t.turns) u w (omega arith) (omega arith))
+
+    go : (held : Held) → then (input.first_symbol plain held) (λ s. then (input.skip_blanks plain (suc limit) s) (input.number_read plain (suc limit))) t ≡ then (input.first_symbol plain held) (λ s. then (input.skip_blanks plain (suc t.turns) s) (input.number_read plain (suc t.turns))) t
+    go Nothing = asked_same t t.turns _ _ (λ u v e. skips u v (omega arith))
+    go (Symbol s) = skips s t (omega arith)

@@ -52,14 +52,26 @@ impl<'a> Env<'a> {
     pub fn parameter(&self, wanted: u32) -> i64
         ensures { result ≡ (env_of self.now).parameter wanted }
     {
-        match self {
-            Env::Parameter { number, value, .. } if wanted == *number => *value,
-            Env::Outset { .. } => 0,
-            Env::Parameter { outer, .. }
-            | Env::Item { outer, .. }
-            | Env::Target { outer, .. }
-            | Env::Handled { outer, .. }
-            | Env::Inside { outer, .. } => outer.parameter(wanted),
+        if let Env::Parameter {
+            number,
+            value,
+            outer,
+        } = self
+        {
+            if wanted == *number {
+                *value
+            } else {
+                outer.parameter(wanted)
+            }
+        } else {
+            match self {
+                Env::Outset { .. } => 0,
+                Env::Parameter { outer, .. }
+                | Env::Item { outer, .. }
+                | Env::Target { outer, .. }
+                | Env::Handled { outer, .. }
+                | Env::Inside { outer, .. } => outer.parameter(wanted),
+            }
         }
     }
 
