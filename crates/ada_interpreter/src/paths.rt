@@ -19,12 +19,7 @@ use run_store::{Env, Object, Port, Store};
 // how many cells come before the component of an index, where the parameter is in its range
 #[inline(always)]
 #[tactic(auto, unfolding(ada_meaning::specs::Stored::bind, ada_meaning::specs::Stored::ret, crate::specs::Walk::eval, crate::specs::Walk::select))]
-fn by_parameter(
-    work: &Work<'_>,
-    index: ParameterIndex,
-    env: &Env<'_>,
-    offset: u64,
-) -> Option<u64>
+fn by_parameter(work: &Work<'_>, index: ParameterIndex, env: &Env<'_>, offset: u64) -> Option<u64>
     ensures { IfSome result (λ inner. (calls object : ℕ) (rest : Selections) (s : State) → (spec.select work.now calls (index_by index rest) (env_of env.now) (at_offset object offset)).does s ≡ (spec.select work.now calls rest (env_of env.now) (at_offset object inner)).does s) }
 {
     let _ = work;
@@ -41,7 +36,6 @@ fn by_parameter(
 
 // how many cells come before the part that selections lead to, where they are a path
 #[inline(always)]
-#[tactic(auto, unfolding(ada_meaning::specs::Stored::bind, ada_meaning::specs::Stored::ret, crate::specs::Walk::eval, crate::specs::Walk::select))]
 fn by_path(work: &Work<'_>, id: u32, env: &Env<'_>, offset: u64) -> Option<u64>
     ensures { IfSome result (λ inner. (calls object : ℕ) → ComesTo (spec.select work.now calls (selections_at (nodes_of work.now) id) (env_of env.now) (at_offset object offset)) (at_offset object inner)) }
 {
@@ -66,7 +60,6 @@ pub fn place_by_path(work: &Work<'_>, id: u32, env: &Env<'_>, offset: u64) -> Op
 
 /// The value of a part of a variable, where a path leads to it.
 #[inline(never)]
-#[tactic(auto, unfolding(ada_meaning::specs::Stored::bind, ada_meaning::specs::Stored::ret, crate::specs::Walk::eval, crate::specs::Walk::select))]
 pub fn variable_by_path<P: Port + Drop>(
     work: &Work<'_>,
     calls: u32,
@@ -86,7 +79,6 @@ pub fn variable_by_path<P: Port + Drop>(
 
 /// The value of a part of a constant, where a path leads to it.
 #[inline(never)]
-#[tactic(auto, unfolding(ada_meaning::specs::Stored::bind, ada_meaning::specs::Stored::ret, crate::specs::Walk::eval, crate::specs::Walk::select))]
 pub fn constant_by_path<P: Port + Drop>(
     work: &Work<'_>,
     calls: u32,
