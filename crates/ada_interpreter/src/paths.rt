@@ -19,12 +19,7 @@ use run_store::{Env, Object, Port, Store};
 // how many cells come before the component of an index, where the parameter is in its range
 #[inline(always)]
 #[tactic(auto, unfolding(ada_meaning::specs::Stored::bind, ada_meaning::specs::Stored::ret, crate::specs::Walk::eval, crate::specs::Walk::select))]
-fn by_parameter(
-    work: &Work<'_>,
-    index: ParameterIndex,
-    env: &Env<'_>,
-    offset: u64,
-) -> Option<u64>
+fn by_parameter(work: &Work<'_>, index: ParameterIndex, env: &Env<'_>, offset: u64) -> Option<u64>
     ensures { IfSome result (λ inner. (calls object : ℕ) (rest : Selections) (s : State) → (spec.select work.now calls (index_by index rest) (env_of env.now) (at_offset object offset)).does s ≡ (spec.select work.now calls rest (env_of env.now) (at_offset object inner)).does s) }
 {
     let _ = work;
