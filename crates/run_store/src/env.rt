@@ -52,6 +52,7 @@ impl<'a> Env<'a> {
     pub fn parameter(&self, wanted: u32) -> i64
         ensures { result ≡ (env_of self.now).parameter wanted }
     {
+        // tried before the others, since most links that are passed are parameters
         if let Env::Parameter {
             number,
             value,

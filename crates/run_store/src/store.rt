@@ -30,7 +30,7 @@ pub struct Store<P: Port + Drop> {
 
 // How many objects and items of lists may be active at once, in all calls together, since the walk over a program goes one
 // frame deeper for each. Of the gibibyte of native stack (1,073 MB) that the program sets aside, 1,000 calls with 64 levels
-// in each take at most 360 MB. An item takes at most 957 bytes, which is 383 MB for all; 330 MB are left.
+// in each take at most 360 MB. An item takes less than 1,000 bytes, which is 400 MB for all; 310 MB are left.
 const ROOM: u64 = 400_000;
 
 impl<P: Port + Drop> Model for Store<P> {
