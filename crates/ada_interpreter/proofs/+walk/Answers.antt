@@ -54,7 +54,7 @@ pub actuals::passed_in-returns-then-is_in : goal.actuals::passed_in-returns-then
 actuals::passed_in-returns-then-is_in g t c = number_in c.args.work.now c.args.calls (env_of c.args.env.now) c.args.formal c.in-Some-Number.check (expr_at (nodes_of c.args.work.now) c.in-Some-Number.value) (value_at (nodes_of c.args.work.now) c.args.value) c.in_ok-x-in-Some-Number.x (to_z w64 (of_z w64 c.in_ok-x-in-Some-Number.x)) c.one.result c.args.store.now c.eval.new.store c.in_ok-x-in-Some-Number.ensures (search rules) (search rules) c.one.ensures (search rules)
 
 pub calls::called-returns-in_ok-before-in-Some : goal.calls::called-returns-in_ok-before-in-Some
-calls::called-returns-in_ok-before-in-Some g t c = rw c.leave.ensures (called_more c.args.work.now c.args.calls c.args.number c.args.nested (passed_list c.args.work.now c.args.passed.now) (sub_of (nodes_of c.args.work.now) c.in-Some.sub) (search rules) c.in_ok-before-in-Some.before c.with_formals-result.result c.args.store.now c.enter.new.self c.with_formals-result.new.store c.in_ok-before-in-Some.ensures c.with_formals-result.ensures)
+calls::called-returns-in_ok-before-in-Some g t c = rw c.leave.ensures (called_more returned_of c.args.work.now c.args.calls c.args.number c.args.nested (passed_list c.args.work.now c.args.passed.now) (sub_of (nodes_of c.args.work.now) c.in-Some.sub) (search rules) c.in_ok-before-in-Some.before c.with_formals-result.result c.args.store.now c.enter.new.self c.with_formals-result.new.store c.in_ok-before-in-Some.ensures c.with_formals-result.ensures)
 
 pub calls::with_formals-returns-in_ok-mark-in-Some : goal.calls::with_formals-returns-in_ok-mark-in-Some
 calls::with_formals-returns-in_ok-mark-in-Some g t c = rw c.end.ensures (formals_more c.args.work.now c.args.calls c.args.nested (sub_of (nodes_of c.args.work.now) c.args.sub) (passed_list c.args.work.now c.args.all.now) c.in-Some.first.now c.in-Some.others.now c.args.rest.now (search rules) c.in_ok-mark-in-Some.mark c.with_formals-result.result c.args.store.now c.begin.new.self c.with_formals-result.new.store (rw c.as_slice.ensures at c.in_ok-mark-in-Some.ensures) c.with_formals-result.ensures)
@@ -81,13 +81,13 @@ pub bodies::guarded-returns-in-Some : goal.bodies::guarded-returns-in-Some
 bodies::guarded-returns-in-Some g t c = guarded_some c.args.work.now c.args.calls (stmts_at (nodes_of c.args.work.now) c.args.stmts) (handlers_at (nodes_of c.args.work.now) c.args.handlers) (env_of c.args.env.now) c.args.store.now c.exec_all.new.store c.in-Err-Left-Raises.reason (stmts_at (nodes_of c.args.work.now) c.in-Some.found) c.exec_all-in-Some.result c.exec_all-in-Some.new.store (search rules) (search rules) c.exec_all-in-Some.ensures
 
 pub calls::call-returns-in_err-turned : goal.calls::call-returns-in_err-turned
-calls::call-returns-in_err-turned g t c = call_ends c.args.work.now c.args.nested c.args.sub (passed_list c.args.work.now c.args.passed.now) c.args.store.now c.turned.new.store c.args.calls c.in_err-turned.field-0.0 _ (search rules) c.in_err-turned.ensures
+calls::call-returns-in_err-turned g t c = call_ends returned_of c.args.work.now c.args.nested c.args.sub (passed_list c.args.work.now c.args.passed.now) c.args.store.now c.turned.new.store c.args.calls c.in_err-turned.field-0.0 _ (search rules) c.in_err-turned.ensures
 
 pub calls::call-returns-in_err-returned : goal.calls::call-returns-in_err-returned
-calls::call-returns-in_err-returned g t c = call_step c.args.work.now c.args.nested c.args.sub (passed_list c.args.work.now c.args.passed.now) c.args.store.now c.turned.new.store c.args.calls c.from_residual-in_err-returned.result c.called.new.store (omega arith) c.in_ok-turned.ensures (search rules)
+calls::call-returns-in_err-returned g t c = call_step returned_of c.args.work.now c.args.nested c.args.sub (passed_list c.args.work.now c.args.passed.now) c.args.store.now c.turned.new.store c.args.calls c.from_residual-in_err-returned.result c.called.new.store (omega arith) c.in_ok-turned.ensures (search rules)
 
 pub calls::call-returns-in_ok-returned : goal.calls::call-returns-in_ok-returned
-calls::call-returns-in_ok-returned g t c = call_step c.args.work.now c.args.nested c.args.sub (passed_list c.args.work.now c.args.passed.now) c.args.store.now c.turned.new.store c.args.calls (Ok c.in_ok-returned.returned) c.called.new.store (omega arith) c.in_ok-turned.ensures c.in_ok-returned.ensures
+calls::call-returns-in_ok-returned g t c = call_step returned_of c.args.work.now c.args.nested c.args.sub (passed_list c.args.work.now c.args.passed.now) c.args.store.now c.turned.new.store c.args.calls (Ok c.in_ok-returned.returned) c.called.new.store (omega arith) c.in_ok-turned.ensures c.in_ok-returned.ensures
 
 pub loops::while_loop-loop-turn-init : goal.loops::while_loop-loop-turn-init
 loops::while_loop-loop-turn-init g t c = while_begins c.args.store.now c.args.work.now c.args.calls (optional_at (nodes_of c.args.work.now) c.args.condition) (stmts_at (nodes_of c.args.work.now) c.args.stmts) (env_of c.args.env.now)
