@@ -23,15 +23,15 @@ use Rattle.run_parts.specs.Passing.{passed_list, returned_of}
 use Rattle.run_parts.specs.Words.{object_defaults, turned, calls_of, back_cells, ops}
 use Rattle.ada_interpreter.specs.Walk as walk
 
-module _ {Tells : List ℕ → Outside → Type 0} (w : Work) (d number nested : ℕ) (passed : List meaning.Passed) (sub : Sub) (is : sub_at (program w.typed.now).subs number ≡ Some sub) where
-  called_as : (r : Result Returned End) (s u : Image) → ShowsAs returned_of Tells (apart (walk.with_formals w d sub nested passed passed)) r s u → ShowsAs returned_of Tells (walk.called w d number nested passed) r s u
-  called_as r s u h = subst (λ z. ShowsAs returned_of Tells (walk.called_sub w d z nested passed) r s u) (sym is) h
+module _ {Tells : List ℕ → Outside → Type 0} {C : Type 0} (f : C → meaning.Returned) (w : Work) (d number nested : ℕ) (passed : List meaning.Passed) (sub : Sub) (is : sub_at (program w.typed.now).subs number ≡ Some sub) where
+  called_as : (r : Result C End) (s u : Image) → ShowsAs f Tells (apart (walk.with_formals w d sub nested passed passed)) r s u → ShowsAs f Tells (walk.called w d number nested passed) r s u
+  called_as r s u h = subst (λ z. ShowsAs f Tells (walk.called_sub w d z nested passed) r s u) (sym is) h
 
-  pub called_more : (before : ℕ) (r : Result Returned End) (s t u : Image) → Enters (Ok before) s t → ShowsAs returned_of Tells (walk.with_formals w d sub nested passed passed) r t u → ShowsAs returned_of Tells (walk.called w d number nested passed) r s (unframed before u)
-  called_more before r s t u b h = called_as r s (unframed before u) (apart_shows returned_of (walk.with_formals w d sub nested passed passed) before r s t u b h)
+  pub called_more : (before : ℕ) (r : Result C End) (s t u : Image) → Enters (Ok before) s t → ShowsAs f Tells (walk.with_formals w d sub nested passed passed) r t u → ShowsAs f Tells (walk.called w d number nested passed) r s (unframed before u)
+  called_more before r s t u b h = called_as r s (unframed before u) (apart_shows f (walk.with_formals w d sub nested passed passed) before r s t u b h)
 
-  pub called_fails : (e : End) (r : Result Returned End) (s t : Image) → r ≡ Err e → Enters (Err e) s t → ShowsAs returned_of Tells (walk.called w d number nested passed) r s t
-  called_fails e r s t q b = subst (λ z. ShowsAs returned_of Tells (walk.called w d number nested passed) z s t) (sym q) (called_as (Err e) s t (apart_fails returned_of (walk.with_formals w d sub nested passed passed) e s t b))
+  pub called_fails : (e : End) (r : Result C End) (s t : Image) → r ≡ Err e → Enters (Err e) s t → ShowsAs f Tells (walk.called w d number nested passed) r s t
+  called_fails e r s t q b = subst (λ z. ShowsAs f Tells (walk.called w d number nested passed) z s t) (sym q) (called_as (Err e) s t (apart_fails f (walk.with_formals w d sub nested passed passed) e s t b))
 
 module _ {Tells : List ℕ → Outside → Type 0} (w : Work) (d nested : ℕ) (sub : Sub) (all : List meaning.Passed) where
   pub formals_none : (rest : List Passed) (r : Result Returned End) (s u : Image) → rest ≡ [] → ShowsAs returned_of Tells (walk.carried_out w d sub nested all) r s u → ShowsAs returned_of Tells (walk.with_formals w d sub nested all (passed_list w rest)) r s u
@@ -133,20 +133,20 @@ unfolding walk.with_formals back_cells
 sub_as w d None nested passed = refl
 sub_as w d (Some sub) nested passed = refl
 
-module _ {Tells : List ℕ → Outside → Type 0} (w : Work) (nested number : ℕ) (passed : List meaning.Passed) (s t : Image) where
-  pub call_ends : (d : ℕ) (e : End) (r : Result Returned End) → r ≡ Err e → Shows Tells (turned w) (Err e) s t → ShowsAs returned_of Tells (calls_of w d nested number (ret {A = Unit {0}} tt) passed) r s t
+module _ {Tells : List ℕ → Outside → Type 0} {C : Type 0} (f : C → meaning.Returned) (w : Work) (nested number : ℕ) (passed : List meaning.Passed) (s t : Image) where
+  pub call_ends : (d : ℕ) (e : End) (r : Result C End) → r ≡ Err e → Shows Tells (turned w) (Err e) s t → ShowsAs f Tells (calls_of w d nested number (ret {A = Unit {0}} tt) passed) r s t
   unfolding calls_of
-  call_ends zero e r q h = subst (λ z. ShowsAs returned_of Tells (calls_of w zero nested number (ret {A = Unit {0}} tt) passed) z s t) (sym q) (goes_ends (λ a. a) returned_of _ (turned w) (λ _. leaves (paths.Raises reason.StorageError)) s s t e (goes_refl _ s) h)
+  call_ends zero e r q h = subst (λ z. ShowsAs f Tells (calls_of w zero nested number (ret {A = Unit {0}} tt) passed) z s t) (sym q) (goes_ends (λ a. a) f _ (turned w) (λ _. leaves (paths.Raises reason.StorageError)) s s t e (goes_refl _ s) h)
   call_ends (suc d) e r q h =
-      subst (λ z. ShowsAs returned_of Tells (calls_of w (suc d) nested number (ret {A = Unit {0}} tt) passed) z s t) (sym q)
-      (goes_ends (λ a. a) returned_of _ (turned w) (λ _. bind (ret {A = Unit {0}} tt) (λ _. meaning.exec_sub (ops w) w.limit (program w.typed.now) (calls_of w d) (sub_at (program w.typed.now).subs number) nested passed)) s s t e (goes_refl _ s) h)
+      subst (λ z. ShowsAs f Tells (calls_of w (suc d) nested number (ret {A = Unit {0}} tt) passed) z s t) (sym q)
+      (goes_ends (λ a. a) f _ (turned w) (λ _. bind (ret {A = Unit {0}} tt) (λ _. meaning.exec_sub (ops w) w.limit (program w.typed.now) (calls_of w d) (sub_at (program w.typed.now).subs number) nested passed)) s s t e (goes_refl _ s) h)
 
-  pub call_step : (d : ℕ) (r : Result Returned End) (u : Image) → 1 ≤ d → Shows Tells (turned w) (Ok tt) s t → ShowsAs returned_of Tells (walk.called w (d - 1) number nested passed) r t u → ShowsAs returned_of Tells (calls_of w d nested number (ret {A = Unit {0}} tt) passed) r s u
+  pub call_step : (d : ℕ) (r : Result C End) (u : Image) → 1 ≤ d → Shows Tells (turned w) (Ok tt) s t → ShowsAs f Tells (walk.called w (d - 1) number nested passed) r t u → ShowsAs f Tells (calls_of w d nested number (ret {A = Unit {0}} tt) passed) r s u
   unfolding calls_of ret
   call_step zero r u le h k = absurd (omega (arith, le))
   call_step (suc d) r u le h k =
       let m : suc d - 1 ≡ d = omega arith in
-      let k' = subst (λ z. ShowsAs returned_of Tells (walk.called w z number nested passed) r t u) m k in
-      then_shows (λ a. a) returned_of (turned w) (λ _. bind (ret {A = Unit {0}} tt) (λ _. meaning.exec_sub (ops w) w.limit (program w.typed.now) (calls_of w d) (sub_at (program w.typed.now).subs number) nested passed)) s t u tt r h
-      (then_shows (λ a. a) returned_of (ret {A = Unit {0}} tt) (λ _. meaning.exec_sub (ops w) w.limit (program w.typed.now) (calls_of w d) (sub_at (program w.typed.now).subs number) nested passed) t t u tt r (refl, stays, λ input told. refl)
-      (same_shows returned_of _ (walk.called w d number nested passed) r t u (sub_as w d (sub_at (program w.typed.now).subs number) nested passed) k'))
+      let k' = subst (λ z. ShowsAs f Tells (walk.called w z number nested passed) r t u) m k in
+      then_shows (λ a. a) f (turned w) (λ _. bind (ret {A = Unit {0}} tt) (λ _. meaning.exec_sub (ops w) w.limit (program w.typed.now) (calls_of w d) (sub_at (program w.typed.now).subs number) nested passed)) s t u tt r h
+      (then_shows (λ a. a) f (ret {A = Unit {0}} tt) (λ _. meaning.exec_sub (ops w) w.limit (program w.typed.now) (calls_of w d) (sub_at (program w.typed.now).subs number) nested passed) t t u tt r (refl, stays, λ input told. refl)
+      (same_shows f _ (walk.called w d number nested passed) r t u (sub_as w d (sub_at (program w.typed.now).subs number) nested passed) k'))

@@ -136,9 +136,10 @@ fn carried_out<P: Port + Drop>(
     Ok(Returned { value, cells })
 }
 
+/// What the body of a subprogram gives, 0 where it is a procedure's.
 #[cycle(walk)]
 #[inline(always)]
-fn function_value<P: Port + Drop>(
+pub fn function_value<P: Port + Drop>(
     work: &Work<'_>,
     calls: u32,
     nested: u32,

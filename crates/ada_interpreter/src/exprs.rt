@@ -13,6 +13,7 @@ use crate::chains::operators;
 use crate::folds::{Fold, parallel_reduction, reduction};
 use crate::names::select;
 use crate::quick::{LEVELS, quick};
+use crate::scalars::{call_scalars, pass_scalars};
 use ada_base::{Items, Reason};
 use ada_typed::{Check, Class, Comparison, Expr, Link, Root, Sign};
 use run_parts::Work;
@@ -332,7 +333,12 @@ fn call_function<P: Port + Drop>(
 ) -> Result<i64, End>
     ensures { Shows P.Tells (spec.call_function work.now calls sub (actuals_at (nodes_of work.now) actuals) (env_of env.now)) result store.old store.new }
 {
-    let passed = pass(work, calls, actuals, env, Items::new(work.alloc), store)?;
-    let returned = call(work, calls, env.nested(), sub, passed.as_slice(), store)?;
-    Ok(returned.value)
+    match pass_scalars(work, calls, actuals, env, &*store) {
+        Some(given) => call_scalars(work, calls, env.nested(), sub, given.as_slice(), store),
+        None => {
+            let passed = pass(work, calls, actuals, env, Items::new(work.alloc), store)?;
+            let returned = call(work, calls, env.nested(), sub, passed.as_slice(), store)?;
+            Ok(returned.value)
+        }
+    }
 }

@@ -14,6 +14,7 @@ mod names;
 mod paths;
 mod quick;
 mod runs;
+mod scalars;
 mod stmts;
 mod texts;
 mod values;

@@ -194,7 +194,7 @@ fn simple_constant<P: Port + Drop>(
 /// The value of an operand, as `quick` has it.
 #[cycle(quick)]
 #[inline(always)]
-fn quick_operand<P: Port + Drop>(
+pub fn quick_operand<P: Port + Drop>(
     work: &Work<'_>,
     calls: u32,
     levels: u32,

@@ -15,6 +15,7 @@ use crate::calls::call;
 use crate::constructs::{parallel_block, parallel_for};
 use crate::exprs::{eval, holds};
 use crate::loops::{for_stmt, while_stmt};
+use crate::scalars::{call_scalars, pass_scalars};
 use crate::texts::{get, put};
 use crate::values::{assign, cells};
 use ada_base::{Items, Reason};
@@ -134,10 +135,18 @@ fn call_procedure<P: Port + Drop>(
 ) -> Result<(), End>
     ensures { Shows P.Tells (spec.call_procedure work.now calls sub (actuals_at (nodes_of work.now) actuals) (env_of env.now)) result store.old store.new }
 {
-    let passed = pass(work, calls, actuals, env, Items::new(work.alloc), store)?;
-    let returned = call(work, calls, env.nested(), sub, passed.as_slice(), store)?;
-    all_copied_back(work, calls, passed.as_slice(), &returned.cells, store)?;
-    Ok(())
+    match pass_scalars(work, calls, actuals, env, &*store) {
+        Some(given) => {
+            call_scalars(work, calls, env.nested(), sub, given.as_slice(), store)?;
+            Ok(())
+        }
+        None => {
+            let passed = pass(work, calls, actuals, env, Items::new(work.alloc), store)?;
+            let returned = call(work, calls, env.nested(), sub, passed.as_slice(), store)?;
+            all_copied_back(work, calls, passed.as_slice(), &returned.cells, store)?;
+            Ok(())
+        }
+    }
 }
 
 #[cycle(walk)]

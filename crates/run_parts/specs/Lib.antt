@@ -2,6 +2,7 @@ pub mod Paths
 pub mod PathProps
 pub mod Words
 pub mod Passing
+pub mod Given
 pub mod Found
 pub mod Caught
 pub mod Dealing

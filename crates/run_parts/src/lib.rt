@@ -17,6 +17,7 @@ pub mod paths;
 pub mod pieces;
 pub mod plans;
 pub mod reducers;
+pub mod scalars;
 pub mod work;
 
 pub use cells::{
@@ -37,4 +38,5 @@ pub use paths::{ParameterIndex, Path, Paths};
 pub use pieces::{with_field, with_image, with_line, with_text};
 pub use plans::{SoundPlan, even_sizes, fold_sizes, loop_sizes};
 pub use reducers::{Both, reduced_by};
+pub use scalars::{InScalar, InScalars};
 pub use work::Work;

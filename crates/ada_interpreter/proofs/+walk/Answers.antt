@@ -6,6 +6,7 @@ use Rattle.run_store.specs.Environment.{env_of, part_of}
 use Rattle.run_store.specs.declared.ends.End.TheVariants as end
 use Rattle.run_store.specs.Shows.{Shows, ShowsAs, region_of}
 use Rattle.run_parts.specs.Passing.{course_of, passed_list, returned_of}
+use Rattle.run_parts.specs.Given.{in_list, value_returned}
 use Rattle.run_parts.specs.Reducing.{both_checked}
 use Rattle.run_parts.specs.Dealing.{chunking_of}
 use Rattle.ada_meaning.specs.Stored.{first_of_both, after_all, ret}
@@ -22,6 +23,7 @@ use Rattle.ada_typed.specs.Chained.{right_of}
 use Rattle.ada_interpreter.proofs.Chaining.{operated, stands_begins, first_ends, stands_step, stands_ends, stands_done, all_below, last_below}
 use Rattle.ada_interpreter.proofs.Forms.{index_as, index_on, index_ends, range_holds, number_returns, number_gives, number_ends, get_on, get_ends, get_not, get_shows}
 use Rattle.ada_interpreter.proofs.Passing.{pass_step, pass_ends, pass_fails, one_more, pass_done, number_in}
+use Rattle.ada_interpreter.proofs.Giving.{scalars_none, scalars_more, scalars_fail, same_value, procedure_given}
 use Rattle.ada_interpreter.proofs.Threading.{thread_gives, thread_spent, thread_left, threads_more, threads_end, threads_fail, threads_joined, threads_spent, spent_as, gathered_none}
 use Rattle.ada_interpreter.proofs.Dealing.{threads_on, threads_ends, count_on, count_ends, loops_begin, each_on, each_ends, dealt_loop_shows, dealt_arms_shows, dealt_arms_ends, parallel_for_ends, parallel_for_on, parallel_for_stops, parallel_block_ends, parallel_block_on, parallel_block_stops, chunked_loop_on, chunked_loop_stops, chunked_loop_many, turn_none, turn_some, turn_ends, reduction_shows, parallel_reduction_shows, parallel_reduction_ends, parallel_reduction_on, parallel_reduction_stops, chunked_fold_on, chunked_fold_stops, chunked_fold_many, chunked_fold_ends, dealt_fold_ends, dealt_fold_on, dealt_fold_stops, share_begins, share_step, share_ends, share_done}
 use Rattle.ada_interpreter.specs.declared.constructs.Task.TheVariants as task
@@ -54,7 +56,7 @@ pub actuals::passed_in-returns-then-is_in : goal.actuals::passed_in-returns-then
 actuals::passed_in-returns-then-is_in g t c = number_in c.args.work.now c.args.calls (env_of c.args.env.now) c.args.formal c.in-Some-Number.check (expr_at (nodes_of c.args.work.now) c.in-Some-Number.value) (value_at (nodes_of c.args.work.now) c.args.value) c.in_ok-x-in-Some-Number.x (to_z w64 (of_z w64 c.in_ok-x-in-Some-Number.x)) c.one.result c.args.store.now c.eval.new.store c.in_ok-x-in-Some-Number.ensures (search rules) (search rules) c.one.ensures (search rules)
 
 pub calls::called-returns-in_ok-before-in-Some : goal.calls::called-returns-in_ok-before-in-Some
-calls::called-returns-in_ok-before-in-Some g t c = rw c.leave.ensures (called_more c.args.work.now c.args.calls c.args.number c.args.nested (passed_list c.args.work.now c.args.passed.now) (sub_of (nodes_of c.args.work.now) c.in-Some.sub) (search rules) c.in_ok-before-in-Some.before c.with_formals-result.result c.args.store.now c.enter.new.self c.with_formals-result.new.store c.in_ok-before-in-Some.ensures c.with_formals-result.ensures)
+calls::called-returns-in_ok-before-in-Some g t c = rw c.leave.ensures (called_more returned_of c.args.work.now c.args.calls c.args.number c.args.nested (passed_list c.args.work.now c.args.passed.now) (sub_of (nodes_of c.args.work.now) c.in-Some.sub) (search rules) c.in_ok-before-in-Some.before c.with_formals-result.result c.args.store.now c.enter.new.self c.with_formals-result.new.store c.in_ok-before-in-Some.ensures c.with_formals-result.ensures)
 
 pub calls::with_formals-returns-in_ok-mark-in-Some : goal.calls::with_formals-returns-in_ok-mark-in-Some
 calls::with_formals-returns-in_ok-mark-in-Some g t c = rw c.end.ensures (formals_more c.args.work.now c.args.calls c.args.nested (sub_of (nodes_of c.args.work.now) c.args.sub) (passed_list c.args.work.now c.args.all.now) c.in-Some.first.now c.in-Some.others.now c.args.rest.now (search rules) c.in_ok-mark-in-Some.mark c.with_formals-result.result c.args.store.now c.begin.new.self c.with_formals-result.new.store (rw c.as_slice.ensures at c.in_ok-mark-in-Some.ensures) c.with_formals-result.ensures)
@@ -81,13 +83,13 @@ pub bodies::guarded-returns-in-Some : goal.bodies::guarded-returns-in-Some
 bodies::guarded-returns-in-Some g t c = guarded_some c.args.work.now c.args.calls (stmts_at (nodes_of c.args.work.now) c.args.stmts) (handlers_at (nodes_of c.args.work.now) c.args.handlers) (env_of c.args.env.now) c.args.store.now c.exec_all.new.store c.in-Err-Left-Raises.reason (stmts_at (nodes_of c.args.work.now) c.in-Some.found) c.exec_all-in-Some.result c.exec_all-in-Some.new.store (search rules) (search rules) c.exec_all-in-Some.ensures
 
 pub calls::call-returns-in_err-turned : goal.calls::call-returns-in_err-turned
-calls::call-returns-in_err-turned g t c = call_ends c.args.work.now c.args.nested c.args.sub (passed_list c.args.work.now c.args.passed.now) c.args.store.now c.turned.new.store c.args.calls c.in_err-turned.field-0.0 _ (search rules) c.in_err-turned.ensures
+calls::call-returns-in_err-turned g t c = call_ends returned_of c.args.work.now c.args.nested c.args.sub (passed_list c.args.work.now c.args.passed.now) c.args.store.now c.turned.new.store c.args.calls c.in_err-turned.field-0.0 _ (search rules) c.in_err-turned.ensures
 
 pub calls::call-returns-in_err-returned : goal.calls::call-returns-in_err-returned
-calls::call-returns-in_err-returned g t c = call_step c.args.work.now c.args.nested c.args.sub (passed_list c.args.work.now c.args.passed.now) c.args.store.now c.turned.new.store c.args.calls c.from_residual-in_err-returned.result c.called.new.store (omega arith) c.in_ok-turned.ensures (search rules)
+calls::call-returns-in_err-returned g t c = call_step returned_of c.args.work.now c.args.nested c.args.sub (passed_list c.args.work.now c.args.passed.now) c.args.store.now c.turned.new.store c.args.calls c.from_residual-in_err-returned.result c.called.new.store (omega arith) c.in_ok-turned.ensures (search rules)
 
 pub calls::call-returns-in_ok-returned : goal.calls::call-returns-in_ok-returned
-calls::call-returns-in_ok-returned g t c = call_step c.args.work.now c.args.nested c.args.sub (passed_list c.args.work.now c.args.passed.now) c.args.store.now c.turned.new.store c.args.calls (Ok c.in_ok-returned.returned) c.called.new.store (omega arith) c.in_ok-turned.ensures c.in_ok-returned.ensures
+calls::call-returns-in_ok-returned g t c = call_step returned_of c.args.work.now c.args.nested c.args.sub (passed_list c.args.work.now c.args.passed.now) c.args.store.now c.turned.new.store c.args.calls (Ok c.in_ok-returned.returned) c.called.new.store (omega arith) c.in_ok-turned.ensures c.in_ok-returned.ensures
 
 pub loops::while_loop-loop-turn-init : goal.loops::while_loop-loop-turn-init
 loops::while_loop-loop-turn-init g t c = while_begins c.args.store.now c.args.work.now c.args.calls (optional_at (nodes_of c.args.work.now) c.args.condition) (stmts_at (nodes_of c.args.work.now) c.args.stmts) (env_of c.args.env.now)
@@ -433,3 +435,27 @@ constructs::threads_of-returns-in_ok-most-in-Some g t c = threads_on c.args.work
 
 pub constructs::threads_of-returns-in_err-most-in-Some : goal.constructs::threads_of-returns-in_err-most-in-Some
 constructs::threads_of-returns-in_err-most-in-Some g t c = threads_ends c.args.work.now c.args.calls (env_of c.args.env.now) c.args.id _ c.in-Some.ensures.is c.in_ok-value-in-Some.value (to_z w64 (of_z w64 c.in_ok-value-in-Some.value)) c.args.store.now c.eval.new.store c.in_ok-value-in-Some.ensures c.in_err-most-in-Some.field-0.0 _ (search rules) c.in_err-most-in-Some.ensures (search rules)
+
+pub scalars::with_scalars-returns-in-None : goal.scalars::with_scalars-returns-in-None
+scalars::with_scalars-returns-in-None g t c = λ all. scalars_none c.args.work.now c.args.calls c.args.nested (sub_of (nodes_of c.args.work.now) c.args.sub) all c.args.rest.now c.function_value.result c.args.store.now c.function_value.new.store c.in-None.ensures.cases c.function_value.ensures
+
+pub scalars::with_scalars-returns-in_err-mark-in-Some : goal.scalars::with_scalars-returns-in_err-mark-in-Some
+scalars::with_scalars-returns-in_err-mark-in-Some g t c = λ all. scalars_fail c.args.work.now c.args.calls c.args.nested (sub_of (nodes_of c.args.work.now) c.args.sub) all c.in-Some.first.now c.in-Some.others.now c.args.rest.now (search rules) c.in_err-mark-in-Some.field-0.0 _ c.args.store.now c.begin.new.self (search rules) (search rules)
+
+pub scalars::with_scalars-returns-in_ok-mark-in-Some : goal.scalars::with_scalars-returns-in_ok-mark-in-Some
+scalars::with_scalars-returns-in_ok-mark-in-Some g t c = λ all. rw c.end.ensures (scalars_more c.args.work.now c.args.calls c.args.nested (sub_of (nodes_of c.args.work.now) c.args.sub) all c.in-Some.first.now c.in-Some.others.now c.args.rest.now (search rules) c.in_ok-mark-in-Some.mark c.with_scalars-result.result c.args.store.now c.begin.new.self c.with_scalars-result.new.store (search rules) (c.with_scalars-result.ensures all))
+
+pub scalars::called-returns-in_ok-before-in-Some : goal.scalars::called-returns-in_ok-before-in-Some
+scalars::called-returns-in_ok-before-in-Some g t c = rw c.leave.ensures (called_more (value_returned c.args.given.now) c.args.work.now c.args.calls c.args.number c.args.nested (in_list c.args.given.now) (sub_of (nodes_of c.args.work.now) c.in-Some.sub) (search rules) c.in_ok-before-in-Some.before c.with_scalars-result.result c.args.store.now c.enter.new.self c.with_scalars-result.new.store c.in_ok-before-in-Some.ensures (c.with_scalars-result.ensures c.args.given.now))
+
+pub scalars::call_scalars-returns-in_err-turned : goal.scalars::call_scalars-returns-in_err-turned
+scalars::call_scalars-returns-in_err-turned g t c = call_ends (value_returned c.args.given.now) c.args.work.now c.args.nested c.args.sub (in_list c.args.given.now) c.args.store.now c.turned.new.store c.args.calls c.in_err-turned.field-0.0 _ (search rules) c.in_err-turned.ensures
+
+pub scalars::call_scalars-returns-in_err-value : goal.scalars::call_scalars-returns-in_err-value
+scalars::call_scalars-returns-in_err-value g t c = call_step (value_returned c.args.given.now) c.args.work.now c.args.nested c.args.sub (in_list c.args.given.now) c.args.store.now c.turned.new.store c.args.calls c.from_residual-in_err-value.result c.called.new.store (omega arith) c.in_ok-turned.ensures (search rules)
+
+pub scalars::call_scalars-returns-in_ok-value : goal.scalars::call_scalars-returns-in_ok-value
+scalars::call_scalars-returns-in_ok-value g t c = same_value c.args.given.now (calls_of c.args.work.now c.args.calls c.args.nested c.args.sub (ret tt) (in_list c.args.given.now)) c.in_ok-value.value (to_z w64 (of_z w64 c.in_ok-value.value)) c.args.store.now c.called.new.store (search rules) (call_step (value_returned c.args.given.now) c.args.work.now c.args.nested c.args.sub (in_list c.args.given.now) c.args.store.now c.turned.new.store c.args.calls (Ok c.in_ok-value.value) c.called.new.store (omega arith) c.in_ok-turned.ensures c.in_ok-value.ensures)
+
+pub stmts::call_procedure-returns-in_ok-call_scalars-in-Some : goal.stmts::call_procedure-returns-in_ok-call_scalars-in-Some
+stmts::call_procedure-returns-in_ok-call_scalars-in-Some g t c = procedure_given c.args.work.now c.args.calls c.args.sub (actuals_at (nodes_of c.args.work.now) c.args.actuals) (env_of c.args.env.now) c.in-Some.given c.as_slice.result.now c.nested.result c.in_ok-call_scalars-in-Some.field-0 c.args.store.now c.call_scalars.new.store c.in-Some.ensures (search rules) (search rules) c.in_ok-call_scalars-in-Some.ensures

@@ -199,6 +199,15 @@ decreases-calls::with_formals g l = 1208925819614629174706176 * l.calls + 606824
 abbrev pub decreases-calls::carried_out : goal.decreases-calls::carried_out
 decreases-calls::carried_out g l = 1208925819614629174706176 * l.calls + 605643501428031998656512
 
+abbrev pub decreases-scalars::call_scalars : goal.decreases-scalars::call_scalars
+decreases-scalars::call_scalars g l = 1208925819614629174706176 * l.calls
+
+abbrev pub decreases-scalars::called : goal.decreases-scalars::called
+decreases-scalars::called g l = 1208925819614629174706176 * l.calls + 608004684669466821263360
+
+abbrev pub decreases-scalars::with_scalars : goal.decreases-scalars::with_scalars
+decreases-scalars::with_scalars g l = 1208925819614629174706176 * l.calls + 606824093048749409959936 + length l.rest.now
+
 abbrev pub decreases-calls::function_value : goal.decreases-calls::function_value
 decreases-calls::function_value g l = 1208925819614629174706176 * l.calls + 604462909807314587353088
 
