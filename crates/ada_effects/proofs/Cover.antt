@@ -29,7 +29,7 @@ use Rattle.ada_typed.specs.declared.expressions.Reducer.TheVariants.{Operator, F
 use Rattle.ada_meaning.specs.Values.{truth, bit, is_in, between, to_nat, count, base_of, unary, is_zero, divides, overflows, result, value_or_zero, defaults, image_of, handles_reason, is_chosen, without_zeros, layout, laid, zeros}
 use Rattle.ada_meaning.specs.Operations.{CheckKind, RangeCheck, IndexCheck, OverflowCheck, ZeroCheck, ByPlan, Sized, chunk_of, Operations, operate, reduce}
 use Rattle.ada_meaning.specs.Meaning
-use Rattle.ada_meaning.specs.Meaning.{Part, Env, Course, Chunking, Back, Passed, Returned, outset, with_parameter, with_target, with_handled, inside, variable_root, constant_root, array_root, iterated_env, cut_of, value_cut_of, arms_of, exits, returns, raises, value_of, reason_of, has_handlers, sub_at, moved, object_layout, most_nested, most_threads, most_iterations, most_calls}
+use Rattle.ada_meaning.specs.Meaning.{Part, Env, Course, Chunking, Back, Passed, Returned, outset, with_target, with_handled, inside, variable_root, constant_root, array_root, iterated_env, cut_of, value_cut_of, arms_of, exits, returns, raises, value_of, reason_of, has_handlers, sub_at, moved, object_layout, most_nested, most_threads, most_iterations, most_calls}
 use Rattle.ada_typed.specs.Syntax.{Expr, Static, Variable, Constant, Parameter, Target, Group, Unary, Binary, AndThen, OrElse, Relation, Membership, If, Call, Convert, Reduction, Optional, Absent, Present, Selections, Whole, Field, Index, Actuals, NoActual, In, InOut, Out, CompositeInOut, CompositeOut, Value, Number, Cells, Composite, WholeVariable, WholeConstant, WholeTarget, CompositeIf, Aggregate, Associations, NoAssociation, Association, Iteration, Range, Components, Chunk, NoChunk, Count, Each, Pieces, NoPiece, Text, Image, Padded, Decls, NoDecl, DeclareDefault, DeclareVariable, DeclareConstant, Mentions, Stmt, Null, Assign, CallProcedure, Exit, Return, ReturnValue, Raise, Reraise, IfThen, Case, Loop, For, ParallelFor, Parallel, Block, Put, Get, Stmts, End, Then, Alternatives, NoAlternative, Alternative, Arms, NoArm, Arm, Handlers, NoHandler, Handler, Body, Sub, Program}
 use Rattle.ada_effects.specs.Effects.{Roles, unknown, hide, is_one, selector, steps_of, root_name, name, forget, Construct, LoopOf, BlockOf, ReductionOf, Item, Holds, chunk_hidden, course_hidden, chunk_parameter, judging, iterated_hidden, InReducer, InExpr, InOptional, InSelections, InActuals, InValue, InComposite, InAssociations, InCourse, InFilter, InChunk, InPieces, InDecls, InStmt, InAll, InAlternatives, InArm, InHandlers, InBody, InThread, IsDeclared, InSub, InCallee}
 use Rattle.ada_effects.specs.Conflicts.{Now, Fits, Leads, Distinct, LoopsDiffer, Compared, InProgram}

@@ -6,7 +6,7 @@ use Rattle.ada_typed.specs.Syntax.{Program}
 use Rattle.behaviours.specs.Doings.{through, onto}
 use Rattle.behaviours.specs.Paths.{Leave, Raises, Entity, VariableOf, ConstantOf, Region, Everywhere, Here, Instance, End, Gives, Leaves, Path, Scope, Extent, find, within_extent, first_of, declares, apart_of, entity_eq, one_turn, one_taken, one_elaboration}
 use Rattle.behaviours.specs.Events.{Event, Reads, Writes, Recalls, Keeps, Takes, Puts, Looks, Trace}
-use Rattle.behaviours.specs.Behaviours.{Behaviour, Asks, Did, Unbegun, Carries, fillings, Begins}
+use Rattle.behaviours.specs.Behaviours.{Behaviour, Asks, Did, Unbegun, fillings}
 use Rattle.ada_meaning.specs.Operations.{CheckKind}
 use Rattle.ada_meaning.specs.Meaning.{object_of}
 use Rattle.ada_effects.specs.Effects.{IsGlobal}

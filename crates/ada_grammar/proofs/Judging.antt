@@ -1,5 +1,5 @@
 -- From what the parser of programs read to the answer for a whole list.
-use Rattle.std.proofs.Common.{◌≡◌, ℕ, List, [], ◌∷◌, Result, Ok, Err, subst, ap}
+use Rattle.std.proofs.Common.{◌≡◌, ℕ, List, [], ◌∷◌, Result, Ok, Err, subst}
 use Rattle.ada_base.specs.Symbols.{Symbol}
 use Rattle.ada_base.specs.Languages.{Language}
 use Rattle.reader_combinators.specs.Readers.{Answer}

@@ -21,7 +21,7 @@ use Rattle.ada_base.specs.Derivations.{DerivesWithin}
 use Rattle.ada_tree.specs.Grammar.{ProgramWords}
 use Rattle.ada_tree.specs.Productions as spelled
 use Rattle.canonical_text.specs.Spoken.{AreSpoken}
-use Rattle.ada_grammar.proofs.Saying.{Says, is_plain, kinds, kinds_in, words_kinds, empty, token, word as plain, and, deeper, ticked, ticked_and, maybe, maybe_after, each, each_after}
+use Rattle.ada_grammar.proofs.Saying.{Says, is_plain, kinds, words_kinds, empty, token, word as plain, and, deeper, ticked, ticked_and, maybe, maybe_after, each, each_after}
 
 plain-compared_by : (by : Comparison) → is_plain (spelled.compared_by by) ≡ true
 plain-compared_by comparison.Equal = refl

@@ -6,7 +6,7 @@ use Rattle.behaviours.specs.Joins.{Share, deal}
 use Rattle.ada_meaning.specs.Meaning as meaning
 use Rattle.ada_meaning.specs.Meaning.{Env, Course, inside}
 use Rattle.ada_meaning.specs.Stored
-use Rattle.ada_meaning.specs.Stored.{Stored, doings, bind, par, threads, after_all}
+use Rattle.ada_meaning.specs.Stored.{Stored, doings, bind, threads, after_all}
 use Rattle.ada_meaning.proofs.Computing.{through_more, through_done}
 use Rattle.run_store.specs.Outside.{Outside}
 use Rattle.run_store.specs.Shows.{Image, Goes, Shows}

@@ -2,7 +2,7 @@
 use Rattle.std.proofs.Common.{◌≡◌, ℕ, suc, ◌+◌, ◌*◌, ◌-◌, ◌^◌, ◌<◌, ◌≤◌, min, Option, Some, None, is_some, Bool, true, false, refl, sym, ap, ◌∙◌, ◌⊎◌, inl, inr, arith, true≢false}
 use Rattle.std.proofs.lemmas.Bool.{cases_lt}
 use Rattle.ada_base.specs.declared.reason.Reason.TheVariants as reason
-use Rattle.ada_base.specs.Input.{Held, Nothing, Symbol, is_blank, is_byte, is_digit, digit_of}
+use Rattle.ada_base.specs.Input.{is_blank, is_byte, is_digit, digit_of}
 use Rattle.ada_base.specs.Input as input
 use Rattle.ada_io.specs.declared.phases.Phase.TheVariants.{Blanks, NeedsDigit, Digits}
 use Rattle.ada_io.specs.declared.phases.Outcome.{Outcome}

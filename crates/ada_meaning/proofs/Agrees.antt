@@ -8,7 +8,7 @@ use Rattle.behaviours.specs.Doings.{through, onto}
 use Rattle.behaviours.specs.Paths.{Leave, Raises, Entity, VariableOf, Region, Instance, End, Gives, Leaves, Spent, Stopped, Path, Scope, find, declares, apart_of, one_turn, one_elaboration, enter, leave}
 use Rattle.behaviours.specs.Events.{Event, Reads, Writes, Recalls, Keeps, Takes, Puts, Looks, Trace, output_of}
 use Rattle.behaviours.specs.Memory.{Memory, put, put_all, after, Fits}
-use Rattle.behaviours.specs.Behaviours.{Behaviour, Did, Carries, Untaken, Unbegun, asks_at_once}
+use Rattle.behaviours.specs.Behaviours.{Behaviour, Did, Carries, Untaken, Unbegun}
 use Rattle.ada_meaning.specs.Operations.{CheckKind}
 use Rattle.behaviours.specs.Behaviours
 use Rattle.ada_meaning.specs.Runs

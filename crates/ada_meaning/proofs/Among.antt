@@ -13,7 +13,6 @@ use Rattle.ada_meaning.specs.Operations.{Cut, chunk_of, Operations, operate, red
 use Rattle.ada_meaning.specs.Meaning.{main}
 use Rattle.behaviours.specs.Behaviours
 use Rattle.ada_meaning.specs.Runs
-use Rattle.ada_meaning.specs.Runs.{of_subtype, anything}
 use Rattle.ada_meaning.specs.Programs.{this}
 use Rattle.ada_meaning.specs.Nonblocking.{KeepsRule}
 use Rattle.ada_meaning.proofs.Induction

@@ -8,7 +8,7 @@ use Rattle.behaviours.specs.Joins.{Share, deal}
 use Rattle.behaviours.specs.Behaviours.{is_left}
 use Rattle.ada_meaning.specs.Operations.{Cut, ByPlan, Sized, chunk_of}
 use Rattle.ada_meaning.specs.Planned
-use Rattle.ada_meaning.specs.Planned.{Result, Planned, plain, ending, continued, next, follow, both, before, threads, closed, back_in, doings, ◌>>=◌}
+use Rattle.ada_meaning.specs.Planned.{Result, Planned, continued, next, follow, before, threads, back_in, doings, ◌>>=◌}
 use Rattle.ada_meaning.specs.Sequential.{IsCalm, in_turn, construct, shares_of}
 use Rattle.ada_meaning.proofs.Agrees.{gives_inj, gives-ne-leaves, gives-ne-spent, gives-ne-stopped, or_left, or_right}
 use Rattle.ada_meaning.proofs.Ties.{Ties, Fair, Agree, goes_enter, goes_joined, fair_goes}

@@ -8,7 +8,7 @@ use Rattle.behaviours.specs.Paths.{Leave, Raises, Entity, VariableOf, Region, Ev
 use Rattle.behaviours.specs.Memory.{Memory, put, put_all, hold}
 use Rattle.ada_meaning.specs.Operations.{CheckKind}
 use Rattle.ada_meaning.specs.Planned
-use Rattle.ada_meaning.specs.Planned.{Result, Planned, Noted, plain, ending, continued, next, handled, here, doings, ◌>>=◌}
+use Rattle.ada_meaning.specs.Planned.{Result, Planned, Noted, plain, continued, next, handled, here, doings, ◌>>=◌}
 use Rattle.ada_meaning.specs.Sequential.{AllHarmless, IsCalm}
 use Rattle.ada_meaning.proofs.Agrees.{gives-ne-spent, gives-ne-stopped, leaves-ne-spent, leaves-ne-stopped, or_left, or_right}
 use Rattle.ada_meaning.proofs.Ties.{Pair, not_left, not_right, put_all_new, put_all_other, not_below, Ties, TiedAt, tied_outer, Fair, Agree, goes_one, fair_goes, fair_less, with_new, fair_new, put_tied, put_all_tied}

@@ -12,7 +12,7 @@ use Rattle.ada_meaning.specs.Nonblocking.{KeepsRule}
 use Rattle.ada_meaning.specs.Runs
 use Rattle.ada_meaning.specs.Runs.{anything, of_subtype}
 use Rattle.ada_meaning.specs.Planned
-use Rattle.ada_meaning.specs.Planned.{Result, Planned, continued, handled}
+use Rattle.ada_meaning.specs.Planned.{Result, Planned, handled}
 use Rattle.ada_meaning.specs.Sequential.{IsCalm}
 use Rattle.ada_meaning.specs.Programs.{this, Setting, input_of, planned, sequential, values, with_final, finals}
 use Rattle.ada_meaning.specs.Law.{Ending, Ended, Raised, TurnsSpent, ReadFault, WriteFault, NoMemory, Outcome, behaviour, BeginsRun, EndsAs, EndsItself, IsPermitted, IsPrefix, ending_of, outcome_of, StopsLaw, AloneLaw, AtOnceLaw, SilentLaw, OnlyLaw, OneLaw, IsPlan, IsSequential, SequentialLaw, OneSequentialLaw, SubtypeLaw}

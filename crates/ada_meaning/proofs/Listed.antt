@@ -16,7 +16,7 @@ use Rattle.behaviours.specs.Memory.{Memory}
 use Rattle.ada_meaning.specs.Values.{base_of, value_or_zero, truth, bit, differ}
 use Rattle.ada_meaning.specs.Operations.{OverflowCheck, reduce}
 use Rattle.ada_meaning.specs.Planned
-use Rattle.ada_meaning.specs.Planned.{Planned, Result, plain, next, doings, ◌>>=◌}
+use Rattle.ada_meaning.specs.Planned.{Planned, plain, next, doings, ◌>>=◌}
 use Rattle.ada_meaning.specs.Sequential.{IsListed, HasNoPartialOverflow, total, product}
 use Rattle.ada_meaning.proofs.Folds.{over, over_append, concat}
 

@@ -5,7 +5,7 @@ use Rattle.ada_typed.specs.declared.scalars.Scalar.{Scalar}
 use Rattle.behaviours.specs.Doings.{through, onto}
 use Rattle.behaviours.specs.Paths.{Leave, Raises, Entity, VariableOf, Region, Instance, End, Path, Scope, find, enter}
 use Rattle.behaviours.specs.Events.{Event, Writes, Trace, Has, IsInputOutput}
-use Rattle.behaviours.specs.Behaviours.{Behaviour, Did, asks_at_once}
+use Rattle.behaviours.specs.Behaviours.{Behaviour, Did}
 use Rattle.ada_meaning.specs.Operations.{CheckKind}
 use Rattle.behaviours.specs.Behaviours
 use Rattle.ada_meaning.specs.Runs

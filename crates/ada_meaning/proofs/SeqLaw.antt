@@ -13,9 +13,9 @@ use Rattle.ada_meaning.specs.Values.{result, divides, overflows, is_zero, value_
 use Rattle.ada_meaning.specs.Operations.{ZeroCheck, OverflowCheck, Cut, chunk_of, Operations, operate, reduce, zero_checked, overflow_checked}
 use Rattle.ada_meaning.specs.Meaning.{main}
 use Rattle.ada_meaning.specs.Planned
-use Rattle.ada_meaning.specs.Planned.{Result, Planned, Noted, plain, continued, next, threads, closed, doings, ◌>>=◌}
+use Rattle.ada_meaning.specs.Planned.{Planned, plain, continued, next, threads, closed, doings, ◌>>=◌}
 use Rattle.ada_meaning.specs.Sequential
-use Rattle.ada_meaning.specs.Sequential.{IsListed, HasNoPartialOverflow, IsCalm, Folded, in_turn, construct, shares_of, notes}
+use Rattle.ada_meaning.specs.Sequential.{HasNoPartialOverflow, IsCalm, Folded, in_turn, construct, notes}
 use Rattle.ada_meaning.specs.Nonblocking.{KeepsRule}
 use Rattle.ada_meaning.proofs.Agrees.{gives_inj, gives-ne-leaves, gives-ne-spent, gives-ne-stopped}
 use Rattle.ada_meaning.proofs.Ties.{Ties}

@@ -16,7 +16,7 @@ use Rattle.ada_meaning.specs.Runs.{anything}
 use Rattle.ada_meaning.specs.Programs.{this, input_of, finals}
 use Rattle.ada_meaning.specs.Planned.{here}
 use Rattle.ada_meaning.specs.Stored
-use Rattle.ada_meaning.specs.Stored.{State, After, at, Stored, Cause, Left, OutOfTurns, NoRoom, Fault, MemoryFault, InputFault, OutputFault, Unbegun, Stops, next, next_halts, handled_halts, handled, steps, place_of, Place, cell_at, put_at, read_at, written_at, value_read, begun, ended, has_room, taken_from, finals_of}
+use Rattle.ada_meaning.specs.Stored.{State, After, at, Stored, Cause, Left, OutOfTurns, NoRoom, Fault, MemoryFault, InputFault, OutputFault, Unbegun, Stops, next, next_halts, handled_halts, handled, place_of, Place, put_at, read_at, written_at, value_read, begun, ended, has_room, taken_from, finals_of}
 use Rattle.behaviours.proofs.Shuffle.{fits_append, after_append}
 use Rattle.ada_meaning.proofs.Agrees.{output_of_append, fillings_fit, after_fillings, output_fillings}
 use Rattle.ada_meaning.proofs.Ties.{put_all_other}

@@ -25,7 +25,7 @@ use Rattle.ada_meaning.specs.Nonblocking.{KeepsRule}
 use Rattle.ada_meaning.specs.Law.{IsPermitted, BeginsRun, EndsAs, behaviour}
 use Rattle.ada_meaning.specs.Stored
 use Rattle.ada_meaning.specs.declared.slots.Slot.{Slot}
-use Rattle.ada_meaning.specs.Stored.{State, no_slot, slot_at, Stored, After, at, Cause, Left, OutOfTurns, NoRoom, NoRoom, Fault, MemoryFault, InputFault, OutputFault, Stop, Goes, Fails, Computes, stored, outset, put_out, outcome_of, handled, finals_of}
+use Rattle.ada_meaning.specs.Stored.{State, no_slot, slot_at, Stored, After, at, Cause, Left, OutOfTurns, NoRoom, NoRoom, Fault, MemoryFault, InputFault, OutputFault, Stop, Goes, Fails, Computes, stored, outset, put_out, outcome_of, handled}
 use Rattle.ada_meaning.specs.StoredLaw.{StoredLaw, SomeLaw, StoredSequentialLaw}
 use Rattle.ada_meaning.proofs.Induction
 use Rattle.ada_meaning.proofs.Induction.{Relates}

@@ -8,7 +8,7 @@ use Rattle.behaviours.specs.Behaviours.{Behaviour, Unbegun, is_left, MayTrace, E
 use Rattle.behaviours.specs.Behaviours
 use Rattle.behaviours.specs.Joins
 use Rattle.ada_meaning.specs.Planned
-use Rattle.ada_meaning.specs.Planned.{Result, Planned, plain, follow, both, before, threads, closed, with_turns}
+use Rattle.ada_meaning.specs.Planned.{Result, Planned, follow, both, before, threads, closed, with_turns}
 use Rattle.behaviours.proofs.Shuffle.{fits_split, shuffle_law, shuffle_in_order, fits_frame, after_other, merge_has, alike_flip}
 use Rattle.ada_meaning.proofs.Quiet.{Quiet}
 use Rattle.ada_meaning.proofs.Agrees.{Does, AgreesAt, Agrees, Same, Settled, settled_right, gives-ne-leaves, gives-ne-stopped, leaves-ne-spent, leaves-ne-stopped, spent-ne-stopped, or_left, or_right, does_append}

@@ -9,11 +9,11 @@ use Rattle.behaviours.specs.Behaviours.{Behaviour, Asks, is_left}
 use Rattle.behaviours.specs.Behaviours
 use Rattle.ada_meaning.specs.Programs.{finals}
 use Rattle.ada_meaning.specs.Stored
-use Rattle.ada_meaning.specs.Stored.{State, After, at, Stored, Cause, Left, OutOfTurns, NoRoom, Fault, MemoryFault, Unbegun, Stops, next, next_halts, finals_of, Took, took, gathered, is_spent}
+use Rattle.ada_meaning.specs.Stored.{State, After, at, Stored, Cause, Left, OutOfTurns, NoRoom, Fault, MemoryFault, Unbegun, Stops, next, next_halts, finals_of, took, gathered, is_spent}
 use Rattle.behaviours.proofs.Shuffle.{fits_append, after_append, shuffle_in_order}
 use Rattle.ada_meaning.proofs.Agrees.{output_of_append, gives-ne-leaves, gives-ne-stopped, spent-ne-stopped, or_left, or_right}
 use Rattle.ada_meaning.proofs.Ties.{goes_enter, goes_joined}
-use Rattle.ada_meaning.proofs.Lays.{Tie, place, Tied, Grows, Has, Visible, Same, same_refl, same_trans, visible_same, has_moved, finals_right}
+use Rattle.ada_meaning.proofs.Lays.{Tie, Tied, Has, Visible, Same, same_trans, visible_same, has_moved, finals_right}
 use Rattle.ada_meaning.proofs.Simulates.{halted_stops, end_of, Within, StopsWith, Told, Came, Halted, Simulates, came_as, came_then, halted_after}
 
 -- all that is gathered

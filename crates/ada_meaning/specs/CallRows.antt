@@ -10,7 +10,7 @@ use Rattle.ada_typed.specs.declared.expressions.Reducer.TheVariants as reducer
 use Rattle.ada_typed.specs.declared.program.Formal.{Formal}
 use Rattle.ada_typed.specs.declared.program.Mode.TheVariants as mode
 use Rattle.ada_typed.specs.Syntax as syntax
-use Rattle.ada_typed.specs.Syntax.{Expr, Static, Constant, Parameter, Binary, Relation, Call, Reduction, NoExpr, Present, Whole, NoActual, In, InOut, Out, Number, Range, NoChunk, NoDecl, DeclareDefault, DeclareVariable, Stmt, CallProcedure, ReturnValue, Raise, Reraise, Null, IfThen, Block, Put, Text, NoPiece, Stmts, End, Then, NoHandler, Handler, Sub, Program}
+use Rattle.ada_typed.specs.Syntax.{Expr, Constant, Parameter, Binary, Relation, Call, Reduction, Whole, NoActual, In, InOut, Out, Number, Range, NoChunk, NoDecl, DeclareDefault, DeclareVariable, Stmt, CallProcedure, ReturnValue, Raise, Reraise, Null, IfThen, Block, Put, Text, NoPiece, Stmts, End, Then, NoHandler, Handler, Sub, Program}
 use Rattle.ada_base.specs.Cuts.{Even}
 use Rattle.behaviours.specs.Paths.{Raises, Gives, Leaves, Spent}
 use Rattle.ada_meaning.specs.Programs.{answer_of, planned, sequential}

@@ -8,7 +8,7 @@ use Rattle.ada_typed.specs.declared.expressions.Root.TheVariants as root
 use Rattle.ada_typed.specs.declared.expressions.Reducer.TheVariants as reducer
 use Rattle.ada_typed.specs.declared.program.Mode.TheVariants as mode
 use Rattle.ada_typed.specs.Syntax as syntax
-use Rattle.ada_typed.specs.Syntax.{Subtype, Expr, Constant, Parameter, Binary, Relation, Call, Reduction, NoExpr, Absent, Present, Selections, Whole, Field, Index, NoActual, In, Value, Cells, Aggregate, NoAssociation, Association, Range, Components, NoChunk, NoPiece, Text, Image, NoDecl, DeclareDefault, DeclareVariable, Stmt, Assign, Case, NoAlternative, Alternative, Raise, For, ParallelFor, Parallel, Block, Put, Stmts, End, Then, NoArm, Arm, NoHandler, Handler, ReturnValue, IfThen, Program, Variable}
+use Rattle.ada_typed.specs.Syntax.{Subtype, Expr, Constant, Parameter, Binary, Call, Reduction, NoExpr, Absent, Selections, Whole, Field, Index, NoActual, In, Value, Cells, Aggregate, NoAssociation, Association, Range, Components, NoChunk, NoPiece, Text, Image, NoDecl, DeclareVariable, Assign, Case, NoAlternative, Alternative, Raise, For, ParallelFor, Parallel, Block, Put, Stmts, End, Then, NoArm, Arm, NoHandler, Handler, ReturnValue, Program, Variable}
 use Rattle.ada_base.specs.Cuts.{Plan, One, Even, Chunked, Listed, cuts_of}
 use Rattle.behaviours.specs.Paths.{Raises, Gives, Leaves}
 use Rattle.ada_meaning.specs.Programs.{Answer, answer_of, planned}

@@ -5,7 +5,7 @@ use Rattle.ada_typed.specs.declared.expressions.Reducer.TheVariants.{Operator, F
 use Rattle.ada_typed.specs.Syntax.{Expr, Static, Variable, Constant, Parameter, Target, Group, Unary, Binary, AndThen, OrElse, Relation, Membership, If, Call, Convert, Reduction, Exprs, NoExpr, AlsoExpr, Optional, Absent, Present, Selections, Whole, Field, Index, Actuals, NoActual, In, InOut, Out, CompositeInOut, CompositeOut, Value, Number, Cells, Composite, WholeVariable, WholeConstant, WholeTarget, CompositeIf, Aggregate, Associations, NoAssociation, Association, Iteration, Range, Components, Chunk, NoChunk, Count, Each, Pieces, NoPiece, Text, Image, Padded, Program}
 use Rattle.ada_meaning.specs.Shapes.{cells_of}
 use Rattle.ada_effects.specs.Effects as law
-use Rattle.ada_effects.specs.Effects.{Roles, Item, ReductionOf, forget, InReducer, InExpr, InExprs, InOptional, InSelections, InActuals, InValue, InComposite, InAssociations, InCourse, InFilter, InChunk, InPieces}
+use Rattle.ada_effects.specs.Effects.{Roles, ReductionOf, forget, InReducer, InExpr, InExprs, InOptional, InSelections, InActuals, InValue, InComposite, InAssociations, InCourse, InFilter, InChunk, InPieces}
 use Rattle.effect_inference.specs.declared.gathering.Gathered.{Gathered}
 use Rattle.effect_inference.specs.Paths.{Place, named}
 use Rattle.effect_inference.specs.Gather.{gather_reducer, gather_expr, gather_exprs, gather_optional, gather_selections, gather_actuals, gather_value, gather_composite, gather_associations, gather_course, gather_filter, gather_chunk, gather_pieces}

@@ -4,7 +4,7 @@ use Rattle.std.proofs.lemmas.Bool.Decides.{nat_tests}
 use Rattle.ada_typed.specs.Syntax.{Decls, NoDecl, DeclareDefault, DeclareVariable, DeclareConstant, Mentions, Sub, Program}
 use Rattle.ada_meaning.specs.Meaning.{sub_at}
 use Rattle.ada_effects.specs.Effects as law
-use Rattle.ada_effects.specs.Effects.{Construct, Item, Touches, Calls, Blocks, Holds, InBody, InCallee, InSub, IsDeclared, IsGlobal}
+use Rattle.ada_effects.specs.Effects.{Construct, Item, Touches, Calls, Holds, InBody, InCallee, InSub, IsDeclared, IsGlobal}
 use Rattle.ada_effects.specs.Conflicts.{EffectPath, path_of}
 use Rattle.effect_clashes.specs.declared.effects.Effects.{Effects}
 use Rattle.effect_inference.specs.declared.gathering.Gathered.{Gathered}

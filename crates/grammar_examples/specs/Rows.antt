@@ -2,7 +2,7 @@
 use Rattle.std.specs.Prelude.{ℕ, suc, List, [], ◌∷◌, ◌++◌, take, drop, Option, None}
 use Rattle.ada_base.specs.Kinds.{identifier, procedure_word, is_word, begin_word, null_word, end_word, assign, semicolon}
 use Rattle.ada_tree.specs.Syntax as syntax
-use Rattle.ada_tree.specs.Syntax.{Expr, Single, Rel, Alone, Simple, Sum, NoAdding, Term, Product, NoMultiplying, Operand, Primary, Number, Named, Name, NoPart, Ids, Range, Indic, Array, Comp, Decl, Formal, Formals, Pack, Declare, Stmt, Null, Assign, Stmts, NoStmt, Body, NoHandler, Aspect, Unit', DeclUnit, Policy, Clause, Main, Program}
+use Rattle.ada_tree.specs.Syntax.{Expr, Single, Rel, Alone, Simple, Sum, NoAdding, Term, Product, NoMultiplying, Operand, Primary, Number, Named, Name, NoPart, Ids, Range, Indic, Array, Comp, Decl, Formal, Formals, Pack, Declare, Stmt, Null, Assign, NoStmt, Body, NoHandler, Aspect, Unit', DeclUnit, Policy, Clause, Main, Program}
 use Rattle.ada_tree.specs.declared.operators.ClauseWord.{ClauseWord}
 use Rattle.ada_tree.specs.declared.operators.Mode.{Mode}
 

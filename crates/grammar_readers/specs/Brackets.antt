@@ -4,7 +4,7 @@ use Rattle.std.specs.Prelude.{ℕ, zero, suc, [], ◌∷◌, Option, Some, None,
 use Rattle.reader_combinators.specs.Readers.{Reader, ◌>>=◌, ◌>>◌, pure, symbol, by_next, given}
 use Rattle.ada_base.specs.Kinds as kind
 use Rattle.ada_tree.specs.Syntax as syntax
-use Rattle.ada_tree.specs.Syntax.{Expr, Single, Simple, Primary, If, Square, Reduction, Elsif, Elsifs, NoElsif, Exprs, NoExpr, OptionalExpr, AbsentExpr, PresentExpr, Name, Part, Call, Arg, Args, NoArg, Range, Bounded, Whole, Constrained, Choice, Value, Span, Others, Choices, NoChoice, Many, Positions, PositionsOthers, FirstOthers, Associations, Assoc, Chosen, Each, Assocs, NoAssoc, Parallel, Unchunked, Counted, Chunked, OptionalParallel, AbsentParallel, PresentParallel, Iter, InRange, OfName}
+use Rattle.ada_tree.specs.Syntax.{Expr, Simple, Primary, If, Square, Reduction, Elsif, Elsifs, NoElsif, Exprs, NoExpr, OptionalExpr, AbsentExpr, PresentExpr, Name, Part, Call, Arg, Args, NoArg, Range, Bounded, Whole, Constrained, Choice, Value, Span, Others, Choices, NoChoice, Many, Positions, PositionsOthers, FirstOthers, Associations, Assoc, Chosen, Each, Assocs, NoAssoc, Parallel, Unchunked, Counted, Chunked, OptionalParallel, AbsentParallel, PresentParallel, Iter, InRange, OfName}
 use Rattle.ada_tree.specs.Joining.{args_and, elsifs_and, exprs_and, choices_and, assocs_and, bare_name, bare_identifier, expr_identifier}
 use Rattle.grammar_readers.specs.Expressions.{name, simple, upper_bound, rel_from, expr_from, expr}
 use Rattle.grammar_readers.specs.Read.{Inside, OneInside, ManyInside, in_round, in_square, is_each, each_of}

@@ -2,13 +2,12 @@
 use Rattle.std.proofs.Common.{◌≡◌, ◌≢◌, refl, sym, ap, ◌∙◌, ℕ, ℤ, Bool, true, false, not, ◌||◌, length, List, Option, Some, None, Result, drop}
 use Rattle.std.specs.Prelude.{◌==◌, ◌*◌, ◌+ℤ◌, pos, ◌∷◌, [], if◌then◌else◌, option_map}
 use Rattle.ada_tree.specs.Syntax as syntax
-use Rattle.ada_tree.specs.Syntax.{Assoc, Assocs, Expr, Exprs, OptionalExpr}
+use Rattle.ada_tree.specs.Syntax.{Assoc, Assocs, Exprs, OptionalExpr}
 use Rattle.ada_typed.specs.Decoded.{Nothing, Part}
 use Rattle.ada_typed.specs.Latest.{pop, top}
-use Rattle.name_expressions.specs.Filled.{counted, filled}
-use Rattle.name_expressions.specs.Placed.{placed, rest_if}
+use Rattle.name_expressions.specs.Filled.{filled}
+use Rattle.name_expressions.specs.Placed.{placed}
 use Rattle.name_expressions.specs.declared.fields.Filling.{Filling}
-use Rattle.name_expressions.specs.declared.fields.Positions.{Positions}
 use Rattle.name_expressions.specs.declared.placing.Placing.{Placing}
 use Rattle.name_expressions.proofs.Wholes.{clean, faulty}
 use Rattle.name_expressions.specs.Contents.{contents_in, exprs_in, second_in}

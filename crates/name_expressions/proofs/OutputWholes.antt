@@ -1,5 +1,5 @@
 -- Calls of predefined procedures, whose arguments have no fault.
-use Rattle.std.proofs.Common.{◌≡◌, ◌≢◌, refl, sym, ap, ◌∙◌, ℕ, Bool, true, false, length, Option, None}
+use Rattle.std.proofs.Common.{◌≡◌, ◌≢◌, refl, sym, ◌∙◌, ℕ, Bool, true, false, length, Option, None}
 use Rattle.std.specs.Prelude.{◌==◌, if◌then◌else◌}
 use Rattle.ada_tree.specs.Syntax as syntax
 use Rattle.ada_tree.specs.Syntax.{Args, Expr}
@@ -7,9 +7,9 @@ use Rattle.name_expressions.proofs.Puts.{number_only}
 use Rattle.name_expressions.proofs.Wholes.{clean, faulty}
 use Rattle.name_expressions.specs.Putting.{number_put, put_since}
 use Rattle.name_rules.specs.Expressions.{Inside, expr}
-use Rattle.name_rules.specs.Found.{Denoted, Found}
+use Rattle.name_rules.specs.Found.{Found}
 use Rattle.name_rules.specs.Judging.{Judging, given, pure, where_clean, ◌>>=◌}
-use Rattle.name_rules.specs.Output.{Putting, by_procedure, io_call, is_number_put, item_of, judged_arguments, no_name, nothing_put, others_alone, put_arguments, put_complete}
+use Rattle.name_rules.specs.Output.{Putting, by_procedure, io_call, is_number_put, item_of, judged_arguments, no_name, nothing_put, others_alone, put_arguments}
 use Rattle.name_rules.specs.declared.found.Put.{Put}
 use Rattle.name_rules.specs.declared.found.Reach.{Reach}
 use Rattle.name_rules.specs.declared.log.Log.{Log}

@@ -2,8 +2,7 @@
 use Rattle.std.proofs.Common.{◌≡◌, refl, ℕ, Bool, true, false, Option}
 use Rattle.std.specs.Prelude.{not}
 use Rattle.ada_tree.specs.Syntax.{Args}
-use Rattle.name_rules.specs.Found.{Denoted, Found}
-use Rattle.name_rules.specs.Judging.{Judging}
+use Rattle.name_rules.specs.Found.{Found}
 use Rattle.name_rules.specs.Output.{Putting, by_procedure, is_number_put, is_text, put_by, put_complete}
 use Rattle.name_rules.specs.declared.found.Put.TheVariants as put
 use Rattle.name_rules.specs.declared.found.Put.{Put}

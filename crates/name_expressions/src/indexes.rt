@@ -27,6 +27,7 @@ use std::alloc::AllocError;
 use tree_nodes::Tree;
 use typed_parts::Parts;
 
+/// An argument, for itself alone unless it is a string literal; no part of it is left.
 #[cycle(levels)]
 pub fn arg_alone(
     names: &Names,

@@ -3,11 +3,11 @@ use Rattle.std.proofs.Common.{◌≡◌, refl, true≢false, ℕ, ℤ, ◌<◌, 
 use Rattle.std.specs.Prelude.{◌||◌}
 use Rattle.ada_base.specs.declared.reason.Reason.TheVariants as reason
 use Rattle.ada_tree.specs.Syntax as syntax
-use Rattle.ada_tree.specs.Syntax.{Array, Comp, Decl, Definition, Expr, Ids, Indic, ObjectType, Simple}
+use Rattle.ada_tree.specs.Syntax.{Array, Indic}
 use Rattle.ada_typed.specs.Decoded as part
 use Rattle.ada_typed.specs.Decoded.{Part}
 use Rattle.name_rules.specs.Declarations as d
-use Rattle.name_rules.specs.Declarations.{Building, Dimensions, Indicated, Initial, all_ids, indicated}
+use Rattle.name_rules.specs.Declarations.{Dimensions, Indicated, indicated}
 use Rattle.name_rules.specs.Expressions.{Inside}
 use Rattle.name_rules.specs.Found.{Denoted, Found, denote}
 use Rattle.name_rules.specs.Judging.{Judging, ◌>>=◌, both, clean, fault, given, joined, pure, some, where_clean}

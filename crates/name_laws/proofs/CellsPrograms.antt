@@ -1,7 +1,7 @@
 -- Whole programs leave what is right.
 use Rattle.std.proofs.Common.{ℕ, ◌-◌, ◌≤◌, List, [], ◌∷◌, length, Option, Some, None, Bool, false, refl, arith}
 use Rattle.ada_tree.specs.Syntax as syntax
-use Rattle.ada_tree.specs.Syntax.{Aspect, Body, Clause, Decl, Expr, Formal, Formals, Main, Program, Sub, Unit'}
+use Rattle.ada_tree.specs.Syntax.{Aspect, Body, Clause, Decl, Formal, Formals, Main, Program, Sub, Unit'}
 use Rattle.ada_tree.specs.declared.operators.ClauseWord.TheVariants as word
 use Rattle.ada_tree.specs.declared.operators.ClauseWord.{ClauseWord}
 use Rattle.ada_typed.specs.Syntax.{Sub as TypedSub}

@@ -17,9 +17,9 @@ use Rattle.name_rules.specs.declared.types.Subtype.TheVariants as subtype
 use Rattle.name_rules.specs.declared.types.Subtype.{Subtype}
 use Rattle.name_rules.specs.declared.types.Wanted.TheVariants as wanted
 use Rattle.ada_tree.specs.Syntax as syntax
-use Rattle.ada_tree.specs.Syntax.{Args, Expr}
+use Rattle.ada_tree.specs.Syntax.{Args}
 use Rattle.ada_typed.specs.Syntax as typed
-use Rattle.ada_typed.specs.Syntax.{Selections, Stmt as TypedStmt}
+use Rattle.ada_typed.specs.Syntax.{Selections}
 use Rattle.std.specs.Prelude.{Bool, Option, false, if◌then◌else◌, nat_le, option_map, true, ℕ, ◌&&◌}
 use Rattle.name_rules.specs.TypedParts.{selections_of}
 use Rattle.ada_typed.specs.Decoded.{Part as TypedPart}

@@ -21,10 +21,10 @@ use Rattle.name_rules.specs.declared.scope.Names.{Names}
 use Rattle.name_rules.specs.declared.types.Subtype.TheVariants as subtype
 use Rattle.name_rules.specs.declared.types.Wanted.TheVariants as wanted
 use Rattle.ada_tree.specs.Syntax as syntax
-use Rattle.ada_tree.specs.Syntax.{Args, Expr, Name, Part, Parts}
+use Rattle.ada_tree.specs.Syntax.{Args, Name, Part, Parts}
 use Rattle.ada_typed.specs.Decoded as part
 use Rattle.ada_typed.specs.Syntax as typed
-use Rattle.ada_typed.specs.Syntax.{Iteration, Optional, Selections}
+use Rattle.ada_typed.specs.Syntax.{Selections}
 use Rattle.std.specs.Prelude.{if◌then◌else◌, Bool, None, Option, Some, false, true, ℕ}
 use Rattle.name_rules.specs.TypedParts.{selections_of}
 use Rattle.ada_typed.specs.Decoded.{Part as TypedPart}

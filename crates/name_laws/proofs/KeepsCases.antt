@@ -12,7 +12,6 @@ use Rattle.name_rules.specs.declared.types.Scalar.{Scalar}
 use Rattle.ada_tree.specs.Syntax as syntax
 use Rattle.ada_tree.specs.Syntax.{Choice, Handled, Pack}
 use Rattle.ada_typed.specs.Syntax as typed
-use Rattle.ada_typed.specs.Syntax.{Exprs as TypedExprs, Handled as TypedHandled}
 use Rattle.std.specs.List.{list_any}
 use Rattle.std.specs.Prelude.{Bool, List, None, Option, Some, [], int_le, not, option_map, true, ℕ, ℤ, ◌&&◌, ◌||◌, ◌∷◌}
 use Rattle.name_rules.specs.Judging.{◌>>=◌, pure, unless}

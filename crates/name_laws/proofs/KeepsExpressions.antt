@@ -17,7 +17,7 @@ use Rattle.name_rules.specs.declared.types.Subtype.{Subtype}
 use Rattle.name_rules.specs.declared.types.Wanted.TheVariants as wanted
 use Rattle.name_rules.specs.declared.types.Wanted.{Wanted}
 use Rattle.ada_tree.specs.Syntax as syntax
-use Rattle.ada_tree.specs.Syntax.{Adding, Addings, Conjuncts, Expr, Factor, Multiplying, Multiplyings, Name, Primary, Rel, Simple, Term}
+use Rattle.ada_tree.specs.Syntax.{Adding, Addings, Conjuncts, Expr, Factor, Multiplying, Multiplyings, Rel, Simple, Term}
 use Rattle.ada_tree.specs.declared.operators.Additive.TheVariants as additive
 use Rattle.ada_tree.specs.declared.operators.Logical.TheVariants as logical'
 use Rattle.ada_tree.specs.declared.operators.Sign.TheVariants as sign

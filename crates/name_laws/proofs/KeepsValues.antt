@@ -11,7 +11,7 @@ use Rattle.name_rules.specs.declared.types.Subtype.TheVariants as subtype
 use Rattle.name_rules.specs.declared.types.Subtype.{Subtype}
 use Rattle.ada_typed.specs.Decoded as part
 use Rattle.ada_typed.specs.Syntax as typed
-use Rattle.ada_typed.specs.Syntax.{Composite, Selections, Expr as TypedExpr, Exprs as TypedExprs}
+use Rattle.ada_typed.specs.Syntax.{Composite, Selections, Expr as TypedExpr}
 use Rattle.ada_typed.specs.Classes.{with_class}
 use Rattle.std.specs.Prelude.{Bool, None, Option, Some, false, ℕ, ℤ, ◌==◌}
 use Rattle.name_rules.specs.TypedParts.{selections_of}

@@ -5,7 +5,7 @@ use Rattle.ada_tree.specs.FirstTokens as first_token
 use Rattle.ada_tree.specs.Syntax as syntax
 use Rattle.ada_tree.specs.Syntax.{Assoc, Assocs, Expr, Exprs, OptionalExpr}
 use Rattle.ada_typed.specs.Decoded as part
-use Rattle.ada_typed.specs.Decoded.{Part, as_association, as_associations, as_composite}
+use Rattle.ada_typed.specs.Decoded.{Part, as_association, as_associations}
 use Rattle.ada_typed.specs.Latest.{turned}
 use Rattle.ada_typed.specs.Syntax.{Associations}
 use Rattle.ada_typed.specs.declared.expressions.Iterated.{Iterated}

@@ -5,7 +5,7 @@ use Rattle.ada_tree.specs.FirstTokens as first_token
 use Rattle.ada_tree.specs.Syntax as syntax
 use Rattle.ada_tree.specs.Syntax.{Arg, Args, Expr}
 use Rattle.ada_typed.specs.Decoded as part
-use Rattle.ada_typed.specs.Decoded.{Part, as_actual, as_actuals, as_expr, as_value}
+use Rattle.ada_typed.specs.Decoded.{Part, as_actual, as_actuals, as_value}
 use Rattle.ada_typed.specs.Latest.{turned}
 use Rattle.ada_typed.specs.Syntax as typed
 use Rattle.ada_typed.specs.Syntax.{Actuals, Selections}

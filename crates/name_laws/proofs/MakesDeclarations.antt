@@ -5,9 +5,9 @@ use Rattle.std.specs.Prelude.{is_some, not}
 use Rattle.ada_base.specs.declared.reason.Reason.TheVariants as reason
 use Rattle.ada_tree.specs.FirstTokens as first_token
 use Rattle.ada_tree.specs.Syntax as syntax
-use Rattle.ada_tree.specs.Syntax.{Array, Comp, Decl, Definition, Expr, Ids, Indic, ObjectType, Range, Simple}
+use Rattle.ada_tree.specs.Syntax.{Array, Comp, Decl, Definition, Expr, Ids, Indic, ObjectType, Range}
 use Rattle.ada_typed.specs.Decoded as part
-use Rattle.ada_typed.specs.Decoded.{Part, as_decl, as_decls, as_value}
+use Rattle.ada_typed.specs.Decoded.{Part, as_decl, as_decls}
 use Rattle.ada_typed.specs.Latest.{turned}
 use Rattle.ada_typed.specs.Syntax.{Decls}
 use Rattle.name_rules.specs.Declarations as d

@@ -6,7 +6,7 @@ use Rattle.ada_tree.specs.FirstTokens as first_token
 use Rattle.ada_tree.specs.Syntax as syntax
 use Rattle.ada_tree.specs.Syntax.{Args, Expr}
 use Rattle.ada_typed.specs.Decoded as part
-use Rattle.ada_typed.specs.Decoded.{Part, as_expr, as_pieces}
+use Rattle.ada_typed.specs.Decoded.{Part}
 use Rattle.ada_typed.specs.Syntax as typed
 use Rattle.ada_typed.specs.Syntax.{Selections}
 use Rattle.name_rules.specs.Expressions.{Inside, expr, judged_alone}

@@ -5,7 +5,7 @@ use Rattle.ada_tree.specs.FirstTokens as first_token
 use Rattle.ada_tree.specs.Syntax as syntax
 use Rattle.ada_tree.specs.Syntax.{Args, Elsifs, Expr, Iter, Name, OptionalParallel, Parts, Primary}
 use Rattle.ada_typed.specs.Decoded as part
-use Rattle.ada_typed.specs.Decoded.{Part, as_composite, as_expr}
+use Rattle.ada_typed.specs.Decoded.{Part, as_expr}
 use Rattle.ada_typed.specs.Syntax as typed
 use Rattle.ada_typed.specs.Syntax.{Selections}
 use Rattle.ada_typed.specs.declared.program.SiteKind.TheVariants as site
@@ -20,7 +20,7 @@ use Rattle.name_rules.specs.Names.{args_alone, denoted_first, field, wrong_call}
 use Rattle.name_rules.specs.Operators.{open_of}
 use Rattle.name_rules.specs.Parts.{array_reduced, array_reduction, array_shape, attribute_with, call, call_form, is_parallel, item_found, name, new_parameter, next_part, of_array, other_with, part_alone, part_of, parts, reduced_with, site_where, through, value_form, value_named, valued_by, valued_form, wrong_arguments}
 use Rattle.name_rules.specs.Primaries as primaries
-use Rattle.name_rules.specs.Primaries.{Waiting, also_choice, also_waiting, alternative, alternatives, common, common_composite, composite_if, composite_ifs, composite_in, composite_part, conditional, grouped, grouped_by, grouped_form, grouped_scalar, if_expr, if_part, no_text, open_if, open_ifs, open_part, primary, scalar_if, scalar_ifs, target_at, target_found, text_at, with_known}
+use Rattle.name_rules.specs.Primaries.{Waiting, also_choice, alternative, alternatives, common, common_composite, composite_if, composite_ifs, composite_in, composite_part, conditional, grouped, grouped_by, grouped_form, grouped_scalar, if_expr, if_part, no_text, open_if, open_ifs, open_part, primary, scalar_if, scalar_ifs, target_at, target_found, text_at, with_known}
 use Rattle.name_rules.specs.Reducers.{folded_by, reducer_of}
 use Rattle.name_rules.specs.Scope.{stands_for}
 use Rattle.name_rules.specs.Symbols.{symbol}

@@ -5,7 +5,7 @@ use Rattle.ada_tree.specs.FirstTokens as first_token
 use Rattle.ada_tree.specs.Syntax as syntax
 use Rattle.ada_tree.specs.Syntax.{Iter, OptionalExpr, OptionalParallel, Parallel, Range, Simple}
 use Rattle.ada_typed.specs.Decoded as part
-use Rattle.ada_typed.specs.Decoded.{Part, as_chunk, as_expr, as_iteration, as_optional}
+use Rattle.ada_typed.specs.Decoded.{Part, as_iteration, as_optional}
 use Rattle.ada_typed.specs.Syntax as typed
 use Rattle.ada_typed.specs.Syntax.{Iteration, Optional, Selections}
 use Rattle.ada_typed.specs.declared.program.SiteKind.{SiteKind}

@@ -6,7 +6,7 @@ use Rattle.ada_tree.specs.FirstTokens as first_token
 use Rattle.ada_tree.specs.Syntax as syntax
 use Rattle.ada_tree.specs.Syntax.{Alt, Alts, Arms, Body, Branches, Declare, Expr, Handler, Handlers, Iter, MoreStmts, Name, OptionalParallel, OptionalStmts, Pack, Scheme, Simple, Stmt, Stmts}
 use Rattle.ada_typed.specs.Decoded as part
-use Rattle.ada_typed.specs.Decoded.{Part, as_alternative, as_alternatives, as_arms, as_body, as_expr, as_handler, as_handlers, as_optional, as_stmt, as_stmts, as_value}
+use Rattle.ada_typed.specs.Decoded.{Part, as_alternative, as_alternatives, as_arms, as_body, as_expr, as_handler, as_handlers, as_optional, as_stmt, as_stmts}
 use Rattle.ada_typed.specs.Latest.{turned}
 use Rattle.ada_typed.specs.Syntax as typed
 use Rattle.ada_typed.specs.Syntax.{Alternatives, Selections, Handlers as TypedHandlers, Handled as TypedHandled}

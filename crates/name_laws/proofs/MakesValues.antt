@@ -3,7 +3,7 @@ use Rattle.std.proofs.Common.{◌≡◌, refl, sym, ap, subst, ◌∙◌, ◌⊎
 use Rattle.ada_base.specs.declared.operation.Op.TheVariants as op
 use Rattle.ada_typed.specs.Classes.{class_or, with_class}
 use Rattle.ada_typed.specs.Decoded as part
-use Rattle.ada_typed.specs.Decoded.{Part, Nothing, Cons, as_composite, as_expr, as_piece, as_pieces, as_selection, as_selections, as_value}
+use Rattle.ada_typed.specs.Decoded.{Part, Cons, as_composite, as_expr, as_piece, as_pieces, as_selection, as_selections, as_value}
 use Rattle.ada_typed.specs.Latest.{turned}
 use Rattle.ada_typed.specs.Syntax as typed
 use Rattle.ada_typed.specs.Syntax.{Expr as TypedExpr, Pieces, Selections}

@@ -2,7 +2,7 @@
 use Rattle.std.proofs.Common.{◌≡◌, ℕ, List, [], ◌∷◌, ◌++◌, Option, Some, None, Bool, refl, ap, ◌∙◌, drop, length}
 use Rattle.std.proofs.Math.Seq.{drop-append_seam}
 use Rattle.ada_tree.specs.Syntax as syntax
-use Rattle.ada_tree.specs.Syntax.{Aspect, Clause, Decl, Formal, Formals, Pack, Program, Sub, Unit'}
+use Rattle.ada_tree.specs.Syntax.{Clause, Decl, Formal, Formals, Pack, Sub, Unit'}
 use Rattle.ada_tree.specs.declared.operators.ClauseWord.{ClauseWord}
 use Rattle.ada_tree.specs.declared.operators.ClauseWord.TheVariants as word
 use Rattle.ada_typed.specs.Decoded.{Part}

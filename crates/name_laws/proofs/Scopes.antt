@@ -3,7 +3,7 @@ use Rattle.std.proofs.Common.{◌≡◌, ℕ, List, [], ◌∷◌, ◌++◌, Opt
 use Rattle.std.proofs.lemmas.List.{append_assoc, append-nil}
 use Rattle.ada_base.specs.declared.reason.Reason.TheVariants as reason
 use Rattle.ada_tree.specs.Syntax as syntax
-use Rattle.ada_tree.specs.Syntax.{Decl, Expr, Ids, ObjectType}
+use Rattle.ada_tree.specs.Syntax.{Decl, Expr, ObjectType}
 use Rattle.ada_typed.specs.Decoded.{Part}
 use Rattle.name_rules.specs.Declarations as d
 use Rattle.name_rules.specs.Declarations.{Indicated, Initial}

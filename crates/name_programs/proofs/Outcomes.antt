@@ -1,11 +1,11 @@
 -- What was judged of a program, and what is told of it.
-use Rattle.std.proofs.Common.{◌≡◌, refl, sym, subst, ap, List, [], ◌∷◌, Option, Some}
+use Rattle.std.proofs.Common.{◌≡◌, refl, sym, subst, List, [], ◌∷◌, Option, Some}
 use Rattle.std.specs.Prelude.{option_map}
 use Rattle.ada_tree.specs.Syntax.{Program}
 use Rattle.name_faults.specs.Least.{IsToldOf}
 use Rattle.name_rules.specs.Programs.{Whole}
 use Rattle.name_programs.specs.Resolving.{IsTold}
-use Rattle.name_rules.specs.Resolved.{TypedOf, judged, typed_by, typed_where}
+use Rattle.name_rules.specs.Resolved.{TypedOf, judged, typed_by}
 use Rattle.name_rules.specs.declared.log.Fault.{Fault}
 use Rattle.name_rules.specs.declared.log.Log.{Log}
 use Rattle.name_rules.specs.declared.scope.Names.{Names}

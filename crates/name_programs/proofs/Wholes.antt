@@ -1,5 +1,5 @@
 -- A profile, and the main procedure, of what was judged of their parts one after another.
-use Rattle.std.proofs.Common.{◌≡◌, refl, sym, subst, ap, ℕ, ◌+◌, Bool, true, false, List, [], ◌∷◌, ◌++◌, Option, Some, None, length}
+use Rattle.std.proofs.Common.{◌≡◌, refl, sym, ℕ, ◌+◌, Bool, true, false, List, [], ◌∷◌, ◌++◌, Option, Some, None, length}
 use Rattle.std.specs.Prelude.{◌&&◌}
 use Rattle.ada_tree.specs.Syntax.{Aspect, Body, Formals, Main, Unit'}
 use Rattle.ada_typed.specs.Decoded.{Part, Nothing}

@@ -31,7 +31,6 @@ use Rattle.ada_tree.specs.Syntax as syntax
 use Rattle.ada_tree.specs.Syntax.{Assoc, Assocs, Choice, Choices, Expr, Exprs, Many, OptionalExpr}
 use Rattle.ada_typed.specs.Decoded as part
 use Rattle.ada_typed.specs.Syntax as typed
-use Rattle.ada_typed.specs.Syntax.{Exprs as TypedExprs}
 use Rattle.ada_typed.specs.declared.expressions.Iterated.{Iterated}
 use Rattle.ada_typed.specs.declared.expressions.Run.{Run}
 use Rattle.std.specs.List.{list_all, list_any}

@@ -30,7 +30,7 @@ use Rattle.name_rules.specs.declared.types.Subtype.{Subtype}
 use Rattle.ada_tree.specs.Syntax.{Args}
 use Rattle.ada_typed.specs.Decoded as part
 use Rattle.ada_typed.specs.Syntax as typed
-use Rattle.ada_typed.specs.Syntax.{Expr as TypedExpr, Exprs as TypedExprs}
+use Rattle.ada_typed.specs.Syntax.{Expr as TypedExpr}
 use Rattle.ada_typed.specs.Indexes.{indexes_in}
 use Rattle.std.specs.Prelude.{Bool, List, None, Option, Some, [], false, if◌then◌else◌, int_le, length, nat_lt, option_map, pos, slice_get, true, unsigned_abs, ℕ, ℤ, ◌&&◌, ◌-◌, ◌==◌, ◌∷◌}
 use Rattle.name_rules.specs.TypedParts.{also, also_all, selections_of}

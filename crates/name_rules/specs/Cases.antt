@@ -14,7 +14,7 @@ use Rattle.name_rules.specs.declared.types.Scalar.{Scalar}
 use Rattle.ada_tree.specs.Syntax as syntax
 use Rattle.ada_tree.specs.Syntax.{Choice, Handled, Pack}
 use Rattle.ada_typed.specs.Syntax as typed
-use Rattle.ada_typed.specs.Syntax.{Exprs as TypedExprs, Handled as TypedHandled}
+use Rattle.ada_typed.specs.Syntax.{Handled as TypedHandled}
 use Rattle.ada_typed.specs.declared.statements.Span.{Span}
 use Rattle.std.specs.List.{list_any}
 use Rattle.std.specs.Prelude.{Bool, List, None, Option, Some, [], false, if◌then◌else◌, int_le, int_lt, not, option_map, pos, true, ℕ, ℤ, ◌&&◌, ◌++◌, ◌+ℤ◌, ◌==◌, ◌||◌, ◌∷◌}

@@ -32,7 +32,7 @@ use Rattle.name_rules.specs.declared.types.Wanted.TheVariants as wanted
 use Rattle.ada_tree.specs.Syntax as syntax
 use Rattle.ada_tree.specs.Syntax.{Expr, Iter, OptionalExpr, OptionalParallel, Parallel, Simple}
 use Rattle.ada_typed.specs.Syntax as typed
-use Rattle.ada_typed.specs.Syntax.{Iteration, Optional, Selections, Chunk as TypedChunk}
+use Rattle.ada_typed.specs.Syntax.{Iteration, Optional, Selections}
 use Rattle.ada_typed.specs.declared.program.SiteKind.TheVariants as site
 use Rattle.ada_typed.specs.declared.program.SiteKind.{SiteKind}
 use Rattle.ada_typed.specs.declared.scalars.Check.{Check}

@@ -26,7 +26,6 @@ use Rattle.name_rules.specs.declared.types.Wanted.TheVariants as wanted
 use Rattle.ada_tree.specs.Syntax as syntax
 use Rattle.ada_tree.specs.Syntax.{Arg, Args, Pack, Primary}
 use Rattle.ada_typed.specs.Decoded as part
-use Rattle.ada_typed.specs.Syntax.{Selections}
 use Rattle.std.specs.Prelude.{Bool, List, None, Option, Some, [], drop, false, if◌then◌else◌, length, slice_get, true, ℕ, ◌+◌, ◌==◌, ◌∷◌}
 use Rattle.ada_typed.specs.Syntax as typed
 use Rattle.name_rules.specs.TypedParts.{also}

@@ -16,7 +16,7 @@ use Rattle.name_rules.specs.declared.types.Kind.{Kind}
 use Rattle.name_rules.specs.declared.types.Scalar.{Scalar}
 use Rattle.ada_typed.specs.Decoded as part
 use Rattle.ada_typed.specs.Syntax as typed
-use Rattle.ada_typed.specs.Syntax.{Expr as TypedExpr, Exprs as TypedExprs}
+use Rattle.ada_typed.specs.Syntax.{Expr as TypedExpr}
 use Rattle.ada_typed.specs.declared.expressions.Sign.TheVariants as unary'
 use Rattle.ada_typed.specs.declared.expressions.Sign.{Sign as Unary}
 use Rattle.ada_typed.specs.declared.scalars.Class.TheVariants as class

@@ -31,7 +31,7 @@ use Rattle.name_rules.specs.declared.types.Subtype.{Subtype}
 use Rattle.ada_tree.specs.Syntax as syntax
 use Rattle.ada_tree.specs.Syntax.{Expr, Parts, Primary}
 use Rattle.ada_typed.specs.Syntax as typed
-use Rattle.ada_typed.specs.Syntax.{Iteration, Chunk as TypedChunk, Expr as TypedExpr}
+use Rattle.ada_typed.specs.Syntax.{Expr as TypedExpr}
 use Rattle.ada_typed.specs.declared.expressions.Reducer.TheVariants as reducer'
 use Rattle.ada_typed.specs.declared.expressions.Reducer.{Reducer}
 use Rattle.ada_typed.specs.declared.scalars.Class.TheVariants as class

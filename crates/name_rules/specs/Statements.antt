@@ -34,7 +34,7 @@ use Rattle.ada_tree.specs.Syntax as syntax
 use Rattle.ada_tree.specs.Syntax.{Alt, Alts, Arms, Body, Branches, Decl, Declare, Expr, Handler, Handlers, Iter, MoreStmts, Name, OptionalParallel, OptionalStmts, Pack, Parallel, Scheme, Simple, Stmt, Stmts}
 use Rattle.ada_typed.specs.Decoded as part
 use Rattle.ada_typed.specs.Syntax as typed
-use Rattle.ada_typed.specs.Syntax.{Iteration, Optional, Selections, Chunk as TypedChunk, Exprs as TypedExprs, Handled as TypedHandled}
+use Rattle.ada_typed.specs.Syntax.{Selections, Handled as TypedHandled}
 use Rattle.ada_typed.specs.declared.program.SiteKind.TheVariants as site
 use Rattle.std.specs.List.{find}
 use Rattle.std.specs.Prelude.{Bool, List, None, Option, Some, [], false, if◌then◌else◌, length, nat_le, not, option_map, reverse, slice_get, suc, true, zero, ℕ, ◌++◌, ◌+◌, ◌-◌, ◌==◌, ◌∷◌}

@@ -11,7 +11,7 @@ use Rattle.reader_combinators.proofs.Chains.{items}
 use Rattle.reader_combinators.proofs.Forms.{from, to_left, to_right, none_before, without_before, without_after, either, form, keep, skip, lead}
 use Rattle.ada_base.specs.Kinds as kind
 use Rattle.ada_tree.specs.Syntax as syntax
-use Rattle.ada_tree.specs.Syntax.{Expr, Simple, Name, Arg, Range, Bounded, Whole, Constrained, Choice, Value, Span, Others, Choices, Many, Associations, Assoc, Chosen, Each}
+use Rattle.ada_tree.specs.Syntax.{Expr, Simple, Name, Arg, Range, Bounded, Whole, Constrained, Choice, Value, Span, Others, Choices, Associations, Assoc, Chosen, Each}
 use Rattle.ada_tree.specs.Joining.{bare_name, expr_identifier}
 use Rattle.ada_tree.specs.Productions as spell
 use Rattle.grammar_readers.specs.Opened.{Opened}

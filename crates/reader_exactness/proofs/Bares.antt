@@ -5,7 +5,7 @@ use Rattle.ada_base.specs.Languages.{Leaf}
 use Rattle.reader_combinators.proofs.Forms.{none_before, without_before, none_after, without_after}
 use Rattle.ada_base.specs.Kinds as kind
 use Rattle.ada_tree.specs.Syntax as syntax
-use Rattle.ada_tree.specs.Syntax.{Expr, Single, Joined, Rel, Alone, Compared, Within, OfMark, Simple, Sum, NoAdding, AlsoAdding, Term, Product, NoMultiplying, AlsoMultiplying, Factor, Operand, Power, Abs, Not, Primary, Number, Text, Target, Named, Group, If, Round, Square, OneValue, Reduction, Name, NoPart, AlsoPart}
+use Rattle.ada_tree.specs.Syntax.{Expr, Single, Joined, Alone, Compared, Within, OfMark, Simple, Sum, NoAdding, AlsoAdding, Product, NoMultiplying, AlsoMultiplying, Operand, Power, Abs, Not, Number, Text, Target, Named, Group, If, Round, Square, OneValue, Reduction, Name, NoPart, AlsoPart}
 use Rattle.ada_tree.specs.Productions as spell
 use Rattle.ada_tree.specs.Joining.{bare_name, bare_identifier, identifier_of, name_identifier, expr_identifier}
 use Rattle.reader_exactness.proofs.Words.{Words}

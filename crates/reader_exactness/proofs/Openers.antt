@@ -12,7 +12,7 @@ use Rattle.reader_combinators.proofs.Chains.{items}
 use Rattle.reader_combinators.proofs.Forms.{from, to_left, to_right, without_before, at_second, form, keep, skip, lead, last}
 use Rattle.ada_base.specs.Kinds as kind
 use Rattle.ada_tree.specs.Syntax as syntax
-use Rattle.ada_tree.specs.Syntax.{Expr, Simple, Primary, Number, Text, Target, Named, Group, If, Round, Square, OneValue, Reduction, Elsif, Elsifs, Part, Field, Call, Attribute, RangeAttribute, Arg, Args, Range, Many, Positions, PositionsOthers, FirstOthers, Associations, Assoc, Chosen, Each, Parallel, Unchunked, Counted, Chunked}
+use Rattle.ada_tree.specs.Syntax.{Expr, Simple, Primary, Number, Text, Target, Named, Group, If, Round, Square, OneValue, Reduction, Elsif, Elsifs, Part, Field, Call, Attribute, RangeAttribute, Arg, Args, Many, Positions, PositionsOthers, FirstOthers, Associations, Assoc, Chosen, Each, Parallel, Unchunked, Counted, Chunked}
 use Rattle.ada_tree.specs.Joining.{bare_identifier}
 use Rattle.ada_tree.specs.Productions as spell
 use Rattle.grammar_readers.specs.Opened.{Opened}
@@ -26,7 +26,7 @@ use Rattle.reader_exactness.proofs.Openings.{Opening, CallWords, RoundWords, Chu
 use Rattle.reader_exactness.proofs.Sums.{rule_simple}
 use Rattle.reader_exactness.proofs.Relations.{rule_expr}
 use Rattle.reader_exactness.proofs.Associations as association
-use Rattle.reader_exactness.proofs.Associations.{range_sets, more_sets, each_sets}
+use Rattle.reader_exactness.proofs.Associations.{range_sets}
 use Rattle.reader_exactness.proofs.Insides as inside
 use Rattle.reader_exactness.proofs.Insides.{inside_sets}
 

@@ -17,18 +17,16 @@ use Rattle.grammar_readers.specs.Levels.{levels}
 use Rattle.grammar_readers.specs.Read.{option_of, count_of}
 use Rattle.grammar_readers.specs.Expressions as base
 use Rattle.grammar_readers.specs.Statements as reader
-use Rattle.grammar_readers.specs.Statements.{stmt_kinds}
 use Rattle.reader_exactness.proofs.Words.{Words, After}
 use Rattle.reader_exactness.proofs.Bares.{name_for, name_view, identifier_alone, alone_identifier}
 use Rattle.reader_exactness.proofs.Openings.{Opening, ChunkWords, expr_sets}
 use Rattle.reader_exactness.proofs.Sums.{rule_name}
 use Rattle.reader_exactness.proofs.Relations.{rule_expr}
 use Rattle.reader_exactness.proofs.Iterations as iteration
-use Rattle.reader_exactness.proofs.Iterations.{iter_sets, filter_sets}
 use Rattle.reader_exactness.proofs.Levels.{opening_at}
 use Rattle.reader_exactness.proofs.Declarations.{rule_decls}
 use Rattle.reader_exactness.proofs.Bodies as inside
-use Rattle.reader_exactness.proofs.Bodies.{stmt_sets, stmts_sets, pack_sets, maybe_identifier_sets, rule_pack, rule_maybe_identifier, closed}
+use Rattle.reader_exactness.proofs.Bodies.{stmt_sets, stmts_sets, maybe_identifier_sets, rule_pack, rule_maybe_identifier, closed}
 
 -- around the statement the depth is `around`, in it one more
 module _ (limit n around : ℕ) (levelled : n + suc around ≡ limit) (next : Reader Stmt) (rule_next : Rule limit stmt_sets (Words spell.stmt (suc around)) next) where

@@ -34,7 +34,7 @@ use Rattle.reader_exactness.proofs.Levels.{opening_at, sample_expr}
 use Rattle.reader_exactness.proofs.Formals.{rule_maybe_formals}
 use Rattle.reader_exactness.proofs.Declarations.{rule_decl, rule_decls}
 use Rattle.reader_exactness.proofs.Bodies as inside
-use Rattle.reader_exactness.proofs.Bodies.{maybe_identifier_sets, pack_sets, body_sets, rule_pack, rule_maybe_identifier, rule_body}
+use Rattle.reader_exactness.proofs.Bodies.{rule_pack, rule_maybe_identifier, rule_body}
 use Rattle.reader_exactness.proofs.StatementLevels.{rule_stmt, sample_body}
 
 -- ---- what stands in round brackets here: the policy's name, and the value of an expression function

@@ -1,6 +1,6 @@
 //! Scalar parameters of mode `in` that were evaluated (6.4.1), which take no memory.
 
-ghost use Rattle.std.specs.Prelude.{◌≡◌, ◌++◌, ◌∷◌, [], cond};
+ghost use Rattle.std.specs.Prelude.{◌≡◌, ◌↔◌, ◌<◌, ◌++◌, ◌∷◌, [], IsTrue, cond, length};
 
 use std::marker::Model;
 
@@ -19,12 +19,14 @@ pub struct InScalars {
 }
 
 impl Model for InScalars {
-    ghost use Rattle.std.specs.Prelude.{List, take};
+    ghost use Rattle.std.specs.Prelude.{List, take, ◌≡◌, ◌≤◌, length};
     ghost use Rattle.run_parts.specs.declared.scalars.InScalar.{InScalar};
 
     ghost Value = { List InScalar };
 
     ghost view = { λ s. take s.count s.items };
+
+    ghost invariant = { λ s. (s.count ≤ 4) × (length s.items ≡ 4) };
 }
 
 impl InScalars {
@@ -41,9 +43,10 @@ impl InScalars {
         }
     }
 
-    /// One parameter more, and whether there was room for it.
+    /// One parameter more, and whether there was room for it: four have room.
     pub fn push(&mut self, one: InScalar) -> bool
-        ensures { self.new ≡ cond result (self.old ++ one ∷ []) self.old }
+        ensures grown { self.new ≡ cond result (self.old ++ one ∷ []) self.old }
+        ensures room { IsTrue result ↔ (length self.old < 4) }
     {
         if self.count < 4 {
             self.items[self.count] = one;
@@ -58,10 +61,6 @@ impl InScalars {
     pub fn as_slice(&self) -> &[InScalar]
         ensures { result.now ≡ self.now }
     {
-        if self.count <= 4 {
-            &self.items[..self.count]
-        } else {
-            &self.items[..]
-        }
+        &self.items[..self.count]
     }
 }

@@ -4,7 +4,7 @@ use Rattle.std.proofs.Common.{◌≡◌, ℕ, ◌-◌, List, [], ◌∷◌, Resu
 use Rattle.ada_base.specs.declared.reason.Reason.{Reason}
 use Rattle.ada_base.specs.declared.reason.Reason.TheVariants.{DataError, EndError}
 use Rattle.ada_base.specs.Input.{Held, Nothing, got}
-use Rattle.ada_io.specs.Plain.{Feed, End, Fault, fed, Stop, Raised, Failed, TurnsSpent, State, plain}
+use Rattle.ada_io.specs.Plain.{Feed, End, fed, Stop, Raised, TurnsSpent, plain}
 
 data Answer : Type 0 where
   answer : Result ℤ Stop → ℕ → Answer

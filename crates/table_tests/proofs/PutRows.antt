@@ -3,7 +3,6 @@
 use Rattle.std.proofs.Common.{◌≡◌, ℕ, List, [], ◌∷◌, Ok, Err, cond, refl}
 use Rattle.ada_port.specs.Sinks.{SinkState, put_fails, after_put}
 use Rattle.ada_port.specs.declared.ports.Failed.{Failed}
-use Rattle.ada_port.specs.declared.sinks.SinkFail.{SinkFail}
 
 data Row : Type 0 where
   row : (piece held : List ℕ) → (faults : ℕ) → Row

@@ -2,14 +2,15 @@ ghost use Rattle.std.specs.Prelude.{◌≡◌, IfOk};
 
 use ada_port::files::read_text;
 use ada_port::{
-    ErrSink, FileShelf, MemSink, Pulse, Quiet, Shelf, ShelfFault, Sink, SinkFail, Source, StdSink,
-    StdSource, StreamSink, StreamSource, SureShelf, SureSink,
+    ErrSink, FileShelf, Pulse, Quiet, Shelf, ShelfFault, Sink, Source, StdSink, StdSource,
+    StreamSink, StreamSource, SureShelf, SureSink,
 };
 use std::alloc::{AllocError, Global};
 use std::io;
 use std::io::{ErrorKind, Read, Write};
 
-// What fails where it is listed is also tested by the answers of ada_cmd: the shelf, the source and the sinks in memory.
+// What fails where it is listed is tested by the answers of ada_cmd, and by rows in proofs/PutRows.antt: the shelf, the
+// source and the sink in memory.
 #[test]
 fn shelf_of_files_fails_where_there_is_none(rt: HostRuntime) {
     let alloc = rt.alloc();
@@ -30,17 +31,6 @@ fn next<S: Source>(source: &mut S) -> u32 {
 // Whether the sink takes the piece.
 fn takes<S: Sink>(sink: &mut S, piece: &str) -> bool {
     sink.put(piece.as_bytes()).is_ok()
-}
-
-// More rows stand in proofs/PutRows.antt.
-#[test]
-fn sink_in_memory_fails_where_listed(rt: HostRuntime) -> Result<(), AllocError> {
-    let alloc = rt.alloc();
-    let fails = Vec::from_slice(alloc, &[SinkFail { call: 1, pass: 1 }])?;
-    let mut sink = MemSink::new(alloc, 6, fails)?;
-    let is_right = takes(&mut sink, "ab") && !takes(&mut sink, "cd");
-    assert!(rt; is_right && sink.faults() == 1 && *sink.bytes() == *"abc".as_bytes());
-    Ok(())
 }
 
 #[test]

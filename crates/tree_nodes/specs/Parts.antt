@@ -1,7 +1,7 @@
 -- What nodes stand for: a part of a program by one of the grammar's rules, or a list of parts.
 use Rattle.std.specs.Prelude.{◌≡◌, ℕ, Bool, true, false, nat_eq, Option, Some, None, List, [], ◌∷◌}
 use Rattle.ada_tree.specs.Syntax as syntax
-use Rattle.ada_tree.specs.Syntax.{Expr, Conjunct, Rel, Simple, Adding, Term, Multiplying, Factor, Primary, Elsif, Name, Arg, Range, Choice, Many, Assoc, Parallel, Iter, Ids, Indic, Array, Comp, Definition, Decl, Formal, Formals, Pack, Declare, Scheme, Handled, Stmt, Stmts, Arm, Alt, Body, Handler, Aspect, Sub, Policy, Clause, Main, Program, Conjuncts, NoConjunct, AlsoConjunct, Addings, NoAdding, AlsoAdding, Multiplyings, NoMultiplying, AlsoMultiplying, Elsifs, NoElsif, AlsoElsif, Exprs, NoExpr, AlsoExpr, NoPart, AlsoPart, Args, NoArg, AlsoArg, Choices, NoChoice, AlsoChoice, Assocs, NoAssoc, AlsoAssoc, MoreStmts, NoStmt, AlsoStmt, Arms, NoArm, AlsoArm, Alts, NoAlt, AlsoAlt, Branches, NoBranch, AlsoBranch, Handlers, NoHandler, AlsoHandler, Single, Alone, Sum, Product, Operand, Number, Named, name, conjunct, adding, multiplying, elsif, arg, Field, Whole, Value, FirstOthers, Chosen, Unchunked, InRange, OptionalExpr, AbsentExpr, PresentExpr, OptionalParallel, AbsentParallel, PresentParallel, OptionalStmts, AbsentStmts, PresentStmts, Mark, ObjectType, Indicated, Anonymous, RangeType, ArrayType, ExceptionDecl, While, AnyOther, Null, stmts, arm, alt, body, handler, Unit', DeclUnit, SubUnit, ExprFunction, Procedure, Function, Reduction}
+use Rattle.ada_tree.specs.Syntax.{Expr, Conjunct, Rel, Simple, Adding, Term, Multiplying, Factor, Primary, Elsif, Name, Arg, Range, Choice, Many, Assoc, Parallel, Iter, Ids, Indic, Array, Comp, Definition, Decl, Formal, Formals, Pack, Declare, Scheme, Handled, Stmt, Stmts, Arm, Alt, Body, Handler, Aspect, Sub, Policy, Clause, Main, Program, Conjuncts, NoConjunct, AlsoConjunct, Addings, NoAdding, AlsoAdding, Multiplyings, NoMultiplying, AlsoMultiplying, Elsifs, NoElsif, AlsoElsif, Exprs, NoExpr, AlsoExpr, NoPart, AlsoPart, Args, NoArg, AlsoArg, Choices, NoChoice, AlsoChoice, Assocs, NoAssoc, AlsoAssoc, MoreStmts, NoStmt, AlsoStmt, Arms, NoArm, AlsoArm, Alts, NoAlt, AlsoAlt, Branches, NoBranch, AlsoBranch, Handlers, NoHandler, AlsoHandler, Single, Alone, Sum, Product, Operand, Number, Named, name, conjunct, adding, multiplying, elsif, arg, Field, Whole, Value, FirstOthers, Chosen, Unchunked, InRange, OptionalExpr, AbsentExpr, PresentExpr, OptionalParallel, AbsentParallel, PresentParallel, OptionalStmts, AbsentStmts, PresentStmts, Mark, ObjectType, Indicated, Anonymous, RangeType, ArrayType, ExceptionDecl, While, AnyOther, Null, stmts, arm, alt, body, handler, Unit', DeclUnit, SubUnit, ExprFunction}
 use Rattle.ada_tree.specs.declared.operators.Additive.TheVariants as additive
 use Rattle.ada_tree.specs.declared.operators.Multiplicative.TheVariants as multiplicative
 use Rattle.ada_tree.specs.declared.operators.ClauseWord.TheVariants as word

@@ -3,7 +3,7 @@ use Rattle.std.proofs.Common.{◌≡◌, sym, ap, ◌∙◌, true≢false, ℕ, 
 use Rattle.std.specs.Prelude.{not, ◌||◌, is_some}
 use Rattle.ada_tree.specs.Syntax as syntax
 use Rattle.ada_typed.specs.Decoded as part
-use Rattle.ada_typed.specs.Decoded.{Part, as_expr}
+use Rattle.ada_typed.specs.Decoded.{Part}
 use Rattle.name_rules.specs.Expressions.{Inside, expr, simple}
 use Rattle.name_rules.specs.Found.{Denoted, Found}
 use Rattle.name_rules.specs.Judging.{Judging, ◌>>=◌, both, breaks, given, joined, pure, unless}

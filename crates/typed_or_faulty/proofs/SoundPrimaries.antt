@@ -10,7 +10,7 @@ use Rattle.name_rules.specs.Found.{Found}
 use Rattle.name_rules.specs.Judging.{joined}
 use Rattle.name_rules.specs.TypedParts.{left_of, right_of}
 use Rattle.name_rules.specs.Values as v
-use Rattle.name_rules.specs.Values.{asked, first_of, is_number, is_scalar, kind_of, value_of}
+use Rattle.name_rules.specs.Values.{asked, kind_of}
 use Rattle.name_rules.specs.declared.found.Found.TheVariants as known
 use Rattle.name_rules.specs.declared.found.Found.{Found as Known}
 use Rattle.name_rules.specs.declared.log.Rule.TheVariants as rule
@@ -23,7 +23,7 @@ use Rattle.name_rules.specs.declared.types.Wanted.TheVariants as wanted
 use Rattle.name_rules.specs.declared.types.Wanted.{Wanted}
 use Rattle.typed_or_faulty.proofs.Explains.{Any, Is, Sound, differ, joint, mapped, s-bind, s-both, s-fault, s-given, s-pure, s-some}
 use Rattle.typed_or_faulty.proofs.Facts.{Clear, DenotedOf, Fit, FoundFor, FoundOk, LevelSound, Plain, RestOf}
-use Rattle.ada_tree.specs.Syntax.{Elsifs, Expr, Name, Primary}
+use Rattle.ada_tree.specs.Syntax.{Elsifs, Expr, Primary}
 use Rattle.name_rules.specs.Aggregates.{ByPosition, contents}
 use Rattle.name_rules.specs.Found.{scalar, static, universal}
 use Rattle.name_rules.specs.Operators.{first_kind, open_form, open_of}

@@ -4,7 +4,7 @@ use Rattle.std.specs.Prelude.{not, int_le}
 use Rattle.ada_tree.specs.FirstTokens as first_token
 use Rattle.ada_tree.specs.Syntax as syntax
 use Rattle.ada_typed.specs.Decoded as part
-use Rattle.ada_typed.specs.Decoded.{Part, as_expr}
+use Rattle.ada_typed.specs.Decoded.{Part}
 use Rattle.name_rules.specs.Expressions.{Inside, simple}
 use Rattle.name_rules.specs.Found.{Found}
 use Rattle.name_rules.specs.Judging.{Judging, given, joined}

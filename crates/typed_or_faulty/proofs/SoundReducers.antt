@@ -10,7 +10,7 @@ use Rattle.name_rules.specs.Found.{Found}
 use Rattle.name_rules.specs.Judging.{read}
 use Rattle.name_rules.specs.Scope.{stands_for}
 use Rattle.name_rules.specs.Values as v
-use Rattle.name_rules.specs.Values.{asked, first_of, is_number, is_scalar, kind_of, value_of}
+use Rattle.name_rules.specs.Values.{asked, is_number, kind_of}
 use Rattle.name_rules.specs.declared.found.Denoted.TheVariants as denoted
 use Rattle.name_rules.specs.declared.found.Denoted.{Denoted as KnownDenoted}
 use Rattle.name_rules.specs.declared.log.Rule.TheVariants as rule
