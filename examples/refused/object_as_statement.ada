@@ -1,0 +1,6 @@
+-- A statement that is no call of a procedure.
+procedure Main is
+   X : Integer := 3;
+begin
+   X;
+end Main;
