@@ -1,6 +1,0 @@
-with Ada.Text_IO; use Ada.Text_IO;
-procedure Main is
-X : Integer := 2;
-begin
-Y := X + 3; Put_Line (Integer'Image (X));
-end Main;
