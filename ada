@@ -19,7 +19,7 @@ trap 'rm -rf "$work"' EXIT
 
 # Proves every crate below the program, and the program, and builds it.
 build() {
-  say "proving and building; with nothing kept this takes an hour and a half on two cores"
+  say "proving and building; with nothing kept this takes about an hour on two cores"
   if (cd "$crate" && rt run -- run data/t.ada) >"$work/log" 2>&1 </dev/null; then
     touch "$program"
   else
