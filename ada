@@ -53,7 +53,7 @@ try() {
     echo "ada: the compiler did not build" >&2
     exit 125
   fi
-  sed -e '/^checked: /d' -e '/^run=ended /d' -e ':again' -e 's|^\(\(\.\./\)*\)above/|\1../|; t again' "$work/err" >&2
+  sed -e '/^checked: /d' -e '/^races: not looked for/d' -e '/^run=ended /d' -e ':again' -e 's|^\(\(\.\./\)*\)above/|\1../|; t again' "$work/err" >&2
   exit "$status"
 }
 
