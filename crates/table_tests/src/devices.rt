@@ -38,8 +38,12 @@ fn devices_that_are_sure_give_and_take_all(rt: HostRuntime) -> Result<(), AllocE
     let alloc = rt.alloc();
     let mut shelf = SureShelf::new(Vec::from_slice(alloc, b"one")?);
     let mut sink = SureSink::new();
-    let given = matches!(shelf.fetch(alloc, "any name"), Ok(text) if text.len() == 3);
-    assert!(rt; given && takes(&mut sink, "abcd") && sink.count() == 4);
+    let given = match shelf.fetch(alloc, "any name") {
+        Ok(text) => text.as_slice() == "one".as_bytes(),
+        Err(_) => false,
+    };
+    let taken = takes(&mut sink, "abc") && takes(&mut sink, "d");
+    assert!(rt; given && taken && sink.count() == 4);
     Ok(())
 }
 

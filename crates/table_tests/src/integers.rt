@@ -1,5 +1,5 @@
 use ada_base::{Items, Reason};
-use ada_io::{GetEnd, Got, Reader, append_padded, image};
+use ada_io::{GetEnd, Got, Reader, append_image, append_padded, image, padded, truth_image};
 use ada_port::MemSource;
 use std::alloc::AllocError;
 
@@ -82,8 +82,11 @@ fn is(text: &Items<u8>, want: &[u8]) -> bool {
 #[test]
 fn images_are_made_and_joined(rt: HostRuntime) -> Result<(), AllocError> {
     let alloc = rt.alloc();
-    let mut line = image(alloc, i64::MIN)?;
+    let least = image(alloc, i64::MIN)?;
+    let mut line = padded(alloc, -7, 4)?;
+    append_image(&mut line, 1)?;
     append_padded(&mut line, 2, 3)?;
-    assert!(rt; is(&line, b"-9223372036854775808  2"));
+    line.extend(truth_image(true))?;
+    assert!(rt; is(&least, b"-9223372036854775808") && is(&line, b"  -7 1  2TRUE"));
     Ok(())
 }

@@ -28,14 +28,18 @@ fn plans_are_cut(rt: HostRuntime) -> Result<(), AllocError> {
     let alloc = rt.alloc();
     let list = listed(alloc, &[4, 6, 1])?;
     let given = is_cut(alloc, &list, (10, 4096), &[4, 6])?;
+    let even = is_cut(alloc, &Plan::Even(3), (10, 4096), &[4, 3, 3])?;
     let sized = is_cut(alloc, &Plan::Sized(1), (GREATEST, 2), &[1, GREATEST - 1])?;
-    assert!(rt; given && sized);
+    assert!(rt; given && even && sized);
     Ok(())
 }
 
 #[test]
-fn plans_with_a_zero_are_told(rt: HostRuntime) {
-    assert!(rt; !Plan::Even(0).has_no_zero() && !Plan::Sized(0).has_no_zero());
+fn plans_with_a_zero_are_told(rt: HostRuntime) -> Result<(), AllocError> {
+    let list = listed(rt.alloc(), &[1, 0, 2])?;
+    let others = Plan::Even(0).has_no_zero() || Plan::Sized(0).has_no_zero();
+    assert!(rt; !list.has_no_zero() && !others);
+    Ok(())
 }
 
 fn has_part((n, parts, number): (u64, u32, u32), first: u64, len: u64) -> bool {
