@@ -8,7 +8,7 @@ use Rattle.ada_io.specs.declared.input.Holding.{Holding}
 use Rattle.ada_io.specs.declared.input.Holding.TheVariants as holding
 use Rattle.ada_io.specs.declared.phases.Phase.{Phase}
 use Rattle.ada_io.specs.declared.phases.Phase.TheVariants.{Blanks}
-use Rattle.ada_io.specs.declared.phases.Outcome.TheVariants.{Asks, Gives, Raises}
+use Rattle.ada_io.specs.declared.phases.Next.TheVariants.{Asks, Gives, Raises}
 use Rattle.ada_io.specs.declared.asking.Looked.TheVariants.{At, ReadFault, Spent}
 use Rattle.ada_io.specs.declared.input.GetEnd.{GetEnd}
 use Rattle.ada_io.specs.declared.input.Got.{Got}

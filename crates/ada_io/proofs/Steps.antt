@@ -5,8 +5,8 @@ use Rattle.ada_base.specs.declared.reason.Reason.TheVariants as reason
 use Rattle.ada_base.specs.Input.{is_blank, is_byte, is_digit, digit_of}
 use Rattle.ada_base.specs.Input as input
 use Rattle.ada_io.specs.declared.phases.Phase.TheVariants.{Blanks, NeedsDigit, Digits}
-use Rattle.ada_io.specs.declared.phases.Outcome.{Outcome}
-use Rattle.ada_io.specs.declared.phases.Outcome.TheVariants.{Asks, Gives, Raises}
+use Rattle.ada_io.specs.declared.phases.Next.{Next}
+use Rattle.ada_io.specs.declared.phases.Next.TheVariants.{Asks, Gives, Raises}
 use Rattle.ada_io.specs.Plain.{State, asked, then, plain}
 use Rattle.ada_io.specs.Phases.{needs_digit, rest, Takes}
 use Rattle.ada_io.proofs.Enough.{most, Same, asked_same, asked_then, digit_same, needed_same, from_same, read_same, skip_same}
@@ -67,7 +67,7 @@ underscore_asks negative m s e f =
     (some_byte 95 s f, record { same = λ t. rw (e, f) (asked_same t t.turns (needs_digit (suc t.turns) negative m) _ (λ u v h. needed_same (suc t.turns) (suc v.turns) negative m m u v (omega arith) (omega arith) (inl refl))) })
 
 -- no sign is like a plus sign before
-pub unsigned_takes : (s : Option ℕ) (o : Outcome) → is_some s ≡ true → is_blank s ≡ false → is_byte 45 s ≡ false → is_byte 43 s ≡ false → Takes (NeedsDigit false 0) s o → Takes Blanks s o
+pub unsigned_takes : (s : Option ℕ) (o : Next) → is_some s ≡ true → is_blank s ≡ false → is_byte 45 s ≡ false → is_byte 43 s ≡ false → Takes (NeedsDigit false 0) s o → Takes Blanks s o
 unsigned_takes s o some e f g takes = go o takes
   where
     unsigned : (s : Option ℕ) (t : State) → is_some s ≡ true → input.unsigned_number plain (suc t.turns) s t ≡ input.number_from plain (suc t.turns) false s t
@@ -77,7 +77,7 @@ unsigned_takes s o some e f g takes = go o takes
     same : (t : State) → rest Blanks s t ≡ rest (NeedsDigit false 0) s t
     same t = rw (e, f, g) (unsigned s t some)
 
-    go : (o : Outcome) → Takes (NeedsDigit false 0) s o → Takes Blanks s o
+    go : (o : Next) → Takes (NeedsDigit false 0) s o → Takes Blanks s o
     go (Asks later) h = (h.0, record { same = λ t. same t ∙ h.1.same t })
     go (Gives v) h = λ t. same t ∙ h t
     go (Raises r) h = λ t. same t ∙ h t

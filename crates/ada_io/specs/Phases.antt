@@ -7,8 +7,8 @@ use Rattle.ada_io.specs.declared.input.Holding.{Holding}
 use Rattle.ada_io.specs.declared.input.Holding.TheVariants as holding
 use Rattle.ada_io.specs.declared.phases.Phase.{Phase}
 use Rattle.ada_io.specs.declared.phases.Phase.TheVariants.{Blanks, NeedsDigit, Digits}
-use Rattle.ada_io.specs.declared.phases.Outcome.{Outcome}
-use Rattle.ada_io.specs.declared.phases.Outcome.TheVariants.{Asks, Gives, Raises}
+use Rattle.ada_io.specs.declared.phases.Next.{Next}
+use Rattle.ada_io.specs.declared.phases.Next.TheVariants.{Asks, Gives, Raises}
 use Rattle.ada_io.specs.Plain.{State, Raised, at, Doing, asked, then, plain}
 
 -- a digit has to follow: after a sign or an underscore
@@ -33,7 +33,7 @@ pub record AsksFor (p : Doing ℤ) (k : Option ℕ → Doing ℤ) : Type 0 where
   pub same : (s : State) → p s ≡ then (λ t. asked t t.turns) k s
 
 -- what the code does with what is looked at: nothing is asked for after the end
-abbrev pub Takes : Phase → Option ℕ → Outcome → Type 0
+abbrev pub Takes : Phase → Option ℕ → Next → Type 0
 Takes phase s (Asks later) = (is_some s ≡ true) × AsksFor (rest phase s) (rest later)
 Takes phase s (Gives v) = (t : State) → rest phase s t ≡ at (record t { held = Symbol s }) (Ok v)
 Takes phase s (Raises r) = (t : State) → rest phase s t ≡ at (record t { held = Symbol s }) (Err (Raised r))

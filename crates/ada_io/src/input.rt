@@ -3,7 +3,7 @@ ghost use Rattle.std.specs.Prelude.{◌≡◌, []};
 ghost use Rattle.ada_io.specs.Gets.{Gets};
 
 use crate::asking::{Looked, look};
-use crate::phases::{Outcome, Phase, step};
+use crate::phases::{Next, Phase, step};
 use ada_base::Reason;
 use ada_port::{Log, Source};
 use std::marker::Model;
@@ -67,9 +67,9 @@ impl Reader {
 
     /// Reads an integer as Get does (A.10.8): blanks, a sign if there is one, and the longest run of digits with single
     /// underscores between them. What ends the run is held for the next Get. Each asking of the source takes a turn. Once
-    /// the end was met the source isn't asked again. `ReadFault` comes only where the source's count of faults rose, and
-    /// `Spent` exactly where `turns_left` turns were taken and one more is needed; both leave what is held. The bytes that
-    /// come are added to those that came before.
+    /// the end was met it stays held, and no later Get asks the source. `ReadFault` comes only where the source's count of
+    /// faults rose, and `Spent` exactly where `turns_left` turns were taken and one more is needed; both leave what is
+    /// held. The bytes that come are added to those that came before.
     pub fn get<S: Source>(&mut self, source: &mut S, turns_left: u64) -> Got
         ensures { Gets (S.state source.old) (S.state source.new) self.old self.new turns_left result }
     {
@@ -80,11 +80,11 @@ impl Reader {
         loop {
             match look(at, source, turns_left, &mut took, &mut came, &mut self.log) {
                 Looked::At(symbol) => match step(phase, symbol) {
-                    Outcome::Asks(later) => {
+                    Next::Asks(later) => {
                         phase = later;
                         at = Holding::Nothing;
                     }
-                    Outcome::Gives(value) => {
+                    Next::Gives(value) => {
                         self.held = Holding::Symbol(symbol);
                         return Got {
                             end: GetEnd::Number { value },
@@ -92,7 +92,7 @@ impl Reader {
                             came,
                         };
                     }
-                    Outcome::Raises(reason) => {
+                    Next::Raises(reason) => {
                         self.held = Holding::Symbol(symbol);
                         return Got {
                             end: GetEnd::Raise { reason },

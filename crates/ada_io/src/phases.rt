@@ -14,15 +14,15 @@ pub(crate) enum Phase {
     Digits { negative: bool, magnitude: u32 },
 }
 
-// What comes of it: another byte is needed, or the Get ends and what was looked at is held.
+// What comes next: another byte is asked for, or the Get ends and what was looked at is held.
 #[derive(Clone, Copy)]
-pub(crate) enum Outcome {
+pub(crate) enum Next {
     Asks(Phase),
     Gives(i64),
     Raises(Reason),
 }
 
-pub(crate) fn step(phase: Phase, symbol: Option<u8>) -> Outcome
+pub(crate) fn step(phase: Phase, symbol: Option<u8>) -> Next
     ensures { Takes phase symbol result }
 {
     match phase {
@@ -38,20 +38,20 @@ pub(crate) fn step(phase: Phase, symbol: Option<u8>) -> Outcome
     }
 }
 
-fn begin(symbol: Option<u8>) -> Outcome
+fn begin(symbol: Option<u8>) -> Next
     ensures { Takes Phase.Blanks symbol result }
 {
     if symbol.is_none() {
-        Outcome::Raises(Reason::EndError)
+        Next::Raises(Reason::EndError)
     } else if is_blank(symbol) {
-        Outcome::Asks(Phase::Blanks)
+        Next::Asks(Phase::Blanks)
     } else if is_byte(symbol, b'-') {
-        Outcome::Asks(Phase::NeedsDigit {
+        Next::Asks(Phase::NeedsDigit {
             negative: true,
             magnitude: 0,
         })
     } else if is_byte(symbol, b'+') {
-        Outcome::Asks(Phase::NeedsDigit {
+        Next::Asks(Phase::NeedsDigit {
             negative: false,
             magnitude: 0,
         })
@@ -60,44 +60,44 @@ fn begin(symbol: Option<u8>) -> Outcome
     }
 }
 
-fn need_digit(negative: bool, magnitude: u32, symbol: Option<u8>) -> Outcome
+fn need_digit(negative: bool, magnitude: u32, symbol: Option<u8>) -> Next
     ensures { Takes (Phase.NeedsDigit negative magnitude) symbol result }
 {
     match digit(symbol) {
-        Some(digit) => Outcome::Asks(Phase::Digits {
+        Some(digit) => Next::Asks(Phase::Digits {
             negative,
             magnitude: with_digit(magnitude, digit),
         }),
-        None => Outcome::Raises(Reason::DataError),
+        None => Next::Raises(Reason::DataError),
     }
 }
 
-fn after_digit(negative: bool, magnitude: u32, symbol: Option<u8>) -> Outcome
+fn after_digit(negative: bool, magnitude: u32, symbol: Option<u8>) -> Next
     ensures { Takes (Phase.Digits negative magnitude) symbol result }
 {
     match digit(symbol) {
-        Some(digit) => Outcome::Asks(Phase::Digits {
+        Some(digit) => Next::Asks(Phase::Digits {
             negative,
             magnitude: with_digit(magnitude, digit),
         }),
-        None => after_digits(negative, magnitude, symbol),
+        None => after_last_digit(negative, magnitude, symbol),
     }
 }
 
-fn after_digits(negative: bool, magnitude: u32, symbol: Option<u8>) -> Outcome
+fn after_last_digit(negative: bool, magnitude: u32, symbol: Option<u8>) -> Next
     requires { is_digit symbol ≡ false }
     ensures { Takes (Phase.Digits negative magnitude) symbol result }
 {
     let value = signed(negative, magnitude);
     if is_byte(symbol, b'_') {
-        Outcome::Asks(Phase::NeedsDigit {
+        Next::Asks(Phase::NeedsDigit {
             negative,
             magnitude,
         })
     } else if is_based(symbol) || !is_in_base(Base::Narrow, value) {
-        Outcome::Raises(Reason::DataError)
+        Next::Raises(Reason::DataError)
     } else {
-        Outcome::Gives(value)
+        Next::Gives(value)
     }
 }
 

@@ -3,17 +3,17 @@ ghost use Rattle.chunk_plan.specs.Plans.{HasNoZero};
 
 use ada_base::Items;
 
-/// How a run divides the iterations of those constructs for which the text leaves it open. Each number
-/// in it is at least 1.
+/// How a run divides the iterations of those constructs for which the text leaves it open. `cuts` asks for a plan with no
+/// 0 in it.
 #[derive(Drop)]
 pub enum Plan {
     /// One chunk.
     One,
     /// So many chunks, as equal as can be, and no more than there are iterations.
     Even(u32),
-    /// Chunks of so many iterations, and a last smaller one.
+    /// Chunks of so many iterations, of which the last one takes what is left.
     Sized(u32),
-    /// Chunks of these sizes in order, and one more for what is left.
+    /// Chunks of these sizes in order, as far as there are iterations, and one more for what is left.
     Listed(Items<u32>),
 }
 
@@ -31,14 +31,14 @@ impl Plan {
     }
 }
 
-/// What a run is told beside its program.
+/// What a run is told beside its program. The type admits a 0; `command_words` gives none.
 #[derive(Drop)]
 pub struct Setting {
     /// How iterations are divided.
     pub plan: Plan,
-    /// How many workers carry out the threads of a construct, at least 1.
+    /// How many workers carry out the threads of a construct.
     pub workers: u32,
-    /// How many turns a path may begin, at least 1.
+    /// How many turns a path may begin.
     pub turns: u64,
 }
 

@@ -19,14 +19,15 @@ pub fn cuts(alloc: Global, plan: &Plan, n: u64, most: u32) -> Result<Cuts, Alloc
 {
     let sizes = match plan {
         Plan::One => with_rest(Items::new(alloc), n)?,
-        Plan::Even(chunks) => evenly(alloc, n, fewest(*chunks, n, most))?,
+        Plan::Even(chunks) => evenly(alloc, n, even_chunks(*chunks, n, most))?,
         Plan::Sized(size) => by_size(alloc, *size, n, most)?,
         Plan::Listed(sizes) => by_list(alloc, sizes.as_slice(), n, most)?,
     };
     Ok(Cuts { sizes })
 }
 
-fn fewest(chunks: u32, n: u64, most: u32) -> u32
+// So many that none of them is empty, and no more than there may be.
+fn even_chunks(chunks: u32, n: u64, most: u32) -> u32
     ensures { result ≡ min chunks (min n most) }
 {
     chunks.min(n.min(u64::from(most)) as u32)
@@ -43,7 +44,7 @@ fn with_rest(mut sizes: Items<u64>, rest: u64) -> Result<Items<u64>, AllocError>
 }
 
 /// The sizes of so many parts that are as equal as can be, the greater ones first (5.5). A part is empty where there are
-/// fewer iterations than parts. An Err is want of memory.
+/// fewer iterations than parts; of 0 parts there is no size. An Err is want of memory.
 pub fn evenly(alloc: Global, n: u64, chunks: u32) -> Result<Items<u64>, AllocError>
     ensures { IfOk result (λ sizes. sizes ≡ evens n chunks) }
 {
@@ -54,6 +55,7 @@ pub fn evenly(alloc: Global, n: u64, chunks: u32) -> Result<Items<u64>, AllocErr
     Ok(sizes)
 }
 
+// The last chunk takes the rest, which is greater than the size only where there may be no further chunk.
 fn by_size(alloc: Global, size: u32, n: u64, most: u32) -> Result<Items<u64>, AllocError>
     requires { 1 ≤ most }
     ensures { IfOk result (λ sizes. sizes ≡ chunked size most n) }
@@ -70,6 +72,7 @@ fn by_size(alloc: Global, size: u32, n: u64, most: u32) -> Result<Items<u64>, Al
     with_rest(sizes, rest)
 }
 
+// A size that is no less than the rest ends the list, and so does the last chunk that there may be.
 fn by_list(alloc: Global, given: &[u32], n: u64, most: u32) -> Result<Items<u64>, AllocError>
     requires { 1 ≤ most }
     ensures { IfOk result (λ sizes. sizes ≡ listed given.now most n) }
