@@ -1,4 +1,4 @@
--- How iterations are cut into chunks (5.5, 5.6.1): the plan, the most chunks, the number of iterations, and the chunks' sizes.
+-- How iterations are cut into chunks (5.5, 5.6.1): the plan, the number of iterations, the most chunks, and the chunks' sizes.
 use Rattle.std.proofs.Common.{◌≡◌, ℕ, List, [], ◌∷◌, length, get_or, refl, map}
 use Rattle.ada_base.specs.Cuts as cut
 use Rattle.ada_base.specs.Cuts.{Plan, cuts_of}
@@ -6,35 +6,35 @@ use Rattle.chunk_plan.specs.Even.{even_of}
 use Rattle.chunk_plan.specs.declared.even_division.Range.{Range}
 
 data Row : Type 0 where
-  row : Plan → (most n : ℕ) → List ℕ → Row
+  row : Plan → (n most : ℕ) → List ℕ → Row
 
 abbrev wanted : Row → List ℕ
-wanted (row plan most n want) = want
+wanted (row plan n most want) = want
 
 abbrev found : Row → List ℕ
-found (row plan most n want) = cuts_of plan most n
+found (row plan n most want) = cuts_of plan most n
 
 abbrev rows : List Row
 rows =
-    row (cut.Chunked 3) 4 10 (3 ∷ 3 ∷ 3 ∷ 1 ∷ []) ∷
-    row (cut.Chunked 3) 2 10 (3 ∷ 7 ∷ []) ∷
-    row (cut.Chunked 3) 4096 9 (3 ∷ 3 ∷ 3 ∷ []) ∷
-    row (cut.Chunked 1) 1 0 ([]) ∷
-    row (cut.Chunked 4294967295) 2 4611686018427387904 (4294967295 ∷ 4611686014132420609 ∷ []) ∷
-    row (cut.Even 3) 4096 10 (4 ∷ 3 ∷ 3 ∷ []) ∷
-    row (cut.Even 8) 4096 3 (1 ∷ 1 ∷ 1 ∷ []) ∷
-    row (cut.Even 8) 2 10 (5 ∷ 5 ∷ []) ∷
-    row (cut.Even 8) 1 0 ([]) ∷
-    row (cut.Even 4294967295) 2 4611686018427387904 (2305843009213693952 ∷ 2305843009213693952 ∷ []) ∷
-    row (cut.Listed (1 ∷ 2 ∷ [])) 4096 10 (1 ∷ 2 ∷ 7 ∷ []) ∷
-    row (cut.Listed (5 ∷ 9 ∷ [])) 4096 10 (5 ∷ 5 ∷ []) ∷
-    row (cut.Listed (4 ∷ 6 ∷ 1 ∷ [])) 4096 10 (4 ∷ 6 ∷ []) ∷
-    row (cut.Listed (1 ∷ 1 ∷ 1 ∷ [])) 2 10 (1 ∷ 9 ∷ []) ∷
-    row (cut.Listed (1 ∷ [])) 1 0 ([]) ∷
-    row (cut.Listed (7 ∷ [])) 4096 4611686018427387904 (7 ∷ 4611686018427387897 ∷ []) ∷
-    row cut.One 4096 10 (10 ∷ []) ∷
-    row cut.One 4096 0 ([]) ∷
-    row cut.One 4096 4611686018427387904 (4611686018427387904 ∷ []) ∷ []
+    row (cut.Chunked 3) 10 4 (3 ∷ 3 ∷ 3 ∷ 1 ∷ []) ∷
+    row (cut.Chunked 3) 10 2 (3 ∷ 7 ∷ []) ∷
+    row (cut.Chunked 3) 9 4096 (3 ∷ 3 ∷ 3 ∷ []) ∷
+    row (cut.Chunked 1) 0 1 ([]) ∷
+    row (cut.Chunked 4294967295) 4611686018427387904 2 (4294967295 ∷ 4611686014132420609 ∷ []) ∷
+    row (cut.Even 3) 10 4096 (4 ∷ 3 ∷ 3 ∷ []) ∷
+    row (cut.Even 8) 3 4096 (1 ∷ 1 ∷ 1 ∷ []) ∷
+    row (cut.Even 8) 10 2 (5 ∷ 5 ∷ []) ∷
+    row (cut.Even 8) 0 1 ([]) ∷
+    row (cut.Even 4294967295) 4611686018427387904 2 (2305843009213693952 ∷ 2305843009213693952 ∷ []) ∷
+    row (cut.Listed (1 ∷ 2 ∷ [])) 10 4096 (1 ∷ 2 ∷ 7 ∷ []) ∷
+    row (cut.Listed (5 ∷ 9 ∷ [])) 10 4096 (5 ∷ 5 ∷ []) ∷
+    row (cut.Listed (4 ∷ 6 ∷ 1 ∷ [])) 10 4096 (4 ∷ 6 ∷ []) ∷
+    row (cut.Listed (1 ∷ 1 ∷ 1 ∷ [])) 10 2 (1 ∷ 9 ∷ []) ∷
+    row (cut.Listed (1 ∷ [])) 0 1 ([]) ∷
+    row (cut.Listed (7 ∷ [])) 4611686018427387904 4096 (7 ∷ 4611686018427387897 ∷ []) ∷
+    row cut.One 10 4096 (10 ∷ []) ∷
+    row cut.One 0 4096 ([]) ∷
+    row cut.One 4611686018427387904 4096 (4611686018427387904 ∷ []) ∷ []
 
 each_cut : map found rows ≡ map wanted rows
 each_cut = refl

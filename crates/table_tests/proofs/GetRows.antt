@@ -4,7 +4,7 @@ use Rattle.std.proofs.Common.{◌≡◌, ℕ, ◌-◌, List, [], ◌∷◌, Resu
 use Rattle.ada_base.specs.declared.reason.Reason.{Reason}
 use Rattle.ada_base.specs.declared.reason.Reason.TheVariants.{DataError, EndError}
 use Rattle.ada_base.specs.Input.{Held, Nothing, got}
-use Rattle.ada_io.specs.Plain.{Feed, End, fed, Stop, Raised, TurnsSpent, plain}
+use Rattle.ada_io.specs.Plain.{Feed, End, Fault, fed, Stop, Raised, Failed, TurnsSpent, plain}
 
 data Answer : Type 0 where
   answer : Result ℤ Stop → ℕ → Answer
@@ -17,6 +17,9 @@ raised reason took = answer (Err (Raised reason)) took
 
 abbrev spent : ℕ → Answer
 spent took = answer (Err TurnsSpent) took
+
+abbrev failed : ℕ → Answer
+failed took = answer (Err Failed) took
 
 data Row : Type 0 where
   row : Feed → (turns : List ℕ) → List Answer → Row
@@ -113,3 +116,14 @@ limits =
 
 each_limit : map found limits ≡ map wanted limits
 each_limit = refl
+
+-- the source fails behind these bytes, whenever it is asked
+abbrev faults : List Row
+faults =
+    -- "7"
+    row (fed (55 ∷ []) Fault) (100 ∷ 100 ∷ []) ((failed 2) ∷ (failed 1) ∷ []) ∷
+    -- "7 "
+    row (fed (55 ∷ 32 ∷ []) Fault) (100 ∷ 100 ∷ 100 ∷ []) ((value (pos 7) 2) ∷ (failed 1) ∷ (failed 1) ∷ []) ∷ []
+
+each_fault : map found faults ≡ map wanted faults
+each_fault = refl

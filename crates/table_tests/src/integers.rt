@@ -1,51 +1,61 @@
 use ada_base::{Items, Reason};
-use ada_io::{GetEnd, Got, Reader, append_image, append_padded, image, padded, truth_image};
+use ada_io::{GetEnd, Reader, append_image, append_padded, image, padded, truth_image};
 use ada_port::MemSource;
 use std::alloc::AllocError;
 
-// What came of a Get that has no value.
-const DATA: i64 = 1 << 32;
+const DATA: GetEnd = GetEnd::Raise {
+    reason: Reason::DataError,
+};
 
-const END: i64 = 2 << 32;
+const END: GetEnd = GetEnd::Raise {
+    reason: Reason::EndError,
+};
 
-const OTHER: i64 = 3 << 32;
+const FAULT: GetEnd = GetEnd::ReadFault;
 
-const FAULT: i64 = 4 << 32;
+const SPENT: GetEnd = GetEnd::Spent;
 
-const SPENT: i64 = 5 << 32;
+const MINUS_12: GetEnd = GetEnd::Number { value: -12 };
 
-fn shown(got: Got) -> i64 {
-    match got.end {
-        GetEnd::Number { value } => value,
-        GetEnd::Raise { reason } => match reason {
-            Reason::DataError => DATA,
-            Reason::EndError => END,
-            _ => OTHER,
-        },
-        GetEnd::ReadFault => FAULT,
-        GetEnd::Spent => SPENT,
-    }
-}
+const SEVEN: GetEnd = GetEnd::Number { value: 7 };
+
+const EIGHT: GetEnd = GetEnd::Number { value: 8 };
+
+// The number of a call that is never made.
+const NEVER: u64 = u64::MAX;
 
 // The input, the call that fails, and of each Get the turns that it may take, what comes of it, and the turns that it
 // took. More rows stand in proofs/GetRows.antt.
-const GETS: [(&str, u64, [(u64, i64, u64); 3]); 5] = [
-    (" -12 7x", 99, [(100, -12, 5), (100, 7, 2), (100, DATA, 0)]),
-    ("7 8", 1, [(100, FAULT, 2), (100, 8, 3), (100, END, 0)]),
-    ("7 8", 3, [(100, 7, 2), (100, FAULT, 2), (100, END, 1)]),
+const GETS: [(&str, u64, [(u64, GetEnd, u64); 3]); 5] = [
+    (
+        " -12 7x",
+        NEVER,
+        [(100, MINUS_12, 5), (100, SEVEN, 2), (100, DATA, 0)],
+    ),
+    ("7 8", 1, [(100, FAULT, 2), (100, EIGHT, 3), (100, END, 0)]),
+    ("7 8", 3, [(100, SEVEN, 2), (100, FAULT, 2), (100, END, 1)]),
     // The end was met by the call before the one that fails, and isn't asked for again.
-    ("7", 2, [(100, 7, 2), (100, END, 0), (100, END, 0)]),
-    (" 12", 99, [(3, SPENT, 3), (1, END, 1), (0, END, 0)]),
+    ("7", 2, [(100, SEVEN, 2), (100, END, 0), (100, END, 0)]),
+    (" 12", NEVER, [(3, SPENT, 3), (1, END, 1), (0, END, 0)]),
 ];
+
+fn is_same(end: GetEnd, want: GetEnd) -> bool {
+    match (end, want) {
+        (GetEnd::Number { value }, GetEnd::Number { value: want }) => value == want,
+        (GetEnd::Raise { reason }, GetEnd::Raise { reason: want }) => reason == want,
+        (GetEnd::ReadFault, GetEnd::ReadFault) | (GetEnd::Spent, GetEnd::Spent) => true,
+        _ => false,
+    }
+}
 
 // Whether a Get that may take so many turns comes to that, and takes so many.
 fn reads(
     reader: &mut Reader,
     source: &mut MemSource,
-    (turns, want, took): (u64, i64, u64),
+    (turns, want, took): (u64, GetEnd, u64),
 ) -> bool {
     let got = reader.get(source, turns);
-    shown(got) == want && got.took == took
+    is_same(got.end, want) && got.took == took
 }
 
 #[test]
@@ -63,7 +73,7 @@ fn gets_of_one_input_answer_one_after_the_other(rt: HostRuntime) -> Result<(), A
 }
 
 #[test]
-fn long_numbers_do_not_overflow(rt: HostRuntime) -> Result<(), AllocError> {
+fn long_numbers_and_blanks_are_read(rt: HostRuntime) -> Result<(), AllocError> {
     let alloc = rt.alloc();
     for (byte, want) in [(b'9', DATA), (b' ', END)] {
         let bytes = vec![in alloc; byte; 1_000_000]?;
@@ -74,19 +84,55 @@ fn long_numbers_do_not_overflow(rt: HostRuntime) -> Result<(), AllocError> {
     Ok(())
 }
 
-fn is(text: &Items<u8>, want: &[u8]) -> bool {
-    *text.as_slice() == *want
+// The image of each number. More rows stand in proofs/ImageRows.antt.
+const IMAGES: [(i64, &str); 18] = [
+    (5, " 5"),
+    (-3, "-3"),
+    (-1, "-1"),
+    (1, " 1"),
+    (3, " 3"),
+    (5050, " 5050"),
+    (-10, "-10"),
+    (4, " 4"),
+    (12, " 12"),
+    (11, " 11"),
+    (2_147_483_647, " 2147483647"),
+    (14, " 14"),
+    (89_456_640, " 89456640"),
+    (1000, " 1000"),
+    (30, " 30"),
+    (255, " 255"),
+    (2000, " 2000"),
+    (i64::MIN, "-9223372036854775808"),
+];
+
+// A number in a field of so many places.
+const FIELDS: [(i64, u32, &str); 3] = [(-7, 11, "         -7"), (42, 1, "42"), (-7, 4, "  -7")];
+
+fn is(text: &Items<u8>, want: &str) -> bool {
+    *text.as_slice() == *want.as_bytes()
 }
 
-// More rows stand in proofs/ImageRows.antt.
 #[test]
-fn images_are_made_and_joined(rt: HostRuntime) -> Result<(), AllocError> {
+fn images_and_fields_are_made(rt: HostRuntime) -> Result<(), AllocError> {
     let alloc = rt.alloc();
-    let least = image(alloc, i64::MIN)?;
-    let mut line = padded(alloc, -7, 4)?;
+    for (value, want) in IMAGES {
+        let text = image(alloc, value)?;
+        assert!(rt; is(&text, want), "{want}");
+    }
+    for (value, width, want) in FIELDS {
+        let text = padded(alloc, value, width)?;
+        assert!(rt; is(&text, want), "{want}");
+    }
+    Ok(())
+}
+
+#[test]
+fn texts_are_appended(rt: HostRuntime) -> Result<(), AllocError> {
+    let mut line = Items::new(rt.alloc());
     append_image(&mut line, 1)?;
     append_padded(&mut line, 2, 3)?;
     line.extend(truth_image(true))?;
-    assert!(rt; is(&least, b"-9223372036854775808") && is(&line, b"  -7 1  2TRUE"));
+    assert!(rt; is(&line, " 1  2TRUE"));
     Ok(())
 }

@@ -1,11 +1,50 @@
 use ada_base::Items;
-use chunk_plan::{Plan, cuts, even};
+use chunk_plan::{Plan, cuts, even, evenly};
 use std::alloc::{AllocError, Global};
 
 const GREATEST: u64 = 1 << 62;
 
-// Whether the plan divides so many iterations, in at most so many chunks, as is wanted. More rows stand in
-// proofs/CutRows.antt.
+// Three times this is 1 less than GREATEST.
+const THIRD: u64 = 1_537_228_672_809_129_301;
+
+// A plan as a row holds it.
+#[derive(Clone, Copy)]
+enum Given {
+    One,
+    Even(u32),
+    Sized(u32),
+    Listed(&'static [u32]),
+}
+
+// The plan, the number of iterations, the most chunks, and the chunks' sizes. More rows stand in proofs/CutRows.antt.
+const CUTS: [(Given, u64, u32, &[u64]); 11] = [
+    (Given::Sized(3), 10, 4, &[3, 3, 3, 1]),
+    (Given::Sized(3), 10, 2, &[3, 7]),
+    (Given::Even(3), 10, 4096, &[4, 3, 3]),
+    (Given::Listed(&[1, 2]), 10, 4096, &[1, 2, 7]),
+    (Given::Listed(&[5, 9]), 10, 4096, &[5, 5]),
+    (Given::Listed(&[4, 6, 1]), 10, 4096, &[4, 6]),
+    (Given::One, 0, 4096, &[]),
+    (Given::One, GREATEST, 4096, &[GREATEST]),
+    (Given::Even(3), GREATEST, 4096, &[THIRD + 1, THIRD, THIRD]),
+    (Given::Sized(1), GREATEST, 2, &[1, GREATEST - 1]),
+    (Given::Listed(&[7]), GREATEST, 4096, &[7, GREATEST - 7]),
+];
+
+fn plan(alloc: Global, given: Given) -> Result<Plan, AllocError> {
+    Ok(match given {
+        Given::One => Plan::One,
+        Given::Even(chunks) => Plan::Even(chunks),
+        Given::Sized(size) => Plan::Sized(size),
+        Given::Listed(sizes) => listed(alloc, sizes)?,
+    })
+}
+
+fn listed(alloc: Global, sizes: &[u32]) -> Result<Plan, AllocError> {
+    Ok(Plan::Listed(Items::from_vec(Vec::from_slice(alloc, sizes)?)))
+}
+
+// Whether the plan divides so many iterations, in at most so many chunks, as is wanted.
 fn is_cut(
     alloc: Global,
     plan: &Plan,
@@ -19,18 +58,29 @@ fn is_cut(
     Ok(*cuts.sizes.as_slice() == *want)
 }
 
-fn listed(alloc: Global, sizes: &[u32]) -> Result<Plan, AllocError> {
-    Ok(Plan::Listed(Items::from_vec(Vec::from_slice(alloc, sizes)?)))
-}
-
 #[test]
 fn plans_are_cut(rt: HostRuntime) -> Result<(), AllocError> {
     let alloc = rt.alloc();
-    let list = listed(alloc, &[4, 6, 1])?;
-    let given = is_cut(alloc, &list, (10, 4096), &[4, 6])?;
-    let even = is_cut(alloc, &Plan::Even(3), (10, 4096), &[4, 3, 3])?;
-    let sized = is_cut(alloc, &Plan::Sized(1), (GREATEST, 2), &[1, GREATEST - 1])?;
-    assert!(rt; given && even && sized);
+    for (given, n, most, want) in CUTS {
+        let plan = plan(alloc, given)?;
+        assert!(rt;
+            is_cut(alloc, &plan, (n, most), want)?,
+            "{n} in {most}: {want:?}"
+        );
+    }
+    Ok(())
+}
+
+// The number of iterations, the number of parts, and the sizes of the parts.
+const EVENLY: [(u64, u32, &[u64]); 3] = [(10, 3, &[4, 3, 3]), (2, 4, &[1, 1, 0, 0]), (10, 0, &[])];
+
+#[test]
+fn parts_may_be_empty(rt: HostRuntime) -> Result<(), AllocError> {
+    let alloc = rt.alloc();
+    for (n, parts, want) in EVENLY {
+        let sizes = evenly(alloc, n, parts)?;
+        assert!(rt; *sizes.as_slice() == *want, "{n} in {parts}");
+    }
     Ok(())
 }
 
