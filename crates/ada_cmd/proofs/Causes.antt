@@ -4,7 +4,7 @@ use Rattle.std.specs.Prelude.{IfSome}
 use Rattle.ada_meaning.specs.Law as law
 use Rattle.ada_meaning.specs.Law.{Ending}
 use Rattle.ada_port.specs.Ports.{Stream, Rose, fetched}
-use Rattle.ada_port.proofs.Faults.{Rose-after_same}
+use Rattle.ada_port.proofs.Faults.{Risen-after_same}
 use Rattle.ada_run.specs.Compile.{IsAccepted, IsFaultOf}
 use Rattle.ada_run.specs.Compiled.{Compiled}
 use Rattle.ada_run.specs.Complaints.{Complaint}
@@ -69,7 +69,7 @@ module _ (InTells OutTells : Type 0) (words : List (List ℕ)) (before now : Out
         ended = may_end c (run_end.Ended finals) law.Ended left runs (λ o h. h.0)
 
         out_rose : Rose left now.devices.out → Rose before.devices.out now.devices.out
-        out_rose rose = Rose-after_same runs.causes.1 rose
+        out_rose rose = Risen-after_same runs.causes.1 rose
     run_cause given c false (run_end.Ended finals) left accepted runs_it asks_vars runs ends =
         subst (λ s. Cause InTells words before now s) (sym ends.0) (inr (q, c, asks_for c accepted, runs_it, may_end c (run_end.Ended finals) law.Ended left runs (λ o h. h.0)))
     run_cause given c vars (run_end.Raised why) left accepted runs_it asks_vars runs ends =

@@ -1,38 +1,34 @@
 -- What writers and readers that tell their bytes do, in the words of sinks and shelves.
 use Rattle.std.proofs.Common.{◌≡◌, ℕ, ◌-◌, List, [], ◌++◌, length, take, drop, Option, Some, None, IfSome, append_assoc, length-drop, length-take, subst, take-append-drop, refl, sym, ap, ◌∙◌, arith}
 use Rattle.std.proofs.lemmas.List.{append-nil, take_all}
+use Rattle.std.proofs.KnownBytes.{Appends-nil, Appends-trans}
 use Rattle.std.specs.Io.KnownBytes.{Appends, Keeps}
 use Rattle.std.specs.Io.Take.{take_inner, take_limit, take_remaining}
 use Rattle.std.specs.declared.io.traits.Take.{Take}
 use Rattle.std.specs.Option.{option_map}
-use Rattle.ada_port.specs.Ports.{Adds, AddsPrefix, fetched}
-use Rattle.ada_port.proofs.Growth.{Adds-append, Adds-none}
+use Rattle.ada_port.specs.Ports.{AppendsPrefix, fetched}
 
-pub Adds-from_Appends : (old new : Option (List ℕ)) (bytes : List ℕ) → Appends old new bytes → Adds old new bytes
-Adds-from_Appends None new bytes a held e = cc
-Adds-from_Appends (Some xs) None bytes a held e = absurd a
-Adds-from_Appends (Some xs) (Some ys) bytes a held e = cc
-
-pub Adds-from_Keeps : (old new : Option (List ℕ)) → Keeps old new → Adds old new []
-Adds-from_Keeps None new k held e = cc
-Adds-from_Keeps (Some xs) None k held e = absurd k
-Adds-from_Keeps (Some xs) (Some ys) k held e = let nil = append-nil xs in cc
+Appends-kept : (old mid new : Option (List ℕ)) (bytes : List ℕ) → Appends old mid bytes → Keeps mid new → Appends old new bytes
+Appends-kept None mid new bytes a k = tt
+Appends-kept (Some xs) None new bytes a k = absurd a
+Appends-kept (Some xs) (Some ys) None bytes a k = absurd k
+Appends-kept (Some xs) (Some ys) (Some zs) bytes a k = k ∙ a
 
 -- so much of a piece has been written, and the rest is left
 pub record Written (old new : Option (List ℕ)) (piece rest : List ℕ) : Type 0 where
   pub front : List ℕ
   pub parts : piece ≡ front ++ rest
-  pub grown : Adds old new front
+  pub grown : Appends old new front
 
 pub Written-none : {old : Option (List ℕ)} {piece : List ℕ} → Written old old piece piece
-Written-none {old} = record { front = []; parts = refl; grown = Adds-none old }
+Written-none {old} = record { front = []; parts = refl; grown = Appends-nil old }
 
 pub Written-more : {old mid new : Option (List ℕ)} {piece rest : List ℕ} (n : ℕ) → Written old mid piece rest → Appends mid new (take n rest) → Written old new piece (drop n rest)
 Written-more {old} {mid} {new} {rest = rest} n w a =
     record {
       front = w.front ++ take n rest;
       parts = w.parts ∙ ap (λ x. w.front ++ x) (sym (take-append-drop n rest)) ∙ sym (append_assoc w.front (take n rest) (drop n rest));
-      grown = Adds-append old mid new w.front (take n rest) w.grown (Adds-from_Appends mid new (take n rest) a);
+      grown = Appends-trans old mid new w.front (take n rest) w.grown a;
     }
 
 -- the same, with what is left as a slice from n on
@@ -41,16 +37,13 @@ Written-range {old} {new = new} {piece = piece} {rest = rest} n w a =
     subst (λ x. Written old new piece x) (sym (take_all (length rest - n) (drop n rest) (omega (arith, length-drop n rest)))) (Written-more n w a)
 
 -- after a fault some front of the piece is written
-pub Written-prefix : (old mid new : Option (List ℕ)) (piece rest : List ℕ) → Written old mid piece rest → Keeps mid new → AddsPrefix old new piece
-Written-prefix old mid new piece rest w k held e =
-    let h = Adds-append old mid new w.front [] w.grown (Adds-from_Keeps mid new k) held e in
-    (w.front, rest, w.parts, h ∙ ap (λ x. Some (held ++ x)) (append-nil w.front))
+pub Written-prefix : (old mid new : Option (List ℕ)) (piece rest : List ℕ) → Written old mid piece rest → Keeps mid new → AppendsPrefix old new piece
+Written-prefix old mid new piece rest w k = (w.front, rest, w.parts, Appends-kept old mid new w.front w.grown k)
 
 -- where nothing is left, all of the piece is
-pub Written-all : (old mid new : Option (List ℕ)) (piece : List ℕ) → Written old mid piece [] → Keeps mid new → Adds old new piece
-Written-all old mid new piece w k held e =
-    let h = Adds-append old mid new w.front [] w.grown (Adds-from_Keeps mid new k) held e in
-    h ∙ ap (λ x. Some (held ++ x)) (append-nil w.front ∙ sym (append-nil w.front) ∙ sym w.parts)
+pub Written-all : (old mid new : Option (List ℕ)) (piece : List ℕ) → Written old mid piece [] → Keeps mid new → Appends old new piece
+Written-all old mid new piece w k =
+    subst (λ bytes. Appends old new bytes) (sym (w.parts ∙ append-nil w.front)) (Appends-kept old mid new w.front w.grown k)
 
 -- what was read of the front of a reader, and cut where it is longer, is what a fetch gives
 fetched-known : (left : Option (List ℕ)) (read text : List ℕ) → IfSome (option_map (take 1048577) left) (λ front. read ≡ [] ++ front) → text ≡ take 1048577 read → IfSome left (λ all. text ≡ fetched all)

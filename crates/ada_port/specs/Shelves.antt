@@ -39,6 +39,12 @@ one_text text = record { told = λ _. Some text; faults = 0 }
 abbrev pub untold : ℕ → Texts
 untold faults = record { told = λ _. None; faults = faults }
 
+-- the count of faults after a fetch: want of memory is none
+abbrev pub fetch_counted : {T : Type 0} → Result T ShelfFault → ℕ → ℕ
+fetch_counted (Ok _) faults = faults
+fetch_counted (Err fault.OutOfMemory) faults = faults
+fetch_counted (Err fault.Failed) faults = next_count faults
+
 -- whether a fetch fails: its call is listed, or no text has the name
 abbrev pub fetch_fails : ShelfState → List ℕ → Bool
 fetch_fails s name = list_any (λ call. call == s.calls) s.fails || is_none (text_of s.texts name)

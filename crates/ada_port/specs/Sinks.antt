@@ -39,7 +39,7 @@ abbrev pub appended_part : SinkState → List ℕ → List ℕ
 appended_part s piece = if is_too_long s piece then [] else passing_part (entry_of s) piece
 
 -- after a put: every call counts, and a failed one is a fault
-abbrev pub after_put : {T : Type 0} → SinkState → List ℕ → Result T Failed → SinkState
+abbrev pub after_put : SinkState → List ℕ → Result (Unit {0}) Failed → SinkState
 after_put s piece (Ok _) = record s { held = s.held ++ appended_part s piece; calls = next_count s.calls }
 after_put s piece (Err _) = record s { held = s.held ++ appended_part s piece; calls = next_count s.calls; faults = next_count s.faults }
 
@@ -52,10 +52,10 @@ abbrev pub grown_of : HeldState → Stream
 grown_of s = record { told = Some s.held; faults = s.faults }
 
 -- after a put: the piece is appended, or there was no room for it and it is a fault
-abbrev pub after_growth : {T : Type 0} → HeldState → List ℕ → Result T Failed → HeldState
+abbrev pub after_growth : HeldState → List ℕ → Result (Unit {0}) Failed → HeldState
 after_growth s piece (Ok _) = record s { held = s.held ++ piece }
 after_growth s piece (Err _) = record s { faults = next_count s.faults }
 
 -- a sink that never fails and tells nothing
-abbrev pub sure_count : Stream
-sure_count = record { told = None; faults = 0 }
+abbrev pub sure_sink : Stream
+sure_sink = record { told = None; faults = 0 }

@@ -1,6 +1,6 @@
 ghost use Rattle.std.specs.Prelude.{◌≡◌, ◌≤◌, IfOk, IfSome, vec_len};
 ghost use Rattle.ada_port.specs.Ports.{Fetches, fetched};
-ghost use Rattle.ada_port.specs.Shelves.{untold};
+ghost use Rattle.ada_port.specs.Shelves.{fetch_counted, untold};
 
 use crate::counts::raise;
 use crate::ports::{MOST_BYTES, Shelf, ShelfFault};
@@ -38,10 +38,11 @@ impl<R: Files + Drop> FileShelf<R> {
 impl<R: Files + Drop> Shelf for FileShelf<R> {
     ghost state = { untold };
 
-    /// Reads the file of that path. `Failed` comes where the system can't open or read it, and
-    /// `OutOfMemory` where it or the allocator has no memory left.
+    /// Reads the file of that path. `Failed` comes where the system can't open or read it, and each is
+    /// counted; `OutOfMemory` where it or the allocator has no memory left.
     fn fetch(&mut self, alloc: Global, name: &str) -> Result<Vec<u8>, ShelfFault>
         ensures fetches { Fetches (untold self.old) (untold self.new) name.now result }
+        ensures count { self.new ≡ fetch_counted result self.old }
 
         // Of what the file holds nothing is told, but that no more than this is given.
         ensures most { IfOk result (λ text. vec_len text ≤ MOST_BYTES) }

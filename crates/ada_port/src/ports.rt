@@ -95,6 +95,6 @@ pub trait Sink {
 
 /// Who is told that a thread begins.
 pub trait Pulse {
-    /// Called as a worker begins a thread of an outermost construct, with the thread's number from 0.
+    /// To be called as a worker begins a thread of an outermost construct, with the thread's number from 0.
     fn begins(&self, thread: u32);
 }

@@ -1,6 +1,6 @@
 ghost use Rattle.std.specs.Prelude.{◌≡◌, ◌↔◌, ◌+◌, ◌-◌, ◌^◌, ◌≤◌, ◌++◌, min, [], length, IfOk, IsErr, IsOk, IsTrue};
 ghost use Rattle.ada_port.specs.Ports.{Puts};
-ghost use Rattle.ada_port.specs.Sinks.{after_growth, after_put, entry_of, grown_of, held_of, is_too_long, passing_part, put_fails, sure_count};
+ghost use Rattle.ada_port.specs.Sinks.{after_growth, after_put, entry_of, grown_of, held_of, is_too_long, passing_part, put_fails, sure_sink};
 
 use crate::counts::raise;
 use crate::ports::{Failed, Sink};
@@ -140,8 +140,8 @@ fn passing_part(entry: Option<SinkFail>, piece: &[u8]) -> &[u8]
     }
 }
 
-/// Output that is kept in room that grows. A put fails for want of room alone, and then appends nothing;
-/// the call that made the sink answers that as want of memory.
+/// Output that is kept in room that grows. A put fails where there is no memory for its piece, and then
+/// appends nothing.
 #[derive(Drop)]
 pub struct HeldSink {
     bytes: Vec<u8>,
@@ -178,7 +178,7 @@ impl HeldSink {
 impl Sink for HeldSink {
     ghost state = { grown_of };
 
-    /// Appends a piece. `Failed` comes where there is no memory for it, and then nothing is appended.
+    /// Appends a piece, all of it or with a fault nothing.
     fn put(&mut self, piece: &[u8]) -> Result<(), Failed>
         ensures puts { Puts (grown_of self.old) (grown_of self.new) piece.now result }
         ensures state { self.new ≡ after_growth self.old piece.now result }
@@ -229,11 +229,11 @@ impl SureSink {
 }
 
 impl Sink for SureSink {
-    ghost state = { λ _. sure_count };
+    ghost state = { λ _. sure_sink };
 
     /// Counts the bytes of a piece. It never fails.
     fn put(&mut self, piece: &[u8]) -> Result<(), Failed>
-        ensures puts { Puts sure_count sure_count piece.now result }
+        ensures puts { Puts sure_sink sure_sink piece.now result }
         ensures never { IsOk result }
         ensures count { self.new ≡ min (self.old + length piece.now) (2 ^ 64 - 1) }
     {

@@ -1,4 +1,6 @@
 ghost use Rattle.std.specs.Prelude.{◌≡◌};
+ghost use Rattle.ada_port.specs.Counts.{counted};
+ghost use Rattle.ada_port.specs.Ports.{Puts, Takes};
 ghost use Rattle.ada_port.specs.Streams.{Writes};
 
 use crate::counts::raise;
@@ -61,8 +63,11 @@ impl<R: Read + Drop> StreamSource<R> {
 impl<R: Read + Drop> Source for StreamSource<R> {
     ghost state = { λ s. s };
 
-    /// Takes the next byte. `Failed` comes where the reader fails.
-    fn next(&mut self) -> Result<Option<u8>, Failed> {
+    /// Takes the next byte. `Failed` comes where the reader fails, and each is counted.
+    fn next(&mut self) -> Result<Option<u8>, Failed>
+        ensures takes { Takes self.old self.new result }
+        ensures count { self.new.faults ≡ counted result self.old.faults }
+    {
         if self.start < self.end {
             let byte = self.buffer[self.start];
             self.start += 1;
@@ -114,8 +119,12 @@ impl<W: Write + Drop> StreamSink<W> {
 impl<W: Write + Drop> Sink for StreamSink<W> {
     ghost state = { λ s. s };
 
-    /// Writes a piece. `Failed` comes where the writer fails or takes no further byte of it.
-    fn put(&mut self, piece: &[u8]) -> Result<(), Failed> {
+    /// Writes a piece. `Failed` comes where the writer fails or takes no further byte of it, and each is
+    /// counted.
+    fn put(&mut self, piece: &[u8]) -> Result<(), Failed>
+        ensures puts { Puts self.old self.new piece.now result }
+        ensures count { self.new.faults ≡ counted result self.old.faults }
+    {
         let written = write_through(&mut self.to, piece);
         if written.is_err() {
             self.failed = raise(self.failed);

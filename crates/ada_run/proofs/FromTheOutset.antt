@@ -21,7 +21,7 @@ use Rattle.ada_interpreter.specs.Run.{IsRun, answer_of, setting_of}
 use Rattle.run_parts.specs.declared.work.Work.{Work}
 use Rattle.run_store.specs.Operating.{begins_at}
 use Rattle.run_store.proofs.Getting.{some_input, told_input}
-use Rattle.run_store.specs.Outside.{Faults, Leaves, MayBe, Outside, Risen, fresh}
+use Rattle.run_store.specs.Outside.{Faults, Leaves, MayBe, Outside, fresh}
 use Rattle.run_store.specs.Shows as shows
 use Rattle.run_store.specs.Shows.{Image, outside_of}
 use Rattle.run_store.specs.declared.ends.End.{End}
@@ -33,9 +33,6 @@ use Rattle.run_reports.specs.declared.ends.Finals.{Finals}
 use Rattle.run_reports.specs.declared.ends.RunEnd.{RunEnd}
 use Rattle.run_reports.specs.declared.ends.RunEnd.TheVariants as run_end
 
-rose_of : (i j : Stream) → Risen i.faults j.faults → Rose i j
-rose_of i j h = record { later = h.0; higher = h.1 }
-
 both_same : (f g : Faults) → g ≡ f → (g.input ≡ f.input) × (g.output ≡ f.output)
 both_same f g e = (ap (λ (x : Faults). x.input) e, ap (λ (x : Faults). x.output) e)
 
@@ -46,8 +43,8 @@ causes_of (Err (end.Left (leave.Returns v))) limit f i j o q h = both_same (faul
 causes_of (Err (end.Left (leave.Raises x))) limit f i j o q h = both_same (faults_of i o) (faults_of j q) h
 causes_of (Err end.Spent) limit f i j o q h = both_same (faults_of i o) (faults_of j q) h
 causes_of (Err end.NoMemory) limit f i j o q h = both_same (faults_of i o) (faults_of j q) h
-causes_of (Err end.ReadFault) limit f i j o q h = (rose_of i j h.0, h.1)
-causes_of (Err end.WriteFault) limit f i j o q h = (h.0, rose_of o q h.1)
+causes_of (Err end.ReadFault) limit f i j o q h = h
+causes_of (Err end.WriteFault) limit f i j o q h = h
 
 -- the answer is that of the run
 ends_as : (p : Program) (before : List ℕ) (limit : ℕ) (r : Result (Unit {0}) End) (t : Image) (f : Finals) → f.kept ≡ t.state.kept → f.declared ≡ t.state.declared

@@ -8,6 +8,7 @@ use Rattle.ada_io.specs.declared.input.GetEnd.{GetEnd}
 use Rattle.ada_io.specs.declared.input.GetEnd.TheVariants as get
 use Rattle.ada_io.specs.declared.input.Got.{Got}
 use Rattle.ada_io.specs.Gets.{Last, Open, AtEnd, Broken, Gave, EndsHeld, ReaderState, askings, last_of, met_end, Gets}
+use Rattle.std.specs.Io.KnownBytes.{Appends, Consumes, IsAtEnd}
 use Rattle.ada_port.specs.declared.ports.Failed.{Failed}
 use Rattle.ada_port.specs.Ports.{Stream, IsTold, bytes_of, bytes_told, Puts}
 use Rattle.ada_meaning.specs.Stored.{State, Stored, Computes}
@@ -16,12 +17,19 @@ use Rattle.run_store.specs.Shows.{Image, Shows, Answers, Causes, outside_of, fac
 use Rattle.run_store.specs.Operating.{got, number_of, read_to}
 use Rattle.run_store.proofs.StoredGet.{IsRest, end_of, stored_get}
 
-told_at : (s : Stream) → IsTold s → s.told ≡ Some (bytes_of s)
-told_at s t = go s.told t
-  where
-    go : (x : Option (List ℕ)) → IsSome x → x ≡ Some (bytes_told x)
-    go None t = cc
-    go (Some bs) t = refl
+bytes_lost : (old new : Option (List ℕ)) (bytes : List ℕ) → Consumes old new bytes → IsSome old → bytes_told old ≡ bytes ++ bytes_told new
+bytes_lost None new bytes c t = cc
+bytes_lost (Some xs) None bytes c t = absurd c
+bytes_lost (Some xs) (Some ys) bytes c t = c
+
+none_told : (x : Option (List ℕ)) → IsAtEnd x → bytes_told x ≡ []
+none_told None e = refl
+none_told (Some bytes) e = e
+
+bytes_grown : (old new : Option (List ℕ)) (bytes : List ℕ) → Appends old new bytes → IsSome old → IsSome new × (bytes_told new ≡ bytes_told old ++ bytes)
+bytes_grown None new bytes a t = cc
+bytes_grown (Some xs) None bytes a t = absurd a
+bytes_grown (Some xs) (Some ys) bytes a t = (refl, a)
 
 fewest : (l : Last) (bytes : List ℕ) → length bytes ≤ askings l bytes
 fewest Open bytes = omega arith
@@ -32,13 +40,13 @@ fewest Broken bytes = omega arith
 
 -- what a source that tells had left before, and after its end
 left_before : (old new : Stream) (last : Last) (bytes : List ℕ) → Gave last old new bytes → IsTold old → bytes_of old ≡ bytes ++ bytes_of new
-left_before old new Open bytes g t = let k = g.told (bytes_of old) (told_at old t) in k.1 ∙ ap (λ bs. bytes ++ bs) (ap bytes_told (sym k.2))
-left_before old new AtEnd bytes g t = let k = g.told (bytes_of old) (told_at old t) in k.0 ∙ sym (append-nil bytes) ∙ ap (λ bs. bytes ++ bs) (ap bytes_told (sym k.1))
-left_before old new Broken bytes g t = let k = g.told (bytes_of old) (told_at old t) in k.1 ∙ ap (λ bs. bytes ++ bs) (ap bytes_told (sym k.2))
+left_before old new Open bytes g t = bytes_lost old.told new.told bytes g.told t
+left_before old new AtEnd bytes g t = bytes_lost old.told new.told bytes g.told t
+left_before old new Broken bytes g t = bytes_lost old.told new.told bytes g.told t
 
 left_at_end : (old new : Stream) (last : Last) (bytes : List ℕ) → Gave last old new bytes → IsTold old → last ≡ AtEnd → bytes_of new ≡ []
 left_at_end old new Open bytes g t e = cc
-left_at_end old new AtEnd bytes g t e = let k = g.told (bytes_of old) (told_at old t) in ap bytes_told k.1
+left_at_end old new AtEnd bytes g t e = none_told new.told g.none
 left_at_end old new Broken bytes g t e = cc
 
 module _ (old new begun sink : Stream) (pieces : List ℕ) (before after : ReaderState) where
@@ -53,7 +61,7 @@ module _ (old new begun sink : Stream) (pieces : List ℕ) (before after : Reade
   get_cause (get.Number v) false bytes g = ap (λ n. record { input = n; output = sink.faults }) g.faults
   get_cause (get.Raise r) true bytes g = ap (λ n. record { input = n; output = sink.faults }) g.faults
   get_cause (get.Raise r) false bytes g = ap (λ n. record { input = n; output = sink.faults }) g.faults
-  get_cause get.ReadFault ended bytes g = ((g.rose.later, g.rose.higher), refl)
+  get_cause get.ReadFault ended bytes g = (g.rose, refl)
   get_cause get.Spent true bytes g = ap (λ n. record { input = n; output = sink.faults }) g.faults
   get_cause get.Spent false bytes g = ap (λ n. record { input = n; output = sink.faults }) g.faults
 
@@ -117,30 +125,30 @@ told_input w o told open_yet none k = k.1.0 ∙ ap (λ bs. bs ++ k.0) none ∙ k
 -- ---- the output
 
 still_told : (old new : Stream) (piece : List ℕ) (r : Result (Unit {0}) Failed) → Puts old new piece r → IsTold old → IsTold new
-still_told old new piece (Ok u) p t = subst IsSome (sym (p.told (bytes_of old) (told_at old t))) refl
-still_told old new piece (Err e) p t = subst IsSome (sym (p.told (bytes_of old) (told_at old t)).3) refl
+still_told old new piece (Ok u) p t = (bytes_grown old.told new.told piece p.told t).0
+still_told old new piece (Err e) p t = (bytes_grown old.told new.told p.told.0 p.told.3 t).0
 
 module _ (source begun old new : Stream) (reader : ReaderState) (pieces : List ℕ) (tells : IsTold begun → IsTold old) where
   -- a sink that told what it held tells it still
   pub tells_still : (piece : List ℕ) (r : Result (Unit {0}) Failed) → Puts old new piece r → IsTold begun → IsTold new
   tells_still piece r p t = still_told old new piece r p (tells t)
 
-  grown : (piece : List ℕ) → Puts {T = Unit {0}} old new piece (Ok tt) → put_of begun.told new.told (pieces ++ piece) ≡ put_of begun.told old.told pieces ++ piece
+  grown : (piece : List ℕ) → Puts old new piece (Ok tt) → put_of begun.told new.told (pieces ++ piece) ≡ put_of begun.told old.told pieces ++ piece
   grown piece p = go begun.told tells
     where
       go : (told : Option (List ℕ)) → (IsSome told → IsTold old) → put_of told new.told (pieces ++ piece) ≡ put_of told old.told pieces ++ piece
       go None t = refl
-      go (Some before) t = ap bytes_told (p.told (bytes_of old) (told_at old (t refl)))
+      go (Some before) t = (bytes_grown old.told new.told piece p.told (t refl)).1
 
   abbrev Part : List ℕ → Option (List ℕ) → Type 0
   Part piece told = (passed : List ℕ) × (rest : List ℕ) × (piece ≡ passed ++ rest) × (put_of told new.told pieces ≡ put_of told old.told pieces ++ passed)
 
-  broken : (piece : List ℕ) (e : Failed) → Puts {T = Unit {0}} old new piece (Err e) → Part piece begun.told
+  broken : (piece : List ℕ) (e : Failed) → Puts old new piece (Err e) → Part piece begun.told
   broken piece e p = go begun.told tells
     where
       go : (told : Option (List ℕ)) → (IsSome told → IsTold old) → Part piece told
       go None t = ([], piece, refl, sym (append-nil pieces))
-      go (Some before) t = let k = p.told (bytes_of old) (told_at old (t refl)) in (k.0, k.1, k.2, ap bytes_told k.3)
+      go (Some before) t = (p.told.0, p.told.1, p.told.2, (bytes_grown old.told new.told p.told.0 p.told.3 (t refl)).1)
 
   module _ (InTells : Type 0) where
     -- what is put changes nothing of which bytes may be the whole input
@@ -148,12 +156,12 @@ module _ (source begun old new : Stream) (reader : ReaderState) (pieces : List �
     unfolding MayBe
     may_still more = record { back = λ w k. k }
 
-    pub port_puts : (piece : List ℕ) → Puts {T = Unit {0}} old new piece (Ok tt) → HasPut (MayBe InTells) piece (Ok tt) (opened reader source begun old pieces) (opened reader source begun new (pieces ++ piece))
+    pub port_puts : (piece : List ℕ) → Puts old new piece (Ok tt) → HasPut (MayBe InTells) piece (Ok tt) (opened reader source begun old pieces) (opened reader source begun new (pieces ++ piece))
     port_puts piece p = (ap (λ n. record { input = source.faults; output = n }) p.faults, may_still (pieces ++ piece), refl, refl, refl, grown piece p)
 
-    pub port_breaks : (piece : List ℕ) (e : Failed) (r : Result (Unit {0}) Failed) → Puts {T = Unit {0}} old new piece (Err e) → IsErr r → HasPut (MayBe InTells) piece r (opened reader source begun old pieces) (opened reader source begun new pieces)
+    pub port_breaks : (piece : List ℕ) (e : Failed) (r : Result (Unit {0}) Failed) → Puts old new piece (Err e) → IsErr r → HasPut (MayBe InTells) piece r (opened reader source begun old pieces) (opened reader source begun new pieces)
     port_breaks piece e (Ok u) p is = cc
-    port_breaks piece e (Err f) p is = ((refl, (p.rose.later, p.rose.higher)), may_still pieces, refl, refl, refl, broken piece e p)
+    port_breaks piece e (Err f) p is = ((refl, p.rose), may_still pieces, refl, refl, refl, broken piece e p)
 
 -- what ports leave
 pub port_leaves : {InTells OutTells : Type 0} (source begun sink : Stream) (reader : ReaderState) (pieces : List ℕ) → (InTells → met_end reader.held ≡ true → bytes_of source ≡ []) → (OutTells → IsTold begun) → Leaves InTells OutTells (opened reader source begun sink pieces) source sink

@@ -1,10 +1,11 @@
 -- The outside of a run, as contracts see it, and what is done to it.
-use Rattle.std.specs.Prelude.{◌≡◌, ℕ, ◌+◌, ◌-◌, ◌^◌, ◌≤◌, min, List, [], ◌++◌, Option, Some, None, true, false, Result, Ok, Err}
+use Rattle.std.specs.Prelude.{◌≡◌, ℕ, ◌≤◌, List, [], ◌++◌, Option, Some, None, true, false, Result, Ok, Err}
 use Rattle.ada_base.specs.Input.{Held, Nothing}
 use Rattle.ada_io.specs.declared.input.GetEnd.{GetEnd}
 use Rattle.ada_io.specs.declared.input.GetEnd.TheVariants as get
 use Rattle.ada_io.specs.declared.input.Got.{Got}
 use Rattle.ada_io.specs.Gets.{Gets, ReaderState, met_end}
+use Rattle.ada_port.specs.Counts.{Risen}
 use Rattle.ada_port.specs.declared.ports.Failed.{Failed}
 use Rattle.ada_port.specs.Ports.{Stream, bytes_of, bytes_told}
 
@@ -48,10 +49,6 @@ pub record Leaves (InTells OutTells : Type 0) (o : Outside) (source sink : Strea
   pub put : OutTells → bytes_of sink ≡ o.put
   pub input : source.faults ≡ o.faults.input
   pub output : sink.faults ≡ o.faults.output
-
--- a count rose: it is greater than before, or stands at the greatest u64
-abbrev pub Risen : ℕ → ℕ → Type 0
-Risen old new = (old ≤ new) × (min (old + 1) (2 ^ 64 - 1) ≤ new)
 
 -- ---- the whole input
 

@@ -8,7 +8,7 @@ data Row : Type 0 where
   row : (piece held : List ℕ) → (faults : ℕ) → Row
 
 abbrev after : Failed → SinkState → List ℕ → SinkState
-after fault s piece = cond (put_fails s piece) (after_put {T = Unit {0}} s piece (Err fault)) (after_put {T = Unit {0}} s piece (Ok tt))
+after fault s piece = cond (put_fails s piece) (after_put s piece (Err fault)) (after_put s piece (Ok tt))
 
 abbrev found : Failed → SinkState → List Row → List Row
 found fault s [] = []

@@ -1,5 +1,4 @@
 use Rattle.std.proofs.Common.{rules, refl, []}
-use Rattle.ada_port.proofs.Growth.{Breaks-front}
 use Rattle.ada_port.proofs.Passing.{passing_part-append, held_back}
 use Rattle.ada_port.proofs.sinks.MemSinkSink.put.Goals as goal
 use Rattle.ada_port.proofs.sinks.MemSinkSink.put.Goals.{then-fits, else-fits}
@@ -7,6 +6,6 @@ use Rattle.ada_port.proofs.sinks.MemSinkSink.put.Goals.{then-fits, else-fits}
 pub returns-clause-puts : goal.returns-clause-puts
 returns-clause-puts c =
     elim c.if-fits.branch [
-      | then-fits w ↦ Breaks-front w.passing_part.result.now (held_back c.entry-entry.result c.args.piece.now) refl (search (rules, passing_part-append)) (search rules) (search rules)
-      | else-fits w ↦ Breaks-front [] c.args.piece.now refl refl (search rules) (search rules)
+      | then-fits w ↦ record { told = (w.passing_part.result.now, held_back c.entry-entry.result c.args.piece.now, search (rules, passing_part-append), search rules); rose = search rules }
+      | else-fits w ↦ record { told = ([], c.args.piece.now, refl, search rules); rose = search rules }
     ]
