@@ -1,6 +1,6 @@
 -- What writers and readers that tell their bytes do, in the words of sinks and shelves.
 use Rattle.std.proofs.Common.{◌≡◌, ℕ, ◌-◌, List, [], ◌++◌, length, take, drop, Option, Some, None, IfSome, append_assoc, length-drop, length-take, subst, take-append-drop, refl, sym, ap, ◌∙◌, arith}
-use Rattle.std.proofs.lemmas.List.{append-nil, take_all}
+use Rattle.std.proofs.lemmas.List.{take_all}
 use Rattle.std.proofs.KnownBytes.{Appends-nil, Appends-trans}
 use Rattle.std.specs.Io.KnownBytes.{Appends, Keeps}
 use Rattle.std.specs.Io.Take.{take_inner, take_limit, take_remaining}
@@ -39,11 +39,6 @@ Written-range {old} {new = new} {piece = piece} {rest = rest} n w a =
 -- after a fault some front of the piece is written
 pub Written-prefix : (old mid new : Option (List ℕ)) (piece rest : List ℕ) → Written old mid piece rest → Keeps mid new → AppendsPrefix old new piece
 Written-prefix old mid new piece rest w k = (w.front, rest, w.parts, Appends-kept old mid new w.front w.grown k)
-
--- where nothing is left, all of the piece is
-pub Written-all : (old mid new : Option (List ℕ)) (piece : List ℕ) → Written old mid piece [] → Keeps mid new → Appends old new piece
-Written-all old mid new piece w k =
-    subst (λ bytes. Appends old new bytes) (sym (w.parts ∙ append-nil w.front)) (Appends-kept old mid new w.front w.grown k)
 
 -- what was read of the front of a reader, and cut where it is longer, is what a fetch gives
 fetched-known : (left : Option (List ℕ)) (read text : List ℕ) → IfSome (option_map (take 1048577) left) (λ front. read ≡ [] ++ front) → text ≡ take 1048577 read → IfSome left (λ all. text ≡ fetched all)

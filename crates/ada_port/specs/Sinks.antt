@@ -44,15 +44,15 @@ after_put s piece (Ok _) = record s { held = s.held ++ appended_part s piece; ca
 after_put s piece (Err _) = record s { held = s.held ++ appended_part s piece; calls = next_count s.calls; faults = next_count s.faults }
 
 -- the bytes that a sink holds, and how many puts failed so far
-pub record HeldState : Type 0 where
+pub record GrownState : Type 0 where
   pub held : List ℕ
   pub faults : ℕ
 
-abbrev pub grown_of : HeldState → Stream
+abbrev pub grown_of : GrownState → Stream
 grown_of s = record { told = Some s.held; faults = s.faults }
 
 -- after a put: the piece is appended, or there was no room for it and it is a fault
-abbrev pub after_growth : HeldState → List ℕ → Result (Unit {0}) Failed → HeldState
+abbrev pub after_growth : GrownState → List ℕ → Result (Unit {0}) Failed → GrownState
 after_growth s piece (Ok _) = record s { held = s.held ++ piece }
 after_growth s piece (Err _) = record s { faults = next_count s.faults }
 

@@ -15,7 +15,7 @@ use std::rt::Files;
 #[derive(Drop)]
 pub struct FileShelf<R: Files + Drop> {
     files: R,
-    failed: u64,
+    faults: u64,
 }
 
 impl<R: Files + Drop> Model for FileShelf<R> {
@@ -23,7 +23,7 @@ impl<R: Files + Drop> Model for FileShelf<R> {
 
     ghost Value = { ℕ };
 
-    ghost view = { λ s. s.failed };
+    ghost view = { λ s. s.faults };
 }
 
 impl<R: Files + Drop> FileShelf<R> {
@@ -31,7 +31,7 @@ impl<R: Files + Drop> FileShelf<R> {
     pub fn new(files: R) -> FileShelf<R>
         ensures { result ≡ 0 }
     {
-        FileShelf { files, failed: 0 }
+        FileShelf { files, faults: 0 }
     }
 }
 
@@ -49,13 +49,13 @@ impl<R: Files + Drop> Shelf for FileShelf<R> {
     {
         let text = read_file(&self.files, alloc, name);
         if matches!(text, Err(ShelfFault::Failed)) {
-            self.failed = raise(self.failed);
+            self.faults = raise(self.faults);
         }
         text
     }
 
     fn faults(&self) -> u64 {
-        self.failed
+        self.faults
     }
 }
 

@@ -23,7 +23,7 @@ pub struct MemShelf {
     texts: Vec<ShelfText>,
     fails: Vec<u64>,
     calls: u64,
-    failed: u64,
+    faults: u64,
 }
 
 impl Model for MemShelf {
@@ -36,7 +36,7 @@ impl Model for MemShelf {
       texts = map named_text s.texts.items;
       fails = s.fails.items;
       calls = s.calls;
-      faults = s.failed;
+      faults = s.faults;
     } };
 }
 
@@ -50,7 +50,7 @@ impl MemShelf {
             texts,
             fails,
             calls: 0,
-            failed: 0,
+            faults: 0,
         }
     }
 
@@ -84,13 +84,13 @@ impl Shelf for MemShelf {
         let answer = self.answer(alloc, name);
         self.calls = raise(self.calls);
         if matches!(answer, Err(ShelfFault::Failed)) {
-            self.failed = raise(self.failed);
+            self.faults = raise(self.faults);
         }
         answer
     }
 
     fn faults(&self) -> u64 {
-        self.failed
+        self.faults
     }
 }
 

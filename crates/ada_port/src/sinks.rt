@@ -24,7 +24,7 @@ pub struct MemSink {
     room: u64,
     fails: Vec<SinkFail>,
     calls: u64,
-    failed: u64,
+    faults: u64,
 }
 
 impl Model for MemSink {
@@ -38,7 +38,7 @@ impl Model for MemSink {
       room = s.room;
       fails = s.fails.items;
       calls = s.calls;
-      faults = s.failed;
+      faults = s.faults;
     } };
 
     ghost invariant = { λ s. s.room ≤ vec_capacity s.bytes };
@@ -56,7 +56,7 @@ impl MemSink {
             room,
             fails,
             calls: 0,
-            failed: 0,
+            faults: 0,
         })
     }
 
@@ -81,6 +81,7 @@ impl MemSink {
         None
     }
 
+    // Whether a piece is longer than the room that is left.
     fn is_too_long(&self, piece: &[u8]) -> bool
         ensures { result ≡ is_too_long self.now piece.now }
     {
@@ -114,16 +115,16 @@ impl Sink for MemSink {
         self.calls = raise(self.calls);
         if fits {
             self.append(passing_part(entry, piece));
+            if entry.is_none() {
+                return Ok(());
+            }
         }
-        if fits && entry.is_none() {
-            return Ok(());
-        }
-        self.failed = raise(self.failed);
+        self.faults = raise(self.faults);
         Err(Failed)
     }
 
     fn faults(&self) -> u64 {
-        self.failed
+        self.faults
     }
 }
 
@@ -145,15 +146,15 @@ fn passing_part(entry: Option<SinkFail>, piece: &[u8]) -> &[u8]
 #[derive(Drop)]
 pub struct HeldSink {
     bytes: Vec<u8>,
-    failed: u64,
+    faults: u64,
 }
 
 impl Model for HeldSink {
-    ghost use Rattle.ada_port.specs.Sinks.{HeldState};
+    ghost use Rattle.ada_port.specs.Sinks.{GrownState};
 
-    ghost Value = { HeldState };
+    ghost Value = { GrownState };
 
-    ghost view = { λ s. record { held = s.bytes.items; faults = s.failed } };
+    ghost view = { λ s. record { held = s.bytes.items; faults = s.faults } };
 }
 
 impl HeldSink {
@@ -163,7 +164,7 @@ impl HeldSink {
     {
         HeldSink {
             bytes: Vec::new(alloc),
-            failed: 0,
+            faults: 0,
         }
     }
 
@@ -186,14 +187,14 @@ impl Sink for HeldSink {
         match self.bytes.extend_from_slice(piece) {
             Ok(()) => Ok(()),
             Err(_) => {
-                self.failed = raise(self.failed);
+                self.faults = raise(self.faults);
                 Err(Failed)
             }
         }
     }
 
     fn faults(&self) -> u64 {
-        self.failed
+        self.faults
     }
 }
 

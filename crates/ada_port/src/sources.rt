@@ -12,7 +12,7 @@ pub struct MemSource {
     bytes: SureSource,
     fails: Vec<u64>,
     calls: u64,
-    failed: u64,
+    faults: u64,
 }
 
 impl Model for MemSource {
@@ -24,7 +24,7 @@ impl Model for MemSource {
       left = s.bytes;
       fails = s.fails.items;
       calls = s.calls;
-      faults = s.failed;
+      faults = s.faults;
     } };
 }
 
@@ -37,7 +37,7 @@ impl MemSource {
             bytes: SureSource::new(bytes),
             fails,
             calls: 0,
-            failed: 0,
+            faults: 0,
         }
     }
 }
@@ -57,14 +57,14 @@ impl Source for MemSource {
         let fails = self.fails.contains(&self.calls);
         self.calls = raise(self.calls);
         if fails {
-            self.failed = raise(self.failed);
+            self.faults = raise(self.faults);
             return Err(Failed);
         }
         self.bytes.next()
     }
 
     fn faults(&self) -> u64 {
-        self.failed
+        self.faults
     }
 }
 

@@ -27,7 +27,7 @@ pub struct StreamSource<R: Read + Drop> {
     buffer: [u8; BUFFER_BYTES],
     start: usize,
     end: usize,
-    failed: u64,
+    faults: u64,
 }
 
 impl<R: Read + Drop> Model for StreamSource<R> {
@@ -39,7 +39,7 @@ impl<R: Read + Drop> Model for StreamSource<R> {
 
     ghost view = { λ s. record {
       told = prepend_known (slice_range s.buffer s.start s.end) (R.remaining s.from);
-      faults = s.failed;
+      faults = s.faults;
     } };
 
     ghost invariant = { λ s. (s.start ≤ s.end) × (s.end ≤ length s.buffer) };
@@ -55,7 +55,7 @@ impl<R: Read + Drop> StreamSource<R> {
             buffer: [0; BUFFER_BYTES],
             start: 0,
             end: 0,
-            failed: 0,
+            faults: 0,
         }
     }
 }
@@ -81,14 +81,14 @@ impl<R: Read + Drop> Source for StreamSource<R> {
                 Ok(Some(self.buffer[0]))
             }
             Err(_) => {
-                self.failed = raise(self.failed);
+                self.faults = raise(self.faults);
                 Err(Failed)
             }
         }
     }
 
     fn faults(&self) -> u64 {
-        self.failed
+        self.faults
     }
 }
 
@@ -96,7 +96,7 @@ impl<R: Read + Drop> Source for StreamSource<R> {
 #[derive(Drop)]
 pub struct StreamSink<W: Write + Drop> {
     to: W,
-    failed: u64,
+    faults: u64,
 }
 
 impl<W: Write + Drop> Model for StreamSink<W> {
@@ -104,7 +104,7 @@ impl<W: Write + Drop> Model for StreamSink<W> {
 
     ghost Value = { Stream };
 
-    ghost view = { λ s. record { told = W.contents s.to; faults = s.failed } };
+    ghost view = { λ s. record { told = W.contents s.to; faults = s.faults } };
 }
 
 impl<W: Write + Drop> StreamSink<W> {
@@ -112,7 +112,7 @@ impl<W: Write + Drop> StreamSink<W> {
     pub fn new(to: W) -> StreamSink<W>
         ensures { result ≡ record { told = W.contents to; faults = 0 } }
     {
-        StreamSink { to, failed: 0 }
+        StreamSink { to, faults: 0 }
     }
 }
 
@@ -127,13 +127,13 @@ impl<W: Write + Drop> Sink for StreamSink<W> {
     {
         let written = write_through(&mut self.to, piece);
         if written.is_err() {
-            self.failed = raise(self.failed);
+            self.faults = raise(self.faults);
         }
         written
     }
 
     fn faults(&self) -> u64 {
-        self.failed
+        self.faults
     }
 }
 

@@ -1,16 +1,16 @@
+//! Devices over files, readers and writers, and those that never fail. The source in memory that fails is tested by the
+//! Gets in integers.rt, the shelf and the sink in memory by the tests of ada_cmd.
 ghost use Rattle.std.specs.Prelude.{◌≡◌, IfOk};
 
 use ada_port::files::read_text;
 use ada_port::{
-    ErrSink, FileShelf, Pulse, Quiet, Shelf, ShelfFault, Sink, Source, StdSink, StdSource,
-    StreamSink, StreamSource, SureShelf, SureSink,
+    ErrSink, FileShelf, Shelf, ShelfFault, Sink, Source, StdSink, StdSource, StreamSink,
+    StreamSource, SureShelf, SureSink,
 };
 use std::alloc::{AllocError, Global};
 use std::io;
 use std::io::{ErrorKind, Read, Write};
 
-// What fails where it is listed is tested by the answers of ada_cmd, and by rows in proofs/PutRows.antt: the shelf, the
-// source and the sink in memory.
 #[test]
 fn shelf_of_files_fails_where_there_is_none(rt: HostRuntime) {
     let alloc = rt.alloc();
@@ -19,12 +19,11 @@ fn shelf_of_files_fails_where_there_is_none(rt: HostRuntime) {
     assert!(rt; failed && shelf.faults() == 1);
 }
 
-// The byte that comes, with 256 for the end and 257 for a fault.
-fn next<S: Source>(source: &mut S) -> u32 {
+// Whether the next byte is this one.
+fn gives<S: Source>(source: &mut S, byte: u8) -> bool {
     match source.next() {
-        Ok(Some(byte)) => u32::from(byte),
-        Ok(None) => 256,
-        Err(_) => 257,
+        Ok(Some(next)) => next == byte,
+        _ => false,
     }
 }
 
@@ -50,14 +49,14 @@ fn devices_that_are_sure_give_and_take_all(rt: HostRuntime) -> Result<(), AllocE
 // A test is run on empty input.
 #[test]
 fn standard_ports_are_asked(rt: HostRuntime) {
-    let asked = next(&mut StdSource::new(rt.stdin())) == 256;
+    let ended = matches!(StdSource::new(rt.stdin()).next(), Ok(None));
     let put = takes(&mut StdSink::new(rt.stdout()), "a piece\n");
     let told = takes(&mut ErrSink::new(rt.stderr()), "a piece\n");
-    assert!(rt; asked && put && told);
-    Quiet::new().begins(3);
+    assert!(rt; ended && put && told);
 }
 
-// Gives two bytes at a time and takes one, so often, and then gives this answer at every call.
+// Gives two bytes at a time and takes one, so often; then it gives this answer once, and after that it goes on. So it is
+// seen whether a call that failed is made again.
 #[derive(Drop)]
 struct Halting {
     left: usize,
@@ -65,9 +64,10 @@ struct Halting {
 }
 
 impl Halting {
-    fn halt(&self) -> io::Result<usize>
+    fn halt(&mut self) -> io::Result<usize>
         ensures { IfOk result (λ count. count ≡ 0) }
     {
+        self.left = 100;
         match self.halt {
             Ok(_) => Ok(0),
             Err(kind) => Err(io::Error::from(kind)),
@@ -96,41 +96,49 @@ impl Write for Halting {
         Ok(1)
     }
 
+    // What was taken can be lost where none more is.
     fn flush(&mut self) -> io::Result<()> {
-        Ok(())
+        match self.halt {
+            Err(kind) if self.left == 0 => Err(io::Error::from(kind)),
+            _ => Ok(()),
+        }
     }
 }
 
-// The number of bytes that are read, with 256 for a fault and 257 for want of memory.
-fn read_of(reader: Halting, alloc: Global) -> usize {
-    match read_text(reader, alloc) {
-        Ok(text) => text.len(),
-        Err(ShelfFault::Failed) => 256,
-        Err(ShelfFault::OutOfMemory) => 257,
-    }
+// How many bytes are read of six and what comes then.
+fn read_of(halt: Result<usize, ErrorKind>, alloc: Global) -> Result<usize, ShelfFault> {
+    let text = read_text(Halting { left: 3, halt }, alloc)?;
+    Ok(text.len())
 }
 
 #[test]
 fn reading_ends_as_the_reader_does(rt: HostRuntime) {
-    for (halt, want) in [
-        (Ok(0), 6),
-        (Err(ErrorKind::BrokenPipe), 256),
-        (Err(ErrorKind::OutOfMemory), 257),
-    ] {
-        let reader = Halting { left: 3, halt };
-        assert!(rt; read_of(reader, rt.alloc()) == want);
-    }
+    let alloc = rt.alloc();
+    let all = matches!(read_of(Ok(0), alloc), Ok(6));
+    let broken = matches!(
+        read_of(Err(ErrorKind::BrokenPipe), alloc),
+        Err(ShelfFault::Failed)
+    );
+    let lacking = matches!(
+        read_of(Err(ErrorKind::OutOfMemory), alloc),
+        Err(ShelfFault::OutOfMemory)
+    );
+    assert!(rt; all && broken && lacking);
 }
 
 #[test]
 fn source_over_a_reader_fails_where_it_does(rt: HostRuntime) {
-    for (halt, last, faults) in [(Ok(0), 256, 0), (Err(ErrorKind::BrokenPipe), 257, 2)] {
+    for (halt, faults) in [(Ok(0), 0), (Err(ErrorKind::Interrupted), 1)] {
         let mut source = StreamSource::new(Halting { left: 2, halt });
-        for byte in [97, 98, 97, 98] {
-            assert!(rt; next(&mut source) == byte);
+        for byte in [b'a', b'b', b'a', b'b'] {
+            assert!(rt; gives(&mut source, byte));
         }
-        let ended = next(&mut source) == last && next(&mut source) == last;
-        assert!(rt; ended && source.faults() == faults);
+        let halted = match source.next() {
+            Ok(None) => faults == 0,
+            Err(_) => faults == 1,
+            Ok(Some(_)) => false,
+        };
+        assert!(rt; halted && source.faults() == faults && gives(&mut source, b'a'));
     }
 }
 
@@ -139,7 +147,8 @@ fn writing_fails_where_no_byte_is_taken(rt: HostRuntime) {
     for (left, halt, faults) in [
         (4, Ok(0), 0),
         (3, Ok(0), 1),
-        (3, Err(ErrorKind::BrokenPipe), 1),
+        (3, Err(ErrorKind::Interrupted), 1),
+        (4, Err(ErrorKind::BrokenPipe), 1),
     ] {
         let mut sink = StreamSink::new(Halting { left, halt });
         let is_right = takes(&mut sink, "abcd") == (faults == 0);
