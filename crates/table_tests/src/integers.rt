@@ -85,24 +85,10 @@ fn long_numbers_and_blanks_are_read(rt: HostRuntime) -> Result<(), AllocError> {
 }
 
 // The image of each number. More rows stand in proofs/ImageRows.antt.
-const IMAGES: [(i64, &str); 18] = [
+const IMAGES: [(i64, &str); 4] = [
     (5, " 5"),
     (-3, "-3"),
-    (-1, "-1"),
-    (1, " 1"),
-    (3, " 3"),
-    (5050, " 5050"),
-    (-10, "-10"),
-    (4, " 4"),
-    (12, " 12"),
-    (11, " 11"),
     (2_147_483_647, " 2147483647"),
-    (14, " 14"),
-    (89_456_640, " 89456640"),
-    (1000, " 1000"),
-    (30, " 30"),
-    (255, " 255"),
-    (2000, " 2000"),
     (i64::MIN, "-9223372036854775808"),
 ];
 

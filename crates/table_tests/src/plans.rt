@@ -71,16 +71,10 @@ fn plans_are_cut(rt: HostRuntime) -> Result<(), AllocError> {
     Ok(())
 }
 
-// The number of iterations, the number of parts, and the sizes of the parts.
-const EVENLY: [(u64, u32, &[u64]); 3] = [(10, 3, &[4, 3, 3]), (2, 4, &[1, 1, 0, 0]), (10, 0, &[])];
-
 #[test]
 fn parts_may_be_empty(rt: HostRuntime) -> Result<(), AllocError> {
-    let alloc = rt.alloc();
-    for (n, parts, want) in EVENLY {
-        let sizes = evenly(alloc, n, parts)?;
-        assert!(rt; *sizes.as_slice() == *want, "{n} in {parts}");
-    }
+    let sizes = evenly(rt.alloc(), 2, 4)?;
+    assert!(rt; sizes.as_slice() == [1, 1, 0, 0].as_slice());
     Ok(())
 }
 
