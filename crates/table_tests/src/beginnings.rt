@@ -46,7 +46,7 @@ fn join_all(out: &mut Parts, steps: &[Step]) -> Result<(), Fault> {
     Ok(())
 }
 
-const FRONT: [Step; 7] = [
+const FRONT: &[Step] = &[
     Step::Nothing,
     Step::Nothing,
     Step::Close(ListKind::Clauses),
@@ -56,7 +56,7 @@ const FRONT: [Step; 7] = [
     Step::Nothing,
 ];
 
-const BACK: [Step; 7] = [
+const BACK: &[Step] = &[
     Step::Close(ListKind::Stmts),
     Step::Two(Two::Stmts),
     Step::Nothing,
@@ -69,12 +69,12 @@ const BACK: [Step; 7] = [
 /// `procedure Main is begin null; null; .. end Main;` with so many statements; the tokens of the nth are 4 + 2n on.
 fn statements(alloc: Global, count: u32) -> Result<Tree, Fault> {
     let mut out = begin(alloc);
-    join_all(&mut out, &FRONT)?;
+    join_all(&mut out, FRONT)?;
     for n in 1..count {
         leaf(&mut out, Leaf::Null(n.wrapping_mul(2).wrapping_add(4)))?;
         also(&mut out, ListKind::Stmts)?;
     }
-    join_all(&mut out, &BACK)?;
+    join_all(&mut out, BACK)?;
     Ok(finish(out))
 }
 
@@ -105,7 +105,7 @@ fn a_list_is_walked_front_to_back_whatever_its_length(rt: HostRuntime) {
 }
 
 // Sums, the identifier that each is, and whether it is a name.
-const SUMS: [(&[Step], Option<u32>, bool); 6] = [
+const SUMS: &[(&[Step], Option<u32>, bool)] = &[
     (&[Step::Leaf(Leaf::Identifier(7))], Some(7), true),
     // A.B
     (
@@ -181,7 +181,7 @@ fn is_named(
 
 #[test]
 fn which_sums_are_names(rt: HostRuntime) {
-    for (steps, identifier, name) in SUMS {
+    for &(steps, identifier, name) in SUMS {
         match is_named(rt.alloc(), steps, identifier, name) {
             Ok(answer) => assert!(rt; answer),
             Err(_) => assert!(rt; false),

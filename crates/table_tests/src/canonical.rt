@@ -2,7 +2,7 @@ use ada_lexer::lex;
 use canonical_text::canonical_text;
 use std::alloc::AllocError;
 
-const TEXTS: [(&str, &str); 3] = [
+const TEXTS: &[(&str, &str)] = &[
     ("WITH  Ada --x\n ;", "with Ada ;\n"),
     (
         "X:=2#1#E126+\"É\"\"\"",
@@ -14,7 +14,7 @@ const TEXTS: [(&str, &str); 3] = [
 #[test]
 fn texts_are_written_canonically(rt: HostRuntime) -> Result<(), AllocError> {
     let alloc = rt.alloc();
-    for (text, want) in TEXTS {
+    for &(text, want) in TEXTS {
         let Ok(tokens) = lex(alloc, text.as_bytes()) else {
             panic!(rt; "a fault");
         };

@@ -1,7 +1,7 @@
 use ada_base::folds_alike;
 
 // The foldings are those of Unicode's CaseFolding.txt with the status C or S.
-const NAMES: [(&str, &str, bool); 15] = [
+const NAMES: &[(&str, &str, bool)] = &[
     ("", "", true),
     ("Row_1", "rOW_1", true),
     ("Row_1", "Row_2", false),
@@ -21,7 +21,7 @@ const NAMES: [(&str, &str, bool); 15] = [
 
 #[test]
 fn identifiers_ignore_case(rt: HostRuntime) {
-    for (a, b, want) in NAMES {
+    for &(a, b, want) in NAMES {
         assert!(rt; folds_alike(a, b) == want, "{a} {b}");
     }
 }

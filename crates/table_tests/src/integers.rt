@@ -26,7 +26,7 @@ const NEVER: u64 = u64::MAX;
 
 // The input, the call that fails, and of each Get the turns that it may take, what comes of it, and the turns that it
 // took. More rows stand in proofs/GetRows.antt.
-const GETS: [(&str, u64, [(u64, GetEnd, u64); 3]); 5] = [
+const GETS: &[(&str, u64, [(u64, GetEnd, u64); 3])] = &[
     (
         " -12 7x",
         NEVER,
@@ -61,7 +61,7 @@ fn reads(
 #[test]
 fn gets_of_one_input_answer_one_after_the_other(rt: HostRuntime) -> Result<(), AllocError> {
     let alloc = rt.alloc();
-    for (input, fail, gets) in GETS {
+    for &(input, fail, gets) in GETS {
         let bytes = Vec::from_slice(alloc, input.as_bytes())?;
         let mut source = MemSource::new(bytes, Vec::from_slice(alloc, &[fail])?);
         let mut reader = Reader::new();
@@ -85,7 +85,7 @@ fn long_numbers_and_blanks_are_read(rt: HostRuntime) -> Result<(), AllocError> {
 }
 
 // The image of each number. More rows stand in proofs/ImageRows.antt.
-const IMAGES: [(i64, &str); 4] = [
+const IMAGES: &[(i64, &str)] = &[
     (5, " 5"),
     (-3, "-3"),
     (2_147_483_647, " 2147483647"),
@@ -93,7 +93,7 @@ const IMAGES: [(i64, &str); 4] = [
 ];
 
 // A number in a field of so many places.
-const FIELDS: [(i64, u32, &str); 3] = [(-7, 11, "         -7"), (42, 1, "42"), (-7, 4, "  -7")];
+const FIELDS: &[(i64, u32, &str)] = &[(-7, 11, "         -7"), (42, 1, "42"), (-7, 4, "  -7")];
 
 fn is(text: &Items<u8>, want: &str) -> bool {
     *text.as_slice() == *want.as_bytes()
@@ -102,11 +102,11 @@ fn is(text: &Items<u8>, want: &str) -> bool {
 #[test]
 fn images_and_fields_are_made(rt: HostRuntime) -> Result<(), AllocError> {
     let alloc = rt.alloc();
-    for (value, want) in IMAGES {
+    for &(value, want) in IMAGES {
         let text = image(alloc, value)?;
         assert!(rt; is(&text, want), "{want}");
     }
-    for (value, width, want) in FIELDS {
+    for &(value, width, want) in FIELDS {
         let text = padded(alloc, value, width)?;
         assert!(rt; is(&text, want), "{want}");
     }

@@ -318,7 +318,7 @@ fn each_text_has_its_tokens_or_its_fault(rt: HostRuntime) -> Result<(), AllocErr
 }
 
 // Bytes that are no text, with the place of the first such one.
-const NO_TEXTS: [(&[u8], &str); 5] = [
+const NO_TEXTS: &[(&[u8], &str)] = &[
     (b"ab\xff", "utf8 2:0"),
     (b"\xc3", "utf8 0:0"),
     (b"? \xe2\x82", "utf8 2:0"),
@@ -328,7 +328,7 @@ const NO_TEXTS: [(&[u8], &str); 5] = [
 
 #[test]
 fn bytes_that_are_no_text(rt: HostRuntime) -> Result<(), AllocError> {
-    for (text, want) in NO_TEXTS {
+    for &(text, want) in NO_TEXTS {
         let came = lexed(rt.alloc(), text)?;
         assert!(rt; came.as_str() == want);
     }
@@ -346,7 +346,7 @@ fn repeated(alloc: Global, piece: &str, times: u32, last: &str) -> Result<Vec<u8
 }
 
 // A piece, how often it stands in the text, what stands last, and what comes of it.
-const LIMITS: [(&str, u32, &str, &str); 10] = [
+const LIMITS: &[(&str, u32, &str, &str)] = &[
     (" ", 1_048_576, " ", "big 1048577:0"),
     (" ", 1_048_576, "", "end"),
     ("a", 1_048_576, "", "id end"),
@@ -367,7 +367,7 @@ fn comes(alloc: Global, text: &[u8], want: &str) -> Result<bool, AllocError> {
 
 #[test]
 fn texts_up_to_the_limit_of_bytes(rt: HostRuntime) -> Result<(), AllocError> {
-    for (piece, times, last, want) in LIMITS {
+    for &(piece, times, last, want) in LIMITS {
         let text = repeated(rt.alloc(), piece, times, last)?;
         assert!(rt; comes(rt.alloc(), &text, want)?);
     }
@@ -375,7 +375,7 @@ fn texts_up_to_the_limit_of_bytes(rt: HostRuntime) -> Result<(), AllocError> {
 }
 
 // The same with the number of tokens, their end among them.
-const COUNTS: [(&str, u32, &str, usize); 3] = [
+const COUNTS: &[(&str, u32, &str, usize)] = &[
     ("(;);\n", 49_999, "(;;", 200_000),
     ("(;);\n", 49_999, "(;;;", 200_001),
     (
@@ -388,7 +388,7 @@ const COUNTS: [(&str, u32, &str, usize); 3] = [
 
 #[test]
 fn texts_up_to_the_limit_of_tokens(rt: HostRuntime) -> Result<(), AllocError> {
-    for (piece, times, last, count) in COUNTS {
+    for &(piece, times, last, count) in COUNTS {
         let text = repeated(rt.alloc(), piece, times, last)?;
         match lex(rt.alloc(), &text) {
             Ok(tokens) => assert!(rt; tokens.items().len() == count),

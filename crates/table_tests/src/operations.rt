@@ -5,7 +5,7 @@ const LEAST: i64 = -9_223_372_036_854_775_808;
 const GREATEST: i64 = 9_223_372_036_854_775_807;
 
 // The powers that no equation computes; the other rows stand in proofs/OperationRows.antt.
-const POWERS: [(Base, i64, i64, Option<i64>); 9] = [
+const POWERS: &[(Base, i64, i64, Option<i64>)] = &[
     (Base::Wide, -2, 63, Some(LEAST)),
     (Base::Wide, 2, 64, None),
     (Base::Wide, -2, GREATEST, None),
@@ -19,7 +19,7 @@ const POWERS: [(Base, i64, i64, Option<i64>); 9] = [
 
 #[test]
 fn powers_with_great_exponents(rt: HostRuntime) {
-    for (base, a, b, want) in POWERS {
+    for &(base, a, b, want) in POWERS {
         assert!(rt; is_in_base(base, a) && is_in_base(base, b), "{a} ** {b}");
         assert!(rt; apply(Op::Pow, base, a, b) == want, "{a} ** {b}");
     }

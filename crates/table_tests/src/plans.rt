@@ -17,7 +17,7 @@ enum Given {
 }
 
 // The plan, the number of iterations, the most chunks, and the chunks' sizes. More rows stand in proofs/CutRows.antt.
-const CUTS: [(Given, u64, u32, &[u64]); 11] = [
+const CUTS: &[(Given, u64, u32, &[u64])] = &[
     (Given::Sized(3), 10, 4, &[3, 3, 3, 1]),
     (Given::Sized(3), 10, 2, &[3, 7]),
     (Given::Even(3), 10, 4096, &[4, 3, 3]),
@@ -61,7 +61,7 @@ fn is_cut(
 #[test]
 fn plans_are_cut(rt: HostRuntime) -> Result<(), AllocError> {
     let alloc = rt.alloc();
-    for (given, n, most, want) in CUTS {
+    for &(given, n, most, want) in CUTS {
         let plan = plan(alloc, given)?;
         assert!(rt;
             is_cut(alloc, &plan, (n, most), want)?,

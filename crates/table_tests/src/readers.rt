@@ -28,7 +28,7 @@ fn summary(answer: &Result<Items<Range>, Refusal>) -> (u8, usize) {
 }
 
 // A token is a character, the two dots are `:`. The limit of depth, and the summary.
-const TEXTS: [(&str, u32, u8, usize); 12] = [
+const TEXTS: &[(&str, u32, u8, usize)] = &[
     ("1", 0, 0, 1),
     ("1:1", 0, 0, 1),
     ("1,1:1", 0, 0, 2),
@@ -45,7 +45,7 @@ const TEXTS: [(&str, u32, u8, usize); 12] = [
 
 #[test]
 fn lists_have_their_ranges_or_their_first_fault(rt: HostRuntime) -> Result<(), AllocError> {
-    for (text, limit, want, count) in TEXTS {
+    for &(text, limit, want, count) in TEXTS {
         let mut tokens = Vec::new(rt.alloc());
         for sign in text.as_bytes() {
             tokens.push(token(*sign))?;

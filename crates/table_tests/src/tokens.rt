@@ -4,7 +4,7 @@ use ada_lexer::lex;
 const TEXT: &str = "Zähl\t:= zÄHL;\n  \"é\" β";
 
 // The edges of each token, its place and its spelling.
-const TOKENS: [((u32, u32), (u32, u32), &str); 7] = [
+const TOKENS: &[((u32, u32), (u32, u32), &str)] = &[
     ((0, 5), (1, 1), "Zähl"),
     ((6, 8), (1, 6), ":="),
     ((9, 14), (1, 9), "zÄHL"),
@@ -15,7 +15,7 @@ const TOKENS: [((u32, u32), (u32, u32), &str); 7] = [
 ];
 
 // Whether two tokens are one identifier.
-const SAME: [(u32, u32, bool); 6] = [
+const SAME: &[(u32, u32, bool)] = &[
     (0, 2, true),
     (2, 0, true),
     (0, 5, false),
@@ -30,7 +30,7 @@ fn tokens_know_their_places_and_spellings(rt: HostRuntime) {
         panic!(rt; "a fault");
     };
     let mut number: u32 = 0;
-    for ((start, end), (line, column), slice) in TOKENS {
+    for &((start, end), (line, column), slice) in TOKENS {
         assert!(rt; (number as usize) < tokens.items().len());
         assert!(rt;
             tokens.items()[number as usize].span == Span { start, end },
@@ -40,7 +40,7 @@ fn tokens_know_their_places_and_spellings(rt: HostRuntime) {
         assert!(rt; tokens.slice(number) == slice, "{slice}");
         number = number.wrapping_add(1);
     }
-    for (a, b, want) in SAME {
+    for &(a, b, want) in SAME {
         assert!(rt; tokens.same(a, b) == want, "{a} {b}");
     }
     assert!(rt; tokens.kind(3) == Kind::Mark(21));
