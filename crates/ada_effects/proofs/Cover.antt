@@ -1,11 +1,11 @@
 -- Every text touches only what it makes and what lies under its effects, and a program without clashes is free of races.
-use Rattle.std.proofs.Common.{◌≡◌, ℕ, zero, suc, ◌+◌, ◌*◌, ◌<◌, ◌≤◌, min, max, ℤ, pos, ◌+ℤ◌, ◌-ℤ◌, int_lt, int_le, nat_eq, nat_lt, nat_le, List, [], ◌∷◌, ◌++◌, length, length-append, slice_get, ◌⊎◌, inl, inr, ⊎_elim, Option, Some, None, Bool, true, false, not, cond, ◌&&◌, ◌||◌, sym, subst, ap, ◌∙◌, refl, true≢false, eqb-true, eq-eqb, ltb-true, ltb-false, arith, le_trans}
+use Rattle.std.proofs.Common.{◌≡◌, ℕ, zero, suc, ◌+◌, ◌*◌, ◌<◌, ◌≤◌, min, max, ℤ, pos, ◌+ℤ◌, ◌-ℤ◌, int_lt, int_le, nat_eq, nat_lt, nat_le, List, [], ◌∷◌, ◌++◌, length, length-append, slice_get, ◌⊎◌, inl, inr, ⊎_elim, Option, Some, None, Bool, true, false, not, cond, ◌&&◌, ◌||◌, sym, subst, ap, ap₂, ◌∙◌, refl, true≢false, eqb-true, eq-eqb, ltb-true, ltb-false, arith, le_trans}
 use Rattle.ada_base.specs.Cuts.{evens}
 use Rattle.ada_base.specs.Image.{padded}
 use Rattle.behaviours.specs.Doings.{through, folded}
 use Rattle.behaviours.specs.Paths.{Leave, Exits, Returns, Raises, Entity, VariableOf, ConstantOf, Region, Everywhere, Here, Instance}
 use Rattle.behaviours.specs.Events.{Keeps, Puts}
-use Rattle.behaviours.specs.Joins.{deal}
+use Rattle.behaviours.specs.Joins.{Now, Site, deal}
 use Rattle.behaviours.specs.Behaviours.{Behaviour, Asks}
 use Rattle.ada_meaning.specs.Formed.{width, composite_width}
 use Rattle.std.proofs.Math.IntN.{neg_ℤ, neg_ℤ-neg_ℤ, +ℤ-neg_ℤ_cancel, +ℤ_comm, +ℤ_idr}
@@ -32,7 +32,7 @@ use Rattle.ada_meaning.specs.Meaning
 use Rattle.ada_meaning.specs.Meaning.{Part, Env, Course, Chunking, Back, Passed, Returned, outset, with_target, with_handled, inside, variable_root, constant_root, array_root, iterated_env, cut_of, value_cut_of, arms_of, exits, returns, raises, value_of, reason_of, has_handlers, sub_at, moved, object_layout, most_nested, most_threads, most_iterations, most_calls}
 use Rattle.ada_typed.specs.Syntax.{Expr, Static, Variable, Constant, Parameter, Target, Group, Unary, Binary, AndThen, OrElse, Relation, Membership, If, Call, Convert, Reduction, Optional, Absent, Present, Selections, Whole, Field, Index, Actuals, NoActual, In, InOut, Out, CompositeInOut, CompositeOut, Value, Number, Cells, Composite, WholeVariable, WholeConstant, WholeTarget, CompositeIf, Aggregate, Associations, NoAssociation, Association, Iteration, Range, Components, Chunk, NoChunk, Count, Each, Pieces, NoPiece, Text, Image, Padded, Decls, NoDecl, DeclareDefault, DeclareVariable, DeclareConstant, Mentions, Stmt, Null, Assign, CallProcedure, Exit, Return, ReturnValue, Raise, Reraise, IfThen, Case, Loop, For, ParallelFor, Parallel, Block, Put, Get, Stmts, End, Then, Alternatives, NoAlternative, Alternative, Arms, NoArm, Arm, Handlers, NoHandler, Handler, Body, Sub, Program}
 use Rattle.ada_effects.specs.Effects.{Roles, unknown, hide, is_one, selector, steps_of, root_name, name, forget, Construct, LoopOf, BlockOf, ReductionOf, Item, Holds, chunk_hidden, course_hidden, chunk_parameter, judging, iterated_hidden, InReducer, InExpr, InOptional, InSelections, InActuals, InValue, InComposite, InAssociations, InCourse, InFilter, InChunk, InPieces, InDecls, InStmt, InAll, InAlternatives, InArm, InHandlers, InBody, InThread, IsDeclared, InSub, InCallee}
-use Rattle.ada_effects.specs.Conflicts.{Now, Fits, Leads, Distinct, LoopsDiffer, Compared, InProgram}
+use Rattle.ada_effects.specs.Conflicts.{Fits, Leads, Distinct, LoopsDiffer, Compared, InProgram}
 use Rattle.behaviours.specs.Behaviours
 use Rattle.ada_meaning.specs.Runs
 use Rattle.ada_meaning.specs.Programs.{this}
@@ -329,14 +329,28 @@ module _ (program : Program) (fine : Construct → Type 0) where
           let a = of_bind can in let b = of_bind a.2 in let d = of_bind b.2 in let e = of_bind d.2 in let f = of_bind e.2 in
           subst (λ (z : Chunking). Suits now (hide k r) (z.bound j env)) (sym (of_ret f.2)) (suits_hide now r env k (a.0 +ℤ pos j) h)
 
+      from_zero : (j : ℕ) → pos 0 +ℤ pos j ≡ pos j
+      from_zero j = +ℤ_comm (pos 0) (pos j) ∙ +ℤ_idr (pos j)
+
+      own_value : (x : ℕ) (v w : ℤ) → v ≡ cond (nat_eq x x) v w
+      own_value x v w = subst (λ b. v ≡ cond b v w) (sym (eq-eqb x x refl)) refl
+
+      own_item : (constant : Bool) (x : ℕ) (p : Part) (env : Env) → p.offset ≡ (cond constant ((Meaning.with_item constant x p env).constant_item x) ((Meaning.with_item constant x p env).item x)).offset
+      own_item true x p env = subst (λ b. p.offset ≡ (cond b p (env.constant_item x)).offset) (sym (eq-eqb x x refl)) refl
+      own_item false x p env = subst (λ b. p.offset ≡ (cond b p (env.item x)).offset) (sym (eq-eqb x x refl)) refl
+
       -- the chunk parameter's values count up; `number` is what a thread has for what it does
       chunk_from : (start : Env) (chunk : Chunk) (c : Chunking) (number : Bool → ℕ → ℕ) → ((j : ℕ) → number true j ≡ j) → Can (Meaning.chunking ops limit program calls chunk start) c
           → (v : ℤ) × ((j y : ℕ) (env : Env) → is_one (chunk_parameter chunk) y ≡ true → (c.bound (number c.even j) env).parameter y ≡ v +ℤ pos j)
-      chunk_from start NoChunk c number own can = (pos 0, λ j y env e. absurd (true≢false (sym e)))
-      chunk_from start (Count e) c number own can = (pos 0, λ j y env e. absurd (true≢false (sym e)))
+          × ((j : ℕ) (env : Env) → v +ℤ pos j ≡ Meaning.chunk_value chunk j (c.bound (number c.even j) env))
+      chunk_from start NoChunk c number own can = (pos 0, λ j y env e. absurd (true≢false (sym e)), λ j env. from_zero j)
+      chunk_from start (Count e) c number own can = (pos 0, λ j y env e. absurd (true≢false (sym e)), λ j env. from_zero j)
       chunk_from start (Each k low high check) c number own can =
-          let a = of_bind can in let b = of_bind a.2 in let d = of_bind b.2 in let e = of_bind d.2 in let f = of_bind e.2 in
-          (a.0, λ j y env q. subst (λ (z : Chunking). (z.bound (number z.even j) env).parameter y ≡ a.0 +ℤ pos j) (sym (of_ret f.2)) (go a.0 j (number true j) (own j) y env (nat_eq y k) q))
+          let a = of_bind can in let b = of_bind a.2 in let d = of_bind b.2 in let e = of_bind d.2 in let f = of_bind e.2 in (
+            a.0,
+            λ j y env q. subst (λ (z : Chunking). (z.bound (number z.even j) env).parameter y ≡ a.0 +ℤ pos j) (sym (of_ret f.2)) (go a.0 j (number true j) (own j) y env (nat_eq y k) q),
+            λ j env. subst (λ (z : Chunking). a.0 +ℤ pos j ≡ (z.bound (number z.even j) env).parameter k) (sym (of_ret f.2)) (sym (go a.0 j (number true j) (own j) k env (nat_eq k k) (eq-eqb k k refl))),
+          )
         where
           go : (v : ℤ) (j m : ℕ) → m ≡ j → (y : ℕ) (env : Env) (b : Bool) → b ≡ true → cond b (v +ℤ pos m) (env.parameter y) ≡ v +ℤ pos j
           go v j m e y env true q = ap (λ z. v +ℤ pos z) e
@@ -348,6 +362,18 @@ module _ (program : Program) (fine : Construct → Type 0) where
         pub now : ℕ → ℕ → Now
         pub suits : (j i : ℕ) → i < c.count → Suits (now j i) (judging chunk it r) (c.bound i (k.bound (number k.even j) env))
         pub apart : (j l i m : ℕ) → (j ≡ l → ⊥) → (i ≡ m → ⊥) → Distinct (now j i) (now l m)
+        pub same : (j i : ℕ) → now j i ≡ Meaning.now_of chunk it j i (k.bound (number k.even j) env) (c.bound i (k.bound (number k.even j) env))
+
+      -- by what the parameters are
+      module _ (chunk : Chunk) (it : Iteration) (r : Roles) (env : Env) (k : Chunking) (c : Course) (number : Bool → ℕ → ℕ) (J : Judges chunk it r env k c number) where
+        abbrev actual : ℕ → ℕ → Now
+        actual j i = Meaning.now_of chunk it j i (k.bound (number k.even j) env) (c.bound i (k.bound (number k.even j) env))
+
+        actual_suits : (j i : ℕ) → i < c.count → Suits (actual j i) (judging chunk it r) (c.bound i (k.bound (number k.even j) env))
+        actual_suits j i lt = subst (λ z. Suits z (judging chunk it r) (c.bound i (k.bound (number k.even j) env))) (J.same j i) (J.suits j i lt)
+
+        actual_apart : AreDistinct actual
+        actual_apart j l i m nj ni = subst (λ z. Distinct (actual j i) z) (J.same l m) (subst (λ z. Distinct z (J.now l m)) (J.same j i) (J.apart j l i m nj ni))
 
       counts : (i k : ℕ) → pos i ≡ pos k → i ≡ k
       counts i k e = cc
@@ -392,6 +418,9 @@ module _ (program : Program) (fine : Construct → Type 0) where
                 (suits_loop t (forget s.roles) (k.bound (number k.even j) (inside s.env)) x (cond reverse (b.0 -ℤ pos i) (a.0 +ℤ pos i)) refl (chunk_parameter chunk) (λ y n q. ap (λ z. z +ℤ n) (v.1 j y (inside s.env) q))
                 (plain t chunk s.roles (k.bound (number k.even j) (inside s.env)) (chunk_suits t (forget s.roles) (inside s.env) (inside s.env) chunk k can (suits_forget s.now t s.roles (inside s.env) (suits_inside s.now s.roles s.env s.suits)) (number k.even j))));
             apart = λ j l i m nj ni. record { chunk = λ q. nj (shift v.0 j l q); loops = λ q. ni (both_ways reverse a.0 b.0 i m q) };
+            same = λ j i.
+                subst (λ (z : Course). record { loop = Some (cond reverse (b.0 -ℤ pos i) (a.0 +ℤ pos i)); chunk = v.0 +ℤ pos j; first = 0; size = 0 } ≡ Meaning.now_of chunk (Range x reverse low high check filter) j i (k.bound (number k.even j) (inside s.env)) (z.bound i (k.bound (number k.even j) (inside s.env)))) (sym e)
+                (ap₂ (λ (l : ℤ) (d : ℤ). let n : Now = record { loop = Some l; chunk = d; first = 0; size = 0 } in n) (own_value x (cond reverse (b.0 -ℤ pos i) (a.0 +ℤ pos i)) ((k.bound (number k.even j) (inside s.env)).parameter x)) (v.2 j (inside s.env)));
           }
       judges s chunk (Components x constant at from selections count stride dimensions filter) k c number own can can' =
           let v = chunk_from (inside s.env) chunk k number own can in
@@ -406,6 +435,9 @@ module _ (program : Program) (fine : Construct → Type 0) where
                 (suits_chunk (at_item j i) (forget s.roles) (k.bound (number k.even j) (inside s.env)) refl (chunk_parameter chunk) (λ y n q. ap (λ z. z +ℤ n) (v.1 j y (inside s.env) q))
                 (plain (at_item j i) chunk s.roles (k.bound (number k.even j) (inside s.env)) (chunk_suits (at_item j i) (forget s.roles) (inside s.env) (inside s.env) chunk k can (base (at_item j i)) (number k.even j)))));
             apart = λ j l i m nj ni. record { chunk = λ q. nj (shift v.0 j l q); loops = differ constant (a.0).offset stride i m (at_item j i) (at_item l m) refl refl refl refl ni };
+            same = λ j i.
+                subst (λ (z : Course). at_item j i ≡ Meaning.now_of chunk (Components x constant at from selections count stride dimensions filter) j i (k.bound (number k.even j) (inside s.env)) (z.bound i (k.bound (number k.even j) (inside s.env)))) (sym e)
+                (ap₂ (λ (f : ℕ) (d : ℤ). let n : Now = record { loop = cond constant (Some (pos i)) None; chunk = d; first = f; size = stride } in n) (own_item constant x (moved a.0 (i * stride)) (k.bound (number k.even j) (inside s.env))) (v.2 j (inside s.env)));
           }
         where
           base : (t : Now) → Suits t (forget s.roles) (inside s.env)
@@ -438,12 +470,12 @@ module _ (program : Program) (fine : Construct → Type 0) where
           (chunk_suits s.now s.roles (inside s.env) (inside s.env) chunk k can (suits_inside s.now s.roles s.env s.suits) j) i lt)
 
       -- a construct whose threads are judged apart from the text around it
-      construct : {A : Type 0} (s : Scene) (site : ℕ) (con : Construct) → site_of con ≡ site → ((j l i m : ℕ) → (j ≡ l → ⊥) → (i ≡ m → ⊥) → Compared program con (arm_of con j i) (arm_of con l m)) → (s.asks → fine con)
-          → (now : ℕ → ℕ → Now) → AreDistinct now → (first_value : A) (f : ℕ → ℕ → A → Behaviour Instance A) (total : ℕ) (ns : List ℕ) → sum ns ≤ total
-          → ((j i : ℕ) (a : A) → i < total → Good program ⊥ (Exact program (now j i) (InThread program.subtypes con (arm_of con j i))) (f j i a)) → ((j i : ℕ) (a : A) → i < total → Fine s (f j i a))
+      construct : {A : Type 0} (s : Scene) (site : Site) (con : Construct) → site_of con ≡ site.number → ((j l i m : ℕ) → (j ≡ l → ⊥) → (i ≡ m → ⊥) → Compared program con (arm_of con j i) (arm_of con l m)) → (s.asks → fine con)
+          → AreDistinct site.now → (first_value : A) (f : ℕ → ℕ → A → Behaviour Instance A) (total : ℕ) (ns : List ℕ) → sum ns ≤ total
+          → ((j i : ℕ) (a : A) → i < total → Good program ⊥ (Exact program (site.now j i) (InThread program.subtypes con (arm_of con j i))) (f j i a)) → ((j i : ℕ) (a : A) → i < total → Fine s (f j i a))
           → Fine s (Behaviours.par demands one site (deal 0 0 ns) (λ c. Behaviours.within c.number (through (Behaviours.doings Instance) c.first c.size first_value (λ i a. f c.number i a))))
-      construct {A} s site con same compared good now distinct first_value f total ns bound mine around =
-          team_good program s.asks first_value f total demands s.allowed admits limit cuts one site ns bound (λ z b t p lives. law A first_value f site con same (good z) compared now distinct total ns bound mine b t p lives) around
+      construct {A} s site con same compared good distinct first_value f total ns bound mine around =
+          team_good program s.asks first_value f total demands s.allowed admits limit cuts one site ns bound (λ z b t p lives. law A first_value f site con same (good z) compared distinct total ns bound mine b t p lives) around
 
       mutual
         pub eval_good : (e : Expr) (s : Scene) → Has s (InExpr program.subtypes s.roles e) → Fine s (Meaning.eval ops limit program calls e s.env)
@@ -474,12 +506,14 @@ module _ (program : Program) (fine : Construct → Type 0) where
             seq s (unless s (nat_le d.count most_iterations) reason.StorageError) (λ _ _.
             let con = ReductionOf site (forget s.roles) by chunk iteration value in
             let J = judges s chunk iteration c d (λ b j. chunk_of (cond b (Sized (without_zeros (evens d.count c.most))) (ByPlan c.most d.count)) j) (λ j. refl) can can' in
-            seq s (construct s site con refl (λ j l i m nj ni. tt) (λ z. k.clean z con (inl refl)) J.now J.apart start
+            let number : Bool → ℕ → ℕ = λ b j. chunk_of (cond b (Sized (without_zeros (evens d.count c.most))) (ByPlan c.most d.count)) j in
+            let now = actual chunk iteration (forget s.roles) (inside s.env) c d number J in
+            seq s (construct s (Meaning.site_at site chunk iteration (value_cut_of c d.count) c d (inside s.env)) con refl (λ j l i m nj ni. tt) (λ z. k.clean z con (inl refl)) (actual_apart chunk iteration (forget s.roles) (inside s.env) c d number J) start
             (λ j i so_far. Behaviours.◌>>=◌ (Meaning.iterate_value ops (Meaning.filtered ops limit program calls iteration (d.bound i (c.bound (chunk_of (value_cut_of c d.count) j) (inside s.env)))) (Meaning.eval ops limit program calls value (d.bound i (c.bound (chunk_of (value_cut_of c d.count) j) (inside s.env)))))
             (folded (Behaviours.doings Instance) (reduce (Behaviours.doings Instance) Runs.checks by attribute (Meaning.fold_call ops limit program calls by (suc s.env.nested))) so_far))
             d.count (Runs.sizes_of Instance this admits demands limit cuts one (value_cut_of c d.count)) (value_cut_sum c.even c.most d.count)
-            (λ j i so_far lt. let t = judged (J.now j i) (judging chunk iteration (forget s.roles)) (d.bound i (c.bound (chunk_of (value_cut_of c d.count) j) (inside s.env))) (J.suits j i lt) (InThread program.subtypes con j) in
-            let x = exact program fine (J.now j i) (InThread program.subtypes con j) in
+            (λ j i so_far lt. let t = judged (now j i) (judging chunk iteration (forget s.roles)) (d.bound i (c.bound (chunk_of (value_cut_of c d.count) j) (inside s.env))) (actual_suits chunk iteration (forget s.roles) (inside s.env) c d number J j i lt) (InThread program.subtypes con j) in
+            let x = exact program fine (now j i) (InThread program.subtypes con j) in
             seq t (iterates_value t (filter_good iteration t (part program fine (λ i h. inr (inl h)) x)) (eval_good value t (part program fine (λ i h. inr (inr h)) x)))
             (λ v _. folds t (reduce_step t by attribute (fold_call t by (suc s.env.nested) (part program fine (λ i h. inl h) x))) so_far v))
             (λ j i so_far lt. let t = in_chunk s chunk iteration c d can can' (chunk_of (value_cut_of c d.count) j) i lt in
@@ -619,11 +653,13 @@ module _ (program : Program) (fine : Construct → Type 0) where
             seq s (unless s (nat_le d.count most_iterations) reason.StorageError) (λ _ _.
             let con = LoopOf site (forget s.roles) chunk iteration stmts in
             let J = judges s chunk iteration c d (λ b j. chunk_of (cond b (Sized (evens d.count c.most)) (ByPlan c.most d.count)) j) (λ j. refl) can can' in
-            caught s (exits number) (seq s (construct s site con refl (λ j l i m nj ni. tt) (λ z. k.clean z con (inl refl)) J.now J.apart tt
+            let dealt : Bool → ℕ → ℕ = λ b j. chunk_of (cond b (Sized (evens d.count c.most)) (ByPlan c.most d.count)) j in
+            let now = actual chunk iteration (forget s.roles) (inside s.env) c d dealt J in
+            caught s (exits number) (seq s (construct s (Meaning.site_at site chunk iteration (cut_of c d.count) c d (inside s.env)) con refl (λ j l i m nj ni. tt) (λ z. k.clean z con (inl refl)) (actual_apart chunk iteration (forget s.roles) (inside s.env) c d dealt J) tt
             (λ j i u. Meaning.iterate ops (Meaning.filtered ops limit program calls iteration (d.bound i (c.bound (chunk_of (cut_of c d.count) j) (inside s.env)))) (Meaning.exec_all ops limit program calls stmts (d.bound i (c.bound (chunk_of (cut_of c d.count) j) (inside s.env)))))
             d.count (Runs.sizes_of Instance this admits demands limit cuts one (cut_of c d.count)) (cut_sum c.even c.most d.count)
-            (λ j i u lt. let t = judged (J.now j i) (judging chunk iteration (forget s.roles)) (d.bound i (c.bound (chunk_of (cut_of c d.count) j) (inside s.env))) (J.suits j i lt) (InThread program.subtypes con j) in
-            let x = exact program fine (J.now j i) (InThread program.subtypes con j) in
+            (λ j i u lt. let t = judged (now j i) (judging chunk iteration (forget s.roles)) (d.bound i (c.bound (chunk_of (cut_of c d.count) j) (inside s.env))) (actual_suits chunk iteration (forget s.roles) (inside s.env) c d dealt J j i lt) (InThread program.subtypes con j) in
+            let x = exact program fine (now j i) (InThread program.subtypes con j) in
             iterates t (filter_good iteration t (part program fine (λ i h. inl h) x)) (exec_all_good stmts t (part program fine (λ i h. inr h) x)))
             (λ j i u lt. let t = in_chunk s chunk iteration c d can can' (chunk_of (cut_of c d.count) j) i lt in
             iterates s (filter_good iteration t (part program fine (λ i h. inr (inr (inr (inl h)))) k)) (exec_all_good stmts t (part program fine (λ i h. inr (inr (inr (inr h)))) k))))
@@ -631,7 +667,7 @@ module _ (program : Program) (fine : Construct → Type 0) where
         exec_good (Parallel site number arms) s k =
             seq s (opens s) (λ _ _. seq s (threads_good number (inner s) (part program fine (λ i h. inr (inl h)) k)) (λ n _.
             let con = BlockOf site (forget s.roles) number arms in
-            seq s (construct s site con refl (λ j l i m nj ni. ni) (λ z. k.clean z con (inl refl)) at_arm (λ j l i m nj ni. record { chunk = λ q. nj (counts j l q); loops = λ q. ni (counts i m q) }) tt (λ j i u. Meaning.exec_arm ops limit program calls arms i (inside s.env)) (arms_of arms) _ (sum_evens (arms_of arms) (min n (arms_of arms)))
+            seq s (construct s (Meaning.block_site site) con refl (λ j l i m nj ni. ni) (λ z. k.clean z con (inl refl)) (λ j l i m nj ni. record { chunk = λ q. nj (counts j l q); loops = λ q. ni (counts i m q) }) tt (λ j i u. Meaning.exec_arm ops limit program calls arms i (inside s.env)) (arms_of arms) _ (sum_evens (arms_of arms) (min n (arms_of arms)))
             (λ j i u lt. let t = judged (at_arm j i) (forget s.roles) (inside s.env) (suits_forget s.now (at_arm j i) s.roles (inside s.env) (suits_inside s.now s.roles s.env s.suits)) (InThread program.subtypes con i) in
             exec_arm_good arms i t (exact program fine (at_arm j i) (InThread program.subtypes con i)))
             (λ j i u lt. exec_arm_good arms i (inner s) (part program fine (λ x h. inr (inr (i, h))) k)))

@@ -4,7 +4,8 @@ use Rattle.ada_typed.specs.Syntax.{Program}
 use Rattle.behaviours.specs.Paths.{Entity, VariableOf, ConstantOf, Region, Everywhere, Here}
 use Rattle.ada_meaning.specs.Meaning.{Part}
 use Rattle.ada_effects.specs.Effects.{Named, Access, Construct, Item, Touches, Calls, Blocks, Outside, IsGlobal, Reached}
-use Rattle.ada_effects.specs.Conflicts.{Now, LiesUnder}
+use Rattle.behaviours.specs.Joins.{Now}
+use Rattle.ada_effects.specs.Conflicts.{LiesUnder}
 use Rattle.ada_effects.proofs.Good.{Allowed, Roomy, Grown, with_object}
 use Rattle.ada_effects.proofs.Scenes.{Tie, Into, object_into}
 

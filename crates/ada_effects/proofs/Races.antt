@@ -6,7 +6,8 @@ use Rattle.ada_base.specs.Cuts.{Plan, One, Even, Chunked, Listed, rest_of, chunk
 use Rattle.behaviours.specs.Paths.{start, nothing_visible}
 use Rattle.behaviours.specs.Behaviours.{asks_apart}
 use Rattle.ada_meaning.specs.Runs.{anything}
-use Rattle.ada_effects.specs.Conflicts.{Now, IsClean, AllClean, InProgram, RaceFreeLaw, GrantLaw}
+use Rattle.behaviours.specs.Joins.{Now}
+use Rattle.ada_effects.specs.Conflicts.{IsClean, AllClean, InProgram, RaceFreeLaw, GrantLaw}
 use Rattle.ada_effects.proofs.Good.{Lives, none_some}
 use Rattle.ada_effects.proofs.Teams.{sum}
 use Rattle.ada_effects.proofs.Separation.{separation, apart_law, covered_law}

@@ -12,7 +12,8 @@ use Rattle.ada_meaning.specs.Operations.{CheckKind}
 use Rattle.ada_meaning.specs.Meaning.{Part, moved, Env, outset, with_parameter, with_target, with_handled, inside, variable_root, iterated_env}
 use Rattle.ada_meaning.specs.Meaning as meaning
 use Rattle.ada_effects.specs.Effects.{Selector, At, Fixed, LoopIndex, ChunkIndex, Any, Step, FieldStep, IndexStep, ItemStep, Named, Access, Roles, unknown, other, hide, is_one, role, root_name, forgotten, forgotten_steps, forget, Construct, Item, Touches, Calls, Blocks, Holds, Outside, item_bound, iterated_hidden, IsGlobal, Reached, IsEffect}
-use Rattle.ada_effects.specs.Conflicts.{Now, LoopFits, Fits, IsItem, Leads, LiesUnder}
+use Rattle.behaviours.specs.Joins.{Now}
+use Rattle.ada_effects.specs.Conflicts.{LoopFits, Fits, IsItem, Leads, LiesUnder}
 use Rattle.behaviours.specs.Behaviours
 use Rattle.ada_meaning.specs.Runs
 use Rattle.ada_meaning.specs.Programs.{this}

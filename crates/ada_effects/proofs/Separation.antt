@@ -3,15 +3,15 @@ use Rattle.std.proofs.Common.{◌≡◌, ℕ, suc, ◌+◌, ◌<◌, ◌≤◌, 
 use Rattle.behaviours.specs.Doings.{through}
 use Rattle.behaviours.specs.Paths.{VariableOf, ConstantOf, Instance, Path, Scope, enter}
 use Rattle.behaviours.specs.Events.{Reads, Writes, Recalls, Keeps, Takes, Puts, Looks, Trace}
-use Rattle.behaviours.specs.Joins.{Share, deal}
+use Rattle.behaviours.specs.Joins.{Now, Site, Share, deal}
 use Rattle.behaviours.specs.Behaviours.{Behaviour, Asks, MayTrace, within, asks_apart}
 use Rattle.ada_meaning.specs.Shapes.{Shape, object_shape}
 use Rattle.ada_typed.specs.Syntax.{Program}
 use Rattle.ada_effects.specs.Effects.{Access, Construct, Holds, InThread}
-use Rattle.ada_effects.specs.Conflicts.{Now, LiesUnder, Distinct, LoopsDiffer, Compared, AreSeparated, IsLaid, IsClean, InProgram, Follows, path}
-use Rattle.ada_effects.specs.Covered.{site_of, arm_of, AreDistinct, IsTouched, AllCovered, EachCovered, asks_covered}
+use Rattle.ada_effects.specs.Conflicts.{LiesUnder, Distinct, LoopsDiffer, Compared, AreSeparated, IsLaid, IsClean, InProgram, Follows, path}
+use Rattle.ada_effects.specs.Covered.{site_of, arm_of, AreDistinct, IsSeen, AllCovered, EachCovered, asks_covered}
 use Rattle.ada_effects.proofs.Good.{Allowed, Good, Lives, lives_on, Seen, Okay, Each}
-use Rattle.ada_effects.proofs.Teams.{Either, sum, under, seen_visible, Theirs, theirs, one_of, asked}
+use Rattle.ada_effects.proofs.Teams.{Either, sum, under, Theirs, theirs, one_of, asked}
 use Rattle.behaviours.specs.Behaviours
 use Rattle.ada_meaning.proofs.Ties.{goes_enter}
 use Rattle.std.proofs.Math.IntN.{+ℤ-neg_ℤ_cancel}
@@ -66,12 +66,12 @@ separation program now then d a b same la lb (inr differ) n (o, m, leads, lt, e)
 -- what is to be shown of the threads of a construct that is fine: all that is demanded of them
 abbrev pub TeamLaw : Program → (Construct → Type 0) → Asks Instance → Type 1
 TeamLaw program fine demands =
-    (A : Type 0) (first_value : A) (f : ℕ → ℕ → A → Behaviour Instance A) (site : ℕ) (con : Construct) → site_of con ≡ site → fine con
+    (A : Type 0) (first_value : A) (f : ℕ → ℕ → A → Behaviour Instance A) (site : Site) (con : Construct) → site_of con ≡ site.number → fine con
     → ((j l i m : ℕ) → (j ≡ l → ⊥) → (i ≡ m → ⊥) → Compared program con (arm_of con j i) (arm_of con l m))
-    → (now : ℕ → ℕ → Now) → AreDistinct now → (total : ℕ) (ns : List ℕ) → sum ns ≤ total
-    → ((j i : ℕ) (a : A) → i < total → Good program ⊥ (Exact program (now j i) (InThread program.subtypes con (arm_of con j i))) (f j i a))
+    → AreDistinct site.now → (total : ℕ) (ns : List ℕ) → sum ns ≤ total
+    → ((j i : ℕ) (a : A) → i < total → Good program ⊥ (Exact program (site.now j i) (InThread program.subtypes con (arm_of con j i))) (f j i a))
     → (b : Bool) (s : Scope Instance) (p : Path Instance) → Lives program s p
-    → demands b p.name site p.constructs (deal 0 0 ns) (λ j tr. MayTrace (within j.number (through (Behaviours.doings Instance) j.first j.size first_value (λ i a. f j.number i a))) s p tr)
+    → demands b p.name site p.constructs s (deal 0 0 ns) (λ j tr. MayTrace (within j.number (through (Behaviours.doings Instance) j.first j.size first_value (λ i a. f j.number i a))) s p tr)
 
 module _ (program : Program) where
   -- no cell that one thread of a clean construct writes lies under an effect of another
@@ -88,7 +88,8 @@ module _ (program : Program) where
 
   -- threads of a clean construct have no races
   pub apart_law : TeamLaw program (IsClean program) asks_apart
-  apart_law A first_value f site con same clean compared now distinct total ns bound mine b s p lives =
+  apart_law A first_value f site con same clean compared distinct total ns bound mine b s p lives =
+      let now = site.now in
       asked program (Unit {0}) first_value f total (λ j i. Exact program (now j i) (InThread program.subtypes con (arm_of con j i))) mine
       (λ z j l i m w x n nj ni g h. threads_separated con clean (arm_of con j i) (arm_of con l m) (compared j l i m nj ni) (now j i) (now l m) (distinct j l i m nj ni) w x n g h)
       (λ z j i. threads_quiet con clean (arm_of con j i) (now j i)) tt b s p site lives ns bound
@@ -99,33 +100,31 @@ module _ (program : Program) where
     abbrev Their : Share → Allowed
     Their c = Theirs program ⊥ first_value f total (λ j i. Exact program (now j i) (InThread program.subtypes con (arm_of con j i))) mine c
 
-    touched : (s : Scope Instance) (p : Path Instance) → Lives program s p → (c : Share) (w : Bool) (l : Instance) (n : ℕ) → Seen (Their c) s w l n → IsTouched program con now c w l.object n
-    touched s p lives c w l n (VariableOf x, h) =
+    seen_as : (s : Scope Instance) (c : Share) (w : Bool) (l : Instance) (n : ℕ) → Seen (Their c) s w l n → IsSeen program con now s c w l n
+    seen_as s c w l n (VariableOf x, h) =
         let o = one_of program ⊥ first_value f total (λ j i. Exact program (now j i) (InThread program.subtypes con (arm_of con j i))) mine c w x n (⊎_elim (λ g. inl g.1) (λ g. inr g.1) h) in
-        subst (λ z. IsTouched program con now c w z n) (sym (lives.named (VariableOf x) n l (seen_visible (Their c) s w l n (VariableOf x, h))))
-        (o.0, o.1, o.2, either_effect program (now c.number o.0) (InThread program.subtypes con (arm_of con c.number o.0)) w x n o.3)
-    touched s p lives c w l n (ConstantOf x, h) =
-        subst (λ z. IsTouched program con now c w z n) (sym (lives.named (ConstantOf x) n l (seen_visible (Their c) s w l n (ConstantOf x, h)))) (⊎_elim (λ g. g.1) (λ g. g.1) h)
+        (VariableOf x, ⊎_elim (λ g. inl g.0) (λ g. inr g.0) h, (o.0, o.1, o.2, either_effect program (now c.number o.0) (InThread program.subtypes con (arm_of con c.number o.0)) w x n o.3))
+    seen_as s c w l n (ConstantOf x, h) = (ConstantOf x, ⊎_elim (λ g. inl g.0) (λ g. inr g.0) h, ⊎_elim (λ g. g.1) (λ g. g.1) h)
 
-    covered : (s : Scope Instance) (p : Path Instance) → Lives program s p → (c : Share) (tr : Trace Instance) → Each (Okay (Their c) s (enter c.number p)) tr → AllCovered program con now p.name p.constructs c tr
-    covered s p lives c [] h = tt
-    covered s p lives c (Reads l n v ∷ tr) h = (⊎_elim (λ g. inl (under c.number p l g)) (λ g. inr (touched s p lives c false l n g)) h.0, covered s p lives c tr h.1)
-    covered s p lives c (Writes l n v ∷ tr) h = (⊎_elim (λ g. inl (under c.number p l g)) (λ g. inr (touched s p lives c true l n g)) h.0, covered s p lives c tr h.1)
-    covered s p lives c (Recalls x ∷ tr) h = (tt, covered s p lives c tr h.1)
-    covered s p lives c (Keeps x ∷ tr) h = (tt, covered s p lives c tr h.1)
-    covered s p lives c (Takes n x ∷ tr) h = (tt, covered s p lives c tr h.1)
-    covered s p lives c (Puts x ∷ tr) h = (tt, covered s p lives c tr h.1)
-    covered s p lives c (Looks ∷ tr) h = (tt, covered s p lives c tr h.1)
+    covered : (s : Scope Instance) (p : Path Instance) (c : Share) (tr : Trace Instance) → Each (Okay (Their c) s (enter c.number p)) tr → AllCovered program con now p.name p.constructs s c tr
+    covered s p c [] h = tt
+    covered s p c (Reads l n v ∷ tr) h = (⊎_elim (λ g. inl (under c.number p l g)) (λ g. inr (seen_as s c false l n g)) h.0, covered s p c tr h.1)
+    covered s p c (Writes l n v ∷ tr) h = (⊎_elim (λ g. inl (under c.number p l g)) (λ g. inr (seen_as s c true l n g)) h.0, covered s p c tr h.1)
+    covered s p c (Recalls x ∷ tr) h = (tt, covered s p c tr h.1)
+    covered s p c (Keeps x ∷ tr) h = (tt, covered s p c tr h.1)
+    covered s p c (Takes n x ∷ tr) h = (tt, covered s p c tr h.1)
+    covered s p c (Puts x ∷ tr) h = (tt, covered s p c tr h.1)
+    covered s p c (Looks ∷ tr) h = (tt, covered s p c tr h.1)
 
     each_covered : (s : Scope Instance) (p : Path Instance) → Lives program s p → (number first : ℕ) (ns : List ℕ) → first + sum ns ≤ total
-        → EachCovered program con now p.name p.constructs (deal number first ns) (λ j tr. MayTrace (within j.number (through (Behaviours.doings Instance) j.first j.size first_value (λ i a. f j.number i a))) s p tr)
+        → EachCovered program con now p.name p.constructs s (deal number first ns) (λ j tr. MayTrace (within j.number (through (Behaviours.doings Instance) j.first j.size first_value (λ i a. f j.number i a))) s p tr)
     each_covered s p lives number first [] le = tt
     each_covered s p lives number first (n ∷ ns) le =
         let c : Share = record { number = number; first = first; size = n } in (
-          (λ tr m. let run = m.run in covered s p lives c tr ((theirs program ⊥ first_value f total (λ j i. Exact program (now j i) (InThread program.subtypes con (arm_of con j i))) mine c (omega arith)).covers s (enter number p) tr m.early run.0 m.end (lives_on program s p (enter number p) (goes_enter number p) lives) run.2).0),
+          (λ tr m. let run = m.run in covered s p c tr ((theirs program ⊥ first_value f total (λ j i. Exact program (now j i) (InThread program.subtypes con (arm_of con j i))) mine c (omega arith)).covers s (enter number p) tr m.early run.0 m.end (lives_on program s p (enter number p) (goes_enter number p) lives) run.2).0),
           each_covered s p lives (suc number) (first + n) ns (omega arith),
         )
 
   pub covered_law : TeamLaw program (λ k. InProgram program (Holds k)) (asks_covered program)
-  covered_law A first_value f site con same held compared now distinct total ns bound mine b s p lives =
-      (con, held, same, now, distinct, each_covered first_value f con now total mine s p lives 0 0 ns (omega arith))
+  covered_law A first_value f site con same held compared distinct total ns bound mine b s p lives =
+      (con, held, same, distinct, each_covered first_value f con site.now total mine s p lives 0 0 ns (omega arith))

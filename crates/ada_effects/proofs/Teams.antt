@@ -5,7 +5,7 @@ use Rattle.ada_typed.specs.Syntax.{Program}
 use Rattle.behaviours.specs.Doings.{through}
 use Rattle.behaviours.specs.Paths.{VariableOf, ConstantOf, Instance, End, Path, Scope, enter, is_inside}
 use Rattle.behaviours.specs.Events.{Event, Reads, Writes, Recalls, Keeps, Takes, Puts, Looks, Trace, Place, Cell, Rest, Byte, Touches, WritesTo, Apart, Merge, Shuffle, in_order}
-use Rattle.behaviours.specs.Joins.{Share, deal, Ran, EachRan, Form, traces, most_turns}
+use Rattle.behaviours.specs.Joins.{Site, Share, deal, Ran, EachRan, Form, traces, most_turns}
 use Rattle.behaviours.specs.Behaviours.{Behaviour, Asks, EachSafe, MayTrace, ThreadApart, ThreadsApart, asks_apart, within}
 use Rattle.behaviours.specs.Behaviours
 use Rattle.ada_meaning.proofs.Ties.{Future, Goes, goes_enter, goes_joined}
@@ -184,7 +184,7 @@ module _ (program : Program) (W : Type 0) where
         all_clear z s p lives number first [] bound = tt
         all_clear z s p lives number first (n ∷ ns) bound = (clear z s p lives (record { number = number; first = first; size = n }) (suc number) (first + n) (omega arith) (le_refl (first + n)) ns (omega arith), all_clear z s p lives (suc number) (first + n) ns (omega arith))
 
-        pub asked : W → (b : Bool) (s : Scope Instance) (p : Path Instance) (site : ℕ) → Lives program s p → (ns : List ℕ) → sum ns ≤ total → asks_apart b p.name site p.constructs (deal 0 0 ns) (λ j tr. MayTrace (thread j) s p tr)
+        pub asked : W → (b : Bool) (s : Scope Instance) (p : Path Instance) (site : Site) → Lives program s p → (ns : List ℕ) → sum ns ≤ total → asks_apart b p.name site p.constructs s (deal 0 0 ns) (λ j tr. MayTrace (thread j) s p tr)
         asked z b s p site lives ns bound = all_clear z s p lives 0 0 ns (omega arith)
 
     all_safe : (total : ℕ) → W → (s : Scope Instance) (p : Path Instance) → Lives program s p → (E : Allowed) → ((c : Share) → c.first + c.size ≤ total → Good program W E (thread c)) → (number first : ℕ) (ns : List ℕ) → first + sum ns ≤ total → EachSafe thread s p (deal number first ns)
@@ -192,8 +192,8 @@ module _ (program : Program) (W : Type 0) where
     all_safe total z s p lives E g number first (n ∷ ns) bound = ((g (record { number = number; first = first; size = n }) (omega arith)).safe s p z lives, all_safe total z s p lives E g (suc number) (first + n) ns (omega arith))
 
     -- E is what the construct may touch as a part of a text around it
-    pub team_good : (total : ℕ) (demands : Asks Instance) (E : Allowed) (admits : Scalar → ℤ → Type 0) (limit : ℕ) (cuts : ℕ → ℕ → List ℕ) (one : Bool) (site : ℕ) (ns : List ℕ) → sum ns ≤ total
-        → (W → (b : Bool) (s : Scope Instance) (p : Path Instance) → Lives program s p → demands b p.name site p.constructs (deal 0 0 ns) (λ j tr. MayTrace (thread j) s p tr))
+    pub team_good : (total : ℕ) (demands : Asks Instance) (E : Allowed) (admits : Scalar → ℤ → Type 0) (limit : ℕ) (cuts : ℕ → ℕ → List ℕ) (one : Bool) (site : Site) (ns : List ℕ) → sum ns ≤ total
+        → (W → (b : Bool) (s : Scope Instance) (p : Path Instance) → Lives program s p → demands b p.name site p.constructs s (deal 0 0 ns) (λ j tr. MayTrace (thread j) s p tr))
         → ((j i : ℕ) (a : A) → i < total → Good program W E (f j i a)) → Good program W E (Behaviours.par demands one site (deal 0 0 ns) thread)
     team_good total demands E admits limit cuts one site ns bound asked g = record { covers = covers; safe = λ s p z lives. (asked z (one || is_inside p) s p lives, all_safe total z s p lives E each 0 0 ns (omega arith)) }
       where

@@ -1,14 +1,14 @@
 -- What the threads of parallel constructs touch lies under the effects of their texts.
-use Rattle.std.specs.Prelude.{◌≡◌, ℕ, ◌+◌, ◌<◌, ◌≤◌, List, [], ◌∷◌, ◌++◌, ◌⊎◌, Bool, true, false}
+use Rattle.std.specs.Prelude.{◌≡◌, ℕ, ◌+◌, ◌<◌, ◌≤◌, List, [], ◌∷◌, ◌++◌, ◌⊎◌, Some, Bool, true, false}
 use Rattle.ada_typed.specs.Syntax.{Program}
-use Rattle.behaviours.specs.Paths.{Entity, VariableOf, ConstantOf, ThreadName, Instance, start, nothing_visible}
+use Rattle.behaviours.specs.Paths.{Entity, VariableOf, ConstantOf, ThreadName, Instance, Scope, find, within_extent, start, nothing_visible}
 use Rattle.behaviours.specs.Events.{Event, Reads, Writes, Trace}
-use Rattle.behaviours.specs.Joins.{Share}
+use Rattle.behaviours.specs.Joins.{Now, Share}
 use Rattle.behaviours.specs.Behaviours.{Asks}
 use Rattle.ada_meaning.specs.Runs.{anything}
 use Rattle.ada_meaning.specs.Programs.{Setting, runs_of}
 use Rattle.ada_effects.specs.Effects.{Access, Construct, LoopOf, BlockOf, ReductionOf, Holds}
-use Rattle.ada_effects.specs.Conflicts.{Now, LiesUnder, Distinct, IsThreadEffect, InProgram}
+use Rattle.ada_effects.specs.Conflicts.{LiesUnder, Distinct, IsThreadEffect, InProgram}
 
 abbrev pub site_of : Construct → ℕ
 site_of (LoopOf site r chunk iteration stmts) = site
@@ -28,6 +28,10 @@ IsOwn who c j l = (inner : List ℕ) × (l.thread ≡ inner ++ (j ∷ c ∷ who)
 abbrev pub AreDistinct : (ℕ → ℕ → Now) → Type 0
 AreDistinct now = (j l i m : ℕ) → (j ≡ l → ⊥) → (i ≡ m → ⊥) → Distinct (now j i) (now l m)
 
+-- the instance is the object's where that is visible, or everywhere, and has a cell at the offset
+abbrev pub IsFound : Scope Instance → Entity → ℕ → Instance → Type 0
+IsFound s x n l = (find s x n ≡ Some l) ⊎ (within_extent n (s.everywhere x) ≡ Some l)
+
 module _ (program : Program) (k : Construct) (now : ℕ → ℕ → Now) where
   -- a cell of a variable lies under an effect of an iteration of the thread, a write under a write
   abbrev pub Under : Share → Bool → ℕ → ℕ → Type 0
@@ -40,25 +44,31 @@ module _ (program : Program) (k : Construct) (now : ℕ → ℕ → Now) where
   IsTouched j writes (VariableOf x) n = Under j writes x n
   IsTouched j writes (ConstantOf x) n = writes ≡ false
 
-  abbrev pub IsCovered : ThreadName → (construct : ℕ) → Share → Event Instance → Type 0
-  IsCovered who c j (Reads l n v) = IsOwn who c j.number l ⊎ IsTouched j false l.object n
-  IsCovered who c j (Writes l n v) = IsOwn who c j.number l ⊎ IsTouched j true l.object n
-  IsCovered who c j a = Unit {0}
+  -- an instance that is visible where the construct stands, or everywhere, is touched as that object
+  abbrev pub IsSeen : Scope Instance → Share → Bool → Instance → ℕ → Type 0
+  IsSeen s j writes l n = (x : Entity) × (IsFound s x n l) × IsTouched j writes x n
 
-  abbrev pub AllCovered : ThreadName → (construct : ℕ) → Share → Trace Instance → Type 0
-  AllCovered who c j [] = Unit {0}
-  AllCovered who c j (a ∷ tr) = IsCovered who c j a × AllCovered who c j tr
+  abbrev pub IsCovered : ThreadName → (construct : ℕ) → Scope Instance → Share → Event Instance → Type 0
+  IsCovered who c s j (Reads l n v) = IsOwn who c j.number l ⊎ IsSeen s j false l n
+  IsCovered who c s j (Writes l n v) = IsOwn who c j.number l ⊎ IsSeen s j true l n
+  IsCovered who c s j a = Unit {0}
 
-  abbrev pub EachCovered : ThreadName → (construct : ℕ) → List Share → (Share → Trace Instance → Type 0) → Type 0
-  EachCovered who c [] may = Unit {0}
-  EachCovered who c (j ∷ js) may = ((tr : Trace Instance) → may j tr → AllCovered who c j tr) × EachCovered who c js may
+  abbrev pub AllCovered : ThreadName → (construct : ℕ) → Scope Instance → Share → Trace Instance → Type 0
+  AllCovered who c s j [] = Unit {0}
+  AllCovered who c s j (a ∷ tr) = IsCovered who c s j a × AllCovered who c s j tr
+
+  abbrev pub EachCovered : ThreadName → (construct : ℕ) → Scope Instance → List Share → (Share → Trace Instance → Type 0) → Type 0
+  EachCovered who c s [] may = Unit {0}
+  EachCovered who c s (j ∷ js) may = ((tr : Trace Instance) → may j tr → AllCovered who c s j tr) × EachCovered who c s js may
 
 -- it is asked that what each thread touches, beside what was made in it, lies under the effects of its text in a
--- construct of that site, in iterations of its own
+-- construct of that site, in iterations of its own, by what the construct's parameters are in them; and that no two
+-- iterations of two threads have a parameter alike
 abbrev pub asks_covered : Program → Asks Instance
-asks_covered program ordered who site c js may =
-    (k : Construct) × InProgram program (Holds k) × (site_of k ≡ site) × (now : ℕ → ℕ → Now) × AreDistinct now × EachCovered program k now who c js may
+asks_covered program ordered who site c s js may =
+    (k : Construct) × InProgram program (Holds k) × (site_of k ≡ site.number) × AreDistinct site.now × EachCovered program k site.now who c s js may
 
--- In each run of a program what the threads of each construct touch is covered, consistent or not.
+-- In each run of a program what the threads of each construct touch is covered, consistent or not, by what the parameters
+-- of the construct are.
 abbrev pub CoveredLaw : Type 0
 CoveredLaw = (program : Program) (set : Setting) → (runs_of anything (asks_covered program) program set).safe nothing_visible start

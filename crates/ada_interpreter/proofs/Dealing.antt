@@ -39,7 +39,7 @@ module _ (w : Work) (d : ℕ) (c : courses.Course) (it ss : ℕ) (env : Env) whe
   abbrev body : Chunking → ℕ → ℕ → Stored (Unit {0})
   body k j i = walk.iterate w d (iteration_at (nodes_of w) it) (stmts_at (nodes_of w) ss) ((course_of c).bound i ((chunking_of k).bound j env))
 
-  loop_as : (k : Chunking) → Stored.loops w.limit (cuts_of w.plan.now) 0 (meaning.cut_of (chunking_of k) (course_of c).count) (body k) ≡ bind (walk.threads_run w d (task.Loop k c it ss) (loop_sizes w k (course_of c).count) env) (λ _. ret tt)
+  loop_as : (k : Chunking) → Stored.loops w.limit (cuts_of w.plan.now) (meaning.block_site 0) (meaning.cut_of (chunking_of k) (course_of c).count) (body k) ≡ bind (walk.threads_run w d (task.Loop k c it ss) (loop_sizes w k (course_of c).count) env) (λ _. ret tt)
   unfolding walk.threads_run walk.share_run
   loop_as (chunking.ByPlan most) = refl
   loop_as (chunking.Each p low n) = refl
@@ -53,8 +53,8 @@ module _ {Tells : List ℕ → Outside → Type 0} (w : Work) (d : ℕ) (env : E
   pub dealt_loop_shows : (n : ℕ) (k : Chunking) (c : courses.Course) (it ss count : ℕ) (sizes : List ℕ) (r : Result (Unit {0}) End) → count ≡ (course_of c).count → sizes ≡ loop_sizes w k count → Shows Tells (walk.threads_run w d (task.Loop k c it ss) sizes env) r s t
       → Shows Tells (walk.dealt_loop w d n (chunking_of k) (course_of c) (iteration_at (nodes_of w) it) (stmts_at (nodes_of w) ss) env) (caught n r) s t
   dealt_loop_shows n k c it ss count sizes r e f h =
-      caught_shows w d n (Stored.loops w.limit (cuts_of w.plan.now) 0 (meaning.cut_of (chunking_of k) (course_of c).count) (body w d c it ss env k)) s t r
-      (same_shows (λ a. a) (Stored.loops w.limit (cuts_of w.plan.now) 0 (meaning.cut_of (chunking_of k) (course_of c).count) (body w d c it ss env k)) (bind (walk.threads_run w d (task.Loop k c it ss) (loop_sizes w k (course_of c).count) env) (λ _. ret tt)) r s t (loop_as w d c it ss env k)
+      caught_shows w d n (Stored.loops w.limit (cuts_of w.plan.now) (meaning.block_site 0) (meaning.cut_of (chunking_of k) (course_of c).count) (body w d c it ss env k)) s t r
+      (same_shows (λ a. a) (Stored.loops w.limit (cuts_of w.plan.now) (meaning.block_site 0) (meaning.cut_of (chunking_of k) (course_of c).count) (body w d c it ss env k)) (bind (walk.threads_run w d (task.Loop k c it ss) (loop_sizes w k (course_of c).count) env) (λ _. ret tt)) r s t (loop_as w d c it ss env k)
       (then_done (walk.threads_run w d (task.Loop k c it ss) (loop_sizes w k (course_of c).count) env) r s t
       (subst (λ z. Shows Tells (walk.threads_run w d (task.Loop k c it ss) z env) r s t) (f ∙ ap (λ z. loop_sizes w k z) e) h)))
 

@@ -11,7 +11,7 @@ use Rattle.ada_meaning.proofs.Computing.{through_more, through_done}
 use Rattle.run_store.specs.Outside.{Outside}
 use Rattle.run_store.specs.Shows.{Image, Goes, Shows}
 use Rattle.run_store.specs.declared.ends.End.{End}
-use Rattle.run_store.proofs.Going.{stays, goes_instead, goes_then, goes_ends, goes_gives, then_shows, same_shows}
+use Rattle.run_store.proofs.Going.{stays, goes_refl, goes_instead, goes_then, goes_ends, goes_gives, then_shows, same_shows}
 use Rattle.run_parts.specs.declared.work.Work.{Work}
 use Rattle.run_parts.specs.declared.chunks.Chunking.{Chunking}
 use Rattle.run_parts.specs.declared.chunks.Chunking.TheVariants as chunking
@@ -142,6 +142,12 @@ module _ {Tells : List ℕ → Outside → Type 0} (w : Work) (d : ℕ) (by : Fo
 
   pub fold_one_stops : (e : End) (r : Result ℤ End) → r ≡ Err e → Shows Tells (walk.reduced w d by n a b) (Err e) t u → i ≡ env → n ≡ nested → a ≡ so_far → b ≡ v → Shows Tells (walk.fold_one w d by nested env so_far) r s u
   fold_one_stops e r q k x y p z = subst (λ r. Shows Tells (walk.fold_one w d by nested env so_far) r s u) (sym q) (fold_one_on (Err e) k x y p z)
+
+pub fold_one_fails : {Tells : List ℕ → Outside → Type 0} (w : Work) (d : ℕ) (by : Fold) (nested : ℕ) (env i : Env) (so_far : ℤ) (s t : Image) (e : End) (r : Result ℤ End) → r ≡ Err e → Shows Tells (walk.iterated_value w d by i) (Err e) s t → i ≡ env → Shows Tells (walk.fold_one w d by nested env so_far) r s t
+fold_one_fails {Tells} w d by nested env i so_far s t e r q h x =
+    subst (λ z. Shows Tells (walk.fold_one w d by nested env so_far) z s t) (sym q)
+    (goes_ends (λ a. a) (λ a. a) (walk.fold_one w d by nested env so_far) (walk.iterated_value w d by env) (λ v. folded doings (walk.reduced w d by nested) so_far v) s s t e (goes_refl _ s)
+    (subst (λ i. Shows Tells (walk.iterated_value w d by i) (Err e) s t) x h))
 
 pub folds_begin : {Tells : List ℕ → Outside → Type 0} (w : Work) (d : ℕ) (by : Fold) (k : meaning.Chunking) (c : Course) (start : ℤ) (sizes : List ℕ) (env : Env) (s : Image) (n most : ℕ) → n ≡ s.state.turns → most ≡ s.state.turns
     → Goes Tells (walk.threads_folded w d by k c start sizes env) s (threads after_all (walk.share_folded w d by k c start env) n (deal 0 0 (drop 0 sizes)) most false []) s

@@ -278,7 +278,7 @@ module _ (w : Work) (d : ℕ) where
 
   abbrev pub dealt_fold : Fold → Chunking → Course → ℤ → Env → Stored ℤ
   dealt_fold by k c start env =
-      Stored.reduces w.limit (cuts_of w.plan.now) 0 (meaning.value_cut_of k c.count) by.reducer by.attribute start (λ j i. iterated_value by (c.bound i (k.bound j (inside env))))
+      Stored.reduces w.limit (cuts_of w.plan.now) (meaning.block_site 0) (meaning.value_cut_of k c.count) by.reducer by.attribute start (λ j i. iterated_value by (c.bound i (k.bound j (inside env))))
       (meaning.fold_call (ops w) w.limit (program w.typed.now) (calls_of w d) by.reducer (suc env.nested)) (meaning.combine_call (ops w) w.limit (program w.typed.now) (calls_of w d) by.reducer env.nested)
 
   abbrev pub chunked_fold : Fold → Chunking → ℤ → Env → Stored ℤ
@@ -367,7 +367,7 @@ module _ (w : Work) (d : ℕ) where
   threads_run t sizes env = par first_of_both tt (deal 0 0 sizes) (share_run t env)
 
   abbrev pub dealt_loop : ℕ → Chunking → Course → Iteration → Stmts → Env → Stored (Unit {0})
-  dealt_loop n k c it ss env = in_loop n (Stored.loops w.limit (cuts_of w.plan.now) 0 (meaning.cut_of k c.count) (λ j i. iterate it ss (c.bound i (k.bound j env))))
+  dealt_loop n k c it ss env = in_loop n (Stored.loops w.limit (cuts_of w.plan.now) (meaning.block_site 0) (meaning.cut_of k c.count) (λ j i. iterate it ss (c.bound i (k.bound j env))))
 
   abbrev pub chunked_loop : ℕ → Chunking → Iteration → Stmts → Env → Stored (Unit {0})
   chunked_loop n k it ss env = bind (course w d it env) (λ c. bind (count_checked w c.count) (λ _. dealt_loop n k c it ss env))
@@ -376,7 +376,7 @@ module _ (w : Work) (d : ℕ) where
   parallel_for n chunk it ss env = bind (opened w env) (λ _. bind (chunking w d chunk (inside env)) (λ k. chunked_loop n k it ss (inside env)))
 
   abbrev pub dealt_arms : ℕ → Arms → Env → Stored (Unit {0})
-  dealt_arms most arms env = Stored.loops w.limit (cuts_of w.plan.now) 0 (Sized (evens (meaning.arms_of arms) (min most (meaning.arms_of arms)))) (λ j i. exec_arm w d arms i env)
+  dealt_arms most arms env = Stored.loops w.limit (cuts_of w.plan.now) (meaning.block_site 0) (Sized (evens (meaning.arms_of arms) (min most (meaning.arms_of arms)))) (λ j i. exec_arm w d arms i env)
 
   abbrev pub parallel_block : Optional → Arms → Env → Stored (Unit {0})
   parallel_block count arms env = bind (opened w env) (λ _. bind (threads_of w d count (inside env)) (λ most. dealt_arms most arms (inside env)))

@@ -7,7 +7,7 @@ use Rattle.ada_typed.specs.Syntax.{Program}
 use Rattle.behaviours.specs.Doings.{through, onto, folded}
 use Rattle.behaviours.specs.Paths.{ThreadName, Leave, Entity, Region, Instance, End, Gives, Leaves, Path, Scope, find, apart_of, enter, is_inside}
 use Rattle.behaviours.specs.Events.{Reads, Trace}
-use Rattle.behaviours.specs.Joins.{Ran, Share, deal, EachRan}
+use Rattle.behaviours.specs.Joins.{Site, Ran, Share, deal, EachRan}
 use Rattle.behaviours.specs.Behaviours.{Asks, Behaviour, EachSafe, MayTrace, ThreadApart, ThreadsApart, asks_apart, asks_at_once}
 use Rattle.ada_meaning.specs.Operations.{Cut, chunk_of, Operations, operate, reduce}
 use Rattle.ada_meaning.specs.Meaning.{main}
@@ -95,18 +95,18 @@ threads_apart may also h (j ∷ js) a = (thread_apart may also h j js a.0, threa
 
 -- more is asked where a thread may have more traces, by one rule and by the other
 abbrev pub AsksMore : Asks Instance → Asks Instance → Type 1
-AsksMore asks more = (ordered : Bool) (who : ThreadName) (site c : ℕ) (js : List Share) (may also : Share → Trace Instance → Type 0) → ((j : Share) (tr : Trace Instance) → may j tr → also j tr) → more ordered who site c js also → asks ordered who site c js may
+AsksMore asks more = (ordered : Bool) (who : ThreadName) (site : Site) (c : ℕ) (s : Scope Instance) (js : List Share) (may also : Share → Trace Instance → Type 0) → ((j : Share) (tr : Trace Instance) → may j tr → also j tr) → more ordered who site c s js also → asks ordered who site c s js may
 
 pub apart_more : AsksMore asks_apart asks_apart
-apart_more ordered who site c js may also h a = threads_apart may also h js a
+apart_more ordered who site c s js may also h a = threads_apart may also h js a
 
 pub at_once_more : AsksMore asks_at_once asks_at_once
-at_once_more true who site c js may also h a = a
-at_once_more false who site c js may also h a = threads_apart may also h js a
+at_once_more true who site c s js may also h a = a
+at_once_more false who site c s js may also h a = threads_apart may also h js a
 
 pub fewer_at_once : AsksMore asks_at_once asks_apart
-fewer_at_once true who site c js may also h a = tt
-fewer_at_once false who site c js may also h a = threads_apart may also h js a
+fewer_at_once true who site c s js may also h a = tt
+fewer_at_once false who site c s js may also h a = threads_apart may also h js a
 
 module _ (admits also : Scalar → ℤ → Type 0) (wider : (cell : Scalar) (v : ℤ) → admits cell v → also cell v) (asks more : Asks Instance) (asked : AsksMore asks more) (limit : ℕ) (cuts : ℕ → ℕ → List ℕ) (one : Bool) where
   abbrev narrow : Operations {1}
@@ -122,12 +122,12 @@ module _ (admits also : Scalar → ℤ → Type 0) (wider : (cell : Scalar) (v :
       go s p tr y p' e (inl (rest, eq, run)) = inl (rest, eq, h.runs _ _ rest y p' e run)
       go s p tr y p' e (inr stopped) = inr stopped
 
-  par_among : {A : Type 0} (site : ℕ) (js : List Share) (f g : Share → Behaviour Instance A) → ((j : Share) → Among (f j) (g j))
+  par_among : {A : Type 0} (site : Site) (js : List Share) (f g : Share → Behaviour Instance A) → ((j : Share) → Among (f j) (g j))
       → Among (Behaviours.par asks one site js f) (Behaviours.par more one site js g)
   par_among {A} site js f g h = record {
     runs = go;
     safe = λ s p a. (
-      asked (one || is_inside p) p.name site p.constructs js (λ j tr. MayTrace (f j) s p tr) (λ j tr. MayTrace (g j) s p tr)
+      asked (one || is_inside p) p.name site p.constructs s js (λ j tr. MayTrace (f j) s p tr) (λ j tr. MayTrace (g j) s p tr)
           (λ j tr m. record { early = m.early; path = m.path; end = m.end; run = (h j).runs s p tr m.early m.path m.end m.run }) a.0,
       each_safe f g h s p js a.1,
     );
@@ -138,7 +138,7 @@ module _ (admits also : Scalar → ℤ → Type 0) (wider : (cell : Scalar) (v :
       go s p tr y p' e (inl (rs, each, form, ey, ep)) = inl (rs, each_ran f g h s p js rs each, form, ey, ep)
       go s p tr y p' e (inr u) = inr u
 
-  loops_among : (site : ℕ) (cut : Cut) (f g : ℕ → ℕ → Behaviour Instance (Unit {0})) → ((j i : ℕ) → Among (f j i) (g j i)) → Among (narrow.loops site cut f) (wide.loops site cut g)
+  loops_among : (site : Site) (cut : Cut) (f g : ℕ → ℕ → Behaviour Instance (Unit {0})) → ((j i : ℕ) → Among (f j i) (g j i)) → Among (narrow.loops site cut f) (wide.loops site cut g)
   loops_among site cut f g h =
       let js = deal 0 0 (Runs.sizes_of Instance this also more limit cuts one cut) in
       let thread = λ (k : Share). within_among k.number (through (Behaviours.doings Instance) k.first k.size tt (λ i _. f (chunk_of cut k.number) i)) (through (Behaviours.doings Instance) k.first k.size tt (λ i _. g (chunk_of cut k.number) i))
@@ -150,7 +150,7 @@ module _ (admits also : Scalar → ℤ → Type 0) (wider : (cell : Scalar) (v :
   combined_among v [] f g h = itself (Behaviours.ret v)
   combined_among v (a ∷ more) f g h = onto_among a more f g h
 
-  reduces_among : (site : ℕ) (cut : Cut) (by : Reducer) (at : ℕ) (v : ℤ) (f g : ℕ → ℕ → Behaviour Instance (Option ℤ)) (c c' d d' : ℤ → ℤ → Behaviour Instance ℤ) → ((j i : ℕ) → Among (f j i) (g j i)) → ((x y : ℤ) → Among (c x y) (d x y)) → ((x y : ℤ) → Among (c' x y) (d' x y))
+  reduces_among : (site : Site) (cut : Cut) (by : Reducer) (at : ℕ) (v : ℤ) (f g : ℕ → ℕ → Behaviour Instance (Option ℤ)) (c c' d d' : ℤ → ℤ → Behaviour Instance ℤ) → ((j i : ℕ) → Among (f j i) (g j i)) → ((x y : ℤ) → Among (c x y) (d x y)) → ((x y : ℤ) → Among (c' x y) (d' x y))
       → Among (narrow.reduces site cut by at v f c c') (wide.reduces site cut by at v g d d')
   reduces_among site cut by at v f g c c' d d' h r u =
       let js = deal 0 0 (Runs.sizes_of Instance this also more limit cuts one cut) in

@@ -3,7 +3,7 @@ use Rattle.std.proofs.Common.{◌≡◌, ℕ, suc, ◌+◌, ◌-◌, ◌<◌, �
 use Rattle.std.specs.Prelude.{Result, Ok, Err}
 use Rattle.behaviours.specs.Doings.{through}
 use Rattle.behaviours.specs.Paths.{Leave, Entity, Region}
-use Rattle.ada_meaning.specs.Stored.{State, Stored, After, at, Cause, Left, OutOfTurns, MemoryFault, Stops, Stop, Goes, Fails, Computes, Continues, next, next_halts, handled, handled_halts, ret, bind, leaves, spent, handles, begun, ended, has_room, NoRoom, elaborates, apart, doings}
+use Rattle.ada_meaning.specs.Stored.{State, Stored, After, at, Cause, Left, OutOfTurns, MemoryFault, Stops, Stop, Goes, Fails, Computes, Continues, next, next_halts, handled, handled_halts, ret, bind, leaves, spent, handles, begun, ended, has_room, NoRoom, CutOff, Misnoted, elaborates, apart, doings}
 
 pub ret_computes : {A : Type 0} (a : A) (s : State) → Computes (ret a) s (Ok a) s
 unfolding ret
@@ -91,6 +91,8 @@ module _ {A : Type 0} (m : Stored A) (takes : Leave → Bool) (h : Leave → Sto
   not_handled_computes s t (Err (Goes (Left x))) e k = handled_of s (at t (Err (Left x))) e ∙ ap (λ b. cond b ((h x).does t) (at t (Err (Left x)))) k
   not_handled_computes s t (Err (Goes OutOfTurns)) e k = handled_of s (at t (Err OutOfTurns)) e
   not_handled_computes s t (Err (Goes NoRoom)) e k = handled_of s (at t (Err NoRoom)) e
+  not_handled_computes s t (Err (Goes CutOff)) e k = handled_of s (at t (Err CutOff)) e
+  not_handled_computes s t (Err (Goes Misnoted)) e k = handled_of s (at t (Err Misnoted)) e
   not_handled_computes s t (Err (Fails f)) e k = inr (inl e)
 
 -- parts between two changes of the state, of which the second comes however they end

@@ -9,7 +9,7 @@ use Rattle.ada_meaning.specs.declared.slots.Slot.{Slot}
 use Rattle.ada_meaning.specs.Stored.{State, Kept, Stacked, slot_at, key, cell_at, begun, ended, has_room}
 use Rattle.ada_meaning.proofs.Ties.{Future, goes_one, fresh, now, put_all_other}
 use Rattle.ada_meaning.proofs.Cells.{slot_bound, slot_other, entity_same, key_other, get_right, get_within, put_all_in, put_all_out}
-use Rattle.ada_meaning.proofs.Lays.{Tie, place, Tied, matches_grow, matches_also, Has, Seen, Visible, Same, seen_grows, Below, below_from, cell_cut, cell_more}
+use Rattle.ada_meaning.proofs.Lays.{Mode, Tie, place, Tied, matches_grow, matches_also, Has, Seen, Visible, Same, seen_grows, Below, below_from, cell_cut, cell_more}
 
 put_all_held : (m : Memory) (x : Instance) (i : ℕ) (vs : List ℤ) → (put_all m x i vs).held ≡ m.held
 put_all_held m x i [] = refl
@@ -19,7 +19,7 @@ put_all_input : (m : Memory) (x : Instance) (i : ℕ) (vs : List ℤ) → (put_a
 put_all_input m x i [] = refl
 put_all_input m x i (v ∷ vs) = put_all_input (put m x i v) x (suc i) vs
 
-module _ (input : List ℕ) (b : Bool) (ls gs : List Tie) (s : State) (p : Path Instance) (m : Memory) (h : Has input b ls gs s p m) (x : Entity) (vs : List ℤ) where
+module _ (input : List ℕ) (b : Mode) (ls gs : List Tie) (s : State) (p : Path Instance) (m : Memory) (h : Has input b ls gs s p m) (x : Entity) (vs : List ℤ) where
   abbrev pub stacked : Tie
   stacked = record { instance = here x p; kept = false; base = length s.cells; cells = length vs }
 
@@ -35,7 +35,7 @@ module _ (input : List ℕ) (b : Bool) (ls gs : List Tie) (s : State) (p : Path 
   other_cells : (d : Tie) (i : ℕ) → Tied ls gs d → memory.cells d.instance i ≡ m.cells d.instance i
   other_cells d i t = put_all_other vs m (here x p) d.instance 0 i (not_tied d t)
 
-  later_cells : b ≡ true → (l : Instance) (i : ℕ) → l.thread ≡ p.name → suc p.elaborations ≤ l.number → memory.cells l i ≡ pos 0
+  later_cells : b.outermost ≡ true → (l : Instance) (i : ℕ) → l.thread ≡ p.name → suc p.elaborations ≤ l.number → memory.cells l i ≡ pos 0
   later_cells e l i n le = put_all_other vs m (here x p) l 0 i (λ f. let k = ap (λ (z : Instance). z.number) f in omega arith) ∙ h.new e l i n (omega arith)
 
   -- what is one of these, or is tied already
@@ -101,6 +101,7 @@ module _ (input : List ℕ) (b : Bool) (ls gs : List Tie) (s : State) (p : Path 
     new = later_cells;
     outer = h.outer;
     inside = h.inside;
+    ordered = h.ordered;
     taken = h.taken;
     rest = h.rest;
     held = h.held ∙ sym (put_all_held m (here x p) 0 vs);
@@ -109,7 +110,7 @@ module _ (input : List ℕ) (b : Bool) (ls gs : List Tie) (s : State) (p : Path 
   }
 
   -- what is visible everywhere is elaborated by the outermost path
-  pub has_everywhere : b ≡ true → Has input b ls (kept ∷ gs) (begun Everywhere x vs s) (one_elaboration Everywhere (here x p) p) memory
+  pub has_everywhere : b.outermost ≡ true → Has input b ls (kept ∷ gs) (begun Everywhere x vs s) (one_elaboration Everywhere (here x p) p) memory
   has_everywhere outermost = record {
     one = new_one Everywhere kept ls (kept ∷ gs) kept_tied refl refl kept_unused kept_filled;
     apart = new_apart Everywhere kept ls (kept ∷ gs) kept_tied refl refl kept_unused kept_filled;
@@ -122,6 +123,7 @@ module _ (input : List ℕ) (b : Bool) (ls gs : List Tie) (s : State) (p : Path 
     new = later_cells;
     outer = h.outer;
     inside = h.inside;
+    ordered = h.ordered;
     taken = h.taken;
     rest = h.rest;
     held = h.held ∙ sym (put_all_held m (here x p) 0 vs);
@@ -150,6 +152,7 @@ module _ (input : List ℕ) (b : Bool) (ls gs : List Tie) (s : State) (p : Path 
       new = k.new;
       outer = k.outer;
       inside = k.inside;
+      ordered = k.ordered;
       taken = k.taken;
       rest = k.rest;
       held = k.held;
@@ -168,6 +171,7 @@ module _ (input : List ℕ) (b : Bool) (ls gs : List Tie) (s : State) (p : Path 
     new = k.new;
     outer = k.outer;
     inside = k.inside;
+    ordered = k.ordered;
     taken = k.taken;
     rest = k.rest;
     held = k.held;

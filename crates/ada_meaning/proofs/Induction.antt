@@ -19,6 +19,7 @@ use Rattle.ada_base.specs.Cuts.{evens}
 use Rattle.ada_base.specs.Image.{padded}
 use Rattle.ada_base.specs.Input.{Held}
 use Rattle.behaviours.specs.Doings.{through, folded}
+use Rattle.behaviours.specs.Joins.{Site}
 use Rattle.behaviours.specs.Paths.{Leave, Exits, Returns, Raises, Entity, VariableOf, ConstantOf, Region, Everywhere, Here}
 use Rattle.ada_meaning.specs.Values.{result, truth, bit, is_in, between, to_nat, count, base_of, unary, is_zero, divides, overflows, value_or_zero, defaults, laid, zeros, image_of, handles_reason, is_chosen}
 use Rattle.ada_meaning.specs.Operations.{CheckKind, RangeCheck, IndexCheck, OverflowCheck, ZeroCheck, Cut, Sized, Operations, zero_checked, overflow_checked, operate, reduce}
@@ -50,8 +51,8 @@ pub record Relates {ℓ κ ν} (o : Operations {ℓ}) (q : Operations {κ}) : Ty
   pub recalls : (w : World) → Open w → R w o.recalls q.recalls
   pub keeps : (w : World) → Open w → (h : Held) → R w (o.keeps h) (q.keeps h)
   pub takes : (w : World) → Open w → R w o.takes q.takes
-  pub loops : (w : World) (site : ℕ) (cut : Cut) {f : ℕ → ℕ → o.Doing (Unit {0})} {g : ℕ → ℕ → q.Doing (Unit {0})} → ((j i : ℕ) → R (inner w) (f j i) (g j i)) → R w (o.loops site cut f) (q.loops site cut g)
-  pub reduces : (w : World) (site : ℕ) (cut : Cut) (by : Reducer) (at : ℕ) (v : ℤ) {f : ℕ → ℕ → o.Doing (Option ℤ)} {g : ℕ → ℕ → q.Doing (Option ℤ)} {c c' : ℤ → ℤ → o.Doing ℤ} {d d' : ℤ → ℤ → q.Doing ℤ}
+  pub loops : (w : World) (site : Site) (cut : Cut) {f : ℕ → ℕ → o.Doing (Unit {0})} {g : ℕ → ℕ → q.Doing (Unit {0})} → ((j i : ℕ) → R (inner w) (f j i) (g j i)) → R w (o.loops site cut f) (q.loops site cut g)
+  pub reduces : (w : World) (site : Site) (cut : Cut) (by : Reducer) (at : ℕ) (v : ℤ) {f : ℕ → ℕ → o.Doing (Option ℤ)} {g : ℕ → ℕ → q.Doing (Option ℤ)} {c c' : ℤ → ℤ → o.Doing ℤ} {d d' : ℤ → ℤ → q.Doing ℤ}
       → ((j i : ℕ) → R (inner w) (f j i) (g j i)) → ((a b : ℤ) → R (inner w) (c a b) (d a b)) → ((a b : ℤ) → R w (c' a b) (d' a b)) → R w (o.reduces site cut by at v f c c') (q.reduces site cut by at v g d d')
 
 module _ {ℓ κ ν} {o : Operations {ℓ}} {q : Operations {κ}} (rel : Relates {ℓ, κ, ν} o q) where
@@ -230,7 +231,7 @@ module _ {ℓ κ ν} {o : Operations {ℓ}} {q : Operations {κ}} (rel : Relates
             rel.bind h.world (eval initial env h k.2) (λ start. rel.bind h.world (opens h.world env) (λ _.
             rel.bind h.world (chunking chunk (inside env) (quiet h) k.3) (λ c. rel.bind h.world (course iteration (inside env) (quiet h) k.4) (λ d.
             rel.bind h.world (unless h.world (nat_le d.count most_iterations) reason.StorageError) (λ _.
-            rel.reduces h.world site (value_cut_of c d.count) by attribute start
+            rel.reduces h.world (Meaning.site_at site chunk iteration (value_cut_of c d.count) c d (inside env)) (value_cut_of c d.count) by attribute start
             (λ j i. iterates_value (inner h.world) (filtered iteration (d.bound i (c.bound j (inside env))) (threaded h) k.4) (eval value (d.bound i (c.bound j (inside env))) (threaded h) k.5))
             (fold_call (threaded h) by (suc env.nested) k.1) (combine_call h by env.nested k.0))))))
 
@@ -331,11 +332,11 @@ module _ {ℓ κ ν} {o : Operations {ℓ}} {q : Operations {κ}} (rel : Relates
             (throughout h.world 0 c.count tt (λ i _. iterates h.world (filtered iteration (c.bound i env) h k.0) (exec_all stmts (c.bound i env) h k.1))) (λ _. rel.ret h.world tt))
         exec (ParallelFor number site chunk iteration stmts) env h k =
             rel.bind h.world (opens h.world env) (λ _. rel.bind h.world (chunking chunk (inside env) (quiet h) k.0) (λ c. rel.bind h.world (course iteration (inside env) (quiet h) k.1) (λ d.
-            rel.bind h.world (unless h.world (nat_le d.count most_iterations) reason.StorageError) (λ _. rel.handles h.world (exits number) (rel.loops h.world site (cut_of c d.count) (λ j i.
+            rel.bind h.world (unless h.world (nat_le d.count most_iterations) reason.StorageError) (λ _. rel.handles h.world (exits number) (rel.loops h.world (Meaning.site_at site chunk iteration (cut_of c d.count) c d (inside env)) (cut_of c d.count) (λ j i.
             iterates (inner h.world) (filtered iteration (d.bound i (c.bound j (inside env))) (threaded h) k.1) (exec_all stmts (d.bound i (c.bound j (inside env))) (threaded h) k.2))) (λ _. rel.ret h.world tt)))))
         exec (Parallel site number arms) env h k =
             rel.bind h.world (opens h.world env) (λ _. rel.bind h.world (threads number (inside env) (quiet h) k.0) (λ n.
-            rel.loops h.world site (Sized (evens (arms_of arms) (min n (arms_of arms)))) (λ j i. exec_arm arms i (inside env) (threaded h) k.1)))
+            rel.loops h.world (Meaning.block_site site) (Sized (evens (arms_of arms) (min n (arms_of arms)))) (λ j i. exec_arm arms i (inside env) (threaded h) k.1)))
         exec (Block decls stmts handlers) env h k = declared decls Here env h (here_only h.world) k.0 (guards h.world handlers (exec_all stmts env h k.1) (λ r. exec_handler handlers r env h k.2))
         exec (Put at callee pieces line) env h k = rel.bind h.world (written pieces env [] h k.0) (λ bytes. rel.puts h.world (h.fine k.1) (cond line (bytes ++ (10 ∷ [])) bytes))
         exec (Get at callee first r selections scalar) env h k =

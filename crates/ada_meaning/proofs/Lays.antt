@@ -9,7 +9,7 @@ use Rattle.ada_meaning.specs.Programs.{input_of, values, with_final, finals}
 use Rattle.ada_meaning.specs.Stored
 use Rattle.ada_meaning.specs.declared.slots.Slot.{Slot}
 use Rattle.ada_meaning.specs.declared.slots.Variable.{Variable}
-use Rattle.ada_meaning.specs.Stored.{State, Place, Kept, Stacked, slot_at, key, place_of, within, cell_at, put_at, begun, ended, filled, finals_of}
+use Rattle.ada_meaning.specs.Stored.{State, Schedule, InOrder, Place, Kept, Stacked, slot_at, key, place_of, within, cell_at, put_at, begun, ended, filled, finals_of}
 use Rattle.ada_meaning.proofs.Ties.{Future, Goes}
 use Rattle.behaviours.proofs.Shuffle.{instance_same}
 use Rattle.ada_meaning.proofs.Cells.{instance_refl, get_left, get_take, get_set_same, get_set_other, put_same, put_elsewhere, filled_values, part_values}
@@ -80,18 +80,27 @@ matches_also gs (y ∷ xs) ds x a n t m = go (λ es. matches_also gs xs es x a n
     go f (VariableOf k) (d, more, e, o, u, v) = (d, Stored.declares x.object a n more, ap (Stored.declares x.object a n) e ∙ declares_after x.object a n d more, o, u, f more v)
     go f (ConstantOf k) v = f ds v
 
+-- where a part is done: where blocking is allowed, by the outermost path; where constructs are taken in order
+pub record Mode : Type 0 where
+  pub outermost : Bool
+  pub ordered : Bool
+
+abbrev pub threaded : Mode
+threaded = record { outermost = false; ordered = true }
+
 module _ (input : List ℕ) where
-  -- what the state has of a path and a memory, but for turns. Where blocking is allowed the path is the outermost
-  pub record Has (b : Bool) (ls gs : List Tie) (s : State) (p : Path Instance) (m : Memory) : Type 0 where
+  -- what the state has of a path and a memory, but for turns
+  pub record Has (b : Mode) (ls gs : List Tie) (s : State) (p : Path Instance) (m : Memory) : Type 0 where
     pub one : (c d : Tie) → Tied ls gs c → Tied ls gs d → c.instance ≡ d.instance → c ≡ d
     pub apart : (c d : Tie) (i j : ℕ) → Tied ls gs c → Tied ls gs d → i < c.cells → j < d.cells → place c i ≡ place d j → c.instance ≡ d.instance
     pub right : (c : Tie) (i : ℕ) → Tied ls gs c → i < c.cells → cell_at s (place c i) ≡ Some (m.cells c.instance i)
     pub zeros : (c : Tie) (i : ℕ) → In c gs → c.cells ≤ i → m.cells c.instance i ≡ pos 0
     pub kept : (c : Tie) → In c gs → c.kept ≡ true
     pub past : (c : Tie) → Tied ls gs c → Future p c.instance → ⊥
-    pub new : b ≡ true → (l : Instance) (i : ℕ) → l.thread ≡ p.name → p.elaborations ≤ l.number → m.cells l i ≡ pos 0
-    pub outer : b ≡ true → p.name ≡ []
-    pub inside : b ≡ false → p.name ≡ [] → ⊥
+    pub new : b.outermost ≡ true → (l : Instance) (i : ℕ) → l.thread ≡ p.name → p.elaborations ≤ l.number → m.cells l i ≡ pos 0
+    pub outer : b.outermost ≡ true → p.name ≡ []
+    pub inside : b.outermost ≡ false → p.name ≡ [] → ⊥
+    pub ordered : b.ordered ≡ true → s.notes ≡ InOrder
     pub taken : s.taken ≡ min p.taken (length input)
     pub rest : s.input ≡ drop p.taken input
     pub held : s.held ≡ m.held
@@ -100,7 +109,7 @@ module _ (input : List ℕ) where
 
   -- the values of the main procedure's variables
 
-  module _ (b : Bool) (ls gs : List Tie) (s : State) (p : Path Instance) (m : Memory) (h : Has b ls gs s p m) (program : Program) where
+  module _ (b : Mode) (ls gs : List Tie) (s : State) (p : Path Instance) (m : Memory) (h : Has b ls gs s p m) (program : Program) where
     values_right : (x : Instance) (d : Variable) (n : ℕ) → In (tie_of x d) gs → filled n (take d.cells (drop d.address s.kept)) ≡ values m x 0 n
     values_right x d n t =
         filled_values n (take d.cells (drop d.address s.kept)) m x 0
@@ -195,7 +204,7 @@ kept-ne-stacked a b e = absurd (cc)
 stacked-ne-kept : (a b : ℕ) → ◌≡◌ {A = Place} (Stacked a) (Kept b) → ⊥
 stacked-ne-kept a b e = absurd (cc)
 
-place_inj : (kept : Bool) (a i j : ℕ) → ◌≡◌ {A = Place} (cond kept (Kept (a + i)) (Stacked (a + i))) (cond kept (Kept (a + j)) (Stacked (a + j))) → i ≡ j
+pub place_inj : (kept : Bool) (a i j : ℕ) → ◌≡◌ {A = Place} (cond kept (Kept (a + i)) (Stacked (a + i))) (cond kept (Kept (a + j)) (Stacked (a + j))) → i ≡ j
 place_inj true a i j e = let h = kept_inj (a + i) (a + j) e in omega arith
 place_inj false a i j e = let h = stacked_inj (a + i) (a + j) e in omega arith
 
@@ -203,7 +212,7 @@ put_at_same : (s : State) (a : Place) (v w : ℤ) → cell_at s a ≡ Some w →
 put_at_same s (Kept a) v w e = get_set_same s.kept a v w e
 put_at_same s (Stacked a) v w e = get_set_same s.cells a v w e
 
-put_at_other : (s : State) (a b : Place) (v : ℤ) → (a ≡ b → ⊥) → cell_at (put_at s a v) b ≡ cell_at s b
+pub put_at_other : (s : State) (a b : Place) (v : ℤ) → (a ≡ b → ⊥) → cell_at (put_at s a v) b ≡ cell_at s b
 put_at_other s (Kept a) (Kept b) v ne = get_set_other s.kept a b v (λ e. ne (ap Kept e))
 put_at_other s (Kept a) (Stacked b) v ne = refl
 put_at_other s (Stacked a) (Kept b) v ne = refl
@@ -220,10 +229,11 @@ pub record Rest (s s' : State) : Type 0 where
   pub input : s'.input ≡ s.input
   pub output : s'.output ≡ s.output
   pub declared : s'.declared ≡ s.declared
+  pub notes : s'.notes ≡ s.notes
 
 pub put_rest : (s : State) (a : Place) (v : ℤ) → Rest s (put_at s a v)
-put_rest s (Kept a) v = record { here = refl; everywhere = refl; frame = refl; turns = refl; taken = refl; held = refl; input = refl; output = refl; declared = refl }
-put_rest s (Stacked a) v = record { here = refl; everywhere = refl; frame = refl; turns = refl; taken = refl; held = refl; input = refl; output = refl; declared = refl }
+put_rest s (Kept a) v = record { here = refl; everywhere = refl; frame = refl; turns = refl; taken = refl; held = refl; input = refl; output = refl; declared = refl; notes = refl }
+put_rest s (Stacked a) v = record { here = refl; everywhere = refl; frame = refl; turns = refl; taken = refl; held = refl; input = refl; output = refl; declared = refl; notes = refl }
 
 pub rest_same : (s s' : State) → Rest s s' → Same s s'
 rest_same s s' r = record { here = λ k. ap (λ z. slot_at z k) r.here; everywhere = λ k. ap (λ z. slot_at z k) r.everywhere; frame = r.frame; room = ap length r.here; everywhere_room = ap length r.everywhere }
@@ -252,12 +262,12 @@ cell_more Everywhere x vs s (Stacked a) w e = e
 
 -- steps
 
-module _ (input : List ℕ) (b : Bool) (ls gs : List Tie) (s : State) (p : Path Instance) (m : Memory) (h : Has input b ls gs s p m) where
+module _ (input : List ℕ) (b : Mode) (ls gs : List Tie) (s : State) (p : Path Instance) (m : Memory) (h : Has input b ls gs s p m) where
   -- nothing is written
-  pub has_moved : (s' : State) (p' : Path Instance) (m' : Memory) → s'.cells ≡ s.cells → s'.kept ≡ s.kept → s'.declared ≡ s.declared → m'.cells ≡ m.cells → m'.input ≡ m.input
+  pub has_moved : (s' : State) (p' : Path Instance) (m' : Memory) → s'.cells ≡ s.cells → s'.kept ≡ s.kept → s'.declared ≡ s.declared → s'.notes ≡ s.notes → m'.cells ≡ m.cells → m'.input ≡ m.input
       → Goes p p' → p'.name ≡ p.name → p.elaborations ≤ p'.elaborations → p'.globals ≡ p.globals
       → s'.taken ≡ min p'.taken (length input) → s'.input ≡ drop p'.taken input → s'.held ≡ m'.held → Has input b ls gs s' p' m'
-  has_moved s' p' m' cells kept declared mc mi goes name el globals taken rest held = record {
+  has_moved s' p' m' cells kept declared notes mc mi goes name el globals taken rest held = record {
     one = h.one;
     apart = h.apart;
     right = λ c i t lt. cell_same s s' (place c i) cells kept ∙ h.right c i t lt ∙ ap (λ (f : Instance → ℕ → ℤ). Some (f c.instance i)) (sym mc);
@@ -267,11 +277,32 @@ module _ (input : List ℕ) (b : Bool) (ls gs : List Tie) (s : State) (p : Path 
     new = λ e l i n le. ap (λ (f : Instance → ℕ → ℤ). f l i) mc ∙ h.new e l i (n ∙ name) (omega arith);
     outer = λ e. name ∙ h.outer e;
     inside = λ e f. h.inside e (sym name ∙ f);
+    ordered = λ e. notes ∙ h.ordered e;
     taken = taken;
     rest = rest;
     held = held;
     bytes = mi ∙ h.bytes;
     declared = subst (λ z. Matches gs z s'.declared) (sym globals) (subst (λ z. Matches gs p.globals z) (sym declared) h.declared);
+  }
+
+  -- other counts, and other notes
+  pub has_renoted : (turns : ℕ) (left : Option ℕ) (notes : Schedule) → (b.ordered ≡ true → notes ≡ InOrder) → Has input b ls gs (record s { turns = turns; left = left; notes = notes }) p m
+  has_renoted turns left notes o = record {
+    one = h.one;
+    apart = h.apart;
+    right = λ c i t lt. cell_same s (record s { turns = turns; left = left; notes = notes }) (place c i) refl refl ∙ h.right c i t lt;
+    zeros = h.zeros;
+    kept = h.kept;
+    past = h.past;
+    new = h.new;
+    outer = h.outer;
+    inside = h.inside;
+    ordered = o;
+    taken = h.taken;
+    rest = h.rest;
+    held = h.held;
+    bytes = h.bytes;
+    declared = h.declared;
   }
 
   -- a cell that is tied gets a value
@@ -307,6 +338,7 @@ module _ (input : List ℕ) (b : Bool) (ls gs : List Tie) (s : State) (p : Path 
       new = λ e l j n le. put_elsewhere m c.instance l i j v (λ f g. h.past c t (subst (λ z. Future p z) (sym g) (inl (n, le)))) ∙ h.new e l j n le;
       outer = h.outer;
       inside = h.inside;
+      ordered = λ e. (put_rest s (place c i) v).notes ∙ h.ordered e;
       taken = (put_rest s (place c i) v).taken ∙ h.taken;
       rest = (put_rest s (place c i) v).input ∙ h.rest;
       held = (put_rest s (place c i) v).held ∙ h.held;

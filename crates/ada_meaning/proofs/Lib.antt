@@ -1,13 +1,17 @@
 pub mod Agrees
 pub mod Among
+pub mod Between
 pub mod BlocksComputed
 pub mod CallsComputed
 pub mod Cells
+pub mod Chained
 pub mod Computed
 pub mod Computing
 pub mod Elaborated
 pub mod Folds
 pub mod Follows
+pub mod Framed
+pub mod Fronts
 pub mod Induction
 pub mod Law
 pub mod Lays
@@ -15,6 +19,7 @@ pub mod Listed
 pub mod LooksComputed
 pub mod LoopsComputed
 pub mod Operators
+pub mod Plain
 pub mod PlanLaw
 pub mod Prefixes
 pub mod Quiet
@@ -28,8 +33,11 @@ pub mod Stops
 pub mod StoredComputed
 pub mod StoredFault
 pub mod StoredProof
+pub mod TeamsApart
 pub mod Threads
 pub mod Ties
 pub mod Unblocked
+pub mod Views
+pub mod Visits
 pub mod Wholes
 pub mod Woven

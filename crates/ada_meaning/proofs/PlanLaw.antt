@@ -8,7 +8,7 @@ use Rattle.ada_typed.specs.Syntax.{Program}
 use Rattle.behaviours.specs.Doings.{through, folded}
 use Rattle.behaviours.specs.Paths.{Instance, apart_of}
 use Rattle.behaviours.specs.Events.{Looks}
-use Rattle.behaviours.specs.Joins.{Share, deal}
+use Rattle.behaviours.specs.Joins.{Site, Share, deal}
 use Rattle.behaviours.specs.Behaviours.{Behaviour, asks_at_once}
 use Rattle.ada_meaning.specs.Values.{result, divides, overflows, is_zero, value_or_zero}
 use Rattle.ada_meaning.specs.Operations.{ZeroCheck, OverflowCheck, Cut, chunk_of, Operations, reduce, zero_checked, overflow_checked, operate}
@@ -87,7 +87,7 @@ module _ (limit : ℕ) (cuts : ℕ → ℕ → List ℕ) (one : Bool) where
   loop_thread : (f : ℕ → ℕ → Behaviour Instance (Unit {0})) (g : ℕ → ℕ → Planned (Unit {0})) → ((j i : ℕ) → Silent (f j i) (g j i)) → (c : Share) → Silent (Runs.loop_thread f c) (Planned.loop_thread g c)
   loop_thread f g r c = enters c.number (through runs.doings c.first c.size tt (λ i _. f c.number i)) (through plans.doings c.first c.size tt (λ i _. g c.number i)) (goes_through c.first c.size tt (λ i _. f c.number i) (λ i _. g c.number i) (λ i _. r c.number i))
 
-  dealt_loops : (site : ℕ) (cut : Cut) (f : ℕ → ℕ → Behaviour Instance (Unit {0})) (g : ℕ → ℕ → Planned (Unit {0})) → ((j i : ℕ) → Silent (f j i) (g j i)) → Silent (Behaviours.◌>>=◌ (Behaviours.par asks_at_once one site (deal 0 0 (Runs.sizes_of Instance this anything asks_at_once limit cuts one cut)) (Runs.loop_thread f)) (λ _. Behaviours.ret {A = Unit {0}} tt)) (Planned.◌>>=◌ (Planned.par (deal 0 0 (Runs.sizes_of Instance this anything asks_at_once limit cuts one cut)) (Planned.loop_thread g)) (λ _. Planned.ret {A = Unit {0}} tt))
+  dealt_loops : (site : Site) (cut : Cut) (f : ℕ → ℕ → Behaviour Instance (Unit {0})) (g : ℕ → ℕ → Planned (Unit {0})) → ((j i : ℕ) → Silent (f j i) (g j i)) → Silent (Behaviours.◌>>=◌ (Behaviours.par asks_at_once one site (deal 0 0 (Runs.sizes_of Instance this anything asks_at_once limit cuts one cut)) (Runs.loop_thread f)) (λ _. Behaviours.ret {A = Unit {0}} tt)) (Planned.◌>>=◌ (Planned.par (deal 0 0 (Runs.sizes_of Instance this anything asks_at_once limit cuts one cut)) (Planned.loop_thread g)) (λ _. Planned.ret {A = Unit {0}} tt))
   dealt_loops site cut f g r =
       let js = deal 0 0 (Runs.sizes_of Instance this anything asks_at_once limit cuts one cut) in
       both (Behaviours.par asks_at_once one site js (Runs.loop_thread f)) (Planned.par js (Planned.loop_thread g)) (λ _. runs.ret tt) (λ _. plans.ret tt)
@@ -96,7 +96,7 @@ module _ (limit : ℕ) (cuts : ℕ → ℕ → List ℕ) (one : Bool) where
         quiet = par_quiet limit cuts one site js (Runs.loop_thread f) (λ c. (loop_thread f g r c).quiet);
       }) (λ _. gives tt)
 
-  pub loops : (site : ℕ) (cut : Cut) (f : ℕ → ℕ → Behaviour Instance (Unit {0})) (g : ℕ → ℕ → Planned (Unit {0})) → ((j i : ℕ) → Silent (f j i) (g j i)) → Silent (runs.loops site cut f) (plans.loops site cut g)
+  pub loops : (site : Site) (cut : Cut) (f : ℕ → ℕ → Behaviour Instance (Unit {0})) (g : ℕ → ℕ → Planned (Unit {0})) → ((j i : ℕ) → Silent (f j i) (g j i)) → Silent (runs.loops site cut f) (plans.loops site cut g)
   loops site cut f g r = dealt_loops site cut (λ j. f (chunk_of cut j)) (λ j. g (chunk_of cut j)) (λ j. r (chunk_of cut j))
 
   fold_thread : (by : Reducer) (at : ℕ) (v : ℤ) (f : ℕ → ℕ → Behaviour Instance (Option ℤ)) (g : ℕ → ℕ → Planned (Option ℤ)) (c : ℤ → ℤ → Behaviour Instance ℤ) (d : ℤ → ℤ → Planned ℤ)
@@ -109,7 +109,7 @@ module _ (limit : ℕ) (cuts : ℕ → ℕ → List ℕ) (one : Bool) where
       (r k.number i) (λ o. folds (reduce runs.doings runs.checks by at c) (reduce plans.doings plans.checks by at d) (reduces_step by at c d t) so_far o)))
 
   pub accumulators : (by : Reducer) (at : ℕ) (v : ℤ) (f : ℕ → ℕ → Behaviour Instance (Option ℤ)) (g : ℕ → ℕ → Planned (Option ℤ)) (c : ℤ → ℤ → Behaviour Instance ℤ) (d : ℤ → ℤ → Planned ℤ)
-      → ((j i : ℕ) → Silent (f j i) (g j i)) → ((a b : ℤ) → Silent (c a b) (d a b)) → (site : ℕ) (js : List Share)
+      → ((j i : ℕ) → Silent (f j i) (g j i)) → ((a b : ℤ) → Silent (c a b) (d a b)) → (site : Site) (js : List Share)
       → Silent (Behaviours.par asks_at_once one site js (Runs.fold_thread by at v f c)) (Planned.par js (Planned.fold_thread by at v g d))
   accumulators by at v f g c d r t site js = record {
     agrees = par_agrees limit cuts one site js (Runs.fold_thread by at v f c) (Planned.fold_thread by at v g d) (λ k. (fold_thread by at v f g c d r t k).agrees) (λ k. (fold_thread by at v f g c d r t k).quiet);
@@ -126,7 +126,7 @@ module _ (limit : ℕ) (cuts : ℕ → ℕ → List ℕ) (one : Bool) where
   combines w f g r v [] = quietly w (runs.ret v) (plans.ret v) (ret_agrees one v) (ret_quiet v)
   combines w f g r v (a ∷ more) = record { agrees = onto_agrees one a more f g (λ b c. (r b c).agrees); quiet = λ e. onto_quiet a more f (λ b c. (r b c).quiet e) }
 
-  pub reduces : (w : Bool) (site : ℕ) (cut : Cut) (by : Reducer) (at : ℕ) (v : ℤ) (f : ℕ → ℕ → Behaviour Instance (Option ℤ)) (g : ℕ → ℕ → Planned (Option ℤ)) (c c' : ℤ → ℤ → Behaviour Instance ℤ) (d d' : ℤ → ℤ → Planned ℤ)
+  pub reduces : (w : Bool) (site : Site) (cut : Cut) (by : Reducer) (at : ℕ) (v : ℤ) (f : ℕ → ℕ → Behaviour Instance (Option ℤ)) (g : ℕ → ℕ → Planned (Option ℤ)) (c c' : ℤ → ℤ → Behaviour Instance ℤ) (d d' : ℤ → ℤ → Planned ℤ)
       → ((j i : ℕ) → Silent (f j i) (g j i)) → ((a b : ℤ) → Silent (c a b) (d a b)) → ((a b : ℤ) → AgreesIn w (c' a b) (d' a b)) → AgreesIn w (runs.reduces site cut by at v f c c') (plans.reduces site cut by at v g d d')
   reduces w site cut by at v f g c c' d d' r t u =
       let js = deal 0 0 (Runs.sizes_of Instance this anything asks_at_once limit cuts one cut) in

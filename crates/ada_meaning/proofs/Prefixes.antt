@@ -10,7 +10,7 @@ use Rattle.behaviours.specs.Doings.{onto}
 use Rattle.behaviours.specs.Paths.{Leave, Entity, Region, Instance, End, Gives, Leaves, Spent, Stopped, Path, Scope, declares, apart_of, one_taken, one_elaboration}
 use Rattle.behaviours.specs.Events.{Reads, Writes, Recalls, Keeps, Takes, Puts, Looks, Trace, output_of, Has, IsInputOutput}
 use Rattle.behaviours.specs.Memory.{Memory, put_all, Fits}
-use Rattle.behaviours.specs.Joins.{deal}
+use Rattle.behaviours.specs.Joins.{Site, deal}
 use Rattle.behaviours.specs.Behaviours
 use Rattle.behaviours.specs.Behaviours.{Behaviour, Did, asks_at_once}
 use Rattle.ada_meaning.specs.Operations.{Cut, chunk_of, Operations, reduce, operate}
@@ -278,7 +278,7 @@ module _ (limit : ℕ) (cuts : ℕ → ℕ → List ℕ) (one : Bool) where
   combined_begins f g agrees begins v [] = quiet_begins one (runs.ret v) (plans.ret v) (ret_quiet v)
   combined_begins f g agrees begins v (a ∷ more) = onto_begins one a more f g agrees begins
 
-  reduces_begin : (w : Bool) (site : ℕ) (cut : Cut) (by : Reducer) (at : ℕ) (v : ℤ) (f : ℕ → ℕ → Behaviour Instance (Option ℤ)) (g : ℕ → ℕ → Planned (Option ℤ)) (c c' : ℤ → ℤ → Behaviour Instance ℤ) (d d' : ℤ → ℤ → Planned ℤ)
+  reduces_begin : (w : Bool) (site : Site) (cut : Cut) (by : Reducer) (at : ℕ) (v : ℤ) (f : ℕ → ℕ → Behaviour Instance (Option ℤ)) (g : ℕ → ℕ → Planned (Option ℤ)) (c c' : ℤ → ℤ → Behaviour Instance ℤ) (d d' : ℤ → ℤ → Planned ℤ)
       → ((j i : ℕ) → BeginsIn false (f j i) (g j i)) → ((a b : ℤ) → BeginsIn false (c a b) (d a b)) → ((a b : ℤ) → BeginsIn w (c' a b) (d' a b)) → Begins one (runs.reduces site cut by at v f c c') (plans.reduces site cut by at v g d d')
   reduces_begin w site cut by at v f g c c' d d' r t u =
       let js = deal 0 0 (Runs.sizes_of Instance this anything asks_at_once limit cuts one cut) in

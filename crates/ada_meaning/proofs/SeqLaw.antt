@@ -8,7 +8,7 @@ use Rattle.ada_typed.specs.Syntax.{Program}
 use Rattle.behaviours.specs.Doings.{folded}
 use Rattle.behaviours.specs.Paths.{Instance, End, Gives, Leaves, Spent, Stopped, Path, Scope, enter, joined}
 use Rattle.behaviours.specs.Memory.{Memory}
-use Rattle.behaviours.specs.Joins.{Share, deal}
+use Rattle.behaviours.specs.Joins.{Site, Share, deal}
 use Rattle.ada_meaning.specs.Values.{result, divides, overflows, is_zero, value_or_zero}
 use Rattle.ada_meaning.specs.Operations.{ZeroCheck, OverflowCheck, Cut, chunk_of, Operations, operate, reduce, zero_checked, overflow_checked}
 use Rattle.ada_meaning.specs.Meaning.{main}
@@ -283,12 +283,12 @@ module _ (limit : ℕ) (cuts : ℕ → ℕ → List ℕ) (whole : (most n : ℕ)
   abbrev seqs : Operations {0}
   seqs = Sequential.operations limit
 
-  loops_follow : (b : Bool) (site : ℕ) (cut : Cut) (f g : ℕ → ℕ → Planned (Unit {0})) → ((j i : ℕ) → Follow false (f j i) (g j i)) → Follow b (plans.loops site cut f) (seqs.loops site cut g)
+  loops_follow : (b : Bool) (site : Site) (cut : Cut) (f g : ℕ → ℕ → Planned (Unit {0})) → ((j i : ℕ) → Follow false (f j i) (g j i)) → Follow b (plans.loops site cut f) (seqs.loops site cut g)
   loops_follow b site cut f g r =
       subst (λ x. Follow b (plans.loops site cut f) (construct (Planned.within 0 x))) (sym (cut_turns limit cuts whole cut tt (λ j i _. g j i)))
       (λ w s t z. loop_leads b (deal 0 0 (Planned.sizes_of limit cuts cut)) (λ j. f (chunk_of cut j)) (λ j. g (chunk_of cut j)) (λ j. r (chunk_of cut j)) w s t z)
 
-  reduces_follow : (b : Bool) (site : ℕ) (cut : Cut) (by : Reducer) (at : ℕ) (v : ℤ) (f g : ℕ → ℕ → Planned (Option ℤ)) (c c' d d' : ℤ → ℤ → Planned ℤ) → ((j i : ℕ) → Follow false (f j i) (g j i)) → ((x y : ℤ) → Follow false (c x y) (d x y))
+  reduces_follow : (b : Bool) (site : Site) (cut : Cut) (by : Reducer) (at : ℕ) (v : ℤ) (f g : ℕ → ℕ → Planned (Option ℤ)) (c c' d d' : ℤ → ℤ → Planned ℤ) → ((j i : ℕ) → Follow false (f j i) (g j i)) → ((x y : ℤ) → Follow false (c x y) (d x y))
       → Follow b (plans.reduces site cut by at v f c c') (seqs.reduces site cut by at v g d d')
   reduces_follow b site cut by at v f g c c' d d' r u =
       subst (λ x. Follow b (plans.reduces site cut by at v f c c') (◌>>=◌ (construct (Planned.within 0 x)) (λ y. ◌>>=◌ (notes (record { by = by; initial = v; values = y.values })) (λ _. Planned.ret y.accumulator))))

@@ -8,7 +8,7 @@ use Rattle.ada_typed.specs.Syntax.{Program}
 use Rattle.behaviours.specs.Doings.{through, folded}
 use Rattle.behaviours.specs.Paths.{VariableOf, Instance, Path, Scope, find, apart_of}
 use Rattle.behaviours.specs.Events.{Looks}
-use Rattle.behaviours.specs.Joins.{Share, deal}
+use Rattle.behaviours.specs.Joins.{Site, Share, deal}
 use Rattle.behaviours.specs.Behaviours
 use Rattle.behaviours.specs.Behaviours.{Behaviour, MayTrace, AllSilent, asks_silent}
 use Rattle.ada_meaning.specs.Values.{result, divides, overflows, is_zero, value_or_zero}
@@ -82,13 +82,13 @@ module _ (limit : ℕ) (cuts : ℕ → ℕ → List ℕ) (one : Bool) where
   bind_keeping : {A B : Type 0} (w : Bool) (m : Behaviour Instance A) (k : A → Behaviour Instance B) → Keeping w m → ((a : A) → Keeping w (k a)) → Keeping w (Behaviours.◌>>=◌ m k)
   bind_keeping w m k r f = record { safe = Stops.bind_safe Instance this anything limit cuts m k r.safe (λ a. (f a).safe); quiet = λ e. bind_quiet m k (r.quiet e) (λ a. (f a).quiet e) }
 
-  par_keeping : {A : Type 0} (w : Bool) (site : ℕ) (js : List Share) (body : Share → Behaviour Instance A) → ((j : Share) → Safe (body j)) → ((j : Share) → Quiet (body j)) → Keeping w (Behaviours.par asks_silent one site js body)
+  par_keeping : {A : Type 0} (w : Bool) (site : Site) (js : List Share) (body : Share → Behaviour Instance A) → ((j : Share) → Safe (body j)) → ((j : Share) → Quiet (body j)) → Keeping w (Behaviours.par asks_silent one site js body)
   par_keeping w site js body h q = record {
     safe = λ s p. (all_silent body q s p js, Stops.each_safe Instance this anything limit cuts body h js s p);
     quiet = λ e. par_quiet limit cuts one site js body q;
   }
 
-  loops : (w : Bool) (site : ℕ) (cut : Cut) (f : ℕ → ℕ → Behaviour Instance (Unit {0})) → ((j i : ℕ) → Keeping false (f j i)) → Keeping w (ops.loops site cut f)
+  loops : (w : Bool) (site : Site) (cut : Cut) (f : ℕ → ℕ → Behaviour Instance (Unit {0})) → ((j i : ℕ) → Keeping false (f j i)) → Keeping w (ops.loops site cut f)
   loops w site cut f r =
       let g = λ (j : ℕ). f (chunk_of cut j) in
       let js = deal 0 0 (Runs.sizes_of Instance this anything asks_silent limit cuts one cut) in
@@ -103,7 +103,7 @@ module _ (limit : ℕ) (cuts : ℕ → ℕ → List ℕ) (one : Bool) where
   combined w v [] f r = at_once w (Behaviours.ret v) (λ s p. tt) (ret_quiet v)
   combined w v (a ∷ more) f r = record { safe = Stops.onto_safe Instance this anything limit cuts a more f (λ x y. (r x y).safe); quiet = λ e. onto_quiet a more f (λ x y. (r x y).quiet e) }
 
-  reduces : (w : Bool) (site : ℕ) (cut : Cut) (by : Reducer) (at : ℕ) (v : ℤ) (f : ℕ → ℕ → Behaviour Instance (Option ℤ)) (c c' : ℤ → ℤ → Behaviour Instance ℤ) → ((j i : ℕ) → Keeping false (f j i)) → ((a b : ℤ) → Keeping false (c a b)) → ((a b : ℤ) → Keeping w (c' a b))
+  reduces : (w : Bool) (site : Site) (cut : Cut) (by : Reducer) (at : ℕ) (v : ℤ) (f : ℕ → ℕ → Behaviour Instance (Option ℤ)) (c c' : ℤ → ℤ → Behaviour Instance ℤ) → ((j i : ℕ) → Keeping false (f j i)) → ((a b : ℤ) → Keeping false (c a b)) → ((a b : ℤ) → Keeping w (c' a b))
       → Keeping w (ops.reduces site cut by at v f c c')
   reduces w site cut by at v f c c' r t u =
       let g = λ (j : ℕ). f (chunk_of cut j) in

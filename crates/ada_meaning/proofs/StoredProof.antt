@@ -11,7 +11,7 @@ use Rattle.behaviours.specs.Doings.{through, onto, folded}
 use Rattle.behaviours.specs.Paths.{Leave, Exits, Returns, Raises, Everywhere, Instance, End, Stopped, Path, start, nothing_visible}
 use Rattle.behaviours.specs.Events.{Trace, Takes, Puts, output_of}
 use Rattle.behaviours.specs.Memory.{after, empty}
-use Rattle.behaviours.specs.Joins.{Share, deal}
+use Rattle.behaviours.specs.Joins.{Site, Share, deal}
 use Rattle.behaviours.specs.Behaviours.{Behaviour, Asks, asks_at_once}
 use Rattle.ada_meaning.specs.Values.{result, divides, overflows, is_zero, value_or_zero}
 use Rattle.ada_meaning.specs.Operations.{ZeroCheck, OverflowCheck, Cut, ByPlan, Sized, chunk_of, Operations, reduce, zero_checked, overflow_checked, operate}
@@ -22,26 +22,28 @@ use Rattle.ada_meaning.specs.Runs
 use Rattle.ada_meaning.specs.Runs.{anything}
 use Rattle.ada_meaning.specs.Programs.{this, Setting, input_of}
 use Rattle.ada_meaning.specs.Nonblocking.{KeepsRule}
+use Rattle.ada_meaning.specs.Deeds.{Deed, StopsBetween}
+use Rattle.ada_meaning.proofs.Between.{between}
 use Rattle.ada_meaning.specs.Law.{IsPermitted, BeginsRun, EndsAs, behaviour}
 use Rattle.ada_meaning.specs.Stored
 use Rattle.ada_meaning.specs.declared.slots.Slot.{Slot}
-use Rattle.ada_meaning.specs.Stored.{State, no_slot, slot_at, Stored, After, at, Cause, Left, OutOfTurns, NoRoom, NoRoom, Fault, MemoryFault, InputFault, OutputFault, Stop, Goes, Fails, Computes, stored, outset, put_out, outcome_of, handled}
-use Rattle.ada_meaning.specs.StoredLaw.{StoredLaw, SomeLaw, StoredSequentialLaw}
+use Rattle.ada_meaning.specs.Stored.{State, no_slot, slot_at, Stored, After, at, Cause, Left, OutOfTurns, NoRoom, CutOff, Misnoted, Fault, MemoryFault, InputFault, OutputFault, Stop, Goes, Fails, Computes, Schedule, InOrder, ByNotes, stored, outset, noted, noted_outset, put_out, outcome_of, handled}
+use Rattle.ada_meaning.specs.StoredLaw.{StoredLaw, NotedLaw, StoppedLaw, NotedStoppedLaw, JournalLaw, SomeLaw, StoredSequentialLaw}
 use Rattle.ada_meaning.proofs.Induction
 use Rattle.ada_meaning.proofs.Induction.{Relates}
-use Rattle.ada_meaning.proofs.Lays.{Tie, Tied, Has, Visible, finals_right}
-use Rattle.ada_meaning.proofs.Simulates.{halted_stops, end_of, Came, Halted, StopsWith, Told, Simulates, ret_simulates, leaves_simulates, spent_simulates, checks_simulates, look_simulates, turn_simulates, reads_simulates, writes_simulates, puts_simulates, recalls_simulates, keeps_simulates, takes_simulates, bind_simulates, handles_simulates, apart_simulates, elaborates_simulates}
-use Rattle.ada_meaning.proofs.Woven.{gathered_all, par_simulates}
+use Rattle.ada_meaning.proofs.Lays.{Mode, threaded, Tie, Tied, Has, Visible, finals_right}
+use Rattle.ada_meaning.proofs.Simulates.{log, bounded_look_simulates, halted_stops, end_of, Came, Halted, StopsWith, Told, Simulates, ret_simulates, leaves_simulates, spent_simulates, checks_simulates, look_simulates, turn_simulates, reads_simulates, writes_simulates, puts_simulates, recalls_simulates, keeps_simulates, takes_simulates, bind_simulates, handles_simulates, apart_simulates, elaborates_simulates}
+use Rattle.ada_meaning.proofs.Woven.{gathered_all, par_simulates, noted_simulates}
 use Rattle.ada_meaning.proofs.Law.{one_sequential_law}
 
 module _ (input : List ℕ) (asks : Asks Instance) (limit : ℕ) (cuts : ℕ → ℕ → List ℕ) (one : Bool) where
-  abbrev runs : Operations {1}
+  abbrev pub runs : Operations {1}
   runs = Runs.operations Instance this anything asks limit cuts one
 
   abbrev stores : Operations {1}
   stores = Stored.operations limit cuts
 
-  module _ (b : Bool) where
+  module _ (b : Mode) where
     abbrev Like : {A : Type 0} → Stored A → Behaviour Instance A → Type 0
     Like m g = Simulates input b m g
 
@@ -88,74 +90,152 @@ module _ (input : List ℕ) (asks : Asks Instance) (limit : ℕ) (cuts : ℕ →
 
   -- constructs
 
-  same_sizes : (cut : Cut) → Stored.sizes_of limit cuts cut ≡ Runs.sizes_of Instance this anything asks limit cuts one cut
+  pub same_sizes : (cut : Cut) → Stored.sizes_of limit cuts cut ≡ Runs.sizes_of Instance this anything asks limit cuts one cut
   same_sizes (ByPlan most n) = refl
   same_sizes (Sized sizes) = refl
 
-  dealt_loops : (b : Bool) (site : ℕ) (js : List Share) (f : ℕ → ℕ → Stored (Unit {0})) (g : ℕ → ℕ → Behaviour Instance (Unit {0})) → ((j i : ℕ) → Simulates input false (f j i) (g j i))
-      → Simulates input b (Stored.bind (Stored.par Stored.first_of_both tt js (Stored.loop_thread f)) (λ _. Stored.ret {A = Unit {0}} tt)) (Behaviours.◌>>=◌ (Behaviours.par asks one site js (Runs.loop_thread g)) (λ _. Behaviours.ret {A = Unit {0}} tt))
-  dealt_loops b site js f g r =
-      par_simulates input Stored.first_of_both b (Stored.loop_thread f) (λ c. through runs.doings c.first c.size tt (λ i _. g c.number i))
-      (λ c. goes_through false c.first c.size tt (λ i _. f c.number i) (λ i _. g c.number i) (λ i _. r c.number i))
-      asks limit cuts one site js tt (λ _. Stored.ret tt) (λ _. Behaviours.ret tt) (λ values. ret_simulates input b tt)
+  -- threads in order, or by notes
+  abbrev team : {A B : Type 0} → Bool → Site → (B → A → B) → B → List Share → (Share → Stored A) → Stored B
+  team false site f b0 js body = Stored.par f b0 js body
+  team true site f b0 js body = Stored.noted_team site f b0 js body
 
-  loops : (b : Bool) (site : ℕ) (cut : Cut) (f : ℕ → ℕ → Stored (Unit {0})) (g : ℕ → ℕ → Behaviour Instance (Unit {0})) → ((j i : ℕ) → Simulates input false (f j i) (g j i)) → Simulates input b (stores.loops site cut f) (runs.loops site cut g)
-  loops b site cut f g r =
-      subst (λ z. Simulates input b (Stored.bind (Stored.par Stored.first_of_both tt (deal 0 0 z) (Stored.loop_thread (λ j. f (chunk_of cut j)))) (λ _. Stored.ret {A = Unit {0}} tt)) (runs.loops site cut g)) (sym (same_sizes cut))
-      (dealt_loops b site (deal 0 0 (Runs.sizes_of Instance this anything asks limit cuts one cut)) (λ j. f (chunk_of cut j)) (λ j. g (chunk_of cut j)) (λ j. r (chunk_of cut j)))
+  abbrev pub Suits : Bool → Mode → Type 0
+  Suits false b = b.ordered ≡ true
+  Suits true b = (one ≡ true → b.ordered ≡ true) × (b.outermost ≡ false → b.ordered ≡ true)
 
-  all_gathered : (vs values : List ℤ) → gathered_all Stored.after_all vs values ≡ vs ++ values
+  module _ {A B C : Type 0} (b : Mode) (alone : one ≡ true → b.ordered ≡ true) (inside_ordered : b.outermost ≡ false → b.ordered ≡ true) (f : B → A → B) (body : Share → Stored A) (g : Share → Behaviour Instance A) (r : (j : Share) → Simulates input threaded (body j) (g j)) (site : Site) (js : List Share) (b0 : B)
+      (k : B → Stored C) (l : List A → Behaviour Instance C) (t : (values : List A) → Simulates input b (k (gathered_all f b0 values)) (l values)) where
+    visit_simulates : (j : Share) → Simulates input threaded (Stored.visited j (body j)) (g j)
+    visit_simulates j = record { stops = (r j).stops; does = (r j).does; halts = (r j).halts }
+
+    abbrev team_behaviour : Behaviour Instance C
+    team_behaviour = Behaviours.◌>>=◌ (Behaviours.par asks one site js (λ j. Behaviours.within j.number (g j))) l
+
+    par_of : Simulates input b (Stored.bind (Stored.noted_par f b0 js (λ j. Stored.visited j (body j))) k) team_behaviour
+    par_of = noted_simulates input f b (λ j. Stored.visited j (body j)) g visit_simulates asks limit cuts one site js b0 k l t alone inside_ordered
+
+    noted_team_simulates : Simulates input b (Stored.bind (Stored.noted_team site f b0 js body) k) team_behaviour
+    unfolding Stored.bind Stored.noted_team
+    noted_team_simulates = record { stops = par_of.stops; does = par_of.does; halts = par_of.halts }
+
+  pub team_simulates : {A B C : Type 0} (noted : Bool) (b : Mode) → Suits noted b → (f : B → A → B) (body : Share → Stored A) (g : Share → Behaviour Instance A) → ((j : Share) → Simulates input threaded (body j) (g j)) → (site : Site) (js : List Share) (b0 : B) (k : B → Stored C) (l : List A → Behaviour Instance C)
+      → ((values : List A) → Simulates input b (k (gathered_all f b0 values)) (l values)) → Simulates input b (Stored.bind (team noted site f b0 js body) k) (Behaviours.◌>>=◌ (Behaviours.par asks one site js (λ j. Behaviours.within j.number (g j))) l)
+  team_simulates false b o f body g r site js b0 k l t = par_simulates input f b body g r asks limit cuts one site js b0 k l t o
+  team_simulates true b o f body g r site js b0 k l t = noted_team_simulates b o.0 o.1 f body g r site js b0 k l t
+
+  module _ (noted : Bool) (b : Mode) (suits : Suits noted b) where
+    dealt_loops : (site : Site) (js : List Share) (f : ℕ → ℕ → Stored (Unit {0})) (g : ℕ → ℕ → Behaviour Instance (Unit {0})) → ((j i : ℕ) → Simulates input threaded (f j i) (g j i))
+        → Simulates input b (Stored.bind (team noted site Stored.first_of_both tt js (Stored.loop_thread f)) (λ _. Stored.ret {A = Unit {0}} tt)) (Behaviours.◌>>=◌ (Behaviours.par asks one site js (Runs.loop_thread g)) (λ _. Behaviours.ret {A = Unit {0}} tt))
+    dealt_loops site js f g r =
+        team_simulates noted b suits Stored.first_of_both (Stored.loop_thread f) (λ c. through runs.doings c.first c.size tt (λ i _. g c.number i))
+        (λ c. goes_through threaded c.first c.size tt (λ i _. f c.number i) (λ i _. g c.number i) (λ i _. r c.number i))
+        site js tt (λ _. Stored.ret tt) (λ _. Behaviours.ret tt) (λ values. ret_simulates input b tt)
+
+    pub loops : (site : Site) (cut : Cut) (f : ℕ → ℕ → Stored (Unit {0})) (g : ℕ → ℕ → Behaviour Instance (Unit {0})) → ((j i : ℕ) → Simulates input threaded (f j i) (g j i))
+        → Simulates input b (Stored.bind (team noted site Stored.first_of_both tt (deal 0 0 (Stored.sizes_of limit cuts cut)) (Stored.loop_thread (λ j. f (chunk_of cut j)))) (λ _. Stored.ret {A = Unit {0}} tt)) (runs.loops site cut g)
+    loops site cut f g r =
+        subst (λ z. Simulates input b (Stored.bind (team noted site Stored.first_of_both tt (deal 0 0 z) (Stored.loop_thread (λ j. f (chunk_of cut j)))) (λ _. Stored.ret {A = Unit {0}} tt)) (runs.loops site cut g)) (sym (same_sizes cut))
+        (dealt_loops site (deal 0 0 (Runs.sizes_of Instance this anything asks limit cuts one cut)) (λ j. f (chunk_of cut j)) (λ j. g (chunk_of cut j)) (λ j. r (chunk_of cut j)))
+
+  pub all_gathered : (vs values : List ℤ) → gathered_all Stored.after_all vs values ≡ vs ++ values
   all_gathered vs [] = sym (append-nil vs)
   all_gathered vs (v ∷ values) = all_gathered (vs ++ (v ∷ [])) values ∙ append_assoc vs (v ∷ []) values
 
-  dealt_reduces : (b : Bool) (site : ℕ) (js : List Share) (by : Reducer) (token : ℕ) (v : ℤ) (f : ℕ → ℕ → Stored (Option ℤ)) (g : ℕ → ℕ → Behaviour Instance (Option ℤ)) (c c' : ℤ → ℤ → Stored ℤ) (d d' : ℤ → ℤ → Behaviour Instance ℤ)
-      → ((j i : ℕ) → Simulates input false (f j i) (g j i)) → ((x y : ℤ) → Simulates input false (c x y) (d x y)) → ((x y : ℤ) → Simulates input b (c' x y) (d' x y))
-      → Simulates input b (Stored.bind (Stored.par Stored.after_all [] js (Stored.fold_thread by token v f c)) (λ values. Stored.combined limit cuts v values (reduce stores.doings stores.checks by token c')))
-      (Behaviours.◌>>=◌ (Behaviours.par asks one site js (Runs.fold_thread by token v g d)) (λ values. Runs.combined Instance this anything asks limit cuts one v values (reduce runs.doings runs.checks by token d')))
-  dealt_reduces b site js by token v f g c c' d d' r t u =
-      par_simulates input Stored.after_all b (Stored.fold_thread by token v f c) (λ k. through runs.doings k.first k.size v (λ i so_far. runs.◌>>=◌ (g k.number i) (folded runs.doings (reduce runs.doings runs.checks by token d) so_far)))
-      (λ k. goes_through false k.first k.size v (λ i so_far. stores.◌>>=◌ (f k.number i) (folded stores.doings (reduce stores.doings stores.checks by token c) so_far)) (λ i so_far. runs.◌>>=◌ (g k.number i) (folded runs.doings (reduce runs.doings runs.checks by token d) so_far))
-      (λ i so_far. both false (f k.number i) (g k.number i) (folded stores.doings (reduce stores.doings stores.checks by token c) so_far) (folded runs.doings (reduce runs.doings runs.checks by token d) so_far)
-      (r k.number i) (λ o. folds false (reduce stores.doings stores.checks by token c) (reduce runs.doings runs.checks by token d) (reduces_step false by token c d t) so_far o)))
-      asks limit cuts one site js [] (λ values. Stored.combined limit cuts v values (reduce stores.doings stores.checks by token c')) (λ values. Runs.combined Instance this anything asks limit cuts one v values (reduce runs.doings runs.checks by token d'))
-      (λ values. subst (λ z. Simulates input b (Stored.combined limit cuts v z (reduce stores.doings stores.checks by token c')) (Runs.combined Instance this anything asks limit cuts one v values (reduce runs.doings runs.checks by token d'))) (sym (all_gathered [] values))
-      (combines b v values (reduce stores.doings stores.checks by token c') (reduce runs.doings runs.checks by token d') (reduces_step b by token c' d' u)))
+  module _ (noted : Bool) (b : Mode) (suits : Suits noted b) where
+    dealt_reduces : (site : Site) (js : List Share) (by : Reducer) (token : ℕ) (v : ℤ) (f : ℕ → ℕ → Stored (Option ℤ)) (g : ℕ → ℕ → Behaviour Instance (Option ℤ)) (c c' : ℤ → ℤ → Stored ℤ) (d d' : ℤ → ℤ → Behaviour Instance ℤ)
+        → ((j i : ℕ) → Simulates input threaded (f j i) (g j i)) → ((x y : ℤ) → Simulates input threaded (c x y) (d x y)) → ((x y : ℤ) → Simulates input b (c' x y) (d' x y))
+        → Simulates input b (Stored.bind (team noted site Stored.after_all [] js (Stored.fold_thread by token v f c)) (λ values. Stored.combined limit cuts v values (reduce stores.doings stores.checks by token c')))
+        (Behaviours.◌>>=◌ (Behaviours.par asks one site js (Runs.fold_thread by token v g d)) (λ values. Runs.combined Instance this anything asks limit cuts one v values (reduce runs.doings runs.checks by token d')))
+    dealt_reduces site js by token v f g c c' d d' r t u =
+        team_simulates noted b suits Stored.after_all (Stored.fold_thread by token v f c) (λ k. through runs.doings k.first k.size v (λ i so_far. runs.◌>>=◌ (g k.number i) (folded runs.doings (reduce runs.doings runs.checks by token d) so_far)))
+        (λ k. goes_through threaded k.first k.size v (λ i so_far. stores.◌>>=◌ (f k.number i) (folded stores.doings (reduce stores.doings stores.checks by token c) so_far)) (λ i so_far. runs.◌>>=◌ (g k.number i) (folded runs.doings (reduce runs.doings runs.checks by token d) so_far))
+        (λ i so_far. both threaded (f k.number i) (g k.number i) (folded stores.doings (reduce stores.doings stores.checks by token c) so_far) (folded runs.doings (reduce runs.doings runs.checks by token d) so_far)
+        (r k.number i) (λ o. folds threaded (reduce stores.doings stores.checks by token c) (reduce runs.doings runs.checks by token d) (reduces_step threaded by token c d t) so_far o)))
+        site js [] (λ values. Stored.combined limit cuts v values (reduce stores.doings stores.checks by token c')) (λ values. Runs.combined Instance this anything asks limit cuts one v values (reduce runs.doings runs.checks by token d'))
+        (λ values. subst (λ z. Simulates input b (Stored.combined limit cuts v z (reduce stores.doings stores.checks by token c')) (Runs.combined Instance this anything asks limit cuts one v values (reduce runs.doings runs.checks by token d'))) (sym (all_gathered [] values))
+        (combines b v values (reduce stores.doings stores.checks by token c') (reduce runs.doings runs.checks by token d') (reduces_step b by token c' d' u)))
 
-  reduces : (b : Bool) (site : ℕ) (cut : Cut) (by : Reducer) (token : ℕ) (v : ℤ) (f : ℕ → ℕ → Stored (Option ℤ)) (g : ℕ → ℕ → Behaviour Instance (Option ℤ)) (c c' : ℤ → ℤ → Stored ℤ) (d d' : ℤ → ℤ → Behaviour Instance ℤ)
-      → ((j i : ℕ) → Simulates input false (f j i) (g j i)) → ((x y : ℤ) → Simulates input false (c x y) (d x y)) → ((x y : ℤ) → Simulates input b (c' x y) (d' x y)) → Simulates input b (stores.reduces site cut by token v f c c') (runs.reduces site cut by token v g d d')
-  reduces b site cut by token v f g c c' d d' r t u =
-      subst (λ z. Simulates input b (Stored.bind (Stored.par Stored.after_all [] (deal 0 0 z) (Stored.fold_thread by token v (λ j. f (chunk_of cut j)) c)) (λ values. Stored.combined limit cuts v values (reduce stores.doings stores.checks by token c'))) (runs.reduces site cut by token v g d d')) (sym (same_sizes cut))
-      (dealt_reduces b site (deal 0 0 (Runs.sizes_of Instance this anything asks limit cuts one cut)) by token v (λ j. f (chunk_of cut j)) (λ j. g (chunk_of cut j)) c c' d d' (λ j. r (chunk_of cut j)) t u)
+    pub reduces : (site : Site) (cut : Cut) (by : Reducer) (token : ℕ) (v : ℤ) (f : ℕ → ℕ → Stored (Option ℤ)) (g : ℕ → ℕ → Behaviour Instance (Option ℤ)) (c c' : ℤ → ℤ → Stored ℤ) (d d' : ℤ → ℤ → Behaviour Instance ℤ)
+        → ((j i : ℕ) → Simulates input threaded (f j i) (g j i)) → ((x y : ℤ) → Simulates input threaded (c x y) (d x y)) → ((x y : ℤ) → Simulates input b (c' x y) (d' x y))
+        → Simulates input b (Stored.bind (team noted site Stored.after_all [] (deal 0 0 (Stored.sizes_of limit cuts cut)) (Stored.fold_thread by token v (λ j. f (chunk_of cut j)) c)) (λ values. Stored.combined limit cuts v values (reduce stores.doings stores.checks by token c'))) (runs.reduces site cut by token v g d d')
+    reduces site cut by token v f g c c' d d' r t u =
+        subst (λ z. Simulates input b (Stored.bind (team noted site Stored.after_all [] (deal 0 0 z) (Stored.fold_thread by token v (λ j. f (chunk_of cut j)) c)) (λ values. Stored.combined limit cuts v values (reduce stores.doings stores.checks by token c'))) (runs.reduces site cut by token v g d d')) (sym (same_sizes cut))
+        (dealt_reduces site (deal 0 0 (Runs.sizes_of Instance this anything asks limit cuts one cut)) by token v (λ j. f (chunk_of cut j)) (λ j. g (chunk_of cut j)) c c' d d' (λ j. r (chunk_of cut j)) t u)
+
+  -- with blocking calls or without, in order
+  abbrev pub in_order : Bool → Mode
+  in_order w = record { outermost = w; ordered = true }
 
   simulates : Relates {1, 1, 0} stores runs
   simulates = record {
     World = Bool;
     Open = λ w. w ≡ true;
     inner = λ w. false;
-    R = λ {A} w m g. Simulates input w m g;
-    ret = λ w a. ret_simulates input w a;
-    bind = λ {A} {B} w {m} {n} {k} {l} r s. bind_simulates input w m n k l r s;
-    reads = λ w x i cell. reads_simulates input w x i cell;
-    writes = λ w x i v. writes_simulates input w x i v;
-    elaborates = λ {A} w region u x vs {m} {n} r. elaborates_simulates input asks limit cuts one w m n r x vs region u;
-    apart = λ {A} w {m} {n} r. apart_simulates input w m n r;
-    turn = λ w. turn_simulates input w limit;
-    look = λ w. look_simulates input w;
-    checks = λ w kind token holds. checks_simulates input w kind token holds;
-    leaves = λ {A} w x. leaves_simulates input w x;
-    spent = λ {A} w. spent_simulates input w;
-    handles = λ {A} w {m} {n} takes {h} {g} r s. handles_simulates input w m n takes h g r s;
-    puts = λ w allowed bytes. puts_simulates input w allowed bytes;
-    recalls = λ w allowed. recalls_simulates input w allowed;
-    keeps = λ w allowed held. keeps_simulates input w allowed held;
-    takes = λ w allowed. takes_simulates input w allowed;
-    loops = λ w site cut {f} {g} r. loops w site cut f g r;
-    reduces = λ w site cut by token v {f} {g} {c} {c'} {d} {d'} r t u. reduces w site cut by token v f g c c' d d' r t u;
+    R = λ {A} w m g. Simulates input (in_order w) m g;
+    ret = λ w a. ret_simulates input (in_order w) a;
+    bind = λ {A} {B} w {m} {n} {k} {l} r s. bind_simulates input (in_order w) m n k l r s;
+    reads = λ w x i cell. reads_simulates input (in_order w) x i cell;
+    writes = λ w x i v. writes_simulates input (in_order w) x i v;
+    elaborates = λ {A} w region u x vs {m} {n} r. elaborates_simulates input asks limit cuts one (in_order w) m n r x vs region u;
+    apart = λ {A} w {m} {n} r. apart_simulates input (in_order w) m n r;
+    turn = λ w. turn_simulates input (in_order w) limit;
+    look = λ w. look_simulates input (in_order w);
+    checks = λ w kind token holds. checks_simulates input (in_order w) kind token holds;
+    leaves = λ {A} w x. leaves_simulates input (in_order w) x;
+    spent = λ {A} w. spent_simulates input (in_order w);
+    handles = λ {A} w {m} {n} takes {h} {g} r s. handles_simulates input (in_order w) m n takes h g r s;
+    puts = λ w allowed bytes. puts_simulates input (in_order w) allowed bytes;
+    recalls = λ w allowed. recalls_simulates input (in_order w) allowed;
+    keeps = λ w allowed held. keeps_simulates input (in_order w) allowed held;
+    takes = λ w allowed. takes_simulates input (in_order w) allowed;
+    loops = λ w site cut {f} {g} r. loops false (in_order w) refl site cut f g r;
+    reduces = λ w site cut by token v {f} {g} {c} {c'} {d} {d'} r t u. reduces false (in_order w) refl site cut by token v f g c c' d d' r t u;
   }
 
-  pub program_simulates : (program : Program) → KeepsRule program → Simulates input true (main stores limit program) (main runs limit program)
+  pub program_simulates : (program : Program) → KeepsRule program → Simulates input (in_order true) (main stores limit program) (main runs limit program)
   unfolding simulates
   program_simulates program keeps = Induction.main simulates limit program keeps true refl
+
+  abbrev pub notes : Operations {1}
+  notes = Stored.noted_operations limit cuts
+
+  -- the outermost path by notes, unless there is one worker
+  abbrev pub by_notes : Bool → Mode
+  by_notes w = record { outermost = w; ordered = cond w one true }
+
+  pub suits_notes : (w : Bool) → Suits true (by_notes w)
+  suits_notes true = (λ e. e, λ e. absurd (true≢false e))
+  suits_notes false = (λ e. refl, λ e. refl)
+
+  unfoldable pub notes_simulate : Relates {1, 1, 0} notes runs
+  notes_simulate = record {
+    World = Bool;
+    Open = λ w. w ≡ true;
+    inner = λ w. false;
+    R = λ {A} w m g. Simulates input (by_notes w) m g;
+    ret = λ w a. ret_simulates input (by_notes w) a;
+    bind = λ {A} {B} w {m} {n} {k} {l} r s. bind_simulates input (by_notes w) m n k l r s;
+    reads = λ w x i cell. reads_simulates input (by_notes w) x i cell;
+    writes = λ w x i v. writes_simulates input (by_notes w) x i v;
+    elaborates = λ {A} w region u x vs {m} {n} r. elaborates_simulates input asks limit cuts one (by_notes w) m n r x vs region u;
+    apart = λ {A} w {m} {n} r. apart_simulates input (by_notes w) m n r;
+    turn = λ w. turn_simulates input (by_notes w) limit;
+    look = λ w. bounded_look_simulates input (by_notes w);
+    checks = λ w kind token holds. checks_simulates input (by_notes w) kind token holds;
+    leaves = λ {A} w x. leaves_simulates input (by_notes w) x;
+    spent = λ {A} w. spent_simulates input (by_notes w);
+    handles = λ {A} w {m} {n} takes {h} {g} r s. handles_simulates input (by_notes w) m n takes h g r s;
+    puts = λ w allowed bytes. puts_simulates input (by_notes w) allowed bytes;
+    recalls = λ w allowed. recalls_simulates input (by_notes w) allowed;
+    keeps = λ w allowed held. keeps_simulates input (by_notes w) allowed held;
+    takes = λ w allowed. takes_simulates input (by_notes w) allowed;
+    loops = λ w site cut {f} {g} r. loops true (by_notes w) (suits_notes w) site cut f g r;
+    reduces = λ w site cut by token v {f} {g} {c} {c'} {d} {d'} r t u. reduces true (by_notes w) (suits_notes w) site cut by token v f g c c' d d' r t u;
+  }
+
+  pub noted_program_simulates : (program : Program) → KeepsRule program → Simulates input (by_notes true) (main notes limit program) (main runs limit program)
+  unfolding notes_simulate
+  noted_program_simulates program keeps = Induction.main notes_simulate limit program keeps true refl
 
 -- programs
 
@@ -171,8 +251,8 @@ behind before out rest e = ap (drop (length before)) e ∙ drop-append_seam befo
 whole : (before out rest : List ℕ) → out ≡ before ++ rest → out ≡ before ++ drop (length before) out
 whole before out rest e = e ∙ ap (λ z. before ++ z) (sym (behind before out rest e))
 
-visible_outset : (slots : ℕ) (input before : List ℕ) → Visible [] [] (outset slots input before) nothing_visible
-visible_outset slots input before = record {
+pub visible_outset : (slots : ℕ) (input before : List ℕ) (notes : Schedule) → Visible [] [] (noted_outset slots input before notes) nothing_visible
+visible_outset slots input before notes = record {
   here = λ x. ap (λ (z : Slot). nat_eq z.frame 1) (slot_none slots (Stored.key x));
   everywhere = λ x. ap (λ (z : Slot). nat_eq z.frame 1) (slot_none slots (Stored.key x));
   low = λ k. subst (λ (z : Slot). z.frame ≤ 1) (sym (slot_none slots k)) (omega arith);
@@ -182,8 +262,8 @@ none_tied : (c : Tie) → Tied [] [] c → ⊥
 none_tied c (inl t) = t
 none_tied c (inr t) = t
 
-has_outset : (slots : ℕ) (input before : List ℕ) → Has input true [] [] (outset slots input before) start (empty (input_of input))
-has_outset slots input before = record {
+pub has_outset : (b : Mode) (slots : ℕ) (input before : List ℕ) (notes : Schedule) → b.outermost ≡ true → (b.ordered ≡ true → notes ≡ InOrder) → Has input b [] [] (noted_outset slots input before notes) start (empty (input_of input))
+has_outset b slots input before notes main_path ordered = record {
   one = λ c d t. absurd (none_tied c t);
   apart = λ c d i j t. absurd (none_tied c t);
   right = λ c i t. absurd (none_tied c t);
@@ -192,7 +272,8 @@ has_outset slots input before = record {
   past = λ c t. absurd (none_tied c t);
   new = λ e l i o le. refl;
   outer = λ e. refl;
-  inside = λ e. absurd (true≢false e);
+  inside = λ e. absurd (true≢false (sym main_path ∙ e));
+  ordered = ordered;
   taken = let z : 0 ≡ min 0 (length input) = omega arith in z;
   rest = refl;
   held = refl;
@@ -215,6 +296,14 @@ only_raises r (Err NoRoom) t x e = absurd (no (ap (λ (z : After (Unit {0})). z.
   where
     no : ◌≡◌ {A = Result (Unit {0}) Cause} (Err NoRoom) (Err (Left x)) → ⊥
     no e = absurd (cc)
+only_raises r (Err CutOff) t x e = absurd (no (ap (λ (z : After (Unit {0})). z.end) e))
+  where
+    no : ◌≡◌ {A = Result (Unit {0}) Cause} (Err CutOff) (Err (Left x)) → ⊥
+    no e = absurd (cc)
+only_raises r (Err Misnoted) t x e = absurd (no (ap (λ (z : After (Unit {0})). z.end) e))
+  where
+    no : ◌≡◌ {A = Result (Unit {0}) Cause} (Err Misnoted) (Err (Left x)) → ⊥
+    no e = absurd (cc)
 only_raises r (Err (Left y)) t x e = go (raises y) refl e
   where
     left : ◌≡◌ {A = Result (Unit {0}) Cause} (Err (Left y)) (Err (Left x)) → y ≡ x
@@ -227,18 +316,26 @@ only_raises r (Err (Left y)) t x e = go (raises y) refl e
     go true is e = sym (ap raises (left (ap (λ (z : After (Unit {0})). z.end) e))) ∙ is
     go false is e = absurd (no (ap (λ (z : After (Unit {0})). z.end) e))
 
-module _ (program : Program) (set : Setting) (slots : ℕ) (input before : List ℕ) (keeps : KeepsRule program) where
+-- a whole program in order or by notes
+module _ (program : Program) (set : Setting) (slots : ℕ) (input before : List ℕ) (notes : Schedule) (b : Mode) (main_path : b.outermost ≡ true) (ordered : b.ordered ≡ true → notes ≡ InOrder) (inside : Stored (Unit {0}))
+    (sim : Simulates input b (Stored.handles inside (λ how. not (raises how)) (λ how. Stored.ret tt)) (behaviour program set)) where
+  abbrev whole_run : Stored (Unit {0})
+  whole_run = Stored.handles inside (λ how. not (raises how)) (λ how. Stored.ret tt)
+
+  abbrev first : State
+  first = noted_outset slots input before notes
+
   abbrev from : Trace Instance → Bool → Path Instance → End (Unit {0}) → Type 0
   from tr y p e = (behaviour program set).runs nothing_visible start tr y p e
 
-  sim : Simulates input true (stored program set) (behaviour program set)
-  sim = program_simulates input asks_at_once set.limit (cuts_of set.plan) set.one program keeps
+  came : Came input b [] [] first start (empty (input_of input)) ((behaviour program set).runs nothing_visible start) (whole_run.does first) (log whole_run first)
+  came = sim.does [] [] first nothing_visible start (empty (input_of input)) (visible_outset slots input before notes) (has_outset b slots input before notes main_path ordered) refl
 
-  came : Came input true [] [] (outset slots input before) start (empty (input_of input)) ((behaviour program set).runs nothing_visible start) ((stored program set).does (outset slots input before))
-  came = sim.does [] [] (outset slots input before) nothing_visible start (empty (input_of input)) (visible_outset slots input before) (has_outset slots input before) refl
+  stops_between : KeepsRule program → (front back : List Deed) → whole_run.deeds first ≡ front ++ back → StopsBetween program set input front back
+  stops_between keeps front back e = between program set keeps input came.trace came.early came.path (end_of (whole_run.does first).end) came.run came.fits front back (came.deeds ∙ e)
 
   -- one that ends by itself
-  permitted_end : (t : State) (e : Result (Unit {0}) Cause) (answer : Result (Unit {0}) Stop) → Came input true [] [] (outset slots input before) start (empty (input_of input)) ((behaviour program set).runs nothing_visible start) (at t e)
+  permitted_end : (t : State) (e : Result (Unit {0}) Cause) (answer : Result (Unit {0}) Stop) → Came input b [] [] first start (empty (input_of input)) ((behaviour program set).runs nothing_visible start) (at t e) (log whole_run first)
       → ((tr : Trace Instance) (p : Path Instance) (end : End (Unit {0})) → end ≡ end_of e → put_out before t ≡ output_of tr → EndsAs program set tr p end (put_out before t) (Stored.ending_of answer))
       → (t.output ≡ before ++ put_out before t) × ((early : Bool) × IsPermitted program set input early (outcome_of program before answer t))
   permitted_end t e answer d ends = (
@@ -253,7 +350,7 @@ module _ (program : Program) (set : Setting) (slots : ℕ) (input before : List 
         fits = d.fits;
         ends = ends d.trace d.path (end_of e) refl (behind before t.output (output_of d.trace) d.output);
         taken = d.has.taken;
-        finals = finals_right input true [] d.ties t d.path (after (empty (input_of input)) d.trace) d.has program;
+        finals = finals_right input b [] d.ties t d.path (after (empty (input_of input)) d.trace) d.has program;
       },
     ),
   )
@@ -261,7 +358,7 @@ module _ (program : Program) (set : Setting) (slots : ℕ) (input before : List 
   begins : (tr : Trace Instance) → StopsWith ((behaviour program set).runs nothing_visible start) tr → BeginsRun program set tr
   begins tr k = record { rest = []; early = k.0; path = k.1; end = Stopped; run = subst (λ z. from z k.0 k.1 Stopped) (sym (append-nil tr)) k.2 }
 
-  permitted_fault : (f : Fault) (t : State) → Halted input true (outset slots input before) start (empty (input_of input)) ((behaviour program set).runs nothing_visible start) f t → (t.output ≡ before ++ put_out before t) × ((early : Bool) × IsPermitted program set input early (outcome_of program before (Err (Fails f)) t))
+  permitted_fault : (f : Fault) (t : State) → Halted input b first start (empty (input_of input)) ((behaviour program set).runs nothing_visible start) f t → (t.output ≡ before ++ put_out before t) × ((early : Bool) × IsPermitted program set input early (outcome_of program before (Err (Fails f)) t))
   permitted_fault f t d = (
     followed f d.told,
     (
@@ -289,25 +386,61 @@ module _ (program : Program) (set : Setting) (slots : ℕ) (input before : List 
       ends InputFault k = (refl, behind before t.output (output_of d.trace) k.0, (k.1.0, begins (d.trace ++ (Takes d.path.taken k.1.0 ∷ [])) k.1.1))
       ends OutputFault k = (refl, (k.0, k.1, behind before t.output (output_of d.trace ++ k.0) k.2, begins (d.trace ++ (Puts (k.0 ++ k.1) ∷ [])) k.3))
 
-  -- what the main procedure does, however it is left
-  abbrev inside : Stored (Unit {0})
-  inside = exec_body (stores input asks_at_once set.limit (cuts_of set.plan) set.one) set.limit program (call (stores input asks_at_once set.limit (cuts_of set.plan) set.one) set.limit program most_calls) program.body Everywhere (Meaning.outset 0)
-
-  permitted : (answer : Result (Unit {0}) Stop) (t : State) → Computes (stored program set) (outset slots input before) answer t → (t.output ≡ before ++ put_out before t) × ((early : Bool) × IsPermitted program set input early (outcome_of program before answer t))
+  permitted : (answer : Result (Unit {0}) Stop) (t : State) → Computes whole_run first answer t → (t.output ≡ before ++ put_out before t) × ((early : Bool) × IsPermitted program set input early (outcome_of program before answer t))
   unfolding Stored.handles
-  permitted (Ok u) t c = permitted_end t (Ok u) (Ok u) (subst (λ z. Came input true [] [] (outset slots input before) start (empty (input_of input)) ((behaviour program set).runs nothing_visible start) z) c came) (λ tr p end e o. (e, o))
-  permitted (Err (Goes OutOfTurns)) t c = permitted_end t (Err OutOfTurns) (Err (Goes OutOfTurns)) (subst (λ z. Came input true [] [] (outset slots input before) start (empty (input_of input)) ((behaviour program set).runs nothing_visible start) z) c came) (λ tr p end e o. (e, o))
-  permitted (Err (Goes NoRoom)) t c = permitted_end t (Err NoRoom) (Err (Goes NoRoom)) (subst (λ z. Came input true [] [] (outset slots input before) start (empty (input_of input)) ((behaviour program set).runs nothing_visible start) z) c came) (λ tr p end e o. (e, o))
+  permitted (Ok u) t c = permitted_end t (Ok u) (Ok u) (subst (λ z. Came input b [] [] first start (empty (input_of input)) ((behaviour program set).runs nothing_visible start) z (log whole_run first)) c came) (λ tr p end e o. (e, o))
+  permitted (Err (Goes OutOfTurns)) t c = permitted_end t (Err OutOfTurns) (Err (Goes OutOfTurns)) (subst (λ z. Came input b [] [] first start (empty (input_of input)) ((behaviour program set).runs nothing_visible start) z (log whole_run first)) c came) (λ tr p end e o. (e, o))
+  permitted (Err (Goes NoRoom)) t c = permitted_end t (Err NoRoom) (Err (Goes NoRoom)) (subst (λ z. Came input b [] [] first start (empty (input_of input)) ((behaviour program set).runs nothing_visible start) z (log whole_run first)) c came) (λ tr p end e o. (e, o))
+  permitted (Err (Goes CutOff)) t c = permitted_end t (Err CutOff) (Err (Goes CutOff)) (subst (λ z. Came input b [] [] first start (empty (input_of input)) ((behaviour program set).runs nothing_visible start) z (log whole_run first)) c came) (λ tr p end e o. (e, o))
+  permitted (Err (Goes Misnoted)) t c = permitted_end t (Err Misnoted) (Err (Goes Misnoted)) (subst (λ z. Came input b [] [] first start (empty (input_of input)) ((behaviour program set).runs nothing_visible start) z (log whole_run first)) c came) (λ tr p end e o. (e, o))
   permitted (Err (Goes (Left x))) t c = by x c
     where
-      by : (x : Leave) → Computes (stored program set) (outset slots input before) (Err (Goes (Left x))) t → (t.output ≡ before ++ put_out before t) × ((early : Bool) × IsPermitted program set input early (outcome_of program before (Err (Goes (Left x))) t))
-      by (Raises r) c = permitted_end t (Err (Left (Raises r))) (Err (Goes (Left (Raises r)))) (subst (λ z. Came input true [] [] (outset slots input before) start (empty (input_of input)) ((behaviour program set).runs nothing_visible start) z) c came) (λ tr p end e o. (e, o))
-      by (Exits n) c = absurd (true≢false (sym (only_raises (inside.does (outset slots input before)) (inside.does (outset slots input before)).end t (Exits n) c)))
-      by (Returns v) c = absurd (true≢false (sym (only_raises (inside.does (outset slots input before)) (inside.does (outset slots input before)).end t (Returns v) c)))
-  permitted (Err (Fails f)) t c = permitted_fault f t (halted_stops input true (stored program set) (behaviour program set) sim [] [] (outset slots input before) nothing_visible start (empty (input_of input)) (visible_outset slots input before) (has_outset slots input before) refl f t c)
+      by : (x : Leave) → Computes whole_run first (Err (Goes (Left x))) t → (t.output ≡ before ++ put_out before t) × ((early : Bool) × IsPermitted program set input early (outcome_of program before (Err (Goes (Left x))) t))
+      by (Raises r) c = permitted_end t (Err (Left (Raises r))) (Err (Goes (Left (Raises r)))) (subst (λ z. Came input b [] [] first start (empty (input_of input)) ((behaviour program set).runs nothing_visible start) z (log whole_run first)) c came) (λ tr p end e o. (e, o))
+      by (Exits n) c = absurd (true≢false (sym (only_raises (inside.does first) (inside.does first).end t (Exits n) c)))
+      by (Returns v) c = absurd (true≢false (sym (only_raises (inside.does first) (inside.does first).end t (Returns v) c)))
+  permitted (Err (Fails f)) t c = permitted_fault f t (halted_stops input b whole_run (behaviour program set) sim [] [] first nothing_visible start (empty (input_of input)) (visible_outset slots input before notes) (has_outset b slots input before notes main_path ordered) refl f t c)
+
+module _ (program : Program) (set : Setting) (slots : ℕ) (input before : List ℕ) (keeps : KeepsRule program) where
+  abbrev in_order_mode : Mode
+  in_order_mode = in_order input asks_at_once set.limit (cuts_of set.plan) set.one true
+
+  stored_permitted : (answer : Result (Unit {0}) Stop) (t : State) → Computes (stored program set) (outset slots input before) answer t → (t.output ≡ before ++ put_out before t) × ((early : Bool) × IsPermitted program set input early (outcome_of program before answer t))
+  stored_permitted answer t c =
+      let ops = stores input asks_at_once set.limit (cuts_of set.plan) set.one in
+      permitted program set slots input before InOrder in_order_mode refl (λ e. refl) (exec_body ops set.limit program (call ops set.limit program most_calls) program.body Everywhere (Meaning.outset 0))
+      (program_simulates input asks_at_once set.limit (cuts_of set.plan) set.one program keeps) answer t c
+
+  noted_permitted : (notes : Schedule) → (set.one ≡ true → notes ≡ InOrder) → (answer : Result (Unit {0}) Stop) (t : State) → Computes (noted program set) (noted_outset slots input before notes) answer t
+      → (t.output ≡ before ++ put_out before t) × ((early : Bool) × IsPermitted program set input early (outcome_of program before answer t))
+  noted_permitted schedule alone answer t c =
+      let ops = notes input asks_at_once set.limit (cuts_of set.plan) set.one in
+      permitted program set slots input before schedule (by_notes input asks_at_once set.limit (cuts_of set.plan) set.one true) refl alone (exec_body ops set.limit program (call ops set.limit program most_calls) program.body Everywhere (Meaning.outset 0))
+      (noted_program_simulates input asks_at_once set.limit (cuts_of set.plan) set.one program keeps) answer t c
+
+  stored_between : (front back : List Deed) → (stored program set).deeds (outset slots input before) ≡ front ++ back → StopsBetween program set input front back
+  stored_between front back e =
+      let ops = stores input asks_at_once set.limit (cuts_of set.plan) set.one in
+      stops_between program set slots input before InOrder in_order_mode refl (λ e. refl) (exec_body ops set.limit program (call ops set.limit program most_calls) program.body Everywhere (Meaning.outset 0))
+      (program_simulates input asks_at_once set.limit (cuts_of set.plan) set.one program keeps) keeps front back e
+
+  noted_between : (notes : Schedule) → (set.one ≡ true → notes ≡ InOrder) → (front back : List Deed) → (noted program set).deeds (noted_outset slots input before notes) ≡ front ++ back → StopsBetween program set input front back
+  noted_between schedule alone front back e =
+      let ops = notes input asks_at_once set.limit (cuts_of set.plan) set.one in
+      stops_between program set slots input before schedule (by_notes input asks_at_once set.limit (cuts_of set.plan) set.one true) refl alone (exec_body ops set.limit program (call ops set.limit program most_calls) program.body Everywhere (Meaning.outset 0))
+      (noted_program_simulates input asks_at_once set.limit (cuts_of set.plan) set.one program keeps) keeps front back e
 
 pub stored_law : StoredLaw
-stored_law program set slots input before answer t keeps c = permitted program set slots input before keeps answer t c
+stored_law program set slots input before answer t keeps c = stored_permitted program set slots input before keeps answer t c
+
+pub noted_law : NotedLaw
+noted_law program set slots input before notes answer t keeps alone c = noted_permitted program set slots input before keeps notes alone answer t c
+
+pub stopped_law : StoppedLaw
+stopped_law program set slots input before keeps front back e = stored_between program set slots input before keeps front back e
+
+pub noted_stopped_law : NotedStoppedLaw
+noted_stopped_law program set slots input before notes keeps alone front back e = noted_between program set slots input before keeps notes alone front back e
 
 answered_computes : {A : Type 0} (m : Stored A) (s : State) (e : Result A Cause) → (m.does s).end ≡ e → Computes m s (Stored.answered e) (m.does s).state
 answered_computes m s (Ok a) is = ap (λ z. at (m.does s).state z) is
@@ -316,10 +449,16 @@ answered_computes m s (Err c) is = ap (λ z. at (m.does s).state z) is
 pub some_law : SomeLaw
 some_law program set slots input keeps =
     let r = (stored program set).does (outset slots input []) in
-    (permitted program set slots input [] keeps (Stored.answered r.end) r.state (answered_computes (stored program set) (outset slots input []) r.end refl)).1
+    (stored_permitted program set slots input [] keeps (Stored.answered r.end) r.state (answered_computes (stored program set) (outset slots input []) r.end refl)).1
+
+pub journal_law : JournalLaw
+journal_law program set slots input notes o keeps many (used, is, itself) =
+    let r = (noted program set).does (noted_outset slots input [] (ByNotes notes)) in
+    let p = (noted_permitted program set slots input [] keeps (ByNotes notes) (λ e. absurd (true≢false (sym e ∙ many))) (Stored.answered r.end) r.state (answered_computes (noted program set) (noted_outset slots input [] (ByNotes notes)) r.end refl)).1 in
+    (p.0, subst (λ z. IsPermitted program set input p.0 z) (sym is) p.1)
 
 -- with one worker, which no stored run tells from more
 pub stored_sequential_law : StoredSequentialLaw
 stored_sequential_law program set slots input before answer t keeps plan calm c itself =
-    let p = (permitted program (record { plan = set.plan; one = true; limit = set.limit }) slots input before keeps answer t c).1 in
+    let p = (stored_permitted program (record { plan = set.plan; one = true; limit = set.limit }) slots input before keeps answer t c).1 in
     (one_sequential_law program (record { plan = set.plan; one = true; limit = set.limit }) input keeps plan refl calm).0 p.0 (outcome_of program before answer t) p.1 itself

@@ -3,7 +3,7 @@ use Rattle.std.proofs.Common.{◌≡◌, ℕ, max, List, [], ◌∷◌, ◌++◌
 use Rattle.behaviours.specs.Paths.{Leave, Instance, End, Gives, Leaves, Spent, Stopped, Path, Scope, joined, is_inside}
 use Rattle.behaviours.specs.Events.{Reads, Writes, Recalls, Keeps, Takes, Puts, Looks, Trace, output_of, Has, Merge, Shuffle, Apart, ApartFrom, AllApart, in_order, IsInputOutput}
 use Rattle.behaviours.specs.Memory.{Memory, after, Fits, EachFits}
-use Rattle.behaviours.specs.Joins.{Ran, traces, EachRan, most_turns, AllGive, SomeEnds, NoneLeft, Joins, Form, JoinsInOrder, FirstEnds, Idle, some_early, Share}
+use Rattle.behaviours.specs.Joins.{Site, Ran, traces, EachRan, most_turns, AllGive, SomeEnds, NoneLeft, Joins, Form, JoinsInOrder, FirstEnds, Idle, some_early, Share}
 use Rattle.behaviours.specs.Behaviours.{Behaviour, Unbegun, is_left, MayTrace, EachSafe, ThreadApart, ThreadsApart, asks_at_once}
 use Rattle.behaviours.specs.Behaviours
 use Rattle.behaviours.specs.Joins
@@ -456,13 +456,13 @@ threads_of : {A : Type 0} (body : Share → Behaviour Instance A) (s : Scope Ins
 threads_of body s p [] a e = tt
 threads_of body s p (j ∷ js) a e = (e.0, clear_of body s p j js a.0, threads_of body s p js a.1 e.1)
 
-safe_of : {A : Type 0} (form : Bool) (site : ℕ) (body : Share → Behaviour Instance A) (s : Scope Instance) (p : Path Instance) (js : List Share)
-    → asks_at_once form p.name site p.constructs js (λ j tr. MayTrace (body j) s p tr) × EachSafe body s p js → Safe form (λ k. in_scope s (body k)) p js
+safe_of : {A : Type 0} (form : Bool) (site : Site) (body : Share → Behaviour Instance A) (s : Scope Instance) (p : Path Instance) (js : List Share)
+    → asks_at_once form p.name site p.constructs s js (λ j tr. MayTrace (body j) s p tr) × EachSafe body s p js → Safe form (λ k. in_scope s (body k)) p js
 safe_of true site body s p js h = in_order_of body s p js h.1
 safe_of false site body s p js h = threads_of body s p js h.0 h.1
 
 module _ (limit : ℕ) (cuts : ℕ → ℕ → List ℕ) (one : Bool) where
-  pub par_agrees : {A : Type 0} (site : ℕ) (js : List Share) (body : Share → Behaviour Instance A) (plan : Share → Planned A) → ((j : Share) → Agrees one (body j) (plan j)) → ((j : Share) → Quiet (body j))
+  pub par_agrees : {A : Type 0} (site : Site) (js : List Share) (body : Share → Behaviour Instance A) (plan : Share → Planned A) → ((j : Share) → Agrees one (body j) (plan j)) → ((j : Share) → Quiet (body j))
       → Agrees one (Behaviours.par asks_at_once one site js body) (Planned.par js plan)
   par_agrees site js body plan agree hush s p m safe =
       let b : (k : Share) → Body _ = λ k. in_scope s (body k) in
@@ -470,7 +470,7 @@ module _ (limit : ℕ) (cuts : ℕ → ℕ → List ℕ) (one : Bool) where
       unbegun_agrees one (λ tr y p' e. Runs' one js b g (λ j. agree j s) (λ j. hush j s) p m (one || is_inside p) tr y p' e) p m (closed p (threads g p js m))
       (form_agrees one js b g (λ j. agree j s) (λ j. hush j s) p m (one || is_inside p) refl (safe_of (one || is_inside p) site body s p js safe))
 
-  pub par_quiet : {A : Type 0} (site : ℕ) (js : List Share) (body : Share → Behaviour Instance A) → ((j : Share) → Quiet (body j)) → Quiet (Behaviours.par asks_at_once one site js body)
+  pub par_quiet : {A : Type 0} (site : Site) (js : List Share) (body : Share → Behaviour Instance A) → ((j : Share) → Quiet (body j)) → Quiet (Behaviours.par asks_at_once one site js body)
   par_quiet {A} site js body q s p tr y p' e (inr u) h = subst (λ z. Has IsInputOutput z) u.0 h
   par_quiet {A} site js body q s p tr y p' e (inl (rs, each, form, ey, ep)) h = go (one || is_inside p) form
     where

@@ -7,7 +7,7 @@ use Rattle.behaviours.specs.Doings.{Doings, through, onto, folded}
 use Rattle.behaviours.specs.Paths.{Leave, Entity, Region, Instance, Gives, Leaves, Path, Scope, declares, apart_of, one_elaboration, enter, is_inside, start, nothing_visible}
 use Rattle.behaviours.specs.Events.{Looks, Puts, Keeps, Trace, Shuffle, in_order}
 use Rattle.behaviours.specs.Memory.{Fits, empty}
-use Rattle.behaviours.specs.Joins.{Ran, Share, deal, EachRan, NoneLeft, traces}
+use Rattle.behaviours.specs.Joins.{Site, Ran, Share, deal, EachRan, NoneLeft, traces}
 use Rattle.behaviours.specs.Behaviours.{Behaviour, asks_nothing}
 use Rattle.ada_meaning.specs.Operations.{CheckKind, Cut, chunk_of, Operations, reduce}
 use Rattle.ada_meaning.specs.Meaning.{main}
@@ -83,13 +83,13 @@ module _ (limit : ℕ) (cuts : ℕ → ℕ → List ℕ) (one : Bool) where
         (rest : Trace Instance) × (tr ≡ Behaviours.fillings x 0 cells ++ rest) × m.fails kind at (declares region object x (length cells) s) (one_elaboration region x p) rest;
   }
 
-  abbrev pub par : {A : Type 0} → ℕ → List Share → (Share → Trial A) → Trial (List A)
+  abbrev pub par : {A : Type 0} → Site → List Share → (Share → Trial A) → Trial (List A)
   par site js body = record {
     does = Behaviours.par asks_nothing one site js (λ j. (body j).does);
     fails = λ kind at s p tr. ThreadFails body kind at s p js tr (one || is_inside p);
   }
 
-  abbrev pub loops : ℕ → Cut → (ℕ → ℕ → Trial (Unit {0})) → Trial (Unit {0})
+  abbrev pub loops : Site → Cut → (ℕ → ℕ → Trial (Unit {0})) → Trial (Unit {0})
   loops site cut body =
       par site (deal 0 0 (Runs.sizes_of Instance this anything asks_nothing limit cuts one cut)) (λ c. within c.number (through doings c.first c.size tt (λ i _. body (chunk_of cut c.number) i)))
       >>= λ _. ret tt
@@ -98,7 +98,7 @@ module _ (limit : ℕ) (cuts : ℕ → ℕ → List ℕ) (one : Bool) where
   combined initial [] f = ret initial
   combined initial (a ∷ more) f = onto doings a more f
 
-  abbrev pub reduces : ℕ → Cut → Reducer → ℕ → ℤ → (ℕ → ℕ → Trial (Option ℤ)) → (ℤ → ℤ → Trial ℤ) → (ℤ → ℤ → Trial ℤ) → Trial ℤ
+  abbrev pub reduces : Site → Cut → Reducer → ℕ → ℤ → (ℕ → ℕ → Trial (Option ℤ)) → (ℤ → ℤ → Trial ℤ) → (ℤ → ℤ → Trial ℤ) → Trial ℤ
   reduces site cut by at initial value call combine =
       par site (deal 0 0 (Runs.sizes_of Instance this anything asks_nothing limit cuts one cut))
       (λ c. within c.number (through doings c.first c.size initial (λ i so_far. value (chunk_of cut c.number) i >>= folded doings (reduce doings checks by at call) so_far)))

@@ -24,8 +24,9 @@ use Rattle.ada_base.specs.Cuts.{evens}
 use Rattle.ada_base.specs.Image.{padded}
 use Rattle.behaviours.specs.Doings.{through, folded}
 use Rattle.behaviours.specs.Paths.{Leave, Exits, Returns, Raises, Entity, VariableOf, ConstantOf, Region, Everywhere, Here}
+use Rattle.behaviours.specs.Joins.{Now, Site}
 use Rattle.ada_meaning.specs.Values.{truth, bit, is_in, between, to_nat, count, base_of, unary, compares, is_chosen, handles_reason, without_zeros, layout, defaults, laid, zeros, image_of}
-use Rattle.ada_meaning.specs.Operations.{RangeCheck, IndexCheck, OverflowCheck, Cut, ByPlan, Sized, Operations, operate, reduce}
+use Rattle.ada_meaning.specs.Operations.{RangeCheck, IndexCheck, OverflowCheck, Cut, ByPlan, Sized, chunk_of, Operations, operate, reduce}
 
 -- an object and how many cells of it come before
 pub record Part : Type 0 where
@@ -132,6 +133,30 @@ cut_of k n = cond k.even (Sized (evens n k.most)) (ByPlan k.most n)
 -- a value sequence has only the chunks that aren't empty
 abbrev pub value_cut_of : Chunking → ℕ → Cut
 value_cut_of k n = cond k.even (Sized (without_zeros (evens n k.most))) (ByPlan k.most n)
+
+-- what the parameters of a construct are in iteration i of thread j, in these environments: of the thread, and of the
+-- iteration in it. Where there is no chunk parameter any value that tells threads apart serves for it, and so does the
+-- number of the iteration where a constant array is gone through, to which no name in an effect leads
+abbrev pub chunk_value : Chunk → ℕ → Env → ℤ
+chunk_value NoChunk j env = pos j
+chunk_value (Count e) j env = pos j
+chunk_value (Each k low high check) j env = env.parameter k
+
+abbrev pub now_of : Chunk → Iteration → (j i : ℕ) → Env → Env → Now
+now_of chunk (Range k reverse low high check filter) j i thread env = record { loop = Some (env.parameter k); chunk = chunk_value chunk j thread; first = 0; size = 0 }
+now_of chunk (Components k constant at r selections number stride dimensions filter) j i thread env = record {
+  loop = cond constant (Some (pos i)) None;
+  chunk = chunk_value chunk j thread;
+  first = (cond constant (env.constant_item k) (env.item k)).offset;
+  size = stride;
+}
+
+abbrev pub site_at : ℕ → Chunk → Iteration → Cut → Chunking → Course → Env → Site
+site_at site chunk iteration cut k c env = record { number = site; now = λ j i. now_of chunk iteration j i (k.bound (chunk_of cut j) env) (c.bound i (k.bound (chunk_of cut j) env)) }
+
+-- in a block an iteration is an arm
+abbrev pub block_site : ℕ → Site
+block_site site = record { number = site; now = λ j i. record { loop = Some (pos i); chunk = pos j; first = 0; size = 0 } }
 
 abbrev pub exits : ℕ → Leave → Bool
 exits loop (Exits other) = nat_eq loop other
@@ -384,7 +409,7 @@ module _ {ℓ} (ops : Operations {ℓ}) where
         k ← chunking chunk (inside env)
         c ← course iteration (inside env)
         _ ← unless (nat_le c.count most_iterations) reason.StorageError
-        reduces site (value_cut_of k c.count) by attribute start
+        reduces (site_at site chunk iteration (value_cut_of k c.count) k c (inside env)) (value_cut_of k c.count) by attribute start
             (λ j i. iterate_value (filtered iteration (c.bound i (k.bound j (inside env)))) (eval value (c.bound i (k.bound j (inside env)))))
             (fold_call by (suc env.nested)) (combine_call by env.nested)
 
@@ -569,13 +594,13 @@ module _ {ℓ} (ops : Operations {ℓ}) where
         k ← chunking chunk (inside env)
         c ← course iteration (inside env)
         _ ← unless (nat_le c.count most_iterations) reason.StorageError
-        handles (loops site (cut_of k c.count) (λ j i.
+        handles (loops (site_at site chunk iteration (cut_of k c.count) k c (inside env)) (cut_of k c.count) (λ j i.
             iterate (filtered iteration (c.bound i (k.bound j (inside env)))) (exec_all stmts (c.bound i (k.bound j (inside env))))))
             (exits number) (λ _. ret tt)
       exec (Parallel site number arms) env = do
         _ ← opened env
         most ← threads_of number (inside env)
-        loops site (Sized (evens (arms_of arms) (min most (arms_of arms)))) (λ j i. exec_arm arms i (inside env))
+        loops (block_site site) (Sized (evens (arms_of arms) (min most (arms_of arms)))) (λ j i. exec_arm arms i (inside env))
       exec (Block decls stmts handlers) env = declared decls Here env (guarded handlers (exec_all stmts env) (λ r. exec_handler handlers r env))
       exec (Put at callee pieces line) env = do
         bytes ← written pieces env []

@@ -3,6 +3,7 @@ use Rattle.std.specs.Prelude.{ℕ, ℤ, List, Option, Bool, not, cond, is_some}
 use Rattle.ada_base.specs.declared.operation.Op.{Op}
 use Rattle.ada_base.specs.Input.{Held}
 use Rattle.behaviours.specs.Doings.{Doings}
+use Rattle.behaviours.specs.Joins.{Site}
 use Rattle.behaviours.specs.Paths.{Leave, Entity, Region}
 use Rattle.ada_typed.specs.declared.scalars.Class.{Class}
 use Rattle.ada_typed.specs.declared.scalars.Scalar.{Scalar}
@@ -76,8 +77,9 @@ pub record Operations {ℓ} : Type (ℓ + 1) where
   pub recalls : Doing Held
   pub keeps : Held → Doing (Unit {0})
   pub takes : Doing (Option ℕ)
-  -- the threads of a parallel construct (5.5, 5.6.1); a thread's number and that of an iteration give its body
-  pub loops : (site : ℕ) → Cut → (ℕ → ℕ → Doing (Unit {0})) → Doing (Unit {0})
+  -- the threads of a parallel construct (5.5, 5.6.1); a thread's number and that of an iteration give its body. What the
+  -- parameters are is told beside it
+  pub loops : (site : Site) → Cut → (ℕ → ℕ → Doing (Unit {0})) → Doing (Unit {0})
   -- a parallel reduction (4.5.10): the reducer and the token of its checks, the initial value, each value that passes
   -- the filter, and for a declared function its call in a thread and where accumulators are combined
-  pub reduces : (site : ℕ) → Cut → Reducer → (at : ℕ) → ℤ → (ℕ → ℕ → Doing (Option ℤ)) → (ℤ → ℤ → Doing ℤ) → (ℤ → ℤ → Doing ℤ) → Doing ℤ
+  pub reduces : (site : Site) → Cut → Reducer → (at : ℕ) → ℤ → (ℕ → ℕ → Doing (Option ℤ)) → (ℤ → ℤ → Doing ℤ) → (ℤ → ℤ → Doing ℤ) → Doing ℤ

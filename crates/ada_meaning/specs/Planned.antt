@@ -7,7 +7,7 @@ use Rattle.ada_base.specs.Input.{Held}
 use Rattle.behaviours.specs.Doings.{Doings, through, onto, folded}
 use Rattle.behaviours.specs.Paths.{Leave, Raises, Entity, VariableOf, Region, Instance, End, Gives, Leaves, Spent, Stopped, Path, Scope, find, declares, apart_of, one_turn, one_taken, one_elaboration, enter, leave, joined}
 use Rattle.behaviours.specs.Memory.{Memory, put, put_all, hold}
-use Rattle.behaviours.specs.Joins.{Share, deal}
+use Rattle.behaviours.specs.Joins.{Site, Share, deal}
 use Rattle.ada_meaning.specs.Operations.{CheckKind, Cut, chunk_of, ByPlan, Sized, Operations, reduce}
 
 -- a parallel reduction that was done
@@ -175,14 +175,14 @@ module _ (limit : ℕ) (cuts : ℕ → ℕ → List ℕ) where
   sizes_of (ByPlan most n) = cuts most n
   sizes_of (Sized sizes) = sizes
 
-  abbrev pub loops : ℕ → Cut → (ℕ → ℕ → Planned (Unit {0})) → Planned (Unit {0})
+  abbrev pub loops : Site → Cut → (ℕ → ℕ → Planned (Unit {0})) → Planned (Unit {0})
   loops site cut body = par (deal 0 0 (sizes_of cut)) (loop_thread (λ j. body (chunk_of cut j))) >>= λ _. ret tt
 
   abbrev pub combined : ℤ → List ℤ → (ℤ → ℤ → Planned ℤ) → Planned ℤ
   combined initial [] f = ret initial
   combined initial (a ∷ more) f = onto doings a more f
 
-  abbrev pub reduces : ℕ → Cut → Reducer → ℕ → ℤ → (ℕ → ℕ → Planned (Option ℤ)) → (ℤ → ℤ → Planned ℤ) → (ℤ → ℤ → Planned ℤ) → Planned ℤ
+  abbrev pub reduces : Site → Cut → Reducer → ℕ → ℤ → (ℕ → ℕ → Planned (Option ℤ)) → (ℤ → ℤ → Planned ℤ) → (ℤ → ℤ → Planned ℤ) → Planned ℤ
   reduces site cut by at initial value call combine =
       par (deal 0 0 (sizes_of cut)) (fold_thread by at initial (λ j. value (chunk_of cut j)) call)
       >>= λ accumulators. combined initial accumulators (reduce doings checks by at combine)

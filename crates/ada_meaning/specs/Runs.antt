@@ -6,7 +6,7 @@ use Rattle.ada_typed.specs.declared.expressions.Reducer.{Reducer}
 use Rattle.behaviours.specs.Doings.{through, onto, folded}
 use Rattle.behaviours.specs.Paths.{Raises, Entity, Instance}
 use Rattle.behaviours.specs.Events.{Keeps, Puts, Looks}
-use Rattle.behaviours.specs.Joins.{Share, deal}
+use Rattle.behaviours.specs.Joins.{Site, Share, deal}
 use Rattle.behaviours.specs.Behaviours
 use Rattle.behaviours.specs.Behaviours.{Behaviour, Asks, doings, ret, ◌>>=◌, leaves, spent, emits, writes, apart, turn, handles, recalls, takes, within, elaborates, par}
 use Rattle.ada_meaning.specs.Values.{is_in}
@@ -39,7 +39,7 @@ module _ (P : Type 0) (new : Instance → P) (admits : Scalar → ℤ → Type 0
   sizes_of (ByPlan most n) = cuts most n
   sizes_of (Sized sizes) = sizes
 
-  abbrev pub loops : ℕ → Cut → (ℕ → ℕ → Behaviour P (Unit {0})) → Behaviour P (Unit {0})
+  abbrev pub loops : Site → Cut → (ℕ → ℕ → Behaviour P (Unit {0})) → Behaviour P (Unit {0})
   loops site cut body = par asks one site (deal 0 0 (sizes_of cut)) (loop_thread (λ j. body (chunk_of cut j))) >>= λ _. ret tt
 
   -- the accumulators are combined from left to right; where there is none it is the initial value
@@ -47,7 +47,7 @@ module _ (P : Type 0) (new : Instance → P) (admits : Scalar → ℤ → Type 0
   combined initial [] f = ret initial
   combined initial (a ∷ more) f = onto (doings P) a more f
 
-  abbrev pub reduces : ℕ → Cut → Reducer → ℕ → ℤ → (ℕ → ℕ → Behaviour P (Option ℤ)) → (ℤ → ℤ → Behaviour P ℤ) → (ℤ → ℤ → Behaviour P ℤ) → Behaviour P ℤ
+  abbrev pub reduces : Site → Cut → Reducer → ℕ → ℤ → (ℕ → ℕ → Behaviour P (Option ℤ)) → (ℤ → ℤ → Behaviour P ℤ) → (ℤ → ℤ → Behaviour P ℤ) → Behaviour P ℤ
   reduces site cut by at initial value call combine =
       par asks one site (deal 0 0 (sizes_of cut)) (fold_thread by at initial (λ j. value (chunk_of cut j)) call)
       >>= λ accumulators. combined initial accumulators (reduce (doings P) checks by at combine)

@@ -8,7 +8,7 @@ use Rattle.ada_typed.specs.declared.expressions.Reducer.{Reducer}
 use Rattle.ada_typed.specs.declared.expressions.Reducer.TheVariants.{Operator}
 use Rattle.behaviours.specs.Doings.{through}
 use Rattle.behaviours.specs.Paths.{Gives, Spent, Stopped, joined}
-use Rattle.behaviours.specs.Joins.{Share, deal}
+use Rattle.behaviours.specs.Joins.{Site, Share, deal}
 use Rattle.behaviours.specs.Behaviours.{is_left}
 use Rattle.ada_meaning.specs.Values.{base_of}
 use Rattle.ada_meaning.specs.Operations.{Cut, ByPlan, Sized, Operations, reduce}
@@ -30,7 +30,7 @@ abbrev pub shares_of : Cut → List Share
 shares_of (ByPlan most n) = record { number = 0; first = 0; size = n } ∷ []
 shares_of (Sized sizes) = deal 0 0 sizes
 
-abbrev pub loops : ℕ → Cut → (ℕ → ℕ → Planned (Unit {0})) → Planned (Unit {0})
+abbrev pub loops : Site → Cut → (ℕ → ℕ → Planned (Unit {0})) → Planned (Unit {0})
 loops site cut body = construct (within 0 (in_turn (shares_of cut) tt (λ j i _. body j i)))
 
 -- a fold so far, and the values that it took
@@ -45,7 +45,7 @@ abbrev pub takes : (ℤ → ℤ → Planned ℤ) → Folded → Option ℤ → P
 takes f so_far None = ret so_far
 takes f so_far (Some v) = f so_far.accumulator v >>= λ a. ret (record { accumulator = a; values = so_far.values ++ (v ∷ []) })
 
-abbrev pub reduces : ℕ → Cut → Reducer → ℕ → ℤ → (ℕ → ℕ → Planned (Option ℤ)) → (ℤ → ℤ → Planned ℤ) → (ℤ → ℤ → Planned ℤ) → Planned ℤ
+abbrev pub reduces : Site → Cut → Reducer → ℕ → ℤ → (ℕ → ℕ → Planned (Option ℤ)) → (ℤ → ℤ → Planned ℤ) → (ℤ → ℤ → Planned ℤ) → Planned ℤ
 reduces site cut by at initial value call combine =
     construct (within 0 (in_turn (shares_of cut) (record { accumulator = initial; values = [] }) (λ j i so_far. value j i >>= takes (reduce doings checks by at call) so_far)))
     >>= λ f. notes (record { by = by; initial = initial; values = f.values })

@@ -10,11 +10,29 @@ use Rattle.ada_base.specs.Cuts.{cuts_of}
 use Rattle.ada_base.specs.Input.{Held, Nothing}
 use Rattle.behaviours.specs.Doings.{Doings, through, onto, folded}
 use Rattle.behaviours.specs.Paths.{Leave, Raises, Exits, Returns, Entity, VariableOf, ConstantOf, Region, Everywhere, Here}
-use Rattle.behaviours.specs.Joins.{Share, deal}
+use Rattle.behaviours.specs.Joins.{Site, Share, deal}
 use Rattle.ada_meaning.specs.Operations.{CheckKind, Cut, ByPlan, Sized, chunk_of, Operations, reduce}
 use Rattle.ada_meaning.specs.Meaning.{main, object_layout}
 use Rattle.ada_meaning.specs.Programs.{Setting}
+use Rattle.ada_meaning.specs.Deeds.{Deed, Asked, PutOut}
 use Rattle.ada_meaning.specs.Law.{Ending, Ended, Raised, TurnsSpent, ReadFault, WriteFault, NoMemory, Outcome}
+
+-- Notes of a run: how the threads of its outermost constructs went. A thread went to its own end, or wasn't begun, or was
+-- cut after so many looks
+pub data ThreadNote : Type 0 where
+  Whole : ThreadNote
+  NotBegun : ThreadNote
+  CutAfter : (looks : ℕ) → ThreadNote
+
+-- the thread by which a construct was left, if it was, and then a note of each thread
+pub record ConstructNote : Type 0 where
+  pub chosen : Option ℕ
+  pub threads : List ThreadNote
+
+-- how constructs are run: in order; or outermost ones by these notes, one each, and those inside threads in order
+pub data Schedule : Type 0 where
+  InOrder : Schedule
+  ByNotes : List ConstructNote → Schedule
 
 abbrev pub no_slot : Slot
 no_slot = record { frame = 0; address = 0; cells = 0 }
@@ -34,12 +52,18 @@ pub record State : Type 0 where
   pub input : List ℕ
   pub output : List ℕ
   pub declared : List Variable
+  -- the looks that may still be passed, if they have a bound; and the notes that are left
+  pub left : Option ℕ
+  pub notes : Schedule
 
--- how a part ends without a value, by itself: it is left, its turns are spent, or the tables have no room for an object
+-- how a part ends without a value, by itself: it is left, its turns are spent, the tables have no room for an object, no
+-- more looks may be passed, or a note doesn't fit
 pub data Cause : Type 0 where
   Left : Leave → Cause
   OutOfTurns : Cause
   NoRoom : Cause
+  CutOff : Cause
+  Misnoted : Cause
 
 -- why it can't go on
 pub data Fault : Type 0 where
@@ -54,11 +78,54 @@ pub record After (A : Type 0) : Type 0 where
 abbrev pub at : {A : Type 0} → State → Result A Cause → After A
 at s e = record { state = s; end = e }
 
+-- a cell of what is visible everywhere, or one of the stack
+pub data Place : Type 0 where
+  Kept : ℕ → Place
+  Stacked : ℕ → Place
+
+-- a cell that is read or written
+pub record Touch : Type 0 where
+  pub place : Place
+  pub writes : Bool
+
+-- a thread that is begun, where it begins and what it comes to, and the cells that it names; the threads of a construct, in
+-- order, with where that begins and what it comes to
+pub record Thread : Type 0 where
+  pub share : Share
+  pub begun : State
+  pub ended : State
+  pub touches : List Touch
+
+pub record Team : Type 0 where
+  pub site : Site
+  pub begun : State
+  pub ended : State
+  pub threads : List Thread
+
+pub data Visit : Type 0 where
+  ThreadOf : Thread → Visit
+  TeamOf : Team → Visit
+
+-- threads that aren't in a team yet; and the teams
+abbrev pub loose : List Visit → List Thread
+loose [] = []
+loose (ThreadOf t ∷ vs) = t ∷ loose vs
+loose (TeamOf t ∷ vs) = loose vs
+
+abbrev pub teams : List Visit → List Visit
+teams [] = []
+teams (ThreadOf t ∷ vs) = teams vs
+teams (TeamOf t ∷ vs) = TeamOf t ∷ teams vs
+
 -- what a part does, and the states in which it may be left, once it has begun, for want of memory or by a fault of input
--- or output
+-- or output; the cells that it names on the way, in order; what it asks of the input and puts out; and the teams of threads
+-- that are begun. The first cells of a new object aren't among those named: they lie behind all that were there.
 pub record Stored (A : Type 0) : Type 1 where
   pub does : State → After A
   pub halts : State → Fault → State → Type 0
+  pub touches : State → List Touch
+  pub deeds : State → List Deed
+  pub visits : State → List Visit
 
 -- it isn't begun for want of memory
 abbrev pub Unbegun : State → Fault → State → Type 0
@@ -69,7 +136,7 @@ Stops m s f t = Unbegun s f t ⊎ m.halts s f t
 
 -- from a state to a state, and a value, at once
 abbrev pub steps : {A : Type 0} → (State → After A) → Stored A
-steps f = record { does = f; halts = λ s f t. ⊥ }
+steps f = record { does = f; halts = λ s f t. ⊥; touches = λ s. []; deeds = λ s. []; visits = λ s. [] }
 
 unfoldable pub ret : {A : Type 0} → A → Stored A
 ret a = steps (λ s. at s (Ok a))
@@ -82,10 +149,25 @@ abbrev pub next_halts : {A B : Type 0} → State → Result A Cause → (A → S
 next_halts s (Ok a) k f t = Stops (k a) s f t
 next_halts s (Err c) k f t = ⊥
 
+abbrev pub next_touches : {A B : Type 0} → State → Result A Cause → (A → Stored B) → List Touch
+next_touches s (Ok a) k = (k a).touches s
+next_touches s (Err c) k = []
+
+abbrev pub next_deeds : {A B : Type 0} → State → Result A Cause → (A → Stored B) → List Deed
+next_deeds s (Ok a) k = (k a).deeds s
+next_deeds s (Err c) k = []
+
+abbrev pub next_visits : {A B : Type 0} → State → Result A Cause → (A → Stored B) → List Visit
+next_visits s (Ok a) k = (k a).visits s
+next_visits s (Err c) k = []
+
 unfoldable pub bind : {A B : Type 0} → Stored A → (A → Stored B) → Stored B
 bind m k = record {
   does = λ s. let r = m.does s in next r.state r.end k;
   halts = λ s f t. Stops m s f t ⊎ (let r = m.does s in next_halts r.state r.end k f t);
+  touches = λ s. m.touches s ++ (let r = m.does s in next_touches r.state r.end k);
+  deeds = λ s. m.deeds s ++ (let r = m.does s in next_deeds r.state r.end k);
+  visits = λ s. m.visits s ++ (let r = m.does s in next_visits r.state r.end k);
 }
 
 infixl 10 ◌>>=◌
@@ -97,6 +179,9 @@ leaves x = steps (λ s. at s (Err (Left x)))
 
 unfoldable pub spent : {A : Type 0} → Stored A
 spent = steps (λ s. at s (Err OutOfTurns))
+
+unfoldable pub misnoted : {A : Type 0} → Stored A
+misnoted = steps (λ s. at s (Err Misnoted))
 
 -- cells
 
@@ -110,11 +195,6 @@ or_none (Some x) = x
 
 abbrev pub slot_at : List Slot → ℕ → Slot
 slot_at slots k = or_none (slice_get slots k)
-
--- a cell of what is visible everywhere, or one of the stack
-pub data Place : Type 0 where
-  Kept : ℕ → Place
-  Stacked : ℕ → Place
 
 abbrev pub within : (ℕ → Place) → Slot → ℕ → Option Place
 within f slot i = cond (nat_lt i slot.cells) (Some (f (slot.address + i))) None
@@ -150,12 +230,16 @@ abbrev pub written_at : State → Option Place → ℤ → After (Unit {0})
 written_at s None v = none_named s
 written_at s (Some a) v = at (put_at s a v) (Ok tt)
 
+abbrev pub touched : Bool → Option Place → List Touch
+touched writes None = []
+touched writes (Some a) = record { place = a; writes = writes } ∷ []
+
 -- whatever the cell's subtype
 unfoldable pub reads : Entity → ℕ → Stored ℤ
-reads x i = steps (λ s. read_at s (place_of s x i))
+reads x i = record { does = λ s. read_at s (place_of s x i); halts = λ s f t. ⊥; touches = λ s. touched false (place_of s x i); deeds = λ s. []; visits = λ s. [] }
 
 unfoldable pub writes : ℕ → ℕ → ℤ → Stored (Unit {0})
-writes x i v = steps (λ s. written_at s (place_of s (VariableOf x) i) v)
+writes x i v = record { does = λ s. written_at s (place_of s (VariableOf x) i) v; halts = λ s f t. ⊥; touches = λ s. touched true (place_of s (VariableOf x) i); deeds = λ s. []; visits = λ s. [] }
 
 -- elaborations
 
@@ -189,6 +273,9 @@ unfoldable pub elaborates : {A : Type 0} → Region → Entity → List ℤ → 
 elaborates region x vs m = record {
   does = λ s. let r = m.does (begun region x vs s) in cond (has_room region x s) (at (ended region x s r.state) r.end) (at s (Err NoRoom));
   halts = λ s f t. (has_room region x s ≡ true) × ((u : State) × Stops m (begun region x vs s) f u × (t ≡ ended region x s u));
+  touches = λ s. cond (has_room region x s) (m.touches (begun region x vs s)) [];
+  deeds = λ s. cond (has_room region x s) (m.deeds (begun region x vs s)) [];
+  visits = λ s. cond (has_room region x s) (m.visits (begun region x vs s)) [];
 }
 
 -- a new frame
@@ -196,12 +283,24 @@ unfoldable pub apart : {A : Type 0} → Stored A → Stored A
 apart m = record {
   does = λ s. let r = m.does (record s { frame = s.frame + 1 }) in at (record r.state { frame = s.frame }) r.end;
   halts = λ s f t. (u : State) × Stops m (record s { frame = s.frame + 1 }) f u × (t ≡ record u { frame = s.frame });
+  touches = λ s. m.touches (record s { frame = s.frame + 1 });
+  deeds = λ s. m.deeds (record s { frame = s.frame + 1 });
+  visits = λ s. m.visits (record s { frame = s.frame + 1 });
 }
 
--- turns, checks, ends
+-- turns, looks, checks, ends
 
 unfoldable pub turn : ℕ → Stored (Unit {0})
 turn limit = steps (λ s. cond (nat_lt s.turns limit) (at (record s { turns = s.turns + 1 }) (Ok tt)) (at s (Err OutOfTurns)))
+
+abbrev pub looked : State → Option ℕ → After (Unit {0})
+looked s None = at s (Ok tt)
+looked s (Some zero) = at s (Err CutOff)
+looked s (Some (suc n)) = at (record s { left = Some n }) (Ok tt)
+
+-- one look fewer may be passed; where none may, the path is cut
+unfoldable pub look : Stored (Unit {0})
+look = steps (λ s. looked s s.left)
 
 abbrev pub checks : CheckKind → ℕ → Bool → Stored (Unit {0})
 checks kind token true = ret tt
@@ -212,17 +311,36 @@ handled s (Ok a) takes h = at s (Ok a)
 handled s (Err (Left x)) takes h = cond (takes x) ((h x).does s) (at s (Err (Left x)))
 handled s (Err OutOfTurns) takes h = at s (Err OutOfTurns)
 handled s (Err NoRoom) takes h = at s (Err NoRoom)
+handled s (Err CutOff) takes h = at s (Err CutOff)
+handled s (Err Misnoted) takes h = at s (Err Misnoted)
 
 abbrev pub handled_halts : {A : Type 0} → State → Result A Cause → (Leave → Bool) → (Leave → Stored A) → Fault → State → Type 0
 handled_halts s (Ok a) takes h f t = ⊥
 handled_halts s (Err (Left x)) takes h f t = cond (takes x) (Stops (h x) s f t) ⊥
 handled_halts s (Err OutOfTurns) takes h f t = ⊥
 handled_halts s (Err NoRoom) takes h f t = ⊥
+handled_halts s (Err CutOff) takes h f t = ⊥
+handled_halts s (Err Misnoted) takes h f t = ⊥
+
+abbrev pub handled_touches : {A : Type 0} → State → Result A Cause → (Leave → Bool) → (Leave → Stored A) → List Touch
+handled_touches s (Err (Left x)) takes h = cond (takes x) ((h x).touches s) []
+handled_touches s _ takes h = []
+
+abbrev pub handled_deeds : {A : Type 0} → State → Result A Cause → (Leave → Bool) → (Leave → Stored A) → List Deed
+handled_deeds s (Err (Left x)) takes h = cond (takes x) ((h x).deeds s) []
+handled_deeds s _ takes h = []
+
+abbrev pub handled_visits : {A : Type 0} → State → Result A Cause → (Leave → Bool) → (Leave → Stored A) → List Visit
+handled_visits s (Err (Left x)) takes h = cond (takes x) ((h x).visits s) []
+handled_visits s _ takes h = []
 
 unfoldable pub handles : {A : Type 0} → Stored A → (Leave → Bool) → (Leave → Stored A) → Stored A
 handles m takes h = record {
   does = λ s. let r = m.does s in handled r.state r.end takes h;
   halts = λ s f t. Stops m s f t ⊎ (let r = m.does s in handled_halts r.state r.end takes h f t);
+  touches = λ s. m.touches s ++ (let r = m.does s in handled_touches r.state r.end takes h);
+  deeds = λ s. m.deeds s ++ (let r = m.does s in handled_deeds r.state r.end takes h);
+  visits = λ s. m.visits s ++ (let r = m.does s in handled_visits r.state r.end takes h);
 }
 
 -- output and input
@@ -232,6 +350,9 @@ unfoldable pub puts : List ℕ → Stored (Unit {0})
 puts piece = record {
   does = λ s. at (record s { output = s.output ++ piece }) (Ok tt);
   halts = λ s f t. (f ≡ OutputFault) × ((passed : List ℕ) × (rest : List ℕ) × (piece ≡ passed ++ rest) × (t ≡ record s { output = s.output ++ passed }));
+  touches = λ s. [];
+  deeds = λ s. PutOut piece ∷ [];
+  visits = λ s. [];
 }
 
 unfoldable pub recalls : Stored Held
@@ -245,7 +366,7 @@ taken_from s [] = at s (Ok None)
 taken_from s (b ∷ rest) = at (record s { taken = s.taken + 1; input = rest }) (Ok (Some b))
 
 unfoldable pub takes : Stored (Option ℕ)
-takes = record { does = λ s. taken_from s s.input; halts = λ s f t. (f ≡ InputFault) × (t ≡ s) }
+takes = record { does = λ s. taken_from s s.input; halts = λ s f t. (f ≡ InputFault) × (t ≡ s); touches = λ s. []; deeds = λ s. Asked ∷ []; visits = λ s. [] }
 
 -- threads, each of which counts its turns from where the construct began
 
@@ -256,7 +377,7 @@ unfoldable pub rewinds : ℕ → Stored (Unit {0})
 rewinds n = steps (λ s. at (record s { turns = n }) (Ok tt))
 
 abbrev pub with_turns : {A : Type 0} → (ℕ → Stored A) → Stored A
-with_turns f = record { does = λ s. (f s.turns).does s; halts = λ s. (f s.turns).halts s }
+with_turns f = record { does = λ s. (f s.turns).does s; halts = λ s. (f s.turns).halts s; touches = λ s. (f s.turns).touches s; deeds = λ s. (f s.turns).deeds s; visits = λ s. (f s.turns).visits s }
 
 -- what a thread gives, unless its turns are spent; and the greatest count of turns so far
 pub record Took (A : Type 0) : Type 0 where
@@ -268,9 +389,11 @@ took most s (Ok a) = at s (Ok (record { value = Some a; most = max most s.turns 
 took most s (Err (Left x)) = at (record s { turns = max most s.turns }) (Err (Left x))
 took most s (Err OutOfTurns) = at s (Ok (record { value = None; most = max most s.turns }))
 took most s (Err NoRoom) = at (record s { turns = max most s.turns }) (Err NoRoom)
+took most s (Err CutOff) = at (record s { turns = max most s.turns }) (Err CutOff)
+took most s (Err Misnoted) = at (record s { turns = max most s.turns }) (Err Misnoted)
 
 unfoldable pub thread : {A : Type 0} → ℕ → Stored A → Stored (Took A)
-thread most m = record { does = λ s. let r = m.does s in took most r.state r.end; halts = m.halts }
+thread most m = record { does = λ s. let r = m.does s in took most r.state r.end; halts = m.halts; touches = m.touches; deeds = m.deeds; visits = m.visits }
 
 abbrev pub is_spent : {A : Type 0} → Option A → Bool
 is_spent None = true
@@ -292,6 +415,121 @@ threads f body from (j ∷ js) most over b = do
 unfoldable pub par : {A B : Type 0} → (B → A → B) → B → List Share → (Share → Stored A) → Stored B
 par f b js body = with_turns (λ n. threads f body n js n false b)
 
+-- Threads of an outermost construct by a note. Inside a thread constructs are taken in order. No state within is one in
+-- which such a construct is left: where memory fails in it, its run has the beginning of this one.
+
+abbrev pub unhalted : {A : Type 0} → Stored A → Stored A
+unhalted m = record { does = m.does; halts = λ s f t. ⊥; touches = m.touches; deeds = m.deeds; visits = m.visits }
+
+-- from a count of turns on, with so many looks; the greatest count of turns is kept
+unfoldable pub noted_thread : {A B : Type 0} → ℕ → Option ℕ → (Result A Cause → Result B Cause) → Stored A → Stored B
+noted_thread from left fits m = record {
+  does = λ s. let r = m.does (record s { turns = from; left = left; notes = InOrder }) in at (record r.state { turns = max s.turns r.state.turns; left = s.left; notes = s.notes }) (fits r.end);
+  halts = λ s f t. ⊥;
+  touches = λ s. m.touches (record s { turns = from; left = left; notes = InOrder });
+  deeds = λ s. m.deeds (record s { turns = from; left = left; notes = InOrder });
+  visits = λ s. m.visits (record s { turns = from; left = left; notes = InOrder });
+}
+
+-- how ends fit notes, and what left a thread: the chosen one is left
+abbrev pub fits_chosen : {A : Type 0} → Result A Cause → Result (Option Leave) Cause
+fits_chosen (Ok a) = Err Misnoted
+fits_chosen (Err (Left x)) = Ok (Some x)
+fits_chosen (Err OutOfTurns) = Err Misnoted
+fits_chosen (Err NoRoom) = Err NoRoom
+fits_chosen (Err CutOff) = Err CutOff
+fits_chosen (Err Misnoted) = Err Misnoted
+
+-- another one comes to any end of its own
+abbrev pub fits_whole : {A : Type 0} → Result A Cause → Result (Option Leave) Cause
+fits_whole (Ok a) = Ok None
+fits_whole (Err (Left x)) = Ok None
+fits_whole (Err OutOfTurns) = Ok None
+fits_whole (Err NoRoom) = Err NoRoom
+fits_whole (Err CutOff) = Err CutOff
+fits_whole (Err Misnoted) = Err Misnoted
+
+-- or it is cut
+abbrev pub fits_cut : {A : Type 0} → Result A Cause → Result (Option Leave) Cause
+fits_cut (Ok a) = Err Misnoted
+fits_cut (Err (Left x)) = Err Misnoted
+fits_cut (Err OutOfTurns) = Err Misnoted
+fits_cut (Err NoRoom) = Err NoRoom
+fits_cut (Err CutOff) = Ok None
+fits_cut (Err Misnoted) = Err Misnoted
+
+-- without a chosen one none is left
+abbrev pub fits_none : {A : Type 0} → Result A Cause → Result A Cause
+fits_none (Ok a) = Ok a
+fits_none (Err (Left x)) = Err Misnoted
+fits_none (Err OutOfTurns) = Err OutOfTurns
+fits_none (Err NoRoom) = Err NoRoom
+fits_none (Err CutOff) = Err CutOff
+fits_none (Err Misnoted) = Err Misnoted
+
+abbrev pub by_thread_note : {A : Type 0} → (chosen : Bool) → ThreadNote → ℕ → Stored A → Stored (Option Leave)
+by_thread_note true Whole from m = noted_thread from None fits_chosen m
+by_thread_note true NotBegun from m = misnoted
+by_thread_note true (CutAfter looks) from m = misnoted
+by_thread_note false Whole from m = noted_thread from None fits_whole m
+by_thread_note false NotBegun from m = ret None
+by_thread_note false (CutAfter looks) from m = noted_thread from (Some looks) fits_cut m
+
+abbrev pub or_else : Option Leave → Option Leave → Option Leave
+or_else None y = y
+or_else (Some x) y = Some x
+
+abbrev pub left_by : {B : Type 0} → Option Leave → Stored B
+left_by None = misnoted
+left_by (Some x) = leaves x
+
+-- threads from one on, each by its note, and what left the chosen one, if that is among those before
+abbrev pub chosen_threads : {A B : Type 0} → (Share → Stored A) → (from chosen : ℕ) → List Share → List ThreadNote → Option Leave → Stored B
+chosen_threads body from chosen [] [] how = left_by how
+chosen_threads body from chosen [] (n ∷ ns) how = misnoted
+chosen_threads body from chosen (j ∷ js) [] how = misnoted
+chosen_threads body from chosen (j ∷ js) (n ∷ ns) how = do
+  x ← by_thread_note (nat_eq j.number chosen) n from (body j)
+  chosen_threads body from chosen js ns (or_else x how)
+
+unfoldable pub renotes : Schedule → Stored (Unit {0})
+renotes notes = steps (λ s. at (record s { notes = notes }) (Ok tt))
+
+abbrev pub with_notes : {A : Type 0} → (Schedule → Stored A) → Stored A
+with_notes f = record { does = λ s. (f s.notes).does s; halts = λ s. (f s.notes).halts s; touches = λ s. (f s.notes).touches s; deeds = λ s. (f s.notes).deeds s; visits = λ s. (f s.notes).visits s }
+
+-- all threads in order, none of which is left
+unfoldable pub none_chosen : {B : Type 0} → Stored B → Stored B
+none_chosen m = record {
+  does = λ s. let r = m.does (record s { notes = InOrder }) in at (record r.state { notes = s.notes }) (fits_none r.end);
+  halts = λ s f t. ⊥;
+  touches = λ s. m.touches (record s { notes = InOrder });
+  deeds = λ s. m.deeds (record s { notes = InOrder });
+  visits = λ s. m.visits (record s { notes = InOrder });
+}
+
+abbrev pub by_note : {A B : Type 0} → (B → A → B) → B → List Share → (Share → Stored A) → Option ℕ → List ThreadNote → Stored B
+by_note f b js body None notes = none_chosen (par f b js body)
+by_note f b js body (Some chosen) notes = with_turns (λ n. chosen_threads body n chosen js notes None)
+
+abbrev pub by_notes : {A B : Type 0} → (B → A → B) → B → List Share → (Share → Stored A) → Schedule → Stored B
+by_notes f b js body InOrder = par f b js body
+by_notes f b js body (ByNotes []) = misnoted
+by_notes f b js body (ByNotes (c ∷ cs)) = unhalted (renotes (ByNotes cs) >>= λ _. by_note f b js body c.chosen c.threads)
+
+unfoldable pub noted_par : {A B : Type 0} → (B → A → B) → B → List Share → (Share → Stored A) → Stored B
+noted_par f b js body = with_notes (by_notes f b js body)
+
+-- the same, and what its threads are
+abbrev pub visited : {A : Type 0} → Share → Stored A → Stored A
+visited j m = record m { visits = λ u. ThreadOf (record { share = j; begun = u; ended = (m.does u).state; touches = m.touches u }) ∷ m.visits u }
+
+abbrev pub as_team : {A : Type 0} → Site → Stored A → Stored A
+as_team site m = record m { visits = λ s. TeamOf (record { site = site; begun = s; ended = (m.does s).state; threads = loose (m.visits s) }) ∷ teams (m.visits s) }
+
+unfoldable pub noted_team : {A B : Type 0} → Site → (B → A → B) → B → List Share → (Share → Stored A) → Stored B
+noted_team site f b js body = as_team site (noted_par f b js (λ j. visited j (body j)))
+
 abbrev pub loop_thread : (ℕ → ℕ → Stored (Unit {0})) → Share → Stored (Unit {0})
 loop_thread body c = through doings c.first c.size tt (λ i _. body c.number i)
 
@@ -309,18 +547,19 @@ module _ (limit : ℕ) (cuts : ℕ → ℕ → List ℕ) where
   sizes_of (ByPlan most n) = cuts most n
   sizes_of (Sized sizes) = sizes
 
-  abbrev pub loops : ℕ → Cut → (ℕ → ℕ → Stored (Unit {0})) → Stored (Unit {0})
+  abbrev pub loops : Site → Cut → (ℕ → ℕ → Stored (Unit {0})) → Stored (Unit {0})
   loops site cut body = par first_of_both tt (deal 0 0 (sizes_of cut)) (loop_thread (λ j. body (chunk_of cut j))) >>= λ _. ret tt
 
   abbrev pub combined : ℤ → List ℤ → (ℤ → ℤ → Stored ℤ) → Stored ℤ
   combined initial [] f = ret initial
   combined initial (a ∷ more) f = onto doings a more f
 
-  abbrev pub reduces : ℕ → Cut → Reducer → ℕ → ℤ → (ℕ → ℕ → Stored (Option ℤ)) → (ℤ → ℤ → Stored ℤ) → (ℤ → ℤ → Stored ℤ) → Stored ℤ
+  abbrev pub reduces : Site → Cut → Reducer → ℕ → ℤ → (ℕ → ℕ → Stored (Option ℤ)) → (ℤ → ℤ → Stored ℤ) → (ℤ → ℤ → Stored ℤ) → Stored ℤ
   reduces site cut by token initial value call combine =
       par after_all [] (deal 0 0 (sizes_of cut)) (fold_thread by token initial (λ j. value (chunk_of cut j)) call)
       >>= λ accumulators. combined initial accumulators (reduce doings checks by token combine)
 
+  -- in order, and no look has a bound
   abbrev pub operations : Operations {1}
   operations = record {
     doings = doings;
@@ -340,6 +579,36 @@ module _ (limit : ℕ) (cuts : ℕ → ℕ → List ℕ) where
     takes = takes;
     loops = loops;
     reduces = reduces;
+  }
+
+  abbrev pub noted_loops : Site → Cut → (ℕ → ℕ → Stored (Unit {0})) → Stored (Unit {0})
+  noted_loops site cut body = noted_team site first_of_both tt (deal 0 0 (sizes_of cut)) (loop_thread (λ j. body (chunk_of cut j))) >>= λ _. ret tt
+
+  abbrev pub noted_reduces : Site → Cut → Reducer → ℕ → ℤ → (ℕ → ℕ → Stored (Option ℤ)) → (ℤ → ℤ → Stored ℤ) → (ℤ → ℤ → Stored ℤ) → Stored ℤ
+  noted_reduces site cut by token initial value call combine =
+      noted_team site after_all [] (deal 0 0 (sizes_of cut)) (fold_thread by token initial (λ j. value (chunk_of cut j)) call)
+      >>= λ accumulators. combined initial accumulators (reduce doings checks by token combine)
+
+  -- by notes, and with a bound of looks
+  abbrev pub noted_operations : Operations {1}
+  noted_operations = record {
+    doings = doings;
+    reads = λ x i cell. reads x i;
+    writes = writes;
+    elaborates = elaborates;
+    apart = apart;
+    turn = turn limit;
+    look = look;
+    checks = checks;
+    leaves = leaves;
+    spent = spent;
+    handles = handles;
+    puts = puts;
+    recalls = recalls;
+    keeps = keeps;
+    takes = takes;
+    loops = noted_loops;
+    reduces = noted_reduces;
   }
 
 -- what code computes
@@ -376,10 +645,19 @@ outset slots input before = record {
   input = input;
   output = before;
   declared = [];
+  left = None;
+  notes = InOrder;
 }
 
 abbrev pub stored : Program → Setting → Stored (Unit {0})
 stored program set = main (operations set.limit (cuts_of set.plan)) set.limit program
+
+-- where a program begins that is run by notes
+abbrev pub noted_outset : ℕ → List ℕ → List ℕ → Schedule → State
+noted_outset slots input before notes = record (outset slots input before) { notes = notes }
+
+abbrev pub noted : Program → Setting → Stored (Unit {0})
+noted program set = main (noted_operations set.limit (cuts_of set.plan)) set.limit program
 
 -- so many of the values, and zeros where there are no more
 abbrev pub filled : ℕ → List ℤ → List ℤ
@@ -402,6 +680,8 @@ ending_of (Err (Goes (Left (Exits n)))) = Ended
 ending_of (Err (Goes (Left (Returns v)))) = Ended
 ending_of (Err (Goes OutOfTurns)) = TurnsSpent
 ending_of (Err (Goes NoRoom)) = NoMemory
+ending_of (Err (Goes CutOff)) = NoMemory
+ending_of (Err (Goes Misnoted)) = NoMemory
 ending_of (Err (Fails MemoryFault)) = NoMemory
 ending_of (Err (Fails InputFault)) = ReadFault
 ending_of (Err (Fails OutputFault)) = WriteFault

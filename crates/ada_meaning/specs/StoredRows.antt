@@ -1,5 +1,5 @@
 -- Programs written by hand, and what their stored runs come to.
-use Rattle.std.specs.Prelude.{◌≡◌, ℕ, pos, negsuc, List, [], ◌∷◌, replicate, Some, Err, true, false}
+use Rattle.std.specs.Prelude.{◌≡◌, ℕ, ℤ, pos, negsuc, List, [], ◌∷◌, replicate, Option, Some, None, Err, true, false}
 use Rattle.ada_base.specs.declared.operation.Op.TheVariants as op
 use Rattle.ada_base.specs.declared.reason.Reason.TheVariants as reason
 use Rattle.ada_typed.specs.declared.expressions.Root.TheVariants as root
@@ -7,10 +7,12 @@ use Rattle.ada_typed.specs.declared.expressions.Reducer.TheVariants as reducer
 use Rattle.ada_typed.specs.Syntax.{Expr, Parameter, Binary, Variable, Reduction, Absent, Whole, Components, NoChunk, NoPiece, Text, NoDecl, DeclareVariable, Stmt, Assign, ParallelFor, Put, End, Then, Raise, Program}
 use Rattle.ada_base.specs.Cuts.{Plan, One, Even, Chunked}
 use Rattle.ada_base.specs.Input.{Nothing}
-use Rattle.ada_meaning.specs.Law.{Outcome, Ended, Raised, TurnsSpent, WriteFault}
+use Rattle.behaviours.specs.Joins.{Share, Site}
+use Rattle.ada_meaning.specs.Deeds.{PutOut}
+use Rattle.ada_meaning.specs.Law.{Outcome, Ended, Raised, TurnsSpent, NoMemory, Ending, WriteFault}
 use Rattle.ada_meaning.specs.Rows as rows
 use Rattle.ada_meaning.specs.Rows.{integers, integer, number, sum, put_image, object_of, made_of, upto, array_of, filled_with, indexed, component, adds, reduced, dealt, find, gets, keeps, leaves, passes, spends}
-use Rattle.ada_meaning.specs.Stored.{State, no_slot, Computes, Fails, InputFault, OutputFault, stored, outset, outcome_of, comes_to}
+use Rattle.ada_meaning.specs.Stored.{State, Kept, Touch, Thread, Visit, ThreadOf, TeamOf, ThreadNote, Whole, NotBegun, CutAfter, ConstructNote, Schedule, InOrder, ByNotes, no_slot, Computes, answered, noted, noted_outset, Fails, InputFault, OutputFault, stored, outset, outcome_of, comes_to}
 
 abbrev comes : Program → Plan → ℕ → List ℕ → Outcome
 comes program plan limit input = comes_to program (record { plan = plan; one = true; limit = limit }) 12 input
@@ -29,6 +31,33 @@ StoredRows =
     × (comes (spends (Then (Raise reason.ConstraintError) End)) One 100 [] ≡ record { output = []; taken = 0; finals = []; ending = Raised reason.ConstraintError })
     × (comes (spends End) One 100 [] ≡ record { output = []; taken = 0; finals = []; ending = TurnsSpent })
 
+-- runs by notes of a loop over four numbers whose exit the third one takes: what they come to, and the notes that are left
+
+abbrev by_notes : Plan → List ConstructNote → Outcome × Schedule
+by_notes plan notes =
+    let r = (noted leaves (record { plan = plan; one = false; limit = 1000 })).does (noted_outset 12 [] [] (ByNotes notes)) in
+    (outcome_of leaves [] (answered r.end) r.state, r.state.notes)
+
+abbrev left_by : ℕ → List ThreadNote → List ConstructNote
+left_by chosen threads = record { chosen = Some chosen; threads = threads } ∷ []
+
+abbrev ended_with : List ℤ → Ending → Outcome × Schedule
+ended_with cells ending = (record { output = []; taken = 0; finals = cells ∷ []; ending = ending }, ByNotes [])
+
+abbrev pub NotedRows : Type 0
+NotedRows =
+    -- the others as they like
+    (by_notes (Chunked 1) (left_by 2 (Whole ∷ NotBegun ∷ Whole ∷ Whole ∷ [])) ≡ ended_with (pos 1 ∷ pos 0 ∷ pos 0 ∷ pos 4 ∷ []) Ended)
+    × (by_notes (Chunked 1) (left_by 2 (CutAfter 0 ∷ Whole ∷ Whole ∷ CutAfter 0 ∷ [])) ≡ ended_with (pos 0 ∷ pos 2 ∷ pos 0 ∷ pos 0 ∷ []) Ended)
+    × (by_notes (Even 2) (left_by 1 (CutAfter 1 ∷ Whole ∷ [])) ≡ ended_with (pos 1 ∷ pos 0 ∷ pos 0 ∷ pos 0 ∷ []) Ended)
+    -- notes that don't fit: that thread isn't left; there is no such thread; it has no look more; a note is missing; none is left
+    × (by_notes (Chunked 1) (left_by 1 (Whole ∷ Whole ∷ Whole ∷ Whole ∷ [])) ≡ ended_with (pos 1 ∷ pos 2 ∷ pos 0 ∷ pos 0 ∷ []) NoMemory)
+    × (by_notes (Chunked 1) (left_by 4 (Whole ∷ Whole ∷ Whole ∷ Whole ∷ [])) ≡ ended_with (pos 1 ∷ pos 2 ∷ pos 0 ∷ pos 4 ∷ []) NoMemory)
+    × (by_notes (Chunked 1) (left_by 2 (CutAfter 1 ∷ Whole ∷ Whole ∷ Whole ∷ [])) ≡ ended_with (pos 1 ∷ pos 0 ∷ pos 0 ∷ pos 0 ∷ []) NoMemory)
+    × (by_notes (Chunked 1) (left_by 2 (Whole ∷ Whole ∷ Whole ∷ [])) ≡ ended_with (pos 1 ∷ pos 2 ∷ pos 0 ∷ pos 0 ∷ []) NoMemory)
+    × (by_notes (Chunked 1) (record { chosen = None; threads = [] } ∷ []) ≡ ended_with (pos 1 ∷ pos 2 ∷ pos 0 ∷ pos 0 ∷ []) NoMemory)
+    × (by_notes (Chunked 1) [] ≡ ended_with (pos 0 ∷ pos 0 ∷ pos 0 ∷ pos 0 ∷ []) NoMemory)
+
 -- where a Get's first byte can't be read
 abbrev pub at_fault : State
 at_fault = record {
@@ -43,6 +72,8 @@ at_fault = record {
   input = 55 ∷ [];
   output = [];
   declared = record { object = 0; address = 0; cells = 1 } ∷ [];
+  left = None;
+  notes = InOrder;
 }
 
 abbrev pub FaultRow : Type 0
@@ -55,6 +86,10 @@ put_line bytes = Put 0 0 (Text bytes NoPiece) true
 
 abbrev pub lines : Program
 lines = made_of [] [] [] NoDecl (Then (put_line (97 ∷ 98 ∷ [])) (Then (put_line (99 ∷ 100 ∷ [])) End))
+
+-- a piece for each line
+abbrev pub DeedsRow : Type 0
+DeedsRow = (stored lines (record { plan = One; one = true; limit = 9 })).deeds (outset 4 [] []) ≡ PutOut (97 ∷ 98 ∷ 10 ∷ []) ∷ PutOut (99 ∷ 100 ∷ 10 ∷ []) ∷ []
 
 abbrev pub at_write_fault : State
 at_write_fault = record (outset 4 [] (33 ∷ [])) { output = 33 ∷ 97 ∷ 98 ∷ 10 ∷ 99 ∷ [] }
@@ -81,3 +116,29 @@ soaks = made_of (array_of 1000 ∷ []) (object_of 1 1000 ∷ []) [] (DeclareVari
 
 abbrev pub Soaks : Type 0
 Soaks = (comes soaks (Even 8) 1000000 []).output ≡ 32 ∷ 52 ∷ 57 ∷ 57 ∷ 53 ∷ 48 ∷ 48 ∷ 10 ∷ []
+
+-- the teams of that loop in order, by two chunks: the first thread writes the first two cells; the second is left at once.
+-- Their iterations have the loop values 1 and 2, and 3 and 4
+
+abbrev parameters : Site → (thread iteration : ℕ) → Option ℤ
+parameters site j i = (site.now j i).loop
+
+abbrev named_by : List Thread → List (Share × List Touch)
+named_by [] = []
+named_by (t ∷ ts) = (t.share, t.touches) ∷ named_by ts
+
+abbrev teams_in : List Visit → List (List (Share × List Touch) × List (Option ℤ))
+teams_in [] = []
+teams_in (ThreadOf t ∷ vs) = teams_in vs
+teams_in (TeamOf t ∷ vs) = (named_by t.threads, parameters t.site 0 0 ∷ parameters t.site 0 1 ∷ parameters t.site 1 2 ∷ parameters t.site 1 3 ∷ []) ∷ teams_in vs
+
+abbrev wrote : ℕ → Touch
+wrote a = record { place = Kept a; writes = true }
+
+abbrev pub TeamsRow : Type 0
+TeamsRow = teams_in ((noted leaves (record { plan = Even 2; one = true; limit = 1000 })).visits (outset 12 [] []))
+    ≡ (
+      ((record { number = 0; first = 0; size = 2 }, wrote 0 ∷ wrote 1 ∷ []) ∷ (record { number = 1; first = 2; size = 2 }, []) ∷ []),
+      (Some (pos 1) ∷ Some (pos 2) ∷ Some (pos 3) ∷ Some (pos 4) ∷ []),
+    )
+    ∷ []

@@ -6,6 +6,7 @@
 ghost use Rattle.ada_meaning.specs.Blocked.{BlockedLaw};
 ghost use Rattle.ada_meaning.specs.Shapes.{ShapeLaw, SizeLaw};
 ghost use Rattle.ada_typed.specs.Programs.{program};
+ghost use Rattle.ada_meaning.specs.Deeds.{PrefixLaw};
 ghost use Rattle.ada_meaning.specs.Law.{StopsLaw, AloneLaw, AtOnceLaw, SilentLaw, ComesToSequential, OnlyLaw, OneLaw, SequentialLaw, OneSequentialLaw, OperatorLaw, SubtypeLaw};
 ghost use Rattle.ada_meaning.specs.Rows.{Adds, Overflows, Divisions, Reductions, Dealt, Find, Raised, Gotten, Turns, Doubled, Kept, Left, Passed, Padded', PartialOverflow, NoChunks, Filtered, Spends, Nested, Escapes, Calm, Sums};
 ghost use Rattle.ada_meaning.specs.LoopRows.{Cuts, Hundred, Arms, Squares, Multiplies, Bounded, Joined, Cases, Columns, Shifts, PlannedAdds, AllRaise};
@@ -22,6 +23,7 @@ pub use slots::{Slot, Variable};
 
 /// Laws of all programs.
 /// - stops: a program may be stopped before it begins.
+/// - fronts: wherever the trace of a run is parted, there is a run that was stopped there.
 /// - alone, at_once: with one worker no two threads run at once; what has no races has none between threads that do.
 /// - silent: where the rule on blocking calls (9.5) is kept no thread of a construct takes input or puts output.
 /// - only, one: permitted runs that end by themselves come to one thing, where one of them left no construct early and
@@ -35,6 +37,7 @@ pub use slots::{Slot, Variable};
 ///   layout of typed programs (3.6, 3.8).
 pub fn laws()
     ensures stops { StopsLaw }
+    ensures fronts { PrefixLaw }
     ensures alone { AloneLaw }
     ensures at_once { AtOnceLaw }
     ensures silent { SilentLaw }

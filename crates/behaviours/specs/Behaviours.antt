@@ -6,7 +6,7 @@ use Rattle.ada_base.specs.Input.{Held}
 use Rattle.behaviours.specs.Doings.{Doings}
 use Rattle.behaviours.specs.Paths.{Leave, Raises, Entity, VariableOf, Region, ThreadName, Instance, End, Gives, Leaves, Spent, Stopped, Path, Scope, find, declares, apart_of, one_turn, one_taken, one_elaboration, enter, leave, joined, is_inside}
 use Rattle.behaviours.specs.Events.{Event, Reads, Writes, Recalls, Takes, Trace, Apart, Has, IsInputOutput}
-use Rattle.behaviours.specs.Joins.{Share, Runs, Ran, EachRan, Form, most_turns, some_early}
+use Rattle.behaviours.specs.Joins.{Share, Site, Runs, Ran, EachRan, Form, most_turns, some_early}
 
 -- an end that is no value is that of what stands around
 abbrev pub Carries : {A B : Type 0} → End A → End B → Type 0
@@ -146,18 +146,18 @@ module _ {P : Type 0} (new : Instance → P) where
   }
 
 -- what is asked of the threads of a construct: whether they are taken in order, the thread around it, the site, the
--- number of the construct there, the threads and the traces that each may have
+-- number of the construct there, the objects that are visible, the threads and the traces that each may have
 abbrev pub Asks : Type 0 → Type 1
-Asks P = (ordered : Bool) → ThreadName → (site construct : ℕ) → List Share → (Share → Trace P → Type 0) → Type 0
+Asks P = (ordered : Bool) → ThreadName → Site → (construct : ℕ) → Scope P → List Share → (Share → Trace P → Type 0) → Type 0
 
 module _ {P : Type 0} (asks : Asks P) (one : Bool) where
   -- each thread has a run of its own; with one worker, and inside a thread, they are taken in order
-  abbrev pub par : {A : Type 0} → ℕ → List Share → (Share → Behaviour P A) → Behaviour P (List A)
+  abbrev pub par : {A : Type 0} → Site → List Share → (Share → Behaviour P A) → Behaviour P (List A)
   par {A} site js body = record {
     runs = λ s p tr y p' e.
         ((rs : List (Ran P A)) × EachRan (λ j. (body j).runs s) p js rs × Form (one || is_inside p) p rs tr e × (y ≡ (some_early rs || is_left e)) × (p' ≡ joined p (most_turns p.turns rs)))
         ⊎ Unbegun p tr y p' e;
-    safe = λ s p. asks (one || is_inside p) p.name site p.constructs js (λ j tr. MayTrace (body j) s p tr) × EachSafe body s p js;
+    safe = λ s p. asks (one || is_inside p) p.name site p.constructs s js (λ j tr. MayTrace (body j) s p tr) × EachSafe body s p js;
   }
 
 -- no run of a thread has a race with a run of one of these
@@ -171,15 +171,15 @@ ThreadsApart may (j ∷ js) = ThreadApart may j js × ThreadsApart may js
 
 -- no two threads of a construct have a race
 abbrev pub asks_apart : {P : Type 0} → Asks P
-asks_apart ordered who site c js may = ThreadsApart may js
+asks_apart ordered who site c s js may = ThreadsApart may js
 
 -- the same of those that may run at once; where threads are taken in order nothing is asked
 abbrev pub asks_at_once : {P : Type 0} → Asks P
-asks_at_once true who site c js may = Unit {0}
-asks_at_once false who site c js may = ThreadsApart may js
+asks_at_once true who site c s js may = Unit {0}
+asks_at_once false who site c s js may = ThreadsApart may js
 
 abbrev pub asks_nothing : {P : Type 0} → Asks P
-asks_nothing ordered who site c js may = Unit {0}
+asks_nothing ordered who site c s js may = Unit {0}
 
 -- no thread of a construct takes input or puts output
 abbrev pub AllSilent : {P : Type 0} → (Share → Trace P → Type 0) → List Share → Type 0
@@ -187,4 +187,4 @@ AllSilent may [] = Unit {0}
 AllSilent {P} may (j ∷ js) = ((tr : Trace P) → may j tr → Has IsInputOutput tr → ⊥) × AllSilent may js
 
 abbrev pub asks_silent : {P : Type 0} → Asks P
-asks_silent ordered who site c js may = AllSilent may js
+asks_silent ordered who site c s js may = AllSilent may js

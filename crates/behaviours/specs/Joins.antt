@@ -1,5 +1,5 @@
 -- The threads of a construct, and how their runs are joined to one (5.5, 5.6.1).
-use Rattle.std.specs.Prelude.{◌≡◌, ℕ, suc, ◌+◌, max, List, [], ◌∷◌, ◌⊎◌, Bool, true, false, ◌||◌}
+use Rattle.std.specs.Prelude.{◌≡◌, ℕ, suc, ◌+◌, max, ℤ, Option, List, [], ◌∷◌, ◌⊎◌, Bool, true, false, ◌||◌}
 use Rattle.behaviours.specs.Paths.{Leave, End, Gives, Leaves, Spent, Stopped, Path}
 use Rattle.behaviours.specs.Events.{Trace, Shuffle, in_order}
 
@@ -8,6 +8,19 @@ pub record Share : Type 0 where
   pub number : ℕ
   pub first : ℕ
   pub size : ℕ
+
+-- what the parameters of a construct are in one iteration: the value of the loop parameter, or for an iteration over an
+-- array the first cell of the component and how many there are; and the value of the chunk parameter
+pub record Now : Type 0 where
+  pub loop : Option ℤ
+  pub chunk : ℤ
+  pub first : ℕ
+  pub size : ℕ
+
+-- where a construct stands in a program, and what its parameters are in each iteration of each thread
+pub record Site : Type 0 where
+  pub number : ℕ
+  pub now : (thread iteration : ℕ) → Now
 
 abbrev pub deal : ℕ → ℕ → List ℕ → List Share
 deal number first [] = []

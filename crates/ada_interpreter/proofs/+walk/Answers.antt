@@ -18,7 +18,7 @@ use Rattle.ada_interpreter.specs.Walk.{pass, combined, chunked_fold, dealt_fold,
 use Rattle.ada_interpreter.proofs.Looping.{while_begins, run_begins, all_step, all_ends, all_done, while_test_ends, while_stops, while_turn_ends, while_body_ends, while_step, while_spent, for_step, for_ends, for_done, for_begins, run_step, run_ends, run_done}
 use Rattle.ada_interpreter.proofs.Scoping.{body_as, call_ends, call_step, called_more, called_fails, formals_none, formals_more, formals_fails, default_more, default_fails, variable_ends, variable_more, variable_fails, constant_ends, constant_more, constant_fails}
 use Rattle.ada_interpreter.proofs.Handling.{caught_shows, chosen_some, chosen_none, guarded_other, guarded_some, guarded_none, alternative_some, alternative_none}
-use Rattle.ada_interpreter.proofs.Folding.{folds_begin, gives_as, onto_as, share_folded_as, threads_folded_as, fold_one_on, fold_one_stops, fold_step, fold_ends, fold_done, fold_none, fold_as, fold_fails, fold_share_none, fold_share_on, fold_share_ends, onto_step, onto_ends, onto_done}
+use Rattle.ada_interpreter.proofs.Folding.{folds_begin, gives_as, onto_as, share_folded_as, threads_folded_as, fold_one_on, fold_one_stops, fold_one_fails, fold_step, fold_ends, fold_done, fold_none, fold_as, fold_fails, fold_share_none, fold_share_on, fold_share_ends, onto_step, onto_ends, onto_done}
 use Rattle.ada_typed.specs.Chained.{right_of}
 use Rattle.ada_interpreter.proofs.Chaining.{operated, stands_begins, first_ends, stands_step, stands_ends, stands_done, all_below, last_below}
 use Rattle.ada_interpreter.proofs.Forms.{index_as, index_on, index_ends, range_holds, number_returns, number_gives, number_ends, get_on, get_ends, get_not, get_shows}
@@ -459,3 +459,15 @@ scalars::call_scalars-returns-in_ok-value g t c = same_value c.args.given.now (c
 
 pub stmts::call_procedure-returns-in_ok-call_scalars-in-Some : goal.stmts::call_procedure-returns-in_ok-call_scalars-in-Some
 stmts::call_procedure-returns-in_ok-call_scalars-in-Some g t c = procedure_given c.args.work.now c.args.calls c.args.sub (actuals_at (nodes_of c.args.work.now) c.args.actuals) (env_of c.args.env.now) c.in-Some.given c.as_slice.result.now c.nested.result c.in_ok-call_scalars-in-Some.field-0 c.args.store.now c.call_scalars.new.store c.in-Some.ensures (search rules) (search rules) c.in_ok-call_scalars-in-Some.ensures
+
+pub folds::fold_one-returns-in_err-found : goal.folds::fold_one-returns-in_err-found
+folds::fold_one-returns-in_err-found g t c = fold_one_fails c.args.work.now c.args.calls c.args.by (env_of c.args.env.now).nested ((course_of c.args.course).bound c.args.index (env_of c.args.env.now)) (env_of c.in_ok-inner.inner) c.args.so_far c.args.store.now c.iterated_value.new.store c.in_err-found.field-0.0 _ (search rules) c.in_err-found.ensures c.in_ok-inner.ensures
+
+pub loops::for_loop-returns-in_err-iterate-in-Some : goal.loops::for_loop-returns-in_err-iterate-in-Some
+loops::for_loop-returns-in_err-iterate-in-Some g t c = for_ends (for_loop c.args.work.now c.args.calls (course_of c.args.course) (iteration_at (nodes_of c.args.work.now) c.args.iteration) (stmts_at (nodes_of c.args.work.now) c.args.stmts) (env_of c.args.env.now)) c.args.store.now c.loop-i.store c.iterate.new.store c.args.work.now c.args.calls c.loop-i.i (course_of c.args.course) (iteration_at (nodes_of c.args.work.now) c.args.iteration) (stmts_at (nodes_of c.args.work.now) c.args.stmts) (env_of c.args.env.now) (omega (arith, c.loop-i.invariant.counted)) c.loop-i.invariant.on c.in_err-iterate-in-Some.field-0.0 _ (search rules) c.in_err-iterate-in-Some.ensures
+
+pub loops::while_loop-returns-in_err-turned : goal.loops::while_loop-returns-in_err-turned
+loops::while_loop-returns-in_err-turned g t c = while_turn_ends (while_loop c.args.work.now c.args.calls (optional_at (nodes_of c.args.work.now) c.args.condition) (stmts_at (nodes_of c.args.work.now) c.args.stmts) (env_of c.args.env.now)) c.args.store.now c.loop-turn.store c.holds.new.store c.args.work.now c.args.calls (suc c.args.work.now.limit - c.loop-turn.turn) (c.args.work.now.limit - c.loop-turn.turn) (optional_at (nodes_of c.args.work.now) c.args.condition) (stmts_at (nodes_of c.args.work.now) c.args.stmts) (env_of c.args.env.now) (omega arith) c.loop-turn.invariant c.in_ok-goes_on.goes_on (search rules) c.in_ok-goes_on.ensures c.turned.new.store c.in_err-turned.field-0.0 _ (search rules) c.in_err-turned.ensures
+
+pub loops::while_loop-returns-in_err-exec_all : goal.loops::while_loop-returns-in_err-exec_all
+loops::while_loop-returns-in_err-exec_all g t c = while_body_ends (while_loop c.args.work.now c.args.calls (optional_at (nodes_of c.args.work.now) c.args.condition) (stmts_at (nodes_of c.args.work.now) c.args.stmts) (env_of c.args.env.now)) c.args.store.now c.loop-turn.store c.holds.new.store c.args.work.now c.args.calls (suc c.args.work.now.limit - c.loop-turn.turn) (c.args.work.now.limit - c.loop-turn.turn) (optional_at (nodes_of c.args.work.now) c.args.condition) (stmts_at (nodes_of c.args.work.now) c.args.stmts) (env_of c.args.env.now) (omega arith) c.loop-turn.invariant c.in_ok-goes_on.goes_on (search rules) c.in_ok-goes_on.ensures c.turned.new.store c.in_ok-turned.ensures c.exec_all.new.store c.in_err-exec_all.field-0.0 _ (search rules) c.in_err-exec_all.ensures

@@ -1,5 +1,6 @@
 use Rattle.ada_meaning.proofs.laws.Goals as goal
 use Rattle.ada_meaning.proofs.Law.{stops_law, alone_law, at_once_law, silent_law, only_law, one_law, sequential_law, one_sequential_law, subtype_law}
+use Rattle.ada_meaning.proofs.Between.{prefix_law}
 use Rattle.ada_meaning.proofs.Operators.{operator_law}
 use Rattle.ada_meaning.proofs.Unblocked.{blocked_law}
 use Rattle.ada_meaning.proofs.Shapes.{shape_law}
@@ -7,6 +8,9 @@ use Rattle.ada_meaning.proofs.Sizes.{size_law}
 
 pub returns-clause-stops : goal.returns-clause-stops
 returns-clause-stops c = stops_law
+
+pub returns-clause-fronts : goal.returns-clause-fronts
+returns-clause-fronts c = prefix_law
 
 pub returns-clause-alone : goal.returns-clause-alone
 returns-clause-alone c = alone_law

@@ -1,9 +1,18 @@
 use Rattle.ada_meaning.proofs.stored.rows.Goals as goal
-use Rattle.ada_meaning.proofs.StoredComputed.{stored_rows, soaks}
+use Rattle.ada_meaning.proofs.StoredComputed.{stored_rows, noted_rows, deeds_row, teams_row, soaks}
 use Rattle.ada_meaning.proofs.StoredFault.{fault_of_input, fault_of_output}
 
 pub returns-clause-stored : goal.returns-clause-stored
 returns-clause-stored c = stored_rows
+
+pub returns-clause-noted : goal.returns-clause-noted
+returns-clause-noted c = noted_rows
+
+pub returns-clause-deeds : goal.returns-clause-deeds
+returns-clause-deeds c = deeds_row
+
+pub returns-clause-teams : goal.returns-clause-teams
+returns-clause-teams c = teams_row
 
 pub returns-clause-fault : goal.returns-clause-fault
 returns-clause-fault c = fault_of_input
