@@ -1,5 +1,5 @@
 -- Each test of a path or of arms decides what the rules say of them.
-use Rattle.std.proofs.Common.{◌≡◌, ℕ, nat_eq, List, [], ◌∷◌, map, Bool, true, false, not, refl, sym, subst, ◌∙◌, true≢false}
+use Rattle.std.proofs.Common.{◌≡◌, ℕ, pos, nat_eq, List, [], ◌∷◌, map, Bool, true, false, not, refl, sym, subst, ◌∙◌, true≢false}
 use Rattle.std.specs.Bool.{Decides}
 use Rattle.std.proofs.lemmas.Bool.Decides.{Decides-eqb, Decides-int_eq, Decides-not, Decides-or}
 use Rattle.ada_typed.specs.Syntax.{Program}
@@ -20,28 +20,28 @@ never = (λ e. true≢false (sym e), λ h. absurd h)
 differ_decides : (s t : Selector) → Decides (differ s t) (Differ (plain s) (plain t))
 differ_decides (Field j) (Field k) = Decides-not (nat_eq j k) (Decides-eqb j k)
 differ_decides (Field j) (Fixed k) = never
-differ_decides (Field j) Loop = never
-differ_decides (Field j) Chunk = never
+differ_decides (Field j) (Loop d) = never
+differ_decides (Field j) (Chunk d) = never
 differ_decides (Field j) Any = never
 differ_decides (Fixed j) (Field k) = never
 differ_decides (Fixed j) (Fixed k) = Decides-not _ (Decides-int_eq j k)
-differ_decides (Fixed j) Loop = never
-differ_decides (Fixed j) Chunk = never
+differ_decides (Fixed j) (Loop d) = never
+differ_decides (Fixed j) (Chunk d) = never
 differ_decides (Fixed j) Any = never
-differ_decides Loop (Field k) = never
-differ_decides Loop (Fixed k) = never
-differ_decides Loop Loop = (λ e. refl, λ h. refl)
-differ_decides Loop Chunk = never
-differ_decides Loop Any = never
-differ_decides Chunk (Field k) = never
-differ_decides Chunk (Fixed k) = never
-differ_decides Chunk Loop = never
-differ_decides Chunk Chunk = (λ e. refl, λ h. refl)
-differ_decides Chunk Any = never
+differ_decides (Loop c) (Field k) = never
+differ_decides (Loop c) (Fixed k) = never
+differ_decides (Loop c) (Loop d) = Decides-int_eq c d
+differ_decides (Loop c) (Chunk d) = never
+differ_decides (Loop c) Any = never
+differ_decides (Chunk c) (Field k) = never
+differ_decides (Chunk c) (Fixed k) = never
+differ_decides (Chunk c) (Loop d) = never
+differ_decides (Chunk c) (Chunk d) = Decides-int_eq c d
+differ_decides (Chunk c) Any = never
 differ_decides Any (Field k) = never
 differ_decides Any (Fixed k) = never
-differ_decides Any Loop = never
-differ_decides Any Chunk = never
+differ_decides Any (Loop d) = never
+differ_decides Any (Chunk d) = never
 differ_decides Any Any = never
 
 some_differ_decides : (ss ts : List Selector) → Decides (some_differ ss ts) (SomeDiffer (map plain ss) (map plain ts))
@@ -91,8 +91,8 @@ module _ (program : Program) where
   is_parameter_decides : (s : Selector) → Decides (is_parameter s) (IsParameter program (plain s))
   is_parameter_decides (Field k) = never
   is_parameter_decides (Fixed v) = never
-  is_parameter_decides Loop = (λ e. refl, λ h. refl)
-  is_parameter_decides Chunk = (λ e. refl, λ h. refl)
+  is_parameter_decides (Loop c) = Decides-int_eq c (pos 0)
+  is_parameter_decides (Chunk c) = Decides-int_eq c (pos 0)
   is_parameter_decides Any = never
 
   has_parameter_decides : (ss : List Selector) → Decides (has_parameter ss) (HasParameter program (map plain ss))

@@ -1,5 +1,5 @@
 -- Every text touches only what it makes and what lies under its effects, and a program without clashes is free of races.
-use Rattle.std.proofs.Common.{◌≡◌, ℕ, zero, suc, ◌+◌, ◌*◌, ◌<◌, ◌≤◌, min, max, ℤ, pos, ◌+ℤ◌, ◌-ℤ◌, int_lt, int_le, nat_eq, nat_lt, nat_le, List, [], ◌∷◌, ◌++◌, length, length-append, slice_get, ◌⊎◌, inl, inr, ⊎_elim, Option, Some, None, Bool, true, false, not, cond, ◌&&◌, ◌||◌, sym, subst, ap, ap₂, ◌∙◌, refl, true≢false, eqb-true, eq-eqb, ltb-true, ltb-false, arith, le_trans}
+use Rattle.std.proofs.Common.{◌≡◌, ℕ, zero, suc, ◌+◌, ◌*◌, ◌<◌, ◌≤◌, min, max, ℤ, pos, ◌+ℤ◌, ◌-ℤ◌, int_lt, int_le, nat_eq, nat_lt, nat_le, List, [], ◌∷◌, ◌++◌, length, length-append, slice_get, ◌⊎◌, inl, inr, ⊎_elim, Option, Some, None, Bool, true, false, not, cond, ◌&&◌, ◌||◌, sym, subst, ap, ap₂, ◌∙◌, refl, true≢false, eqb-true, eq-eqb, ltb-true, ltb-false, arith, le_trans, is_some}
 use Rattle.ada_base.specs.Cuts.{evens}
 use Rattle.ada_base.specs.Image.{padded}
 use Rattle.behaviours.specs.Doings.{through, folded}
@@ -13,6 +13,7 @@ use native.Mathlib.Nat.{mul-add, mul-le-mul_left, mul_comm, mul-one}
 use Rattle.ada_base.specs.declared.operation.Op.{Op}
 use Rattle.ada_base.specs.declared.reason.Reason.{Reason}
 use Rattle.ada_base.specs.declared.reason.Reason.TheVariants as reason
+use Rattle.ada_base.specs.declared.operation.Op.TheVariants as op
 use Rattle.ada_base.specs.Operation.{is_in_base}
 use Rattle.ada_base.proofs.Readings
 use Rattle.ada_base.proofs.Readings.{Relates as RelatesReadings}
@@ -31,12 +32,13 @@ use Rattle.ada_meaning.specs.Operations.{CheckKind, RangeCheck, IndexCheck, Over
 use Rattle.ada_meaning.specs.Meaning
 use Rattle.ada_meaning.specs.Meaning.{Part, Env, Course, Chunking, Back, Passed, Returned, outset, with_target, with_handled, inside, variable_root, constant_root, array_root, iterated_env, cut_of, value_cut_of, arms_of, exits, returns, raises, value_of, reason_of, has_handlers, sub_at, moved, object_layout, most_nested, most_threads, most_iterations, most_calls}
 use Rattle.ada_typed.specs.Syntax.{Expr, Static, Variable, Constant, Parameter, Target, Group, Unary, Binary, AndThen, OrElse, Relation, Membership, If, Call, Convert, Reduction, Optional, Absent, Present, Selections, Whole, Field, Index, Actuals, NoActual, In, InOut, Out, CompositeInOut, CompositeOut, Value, Number, Cells, Composite, WholeVariable, WholeConstant, WholeTarget, CompositeIf, Aggregate, Associations, NoAssociation, Association, Iteration, Range, Components, Chunk, NoChunk, Count, Each, Pieces, NoPiece, Text, Image, Padded, Decls, NoDecl, DeclareDefault, DeclareVariable, DeclareConstant, Mentions, Stmt, Null, Assign, CallProcedure, Exit, Return, ReturnValue, Raise, Reraise, IfThen, Case, Loop, For, ParallelFor, Parallel, Block, Put, Get, Stmts, End, Then, Alternatives, NoAlternative, Alternative, Arms, NoArm, Arm, Handlers, NoHandler, Handler, Body, Sub, Program}
-use Rattle.ada_effects.specs.Effects.{Roles, unknown, hide, is_one, selector, steps_of, root_name, name, forget, Construct, LoopOf, BlockOf, ReductionOf, Item, Holds, chunk_hidden, course_hidden, chunk_parameter, judging, iterated_hidden, InReducer, InExpr, InOptional, InSelections, InActuals, InValue, InComposite, InAssociations, InCourse, InFilter, InChunk, InPieces, InDecls, InStmt, InAll, InAlternatives, InArm, InHandlers, InBody, InThread, IsDeclared, InSub, InCallee}
+use Rattle.ada_effects.specs.Effects.{Roles, unknown, hide, is_one, selector, steps_of, root_name, name, forget, Construct, LoopOf, BlockOf, ReductionOf, Item, Holds, chunk_hidden, course_hidden, chunk_parameter, judging, iterated_hidden, InReducer, InExpr, InOptional, InSelections, InActuals, InValue, InComposite, InAssociations, InCourse, InFilter, InChunk, InPieces, InDecls, InStmt, InAll, InAlternatives, InArm, InHandlers, InBody, InThread, IsDeclared, InSub, InCallee, Selector, Any, a_distance, a_parameter, is_distance, opposite, shifted, by_distance, role}
 use Rattle.ada_effects.specs.Conflicts.{Fits, Leads, Distinct, LoopsDiffer, Compared, InProgram}
 use Rattle.behaviours.specs.Behaviours
 use Rattle.ada_meaning.specs.Runs
 use Rattle.ada_meaning.specs.Programs.{this}
-use Rattle.ada_effects.proofs.Good.{Allowed, MayTouch, Can, Good, Placed, Roomy, Grown, with_object, called, ret_good, leaves_good, spent_good, checks_good, emits_good, look_good, turn_good, recalls_good, takes_good, reads_good, writes_good, choose_good, bind_good, handles_good, through_good, onto_good, elaborates_good, apart_good}
+use Rattle.ada_effects.proofs.Distances.{there}
+use Rattle.ada_effects.proofs.Good.{none_some, some_same, Allowed, MayTouch, Can, Good, Placed, Roomy, Grown, with_object, called, ret_good, leaves_good, spent_good, checks_good, emits_good, look_good, turn_good, recalls_good, takes_good, reads_good, writes_good, choose_good, bind_good, handles_good, through_good, onto_good, elaborates_good, apart_good}
 use Rattle.ada_effects.proofs.Teams.{sum, team_good}
 use Rattle.ada_effects.proofs.Scenes.{Tie, Suits, leads_append, suits_unknown, suits_forget, suits_inside, suits_handled, suits_target, suits_hide, suits_iterated, suits_item, suits_loop, suits_chunk, suits_root, of_ret, of_leaves, of_bind, of_checks, of_apart, of_elaborates, one_of, Into, part, Exact, exact}
 use Rattle.ada_effects.specs.Covered.{site_of, arm_of, AreDistinct}
@@ -236,6 +238,38 @@ module _ (program : Program) (fine : Construct → Type 0) where
 
       -- what expressions give
 
+      -- the value of an index that is a parameter and a distance
+      parameter_value : (env : Env) (e : Expr) (x : ℤ) → Can (Meaning.eval ops limit program calls e env) x → (k : ℕ) → a_parameter e ≡ Some k → x ≡ env.parameter k
+      parameter_value env (Parameter at j) x c k q = of_ret c ∙ ap env.parameter (some_same q)
+      parameter_value env e x c k q = absurd (none_some q)
+
+      distance_value : (env : Env) (e : Expr) (x : ℤ) → Can (Meaning.eval ops limit program calls e env) x → (n : ℤ) → a_distance e ≡ Some n → x ≡ n
+      distance_value env (Static at value true mentions) x c n q = of_ret c ∙ only (is_distance value) q
+        where
+          only : (b : Bool) → cond b (Some value) None ≡ Some n → value ≡ n
+          only true e = some_same e
+          only false e = absurd (none_some e)
+      distance_value env e x c n q = absurd (none_some q)
+
+      opposite_value : (env : Env) (e : Expr) (x : ℤ) → Can (Meaning.eval ops limit program calls e env) x → (n : ℤ) → opposite (a_distance e) ≡ Some n → neg_ℤ x ≡ n
+      opposite_value env e x c n q = go (a_distance e) refl q
+        where
+          go : (o : Option ℤ) → a_distance e ≡ o → opposite o ≡ Some n → neg_ℤ x ≡ n
+          go None f g = absurd (none_some g)
+          go (Some m) f g = ap neg_ℤ (distance_value env e x c m f) ∙ some_same g
+
+      -- an addition or a subtraction that raises nothing gives the sum or the difference
+      sum_value : (at : ℕ) (class : Class) (x y v : ℤ) → Can (operate (Behaviours.doings Instance) Runs.checks op.Add at class x y) v → v ≡ x +ℤ y
+      sum_value at class x y v c = let a = of_bind c in let b = of_bind a.2 in of_ret b.2 ∙ there (base_of class) (x +ℤ y) (of_checks OverflowCheck at (is_some (result op.Add class x y)) b.0 b.1)
+
+      difference_value : (at : ℕ) (class : Class) (x y v : ℤ) → Can (operate (Behaviours.doings Instance) Runs.checks op.Sub at class x y) v → v ≡ x -ℤ y
+      difference_value at class x y v c = let a = of_bind c in let b = of_bind a.2 in of_ret b.2 ∙ there (base_of class) (x -ℤ y) (of_checks OverflowCheck at (is_some (result op.Sub class x y)) b.0 b.1)
+
+      shift_fits : (now : Now) (r : Roles) (env : Env) → Suits now r env → (p : Option ℕ) (d : Option ℤ) (v : ℤ) → ((k : ℕ) (n : ℤ) → p ≡ Some k → d ≡ Some n → v ≡ env.parameter k +ℤ n) → Fits now (shifted Any (role r) p d) v
+      shift_fits now r env h None d v f = tt
+      shift_fits now r env h (Some k) None v f = tt
+      shift_fits now r env h (Some k) (Some n) v f = subst (λ z. Fits now (role r k n) z) (sym (f k n refl refl)) (h.fit k n)
+
       -- an index has a value that its selector tells
       index_fits : (now : Now) (r : Roles) (env : Env) → Suits now r env → (e : Expr) (v : ℤ) → Can (Meaning.eval ops limit program calls e env) v → Fits now (selector r e) v
       index_fits now r env h (Static at value literal mentions) v c = of_ret c
@@ -245,7 +279,30 @@ module _ (program : Program) (fine : Construct → Type 0) where
       index_fits now r env h (Target at scalar) v c = tt
       index_fits now r env h (Group e) v c = tt
       index_fits now r env h (Unary at g class e) v c = tt
-      index_fits now r env h (Binary at op class e f) v c = tt
+      index_fits now r env h (Binary at o class e f) v c = distant o (of_bind (of_bind c).2).2
+        where
+          x : ℤ
+          x = (of_bind c).0
+
+          y : ℤ
+          y = (of_bind (of_bind c).2).0
+
+          first : (k : ℕ) → a_parameter e ≡ Some k → x ≡ env.parameter k
+          first = parameter_value env e x (of_bind c).1
+
+          second : (k : ℕ) → a_parameter f ≡ Some k → y ≡ env.parameter k
+          second = parameter_value env f y (of_bind (of_bind c).2).1
+
+          either : (b : Bool) (s t : Selector) → Fits now s v → Fits now t v → Fits now (cond b s t) v
+          either true s t g h = g
+          either false s t g h = h
+
+          distant : (o : Op) → Can (operate (Behaviours.doings Instance) Runs.checks o at class x y) v → Fits now (by_distance Any (role r) o e f) v
+          distant op.Add d = either (is_some (a_parameter e)) _ _
+              (shift_fits now r env h (a_parameter e) (a_distance f) v (λ k n p q. sum_value at class x y v d ∙ ap₂ ◌+ℤ◌ (first k p) (distance_value env f y (of_bind (of_bind c).2).1 n q)))
+              (shift_fits now r env h (a_parameter f) (a_distance e) v (λ k n p q. sum_value at class x y v d ∙ +ℤ_comm x y ∙ ap₂ ◌+ℤ◌ (second k p) (distance_value env e x (of_bind c).1 n q)))
+          distant op.Sub d = shift_fits now r env h (a_parameter e) (opposite (a_distance f)) v (λ k n p q. difference_value at class x y v d ∙ ap₂ ◌+ℤ◌ (first k p) (opposite_value env f y (of_bind (of_bind c).2).1 n q))
+          distant o d = tt
       index_fits now r env h (AndThen e f) v c = tt
       index_fits now r env h (OrElse e f) v c = tt
       index_fits now r env h (Relation class comparison e f) v c = tt

@@ -7,7 +7,7 @@ use Rattle.ada_meaning.specs.LoopRows.{columns}
 use Rattle.ada_meaning.proofs.Unblocked.{blocked_law}
 use Rattle.ada_effects.specs.Effects.{Step, IndexStep, LoopIndex, ChunkIndex, Any, Access, Construct, LoopOf, BlockOf, ReductionOf, Holds, InFront, IsEffect, forget, unknown}
 use Rattle.ada_effects.specs.Conflicts.{path, SomeDiffer, AreSeparated, AreDisjoint, Clashes, HasParameter, Exempt, IsThreadEffect, IsDisjoint, IsStrict, InProgram}
-use Rattle.ada_effects.specs.ClashRows.{transposes, two_arms, copies}
+use Rattle.ada_effects.specs.ClashRows.{transposes, two_arms, copies, shifts, smooths}
 use Rattle.ada_effects.specs.DisjointRows.{DisjointRows, ChunksAccepted, OneClash}
 use Rattle.ada_effects.proofs.Clashes.{clash_law}
 use Rattle.ada_effects.proofs.EffectComputed.{formed_row}
@@ -102,8 +102,42 @@ keeps_none j at a h = grind arith
 disjoint_keeps : IsDisjoint keeps
 disjoint_keeps = disjoint keeps only_keeps (λ i j c at other a b e f w. absurd (keeps_none i at a e))
 
+-- one object is written by one path, and another one is only read
+beside : (a b : Access) (ss : List Step) → a.writes ≡ true → ((a.object ≡ 1) × (a.steps ≡ ss)) ⊎ ((a.object ≡ 0) × (a.writes ≡ false)) → ((b.object ≡ 1) × (b.steps ≡ ss)) ⊎ ((b.object ≡ 0) × (b.writes ≡ false)) → SomeDiffer (path ss) (path ss) → AreSeparated a b
+beside a b ss w (inl x) (inl y) d = separated a b ss ss x.1 y.1 d
+beside a b ss w (inl x) (inr y) d = inl (λ same. zero_one y.0 x.0 (sym same))
+beside a b ss w (inr x) y d = absurd (true≢false (sym w ∙ x.1))
+
+-- B (I + 1) and A (I)
+abbrev ahead_steps : List Step
+ahead_steps = IndexStep (LoopIndex (pos 1)) (pos 1) (pos 5) 1 ∷ []
+
+only_shifts : Only shifts
+only_shifts k (inl h) = grind arith
+only_shifts k (inr (s, h)) = absurd h
+
+shifts_effects : (j at : ℕ) (a : Access) → IsThreadEffect shifts (construct shifts.body.stmts) j at a → ((a.object ≡ 1) × (a.steps ≡ ahead_steps)) ⊎ ((a.object ≡ 0) × (a.writes ≡ false))
+shifts_effects j at a h = grind arith
+
+disjoint_shifts : IsDisjoint shifts
+disjoint_shifts = disjoint shifts only_shifts (λ i j c at other a b e f w. beside a b ahead_steps w (shifts_effects i at a e) (shifts_effects j other b f) (inl refl))
+
+-- B (I), A (I - 1) and A (I + 1)
+abbrev here_steps : List Step
+here_steps = IndexStep (LoopIndex (pos 0)) (pos 1) (pos 5) 1 ∷ []
+
+only_smooths : Only smooths
+only_smooths k (inl h) = grind arith
+only_smooths k (inr (s, h)) = absurd h
+
+smooths_effects : (j at : ℕ) (a : Access) → IsThreadEffect smooths (construct smooths.body.stmts) j at a → ((a.object ≡ 1) × (a.steps ≡ here_steps)) ⊎ ((a.object ≡ 0) × (a.writes ≡ false))
+smooths_effects j at a h = grind arith
+
+disjoint_smooths : IsDisjoint smooths
+disjoint_smooths = disjoint smooths only_smooths (λ i j c at other a b e f w. beside a b here_steps w (smooths_effects i at a e) (smooths_effects j other b f) (inl refl))
+
 pub disjoint_rows : DisjointRows
-disjoint_rows = (disjoint_dealt, disjoint_columns, disjoint_arms, disjoint_copies, disjoint_keeps)
+disjoint_rows = (disjoint_dealt, disjoint_columns, disjoint_arms, disjoint_copies, disjoint_keeps, disjoint_shifts, disjoint_smooths)
 
 -- the chunk specification and the range touch nothing
 none_in_front : (at : ℕ) (a : Access) → IsEffect dealt (InFront dealt.subtypes (construct dealt.body.stmts)) at a → ⊥

@@ -1,17 +1,17 @@
 -- A program whose constructs are clean is free of races.
-use Rattle.std.proofs.Common.{◌≡◌, ℕ, zero, suc, ◌-◌, ◌≤◌, min, max, pos, nat_le, List, [], ◌∷◌, None, Bool, true, false, cond, ⊎_elim, refl, arith, le_refl, leb-false}
+use Rattle.std.proofs.Common.{◌≡◌, sym, subst, ◌∙◌, ℕ, zero, suc, ◌+◌, ◌-◌, ◌<◌, ◌≤◌, min, max, pos, nat_le, List, [], ◌∷◌, None, Bool, true, false, cond, ⊎_elim, refl, arith, le_refl, leb-false}
 use Rattle.ada_typed.specs.Syntax.{Program}
-use Rattle.ada_effects.specs.Effects.{Holds}
+use Rattle.ada_effects.specs.Effects.{Construct, LoopOf, BlockOf, ReductionOf, Holds}
 use Rattle.ada_base.specs.Cuts.{Plan, One, Even, Chunked, Listed, rest_of, chunked, listed, cuts_of}
 use Rattle.behaviours.specs.Paths.{start, nothing_visible}
 use Rattle.behaviours.specs.Behaviours.{asks_apart}
 use Rattle.ada_meaning.specs.Runs.{anything}
 use Rattle.behaviours.specs.Joins.{Now}
-use Rattle.ada_effects.specs.Conflicts.{IsClean, AllClean, InProgram, RaceFreeLaw, GrantLaw}
+use Rattle.ada_effects.specs.Conflicts.{IsClean, AllClean, InProgram, RaceFreeLaw, GrantLaw, Compared}
 use Rattle.ada_effects.proofs.Good.{Lives, none_some}
 use Rattle.ada_effects.proofs.Teams.{sum}
 use Rattle.ada_effects.proofs.Separation.{separation, apart_law, covered_law}
-use Rattle.ada_effects.specs.Covered.{asks_covered, CoveredLaw}
+use Rattle.ada_effects.specs.Covered.{arm_of, asks_covered, CoveredLaw, ShareLaw}
 use Rattle.ada_effects.proofs.Quietness.{threads_quiet}
 use Rattle.ada_effects.proofs.Cover.{main_good}
 use Rattle.ada_effects.proofs.Counting.{sum_evens}
@@ -63,3 +63,16 @@ all_covered program set =
 pub granted : GrantLaw
 granted program k clean i j c now then d a b at n g h same l m =
     separation program now then d a b same (clean.laid i g.0 a g.1) (clean.laid j at b h) (clean.disjoint i j c g.0 at a b g.1 h g.2) n l m
+
+pub shares_apart : ShareLaw
+shares_apart program k clean now distinct c d other apart writes x n (i, lo, hi, (at, a, e, w, o, u)) (j, lo', hi', (at', b, e', w', o', u')) =
+    granted program k clean (arm_of k c.number i) (arm_of k d.number j) (compared k) (now c.number i) (now d.number j) (distinct c.number d.number i j other differ)
+    a b at' n (at, e, w) e' (o ∙ sym o') u u'
+  where
+    differ : i ≡ j → ⊥
+    differ same = apart i lo hi (subst (λ z. d.first ≤ z) (sym same) lo') (subst (λ z. z < d.first + d.size) (sym same) hi')
+
+    compared : (k : Construct) → Compared program k (arm_of k c.number i) (arm_of k d.number j)
+    compared (LoopOf site r chunk iteration stmts) = tt
+    compared (BlockOf site r most arms) = differ
+    compared (ReductionOf site r by chunk iteration value) = tt

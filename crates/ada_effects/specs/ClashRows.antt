@@ -2,8 +2,9 @@
 use Rattle.std.specs.Prelude.{ℕ, pos, [], ◌∷◌, None, false}
 use Rattle.ada_typed.specs.declared.expressions.Root.TheVariants as root
 use Rattle.ada_typed.specs.Syntax as syntax
-use Rattle.ada_typed.specs.Syntax.{Expr, Variable, Parameter, Absent, Selections, Whole, Index, Range, NoChunk, NoDecl, DeclareVariable, Assign, For, ParallelFor, Parallel, End, Then, NoArm, Arm, Program}
-use Rattle.ada_meaning.specs.Rows.{integer, number, sum, stored, object_of, made_of, upto, array_of, filled_with, indexed}
+use Rattle.ada_base.specs.declared.operation.Op.TheVariants as op
+use Rattle.ada_typed.specs.Syntax.{Expr, Variable, Parameter, Binary, Absent, Selections, Whole, Index, Range, NoChunk, NoDecl, DeclareVariable, Stmt, Assign, For, ParallelFor, Parallel, Stmts, End, Then, NoArm, Arm, Program}
+use Rattle.ada_meaning.specs.Rows.{integers, integer, number, sum, stored, object_of, made_of, upto, array_of, filled_with, indexed}
 use Rattle.ada_effects.specs.Effects.{Construct, Holds}
 use Rattle.ada_effects.specs.Conflicts.{ClashPair, GlobalTouched, InProgram}
 
@@ -52,8 +53,47 @@ copies = made_of (array_of 4 ∷ []) (object_of 1 4 ∷ object_of 1 4 ∷ []) []
     (Then (ParallelFor 0 0 NoChunk (upto 0 4)
     (Then (Assign 31 (root.Object 0) (indexed 4 (Parameter 0 0)) (stored (Variable 40 (root.Object 1) (indexed 4 (number (pos 1))) integer))) End)) End)
 
+-- A, B : array (1 .. 5) of Integer := (others => 0);
+
+abbrev pub two_rows : Stmts → Program
+two_rows = made_of (array_of 5 ∷ []) (object_of 1 5 ∷ object_of 1 5 ∷ []) [] (DeclareVariable 0 (filled_with 5 (number (pos 0))) (DeclareVariable 1 (filled_with 5 (number (pos 0))) NoDecl))
+
+abbrev pub in_loop : Stmt → Stmts
+in_loop s = Then (ParallelFor 0 0 NoChunk (upto 0 4) (Then s End)) End
+
+-- X (I - n), X (I), X (I + n)
+
+abbrev pub behind : ℕ → Selections
+behind n = indexed 5 (Binary 0 op.Sub integers (Parameter 0 0) (number (pos n)))
+
+abbrev pub here : Selections
+here = indexed 5 (Parameter 0 0)
+
+abbrev pub ahead : ℕ → Selections
+ahead n = indexed 5 (sum (Parameter 0 0) (number (pos n)))
+
+-- parallel for I in 1 .. 4 loop B (I + 1) := A (I); end loop;
+
+abbrev pub shifts : Program
+shifts = two_rows (in_loop (Assign 31 (root.Object 1) (ahead 1) (stored (Variable 44 (root.Object 0) here integer))))
+
+-- parallel for I in 1 .. 4 loop A (I + 1) := A (I); end loop;
+
+abbrev pub shifts_in_place : Program
+shifts_in_place = two_rows (in_loop (Assign 31 (root.Object 0) (ahead 1) (stored (Variable 44 (root.Object 0) here integer))))
+
+-- parallel for I in 1 .. 4 loop B (I) := A (I - 1) + A (I + 1); end loop;
+
+abbrev pub smooths : Program
+smooths = two_rows (in_loop (Assign 31 (root.Object 1) here (stored (sum (Variable 40 (root.Object 0) (behind 1) integer) (Variable 50 (root.Object 0) (ahead 1) integer)))))
+
+-- parallel for I in 1 .. 4 loop A (I + 0) := 1; end loop;
+
+abbrev pub no_distance : Program
+no_distance = two_rows (in_loop (Assign 31 (root.Object 0) (ahead 0) (stored (number (pos 1)))))
+
 abbrev pub ClashRows : Type 0
-ClashRows = SomeClash transposes 52 64 × SomeClash adds_up 31 31
+ClashRows = SomeClash transposes 52 64 × SomeClash adds_up 31 31 × SomeClash shifts_in_place 31 44 × SomeClash no_distance 31 31
 
 abbrev pub TouchedRows : Type 0
-TouchedRows = SomeTouched adds_up 31 0 × SomeTouched two_arms 13 0 × SomeTouched bounded 24 0 × SomeTouched copies 40 1
+TouchedRows = SomeTouched adds_up 31 0 × SomeTouched two_arms 13 0 × SomeTouched bounded 24 0 × SomeTouched copies 40 1 × SomeTouched shifts 31 1 × SomeTouched smooths 40 0

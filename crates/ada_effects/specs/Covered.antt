@@ -8,7 +8,7 @@ use Rattle.behaviours.specs.Behaviours.{Asks}
 use Rattle.ada_meaning.specs.Runs.{anything}
 use Rattle.ada_meaning.specs.Programs.{Setting, runs_of}
 use Rattle.ada_effects.specs.Effects.{Access, Construct, LoopOf, BlockOf, ReductionOf, Holds}
-use Rattle.ada_effects.specs.Conflicts.{LiesUnder, Distinct, IsThreadEffect, InProgram}
+use Rattle.ada_effects.specs.Conflicts.{LiesUnder, Distinct, IsThreadEffect, InProgram, IsClean}
 
 abbrev pub site_of : Construct → ℕ
 site_of (LoopOf site r chunk iteration stmts) = site
@@ -72,3 +72,13 @@ asks_covered program ordered who site c s js may =
 -- of the construct are.
 abbrev pub CoveredLaw : Type 0
 CoveredLaw = (program : Program) (set : Setting) → (runs_of anything (asks_covered program) program set).safe nothing_visible start
+
+-- iterations of two shares are never the same
+abbrev pub AreApart : Share → Share → Type 0
+AreApart c d = (i : ℕ) → c.first ≤ i → i < c.first + c.size → d.first ≤ i → i < d.first + d.size → ⊥
+
+-- No cell that one thread of a clean construct may write lies under what another one touches, in whatever iterations of
+-- theirs. A cell under an index with a distance is one inside the array's bounds.
+abbrev pub ShareLaw : Type 0
+ShareLaw = (program : Program) (k : Construct) → IsClean program k → (now : ℕ → ℕ → Now) → AreDistinct now → (c d : Share) → (c.number ≡ d.number → ⊥) → AreApart c d
+    → (writes : Bool) (x n : ℕ) → Under program k now c true x n → Under program k now d writes x n → ⊥

@@ -5,12 +5,13 @@ use Rattle.ada_meaning.specs.LoopRows.{columns}
 use Rattle.ada_effects.specs.Effects.{Construct, Holds}
 use Rattle.ada_effects.specs.Conflicts.{Clashes, IsDisjoint, InProgram}
 use Rattle.ada_effects.specs.Accepted.{IsAccepted}
-use Rattle.ada_effects.specs.ClashRows.{transposes, two_arms, copies}
+use Rattle.ada_effects.specs.ClashRows.{transposes, two_arms, copies, shifts, smooths}
 
 -- P (C) with C the chunk parameter; M (I, J) with J the loop parameter; two arms that write two variables; A (I) beside
--- B (1), which is only read; a reduction with a declared function
+-- B (1), which is only read; a reduction with a declared function; B (I + 1) beside A (I); B (I) beside A (I - 1) and
+-- A (I + 1)
 abbrev pub DisjointRows : Type 0
-DisjointRows = IsDisjoint dealt × IsDisjoint columns × IsDisjoint two_arms × IsDisjoint copies × IsDisjoint keeps
+DisjointRows = IsDisjoint dealt × IsDisjoint columns × IsDisjoint two_arms × IsDisjoint copies × IsDisjoint keeps × IsDisjoint shifts × IsDisjoint smooths
 
 -- the first of them is accepted
 abbrev pub ChunksAccepted : Type 0

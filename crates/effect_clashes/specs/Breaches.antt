@@ -1,5 +1,5 @@
 -- The least breach of the strict rule, and the least pair of effects that clash.
-use Rattle.std.specs.Prelude.{ℕ, List, [], ◌∷◌, Option, Some, None, Bool, true, false, not, ◌&&◌, ◌||◌, cond, nat_eq, nat_lt}
+use Rattle.std.specs.Prelude.{ℕ, pos, List, [], ◌∷◌, Option, Some, None, Bool, true, false, not, ◌&&◌, ◌||◌, cond, nat_eq, nat_lt}
 use Rattle.std.specs.Ordering.{int_eq}
 use Rattle.effect_clashes.specs.declared.effects.Access.{Access}
 use Rattle.effect_clashes.specs.declared.effects.Access.TheVariants.{Read, Write, Update}
@@ -22,9 +22,10 @@ least p (Some q) = cond (is_before p q) (Some p) (Some q)
 
 -- the strict rule
 
+-- an index that is a parameter itself
 abbrev pub is_parameter : Selector → Bool
-is_parameter Loop = true
-is_parameter Chunk = true
+is_parameter (Loop c) = int_eq c (pos 0)
+is_parameter (Chunk c) = int_eq c (pos 0)
 is_parameter s = false
 
 unfoldable pub has_parameter : List Selector → Bool
@@ -51,8 +52,8 @@ touched_of subs (site ∷ sites) found = touched_of subs sites (touched_in subs 
 abbrev pub differ : Selector → Selector → Bool
 differ (Field j) (Field k) = not (nat_eq j k)
 differ (Fixed i) (Fixed j) = not (int_eq i j)
-differ Loop Loop = true
-differ Chunk Chunk = true
+differ (Loop c) (Loop d) = int_eq c d
+differ (Chunk c) (Chunk d) = int_eq c d
 differ s t = false
 
 unfoldable pub some_differ : List Selector → List Selector → Bool

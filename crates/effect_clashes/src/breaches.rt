@@ -37,12 +37,13 @@ fn least(pair: Pair, found: Option<Pair>) -> Option<Pair>
     }
 }
 
-/// Whether an index is a parameter of the construct that is judged.
+/// Whether an index is a parameter of the construct that is judged, without a distance.
 fn is_parameter(selector: Selector) -> bool
     ensures { result ≡ spec.is_parameter selector }
 {
     match selector {
-        Selector::Loop | Selector::Chunk => true,
+        Selector::Loop(distance) => distance == 0,
+        Selector::Chunk(distance) => distance == 0,
         Selector::Field(_) | Selector::Fixed(_) | Selector::Any => false,
     }
 }
@@ -135,7 +136,8 @@ fn differ(first: Selector, second: Selector) -> bool
     match (first, second) {
         (Selector::Field(one), Selector::Field(other)) => one != other,
         (Selector::Fixed(one), Selector::Fixed(other)) => one != other,
-        (Selector::Loop, Selector::Loop) | (Selector::Chunk, Selector::Chunk) => true,
+        (Selector::Loop(one), Selector::Loop(other)) => one == other,
+        (Selector::Chunk(one), Selector::Chunk(other)) => one == other,
         _ => false,
     }
 }

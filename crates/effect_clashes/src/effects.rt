@@ -4,13 +4,13 @@ use ada_base::Items;
 use std::alloc::Global;
 
 /// What a path goes on by: a component of a record by its number, a static index, the parameter of the parallel loop that
-/// is judged or its chunk parameter, or any other index.
+/// is judged or its chunk parameter, with a distance from it that is 0 for the parameter itself, or any other index.
 #[derive(Clone, Copy)]
 pub enum Selector {
     Field(u32),
     Fixed(i64),
-    Loop,
-    Chunk,
+    Loop(i64),
+    Chunk(i64),
     Any,
 }
 

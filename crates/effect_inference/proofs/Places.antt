@@ -1,11 +1,13 @@
 -- What names stand for in the walk is what they stand for in the definition of a text's items, in each place of a text.
-use Rattle.std.proofs.Common.{◌≡◌, ℕ, zero, suc, pos, nat_eq, List, [], ◌∷◌, ◌++◌, map, Option, Some, None, Bool, true, false, cond, refl, sym, subst, ap, ap₂, ◌∙◌, append_assoc, append-nil}
+use Rattle.std.proofs.Common.{◌≡◌, ℕ, zero, suc, ℤ, pos, is_some, nat_eq, List, [], ◌∷◌, ◌++◌, map, Option, Some, None, Bool, true, false, cond, refl, sym, subst, ap, ap₂, ◌∙◌, append_assoc, append-nil}
 use Rattle.std.proofs.Math.ListN.{replicate}
 use Rattle.std.proofs.lemmas.List.{map-append}
+use Rattle.ada_base.specs.declared.operation.Op.{Op}
+use Rattle.ada_base.specs.declared.operation.Op.TheVariants as op
 use Rattle.ada_typed.specs.declared.expressions.Iterated.{Iterated}
 use Rattle.ada_typed.specs.declared.expressions.Root.{Root}
 use Rattle.ada_typed.specs.declared.expressions.Root.TheVariants as root
-use Rattle.ada_typed.specs.Syntax.{Expr, Static, Parameter, Selections, Whole, Field, Index, Iteration, Range, Components, Chunk, NoChunk, Count, Each}
+use Rattle.ada_typed.specs.Syntax.{Expr, Static, Parameter, Binary, Selections, Whole, Field, Index, Iteration, Range, Components, Chunk, NoChunk, Count, Each}
 use Rattle.ada_effects.specs.Effects as law
 use Rattle.ada_effects.specs.Effects.{Step, FieldStep, IndexStep, ItemStep, Roles}
 use Rattle.ada_effects.specs.Conflicts as law-of
@@ -74,21 +76,53 @@ same_chunk NoChunk = refl
 same_chunk (Count e) = refl
 same_chunk (Each k low high check) = refl
 
-same_cond : (a b : Bool) → plain (cond a selector-of.Chunk (cond b selector-of.Loop selector-of.Any)) ≡ cond a (law.ChunkIndex (pos 0)) (cond b (law.LoopIndex (pos 0)) law.Any)
-same_cond true b = refl
-same_cond false true = refl
-same_cond false false = refl
+same_cond : (a b : Bool) (n : ℤ) → plain (cond a (selector-of.Chunk n) (cond b (selector-of.Loop n) selector-of.Any)) ≡ cond a (law.ChunkIndex n) (cond b (law.LoopIndex n) law.Any)
+same_cond true b n = refl
+same_cond false true n = refl
+same_cond false false n = refl
+
+-- what an operation of two operands is as an index, told by two ways
+module _ {S T : Type 0} (f : S → T) (g : S → T) (any : S) (by : ℕ → ℤ → S) (none : f any ≡ g any) (same : (k : ℕ) (n : ℤ) → f (by k n) ≡ g (by k n)) where
+  each_shifted : (p : Option ℕ) (d : Option ℤ) → f (law.shifted any by p d) ≡ g (law.shifted any by p d)
+  each_shifted None d = none
+  each_shifted (Some k) None = none
+  each_shifted (Some k) (Some n) = same k n
+
+  each_cond : (b : Bool) (s t : S) → f s ≡ g s → f t ≡ g t → f (cond b s t) ≡ g (cond b s t)
+  each_cond true s t h k = h
+  each_cond false s t h k = k
+
+  each_by_distance : (o : Op) (d e : Expr) → f (law.by_distance any by o d e) ≡ g (law.by_distance any by o d e)
+  each_by_distance op.Add d e = each_cond (is_some (law.a_parameter d)) _ _ (each_shifted (law.a_parameter d) (law.a_distance e)) (each_shifted (law.a_parameter e) (law.a_distance d))
+  each_by_distance op.Sub d e = each_shifted (law.a_parameter d) (law.opposite (law.a_distance e))
+  each_by_distance o d e = none
+
+module _ {S T : Type 0} (f : S → T) (any : S) (by : ℕ → ℤ → S) (by' : ℕ → ℤ → T) (same : (k : ℕ) (n : ℤ) → f (by k n) ≡ by' k n) where
+  map_shifted : (p : Option ℕ) (d : Option ℤ) → f (law.shifted any by p d) ≡ law.shifted (f any) by' p d
+  map_shifted None d = refl
+  map_shifted (Some k) None = refl
+  map_shifted (Some k) (Some n) = same k n
+
+  map_cond : (b : Bool) (s t : S) (s' t' : T) → f s ≡ s' → f t ≡ t' → f (cond b s t) ≡ cond b s' t'
+  map_cond true s t s' t' h k = h
+  map_cond false s t s' t' h k = k
+
+  map_by_distance : (o : Op) (d e : Expr) → f (law.by_distance any by o d e) ≡ law.by_distance (f any) by' o d e
+  map_by_distance op.Add d e = map_cond (is_some (law.a_parameter d)) _ _ _ _ (map_shifted (law.a_parameter d) (law.a_distance e)) (map_shifted (law.a_parameter e) (law.a_distance d))
+  map_by_distance op.Sub d e = map_shifted (law.a_parameter d) (law.opposite (law.a_distance e))
+  map_by_distance o d e = refl
 
 -- ---- names
 
 module _ (p : Place) (r : Roles) (s : Suits p r) where
-  same_role : (k : ℕ) → plain (role p k) ≡ law.role r k (pos 0)
-  same_role k = same_cond (is_one p.chunk_parameter k) (is_one p.loop_parameter k)
-      ∙ ap₂ (λ (a b : Bool). cond a (law.ChunkIndex (pos 0)) (cond b (law.LoopIndex (pos 0)) law.Any)) (same_one p.chunk_parameter k ∙ ap (λ o. law.is_one o k) s.chunk) (same_one p.loop_parameter k ∙ ap (λ o. law.is_one o k) s.loop)
+  same_role : (k : ℕ) (n : ℤ) → plain (role p k n) ≡ law.role r k n
+  same_role k n = same_cond (is_one p.chunk_parameter k) (is_one p.loop_parameter k) n
+      ∙ ap₂ (λ (a b : Bool). cond a (law.ChunkIndex n) (cond b (law.LoopIndex n) law.Any)) (same_one p.chunk_parameter k ∙ ap (λ o. law.is_one o k) s.chunk) (same_one p.loop_parameter k ∙ ap (λ o. law.is_one o k) s.loop)
 
   same_selector : (e : Expr) → plain (selector p e) ≡ law.selector r e
   same_selector (Static at value literal mentions) = refl
-  same_selector (Parameter at k) = same_role k
+  same_selector (Parameter at k) = same_role k (pos 0)
+  same_selector (Binary at o class e f) = map_by_distance plain selector-of.Any (role p) (law.role r) same_role o e f
   same_selector e = refl
 
   same_selections : (x : Selections) (found : List Selector) → map plain (selectors_with p x found) ≡ map plain found ++ path (law.steps_of r x)
@@ -178,13 +212,14 @@ free_append : (found more : List Selector) → map law.forgotten (map plain foun
 free_append found more f g = ap (map law.forgotten) (map-append plain found more) ∙ map-append law.forgotten (map plain found) (map plain more) ∙ ap₂ (λ (a b : List law.Selector). a ++ b) f g ∙ sym (map-append plain found more)
 
 module _ (p : Place) (a : Around p) where
-  free_role : (k : ℕ) → law.forgotten (plain (role p k)) ≡ plain (role p k)
-  free_role k = subst (λ o. law.forgotten (plain (cond (is_one o k) selector-of.Chunk (cond (is_one p.loop_parameter k) selector-of.Loop selector-of.Any))) ≡ plain (cond (is_one o k) selector-of.Chunk (cond (is_one p.loop_parameter k) selector-of.Loop selector-of.Any))) (sym a.chunk)
-      (subst (λ o. law.forgotten (plain (cond (is_one o k) selector-of.Loop selector-of.Any)) ≡ plain (cond (is_one o k) selector-of.Loop selector-of.Any)) (sym a.loop) refl)
+  free_role : (k : ℕ) (n : ℤ) → law.forgotten (plain (role p k n)) ≡ plain (role p k n)
+  free_role k n = subst (λ o. law.forgotten (plain (cond (is_one o k) (selector-of.Chunk n) (cond (is_one p.loop_parameter k) (selector-of.Loop n) selector-of.Any))) ≡ plain (cond (is_one o k) (selector-of.Chunk n) (cond (is_one p.loop_parameter k) (selector-of.Loop n) selector-of.Any))) (sym a.chunk)
+      (subst (λ o. law.forgotten (plain (cond (is_one o k) (selector-of.Loop n) selector-of.Any)) ≡ plain (cond (is_one o k) (selector-of.Loop n) selector-of.Any)) (sym a.loop) refl)
 
   free_selector : (e : Expr) → law.forgotten (plain (selector p e)) ≡ plain (selector p e)
   free_selector (Static at value literal mentions) = refl
-  free_selector (Parameter at k) = free_role k
+  free_selector (Parameter at k) = free_role k (pos 0)
+  free_selector (Binary at o class e f) = each_by_distance (λ s. law.forgotten (plain s)) plain selector-of.Any (role p) refl free_role o e f
   free_selector e = refl
 
   free_selections : (x : Selections) (found : List Selector) → map law.forgotten (map plain found) ≡ map plain found → map law.forgotten (map plain (selectors_with p x found)) ≡ map plain (selectors_with p x found)

@@ -1,6 +1,6 @@
 -- What was gathered of a text is exactly what stands in it (9.10.1): names by the paths that accesses are compared by, and
 -- calls.
-use Rattle.std.specs.Prelude.{◌≡◌, ℕ, pos, List, [], ◌∷◌, length, map, slice_get, Some, ◌⊎◌, Bool, true, false}
+use Rattle.std.specs.Prelude.{◌≡◌, ℕ, List, [], ◌∷◌, length, map, slice_get, Some, ◌⊎◌, Bool, true, false}
 use Rattle.ada_typed.specs.Syntax.{Program}
 use Rattle.ada_effects.specs.Effects as law
 use Rattle.ada_effects.specs.Effects.{Construct, LoopOf, BlockOf, ReductionOf, Item, Touches, Calls, Holds, InThread, InFront, InSub, IsGlobal}
@@ -24,8 +24,8 @@ IsIn x (y ∷ ys) = (x ≡ y) ⊎ IsIn x ys
 abbrev pub plain : Selector → law.Selector
 plain (selector.Field k) = law.At k
 plain (selector.Fixed v) = law.Fixed v
-plain selector.Loop = law.LoopIndex (pos 0)
-plain selector.Chunk = law.ChunkIndex (pos 0)
+plain (selector.Loop distance) = law.LoopIndex distance
+plain (selector.Chunk distance) = law.ChunkIndex distance
 plain selector.Any = law.Any
 
 abbrev pub effect_path : Path → EffectPath

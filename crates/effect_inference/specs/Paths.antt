@@ -1,8 +1,9 @@
 -- What names stand for where a text stands: an object and the selectors of a path (9.10.1).
-use Rattle.std.specs.Prelude.{ℕ, List, [], ◌∷◌, ◌++◌, map, replicate, Option, Some, None, Bool, true, false, ◌||◌, cond, nat_eq}
+use Rattle.std.specs.Prelude.{ℕ, ℤ, pos, List, [], ◌∷◌, ◌++◌, map, replicate, Option, Some, None, Bool, true, false, ◌||◌, cond, nat_eq}
 use Rattle.ada_typed.specs.declared.expressions.Root.{Root}
 use Rattle.ada_typed.specs.declared.expressions.Root.TheVariants as root
-use Rattle.ada_typed.specs.Syntax.{Expr, Static, Parameter, Selections, Whole, Field, Index, Iteration, Range, Components, Chunk, NoChunk, Count, Each}
+use Rattle.ada_typed.specs.Syntax.{Expr, Static, Parameter, Binary, Selections, Whole, Field, Index, Iteration, Range, Components, Chunk, NoChunk, Count, Each}
+use Rattle.ada_effects.specs.Effects.{by_distance}
 use Rattle.effect_clashes.specs.declared.effects.Selector.{Selector}
 use Rattle.effect_clashes.specs.declared.effects.Selector.TheVariants as selector-of
 use Rattle.effect_inference.specs.declared.environment.Environment.{Environment}
@@ -62,14 +63,15 @@ abbrev pub other : ℕ → Option ℕ → Option ℕ
 other k None = None
 other k (Some j) = cond (nat_eq j k) None (Some j)
 
--- what a parameter is as an index
-abbrev pub role : Place → ℕ → Selector
-role env k = cond (is_one env.chunk_parameter k) selector-of.Chunk (cond (is_one env.loop_parameter k) selector-of.Loop selector-of.Any)
+-- what a parameter and a distance are as an index
+abbrev pub role : Place → ℕ → ℤ → Selector
+role env k distance = cond (is_one env.chunk_parameter k) (selector-of.Chunk distance) (cond (is_one env.loop_parameter k) (selector-of.Loop distance) selector-of.Any)
 
 -- what an index is
 abbrev pub selector : Place → Expr → Selector
 selector env (Static at value literal mentions) = selector-of.Fixed value
-selector env (Parameter at k) = role env k
+selector env (Parameter at k) = role env k (pos 0)
+selector env (Binary at op class e f) = by_distance selector-of.Any (role env) op e f
 selector env e = selector-of.Any
 
 -- the selectors of a path with those that a name goes on by
@@ -107,7 +109,7 @@ chunk_parameter (Count e) = None
 chunk_parameter (Each k low high check) = Some k
 
 abbrev pub item_selector : Bool → Selector
-item_selector true = selector-of.Loop
+item_selector true = selector-of.Loop (pos 0)
 item_selector false = selector-of.Any
 
 -- the path of a component that an iteration over an array reaches: each dimension has an index

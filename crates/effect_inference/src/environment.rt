@@ -61,15 +61,15 @@ pub fn other(number: u32, parameter: Option<u32>) -> Option<u32>
     }
 }
 
-/// What a parameter is as an index.
-pub fn role(env: Environment<'_>, number: u32) -> Selector
-    ensures { result ≡ spec.role (place_of env.entry) number }
+/// What a parameter and a distance are as an index.
+pub fn role(env: Environment<'_>, number: u32, distance: i64) -> Selector
+    ensures { result ≡ spec.role (place_of env.entry) number distance }
 {
     if is_one(env.chunk_parameter, number) {
-        return Selector::Chunk;
+        return Selector::Chunk(distance);
     }
     if is_one(env.loop_parameter, number) {
-        return Selector::Loop;
+        return Selector::Loop(distance);
     }
     Selector::Any
 }

@@ -3,16 +3,94 @@
 ghost use Rattle.std.specs.Prelude.{◌≡◌, ◌++◌, ◌∷◌, map, replicate, IfOk, OnOk};
 ghost use Rattle.ada_typed.specs.Decoded.{as_selection, chunk_at, expr_at, part_at, selections_at};
 ghost use Rattle.ada_typed.specs.Syntax.{Selections};
+ghost use Rattle.ada_effects.specs.Effects.{a_distance, a_parameter, by_distance, is_distance, opposite, shifted};
+ghost use Rattle.effect_clashes.specs.declared.effects.Selector.TheVariants as selector_of;
 ghost use Rattle.effect_inference.specs.Paths as spec;
 ghost use Rattle.effect_inference.specs.Paths.{bound_of, name_of, place_of};
 ghost use Rattle.effect_inference.specs.Words.{path_name};
 
 use crate::environment::{Environment, Item, Named, hide, role, root_named};
 use crate::source::Source;
-use ada_base::Items;
+use ada_base::{Items, Op};
 use ada_typed::{Chunk, Expr, Root, Selection};
 use effect_clashes::effects::{Path, Selector};
 use std::alloc::AllocError;
+
+/// The parameter that an expression is.
+fn parameter(source: Source<'_>, id: u32) -> Option<u32>
+    ensures { result ≡ a_parameter (expr_at source.entry.typed.now.nodes id) }
+{
+    match source.typed.nodes.expr(id) {
+        Expr::Parameter { parameter, .. } => Some(parameter),
+        _ => None,
+    }
+}
+
+fn is_distance(value: i64) -> bool
+    ensures { result ≡ is_distance value }
+{
+    1 <= value && value <= 2_147_483_647
+}
+
+/// The distance from a parameter that an expression is: one number literal from 1 to 2147483647.
+fn distance(source: Source<'_>, id: u32) -> Option<i64>
+    ensures { result ≡ a_distance (expr_at source.entry.typed.now.nodes id) }
+{
+    match source.typed.nodes.expr(id) {
+        Expr::Static { value, literal, .. } => {
+            if literal && is_distance(value) {
+                Some(value)
+            } else {
+                None
+            }
+        }
+        _ => None,
+    }
+}
+
+/// The same where it is subtracted.
+fn opposite(source: Source<'_>, id: u32) -> Option<i64>
+    ensures { result ≡ opposite (a_distance (expr_at source.entry.typed.now.nodes id)) }
+{
+    match source.typed.nodes.expr(id) {
+        Expr::Static { value, literal, .. } => {
+            if literal && is_distance(value) {
+                Some(-value)
+            } else {
+                None
+            }
+        }
+        _ => None,
+    }
+}
+
+/// What a parameter and a distance are as an index, where both are there.
+fn shifted(env: Environment<'_>, parameter: Option<u32>, distance: Option<i64>) -> Selector
+    ensures { result ≡ shifted selector_of.Any (spec.role (place_of env.entry)) parameter distance }
+{
+    match (parameter, distance) {
+        (Some(number), Some(n)) => role(env, number, n),
+        _ => Selector::Any,
+    }
+}
+
+/// What an operation of two operands is as an index.
+fn by_distance(source: Source<'_>, env: Environment<'_>, op: Op, left: u32, right: u32) -> Selector
+    ensures { result ≡ by_distance selector_of.Any (spec.role (place_of env.entry)) op (expr_at source.entry.typed.now.nodes left) (expr_at source.entry.typed.now.nodes right) }
+{
+    match op {
+        Op::Add => {
+            let first = parameter(source, left);
+            if first.is_some() {
+                shifted(env, first, distance(source, right))
+            } else {
+                shifted(env, parameter(source, right), distance(source, left))
+            }
+        }
+        Op::Sub => shifted(env, parameter(source, left), opposite(source, right)),
+        _ => Selector::Any,
+    }
+}
 
 /// What an index is.
 fn index(source: Source<'_>, env: Environment<'_>, id: u32) -> Selector
@@ -20,7 +98,13 @@ fn index(source: Source<'_>, env: Environment<'_>, id: u32) -> Selector
 {
     match source.typed.nodes.expr(id) {
         Expr::Static { value, .. } => Selector::Fixed(value),
-        Expr::Parameter { parameter, .. } => role(env, parameter),
+        Expr::Parameter { parameter, .. } => role(env, parameter, 0),
+        Expr::Binary {
+            op,
+            left,
+            right,
+            ..
+        } => by_distance(source, env, op, left, right),
         _ => Selector::Any,
     }
 }
@@ -92,7 +176,7 @@ fn item_selector(judged: bool) -> Selector
     ensures { result ≡ spec.item_selector judged }
 {
     if judged {
-        Selector::Loop
+        Selector::Loop(0)
     } else {
         Selector::Any
     }
