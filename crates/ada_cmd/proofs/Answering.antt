@@ -1,9 +1,9 @@
 -- What is said of a refusal is what becomes of its text.
 use Rattle.std.proofs.Common.{ℕ, List, refl, ap, ◌∙◌, subst, inl, inr}
 use Rattle.ada_port.specs.Ports.{Stream}
-use Rattle.ada_run.specs.Compile.{IsRefusalOf}
-use Rattle.ada_run.specs.declared.refusal.Refusal.{Refusal}
-use Rattle.ada_run.specs.declared.refusal.Refusal.TheVariants as refusal
+use Rattle.driver.specs.Compile.{IsRefusalOf}
+use Rattle.driver.specs.declared.refusal.Refusal.{Refusal}
+use Rattle.driver.specs.declared.refusal.Refusal.TheVariants as refusal
 use Rattle.command_words.specs.Words.{Asked}
 use Rattle.ada_cmd.specs.Answer.{AnswersText, Refuses, Lacks, SaysRefusal, devices}
 use Rattle.run_reports.specs.Says.{Says}

@@ -5,14 +5,14 @@ use Rattle.ada_meaning.specs.Law as law
 use Rattle.ada_meaning.specs.Law.{Ending}
 use Rattle.ada_port.specs.Ports.{Stream, Rose, fetched}
 use Rattle.ada_port.proofs.Faults.{Risen-after_same}
-use Rattle.ada_run.specs.Compile.{IsAccepted, IsFaultOf}
-use Rattle.ada_run.specs.Compiled.{Compiled}
-use Rattle.ada_run.specs.Complaints.{Complaint}
-use Rattle.ada_run.specs.Lines.{line_of}
-use Rattle.ada_run.specs.Running as running
+use Rattle.driver.specs.Compile.{IsAccepted, IsFaultOf}
+use Rattle.driver.specs.Compiled.{Compiled}
+use Rattle.driver.specs.Complaints.{Complaint}
+use Rattle.driver.specs.Lines.{line_of}
+use Rattle.driver.specs.Running as running
 use Rattle.run_reports.specs.declared.ends.RunEnd.{RunEnd}
 use Rattle.run_reports.specs.declared.ends.RunEnd.TheVariants as run_end
-use Rattle.ada_run.proofs.Exact.{compiling_exact}
+use Rattle.driver.proofs.Exact.{compiling_exact}
 use Rattle.command_words.specs.Words.{Asked, asked}
 use Rattle.command_words.specs.declared.request.Mode.TheVariants as mode
 use Rattle.ada_cmd.specs.Answer.{Answers, Wrong, Right, Unasked, AnswersFile, Unread, Read, Short, AnswersText, Refuses, Checks, Starts, Lacks, Closes, Whole, OutFailed, Lacked, EndsBy, IsFetched, Outside, RunsUnit, Untouched, setting_of}

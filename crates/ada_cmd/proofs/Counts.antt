@@ -1,8 +1,8 @@
 -- A count that rose gives its status.
 use Rattle.std.proofs.Common.{◌≡◌, ◌⊎◌, ◌<◌, ℕ, List, Bool, true, false, ap, inl, inr, ◌∙◌, arith}
 use Rattle.ada_port.specs.Ports.{Texts, Stream}
-use Rattle.ada_run.specs.Compiled.{Compiled}
-use Rattle.ada_run.specs.Running as running
+use Rattle.driver.specs.Compiled.{Compiled}
+use Rattle.driver.specs.Running as running
 use Rattle.run_reports.specs.declared.ends.RunEnd.{RunEnd}
 use Rattle.run_reports.specs.declared.ends.RunEnd.TheVariants as run_end
 use Rattle.command_words.specs.Words.{Asked}

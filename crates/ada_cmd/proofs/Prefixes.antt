@@ -5,7 +5,7 @@ use Rattle.ada_meaning.specs.Law.{IsPrefix}
 use Rattle.ada_meaning.specs.Programs.{input_of, sequential}
 use Rattle.ada_meaning.specs.Sequential.{IsCalm}
 use Rattle.ada_port.specs.Ports.{Stream, bytes_of}
-use Rattle.ada_run.specs.Compiled.{Compiled}
+use Rattle.driver.specs.Compiled.{Compiled}
 use Rattle.run_reports.specs.declared.ends.RunEnd.{RunEnd}
 use Rattle.run_reports.specs.declared.ends.RunEnd.TheVariants as run_end
 use Rattle.run_reports.specs.declared.status.Status.{Status}

@@ -2,13 +2,13 @@
 use Rattle.std.specs.Prelude.{◌≡◌, ◌⊎◌, ℕ, List, Bool, true, false, Option, Some, None, IfSome}
 use Rattle.ada_meaning.specs.Programs.{Setting}
 use Rattle.ada_port.specs.Ports.{Texts, Stream, Grows, GrowsByPrefix, Breaks, Rose, fetched}
-use Rattle.ada_run.specs.Compile.{IsAccepted, IsFaultOf}
-use Rattle.ada_run.specs.Compiled.{Compiled}
-use Rattle.ada_run.specs.Complaints.{Complaint}
-use Rattle.ada_run.specs.Lines.{line_of, IsLineOf}
-use Rattle.ada_run.specs.declared.refusal.Refusal.{Refusal}
-use Rattle.ada_run.specs.declared.refusal.Refusal.TheVariants as refusal
-use Rattle.ada_run.specs.Running.{Runs}
+use Rattle.driver.specs.Compile.{IsAccepted, IsFaultOf}
+use Rattle.driver.specs.Compiled.{Compiled}
+use Rattle.driver.specs.Complaints.{Complaint}
+use Rattle.driver.specs.Lines.{line_of, IsLineOf}
+use Rattle.driver.specs.declared.refusal.Refusal.{Refusal}
+use Rattle.driver.specs.declared.refusal.Refusal.TheVariants as refusal
+use Rattle.driver.specs.Running.{Runs}
 use Rattle.run_reports.specs.Ends.{values_of}
 use Rattle.run_reports.specs.declared.ends.RunEnd.{RunEnd}
 use Rattle.run_reports.specs.declared.ends.RunEnd.TheVariants as run_end

@@ -5,8 +5,8 @@ use Rattle.ada_meaning.specs.Law.{Ending, Ended, Raised, TurnsSpent, ReadFault, 
 use Rattle.ada_meaning.specs.Programs.{input_of, sequential}
 use Rattle.ada_meaning.specs.Sequential.{IsCalm}
 use Rattle.ada_port.specs.Ports.{Texts, Rose, bytes_of, fetched}
-use Rattle.ada_run.specs.Compile.{IsAccepted}
-use Rattle.ada_run.specs.Compiled.{Compiled}
+use Rattle.driver.specs.Compile.{IsAccepted}
+use Rattle.driver.specs.Compiled.{Compiled}
 use Rattle.command_words.specs.Words.{Asked, asked}
 use Rattle.command_words.specs.declared.request.Mode.TheVariants as mode
 use Rattle.ada_cmd.specs.Answer.{Answers, Devices, Outside, IsFetched, Untouched, setting_of}

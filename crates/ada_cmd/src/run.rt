@@ -2,9 +2,9 @@
 
 ghost use Rattle.std.specs.Prelude.{◌≡◌, IfOk, string_bytes};
 ghost use Rattle.ada_port.specs.Ports.{IsTold};
-ghost use Rattle.chunk_plan.specs.Plans.{HasNoZero};
-ghost use Rattle.ada_run.specs.Compile.{IsAccepted, IsRefusalOf};
-ghost use Rattle.ada_run.specs.Compiled.{compiled_of};
+ghost use Rattle.run_plan.specs.Plans.{HasNoZero};
+ghost use Rattle.driver.specs.Compile.{IsAccepted, IsRefusalOf};
+ghost use Rattle.driver.specs.Compiled.{compiled_of};
 ghost use Rattle.run_reports.specs.Ends.{values_of};
 ghost use Rattle.command_words.specs.Answers.{asked_of, settings_of};
 ghost use Rattle.command_words.specs.Words.{Asked};
@@ -13,9 +13,9 @@ ghost use Rattle.run_reports.specs.Lines.{accepted_line};
 ghost use Rattle.run_reports.specs.Vars.{vars_lines};
 
 use ada_port::{Pulse, Shelf, ShelfFault, Sink, Source};
-use ada_run::{Finals, Ran, Refusal, RunEnd, Unit, compile, execute};
-use chunk_plan::Setting;
 use command_words::{Mode, Request};
+use driver::{Finals, Ran, Refusal, RunEnd, Unit, compile, execute};
+use run_plan::Setting;
 use run_reports::{
     Status, Unput, put_vars, say, say_out_of_memory, say_raised, say_read_fault, say_spent,
     say_unreadable, say_write_fault,

@@ -1,8 +1,8 @@
 //! Canonical texts, and a program of nearly as many tokens as there may be.
 
-use ada_grammar::{parse, print};
-use ada_lexer::lex;
 use std::alloc::{AllocError, Global};
+use syntax_lexer::lex;
+use syntax_parse::{parse, print};
 
 fn has_tree(alloc: Global, text: &str) -> bool {
     match lex(alloc, text.as_bytes()) {

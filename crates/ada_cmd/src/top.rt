@@ -4,10 +4,10 @@ ghost use Rattle.std.specs.Prelude.{◌≡◌, ◌⊎◌, ◌<◌, ℕ, List, So
 ghost use Rattle.ada_base.specs.declared.reason.Reason.{Reason};
 ghost use Rattle.ada_meaning.specs.Law.{Ended, IsRaceFree, Raised, ReadFault, TurnsSpent};
 ghost use Rattle.ada_port.specs.Ports.{IsTold, Rose, fetched};
-ghost use Rattle.ada_run.specs.Compile.{IsAccepted, IsFaultOf};
-ghost use Rattle.ada_run.specs.Compiled.{Compiled};
-ghost use Rattle.ada_run.specs.Complaints.{Complaint};
-ghost use Rattle.ada_run.specs.Lines.{line_of};
+ghost use Rattle.driver.specs.Compile.{IsAccepted, IsFaultOf};
+ghost use Rattle.driver.specs.Compiled.{Compiled};
+ghost use Rattle.driver.specs.Complaints.{Complaint};
+ghost use Rattle.driver.specs.Lines.{line_of};
 ghost use Rattle.command_words.specs.Words.{Asked, asked};
 ghost use Rattle.command_words.specs.declared.request.Mode.TheVariants as modes;
 ghost use Rattle.ada_cmd.specs.Answer.{Answers, Closes, RunsUnit, Untouched, devices, outside};

@@ -1,6 +1,6 @@
 -- A run may be stopped between any two of its deeds.
 use Rattle.std.proofs.Common.{◌≡◌, ℕ, suc, ◌+◌, min, List, [], ◌∷◌, ◌++◌, length, Option, Bool, refl, sym, subst, ap, ap₂, ◌∙◌, arith, append_assoc}
-use Rattle.ada_typed.specs.Syntax.{Program}
+use Rattle.typed_tree.specs.Syntax.{Program}
 use Rattle.ada_base.specs.Cuts.{cuts_of}
 use Rattle.behaviours.specs.Paths.{Instance, End, Stopped, Path, start, nothing_visible}
 use Rattle.behaviours.specs.Events.{Event, Reads, Writes, Recalls, Keeps, Takes, Puts, Looks, Trace, output_of}

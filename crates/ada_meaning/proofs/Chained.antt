@@ -2,8 +2,8 @@
 use Rattle.std.proofs.Common.{◌≡◌, ℕ, zero, suc, ◌+◌, ℤ, nat_eq, List, [], ◌∷◌, ◌++◌, length, Option, Some, None, Result, Ok, Err, Bool, true, false, cond, not, is_some, ◌||◌, refl, sym, subst, ap, ap₂, ◌∙◌, arith, le_refl, ◌≤◌}
 use Rattle.ada_base.specs.Cuts.{cuts_of}
 use Rattle.ada_base.specs.declared.reason.Reason.TheVariants as reason
-use Rattle.ada_typed.specs.declared.expressions.Reducer.{Reducer}
-use Rattle.ada_typed.specs.declared.expressions.Reducer.TheVariants.{Operator, Function}
+use Rattle.typed_tree.specs.declared.expressions.Reducer.{Reducer}
+use Rattle.typed_tree.specs.declared.expressions.Reducer.TheVariants.{Operator, Function}
 use Rattle.behaviours.specs.Doings.{through, onto, folded}
 use Rattle.behaviours.specs.Paths.{Leave, Raises, Entity, Region}
 use Rattle.behaviours.specs.Joins.{Share, Site, deal}

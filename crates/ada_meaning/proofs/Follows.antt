@@ -1,7 +1,7 @@
 -- Where the sequential run is calm, the planned run is the same: operations outside constructs.
 use Rattle.std.proofs.Common.{◌≡◌, ℕ, zero, suc, ◌+◌, ◌<◌, ◌≤◌, ℤ, nat_lt, List, [], ◌∷◌, ◌++◌, ◌⊎◌, inl, inr, Option, Some, None, Bool, true, false, cond, ◌||◌, refl, sym, subst, ap, ap₂, ◌∙◌, true≢false, arith, ltb, ltb-true, ltb-false, le_refl, le_trans, length}
 use Rattle.ada_base.specs.declared.reason.Reason.TheVariants as reason
-use Rattle.ada_typed.specs.declared.scalars.Scalar.{Scalar}
+use Rattle.typed_tree.specs.declared.scalars.Scalar.{Scalar}
 use Rattle.ada_base.specs.Input.{Held}
 use Rattle.behaviours.specs.Doings.{through}
 use Rattle.behaviours.specs.Paths.{Leave, Raises, Entity, VariableOf, Region, Everywhere, Here, Instance, End, Gives, Leaves, Spent, Stopped, Path, Scope, Extent, first_of, within_extent, declares, apart_of, entity_eq, one_turn, one_taken, one_elaboration}

@@ -1,10 +1,10 @@
 -- Wherever the trace of a run is parted, there is a run that was stopped there; and bytes of input are asked for in order,
 -- outside threads alone.
 use Rattle.std.proofs.Common.{◌≡◌, ℕ, zero, suc, ◌+◌, ℤ, List, [], ◌∷◌, ◌++◌, length, Option, Some, None, ◌⊎◌, inl, inr, ⊎_elim, Bool, true, false, cond, not, is_some, ◌||◌, refl, sym, subst, ap, ap₂, ◌∙◌, true≢false, arith, append_assoc, append-nil, ltb, ltb-true, ltb-false}
-use Rattle.ada_typed.specs.declared.scalars.Scalar.{Scalar}
-use Rattle.ada_typed.specs.declared.expressions.Reducer.{Reducer}
-use Rattle.ada_typed.specs.declared.expressions.Reducer.TheVariants.{Operator, Function}
-use Rattle.ada_typed.specs.Syntax.{Program}
+use Rattle.typed_tree.specs.declared.scalars.Scalar.{Scalar}
+use Rattle.typed_tree.specs.declared.expressions.Reducer.{Reducer}
+use Rattle.typed_tree.specs.declared.expressions.Reducer.TheVariants.{Operator, Function}
+use Rattle.typed_tree.specs.Syntax.{Program}
 use Rattle.ada_base.specs.declared.reason.Reason.TheVariants as reason
 use Rattle.ada_base.specs.Input.{Nothing}
 use Rattle.behaviours.specs.Doings.{through, onto, folded}

@@ -6,15 +6,15 @@ use Rattle.ada_base.specs.declared.reason.Reason.TheVariants as reason
 use Rattle.ada_base.specs.Operation.{is_in_base}
 use Rattle.ada_base.proofs.Readings
 use Rattle.ada_base.proofs.Readings.{Relates as RelatesReadings}
-use Rattle.ada_typed.specs.declared.scalars.Class.{Class}
-use Rattle.ada_typed.specs.declared.scalars.Scalar.{Scalar}
-use Rattle.ada_typed.specs.declared.scalars.Check.{Check}
-use Rattle.ada_typed.specs.declared.expressions.Sign.{Sign}
-use Rattle.ada_typed.specs.declared.expressions.Sign.TheVariants as sign
-use Rattle.ada_typed.specs.declared.expressions.Run.{Run}
-use Rattle.ada_typed.specs.declared.expressions.Iterated.{Iterated}
-use Rattle.ada_typed.specs.declared.expressions.Reducer.{Reducer}
-use Rattle.ada_typed.specs.declared.expressions.Reducer.TheVariants.{Operator, Function}
+use Rattle.typed_tree.specs.declared.scalars.Class.{Class}
+use Rattle.typed_tree.specs.declared.scalars.Scalar.{Scalar}
+use Rattle.typed_tree.specs.declared.scalars.Check.{Check}
+use Rattle.typed_tree.specs.declared.expressions.Sign.{Sign}
+use Rattle.typed_tree.specs.declared.expressions.Sign.TheVariants as sign
+use Rattle.typed_tree.specs.declared.expressions.Run.{Run}
+use Rattle.typed_tree.specs.declared.expressions.Iterated.{Iterated}
+use Rattle.typed_tree.specs.declared.expressions.Reducer.{Reducer}
+use Rattle.typed_tree.specs.declared.expressions.Reducer.TheVariants.{Operator, Function}
 use Rattle.ada_base.specs.Cuts.{evens}
 use Rattle.ada_base.specs.Image.{padded}
 use Rattle.ada_base.specs.Input.{Held}
@@ -26,7 +26,7 @@ use Rattle.ada_meaning.specs.Operations.{CheckKind, RangeCheck, IndexCheck, Over
 use Rattle.ada_meaning.specs.Meaning
 use Rattle.ada_meaning.specs.Meaning.{Part, Env, Back, Passed, Returned, outset, with_target, with_handled, inside, variable_root, constant_root, array_root, iterated_env, cut_of, value_cut_of, arms_of, exits, returns, raises, value_of, reason_of, has_handlers, sub_at, moved, object_layout, most_nested, most_threads, most_iterations, most_calls}
 use Rattle.ada_meaning.specs.Nonblocking.{MayCall, MayReduce, KeepsExpr, KeepsOptional, KeepsSelections, KeepsActuals, KeepsValue, KeepsComposite, KeepsAssociations, KeepsIteration, KeepsChunk, KeepsPieces, KeepsDecls, Keeps, KeepsAll, KeepsAlternatives, KeepsArms, KeepsHandlers, KeepsBody, KeepsSubs, KeepsRule, nonblocking_of}
-use Rattle.ada_typed.specs.Syntax.{Expr, Static, Variable, Constant, Parameter, Target, Group, Unary, Binary, AndThen, OrElse, Relation, Membership, If, Call, Convert, Reduction, Optional, Absent, Present, Selections, Whole, Field, Index, Actuals, NoActual, In, InOut, Out, CompositeInOut, CompositeOut, Value, Number, Cells, Composite, WholeVariable, WholeConstant, WholeTarget, CompositeIf, Aggregate, Associations, NoAssociation, Association, Iteration, Range, Components, Chunk, NoChunk, Count, Each, Pieces, NoPiece, Text, Image, Padded, Decls, NoDecl, DeclareDefault, DeclareVariable, DeclareConstant, Mentions, Stmt, Null, Assign, CallProcedure, Exit, Return, ReturnValue, Raise, Reraise, IfThen, Case, Loop, For, ParallelFor, Parallel, Block, Put, Get, Stmts, End, Then, Alternatives, NoAlternative, Alternative, Arms, NoArm, Arm, Handlers, NoHandler, Handler, Body, Sub, Program}
+use Rattle.typed_tree.specs.Syntax.{Expr, Static, Variable, Constant, Parameter, Target, Group, Unary, Binary, AndThen, OrElse, Relation, Membership, If, Call, Convert, Reduction, Optional, Absent, Present, Selections, Whole, Field, Index, Actuals, NoActual, In, InOut, Out, CompositeInOut, CompositeOut, Value, Number, Cells, Composite, WholeVariable, WholeConstant, WholeTarget, CompositeIf, Aggregate, Associations, NoAssociation, Association, Iteration, Range, Components, Chunk, NoChunk, Count, Each, Pieces, NoPiece, Text, Image, Padded, Decls, NoDecl, DeclareDefault, DeclareVariable, DeclareConstant, Mentions, Stmt, Null, Assign, CallProcedure, Exit, Return, ReturnValue, Raise, Reraise, IfThen, Case, Loop, For, ParallelFor, Parallel, Block, Put, Get, Stmts, End, Then, Alternatives, NoAlternative, Alternative, Arms, NoArm, Arm, Handlers, NoHandler, Handler, Body, Sub, Program}
 
 pub record Relates {ℓ κ ν} (o : Operations {ℓ}) (q : Operations {κ}) : Type (ℓ ⊔ κ ⊔ (ν + 1) ⊔ 1) where
   -- where input and output are allowed; inside a thread they aren't asked for

@@ -1,6 +1,6 @@
 -- The laws that are proved.
 use Rattle.std.proofs.Common.{◌≡◌, ℕ, zero, suc, ℤ, min, length, List, [], ◌∷◌, ◌++◌, Bool, true, false, not, inl, inr, refl, sym, ap, ap₂, subst, ◌∙◌, le_refl, append-nil, append_assoc}
-use Rattle.ada_typed.specs.Syntax.{Program}
+use Rattle.typed_tree.specs.Syntax.{Program}
 use Rattle.ada_base.specs.Cuts.{cuts_of}
 use Rattle.behaviours.specs.Paths.{Exits, Returns, Raises, Entity, VariableOf, ConstantOf, Everywhere, Instance, Path, End, Gives, Leaves, Spent, Stopped, Scope, start, nothing_visible}
 use Rattle.behaviours.specs.Events.{Trace, Puts, output_of}

@@ -1,7 +1,7 @@
 -- Where the stored run has the cells of instances, and what that leaves after its steps.
 use Rattle.std.proofs.Common.{◌≡◌, ℕ, ◌+◌, ◌<◌, ◌≤◌, min, ℤ, pos, nat_eq, nat_lt, List, [], ◌∷◌, ◌++◌, length, take, drop, slice_get, Option, Some, None, ◌⊎◌, inl, inr, Bool, true, false, cond, refl, sym, subst, ap, ap₂, ◌∙◌, true≢false, arith, eq-eqb, eqb-true, ltb-true}
 use Rattle.std.proofs.lemmas.Option.{slice_get_within}
-use Rattle.ada_typed.specs.Syntax.{Program}
+use Rattle.typed_tree.specs.Syntax.{Program}
 use Rattle.behaviours.specs.Paths.{Entity, VariableOf, ConstantOf, Region, Everywhere, Here, Instance, Path, Scope, Extent, find, first_of, within_extent, instance_eq}
 use Rattle.behaviours.specs.Memory.{Memory, put}
 use Rattle.ada_meaning.specs.Meaning.{object_layout}

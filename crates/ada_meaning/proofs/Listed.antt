@@ -7,9 +7,9 @@ use Rattle.std.specs.Int.{int_min, int_max}
 use Rattle.ada_base.specs.declared.reason.Reason.TheVariants as reason
 use Rattle.ada_base.specs.declared.operation.Op.TheVariants as op
 use Rattle.ada_base.specs.Operation.{is_in_base}
-use Rattle.ada_typed.specs.declared.scalars.Class.{Class}
-use Rattle.ada_typed.specs.declared.expressions.Reducer.{Reducer}
-use Rattle.ada_typed.specs.declared.expressions.Reducer.TheVariants.{Operator, Function}
+use Rattle.typed_tree.specs.declared.scalars.Class.{Class}
+use Rattle.typed_tree.specs.declared.expressions.Reducer.{Reducer}
+use Rattle.typed_tree.specs.declared.expressions.Reducer.TheVariants.{Operator, Function}
 use Rattle.behaviours.specs.Doings.{onto}
 use Rattle.behaviours.specs.Paths.{Raises, Instance, End, Gives, Leaves, Path, Scope}
 use Rattle.behaviours.specs.Memory.{Memory}

@@ -1,10 +1,10 @@
 -- The runs of every program agree with its planned run.
 use Rattle.std.proofs.Common.{◌≡◌, ℕ, ℤ, List, [], ◌∷◌, Option, Some, None, Bool, true, false, cond, not, is_some, refl, true≢false, ◌∙◌, sym}
 use Rattle.ada_base.specs.declared.operation.Op.{Op}
-use Rattle.ada_typed.specs.declared.scalars.Class.{Class}
-use Rattle.ada_typed.specs.declared.expressions.Reducer.{Reducer}
-use Rattle.ada_typed.specs.declared.expressions.Reducer.TheVariants.{Operator, Function}
-use Rattle.ada_typed.specs.Syntax.{Program}
+use Rattle.typed_tree.specs.declared.scalars.Class.{Class}
+use Rattle.typed_tree.specs.declared.expressions.Reducer.{Reducer}
+use Rattle.typed_tree.specs.declared.expressions.Reducer.TheVariants.{Operator, Function}
+use Rattle.typed_tree.specs.Syntax.{Program}
 use Rattle.behaviours.specs.Doings.{through, folded}
 use Rattle.behaviours.specs.Paths.{Instance, apart_of}
 use Rattle.behaviours.specs.Events.{Looks}

@@ -2,9 +2,9 @@
 -- early and no thread has a race.
 use Rattle.std.proofs.Common.{◌≡◌, length, ℕ, ℤ, List, [], ◌∷◌, ◌++◌, ◌⊎◌, Option, inl, inr, ⊎_elim, Bool, true, false, cond, ◌||◌, refl, sym, subst, ap, ◌∙◌, true≢false}
 use Rattle.std.proofs.lemmas.List.{append_assoc, append-nil}
-use Rattle.ada_typed.specs.declared.expressions.Reducer.{Reducer}
-use Rattle.ada_typed.specs.declared.expressions.Reducer.TheVariants.{Operator, Function}
-use Rattle.ada_typed.specs.Syntax.{Program}
+use Rattle.typed_tree.specs.declared.expressions.Reducer.{Reducer}
+use Rattle.typed_tree.specs.declared.expressions.Reducer.TheVariants.{Operator, Function}
+use Rattle.typed_tree.specs.Syntax.{Program}
 use Rattle.ada_base.specs.Input.{Held}
 use Rattle.behaviours.specs.Doings.{onto}
 use Rattle.behaviours.specs.Paths.{Leave, Entity, Region, Instance, End, Gives, Leaves, Spent, Stopped, Path, Scope, declares, apart_of, one_taken, one_elaboration}

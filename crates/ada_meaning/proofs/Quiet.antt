@@ -1,7 +1,7 @@
 -- Behaviours that take no input and put nothing out.
 use Rattle.std.proofs.Common.{ℕ, zero, suc, ℤ, List, [], ◌∷◌, ◌++◌, sym, ◌⊎◌, inl, inr, ⊎_elim, Option, Some, None, Bool, true, false, subst}
 use Rattle.ada_base.specs.declared.reason.Reason.TheVariants as reason
-use Rattle.ada_typed.specs.declared.scalars.Scalar.{Scalar}
+use Rattle.typed_tree.specs.declared.scalars.Scalar.{Scalar}
 use Rattle.behaviours.specs.Doings.{through, onto}
 use Rattle.behaviours.specs.Paths.{Leave, Raises, Entity, VariableOf, Region, Instance, End, Path, Scope, find, enter}
 use Rattle.behaviours.specs.Events.{Event, Writes, Trace, Has, IsInputOutput}

@@ -1,10 +1,10 @@
 -- Where the sequential run of a program is calm, the planned run comes to the same.
 use Rattle.std.proofs.Common.{◌≡◌, ℕ, ℤ, List, [], ◌∷◌, ◌++◌, Option, Some, None, is_some, not, Bool, true, false, cond, ◌||◌, refl, sym, subst, ap, ◌∙◌, append_assoc, append-nil}
 use Rattle.ada_base.specs.declared.operation.Op.{Op}
-use Rattle.ada_typed.specs.declared.scalars.Class.{Class}
-use Rattle.ada_typed.specs.declared.expressions.Reducer.{Reducer}
-use Rattle.ada_typed.specs.declared.expressions.Reducer.TheVariants.{Operator, Function}
-use Rattle.ada_typed.specs.Syntax.{Program}
+use Rattle.typed_tree.specs.declared.scalars.Class.{Class}
+use Rattle.typed_tree.specs.declared.expressions.Reducer.{Reducer}
+use Rattle.typed_tree.specs.declared.expressions.Reducer.TheVariants.{Operator, Function}
+use Rattle.typed_tree.specs.Syntax.{Program}
 use Rattle.behaviours.specs.Doings.{folded}
 use Rattle.behaviours.specs.Paths.{Instance, End, Gives, Leaves, Spent, Stopped, Path, Scope, enter, joined}
 use Rattle.behaviours.specs.Memory.{Memory}

@@ -1,10 +1,10 @@
 -- Where the rule on blocking calls is kept no thread of a construct takes input or puts output.
 use Rattle.std.proofs.Common.{◌≡◌, ℕ, ℤ, List, [], ◌∷◌, Option, Some, None, Bool, true, false, cond, not, is_some, refl, sym, ◌∙◌, true≢false}
 use Rattle.ada_base.specs.declared.operation.Op.{Op}
-use Rattle.ada_typed.specs.declared.scalars.Class.{Class}
-use Rattle.ada_typed.specs.declared.expressions.Reducer.{Reducer}
-use Rattle.ada_typed.specs.declared.expressions.Reducer.TheVariants.{Operator, Function}
-use Rattle.ada_typed.specs.Syntax.{Program}
+use Rattle.typed_tree.specs.declared.scalars.Class.{Class}
+use Rattle.typed_tree.specs.declared.expressions.Reducer.{Reducer}
+use Rattle.typed_tree.specs.declared.expressions.Reducer.TheVariants.{Operator, Function}
+use Rattle.typed_tree.specs.Syntax.{Program}
 use Rattle.behaviours.specs.Doings.{through, folded}
 use Rattle.behaviours.specs.Paths.{VariableOf, Instance, Path, Scope, find, apart_of}
 use Rattle.behaviours.specs.Events.{Looks}

@@ -1,8 +1,8 @@
 -- What the stored run does is one of the runs, operation by operation.
 use Rattle.std.proofs.Common.{◌≡◌, ℕ, zero, suc, ◌+◌, ◌<◌, ◌≤◌, min, ℤ, List, [], ◌∷◌, ◌++◌, length, drop, Option, Some, None, Result, Ok, Err, ◌⊎◌, inl, inr, ⊎_elim, Bool, true, false, cond, ◌||◌, refl, sym, subst, ap, ap₂, ◌∙◌, true≢false, arith, le_refl, append_assoc, append-nil, ltb, ltb-true, ltb-false, length-set}
 use Rattle.ada_base.specs.declared.reason.Reason.TheVariants as reason
-use Rattle.ada_typed.specs.declared.scalars.Scalar.{Scalar}
-use Rattle.ada_typed.specs.Syntax.{Program}
+use Rattle.typed_tree.specs.declared.scalars.Scalar.{Scalar}
+use Rattle.typed_tree.specs.Syntax.{Program}
 use Rattle.ada_base.specs.Input.{Held, Nothing}
 use Rattle.behaviours.specs.Paths.{Leave, Raises, Entity, VariableOf, Region, Everywhere, Here, Instance, End, Gives, Leaves, Stopped, Path, Scope, find, declares, apart_of, one_turn, one_taken, one_elaboration}
 use Rattle.behaviours.specs.Events.{Event, Reads, Writes, Recalls, Keeps, Takes, Puts, Looks, Trace, output_of}

@@ -4,12 +4,12 @@ use Rattle.std.proofs.Math.ListN.{get_or, get_or-append}
 use Rattle.std.proofs.Math.Seq.{get_or-append_seam}
 use Rattle.std.proofs.lemmas.List.{get_or_past}
 use Rattle.std.proofs.lemmas.Option.{slice_get_past}
-use Rattle.ada_typed.specs.declared.program.Bounds.{Bounds}
-use Rattle.ada_typed.specs.declared.program.Field as field
-use Rattle.ada_typed.specs.Layout as typed
-use Rattle.ada_typed.specs.Layout.{subtype_cells, fields_cells, sizes_from}
-use Rattle.ada_typed.specs.Syntax as syntax
-use Rattle.ada_typed.specs.Syntax.{Subtype}
+use Rattle.typed_tree.specs.declared.program.Bounds.{Bounds}
+use Rattle.typed_tree.specs.declared.program.Field as field
+use Rattle.typed_tree.specs.Layout as typed
+use Rattle.typed_tree.specs.Layout.{subtype_cells, fields_cells, sizes_from}
+use Rattle.typed_tree.specs.Syntax as syntax
+use Rattle.typed_tree.specs.Syntax.{Subtype}
 use Rattle.ada_meaning.specs.Values.{components, count, fields, layout_of, layout}
 use Rattle.ada_meaning.specs.Shapes.{size, shape_within, AreBefore, StandsBefore, IsGrounded, SizeLaw}
 use Rattle.ada_meaning.proofs.Shapes.{repeated_length, entry_size, within_size, unfolds}

@@ -2,10 +2,10 @@
 use Rattle.std.proofs.Common.{◌≤◌, nat_eq, inl, inr, arith, ◌≡◌, ℕ, zero, suc, min, ℤ, length, replicate, List, [], ◌∷◌, ◌++◌, Option, Some, None, Result, Ok, Err, Bool, true, false, cond, not, is_some, refl, sym, subst, ap, ◌∙◌, true≢false, append-nil, append_assoc, drop}
 use Rattle.std.proofs.Math.Seq.{drop-append_seam}
 use Rattle.ada_base.specs.declared.operation.Op.{Op}
-use Rattle.ada_typed.specs.declared.scalars.Class.{Class}
-use Rattle.ada_typed.specs.declared.expressions.Reducer.{Reducer}
-use Rattle.ada_typed.specs.declared.expressions.Reducer.TheVariants.{Operator, Function}
-use Rattle.ada_typed.specs.Syntax.{Program}
+use Rattle.typed_tree.specs.declared.scalars.Class.{Class}
+use Rattle.typed_tree.specs.declared.expressions.Reducer.{Reducer}
+use Rattle.typed_tree.specs.declared.expressions.Reducer.TheVariants.{Operator, Function}
+use Rattle.typed_tree.specs.Syntax.{Program}
 use Rattle.ada_base.specs.Cuts.{cuts_of}
 use Rattle.behaviours.specs.Doings.{through, onto, folded}
 use Rattle.behaviours.specs.Paths.{Leave, Exits, Returns, Raises, Everywhere, Instance, End, Stopped, Path, start, nothing_visible}

@@ -1,6 +1,6 @@
 -- The threads of a construct in the stored run, one after the other, are one of the runs of the construct.
 use Rattle.std.proofs.Common.{◌≡◌, ℕ, nat_eq, ◌≤◌, min, max, List, [], ◌∷◌, ◌++◌, length, drop, Option, Some, None, Result, Ok, Err, ◌⊎◌, inl, inr, ⊎_elim, Bool, true, false, cond, ◌||◌, refl, sym, subst, ap, ap₂, ◌∙◌, true≢false, arith, le_refl, append_assoc, append-nil}
-use Rattle.ada_typed.specs.Syntax.{Program}
+use Rattle.typed_tree.specs.Syntax.{Program}
 use Rattle.behaviours.specs.Paths.{Leave, Instance, End, Gives, Leaves, Spent, Stopped, Path, Scope, enter, leave, joined, is_inside}
 use Rattle.behaviours.specs.Events.{Trace, output_of, in_order}
 use Rattle.behaviours.specs.Memory.{Memory, after, Fits}

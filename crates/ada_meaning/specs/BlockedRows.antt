@@ -1,10 +1,10 @@
 -- Programs written by hand, and the calls by which they break the rule on nonblocking text.
 use Rattle.std.specs.Prelude.{◌≡◌, ℕ, pos, [], ◌∷◌, Some, None, Bool, true, false}
 use Rattle.ada_base.specs.declared.operation.Op.TheVariants as op
-use Rattle.ada_typed.specs.declared.expressions.Root.TheVariants as root
-use Rattle.ada_typed.specs.declared.expressions.Reducer.TheVariants as reducer
-use Rattle.ada_typed.specs.declared.program.Mode.TheVariants as mode
-use Rattle.ada_typed.specs.Syntax.{Constant, Parameter, Binary, Call, Reduction, Whole, NoActual, In, NoChunk, NoDecl, ParallelFor, Put, Text, NoPiece, ReturnValue, Null, End, Then, NoHandler, Program}
+use Rattle.typed_tree.specs.declared.expressions.Root.TheVariants as root
+use Rattle.typed_tree.specs.declared.expressions.Reducer.TheVariants as reducer
+use Rattle.typed_tree.specs.declared.program.Mode.TheVariants as mode
+use Rattle.typed_tree.specs.Syntax.{Constant, Parameter, Binary, Call, Reduction, Whole, NoActual, In, NoChunk, NoDecl, ParallelFor, Put, Text, NoPiece, ReturnValue, Null, End, Then, NoHandler, Program}
 use Rattle.ada_meaning.specs.Nonblocking.{KeepsRule}
 use Rattle.ada_meaning.specs.Blocked.{Blocked}
 use Rattle.ada_meaning.specs.Rows.{integers, integer, number, stored, put_image, object_of, made_of, upto, formal}

@@ -3,14 +3,14 @@ use Rattle.std.specs.Prelude.{◌≡◌, ℕ, ℤ, pos, List, [], ◌∷◌, Som
 use Rattle.ada_base.specs.declared.operation.Op.TheVariants as op
 use Rattle.ada_base.specs.declared.reason.Reason.{Reason}
 use Rattle.ada_base.specs.declared.reason.Reason.TheVariants as reason
-use Rattle.ada_typed.specs.declared.scalars.Scalar.{Scalar}
-use Rattle.ada_typed.specs.declared.scalars.Comparison.TheVariants as comparison
-use Rattle.ada_typed.specs.declared.expressions.Root.TheVariants as root
-use Rattle.ada_typed.specs.declared.expressions.Reducer.TheVariants as reducer
-use Rattle.ada_typed.specs.declared.program.Formal.{Formal}
-use Rattle.ada_typed.specs.declared.program.Mode.TheVariants as mode
-use Rattle.ada_typed.specs.Syntax as syntax
-use Rattle.ada_typed.specs.Syntax.{Expr, Constant, Parameter, Binary, Relation, Call, Reduction, Whole, NoActual, In, InOut, Out, Number, Range, NoChunk, NoDecl, DeclareDefault, DeclareVariable, Stmt, CallProcedure, ReturnValue, Raise, Reraise, Null, IfThen, Block, Put, Text, NoPiece, Stmts, End, Then, NoHandler, Handler, Sub, Program}
+use Rattle.typed_tree.specs.declared.scalars.Scalar.{Scalar}
+use Rattle.typed_tree.specs.declared.scalars.Comparison.TheVariants as comparison
+use Rattle.typed_tree.specs.declared.expressions.Root.TheVariants as root
+use Rattle.typed_tree.specs.declared.expressions.Reducer.TheVariants as reducer
+use Rattle.typed_tree.specs.declared.program.Formal.{Formal}
+use Rattle.typed_tree.specs.declared.program.Mode.TheVariants as mode
+use Rattle.typed_tree.specs.Syntax as syntax
+use Rattle.typed_tree.specs.Syntax.{Expr, Constant, Parameter, Binary, Relation, Call, Reduction, Whole, NoActual, In, InOut, Out, Number, Range, NoChunk, NoDecl, DeclareDefault, DeclareVariable, Stmt, CallProcedure, ReturnValue, Raise, Reraise, Null, IfThen, Block, Put, Text, NoPiece, Stmts, End, Then, NoHandler, Handler, Sub, Program}
 use Rattle.ada_base.specs.Cuts.{Even}
 use Rattle.behaviours.specs.Paths.{Raises, Gives, Leaves, Spent}
 use Rattle.ada_meaning.specs.Programs.{answer_of, planned, sequential}

@@ -1,6 +1,6 @@
 -- What a run asks of the input and puts out, in order; and beginnings of runs.
 use Rattle.std.specs.Prelude.{◌≡◌, ℕ, suc, min, ℤ, length, List, [], ◌∷◌, ◌++◌, Bool}
-use Rattle.ada_typed.specs.Syntax.{Program}
+use Rattle.typed_tree.specs.Syntax.{Program}
 use Rattle.behaviours.specs.Paths.{Instance, End, Stopped, Path, start, nothing_visible}
 use Rattle.behaviours.specs.Events.{Event, Reads, Writes, Recalls, Keeps, Takes, Puts, Looks, Trace}
 use Rattle.ada_meaning.specs.Nonblocking.{KeepsRule}

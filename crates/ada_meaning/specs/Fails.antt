@@ -1,7 +1,7 @@
 -- Which checks can fail: a reading of the operations that keeps, beside the runs, the traces up to a check that doesn't hold.
 use Rattle.std.specs.Prelude.{◌≡◌, length, ℕ, ℤ, List, [], ◌∷◌, ◌++◌, Option, ◌⊎◌, Bool, true, false, ◌||◌}
-use Rattle.ada_typed.specs.declared.expressions.Reducer.{Reducer}
-use Rattle.ada_typed.specs.Syntax.{Program}
+use Rattle.typed_tree.specs.declared.expressions.Reducer.{Reducer}
+use Rattle.typed_tree.specs.Syntax.{Program}
 use Rattle.ada_base.specs.Cuts.{cuts_of}
 use Rattle.behaviours.specs.Doings.{Doings, through, onto, folded}
 use Rattle.behaviours.specs.Paths.{Leave, Entity, Region, Instance, Gives, Leaves, Path, Scope, declares, apart_of, one_elaboration, enter, is_inside, start, nothing_visible}

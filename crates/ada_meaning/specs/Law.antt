@@ -3,14 +3,14 @@ use Rattle.std.specs.Prelude.{◌≡◌, ℕ, ◌<◌, min, ℤ, length, List, [
 use Rattle.ada_base.specs.declared.reason.Reason.{Reason}
 use Rattle.ada_base.specs.declared.operation.Op.{Op}
 use Rattle.ada_base.specs.Operation.{CanApply, result_of}
-use Rattle.ada_typed.specs.declared.scalars.Class.{Class}
+use Rattle.typed_tree.specs.declared.scalars.Class.{Class}
 use Rattle.ada_base.specs.Cuts.{Plan, One, Even, Chunked, Listed}
 use Rattle.behaviours.specs.Paths.{Exits, Returns, Raises, Instance, End, Gives, Leaves, Spent, Stopped, Path, start, nothing_visible}
 use Rattle.behaviours.specs.Events.{Takes, Puts, Trace, output_of}
 use Rattle.behaviours.specs.Memory.{Fits, empty, after}
 use Rattle.behaviours.specs.Behaviours.{Behaviour, asks_apart, asks_at_once, asks_silent}
 use Rattle.ada_meaning.specs.Values.{base_of, result}
-use Rattle.ada_typed.specs.Syntax.{Program}
+use Rattle.typed_tree.specs.Syntax.{Program}
 use Rattle.ada_meaning.specs.Nonblocking.{KeepsRule}
 use Rattle.ada_meaning.specs.Runs.{anything, of_subtype}
 use Rattle.ada_meaning.specs.Planned.{Result}

@@ -1,8 +1,8 @@
 -- Programs written by hand, and all that they do, looks for a cancel among it.
 use Rattle.std.specs.Prelude.{pos, negsuc, [], ◌∷◌, Some, None, true, false}
 use Rattle.ada_base.specs.declared.reason.Reason.TheVariants as reason
-use Rattle.ada_typed.specs.Syntax as syntax
-use Rattle.ada_typed.specs.Syntax.{Absent, NoDecl, DeclareDefault, Null, Raise, For, Parallel, Block, Stmts, End, Then, NoArm, Arm, NoHandler, Handler, Program}
+use Rattle.typed_tree.specs.Syntax as syntax
+use Rattle.typed_tree.specs.Syntax.{Absent, NoDecl, DeclareDefault, Null, Raise, For, Parallel, Block, Stmts, End, Then, NoArm, Arm, NoHandler, Handler, Program}
 use Rattle.ada_base.specs.Cuts.{One}
 use Rattle.ada_base.specs.Input.{Nothing, Symbol}
 use Rattle.behaviours.specs.Paths.{VariableOf, Instance, Gives, Path, start, nothing_visible}

@@ -2,13 +2,13 @@
 use Rattle.std.specs.Prelude.{◌≡◌, ℕ, ℤ, pos, negsuc, List, [], ◌∷◌, Some, None, true, false}
 use Rattle.ada_base.specs.declared.operation.Op.TheVariants as op
 use Rattle.ada_base.specs.declared.reason.Reason.TheVariants as reason
-use Rattle.ada_typed.specs.declared.scalars.Class.TheVariants as class
-use Rattle.ada_typed.specs.declared.scalars.Scalar.{Scalar}
-use Rattle.ada_typed.specs.declared.expressions.Root.TheVariants as root
-use Rattle.ada_typed.specs.declared.expressions.Reducer.TheVariants as reducer
-use Rattle.ada_typed.specs.declared.program.Mode.TheVariants as mode
-use Rattle.ada_typed.specs.Syntax as syntax
-use Rattle.ada_typed.specs.Syntax.{Subtype, Expr, Constant, Parameter, Binary, Call, Reduction, NoExpr, Absent, Selections, Whole, Field, Index, NoActual, In, Value, Cells, Aggregate, NoAssociation, Association, Range, Components, NoChunk, NoPiece, Text, Image, NoDecl, DeclareVariable, Assign, Case, NoAlternative, Alternative, Raise, For, ParallelFor, Parallel, Block, Put, Stmts, End, Then, NoArm, Arm, NoHandler, Handler, ReturnValue, Program, Variable}
+use Rattle.typed_tree.specs.declared.scalars.Class.TheVariants as class
+use Rattle.typed_tree.specs.declared.scalars.Scalar.{Scalar}
+use Rattle.typed_tree.specs.declared.expressions.Root.TheVariants as root
+use Rattle.typed_tree.specs.declared.expressions.Reducer.TheVariants as reducer
+use Rattle.typed_tree.specs.declared.program.Mode.TheVariants as mode
+use Rattle.typed_tree.specs.Syntax as syntax
+use Rattle.typed_tree.specs.Syntax.{Subtype, Expr, Constant, Parameter, Binary, Call, Reduction, NoExpr, Absent, Selections, Whole, Field, Index, NoActual, In, Value, Cells, Aggregate, NoAssociation, Association, Range, Components, NoChunk, NoPiece, Text, Image, NoDecl, DeclareVariable, Assign, Case, NoAlternative, Alternative, Raise, For, ParallelFor, Parallel, Block, Put, Stmts, End, Then, NoArm, Arm, NoHandler, Handler, ReturnValue, Program, Variable}
 use Rattle.ada_base.specs.Cuts.{Plan, One, Even, Chunked, Listed, cuts_of}
 use Rattle.behaviours.specs.Paths.{Raises, Gives, Leaves}
 use Rattle.ada_meaning.specs.Programs.{Answer, answer_of, planned}

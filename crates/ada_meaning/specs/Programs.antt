@@ -1,7 +1,7 @@
 -- Programs as wholes: their runs by each reading, and what they come to.
 use Rattle.std.specs.Prelude.{ℕ, zero, suc, ℤ, length, List, [], ◌∷◌, Option, Some, None, Bool}
-use Rattle.ada_typed.specs.declared.scalars.Scalar.{Scalar}
-use Rattle.ada_typed.specs.Syntax.{Program}
+use Rattle.typed_tree.specs.declared.scalars.Scalar.{Scalar}
+use Rattle.typed_tree.specs.Syntax.{Program}
 use Rattle.ada_base.specs.Cuts.{Plan, cuts_of}
 use Rattle.behaviours.specs.Paths.{Entity, VariableOf, ConstantOf, Instance, End, start, nothing_visible}
 use Rattle.behaviours.specs.Memory.{Memory, empty}

@@ -3,19 +3,19 @@ use Rattle.std.specs.Prelude.{◌≡◌, ℕ, ℤ, pos, negsuc, List, [], ◌∷
 use Rattle.ada_base.specs.declared.operation.Base.TheVariants.{Narrow}
 use Rattle.ada_base.specs.declared.operation.Op.TheVariants as op
 use Rattle.ada_base.specs.declared.reason.Reason.TheVariants as reason
-use Rattle.ada_typed.specs.declared.scalars.Class.{Class}
-use Rattle.ada_typed.specs.declared.scalars.Class.TheVariants as class
-use Rattle.ada_typed.specs.declared.scalars.Scalar.{Scalar}
-use Rattle.ada_typed.specs.declared.scalars.Check.{Check}
-use Rattle.ada_typed.specs.declared.scalars.Comparison.TheVariants as comparison
-use Rattle.ada_typed.specs.declared.expressions.Root.TheVariants as root
-use Rattle.ada_typed.specs.declared.expressions.Run.{Run}
-use Rattle.ada_typed.specs.declared.expressions.Reducer.TheVariants as reducer
-use Rattle.ada_typed.specs.declared.program.Object.{Object}
-use Rattle.ada_typed.specs.declared.program.Formal.{Formal}
-use Rattle.ada_typed.specs.declared.program.Mode.TheVariants as mode
-use Rattle.ada_typed.specs.Syntax as syntax
-use Rattle.ada_typed.specs.Syntax.{Subtype, Expr, Static, Variable, Constant, Parameter, Target, Binary, Relation, Call, Reduction, NoExpr, Absent, Present, Selections, Whole, Index, NoActual, In, InOut, CompositeInOut, Value, Number, Cells, Aggregate, NoAssociation, Association, Iteration, Range, Components, NoChunk, Each, NoPiece, Text, Image, Padded, NoDecl, DeclareDefault, DeclareVariable, Stmt, Assign, CallProcedure, ReturnValue, Raise, IfThen, Loop, For, ParallelFor, Parallel, Block, Put, Get, Exit, Stmts, End, Then, NoArm, Arm, NoHandler, Handler, Sub, Program, Decls, Count}
+use Rattle.typed_tree.specs.declared.scalars.Class.{Class}
+use Rattle.typed_tree.specs.declared.scalars.Class.TheVariants as class
+use Rattle.typed_tree.specs.declared.scalars.Scalar.{Scalar}
+use Rattle.typed_tree.specs.declared.scalars.Check.{Check}
+use Rattle.typed_tree.specs.declared.scalars.Comparison.TheVariants as comparison
+use Rattle.typed_tree.specs.declared.expressions.Root.TheVariants as root
+use Rattle.typed_tree.specs.declared.expressions.Run.{Run}
+use Rattle.typed_tree.specs.declared.expressions.Reducer.TheVariants as reducer
+use Rattle.typed_tree.specs.declared.program.Object.{Object}
+use Rattle.typed_tree.specs.declared.program.Formal.{Formal}
+use Rattle.typed_tree.specs.declared.program.Mode.TheVariants as mode
+use Rattle.typed_tree.specs.Syntax as syntax
+use Rattle.typed_tree.specs.Syntax.{Subtype, Expr, Static, Variable, Constant, Parameter, Target, Binary, Relation, Call, Reduction, NoExpr, Absent, Present, Selections, Whole, Index, NoActual, In, InOut, CompositeInOut, Value, Number, Cells, Aggregate, NoAssociation, Association, Iteration, Range, Components, NoChunk, Each, NoPiece, Text, Image, Padded, NoDecl, DeclareDefault, DeclareVariable, Stmt, Assign, CallProcedure, ReturnValue, Raise, IfThen, Loop, For, ParallelFor, Parallel, Block, Put, Get, Exit, Stmts, End, Then, NoArm, Arm, NoHandler, Handler, Sub, Program, Decls, Count}
 use Rattle.ada_base.specs.Cuts.{One, Even, Chunked, Listed}
 use Rattle.behaviours.specs.Paths.{Raises, Gives, Leaves, Spent}
 use Rattle.ada_meaning.specs.Sequential.{IsCalm}

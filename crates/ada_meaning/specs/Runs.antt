@@ -1,8 +1,8 @@
 -- The runs of a program's text: the language's operations as behaviours.
 use Rattle.std.specs.Prelude.{ℕ, ℤ, List, [], ◌∷◌, Option, Bool, true, false, IsTrue}
 use Rattle.ada_base.specs.declared.reason.Reason.TheVariants as reason
-use Rattle.ada_typed.specs.declared.scalars.Scalar.{Scalar}
-use Rattle.ada_typed.specs.declared.expressions.Reducer.{Reducer}
+use Rattle.typed_tree.specs.declared.scalars.Scalar.{Scalar}
+use Rattle.typed_tree.specs.declared.expressions.Reducer.{Reducer}
 use Rattle.behaviours.specs.Doings.{through, onto, folded}
 use Rattle.behaviours.specs.Paths.{Raises, Entity, Instance}
 use Rattle.behaviours.specs.Events.{Keeps, Puts, Looks}

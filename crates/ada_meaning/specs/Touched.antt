@@ -1,6 +1,6 @@
 -- What the touches of a part say of the cells that were there before it.
 use Rattle.std.specs.Prelude.{◌≡◌, length, ℕ, suc, ◌<◌, ◌≤◌, ◌++◌, List, [], ◌∷◌, ◌⊎◌, Bool, true}
-use Rattle.ada_typed.specs.Syntax.{Program, Stmts}
+use Rattle.typed_tree.specs.Syntax.{Program, Stmts}
 use Rattle.ada_base.specs.Cuts.{cuts_of}
 use Rattle.ada_meaning.specs.Meaning.{Env, exec_all, call}
 use Rattle.ada_meaning.specs.Nonblocking.{KeepsRule, KeepsAll, nonblocking_of}

@@ -9,18 +9,18 @@ use Rattle.ada_base.specs.declared.reason.Reason.TheVariants as reason
 use Rattle.std.specs.Int.{int_min, int_max}
 use Rattle.ada_base.specs.Operation.{result_of}
 use Rattle.ada_base.specs.Image.{image, truth_image}
-use Rattle.ada_typed.specs.declared.scalars.Class.{Class}
-use Rattle.ada_typed.specs.declared.scalars.Class.TheVariants as class
-use Rattle.ada_typed.specs.declared.scalars.Scalar.{Scalar}
-use Rattle.ada_typed.specs.declared.scalars.Comparison.{Comparison}
-use Rattle.ada_typed.specs.declared.scalars.Comparison.TheVariants as comparison
-use Rattle.ada_typed.specs.declared.expressions.Sign.{Sign}
-use Rattle.ada_typed.specs.declared.expressions.Sign.TheVariants as sign
-use Rattle.ada_typed.specs.declared.statements.Span.{Span}
-use Rattle.ada_typed.specs.Syntax as syntax
-use Rattle.ada_typed.specs.Syntax.{Handled, Subtype}
-use Rattle.ada_typed.specs.declared.program.Bounds.{Bounds}
-use Rattle.ada_typed.specs.declared.program.Field.{Field}
+use Rattle.typed_tree.specs.declared.scalars.Class.{Class}
+use Rattle.typed_tree.specs.declared.scalars.Class.TheVariants as class
+use Rattle.typed_tree.specs.declared.scalars.Scalar.{Scalar}
+use Rattle.typed_tree.specs.declared.scalars.Comparison.{Comparison}
+use Rattle.typed_tree.specs.declared.scalars.Comparison.TheVariants as comparison
+use Rattle.typed_tree.specs.declared.expressions.Sign.{Sign}
+use Rattle.typed_tree.specs.declared.expressions.Sign.TheVariants as sign
+use Rattle.typed_tree.specs.declared.statements.Span.{Span}
+use Rattle.typed_tree.specs.Syntax as syntax
+use Rattle.typed_tree.specs.Syntax.{Handled, Subtype}
+use Rattle.typed_tree.specs.declared.program.Bounds.{Bounds}
+use Rattle.typed_tree.specs.declared.program.Field.{Field}
 
 -- truth values, ranges
 

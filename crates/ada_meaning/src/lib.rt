@@ -5,7 +5,7 @@
 
 ghost use Rattle.ada_meaning.specs.Blocked.{BlockedLaw};
 ghost use Rattle.ada_meaning.specs.Shapes.{ShapeLaw, SizeLaw};
-ghost use Rattle.ada_typed.specs.Programs.{program};
+ghost use Rattle.typed_tree.specs.Programs.{program};
 ghost use Rattle.ada_meaning.specs.Deeds.{PrefixLaw};
 ghost use Rattle.ada_meaning.specs.Law.{StopsLaw, AloneLaw, AtOnceLaw, SilentLaw, ComesToSequential, OnlyLaw, OneLaw, SequentialLaw, OneSequentialLaw, OperatorLaw, SubtypeLaw};
 ghost use Rattle.ada_meaning.specs.Rows.{Adds, Overflows, Divisions, Reductions, Dealt, Find, Raised, Gotten, Turns, Doubled, Kept, Left, Passed, Padded', PartialOverflow, NoChunks, Filtered, Spends, Nested, Escapes, Calm, Sums};
@@ -17,9 +17,9 @@ ghost use Rattle.ada_meaning.specs.CallRows.{Downs, Begins, NotCopied, NoReturn,
 pub mod slots;
 pub mod stored;
 
-use ada_typed::Typed;
 pub use behaviours::shuffle_law;
 pub use slots::{Slot, Variable};
+use typed_tree::Typed;
 
 /// Laws of all programs.
 /// - stops: a program may be stopped before it begins.

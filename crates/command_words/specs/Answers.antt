@@ -5,9 +5,9 @@ use Rattle.clap.specs.Matches.{found_of}
 use Rattle.clap.specs.Walk.{Rule, rows_of, rule_of}
 use Rattle.clap.specs.declared.builder.arg.Arg.{Arg}
 use Rattle.clap.specs.declared.parser.matches.ArgMatches.{ArgMatches}
-use Rattle.chunk_plan.specs.Plans.{HasNoZero, plan_of}
-use Rattle.chunk_plan.specs.declared.plan.Plan.{Plan}
-use Rattle.chunk_plan.specs.declared.plan.Setting.{Setting}
+use Rattle.run_plan.specs.Plans.{HasNoZero, plan_of}
+use Rattle.run_plan.specs.declared.plan.Plan.{Plan}
+use Rattle.run_plan.specs.declared.plan.Setting.{Setting}
 use Rattle.command_words.specs.Words.{Asked, Settings, asked, asked_by}
 use Rattle.command_words.specs.declared.request.Request.{Request}
 use Rattle.command_words.specs.declared.request.WordsFault.{WordsFault}

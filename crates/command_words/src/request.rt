@@ -1,6 +1,6 @@
 //! What words ask for.
 
-use chunk_plan::Setting;
+use run_plan::Setting;
 use std::alloc::AllocError;
 use thiserror::Error;
 

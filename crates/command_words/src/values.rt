@@ -7,7 +7,7 @@ ghost use Rattle.command_words.specs.Answers.{GivesPlan, GivesSizes, GivesWithin
 
 use crate::request::WordsFault;
 use ada_base::Items;
-use chunk_plan::Plan;
+use run_plan::Plan;
 use std::alloc::Global;
 
 // The most digits that a number has.

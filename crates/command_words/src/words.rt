@@ -12,9 +12,9 @@ ghost use Rattle.command_words.specs.Answers.{IsArg, GivesMatches, GivesPlan, Gi
 
 use crate::request::{Mode, Request, WordsFault};
 use crate::values::{number, plan};
-use chunk_plan::{Plan, Setting};
 use clap::error::ErrorKind;
 use clap::{Arg, ArgAction, ArgMatches, Command};
+use run_plan::{Plan, Setting};
 use std::alloc::{AllocError, Global};
 
 fn positional<'a>(alloc: Global, name: &'a str) -> Arg<'a>

@@ -1,10 +1,10 @@
 -- Aggregates, whose values have no fault.
 use Rattle.std.proofs.Common.{◌≡◌, ◌≢◌, refl, sym, ap, ◌∙◌, ℕ, ℤ, Bool, true, false, not, ◌||◌, length, List, Option, Some, None, Result, drop}
 use Rattle.std.specs.Prelude.{◌==◌, ◌*◌, ◌+ℤ◌, pos, ◌∷◌, [], if◌then◌else◌, option_map}
-use Rattle.ada_tree.specs.Syntax as syntax
-use Rattle.ada_tree.specs.Syntax.{Assoc, Assocs, Exprs, OptionalExpr}
-use Rattle.ada_typed.specs.Decoded.{Nothing, Part}
-use Rattle.ada_typed.specs.Latest.{pop, top}
+use Rattle.syntax_tree.specs.Syntax as syntax
+use Rattle.syntax_tree.specs.Syntax.{Assoc, Assocs, Exprs, OptionalExpr}
+use Rattle.typed_tree.specs.Decoded.{Nothing, Part}
+use Rattle.typed_tree.specs.Latest.{pop, top}
 use Rattle.name_expressions.specs.Filled.{filled}
 use Rattle.name_expressions.specs.Placed.{placed}
 use Rattle.name_expressions.specs.declared.fields.Filling.{Filling}
@@ -22,8 +22,8 @@ use Rattle.name_rules.specs.declared.log.Log.{Log}
 use Rattle.name_rules.specs.declared.log.Rule.TheVariants.{StaticRange}
 use Rattle.name_rules.specs.declared.scope.Context.{Context}
 use Rattle.name_rules.specs.declared.scope.Names.{Names}
-use Rattle.tree_nodes.specs.Parts.{Part as TreePart, the_expr, the_exprs}
-use Rattle.tree_nodes.specs.Views.{optional_expr}
+use Rattle.syntax_nodes.specs.Parts.{Part as TreePart, the_expr, the_exprs}
+use Rattle.syntax_nodes.specs.Views.{optional_expr}
 
 -- ---- one dimension of an array
 

@@ -2,8 +2,8 @@
 use Rattle.std.proofs.Common.{◌≡◌, ◌≢◌, refl, ap, ℕ, List, [], ◌∷◌, None, length, nat_lt, arith}
 use Rattle.std.specs.Prelude.{is_some, slice_get}
 use Rattle.std.proofs.lemmas.Bool.Decides.{nat_tests}
-use Rattle.ada_typed.specs.Decoded.{Part}
-use Rattle.ada_typed.specs.Syntax.{Expr}
+use Rattle.typed_tree.specs.Decoded.{Part}
+use Rattle.typed_tree.specs.Syntax.{Expr}
 use Rattle.name_rules.specs.Attributes.{one_dimension, one_named, two_named}
 use Rattle.name_rules.specs.Found.{Denoted, Found}
 use Rattle.name_rules.specs.Judges.{found}

@@ -1,7 +1,7 @@
 -- Calls of subprograms, whose arguments have no fault.
 use Rattle.std.proofs.Common.{◌≡◌, ◌≢◌, refl, sym, ap, ◌∙◌, ℕ, Bool, true, false, length, List, Option, Some, None, Result}
-use Rattle.ada_tree.specs.Syntax.{Args}
-use Rattle.ada_typed.specs.Decoded.{Nothing, Part}
+use Rattle.syntax_tree.specs.Syntax.{Args}
+use Rattle.typed_tree.specs.Decoded.{Nothing, Part}
 use Rattle.name_expressions.proofs.Wholes.{clean, faulty}
 use Rattle.name_rules.specs.Calls.{Calling, arguments, begun_call, call_given, complete, gives_in, profile_in, sub_call, takes_in}
 use Rattle.name_rules.specs.Expressions.{Inside}

@@ -1,8 +1,8 @@
 -- Arguments that are judged for themselves, and indexes.
 use Rattle.std.proofs.Common.{◌≡◌, ◌≢◌, refl, sym, ap, ◌∙◌, ℕ, Bool, true, false, ◌⊎◌, length, drop, List, Option, Some, None}
-use Rattle.ada_tree.specs.Syntax as syntax
-use Rattle.ada_tree.specs.Syntax.{Arg, Args}
-use Rattle.ada_typed.specs.Decoded.{Part}
+use Rattle.syntax_tree.specs.Syntax as syntax
+use Rattle.syntax_tree.specs.Syntax.{Arg, Args}
+use Rattle.typed_tree.specs.Decoded.{Part}
 use Rattle.name_expressions.proofs.Wholes.{gone}
 use Rattle.name_rules.specs.Expressions.{Inside}
 use Rattle.name_rules.specs.Judges.{part_if}

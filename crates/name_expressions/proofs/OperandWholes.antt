@@ -1,10 +1,10 @@
 -- Conversions and attributes over operands that have no parameter.
 use Rattle.std.proofs.Common.{◌≡◌, ◌≢◌, refl, sym, ap, ◌∙◌, ℕ, Bool, true, false, ◌⊎◌, length, List, [], ◌∷◌, Option, Some, None, Result}
 use Rattle.std.specs.Prelude.{if◌then◌else◌}
-use Rattle.ada_tree.specs.Syntax.{Args}
-use Rattle.ada_typed.specs.Decoded.{Part}
-use Rattle.ada_typed.specs.Syntax.{Expr}
-use Rattle.ada_typed.specs.Latest.{pop, second, top}
+use Rattle.syntax_tree.specs.Syntax.{Args}
+use Rattle.typed_tree.specs.Decoded.{Part}
+use Rattle.typed_tree.specs.Syntax.{Expr}
+use Rattle.typed_tree.specs.Latest.{pop, second, top}
 use Rattle.name_expressions.proofs.Wholes.{gone, kept, judges_so}
 use Rattle.name_rules.specs.Attributes.{bound_with, first_named, one_argument, one_dimension, one_named, two_arguments_of, two_named}
 use Rattle.name_rules.specs.Calls.{arg_names, one_operand, operands, scalar_conversion}

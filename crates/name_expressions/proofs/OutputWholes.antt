@@ -1,8 +1,8 @@
 -- Calls of predefined procedures, whose arguments have no fault.
 use Rattle.std.proofs.Common.{◌≡◌, ◌≢◌, refl, sym, ◌∙◌, ℕ, Bool, true, false, length, Option, None}
 use Rattle.std.specs.Prelude.{◌==◌, if◌then◌else◌}
-use Rattle.ada_tree.specs.Syntax as syntax
-use Rattle.ada_tree.specs.Syntax.{Args, Expr}
+use Rattle.syntax_tree.specs.Syntax as syntax
+use Rattle.syntax_tree.specs.Syntax.{Args, Expr}
 use Rattle.name_expressions.proofs.Puts.{number_only}
 use Rattle.name_expressions.proofs.Wholes.{clean, faulty}
 use Rattle.name_expressions.specs.Putting.{number_put, put_since}

@@ -1,7 +1,7 @@
 -- Put of a number, among the calls of predefined procedures.
 use Rattle.std.proofs.Common.{◌≡◌, refl, ℕ, Bool, true, false, Option}
 use Rattle.std.specs.Prelude.{not}
-use Rattle.ada_tree.specs.Syntax.{Args}
+use Rattle.syntax_tree.specs.Syntax.{Args}
 use Rattle.name_rules.specs.Found.{Found}
 use Rattle.name_rules.specs.Output.{Putting, by_procedure, is_number_put, is_text, put_by, put_complete}
 use Rattle.name_rules.specs.declared.found.Put.TheVariants as put

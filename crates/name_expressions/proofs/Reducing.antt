@@ -1,8 +1,8 @@
 -- A reduction of an array by its arguments.
 use Rattle.std.proofs.Common.{◌≡◌, refl, ℕ, Some, None}
-use Rattle.ada_tree.specs.Syntax as syntax
-use Rattle.ada_tree.specs.Syntax.{Args}
-use Rattle.ada_typed.specs.Syntax.{Selections}
+use Rattle.syntax_tree.specs.Syntax as syntax
+use Rattle.syntax_tree.specs.Syntax.{Args}
+use Rattle.typed_tree.specs.Syntax.{Selections}
 use Rattle.name_expressions.specs.Reducing.{reduced_from, reduced_two, two_of}
 use Rattle.name_rules.specs.Expressions.{Inside}
 use Rattle.name_rules.specs.Parts.{array_reduced}

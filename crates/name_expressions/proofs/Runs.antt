@@ -1,6 +1,6 @@
 -- Runs of ranges, from the last one on.
 use Rattle.std.proofs.Common.{◌≡◌, refl, ap, ℕ, ℤ, List, [], ◌∷◌, ◌++◌, Option, Some}
-use Rattle.ada_typed.specs.declared.expressions.Run.{Run}
+use Rattle.typed_tree.specs.declared.expressions.Run.{Run}
 use Rattle.name_rules.specs.Aggregates.{runs_of, with_run}
 use Rattle.name_rules.specs.declared.log.Dimension.{Dimension}
 

@@ -2,7 +2,7 @@
 use Rattle.std.proofs.Common.{◌≡◌, refl, sym, ap, ◌∙◌, ℕ, Bool, length, drop, Option}
 use Rattle.std.specs.List.{list_all}
 use Rattle.std.specs.Prelude.{is_some}
-use Rattle.ada_tree.specs.Syntax.{Expr, Iter, OptionalParallel}
+use Rattle.syntax_tree.specs.Syntax.{Expr, Iter, OptionalParallel}
 use Rattle.name_rules.specs.Attributes.{attribute_at}
 use Rattle.name_rules.specs.Expressions.{Inside}
 use Rattle.name_rules.specs.Found.{Found}

@@ -2,7 +2,7 @@
 use Rattle.std.proofs.Common.{◌≡◌, ◌≢◌, refl, sym, ap, ◌∙◌, ℕ, Bool, true, false, ◌⊎◌, inl, inr, length, List, Option, Some, None, Result}
 use Rattle.std.proofs.lemmas.Bool.{eq-eqb, ne_eqb}
 use Rattle.std.specs.Prelude.{OnOk, if◌then◌else◌, ◌==◌}
-use Rattle.ada_typed.specs.Decoded.{Part}
+use Rattle.typed_tree.specs.Decoded.{Part}
 use Rattle.name_rules.specs.Found.{With}
 use Rattle.name_rules.specs.Judges.{Gives, Judges}
 use Rattle.name_rules.specs.Judging.{Judging, given, pure, where_clean}

@@ -1,7 +1,7 @@
 -- What attributes make of their arguments (3.5, 4.10).
 use Rattle.std.specs.Prelude.{ℕ, Option, if◌then◌else◌, slice_get}
-use Rattle.ada_typed.specs.Decoded.{Part}
-use Rattle.ada_typed.specs.Syntax.{Expr}
+use Rattle.typed_tree.specs.Decoded.{Part}
+use Rattle.typed_tree.specs.Syntax.{Expr}
 use Rattle.name_rules.specs.Attributes.{bound_alone, bound_in, dimensions_in, image_text, is_array_object, is_bound, is_reduction, mentioned, prefix_subtype, reduced_alone, step}
 use Rattle.name_rules.specs.Found.{Denoted}
 use Rattle.name_rules.specs.Judging.{Judging, fault, read, ◌>>=◌}

@@ -1,8 +1,8 @@
 -- What is found of the values of a conditional expression (4.5.7), with its parts: the conditions and values so far are a
 -- list that grows.
 use Rattle.std.specs.Prelude.{◌≡◌, List, Bool, true, false, Option, Some, None, Result, Ok, Err, reverse}
-use Rattle.ada_typed.specs.Decoded.{Part}
-use Rattle.ada_typed.specs.Latest.{top, pop}
+use Rattle.typed_tree.specs.Decoded.{Part}
+use Rattle.typed_tree.specs.Latest.{top, pop}
 use Rattle.name_rules.specs.Judges.{part_if}
 use Rattle.name_rules.specs.Primaries.{Waiting}
 use Rattle.name_rules.specs.declared.found.Found.{Found}

@@ -1,11 +1,11 @@
 -- What stands in an aggregate's brackets, by the numbers of its parts.
 use Rattle.std.specs.Prelude.{ℕ, Option, Some, None}
-use Rattle.ada_tree.specs.Syntax as syntax
+use Rattle.syntax_tree.specs.Syntax as syntax
 use Rattle.name_expressions.specs.declared.contents.Contents.{Contents}
 use Rattle.name_expressions.specs.declared.contents.Contents.TheVariants as contents'
 use Rattle.name_rules.specs.Aggregates as spec
-use Rattle.tree_nodes.specs.Parts.{Part, the_assoc, the_assocs, the_expr, the_exprs}
-use Rattle.tree_nodes.specs.Views.{optional_expr}
+use Rattle.syntax_nodes.specs.Parts.{Part, the_assoc, the_assocs, the_expr, the_exprs}
+use Rattle.syntax_nodes.specs.Views.{optional_expr}
 
 abbrev pub second_in : (ℕ → Part) → Option ℕ → syntax.Exprs → syntax.Exprs
 second_in at None es = es

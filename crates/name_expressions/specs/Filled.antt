@@ -1,7 +1,7 @@
 -- What code keeps of a record's aggregate while its parts are joined: the associations are the latest part.
 use Rattle.std.specs.Prelude.{List, drop}
-use Rattle.ada_typed.specs.Decoded.{Part}
-use Rattle.ada_typed.specs.Latest.{top}
+use Rattle.typed_tree.specs.Decoded.{Part}
+use Rattle.typed_tree.specs.Latest.{top}
 use Rattle.name_expressions.specs.declared.fields.Filling.{Filling}
 use Rattle.name_expressions.specs.declared.fields.Positions.{Positions}
 use Rattle.name_rules.specs.Aggregates as spec

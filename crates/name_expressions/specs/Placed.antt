@@ -1,8 +1,8 @@
 -- What code keeps of an array's aggregate while its parts are joined.
 use Rattle.std.specs.Prelude.{Bool, true, false, List, Option, Some, None, ℤ}
-use Rattle.ada_typed.specs.Decoded.{Part}
-use Rattle.ada_typed.specs.declared.expressions.Run.{Run}
-use Rattle.ada_typed.specs.Latest.{second, top}
+use Rattle.typed_tree.specs.Decoded.{Part}
+use Rattle.typed_tree.specs.declared.expressions.Run.{Run}
+use Rattle.typed_tree.specs.Latest.{second, top}
 use Rattle.name_expressions.specs.declared.placing.Choosing.{Choosing}
 use Rattle.name_expressions.specs.declared.placing.Placing.{Placing}
 use Rattle.name_rules.specs.Aggregates as spec

@@ -1,6 +1,6 @@
 -- A name as a primary.
 use Rattle.std.specs.Prelude.{Option}
-use Rattle.ada_tree.specs.Syntax.{Name}
+use Rattle.syntax_tree.specs.Syntax.{Name}
 use Rattle.name_rules.specs.Expressions.{Inside, in_place}
 use Rattle.name_rules.specs.Found.{Found}
 use Rattle.name_rules.specs.Judging.{Judging, given, ◌>>=◌}

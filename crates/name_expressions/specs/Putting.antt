@@ -1,7 +1,7 @@
 -- Arguments of predefined procedures, one by one.
 use Rattle.std.specs.Prelude.{ℕ, length, Option, Some, None, ◌==◌, if◌then◌else◌}
-use Rattle.ada_tree.specs.Syntax as syntax
-use Rattle.ada_tree.specs.Syntax.{Arg, Args, Expr}
+use Rattle.syntax_tree.specs.Syntax as syntax
+use Rattle.syntax_tree.specs.Syntax.{Arg, Args, Expr}
 use Rattle.name_rules.specs.Expressions.{Inside, judged_alone}
 use Rattle.name_rules.specs.Found.{Denoted, Found}
 use Rattle.name_rules.specs.Judging.{Judging, given, pure, ◌>>=◌}

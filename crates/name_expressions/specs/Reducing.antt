@@ -1,11 +1,11 @@
 -- The arguments of a reduction of an array: a reducer and an initial value.
 use Rattle.std.specs.Prelude.{ℕ, List, Option, Some, None, option_map}
-use Rattle.ada_tree.specs.Syntax as syntax
-use Rattle.ada_tree.specs.Syntax.{Args, Expr}
-use Rattle.ada_typed.specs.Decoded as part
-use Rattle.ada_typed.specs.Decoded.{Part as TypedPart}
-use Rattle.ada_typed.specs.Syntax as typed
-use Rattle.ada_typed.specs.Syntax.{Selections}
+use Rattle.syntax_tree.specs.Syntax as syntax
+use Rattle.syntax_tree.specs.Syntax.{Args, Expr}
+use Rattle.typed_tree.specs.Decoded as part
+use Rattle.typed_tree.specs.Decoded.{Part as TypedPart}
+use Rattle.typed_tree.specs.Syntax as typed
+use Rattle.typed_tree.specs.Syntax.{Selections}
 use Rattle.name_expressions.specs.declared.whole_names.Reducing.{Reducing}
 use Rattle.name_rules.specs.Expressions.{Inside, expr}
 use Rattle.name_rules.specs.Found.{Denoted, Found, value_denoted}
@@ -20,9 +20,9 @@ use Rattle.name_rules.specs.declared.found.Place.{Place}
 use Rattle.name_rules.specs.declared.scope.Context.{Context}
 use Rattle.name_rules.specs.declared.scope.Names.{Names}
 use Rattle.name_rules.specs.declared.types.Wanted.TheVariants as wanted
-use Rattle.tree_nodes.specs.Parts.{the_expr}
-use Rattle.tree_nodes.specs.Tables.{part_at}
-use Rattle.tree_nodes.specs.declared.nodes.Node.{Node}
+use Rattle.syntax_nodes.specs.Parts.{the_expr}
+use Rattle.syntax_nodes.specs.Tables.{part_at}
+use Rattle.syntax_nodes.specs.declared.nodes.Node.{Node}
 
 -- two arguments without names
 abbrev pub two_of : Args → Option (Expr × Expr)

@@ -1,8 +1,8 @@
 -- What a value sequence is folded to, as it is held.
 use Rattle.std.specs.Prelude.{◌≡◌, ℕ, List, Option, Some, None, Result, Ok, Err}
-use Rattle.ada_tree.specs.Syntax.{Expr, Iter, OptionalParallel}
-use Rattle.ada_typed.specs.Decoded.{Part}
-use Rattle.ada_typed.specs.Latest.{top, second, third, fourth, pop}
+use Rattle.syntax_tree.specs.Syntax.{Expr, Iter, OptionalParallel}
+use Rattle.typed_tree.specs.Decoded.{Part}
+use Rattle.typed_tree.specs.Latest.{top, second, third, fourth, pop}
 use Rattle.name_rules.specs.Found.{Found}
 use Rattle.name_rules.specs.Judges.{found_of, part_if}
 use Rattle.name_rules.specs.Expressions.{Inside, expr}
@@ -15,7 +15,7 @@ use Rattle.name_rules.specs.declared.log.Log.{Log}
 use Rattle.name_rules.specs.declared.scope.Context.{Context}
 use Rattle.name_rules.specs.declared.scope.Names.{Names}
 use Rattle.name_rules.specs.declared.types.Wanted.TheVariants as wanted
-use Rattle.ada_typed.specs.declared.program.SiteKind.TheVariants as site
+use Rattle.typed_tree.specs.declared.program.SiteKind.TheVariants as site
 use Rattle.name_expressions.specs.declared.iterations.Folded.{Folded}
 use Rattle.name_values.specs.declared.walks.Entering.{Entering}
 

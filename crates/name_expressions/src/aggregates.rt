@@ -1,7 +1,7 @@
 //! Aggregates (4.3), in which so many brackets may still be opened.
 
 ghost use Rattle.std.specs.Prelude.{◌≡◌, OnOk};
-ghost use Rattle.ada_tree.specs.Syntax as syntax;
+ghost use Rattle.syntax_tree.specs.Syntax as syntax;
 ghost use Rattle.name_expressions.specs.Contents.{of_contents};
 ghost use Rattle.name_rules.specs.Aggregates as spec;
 ghost use Rattle.name_rules.specs.Judges.{Gives, Judges};
@@ -9,9 +9,9 @@ ghost use Rattle.name_rules.specs.declared.log.Rule.TheVariants.{WrongType};
 ghost use Rattle.name_rules.specs.Judging.{fault, where_clean};
 ghost use Rattle.name_rules.specs.Primaries as primaries;
 ghost use Rattle.name_rules.specs.Types as types;
-ghost use Rattle.tree_nodes.specs.Parts.{the_assoc, the_assocs, the_expr, the_exprs, the_many};
-ghost use Rattle.tree_nodes.specs.Tables.{part_at};
-ghost use Rattle.tree_nodes.specs.Views.{optional_expr};
+ghost use Rattle.syntax_nodes.specs.Parts.{the_assoc, the_assocs, the_expr, the_exprs, the_many};
+ghost use Rattle.syntax_nodes.specs.Tables.{part_at};
+ghost use Rattle.syntax_nodes.specs.Views.{optional_expr};
 ghost use Rattle.typed_parts.specs.Stack.{parts};
 
 use crate::array_aggregates::array_at;
@@ -29,7 +29,7 @@ use name_values::attempt;
 use name_values::logs::not_given;
 use name_values::names::{cells_in, component_of, is_record};
 use std::alloc::AllocError;
-use tree_nodes::{Assoc, Tree};
+use syntax_nodes::{Assoc, Tree};
 use typed_parts::Parts;
 
 /// An aggregate of an array or record type, by its number in the table of subtypes, from a dimension on: WrongType at its

@@ -1,7 +1,7 @@
 //! Aggregates of arrays (4.3.3), one dimension after the other, in which so many brackets may still be opened.
 
 ghost use Rattle.std.specs.Prelude.{◌≡◌, IfOk, OnOk, drop, option_map};
-ghost use Rattle.ada_tree.specs.Syntax as syntax;
+ghost use Rattle.syntax_tree.specs.Syntax as syntax;
 ghost use Rattle.name_expressions.specs.Placed.{chosen, placed};
 ghost use Rattle.name_expressions.specs.Contents.{contents_in, exprs_in, of_contents};
 ghost use Rattle.name_expressions.specs.Rows as rows;
@@ -13,10 +13,10 @@ ghost use Rattle.name_rules.specs.Scope as scopes;
 ghost use Rattle.name_rules.specs.Shapes as shapes;
 ghost use Rattle.name_rules.specs.Symbols as symbols;
 ghost use Rattle.name_values.specs.Statics.{as_span};
-ghost use Rattle.tree_nodes.specs.Parts.{the_assoc, the_assocs, the_choice, the_choices, the_expr, the_exprs, the_range};
-ghost use Rattle.tree_nodes.specs.Tables.{part_at};
-ghost use Rattle.tree_nodes.specs.Views.{optional_expr};
-ghost use Rattle.ada_typed.specs.Latest.{pop, top};
+ghost use Rattle.syntax_nodes.specs.Parts.{the_assoc, the_assocs, the_choice, the_choices, the_expr, the_exprs, the_range};
+ghost use Rattle.syntax_nodes.specs.Tables.{part_at};
+ghost use Rattle.syntax_nodes.specs.Views.{optional_expr};
+ghost use Rattle.typed_tree.specs.Latest.{pop, top};
 ghost use Rattle.typed_parts.specs.Stack.{parts};
 
 use crate::choices::{chosen_span, chosen_value, static_range};
@@ -41,7 +41,7 @@ use name_values::shapes::is_aggregate;
 use name_values::statics::Chosen;
 use name_values::symbols::symbol;
 use std::alloc::AllocError;
-use tree_nodes::{Assoc, Choice, Tree};
+use syntax_nodes::{Assoc, Choice, Tree};
 use typed_parts::Parts;
 
 /// A dimension of an array type, by the type's number and the dimension's place from 0 on: whether it is the last one, the
@@ -71,7 +71,12 @@ fn no_aggregate(
 {
     match attempt!(expr(names, levels, here, log, out, Wanted::Other, tree, id)) {
         None => Ok(false),
-        Some(_) => not_given(log, out, first_tokens::of_expr(tree, id), Rule::WrongType),
+        Some(_) => not_given(
+            log,
+            out,
+            syntax_first_tokens::of_expr(tree, id),
+            Rule::WrongType,
+        ),
     }
 }
 
@@ -353,7 +358,13 @@ fn each_assoc(
         tree,
         range,
     ));
-    let span = attempt!(of_index_type(log, out, kind, first_tokens::of_range(tree, range), bounds));
+    let span = attempt!(of_index_type(
+        log,
+        out,
+        kind,
+        syntax_first_tokens::of_range(tree, range),
+        bounds
+    ));
     let parameter = attempt!(new_parameter(log));
     let what = index_what(out, parameter, span);
     let given = attempt!(component_where(

@@ -1,10 +1,10 @@
 //! Associations of an aggregate (4.3) in the typed program: the runs of cells that they give, and their value.
 
 ghost use Rattle.std.specs.Prelude.{◌≡◌, ◌∷◌, ◌*◌, ◌-ℤ◌, [], IfOk, OnOk, None, true, unsigned_abs};
-ghost use Rattle.ada_typed.specs.Decoded as part;
-ghost use Rattle.ada_typed.specs.Decoded.{as_runs};
-ghost use Rattle.ada_typed.specs.declared.node.Leaf.TheVariants as leaf;
-ghost use Rattle.ada_typed.specs.Latest.{fourth, pop, second, third, top};
+ghost use Rattle.typed_tree.specs.Decoded as part;
+ghost use Rattle.typed_tree.specs.Decoded.{as_runs};
+ghost use Rattle.typed_tree.specs.declared.node.Leaf.TheVariants as leaf;
+ghost use Rattle.typed_tree.specs.Latest.{fourth, pop, second, third, top};
 ghost use Rattle.name_expressions.specs.Placed.{runs_if};
 ghost use Rattle.name_rules.specs.Aggregates as spec;
 ghost use Rattle.name_rules.specs.Judges.{Gives, part_if};
@@ -12,12 +12,12 @@ ghost use Rattle.name_rules.specs.Judging.{joined, pure};
 ghost use Rattle.typed_parts.specs.Stack.{parts};
 
 use ada_base::Items;
-use ada_typed::{Iterated, Leaf, Run};
 use name_rules::log::{Dimension, Field, Log};
 use name_values::attempt;
 use name_values::names::cells_in;
 use std::alloc::AllocError;
 use typed_parts::Parts;
+use typed_tree::{Iterated, Leaf, Run};
 
 /// One more run of the list of runs that is the latest part. What lies 2^32 cells away is beyond memory.
 fn also_run(out: &mut Parts, first: u128, count: u128, apart: u64) -> Result<(), AllocError>
@@ -35,7 +35,7 @@ fn also_run(out: &mut Parts, first: u128, count: u128, apart: u64) -> Result<(),
 
 /// An association joins those before it. Joined of these, the list of what its choices mention, its value, and its runs
 /// in this order.
-#[tactic(auto, unfolding(ada_typed::specs::Latest::turned))]
+#[tactic(auto, unfolding(typed_tree::specs::Latest::turned))]
 fn association(out: &mut Parts, iterated: Option<Iterated>) -> Result<(), AllocError>
     ensures { OnOk result (parts out.new ≡ spec.with_value (as_runs (top (parts out.old))) iterated (third (parts out.old)) (fourth (parts out.old)) (second (parts out.old)) ∷ pop (pop (pop (pop (parts out.old))))) }
 {

@@ -1,8 +1,8 @@
 //! Attributes (3.5, 3.6.2, 4.10), as far as no bracket is in them.
 
 ghost use Rattle.std.specs.Prelude.{◌≡◌, ◌∷◌, [], IfOk, None, OnOk, pos, slice_get};
-ghost use Rattle.ada_typed.specs.Decoded.{as_expr};
-ghost use Rattle.ada_typed.specs.Latest.{pop, second, top};
+ghost use Rattle.typed_tree.specs.Decoded.{as_expr};
+ghost use Rattle.typed_tree.specs.Latest.{pop, second, top};
 ghost use Rattle.name_rules.specs.Attributes as spec;
 ghost use Rattle.name_rules.specs.Found.{parameter_found};
 ghost use Rattle.name_rules.specs.Judges.{Judges, found};

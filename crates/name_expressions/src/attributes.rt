@@ -1,16 +1,16 @@
 //! Attributes with arguments (3.5, 3.6.2, 4.10).
 
 ghost use Rattle.std.specs.Prelude.{◌≡◌};
-ghost use Rattle.ada_tree.specs.Syntax as syntax;
+ghost use Rattle.syntax_tree.specs.Syntax as syntax;
 ghost use Rattle.name_expressions.specs.Attributes.{one_made};
 ghost use Rattle.name_rules.specs.Attributes as spec;
 ghost use Rattle.name_rules.specs.Calls as calls;
 ghost use Rattle.name_rules.specs.Judges.{Judges};
 ghost use Rattle.name_rules.specs.Primaries as primaries;
 ghost use Rattle.name_values.specs.Operands.{founds};
-ghost use Rattle.tree_nodes.specs.Parts.{the_arg, the_args};
-ghost use Rattle.tree_nodes.specs.Tables.{part_at};
-ghost use Rattle.ada_typed.specs.Latest.{pop, second, top};
+ghost use Rattle.syntax_nodes.specs.Parts.{the_arg, the_args};
+ghost use Rattle.syntax_nodes.specs.Tables.{part_at};
+ghost use Rattle.typed_tree.specs.Latest.{pop, second, top};
 ghost use Rattle.typed_parts.specs.Stack.{parts};
 
 use crate::attribute_rules::{One, one_dimension, one_named, scalar_bound, two_named};
@@ -26,7 +26,7 @@ use name_values::logs::cleared;
 use name_values::names::wrong_name;
 use name_values::types::is_integer;
 use std::alloc::AllocError;
-use tree_nodes::Tree;
+use syntax_nodes::Tree;
 use typed_parts::Parts;
 
 /// The first name before an argument of a list.

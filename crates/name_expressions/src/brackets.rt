@@ -1,9 +1,9 @@
 //! Brackets (4.4), `@` (5.2.1) and string literals (2.6).
 
 ghost use Rattle.std.specs.Prelude.{◌≡◌, ◌∷◌, OnOk};
-ghost use Rattle.ada_typed.specs.Decoded as part;
-ghost use Rattle.ada_typed.specs.Syntax as typed;
-ghost use Rattle.ada_typed.specs.Latest.{pop, top};
+ghost use Rattle.typed_tree.specs.Decoded as part;
+ghost use Rattle.typed_tree.specs.Syntax as typed;
+ghost use Rattle.typed_tree.specs.Latest.{pop, top};
 ghost use Rattle.name_rules.specs.Judges.{Judges, found};
 ghost use Rattle.name_rules.specs.Judging.{fault};
 ghost use Rattle.name_rules.specs.Primaries as spec;
@@ -11,7 +11,6 @@ ghost use Rattle.name_rules.specs.Values as values;
 ghost use Rattle.typed_parts.specs.Stack.{parts};
 
 use crate::conditionals::composite_in;
-use ada_typed::Leaf;
 use name_rules::found::{Found, Place};
 use name_rules::log::{Log, Rule};
 use name_rules::scope::{Names, Target};
@@ -23,6 +22,7 @@ use name_values::types::typed_scalar;
 use name_values::values::{asked, composite_asked, kind_of};
 use std::alloc::AllocError;
 use typed_parts::Parts;
+use typed_tree::Leaf;
 
 /// Writes that a rule is broken by an expression, of which nothing is the part.
 pub fn no_expression(

@@ -1,22 +1,21 @@
 //! Calls of subprograms (6.4) and conversions (4.6).
 
 ghost use Rattle.std.specs.Prelude.{◌≡◌, IfOk, true};
-ghost use Rattle.ada_tree.specs.Syntax as syntax;
+ghost use Rattle.syntax_tree.specs.Syntax as syntax;
 ghost use Rattle.name_expressions.specs.Arguments.{given_args, operand_of};
 ghost use Rattle.name_rules.specs.Calls as spec;
 ghost use Rattle.name_rules.specs.Judges.{Gives, Judges};
 ghost use Rattle.name_rules.specs.Primaries as primaries;
 ghost use Rattle.name_values.specs.Calling.{Calls, calling_of};
 ghost use Rattle.name_values.specs.Operands.{founds, operands_of};
-ghost use Rattle.tree_nodes.specs.Parts.{the_arg, the_args, the_expr};
-ghost use Rattle.tree_nodes.specs.Tables.{part_at};
-ghost use Rattle.ada_typed.specs.Latest.{pop, top};
+ghost use Rattle.syntax_nodes.specs.Parts.{the_arg, the_args, the_expr};
+ghost use Rattle.syntax_nodes.specs.Tables.{part_at};
+ghost use Rattle.typed_tree.specs.Latest.{pop, top};
 ghost use Rattle.typed_parts.specs.Stack.{parts};
 
 use crate::expressions::{expr, judged_alone, value_for};
 use crate::indexes::wrong_call;
 use ada_base::Items;
-use ada_typed::Mode;
 use name_rules::found::{Denoted, Found};
 use name_rules::log::{Log, Rule, Taken};
 use name_rules::scope::{Context, Names};
@@ -31,8 +30,9 @@ use name_values::names::wrong_name;
 use name_values::operands::{one_operand, with_operand};
 use name_values::types::{is_integer, wanted_of};
 use std::alloc::AllocError;
-use tree_nodes::Tree;
+use syntax_nodes::Tree;
 use typed_parts::Parts;
+use typed_tree::Mode;
 
 #[cycle(levels)]
 fn actual_by(
@@ -106,7 +106,7 @@ fn argument(
     ensures { Calls (spec.argument names.now (primaries.inside names.now levels) here.now taken.now (calling_of calling.old (top (parts out.old))) (the_arg (part_at tree.now.nodes id)) log.old) (pop (parts out.old)) result calling.new log.new (parts out.new) }
 {
     let arg = tree.arg(id);
-    let first = first_tokens::of_arg(tree, id);
+    let first = syntax_first_tokens::of_arg(tree, id);
     let index = attempt!(parameter_of(names, log, taken, calling.count, calling.named, arg.formal));
     attempt!(given_once(log, first, calling, index));
     let parameter = taken_at(taken, index);

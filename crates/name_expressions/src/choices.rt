@@ -1,7 +1,7 @@
 //! Static ranges (3.6, 4.3.3) and choices (3.8.1), and those of a case statement's alternatives (5.4).
 
 ghost use Rattle.std.specs.Prelude.{◌≡◌, ◌==◌, ◌∷◌, OnOk, length};
-ghost use Rattle.ada_tree.specs.Syntax as syntax;
+ghost use Rattle.syntax_tree.specs.Syntax as syntax;
 ghost use Rattle.name_rules.specs.Cases as cases;
 ghost use Rattle.name_rules.specs.Judges.{Judges, Says, found_of};
 ghost use Rattle.name_rules.specs.Judging.{both, given};
@@ -9,9 +9,9 @@ ghost use Rattle.name_rules.specs.Primaries as primaries;
 ghost use Rattle.name_rules.specs.Ranges as spec;
 ghost use Rattle.name_values.specs.Coverage.{Covers, as_choosing, as_covering};
 ghost use Rattle.name_values.specs.Statics.{Chooses};
-ghost use Rattle.tree_nodes.specs.Parts.{the_choice, the_choice_list, the_name, the_range, the_simple};
-ghost use Rattle.tree_nodes.specs.Tables.{part_at};
-ghost use Rattle.ada_typed.specs.Latest.{pop, second, top};
+ghost use Rattle.syntax_nodes.specs.Parts.{the_choice, the_choice_list, the_name, the_range, the_simple};
+ghost use Rattle.syntax_nodes.specs.Tables.{part_at};
+ghost use Rattle.typed_tree.specs.Latest.{pop, second, top};
 ghost use Rattle.typed_parts.specs.Stack.{parts};
 
 use crate::expressions::simple;
@@ -27,7 +27,7 @@ use name_values::statics::{
     Chosen, range_values, static_bounds, static_checked, static_name, values_of,
 };
 use std::alloc::AllocError;
-use tree_nodes::{Choice, Range, Tree};
+use syntax_nodes::{Choice, Range, Tree};
 use typed_parts::Parts;
 
 /// The scalar subtype that a name is, which is the latest part: WrongType at its first token where it is none. No part is
@@ -86,7 +86,7 @@ fn static_constrained(
     let scalar = attempt!(scalar_where(log, out, denoted));
     let x = attempt!(simple(names, levels, here, log, out, Wanted::Other, tree, low));
     let y = attempt!(simple(names, levels, here, log, out, Wanted::Other, tree, high));
-    let first = first_tokens::of_name(tree, name);
+    let first = syntax_first_tokens::of_name(tree, name);
     let _want = want;
     checked_where(log, out, first, must_hold, scalar, x, y)
 }
@@ -113,7 +113,7 @@ fn static_bounded(
         out.leave_out();
         return Ok(None);
     };
-    let first = first_tokens::of_simple(tree, low);
+    let first = syntax_first_tokens::of_simple(tree, low);
     static_bounds(log, out, first, must_hold, want, x, y)
 }
 
@@ -143,7 +143,9 @@ pub fn static_range(
             names, levels, here, log, out, tree, name
         )) {
             None => Ok(None),
-            Some(denoted) => { static_name(log, out, first_tokens::of_name(tree, name), denoted) }
+            Some(denoted) => {
+                static_name(log, out, syntax_first_tokens::of_name(tree, name), denoted)
+            }
         },
         Range::Constrained { name, low, high } => {
             static_constrained(

@@ -9,7 +9,7 @@ ghost use Rattle.name_rules.specs.Primaries as spec;
 ghost use Rattle.name_rules.specs.TypedParts.{left_of, right_of};
 ghost use Rattle.name_rules.specs.Values as value_rules;
 ghost use Rattle.name_expressions.specs.Conditionals.{Chooses, LeavesIf, waiting_if};
-ghost use Rattle.ada_typed.specs.Latest.{pop, second, third, top};
+ghost use Rattle.typed_tree.specs.Latest.{pop, second, third, top};
 ghost use Rattle.typed_parts.specs.Stack.{parts};
 
 use ada_base::Items;

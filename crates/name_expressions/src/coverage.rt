@@ -2,8 +2,8 @@
 
 ghost use Rattle.std.specs.List.{list_all};
 ghost use Rattle.std.specs.Prelude.{◌≡◌, ◌*◌, ◌++◌, ◌∷◌, IfOk, None, OnOk, option_map, slice_get};
-ghost use Rattle.ada_typed.specs.Decoded as part;
-ghost use Rattle.ada_typed.specs.Latest.{pop, second, top};
+ghost use Rattle.typed_tree.specs.Decoded as part;
+ghost use Rattle.typed_tree.specs.Latest.{pop, second, top};
 ghost use Rattle.name_expressions.specs.Gaps.{gap_before, gap_behind};
 ghost use Rattle.name_expressions.specs.Placed.{placed, rest_if};
 ghost use Rattle.name_rules.specs.Aggregates as spec;

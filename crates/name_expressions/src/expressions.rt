@@ -5,14 +5,13 @@ ghost use Rattle.name_rules.specs.Expressions as spec;
 ghost use Rattle.name_rules.specs.Judges.{Gives, Judges, found, found_of, part_if};
 ghost use Rattle.name_rules.specs.Judging.{joined, pure};
 ghost use Rattle.name_rules.specs.Primaries as primaries;
-ghost use Rattle.tree_nodes.specs.Parts.{the_adding, the_addings, the_conjunct, the_conjuncts, the_expr, the_factor, the_multiplying, the_multiplyings, the_rel, the_simple, the_term};
-ghost use Rattle.tree_nodes.specs.Tables.{part_at};
-ghost use Rattle.ada_typed.specs.Latest.{pop, second, top};
+ghost use Rattle.syntax_nodes.specs.Parts.{the_adding, the_addings, the_conjunct, the_conjuncts, the_expr, the_factor, the_multiplying, the_multiplyings, the_rel, the_simple, the_term};
+ghost use Rattle.syntax_nodes.specs.Tables.{part_at};
+ghost use Rattle.typed_tree.specs.Latest.{pop, second, top};
 ghost use Rattle.typed_parts.specs.Stack.{parts};
 
 use crate::primaries::inside;
 use ada_base::Op;
-use ada_tree::{Additive, Comparison, Logical, Multiplicative, Sign};
 use name_rules::found::Found;
 use name_rules::log::{Log, Rule};
 use name_rules::scope::{Context, Names};
@@ -25,7 +24,8 @@ use name_values::scope::scalar_named;
 use name_values::types::wanted_of;
 use name_values::values::{asked, is_kind, kind_of, stored};
 use std::alloc::AllocError;
-use tree_nodes::{Expr, Factor, Rel, Tree};
+use syntax_nodes::{Expr, Factor, Rel, Tree};
+use syntax_tree::{Additive, Comparison, Logical, Multiplicative, Sign};
 use typed_parts::Parts;
 
 /// A factor (4.4).
@@ -52,7 +52,7 @@ pub fn factor(
         }
         Factor::Abs { at, operand } => {
             let x = attempt!(inside(names, levels, here, log, out, Wanted::Other, tree, operand));
-            unary(log, out, ada_typed::Sign::Abs, at, x)
+            unary(log, out, typed_tree::Sign::Abs, at, x)
         }
         Factor::Not { at, operand } => {
             let x = attempt!(inside(names, levels, here, log, out, Wanted::Other, tree, operand));
@@ -263,7 +263,7 @@ fn first_term(
         }
         Some(Sign::Minus(at)) => {
             let x = attempt!(term(names, levels, here, log, out, Wanted::Other, tree, id));
-            unary(log, out, ada_typed::Sign::Minus, at, x)
+            unary(log, out, typed_tree::Sign::Minus, at, x)
         }
     }
 }
@@ -312,16 +312,16 @@ pub fn simple(
     }
 }
 
-fn comparison_of(by: Comparison) -> ada_typed::Comparison
+fn comparison_of(by: Comparison) -> typed_tree::Comparison
     ensures { result ≡ spec.comparison_of by }
 {
     match by {
-        Comparison::Equal => ada_typed::Comparison::Equal,
-        Comparison::Unequal => ada_typed::Comparison::Unequal,
-        Comparison::Less => ada_typed::Comparison::Less,
-        Comparison::AtMost => ada_typed::Comparison::AtMost,
-        Comparison::Greater => ada_typed::Comparison::Greater,
-        Comparison::AtLeast => ada_typed::Comparison::AtLeast,
+        Comparison::Equal => typed_tree::Comparison::Equal,
+        Comparison::Unequal => typed_tree::Comparison::Unequal,
+        Comparison::Less => typed_tree::Comparison::Less,
+        Comparison::AtMost => typed_tree::Comparison::AtMost,
+        Comparison::Greater => typed_tree::Comparison::Greater,
+        Comparison::AtLeast => typed_tree::Comparison::AtLeast,
     }
 }
 
@@ -532,7 +532,7 @@ fn short_form(
     let z = attempt!(short_joined(log, out, all, x, y));
     if attempt!(short_operands(names, levels, here, log, out, all, z, tree, more)) {
         Ok(Some(Found::Scalar {
-            first: first_tokens::of_rel(tree, first),
+            first: syntax_first_tokens::of_rel(tree, first),
             kind: Kind::Boolean,
             nominal: None,
         }))
@@ -661,7 +661,13 @@ pub fn value_for(
 {
     match attempt!(expr(names, levels, here, log, out, wanted_of(subtype), tree, id)) {
         None => Ok(false),
-        Some(given) => stored(log, out, subtype, first_tokens::of_expr(tree, id), given),
+        Some(given) => stored(
+            log,
+            out,
+            subtype,
+            syntax_first_tokens::of_expr(tree, id),
+            given,
+        ),
     }
 }
 

@@ -2,17 +2,17 @@
 
 ghost use Rattle.std.specs.Prelude.{◌≡◌, ◌==◌, ◌||◌, ◌++◌, ◌∷◌, [], IfOk, OnOk, Some, drop, false, if◌then◌else◌, length, not, option_map, slice_get};
 ghost use Rattle.std.specs.List.{find};
-ghost use Rattle.ada_typed.specs.Decoded as part;
-ghost use Rattle.ada_typed.specs.Latest.{pop, top};
-ghost use Rattle.ada_tree.specs.Syntax as syntax;
+ghost use Rattle.typed_tree.specs.Decoded as part;
+ghost use Rattle.typed_tree.specs.Latest.{pop, top};
+ghost use Rattle.syntax_tree.specs.Syntax as syntax;
 ghost use Rattle.name_expressions.specs.Filled.{filled};
 ghost use Rattle.name_rules.specs.Aggregates as spec;
 ghost use Rattle.name_rules.specs.Judges.{Gives, part_if};
 ghost use Rattle.name_rules.specs.Judging.{fault, pure, unless};
 ghost use Rattle.name_rules.specs.declared.log.Rule.TheVariants.{StaticRange};
 ghost use Rattle.name_rules.specs.Types as types;
-ghost use Rattle.tree_nodes.specs.Parts.{the_assocs, the_choice, the_choices};
-ghost use Rattle.tree_nodes.specs.Tables.{part_at};
+ghost use Rattle.syntax_nodes.specs.Parts.{the_assocs, the_choice, the_choices};
+ghost use Rattle.syntax_nodes.specs.Tables.{part_at};
 ghost use Rattle.typed_parts.specs.Stack.{parts};
 
 use crate::coverage::whole;
@@ -24,7 +24,7 @@ use name_values::logs::{breaks, not_given};
 use name_values::shapes::identifier_of_choice;
 use name_values::symbols::symbol;
 use std::alloc::{AllocError, Global};
-use tree_nodes::{Choice, Tree};
+use syntax_nodes::{Choice, Tree};
 use typed_parts::Parts;
 
 /// What associations by name gave of a record so far: whether it has no fault, the components that aren't given, and
@@ -179,8 +179,8 @@ fn first_of_choice(tree: &Tree, id: u32) -> u32
     ensures { result ≡ spec.first_of_choice (the_choice (part_at tree.now.nodes id)) }
 {
     match tree.choice(id) {
-        Choice::Value(value) => first_tokens::of_simple(tree, value),
-        Choice::Span { low, .. } => first_tokens::of_simple(tree, low),
+        Choice::Value(value) => syntax_first_tokens::of_simple(tree, value),
+        Choice::Span { low, .. } => syntax_first_tokens::of_simple(tree, low),
         Choice::Others(at) => at,
     }
 }

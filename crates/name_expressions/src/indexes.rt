@@ -1,14 +1,14 @@
 //! Indexed components (4.1.1), and arguments where none can stand.
 
 ghost use Rattle.std.specs.Prelude.{◌≡◌, ◌∷◌, IfOk, OnOk, drop};
-ghost use Rattle.ada_tree.specs.Syntax as syntax;
+ghost use Rattle.syntax_tree.specs.Syntax as syntax;
 ghost use Rattle.name_rules.specs.Judges.{Gives, Judges, found_of, part_if};
 ghost use Rattle.name_rules.specs.Names as spec;
 ghost use Rattle.name_rules.specs.Primaries as primaries;
 ghost use Rattle.name_rules.specs.Types as types;
-ghost use Rattle.tree_nodes.specs.Parts.{the_arg, the_args};
-ghost use Rattle.tree_nodes.specs.Tables.{part_at};
-ghost use Rattle.ada_typed.specs.Latest.{pop, second, top};
+ghost use Rattle.syntax_nodes.specs.Parts.{the_arg, the_args};
+ghost use Rattle.syntax_nodes.specs.Tables.{part_at};
+ghost use Rattle.typed_tree.specs.Latest.{pop, second, top};
 ghost use Rattle.typed_parts.specs.Stack.{parts};
 
 use crate::expressions::{expr, judged_alone};
@@ -24,7 +24,7 @@ use name_values::names::{component_of, is_array, part_place, wrong_name};
 use name_values::shapes::is_string;
 use name_values::values::{asked, first_of};
 use std::alloc::AllocError;
-use tree_nodes::Tree;
+use syntax_nodes::Tree;
 use typed_parts::Parts;
 
 /// An argument, for itself alone unless it is a string literal; no part of it is left.

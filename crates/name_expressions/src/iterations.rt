@@ -9,10 +9,10 @@ ghost use Rattle.name_rules.specs.declared.log.Rule.TheVariants.{Unknown};
 ghost use Rattle.name_rules.specs.Primaries as primaries;
 ghost use Rattle.name_expressions.specs.Sequences.{Folds, folded_where, folded_within};
 ghost use Rattle.name_values.specs.Walks.{Chunks, Enters, Walks, as_chunked};
-ghost use Rattle.tree_nodes.specs.Parts.{the_expr, the_iter, the_parallel, the_simple};
-ghost use Rattle.tree_nodes.specs.Tables.{part_at};
-ghost use Rattle.tree_nodes.specs.Views.{optional_expr, optional_parallel};
-ghost use Rattle.ada_typed.specs.Latest.{pop, top};
+ghost use Rattle.syntax_nodes.specs.Parts.{the_expr, the_iter, the_parallel, the_simple};
+ghost use Rattle.syntax_nodes.specs.Tables.{part_at};
+ghost use Rattle.syntax_nodes.specs.Views.{optional_expr, optional_parallel};
+ghost use Rattle.typed_tree.specs.Latest.{pop, top};
 ghost use Rattle.typed_parts.specs.Stack.{parts};
 
 use crate::attribute_rules::attribute_at;
@@ -20,7 +20,6 @@ use crate::expressions::{condition, expr, simple};
 use crate::primaries::name_inside;
 use crate::ranges::range;
 use crate::reducers::reducer_of;
-use ada_typed::SiteKind;
 use name_rules::found::{Attribute, Folding, Found, Going};
 use name_rules::log::{Log, Rule};
 use name_rules::scope::{Context, Names};
@@ -36,8 +35,9 @@ use name_values::walks::{
     over_denoted, parallel_at, range_walked, within,
 };
 use std::alloc::AllocError;
-use tree_nodes::{Iter, Parallel, Tree};
+use syntax_nodes::{Iter, Parallel, Tree};
 use typed_parts::Parts;
+use typed_tree::SiteKind;
 
 /// A number of chunks: WrongType where it is no integer.
 #[cycle(levels)]

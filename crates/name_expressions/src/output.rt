@@ -1,16 +1,16 @@
 //! Calls of Put, Put_Line, New_Line and Get (A.10.6 to A.10.8).
 
 ghost use Rattle.std.specs.Prelude.{◌≡◌, OnOk};
-ghost use Rattle.ada_tree.specs.Syntax as syntax;
+ghost use Rattle.syntax_tree.specs.Syntax as syntax;
 ghost use Rattle.name_expressions.specs.Arguments.{given_args};
 ghost use Rattle.name_expressions.specs.Putting as own;
 ghost use Rattle.name_rules.specs.Judges.{Judges, found_of};
 ghost use Rattle.name_rules.specs.Output as spec;
 ghost use Rattle.name_rules.specs.Primaries as primaries;
 ghost use Rattle.name_values.specs.Putting.{Puts, putting_of};
-ghost use Rattle.tree_nodes.specs.Parts.{the_arg, the_args, the_expr};
-ghost use Rattle.tree_nodes.specs.Tables.{part_at};
-ghost use Rattle.ada_typed.specs.Latest.{pop, second, top};
+ghost use Rattle.syntax_nodes.specs.Parts.{the_arg, the_args, the_expr};
+ghost use Rattle.syntax_nodes.specs.Tables.{part_at};
+ghost use Rattle.typed_tree.specs.Latest.{pop, second, top};
 ghost use Rattle.typed_parts.specs.Stack.{parts};
 
 use crate::expressions::{expr, judged_alone};
@@ -26,7 +26,7 @@ use name_values::putting::{
 };
 use name_values::symbols::{WIDTH, symbol};
 use std::alloc::AllocError;
-use tree_nodes::Tree;
+use syntax_nodes::Tree;
 use typed_parts::Parts;
 
 #[cycle(levels)]
@@ -155,7 +155,7 @@ fn put_arguments(
     let mut next = more;
     'each: while let Some(cell) = tree.cell(next) {
         let arg = tree.arg(cell.first);
-        let first = first_tokens::of_arg(tree, cell.first);
+        let first = syntax_first_tokens::of_arg(tree, cell.first);
         attempt!(put_argument(
             names, levels, here, log, out, putting, arg.formal, first, tree, arg.value,
         ));

@@ -2,8 +2,8 @@
 //! associations, and the value of the rest lies below it.
 
 ghost use Rattle.std.specs.Prelude.{◌≡◌, ◌∷◌, [], IfOk, OnOk, None, Some, drop, false, slice_get};
-ghost use Rattle.ada_typed.specs.Decoded as part;
-ghost use Rattle.ada_typed.specs.Latest.{pop, second, top};
+ghost use Rattle.typed_tree.specs.Decoded as part;
+ghost use Rattle.typed_tree.specs.Latest.{pop, second, top};
 ghost use Rattle.name_expressions.specs.Placed.{chosen, placed};
 ghost use Rattle.name_rules.specs.Aggregates as spec;
 ghost use Rattle.name_rules.specs.Judges.{Judges, Says, found_of, part_if};
@@ -13,7 +13,6 @@ ghost use Rattle.typed_parts.specs.Stack.{parts};
 
 use crate::associations::placed_value;
 use ada_base::Items;
-use ada_typed::Iterated;
 use name_rules::log::{Dimension, Log, Rule};
 use name_rules::scope::What;
 use name_rules::types::{Kind, Scalar};
@@ -22,6 +21,7 @@ use name_values::logs::breaks;
 use name_values::types::same;
 use std::alloc::AllocError;
 use typed_parts::Parts;
+use typed_tree::Iterated;
 
 /// The ranges that were given, whether what was given has no fault, and whether the value of the rest has none, where
 /// there is one.

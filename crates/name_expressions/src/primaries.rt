@@ -5,9 +5,9 @@ ghost use Rattle.name_expressions.specs.Primaries.{named_in};
 ghost use Rattle.name_expressions.specs.Conditionals.{Waits, waiting_if};
 ghost use Rattle.name_rules.specs.Judges.{Judges};
 ghost use Rattle.name_rules.specs.Primaries as spec;
-ghost use Rattle.tree_nodes.specs.Parts.{the_elsifs, the_expr, the_name, the_primary};
-ghost use Rattle.tree_nodes.specs.Tables.{part_at};
-ghost use Rattle.ada_typed.specs.Latest.{pop, top};
+ghost use Rattle.syntax_nodes.specs.Parts.{the_elsifs, the_expr, the_name, the_primary};
+ghost use Rattle.syntax_nodes.specs.Tables.{part_at};
+ghost use Rattle.typed_tree.specs.Latest.{pop, top};
 ghost use Rattle.typed_parts.specs.Stack.{parts};
 
 use crate::aggregates::{aggregate, one_value};
@@ -25,7 +25,7 @@ use name_values::attempt;
 use name_values::scope::no_name;
 use name_values::symbols::number;
 use std::alloc::AllocError;
-use tree_nodes::{Primary, Tree};
+use syntax_nodes::{Primary, Tree};
 use typed_parts::Parts;
 
 /// A primary in so many brackets less one as may still be open: Limit where none may.
@@ -43,7 +43,7 @@ pub fn inside(
     ensures { Judges ((spec.inside names.now levels).primary here.now (the_primary (part_at tree.now.nodes id)) want log.old) (parts out.old) result log.new (parts out.new) }
 {
     if levels == 0 {
-        let first = first_tokens::of_primary(tree, id);
+        let first = syntax_first_tokens::of_primary(tree, id);
         return no_expression(
             log,
             out,
@@ -294,7 +294,7 @@ pub fn name_inside(
     ensures { Judges ((spec.inside names.now levels).name here.now (the_name (part_at tree.now.nodes id)) log.old) (parts out.old) result log.new (parts out.new) }
 {
     if levels == 0 {
-        let first = first_tokens::of_name(tree, id);
+        let first = syntax_first_tokens::of_name(tree, id);
         return no_name(
             log,
             out,

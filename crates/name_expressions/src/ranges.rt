@@ -5,9 +5,9 @@ ghost use Rattle.name_rules.specs.Judges.{Gives, Judges, Says, found};
 ghost use Rattle.name_rules.specs.Judging.{fault, some};
 ghost use Rattle.name_rules.specs.Primaries as primaries;
 ghost use Rattle.name_rules.specs.Ranges as spec;
-ghost use Rattle.tree_nodes.specs.Parts.{the_range};
-ghost use Rattle.tree_nodes.specs.Tables.{part_at};
-ghost use Rattle.ada_typed.specs.Latest.{pop, second, top};
+ghost use Rattle.syntax_nodes.specs.Parts.{the_range};
+ghost use Rattle.syntax_nodes.specs.Tables.{part_at};
+ghost use Rattle.typed_tree.specs.Latest.{pop, second, top};
 ghost use Rattle.typed_parts.specs.Stack.{parts};
 
 use crate::expressions::simple;
@@ -23,7 +23,7 @@ use name_values::relations::common_kind;
 use name_values::types::{base_of, lies_in};
 use name_values::values::{asked, first_of, is_scalar, kind_of, literal, suits, value_of};
 use std::alloc::AllocError;
-use tree_nodes::{Range, Tree};
+use syntax_nodes::{Range, Tree};
 use typed_parts::Parts;
 
 /// Writes that a rule is broken by a range, in place of the latest part.
@@ -224,7 +224,7 @@ pub fn range(
                 out.leave_out();
                 return Ok(None);
             };
-            own_bounds(log, out, first_tokens::of_simple(tree, low), x, y)
+            own_bounds(log, out, syntax_first_tokens::of_simple(tree, low), x, y)
         }
         Range::Whole(name) => {
             match attempt!(name_inside(names, levels, here, log, out, tree, name)) {
@@ -245,7 +245,14 @@ pub fn range(
                 out.leave_out();
                 return Ok(None);
             };
-            checked_range(log, out, first_tokens::of_name(tree, name), scalar, x, y)
+            checked_range(
+                log,
+                out,
+                syntax_first_tokens::of_name(tree, name),
+                scalar,
+                x,
+                y,
+            )
         }
     }
 }

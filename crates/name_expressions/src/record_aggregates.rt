@@ -1,17 +1,17 @@
 //! Aggregates of records (4.3.1), in which so many brackets may still be opened.
 
 ghost use Rattle.std.specs.Prelude.{◌≡◌, IfOk, drop};
-ghost use Rattle.ada_tree.specs.Syntax as syntax;
+ghost use Rattle.syntax_tree.specs.Syntax as syntax;
 ghost use Rattle.name_expressions.specs.Filled.{counted, filled};
 ghost use Rattle.name_expressions.specs.Contents.{contents_in, exprs_in, of_contents};
 ghost use Rattle.name_rules.specs.Aggregates as spec;
 ghost use Rattle.name_rules.specs.Judges.{Gives, part_if};
 ghost use Rattle.name_rules.specs.Judging.{where_clean};
 ghost use Rattle.name_rules.specs.Primaries as primaries;
-ghost use Rattle.tree_nodes.specs.Parts.{the_assoc, the_assocs, the_expr, the_exprs};
-ghost use Rattle.tree_nodes.specs.Tables.{part_at};
-ghost use Rattle.tree_nodes.specs.Views.{optional_expr};
-ghost use Rattle.ada_typed.specs.Latest.{pop, top};
+ghost use Rattle.syntax_nodes.specs.Parts.{the_assoc, the_assocs, the_expr, the_exprs};
+ghost use Rattle.syntax_nodes.specs.Tables.{part_at};
+ghost use Rattle.syntax_nodes.specs.Views.{optional_expr};
+ghost use Rattle.typed_tree.specs.Latest.{pop, top};
 ghost use Rattle.typed_parts.specs.Stack.{parts};
 
 use crate::associations::field_association;
@@ -27,7 +27,7 @@ use name_rules::scope::{Context, Names};
 use name_values::attempt;
 use name_values::logs::breaks;
 use std::alloc::AllocError;
-use tree_nodes::{Assoc, Tree};
+use syntax_nodes::{Assoc, Tree};
 use typed_parts::Parts;
 
 /// The value of one component joins the associations before it, the latest part.

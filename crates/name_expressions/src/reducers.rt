@@ -5,8 +5,8 @@ ghost use Rattle.name_expressions.specs.Reducers as reducers;
 ghost use Rattle.name_rules.specs.Judges.{Says};
 ghost use Rattle.name_rules.specs.Primaries as primaries;
 ghost use Rattle.name_rules.specs.Reducers as spec;
-ghost use Rattle.tree_nodes.specs.Parts.{the_expr, the_parts};
-ghost use Rattle.tree_nodes.specs.Tables.{part_at};
+ghost use Rattle.syntax_nodes.specs.Parts.{the_expr, the_parts};
+ghost use Rattle.syntax_nodes.specs.Tables.{part_at};
 ghost use Rattle.typed_parts.specs.Stack.{parts};
 
 use crate::expressions::judged_alone;
@@ -22,7 +22,7 @@ use name_values::reductions::{
 use name_values::scope::stands_for;
 use name_values::shapes::primary_of_expr;
 use std::alloc::AllocError;
-use tree_nodes::{NamePart, Primary, Tree};
+use syntax_nodes::{NamePart, Primary, Tree};
 use typed_parts::Parts;
 
 /// An expression that is no reducer is judged for itself.
@@ -41,7 +41,7 @@ fn no_reducer(
     let before = log.faults.len();
     attempt!(judged_alone(names, levels, here, log, out, tree, id));
     if log.faults.len() == before {
-        no_folding(log, first_tokens::of_expr(tree, id))
+        no_folding(log, syntax_first_tokens::of_expr(tree, id))
     } else {
         Ok(None)
     }

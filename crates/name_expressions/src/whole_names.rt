@@ -1,10 +1,10 @@
 //! Whole names (4.1): an identifier, and what follows it from left to right.
 
 ghost use Rattle.std.specs.Prelude.{◌≡◌, ◌∷◌, OnOk};
-ghost use Rattle.ada_tree.specs.Syntax as syntax;
-ghost use Rattle.ada_typed.specs.Decoded.{AnIteration};
-ghost use Rattle.ada_typed.specs.Syntax as typed;
-ghost use Rattle.ada_typed.specs.Latest.{fourth, pop, second, third, top};
+ghost use Rattle.syntax_tree.specs.Syntax as syntax;
+ghost use Rattle.typed_tree.specs.Decoded.{AnIteration};
+ghost use Rattle.typed_tree.specs.Syntax as typed;
+ghost use Rattle.typed_tree.specs.Latest.{fourth, pop, second, third, top};
 ghost use Rattle.name_expressions.specs.Reducing.{array_reduction_by, reduced_from, reducing_of, two_of};
 ghost use Rattle.name_rules.specs.Judges.{Judges, Says, found, found_of};
 ghost use Rattle.name_rules.specs.Judging.{fault, where_clean};
@@ -13,8 +13,8 @@ ghost use Rattle.name_rules.specs.Parts as spec;
 ghost use Rattle.name_rules.specs.Primaries as primaries;
 ghost use Rattle.name_rules.specs.TypedParts.{selections_of};
 ghost use Rattle.name_rules.specs.Types as types;
-ghost use Rattle.tree_nodes.specs.Parts.{the_arg, the_args, the_expr, the_name, the_part, the_parts};
-ghost use Rattle.tree_nodes.specs.Tables.{part_at};
+ghost use Rattle.syntax_nodes.specs.Parts.{the_arg, the_args, the_expr, the_name, the_part, the_parts};
+ghost use Rattle.syntax_nodes.specs.Tables.{part_at};
 ghost use Rattle.typed_parts.specs.Stack.{parts as joined};
 
 use crate::attribute_rules::{
@@ -27,7 +27,6 @@ use crate::expressions::expr;
 use crate::indexes::{arg_alone, args_alone, object_call, wrong_call};
 use crate::output::io_call;
 use crate::reducers::reducer_of;
-use ada_typed::SiteKind;
 use name_rules::found::{Attribute, Denoted, Folding, Found, Going, Place, Prefix};
 use name_rules::log::{Log, Rule};
 use name_rules::scope::{Context, Names};
@@ -40,8 +39,9 @@ use name_values::scope::{item, stands_for};
 use name_values::symbols::symbol;
 use name_values::walks::{components_of, new_parameter, new_site};
 use std::alloc::AllocError;
-use tree_nodes::{NamePart, Tree};
+use syntax_nodes::{NamePart, Tree};
 use typed_parts::Parts;
+use typed_tree::SiteKind;
 
 fn is_parallel(attribute: Attribute) -> bool
     ensures { result ≡ spec.is_parallel attribute }

@@ -1,6 +1,6 @@
 -- Whatever an expression is found to be has its static value in its base range, where what is declared around it has.
 use Rattle.std.proofs.Common.{◌≡◌, ℕ, Some, subst}
-use Rattle.ada_tree.specs.Syntax.{Expr}
+use Rattle.syntax_tree.specs.Syntax.{Expr}
 use Rattle.name_rules.specs.Expressions.{expr}
 use Rattle.name_rules.specs.Found.{Found}
 use Rattle.name_rules.specs.Primaries.{inside}

@@ -1,9 +1,9 @@
 -- What is around the body of an iteration is right, where what is around the iteration is.
 use Rattle.std.proofs.Common.{ℕ, Option, Some, None, Bool, true, false, if◌then◌else◌, [], ◌∷◌, length}
-use Rattle.ada_tree.specs.Syntax as syntax
-use Rattle.ada_tree.specs.Syntax.{Iter, OptionalExpr, OptionalParallel, Parallel}
-use Rattle.ada_typed.specs.Syntax.{Selections}
-use Rattle.ada_typed.specs.declared.program.SiteKind.{SiteKind}
+use Rattle.syntax_tree.specs.Syntax as syntax
+use Rattle.syntax_tree.specs.Syntax.{Iter, OptionalExpr, OptionalParallel, Parallel}
+use Rattle.typed_tree.specs.Syntax.{Selections}
+use Rattle.typed_tree.specs.declared.program.SiteKind.{SiteKind}
 use Rattle.name_rules.specs.Expressions.{Inside}
 use Rattle.name_rules.specs.Found.{Bounded, Denoted}
 use Rattle.name_rules.specs.Iterations as i

@@ -5,9 +5,9 @@ use Rattle.std.proofs.Math.ListN.{get_or, get_or-append}
 use Rattle.std.proofs.Math.Nat.{le-mul_of_pos_right, mul_comm, mul_assoc}
 use Rattle.std.proofs.Math.Seq.{get_or-append_seam}
 use Rattle.std.specs.Prelude.{unsigned_abs}
-use Rattle.ada_typed.specs.Layout.{cells_of, components, count, fields_cells, sizes_from, subtype_cells, to_nat}
-use Rattle.ada_typed.specs.Syntax.{Subtype}
-use Rattle.ada_typed.specs.declared.program.Field.{Field}
+use Rattle.typed_tree.specs.Layout.{cells_of, components, count, fields_cells, sizes_from, subtype_cells, to_nat}
+use Rattle.typed_tree.specs.Syntax.{Subtype}
+use Rattle.typed_tree.specs.declared.program.Field.{Field}
 use Rattle.name_rules.specs.Resolved.{dimension_bounds}
 use Rattle.name_rules.specs.Types.{array_cells, extent, saturated}
 use Rattle.name_rules.specs.declared.log.Dimension.{Dimension}

@@ -2,10 +2,10 @@
 use Rattle.std.proofs.Common.{◌≡◌, refl, true≢false, ℕ, ℤ, ◌<◌, ◌≤◌, int_le, List, [], ◌∷◌, ◌++◌, length, Option, Some, None, Bool, true, false, sym, ap, subst, ◌∙◌, ◌⊎◌, inl, inr, arith, if◌then◌else◌, nat_le, option_map, ◌==◌, ◌&&◌}
 use Rattle.std.specs.Prelude.{◌||◌}
 use Rattle.ada_base.specs.declared.reason.Reason.TheVariants as reason
-use Rattle.ada_tree.specs.Syntax as syntax
-use Rattle.ada_tree.specs.Syntax.{Array, Indic}
-use Rattle.ada_typed.specs.Decoded as part
-use Rattle.ada_typed.specs.Decoded.{Part}
+use Rattle.syntax_tree.specs.Syntax as syntax
+use Rattle.syntax_tree.specs.Syntax.{Array, Indic}
+use Rattle.typed_tree.specs.Decoded as part
+use Rattle.typed_tree.specs.Decoded.{Part}
 use Rattle.name_rules.specs.Declarations as d
 use Rattle.name_rules.specs.Declarations.{Dimensions, Indicated, indicated}
 use Rattle.name_rules.specs.Expressions.{Inside}
@@ -13,7 +13,7 @@ use Rattle.name_rules.specs.Found.{Denoted, Found, denote}
 use Rattle.name_rules.specs.Judging.{Judging, ◌>>=◌, both, clean, fault, given, joined, pure, some, where_clean}
 use Rattle.name_laws.proofs.CellsCounted.{HasValue, HaveValues, values_both}
 use Rattle.name_laws.proofs.KeepsRanges.{k-static_range}
-use Rattle.ada_tree.specs.FirstTokens as first_token
+use Rattle.syntax_tree.specs.FirstTokens as first_token
 use Rattle.name_rules.specs.Ranges as ranges
 use Rattle.name_rules.specs.Ranges.{Static}
 use Rattle.name_rules.specs.declared.log.Rule.TheVariants.{StaticRange, WrongType}
@@ -43,7 +43,7 @@ use Rattle.name_rules.specs.declared.scope.What.TheVariants as what
 use Rattle.name_rules.specs.declared.types.Scalar.{Scalar}
 use Rattle.name_rules.specs.declared.types.Subtype.{Subtype}
 use Rattle.name_rules.specs.declared.types.Subtype.TheVariants as subtype
-use Rattle.ada_typed.specs.Layout.{cells_of}
+use Rattle.typed_tree.specs.Layout.{cells_of}
 use Rattle.name_laws.proofs.CellsCounted.{array_counted}
 use Rattle.name_laws.proofs.CellsSound.{number_counted, number_in, table_of, AreRight, IsRight, IsRightWhat, Sound, are_both, are_later, longer_shapes, minding, more_shapes, number_within, one_of, right_later}
 use Rattle.name_laws.proofs.Fitting.{is_number}

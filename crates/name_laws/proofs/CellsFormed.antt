@@ -2,11 +2,11 @@
 use Rattle.std.proofs.Common.{◌≡◌, ℕ, zero, suc, ◌+◌, arith, ◌<◌, List, [], ◌∷◌, length, Option, Some, None, refl, sym, ap, subst, ◌∙◌, slice_get, map, option_map}
 use Rattle.std.proofs.lemmas.List.{length-map}
 use Rattle.std.proofs.lemmas.Option.{slice_get-map}
-use Rattle.ada_tree.specs.Syntax.{Program}
-use Rattle.ada_typed.specs.Layout.{HaveCells, cells_of}
-use Rattle.ada_typed.specs.Syntax as typed
-use Rattle.ada_typed.specs.Syntax.{Subtype}
-use Rattle.ada_typed.specs.declared.program.Object.{Object}
+use Rattle.syntax_tree.specs.Syntax.{Program}
+use Rattle.typed_tree.specs.Layout.{HaveCells, cells_of}
+use Rattle.typed_tree.specs.Syntax as typed
+use Rattle.typed_tree.specs.Syntax.{Subtype}
+use Rattle.typed_tree.specs.declared.program.Object.{Object}
 use Rattle.name_rules.specs.Resolved.{TypedOf, dimension_bounds, judged, typed_field, typed_subtype}
 use Rattle.name_rules.specs.declared.log.Dimension.{Dimension}
 use Rattle.name_rules.specs.declared.log.Field.{Field}

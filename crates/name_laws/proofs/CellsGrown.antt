@@ -2,7 +2,7 @@
 use Rattle.std.proofs.Common.{◌≡◌, ℕ, ◌+◌, ◌<◌, nat_le, nat_lt, List, [], ◌∷◌, ◌++◌, length, length-append, Some, Bool, true, false, refl, sym, ap, subst, ◌∙◌, arith, slice_get, map, ◌==◌}
 use Rattle.std.proofs.lemmas.List.{append_assoc, append-nil}
 use Rattle.std.specs.Prelude.{not, ◌||◌}
-use Rattle.ada_typed.specs.Layout.{cells_of, fields_cells}
+use Rattle.typed_tree.specs.Layout.{cells_of, fields_cells}
 use Rattle.name_rules.specs.Declarations.{cells_counted}
 use Rattle.name_rules.specs.Judging.{unless}
 use Rattle.name_rules.specs.Resolved.{typed_field}

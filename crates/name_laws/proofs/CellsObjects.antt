@@ -2,10 +2,10 @@
 use Rattle.std.proofs.Common.{true≢false, leb-true, nat_le, nat_lt, map, ◌≡◌, ℕ, suc, ℤ, ◌+◌, ◌<◌, ◌≤◌, int_le, List, [], ◌∷◌, ◌++◌, length, length-append, Option, Some, None, Bool, true, false, refl, sym, ap, subst, ◌∙◌, arith, if◌then◌else◌, option_map, ◌&&◌}
 use Rattle.std.specs.Prelude.{is_some, not}
 use Rattle.ada_base.specs.declared.reason.Reason.TheVariants as reason
-use Rattle.ada_tree.specs.Syntax as syntax
-use Rattle.ada_tree.specs.Syntax.{Comp, Decl, Definition, Expr, Ids, ObjectType, Simple}
-use Rattle.ada_typed.specs.Decoded as part
-use Rattle.ada_typed.specs.Decoded.{Part}
+use Rattle.syntax_tree.specs.Syntax as syntax
+use Rattle.syntax_tree.specs.Syntax.{Comp, Decl, Definition, Expr, Ids, ObjectType, Simple}
+use Rattle.typed_tree.specs.Decoded as part
+use Rattle.typed_tree.specs.Decoded.{Part}
 use Rattle.name_rules.specs.Declarations as d
 use Rattle.name_rules.specs.Declarations.{Building, Indicated, Initial, all_ids, indicated}
 use Rattle.name_rules.specs.Expressions.{Inside, expr}
@@ -30,7 +30,7 @@ use Rattle.name_rules.specs.declared.types.Wanted.TheVariants as wanted
 use Rattle.name_laws.proofs.CellsDeclared.{NamesRight, IsIndicated, IsRightMaybe, Leaves, array-leaves, begun-right, declared-right, ended-right, hidden-right, indic-right, last-true, next-leaves, now}
 use Rattle.std.proofs.lemmas.List.{append-nil, append_assoc, map-append}
 use Rattle.std.proofs.lemmas.Option.{slice_get-get_or}
-use Rattle.ada_typed.specs.Layout.{cells_of, fields_cells}
+use Rattle.typed_tree.specs.Layout.{cells_of, fields_cells}
 use Rattle.name_rules.specs.Resolved.{typed_field}
 use Rattle.name_rules.specs.declared.log.Shape.{Shape}
 use Rattle.name_laws.proofs.CellsCounted.{fields_sum, saturated_least, saturated_sum}

@@ -1,11 +1,11 @@
 -- Whole programs leave what is right.
 use Rattle.std.proofs.Common.{ℕ, ◌-◌, ◌≤◌, List, [], ◌∷◌, length, Option, Some, None, Bool, false, refl, arith}
-use Rattle.ada_tree.specs.Syntax as syntax
-use Rattle.ada_tree.specs.Syntax.{Aspect, Body, Clause, Decl, Formal, Formals, Main, Program, Sub, Unit'}
-use Rattle.ada_tree.specs.declared.operators.ClauseWord.TheVariants as word
-use Rattle.ada_tree.specs.declared.operators.ClauseWord.{ClauseWord}
-use Rattle.ada_typed.specs.Syntax.{Sub as TypedSub}
-use Rattle.ada_typed.specs.declared.program.Mode.{Mode}
+use Rattle.syntax_tree.specs.Syntax as syntax
+use Rattle.syntax_tree.specs.Syntax.{Aspect, Body, Clause, Decl, Formal, Formals, Main, Program, Sub, Unit'}
+use Rattle.syntax_tree.specs.declared.operators.ClauseWord.TheVariants as word
+use Rattle.syntax_tree.specs.declared.operators.ClauseWord.{ClauseWord}
+use Rattle.typed_tree.specs.Syntax.{Sub as TypedSub}
+use Rattle.typed_tree.specs.declared.program.Mode.{Mode}
 use Rattle.name_rules.specs.Declarations as d
 use Rattle.name_rules.specs.Declarations.{all_ids}
 use Rattle.name_rules.specs.Judging.{joined}

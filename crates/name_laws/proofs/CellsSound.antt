@@ -3,9 +3,9 @@ use Rattle.std.proofs.Common.{◌≡◌, ℕ, zero, suc, ◌+◌, ◌<◌, ◌�
 use Rattle.std.proofs.lemmas.List.{length-map, map-append}
 use Rattle.std.proofs.lemmas.Option.{slice_get-get_or, slice_get_within}
 use Rattle.std.specs.Prelude.{not, ◌||◌}
-use Rattle.ada_typed.specs.Layout.{cells_of, subtype_cells}
-use Rattle.ada_typed.specs.Syntax.{Subtype as TypedSubtype}
-use Rattle.ada_typed.specs.declared.program.Object.{Object}
+use Rattle.typed_tree.specs.Layout.{cells_of, subtype_cells}
+use Rattle.typed_tree.specs.Syntax.{Subtype as TypedSubtype}
+use Rattle.typed_tree.specs.declared.program.Object.{Object}
 use Rattle.name_rules.specs.Declarations.{cells_counted}
 use Rattle.name_rules.specs.Judging.{unless}
 use Rattle.name_rules.specs.Resolved.{typed_subtype}

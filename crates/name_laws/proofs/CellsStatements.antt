@@ -3,7 +3,7 @@ use Rattle.ada_base.specs.declared.reason.Reason.{Reason}
 use Rattle.name_rules.specs.Cases.{Covering, case_choices, handled_by}
 use Rattle.name_rules.specs.Declarations.{declarations}
 use Rattle.name_rules.specs.Expressions.{condition, expr}
-use Rattle.ada_tree.specs.FirstTokens as first_token
+use Rattle.syntax_tree.specs.FirstTokens as first_token
 use Rattle.name_rules.specs.Iterations.{entered}
 use Rattle.name_rules.specs.Parts.{name, new_site}
 use Rattle.name_rules.specs.Primaries.{inside}
@@ -13,14 +13,14 @@ use Rattle.name_rules.specs.declared.scope.Context.{Context}
 use Rattle.name_rules.specs.declared.scope.Names.{Names}
 use Rattle.name_rules.specs.declared.types.Kind.{Kind}
 use Rattle.name_rules.specs.declared.types.Wanted.TheVariants as wanted
-use Rattle.ada_tree.specs.Syntax as syntax
-use Rattle.ada_tree.specs.Syntax.{Alt, Alts, Arms, Body, Branches, Declare, Expr, Handler, Handlers, Iter, MoreStmts, OptionalParallel, OptionalStmts, Scheme, Simple, Stmt, Stmts}
-use Rattle.ada_typed.specs.Decoded as part
-use Rattle.ada_typed.specs.Syntax as typed
-use Rattle.ada_typed.specs.declared.program.SiteKind.TheVariants as site
+use Rattle.syntax_tree.specs.Syntax as syntax
+use Rattle.syntax_tree.specs.Syntax.{Alt, Alts, Arms, Body, Branches, Declare, Expr, Handler, Handlers, Iter, MoreStmts, OptionalParallel, OptionalStmts, Scheme, Simple, Stmt, Stmts}
+use Rattle.typed_tree.specs.Decoded as part
+use Rattle.typed_tree.specs.Syntax as typed
+use Rattle.typed_tree.specs.declared.program.SiteKind.TheVariants as site
 use Rattle.std.specs.Prelude.{Bool, List, None, Option, Some, [], false, length, option_map, suc, zero, ℕ, ◌==◌, ◌∷◌}
-use Rattle.ada_typed.specs.Decoded.{Part as TypedPart}
-use Rattle.ada_typed.specs.Latest.{turned}
+use Rattle.typed_tree.specs.Decoded.{Part as TypedPart}
+use Rattle.typed_tree.specs.Latest.{turned}
 use Rattle.name_rules.specs.Judging.{clean, given, joined, pure}
 use Rattle.name_rules.specs.Statements.{Around, with_stmt, no_stmts, stmts_from, stmts, with_elsif_if, elsifs, otherwise_where, if_stmt_made, if_stmt, is_last, no_choosing, alternative, alts, selector, selector_kind, case_stmt, loop_ends, new_loop, in_loop, for_made, loop_entered, for_loop, loop_part, optional_parallel, loop_with, loop_by, loop_stmt, in_handler_of, is_last_handler, handler, handlers, block_part, body_made, body, no_decls, block_decls, block_of, block, count_where, with_arm, branches, branch_count, in_threads, parallel, stmt_form, around, stmt}
 use Rattle.name_laws.proofs.Walk.{Keeps, k-pure, k-some, k-bind, k-fault, k-given, k-both, k-clean}

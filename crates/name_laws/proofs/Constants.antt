@@ -3,10 +3,10 @@ use Rattle.std.proofs.Common.{◌≡◌, ℕ, ℤ, zero, suc, ◌+◌, List, [],
 use Rattle.std.proofs.lemmas.Bool.{and_parts}
 use Rattle.std.proofs.lemmas.Option.{slice_get-map}
 use Rattle.std.specs.Prelude.{not, ◌||◌}
-use Rattle.ada_tree.specs.Syntax.{Program}
-use Rattle.ada_typed.specs.Syntax as typed
-use Rattle.ada_typed.specs.declared.program.Object.{Object}
-use Rattle.ada_typed.specs.declared.scalars.Class.TheVariants as class
+use Rattle.syntax_tree.specs.Syntax.{Program}
+use Rattle.typed_tree.specs.Syntax as typed
+use Rattle.typed_tree.specs.declared.program.Object.{Object}
+use Rattle.typed_tree.specs.declared.scalars.Class.TheVariants as class
 use Rattle.name_rules.specs.Declarations.{cells_counted}
 use Rattle.name_rules.specs.Judging.{unless}
 use Rattle.name_rules.specs.Resolved.{depth_limit, fresh, judged, typed_subtype}

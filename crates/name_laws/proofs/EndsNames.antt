@@ -14,12 +14,12 @@ use Rattle.name_rules.specs.declared.scope.Context.{Context}
 use Rattle.name_rules.specs.declared.scope.Names.{Names}
 use Rattle.name_rules.specs.declared.types.Subtype.TheVariants as subtype
 use Rattle.name_rules.specs.declared.types.Subtype.{Subtype}
-use Rattle.ada_tree.specs.Syntax.{Args}
-use Rattle.ada_typed.specs.Decoded as part
+use Rattle.syntax_tree.specs.Syntax.{Args}
+use Rattle.typed_tree.specs.Decoded as part
 use Rattle.std.specs.Prelude.{List, None, Option, Some, [], length, ℕ, ◌+◌, ◌==◌, ◌∷◌}
-use Rattle.ada_typed.specs.Syntax as typed
+use Rattle.typed_tree.specs.Syntax as typed
 use Rattle.name_rules.specs.TypedParts.{also}
-use Rattle.ada_typed.specs.Decoded.{Part as TypedPart}
+use Rattle.typed_tree.specs.Decoded.{Part as TypedPart}
 use Rattle.name_rules.specs.Judging.{fault, given, some}
 use Rattle.name_rules.specs.Names.{denoted_first, part_place, field_from, is_record, is_array, field_in, field_of, field_form, field, args_alone, wrong_call, count, indexes, indexed, component_cells, index_shape, array_call, object_call}
 use Rattle.name_laws.proofs.CellsDeclared.{Ends, e-fault, e-given, e-if, e-some, e-where_clean}

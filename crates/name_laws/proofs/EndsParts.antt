@@ -20,14 +20,14 @@ use Rattle.name_rules.specs.declared.scope.Context.{Context}
 use Rattle.name_rules.specs.declared.scope.Names.{Names}
 use Rattle.name_rules.specs.declared.types.Subtype.TheVariants as subtype
 use Rattle.name_rules.specs.declared.types.Wanted.TheVariants as wanted
-use Rattle.ada_tree.specs.Syntax as syntax
-use Rattle.ada_tree.specs.Syntax.{Args, Name, Part, Parts}
-use Rattle.ada_typed.specs.Decoded as part
-use Rattle.ada_typed.specs.Syntax as typed
-use Rattle.ada_typed.specs.Syntax.{Selections}
+use Rattle.syntax_tree.specs.Syntax as syntax
+use Rattle.syntax_tree.specs.Syntax.{Args, Name, Part, Parts}
+use Rattle.typed_tree.specs.Decoded as part
+use Rattle.typed_tree.specs.Syntax as typed
+use Rattle.typed_tree.specs.Syntax.{Selections}
 use Rattle.std.specs.Prelude.{if◌then◌else◌, Bool, None, Option, Some, false, true, ℕ}
 use Rattle.name_rules.specs.TypedParts.{selections_of}
-use Rattle.ada_typed.specs.Decoded.{Part as TypedPart}
+use Rattle.typed_tree.specs.Decoded.{Part as TypedPart}
 use Rattle.name_rules.specs.Judging.{◌>>=◌, both, fault, given, read}
 use Rattle.name_rules.specs.Parts.{new_parameter, site_where, array_shape, through, is_parallel, item_found, array_reduced, reduced_with, of_array, other_with, attribute_with, call_form, call, part_of, next_part, parts, name}
 use Rattle.name_laws.proofs.CellsDeclared.{Ends, Named, NamesRight, e-fault, e-given, e-map, e-where_clean, now, stands-named}

@@ -5,7 +5,7 @@ use Rattle.name_rules.specs.declared.found.Denoted.TheVariants as denoted
 use Rattle.name_rules.specs.declared.log.Rule.TheVariants.{NotVisible, Unknown}
 use Rattle.name_rules.specs.declared.scope.Context.{Context}
 use Rattle.name_rules.specs.declared.scope.Names.{Names}
-use Rattle.ada_typed.specs.Decoded as part
+use Rattle.typed_tree.specs.Decoded as part
 use Rattle.std.specs.Prelude.{if◌then◌else◌, not, ℕ, ◌==◌, ◌||◌}
 use Rattle.name_rules.specs.Judging.{fault}
 use Rattle.name_rules.specs.Scope.{named, predefined, is_withed, in_package, expanded_reach, in_ada, selected}

@@ -1,6 +1,6 @@
 -- What holds of each line of the log holds of what Calls judges.
 use Rattle.name_rules.specs.Expressions.{Inside, expr, judged_alone, value_for}
-use Rattle.ada_tree.specs.FirstTokens as first_token
+use Rattle.syntax_tree.specs.FirstTokens as first_token
 use Rattle.name_rules.specs.Found.{Found}
 use Rattle.name_rules.specs.Names.{count}
 use Rattle.name_rules.specs.Scope.{named}
@@ -18,17 +18,17 @@ use Rattle.name_rules.specs.declared.types.Scalar.{Scalar}
 use Rattle.name_rules.specs.declared.types.Subtype.TheVariants as subtype
 use Rattle.name_rules.specs.declared.types.Subtype.{Subtype}
 use Rattle.name_rules.specs.declared.types.Wanted.TheVariants as wanted
-use Rattle.ada_tree.specs.Syntax as syntax
-use Rattle.ada_tree.specs.Syntax.{Arg, Args, Expr}
-use Rattle.ada_typed.specs.Decoded as part
-use Rattle.ada_typed.specs.Syntax as typed
-use Rattle.ada_typed.specs.Syntax.{Selections}
-use Rattle.ada_typed.specs.declared.program.Mode.TheVariants as mode
-use Rattle.ada_typed.specs.declared.program.Mode.{Mode}
+use Rattle.syntax_tree.specs.Syntax as syntax
+use Rattle.syntax_tree.specs.Syntax.{Arg, Args, Expr}
+use Rattle.typed_tree.specs.Decoded as part
+use Rattle.typed_tree.specs.Syntax as typed
+use Rattle.typed_tree.specs.Syntax.{Selections}
+use Rattle.typed_tree.specs.declared.program.Mode.TheVariants as mode
+use Rattle.typed_tree.specs.declared.program.Mode.{Mode}
 use Rattle.std.specs.List.{list_any, position}
 use Rattle.std.specs.Prelude.{Bool, List, None, Option, Some, [], false, if◌then◌else◌, length, nat_lt, not, true, ℕ, ◌==◌, ◌∷◌}
 use Rattle.name_rules.specs.TypedParts.{selections_of}
-use Rattle.ada_typed.specs.Decoded.{Part as TypedPart}
+use Rattle.typed_tree.specs.Decoded.{Part as TypedPart}
 use Rattle.name_rules.specs.Judging.{◌>>=◌, fault, given, pure, read, some, where_clean}
 use Rattle.name_rules.specs.Calls.{takes_in, gives_in, profile_in, scalar_actual, composite_actual, place_given, variable_form, variable_given, actual_by, actual_for, found_or_unknown, parameter_of, given_once, Calling, taken_at, argument_form, argument, arguments, complete, begun_call, call_given, sub_call, with_operand, operands, arg_names, conversion_of, converted, one_operand, scalar_conversion, conversion}
 use Rattle.name_laws.proofs.Walk.{Walk, Keeps, k-pure, k-some, k-bind, k-fault, k-unless, k-read, k-if, k-given, k-where_clean}

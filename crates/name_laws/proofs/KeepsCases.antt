@@ -9,9 +9,9 @@ use Rattle.name_rules.specs.declared.scope.Context.{Context}
 use Rattle.name_rules.specs.declared.scope.Names.{Names}
 use Rattle.name_rules.specs.declared.types.Kind.{Kind}
 use Rattle.name_rules.specs.declared.types.Scalar.{Scalar}
-use Rattle.ada_tree.specs.Syntax as syntax
-use Rattle.ada_tree.specs.Syntax.{Choice, Handled, Pack}
-use Rattle.ada_typed.specs.Syntax as typed
+use Rattle.syntax_tree.specs.Syntax as syntax
+use Rattle.syntax_tree.specs.Syntax.{Choice, Handled, Pack}
+use Rattle.typed_tree.specs.Syntax as typed
 use Rattle.std.specs.List.{list_any}
 use Rattle.std.specs.Prelude.{Bool, List, None, Option, Some, [], int_le, not, option_map, true, ℕ, ℤ, ◌&&◌, ◌||◌, ◌∷◌}
 use Rattle.name_rules.specs.Judging.{◌>>=◌, pure, unless}

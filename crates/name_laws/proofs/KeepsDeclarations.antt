@@ -1,7 +1,7 @@
 -- What holds of each line of the log holds of what Declarations judges.
 use Rattle.ada_base.specs.declared.reason.Reason.TheVariants as reason
 use Rattle.name_rules.specs.Expressions.{Inside, expr, judged_alone}
-use Rattle.ada_tree.specs.FirstTokens as first_token
+use Rattle.syntax_tree.specs.FirstTokens as first_token
 use Rattle.name_rules.specs.Found.{Found}
 use Rattle.name_rules.specs.Ranges.{both_static, static_range, two_bounds}
 use Rattle.name_rules.specs.Scope.{as_scalar, declared, free, hidden_where, subtype_named}
@@ -19,12 +19,12 @@ use Rattle.name_rules.specs.declared.types.Scalar.{Scalar}
 use Rattle.name_rules.specs.declared.types.Subtype.TheVariants as subtype
 use Rattle.name_rules.specs.declared.types.Subtype.{Subtype}
 use Rattle.name_rules.specs.declared.types.Wanted.TheVariants as wanted
-use Rattle.ada_tree.specs.Syntax as syntax
-use Rattle.ada_tree.specs.Syntax.{Array, Comp, Decl, Definition, Expr, Ids, Indic, ObjectType, Range}
-use Rattle.ada_typed.specs.Decoded as part
+use Rattle.syntax_tree.specs.Syntax as syntax
+use Rattle.syntax_tree.specs.Syntax.{Array, Comp, Decl, Definition, Expr, Ids, Indic, ObjectType, Range}
+use Rattle.typed_tree.specs.Decoded as part
 use Rattle.std.specs.Prelude.{Bool, List, None, Option, Some, [], false, if◌then◌else◌, int_le, is_some, length, nat_le, option_map, true, ℕ, ℤ, ◌&&◌, ◌++◌, ◌∷◌}
 use Rattle.name_rules.specs.TypedParts.{also_all}
-use Rattle.ada_typed.specs.Decoded.{Part as TypedPart}
+use Rattle.typed_tree.specs.Decoded.{Part as TypedPart}
 use Rattle.name_rules.specs.Judging.{◌>>=◌, both, fault, given, joined, pure, read, some, unless}
 use Rattle.name_rules.specs.declared.log.Log.{Log}
 use Rattle.name_laws.proofs.Fitting.{Fits, IsNumber, is_number, fits_constant}

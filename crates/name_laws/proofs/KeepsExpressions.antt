@@ -1,7 +1,7 @@
 -- What holds of each line of the log holds of what Expressions judges.
 use Rattle.ada_base.specs.declared.operation.Op.TheVariants as op
 use Rattle.ada_base.specs.declared.operation.Op.{Op}
-use Rattle.ada_tree.specs.FirstTokens as first_token
+use Rattle.syntax_tree.specs.FirstTokens as first_token
 use Rattle.name_rules.specs.Found.{Found}
 use Rattle.name_rules.specs.Operators.{binary, joined_text, logical, negation, not_of, plain, unary}
 use Rattle.name_rules.specs.Scope.{scalar_named}
@@ -16,15 +16,15 @@ use Rattle.name_rules.specs.declared.types.Kind.TheVariants as kind
 use Rattle.name_rules.specs.declared.types.Subtype.{Subtype}
 use Rattle.name_rules.specs.declared.types.Wanted.TheVariants as wanted
 use Rattle.name_rules.specs.declared.types.Wanted.{Wanted}
-use Rattle.ada_tree.specs.Syntax as syntax
-use Rattle.ada_tree.specs.Syntax.{Adding, Addings, Conjuncts, Expr, Factor, Multiplying, Multiplyings, Rel, Simple, Term}
-use Rattle.ada_tree.specs.declared.operators.Additive.TheVariants as additive
-use Rattle.ada_tree.specs.declared.operators.Logical.TheVariants as logical'
-use Rattle.ada_tree.specs.declared.operators.Sign.TheVariants as sign
-use Rattle.ada_tree.specs.declared.operators.Sign.{Sign}
-use Rattle.ada_typed.specs.declared.expressions.Sign.TheVariants as unary'
+use Rattle.syntax_tree.specs.Syntax as syntax
+use Rattle.syntax_tree.specs.Syntax.{Adding, Addings, Conjuncts, Expr, Factor, Multiplying, Multiplyings, Rel, Simple, Term}
+use Rattle.syntax_tree.specs.declared.operators.Additive.TheVariants as additive
+use Rattle.syntax_tree.specs.declared.operators.Logical.TheVariants as logical'
+use Rattle.syntax_tree.specs.declared.operators.Sign.TheVariants as sign
+use Rattle.syntax_tree.specs.declared.operators.Sign.{Sign}
+use Rattle.typed_tree.specs.declared.expressions.Sign.TheVariants as unary'
 use Rattle.std.specs.Prelude.{Bool, None, Option, Some, false, if◌then◌else◌, is_some, true, ℕ}
-use Rattle.ada_typed.specs.Decoded.{Part as TypedPart}
+use Rattle.typed_tree.specs.Decoded.{Part as TypedPart}
 use Rattle.name_rules.specs.Judging.{fault, given, joined, pure}
 use Rattle.name_rules.specs.Expressions.{Inside, factor, multiplying_op, multiplying, multiplied, term_form, term, adding, added, first_wanted, first_term, in_place, simple, comparison_of, blamed, rel, conjoined, joined_rels, short_operand, short_join, short_operands, short_form, expr, condition, value_for, judged_alone}
 use Rattle.name_laws.proofs.Walk.{Walk, Keeps, k-pure, k-some, k-bind, k-fault, k-if, k-given}

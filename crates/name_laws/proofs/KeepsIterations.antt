@@ -19,15 +19,15 @@ use Rattle.name_rules.specs.declared.log.Rule.TheVariants.{ChunkRule, ReduceRule
 use Rattle.name_rules.specs.declared.scope.Context.{Context}
 use Rattle.name_rules.specs.declared.scope.Names.{Names}
 use Rattle.name_rules.specs.declared.types.Wanted.TheVariants as wanted
-use Rattle.ada_tree.specs.Syntax as syntax
-use Rattle.ada_tree.specs.Syntax.{Expr, Iter, OptionalExpr, OptionalParallel, Parallel, Simple}
-use Rattle.ada_typed.specs.Syntax.{Selections}
-use Rattle.ada_typed.specs.declared.program.SiteKind.TheVariants as site
-use Rattle.ada_typed.specs.declared.program.SiteKind.{SiteKind}
+use Rattle.syntax_tree.specs.Syntax as syntax
+use Rattle.syntax_tree.specs.Syntax.{Expr, Iter, OptionalExpr, OptionalParallel, Parallel, Simple}
+use Rattle.typed_tree.specs.Syntax.{Selections}
+use Rattle.typed_tree.specs.declared.program.SiteKind.TheVariants as site
+use Rattle.typed_tree.specs.declared.program.SiteKind.{SiteKind}
 use Rattle.std.specs.Prelude.{Bool, None, Option, Some, is_some, length, not, option_map, ℕ, ◌||◌}
-use Rattle.ada_typed.specs.Decoded as part
+use Rattle.typed_tree.specs.Decoded as part
 use Rattle.name_rules.specs.TypedParts.{selections_of}
-use Rattle.ada_typed.specs.Decoded.{Part as TypedPart}
+use Rattle.typed_tree.specs.Decoded.{Part as TypedPart}
 use Rattle.name_rules.specs.Judging.{◌>>=◌, Judging, both, breaks, given, pure, unless}
 use Rattle.name_rules.specs.Iterations.{Chunked, counted, chunk_count, chunked_by, Walked, array_walked, no_array, over_place, over_form, over_denoted, walked, with_chunk, with_walked, filter_where, Entered, in_construct, entered_with, parallel_at, entered, is_reduce, reverse_rule, only_reduce_rules, sequence_given, sequence_folded, sequence_rules, sequence}
 use Rattle.name_laws.proofs.Walk.{Walk, Keeps, k-pure, k-some, k-bind, k-breaks, k-unless, k-if, k-given, k-both}

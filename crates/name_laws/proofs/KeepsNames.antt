@@ -19,13 +19,13 @@ use Rattle.name_rules.specs.declared.scope.Names.{Names}
 use Rattle.name_rules.specs.declared.types.Subtype.TheVariants as subtype
 use Rattle.name_rules.specs.declared.types.Subtype.{Subtype}
 use Rattle.name_rules.specs.declared.types.Wanted.TheVariants as wanted
-use Rattle.ada_tree.specs.Syntax as syntax
-use Rattle.ada_tree.specs.Syntax.{Arg, Args, Pack}
-use Rattle.ada_typed.specs.Decoded as part
+use Rattle.syntax_tree.specs.Syntax as syntax
+use Rattle.syntax_tree.specs.Syntax.{Arg, Args, Pack}
+use Rattle.typed_tree.specs.Decoded as part
 use Rattle.std.specs.Prelude.{List, None, Option, Some, [], drop, length, slice_get, ℕ, ◌+◌, ◌==◌, ◌∷◌}
-use Rattle.ada_typed.specs.Syntax as typed
+use Rattle.typed_tree.specs.Syntax as typed
 use Rattle.name_rules.specs.TypedParts.{also}
-use Rattle.ada_typed.specs.Decoded.{Part as TypedPart}
+use Rattle.typed_tree.specs.Decoded.{Part as TypedPart}
 use Rattle.name_rules.specs.Judging.{fault, given, joined, pure, some}
 use Rattle.name_rules.specs.Names.{denoted_first, part_place, field_from, is_record, is_array, field_in, field_of, field_form, field, is_string, arg_alone, args_alone, wrong_call, count, selected_by, index_in, index_where, unnamed, index, indexes, indexed, component_cells, index_shape, array_call, object_call, field_of_pack, pack_from, as_exception, exception}
 use Rattle.name_laws.proofs.Walk.{Walk, Keeps, k-pure, k-some, k-bind, k-fault, k-if, k-given, k-where_clean}

@@ -2,7 +2,7 @@
 use Rattle.name_rules.specs.Aggregates.{ByPosition, contents}
 use Rattle.name_rules.specs.Attributes.{alone}
 use Rattle.name_rules.specs.Expressions.{Inside, condition, expr, in_place}
-use Rattle.ada_tree.specs.FirstTokens as first_token
+use Rattle.syntax_tree.specs.FirstTokens as first_token
 use Rattle.name_rules.specs.Found.{Found, opened, scalar, static, text_found, universal}
 use Rattle.name_rules.specs.Operators.{open_of}
 use Rattle.name_rules.specs.Parts.{value_named}
@@ -18,13 +18,13 @@ use Rattle.name_rules.specs.declared.scope.Target.{Target}
 use Rattle.name_rules.specs.declared.types.Kind.{Kind}
 use Rattle.name_rules.specs.declared.types.Wanted.TheVariants as wanted
 use Rattle.name_rules.specs.declared.types.Wanted.{Wanted}
-use Rattle.ada_tree.specs.Syntax as syntax
-use Rattle.ada_tree.specs.Syntax.{Elsifs, Expr, Primary}
-use Rattle.ada_typed.specs.Decoded as part
-use Rattle.ada_typed.specs.Syntax as typed
+use Rattle.syntax_tree.specs.Syntax as syntax
+use Rattle.syntax_tree.specs.Syntax.{Elsifs, Expr, Primary}
+use Rattle.typed_tree.specs.Decoded as part
+use Rattle.typed_tree.specs.Syntax as typed
 use Rattle.std.specs.Prelude.{List, None, Option, Some, [], false, option_map, suc, true, zero, ℕ, ℤ, ◌∷◌}
 use Rattle.name_rules.specs.TypedParts.{left_of, right_of, also}
-use Rattle.ada_typed.specs.Decoded.{Part as TypedPart, as_expr}
+use Rattle.typed_tree.specs.Decoded.{Part as TypedPart, as_expr}
 use Rattle.name_rules.specs.Judging.{given, joined, pure, some}
 use Rattle.name_rules.specs.Primaries.{composite_in, Waiting, alternative, alternatives, common, common_composite, if_part, with_known, scalar_ifs, scalar_if, composite_part, composite_ifs, composite_if, open_ifs, open_if, conditional, no_text, if_expr, grouped_scalar, grouped_by, grouped_form, grouped, target_found, target_at, text_at, primary, level_above, too_deep, inside}
 use Rattle.name_laws.proofs.Walk.{Walk, Keeps, k-pure, k-some, k-bind, k-fault, k-given, k-both}

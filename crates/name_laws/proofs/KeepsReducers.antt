@@ -2,7 +2,7 @@
 use Rattle.ada_base.specs.declared.operation.Op.{Op}
 use Rattle.name_rules.specs.Calls.{gives_in, profile_in, takes_in}
 use Rattle.name_rules.specs.Expressions.{Inside, judged_alone}
-use Rattle.ada_tree.specs.FirstTokens as first_token
+use Rattle.syntax_tree.specs.FirstTokens as first_token
 use Rattle.name_rules.specs.Found.{Found, scalar}
 use Rattle.name_rules.specs.Operators.{open_of}
 use Rattle.name_rules.specs.Scope.{stands_for}
@@ -24,12 +24,12 @@ use Rattle.name_rules.specs.declared.types.Kind.{Kind}
 use Rattle.name_rules.specs.declared.types.Scalar.{Scalar}
 use Rattle.name_rules.specs.declared.types.Subtype.TheVariants as subtype
 use Rattle.name_rules.specs.declared.types.Subtype.{Subtype}
-use Rattle.ada_tree.specs.Syntax as syntax
-use Rattle.ada_tree.specs.Syntax.{Expr, Parts, Primary}
-use Rattle.ada_typed.specs.declared.expressions.Reducer.TheVariants as reducer'
-use Rattle.ada_typed.specs.declared.expressions.Reducer.{Reducer}
+use Rattle.syntax_tree.specs.Syntax as syntax
+use Rattle.syntax_tree.specs.Syntax.{Expr, Parts, Primary}
+use Rattle.typed_tree.specs.declared.expressions.Reducer.TheVariants as reducer'
+use Rattle.typed_tree.specs.declared.expressions.Reducer.{Reducer}
 use Rattle.std.specs.Prelude.{List, None, Option, Some, [], if◌then◌else◌, is_some, not, ℕ, ◌&&◌, ◌||◌, ◌∷◌}
-use Rattle.ada_typed.specs.Decoded.{Part as TypedPart}
+use Rattle.typed_tree.specs.Decoded.{Part as TypedPart}
 use Rattle.name_rules.specs.Judging.{fault, given, joined, read, some}
 use Rattle.name_rules.specs.Reducers.{operators, operator_named, operator_reducer, extreme_of, function_given, function_of, no_reducer, extreme_name, attribute_reducer, name_reducer, reducer_by, reducer_of, reduction, reduced, open_reduction, is_logical, of_kind, numeric, by_operator, by_subtypes, by_function, folded_by}
 use Rattle.name_laws.proofs.Walk.{Walk, Keeps, k-pure, k-some, k-bind, k-fault, k-read, k-if, k-given, k-both, k-where_clean}

@@ -13,8 +13,8 @@ use Rattle.name_rules.specs.declared.scope.What.{What}
 use Rattle.name_rules.specs.declared.types.Kind.TheVariants as kind
 use Rattle.name_rules.specs.declared.types.Subtype.TheVariants as subtype
 use Rattle.name_rules.specs.declared.types.Subtype.{Subtype}
-use Rattle.ada_typed.specs.Decoded as part
-use Rattle.ada_typed.specs.Syntax as typed
+use Rattle.typed_tree.specs.Decoded as part
+use Rattle.typed_tree.specs.Syntax as typed
 use Rattle.std.specs.Prelude.{None, Option, Some, false, if◌then◌else◌, not, ℕ, ◌&&◌, ◌==◌, ◌||◌}
 use Rattle.name_rules.specs.Judging.{fault, given, some}
 use Rattle.name_rules.specs.Scope.{lookup, is_taken, free, named, in_text_io, in_integer_io, predefined, used_name, reach_of, is_withed, undeclared, object, item, bit, stands, stands_for, in_package, expanded_reach, in_ada, selected, as_type, subtype_named, as_scalar, scalar_named}

@@ -9,13 +9,13 @@ use Rattle.name_rules.specs.declared.log.Rule.TheVariants.{NotStatic, StaticRang
 use Rattle.name_rules.specs.declared.types.Kind.{Kind}
 use Rattle.name_rules.specs.declared.types.Subtype.TheVariants as subtype
 use Rattle.name_rules.specs.declared.types.Subtype.{Subtype}
-use Rattle.ada_typed.specs.Decoded as part
-use Rattle.ada_typed.specs.Syntax as typed
-use Rattle.ada_typed.specs.Syntax.{Composite, Selections, Expr as TypedExpr}
-use Rattle.ada_typed.specs.Classes.{with_class}
+use Rattle.typed_tree.specs.Decoded as part
+use Rattle.typed_tree.specs.Syntax as typed
+use Rattle.typed_tree.specs.Syntax.{Composite, Selections, Expr as TypedExpr}
+use Rattle.typed_tree.specs.Classes.{with_class}
 use Rattle.std.specs.Prelude.{Bool, None, Option, Some, false, ℕ, ℤ, ◌==◌}
 use Rattle.name_rules.specs.TypedParts.{selections_of}
-use Rattle.ada_typed.specs.Decoded.{Part as TypedPart, as_expr}
+use Rattle.typed_tree.specs.Decoded.{Part as TypedPart, as_expr}
 use Rattle.name_rules.specs.Judging.{fault, given, pure, some, unless}
 use Rattle.name_rules.specs.Values.{first_of, value_of, is_number, is_scalar, literal, valued, fitting, beyond, settled_by, settled, object_value, place_asked, asked_form, asked, own_kind, settled_found, any_integer, any_scalar, static_value, static_of_kind, static_integer, whole_object, whole_of, composite_form, composite_asked, stored}
 use Rattle.name_laws.proofs.Walk.{Walk, Keeps, k-pure, k-some, k-bind, k-fault, k-unless, k-if, k-given}

@@ -1,13 +1,13 @@
 -- Each object that is written lies at the next free cell of its owner.
 use Rattle.std.proofs.Common.{◌≡◌, ℕ, ◌+◌, nat_eq, nat_le, nat_lt, List, [], ◌∷◌, ◌++◌, length, length-append, Option, Some, None, Bool, true, false, refl, sym, ap, subst, ◌∙◌, arith, ◌==◌}
 use Rattle.std.specs.Prelude.{not, option_map, ◌||◌}
-use Rattle.ada_tree.specs.Syntax as syntax
-use Rattle.ada_tree.specs.Syntax.{Main, Program, Unit'}
-use Rattle.ada_typed.specs.Decoded.{Part}
-use Rattle.ada_typed.specs.Layout.{LieFrom, after, first_cell}
-use Rattle.ada_typed.specs.Syntax as typed
-use Rattle.ada_typed.specs.Syntax.{Sub as TypedSub}
-use Rattle.ada_typed.specs.declared.program.Object.{Object}
+use Rattle.syntax_tree.specs.Syntax as syntax
+use Rattle.syntax_tree.specs.Syntax.{Main, Program, Unit'}
+use Rattle.typed_tree.specs.Decoded.{Part}
+use Rattle.typed_tree.specs.Layout.{LieFrom, after, first_cell}
+use Rattle.typed_tree.specs.Syntax as typed
+use Rattle.typed_tree.specs.Syntax.{Sub as TypedSub}
+use Rattle.typed_tree.specs.declared.program.Object.{Object}
 use Rattle.name_rules.specs.Declarations.{cells_counted, first_room, room}
 use Rattle.name_rules.specs.Judging.{joined, unless}
 use Rattle.name_rules.specs.Programs as p

@@ -1,7 +1,7 @@
 -- Judging that finds what is as is asked, where the bounds of the array types of the table are in their base ranges.
 use Rattle.std.proofs.Common.{◌≡◌, refl, ℕ, Option, Some, None, Bool, true, false, if◌then◌else◌, option_map}
-use Rattle.ada_typed.specs.Decoded.{Part, Nothing, Cons, LeafCons}
-use Rattle.ada_typed.specs.Latest.{onto, turned}
+use Rattle.typed_tree.specs.Decoded.{Part, Nothing, Cons, LeafCons}
+use Rattle.typed_tree.specs.Latest.{onto, turned}
 use Rattle.name_rules.specs.Judging.{Judging, ◌>>=◌, both, breaks, clean, fault, given, joined, pure, read, some, unless, where_clean}
 use Rattle.name_rules.specs.TypedParts.{also_all}
 use Rattle.name_rules.specs.declared.log.Log.{Log}

@@ -1,15 +1,15 @@
 -- What is found fits: aggregates.
 use Rattle.std.proofs.Common.{ℕ, ℤ, pos, List, [], ◌∷◌, length, Option, Some, None, Bool, true, false, if◌then◌else◌, option_map, ◌==◌, ◌+◌, drop}
 use Rattle.std.specs.Prelude.{◌+ℤ◌, ◌*◌, not, ◌||◌}
-use Rattle.ada_tree.specs.FirstTokens as first_token
-use Rattle.ada_tree.specs.Syntax as syntax
-use Rattle.ada_tree.specs.Syntax.{Assoc, Assocs, Expr, Exprs, OptionalExpr}
-use Rattle.ada_typed.specs.Decoded as part
-use Rattle.ada_typed.specs.Decoded.{Part, as_association, as_associations}
-use Rattle.ada_typed.specs.Latest.{turned}
-use Rattle.ada_typed.specs.Syntax.{Associations}
-use Rattle.ada_typed.specs.declared.expressions.Iterated.{Iterated}
-use Rattle.ada_typed.specs.declared.expressions.Run.{Run}
+use Rattle.syntax_tree.specs.FirstTokens as first_token
+use Rattle.syntax_tree.specs.Syntax as syntax
+use Rattle.syntax_tree.specs.Syntax.{Assoc, Assocs, Expr, Exprs, OptionalExpr}
+use Rattle.typed_tree.specs.Decoded as part
+use Rattle.typed_tree.specs.Decoded.{Part, as_association, as_associations}
+use Rattle.typed_tree.specs.Latest.{turned}
+use Rattle.typed_tree.specs.Syntax.{Associations}
+use Rattle.typed_tree.specs.declared.expressions.Iterated.{Iterated}
+use Rattle.typed_tree.specs.declared.expressions.Run.{Run}
 use Rattle.name_rules.specs.Aggregates.{ByAssociation, ByPosition, Choosing', Component, Contents, Filling, Placing, aggregate, aggregate_part, array_assoc, array_assocs, array_at, array_choices, array_of, array_placed, array_rest, array_values, by_position, chosen_given, component_at, composite_at, composite_found, contents_alone, covered, covered_alone, dimension_of, field_choices, field_run, field_value, fields_value, filled, filling, gaps_of, index_what, inner_aggregate, inner_value, is_alone, is_final, is_last, iterated_given, no_aggregate, nothing_placed, of_index_type, record_assoc, record_assocs, record_parts, record_rest, record_values, rest_found, runs_of, some_fields, with_ranges, with_rest, with_runs, with_value}
 use Rattle.name_rules.specs.Expressions.{Inside, expr, judged_alone, value_for}
 use Rattle.name_rules.specs.Found.{Found}

@@ -3,10 +3,10 @@ use Rattle.std.proofs.Common.{◌≡◌, refl, inl, ℕ, zero, suc, ℤ, pos, Li
 use Rattle.std.specs.Prelude.{unsigned_abs}
 use Rattle.ada_base.specs.declared.operation.Op.TheVariants as op
 use Rattle.ada_base.specs.declared.operation.Op.{Op}
-use Rattle.ada_tree.specs.Syntax.{Args}
-use Rattle.ada_typed.specs.Decoded as part
-use Rattle.ada_typed.specs.Decoded.{Part, as_expr}
-use Rattle.ada_typed.specs.Syntax.{Expr as TypedExpr}
+use Rattle.syntax_tree.specs.Syntax.{Args}
+use Rattle.typed_tree.specs.Decoded as part
+use Rattle.typed_tree.specs.Decoded.{Part, as_expr}
+use Rattle.typed_tree.specs.Syntax.{Expr as TypedExpr}
 use Rattle.name_rules.specs.Attributes.{alone, attribute_found, bound_alone, bound_in, bound_with, dimension_at, dimension_bound, dimension_given, dimensions_in, extreme, first_named, image_text, is_array_object, is_bound, is_reduction, mentioned, object_image, one_argument, one_dimension, one_given, one_named, prefix_of, prefix_subtype, reduced_alone, scalar_bound, scalar_with, settled_attribute, settled_form, step, stepped, two_arguments_of, two_given, two_named}
 use Rattle.name_rules.specs.Calls.{arg_names, operands}
 use Rattle.name_rules.specs.Expressions.{Inside}

@@ -1,16 +1,16 @@
 -- What is found fits: calls and conversions.
 use Rattle.std.proofs.Common.{ℕ, List, [], ◌∷◌, ◌++◌, length, Option, Some, None, Bool, true, false, if◌then◌else◌, ◌==◌, ◌+◌}
 use Rattle.std.specs.Prelude.{is_some, ◌||◌}
-use Rattle.ada_tree.specs.FirstTokens as first_token
-use Rattle.ada_tree.specs.Syntax as syntax
-use Rattle.ada_tree.specs.Syntax.{Arg, Args, Expr}
-use Rattle.ada_typed.specs.Decoded as part
-use Rattle.ada_typed.specs.Decoded.{Part, as_actual, as_actuals, as_value}
-use Rattle.ada_typed.specs.Latest.{turned}
-use Rattle.ada_typed.specs.Syntax as typed
-use Rattle.ada_typed.specs.Syntax.{Actuals, Selections}
-use Rattle.ada_typed.specs.declared.program.Mode.TheVariants as mode
-use Rattle.ada_typed.specs.declared.program.Mode.{Mode}
+use Rattle.syntax_tree.specs.FirstTokens as first_token
+use Rattle.syntax_tree.specs.Syntax as syntax
+use Rattle.syntax_tree.specs.Syntax.{Arg, Args, Expr}
+use Rattle.typed_tree.specs.Decoded as part
+use Rattle.typed_tree.specs.Decoded.{Part, as_actual, as_actuals, as_value}
+use Rattle.typed_tree.specs.Latest.{turned}
+use Rattle.typed_tree.specs.Syntax as typed
+use Rattle.typed_tree.specs.Syntax.{Actuals, Selections}
+use Rattle.typed_tree.specs.declared.program.Mode.TheVariants as mode
+use Rattle.typed_tree.specs.declared.program.Mode.{Mode}
 use Rattle.name_rules.specs.Calls.{Calling, actual_by, actual_for, also_taken, arg_names, argument, arguments, begun_call, call_given, complete, composite_actual, conversion, conversion_of, converted, given_once, gives_in, is_out, late_at, one_operand, operands, parameter_of, place_given, profile_in, scalar_actual, scalar_conversion, sub_call, taken_at, takes_in, variable_form, variable_given, with_actual, with_operand}
 use Rattle.name_rules.specs.Expressions.{Inside, expr, judged_alone, value_for}
 use Rattle.name_rules.specs.Found.{Found}

@@ -3,13 +3,13 @@ use Rattle.std.proofs.Common.{◌≡◌, refl, subst, ℕ, ℤ, List, [], ◌∷
 use Rattle.std.proofs.lemmas.Bool.{and_parts}
 use Rattle.std.specs.Prelude.{is_some, not}
 use Rattle.ada_base.specs.declared.reason.Reason.TheVariants as reason
-use Rattle.ada_tree.specs.FirstTokens as first_token
-use Rattle.ada_tree.specs.Syntax as syntax
-use Rattle.ada_tree.specs.Syntax.{Array, Comp, Decl, Definition, Expr, Ids, Indic, ObjectType, Range}
-use Rattle.ada_typed.specs.Decoded as part
-use Rattle.ada_typed.specs.Decoded.{Part, as_decl, as_decls}
-use Rattle.ada_typed.specs.Latest.{turned}
-use Rattle.ada_typed.specs.Syntax.{Decls}
+use Rattle.syntax_tree.specs.FirstTokens as first_token
+use Rattle.syntax_tree.specs.Syntax as syntax
+use Rattle.syntax_tree.specs.Syntax.{Array, Comp, Decl, Definition, Expr, Ids, Indic, ObjectType, Range}
+use Rattle.typed_tree.specs.Decoded as part
+use Rattle.typed_tree.specs.Decoded.{Part, as_decl, as_decls}
+use Rattle.typed_tree.specs.Latest.{turned}
+use Rattle.typed_tree.specs.Syntax.{Decls}
 use Rattle.name_rules.specs.Declarations as d
 use Rattle.name_rules.specs.Declarations.{Building, Dimensions, Indicated, Initial, all_ids, indicated}
 use Rattle.name_rules.specs.Expressions.{Inside, expr, judged_alone}

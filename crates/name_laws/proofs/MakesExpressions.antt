@@ -3,15 +3,15 @@ use Rattle.std.proofs.Common.{ℕ, Option, Some, None, Bool, true, false, option
 use Rattle.std.specs.Prelude.{is_some}
 use Rattle.ada_base.specs.declared.operation.Op.TheVariants as op
 use Rattle.ada_base.specs.declared.operation.Op.{Op}
-use Rattle.ada_tree.specs.FirstTokens as first_token
-use Rattle.ada_tree.specs.Syntax as syntax
-use Rattle.ada_tree.specs.Syntax.{Adding, Addings, Conjuncts, Expr, Factor, Multiplying, Multiplyings, Name, Primary, Rel, Simple, Term}
-use Rattle.ada_tree.specs.declared.operators.Additive.TheVariants as additive
-use Rattle.ada_tree.specs.declared.operators.Logical.TheVariants as logical'
-use Rattle.ada_tree.specs.declared.operators.Sign.{Sign as Signed}
-use Rattle.ada_tree.specs.declared.operators.Sign.TheVariants as sign
-use Rattle.ada_typed.specs.Decoded.{Part}
-use Rattle.ada_typed.specs.declared.expressions.Sign.TheVariants as unary'
+use Rattle.syntax_tree.specs.FirstTokens as first_token
+use Rattle.syntax_tree.specs.Syntax as syntax
+use Rattle.syntax_tree.specs.Syntax.{Adding, Addings, Conjuncts, Expr, Factor, Multiplying, Multiplyings, Name, Primary, Rel, Simple, Term}
+use Rattle.syntax_tree.specs.declared.operators.Additive.TheVariants as additive
+use Rattle.syntax_tree.specs.declared.operators.Logical.TheVariants as logical'
+use Rattle.syntax_tree.specs.declared.operators.Sign.{Sign as Signed}
+use Rattle.syntax_tree.specs.declared.operators.Sign.TheVariants as sign
+use Rattle.typed_tree.specs.Decoded.{Part}
+use Rattle.typed_tree.specs.declared.expressions.Sign.TheVariants as unary'
 use Rattle.name_rules.specs.Expressions.{Inside, added, adding, blamed, comparison_of, condition, conjoined, expr, factor, first_term, first_wanted, in_place, joined_rels, judged_alone, multiplied, multiplying, multiplying_op, rel, short_form, short_found, short_join, short_operand, short_operands, simple, term, value_for}
 use Rattle.name_rules.specs.Found.{Found}
 use Rattle.name_rules.specs.Judging.{fault, given, joined}

@@ -1,10 +1,10 @@
 -- What is found fits: parts of names, where what stands in their brackets fits.
 use Rattle.std.proofs.Common.{ℕ, List, [], ◌∷◌, length, Option, Some, None, ◌==◌, ◌+◌, drop, slice_get}
-use Rattle.ada_tree.specs.Syntax as syntax
-use Rattle.ada_tree.specs.Syntax.{Arg, Args}
-use Rattle.ada_typed.specs.Decoded as part
-use Rattle.ada_typed.specs.Decoded.{Part}
-use Rattle.ada_typed.specs.Syntax as typed
+use Rattle.syntax_tree.specs.Syntax as syntax
+use Rattle.syntax_tree.specs.Syntax.{Arg, Args}
+use Rattle.typed_tree.specs.Decoded as part
+use Rattle.typed_tree.specs.Decoded.{Part}
+use Rattle.typed_tree.specs.Syntax as typed
 use Rattle.name_rules.specs.Expressions.{Inside, expr}
 use Rattle.name_rules.specs.Found.{Denoted, Found, denote}
 use Rattle.name_rules.specs.Judging.{fault, given, joined}

@@ -2,13 +2,13 @@
 use Rattle.std.proofs.Common.{◌≡◌, refl, ℕ, ℤ, pos, Option, Some, None, Bool, true, false, if◌then◌else◌, option_map, ◌&&◌, ◌==◌, int_le, nat_le}
 use Rattle.std.specs.Prelude.{not}
 use Rattle.std.proofs.lemmas.Bool.{and_parts}
-use Rattle.ada_tree.specs.FirstTokens as first_token
-use Rattle.ada_tree.specs.Syntax as syntax
-use Rattle.ada_tree.specs.Syntax.{Args, Expr}
-use Rattle.ada_typed.specs.Decoded as part
-use Rattle.ada_typed.specs.Decoded.{Part}
-use Rattle.ada_typed.specs.Syntax as typed
-use Rattle.ada_typed.specs.Syntax.{Selections}
+use Rattle.syntax_tree.specs.FirstTokens as first_token
+use Rattle.syntax_tree.specs.Syntax as syntax
+use Rattle.syntax_tree.specs.Syntax.{Args, Expr}
+use Rattle.typed_tree.specs.Decoded as part
+use Rattle.typed_tree.specs.Decoded.{Part}
+use Rattle.typed_tree.specs.Syntax as typed
+use Rattle.typed_tree.specs.Syntax.{Selections}
 use Rattle.name_rules.specs.Expressions.{Inside, expr, judged_alone}
 use Rattle.name_rules.specs.Found.{Found}
 use Rattle.name_rules.specs.Judging as judging

@@ -4,14 +4,14 @@ use Rattle.std.proofs.lemmas.Bool.{and_parts}
 use Rattle.std.proofs.lemmas.Option.{slice_get-map}
 use Rattle.ada_base.specs.Operation.{greatest_of, is_in_base, least_of}
 use Rattle.ada_base.specs.declared.operation.Base.TheVariants.{Narrow, Wide}
-use Rattle.ada_tree.specs.Syntax as syntax
-use Rattle.ada_tree.specs.Syntax.{Aspect, Body, Clause, Decl, Expr, Formal, Formals, Main, Pack, Program, Sub, Unit'}
-use Rattle.ada_tree.specs.declared.operators.ClauseWord.{ClauseWord}
-use Rattle.ada_tree.specs.declared.operators.ClauseWord.TheVariants as word
-use Rattle.ada_typed.specs.Syntax as typed
-use Rattle.ada_typed.specs.Syntax.{Sub as TypedSub}
-use Rattle.ada_typed.specs.declared.program.Bounds.{Bounds}
-use Rattle.ada_typed.specs.declared.program.Mode.{Mode}
+use Rattle.syntax_tree.specs.Syntax as syntax
+use Rattle.syntax_tree.specs.Syntax.{Aspect, Body, Clause, Decl, Expr, Formal, Formals, Main, Pack, Program, Sub, Unit'}
+use Rattle.syntax_tree.specs.declared.operators.ClauseWord.{ClauseWord}
+use Rattle.syntax_tree.specs.declared.operators.ClauseWord.TheVariants as word
+use Rattle.typed_tree.specs.Syntax as typed
+use Rattle.typed_tree.specs.Syntax.{Sub as TypedSub}
+use Rattle.typed_tree.specs.declared.program.Bounds.{Bounds}
+use Rattle.typed_tree.specs.declared.program.Mode.{Mode}
 use Rattle.name_rules.specs.Declarations.{all_ids, begun_names, cells_counted, declaration, declarations, ended_name, new_object}
 use Rattle.name_rules.specs.Expressions.{Inside, judged_alone}
 use Rattle.name_rules.specs.Judging.{◌>>=◌, joined, pure, unless}

@@ -2,9 +2,9 @@
 use Rattle.std.proofs.Common.{◌≡◌, refl, sym, subst, ℕ, List, [], ◌∷◌, Option, Some, None, ◌&&◌}
 use Rattle.std.specs.Prelude.{is_some, not, ◌||◌}
 use Rattle.ada_base.specs.declared.operation.Op.{Op}
-use Rattle.ada_typed.specs.Decoded.{Part, as_chunk, as_expr, as_iteration}
-use Rattle.ada_typed.specs.declared.expressions.Reducer.{Reducer}
-use Rattle.ada_typed.specs.declared.expressions.Reducer.TheVariants as reducer'
+use Rattle.typed_tree.specs.Decoded.{Part, as_chunk, as_expr, as_iteration}
+use Rattle.typed_tree.specs.declared.expressions.Reducer.{Reducer}
+use Rattle.typed_tree.specs.declared.expressions.Reducer.TheVariants as reducer'
 use Rattle.name_rules.specs.Calls.{gives_in, profile_in, takes_in}
 use Rattle.name_rules.specs.Found.{Found, scalar}
 use Rattle.name_rules.specs.Judging.{fault, joined, read}

@@ -2,9 +2,9 @@
 use Rattle.std.proofs.Common.{refl, sym, subst, ◌⊎◌, inl, inr, ℕ, List, [], ◌∷◌, ◌++◌, Some, Bool, true, false, if◌then◌else◌, ◌==◌, ◌&&◌}
 use Rattle.std.specs.Prelude.{not, ◌||◌}
 use Rattle.ada_base.specs.declared.reason.Reason.TheVariants as reason
-use Rattle.ada_typed.specs.Decoded as part
-use Rattle.ada_typed.specs.Decoded.{Part, as_expr, as_stmt}
-use Rattle.ada_typed.specs.declared.scalars.Class.{Class}
+use Rattle.typed_tree.specs.Decoded as part
+use Rattle.typed_tree.specs.Decoded.{Part, as_expr, as_stmt}
+use Rattle.typed_tree.specs.declared.scalars.Class.{Class}
 use Rattle.name_rules.specs.Found.{Denoted, denote}
 use Rattle.name_rules.specs.Judging.{fault}
 use Rattle.name_rules.specs.Scope.{as_scalar, as_type, entry, expanded_reach, in_ada, in_integer_io, in_package, in_text_io, is_withed, named, predefined, procedure_of, reach_of, scalar_named, selected, stands, stands_for, subtype_named, undeclared, used_name}

@@ -2,17 +2,17 @@
 use Rattle.std.proofs.Common.{ℕ, zero, suc, List, [], ◌∷◌, length, Option, Some, None, Bool, false, option_map, ◌==◌, ◌-◌}
 use Rattle.std.specs.Prelude.{not}
 use Rattle.ada_base.specs.declared.reason.Reason.{Reason}
-use Rattle.ada_tree.specs.FirstTokens as first_token
-use Rattle.ada_tree.specs.Syntax as syntax
-use Rattle.ada_tree.specs.Syntax.{Alt, Alts, Arms, Body, Branches, Declare, Expr, Handler, Handlers, Iter, MoreStmts, Name, OptionalParallel, OptionalStmts, Pack, Scheme, Simple, Stmt, Stmts}
-use Rattle.ada_typed.specs.Decoded as part
-use Rattle.ada_typed.specs.Decoded.{Part, as_alternative, as_alternatives, as_arms, as_body, as_expr, as_handler, as_handlers, as_optional, as_stmt, as_stmts}
-use Rattle.ada_typed.specs.Latest.{turned}
-use Rattle.ada_typed.specs.Syntax as typed
-use Rattle.ada_typed.specs.Syntax.{Alternatives, Selections, Handlers as TypedHandlers, Handled as TypedHandled}
-use Rattle.ada_typed.specs.declared.program.SiteKind.TheVariants as site
-use Rattle.ada_typed.specs.declared.scalars.Class.{Class}
-use Rattle.ada_typed.specs.declared.scalars.Class.TheVariants as class
+use Rattle.syntax_tree.specs.FirstTokens as first_token
+use Rattle.syntax_tree.specs.Syntax as syntax
+use Rattle.syntax_tree.specs.Syntax.{Alt, Alts, Arms, Body, Branches, Declare, Expr, Handler, Handlers, Iter, MoreStmts, Name, OptionalParallel, OptionalStmts, Pack, Scheme, Simple, Stmt, Stmts}
+use Rattle.typed_tree.specs.Decoded as part
+use Rattle.typed_tree.specs.Decoded.{Part, as_alternative, as_alternatives, as_arms, as_body, as_expr, as_handler, as_handlers, as_optional, as_stmt, as_stmts}
+use Rattle.typed_tree.specs.Latest.{turned}
+use Rattle.typed_tree.specs.Syntax as typed
+use Rattle.typed_tree.specs.Syntax.{Alternatives, Selections, Handlers as TypedHandlers, Handled as TypedHandled}
+use Rattle.typed_tree.specs.declared.program.SiteKind.TheVariants as site
+use Rattle.typed_tree.specs.declared.scalars.Class.{Class}
+use Rattle.typed_tree.specs.declared.scalars.Class.TheVariants as class
 use Rattle.name_rules.specs.Cases.{Choosing, Covering, case_choices, handled_by}
 use Rattle.name_rules.specs.Declarations.{declarations}
 use Rattle.name_rules.specs.Expressions.{condition, expr, judged_alone, Inside}

@@ -1,15 +1,15 @@
 -- What is found fits: values, and expressions that take the type of their place.
 use Rattle.std.proofs.Common.{◌≡◌, refl, sym, ap, subst, ◌∙◌, ◌⊎◌, inl, inr, ℕ, ℤ, Option, Some, None, Bool, true, false, ◌==◌}
 use Rattle.ada_base.specs.declared.operation.Op.TheVariants as op
-use Rattle.ada_typed.specs.Classes.{class_or, with_class}
-use Rattle.ada_typed.specs.Decoded as part
-use Rattle.ada_typed.specs.Decoded.{Part, Cons, as_composite, as_expr, as_piece, as_pieces, as_selection, as_selections, as_value}
-use Rattle.ada_typed.specs.Latest.{turned}
-use Rattle.ada_typed.specs.Syntax as typed
-use Rattle.ada_typed.specs.Syntax.{Expr as TypedExpr, Pieces, Selections}
-use Rattle.ada_typed.specs.declared.expressions.Reducer.TheVariants as reducer'
-use Rattle.ada_typed.specs.declared.scalars.Class.{Class}
-use Rattle.ada_typed.specs.declared.scalars.Class.TheVariants as class
+use Rattle.typed_tree.specs.Classes.{class_or, with_class}
+use Rattle.typed_tree.specs.Decoded as part
+use Rattle.typed_tree.specs.Decoded.{Part, Cons, as_composite, as_expr, as_piece, as_pieces, as_selection, as_selections, as_value}
+use Rattle.typed_tree.specs.Latest.{turned}
+use Rattle.typed_tree.specs.Syntax as typed
+use Rattle.typed_tree.specs.Syntax.{Expr as TypedExpr, Pieces, Selections}
+use Rattle.typed_tree.specs.declared.expressions.Reducer.TheVariants as reducer'
+use Rattle.typed_tree.specs.declared.scalars.Class.{Class}
+use Rattle.typed_tree.specs.declared.scalars.Class.TheVariants as class
 use Rattle.name_rules.specs.Found.{Found}
 use Rattle.name_rules.specs.Judging.{fault, some}
 use Rattle.name_rules.specs.TypedParts.{selections_of}

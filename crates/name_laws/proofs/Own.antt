@@ -1,12 +1,12 @@
 -- Whose own name is visible in a body.
 use Rattle.std.proofs.Common.{◌≡◌, ℕ, List, [], ◌∷◌, ◌++◌, Option, Some, None, Bool, refl, ap, ◌∙◌, drop, length}
 use Rattle.std.proofs.Math.Seq.{drop-append_seam}
-use Rattle.ada_tree.specs.Syntax as syntax
-use Rattle.ada_tree.specs.Syntax.{Clause, Decl, Formal, Formals, Pack, Sub, Unit'}
-use Rattle.ada_tree.specs.declared.operators.ClauseWord.{ClauseWord}
-use Rattle.ada_tree.specs.declared.operators.ClauseWord.TheVariants as word
-use Rattle.ada_typed.specs.Decoded.{Part}
-use Rattle.ada_typed.specs.declared.program.Mode.{Mode}
+use Rattle.syntax_tree.specs.Syntax as syntax
+use Rattle.syntax_tree.specs.Syntax.{Clause, Decl, Formal, Formals, Pack, Sub, Unit'}
+use Rattle.syntax_tree.specs.declared.operators.ClauseWord.{ClauseWord}
+use Rattle.syntax_tree.specs.declared.operators.ClauseWord.TheVariants as word
+use Rattle.typed_tree.specs.Decoded.{Part}
+use Rattle.typed_tree.specs.declared.program.Mode.{Mode}
 use Rattle.name_rules.specs.Declarations as d
 use Rattle.name_rules.specs.Expressions.{Inside}
 use Rattle.name_rules.specs.Judging.{joined}

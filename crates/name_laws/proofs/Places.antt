@@ -1,9 +1,9 @@
 -- A subprogram's number is its place: each writes one profile, and nothing else writes any.
 use Rattle.std.proofs.Common.{◌≡◌, ℕ, ◌+◌, List, [], ◌∷◌, length, length-append, Option, Some, None, Bool, true, false, refl, sym, ap, ◌∙◌, nat_le, nat_lt, ◌==◌}
 use Rattle.std.specs.Prelude.{not, ◌||◌}
-use Rattle.ada_tree.specs.Syntax as syntax
-use Rattle.ada_tree.specs.Syntax.{Aspect, Body, Decl, Expr, Formals, Sub, Unit'}
-use Rattle.ada_typed.specs.Syntax.{Sub as TypedSub}
+use Rattle.syntax_tree.specs.Syntax as syntax
+use Rattle.syntax_tree.specs.Syntax.{Aspect, Body, Decl, Expr, Formals, Sub, Unit'}
+use Rattle.typed_tree.specs.Syntax.{Sub as TypedSub}
 use Rattle.name_rules.specs.Declarations.{cells_counted}
 use Rattle.name_rules.specs.Judging.{joined, unless}
 use Rattle.name_rules.specs.Programs as p

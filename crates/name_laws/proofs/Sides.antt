@@ -1,8 +1,8 @@
 -- Objects that lie side by side share no cell.
 use Rattle.std.specs.Prelude.{◌≡◌, ℕ, zero, suc, ◌+◌, ◌<◌, ◌≤◌, List, [], ◌∷◌, slice_get, Some}
 use Rattle.std.proofs.Common.{ap, sym, subst, ◌∙◌, arith}
-use Rattle.ada_typed.specs.declared.program.Object.{Object}
-use Rattle.ada_typed.specs.Layout.{first_cell, after, LieFrom, HasCell}
+use Rattle.typed_tree.specs.declared.program.Object.{Object}
+use Rattle.typed_tree.specs.Layout.{first_cell, after, LieFrom, HasCell}
 
 -- the next free cell of an owner is no lower once more objects have theirs
 after_above : (o : Object) (free : ℕ → ℕ) (owner : ℕ) → o.offset ≡ free o.owner → free owner ≤ after o free owner

@@ -3,10 +3,10 @@ use Rattle.std.proofs.Common.{◌≡◌, ℕ, ℤ, Option, Some, None, Bool, tru
 use Rattle.ada_base.specs.Operation.{unbounded}
 use Rattle.ada_base.specs.declared.operation.Op.TheVariants as op
 use Rattle.ada_base.specs.declared.operation.Op.{Op}
-use Rattle.ada_typed.specs.declared.expressions.Sign.TheVariants as sign
-use Rattle.ada_typed.specs.declared.expressions.Sign.{Sign}
+use Rattle.typed_tree.specs.declared.expressions.Sign.TheVariants as sign
+use Rattle.typed_tree.specs.declared.expressions.Sign.{Sign}
 use Rattle.std.specs.Prelude.{neg_ℤ, option_map, pos, unsigned_abs}
-use Rattle.ada_typed.specs.Decoded.{Part as TypedPart, as_expr}
+use Rattle.typed_tree.specs.Decoded.{Part as TypedPart, as_expr}
 use Rattle.name_rules.specs.Found.{Found, opened, scalar, static, universal}
 use Rattle.name_rules.specs.Judging.{Judging, both, fault, given, joined, pure, some}
 use Rattle.name_rules.specs.Operators.{both_mentions, by_kinds, open_binary, open_of, open_power, open_two, open_unary, operand_blamed, operation, operation_by, operation_on, plain, plain_by, plain_open, plain_typed, power, power_to, signed, static_of, static_operation, static_power, static_universal, typed_operation, unary, unary_by, unary_open, unary_typed, universal_by, universal_operation, universal_power, universal_to}
@@ -24,9 +24,9 @@ use Rattle.name_rules.specs.declared.types.Kind.TheVariants as kind
 use Rattle.name_rules.specs.declared.types.Kind.{Kind}
 use Rattle.name_rules.specs.declared.types.Subtype.TheVariants as subtype
 use Rattle.name_rules.specs.declared.types.Subtype.{Subtype}
-use Rattle.ada_typed.specs.Syntax as typed
-use Rattle.ada_typed.specs.Syntax.{Selections, Expr as TypedExpr}
-use Rattle.ada_typed.specs.declared.scalars.Class.TheVariants as class
+use Rattle.typed_tree.specs.Syntax as typed
+use Rattle.typed_tree.specs.Syntax.{Selections, Expr as TypedExpr}
+use Rattle.typed_tree.specs.declared.scalars.Class.TheVariants as class
 use Rattle.name_laws.specs.Statics.{InBase, IsExact, IsKept, IsOf, IsSame, IsSigned, IsSignedOf, StaticLaw, signed_value}
 
 -- whatever is found has a property

@@ -1,6 +1,6 @@
 -- What holds of the log before and after whatever is judged, where it holds of each line that is written.
 use Rattle.std.proofs.Common.{ℕ, ℤ, Option, Some, None, Bool, true, false, if◌then◌else◌}
-use Rattle.ada_typed.specs.declared.program.SiteKind.{SiteKind}
+use Rattle.typed_tree.specs.declared.program.SiteKind.{SiteKind}
 use Rattle.name_rules.specs.Declarations.{cells_counted, new_exception, object_written}
 use Rattle.name_rules.specs.Judging.{Judging, ◌>>=◌, pure, read, breaks, fault, unless, given, both, some, clean, where_clean}
 use Rattle.name_rules.specs.Parts.{new_parameter, new_site}

@@ -1,5 +1,5 @@
 -- Judgements of primaries, names and statements inside others that keep what each line of the log keeps.
-use Rattle.ada_tree.specs.Syntax.{Name, Primary, Stmt}
+use Rattle.syntax_tree.specs.Syntax.{Name, Primary, Stmt}
 use Rattle.name_rules.specs.Expressions.{Inside}
 use Rattle.name_rules.specs.Programs.{written_profile}
 use Rattle.name_rules.specs.Statements.{Around}

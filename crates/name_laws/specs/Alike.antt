@@ -1,7 +1,7 @@
 -- Identifiers by numbers (2.3).
 use Rattle.ada_base.specs.Tokens.{AreSame, Tokenized, kind_at}
 use Rattle.ada_base.specs.declared.token.Kind.TheVariants as kind
-use Rattle.ada_tree.specs.Syntax.{Program}
+use Rattle.syntax_tree.specs.Syntax.{Program}
 use Rattle.name_rules.specs.Symbols.{symbol}
 use Rattle.name_symbols.specs.Naming.{names_of}
 use Rattle.std.specs.Prelude.{length, ℕ, ◌<◌, ◌↔◌, ◌≡◌}

@@ -1,9 +1,9 @@
 -- Where the objects of a typed program lie (3.3): different objects of one owner have different cells.
 use Rattle.ada_base.specs.Tokens.{Tokenized}
-use Rattle.ada_tree.specs.Syntax.{Program}
-use Rattle.ada_typed.specs.Layout.{HasCell, LieFrom, first_cell}
-use Rattle.ada_typed.specs.Syntax as typed
-use Rattle.ada_typed.specs.declared.program.Object.{Object}
+use Rattle.syntax_tree.specs.Syntax.{Program}
+use Rattle.typed_tree.specs.Layout.{HasCell, LieFrom, first_cell}
+use Rattle.typed_tree.specs.Syntax as typed
+use Rattle.typed_tree.specs.declared.program.Object.{Object}
 use Rattle.name_rules.specs.Resolved.{TypedOf}
 use Rattle.name_rules.specs.declared.scope.Names.{Names}
 use Rattle.name_symbols.specs.Naming.{names_of, sub_count}

@@ -1,16 +1,16 @@
 -- What stands in a typed program (4.9, 4.5): each static expression that is evaluated is a value of the base range of the
 -- class that its place or its operator has, and no operator is universal any more.
-use Rattle.ada_tree.specs.Syntax as syntax
+use Rattle.syntax_tree.specs.Syntax as syntax
 use Rattle.ada_base.specs.Operation.{is_in_base}
 use Rattle.ada_base.specs.declared.operation.Base.TheVariants.{Narrow, Wide}
 use Rattle.ada_base.specs.declared.operation.Op.TheVariants as op
-use Rattle.ada_typed.specs.Syntax.{Actuals, Aggregate, AndThen, Association, Associations, Binary, Call, Cells, Chunk, Components, Composite, CompositeIf, CompositeInOut, CompositeOut, Constant, Convert, Count, Each, Expr, Field, Group, If, In, InOut, Index, Iteration, Membership, NoActual, NoAssociation, NoChunk, Number, Optional, Absent, Present, OrElse, Out, Parameter, Range, Reduction, Relation, Selections, Static, Target, Unary, Value, Variable, Whole, WholeConstant, WholeTarget, WholeVariable}
-use Rattle.ada_typed.specs.Syntax.{Alternative, Alternatives, Arm, Arms, Array, Assign, Block, Body, CallProcedure, Case, DeclareConstant, DeclareDefault, DeclareVariable, Decls, End, Exit, For, Get, Handler, Handlers, IfThen, Image, Loop, Mentions, NoAlternative, NoArm, NoDecl, NoHandler, NoPiece, Null, Padded, Parallel, ParallelFor, Pieces, Program, Put, Raise, Reraise, Return, ReturnValue, Stmt, Stmts, Sub, Text, Then}
-use Rattle.ada_typed.specs.declared.expressions.Reducer.{Reducer}
-use Rattle.ada_typed.specs.declared.expressions.Reducer.TheVariants.{Operator, Function}
-use Rattle.ada_typed.specs.declared.program.Bounds.{Bounds}
-use Rattle.ada_typed.specs.declared.scalars.Class.{Class}
-use Rattle.ada_typed.specs.declared.scalars.Class.TheVariants as class
+use Rattle.typed_tree.specs.Syntax.{Actuals, Aggregate, AndThen, Association, Associations, Binary, Call, Cells, Chunk, Components, Composite, CompositeIf, CompositeInOut, CompositeOut, Constant, Convert, Count, Each, Expr, Field, Group, If, In, InOut, Index, Iteration, Membership, NoActual, NoAssociation, NoChunk, Number, Optional, Absent, Present, OrElse, Out, Parameter, Range, Reduction, Relation, Selections, Static, Target, Unary, Value, Variable, Whole, WholeConstant, WholeTarget, WholeVariable}
+use Rattle.typed_tree.specs.Syntax.{Alternative, Alternatives, Arm, Arms, Array, Assign, Block, Body, CallProcedure, Case, DeclareConstant, DeclareDefault, DeclareVariable, Decls, End, Exit, For, Get, Handler, Handlers, IfThen, Image, Loop, Mentions, NoAlternative, NoArm, NoDecl, NoHandler, NoPiece, Null, Padded, Parallel, ParallelFor, Pieces, Program, Put, Raise, Reraise, Return, ReturnValue, Stmt, Stmts, Sub, Text, Then}
+use Rattle.typed_tree.specs.declared.expressions.Reducer.{Reducer}
+use Rattle.typed_tree.specs.declared.expressions.Reducer.TheVariants.{Operator, Function}
+use Rattle.typed_tree.specs.declared.program.Bounds.{Bounds}
+use Rattle.typed_tree.specs.declared.scalars.Class.{Class}
+use Rattle.typed_tree.specs.declared.scalars.Class.TheVariants as class
 use Rattle.name_rules.specs.Resolved.{TypedOf}
 use Rattle.name_rules.specs.declared.scope.Names.{Names}
 use Rattle.std.specs.Prelude.{List, Some, [], ◌∷◌, int_le, pos, slice_get, true, ℕ, ℤ, ◌&&◌, ◌≡◌, ◌⊎◌}

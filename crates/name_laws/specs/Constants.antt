@@ -1,9 +1,9 @@
 -- Static constants (4.9): integer constants whose initial value is static.
-use Rattle.ada_tree.specs.Syntax.{Program}
-use Rattle.ada_typed.specs.Syntax as typed
-use Rattle.ada_typed.specs.declared.program.Object.{Object}
-use Rattle.ada_typed.specs.declared.scalars.Class.TheVariants as class
-use Rattle.ada_typed.specs.declared.scalars.Scalar.{Scalar}
+use Rattle.syntax_tree.specs.Syntax.{Program}
+use Rattle.typed_tree.specs.Syntax as typed
+use Rattle.typed_tree.specs.declared.program.Object.{Object}
+use Rattle.typed_tree.specs.declared.scalars.Class.TheVariants as class
+use Rattle.typed_tree.specs.declared.scalars.Scalar.{Scalar}
 use Rattle.name_rules.specs.Resolved.{TypedOf}
 use Rattle.name_rules.specs.declared.scope.Names.{Names}
 use Rattle.std.specs.Prelude.{IsTrue, Some, int_le, slice_get, true, ℕ, ℤ, ◌≡◌}

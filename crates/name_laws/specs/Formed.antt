@@ -1,11 +1,11 @@
 -- What the typed program of a text keeps of its table of subtypes and of the cells of its objects (3.2, 3.6, 3.8).
-use Rattle.ada_tree.specs.Syntax.{Program}
-use Rattle.ada_typed.specs.Layout.{HaveCells, IsLaidOut}
-use Rattle.ada_typed.specs.Syntax as typed
-use Rattle.ada_typed.specs.Syntax.{Subtype}
-use Rattle.ada_typed.specs.declared.program.Bounds.{Bounds}
-use Rattle.ada_typed.specs.declared.program.Field as field
-use Rattle.ada_typed.specs.declared.program.Object.{Object}
+use Rattle.syntax_tree.specs.Syntax.{Program}
+use Rattle.typed_tree.specs.Layout.{HaveCells, IsLaidOut}
+use Rattle.typed_tree.specs.Syntax as typed
+use Rattle.typed_tree.specs.Syntax.{Subtype}
+use Rattle.typed_tree.specs.declared.program.Bounds.{Bounds}
+use Rattle.typed_tree.specs.declared.program.Field as field
+use Rattle.typed_tree.specs.declared.program.Object.{Object}
 use Rattle.name_laws.specs.Cells.{IsTyped}
 use Rattle.name_rules.specs.Resolved.{TypedOf}
 use Rattle.name_rules.specs.declared.scope.Names.{Names}

@@ -10,10 +10,10 @@ use Rattle.name_rules.specs.declared.log.Log.{Log}
 use Rattle.name_rules.specs.declared.scope.Context.{Context}
 use Rattle.name_rules.specs.declared.scope.Names.{Names}
 use Rattle.name_rules.specs.declared.scope.What.TheVariants as what
-use Rattle.ada_tree.specs.Syntax as syntax
-use Rattle.ada_tree.specs.Syntax.{Clause, Decl, Formal, Formals, Main, Program, Sub, Unit'}
-use Rattle.ada_typed.specs.Decoded.{Part}
-use Rattle.ada_typed.specs.Syntax.{Sub as TypedSub}
+use Rattle.syntax_tree.specs.Syntax as syntax
+use Rattle.syntax_tree.specs.Syntax.{Clause, Decl, Formal, Formals, Main, Program, Sub, Unit'}
+use Rattle.typed_tree.specs.Decoded.{Part}
+use Rattle.typed_tree.specs.Syntax.{Sub as TypedSub}
 use Rattle.std.specs.Prelude.{Bool, List, None, Option, Some, [], length, ℕ, ◌++◌, ◌∷◌, ◌≡◌}
 use Rattle.name_laws.specs.Hiding.{HasNone, IsLast, NoneNamed, all_declared, declares}
 

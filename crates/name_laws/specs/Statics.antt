@@ -3,12 +3,12 @@
 use Rattle.ada_base.specs.Operation.{unbounded}
 use Rattle.ada_base.specs.declared.operation.Op.TheVariants as op
 use Rattle.ada_base.specs.declared.operation.Op.{Op}
-use Rattle.ada_typed.specs.Decoded as part
-use Rattle.ada_typed.specs.Decoded.{Part as TypedPart}
-use Rattle.ada_typed.specs.Syntax as typed
-use Rattle.ada_typed.specs.Syntax.{Exprs as TypedExprs}
-use Rattle.ada_typed.specs.declared.expressions.Sign.TheVariants as sign
-use Rattle.ada_typed.specs.declared.expressions.Sign.{Sign}
+use Rattle.typed_tree.specs.Decoded as part
+use Rattle.typed_tree.specs.Decoded.{Part as TypedPart}
+use Rattle.typed_tree.specs.Syntax as typed
+use Rattle.typed_tree.specs.Syntax.{Exprs as TypedExprs}
+use Rattle.typed_tree.specs.declared.expressions.Sign.TheVariants as sign
+use Rattle.typed_tree.specs.declared.expressions.Sign.{Sign}
 use Rattle.name_rules.specs.Found.{Found}
 use Rattle.name_rules.specs.Operators.{operation, plain, power, unary}
 use Rattle.name_rules.specs.Types.{in_base}

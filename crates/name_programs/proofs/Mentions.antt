@@ -1,8 +1,8 @@
 -- What a declaration mentions is elaborated where it is any.
 use Rattle.std.proofs.Common.{◌≡◌, refl, true, false}
-use Rattle.ada_typed.specs.Decoded.{Part, Nothing, Cons, LeafCons, AnExpr, ASelection, AnActual, AValue, AComposite, AnAssociation, AnIteration, AChunk, AReducer, ACheck, AScalar, APiece, ADecl, AStmt, AnAlternative, AHandler, ABody}
-use Rattle.ada_typed.specs.Syntax as typed
-use Rattle.ada_typed.specs.Latest.{turned}
+use Rattle.typed_tree.specs.Decoded.{Part, Nothing, Cons, LeafCons, AnExpr, ASelection, AnActual, AValue, AComposite, AnAssociation, AnIteration, AChunk, AReducer, ACheck, AScalar, APiece, ADecl, AStmt, AnAlternative, AHandler, ABody}
+use Rattle.typed_tree.specs.Syntax as typed
+use Rattle.typed_tree.specs.Latest.{turned}
 use Rattle.name_rules.specs.Declarations.{with_mentions}
 use Rattle.name_rules.specs.TypedParts.{also, also_all, exprs_of}
 use Rattle.typed_parts.specs.Looks.{is_nothing}

@@ -1,7 +1,7 @@
 -- The conditions and statements behind the first of an if statement, one after another.
 use Rattle.std.proofs.Common.{◌≡◌, refl, ℕ, ◌<◌, true, false, arith}
-use Rattle.ada_typed.specs.Decoded.{Part, Cons, Nothing, LeafCons, AnExpr, ASelection, AnActual, AValue, AComposite, AnAssociation, AnIteration, AChunk, AReducer, ACheck, AScalar, APiece, ADecl, AStmt, AnAlternative, AHandler, ABody}
-use Rattle.ada_typed.specs.Latest.{first_of, rest_of}
+use Rattle.typed_tree.specs.Decoded.{Part, Cons, Nothing, LeafCons, AnExpr, ASelection, AnActual, AValue, AComposite, AnAssociation, AnIteration, AChunk, AReducer, ACheck, AScalar, APiece, ADecl, AStmt, AnAlternative, AHandler, ABody}
+use Rattle.typed_tree.specs.Latest.{first_of, rest_of}
 use Rattle.name_rules.specs.TypedParts.{nested_stmts}
 use Rattle.name_programs.specs.Nested.{items_in, nested_once}
 use Rattle.typed_parts.specs.Lists.{has_item}

@@ -1,7 +1,7 @@
 -- What is joined or given where there is a part, and where there is none.
 use Rattle.std.proofs.Common.{◌≡◌, refl, Bool, true, false, Option, Some, None, List, [], ◌∷◌, ◌++◌}
 use Rattle.std.specs.Prelude.{option_map}
-use Rattle.ada_typed.specs.Decoded.{Part}
+use Rattle.typed_tree.specs.Decoded.{Part}
 use Rattle.name_programs.specs.Declares.{fields_if}
 use Rattle.name_rules.specs.Declarations.{also_field, indicated}
 use Rattle.name_rules.specs.Judges.{found_of}

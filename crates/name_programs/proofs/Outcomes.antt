@@ -1,7 +1,7 @@
 -- What was judged of a program, and what is told of it.
 use Rattle.std.proofs.Common.{◌≡◌, refl, sym, subst, List, [], ◌∷◌, Option, Some}
 use Rattle.std.specs.Prelude.{option_map}
-use Rattle.ada_tree.specs.Syntax.{Program}
+use Rattle.syntax_tree.specs.Syntax.{Program}
 use Rattle.name_faults.specs.Least.{IsToldOf}
 use Rattle.name_rules.specs.Programs.{Whole}
 use Rattle.name_programs.specs.Resolving.{IsTold}

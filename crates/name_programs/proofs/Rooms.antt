@@ -1,7 +1,7 @@
 -- Where an object's cells begin.
 use Rattle.std.proofs.Common.{◌≡◌, refl, ℕ, Bool, true, false, List, ◌∷◌, ◌+◌, Some, drop}
 use Rattle.std.specs.Prelude.{if◌then◌else◌, slice_get, ◌==◌}
-use Rattle.ada_typed.specs.declared.program.Object.{Object}
+use Rattle.typed_tree.specs.declared.program.Object.{Object}
 use Rattle.name_programs.proofs.FromPlaces.{drop_get}
 use Rattle.name_programs.specs.DeclarationSteps.{room_behind}
 use Rattle.name_rules.specs.Declarations.{room}

@@ -1,6 +1,6 @@
 -- A statement in a number of levels is judged by its form, and what stands in it in one less.
 use Rattle.std.proofs.Common.{◌≡◌, refl, sym, subst, ℕ, suc, ◌-◌, ◌<◌, arith}
-use Rattle.ada_tree.specs.Syntax.{Stmt}
+use Rattle.syntax_tree.specs.Syntax.{Stmt}
 use Rattle.name_rules.specs.Primaries.{inside}
 use Rattle.name_rules.specs.Statements.{stmt, stmt_form}
 use Rattle.name_rules.specs.declared.log.Log.{Log}

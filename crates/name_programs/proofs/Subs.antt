@@ -2,9 +2,9 @@
 use Rattle.std.proofs.Common.{◌≡◌, refl, ℕ, Bool, true, false, Option, Some, None, List, [], ◌∷◌, ◌++◌}
 use Rattle.std.proofs.lemmas.List.{reverse-append}
 use Rattle.std.specs.Prelude.{option_map, reverse, ◌&&◌}
-use Rattle.ada_typed.specs.Decoded.{Part}
-use Rattle.ada_typed.specs.Syntax.{Sub as TypedSub}
-use Rattle.ada_typed.specs.Latest.{pop, second, top}
+use Rattle.typed_tree.specs.Decoded.{Part}
+use Rattle.typed_tree.specs.Syntax.{Sub as TypedSub}
+use Rattle.typed_tree.specs.Latest.{pop, second, top}
 use Rattle.name_programs.specs.Forms.{sub_if, subs_if, whole_by}
 use Rattle.name_programs.specs.SubprogramSteps as step
 use Rattle.name_rules.specs.Judges.{part_if}

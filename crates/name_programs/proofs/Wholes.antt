@@ -1,9 +1,9 @@
 -- A profile, and the main procedure, of what was judged of their parts one after another.
 use Rattle.std.proofs.Common.{◌≡◌, refl, sym, ℕ, ◌+◌, Bool, true, false, List, [], ◌∷◌, ◌++◌, Option, Some, None, length}
 use Rattle.std.specs.Prelude.{◌&&◌}
-use Rattle.ada_tree.specs.Syntax.{Aspect, Body, Formals, Main, Unit'}
-use Rattle.ada_typed.specs.Decoded.{Part, Nothing}
-use Rattle.ada_typed.specs.Latest.{pop, top}
+use Rattle.syntax_tree.specs.Syntax.{Aspect, Body, Formals, Main, Unit'}
+use Rattle.typed_tree.specs.Decoded.{Part, Nothing}
+use Rattle.typed_tree.specs.Latest.{pop, top}
 use Rattle.name_programs.specs.Forms.{declared_so, profiled, subs_if, whole_by}
 use Rattle.name_programs.specs.declared.programs.Sound.{Sound}
 use Rattle.name_programs.proofs.SubprogramLevels.{around_up}

@@ -1,7 +1,7 @@
 -- What statements are judged by in so many levels, and what functions ensure that judge them.
 use Rattle.std.specs.Prelude.{◌≡◌, List, Bool, Option, Result, Ok, Err, ℕ}
-use Rattle.ada_typed.specs.Decoded.{Part, ABody, as_decls, as_handlers, as_stmts}
-use Rattle.ada_typed.specs.Latest.{top, pop, second, third}
+use Rattle.typed_tree.specs.Decoded.{Part, ABody, as_decls, as_handlers, as_stmts}
+use Rattle.typed_tree.specs.Latest.{top, pop, second, third}
 use Rattle.name_rules.specs.Judges.{part_if}
 use Rattle.name_rules.specs.Primaries.{inside}
 use Rattle.name_rules.specs.Statements.{Around, stmt}

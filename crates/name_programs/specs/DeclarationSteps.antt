@@ -1,7 +1,7 @@
 -- One step of what is judged item by item, and what is judged of one kind of declaration.
-use Rattle.ada_tree.specs.Syntax.{Definition, Ids, Indic, Range}
-use Rattle.ada_typed.specs.Decoded.{Part}
-use Rattle.ada_typed.specs.declared.program.Object.{Object}
+use Rattle.syntax_tree.specs.Syntax.{Definition, Ids, Indic, Range}
+use Rattle.typed_tree.specs.Decoded.{Part}
+use Rattle.typed_tree.specs.declared.program.Object.{Object}
 use Rattle.name_rules.specs.Declarations.{Declaring, Dimensions, all_ids, also_dimension, begun_names, cells_counted, defined, each_exception, ended_name, indic, one_type}
 use Rattle.name_rules.specs.Expressions.{Inside}
 use Rattle.name_rules.specs.Judging.{Judging, joined, pure, some, ◌>>=◌}

@@ -1,7 +1,7 @@
 -- What functions ensure that judge declarations, unless memory fails: each leaves one part of the typed program.
 use Rattle.std.specs.Prelude.{◌≡◌, List, Bool, true, false, Option, Some, None, Result, Ok, Err, ℕ}
-use Rattle.ada_typed.specs.Decoded.{Part}
-use Rattle.ada_typed.specs.Latest.{top, pop}
+use Rattle.typed_tree.specs.Decoded.{Part}
+use Rattle.typed_tree.specs.Latest.{top, pop}
 use Rattle.name_programs.specs.declared.objects.Given.{Given}
 use Rattle.name_programs.specs.declared.records.Growing.{Growing}
 use Rattle.name_rules.specs.Declarations.{Building, Dimensions, Initial}

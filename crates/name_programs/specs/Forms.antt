@@ -1,8 +1,8 @@
 -- What functions ensure that judge subprograms and programs, unless memory fails.
 use Rattle.std.specs.Prelude.{◌≡◌, List, Bool, true, false, Option, Some, None, Result, Ok, Err, ℕ, map, option_map}
-use Rattle.ada_typed.specs.Decoded.{Part, as_body}
-use Rattle.ada_typed.specs.Syntax.{Sub as TypedSub}
-use Rattle.ada_typed.specs.Latest.{top, pop, second}
+use Rattle.typed_tree.specs.Decoded.{Part, as_body}
+use Rattle.typed_tree.specs.Syntax.{Sub as TypedSub}
+use Rattle.typed_tree.specs.Latest.{top, pop, second}
 use Rattle.name_programs.specs.declared.profiles.Profiled.{Profiled as Found}
 use Rattle.name_programs.specs.declared.programs.Judged.{Judged}
 use Rattle.name_programs.specs.declared.programs.Sound.{Sound}

@@ -1,7 +1,7 @@
 -- Conditions and statements behind the first of an if statement.
 use Rattle.std.specs.Prelude.{ℕ, zero, suc}
-use Rattle.ada_typed.specs.Decoded.{Part, Nothing, Cons, AStmt, as_expr, as_stmts}
-use Rattle.ada_typed.specs.Syntax as typed
+use Rattle.typed_tree.specs.Decoded.{Part, Nothing, Cons, AStmt, as_expr, as_stmts}
+use Rattle.typed_tree.specs.Syntax as typed
 use Rattle.name_rules.specs.TypedParts.{left_of, right_of}
 
 -- the statements of a condition and its statements, with those where it doesn't hold

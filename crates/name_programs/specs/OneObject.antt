@@ -1,6 +1,6 @@
 -- One object of a declaration: its type and its value are judged among the names around it.
-use Rattle.ada_tree.specs.Syntax.{Expr, ObjectType}
-use Rattle.ada_typed.specs.Decoded.{Part}
+use Rattle.syntax_tree.specs.Syntax.{Expr, ObjectType}
+use Rattle.typed_tree.specs.Decoded.{Part}
 use Rattle.name_rules.specs.Declarations.{Declaring, initial, one_object, typed_object, valued_constant}
 use Rattle.name_rules.specs.Expressions.{Inside}
 use Rattle.name_rules.specs.Judging.{◌>>=◌}

@@ -1,8 +1,8 @@
 -- What `resolve` returns: the typed program of a syntax tree without a fault, or the least fault.
 use Rattle.std.specs.Prelude.{◌≡◌, ℕ, Option, Some, None, Result, Ok, Err}
-use Rattle.ada_tree.specs.Syntax.{Program}
-use Rattle.ada_typed.specs.Programs as typed
-use Rattle.ada_typed.specs.declared.typed.Typed.{Typed}
+use Rattle.syntax_tree.specs.Syntax.{Program}
+use Rattle.typed_tree.specs.Programs as typed
+use Rattle.typed_tree.specs.declared.typed.Typed.{Typed}
 use Rattle.name_faults.specs.Least.{least_of}
 use Rattle.name_programs.specs.declared.resolving.NameFault.{NameFault}
 use Rattle.name_programs.specs.declared.resolving.NameFault.TheVariants as told

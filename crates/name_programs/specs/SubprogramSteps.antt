@@ -1,7 +1,7 @@
 -- One step of what is judged item by item, and what is judged of one kind of subprogram.
-use Rattle.ada_tree.specs.Syntax.{Aspect, Clause, Formals, Pack}
-use Rattle.ada_tree.specs.declared.operators.ClauseWord.{ClauseWord}
-use Rattle.ada_typed.specs.Syntax.{Sub as TypedSub}
+use Rattle.syntax_tree.specs.Syntax.{Aspect, Clause, Formals, Pack}
+use Rattle.syntax_tree.specs.declared.operators.ClauseWord.{ClauseWord}
+use Rattle.typed_tree.specs.Syntax.{Sub as TypedSub}
 use Rattle.name_rules.specs.Judging.{Judging, pure, ◌>>=◌}
 use Rattle.name_rules.specs.Programs as whole
 use Rattle.name_rules.specs.Programs.{Profiled, clause_name, clause_packs, formals_from, pack, profile, with_value_of}
@@ -15,7 +15,7 @@ use Rattle.name_rules.specs.declared.scope.What.TheVariants as what
 use Rattle.name_rules.specs.declared.types.Kind.{Kind}
 use Rattle.name_rules.specs.declared.types.Subtype.TheVariants as subtype
 use Rattle.std.specs.Prelude.{Bool, List, None, Option, Some, false, length, true, ℕ, ℤ, ◌&&◌, ◌==◌, ◌||◌, ◌∷◌}
-use Rattle.tree_nodes.specs.Parts.{Bracketed, Implementation}
+use Rattle.syntax_nodes.specs.Parts.{Bracketed, Implementation}
 
 abbrev pub clause_pack : Names → ClauseWord → Context → Pack → Judging Context
 clause_pack names w here p = pack names p >>= λ n. clause_name w here p.first n

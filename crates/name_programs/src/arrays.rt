@@ -6,9 +6,9 @@ ghost use Rattle.name_programs.specs.DeclarationSteps as step;
 ghost use Rattle.name_rules.specs.Declarations as spec;
 ghost use Rattle.name_rules.specs.Judges.{Judges, Says, found};
 ghost use Rattle.name_rules.specs.Primaries as primaries;
-ghost use Rattle.tree_nodes.specs.Parts.{the_array, the_range, the_ranges};
-ghost use Rattle.tree_nodes.specs.Tables.{part_at};
-ghost use Rattle.ada_typed.specs.Latest.{pop, second, top};
+ghost use Rattle.syntax_nodes.specs.Parts.{the_array, the_range, the_ranges};
+ghost use Rattle.syntax_nodes.specs.Tables.{part_at};
+ghost use Rattle.typed_tree.specs.Latest.{pop, second, top};
 ghost use Rattle.typed_parts.specs.Stack.{parts};
 
 use crate::subtypes::indic;
@@ -23,7 +23,7 @@ use name_values::logs::{also_all, breaks};
 use name_values::names::cells_in;
 use name_values::types::{number_of, written_shape};
 use std::alloc::AllocError;
-use tree_nodes::Tree;
+use syntax_nodes::Tree;
 use typed_parts::Parts;
 
 /// One more dimension of an array, and what it mentions.

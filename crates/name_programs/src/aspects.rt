@@ -3,9 +3,9 @@
 ghost use Rattle.std.specs.Prelude.{◌≡◌, OnOk};
 ghost use Rattle.name_rules.specs.Judges.{Says};
 ghost use Rattle.name_rules.specs.Programs as spec;
-ghost use Rattle.tree_nodes.specs.Parts.{the_aspect};
-ghost use Rattle.tree_nodes.specs.Tables.{part_at};
-ghost use Rattle.tree_nodes.specs.Views.{optional};
+ghost use Rattle.syntax_nodes.specs.Parts.{the_aspect};
+ghost use Rattle.syntax_nodes.specs.Tables.{part_at};
+ghost use Rattle.syntax_nodes.specs.Views.{optional};
 ghost use Rattle.typed_parts.specs.Stack.{parts};
 
 use crate::rules::unless;
@@ -19,7 +19,7 @@ use name_values::scope::stands_for;
 use name_values::symbols::symbol;
 use name_values::types::is_integer;
 use std::alloc::AllocError;
-use tree_nodes::Tree;
+use syntax_nodes::Tree;
 use typed_parts::Parts;
 
 const NONBLOCKING: u32 = 33;

@@ -1,15 +1,15 @@
 //! Assignments (5.2) and calls of procedures (6.4).
 
 ghost use Rattle.std.specs.Prelude.{◌≡◌, OnOk};
-ghost use Rattle.ada_typed.specs.Decoded.{as_selections};
-ghost use Rattle.ada_typed.specs.Latest.{pop, second, top};
+ghost use Rattle.typed_tree.specs.Decoded.{as_selections};
+ghost use Rattle.typed_tree.specs.Latest.{pop, second, top};
 ghost use Rattle.name_rules.specs.Judges.{Gives, found, found_of};
 ghost use Rattle.name_rules.specs.Primaries.{inside};
 ghost use Rattle.name_rules.specs.Statements as spec;
 ghost use Rattle.name_rules.specs.TypedParts.{selections_of};
 ghost use Rattle.name_programs.specs.Around.{Keeps};
-ghost use Rattle.tree_nodes.specs.Parts.{the_expr, the_name};
-ghost use Rattle.tree_nodes.specs.Tables.{part_at};
+ghost use Rattle.syntax_nodes.specs.Parts.{the_expr, the_name};
+ghost use Rattle.syntax_nodes.specs.Tables.{part_at};
 ghost use Rattle.typed_parts.specs.Stack.{parts};
 
 use name_expressions::expressions::{expr, judged_alone};
@@ -24,7 +24,7 @@ use name_values::names::denoted_first;
 use name_values::types::wanted_of;
 use name_values::values::stored;
 use std::alloc::AllocError;
-use tree_nodes::Tree;
+use syntax_nodes::Tree;
 use typed_parts::Parts;
 
 /// A value that was found for a variable, whose selections are the part before it.
@@ -82,7 +82,7 @@ fn assign_place(
 ) -> Result<bool, AllocError>
     ensures { Keeps (spec.assign_place names.now (inside names.now levels) here.old place (selections_of (top (parts out.old))) (the_expr (part_at tree.now.nodes value)) log.old) (pop (parts out.old)) here.old result log.new (parts out.new) here.new }
 {
-    let at = first_tokens::of_expr(tree, value).saturating_sub(1);
+    let at = syntax_first_tokens::of_expr(tree, value).saturating_sub(1);
     let want = wanted_of(place.subtype);
     let outer = here.target;
     let before = log.faults.len();

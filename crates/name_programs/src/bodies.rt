@@ -1,15 +1,15 @@
 //! Handlers (11.2), bodies and blocks (5.6).
 
 ghost use Rattle.std.specs.Prelude.{◌≡◌, [], Some, reverse};
-ghost use Rattle.ada_typed.specs.Decoded as part;
-ghost use Rattle.ada_typed.specs.Latest.{pop, second, third, top};
+ghost use Rattle.typed_tree.specs.Decoded as part;
+ghost use Rattle.typed_tree.specs.Latest.{pop, second, third, top};
 ghost use Rattle.name_rules.specs.Judges.{part_if};
 ghost use Rattle.name_rules.specs.Statements as spec;
 ghost use Rattle.name_programs.specs.Around.{Holds, Keeps, KeepsWith, Leaves, in_levels};
 ghost use Rattle.name_values.specs.Coverage.{handled_of};
-ghost use Rattle.tree_nodes.specs.Parts.{the_body, the_declare, the_handler, the_handlers, the_stmts};
-ghost use Rattle.tree_nodes.specs.Tables.{part_at};
-ghost use Rattle.tree_nodes.specs.Views.{optional};
+ghost use Rattle.syntax_nodes.specs.Parts.{the_body, the_declare, the_handler, the_handlers, the_stmts};
+ghost use Rattle.syntax_nodes.specs.Tables.{part_at};
+ghost use Rattle.syntax_nodes.specs.Views.{optional};
 ghost use Rattle.typed_parts.specs.Stack.{parts};
 
 use crate::declarations::declarations;
@@ -21,7 +21,7 @@ use name_values::attempt;
 use name_values::handled::{Handling, handled_by};
 use name_values::scope::copied;
 use std::alloc::AllocError;
-use tree_nodes::Tree;
+use syntax_nodes::Tree;
 use typed_parts::Parts;
 
 /// The statements of a handler.

@@ -1,9 +1,9 @@
 //! Case statements (5.4).
 
 ghost use Rattle.std.specs.Prelude.{◌≡◌, ◌==◌, ◌∷◌, IfOk, OnOk, Some, length};
-ghost use Rattle.ada_tree.specs.Syntax as syntax;
-ghost use Rattle.ada_typed.specs.Decoded as part;
-ghost use Rattle.ada_typed.specs.Latest.{pop, second, third, top};
+ghost use Rattle.syntax_tree.specs.Syntax as syntax;
+ghost use Rattle.typed_tree.specs.Decoded as part;
+ghost use Rattle.typed_tree.specs.Latest.{pop, second, third, top};
 ghost use Rattle.name_rules.specs.Cases as cases;
 ghost use Rattle.name_rules.specs.Judges.{Judges, found, found_of, part_if};
 ghost use Rattle.name_rules.specs.Judging.{given, joined};
@@ -11,8 +11,8 @@ ghost use Rattle.name_rules.specs.Primaries.{inside};
 ghost use Rattle.name_rules.specs.Statements as spec;
 ghost use Rattle.name_programs.specs.Around.{Keeps, KeepsWith, Leaves, in_levels};
 ghost use Rattle.name_values.specs.Coverage.{as_choosing, as_covering};
-ghost use Rattle.tree_nodes.specs.Parts.{the_alt, the_alts, the_choice, the_choice_list, the_expr};
-ghost use Rattle.tree_nodes.specs.Tables.{part_at};
+ghost use Rattle.syntax_nodes.specs.Parts.{the_alt, the_alts, the_choice, the_choice_list, the_expr};
+ghost use Rattle.syntax_nodes.specs.Tables.{part_at};
 ghost use Rattle.typed_parts.specs.Stack.{parts};
 
 use crate::statements::stmts;
@@ -28,7 +28,7 @@ use name_values::logs::breaks;
 use name_values::types::base_of;
 use name_values::values::{first_of, is_scalar, nominal_of, own_kind, settled_found};
 use std::alloc::AllocError;
-use tree_nodes::Tree;
+use syntax_nodes::Tree;
 use typed_parts::Parts;
 
 /// The selecting subtype: the nominal one of a name, or else the base range of the type.

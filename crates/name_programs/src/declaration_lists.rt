@@ -3,9 +3,9 @@
 ghost use Rattle.std.specs.Prelude.{◌≡◌, ◌∷◌, [], IfOk, OnOk, option_map};
 ghost use Rattle.name_rules.specs.Declarations as spec;
 ghost use Rattle.name_programs.specs.Declares.{Begins};
-ghost use Rattle.tree_nodes.specs.Parts.{the_ids};
-ghost use Rattle.tree_nodes.specs.Tables.{part_at};
-ghost use Rattle.ada_typed.specs.Latest.{pop, second, top};
+ghost use Rattle.syntax_nodes.specs.Parts.{the_ids};
+ghost use Rattle.syntax_nodes.specs.Tables.{part_at};
+ghost use Rattle.typed_tree.specs.Latest.{pop, second, top};
 ghost use Rattle.typed_parts.specs.Stack.{parts};
 
 use ada_base::Items;
@@ -14,7 +14,7 @@ use name_rules::scope::{Context, Names, What};
 use name_values::attempt;
 use name_values::scope::{declared, free, hidden_where};
 use std::alloc::{AllocError, Global};
-use tree_nodes::Tree;
+use syntax_nodes::Tree;
 use typed_parts::Parts;
 
 /// The identifiers of a declaration.

@@ -9,9 +9,9 @@ ghost use Rattle.name_rules.specs.Judging.{joined};
 ghost use Rattle.name_rules.specs.Primaries as primaries;
 ghost use Rattle.name_rules.specs.Statements.{no_decls};
 ghost use Rattle.name_rules.specs.declared.scope.What.TheVariants as what;
-ghost use Rattle.tree_nodes.specs.Parts.{the_decl, the_decls, the_definition, the_expr, the_ids, the_indic};
-ghost use Rattle.tree_nodes.specs.Tables.{part_at};
-ghost use Rattle.ada_typed.specs.Latest.{pop, second, top};
+ghost use Rattle.syntax_nodes.specs.Parts.{the_decl, the_decls, the_definition, the_expr, the_ids, the_indic};
+ghost use Rattle.syntax_nodes.specs.Tables.{part_at};
+ghost use Rattle.typed_tree.specs.Latest.{pop, second, top};
 ghost use Rattle.typed_parts.specs.Stack.{parts};
 
 use crate::arrays::array;
@@ -20,7 +20,6 @@ use crate::objects::objects;
 use crate::records::record_of;
 use crate::subtypes::{indic, own_type_of, static_bound};
 use ada_base::{Items, Reason};
-use ada_typed::Declared;
 use name_expressions::expressions::{expr, simple};
 use name_rules::log::Log;
 use name_rules::scope::{Context, Names, What};
@@ -28,8 +27,9 @@ use name_rules::types::{Subtype, Wanted};
 use name_values::attempt;
 use name_values::scope::{free, hidden_where};
 use std::alloc::AllocError;
-use tree_nodes::{Decl, Definition, Tree};
+use syntax_nodes::{Decl, Definition, Tree};
 use typed_parts::Parts;
+use typed_tree::Declared;
 
 fn number_what(value: Option<i128>) -> Option<What>
     ensures { result ≡ option_map what.Number value }

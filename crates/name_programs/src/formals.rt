@@ -5,16 +5,14 @@ ghost use Rattle.name_programs.specs.Forms.{Changes, Takes, taken_if};
 ghost use Rattle.name_programs.specs.SubprogramSteps as step;
 ghost use Rattle.name_rules.specs.Judging.{joined};
 ghost use Rattle.name_rules.specs.Programs as spec;
-ghost use Rattle.tree_nodes.specs.Parts.{the_formal, the_formal_list, the_formals};
-ghost use Rattle.tree_nodes.specs.Tables.{part_at};
-ghost use Rattle.tree_nodes.specs.Views.{optional};
+ghost use Rattle.syntax_nodes.specs.Parts.{the_formal, the_formal_list, the_formals};
+ghost use Rattle.syntax_nodes.specs.Tables.{part_at};
+ghost use Rattle.syntax_nodes.specs.Views.{optional};
 ghost use Rattle.typed_parts.specs.Stack.{parts};
 
 use crate::declaration_lists::{all_ids, begun_names, ended_name};
 use crate::objects::{cells_counted, new_object};
 use ada_base::Items;
-use ada_tree::Mode as TreeMode;
-use ada_typed::Mode;
 use name_rules::log::{Log, Rule, Taken};
 use name_rules::scope::{Context, Names, What};
 use name_rules::types::Subtype;
@@ -23,8 +21,10 @@ use name_values::logs::breaks;
 use name_values::scope::subtype_named;
 use name_values::symbols::symbol;
 use std::alloc::AllocError;
-use tree_nodes::Tree;
+use syntax_nodes::Tree;
+use syntax_tree::Mode as TreeMode;
 use typed_parts::Parts;
+use typed_tree::Mode;
 
 fn mode_of(mode: Option<TreeMode>) -> Mode
     ensures { result ≡ spec.mode_of mode }

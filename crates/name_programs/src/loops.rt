@@ -7,14 +7,13 @@ ghost use Rattle.name_rules.specs.Statements as spec;
 ghost use Rattle.name_rules.specs.Symbols as symbols;
 ghost use Rattle.name_programs.specs.Around.{Keeps, Leaves, in_levels};
 ghost use Rattle.name_values.specs.Walks.{Enters};
-ghost use Rattle.tree_nodes.specs.Parts.{the_iter, the_scheme, the_stmts};
-ghost use Rattle.tree_nodes.specs.Tables.{part_at};
-ghost use Rattle.tree_nodes.specs.Views.{optional, optional_parallel};
-ghost use Rattle.ada_typed.specs.Latest.{pop, second, third, top};
+ghost use Rattle.syntax_nodes.specs.Parts.{the_iter, the_scheme, the_stmts};
+ghost use Rattle.syntax_nodes.specs.Tables.{part_at};
+ghost use Rattle.syntax_nodes.specs.Views.{optional, optional_parallel};
+ghost use Rattle.typed_tree.specs.Latest.{pop, second, third, top};
 ghost use Rattle.typed_parts.specs.Stack.{parts};
 
 use crate::statements::stmts;
-use ada_typed::program::SiteKind;
 use name_expressions::expressions::condition;
 use name_expressions::iterations::entered;
 use name_rules::log::{Log, Rule};
@@ -25,8 +24,9 @@ use name_values::scope::copied;
 use name_values::symbols::symbol;
 use name_values::walks::Entering;
 use std::alloc::AllocError;
-use tree_nodes::{Scheme, Tree};
+use syntax_nodes::{Scheme, Tree};
 use typed_parts::Parts;
+use typed_tree::program::SiteKind;
 
 /// WrongEnd where the name behind a loop isn't the one before it, at the name; or where there is one of both alone, at
 /// `end`.

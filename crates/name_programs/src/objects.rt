@@ -1,17 +1,17 @@
 //! Objects (3.3.1): their cells, their initial values, and what is elaborated.
 
 ghost use Rattle.std.specs.Prelude.{◌≡◌, ◌∷◌, IfOk, OnOk};
-ghost use Rattle.ada_tree.specs.Syntax as syntax;
+ghost use Rattle.syntax_tree.specs.Syntax as syntax;
 ghost use Rattle.name_programs.specs.OneObject as single;
 ghost use Rattle.name_programs.specs.DeclarationSteps as step;
 ghost use Rattle.name_programs.specs.Declares.{Declares, Ends, Initials, given_initial, initial_of};
 ghost use Rattle.name_rules.specs.Declarations as spec;
 ghost use Rattle.name_rules.specs.Judges.{Judges, Says, found, found_of, part_if};
 ghost use Rattle.name_rules.specs.Primaries as primaries;
-ghost use Rattle.tree_nodes.specs.Parts.{the_expr, the_ids, the_object_type};
-ghost use Rattle.tree_nodes.specs.Tables.{part_at};
-ghost use Rattle.tree_nodes.specs.Views.{optional};
-ghost use Rattle.ada_typed.specs.Latest.{pop, second, third, top};
+ghost use Rattle.syntax_nodes.specs.Parts.{the_expr, the_ids, the_object_type};
+ghost use Rattle.syntax_nodes.specs.Tables.{part_at};
+ghost use Rattle.syntax_nodes.specs.Views.{optional};
+ghost use Rattle.typed_tree.specs.Latest.{pop, second, third, top};
 ghost use Rattle.typed_parts.specs.Stack.{parts};
 
 use crate::arrays::array;
@@ -19,7 +19,6 @@ use crate::declaration_lists::{all_ids, begun_names, ended_name, with_mentions};
 use crate::rules::{counted_on, unless};
 use crate::subtypes::indic;
 use ada_base::Items;
-use ada_typed::Object;
 use name_expressions::expressions::{expr, judged_alone};
 use name_rules::found::Found;
 use name_rules::log::{Log, Rule};
@@ -32,8 +31,9 @@ use name_values::scope::copied;
 use name_values::types::{is_integer, lies_in, number_of, wanted_of};
 use name_values::values::{stored, value_of};
 use std::alloc::AllocError;
-use tree_nodes::{ObjectType, Tree};
+use syntax_nodes::{ObjectType, Tree};
 use typed_parts::Parts;
+use typed_tree::Object;
 
 /// An initial value: whether there is one, which is a part then, and its static value.
 #[derive(Clone, Copy)]
@@ -238,7 +238,7 @@ fn initial(
     match found {
         None => Ok(None),
         Some(found) => {
-            let first = first_tokens::of_expr(tree, value);
+            let first = syntax_first_tokens::of_expr(tree, value);
             if attempt!(stored(log, out, subtype, first, found)) {
                 Ok(Some(Given {
                     stored: true,

@@ -1,22 +1,21 @@
 //! Parallel blocks (5.6.1).
 
 ghost use Rattle.std.specs.Prelude.{◌≡◌, IfOk, OnOk, Some};
-ghost use Rattle.ada_tree.specs.Syntax as syntax;
-ghost use Rattle.ada_typed.specs.Decoded as part;
-ghost use Rattle.ada_typed.specs.Latest.{pop, second, top};
+ghost use Rattle.syntax_tree.specs.Syntax as syntax;
+ghost use Rattle.typed_tree.specs.Decoded as part;
+ghost use Rattle.typed_tree.specs.Latest.{pop, second, top};
 ghost use Rattle.name_rules.specs.Judges.{Gives, part_if};
 ghost use Rattle.name_rules.specs.Judging.{joined};
 ghost use Rattle.name_rules.specs.Primaries.{inside};
 ghost use Rattle.name_rules.specs.Statements as spec;
 ghost use Rattle.name_programs.specs.Around.{Keeps, Leaves, in_levels};
-ghost use Rattle.tree_nodes.specs.Parts.{the_branches, the_simple, the_stmts};
-ghost use Rattle.tree_nodes.specs.Tables.{part_at};
-ghost use Rattle.tree_nodes.specs.Views.{optional};
+ghost use Rattle.syntax_nodes.specs.Parts.{the_branches, the_simple, the_stmts};
+ghost use Rattle.syntax_nodes.specs.Tables.{part_at};
+ghost use Rattle.syntax_nodes.specs.Views.{optional};
 ghost use Rattle.typed_parts.specs.Stack.{parts};
 
 use crate::statement_lists::also_where;
 use crate::statements::stmts;
-use ada_typed::program::SiteKind;
 use name_expressions::iterations::chunk_count;
 use name_rules::log::{Log, Rule};
 use name_rules::scope::{Context, Names};
@@ -24,8 +23,9 @@ use name_values::attempt;
 use name_values::logs::breaks;
 use name_values::walks::{new_site, thread_owner};
 use std::alloc::AllocError;
-use tree_nodes::Tree;
+use syntax_nodes::Tree;
 use typed_parts::Parts;
+use typed_tree::program::SiteKind;
 
 /// How many arms a parallel block has; 2^32 are beyond memory.
 fn arm_count(tree: &Tree, first: u32, second: u32, more: u32) -> Result<u32, AllocError>

@@ -4,9 +4,9 @@ ghost use Rattle.std.specs.Prelude.{◌≡◌, ◌+◌, IfOk, OnOk, length};
 ghost use Rattle.name_programs.specs.Forms.{Changes, Profiles, taken_if};
 ghost use Rattle.name_rules.specs.Judges.{Says};
 ghost use Rattle.name_rules.specs.Programs as spec;
-ghost use Rattle.tree_nodes.specs.Parts.{the_formals};
-ghost use Rattle.tree_nodes.specs.Tables.{part_at};
-ghost use Rattle.tree_nodes.specs.Views.{optional};
+ghost use Rattle.syntax_nodes.specs.Parts.{the_formals};
+ghost use Rattle.syntax_nodes.specs.Tables.{part_at};
+ghost use Rattle.syntax_nodes.specs.Views.{optional};
 ghost use Rattle.typed_parts.specs.Stack.{parts};
 
 use crate::formals::formals;
@@ -17,7 +17,7 @@ use name_rules::types::Scalar;
 use name_values::attempt;
 use name_values::scope::{copied, declared, free, scalar_named};
 use std::alloc::AllocError;
-use tree_nodes::Tree;
+use syntax_nodes::Tree;
 use typed_parts::Parts;
 
 /// What a profile leaves beside the names that are visible behind it: what is around the subprogram's body; its number

@@ -6,9 +6,9 @@ ghost use Rattle.name_programs.specs.SubprogramSteps as step;
 ghost use Rattle.name_rules.specs.Judging.{joined};
 ghost use Rattle.name_rules.specs.Programs as spec;
 ghost use Rattle.name_rules.specs.Scope.{standard};
-ghost use Rattle.tree_nodes.specs.Parts.{the_main, the_program, the_unit, the_units};
-ghost use Rattle.tree_nodes.specs.Tables.{part_at};
-ghost use Rattle.ada_typed.specs.Latest.{pop, second, third, top};
+ghost use Rattle.syntax_nodes.specs.Parts.{the_main, the_program, the_unit, the_units};
+ghost use Rattle.syntax_nodes.specs.Tables.{part_at};
+ghost use Rattle.typed_tree.specs.Latest.{pop, second, third, top};
 ghost use Rattle.typed_parts.specs.Stack.{parts};
 
 use crate::aspects::{aspect, end_name};
@@ -24,7 +24,7 @@ use name_rules::types::{Kind, Scalar, Subtype};
 use name_tables::heads::Head;
 use name_values::attempt;
 use std::alloc::AllocError;
-use tree_nodes::{Tree, Unit};
+use syntax_nodes::{Tree, Unit};
 use typed_parts::Parts;
 
 /// What has no fault in a declarative part so far: what is elaborated, and the subprograms.

@@ -6,9 +6,9 @@ ghost use Rattle.name_rules.specs.Declarations as spec;
 ghost use Rattle.name_rules.specs.Judges.{Judges, found_of};
 ghost use Rattle.name_rules.specs.Primaries as primaries;
 ghost use Rattle.name_rules.specs.TypedParts as typed_parts';
-ghost use Rattle.tree_nodes.specs.Parts.{the_comp, the_comps};
-ghost use Rattle.tree_nodes.specs.Tables.{part_at};
-ghost use Rattle.ada_typed.specs.Latest.{pop, second, top};
+ghost use Rattle.syntax_nodes.specs.Parts.{the_comp, the_comps};
+ghost use Rattle.syntax_nodes.specs.Tables.{part_at};
+ghost use Rattle.typed_tree.specs.Latest.{pop, second, top};
 ghost use Rattle.typed_parts.specs.Stack.{parts};
 
 use crate::declaration_lists::{all_ids, begun_names};
@@ -25,7 +25,7 @@ use name_values::scope::{copied, declared};
 use name_values::symbols::symbol;
 use name_values::types::{number_of, written_shape};
 use std::alloc::AllocError;
-use tree_nodes::Tree;
+use syntax_nodes::Tree;
 use typed_parts::Parts;
 
 /// What was found of a record so far: the names that are visible in it, its components unless one has a fault, and how

@@ -1,19 +1,18 @@
 //! The typed program of a syntax tree, or its least fault.
 
 ghost use Rattle.std.specs.Prelude.{◌≡◌, IfOk, MatchResult, None, Some, option_map};
-ghost use Rattle.ada_tree.specs.Syntax.{Program};
-ghost use Rattle.ada_typed.specs.Programs as typed_program;
+ghost use Rattle.syntax_tree.specs.Syntax.{Program};
+ghost use Rattle.typed_tree.specs.Programs as typed_program;
 ghost use Rattle.name_programs.specs.Forms.{whole_if};
 ghost use Rattle.name_programs.specs.Resolving.{Resolved, fault_of};
 ghost use Rattle.name_rules.specs.Resolved as spec;
 ghost use Rattle.name_symbols.specs.Naming as naming;
-ghost use Rattle.tree_nodes.specs.Parts.{the_program};
-ghost use Rattle.tree_nodes.specs.Tables.{part_at};
+ghost use Rattle.syntax_nodes.specs.Parts.{the_program};
+ghost use Rattle.syntax_nodes.specs.Tables.{part_at};
 ghost use Rattle.typed_parts.specs.Stack.{parts};
 
 use crate::programs::{Judged, program};
 use ada_base::{Items, Tokens};
-use ada_typed::Typed;
 use name_faults::least;
 use name_rules::log::{Fault, Log, Rule};
 use name_rules::scope::Names;
@@ -21,9 +20,10 @@ use name_symbols::naming::names_of;
 use name_tables::tables::typed;
 use name_values::attempt;
 use std::alloc::{AllocError, Global};
+use syntax_nodes::Tree;
 use thiserror::Error;
-use tree_nodes::Tree;
 use typed_parts::Parts;
+use typed_tree::Typed;
 
 /// How many levels of statements and brackets may stand in one another.
 const DEPTH_LIMIT: u32 = 64;

@@ -1,16 +1,16 @@
 //! Statements (5.1), in so many levels as may still be opened, and if statements (5.3).
 
 ghost use Rattle.std.specs.Prelude.{◌≡◌, Some};
-ghost use Rattle.ada_tree.specs.Syntax as syntax;
-ghost use Rattle.ada_typed.specs.Decoded as part;
-ghost use Rattle.ada_typed.specs.Latest.{fourth, pop, second, third, top};
+ghost use Rattle.syntax_tree.specs.Syntax as syntax;
+ghost use Rattle.typed_tree.specs.Decoded as part;
+ghost use Rattle.typed_tree.specs.Latest.{fourth, pop, second, third, top};
 ghost use Rattle.name_rules.specs.Judges.{Gives, part_if};
 ghost use Rattle.name_rules.specs.Judging.{both};
 ghost use Rattle.name_rules.specs.Statements as spec;
 ghost use Rattle.name_programs.specs.Around.{Keeps, in_levels};
-ghost use Rattle.tree_nodes.specs.Parts.{the_arms, the_expr, the_more_stmts, the_stmt, the_stmts};
-ghost use Rattle.tree_nodes.specs.Tables.{part_at};
-ghost use Rattle.tree_nodes.specs.Views.{optional_stmts};
+ghost use Rattle.syntax_nodes.specs.Parts.{the_arms, the_expr, the_more_stmts, the_stmt, the_stmts};
+ghost use Rattle.syntax_nodes.specs.Tables.{part_at};
+ghost use Rattle.syntax_nodes.specs.Views.{optional_stmts};
 ghost use Rattle.typed_parts.specs.Stack.{parts};
 
 use crate::assignments::{assign, call_stmt};
@@ -25,7 +25,7 @@ use name_rules::log::{Log, Rule};
 use name_rules::scope::{Context, Names};
 use name_values::attempt;
 use std::alloc::AllocError;
-use tree_nodes::{Stmt, Tree};
+use syntax_nodes::{Stmt, Tree};
 use typed_parts::Parts;
 
 /// A statement in so many levels as may still be opened: Limit at its first token where none may.
@@ -43,7 +43,7 @@ pub fn stmt(
     ensures { Keeps (spec.stmt names.now levels here.old (the_stmt (part_at tree.now.nodes id)) log.old) (parts out.old) here.old result log.new (parts out.new) here.new }
 {
     if levels == 0 {
-        let first = first_tokens::of_stmt(tree, id);
+        let first = syntax_first_tokens::of_stmt(tree, id);
         let limit = Rule::Limit {
             which: 5,
             count: 65,

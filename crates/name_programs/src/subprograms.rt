@@ -1,17 +1,17 @@
 //! Subprograms with a body (6.3), and expression functions (6.8).
 
 ghost use Rattle.std.specs.Prelude.{◌≡◌, ◌+◌, ◌∷◌, IfOk, OnOk, map, option_map};
-ghost use Rattle.ada_typed.specs.Decoded.{as_formals};
-ghost use Rattle.ada_typed.specs.Latest.{pop, second, top};
+ghost use Rattle.typed_tree.specs.Decoded.{as_formals};
+ghost use Rattle.typed_tree.specs.Latest.{pop, second, top};
 ghost use Rattle.name_programs.specs.Forms.{Bodies, Subprograms, headed_if, profiled, sub_if};
 ghost use Rattle.name_programs.specs.SubprogramSteps as step;
 ghost use Rattle.name_rules.specs.Judges.{Gives};
 ghost use Rattle.name_rules.specs.Primaries as primaries;
 ghost use Rattle.name_rules.specs.Programs as spec;
 ghost use Rattle.name_rules.specs.Types.{typed_scalar};
-ghost use Rattle.tree_nodes.specs.Parts.{the_aspect, the_bracketed, the_expr, the_formals, the_implementation, the_sub};
-ghost use Rattle.tree_nodes.specs.Tables.{part_at};
-ghost use Rattle.tree_nodes.specs.Views.{optional};
+ghost use Rattle.syntax_nodes.specs.Parts.{the_aspect, the_bracketed, the_expr, the_formals, the_implementation, the_sub};
+ghost use Rattle.syntax_nodes.specs.Tables.{part_at};
+ghost use Rattle.syntax_nodes.specs.Views.{optional};
 ghost use Rattle.typed_parts.specs.Stack.{parts};
 
 use crate::aspects::{aspect, end_name};
@@ -19,7 +19,6 @@ use crate::bodies::body;
 use crate::declarations::declarations;
 use crate::profiles::{Profiled, profile};
 use ada_base::Items;
-use ada_typed::{Formal, Leaf};
 use name_expressions::expressions::{judged_alone, value_for};
 use name_rules::log::{Log, Taken};
 use name_rules::scope::{Context, Names, Returns};
@@ -28,8 +27,9 @@ use name_tables::heads::Head;
 use name_values::attempt;
 use name_values::types::typed_scalar;
 use std::alloc::AllocError;
-use tree_nodes::{Sub, Tree};
+use syntax_nodes::{Sub, Tree};
 use typed_parts::Parts;
+use typed_tree::{Formal, Leaf};
 
 /// One level more than this. There are never so many.
 pub fn above(levels: u32) -> Result<u32, AllocError>
@@ -194,7 +194,7 @@ fn formals_part(out: &mut Parts, takes: &Items<Taken>) -> Result<(), AllocError>
     Ok(())
 }
 
-fn result_of(gives: Option<Scalar>) -> Option<ada_typed::Scalar>
+fn result_of(gives: Option<Scalar>) -> Option<typed_tree::Scalar>
     ensures { result ≡ option_map typed_scalar gives }
 {
     match gives {

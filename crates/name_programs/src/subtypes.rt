@@ -6,9 +6,9 @@ ghost use Rattle.name_rules.specs.Declarations as spec;
 ghost use Rattle.name_rules.specs.Judges.{Judges, Says, found, found_of};
 ghost use Rattle.name_rules.specs.Judging as judging;
 ghost use Rattle.name_rules.specs.Primaries as primaries;
-ghost use Rattle.tree_nodes.specs.Parts.{the_indic};
-ghost use Rattle.tree_nodes.specs.Tables.{part_at};
-ghost use Rattle.ada_typed.specs.Latest.{pop, second, top};
+ghost use Rattle.syntax_nodes.specs.Parts.{the_indic};
+ghost use Rattle.syntax_nodes.specs.Tables.{part_at};
+ghost use Rattle.typed_tree.specs.Latest.{pop, second, top};
 ghost use Rattle.typed_parts.specs.Stack.{parts};
 
 use crate::rules::unless;
@@ -25,7 +25,7 @@ use name_values::scope::{scalar_named, subtype_named};
 use name_values::types::{in_base, lies_in};
 use name_values::values::{first_of, mentions, static_integer};
 use std::alloc::AllocError;
-use tree_nodes::{Indic, Tree};
+use syntax_nodes::{Indic, Tree};
 use typed_parts::Parts;
 
 /// The subtype of a range, if it is one of another subtype and isn't empty.

@@ -5,9 +5,9 @@ ghost use Rattle.name_rules.specs.Judges.{Gives, Says};
 ghost use Rattle.name_rules.specs.Judging.{fault};
 ghost use Rattle.name_rules.specs.Primaries.{inside};
 ghost use Rattle.name_rules.specs.Statements as spec;
-ghost use Rattle.tree_nodes.specs.Parts.{the_expr, the_pack};
-ghost use Rattle.tree_nodes.specs.Tables.{part_at};
-ghost use Rattle.tree_nodes.specs.Views.{optional};
+ghost use Rattle.syntax_nodes.specs.Parts.{the_expr, the_pack};
+ghost use Rattle.syntax_nodes.specs.Tables.{part_at};
+ghost use Rattle.syntax_nodes.specs.Views.{optional};
 ghost use Rattle.typed_parts.specs.Stack.{parts};
 
 use name_expressions::expressions::{condition, expr, judged_alone};
@@ -20,7 +20,7 @@ use name_values::logs::{breaks, not_given};
 use name_values::symbols::symbol;
 use name_values::values::stored;
 use std::alloc::AllocError;
-use tree_nodes::Tree;
+use syntax_nodes::Tree;
 use typed_parts::Parts;
 
 /// Writes that a rule is broken, and that there is no part of the typed program for it.

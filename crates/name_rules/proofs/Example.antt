@@ -2,15 +2,15 @@
 use Rattle.std.proofs.Common.{◌≡◌, [], ◌∷◌, Option, Some, None, pos, negsuc, refl, true, option_map}
 use Rattle.ada_base.specs.declared.operation.Base.TheVariants.{Narrow}
 use Rattle.ada_base.specs.declared.operation.Op.TheVariants as op
-use Rattle.ada_tree.specs.Syntax as s
-use Rattle.ada_tree.specs.declared.operators.ClauseWord.TheVariants as word
-use Rattle.ada_tree.specs.declared.operators.ClauseWord.{ClauseWord}
-use Rattle.ada_tree.specs.declared.operators.Sign.TheVariants as sign
-use Rattle.ada_typed.specs.Syntax as typed
-use Rattle.ada_typed.specs.Syntax.{Stmts}
-use Rattle.ada_typed.specs.declared.expressions.Root.TheVariants as root
-use Rattle.ada_typed.specs.declared.scalars.Class.TheVariants as class
-use Rattle.ada_typed.specs.declared.scalars.Scalar.{Scalar}
+use Rattle.syntax_tree.specs.Syntax as s
+use Rattle.syntax_tree.specs.declared.operators.ClauseWord.TheVariants as word
+use Rattle.syntax_tree.specs.declared.operators.ClauseWord.{ClauseWord}
+use Rattle.syntax_tree.specs.declared.operators.Sign.TheVariants as sign
+use Rattle.typed_tree.specs.Syntax as typed
+use Rattle.typed_tree.specs.Syntax.{Stmts}
+use Rattle.typed_tree.specs.declared.expressions.Root.TheVariants as root
+use Rattle.typed_tree.specs.declared.scalars.Class.TheVariants as class
+use Rattle.typed_tree.specs.declared.scalars.Scalar.{Scalar}
 use Rattle.name_rules.specs.Resolved.{TypedOf}
 use Rattle.name_rules.specs.declared.log.Rule.TheVariants as rule
 use Rattle.name_rules.proofs.Opened.{all_rules}

@@ -1,6 +1,6 @@
 -- The rules, opened, so that what they say of a program is computed.
-use Rattle.ada_typed.specs.Indexes as u_Indexes
-use Rattle.ada_typed.specs.Latest as u_Stack
+use Rattle.typed_tree.specs.Indexes as u_Indexes
+use Rattle.typed_tree.specs.Latest as u_Stack
 use Rattle.name_rules.specs.Aggregates as u_Aggregates
 use Rattle.name_rules.specs.Attributes as u_Attributes
 use Rattle.name_rules.specs.Calls as u_Calls

@@ -1,7 +1,7 @@
 -- What programs by hand may not do: a rule is broken at a token, and beside it stands the program that just keeps the rule.
 use Rattle.std.proofs.Common.{◌≡◌, ℕ, [], ◌∷◌, None, Some, refl}
-use Rattle.ada_tree.specs.Syntax as s
-use Rattle.ada_tree.specs.declared.operators.Mode.TheVariants as mode
+use Rattle.syntax_tree.specs.Syntax as s
+use Rattle.syntax_tree.specs.declared.operators.Mode.TheVariants as mode
 use Rattle.name_rules.specs.declared.log.Rule.TheVariants as rule
 use Rattle.name_rules.proofs.Opened.{all_rules}
 use Rattle.name_rules.proofs.Written.{at, faults, ident, name, num, one, row, simple, span, tree, variable, whole}

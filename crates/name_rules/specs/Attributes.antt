@@ -27,14 +27,14 @@ use Rattle.name_rules.specs.declared.types.Kind.{Kind}
 use Rattle.name_rules.specs.declared.types.Scalar.{Scalar}
 use Rattle.name_rules.specs.declared.types.Subtype.TheVariants as subtype
 use Rattle.name_rules.specs.declared.types.Subtype.{Subtype}
-use Rattle.ada_tree.specs.Syntax.{Args}
-use Rattle.ada_typed.specs.Decoded as part
-use Rattle.ada_typed.specs.Syntax as typed
-use Rattle.ada_typed.specs.Syntax.{Expr as TypedExpr}
-use Rattle.ada_typed.specs.Indexes.{indexes_in}
+use Rattle.syntax_tree.specs.Syntax.{Args}
+use Rattle.typed_tree.specs.Decoded as part
+use Rattle.typed_tree.specs.Syntax as typed
+use Rattle.typed_tree.specs.Syntax.{Expr as TypedExpr}
+use Rattle.typed_tree.specs.Indexes.{indexes_in}
 use Rattle.std.specs.Prelude.{Bool, List, None, Option, Some, [], false, if◌then◌else◌, int_le, length, nat_lt, option_map, pos, slice_get, true, unsigned_abs, ℕ, ℤ, ◌&&◌, ◌-◌, ◌==◌, ◌∷◌}
 use Rattle.name_rules.specs.TypedParts.{also, also_all, selections_of}
-use Rattle.ada_typed.specs.Decoded.{Part as TypedPart, as_expr}
+use Rattle.typed_tree.specs.Decoded.{Part as TypedPart, as_expr}
 
 -- ---- which attribute
 

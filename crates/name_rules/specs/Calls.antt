@@ -1,6 +1,6 @@
 -- Calls of subprograms (6.4) and conversions (4.6).
 use Rattle.name_rules.specs.Expressions.{Inside, expr, judged_alone, value_for}
-use Rattle.ada_tree.specs.FirstTokens as first_token
+use Rattle.syntax_tree.specs.FirstTokens as first_token
 use Rattle.name_rules.specs.Found.{Denoted, Found, denote, scalar, value_denoted}
 use Rattle.name_rules.specs.Judging.{Judging, fault, given, joined, pure, read, some, unless, where_clean, ◌>>=◌}
 use Rattle.name_rules.specs.Names.{count, wrong_call}
@@ -22,18 +22,18 @@ use Rattle.name_rules.specs.declared.types.Scalar.{Scalar}
 use Rattle.name_rules.specs.declared.types.Subtype.TheVariants as subtype
 use Rattle.name_rules.specs.declared.types.Subtype.{Subtype}
 use Rattle.name_rules.specs.declared.types.Wanted.TheVariants as wanted
-use Rattle.ada_tree.specs.Syntax as syntax
-use Rattle.ada_tree.specs.Syntax.{Arg, Args, Expr}
-use Rattle.ada_typed.specs.Decoded as part
-use Rattle.ada_typed.specs.Syntax as typed
-use Rattle.ada_typed.specs.Syntax.{Selections}
-use Rattle.ada_typed.specs.declared.program.Mode.TheVariants as mode
-use Rattle.ada_typed.specs.declared.program.Mode.{Mode}
+use Rattle.syntax_tree.specs.Syntax as syntax
+use Rattle.syntax_tree.specs.Syntax.{Arg, Args, Expr}
+use Rattle.typed_tree.specs.Decoded as part
+use Rattle.typed_tree.specs.Syntax as typed
+use Rattle.typed_tree.specs.Syntax.{Selections}
+use Rattle.typed_tree.specs.declared.program.Mode.TheVariants as mode
+use Rattle.typed_tree.specs.declared.program.Mode.{Mode}
 use Rattle.std.specs.List.{list_any, position}
 use Rattle.std.specs.Prelude.{Bool, List, None, Option, Some, [], false, if◌then◌else◌, is_some, length, nat_lt, not, slice_get, true, ℕ, ◌++◌, ◌+◌, ◌==◌, ◌||◌, ◌∷◌}
 use Rattle.name_rules.specs.TypedParts.{also, selections_of}
-use Rattle.ada_typed.specs.Decoded.{Part as TypedPart, as_expr, as_actuals}
-use Rattle.ada_typed.specs.Latest.{turned}
+use Rattle.typed_tree.specs.Decoded.{Part as TypedPart, as_expr, as_actuals}
+use Rattle.typed_tree.specs.Latest.{turned}
 
 -- ---- actual parameters (6.4.1)
 

@@ -1,7 +1,7 @@
 -- The rules of what operators join (4.4), over a judgement of primaries.
 use Rattle.ada_base.specs.declared.operation.Op.TheVariants as op
 use Rattle.ada_base.specs.declared.operation.Op.{Op}
-use Rattle.ada_tree.specs.FirstTokens as first_token
+use Rattle.syntax_tree.specs.FirstTokens as first_token
 use Rattle.name_rules.specs.Found.{Denoted, Found}
 use Rattle.name_rules.specs.Judging.{Judging, fault, given, joined, pure, some, ◌>>=◌}
 use Rattle.name_rules.specs.Operators.{binary, compared, joined_text, logical, membership, negation, not_of, of_subtype, plain, power, unary}
@@ -17,24 +17,24 @@ use Rattle.name_rules.specs.declared.types.Kind.TheVariants as kind
 use Rattle.name_rules.specs.declared.types.Subtype.{Subtype}
 use Rattle.name_rules.specs.declared.types.Wanted.TheVariants as wanted
 use Rattle.name_rules.specs.declared.types.Wanted.{Wanted}
-use Rattle.ada_tree.specs.Syntax as syntax
-use Rattle.ada_tree.specs.Syntax.{Adding, Addings, Conjuncts, Expr, Factor, Multiplying, Multiplyings, Name, Primary, Rel, Simple, Term}
-use Rattle.ada_tree.specs.declared.operators.Additive.TheVariants as additive
-use Rattle.ada_tree.specs.declared.operators.Comparison.TheVariants as comparison
-use Rattle.ada_tree.specs.declared.operators.Comparison.{Comparison}
-use Rattle.ada_tree.specs.declared.operators.Logical.TheVariants as logical'
-use Rattle.ada_tree.specs.declared.operators.Multiplicative.TheVariants as multiplicative
-use Rattle.ada_tree.specs.declared.operators.Multiplicative.{Multiplicative}
-use Rattle.ada_tree.specs.declared.operators.Sign.TheVariants as sign
-use Rattle.ada_tree.specs.declared.operators.Sign.{Sign}
-use Rattle.ada_typed.specs.Decoded as part
-use Rattle.ada_typed.specs.Syntax as typed
-use Rattle.ada_typed.specs.Syntax.{Expr as TypedExpr}
-use Rattle.ada_typed.specs.declared.expressions.Sign.TheVariants as unary'
-use Rattle.ada_typed.specs.declared.scalars.Comparison.TheVariants as comparison'
-use Rattle.ada_typed.specs.declared.scalars.Comparison.{Comparison as TypedComparison}
+use Rattle.syntax_tree.specs.Syntax as syntax
+use Rattle.syntax_tree.specs.Syntax.{Adding, Addings, Conjuncts, Expr, Factor, Multiplying, Multiplyings, Name, Primary, Rel, Simple, Term}
+use Rattle.syntax_tree.specs.declared.operators.Additive.TheVariants as additive
+use Rattle.syntax_tree.specs.declared.operators.Comparison.TheVariants as comparison
+use Rattle.syntax_tree.specs.declared.operators.Comparison.{Comparison}
+use Rattle.syntax_tree.specs.declared.operators.Logical.TheVariants as logical'
+use Rattle.syntax_tree.specs.declared.operators.Multiplicative.TheVariants as multiplicative
+use Rattle.syntax_tree.specs.declared.operators.Multiplicative.{Multiplicative}
+use Rattle.syntax_tree.specs.declared.operators.Sign.TheVariants as sign
+use Rattle.syntax_tree.specs.declared.operators.Sign.{Sign}
+use Rattle.typed_tree.specs.Decoded as part
+use Rattle.typed_tree.specs.Syntax as typed
+use Rattle.typed_tree.specs.Syntax.{Expr as TypedExpr}
+use Rattle.typed_tree.specs.declared.expressions.Sign.TheVariants as unary'
+use Rattle.typed_tree.specs.declared.scalars.Comparison.TheVariants as comparison'
+use Rattle.typed_tree.specs.declared.scalars.Comparison.{Comparison as TypedComparison}
 use Rattle.std.specs.Prelude.{Bool, None, Option, Some, false, if◌then◌else◌, is_some, option_map, true, ℕ}
-use Rattle.ada_typed.specs.Decoded.{Part as TypedPart, as_expr}
+use Rattle.typed_tree.specs.Decoded.{Part as TypedPart, as_expr}
 
 -- how primaries and names are judged at a level of brackets
 pub record Inside : Type 0 where

@@ -8,10 +8,10 @@ use Rattle.name_rules.specs.declared.found.Found.{Found as Known}
 use Rattle.name_rules.specs.declared.found.Limits.{Limits}
 use Rattle.name_rules.specs.declared.types.Kind.{Kind}
 use Rattle.name_rules.specs.declared.types.Scalar.{Scalar}
-use Rattle.ada_typed.specs.Decoded as part
-use Rattle.ada_typed.specs.Syntax.{Composite, Expr as TypedExpr}
+use Rattle.typed_tree.specs.Decoded as part
+use Rattle.typed_tree.specs.Syntax.{Composite, Expr as TypedExpr}
 use Rattle.std.specs.Prelude.{Bool, Option, Some, ℕ, ℤ}
-use Rattle.ada_typed.specs.Decoded.{Part as TypedPart}
+use Rattle.typed_tree.specs.Decoded.{Part as TypedPart}
 
 -- what is known of something, and its part of the typed program
 pub record With (K : Type 0) : Type 0 where

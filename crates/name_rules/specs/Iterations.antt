@@ -29,18 +29,18 @@ use Rattle.name_rules.specs.declared.scope.What.TheVariants as what
 use Rattle.name_rules.specs.declared.scope.What.{What}
 use Rattle.name_rules.specs.declared.types.Subtype.{Subtype}
 use Rattle.name_rules.specs.declared.types.Wanted.TheVariants as wanted
-use Rattle.ada_tree.specs.Syntax as syntax
-use Rattle.ada_tree.specs.Syntax.{Expr, Iter, OptionalExpr, OptionalParallel, Parallel, Simple}
-use Rattle.ada_typed.specs.Syntax as typed
-use Rattle.ada_typed.specs.Syntax.{Iteration, Optional, Selections}
-use Rattle.ada_typed.specs.declared.program.SiteKind.TheVariants as site
-use Rattle.ada_typed.specs.declared.program.SiteKind.{SiteKind}
-use Rattle.ada_typed.specs.declared.scalars.Check.{Check}
+use Rattle.syntax_tree.specs.Syntax as syntax
+use Rattle.syntax_tree.specs.Syntax.{Expr, Iter, OptionalExpr, OptionalParallel, Parallel, Simple}
+use Rattle.typed_tree.specs.Syntax as typed
+use Rattle.typed_tree.specs.Syntax.{Iteration, Optional, Selections}
+use Rattle.typed_tree.specs.declared.program.SiteKind.TheVariants as site
+use Rattle.typed_tree.specs.declared.program.SiteKind.{SiteKind}
+use Rattle.typed_tree.specs.declared.scalars.Check.{Check}
 use Rattle.std.specs.List.{list_all}
 use Rattle.std.specs.Prelude.{Bool, None, Option, Some, drop, false, if◌then◌else◌, is_some, length, not, option_map, true, ℕ, ◌+◌, ◌||◌}
-use Rattle.ada_typed.specs.Decoded as part
+use Rattle.typed_tree.specs.Decoded as part
 use Rattle.name_rules.specs.TypedParts.{low_of, high_of, selections_of}
-use Rattle.ada_typed.specs.Decoded.{Part as TypedPart, as_expr, as_optional, as_iteration}
+use Rattle.typed_tree.specs.Decoded.{Part as TypedPart, as_expr, as_optional, as_iteration}
 
 -- ---- parameters
 

@@ -1,7 +1,7 @@
 -- What functions ensure that judge, unless memory fails, where parts were being joined.
 use Rattle.std.specs.Prelude.{◌≡◌, List, Bool, true, false, Option, Some, None, Result, Ok, Err}
-use Rattle.ada_typed.specs.Decoded.{Part}
-use Rattle.ada_typed.specs.Latest.{top, pop}
+use Rattle.typed_tree.specs.Decoded.{Part}
+use Rattle.typed_tree.specs.Latest.{top, pop}
 use Rattle.name_rules.specs.Found.{With}
 use Rattle.name_rules.specs.declared.found.Limits.{Limits}
 use Rattle.name_rules.specs.declared.log.Log.{Log}

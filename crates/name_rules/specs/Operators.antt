@@ -14,16 +14,16 @@ use Rattle.name_rules.specs.declared.log.Rule.TheVariants.{StaticRange, WrongTyp
 use Rattle.name_rules.specs.declared.types.Kind.TheVariants as kind
 use Rattle.name_rules.specs.declared.types.Kind.{Kind}
 use Rattle.name_rules.specs.declared.types.Scalar.{Scalar}
-use Rattle.ada_typed.specs.Decoded as part
-use Rattle.ada_typed.specs.Syntax as typed
-use Rattle.ada_typed.specs.Syntax.{Expr as TypedExpr}
-use Rattle.ada_typed.specs.declared.expressions.Sign.TheVariants as unary'
-use Rattle.ada_typed.specs.declared.expressions.Sign.{Sign as Unary}
-use Rattle.ada_typed.specs.declared.scalars.Class.TheVariants as class
-use Rattle.ada_typed.specs.declared.scalars.Comparison.{Comparison as TypedComparison}
+use Rattle.typed_tree.specs.Decoded as part
+use Rattle.typed_tree.specs.Syntax as typed
+use Rattle.typed_tree.specs.Syntax.{Expr as TypedExpr}
+use Rattle.typed_tree.specs.declared.expressions.Sign.TheVariants as unary'
+use Rattle.typed_tree.specs.declared.expressions.Sign.{Sign as Unary}
+use Rattle.typed_tree.specs.declared.scalars.Class.TheVariants as class
+use Rattle.typed_tree.specs.declared.scalars.Comparison.{Comparison as TypedComparison}
 use Rattle.std.specs.Prelude.{Bool, None, Option, Some, false, if◌then◌else◌, neg_ℤ, not, option_map, pos, unsigned_abs, ℕ, ℤ, ◌&&◌}
 use Rattle.name_rules.specs.TypedParts.{also_all, exprs_of}
-use Rattle.ada_typed.specs.Decoded.{Part as TypedPart, as_expr}
+use Rattle.typed_tree.specs.Decoded.{Part as TypedPart, as_expr}
 
 -- ---- static results: E07 StaticRange where there is none in the base range, or in 128 bits
 

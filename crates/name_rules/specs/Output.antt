@@ -1,7 +1,7 @@
 -- Calls of predefined procedures (A.10.6 to A.10.8). They take arguments by position; Width may be named.
 use Rattle.ada_base.specs.declared.operation.Base.TheVariants.{Narrow}
 use Rattle.name_rules.specs.Expressions.{Inside, expr, judged_alone}
-use Rattle.ada_tree.specs.FirstTokens as first_token
+use Rattle.syntax_tree.specs.FirstTokens as first_token
 use Rattle.name_rules.specs.Found.{Denoted, Found, denote}
 use Rattle.name_rules.specs.Judging.{Judging, breaks, fault, given, joined, pure, some, unless, where_clean, ◌>>=◌}
 use Rattle.name_rules.specs.Symbols.{symbol, width_name}
@@ -21,16 +21,16 @@ use Rattle.name_rules.specs.declared.types.Kind.TheVariants as kind
 use Rattle.name_rules.specs.declared.types.Subtype.TheVariants as subtype
 use Rattle.name_rules.specs.declared.types.Subtype.{Subtype}
 use Rattle.name_rules.specs.declared.types.Wanted.TheVariants as wanted
-use Rattle.ada_tree.specs.Syntax as syntax
-use Rattle.ada_tree.specs.Syntax.{Args, Expr}
-use Rattle.ada_typed.specs.Decoded as part
-use Rattle.ada_typed.specs.Syntax as typed
-use Rattle.ada_typed.specs.Syntax.{Selections, Stmt as TypedStmt}
-use Rattle.ada_typed.specs.declared.scalars.Class.TheVariants as class
+use Rattle.syntax_tree.specs.Syntax as syntax
+use Rattle.syntax_tree.specs.Syntax.{Args, Expr}
+use Rattle.typed_tree.specs.Decoded as part
+use Rattle.typed_tree.specs.Syntax as typed
+use Rattle.typed_tree.specs.Syntax.{Selections, Stmt as TypedStmt}
+use Rattle.typed_tree.specs.declared.scalars.Class.TheVariants as class
 use Rattle.std.specs.Prelude.{Bool, None, Option, Some, false, if◌then◌else◌, int_le, nat_le, not, option_map, pos, true, ℕ, ℤ, ◌&&◌, ◌+◌, ◌==◌}
 use Rattle.name_rules.specs.TypedParts.{selections_of}
-use Rattle.ada_typed.specs.Decoded.{Part as TypedPart, as_expr, as_pieces}
-use Rattle.ada_typed.specs.Latest.{turned}
+use Rattle.typed_tree.specs.Decoded.{Part as TypedPart, as_expr, as_pieces}
+use Rattle.typed_tree.specs.Latest.{turned}
 
 abbrev pub done_by : ℕ → TypedStmt → Denoted
 done_by first s = denote (denoted.Done first) (part.AStmt s)

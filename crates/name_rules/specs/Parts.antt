@@ -26,16 +26,16 @@ use Rattle.name_rules.specs.declared.scope.Names.{Names}
 use Rattle.name_rules.specs.declared.types.Subtype.TheVariants as subtype
 use Rattle.name_rules.specs.declared.types.Subtype.{Subtype}
 use Rattle.name_rules.specs.declared.types.Wanted.TheVariants as wanted
-use Rattle.ada_tree.specs.Syntax as syntax
-use Rattle.ada_tree.specs.Syntax.{Args, Expr, Name, Part, Parts}
-use Rattle.ada_typed.specs.Decoded as part
-use Rattle.ada_typed.specs.Syntax as typed
-use Rattle.ada_typed.specs.Syntax.{Iteration, Optional, Selections}
-use Rattle.ada_typed.specs.declared.program.SiteKind.TheVariants as site
-use Rattle.ada_typed.specs.declared.program.SiteKind.{SiteKind}
+use Rattle.syntax_tree.specs.Syntax as syntax
+use Rattle.syntax_tree.specs.Syntax.{Args, Expr, Name, Part, Parts}
+use Rattle.typed_tree.specs.Decoded as part
+use Rattle.typed_tree.specs.Syntax as typed
+use Rattle.typed_tree.specs.Syntax.{Iteration, Optional, Selections}
+use Rattle.typed_tree.specs.declared.program.SiteKind.TheVariants as site
+use Rattle.typed_tree.specs.declared.program.SiteKind.{SiteKind}
 use Rattle.std.specs.Prelude.{Bool, None, Option, Some, [], false, if◌then◌else◌, length, not, option_map, true, ℕ, ◌++◌, ◌+◌, ◌/◌, ◌∷◌}
 use Rattle.name_rules.specs.TypedParts.{selections_of}
-use Rattle.ada_typed.specs.Decoded.{Part as TypedPart}
+use Rattle.typed_tree.specs.Decoded.{Part as TypedPart}
 
 -- ---- numbers of constructs and of parameters, in the order of the text
 

@@ -25,20 +25,20 @@ use Rattle.name_rules.specs.declared.types.Kind.TheVariants as kind
 use Rattle.name_rules.specs.declared.types.Scalar.{Scalar}
 use Rattle.name_rules.specs.declared.types.Subtype.TheVariants as subtype
 use Rattle.name_rules.specs.declared.types.Subtype.{Subtype}
-use Rattle.ada_tree.specs.Syntax as syntax
-use Rattle.ada_tree.specs.Syntax.{Aspect, Body, Clause, Decl, Expr, Formal, Formals, Main, Pack, Policy, Program, Sub, Unit'}
-use Rattle.ada_tree.specs.declared.operators.ClauseWord.TheVariants as word
-use Rattle.ada_tree.specs.declared.operators.ClauseWord.{ClauseWord}
-use Rattle.ada_tree.specs.declared.operators.Mode.TheVariants as mode'
-use Rattle.ada_tree.specs.declared.operators.Mode.{Mode as FormalMode}
-use Rattle.ada_typed.specs.Decoded as part
-use Rattle.ada_typed.specs.Syntax as typed
-use Rattle.ada_typed.specs.Syntax.{Body as TypedBody, Sub as TypedSub}
-use Rattle.ada_typed.specs.declared.program.Formal.{Formal as TypedFormal}
-use Rattle.ada_typed.specs.declared.program.Mode.TheVariants as mode
-use Rattle.ada_typed.specs.declared.program.Mode.{Mode}
+use Rattle.syntax_tree.specs.Syntax as syntax
+use Rattle.syntax_tree.specs.Syntax.{Aspect, Body, Clause, Decl, Expr, Formal, Formals, Main, Pack, Policy, Program, Sub, Unit'}
+use Rattle.syntax_tree.specs.declared.operators.ClauseWord.TheVariants as word
+use Rattle.syntax_tree.specs.declared.operators.ClauseWord.{ClauseWord}
+use Rattle.syntax_tree.specs.declared.operators.Mode.TheVariants as mode'
+use Rattle.syntax_tree.specs.declared.operators.Mode.{Mode as FormalMode}
+use Rattle.typed_tree.specs.Decoded as part
+use Rattle.typed_tree.specs.Syntax as typed
+use Rattle.typed_tree.specs.Syntax.{Body as TypedBody, Sub as TypedSub}
+use Rattle.typed_tree.specs.declared.program.Formal.{Formal as TypedFormal}
+use Rattle.typed_tree.specs.declared.program.Mode.TheVariants as mode
+use Rattle.typed_tree.specs.declared.program.Mode.{Mode}
 use Rattle.std.specs.Prelude.{Bool, List, None, Option, Some, [], drop, false, if◌then◌else◌, int_le, length, map, not, option_map, pos, true, ℕ, ℤ, ◌&&◌, ◌++◌, ◌+◌, ◌-◌, ◌==◌, ◌||◌, ◌∷◌}
-use Rattle.ada_typed.specs.Decoded.{Part as TypedPart, as_body}
+use Rattle.typed_tree.specs.Decoded.{Part as TypedPart, as_body}
 
 -- ---- the policy (2.8)
 

@@ -1,6 +1,6 @@
 -- Ranges (3.5), static ones of dimensions (3.6) and associations, and choices (3.8.1).
 use Rattle.name_rules.specs.Expressions.{Inside, simple}
-use Rattle.ada_tree.specs.FirstTokens as first_token
+use Rattle.syntax_tree.specs.FirstTokens as first_token
 use Rattle.name_rules.specs.Found.{Bounded, Found, With}
 use Rattle.name_rules.specs.Judging.{Judging, both, fault, given, joined, pure, some, unless, ◌>>=◌}
 use Rattle.name_rules.specs.Names.{denoted_first}
@@ -17,12 +17,12 @@ use Rattle.name_rules.specs.declared.types.Kind.{Kind}
 use Rattle.name_rules.specs.declared.types.Scalar.{Scalar}
 use Rattle.name_rules.specs.declared.types.Subtype.TheVariants as subtype
 use Rattle.name_rules.specs.declared.types.Wanted.TheVariants as wanted
-use Rattle.ada_tree.specs.Syntax as syntax
-use Rattle.ada_tree.specs.Syntax.{Range, Simple}
-use Rattle.ada_typed.specs.Decoded as part
+use Rattle.syntax_tree.specs.Syntax as syntax
+use Rattle.syntax_tree.specs.Syntax.{Range, Simple}
+use Rattle.typed_tree.specs.Decoded as part
 use Rattle.std.specs.Prelude.{Bool, None, Option, Some, false, if◌then◌else◌, int_le, not, option_map, ℕ, ℤ, ◌&&◌}
 use Rattle.name_rules.specs.TypedParts.{pair}
-use Rattle.ada_typed.specs.Decoded.{Part as TypedPart}
+use Rattle.typed_tree.specs.Decoded.{Part as TypedPart}
 
 -- two bounds, each for itself
 unfoldable pub two_bounds : Inside → Context → Simple → Simple → Judging (Option Found × Option Found)

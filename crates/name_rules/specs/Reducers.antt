@@ -4,7 +4,7 @@ use Rattle.ada_base.specs.declared.operation.Op.TheVariants as op
 use Rattle.ada_base.specs.declared.operation.Op.{Op}
 use Rattle.name_rules.specs.Calls.{gives_in, profile_in, takes_in}
 use Rattle.name_rules.specs.Expressions.{Inside, judged_alone}
-use Rattle.ada_tree.specs.FirstTokens as first_token
+use Rattle.syntax_tree.specs.FirstTokens as first_token
 use Rattle.name_rules.specs.Found.{Found, opened, scalar}
 use Rattle.name_rules.specs.Judging.{Judging, both, fault, given, joined, pure, read, some, where_clean, ◌>>=◌}
 use Rattle.name_rules.specs.Operators.{open_of}
@@ -28,15 +28,15 @@ use Rattle.name_rules.specs.declared.types.Kind.{Kind}
 use Rattle.name_rules.specs.declared.types.Scalar.{Scalar}
 use Rattle.name_rules.specs.declared.types.Subtype.TheVariants as subtype
 use Rattle.name_rules.specs.declared.types.Subtype.{Subtype}
-use Rattle.ada_tree.specs.Syntax as syntax
-use Rattle.ada_tree.specs.Syntax.{Expr, Parts, Primary}
-use Rattle.ada_typed.specs.Syntax as typed
-use Rattle.ada_typed.specs.Syntax.{Expr as TypedExpr}
-use Rattle.ada_typed.specs.declared.expressions.Reducer.TheVariants as reducer'
-use Rattle.ada_typed.specs.declared.expressions.Reducer.{Reducer}
-use Rattle.ada_typed.specs.declared.scalars.Class.TheVariants as class
+use Rattle.syntax_tree.specs.Syntax as syntax
+use Rattle.syntax_tree.specs.Syntax.{Expr, Parts, Primary}
+use Rattle.typed_tree.specs.Syntax as typed
+use Rattle.typed_tree.specs.Syntax.{Expr as TypedExpr}
+use Rattle.typed_tree.specs.declared.expressions.Reducer.TheVariants as reducer'
+use Rattle.typed_tree.specs.declared.expressions.Reducer.{Reducer}
+use Rattle.typed_tree.specs.declared.scalars.Class.TheVariants as class
 use Rattle.std.specs.Prelude.{Bool, List, None, Option, Some, [], bytes_eq, codes, false, if◌then◌else◌, is_some, not, true, ℕ, ◌&&◌, ◌==◌, ◌||◌, ◌∷◌}
-use Rattle.ada_typed.specs.Decoded.{Part as TypedPart, as_expr, as_iteration, as_chunk}
+use Rattle.typed_tree.specs.Decoded.{Part as TypedPart, as_expr, as_iteration, as_chunk}
 
 -- ---- the reducer
 

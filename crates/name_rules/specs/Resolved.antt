@@ -10,11 +10,11 @@ use Rattle.name_rules.specs.declared.log.Rule.{Rule}
 use Rattle.name_rules.specs.declared.log.Shape.TheVariants as shape
 use Rattle.name_rules.specs.declared.log.Shape.{Shape}
 use Rattle.name_rules.specs.declared.scope.Names.{Names}
-use Rattle.ada_tree.specs.Syntax.{Program}
-use Rattle.ada_typed.specs.Syntax as typed
-use Rattle.ada_typed.specs.Syntax.{Program as TypedProgram, Subtype as TypedSubtype}
-use Rattle.ada_typed.specs.declared.program.Bounds.{Bounds}
-use Rattle.ada_typed.specs.declared.program.Field.{Field as TypedField}
+use Rattle.syntax_tree.specs.Syntax.{Program}
+use Rattle.typed_tree.specs.Syntax as typed
+use Rattle.typed_tree.specs.Syntax.{Program as TypedProgram, Subtype as TypedSubtype}
+use Rattle.typed_tree.specs.declared.program.Bounds.{Bounds}
+use Rattle.typed_tree.specs.declared.program.Field.{Field as TypedField}
 use Rattle.std.specs.Prelude.{List, None, Option, [], map, option_map, ℕ, ◌*◌, ◌+◌, ◌∷◌, ◌≡◌, ◌≤◌, ◌⊎◌}
 
 -- ---- the faults, and the typed program where there is none

@@ -1,6 +1,6 @@
 -- What an expression or a choice is where it has no operator, no sign and no bracket around it.
-use Rattle.ada_tree.specs.Syntax as syntax
-use Rattle.ada_tree.specs.Syntax.{Choice, Expr, Primary, Simple}
+use Rattle.syntax_tree.specs.Syntax as syntax
+use Rattle.syntax_tree.specs.Syntax.{Choice, Expr, Primary, Simple}
 use Rattle.std.specs.Prelude.{Bool, None, Option, Some, false, true, ℕ}
 
 -- the primary that a simple expression is

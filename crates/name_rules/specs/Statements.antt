@@ -3,7 +3,7 @@ use Rattle.ada_base.specs.declared.reason.Reason.{Reason}
 use Rattle.name_rules.specs.Cases.{Choosing, Covering, case_choices, closed, handled_by}
 use Rattle.name_rules.specs.Declarations.{declarations}
 use Rattle.name_rules.specs.Expressions.{Inside, condition, expr, judged_alone}
-use Rattle.ada_tree.specs.FirstTokens as first_token
+use Rattle.syntax_tree.specs.FirstTokens as first_token
 use Rattle.name_rules.specs.Found.{Denoted, Found, With}
 use Rattle.name_rules.specs.Iterations.{Entered, chunk_count, entered, thread_owner}
 use Rattle.name_rules.specs.Judging.{Judging, both, breaks, clean, fault, given, joined, pure, some, unless, where_clean, ◌>>=◌}
@@ -30,17 +30,17 @@ use Rattle.name_rules.specs.declared.types.Kind.{Kind}
 use Rattle.name_rules.specs.declared.types.Scalar.{Scalar}
 use Rattle.name_rules.specs.declared.types.Subtype.TheVariants as subtype
 use Rattle.name_rules.specs.declared.types.Wanted.TheVariants as wanted
-use Rattle.ada_tree.specs.Syntax as syntax
-use Rattle.ada_tree.specs.Syntax.{Alt, Alts, Arms, Body, Branches, Decl, Declare, Expr, Handler, Handlers, Iter, MoreStmts, Name, OptionalParallel, OptionalStmts, Pack, Parallel, Scheme, Simple, Stmt, Stmts}
-use Rattle.ada_typed.specs.Decoded as part
-use Rattle.ada_typed.specs.Syntax as typed
-use Rattle.ada_typed.specs.Syntax.{Selections, Handled as TypedHandled}
-use Rattle.ada_typed.specs.declared.program.SiteKind.TheVariants as site
+use Rattle.syntax_tree.specs.Syntax as syntax
+use Rattle.syntax_tree.specs.Syntax.{Alt, Alts, Arms, Body, Branches, Decl, Declare, Expr, Handler, Handlers, Iter, MoreStmts, Name, OptionalParallel, OptionalStmts, Pack, Parallel, Scheme, Simple, Stmt, Stmts}
+use Rattle.typed_tree.specs.Decoded as part
+use Rattle.typed_tree.specs.Syntax as typed
+use Rattle.typed_tree.specs.Syntax.{Selections, Handled as TypedHandled}
+use Rattle.typed_tree.specs.declared.program.SiteKind.TheVariants as site
 use Rattle.std.specs.List.{find}
 use Rattle.std.specs.Prelude.{Bool, List, None, Option, Some, [], false, if◌then◌else◌, length, nat_le, not, option_map, reverse, slice_get, suc, true, zero, ℕ, ◌++◌, ◌+◌, ◌-◌, ◌==◌, ◌∷◌}
 use Rattle.name_rules.specs.TypedParts.{pair, also, exprs_of, selections_of, nested_stmts}
-use Rattle.ada_typed.specs.Decoded.{Part as TypedPart, as_expr, as_optional, as_iteration, as_chunk, as_decls, as_stmts, as_alternatives, as_arms, as_handlers, as_body}
-use Rattle.ada_typed.specs.Latest.{turned}
+use Rattle.typed_tree.specs.Decoded.{Part as TypedPart, as_expr, as_optional, as_iteration, as_chunk, as_decls, as_stmts, as_alternatives, as_arms, as_handlers, as_body}
+use Rattle.typed_tree.specs.Latest.{turned}
 
 -- how the statements in a statement are judged
 abbrev pub Within : Type 0

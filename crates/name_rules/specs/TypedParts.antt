@@ -1,9 +1,9 @@
 -- The parts of a typed program while it is made: lists that grow, pairs, and what static values mention.
-use Rattle.ada_typed.specs.Decoded.{Part, Nothing, Cons, AStmt, as_expr, as_exprs, as_selections, as_stmts}
-use Rattle.ada_typed.specs.Syntax.{Expr, Exprs, Selections}
-use Rattle.ada_typed.specs.Syntax as typed
-use Rattle.ada_typed.specs.Latest.{onto, turned}
-use Rattle.ada_typed.specs.Latest as stack
+use Rattle.typed_tree.specs.Decoded.{Part, Nothing, Cons, AStmt, as_expr, as_exprs, as_selections, as_stmts}
+use Rattle.typed_tree.specs.Syntax.{Expr, Exprs, Selections}
+use Rattle.typed_tree.specs.Syntax as typed
+use Rattle.typed_tree.specs.Latest.{onto, turned}
+use Rattle.typed_tree.specs.Latest as stack
 
 -- ---- pairs
 

@@ -14,10 +14,10 @@ use Rattle.name_rules.specs.declared.types.Subtype.TheVariants as subtype
 use Rattle.name_rules.specs.declared.types.Subtype.{Subtype}
 use Rattle.name_rules.specs.declared.types.Wanted.TheVariants as wanted
 use Rattle.name_rules.specs.declared.types.Wanted.{Wanted}
-use Rattle.ada_typed.specs.declared.scalars.Check.{Check}
-use Rattle.ada_typed.specs.declared.scalars.Class.TheVariants as class
-use Rattle.ada_typed.specs.declared.scalars.Class.{Class}
-use Rattle.ada_typed.specs.declared.scalars.Scalar.{Scalar as TypedScalar}
+use Rattle.typed_tree.specs.declared.scalars.Check.{Check}
+use Rattle.typed_tree.specs.declared.scalars.Class.TheVariants as class
+use Rattle.typed_tree.specs.declared.scalars.Class.{Class}
+use Rattle.typed_tree.specs.declared.scalars.Scalar.{Scalar as TypedScalar}
 use Rattle.std.specs.Prelude.{Bool, List, None, Option, Some, [], false, int_le, length, min, negsuc, pos, slice_get, true, unsigned_abs, ℕ, ℤ, ◌&&◌, ◌*◌, ◌++◌, ◌+◌, ◌-ℤ◌, ◌==◌, ◌∷◌}
 
 -- ---- scalar types

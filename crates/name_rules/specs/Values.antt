@@ -14,13 +14,13 @@ use Rattle.name_rules.specs.declared.types.Kind.{Kind}
 use Rattle.name_rules.specs.declared.types.Scalar.{Scalar}
 use Rattle.name_rules.specs.declared.types.Subtype.TheVariants as subtype
 use Rattle.name_rules.specs.declared.types.Subtype.{Subtype}
-use Rattle.ada_typed.specs.Decoded as part
-use Rattle.ada_typed.specs.Syntax as typed
-use Rattle.ada_typed.specs.Syntax.{Composite, Selections, Expr as TypedExpr}
-use Rattle.ada_typed.specs.Classes.{with_class}
+use Rattle.typed_tree.specs.Decoded as part
+use Rattle.typed_tree.specs.Syntax as typed
+use Rattle.typed_tree.specs.Syntax.{Composite, Selections, Expr as TypedExpr}
+use Rattle.typed_tree.specs.Classes.{with_class}
 use Rattle.std.specs.Prelude.{Bool, None, Option, Some, false, if◌then◌else◌, int_le, is_some, negsuc, option_map, pos, true, ℕ, ℤ, ◌&&◌, ◌==◌, ◌||◌}
 use Rattle.name_rules.specs.TypedParts.{exprs_of, selections_of}
-use Rattle.ada_typed.specs.Decoded.{Part as TypedPart, as_expr}
+use Rattle.typed_tree.specs.Decoded.{Part as TypedPart, as_expr}
 
 -- ---- what is known of an expression
 

@@ -3,7 +3,7 @@
 use crate::log::Dimension;
 use crate::types::{Kind, Scalar, Subtype};
 use ada_base::{Op, Reason};
-use ada_typed::expressions::Root;
+use typed_tree::expressions::Root;
 
 /// The name of an object or of a part of one (4.1): its first token, what it stands for, whether it is a variable,
 /// and the value of a static constant. Its part is its selections.

@@ -2,7 +2,7 @@
 
 use crate::types::{Kind, Scalar, Subtype};
 use ada_base::Items;
-use ada_typed::program::{Declared, Mode, Object, Site};
+use typed_tree::program::{Declared, Mode, Object, Site};
 
 /// A rule that may be broken.
 #[derive(Clone, Copy)]

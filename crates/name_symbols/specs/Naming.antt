@@ -5,7 +5,7 @@ use Rattle.ada_base.specs.Tokens.{Tokenized, kind_at, slice_at}
 use Rattle.ada_base.specs.declared.token.Kind.{Kind}
 use Rattle.ada_base.specs.declared.token.Kind.TheVariants as kind
 use Rattle.ada_base.specs.declared.token.Token.{Token}
-use Rattle.ada_tree.specs.Syntax.{DeclUnit, Program, SubUnit, Unit'}
+use Rattle.syntax_tree.specs.Syntax.{DeclUnit, Program, SubUnit, Unit'}
 use Rattle.name_rules.specs.Symbols.{known}
 use Rattle.name_rules.specs.declared.scope.Names.{Names}
 use Rattle.std.specs.List.{between}

@@ -2,15 +2,15 @@
 
 ghost use Rattle.std.specs.Prelude.{◌≡◌, ◌+◌, IfOk};
 ghost use Rattle.name_symbols.specs.Naming as spec;
-ghost use Rattle.tree_nodes.specs.Parts.{the_program, the_unit, the_units};
-ghost use Rattle.tree_nodes.specs.Tables.{part_at};
+ghost use Rattle.syntax_nodes.specs.Parts.{the_program, the_unit, the_units};
+ghost use Rattle.syntax_nodes.specs.Tables.{part_at};
 
 use crate::symbols::symbols_of;
 use crate::texts::{texts_of, values_of};
 use ada_base::Tokens;
 use name_rules::scope::Names;
 use std::alloc::{AllocError, Global};
-use tree_nodes::{Tree, Unit};
+use syntax_nodes::{Tree, Unit};
 
 fn one_sub(tree: &Tree, id: u32) -> u32
     ensures { result ≡ spec.one_sub (the_unit (part_at tree.now.nodes id)) }

@@ -1,11 +1,11 @@
 -- Subtypes taken one by one.
 use Rattle.std.proofs.Common.{◌≡◌, sym, ◌∙◌, append-nil, ℕ, ◌+◌, List, [], ◌∷◌, ◌++◌, Some, None, drop}
 use Rattle.std.specs.Prelude.{map, slice_get}
-use Rattle.ada_typed.specs.Decoded.{Part, part_at}
-use Rattle.ada_typed.specs.Programs.{subtype_of}
-use Rattle.ada_typed.specs.Syntax as typed
-use Rattle.ada_typed.specs.declared.node.Node.{Node}
-use Rattle.ada_typed.specs.declared.program.Subtype.{Subtype}
+use Rattle.typed_tree.specs.Decoded.{Part, part_at}
+use Rattle.typed_tree.specs.Programs.{subtype_of}
+use Rattle.typed_tree.specs.Syntax as typed
+use Rattle.typed_tree.specs.declared.node.Node.{Node}
+use Rattle.typed_tree.specs.declared.program.Subtype.{Subtype}
 use Rattle.name_rules.specs.declared.log.Shape.{Shape}
 use Rattle.name_tables.proofs.Lists.{append_one, drop_get, drop_none, map_one}
 use Rattle.name_tables.specs.Shapes.{rest_of, with_part, with_parts}

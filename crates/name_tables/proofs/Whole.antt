@@ -1,11 +1,11 @@
 -- A typed program whose tables are those that were found.
 use Rattle.std.proofs.Common.{◌≡◌, refl, sym, ap, ◌∙◌, List, ◌∷◌}
 use Rattle.std.specs.Prelude.{map}
-use Rattle.ada_typed.specs.Decoded.{Part, as_body, body_at, part_at}
-use Rattle.ada_typed.specs.Programs.{program, sub_of, subtype_of}
-use Rattle.ada_typed.specs.declared.node.Node.{Node}
-use Rattle.ada_typed.specs.declared.typed.Typed.{Typed}
-use Rattle.ada_typed.specs.Latest.{pop, top}
+use Rattle.typed_tree.specs.Decoded.{Part, as_body, body_at, part_at}
+use Rattle.typed_tree.specs.Programs.{program, sub_of, subtype_of}
+use Rattle.typed_tree.specs.declared.node.Node.{Node}
+use Rattle.typed_tree.specs.declared.typed.Typed.{Typed}
+use Rattle.typed_tree.specs.Latest.{pop, top}
 use Rattle.name_rules.specs.Resolved.{typed_by, typed_subtype}
 use Rattle.name_rules.specs.declared.log.Log.{Log}
 use Rattle.name_tables.specs.Heads.{subs_of, whole_of}

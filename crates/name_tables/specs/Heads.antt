@@ -1,8 +1,8 @@
 -- The subprograms of a typed program, of what is known of them and of their parts.
 use Rattle.std.specs.Prelude.{Bool, List, [], ◌∷◌, reverse}
-use Rattle.ada_typed.specs.Decoded.{Part, as_body, as_formals}
-use Rattle.ada_typed.specs.Syntax.{Sub}
-use Rattle.ada_typed.specs.Latest.{top, pop, second}
+use Rattle.typed_tree.specs.Decoded.{Part, as_body, as_formals}
+use Rattle.typed_tree.specs.Syntax.{Sub}
+use Rattle.typed_tree.specs.Latest.{top, pop, second}
 use Rattle.name_rules.specs.Programs.{Whole}
 use Rattle.name_tables.specs.declared.heads.Head.{Head}
 

@@ -1,9 +1,9 @@
 -- The subtypes of a typed program, of the table of subtypes and of a part for each, which is the list of an array's
 -- bounds or of a record's components.
 use Rattle.std.specs.Prelude.{List, [], ◌∷◌}
-use Rattle.ada_typed.specs.Decoded.{Part, as_bounds, as_fields}
-use Rattle.ada_typed.specs.Syntax.{Subtype, OfScalar, Array, Record}
-use Rattle.ada_typed.specs.Latest.{top, pop}
+use Rattle.typed_tree.specs.Decoded.{Part, as_bounds, as_fields}
+use Rattle.typed_tree.specs.Syntax.{Subtype, OfScalar, Array, Record}
+use Rattle.typed_tree.specs.Latest.{top, pop}
 use Rattle.name_rules.specs.Types.{typed_scalar}
 use Rattle.name_rules.specs.declared.log.Shape.{Shape}
 use Rattle.name_rules.specs.declared.log.Shape.TheVariants as shape

@@ -1,14 +1,14 @@
 //! Subprograms: what is known of each, and the numbers of its parts.
 
 ghost use Rattle.std.specs.Prelude.{◌≡◌, IfOk, map};
-ghost use Rattle.ada_typed.specs.Programs.{sub_of};
+ghost use Rattle.typed_tree.specs.Programs.{sub_of};
 ghost use Rattle.name_tables.specs.Heads.{subs_of};
 ghost use Rattle.typed_parts.specs.Stack.{parts_in};
 
 use ada_base::Items;
-use ada_typed::{Scalar, Sub};
 use std::alloc::{AllocError, Global};
 use typed_parts::Finished;
+use typed_tree::{Scalar, Sub};
 
 /// What is known of a subprogram beside its parts, which are the list of its formal parameters and its body: the subtype
 /// of a function's result, and whether it is nonblocking.

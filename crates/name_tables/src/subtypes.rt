@@ -1,20 +1,20 @@
 //! Subtypes (3.2.2): the lists of bounds and of components are parts, and each subtype has the number of its list.
 
 ghost use Rattle.std.specs.Prelude.{◌≡◌, ◌++◌, IfOk, OnOk, map};
-ghost use Rattle.ada_typed.specs.Decoded.{as_bounds, as_fields, part_at};
-ghost use Rattle.ada_typed.specs.Programs.{subtype_of};
-ghost use Rattle.ada_typed.specs.Latest.{pop, top};
+ghost use Rattle.typed_tree.specs.Decoded.{as_bounds, as_fields, part_at};
+ghost use Rattle.typed_tree.specs.Programs.{subtype_of};
+ghost use Rattle.typed_tree.specs.Latest.{pop, top};
 ghost use Rattle.name_rules.specs.Resolved.{dimension_bounds, typed_field, typed_subtype};
 ghost use Rattle.name_rules.specs.Types as types;
 ghost use Rattle.name_tables.specs.Shapes.{rest_of, with_part, with_parts};
 ghost use Rattle.typed_parts.specs.Stack.{parts, parts_in};
 
 use ada_base::{Base, Items};
-use ada_typed::{Bounds, Class, Leaf, Nodes, Subtype};
 use name_rules::log::{Dimension, Field, Shape};
 use name_rules::types::{Kind, Scalar};
 use std::alloc::{AllocError, Global};
 use typed_parts::{Finished, Parts};
+use typed_tree::{Bounds, Class, Leaf, Nodes, Subtype};
 
 fn class_of(kind: Kind) -> Class
     ensures { result ≡ types.class_of kind }
@@ -26,10 +26,10 @@ fn class_of(kind: Kind) -> Class
     }
 }
 
-fn typed_scalar(scalar: Scalar) -> ada_typed::Scalar
+fn typed_scalar(scalar: Scalar) -> typed_tree::Scalar
     ensures { result ≡ types.typed_scalar scalar }
 {
-    ada_typed::Scalar {
+    typed_tree::Scalar {
         class: class_of(scalar.kind),
         low: scalar.low,
         high: scalar.high,
@@ -68,7 +68,7 @@ fn fields_part(out: &mut Parts, fields: &Items<Field>) -> Result<(), AllocError>
         let Some(field) = fields.get(i) else {
             return Err(AllocError);
         };
-        out.also_leaf(Leaf::Field(ada_typed::Field {
+        out.also_leaf(Leaf::Field(typed_tree::Field {
             name: field.name,
             subtype: field.number,
         }))?;

@@ -1,7 +1,7 @@
 //! The typed program of what was found of a program.
 
 ghost use Rattle.std.specs.Prelude.{◌≡◌, IfOk};
-ghost use Rattle.ada_typed.specs.Programs as programs;
+ghost use Rattle.typed_tree.specs.Programs as programs;
 ghost use Rattle.name_rules.specs.Resolved.{typed_by};
 ghost use Rattle.name_tables.specs.Heads.{whole_of};
 ghost use Rattle.typed_parts.specs.Stack.{parts};
@@ -9,10 +9,10 @@ ghost use Rattle.typed_parts.specs.Stack.{parts};
 use crate::heads::{Head, subs_taken};
 use crate::subtypes::{shape_parts, subtypes_taken};
 use ada_base::Items;
-use ada_typed::Typed;
 use name_rules::log::Log;
 use std::alloc::AllocError;
 use typed_parts::Parts;
+use typed_tree::Typed;
 
 /// The typed program: its latest part is its body, and before it are those of its subprograms.
 pub fn typed(

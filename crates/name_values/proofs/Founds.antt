@@ -1,7 +1,7 @@
 -- Operands by their parts.
 use Rattle.std.proofs.Common.{◌≡◌, ◌≢◌, refl, ap, ℕ, List, [], ◌∷◌, ◌++◌, None, reverse, length, arith, length-append}
 use Rattle.std.proofs.lemmas.List.{reverse-append, length-reverse}
-use Rattle.ada_typed.specs.Decoded.{Cons, Part}
+use Rattle.typed_tree.specs.Decoded.{Cons, Part}
 use Rattle.name_rules.specs.Calls.{one_operand}
 use Rattle.name_rules.specs.Found.{Found}
 use Rattle.name_rules.specs.Judges.{found}

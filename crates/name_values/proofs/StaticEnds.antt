@@ -1,7 +1,7 @@
 -- The values of two static bounds, by what takes a type without its part.
 use Rattle.std.proofs.Common.{◌≡◌, refl, sym, ◌∙◌, ℤ, Option, Some, None}
-use Rattle.ada_typed.specs.Decoded.{Part}
-use Rattle.ada_typed.specs.declared.statements.Span.{Span}
+use Rattle.typed_tree.specs.Decoded.{Part}
+use Rattle.typed_tree.specs.declared.statements.Span.{Span}
 use Rattle.name_rules.specs.Judging.{given, some}
 use Rattle.name_rules.specs.Ranges.{both_static}
 use Rattle.name_rules.specs.declared.found.Found.{Found as Known}

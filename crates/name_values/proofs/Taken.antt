@@ -1,7 +1,7 @@
 -- What judges static values without their parts judges as the rules do.
 use Rattle.std.proofs.Common.{◌≡◌, refl, sym, ℕ, ℤ, Bool, true, false, not, ◌&&◌, Option, Some, None, is_some, if◌then◌else◌}
-use Rattle.ada_typed.specs.Decoded.{Part, as_expr}
-use Rattle.ada_typed.specs.Syntax.{Expr, Selections}
+use Rattle.typed_tree.specs.Decoded.{Part, as_expr}
+use Rattle.typed_tree.specs.Syntax.{Expr, Selections}
 use Rattle.name_rules.specs.Judging.{Judging, both, fault, given, pure, some, ◌>>=◌}
 use Rattle.name_rules.specs.Ranges.{both_static, checked_span, preferred, spanned, static_bounds, static_checked}
 use Rattle.name_rules.specs.Types.{in_base, is_integer, same}

@@ -1,6 +1,6 @@
 -- The values of two static bounds.
 use Rattle.std.specs.Prelude.{Option, option_map, ℤ}
-use Rattle.ada_typed.specs.declared.statements.Span.{Span}
+use Rattle.typed_tree.specs.declared.statements.Span.{Span}
 
 abbrev pub ends : Span → ℤ × ℤ
 ends s = (s.low, s.high)

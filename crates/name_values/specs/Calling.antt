@@ -1,7 +1,7 @@
 -- What is found of the arguments of a call, with its parts: the actual parameters so far are a list that grows.
 use Rattle.std.specs.Prelude.{◌≡◌, ◌+◌, ◌||◌, ◌∷◌, ◌++◌, [], ℕ, Bool, List, Option, Some, None, Result, Ok, Err, is_some, reverse}
-use Rattle.ada_typed.specs.Decoded.{Part}
-use Rattle.ada_typed.specs.Latest.{top, pop}
+use Rattle.typed_tree.specs.Decoded.{Part}
+use Rattle.typed_tree.specs.Latest.{top, pop}
 use Rattle.name_rules.specs.Calls.{Calling, late_at}
 use Rattle.name_rules.specs.Judges.{part_if}
 use Rattle.name_rules.specs.declared.log.Log.{Log}

@@ -1,10 +1,10 @@
 -- What the choices of a case statement cover (5.4), and what handlers handle (11.2), as they are held.
 use Rattle.std.specs.Prelude.{◌≡◌, ℕ, Bool, true, false, List, [], Option, Some, None, Result, Ok, Err, option_map, reverse}
 use Rattle.ada_base.specs.declared.reason.Reason.{Reason}
-use Rattle.ada_tree.specs.Syntax.{Pack}
-use Rattle.ada_typed.specs.Decoded.{Part, as_reasons}
-use Rattle.ada_typed.specs.Syntax as typed
-use Rattle.ada_typed.specs.Latest.{top, pop}
+use Rattle.syntax_tree.specs.Syntax.{Pack}
+use Rattle.typed_tree.specs.Decoded.{Part, as_reasons}
+use Rattle.typed_tree.specs.Syntax as typed
+use Rattle.typed_tree.specs.Latest.{top, pop}
 use Rattle.name_rules.specs.Cases as cases
 use Rattle.name_rules.specs.Judging.{Judging, pure, unless, ◌>>=◌}
 use Rattle.name_rules.specs.Names.{exception}

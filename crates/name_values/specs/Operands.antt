@@ -1,6 +1,6 @@
 -- Operands that have no parameter, with their parts: these are a list that grows.
 use Rattle.std.specs.Prelude.{List, [], ◌∷◌, ◌++◌, Bool, true, false, Option, Some, None, reverse}
-use Rattle.ada_typed.specs.Decoded.{Part}
+use Rattle.typed_tree.specs.Decoded.{Part}
 use Rattle.name_rules.specs.Found.{Found}
 use Rattle.name_rules.specs.Judges.{found}
 use Rattle.name_rules.specs.declared.found.Found.{Found as Known}

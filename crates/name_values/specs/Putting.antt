@@ -1,8 +1,8 @@
 -- What is found of the arguments of Put, with its parts: the item and then the width.
 use Rattle.std.specs.Prelude.{◌≡◌, ℕ, List, Option, Result, Ok, Err}
-use Rattle.ada_tree.specs.Syntax.{Args}
-use Rattle.ada_typed.specs.Decoded.{Part}
-use Rattle.ada_typed.specs.Latest.{pop, second, top}
+use Rattle.syntax_tree.specs.Syntax.{Args}
+use Rattle.typed_tree.specs.Decoded.{Part}
+use Rattle.typed_tree.specs.Latest.{pop, second, top}
 use Rattle.name_rules.specs.Found.{Denoted, Found}
 use Rattle.name_rules.specs.Judges.{part_if}
 use Rattle.name_rules.specs.Judging.{Judging, given, ◌>>=◌}

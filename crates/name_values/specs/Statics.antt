@@ -1,8 +1,8 @@
 -- Static values (4.9) that take a type, without their parts; and the values of choices (3.8.1).
 use Rattle.std.specs.Prelude.{◌≡◌, ℕ, ℤ, Bool, true, false, List, Option, Some, None, Result, Ok, Err, if◌then◌else◌, option_map, ◌&&◌}
-use Rattle.ada_typed.specs.Decoded.{Part}
-use Rattle.ada_typed.specs.declared.statements.Span.{Span}
-use Rattle.ada_typed.specs.Latest.{top, pop}
+use Rattle.typed_tree.specs.Decoded.{Part}
+use Rattle.typed_tree.specs.declared.statements.Span.{Span}
+use Rattle.typed_tree.specs.Latest.{top, pop}
 use Rattle.name_rules.specs.Found.{Found}
 use Rattle.name_rules.specs.Judges.{found_of}
 use Rattle.name_rules.specs.Judging.{Judging, breaks, pure, unless, ◌>>=◌}

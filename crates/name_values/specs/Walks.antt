@@ -1,10 +1,10 @@
 -- What iterations go through (5.5, 5.5.2), as it is held until a filter completes it.
 use Rattle.std.specs.Prelude.{◌≡◌, ℕ, List, Option, Some, None, Result, Ok, Err}
-use Rattle.ada_tree.specs.Syntax.{OptionalExpr}
-use Rattle.ada_typed.specs.Decoded as part
-use Rattle.ada_typed.specs.Decoded.{Part}
-use Rattle.ada_typed.specs.Syntax as typed
-use Rattle.ada_typed.specs.Latest.{top, second, pop}
+use Rattle.syntax_tree.specs.Syntax.{OptionalExpr}
+use Rattle.typed_tree.specs.Decoded as part
+use Rattle.typed_tree.specs.Decoded.{Part}
+use Rattle.typed_tree.specs.Syntax as typed
+use Rattle.typed_tree.specs.Latest.{top, second, pop}
 use Rattle.name_rules.specs.Iterations as iterations
 use Rattle.name_rules.specs.Judges.{part_if}
 use Rattle.name_rules.specs.Judging.{Judging, breaks, pure, ◌>>=◌}
@@ -19,9 +19,9 @@ use Rattle.name_values.specs.declared.walks.Entering.{Entering}
 use Rattle.name_values.specs.declared.walks.Walked.{Walked}
 use Rattle.name_values.specs.declared.walks.Way.TheVariants as way
 use Rattle.name_values.specs.declared.walks.Way.{Way}
-use Rattle.tree_nodes.specs.Tables.{part_at}
-use Rattle.tree_nodes.specs.declared.nodes.Node.{Node}
-use Rattle.tree_nodes.specs.Views.{optional_expr}
+use Rattle.syntax_nodes.specs.Tables.{part_at}
+use Rattle.syntax_nodes.specs.declared.nodes.Node.{Node}
+use Rattle.syntax_nodes.specs.Views.{optional_expr}
 
 -- an iteration without its filter, by its bounds or the selections of its array
 abbrev pub made_by : Way → Part → Part

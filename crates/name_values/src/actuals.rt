@@ -2,8 +2,8 @@
 
 ghost use Rattle.std.specs.Prelude.{◌≡◌, ◌==◌, ◌∷◌, IfOk, OnOk, reverse};
 ghost use Rattle.std.specs.List.{list_any, position};
-ghost use Rattle.ada_typed.specs.Decoded as part;
-ghost use Rattle.ada_typed.specs.Latest.{pop, second, top};
+ghost use Rattle.typed_tree.specs.Decoded as part;
+ghost use Rattle.typed_tree.specs.Latest.{pop, second, top};
 ghost use Rattle.name_rules.specs.Calls as spec;
 ghost use Rattle.name_rules.specs.Judges.{Gives, Judges, Says, found, part_if};
 ghost use Rattle.name_rules.specs.Judging.{some};
@@ -16,13 +16,13 @@ use crate::symbols::symbol;
 use crate::types::{same, typed_scalar};
 use crate::values::first_of;
 use ada_base::Items;
-use ada_typed::Mode;
 use name_rules::found::{Denoted, Found, Place};
 use name_rules::log::{Log, Rule, Taken};
 use name_rules::scope::Names;
 use name_rules::types::{Scalar, Subtype};
 use std::alloc::{AllocError, Global};
 use typed_parts::Parts;
+use typed_tree::Mode;
 
 /// What was found of the arguments of a call so far: how many, the numbers of the parameters that were given, whether
 /// an argument had a name, the first one without a name after that, and whether each has its actual parameter. Their

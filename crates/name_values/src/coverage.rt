@@ -1,8 +1,8 @@
 //! Which values the choices of a case statement cover (5.4).
 
 ghost use Rattle.std.specs.Prelude.{◌≡◌, [], OnOk, false, int_le, option_map, reverse, ◌&&◌};
-ghost use Rattle.ada_typed.specs.Decoded.{as_spans};
-ghost use Rattle.ada_typed.specs.Latest.{pop, second, top, turned};
+ghost use Rattle.typed_tree.specs.Decoded.{as_spans};
+ghost use Rattle.typed_tree.specs.Latest.{pop, second, top, turned};
 ghost use Rattle.name_rules.specs.Aggregates.{sorted};
 ghost use Rattle.name_rules.specs.Cases as spec;
 ghost use Rattle.name_rules.specs.Judges.{Says, found_of};
@@ -14,11 +14,11 @@ ghost use Rattle.typed_parts.specs.Stack.{parts};
 use crate::logs::{also_all, breaks};
 use crate::statics::Chosen;
 use ada_base::Items;
-use ada_typed::{Leaf, Span};
 use name_rules::log::{Log, Rule};
 use name_rules::types::Scalar;
 use std::alloc::{AllocError, Global};
 use typed_parts::Parts;
+use typed_tree::{Leaf, Span};
 
 /// What the choices of a case statement have covered so far: ranges with a value, in the order of the text; whether a
 /// choice has a fault; and whether one is `others`.

@@ -9,7 +9,7 @@ ghost use Rattle.name_rules.specs.Values as spec;
 ghost use Rattle.name_rules.specs.Values.{bounded};
 
 use ada_base::Op;
-use ada_typed::Sign;
+use typed_tree::Sign;
 
 /// The result of an operation, or None where there is none or it isn't in 128 bits.
 #[tactic(auto, unfolding(name_rules::specs::Values::exact))]

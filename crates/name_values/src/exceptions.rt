@@ -4,9 +4,9 @@ ghost use Rattle.std.specs.Prelude.{◌≡◌, OnOk};
 ghost use Rattle.name_rules.specs.Judges.{Judges, Says, found_of};
 ghost use Rattle.name_rules.specs.Judging.{given};
 ghost use Rattle.name_rules.specs.Names as spec;
-ghost use Rattle.tree_nodes.specs.Parts.{the_pack, the_token, the_tokens};
-ghost use Rattle.tree_nodes.specs.Tables.{part_at};
-ghost use Rattle.ada_typed.specs.Latest.{pop, top};
+ghost use Rattle.syntax_nodes.specs.Parts.{the_pack, the_token, the_tokens};
+ghost use Rattle.syntax_nodes.specs.Tables.{part_at};
+ghost use Rattle.typed_tree.specs.Latest.{pop, top};
 ghost use Rattle.typed_parts.specs.Stack.{parts};
 
 use crate::logs::breaks;
@@ -17,7 +17,7 @@ use name_rules::found::Denoted;
 use name_rules::log::{Log, Rule};
 use name_rules::scope::{Context, Names};
 use std::alloc::AllocError;
-use tree_nodes::Tree;
+use syntax_nodes::Tree;
 use typed_parts::Parts;
 
 fn field_of_pack(

@@ -1,24 +1,24 @@
 //! Which exceptions a handler handles (11.2).
 
 ghost use Rattle.std.specs.Prelude.{◌≡◌, ◌∷◌, OnOk, reverse};
-ghost use Rattle.ada_typed.specs.Decoded.{as_reasons};
-ghost use Rattle.ada_typed.specs.Latest.{pop, top};
+ghost use Rattle.typed_tree.specs.Decoded.{as_reasons};
+ghost use Rattle.typed_tree.specs.Latest.{pop, top};
 ghost use Rattle.name_rules.specs.Cases as spec;
 ghost use Rattle.name_values.specs.Coverage.{Handles, NamesOnce, as_naming, named_next, these_handled as these_handled_by};
 ghost use Rattle.std.specs.List.{list_any};
-ghost use Rattle.tree_nodes.specs.Parts.{the_handled, the_pack, the_packs};
-ghost use Rattle.tree_nodes.specs.Tables.{part_at};
+ghost use Rattle.syntax_nodes.specs.Parts.{the_handled, the_pack, the_packs};
+ghost use Rattle.syntax_nodes.specs.Tables.{part_at};
 ghost use Rattle.typed_parts.specs.Stack.{parts};
 
 use crate::exceptions::exception;
 use crate::logs::breaks;
 use ada_base::{Items, Reason};
-use ada_typed::Leaf;
 use name_rules::log::{Log, Rule};
 use name_rules::scope::{Context, Names};
 use std::alloc::AllocError;
-use tree_nodes::{Handled, Tree};
+use syntax_nodes::{Handled, Tree};
 use typed_parts::Parts;
+use typed_tree::Leaf;
 
 /// What a handler handles: what has a fault; all exceptions that no handler before it does; or those of a list.
 #[derive(Clone, Copy)]

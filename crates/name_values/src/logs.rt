@@ -1,8 +1,8 @@
 //! What is written on the way, and what is left where a rule is broken.
 
 ghost use Rattle.std.specs.Prelude.{◌≡◌, ◌∷◌, OnOk};
-ghost use Rattle.ada_typed.specs.Decoded as part;
-ghost use Rattle.ada_typed.specs.Latest.{pop, second, top, turned};
+ghost use Rattle.typed_tree.specs.Decoded as part;
+ghost use Rattle.typed_tree.specs.Latest.{pop, second, top, turned};
 ghost use Rattle.name_rules.specs.Judges.{Gives, Judges};
 ghost use Rattle.name_rules.specs.Judging.{breaks, fault};
 ghost use Rattle.name_rules.specs.TypedParts.{also_all};

@@ -1,9 +1,9 @@
 //! Names (4.1): what follows an identifier.
 
 ghost use Rattle.std.specs.Prelude.{◌≡◌, ◌∷◌, OnOk, slice_get};
-ghost use Rattle.ada_typed.specs.Decoded.{ASelection};
-ghost use Rattle.ada_typed.specs.Syntax as typed;
-ghost use Rattle.ada_typed.specs.Latest.{pop, top};
+ghost use Rattle.typed_tree.specs.Decoded.{ASelection};
+ghost use Rattle.typed_tree.specs.Syntax as typed;
+ghost use Rattle.typed_tree.specs.Latest.{pop, top};
 ghost use Rattle.name_rules.specs.Judges.{Judges, found};
 ghost use Rattle.name_rules.specs.Judging.{fault};
 ghost use Rattle.name_rules.specs.Names as spec;

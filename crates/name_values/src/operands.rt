@@ -4,7 +4,7 @@ ghost use Rattle.std.specs.Prelude.{◌≡◌, ◌∷◌, [], IfOk, None};
 ghost use Rattle.name_rules.specs.Calls as spec;
 ghost use Rattle.name_rules.specs.Judges.{Judges, found, found_of};
 ghost use Rattle.name_values.specs.Operands.{founds, operands_of};
-ghost use Rattle.ada_typed.specs.Latest.{pop, second, top};
+ghost use Rattle.typed_tree.specs.Latest.{pop, second, top};
 ghost use Rattle.typed_parts.specs.Stack.{parts};
 
 use crate::names::wrong_name;

@@ -2,8 +2,8 @@
 //! in their place. A wrong operand is blamed at the operator.
 
 ghost use Rattle.std.specs.Prelude.{◌≡◌, ◌∷◌, OnOk};
-ghost use Rattle.ada_typed.specs.Decoded as part;
-ghost use Rattle.ada_typed.specs.Latest.{pop, second, top};
+ghost use Rattle.typed_tree.specs.Decoded as part;
+ghost use Rattle.typed_tree.specs.Latest.{pop, second, top};
 ghost use Rattle.name_rules.specs.Judges.{Judges, Opens, found, found_of};
 ghost use Rattle.name_rules.specs.Judging.{pure};
 ghost use Rattle.name_rules.specs.Operators as spec;
@@ -17,12 +17,12 @@ use crate::values::{
     asked, first_of, fitting, is_number, kind_of, literal, mentions, suits, value_of,
 };
 use ada_base::Op;
-use ada_typed::{Class, Sign};
 use name_rules::found::{Found, Limits};
 use name_rules::log::{Log, Rule};
 use name_rules::types::Kind;
 use std::alloc::AllocError;
 use typed_parts::Parts;
+use typed_tree::{Class, Sign};
 
 /// A static value of a type, with what is mentioned as the latest part: StaticRange where there is none in the type's
 /// base range.

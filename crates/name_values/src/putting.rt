@@ -9,9 +9,9 @@ ghost use Rattle.name_rules.specs.Values as values;
 ghost use Rattle.name_values.specs.Putting.{get_given, putting_of};
 ghost use Rattle.name_rules.specs.declared.log.Rule.TheVariants.{Twice};
 ghost use Rattle.name_values.specs.Calling.{Leaves};
-ghost use Rattle.tree_nodes.specs.Parts.{the_args};
-ghost use Rattle.tree_nodes.specs.Tables.{part_at};
-ghost use Rattle.ada_typed.specs.Latest.{pop, second, third, top};
+ghost use Rattle.syntax_nodes.specs.Parts.{the_args};
+ghost use Rattle.syntax_nodes.specs.Tables.{part_at};
+ghost use Rattle.typed_tree.specs.Latest.{pop, second, third, top};
 ghost use Rattle.typed_parts.specs.Stack.{parts};
 
 use crate::logs::{breaks, cleared, not_given};
@@ -19,13 +19,13 @@ use crate::names::wrong_name;
 use crate::types::{same, typed_scalar};
 use crate::values::{asked, first_of, literal, mentions, static_value, suits, value_of};
 use ada_base::Base;
-use ada_typed::Class;
 use name_rules::found::{Denoted, Found, Place, Put, Reach};
 use name_rules::log::{Log, Rule};
 use name_rules::types::{Kind, Subtype};
 use std::alloc::AllocError;
-use tree_nodes::Tree;
+use syntax_nodes::Tree;
 use typed_parts::Parts;
+use typed_tree::Class;
 
 /// What was found of the arguments of Put of a number: how many, whether the item could be judged, and whether there
 /// was a width and it could. The item and the width are the latest parts.

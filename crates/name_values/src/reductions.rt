@@ -1,8 +1,8 @@
 //! The rules of what a reduction folds by, its values and its initial value (4.5.10).
 
 ghost use Rattle.std.specs.Prelude.{◌≡◌, ◌∷◌, ◌&&◌, ◌||◌, OnOk, is_some, not};
-ghost use Rattle.ada_typed.specs.Decoded as part;
-ghost use Rattle.ada_typed.specs.Latest.{fourth, pop, second, third, top};
+ghost use Rattle.typed_tree.specs.Decoded as part;
+ghost use Rattle.typed_tree.specs.Latest.{fourth, pop, second, third, top};
 ghost use Rattle.name_rules.specs.Calls as calls;
 ghost use Rattle.name_rules.specs.Judges.{Judges, Says, found};
 ghost use Rattle.name_rules.specs.Judging.{fault, joined, pure};
@@ -21,13 +21,13 @@ use crate::symbols::{MAX, MIN, symbol};
 use crate::types::{class_of, same, typed_scalar};
 use crate::values::{asked, is_number, kind_of, suits};
 use ada_base::Op;
-use ada_typed::{Class, Reducer};
 use name_rules::found::{Denoted, Folding, Found, Going};
 use name_rules::log::{Log, Rule, Taken};
 use name_rules::scope::Names;
 use name_rules::types::{Kind, Scalar, Subtype};
 use std::alloc::AllocError;
 use typed_parts::Parts;
+use typed_tree::{Class, Reducer};
 
 /// Writes that what stands for a reducer is none.
 pub fn no_folding(log: &mut Log, at: u32) -> Result<Option<Folding>, AllocError>

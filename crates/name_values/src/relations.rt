@@ -5,7 +5,7 @@ ghost use Rattle.std.specs.Prelude.{◌≡◌};
 ghost use Rattle.name_rules.specs.Judges.{Judges, found, found_of};
 ghost use Rattle.name_rules.specs.Judging.{fault};
 ghost use Rattle.name_rules.specs.Operators as spec;
-ghost use Rattle.ada_typed.specs.Latest.{pop, second, third, top};
+ghost use Rattle.typed_tree.specs.Latest.{pop, second, third, top};
 ghost use Rattle.typed_parts.specs.Stack.{parts};
 
 use crate::logs::{also_all, no_part, no_parts};
@@ -13,12 +13,12 @@ use crate::operators::operation_on;
 use crate::types::class_of;
 use crate::values::{asked, first_of, is_kind, is_scalar, kind_of, suits};
 use ada_base::Op;
-use ada_typed::{Class, Comparison, Sign};
 use name_rules::found::Found;
 use name_rules::log::{Log, Rule};
 use name_rules::types::{Kind, Scalar};
 use std::alloc::AllocError;
 use typed_parts::Parts;
+use typed_tree::{Class, Comparison, Sign};
 
 /// `not`, which takes a Boolean: WrongType at the operator.
 #[tactic(auto, unfolding(name_rules::specs::Operators::not_of))]

@@ -11,7 +11,6 @@ use crate::symbols::{
     ADA, DATA_ERROR, END_ERROR, GET, INTEGER_IO, NEW_LINE, PUT, PUT_LINE, TEXT_IO, symbol,
 };
 use ada_base::{Items, Reason};
-use ada_typed::Root;
 use name_rules::entries::Entries;
 use name_rules::found::{Denoted, Found, Place, Put, Reach};
 use name_rules::log::{Log, Rule};
@@ -19,6 +18,7 @@ use name_rules::scope::{Context, Entry, Names, Packages, What};
 use name_rules::types::{Kind, Scalar, Subtype};
 use std::alloc::AllocError;
 use typed_parts::Parts;
+use typed_tree::Root;
 
 /// What a symbol stands for: of several declarations of a name the one that was made last.
 pub fn lookup(name: u32, scope: &Entries) -> Option<What>

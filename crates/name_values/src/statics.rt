@@ -7,7 +7,7 @@ ghost use Rattle.name_rules.specs.Ranges as spec;
 ghost use Rattle.name_rules.specs.Types as types;
 ghost use Rattle.name_rules.specs.Values as values;
 ghost use Rattle.name_values.specs.Statics as statics;
-ghost use Rattle.ada_typed.specs.Latest.{pop, second, top};
+ghost use Rattle.typed_tree.specs.Latest.{pop, second, top};
 ghost use Rattle.typed_parts.specs.Stack.{parts};
 
 use crate::logs::breaks;
@@ -16,12 +16,12 @@ use crate::operators::both_mentions;
 use crate::relations::common_kind;
 use crate::types::{in_base, is_integer, lies_in, same};
 use crate::values::{beyond, first_of, is_number, kind_of, mentions, static_value, suits};
-use ada_typed::Span;
 use name_rules::found::{Denoted, Found, Place};
 use name_rules::log::{Dimension, Log, Rule};
 use name_rules::types::{Kind, Scalar, Subtype};
 use std::alloc::AllocError;
 use typed_parts::Parts;
+use typed_tree::Span;
 
 /// The values of a choice, from the first to the last, with its first token.
 #[derive(Clone, Copy)]

@@ -5,10 +5,10 @@ ghost use Rattle.name_rules.specs.Judges.{Says};
 ghost use Rattle.name_rules.specs.Types as spec;
 
 use ada_base::Base;
-use ada_typed::{Check, Class};
 use name_rules::log::{Log, Shape};
 use name_rules::types::{Kind, Scalar, Subtype, Wanted};
 use std::alloc::AllocError;
+use typed_tree::{Check, Class};
 
 /// Whether two types are the same: each declaration makes a type of its own (3.2.1).
 pub fn same(a: Kind, b: Kind) -> bool
@@ -85,10 +85,10 @@ pub fn lies_in(scalar: Scalar, z: i128) -> bool
 }
 
 /// A subtype as the typed program has it.
-pub fn typed_scalar(scalar: Scalar) -> ada_typed::Scalar
+pub fn typed_scalar(scalar: Scalar) -> typed_tree::Scalar
     ensures { result ≡ spec.typed_scalar scalar }
 {
-    ada_typed::Scalar {
+    typed_tree::Scalar {
         class: class_of(scalar.kind),
         low: scalar.low,
         high: scalar.high,

@@ -1,8 +1,8 @@
 //! What iterations go through, and their chunk specifications (5.5, 5.5.2).
 
 ghost use Rattle.std.specs.Prelude.{◌≡◌, ◌/◌, IfOk, OnOk, is_some, length, not, option_map};
-ghost use Rattle.ada_typed.specs.Decoded.{as_check};
-ghost use Rattle.ada_typed.specs.Latest.{pop, second, top};
+ghost use Rattle.typed_tree.specs.Decoded.{as_check};
+ghost use Rattle.typed_tree.specs.Latest.{pop, second, top};
 ghost use Rattle.name_rules.specs.Iterations as spec;
 ghost use Rattle.name_rules.specs.Judges.{Gives, Says, found_of, part_if};
 ghost use Rattle.name_rules.specs.Judging.{joined, pure};
@@ -11,9 +11,9 @@ ghost use Rattle.name_rules.specs.Parts as whole;
 ghost use Rattle.name_rules.specs.TypedParts.{selections_of};
 ghost use Rattle.name_rules.specs.Types as types;
 ghost use Rattle.name_values.specs.Walks.{Chunks, Walks, as_walked, entry_of, made_of, over_wrong};
-ghost use Rattle.tree_nodes.specs.Parts.{the_parallel};
-ghost use Rattle.tree_nodes.specs.Tables.{part_at};
-ghost use Rattle.tree_nodes.specs.Views.{optional_expr};
+ghost use Rattle.syntax_nodes.specs.Parts.{the_parallel};
+ghost use Rattle.syntax_nodes.specs.Tables.{part_at};
+ghost use Rattle.syntax_nodes.specs.Views.{optional_expr};
 ghost use Rattle.typed_parts.specs.Stack.{parts};
 
 use crate::arrays::component_cells;
@@ -22,14 +22,14 @@ use crate::names::{cells_in, component_of, denoted_first, is_array};
 use crate::scope::{is_taken, with_entry};
 use crate::symbols::symbol;
 use crate::types::check_at;
-use ada_typed::{Check, Root, Site, SiteKind};
 use name_rules::found::{Bounded, Denoted, Found, Place};
 use name_rules::log::{Log, Rule, Shape};
 use name_rules::scope::{Context, Names, What};
 use name_rules::types::Subtype;
 use std::alloc::AllocError;
-use tree_nodes::{Parallel, Tree};
+use syntax_nodes::{Parallel, Tree};
 use typed_parts::Parts;
+use typed_tree::{Check, Root, Site, SiteKind};
 
 /// The components of an array that an iteration goes through (5.5.2): its item, whether that is a constant, the array's
 /// first token and root, how many components there are, how many cells apart, and how many dimensions.

@@ -5,7 +5,7 @@ use Rattle.run_store.specs.Outside.{Outside}
 use Rattle.run_store.specs.Shows.{Image, Shows, entity_of}
 use Rattle.run_store.specs.declared.ends.End.{End}
 use Rattle.run_store.proofs.Going.{goes_refl, goes_ends, stays, then_shows}
-use Rattle.ada_typed.specs.declared.scalars.Check.{Check}
+use Rattle.typed_tree.specs.declared.scalars.Check.{Check}
 use Rattle.behaviours.specs.Paths.{Entity}
 use Rattle.ada_meaning.specs.Stored.{bind, ret}
 use Rattle.run_parts.specs.declared.work.Work.{Work}

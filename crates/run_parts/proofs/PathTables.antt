@@ -2,9 +2,9 @@
 use Rattle.std.proofs.Common.{◌≡◌, ℕ, zero, suc, ◌<◌, List, [], ◌∷◌, ◌++◌, length, slice_get, Option, Some, None, IfSome, refl, ap, ap₂, subst, ◌∙◌, arith}
 use Rattle.std.proofs.lemmas.List.{map-append}
 use Rattle.std.proofs.lemmas.Option.{none-some}
-use Rattle.ada_typed.specs.declared.node.Node.{Node}
-use Rattle.ada_typed.specs.Decoded.{selections_at}
-use Rattle.ada_typed.specs.Syntax.{Selections}
+use Rattle.typed_tree.specs.declared.node.Node.{Node}
+use Rattle.typed_tree.specs.Decoded.{selections_at}
+use Rattle.typed_tree.specs.Syntax.{Selections}
 use Rattle.run_parts.specs.declared.paths.Path.{Path}
 use Rattle.run_parts.specs.Paths.{AreOf, AreWithin, path_at, path_in, paths_in, selections_by}
 

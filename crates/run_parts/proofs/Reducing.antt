@@ -1,8 +1,8 @@
 -- Formal parameters of a function that reduces.
 use Rattle.std.proofs.Common.{◌≡◌, ℕ, zero, suc, ◌-◌, ◌≤◌, ℤ, List, [], ◌∷◌, ◌++◌, Some, None, refl, sym, ap, ◌∙◌, arith}
-use Rattle.ada_typed.specs.Syntax.{Sub}
-use Rattle.ada_typed.specs.declared.program.Formal.{Formal}
-use Rattle.ada_typed.specs.Programs.{program}
+use Rattle.typed_tree.specs.Syntax.{Sub}
+use Rattle.typed_tree.specs.declared.program.Formal.{Formal}
+use Rattle.typed_tree.specs.Programs.{program}
 use Rattle.ada_meaning.specs.Meaning.{formal_at, formals_of, sub_at}
 use Rattle.run_parts.specs.declared.work.Work.{Work}
 use Rattle.run_parts.specs.declared.passed.Passed.{Passed}

@@ -2,7 +2,7 @@
 use Rattle.std.proofs.Common.{◌≡◌, ℕ, zero, suc, ◌+◌, ◌-◌, ◌<◌, ◌≤◌, ℤ, pos, List, [], ◌∷◌, ◌++◌, length, take, drop, set, slice_get, Some, None, refl, sym, subst, ap, ◌∙◌, arith, append_assoc}
 use Rattle.std.proofs.lemmas.List.{drop_more, drop_all}
 use Rattle.behaviours.specs.Paths.{Entity}
-use Rattle.ada_typed.specs.declared.scalars.Scalar.{Scalar}
+use Rattle.typed_tree.specs.declared.scalars.Scalar.{Scalar}
 use Rattle.ada_meaning.specs.Values.{laid, zeros}
 use Rattle.ada_meaning.specs.Stored.{Stored, bind, reads, writes}
 use Rattle.ada_meaning.proofs.Cells.{get_within}

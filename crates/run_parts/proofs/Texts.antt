@@ -1,9 +1,9 @@
 -- The bytes of a text, one after the other.
 use Rattle.std.proofs.Common.{◌≡◌, ℕ, List, [], ◌∷◌, ◌++◌, refl, sym, ap, ◌∙◌, append_assoc}
 use Rattle.std.proofs.lemmas.List.{append-nil}
-use Rattle.ada_typed.specs.declared.node.Leaf.{Leaf}
-use Rattle.ada_typed.specs.declared.node.Leaf.TheVariants as leaf
-use Rattle.ada_typed.specs.Decoded.{bytes_in}
+use Rattle.typed_tree.specs.declared.node.Leaf.{Leaf}
+use Rattle.typed_tree.specs.declared.node.Leaf.TheVariants as leaf
+use Rattle.typed_tree.specs.Decoded.{bytes_in}
 use Rattle.run_parts.specs.Words.{text_with}
 
 with_leaf : (text : List ℕ) (l : Leaf) (rest : List Leaf) → text_with text l ++ bytes_in rest ≡ text ++ bytes_in (l ∷ rest)

@@ -6,8 +6,8 @@ use Rattle.ada_meaning.specs.Values.{count}
 use Rattle.ada_meaning.specs.Meaning as meaning
 use Rattle.ada_meaning.specs.Meaning.{Env, with_parameter, cut_of, value_cut_of, most_threads, most_iterations}
 use Rattle.ada_meaning.specs.Stored.{Stored, sizes_of, bind, ret, is_spent}
-use Rattle.ada_typed.specs.declared.scalars.Check.{Check}
-use Rattle.ada_typed.specs.Syntax.{Arms, NoArm, Arm, Stmts}
+use Rattle.typed_tree.specs.declared.scalars.Check.{Check}
+use Rattle.typed_tree.specs.Syntax.{Arms, NoArm, Arm, Stmts}
 use Rattle.run_parts.specs.declared.chunks.Chunking.{Chunking}
 use Rattle.run_parts.specs.declared.chunks.Chunking.TheVariants as chunking
 use Rattle.run_parts.specs.declared.work.Work.{Work}

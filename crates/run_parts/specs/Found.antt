@@ -1,7 +1,7 @@
 -- The statements that a reason or a value leads to.
 use Rattle.std.specs.Prelude.{ℤ, Option, Some, None, ◌||◌, cond}
 use Rattle.ada_base.specs.declared.reason.Reason.{Reason}
-use Rattle.ada_typed.specs.Syntax.{Stmts, Handlers, NoHandler, Handler, Alternatives, NoAlternative, Alternative}
+use Rattle.typed_tree.specs.Syntax.{Stmts, Handlers, NoHandler, Handler, Alternatives, NoAlternative, Alternative}
 use Rattle.ada_meaning.specs.Values.{handles_reason, is_chosen}
 
 -- those of the first handler of a reason

@@ -1,6 +1,6 @@
 -- What code holds of actual parameters, calls and iterations.
 use Rattle.std.specs.Prelude.{ℕ, ℤ, ◌*◌, ◌+ℤ◌, ◌-ℤ◌, pos, List, [], ◌∷◌, map, Option, Some, None, cond}
-use Rattle.ada_typed.specs.declared.scalars.Scalar.{Scalar}
+use Rattle.typed_tree.specs.declared.scalars.Scalar.{Scalar}
 use Rattle.behaviours.specs.Paths.{ConstantOf}
 use Rattle.ada_meaning.specs.Values.{count}
 use Rattle.ada_meaning.specs.Meaning as meaning

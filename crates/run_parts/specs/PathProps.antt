@@ -3,9 +3,9 @@ use Rattle.std.specs.Prelude.{◌≡◌, ◌+ℤ◌, pos, List, Option, ⊤}
 use mathlib.Core.HLevel.{Π_prop, Unit-prop, ⊥_prop}
 use mathlib.Core.Path.{refl, subst⁻¹, path_j', PathP}
 use denote.Struct.Props as logic
-use Rattle.ada_typed.specs.declared.node.Node.{Node}
-use Rattle.ada_typed.specs.Decoded.{selections_at}
-use Rattle.ada_typed.specs.Syntax.{Parameter, Selections, Whole, Index}
+use Rattle.typed_tree.specs.declared.node.Node.{Node}
+use Rattle.typed_tree.specs.Decoded.{selections_at}
+use Rattle.typed_tree.specs.Syntax.{Parameter, Selections, Whole, Index}
 use Rattle.run_parts.specs.declared.paths.ParameterIndex.{ParameterIndex}
 use Rattle.run_parts.specs.declared.paths.Path.{Path}
 use Rattle.run_parts.specs.declared.paths.Path.TheVariants as path

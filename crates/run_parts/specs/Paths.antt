@@ -1,8 +1,8 @@
 -- Selections whose indexes are parameters of loops (4.1.1).
 use Rattle.std.specs.Prelude.{◌≡◌, ℕ, ◌+ℤ◌, ◌<◌, pos, List, map, slice_get, Option, Some, IfSome, option_and_then, All, length}
-use Rattle.ada_typed.specs.declared.node.Node.{Node}
-use Rattle.ada_typed.specs.Decoded.{selections_at}
-use Rattle.ada_typed.specs.Syntax.{Selections, Whole, Index, Parameter}
+use Rattle.typed_tree.specs.declared.node.Node.{Node}
+use Rattle.typed_tree.specs.Decoded.{selections_at}
+use Rattle.typed_tree.specs.Syntax.{Selections, Whole, Index, Parameter}
 use Rattle.run_parts.specs.declared.paths.ParameterIndex.{ParameterIndex}
 use Rattle.run_parts.specs.declared.paths.Path.{Path}
 use Rattle.run_parts.specs.declared.paths.Path.TheVariants as path

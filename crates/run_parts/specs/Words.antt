@@ -1,14 +1,14 @@
 -- What is computed beside the walk over nodes.
 use Rattle.std.specs.Prelude.{ℕ, ℤ, int_le, ◌&&◌, Bool, true, List, [], ◌∷◌, ◌++◌, slice_get, Option, Some, None, cond}
 use Rattle.ada_base.specs.Cuts.{cuts_of}
-use Rattle.ada_typed.specs.declared.program.Object.{Object}
+use Rattle.typed_tree.specs.declared.program.Object.{Object}
 use Rattle.behaviours.specs.Paths.{Entity}
-use Rattle.ada_typed.specs.declared.node.Node.{Node}
-use Rattle.ada_typed.specs.declared.node.Leaf.{Leaf}
-use Rattle.ada_typed.specs.declared.node.Leaf.TheVariants as leaf
-use Rattle.ada_typed.specs.declared.scalars.Scalar.{Scalar}
-use Rattle.ada_typed.specs.declared.scalars.Check.{Check}
-use Rattle.ada_typed.specs.Programs.{program}
+use Rattle.typed_tree.specs.declared.node.Node.{Node}
+use Rattle.typed_tree.specs.declared.node.Leaf.{Leaf}
+use Rattle.typed_tree.specs.declared.node.Leaf.TheVariants as leaf
+use Rattle.typed_tree.specs.declared.scalars.Scalar.{Scalar}
+use Rattle.typed_tree.specs.declared.scalars.Check.{Check}
+use Rattle.typed_tree.specs.Programs.{program}
 use Rattle.ada_meaning.specs.Values.{layout, is_in, defaults}
 use Rattle.ada_meaning.specs.Operations.{Operations}
 use Rattle.ada_meaning.specs.Meaning as meaning

@@ -1,15 +1,15 @@
 //! Operators with two operands, of which those of one level are nested to the left (4.5).
 
 ghost use Rattle.std.specs.Prelude.{◌≡◌, ◌≤◌};
-ghost use Rattle.ada_typed.specs.Chained.{linked, AreBelow};
-ghost use Rattle.ada_typed.specs.Decoded.{expr_at, part_at};
+ghost use Rattle.typed_tree.specs.Chained.{linked, AreBelow};
+ghost use Rattle.typed_tree.specs.Decoded.{expr_at, part_at};
 ghost use Rattle.run_store.specs.Shows.{OrNoMemory};
 ghost use Rattle.run_parts.specs.Words.{nodes_of};
 
 use crate::work::Work;
 use ada_base::Items;
-use ada_typed::Link;
 use run_store::End;
+use typed_tree::Link;
 
 /// An expression as operators over its first operand; the operator that is applied first stands last.
 #[derive(Drop)]

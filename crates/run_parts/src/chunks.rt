@@ -12,8 +12,8 @@ use crate::cells::placed;
 use crate::courses::bounds_hold;
 use crate::work::Work;
 use ada_base::Reason;
-use ada_typed::Check;
 use run_store::{End, Env, Leave, Port, Range, Store, last_of};
+use typed_tree::Check;
 
 // threads where no number is asked for
 const MOST_THREADS: u32 = 4096;

@@ -2,7 +2,7 @@
 
 ghost use Rattle.std.specs.Prelude.{◌≡◌, ◌+◌, ◌<◌, ◌||◌, IfSome, option_map};
 ghost use Rattle.run_parts.specs.Dealing.{spent};
-ghost use Rattle.ada_typed.specs.Decoded.{arms_at, stmts_at};
+ghost use Rattle.typed_tree.specs.Decoded.{arms_at, stmts_at};
 ghost use Rattle.ada_meaning.specs.Meaning.{arms_of};
 ghost use Rattle.ada_meaning.specs.Meaning as meaning;
 ghost use Rattle.run_store.specs.Environment.{env_of};

@@ -1,7 +1,7 @@
 //! Copies into and out of calls (6.4.1), and first cells of objects.
 
 ghost use Rattle.std.specs.Prelude.{◌≡◌, ◌++◌, ◌∷◌, [], drop, map, option_map, replicate, take};
-ghost use Rattle.ada_typed.specs.Programs.{program, sub_of};
+ghost use Rattle.typed_tree.specs.Programs.{program, sub_of};
 ghost use Rattle.ada_meaning.specs.Meaning as meaning;
 ghost use Rattle.run_store.specs.Shows.{Shows, OrNoMemory, entity_of};
 ghost use Rattle.run_parts.specs.Passing.{passed_list, back_option};
@@ -13,10 +13,10 @@ use crate::held::Cells;
 use crate::passed::{Back, Passed, Shape};
 use crate::work::Work;
 use ada_base::{Items, Reason};
-use ada_typed::{Check, Sub};
 use run_store::{End, Leave, Object, Port, Store, defaults_of, is_in};
 use std::alloc::Global;
 use std::marker::Model;
+use typed_tree::{Check, Sub};
 
 /// What is copied back of each parameter, in order, which contracts see as a list of lists. The empty ones in front take
 /// no memory.

@@ -7,8 +7,8 @@ ghost use Rattle.run_parts.specs.Passing.{course_of};
 ghost use Rattle.run_parts.specs.Words as spec;
 
 use crate::offsets::moved;
-use ada_typed::Check;
 use run_store::{End, Env, Part, Range, count, is_in, last_of};
+use typed_tree::Check;
 
 /// What an iteration goes through, once that is evaluated: the values of a range, or components of an array.
 #[derive(Clone, Copy)]

@@ -1,15 +1,15 @@
 //! Handlers and alternatives (5.4, 11.4).
 
 ghost use Rattle.std.specs.Prelude.{◌≡◌, ◌<◌, IfSome, option_map};
-ghost use Rattle.ada_typed.specs.Decoded.{alternatives_at, handlers_at, leaves_at, reasons_in, spans_in, stmts_at};
+ghost use Rattle.typed_tree.specs.Decoded.{alternatives_at, handlers_at, leaves_at, reasons_in, spans_in, stmts_at};
 ghost use Rattle.ada_meaning.specs.Values.{has_reason, is_chosen, reason_eq};
 ghost use Rattle.run_parts.specs.Found.{found_alternative, found_handler};
 ghost use Rattle.run_parts.specs.Words.{nodes_of};
 
 use crate::work::Work;
 use ada_base::Reason;
-use ada_typed::{Handler, Leaf};
 use run_store::between;
+use typed_tree::{Handler, Leaf};
 
 /// The statements of the first handler of a reason.
 pub fn find_handler(work: &Work<'_>, id: u32, reason: Reason) -> Option<u32>

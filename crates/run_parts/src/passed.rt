@@ -8,8 +8,8 @@ use crate::copies::BackCells;
 use crate::held::Cells;
 use crate::work::Work;
 use ada_base::Items;
-use ada_typed::{Check, Scalar};
 use run_store::{End, Object, Part};
+use typed_tree::{Check, Scalar};
 
 /// The subtypes of cells: a scalar's, or those of a whole array or record.
 #[derive(Clone, Copy)]

@@ -1,14 +1,14 @@
 //! Parts of arrays whose indexes are parameters of loops (4.1.1), which are found before a run.
 
 ghost use Rattle.std.specs.Prelude.{◌≡◌, ◌+ℤ◌, pos, [], ◌∷◌, ◌++◌, IfSome, OnErr, OnOk, option_copied};
-ghost use Rattle.ada_typed.specs.Decoded.{as_selection, part_at, selections_at};
-ghost use Rattle.ada_typed.specs.Syntax.{Selections};
+ghost use Rattle.typed_tree.specs.Decoded.{as_selection, part_at, selections_at};
+ghost use Rattle.typed_tree.specs.Syntax.{Selections};
 ghost use Rattle.run_parts.specs.Paths.{AreOf, index_by, path_at, selections_by};
 
 use ada_base::Items;
-use ada_typed::{Expr, Nodes, Selection};
 use std::alloc::{AllocError, Global};
 use std::marker::Model;
+use typed_tree::{Expr, Nodes, Selection};
 
 /// An index that is the parameter of a loop: its token and that of the parameter's name, the parameter's number, how many
 /// cells its neighbours are apart, its lower bound, and how far its upper bound is above that.

@@ -3,7 +3,7 @@
 ghost use Rattle.std.specs.Prelude.{◌≡◌, ◌≤◌, MatchOption};
 ghost use Rattle.ada_base.specs.Cuts.{cuts_of, evens};
 ghost use Rattle.ada_meaning.specs.Values.{without_zeros};
-ghost use Rattle.chunk_plan.specs.Plans.{HasNoZero, plan_of};
+ghost use Rattle.run_plan.specs.Plans.{HasNoZero, plan_of};
 ghost use Rattle.run_store.specs.Shows.{OrNoMemory};
 ghost use Rattle.run_parts.specs.Dealing as spec;
 
@@ -11,7 +11,7 @@ use crate::cells::size_at;
 use crate::chunks::Chunking;
 use crate::work::Work;
 use ada_base::Items;
-use chunk_plan::{Plan, cuts, evenly};
+use run_plan::{Plan, cuts, evenly};
 use run_store::End;
 use std::marker::Model;
 
@@ -23,7 +23,7 @@ pub struct SoundPlan {
 
 impl Model for SoundPlan {
     ghost use Rattle.ada_base.specs.Cuts as cuts;
-    ghost use Rattle.chunk_plan.specs.Plans.{HasNoZero, plan_of};
+    ghost use Rattle.run_plan.specs.Plans.{HasNoZero, plan_of};
 
     ghost Value = { cuts.Plan };
 

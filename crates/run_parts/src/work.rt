@@ -5,8 +5,8 @@ ghost use Rattle.run_parts.specs.PathProps.{AreOf-prop};
 
 use crate::paths::Paths;
 use crate::plans::SoundPlan;
-use ada_typed::Typed;
 use std::alloc::Global;
+use typed_tree::Typed;
 
 /// A program with its paths, the plan of its parallel constructs, and the limit of its turns.
 #[derive(Clone, Copy)]

@@ -7,7 +7,7 @@ use Rattle.std.specs.Prelude.{slice_get}
 use Rattle.ada_port.specs.Ports.{Stream, Grows}
 use Rattle.ada_meaning.specs.Stored.{final_of, finals_of}
 use Rattle.ada_meaning.specs.declared.slots.Variable.{Variable}
-use Rattle.ada_typed.specs.Syntax.{Program}
+use Rattle.typed_tree.specs.Syntax.{Program}
 use Rattle.run_reports.specs.declared.ends.Final.{Final}
 use Rattle.run_reports.specs.Puts.{Puts, Putting}
 use Rattle.run_reports.specs.Vars.{vars_line, vars_lines}

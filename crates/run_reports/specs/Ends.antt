@@ -1,7 +1,7 @@
 -- How a run ended, and what its variables were then.
 use Rattle.std.specs.Prelude.{ℕ, ℤ, List, Result, Ok, Err}
 use Rattle.ada_meaning.specs.Stored.{finals_of}
-use Rattle.ada_typed.specs.Syntax.{Program}
+use Rattle.typed_tree.specs.Syntax.{Program}
 use Rattle.run_store.specs.declared.ends.End.{End}
 use Rattle.run_store.specs.declared.ends.End.TheVariants as end
 use Rattle.run_store.specs.declared.ends.Leave.TheVariants as leave

@@ -3,7 +3,7 @@
 ghost use Rattle.std.specs.Prelude.{◌≡◌, ◌∷◌, ◌++◌, take, drop, length, true, IfOk};
 ghost use Rattle.ada_meaning.specs.Meaning.{object_layout};
 ghost use Rattle.ada_meaning.specs.Stored.{filled, final_of, finals_of};
-ghost use Rattle.ada_typed.specs.Programs.{program};
+ghost use Rattle.typed_tree.specs.Programs.{program};
 ghost use Rattle.run_reports.specs.Ends.{values_of};
 ghost use Rattle.run_reports.specs.Puts.{Puts};
 ghost use Rattle.run_reports.specs.Vars.{cell_text, cells_text, first_or_zero, vars_line, vars_lines};
@@ -13,9 +13,9 @@ use ada_base::Items;
 use ada_io::truth_image;
 use ada_meaning::Variable;
 use ada_port::Sink;
-use ada_typed::Typed;
 use run_store::{cells_of, is_true};
 use std::alloc::{AllocError, Global};
+use typed_tree::Typed;
 
 /// Why not all was put.
 #[derive(Clone, Copy)]

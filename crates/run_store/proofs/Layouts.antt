@@ -1,8 +1,8 @@
 -- Cells of subtypes.
 use Rattle.std.proofs.Common.{◌≡◌, ℕ, zero, suc, ◌+◌, ◌-◌, ◌*◌, ◌≤◌, ℤ, List, [], ◌∷◌, ◌++◌, length, replicate, slice_get, refl, ap, sym, ◌∙◌, arith, append_assoc, length-append}
 use Rattle.std.proofs.lemmas.List.{map-append}
-use Rattle.ada_typed.specs.declared.scalars.Scalar.{Scalar}
-use Rattle.ada_typed.specs.Syntax.{Subtype}
+use Rattle.typed_tree.specs.declared.scalars.Scalar.{Scalar}
+use Rattle.typed_tree.specs.Syntax.{Subtype}
 use Rattle.ada_meaning.specs.Values.{defaults, repeated, layout_within, layout_of}
 
 pub length_repeated : (n : ℕ) (cs : List Scalar) → length (repeated n cs) ≡ n * length cs

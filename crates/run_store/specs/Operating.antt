@@ -1,7 +1,7 @@
 -- Operators, as code goes through them.
 use Rattle.std.specs.Prelude.{ℕ, ◌+◌, ℤ, length, Result, Ok, Err}
-use Rattle.ada_typed.specs.declared.scalars.Class.{Class}
-use Rattle.ada_typed.specs.declared.expressions.Sign.{Sign}
+use Rattle.typed_tree.specs.declared.scalars.Class.{Class}
+use Rattle.typed_tree.specs.declared.expressions.Sign.{Sign}
 use Rattle.ada_meaning.specs.Values.{unary}
 use Rattle.ada_meaning.specs.Meaning as meaning
 use Rattle.ada_base.specs.Cuts.{One, cuts_of}

@@ -5,7 +5,7 @@ ghost use Rattle.ada_meaning.specs.Meaning as meaning;
 ghost use Rattle.run_store.specs.Environment.{env_of, part_of};
 
 use ada_base::Reason;
-use ada_typed::Root;
+use typed_tree::Root;
 
 /// An object, and how many cells of it come before.
 #[derive(Clone, Copy)]

@@ -1,14 +1,14 @@
 //! Cells of subtypes (3.6, 3.8).
 
 ghost use Rattle.std.specs.Prelude.{◌≡◌, ◌+◌, ◌*◌, ◌++◌, length, option_map};
-ghost use Rattle.ada_typed.specs.Programs.{program, bounds_at, fields_at, subtype_of};
+ghost use Rattle.typed_tree.specs.Programs.{program, bounds_at, fields_at, subtype_of};
 ghost use Rattle.ada_meaning.specs.Values as spec;
 ghost use Rattle.run_store.specs.Shows.{OrNoMemory};
 
 use crate::ends::End;
 use crate::values::{Range, count};
 use ada_base::Items;
-use ada_typed::{Leaf, Subtype, Typed};
+use typed_tree::{Leaf, Subtype, Typed};
 
 /// How many cells a subtype has.
 pub fn cells_of(typed: &Typed, number: u32) -> Result<u64, End>

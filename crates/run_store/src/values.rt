@@ -12,7 +12,7 @@ use crate::ends::{End, Leave};
 use crate::outside::Port;
 use crate::store::Store;
 use ada_base::{Base, Op, Reason, apply};
-use ada_typed::{Class, Comparison, Scalar, Sign};
+use typed_tree::{Class, Comparison, Scalar, Sign};
 
 /// Whether a truth value is True.
 pub fn is_true(value: i64) -> bool

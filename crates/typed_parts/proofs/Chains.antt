@@ -1,11 +1,11 @@
 -- Chains of universal expressions, link by link.
 use Rattle.std.proofs.Common.{◌≡◌, refl, sym, ◌∙◌, ap, subst, ℕ, suc, ◌<◌, List, [], ◌∷◌, ◌++◌, arith}
-use Rattle.ada_typed.specs.declared.node.Node.{Node}
-use Rattle.ada_typed.specs.declared.scalars.Class.{Class}
-use Rattle.ada_typed.specs.Decoded.{Part, AnExpr, as_expr, part_at}
-use Rattle.ada_typed.specs.Syntax.{Expr}
-use Rattle.ada_typed.specs.Classes.{with_class}
-use Rattle.ada_typed.specs.Latest.{top, pop}
+use Rattle.typed_tree.specs.declared.node.Node.{Node}
+use Rattle.typed_tree.specs.declared.scalars.Class.{Class}
+use Rattle.typed_tree.specs.Decoded.{Part, AnExpr, as_expr, part_at}
+use Rattle.typed_tree.specs.Syntax.{Expr}
+use Rattle.typed_tree.specs.Classes.{with_class}
+use Rattle.typed_tree.specs.Latest.{top, pop}
 use Rattle.typed_parts.specs.ClassChains.{joined, rejoined, GoesOn, Leads}
 use Rattle.typed_parts.specs.Stack.{AllBelow}
 use Rattle.typed_parts.proofs.Stacks.{below_end, below_front}

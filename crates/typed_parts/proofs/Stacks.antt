@@ -3,15 +3,15 @@ use Rattle.std.proofs.Common.{◌≡◌, refl, sym, ◌∙◌, ap, subst, ℕ, s
 use Rattle.std.specs.Prelude.{slice_get}
 use Rattle.std.proofs.lemmas.List.{length-append}
 use Rattle.std.proofs.lemmas.Option.{slice_get_within}
-use Rattle.ada_typed.specs.declared.node.Leaf.{Leaf}
-use Rattle.ada_typed.specs.declared.node.Node.{Node}
-use Rattle.ada_typed.specs.declared.node.Node.TheVariants as node
-use Rattle.ada_typed.specs.Decoded.{Part, Nothing, Cons, LeafCons, of_node, part_at}
-use Rattle.ada_typed.specs.Ordered.{NodeBelow, IsOrdered}
-use Rattle.ada_typed.specs.Written.{put, last}
-use Rattle.ada_typed.proofs.Reading.{part_stable, part_below, part_last, part_none, part_read}
-use Rattle.ada_typed.proofs.Order.{ordered_put}
-use Rattle.ada_typed.specs.Latest.{top, pop, onto}
+use Rattle.typed_tree.specs.declared.node.Leaf.{Leaf}
+use Rattle.typed_tree.specs.declared.node.Node.{Node}
+use Rattle.typed_tree.specs.declared.node.Node.TheVariants as node
+use Rattle.typed_tree.specs.Decoded.{Part, Nothing, Cons, LeafCons, of_node, part_at}
+use Rattle.typed_tree.specs.Ordered.{NodeBelow, IsOrdered}
+use Rattle.typed_tree.specs.Written.{put, last}
+use Rattle.typed_tree.proofs.Reading.{part_stable, part_below, part_last, part_none, part_read}
+use Rattle.typed_tree.proofs.Order.{ordered_put}
+use Rattle.typed_tree.specs.Latest.{top, pop, onto}
 use Rattle.typed_parts.specs.Stack.{Table, parts, parts_in, stacked, IsLatest, AllBelow, Fit, Stays}
 
 abbrev table : List Node → List ℕ → Table

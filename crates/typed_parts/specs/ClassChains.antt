@@ -1,11 +1,11 @@
 -- How an expression of a universal type takes the class of its place, from the inside out along the operands that
 -- chains are long in.
 use Rattle.std.specs.Prelude.{◌≡◌, ℕ, suc, ◌≤◌, List, [], ◌∷◌}
-use Rattle.ada_typed.specs.declared.scalars.Class.{Class}
-use Rattle.ada_typed.specs.Classes.{class_or, with_class}
-use Rattle.ada_typed.specs.Decoded.{Part, as_expr}
-use Rattle.ada_typed.specs.Syntax.{Expr, Group, Unary, Binary, If, Reduction}
-use Rattle.ada_typed.specs.declared.expressions.Reducer.TheVariants as reducer
+use Rattle.typed_tree.specs.declared.scalars.Class.{Class}
+use Rattle.typed_tree.specs.Classes.{class_or, with_class}
+use Rattle.typed_tree.specs.Decoded.{Part, as_expr}
+use Rattle.typed_tree.specs.Syntax.{Expr, Group, Unary, Binary, If, Reduction}
+use Rattle.typed_tree.specs.declared.expressions.Reducer.TheVariants as reducer
 use Rattle.typed_parts.specs.Stack.{AllBelow}
 
 -- an expression with another one in place of what its chain goes on with

@@ -1,8 +1,8 @@
 -- How the indexes in the name of an object are gathered, selection by selection.
 use Rattle.std.specs.Prelude.{◌≡◌}
-use Rattle.ada_typed.specs.Decoded.{Part}
-use Rattle.ada_typed.specs.Indexes.{indexes_from}
-use Rattle.ada_typed.specs.Syntax.{Selections}
+use Rattle.typed_tree.specs.Decoded.{Part}
+use Rattle.typed_tree.specs.Indexes.{indexes_from}
+use Rattle.typed_tree.specs.Syntax.{Selections}
 
 -- after a selection the indexes go on so
 abbrev pub GoesOn : Part → (Selections → Selections) → Part → Type 0

@@ -1,6 +1,6 @@
 -- What a part is.
 use Rattle.std.specs.Prelude.{Bool, true, false}
-use Rattle.ada_typed.specs.Decoded.{Part, Nothing}
+use Rattle.typed_tree.specs.Decoded.{Part, Nothing}
 
 -- nothing, which is also a list without items
 abbrev pub is_nothing : Part → Bool

@@ -1,9 +1,9 @@
 -- The parts that are being joined, the latest first, and what is known of the table that they stand in.
 use Rattle.std.specs.Prelude.{ℕ, ◌≡◌, ◌<◌, ◌≤◌, List, [], ◌∷◌, ◌++◌, length, slice_get, Some}
-use Rattle.ada_typed.specs.declared.node.Node.TheVariants as node
-use Rattle.ada_typed.specs.declared.node.Node.{Node}
-use Rattle.ada_typed.specs.Decoded.{Part, part_at}
-use Rattle.ada_typed.specs.Ordered.{IsOrdered}
+use Rattle.typed_tree.specs.declared.node.Node.TheVariants as node
+use Rattle.typed_tree.specs.declared.node.Node.{Node}
+use Rattle.typed_tree.specs.Decoded.{Part, part_at}
+use Rattle.typed_tree.specs.Ordered.{IsOrdered}
 
 -- a table of nodes, and the numbers of the parts that are being joined, the latest last
 pub record Table : Type 0 where

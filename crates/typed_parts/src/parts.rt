@@ -1,9 +1,9 @@
 //! A table of nodes, and what is being joined in it.
 
 ghost use Rattle.std.specs.Prelude.{◌≡◌, ◌<◌, ◌∷◌, ◌++◌, [], OnOk, IfOk, length};
-ghost use Rattle.ada_typed.specs.Decoded.{Nothing, of_node, part_at};
-ghost use Rattle.ada_typed.specs.Ordered.{NodeBelow};
-ghost use Rattle.ada_typed.specs.Latest.{pop, top};
+ghost use Rattle.typed_tree.specs.Decoded.{Nothing, of_node, part_at};
+ghost use Rattle.typed_tree.specs.Ordered.{NodeBelow};
+ghost use Rattle.typed_tree.specs.Latest.{pop, top};
 ghost use Rattle.typed_parts.specs.Stack.{parts, IsLatest};
 
 mod bodies;
@@ -20,10 +20,10 @@ mod statements;
 mod values;
 
 use ada_base::Items;
-use ada_typed::{Node, push};
 pub use finishing::Finished;
 use std::alloc::{AllocError, Global};
 use std::marker::Model;
+use typed_tree::{Node, push};
 
 /// Parts of a typed program that are being joined, as a stack: a function joins the latest parts, and what it makes of
 /// them is the latest part then. A part that isn't there or is of another kind counts as what is dullest of its kind,

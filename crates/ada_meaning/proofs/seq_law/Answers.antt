@@ -1,4 +1,4 @@
-use Rattle.ada_typed.specs.Programs.{program}
+use Rattle.typed_tree.specs.Programs.{program}
 use Rattle.ada_meaning.proofs.Law.{sequential_law}
 use Rattle.ada_meaning.proofs.seq_law.Goals as goal
 

@@ -1,9 +1,9 @@
 use Rattle.std.proofs.Common.{◌≡◌, refl, sym, ap, ◌∙◌, List, Option, None, true, false, SFits, w64, rules, arith}
 use Rattle.std.specs.Int.{w128}
-use Rattle.ada_tree.specs.Syntax as syntax
-use Rattle.ada_tree.specs.Syntax.{Expr}
-use Rattle.ada_typed.specs.Decoded.{Part}
-use Rattle.ada_typed.specs.Latest.{pop, top}
+use Rattle.syntax_tree.specs.Syntax as syntax
+use Rattle.syntax_tree.specs.Syntax.{Expr}
+use Rattle.typed_tree.specs.Decoded.{Part}
+use Rattle.typed_tree.specs.Latest.{pop, top}
 use Rattle.name_expressions.specs.Filled.{counted}
 use Rattle.name_expressions.specs.Placed.{placed}
 use Rattle.name_rules.specs.Aggregates as aggregates
@@ -14,9 +14,9 @@ use Rattle.name_rules.specs.Primaries.{inside, primary}
 use Rattle.name_rules.specs.TypedParts.{selections_of}
 use Rattle.name_rules.specs.Types.{component_of, shape_in}
 use Rattle.name_values.proofs.Open.{wide, wide_next}
-use Rattle.tree_nodes.specs.Parts.{the_arg, the_args, the_assoc, the_assocs, the_name, the_primary}
-use Rattle.tree_nodes.specs.Tables.{part_at}
-use Rattle.tree_nodes.specs.Views.{optional_expr}
+use Rattle.syntax_nodes.specs.Parts.{the_arg, the_args, the_assoc, the_assocs, the_name, the_primary}
+use Rattle.syntax_nodes.specs.Tables.{part_at}
+use Rattle.syntax_nodes.specs.Views.{optional_expr}
 use Rattle.typed_parts.specs.Stack.{parts}
 use Rattle.name_expressions.specs.Contents.{contents_in, exprs_in}
 use Rattle.name_expressions.specs.Reducing.{reduced_two}

@@ -10,9 +10,9 @@ use Rattle.name_rules.specs.Parts as whole
 use Rattle.name_rules.specs.Primaries as primaries
 use Rattle.name_rules.specs.Primaries.{inside}
 use Rattle.name_expressions.specs.Conditionals.{waiting_if}
-use Rattle.tree_nodes.specs.Parts.{the_addings, the_args, the_assocs, the_choices, the_conjuncts, the_elsifs, the_expr, the_exprs, the_multiplyings, the_parts}
-use Rattle.tree_nodes.specs.Tables.{part_at}
-use Rattle.ada_typed.specs.Latest.{pop, second, top}
+use Rattle.syntax_nodes.specs.Parts.{the_addings, the_args, the_assocs, the_choices, the_conjuncts, the_elsifs, the_expr, the_exprs, the_multiplyings, the_parts}
+use Rattle.syntax_nodes.specs.Tables.{part_at}
+use Rattle.typed_tree.specs.Latest.{pop, second, top}
 use Rattle.typed_parts.specs.Stack.{parts}
 use Rattle.name_rules.specs.Calls as calls
 use Rattle.name_rules.specs.Output as output

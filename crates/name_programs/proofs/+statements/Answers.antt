@@ -1,6 +1,6 @@
 use Rattle.std.proofs.Common.{arith}
-use Rattle.tree_nodes.specs.Parts.{the_stmt}
-use Rattle.tree_nodes.specs.Tables.{part_at}
+use Rattle.syntax_nodes.specs.Parts.{the_stmt}
+use Rattle.syntax_nodes.specs.Tables.{part_at}
 use Rattle.name_programs.proofs.StatementLevels.{stmt_below}
 use Rattle.name_programs.proofs.+statements.Goals as goal
 

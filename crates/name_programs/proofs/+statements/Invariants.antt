@@ -1,13 +1,13 @@
 use Rattle.std.proofs.Common.{◌≡◌, ◌+◌, ◌*◌, Some, [], reverse}
-use Rattle.ada_tree.specs.Syntax as syntax
-use Rattle.ada_typed.specs.Decoded as part
-use Rattle.ada_typed.specs.Latest.{pop, top}
+use Rattle.syntax_tree.specs.Syntax as syntax
+use Rattle.typed_tree.specs.Decoded as part
+use Rattle.typed_tree.specs.Latest.{pop, top}
 use Rattle.name_rules.specs.Judges.{part_if}
 use Rattle.name_rules.specs.Statements as spec
 use Rattle.name_programs.specs.Around.{in_levels}
 use Rattle.name_values.specs.Coverage.{as_covering}
-use Rattle.tree_nodes.specs.Parts.{the_alt, the_alts, the_arms, the_branches, the_handlers, the_more_stmts, the_stmt, the_stmts}
-use Rattle.tree_nodes.specs.Tables.{part_at}
+use Rattle.syntax_nodes.specs.Parts.{the_alt, the_alts, the_arms, the_branches, the_handlers, the_more_stmts, the_stmt, the_stmts}
+use Rattle.syntax_nodes.specs.Tables.{part_at}
 use Rattle.typed_parts.specs.Stack.{parts}
 use Rattle.name_programs.proofs.+statements.Given as goal
 

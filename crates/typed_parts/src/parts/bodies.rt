@@ -1,14 +1,14 @@
 //! Declarations (3.11), handlers (11.2) and bodies (6.3).
 
 ghost use Rattle.std.specs.Prelude.{◌≡◌, ◌∷◌, OnOk};
-ghost use Rattle.ada_typed.specs.Decoded.{ABody, ADecl, AHandler, as_decls, as_exprs, as_handlers, as_reasons, as_stmts, as_value};
-ghost use Rattle.ada_typed.specs.Syntax as syntax;
-ghost use Rattle.ada_typed.specs.Latest.{pop, second, third, top};
+ghost use Rattle.typed_tree.specs.Decoded.{ABody, ADecl, AHandler, as_decls, as_exprs, as_handlers, as_reasons, as_stmts, as_value};
+ghost use Rattle.typed_tree.specs.Syntax as syntax;
+ghost use Rattle.typed_tree.specs.Latest.{pop, second, third, top};
 ghost use Rattle.typed_parts.specs.Stack.{parts};
 
 use crate::parts::Parts;
-use ada_typed::{Body, Decl, Handler, Node};
 use std::alloc::AllocError;
+use typed_tree::{Body, Decl, Handler, Node};
 
 impl Parts {
     /// The declaration of a variable without an initial value (3.3.1).

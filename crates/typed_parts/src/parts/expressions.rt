@@ -1,15 +1,15 @@
 //! Expressions (4.4).
 
 ghost use Rattle.std.specs.Prelude.{◌≡◌, ◌∷◌, OnOk};
-ghost use Rattle.ada_typed.specs.Decoded.{AnExpr, as_actuals, as_chunk, as_expr, as_exprs, as_iteration, as_reducer, as_selections};
-ghost use Rattle.ada_typed.specs.Syntax as syntax;
-ghost use Rattle.ada_typed.specs.Latest.{fifth, fourth, pop, second, third, top};
+ghost use Rattle.typed_tree.specs.Decoded.{AnExpr, as_actuals, as_chunk, as_expr, as_exprs, as_iteration, as_reducer, as_selections};
+ghost use Rattle.typed_tree.specs.Syntax as syntax;
+ghost use Rattle.typed_tree.specs.Latest.{fifth, fourth, pop, second, third, top};
 ghost use Rattle.typed_parts.specs.Stack.{parts};
 
 use crate::parts::Parts;
 use ada_base::Op;
-use ada_typed::{Check, Class, Comparison, Expr, Node, Root, Scalar, Sign};
 use std::alloc::AllocError;
+use typed_tree::{Check, Class, Comparison, Expr, Node, Root, Scalar, Sign};
 
 impl Parts {
     /// A static expression (4.9) with its first token, its value, and whether it is one number literal. Joined of the

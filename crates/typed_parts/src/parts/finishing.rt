@@ -1,12 +1,12 @@
 //! The table for readers.
 
 ghost use Rattle.std.specs.Prelude.{◌≡◌, ◌∷◌, [], MatchOption};
-ghost use Rattle.ada_typed.specs.Decoded.{part_at};
+ghost use Rattle.typed_tree.specs.Decoded.{part_at};
 ghost use Rattle.typed_parts.specs.Stack.{parts_in, parts};
 
 use crate::parts::Parts;
 use ada_base::Items;
-use ada_typed::Nodes;
+use typed_tree::Nodes;
 
 /// A table for readers, and the numbers of the parts that were joined in it, the latest last.
 #[derive(Drop)]

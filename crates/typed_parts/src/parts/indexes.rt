@@ -1,20 +1,20 @@
 //! The indexes in the name of an object (4.1.1), which an attribute of it mentions.
 
 ghost use Rattle.std.specs.Prelude.{◌≡◌, ◌<◌, ◌∷◌, IfOk, MatchOption, OnOk, length};
-ghost use Rattle.ada_typed.specs.Decoded.{as_selection, as_selections, part_at};
-ghost use Rattle.ada_typed.specs.Syntax.{Whole};
-ghost use Rattle.ada_typed.specs.Indexes.{indexes_from, indexes_in};
-ghost use Rattle.ada_typed.specs.Latest.{pop, top};
+ghost use Rattle.typed_tree.specs.Decoded.{as_selection, as_selections, part_at};
+ghost use Rattle.typed_tree.specs.Syntax.{Whole};
+ghost use Rattle.typed_tree.specs.Indexes.{indexes_from, indexes_in};
+ghost use Rattle.typed_tree.specs.Latest.{pop, top};
 ghost use Rattle.typed_parts.specs.IndexChains.{GoesOn};
 ghost use Rattle.typed_parts.specs.Stack.{parts, Stays};
 
 use crate::parts::Parts;
-use ada_typed::{Node, Selection};
 use std::alloc::AllocError;
+use typed_tree::{Node, Selection};
 
 impl Parts {
     /// The indexes in a complete list of selections, as a list of expressions that grows.
-    #[tactic(auto, unfolding(ada_typed::specs::Indexes::indexes_in))]
+    #[tactic(auto, unfolding(typed_tree::specs::Indexes::indexes_in))]
     pub fn indexes(&mut self) -> Result<(), AllocError>
         ensures { OnOk result (parts self.new ≡ indexes_in (as_selections (top (parts self.old))) ∷ pop (parts self.old)) }
     {

@@ -1,16 +1,16 @@
 //! Iterations, chunk specifications (5.5) and reducers (4.5.10).
 
 ghost use Rattle.std.specs.Prelude.{◌≡◌, ◌∷◌, OnOk};
-ghost use Rattle.ada_typed.specs.Decoded.{ACheck, AChunk, AReducer, AnIteration, as_check, as_expr, as_optional, as_scalar, as_selections};
-ghost use Rattle.ada_typed.specs.declared.expressions.Reducer.TheVariants as reducer;
-ghost use Rattle.ada_typed.specs.Syntax as syntax;
-ghost use Rattle.ada_typed.specs.Latest.{fourth, pop, second, third, top};
+ghost use Rattle.typed_tree.specs.Decoded.{ACheck, AChunk, AReducer, AnIteration, as_check, as_expr, as_optional, as_scalar, as_selections};
+ghost use Rattle.typed_tree.specs.declared.expressions.Reducer.TheVariants as reducer;
+ghost use Rattle.typed_tree.specs.Syntax as syntax;
+ghost use Rattle.typed_tree.specs.Latest.{fourth, pop, second, third, top};
 ghost use Rattle.typed_parts.specs.Stack.{parts};
 
 use crate::parts::Parts;
 use ada_base::Op;
-use ada_typed::{Check, Chunk, Class, Fold, Iteration, Node, Root};
 use std::alloc::AllocError;
+use typed_tree::{Check, Chunk, Class, Fold, Iteration, Node, Root};
 
 impl Parts {
     /// `I in [reverse] L .. H when F` (5.5). Joined of L, H, the check of the bounds or nothing, and F or nothing in

@@ -1,14 +1,14 @@
 //! Parts change places; lists are joined item by item, and turned once they are complete.
 
 ghost use Rattle.std.specs.Prelude.{◌≡◌, ◌<◌, ◌∷◌, OnOk, IfOk, MatchOption, length};
-ghost use Rattle.ada_typed.specs.Decoded.{part_at, Cons, LeafCons, Nothing};
-ghost use Rattle.ada_typed.specs.Latest.{first_of, onto, pop, rest_of, second, third, top, turned};
+ghost use Rattle.typed_tree.specs.Decoded.{part_at, Cons, LeafCons, Nothing};
+ghost use Rattle.typed_tree.specs.Latest.{first_of, onto, pop, rest_of, second, third, top, turned};
 ghost use Rattle.typed_parts.specs.Lists.{has_item};
 ghost use Rattle.typed_parts.specs.Stack.{parts};
 
 use crate::parts::Parts;
-use ada_typed::{Leaf, Node};
 use std::alloc::AllocError;
+use typed_tree::{Leaf, Node};
 
 impl Parts {
     /// Nothing, which is also a list without items.
@@ -95,7 +95,7 @@ impl Parts {
     }
 
     /// A list that grew item by item is complete: its items stand in the order in which they came.
-    #[tactic(auto, unfolding(ada_typed::specs::Latest::turned))]
+    #[tactic(auto, unfolding(typed_tree::specs::Latest::turned))]
     pub fn turn(&mut self) -> Result<(), AllocError>
         ensures { OnOk result (parts self.new ≡ turned (top (parts self.old)) ∷ pop (parts self.old)) }
     {

@@ -1,14 +1,14 @@
 //! What the latest part is.
 
 ghost use Rattle.std.specs.Prelude.{◌≡◌, IfOk};
-ghost use Rattle.ada_typed.specs.Decoded.{part_at};
-ghost use Rattle.ada_typed.specs.Latest.{pop, top};
+ghost use Rattle.typed_tree.specs.Decoded.{part_at};
+ghost use Rattle.typed_tree.specs.Latest.{pop, top};
 ghost use Rattle.typed_parts.specs.Looks.{is_nothing};
 ghost use Rattle.typed_parts.specs.Stack.{parts};
 
 use crate::parts::Parts;
-use ada_typed::Node;
 use std::alloc::AllocError;
+use typed_tree::Node;
 
 impl Parts {
     /// Whether the part of a number is nothing.

@@ -1,14 +1,14 @@
 //! Selections of names (4.1) and actual parameters (6.4.1).
 
 ghost use Rattle.std.specs.Prelude.{◌≡◌, ◌∷◌, OnOk};
-ghost use Rattle.ada_typed.specs.Decoded.{ASelection, AScalar, AnActual, as_expr, as_scalar, as_selections, as_value};
-ghost use Rattle.ada_typed.specs.Syntax as syntax;
-ghost use Rattle.ada_typed.specs.Latest.{pop, second, third, top};
+ghost use Rattle.typed_tree.specs.Decoded.{ASelection, AScalar, AnActual, as_expr, as_scalar, as_selections, as_value};
+ghost use Rattle.typed_tree.specs.Syntax as syntax;
+ghost use Rattle.typed_tree.specs.Latest.{pop, second, third, top};
 ghost use Rattle.typed_parts.specs.Stack.{parts};
 
 use crate::parts::Parts;
-use ada_typed::{Actual, Node, Root, Scalar, Selection};
 use std::alloc::AllocError;
+use typed_tree::{Actual, Node, Root, Scalar, Selection};
 
 impl Parts {
     /// The selection of a record's component (4.1.3) by its number, so many cells from the record's beginning.

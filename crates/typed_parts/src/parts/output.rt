@@ -1,14 +1,14 @@
 //! Pieces of output (A.10).
 
 ghost use Rattle.std.specs.Prelude.{◌≡◌, ◌∷◌, OnOk};
-ghost use Rattle.ada_typed.specs.Decoded.{APiece, as_bytes, as_expr};
-ghost use Rattle.ada_typed.specs.Syntax as syntax;
-ghost use Rattle.ada_typed.specs.Latest.{pop, second, top};
+ghost use Rattle.typed_tree.specs.Decoded.{APiece, as_bytes, as_expr};
+ghost use Rattle.typed_tree.specs.Syntax as syntax;
+ghost use Rattle.typed_tree.specs.Latest.{pop, second, top};
 ghost use Rattle.typed_parts.specs.Stack.{parts};
 
 use crate::parts::Parts;
-use ada_typed::{Class, Node, Piece};
 use std::alloc::AllocError;
+use typed_tree::{Class, Node, Piece};
 
 impl Parts {
     /// A text, of the list of its bytes.

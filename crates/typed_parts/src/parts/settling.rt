@@ -1,17 +1,17 @@
 //! Expressions of a universal type (3.4.1) get the class of their place.
 
 ghost use Rattle.std.specs.Prelude.{◌≡◌, ◌<◌, ◌∷◌, [], IfOk, MatchOption, OnOk, length};
-ghost use Rattle.ada_typed.specs.Decoded.{AnExpr, as_expr, as_reducer, of_expr, of_fold, of_node, part_at};
-ghost use Rattle.ada_typed.specs.Ordered.{ExprBelow, NodeBelow};
-ghost use Rattle.ada_typed.specs.Classes.{class_or, with_class};
-ghost use Rattle.ada_typed.specs.Latest.{pop, top};
+ghost use Rattle.typed_tree.specs.Decoded.{AnExpr, as_expr, as_reducer, of_expr, of_fold, of_node, part_at};
+ghost use Rattle.typed_tree.specs.Ordered.{ExprBelow, NodeBelow};
+ghost use Rattle.typed_tree.specs.Classes.{class_or, with_class};
+ghost use Rattle.typed_tree.specs.Latest.{pop, top};
 ghost use Rattle.typed_parts.specs.ClassChains.{joined, Ends, GoesOn, Leads};
 ghost use Rattle.typed_parts.specs.Stack.{parts, Stays};
 
 use crate::parts::Parts;
 use ada_base::{Items, Op};
-use ada_typed::{Class, Expr, Fold, Node};
 use std::alloc::AllocError;
+use typed_tree::{Class, Expr, Fold, Node};
 
 impl Parts {
     /// An expression of a universal type gets a class, where a part of it has none yet.

@@ -1,15 +1,15 @@
 //! Statements (5.1).
 
 ghost use Rattle.std.specs.Prelude.{◌≡◌, ◌∷◌, OnOk};
-ghost use Rattle.ada_typed.specs.Decoded.{AStmt, AnAlternative, as_actuals, as_alternatives, as_arms, as_chunk, as_decls, as_expr, as_exprs, as_handlers, as_iteration, as_optional, as_pieces, as_selections, as_spans, as_stmts, as_value};
-ghost use Rattle.ada_typed.specs.Syntax as syntax;
-ghost use Rattle.ada_typed.specs.Latest.{pop, second, third, top};
+ghost use Rattle.typed_tree.specs.Decoded.{AStmt, AnAlternative, as_actuals, as_alternatives, as_arms, as_chunk, as_decls, as_expr, as_exprs, as_handlers, as_iteration, as_optional, as_pieces, as_selections, as_spans, as_stmts, as_value};
+ghost use Rattle.typed_tree.specs.Syntax as syntax;
+ghost use Rattle.typed_tree.specs.Latest.{pop, second, third, top};
 ghost use Rattle.typed_parts.specs.Stack.{parts};
 
 use crate::parts::Parts;
 use ada_base::Reason;
-use ada_typed::{Alternative, Node, Root, Scalar, Stmt};
 use std::alloc::AllocError;
+use typed_tree::{Alternative, Node, Root, Scalar, Stmt};
 
 impl Parts {
     /// `null;`

@@ -1,14 +1,14 @@
 //! What is stored: numbers, and the cells of arrays and records (4.3, 5.2).
 
 ghost use Rattle.std.specs.Prelude.{◌≡◌, ◌∷◌, OnOk};
-ghost use Rattle.ada_typed.specs.Decoded.{AComposite, AValue, AnAssociation, as_associations, as_composite, as_expr, as_exprs, as_runs, as_selections, as_value};
-ghost use Rattle.ada_typed.specs.Syntax as syntax;
-ghost use Rattle.ada_typed.specs.Latest.{pop, second, third, top};
+ghost use Rattle.typed_tree.specs.Decoded.{AComposite, AValue, AnAssociation, as_associations, as_composite, as_expr, as_exprs, as_runs, as_selections, as_value};
+ghost use Rattle.typed_tree.specs.Syntax as syntax;
+ghost use Rattle.typed_tree.specs.Latest.{pop, second, third, top};
 ghost use Rattle.typed_parts.specs.Stack.{parts};
 
 use crate::parts::Parts;
-use ada_typed::{Association, Check, Composite, Iterated, Node, Root, Value};
 use std::alloc::AllocError;
+use typed_tree::{Association, Check, Composite, Iterated, Node, Root, Value};
 
 impl Parts {
     /// A scalar that is checked and stored, of its expression.

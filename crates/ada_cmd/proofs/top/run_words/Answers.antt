@@ -1,5 +1,5 @@
 use Rattle.std.proofs.Common.{ap, ◌∙◌}
-use Rattle.ada_run.proofs.RaceFree.{accepted_race_free}
+use Rattle.driver.proofs.RaceFree.{accepted_race_free}
 use Rattle.run_reports.specs.Says.{number_of}
 use Rattle.run_reports.specs.declared.status.Status.TheVariants as status
 use Rattle.ada_cmd.proofs.Causes as causes

@@ -1,6 +1,6 @@
 use Rattle.std.proofs.Common.{◌≡◌, length}
-use Rattle.ada_typed.specs.Decoded.{as_runs}
-use Rattle.ada_typed.specs.Latest.{pop, top}
+use Rattle.typed_tree.specs.Decoded.{as_runs}
+use Rattle.typed_tree.specs.Latest.{pop, top}
 use Rattle.name_expressions.proofs.Runs.{runs_before}
 use Rattle.name_expressions.specs.Placed.{runs_if}
 use Rattle.name_rules.specs.Aggregates.{runs_of}

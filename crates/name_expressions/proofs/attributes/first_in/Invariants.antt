@@ -1,8 +1,8 @@
 use Rattle.std.proofs.Common.{◌≡◌}
 use Rattle.name_rules.specs.Attributes as spec
 use Rattle.name_rules.specs.Calls as calls
-use Rattle.tree_nodes.specs.Parts.{the_args}
-use Rattle.tree_nodes.specs.Tables.{part_at}
+use Rattle.syntax_nodes.specs.Parts.{the_args}
+use Rattle.syntax_nodes.specs.Tables.{part_at}
 use Rattle.name_expressions.proofs.attributes.first_in.Given as goal
 
 abbrev pub invariant-each : goal.invariant-each

@@ -1,6 +1,6 @@
 use Rattle.std.proofs.Common.{◌≡◌, ◌≤◌, length, drop}
-use Rattle.ada_typed.specs.Decoded.{as_bytes}
-use Rattle.ada_typed.specs.Latest.{pop, top}
+use Rattle.typed_tree.specs.Decoded.{as_bytes}
+use Rattle.typed_tree.specs.Latest.{pop, top}
 use Rattle.typed_parts.specs.Stack.{parts}
 use Rattle.name_expressions.proofs.brackets.piece.Given as goal
 

@@ -2,9 +2,9 @@ use Rattle.std.proofs.Common.{◌≡◌}
 use Rattle.name_rules.specs.Cases as cases
 use Rattle.name_rules.specs.Primaries.{inside}
 use Rattle.name_values.specs.Coverage.{as_choosing, as_covering}
-use Rattle.tree_nodes.specs.Parts.{the_choice_list}
-use Rattle.tree_nodes.specs.Tables.{part_at}
-use Rattle.ada_typed.specs.Latest.{pop, top}
+use Rattle.syntax_nodes.specs.Parts.{the_choice_list}
+use Rattle.syntax_nodes.specs.Tables.{part_at}
+use Rattle.typed_tree.specs.Latest.{pop, top}
 use Rattle.typed_parts.specs.Stack.{parts}
 use Rattle.name_expressions.proofs.choices.more_choices.Given as goal
 

@@ -1,7 +1,7 @@
 use Rattle.std.proofs.Common.{◌≡◌, length, reverse}
 use Rattle.name_rules.specs.Judges.{part_if}
 use Rattle.name_rules.specs.Primaries as spec
-use Rattle.ada_typed.specs.Latest.{pop, second, top}
+use Rattle.typed_tree.specs.Latest.{pop, second, top}
 use Rattle.typed_parts.specs.Stack.{parts}
 use Rattle.name_expressions.proofs.conditionals.scalar_ifs.Given as goal
 

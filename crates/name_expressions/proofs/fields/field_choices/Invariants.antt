@@ -1,8 +1,8 @@
 use Rattle.std.proofs.Common.{◌≡◌, []}
-use Rattle.ada_tree.specs.Syntax as syntax
+use Rattle.syntax_tree.specs.Syntax as syntax
 use Rattle.name_rules.specs.Aggregates.{field_choices}
-use Rattle.tree_nodes.specs.Parts.{the_choice, the_choices}
-use Rattle.tree_nodes.specs.Tables.{part_at}
+use Rattle.syntax_nodes.specs.Parts.{the_choice, the_choices}
+use Rattle.syntax_nodes.specs.Tables.{part_at}
 use Rattle.name_expressions.proofs.fields.field_choices.Given as goal
 
 abbrev pub invariant-choices : goal.invariant-choices

@@ -1,7 +1,7 @@
 use Rattle.std.proofs.Common.{◌≡◌, ◌+◌}
 use Rattle.name_rules.specs.Names as spec
-use Rattle.tree_nodes.specs.Parts.{the_args}
-use Rattle.tree_nodes.specs.Tables.{part_at}
+use Rattle.syntax_nodes.specs.Parts.{the_args}
+use Rattle.syntax_nodes.specs.Tables.{part_at}
 use Rattle.name_expressions.proofs.indexes.count.Given as goal
 
 abbrev pub invariant-each : goal.invariant-each

@@ -1,7 +1,7 @@
 use Rattle.std.proofs.Common.{◌≡◌}
 use Rattle.name_rules.specs.Programs as spec
-use Rattle.tree_nodes.specs.Parts.{the_tokens}
-use Rattle.tree_nodes.specs.Tables.{part_at}
+use Rattle.syntax_nodes.specs.Parts.{the_tokens}
+use Rattle.syntax_nodes.specs.Tables.{part_at}
 use Rattle.name_programs.proofs.clauses.pack_end.Given as goal
 
 abbrev pub invariant-tokens : goal.invariant-tokens

@@ -1,7 +1,7 @@
 use Rattle.std.proofs.Common.{◌≡◌, ◌++◌}
 use Rattle.name_rules.specs.Declarations as spec
-use Rattle.tree_nodes.specs.Parts.{the_ids, the_tokens}
-use Rattle.tree_nodes.specs.Tables.{part_at}
+use Rattle.syntax_nodes.specs.Parts.{the_ids, the_tokens}
+use Rattle.syntax_nodes.specs.Tables.{part_at}
 use Rattle.name_programs.proofs.declaration_lists.all_ids.Given as goal
 
 abbrev pub invariant-ids : goal.invariant-ids

@@ -1,8 +1,8 @@
 use Rattle.std.proofs.Common.{◌≡◌}
 use Rattle.name_programs.specs.Forms.{taken_if}
 use Rattle.name_rules.specs.Programs as spec
-use Rattle.tree_nodes.specs.Parts.{the_formal_list}
-use Rattle.tree_nodes.specs.Tables.{part_at}
+use Rattle.syntax_nodes.specs.Parts.{the_formal_list}
+use Rattle.syntax_nodes.specs.Tables.{part_at}
 use Rattle.typed_parts.specs.Stack.{parts}
 use Rattle.name_programs.proofs.formals.formals_from.Given as goal
 

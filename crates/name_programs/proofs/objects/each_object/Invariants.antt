@@ -2,10 +2,10 @@ use Rattle.std.proofs.Common.{◌≡◌, ◌-◌, length, drop}
 use Rattle.name_rules.specs.Declarations as spec
 use Rattle.name_rules.specs.Judges.{part_if}
 use Rattle.name_rules.specs.Primaries.{inside}
-use Rattle.tree_nodes.specs.Parts.{the_expr, the_object_type}
-use Rattle.tree_nodes.specs.Tables.{part_at}
-use Rattle.tree_nodes.specs.Views.{optional}
-use Rattle.ada_typed.specs.Latest.{pop, top}
+use Rattle.syntax_nodes.specs.Parts.{the_expr, the_object_type}
+use Rattle.syntax_nodes.specs.Tables.{part_at}
+use Rattle.syntax_nodes.specs.Views.{optional}
+use Rattle.typed_tree.specs.Latest.{pop, top}
 use Rattle.typed_parts.specs.Stack.{parts}
 use Rattle.name_programs.proofs.objects.each_object.Given as goal
 

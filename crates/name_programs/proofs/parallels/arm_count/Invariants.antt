@@ -1,7 +1,7 @@
 use Rattle.std.proofs.Common.{◌≡◌, ◌+◌}
 use Rattle.name_rules.specs.Statements as spec
-use Rattle.tree_nodes.specs.Parts.{the_branches}
-use Rattle.tree_nodes.specs.Tables.{part_at}
+use Rattle.syntax_nodes.specs.Parts.{the_branches}
+use Rattle.syntax_nodes.specs.Tables.{part_at}
 use Rattle.name_programs.proofs.parallels.arm_count.Given as goal
 
 abbrev pub invariant-arms : goal.invariant-arms

@@ -1,8 +1,8 @@
 use Rattle.std.proofs.Common.{◌≡◌}
 use Rattle.name_programs.specs.Forms.{declared_so}
 use Rattle.name_rules.specs.Programs as spec
-use Rattle.tree_nodes.specs.Parts.{the_units}
-use Rattle.tree_nodes.specs.Tables.{part_at}
+use Rattle.syntax_nodes.specs.Parts.{the_units}
+use Rattle.syntax_nodes.specs.Tables.{part_at}
 use Rattle.typed_parts.specs.Stack.{parts}
 use Rattle.name_programs.proofs.programs.units.Given as goal
 

@@ -2,9 +2,9 @@ use Rattle.std.proofs.Common.{◌≡◌}
 use Rattle.name_programs.specs.Declares.{building}
 use Rattle.name_rules.specs.Declarations as spec
 use Rattle.name_rules.specs.Primaries.{inside}
-use Rattle.tree_nodes.specs.Parts.{the_comps}
-use Rattle.tree_nodes.specs.Tables.{part_at}
-use Rattle.ada_typed.specs.Latest.{pop, top}
+use Rattle.syntax_nodes.specs.Parts.{the_comps}
+use Rattle.syntax_nodes.specs.Tables.{part_at}
+use Rattle.typed_tree.specs.Latest.{pop, top}
 use Rattle.typed_parts.specs.Stack.{parts}
 use Rattle.name_programs.proofs.records.components.Given as goal
 

@@ -3,7 +3,7 @@ use Rattle.name_programs.specs.Declares.{building}
 use Rattle.name_rules.specs.Declarations as spec
 use Rattle.name_rules.specs.Judges.{found_of}
 use Rattle.name_rules.specs.TypedParts.{also_all}
-use Rattle.ada_typed.specs.Latest.{second, top}
+use Rattle.typed_tree.specs.Latest.{second, top}
 use Rattle.typed_parts.specs.Stack.{parts}
 use Rattle.name_programs.proofs.records.with_fields.Given as goal
 

@@ -1,7 +1,7 @@
 use Rattle.std.proofs.Common.{◌≡◌}
 use Rattle.name_rules.specs.TypedParts.{nested_stmts}
 use Rattle.name_programs.specs.Nested.{items_in}
-use Rattle.ada_typed.specs.Latest.{pop, second, top}
+use Rattle.typed_tree.specs.Latest.{pop, second, top}
 use Rattle.typed_parts.specs.Stack.{parts}
 use Rattle.name_programs.proofs.statement_lists.nested.Given as goal
 

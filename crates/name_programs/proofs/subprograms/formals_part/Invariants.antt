@@ -1,7 +1,7 @@
 use Rattle.std.proofs.Common.{◌≡◌, drop}
 use Rattle.std.specs.Prelude.{map}
-use Rattle.ada_typed.specs.Decoded.{as_formals}
-use Rattle.ada_typed.specs.Latest.{pop, top}
+use Rattle.typed_tree.specs.Decoded.{as_formals}
+use Rattle.typed_tree.specs.Latest.{pop, top}
 use Rattle.name_rules.specs.Programs.{typed_formal}
 use Rattle.typed_parts.specs.Stack.{parts}
 use Rattle.name_programs.proofs.subprograms.formals_part.Given as goal

@@ -1,7 +1,7 @@
 use Rattle.std.proofs.Common.{◌≡◌, ◌+◌}
 use Rattle.name_symbols.specs.Naming as spec
-use Rattle.tree_nodes.specs.Parts.{the_units}
-use Rattle.tree_nodes.specs.Tables.{part_at}
+use Rattle.syntax_nodes.specs.Parts.{the_units}
+use Rattle.syntax_nodes.specs.Tables.{part_at}
 use Rattle.name_symbols.proofs.naming.sub_count.Given as goal
 
 abbrev pub invariant-units : goal.invariant-units

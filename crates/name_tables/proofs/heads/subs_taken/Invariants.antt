@@ -1,6 +1,6 @@
 use Rattle.std.proofs.Common.{◌≡◌, [], length}
 use Rattle.std.specs.Prelude.{map, reverse}
-use Rattle.ada_typed.specs.Programs.{sub_of}
+use Rattle.typed_tree.specs.Programs.{sub_of}
 use Rattle.name_tables.specs.Heads.{subs_back}
 use Rattle.typed_parts.specs.Stack.{parts_in}
 use Rattle.name_tables.proofs.heads.subs_taken.Given as goal

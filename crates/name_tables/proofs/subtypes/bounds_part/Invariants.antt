@@ -1,7 +1,7 @@
 use Rattle.std.proofs.Common.{◌≡◌, drop}
 use Rattle.std.specs.Prelude.{map}
-use Rattle.ada_typed.specs.Decoded.{as_bounds}
-use Rattle.ada_typed.specs.Latest.{pop, top}
+use Rattle.typed_tree.specs.Decoded.{as_bounds}
+use Rattle.typed_tree.specs.Latest.{pop, top}
 use Rattle.name_rules.specs.Resolved.{dimension_bounds}
 use Rattle.typed_parts.specs.Stack.{parts}
 use Rattle.name_tables.proofs.subtypes.bounds_part.Given as goal

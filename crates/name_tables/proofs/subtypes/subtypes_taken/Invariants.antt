@@ -1,6 +1,6 @@
 use Rattle.std.proofs.Common.{◌≡◌, ◌-◌, ◌++◌, drop, length}
 use Rattle.std.specs.Prelude.{map}
-use Rattle.ada_typed.specs.Programs.{subtype_of}
+use Rattle.typed_tree.specs.Programs.{subtype_of}
 use Rattle.name_tables.specs.Shapes.{rest_of, with_parts}
 use Rattle.typed_parts.specs.Stack.{parts_in}
 use Rattle.name_tables.proofs.subtypes.subtypes_taken.Given as goal

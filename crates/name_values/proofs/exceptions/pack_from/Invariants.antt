@@ -1,9 +1,9 @@
 use Rattle.std.proofs.Common.{◌≡◌}
 use Rattle.name_rules.specs.Judges.{found_of}
 use Rattle.name_rules.specs.Names as spec
-use Rattle.tree_nodes.specs.Parts.{the_tokens}
-use Rattle.tree_nodes.specs.Tables.{part_at}
-use Rattle.ada_typed.specs.Latest.{pop, top}
+use Rattle.syntax_nodes.specs.Parts.{the_tokens}
+use Rattle.syntax_nodes.specs.Tables.{part_at}
+use Rattle.typed_tree.specs.Latest.{pop, top}
 use Rattle.typed_parts.specs.Stack.{parts}
 use Rattle.name_values.proofs.exceptions.pack_from.Given as goal
 

@@ -1,8 +1,8 @@
 use Rattle.std.proofs.Common.{◌≡◌}
 use Rattle.name_rules.specs.Cases as spec
 use Rattle.name_values.specs.Coverage.{as_naming}
-use Rattle.tree_nodes.specs.Parts.{the_packs}
-use Rattle.tree_nodes.specs.Tables.{part_at}
+use Rattle.syntax_nodes.specs.Parts.{the_packs}
+use Rattle.syntax_nodes.specs.Tables.{part_at}
 use Rattle.typed_parts.specs.Stack.{parts}
 use Rattle.name_values.proofs.handled.named_reasons.Given as goal
 

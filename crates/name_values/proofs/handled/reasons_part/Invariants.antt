@@ -1,6 +1,6 @@
 use Rattle.std.proofs.Common.{◌≡◌, ◌++◌, length}
-use Rattle.ada_typed.specs.Decoded.{as_reasons}
-use Rattle.ada_typed.specs.Latest.{pop, top}
+use Rattle.typed_tree.specs.Decoded.{as_reasons}
+use Rattle.typed_tree.specs.Latest.{pop, top}
 use Rattle.typed_parts.specs.Stack.{parts}
 use Rattle.name_values.proofs.handled.reasons_part.Given as goal
 

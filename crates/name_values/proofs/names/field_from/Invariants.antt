@@ -1,7 +1,7 @@
 use Rattle.std.proofs.Common.{◌≡◌, ◌-◌, length, drop}
 use Rattle.name_rules.specs.Names as spec
 use Rattle.name_rules.specs.Types.{fields_of, shape_in}
-use Rattle.ada_typed.specs.Latest.{top}
+use Rattle.typed_tree.specs.Latest.{top}
 use Rattle.typed_parts.specs.Stack.{parts}
 use Rattle.name_values.proofs.names.field_from.Given as goal
 

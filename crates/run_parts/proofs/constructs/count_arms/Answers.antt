@@ -1,5 +1,5 @@
 use Rattle.std.proofs.Common.{rules, arith}
-use Rattle.ada_typed.specs.Decoded.{arms_at, stmts_at}
+use Rattle.typed_tree.specs.Decoded.{arms_at, stmts_at}
 use Rattle.ada_meaning.specs.Meaning.{arms_of}
 use Rattle.run_parts.specs.Words.{nodes_of}
 use Rattle.run_parts.proofs.Dealt.{count_more, count_done}

@@ -1,5 +1,5 @@
 use Rattle.std.proofs.Common.{◌≡◌, ◌≤◌}
-use Rattle.ada_typed.specs.Decoded.{alternatives_at}
+use Rattle.typed_tree.specs.Decoded.{alternatives_at}
 use Rattle.run_parts.specs.Found.{found_alternative}
 use Rattle.run_parts.specs.Words.{nodes_of}
 use Rattle.run_parts.proofs.finding.find_alternative.Given as goal

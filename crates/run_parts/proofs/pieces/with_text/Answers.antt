@@ -1,5 +1,5 @@
 use Rattle.std.proofs.Common.{rules, arith, ◌++◌}
-use Rattle.ada_typed.specs.Decoded.{bytes_in, leaves_at}
+use Rattle.typed_tree.specs.Decoded.{bytes_in, leaves_at}
 use Rattle.run_parts.specs.Words.{nodes_of}
 use Rattle.run_parts.proofs.Texts.{text_more, text_done}
 use Rattle.run_parts.proofs.pieces.with_text.Goals as goal

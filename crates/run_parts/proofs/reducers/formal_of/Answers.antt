@@ -1,5 +1,5 @@
 use Rattle.std.proofs.Common.{rules}
-use Rattle.ada_typed.specs.Programs.{sub_of}
+use Rattle.typed_tree.specs.Programs.{sub_of}
 use Rattle.run_parts.specs.Words.{nodes_of}
 use Rattle.run_parts.proofs.Reducing.{formal_none, formal_some}
 use Rattle.run_parts.proofs.reducers.formal_of.Goals as goal

@@ -1,5 +1,5 @@
 use Rattle.std.proofs.Common.{sym}
-use Rattle.ada_typed.specs.Programs.{program}
+use Rattle.typed_tree.specs.Programs.{program}
 use Rattle.run_reports.proofs.Writing.{vars_more, vars_short, vars_stop}
 use Rattle.run_reports.proofs.vars.put_vars.Goals as goal
 

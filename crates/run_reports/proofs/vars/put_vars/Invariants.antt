@@ -1,6 +1,6 @@
 use Rattle.std.proofs.Common.{◌-◌, drop, length}
 use Rattle.ada_meaning.specs.Stored.{finals_of}
-use Rattle.ada_typed.specs.Programs.{program}
+use Rattle.typed_tree.specs.Programs.{program}
 use Rattle.run_reports.specs.Ends.{values_of}
 use Rattle.run_reports.specs.Puts.{Putting}
 use Rattle.run_reports.specs.Vars.{vars_lines}

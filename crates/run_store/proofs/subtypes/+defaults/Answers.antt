@@ -1,5 +1,5 @@
 use Rattle.std.proofs.Common.{arith}
-use Rattle.ada_typed.specs.Programs.{program}
+use Rattle.typed_tree.specs.Programs.{program}
 use Rattle.ada_meaning.specs.Values.{layout_within}
 use Rattle.run_store.proofs.Layouts.{repeated_more}
 use Rattle.run_store.proofs.subtypes.+defaults.Goals as goal

@@ -1,5 +1,5 @@
 use Rattle.std.proofs.Common.{◌≡◌, ◌+◌, ◌-◌, ◌*◌, ◌++◌}
-use Rattle.ada_typed.specs.Programs.{program}
+use Rattle.typed_tree.specs.Programs.{program}
 use Rattle.ada_meaning.specs.Values.{defaults, repeated, layout_within}
 use Rattle.run_store.proofs.subtypes.+defaults.Given as goal
 

@@ -1,7 +1,7 @@
 use Rattle.std.proofs.Common.{◌≡◌, ◌<◌, length}
-use Rattle.ada_typed.specs.Decoded.{Nothing, as_selections, part_at}
-use Rattle.ada_typed.specs.Indexes.{indexes_from}
-use Rattle.ada_typed.specs.Latest.{pop, top}
+use Rattle.typed_tree.specs.Decoded.{Nothing, as_selections, part_at}
+use Rattle.typed_tree.specs.Indexes.{indexes_from}
+use Rattle.typed_tree.specs.Latest.{pop, top}
 use Rattle.typed_parts.specs.Stack.{parts}
 use Rattle.typed_parts.proofs.parts.Parts.indexes.Given as goal
 

@@ -1,5 +1,5 @@
 use Rattle.typed_parts.specs.ClassChains.{Leads}
-use Rattle.ada_typed.specs.Decoded.{part_at}
+use Rattle.typed_tree.specs.Decoded.{part_at}
 use Rattle.typed_parts.proofs.parts.Parts.last_of.Given as goal
 
 abbrev pub invariant-loop-next : goal.invariant-loop-next

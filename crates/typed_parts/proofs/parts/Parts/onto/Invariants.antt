@@ -1,6 +1,6 @@
 use Rattle.std.proofs.Common.{◌≡◌, ◌<◌, length}
-use Rattle.ada_typed.specs.Decoded.{part_at}
-use Rattle.ada_typed.specs.Latest.{onto}
+use Rattle.typed_tree.specs.Decoded.{part_at}
+use Rattle.typed_tree.specs.Latest.{onto}
 use Rattle.typed_parts.specs.Stack.{parts}
 use Rattle.typed_parts.proofs.parts.Parts.onto.Given as goal
 

@@ -1,8 +1,0 @@
-use Rattle.behaviours.specs.Paths.{VariableOf}
-use Rattle.ada_meaning.specs.Meaning.{variable_root}
-use Rattle.run_store.specs.Environment.{env_of}
-use Rattle.ada_interpreter.proofs.Following.{gives_there}
-use Rattle.ada_interpreter.proofs.paths.variable_by_path.Goals as goal
-
-pub returns-in-Some : goal.returns-in-Some
-returns-in-Some g c = gives_there c.args.work.now (env_of c.args.env.now) g.P.Port.Tells c.args.store.now VariableOf c.args.calls c.args.id c.variable_root-part.result.object c.variable_root-part.result.offset c.in-Some.offset (variable_root c.args.root (env_of c.args.env.now)) c.cell.result c.variable_root-part.ensures c.in-Some.ensures c.cell.ensures

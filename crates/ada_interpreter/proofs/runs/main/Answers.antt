@@ -1,5 +1,0 @@
-use Rattle.ada_interpreter.proofs.Running.{main_shows}
-use Rattle.ada_interpreter.proofs.runs.main.Goals as goal
-
-pub returns : goal.returns
-returns g c = rw c.main_ended.ensures (main_shows c.args.work.now c.body-how.result c.args.store.now c.body-how.new.store c.body-how.ensures)

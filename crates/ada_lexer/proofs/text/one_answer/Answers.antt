@@ -1,7 +1,0 @@
-use Rattle.std.specs.Str.{chars}
-use Rattle.ada_lexer.proofs.OneList.{one_list}
-use Rattle.ada_lexer.proofs.OneFault.{one_fault, no_fault}
-use Rattle.ada_lexer.proofs.text.one_answer.Goals as goal
-
-pub returns : goal.returns
-returns c = record { tokens = λ text items others. one_list (chars text) items others; fault = one_fault; not_both = no_fault }

@@ -1,9 +1,0 @@
-use Rattle.ada_run.specs.Compile.{parsing, resolving}
-use Rattle.ada_run.proofs.Steps.{refuses_first, refuses_next}
-use Rattle.ada_run.proofs.compiler.unit_of.Goals as goal
-
-pub returns-in-Err : goal.returns-in-Err
-returns-in-Err c = refuses_first parsing resolving c.args.tokens.now c.in-Err.refusal c.in-Err.ensures
-
-pub returns : goal.returns
-returns c = refuses_next parsing resolving c.args.tokens.now _ c.in-Err-whole_of.refusal c.in-Ok.ensures c.in-Err-whole_of.ensures

@@ -1,7 +1,0 @@
-use Rattle.std.proofs.Common.{sym, ◌∙◌, true≢false}
-use Rattle.ada_run.proofs.Words.{no_word_of}
-use Rattle.ada_run.proofs.refusal.word_of.Goals as goal
-
-pub returns-else-is_left_out : goal.returns-else-is_left_out
-returns-else-is_left_out c =
-    no_word_of c.args.text.now c.args.at c.args.note c.requires (λ left. true≢false (sym (c.is_left_out.ensures.1 left) ∙ c.if-is_left_out.false))

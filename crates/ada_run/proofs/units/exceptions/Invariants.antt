@@ -1,6 +1,0 @@
-use Rattle.std.proofs.Common.{◌≡◌, take}
-use Rattle.ada_run.specs.Compiled.{exception_names}
-use Rattle.ada_run.proofs.units.exceptions.Given as goal
-
-abbrev pub invariant-loop-exception : goal.invariant-loop-exception
-invariant-loop-exception l = l.names ≡ exception_names l.tokens (take l.exception-index l.declared)

@@ -1,5 +1,0 @@
-use Rattle.std.proofs.Common.{min, ap, ◌∙◌}
-use Rattle.chunk_plan.proofs.plan_cuts.even_chunks.Goals as goal
-
-pub returns : goal.returns
-returns c = c.min-2.ensures ∙ ap (min c.args.chunks) (c.min.ensures ∙ ap (min c.args.n) c.from.ensures)

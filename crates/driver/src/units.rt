@@ -1,0 +1,149 @@
+//! The unit of a typed program.
+
+ghost use Rattle.std.specs.Prelude.{◌≡◌, ◌++◌, ◌∷◌, [], IfOk, slice_get};
+ghost use Rattle.ada_meaning.specs.Meaning.{object_layout};
+ghost use Rattle.ada_meaning.specs.Nonblocking.{KeepsRule};
+ghost use Rattle.typed_tree.specs.Decoded.{decls_at};
+ghost use Rattle.typed_tree.specs.Programs.{program};
+ghost use Rattle.driver.specs.Compiled.{also_final, compiled, compiled_of, declared_variable, exception_names, final_of, finals_behind, name_of, truths};
+
+use crate::shapes::truths_of;
+use crate::unit::Unit;
+use ada_base::{Items, Tokens};
+use run_reports::Final;
+use std::alloc::{AllocError, Global};
+use typed_tree::{Decl, Declared, Typed};
+
+/// The unit of a typed program, whose names are those of these tokens. An Err is want of memory.
+pub fn finish(alloc: Global, tokens: &Tokens, typed: Typed) -> Result<Unit, AllocError>
+    requires { KeepsRule (program typed) }
+    ensures { IfOk result (λ unit. compiled_of unit ≡ compiled tokens.now (program typed)) }
+{
+    let finals = finals(alloc, tokens, &typed)?;
+    let exceptions = exceptions(alloc, tokens, typed.exceptions.as_slice())?;
+    Ok(Unit {
+        typed,
+        finals,
+        exceptions,
+    })
+}
+
+fn exceptions(
+    alloc: Global,
+    tokens: &Tokens,
+    declared: &[Declared],
+) -> Result<Items<Items<u8>>, AllocError>
+    ensures { IfOk result (λ names. names ≡ exception_names tokens.now declared.now) }
+{
+    let mut names = Items::new(alloc);
+    for exception in declared {
+        let name = spelled(alloc, tokens.slice(exception.name))?;
+        names.push(name)?;
+    }
+    Ok(names)
+}
+
+fn spelled(alloc: Global, text: &str) -> Result<Items<u8>, AllocError>
+    ensures { IfOk result (λ name. name ≡ text.now) }
+{
+    let mut name = Items::new(alloc);
+    name.extend(text.as_bytes())?;
+    Ok(name)
+}
+
+fn finals(alloc: Global, tokens: &Tokens, typed: &Typed) -> Result<Items<Final>, AllocError>
+    ensures { IfOk result (λ finals. finals ≡ finals_behind tokens.now (program typed.now) [] (program typed.now).body.decls) }
+{
+    match typed.nodes.body(typed.body) {
+        None => Ok(Items::new(alloc)),
+        Some(body) => {
+            let finals = declared(alloc, tokens, typed, body.decls)?;
+            Ok(finals)
+        }
+    }
+}
+
+/// The variables that are declared from a cell of a list of declarations on.
+fn declared(
+    alloc: Global,
+    tokens: &Tokens,
+    typed: &Typed,
+    decls: u32,
+) -> Result<Items<Final>, AllocError>
+    ensures { IfOk result (λ finals. finals ≡ finals_behind tokens.now (program typed.now) [] (decls_at typed.now.nodes decls)) }
+{
+    let mut finals = Items::new(alloc);
+    let mut next = decls;
+    while let Some(cell) = typed.nodes.decls(next) {
+        let object = variable_of(typed.nodes.decl(cell.first));
+        also(alloc, tokens, typed, object, &mut finals)?;
+        next = cell.rest;
+    }
+    Ok(finals)
+}
+
+/// One more variable, where there is one.
+fn also(
+    alloc: Global,
+    tokens: &Tokens,
+    typed: &Typed,
+    object: Option<u32>,
+    finals: &mut Items<Final>,
+) -> Result<(), AllocError>
+    ensures { IfOk result (λ u. finals.new ≡ also_final tokens.now (program typed.now) finals.old object) }
+{
+    match object {
+        None => Ok(()),
+        Some(object) => {
+            let variable = variable(alloc, tokens, typed, object)?;
+            finals.push(variable)?;
+            Ok(())
+        }
+    }
+}
+
+/// The object of a declaration of a variable.
+fn variable_of(decl: Option<Decl>) -> Option<u32>
+    ensures { result ≡ declared_variable decl }
+{
+    match decl {
+        Some(Decl::Default { object }) => Some(object),
+        Some(Decl::Variable { object, .. }) => Some(object),
+        _ => None,
+    }
+}
+
+fn variable(alloc: Global, tokens: &Tokens, typed: &Typed, object: u32) -> Result<Final, AllocError>
+    ensures { IfOk result (λ variable. variable ≡ final_of tokens.now (program typed.now) object) }
+{
+    let name = object_name(alloc, tokens, typed, object)?;
+    let booleans = object_truths(alloc, typed, object)?;
+    Ok(Final { name, booleans })
+}
+
+fn object_name(
+    alloc: Global,
+    tokens: &Tokens,
+    typed: &Typed,
+    object: u32,
+) -> Result<Items<u8>, AllocError>
+    ensures { IfOk result (λ name. name ≡ name_of tokens.now (slice_get typed.now.objects object)) }
+{
+    match typed.objects.get(object as usize) {
+        None => Ok(Items::new(alloc)),
+        Some(found) => {
+            let name = spelled(alloc, tokens.slice(found.name))?;
+            Ok(name)
+        }
+    }
+}
+
+fn object_truths(alloc: Global, typed: &Typed, object: u32) -> Result<Items<bool>, AllocError>
+    ensures { IfOk result (λ booleans. booleans ≡ truths (object_layout (program typed.now) object)) }
+{
+    let mut booleans = Items::new(alloc);
+    if let Some(found) = typed.objects.get(object as usize) {
+        truths_of(typed, found.subtype, &mut booleans)?;
+    }
+    Ok(booleans)
+}

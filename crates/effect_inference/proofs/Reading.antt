@@ -1,9 +1,0 @@
--- Reading of a typed program's tables.
-use Rattle.std.proofs.Common.{◌≡◌}
-use Rattle.ada_typed.specs.Syntax.{Expr, Present}
-use Rattle.ada_typed.specs.Decoded.{Part, as_expr, as_optional, AnExpr}
-
--- an expression that is there
-pub present_is : (p : Part) (e : Expr) → as_optional p ≡ Present e → as_expr p ≡ e
-present_is (AnExpr x) e h = cc
-present_is _ e h = cc

@@ -1,5 +1,0 @@
-use Rattle.std.proofs.Common.{◌≡◌, ◌++◌, replicate}
-use Rattle.effect_inference.proofs.paths.repeat.Given as goal
-
-abbrev pub invariant-loop-dimension : goal.invariant-loop-dimension
-invariant-loop-dimension l = l.found ≡ l.fn.found ++ replicate l._dimension l.selector

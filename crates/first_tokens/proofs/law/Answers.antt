@@ -1,5 +1,0 @@
-use Rattle.first_tokens.proofs.SpelledFirst.{first_token_law}
-use Rattle.first_tokens.proofs.law.Goals as goal
-
-pub returns : goal.returns
-returns c = first_token_law

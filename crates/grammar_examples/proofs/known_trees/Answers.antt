@@ -1,8 +1,0 @@
-use Rattle.grammar_examples.proofs.Answers.{examples_derived, examples_missed}
-use Rattle.grammar_examples.proofs.known_trees.Goals as goal
-
-pub returns-clause-derived : goal.returns-clause-derived
-returns-clause-derived c = examples_derived
-
-pub returns-clause-missed : goal.returns-clause-missed
-returns-clause-missed c = examples_missed

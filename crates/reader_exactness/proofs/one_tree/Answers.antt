@@ -1,9 +1,0 @@
-use Rattle.ada_base.specs.TokenKinds.{kinds_of}
-use Rattle.reader_exactness.proofs.Units.{one_program}
-use Rattle.reader_exactness.proofs.one_tree.Goals as goal
-
-pub returns-clause-kinds : goal.returns-clause-kinds
-returns-clause-kinds c = one_program
-
-pub returns-clause-tokens : goal.returns-clause-tokens
-returns-clause-tokens c tokens = one_program (kinds_of tokens)

@@ -1,0 +1,7 @@
+use Rattle.std.specs.Str.{chars}
+use Rattle.syntax_lexer.proofs.OneList.{one_list}
+use Rattle.syntax_lexer.proofs.OneFault.{one_fault, no_fault}
+use Rattle.syntax_lexer.proofs.text.one_answer.Goals as goal
+
+pub returns : goal.returns
+returns c = record { tokens = λ text items others. one_list (chars text) items others; fault = one_fault; not_both = no_fault }

@@ -1,0 +1,4 @@
+use Rattle.tests_typed.proofs.readings.put_statements.Given as goal
+
+abbrev pub decreases-loop-cell : goal.decreases-loop-cell
+decreases-loop-cell l = l.at

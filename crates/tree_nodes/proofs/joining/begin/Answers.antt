@@ -1,7 +1,0 @@
-use Rattle.tree_nodes.specs.Stack.{parts}
-use Rattle.tree_nodes.proofs.Stacks.{stack_none}
-use Rattle.tree_nodes.proofs.joining.begin.Goals as goal
-
-pub returns : goal.returns
-unfolding parts
-returns c = rw (c.new-2.ensures) (stack_none _)

@@ -1,4 +1,0 @@
-use Rattle.typed_examples.proofs.readings.put_expressions.Given as goal
-
-abbrev pub decreases-loop-cell : goal.decreases-loop-cell
-decreases-loop-cell l = l.at
