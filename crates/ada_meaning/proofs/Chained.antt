@@ -10,7 +10,8 @@ use Rattle.behaviours.specs.Joins.{Share, Site, deal}
 use Rattle.ada_meaning.specs.Values.{result, divides, overflows, is_zero, value_or_zero}
 use Rattle.ada_meaning.specs.Operations.{CheckKind, ZeroCheck, OverflowCheck, chunk_of, reduce, zero_checked, overflow_checked}
 use Rattle.ada_meaning.specs.Stored
-use Rattle.ada_meaning.specs.Stored.{State, InOrder, Schedule, ByNotes, ThreadNote, Whole, NotBegun, CutAfter, Cause, Left, OutOfTurns, NoRoom, CutOff, Misnoted, After, Place, Thread, Team, Visit, ThreadOf, TeamOf, Stored, loose, teams, cell_at, next, next_visits, handled_visits, begun, has_room, took, Touch, slot_at}
+use Rattle.ada_base.specs.Notes.{InOrder, Schedule, ByNotes, ThreadNote, Whole, NotBegun, CutAfter}
+use Rattle.ada_meaning.specs.Stored.{State, Cause, Left, OutOfTurns, NoRoom, CutOff, Misnoted, After, Place, Thread, Team, Visit, ThreadOf, TeamOf, Stored, loose, teams, cell_at, next, next_visits, handled_visits, begun, has_room, took, Touch, slot_at}
 use Rattle.ada_meaning.specs.Touched.{Before, EachTeam, SameCells, Leaves, Chain, IsChain, touches_of, IsJoin, Rises, IsLined, JoinLaw}
 use Rattle.ada_meaning.proofs.Framed
 use Rattle.ada_meaning.proofs.Framed.{Framed, before_grown, took_same, written_left, written_right}

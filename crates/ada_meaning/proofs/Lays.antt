@@ -9,7 +9,8 @@ use Rattle.ada_meaning.specs.Programs.{input_of, values, with_final, finals}
 use Rattle.ada_meaning.specs.Stored
 use Rattle.ada_meaning.specs.declared.slots.Slot.{Slot}
 use Rattle.ada_meaning.specs.declared.slots.Variable.{Variable}
-use Rattle.ada_meaning.specs.Stored.{State, Schedule, InOrder, Place, Kept, Stacked, slot_at, key, place_of, within, cell_at, put_at, begun, ended, filled, finals_of}
+use Rattle.ada_base.specs.Notes.{Schedule, InOrder}
+use Rattle.ada_meaning.specs.Stored.{State, Place, Kept, Stacked, slot_at, key, place_of, within, cell_at, put_at, begun, ended, filled, finals_of}
 use Rattle.ada_meaning.proofs.Ties.{Future, Goes}
 use Rattle.behaviours.proofs.Shuffle.{instance_same}
 use Rattle.ada_meaning.proofs.Cells.{instance_refl, get_left, get_take, get_set_same, get_set_other, put_same, put_elsewhere, filled_values, part_values}

@@ -27,7 +27,8 @@ use Rattle.ada_meaning.proofs.Between.{between}
 use Rattle.ada_meaning.specs.Law.{IsPermitted, BeginsRun, EndsAs, behaviour}
 use Rattle.ada_meaning.specs.Stored
 use Rattle.ada_meaning.specs.declared.slots.Slot.{Slot}
-use Rattle.ada_meaning.specs.Stored.{State, no_slot, slot_at, Stored, After, at, Cause, Left, OutOfTurns, NoRoom, CutOff, Misnoted, Fault, MemoryFault, InputFault, OutputFault, Stop, Goes, Fails, Computes, Schedule, InOrder, ByNotes, stored, outset, noted, noted_outset, put_out, outcome_of, handled}
+use Rattle.ada_base.specs.Notes.{Schedule, InOrder, ByNotes}
+use Rattle.ada_meaning.specs.Stored.{State, no_slot, slot_at, Stored, After, at, Cause, Left, OutOfTurns, NoRoom, CutOff, Misnoted, Fault, MemoryFault, InputFault, OutputFault, Stop, Goes, Fails, Computes, stored, outset, noted, noted_outset, put_out, outcome_of, handled}
 use Rattle.ada_meaning.specs.StoredLaw.{StoredLaw, NotedLaw, StoppedLaw, NotedStoppedLaw, JournalLaw, SomeLaw, StoredSequentialLaw}
 use Rattle.ada_meaning.proofs.Induction
 use Rattle.ada_meaning.proofs.Induction.{Relates}

@@ -21,7 +21,8 @@ use Rattle.ada_meaning.specs.Nonblocking.{KeepsRule}
 use Rattle.ada_meaning.specs.Planned.{here}
 use Rattle.ada_meaning.specs.Touched.{EachTeam}
 use Rattle.ada_meaning.specs.Stored
-use Rattle.ada_meaning.specs.Stored.{State, Schedule, InOrder, Touch, Thread, Team, Visit, ThreadOf, TeamOf, Stored, After, at, Cause, Left, OutOfTurns, NoRoom, CutOff, Misnoted, begun, has_room, noted, noted_outset}
+use Rattle.ada_base.specs.Notes.{Schedule, InOrder}
+use Rattle.ada_meaning.specs.Stored.{State, Touch, Thread, Team, Visit, ThreadOf, TeamOf, Stored, After, at, Cause, Left, OutOfTurns, NoRoom, CutOff, Misnoted, begun, has_room, noted, noted_outset}
 use Rattle.ada_meaning.proofs.Induction
 use Rattle.ada_meaning.proofs.Induction.{Relates}
 use Rattle.ada_meaning.proofs.Lays.{Mode, threaded, Tie, Has, Visible, visible_same, has_moved}

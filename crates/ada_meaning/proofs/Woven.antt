@@ -9,7 +9,8 @@ use Rattle.behaviours.specs.Behaviours.{Behaviour, Asks, is_left}
 use Rattle.behaviours.specs.Behaviours
 use Rattle.ada_meaning.specs.Programs.{finals}
 use Rattle.ada_meaning.specs.Stored
-use Rattle.ada_meaning.specs.Stored.{State, Visit, Schedule, InOrder, ByNotes, ThreadNote, Whole, NotBegun, CutAfter, ConstructNote, After, at, Stored, Cause, Left, OutOfTurns, NoRoom, CutOff, Misnoted, Fault, MemoryFault, Unbegun, Stops, next, next_halts, finals_of, took, gathered, is_spent}
+use Rattle.ada_base.specs.Notes.{Schedule, InOrder, ByNotes, ThreadNote, Whole, NotBegun, CutAfter, ConstructNote}
+use Rattle.ada_meaning.specs.Stored.{State, Visit, After, at, Stored, Cause, Left, OutOfTurns, NoRoom, CutOff, Misnoted, Fault, MemoryFault, Unbegun, Stops, next, next_halts, finals_of, took, gathered, is_spent}
 use Rattle.ada_meaning.specs.Deeds.{deeds_of}
 use Rattle.ada_meaning.proofs.Fronts.{deeds_append}
 use Rattle.behaviours.proofs.Shuffle.{fits_append, after_append, shuffle_in_order}

@@ -8,6 +8,7 @@ use Rattle.typed_tree.specs.declared.expressions.Reducer.{Reducer}
 use Rattle.typed_tree.specs.Syntax.{Program}
 use Rattle.ada_base.specs.Cuts.{cuts_of}
 use Rattle.ada_base.specs.Input.{Held, Nothing}
+use Rattle.ada_base.specs.Notes.{ThreadNote, Whole, NotBegun, CutAfter, ConstructNote, Schedule, InOrder, ByNotes}
 use Rattle.behaviours.specs.Doings.{Doings, through, onto, folded}
 use Rattle.behaviours.specs.Paths.{Leave, Raises, Exits, Returns, Entity, VariableOf, ConstantOf, Region, Everywhere, Here}
 use Rattle.behaviours.specs.Joins.{Site, Share, deal}
@@ -16,23 +17,6 @@ use Rattle.ada_meaning.specs.Meaning.{main, object_layout}
 use Rattle.ada_meaning.specs.Programs.{Setting}
 use Rattle.ada_meaning.specs.Deeds.{Deed, Asked, PutOut}
 use Rattle.ada_meaning.specs.Law.{Ending, Ended, Raised, TurnsSpent, ReadFault, WriteFault, NoMemory, Outcome}
-
--- Notes of a run: how the threads of its outermost constructs went. A thread went to its own end, or wasn't begun, or was
--- cut after so many looks
-pub data ThreadNote : Type 0 where
-  Whole : ThreadNote
-  NotBegun : ThreadNote
-  CutAfter : (looks : ℕ) → ThreadNote
-
--- the thread by which a construct was left, if it was, and then a note of each thread
-pub record ConstructNote : Type 0 where
-  pub chosen : Option ℕ
-  pub threads : List ThreadNote
-
--- how constructs are run: in order; or outermost ones by these notes, one each, and those inside threads in order
-pub data Schedule : Type 0 where
-  InOrder : Schedule
-  ByNotes : List ConstructNote → Schedule
 
 abbrev pub no_slot : Slot
 no_slot = record { frame = 0; address = 0; cells = 0 }

@@ -7,7 +7,8 @@ use Rattle.ada_meaning.specs.Programs.{Setting, input_of, sequential}
 use Rattle.ada_meaning.specs.Deeds.{Deed, StopsBetween}
 use Rattle.ada_meaning.specs.Law
 use Rattle.ada_meaning.specs.Law.{Outcome, IsPermitted, IsPlan, EndsItself}
-use Rattle.ada_meaning.specs.Stored.{State, Stop, Fault, ConstructNote, ByNotes, answered, Schedule, InOrder, Computes, stored, outset, noted, noted_outset, put_out, outcome_of, ending_of, comes_to}
+use Rattle.ada_base.specs.Notes.{ConstructNote, ByNotes, Schedule, InOrder}
+use Rattle.ada_meaning.specs.Stored.{State, Stop, Fault, answered, Computes, stored, outset, noted, noted_outset, put_out, outcome_of, ending_of, comes_to}
 
 -- Let a stored run come to an answer and a state, by itself or by a fault of input, output or memory. Then the output that
 -- was there is followed by what it put out, and what it comes to is permitted, with one worker and with more.

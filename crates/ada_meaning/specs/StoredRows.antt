@@ -12,7 +12,8 @@ use Rattle.ada_meaning.specs.Deeds.{PutOut}
 use Rattle.ada_meaning.specs.Law.{Outcome, Ended, Raised, TurnsSpent, NoMemory, Ending, WriteFault}
 use Rattle.ada_meaning.specs.Rows as rows
 use Rattle.ada_meaning.specs.Rows.{integers, integer, number, sum, put_image, object_of, made_of, upto, array_of, filled_with, indexed, component, adds, reduced, dealt, find, gets, keeps, leaves, passes, spends}
-use Rattle.ada_meaning.specs.Stored.{State, Kept, Touch, Thread, Visit, ThreadOf, TeamOf, ThreadNote, Whole, NotBegun, CutAfter, ConstructNote, Schedule, InOrder, ByNotes, no_slot, Computes, answered, noted, noted_outset, Fails, InputFault, OutputFault, stored, outset, outcome_of, comes_to}
+use Rattle.ada_base.specs.Notes.{ThreadNote, Whole, NotBegun, CutAfter, ConstructNote, Schedule, InOrder, ByNotes}
+use Rattle.ada_meaning.specs.Stored.{State, Kept, Touch, Thread, Visit, ThreadOf, TeamOf, no_slot, Computes, answered, noted, noted_outset, Fails, InputFault, OutputFault, stored, outset, outcome_of, comes_to}
 
 abbrev comes : Program → Plan → ℕ → List ℕ → Outcome
 comes program plan limit input = comes_to program (record { plan = plan; one = true; limit = limit }) 12 input

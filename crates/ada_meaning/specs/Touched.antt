@@ -6,7 +6,8 @@ use Rattle.ada_meaning.specs.Meaning.{Env, exec_all, call}
 use Rattle.ada_meaning.specs.Nonblocking.{KeepsRule, KeepsAll, nonblocking_of}
 use Rattle.ada_meaning.specs.Programs.{Setting}
 use Rattle.ada_meaning.specs.Law.{IsRaceFree}
-use Rattle.ada_meaning.specs.Stored.{State, Place, Kept, Stacked, Touch, Thread, Team, Visit, ThreadOf, TeamOf, Schedule, InOrder, Stored, slot_at, cell_at, noted_operations, noted, noted_outset}
+use Rattle.ada_base.specs.Notes.{Schedule, InOrder}
+use Rattle.ada_meaning.specs.Stored.{State, Place, Kept, Stacked, Touch, Thread, Team, Visit, ThreadOf, TeamOf, Stored, slot_at, cell_at, noted_operations, noted, noted_outset}
 
 -- the cell is there
 abbrev pub Before : State → Place → Type 0

@@ -5,7 +5,8 @@ use Rattle.behaviours.specs.Paths.{Entity}
 use Rattle.behaviours.specs.Joins.{Share}
 use Rattle.ada_meaning.specs.Nonblocking.{KeepsRule}
 use Rattle.ada_meaning.specs.Programs.{Setting}
-use Rattle.ada_meaning.specs.Stored.{State, Place, Kept, Touch, Thread, Team, Schedule, InOrder, key, slot_at, within, place_of, noted, noted_outset}
+use Rattle.ada_base.specs.Notes.{Schedule, InOrder}
+use Rattle.ada_meaning.specs.Stored.{State, Place, Kept, Touch, Thread, Team, key, slot_at, within, place_of, noted, noted_outset}
 use Rattle.ada_meaning.specs.Touched.{Before, EachTeam}
 use Rattle.check_effects.specs.Effects.{Construct, Holds}
 use Rattle.check_effects.specs.Conflicts.{InProgram}

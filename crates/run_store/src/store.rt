@@ -36,7 +36,7 @@ const ROOM: u64 = 400_000;
 impl<P: Port + Drop> Model for Store<P> {
     ghost use Rattle.std.specs.Prelude.{length, None};
     ghost use Rattle.run_store.specs.Shows.{Image};
-    ghost use Rattle.ada_meaning.specs.Stored.{InOrder};
+    ghost use Rattle.ada_base.specs.Notes.{InOrder};
 
     ghost Value = { Image };
 
