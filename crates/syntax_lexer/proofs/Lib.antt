@@ -1,5 +1,6 @@
 pub mod Answered
 pub mod Blank
+pub mod Complete
 pub mod Edges
 pub mod Numerals
 pub mod IntegerLaw

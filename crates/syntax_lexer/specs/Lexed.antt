@@ -42,3 +42,18 @@ GivesTokens (Err fault) items = fault ≡ OutOfMemory
 abbrev pub GivesFault : Result Tokenized LexFault → Fault → Type 0
 GivesFault (Ok tokens) fault = ⊥
 GivesFault (Err told) fault = (told ≡ OutOfMemory) ⊎ (fault_of told ≡ Some fault)
+
+-- the text is read as characters, and has tokens within the limits
+pub record HasTokens (text : List ℕ) : Type 0 where
+  pub readable : IsReadable text
+  pub items : List Token
+  pub tokens_of : AreTokensOf text items
+  pub limits : KeepLimits items
+
+pub record HasFault (text : List ℕ) : Type 0 where
+  pub fault : Fault
+  pub first : IsFirstFault text fault
+
+-- a text has tokens within the limits, or a first fault that says why not
+abbrev pub HasAnswer : List ℕ → Type 0
+HasAnswer text = HasTokens text ⊎ HasFault text

@@ -2,7 +2,7 @@
 ghost use Rattle.std.specs.Prelude.{◌≡◌, ◌≤◌, ℕ, List, length, IfOk, IfErr, MatchResult};
 ghost use Rattle.std.specs.Str.{chars};
 ghost use Rattle.syntax_tree.specs.Faults.{byte_limit, Fault, IsFirstFault, IsReadable, KeepLimits};
-ghost use Rattle.syntax_lexer.specs.Lexed.{AreLexed, Tells, GivesTokens, GivesFault};
+ghost use Rattle.syntax_lexer.specs.Lexed.{AreLexed, Tells, GivesTokens, GivesFault, HasAnswer};
 ghost use Rattle.syntax_tree.specs.Tokens.{AreTokensOf};
 ghost use Rattle.ada_base.specs.declared.token.Token.{Token};
 ghost use Rattle.syntax_lexer.specs.Stop.{StopsAt};
@@ -87,9 +87,10 @@ pub fn lex(alloc: Global, text: &[u8]) -> Result<Tokens, LexFault>
     judge(alloc, text)
 }
 
-/// A text has at most one token list, at most one first fault, and not both where the tokens are within the
-/// limits.
+/// A text has either tokens within the limits or a first fault, and not both. It has at most one token list, and at most
+/// one first fault.
 pub fn one_answer()
+    ensures some { (text : List ℕ) → HasAnswer text }
     ensures tokens { (text : List ℕ) (items others : List Token) →
         AreTokensOf text items → AreTokensOf text others → items ≡ others }
     ensures fault { (text : List ℕ) (first other : Fault) →
