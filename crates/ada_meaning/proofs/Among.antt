@@ -1,13 +1,15 @@
--- Runs in which reads give less and less is asked of threads, among those in which they give more and more is asked.
-use Rattle.std.proofs.Common.{ℕ, zero, suc, ℤ, List, [], ◌∷◌, ◌⊎◌, inl, inr, Option, Some, None, Bool, true, false, ◌||◌}
+-- Runs in which reads give less, less is asked of threads, or they are taken in order, among those in which reads give more,
+-- more is asked, or threads are taken in any order.
+use Rattle.std.proofs.Common.{ℕ, zero, suc, ℤ, List, [], ◌∷◌, ◌⊎◌, inl, inr, Option, Some, None, Bool, true, false, ◌||◌, ◌≡◌, refl, sym, subst, true≢false}
 use Rattle.typed_tree.specs.declared.scalars.Scalar.{Scalar}
 use Rattle.typed_tree.specs.declared.expressions.Reducer.{Reducer}
 use Rattle.typed_tree.specs.declared.expressions.Reducer.TheVariants.{Operator, Function}
 use Rattle.typed_tree.specs.Syntax.{Program}
 use Rattle.behaviours.specs.Doings.{through, onto, folded}
-use Rattle.behaviours.specs.Paths.{ThreadName, Leave, Entity, Region, Instance, End, Gives, Leaves, Path, Scope, find, apart_of, enter, is_inside}
-use Rattle.behaviours.specs.Events.{Reads, Trace}
-use Rattle.behaviours.specs.Joins.{Site, Ran, Share, deal, EachRan}
+use Rattle.behaviours.specs.Paths.{ThreadName, Leave, Entity, Region, Instance, End, Gives, Leaves, Spent, Stopped, Path, Scope, find, apart_of, enter, is_inside}
+use Rattle.behaviours.specs.Events.{Reads, Trace, Shuffle}
+use Rattle.behaviours.specs.Joins.{Site, Ran, Share, deal, EachRan, FirstEnds, Form, Joins, JoinsInOrder, SomeEnds, traces}
+use Rattle.behaviours.proofs.Shuffle.{shuffle_in_order}
 use Rattle.behaviours.specs.Behaviours.{Asks, Behaviour, EachSafe, MayTrace, ThreadApart, ThreadsApart, asks_apart, asks_at_once}
 use Rattle.ada_meaning.specs.Operations.{Cut, chunk_of, Operations, operate, reduce}
 use Rattle.ada_meaning.specs.Meaning.{main}
@@ -93,27 +95,61 @@ threads_apart : (may also : Share → Trace Instance → Type 0) → ((j : Share
 threads_apart may also h [] a = tt
 threads_apart may also h (j ∷ js) a = (thread_apart may also h j js a.0, threads_apart may also h js a.1)
 
+-- what is taken in order by the second is by the first
+abbrev pub Fewer : Bool → Bool → Type 0
+Fewer ordered wide = wide ≡ true → ordered ≡ true
+
+not_fewer : Fewer false true → ⊥
+not_fewer f = true≢false (sym (f refl))
+
 -- more is asked where a thread may have more traces, by one rule and by the other
 abbrev pub AsksMore : Asks Instance → Asks Instance → Type 1
-AsksMore asks more = (ordered : Bool) (who : ThreadName) (site : Site) (c : ℕ) (s : Scope Instance) (js : List Share) (may also : Share → Trace Instance → Type 0) → ((j : Share) (tr : Trace Instance) → may j tr → also j tr) → more ordered who site c s js also → asks ordered who site c s js may
+AsksMore asks more =
+    (ordered wide : Bool) (who : ThreadName) (site : Site) (c : ℕ) (s : Scope Instance) (js : List Share) (may also : Share → Trace Instance → Type 0) → Fewer ordered wide → ((j : Share) (tr : Trace Instance) → may j tr → also j tr)
+    → more wide who site c s js also → asks ordered who site c s js may
 
 pub apart_more : AsksMore asks_apart asks_apart
-apart_more ordered who site c s js may also h a = threads_apart may also h js a
+apart_more ordered wide who site c s js may also f h a = threads_apart may also h js a
 
 pub at_once_more : AsksMore asks_at_once asks_at_once
-at_once_more true who site c s js may also h a = a
-at_once_more false who site c s js may also h a = threads_apart may also h js a
+at_once_more true wide who site c s js may also f h a = tt
+at_once_more false true who site c s js may also f h a = absurd (not_fewer f)
+at_once_more false false who site c s js may also f h a = threads_apart may also h js a
 
 pub fewer_at_once : AsksMore asks_at_once asks_apart
-fewer_at_once true who site c s js may also h a = tt
-fewer_at_once false who site c s js may also h a = threads_apart may also h js a
+fewer_at_once true wide who site c s js may also f h a = tt
+fewer_at_once false wide who site c s js may also f h a = threads_apart may also h js a
 
-module _ (admits also : Scalar → ℤ → Type 0) (wider : (cell : Scalar) (v : ℤ) → admits cell v → also cell v) (asks more : Asks Instance) (asked : AsksMore asks more) (limit : ℕ) (cuts : ℕ → ℕ → List ℕ) (one : Bool) where
+-- threads that are taken in order are among those that are taken in any order
+
+first_is_some : {A : Type 0} (p : Path Instance) (rs : List (Ran Instance A)) (e : End A) → FirstEnds p rs e → SomeEnds rs e
+first_is_some p [] e h = h
+first_is_some p (r ∷ rs) e (inl h) = inl h.0
+first_is_some p (r ∷ rs) e (inr h) = inr (first_is_some p rs e h.1)
+
+joins_in_order : {A : Type 0} (p : Path Instance) (rs : List (Ran Instance A)) (e : End (List A)) → JoinsInOrder p rs e → Joins rs e
+joins_in_order p rs (Gives values) h = h
+joins_in_order p rs (Leaves x) h = first_is_some p rs (Leaves x) h
+joins_in_order p rs Spent h = h
+joins_in_order p rs Stopped h = tt
+
+form_wider : {A : Type 0} (ordered wide : Bool) (p : Path Instance) (rs : List (Ran Instance A)) (tr : Trace Instance) (e : End (List A)) → Fewer ordered wide → Form ordered p rs tr e → Form wide p rs tr e
+form_wider true true p rs tr e f h = h
+form_wider true false p rs tr e f h = (subst (λ z. Shuffle (traces rs) z) (sym h.0) (shuffle_in_order (traces rs)), joins_in_order p rs e h.1)
+form_wider false true p rs tr e f h = absurd (not_fewer f)
+form_wider false false p rs tr e f h = h
+
+inside_fewer : (one many inside : Bool) → Fewer one many → Fewer (one || inside) (many || inside)
+inside_fewer true many inside f e = refl
+inside_fewer false true inside f e = absurd (not_fewer f)
+inside_fewer false false inside f e = e
+
+module _ (admits also : Scalar → ℤ → Type 0) (wider : (cell : Scalar) (v : ℤ) → admits cell v → also cell v) (asks more : Asks Instance) (asked : AsksMore asks more) (limit : ℕ) (cuts : ℕ → ℕ → List ℕ) (one many : Bool) (fewer : Fewer one many) where
   abbrev narrow : Operations {1}
   narrow = Runs.operations Instance this admits asks limit cuts one
 
   abbrev wide : Operations {1}
-  wide = Runs.operations Instance this also more limit cuts one
+  wide = Runs.operations Instance this also more limit cuts many
 
   elaborates_among : {A : Type 0} (region : Region) (x : Entity) (vs : List ℤ) (b c : Behaviour Instance A) → Among b c → Among (narrow.elaborates region x vs b) (wide.elaborates region x vs c)
   elaborates_among {A} region x vs b c h = record { runs = go; safe = λ s p. h.safe _ _ }
@@ -123,45 +159,45 @@ module _ (admits also : Scalar → ℤ → Type 0) (wider : (cell : Scalar) (v :
       go s p tr y p' e (inr stopped) = inr stopped
 
   par_among : {A : Type 0} (site : Site) (js : List Share) (f g : Share → Behaviour Instance A) → ((j : Share) → Among (f j) (g j))
-      → Among (Behaviours.par asks one site js f) (Behaviours.par more one site js g)
+      → Among (Behaviours.par asks one site js f) (Behaviours.par more many site js g)
   par_among {A} site js f g h = record {
     runs = go;
     safe = λ s p a. (
-      asked (one || is_inside p) p.name site p.constructs s js (λ j tr. MayTrace (f j) s p tr) (λ j tr. MayTrace (g j) s p tr)
+      asked (one || is_inside p) (many || is_inside p) p.name site p.constructs s js (λ j tr. MayTrace (f j) s p tr) (λ j tr. MayTrace (g j) s p tr) (inside_fewer one many (is_inside p) fewer)
           (λ j tr m. record { early = m.early; path = m.path; end = m.end; run = (h j).runs s p tr m.early m.path m.end m.run }) a.0,
       each_safe f g h s p js a.1,
     );
   }
     where
       go : (s : Scope Instance) (p : Path Instance) (tr : Trace Instance) (y : Bool) (p' : Path Instance) (e : End (List A)) → (Behaviours.par asks one site js f).runs s p tr y p' e
-          → (Behaviours.par more one site js g).runs s p tr y p' e
-      go s p tr y p' e (inl (rs, each, form, ey, ep)) = inl (rs, each_ran f g h s p js rs each, form, ey, ep)
+          → (Behaviours.par more many site js g).runs s p tr y p' e
+      go s p tr y p' e (inl (rs, each, form, ey, ep)) = inl (rs, each_ran f g h s p js rs each, form_wider (one || is_inside p) (many || is_inside p) p rs tr e (inside_fewer one many (is_inside p) fewer) form, ey, ep)
       go s p tr y p' e (inr u) = inr u
 
   loops_among : (site : Site) (cut : Cut) (f g : ℕ → ℕ → Behaviour Instance (Unit {0})) → ((j i : ℕ) → Among (f j i) (g j i)) → Among (narrow.loops site cut f) (wide.loops site cut g)
   loops_among site cut f g h =
-      let js = deal 0 0 (Runs.sizes_of Instance this also more limit cuts one cut) in
+      let js = deal 0 0 (Runs.sizes_of Instance this also more limit cuts many cut) in
       let thread = λ (k : Share). within_among k.number (through (Behaviours.doings Instance) k.first k.size tt (λ i _. f (chunk_of cut k.number) i)) (through (Behaviours.doings Instance) k.first k.size tt (λ i _. g (chunk_of cut k.number) i))
       (through_among k.first k.size tt (λ i _. f (chunk_of cut k.number) i) (λ i _. g (chunk_of cut k.number) i) (λ i _. h (chunk_of cut k.number) i)) in
-      bind_among (Behaviours.par asks one site js (Runs.loop_thread (λ j. f (chunk_of cut j)))) (Behaviours.par more one site js (Runs.loop_thread (λ j. g (chunk_of cut j))))
+      bind_among (Behaviours.par asks one site js (Runs.loop_thread (λ j. f (chunk_of cut j)))) (Behaviours.par more many site js (Runs.loop_thread (λ j. g (chunk_of cut j))))
       (λ _. Behaviours.ret tt) (λ _. Behaviours.ret tt) (par_among site js (Runs.loop_thread (λ j. f (chunk_of cut j))) (Runs.loop_thread (λ j. g (chunk_of cut j))) thread) (λ _. itself (Behaviours.ret tt))
 
-  combined_among : (v : ℤ) (values : List ℤ) (f g : ℤ → ℤ → Behaviour Instance ℤ) → ((x y : ℤ) → Among (f x y) (g x y)) → Among (Runs.combined Instance this admits asks limit cuts one v values f) (Runs.combined Instance this also more limit cuts one v values g)
+  combined_among : (v : ℤ) (values : List ℤ) (f g : ℤ → ℤ → Behaviour Instance ℤ) → ((x y : ℤ) → Among (f x y) (g x y)) → Among (Runs.combined Instance this admits asks limit cuts one v values f) (Runs.combined Instance this also more limit cuts many v values g)
   combined_among v [] f g h = itself (Behaviours.ret v)
   combined_among v (a ∷ more) f g h = onto_among a more f g h
 
   reduces_among : (site : Site) (cut : Cut) (by : Reducer) (at : ℕ) (v : ℤ) (f g : ℕ → ℕ → Behaviour Instance (Option ℤ)) (c c' d d' : ℤ → ℤ → Behaviour Instance ℤ) → ((j i : ℕ) → Among (f j i) (g j i)) → ((x y : ℤ) → Among (c x y) (d x y)) → ((x y : ℤ) → Among (c' x y) (d' x y))
       → Among (narrow.reduces site cut by at v f c c') (wide.reduces site cut by at v g d d')
   reduces_among site cut by at v f g c c' d d' h r u =
-      let js = deal 0 0 (Runs.sizes_of Instance this also more limit cuts one cut) in
+      let js = deal 0 0 (Runs.sizes_of Instance this also more limit cuts many cut) in
       let fold = reduce (Behaviours.doings Instance) Runs.checks by at in
       let step = λ (k : Share) (i : ℕ) (a : ℤ). bind_among (f (chunk_of cut k.number) i) (g (chunk_of cut k.number) i) (folded (Behaviours.doings Instance) (fold c) a) (folded (Behaviours.doings Instance) (fold d) a) (h (chunk_of cut k.number) i) (folded_among (fold c) (fold d) (reduce_among by at c d r) a) in
       let thread = λ (k : Share). within_among k.number
       (through (Behaviours.doings Instance) k.first k.size v (λ i a. Behaviours.◌>>=◌ (f (chunk_of cut k.number) i) (folded (Behaviours.doings Instance) (fold c) a)))
       (through (Behaviours.doings Instance) k.first k.size v (λ i a. Behaviours.◌>>=◌ (g (chunk_of cut k.number) i) (folded (Behaviours.doings Instance) (fold d) a)))
       (through_among k.first k.size v (λ i a. Behaviours.◌>>=◌ (f (chunk_of cut k.number) i) (folded (Behaviours.doings Instance) (fold c) a)) (λ i a. Behaviours.◌>>=◌ (g (chunk_of cut k.number) i) (folded (Behaviours.doings Instance) (fold d) a)) (step k)) in
-      bind_among (Behaviours.par asks one site js (Runs.fold_thread by at v (λ j. f (chunk_of cut j)) c)) (Behaviours.par more one site js (Runs.fold_thread by at v (λ j. g (chunk_of cut j)) d))
-      (λ values. Runs.combined Instance this admits asks limit cuts one v values (fold c')) (λ values. Runs.combined Instance this also more limit cuts one v values (fold d'))
+      bind_among (Behaviours.par asks one site js (Runs.fold_thread by at v (λ j. f (chunk_of cut j)) c)) (Behaviours.par more many site js (Runs.fold_thread by at v (λ j. g (chunk_of cut j)) d))
+      (λ values. Runs.combined Instance this admits asks limit cuts one v values (fold c')) (λ values. Runs.combined Instance this also more limit cuts many v values (fold d'))
       (par_among site js (Runs.fold_thread by at v (λ j. f (chunk_of cut j)) c) (Runs.fold_thread by at v (λ j. g (chunk_of cut j)) d) thread)
       (λ values. combined_among v values (fold c') (fold d') (reduce_among by at c' d' u))
 

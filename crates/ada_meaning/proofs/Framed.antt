@@ -11,7 +11,7 @@ use Rattle.behaviours.specs.Joins.{Share, Site, deal}
 use Rattle.ada_meaning.specs.Values.{result, divides, overflows, is_zero, value_or_zero}
 use Rattle.ada_meaning.specs.Operations.{CheckKind, ZeroCheck, OverflowCheck, chunk_of, Operations, reduce, zero_checked, overflow_checked}
 use Rattle.ada_meaning.specs.Stored
-use Rattle.ada_base.specs.Notes.{InOrder, Schedule, ByNotes, ConstructNote, ThreadNote, Whole, NotBegun, CutAfter}
+use Rattle.ada_base.specs.Notes.{InOrder, Schedule, ByNotes, ThreadNote, Whole, NotBegun, CutAfter}
 use Rattle.ada_meaning.specs.Stored.{State, slot_at, put_at, Cause, Left, OutOfTurns, NoRoom, CutOff, Misnoted, After, at, Place, Kept, Stacked, Touch, Stored, cell_at, next, next_touches, handled, handled_touches, begun, ended, has_room, place_of, touched, written_at, read_at, value_read, taken_from, looked, took}
 use Rattle.ada_meaning.specs.Touched.{Before, WrittenIn, LeavesOthers, FrameLaw, SameCells}
 use Rattle.ada_meaning.proofs.Cells.{get_left, get_within}

@@ -15,7 +15,7 @@ use Rattle.ada_meaning.specs.Planned
 use Rattle.ada_meaning.specs.Planned.{Result, Planned, handled}
 use Rattle.ada_meaning.specs.Sequential.{IsCalm}
 use Rattle.ada_meaning.specs.Programs.{this, Setting, input_of, planned, sequential, values, with_final, finals}
-use Rattle.ada_meaning.specs.Law.{Ending, Ended, Raised, TurnsSpent, ReadFault, WriteFault, NoMemory, Outcome, behaviour, BeginsRun, EndsAs, EndsItself, IsPermitted, IsPrefix, ending_of, outcome_of, StopsLaw, AloneLaw, AtOnceLaw, SilentLaw, OnlyLaw, OneLaw, IsPlan, IsSequential, SequentialLaw, OneSequentialLaw, SubtypeLaw}
+use Rattle.ada_meaning.specs.Law.{Ending, Ended, Raised, TurnsSpent, ReadFault, WriteFault, NoMemory, Outcome, behaviour, BeginsRun, EndsAs, EndsItself, IsPermitted, IsPrefix, ending_of, outcome_of, StopsLaw, AloneLaw, AtOnceLaw, SilentLaw, OnlyLaw, OneLaw, IsPlan, IsSequential, SequentialLaw, OneSequentialLaw, SubtypeLaw, MoreWorkersLaw, with_one_worker}
 use Rattle.ada_meaning.proofs.Agrees.{AgreesAt, Settled, output_of_append, gives-ne-stopped, leaves-ne-stopped, spent-ne-stopped}
 use Rattle.ada_meaning.proofs.PlanLaw.{program_agrees}
 use Rattle.ada_meaning.proofs.Prefixes.{BeginsAt, prefix_shorter, program_begins}
@@ -39,13 +39,41 @@ silent_law program set keeps = program_silent set.limit (cuts_of set.plan) set.o
 
 pub at_once_law : AtOnceLaw
 at_once_law program keeps free set =
-    (program_among anything anything (λ cell v h. h) asks_at_once asks_apart fewer_at_once set.limit (cuts_of set.plan) set.one program keeps).safe nothing_visible start (free set)
+    (program_among anything anything (λ cell v h. h) asks_at_once asks_apart fewer_at_once set.limit (cuts_of set.plan) set.one set.one (λ e. e) program keeps).safe nothing_visible start (free set)
 
 pub subtype_law : SubtypeLaw
 subtype_law program set keeps = (
-  (program_among of_subtype anything (λ cell v h. tt) asks_at_once asks_at_once at_once_more set.limit (cuts_of set.plan) set.one program keeps).runs nothing_visible start,
-  (λ free. (program_among of_subtype anything (λ cell v h. tt) asks_apart asks_apart apart_more set.limit (cuts_of set.plan) set.one program keeps).safe nothing_visible start (free set)),
+  (program_among of_subtype anything (λ cell v h. tt) asks_at_once asks_at_once at_once_more set.limit (cuts_of set.plan) set.one set.one (λ e. e) program keeps).runs nothing_visible start,
+  (λ free. (program_among of_subtype anything (λ cell v h. tt) asks_apart asks_apart apart_more set.limit (cuts_of set.plan) set.one set.one (λ e. e) program keeps).safe nothing_visible start (free set)),
 )
+
+-- threads taken in order, among threads taken as a setting says
+module _ (program : Program) (set : Setting) (keeps : KeepsRule program) where
+  wider : (tr : Trace Instance) (y : Bool) (path : Path Instance) (end : End (Unit {0})) → (behaviour program (with_one_worker set)).runs nothing_visible start tr y path end → (behaviour program set).runs nothing_visible start tr y path end
+  wider = (program_among anything anything (λ cell v h. h) asks_at_once asks_at_once at_once_more set.limit (cuts_of set.plan) true set.one (λ e. refl) program keeps).runs nothing_visible start
+
+  begins_wider : (front : Trace Instance) → BeginsRun program (with_one_worker set) front → BeginsRun program set front
+  begins_wider front b = record { rest = b.rest; early = b.early; path = b.path; end = b.end; run = wider (front ++ b.rest) b.early b.path b.end b.run }
+
+  ends_wider : (tr : Trace Instance) (path : Path Instance) (end : End (Unit {0})) (output : List ℕ) (e : Ending) → EndsAs program (with_one_worker set) tr path end output e → EndsAs program set tr path end output e
+  ends_wider tr path end output Ended h = h
+  ends_wider tr path end output (Raised r) h = h
+  ends_wider tr path end output TurnsSpent h = h
+  ends_wider tr path end output ReadFault (stopped, put, (b, begins)) = (stopped, put, (b, begins_wider _ begins))
+  ends_wider tr path end output WriteFault (stopped, (passed, rest, put, begins)) = (stopped, (passed, rest, put, begins_wider _ begins))
+  ends_wider tr path end output NoMemory h = h
+
+pub more_workers_law : MoreWorkersLaw
+more_workers_law program set input early o keeps run = record {
+  trace = run.trace;
+  path = run.path;
+  end = run.end;
+  run = wider program set keeps run.trace early run.path run.end run.run;
+  fits = run.fits;
+  ends = ends_wider program set keeps run.trace run.path run.end o.output o.ending run.ends;
+  taken = run.taken;
+  finals = run.finals;
+}
 
 -- what a run that ends by itself tells
 ends : (program : Program) (set : Setting) (tr : Trace Instance) (path : Path Instance) (end : End (Unit {0})) (output : List ℕ) (e : Ending) → EndsItself e → EndsAs program set tr path end output e

@@ -10,7 +10,7 @@ use Rattle.behaviours.specs.Joins.{Share, Site, deal}
 use Rattle.ada_meaning.specs.Values.{result, divides, overflows, is_zero, value_or_zero}
 use Rattle.ada_meaning.specs.Operations.{CheckKind, ZeroCheck, OverflowCheck, chunk_of, reduce, zero_checked, overflow_checked}
 use Rattle.ada_meaning.specs.Stored
-use Rattle.ada_base.specs.Notes.{InOrder, Schedule}
+use Rattle.ada_base.specs.Notes.{InOrder}
 use Rattle.ada_meaning.specs.Stored.{State, Cause, Left, OutOfTurns, NoRoom, CutOff, Misnoted, After, at, Fault, Place, Kept, Stacked, Stored, Stops, cell_at, next, next_halts, next_touches, next_deeds, handled, handled_halts, handled_touches, handled_deeds, begun, ended, has_room, place_of, put_at, written_at, read_at, value_read, taken_from, took}
 use Rattle.ada_meaning.specs.StoredLaw.{PlainLaw}
 use Rattle.ada_meaning.proofs.Induction

@@ -139,6 +139,14 @@ abbrev pub OneLaw : Type 0
 OneLaw = (program : Program) (set : Setting) (input : List ℕ) (o o' : Outcome) (early early' : Bool) → KeepsRule program → set.one ≡ true
     → IsPermitted program set input early o → EndsItself o.ending → IsPermitted program set input early' o' → EndsItself o'.ending → o' ≡ o
 
+-- the same with one worker, which takes the threads of each construct in order
+abbrev pub with_one_worker : Setting → Setting
+with_one_worker set = record set { one = true }
+
+-- A run that is permitted with one worker is permitted with any number of them.
+abbrev pub MoreWorkersLaw : Type 0
+MoreWorkersLaw = (program : Program) (set : Setting) (input : List ℕ) (early : Bool) (o : Outcome) → KeepsRule program → IsPermitted program (with_one_worker set) input early o → IsPermitted program set input early o
+
 -- Whatever a program does, it may be stopped before it begins.
 abbrev pub StopsLaw : Type 0
 StopsLaw = (program : Program) (set : Setting) → KeepsRule program → (behaviour program set).runs nothing_visible start [] false start Stopped

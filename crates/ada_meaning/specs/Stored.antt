@@ -8,7 +8,7 @@ use Rattle.typed_tree.specs.declared.expressions.Reducer.{Reducer}
 use Rattle.typed_tree.specs.Syntax.{Program}
 use Rattle.ada_base.specs.Cuts.{cuts_of}
 use Rattle.ada_base.specs.Input.{Held, Nothing}
-use Rattle.ada_base.specs.Notes.{ThreadNote, Whole, NotBegun, CutAfter, ConstructNote, Schedule, InOrder, ByNotes}
+use Rattle.ada_base.specs.Notes.{ThreadNote, Whole, NotBegun, CutAfter, Schedule, InOrder, ByNotes}
 use Rattle.behaviours.specs.Doings.{Doings, through, onto, folded}
 use Rattle.behaviours.specs.Paths.{Leave, Raises, Exits, Returns, Entity, VariableOf, ConstantOf, Region, Everywhere, Here}
 use Rattle.behaviours.specs.Joins.{Site, Share, deal}

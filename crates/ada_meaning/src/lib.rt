@@ -7,7 +7,7 @@ ghost use Rattle.ada_meaning.specs.Blocked.{BlockedLaw};
 ghost use Rattle.ada_meaning.specs.Shapes.{ShapeLaw, SizeLaw};
 ghost use Rattle.typed_tree.specs.Programs.{program};
 ghost use Rattle.ada_meaning.specs.Deeds.{PrefixLaw};
-ghost use Rattle.ada_meaning.specs.Law.{StopsLaw, AloneLaw, AtOnceLaw, SilentLaw, ComesToSequential, OnlyLaw, OneLaw, SequentialLaw, OneSequentialLaw, OperatorLaw, SubtypeLaw};
+ghost use Rattle.ada_meaning.specs.Law.{StopsLaw, AloneLaw, AtOnceLaw, SilentLaw, ComesToSequential, OnlyLaw, OneLaw, SequentialLaw, OneSequentialLaw, OperatorLaw, SubtypeLaw, MoreWorkersLaw};
 ghost use Rattle.ada_meaning.specs.Rows.{Adds, Overflows, Divisions, Reductions, Dealt, Find, Raised, Gotten, Turns, Doubled, Kept, Left, Passed, Padded', PartialOverflow, NoChunks, Filtered, Spends, Nested, Escapes, Calm, Sums};
 ghost use Rattle.ada_meaning.specs.LoopRows.{Cuts, Hundred, Arms, Squares, Multiplies, Bounded, Joined, Cases, Columns, Shifts, PlannedAdds, AllRaise};
 ghost use Rattle.ada_meaning.specs.BlockedRows.{BlockedRows};
@@ -28,6 +28,7 @@ use typed_tree::Typed;
 /// - silent: where the rule on blocking calls (9.5) is kept no thread of a construct takes input or puts output.
 /// - only, one: permitted runs that end by themselves come to one thing, where one of them left no construct early and
 ///   the program has no races, or where there is one worker.
+/// - more_workers: a run that is permitted with one worker is permitted with any number of them.
 /// - sequential, one_sequential: where the sequential run is calm, that is what it comes to; and where it is stopped, what it
 ///   put out is a prefix of the sequential run's output.
 /// - operators: for operands of its type an operator has the result of the operation on the base range (4.5).
@@ -43,6 +44,7 @@ pub fn laws()
     ensures silent { SilentLaw }
     ensures only { OnlyLaw }
     ensures one { OneLaw }
+    ensures more_workers { MoreWorkersLaw }
     ensures sequential { SequentialLaw }
     ensures one_sequential { OneSequentialLaw }
     ensures operators { OperatorLaw }

@@ -1,5 +1,5 @@
 use Rattle.ada_meaning.proofs.laws.Goals as goal
-use Rattle.ada_meaning.proofs.Law.{stops_law, alone_law, at_once_law, silent_law, only_law, one_law, sequential_law, one_sequential_law, subtype_law}
+use Rattle.ada_meaning.proofs.Law.{stops_law, alone_law, at_once_law, silent_law, only_law, one_law, sequential_law, one_sequential_law, subtype_law, more_workers_law}
 use Rattle.ada_meaning.proofs.Between.{prefix_law}
 use Rattle.ada_meaning.proofs.Operators.{operator_law}
 use Rattle.ada_meaning.proofs.Unblocked.{blocked_law}
@@ -47,3 +47,6 @@ returns-clause-shapes c = shape_law
 
 pub returns-clause-sizes : goal.returns-clause-sizes
 returns-clause-sizes c = size_law
+
+pub returns-clause-more_workers : goal.returns-clause-more_workers
+returns-clause-more_workers c = more_workers_law
