@@ -4,14 +4,16 @@ use Rattle.ada_base.specs.declared.operation.Op.TheVariants as op
 use Rattle.ada_base.specs.declared.reason.Reason.TheVariants as reason
 use Rattle.typed_tree.specs.declared.expressions.Root.TheVariants as root
 use Rattle.typed_tree.specs.declared.expressions.Reducer.TheVariants as reducer
-use Rattle.typed_tree.specs.Syntax.{Expr, Parameter, Binary, Variable, Reduction, Absent, Whole, Components, NoChunk, NoPiece, Text, NoDecl, DeclareVariable, Stmt, Assign, ParallelFor, Put, End, Then, Raise, Program}
+use Rattle.typed_tree.specs.declared.scalars.Comparison.TheVariants as comparison
+use Rattle.typed_tree.specs.Syntax as syntax
+use Rattle.typed_tree.specs.Syntax.{Expr, Selections, Index, Present, Relation, Exit, Parameter, Binary, Variable, Reduction, Absent, Whole, Components, NoChunk, NoPiece, Text, NoDecl, DeclareVariable, Stmt, Assign, ParallelFor, Put, End, Then, Raise, Program}
 use Rattle.ada_base.specs.Cuts.{Plan, One, Even, Chunked}
 use Rattle.ada_base.specs.Input.{Nothing}
 use Rattle.behaviours.specs.Joins.{Share, Site}
 use Rattle.ada_meaning.specs.Deeds.{PutOut}
 use Rattle.ada_meaning.specs.Law.{Outcome, Ended, Raised, TurnsSpent, NoMemory, Ending, WriteFault}
 use Rattle.ada_meaning.specs.Rows as rows
-use Rattle.ada_meaning.specs.Rows.{integers, integer, number, sum, put_image, object_of, made_of, upto, array_of, filled_with, indexed, component, adds, reduced, dealt, find, gets, keeps, leaves, passes, spends}
+use Rattle.ada_meaning.specs.Rows.{integers, integer, number, sum, put_image, object_of, made_of, upto, array_of, filled_with, indexed, component, adds, reduced, dealt, find, gets, keeps, leaves, passes, raises, spends}
 use Rattle.ada_base.specs.Notes.{ThreadNote, Whole, NotBegun, CutAfter, ConstructNote, Schedule, InOrder, ByNotes}
 use Rattle.ada_meaning.specs.Stored.{State, Kept, Touch, Thread, Visit, ThreadOf, TeamOf, no_slot, Computes, answered, noted, noted_outset, Fails, InputFault, OutputFault, stored, outset, outcome_of, comes_to}
 
@@ -32,12 +34,16 @@ StoredRows =
     × (comes (spends (Then (Raise reason.ConstraintError) End)) One 100 [] ≡ record { output = []; taken = 0; finals = []; ending = Raised reason.ConstraintError })
     × (comes (spends End) One 100 [] ≡ record { output = []; taken = 0; finals = []; ending = TurnsSpent })
 
--- runs by notes of a loop over four numbers whose exit the third one takes: what they come to, and the notes that are left
+-- runs by notes: what they come to, and the notes that are left
 
+abbrev run_of : Program → Plan → List ConstructNote → Outcome × Schedule
+run_of program plan notes =
+    let r = (noted program (record { plan = plan; one = false; limit = 1000 })).does (noted_outset 12 [] [] (ByNotes notes)) in
+    (outcome_of program [] (answered r.end) r.state, r.state.notes)
+
+-- a loop over four numbers whose exit the third one takes
 abbrev by_notes : Plan → List ConstructNote → Outcome × Schedule
-by_notes plan notes =
-    let r = (noted leaves (record { plan = plan; one = false; limit = 1000 })).does (noted_outset 12 [] [] (ByNotes notes)) in
-    (outcome_of leaves [] (answered r.end) r.state, r.state.notes)
+by_notes = run_of leaves
 
 abbrev left_by : ℕ → List ThreadNote → List ConstructNote
 left_by chosen threads = record { chosen = Some chosen; threads = threads } ∷ []
@@ -58,6 +64,54 @@ NotedRows =
     × (by_notes (Chunked 1) (left_by 2 (Whole ∷ Whole ∷ Whole ∷ [])) ≡ ended_with (pos 1 ∷ pos 2 ∷ pos 0 ∷ pos 0 ∷ []) NoMemory)
     × (by_notes (Chunked 1) (record { chosen = None; threads = [] } ∷ []) ≡ ended_with (pos 1 ∷ pos 2 ∷ pos 0 ∷ pos 0 ∷ []) NoMemory)
     × (by_notes (Chunked 1) [] ≡ ended_with (pos 0 ∷ pos 0 ∷ pos 0 ∷ pos 0 ∷ []) NoMemory)
+
+-- constructs that two threads leave: the one that is chosen decides, whatever the other does
+
+abbrev puts_all : List ℕ → List (List ℤ) → Ending → Outcome × Schedule
+puts_all output finals ending = (record { output = output; taken = 0; finals = finals; ending = ending }, ByNotes [])
+
+abbrev found : List ℕ → Ending → Outcome × Schedule
+found output ending = puts_all output ((pos 9 ∷ pos 1 ∷ pos 9 ∷ pos 1 ∷ []) ∷ []) ending
+
+abbrev pub ChosenRows : Type 0
+ChosenRows =
+    -- a search that the first and the third thread end, each by a return with its own place
+    (run_of find (Chunked 1) (left_by 0 (Whole ∷ NotBegun ∷ NotBegun ∷ NotBegun ∷ [])) ≡ found (32 ∷ 49 ∷ 10 ∷ []) Ended)
+    × (run_of find (Chunked 1) (left_by 0 (Whole ∷ Whole ∷ Whole ∷ CutAfter 0 ∷ [])) ≡ found (32 ∷ 49 ∷ 10 ∷ []) Ended)
+    × (run_of find (Chunked 1) (left_by 2 (Whole ∷ NotBegun ∷ Whole ∷ Whole ∷ [])) ≡ found (32 ∷ 51 ∷ 10 ∷ []) Ended)
+    × (run_of find (Chunked 1) (left_by 2 (CutAfter 0 ∷ Whole ∷ Whole ∷ NotBegun ∷ [])) ≡ found (32 ∷ 51 ∷ 10 ∷ []) Ended)
+    -- the second and the fourth end none
+    × (run_of find (Chunked 1) (left_by 1 (Whole ∷ Whole ∷ Whole ∷ Whole ∷ [])) ≡ found [] NoMemory)
+    × (run_of find (Chunked 1) (left_by 3 (Whole ∷ Whole ∷ Whole ∷ Whole ∷ [])) ≡ found [] NoMemory)
+    -- two arms that raise, of which a handler takes the first one's exception
+    × (run_of raises One (left_by 0 (Whole ∷ NotBegun ∷ [])) ≡ puts_all (111 ∷ 110 ∷ 101 ∷ 10 ∷ []) [] Ended)
+    × (run_of raises One (left_by 0 (Whole ∷ Whole ∷ [])) ≡ puts_all (111 ∷ 110 ∷ 101 ∷ 10 ∷ []) [] Ended)
+    × (run_of raises One (left_by 1 (NotBegun ∷ Whole ∷ [])) ≡ puts_all [] [] (Raised (reason.Declared 1)))
+    × (run_of raises One (left_by 1 (Whole ∷ Whole ∷ [])) ≡ puts_all [] [] (Raised (reason.Declared 1)))
+
+-- A : array (1 .. 2, 1 .. 2) of Integer := (others => (others => 0));
+-- L : parallel for I in 1 .. 2 loop exit L when I = 2; parallel for J in 1 .. 2 loop A (I, J) := J; end loop; end loop L;
+
+abbrev square : Selections
+square = Index 0 (Parameter 0 0) (pos 1) (pos 2) 2 (Index 0 (Parameter 0 1) (pos 1) (pos 2) 1 Whole)
+
+abbrev pub nests_and_leaves : Program
+nests_and_leaves = made_of (syntax.Array (record { low = pos 1; high = pos 2 } ∷ record { low = pos 1; high = pos 2 } ∷ []) 0 ∷ []) (object_of 1 4 ∷ []) [] (DeclareVariable 0 (filled_with 4 (number (pos 0))) NoDecl)
+    (Then (ParallelFor 7 0 NoChunk (upto 0 2) (Then (Exit 7 (Present (Relation integers comparison.Equal (Parameter 0 0) (number (pos 2)))))
+    (Then (ParallelFor 0 1 NoChunk (upto 1 2) (Then (Assign 0 (root.Object 0) square (rows.stored (Parameter 0 1))) End)) End))) End)
+
+abbrev cut_at : ℕ → List ConstructNote
+cut_at looks = left_by 1 (CutAfter looks ∷ Whole ∷ [])
+
+-- the first thread passes a look at its turn, one where the inner loop begins, and one at each turn of that: by the number
+-- of looks it is cut before the inner loop, at its first turn, between its turns, or not at all, which doesn't fit
+abbrev pub CutRows : Type 0
+CutRows =
+    (run_of nests_and_leaves (Chunked 1) (cut_at 1) ≡ ended_with (pos 0 ∷ pos 0 ∷ pos 0 ∷ pos 0 ∷ []) Ended)
+    × (run_of nests_and_leaves (Chunked 1) (cut_at 2) ≡ ended_with (pos 0 ∷ pos 0 ∷ pos 0 ∷ pos 0 ∷ []) Ended)
+    × (run_of nests_and_leaves (Chunked 1) (cut_at 3) ≡ ended_with (pos 1 ∷ pos 0 ∷ pos 0 ∷ pos 0 ∷ []) Ended)
+    × (run_of nests_and_leaves (Chunked 1) (cut_at 4) ≡ ended_with (pos 1 ∷ pos 2 ∷ pos 0 ∷ pos 0 ∷ []) NoMemory)
+    × (run_of nests_and_leaves (Chunked 1) (left_by 1 (Whole ∷ Whole ∷ [])) ≡ ended_with (pos 1 ∷ pos 2 ∷ pos 0 ∷ pos 0 ∷ []) Ended)
 
 -- where a Get's first byte can't be read
 abbrev pub at_fault : State

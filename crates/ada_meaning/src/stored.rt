@@ -2,7 +2,7 @@
 
 ghost use Rattle.ada_meaning.specs.StoredLaw.{StoredLaw, NotedLaw, StoppedLaw, NotedStoppedLaw, PlainLaw, JournalLaw, SomeLaw, StoredSequentialLaw};
 ghost use Rattle.ada_meaning.specs.Touched.{FrameLaw, ApartLaw, JoinLaw, ViewLaw};
-ghost use Rattle.ada_meaning.specs.StoredRows.{StoredRows, NotedRows, DeedsRow, TeamsRow, FaultRow, WriteFaultRow, Soaks};
+ghost use Rattle.ada_meaning.specs.StoredRows.{StoredRows, NotedRows, ChosenRows, CutRows, DeedsRow, TeamsRow, FaultRow, WriteFaultRow, Soaks};
 
 /// Laws of all programs that keep the rule on blocking calls.
 /// - stored: what a stored run comes to is permitted, whether it ends by itself or by a fault of input, output or memory;
@@ -41,6 +41,8 @@ pub fn laws()
 pub fn rows()
     ensures stored { StoredRows }
     ensures noted { NotedRows }
+    ensures chosen { ChosenRows }
+    ensures cut { CutRows }
     ensures deeds { DeedsRow }
     ensures teams { TeamsRow }
     ensures fault { FaultRow }

@@ -1,5 +1,5 @@
 use Rattle.ada_meaning.proofs.stored.rows.Goals as goal
-use Rattle.ada_meaning.proofs.StoredComputed.{stored_rows, noted_rows, deeds_row, teams_row, soaks}
+use Rattle.ada_meaning.proofs.StoredComputed.{stored_rows, noted_rows, chosen_rows, cut_rows, deeds_row, teams_row, soaks}
 use Rattle.ada_meaning.proofs.StoredFault.{fault_of_input, fault_of_output}
 
 pub returns-clause-stored : goal.returns-clause-stored
@@ -7,6 +7,12 @@ returns-clause-stored c = stored_rows
 
 pub returns-clause-noted : goal.returns-clause-noted
 returns-clause-noted c = noted_rows
+
+pub returns-clause-chosen : goal.returns-clause-chosen
+returns-clause-chosen c = chosen_rows
+
+pub returns-clause-cut : goal.returns-clause-cut
+returns-clause-cut c = cut_rows
 
 pub returns-clause-deeds : goal.returns-clause-deeds
 returns-clause-deeds c = deeds_row
