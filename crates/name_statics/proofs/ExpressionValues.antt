@@ -1,0 +1,219 @@
+-- The values of expressions, where those of primaries are the ones of their texts.
+use Rattle.std.proofs.Common.{ℕ, Option, Some, None, Bool, true, false, option_map, ◌≡◌, refl}
+use Rattle.std.specs.Prelude.{is_some}
+use Rattle.ada_base.specs.declared.operation.Op.TheVariants as op
+use Rattle.ada_base.specs.declared.operation.Op.{Op}
+use Rattle.syntax_tree.specs.FirstTokens as first_token
+use Rattle.syntax_tree.specs.Syntax as syntax
+use Rattle.syntax_tree.specs.Syntax.{Adding, Addings, Conjuncts, Expr, Factor, Multiplying, Multiplyings, Name, Primary, Rel, Simple, Term}
+use Rattle.syntax_tree.specs.declared.operators.Additive.TheVariants as additive
+use Rattle.syntax_tree.specs.declared.operators.Logical.TheVariants as logical'
+use Rattle.syntax_tree.specs.declared.operators.Sign.{Sign as Signed}
+use Rattle.syntax_tree.specs.declared.operators.Sign.TheVariants as sign
+use Rattle.typed_tree.specs.Decoded.{Part}
+use Rattle.typed_tree.specs.declared.expressions.Sign.TheVariants as unary'
+use Rattle.name_rules.specs.Expressions.{Inside, added, adding, blamed, comparison_of, conjoined, expr, factor, first_term, first_wanted, in_place, joined_rels, multiplied, multiplying, multiplying_op, rel, short_form, short_found, short_join, short_operand, short_operands, simple, term}
+use Rattle.name_rules.specs.Found.{Found}
+use Rattle.name_rules.specs.Judging.{given, joined}
+use Rattle.name_rules.specs.Operators.{binary, joined_text, logical, not_of, plain, unary}
+use Rattle.name_rules.specs.Scope.{scalar_named}
+use Rattle.name_rules.specs.declared.found.Found.TheVariants as known
+use Rattle.name_rules.specs.declared.found.Found.{Found as Known}
+use Rattle.name_rules.specs.declared.log.Rule.TheVariants.{WrongType}
+use Rattle.name_rules.specs.declared.scope.Context.{Context}
+use Rattle.name_rules.specs.declared.scope.Names.{Names}
+use Rattle.name_rules.specs.declared.types.Wanted.TheVariants as wanted
+use Rattle.name_rules.specs.declared.types.Wanted.{Wanted}
+use Rattle.name_rules.specs.declared.log.Shape.{Shape}
+use Rattle.name_rules.specs.Judging.{◌>>=◌}
+use Rattle.syntax_tree.specs.declared.operators.Multiplicative.{Multiplicative}
+use Rattle.syntax_tree.specs.declared.operators.Comparison.{Comparison}
+use Rattle.typed_tree.specs.Decoded.{as_expr}
+use Rattle.name_rules.specs.Operators.{power}
+use Rattle.std.specs.Prelude.{List, ℤ}
+use Rattle.name_laws.proofs.KeepsExpressions.{k-expr, k-factor, k-in_place, k-rel, k-adding}
+use Rattle.name_laws.proofs.KeepsOperators.{k-binary, k-plain, k-power, k-unary}
+use Rattle.name_laws.proofs.Walk.{k-given}
+use Rattle.name_laws.proofs.Walked.{KeepsInside}
+use Rattle.name_statics.proofs.Finds.{Finding, Finds, Is, Maybe, Tells, f-bind, f-fault, f-given-of, f-pure, f-some, f-then, t-bind, t-of, t-pure}
+use Rattle.name_statics.proofs.Operations.{f-abs, f-binary, f-compared, f-joined_text, f-logical, f-membership, f-minus, f-not_of, f-of_subtype, f-plain, f-power}
+use Rattle.name_statics.proofs.Same.{walk}
+use Rattle.name_statics.specs.Law.{static_in}
+use Rattle.name_statics.specs.Values.{Around, added_value, computed, expr_value, factor_value, multiplied_value, primary_value, rel_value, simple_value, term_value, with_sign}
+
+-- what is declared around an expression, where the arrays and records are those of a table
+abbrev pub there : Names → Context → List Shape → Around
+there names here shapes = record { names = names; scope = here.scope; shapes = shapes }
+
+pub record LevelTells (shapes : List Shape) (names : Names) (level : Inside) : Type 0 where
+  pub keeps : KeepsInside walk level
+  pub primary : (here : Context) (p : Primary) (want : Wanted) → Tells shapes (Finding (primary_value (there names here shapes) p)) (level.primary here p want)
+
+-- ---- factors, terms and sums
+
+t-factor : (shapes : List Shape) (names : Names) (level : Inside) (here : Context) (want : Wanted) (x : Factor) → LevelTells shapes names level → Tells shapes (Finding (factor_value (there names here shapes) x)) (factor level here want x)
+unfolding factor
+t-factor shapes names level here want (syntax.Operand p) l = l.primary here p want
+t-factor shapes names level here want (syntax.Power b at e) l =
+    let a = there names here shapes in
+    let v = primary_value a b in
+    let w = primary_value a e in
+    t-bind shapes (Finding v) (Finding (computed op.Pow v w)) (level.primary here b wanted.Other) _ (l.primary here b wanted.Other) (λ x q.
+    t-bind shapes (Finding w) (Finding (computed op.Pow v w)) (level.primary here e wanted.Other) _ (l.primary here e wanted.Other) (λ y s.
+    t-of shapes (Finding (computed op.Pow v w)) (power at x y) (k-power walk at x y) (f-power at x y v w q s)))
+t-factor shapes names level here want (syntax.Abs at p) l =
+    let v = primary_value (there names here shapes) p in
+    t-bind shapes (Finding v) (Finding (factor_value (there names here shapes) (syntax.Abs at p))) (level.primary here p wanted.Other) (unary unary'.Abs at) (l.primary here p wanted.Other) (λ x q.
+    t-of shapes (Finding (factor_value (there names here shapes) (syntax.Abs at p))) (unary unary'.Abs at x) (k-unary walk unary'.Abs at x) (f-abs at x v q))
+t-factor shapes names level here want (syntax.Not at p) l = t-of shapes (Finding None) (factor level here want (syntax.Not at p)) (k-factor walk level here want (syntax.Not at p) l.keeps) (f-then (Finding None) (level.primary here p wanted.Other) (not_of at) (λ x. f-not_of at x))
+
+t-multiplying : (shapes : List Shape) (names : Names) (level : Inside) (here : Context) (x : Option Found) (v : Option ℤ) (by : Multiplicative) (at : ℕ) (f : Factor) → LevelTells shapes names level → Finding v x
+    → Tells shapes (Finding (computed (multiplying_op by) v (factor_value (there names here shapes) f))) (multiplying level here x (syntax.multiplying by at f))
+unfolding multiplying
+t-multiplying shapes names level here x v by at f l q =
+    let w = factor_value (there names here shapes) f in
+    t-bind shapes (Finding w) (Finding (computed (multiplying_op by) v w)) (factor level here wanted.Other f) (binary (multiplying_op by) at x) (t-factor shapes names level here wanted.Other f l) (λ y s.
+    t-of shapes (Finding (computed (multiplying_op by) v w)) (binary (multiplying_op by) at x y) (k-binary walk (multiplying_op by) at x y) (f-binary (multiplying_op by) at x y v w q s))
+
+t-multiplied : (shapes : List Shape) (names : Names) (level : Inside) (here : Context) (x : Option Found) (v : Option ℤ) (ms : Multiplyings) → LevelTells shapes names level → Finding v x
+    → Tells shapes (Finding (multiplied_value (there names here shapes) v ms)) (multiplied level here x ms)
+t-multiplied shapes names level here x v syntax.NoMultiplying l q = t-pure shapes (Finding v) x q
+t-multiplied shapes names level here x v (syntax.AlsoMultiplying (syntax.multiplying by at f) ms) l q =
+    let w = computed (multiplying_op by) v (factor_value (there names here shapes) f) in
+    t-bind shapes (Finding w) (Finding (multiplied_value (there names here shapes) w ms)) (multiplying level here x (syntax.multiplying by at f)) _ (t-multiplying shapes names level here x v by at f l q) (λ y s. t-multiplied shapes names level here y w ms l s)
+
+t-term : (shapes : List Shape) (names : Names) (level : Inside) (here : Context) (want : Wanted) (x : Term) → LevelTells shapes names level → Tells shapes (Finding (term_value (there names here shapes) x)) (term level here want x)
+unfolding term
+t-term shapes names level here want (syntax.Product f syntax.NoMultiplying) l = t-factor shapes names level here want f l
+t-term shapes names level here want (syntax.Product f (syntax.AlsoMultiplying m ms)) l =
+    let v = factor_value (there names here shapes) f in
+    t-bind shapes (Finding v) (Finding (multiplied_value (there names here shapes) v (syntax.AlsoMultiplying m ms))) (factor level here wanted.Other f) (λ x. multiplied level here x (syntax.AlsoMultiplying m ms)) (t-factor shapes names level here wanted.Other f l) (λ x q.
+    t-multiplied shapes names level here x v (syntax.AlsoMultiplying m ms) l q)
+
+t-plus : (shapes : List Shape) (names : Names) (level : Inside) (here : Context) (x : Option Found) (v : Option ℤ) (o : Op) (at : ℕ) (t : Term) → LevelTells shapes names level → Finding v x
+    → Tells shapes (Finding (computed o v (term_value (there names here shapes) t))) (term level here wanted.Other t >>= binary o at x)
+t-plus shapes names level here x v o at t l q =
+    let w = term_value (there names here shapes) t in
+    t-bind shapes (Finding w) (Finding (computed o v w)) (term level here wanted.Other t) (binary o at x) (t-term shapes names level here wanted.Other t l) (λ y s.
+    t-of shapes (Finding (computed o v w)) (binary o at x y) (k-binary walk o at x y) (f-binary o at x y v w q s))
+
+t-added : (shapes : List Shape) (names : Names) (level : Inside) (here : Context) (x : Option Found) (v : Option ℤ) (as' : Addings) → LevelTells shapes names level → Finding v x
+    → Tells shapes (Finding (added_value (there names here shapes) v as')) (added level here x as')
+unfolding adding
+t-added shapes names level here x v syntax.NoAdding l q = t-pure shapes (Finding v) x q
+t-added shapes names level here x v (syntax.AlsoAdding (syntax.adding additive.Plus at t) as') l q =
+    let w = computed op.Add v (term_value (there names here shapes) t) in
+    t-bind shapes (Finding w) (Finding (added_value (there names here shapes) w as')) (adding level here x (syntax.adding additive.Plus at t)) _ (t-plus shapes names level here x v op.Add at t l q) (λ y s. t-added shapes names level here y w as' l s)
+t-added shapes names level here x v (syntax.AlsoAdding (syntax.adding additive.Minus at t) as') l q =
+    let w = computed op.Sub v (term_value (there names here shapes) t) in
+    t-bind shapes (Finding w) (Finding (added_value (there names here shapes) w as')) (adding level here x (syntax.adding additive.Minus at t)) _ (t-plus shapes names level here x v op.Sub at t l q) (λ y s. t-added shapes names level here y w as' l s)
+t-added shapes names level here x v (syntax.AlsoAdding (syntax.adding additive.Joined at t) as') l q =
+    t-bind shapes (Finding None) (Finding (added_value (there names here shapes) None as')) (adding level here x (syntax.adding additive.Joined at t)) _
+    (t-of shapes (Finding None) (adding level here x (syntax.adding additive.Joined at t)) (k-adding walk level here x (syntax.adding additive.Joined at t) l.keeps) (f-then (Finding None) (term level here wanted.Text t) (joined_text at x) (λ y. f-joined_text at x y)))
+    (λ y s. t-added shapes names level here y None as' l s)
+
+t-first_term : (shapes : List Shape) (names : Names) (level : Inside) (here : Context) (want : Wanted) (s : Option Signed) (t : Term) → LevelTells shapes names level → Tells shapes (Finding (with_sign s (term_value (there names here shapes) t))) (first_term level here want s t)
+t-first_term shapes names level here want None t l = t-term shapes names level here want t l
+t-first_term shapes names level here want (Some (sign.Plus at)) t l =
+    let v = term_value (there names here shapes) t in
+    t-bind shapes (Finding v) (Finding v) (term level here wanted.Other t) (plain at) (t-term shapes names level here wanted.Other t l) (λ x q. t-of shapes (Finding v) (plain at x) (k-plain walk at x) (f-plain at x v q))
+t-first_term shapes names level here want (Some (sign.Minus at)) t l =
+    let v = term_value (there names here shapes) t in
+    t-bind shapes (Finding v) (Finding (with_sign (Some (sign.Minus at)) v)) (term level here wanted.Other t) (unary unary'.Minus at) (t-term shapes names level here wanted.Other t l) (λ x q.
+    t-of shapes (Finding (with_sign (Some (sign.Minus at)) v)) (unary unary'.Minus at x) (k-unary walk unary'.Minus at x) (f-minus at x v q))
+
+f-in_place : (v : Option ℤ) (want : Wanted) (k : Known) (f : Found) → Is v f → Finds (Finding v) (in_place want k f)
+f-in_place v wanted.Text k f h = f-some (Is v) f h
+f-in_place v want (known.Text first) f h = f-fault (Is v) first WrongType
+f-in_place v want k f h = f-some (Is v) f h
+
+pub t-placed : (shapes : List Shape) (v : Option ℤ) (want : Wanted) (x : Option Found) → Finding v x → Tells shapes (Finding v) (given x (λ f. in_place want f.known f))
+t-placed shapes v want x h =
+    t-of shapes (Finding v) _ (k-given walk x (λ f. in_place want f.known f) (λ f. k-in_place walk want f.known f)) (f-given-of (Is v) (Is v) x _ h (λ f q. f-in_place v want f.known f q))
+
+t-simple : (shapes : List Shape) (names : Names) (level : Inside) (here : Context) (want : Wanted) (x : Simple) → LevelTells shapes names level → Tells shapes (Finding (simple_value (there names here shapes) x)) (simple level here want x)
+unfolding simple
+t-simple shapes names level here want (syntax.Sum s t as') l =
+    let v = with_sign s (term_value (there names here shapes) t) in
+    let w = added_value (there names here shapes) v as' in
+    t-bind shapes (Finding v) (Finding w) (first_term level here (first_wanted want as') s t) _ (t-first_term shapes names level here (first_wanted want as') s t l) (λ x q.
+    t-bind shapes (Finding w) (Finding w) (added level here x as') _ (t-added shapes names level here x v as' l q) (λ y r. t-placed shapes w want y r))
+
+-- ---- relations and logical operators, which aren't static
+
+f-rel_compared : (names : Names) (level : Inside) (here : Context) (want : Wanted) (left : Simple) (c : Comparison) (at : ℕ) (right : Simple) → Finds (Finding None) (rel names level here want (syntax.Compared left c at right))
+unfolding rel
+f-rel_compared names level here want left c at right =
+    f-then (Finding None) (simple level here wanted.Other left) _ (λ x. f-then (Finding None) (simple level here wanted.Other right) _ (λ y. f-compared (comparison_of c) at x y))
+
+f-rel_within : (names : Names) (level : Inside) (here : Context) (want : Wanted) (value : Simple) (negation : Option ℕ) (at : ℕ) (low high : Simple) → Finds (Finding None) (rel names level here want (syntax.Within value negation at low high))
+unfolding rel
+f-rel_within names level here want value negation at low high =
+    f-then (Finding None) (simple level here wanted.Other value) _ (λ x. f-then (Finding None) (simple level here wanted.Other low) _ (λ y. f-then (Finding None) (simple level here wanted.Other high) _ (λ z.
+    f-membership (blamed negation at) (is_some negation) x y z)))
+
+f-rel_mark : (names : Names) (level : Inside) (here : Context) (want : Wanted) (value : Simple) (negation : Option ℕ) (at mark : ℕ) → Finds (Finding None) (rel names level here want (syntax.OfMark value negation at mark))
+unfolding rel
+f-rel_mark names level here want value negation at mark =
+    f-then (Finding None) (simple level here wanted.Other value) _ (λ x. f-then (Finding None) (scalar_named names here mark) _ (λ s. f-of_subtype (blamed negation at) (is_some negation) mark x s))
+
+t-rel : (shapes : List Shape) (names : Names) (level : Inside) (here : Context) (want : Wanted) (x : Rel) → LevelTells shapes names level → Tells shapes (Finding (rel_value (there names here shapes) x)) (rel names level here want x)
+unfolding rel
+t-rel shapes names level here want (syntax.Compared left c at right) l = t-of shapes (Finding None) _ (k-rel walk names level here want (syntax.Compared left c at right) tt l.keeps) (f-rel_compared names level here want left c at right)
+t-rel shapes names level here want (syntax.Within value negation at low high) l = t-of shapes (Finding None) _ (k-rel walk names level here want (syntax.Within value negation at low high) tt l.keeps) (f-rel_within names level here want value negation at low high)
+t-rel shapes names level here want (syntax.OfMark value negation at mark) l = t-of shapes (Finding None) _ (k-rel walk names level here want (syntax.OfMark value negation at mark) tt l.keeps) (f-rel_mark names level here want value negation at mark)
+t-rel shapes names level here want (syntax.Alone s) l = t-simple shapes names level here want s l
+
+f-conjoined : (names : Names) (level : Inside) (here : Context) (o : Op) (x : Option Found) (cs : Conjuncts) → Finding None x → Finds (Finding None) (conjoined names level here o x cs)
+f-conjoined names level here o x syntax.NoConjunct h = f-pure (Finding None) x h
+f-conjoined names level here o x (syntax.AlsoConjunct (syntax.conjunct at c) cs) h =
+    f-then (Finding None) (rel names level here wanted.Other c) _ (λ y.
+    f-bind (Finding None) (Finding None) (logical o at x y) _ (f-logical o at x y) (λ z q. f-conjoined names level here o z cs q))
+
+f-joined_rels : (names : Names) (level : Inside) (here : Context) (o : Op) (first : Rel) (at : ℕ) (second : Rel) (more : Conjuncts) → Finds (Finding None) (joined_rels names level here o first at second more)
+f-joined_rels names level here o first at second more =
+    f-then (Finding None) (rel names level here wanted.Other first) _ (λ x. f-then (Finding None) (rel names level here wanted.Other second) _ (λ y.
+    f-bind (Finding None) (Finding None) (logical o at x y) _ (f-logical o at x y) (λ z q. f-conjoined names level here o z more q)))
+
+abbrev Unvalued : Part → Type 0
+Unvalued x = static_in (as_expr x) ≡ None
+
+short-join : (all : Bool) (x y : Part) → Unvalued (short_join all x y)
+short-join true x y = refl
+short-join false x y = refl
+
+short-more : (all : Bool) (x y : Option Part) → Maybe Unvalued (joined (short_join all) x y)
+short-more all None y = tt
+short-more all (Some x) None = tt
+short-more all (Some x) (Some y) = short-join all x y
+
+f-short_more : (names : Names) (level : Inside) (here : Context) (all : Bool) (x : Option Part) (cs : Conjuncts) → Maybe Unvalued x → Finds (Maybe Unvalued) (short_operands names level here all x cs)
+f-short_more names level here all x syntax.NoConjunct h = f-pure (Maybe Unvalued) x h
+f-short_more names level here all x (syntax.AlsoConjunct (syntax.conjunct at c) cs) h =
+    f-then (Maybe Unvalued) (short_operand names level here at c) _ (λ y. f-short_more names level here all (joined (short_join all) x y) cs (short-more all x y))
+
+f-short_operands : (names : Names) (level : Inside) (here : Context) (all : Bool) (x : Option Part) (at : ℕ) (c : Rel) (cs : Conjuncts) → Finds (Maybe Unvalued) (short_operands names level here all x (syntax.AlsoConjunct (syntax.conjunct at c) cs))
+f-short_operands names level here all x at c cs =
+    f-then (Maybe Unvalued) (short_operand names level here at c) _ (λ y. f-short_more names level here all (joined (short_join all) x y) cs (short-more all x y))
+
+f-short_form : (names : Names) (level : Inside) (here : Context) (all : Bool) (first : Rel) (at : ℕ) (second : Rel) (more : Conjuncts) → Finds (Finding None) (short_form names level here all first at second more)
+f-short_form names level here all first at second more =
+    f-then (Finding None) (short_operand names level here at first) _ (λ x.
+    f-bind (Maybe Unvalued) (Finding None) (short_operands names level here all x (syntax.AlsoConjunct (syntax.conjunct at second) more)) _ (f-short_operands names level here all x at second more) (λ z q.
+    f-pure (Finding None) (option_map (short_found (first_token.of_rel first)) z) (found z q)))
+  where
+    found : (z : Option Part) → Maybe Unvalued z → Finding None (option_map (short_found (first_token.of_rel first)) z)
+    found None q = tt
+    found (Some e) q = record { value = λ t. refl; bare = q }
+
+t-joined : (shapes : List Shape) (names : Names) (level : Inside) (here : Context) (want : Wanted) (x : Expr) → LevelTells shapes names level → Finds (Finding None) (expr names level here want x) → Tells shapes (Finding None) (expr names level here want x)
+t-joined shapes names level here want x l m = t-of shapes (Finding None) _ (k-expr walk names level here want x tt l.keeps) m
+
+pub t-expr : (shapes : List Shape) (names : Names) (level : Inside) (here : Context) (want : Wanted) (x : Expr) → LevelTells shapes names level → Tells shapes (Finding (expr_value (there names here shapes) x)) (expr names level here want x)
+unfolding expr
+t-expr shapes names level here want (syntax.Single x) l = t-rel shapes names level here want x l
+t-expr shapes names level here want (syntax.Joined logical'.And first at second more) l = t-joined shapes names level here want (syntax.Joined logical'.And first at second more) l (f-joined_rels names level here op.And first at second more)
+t-expr shapes names level here want (syntax.Joined logical'.Or first at second more) l = t-joined shapes names level here want (syntax.Joined logical'.Or first at second more) l (f-joined_rels names level here op.Or first at second more)
+t-expr shapes names level here want (syntax.Joined logical'.Xor first at second more) l = t-joined shapes names level here want (syntax.Joined logical'.Xor first at second more) l (f-joined_rels names level here op.Xor first at second more)
+t-expr shapes names level here want (syntax.Joined logical'.AndThen first at second more) l = t-joined shapes names level here want (syntax.Joined logical'.AndThen first at second more) l (f-short_form names level here true first at second more)
+t-expr shapes names level here want (syntax.Joined logical'.OrElse first at second more) l = t-joined shapes names level here want (syntax.Joined logical'.OrElse first at second more) l (f-short_form names level here false first at second more)
