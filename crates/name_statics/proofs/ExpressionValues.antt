@@ -131,7 +131,7 @@ pub t-placed : (shapes : List Shape) (v : Option ℤ) (want : Wanted) (x : Optio
 t-placed shapes v want x h =
     t-of shapes (Finding v) _ (k-given walk x (λ f. in_place want f.known f) (λ f. k-in_place walk want f.known f)) (f-given-of (Is v) (Is v) x _ h (λ f q. f-in_place v want f.known f q))
 
-t-simple : (shapes : List Shape) (names : Names) (level : Inside) (here : Context) (want : Wanted) (x : Simple) → LevelTells shapes names level → Tells shapes (Finding (simple_value (there names here shapes) x)) (simple level here want x)
+pub t-simple : (shapes : List Shape) (names : Names) (level : Inside) (here : Context) (want : Wanted) (x : Simple) → LevelTells shapes names level → Tells shapes (Finding (simple_value (there names here shapes) x)) (simple level here want x)
 unfolding simple
 t-simple shapes names level here want (syntax.Sum s t as') l =
     let v = with_sign s (term_value (there names here shapes) t) in

@@ -32,14 +32,32 @@ use Rattle.name_rules.specs.declared.log.Log.{Log}
 use Rattle.name_rules.specs.declared.log.Shape.{Shape}
 use Rattle.name_laws.proofs.KeepsPrimaries.{k-grouped, k-inside, k-level_above, k-primary}
 use Rattle.name_laws.proofs.Walk.{k-fault}
-use Rattle.name_statics.proofs.ExpressionValues.{LevelTells, t-expr, t-placed, there}
-use Rattle.name_statics.proofs.Finds.{Finding, Finds, Is, Maybe, Tells, f-fault, f-given, f-none, f-pure, f-some, f-then, mapped, t-bind, t-given, t-of, t-pure}
+use Rattle.name_rules.specs.declared.types.Subtype.{Subtype}
+use Rattle.name_rules.specs.Judging.{Judging, fault, given, some, pure, ◌>>=◌}
+use Rattle.name_rules.specs.declared.log.Rule.TheVariants.{WrongType}
+use Rattle.typed_tree.specs.Decoded as part
+use Rattle.syntax_tree.specs.Syntax.{Simple}
+use Rattle.typed_tree.specs.Syntax.{Selections}
+use Rattle.name_rules.specs.Declarations.{Initial, indicated, initial, initial_value, static_number}
+use Rattle.name_rules.specs.Expressions.{simple}
+use Rattle.name_rules.specs.Judging.{joined}
+use Rattle.name_rules.specs.TypedParts.{selections_of}
+use Rattle.name_rules.specs.Types.{check_at, same, wanted_of}
+use Rattle.name_rules.specs.Values.{asked_form, first_of, is_number, kind_in, object_value, place_asked, place_scalar, static_integer, static_value, stored}
+use Rattle.name_rules.specs.declared.found.Place.{Place}
+use Rattle.name_rules.specs.declared.log.Rule.TheVariants.{NotStatic}
+use Rattle.name_rules.specs.declared.types.Scalar.{Scalar}
+use Rattle.name_laws.proofs.KeepsValues.{k-stored}
+use Rattle.name_laws.proofs.Walk.{Keeps, k-bind, k-given, k-pure}
+use Rattle.name_statics.proofs.Operations.{number-scalar}
+use Rattle.name_statics.proofs.ExpressionValues.{LevelTells, t-expr, t-placed, t-simple, there}
+use Rattle.name_statics.proofs.Finds.{Finding, Finds, Is, Maybe, Tells, f-bind, f-fault, f-given, f-given-of, f-if, f-none, f-pure, f-some, f-then, mapped, t-bind, t-given, t-of, t-pure}
 use Rattle.name_statics.proofs.NameValues.{t-value_named}
 use Rattle.name_statics.proofs.Operations.{Leaves, f-asked}
 use Rattle.name_statics.proofs.Same.{same_self, walk}
 use Rattle.name_statics.proofs.Unvalued.{f-aggregate, f-if_expr, f-sequence}
 use Rattle.name_statics.specs.Law.{StaticValuesLaw, around, static_in}
-use Rattle.name_statics.specs.Values.{expr_value, name_value, primary_value}
+use Rattle.name_statics.specs.Values.{expr_value, name_value, primary_value, simple_value}
 
 -- ---- brackets
 
@@ -121,8 +139,111 @@ left names n here want e log mid f k x g h =
     let v = expr_value (around names here log) e in
     subst (Maybe (Leaves v)) h ((f-asked k f v (found names n here want e log f g)).at mid)
 
+bound-found : (names : Names) (n : ℕ) (here : Context) (want : Wanted) (e : Simple) (log : Log) (f : Found) → (simple (primaries.inside names n) here want e log).0 ≡ Some f → Is (simple_value (around names here log) e) f
+bound-found names n here want e log f g =
+    let v = simple_value (around names here log) e in
+    subst (Finding v) g ((t-simple log.shapes names (primaries.inside names n) here want e (inside-tells log.shapes names n)).at log (same_self log.shapes)).1
+
+-- ---- declarations
+
+-- what takes a type is a scalar
+f-scalar_asked : (k : Kind) (f : Found) → Finds (Maybe (λ x. is_scalar f.known ≡ true)) (asked k f)
+unfolding asked
+f-scalar_asked k f = by f.known f.part
+  where
+    Scalars : Known → TypedPart → Type 0
+    Scalars g x = is_scalar g ≡ true
+
+    object : (p : Place) (ss : Selections) (s : Subtype) → Finds (Maybe (λ x. is_some (kind_in (place_scalar s)) ≡ true)) (place_asked k p ss s)
+    object p ss (subtype.Scalar s) = f-if (Maybe (λ x. is_some (kind_in (place_scalar (subtype.Scalar s))) ≡ true)) (same s.kind k) (some (object_value p ss s p.value)) (fault p.first WrongType) (λ e. f-some (λ x. is_some (kind_in (place_scalar (subtype.Scalar s))) ≡ true) (object_value p ss s p.value) refl) (f-fault (λ x. is_some (kind_in (place_scalar (subtype.Scalar s))) ≡ true) p.first WrongType)
+    object p ss (subtype.Composite m) = f-fault (λ x. is_some (kind_in (place_scalar (subtype.Composite m))) ≡ true) p.first WrongType
+
+    is-true : (p : Judging (Option TypedPart)) → Finds (Maybe (λ (x : TypedPart). true ≡ true)) p
+    is-true p = record { at = λ log. every (p log).0 }
+      where
+        every : (x : Option TypedPart) → Maybe (λ (y : TypedPart). true ≡ true) x
+        every None = tt
+        every (Some y) = refl
+
+    by : (g : Known) (x : TypedPart) → Finds (Maybe (Scalars g)) (asked_form k g x)
+    by (known.Object p) x = object p (selections_of x) p.subtype
+    by (known.Universal first z alone) x = is-true (asked_form k (known.Universal first z alone) x)
+    by (known.Open first l) x = is-true (asked_form k (known.Open first l) x)
+    by (known.Static first j z) x = is-true (asked_form k (known.Static first j z) x)
+    by (known.Scalar first j m) x = is-true (asked_form k (known.Scalar first j m) x)
+    by (known.Composite first m) x = f-fault (Scalars (known.Composite first m)) first WrongType
+    by (known.Rest first) x = f-fault (Scalars (known.Rest first)) first WrongType
+    by (known.Text first) x = f-fault (Scalars (known.Text first)) first WrongType
+
+abbrev Initially : Option ℤ → Initial → Type 0
+Initially v i = i.value ≡ v
+
+abbrev stores : Scalar → ℕ → TypedPart → Judging (Option TypedPart)
+stores s at x = some (part.AValue (typed.Number (check_at at s) (as_expr x)))
+
+f-stored : (v : Option ℤ) (s : Scalar) (at : ℕ) (f : Found) → Is v f → Finds (Maybe (λ x. value_of f.known ≡ v)) (stored (subtype.Scalar s) at f)
+unfolding stored
+f-stored v s at f h =
+    f-bind (Maybe (λ x. is_scalar f.known ≡ true)) (Maybe (λ x. value_of f.known ≡ v)) (asked s.kind f) (λ e. given e (stores s at)) (f-scalar_asked s.kind f) (λ e q.
+    f-given-of (λ x. is_scalar f.known ≡ true) (λ x. value_of f.known ≡ v) e (stores s at) q (λ x t. f-some (λ y. value_of f.known ≡ v) (part.AValue (typed.Number (check_at at s) (as_expr x))) (h.value t)))
+
+t-initial : (shapes : List Shape) (names : Names) (level : Inside) (here : Context) (s : Scalar) (mentions : TypedPart) (e : Expr) → LevelTells shapes names level
+    → Tells shapes (Maybe (Initially (expr_value (there names here shapes) e))) (initial names level here (Some (indicated mentions (subtype.Scalar s))) (Some e))
+unfolding initial
+t-initial shapes names level here s mentions e l =
+    let v = expr_value (there names here shapes) e in
+    t-bind shapes (Finding v) (Maybe (Initially v)) (expr names level here (wanted_of (subtype.Scalar s)) e) _ (t-expr shapes names level here (wanted_of (subtype.Scalar s)) e l) (λ x q.
+    t-of shapes (Maybe (Initially v)) _ (kept x) (found-stored v x q))
+  where
+    at : ℕ
+    at = first_token.of_expr e
+
+    rest : Option Found → Judging (Option Initial)
+    rest x = given x (stored (subtype.Scalar s) at) >>= λ w. pure (joined initial_value w x)
+
+    kept : (x : Option Found) → Keeps walk (rest x)
+    kept x = k-bind walk (given x (stored (subtype.Scalar s) at)) _ (k-given walk x (stored (subtype.Scalar s) at) (λ f. k-stored walk (subtype.Scalar s) at f)) (λ w. k-pure walk (joined initial_value w x))
+
+    initially : (v : Option ℤ) (f : Found) (w : Option TypedPart) → Maybe (λ x. value_of f.known ≡ v) w → Maybe (Initially v) (joined initial_value w (Some f))
+    initially v f None q = tt
+    initially v f (Some y) q = q
+
+    nothing-stored : (v : Option ℤ) (w : Option TypedPart) → Maybe (Initially v) (joined initial_value w None)
+    nothing-stored v None = tt
+    nothing-stored v (Some y) = tt
+
+    found-stored : (v : Option ℤ) (x : Option Found) → Finding v x → Finds (Maybe (Initially v)) (rest x)
+    found-stored v None q = f-then (Maybe (Initially v)) (given None (stored (subtype.Scalar s) at)) _ (λ w. f-pure (Maybe (Initially v)) _ (nothing-stored v w))
+    found-stored v (Some f) q =
+        f-bind (Maybe (λ x. value_of f.known ≡ v)) (Maybe (Initially v)) (stored (subtype.Scalar s) at f) _ (f-stored v s at f q) (λ w t. f-pure (Maybe (Initially v)) (joined initial_value w (Some f)) (initially v f w t))
+
+constant-declared : (names : Names) (n : ℕ) (here : Context) (s : Scalar) (mentions : TypedPart) (e : Expr) (log : Log) (v : Initial)
+    → (initial names (primaries.inside names n) here (Some (indicated mentions (subtype.Scalar s))) (Some e) log).0 ≡ Some v → v.value ≡ expr_value (around names here log) e
+constant-declared names n here s mentions e log v g =
+    let w = expr_value (around names here log) e in
+    subst (Maybe (Initially w)) g ((t-initial log.shapes names (primaries.inside names n) here s mentions e (inside-tells log.shapes names n)).at log (same_self log.shapes)).1
+
+f-static_number : (v : Option ℤ) (f : Found) → Is v f → Finds (Maybe (λ z. Some z ≡ v)) (static_number f)
+unfolding static_integer
+f-static_number v f h =
+    f-if (Maybe (λ z. Some z ≡ v)) (is_number f.known) (static_value (first_of f.known) (value_of f.known)) (fault (first_of f.known) WrongType)
+    (λ e. by (value_of f.known) (h.value (number-scalar f.known e))) (f-fault (λ z. Some z ≡ v) (first_of f.known) WrongType)
+  where
+    by : (w : Option ℤ) → w ≡ v → Finds (Maybe (λ z. Some z ≡ v)) (static_value (first_of f.known) w)
+    by None e = f-fault (λ z. Some z ≡ v) (first_of f.known) NotStatic
+    by (Some z) e = f-some (λ z. Some z ≡ v) z e
+
+number-declared : (names : Names) (n : ℕ) (here : Context) (e : Expr) (log mid : Log) (f : Found) (z : ℤ) → (expr names (primaries.inside names n) here wanted.Other e log).0 ≡ Some f → (static_number f mid).0 ≡ Some z
+    → Some z ≡ expr_value (around names here log) e
+number-declared names n here e log mid f z g h =
+    let v = expr_value (around names here log) e in
+    subst (Maybe (λ y. Some y ≡ v)) h ((f-static_number v f (found names n here wanted.Other e log f g)).at mid)
+
 pub static_values_law : StaticValuesLaw
 static_values_law = record {
   found = λ names n here want e log f g s. (found names n here want e log f g).value s;
+  bounds = λ names n here want e log f g s. (bound-found names n here want e log f g).value s;
   left = left;
+  constants = constant-declared;
+  numbers = number-declared;
 }

@@ -1,9 +1,10 @@
 -- Static values are those of whole expressions (4.9).
-use Rattle.syntax_tree.specs.Syntax.{Expr}
+use Rattle.syntax_tree.specs.Syntax.{Expr, Simple}
 use Rattle.typed_tree.specs.Decoded.{Part as TypedPart, as_expr}
 use Rattle.typed_tree.specs.Syntax as typed
 use Rattle.typed_tree.specs.Syntax.{Expr as TypedExpr}
-use Rattle.name_rules.specs.Expressions.{expr}
+use Rattle.name_rules.specs.Declarations.{Initial, indicated, initial, static_number}
+use Rattle.name_rules.specs.Expressions.{expr, simple}
 use Rattle.name_rules.specs.Found.{Found}
 use Rattle.name_rules.specs.Primaries.{inside}
 use Rattle.name_rules.specs.Values.{asked, is_scalar, value_of}
@@ -11,8 +12,11 @@ use Rattle.name_rules.specs.declared.log.Log.{Log}
 use Rattle.name_rules.specs.declared.scope.Context.{Context}
 use Rattle.name_rules.specs.declared.scope.Names.{Names}
 use Rattle.name_rules.specs.declared.types.Kind.{Kind}
+use Rattle.name_rules.specs.declared.types.Scalar.{Scalar}
+use Rattle.name_rules.specs.declared.types.Subtype.TheVariants as subtype
+use Rattle.name_rules.specs.declared.types.Wanted.TheVariants as wanted
 use Rattle.name_rules.specs.declared.types.Wanted.{Wanted}
-use Rattle.name_statics.specs.Values.{Around, expr_value}
+use Rattle.name_statics.specs.Values.{Around, expr_value, simple_value}
 use Rattle.std.specs.Prelude.{None, Option, Some, true, ℕ, ℤ, ◌≡◌}
 
 -- what is declared where an expression stands, and what the table of subtypes has there
@@ -24,13 +28,24 @@ abbrev pub static_in : TypedExpr → Option ℤ
 static_in (typed.Static at z alone mentions) = Some z
 static_in e = None
 
--- Whatever scalar an expression is found to be, at each level of brackets and wherever it stands, its static value is that
--- of its text, and it has none where its text has none. Where a place asks for its type, what it leaves there in the typed
--- program is that value, and is no value where its text has none.
+-- Whatever scalar an expression or a bound is found to be, at each level of brackets and wherever it stands, its static
+-- value is that of its text, and it has none where its text has none. Where a place asks for its type, what it leaves there
+-- in the typed program is that value, and is no value where its text has none. A constant of a scalar subtype is declared
+-- with the value of its initial expression, if that is static and lies in the subtype, and a named number with that of its
+-- expression.
 pub record StaticValuesLaw : Type 0 where
   pub found : (names : Names) (n : ℕ) (here : Context) (want : Wanted) (e : Expr) (log : Log) (f : Found)
       → (expr names (inside names n) here want e log).0 ≡ Some f → is_scalar f.known ≡ true
       → value_of f.known ≡ expr_value (around names here log) e
+  pub bounds : (names : Names) (n : ℕ) (here : Context) (want : Wanted) (e : Simple) (log : Log) (f : Found)
+      → (simple (inside names n) here want e log).0 ≡ Some f → is_scalar f.known ≡ true
+      → value_of f.known ≡ simple_value (around names here log) e
   pub left : (names : Names) (n : ℕ) (here : Context) (want : Wanted) (e : Expr) (log mid : Log) (f : Found) (k : Kind) (x : TypedPart)
       → (expr names (inside names n) here want e log).0 ≡ Some f → (asked k f mid).0 ≡ Some x
       → static_in (as_expr x) ≡ expr_value (around names here log) e
+  pub constants : (names : Names) (n : ℕ) (here : Context) (s : Scalar) (mentions : TypedPart) (e : Expr) (log : Log) (v : Initial)
+      → (initial names (inside names n) here (Some (indicated mentions (subtype.Scalar s))) (Some e) log).0 ≡ Some v
+      → v.value ≡ expr_value (around names here log) e
+  pub numbers : (names : Names) (n : ℕ) (here : Context) (e : Expr) (log mid : Log) (f : Found) (z : ℤ)
+      → (expr names (inside names n) here wanted.Other e log).0 ≡ Some f → (static_number f mid).0 ≡ Some z
+      → Some z ≡ expr_value (around names here log) e
