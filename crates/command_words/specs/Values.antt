@@ -10,11 +10,26 @@ infixl 10 ◌>>=◌
 abbrev pub ◌>>=◌ : {X Y : Type 0} → Option X → (X → Option Y) → Option Y
 x >>= f = option_and_then f x
 
+-- ---- bounds
+
+-- digits of a number, iterations of a chunk, chunks of a plan, and sizes of chunks that are listed
+abbrev pub most_digits : ℕ
+most_digits = 13
+
+abbrev pub most_iterations : ℕ
+most_iterations = 4294967295
+
+abbrev pub most_chunks : ℕ
+most_chunks = 4096
+
+abbrev pub most_sizes : ℕ
+most_sizes = 64
+
 -- ---- numbers
 
--- 1 to 13 decimal digits and nothing else
+-- so many decimal digits at most, and nothing else
 abbrev pub is_number : List ℕ → Bool
-is_number text = all_ascii_digits text && (nat_le 1 (length text) && nat_le (length text) 13)
+is_number text = all_ascii_digits text && (nat_le 1 (length text) && nat_le (length text) most_digits)
 
 abbrev pub written : List ℕ → Option ℕ
 written text = if is_number text then Some (digits_value 10 text) else None
@@ -34,7 +49,7 @@ parts_at mark text = option_map (λ k. (take k text, drop (k + 1) text)) (positi
 
 -- a size of a chunk
 abbrev pub size : List ℕ → Option ℕ
-size = number 1 4294967295
+size = number 1 most_iterations
 
 -- sizes, with one more behind them
 abbrev pub with_size : List ℕ → List ℕ → Option (List ℕ)
@@ -52,9 +67,9 @@ sizes (suc more) before text = sizes_by (λ so_far rest. sizes more so_far rest)
 
 -- a plan with a number or with sizes, by its form
 abbrev pub plan_of_form : List ℕ → List ℕ → Option Plan
-plan_of_form form rest = if bytes_eq form (codes "even") then option_map Even (number 1 4096 rest)
+plan_of_form form rest = if bytes_eq form (codes "even") then option_map Even (number 1 most_chunks rest)
     else if bytes_eq form (codes "sized") then option_map Chunked (size rest)
-    else if bytes_eq form (codes "list") then option_map Listed (sizes 64 [] rest)
+    else if bytes_eq form (codes "list") then option_map Listed (sizes most_sizes [] rest)
     else None
 
 -- `one`, or a form with what stands behind its colon (58)

@@ -62,11 +62,27 @@ value_or default read (Some text) = read text
 abbrev pub is_true : Option (List ℕ) → Bool
 is_true text = option_map_or (λ t. bytes_eq t (codes "true")) text false
 
+-- what is taken where an option is absent, and the most that one may be: 2 ^ 40 turns
+abbrev pub usual_chunks : ℕ
+usual_chunks = 8
+
+abbrev pub usual_workers : ℕ
+usual_workers = 4
+
+abbrev pub most_workers : ℕ
+most_workers = 64
+
+abbrev pub usual_turns : ℕ
+usual_turns = 1000000000
+
+abbrev pub most_turns : ℕ
+most_turns = 1099511627776
+
 abbrev pub settings_by : List Row → Option Settings
 settings_by rows = do
-  p ← value_or (Even 8) plan (first_of (codes "chunks") rows)
-  workers ← value_or 4 (number 1 64) (first_of (codes "workers") rows)
-  turns ← value_or 1000000000 (number 1 1099511627776) (first_of (codes "turns") rows)
+  p ← value_or (Even usual_chunks) plan (first_of (codes "chunks") rows)
+  workers ← value_or usual_workers (number 1 most_workers) (first_of (codes "workers") rows)
+  turns ← value_or usual_turns (number 1 most_turns) (first_of (codes "turns") rows)
   Some (record { plan = p; workers = workers; turns = turns })
 
 abbrev pub asked_by : List Row → Option Asked

@@ -1,7 +1,7 @@
 //! The values of options.
 
 ghost use Rattle.std.specs.Prelude.{◌≡◌, ◌<◌, ◌≤◌, [], Some, None, All, option_map};
-ghost use Rattle.command_words.specs.Values.{number as number_in, parts_at, plan as plan_in, plan_of_form as form_in, size as size_in, sizes as sizes_in, with_size, within, written};
+ghost use Rattle.command_words.specs.Values.{most_iterations, most_sizes, number as number_in, parts_at, plan as plan_in, plan_of_form as form_in, size as size_in, sizes as sizes_in, with_size, within, written};
 ghost use Rattle.ada_base.specs.Cuts.{Listed};
 ghost use Rattle.command_words.specs.Answers.{GivesPlan, GivesSizes, GivesWithin};
 
@@ -12,6 +12,13 @@ use std::alloc::Global;
 
 // The most digits that a number has.
 const MOST_DIGITS: usize = 13;
+
+// The most iterations that a chunk is given, chunks of an even plan, and sizes in a list.
+const MOST_ITERATIONS: u32 = 4_294_967_295;
+
+const MOST_CHUNKS: u32 = 4096;
+
+const MOST_SIZES: u32 = 64;
 
 fn written(text: &str) -> Option<u64>
     ensures { result ≡ written text.now }
@@ -56,9 +63,9 @@ fn narrow_number(text: &str, high: u32) -> Result<u32, WordsFault>
 }
 
 fn size(text: &str) -> Result<u32, WordsFault>
-    ensures { GivesWithin 1 4294967295 (size_in text.now) result }
+    ensures { GivesWithin 1 most_iterations (size_in text.now) result }
 {
-    narrow_number(text, 4_294_967_295)
+    narrow_number(text, MOST_ITERATIONS)
 }
 
 // What stands before the first comma or colon, and what stands behind it.
@@ -94,10 +101,10 @@ fn push_sizes(most: u32, sizes: &mut Items<u32>, text: &str) -> Result<(), Words
 }
 
 fn listed(alloc: Global, text: &str) -> Result<Plan, WordsFault>
-    ensures { GivesPlan (option_map Listed (sizes_in 64 [] text.now)) result }
+    ensures { GivesPlan (option_map Listed (sizes_in most_sizes [] text.now)) result }
 {
     let mut sizes = Items::new(alloc);
-    push_sizes(64, &mut sizes, text)?;
+    push_sizes(MOST_SIZES, &mut sizes, text)?;
     Ok(Plan::Listed(sizes))
 }
 
@@ -106,7 +113,7 @@ fn plan_of_form(alloc: Global, form: &str, rest: &str) -> Result<Plan, WordsFaul
 {
     match form {
         "even" => {
-            let chunks = narrow_number(rest, 4096)?;
+            let chunks = narrow_number(rest, MOST_CHUNKS)?;
             Ok(Plan::Even(chunks))
         }
         "sized" => {

@@ -6,7 +6,7 @@ ghost use Rattle.clap.specs.Simple.{app_of};
 ghost use Rattle.clap.specs.Walk.{first_of, rows_of};
 ghost use Rattle.ada_base.specs.Cuts.{Even};
 ghost use Rattle.command_words.specs.Values.{number as number_in, plan as plan_in};
-ghost use Rattle.command_words.specs.Words.{asked, asked_by, bare, command, flag, is_true, mode_named, option, positional, settings_by, value_or};
+ghost use Rattle.command_words.specs.Words.{asked, asked_by, bare, command, flag, is_true, mode_named, option, positional, settings_by, usual_chunks, value_or};
 ghost use Rattle.command_words.specs.declared.request.WordsFault.TheVariants.{Usage};
 ghost use Rattle.command_words.specs.Answers.{IsArg, GivesMatches, GivesPlan, GivesRequest, GivesSetting, GivesWithin};
 
@@ -16,6 +16,17 @@ use clap::error::ErrorKind;
 use clap::{Arg, ArgAction, ArgMatches, Command};
 use run_plan::{Plan, Setting};
 use std::alloc::{AllocError, Global};
+
+// What is taken where an option is absent, and the most that one may be.
+const USUAL_CHUNKS: u32 = 8;
+
+const USUAL_WORKERS: u64 = 4;
+
+const MOST_WORKERS: u64 = 64;
+
+const USUAL_TURNS: u64 = 1_000_000_000;
+
+const MOST_TURNS: u64 = 1_099_511_627_776;
 
 fn positional<'a>(alloc: Global, name: &'a str) -> Arg<'a>
     ensures { IsArg (positional name.entry.now) result }
@@ -108,11 +119,11 @@ fn mode_of(text: Option<&str>) -> Option<Mode>
 }
 
 fn plan_of(alloc: Global, text: Option<&str>) -> Result<Plan, WordsFault>
-    ensures { GivesPlan (value_or (Even 8) plan_in (option_map (λ s. s.now) text.entry)) result }
+    ensures { GivesPlan (value_or (Even usual_chunks) plan_in (option_map (λ s. s.now) text.entry)) result }
 {
     match text {
         Some(text) => plan(alloc, text),
-        None => Ok(Plan::Even(8)),
+        None => Ok(Plan::Even(USUAL_CHUNKS)),
     }
 }
 
@@ -131,8 +142,8 @@ fn setting_of(alloc: Global, matches: &ArgMatches<'_>) -> Result<Setting, WordsF
     ensures { GivesSetting (settings_by (rows_of (found_of matches.now))) result }
 {
     let plan = plan_of(alloc, value_of(matches, "chunks"))?;
-    let workers = number_of(value_of(matches, "workers"), 4, 64)?;
-    let turns = number_of(value_of(matches, "turns"), 1_000_000_000, 1_099_511_627_776)?;
+    let workers = number_of(value_of(matches, "workers"), USUAL_WORKERS, MOST_WORKERS)?;
+    let turns = number_of(value_of(matches, "turns"), USUAL_TURNS, MOST_TURNS)?;
     Ok(Setting {
         plan,
         workers: workers as u32,
