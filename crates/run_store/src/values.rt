@@ -11,7 +11,7 @@ ghost use Rattle.run_store.specs.Operating.{unary_then};
 use crate::ends::{End, Leave};
 use crate::outside::Port;
 use crate::store::Store;
-use ada_base::{Base, Op, Reason, apply};
+use ada_base::{Base, Op, Reason, apply, is_in_base};
 use typed_tree::{Class, Comparison, Scalar, Sign};
 
 /// Whether a truth value is True.
@@ -94,15 +94,6 @@ fn base_of(class: Class) -> Base
         Class::Boolean => Base::Narrow,
         Class::Integer(base) => base,
         Class::Universal => Base::Wide,
-    }
-}
-
-fn is_in_base(base: Base, value: i64) -> bool
-    ensures { result ≡ operation.is_in_base base value }
-{
-    match base {
-        Base::Narrow => -2_147_483_648 <= value && value <= 2_147_483_647,
-        Base::Wide => true,
     }
 }
 
