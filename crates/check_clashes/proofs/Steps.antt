@@ -6,8 +6,10 @@ use Rattle.check_clashes.specs.declared.effects.Touch.{Touch}
 use Rattle.check_clashes.specs.declared.effects.Uses.{Uses}
 use Rattle.check_clashes.specs.declared.effects.Effect.{Effect}
 use Rattle.check_clashes.specs.declared.breaches.Pair.{Pair}
+use Rattle.check_clashes.specs.declared.granted.Grant.{Grant}
 use Rattle.check_clashes.specs.Breaches.{least, is_exempt, least_touched, writes, do_clash, in_order, least_with, least_clash}
 use Rattle.check_clashes.specs.Called.{spread_of, spread_all, reached, with_called, with_arms}
+use Rattle.check_clashes.specs.Granted.{grant_of, written}
 use Rattle.check_clashes.specs.Touching.{touch_of, touches_of}
 
 -- an effect at the end of those that were found is the next of those to come
@@ -59,3 +61,11 @@ clash_next block ts es i e all h k = rw (next_effect es i e h k) refl
 pub clash_end : (block : Bool) (ts : List Touch) (es : List Effect) (i : ℕ) (all : Option Pair) → length es ≤ i → least_clash block ts (touches_of (drop i es)) all ≡ all
 unfolding least_clash
 clash_end block ts es i all h = rw (no_effect es i h) refl
+
+pub written_next : (site : ℕ) (es : List Effect) (i : ℕ) (e : Effect) (all : List Grant) → i < length es → e ≡ get_or es i e → written site (touches_of (drop (i + 1) es)) (cond (writes e.access) (all ++ grant_of site (touch_of e) ∷ []) all) ≡ written site (touches_of (drop i es)) all
+unfolding written
+written_next site es i e all h k = rw (next_effect es i e h k) refl
+
+pub written_end : (site : ℕ) (es : List Effect) (i : ℕ) (all : List Grant) → length es ≤ i → written site (touches_of (drop i es)) all ≡ all
+unfolding written
+written_end site es i all h = rw (no_effect es i h) refl

@@ -1,3 +1,4 @@
 pub mod Called
 pub mod Touching
 pub mod Breaches
+pub mod Granted

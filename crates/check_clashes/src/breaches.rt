@@ -172,7 +172,7 @@ fn are_separated(first: &Path, second: &Path) -> bool
 }
 
 /// Whether an access is a write, too.
-fn writes(access: Access) -> bool
+pub fn writes(access: Access) -> bool
     ensures { result ≡ spec.writes access }
 {
     match access {

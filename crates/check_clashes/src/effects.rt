@@ -55,10 +55,11 @@ pub struct Uses {
     pub calls: Items<Call>,
 }
 
-/// A parallel construct: whether it is a parallel block, of which two threads run two arms; what its chunk specification,
-/// range or number of chunks uses; and what its threads use.
+/// A parallel construct: the number of its site in the typed program; whether it is a parallel block, of which two threads
+/// run two arms; what its chunk specification, range or number of chunks uses; and what its threads use.
 #[derive(Drop)]
 pub struct SiteEffects {
+    pub site: u32,
     pub block: bool,
     pub front: Uses,
     pub threads: Uses,

@@ -73,12 +73,14 @@ module _ (program : Program) where
     adds_stmt (For number iteration stmts) p r out f = after (adds_course program iteration p r out f)
         (moved (beside_below false iteration p p) (after (adds_filter program iteration _ _ _ (fits_course iteration p r f)) (adds_stmts stmts _ _ _ (fits_course iteration p r f))))
     adds_stmt (ParallelFor number site chunk iteration stmts) p r out f = after (held_site p (LoopOf site (forget r) chunk iteration stmts) _ out (λ on. record {
+      number = refl;
       block = refl;
       front = tells [] refl (after (adds_chunk program chunk _ _ _ (fits_judging p r f on)) (adds_course program iteration _ _ _ (fits_judging p r f on)));
       threads = λ j. tells [] refl (moved (beside_threads chunk iteration p) (after (adds_filter program iteration _ _ _ (fits_threads chunk iteration p r f on)) (adds_stmts stmts _ _ _ (fits_threads chunk iteration p r f on))));
     })) (after (adds_chunk program chunk p r _ f) (after (adds_course program iteration p r _ f)
         (moved (beside_both chunk iteration p) (after (adds_filter program iteration _ _ _ (fits_below chunk iteration p r f)) (adds_stmts stmts _ _ _ (fits_below chunk iteration p r f))))))
     adds_stmt (Parallel site count arms) p r out f = after (held_site p (BlockOf site (forget r) count arms) _ out (λ on. record {
+      number = refl;
       block = refl;
       front = tells [] refl (adds_optional program count _ _ _ (fits_judging p r f on));
       threads = λ j. tells_arms (adds_numbered arms 0 _ _ _ (fits_judging p r f on)) j;

@@ -39,6 +39,7 @@ module _ (program : Program) where
     adds_expr (Reduction at attribute by initial None chunk iteration value) p r out f = after (adds_reducer by) (after (adds_expr initial p r _ f) (after (adds_course iteration p r _ f)
         (moved (beside_below false iteration p p) (after (adds_filter iteration _ _ _ (fits_course iteration p r f)) (adds_expr value _ _ _ (fits_course iteration p r f))))))
     adds_expr (Reduction at attribute by initial (Some site) chunk iteration value) p r out f = after (held_site p (ReductionOf site (forget r) by chunk iteration value) _ out (λ on. record {
+      number = refl;
       block = refl;
       front = tells [] refl (after (adds_chunk chunk _ _ _ (fits_judging p r f on)) (adds_course iteration _ _ _ (fits_judging p r f on)));
       threads = λ j. tells [] refl (after (adds_reducer by) (moved (beside_threads chunk iteration p) (after (adds_filter iteration _ _ _ (fits_threads chunk iteration p r f on)) (adds_expr value _ _ _ (fits_threads chunk iteration p r f on)))));

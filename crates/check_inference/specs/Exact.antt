@@ -5,6 +5,7 @@ use Rattle.typed_tree.specs.Syntax.{Program}
 use Rattle.check_effects.specs.Effects as law
 use Rattle.check_effects.specs.Effects.{Construct, LoopOf, BlockOf, ReductionOf, Item, Touches, Calls, Holds, InThread, InFront, InSub, IsGlobal}
 use Rattle.check_effects.specs.Conflicts.{EffectPath, path_of, InProgram}
+use Rattle.check_effects.specs.Covered.{site_of}
 use Rattle.check_clashes.specs.declared.effects.Access.{Access}
 use Rattle.check_clashes.specs.declared.effects.Access.TheVariants.{Read, Write, Update}
 use Rattle.check_clashes.specs.declared.effects.Call.{Call}
@@ -61,6 +62,7 @@ is_block (ReductionOf site r by chunk iteration value) = false
 
 module _ (program : Program) where
   pub record TellsSite (k : Construct) (site : SiteEffects) : Type 0 where
+    pub number : site.site ≡ site_of k
     pub block : site.block ≡ is_block k
     pub front : Tells (InFront program.subtypes k) any_arm site.front
     pub threads : (j : ℕ) → Tells (InThread program.subtypes k j) (OfThread site.block j) site.threads

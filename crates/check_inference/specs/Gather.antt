@@ -65,6 +65,7 @@ unfoldable mutual
       gather_expr (below env false iteration env) value (gather_filter (below env false iteration env) iteration (gather_course env iteration (gather_expr env initial (gather_reducer env by out))))
   gather_expr env (Reduction at attribute by initial (Some site) chunk iteration value) out =
       gather_expr (below env false iteration (chunk_hidden chunk env)) value (gather_filter (below env false iteration (chunk_hidden chunk env)) iteration (gather_course env iteration (gather_chunk env chunk (gather_expr env initial (gather_reducer env by (with_site env (record {
+        site = site;
         block = false;
         front = (gather_course (judging env) iteration (gather_chunk (judging env) chunk nothing)).uses;
         threads = (gather_expr (threads_below env chunk iteration) value (gather_filter (threads_below env chunk iteration) iteration (gather_reducer (judging env) by nothing))).uses;
@@ -164,11 +165,13 @@ unfoldable mutual
   gather_stmt env (For number iteration stmts) out = gather_stmts (below env false iteration env) stmts (gather_filter (below env false iteration env) iteration (gather_course env iteration out))
   gather_stmt env (ParallelFor number site chunk iteration stmts) out =
       gather_stmts (below env false iteration (chunk_hidden chunk env)) stmts (gather_filter (below env false iteration (chunk_hidden chunk env)) iteration (gather_course env iteration (gather_chunk env chunk (with_site env (record {
+        site = site;
         block = false;
         front = (gather_course (judging env) iteration (gather_chunk (judging env) chunk nothing)).uses;
         threads = (gather_stmts (threads_below env chunk iteration) stmts (gather_filter (threads_below env chunk iteration) iteration nothing)).uses;
       }) out))))
   gather_stmt env (Parallel site count arms) out = gather_arms env arms (gather_optional env count (with_site env (record {
+    site = site;
     block = true;
     front = (gather_optional (judging env) count nothing).uses;
     threads = (gather_numbered (judging env) 0 arms nothing).uses;
@@ -218,24 +221,27 @@ gather_values around env judged iteration value out = gather_expr (below around 
 abbrev pub gather_turns : (around env : Place) → Bool → Iteration → Stmts → Gathered → Gathered
 gather_turns around env judged iteration stmts out = gather_stmts (below around judged iteration env) stmts (gather_filter (below around judged iteration env) iteration out)
 
--- parallel constructs
+-- parallel constructs, by the number of their site
 
-abbrev pub gather_reduction : Place → Reducer → Chunk → Iteration → Expr → Gathered → Gathered
-gather_reduction env by chunk iteration value out = with_site env (record {
+abbrev pub gather_reduction : Place → ℕ → Reducer → Chunk → Iteration → Expr → Gathered → Gathered
+gather_reduction env site by chunk iteration value out = with_site env (record {
+  site = site;
   block = false;
   front = (gather_course (judging env) iteration (gather_chunk (judging env) chunk nothing)).uses;
   threads = (gather_values (judging env) (record (judging env) { chunk_parameter = chunk_parameter chunk }) true iteration value (gather_reducer (judging env) by nothing)).uses;
 }) out
 
-abbrev pub gather_loop : Place → Chunk → Iteration → Stmts → Gathered → Gathered
-gather_loop env chunk iteration stmts out = with_site env (record {
+abbrev pub gather_loop : Place → ℕ → Chunk → Iteration → Stmts → Gathered → Gathered
+gather_loop env site chunk iteration stmts out = with_site env (record {
+  site = site;
   block = false;
   front = (gather_course (judging env) iteration (gather_chunk (judging env) chunk nothing)).uses;
   threads = (gather_turns (judging env) (record (judging env) { chunk_parameter = chunk_parameter chunk }) true iteration stmts nothing).uses;
 }) out
 
-abbrev pub gather_parallel : Place → Optional → Arms → Gathered → Gathered
-gather_parallel env count arms out = with_site env (record {
+abbrev pub gather_parallel : Place → ℕ → Optional → Arms → Gathered → Gathered
+gather_parallel env site count arms out = with_site env (record {
+  site = site;
   block = true;
   front = (gather_optional (judging env) count nothing).uses;
   threads = (gather_numbered (judging env) 0 arms nothing).uses;

@@ -43,7 +43,7 @@ rest_size (Some k) = suc k
 -- what is gathered of a reduction, by the numbers of its parts
 abbrev pub reduced : Typed → Place → Reduced → Option ℕ → Gathered → Gathered
 reduced t env r None out = gather_values env env false (iteration_at t.nodes r.iteration) (expr_at t.nodes r.value) (gather_course env (iteration_at t.nodes r.iteration) (gather_expr env (expr_at t.nodes r.initial) (gather_reducer env (reducer_at t.nodes r.reducer) out)))
-reduced t env r (Some site) out = gather_values env (chunk_hidden (chunk_at t.nodes r.chunk) env) false (iteration_at t.nodes r.iteration) (expr_at t.nodes r.value) (gather_course env (iteration_at t.nodes r.iteration) (gather_chunk env (chunk_at t.nodes r.chunk) (gather_expr env (expr_at t.nodes r.initial) (gather_reducer env (reducer_at t.nodes r.reducer) (gather_reduction env (reducer_at t.nodes r.reducer) (chunk_at t.nodes r.chunk) (iteration_at t.nodes r.iteration) (expr_at t.nodes r.value) out)))))
+reduced t env r (Some site) out = gather_values env (chunk_hidden (chunk_at t.nodes r.chunk) env) false (iteration_at t.nodes r.iteration) (expr_at t.nodes r.value) (gather_course env (iteration_at t.nodes r.iteration) (gather_chunk env (chunk_at t.nodes r.chunk) (gather_expr env (expr_at t.nodes r.initial) (gather_reducer env (reducer_at t.nodes r.reducer) (gather_reduction env site (reducer_at t.nodes r.reducer) (chunk_at t.nodes r.chunk) (iteration_at t.nodes r.iteration) (expr_at t.nodes r.value) out)))))
 
 -- what is gathered of a statement of which the rest is still to be gone through
 abbrev pub stmt_left : Typed → Place → Gathered → Option ℕ → Gathered

@@ -665,10 +665,11 @@ fn thread_uses(source: Source<'_>, env: Environment<'_>, parts: Reduced) -> Resu
 fn site(
     source: Source<'_>,
     env: Environment<'_>,
+    number: u32,
     parts: Reduced,
     out: &mut Gathered,
 ) -> Result<(), AllocError>
-    ensures { OnOk result (out.new ≡ spec.gather_reduction (place_of env.entry) (reducer_at source.entry.typed.now.nodes parts.reducer) (chunk_at source.entry.typed.now.nodes parts.chunk) (iteration_at source.entry.typed.now.nodes parts.iteration) (expr_at source.entry.typed.now.nodes parts.value) out.old) }
+    ensures { OnOk result (out.new ≡ spec.gather_reduction (place_of env.entry) number (reducer_at source.entry.typed.now.nodes parts.reducer) (chunk_at source.entry.typed.now.nodes parts.chunk) (iteration_at source.entry.typed.now.nodes parts.iteration) (expr_at source.entry.typed.now.nodes parts.value) out.old) }
 {
     if !env.sites {
         return Ok(());
@@ -678,6 +679,7 @@ fn site(
     out.site(
         env,
         SiteEffects {
+            site: number,
             block: false,
             front,
             threads,
@@ -722,12 +724,13 @@ fn sequential(
 fn parallel(
     source: Source<'_>,
     env: Environment<'_>,
+    number: u32,
     parts: Reduced,
     out: &mut Gathered,
 ) -> Result<(), AllocError>
-    ensures { (number : ℕ) → OnOk result (out.new ≡ reduced source.entry.typed.now (place_of env.entry) parts (Some number) out.old) }
+    ensures { OnOk result (out.new ≡ reduced source.entry.typed.now (place_of env.entry) parts (Some number) out.old) }
 {
-    site(source, env, parts, out)?;
+    site(source, env, number, parts, out)?;
     begun(source, env, parts, out)?;
     front(source, env, parts.chunk, parts.iteration, out)?;
     let inside = chunk_below(source, env, parts.chunk);
@@ -756,6 +759,6 @@ fn reduction(
 {
     match number {
         None => sequential(source, env, parts, out),
-        Some(_) => parallel(source, env, parts, out),
+        Some(site) => parallel(source, env, site, parts, out),
     }
 }

@@ -1,6 +1,7 @@
 //! The effects of a whole program (9.10.1).
 
 ghost use Rattle.std.specs.Prelude.{◌≡◌, ◌++◌, ◌∷◌, [], cond, true, IfOk, OnOk};
+ghost use Rattle.check_inference.specs.Exact.{AreEffects};
 ghost use Rattle.typed_tree.specs.Decoded.{as_decl, body_at, decls_at, part_at};
 ghost use Rattle.typed_tree.specs.Programs.{program, sub_of};
 ghost use Rattle.typed_tree.specs.Syntax.{Decls};
@@ -168,10 +169,17 @@ fn with_main(source: Source<'_>, found: Effects) -> Result<Effects, AllocError>
 }
 
 /// The effects of a typed program (9.10.1): what each subprogram uses, of variables those of the main procedure alone, and
-/// all parallel constructs. `EffectsLaw` of `specs/Exact.antt` says that they are exactly those of its texts. An Err is
-/// want of memory.
-#[tactic(auto, unfolding(crate::specs::Program::effects_of))]
+/// all parallel constructs by the numbers of their sites. They are exactly those of its texts: names of variables by the
+/// paths that accesses are compared by, and calls. An Err is want of memory.
 pub fn infer(typed: &Typed, alloc: Global) -> Result<Effects, AllocError>
+    ensures { IfOk result (λ effects. (effects ≡ spec.effects_of (program typed.now)) × AreEffects (program typed.now) effects) }
+{
+    gathered(typed, alloc)
+}
+
+/// What the walk finds. An Err is want of memory.
+#[tactic(auto, unfolding(crate::specs::Program::effects_of))]
+fn gathered(typed: &Typed, alloc: Global) -> Result<Effects, AllocError>
     ensures { IfOk result (λ effects. effects ≡ spec.effects_of (program typed.now)) }
 {
     let source = Source { typed, alloc };

@@ -20,6 +20,16 @@ use check_clashes::effects::{Access, SiteEffects, Uses};
 use std::alloc::AllocError;
 use typed_tree::{Handler, Iteration, Root, Stmt};
 
+/// The number of the site of a parallel loop (5.5), and those of its parts: its chunk specification, its iteration and its
+/// statements.
+#[derive(Clone, Copy)]
+pub struct Looped {
+    pub site: u32,
+    pub chunk: u32,
+    pub iteration: u32,
+    pub stmts: u32,
+}
+
 /// A statement. A statement that stands alone after `else`, as one made of `elsif` does, is gone through by a loop.
 #[cycle(body)]
 fn stmt(
@@ -85,12 +95,23 @@ fn stmt_step(
             ..
         } => whole(for_loop(source, env, iteration, parts, out)),
         Stmt::ParallelFor {
+            site,
             chunk,
             iteration,
             stmts: parts,
             ..
-        } => whole(parallel_for(source, env, chunk, iteration, parts, out)),
-        Stmt::Parallel { count, arms, .. } => whole(parallel(source, env, count, arms, out)),
+        } => {
+            let parts = Looped {
+                site,
+                chunk,
+                iteration,
+                stmts: parts,
+            };
+            whole(parallel_for(source, env, parts, out))
+        }
+        Stmt::Parallel { site, count, arms } => {
+            whole(parallel(source, env, site, count, arms, out))
+        }
         Stmt::Block {
             decls,
             stmts: parts,
@@ -215,22 +236,20 @@ fn for_loop(
 fn parallel_for(
     source: Source<'_>,
     env: Environment<'_>,
-    chunk: u32,
-    iteration: u32,
-    parts: u32,
+    parts: Looped,
     out: &mut Gathered,
 ) -> Result<(), AllocError>
-    ensures { OnOk result (out.new ≡ spec.gather_turns (place_of env.entry) (chunk_hidden (chunk_at source.entry.typed.now.nodes chunk) (place_of env.entry)) false (iteration_at source.entry.typed.now.nodes iteration) (stmts_at source.entry.typed.now.nodes parts) (spec.gather_course (place_of env.entry) (iteration_at source.entry.typed.now.nodes iteration) (spec.gather_chunk (place_of env.entry) (chunk_at source.entry.typed.now.nodes chunk) (spec.gather_loop (place_of env.entry) (chunk_at source.entry.typed.now.nodes chunk) (iteration_at source.entry.typed.now.nodes iteration) (stmts_at source.entry.typed.now.nodes parts) out.old)))) }
+    ensures { OnOk result (out.new ≡ spec.gather_turns (place_of env.entry) (chunk_hidden (chunk_at source.entry.typed.now.nodes parts.chunk) (place_of env.entry)) false (iteration_at source.entry.typed.now.nodes parts.iteration) (stmts_at source.entry.typed.now.nodes parts.stmts) (spec.gather_course (place_of env.entry) (iteration_at source.entry.typed.now.nodes parts.iteration) (spec.gather_chunk (place_of env.entry) (chunk_at source.entry.typed.now.nodes parts.chunk) (spec.gather_loop (place_of env.entry) parts.site (chunk_at source.entry.typed.now.nodes parts.chunk) (iteration_at source.entry.typed.now.nodes parts.iteration) (stmts_at source.entry.typed.now.nodes parts.stmts) out.old)))) }
 {
-    parallel_loop(source, env, chunk, iteration, parts, out)?;
-    front(source, env, chunk, iteration, out)?;
+    parallel_loop(source, env, parts, out)?;
+    front(source, env, parts.chunk, parts.iteration, out)?;
     turns(
         source,
         env,
-        chunk_below(source, env, chunk),
+        chunk_below(source, env, parts.chunk),
         false,
-        iteration,
-        parts,
+        parts.iteration,
+        parts.stmts,
         out,
     )
 }
@@ -241,21 +260,20 @@ fn parallel_for(
 fn parallel_loop(
     source: Source<'_>,
     env: Environment<'_>,
-    chunk: u32,
-    iteration: u32,
-    parts: u32,
+    parts: Looped,
     out: &mut Gathered,
 ) -> Result<(), AllocError>
-    ensures { OnOk result (out.new ≡ spec.gather_loop (place_of env.entry) (chunk_at source.entry.typed.now.nodes chunk) (iteration_at source.entry.typed.now.nodes iteration) (stmts_at source.entry.typed.now.nodes parts) out.old) }
+    ensures { OnOk result (out.new ≡ spec.gather_loop (place_of env.entry) parts.site (chunk_at source.entry.typed.now.nodes parts.chunk) (iteration_at source.entry.typed.now.nodes parts.iteration) (stmts_at source.entry.typed.now.nodes parts.stmts) out.old) }
 {
     if !env.sites {
         return Ok(());
     }
-    let front = front_uses(source, env, chunk, iteration)?;
-    let threads = loop_uses(source, env, chunk, iteration, parts)?;
+    let front = front_uses(source, env, parts.chunk, parts.iteration)?;
+    let threads = loop_uses(source, env, parts)?;
     out.site(
         env,
         SiteEffects {
+            site: parts.site,
             block: false,
             front,
             threads,
@@ -269,19 +287,25 @@ fn parallel_loop(
 fn loop_uses(
     source: Source<'_>,
     env: Environment<'_>,
-    chunk: u32,
-    iteration: u32,
-    parts: u32,
+    parts: Looped,
 ) -> Result<Uses, AllocError>
-    ensures { IfOk result (λ uses. uses ≡ (spec.gather_turns (judging_of (place_of env.entry)) (record (judging_of (place_of env.entry)) { chunk_parameter = parameter_of (chunk_at source.entry.typed.now.nodes chunk) }) true (iteration_at source.entry.typed.now.nodes iteration) (stmts_at source.entry.typed.now.nodes parts) spec.nothing).uses) }
+    ensures { IfOk result (λ uses. uses ≡ (spec.gather_turns (judging_of (place_of env.entry)) (record (judging_of (place_of env.entry)) { chunk_parameter = parameter_of (chunk_at source.entry.typed.now.nodes parts.chunk) }) true (iteration_at source.entry.typed.now.nodes parts.iteration) (stmts_at source.entry.typed.now.nodes parts.stmts) spec.nothing).uses) }
 {
     let mut out = Gathered::new(source.alloc);
     let around = judging(env);
     let inside = Environment {
-        chunk_parameter: chunk_parameter(source, chunk),
+        chunk_parameter: chunk_parameter(source, parts.chunk),
         ..around
     };
-    turns(source, around, inside, true, iteration, parts, &mut out)?;
+    turns(
+        source,
+        around,
+        inside,
+        true,
+        parts.iteration,
+        parts.stmts,
+        &mut out,
+    )?;
     let Gathered { uses, .. } = out;
     Ok(uses)
 }
@@ -353,13 +377,14 @@ fn turn(
 fn parallel(
     source: Source<'_>,
     env: Environment<'_>,
+    site: u32,
     count: u32,
     parts: u32,
     out: &mut Gathered,
 ) -> Result<(), AllocError>
-    ensures { OnOk result (out.new ≡ spec.gather_arms (place_of env.entry) (arms_at source.entry.typed.now.nodes parts) (spec.gather_optional (place_of env.entry) (optional_at source.entry.typed.now.nodes count) (spec.gather_parallel (place_of env.entry) (optional_at source.entry.typed.now.nodes count) (arms_at source.entry.typed.now.nodes parts) out.old))) }
+    ensures { OnOk result (out.new ≡ spec.gather_arms (place_of env.entry) (arms_at source.entry.typed.now.nodes parts) (spec.gather_optional (place_of env.entry) (optional_at source.entry.typed.now.nodes count) (spec.gather_parallel (place_of env.entry) site (optional_at source.entry.typed.now.nodes count) (arms_at source.entry.typed.now.nodes parts) out.old))) }
 {
-    parallel_block(source, env, count, parts, out)?;
+    parallel_block(source, env, site, count, parts, out)?;
     optional(source, env, count, out)?;
     arms(source, env, parts, out)
 }
@@ -370,11 +395,12 @@ fn parallel(
 fn parallel_block(
     source: Source<'_>,
     env: Environment<'_>,
+    site: u32,
     count: u32,
     parts: u32,
     out: &mut Gathered,
 ) -> Result<(), AllocError>
-    ensures { OnOk result (out.new ≡ spec.gather_parallel (place_of env.entry) (optional_at source.entry.typed.now.nodes count) (arms_at source.entry.typed.now.nodes parts) out.old) }
+    ensures { OnOk result (out.new ≡ spec.gather_parallel (place_of env.entry) site (optional_at source.entry.typed.now.nodes count) (arms_at source.entry.typed.now.nodes parts) out.old) }
 {
     if !env.sites {
         return Ok(());
@@ -384,6 +410,7 @@ fn parallel_block(
     out.site(
         env,
         SiteEffects {
+            site,
             block: true,
             front,
             threads,

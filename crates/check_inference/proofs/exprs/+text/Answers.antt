@@ -15,4 +15,4 @@ pub reduction-returns-in-Some : goal.reduction-returns-in-Some
 reduction-returns-in-Some t c = subst
     (λ number. OnOk c.parallel.result (c.parallel.new.out ≡ reduced c.args.source.typed.now (place_of c.args.env) c.args.parts number c.args.out.now))
     (sym c.in-Some.is)
-    (c.parallel.ensures c.in-Some.field-0)
+    c.parallel.ensures

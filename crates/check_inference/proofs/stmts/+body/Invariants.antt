@@ -26,13 +26,13 @@ abbrev pub decreases-for_loop : goal.decreases-for_loop
 decreases-for_loop l = 8 * l.parts + 5
 
 abbrev pub decreases-parallel_for : goal.decreases-parallel_for
-decreases-parallel_for l = 8 * l.parts + 7
+decreases-parallel_for l = 8 * l.parts.stmts + 7
 
 abbrev pub decreases-parallel_loop : goal.decreases-parallel_loop
-decreases-parallel_loop l = 8 * l.parts + 6
+decreases-parallel_loop l = 8 * l.parts.stmts + 6
 
 abbrev pub decreases-loop_uses : goal.decreases-loop_uses
-decreases-loop_uses l = 8 * l.parts + 5
+decreases-loop_uses l = 8 * l.parts.stmts + 5
 
 abbrev pub decreases-turns : goal.decreases-turns
 decreases-turns l = 8 * l.parts + 4
