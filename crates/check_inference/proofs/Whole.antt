@@ -1,6 +1,7 @@
 -- The effects of a program are exactly those of its texts, from what is gathered of each body.
-use Rattle.std.proofs.Common.{◌≡◌, ℕ, zero, suc, nat_eq, List, [], ◌∷◌, ◌++◌, length, slice_get, Some, ◌⊎◌, inl, inr, Bool, true, false, ◌||◌, cond, refl, sym, subst, ap, arith, append_assoc, append-nil}
+use Rattle.std.proofs.Common.{◌≡◌, ℕ, zero, suc, nat_eq, List, [], ◌∷◌, ◌++◌, length, slice_get, Some, ◌⊎◌, inl, inr, Bool, true, false, ◌||◌, cond, refl, sym, subst, ap, arith, append_assoc, append-nil, Result, Ok, Err}
 use Rattle.std.proofs.lemmas.Bool.Decides.{nat_tests}
+use Rattle.std.specs.Prelude.{IfOk}
 use Rattle.typed_tree.specs.Syntax.{Decls, NoDecl, DeclareDefault, DeclareVariable, DeclareConstant, Mentions, Sub, Program}
 use Rattle.ada_meaning.specs.Meaning.{sub_at}
 use Rattle.check_effects.specs.Effects as law
@@ -254,3 +255,8 @@ module _ (program : Program) where
 
 pub effects_law : EffectsLaw
 effects_law program = are_effects program
+
+-- the effects that are found are those of the texts
+pub found_told : {E : Type 0} (program : Program) (r : Result Effects E) → IfOk r (λ effects. effects ≡ effects_of program) → IfOk r (λ effects. (effects ≡ effects_of program) × AreEffects program effects)
+found_told program (Ok effects) same = (same, subst (AreEffects program) (sym same) (effects_law program))
+found_told program (Err e) same = tt
