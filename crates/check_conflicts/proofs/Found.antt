@@ -33,12 +33,12 @@ includes_one Read = refl
 includes_one Write = refl
 includes_one Update = tt
 
-includes_write : (a : Access) → writes a ≡ true → Includes a true
+pub includes_write : (a : Access) → writes a ≡ true → Includes a true
 includes_write Read e = sym e
 includes_write Write e = refl
 includes_write Update e = tt
 
-is_write : (a : Access) (w : Bool) → w ≡ true → Includes a w → writes a ≡ true
+pub is_write : (a : Access) (w : Bool) → w ≡ true → Includes a w → writes a ≡ true
 is_write Read w e h = sym h ∙ e
 is_write Write w e h = refl
 is_write Update w e h = refl

@@ -5,3 +5,5 @@ pub mod Least
 pub mod Deciding
 pub mod Found
 pub mod Answered
+pub mod Granting
+pub mod Admitted

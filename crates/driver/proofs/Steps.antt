@@ -79,8 +79,8 @@ pub refuses_blocking : (t : Tokenized) (p : typed.Program) (fault : Blocked) (r 
 refuses_blocking t p (Call at callee) r told same = refuses (blocking t) p (blocking_call t at) r (at, callee, told.0, refl) same
 
 -- the refusals of threads that aren't apart
-pub refuses_touched : (t : Tokenized) (p : typed.Program) (at object : ℕ) (r : Refusal) → conflict.Answers p (Err (fault.GlobalTouched at object)) → r ≡ refusal_of (global_touched t at) → IsRefusal (separating t) p r
+pub refuses_touched : (t : Tokenized) (p : typed.Program) (at object : ℕ) (r : Refusal) → conflict.Refuses p (fault.GlobalTouched at object) → r ≡ refusal_of (global_touched t at) → IsRefusal (separating t) p r
 refuses_touched t p at object r told same = refuses (separating t) p (global_touched t at) r (inl (told.0, (at, object, told.1, refl))) same
 
-pub refuses_clash : (t : Tokenized) (p : typed.Program) (at other : ℕ) (r : Refusal) → conflict.Answers p (Err (fault.Clash at other)) → r ≡ refusal_of (clash t at other) → IsRefusal (separating t) p r
+pub refuses_clash : (t : Tokenized) (p : typed.Program) (at other : ℕ) (r : Refusal) → conflict.Refuses p (fault.Clash at other) → r ≡ refusal_of (clash t at other) → IsRefusal (separating t) p r
 refuses_clash t p at other r told same = refuses (separating t) p (clash t at other) r (inr (told.0, (at, other, told.1, refl))) same

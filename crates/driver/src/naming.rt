@@ -83,7 +83,7 @@ pub fn separated(alloc: Global, tokens: &Tokens, typed: &Typed) -> Result<(), Re
         Err(_) => return Err(Refusal::OutOfMemory),
     };
     match accept(typed, &effects, alloc) {
-        Ok(()) => Ok(()),
+        Ok(_) => Ok(()),
         Err(ConflictFault::GlobalTouched { at, .. }) => {
             Err(refused(tokens, Note::GlobalTouched, at))
         }

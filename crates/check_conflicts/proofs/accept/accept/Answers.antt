@@ -1,8 +1,10 @@
 use Rattle.std.proofs.Common.{refl}
 use Rattle.typed_tree.specs.Programs.{program}
-use Rattle.check_conflicts.proofs.Answered.{answered}
-use Rattle.check_conflicts.proofs.Found.{found_law}
+use Rattle.check_conflicts.proofs.Admitted.{admitted, refused}
 use Rattle.check_conflicts.proofs.accept.accept.Goals as goal
 
-pub returns : goal.returns
-returns c = answered found_law (program c.args.typed.now) c.args.effects.now c.args.typed.now.strict c.judge.result refl c.judge.ensures
+pub returns-in-Err : goal.returns-in-Err
+returns-in-Err c = λ known formed. refused (program c.args.typed.now) c.args.effects.now c.args.typed.now.strict refl known formed c.in-Err.fault c.in-Err.ensures
+
+pub returns-in-Ok-grants_of : goal.returns-in-Ok-grants_of
+returns-in-Ok-grants_of c = λ known formed. admitted (program c.args.typed.now) c.args.effects.now c.args.typed.now.strict refl known formed c.in-Ok-grants_of.grants c.in-Ok.ensures c.in-Ok-grants_of.ensures
