@@ -2,3 +2,4 @@ pub mod Answering
 pub mod Causes
 pub mod Counts
 pub mod Prefixes
+pub mod Variables

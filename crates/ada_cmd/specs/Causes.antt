@@ -1,7 +1,7 @@
 -- Why each status comes, and what comes where something is due.
 use Rattle.std.specs.Prelude.{◌≡◌, ◌⊎◌, ◌++◌, ⊤, ℕ, List, Some, None, Bool, true}
 use Rattle.ada_base.specs.declared.reason.Reason.{Reason}
-use Rattle.ada_meaning.specs.Law.{Ending, Ended, Raised, TurnsSpent, ReadFault, WriteFault, IsPermitted, IsPrefix, Outcome}
+use Rattle.ada_meaning.specs.Law.{Ending, Ended, Raised, TurnsSpent, ReadFault, WriteFault, IsPermitted, IsPrefix, Outcome, outcome_of}
 use Rattle.ada_meaning.specs.Programs.{input_of, sequential}
 use Rattle.ada_meaning.specs.Sequential.{IsCalm}
 use Rattle.ada_port.specs.Ports.{Texts, Rose, bytes_of, fetched}
@@ -11,6 +11,7 @@ use Rattle.command_words.specs.Words.{Asked, asked}
 use Rattle.command_words.specs.declared.request.Mode.TheVariants as mode
 use Rattle.ada_cmd.specs.Answer.{Answers, Devices, Outside, IsFetched, Untouched, setting_of}
 use Rattle.run_reports.specs.Says.{number_of}
+use Rattle.run_reports.specs.Vars.{vars_lines}
 use Rattle.run_reports.specs.declared.status.Status.{Status}
 use Rattle.run_reports.specs.declared.status.Status.TheVariants as status
 
@@ -69,6 +70,32 @@ abbrev pub PutsPrefix : Type 0 → Type 0 → Asked → Compiled → Devices →
 PutsPrefix InTells OutTells q c before now =
     InTells → OutTells → IsCalm (sequential c.program q.settings.turns (input_of (bytes_of before.input)))
     → (part : List ℕ) × (bytes_of now.out ≡ bytes_of before.out ++ part) × IsPrefix part (sequential c.program q.settings.turns (input_of (bytes_of before.input))).output
+
+-- what the sequential run under the limit that is asked for comes to on these bytes of input
+abbrev pub sequential_of : Asked → Compiled → List ℕ → Outcome
+sequential_of q c input = outcome_of c.program input (sequential c.program q.settings.turns (input_of input))
+
+-- what a run puts out that ends normally, and then the lines of its variables
+abbrev pub with_vars : Compiled → Outcome → List ℕ
+with_vars c o = o.output ++ vars_lines c.finals o.finals
+
+-- On some input, which is what the input tells where it tells, a permitted run ended normally. Where out tells, that run's
+-- output was put out, and then the lines of its variables. Where the sequential run on that input is calm, it is that run.
+pub record PutsVars (InTells OutTells : Type 0) (q : Asked) (c : Compiled) (before now : Devices) : Type 0 where
+  pub on : List ℕ
+  pub told : InTells → on ≡ bytes_of before.input
+  pub outcome : Outcome
+  pub early : Bool
+  pub permitted : IsPermitted c.program (setting_of q.settings) on early outcome
+  pub ended : outcome.ending ≡ Ended
+  pub written : OutTells → bytes_of now.out ≡ bytes_of before.out ++ with_vars c outcome
+  pub calm : IsCalm (sequential c.program q.settings.turns (input_of on)) → outcome ≡ sequential_of q c on
+
+-- The same as a prefix of that run's output where the lines of variables follow it.
+abbrev pub PutsVarsPrefix : Type 0 → Type 0 → Asked → Compiled → Devices → Devices → Type 0
+PutsVarsPrefix InTells OutTells q c before now =
+    InTells → OutTells → IsCalm (sequential c.program q.settings.turns (input_of (bytes_of before.input)))
+    → (part : List ℕ) × (bytes_of now.out ≡ bytes_of before.out ++ part) × IsPrefix part (with_vars c (sequential_of q c (bytes_of before.input)))
 
 -- Nothing is asked of the input and nothing put to out, since the shelf or err failed or memory ran out.
 pub data Fails (number : ℕ) (before now : Outside) : Type 0 where

@@ -1,6 +1,6 @@
 //! The top call.
 
-ghost use Rattle.std.specs.Prelude.{◌≡◌, ◌⊎◌, ◌<◌, ℕ, List, Some, None, false, map, string_bytes};
+ghost use Rattle.std.specs.Prelude.{◌≡◌, ◌⊎◌, ◌<◌, ℕ, List, Some, None, false, true, map, string_bytes};
 ghost use Rattle.ada_base.specs.declared.reason.Reason.{Reason};
 ghost use Rattle.ada_meaning.specs.Law.{Ended, IsRaceFree, Raised, ReadFault, TurnsSpent};
 ghost use Rattle.ada_port.specs.Ports.{IsTold, Rose, fetched};
@@ -12,7 +12,7 @@ ghost use Rattle.command_words.specs.Words.{Asked, asked};
 ghost use Rattle.command_words.specs.declared.request.Mode.TheVariants as modes;
 ghost use Rattle.ada_cmd.specs.Answer.{Answers, Closes, RunsUnit, Untouched, devices, outside};
 ghost use Rattle.run_reports.specs.Says.{Says, SaysOrLacks};
-ghost use Rattle.ada_cmd.specs.Causes.{Answered, HasCheck, HasEnding, IsNotAccepted, Meets, OutFails, PutsPrefix};
+ghost use Rattle.ada_cmd.specs.Causes.{Answered, HasCheck, HasEnding, IsNotAccepted, Meets, OutFails, PutsPrefix, PutsVars, PutsVarsPrefix};
 ghost use Rattle.run_reports.specs.Lines.{accepted_line, ended, usage_line};
 ghost use Rattle.run_reports.specs.declared.status.Status.TheVariants as statuses;
 
@@ -73,9 +73,10 @@ fn answer_words<
 /// The words are `MODE FILE [--workers N] [--chunks PLAN] [--turns K] [--vars]`, where MODE is `check` or `run`. The text is
 /// fetched, compiled and run. There is an input on which the manual permits, under the plan, a run that ends so, with these
 /// final variables: the one that the input tells, where it tells, of which what that run didn't take is left. Where out tells,
-/// the bytes written are that run's. Where no device failed and the sequential run on that input is calm, it is that run; and
-/// where a fault or want of memory stopped the run, its output is a prefix of that run's. A line to err says why the status
-/// isn't 0. Once a device has failed it is not asked again. So far nothing is asked of the runtime and the pulse.
+/// the bytes written are that run's, and where `--vars` stands there and the run ended normally, a line for each final
+/// variable behind them. Where no device failed and the sequential run on that input is calm, it is that run; and where a
+/// fault or want of memory stopped the run, its output is a prefix of that run's. A line to err says why the status isn't 0.
+/// Once a device has failed it is not asked again. So far nothing is asked of the runtime and the pulse.
 pub fn run_words<
     R: Threads + Sync,
     F: Shelf,
@@ -111,6 +112,14 @@ pub fn run_words<
     // calm sequential run's output is put out.
     ensures prefix { (q : Asked) (told : List ℕ) (c : Compiled) → asked (map string_bytes words.now) ≡ Some q → q.mode ≡ modes.Run → q.vars ≡ false → (F.state shelf.old).told q.file ≡ Some told → IsAccepted (fetched told) c →
         PutsPrefix ((s : I) → IsTold (I.state s)) ((s : O) → IsTold (O.state s)) q c
+        (devices (I.state input) (O.state out) (E.state err.old)) (devices (I.state result.input) (O.state result.out) (E.state err.new)) }
+    // Where variables are asked for and the status is 0, out has a permitted run's output and then the lines of its final
+    // variables; and whatever the status, a prefix of a calm sequential run's output and its lines of variables is put out.
+    ensures vars { (q : Asked) (told : List ℕ) (c : Compiled) → asked (map string_bytes words.now) ≡ Some q → q.mode ≡ modes.Run → q.vars ≡ true → (F.state shelf.old).told q.file ≡ Some told → IsAccepted (fetched told) c → result.status ≡ 0 →
+        PutsVars ((s : I) → IsTold (I.state s)) ((s : O) → IsTold (O.state s)) q c
+        (devices (I.state input) (O.state out) (E.state err.old)) (devices (I.state result.input) (O.state result.out) (E.state err.new)) }
+    ensures vars_prefix { (q : Asked) (told : List ℕ) (c : Compiled) → asked (map string_bytes words.now) ≡ Some q → q.mode ≡ modes.Run → q.vars ≡ true → (F.state shelf.old).told q.file ≡ Some told → IsAccepted (fetched told) c →
+        PutsVarsPrefix ((s : I) → IsTold (I.state s)) ((s : O) → IsTold (O.state s)) q c
         (devices (I.state input) (O.state out) (E.state err.old)) (devices (I.state result.input) (O.state result.out) (E.state err.new)) }
     ensures checks { (q : Asked) (told : List ℕ) (c : Compiled) → asked (map string_bytes words.now) ≡ Some q → q.mode ≡ modes.Check → (F.state shelf.old).told q.file ≡ Some told → IsAccepted (fetched told) c →
         Meets (λ given. (I.state result.input ≡ I.state input) × Closes accepted_line given (O.state out) (O.state result.out) (E.state err.old) (E.state err.new)) result.status

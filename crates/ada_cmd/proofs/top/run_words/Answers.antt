@@ -1,10 +1,11 @@
-use Rattle.std.proofs.Common.{ap, ◌∙◌}
+use Rattle.std.proofs.Common.{ap, sym, ◌∙◌}
 use Rattle.driver.proofs.RaceFree.{accepted_race_free}
 use Rattle.run_reports.specs.Says.{number_of}
 use Rattle.run_reports.specs.declared.status.Status.TheVariants as status
 use Rattle.ada_cmd.proofs.Causes as causes
 use Rattle.ada_cmd.proofs.Counts as counts
 use Rattle.ada_cmd.proofs.Prefixes as prefixes
+use Rattle.ada_cmd.proofs.Variables as variables
 use Rattle.ada_cmd.proofs.top.run_words.Goals as goal
 
 pub returns-clause-race_free : goal.returns-clause-race_free
@@ -15,6 +16,12 @@ returns-clause-runs g c = rw c.number.ensures (causes.runs _ _ _ _ c.answer_word
 
 pub returns-clause-prefix : goal.returns-clause-prefix
 returns-clause-prefix g c = λ q told compiled asks mode none has accepted. prefixes.meets_puts q compiled _ _ _ none (causes.runs _ _ _ _ c.answer_words-status.ensures q told compiled asks mode has accepted)
+
+pub returns-clause-vars : goal.returns-clause-vars
+returns-clause-vars g c = λ q told compiled asks mode vars has accepted zero. variables.meets_vars q compiled _ _ _ vars (sym c.number.ensures ∙ zero) (causes.runs _ _ _ _ c.answer_words-status.ensures q told compiled asks mode has accepted)
+
+pub returns-clause-vars_prefix : goal.returns-clause-vars_prefix
+returns-clause-vars_prefix g c = λ q told compiled asks mode vars has accepted. variables.meets_prefix q compiled _ _ _ vars (causes.runs _ _ _ _ c.answer_words-status.ensures q told compiled asks mode has accepted)
 
 pub returns-clause-checks : goal.returns-clause-checks
 returns-clause-checks g c = rw c.number.ensures (causes.checks _ _ _ _ c.answer_words-status.ensures)
