@@ -66,7 +66,7 @@ fn fewest(value: i64) -> u32
     requires { pos 0 <ℤ value }
     ensures { result ≡ min (to_nat value) most_threads }
 {
-    if value < 4096 {
+    if value < i64::from(MOST_THREADS) {
         value as u32
     } else {
         MOST_THREADS
@@ -108,12 +108,12 @@ fn ordered(range: Range) -> bool
 
 // how many numbers a range has, where those are few enough
 fn few(range: Range) -> Option<u32>
-    ensures { MatchOption result (nat_le (count range.low range.high) 4096 ≡ false) (λ n. (nat_le (count range.low range.high) 4096 ≡ true) × (n ≡ count range.low range.high)) }
+    ensures { MatchOption result (nat_le (count range.low range.high) most_threads ≡ false) (λ n. (nat_le (count range.low range.high) most_threads ≡ true) × (n ≡ count range.low range.high)) }
 {
     match last_of(range) {
         None => Some(0),
         Some(last) => {
-            if last < 4096 {
+            if last < u64::from(MOST_THREADS) {
                 Some(last as u32 + 1)
             } else {
                 None

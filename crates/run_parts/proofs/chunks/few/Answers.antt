@@ -6,8 +6,8 @@ use Rattle.run_parts.proofs.chunks.few.Goals as goal
 pub returns-in-None : goal.returns-in-None
 returns-in-None c = few_none (count c.args.range.low c.args.range.high) c.in-None.ensures
 
-pub returns-then-last-lt4096 : goal.returns-then-last-lt4096
-returns-then-last-lt4096 c = few_some (count c.args.range.low c.args.range.high) c.in-Some.last c.in-Some.ensures (omega arith)
+pub returns-then-last-from : goal.returns-then-last-from
+returns-then-last-from c = few_some (count c.args.range.low c.args.range.high) c.in-Some.last c.in-Some.ensures (omega arith)
 
-pub returns-else-last-lt4096 : goal.returns-else-last-lt4096
-returns-else-last-lt4096 c = few_many (count c.args.range.low c.args.range.high) c.in-Some.last c.in-Some.ensures (omega arith)
+pub returns-else-last-from : goal.returns-else-last-from
+returns-else-last-from c = few_many (count c.args.range.low c.args.range.high) c.in-Some.last c.in-Some.ensures (omega arith)
