@@ -144,6 +144,12 @@ bound-found names n here want e log f g =
     let v = simple_value (around names here log) e in
     subst (Finding v) g ((t-simple log.shapes names (primaries.inside names n) here want e (inside-tells log.shapes names n)).at log (same_self log.shapes)).1
 
+left-bound : (names : Names) (n : ℕ) (here : Context) (want : Wanted) (e : Simple) (log mid : Log) (f : Found) (k : Kind) (x : TypedPart) → (simple (primaries.inside names n) here want e log).0 ≡ Some f → (asked k f mid).0 ≡ Some x
+    → static_in (as_expr x) ≡ simple_value (around names here log) e
+left-bound names n here want e log mid f k x g h =
+    let v = simple_value (around names here log) e in
+    subst (Maybe (Leaves v)) h ((f-asked k f v (bound-found names n here want e log f g)).at mid)
+
 -- ---- declarations
 
 -- what takes a type is a scalar
@@ -244,6 +250,7 @@ static_values_law = record {
   found = λ names n here want e log f g s. (found names n here want e log f g).value s;
   bounds = λ names n here want e log f g s. (bound-found names n here want e log f g).value s;
   left = left;
+  left_bounds = left-bound;
   constants = constant-declared;
   numbers = number-declared;
 }

@@ -1,5 +1,5 @@
 -- The value of a static expression (4.9), by recursion on its text: the exact one over all integers. None where the
--- expression isn't static or has no value. Boolean expressions other than True, False and constants aren't static here.
+-- expression isn't static or has no value. Of Boolean expressions True, False and the bounds of a subtype alone are static here.
 use Rattle.ada_base.specs.Operation.{unbounded}
 use Rattle.ada_base.specs.declared.operation.Op.TheVariants as op
 use Rattle.ada_base.specs.declared.operation.Op.{Op}

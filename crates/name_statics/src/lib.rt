@@ -6,8 +6,8 @@ ghost use Rattle.name_statics.specs.Law.{StaticValuesLaw};
 
 /// The static value of an expression or a bound is the exact one of its whole text, by recursion on that, with the values
 /// of the constants and the bounds that are declared around it (4.9). What stands in its place in the typed program is
-/// that value, and is no value where the expression isn't static. The value that a constant or a named number is declared
-/// with is that of its expression (3.3.1, 3.3.2).
+/// that value, and is no value where the expression isn't static. The static value of a constant's initial value and of a
+/// named number is that of its expression (3.3.1, 3.3.2).
 pub fn laws()
     ensures statics { StaticValuesLaw }
 {}
