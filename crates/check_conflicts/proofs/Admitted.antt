@@ -12,7 +12,7 @@ use Rattle.check_clashes.specs.declared.granted.Grants.{Grants}
 use Rattle.check_clashes.specs.Granted.{grants_of}
 use Rattle.check_inference.specs.Exact.{AreEffects}
 use Rattle.check_conflicts.specs.declared.faults.ConflictFault.{ConflictFault}
-use Rattle.check_conflicts.specs.Answer.{AreGrants, IsAdmitted, IsUnblocked, Judged, Refuses}
+use Rattle.check_conflicts.specs.Answer.{AreGrants, IsAdmitted, IsUnblocked, Refuses, Verdict}
 use Rattle.check_conflicts.specs.Judged.{Judges}
 use Rattle.check_conflicts.proofs.Answered.{answered}
 use Rattle.check_conflicts.proofs.Found.{found_law}
@@ -22,10 +22,10 @@ module _ (program : Program) (effects : Effects) (strict : Bool) (same : program
   back : CallsBackwards program
   back = (formed_law program formed).1
 
-  accepted : Judged program (Ok tt) → IsUnblocked program → IsAccepted program
+  accepted : Verdict program (Ok tt) → IsUnblocked program → IsAccepted program
   accepted keeps unblocked = record { formed = formed; unblocked = unblocked; apart = keeps.1; strict = keeps.0 }
 
-  admits : (grants : Grants) → Judged program (Ok tt) → grants ≡ grants_of effects → IsAdmitted program grants
+  admits : (grants : Grants) → Verdict program (Ok tt) → grants ≡ grants_of effects → IsAdmitted program grants
   admits grants keeps are = record {
     strict = keeps.0;
     apart = keeps.1;

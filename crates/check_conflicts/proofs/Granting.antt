@@ -106,9 +106,14 @@ module _ (program : Program) (effects : Effects) (back : CallsBackwards program)
   written_by site t i j w = go (known.sites site i)
     where
       go : (k : Construct) × InProgram program (Holds k) × TellsSite program k site → Written (grant_of site.site t)
-      go (k, held, tells) = (k, held, sym tells.number, λ n of.
-          let x = (threads_told program effects back known k site tells).sound t j n (subst (λ (b : Bool). OfThread b n t.arm) (sym tells.block) of) true (includes_write t.access w) in
-          (x.0, (t.at, x.1, x.2), x.3))
+      go (k, held, tells) = (
+        k,
+        held,
+        sym tells.number,
+        λ n of.
+            let x = (threads_told program effects back known k site tells).sound t j n (subst (λ (b : Bool). OfThread b n t.arm) (sym tells.block) of) true (includes_write t.access w) in
+            (x.0, (t.at, x.1, x.2), x.3),
+      )
 
   grants_written : (g : Grant) → IsIn g (grants_of effects).owned → Written g
   grants_written g i = go (granted_told effects.subs effects.sites [] g i)

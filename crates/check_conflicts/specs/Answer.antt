@@ -75,9 +75,9 @@ module _ (program : Program) where
   Answers (Err f) = Refuses f
 
   -- the same of the two rules alone
-  abbrev pub Judged : Result (Unit {0}) ConflictFault → Type 0
-  Judged (Ok u) = (program.strict ≡ true → IsStrict program) × HasNoClash
-  Judged (Err f) = Refuses f
+  abbrev pub Verdict : Result (Unit {0}) ConflictFault → Type 0
+  Verdict (Ok u) = (program.strict ≡ true → IsStrict program) × HasNoClash
+  Verdict (Err f) = Refuses f
 
   abbrev pub TouchedFound : Option Pair → Type 0
   TouchedFound None = IsStrict program

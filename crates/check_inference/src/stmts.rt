@@ -284,11 +284,7 @@ fn parallel_loop(
 /// What the threads of a parallel loop use that is judged.
 #[cycle(body)]
 #[inline(never)]
-fn loop_uses(
-    source: Source<'_>,
-    env: Environment<'_>,
-    parts: Looped,
-) -> Result<Uses, AllocError>
+fn loop_uses(source: Source<'_>, env: Environment<'_>, parts: Looped) -> Result<Uses, AllocError>
     ensures { IfOk result (λ uses. uses ≡ (spec.gather_turns (judging_of (place_of env.entry)) (record (judging_of (place_of env.entry)) { chunk_parameter = parameter_of (chunk_at source.entry.typed.now.nodes parts.chunk) }) true (iteration_at source.entry.typed.now.nodes parts.iteration) (stmts_at source.entry.typed.now.nodes parts.stmts) spec.nothing).uses) }
 {
     let mut out = Gathered::new(source.alloc);

@@ -37,7 +37,10 @@ fn assignment(parts: &mut Parts, at: u32, index: Option<i64>) -> Result<(), Allo
     parts.index(0, 1, 3, 1)?;
     alone(parts)?;
     number(parts, 1)?;
-    parts.number(Check { at: 0, scalar: RANGE })?;
+    parts.number(Check {
+        at: 0,
+        scalar: RANGE,
+    })?;
     parts.assign(at, Root::Object(0))?;
     alone(parts)
 }
@@ -148,7 +151,11 @@ fn grants_or_the_least_breach_are_told(rt: HostRuntime) -> Result<(), Fail> {
         (Construct::Loop(7, None), true, "7.0: 0 loop 0; "),
         (Construct::Loop(7, Some(1)), false, "9 beside 9"),
         (Construct::Loop(7, Some(1)), true, "9 touches 0"),
-        (Construct::Block(3, 1, 2), false, "3.0: 0 index 1; 3.1: 0 index 2; "),
+        (
+            Construct::Block(3, 1, 2),
+            false,
+            "3.0: 0 index 1; 3.1: 0 index 2; ",
+        ),
         (Construct::Block(3, 1, 2), true, "5 touches 0"),
         (Construct::Block(3, 2, 2), false, "5 beside 13"),
     ] {
