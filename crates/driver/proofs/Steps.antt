@@ -1,6 +1,7 @@
 -- What a phase answers is what all phases answer.
 use Rattle.std.proofs.Common.{◌≡◌, inl, inr, ℕ, List, Option, Bool, true, false, Some, None, refl, subst, sym, ◌∙◌, ap, Result, Ok, Err}
 use Rattle.ada_base.specs.Tokens.{Tokenized, kind_at, place_of_token}
+use Rattle.check_clashes.specs.declared.granted.Grants.{Grants}
 use Rattle.check_conflicts.specs.Answer as conflict
 use Rattle.check_conflicts.specs.declared.faults.ConflictFault.TheVariants as fault
 use Rattle.check_blocking.specs.Answer.{Answers}
@@ -14,7 +15,7 @@ use Rattle.name_programs.specs.declared.resolving.NameFault.{NameFault}
 use Rattle.name_rules.specs.declared.log.Fault as names
 use Rattle.name_symbols.specs.Naming.{names_of}
 use Rattle.driver.specs.Built.{misnamed}
-use Rattle.driver.specs.Compile.{compiling, parsing, naming, blocking, separating, IsRefusal, Decides, named_refusal, refusal_of, GivesUnit, GivesRefusal}
+use Rattle.driver.specs.Compile.{compiling, parsing, naming, blocking, separating, IsRefusal, Decides, named_refusal, refusal_of, GivesUnit, GivesRefusal, AreApart}
 use Rattle.driver.specs.Complaints.{Complaint, complaint, left_out, unexpected, unexpected_kind, too_deep, blocking_call, global_touched, clash}
 use Rattle.driver.specs.declared.note.Note.TheVariants as note
 use Rattle.driver.specs.Phases.{Phase, followed}
@@ -79,6 +80,9 @@ pub refuses_blocking : (t : Tokenized) (p : typed.Program) (fault : Blocked) (r 
 refuses_blocking t p (Call at callee) r told same = refuses (blocking t) p (blocking_call t at) r (at, callee, told.0, refl) same
 
 -- the refusals of threads that aren't apart
+pub keeps_apart : (p : typed.Program) (grants : Grants) → conflict.IsAdmitted p grants → AreApart p
+keeps_apart p grants admitted = (admitted.strict, admitted.apart)
+
 pub refuses_touched : (t : Tokenized) (p : typed.Program) (at object : ℕ) (r : Refusal) → conflict.Refuses p (fault.GlobalTouched at object) → r ≡ refusal_of (global_touched t at) → IsRefusal (separating t) p r
 refuses_touched t p at object r told same = refuses (separating t) p (global_touched t at) r (inl (told.0, (at, object, told.1, refl))) same
 

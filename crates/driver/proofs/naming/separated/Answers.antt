@@ -1,10 +1,10 @@
 use Rattle.std.proofs.Common.{refl}
 use Rattle.typed_tree.specs.Programs.{program}
-use Rattle.driver.proofs.Steps.{refuses_touched, refuses_clash}
+use Rattle.driver.proofs.Steps.{keeps_apart, refuses_touched, refuses_clash}
 use Rattle.driver.proofs.naming.separated.Goals as goal
 
 pub returns-in-Ok-accept : goal.returns-in-Ok-accept
-returns-in-Ok-accept c = let admitted = c.in-Ok-accept.ensures c.in-Ok.ensures.1 c.requires in ((admitted.strict, admitted.apart), refl)
+returns-in-Ok-accept c = (keeps_apart (program c.args.typed.now) _ (c.in-Ok-accept.ensures c.in-Ok.ensures.1 c.requires), refl)
 
 pub returns-in-Err-GlobalTouched : goal.returns-in-Err-GlobalTouched
 returns-in-Err-GlobalTouched c =
