@@ -79,10 +79,11 @@ token_of (Call at callee) = at
 pub refuses_blocking : (t : Tokenized) (p : typed.Program) (fault : Blocked) (r : Refusal) → Answers p (Err fault) → r ≡ refusal_of (blocking_call t (token_of fault)) → IsRefusal (blocking t) p r
 refuses_blocking t p (Call at callee) r told same = refuses (blocking t) p (blocking_call t at) r (at, callee, told.0, refl) same
 
--- the refusals of threads that aren't apart
+-- threads that are given grants are apart
 pub keeps_apart : (p : typed.Program) (grants : Grants) → conflict.IsAdmitted p grants → AreApart p
 keeps_apart p grants admitted = (admitted.strict, admitted.apart)
 
+-- the refusals of threads that aren't apart
 pub refuses_touched : (t : Tokenized) (p : typed.Program) (at object : ℕ) (r : Refusal) → conflict.Refuses p (fault.GlobalTouched at object) → r ≡ refusal_of (global_touched t at) → IsRefusal (separating t) p r
 refuses_touched t p at object r told same = refuses (separating t) p (global_touched t at) r (inl (told.0, (at, object, told.1, refl))) same
 
