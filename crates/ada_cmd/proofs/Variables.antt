@@ -1,5 +1,5 @@
 -- What is put out where the values of variables are asked for.
-use Rattle.std.proofs.Common.{◌≡◌, ℕ, List, [], ◌++◌, Option, Some, None, true, inl, inr, refl, sym, ap, subst, ◌∙◌, append_assoc, arith}
+use Rattle.std.proofs.Common.{◌≡◌, ℕ, List, [], ◌++◌, Option, Some, None, true, inl, inr, refl, sym, ap, subst, ◌∙◌, append_assoc, arith, true≢false}
 use Rattle.std.proofs.lemmas.List.{append-nil}
 use Rattle.std.specs.Io.KnownBytes.{Appends}
 use Rattle.std.specs.Prelude.{IsSome}
@@ -10,8 +10,9 @@ use Rattle.ada_port.specs.Ports.{AppendsPrefix, IsTold, Stream, bytes_of, bytes_
 use Rattle.driver.specs.Compiled.{Compiled}
 use Rattle.driver.specs.Running as running
 use Rattle.run_reports.specs.Ends.{values_of}
-use Rattle.run_reports.specs.Says.{Says, SaysNoMemory, SaysOrLacks, number_of}
+use Rattle.run_reports.specs.Says.{Says, SaysNoMemory, SaysOrLacks}
 use Rattle.run_reports.specs.Vars.{vars_lines}
+use Rattle.run_reports.specs.declared.ends.Finals.{Finals}
 use Rattle.run_reports.specs.declared.ends.RunEnd.{RunEnd}
 use Rattle.run_reports.specs.declared.ends.RunEnd.TheVariants as run_end
 use Rattle.run_reports.specs.declared.status.Status.{Status}
@@ -24,7 +25,7 @@ use Rattle.ada_cmd.proofs.Causes.{same_status}
 -- ---- bytes of what tells
 
 appended : (old new : Option (List ℕ)) (bytes : List ℕ) → IsSome old → Appends old new bytes → bytes_told new ≡ bytes_told old ++ bytes
-appended None new bytes h g = absurd h
+appended None new bytes h g = absurd (true≢false (sym h))
 appended (Some xs) None bytes h g = absurd g
 appended (Some xs) (Some ys) bytes h g = g
 
@@ -53,7 +54,7 @@ never_either : (due given : Status) (line : List ℕ) (old new : Stream) → (du
 never_either due given line old new other done (inl says) = never due given line old new other done says
 never_either due given line old new other done (inr lacks) = lacks_done given old new done lacks
 
-module _ {InTells OutTells : Type 0} (q : Asked) (c : Compiled) (given : Status) (before now : Devices) (left : Stream) (tells : OutTells → IsTold left) where
+module _ (InTells OutTells : Type 0) (q : Asked) (c : Compiled) (given : Status) (before now : Devices) (left : Stream) (tells : OutTells → IsTold left) where
   abbrev Ran : RunEnd → Type 0
   Ran end = running.Runs InTells OutTells c.program (setting_of q.settings) end before.input now.input before.out left
 
@@ -109,7 +110,7 @@ module _ {InTells OutTells : Type 0} (q : Asked) (c : Compiled) (given : Status)
       prefix_longer run.outcome.output due.output (vars_lines c.finals due.finals) (run.prefix calm),
     )
 
-    lines_behind : (finals : _) → Told (run_end.Ended finals) → AppendsPrefix left.told now.out.told (vars_lines c.finals (values_of c.program finals)) → Put
+    lines_behind : (finals : Finals) → Told (run_end.Ended finals) → AppendsPrefix left.told now.out.told (vars_lines c.finals (values_of c.program finals)) → Put
     lines_behind finals run (front, back, parts, grown) =
         let output = run.outcome.output in
         let same : run.outcome ≡ due = run.calm calm (subst EndsItself (sym run.ends.0) tt) in
@@ -129,7 +130,7 @@ module _ {InTells OutTells : Type 0} (q : Asked) (c : Compiled) (given : Status)
 
 -- ---- of a call
 
-module _ {InTells OutTells : Type 0} (q : Asked) (c : Compiled) (number : ℕ) (before now : Outside) (asked_for : q.vars ≡ true) where
+module _ (InTells OutTells : Type 0) (q : Asked) (c : Compiled) (number : ℕ) (before now : Outside) (asked_for : q.vars ≡ true) where
   abbrev IsRun : Status → Type 0
   IsRun given = RunsUnit InTells OutTells c q.settings q.vars given before.devices now.devices
 
@@ -137,7 +138,7 @@ module _ {InTells OutTells : Type 0} (q : Asked) (c : Compiled) (number : ℕ) (
   ends_of given unit = subst (λ vars. EndsBy c vars unit.end given unit.left now.devices.out before.devices.err now.devices.err) asked_for unit.ends
 
   pub meets_vars : number ≡ 0 → Meets IsRun number before now → PutsVars InTells OutTells q c before.devices now.devices
-  meets_vars zero (inl (given, is, unit)) = ended q c given before.devices now.devices unit.left unit.tells unit.end (same_status given status.Done (sym is ∙ zero)) unit.runs (ends_of given unit)
+  meets_vars zero (inl (given, is, unit)) = ended InTells OutTells q c given before.devices now.devices unit.left unit.tells unit.end (same_status given status.Done (sym is ∙ zero)) unit.runs (ends_of given unit)
   meets_vars zero (inr (ShelfFails is rose same)) = absurd (omega (arith, is, zero))
   meets_vars zero (inr (ErrFails is rose same)) = absurd (omega (arith, is, zero))
   meets_vars zero (inr (MemoryFails is same)) = absurd (omega (arith, is, zero))
@@ -146,7 +147,7 @@ module _ {InTells OutTells : Type 0} (q : Asked) (c : Compiled) (number : ℕ) (
   nothing_puts same input out calm = ([], ap bytes_of same.out ∙ sym (append-nil (bytes_of before.devices.out)), (with_vars c (sequential_of q c (bytes_of before.devices.input)), refl))
 
   pub meets_prefix : Meets IsRun number before now → PutsVarsPrefix InTells OutTells q c before.devices now.devices
-  meets_prefix (inl (given, is, unit)) input out calm = puts_front q c given before.devices now.devices unit.left unit.tells input out calm unit.end unit.runs (ends_of given unit)
+  meets_prefix (inl (given, is, unit)) = λ input out calm. puts_front InTells OutTells q c given before.devices now.devices unit.left unit.tells input out calm unit.end unit.runs (ends_of given unit)
   meets_prefix (inr (ShelfFails is rose same)) = nothing_puts same
   meets_prefix (inr (ErrFails is rose same)) = nothing_puts same
   meets_prefix (inr (MemoryFails is same)) = nothing_puts same

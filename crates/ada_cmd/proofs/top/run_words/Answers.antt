@@ -18,10 +18,10 @@ pub returns-clause-prefix : goal.returns-clause-prefix
 returns-clause-prefix g c = λ q told compiled asks mode none has accepted. prefixes.meets_puts q compiled _ _ _ none (causes.runs _ _ _ _ c.answer_words-status.ensures q told compiled asks mode has accepted)
 
 pub returns-clause-vars : goal.returns-clause-vars
-returns-clause-vars g c = λ q told compiled asks mode vars has accepted zero. variables.meets_vars q compiled _ _ _ vars (sym c.number.ensures ∙ zero) (causes.runs _ _ _ _ c.answer_words-status.ensures q told compiled asks mode has accepted)
+returns-clause-vars g c = λ q told compiled asks mode vars has accepted zero. variables.meets_vars _ _ q compiled _ _ _ vars (sym c.number.ensures ∙ zero) (causes.runs _ _ _ _ c.answer_words-status.ensures q told compiled asks mode has accepted)
 
 pub returns-clause-vars_prefix : goal.returns-clause-vars_prefix
-returns-clause-vars_prefix g c = λ q told compiled asks mode vars has accepted. variables.meets_prefix q compiled _ _ _ vars (causes.runs _ _ _ _ c.answer_words-status.ensures q told compiled asks mode has accepted)
+returns-clause-vars_prefix g c = λ q told compiled asks mode vars has accepted. variables.meets_prefix _ _ q compiled _ _ _ vars (causes.runs _ _ _ _ c.answer_words-status.ensures q told compiled asks mode has accepted)
 
 pub returns-clause-checks : goal.returns-clause-checks
 returns-clause-checks g c = rw c.number.ensures (causes.checks _ _ _ _ c.answer_words-status.ensures)
