@@ -12,4 +12,4 @@ pub use report::{
     say_write_fault,
 };
 pub use status::Status;
-pub use vars::{Unput, put_vars};
+pub use vars::{Unput, put_vars, rows};

@@ -6,6 +6,7 @@ ghost use Rattle.ada_meaning.specs.Stored.{filled, final_of, finals_of};
 ghost use Rattle.typed_tree.specs.Programs.{program};
 ghost use Rattle.run_reports.specs.Ends.{values_of};
 ghost use Rattle.run_reports.specs.Puts.{Puts};
+ghost use Rattle.run_reports.specs.Rows.{ThreeCells, TwoLines};
 ghost use Rattle.run_reports.specs.Vars.{cell_text, cells_text, first_or_zero, vars_line, vars_lines};
 
 use crate::ends::{Final, Finals};
@@ -203,3 +204,9 @@ fn truth_text(value: i64) -> &'static [u8]
 {
     truth_image(is_true(value))
 }
+
+/// Variables have the lines that are said of them in `specs/Rows.antt`. It has no body: its contract is what is proved.
+pub fn rows()
+    ensures three_cells { ThreeCells }
+    ensures two_lines { TwoLines }
+{}
