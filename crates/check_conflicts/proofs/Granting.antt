@@ -1,5 +1,5 @@
 -- What is granted is just what threads write.
-use Rattle.std.proofs.Common.{◌≡◌, ℕ, List, [], ◌∷◌, ◌++◌, inl, inr, ◌⊎◌, ⊎_elim, Bool, true, false, cond, refl, sym, ap, subst, ◌∙◌, true≢false}
+use Rattle.std.proofs.Common.{◌≡◌, ℕ, List, [], ◌∷◌, ◌++◌, inl, inr, ◌⊎◌, ⊎_elim, Bool, true, false, cond, refl, sym, subst, true≢false}
 use Rattle.typed_tree.specs.Syntax.{Program}
 use Rattle.check_effects.specs.Backwards.{CallsBackwards}
 use Rattle.check_effects.specs.Conflicts.{InProgram, IsGranted, path_of}
