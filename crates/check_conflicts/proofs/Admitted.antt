@@ -3,7 +3,6 @@ use Rattle.std.proofs.Common.{◌≡◌, Bool, Ok, Err, sym, subst}
 use Rattle.typed_tree.specs.Syntax.{Program}
 use Rattle.ada_meaning.specs.Formed.{IsFormed}
 use Rattle.check_effects.proofs.Accepting.{accept_law}
-use Rattle.check_effects.proofs.Forming.{formed_law}
 use Rattle.check_effects.proofs.Races.{shares_apart}
 use Rattle.check_effects.specs.Accepted.{IsAccepted}
 use Rattle.check_effects.specs.Backwards.{CallsBackwards}
@@ -18,20 +17,17 @@ use Rattle.check_conflicts.proofs.Answered.{answered}
 use Rattle.check_conflicts.proofs.Found.{found_law}
 use Rattle.check_conflicts.proofs.Granting.{are_grants}
 
-module _ (program : Program) (effects : Effects) (strict : Bool) (same : program.strict ≡ strict) (known : AreEffects program effects) (formed : IsFormed program) where
-  back : CallsBackwards program
-  back = (formed_law program formed).1
-
-  accepted : Verdict program (Ok tt) → IsUnblocked program → IsAccepted program
-  accepted keeps unblocked = record { formed = formed; unblocked = unblocked; apart = keeps.1; strict = keeps.0 }
+module _ (program : Program) (effects : Effects) (strict : Bool) (same : program.strict ≡ strict) (known : AreEffects program effects) (back : CallsBackwards program) where
+  accepted : Verdict program (Ok tt) → IsFormed program → IsUnblocked program → IsAccepted program
+  accepted keeps formed unblocked = record { formed = formed; unblocked = unblocked; apart = keeps.1; strict = keeps.0 }
 
   admits : (grants : Grants) → Verdict program (Ok tt) → grants ≡ grants_of effects → IsAdmitted program grants
   admits grants keeps are = record {
     strict = keeps.0;
     apart = keeps.1;
     grants = subst (AreGrants program) (sym are) (are_grants program effects back known);
-    race_free = λ unblocked. (accept_law program (accepted keeps unblocked)).0;
-    lent_apart = λ unblocked k held. shares_apart program k ((accept_law program (accepted keeps unblocked)).1 k held);
+    race_free = λ formed unblocked. (accept_law program (accepted keeps formed unblocked)).0;
+    lent_apart = λ formed unblocked k held. shares_apart program k ((accept_law program (accepted keeps formed unblocked)).1 k held);
   }
 
   pub admitted : (grants : Grants) → Judges strict effects (Ok tt) → grants ≡ grants_of effects → IsAdmitted program grants

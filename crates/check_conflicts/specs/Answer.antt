@@ -3,6 +3,7 @@ use Rattle.std.specs.Prelude.{◌≡◌, ℕ, ◌<◌, ◌≤◌, ◌⊎◌, Boo
 use Rattle.typed_tree.specs.Syntax.{Program}
 use Rattle.behaviours.specs.Joins.{Now, Share}
 use Rattle.ada_meaning.specs.Blocked.{Blocked}
+use Rattle.ada_meaning.specs.Formed.{IsFormed}
 use Rattle.ada_meaning.specs.Law.{IsRaceFree}
 use Rattle.check_effects.specs.Backwards.{CallsBackwards}
 use Rattle.check_effects.specs.Covered.{AreApart, AreDistinct, Under, site_of}
@@ -55,14 +56,14 @@ module _ (program : Program) where
   IsUnblocked = (token last : ℕ) → Blocked program token last → ⊥
 
   -- The strict rule holds where it is asked for, no two effects of a construct clash, and the grants are what its threads
-  -- write. Where no call breaks the rule on nonblocking text, no two threads have a race, and no cell that one thread of a
-  -- construct may write is touched by another.
+  -- write. Where the program is formed, as that of each text is, and no call breaks the rule on nonblocking text, no two
+  -- threads have a race, and no cell that one thread of a construct may write is touched by another.
   pub record IsAdmitted (given : Grants) : Type 0 where
     pub strict : program.strict ≡ true → IsStrict program
     pub apart : HasNoClash
     pub grants : AreGrants given
-    pub race_free : IsUnblocked → IsRaceFree program
-    pub lent_apart : IsUnblocked → (k : Construct) → InProgram program (Holds k) → AreCellsApart k
+    pub race_free : IsFormed program → IsUnblocked → IsRaceFree program
+    pub lent_apart : IsFormed program → IsUnblocked → (k : Construct) → InProgram program (Holds k) → AreCellsApart k
 
   -- the least breach of the strict rule, where that is asked for; else the least clash
   abbrev pub Refuses : ConflictFault → Type 0
