@@ -51,22 +51,22 @@ completed_by : (at first last number count : ℕ) (ts : List Taken) (s : Option 
     → count ≡ length ts → complete at count c.late c log ≡ (x, now) → completed at first last number ts s c log ≡ given x (λ ys. some (call_given first last number s ys)) now
 completed_by at first last number count ts s c log now x e f = rw (sym e, f) refl
 
-pub call_wrong : (names : Names) (inside : Inside) (here : Context) (at first last number count : ℕ) (as' : Args) (log now end : Log) (us vs : List Taken) (begun done : KnownCalling) (z p : Part) (m n : ℕ) (b : Bool)
+pub call_wrong : (names : Names) (inside : Inside) (here : Context) (at first last number count : ℕ) (as' : Args) (log now end : Log) (us vs : List Taken) (begun done : KnownCalling) (z p q : Part) (m n : ℕ) (b : Bool)
     → us ≡ takes_in (profile_in log number) → vs ≡ us → calling_of begun Nothing ≡ begun_call → z ≡ Nothing → arguments names inside here vs (calling_of begun z) as' log ≡ (calling_of done p, now)
-    → m ≡ length log.faults → n ≡ length now.faults → n ≡ m → count ≡ length us → complete at count done.late (calling_of done p) now ≡ (part_if b p, end) → b ≡ false
+    → m ≡ length log.faults → n ≡ length now.faults → n ≡ m → count ≡ length us → complete at count done.late (calling_of done p) now ≡ (part_if b q, end) → b ≡ false
     → sub_call names inside here at first last number as' log ≡ (None, end)
-call_wrong names inside here at first last number count as' log now end us vs begun done z p m n b e f g h i j k l q r t =
+call_wrong names inside here at first last number count as' log now end us vs begun done z p q m n b e f g h i j k l r t u =
     call_kept names inside here at first last number as' log now us vs begun done z p m n e f g h i j k l
-    ∙ (completed_by at first last number count (takes_in (profile_in log number)) (gives_in (profile_in log number)) (calling_of done p) now end (part_if b p) (q ∙ ap length e) r
-    ∙ ap (λ c. given (part_if c p) (λ ys. some (call_given first last number (gives_in (profile_in log number)) ys)) end) t)
+    ∙ (completed_by at first last number count (takes_in (profile_in log number)) (gives_in (profile_in log number)) (calling_of done p) now end (part_if b q) (r ∙ ap length e) t
+    ∙ ap (λ c. given (part_if c q) (λ ys. some (call_given first last number (gives_in (profile_in log number)) ys)) end) u)
 
-pub call_whole : (names : Names) (inside : Inside) (here : Context) (at first last number count : ℕ) (as' : Args) (log now end : Log) (us vs : List Taken) (begun done : KnownCalling) (z p : Part) (m n : ℕ) (b : Bool) (gives : Option Scalar)
+pub call_whole : (names : Names) (inside : Inside) (here : Context) (at first last number count : ℕ) (as' : Args) (log now end : Log) (us vs : List Taken) (begun done : KnownCalling) (z p q : Part) (m n : ℕ) (b : Bool) (gives : Option Scalar)
     → us ≡ takes_in (profile_in log number) → vs ≡ us → calling_of begun Nothing ≡ begun_call → z ≡ Nothing → arguments names inside here vs (calling_of begun z) as' log ≡ (calling_of done p, now)
-    → m ≡ length log.faults → n ≡ length now.faults → n ≡ m → count ≡ length us → complete at count done.late (calling_of done p) now ≡ (part_if b p, end) → b ≡ true
+    → m ≡ length log.faults → n ≡ length now.faults → n ≡ m → count ≡ length us → complete at count done.late (calling_of done p) now ≡ (part_if b q, end) → b ≡ true
     → gives ≡ gives_in (profile_in log number)
-    → sub_call names inside here at first last number as' log ≡ some (call_given first last number gives p) end
-call_whole names inside here at first last number count as' log now end us vs begun done z p m n b gives e f g h i j k l q r t w =
+    → sub_call names inside here at first last number as' log ≡ some (call_given first last number gives q) end
+call_whole names inside here at first last number count as' log now end us vs begun done z p q m n b gives e f g h i j k l r t u w =
     call_kept names inside here at first last number as' log now us vs begun done z p m n e f g h i j k l
-    ∙ (completed_by at first last number count (takes_in (profile_in log number)) (gives_in (profile_in log number)) (calling_of done p) now end (part_if b p) (q ∙ ap length e) r
-    ∙ (ap (λ c. given (part_if c p) (λ ys. some (call_given first last number (gives_in (profile_in log number)) ys)) end) t
-    ∙ ap (λ (s : Option Scalar). some (call_given first last number s p) end) (sym w)))
+    ∙ (completed_by at first last number count (takes_in (profile_in log number)) (gives_in (profile_in log number)) (calling_of done p) now end (part_if b q) (r ∙ ap length e) t
+    ∙ (ap (λ c. given (part_if c q) (λ ys. some (call_given first last number (gives_in (profile_in log number)) ys)) end) u
+    ∙ ap (λ (s : Option Scalar). some (call_given first last number s q) end) (sym w)))

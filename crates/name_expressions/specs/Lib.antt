@@ -10,5 +10,6 @@ pub mod Putting
 pub mod Reducers
 pub mod Reducing
 pub mod Rows
+pub mod Scenes
 pub mod Sequences
 pub mod Spelt

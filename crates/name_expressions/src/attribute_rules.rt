@@ -5,7 +5,8 @@ ghost use Rattle.typed_tree.specs.Decoded.{as_expr};
 ghost use Rattle.typed_tree.specs.Latest.{pop, second, top};
 ghost use Rattle.name_rules.specs.Attributes as spec;
 ghost use Rattle.name_rules.specs.Found.{parameter_found};
-ghost use Rattle.name_rules.specs.Judges.{Judges, found};
+ghost use Rattle.name_rules.specs.Judges.{found};
+ghost use Rattle.name_values.specs.Judged.{JudgesOn, JudgesOne};
 ghost use Rattle.name_rules.specs.Types as types;
 ghost use Rattle.name_expressions.specs.Attributes.{bound_of, one_made, other_alone};
 ghost use Rattle.name_values.specs.Operands.{founds};
@@ -17,6 +18,7 @@ use name_rules::log::{Dimension, Log, Rule};
 use name_rules::types::{Kind, Scalar, Subtype};
 use name_values::arrays::dimensions_of;
 use name_values::attempt;
+use name_values::judge::Judge;
 use name_values::logs::{also_all, cleared};
 use name_values::names::{denoted_first, dimension_at, wrong_name};
 use name_values::putting::static_of_kind;
@@ -71,16 +73,15 @@ fn prefix_of(denoted: Denoted) -> Prefix
 
 /// An attribute of a name, whose part stays: Unknown at the attribute's identifier where the language has none so.
 pub fn attribute_found(
-    log: &mut Log,
-    out: &Parts,
+    judge: &mut Judge,
     denoted: Denoted,
     at: u32,
     attribute: Option<Attribute>,
 ) -> Result<Option<Denoted>, AllocError>
-    ensures { Judges (spec.attribute_found (found denoted (top (parts out.now))) at attribute log.old) (pop (parts out.now)) result log.new (parts out.now) }
+    ensures { JudgesOne (λ x. spec.attribute_found x at attribute) (found denoted) judge.old result judge.new }
 {
     match attribute {
-        None => wrong_name(log, out, at, Rule::Unknown),
+        None => wrong_name(judge, at, Rule::Unknown),
         Some(attribute) => Ok(Some(Denoted::Attribute {
             first: denoted_first(denoted),
             prefix: prefix_of(denoted),
@@ -92,18 +93,17 @@ pub fn attribute_found(
 
 /// `First` and `Last` of a scalar subtype, in place of the latest part: another attribute is WrongType.
 pub fn scalar_bound(
-    log: &mut Log,
-    out: &mut Parts,
+    judge: &mut Judge,
     first: u32,
     scalar: Scalar,
     attribute: Attribute,
 ) -> Result<Option<Denoted>, AllocError>
-    ensures { Judges (spec.scalar_bound first scalar attribute log.old) (pop (parts out.old)) result log.new (parts out.new) }
+    ensures { JudgesOn (pop (parts judge.old.out)) (spec.scalar_bound first scalar attribute) judge.old result judge.new }
 {
     let kind = scalar.kind;
     match attribute {
         Attribute::First => {
-            attempt!(cleared(out));
+            attempt!(cleared(&mut judge.out));
             Ok(Some(Denoted::Value(Found::Static {
                 first,
                 kind,
@@ -111,14 +111,14 @@ pub fn scalar_bound(
             })))
         }
         Attribute::Last => {
-            attempt!(cleared(out));
+            attempt!(cleared(&mut judge.out));
             Ok(Some(Denoted::Value(Found::Static {
                 first,
                 kind,
                 value: scalar.high,
             })))
         }
-        _ => wrong_name(log, out, first, Rule::WrongType),
+        _ => wrong_name(judge, first, Rule::WrongType),
     }
 }
 
@@ -132,13 +132,12 @@ fn extent(dimension: Dimension) -> i128
 
 /// An attribute of a dimension, with what is mentioned as the latest part.
 fn dimension_bound(
-    log: &mut Log,
-    out: &Parts,
+    judge: &mut Judge,
     first: u32,
     attribute: Attribute,
     dimension: Dimension,
 ) -> Result<Option<Denoted>, AllocError>
-    ensures { Judges (spec.dimension_bound first (top (parts out.now)) attribute dimension log.old) (pop (parts out.now)) result log.new (parts out.now) }
+    ensures { JudgesOn (pop (parts judge.old.out)) (spec.dimension_bound first (top (parts judge.old.out)) attribute dimension) judge.old result judge.new }
 {
     let kind = dimension.kind;
     match attribute {
@@ -158,7 +157,7 @@ fn dimension_bound(
             literal: false,
         }))),
         Attribute::Range => Ok(Some(Denoted::Range { first, dimension })),
-        _ => wrong_name(log, out, first, Rule::WrongType),
+        _ => wrong_name(judge, first, Rule::WrongType),
     }
 }
 
@@ -210,48 +209,45 @@ fn first_dimension(log: &Log, subtype: Option<Subtype>) -> Option<Dimension>
 }
 
 fn bound_in(
-    log: &mut Log,
-    out: &Parts,
+    judge: &mut Judge,
     first: u32,
     attribute: Attribute,
     dimension: Option<Dimension>,
 ) -> Result<Option<Denoted>, AllocError>
-    ensures { Judges (spec.bound_in first (top (parts out.now)) attribute dimension log.old) (pop (parts out.now)) result log.new (parts out.now) }
+    ensures { JudgesOn (pop (parts judge.old.out)) (spec.bound_in first (top (parts judge.old.out)) attribute dimension) judge.old result judge.new }
 {
     match dimension {
-        None => wrong_name(log, out, first, Rule::WrongType),
-        Some(dimension) => dimension_bound(log, out, first, attribute, dimension),
+        None => wrong_name(judge, first, Rule::WrongType),
+        Some(dimension) => dimension_bound(judge, first, attribute, dimension),
     }
 }
 
 /// An attribute of an array's first dimension, in place of the prefix's part.
 fn bound_of(
-    log: &mut Log,
-    out: &mut Parts,
+    judge: &mut Judge,
     first: u32,
     prefix: Prefix,
     attribute: Attribute,
 ) -> Result<Option<Denoted>, AllocError>
-    ensures { Judges (bound_of first prefix (top (parts out.old)) attribute log.old) (pop (parts out.old)) result log.new (parts out.new) }
+    ensures { JudgesOn (pop (parts judge.old.out)) (bound_of first prefix (top (parts judge.old.out)) attribute) judge.old result judge.new }
 {
-    let dimension = first_dimension(log, prefix_subtype(prefix));
-    attempt!(mentioned(out, prefix));
-    bound_in(log, out, first, attribute, dimension)
+    let dimension = first_dimension(&judge.log, prefix_subtype(prefix));
+    attempt!(mentioned(&mut judge.out, prefix));
+    bound_in(judge, first, attribute, dimension)
 }
 
 /// An attribute of a scalar subtype's bounds, or of an array's first dimension, in place of the prefix's part.
 fn bound_alone(
-    log: &mut Log,
-    out: &mut Parts,
+    judge: &mut Judge,
     first: u32,
     prefix: Prefix,
     attribute: Attribute,
 ) -> Result<Option<Denoted>, AllocError>
-    ensures { Judges (spec.bound_alone first prefix (top (parts out.old)) attribute log.old) (pop (parts out.old)) result log.new (parts out.new) }
+    ensures { JudgesOn (pop (parts judge.old.out)) (spec.bound_alone first prefix (top (parts judge.old.out)) attribute) judge.old result judge.new }
 {
     match prefix {
-        Prefix::Type(Subtype::Scalar(scalar)) => scalar_bound(log, out, first, scalar, attribute),
-        _ => bound_of(log, out, first, prefix, attribute),
+        Prefix::Type(Subtype::Scalar(scalar)) => scalar_bound(judge, first, scalar, attribute),
+        _ => bound_of(judge, first, prefix, attribute),
     }
 }
 
@@ -266,54 +262,44 @@ fn nth(dimensions: &Items<Dimension>, place: usize) -> Option<Dimension>
 
 /// The dimension of a number, from 1 on, of which there are so many: StaticRange at the number where it is another.
 fn numbered_dimension(
-    log: &mut Log,
-    out: &Parts,
+    judge: &mut Judge,
     first: u32,
     attribute: Attribute,
     dimensions: &Items<Dimension>,
     at: u32,
     number: i128,
 ) -> Result<Option<Denoted>, AllocError>
-    ensures { Judges (spec.dimension_at first (top (parts out.now)) attribute dimensions.now at number log.old) (pop (parts out.now)) result log.new (parts out.now) }
+    ensures { JudgesOn (pop (parts judge.old.out)) (spec.dimension_at first (top (parts judge.old.out)) attribute dimensions.now at number) judge.old result judge.new }
 {
     if 1 <= number && number <= dimensions.len() as i128 {
         let dimension = nth(dimensions, number.unsigned_abs() as usize - 1);
-        bound_in(log, out, first, attribute, dimension)
+        bound_in(judge, first, attribute, dimension)
     } else {
-        wrong_name(log, out, at, Rule::StaticRange)
+        wrong_name(judge, at, Rule::StaticRange)
     }
 }
 
 /// The dimension that an operand gives, of which the latest part is the operand's and the one before what is mentioned.
 fn dimension_given(
-    log: &mut Log,
-    out: &mut Parts,
+    judge: &mut Judge,
     first: u32,
     attribute: Attribute,
     dimensions: &Items<Dimension>,
     given: Found,
 ) -> Result<Option<Denoted>, AllocError>
-    ensures { Judges (spec.dimension_given first (second (parts out.old)) attribute dimensions.now (found given (top (parts out.old))) log.old) (pop (pop (parts out.old))) result log.new (parts out.new) }
+    ensures { JudgesOn (pop (pop (parts judge.old.out))) (spec.dimension_given first (second (parts judge.old.out)) attribute dimensions.now (found given (top (parts judge.old.out)))) judge.old result judge.new }
 {
     if !is_number(given) {
-        out.leave_out();
-        return wrong_name(log, out, first_of(given), Rule::WrongType);
+        judge.out.leave_out();
+        return wrong_name(judge, first_of(given), Rule::WrongType);
     }
-    let value = attempt!(static_of_kind(log, out, own_kind(given), given));
-    attempt!(mentions(out, given));
-    attempt!(also_all(out));
+    let value = attempt!(static_of_kind(judge, own_kind(given), given));
+    attempt!(mentions(&mut judge.out, given));
+    attempt!(also_all(&mut judge.out));
     match value {
         None => Ok(None),
         Some(value) => {
-            numbered_dimension(
-                log,
-                out,
-                first,
-                attribute,
-                dimensions,
-                first_of(given),
-                value,
-            )
+            numbered_dimension(judge, first, attribute, dimensions, first_of(given), value)
         }
     }
 }
@@ -322,25 +308,24 @@ fn dimension_given(
 /// mentioned the one before. WrongType at the bracket where there are more.
 #[tactic(auto, using(name_values::proofs::Founds::one_found, crate::proofs::Arguments::not_one_dimension))]
 pub fn one_dimension(
-    log: &mut Log,
-    out: &mut Parts,
+    judge: &mut Judge,
     first: u32,
     bracket: u32,
     attribute: Attribute,
     dimensions: &Items<Dimension>,
     operands: &Items<Found>,
 ) -> Result<Option<Denoted>, AllocError>
-    ensures { Judges (spec.one_dimension first bracket (second (parts out.old)) attribute dimensions.now (None ∷ []) (founds operands.now (top (parts out.old))) log.old) (pop (pop (parts out.old))) result log.new (parts out.new) }
+    ensures { JudgesOn (pop (pop (parts judge.old.out))) (spec.one_dimension first bracket (second (parts judge.old.out)) attribute dimensions.now (None ∷ []) (founds operands.now (top (parts judge.old.out)))) judge.old result judge.new }
 {
     match operands.as_slice() {
         [given] => {
-            attempt!(out.apart());
-            out.leave_out();
-            dimension_given(log, out, first, attribute, dimensions, *given)
+            attempt!(judge.out.apart());
+            judge.out.leave_out();
+            dimension_given(judge, first, attribute, dimensions, *given)
         }
         _ => {
-            out.leave_out();
-            wrong_name(log, out, bracket, Rule::WrongType)
+            judge.out.leave_out();
+            wrong_name(judge, bracket, Rule::WrongType)
         }
     }
 }
@@ -377,19 +362,18 @@ fn made_of_one(out: &mut Parts, first: u32, kind: Kind, one: One) -> Result<Deno
 }
 
 fn one_given(
-    log: &mut Log,
-    out: &mut Parts,
+    judge: &mut Judge,
     first: u32,
     kind: Kind,
     one: One,
     given: Found,
 ) -> Result<Option<Denoted>, AllocError>
-    ensures { Judges (spec.one_given kind (one_made one first kind) (found given (top (parts out.old))) log.old) (pop (parts out.old)) result log.new (parts out.new) }
+    ensures { JudgesOne (spec.one_given kind (one_made one first kind)) (found given) judge.old result judge.new }
 {
-    if !attempt!(asked(log, out, kind, given)) {
+    if !attempt!(asked(judge, kind, given)) {
         return Ok(None);
     }
-    let denoted = attempt!(made_of_one(out, first, kind, one));
+    let denoted = attempt!(made_of_one(&mut judge.out, first, kind, one));
     Ok(Some(denoted))
 }
 
@@ -397,8 +381,7 @@ fn one_given(
 /// Unknown at a name, WrongType at the bracket where there is another number of arguments.
 #[tactic(auto, using(name_values::proofs::Founds::one_found, crate::proofs::Arguments::not_one_named))]
 pub fn one_named(
-    log: &mut Log,
-    out: &mut Parts,
+    judge: &mut Judge,
     bracket: u32,
     first: u32,
     kind: Kind,
@@ -406,41 +389,40 @@ pub fn one_named(
     name: Option<u32>,
     operands: &Items<Found>,
 ) -> Result<Option<Denoted>, AllocError>
-    ensures { Judges (spec.one_named bracket kind (one_made one first kind) name (founds operands.now (top (parts out.old))) log.old) (pop (parts out.old)) result log.new (parts out.new) }
+    ensures { JudgesOn (pop (parts judge.old.out)) (spec.one_named bracket kind (one_made one first kind) name (founds operands.now (top (parts judge.old.out)))) judge.old result judge.new }
 {
     match name {
-        Some(name) => wrong_name(log, out, name, Rule::Unknown),
+        Some(name) => wrong_name(judge, name, Rule::Unknown),
         None => match operands.as_slice() {
             [given] => {
-                attempt!(out.apart());
-                out.leave_out();
-                one_given(log, out, first, kind, one, *given)
+                attempt!(judge.out.apart());
+                judge.out.leave_out();
+                one_given(judge, first, kind, one, *given)
             }
-            _ => wrong_name(log, out, bracket, Rule::WrongType),
+            _ => wrong_name(judge, bracket, Rule::WrongType),
         },
     }
 }
 
 /// The greater or the smaller of two arguments, which are the latest parts.
 fn two_given(
-    log: &mut Log,
-    out: &mut Parts,
+    judge: &mut Judge,
     first: u32,
     kind: Kind,
     op: Op,
     left: Found,
     right: Found,
 ) -> Result<Option<Denoted>, AllocError>
-    ensures { Judges (spec.two_given kind (spec.extreme first kind op) (found left (top (parts out.old))) (found right (second (parts out.old))) log.old) (pop (pop (parts out.old))) result log.new (parts out.new) }
+    ensures { JudgesOn (pop (pop (parts judge.old.out))) (spec.two_given kind (spec.extreme first kind op) (found left (top (parts judge.old.out))) (found right (second (parts judge.old.out)))) judge.old result judge.new }
 {
-    let x = attempt!(asked(log, out, kind, left));
-    attempt!(out.swap());
-    let y = attempt!(asked(log, out, kind, right));
+    let x = attempt!(asked(judge, kind, left));
+    attempt!(judge.out.swap());
+    let y = attempt!(asked(judge, kind, right));
     if !x || !y {
-        out.leave_out();
+        judge.out.leave_out();
         return Ok(None);
     }
-    attempt!(out.binary(first, op, class_of(kind)));
+    attempt!(judge.out.binary(first, op, class_of(kind)));
     Ok(Some(Denoted::Value(Found::Scalar {
         first,
         kind,
@@ -452,8 +434,7 @@ fn two_given(
 /// part: Unknown at a name, WrongType at the bracket where there is another number of arguments.
 #[tactic(auto, using(crate::proofs::Arguments::two_found, crate::proofs::Arguments::not_two_named))]
 pub fn two_named(
-    log: &mut Log,
-    out: &mut Parts,
+    judge: &mut Judge,
     bracket: u32,
     first: u32,
     kind: Kind,
@@ -461,53 +442,40 @@ pub fn two_named(
     name: Option<u32>,
     operands: &Items<Found>,
 ) -> Result<Option<Denoted>, AllocError>
-    ensures { Judges (spec.two_named bracket kind (spec.extreme first kind op) name (founds operands.now (top (parts out.old))) log.old) (pop (parts out.old)) result log.new (parts out.new) }
+    ensures { JudgesOn (pop (parts judge.old.out)) (spec.two_named bracket kind (spec.extreme first kind op) name (founds operands.now (top (parts judge.old.out)))) judge.old result judge.new }
 {
     match name {
-        Some(name) => wrong_name(log, out, name, Rule::Unknown),
+        Some(name) => wrong_name(judge, name, Rule::Unknown),
         None => match operands.as_slice() {
             [left, right] => {
-                attempt!(out.apart());
-                attempt!(out.apart());
-                out.leave_out();
-                two_given(log, out, first, kind, op, *left, *right)
+                attempt!(judge.out.apart());
+                attempt!(judge.out.apart());
+                judge.out.leave_out();
+                two_given(judge, first, kind, op, *left, *right)
             }
-            _ => wrong_name(log, out, bracket, Rule::WrongType),
+            _ => wrong_name(judge, bracket, Rule::WrongType),
         },
     }
 }
 
-fn object_image(
-    log: &mut Log,
-    out: &mut Parts,
-    first: u32,
-    place: Place,
-) -> Result<Option<Denoted>, AllocError>
-    ensures { Judges (spec.object_image first place (top (parts out.old)) place.subtype log.old) (pop (parts out.old)) result log.new (parts out.new) }
+fn object_image(judge: &mut Judge, first: u32, place: Place) -> Result<Option<Denoted>, AllocError>
+    ensures { JudgesOn (pop (parts judge.old.out)) (spec.object_image first place (top (parts judge.old.out)) place.subtype) judge.old result judge.new }
 {
     match place.subtype {
         Subtype::Scalar(scalar) => {
-            one_given(
-                log,
-                out,
-                first,
-                scalar.kind,
-                One::Image,
-                Found::Object(place),
-            )
+            one_given(judge, first, scalar.kind, One::Image, Found::Object(place))
         }
-        Subtype::Composite(_) => wrong_name(log, out, first, Rule::WrongType),
+        Subtype::Composite(_) => wrong_name(judge, first, Rule::WrongType),
     }
 }
 
 /// The image of a parameter's value, which is the latest part.
 fn parameter_image(
-    log: &mut Log,
-    out: &mut Parts,
+    judge: &mut Judge,
     first: u32,
     scalar: Scalar,
 ) -> Result<Option<Denoted>, AllocError>
-    ensures { Judges (spec.one_given scalar.kind (spec.image_text first scalar.kind) (parameter_found first scalar (top (parts out.old))) log.old) (pop (parts out.old)) result log.new (parts out.new) }
+    ensures { JudgesOn (pop (parts judge.old.out)) (spec.one_given scalar.kind (spec.image_text first scalar.kind) (parameter_found first scalar (top (parts judge.old.out)))) judge.old result judge.new }
 {
     let kind = scalar.kind;
     let given = Found::Scalar {
@@ -515,7 +483,7 @@ fn parameter_image(
         kind,
         nominal: Some(scalar),
     };
-    one_given(log, out, first, kind, One::Image, given)
+    one_given(judge, first, kind, One::Image, given)
 }
 
 /// Whether an attribute is of a range.
@@ -554,61 +522,58 @@ pub fn is_array_object(log: &Log, prefix: Prefix) -> bool
 }
 
 fn reduced_alone(
-    log: &mut Log,
-    out: &Parts,
+    judge: &mut Judge,
     first: u32,
     at: u32,
     is_array: bool,
 ) -> Result<Option<Denoted>, AllocError>
-    ensures { Judges (spec.reduced_alone first at is_array log.old) (pop (parts out.now)) result log.new (parts out.now) }
+    ensures { JudgesOn (pop (parts judge.old.out)) (spec.reduced_alone first at is_array) judge.old result judge.new }
 {
     if is_array {
-        wrong_name(log, out, first, Rule::WrongType)
+        wrong_name(judge, first, Rule::WrongType)
     } else {
-        wrong_name(log, out, at, Rule::ReduceRule)
+        wrong_name(judge, at, Rule::ReduceRule)
     }
 }
 
 fn other_alone(
-    log: &mut Log,
-    out: &mut Parts,
+    judge: &mut Judge,
     first: u32,
     prefix: Prefix,
     at: u32,
     attribute: Attribute,
 ) -> Result<Option<Denoted>, AllocError>
-    ensures { Judges (other_alone first prefix (top (parts out.old)) at attribute log.old) (pop (parts out.old)) result log.new (parts out.new) }
+    ensures { JudgesOn (pop (parts judge.old.out)) (other_alone first prefix (top (parts judge.old.out)) at attribute) judge.old result judge.new }
 {
     if is_bound(attribute) {
-        return bound_alone(log, out, first, prefix, attribute);
+        return bound_alone(judge, first, prefix, attribute);
     }
     if is_reduction(attribute) {
-        let is_array = is_array_object(log, prefix);
-        return reduced_alone(log, out, first, at, is_array);
+        let is_array = is_array_object(&judge.log, prefix);
+        return reduced_alone(judge, first, at, is_array);
     }
-    wrong_name(log, out, first, Rule::WrongType)
+    wrong_name(judge, first, Rule::WrongType)
 }
 
 fn alone(
-    log: &mut Log,
-    out: &mut Parts,
+    judge: &mut Judge,
     first: u32,
     prefix: Prefix,
     at: u32,
     attribute: Attribute,
 ) -> Result<Option<Denoted>, AllocError>
-    ensures { Judges (spec.alone first prefix (top (parts out.old)) at attribute log.old) (pop (parts out.old)) result log.new (parts out.new) }
+    ensures { JudgesOn (pop (parts judge.old.out)) (spec.alone first prefix (top (parts judge.old.out)) at attribute) judge.old result judge.new }
 {
     match prefix {
         Prefix::Object(place) => match attribute {
-            Attribute::Image => object_image(log, out, first, place),
-            _ => other_alone(log, out, first, prefix, at, attribute),
+            Attribute::Image => object_image(judge, first, place),
+            _ => other_alone(judge, first, prefix, at, attribute),
         },
         Prefix::Parameter(scalar) => match attribute {
-            Attribute::Image => parameter_image(log, out, first, scalar),
-            _ => other_alone(log, out, first, prefix, at, attribute),
+            Attribute::Image => parameter_image(judge, first, scalar),
+            _ => other_alone(judge, first, prefix, at, attribute),
         },
-        _ => other_alone(log, out, first, prefix, at, attribute),
+        _ => other_alone(judge, first, prefix, at, attribute),
     }
 }
 
@@ -616,12 +581,8 @@ fn alone(
 /// latest part. WrongType at the name's first token where it needs arguments or its prefix has none such; ReduceRule at
 /// the attribute where a reduction's prefix is no array object.
 #[tactic(auto, unfolding(name_rules::specs::Attributes::settled_attribute))]
-pub fn settled_attribute(
-    log: &mut Log,
-    out: &mut Parts,
-    denoted: Denoted,
-) -> Result<Option<Denoted>, AllocError>
-    ensures { Judges (spec.settled_attribute (found denoted (top (parts out.old))) log.old) (pop (parts out.old)) result log.new (parts out.new) }
+pub fn settled_attribute(judge: &mut Judge, denoted: Denoted) -> Result<Option<Denoted>, AllocError>
+    ensures { JudgesOne spec.settled_attribute (found denoted) judge.old result judge.new }
 {
     match denoted {
         Denoted::Attribute {
@@ -629,7 +590,7 @@ pub fn settled_attribute(
             prefix,
             at,
             attribute,
-        } => alone(log, out, first, prefix, at, attribute),
+        } => alone(judge, first, prefix, at, attribute),
         _ => Ok(Some(denoted)),
     }
 }

@@ -3,8 +3,8 @@
 ghost use Rattle.std.specs.Prelude.{◌≡◌, ◌∷◌, OnOk};
 ghost use Rattle.typed_tree.specs.Decoded as part;
 ghost use Rattle.typed_tree.specs.Syntax as typed;
-ghost use Rattle.typed_tree.specs.Latest.{pop, top};
-ghost use Rattle.name_rules.specs.Judges.{Judges, found};
+ghost use Rattle.name_rules.specs.Judges.{found};
+ghost use Rattle.name_values.specs.Judged.{Judges, JudgesOne};
 ghost use Rattle.name_rules.specs.Judging.{fault};
 ghost use Rattle.name_rules.specs.Primaries as spec;
 ghost use Rattle.name_rules.specs.Values as values;
@@ -12,10 +12,11 @@ ghost use Rattle.typed_parts.specs.Stack.{parts};
 
 use crate::conditionals::composite_in;
 use name_rules::found::{Found, Place};
-use name_rules::log::{Log, Rule};
+use name_rules::log::Rule;
 use name_rules::scope::{Names, Target};
 use name_rules::types::{Subtype, Wanted};
 use name_values::attempt;
+use name_values::judge::{Finding, Judge};
 use name_values::logs::{breaks, cleared};
 use name_values::symbols::text;
 use name_values::types::typed_scalar;
@@ -25,33 +26,23 @@ use typed_parts::Parts;
 use typed_tree::Leaf;
 
 /// Writes that a rule is broken by an expression, of which nothing is the part.
-pub fn no_expression(
-    log: &mut Log,
-    out: &mut Parts,
-    at: u32,
-    rule: Rule,
-) -> Result<Option<Found>, AllocError>
-    ensures { Judges (fault at rule log.old) (parts out.old) result log.new (parts out.new) }
+pub fn no_expression(judge: &mut Judge, at: u32, rule: Rule) -> Finding
+    ensures { Judges (fault at rule) judge.old result judge.new }
 {
-    attempt!(out.nothing());
-    attempt!(breaks(log, at, rule));
+    attempt!(judge.out.nothing());
+    attempt!(breaks(&mut judge.log, at, rule));
     Ok(None)
 }
 
-fn grouped_scalar(
-    log: &mut Log,
-    out: &mut Parts,
-    bracket: u32,
-    given: Found,
-) -> Result<Option<Found>, AllocError>
-    ensures { Judges (spec.grouped_scalar bracket (found given (top (parts out.old))) (values.kind_of given) (spec.composite_in given) log.old) (pop (parts out.old)) result log.new (parts out.new) }
+fn grouped_scalar(judge: &mut Judge, bracket: u32, given: Found) -> Finding
+    ensures { JudgesOne (λ x. spec.grouped_scalar bracket x (values.kind_of given) (spec.composite_in given)) (found given) judge.old result judge.new }
 {
     match kind_of(given) {
         Some(kind) => {
-            if !attempt!(asked(log, out, kind, given)) {
+            if !attempt!(asked(judge, kind, given)) {
                 return Ok(None);
             }
-            attempt!(out.group());
+            attempt!(judge.out.group());
             Ok(Some(Found::Scalar {
                 first: bracket,
                 kind,
@@ -61,7 +52,7 @@ fn grouped_scalar(
         None => match composite_in(given) {
             None => Ok(None),
             Some(number) => {
-                if !attempt!(composite_asked(log, out, number, given)) {
+                if !attempt!(composite_asked(judge, number, given)) {
                     return Ok(None);
                 }
                 Ok(Some(Found::Composite {
@@ -75,13 +66,8 @@ fn grouped_scalar(
 
 /// An expression in brackets, which is no name, in place of the latest part; it begins at the bracket.
 #[tactic(auto, unfolding(name_rules::specs::Primaries::grouped))]
-pub fn grouped(
-    log: &mut Log,
-    out: &mut Parts,
-    bracket: u32,
-    given: Found,
-) -> Result<Option<Found>, AllocError>
-    ensures { Judges (spec.grouped bracket (found given (top (parts out.old))) log.old) (pop (parts out.old)) result log.new (parts out.new) }
+pub fn grouped(judge: &mut Judge, bracket: u32, given: Found) -> Finding
+    ensures { JudgesOne (spec.grouped bracket) (found given) judge.old result judge.new }
 {
     let first = bracket;
     match given {
@@ -91,7 +77,7 @@ pub fn grouped(
             literal: false,
         })),
         Found::Open { limits, .. } => {
-            attempt!(out.group());
+            attempt!(judge.out.group());
             Ok(Some(Found::Open { first, limits }))
         }
         Found::Static { kind, value, .. } => Ok(Some(Found::Static { first, kind, value })),
@@ -102,7 +88,7 @@ pub fn grouped(
                 ..
             },
         ) => {
-            attempt!(cleared(out));
+            attempt!(cleared(&mut judge.out));
             Ok(Some(Found::Static {
                 first,
                 kind: scalar.kind,
@@ -110,27 +96,22 @@ pub fn grouped(
             }))
         }
         Found::Text { .. } => Ok(Some(Found::Text { first })),
-        _ => grouped_scalar(log, out, bracket, given),
+        _ => grouped_scalar(judge, bracket, given),
     }
 }
 
 /// `@`, the target of the assignment around it (5.2.1): NotVisible elsewhere.
-pub fn target_at(
-    log: &mut Log,
-    out: &mut Parts,
-    at: u32,
-    target: Target,
-) -> Result<Option<Found>, AllocError>
-    ensures { Judges (spec.target_at at target log.old) (parts out.old) result log.new (parts out.new) }
+pub fn target_at(judge: &mut Judge, at: u32, target: Target) -> Finding
+    ensures { Judges (spec.target_at at target) judge.old result judge.new }
 {
     match target {
-        Target::Nothing => no_expression(log, out, at, Rule::NotVisible),
+        Target::Nothing => no_expression(judge, at, Rule::NotVisible),
         Target::Faulty => {
-            attempt!(out.nothing());
+            attempt!(judge.out.nothing());
             Ok(None)
         }
         Target::Of(Subtype::Scalar(scalar)) => {
-            attempt!(out.target(at, typed_scalar(scalar)));
+            attempt!(judge.out.target(at, typed_scalar(scalar)));
             Ok(Some(Found::Scalar {
                 first: at,
                 kind: scalar.kind,
@@ -138,7 +119,7 @@ pub fn target_at(
             }))
         }
         Target::Of(Subtype::Composite(number)) => {
-            attempt!(out.whole_target(at, number));
+            attempt!(judge.out.whole_target(at, number));
             Ok(Some(Found::Composite { first: at, number }))
         }
     }
@@ -162,22 +143,16 @@ fn piece(out: &mut Parts, text: &[u8]) -> Result<(), AllocError>
 }
 
 /// A string literal, which stands in Put or Put_Line alone: WrongType elsewhere (A.10.7).
-pub fn text_at(
-    names: &Names,
-    log: &mut Log,
-    out: &mut Parts,
-    at: u32,
-    want: Wanted,
-) -> Result<Option<Found>, AllocError>
-    ensures { Judges (spec.text_at names.now at want log.old) (parts out.old) result log.new (parts out.new) }
+pub fn text_at(names: &Names, judge: &mut Judge, at: u32, want: Wanted) -> Finding
+    ensures { Judges (spec.text_at names.now at want) judge.old result judge.new }
 {
     match want {
         Wanted::Text => {
-            attempt!(out.nothing());
-            attempt!(piece(out, text(names, at)));
-            attempt!(out.also());
+            attempt!(judge.out.nothing());
+            attempt!(piece(&mut judge.out, text(names, at)));
+            attempt!(judge.out.also());
             Ok(Some(Found::Text { first: at }))
         }
-        _ => no_expression(log, out, at, Rule::WrongType),
+        _ => no_expression(judge, at, Rule::WrongType),
     }
 }

@@ -2,7 +2,8 @@
 //! conditions and values, the last ones first, are a part.
 
 ghost use Rattle.std.specs.Prelude.{◌≡◌, ◌∷◌, None, OnOk, option_map, reverse};
-ghost use Rattle.name_rules.specs.Judges.{Gives, Judges, Opens, found, found_of, open_with, part_if};
+ghost use Rattle.name_rules.specs.Judges.{Opens, found, found_of, open_with, part_if};
+ghost use Rattle.name_values.specs.Judged.{GivesOn, JudgesOn};
 ghost use Rattle.name_rules.specs.Judging.{both, joined, pure};
 ghost use Rattle.name_rules.specs.Operators as operators;
 ghost use Rattle.name_rules.specs.Primaries as spec;
@@ -14,9 +15,9 @@ ghost use Rattle.typed_parts.specs.Stack.{parts};
 
 use ada_base::Items;
 use name_rules::found::{Found, Limits};
-use name_rules::log::Log;
 use name_rules::types::{Kind, Subtype};
 use name_values::attempt;
+use name_values::judge::{Finding, Giving, Judge};
 use name_values::operators::{joint, open_of};
 use name_values::values::{asked, composite_asked, kind_of};
 use std::alloc::AllocError;
@@ -180,39 +181,32 @@ fn joined_open(
 
 /// The values take a scalar type, from the last one on.
 #[tactic(auto, using(crate::proofs::Backward::reverse_last))]
-fn scalar_ifs(
-    log: &mut Log,
-    out: &mut Parts,
-    kind: Kind,
-    values: &mut Items<Found>,
-    last: bool,
-) -> Result<bool, AllocError>
-    ensures { Gives (spec.scalar_ifs kind (reverse values.old) (second (parts out.old)) (part_if last (top (parts out.old))) log.old) (pop (pop (parts out.old))) result log.new (parts out.new) }
+fn scalar_ifs(judge: &mut Judge, kind: Kind, values: &mut Items<Found>, last: bool) -> Giving
+    ensures { GivesOn (pop (pop (parts judge.old.out))) (spec.scalar_ifs kind (reverse values.old) (second (parts judge.old.out)) (part_if last (top (parts judge.old.out)))) judge.old result judge.new }
 {
     let mut done = last;
     'values: while let Some(value) = values.pop() {
-        attempt!(next_choice(out));
-        let v = attempt!(asked(log, out, kind, value));
-        done = attempt!(joined_if(out, done, v));
+        attempt!(next_choice(&mut judge.out));
+        let v = attempt!(asked(judge, kind, value));
+        done = attempt!(joined_if(&mut judge.out, done, v));
     }
-    attempt!(out.swap());
-    out.leave_out();
+    attempt!(judge.out.swap());
+    judge.out.leave_out();
     Ok(done)
 }
 
 #[tactic(auto, unfolding(name_rules::specs::Primaries::scalar_if))]
 fn scalar_if(
-    log: &mut Log,
-    out: &mut Parts,
+    judge: &mut Judge,
     bracket: u32,
     kind: Kind,
     values: &mut Items<Found>,
     last: Found,
-) -> Result<Option<Found>, AllocError>
-    ensures { Judges (spec.scalar_if bracket kind (found (reverse values.old) (second (parts out.old))) (found last (top (parts out.old))) log.old) (pop (pop (parts out.old))) result log.new (parts out.new) }
+) -> Finding
+    ensures { JudgesOn (pop (pop (parts judge.old.out))) (spec.scalar_if bracket kind (found (reverse values.old) (second (parts judge.old.out))) (found last (top (parts judge.old.out)))) judge.old result judge.new }
 {
-    let o = attempt!(asked(log, out, kind, last));
-    if !attempt!(scalar_ifs(log, out, kind, values, o)) {
+    let o = attempt!(asked(judge, kind, last));
+    if !attempt!(scalar_ifs(judge, kind, values, o)) {
         return Ok(None);
     }
     Ok(Some(Found::Scalar {
@@ -224,39 +218,32 @@ fn scalar_if(
 
 /// The values are of an array or record type, by its number, from the last one on.
 #[tactic(auto, using(crate::proofs::Backward::reverse_last))]
-fn composite_ifs(
-    log: &mut Log,
-    out: &mut Parts,
-    number: u32,
-    values: &mut Items<Found>,
-    last: bool,
-) -> Result<bool, AllocError>
-    ensures { Gives (spec.composite_ifs number (reverse values.old) (second (parts out.old)) (part_if last (top (parts out.old))) log.old) (pop (pop (parts out.old))) result log.new (parts out.new) }
+fn composite_ifs(judge: &mut Judge, number: u32, values: &mut Items<Found>, last: bool) -> Giving
+    ensures { GivesOn (pop (pop (parts judge.old.out))) (spec.composite_ifs number (reverse values.old) (second (parts judge.old.out)) (part_if last (top (parts judge.old.out)))) judge.old result judge.new }
 {
     let mut done = last;
     'values: while let Some(value) = values.pop() {
-        attempt!(next_choice(out));
-        let v = attempt!(composite_asked(log, out, number, value));
-        done = attempt!(joined_composite(out, done, v));
+        attempt!(next_choice(&mut judge.out));
+        let v = attempt!(composite_asked(judge, number, value));
+        done = attempt!(joined_composite(&mut judge.out, done, v));
     }
-    attempt!(out.swap());
-    out.leave_out();
+    attempt!(judge.out.swap());
+    judge.out.leave_out();
     Ok(done)
 }
 
 #[tactic(auto, unfolding(name_rules::specs::Primaries::composite_if))]
 fn composite_if(
-    log: &mut Log,
-    out: &mut Parts,
+    judge: &mut Judge,
     bracket: u32,
     number: u32,
     values: &mut Items<Found>,
     last: Found,
-) -> Result<Option<Found>, AllocError>
-    ensures { Judges (spec.composite_if bracket number (found (reverse values.old) (second (parts out.old))) (found last (top (parts out.old))) log.old) (pop (pop (parts out.old))) result log.new (parts out.new) }
+) -> Finding
+    ensures { JudgesOn (pop (pop (parts judge.old.out))) (spec.composite_if bracket number (found (reverse values.old) (second (parts judge.old.out))) (found last (top (parts judge.old.out)))) judge.old result judge.new }
 {
-    let o = attempt!(composite_asked(log, out, number, last));
-    if !attempt!(composite_ifs(log, out, number, values, o)) {
+    let o = attempt!(composite_asked(judge, number, last));
+    if !attempt!(composite_ifs(judge, number, values, o)) {
         return Ok(None);
     }
     Ok(Some(Found::Composite {
@@ -285,18 +272,11 @@ fn open_ifs(
     Ok(limits)
 }
 
-fn open_if(
-    log: &Log,
-    out: &mut Parts,
-    bracket: u32,
-    values: &mut Items<Found>,
-    last: Found,
-) -> Result<Option<Found>, AllocError>
-    ensures { Judges (pure (option_map (spec.open_if bracket) (spec.open_ifs (reverse values.old) (second (parts out.old)) (operators.open_of (found last (top (parts out.old)))))) log.now) (pop (pop (parts out.old))) result log.now (parts out.new) }
+fn open_if(judge: &mut Judge, bracket: u32, values: &mut Items<Found>, last: Found) -> Finding
+    ensures { JudgesOn (pop (pop (parts judge.old.out))) (pure (option_map (spec.open_if bracket) (spec.open_ifs (reverse values.old) (second (parts judge.old.out)) (operators.open_of (found last (top (parts judge.old.out))))))) judge.old result judge.new }
 {
-    let _log = log;
-    let o = attempt!(open_of(out, last));
-    match attempt!(open_ifs(out, values, o)) {
+    let o = attempt!(open_of(&mut judge.out, last));
+    match attempt!(open_ifs(&mut judge.out, values, o)) {
         None => Ok(None),
         Some(limits) => Ok(Some(Found::Open {
             first: bracket,
@@ -306,21 +286,20 @@ fn open_if(
 }
 
 fn conditional(
-    log: &mut Log,
-    out: &mut Parts,
+    judge: &mut Judge,
     bracket: u32,
     values: &mut Items<Found>,
     last: Found,
     kind: Option<Kind>,
     number: Option<u32>,
-) -> Result<Option<Found>, AllocError>
-    ensures { Judges (spec.conditional bracket (found (reverse values.old) (second (parts out.old))) (found last (top (parts out.old))) kind number log.old) (pop (pop (parts out.old))) result log.new (parts out.new) }
+) -> Finding
+    ensures { JudgesOn (pop (pop (parts judge.old.out))) (spec.conditional bracket (found (reverse values.old) (second (parts judge.old.out))) (found last (top (parts judge.old.out))) kind number) judge.old result judge.new }
 {
     match kind {
-        Some(kind) => scalar_if(log, out, bracket, kind, values, last),
+        Some(kind) => scalar_if(judge, bracket, kind, values, last),
         None => match number {
-            Some(number) => composite_if(log, out, bracket, number, values, last),
-            None => open_if(log, out, bracket, values, last),
+            Some(number) => composite_if(judge, bracket, number, values, last),
+            None => open_if(judge, bracket, values, last),
         },
     }
 }
@@ -328,24 +307,23 @@ fn conditional(
 /// A conditional expression that begins at a bracket, of the values so far and the one behind `else`: WrongType where a
 /// value has another type than the first that has one, at its first token.
 pub fn if_found(
-    log: &mut Log,
-    out: &mut Parts,
+    judge: &mut Judge,
     bracket: u32,
     values: &mut Items<Found>,
     done: bool,
     last: Option<Found>,
-) -> Result<Option<Found>, AllocError>
-    ensures { Judges (both (waiting_if done values.old (second (parts out.old))) (found_of last (top (parts out.old))) (λ w x. spec.conditional bracket w x (spec.common w.known (value_rules.kind_of x.known)) (spec.common_composite w.known (spec.composite_in x.known))) log.old) (pop (pop (parts out.old))) result log.new (parts out.new) }
+) -> Finding
+    ensures { JudgesOn (pop (pop (parts judge.old.out))) (both (waiting_if done values.old (second (parts judge.old.out))) (found_of last (top (parts judge.old.out))) (λ w x. spec.conditional bracket w x (spec.common w.known (value_rules.kind_of x.known)) (spec.common_composite w.known (spec.composite_in x.known)))) judge.old result judge.new }
 {
     if !done {
-        out.leave_out();
+        judge.out.leave_out();
         return Ok(None);
     }
     let Some(last) = last else {
-        out.leave_out();
+        judge.out.leave_out();
         return Ok(None);
     };
     let kind = common(values, kind_of(last));
     let number = common_composite(values, composite_in(last));
-    conditional(log, out, bracket, values, last, kind, number)
+    conditional(judge, bracket, values, last, kind, number)
 }

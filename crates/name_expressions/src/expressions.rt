@@ -2,21 +2,23 @@
 
 ghost use Rattle.std.specs.Prelude.{◌≡◌, OnOk};
 ghost use Rattle.name_rules.specs.Expressions as spec;
-ghost use Rattle.name_rules.specs.Judges.{Gives, Judges, found, found_of, part_if};
+ghost use Rattle.name_rules.specs.Judges.{found, found_of, part_if};
+ghost use Rattle.name_values.specs.Judged.{Gives, GivesOne, GivesTwo, Judges, JudgesOne};
+ghost use Rattle.name_expressions.specs.Scenes.{named_at, node_at, said_at};
 ghost use Rattle.name_rules.specs.Judging.{joined, pure};
-ghost use Rattle.name_rules.specs.Primaries as primaries;
-ghost use Rattle.syntax_nodes.specs.Parts.{the_adding, the_addings, the_conjunct, the_conjuncts, the_expr, the_factor, the_multiplying, the_multiplyings, the_rel, the_simple, the_term};
+ghost use Rattle.syntax_nodes.specs.Parts.{the_adding, the_addings, the_conjuncts, the_expr, the_factor, the_multiplying, the_multiplyings, the_rel, the_simple, the_term};
 ghost use Rattle.syntax_nodes.specs.Tables.{part_at};
-ghost use Rattle.typed_tree.specs.Latest.{pop, second, top};
+ghost use Rattle.typed_tree.specs.Latest.{second};
 ghost use Rattle.typed_parts.specs.Stack.{parts};
 
 use crate::primaries::inside;
+use crate::scene::Scene;
 use ada_base::Op;
 use name_rules::found::Found;
-use name_rules::log::{Log, Rule};
-use name_rules::scope::{Context, Names};
+use name_rules::log::Rule;
 use name_rules::types::{Kind, Subtype, Wanted};
 use name_values::attempt;
+use name_values::judge::{Finding, Giving, Judge};
 use name_values::logs::{no_part, not_given};
 use name_values::operators::{binary, plain, power, unary};
 use name_values::relations::{compared, joined_text, logical, membership, not_of, of_subtype};
@@ -26,37 +28,27 @@ use name_values::values::{asked, is_kind, kind_of, stored};
 use std::alloc::AllocError;
 use syntax_nodes::{Expr, Factor, Rel, Tree};
 use syntax_tree::{Additive, Comparison, Logical, Multiplicative, Sign};
-use typed_parts::Parts;
 
 /// A factor (4.4).
 #[cycle(levels)]
 #[tactic(auto, unfolding(name_rules::specs::Expressions::factor))]
-pub fn factor(
-    names: &Names,
-    levels: u32,
-    here: &Context,
-    log: &mut Log,
-    out: &mut Parts,
-    want: Wanted,
-    tree: &Tree,
-    id: u32,
-) -> Result<Option<Found>, AllocError>
-    ensures { Judges (spec.factor (primaries.inside names.now levels) here.now want (the_factor (part_at tree.now.nodes id)) log.old) (parts out.old) result log.new (parts out.new) }
+pub fn factor(judge: &mut Judge, scene: Scene<'_>, want: Wanted, id: u32) -> Finding
+    ensures { Judges (said_at scene.entry spec.factor want (the_factor (node_at scene.entry id))) judge.old result judge.new }
 {
-    match tree.factor(id) {
-        Factor::Operand(primary) => inside(names, levels, here, log, out, want, tree, primary),
+    match scene.tree.factor(id) {
+        Factor::Operand(primary) => inside(judge, scene, want, primary),
         Factor::Power { base, at, exponent } => {
-            let x = attempt!(inside(names, levels, here, log, out, Wanted::Other, tree, base));
-            let y = attempt!(inside(names, levels, here, log, out, Wanted::Other, tree, exponent));
-            power(log, out, at, x, y)
+            let x = attempt!(inside(judge, scene, Wanted::Other, base));
+            let y = attempt!(inside(judge, scene, Wanted::Other, exponent));
+            power(judge, at, x, y)
         }
         Factor::Abs { at, operand } => {
-            let x = attempt!(inside(names, levels, here, log, out, Wanted::Other, tree, operand));
-            unary(log, out, typed_tree::Sign::Abs, at, x)
+            let x = attempt!(inside(judge, scene, Wanted::Other, operand));
+            unary(judge, typed_tree::Sign::Abs, at, x)
         }
         Factor::Not { at, operand } => {
-            let x = attempt!(inside(names, levels, here, log, out, Wanted::Other, tree, operand));
-            not_of(log, out, at, x)
+            let x = attempt!(inside(judge, scene, Wanted::Other, operand));
+            not_of(judge, at, x)
         }
     }
 }
@@ -74,49 +66,22 @@ fn multiplying_op(by: Multiplicative) -> Op
 
 #[cycle(levels)]
 #[tactic(auto, unfolding(name_rules::specs::Expressions::multiplying))]
-fn multiplying(
-    names: &Names,
-    levels: u32,
-    here: &Context,
-    log: &mut Log,
-    out: &mut Parts,
-    left: Option<Found>,
-    tree: &Tree,
-    id: u32,
-) -> Result<Option<Found>, AllocError>
-    ensures { Judges (spec.multiplying (primaries.inside names.now levels) here.now (found_of left (top (parts out.old))) (the_multiplying (part_at tree.now.nodes id)) log.old) (pop (parts out.old)) result log.new (parts out.new) }
+fn multiplying(judge: &mut Judge, scene: Scene<'_>, left: Option<Found>, id: u32) -> Finding
+    ensures { JudgesOne (λ x. said_at scene.entry spec.multiplying x (the_multiplying (node_at scene.entry id))) (found_of left) judge.old result judge.new }
 {
-    let link = tree.multiplying(id);
-    let y = attempt!(factor(
-        names,
-        levels,
-        here,
-        log,
-        out,
-        Wanted::Other,
-        tree,
-        link.factor,
-    ));
-    binary(log, out, multiplying_op(link.by), link.at, left, y)
+    let link = scene.tree.multiplying(id);
+    let y = attempt!(factor(judge, scene, Wanted::Other, link.factor));
+    binary(judge, multiplying_op(link.by), link.at, left, y)
 }
 
 #[cycle(levels)]
-fn multiplied(
-    names: &Names,
-    levels: u32,
-    here: &Context,
-    log: &mut Log,
-    out: &mut Parts,
-    left: Option<Found>,
-    tree: &Tree,
-    more: u32,
-) -> Result<Option<Found>, AllocError>
-    ensures { Judges (spec.multiplied (primaries.inside names.now levels) here.now (found_of left (top (parts out.old))) (the_multiplyings (part_at tree.now.nodes more)) log.old) (pop (parts out.old)) result log.new (parts out.new) }
+fn multiplied(judge: &mut Judge, scene: Scene<'_>, left: Option<Found>, more: u32) -> Finding
+    ensures { JudgesOne (λ x. said_at scene.entry spec.multiplied x (the_multiplyings (node_at scene.entry more))) (found_of left) judge.old result judge.new }
 {
     let mut x = left;
     let mut next = more;
-    'links: while let Some(cell) = tree.cell(next) {
-        x = attempt!(multiplying(names, levels, here, log, out, x, tree, cell.first));
+    'links: while let Some(cell) = scene.tree.cell(next) {
+        x = attempt!(multiplying(judge, scene, x, cell.first));
         next = cell.rest;
     }
     Ok(x)
@@ -125,103 +90,49 @@ fn multiplied(
 /// A term (4.4).
 #[cycle(levels)]
 #[tactic(auto, unfolding(name_rules::specs::Expressions::term))]
-pub fn term(
-    names: &Names,
-    levels: u32,
-    here: &Context,
-    log: &mut Log,
-    out: &mut Parts,
-    want: Wanted,
-    tree: &Tree,
-    id: u32,
-) -> Result<Option<Found>, AllocError>
-    ensures { Judges (spec.term (primaries.inside names.now levels) here.now want (the_term (part_at tree.now.nodes id)) log.old) (parts out.old) result log.new (parts out.new) }
+pub fn term(judge: &mut Judge, scene: Scene<'_>, want: Wanted, id: u32) -> Finding
+    ensures { Judges (said_at scene.entry spec.term want (the_term (node_at scene.entry id))) judge.old result judge.new }
 {
-    let whole = tree.term(id);
-    match tree.cell(whole.more) {
-        None => factor(names, levels, here, log, out, want, tree, whole.first),
+    let whole = scene.tree.term(id);
+    match scene.tree.cell(whole.more) {
+        None => factor(judge, scene, want, whole.first),
         Some(_) => {
-            let x = attempt!(factor(
-                names,
-                levels,
-                here,
-                log,
-                out,
-                Wanted::Other,
-                tree,
-                whole.first,
-            ));
-            multiplied(names, levels, here, log, out, x, tree, whole.more)
+            let x = attempt!(factor(judge, scene, Wanted::Other, whole.first));
+            multiplied(judge, scene, x, whole.more)
         }
     }
 }
 
 #[cycle(levels)]
 #[tactic(auto, unfolding(name_rules::specs::Expressions::adding))]
-fn adding(
-    names: &Names,
-    levels: u32,
-    here: &Context,
-    log: &mut Log,
-    out: &mut Parts,
-    left: Option<Found>,
-    tree: &Tree,
-    id: u32,
-) -> Result<Option<Found>, AllocError>
-    ensures { Judges (spec.adding (primaries.inside names.now levels) here.now (found_of left (top (parts out.old))) (the_adding (part_at tree.now.nodes id)) log.old) (pop (parts out.old)) result log.new (parts out.new) }
+fn adding(judge: &mut Judge, scene: Scene<'_>, left: Option<Found>, id: u32) -> Finding
+    ensures { JudgesOne (λ x. said_at scene.entry spec.adding x (the_adding (node_at scene.entry id))) (found_of left) judge.old result judge.new }
 {
-    let link = tree.adding(id);
+    let link = scene.tree.adding(id);
     match link.by {
         Additive::Plus => {
-            let y = attempt!(term(
-                names,
-                levels,
-                here,
-                log,
-                out,
-                Wanted::Other,
-                tree,
-                link.term,
-            ));
-            binary(log, out, Op::Add, link.at, left, y)
+            let y = attempt!(term(judge, scene, Wanted::Other, link.term));
+            binary(judge, Op::Add, link.at, left, y)
         }
         Additive::Minus => {
-            let y = attempt!(term(
-                names,
-                levels,
-                here,
-                log,
-                out,
-                Wanted::Other,
-                tree,
-                link.term,
-            ));
-            binary(log, out, Op::Sub, link.at, left, y)
+            let y = attempt!(term(judge, scene, Wanted::Other, link.term));
+            binary(judge, Op::Sub, link.at, left, y)
         }
         Additive::Joined => {
-            let y = attempt!(term(names, levels, here, log, out, Wanted::Text, tree, link.term));
-            joined_text(log, out, link.at, left, y)
+            let y = attempt!(term(judge, scene, Wanted::Text, link.term));
+            joined_text(judge, link.at, left, y)
         }
     }
 }
 
 #[cycle(levels)]
-fn added(
-    names: &Names,
-    levels: u32,
-    here: &Context,
-    log: &mut Log,
-    out: &mut Parts,
-    left: Option<Found>,
-    tree: &Tree,
-    more: u32,
-) -> Result<Option<Found>, AllocError>
-    ensures { Judges (spec.added (primaries.inside names.now levels) here.now (found_of left (top (parts out.old))) (the_addings (part_at tree.now.nodes more)) log.old) (pop (parts out.old)) result log.new (parts out.new) }
+fn added(judge: &mut Judge, scene: Scene<'_>, left: Option<Found>, more: u32) -> Finding
+    ensures { JudgesOne (λ x. said_at scene.entry spec.added x (the_addings (node_at scene.entry more))) (found_of left) judge.old result judge.new }
 {
     let mut x = left;
     let mut next = more;
-    'links: while let Some(cell) = tree.cell(next) {
-        x = attempt!(adding(names, levels, here, log, out, x, tree, cell.first));
+    'links: while let Some(cell) = scene.tree.cell(next) {
+        x = attempt!(adding(judge, scene, x, cell.first));
         next = cell.rest;
     }
     Ok(x)
@@ -243,44 +154,35 @@ fn first_wanted(want: Wanted, tree: &Tree, more: u32) -> Wanted
 
 #[cycle(levels)]
 fn first_term(
-    names: &Names,
-    levels: u32,
-    here: &Context,
-    log: &mut Log,
-    out: &mut Parts,
+    judge: &mut Judge,
+    scene: Scene<'_>,
     want: Wanted,
     sign: Option<Sign>,
-    tree: &Tree,
     id: u32,
-) -> Result<Option<Found>, AllocError>
-    ensures { Judges (spec.first_term (primaries.inside names.now levels) here.now want sign (the_term (part_at tree.now.nodes id)) log.old) (parts out.old) result log.new (parts out.new) }
+) -> Finding
+    ensures { Judges (said_at scene.entry spec.first_term want sign (the_term (node_at scene.entry id))) judge.old result judge.new }
 {
     match sign {
-        None => term(names, levels, here, log, out, want, tree, id),
+        None => term(judge, scene, want, id),
         Some(Sign::Plus(at)) => {
-            let x = attempt!(term(names, levels, here, log, out, Wanted::Other, tree, id));
-            plain(log, out, at, x)
+            let x = attempt!(term(judge, scene, Wanted::Other, id));
+            plain(judge, at, x)
         }
         Some(Sign::Minus(at)) => {
-            let x = attempt!(term(names, levels, here, log, out, Wanted::Other, tree, id));
-            unary(log, out, typed_tree::Sign::Minus, at, x)
+            let x = attempt!(term(judge, scene, Wanted::Other, id));
+            unary(judge, typed_tree::Sign::Minus, at, x)
         }
     }
 }
 
 /// What was found, unless it is a string elsewhere than in Put or Put_Line: WrongType at its first token.
-pub fn in_place(
-    log: &mut Log,
-    out: &Parts,
-    want: Wanted,
-    given: Found,
-) -> Result<Option<Found>, AllocError>
-    ensures { Judges (spec.in_place want given (found given (top (parts out.now))) log.old) (pop (parts out.now)) result log.new (parts out.now) }
+pub fn in_place(judge: &mut Judge, want: Wanted, given: Found) -> Finding
+    ensures { JudgesOne (spec.in_place want given) (found given) judge.old result judge.new }
 {
     match want {
         Wanted::Text => Ok(Some(given)),
         _ => match given {
-            Found::Text { first } => no_part(log, out, first, Rule::WrongType),
+            Found::Text { first } => no_part(judge, first, Rule::WrongType),
             _ => Ok(Some(given)),
         },
     }
@@ -289,26 +191,15 @@ pub fn in_place(
 /// A simple expression (4.4).
 #[cycle(levels)]
 #[tactic(auto, unfolding(name_rules::specs::Expressions::simple))]
-pub fn simple(
-    names: &Names,
-    levels: u32,
-    here: &Context,
-    log: &mut Log,
-    out: &mut Parts,
-    want: Wanted,
-    tree: &Tree,
-    id: u32,
-) -> Result<Option<Found>, AllocError>
-    ensures { Judges (spec.simple (primaries.inside names.now levels) here.now want (the_simple (part_at tree.now.nodes id)) log.old) (parts out.old) result log.new (parts out.new) }
+pub fn simple(judge: &mut Judge, scene: Scene<'_>, want: Wanted, id: u32) -> Finding
+    ensures { Judges (said_at scene.entry spec.simple want (the_simple (node_at scene.entry id))) judge.old result judge.new }
 {
-    let sum = tree.simple(id);
-    let asked = first_wanted(want, tree, sum.more);
-    let x = attempt!(first_term(
-        names, levels, here, log, out, asked, sum.sign, tree, sum.first,
-    ));
-    match attempt!(added(names, levels, here, log, out, x, tree, sum.more)) {
+    let sum = scene.tree.simple(id);
+    let asked = first_wanted(want, scene.tree, sum.more);
+    let x = attempt!(first_term(judge, scene, asked, sum.sign, sum.first));
+    match attempt!(added(judge, scene, x, sum.more)) {
         None => Ok(None),
-        Some(given) => in_place(log, out, want, given),
+        Some(given) => in_place(judge, want, given),
     }
 }
 
@@ -337,29 +228,20 @@ fn blamed(negation: Option<u32>, at: u32) -> u32
 /// A relation (4.4).
 #[cycle(levels)]
 #[tactic(auto, unfolding(name_rules::specs::Expressions::rel))]
-pub fn rel(
-    names: &Names,
-    levels: u32,
-    here: &Context,
-    log: &mut Log,
-    out: &mut Parts,
-    want: Wanted,
-    tree: &Tree,
-    id: u32,
-) -> Result<Option<Found>, AllocError>
-    ensures { Judges (spec.rel names.now (primaries.inside names.now levels) here.now want (the_rel (part_at tree.now.nodes id)) log.old) (parts out.old) result log.new (parts out.new) }
+pub fn rel(judge: &mut Judge, scene: Scene<'_>, want: Wanted, id: u32) -> Finding
+    ensures { Judges (named_at scene.entry spec.rel want (the_rel (node_at scene.entry id))) judge.old result judge.new }
 {
-    match tree.rel(id) {
-        Rel::Alone(sum) => simple(names, levels, here, log, out, want, tree, sum),
+    match scene.tree.rel(id) {
+        Rel::Alone(sum) => simple(judge, scene, want, sum),
         Rel::Compared {
             left,
             by,
             at,
             right,
         } => {
-            let x = attempt!(simple(names, levels, here, log, out, Wanted::Other, tree, left));
-            let y = attempt!(simple(names, levels, here, log, out, Wanted::Other, tree, right));
-            compared(log, out, comparison_of(by), at, x, y)
+            let x = attempt!(simple(judge, scene, Wanted::Other, left));
+            let y = attempt!(simple(judge, scene, Wanted::Other, right));
+            compared(judge, comparison_of(by), at, x, y)
         }
         Rel::Within {
             value,
@@ -368,10 +250,10 @@ pub fn rel(
             low,
             high,
         } => {
-            let x = attempt!(simple(names, levels, here, log, out, Wanted::Other, tree, value));
-            let l = attempt!(simple(names, levels, here, log, out, Wanted::Other, tree, low));
-            let h = attempt!(simple(names, levels, here, log, out, Wanted::Other, tree, high));
-            membership(log, out, blamed(negation, at), negation.is_some(), x, l, h)
+            let x = attempt!(simple(judge, scene, Wanted::Other, value));
+            let l = attempt!(simple(judge, scene, Wanted::Other, low));
+            let h = attempt!(simple(judge, scene, Wanted::Other, high));
+            membership(judge, blamed(negation, at), negation.is_some(), x, l, h)
         }
         Rel::OfMark {
             value,
@@ -379,41 +261,23 @@ pub fn rel(
             at,
             mark,
         } => {
-            let x = attempt!(simple(names, levels, here, log, out, Wanted::Other, tree, value));
-            let s = attempt!(scalar_named(names, here, log, out, mark));
-            of_subtype(
-                log,
-                out,
-                blamed(negation, at),
-                negation.is_some(),
-                mark,
-                x,
-                s,
-            )
+            let x = attempt!(simple(judge, scene, Wanted::Other, value));
+            let s = attempt!(scalar_named(scene.names, scene.here, judge, mark));
+            of_subtype(judge, blamed(negation, at), negation.is_some(), mark, x, s)
         }
     }
 }
 
 #[cycle(levels)]
-fn conjoined(
-    names: &Names,
-    levels: u32,
-    here: &Context,
-    log: &mut Log,
-    out: &mut Parts,
-    op: Op,
-    left: Option<Found>,
-    tree: &Tree,
-    more: u32,
-) -> Result<Option<Found>, AllocError>
-    ensures { Judges (spec.conjoined names.now (primaries.inside names.now levels) here.now op (found_of left (top (parts out.old))) (the_conjuncts (part_at tree.now.nodes more)) log.old) (pop (parts out.old)) result log.new (parts out.new) }
+fn conjoined(judge: &mut Judge, scene: Scene<'_>, op: Op, left: Option<Found>, more: u32) -> Finding
+    ensures { JudgesOne (λ x. named_at scene.entry spec.conjoined op x (the_conjuncts (node_at scene.entry more))) (found_of left) judge.old result judge.new }
 {
     let mut x = left;
     let mut next = more;
-    'links: while let Some(cell) = tree.cell(next) {
-        let link = tree.conjunct(cell.first);
-        let y = attempt!(rel(names, levels, here, log, out, Wanted::Other, tree, link.rel));
-        x = attempt!(logical(log, out, op, link.at, x, y));
+    'links: while let Some(cell) = scene.tree.cell(next) {
+        let link = scene.tree.conjunct(cell.first);
+        let y = attempt!(rel(judge, scene, Wanted::Other, link.rel));
+        x = attempt!(logical(judge, op, link.at, x, y));
         next = cell.rest;
     }
     Ok(x)
@@ -421,91 +285,61 @@ fn conjoined(
 
 #[cycle(levels)]
 fn joined_rels(
-    names: &Names,
-    levels: u32,
-    here: &Context,
-    log: &mut Log,
-    out: &mut Parts,
+    judge: &mut Judge,
+    scene: Scene<'_>,
     op: Op,
-    tree: &Tree,
     first: u32,
     at: u32,
     second: u32,
     more: u32,
-) -> Result<Option<Found>, AllocError>
-    ensures { Judges (spec.joined_rels names.now (primaries.inside names.now levels) here.now op (the_rel (part_at tree.now.nodes first)) at (the_rel (part_at tree.now.nodes second)) (the_conjuncts (part_at tree.now.nodes more)) log.old) (parts out.old) result log.new (parts out.new) }
+) -> Finding
+    ensures { Judges (named_at scene.entry spec.joined_rels op (the_rel (node_at scene.entry first)) at (the_rel (node_at scene.entry second)) (the_conjuncts (node_at scene.entry more))) judge.old result judge.new }
 {
-    let x = attempt!(rel(names, levels, here, log, out, Wanted::Other, tree, first));
-    let y = attempt!(rel(names, levels, here, log, out, Wanted::Other, tree, second));
-    let z = attempt!(logical(log, out, op, at, x, y));
-    conjoined(names, levels, here, log, out, op, z, tree, more)
+    let x = attempt!(rel(judge, scene, Wanted::Other, first));
+    let y = attempt!(rel(judge, scene, Wanted::Other, second));
+    let z = attempt!(logical(judge, op, at, x, y));
+    conjoined(judge, scene, op, z, more)
 }
 
 #[cycle(levels)]
-fn short_operand(
-    names: &Names,
-    levels: u32,
-    here: &Context,
-    log: &mut Log,
-    out: &mut Parts,
-    at: u32,
-    tree: &Tree,
-    id: u32,
-) -> Result<bool, AllocError>
-    ensures { Gives (spec.short_operand names.now (primaries.inside names.now levels) here.now at (the_rel (part_at tree.now.nodes id)) log.old) (parts out.old) result log.new (parts out.new) }
+fn short_operand(judge: &mut Judge, scene: Scene<'_>, at: u32, id: u32) -> Giving
+    ensures { Gives (named_at scene.entry spec.short_operand at (the_rel (node_at scene.entry id))) judge.old result judge.new }
 {
-    let Some(given) = attempt!(rel(names, levels, here, log, out, Wanted::Other, tree, id)) else {
+    let Some(given) = attempt!(rel(judge, scene, Wanted::Other, id)) else {
         return Ok(false);
     };
     if is_kind(Kind::Boolean, kind_of(given)) {
-        asked(log, out, Kind::Boolean, given)
+        asked(judge, Kind::Boolean, given)
     } else {
-        not_given(log, out, at, Rule::WrongType)
+        not_given(judge, at, Rule::WrongType)
     }
 }
 
-fn short_joined(
-    log: &Log,
-    out: &mut Parts,
-    all: bool,
-    left: bool,
-    right: bool,
-) -> Result<bool, AllocError>
-    ensures { Gives (pure (joined (spec.short_join all) (part_if left (second (parts out.old))) (part_if right (top (parts out.old)))) log.now) (pop (pop (parts out.old))) result log.now (parts out.new) }
+fn short_joined(judge: &mut Judge, all: bool, left: bool, right: bool) -> Giving
+    ensures { GivesTwo (λ x y. pure (joined (spec.short_join all) x y)) (part_if left) (part_if right) judge.old result judge.new }
 {
-    let _log = log;
     if !left || !right {
-        out.leave_out();
+        judge.out.leave_out();
         return Ok(false);
     }
     if all {
-        attempt!(out.and_then());
+        attempt!(judge.out.and_then());
     } else {
-        attempt!(out.or_else());
+        attempt!(judge.out.or_else());
     }
     Ok(true)
 }
 
 #[cycle(levels)]
-fn short_operands(
-    names: &Names,
-    levels: u32,
-    here: &Context,
-    log: &mut Log,
-    out: &mut Parts,
-    all: bool,
-    left: bool,
-    tree: &Tree,
-    more: u32,
-) -> Result<bool, AllocError>
-    ensures { Gives (spec.short_operands names.now (primaries.inside names.now levels) here.now all (part_if left (top (parts out.old))) (the_conjuncts (part_at tree.now.nodes more)) log.old) (pop (parts out.old)) result log.new (parts out.new) }
+fn short_operands(judge: &mut Judge, scene: Scene<'_>, all: bool, left: bool, more: u32) -> Giving
+    ensures { GivesOne (λ x. named_at scene.entry spec.short_operands all x (the_conjuncts (node_at scene.entry more))) (part_if left) judge.old result judge.new }
 {
     let mut x = left;
     let mut next = more;
-    'links: while let Some(cell) = tree.cell(next) {
-        let link = tree.conjunct(cell.first);
-        let y = attempt!(short_operand(names, levels, here, log, out, link.at, tree, link.rel));
-        x = attempt!(short_joined(log, out, all, x, y));
+    'links: while let Some(cell) = scene.tree.cell(next) {
+        let link = scene.tree.conjunct(cell.first);
+        let y = attempt!(short_operand(judge, scene, link.at, link.rel));
+        x = attempt!(short_joined(judge, all, x, y));
         next = cell.rest;
     }
     Ok(x)
@@ -513,26 +347,22 @@ fn short_operands(
 
 #[cycle(levels)]
 fn short_form(
-    names: &Names,
-    levels: u32,
-    here: &Context,
-    log: &mut Log,
-    out: &mut Parts,
+    judge: &mut Judge,
+    scene: Scene<'_>,
     all: bool,
-    tree: &Tree,
     first: u32,
     at: u32,
     second: u32,
     more: u32,
-) -> Result<Option<Found>, AllocError>
-    ensures { Judges (spec.short_form names.now (primaries.inside names.now levels) here.now all (the_rel (part_at tree.now.nodes first)) at (the_rel (part_at tree.now.nodes second)) (the_conjuncts (part_at tree.now.nodes more)) log.old) (parts out.old) result log.new (parts out.new) }
+) -> Finding
+    ensures { Judges (named_at scene.entry spec.short_form all (the_rel (node_at scene.entry first)) at (the_rel (node_at scene.entry second)) (the_conjuncts (node_at scene.entry more))) judge.old result judge.new }
 {
-    let x = attempt!(short_operand(names, levels, here, log, out, at, tree, first));
-    let y = attempt!(short_operand(names, levels, here, log, out, at, tree, second));
-    let z = attempt!(short_joined(log, out, all, x, y));
-    if attempt!(short_operands(names, levels, here, log, out, all, z, tree, more)) {
+    let x = attempt!(short_operand(judge, scene, at, first));
+    let y = attempt!(short_operand(judge, scene, at, second));
+    let z = attempt!(short_joined(judge, all, x, y));
+    if attempt!(short_operands(judge, scene, all, z, more)) {
         Ok(Some(Found::Scalar {
-            first: syntax_first_tokens::of_rel(tree, first),
+            first: syntax_first_tokens::of_rel(scene.tree, first),
             kind: Kind::Boolean,
             nominal: None,
         }))
@@ -544,20 +374,11 @@ fn short_form(
 /// An expression (4.4), whose place asks for something.
 #[cycle(levels)]
 #[tactic(auto, unfolding(name_rules::specs::Expressions::expr))]
-pub fn expr(
-    names: &Names,
-    levels: u32,
-    here: &Context,
-    log: &mut Log,
-    out: &mut Parts,
-    want: Wanted,
-    tree: &Tree,
-    id: u32,
-) -> Result<Option<Found>, AllocError>
-    ensures { Judges (spec.expr names.now (primaries.inside names.now levels) here.now want (the_expr (part_at tree.now.nodes id)) log.old) (parts out.old) result log.new (parts out.new) }
+pub fn expr(judge: &mut Judge, scene: Scene<'_>, want: Wanted, id: u32) -> Finding
+    ensures { Judges (named_at scene.entry spec.expr want (the_expr (node_at scene.entry id))) judge.old result judge.new }
 {
-    match tree.expr(id) {
-        Expr::Single(relation) => rel(names, levels, here, log, out, want, tree, relation),
+    match scene.tree.expr(id) {
+        Expr::Single(relation) => rel(judge, scene, want, relation),
         Expr::Joined {
             by,
             first,
@@ -565,61 +386,11 @@ pub fn expr(
             second,
             more,
         } => match by {
-            Logical::And => {
-                joined_rels(
-                    names,
-                    levels,
-                    here,
-                    log,
-                    out,
-                    Op::And,
-                    tree,
-                    first,
-                    at,
-                    second,
-                    more,
-                )
-            }
-            Logical::Or => {
-                joined_rels(
-                    names,
-                    levels,
-                    here,
-                    log,
-                    out,
-                    Op::Or,
-                    tree,
-                    first,
-                    at,
-                    second,
-                    more,
-                )
-            }
-            Logical::Xor => {
-                joined_rels(
-                    names,
-                    levels,
-                    here,
-                    log,
-                    out,
-                    Op::Xor,
-                    tree,
-                    first,
-                    at,
-                    second,
-                    more,
-                )
-            }
-            Logical::AndThen => {
-                short_form(
-                    names, levels, here, log, out, true, tree, first, at, second, more,
-                )
-            }
-            Logical::OrElse => {
-                short_form(
-                    names, levels, here, log, out, false, tree, first, at, second, more,
-                )
-            }
+            Logical::And => { joined_rels(judge, scene, Op::And, first, at, second, more) }
+            Logical::Or => { joined_rels(judge, scene, Op::Or, first, at, second, more) }
+            Logical::Xor => { joined_rels(judge, scene, Op::Xor, first, at, second, more) }
+            Logical::AndThen => { short_form(judge, scene, true, first, at, second, more) }
+            Logical::OrElse => { short_form(judge, scene, false, first, at, second, more) }
         },
     }
 }
@@ -627,45 +398,27 @@ pub fn expr(
 /// A condition, which is a Boolean: WrongType at its first token.
 #[cycle(levels)]
 #[tactic(auto, unfolding(name_rules::specs::Expressions::condition))]
-pub fn condition(
-    names: &Names,
-    levels: u32,
-    here: &Context,
-    log: &mut Log,
-    out: &mut Parts,
-    tree: &Tree,
-    id: u32,
-) -> Result<bool, AllocError>
-    ensures { Gives (spec.condition names.now (primaries.inside names.now levels) here.now (the_expr (part_at tree.now.nodes id)) log.old) (parts out.old) result log.new (parts out.new) }
+pub fn condition(judge: &mut Judge, scene: Scene<'_>, id: u32) -> Giving
+    ensures { Gives (named_at scene.entry spec.condition (the_expr (node_at scene.entry id))) judge.old result judge.new }
 {
-    match attempt!(expr(names, levels, here, log, out, Wanted::Other, tree, id)) {
+    match attempt!(expr(judge, scene, Wanted::Other, id)) {
         None => Ok(false),
-        Some(given) => asked(log, out, Kind::Boolean, given),
+        Some(given) => asked(judge, Kind::Boolean, given),
     }
 }
 
 /// A value that is stored in a place of a subtype.
 #[cycle(levels)]
 #[tactic(auto, unfolding(name_rules::specs::Expressions::value_for))]
-pub fn value_for(
-    names: &Names,
-    levels: u32,
-    here: &Context,
-    log: &mut Log,
-    out: &mut Parts,
-    subtype: Subtype,
-    tree: &Tree,
-    id: u32,
-) -> Result<bool, AllocError>
-    ensures { Gives (spec.value_for names.now (primaries.inside names.now levels) here.now subtype (the_expr (part_at tree.now.nodes id)) log.old) (parts out.old) result log.new (parts out.new) }
+pub fn value_for(judge: &mut Judge, scene: Scene<'_>, subtype: Subtype, id: u32) -> Giving
+    ensures { Gives (named_at scene.entry spec.value_for subtype (the_expr (node_at scene.entry id))) judge.old result judge.new }
 {
-    match attempt!(expr(names, levels, here, log, out, wanted_of(subtype), tree, id)) {
+    match attempt!(expr(judge, scene, wanted_of(subtype), id)) {
         None => Ok(false),
         Some(given) => stored(
-            log,
-            out,
+            judge,
             subtype,
-            syntax_first_tokens::of_expr(tree, id),
+            syntax_first_tokens::of_expr(scene.tree, id),
             given,
         ),
     }
@@ -675,18 +428,10 @@ pub fn value_for(
 /// is left.
 #[cycle(levels)]
 #[tactic(auto, unfolding(name_rules::specs::Expressions::judged_alone))]
-pub fn judged_alone(
-    names: &Names,
-    levels: u32,
-    here: &Context,
-    log: &mut Log,
-    out: &mut Parts,
-    tree: &Tree,
-    id: u32,
-) -> Result<(), AllocError>
-    ensures { OnOk result ((spec.judged_alone names.now (primaries.inside names.now levels) here.now (the_expr (part_at tree.now.nodes id)) log.old ≡ (tt, log.new)) × (parts out.new ≡ parts out.old)) }
+pub fn judged_alone(judge: &mut Judge, scene: Scene<'_>, id: u32) -> Result<(), AllocError>
+    ensures { OnOk result ((named_at scene.entry spec.judged_alone (the_expr (node_at scene.entry id)) judge.old.log ≡ (tt, judge.new.log)) × (parts judge.new.out ≡ parts judge.old.out)) }
 {
-    let _found = attempt!(expr(names, levels, here, log, out, Wanted::Unknown, tree, id));
-    out.leave_out();
+    let _found = attempt!(expr(judge, scene, Wanted::Unknown, id));
+    judge.out.leave_out();
     Ok(())
 }

@@ -3,10 +3,10 @@
 ghost use Rattle.std.specs.Prelude.{◌≡◌};
 ghost use Rattle.name_expressions.specs.Primaries.{named_in};
 ghost use Rattle.name_expressions.specs.Conditionals.{Waits, waiting_if};
-ghost use Rattle.name_rules.specs.Judges.{Judges};
+ghost use Rattle.name_values.specs.Judged.{Judges};
+ghost use Rattle.name_expressions.specs.Scenes.{below, named_at, node_at};
 ghost use Rattle.name_rules.specs.Primaries as spec;
 ghost use Rattle.syntax_nodes.specs.Parts.{the_elsifs, the_expr, the_name, the_primary};
-ghost use Rattle.syntax_nodes.specs.Tables.{part_at};
 ghost use Rattle.typed_tree.specs.Latest.{pop, top};
 ghost use Rattle.typed_parts.specs.Stack.{parts};
 
@@ -15,38 +15,28 @@ use crate::brackets::{grouped, no_expression, target_at, text_at};
 use crate::conditionals::{also_choice, if_found};
 use crate::expressions::{condition, expr, in_place};
 use crate::iterations::sequence;
+use crate::scene::Scene;
 use crate::whole_names::{name, value_named};
 use ada_base::Items;
 use name_rules::found::{Denoted, Found};
-use name_rules::log::{Log, Rule};
-use name_rules::scope::{Context, Names};
+use name_rules::log::Rule;
 use name_rules::types::Wanted;
 use name_values::attempt;
+use name_values::judge::{Finding, Judge};
 use name_values::scope::no_name;
 use name_values::symbols::number;
 use std::alloc::AllocError;
-use syntax_nodes::{Primary, Tree};
-use typed_parts::Parts;
+use syntax_nodes::Primary;
 
 /// A primary in so many brackets less one as may still be open: Limit where none may.
 #[cycle(levels)]
-pub fn inside(
-    names: &Names,
-    levels: u32,
-    here: &Context,
-    log: &mut Log,
-    out: &mut Parts,
-    want: Wanted,
-    tree: &Tree,
-    id: u32,
-) -> Result<Option<Found>, AllocError>
-    ensures { Judges ((spec.inside names.now levels).primary here.now (the_primary (part_at tree.now.nodes id)) want log.old) (parts out.old) result log.new (parts out.new) }
+pub fn inside(judge: &mut Judge, scene: Scene<'_>, want: Wanted, id: u32) -> Finding
+    ensures { Judges ((below scene.entry).primary scene.entry.here.now (the_primary (node_at scene.entry id)) want) judge.old result judge.new }
 {
-    if levels == 0 {
-        let first = syntax_first_tokens::of_primary(tree, id);
+    if scene.levels == 0 {
+        let first = syntax_first_tokens::of_primary(scene.tree, id);
         return no_expression(
-            log,
-            out,
+            judge,
             first,
             Rule::Limit {
                 which: 5,
@@ -54,61 +44,57 @@ pub fn inside(
             },
         );
     }
-    primary(names, levels - 1, here, log, out, want, tree, id)
+    primary(
+        judge,
+        Scene {
+            levels: scene.levels - 1,
+            ..scene
+        },
+        want,
+        id,
+    )
 }
 
 /// A condition and a value of a conditional expression join those before them, whose list is the latest part.
 #[cycle(levels)]
 #[tactic(auto, unfolding(name_rules::specs::Primaries::alternative))]
 fn alternative(
-    names: &Names,
-    levels: u32,
-    here: &Context,
-    log: &mut Log,
-    out: &mut Parts,
+    judge: &mut Judge,
+    scene: Scene<'_>,
     want: Wanted,
     values: &mut Items<Found>,
     done: bool,
-    tree: &Tree,
     test: u32,
     value: u32,
 ) -> Result<bool, AllocError>
-    ensures { Waits (spec.alternative names.now (spec.inside names.now levels) here.now want (waiting_if done values.old (top (parts out.old))) (the_expr (part_at tree.now.nodes test)) (the_expr (part_at tree.now.nodes value)) log.old) (pop (parts out.old)) result values.new log.new (parts out.new) }
+    ensures { Waits (named_at scene.entry spec.alternative want (waiting_if done values.old (top (parts judge.old.out))) (the_expr (node_at scene.entry test)) (the_expr (node_at scene.entry value)) judge.old.log) (pop (parts judge.old.out)) result values.new judge.new.log (parts judge.new.out) }
 {
-    let x = attempt!(condition(names, levels, here, log, out, tree, test));
-    let y = attempt!(expr(names, levels, here, log, out, want, tree, value));
-    also_choice(out, values, done, x, y)
+    let x = attempt!(condition(judge, scene, test));
+    let y = attempt!(expr(judge, scene, want, value));
+    also_choice(&mut judge.out, values, done, x, y)
 }
 
 #[cycle(levels)]
 fn alternatives(
-    names: &Names,
-    levels: u32,
-    here: &Context,
-    log: &mut Log,
-    out: &mut Parts,
+    judge: &mut Judge,
+    scene: Scene<'_>,
     want: Wanted,
     values: &mut Items<Found>,
     done: bool,
-    tree: &Tree,
     more: u32,
 ) -> Result<bool, AllocError>
-    ensures { Waits (spec.alternatives names.now (spec.inside names.now levels) here.now want (waiting_if done values.old (top (parts out.old))) (the_elsifs (part_at tree.now.nodes more)) log.old) (pop (parts out.old)) result values.new log.new (parts out.new) }
+    ensures { Waits (named_at scene.entry spec.alternatives want (waiting_if done values.old (top (parts judge.old.out))) (the_elsifs (node_at scene.entry more)) judge.old.log) (pop (parts judge.old.out)) result values.new judge.new.log (parts judge.new.out) }
 {
     let mut all = done;
     let mut next = more;
-    'alternatives: while let Some(cell) = tree.cell(next) {
-        let elsif = tree.elsif(cell.first);
+    'alternatives: while let Some(cell) = scene.tree.cell(next) {
+        let elsif = scene.tree.elsif(cell.first);
         all = attempt!(alternative(
-            names,
-            levels,
-            here,
-            log,
-            out,
+            judge,
+            scene,
             want,
             values,
             all,
-            tree,
             elsif.condition,
             elsif.value,
         ));
@@ -131,105 +117,60 @@ fn no_text(want: Wanted) -> Wanted
 #[cycle(levels)]
 #[tactic(auto, unfolding(name_rules::specs::Primaries::if_expr))]
 fn if_expr(
-    names: &Names,
-    levels: u32,
-    here: &Context,
-    log: &mut Log,
-    out: &mut Parts,
+    judge: &mut Judge,
+    scene: Scene<'_>,
     want: Wanted,
     bracket: u32,
-    tree: &Tree,
     test: u32,
     value: u32,
     more: u32,
     otherwise: u32,
-) -> Result<Option<Found>, AllocError>
-    ensures { Judges (spec.if_expr names.now (spec.inside names.now levels) here.now want bracket (the_expr (part_at tree.now.nodes test)) (the_expr (part_at tree.now.nodes value)) (the_elsifs (part_at tree.now.nodes more)) (the_expr (part_at tree.now.nodes otherwise)) log.old) (parts out.old) result log.new (parts out.new) }
+) -> Finding
+    ensures { Judges (named_at scene.entry spec.if_expr want bracket (the_expr (node_at scene.entry test)) (the_expr (node_at scene.entry value)) (the_elsifs (node_at scene.entry more)) (the_expr (node_at scene.entry otherwise))) judge.old result judge.new }
 {
-    attempt!(out.nothing());
-    let mut values = Items::new(out.alloc());
-    let d = attempt!(alternative(
-        names,
-        levels,
-        here,
-        log,
-        out,
-        want,
-        &mut values,
-        true,
-        tree,
-        test,
-        value,
-    ));
-    let all = attempt!(alternatives(
-        names,
-        levels,
-        here,
-        log,
-        out,
-        want,
-        &mut values,
-        d,
-        tree,
-        more,
-    ));
-    let last = attempt!(expr(names, levels, here, log, out, want, tree, otherwise));
-    if_found(log, out, bracket, &mut values, all, last)
+    attempt!(judge.out.nothing());
+    let mut values = Items::new(judge.out.alloc());
+    let d = attempt!(alternative(judge, scene, want, &mut values, true, test, value));
+    let all = attempt!(alternatives(judge, scene, want, &mut values, d, more));
+    let last = attempt!(expr(judge, scene, want, otherwise));
+    if_found(judge, bracket, &mut values, all, last)
 }
 
 /// A primary (4.4), which is a name.
 #[cycle(levels)]
-fn named(
-    names: &Names,
-    levels: u32,
-    here: &Context,
-    log: &mut Log,
-    out: &mut Parts,
-    want: Wanted,
-    tree: &Tree,
-    id: u32,
-) -> Result<Option<Found>, AllocError>
-    ensures { Judges (named_in names.now (spec.inside names.now levels) here.now (the_name (part_at tree.now.nodes id)) want log.old) (parts out.old) result log.new (parts out.new) }
+fn named(judge: &mut Judge, scene: Scene<'_>, want: Wanted, id: u32) -> Finding
+    ensures { Judges (named_at scene.entry named_in (the_name (node_at scene.entry id)) want) judge.old result judge.new }
 {
-    match attempt!(value_named(names, levels, here, log, out, tree, id)) {
+    match attempt!(value_named(judge, scene, id)) {
         None => Ok(None),
-        Some(given) => in_place(log, out, want, given),
+        Some(given) => in_place(judge, want, given),
     }
 }
 
 /// A primary (4.4).
 #[cycle(levels)]
 #[tactic(auto, unfolding(name_rules::specs::Primaries::primary))]
-fn primary(
-    names: &Names,
-    levels: u32,
-    here: &Context,
-    log: &mut Log,
-    out: &mut Parts,
-    want: Wanted,
-    tree: &Tree,
-    id: u32,
-) -> Result<Option<Found>, AllocError>
-    ensures { Judges (spec.primary names.now (spec.inside names.now levels) here.now (the_primary (part_at tree.now.nodes id)) want log.old) (parts out.old) result log.new (parts out.new) }
+fn primary(judge: &mut Judge, scene: Scene<'_>, want: Wanted, id: u32) -> Finding
+    ensures { Judges (named_at scene.entry spec.primary (the_primary (node_at scene.entry id)) want) judge.old result judge.new }
 {
-    match tree.primary(id) {
+    match scene.tree.primary(id) {
         Primary::Number(at) => {
-            attempt!(out.nothing());
+            attempt!(judge.out.nothing());
             Ok(Some(Found::Universal {
                 first: at,
-                value: number(names, at),
+                value: number(scene.names, at),
                 literal: true,
             }))
         }
-        Primary::Text(at) => text_at(names, log, out, at, want),
-        Primary::Target(at) => target_at(log, out, at, here.target),
-        Primary::Named(name) => named(names, levels, here, log, out, want, tree, name),
+        Primary::Text(at) => text_at(scene.names, judge, at, want),
+        Primary::Target(at) => target_at(judge, at, scene.here.target),
+        Primary::Named(name) => named(judge, scene, want, name),
         Primary::Group {
             bracket,
             expr: inner,
-        } => match attempt!(expr(names, levels, here, log, out, want, tree, inner)) {
+        } => match attempt!(expr(judge, scene, want, inner)) {
             None => Ok(None),
-            Some(given) => grouped(log, out, bracket, given),
+            Some(given) => grouped(judge, bracket, given),
         },
         Primary::If {
             bracket,
@@ -240,19 +181,11 @@ fn primary(
             ..
         } => {
             let want = no_text(want);
-            if_expr(
-                names, levels, here, log, out, want, bracket, tree, test, value, more, otherwise,
-            )
+            if_expr(judge, scene, want, bracket, test, value, more, otherwise)
         }
-        Primary::Round { bracket, many } => {
-            aggregate(names, levels, here, log, out, want, bracket, tree, many)
-        }
-        Primary::Square { bracket, many } => {
-            aggregate(names, levels, here, log, out, want, bracket, tree, many)
-        }
-        Primary::OneValue { bracket, value } => {
-            one_value(names, levels, here, log, out, want, bracket, tree, value)
-        }
+        Primary::Round { bracket, many } => { aggregate(judge, scene, want, bracket, many) }
+        Primary::Square { bracket, many } => { aggregate(judge, scene, want, bracket, many) }
+        Primary::OneValue { bracket, value } => { one_value(judge, scene, want, bracket, value) }
         Primary::Reduction {
             bracket,
             values,
@@ -260,16 +193,12 @@ fn primary(
             reducer,
             initial,
         } => {
-            let given = tree.values(values);
+            let given = scene.tree.values(values);
             sequence(
-                names,
-                levels,
-                here,
-                log,
-                out,
+                judge,
+                scene,
                 bracket,
                 attribute,
-                tree,
                 given.parallel,
                 given.iter,
                 given.value,
@@ -283,21 +212,16 @@ fn primary(
 /// A name in so many brackets less one as may still be open: Limit where none may.
 #[cycle(levels)]
 pub fn name_inside(
-    names: &Names,
-    levels: u32,
-    here: &Context,
-    log: &mut Log,
-    out: &mut Parts,
-    tree: &Tree,
+    judge: &mut Judge,
+    scene: Scene<'_>,
     id: u32,
 ) -> Result<Option<Denoted>, AllocError>
-    ensures { Judges ((spec.inside names.now levels).name here.now (the_name (part_at tree.now.nodes id)) log.old) (parts out.old) result log.new (parts out.new) }
+    ensures { Judges ((below scene.entry).name scene.entry.here.now (the_name (node_at scene.entry id))) judge.old result judge.new }
 {
-    if levels == 0 {
-        let first = syntax_first_tokens::of_name(tree, id);
+    if scene.levels == 0 {
+        let first = syntax_first_tokens::of_name(scene.tree, id);
         return no_name(
-            log,
-            out,
+            judge,
             first,
             Rule::Limit {
                 which: 5,
@@ -305,5 +229,12 @@ pub fn name_inside(
             },
         );
     }
-    name(names, levels - 1, here, log, out, tree, id)
+    name(
+        judge,
+        Scene {
+            levels: scene.levels - 1,
+            ..scene
+        },
+        id,
+    )
 }

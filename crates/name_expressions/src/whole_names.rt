@@ -6,16 +6,17 @@ ghost use Rattle.typed_tree.specs.Decoded.{AnIteration};
 ghost use Rattle.typed_tree.specs.Syntax as typed;
 ghost use Rattle.typed_tree.specs.Latest.{fourth, pop, second, third, top};
 ghost use Rattle.name_expressions.specs.Reducing.{array_reduction_by, reduced_from, reducing_of, two_of};
-ghost use Rattle.name_rules.specs.Judges.{Judges, Says, found, found_of};
+ghost use Rattle.name_rules.specs.Judges.{Says, found, found_of};
+ghost use Rattle.name_values.specs.Judged.{Judges, JudgesOn, JudgesOne};
+ghost use Rattle.name_expressions.specs.Scenes.{named_at, node_at};
 ghost use Rattle.name_rules.specs.Judging.{fault, where_clean};
 ghost use Rattle.name_rules.specs.Names as name_rules_of;
 ghost use Rattle.name_rules.specs.Parts as spec;
-ghost use Rattle.name_rules.specs.Primaries as primaries;
 ghost use Rattle.name_rules.specs.TypedParts.{selections_of};
 ghost use Rattle.name_rules.specs.Types as types;
 ghost use Rattle.syntax_nodes.specs.Parts.{the_arg, the_args, the_expr, the_name, the_part, the_parts};
 ghost use Rattle.syntax_nodes.specs.Tables.{part_at};
-ghost use Rattle.typed_parts.specs.Stack.{parts as joined};
+ghost use Rattle.typed_parts.specs.Stack.{parts};
 
 use crate::attribute_rules::{
     attribute_at, attribute_found, dimensions_in, is_array_object, is_bound, is_reduction,
@@ -27,11 +28,13 @@ use crate::expressions::expr;
 use crate::indexes::{arg_alone, args_alone, object_call, wrong_call};
 use crate::output::io_call;
 use crate::reducers::reducer_of;
+use crate::scene::Scene;
 use name_rules::found::{Attribute, Denoted, Folding, Found, Going, Place, Prefix};
 use name_rules::log::{Log, Rule};
-use name_rules::scope::{Context, Names};
+use name_rules::scope::Context;
 use name_rules::types::{Subtype, Wanted};
 use name_values::attempt;
+use name_values::judge::{Finding, Judge};
 use name_values::logs::no_part;
 use name_values::names::{component_of, denoted_first, field, wrong_name};
 use name_values::reductions::folded_by;
@@ -70,7 +73,7 @@ fn site_where(
 
 /// Going through the components of an array, in place of its selections.
 fn through(log: &Log, out: &mut Parts, place: Place, number: u32) -> Result<(), AllocError>
-    ensures { OnOk result (joined out.new ≡ AnIteration (spec.through log.now place (selections_of (top (joined out.old))) (spec.array_shape log.now place.subtype) number typed.Absent) ∷ pop (joined out.old)) }
+    ensures { OnOk result (parts out.new ≡ AnIteration (spec.through log.now place (selections_of (top (parts out.old))) (spec.array_shape log.now place.subtype) number typed.Absent) ∷ pop (parts out.old)) }
 {
     attempt!(out.turn());
     attempt!(out.nothing());
@@ -116,22 +119,21 @@ fn item_of(first: u32, number: u32, variable: bool, subtype: Option<Subtype>) ->
 /// A reduction of a chunk specification, an iteration and a value, with an initial value that is the latest part.
 #[tactic(auto, unfolding(crate::specs::Reducing::reduced_from))]
 fn reduced_by(
-    log: &mut Log,
-    out: &mut Parts,
+    judge: &mut Judge,
     going: Going,
     by: Option<Folding>,
     value: Found,
     initial: Option<Found>,
 ) -> Result<Option<Denoted>, AllocError>
-    ensures { Judges (reduced_from going (fourth (joined out.old)) (third (joined out.old)) (found value (second (joined out.old))) by (found_of initial (top (joined out.old))) log.old) (pop (pop (pop (pop (joined out.old))))) result log.new (joined out.new) }
+    ensures { JudgesOn (pop (pop (pop (pop (parts judge.old.out))))) (reduced_from going (fourth (parts judge.old.out)) (third (parts judge.old.out)) (found value (second (parts judge.old.out))) by (found_of initial (top (parts judge.old.out)))) judge.old result judge.new }
 {
     let (Some(by), Some(initial)) = (by, initial) else {
-        out.leave_out();
-        out.leave_out();
-        out.leave_out();
+        judge.out.leave_out();
+        judge.out.leave_out();
+        judge.out.leave_out();
         return Ok(None);
     };
-    match attempt!(folded_by(log, out, going, by, value, initial)) {
+    match attempt!(folded_by(judge, going, by, value, initial)) {
         None => Ok(None),
         Some(found) => Ok(Some(Denoted::Value(found))),
     }
@@ -140,60 +142,52 @@ fn reduced_by(
 /// `A'Reduce (R, V)` (4.5.10), in place of A's selections.
 #[cycle(levels)]
 fn array_reduction(
-    names: &Names,
-    levels: u32,
-    here: &Context,
-    log: &mut Log,
-    out: &mut Parts,
+    judge: &mut Judge,
+    scene: Scene<'_>,
     place: Place,
     at: u32,
     attribute: Attribute,
-    tree: &Tree,
     reducer: u32,
     initial: u32,
 ) -> Result<Option<Denoted>, AllocError>
-    ensures { Judges (array_reduction_by names.now (primaries.inside names.now levels) here.now place (selections_of (top (joined out.old))) at attribute (the_expr (part_at tree.now.nodes reducer)) (the_expr (part_at tree.now.nodes initial)) log.old) (pop (joined out.old)) result log.new (joined out.new) }
+    ensures { JudgesOn (pop (parts judge.old.out)) (named_at scene.entry array_reduction_by place (selections_of (top (parts judge.old.out))) at attribute (the_expr (node_at scene.entry reducer)) (the_expr (node_at scene.entry initial))) judge.old result judge.new }
 {
     let first = place.first;
-    let site = attempt!(site_where(log, here, first, is_parallel(attribute)));
-    let number = attempt!(new_parameter(log));
-    let component = component_in(log, place.subtype);
-    attempt!(through(log, out, place, number));
-    attempt!(out.nothing());
-    attempt!(out.swap());
-    attempt!(out.nothing());
-    let by = attempt!(reducer_of(names, levels, here, log, out, tree, reducer));
-    let x = attempt!(expr(names, levels, here, log, out, Wanted::Other, tree, initial));
+    let numbered = attempt!(site_where(&mut judge.log, scene.here, first, is_parallel(attribute)));
+    let number = attempt!(new_parameter(&mut judge.log));
+    let component = component_in(&judge.log, place.subtype);
+    attempt!(through(&judge.log, &mut judge.out, place, number));
+    attempt!(judge.out.nothing());
+    attempt!(judge.out.swap());
+    attempt!(judge.out.nothing());
+    let by = attempt!(reducer_of(judge, scene, reducer));
+    let x = attempt!(expr(judge, scene, Wanted::Other, initial));
     let going = Going {
         at: first,
         attribute: at,
-        site,
+        site: numbered,
     };
     let value = item_of(first, number, place.variable, component);
-    reduced_by(log, out, going, by, value, x)
+    reduced_by(judge, going, by, value, x)
 }
 
 /// Arguments of a name that can't have them so, in place of the latest part: a fault where they have none.
 #[cycle(levels)]
 fn wrong_arguments(
-    names: &Names,
-    levels: u32,
-    here: &Context,
-    log: &mut Log,
-    out: &mut Parts,
+    judge: &mut Judge,
+    scene: Scene<'_>,
     at: u32,
     rule: Rule,
-    tree: &Tree,
     arg: u32,
     more: u32,
 ) -> Result<Option<Denoted>, AllocError>
-    ensures { Judges (where_clean (name_rules_of.args_alone names.now (primaries.inside names.now levels) here.now (syntax.AlsoArg (the_arg (part_at tree.now.nodes arg)) (the_args (part_at tree.now.nodes more)))) (λ u. fault at rule) log.old) (pop (joined out.old)) result log.new (joined out.new) }
+    ensures { JudgesOn (pop (parts judge.old.out)) (where_clean (named_at scene.entry name_rules_of.args_alone (syntax.AlsoArg (the_arg (node_at scene.entry arg)) (the_args (node_at scene.entry more)))) (λ u. fault at rule)) judge.old result judge.new }
 {
-    let before = log.faults.len();
-    attempt!(arg_alone(names, levels, here, log, out, tree, arg));
-    attempt!(args_alone(names, levels, here, log, out, tree, more));
-    if log.faults.len() == before {
-        wrong_name(log, out, at, rule)
+    let before = judge.log.faults.len();
+    attempt!(arg_alone(judge, scene, arg));
+    attempt!(args_alone(judge, scene, more));
+    if judge.log.faults.len() == before {
+        wrong_name(judge, at, rule)
     } else {
         Ok(None)
     }
@@ -233,140 +227,77 @@ fn two_unnamed(tree: &Tree, arg: u32, more: u32) -> Option<Reducing>
 #[cycle(levels)]
 #[tactic(auto, using(crate::proofs::Reducing::reduced_same))]
 fn array_reduced(
-    names: &Names,
-    levels: u32,
-    here: &Context,
-    log: &mut Log,
-    out: &mut Parts,
+    judge: &mut Judge,
+    scene: Scene<'_>,
     place: Place,
     at: u32,
     attribute: Attribute,
     bracket: u32,
-    tree: &Tree,
     arg: u32,
     more: u32,
 ) -> Result<Option<Denoted>, AllocError>
-    ensures { Judges (spec.array_reduced names.now (primaries.inside names.now levels) here.now place (selections_of (top (joined out.old))) at attribute bracket (syntax.AlsoArg (the_arg (part_at tree.now.nodes arg)) (the_args (part_at tree.now.nodes more))) log.old) (pop (joined out.old)) result log.new (joined out.new) }
+    ensures { JudgesOn (pop (parts judge.old.out)) (named_at scene.entry spec.array_reduced place (selections_of (top (parts judge.old.out))) at attribute bracket (syntax.AlsoArg (the_arg (node_at scene.entry arg)) (the_args (node_at scene.entry more)))) judge.old result judge.new }
 {
-    match two_unnamed(tree, arg, more) {
-        Some(two) => array_reduction(
-            names,
-            levels,
-            here,
-            log,
-            out,
-            place,
-            at,
-            attribute,
-            tree,
-            two.reducer,
-            two.initial,
-        ),
-        None => wrong_arguments(
-            names,
-            levels,
-            here,
-            log,
-            out,
-            bracket,
-            Rule::WrongType,
-            tree,
-            arg,
-            more,
-        ),
+    match two_unnamed(scene.tree, arg, more) {
+        Some(two) => array_reduction(judge, scene, place, at, attribute, two.reducer, two.initial),
+        None => wrong_arguments(judge, scene, bracket, Rule::WrongType, arg, more),
     }
 }
 
 #[cycle(levels)]
 fn reduced_with(
-    names: &Names,
-    levels: u32,
-    here: &Context,
-    log: &mut Log,
-    out: &mut Parts,
+    judge: &mut Judge,
+    scene: Scene<'_>,
     first: u32,
     prefix: Prefix,
     at: u32,
     attribute: Attribute,
     bracket: u32,
     is_array: bool,
-    tree: &Tree,
     arg: u32,
     more: u32,
 ) -> Result<Option<Denoted>, AllocError>
-    ensures { Judges (spec.reduced_with names.now (primaries.inside names.now levels) here.now first prefix (top (joined out.old)) at attribute bracket (syntax.AlsoArg (the_arg (part_at tree.now.nodes arg)) (the_args (part_at tree.now.nodes more))) is_array log.old) (pop (joined out.old)) result log.new (joined out.new) }
+    ensures { JudgesOn (pop (parts judge.old.out)) (named_at scene.entry spec.reduced_with first prefix (top (parts judge.old.out)) at attribute bracket (syntax.AlsoArg (the_arg (node_at scene.entry arg)) (the_args (node_at scene.entry more))) is_array) judge.old result judge.new }
 {
     match prefix {
         Prefix::Object(place) => {
             if is_array {
-                array_reduced(
-                    names, levels, here, log, out, place, at, attribute, bracket, tree, arg, more,
-                )
+                array_reduced(judge, scene, place, at, attribute, bracket, arg, more)
             } else {
-                wrong_arguments(
-                    names,
-                    levels,
-                    here,
-                    log,
-                    out,
-                    at,
-                    Rule::ReduceRule,
-                    tree,
-                    arg,
-                    more,
-                )
+                wrong_arguments(judge, scene, at, Rule::ReduceRule, arg, more)
             }
         }
-        _ => wrong_arguments(
-            names,
-            levels,
-            here,
-            log,
-            out,
-            at,
-            Rule::ReduceRule,
-            tree,
-            arg,
-            more,
-        ),
+        _ => wrong_arguments(judge, scene, at, Rule::ReduceRule, arg, more),
     }
 }
 
 /// An attribute of a range with a dimension (3.6.2), or one that takes no arguments.
 #[cycle(levels)]
 fn of_array(
-    names: &Names,
-    levels: u32,
-    here: &Context,
-    log: &mut Log,
-    out: &mut Parts,
+    judge: &mut Judge,
+    scene: Scene<'_>,
     first: u32,
     prefix: Prefix,
     at: u32,
     attribute: Attribute,
     bracket: u32,
-    tree: &Tree,
     arg: u32,
     more: u32,
 ) -> Result<Option<Denoted>, AllocError>
-    ensures { Judges (spec.of_array names.now (primaries.inside names.now levels) here.now first prefix (top (joined out.old)) at attribute bracket (syntax.AlsoArg (the_arg (part_at tree.now.nodes arg)) (the_args (part_at tree.now.nodes more))) log.old) (pop (joined out.old)) result log.new (joined out.new) }
+    ensures { JudgesOn (pop (parts judge.old.out)) (named_at scene.entry spec.of_array first prefix (top (parts judge.old.out)) at attribute bracket (syntax.AlsoArg (the_arg (node_at scene.entry arg)) (the_args (node_at scene.entry more)))) judge.old result judge.new }
 {
     if !is_bound(attribute) {
-        return wrong_call(names, levels, here, log, out, first, tree, arg, more);
+        return wrong_call(judge, scene, first, arg, more);
     }
-    attempt!(mentioned(out, prefix));
-    let dimensions = attempt!(dimensions_in(log, out, prefix_subtype(prefix)));
+    attempt!(mentioned(&mut judge.out, prefix));
+    let dimensions = attempt!(dimensions_in(&judge.log, &judge.out, prefix_subtype(prefix)));
     bound_with(
-        names,
-        levels,
-        here,
-        log,
-        out,
+        judge,
+        scene,
         first,
         attribute,
         bracket,
         &dimensions,
-        tree,
         arg,
         more,
     )
@@ -374,28 +305,24 @@ fn of_array(
 
 #[cycle(levels)]
 fn other_with(
-    names: &Names,
-    levels: u32,
-    here: &Context,
-    log: &mut Log,
-    out: &mut Parts,
+    judge: &mut Judge,
+    scene: Scene<'_>,
     first: u32,
     prefix: Prefix,
     at: u32,
     attribute: Attribute,
     bracket: u32,
-    tree: &Tree,
     arg: u32,
     more: u32,
 ) -> Result<Option<Denoted>, AllocError>
-    ensures { Judges (spec.other_with names.now (primaries.inside names.now levels) here.now first prefix (top (joined out.old)) at attribute bracket (syntax.AlsoArg (the_arg (part_at tree.now.nodes arg)) (the_args (part_at tree.now.nodes more))) log.old) (pop (joined out.old)) result log.new (joined out.new) }
+    ensures { JudgesOn (pop (parts judge.old.out)) (named_at scene.entry spec.other_with first prefix (top (parts judge.old.out)) at attribute bracket (syntax.AlsoArg (the_arg (node_at scene.entry arg)) (the_args (node_at scene.entry more)))) judge.old result judge.new }
 {
     match prefix {
         Prefix::Type(Subtype::Scalar(scalar)) => scalar_with(
-            names, levels, here, log, out, first, scalar, attribute, bracket, tree, arg, more,
+            judge, scene, first, scalar, attribute, bracket, arg, more,
         ),
         _ => of_array(
-            names, levels, here, log, out, first, prefix, at, attribute, bracket, tree, arg, more,
+            judge, scene, first, prefix, at, attribute, bracket, arg, more,
         ),
     }
 }
@@ -403,31 +330,26 @@ fn other_with(
 /// An attribute with what stands in the bracket behind it, in place of its prefix's part.
 #[cycle(levels)]
 fn attribute_with(
-    names: &Names,
-    levels: u32,
-    here: &Context,
-    log: &mut Log,
-    out: &mut Parts,
+    judge: &mut Judge,
+    scene: Scene<'_>,
     first: u32,
     prefix: Prefix,
     at: u32,
     attribute: Attribute,
     bracket: u32,
-    tree: &Tree,
     arg: u32,
     more: u32,
 ) -> Result<Option<Denoted>, AllocError>
-    ensures { Judges (spec.attribute_with names.now (primaries.inside names.now levels) here.now first prefix (top (joined out.old)) at attribute bracket (syntax.AlsoArg (the_arg (part_at tree.now.nodes arg)) (the_args (part_at tree.now.nodes more))) log.old) (pop (joined out.old)) result log.new (joined out.new) }
+    ensures { JudgesOn (pop (parts judge.old.out)) (named_at scene.entry spec.attribute_with first prefix (top (parts judge.old.out)) at attribute bracket (syntax.AlsoArg (the_arg (node_at scene.entry arg)) (the_args (node_at scene.entry more)))) judge.old result judge.new }
 {
     if is_reduction(attribute) {
-        let is_array = is_array_object(log, prefix);
+        let is_array = is_array_object(&judge.log, prefix);
         return reduced_with(
-            names, levels, here, log, out, first, prefix, at, attribute, bracket, is_array, tree,
-            arg, more,
+            judge, scene, first, prefix, at, attribute, bracket, is_array, arg, more,
         );
     }
     other_with(
-        names, levels, here, log, out, first, prefix, at, attribute, bracket, tree, arg, more,
+        judge, scene, first, prefix, at, attribute, bracket, arg, more,
     )
 }
 
@@ -435,45 +357,33 @@ fn attribute_with(
 #[cycle(levels)]
 #[tactic(auto, unfolding(name_rules::specs::Parts::call))]
 fn call(
-    names: &Names,
-    levels: u32,
-    here: &Context,
-    log: &mut Log,
-    out: &mut Parts,
+    judge: &mut Judge,
+    scene: Scene<'_>,
     bracket: u32,
     denoted: Denoted,
-    tree: &Tree,
     arg: u32,
     more: u32,
 ) -> Result<Option<Denoted>, AllocError>
-    ensures { Judges (spec.call names.now (primaries.inside names.now levels) here.now bracket (syntax.AlsoArg (the_arg (part_at tree.now.nodes arg)) (the_args (part_at tree.now.nodes more))) (found denoted (top (joined out.old))) log.old) (pop (joined out.old)) result log.new (joined out.new) }
+    ensures { JudgesOne (named_at scene.entry spec.call bracket (syntax.AlsoArg (the_arg (node_at scene.entry arg)) (the_args (node_at scene.entry more)))) (found denoted) judge.old result judge.new }
 {
     match denoted {
         Denoted::Value(Found::Object(place)) => {
-            object_call(
-                names, levels, here, log, out, place, bracket, tree, arg, more,
-            )
+            object_call(judge, scene, place, bracket, arg, more)
         }
         Denoted::Type { first, subtype } => {
-            conversion(
-                names, levels, here, log, out, bracket, first, subtype, tree, arg, more,
-            )
+            conversion(judge, scene, bracket, first, subtype, arg, more)
         }
         Denoted::Sub {
             first,
             callee,
             number,
         } => sub_call(
-            names,
-            levels,
-            here,
-            log,
-            out,
+            judge,
+            scene,
             bracket,
             first,
             callee,
             number,
-            tree,
             Some(arg),
             more,
         ),
@@ -483,17 +393,13 @@ fn call(
             put,
             reach,
         } => io_call(
-            names,
-            levels,
-            here,
-            log,
-            out,
+            judge,
+            scene,
             bracket,
             first,
             callee,
             put,
             reach,
-            tree,
             Some(arg),
             more,
         ),
@@ -503,19 +409,9 @@ fn call(
             at,
             attribute,
         } => attribute_with(
-            names, levels, here, log, out, first, prefix, at, attribute, bracket, tree, arg, more,
+            judge, scene, first, prefix, at, attribute, bracket, arg, more,
         ),
-        _ => wrong_call(
-            names,
-            levels,
-            here,
-            log,
-            out,
-            denoted_first(denoted),
-            tree,
-            arg,
-            more,
-        ),
+        _ => wrong_call(judge, scene, denoted_first(denoted), arg, more),
     }
 }
 
@@ -523,57 +419,43 @@ fn call(
 #[cycle(levels)]
 #[tactic(auto, unfolding(name_rules::specs::Parts::part_of))]
 fn part_of(
-    names: &Names,
-    levels: u32,
-    here: &Context,
-    log: &mut Log,
-    out: &mut Parts,
+    judge: &mut Judge,
+    scene: Scene<'_>,
     denoted: Denoted,
-    tree: &Tree,
     id: u32,
 ) -> Result<Option<Denoted>, AllocError>
-    ensures { Judges (spec.part_of names.now (primaries.inside names.now levels) here.now (the_part (part_at tree.now.nodes id)) (found denoted (top (joined out.old))) log.old) (pop (joined out.old)) result log.new (joined out.new) }
+    ensures { JudgesOne (named_at scene.entry spec.part_of (the_part (node_at scene.entry id))) (found denoted) judge.old result judge.new }
 {
-    match tree.name_part(id) {
+    match scene.tree.name_part(id) {
         NamePart::Call {
             bracket,
             first,
             more,
-        } => call(
-            names, levels, here, log, out, bracket, denoted, tree, first, more,
-        ),
-        NamePart::Field(at) => match attempt!(settled_attribute(log, out, denoted)) {
+        } => call(judge, scene, bracket, denoted, first, more),
+        NamePart::Field(at) => match attempt!(settled_attribute(judge, denoted)) {
             None => Ok(None),
-            Some(whole) => field(names, here, log, out, at, whole),
+            Some(whole) => field(scene.names, scene.here, judge, at, whole),
         },
-        NamePart::Attribute(at) => match attempt!(settled_attribute(log, out, denoted)) {
+        NamePart::Attribute(at) => match attempt!(settled_attribute(judge, denoted)) {
             None => Ok(None),
-            Some(whole) => attribute_found(log, out, whole, at, attribute_at(symbol(names, at))),
+            Some(whole) => attribute_found(judge, whole, at, attribute_at(symbol(scene.names, at))),
         },
-        NamePart::RangeAttribute(at) => match attempt!(settled_attribute(log, out, denoted)) {
+        NamePart::RangeAttribute(at) => match attempt!(settled_attribute(judge, denoted)) {
             None => Ok(None),
-            Some(whole) => attribute_found(log, out, whole, at, Some(Attribute::Range)),
+            Some(whole) => attribute_found(judge, whole, at, Some(Attribute::Range)),
         },
     }
 }
 
 /// A part behind one with a fault: its arguments are judged for themselves alone.
 #[cycle(levels)]
-fn part_alone(
-    names: &Names,
-    levels: u32,
-    here: &Context,
-    log: &mut Log,
-    out: &mut Parts,
-    tree: &Tree,
-    id: u32,
-) -> Result<Option<Denoted>, AllocError>
-    ensures { Judges (spec.part_alone names.now (primaries.inside names.now levels) here.now (the_part (part_at tree.now.nodes id)) log.old) (pop (joined out.old)) result log.new (joined out.new) }
+fn part_alone(judge: &mut Judge, scene: Scene<'_>, id: u32) -> Result<Option<Denoted>, AllocError>
+    ensures { JudgesOn (pop (parts judge.old.out)) (named_at scene.entry spec.part_alone (the_part (node_at scene.entry id))) judge.old result judge.new }
 {
-    match tree.name_part(id) {
+    match scene.tree.name_part(id) {
         NamePart::Call { first, more, .. } => {
-            arg_alone(names, levels, here, log, out, tree, first)?;
-            args_alone(names, levels, here, log, out, tree, more)?;
+            arg_alone(judge, scene, first)?;
+            args_alone(judge, scene, more)?;
             Ok(None)
         }
         NamePart::Field(_) => Ok(None),
@@ -584,40 +466,32 @@ fn part_alone(
 
 #[cycle(levels)]
 fn next_part(
-    names: &Names,
-    levels: u32,
-    here: &Context,
-    log: &mut Log,
-    out: &mut Parts,
+    judge: &mut Judge,
+    scene: Scene<'_>,
     before: Option<Denoted>,
-    tree: &Tree,
     id: u32,
 ) -> Result<Option<Denoted>, AllocError>
-    ensures { Judges (spec.next_part names.now (primaries.inside names.now levels) here.now (found_of before (top (joined out.old))) (the_part (part_at tree.now.nodes id)) log.old) (pop (joined out.old)) result log.new (joined out.new) }
+    ensures { JudgesOne (λ x. named_at scene.entry spec.next_part x (the_part (node_at scene.entry id))) (found_of before) judge.old result judge.new }
 {
     match before {
-        None => part_alone(names, levels, here, log, out, tree, id),
-        Some(denoted) => part_of(names, levels, here, log, out, denoted, tree, id),
+        None => part_alone(judge, scene, id),
+        Some(denoted) => part_of(judge, scene, denoted, id),
     }
 }
 
 #[cycle(levels)]
 fn parts(
-    names: &Names,
-    levels: u32,
-    here: &Context,
-    log: &mut Log,
-    out: &mut Parts,
+    judge: &mut Judge,
+    scene: Scene<'_>,
     before: Option<Denoted>,
-    tree: &Tree,
     more: u32,
 ) -> Result<Option<Denoted>, AllocError>
-    ensures { Judges (spec.parts names.now (primaries.inside names.now levels) here.now (found_of before (top (joined out.old))) (the_parts (part_at tree.now.nodes more)) log.old) (pop (joined out.old)) result log.new (joined out.new) }
+    ensures { JudgesOne (λ x. named_at scene.entry spec.parts x (the_parts (node_at scene.entry more))) (found_of before) judge.old result judge.new }
 {
     let mut d = before;
     let mut next = more;
-    'parts: while let Some(cell) = tree.cell(next) {
-        d = attempt!(next_part(names, levels, here, log, out, d, tree, cell.first));
+    'parts: while let Some(cell) = scene.tree.cell(next) {
+        d = attempt!(next_part(judge, scene, d, cell.first));
         next = cell.rest;
     }
     Ok(d)
@@ -627,22 +501,14 @@ fn parts(
 /// for their arguments alone.
 #[cycle(levels)]
 #[tactic(auto, unfolding(name_rules::specs::Parts::name))]
-pub fn name(
-    names: &Names,
-    levels: u32,
-    here: &Context,
-    log: &mut Log,
-    out: &mut Parts,
-    tree: &Tree,
-    id: u32,
-) -> Result<Option<Denoted>, AllocError>
-    ensures { Judges (spec.name names.now (primaries.inside names.now levels) here.now (the_name (part_at tree.now.nodes id)) log.old) (joined out.old) result log.new (joined out.new) }
+pub fn name(judge: &mut Judge, scene: Scene<'_>, id: u32) -> Result<Option<Denoted>, AllocError>
+    ensures { Judges (named_at scene.entry spec.name (the_name (node_at scene.entry id))) judge.old result judge.new }
 {
-    let whole = tree.name(id);
-    let d = attempt!(stands_for(names, here, log, out, whole.first));
-    match attempt!(parts(names, levels, here, log, out, d, tree, whole.parts)) {
+    let whole = scene.tree.name(id);
+    let d = attempt!(stands_for(scene.names, scene.here, judge, whole.first));
+    match attempt!(parts(judge, scene, d, whole.parts)) {
         None => Ok(None),
-        Some(denoted) => settled_attribute(log, out, denoted),
+        Some(denoted) => settled_attribute(judge, denoted),
     }
 }
 
@@ -650,38 +516,30 @@ pub fn name(
 #[cycle(levels)]
 #[tactic(auto, unfolding(name_rules::specs::Parts::valued_by))]
 pub fn valued_by(
-    names: &Names,
-    levels: u32,
-    here: &Context,
-    log: &mut Log,
-    out: &mut Parts,
+    judge: &mut Judge,
+    scene: Scene<'_>,
     denoted: Denoted,
-    tree: &Tree,
 ) -> Result<Option<Denoted>, AllocError>
-    ensures { Judges (spec.valued_by names.now (primaries.inside names.now levels) here.now (found denoted (top (joined out.old))) log.old) (pop (joined out.old)) result log.new (joined out.new) }
+    ensures { JudgesOne (named_at scene.entry spec.valued_by) (found denoted) judge.old result judge.new }
 {
     match denoted {
         Denoted::Sub {
             first,
             callee,
             number,
-        } => sub_call(
-            names, levels, here, log, out, first, first, callee, number, tree, None, 0,
-        ),
+        } => sub_call(judge, scene, first, first, callee, number, None, 0),
         Denoted::Io {
             first,
             callee,
             put,
             reach,
-        } => io_call(
-            names, levels, here, log, out, first, first, callee, put, reach, tree, None, 0,
-        ),
+        } => io_call(judge, scene, first, first, callee, put, reach, None, 0),
         _ => Ok(Some(denoted)),
     }
 }
 
-fn value_form(log: &mut Log, out: &Parts, denoted: Denoted) -> Result<Option<Found>, AllocError>
-    ensures { Judges (spec.value_form denoted (top (joined out.now)) log.old) (pop (joined out.now)) result log.new (joined out.now) }
+fn value_form(judge: &mut Judge, denoted: Denoted) -> Finding
+    ensures { JudgesOn (pop (parts judge.old.out)) (spec.value_form denoted (top (parts judge.old.out))) judge.old result judge.new }
 {
     match denoted {
         Denoted::Value(given) => Ok(Some(given)),
@@ -690,29 +548,21 @@ fn value_form(log: &mut Log, out: &Parts, denoted: Denoted) -> Result<Option<Fou
             kind: scalar.kind,
             nominal: Some(scalar),
         })),
-        _ => no_part(log, out, denoted_first(denoted), Rule::WrongType),
+        _ => no_part(judge, denoted_first(denoted), Rule::WrongType),
     }
 }
 
 /// The value of a name: WrongType at its first token where it has none.
 #[cycle(levels)]
 #[tactic(auto, unfolding(name_rules::specs::Parts::value_named))]
-pub fn value_named(
-    names: &Names,
-    levels: u32,
-    here: &Context,
-    log: &mut Log,
-    out: &mut Parts,
-    tree: &Tree,
-    id: u32,
-) -> Result<Option<Found>, AllocError>
-    ensures { Judges (spec.value_named names.now (primaries.inside names.now levels) here.now (the_name (part_at tree.now.nodes id)) log.old) (joined out.old) result log.new (joined out.new) }
+pub fn value_named(judge: &mut Judge, scene: Scene<'_>, id: u32) -> Finding
+    ensures { Judges (named_at scene.entry spec.value_named (the_name (node_at scene.entry id))) judge.old result judge.new }
 {
-    match attempt!(name(names, levels, here, log, out, tree, id)) {
+    match attempt!(name(judge, scene, id)) {
         None => Ok(None),
-        Some(denoted) => match attempt!(valued_by(names, levels, here, log, out, denoted, tree)) {
+        Some(denoted) => match attempt!(valued_by(judge, scene, denoted)) {
             None => Ok(None),
-            Some(value) => value_form(log, out, value),
+            Some(value) => value_form(judge, value),
         },
     }
 }

@@ -2,7 +2,9 @@ pub mod Around
 pub mod DeclarationSteps
 pub mod Declares
 pub mod Forms
+pub mod Kept
 pub mod Nested
 pub mod OneObject
 pub mod Resolving
 pub mod SubprogramSteps
+pub mod Texts

@@ -1,80 +1,69 @@
 //! Array types (3.6). What their bounds mention is their part.
 
-ghost use Rattle.std.specs.Prelude.{◌≡◌, ◌∷◌, OnOk};
+ghost use Rattle.std.specs.Prelude.{◌≡◌, ◌∷◌};
 ghost use Rattle.name_programs.specs.Declares.{Extends, dimensions_if};
 ghost use Rattle.name_programs.specs.DeclarationSteps as step;
 ghost use Rattle.name_rules.specs.Declarations as spec;
-ghost use Rattle.name_rules.specs.Judges.{Judges, Says, found};
-ghost use Rattle.name_rules.specs.Primaries as primaries;
+ghost use Rattle.name_rules.specs.Judges.{Says, found};
 ghost use Rattle.syntax_nodes.specs.Parts.{the_array, the_range, the_ranges};
-ghost use Rattle.syntax_nodes.specs.Tables.{part_at};
 ghost use Rattle.typed_tree.specs.Latest.{pop, second, top};
 ghost use Rattle.typed_parts.specs.Stack.{parts};
+ghost use Rattle.name_values.specs.Judged.{Judges, JudgesOn};
+ghost use Rattle.name_expressions.specs.Scenes.{named_at, node_at, said_at};
 
 use crate::subtypes::indic;
 use ada_base::Items;
 use name_expressions::choices::static_range;
+use name_expressions::scene::Scene;
 use name_rules::log::{Dimension, Log, Rule, Shape};
-use name_rules::scope::{Context, Names};
 use name_rules::types::Subtype;
 use name_values::arrays::array_cells;
 use name_values::attempt;
+use name_values::judge::Judge;
 use name_values::logs::{also_all, breaks};
 use name_values::names::cells_in;
 use name_values::types::{number_of, written_shape};
 use std::alloc::AllocError;
-use syntax_nodes::Tree;
-use typed_parts::Parts;
 
 /// One more dimension of an array, and what it mentions.
 #[tactic(auto, using(crate::proofs::Options::joined_none))]
 fn dimension(
-    names: &Names,
-    levels: u32,
-    here: &Context,
-    log: &mut Log,
-    out: &mut Parts,
+    judge: &mut Judge,
+    scene: Scene<'_>,
     done: bool,
     dimensions: &mut Items<Dimension>,
-    tree: &Tree,
     id: u32,
 ) -> Result<bool, AllocError>
-    ensures { Extends (step.dimension (primaries.inside names.now levels) here.now (dimensions_if done dimensions.old (top (parts out.old))) (the_range (part_at tree.now.nodes id)) log.old) (pop (parts out.old)) result dimensions.new log.new (parts out.new) }
+    ensures { Extends (said_at scene.entry step.dimension (dimensions_if done dimensions.old (top (parts judge.old.out))) (the_range (node_at scene.entry id)) judge.old.log) (pop (parts judge.old.out)) result dimensions.new judge.new.log (parts judge.new.out) }
 {
-    let found = attempt!(static_range(names, levels, here, log, out, true, None, tree, id));
+    let found = attempt!(static_range(judge, scene, true, None, id));
     let Some(found) = found else {
-        out.leave_out();
+        judge.out.leave_out();
         return Ok(false);
     };
     if !done {
-        out.leave_out();
+        judge.out.leave_out();
         return Ok(false);
     }
     attempt!(dimensions.push(found));
-    attempt!(also_all(out));
+    attempt!(also_all(&mut judge.out));
     Ok(true)
 }
 
 /// The dimensions of an array behind those so far, with what they mention.
 fn dimensions_from(
-    names: &Names,
-    levels: u32,
-    here: &Context,
-    log: &mut Log,
-    out: &mut Parts,
+    judge: &mut Judge,
+    scene: Scene<'_>,
     done: bool,
     dimensions: &mut Items<Dimension>,
-    tree: &Tree,
     more: u32,
 ) -> Result<bool, AllocError>
-    ensures { Extends (spec.dimensions_from (primaries.inside names.now levels) here.now (dimensions_if done dimensions.old (top (parts out.old))) (the_ranges (part_at tree.now.nodes more)) log.old) (pop (parts out.old)) result dimensions.new log.new (parts out.new) }
+    ensures { Extends (said_at scene.entry spec.dimensions_from (dimensions_if done dimensions.old (top (parts judge.old.out))) (the_ranges (node_at scene.entry more)) judge.old.log) (pop (parts judge.old.out)) result dimensions.new judge.new.log (parts judge.new.out) }
 {
     let mut whole = done;
     let mut next = more;
-    'all: while let Some(cell) = tree.cell(next) {
-        whole = attempt!(dimension(
-            names, levels, here, log, out, whole, dimensions, tree, cell.first,
-        ));
+    'all: while let Some(cell) = scene.tree.cell(next) {
+        whole = attempt!(dimension(judge, scene, whole, dimensions, cell.first));
         next = cell.rest;
     }
     Ok(whole)
@@ -106,21 +95,20 @@ fn array_written(
 /// at the word `array` where there are more than four dimensions.
 #[tactic(auto, using(crate::proofs::Options::indicated_found))]
 fn array_given(
-    log: &mut Log,
-    out: &mut Parts,
+    judge: &mut Judge,
     at: u32,
     dimensions: Items<Dimension>,
     component: Subtype,
 ) -> Result<Option<Subtype>, AllocError>
-    ensures { Judges (spec.array_given at (record { dimensions = dimensions; mentions = second (parts out.old) }) (found component (top (parts out.old))) log.old) (pop (pop (parts out.old))) result log.new (parts out.new) }
+    ensures { JudgesOn (pop (pop (parts judge.old.out))) (spec.array_given at (record { dimensions = dimensions; mentions = second (parts judge.old.out) }) (found component (top (parts judge.old.out)))) judge.old result judge.new }
 {
     let count = dimensions.len();
-    attempt!(also_all(out));
+    attempt!(also_all(&mut judge.out));
     if count <= 4 {
-        array_written(log, dimensions, component)
+        array_written(&mut judge.log, dimensions, component)
     } else {
         attempt!(breaks(
-            log,
+            &mut judge.log,
             at,
             Rule::Limit {
                 which: 4,
@@ -133,38 +121,26 @@ fn array_given(
 
 /// An array type: NotStatic, StaticRange at its bounds; Limit at the word `array`.
 #[tactic(auto, unfolding(name_rules::specs::Declarations::array))]
-pub fn array(
-    names: &Names,
-    levels: u32,
-    here: &Context,
-    log: &mut Log,
-    out: &mut Parts,
-    tree: &Tree,
-    id: u32,
-) -> Result<Option<Subtype>, AllocError>
-    ensures { Judges (spec.array names.now (primaries.inside names.now levels) here.now (the_array (part_at tree.now.nodes id)) log.old) (parts out.old) result log.new (parts out.new) }
+pub fn array(judge: &mut Judge, scene: Scene<'_>, id: u32) -> Result<Option<Subtype>, AllocError>
+    ensures { Judges (named_at scene.entry spec.array (the_array (node_at scene.entry id))) judge.old result judge.new }
 {
-    let view = tree.array(id);
-    let mut all = Items::new(out.alloc());
-    attempt!(out.nothing());
-    let first = attempt!(dimension(
-        names, levels, here, log, out, true, &mut all, tree, view.first,
-    ));
-    let whole = attempt!(dimensions_from(
-        names, levels, here, log, out, first, &mut all, tree, view.more,
-    ));
-    let component = attempt!(indic(names, levels, here, log, out, tree, view.component));
+    let view = scene.tree.array(id);
+    let mut all = Items::new(judge.out.alloc());
+    attempt!(judge.out.nothing());
+    let first = attempt!(dimension(judge, scene, true, &mut all, view.first));
+    let whole = attempt!(dimensions_from(judge, scene, first, &mut all, view.more));
+    let component = attempt!(indic(judge, scene, view.component));
     if !whole {
-        out.leave_out();
+        judge.out.leave_out();
         return Ok(None);
     }
     match component {
         None => {
-            out.leave_out();
+            judge.out.leave_out();
             Ok(None)
         }
         Some(component) => {
-            let written = attempt!(array_given(log, out, view.at, all, component));
+            let written = attempt!(array_given(judge, view.at, all, component));
             Ok(written)
         }
     }

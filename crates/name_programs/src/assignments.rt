@@ -3,67 +3,58 @@
 ghost use Rattle.std.specs.Prelude.{◌≡◌, OnOk};
 ghost use Rattle.typed_tree.specs.Decoded.{as_selections};
 ghost use Rattle.typed_tree.specs.Latest.{pop, second, top};
-ghost use Rattle.name_rules.specs.Judges.{Gives, found, found_of};
-ghost use Rattle.name_rules.specs.Primaries.{inside};
+ghost use Rattle.name_rules.specs.Judges.{found, found_of};
 ghost use Rattle.name_rules.specs.Statements as spec;
 ghost use Rattle.name_rules.specs.TypedParts.{selections_of};
-ghost use Rattle.name_programs.specs.Around.{Keeps};
 ghost use Rattle.syntax_nodes.specs.Parts.{the_expr, the_name};
-ghost use Rattle.syntax_nodes.specs.Tables.{part_at};
 ghost use Rattle.typed_parts.specs.Stack.{parts};
+ghost use Rattle.name_values.specs.Judged.{Gives, GivesOn};
+ghost use Rattle.name_expressions.specs.Scenes.{named_at, node_at};
+ghost use Rattle.name_programs.specs.Kept.{Keeps, KeepsOn};
+ghost use Rattle.name_programs.specs.Texts.{brackets, node_of};
 
+use crate::scene_at;
+use crate::text::Text;
 use name_expressions::expressions::{expr, judged_alone};
 use name_expressions::primaries::name_inside;
+use name_expressions::scene::Scene;
 use name_expressions::whole_names::valued_by;
 use name_rules::found::{Denoted, Found, Place};
-use name_rules::log::{Log, Rule};
-use name_rules::scope::{Context, Names, Target};
+use name_rules::log::Rule;
+use name_rules::scope::{Context, Target};
 use name_values::attempt;
+use name_values::judge::{Giving, Judge};
 use name_values::logs::not_given;
 use name_values::names::denoted_first;
 use name_values::types::wanted_of;
 use name_values::values::stored;
 use std::alloc::AllocError;
-use syntax_nodes::Tree;
-use typed_parts::Parts;
 
 /// A value that was found for a variable, whose selections are the part before it.
-fn stored_place(
-    log: &mut Log,
-    out: &mut Parts,
-    place: Place,
-    at: u32,
-    given: Found,
-) -> Result<bool, AllocError>
-    ensures { Gives (spec.stored_place place (as_selections (second (parts out.old))) at (found given (top (parts out.old))) log.old) (pop (pop (parts out.old))) result log.new (parts out.new) }
+fn stored_place(judge: &mut Judge, place: Place, at: u32, given: Found) -> Giving
+    ensures { GivesOn (pop (pop (parts judge.old.out))) (spec.stored_place place (as_selections (second (parts judge.old.out))) at (found given (top (parts judge.old.out)))) judge.old result judge.new }
 {
-    if !attempt!(stored(log, out, place.subtype, at, given)) {
-        out.leave_out();
+    if !attempt!(stored(judge, place.subtype, at, given)) {
+        judge.out.leave_out();
         return Ok(false);
     }
-    attempt!(out.assign(place.first, place.root));
+    attempt!(judge.out.assign(place.first, place.root));
     Ok(true)
 }
 
-fn assigned_place(
-    log: &mut Log,
-    out: &mut Parts,
-    place: Place,
-    at: u32,
-    given: Option<Found>,
-) -> Result<bool, AllocError>
-    ensures { Gives (spec.assigned_place place (as_selections (second (parts out.old))) at (found_of given (top (parts out.old))) log.old) (pop (pop (parts out.old))) result log.new (parts out.new) }
+fn assigned_place(judge: &mut Judge, place: Place, at: u32, given: Option<Found>) -> Giving
+    ensures { GivesOn (pop (pop (parts judge.old.out))) (spec.assigned_place place (as_selections (second (parts judge.old.out))) at (found_of given (top (parts judge.old.out)))) judge.old result judge.new }
 {
     if !place.variable {
-        out.leave_out();
-        return not_given(log, out, place.first, Rule::WrongType);
+        judge.out.leave_out();
+        return not_given(judge, place.first, Rule::WrongType);
     }
     match given {
         None => {
-            out.leave_out();
+            judge.out.leave_out();
             Ok(false)
         }
-        Some(given) => stored_place(log, out, place, at, given),
+        Some(given) => stored_place(judge, place, at, given),
     }
 }
 
@@ -71,150 +62,125 @@ fn assigned_place(
 /// it is no variable. The check of the value stands at `:=`, the token before the value.
 #[tactic(auto, unfolding(name_rules::specs::Statements::assign_place))]
 fn assign_place(
-    names: &Names,
-    levels: u32,
+    judge: &mut Judge,
+    text: Text<'_>,
     here: &mut Context,
-    log: &mut Log,
-    out: &mut Parts,
     place: Place,
-    tree: &Tree,
     value: u32,
-) -> Result<bool, AllocError>
-    ensures { Keeps (spec.assign_place names.now (inside names.now levels) here.old place (selections_of (top (parts out.old))) (the_expr (part_at tree.now.nodes value)) log.old) (pop (parts out.old)) here.old result log.new (parts out.new) here.new }
+) -> Giving
+    ensures { KeepsOn (pop (parts judge.old.out)) (spec.assign_place text.entry.names.now (brackets text.entry) here.old place (selections_of (top (parts judge.old.out))) (the_expr (node_of text.entry value))) here.old judge.old result judge.new here.new }
 {
-    let at = syntax_first_tokens::of_expr(tree, value).saturating_sub(1);
+    let at = syntax_first_tokens::of_expr(text.tree, value).saturating_sub(1);
     let want = wanted_of(place.subtype);
     let outer = here.target;
-    let before = log.faults.len();
-    attempt!(out.turn());
+    let before = judge.log.faults.len();
+    attempt!(judge.out.turn());
     here.target = Target::Of(place.subtype);
-    let x = attempt!(expr(names, levels, here, log, out, want, tree, value));
+    let x = attempt!(expr(judge, scene_at!(text, here), want, value));
     here.target = outer;
-    if log.faults.len() != before {
-        out.leave_out();
+    if judge.log.faults.len() != before {
+        judge.out.leave_out();
         return Ok(false);
     }
-    let given = attempt!(assigned_place(log, out, place, at, x));
+    let given = attempt!(assigned_place(judge, place, at, x));
     Ok(given)
 }
 
 /// A value whose target has a fault: its own rules are judged, and no part of it is left.
 fn assigned_alone(
-    names: &Names,
-    levels: u32,
+    judge: &mut Judge,
+    text: Text<'_>,
     here: &mut Context,
-    log: &mut Log,
-    out: &mut Parts,
-    tree: &Tree,
     value: u32,
 ) -> Result<(), AllocError>
-    ensures { OnOk result ((spec.assigned_alone names.now (inside names.now levels) here.old (the_expr (part_at tree.now.nodes value)) log.old ≡ (tt, log.new)) × (parts out.new ≡ parts out.old) × (here.new ≡ here.old)) }
+    ensures { OnOk result ((spec.assigned_alone text.entry.names.now (brackets text.entry) here.old (the_expr (node_of text.entry value)) judge.old.log ≡ (tt, judge.new.log)) × (parts judge.new.out ≡ parts judge.old.out) × (here.new ≡ here.old)) }
 {
     let outer = here.target;
     here.target = Target::Faulty;
-    attempt!(judged_alone(names, levels, here, log, out, tree, value));
+    attempt!(judged_alone(judge, scene_at!(text, here), value));
     here.target = outer;
     Ok(())
 }
 
 /// An assignment to what is no object: WrongType at its first token.
 fn assign_other(
-    names: &Names,
-    levels: u32,
+    judge: &mut Judge,
+    text: Text<'_>,
     here: &mut Context,
-    log: &mut Log,
-    out: &mut Parts,
     first: u32,
-    tree: &Tree,
     value: u32,
-) -> Result<bool, AllocError>
-    ensures { Keeps (spec.assign_other names.now (inside names.now levels) here.old (the_expr (part_at tree.now.nodes value)) first log.old) (pop (parts out.old)) here.old result log.new (parts out.new) here.new }
+) -> Giving
+    ensures { KeepsOn (pop (parts judge.old.out)) (spec.assign_other text.entry.names.now (brackets text.entry) here.old (the_expr (node_of text.entry value)) first) here.old judge.old result judge.new here.new }
 {
-    let before = log.faults.len();
-    attempt!(assigned_alone(names, levels, here, log, out, tree, value));
-    if log.faults.len() != before {
+    let before = judge.log.faults.len();
+    attempt!(assigned_alone(judge, text, here, value));
+    if judge.log.faults.len() != before {
         return Ok(false);
     }
-    attempt!(not_given(log, out, first, Rule::WrongType));
+    attempt!(not_given(judge, first, Rule::WrongType));
     Ok(false)
 }
 
 fn assign_form(
-    names: &Names,
-    levels: u32,
+    judge: &mut Judge,
+    text: Text<'_>,
     here: &mut Context,
-    log: &mut Log,
-    out: &mut Parts,
     denoted: Denoted,
-    tree: &Tree,
     value: u32,
-) -> Result<bool, AllocError>
-    ensures { Keeps (spec.assign_form names.now (inside names.now levels) here.old (the_expr (part_at tree.now.nodes value)) denoted (top (parts out.old)) log.old) (pop (parts out.old)) here.old result log.new (parts out.new) here.new }
+) -> Giving
+    ensures { KeepsOn (pop (parts judge.old.out)) (spec.assign_form text.entry.names.now (brackets text.entry) here.old (the_expr (node_of text.entry value)) denoted (top (parts judge.old.out))) here.old judge.old result judge.new here.new }
 {
     match denoted {
-        Denoted::Value(Found::Object(place)) => {
-            assign_place(names, levels, here, log, out, place, tree, value)
-        }
+        Denoted::Value(Found::Object(place)) => assign_place(judge, text, here, place, value),
         _ => {
             let first = denoted_first(denoted);
-            assign_other(names, levels, here, log, out, first, tree, value)
+            assign_other(judge, text, here, first, value)
         }
     }
 }
 
 /// `target := value;` (5.2)
 pub fn assign(
-    names: &Names,
-    levels: u32,
+    judge: &mut Judge,
+    text: Text<'_>,
     here: &mut Context,
-    log: &mut Log,
-    out: &mut Parts,
-    tree: &Tree,
     target: u32,
     value: u32,
-) -> Result<bool, AllocError>
-    ensures { Keeps (spec.assign names.now (inside names.now levels) here.old (the_name (part_at tree.now.nodes target)) (the_expr (part_at tree.now.nodes value)) log.old) (parts out.old) here.old result log.new (parts out.new) here.new }
+) -> Giving
+    ensures { Keeps (spec.assign text.entry.names.now (brackets text.entry) here.old (the_name (node_of text.entry target)) (the_expr (node_of text.entry value))) here.old judge.old result judge.new here.new }
 {
-    match attempt!(name_inside(names, levels, here, log, out, tree, target)) {
+    match attempt!(name_inside(judge, scene_at!(text, here), target)) {
         None => {
-            attempt!(assigned_alone(names, levels, here, log, out, tree, value));
+            attempt!(assigned_alone(judge, text, here, value));
             Ok(false)
         }
         Some(denoted) => {
-            let given = attempt!(assign_form(names, levels, here, log, out, denoted, tree, value));
+            let given = attempt!(assign_form(judge, text, here, denoted, value));
             Ok(given)
         }
     }
 }
 
 /// What a name as a statement denotes, which has to be the call of a procedure: WrongType at its first token.
-fn as_statement(log: &mut Log, out: &Parts, denoted: Denoted) -> Result<bool, AllocError>
-    ensures { Gives (spec.as_statement denoted (top (parts out.now)) log.old) (pop (parts out.now)) result log.new (parts out.now) }
+fn as_statement(judge: &mut Judge, denoted: Denoted) -> Giving
+    ensures { GivesOn (pop (parts judge.old.out)) (spec.as_statement denoted (top (parts judge.old.out))) judge.old result judge.new }
 {
     match denoted {
         Denoted::Done { .. } => Ok(true),
-        _ => not_given(log, out, denoted_first(denoted), Rule::WrongType),
+        _ => not_given(judge, denoted_first(denoted), Rule::WrongType),
     }
 }
 
 /// `name;` (6.4)
 #[tactic(auto, unfolding(name_rules::specs::Statements::call_stmt))]
-pub fn call_stmt(
-    names: &Names,
-    levels: u32,
-    here: &Context,
-    log: &mut Log,
-    out: &mut Parts,
-    tree: &Tree,
-    name: u32,
-) -> Result<bool, AllocError>
-    ensures { Gives (spec.call_stmt names.now (inside names.now levels) here.now (the_name (part_at tree.now.nodes name)) log.old) (parts out.old) result log.new (parts out.new) }
+pub fn call_stmt(judge: &mut Judge, scene: Scene<'_>, name: u32) -> Giving
+    ensures { Gives (named_at scene.entry spec.call_stmt (the_name (node_at scene.entry name))) judge.old result judge.new }
 {
-    match attempt!(name_inside(names, levels, here, log, out, tree, name)) {
+    match attempt!(name_inside(judge, scene, name)) {
         None => Ok(false),
-        Some(denoted) => match attempt!(valued_by(names, levels, here, log, out, denoted, tree)) {
+        Some(denoted) => match attempt!(valued_by(judge, scene, denoted)) {
             None => Ok(false),
-            Some(called) => as_statement(log, out, called),
+            Some(called) => as_statement(judge, called),
         },
     }
 }

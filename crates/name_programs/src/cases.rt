@@ -5,25 +5,32 @@ ghost use Rattle.syntax_tree.specs.Syntax as syntax;
 ghost use Rattle.typed_tree.specs.Decoded as part;
 ghost use Rattle.typed_tree.specs.Latest.{pop, second, third, top};
 ghost use Rattle.name_rules.specs.Cases as cases;
-ghost use Rattle.name_rules.specs.Judges.{Judges, found, found_of, part_if};
+ghost use Rattle.name_rules.specs.Judges.{found, found_of, part_if};
 ghost use Rattle.name_rules.specs.Judging.{given, joined};
-ghost use Rattle.name_rules.specs.Primaries.{inside};
 ghost use Rattle.name_rules.specs.Statements as spec;
-ghost use Rattle.name_programs.specs.Around.{Keeps, KeepsWith, Leaves, in_levels};
+ghost use Rattle.name_programs.specs.Around.{Leaves};
 ghost use Rattle.name_values.specs.Coverage.{as_choosing, as_covering};
 ghost use Rattle.syntax_nodes.specs.Parts.{the_alt, the_alts, the_choice, the_choice_list, the_expr};
 ghost use Rattle.syntax_nodes.specs.Tables.{part_at};
 ghost use Rattle.typed_parts.specs.Stack.{parts};
+ghost use Rattle.name_values.specs.Judged.{JudgesOne};
+ghost use Rattle.name_expressions.specs.Scenes.{node_at, said_at};
+ghost use Rattle.name_programs.specs.Kept.{Keeps, KeepsWith, KeepsWithOn};
+ghost use Rattle.name_programs.specs.Texts.{in_text, node_of};
 
+use crate::scene_at;
 use crate::statements::stmts;
+use crate::text::Text;
 use name_expressions::choices::case_choices;
 use name_expressions::expressions::expr;
+use name_expressions::scene::Scene;
 use name_rules::found::Found;
 use name_rules::log::{Log, Rule};
-use name_rules::scope::{Context, Names};
+use name_rules::scope::Context;
 use name_rules::types::{Kind, Scalar, Wanted};
 use name_values::attempt;
 use name_values::coverage::{Choosing, Covering, choices_part, closed};
+use name_values::judge::{Giving, Judge};
 use name_values::logs::breaks;
 use name_values::types::base_of;
 use name_values::values::{first_of, is_scalar, nominal_of, own_kind, settled_found};
@@ -42,29 +49,25 @@ fn selecting(given: Found) -> Scalar
 }
 
 /// The subtype of a selecting expression, which is the latest part: WrongType at its first token where it is no scalar.
-fn selector(log: &mut Log, out: &mut Parts, value: Found) -> Result<Option<Scalar>, AllocError>
-    ensures { Judges (spec.selector (found value (top (parts out.old))) log.old) (pop (parts out.old)) result log.new (parts out.new) }
+fn selector(judge: &mut Judge, value: Found) -> Result<Option<Scalar>, AllocError>
+    ensures { JudgesOne spec.selector (found value) judge.old result judge.new }
 {
     if !is_scalar(value) {
-        attempt!(breaks(log, first_of(value), Rule::WrongType));
+        attempt!(breaks(&mut judge.log, first_of(value), Rule::WrongType));
         return Ok(None);
     }
-    if !attempt!(settled_found(log, out, value)) {
+    if !attempt!(settled_found(judge, value)) {
         return Ok(None);
     }
     Ok(Some(selecting(value)))
 }
 
-fn selector_where(
-    log: &mut Log,
-    out: &mut Parts,
-    value: Option<Found>,
-) -> Result<Option<Scalar>, AllocError>
-    ensures { Judges (given (found_of value (top (parts out.old))) spec.selector log.old) (pop (parts out.old)) result log.new (parts out.new) }
+fn selector_where(judge: &mut Judge, value: Option<Found>) -> Result<Option<Scalar>, AllocError>
+    ensures { JudgesOne (λ x. given x spec.selector) (found_of value) judge.old result judge.new }
 {
     match value {
         None => Ok(None),
-        Some(value) => selector(log, out, value),
+        Some(value) => selector(judge, value),
     }
 }
 
@@ -119,32 +122,24 @@ fn begun_choices(out: &mut Parts) -> Result<Choosing, AllocError>
 
 /// The choices of an alternative, and what they mention as the latest part.
 fn chosen(
-    names: &Names,
-    levels: u32,
-    here: &Context,
-    log: &mut Log,
-    out: &mut Parts,
+    judge: &mut Judge,
+    scene: Scene<'_>,
     kind: Option<Kind>,
     last: bool,
     covering: &mut Covering,
-    tree: &Tree,
     first: u32,
     more: u32,
 ) -> Result<Choosing, AllocError>
-    ensures { IfOk result (λ d. (cases.case_choices (inside names.now levels) here.now kind (length (the_choice_list (part_at tree.now.nodes more)) == 0) last (as_covering covering.old) spec.no_choosing (the_choice (part_at tree.now.nodes first) ∷ the_choice_list (part_at tree.now.nodes more)) log.old ≡ ((as_covering covering.new, as_choosing d (top (parts out.new))), log.new)) × (pop (parts out.new) ≡ parts out.old)) }
+    ensures { IfOk result (λ d. (said_at scene.entry cases.case_choices kind (length (the_choice_list (node_at scene.entry more)) == 0) last (as_covering covering.old) spec.no_choosing (the_choice (node_at scene.entry first) ∷ the_choice_list (node_at scene.entry more)) judge.old.log ≡ ((as_covering covering.new, as_choosing d (top (parts judge.new.out))), judge.new.log)) × (pop (parts judge.new.out) ≡ parts judge.old.out)) }
 {
-    let mut choosing = attempt!(begun_choices(out));
+    let mut choosing = attempt!(begun_choices(&mut judge.out));
     attempt!(case_choices(
-        names,
-        levels,
-        here,
-        log,
-        out,
+        judge,
+        scene,
         kind,
         last,
         covering,
         &mut choosing,
-        tree,
         first,
         more,
     ));
@@ -155,57 +150,57 @@ fn chosen(
 #[cycle(statements)]
 #[tactic(auto, unfolding(name_rules::specs::Statements::alternative))]
 fn alternative(
-    names: &Names,
-    levels: u32,
+    judge: &mut Judge,
+    text: Text<'_>,
     below: u32,
     here: &mut Context,
-    log: &mut Log,
-    out: &mut Parts,
     kind: Option<Kind>,
     last: bool,
     covering: &mut Covering,
     done: bool,
-    tree: &Tree,
     id: u32,
 ) -> Result<bool, AllocError>
-    ensures { KeepsWith (spec.alternative (in_levels names.now levels below) here.old kind last (as_covering covering.old) (part_if done (top (parts out.old))) (the_alt (part_at tree.now.nodes id)) log.old) (pop (parts out.old)) here.old result (as_covering covering.new) log.new (parts out.new) here.new }
+    ensures { KeepsWithOn (pop (parts judge.old.out)) (spec.alternative (in_text text.entry below) here.old kind last (as_covering covering.old) (part_if done (top (parts judge.old.out))) (the_alt (node_of text.entry id))) here.old judge.old result (as_covering covering.new) judge.new here.new }
 {
-    let one = tree.alt(id);
+    let one = text.tree.alt(id);
     let choosing = attempt!(chosen(
-        names, levels, here, log, out, kind, last, covering, tree, one.first, one.more,
+        judge,
+        scene_at!(text, here),
+        kind,
+        last,
+        covering,
+        one.first,
+        one.more,
     ));
-    let ss = attempt!(stmts(names, levels, below, here, log, out, tree, one.stmts));
-    let given = attempt!(with_alternative(out, choosing, done, ss));
+    let ss = attempt!(stmts(judge, text, below, here, one.stmts));
+    let given = attempt!(with_alternative(&mut judge.out, choosing, done, ss));
     Ok(given)
 }
 
 /// The alternatives of a case statement.
 #[cycle(statements)]
 fn alts(
-    names: &Names,
-    levels: u32,
+    judge: &mut Judge,
+    text: Text<'_>,
     below: u32,
     here: &mut Context,
-    log: &mut Log,
-    out: &mut Parts,
     kind: Option<Kind>,
     covering: &mut Covering,
-    tree: &Tree,
     first: u32,
     more: u32,
 ) -> Result<bool, AllocError>
-    ensures { KeepsWith (spec.alts (in_levels names.now levels below) here.old kind (as_covering covering.old) (Some part.Nothing) (syntax.AlsoAlt (the_alt (part_at tree.now.nodes first)) (the_alts (part_at tree.now.nodes more))) log.old) (parts out.old) here.old result (as_covering covering.new) log.new (parts out.new) here.new }
+    ensures { KeepsWith (spec.alts (in_text text.entry below) here.old kind (as_covering covering.old) (Some part.Nothing) (syntax.AlsoAlt (the_alt (node_of text.entry first)) (the_alts (node_of text.entry more)))) here.old judge.old result (as_covering covering.new) judge.new here.new }
 {
-    attempt!(out.nothing());
-    let only = is_last(tree, more);
+    attempt!(judge.out.nothing());
+    let only = is_last(text.tree, more);
     let mut done = attempt!(alternative(
-        names, levels, below, here, log, out, kind, only, covering, true, tree, first,
+        judge, text, below, here, kind, only, covering, true, first,
     ));
     let mut next = more;
-    'alts: while let Some(cell) = tree.cell(next) {
-        let last = is_last(tree, cell.rest);
+    'alts: while let Some(cell) = text.tree.cell(next) {
+        let last = is_last(text.tree, cell.rest);
         done = attempt!(alternative(
-            names, levels, below, here, log, out, kind, last, covering, done, tree, cell.first,
+            judge, text, below, here, kind, last, covering, done, cell.first,
         ));
         next = cell.rest;
     }
@@ -253,38 +248,23 @@ fn case_made(out: &mut Parts, selector: Option<Scalar>, more: bool) -> Result<bo
 #[cycle(statements)]
 #[tactic(auto, unfolding(name_rules::specs::Statements::case_stmt))]
 pub fn case_stmt(
-    names: &Names,
-    levels: u32,
+    judge: &mut Judge,
+    text: Text<'_>,
     below: u32,
     here: &mut Context,
-    log: &mut Log,
-    out: &mut Parts,
     at: u32,
-    tree: &Tree,
     value: u32,
     first: u32,
     more: u32,
-) -> Result<bool, AllocError>
-    ensures { Keeps (spec.case_stmt (in_levels names.now levels below) here.old at (the_expr (part_at tree.now.nodes value)) (syntax.AlsoAlt (the_alt (part_at tree.now.nodes first)) (the_alts (part_at tree.now.nodes more))) log.old) (parts out.old) here.old result log.new (parts out.new) here.new }
+) -> Giving
+    ensures { Keeps (spec.case_stmt (in_text text.entry below) here.old at (the_expr (node_of text.entry value)) (syntax.AlsoAlt (the_alt (node_of text.entry first)) (the_alts (node_of text.entry more)))) here.old judge.old result judge.new here.new }
 {
-    let mut covering = Covering::new(out.alloc());
-    let f = attempt!(expr(names, levels, here, log, out, Wanted::Other, tree, value));
-    let s = attempt!(selector_where(log, out, f));
-    let kind = kind_of(out, s);
-    let xs = attempt!(alts(
-        names,
-        levels,
-        below,
-        here,
-        log,
-        out,
-        kind,
-        &mut covering,
-        tree,
-        first,
-        more,
-    ));
-    attempt!(closed_where(log, out, at, s, covering));
-    let given = attempt!(case_made(out, s, xs));
+    let mut covering = Covering::new(judge.out.alloc());
+    let f = attempt!(expr(judge, scene_at!(text, here), Wanted::Other, value));
+    let s = attempt!(selector_where(judge, f));
+    let kind = kind_of(&judge.out, s);
+    let xs = attempt!(alts(judge, text, below, here, kind, &mut covering, first, more));
+    attempt!(closed_where(&mut judge.log, &judge.out, at, s, covering));
+    let given = attempt!(case_made(&mut judge.out, s, xs));
     Ok(given)
 }

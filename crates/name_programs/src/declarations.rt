@@ -1,30 +1,37 @@
 //! Declarations (3.1): each is elaborated behind those before it, which are the latest part.
 
 ghost use Rattle.std.specs.Prelude.{◌≡◌, IfOk, OnOk, Some, option_map};
-ghost use Rattle.name_programs.specs.Declares.{Declares, Ends};
+ghost use Rattle.name_programs.specs.Declares.{Ends};
 ghost use Rattle.name_programs.specs.DeclarationSteps as step;
 ghost use Rattle.name_rules.specs.Declarations as spec;
-ghost use Rattle.name_rules.specs.Judges.{Judges, found_of, part_if};
+ghost use Rattle.name_rules.specs.Judges.{found_of, part_if};
 ghost use Rattle.name_rules.specs.Judging.{joined};
-ghost use Rattle.name_rules.specs.Primaries as primaries;
 ghost use Rattle.name_rules.specs.Statements.{no_decls};
 ghost use Rattle.name_rules.specs.declared.scope.What.TheVariants as what;
 ghost use Rattle.syntax_nodes.specs.Parts.{the_decl, the_decls, the_definition, the_expr, the_ids, the_indic};
 ghost use Rattle.syntax_nodes.specs.Tables.{part_at};
 ghost use Rattle.typed_tree.specs.Latest.{pop, second, top};
 ghost use Rattle.typed_parts.specs.Stack.{parts};
+ghost use Rattle.name_values.specs.Judged.{Judges};
+ghost use Rattle.name_expressions.specs.Scenes.{named_at, node_at};
+ghost use Rattle.name_programs.specs.Kept.{Declares, DeclaresOn};
+ghost use Rattle.name_programs.specs.Texts.{brackets, node_of};
 
 use crate::arrays::array;
 use crate::declaration_lists::{all_ended, all_ids, begun_names, ended_name, with_mentions};
 use crate::objects::objects;
 use crate::records::record_of;
+use crate::scene_at;
 use crate::subtypes::{indic, own_type_of, static_bound};
+use crate::text::Text;
 use ada_base::{Items, Reason};
 use name_expressions::expressions::{expr, simple};
+use name_expressions::scene::Scene;
 use name_rules::log::Log;
 use name_rules::scope::{Context, Names, What};
 use name_rules::types::{Subtype, Wanted};
 use name_values::attempt;
+use name_values::judge::Judge;
 use name_values::scope::{free, hidden_where};
 use std::alloc::AllocError;
 use syntax_nodes::{Decl, Definition, Tree};
@@ -67,26 +74,23 @@ fn number_mentions(
 /// The declaration of named numbers (3.3.2): WrongType, NotStatic at the first token of a value that isn't a static number.
 #[tactic(auto, unfolding(name_rules::specs::Declarations::numbers))]
 fn numbers(
-    names: &Names,
-    levels: u32,
+    judge: &mut Judge,
+    text: Text<'_>,
     start: usize,
     here: &mut Context,
-    log: &mut Log,
-    out: &mut Parts,
     done: bool,
-    tree: &Tree,
     identifiers: u32,
     value: u32,
 ) -> Result<bool, AllocError>
-    ensures { Declares (spec.numbers names.now (primaries.inside names.now levels) start here.old (part_if done (top (parts out.old))) (the_ids (part_at tree.now.nodes identifiers)) (the_expr (part_at tree.now.nodes value)) log.old) (pop (parts out.old)) result here.new log.new (parts out.new) }
+    ensures { DeclaresOn (pop (parts judge.old.out)) (spec.numbers text.entry.names.now (brackets text.entry) start here.old (part_if done (top (parts judge.old.out))) (the_ids (node_of text.entry identifiers)) (the_expr (node_of text.entry value))) judge.old result here.new judge.new }
 {
-    let alloc = out.alloc();
-    let ids = attempt!(all_ids(tree, alloc, identifiers));
-    let free = attempt!(begun_names(names, start, here, log, alloc, &ids));
-    let found = attempt!(expr(names, levels, here, log, out, Wanted::Other, tree, value));
-    let known = attempt!(static_bound(log, out, found));
-    attempt!(all_ended(names, here, number_what(known), &free));
-    number_mentions(out, here, done, known)
+    let alloc = judge.out.alloc();
+    let ids = attempt!(all_ids(text.tree, alloc, identifiers));
+    let free = attempt!(begun_names(text.names, start, here, &mut judge.log, alloc, &ids));
+    let found = attempt!(expr(judge, scene_at!(text, here), Wanted::Other, value));
+    let known = attempt!(static_bound(judge, found));
+    attempt!(all_ended(text.names, here, number_what(known), &free));
+    number_mentions(&mut judge.out, here, done, known)
 }
 
 /// Writes a declared exception into the table of exceptions, and gives its number; 2^32 are beyond memory.
@@ -154,29 +158,21 @@ fn exceptions(
 /// What a type is declared to be (3.2.1). What it mentions is the latest part.
 #[tactic(auto, unfolding(name_rules::specs::Declarations::defined, name_rules::specs::Ranges::two_bounds))]
 fn defined(
-    names: &Names,
-    levels: u32,
-    here: &Context,
-    log: &mut Log,
-    out: &mut Parts,
+    judge: &mut Judge,
+    scene: Scene<'_>,
     token: u32,
-    tree: &Tree,
     id: u32,
 ) -> Result<Option<Subtype>, AllocError>
-    ensures { Judges (spec.defined names.now (primaries.inside names.now levels) here.now token (the_definition (part_at tree.now.nodes id)) log.old) (parts out.old) result log.new (parts out.new) }
+    ensures { Judges (named_at scene.entry spec.defined token (the_definition (node_at scene.entry id))) judge.old result judge.new }
 {
-    match tree.definition(id) {
+    match scene.tree.definition(id) {
         Definition::RangeType { low, high } => {
-            let x = attempt!(simple(names, levels, here, log, out, Wanted::Other, tree, low));
-            let y = attempt!(simple(names, levels, here, log, out, Wanted::Other, tree, high));
-            own_type_of(log, out, token, x, y)
+            let x = attempt!(simple(judge, scene, Wanted::Other, low));
+            let y = attempt!(simple(judge, scene, Wanted::Other, high));
+            own_type_of(judge, token, x, y)
         }
-        Definition::ArrayType(definition) => {
-            array(names, levels, here, log, out, tree, definition)
-        }
-        Definition::RecordType { first, more } => {
-            record_of(names, levels, here, log, out, tree, first, more)
-        }
+        Definition::ArrayType(definition) => array(judge, scene, definition),
+        Definition::RecordType { first, more } => record_of(judge, scene, first, more),
     }
 }
 
@@ -209,76 +205,64 @@ fn one_type(
 
 /// The declaration of a type (3.2.1).
 fn declared_type(
-    names: &Names,
-    levels: u32,
+    judge: &mut Judge,
+    text: Text<'_>,
     start: usize,
     here: &mut Context,
-    log: &mut Log,
-    out: &mut Parts,
     done: bool,
     token: u32,
-    tree: &Tree,
     definition: u32,
 ) -> Result<bool, AllocError>
-    ensures { Declares (step.declared_type names.now (primaries.inside names.now levels) start here.old (part_if done (top (parts out.old))) token (the_definition (part_at tree.now.nodes definition)) log.old) (pop (parts out.old)) result here.new log.new (parts out.new) }
+    ensures { DeclaresOn (pop (parts judge.old.out)) (step.declared_type text.entry.names.now (brackets text.entry) start here.old (part_if done (top (parts judge.old.out))) token (the_definition (node_of text.entry definition))) judge.old result here.new judge.new }
 {
-    let one = attempt!(free(names, start, here, log, token));
-    attempt!(hidden_where(names, here, token, one));
-    let subtype = attempt!(defined(names, levels, here, log, out, token, tree, definition));
-    one_type(names, here, out, done, one, subtype)
+    let one = attempt!(free(text.names, start, here, &mut judge.log, token));
+    attempt!(hidden_where(text.names, here, token, one));
+    let subtype = attempt!(defined(judge, scene_at!(text, here), token, definition));
+    one_type(text.names, here, &mut judge.out, done, one, subtype)
 }
 
 /// The declaration of a subtype (3.2.2).
 fn declared_subtype(
-    names: &Names,
-    levels: u32,
+    judge: &mut Judge,
+    text: Text<'_>,
     start: usize,
     here: &mut Context,
-    log: &mut Log,
-    out: &mut Parts,
     done: bool,
     token: u32,
-    tree: &Tree,
     indication: u32,
 ) -> Result<bool, AllocError>
-    ensures { Declares (step.declared_subtype names.now (primaries.inside names.now levels) start here.old (part_if done (top (parts out.old))) token (the_indic (part_at tree.now.nodes indication)) log.old) (pop (parts out.old)) result here.new log.new (parts out.new) }
+    ensures { DeclaresOn (pop (parts judge.old.out)) (step.declared_subtype text.entry.names.now (brackets text.entry) start here.old (part_if done (top (parts judge.old.out))) token (the_indic (node_of text.entry indication))) judge.old result here.new judge.new }
 {
-    let one = attempt!(free(names, start, here, log, token));
-    attempt!(hidden_where(names, here, token, one));
-    let subtype = attempt!(indic(names, levels, here, log, out, tree, indication));
-    one_type(names, here, out, done, one, subtype)
+    let one = attempt!(free(text.names, start, here, &mut judge.log, token));
+    attempt!(hidden_where(text.names, here, token, one));
+    let subtype = attempt!(indic(judge, scene_at!(text, here), indication));
+    one_type(text.names, here, &mut judge.out, done, one, subtype)
 }
 
 /// A declaration, in the region that begins at that place of the scope: Twice at a name that is declared there already.
 #[tactic(auto, unfolding(name_rules::specs::Declarations::declaration))]
 pub fn declaration(
-    names: &Names,
-    levels: u32,
+    judge: &mut Judge,
+    text: Text<'_>,
     start: usize,
     here: &mut Context,
-    log: &mut Log,
-    out: &mut Parts,
     done: bool,
-    tree: &Tree,
     id: u32,
 ) -> Result<bool, AllocError>
-    ensures { Declares (spec.declaration names.now (primaries.inside names.now levels) start here.old (part_if done (top (parts out.old))) (the_decl (part_at tree.now.nodes id)) log.old) (pop (parts out.old)) result here.new log.new (parts out.new) }
+    ensures { DeclaresOn (pop (parts judge.old.out)) (spec.declaration text.entry.names.now (brackets text.entry) start here.old (part_if done (top (parts judge.old.out))) (the_decl (node_of text.entry id))) judge.old result here.new judge.new }
 {
-    match tree.decl(id) {
+    match text.tree.decl(id) {
         Decl::ObjectDecl {
             names: identifiers,
             constant,
             object_type,
             value,
         } => objects(
-            names,
-            levels,
+            judge,
+            text,
             start,
             here,
-            log,
-            out,
             done,
-            tree,
             identifiers,
             constant.is_some(),
             object_type,
@@ -288,58 +272,47 @@ pub fn declaration(
             names: identifiers,
             value,
             ..
-        } => numbers(
-            names,
-            levels,
-            start,
-            here,
-            log,
-            out,
-            done,
-            tree,
-            identifiers,
-            value,
-        ),
+        } => numbers(judge, text, start, here, done, identifiers, value),
         Decl::ExceptionDecl(identifiers) => {
-            exceptions(names, start, here, log, out, done, tree, identifiers)
+            exceptions(
+                text.names,
+                start,
+                here,
+                &mut judge.log,
+                &judge.out,
+                done,
+                text.tree,
+                identifiers,
+            )
         }
         Decl::TypeDecl {
             defined: token,
             definition,
             ..
-        } => declared_type(
-            names, levels, start, here, log, out, done, token, tree, definition,
-        ),
+        } => declared_type(judge, text, start, here, done, token, definition),
         Decl::SubtypeDecl {
             defined: token,
             indic: indication,
             ..
-        } => declared_subtype(
-            names, levels, start, here, log, out, done, token, tree, indication,
-        ),
+        } => declared_subtype(judge, text, start, here, done, token, indication),
     }
 }
 
 /// The declarations of a list behind those before it.
 pub fn declarations_from(
-    names: &Names,
-    levels: u32,
+    judge: &mut Judge,
+    text: Text<'_>,
     start: usize,
     here: &mut Context,
-    log: &mut Log,
-    out: &mut Parts,
     done: bool,
-    tree: &Tree,
     more: u32,
 ) -> Result<bool, AllocError>
-    ensures { Declares (spec.declarations names.now (primaries.inside names.now levels) start here.old (part_if done (top (parts out.old))) (the_decls (part_at tree.now.nodes more)) log.old) (pop (parts out.old)) result here.new log.new (parts out.new) }
+    ensures { DeclaresOn (pop (parts judge.old.out)) (spec.declarations text.entry.names.now (brackets text.entry) start here.old (part_if done (top (parts judge.old.out))) (the_decls (node_of text.entry more))) judge.old result here.new judge.new }
 {
     let mut whole = done;
     let mut next = more;
-    'decls: while let Some(cell) = tree.cell(next) {
-        whole = attempt!(declaration(
-            names, levels, start, here, log, out, whole, tree, cell.first,
-        ));
+    'decls: while let Some(cell) = text.tree.cell(next) {
+        whole = attempt!(declaration(judge, text, start, here, whole, cell.first));
         next = cell.rest;
     }
     Ok(whole)
@@ -348,17 +321,14 @@ pub fn declarations_from(
 /// The declarations of a declarative part (3.11), in the region that begins at that place of the scope. The list of what is
 /// elaborated is the latest part, in which the last comes first.
 pub fn declarations(
-    names: &Names,
-    levels: u32,
+    judge: &mut Judge,
+    text: Text<'_>,
     start: usize,
     here: &mut Context,
-    log: &mut Log,
-    out: &mut Parts,
-    tree: &Tree,
     list: u32,
 ) -> Result<bool, AllocError>
-    ensures { Declares (spec.declarations names.now (primaries.inside names.now levels) start here.old (Some no_decls) (the_decls (part_at tree.now.nodes list)) log.old) (parts out.old) result here.new log.new (parts out.new) }
+    ensures { Declares (spec.declarations text.entry.names.now (brackets text.entry) start here.old (Some no_decls) (the_decls (node_of text.entry list))) judge.old result here.new judge.new }
 {
-    attempt!(out.nothing());
-    declarations_from(names, levels, start, here, log, out, true, tree, list)
+    attempt!(judge.out.nothing());
+    declarations_from(judge, text, start, here, true, list)
 }

@@ -1,30 +1,34 @@
 //! Objects (3.3.1): their cells, their initial values, and what is elaborated.
 
 ghost use Rattle.std.specs.Prelude.{◌≡◌, ◌∷◌, IfOk, OnOk};
-ghost use Rattle.syntax_tree.specs.Syntax as syntax;
 ghost use Rattle.name_programs.specs.OneObject as single;
 ghost use Rattle.name_programs.specs.DeclarationSteps as step;
-ghost use Rattle.name_programs.specs.Declares.{Declares, Ends, Initials, given_initial, initial_of};
+ghost use Rattle.name_programs.specs.Declares.{Ends, Initials, given_initial, initial_of};
 ghost use Rattle.name_rules.specs.Declarations as spec;
-ghost use Rattle.name_rules.specs.Judges.{Judges, Says, found, found_of, part_if};
-ghost use Rattle.name_rules.specs.Primaries as primaries;
+ghost use Rattle.name_rules.specs.Judges.{Says, found, found_of, part_if};
 ghost use Rattle.syntax_nodes.specs.Parts.{the_expr, the_ids, the_object_type};
 ghost use Rattle.syntax_nodes.specs.Tables.{part_at};
 ghost use Rattle.syntax_nodes.specs.Views.{optional};
 ghost use Rattle.typed_tree.specs.Latest.{pop, second, third, top};
 ghost use Rattle.typed_parts.specs.Stack.{parts};
+ghost use Rattle.name_values.specs.Judged.{Judges};
+ghost use Rattle.name_expressions.specs.Scenes.{named_at, node_at};
+ghost use Rattle.name_programs.specs.Kept.{DeclaresOn};
+ghost use Rattle.name_programs.specs.Texts.{brackets, node_of};
 
 use crate::arrays::array;
 use crate::declaration_lists::{all_ids, begun_names, ended_name, with_mentions};
 use crate::rules::{counted_on, unless};
 use crate::subtypes::indic;
+use crate::text::Text;
 use ada_base::Items;
 use name_expressions::expressions::{expr, judged_alone};
-use name_rules::found::Found;
+use name_expressions::scene::Scene;
 use name_rules::log::{Log, Rule};
 use name_rules::scope::{Context, Names, What};
 use name_rules::types::Subtype;
 use name_values::attempt;
+use name_values::judge::Judge;
 use name_values::logs::breaks;
 use name_values::names::cells_in;
 use name_values::scope::copied;
@@ -202,44 +206,31 @@ fn constant_value(out: &Parts, constant: bool, subtype: Subtype, given: Given) -
 /// An initial value of an object of a subtype, which is the latest part.
 #[tactic(auto, unfolding(name_rules::specs::Declarations::initial))]
 fn initial(
-    names: &Names,
-    levels: u32,
-    here: &Context,
-    log: &mut Log,
-    out: &mut Parts,
+    judge: &mut Judge,
+    scene: Scene<'_>,
     subtype: Option<Subtype>,
-    tree: &Tree,
     value: Option<u32>,
 ) -> Result<Option<Given>, AllocError>
-    ensures { Initials (spec.initial names.now (primaries.inside names.now levels) here.now (found_of subtype (top (parts out.old))) (optional (part_at tree.now.nodes) the_expr value) log.old) (parts out.old) result log.new (parts out.new) }
+    ensures { Initials (named_at scene.entry spec.initial (found_of subtype (top (parts judge.old.out))) (optional (node_at scene.entry) the_expr value) judge.old.log) (parts judge.old.out) result judge.new.log (parts judge.new.out) }
 {
     let Some(value) = value else {
-        attempt!(out.nothing());
+        attempt!(judge.out.nothing());
         return Ok(Some(Given {
             stored: false,
             value: None,
         }));
     };
     let Some(subtype) = subtype else {
-        attempt!(judged_alone(names, levels, here, log, out, tree, value));
-        attempt!(out.nothing());
+        attempt!(judged_alone(judge, scene, value));
+        attempt!(judge.out.nothing());
         return Ok(None);
     };
-    let found = attempt!(expr(
-        names,
-        levels,
-        here,
-        log,
-        out,
-        wanted_of(subtype),
-        tree,
-        value,
-    ));
+    let found = attempt!(expr(judge, scene, wanted_of(subtype), value));
     match found {
         None => Ok(None),
         Some(found) => {
-            let first = syntax_first_tokens::of_expr(tree, value);
-            if attempt!(stored(log, out, subtype, first, found)) {
+            let first = syntax_first_tokens::of_expr(scene.tree, value);
+            if attempt!(stored(judge, subtype, first, found)) {
                 Ok(Some(Given {
                     stored: true,
                     value: value_of(found),
@@ -357,17 +348,16 @@ fn object_ended(
 fn no_object(
     names: &Names,
     here: &mut Context,
-    log: &mut Log,
-    out: &mut Parts,
+    judge: &mut Judge,
     token: u32,
     free: Option<u32>,
 ) -> Result<bool, AllocError>
-    ensures { Declares (step.no_object names.now here.old token free log.old) (pop (pop (pop (parts out.old)))) result here.new log.new (parts out.new) }
+    ensures { DeclaresOn (pop (pop (pop (parts judge.old.out)))) (step.no_object names.now here.old token free) judge.old result here.new judge.new }
 {
-    let _fits = attempt!(cells_counted(log, token, 0));
+    let _fits = attempt!(cells_counted(&mut judge.log, token, 0));
     attempt!(ended_name(names, here, free, None));
-    out.leave_out();
-    out.leave_out();
+    judge.out.leave_out();
+    judge.out.leave_out();
     Ok(false)
 }
 
@@ -375,8 +365,7 @@ fn no_object(
 fn one_object(
     names: &Names,
     here: &mut Context,
-    log: &mut Log,
-    out: &mut Parts,
+    judge: &mut Judge,
     token: u32,
     free: Option<u32>,
     constant: bool,
@@ -384,69 +373,90 @@ fn one_object(
     subtype: Option<Subtype>,
     given: Option<Given>,
 ) -> Result<bool, AllocError>
-    ensures { Declares (spec.one_object names.now here.old token free constant (part_if done (third (parts out.old))) (found_of subtype (second (parts out.old))) (initial_of given (top (parts out.old))) log.old) (pop (pop (pop (parts out.old)))) result here.new log.new (parts out.new) }
+    ensures { DeclaresOn (pop (pop (pop (parts judge.old.out)))) (spec.one_object names.now here.old token free constant (part_if done (third (parts judge.old.out))) (found_of subtype (second (parts judge.old.out))) (initial_of given (top (parts judge.old.out)))) judge.old result here.new judge.new }
 {
     let Some(subtype) = subtype else {
-        return no_object(names, here, log, out, token, free);
+        return no_object(names, here, judge, token, free);
     };
     let Some(given) = given else {
-        return no_object(names, here, log, out, token, free);
+        return no_object(names, here, judge, token, free);
     };
-    let value = constant_value(out, constant, subtype, given);
-    let number = attempt!(new_object(names, here, log, token, subtype, constant, value));
+    let value = constant_value(&judge.out, constant, subtype, given);
+    let number = attempt!(new_object(names, here, &mut judge.log, token, subtype, constant, value));
     let whole = attempt!(object_ended(
-        names, here, out, free, token, constant, done, subtype, given, number,
+        names,
+        here,
+        &mut judge.out,
+        free,
+        token,
+        constant,
+        done,
+        subtype,
+        given,
+        number,
     ));
     Ok(whole)
 }
 
 /// The subtype of an object.
-fn typed_object(
-    names: &Names,
-    levels: u32,
-    here: &Context,
-    log: &mut Log,
-    out: &mut Parts,
-    tree: &Tree,
-    id: u32,
-) -> Result<Option<Subtype>, AllocError>
-    ensures { Judges (spec.typed_object names.now (primaries.inside names.now levels) here.now (the_object_type (part_at tree.now.nodes id)) log.old) (parts out.old) result log.new (parts out.new) }
+fn typed_object(judge: &mut Judge, scene: Scene<'_>, id: u32) -> Result<Option<Subtype>, AllocError>
+    ensures { Judges (named_at scene.entry spec.typed_object (the_object_type (node_at scene.entry id))) judge.old result judge.new }
 {
-    match tree.object_type(id) {
-        ObjectType::Indicated(indication) => {
-            indic(names, levels, here, log, out, tree, indication)
-        }
-        ObjectType::Anonymous(definition) => {
-            array(names, levels, here, log, out, tree, definition)
-        }
+    match scene.tree.object_type(id) {
+        ObjectType::Indicated(indication) => indic(judge, scene, indication),
+        ObjectType::Anonymous(definition) => array(judge, scene, definition),
     }
 }
 
 /// One object of a declaration, whose type and value are judged among the names around it. What is elaborated before it
 /// is the latest part.
 fn next_object(
-    names: &Names,
-    levels: u32,
+    judge: &mut Judge,
+    text: Text<'_>,
     inner: &Context,
     here: &mut Context,
-    log: &mut Log,
-    out: &mut Parts,
     constant: bool,
     first: u32,
     done: bool,
     token: u32,
     free: Option<u32>,
-    tree: &Tree,
     object_type: u32,
     value: Option<u32>,
 ) -> Result<bool, AllocError>
-    ensures { Declares (single.object names.now (primaries.inside names.now levels) inner.now here.old constant first (the_object_type (part_at tree.now.nodes object_type)) (optional (part_at tree.now.nodes) the_expr value) (part_if done (top (parts out.old))) token free log.old) (pop (parts out.old)) result here.new log.new (parts out.new) }
+    ensures { DeclaresOn (pop (parts judge.old.out)) (single.object text.entry.names.now (brackets text.entry) inner.now here.old constant first (the_object_type (node_of text.entry object_type)) (optional (node_of text.entry) the_expr value) (part_if done (top (parts judge.old.out))) token free) judge.old result here.new judge.new }
 {
-    let subtype = attempt!(typed_object(names, levels, inner, log, out, tree, object_type));
-    let given = attempt!(initial(names, levels, inner, log, out, subtype, tree, value));
-    attempt!(valued_constant(log, out, first, constant, subtype, tree, value));
+    let subtype = attempt!(typed_object(
+        judge,
+        Scene {
+            names: text.names,
+            tree: text.tree,
+            here: inner,
+            levels: text.levels
+        },
+        object_type,
+    ));
+    let given = attempt!(initial(
+        judge,
+        Scene {
+            names: text.names,
+            tree: text.tree,
+            here: inner,
+            levels: text.levels
+        },
+        subtype,
+        value,
+    ));
+    attempt!(valued_constant(
+        &mut judge.log,
+        &judge.out,
+        first,
+        constant,
+        subtype,
+        text.tree,
+        value,
+    ));
     let whole = attempt!(one_object(
-        names, here, log, out, token, free, constant, done, subtype, given,
+        text.names, here, judge, token, free, constant, done, subtype, given,
     ));
     Ok(whole)
 }
@@ -454,22 +464,19 @@ fn next_object(
 /// The objects of one declaration, whose type and value are judged for each among the names around it.
 #[tactic(auto, using(crate::proofs::FromPlaces::drop_get, crate::proofs::FromPlaces::drop_none, crate::proofs::FromPlaces::drop_less))]
 fn each_object(
-    names: &Names,
-    levels: u32,
+    judge: &mut Judge,
+    text: Text<'_>,
     inner: &Context,
     here: &mut Context,
-    log: &mut Log,
-    out: &mut Parts,
     constant: bool,
     first: u32,
     done: bool,
     ids: &Items<u32>,
     free: &Items<Option<u32>>,
-    tree: &Tree,
     object_type: u32,
     value: Option<u32>,
 ) -> Result<bool, AllocError>
-    ensures { Declares (spec.each_object names.now (primaries.inside names.now levels) inner.now here.old constant first (the_object_type (part_at tree.now.nodes object_type)) (optional (part_at tree.now.nodes) the_expr value) (part_if done (top (parts out.old))) ids.now free.now log.old) (pop (parts out.old)) result here.new log.new (parts out.new) }
+    ensures { DeclaresOn (pop (parts judge.old.out)) (spec.each_object text.entry.names.now (brackets text.entry) inner.now here.old constant first (the_object_type (node_of text.entry object_type)) (optional (node_of text.entry) the_expr value) (part_if done (top (parts judge.old.out))) ids.now free.now) judge.old result here.new judge.new }
 {
     let mut whole = done;
     let mut i = 0;
@@ -478,18 +485,15 @@ fn each_object(
             return Ok(whole);
         };
         whole = attempt!(next_object(
-            names,
-            levels,
+            judge,
+            text,
             inner,
             here,
-            log,
-            out,
             constant,
             first,
             whole,
             *token,
             *one,
-            tree,
             object_type,
             value,
         ));
@@ -504,39 +508,33 @@ fn each_object(
 /// The declaration of objects (3.3.1), behind what is elaborated before it.
 #[tactic(auto, unfolding(name_rules::specs::Declarations::objects))]
 pub fn objects(
-    names: &Names,
-    levels: u32,
+    judge: &mut Judge,
+    text: Text<'_>,
     start: usize,
     here: &mut Context,
-    log: &mut Log,
-    out: &mut Parts,
     done: bool,
-    tree: &Tree,
     identifiers: u32,
     constant: bool,
     object_type: u32,
     value: Option<u32>,
 ) -> Result<bool, AllocError>
-    ensures { Declares (spec.objects names.now (primaries.inside names.now levels) start here.old (part_if done (top (parts out.old))) (the_ids (part_at tree.now.nodes identifiers)) constant (the_object_type (part_at tree.now.nodes object_type)) (optional (part_at tree.now.nodes) the_expr value) log.old) (pop (parts out.old)) result here.new log.new (parts out.new) }
+    ensures { DeclaresOn (pop (parts judge.old.out)) (spec.objects text.entry.names.now (brackets text.entry) start here.old (part_if done (top (parts judge.old.out))) (the_ids (node_of text.entry identifiers)) constant (the_object_type (node_of text.entry object_type)) (optional (node_of text.entry) the_expr value)) judge.old result here.new judge.new }
 {
-    let alloc = out.alloc();
-    let first = tree.ids(identifiers).first;
-    let ids = attempt!(all_ids(tree, alloc, identifiers));
-    let free = attempt!(begun_names(names, start, here, log, alloc, &ids));
-    let inner = attempt!(copied(here, out));
+    let alloc = judge.out.alloc();
+    let first = text.tree.ids(identifiers).first;
+    let ids = attempt!(all_ids(text.tree, alloc, identifiers));
+    let free = attempt!(begun_names(text.names, start, here, &mut judge.log, alloc, &ids));
+    let inner = attempt!(copied(here, &judge.out));
     each_object(
-        names,
-        levels,
+        judge,
+        text,
         &inner,
         here,
-        log,
-        out,
         constant,
         first,
         done,
         &ids,
         &free,
-        tree,
         object_type,
         value,
     )

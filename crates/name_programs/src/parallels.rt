@@ -4,22 +4,28 @@ ghost use Rattle.std.specs.Prelude.{◌≡◌, IfOk, OnOk, Some};
 ghost use Rattle.syntax_tree.specs.Syntax as syntax;
 ghost use Rattle.typed_tree.specs.Decoded as part;
 ghost use Rattle.typed_tree.specs.Latest.{pop, second, top};
-ghost use Rattle.name_rules.specs.Judges.{Gives, part_if};
+ghost use Rattle.name_rules.specs.Judges.{part_if};
 ghost use Rattle.name_rules.specs.Judging.{joined};
-ghost use Rattle.name_rules.specs.Primaries.{inside};
 ghost use Rattle.name_rules.specs.Statements as spec;
-ghost use Rattle.name_programs.specs.Around.{Keeps, Leaves, in_levels};
+ghost use Rattle.name_programs.specs.Around.{Leaves};
 ghost use Rattle.syntax_nodes.specs.Parts.{the_branches, the_simple, the_stmts};
 ghost use Rattle.syntax_nodes.specs.Tables.{part_at};
 ghost use Rattle.syntax_nodes.specs.Views.{optional};
 ghost use Rattle.typed_parts.specs.Stack.{parts};
+ghost use Rattle.name_values.specs.Judged.{Gives};
+ghost use Rattle.name_expressions.specs.Scenes.{node_at, said_at};
+ghost use Rattle.name_programs.specs.Kept.{Keeps};
+ghost use Rattle.name_programs.specs.Texts.{in_text, node_of};
 
 use crate::statement_lists::also_where;
 use crate::statements::stmts;
+use crate::text::Text;
 use name_expressions::iterations::chunk_count;
+use name_expressions::scene::Scene;
 use name_rules::log::{Log, Rule};
-use name_rules::scope::{Context, Names};
+use name_rules::scope::Context;
 use name_values::attempt;
+use name_values::judge::{Giving, Judge};
 use name_values::logs::breaks;
 use name_values::walks::{new_site, thread_owner};
 use std::alloc::AllocError;
@@ -61,50 +67,39 @@ fn arm_limit(log: &mut Log, at: u32, arms: u32) -> Result<(), AllocError>
     )
 }
 
-fn count_where(
-    names: &Names,
-    levels: u32,
-    here: &Context,
-    log: &mut Log,
-    out: &mut Parts,
-    tree: &Tree,
-    count: Option<u32>,
-) -> Result<bool, AllocError>
-    ensures { Gives (spec.count_where (inside names.now levels) here.now (optional (part_at tree.now.nodes) the_simple count) log.old) (parts out.old) result log.new (parts out.new) }
+fn count_where(judge: &mut Judge, scene: Scene<'_>, count: Option<u32>) -> Giving
+    ensures { Gives (said_at scene.entry spec.count_where (optional (node_at scene.entry) the_simple count)) judge.old result judge.new }
 {
     match count {
         None => {
-            attempt!(out.nothing());
+            attempt!(judge.out.nothing());
             Ok(true)
         }
-        Some(count) => chunk_count(names, levels, here, log, out, tree, count),
+        Some(count) => chunk_count(judge, scene, count),
     }
 }
 
 #[cycle(statements)]
 fn branches(
-    names: &Names,
-    levels: u32,
+    judge: &mut Judge,
+    text: Text<'_>,
     below: u32,
     here: &mut Context,
-    log: &mut Log,
-    out: &mut Parts,
-    tree: &Tree,
     first: u32,
     second: u32,
     more: u32,
-) -> Result<bool, AllocError>
-    ensures { Keeps (spec.branches (in_levels names.now levels below) here.old (Some part.Nothing) (syntax.AlsoBranch (the_stmts (part_at tree.now.nodes first)) (syntax.AlsoBranch (the_stmts (part_at tree.now.nodes second)) (the_branches (part_at tree.now.nodes more)))) log.old) (parts out.old) here.old result log.new (parts out.new) here.new }
+) -> Giving
+    ensures { Keeps (spec.branches (in_text text.entry below) here.old (Some part.Nothing) (syntax.AlsoBranch (the_stmts (node_of text.entry first)) (syntax.AlsoBranch (the_stmts (node_of text.entry second)) (the_branches (node_of text.entry more))))) here.old judge.old result judge.new here.new }
 {
-    attempt!(out.nothing());
-    let x = attempt!(stmts(names, levels, below, here, log, out, tree, first));
-    let one = attempt!(also_where(out, true, x));
-    let y = attempt!(stmts(names, levels, below, here, log, out, tree, second));
-    let mut done = attempt!(also_where(out, one, y));
+    attempt!(judge.out.nothing());
+    let x = attempt!(stmts(judge, text, below, here, first));
+    let one = attempt!(also_where(&mut judge.out, true, x));
+    let y = attempt!(stmts(judge, text, below, here, second));
+    let mut done = attempt!(also_where(&mut judge.out, one, y));
     let mut next = more;
-    'arms: while let Some(cell) = tree.cell(next) {
-        let z = attempt!(stmts(names, levels, below, here, log, out, tree, cell.first));
-        done = attempt!(also_where(out, done, z));
+    'arms: while let Some(cell) = text.tree.cell(next) {
+        let z = attempt!(stmts(judge, text, below, here, cell.first));
+        done = attempt!(also_where(&mut judge.out, done, z));
         next = cell.rest;
     }
     Ok(done)
@@ -113,25 +108,20 @@ fn branches(
 /// The arms of a parallel block, whose objects belong to its threads.
 #[cycle(statements)]
 fn threads(
-    names: &Names,
-    levels: u32,
+    judge: &mut Judge,
+    text: Text<'_>,
     below: u32,
     here: &mut Context,
-    log: &mut Log,
-    out: &mut Parts,
     site: u32,
-    tree: &Tree,
     first: u32,
     second: u32,
     more: u32,
-) -> Result<bool, AllocError>
-    ensures { Keeps (spec.branches (in_levels names.now levels below) (spec.in_threads names.now here.old site) (Some part.Nothing) (syntax.AlsoBranch (the_stmts (part_at tree.now.nodes first)) (syntax.AlsoBranch (the_stmts (part_at tree.now.nodes second)) (the_branches (part_at tree.now.nodes more)))) log.old) (parts out.old) here.old result log.new (parts out.new) here.new }
+) -> Giving
+    ensures { Keeps (spec.branches (in_text text.entry below) (spec.in_threads text.entry.names.now here.old site) (Some part.Nothing) (syntax.AlsoBranch (the_stmts (node_of text.entry first)) (syntax.AlsoBranch (the_stmts (node_of text.entry second)) (the_branches (node_of text.entry more))))) here.old judge.old result judge.new here.new }
 {
     let outer = here.owner;
-    here.owner = attempt!(thread_owner(names, site));
-    let given = attempt!(branches(
-        names, levels, below, here, log, out, tree, first, second, more,
-    ));
+    here.owner = attempt!(thread_owner(text.names, site));
+    let given = attempt!(branches(judge, text, below, here, first, second, more));
     here.owner = outer;
     Ok(given)
 }
@@ -153,28 +143,32 @@ fn parallel_made(out: &mut Parts, site: u32, count: bool, arms: bool) -> Result<
 #[cycle(statements)]
 #[tactic(auto, unfolding(name_rules::specs::Statements::parallel))]
 pub fn parallel(
-    names: &Names,
-    levels: u32,
+    judge: &mut Judge,
+    text: Text<'_>,
     below: u32,
     here: &mut Context,
-    log: &mut Log,
-    out: &mut Parts,
     at: u32,
-    tree: &Tree,
     count: Option<u32>,
     first: u32,
     second: u32,
     more: u32,
-) -> Result<bool, AllocError>
-    ensures { Keeps (spec.parallel (in_levels names.now levels below) here.old at (optional (part_at tree.now.nodes) the_simple count) (syntax.AlsoBranch (the_stmts (part_at tree.now.nodes first)) (syntax.AlsoBranch (the_stmts (part_at tree.now.nodes second)) (the_branches (part_at tree.now.nodes more)))) log.old) (parts out.old) here.old result log.new (parts out.new) here.new }
+) -> Giving
+    ensures { Keeps (spec.parallel (in_text text.entry below) here.old at (optional (node_of text.entry) the_simple count) (syntax.AlsoBranch (the_stmts (node_of text.entry first)) (syntax.AlsoBranch (the_stmts (node_of text.entry second)) (the_branches (node_of text.entry more))))) here.old judge.old result judge.new here.new }
 {
-    let arms = attempt!(arm_count(tree, first, second, more));
-    let site = attempt!(new_site(log, here, at, SiteKind::Block(arms)));
-    let c = attempt!(count_where(names, below, here, log, out, tree, count));
-    let xs = attempt!(threads(
-        names, levels, below, here, log, out, site, tree, first, second, more,
+    let arms = attempt!(arm_count(text.tree, first, second, more));
+    let site = attempt!(new_site(&mut judge.log, here, at, SiteKind::Block(arms)));
+    let c = attempt!(count_where(
+        judge,
+        Scene {
+            names: text.names,
+            tree: text.tree,
+            here: &*here,
+            levels: below
+        },
+        count,
     ));
-    attempt!(arm_limit(log, at, arms));
-    let given = attempt!(parallel_made(out, site, c, xs));
+    let xs = attempt!(threads(judge, text, below, here, site, first, second, more));
+    attempt!(arm_limit(&mut judge.log, at, arms));
+    let given = attempt!(parallel_made(&mut judge.out, site, c, xs));
     Ok(given)
 }

@@ -1,7 +1,6 @@
 //! The typed program of a syntax tree, or its least fault.
 
 ghost use Rattle.std.specs.Prelude.{◌≡◌, IfOk, MatchResult, None, Some, option_map};
-ghost use Rattle.syntax_tree.specs.Syntax.{Program};
 ghost use Rattle.typed_tree.specs.Programs as typed_program;
 ghost use Rattle.name_programs.specs.Forms.{whole_if};
 ghost use Rattle.name_programs.specs.Resolving.{Resolved, fault_of};
@@ -12,6 +11,7 @@ ghost use Rattle.syntax_nodes.specs.Tables.{part_at};
 ghost use Rattle.typed_parts.specs.Stack.{parts};
 
 use crate::programs::{Judged, program};
+use crate::text::Text;
 use ada_base::{Items, Tokens};
 use name_faults::least;
 use name_rules::log::{Fault, Log, Rule};
@@ -19,6 +19,7 @@ use name_rules::scope::Names;
 use name_symbols::naming::names_of;
 use name_tables::tables::typed;
 use name_values::attempt;
+use name_values::judge::Judge;
 use std::alloc::{AllocError, Global};
 use syntax_nodes::Tree;
 use thiserror::Error;
@@ -115,12 +116,19 @@ fn fresh(alloc: Global) -> Log
 }
 
 #[tactic(auto, unfolding(name_rules::specs::Resolved::judged))]
-fn judged(alloc: Global, names: &Names, tree: &Tree) -> Result<Outcome, AllocError>
+fn judged<'a>(alloc: Global, names: &'a Names, tree: &'a Tree) -> Result<Outcome, AllocError>
     ensures { IfOk result (λ o. spec.judged names.now (the_program (part_at tree.now.nodes tree.now.root)) ≡ (whole_if o.judged (parts o.out), o.log)) }
 {
-    let mut log = fresh(alloc);
-    let mut out = attempt!(Parts::new(alloc));
-    let judged = attempt!(program(names, DEPTH_LIMIT, &mut log, &mut out, tree, tree.root()));
+    let log = fresh(alloc);
+    let out = attempt!(Parts::new(alloc));
+    let mut judge = Judge { log, out };
+    let text = Text {
+        names: &*names,
+        tree: &*tree,
+        levels: DEPTH_LIMIT,
+    };
+    let judged = attempt!(program(&mut judge, text, tree.root()));
+    let Judge { log, out } = judge;
     Ok(Outcome { log, out, judged })
 }
 

@@ -1,31 +1,32 @@
 //! Subtype indications (3.2.2) and integer types (3.5.4). What bounds mention is their part.
 
-ghost use Rattle.std.specs.Prelude.{◌≡◌, OnOk, option_map};
+ghost use Rattle.std.specs.Prelude.{◌≡◌, OnOk};
 ghost use Rattle.name_programs.specs.DeclarationSteps as step;
 ghost use Rattle.name_rules.specs.Declarations as spec;
-ghost use Rattle.name_rules.specs.Judges.{Judges, Says, found, found_of};
+ghost use Rattle.name_rules.specs.Judges.{Says, found, found_of};
 ghost use Rattle.name_rules.specs.Judging as judging;
-ghost use Rattle.name_rules.specs.Primaries as primaries;
 ghost use Rattle.syntax_nodes.specs.Parts.{the_indic};
-ghost use Rattle.syntax_nodes.specs.Tables.{part_at};
 ghost use Rattle.typed_tree.specs.Latest.{pop, second, top};
 ghost use Rattle.typed_parts.specs.Stack.{parts};
+ghost use Rattle.name_values.specs.Judged.{Judges, JudgesOn, JudgesTwo};
+ghost use Rattle.name_expressions.specs.Scenes.{named_at, node_at};
 
 use crate::rules::unless;
 use name_expressions::expressions::simple;
+use name_expressions::scene::Scene;
 use name_rules::found::Found;
 use name_rules::log::{Log, Rule};
-use name_rules::scope::{Context, Names};
 use name_rules::types::{Kind, Scalar, Subtype, Wanted};
 use name_values::attempt;
 use name_values::bounds::both_static;
+use name_values::judge::Judge;
 use name_values::logs::{also_all, cleared};
 use name_values::operators::both_mentions;
 use name_values::scope::{scalar_named, subtype_named};
 use name_values::types::{in_base, lies_in};
 use name_values::values::{first_of, mentions, static_integer};
 use std::alloc::AllocError;
-use syntax_nodes::{Indic, Tree};
+use syntax_nodes::Indic;
 use typed_parts::Parts;
 
 /// The subtype of a range, if it is one of another subtype and isn't empty.
@@ -71,23 +72,22 @@ fn indic_range(
 /// The subtype of two bounds, the latest parts, in another one.
 #[tactic(auto, using(crate::proofs::Options::indicated_found))]
 fn indic_bounds(
-    log: &mut Log,
-    out: &mut Parts,
+    judge: &mut Judge,
     scalar: Scalar,
     low: Found,
     high: Found,
 ) -> Result<Option<Subtype>, AllocError>
-    ensures { Judges (spec.indic_bounds scalar (found low (second (parts out.old))) (found high (top (parts out.old))) log.old) (pop (pop (parts out.old))) result log.new (parts out.new) }
+    ensures { JudgesTwo (spec.indic_bounds scalar) (found low) (found high) judge.old result judge.new }
 {
-    let bounds = attempt!(both_static(log, out, scalar.kind, low, high));
-    attempt!(both_mentions(out, low, high));
+    let bounds = attempt!(both_static(&mut judge.log, &judge.out, scalar.kind, low, high));
+    attempt!(both_mentions(&mut judge.out, low, high));
     match bounds {
         None => Ok(None),
         Some(span) => {
             let first = first_of(low);
             let last = first_of(high);
             indic_range(
-                log,
+                &mut judge.log,
                 scalar,
                 first,
                 last,
@@ -101,32 +101,24 @@ fn indic_bounds(
 /// The subtype of an indication: WrongType where a range narrows one that isn't scalar; NotStatic, StaticRange at its
 /// bounds.
 #[tactic(auto, unfolding(name_rules::specs::Declarations::indic, name_rules::specs::Ranges::two_bounds, name_rules::specs::Scope::scalar_named), using(crate::proofs::Options::indicated_found))]
-pub fn indic(
-    names: &Names,
-    levels: u32,
-    here: &Context,
-    log: &mut Log,
-    out: &mut Parts,
-    tree: &Tree,
-    id: u32,
-) -> Result<Option<Subtype>, AllocError>
-    ensures { Judges (spec.indic names.now (primaries.inside names.now levels) here.now (the_indic (part_at tree.now.nodes id)) log.old) (parts out.old) result log.new (parts out.new) }
+pub fn indic(judge: &mut Judge, scene: Scene<'_>, id: u32) -> Result<Option<Subtype>, AllocError>
+    ensures { Judges (named_at scene.entry spec.indic (the_indic (node_at scene.entry id))) judge.old result judge.new }
 {
-    match tree.indic(id) {
+    match scene.tree.indic(id) {
         Indic::Mark(mark) => {
-            let subtype = attempt!(subtype_named(names, here, log, out, mark));
-            attempt!(out.nothing());
+            let subtype = attempt!(subtype_named(scene.names, scene.here, judge, mark));
+            attempt!(judge.out.nothing());
             Ok(subtype)
         }
         Indic::RangeMark { mark, low, high } => {
-            let scalar = attempt!(scalar_named(names, here, log, out, mark));
-            let x = attempt!(simple(names, levels, here, log, out, Wanted::Other, tree, low));
-            let y = attempt!(simple(names, levels, here, log, out, Wanted::Other, tree, high));
+            let scalar = attempt!(scalar_named(scene.names, scene.here, judge, mark));
+            let x = attempt!(simple(judge, scene, Wanted::Other, low));
+            let y = attempt!(simple(judge, scene, Wanted::Other, high));
             let (Some(scalar), Some(x), Some(y)) = (scalar, x, y) else {
-                out.leave_out();
+                judge.out.leave_out();
                 return Ok(None);
             };
-            indic_bounds(log, out, scalar, x, y)
+            indic_bounds(judge, scalar, x, y)
         }
     }
 }
@@ -174,21 +166,17 @@ fn first_or(out: &Parts, given: Option<Found>) -> u32
 
 /// The value of an integer that has to be static, where it has no fault; what it mentions is left in its place.
 /// WrongType, NotStatic.
-pub fn static_bound(
-    log: &mut Log,
-    out: &mut Parts,
-    given: Option<Found>,
-) -> Result<Option<i128>, AllocError>
-    ensures { Says (judging.given (found_of given (top (parts out.old))) spec.static_number log.old) result log.new × OnOk result ((top (parts out.new) ≡ spec.found_mentions (found_of given (top (parts out.old)))) × (pop (parts out.new) ≡ pop (parts out.old))) }
+pub fn static_bound(judge: &mut Judge, given: Option<Found>) -> Result<Option<i128>, AllocError>
+    ensures { Says (judging.given (found_of given (top (parts judge.old.out))) spec.static_number judge.old.log) result judge.new.log × OnOk result ((top (parts judge.new.out) ≡ spec.found_mentions (found_of given (top (parts judge.old.out)))) × (pop (parts judge.new.out) ≡ pop (parts judge.old.out))) }
 {
     match given {
         None => {
-            attempt!(cleared(out));
+            attempt!(cleared(&mut judge.out));
             Ok(None)
         }
         Some(found) => {
-            attempt!(mentions(out, found));
-            let value = attempt!(static_integer(log, found));
+            attempt!(mentions(&mut judge.out, found));
+            let value = attempt!(static_integer(&mut judge.log, found));
             Ok(value)
         }
     }
@@ -197,23 +185,22 @@ pub fn static_bound(
 /// The type of two bounds, the latest parts.
 #[tactic(auto, using(crate::proofs::Options::indicated_found))]
 pub fn own_type_of(
-    log: &mut Log,
-    out: &mut Parts,
+    judge: &mut Judge,
     token: u32,
     low: Option<Found>,
     high: Option<Found>,
 ) -> Result<Option<Subtype>, AllocError>
-    ensures { Judges (spec.own_type_of token (found_of low (second (parts out.old)), found_of high (top (parts out.old))) log.old) (pop (pop (parts out.old))) result log.new (parts out.new) }
+    ensures { JudgesOn (pop (pop (parts judge.old.out))) (spec.own_type_of token (found_of low (second (parts judge.old.out)), found_of high (top (parts judge.old.out)))) judge.old result judge.new }
 {
-    attempt!(out.swap());
-    let first = first_or(out, low);
-    let a = attempt!(static_bound(log, out, low));
-    attempt!(out.swap());
-    let last = first_or(out, high);
-    let z = attempt!(static_bound(log, out, high));
-    attempt!(also_all(out));
+    attempt!(judge.out.swap());
+    let first = first_or(&judge.out, low);
+    let a = attempt!(static_bound(judge, low));
+    attempt!(judge.out.swap());
+    let last = first_or(&judge.out, high);
+    let z = attempt!(static_bound(judge, high));
+    attempt!(also_all(&mut judge.out));
     let (Some(a), Some(z)) = (a, z) else {
         return Ok(None);
     };
-    own_type(log, token, first, last, a, z)
+    own_type(&mut judge.log, token, first, last, a, z)
 }

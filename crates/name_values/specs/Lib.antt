@@ -1,6 +1,7 @@
 pub mod Bounds
 pub mod Calling
 pub mod Coverage
+pub mod Judged
 pub mod Operands
 pub mod Putting
 pub mod Reductions

@@ -5,12 +5,14 @@ ghost use Rattle.std.specs.List.{list_any, position};
 ghost use Rattle.typed_tree.specs.Decoded as part;
 ghost use Rattle.typed_tree.specs.Latest.{pop, second, top};
 ghost use Rattle.name_rules.specs.Calls as spec;
-ghost use Rattle.name_rules.specs.Judges.{Gives, Judges, Says, found, part_if};
+ghost use Rattle.name_rules.specs.Judges.{Says, found, part_if};
+ghost use Rattle.name_values.specs.Judged.{GivesOn, GivesOne, JudgesOn};
 ghost use Rattle.name_rules.specs.Judging.{some};
 ghost use Rattle.name_rules.specs.TypedParts.{selections_of};
 ghost use Rattle.name_values.specs.Calling.{Leaves, calling_of, next_calling};
 ghost use Rattle.typed_parts.specs.Stack.{parts};
 
+use crate::judge::{Giving, Judge};
 use crate::logs::{breaks, not_given};
 use crate::symbols::symbol;
 use crate::types::{same, typed_scalar};
@@ -115,53 +117,43 @@ fn composite_actual(
     }
 }
 
-fn place_given(
-    log: &mut Log,
-    out: &mut Parts,
-    taken: Taken,
-    place: Place,
-) -> Result<bool, AllocError>
-    ensures { Gives (spec.place_given taken place (selections_of (top (parts out.old))) taken.subtype place.subtype log.old) (pop (parts out.old)) result log.new (parts out.new) }
+fn place_given(judge: &mut Judge, taken: Taken, place: Place) -> Giving
+    ensures { GivesOn (pop (parts judge.old.out)) (spec.place_given taken place (selections_of (top (parts judge.old.out))) taken.subtype place.subtype) judge.old result judge.new }
 {
     match (taken.subtype, place.subtype) {
         (Subtype::Scalar(inside), Subtype::Scalar(outside)) => {
             if !same(inside.kind, outside.kind) {
-                return not_given(log, out, place.first, Rule::WrongType);
+                return not_given(judge, place.first, Rule::WrongType);
             }
-            attempt!(scalar_actual(out, taken, inside, place, outside));
+            attempt!(scalar_actual(&mut judge.out, taken, inside, place, outside));
             Ok(true)
         }
         (Subtype::Composite(number), Subtype::Composite(own)) => {
             if number != own {
-                return not_given(log, out, place.first, Rule::WrongType);
+                return not_given(judge, place.first, Rule::WrongType);
             }
-            attempt!(composite_actual(out, taken, place, number));
+            attempt!(composite_actual(&mut judge.out, taken, place, number));
             Ok(true)
         }
-        _ => not_given(log, out, place.first, Rule::WrongType),
+        _ => not_given(judge, place.first, Rule::WrongType),
     }
 }
 
 /// The actual of a parameter of mode `out` or `in out`, in place of the latest part: WrongType at its first token where
 /// it is no variable of the parameter's type.
 #[tactic(auto, unfolding(name_rules::specs::Calls::variable_given))]
-pub fn variable_given(
-    log: &mut Log,
-    out: &mut Parts,
-    taken: Taken,
-    given: Found,
-) -> Result<bool, AllocError>
-    ensures { Gives (spec.variable_given taken (found given (top (parts out.old))) log.old) (pop (parts out.old)) result log.new (parts out.new) }
+pub fn variable_given(judge: &mut Judge, taken: Taken, given: Found) -> Giving
+    ensures { GivesOne (spec.variable_given taken) (found given) judge.old result judge.new }
 {
     match given {
         Found::Object(place) => {
             if place.variable {
-                place_given(log, out, taken, place)
+                place_given(judge, taken, place)
             } else {
-                not_given(log, out, place.first, Rule::WrongType)
+                not_given(judge, place.first, Rule::WrongType)
             }
         }
-        _ => not_given(log, out, first_of(given), Rule::WrongType),
+        _ => not_given(judge, first_of(given), Rule::WrongType),
     }
 }
 
@@ -314,22 +306,16 @@ pub fn next(
 
 /// The actuals of a complete call, which are the latest part: WrongType at a positional argument after a named one, or
 /// at the token of the call where there are too few or too many.
-pub fn complete(
-    log: &mut Log,
-    out: &Parts,
-    at: u32,
-    count: usize,
-    calling: &Calling,
-) -> Result<bool, AllocError>
-    ensures { Gives (spec.complete at count calling.now.late (calling_of calling.now (top (parts out.now))) log.old) (pop (parts out.now)) result log.new (parts out.now) }
+pub fn complete(judge: &mut Judge, at: u32, count: usize, calling: &Calling) -> Giving
+    ensures { GivesOn (pop (parts judge.old.out)) (spec.complete at count calling.now.late (calling_of calling.now (top (parts judge.old.out)))) judge.old result judge.new }
 {
     match calling.late {
-        Some(late) => not_given(log, out, late, Rule::WrongType),
+        Some(late) => not_given(judge, late, Rule::WrongType),
         None => {
             if calling.count == count {
                 Ok(calling.good)
             } else {
-                not_given(log, out, at, Rule::WrongType)
+                not_given(judge, at, Rule::WrongType)
             }
         }
     }
@@ -338,24 +324,22 @@ pub fn complete(
 /// A call of a subprogram (6.4) with its actuals, which are the latest part: a function's gives a value, a procedure's
 /// is a statement.
 pub fn call_given(
-    log: &Log,
-    out: &mut Parts,
+    judge: &mut Judge,
     first: u32,
     last: u32,
     number: u32,
     gives: Option<Scalar>,
 ) -> Result<Option<Denoted>, AllocError>
-    ensures { Judges (some (spec.call_given first last number gives (top (parts out.old))) log.now) (pop (parts out.old)) result log.now (parts out.new) }
+    ensures { JudgesOn (pop (parts judge.old.out)) (some (spec.call_given first last number gives (top (parts judge.old.out)))) judge.old result judge.new }
 {
-    let _log = log;
-    attempt!(out.turn());
+    attempt!(judge.out.turn());
     match gives {
         None => {
-            attempt!(out.call_procedure(first, last, number));
+            attempt!(judge.out.call_procedure(first, last, number));
             Ok(Some(Denoted::Done { first }))
         }
         Some(scalar) => {
-            attempt!(out.call(first, last, number));
+            attempt!(judge.out.call(first, last, number));
             Ok(Some(Denoted::Value(Found::Scalar {
                 first,
                 kind: scalar.kind,

@@ -2,13 +2,13 @@
 
 ghost use Rattle.std.specs.Prelude.{◌≡◌, ◌∷◌, OnOk};
 ghost use Rattle.typed_tree.specs.Decoded as part;
-ghost use Rattle.typed_tree.specs.Latest.{pop, second, top, turned};
-ghost use Rattle.name_rules.specs.Judges.{Gives, Judges};
+ghost use Rattle.typed_tree.specs.Latest.{pop, second, top};
+ghost use Rattle.name_values.specs.Judged.{GivesOn, JudgesOn};
 ghost use Rattle.name_rules.specs.Judging.{breaks, fault};
 ghost use Rattle.name_rules.specs.TypedParts.{also_all};
 ghost use Rattle.typed_parts.specs.Stack.{parts};
 
-use name_rules::found::Found;
+use crate::judge::{Finding, Giving, Judge};
 use name_rules::log::{Fault, Log, Rule};
 use std::alloc::AllocError;
 use typed_parts::Parts;
@@ -21,34 +21,27 @@ pub fn breaks(log: &mut Log, at: u32, rule: Rule) -> Result<(), AllocError>
 }
 
 /// Writes that a rule is broken, in place of the latest part.
-pub fn no_part(log: &mut Log, out: &Parts, at: u32, rule: Rule) -> Result<Option<Found>, AllocError>
-    ensures { Judges (fault at rule log.old) (pop (parts out.now)) result log.new (parts out.now) }
+pub fn no_part(judge: &mut Judge, at: u32, rule: Rule) -> Finding
+    ensures { JudgesOn (pop (parts judge.old.out)) (fault at rule) judge.old result judge.new }
 {
-    let _out = out;
-    attempt!(breaks(log, at, rule));
+    attempt!(breaks(&mut judge.log, at, rule));
     Ok(None)
 }
 
 /// Writes that a rule is broken, in place of the two latest parts.
-pub fn no_parts(
-    log: &mut Log,
-    out: &mut Parts,
-    at: u32,
-    rule: Rule,
-) -> Result<Option<Found>, AllocError>
-    ensures { Judges (fault at rule log.old) (pop (pop (parts out.old))) result log.new (parts out.new) }
+pub fn no_parts(judge: &mut Judge, at: u32, rule: Rule) -> Finding
+    ensures { JudgesOn (pop (pop (parts judge.old.out))) (fault at rule) judge.old result judge.new }
 {
-    out.leave_out();
-    attempt!(breaks(log, at, rule));
+    judge.out.leave_out();
+    attempt!(breaks(&mut judge.log, at, rule));
     Ok(None)
 }
 
 /// Writes that a rule is broken, and that there is no part of the typed program for it in place of the latest one.
-pub fn not_given(log: &mut Log, out: &Parts, at: u32, rule: Rule) -> Result<bool, AllocError>
-    ensures { Gives (fault at rule log.old) (pop (parts out.now)) result log.new (parts out.now) }
+pub fn not_given(judge: &mut Judge, at: u32, rule: Rule) -> Giving
+    ensures { GivesOn (pop (parts judge.old.out)) (fault at rule) judge.old result judge.new }
 {
-    let _out = out;
-    attempt!(breaks(log, at, rule));
+    attempt!(breaks(&mut judge.log, at, rule));
     Ok(false)
 }
 

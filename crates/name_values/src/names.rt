@@ -4,13 +4,15 @@ ghost use Rattle.std.specs.Prelude.{◌≡◌, ◌∷◌, OnOk, slice_get};
 ghost use Rattle.typed_tree.specs.Decoded.{ASelection};
 ghost use Rattle.typed_tree.specs.Syntax as typed;
 ghost use Rattle.typed_tree.specs.Latest.{pop, top};
-ghost use Rattle.name_rules.specs.Judges.{Judges, found};
+ghost use Rattle.name_rules.specs.Judges.{found};
+ghost use Rattle.name_values.specs.Judged.{JudgesOn, JudgesOne};
 ghost use Rattle.name_rules.specs.Judging.{fault};
 ghost use Rattle.name_rules.specs.Names as spec;
 ghost use Rattle.name_rules.specs.Types as types;
 ghost use Rattle.name_rules.specs.TypedParts.{also};
 ghost use Rattle.typed_parts.specs.Stack.{parts};
 
+use crate::judge::Judge;
 use crate::logs::breaks;
 use crate::scope::selected;
 use crate::symbols::symbol;
@@ -54,16 +56,10 @@ pub fn part_place(place: Place, subtype: Subtype) -> Denoted
 }
 
 /// Writes that a rule is broken by a name, in place of the latest part.
-pub fn wrong_name(
-    log: &mut Log,
-    out: &Parts,
-    at: u32,
-    rule: Rule,
-) -> Result<Option<Denoted>, AllocError>
-    ensures { Judges (fault at rule log.old) (pop (parts out.now)) result log.new (parts out.now) }
+pub fn wrong_name(judge: &mut Judge, at: u32, rule: Rule) -> Result<Option<Denoted>, AllocError>
+    ensures { JudgesOn (pop (parts judge.old.out)) (fault at rule) judge.old result judge.new }
 {
-    let _out = out;
-    attempt!(breaks(log, at, rule));
+    attempt!(breaks(&mut judge.log, at, rule));
     Ok(None)
 }
 
@@ -152,19 +148,18 @@ fn selected_field(out: &mut Parts, place: usize, offset: u64) -> Result<(), Allo
 #[tactic(auto, using(crate::proofs::Fields::field_found, crate::proofs::Fields::field_next, crate::proofs::Fields::field_none, crate::proofs::Lists::drop_less))]
 fn field_from(
     names: &Names,
-    log: &mut Log,
-    out: &mut Parts,
+    judge: &mut Judge,
     place: Place,
     at: u32,
     number: u32,
 ) -> Result<Option<Denoted>, AllocError>
-    ensures { Judges (spec.field_from names.now place (top (parts out.old)) at 0 (types.fields_of (types.shape_in log.old number)) log.old) (pop (parts out.old)) result log.new (parts out.new) }
+    ensures { JudgesOn (pop (parts judge.old.out)) (spec.field_from names.now place (top (parts judge.old.out)) at 0 (types.fields_of (types.shape_in judge.old.log number))) judge.old result judge.new }
 {
     let name = symbol(names, at);
     let mut i = 0;
-    'fields: while let Some(field) = field_at(log, number, i) {
+    'fields: while let Some(field) = field_at(&judge.log, number, i) {
         if field.symbol == name {
-            selected_field(out, i, field.offset)?;
+            selected_field(&mut judge.out, i, field.offset)?;
             return Ok(Some(part_place(place, field.subtype)));
         }
         if i == usize::MAX {
@@ -172,27 +167,26 @@ fn field_from(
         }
         i += 1;
     }
-    wrong_name(log, out, at, Rule::Unknown)
+    wrong_name(judge, at, Rule::Unknown)
 }
 
 fn field_of(
     names: &Names,
-    log: &mut Log,
-    out: &mut Parts,
+    judge: &mut Judge,
     place: Place,
     at: u32,
 ) -> Result<Option<Denoted>, AllocError>
-    ensures { Judges (spec.field_of names.now place (top (parts out.old)) at place.subtype log.old) (pop (parts out.old)) result log.new (parts out.new) }
+    ensures { JudgesOn (pop (parts judge.old.out)) (spec.field_of names.now place (top (parts judge.old.out)) at place.subtype) judge.old result judge.new }
 {
     match place.subtype {
         Subtype::Composite(number) => {
-            if is_record(log, number) {
-                field_from(names, log, out, place, at, number)
+            if is_record(&judge.log, number) {
+                field_from(names, judge, place, at, number)
             } else {
-                wrong_name(log, out, place.first, Rule::WrongType)
+                wrong_name(judge, place.first, Rule::WrongType)
             }
         }
-        Subtype::Scalar(_) => wrong_name(log, out, place.first, Rule::WrongType),
+        Subtype::Scalar(_) => wrong_name(judge, place.first, Rule::WrongType),
     }
 }
 
@@ -202,22 +196,21 @@ fn field_of(
 pub fn field(
     names: &Names,
     here: &Context,
-    log: &mut Log,
-    out: &mut Parts,
+    judge: &mut Judge,
     at: u32,
     denoted: Denoted,
 ) -> Result<Option<Denoted>, AllocError>
-    ensures { Judges (spec.field names.now here.now at (found denoted (top (parts out.old))) log.old) (pop (parts out.old)) result log.new (parts out.new) }
+    ensures { JudgesOne (spec.field names.now here.now at) (found denoted) judge.old result judge.new }
 {
     match denoted {
         Denoted::Package {
             first,
             symbol: library,
         } => {
-            out.leave_out();
-            selected(names, here, log, out, first, library, at)
+            judge.out.leave_out();
+            selected(names, here, judge, first, library, at)
         }
-        Denoted::Value(Found::Object(place)) => field_of(names, log, out, place, at),
-        _ => wrong_name(log, out, denoted_first(denoted), Rule::WrongType),
+        Denoted::Value(Found::Object(place)) => field_of(names, judge, place, at),
+        _ => wrong_name(judge, denoted_first(denoted), Rule::WrongType),
     }
 }

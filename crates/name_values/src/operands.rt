@@ -2,17 +2,19 @@
 
 ghost use Rattle.std.specs.Prelude.{◌≡◌, ◌∷◌, [], IfOk, None};
 ghost use Rattle.name_rules.specs.Calls as spec;
-ghost use Rattle.name_rules.specs.Judges.{Judges, found, found_of};
+ghost use Rattle.name_rules.specs.Judges.{found, found_of};
+ghost use Rattle.name_values.specs.Judged.{JudgesOn, JudgesOne};
 ghost use Rattle.name_values.specs.Operands.{founds, operands_of};
 ghost use Rattle.typed_tree.specs.Latest.{pop, second, top};
 ghost use Rattle.typed_parts.specs.Stack.{parts};
 
+use crate::judge::Judge;
 use crate::names::wrong_name;
 use crate::types::check_at;
 use crate::values::{first_of, is_number, settled_found};
 use ada_base::Items;
 use name_rules::found::{Denoted, Found};
-use name_rules::log::{Log, Rule};
+use name_rules::log::Rule;
 use name_rules::types::Scalar;
 use std::alloc::AllocError;
 use typed_parts::Parts;
@@ -44,21 +46,20 @@ pub fn with_operand(
 /// The conversion (4.6) of an operand, which is the latest part, to an integer type: WrongType at its first token where
 /// it is no number.
 fn converted(
-    log: &mut Log,
-    out: &mut Parts,
+    judge: &mut Judge,
     first: u32,
     scalar: Scalar,
     given: Found,
 ) -> Result<Option<Denoted>, AllocError>
-    ensures { Judges (spec.converted first scalar (found given (top (parts out.old))) log.old) (pop (parts out.old)) result log.new (parts out.new) }
+    ensures { JudgesOne (spec.converted first scalar) (found given) judge.old result judge.new }
 {
     if !is_number(given) {
-        return wrong_name(log, out, first_of(given), Rule::WrongType);
+        return wrong_name(judge, first_of(given), Rule::WrongType);
     }
-    if !attempt!(settled_found(log, out, given)) {
+    if !attempt!(settled_found(judge, given)) {
         return Ok(None);
     }
-    attempt!(out.convert(check_at(first, scalar)));
+    attempt!(judge.out.convert(check_at(first, scalar)));
     Ok(Some(Denoted::Value(Found::Scalar {
         first,
         kind: scalar.kind,
@@ -70,21 +71,20 @@ fn converted(
 /// another number of them.
 #[tactic(auto, using(crate::proofs::Founds::one_found, crate::proofs::Founds::not_one))]
 pub fn one_operand(
-    log: &mut Log,
-    out: &mut Parts,
+    judge: &mut Judge,
     bracket: u32,
     first: u32,
     scalar: Scalar,
     operands: &Items<Found>,
 ) -> Result<Option<Denoted>, AllocError>
-    ensures { Judges (spec.one_operand bracket first scalar (None ∷ []) (founds operands.now (top (parts out.old))) log.old) (pop (parts out.old)) result log.new (parts out.new) }
+    ensures { JudgesOn (pop (parts judge.old.out)) (spec.one_operand bracket first scalar (None ∷ []) (founds operands.now (top (parts judge.old.out)))) judge.old result judge.new }
 {
     match operands.as_slice() {
         [given] => {
-            attempt!(out.apart());
-            out.leave_out();
-            converted(log, out, first, scalar, *given)
+            attempt!(judge.out.apart());
+            judge.out.leave_out();
+            converted(judge, first, scalar, *given)
         }
-        _ => wrong_name(log, out, bracket, Rule::WrongType),
+        _ => wrong_name(judge, bracket, Rule::WrongType),
     }
 }

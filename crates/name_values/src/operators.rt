@@ -4,13 +4,15 @@
 ghost use Rattle.std.specs.Prelude.{◌≡◌, ◌∷◌, OnOk};
 ghost use Rattle.typed_tree.specs.Decoded as part;
 ghost use Rattle.typed_tree.specs.Latest.{pop, second, top};
-ghost use Rattle.name_rules.specs.Judges.{Judges, Opens, found, found_of};
+ghost use Rattle.name_rules.specs.Judges.{Opens, found, found_of};
+ghost use Rattle.name_values.specs.Judged.{JudgesOn, JudgesOne, JudgesTwo};
 ghost use Rattle.name_rules.specs.Judging.{pure};
 ghost use Rattle.name_rules.specs.Operators as spec;
 ghost use Rattle.name_rules.specs.Values as values;
 ghost use Rattle.typed_parts.specs.Stack.{parts};
 
 use crate::exact::{exact, signed};
+use crate::judge::{Finding, Judge};
 use crate::logs::{also_all, no_part, no_parts};
 use crate::types::{class_of, in_base, same};
 use crate::values::{
@@ -18,7 +20,7 @@ use crate::values::{
 };
 use ada_base::Op;
 use name_rules::found::{Found, Limits};
-use name_rules::log::{Log, Rule};
+use name_rules::log::Rule;
 use name_rules::types::Kind;
 use std::alloc::AllocError;
 use typed_parts::Parts;
@@ -27,20 +29,14 @@ use typed_tree::{Class, Sign};
 /// A static value of a type, with what is mentioned as the latest part: StaticRange where there is none in the type's
 /// base range.
 #[tactic(auto, unfolding(name_rules::specs::Operators::static_of))]
-fn static_of(
-    log: &mut Log,
-    out: &Parts,
-    first: u32,
-    kind: Kind,
-    value: Option<i128>,
-) -> Result<Option<Found>, AllocError>
-    ensures { Judges (spec.static_of first kind (top (parts out.now)) value log.old) (pop (parts out.now)) result log.new (parts out.now) }
+fn static_of(judge: &mut Judge, first: u32, kind: Kind, value: Option<i128>) -> Finding
+    ensures { JudgesOn (pop (parts judge.old.out)) (spec.static_of first kind (top (parts judge.old.out)) value) judge.old result judge.new }
 {
     let Some(value) = value else {
-        return no_part(log, out, first, Rule::StaticRange);
+        return no_part(judge, first, Rule::StaticRange);
     };
     if !in_base(kind, value) {
-        return no_part(log, out, first, Rule::StaticRange);
+        return no_part(judge, first, Rule::StaticRange);
     }
     Ok(Some(Found::Static {
         first,
@@ -51,16 +47,11 @@ fn static_of(
 
 /// A universal static value, with what is mentioned as the latest part: StaticRange where there is none in 128 bits.
 #[tactic(auto, unfolding(name_rules::specs::Operators::static_universal))]
-fn static_universal(
-    log: &mut Log,
-    out: &Parts,
-    first: u32,
-    value: Option<i128>,
-) -> Result<Option<Found>, AllocError>
-    ensures { Judges (spec.static_universal first (top (parts out.now)) value log.old) (pop (parts out.now)) result log.new (parts out.now) }
+fn static_universal(judge: &mut Judge, first: u32, value: Option<i128>) -> Finding
+    ensures { JudgesOn (pop (parts judge.old.out)) (spec.static_universal first (top (parts judge.old.out)) value) judge.old result judge.new }
 {
     let Some(value) = value else {
-        return no_part(log, out, first, Rule::StaticRange);
+        return no_part(judge, first, Rule::StaticRange);
     };
     Ok(Some(Found::Universal {
         first,
@@ -83,8 +74,7 @@ pub fn both_mentions(out: &mut Parts, left: Found, right: Found) -> Result<(), A
 /// Two static operands give a static value.
 #[tactic(auto, unfolding(name_rules::specs::Operators::static_operation))]
 fn static_operation(
-    log: &mut Log,
-    out: &mut Parts,
+    judge: &mut Judge,
     op: Op,
     left_kind: Kind,
     right_kind: Kind,
@@ -92,16 +82,15 @@ fn static_operation(
     left_value: i128,
     right: Found,
     right_value: i128,
-) -> Result<Option<Found>, AllocError>
-    ensures { Judges (spec.static_operation op left_kind right_kind (found left (second (parts out.old))) left_value (found right (top (parts out.old))) right_value log.old) (pop (pop (parts out.old))) result log.new (parts out.new) }
+) -> Finding
+    ensures { JudgesTwo (λ x y. spec.static_operation op left_kind right_kind x left_value y right_value) (found left) (found right) judge.old result judge.new }
 {
-    attempt!(both_mentions(out, left, right));
-    let fits = attempt!(fitting(log, left_kind, first_of(left), left_value));
-    let also = attempt!(fitting(log, right_kind, first_of(right), right_value));
+    attempt!(both_mentions(&mut judge.out, left, right));
+    let fits = attempt!(fitting(&mut judge.log, left_kind, first_of(left), left_value));
+    let also = attempt!(fitting(&mut judge.log, right_kind, first_of(right), right_value));
     if fits && also {
         static_of(
-            log,
-            out,
+            judge,
             first_of(left),
             left_kind,
             exact(op, left_value, right_value),
@@ -114,26 +103,25 @@ fn static_operation(
 /// An operation on two operands that take these types, the first of which its result has.
 #[tactic(auto, unfolding(name_rules::specs::Operators::operation_on))]
 pub fn operation_on(
-    log: &mut Log,
-    out: &mut Parts,
+    judge: &mut Judge,
     op: Op,
     at: u32,
     left_kind: Kind,
     right_kind: Kind,
     left: Found,
     right: Found,
-) -> Result<Option<Found>, AllocError>
-    ensures { Judges (spec.operation_on op at left_kind right_kind (found left (second (parts out.old))) (found right (top (parts out.old))) log.old) (pop (pop (parts out.old))) result log.new (parts out.new) }
+) -> Finding
+    ensures { JudgesTwo (spec.operation_on op at left_kind right_kind) (found left) (found right) judge.old result judge.new }
 {
-    attempt!(out.swap());
-    let x = attempt!(asked(log, out, left_kind, left));
-    attempt!(out.swap());
-    let y = attempt!(asked(log, out, right_kind, right));
+    attempt!(judge.out.swap());
+    let x = attempt!(asked(judge, left_kind, left));
+    attempt!(judge.out.swap());
+    let y = attempt!(asked(judge, right_kind, right));
     if !x || !y {
-        out.leave_out();
+        judge.out.leave_out();
         return Ok(None);
     }
-    attempt!(out.binary(at, op, class_of(left_kind)));
+    attempt!(judge.out.binary(at, op, class_of(left_kind)));
     Ok(Some(Found::Scalar {
         first: first_of(left),
         kind: left_kind,
@@ -144,21 +132,20 @@ pub fn operation_on(
 /// The right operand has a type of its own in a power alone.
 #[tactic(auto, unfolding(name_rules::specs::Operators::typed_operation))]
 fn typed_operation(
-    log: &mut Log,
-    out: &mut Parts,
+    judge: &mut Judge,
     op: Op,
     at: u32,
     left_kind: Kind,
     right_kind: Kind,
     left: Found,
     right: Found,
-) -> Result<Option<Found>, AllocError>
-    ensures { Judges (spec.typed_operation op at left_kind right_kind (found left (second (parts out.old))) (found right (top (parts out.old))) log.old) (pop (pop (parts out.old))) result log.new (parts out.new) }
+) -> Finding
+    ensures { JudgesTwo (spec.typed_operation op at left_kind right_kind) (found left) (found right) judge.old result judge.new }
 {
     if let (Some(u), Some(v)) = (value_of(left), value_of(right)) {
-        return static_operation(log, out, op, left_kind, right_kind, left, u, right, v);
+        return static_operation(judge, op, left_kind, right_kind, left, u, right, v);
     }
-    operation_on(log, out, op, at, left_kind, right_kind, left, right)
+    operation_on(judge, op, at, left_kind, right_kind, left, right)
 }
 
 fn leaf_limits(first: u32, value: i128) -> Limits
@@ -224,26 +211,18 @@ pub fn open_of(out: &mut Parts, given: Found) -> Result<Option<Limits>, AllocErr
 }
 
 #[tactic(auto, unfolding(name_rules::specs::Operators::open_binary))]
-fn open_binary(
-    log: &Log,
-    out: &mut Parts,
-    op: Op,
-    at: u32,
-    left: Found,
-    right: Found,
-) -> Result<Option<Found>, AllocError>
-    ensures { Judges (pure (spec.open_binary op at (found left (second (parts out.old))) (found right (top (parts out.old)))) log.now) (pop (pop (parts out.old))) result log.now (parts out.new) }
+fn open_binary(judge: &mut Judge, op: Op, at: u32, left: Found, right: Found) -> Finding
+    ensures { JudgesTwo (λ x y. pure (spec.open_binary op at x y)) (found left) (found right) judge.old result judge.new }
 {
-    let _log = log;
-    attempt!(out.swap());
-    let x = attempt!(open_of(out, left));
-    attempt!(out.swap());
-    let y = attempt!(open_of(out, right));
+    attempt!(judge.out.swap());
+    let x = attempt!(open_of(&mut judge.out, left));
+    attempt!(judge.out.swap());
+    let y = attempt!(open_of(&mut judge.out, right));
     let (Some(x), Some(y)) = (x, y) else {
-        out.leave_out();
+        judge.out.leave_out();
         return Ok(None);
     };
-    attempt!(out.binary(at, op, Class::Universal));
+    attempt!(judge.out.binary(at, op, Class::Universal));
     Ok(Some(Found::Open {
         first: first_of(left),
         limits: joint(x, y),
@@ -251,21 +230,14 @@ fn open_binary(
 }
 
 #[tactic(auto, unfolding(name_rules::specs::Operators::universal_operation))]
-fn universal_operation(
-    log: &mut Log,
-    out: &mut Parts,
-    op: Op,
-    at: u32,
-    left: Found,
-    right: Found,
-) -> Result<Option<Found>, AllocError>
-    ensures { Judges (spec.universal_operation op at (found left (second (parts out.old))) (found right (top (parts out.old))) log.old) (pop (pop (parts out.old))) result log.new (parts out.new) }
+fn universal_operation(judge: &mut Judge, op: Op, at: u32, left: Found, right: Found) -> Finding
+    ensures { JudgesTwo (spec.universal_operation op at) (found left) (found right) judge.old result judge.new }
 {
     if let (Some(u), Some(v)) = (value_of(left), value_of(right)) {
-        attempt!(both_mentions(out, left, right));
-        return static_universal(log, out, first_of(left), exact(op, u, v));
+        attempt!(both_mentions(&mut judge.out, left, right));
+        return static_universal(judge, first_of(left), exact(op, u, v));
     }
-    open_binary(log, out, op, at, left, right)
+    open_binary(judge, op, at, left, right)
 }
 
 /// A string before a number's operator is blamed at its first token.
@@ -279,28 +251,21 @@ fn operand_blamed(left: Found, at: u32) -> u32
 }
 
 #[tactic(auto, unfolding(name_rules::specs::Operators::operation))]
-fn operation(
-    log: &mut Log,
-    out: &mut Parts,
-    op: Op,
-    at: u32,
-    left: Found,
-    right: Found,
-) -> Result<Option<Found>, AllocError>
-    ensures { Judges (spec.operation op at (found left (second (parts out.old))) (found right (top (parts out.old))) log.old) (pop (pop (parts out.old))) result log.new (parts out.new) }
+fn operation(judge: &mut Judge, op: Op, at: u32, left: Found, right: Found) -> Finding
+    ensures { JudgesTwo (spec.operation op at) (found left) (found right) judge.old result judge.new }
 {
     if !is_number(left) || !is_number(right) {
-        return no_parts(log, out, operand_blamed(left, at), Rule::WrongType);
+        return no_parts(judge, operand_blamed(left, at), Rule::WrongType);
     }
     match (kind_of(left), kind_of(right)) {
-        (None, None) => universal_operation(log, out, op, at, left, right),
-        (None, Some(kind)) => typed_operation(log, out, op, at, kind, kind, left, right),
-        (Some(kind), None) => typed_operation(log, out, op, at, kind, kind, left, right),
+        (None, None) => universal_operation(judge, op, at, left, right),
+        (None, Some(kind)) => typed_operation(judge, op, at, kind, kind, left, right),
+        (Some(kind), None) => typed_operation(judge, op, at, kind, kind, left, right),
         (Some(own), Some(kind)) => {
             if same(own, kind) {
-                typed_operation(log, out, op, at, kind, kind, left, right)
+                typed_operation(judge, op, at, kind, kind, left, right)
             } else {
-                no_parts(log, out, at, Rule::WrongType)
+                no_parts(judge, at, Rule::WrongType)
             }
         }
     }
@@ -310,44 +275,37 @@ fn operation(
 /// that stands before it.
 #[tactic(auto, unfolding(name_rules::specs::Operators::binary))]
 pub fn binary(
-    log: &mut Log,
-    out: &mut Parts,
+    judge: &mut Judge,
     op: Op,
     at: u32,
     left: Option<Found>,
     right: Option<Found>,
-) -> Result<Option<Found>, AllocError>
-    ensures { Judges (spec.binary op at (found_of left (second (parts out.old))) (found_of right (top (parts out.old))) log.old) (pop (pop (parts out.old))) result log.new (parts out.new) }
+) -> Finding
+    ensures { JudgesTwo (spec.binary op at) (found_of left) (found_of right) judge.old result judge.new }
 {
     let (Some(left), Some(right)) = (left, right) else {
-        out.leave_out();
+        judge.out.leave_out();
         return Ok(None);
     };
-    operation(log, out, op, at, left, right)
+    operation(judge, op, at, left, right)
 }
 
 #[tactic(auto, unfolding(name_rules::specs::Operators::universal_power))]
-fn universal_power(
-    log: &mut Log,
-    out: &mut Parts,
-    at: u32,
-    base: Found,
-    exponent: Found,
-) -> Result<Option<Found>, AllocError>
-    ensures { Judges (spec.universal_power at (found base (second (parts out.old))) (found exponent (top (parts out.old))) log.old) (pop (pop (parts out.old))) result log.new (parts out.new) }
+fn universal_power(judge: &mut Judge, at: u32, base: Found, exponent: Found) -> Finding
+    ensures { JudgesTwo (spec.universal_power at) (found base) (found exponent) judge.old result judge.new }
 {
-    if !attempt!(asked(log, out, Kind::Integer, exponent)) {
-        out.leave_out();
+    if !attempt!(asked(judge, Kind::Integer, exponent)) {
+        judge.out.leave_out();
         return Ok(None);
     }
-    attempt!(out.swap());
-    let x = attempt!(open_of(out, base));
-    attempt!(out.swap());
+    attempt!(judge.out.swap());
+    let x = attempt!(open_of(&mut judge.out, base));
+    attempt!(judge.out.swap());
     let Some(limits) = x else {
-        out.leave_out();
+        judge.out.leave_out();
         return Ok(None);
     };
-    attempt!(out.binary(at, Op::Pow, Class::Universal));
+    attempt!(judge.out.binary(at, Op::Pow, Class::Universal));
     Ok(Some(Found::Open {
         first: first_of(base),
         limits,
@@ -356,20 +314,23 @@ fn universal_power(
 
 #[tactic(auto, unfolding(name_rules::specs::Operators::static_power))]
 fn static_power(
-    log: &mut Log,
-    out: &mut Parts,
+    judge: &mut Judge,
     base: Found,
     base_value: i128,
     exponent: Found,
     exponent_value: i128,
-) -> Result<Option<Found>, AllocError>
-    ensures { Judges (spec.static_power (found base (second (parts out.old))) base_value (found exponent (top (parts out.old))) exponent_value log.old) (pop (pop (parts out.old))) result log.new (parts out.new) }
+) -> Finding
+    ensures { JudgesTwo (λ x y. spec.static_power x base_value y exponent_value) (found base) (found exponent) judge.old result judge.new }
 {
-    attempt!(both_mentions(out, base, exponent));
-    if attempt!(fitting(log, Kind::Integer, first_of(exponent), exponent_value)) {
+    attempt!(both_mentions(&mut judge.out, base, exponent));
+    if attempt!(fitting(
+        &mut judge.log,
+        Kind::Integer,
+        first_of(exponent),
+        exponent_value,
+    )) {
         static_universal(
-            log,
-            out,
+            judge,
             first_of(base),
             exact(Op::Pow, base_value, exponent_value),
         )
@@ -378,85 +339,60 @@ fn static_power(
     }
 }
 
-fn power_to(
-    log: &mut Log,
-    out: &mut Parts,
-    at: u32,
-    base: Found,
-    exponent: Found,
-) -> Result<Option<Found>, AllocError>
-    ensures { Judges (spec.power_to at (found base (second (parts out.old))) (found exponent (top (parts out.old))) (values.kind_of base) log.old) (pop (pop (parts out.old))) result log.new (parts out.new) }
+fn power_to(judge: &mut Judge, at: u32, base: Found, exponent: Found) -> Finding
+    ensures { JudgesTwo (λ x y. spec.power_to at x y (values.kind_of base)) (found base) (found exponent) judge.old result judge.new }
 {
     if let Some(kind) = kind_of(base) {
-        return typed_operation(log, out, Op::Pow, at, kind, Kind::Integer, base, exponent);
+        return typed_operation(judge, Op::Pow, at, kind, Kind::Integer, base, exponent);
     }
     if let (Some(u), Some(v)) = (value_of(base), value_of(exponent)) {
-        return static_power(log, out, base, u, exponent, v);
+        return static_power(judge, base, u, exponent, v);
     }
-    universal_power(log, out, at, base, exponent)
+    universal_power(judge, at, base, exponent)
 }
 
 /// `**` (4.5.6), of a number and an Integer, either of which may have a fault: WrongType at the operator.
 #[tactic(auto, unfolding(name_rules::specs::Operators::power))]
-pub fn power(
-    log: &mut Log,
-    out: &mut Parts,
-    at: u32,
-    base: Option<Found>,
-    exponent: Option<Found>,
-) -> Result<Option<Found>, AllocError>
-    ensures { Judges (spec.power at (found_of base (second (parts out.old))) (found_of exponent (top (parts out.old))) log.old) (pop (pop (parts out.old))) result log.new (parts out.new) }
+pub fn power(judge: &mut Judge, at: u32, base: Option<Found>, exponent: Option<Found>) -> Finding
+    ensures { JudgesTwo (spec.power at) (found_of base) (found_of exponent) judge.old result judge.new }
 {
     let (Some(base), Some(exponent)) = (base, exponent) else {
-        out.leave_out();
+        judge.out.leave_out();
         return Ok(None);
     };
     if is_number(base) && suits(Kind::Integer, exponent) {
-        power_to(log, out, at, base, exponent)
+        power_to(judge, at, base, exponent)
     } else {
-        no_parts(log, out, at, Rule::WrongType)
+        no_parts(judge, at, Rule::WrongType)
     }
 }
 
-fn unary_open(
-    log: &mut Log,
-    out: &mut Parts,
-    sign: Sign,
-    at: u32,
-    operand: Found,
-) -> Result<Option<Found>, AllocError>
-    ensures { Judges (spec.unary_open sign at (found operand (top (parts out.old))) (values.value_of operand) log.old) (pop (parts out.old)) result log.new (parts out.new) }
+fn unary_open(judge: &mut Judge, sign: Sign, at: u32, operand: Found) -> Finding
+    ensures { JudgesOne (λ x. spec.unary_open sign at x (values.value_of operand)) (found operand) judge.old result judge.new }
 {
     if let Some(value) = value_of(operand) {
-        return static_universal(log, out, at, signed(sign, value));
+        return static_universal(judge, at, signed(sign, value));
     }
-    let Some(limits) = attempt!(open_of(out, operand)) else {
+    let Some(limits) = attempt!(open_of(&mut judge.out, operand)) else {
         return Ok(None);
     };
-    attempt!(out.unary(at, sign, Class::Universal));
+    attempt!(judge.out.unary(at, sign, Class::Universal));
     Ok(Some(Found::Open { first: at, limits }))
 }
 
-fn unary_typed(
-    log: &mut Log,
-    out: &mut Parts,
-    sign: Sign,
-    at: u32,
-    kind: Kind,
-    operand: Found,
-) -> Result<Option<Found>, AllocError>
-    ensures { Judges (spec.unary_typed sign at kind (found operand (top (parts out.old))) (values.value_of operand) log.old) (pop (parts out.old)) result log.new (parts out.new) }
+fn unary_typed(judge: &mut Judge, sign: Sign, at: u32, kind: Kind, operand: Found) -> Finding
+    ensures { JudgesOne (λ x. spec.unary_typed sign at kind x (values.value_of operand)) (found operand) judge.old result judge.new }
 {
     if let Some(value) = value_of(operand) {
-        if attempt!(fitting(log, kind, first_of(operand), value)) {
-            return static_of(log, out, at, kind, signed(sign, value));
+        if attempt!(fitting(&mut judge.log, kind, first_of(operand), value)) {
+            return static_of(judge, at, kind, signed(sign, value));
         }
         return Ok(None);
     }
-    if !attempt!(asked(log, out, kind, operand)) {
+    if !attempt!(asked(judge, kind, operand)) {
         return Ok(None);
     }
-    attempt!(out.unary(at, sign, class_of(kind)));
+    attempt!(judge.out.unary(at, sign, class_of(kind)));
     Ok(Some(Found::Scalar {
         first: at,
         kind,
@@ -466,36 +402,24 @@ fn unary_typed(
 
 /// `-` and `abs`.
 #[tactic(auto, unfolding(name_rules::specs::Operators::unary))]
-pub fn unary(
-    log: &mut Log,
-    out: &mut Parts,
-    sign: Sign,
-    at: u32,
-    operand: Option<Found>,
-) -> Result<Option<Found>, AllocError>
-    ensures { Judges (spec.unary sign at (found_of operand (top (parts out.old))) log.old) (pop (parts out.old)) result log.new (parts out.new) }
+pub fn unary(judge: &mut Judge, sign: Sign, at: u32, operand: Option<Found>) -> Finding
+    ensures { JudgesOne (spec.unary sign at) (found_of operand) judge.old result judge.new }
 {
     let Some(operand) = operand else {
         return Ok(None);
     };
     if !is_number(operand) {
-        return no_part(log, out, at, Rule::WrongType);
+        return no_part(judge, at, Rule::WrongType);
     }
     match kind_of(operand) {
-        Some(kind) => unary_typed(log, out, sign, at, kind, operand),
-        None => unary_open(log, out, sign, at, operand),
+        Some(kind) => unary_typed(judge, sign, at, kind, operand),
+        None => unary_open(judge, sign, at, operand),
     }
 }
 
-fn plain_open(
-    log: &Log,
-    out: &mut Parts,
-    at: u32,
-    operand: Found,
-) -> Result<Option<Found>, AllocError>
-    ensures { Judges (spec.plain_open at (found operand (top (parts out.old))) (values.value_of operand) log.now) (pop (parts out.old)) result log.now (parts out.new) }
+fn plain_open(judge: &mut Judge, at: u32, operand: Found) -> Finding
+    ensures { JudgesOne (λ x. spec.plain_open at x (values.value_of operand)) (found operand) judge.old result judge.new }
 {
-    let _log = log;
     if let Some(value) = value_of(operand) {
         return Ok(Some(Found::Universal {
             first: at,
@@ -503,25 +427,19 @@ fn plain_open(
             literal: false,
         }));
     }
-    match attempt!(open_of(out, operand)) {
+    match attempt!(open_of(&mut judge.out, operand)) {
         None => Ok(None),
         Some(limits) => Ok(Some(Found::Open { first: at, limits })),
     }
 }
 
-fn plain_typed(
-    log: &mut Log,
-    out: &mut Parts,
-    at: u32,
-    kind: Kind,
-    operand: Found,
-) -> Result<Option<Found>, AllocError>
-    ensures { Judges (spec.plain_typed at kind (found operand (top (parts out.old))) (values.value_of operand) log.old) (pop (parts out.old)) result log.new (parts out.new) }
+fn plain_typed(judge: &mut Judge, at: u32, kind: Kind, operand: Found) -> Finding
+    ensures { JudgesOne (λ x. spec.plain_typed at kind x (values.value_of operand)) (found operand) judge.old result judge.new }
 {
     if let Some(value) = value_of(operand) {
-        return static_of(log, out, at, kind, Some(value));
+        return static_of(judge, at, kind, Some(value));
     }
-    if attempt!(asked(log, out, kind, operand)) {
+    if attempt!(asked(judge, kind, operand)) {
         Ok(Some(Found::Scalar {
             first: at,
             kind,
@@ -534,22 +452,17 @@ fn plain_typed(
 
 /// `+`
 #[tactic(auto, unfolding(name_rules::specs::Operators::plain))]
-pub fn plain(
-    log: &mut Log,
-    out: &mut Parts,
-    at: u32,
-    operand: Option<Found>,
-) -> Result<Option<Found>, AllocError>
-    ensures { Judges (spec.plain at (found_of operand (top (parts out.old))) log.old) (pop (parts out.old)) result log.new (parts out.new) }
+pub fn plain(judge: &mut Judge, at: u32, operand: Option<Found>) -> Finding
+    ensures { JudgesOne (spec.plain at) (found_of operand) judge.old result judge.new }
 {
     let Some(operand) = operand else {
         return Ok(None);
     };
     if !is_number(operand) {
-        return no_part(log, out, at, Rule::WrongType);
+        return no_part(judge, at, Rule::WrongType);
     }
     match kind_of(operand) {
-        Some(kind) => plain_typed(log, out, at, kind, operand),
-        None => plain_open(log, out, at, operand),
+        Some(kind) => plain_typed(judge, at, kind, operand),
+        None => plain_open(judge, at, operand),
     }
 }

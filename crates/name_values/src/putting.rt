@@ -1,7 +1,8 @@
 //! What Put, Put_Line, New_Line and Get make of their arguments (A.10.6 to A.10.8).
 
 ghost use Rattle.std.specs.Prelude.{◌≡◌, ◌+◌, ◌∷◌, None, OnOk, not};
-ghost use Rattle.name_rules.specs.Judges.{Gives, Judges, Says, found, found_of, part_if};
+ghost use Rattle.name_rules.specs.Judges.{Says, found, found_of, part_if};
+ghost use Rattle.name_values.specs.Judged.{GivesOne, Judges, JudgesOn, JudgesOne};
 ghost use Rattle.name_rules.specs.Judging.{given as where_given, unless};
 ghost use Rattle.name_rules.specs.Output as spec;
 ghost use Rattle.name_rules.specs.TypedParts.{selections_of};
@@ -14,6 +15,7 @@ ghost use Rattle.syntax_nodes.specs.Tables.{part_at};
 ghost use Rattle.typed_tree.specs.Latest.{pop, second, third, top};
 ghost use Rattle.typed_parts.specs.Stack.{parts};
 
+use crate::judge::{Giving, Judge};
 use crate::logs::{breaks, cleared, not_given};
 use crate::names::wrong_name;
 use crate::types::{same, typed_scalar};
@@ -50,8 +52,7 @@ pub fn no_formal(log: &mut Log, formal: Option<u32>) -> Result<(), AllocError>
 /// A procedure of a string expression alone: WrongType at the call's token where there are more arguments, at the first
 /// token of another expression.
 fn text_call(
-    log: &mut Log,
-    out: &mut Parts,
+    judge: &mut Judge,
     at: u32,
     first: u32,
     last: u32,
@@ -60,18 +61,18 @@ fn text_call(
     more: u32,
     given: Found,
 ) -> Result<Option<Denoted>, AllocError>
-    ensures { Judges (spec.text_call at first last line (the_args (part_at tree.now.nodes more)) (found given (top (parts out.old))) log.old) (pop (parts out.old)) result log.new (parts out.new) }
+    ensures { JudgesOne (spec.text_call at first last line (the_args (part_at tree.now.nodes more))) (found given) judge.old result judge.new }
 {
     if tree.cell(more).is_some() {
-        return wrong_name(log, out, at, Rule::WrongType);
+        return wrong_name(judge, at, Rule::WrongType);
     }
     match given {
         Found::Text { .. } => {
-            attempt!(out.turn());
-            attempt!(out.put_pieces(first, last, line));
+            attempt!(judge.out.turn());
+            attempt!(judge.out.put_pieces(first, last, line));
             Ok(Some(Denoted::Done { first }))
         }
-        _ => wrong_name(log, out, first_of(given), Rule::WrongType),
+        _ => wrong_name(judge, first_of(given), Rule::WrongType),
     }
 }
 
@@ -79,84 +80,73 @@ fn text_call(
 /// where it isn't in the type's base range, NotStatic where it has none.
 #[tactic(auto, unfolding(name_rules::specs::Values::static_of_kind))]
 pub fn static_of_kind(
-    log: &mut Log,
-    out: &mut Parts,
+    judge: &mut Judge,
     kind: Kind,
     given: Found,
 ) -> Result<Option<i128>, AllocError>
-    ensures { Says (values.static_of_kind kind (found given (top (parts out.old))) log.old) result log.new × OnOk result ((top (parts out.new) ≡ top (parts out.old)) × (pop (parts out.new) ≡ pop (parts out.old))) }
+    ensures { Says (values.static_of_kind kind (found given (top (parts judge.old.out))) judge.old.log) result judge.new.log × OnOk result ((top (parts judge.new.out) ≡ top (parts judge.old.out)) × (pop (parts judge.new.out) ≡ pop (parts judge.old.out))) }
 {
-    attempt!(out.again());
-    let fits = attempt!(asked(log, out, kind, given));
-    out.leave_out();
+    attempt!(judge.out.again());
+    let fits = attempt!(asked(judge, kind, given));
+    judge.out.leave_out();
     if fits {
-        static_value(log, first_of(given), value_of(given))
+        static_value(&mut judge.log, first_of(given), value_of(given))
     } else {
         Ok(None)
     }
 }
 
-fn in_width(log: &mut Log, out: &mut Parts, given: Found, value: i128) -> Result<bool, AllocError>
-    ensures { Gives (spec.in_width (found given (top (parts out.old))) value log.old) (pop (parts out.old)) result log.new (parts out.new) }
+fn in_width(judge: &mut Judge, given: Found, value: i128) -> Giving
+    ensures { GivesOne (λ x. spec.in_width x value) (found given) judge.old result judge.new }
 {
     if 0 <= value && value <= 255 {
-        attempt!(mentions(out, given));
-        attempt!(literal(out, first_of(given), value as i64, false));
+        attempt!(mentions(&mut judge.out, given));
+        attempt!(literal(&mut judge.out, first_of(given), value as i64, false));
         Ok(true)
     } else {
-        not_given(log, out, first_of(given), Rule::StaticRange)
+        not_given(judge, first_of(given), Rule::StaticRange)
     }
 }
 
 /// The width of a field, in place of the latest part: a static Integer (4.9) from 0 to 255, or else StaticRange.
 #[tactic(auto, unfolding(name_rules::specs::Output::width_of))]
-pub fn width_of(log: &mut Log, out: &mut Parts, given: Found) -> Result<bool, AllocError>
-    ensures { Gives (spec.width_of (found given (top (parts out.old))) log.old) (pop (parts out.old)) result log.new (parts out.new) }
+pub fn width_of(judge: &mut Judge, given: Found) -> Giving
+    ensures { GivesOne spec.width_of (found given) judge.old result judge.new }
 {
-    match attempt!(static_of_kind(log, out, Kind::Integer, given)) {
-        Some(value) => in_width(log, out, given, value),
+    match attempt!(static_of_kind(judge, Kind::Integer, given)) {
+        Some(value) => in_width(judge, given, value),
         None => Ok(false),
     }
 }
 
 /// The number that is put, in place of the latest part: WrongType where it is no Integer, or the procedure that was
 /// named isn't that of Ada.Integer_Text_IO.
-pub fn item_of(
-    log: &mut Log,
-    out: &mut Parts,
-    integer_io: bool,
-    given: Found,
-) -> Result<bool, AllocError>
-    ensures { Gives (spec.item_of integer_io (found given (top (parts out.old))) log.old) (pop (parts out.old)) result log.new (parts out.new) }
+pub fn item_of(judge: &mut Judge, integer_io: bool, given: Found) -> Giving
+    ensures { GivesOne (spec.item_of integer_io) (found given) judge.old result judge.new }
 {
     if suits(Kind::Integer, given) && integer_io {
-        asked(log, out, Kind::Integer, given)
+        asked(judge, Kind::Integer, given)
     } else {
-        not_given(log, out, first_of(given), Rule::WrongType)
+        not_given(judge, first_of(given), Rule::WrongType)
     }
 }
 
 /// The same of an argument that may have a fault.
-pub fn width_given(log: &mut Log, out: &mut Parts, given: Option<Found>) -> Result<bool, AllocError>
-    ensures { Gives (where_given (found_of given (top (parts out.old))) spec.width_of log.old) (pop (parts out.old)) result log.new (parts out.new) }
+pub fn width_given(judge: &mut Judge, given: Option<Found>) -> Giving
+    ensures { GivesOne (λ x. where_given x spec.width_of) (found_of given) judge.old result judge.new }
 {
     match given {
-        Some(given) => width_of(log, out, given),
+        Some(given) => width_of(judge, given),
         None => Ok(false),
     }
 }
 
 /// The same of an argument that may have a fault.
-pub fn item_given(
-    log: &mut Log,
-    out: &mut Parts,
-    integer_io: bool,
-    given: Option<Found>,
-) -> Result<bool, AllocError>
-    ensures { Gives (where_given (found_of given (top (parts out.old))) (spec.item_of integer_io) log.old) (pop (parts out.old)) result log.new (parts out.new) }
+pub fn item_given(judge: &mut Judge, integer_io: bool, given: Option<Found>) -> Giving
+    ensures { GivesOne (λ x. where_given x (spec.item_of integer_io)) (found_of given) judge.old result judge.new }
 {
     match given {
-        Some(given) => item_of(log, out, integer_io, given),
+        Some(given) => item_of(judge, integer_io, given),
         None => Ok(false),
     }
 }
@@ -221,25 +211,24 @@ fn put_number(out: &mut Parts, first: u32, last: u32) -> Result<(), AllocError>
 
 /// Put of a number, of its item and its width: WrongType at the call's token where there are too many arguments.
 pub fn put_complete(
-    log: &mut Log,
-    out: &mut Parts,
+    judge: &mut Judge,
     at: u32,
     first: u32,
     last: u32,
     putting: Putting,
 ) -> Result<Option<Denoted>, AllocError>
-    ensures { Judges (spec.put_complete at first last (putting_of putting (second (parts out.old)) (top (parts out.old))) log.old) (pop (pop (parts out.old))) result log.new (parts out.new) }
+    ensures { JudgesOn (pop (pop (parts judge.old.out))) (spec.put_complete at first last (putting_of putting (second (parts judge.old.out)) (top (parts judge.old.out)))) judge.old result judge.new }
 {
     if putting.count > 2 {
-        out.leave_out();
-        return wrong_name(log, out, at, Rule::WrongType);
+        judge.out.leave_out();
+        return wrong_name(judge, at, Rule::WrongType);
     }
-    let width = attempt!(width_or(out, first, putting));
+    let width = attempt!(width_or(&mut judge.out, first, putting));
     if !putting.item || !width {
-        out.leave_out();
+        judge.out.leave_out();
         return Ok(None);
     }
-    attempt!(put_number(out, first, last));
+    attempt!(put_number(&mut judge.out, first, last));
     Ok(Some(Denoted::Done { first }))
 }
 
@@ -266,8 +255,7 @@ pub fn is_number_put(out: &Parts, put: Put, given: Option<Found>) -> bool
 
 /// Put of a string, which is the latest part: NotVisible at the procedure's name where that isn't Ada.Text_IO's.
 fn put_of_text(
-    log: &mut Log,
-    out: &mut Parts,
+    judge: &mut Judge,
     at: u32,
     first: u32,
     last: u32,
@@ -276,60 +264,61 @@ fn put_of_text(
     more: u32,
     given: Found,
 ) -> Result<Option<Denoted>, AllocError>
-    ensures { Judges (spec.put_of_text at first last reach (the_args (part_at tree.now.nodes more)) (found given (top (parts out.old))) log.old) (pop (parts out.old)) result log.new (parts out.new) }
+    ensures { JudgesOne (spec.put_of_text at first last reach (the_args (part_at tree.now.nodes more))) (found given) judge.old result judge.new }
 {
     if reach.text_io {
-        return text_call(log, out, at, first, last, false, tree, more, given);
+        return text_call(judge, at, first, last, false, tree, more, given);
     }
     if reach.expanded {
-        wrong_name(log, out, first_of(given), Rule::WrongType)
+        wrong_name(judge, first_of(given), Rule::WrongType)
     } else {
-        wrong_name(log, out, first, Rule::NotVisible)
+        wrong_name(judge, first, Rule::NotVisible)
     }
 }
 
 fn get_place(
-    log: &mut Log,
-    out: &mut Parts,
+    judge: &mut Judge,
     first: u32,
     last: u32,
     place: Place,
 ) -> Result<Option<Denoted>, AllocError>
-    ensures { Judges (spec.get_place first last place (selections_of (top (parts out.old))) place.subtype log.old) (pop (parts out.old)) result log.new (parts out.new) }
+    ensures { JudgesOn (pop (parts judge.old.out)) (spec.get_place first last place (selections_of (top (parts judge.old.out))) place.subtype) judge.old result judge.new }
 {
     match place.subtype {
         Subtype::Scalar(scalar) => {
             if !(place.variable && same(scalar.kind, Kind::Integer)) {
-                return wrong_name(log, out, place.first, Rule::WrongType);
+                return wrong_name(judge, place.first, Rule::WrongType);
             }
-            attempt!(out.turn());
-            attempt!(out.get(first, last, place.first, place.root, typed_scalar(scalar)));
+            attempt!(judge.out.turn());
+            attempt!(
+                judge
+                    .out
+                    .get(first, last, place.first, place.root, typed_scalar(scalar))
+            );
             Ok(Some(Denoted::Done { first }))
         }
-        Subtype::Composite(_) => wrong_name(log, out, place.first, Rule::WrongType),
+        Subtype::Composite(_) => wrong_name(judge, place.first, Rule::WrongType),
     }
 }
 
 fn get_of(
-    log: &mut Log,
-    out: &mut Parts,
+    judge: &mut Judge,
     first: u32,
     last: u32,
     given: Found,
 ) -> Result<Option<Denoted>, AllocError>
-    ensures { Judges (spec.get_of first last given (top (parts out.old)) log.old) (pop (parts out.old)) result log.new (parts out.new) }
+    ensures { JudgesOn (pop (parts judge.old.out)) (spec.get_of first last given (top (parts judge.old.out))) judge.old result judge.new }
 {
     match given {
-        Found::Object(place) => get_place(log, out, first, last, place),
-        _ => wrong_name(log, out, first_of(given), Rule::WrongType),
+        Found::Object(place) => get_place(judge, first, last, place),
+        _ => wrong_name(judge, first_of(given), Rule::WrongType),
     }
 }
 
 /// Get of a variable alone, which is the latest part: WrongType at the call's token where there are more arguments, at
 /// the first token of what is no variable of type Integer.
 fn get_call(
-    log: &mut Log,
-    out: &mut Parts,
+    judge: &mut Judge,
     at: u32,
     first: u32,
     last: u32,
@@ -337,19 +326,18 @@ fn get_call(
     more: u32,
     given: Found,
 ) -> Result<Option<Denoted>, AllocError>
-    ensures { Judges (get_given at first last (the_args (part_at tree.now.nodes more)) (found given (top (parts out.old))) log.old) (pop (parts out.old)) result log.new (parts out.new) }
+    ensures { JudgesOne (get_given at first last (the_args (part_at tree.now.nodes more))) (found given) judge.old result judge.new }
 {
     if tree.cell(more).is_some() {
-        return wrong_name(log, out, at, Rule::WrongType);
+        return wrong_name(judge, at, Rule::WrongType);
     }
-    get_of(log, out, first, last, given)
+    get_of(judge, first, last, given)
 }
 
 /// A call of a predefined procedure, of its first argument, which is the latest part. Put of a number isn't one of
 /// these.
 pub fn by_procedure(
-    log: &mut Log,
-    out: &mut Parts,
+    judge: &mut Judge,
     at: u32,
     first: u32,
     last: u32,
@@ -359,15 +347,15 @@ pub fn by_procedure(
     more: u32,
     given: Option<Found>,
 ) -> Result<Option<Denoted>, AllocError>
-    ensures { Judges (spec.by_procedure at first last reach (the_args (part_at tree.now.nodes more)) put (found_of given (top (parts out.old)), spec.nothing_put 1 None) log.old) (pop (parts out.old)) result log.new (parts out.new) }
+    ensures { JudgesOn (pop (parts judge.old.out)) (spec.by_procedure at first last reach (the_args (part_at tree.now.nodes more)) put (found_of given (top (parts judge.old.out)), spec.nothing_put 1 None)) judge.old result judge.new }
 {
     match put {
-        Put::NewLine => wrong_name(log, out, at, Rule::WrongType),
+        Put::NewLine => wrong_name(judge, at, Rule::WrongType),
         Put::Put => match given {
             None => Ok(None),
             Some(given) => {
-                if is_text(out, Some(given)) {
-                    put_of_text(log, out, at, first, last, reach, tree, more, given)
+                if is_text(&judge.out, Some(given)) {
+                    put_of_text(judge, at, first, last, reach, tree, more, given)
                 } else {
                     Ok(None)
                 }
@@ -375,32 +363,31 @@ pub fn by_procedure(
         },
         Put::PutLine => match given {
             None => Ok(None),
-            Some(given) => text_call(log, out, at, first, last, true, tree, more, given),
+            Some(given) => text_call(judge, at, first, last, true, tree, more, given),
         },
         Put::Get => match given {
             None => Ok(None),
-            Some(given) => get_call(log, out, at, first, last, tree, more, given),
+            Some(given) => get_call(judge, at, first, last, tree, more, given),
         },
     }
 }
 
 /// A call of a predefined procedure without an argument, which New_Line alone can have: WrongType at the call's token.
 pub fn without_arguments(
-    log: &mut Log,
-    out: &mut Parts,
+    judge: &mut Judge,
     at: u32,
     first: u32,
     last: u32,
     put: Put,
 ) -> Result<Option<Denoted>, AllocError>
-    ensures { Judges (spec.without_arguments at first last put log.old) (parts out.old) result log.new (parts out.new) }
+    ensures { Judges (spec.without_arguments at first last put) judge.old result judge.new }
 {
-    attempt!(out.nothing());
+    attempt!(judge.out.nothing());
     match put {
         Put::NewLine => {
-            attempt!(out.put_pieces(first, last, true));
+            attempt!(judge.out.put_pieces(first, last, true));
             Ok(Some(Denoted::Done { first }))
         }
-        _ => wrong_name(log, out, at, Rule::WrongType),
+        _ => wrong_name(judge, at, Rule::WrongType),
     }
 }

@@ -4,7 +4,8 @@ ghost use Rattle.std.specs.Prelude.{◌≡◌, ◌∷◌, ◌&&◌, ◌||◌, On
 ghost use Rattle.typed_tree.specs.Decoded as part;
 ghost use Rattle.typed_tree.specs.Latest.{fourth, pop, second, third, top};
 ghost use Rattle.name_rules.specs.Calls as calls;
-ghost use Rattle.name_rules.specs.Judges.{Judges, Says, found};
+ghost use Rattle.name_rules.specs.Judges.{Says, found};
+ghost use Rattle.name_values.specs.Judged.{JudgesOn};
 ghost use Rattle.name_rules.specs.Judging.{fault, joined, pure};
 ghost use Rattle.name_rules.specs.Operators as operators;
 ghost use Rattle.name_rules.specs.Reducers as spec;
@@ -15,6 +16,7 @@ ghost use Rattle.name_values.specs.Reductions.{two_of};
 ghost use Rattle.typed_parts.specs.Stack.{parts};
 
 use crate::actuals::gives_in;
+use crate::judge::{Finding, Judge};
 use crate::logs::{breaks, no_part};
 use crate::operators::{joint, open_of};
 use crate::symbols::{MAX, MIN, symbol};
@@ -133,36 +135,35 @@ fn not_reduced(out: &mut Parts)
 }
 
 /// Writes that a reducer doesn't fit, in place of the four latest parts.
-fn no_reduction(log: &mut Log, out: &mut Parts, at: u32) -> Result<Option<Found>, AllocError>
-    ensures { Judges (fault at ReduceRule log.old) (pop (pop (pop (pop (parts out.old))))) result log.new (parts out.new) }
+fn no_reduction(judge: &mut Judge, at: u32) -> Finding
+    ensures { JudgesOn (pop (pop (pop (pop (parts judge.old.out))))) (fault at ReduceRule) judge.old result judge.new }
 {
-    not_reduced(out);
-    no_part(log, out, at, Rule::ReduceRule)
+    not_reduced(&mut judge.out);
+    no_part(judge, at, Rule::ReduceRule)
 }
 
 /// The reduction of a value of a type and an initial value of its own, which are the latest parts.
 #[tactic(auto, unfolding(name_rules::specs::Reducers::reduced))]
 fn reduced(
-    log: &mut Log,
-    out: &mut Parts,
+    judge: &mut Judge,
     going: Going,
     kind: Kind,
     own: Kind,
     by: Reducer,
     value: Found,
     initial: Found,
-) -> Result<Option<Found>, AllocError>
-    ensures { Judges (spec.reduced going (fourth (parts out.old)) (third (parts out.old)) kind own by (found value (second (parts out.old))) (found initial (top (parts out.old))) log.old) (pop (pop (pop (pop (parts out.old))))) result log.new (parts out.new) }
+) -> Finding
+    ensures { JudgesOn (pop (pop (pop (pop (parts judge.old.out))))) (spec.reduced going (fourth (parts judge.old.out)) (third (parts judge.old.out)) kind own by (found value (second (parts judge.old.out))) (found initial (top (parts judge.old.out)))) judge.old result judge.new }
 {
-    attempt!(out.swap());
-    let x = attempt!(asked(log, out, kind, value));
-    attempt!(out.swap());
-    let v = attempt!(asked(log, out, own, initial));
+    attempt!(judge.out.swap());
+    let x = attempt!(asked(judge, kind, value));
+    attempt!(judge.out.swap());
+    let v = attempt!(asked(judge, own, initial));
     if !x || !v {
-        not_reduced(out);
+        not_reduced(&mut judge.out);
         return Ok(None);
     }
-    attempt!(reduction(out, going, by));
+    attempt!(reduction(&mut judge.out, going, by));
     Ok(Some(Found::Scalar {
         first: going.at,
         kind: own,
@@ -171,27 +172,25 @@ fn reduced(
 }
 
 fn open_reduction(
-    log: &Log,
-    out: &mut Parts,
+    judge: &mut Judge,
     going: Going,
     at: u32,
     op: Op,
     value: Found,
     initial: Found,
-) -> Result<Option<Found>, AllocError>
-    ensures { Judges (pure (joined (spec.open_reduction going (fourth (parts out.old)) (third (parts out.old)) at op) (operators.open_of (found value (second (parts out.old)))) (operators.open_of (found initial (top (parts out.old))))) log.now) (pop (pop (pop (pop (parts out.old))))) result log.now (parts out.new) }
+) -> Finding
+    ensures { JudgesOn (pop (pop (pop (pop (parts judge.old.out))))) (pure (joined (spec.open_reduction going (fourth (parts judge.old.out)) (third (parts judge.old.out)) at op) (operators.open_of (found value (second (parts judge.old.out)))) (operators.open_of (found initial (top (parts judge.old.out)))))) judge.old result judge.new }
 {
-    let _log = log;
-    attempt!(out.swap());
-    let x = attempt!(open_of(out, value));
-    attempt!(out.swap());
-    let v = attempt!(open_of(out, initial));
+    attempt!(judge.out.swap());
+    let x = attempt!(open_of(&mut judge.out, value));
+    attempt!(judge.out.swap());
+    let v = attempt!(open_of(&mut judge.out, initial));
     let (Some(x), Some(v)) = (x, v) else {
-        not_reduced(out);
+        not_reduced(&mut judge.out);
         return Ok(None);
     };
     attempt!(reduction(
-        out,
+        &mut judge.out,
         going,
         Reducer::Operator {
             at,
@@ -218,66 +217,63 @@ fn is_logical(op: Op) -> bool
 
 /// Operators, Max and Min take values and an initial value of one type.
 fn of_kind(
-    log: &mut Log,
-    out: &mut Parts,
+    judge: &mut Judge,
     going: Going,
     at: u32,
     op: Op,
     kind: Kind,
     value: Found,
     initial: Found,
-) -> Result<Option<Found>, AllocError>
-    ensures { Judges (spec.of_kind going (fourth (parts out.old)) (third (parts out.old)) at op kind (found value (second (parts out.old))) (found initial (top (parts out.old))) log.old) (pop (pop (pop (pop (parts out.old))))) result log.new (parts out.new) }
+) -> Finding
+    ensures { JudgesOn (pop (pop (pop (pop (parts judge.old.out))))) (spec.of_kind going (fourth (parts judge.old.out)) (third (parts judge.old.out)) at op kind (found value (second (parts judge.old.out))) (found initial (top (parts judge.old.out)))) judge.old result judge.new }
 {
     if !(suits(kind, value) && suits(kind, initial)) {
-        return no_reduction(log, out, at);
+        return no_reduction(judge, at);
     }
     let by = Reducer::Operator {
         at,
         op,
         class: class_of(kind),
     };
-    reduced(log, out, going, kind, kind, by, value, initial)
+    reduced(judge, going, kind, kind, by, value, initial)
 }
 
 fn numeric(
-    log: &mut Log,
-    out: &mut Parts,
+    judge: &mut Judge,
     going: Going,
     at: u32,
     op: Op,
     value: Found,
     initial: Found,
-) -> Result<Option<Found>, AllocError>
-    ensures { Judges (spec.numeric going (fourth (parts out.old)) (third (parts out.old)) at op (found value (second (parts out.old))) (found initial (top (parts out.old))) (values.kind_of value) (values.kind_of initial) log.old) (pop (pop (pop (pop (parts out.old))))) result log.new (parts out.new) }
+) -> Finding
+    ensures { JudgesOn (pop (pop (pop (pop (parts judge.old.out))))) (spec.numeric going (fourth (parts judge.old.out)) (third (parts judge.old.out)) at op (found value (second (parts judge.old.out))) (found initial (top (parts judge.old.out))) (values.kind_of value) (values.kind_of initial)) judge.old result judge.new }
 {
     match kind_of(value) {
-        Some(kind) => of_kind(log, out, going, at, op, kind, value, initial),
+        Some(kind) => of_kind(judge, going, at, op, kind, value, initial),
         None => match kind_of(initial) {
-            Some(kind) => of_kind(log, out, going, at, op, kind, value, initial),
-            None => open_reduction(log, out, going, at, op, value, initial),
+            Some(kind) => of_kind(judge, going, at, op, kind, value, initial),
+            None => open_reduction(judge, going, at, op, value, initial),
         },
     }
 }
 
 fn by_operator(
-    log: &mut Log,
-    out: &mut Parts,
+    judge: &mut Judge,
     going: Going,
     at: u32,
     op: Op,
     value: Found,
     initial: Found,
-) -> Result<Option<Found>, AllocError>
-    ensures { Judges (spec.by_operator going (fourth (parts out.old)) (third (parts out.old)) at op (found value (second (parts out.old))) (found initial (top (parts out.old))) log.old) (pop (pop (pop (pop (parts out.old))))) result log.new (parts out.new) }
+) -> Finding
+    ensures { JudgesOn (pop (pop (pop (pop (parts judge.old.out))))) (spec.by_operator going (fourth (parts judge.old.out)) (third (parts judge.old.out)) at op (found value (second (parts judge.old.out))) (found initial (top (parts judge.old.out)))) judge.old result judge.new }
 {
     if is_logical(op) {
-        return of_kind(log, out, going, at, op, Kind::Boolean, value, initial);
+        return of_kind(judge, going, at, op, Kind::Boolean, value, initial);
     }
     if is_number(value) && is_number(initial) {
-        numeric(log, out, going, at, op, value, initial)
+        numeric(judge, going, at, op, value, initial)
     } else {
-        no_reduction(log, out, at)
+        no_reduction(judge, at)
     }
 }
 
@@ -300,8 +296,7 @@ fn fits(
 }
 
 fn by_subtypes(
-    log: &mut Log,
-    out: &mut Parts,
+    judge: &mut Judge,
     going: Going,
     at: u32,
     number: u32,
@@ -310,14 +305,14 @@ fn by_subtypes(
     item: Subtype,
     value: Found,
     initial: Found,
-) -> Result<Option<Found>, AllocError>
-    ensures { Judges (spec.by_subtypes going (fourth (parts out.old)) (third (parts out.old)) at number result_kind accumulator item (found value (second (parts out.old))) (found initial (top (parts out.old))) log.old) (pop (pop (pop (pop (parts out.old))))) result log.new (parts out.new) }
+) -> Finding
+    ensures { JudgesOn (pop (pop (pop (pop (parts judge.old.out))))) (spec.by_subtypes going (fourth (parts judge.old.out)) (third (parts judge.old.out)) at number result_kind accumulator item (found value (second (parts judge.old.out))) (found initial (top (parts judge.old.out)))) judge.old result judge.new }
 {
     let (Subtype::Scalar(a), Subtype::Scalar(b)) = (accumulator, item) else {
-        return no_reduction(log, out, at);
+        return no_reduction(judge, at);
     };
     if !fits(going, result_kind, a, b, value, initial) {
-        return no_reduction(log, out, at);
+        return no_reduction(judge, at);
     }
     let by = Reducer::Function {
         at,
@@ -325,7 +320,7 @@ fn by_subtypes(
         accumulator: typed_scalar(a),
         value: typed_scalar(b),
     };
-    reduced(log, out, going, b.kind, a.kind, by, value, initial)
+    reduced(judge, going, b.kind, a.kind, by, value, initial)
 }
 
 /// The two parameters of a subprogram by its number, where it has so many.
@@ -342,20 +337,18 @@ fn two_taken(log: &Log, number: u32) -> Option<(Taken, Taken)>
 }
 
 fn by_function(
-    log: &mut Log,
-    out: &mut Parts,
+    judge: &mut Judge,
     going: Going,
     at: u32,
     number: u32,
     value: Found,
     initial: Found,
-) -> Result<Option<Found>, AllocError>
-    ensures { Judges (spec.by_function going (fourth (parts out.old)) (third (parts out.old)) at number (calls.takes_in (calls.profile_in log.old number)) (calls.gives_in (calls.profile_in log.old number)) (found value (second (parts out.old))) (found initial (top (parts out.old))) log.old) (pop (pop (pop (pop (parts out.old))))) result log.new (parts out.new) }
+) -> Finding
+    ensures { JudgesOn (pop (pop (pop (pop (parts judge.old.out))))) (spec.by_function going (fourth (parts judge.old.out)) (third (parts judge.old.out)) at number (calls.takes_in (calls.profile_in judge.old.log number)) (calls.gives_in (calls.profile_in judge.old.log number)) (found value (second (parts judge.old.out))) (found initial (top (parts judge.old.out)))) judge.old result judge.new }
 {
-    match (two_taken(log, number), gives_in(log, number)) {
+    match (two_taken(&judge.log, number), gives_in(&judge.log, number)) {
         (Some((accumulator, item)), Some(scalar)) => by_subtypes(
-            log,
-            out,
+            judge,
             going,
             at,
             number,
@@ -365,7 +358,7 @@ fn by_function(
             value,
             initial,
         ),
-        _ => no_reduction(log, out, at),
+        _ => no_reduction(judge, at),
     }
 }
 
@@ -373,22 +366,21 @@ fn by_function(
 /// parts: ReduceRule at the reducer's first token, where its parameters or its result don't fit.
 #[tactic(auto, unfolding(name_rules::specs::Reducers::folded_by))]
 pub fn folded_by(
-    log: &mut Log,
-    out: &mut Parts,
+    judge: &mut Judge,
     going: Going,
     by: Folding,
     value: Found,
     initial: Found,
-) -> Result<Option<Found>, AllocError>
-    ensures { Judges (spec.folded_by going (fourth (parts out.old)) (third (parts out.old)) by (found value (second (parts out.old))) (found initial (top (parts out.old))) log.old) (pop (pop (pop (pop (parts out.old))))) result log.new (parts out.new) }
+) -> Finding
+    ensures { JudgesOn (pop (pop (pop (pop (parts judge.old.out))))) (spec.folded_by going (fourth (parts judge.old.out)) (third (parts judge.old.out)) by (found value (second (parts judge.old.out))) (found initial (top (parts judge.old.out)))) judge.old result judge.new }
 {
     match by {
-        Folding::Operator { at, op } => by_operator(log, out, going, at, op, value, initial),
+        Folding::Operator { at, op } => by_operator(judge, going, at, op, value, initial),
         Folding::Extreme { at, op, scalar } => {
-            of_kind(log, out, going, at, op, scalar.kind, value, initial)
+            of_kind(judge, going, at, op, scalar.kind, value, initial)
         }
         Folding::Function { at, number } => {
-            by_function(log, out, going, at, number, value, initial)
+            by_function(judge, going, at, number, value, initial)
         }
     }
 }

@@ -1,11 +1,13 @@
 //! What names stand for (8.2, 8.3).
 
 ghost use Rattle.std.specs.Prelude.{◌≡◌, IfOk, OnOk};
-ghost use Rattle.name_rules.specs.Judges.{Judges, Says};
+ghost use Rattle.name_rules.specs.Judges.{Says};
+ghost use Rattle.name_values.specs.Judged.{Judges};
 ghost use Rattle.name_rules.specs.Judging.{fault};
 ghost use Rattle.name_rules.specs.Scope as spec;
 ghost use Rattle.typed_parts.specs.Stack.{parts};
 
+use crate::judge::Judge;
 use crate::logs::breaks;
 use crate::symbols::{
     ADA, DATA_ERROR, END_ERROR, GET, INTEGER_IO, NEW_LINE, PUT, PUT_LINE, TEXT_IO, symbol,
@@ -84,41 +86,34 @@ fn predefined(first: u32, token: u32, name: u32, reach: Reach) -> Denoted
 }
 
 /// Writes that a rule is broken by a name, of which nothing is the part.
-pub fn no_name(
-    log: &mut Log,
-    out: &mut Parts,
-    at: u32,
-    rule: Rule,
-) -> Result<Option<Denoted>, AllocError>
-    ensures { Judges (fault at rule log.old) (parts out.old) result log.new (parts out.new) }
+pub fn no_name(judge: &mut Judge, at: u32, rule: Rule) -> Result<Option<Denoted>, AllocError>
+    ensures { Judges (fault at rule) judge.old result judge.new }
 {
-    attempt!(out.nothing());
-    attempt!(breaks(log, at, rule));
+    attempt!(judge.out.nothing());
+    attempt!(breaks(&mut judge.log, at, rule));
     Ok(None)
 }
 
 /// What a name denotes that has no part.
-pub fn named(log: &Log, out: &mut Parts, denoted: Denoted) -> Result<Option<Denoted>, AllocError>
-    ensures { Judges (spec.named denoted log.now) (parts out.old) result log.now (parts out.new) }
+pub fn named(judge: &mut Judge, denoted: Denoted) -> Result<Option<Denoted>, AllocError>
+    ensures { Judges (spec.named denoted) judge.old result judge.new }
 {
-    let _log = log;
-    attempt!(out.nothing());
+    attempt!(judge.out.nothing());
     Ok(Some(denoted))
 }
 
 fn used_name(
-    log: &mut Log,
-    out: &mut Parts,
+    judge: &mut Judge,
     token: u32,
     name: u32,
     reach: Reach,
 ) -> Result<Option<Denoted>, AllocError>
-    ensures { Judges (spec.used_name token name reach log.old) (parts out.old) result log.new (parts out.new) }
+    ensures { Judges (spec.used_name token name reach) judge.old result judge.new }
 {
     if reach.text_io || reach.integer_io {
-        named(log, out, predefined(token, token, name, reach))
+        named(judge, predefined(token, token, name, reach))
     } else {
-        no_name(log, out, token, Rule::NotVisible)
+        no_name(judge, token, Rule::NotVisible)
     }
 }
 
@@ -144,20 +139,18 @@ fn is_withed(packages: Packages, name: u32) -> bool
 
 fn undeclared(
     here: &Context,
-    log: &mut Log,
-    out: &mut Parts,
+    judge: &mut Judge,
     token: u32,
     name: u32,
 ) -> Result<Option<Denoted>, AllocError>
-    ensures { Judges (spec.undeclared here.now token name log.old) (parts out.old) result log.new (parts out.new) }
+    ensures { Judges (spec.undeclared here.now token name) judge.old result judge.new }
 {
     if in_text_io(name) || in_integer_io(name) {
-        return used_name(log, out, token, name, reach_of(here.used, name));
+        return used_name(judge, token, name, reach_of(here.used, name));
     }
     if name == ADA {
         return named(
-            log,
-            out,
+            judge,
             Denoted::Package {
                 first: token,
                 symbol: ADA,
@@ -167,17 +160,16 @@ fn undeclared(
     if (name == TEXT_IO || name == INTEGER_IO) && here.used.ada {
         if is_withed(here.withed, name) {
             return named(
-                log,
-                out,
+                judge,
                 Denoted::Package {
                     first: token,
                     symbol: name,
                 },
             );
         }
-        return no_name(log, out, token, Rule::NotVisible);
+        return no_name(judge, token, Rule::NotVisible);
     }
-    no_name(log, out, token, Rule::Unknown)
+    no_name(judge, token, Rule::Unknown)
 }
 
 fn object(token: u32, number: u32, subtype: Subtype, variable: bool, value: Option<i64>) -> Place
@@ -213,26 +205,25 @@ fn bit(value: bool) -> i64
 
 fn stands(
     here: &Context,
-    log: &mut Log,
-    out: &mut Parts,
+    judge: &mut Judge,
     token: u32,
     name: u32,
     what: Option<What>,
 ) -> Result<Option<Denoted>, AllocError>
-    ensures { Judges (spec.stands here.now token name what log.old) (parts out.old) result log.new (parts out.new) }
+    ensures { Judges (spec.stands here.now token name what) judge.old result judge.new }
 {
     let Some(what) = what else {
-        return undeclared(here, log, out, token, name);
+        return undeclared(here, judge, token, name);
     };
     let first = token;
     let denoted = match what {
-        What::Hidden => return no_name(log, out, token, Rule::NotVisible),
+        What::Hidden => return no_name(judge, token, Rule::NotVisible),
         What::Broken => {
-            attempt!(out.nothing());
+            attempt!(judge.out.nothing());
             return Ok(None);
         }
         What::Parameter { number, scalar } => {
-            attempt!(out.parameter(token, number));
+            attempt!(judge.out.parameter(token, number));
             return Ok(Some(Denoted::Parameter { first, scalar }));
         }
         What::Object {
@@ -264,7 +255,7 @@ fn stands(
         },
         What::Exception(reason) => Denoted::Exception { first, reason },
     };
-    named(log, out, denoted)
+    named(judge, denoted)
 }
 
 /// What the identifier that is a token stands for: Unknown where nothing is declared so, NotVisible inside its own
@@ -273,15 +264,14 @@ fn stands(
 pub fn stands_for(
     names: &Names,
     here: &Context,
-    log: &mut Log,
-    out: &mut Parts,
+    judge: &mut Judge,
     token: u32,
 ) -> Result<Option<Denoted>, AllocError>
-    ensures { Judges (spec.stands_for names.now here.now token log.old) (parts out.old) result log.new (parts out.new) }
+    ensures { Judges (spec.stands_for names.now here.now token) judge.old result judge.new }
 {
     let name = symbol(names, token);
     let what = lookup(name, &here.scope);
-    stands(here, log, out, token, name, what)
+    stands(here, judge, token, name, what)
 }
 
 fn in_package(library: u32, name: u32) -> bool
@@ -306,28 +296,26 @@ fn expanded_reach(library: u32) -> Reach
 
 fn in_ada(
     here: &Context,
-    log: &mut Log,
-    out: &mut Parts,
+    judge: &mut Judge,
     first: u32,
     token: u32,
     name: u32,
 ) -> Result<Option<Denoted>, AllocError>
-    ensures { Judges (spec.in_ada here.now first token name log.old) (parts out.old) result log.new (parts out.new) }
+    ensures { Judges (spec.in_ada here.now first token name) judge.old result judge.new }
 {
     if !(name == TEXT_IO || name == INTEGER_IO) {
-        return no_name(log, out, token, Rule::Unknown);
+        return no_name(judge, token, Rule::Unknown);
     }
     if is_withed(here.withed, name) {
         named(
-            log,
-            out,
+            judge,
             Denoted::Package {
                 first,
                 symbol: name,
             },
         )
     } else {
-        no_name(log, out, first, Rule::NotVisible)
+        no_name(judge, first, Rule::NotVisible)
     }
 }
 
@@ -337,26 +325,24 @@ fn in_ada(
 pub fn selected(
     names: &Names,
     here: &Context,
-    log: &mut Log,
-    out: &mut Parts,
+    judge: &mut Judge,
     first: u32,
     library: u32,
     token: u32,
 ) -> Result<Option<Denoted>, AllocError>
-    ensures { Judges (spec.selected names.now here.now first library token log.old) (parts out.old) result log.new (parts out.new) }
+    ensures { Judges (spec.selected names.now here.now first library token) judge.old result judge.new }
 {
     let name = symbol(names, token);
     if library == ADA {
-        return in_ada(here, log, out, first, token, name);
+        return in_ada(here, judge, first, token, name);
     }
     if in_package(library, name) {
         named(
-            log,
-            out,
+            judge,
             predefined(first, token, name, expanded_reach(library)),
         )
     } else {
-        no_name(log, out, token, Rule::Unknown)
+        no_name(judge, token, Rule::Unknown)
     }
 }
 
@@ -377,16 +363,15 @@ fn as_type(log: &mut Log, token: u32, denoted: Denoted) -> Result<Option<Subtype
 pub fn subtype_named(
     names: &Names,
     here: &Context,
-    log: &mut Log,
-    out: &mut Parts,
+    judge: &mut Judge,
     token: u32,
 ) -> Result<Option<Subtype>, AllocError>
-    ensures { Says (spec.subtype_named names.now here.now token log.old) result log.new × OnOk result (parts out.new ≡ parts out.old) }
+    ensures { Says (spec.subtype_named names.now here.now token judge.old.log) result judge.new.log × OnOk result (parts judge.new.out ≡ parts judge.old.out) }
 {
-    let denoted = attempt!(stands_for(names, here, log, out, token));
-    out.leave_out();
+    let denoted = attempt!(stands_for(names, here, judge, token));
+    judge.out.leave_out();
     match denoted {
-        Some(denoted) => as_type(log, token, denoted),
+        Some(denoted) => as_type(&mut judge.log, token, denoted),
         None => Ok(None),
     }
 }
@@ -408,14 +393,13 @@ fn as_scalar(log: &mut Log, token: u32, subtype: Subtype) -> Result<Option<Scala
 pub fn scalar_named(
     names: &Names,
     here: &Context,
-    log: &mut Log,
-    out: &mut Parts,
+    judge: &mut Judge,
     token: u32,
 ) -> Result<Option<Scalar>, AllocError>
-    ensures { Says (spec.scalar_named names.now here.now token log.old) result log.new × OnOk result (parts out.new ≡ parts out.old) }
+    ensures { Says (spec.scalar_named names.now here.now token judge.old.log) result judge.new.log × OnOk result (parts judge.new.out ≡ parts judge.old.out) }
 {
-    match attempt!(subtype_named(names, here, log, out, token)) {
-        Some(subtype) => as_scalar(log, token, subtype),
+    match attempt!(subtype_named(names, here, judge, token)) {
+        Some(subtype) => as_scalar(&mut judge.log, token, subtype),
         None => Ok(None),
     }
 }

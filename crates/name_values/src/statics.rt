@@ -1,7 +1,8 @@
 //! Static ranges (3.6, 4.3.3) and the values of choices (3.8.1): what they mention is their part.
 
 ghost use Rattle.std.specs.Prelude.{◌≡◌, ◌&&◌};
-ghost use Rattle.name_rules.specs.Judges.{Judges, Says, found, found_of};
+ghost use Rattle.name_rules.specs.Judges.{Says, found, found_of};
+ghost use Rattle.name_values.specs.Judged.{JudgesOn, JudgesTwo};
 ghost use Rattle.name_rules.specs.Judging.{fault};
 ghost use Rattle.name_rules.specs.Ranges as spec;
 ghost use Rattle.name_rules.specs.Types as types;
@@ -10,6 +11,7 @@ ghost use Rattle.name_values.specs.Statics as statics;
 ghost use Rattle.typed_tree.specs.Latest.{pop, second, top};
 ghost use Rattle.typed_parts.specs.Stack.{parts};
 
+use crate::judge::Judge;
 use crate::logs::breaks;
 use crate::names::denoted_first;
 use crate::operators::both_mentions;
@@ -20,7 +22,6 @@ use name_rules::found::{Denoted, Found, Place};
 use name_rules::log::{Dimension, Log, Rule};
 use name_rules::types::{Kind, Scalar, Subtype};
 use std::alloc::AllocError;
-use typed_parts::Parts;
 use typed_tree::Span;
 
 /// The values of a choice, from the first to the last, with its first token.
@@ -176,23 +177,17 @@ pub fn span_taken(
 }
 
 /// Writes that a rule is broken by a static range, in place of the two latest parts.
-fn no_span(
-    log: &mut Log,
-    out: &mut Parts,
-    at: u32,
-    rule: Rule,
-) -> Result<Option<Dimension>, AllocError>
-    ensures { Judges (fault at rule log.old) (pop (pop (parts out.old))) result log.new (parts out.new) }
+fn no_span(judge: &mut Judge, at: u32, rule: Rule) -> Result<Option<Dimension>, AllocError>
+    ensures { JudgesOn (pop (pop (parts judge.old.out))) (fault at rule) judge.old result judge.new }
 {
-    out.leave_out();
-    attempt!(breaks(log, at, rule));
+    judge.out.leave_out();
+    attempt!(breaks(&mut judge.log, at, rule));
     Ok(None)
 }
 
 /// A dimension of these bounds, the latest parts: StaticRange where it must have a value and has none.
 fn spanned(
-    log: &mut Log,
-    out: &mut Parts,
+    judge: &mut Judge,
     first: u32,
     must_hold: bool,
     kind: Kind,
@@ -200,12 +195,12 @@ fn spanned(
     high: Found,
     span: Span,
 ) -> Result<Option<Dimension>, AllocError>
-    ensures { Judges (spec.spanned first must_hold kind (found low (second (parts out.old))) (found high (top (parts out.old))) (span.low, span.high) log.old) (pop (pop (parts out.old))) result log.new (parts out.new) }
+    ensures { JudgesTwo (λ x y. spec.spanned first must_hold kind x y (span.low, span.high)) (found low) (found high) judge.old result judge.new }
 {
     if must_hold && !(span.low <= span.high) {
-        return no_span(log, out, first, Rule::StaticRange);
+        return no_span(judge, first, Rule::StaticRange);
     }
-    attempt!(both_mentions(out, low, high));
+    attempt!(both_mentions(&mut judge.out, low, high));
     Ok(Some(Dimension {
         kind,
         low: span.low,
@@ -232,8 +227,7 @@ fn holds_both(scalar: Scalar, span: Span) -> bool
 
 /// A dimension of bounds that are checked against a subtype, the latest parts: StaticRange at one that is outside of it.
 fn inside_span(
-    log: &mut Log,
-    out: &mut Parts,
+    judge: &mut Judge,
     first: u32,
     must_hold: bool,
     scalar: Scalar,
@@ -241,22 +235,21 @@ fn inside_span(
     high: Found,
     span: Span,
 ) -> Result<Option<Dimension>, AllocError>
-    ensures { Judges (statics.inside_span first must_hold scalar (found low (second (parts out.old))) (found high (top (parts out.old))) (span.low, span.high) log.old) (pop (pop (parts out.old))) result log.new (parts out.new) }
+    ensures { JudgesTwo (λ x y. statics.inside_span first must_hold scalar x y (span.low, span.high)) (found low) (found high) judge.old result judge.new }
 {
-    attempt!(inside_subtype(log, scalar, low, span.low));
-    attempt!(inside_subtype(log, scalar, high, span.high));
+    attempt!(inside_subtype(&mut judge.log, scalar, low, span.low));
+    attempt!(inside_subtype(&mut judge.log, scalar, high, span.high));
     if holds_both(scalar, span) {
-        return spanned(log, out, first, must_hold, scalar.kind, low, high, span);
+        return spanned(judge, first, must_hold, scalar.kind, low, high, span);
     }
-    out.leave_out();
+    judge.out.leave_out();
     Ok(None)
 }
 
 /// A dimension of bounds of a subtype, the latest parts: StaticRange where it must have a value and has none, and else at
 /// a bound that is outside of the subtype.
 fn checked_span(
-    log: &mut Log,
-    out: &mut Parts,
+    judge: &mut Judge,
     first: u32,
     must_hold: bool,
     scalar: Scalar,
@@ -264,12 +257,12 @@ fn checked_span(
     high: Found,
     span: Span,
 ) -> Result<Option<Dimension>, AllocError>
-    ensures { Judges (spec.checked_span first must_hold scalar (found low (second (parts out.old))) (found high (top (parts out.old))) (span.low, span.high) log.old) (pop (pop (parts out.old))) result log.new (parts out.new) }
+    ensures { JudgesTwo (λ x y. spec.checked_span first must_hold scalar x y (span.low, span.high)) (found low) (found high) judge.old result judge.new }
 {
     if !(span.low <= span.high) {
-        return spanned(log, out, first, must_hold, scalar.kind, low, high, span);
+        return spanned(judge, first, must_hold, scalar.kind, low, high, span);
     }
-    inside_span(log, out, first, must_hold, scalar, low, high, span)
+    inside_span(judge, first, must_hold, scalar, low, high, span)
 }
 
 /// The type of two static bounds: their own, or the one that is preferred, where neither has one.
@@ -291,43 +284,41 @@ fn preferred(want: Option<Kind>, low: Found, high: Found) -> Kind
 /// NotStatic, StaticRange.
 #[tactic(auto, using(crate::proofs::Taken::bounds_taken))]
 pub fn static_bounds(
-    log: &mut Log,
-    out: &mut Parts,
+    judge: &mut Judge,
     first: u32,
     must_hold: bool,
     want: Option<Kind>,
     low: Found,
     high: Found,
 ) -> Result<Option<Dimension>, AllocError>
-    ensures { Judges (spec.static_bounds first must_hold want (found low (second (parts out.old))) (found high (top (parts out.old))) log.old) (pop (pop (parts out.old))) result log.new (parts out.new) }
+    ensures { JudgesTwo (spec.static_bounds first must_hold want) (found low) (found high) judge.old result judge.new }
 {
     let kind = preferred(want, low, high);
     if !is_number(low) {
-        return no_span(log, out, first_of(low), Rule::WrongType);
+        return no_span(judge, first_of(low), Rule::WrongType);
     }
     if !(suits(kind, low) && suits(kind, high)) {
-        return no_span(log, out, first_of(high), Rule::WrongType);
+        return no_span(judge, first_of(high), Rule::WrongType);
     }
-    match attempt!(span_taken(log, kind, low, high)) {
+    match attempt!(span_taken(&mut judge.log, kind, low, high)) {
         None => {
-            out.leave_out();
+            judge.out.leave_out();
             Ok(None)
         }
-        Some(span) => spanned(log, out, first, must_hold, kind, low, high, span),
+        Some(span) => spanned(judge, first, must_hold, kind, low, high, span),
     }
 }
 
 /// The dimension of a scalar subtype, which mentions nothing: WrongType where it is no integer one.
 fn static_scalar(
-    log: &mut Log,
-    out: &mut Parts,
+    judge: &mut Judge,
     first: u32,
     scalar: Scalar,
 ) -> Result<Option<Dimension>, AllocError>
-    ensures { Judges (spec.static_scalar first scalar log.old) (pop (parts out.old)) result log.new (parts out.new) }
+    ensures { JudgesOn (pop (parts judge.old.out)) (spec.static_scalar first scalar) judge.old result judge.new }
 {
-    out.leave_out();
-    attempt!(out.nothing());
+    judge.out.leave_out();
+    attempt!(judge.out.nothing());
     if is_integer(scalar.kind) {
         return Ok(Some(Dimension {
             kind: scalar.kind,
@@ -335,27 +326,26 @@ fn static_scalar(
             high: scalar.high,
         }));
     }
-    attempt!(breaks(log, first, Rule::WrongType));
+    attempt!(breaks(&mut judge.log, first, Rule::WrongType));
     Ok(None)
 }
 
 /// The dimension that a name is, the latest part: WrongType where it is no range and no integer subtype.
 pub fn static_name(
-    log: &mut Log,
-    out: &mut Parts,
+    judge: &mut Judge,
     first: u32,
     denoted: Denoted,
 ) -> Result<Option<Dimension>, AllocError>
-    ensures { Judges (spec.static_name first denoted (top (parts out.old)) log.old) (pop (parts out.old)) result log.new (parts out.new) }
+    ensures { JudgesOn (pop (parts judge.old.out)) (spec.static_name first denoted (top (parts judge.old.out))) judge.old result judge.new }
 {
     match denoted {
         Denoted::Range { dimension, .. } => Ok(Some(dimension)),
         Denoted::Type {
             subtype: Subtype::Scalar(scalar),
             ..
-        } => static_scalar(log, out, first, scalar),
+        } => static_scalar(judge, first, scalar),
         _ => {
-            attempt!(breaks(log, denoted_first(denoted), Rule::WrongType));
+            attempt!(breaks(&mut judge.log, denoted_first(denoted), Rule::WrongType));
             Ok(None)
         }
     }
@@ -364,42 +354,36 @@ pub fn static_name(
 /// A static range of a subtype, whose bounds are the latest parts: WrongType, NotStatic, StaticRange.
 #[tactic(auto, using(crate::proofs::Taken::checked_taken))]
 pub fn static_checked(
-    log: &mut Log,
-    out: &mut Parts,
+    judge: &mut Judge,
     first: u32,
     must_hold: bool,
     scalar: Scalar,
     low: Found,
     high: Found,
 ) -> Result<Option<Dimension>, AllocError>
-    ensures { Judges (spec.static_checked first must_hold scalar (found low (second (parts out.old))) (found high (top (parts out.old))) log.old) (pop (pop (parts out.old))) result log.new (parts out.new) }
+    ensures { JudgesTwo (spec.static_checked first must_hold scalar) (found low) (found high) judge.old result judge.new }
 {
     if !is_integer(scalar.kind) {
-        return no_span(log, out, first, Rule::WrongType);
+        return no_span(judge, first, Rule::WrongType);
     }
-    match attempt!(span_taken(log, scalar.kind, low, high)) {
+    match attempt!(span_taken(&mut judge.log, scalar.kind, low, high)) {
         None => {
-            out.leave_out();
+            judge.out.leave_out();
             Ok(None)
         }
-        Some(span) => checked_span(log, out, first, must_hold, scalar, low, high, span),
+        Some(span) => checked_span(judge, first, must_hold, scalar, low, high, span),
     }
 }
 
 /// The value of a choice, the latest part.
 #[tactic(auto, using(crate::proofs::Taken::one_taken))]
-fn one_value(
-    log: &mut Log,
-    out: &mut Parts,
-    kind: Kind,
-    given: Found,
-) -> Result<Option<Chosen>, AllocError>
-    ensures { statics.Chooses (spec.one_value kind (found given (top (parts out.old))) log.old) (pop (parts out.old)) result log.new (parts out.new) }
+fn one_value(judge: &mut Judge, kind: Kind, given: Found) -> Result<Option<Chosen>, AllocError>
+    ensures { statics.Chooses (spec.one_value kind (found given (top (parts judge.old.out))) judge.old.log) (pop (parts judge.old.out)) result judge.new.log (parts judge.new.out) }
 {
-    match attempt!(value_taken(log, kind, given)) {
+    match attempt!(value_taken(&mut judge.log, kind, given)) {
         None => Ok(None),
         Some(value) => {
-            attempt!(mentions(out, given));
+            attempt!(mentions(&mut judge.out, given));
             Ok(Some(Chosen {
                 at: first_of(given),
                 low: value,
@@ -412,21 +396,20 @@ fn one_value(
 /// The values of a choice from a bound to another, the latest parts.
 #[tactic(auto, using(crate::proofs::Taken::one_taken))]
 fn two_values(
-    log: &mut Log,
-    out: &mut Parts,
+    judge: &mut Judge,
     kind: Kind,
     low: Found,
     high: Found,
 ) -> Result<Option<Chosen>, AllocError>
-    ensures { statics.Chooses (spec.two_values kind (found low (second (parts out.old))) (found high (top (parts out.old))) log.old) (pop (pop (parts out.old))) result log.new (parts out.new) }
+    ensures { statics.Chooses (spec.two_values kind (found low (second (parts judge.old.out))) (found high (top (parts judge.old.out))) judge.old.log) (pop (pop (parts judge.old.out))) result judge.new.log (parts judge.new.out) }
 {
-    let u = attempt!(value_taken(log, kind, low));
-    let v = attempt!(value_taken(log, kind, high));
+    let u = attempt!(value_taken(&mut judge.log, kind, low));
+    let v = attempt!(value_taken(&mut judge.log, kind, high));
     let (Some(u), Some(v)) = (u, v) else {
-        out.leave_out();
+        judge.out.leave_out();
         return Ok(None);
     };
-    attempt!(both_mentions(out, low, high));
+    attempt!(both_mentions(&mut judge.out, low, high));
     Ok(Some(Chosen {
         at: first_of(low),
         low: u,
@@ -436,35 +419,33 @@ fn two_values(
 
 /// The value of a choice, the latest part, where its type is known: WrongType, StaticRange, NotStatic.
 pub fn values_of(
-    log: &mut Log,
-    out: &mut Parts,
+    judge: &mut Judge,
     kind: Option<Kind>,
     given: Option<Found>,
 ) -> Result<Option<Chosen>, AllocError>
-    ensures { statics.Chooses (spec.values_of kind (found_of given (top (parts out.old))) log.old) (pop (parts out.old)) result log.new (parts out.new) }
+    ensures { statics.Chooses (spec.values_of kind (found_of given (top (parts judge.old.out))) judge.old.log) (pop (parts judge.old.out)) result judge.new.log (parts judge.new.out) }
 {
     match kind {
         None => Ok(None),
         Some(kind) => match given {
             None => Ok(None),
-            Some(given) => one_value(log, out, kind, given),
+            Some(given) => one_value(judge, kind, given),
         },
     }
 }
 
 /// The values of a choice from a bound to another, the latest parts, where their type is known.
 pub fn range_values(
-    log: &mut Log,
-    out: &mut Parts,
+    judge: &mut Judge,
     kind: Option<Kind>,
     low: Option<Found>,
     high: Option<Found>,
 ) -> Result<Option<Chosen>, AllocError>
-    ensures { statics.Chooses (spec.range_values kind (found_of low (second (parts out.old)), found_of high (top (parts out.old))) log.old) (pop (pop (parts out.old))) result log.new (parts out.new) }
+    ensures { statics.Chooses (spec.range_values kind (found_of low (second (parts judge.old.out)), found_of high (top (parts judge.old.out))) judge.old.log) (pop (pop (parts judge.old.out))) result judge.new.log (parts judge.new.out) }
 {
     let (Some(kind), Some(low), Some(high)) = (kind, low, high) else {
-        out.leave_out();
+        judge.out.leave_out();
         return Ok(None);
     };
-    two_values(log, out, kind, low, high)
+    two_values(judge, kind, low, high)
 }

@@ -3,11 +3,13 @@
 ghost use Rattle.std.specs.Prelude.{◌≡◌, ◌∷◌, OnOk};
 ghost use Rattle.typed_tree.specs.Decoded.{as_expr};
 ghost use Rattle.typed_tree.specs.Latest.{pop, top};
-ghost use Rattle.name_rules.specs.Judges.{Gives, Says, found};
+ghost use Rattle.name_rules.specs.Judges.{Says, found};
+ghost use Rattle.name_values.specs.Judged.{GivesOn, GivesOne};
 ghost use Rattle.name_rules.specs.TypedParts.{selections_of};
 ghost use Rattle.name_rules.specs.Values as spec;
 ghost use Rattle.typed_parts.specs.Stack.{parts};
 
+use crate::judge::{Giving, Judge};
 use crate::logs::{breaks, cleared, not_given};
 use crate::types::{check_at, class_of, in_base, is_integer, same, typed_scalar};
 use name_rules::found::{Found, Limits, Place};
@@ -167,20 +169,13 @@ pub fn fitting(log: &mut Log, kind: Kind, first: u32, value: i128) -> Result<boo
 }
 
 #[tactic(auto, unfolding(name_rules::specs::Values::valued))]
-fn valued(
-    log: &mut Log,
-    out: &mut Parts,
-    kind: Kind,
-    first: u32,
-    value: i128,
-    alone: bool,
-) -> Result<bool, AllocError>
-    ensures { Gives (spec.valued kind first value alone (top (parts out.old)) log.old) (pop (parts out.old)) result log.new (parts out.new) }
+fn valued(judge: &mut Judge, kind: Kind, first: u32, value: i128, alone: bool) -> Giving
+    ensures { GivesOn (pop (parts judge.old.out)) (spec.valued kind first value alone (top (parts judge.old.out))) judge.old result judge.new }
 {
     if !in_base(kind, value) {
-        return not_given(log, out, first, Rule::StaticRange);
+        return not_given(judge, first, Rule::StaticRange);
     }
-    attempt!(literal(out, first, value as i64, alone));
+    attempt!(literal(&mut judge.out, first, value as i64, alone));
     Ok(true)
 }
 
@@ -195,13 +190,13 @@ pub fn beyond(kind: Kind, limits: Limits) -> Option<u32>
 }
 
 #[tactic(auto, unfolding(name_rules::specs::Values::settled))]
-fn settled(log: &mut Log, out: &mut Parts, kind: Kind, limits: Limits) -> Result<bool, AllocError>
-    ensures { Gives (spec.settled kind limits (as_expr (top (parts out.old))) log.old) (pop (parts out.old)) result log.new (parts out.new) }
+fn settled(judge: &mut Judge, kind: Kind, limits: Limits) -> Giving
+    ensures { GivesOn (pop (parts judge.old.out)) (spec.settled kind limits (as_expr (top (parts judge.old.out)))) judge.old result judge.new }
 {
     match beyond(kind, limits) {
-        Some(at) => not_given(log, out, at, Rule::StaticRange),
+        Some(at) => not_given(judge, at, Rule::StaticRange),
         None => {
-            attempt!(out.settle(class_of(kind)));
+            attempt!(judge.out.settle(class_of(kind)));
             Ok(true)
         }
     }
@@ -222,27 +217,27 @@ fn object_value(out: &mut Parts, place: Place, scalar: Scalar) -> Result<(), All
     }
 }
 
-fn place_asked(log: &mut Log, out: &mut Parts, kind: Kind, place: Place) -> Result<bool, AllocError>
-    ensures { Gives (spec.place_asked kind place (selections_of (top (parts out.old))) place.subtype log.old) (pop (parts out.old)) result log.new (parts out.new) }
+fn place_asked(judge: &mut Judge, kind: Kind, place: Place) -> Giving
+    ensures { GivesOn (pop (parts judge.old.out)) (spec.place_asked kind place (selections_of (top (parts judge.old.out))) place.subtype) judge.old result judge.new }
 {
     match place.subtype {
         Subtype::Scalar(scalar) => {
             if same(scalar.kind, kind) {
-                attempt!(object_value(out, place, scalar));
+                attempt!(object_value(&mut judge.out, place, scalar));
                 Ok(true)
             } else {
-                not_given(log, out, place.first, Rule::WrongType)
+                not_given(judge, place.first, Rule::WrongType)
             }
         }
-        Subtype::Composite(_) => not_given(log, out, place.first, Rule::WrongType),
+        Subtype::Composite(_) => not_given(judge, place.first, Rule::WrongType),
     }
 }
 
 /// An expression whose place asks for a type (8.6), in place of the latest part: WrongType where it has another one,
 /// StaticRange where a static part of a universal one isn't in the type's base range.
 #[tactic(auto, unfolding(name_rules::specs::Values::asked))]
-pub fn asked(log: &mut Log, out: &mut Parts, kind: Kind, given: Found) -> Result<bool, AllocError>
-    ensures { Gives (spec.asked kind (found given (top (parts out.old))) log.old) (pop (parts out.old)) result log.new (parts out.new) }
+pub fn asked(judge: &mut Judge, kind: Kind, given: Found) -> Giving
+    ensures { GivesOne (spec.asked kind) (found given) judge.old result judge.new }
 {
     match given {
         Found::Universal {
@@ -251,16 +246,16 @@ pub fn asked(log: &mut Log, out: &mut Parts, kind: Kind, given: Found) -> Result
             literal,
         } => {
             if is_integer(kind) {
-                valued(log, out, kind, first, value, literal)
+                valued(judge, kind, first, value, literal)
             } else {
-                not_given(log, out, first, Rule::WrongType)
+                not_given(judge, first, Rule::WrongType)
             }
         }
         Found::Open { first, limits } => {
             if is_integer(kind) {
-                settled(log, out, kind, limits)
+                settled(judge, kind, limits)
             } else {
-                not_given(log, out, first, Rule::WrongType)
+                not_given(judge, first, Rule::WrongType)
             }
         }
         Found::Static {
@@ -269,13 +264,13 @@ pub fn asked(log: &mut Log, out: &mut Parts, kind: Kind, given: Found) -> Result
             value,
         } => {
             if same(own, kind) {
-                attempt!(literal(out, first, value, false));
+                attempt!(literal(&mut judge.out, first, value, false));
                 Ok(true)
             } else {
-                not_given(log, out, first, Rule::WrongType)
+                not_given(judge, first, Rule::WrongType)
             }
         }
-        Found::Object(place) => place_asked(log, out, kind, place),
+        Found::Object(place) => place_asked(judge, kind, place),
         Found::Scalar {
             first,
             kind: own,
@@ -284,44 +279,44 @@ pub fn asked(log: &mut Log, out: &mut Parts, kind: Kind, given: Found) -> Result
             if same(own, kind) {
                 Ok(true)
             } else {
-                not_given(log, out, first, Rule::WrongType)
+                not_given(judge, first, Rule::WrongType)
             }
         }
-        Found::Composite { first, .. } => not_given(log, out, first, Rule::WrongType),
-        Found::Rest { first } => not_given(log, out, first, Rule::WrongType),
-        Found::Text { first } => not_given(log, out, first, Rule::WrongType),
+        Found::Composite { first, .. } => not_given(judge, first, Rule::WrongType),
+        Found::Rest { first } => not_given(judge, first, Rule::WrongType),
+        Found::Text { first } => not_given(judge, first, Rule::WrongType),
     }
 }
 
 /// An expression whose place asks for no type takes its own.
 #[tactic(auto, unfolding(name_rules::specs::Values::settled_found))]
-pub fn settled_found(log: &mut Log, out: &mut Parts, given: Found) -> Result<bool, AllocError>
-    ensures { Gives (spec.settled_found (found given (top (parts out.old))) log.old) (pop (parts out.old)) result log.new (parts out.new) }
+pub fn settled_found(judge: &mut Judge, given: Found) -> Giving
+    ensures { GivesOne spec.settled_found (found given) judge.old result judge.new }
 {
-    asked(log, out, own_kind(given), given)
+    asked(judge, own_kind(given), given)
 }
 
 /// An expression whose place asks for some integer type: WrongType where it has another one.
 #[tactic(auto, unfolding(name_rules::specs::Values::any_integer))]
-pub fn any_integer(log: &mut Log, out: &mut Parts, given: Found) -> Result<bool, AllocError>
-    ensures { Gives (spec.any_integer (found given (top (parts out.old))) log.old) (pop (parts out.old)) result log.new (parts out.new) }
+pub fn any_integer(judge: &mut Judge, given: Found) -> Giving
+    ensures { GivesOne spec.any_integer (found given) judge.old result judge.new }
 {
     if is_number(given) {
-        settled_found(log, out, given)
+        settled_found(judge, given)
     } else {
-        not_given(log, out, first_of(given), Rule::WrongType)
+        not_given(judge, first_of(given), Rule::WrongType)
     }
 }
 
 /// An expression whose place asks for some scalar type: WrongType where it has another one.
 #[tactic(auto, unfolding(name_rules::specs::Values::any_scalar))]
-pub fn any_scalar(log: &mut Log, out: &mut Parts, given: Found) -> Result<bool, AllocError>
-    ensures { Gives (spec.any_scalar (found given (top (parts out.old))) log.old) (pop (parts out.old)) result log.new (parts out.new) }
+pub fn any_scalar(judge: &mut Judge, given: Found) -> Giving
+    ensures { GivesOne spec.any_scalar (found given) judge.old result judge.new }
 {
     if is_scalar(given) {
-        settled_found(log, out, given)
+        settled_found(judge, given)
     } else {
-        not_given(log, out, first_of(given), Rule::WrongType)
+        not_given(judge, first_of(given), Rule::WrongType)
     }
 }
 
@@ -355,20 +350,20 @@ pub fn static_integer(log: &mut Log, given: Found) -> Result<Option<i128>, Alloc
     }
 }
 
-fn whole_of(log: &mut Log, out: &mut Parts, number: u32, place: Place) -> Result<bool, AllocError>
-    ensures { Gives (spec.whole_of number place (selections_of (top (parts out.old))) place.subtype log.old) (pop (parts out.old)) result log.new (parts out.new) }
+fn whole_of(judge: &mut Judge, number: u32, place: Place) -> Giving
+    ensures { GivesOn (pop (parts judge.old.out)) (spec.whole_of number place (selections_of (top (parts judge.old.out))) place.subtype) judge.old result judge.new }
 {
     match place.subtype {
-        Subtype::Scalar(_) => not_given(log, out, place.first, Rule::WrongType),
+        Subtype::Scalar(_) => not_given(judge, place.first, Rule::WrongType),
         Subtype::Composite(own) => {
             if number != own {
-                return not_given(log, out, place.first, Rule::WrongType);
+                return not_given(judge, place.first, Rule::WrongType);
             }
-            attempt!(out.turn());
+            attempt!(judge.out.turn());
             if place.variable {
-                attempt!(out.whole_variable(place.first, place.root, own));
+                attempt!(judge.out.whole_variable(place.first, place.root, own));
             } else {
-                attempt!(out.whole_constant(place.first, place.root, own));
+                attempt!(judge.out.whole_constant(place.first, place.root, own));
             }
             Ok(true)
         }
@@ -378,51 +373,40 @@ fn whole_of(log: &mut Log, out: &mut Parts, number: u32, place: Place) -> Result
 /// An expression whose place asks for an array or record type, by its number in the table of subtypes: WrongType
 /// where it has another one. Two are the same only if they come from one declaration.
 #[tactic(auto, unfolding(name_rules::specs::Values::composite_asked))]
-pub fn composite_asked(
-    log: &mut Log,
-    out: &mut Parts,
-    number: u32,
-    given: Found,
-) -> Result<bool, AllocError>
-    ensures { Gives (spec.composite_asked number (found given (top (parts out.old))) log.old) (pop (parts out.old)) result log.new (parts out.new) }
+pub fn composite_asked(judge: &mut Judge, number: u32, given: Found) -> Giving
+    ensures { GivesOne (spec.composite_asked number) (found given) judge.old result judge.new }
 {
     match given {
         Found::Composite { first, number: own } => {
             if number == own {
                 Ok(true)
             } else {
-                not_given(log, out, first, Rule::WrongType)
+                not_given(judge, first, Rule::WrongType)
             }
         }
-        Found::Object(place) => whole_of(log, out, number, place),
-        _ => not_given(log, out, first_of(given), Rule::WrongType),
+        Found::Object(place) => whole_of(judge, number, place),
+        _ => not_given(judge, first_of(given), Rule::WrongType),
     }
 }
 
 /// A value that is stored in a place of a subtype, with a check at a token where it is a scalar.
 #[tactic(auto, unfolding(name_rules::specs::Values::stored))]
-pub fn stored(
-    log: &mut Log,
-    out: &mut Parts,
-    subtype: Subtype,
-    at: u32,
-    given: Found,
-) -> Result<bool, AllocError>
-    ensures { Gives (spec.stored subtype at (found given (top (parts out.old))) log.old) (pop (parts out.old)) result log.new (parts out.new) }
+pub fn stored(judge: &mut Judge, subtype: Subtype, at: u32, given: Found) -> Giving
+    ensures { GivesOne (spec.stored subtype at) (found given) judge.old result judge.new }
 {
     match subtype {
         Subtype::Scalar(scalar) => {
-            if !attempt!(asked(log, out, scalar.kind, given)) {
+            if !attempt!(asked(judge, scalar.kind, given)) {
                 return Ok(false);
             }
-            attempt!(out.number(check_at(at, scalar)));
+            attempt!(judge.out.number(check_at(at, scalar)));
             Ok(true)
         }
         Subtype::Composite(number) => {
-            if !attempt!(composite_asked(log, out, number, given)) {
+            if !attempt!(composite_asked(judge, number, given)) {
                 return Ok(false);
             }
-            attempt!(out.cells());
+            attempt!(judge.out.cells());
             Ok(true)
         }
     }

@@ -2,9 +2,10 @@
 
 ghost use Rattle.std.specs.Prelude.{◌≡◌, ◌/◌, IfOk, OnOk, is_some, length, not, option_map};
 ghost use Rattle.typed_tree.specs.Decoded.{as_check};
-ghost use Rattle.typed_tree.specs.Latest.{pop, second, top};
+ghost use Rattle.typed_tree.specs.Latest.{pop, top};
 ghost use Rattle.name_rules.specs.Iterations as spec;
-ghost use Rattle.name_rules.specs.Judges.{Gives, Says, found_of, part_if};
+ghost use Rattle.name_rules.specs.Judges.{Says, found_of, part_if};
+ghost use Rattle.name_values.specs.Judged.{GivesTwo};
 ghost use Rattle.name_rules.specs.Judging.{joined, pure};
 ghost use Rattle.name_rules.specs.Names as names;
 ghost use Rattle.name_rules.specs.Parts as whole;
@@ -17,6 +18,7 @@ ghost use Rattle.syntax_nodes.specs.Views.{optional_expr};
 ghost use Rattle.typed_parts.specs.Stack.{parts};
 
 use crate::arrays::component_cells;
+use crate::judge::{Giving, Judge};
 use crate::logs::breaks;
 use crate::names::{cells_in, component_of, denoted_first, is_array};
 use crate::scope::{is_taken, with_entry};
@@ -323,60 +325,55 @@ pub fn over_denoted(
 }
 
 /// An iteration with its filter, which is the latest part, behind what it goes through.
-pub fn filtered(
-    log: &Log,
-    out: &mut Parts,
-    way: Option<Way>,
-    filter: bool,
-) -> Result<bool, AllocError>
-    ensures { Gives (pure (joined spec.filtered (made_of way (second (parts out.old))) (part_if filter (top (parts out.old)))) log.now) (pop (pop (parts out.old))) result log.now (parts out.new) }
+pub fn filtered(judge: &mut Judge, way: Option<Way>, filter: bool) -> Giving
+    ensures { GivesTwo (λ x y. pure (joined spec.filtered x y)) (made_of way) (part_if filter) judge.old result judge.new }
 {
-    let _log = log;
     let Some(way) = way else {
-        out.leave_out();
+        judge.out.leave_out();
         return Ok(false);
     };
     if !filter {
-        out.leave_out();
+        judge.out.leave_out();
         return Ok(false);
     }
-    attempt!(out.swap());
+    attempt!(judge.out.swap());
     match way {
         Way::Range {
             parameter,
             reverse,
             check,
         } => {
-            attempt!(out.apart());
-            attempt!(out.rotate());
-            attempt!(check_part(out, check));
-            attempt!(out.swap());
-            attempt!(out.range(parameter, reverse));
+            attempt!(judge.out.apart());
+            attempt!(judge.out.rotate());
+            attempt!(check_part(&mut judge.out, check));
+            attempt!(judge.out.swap());
+            attempt!(judge.out.range(parameter, reverse));
         }
         Way::Components(c) => {
-            attempt!(out.turn());
-            attempt!(out.swap());
-            attempt!(out.components(
-                c.item,
-                c.constant,
-                c.at,
-                c.root,
-                c.count,
-                c.stride,
-                c.dimensions,
-            ));
+            attempt!(judge.out.turn());
+            attempt!(judge.out.swap());
+            attempt!(
+                judge.out.components(
+                    c.item,
+                    c.constant,
+                    c.at,
+                    c.root,
+                    c.count,
+                    c.stride,
+                    c.dimensions,
+                )
+            );
         }
     }
     Ok(true)
 }
 
 /// A number of chunks, which is the latest part.
-pub fn counted(log: &Log, out: &mut Parts, given: bool) -> Result<Chunking, AllocError>
-    ensures { Chunks (pure (record { chunk = option_map spec.counted (part_if given (top (parts out.old))); entry = None }) log.now) (pop (parts out.old)) result log.now (parts out.new) }
+pub fn counted(judge: &mut Judge, given: bool) -> Result<Chunking, AllocError>
+    ensures { Chunks (pure (record { chunk = option_map spec.counted (part_if given (top (parts judge.old.out))); entry = None }) judge.old.log) (pop (parts judge.old.out)) result judge.new.log (parts judge.new.out) }
 {
-    let _log = log;
     if given {
-        attempt!(out.chunk_count());
+        attempt!(judge.out.chunk_count());
     }
     Ok(Chunking {
         given,
@@ -386,15 +383,13 @@ pub fn counted(log: &Log, out: &mut Parts, given: bool) -> Result<Chunking, Allo
 
 /// A chunk for each value of a range, whose bounds are the latest part.
 pub fn chunk_each(
-    log: &Log,
-    out: &mut Parts,
+    judge: &mut Judge,
     number: u32,
     token: u32,
     bounded: Option<Bounded>,
 ) -> Result<Chunking, AllocError>
-    ensures { Chunks (pure (record { chunk = option_map (spec.each_chunk number) (found_of bounded (top (parts out.old))); entry = Some (token, spec.parameter_what number (found_of bounded (top (parts out.old)))) }) log.now) (pop (parts out.old)) result log.now (parts out.new) }
+    ensures { Chunks (pure (record { chunk = option_map (spec.each_chunk number) (found_of bounded (top (parts judge.old.out))); entry = Some (token, spec.parameter_what number (found_of bounded (top (parts judge.old.out)))) }) judge.old.log) (pop (parts judge.old.out)) result judge.new.log (parts judge.new.out) }
 {
-    let _log = log;
     let Some(bounded) = bounded else {
         return Ok(Chunking {
             given: false,
@@ -404,9 +399,9 @@ pub fn chunk_each(
             }),
         });
     };
-    attempt!(out.apart());
-    attempt!(check_part(out, check_of(bounded)));
-    attempt!(out.chunk_each(number));
+    attempt!(judge.out.apart());
+    attempt!(check_part(&mut judge.out, check_of(bounded)));
+    attempt!(judge.out.chunk_each(number));
     Ok(Chunking {
         given: true,
         parameter: Some(ChunkParameter {

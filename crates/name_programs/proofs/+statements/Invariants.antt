@@ -14,7 +14,7 @@ use Rattle.name_programs.proofs.+statements.Given as goal
 -- A statement is judged in one level less than what it stands in.
 
 abbrev pub decreases-statements::stmt : goal.decreases-statements::stmt
-decreases-statements::stmt l = 20 * l.levels
+decreases-statements::stmt l = 20 * l.text.levels
 
 abbrev pub decreases-statements::stmt_form : goal.decreases-statements::stmt_form
 decreases-statements::stmt_form l = 20 * l.below + 19
@@ -89,28 +89,28 @@ abbrev pub decreases-statements::stmts_from-more : goal.decreases-statements::st
 decreases-statements::stmts_from-more l = l.next
 
 abbrev pub invariant-statements::stmts_from-more : goal.invariant-statements::stmts_from-more
-invariant-statements::stmts_from-more l = (spec.stmts_from (in_levels l.names l.levels l.below) l.fn.here (Some part.Nothing) (syntax.AlsoStmt (the_stmt (part_at l.tree.nodes l.first)) (the_more_stmts (part_at l.tree.nodes l.fn.more))) l.fn.log ≡ spec.stmts_from (in_levels l.names l.levels l.below) l.fn.here (part_if l.done (top (parts l.out))) (the_more_stmts (part_at l.tree.nodes l.next)) l.log) × (pop (parts l.out) ≡ parts l.fn.out) × (l.here ≡ l.fn.here)
+invariant-statements::stmts_from-more l = (spec.stmts_from (in_levels l.text.names.now l.text.levels l.below) l.fn.here (Some part.Nothing) (syntax.AlsoStmt (the_stmt (part_at l.text.tree.now.nodes l.first)) (the_more_stmts (part_at l.text.tree.now.nodes l.fn.more))) l.fn.judge.log ≡ spec.stmts_from (in_levels l.text.names.now l.text.levels l.below) l.fn.here (part_if l.done (top (parts l.judge.out))) (the_more_stmts (part_at l.text.tree.now.nodes l.next)) l.judge.log) × (pop (parts l.judge.out) ≡ parts l.fn.judge.out) × (l.here ≡ l.fn.here)
 
 abbrev pub decreases-statements::elsifs-arms : goal.decreases-statements::elsifs-arms
 decreases-statements::elsifs-arms l = l.next
 
 abbrev pub invariant-statements::elsifs-arms : goal.invariant-statements::elsifs-arms
-invariant-statements::elsifs-arms l = (spec.elsifs (in_levels l.names l.levels l.below) l.fn.here (Some part.Nothing) (the_arms (part_at l.tree.nodes l.fn.more)) l.fn.log ≡ spec.elsifs (in_levels l.names l.levels l.below) l.fn.here (part_if l.done (top (parts l.out))) (the_arms (part_at l.tree.nodes l.next)) l.log) × (pop (parts l.out) ≡ parts l.fn.out) × (l.here ≡ l.fn.here)
+invariant-statements::elsifs-arms l = (spec.elsifs (in_levels l.text.names.now l.text.levels l.below) l.fn.here (Some part.Nothing) (the_arms (part_at l.text.tree.now.nodes l.fn.more)) l.fn.judge.log ≡ spec.elsifs (in_levels l.text.names.now l.text.levels l.below) l.fn.here (part_if l.done (top (parts l.judge.out))) (the_arms (part_at l.text.tree.now.nodes l.next)) l.judge.log) × (pop (parts l.judge.out) ≡ parts l.fn.judge.out) × (l.here ≡ l.fn.here)
 
 abbrev pub decreases-cases::alts-alts : goal.decreases-cases::alts-alts
 decreases-cases::alts-alts l = l.next
 
 abbrev pub invariant-cases::alts-alts : goal.invariant-cases::alts-alts
-invariant-cases::alts-alts l = (spec.alts (in_levels l.names l.levels l.below) l.fn.here l.kind (as_covering l.fn.covering) (Some part.Nothing) (syntax.AlsoAlt (the_alt (part_at l.tree.nodes l.first)) (the_alts (part_at l.tree.nodes l.fn.more))) l.fn.log ≡ spec.alts (in_levels l.names l.levels l.below) l.fn.here l.kind (as_covering l.covering) (part_if l.done (top (parts l.out))) (the_alts (part_at l.tree.nodes l.next)) l.log) × (pop (parts l.out) ≡ parts l.fn.out) × (l.here ≡ l.fn.here)
+invariant-cases::alts-alts l = (spec.alts (in_levels l.text.names.now l.text.levels l.below) l.fn.here l.kind (as_covering l.fn.covering) (Some part.Nothing) (syntax.AlsoAlt (the_alt (part_at l.text.tree.now.nodes l.first)) (the_alts (part_at l.text.tree.now.nodes l.fn.more))) l.fn.judge.log ≡ spec.alts (in_levels l.text.names.now l.text.levels l.below) l.fn.here l.kind (as_covering l.covering) (part_if l.done (top (parts l.judge.out))) (the_alts (part_at l.text.tree.now.nodes l.next)) l.judge.log) × (pop (parts l.judge.out) ≡ parts l.fn.judge.out) × (l.here ≡ l.fn.here)
 
 abbrev pub decreases-bodies::handlers-handlers : goal.decreases-bodies::handlers-handlers
 decreases-bodies::handlers-handlers l = l.next
 
 abbrev pub invariant-bodies::handlers-handlers : goal.invariant-bodies::handlers-handlers
-invariant-bodies::handlers-handlers l = (spec.handlers (in_levels l.names l.levels l.below) l.fn.here [] (Some part.Nothing) (the_handlers (part_at l.tree.nodes l.fn.more)) l.fn.log ≡ spec.handlers (in_levels l.names l.levels l.below) l.fn.here (reverse l.seen) (part_if l.done (top (parts l.out))) (the_handlers (part_at l.tree.nodes l.next)) l.log) × (pop (parts l.out) ≡ parts l.fn.out) × (l.here ≡ l.fn.here)
+invariant-bodies::handlers-handlers l = (spec.handlers (in_levels l.text.names.now l.text.levels l.below) l.fn.here [] (Some part.Nothing) (the_handlers (part_at l.text.tree.now.nodes l.fn.more)) l.fn.judge.log ≡ spec.handlers (in_levels l.text.names.now l.text.levels l.below) l.fn.here (reverse l.seen) (part_if l.done (top (parts l.judge.out))) (the_handlers (part_at l.text.tree.now.nodes l.next)) l.judge.log) × (pop (parts l.judge.out) ≡ parts l.fn.judge.out) × (l.here ≡ l.fn.here)
 
 abbrev pub decreases-parallels::branches-arms : goal.decreases-parallels::branches-arms
 decreases-parallels::branches-arms l = l.next
 
 abbrev pub invariant-parallels::branches-arms : goal.invariant-parallels::branches-arms
-invariant-parallels::branches-arms l = (spec.branches (in_levels l.names l.levels l.below) l.fn.here (Some part.Nothing) (syntax.AlsoBranch (the_stmts (part_at l.tree.nodes l.first)) (syntax.AlsoBranch (the_stmts (part_at l.tree.nodes l.second)) (the_branches (part_at l.tree.nodes l.fn.more)))) l.fn.log ≡ spec.branches (in_levels l.names l.levels l.below) l.fn.here (part_if l.done (top (parts l.out))) (the_branches (part_at l.tree.nodes l.next)) l.log) × (pop (parts l.out) ≡ parts l.fn.out) × (l.here ≡ l.fn.here)
+invariant-parallels::branches-arms l = (spec.branches (in_levels l.text.names.now l.text.levels l.below) l.fn.here (Some part.Nothing) (syntax.AlsoBranch (the_stmts (part_at l.text.tree.now.nodes l.first)) (syntax.AlsoBranch (the_stmts (part_at l.text.tree.now.nodes l.second)) (the_branches (part_at l.text.tree.now.nodes l.fn.more)))) l.fn.judge.log ≡ spec.branches (in_levels l.text.names.now l.text.levels l.below) l.fn.here (part_if l.done (top (parts l.judge.out))) (the_branches (part_at l.text.tree.now.nodes l.next)) l.judge.log) × (pop (parts l.judge.out) ≡ parts l.fn.judge.out) × (l.here ≡ l.fn.here)

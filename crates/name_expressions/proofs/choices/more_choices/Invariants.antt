@@ -9,7 +9,7 @@ use Rattle.typed_parts.specs.Stack.{parts}
 use Rattle.name_expressions.proofs.choices.more_choices.Given as goal
 
 abbrev pub invariant-choices : goal.invariant-choices
-invariant-choices l = (cases.case_choices (inside l.names l.levels) l.here l.kind l.single l.last (as_covering l.fn.covering) (as_choosing l.fn.choosing (top (parts l.fn.out))) (the_choice_list (part_at l.tree.nodes l.fn.more)) l.fn.log ≡ cases.case_choices (inside l.names l.levels) l.here l.kind l.single l.last (as_covering l.covering) (as_choosing l.choosing (top (parts l.out))) (the_choice_list (part_at l.tree.nodes l.next)) l.log) × (pop (parts l.out) ≡ pop (parts l.fn.out))
+invariant-choices l = (cases.case_choices (inside l.scene.names.now l.scene.levels) l.scene.here.now l.kind l.single l.last (as_covering l.fn.covering) (as_choosing l.fn.choosing (top (parts l.fn.judge.out))) (the_choice_list (part_at l.scene.tree.now.nodes l.fn.more)) l.fn.judge.log ≡ cases.case_choices (inside l.scene.names.now l.scene.levels) l.scene.here.now l.kind l.single l.last (as_covering l.covering) (as_choosing l.choosing (top (parts l.judge.out))) (the_choice_list (part_at l.scene.tree.now.nodes l.next)) l.judge.log) × (pop (parts l.judge.out) ≡ pop (parts l.fn.judge.out))
 
 abbrev pub decreases-choices : goal.decreases-choices
 decreases-choices l = l.next

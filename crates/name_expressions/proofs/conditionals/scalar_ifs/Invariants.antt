@@ -6,7 +6,7 @@ use Rattle.typed_parts.specs.Stack.{parts}
 use Rattle.name_expressions.proofs.conditionals.scalar_ifs.Given as goal
 
 abbrev pub invariant-values : goal.invariant-values
-invariant-values l = (spec.scalar_ifs l.kind (reverse l.fn.values) (second (parts l.fn.out)) (part_if l.fn.last (top (parts l.fn.out))) l.fn.log ≡ spec.scalar_ifs l.kind (reverse l.values) (second (parts l.out)) (part_if l.done (top (parts l.out))) l.log) × (pop (pop (parts l.out)) ≡ pop (pop (parts l.fn.out)))
+invariant-values l = (spec.scalar_ifs l.kind (reverse l.fn.values) (second (parts l.fn.judge.out)) (part_if l.fn.last (top (parts l.fn.judge.out))) l.fn.judge.log ≡ spec.scalar_ifs l.kind (reverse l.values) (second (parts l.judge.out)) (part_if l.done (top (parts l.judge.out))) l.judge.log) × (pop (pop (parts l.judge.out)) ≡ pop (pop (parts l.fn.judge.out)))
 
 abbrev pub decreases-values : goal.decreases-values
 decreases-values l = length l.values

@@ -10,7 +10,7 @@ use Rattle.typed_parts.specs.Stack.{parts}
 use Rattle.name_programs.proofs.objects.each_object.Given as goal
 
 abbrev pub invariant-objects : goal.invariant-objects
-invariant-objects l = (spec.each_object l.names (inside l.names l.levels) l.inner l.fn.here l.constant l.first (the_object_type (part_at l.tree.nodes l.object_type)) (optional (part_at l.tree.nodes) the_expr l.value) (part_if l.done (top (parts l.fn.out))) l.ids l.free l.fn.log ≡ spec.each_object l.names (inside l.names l.levels) l.inner l.here l.constant l.first (the_object_type (part_at l.tree.nodes l.object_type)) (optional (part_at l.tree.nodes) the_expr l.value) (part_if l.whole (top (parts l.out))) (drop l.i l.ids) (drop l.i l.free) l.log) × (pop (parts l.out) ≡ pop (parts l.fn.out))
+invariant-objects l = (spec.each_object l.text.names.now (inside l.text.names.now l.text.levels) l.inner l.fn.here l.constant l.first (the_object_type (part_at l.text.tree.now.nodes l.object_type)) (optional (part_at l.text.tree.now.nodes) the_expr l.value) (part_if l.done (top (parts l.fn.judge.out))) l.ids l.free l.fn.judge.log ≡ spec.each_object l.text.names.now (inside l.text.names.now l.text.levels) l.inner l.here l.constant l.first (the_object_type (part_at l.text.tree.now.nodes l.object_type)) (optional (part_at l.text.tree.now.nodes) the_expr l.value) (part_if l.whole (top (parts l.judge.out))) (drop l.i l.ids) (drop l.i l.free) l.judge.log) × (pop (parts l.judge.out) ≡ pop (parts l.fn.judge.out))
 
 abbrev pub decreases-objects : goal.decreases-objects
 decreases-objects l = length l.ids - l.i

@@ -5,4 +5,4 @@ use Rattle.name_programs.proofs.programs.main.Goals as goal
 
 pub returns : goal.returns
 returns c =
-    main_so _ _ _ _ _ _ _ _ _ _ _ _ _ _ _ _ _ _ _ _ _ _ _ _ _ (parts c.units.new.out) (parts c.body.new.out) _ _ c.main-view.ensures.is c.in_ok-up.ensures c.len-start.ensures c.in_ok-nonblocking.ensures.0 c.in_ok-nothing.ensures c.new-heads.ensures c.in_ok-sound.ensures c.in_ok-held.ensures.0 c.in_ok-held.ensures.1 c.in_ok-end_name.ensures c.both-whole.ensures
+    main_so _ _ _ _ _ _ _ _ _ _ _ _ _ _ _ _ _ _ _ _ _ _ _ _ _ (parts c.units.new.judge.out) (parts c.body.new.judge.out) _ _ c.main-view.ensures.is c.in_ok-up.ensures c.len-start.ensures c.in_ok-nonblocking.ensures.0 c.in_ok-nothing.ensures c.new-heads.ensures c.in_ok-sound.ensures c.in_ok-held.ensures.0 c.in_ok-held.ensures.1 c.in_ok-end_name.ensures c.both-whole.ensures

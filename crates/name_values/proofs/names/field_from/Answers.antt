@@ -9,15 +9,15 @@ use Rattle.name_values.proofs.names.field_from.Goals as goal
 pub returns-then-field-name : goal.returns-then-field-name
 returns-then-field-name c =
     rw c.part_place.ensures
-    (found_shows c.args.names.now c.args.place c.args.at c.fields.i (fields_of (shape_in c.args.log.now c.args.number)) c.in-Some.field c.args.log.now
-    (parts c.args.out.now) (parts c.fields.out) (parts c.selected_field.new.out)
-    (spec.field_from c.args.names.now c.args.place (top (parts c.args.out.now)) c.args.at 0 (fields_of (shape_in c.args.log.now c.args.number)) c.args.log.now)
+    (found_shows c.args.names.now c.args.place c.args.at c.fields.i (fields_of (shape_in c.fields.judge.log c.args.number)) c.in-Some.field c.fields.judge.log
+    (parts c.args.judge.now.out) (parts c.fields.judge.out) (parts c.selected_field.new.out)
+    (spec.field_from c.args.names.now c.args.place (top (parts c.args.judge.now.out)) c.args.at 0 (fields_of (shape_in c.args.judge.now.log c.args.number)) c.args.judge.now.log)
     c.fields.invariant.0 (sym c.field_at.ensures ∙ c.in-Some.is) (c.if-field-name.true ∙ c.symbol-name.ensures) c.fields.invariant.1 c.in_ok-selected_field.ensures)
 
 pub fields-preserved : goal.fields-preserved
 fields-preserved c = (
   c.fields.invariant.0
-      ∙ next_shows c.args.names.now c.args.place (top (parts c.args.out.now)) c.args.at c.fields.i (fields_of (shape_in c.args.log.now c.args.number)) c.in-Some.field c.args.log.now
+      ∙ next_shows c.args.names.now c.args.place (top (parts c.args.judge.now.out)) c.args.at c.fields.i (fields_of (shape_in c.fields.judge.log c.args.number)) c.in-Some.field c.fields.judge.log
       (sym c.field_at.ensures ∙ c.in-Some.is) (λ e. c.if-field-name.false (e ∙ sym c.symbol-name.ensures)),
   c.fields.invariant.1,
 )
