@@ -23,7 +23,7 @@ use Rattle.name_symbols.specs.Naming.{names_of}
 use Rattle.syntax_parse.proofs.Verdicts.{one_tree, one_deep}
 use Rattle.syntax_readers.proofs.FirstFaults as first
 use Rattle.driver.specs.Built.{misnamed}
-use Rattle.driver.specs.Compile.{lexing, parsing, naming, blocking, separating, building, finishing, checking, resolving, reading, compiling}
+use Rattle.driver.specs.Compile.{lexing, parsing, naming, blocking, separating, building, from_unblocked, from_typed, from_tree, from_tokens, compiling}
 use Rattle.driver.specs.Complaints.{Complaint, lexical, unexpected, too_deep, blocking_call, global_touched, clash}
 use Rattle.driver.specs.Phases.{IsExact}
 use Rattle.driver.proofs.Phases.{followed_exact}
@@ -153,14 +153,14 @@ building_exact t = record {
   apart = λ p a x is v. v;
 }
 
-pub finishing_exact : (t : Tokenized) → IsExact (finishing t)
-finishing_exact t = followed_exact (separating t) (λ program. building t) (separating_exact t) (λ program. building_exact t)
+pub from_unblocked_exact : (t : Tokenized) → IsExact (from_unblocked t)
+from_unblocked_exact t = followed_exact (separating t) (λ program. building t) (separating_exact t) (λ program. building_exact t)
 
-checking_exact : (t : Tokenized) → IsExact (checking t)
-checking_exact t = followed_exact (blocking t) (λ program. finishing t) (blocking_exact t) (λ program. finishing_exact t)
+from_typed_exact : (t : Tokenized) → IsExact (from_typed t)
+from_typed_exact t = followed_exact (blocking t) (λ program. from_unblocked t) (blocking_exact t) (λ program. from_unblocked_exact t)
 
-resolving_exact : (t : Tokenized) → IsExact (resolving t)
-resolving_exact t = followed_exact (naming t) (λ tree. checking t) (naming_exact t) (λ tree. checking_exact t)
+from_tree_exact : (t : Tokenized) → IsExact (from_tree t)
+from_tree_exact t = followed_exact (naming t) (λ tree. from_typed t) (naming_exact t) (λ tree. from_typed_exact t)
 
 pub compiling_exact : IsExact compiling
-compiling_exact = followed_exact lexing (λ text. reading) lexing_exact (λ text. followed_exact parsing resolving parsing_exact resolving_exact)
+compiling_exact = followed_exact lexing (λ text. from_tokens) lexing_exact (λ text. followed_exact parsing from_tree parsing_exact from_tree_exact)

@@ -72,20 +72,20 @@ abbrev pub building : Tokenized → Phase typed.Program Compiled Complaint
 building t = record { right = λ program unit. unit ≡ compiled t program; wrong = λ program c. ⊥ }
 
 -- from a typed program, from a tree and from tokens to the unit
-abbrev pub finishing : Tokenized → Phase typed.Program Compiled Complaint
-finishing t = followed (separating t) (λ program. building t)
+abbrev pub from_unblocked : Tokenized → Phase typed.Program Compiled Complaint
+from_unblocked t = followed (separating t) (λ program. building t)
 
-abbrev pub checking : Tokenized → Phase typed.Program Compiled Complaint
-checking t = followed (blocking t) (λ program. finishing t)
+abbrev pub from_typed : Tokenized → Phase typed.Program Compiled Complaint
+from_typed t = followed (blocking t) (λ program. from_unblocked t)
 
-abbrev pub resolving : Tokenized → Phase syntax.Program Compiled Complaint
-resolving t = followed (naming t) (λ tree. checking t)
+abbrev pub from_tree : Tokenized → Phase syntax.Program Compiled Complaint
+from_tree t = followed (naming t) (λ tree. from_typed t)
 
-abbrev pub reading : Phase Tokenized Compiled Complaint
-reading = followed parsing resolving
+abbrev pub from_tokens : Phase Tokenized Compiled Complaint
+from_tokens = followed parsing from_tree
 
 abbrev pub compiling : Phase (List ℕ) Compiled Complaint
-compiling = followed lexing (λ text. reading)
+compiling = followed lexing (λ text. from_tokens)
 
 -- a text that is accepted, with what it is compiled to, and the fault of one that isn't
 abbrev pub IsAccepted : List ℕ → Compiled → Type 0

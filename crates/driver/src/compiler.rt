@@ -12,7 +12,7 @@ ghost use Rattle.ada_meaning.specs.Nonblocking.{KeepsRule};
 ghost use Rattle.typed_tree.specs.Programs.{program};
 ghost use Rattle.syntax_nodes.specs.Trees.{program_of};
 ghost use Rattle.driver.specs.Complaints.{Complaint};
-ghost use Rattle.driver.specs.Compile.{Decides, IsRefusal, lexing, parsing, finishing, checking, resolving, reading, compiling, refusal_of, IsAccepted, IsFaultOf, IsRefusalOf, GivesUnit, GivesRefusal};
+ghost use Rattle.driver.specs.Compile.{Decides, IsRefusal, lexing, parsing, from_unblocked, from_typed, from_tree, from_tokens, compiling, refusal_of, IsAccepted, IsFaultOf, IsRefusalOf, GivesUnit, GivesRefusal};
 ghost use Rattle.driver.specs.Compiled.{Compiled, compiled_of};
 
 use crate::naming::{built, keeps, separated, typed_of};
@@ -55,7 +55,7 @@ fn compiled(alloc: Global, text: &[u8]) -> Result<Unit, Refusal>
 }
 
 fn unit_of(alloc: Global, tokens: &Tokens) -> Result<Unit, Refusal>
-    ensures { Decides reading compiled_of tokens.now result }
+    ensures { Decides from_tokens compiled_of tokens.now result }
 {
     let tree = match tree_of(alloc, tokens) {
         Ok(tree) => tree,
@@ -68,7 +68,7 @@ fn unit_of(alloc: Global, tokens: &Tokens) -> Result<Unit, Refusal>
 }
 
 fn whole_of(alloc: Global, tokens: &Tokens, tree: &Tree) -> Result<Unit, Refusal>
-    ensures { Decides (resolving tokens.now) compiled_of (program_of tree.now) result }
+    ensures { Decides (from_tree tokens.now) compiled_of (program_of tree.now) result }
 {
     let typed = match typed_of(alloc, tokens, tree) {
         Ok(typed) => typed,
@@ -82,7 +82,7 @@ fn whole_of(alloc: Global, tokens: &Tokens, tree: &Tree) -> Result<Unit, Refusal
 
 fn checked(alloc: Global, tokens: &Tokens, typed: Typed) -> Result<Unit, Refusal>
     requires { IsFormed (program typed) }
-    ensures { Decides (checking tokens.now) compiled_of (program typed) result }
+    ensures { Decides (from_typed tokens.now) compiled_of (program typed) result }
 {
     if let Err(refusal) = keeps(tokens, &typed) {
         return Err(refusal);
@@ -96,7 +96,7 @@ fn checked(alloc: Global, tokens: &Tokens, typed: Typed) -> Result<Unit, Refusal
 fn finished(alloc: Global, tokens: &Tokens, typed: Typed) -> Result<Unit, Refusal>
     requires keeps { KeepsRule (program typed) }
     requires formed { IsFormed (program typed) }
-    ensures { Decides (finishing tokens.now) compiled_of (program typed) result }
+    ensures { Decides (from_unblocked tokens.now) compiled_of (program typed) result }
 {
     if let Err(refusal) = separated(alloc, tokens, &typed) {
         return Err(refusal);

@@ -1,9 +1,9 @@
-use Rattle.driver.specs.Compile.{parsing, resolving}
+use Rattle.driver.specs.Compile.{parsing, from_tree}
 use Rattle.driver.proofs.Steps.{refuses_first, refuses_next}
 use Rattle.driver.proofs.compiler.unit_of.Goals as goal
 
 pub returns-in-Err : goal.returns-in-Err
-returns-in-Err c = refuses_first parsing resolving c.args.tokens.now c.in-Err.refusal c.in-Err.ensures
+returns-in-Err c = refuses_first parsing from_tree c.args.tokens.now c.in-Err.refusal c.in-Err.ensures
 
 pub returns : goal.returns
-returns c = refuses_next parsing resolving c.args.tokens.now _ c.in-Err-whole_of.refusal c.in-Ok.ensures c.in-Err-whole_of.ensures
+returns c = refuses_next parsing from_tree c.args.tokens.now _ c.in-Err-whole_of.refusal c.in-Ok.ensures c.in-Err-whole_of.ensures

@@ -2,13 +2,13 @@ use Rattle.std.proofs.Common.{sym}
 use Rattle.typed_tree.specs.Programs.{program}
 use Rattle.name_formed.proofs.FormsPrograms.{formed_programs_law}
 use Rattle.name_symbols.specs.Naming.{names_of}
-use Rattle.driver.specs.Compile.{naming, checking}
+use Rattle.driver.specs.Compile.{naming, from_typed}
 use Rattle.driver.proofs.Steps.{refuses_first}
 use Rattle.syntax_nodes.specs.Trees.{program_of}
 use Rattle.driver.proofs.compiler.whole_of.Goals as goal
 
 pub returns-in-Err : goal.returns-in-Err
-returns-in-Err c = refuses_first (naming c.args.tokens.now) (λ tree. checking c.args.tokens.now) (program_of c.args.tree.now) c.in-Err.refusal c.in-Err.ensures
+returns-in-Err c = refuses_first (naming c.args.tokens.now) (λ tree. from_typed c.args.tokens.now) (program_of c.args.tree.now) c.in-Err.refusal c.in-Err.ensures
 
 -- the typed program of a text without a fault is formed
 pub checked-requires : goal.checked-requires
