@@ -1,6 +1,7 @@
 //! Declarations (3.1): each is elaborated behind those before it, which are the latest part.
 
 ghost use Rattle.std.specs.Prelude.{◌≡◌, IfOk, OnOk, Some, option_map};
+ghost use Rattle.name_programs.specs.Declares as declaring;
 ghost use Rattle.name_programs.specs.Declares.{Ends};
 ghost use Rattle.name_programs.specs.DeclarationSteps as step;
 ghost use Rattle.name_rules.specs.Declarations as spec;
@@ -146,7 +147,7 @@ fn exceptions(
     tree: &Tree,
     identifiers: u32,
 ) -> Result<bool, AllocError>
-    ensures { Declares (step.exceptions names.now start here.old (part_if done (top (parts out.now))) (the_ids (part_at tree.now.nodes identifiers)) log.old) (pop (parts out.now)) result here.new log.new (parts out.now) }
+    ensures { declaring.Declares (step.exceptions names.now start here.old (part_if done (top (parts out.now))) (the_ids (part_at tree.now.nodes identifiers)) log.old) (pop (parts out.now)) result here.new log.new (parts out.now) }
 {
     let alloc = out.alloc();
     let ids = attempt!(all_ids(tree, alloc, identifiers));
