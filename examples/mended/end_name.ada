@@ -1,0 +1,9 @@
+-- The name behind end is that of the subprogram.
+procedure Main is
+   procedure Step is
+   begin
+      null;
+   end Step;
+begin
+   Step;
+end Main;

@@ -1,0 +1,6 @@
+-- With its use clause a package's names are visible by themselves.
+with Ada.Text_IO; use Ada.Text_IO;
+procedure Main is
+begin
+   Put_Line ("hello");
+end Main;
