@@ -36,7 +36,7 @@ END
 
 # CODE: the rules with this code, as docs/LANGUAGE.md has them, without their tables.
 explain() {
-  local code=${1^^} line shown= found= blank=
+  local code=${1^^} line shown='' found='' blank=''
   while IFS= read -r line; do
     if [[ $line == '#'* ]]; then
       shown=
@@ -62,7 +62,7 @@ explain() {
 
 # TEXT: what the rule asks by which a text is refused with this.
 rule_of() {
-  local line found=
+  local line found=''
   while IFS= read -r line; do
     if [ -n "$found" ]; then
       [ -z "$line" ] || { echo "$line" && return; }
@@ -74,7 +74,7 @@ rule_of() {
 
 # FILE ROW COLUMN..: a line of a text, and a mark under each column; of a long line a part that has the first column.
 show_line() {
-  local file=$1 row=$2 line marks= begin=0 column
+  local file=$1 row=$2 line marks='' begin=0 column
   shift 2
   line=$(sed -n "${row}{p;q}" "$file" 2>/dev/null | tr -d '\0\r')
   line=${line//$'\t'/ }
@@ -82,7 +82,9 @@ show_line() {
   [ "$1" -gt 100 ] && begin=$(($1 - 60))
   for column in "$@"; do
     column=$((column - begin))
-    [ "$column" -ge 1 ] && [ "$column" -le 160 ] || continue
+    if [ "$column" -lt 1 ] || [ "$column" -gt 160 ]; then
+      continue
+    fi
     while [ "${#marks}" -lt "$column" ]; do
       marks+=' '
     done
@@ -94,7 +96,7 @@ show_line() {
 
 # Shows a refusal, where what was said is one: its line of the text, that of the other place, and what the rule asks.
 show_refusal() {
-  local file row column text rule other_row= other_column=
+  local file row column text rule other_row='' other_column=''
   [[ $1 =~ ^(.*):([0-9]+):([0-9]+):\ (E[0-9][0-9]\ .*)$ ]] || return
   file=${BASH_REMATCH[1]} row=${BASH_REMATCH[2]} column=${BASH_REMATCH[3]} text=${BASH_REMATCH[4]}
   if [[ $text =~ \ clash\ with\ ([0-9]+):([0-9]+)$ ]]; then
