@@ -34,7 +34,7 @@ Examples, at the top of the repository:
 END
 }
 
-# CODE: the rules with this code, as docs/LANGUAGE.md has them, without their tables.
+# CODE: the rules with this code, as docs/LANGUAGE.md has them, without their tables and links.
 explain() {
   local code=${1^^} line shown='' found='' blank=''
   while IFS= read -r line; do
@@ -44,7 +44,7 @@ explain() {
       [ -n "$found" ] && echo
       shown=1 found=1 blank=
       echo "${line#'### '}"
-    elif [ -n "$shown" ] && [[ $line != '|'* ]]; then
+    elif [ -n "$shown" ] && [[ $line != '|'* && $line != *']('* ]]; then
       # Where a table is left out one empty line stands for it.
       if [ -z "$line" ]; then
         blank=1
