@@ -1,0 +1,5 @@
+pub mod Crosses
+pub mod Memory
+pub mod Rows
+pub mod Sharing
+pub mod Slots
