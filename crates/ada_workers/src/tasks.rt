@@ -1,0 +1,209 @@
+//! The records of threads, and what a worker does with one.
+ghost use Rattle.std.specs.Prelude.{◌≡◌, ℕ, ◌+◌, ◌<◌, ◌≤◌, ◌^◌, [], ◌∷◌, length, get_or, vec_len, vec_capacity, None, Some};
+ghost use Rattle.leave_board.specs.Boards.{AllOf, fresh};
+ghost use Rattle.leave_board.specs.Halts.{watching};
+ghost use Rattle.cell_memory.specs.Sight.{thread_sight};
+ghost use Rattle.cell_memory.specs.Sight.{OwnThere, GivesBack};
+ghost use Rattle.ada_workers.specs.Tasks.{IsReady, TaskRan, BegunFrom, AllHome, CanEnd, AllCanEnd, SeatOf, AllGiven, AllFineOver, AllReturned, SeatsTell};
+
+use crate::path::{Path, Stop};
+use ada_port::Pulse;
+use cell_memory::{Lent, Memory, View};
+use leave_board::{Board, Halt, Seat, Watch};
+use std::alloc::Global;
+use std::thread::{self, Threads};
+
+/// How far a thread came.
+#[derive(Clone, Copy)]
+pub enum State {
+    NotBegun,
+    Stopped(Stop),
+}
+
+/// A thread with what it is lent.
+pub(crate) struct Ready<P> {
+    pub lent: Lent,
+    pub own: Memory,
+    pub path: P,
+}
+
+/// A thread with its view.
+pub(crate) struct Task<'a, 'b, P> {
+    pub number: u32,
+    pub path: P,
+    pub view: View<'a>,
+    pub watch: Watch<'b>,
+    pub state: State,
+    pub alloc: Global,
+}
+
+/// A thread with what it gave back.
+pub(crate) struct Back<P> {
+    pub lent: Lent,
+    pub path: P,
+    pub state: State,
+}
+
+fn begin<'a, 'b, P: Path>(
+    alloc: Global,
+    outer: &'a View<'a>,
+    board: &'b Board,
+    seat: Seat,
+    number: u32,
+    ready: Ready<P>,
+) -> Task<'a, 'b, P>
+    requires main { outer.now.held ≡ None }
+    requires home { ready.lent.block ≡ outer.now.home }
+    requires seat { seat.board ≡ board.now.name }
+    ensures view { result.view ≡ thread_sight outer.entry.now ready.lent ready.own }
+    ensures fresh { (result.path ≡ ready.path) × (result.state ≡ State.NotBegun) × (result.number ≡ number) }
+    ensures watch { result.watch ≡ watching board.entry.now seat }
+{
+    let Ready { lent, own, path } = ready;
+    Task {
+        number,
+        path,
+        view: View::thread(outer, lent, own),
+        watch: Watch::new(board, seat),
+        state: State::NotBegun,
+        alloc,
+    }
+}
+
+pub(crate) fn begin_all<'a, 'b, P: Path>(
+    alloc: Global,
+    outer: &'a View<'a>,
+    board: &'b Board,
+    seats: &mut Vec<Seat>,
+    ready: Vec<Ready<P>>,
+    mut tasks: Vec<Task<'a, 'b, P>>,
+) -> Vec<Task<'a, 'b, P>>
+    requires main { outer.now.held ≡ None }
+    requires home { AllHome outer.now.home ready.items }
+    requires seats { AllOf (λ s. s ≡ fresh board.now.name) seats.old.items × (vec_len seats.old ≡ vec_len ready) }
+    requires room { (tasks.items ≡ []) × (vec_len ready ≤ vec_capacity tasks) × (vec_len ready < 2 ^ 32) }
+    ensures seats { (seats.new.items ≡ []) × (vec_capacity seats.new ≡ vec_capacity seats.old) }
+    ensures begun { BegunFrom outer.entry.now board.entry.now 0 ready.items result.items }
+{
+    let mut number = 0;
+    let mut rest = ready.into_iter();
+    while let Some(one) = rest.next() {
+        let seat = seats.take_last();
+        tasks.push_reserved(begin(alloc, outer, board, seat, number, one));
+        number += 1;
+    }
+    rest.destroy_empty();
+    tasks
+}
+
+fn run_task<P: Path, U: Pulse>(task: &mut Task<'_, '_, P>, pulse: &U)
+    requires { IsReady P.runs task.old }
+    ensures { TaskRan P.runs task.old task.new }
+{
+    if task.watch.asked() {
+        return;
+    }
+    pulse.begins(task.number);
+    let stop = task.path.go(task.alloc, &mut task.view, &mut task.watch);
+    task.state = State::Stopped(stop);
+    if let Stop::Gone = stop {
+        let _ = task.watch.offer(task.number);
+    }
+}
+
+pub(crate) fn run_tasks<R: Threads + Sync, P: Path + Send, U: Pulse + Sync>(
+    rt: &R,
+    tasks: &mut [Task<'_, '_, P>],
+    workers: usize,
+    pulse: &U,
+)
+    requires some { 0 < workers }
+    requires ready { (k : ℕ) (d : _) → k < length tasks.old → IsReady P.runs (get_or tasks.old k d) }
+    ensures { (k : ℕ) (d : _) → k < length tasks.old → TaskRan P.runs (get_or tasks.old k d) (get_or tasks.new k d) }
+{
+    thread::for_each_mut(rt, tasks, workers, &|_, task| run_task(task, pulse));
+}
+
+// What a view was lent.
+fn lent_back(view: View<'_>) -> Lent
+    requires there { OwnThere view }
+    requires held { (b : _) × (view.held ≡ Some b) }
+    ensures { GivesBack view.entry (Some result) }
+{
+    match view.into_lent() {
+        Some(lent) => lent,
+        None => unreachable!(),
+    }
+}
+
+// Takes a thread's record apart.
+fn end<P: Path>(task: Task<'_, '_, P>) -> (Seat, Back<P>)
+    requires { CanEnd task }
+    ensures seat { SeatOf task.entry.watch result.0 }
+    ensures back { (result.1.path ≡ task.entry.path) × (result.1.state ≡ task.entry.state) × GivesBack task.entry.view (Some result.1.lent) }
+{
+    let Task {
+        number: _,
+        path,
+        view,
+        watch,
+        state,
+        alloc: _,
+    } = task;
+    (
+        watch.into_seat(),
+        Back {
+            lent: lent_back(view),
+            path,
+            state,
+        },
+    )
+}
+
+fn end_all<P: Path>(
+    tasks: Vec<Task<'_, '_, P>>,
+    seats: &mut Vec<Seat>,
+    mut backs: Vec<Back<P>>,
+) -> Vec<Back<P>>
+    requires ended { AllCanEnd tasks.items }
+    requires seats { (seats.old.items ≡ []) × (vec_len tasks ≤ vec_capacity seats.old) }
+    requires backs { (backs.items ≡ []) × (vec_len tasks ≤ vec_capacity backs) }
+    ensures { AllGiven tasks.entry.items seats.new.items result.items }
+{
+    let mut rest = tasks.into_iter();
+    while let Some(task) = rest.next() {
+        let (seat, back) = end(task);
+        seats.push_reserved(seat);
+        backs.push_reserved(back);
+    }
+    rest.destroy_empty();
+    backs
+}
+
+/// Runs threads on views of their own.
+pub(crate) fn run_all<'a, 'b, R: Threads + Sync, P: Path + Send, U: Pulse + Sync>(
+    rt: &R,
+    alloc: Global,
+    outer: &'a View<'a>,
+    board: &'b Board,
+    seats: &mut Vec<Seat>,
+    ready: Vec<Ready<P>>,
+    tasks: Vec<Task<'a, 'b, P>>,
+    backs: Vec<Back<P>>,
+    workers: usize,
+    pulse: &U,
+) -> Vec<Back<P>>
+    requires some { 0 < workers }
+    requires main { outer.now.held ≡ None }
+    requires home { AllHome outer.now.home ready.items }
+    requires fine { AllFineOver P.runs outer.now ready.items }
+    requires seats { AllOf (λ s. s ≡ fresh board.now.name) seats.old.items × (vec_len seats.old ≡ vec_len ready) }
+    requires room { (tasks.items ≡ []) × (vec_len ready ≤ vec_capacity tasks) × (vec_len ready < 2 ^ 32) }
+    requires backs { (backs.items ≡ []) × (vec_len ready ≤ vec_capacity backs) }
+    ensures returned { AllReturned P.runs outer.entry.now ready.items result.items }
+    ensures seats { SeatsTell board.entry.now.name 0 result.items seats.new.items }
+{
+    let mut tasks = begin_all(alloc, outer, board, seats, ready, tasks);
+    run_tasks(rt, tasks.as_mut_slice(), workers, pulse);
+    end_all(tasks, seats, backs)
+}
