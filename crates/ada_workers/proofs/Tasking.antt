@@ -71,6 +71,13 @@ module _ {P : Type 0} where
   pub begun_many : (s : Sight) (b : Hall) (k : ℕ) (rs : List (Ready P)) (ts : List (Task P)) → BegunFrom s b k rs ts → length ts ≡ length rs
   begun_many s b k rs ts h = length-begun s b k rs ts h
 
+  pub begun_numbers : (s : Sight) (b : Hall) (k : ℕ) (rs : List (Ready P)) (ts : List (Task P)) → BegunFrom s b k rs ts → (i : ℕ) (d : Task P) → i < length ts → (get_or ts i d).number ≡ k + i
+  begun_numbers s b k [] [] h i d lt = absurd (omega (arith, lt))
+  begun_numbers s b k [] (t ∷ ts) h i d lt = absurd h
+  begun_numbers s b k (r ∷ rs) [] h i d lt = absurd h
+  begun_numbers s b k (r ∷ rs) (t ∷ ts) h zero d lt = h.0.number ∙ omega arith
+  begun_numbers s b k (r ∷ rs) (t ∷ ts) h (suc i) d lt = begun_numbers s b (suc k) rs ts h.1 i d (omega (arith, lt)) ∙ omega arith
+
 -- a thread's own cells are there
 mine_own : (own : List ℤ) (i : ℕ) → i < length own → is_gone (get_or (map Mine own) i Gone) ≡ false
 mine_own [] i lt = absurd (omega (arith, lt))

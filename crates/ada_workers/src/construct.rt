@@ -192,7 +192,7 @@ fn run_lent<R: Threads + Sync, P: Path + Send + Drop, U: Pulse + Sync>(
         ready,
         tasks,
         backs,
-        workers as usize,
+        workers,
         pulse,
     );
     Ok((board.close(seats), backs))

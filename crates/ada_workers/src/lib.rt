@@ -2,6 +2,7 @@
 #![tactic(auto)]
 
 mod construct;
+mod dealing;
 mod notes;
 mod path;
 mod tasks;

@@ -6,12 +6,13 @@ ghost use Rattle.cell_memory.specs.Sight.{thread_sight};
 ghost use Rattle.cell_memory.specs.Sight.{OwnThere, GivesBack};
 ghost use Rattle.ada_workers.specs.Tasks.{IsReady, TaskRan, BegunFrom, AllHome, CanEnd, AllCanEnd, SeatOf, AllGiven, AllFineOver, AllReturned, SeatsTell};
 
+use crate::dealing::{Duty, run_duties};
 use crate::path::{Path, Stop};
 use ada_port::Pulse;
 use cell_memory::{Lent, Memory, View};
 use leave_board::{Board, Halt, Seat, Watch};
 use std::alloc::Global;
-use std::thread::{self, Threads};
+use std::thread::Threads;
 
 /// How far a thread came.
 #[derive(Clone, Copy)]
@@ -96,32 +97,25 @@ pub(crate) fn begin_all<'a, 'b, P: Path>(
     tasks
 }
 
-fn run_task<P: Path, U: Pulse>(task: &mut Task<'_, '_, P>, pulse: &U)
-    requires { IsReady P.runs task.old }
-    ensures { TaskRan P.runs task.old task.new }
-{
-    if task.watch.asked() {
-        return;
-    }
-    pulse.begins(task.number);
-    let stop = task.path.go(task.alloc, &mut task.view, &mut task.watch);
-    task.state = State::Stopped(stop);
-    if let Stop::Gone = stop {
-        let _ = task.watch.offer(task.number);
-    }
-}
+impl<'a, 'b, P: Path> Duty for Task<'a, 'b, P> {
+    ghost number = { λ t. t.number };
 
-pub(crate) fn run_tasks<R: Threads + Sync, P: Path + Send, U: Pulse + Sync>(
-    rt: &R,
-    tasks: &mut [Task<'_, '_, P>],
-    workers: usize,
-    pulse: &U,
-)
-    requires some { 0 < workers }
-    requires ready { (k : ℕ) (d : _) → k < length tasks.old → IsReady P.runs (get_or tasks.old k d) }
-    ensures { (k : ℕ) (d : _) → k < length tasks.old → TaskRan P.runs (get_or tasks.old k d) (get_or tasks.new k d) }
-{
-    thread::for_each_mut(rt, tasks, workers, &|_, task| run_task(task, pulse));
+    ghost ready = { λ t. IsReady P.runs t };
+
+    ghost ran = { λ t u. TaskRan P.runs t u };
+
+    // A worker that finds that some thread left begins no further one.
+    fn run<U: Pulse>(&mut self, pulse: &U) {
+        if self.watch.asked() {
+            return;
+        }
+        pulse.begins(self.number);
+        let stop = self.path.go(self.alloc, &mut self.view, &mut self.watch);
+        self.state = State::Stopped(stop);
+        if let Stop::Gone = stop {
+            let _ = self.watch.offer(self.number);
+        }
+    }
 }
 
 // What a view was lent.
@@ -190,7 +184,7 @@ pub(crate) fn run_all<'a, 'b, R: Threads + Sync, P: Path + Send, U: Pulse + Sync
     ready: Vec<Ready<P>>,
     tasks: Vec<Task<'a, 'b, P>>,
     backs: Vec<Back<P>>,
-    workers: usize,
+    workers: u32,
     pulse: &U,
 ) -> Vec<Back<P>>
     requires some { 0 < workers }
@@ -204,6 +198,6 @@ pub(crate) fn run_all<'a, 'b, R: Threads + Sync, P: Path + Send, U: Pulse + Sync
     ensures seats { SeatsTell board.entry.now.name 0 result.items seats.new.items }
 {
     let mut tasks = begin_all(alloc, outer, board, seats, ready, tasks);
-    run_tasks(rt, tasks.as_mut_slice(), workers, pulse);
+    run_duties(rt, tasks.as_mut_slice(), workers, pulse);
     end_all(tasks, seats, backs)
 }

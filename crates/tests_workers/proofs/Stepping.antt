@@ -63,7 +63,7 @@ module _ (p : Walker) (cs : List Cell) where
   pub copy_step : (a b : ℕ) (v : ℤ) (ds : List Cell) → slice_get p.ops.items p.at ≡ Some (op.Copy a b) → Goes (step p None cs) → v ≡ value_of (get_or cs a Gone) → ds ≡ set cs b (Mine v) → Stepped p cs None (onward p) ds
   copy_step a b v ds e g is d =
       let h = goes_copy a b (subst (λ o. Goes (at_op o p None cs)) e g) in
-      (0, λ n.
+      (0, omega arith, λ n.
       ap (λ o. at_op o p (plus 0 n) cs) e ∙ ap (λ y. cond y (ends p cs Stuck) (write p (plus 0 n) cs b (Mine (value_of (get_or cs a Gone))))) h.0
       ∙ ap (λ y. cond y (On (onward p) (plus 0 n) (set cs b (Mine (value_of (get_or cs a Gone))))) (ends p cs Stuck)) h.1
       ∙ (λ i. On (onward p) (no_more n i) ((ap (λ w. set cs b (Mine w)) (sym is) ∙ sym d) i))) where
@@ -72,7 +72,7 @@ module _ (p : Walker) (cs : List Cell) where
         no_more (Some k) = ap Some (omega arith)
 
   pub turn_step : slice_get p.ops.items p.at ≡ Some op.Turn → p.turns < p.limit → Stepped p cs None (turned p) cs
-  turn_step e lt = (1, λ n. ap (λ o. at_op o p (plus 1 n) cs) e ∙ one n) where
+  turn_step e lt = (1, refl, λ n. ap (λ o. at_op o p (plus 1 n) cs) e ∙ one n) where
     goes : (n : Option ℕ) → turn p n cs ≡ On (turned p) n cs
     goes n = let y : ltb p.turns p.limit ≡ true = grind (arith, nat_tests) in ap (λ b. cond b (On (turned p) n cs) (ends p cs Spent)) y
 
@@ -107,9 +107,9 @@ plus_zero None = refl
 plus_zero (Some n) = ap Some (omega arith)
 
 -- how a walk ended, from where its last step began
-pub went : (p q r : Walker) (cs ds es : List Cell) (k : ℕ) (s : Stop) → ((b : Option ℕ) → walk p (plus k b) cs ≡ walk q b ds) → Stepped q ds (Some s) r es → Went walk p cs s r es
-went p q r cs ds es k stop.Ended w h = w None ∙ walk_ends q ds None _ h
-went p q r cs ds es k stop.Gone w h = w None ∙ walk_ends q ds None _ h
-went p q r cs ds es k stop.Spent w h = w None ∙ walk_ends q ds None _ h
-went p q r cs ds es k stop.Paused w h = (k + 0, w (Some 0) ∙ walk_ends q ds (Some 0) _ h)
-went p q r cs ds es k stop.NoMemory w h = tt
+pub went : (p q r : Walker) (cs ds es : List Cell) (k : ℕ) (s : Stop) → q.turns ≡ p.turns + k → ((looks : ℕ) → s ≡ stop.Paused looks → p.turns + looks ≡ q.turns) → ((b : Option ℕ) → walk p (plus k b) cs ≡ walk q b ds) → Stepped q ds (Some s) r es → Went walk p cs s r es
+went p q r cs ds es k stop.Ended t l w h = w None ∙ walk_ends q ds None _ h
+went p q r cs ds es k stop.Gone t l w h = w None ∙ walk_ends q ds None _ h
+went p q r cs ds es k stop.Spent t l w h = w None ∙ walk_ends q ds None _ h
+went p q r cs ds es k (stop.Paused looks) t l w h = let e : looks ≡ k + 0 = omega (arith, l looks refl) in ap (λ n. walk p (Some n) cs) e ∙ w (Some 0) ∙ walk_ends q ds (Some 0) _ h
+went p q r cs ds es k stop.NoMemory t l w h = tt

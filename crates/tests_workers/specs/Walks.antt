@@ -60,7 +60,7 @@ plus k (Some n) = Some (k + n)
 
 -- what the code of a step did; each turn is a look
 abbrev pub Stepped : Walker → List Cell → Option Stop → Walker → List Cell → Type 0
-Stepped p cs None q ds = (p.turns ≤ q.turns) × ((b : Option ℕ) → step p (plus (q.turns - p.turns) b) cs ≡ On q b ds)
+Stepped p cs None q ds = (k : ℕ) × (q.turns ≡ p.turns + k) × ((b : Option ℕ) → step p (plus k b) cs ≡ On q b ds)
 Stepped p cs (Some stop.Ended) q ds = step p None cs ≡ Ends (record { path = q; cells = ds; end = AtEnd })
 Stepped p cs (Some stop.Gone) q ds = step p None cs ≡ Ends (record { path = q; cells = ds; end = Left })
 Stepped p cs (Some stop.Spent) q ds = step p None cs ≡ Ends (record { path = q; cells = ds; end = Spent })
