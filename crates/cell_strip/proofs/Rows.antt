@@ -43,11 +43,11 @@ finds (suc n) r x a b lt l e = elim (cases_lt a n) [
   row : (first run x b : ℕ) → b < run → x ≡ first + b → in_row first run x ≡ true
   row first run x b l e = ap (λ c. c && ltb x (first + run)) (le-leb first x (omega arith)) ∙ lt-ltb x (first + run) (omega arith)
 
-in_has : (r : Region) (x : ℕ) → IsIn r x → has r x ≡ true
+pub in_has : (r : Region) (x : ℕ) → IsIn r x → has r x ≡ true
 unfolding has
 in_has r x i = finds r.count r x i.0 i.1 i.2 i.3 i.4
 
-has_in : (r : Region) (x : ℕ) → has r x ≡ true → IsIn r x
+pub has_in : (r : Region) (x : ℕ) → has r x ≡ true → IsIn r x
 unfolding has
 has_in r x e = found r.count r x e
 
