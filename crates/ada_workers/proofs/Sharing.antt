@@ -108,8 +108,8 @@ module _ {T : Type 0} where
         subst (λ l. ran (get_or l k d) (get_or (us ++ vs) k d)) (sym e) (elim (cases_lt k (length xs)) as (λ _. ran (get_or (xs ++ ys) k d) (get_or (us ++ vs) k d)) [
           | inl l ↦ subst (λ x. ran x (get_or (us ++ vs) k d)) (sym (get_or_append_left xs ys d k l)) (subst (λ y. ran (get_or xs k d) y) (sym (get_or_append_left us vs d k (omega (arith, n)))) (f k d l))
           | inr le ↦
-            let m : k - length xs < length ys = omega (arith, ap length e, length-append xs ys) in
-            subst (λ x. ran x (get_or (us ++ vs) k d)) (sym (get_or-append_right xs ys (length xs) k d refl le)) (subst (λ y. ran (get_or ys (k - length xs) d) y) (sym (get_or-append_right us vs (length xs) k d n le)) (g (k - length xs) d m))
+              let m : k - length xs < length ys = omega (arith, ap length e, length-append xs ys) in
+              subst (λ x. ran x (get_or (us ++ vs) k d)) (sym (get_or-append_right xs ys (length xs) k d refl le)) (subst (λ y. ran (get_or ys (k - length xs) d) y) (sym (get_or-append_right us vs (length xs) k d n le)) (g (k - length xs) d m))
         ])
 
     -- those before k are done, and the others as they were
@@ -124,8 +124,8 @@ module _ {T : Type 0} where
       λ j d le. get_or-set_other us k j y d (λ e. omega (arith, e, le)) ∙ h.0 j d (omega (arith, le)),
       λ j d l. elim (cases_eq j k) as (λ _. ran (get_or ts j d) (get_or (set us k y) j d)) [
         | inl e ↦
-          subst (λ i. ran (get_or ts i d) (get_or (set us k y) i d)) (sym e)
-          (subst (ran (get_or ts k d)) (sym (get_or-set_same us k y d (omega (arith, n)))) (subst (λ w. ran w y) (get_or_default us k x d (omega (arith, n)) ∙ h.0 k d (omega arith)) r))
+            subst (λ i. ran (get_or ts i d) (get_or (set us k y) i d)) (sym e)
+            (subst (ran (get_or ts k d)) (sym (get_or-set_same us k y d (omega (arith, n)))) (subst (λ w. ran w y) (get_or_default us k x d (omega (arith, n)) ∙ h.0 k d (omega arith)) r))
         | inr ne ↦ subst (ran (get_or ts j d)) (sym (get_or-set_other us k j y d ne)) (h.1 j d (different j k l ne))
       ],
     ) where

@@ -16,28 +16,30 @@ use std::alloc::{AllocError, Global};
 use std::marker::Send;
 use std::thread::Threads;
 
-/// A thread as the caller makes it: the regions that are its own, the cells of its frame, and its path.
+/// A thread to be run on a view of its own: the regions whose cells are lent to it, the cells of its frame, and its path.
+/// Of a cell that the regions of several threads have, the first of them has the use.
 pub struct Job<P> {
     pub regions: Vec<Region>,
     pub own: Memory,
     pub path: P,
 }
 
-/// A thread as it ended.
+/// A thread afterwards: its path, and how far it came.
 #[derive(Drop)]
 pub struct Over<P> {
     pub path: P,
     pub state: State,
 }
 
-/// What a construct came to: the thread by which it was left, if it was, and each thread.
+/// What a construct came to: the number of the thread by which it was left, if it was, and each thread in order.
 #[derive(Drop)]
 pub struct Finished<P> {
     pub chosen: Option<u32>,
     pub overs: Vec<Over<P>>,
 }
 
-#[derive(Drop)]
+/// Want of memory.
+#[derive(Debug, Drop)]
 pub struct NoMemory;
 
 struct Rooms<P> {
@@ -145,8 +147,8 @@ fn is_short(state: State) -> bool
 {
     match state {
         State::Stopped(Stop::NoMemory) => true,
-        State::NotBegun | State::Stopped(Stop::Ended | Stop::Gone | Stop::Spent | Stop::Paused(_)) =>
-            false,
+        State::NotBegun
+        | State::Stopped(Stop::Ended | Stop::Gone | Stop::Spent | Stop::Paused(_)) => false,
     }
 }
 
@@ -184,16 +186,7 @@ fn run_lent<R: Threads + Sync, P: Path + Send + Drop, U: Pulse + Sync>(
     };
     let ready = lend_all(view, jobs, ready);
     let backs = run_all(
-        rt,
-        alloc,
-        &*view,
-        &board,
-        &mut seats,
-        ready,
-        tasks,
-        backs,
-        workers,
-        pulse,
+        rt, alloc, &*view, &board, &mut seats, ready, tasks, backs, workers, pulse,
     );
     Ok((board.close(seats), backs))
 }
@@ -203,7 +196,10 @@ pub(crate) fn keeps_frames<P: Path>()
     ensures { Frames P.runs }
 {}
 
-/// Runs the threads of a construct on so many workers.
+/// Runs the threads of a construct on so many workers, each on a view over the main view `view`, which lends it the cells
+/// of its regions. What they come to is what they come to one after the other on one memory, by the notes of their states.
+/// Where no thread was chosen, each went to its own end and none left. The view has afterwards as many cells as before,
+/// and none is lent. An Err is want of memory, before the threads or in one of them.
 pub fn run_construct<R: Threads + Sync, P: Path + Send + Drop, U: Pulse + Sync>(
     rt: &R,
     alloc: Global,

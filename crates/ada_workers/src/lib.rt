@@ -1,4 +1,6 @@
-// The threads of a parallel construct, on workers.
+//! The threads of a parallel construct on workers (5.5, 5.6.1): each on a view of its own, lent for the time of the
+//! construct, or in order on one view. What a thread does is a path, of which only this much is asked: it keeps to its
+//! view, and what it comes to is a function of the cells and of the looks that it has.
 #![tactic(auto)]
 
 mod construct;

@@ -17,7 +17,9 @@ use std::thread::Threads;
 /// How far a thread came.
 #[derive(Clone, Copy)]
 pub enum State {
+    /// It wasn't begun, as another thread had left.
     NotBegun,
+    /// It was begun, and stopped so.
     Stopped(Stop),
 }
 

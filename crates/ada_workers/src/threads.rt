@@ -19,17 +19,23 @@ use std::marker::Send;
 use std::thread::Threads;
 use std::vec::IntoIter;
 
-/// The first values of a thread's own cells, which are 4 and so many more, of 0.
+/// The first values of a thread's own cells: these four numbers, and so many more cells of 0. What the numbers are for is
+/// the path's affair.
 #[derive(Clone, Copy)]
 pub struct Frame {
+    /// The first cell.
     pub first: i64,
+    /// The second cell.
     pub count: i64,
+    /// The third cell.
     pub number: i64,
+    /// The fourth cell.
     pub initial: i64,
+    /// How many cells of 0 follow.
     pub more: u32,
 }
 
-/// A thread: the regions of which it has what is to write, its frame, and its path.
+/// A thread: the regions whose cells it may write, its frame, and its path.
 #[derive(Drop)]
 pub struct Thread<P> {
     pub regions: Vec<Region>,
@@ -181,7 +187,9 @@ fn with_unbegun<P: Path + Drop>(
     overs
 }
 
-/// Runs threads one after the other on the view itself, up to the first that leaves.
+/// Runs threads one after the other on the view itself, each with its frame behind the other cells, up to the first that
+/// leaves; those after it aren't begun. This is how the threads of a construct inside a thread are run. An Err is want of
+/// memory; the view then has as many cells as before.
 pub fn run_in_order<P: Path + Drop, U: Pulse>(
     alloc: Global,
     view: &mut View<'_>,
@@ -220,7 +228,10 @@ pub fn run_in_order<P: Path + Drop, U: Pulse>(
     })
 }
 
-/// Runs the threads of a construct on so many workers, on one of them in order.
+/// Runs the threads of an outermost construct on so many workers, on one of them in order on the main view itself.
+/// Worker number i of w does, in order, the threads that even division gives to part i, and begins no further one after it
+/// finds that a thread left. What they come to is what they come to one after the other on one memory, by the notes of
+/// their states. An Err is want of memory; the view then has as many cells as before.
 pub fn run_threads<R: Threads + Sync, P: Path + Send + Drop, U: Pulse + Sync>(
     rt: &R,
     alloc: Global,

@@ -10,7 +10,7 @@ use std::alloc::{AllocError, Global};
 use std::marker::Model;
 use std::mem;
 
-/// Cells that a view can own.
+/// Cells that a view can own. A Memory must be freed, or given to a view.
 pub struct Memory {
     part: Part,
 }
@@ -28,7 +28,7 @@ impl Model for Memory {
 }
 
 impl Memory {
-    /// `n` cells of 0.
+    /// So many cells of 0. An Err is want of memory.
     pub fn new(alloc: Global, n: u32) -> Result<Memory, AllocError>
         ensures { IfOk result (λ m. m.values ≡ replicate n (pos 0)) }
     {
@@ -36,6 +36,7 @@ impl Memory {
         Ok(Memory { part })
     }
 
+    /// Gives a cell a value. It takes no memory.
     pub fn set(&mut self, at: u64, value: i64)
         requires { at < length self.old.values }
         ensures { self.new ≡ record self.old { values = set self.old.values at value } }
@@ -44,13 +45,15 @@ impl Memory {
         self.part.set(at, value);
     }
 
+    /// Gives the cells up. It takes no memory.
     pub fn free(self) {
         let Memory { part } = self;
         part.free();
     }
 }
 
-/// Cells that a view lends.
+/// Cells that a main view lends: those of all regions of one thread, as one part of its block. A Lent must be put back, or
+/// given to a view that is made over the one that lends.
 pub struct Lent {
     part: Part,
 }
@@ -69,7 +72,8 @@ pub struct Lower<'a> {
     outer: &'a Part,
 }
 
-/// What a path can read and write.
+/// What a path may read and write. The cells that stand last are its own: all of a main view, and those of a thread's view
+/// that stand behind the cells of the main view over which it is made. A view must be given up by `into_lent`.
 pub struct View<'a> {
     lower: Option<Lower<'a>>,
     base: u64,
@@ -90,6 +94,7 @@ impl<'a> Model for View<'a> {
 }
 
 impl<'a> View<'a> {
+    /// The view to which a memory alone belongs. It takes no memory.
     pub fn main(own: Memory) -> View<'a>
         ensures { result ≡ main_sight own }
     {
@@ -103,6 +108,8 @@ impl<'a> View<'a> {
         }
     }
 
+    /// A thread's view over a main view: it may write what it is lent and its own cells, and read what the main view has left.
+    /// It takes no memory.
     pub fn thread(outer: &'a View<'a>, lent: Lent, own: Memory) -> View<'a>
         requires main { outer.now.held ≡ None }
         requires home { lent.block ≡ outer.now.home }
@@ -123,7 +130,7 @@ impl<'a> View<'a> {
         }
     }
 
-    /// How many addresses it has.
+    /// How many addresses it has, those that are lent out included.
     pub fn len(&self) -> u64
         ensures many { result ≡ length self.now.cells }
         ensures own { self.now.own ≤ length self.now.cells }
@@ -134,6 +141,7 @@ impl<'a> View<'a> {
         self.base + u64::from(self.len)
     }
 
+    /// The value of a cell that it may read. It takes no memory and no search.
     pub fn get(&self, at: u64) -> i64
         requires { is_gone (cell_at self.now at) ≡ false }
         ensures { result ≡ value_of (cell_at self.now at) }
@@ -147,6 +155,7 @@ impl<'a> View<'a> {
         }
     }
 
+    /// Gives a cell that it may write a value. It takes no memory and no search.
     pub fn set(&mut self, at: u64, value: i64)
         requires { is_mine (cell_at self.old at) ≡ true }
         ensures { self.new ≡ stored self.old at value }
@@ -161,7 +170,8 @@ impl<'a> View<'a> {
         }
     }
 
-    /// Lends those cells that one of the regions has and that it has to write.
+    /// Lends those cells that one of the regions has and that it may write; the regions may be empty, and may have cells in
+    /// common. They are gone until they are put back. It takes no memory.
     pub fn take(&mut self, regions: &[Region]) -> Lent
         requires main { self.old.held ≡ None }
         requires within { (x : ℕ) → covered regions.now x ≡ true → x < length self.old.cells }
@@ -174,7 +184,7 @@ impl<'a> View<'a> {
         }
     }
 
-    /// Takes lent cells back with the values that they have now.
+    /// Takes lent cells back with the values that they have now. It takes no memory.
     pub fn put_back(&mut self, lent: Lent)
         requires main { self.old.held ≡ None }
         requires home { lent.block ≡ self.old.home }
@@ -185,7 +195,7 @@ impl<'a> View<'a> {
         self.own.join_part(part);
     }
 
-    /// Makes the spare room at least `n`.
+    /// Makes the spare room at least `n` cells, and changes nothing else. An Err is want of memory.
     pub fn reserve(&mut self, n: u32) -> Result<(), AllocError>
         requires { OwnThere self.old }
         ensures ok { IfOk result (λ _. n ≤ self.new.spare) }
@@ -205,7 +215,7 @@ impl<'a> View<'a> {
         Ok(())
     }
 
-    /// Adds `n` cells of 0.
+    /// Adds `n` cells of 0 behind the others. It takes no memory.
     pub fn push_frame(&mut self, n: u32)
         requires { n ≤ self.old.spare }
         ensures { self.new ≡ pushed self.old n }
@@ -214,7 +224,7 @@ impl<'a> View<'a> {
         self.len += n;
     }
 
-    /// Takes the last `n` of its own cells off.
+    /// Takes the last `n` of its own cells off. It takes no memory.
     pub fn pop_frame(&mut self, n: u32)
         requires own { n ≤ self.old.own }
         requires there { (x : ℕ) → length self.old.cells - n ≤ x → x < length self.old.cells → is_gone (cell_at self.old x) ≡ false }
@@ -223,7 +233,8 @@ impl<'a> View<'a> {
         self.len -= n;
     }
 
-    /// Gives its own cells up, and those that were lent to it back.
+    /// Gives its own cells up, and what it was made with back, with the values that the cells have now: nothing for a main view.
+    /// It takes no memory.
     pub fn into_lent(self) -> Option<Lent>
         requires { OwnThere self }
         ensures { GivesBack self.entry result }

@@ -28,10 +28,10 @@ found zero r x e = absurd (cc e)
 found (suc n) r x e = elim (one_true (in_rows n r x) (in_row (r.base + n * r.stride) r.run x) e) [
   | inl f ↦ let p = found n r x f in (p.0, p.1, omega (arith, p.2), p.3, p.4)
   | inr f ↦
-    let p = both_true (leb (r.base + n * r.stride) x) (ltb x (r.base + n * r.stride + r.run)) f in
-    let le = leb-true (r.base + n * r.stride) x p.0 in
-    let lt = ltb-true x (r.base + n * r.stride + r.run) p.1 in
-    (n, x - (r.base + n * r.stride), omega arith, omega (arith, le, lt), omega (arith, le))
+      let p = both_true (leb (r.base + n * r.stride) x) (ltb x (r.base + n * r.stride + r.run)) f in
+      let le = leb-true (r.base + n * r.stride) x p.0 in
+      let lt = ltb-true x (r.base + n * r.stride + r.run) p.1 in
+      (n, x - (r.base + n * r.stride), omega arith, omega (arith, le, lt), omega (arith, le))
 ]
 
 finds : (n : ℕ) (r : Region) (x a b : ℕ) → a < n → b < r.run → x ≡ r.base + a * r.stride + b → in_rows n r x ≡ true

@@ -34,11 +34,11 @@ place_set s x v own m = record {
   lower = ap (λ n. n - s.own) (length-set s.cells x (Mine v));
   long = omega (arith, length-set s.cells x (Mine v));
   there = λ y le lt. elim (cases_eq y x) as (λ _. is_gone (get_or (set s.cells x (Mine v)) y Gone) ≡ false) [
-    inl e ↦ ap (λ k. is_gone (get_or (set s.cells x (Mine v)) k Gone)) e ∙ ap is_gone (get_or-set_same s.cells x (Mine v) Gone (mine_in s.cells x m))
+    | inl e ↦ ap (λ k. is_gone (get_or (set s.cells x (Mine v)) k Gone)) e ∙ ap is_gone (get_or-set_same s.cells x (Mine v) Gone (mine_in s.cells x m))
     | inr ne ↦ ap is_gone (get_or-set_other s.cells x y (Mine v) Gone ne) ∙ own y (omega (arith, length-set s.cells x (Mine v))) (omega (arith, length-set s.cells x (Mine v)))
   ];
   kinds = λ y lt. elim (cases_eq y x) as (λ _. is_mine (get_or (set s.cells x (Mine v)) y Gone) ≡ is_mine (get_or s.cells y Gone)) [
-    inl e ↦ ap (λ k. is_mine (get_or (set s.cells x (Mine v)) k Gone)) e ∙ ap is_mine (get_or-set_same s.cells x (Mine v) Gone (mine_in s.cells x m)) ∙ sym (ap (λ k. is_mine (get_or s.cells k Gone)) e ∙ m)
+    | inl e ↦ ap (λ k. is_mine (get_or (set s.cells x (Mine v)) k Gone)) e ∙ ap is_mine (get_or-set_same s.cells x (Mine v) Gone (mine_in s.cells x m)) ∙ sym (ap (λ k. is_mine (get_or s.cells k Gone)) e ∙ m)
     | inr ne ↦ ap is_mine (get_or-set_other s.cells x y (Mine v) Gone ne)
   ];
 }
@@ -62,11 +62,14 @@ module _ (p : Walker) (cs : List Cell) where
 
   pub copy_step : (a b : ℕ) (v : ℤ) (ds : List Cell) → slice_get p.ops.items p.at ≡ Some (op.Copy a b) → Goes (step p None cs) → v ≡ value_of (get_or cs a Gone) → ds ≡ set cs b (Mine v) → Stepped p cs None (onward p) ds
   copy_step a b v ds e g is d =
-      let h = goes_copy a b (subst (λ o. Goes (at_op o p None cs)) e g) in
-      (0, omega arith, λ n.
-      ap (λ o. at_op o p (plus 0 n) cs) e ∙ ap (λ y. cond y (ends p cs Stuck) (write p (plus 0 n) cs b (Mine (value_of (get_or cs a Gone))))) h.0
-      ∙ ap (λ y. cond y (On (onward p) (plus 0 n) (set cs b (Mine (value_of (get_or cs a Gone))))) (ends p cs Stuck)) h.1
-      ∙ (λ i. On (onward p) (no_more n i) ((ap (λ w. set cs b (Mine w)) (sym is) ∙ sym d) i))) where
+      let h = goes_copy a b (subst (λ o. Goes (at_op o p None cs)) e g) in (
+        0,
+        omega arith,
+        λ n.
+            ap (λ o. at_op o p (plus 0 n) cs) e ∙ ap (λ y. cond y (ends p cs Stuck) (write p (plus 0 n) cs b (Mine (value_of (get_or cs a Gone))))) h.0
+            ∙ ap (λ y. cond y (On (onward p) (plus 0 n) (set cs b (Mine (value_of (get_or cs a Gone))))) (ends p cs Stuck)) h.1
+            ∙ (λ i. On (onward p) (no_more n i) ((ap (λ w. set cs b (Mine w)) (sym is) ∙ sym d) i)),
+      ) where
         no_more : (n : Option ℕ) → plus 0 n ≡ n
         no_more None = refl
         no_more (Some k) = ap Some (omega arith)

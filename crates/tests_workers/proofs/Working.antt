@@ -1,14 +1,14 @@
 -- Walkers on cells of their own aren't stuck.
-use Rattle.std.proofs.Common.{◌≡◌, ℕ, zero, suc, ◌+◌, ◌-◌, ◌<◌, ◌≤◌, ◌^◌, inl, inr, ℤ, Bool, true, false, cond, ◌||◌, List, [], ◌∷◌, ◌++◌, map, length, get_or, set, Option, Some, None, arith, refl, sym, ◌∙◌, ap, subst, length-set}
+use Rattle.std.proofs.Common.{◌≡◌, ℕ, zero, suc, ◌+◌, ◌-◌, ◌*◌, ◌<◌, ◌≤◌, inl, inr, ℤ, Bool, true, false, cond, ◌||◌, List, [], ◌∷◌, ◌++◌, map, length, get_or, set, Option, Some, None, arith, refl, sym, ◌∙◌, ap, subst, length-set}
 use Rattle.std.specs.Prelude.{slice_get}
 use lib.Dec.{ltb}
-use Rattle.std.proofs.lemmas.List.{get_or-set_same, get_or-set_other, get_or_append_left, get_or-append_right}
+use Rattle.std.proofs.lemmas.List.{length-map, get_or-set_same, get_or-set_other, get_or_append_left, get_or-append_right}
 use Rattle.std.proofs.lemmas.Bool.{cases_eq}
 use Rattle.cell_strip.specs.declared.region.Region.{Region}
 use Rattle.cell_strip.specs.Regions.{has, covered}
 use Rattle.cell_strip.proofs.Rows.{in_has, has_in}
 use Rattle.ada_base.specs.Cells.{Cell, Gone, Seen, Mine}
-use Rattle.cell_memory.specs.Sight.{is_mine, is_gone, value_of, shown, mine_or, lent_value, table}
+use Rattle.cell_memory.specs.Sight.{Store, OwnThere as AllThere, main_sight, is_mine, is_gone, value_of, shown, mine_or, lent_value, table}
 use Rattle.cell_memory.proofs.Views.{length-table, at-table}
 use Rattle.ada_workers.specs.Paths.{Ending, AtEnd, Left, Spent, Stuck, Outcome, Fine}
 use Rattle.ada_workers.specs.Iterated.{Next, On, Ends, iterated}
@@ -48,14 +48,13 @@ mine_there (Mine v) e = refl
 abbrev after : ℕ → Next Walker → Outcome Walker
 after f y = elim y [ On q m ds ↦ iterated step f q m ds | Ends o ↦ o ]
 
-goes_on : (n k f : ℕ) (p : Walker) (vs : List Cell) → f ≡ suc (length p.ops.items - p.at) → AllKeep n k p.ops.items → OwnThere n k vs → Fine (iterated step f p None vs).end
-goes_on n k zero p vs e a h = absurd (omega (arith, e))
-goes_on n k (suc f) p vs e a h = by_op (slice_get p.ops.items p.at) refl where
+module _ (n k f : ℕ) (p : Walker) (vs : List Cell) (e : suc f ≡ suc (length p.ops.items - p.at)) (a : AllKeep n k p.ops.items) (h : OwnThere n k vs)
+    (again : (q : Walker) (ds : List Cell) → f ≡ suc (length q.ops.items - q.at) → AllKeep n k q.ops.items → OwnThere n k ds → Fine (iterated step f q None ds).end) where
   less : (o : Op) → slice_get p.ops.items p.at ≡ Some o → f ≡ suc (length p.ops.items - (p.at + 1))
   less o is = let r = keeps_at n k p.ops.items p.at o a is in omega (arith, e, r.1)
 
   stores : (b : ℕ) (v : ℤ) → IsOwn n k b → f ≡ suc (length p.ops.items - (p.at + 1)) → Fine (after f (write p None vs b (Mine v))).end
-  stores b v o l = subst (λ y. Fine (after f (cond y (On (onward p) None (set vs b (Mine v))) (ends p vs Stuck))).end) (sym (h b o)) (goes_on n k f (onward p) (set vs b (Mine v)) l a (kept_there n k vs b v h o))
+  stores b v o l = subst (λ y. Fine (after f (cond y (On (onward p) None (set vs b (Mine v))) (ends p vs Stuck))).end) (sym (h b o)) (again (onward p) (set vs b (Mine v)) l a (kept_there n k vs b v h o))
 
   by_op : (o : Option Op) → slice_get p.ops.items p.at ≡ o → Fine (after f (at_op o p None vs)).end
   by_op None is = tt
@@ -66,10 +65,14 @@ goes_on n k (suc f) p vs e a h = by_op (slice_get p.ops.items p.at) refl where
       (stores c (value_of (get_or vs b Gone)) r.1 (less (op.Copy b c) is))
   by_op (Some op.Turn) is =
       elim (ltb p.turns p.limit) as (λ y. Fine (after f (cond y (On (turned p) None vs) (ends p vs Spent))).end) [
-        | true ↦ goes_on n k f (turned p) vs (less op.Turn is) a h
+        | true ↦ again (turned p) vs (less op.Turn is) a h
         | false ↦ tt
       ]
   by_op (Some op.Leave) is = tt
+
+goes_on : (n k f : ℕ) (p : Walker) (vs : List Cell) → f ≡ suc (length p.ops.items - p.at) → AllKeep n k p.ops.items → OwnThere n k vs → Fine (iterated step f p None vs).end
+goes_on n k zero p vs e a h = absurd (omega (arith, e))
+goes_on n k (suc f) p vs e a h = by_op n k f p vs e a h (λ q ds l b o. goes_on n k f q ds l b o) (slice_get p.ops.items p.at) refl
 
 -- ---- its view
 only_has : (k : ℕ) → covered (only k ∷ []) k ≡ true
@@ -97,13 +100,13 @@ frame_there f (suc (suc (suc (suc i)))) lt = absurd (omega (arith, lt))
 
 view_own : (n k : ℕ) (end cs : List Cell) (f : Frame) → length end ≡ n → k < n → is_mine (get_or cs k Gone) ≡ true → OwnThere n k (view_of end (lent_of cs (only k ∷ [])) (frame_values f))
 view_own n k end cs f le lt m a (inl e) =
-    let low = λ x. mine_or (lent_of cs (only k ∷ []) x) (shown (get_or end x Gone)) in
+    let low = λ (x : ℕ). mine_or (lent_of cs (only k ∷ []) x) (shown (get_or end x Gone)) in
     ap (λ x. is_mine (get_or (view_of end (lent_of cs (only k ∷ [])) (frame_values f)) x Gone)) e
     ∙ ap is_mine (get_or_append_left (table (length end) low) (map Mine (frame_values f)) Gone k (omega (arith, length-table (length end) low, le)) ∙ at-table (length end) low k (omega (arith, le)))
     ∙ ap (λ y. is_mine (mine_or (cond y (lent_value (get_or cs k Gone)) None) (shown (get_or end k Gone)))) (only_has k)
     ∙ mine_lent (get_or cs k Gone) (shown (get_or end k Gone)) m
 view_own n k end cs f le lt m a (inr o) =
-    let low = λ x. mine_or (lent_of cs (only k ∷ []) x) (shown (get_or end x Gone)) in
+    let low = λ (x : ℕ). mine_or (lent_of cs (only k ∷ []) x) (shown (get_or end x Gone)) in
     ap is_mine (get_or-append_right (table (length end) low) (map Mine (frame_values f)) n a Gone (length-table (length end) low ∙ le) o.0) ∙ frame_there f (a - n) (omega (arith, o.0, o.1))
 
 fine_one : (n k : ℕ) (end cs : List Cell) (t : Thread Walker) → OnOwnCell n k t → length end ≡ n → k < n → is_mine (get_or cs k Gone) ≡ true
@@ -119,10 +122,10 @@ all_fine n k end cs (t ∷ ts) a le lc s m = (
   fine_one n k end cs t a.0 le (omega (arith, s)) (m k (omega arith) (omega (arith, s))),
   all_fine n (suc k) end (out_of cs t.regions.items) ts a.1 le (length-table (length cs) _ ∙ lc) (omega (arith, s))
       (λ x l lt.
-          ap is_mine (at-table (length cs) (λ y. cond (covered t.regions.items y) Gone (get_or cs y Gone)) x (omega (arith, lc)))
-          ∙ ap (λ (rs : List Region). is_mine (cond (covered rs x) Gone (get_or cs x Gone))) a.0.has
-          ∙ ap (λ y. is_mine (cond y Gone (get_or cs x Gone))) (only_lacks k x (λ e. omega (arith, l, e)))
-          ∙ m x (omega (arith, l)) lt),
+      ap is_mine (at-table (length cs) (λ y. cond (covered t.regions.items y) Gone (get_or cs y Gone)) x (omega (arith, lc)))
+      ∙ ap (λ (rs : List Region). is_mine (cond (covered rs x) Gone (get_or cs x Gone))) a.0.has
+      ∙ ap (λ y. is_mine (cond y Gone (get_or cs x Gone))) (only_lacks k x (λ e. omega (arith, l, e)))
+      ∙ m x (omega (arith, l)) lt),
 )
 
 pub all_inside : (n k : ℕ) (ts : List (Thread Walker)) → AllOnOwn n k ts → k + length ts ≤ n → AllInside n ts
@@ -144,3 +147,11 @@ all_fit n k (t ∷ ts) a = (omega (arith, a.0.small), all_fit n (suc k) ts a.1)
 pub on_own_snoc : (n k : ℕ) (ts : List (Thread Walker)) (t : Thread Walker) (j : ℕ) → AllOnOwn n k ts → j ≡ k + length ts → OnOwnCell n j t → AllOnOwn n k (ts ++ t ∷ [])
 on_own_snoc n k [] t j a e o = let f : j ≡ k = omega (arith, e) in (subst (λ i. OnOwnCell n i t) f o, tt)
 on_own_snoc n k (u ∷ ts) t j a e o = (a.0, on_own_snoc n (suc k) ts t j a.1 (omega (arith, e)) o)
+
+-- a main view that lends nothing
+pub main_there : (m : Store) → AllThere (main_sight m)
+main_there m x le lt = there m.values x (omega (arith, lt, length-map m.values Mine)) where
+  there : (vs : List ℤ) (i : ℕ) → i < length vs → is_gone (get_or (map Mine vs) i Gone) ≡ false
+  there [] i l = absurd (omega (arith, l))
+  there (v ∷ vs) zero l = refl
+  there (v ∷ vs) (suc i) l = there vs i (omega (arith, l))

@@ -29,7 +29,7 @@ wrote : (b : ℕ) (vs : List Cell) (a : ℕ) (v : ℤ) → b ≤ length vs → i
 wrote b vs a v le m = record {
   long = omega (arith, length-set vs a (Mine v));
   kinds = λ x lt. elim (cases_eq x a) as (λ _. is_mine (get_or (set vs a (Mine v)) x Gone) ≡ is_mine (get_or vs x Gone)) [
-    inl e ↦ ap (λ k. is_mine (get_or (set vs a (Mine v)) k Gone)) e ∙ ap is_mine (get_or-set_same vs a (Mine v) Gone (mine_in vs a m)) ∙ sym m ∙ ap (λ k. is_mine (get_or vs k Gone)) (sym e)
+    | inl e ↦ ap (λ k. is_mine (get_or (set vs a (Mine v)) k Gone)) e ∙ ap is_mine (get_or-set_same vs a (Mine v) Gone (mine_in vs a m)) ∙ sym m ∙ ap (λ k. is_mine (get_or vs k Gone)) (sym e)
     | inr ne ↦ ap is_mine (get_or-set_other vs a x (Mine v) Gone ne)
   ];
   others = λ x lt e. get_or-set_other vs a x (Mine v) Gone (λ same. differ (get_or vs x Gone) e (ap (λ k. is_mine (get_or vs k Gone)) same ∙ m));
@@ -49,14 +49,17 @@ shown_there m (Seen v) s e = (ap is_gone s, ap value_of s)
 shown_there m (Mine v) s e = (ap is_gone s, ap value_of s)
 
 covers_set : (ms vs : List Cell) (a : ℕ) (v : ℤ) → Covers ms vs → is_mine (get_or vs a Gone) ≡ true → Covers (set ms a (Mine v)) (set vs a (Mine v))
-covers_set ms vs a v c m = (length-set ms a (Mine v) ∙ c.0 ∙ sym (length-set vs a (Mine v)), λ x. elim (cases_eq x a) as (λ _. Shows (get_or (set ms a (Mine v)) x Gone) (get_or (set vs a (Mine v)) x Gone)) [
-  inl e ↦
-  let lt = mine_in vs a m in
-  let f : get_or (set vs a (Mine v)) x Gone ≡ Mine v = ap (λ k. get_or (set vs a (Mine v)) k Gone) e ∙ get_or-set_same vs a (Mine v) Gone lt in
-  let g : get_or (set ms a (Mine v)) x Gone ≡ Mine v = ap (λ k. get_or (set ms a (Mine v)) k Gone) e ∙ get_or-set_same ms a (Mine v) Gone (omega (arith, c.0)) in
-  subst (λ k. Shows (get_or (set ms a (Mine v)) x Gone) k) (sym f) g
-  | inr ne ↦ subst (λ k. Shows k (get_or (set vs a (Mine v)) x Gone)) (sym (get_or-set_other ms a x (Mine v) Gone ne)) (subst (λ k. Shows (get_or ms x Gone) k) (sym (get_or-set_other vs a x (Mine v) Gone ne)) (c.1 x))
-])
+covers_set ms vs a v c m = (
+  length-set ms a (Mine v) ∙ c.0 ∙ sym (length-set vs a (Mine v)),
+  λ x. elim (cases_eq x a) as (λ _. Shows (get_or (set ms a (Mine v)) x Gone) (get_or (set vs a (Mine v)) x Gone)) [
+    | inl e ↦
+        let lt = mine_in vs a m in
+        let f : get_or (set vs a (Mine v)) x Gone ≡ Mine v = ap (λ k. get_or (set vs a (Mine v)) k Gone) e ∙ get_or-set_same vs a (Mine v) Gone lt in
+        let g : get_or (set ms a (Mine v)) x Gone ≡ Mine v = ap (λ k. get_or (set ms a (Mine v)) k Gone) e ∙ get_or-set_same ms a (Mine v) Gone (omega (arith, c.0)) in
+        subst (λ k. Shows (get_or (set ms a (Mine v)) x Gone) k) (sym f) g
+    | inr ne ↦ subst (λ k. Shows k (get_or (set vs a (Mine v)) x Gone)) (sym (get_or-set_other ms a x (Mine v) Gone ne)) (subst (λ k. Shows (get_or ms x Gone) k) (sym (get_or-set_other vs a x (Mine v) Gone ne)) (c.1 x))
+  ],
+)
 
 module _ (p : Walker) where
   keeps_write : (b : ℕ) (n : Option ℕ) (vs : List Cell) (a : ℕ) (v : ℤ) → b ≤ length vs → KeepsNext Above b vs (write p n vs a (Mine v))
@@ -125,9 +128,9 @@ module _ (p : Walker) where
       elim (is_gone (get_or vs a Gone)) as (λ y. is_gone (get_or vs a Gone) ≡ y → SameNext Above b vs ms (cond y (ends p vs Stuck) (write p n vs d (Mine (value_of (get_or vs a Gone))))) (at_op (Some (op.Copy a d)) p n ms)) [
         | true ↦ λ e f. absurd f
         | false ↦ λ e.
-        let s = shown_there (get_or ms a Gone) (get_or vs a Gone) (c.1 a) e in
-        subst (λ y. SameNext Above b vs ms (write p n vs d (Mine (value_of (get_or vs a Gone)))) y)
-        (sym (λ i. cond (s.0 i) (ends p ms Stuck) (write p n ms d (Mine (s.1 i))))) (same_write b n vs ms d (value_of (get_or vs a Gone)) c)
+            let s = shown_there (get_or ms a Gone) (get_or vs a Gone) (c.1 a) e in
+            subst (λ y. SameNext Above b vs ms (write p n vs d (Mine (value_of (get_or vs a Gone)))) y)
+            (sym (λ i. cond (s.0 i) (ends p ms Stuck) (write p n ms d (Mine (s.1 i))))) (same_write b n vs ms d (value_of (get_or vs a Gone)) c)
       ] refl
   same_op (Some op.Turn) b None vs ms c = same_turn b None vs ms c
   same_op (Some op.Turn) b (Some zero) vs ms c = same_ends b vs ms Cut c
@@ -196,7 +199,7 @@ module _ (b : ℕ) (vs ms : List Cell) (c : Covers ms vs) (o : OwnMine b vs) whe
 
   own_set : (a : ℕ) (v : ℤ) → is_mine (get_or vs a Gone) ≡ true → OwnMine b (set vs a (Mine v))
   own_set a v m x le lt = elim (cases_eq x a) as (λ _. is_mine (get_or (set vs a (Mine v)) x Gone) ≡ true) [
-    inl e ↦ ap (λ k. is_mine (get_or (set vs a (Mine v)) k Gone)) e ∙ ap is_mine (get_or-set_same vs a (Mine v) Gone (mine_in vs a m))
+    | inl e ↦ ap (λ k. is_mine (get_or (set vs a (Mine v)) k Gone)) e ∙ ap is_mine (get_or-set_same vs a (Mine v) Gone (mine_in vs a m))
     | inr ne ↦ ap is_mine (get_or-set_other vs a x (Mine v) Gone ne) ∙ o x le (omega (arith, length-set vs a (Mine v)))
   ]
 
@@ -205,8 +208,8 @@ module _ (b : ℕ) (vs ms : List Cell) (c : Covers ms vs) (o : OwnMine b vs) whe
     follow_write n a v h =
         elim (is_mine (get_or ms a Gone)) as (λ y. is_mine (get_or ms a Gone) ≡ y → FollowsNext Above b vs (cond y (On (onward p) n (set ms a (Mine v))) (ends p ms Stuck)) (write p n vs a (Mine v))) [
           | true ↦ λ e.
-          let m = writes_in a e h in
-          (set vs a (Mine v), ap (λ z. cond z (On (onward p) n (set vs a (Mine v))) (ends p vs Stuck)) m, covers_set ms vs a v c m, omega (arith, length-set vs a (Mine v)), own_set a v m, wrote b vs a v le m)
+              let m = writes_in a e h in
+              (set vs a (Mine v), ap (λ z. cond z (On (onward p) n (set vs a (Mine v))) (ends p vs Stuck)) m, covers_set ms vs a v c m, omega (arith, length-set vs a (Mine v)), own_set a v m, wrote b vs a v le m)
           | false ↦ λ e f. absurd f
         ] refl
 
@@ -226,9 +229,9 @@ module _ (b : ℕ) (vs ms : List Cell) (c : Covers ms vs) (o : OwnMine b vs) whe
         elim (is_gone (get_or ms d Gone)) as (λ y. is_gone (get_or ms d Gone) ≡ y → FollowsNext Above b vs (cond y (ends p ms Stuck) (write p n ms g (Mine (value_of (get_or ms d Gone))))) (at_op (Some (op.Copy d g)) p n vs)) [
           | true ↦ λ e f. absurd f
           | false ↦ λ e.
-          let r = reads_in d e a.0 in let s = shown_there (get_or ms d Gone) (get_or vs d Gone) (c.1 d) r in
-          subst (λ y. FollowsNext Above b vs (write p n ms g (Mine (value_of (get_or ms d Gone)))) y)
-          (sym (λ i. cond (r i) (ends p vs Stuck) (write p n vs g (Mine (sym s.1 i))))) (follow_write n g (value_of (get_or ms d Gone)) a.1.0)
+              let r = reads_in d e a.0 in let s = shown_there (get_or ms d Gone) (get_or vs d Gone) (c.1 d) r in
+              subst (λ y. FollowsNext Above b vs (write p n ms g (Mine (value_of (get_or ms d Gone)))) y)
+              (sym (λ i. cond (r i) (ends p vs Stuck) (write p n vs g (Mine (sym s.1 i))))) (follow_write n g (value_of (get_or ms d Gone)) a.1.0)
         ] refl
     follow_op (Some op.Turn) None a = follow_turn None
     follow_op (Some op.Turn) (Some zero) a = follow_end Cut

@@ -35,7 +35,14 @@ fn thread(
         Op::Copy(own, frame + 3)
     };
     let ops = vec![in alloc; Op::Copy(frame + 2, own), Op::Turn, last]?;
-    let regions = vec![in alloc; Region { base: own, count: 1, stride: 1, run: 1 }]?;
+    let regions = vec![in alloc;
+        Region {
+            base: own,
+            count: 1,
+            stride: 1,
+            run: 1
+        },
+    ]?;
     Ok(Thread {
         regions,
         frame: Frame {

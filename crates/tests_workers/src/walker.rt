@@ -26,12 +26,7 @@ pub struct Walker {
 
 impl Walker {
     // One step; it answers how the walker stopped, if it did.
-    fn step_once<H: Halt>(
-        &mut self,
-        view: &mut View<'_>,
-        halt: &mut H,
-        begun: u64,
-    ) -> Option<Stop>
+    fn step_once<H: Halt>(&mut self, view: &mut View<'_>, halt: &mut H, begun: u64) -> Option<Stop>
         requires since { begun ≤ self.old.turns }
         requires more { self.old.at < length self.old.ops.items }
         requires fine { Goes (step self.old None view.old.cells) }

@@ -12,8 +12,7 @@ pub loop-self-preserved : goal.loop-self-preserved
 loop-self-preserved g c =
     let i = c.loop-self.invariant in let e = c.in_default.ensures in let o = e.on refl in let p = c.loop-self.self in let q = c.step_once.new.self in let cs = c.loop-self.view.cells in let ds = c.step_once.new.view.cells in
     let lt : p.at < length p.ops.items = omega (arith, c.loop-self-test.true, c.len.ensures, p.ops.ok.0) in
-    let on = walk_on p cs q ds e.step.0 e.step.2 lt o.0 o.1 in
-    (
+    let on = walk_on p cs q ds e.step.0 e.step.2 lt o.0 o.1 in (
       i.0 + e.step.0,
       omega (arith, i.1, e.step.1),
       λ b. ap (λ n. walk c.args.self.now n c.args.view.now.cells) (plus_plus i.0 e.step.0 b) ∙ i.2 (plus e.step.0 b) ∙ on b,
