@@ -81,6 +81,32 @@ fn columns(rt: HostRuntime) -> Result<(), AllocError> {
     Ok(())
 }
 
+// Parts of two blocks, each of which is joined where it belongs.
+#[test]
+#[tactic(auto, unfolding(crate::specs::Regions::has))]
+fn two_blocks(rt: HostRuntime) -> Result<(), AllocError> {
+    let mut first = Part::root(rt.alloc(), 2)?;
+    let Ok(mut second) = Part::root(rt.alloc(), 2) else {
+        first.free();
+        return Err(AllocError);
+    };
+    let region = Region {
+        base: 0,
+        count: 1,
+        stride: 1,
+        run: 1,
+    };
+    let mut one = first.cut(region, 0);
+    let two = second.cut(region, 0);
+    one.set(0, 1);
+    first.join_part(one);
+    second.join_part(two);
+    assert_eq!(rt; first.get(0) + second.get(0), 1);
+    first.free();
+    second.free();
+    Ok(())
+}
+
 // Rows of three cells, each of which begins one cell behind the one before: the cells 0 to 4.
 #[test]
 #[tactic(auto, unfolding(crate::specs::Regions::has))]

@@ -1,3 +1,5 @@
+ghost use Rattle.std.specs.Prelude.{◌<◌};
+
 use crate::programs::{Came, run};
 use ada_workers::{NoMemory, State, Stop, ThreadNote};
 use std::alloc::Global;
@@ -23,6 +25,26 @@ fn numbered(came: &Came) -> u64 {
         }
     }
     many
+}
+
+// Whether this thread left.
+fn left(came: &Came, number: usize) -> bool {
+    for (at, over) in came.finished.overs.iter().enumerate() {
+        if at == number && matches!(over.state, State::Stopped(Stop::Gone)) {
+            return true;
+        }
+    }
+    false
+}
+
+// Whether this cell has the number of its thread.
+fn has_own(came: &Came, number: usize) -> bool {
+    for (at, value) in came.cells.iter().enumerate() {
+        if at == number && *value == at as i64 {
+            return true;
+        }
+    }
+    false
 }
 
 // Each of 70 threads writes its number into its cell.
@@ -66,7 +88,7 @@ fn leaving_in_order(rt: HostRuntime) -> Result<(), NoMemory> {
 fn leaving_on_four(rt: HostRuntime) -> Result<(), NoMemory> {
     let came = run(&rt, rt.alloc(), 9, 4, 6)?;
     assert_eq!(rt; came.finished.chosen, Some(6));
-    assert!(rt; came.cells.len() == 9 && came.cells[6] == 6);
-    assert!(rt; matches!(came.finished.overs[6].state, State::Stopped(Stop::Gone)));
+    assert!(rt; came.cells.len() == 9 && has_own(&came, 6));
+    assert!(rt; left(&came, 6));
     Ok(())
 }
