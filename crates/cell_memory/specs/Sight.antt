@@ -1,5 +1,5 @@
 -- What contracts see of memories and views.
-use Rattle.std.specs.Prelude.{◌≡◌, ℕ, ◌+◌, ◌-◌, ◌<◌, ◌≤◌, ℤ, pos, Bool, true, false, cond, List, ◌++◌, map, length, take, replicate, get_or, set, Option, Some, None}
+use Rattle.std.specs.Prelude.{◌≡◌, ℕ, ◌+◌, ◌-◌, ◌<◌, ◌≤◌, ℤ, pos, Bool, true, false, cond, List, ◌++◌, map, length, take, get_or, set, Option, Some, None}
 use Rattle.std.specs.List.{range_with_len}
 use Rattle.ada_base.specs.Cells.{Cell, Gone, Seen, Mine, zeros}
 use Rattle.cell_strip.specs.declared.region.Region.{Region}

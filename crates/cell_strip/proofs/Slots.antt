@@ -9,7 +9,6 @@ use denote.RawPtr.{Ptr}
 use Rattle.cell_strip.proofs.Memory.{length-kept, length-merged}
 use Rattle.std.specs.declared.alloc.Global.{Global}
 use Rattle.cell_strip.specs.declared.cells.Deed.{Deed}
-use lib.Dec.{ltb}
 use Rattle.std.proofs.lemmas.List.{take_more, get_or_default}
 use Rattle.std.specs.Prelude.{take, ◌&&◌, ◌||◌}
 use Rattle.cell_strip.specs.declared.region.Region.{Region}

@@ -1,4 +1,3 @@
-use Rattle.std.proofs.Common.{arith}
 use Rattle.cell_strip.proofs.Rows.{below, without_row, by_row}
 use Rattle.cell_strip.proofs.region.Region.has.Goals as goal
 use Rattle.cell_strip.proofs.region.Region.has.Goals.{then-at-self-via-then-at-self, then-at-self-via-else-at-self+then-self-eq0}
