@@ -7,7 +7,7 @@ use Rattle.ada_base.specs.Cells.{Cell, Gone, Seen, Mine}
 use Rattle.cell_memory.specs.Sight.{Sight, cell_at, is_gone, is_mine, mine_or, OwnThere, lent_value}
 use Rattle.cell_memory.proofs.Views.{length-table, at-table}
 use Rattle.ada_workers.specs.Paths.{Ending, AtEnd, Left, Spent, Runs, Fine, Frames}
-use Rattle.ada_base.specs.Notes.{ThreadNote, Whole, NotBegun, CutAfter}
+use Rattle.ada_base.specs.Notes.{ThreadNote, Whole}
 use Rattle.ada_workers.specs.Orders.{by_note, view_of, lent_of, out_of, all_out, memory_after, ends_of}
 use Rattle.ada_workers.specs.Tasks.{BackOf, RanTo, AllReturned, IsHalted}
 use Rattle.ada_workers.specs.Joins.{start_of, starts_of, regions_of, LentTo, put_back_of, puts_back, over_of, overs_of, note_of, notes_of, Chose, Tells, Reports, Fits, Joined, EndedSo, with_cells, Stays, JobsRan, BacksHome}

@@ -1,4 +1,4 @@
-use Rattle.ada_workers.proofs.Sharing.{one_share, up_le, within, low_dealt, high_dealt, both_ran}
+use Rattle.ada_workers.proofs.Sharing.{up_le, within, low_dealt, high_dealt, both_ran}
 use Rattle.ada_workers.proofs.dealing.+dealt.Goals as goal
 
 pub run_dealt-overflow_sub-up : goal.run_dealt-overflow_sub-up

@@ -1,4 +1,4 @@
-use Rattle.std.proofs.Common.{length, ◌∙◌, ap, arith}
+use Rattle.std.proofs.Common.{length}
 use Rattle.ada_workers.proofs.Sharing.{all_dealt, some_left}
 use Rattle.ada_workers.proofs.dealing.run_duties.Goals as goal
 
