@@ -1,21 +1,20 @@
 -- What the code of a walker does.
-use Rattle.std.proofs.Common.{◌≡◌, ◌≢◌, ℕ, zero, suc, ◌+◌, ◌-◌, ◌<◌, ◌≤◌, ℤ, Bool, true, false, cond, List, [], ◌∷◌, length, get_or, set, Option, Some, None, arith, refl, sym, ◌∙◌, ap, subst, length-set, add-one}
+use Rattle.std.proofs.Common.{◌≡◌, ℕ, zero, suc, ◌+◌, ◌-◌, ◌<◌, ◌≤◌, ℤ, true, false, cond, List, [], ◌∷◌, length, get_or, set, Option, Some, None, arith, refl, sym, ◌∙◌, ap, subst, length-set}
 use Rattle.std.specs.Prelude.{slice_get}
 use lib.Dec.{ltb}
 use Rattle.std.proofs.lemmas.List.{get_or-set_same, get_or-set_other}
-use Rattle.std.proofs.lemmas.Bool.{cases_eq, cases_lt}
+use Rattle.std.proofs.lemmas.Bool.{cases_eq}
 use Rattle.std.proofs.lemmas.Bool.Decides.{nat_tests}
 use Rattle.std.proofs.Common.{inl, inr}
-use Rattle.ada_base.specs.Cells.{Cell, Gone, Seen, Mine}
-use Rattle.cell_memory.specs.Sight.{Sight, cell_at, is_mine, is_gone, value_of, stored, OwnThere, lower_length}
-use Rattle.ada_workers.specs.Paths.{Ending, AtEnd, Left, Spent, Cut, Stuck, Outcome, Runs, Fine, Went, SamePlace}
-use Rattle.ada_workers.specs.Iterated.{Next, On, Ends, Steps, iterated}
+use Rattle.ada_base.specs.Cells.{Cell, Gone, Mine}
+use Rattle.cell_memory.specs.Sight.{Sight, cell_at, is_mine, is_gone, value_of, stored, OwnThere}
+use Rattle.ada_workers.specs.Paths.{AtEnd, Spent, Stuck, Outcome, Fine, Went, SamePlace}
+use Rattle.ada_workers.specs.Iterated.{On, Ends, iterated}
 use Rattle.ada_workers.specs.declared.path.Stop.{Stop}
 use Rattle.ada_workers.specs.declared.path.Stop.TheVariants as stop
-use Rattle.tests_workers.specs.declared.walker.Op.{Op}
 use Rattle.tests_workers.specs.declared.walker.Op.TheVariants as op
 use Rattle.tests_workers.specs.declared.walker.Walker.{Walker}
-use Rattle.tests_workers.specs.Walks.{ends, onward, turned, turn, look_turn, write, at_op, step, fuel, walk, Goes, plus, Stepped}
+use Rattle.tests_workers.specs.Walks.{ends, onward, turned, turn, look_turn, write, at_op, step, walk, Goes, plus, Stepped}
 use Rattle.tests_workers.specs.Walking.{mine_in}
 
 pub there : {X : Type 0} (xs : List X) (i : ℕ) (r o : X) → r ≡ get_or xs i r → i < length xs → r ≡ o → slice_get xs i ≡ Some o

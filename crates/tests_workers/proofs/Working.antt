@@ -1,5 +1,5 @@
 -- Walkers on cells of their own aren't stuck.
-use Rattle.std.proofs.Common.{◌≡◌, ℕ, zero, suc, ◌+◌, ◌-◌, ◌*◌, ◌<◌, ◌≤◌, inl, inr, ℤ, Bool, true, false, cond, ◌||◌, List, [], ◌∷◌, ◌++◌, map, length, get_or, set, Option, Some, None, arith, refl, sym, ◌∙◌, ap, subst, length-set}
+use Rattle.std.proofs.Common.{◌≡◌, ℕ, zero, suc, ◌+◌, ◌-◌, ◌*◌, ◌<◌, ◌≤◌, inl, inr, ℤ, true, false, cond, ◌||◌, List, [], ◌∷◌, ◌++◌, map, length, get_or, set, Option, Some, None, arith, refl, sym, ◌∙◌, ap, subst}
 use Rattle.std.specs.Prelude.{slice_get}
 use lib.Dec.{ltb}
 use Rattle.std.proofs.lemmas.List.{length-map, get_or-set_same, get_or-set_other, get_or_append_left, get_or-append_right}
@@ -10,7 +10,7 @@ use Rattle.cell_strip.proofs.Rows.{in_has, has_in}
 use Rattle.ada_base.specs.Cells.{Cell, Gone, Seen, Mine}
 use Rattle.cell_memory.specs.Sight.{Store, OwnThere as AllThere, main_sight, is_mine, is_gone, value_of, shown, mine_or, lent_value, table}
 use Rattle.cell_memory.proofs.Views.{length-table, at-table}
-use Rattle.ada_workers.specs.Paths.{Ending, AtEnd, Left, Spent, Stuck, Outcome, Fine}
+use Rattle.ada_workers.specs.Paths.{Spent, Stuck, Outcome, Fine}
 use Rattle.ada_workers.specs.Iterated.{Next, On, Ends, iterated}
 use Rattle.ada_workers.specs.Orders.{view_of, lent_of, out_of, AllFine}
 use Rattle.ada_workers.specs.Threads.{frame_values, begins_of, areas_of, AllInside, FramesFit}

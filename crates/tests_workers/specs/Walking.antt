@@ -1,14 +1,14 @@
 -- A walker touches no cell but those that its view lets it.
-use Rattle.std.proofs.Common.{◌≡◌, ◌≢◌, ℕ, zero, suc, ◌+◌, ◌-◌, ◌<◌, ◌≤◌, ◌⊎◌, inl, inr, ℤ, Bool, true, false, cond, List, [], ◌∷◌, length, get_or, set, Option, Some, None, arith, refl, sym, ◌∙◌, ap, subst, length-set}
+use Rattle.std.proofs.Common.{◌≡◌, ℕ, zero, suc, ◌<◌, ◌≤◌, inl, inr, ℤ, true, false, cond, List, [], ◌∷◌, length, get_or, set, Option, Some, None, arith, refl, sym, ◌∙◌, ap, subst, length-set}
 use Rattle.std.specs.Prelude.{slice_get}
 use Rattle.std.proofs.lemmas.List.{get_or-set_same, get_or-set_other, get_or_past}
 use Rattle.std.proofs.lemmas.Bool.{cases_lt, cases_eq}
 use lib.Dec.{ltb}
 use Rattle.ada_base.specs.Cells.{Cell, Gone, Seen, Mine}
 use Rattle.cell_memory.specs.Sight.{is_mine, is_gone, value_of}
-use Rattle.ada_workers.specs.Paths.{Ending, AtEnd, Left, Spent, Cut, Stuck, Outcome, Runs, Fine, Shows, Covers, Frames}
+use Rattle.ada_workers.specs.Paths.{Ending, AtEnd, Left, Spent, Cut, Stuck, Shows, Covers, Frames}
 use Rattle.ada_workers.specs.Threads.{Touching}
-use Rattle.ada_workers.specs.Iterated.{Next, On, Ends, Steps, iterated, KeepsTo, SameTo, KeepsNext, SameNext, BeginsNext, Uncut, StepFrames, Touch, Reads, Writes, Allowed, AllAllowed, OwnMine, run_touches, FollowsNext, StepTouches}
+use Rattle.ada_workers.specs.Iterated.{On, KeepsTo, KeepsNext, SameNext, BeginsNext, Uncut, StepFrames, Touch, Reads, Writes, Allowed, AllAllowed, OwnMine, run_touches, FollowsNext, StepTouches}
 use Rattle.ada_workers.proofs.Iterating.{frames_of, touching_of}
 use Rattle.tests_workers.specs.declared.walker.Op.{Op}
 use Rattle.tests_workers.specs.declared.walker.Op.TheVariants as op

@@ -1,9 +1,9 @@
 -- What a walker does, step by step.
-use Rattle.std.specs.Prelude.{◌≡◌, ℕ, zero, suc, ◌+◌, ◌-◌, ◌<◌, Bool, true, false, cond, List, length, slice_get, get_or, set, Option, Some, None}
+use Rattle.std.specs.Prelude.{◌≡◌, ℕ, zero, suc, ◌+◌, ◌-◌, cond, List, length, slice_get, get_or, set, Option, Some, None}
 use lib.Dec.{ltb}
-use Rattle.ada_base.specs.Cells.{Cell, Gone, Seen, Mine}
+use Rattle.ada_base.specs.Cells.{Cell, Gone, Mine}
 use Rattle.cell_memory.specs.Sight.{is_mine, is_gone, value_of}
-use Rattle.ada_workers.specs.Paths.{Ending, AtEnd, Left, Spent, Cut, Stuck, Outcome, Runs, Fine}
+use Rattle.ada_workers.specs.Paths.{Ending, AtEnd, Left, Spent, Cut, Stuck, Runs, Fine}
 use Rattle.ada_workers.specs.Iterated.{Next, On, Ends, Steps, iterated}
 use Rattle.ada_workers.specs.declared.path.Stop.{Stop}
 use Rattle.ada_workers.specs.declared.path.Stop.TheVariants as stop

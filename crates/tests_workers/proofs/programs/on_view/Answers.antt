@@ -1,4 +1,4 @@
-use Rattle.std.proofs.Common.{length, refl, ap, sym, ◌∙◌, arith}
+use Rattle.std.proofs.Common.{length, refl, arith}
 use Rattle.ada_workers.proofs.Lending.{length-all_out}
 use Rattle.ada_workers.proofs.Ordering.{main_mine}
 use Rattle.ada_workers.specs.Threads.{areas_of}

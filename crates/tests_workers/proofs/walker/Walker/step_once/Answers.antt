@@ -1,9 +1,8 @@
-use Rattle.std.proofs.Common.{rules, ◌≡◌, refl, sym, ap, ◌∙◌, subst}
+use Rattle.std.proofs.Common.{rules, sym, ap, ◌∙◌, subst}
 use Rattle.std.proofs.lemmas.Int.{to_z-of_z}
 use mir.Syntax.{w64}
 use mir.Val.{SFits, to_z, of_z}
-use Rattle.ada_base.specs.Cells.{Mine}
-use Rattle.cell_memory.specs.Sight.{stored, Sight}
+use Rattle.cell_memory.specs.Sight.{Sight}
 use Rattle.ada_workers.specs.Paths.{SamePlace}
 use Rattle.tests_workers.proofs.Stepping.{there, place_set, copy_mine, copy_step, turn_step, leave_step}
 use Rattle.tests_workers.proofs.walker.Walker.step_once.Goals as goal

@@ -1,7 +1,7 @@
-use Rattle.std.proofs.Common.{◌≡◌, ℕ, ◌+◌, ◌≤◌, ◌<◌, length, Some, None, arith, refl, sym, ap, ◌∙◌, subst}
-use Rattle.ada_workers.specs.Paths.{Fine, SamePlace}
+use Rattle.std.proofs.Common.{◌+◌, ◌<◌, length, Some, None, arith, refl, ap, ◌∙◌, subst}
+use Rattle.ada_workers.specs.Paths.{Fine}
 use Rattle.tests_workers.specs.Walks.{walk, plus}
-use Rattle.tests_workers.proofs.Stepping.{place_trans, walk_on, walk_over, walk_goes, plus_plus, plus_zero, went}
+use Rattle.tests_workers.proofs.Stepping.{place_trans, walk_on, walk_over, plus_plus, went}
 use Rattle.tests_workers.proofs.walker.WalkerPath.go.Goals as goal
 
 pub returns-in-Some-clause-went : goal.returns-in-Some-clause-went
