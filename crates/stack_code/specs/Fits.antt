@@ -1,0 +1,59 @@
+-- What validity gives each instruction: its operands are there, and it leaves what the next one finds.
+use Rattle.std.specs.Prelude.{◌≡◌, ℕ, ◌+◌, ◌<◌, ◌≤◌, ◌⊎◌, ℤ, List, ◌∷◌, length, Option, Some, None, IsSome, slice_get}
+use Rattle.stack_code.specs.declared.code.Code.{Code}
+use Rattle.stack_code.specs.declared.instr.Instr.{Instr}
+use Rattle.stack_code.specs.declared.instr.Instr.TheVariants.{Outer, LoadO, StoreO, Call, CallAt, Combine, Nest, Unnest, Ret, RetV, Turn, Fork, Send, SendLn, Get}
+use Rattle.stack_code.specs.declared.operands.Flow.{Flow}
+use Rattle.stack_code.specs.declared.operands.Flow.TheVariants.{On, To, Branch, Ends as Nowhere}
+use Rattle.stack_code.specs.Operands.{takes, pushes, flow_of}
+use Rattle.stack_code.specs.Deeds.{Deed, Lacks, GoesOn, Fails, Loads, Stores, Turns, Calls, CallsAt, Combines, Ends, Nests, Unnests, Writes, Forks, Sends, Gets}
+
+-- the frames that an instruction names, and the subprogram that it calls
+abbrev pub Finds : Code → List ℕ → Instr → Type 0
+Finds c outward (Outer k n) = (0 < k) × (k ≤ length outward)
+Finds c outward (LoadO k n) = (0 < k) × (k ≤ length outward)
+Finds c outward (StoreO k n) = (0 < k) × (k ≤ length outward)
+Finds c outward (Combine sub) = IsSome (slice_get c.subs sub)
+Finds c outward (Call sub) = IsSome (slice_get c.subs sub)
+Finds c outward (CallAt sub n) = IsSome (slice_get c.subs sub)
+Finds c outward _ = Unit {0}
+
+-- an instruction that may follow
+abbrev pub IsNext : ℕ → Flow → ℕ → Type 0
+IsNext pc On to = to ≡ pc + 1
+IsNext pc (To t) to = to ≡ t
+IsNext pc (Branch t) to = (to ≡ t) ⊎ (to ≡ pc + 1)
+IsNext pc Nowhere to = ⊥
+
+-- it neither begins nor ends a construct, nor begins a turn
+abbrev pub IsCalm : Instr → Type 0
+IsCalm Turn = ⊥
+IsCalm Nest = ⊥
+IsCalm Unnest = ⊥
+IsCalm _ = Unit {0}
+
+-- it ends a subprogram, with a value or without
+abbrev pub IsReturn : Instr → Option ℤ → Type 0
+IsReturn Ret None = Unit {0}
+IsReturn RetV (Some v) = Unit {0}
+IsReturn i v = ⊥
+
+-- no operand lacks; what goes on does so as the rules of validity say; and what fails has taken its operands off
+abbrev pub IsFit : Code → ℕ → List ℤ → Instr → Deed → Type 0
+IsFit c pc st i Lacks = ⊥
+IsFit c pc st i (GoesOn to st') = (length st' + takes c i ≡ length st + pushes c i) × IsNext pc (flow_of i) to × IsCalm i
+IsFit c pc st i (Fails r st') = (length st' + takes c i ≡ length st) × IsCalm i
+IsFit c pc st i (Loads a k) = (v : ℤ) → IsFit c pc st i (k v)
+IsFit c pc st i (Stores a v d) = IsFit c pc st i d
+IsFit c pc st i Turns = i ≡ Turn
+IsFit c pc st i (Calls f) = (k : ℕ) × (i ≡ Call k) × (slice_get c.subs k ≡ Some f)
+IsFit c pc st i (CallsAt f n) = (k : ℕ) × (i ≡ CallAt k n) × (slice_get c.subs k ≡ Some f)
+IsFit c pc st i (Combines f acc st') = (k : ℕ) × (i ≡ Combine k) × (slice_get c.subs k ≡ Some f) × (st ≡ acc ∷ st')
+IsFit c pc st i (Ends v st') = IsReturn i v × (length st' + takes c i ≡ length st)
+IsFit c pc st i Nests = i ≡ Nest
+IsFit c pc st i Unnests = i ≡ Unnest
+IsFit c pc st i (Writes text st') = (length st' + takes c i ≡ length st + pushes c i) × (flow_of i ≡ On) × IsCalm i
+IsFit c pc st i (Forks q st') = (i ≡ Fork q.site) × (length st' + takes c i ≡ length st)
+IsFit c pc st i (Sends feed) = (i ≡ Send) ⊎ (i ≡ SendLn)
+IsFit c pc st i Gets = i ≡ Get
+IsFit c pc st i _ = Unit {0}

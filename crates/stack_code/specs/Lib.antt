@@ -1,0 +1,14 @@
+pub mod Answers
+pub mod Deeds
+pub mod Fits
+pub mod Framed
+pub mod Laws
+pub mod Listing
+pub mod Machine
+pub mod Looks
+pub mod Operands
+pub mod Runs
+pub mod Slack
+pub mod Stands
+pub mod Tops
+pub mod Valid
