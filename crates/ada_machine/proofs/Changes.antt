@@ -1,0 +1,28 @@
+-- What is done to a machine, as what is done to its state.
+use Rattle.std.proofs.Common.{◌≡◌, ℕ, ◌+◌, ◌-◌, ◌≤◌, ℤ, pos, List, ◌∷◌, ◌++◌, length, reverse, take, drop, Some, None, sym, ap, ◌∙◌, arith}
+use Rattle.std.proofs.Math.Seq.{drop-append_seam}
+use Rattle.std.proofs.lemmas.List.{reverse-append, length-reverse, length-drop, take-append-drop}
+use Rattle.ada_base.specs.declared.reason.Reason.{Reason}
+use Rattle.stack_code.specs.declared.code.Unwind.{Unwind}
+use Rattle.ada_base.specs.Cells.{Cell}
+use Rattle.stack_code.specs.Listing.{reason_number}
+use Rattle.stack_code.specs.Machine.{Frame, State, cut, failed, handled, ended}
+
+pub cut_take : (xs ys : List ℤ) (n : ℕ) → ys ≡ take n xs → n ≤ length xs → reverse ys ≡ cut n (reverse xs)
+cut_take xs ys n e l =
+    let front : reverse (take n xs ++ drop n xs) ≡ reverse (drop n xs) ++ reverse (take n xs) = reverse-append (take n xs) (drop n xs) in
+    let whole : reverse xs ≡ reverse (drop n xs) ++ reverse (take n xs) = ap reverse (sym (take-append-drop n xs)) ∙ front in
+    let count : length (reverse xs) - n ≡ length (reverse (drop n xs)) = omega (arith, length-reverse xs, length-reverse (drop n xs), length-drop n xs, l) in
+    ap reverse e ∙ sym (drop-append_seam (reverse (drop n xs)) (reverse (take n xs))) ∙ ap (λ k. drop k (reverse (drop n xs) ++ reverse (take n xs))) (sym count) ∙ ap (λ st. drop (length (reverse xs) - n) st) (sym whole)
+
+pub failed_by : (s : State) (r : Reason) (st st' : List ℤ) → st' ≡ st → record s { stack = st'; raising = Some r } ≡ failed r st s
+failed_by s r st st' e = ap (λ st. failed r st s) e
+
+pub handled_by : (s : State) (u : Unwind) (r : Reason) (st mid : List ℤ) → st ≡ pos (reason_number r) ∷ mid → mid ≡ cut (s.floor + u.depth) s.stack
+    → record s { pc = u.handler; stack = st; nest = u.nest; nested = s.nested - (s.nest - u.nest); raising = None } ≡ handled u r s
+handled_by s u r st mid e f = ap (λ st. record s { pc = u.handler; stack = st; nest = u.nest; nested = s.nested - (s.nest - u.nest); raising = None }) (e ∙ ap (λ st. pos (reason_number r) ∷ st) f)
+
+pub ended_by : (s : State) (f : Frame) (fs : List Frame) (to : ℕ) (st : List ℤ) (cells : List Cell) → st ≡ cut s.floor s.stack → cells ≡ take f.top s.cells
+    → record s { pc = to; stack = st; floor = f.floor; nest = f.nest; kept = f.kept; base = f.base; waiting = fs; calls = s.calls - 1; nested = s.nested - s.nest; cells = cells } ≡ ended f fs to (cut s.floor s.stack) s
+ended_by s f fs to st cells e g = ap (λ st. record s { pc = to; stack = st; floor = f.floor; nest = f.nest; kept = f.kept; base = f.base; waiting = fs; calls = s.calls - 1; nested = s.nested - s.nest; cells = cells }) e
+    ∙ ap (λ cells. record s { pc = to; stack = cut s.floor s.stack; floor = f.floor; nest = f.nest; kept = f.kept; base = f.base; waiting = fs; calls = s.calls - 1; nested = s.nested - s.nest; cells = cells }) g

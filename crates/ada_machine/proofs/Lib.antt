@@ -1,0 +1,15 @@
+pub mod Answered
+pub mod Stretches
+pub mod Callers
+pub mod Changes
+pub mod Classes
+pub mod Doings
+pub mod Frames
+pub mod Holders
+pub mod Keeping
+pub mod Looking
+pub mod Memories
+pub mod Outcomes
+pub mod Readies
+pub mod Steps
+pub mod Walks

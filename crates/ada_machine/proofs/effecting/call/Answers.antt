@@ -1,0 +1,38 @@
+use Rattle.std.proofs.Common.{◌<◌, arith}
+use Rattle.stack_code.specs.declared.instr.Instr.TheVariants as instr
+use Rattle.ada_machine.proofs.Doings as doings
+use Rattle.ada_machine.proofs.Doings.{fine_at, sub_there}
+use Rattle.ada_machine.proofs.effecting.call.Goals as goal
+
+pub returns-then-asked-clause-steps : goal.returns-then-asked-clause-steps
+returns-then-asked-clause-steps g c =
+    let s = sub_there c.args.code.now c.args.m.now (g.C.Cells.cells c.args.view.now) c.requires.ready c.requires.calm c.args.number c.requires.at in
+    doings.call_paused c.args.limit c.args.code.now c.args.m.now (g.C.Cells.cells c.args.view.now) c.requires.calm c.args.number s.0 c.requires.at s.1 c.requires.ready c.requires.within
+
+pub returns-then-m-limit-clause-steps : goal.returns-then-m-limit-clause-steps
+returns-then-m-limit-clause-steps g c =
+    let s = sub_there c.args.code.now c.args.m.now (g.C.Cells.cells c.args.view.now) c.requires.ready c.requires.calm c.args.number c.requires.at in
+    doings.call_stops c.args.limit c.args.code.now c.args.m.now (g.C.Cells.cells c.args.view.now) c.requires.calm c.args.number s.0 c.requires.at s.1 c.requires.ready c.requires.within _ (omega arith)
+
+pub sub_of-callee-requires : goal.sub_of-callee-requires
+sub_of-callee-requires g c = let f = fine_at c.args.code.now c.args.m.now (g.C.Cells.cells c.args.view.now) (instr.Call c.args.number) c.requires.ready c.requires.calm c.requires.at in f.here.fits.belongs.1
+
+pub overflow_sub-height : goal.overflow_sub-height
+overflow_sub-height g c = let t = doings.call_takes c.args.limit c.args.code.now c.args.m.now (g.C.Cells.cells c.args.view.now) c.requires.calm c.args.number c.sub_of-callee.result c.requires.at c.sub_of-callee.ensures c.requires.ready c.requires.within in omega (arith, t)
+
+pub enter-requires-clause-takes : goal.enter-requires-clause-takes
+enter-requires-clause-takes g c = let t = doings.call_takes c.args.limit c.args.code.now c.args.m.now (g.C.Cells.cells c.args.view.now) c.requires.calm c.args.number c.sub_of-callee.result c.requires.at c.sub_of-callee.ensures c.requires.ready c.requires.within in omega (arith, t)
+
+pub returns-in-Ok-clause-steps : goal.returns-in-Ok-clause-steps
+returns-in-Ok-clause-steps g c =
+    let less : c.args.m.now.turns < c.args.limit = omega (arith, c.requires.within) in
+    doings.call_goes c.args.limit c.args.code.now c.args.m.now (g.C.Cells.cells c.args.view.now) c.requires.calm c.args.number c.sub_of-callee.result c.requires.at c.sub_of-callee.ensures c.requires.ready c.requires.within _ (g.C.Cells.cells c.enter.new.view) less (omega arith) c.in-Ok.ensures.ok c.in-Ok.ensures.fits c.in-Ok.ensures.near c.enter.ensures.room
+
+pub returns-in-Err-clause-steps : goal.returns-in-Err-clause-steps
+returns-in-Err-clause-steps g c = doings.still c.args.limit c.args.code.now c.args.m.now c.enter.new.m (g.C.Cells.cells c.args.view.now) (g.C.Cells.cells c.enter.new.view) c.requires.ready c.requires.within c.requires.calm (instr.Call c.args.number) c.requires.at (omega arith) c.in-Err.ensures.err c.enter.ensures.room
+
+pub returns-then-m-ge-MOST_CALLS-clause-steps : goal.returns-then-m-ge-MOST_CALLS-clause-steps
+returns-then-m-ge-MOST_CALLS-clause-steps g c =
+    let t = doings.call_takes c.args.limit c.args.code.now c.args.m.now (g.C.Cells.cells c.args.view.now) c.requires.calm c.args.number c.sub_of-callee.result c.requires.at c.sub_of-callee.ensures c.requires.ready c.requires.within in
+    let less : c.args.m.now.turns < c.args.limit = omega (arith, c.requires.within) in
+    doings.call_raises c.args.limit c.args.code.now c.args.m.now (g.C.Cells.cells c.args.view.now) c.requires.calm c.args.number c.sub_of-callee.result c.requires.at c.sub_of-callee.ensures c.requires.ready c.requires.within c.fail.new.m (g.C.Cells.cells c.args.view.now) _ less (omega arith) (omega (arith, t)) (c.fail.ensures.state (g.C.Cells.cells c.args.view.now)) c.fail.ensures.same.0

@@ -1,0 +1,111 @@
+use Rattle.std.proofs.Common.{Some, None, refl, ap, ◌∙◌}
+use Rattle.stack_code.specs.declared.instr.Instr.TheVariants as instr
+use Rattle.stack_code.specs.declared.path.Io.TheVariants as io
+use Rattle.stack_code.specs.declared.path.Leave.TheVariants as leave
+use Rattle.ada_machine.specs.declared.machine.Stop.TheVariants as stop
+use Rattle.ada_machine.specs.declared.machine.Went.TheVariants as went
+use Rattle.ada_machine.specs.States.{state_of}
+use Rattle.ada_machine.proofs.Looking.{quiet_looks, same_looks, call_looks, window_looks, combine_looks}
+use Rattle.ada_machine.proofs.effecting.effect.Goals as goal
+
+pub returns-in-Turn-clause-steps : goal.returns-in-Turn-clause-steps
+returns-in-Turn-clause-steps g c = c.turn.ensures.steps (g.C.Cells.cells c.args.view.now) c.requires.ready
+
+pub returns-in-LeaveV-clause-steps : goal.returns-in-LeaveV-clause-steps
+returns-in-LeaveV-clause-steps g c = c.leave_with.ensures.steps (g.C.Cells.cells c.args.view.now) c.requires.ready
+
+pub returns-in-Fork-clause-steps : goal.returns-in-Fork-clause-steps
+returns-in-Fork-clause-steps g c = c.fork.ensures.steps (g.C.Cells.cells c.args.view.now) c.requires.ready
+
+pub returns-in-Nest-clause-steps : goal.returns-in-Nest-clause-steps
+returns-in-Nest-clause-steps g c = c.nest.ensures.steps (g.C.Cells.cells c.args.view.now) c.requires.ready
+
+pub returns-in-Unnest-clause-steps : goal.returns-in-Unnest-clause-steps
+returns-in-Unnest-clause-steps g c = c.unnest.ensures.steps (g.C.Cells.cells c.args.view.now) c.requires.ready
+
+pub returns-in-Words-clause-steps : goal.returns-in-Words-clause-steps
+returns-in-Words-clause-steps g c = c.words.ensures.steps (g.C.Cells.cells c.args.view.now) c.requires.ready
+
+pub returns-in-Img-clause-steps : goal.returns-in-Img-clause-steps
+returns-in-Img-clause-steps g c = c.put_image.ensures.steps (g.C.Cells.cells c.args.view.now) c.requires.ready
+
+pub returns-in-Bool-clause-steps : goal.returns-in-Bool-clause-steps
+returns-in-Bool-clause-steps g c = c.put_truth.ensures.steps (g.C.Cells.cells c.args.view.now) c.requires.ready
+
+pub returns-in-Wide-clause-steps : goal.returns-in-Wide-clause-steps
+returns-in-Wide-clause-steps g c = c.put_padded.ensures.steps (g.C.Cells.cells c.args.view.now) c.requires.ready
+
+pub returns-in-Send-clause-steps : goal.returns-in-Send-clause-steps
+returns-in-Send-clause-steps g c = c.send.ensures.steps (g.C.Cells.cells c.args.view.now) c.requires.ready
+
+pub returns-in-SendLn-clause-steps : goal.returns-in-SendLn-clause-steps
+returns-in-SendLn-clause-steps g c = c.send_line.ensures.steps (g.C.Cells.cells c.args.view.now) c.requires.ready
+
+pub returns-in-EndV-clause-steps : goal.returns-in-EndV-clause-steps
+returns-in-EndV-clause-steps g c = c.end_with.ensures.steps (g.C.Cells.cells c.args.view.now) c.requires.ready
+
+pub returns-in-Ret-clause-looks : goal.returns-in-Ret-clause-looks
+returns-in-Ret-clause-looks g c = quiet_looks c.args.code.now (state_of c.args.m.now (g.C.Cells.cells c.args.view.now)) (instr.Ret) c.return_plain.result _ _ c.requires.calm (c.requires.at ∙ ap Some c.in-Ret.is) tt c.return_plain.ensures.looks
+
+pub returns-in-RetV-clause-looks : goal.returns-in-RetV-clause-looks
+returns-in-RetV-clause-looks g c = quiet_looks c.args.code.now (state_of c.args.m.now (g.C.Cells.cells c.args.view.now)) (instr.RetV) c.return_value.result _ _ c.requires.calm (c.requires.at ∙ ap Some c.in-RetV.is) tt c.return_value.ensures.looks
+
+pub returns-in-LeaveV-clause-looks : goal.returns-in-LeaveV-clause-looks
+returns-in-LeaveV-clause-looks g c = quiet_looks c.args.code.now (state_of c.args.m.now (g.C.Cells.cells c.args.view.now)) (instr.LeaveV) c.leave_with.result _ _ c.requires.calm (c.requires.at ∙ ap Some c.in-LeaveV.is) tt c.leave_with.ensures.looks
+
+pub returns-in-Fork-clause-looks : goal.returns-in-Fork-clause-looks
+returns-in-Fork-clause-looks g c = quiet_looks c.args.code.now (state_of c.args.m.now (g.C.Cells.cells c.args.view.now)) (instr.Fork c.in-Fork.site) c.fork.result _ _ c.requires.calm (c.requires.at ∙ ap Some c.in-Fork.is) tt c.fork.ensures.looks
+
+pub returns-in-Unnest-clause-looks : goal.returns-in-Unnest-clause-looks
+returns-in-Unnest-clause-looks g c = quiet_looks c.args.code.now (state_of c.args.m.now (g.C.Cells.cells c.args.view.now)) (instr.Unnest) c.unnest.result _ _ c.requires.calm (c.requires.at ∙ ap Some c.in-Unnest.is) tt c.unnest.ensures.looks
+
+pub returns-in-Words-clause-looks : goal.returns-in-Words-clause-looks
+returns-in-Words-clause-looks g c = quiet_looks c.args.code.now (state_of c.args.m.now (g.C.Cells.cells c.args.view.now)) (instr.Words c.in-Words.number) c.words.result _ _ c.requires.calm (c.requires.at ∙ ap Some c.in-Words.is) tt c.words.ensures.looks
+
+pub returns-in-Img-clause-looks : goal.returns-in-Img-clause-looks
+returns-in-Img-clause-looks g c = quiet_looks c.args.code.now (state_of c.args.m.now (g.C.Cells.cells c.args.view.now)) (instr.Img) c.put_image.result _ _ c.requires.calm (c.requires.at ∙ ap Some c.in-Img.is) tt c.put_image.ensures.looks
+
+pub returns-in-Bool-clause-looks : goal.returns-in-Bool-clause-looks
+returns-in-Bool-clause-looks g c = quiet_looks c.args.code.now (state_of c.args.m.now (g.C.Cells.cells c.args.view.now)) (instr.Bool) c.put_truth.result _ _ c.requires.calm (c.requires.at ∙ ap Some c.in-Bool.is) tt c.put_truth.ensures.looks
+
+pub returns-in-Wide-clause-looks : goal.returns-in-Wide-clause-looks
+returns-in-Wide-clause-looks g c = quiet_looks c.args.code.now (state_of c.args.m.now (g.C.Cells.cells c.args.view.now)) (instr.Wide c.in-Wide.width) c.put_padded.result _ _ c.requires.calm (c.requires.at ∙ ap Some c.in-Wide.is) tt c.put_padded.ensures.looks
+
+pub returns-in-Send-clause-looks : goal.returns-in-Send-clause-looks
+returns-in-Send-clause-looks g c = quiet_looks c.args.code.now (state_of c.args.m.now (g.C.Cells.cells c.args.view.now)) (instr.Send) c.send.result _ _ c.requires.calm (c.requires.at ∙ ap Some c.in-Send.is) tt c.send.ensures.looks
+
+pub returns-in-SendLn-clause-looks : goal.returns-in-SendLn-clause-looks
+returns-in-SendLn-clause-looks g c = quiet_looks c.args.code.now (state_of c.args.m.now (g.C.Cells.cells c.args.view.now)) (instr.SendLn) c.send_line.result _ _ c.requires.calm (c.requires.at ∙ ap Some c.in-SendLn.is) tt c.send_line.ensures.looks
+
+pub returns-in-EndV-clause-looks : goal.returns-in-EndV-clause-looks
+returns-in-EndV-clause-looks g c = quiet_looks c.args.code.now (state_of c.args.m.now (g.C.Cells.cells c.args.view.now)) (instr.EndV) c.end_with.result _ _ c.requires.calm (c.requires.at ∙ ap Some c.in-EndV.is) tt c.end_with.ensures.looks
+
+pub returns-in-Exit-clause-looks : goal.returns-in-Exit-clause-looks
+returns-in-Exit-clause-looks g c = quiet_looks c.args.code.now (state_of c.args.m.now (g.C.Cells.cells c.args.view.now)) (instr.Exit c.in-Exit.number) (went.Stopped (stop.Left (leave.Exit c.in-Exit.number))) c.args.m.now.looks c.args.m.now.looks c.requires.calm (c.requires.at ∙ ap Some c.in-Exit.is) tt refl
+
+pub returns-in-Leave-clause-looks : goal.returns-in-Leave-clause-looks
+returns-in-Leave-clause-looks g c = quiet_looks c.args.code.now (state_of c.args.m.now (g.C.Cells.cells c.args.view.now)) (instr.Leave) (went.Stopped (stop.Left (leave.Return None))) c.args.m.now.looks c.args.m.now.looks c.requires.calm (c.requires.at ∙ ap Some c.in-Leave.is) tt refl
+
+pub returns-in-Get-clause-looks : goal.returns-in-Get-clause-looks
+returns-in-Get-clause-looks g c = quiet_looks c.args.code.now (state_of c.args.m.now (g.C.Cells.cells c.args.view.now)) (instr.Get) (went.Stopped (stop.Ask io.Take)) c.args.m.now.looks c.args.m.now.looks c.requires.calm (c.requires.at ∙ ap Some c.in-Get.is) tt refl
+
+pub returns-in-End-clause-looks : goal.returns-in-End-clause-looks
+returns-in-End-clause-looks g c = quiet_looks c.args.code.now (state_of c.args.m.now (g.C.Cells.cells c.args.view.now)) (instr.End) (went.Stopped (stop.Done None)) c.args.m.now.looks c.args.m.now.looks c.requires.calm (c.requires.at ∙ ap Some c.in-End.is) tt refl
+
+pub returns-in-Halt-clause-looks : goal.returns-in-Halt-clause-looks
+returns-in-Halt-clause-looks g c = quiet_looks c.args.code.now (state_of c.args.m.now (g.C.Cells.cells c.args.view.now)) (instr.Halt) (went.Stopped (stop.Done None)) c.args.m.now.looks c.args.m.now.looks c.requires.calm (c.requires.at ∙ ap Some c.in-Halt.is) tt refl
+
+pub returns-in-Turn-clause-looks : goal.returns-in-Turn-clause-looks
+returns-in-Turn-clause-looks g c = same_looks c.args.code.now (state_of c.args.m.now (g.C.Cells.cells c.args.view.now)) instr.Turn c.turn.result _ _ 1 c.requires.calm (c.requires.at ∙ ap Some c.in-Turn.is) refl c.turn.ensures.looks
+
+pub returns-in-Nest-clause-looks : goal.returns-in-Nest-clause-looks
+returns-in-Nest-clause-looks g c = same_looks c.args.code.now (state_of c.args.m.now (g.C.Cells.cells c.args.view.now)) instr.Nest c.nest.result _ _ 1 c.requires.calm (c.requires.at ∙ ap Some c.in-Nest.is) refl c.nest.ensures.looks
+
+pub returns-in-Call-clause-looks : goal.returns-in-Call-clause-looks
+returns-in-Call-clause-looks g c = same_looks c.args.code.now (state_of c.args.m.now (g.C.Cells.cells c.args.view.now)) (instr.Call c.in-Call.number) c.call.result _ _ 1 c.requires.calm (c.requires.at ∙ ap Some c.in-Call.is) (call_looks c.args.code.now c.args.m.now (g.C.Cells.cells c.args.view.now) c.requires.ready c.requires.calm c.in-Call.number (c.requires.at ∙ ap Some c.in-Call.is)) c.call.ensures.looks
+
+pub returns-in-CallAt-clause-looks : goal.returns-in-CallAt-clause-looks
+returns-in-CallAt-clause-looks g c = same_looks c.args.code.now (state_of c.args.m.now (g.C.Cells.cells c.args.view.now)) (instr.CallAt c.in-CallAt.sub c.in-CallAt.cell) c.call_at.result _ _ 1 c.requires.calm (c.requires.at ∙ ap Some c.in-CallAt.is) (window_looks c.args.code.now c.args.m.now (g.C.Cells.cells c.args.view.now) c.requires.ready c.requires.calm c.in-CallAt.sub c.in-CallAt.cell (c.requires.at ∙ ap Some c.in-CallAt.is)) c.call_at.ensures.looks
+
+pub returns-in-Combine-clause-looks : goal.returns-in-Combine-clause-looks
+returns-in-Combine-clause-looks g c = same_looks c.args.code.now (state_of c.args.m.now (g.C.Cells.cells c.args.view.now)) (instr.Combine c.in-Combine.number) c.combine.result _ _ _ c.requires.calm (c.requires.at ∙ ap Some c.in-Combine.is) (combine_looks c.args.code.now c.args.m.now (g.C.Cells.cells c.args.view.now) c.requires.ready c.requires.calm c.in-Combine.number (c.requires.at ∙ ap Some c.in-Combine.is)) c.combine.ensures.looks

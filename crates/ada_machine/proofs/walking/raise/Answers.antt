@@ -1,0 +1,36 @@
+use Rattle.std.proofs.Common.{refl, sym, ap, ◌∙◌, arith}
+use Rattle.stack_code.specs.Looks.{raise_looks}
+use Rattle.ada_machine.specs.States.{more}
+use Rattle.ada_machine.proofs.Walks.{raises_same, handled_on, handled_depth, handled_room, handled_nest, raising_floor, unwound_ready}
+use Rattle.ada_machine.proofs.walking.raise.Goals as goal
+
+pub handle-requires-clause-depth : goal.handle-requires-clause-depth
+handle-requires-clause-depth g c = let d = handled_depth c.args.limit c.args.code.now c.args.m.now c.args.m.now (g.C.Cells.cells c.args.view.now) (g.C.Cells.cells c.args.view.now) c.requires.ready c.args.reason c.in-Some.entry c.requires.raising (sym c.holder.ensures ∙ c.in-Some.is) in omega (arith, d)
+
+pub handle-requires-clause-room : goal.handle-requires-clause-room
+handle-requires-clause-room g c = handled_room c.args.limit c.args.code.now c.args.m.now c.args.m.now (g.C.Cells.cells c.args.view.now) (g.C.Cells.cells c.args.view.now) c.requires.ready c.args.reason c.in-Some.entry c.requires.raising (sym c.holder.ensures ∙ c.in-Some.is)
+
+pub handle-requires-clause-nest : goal.handle-requires-clause-nest
+handle-requires-clause-nest g c = handled_nest c.args.limit c.args.code.now c.args.m.now c.args.m.now (g.C.Cells.cells c.args.view.now) (g.C.Cells.cells c.args.view.now) c.requires.ready c.args.reason c.in-Some.entry c.requires.raising (sym c.holder.ensures ∙ c.in-Some.is)
+
+pub unwind_to-requires-clause-floor : goal.unwind_to-requires-clause-floor
+unwind_to-requires-clause-floor g c = let d = raising_floor c.args.limit c.args.code.now c.args.m.now c.args.m.now (g.C.Cells.cells c.args.view.now) (g.C.Cells.cells c.args.view.now) c.requires.ready c.args.reason c.requires.raising in omega (arith, d)
+
+pub returns-else-asked-clause-steps : goal.returns-else-asked-clause-steps
+returns-else-asked-clause-steps g c =
+    raises_same c.args.limit c.args.code.now c.args.m.now c.handle.new.m (g.C.Cells.cells c.args.view.now) (g.C.Cells.cells c.args.view.now) c.requires.ready _ c.requires.within
+    (handled_on c.args.limit c.args.code.now c.args.m.now c.handle.new.m (g.C.Cells.cells c.args.view.now) (g.C.Cells.cells c.args.view.now) c.requires.ready c.args.reason c.in-Some.entry c.requires.raising (sym c.holder.ensures ∙ c.in-Some.is))
+    (c.handle.ensures.state (g.C.Cells.cells c.args.view.now)) c.handle.ensures.same.0 refl refl refl
+
+pub returns-else-is_empty-clause-steps : goal.returns-else-is_empty-clause-steps
+returns-else-is_empty-clause-steps g c =
+    unwound_ready c.args.limit c.args.code.now c.args.m.now c.unwind_to.new.m (g.C.Cells.cells c.args.view.now) (g.C.Cells.cells c.unwind_to.new.view) c.requires.ready c.args.reason c.requires.within c.requires.raising (sym c.holder.ensures ∙ c.in-None.is) c.unwind_to.ensures.room (c.unwind_to.ensures.state c.args.reason)
+
+pub returns-else-asked-clause-looks : goal.returns-else-asked-clause-looks
+returns-else-asked-clause-looks g c = c.handle.ensures.looks ∙ c.saturating_add-m.ensures ∙ ap (λ o. more c.args.m.now.looks (raise_looks o)) (sym (sym c.holder.ensures ∙ c.in-Some.is))
+
+pub returns-then-is_empty-clause-looks : goal.returns-then-is_empty-clause-looks
+returns-then-is_empty-clause-looks g c = ap (λ o. more c.args.m.now.looks (raise_looks o)) (sym (sym c.holder.ensures ∙ c.in-None.is))
+
+pub returns-else-is_empty-clause-looks : goal.returns-else-is_empty-clause-looks
+returns-else-is_empty-clause-looks g c = c.unwind_to.ensures.looks ∙ ap (λ o. more c.args.m.now.looks (raise_looks o)) (sym (sym c.holder.ensures ∙ c.in-None.is))

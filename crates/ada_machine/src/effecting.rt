@@ -1,0 +1,502 @@
+// The instructions that ask for more than operands and cells.
+ghost use Rattle.std.specs.Prelude.{◌≡◌, ◌+◌, ◌<◌, ◌≤◌, ◌∷◌, ℕ, ℤ, pos, List, Some, None, length, reverse, slice_get, vec_len, vec_capacity};
+ghost use Rattle.ada_base.specs.Cells.{Cell};
+ghost use Rattle.stack_code.specs.Runs.{NeverStuck};
+ghost use Rattle.stack_code.specs.Tops.{IsTopped};
+ghost use Rattle.ada_machine.specs.Places.{Stays};
+ghost use Rattle.ada_machine.specs.Played.{AsksMore};
+ghost use Rattle.stack_code.specs.Looks.{looks_of, kept_looks};
+ghost use Rattle.ada_machine.specs.States.{state_of, Ready, Steps, LooksBy};
+
+use crate::calls::{enter, enter_at, return_to};
+use crate::cells::{Cells, Halt};
+use crate::effects::{begin_construct, begin_turn, end_construct, fail};
+use crate::lines::{add_image, add_padded, add_truth, add_words, ask, give_line};
+use crate::machine::{Machine, Stop, Went};
+use crate::operands::{put, take};
+use ada_base::Reason;
+use stack_code::{Code, CodeSub, Instr, Io, Leave};
+
+// Calls and constructs that may be active (13.7).
+const MOST_CALLS: u32 = 1000;
+
+const MOST_NESTED: u32 = 16;
+
+#[inline(always)]
+pub(crate) fn turn<H: Halt>(code: &Code, m: &mut Machine, limit: u64, halt: &mut H) -> Went
+    requires ready { (cells : List Cell) × Ready code.now m.old cells }
+    requires calm { m.old.raising ≡ None }
+    requires at { slice_get code.now.instrs m.old.pc ≡ Some Instr.Turn }
+    requires within { m.old.turns ≤ limit }
+    requires next { m.old.pc < usize.MAX }
+    ensures steps { (cells : List Cell) → Ready code.now m.old cells → Steps limit code.now result m.old cells m.new cells }
+    ensures paused { result ≡ Went.Stopped Stop.Paused → H.told halt.new }
+    ensures halts { (H.kept halt.new ≡ H.kept halt.old) × (H.told halt.old → H.told halt.new) }
+    ensures looks { LooksBy result m.old.looks m.new.looks 1 }
+{
+    let _ = code;
+    if halt.asked() {
+        return Went::Stopped(Stop::Paused);
+    }
+    if m.turns == limit {
+        m.looks = m.looks.saturating_add(1);
+        return Went::Stopped(Stop::Spent);
+    }
+    m.looks = m.looks.saturating_add(1);
+    begin_turn(m);
+    Went::On
+}
+
+fn unnest(code: &Code, m: &mut Machine, limit: u64) -> Went
+    requires ready { (cells : List Cell) × Ready code.now m.old cells }
+    requires calm { m.old.raising ≡ None }
+    requires at { slice_get code.now.instrs m.old.pc ≡ Some Instr.Unnest }
+    requires within { m.old.turns ≤ limit }
+    requires next { m.old.pc < usize.MAX }
+    ensures steps { (cells : List Cell) → Ready code.now m.old cells → Steps limit code.now result m.old cells m.new cells }
+    ensures paused { result ≡ Went.Stopped Stop.Paused → ⊥ }
+    ensures looks { m.new.looks ≡ m.old.looks }
+{
+    let _ = code;
+    let _ = limit;
+    end_construct(m);
+    Went::On
+}
+
+fn nest<H: Halt>(code: &Code, m: &mut Machine, limit: u64, halt: &mut H) -> Went
+    requires ready { (cells : List Cell) × Ready code.now m.old cells }
+    requires calm { m.old.raising ≡ None }
+    requires at { slice_get code.now.instrs m.old.pc ≡ Some Instr.Nest }
+    requires within { m.old.turns ≤ limit }
+    requires next { m.old.pc < usize.MAX }
+    ensures steps { (cells : List Cell) → Ready code.now m.old cells → Steps limit code.now result m.old cells m.new cells }
+    ensures paused { result ≡ Went.Stopped Stop.Paused → H.told halt.new }
+    ensures halts { (H.kept halt.new ≡ H.kept halt.old) × (H.told halt.old → H.told halt.new) }
+    ensures looks { LooksBy result m.old.looks m.new.looks 1 }
+{
+    let _ = code;
+    let _ = limit;
+    if halt.asked() {
+        return Went::Stopped(Stop::Paused);
+    }
+    if MOST_NESTED <= m.nested {
+        m.looks = m.looks.saturating_add(1);
+        m.raising = Some(Reason::StorageError);
+        return Went::Raising;
+    }
+    m.looks = m.looks.saturating_add(1);
+    begin_construct(m);
+    Went::On
+}
+
+fn leave_with(code: &Code, m: &mut Machine, limit: u64) -> Went
+    requires ready { (cells : List Cell) × Ready code.now m.old cells }
+    requires calm { m.old.raising ≡ None }
+    requires at { slice_get code.now.instrs m.old.pc ≡ Some Instr.LeaveV }
+    requires within { m.old.turns ≤ limit }
+    requires next { m.old.pc < usize.MAX }
+    ensures steps { (cells : List Cell) → Ready code.now m.old cells → Steps limit code.now result m.old cells m.new cells }
+    ensures paused { result ≡ Went.Stopped Stop.Paused → ⊥ }
+    ensures looks { m.new.looks ≡ m.old.looks }
+{
+    let _ = code;
+    let _ = limit;
+    let value = take(&mut m.stack);
+    Went::Stopped(Stop::Left(Leave::Return(Some(value))))
+}
+
+fn end_with(code: &Code, m: &mut Machine, limit: u64) -> Went
+    requires ready { (cells : List Cell) × Ready code.now m.old cells }
+    requires calm { m.old.raising ≡ None }
+    requires at { slice_get code.now.instrs m.old.pc ≡ Some Instr.EndV }
+    requires within { m.old.turns ≤ limit }
+    requires next { m.old.pc < usize.MAX }
+    ensures steps { (cells : List Cell) → Ready code.now m.old cells → Steps limit code.now result m.old cells m.new cells }
+    ensures paused { result ≡ Went.Stopped Stop.Paused → ⊥ }
+    ensures looks { m.new.looks ≡ m.old.looks }
+{
+    let _ = code;
+    let _ = limit;
+    let value = take(&mut m.stack);
+    Went::Stopped(Stop::Done(Some(value)))
+}
+
+fn fork(code: &Code, m: &mut Machine, limit: u64, site: u32) -> Went
+    requires ready { (cells : List Cell) × Ready code.now m.old cells }
+    requires calm { m.old.raising ≡ None }
+    requires at { slice_get code.now.instrs m.old.pc ≡ Some (Instr.Fork site) }
+    requires within { m.old.turns ≤ limit }
+    requires next { m.old.pc < usize.MAX }
+    ensures steps { (cells : List Cell) → Ready code.now m.old cells → Steps limit code.now result m.old cells m.new cells }
+    ensures paused { result ≡ Went.Stopped Stop.Paused → ⊥ }
+    ensures looks { m.new.looks ≡ m.old.looks }
+{
+    let _ = code;
+    let _ = limit;
+    match ask(&mut m.stack, site) {
+        Some(asked) => Went::Stopped(Stop::Construct(asked)),
+        None => {
+            m.raising = Some(Reason::StorageError);
+            Went::Raising
+        }
+    }
+}
+
+fn words(code: &Code, m: &mut Machine, limit: u64, number: u32) -> Went
+    requires ready { (cells : List Cell) × Ready code.now m.old cells }
+    requires calm { m.old.raising ≡ None }
+    requires at { slice_get code.now.instrs m.old.pc ≡ Some (Instr.Words number) }
+    requires within { m.old.turns ≤ limit }
+    requires next { m.old.pc < usize.MAX }
+    ensures steps { (cells : List Cell) → Ready code.now m.old cells → Steps limit code.now result m.old cells m.new cells }
+    ensures paused { result ≡ Went.Stopped Stop.Paused → ⊥ }
+    ensures looks { m.new.looks ≡ m.old.looks }
+{
+    let _ = limit;
+    match code.texts.get(number as usize) {
+        Some(text) => match add_words(m, text.as_slice()) {
+            Ok(()) => Went::On,
+            Err(_) => Went::Stopped(Stop::NoMemory),
+        },
+        None => Went::Stopped(Stop::NoMemory),
+    }
+}
+
+fn put_image(code: &Code, m: &mut Machine, limit: u64) -> Went
+    requires ready { (cells : List Cell) × Ready code.now m.old cells }
+    requires calm { m.old.raising ≡ None }
+    requires at { slice_get code.now.instrs m.old.pc ≡ Some Instr.Img }
+    requires within { m.old.turns ≤ limit }
+    requires next { m.old.pc < usize.MAX }
+    ensures steps { (cells : List Cell) → Ready code.now m.old cells → Steps limit code.now result m.old cells m.new cells }
+    ensures paused { result ≡ Went.Stopped Stop.Paused → ⊥ }
+    ensures looks { m.new.looks ≡ m.old.looks }
+{
+    let _ = code;
+    let _ = limit;
+    match add_image(m) {
+        Ok(()) => Went::On,
+        Err(_) => Went::Stopped(Stop::NoMemory),
+    }
+}
+
+fn put_truth(code: &Code, m: &mut Machine, limit: u64) -> Went
+    requires ready { (cells : List Cell) × Ready code.now m.old cells }
+    requires calm { m.old.raising ≡ None }
+    requires at { slice_get code.now.instrs m.old.pc ≡ Some Instr.Bool }
+    requires within { m.old.turns ≤ limit }
+    requires next { m.old.pc < usize.MAX }
+    ensures steps { (cells : List Cell) → Ready code.now m.old cells → Steps limit code.now result m.old cells m.new cells }
+    ensures paused { result ≡ Went.Stopped Stop.Paused → ⊥ }
+    ensures looks { m.new.looks ≡ m.old.looks }
+{
+    let _ = code;
+    let _ = limit;
+    match add_truth(m) {
+        Ok(()) => Went::On,
+        Err(_) => Went::Stopped(Stop::NoMemory),
+    }
+}
+
+fn put_padded(code: &Code, m: &mut Machine, limit: u64, width: u32) -> Went
+    requires ready { (cells : List Cell) × Ready code.now m.old cells }
+    requires calm { m.old.raising ≡ None }
+    requires at { slice_get code.now.instrs m.old.pc ≡ Some (Instr.Wide width) }
+    requires within { m.old.turns ≤ limit }
+    requires next { m.old.pc < usize.MAX }
+    ensures steps { (cells : List Cell) → Ready code.now m.old cells → Steps limit code.now result m.old cells m.new cells }
+    ensures paused { result ≡ Went.Stopped Stop.Paused → ⊥ }
+    ensures looks { m.new.looks ≡ m.old.looks }
+{
+    let _ = code;
+    let _ = limit;
+    match add_padded(m, width) {
+        Ok(()) => Went::On,
+        Err(_) => Went::Stopped(Stop::NoMemory),
+    }
+}
+
+fn send(code: &Code, m: &mut Machine, limit: u64) -> Went
+    requires ready { (cells : List Cell) × Ready code.now m.old cells }
+    requires calm { m.old.raising ≡ None }
+    requires at { slice_get code.now.instrs m.old.pc ≡ Some Instr.Send }
+    requires within { m.old.turns ≤ limit }
+    requires next { m.old.pc < usize.MAX }
+    ensures steps { (cells : List Cell) → Ready code.now m.old cells → Steps limit code.now result m.old cells m.new cells }
+    ensures paused { result ≡ Went.Stopped Stop.Paused → ⊥ }
+    ensures looks { m.new.looks ≡ m.old.looks }
+{
+    let _ = code;
+    let _ = limit;
+    match give_line(m, false) {
+        Ok(text) => Went::Stopped(Stop::Ask(Io::Write(text))),
+        Err(_) => Went::Stopped(Stop::NoMemory),
+    }
+}
+
+fn send_line(code: &Code, m: &mut Machine, limit: u64) -> Went
+    requires ready { (cells : List Cell) × Ready code.now m.old cells }
+    requires calm { m.old.raising ≡ None }
+    requires at { slice_get code.now.instrs m.old.pc ≡ Some Instr.SendLn }
+    requires within { m.old.turns ≤ limit }
+    requires next { m.old.pc < usize.MAX }
+    ensures steps { (cells : List Cell) → Ready code.now m.old cells → Steps limit code.now result m.old cells m.new cells }
+    ensures paused { result ≡ Went.Stopped Stop.Paused → ⊥ }
+    ensures looks { m.new.looks ≡ m.old.looks }
+{
+    let _ = code;
+    let _ = limit;
+    match give_line(m, true) {
+        Ok(text) => Went::Stopped(Stop::Ask(Io::Write(text))),
+        Err(_) => Went::Stopped(Stop::NoMemory),
+    }
+}
+
+fn return_plain<C: Cells>(code: &Code, m: &mut Machine, view: &mut C, limit: u64) -> Went
+    requires ready { Ready code.now m.old (C.cells view.old) }
+    requires calm { m.old.raising ≡ None }
+    requires at { slice_get code.now.instrs m.old.pc ≡ Some Instr.Ret }
+    requires within { m.old.turns ≤ limit }
+    requires next { m.old.pc < usize.MAX }
+    requires whole { C.whole view.old }
+    requires tops { IsTopped (C.floor view.old) (state_of m.old (C.cells view.old)) }
+    ensures steps { Steps limit code.now result m.old (C.cells view.old) m.new (C.cells view.new) }
+    ensures paused { result ≡ Went.Stopped Stop.Paused → ⊥ }
+    ensures stays { Stays C.floor C.whole C.place view.old view.new }
+    ensures looks { m.new.looks ≡ m.old.looks }
+{
+    let _ = code;
+    let _ = limit;
+    return_to(m, view, None);
+    Went::On
+}
+
+fn return_value<C: Cells>(code: &Code, m: &mut Machine, view: &mut C, limit: u64) -> Went
+    requires ready { Ready code.now m.old (C.cells view.old) }
+    requires calm { m.old.raising ≡ None }
+    requires at { slice_get code.now.instrs m.old.pc ≡ Some Instr.RetV }
+    requires within { m.old.turns ≤ limit }
+    requires next { m.old.pc < usize.MAX }
+    requires whole { C.whole view.old }
+    requires tops { IsTopped (C.floor view.old) (state_of m.old (C.cells view.old)) }
+    ensures steps { Steps limit code.now result m.old (C.cells view.old) m.new (C.cells view.new) }
+    ensures paused { result ≡ Went.Stopped Stop.Paused → ⊥ }
+    ensures stays { Stays C.floor C.whole C.place view.old view.new }
+    ensures looks { m.new.looks ≡ m.old.looks }
+{
+    let _ = code;
+    let _ = limit;
+    let value = take(&mut m.stack);
+    return_to(m, view, Some(value));
+    Went::On
+}
+
+fn sub_of(code: &Code, number: u32) -> CodeSub
+    requires { number < length code.now.subs }
+    ensures { slice_get code.now.subs number ≡ Some result }
+{
+    code.subs.as_slice()[number as usize]
+}
+
+fn call<C: Cells, H: Halt>(
+    code: &Code,
+    m: &mut Machine,
+    view: &mut C,
+    limit: u64,
+    halt: &mut H,
+    number: u32,
+) -> Went
+    requires ready { Ready code.now m.old (C.cells view.old) }
+    requires calm { m.old.raising ≡ None }
+    requires at { slice_get code.now.instrs m.old.pc ≡ Some (Instr.Call number) }
+    requires within { m.old.turns ≤ limit }
+    requires next { m.old.pc < usize.MAX }
+    requires whole { C.whole view.old }
+    ensures steps { Steps limit code.now result m.old (C.cells view.old) m.new (C.cells view.new) }
+    ensures paused { result ≡ Went.Stopped Stop.Paused → H.told halt.new }
+    ensures halts { (H.kept halt.new ≡ H.kept halt.old) × (H.told halt.old → H.told halt.new) }
+    ensures stays { Stays C.floor C.whole C.place view.old view.new }
+    ensures looks { LooksBy result m.old.looks m.new.looks 1 }
+{
+    if halt.asked() {
+        return Went::Stopped(Stop::Paused);
+    }
+    if m.turns == limit {
+        m.looks = m.looks.saturating_add(1);
+        return Went::Stopped(Stop::Spent);
+    }
+    let callee = sub_of(code, number);
+    if MOST_CALLS <= m.calls {
+        let height = m.stack.len() - callee.takes as usize;
+        m.turns += 1;
+        m.looks = m.looks.saturating_add(1);
+        fail(m, Reason::StorageError, height);
+        return Went::Raising;
+    }
+    let to = m.pc + 1;
+    match enter(m, view, callee, to) {
+        Ok(()) => {
+            m.looks = m.looks.saturating_add(1);
+            Went::On
+        }
+        Err(_) => Went::Stopped(Stop::NoMemory),
+    }
+}
+
+// A subprogram, and the cell of the own frame at which its frame begins.
+#[derive(Clone, Copy)]
+struct Window {
+    sub: u32,
+    cell: u32,
+}
+
+// A call of a subprogram whose frame begins at a cell of the own one.
+fn call_at<C: Cells, H: Halt>(
+    code: &Code,
+    m: &mut Machine,
+    view: &mut C,
+    limit: u64,
+    halt: &mut H,
+    window: Window,
+) -> Went
+    requires ready { Ready code.now m.old (C.cells view.old) }
+    requires calm { m.old.raising ≡ None }
+    requires at { slice_get code.now.instrs m.old.pc ≡ Some (Instr.CallAt window.sub window.cell) }
+    requires within { m.old.turns ≤ limit }
+    requires next { m.old.pc < usize.MAX }
+    requires whole { C.whole view.old }
+    ensures steps { Steps limit code.now result m.old (C.cells view.old) m.new (C.cells view.new) }
+    ensures paused { result ≡ Went.Stopped Stop.Paused → H.told halt.new }
+    ensures halts { (H.kept halt.new ≡ H.kept halt.old) × (H.told halt.old → H.told halt.new) }
+    ensures stays { Stays C.floor C.whole C.place view.old view.new }
+    ensures looks { LooksBy result m.old.looks m.new.looks 1 }
+{
+    if halt.asked() {
+        return Went::Stopped(Stop::Paused);
+    }
+    if m.turns == limit {
+        m.looks = m.looks.saturating_add(1);
+        return Went::Stopped(Stop::Spent);
+    }
+    let callee = sub_of(code, window.sub);
+    if MOST_CALLS <= m.calls {
+        m.turns += 1;
+        m.looks = m.looks.saturating_add(1);
+        m.raising = Some(Reason::StorageError);
+        return Went::Raising;
+    }
+    match enter_at(m, view, callee, window.cell) {
+        Ok(()) => {
+            m.looks = m.looks.saturating_add(1);
+            Went::On
+        }
+        Err(_) => Went::Stopped(Stop::NoMemory),
+    }
+}
+
+fn combine<C: Cells, H: Halt>(
+    code: &Code,
+    m: &mut Machine,
+    view: &mut C,
+    limit: u64,
+    halt: &mut H,
+    number: u32,
+) -> Went
+    requires ready { Ready code.now m.old (C.cells view.old) }
+    requires calm { m.old.raising ≡ None }
+    requires at { slice_get code.now.instrs m.old.pc ≡ Some (Instr.Combine number) }
+    requires within { m.old.turns ≤ limit }
+    requires next { m.old.pc < usize.MAX }
+    requires whole { C.whole view.old }
+    ensures steps { Steps limit code.now result m.old (C.cells view.old) m.new (C.cells view.new) }
+    ensures paused { result ≡ Went.Stopped Stop.Paused → H.told halt.new }
+    ensures halts { (H.kept halt.new ≡ H.kept halt.old) × (H.told halt.old → H.told halt.new) }
+    ensures stays { Stays C.floor C.whole C.place view.old view.new }
+    ensures looks { LooksBy result m.old.looks m.new.looks (kept_looks (reverse m.old.kept.items)) }
+{
+    if m.kept.len() == 0 {
+        m.pc += 1;
+        return Went::On;
+    }
+    if halt.asked() {
+        return Went::Stopped(Stop::Paused);
+    }
+    if m.turns == limit {
+        m.looks = m.looks.saturating_add(1);
+        return Went::Stopped(Stop::Spent);
+    }
+    let callee = sub_of(code, number);
+    if MOST_CALLS <= m.calls {
+        let height = m.stack.len() - 1;
+        m.turns += 1;
+        m.looks = m.looks.saturating_add(1);
+        fail(m, Reason::StorageError, height);
+        return Went::Raising;
+    }
+    if m.stack.reserve(1).is_err() {
+        return Went::Stopped(Stop::NoMemory);
+    }
+    let part = m.kept.take_last();
+    put(&mut m.stack, part);
+    let to = m.pc;
+    match enter(m, view, callee, to) {
+        Ok(()) => {
+            m.looks = m.looks.saturating_add(1);
+            Went::On
+        }
+        Err(_) => {
+            let _ = take(&mut m.stack);
+            m.kept.push_reserved(part);
+            Went::Stopped(Stop::NoMemory)
+        }
+    }
+}
+
+pub(crate) fn effect<C: Cells, H: Halt>(
+    code: &Code,
+    m: &mut Machine,
+    view: &mut C,
+    limit: u64,
+    halt: &mut H,
+    instr: Instr,
+) -> Went
+    requires ready { Ready code.now m.old (C.cells view.old) }
+    requires calm { m.old.raising ≡ None }
+    requires at { slice_get code.now.instrs m.old.pc ≡ Some instr }
+    requires more { AsksMore instr }
+    requires within { m.old.turns ≤ limit }
+    requires next { m.old.pc < usize.MAX }
+    requires whole { C.whole view.old }
+    requires tops { IsTopped (C.floor view.old) (state_of m.old (C.cells view.old)) }
+    ensures steps { Steps limit code.now result m.old (C.cells view.old) m.new (C.cells view.new) }
+    ensures paused { result ≡ Went.Stopped Stop.Paused → H.told halt.new }
+    ensures halts { (H.kept halt.new ≡ H.kept halt.old) × (H.told halt.old → H.told halt.new) }
+    ensures stays { Stays C.floor C.whole C.place view.old view.new }
+    ensures looks { LooksBy result m.old.looks m.new.looks (looks_of code.now (state_of m.old (C.cells view.old))) }
+{
+    match instr {
+        Instr::Turn => turn(code, m, limit, halt),
+        Instr::Call(number) => call(code, m, view, limit, halt, number),
+        Instr::CallAt(sub, cell) => { call_at(code, m, view, limit, halt, Window { sub, cell }) }
+        Instr::Ret => return_plain(code, m, view, limit),
+        Instr::RetV => return_value(code, m, view, limit),
+        Instr::Exit(number) => Went::Stopped(Stop::Left(Leave::Exit(number))),
+        Instr::Leave => Went::Stopped(Stop::Left(Leave::Return(None))),
+        Instr::LeaveV => leave_with(code, m, limit),
+        Instr::Fork(site) => fork(code, m, limit, site),
+        Instr::Nest => nest(code, m, limit, halt),
+        Instr::Unnest => unnest(code, m, limit),
+        Instr::Words(number) => words(code, m, limit, number),
+        Instr::Img => put_image(code, m, limit),
+        Instr::Bool => put_truth(code, m, limit),
+        Instr::Wide(width) => put_padded(code, m, limit, width),
+        Instr::Send => send(code, m, limit),
+        Instr::SendLn => send_line(code, m, limit),
+        Instr::Get => Went::Stopped(Stop::Ask(Io::Take)),
+        Instr::End => Went::Stopped(Stop::Done(None)),
+        Instr::EndV => end_with(code, m, limit),
+        Instr::Halt => Went::Stopped(Stop::Done(None)),
+        Instr::Combine(number) => combine(code, m, view, limit, halt, number),
+        _ => Went::Stopped(Stop::NoMemory),
+    }
+}

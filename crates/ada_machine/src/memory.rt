@@ -1,0 +1,314 @@
+// The instructions that read and write cells, by class.
+ghost use Rattle.std.specs.Prelude.{◌≡◌, ◌+◌, ◌-◌, ◌^◌, ◌<◌, ◌≤◌, ◌-ℤ◌, ◌+ℤ◌, ◌*ℤ◌, ◌≤ℤ◌, ◌∷◌, reverse, length, vec_len, vec_capacity, Option, Some, None, SomeIff, FitsSigned, IsSome, IsSomeAnd, pos, ℤ, int_lt, List, replicate, slice_get, slice_index, EachIndex};
+ghost use Rattle.std.specs.Int.{w64};
+ghost use Rattle.ada_base.specs.Cells.{seen, written};
+ghost use Rattle.stack_code.specs.Deeds.{on_one, on_two, unary, binary, load_from, store_to, item_at, stepped, indexed, loads_all, stores_all, Loads, Stores, GoesOn};
+ghost use Rattle.ada_machine.specs.Places.{Stays};
+ghost use Rattle.ada_machine.specs.Played.{cell_of, IsClear, IsPlaced, ComputesOr, Plays, PlaysOr};
+
+use crate::cells::Cells;
+use crate::operands::{Computed, is_between, put, take};
+use ada_base::Reason;
+
+#[inline(always)]
+pub(crate) fn cell_of(at: i64) -> u64
+    ensures { result ≡ cell_of at }
+{
+    at.cast_unsigned()
+}
+
+#[inline(always)]
+#[tactic(auto, using(crate::proofs::Memories::seen_at))]
+fn read_at<C: Cells>(view: &C, at: i64) -> i64
+    requires { IsSome (seen (C.cells view.now) at) }
+    ensures { seen (C.cells view.now) at ≡ Some result }
+{
+    view.get(cell_of(at))
+}
+
+#[inline(always)]
+#[tactic(auto, using(crate::proofs::Memories::written_at))]
+fn write_at<C: Cells>(view: &mut C, at: i64, value: i64)
+    requires { IsSome (written (C.cells view.old) at value) }
+    ensures done { written (C.cells view.old) at value ≡ Some (C.cells view.new) }
+    ensures stays { Stays C.floor C.whole C.place view.old view.new }
+{
+    view.set(cell_of(at), value);
+}
+
+#[inline(always)]
+#[tactic(auto, using(crate::proofs::Memories::load_clear, crate::proofs::Memories::load_plays))]
+pub(crate) fn load<C: Cells>(stack: &mut Vec<i64>, pc: usize, view: &C) -> Computed
+    requires one { 1 ≤ vec_len stack.old }
+    requires room { vec_len stack.old ≤ vec_capacity stack.old }
+    requires clear { IsClear (on_one (reverse stack.old.items) (λ a st. load_from pc st a)) (C.cells view.now) }
+    requires next { pc < usize.MAX }
+    ensures deed { Plays (on_one (reverse stack.old.items) (λ a st. load_from pc st a)) result stack.new.items (C.cells view.now) (C.cells view.now) }
+    ensures room { vec_capacity stack.new ≡ vec_capacity stack.old }
+{
+    let at = take(stack);
+    let value = read_at(view, at);
+    put(stack, value);
+    Computed::To(pc + 1)
+}
+
+#[inline(always)]
+#[tactic(auto, using(crate::proofs::Memories::cell_clear, crate::proofs::Memories::load_cell_plays))]
+pub(crate) fn load_cell<C: Cells>(stack: &mut Vec<i64>, pc: usize, view: &C, at: u64) -> Computed
+    requires room { vec_len stack.old < vec_capacity stack.old }
+    requires clear { IsClear (load_from pc (reverse stack.old.items) (pos at)) (C.cells view.now) }
+    requires next { pc < usize.MAX }
+    ensures deed { Plays (load_from pc (reverse stack.old.items) (pos at)) result stack.new.items (C.cells view.now) (C.cells view.now) }
+    ensures room { vec_capacity stack.new ≡ vec_capacity stack.old }
+{
+    let value = view.get(at);
+    put(stack, value);
+    Computed::To(pc + 1)
+}
+
+#[inline(always)]
+#[tactic(auto, using(crate::proofs::Memories::store_clear, crate::proofs::Memories::store_plays))]
+pub(crate) fn store<C: Cells>(stack: &mut Vec<i64>, pc: usize, view: &mut C) -> Computed
+    requires two { 2 ≤ vec_len stack.old }
+    requires clear { IsClear (on_two (reverse stack.old.items) (λ a v st. Stores a v (GoesOn (pc + 1) st))) (C.cells view.old) }
+    requires next { pc < usize.MAX }
+    ensures deed { Plays (on_two (reverse stack.old.items) (λ a v st. Stores a v (GoesOn (pc + 1) st))) result stack.new.items (C.cells view.old) (C.cells view.new) }
+    ensures room { vec_capacity stack.new ≡ vec_capacity stack.old }
+    ensures stays { Stays C.floor C.whole C.place view.old view.new }
+{
+    let value = take(stack);
+    let at = take(stack);
+    write_at(view, at, value);
+    Computed::To(pc + 1)
+}
+
+#[inline(always)]
+#[tactic(auto, using(crate::proofs::Memories::store_cell_clear, crate::proofs::Memories::store_cell_plays))]
+pub(crate) fn store_cell<C: Cells>(
+    stack: &mut Vec<i64>,
+    pc: usize,
+    view: &mut C,
+    at: u64,
+) -> Computed
+    requires one { 1 ≤ vec_len stack.old }
+    requires clear { IsClear (store_to pc (reverse stack.old.items) (pos at)) (C.cells view.old) }
+    requires next { pc < usize.MAX }
+    ensures deed { Plays (store_to pc (reverse stack.old.items) (pos at)) result stack.new.items (C.cells view.old) (C.cells view.new) }
+    ensures room { vec_capacity stack.new ≡ vec_capacity stack.old }
+    ensures stays { Stays C.floor C.whole C.place view.old view.new }
+{
+    let value = take(stack);
+    view.set(at, value);
+    Computed::To(pc + 1)
+}
+
+// ---- addresses of components
+
+// An address moved to a component, where 64 bits hold it.
+#[inline(always)]
+fn component(address: i64, low: i64, index: i64, size: u32) -> Option<i64>
+    requires { low ≤ℤ index }
+    ensures { SomeIff result (FitsSigned w64 (address +ℤ ((index -ℤ low) *ℤ pos size))) (address +ℤ ((index -ℤ low) *ℤ pos size)) }
+{
+    let cells = index.abs_diff(low).checked_mul(u64::from(size))?;
+    address.checked_add_unsigned(cells)
+}
+
+// Where the component with an index stands; or the index is outside, or the address isn't in 64 bits.
+#[derive(Clone, Copy)]
+pub enum Placed {
+    At(i64),
+    Outside,
+    Beyond,
+}
+
+#[inline(always)]
+#[tactic(auto, using(crate::proofs::Memories::placed_in, crate::proofs::Memories::placed_far, crate::proofs::Memories::placed_out))]
+fn place(address: i64, low: i64, high: i64, index: i64, size: u32) -> Placed
+    ensures { IsPlaced (indexed low high size address index) result }
+{
+    if is_between(low, index, high) {
+        match component(address, low, index, size) {
+            Some(to) => Placed::At(to),
+            None => Placed::Beyond,
+        }
+    } else {
+        Placed::Outside
+    }
+}
+
+#[inline(always)]
+#[tactic(auto, using(crate::proofs::Memories::index_at, crate::proofs::Memories::index_far, crate::proofs::Memories::index_out))]
+pub(crate) fn index(stack: &mut Vec<i64>, pc: usize, low: i64, high: i64, size: u32) -> Computed
+    requires two { 2 ≤ vec_len stack.old }
+    requires next { pc < usize.MAX }
+    ensures deed { ComputesOr (binary pc (reverse stack.old.items) (λ a i. indexed low high size a i)) result stack.old.items stack.new.items }
+    ensures room { vec_capacity stack.new ≡ vec_capacity stack.old }
+{
+    let number = take(stack);
+    let address = take(stack);
+    match place(address, low, high, number, size) {
+        Placed::At(to) => {
+            put(stack, to);
+            Computed::To(pc + 1)
+        }
+        Placed::Outside => Computed::Failed(Reason::ConstraintError),
+        Placed::Beyond => {
+            put(stack, address);
+            put(stack, number);
+            Computed::Beyond
+        }
+    }
+}
+
+#[inline(always)]
+#[tactic(auto, using(crate::proofs::Memories::cell_clear, crate::proofs::Memories::index_cell_at, crate::proofs::Memories::index_cell_far, crate::proofs::Memories::index_cell_out))]
+pub(crate) fn index_cell<C: Cells>(
+    stack: &mut Vec<i64>,
+    pc: usize,
+    view: &C,
+    at: u64,
+    low: i64,
+    high: i64,
+    size: u32,
+) -> Computed
+    requires one { 1 ≤ vec_len stack.old }
+    requires clear { IsClear (Loads (pos at) (λ i. unary pc (reverse stack.old.items) (λ a. indexed low high size a i))) (C.cells view.now) }
+    requires next { pc < usize.MAX }
+    ensures deed { PlaysOr (Loads (pos at) (λ i. unary pc (reverse stack.old.items) (λ a. indexed low high size a i))) result stack.old.items stack.new.items (C.cells view.now) (C.cells view.now) }
+    ensures room { vec_capacity stack.new ≡ vec_capacity stack.old }
+{
+    let number = view.get(at);
+    let address = take(stack);
+    match place(address, low, high, number, size) {
+        Placed::At(to) => {
+            put(stack, to);
+            Computed::To(pc + 1)
+        }
+        Placed::Outside => Computed::Failed(Reason::ConstraintError),
+        Placed::Beyond => {
+            put(stack, address);
+            Computed::Beyond
+        }
+    }
+}
+
+#[inline(always)]
+#[tactic(auto, using(crate::proofs::Memories::item_clear, crate::proofs::Memories::item_at_cell, crate::proofs::Memories::item_far, crate::proofs::Memories::item_out))]
+pub(crate) fn item<C: Cells>(
+    stack: &mut Vec<i64>,
+    pc: usize,
+    view: &C,
+    low: i64,
+    high: i64,
+    size: u32,
+) -> Computed
+    requires two { 2 ≤ vec_len stack.old }
+    requires clear { IsClear (on_two (reverse stack.old.items) (λ a i st. item_at pc (indexed low high size a i) st)) (C.cells view.now) }
+    requires next { pc < usize.MAX }
+    ensures deed { PlaysOr (on_two (reverse stack.old.items) (λ a i st. item_at pc (indexed low high size a i) st)) result stack.old.items stack.new.items (C.cells view.now) (C.cells view.now) }
+    ensures room { vec_capacity stack.new ≡ vec_capacity stack.old }
+{
+    let number = take(stack);
+    let address = take(stack);
+    match place(address, low, high, number, size) {
+        Placed::At(to) => {
+            let value = read_at(view, to);
+            put(stack, value);
+            Computed::To(pc + 1)
+        }
+        Placed::Outside => Computed::Failed(Reason::ConstraintError),
+        Placed::Beyond => {
+            put(stack, address);
+            put(stack, number);
+            Computed::Beyond
+        }
+    }
+}
+
+#[inline(always)]
+#[tactic(auto, using(crate::proofs::Memories::cell_clear, crate::proofs::Memories::item_cell_clear, crate::proofs::Memories::item_cell_at, crate::proofs::Memories::item_cell_far, crate::proofs::Memories::item_cell_out))]
+pub(crate) fn item_cell<C: Cells>(
+    stack: &mut Vec<i64>,
+    pc: usize,
+    view: &C,
+    at: u64,
+    low: i64,
+    high: i64,
+    size: u32,
+) -> Computed
+    requires one { 1 ≤ vec_len stack.old }
+    requires clear { IsClear (Loads (pos at) (λ i. on_one (reverse stack.old.items) (λ a st. item_at pc (indexed low high size a i) st))) (C.cells view.now) }
+    requires next { pc < usize.MAX }
+    ensures deed { PlaysOr (Loads (pos at) (λ i. on_one (reverse stack.old.items) (λ a st. item_at pc (indexed low high size a i) st))) result stack.old.items stack.new.items (C.cells view.now) (C.cells view.now) }
+    ensures room { vec_capacity stack.new ≡ vec_capacity stack.old }
+{
+    let number = view.get(at);
+    let address = take(stack);
+    match place(address, low, high, number, size) {
+        Placed::At(to) => {
+            let value = read_at(view, to);
+            put(stack, value);
+            Computed::To(pc + 1)
+        }
+        Placed::Outside => Computed::Failed(Reason::ConstraintError),
+        Placed::Beyond => {
+            put(stack, address);
+            Computed::Beyond
+        }
+    }
+}
+
+// ---- the ends of turns of counting loops
+
+#[inline(always)]
+#[tactic(auto, using(crate::proofs::Memories::step_first, crate::proofs::Memories::step_second, crate::proofs::Memories::next_third, crate::proofs::Memories::next_back, crate::proofs::Memories::next_on))]
+pub(crate) fn next<C: Cells>(
+    stack: &Vec<i64>,
+    pc: usize,
+    view: &mut C,
+    counter: u64,
+    last: u64,
+    to: u32,
+) -> Computed
+    requires clear { IsClear (Loads (pos counter) (λ x. Loads (pos last) (λ y. stepped pc (reverse stack.now.items) (pos counter) (int_lt x y) (x +ℤ pos 1) to))) (C.cells view.old) }
+    requires next { pc < usize.MAX }
+    ensures done { Plays (Loads (pos counter) (λ x. Loads (pos last) (λ y. stepped pc (reverse stack.now.items) (pos counter) (int_lt x y) (x +ℤ pos 1) to))) result stack.now.items (C.cells view.old) (C.cells view.new) }
+    ensures stays { Stays C.floor C.whole C.place view.old view.new }
+{
+    let _ = stack;
+    let x = view.get(counter);
+    let y = view.get(last);
+    if x < y {
+        view.set(counter, x + 1);
+        Computed::To(to as usize)
+    } else {
+        Computed::To(pc + 1)
+    }
+}
+
+#[inline(always)]
+#[tactic(auto, using(crate::proofs::Memories::step_first, crate::proofs::Memories::step_second, crate::proofs::Memories::prior_third, crate::proofs::Memories::prior_back, crate::proofs::Memories::prior_on))]
+pub(crate) fn prior<C: Cells>(
+    stack: &Vec<i64>,
+    pc: usize,
+    view: &mut C,
+    counter: u64,
+    last: u64,
+    to: u32,
+) -> Computed
+    requires clear { IsClear (Loads (pos counter) (λ x. Loads (pos last) (λ y. stepped pc (reverse stack.now.items) (pos counter) (int_lt y x) (x -ℤ pos 1) to))) (C.cells view.old) }
+    requires next { pc < usize.MAX }
+    ensures done { Plays (Loads (pos counter) (λ x. Loads (pos last) (λ y. stepped pc (reverse stack.now.items) (pos counter) (int_lt y x) (x -ℤ pos 1) to))) result stack.now.items (C.cells view.old) (C.cells view.new) }
+    ensures stays { Stays C.floor C.whole C.place view.old view.new }
+{
+    let _ = stack;
+    let x = view.get(counter);
+    let y = view.get(last);
+    if y < x {
+        view.set(counter, x - 1);
+        Computed::To(to as usize)
+    } else {
+        Computed::To(pc + 1)
+    }
+}

@@ -1,0 +1,665 @@
+// The operand stack: a vector whose last item is the top, with room for the greatest height of its body.
+ghost use Rattle.std.specs.Prelude.{◌≡◌, ◌+◌, ◌^◌, ◌<◌, ◌≤◌, ◌-ℤ◌, ◌+ℤ◌, ◌*ℤ◌, ◌≤ℤ◌, ◌∷◌, reverse, length, vec_len, vec_capacity, Option, Some, None, IfSome, pos, nat_abs, ℤ, cond, slice_get, slice_index, not};
+ghost use Rattle.std.specs.Int.{int_max, int_min};
+ghost use Rattle.ada_base.specs.Operation.{is_in_base, within, result_of, CanApply, AreOperands};
+ghost use Rattle.stack_code.specs.Deeds.{applied, is_related, digits_of, is_between, truth, differ, bit, pushed, unary, binary, unless, cell_of_frame, on_one, on_two, if_between, indexed, unless_divisor_zero, value_or_zero, reason_of, GoesOn, Fails};
+ghost use Rattle.ada_machine.specs.Played.{Computes, ComputesOr, IsReason};
+
+use ada_base::{Base, Op, Reason, apply};
+use stack_code::{Digits, Relation};
+
+/// What an instruction came to: it goes on there, or raises an exception; or a number isn't in 64 bits, or the
+/// instruction asks for more than operands and cells.
+#[derive(Clone, Copy)]
+pub enum Computed {
+    To(usize),
+    Failed(Reason),
+    Beyond,
+    Other,
+}
+
+#[inline(always)]
+pub(crate) fn put(stack: &mut Vec<i64>, value: i64)
+    requires { vec_len stack.old < vec_capacity stack.old }
+    ensures top { reverse stack.new.items ≡ value ∷ reverse stack.old.items }
+    ensures room { vec_capacity stack.new ≡ vec_capacity stack.old }
+{
+    stack.push_reserved(value);
+}
+
+#[inline(always)]
+pub(crate) fn take(stack: &mut Vec<i64>) -> i64
+    requires { 0 < vec_len stack.old }
+    ensures top { reverse stack.old.items ≡ result ∷ reverse stack.new.items }
+    ensures len { vec_len stack.old ≡ vec_len stack.new + 1 }
+    ensures room { vec_capacity stack.new ≡ vec_capacity stack.old }
+{
+    stack.take_last()
+}
+
+// Pushes the value, or raises Constraint_Error where there is none.
+#[inline(always)]
+pub(crate) fn settle(stack: &mut Vec<i64>, pc: usize, value: Option<i64>) -> Computed
+    requires room { vec_len stack.old < vec_capacity stack.old }
+    requires next { pc < usize.MAX }
+    ensures deed { Computes (pushed pc value (reverse stack.old.items)) result stack.new.items }
+    ensures room { vec_capacity stack.new ≡ vec_capacity stack.old }
+{
+    match value {
+        Some(v) => {
+            put(stack, v);
+            Computed::To(pc + 1)
+        }
+        None => Computed::Failed(Reason::ConstraintError),
+    }
+}
+
+#[inline(always)]
+fn is_in_base(base: Base, value: i64) -> bool
+    ensures { result ≡ is_in_base base value }
+{
+    match base {
+        Base::Narrow => -2_147_483_648 <= value && value <= 2_147_483_647,
+        Base::Wide => true,
+    }
+}
+
+#[inline(always)]
+pub(crate) fn is_between(low: i64, value: i64, high: i64) -> bool
+    ensures { result ≡ is_between low value high }
+{
+    low <= value && value <= high
+}
+
+#[inline(always)]
+fn within(base: Base, value: Option<i64>) -> Option<i64>
+    ensures { result ≡ within base value }
+{
+    match value {
+        Some(v) => { if is_in_base(base, v) { Some(v) } else { None } }
+        None => None,
+    }
+}
+
+#[inline(always)]
+fn sum(base: Base, x: i64, y: i64) -> Option<i64>
+    ensures { result ≡ applied Op.Add base x y }
+{
+    within(base, x.checked_add(y))
+}
+
+#[inline(always)]
+fn difference(base: Base, x: i64, y: i64) -> Option<i64>
+    ensures { result ≡ applied Op.Sub base x y }
+{
+    within(base, x.checked_sub(y))
+}
+
+#[inline(always)]
+fn product(base: Base, x: i64, y: i64) -> Option<i64>
+    ensures { result ≡ applied Op.Mul base x y }
+{
+    within(base, x.checked_mul(y))
+}
+
+fn result_of(op: Op, base: Base, x: i64, y: i64) -> Option<i64>
+    requires { AreOperands op x y }
+    ensures { result ≡ result_of op base x y }
+{
+    let value = apply(op, Base::Wide, x, y)?;
+    if is_in_base(base, value) {
+        Some(value)
+    } else {
+        None
+    }
+}
+
+fn quotient(base: Base, x: i64, y: i64) -> Option<i64>
+    ensures { result ≡ applied Op.Div base x y }
+{
+    result_of(Op::Div, base, x, y)
+}
+
+fn power(base: Base, x: i64, y: i64) -> Option<i64>
+    ensures { result ≡ applied Op.Pow base x y }
+{
+    result_of(Op::Pow, base, x, y)
+}
+
+fn modulus(base: Base, x: i64, y: i64) -> Option<i64>
+    ensures { result ≡ applied Op.Mod base x y }
+{
+    if truth(y) {
+        Some(value_or_zero(result_of(Op::Mod, base, x, y)))
+    } else {
+        None
+    }
+}
+
+fn remainder(base: Base, x: i64, y: i64) -> Option<i64>
+    ensures { result ≡ applied Op.Rem base x y }
+{
+    if truth(y) {
+        Some(value_or_zero(result_of(Op::Rem, base, x, y)))
+    } else {
+        None
+    }
+}
+
+fn value_or_zero(value: Option<i64>) -> i64
+    ensures { result ≡ value_or_zero value }
+{
+    match value {
+        Some(v) => v,
+        None => 0,
+    }
+}
+
+/// The operation, or None where it raises Constraint_Error.
+#[inline(always)]
+fn applied(op: Op, base: Base, x: i64, y: i64) -> Option<i64>
+    requires { AreOperands op x y }
+    ensures { result ≡ applied op base x y }
+{
+    match op {
+        Op::Add => sum(base, x, y),
+        Op::Sub => difference(base, x, y),
+        Op::Mul => product(base, x, y),
+        Op::Div => quotient(base, x, y),
+        Op::Pow => power(base, x, y),
+        Op::Mod => modulus(base, x, y),
+        Op::Rem => remainder(base, x, y),
+        Op::And => result_of(Op::And, base, x, y),
+        Op::Or => result_of(Op::Or, base, x, y),
+        Op::Xor => result_of(Op::Xor, base, x, y),
+        Op::Min => result_of(Op::Min, base, x, y),
+        Op::Max => result_of(Op::Max, base, x, y),
+    }
+}
+
+#[inline(always)]
+fn truth(value: i64) -> bool
+    ensures { result ≡ truth value }
+{
+    value != 0
+}
+
+#[inline(always)]
+fn is_related(relation: Relation, x: i64, y: i64) -> bool
+    ensures { result ≡ is_related relation x y }
+{
+    match relation {
+        Relation::Equal => x <= y && y <= x,
+        Relation::Unequal => !(x <= y && y <= x),
+        Relation::Less => x < y,
+        Relation::AtMost => x <= y,
+        Relation::Greater => y < x,
+        Relation::AtLeast => y <= x,
+    }
+}
+
+#[inline(always)]
+fn digits_of(digits: Digits, x: i64, y: i64) -> i64
+    ensures { result ≡ digits_of digits x y }
+{
+    match digits {
+        Digits::Both => x & y,
+        Digits::Either => x | y,
+        Digits::Differ => x ^ y,
+    }
+}
+
+#[inline(always)]
+fn bit(holds: bool) -> i64
+    ensures { result ≡ bit holds }
+{
+    if holds { 1 } else { 0 }
+}
+
+// ---- the instructions, by class
+
+#[inline(always)]
+#[tactic(auto, using(crate::proofs::Classes::binary_by))]
+pub(crate) fn add(stack: &mut Vec<i64>, pc: usize, base: Base) -> Computed
+    requires two { 2 ≤ vec_len stack.old }
+    requires next { pc < usize.MAX }
+    ensures deed { Computes (binary pc (reverse stack.old.items) (λ x y. applied Op.Add base x y)) result stack.new.items }
+    ensures room { vec_capacity stack.new ≡ vec_capacity stack.old }
+{
+    let y = take(stack);
+    let x = take(stack);
+    settle(stack, pc, sum(base, x, y))
+}
+
+#[inline(always)]
+#[tactic(auto, using(crate::proofs::Classes::binary_by))]
+pub(crate) fn subtract(stack: &mut Vec<i64>, pc: usize, base: Base) -> Computed
+    requires two { 2 ≤ vec_len stack.old }
+    requires next { pc < usize.MAX }
+    ensures deed { Computes (binary pc (reverse stack.old.items) (λ x y. applied Op.Sub base x y)) result stack.new.items }
+    ensures room { vec_capacity stack.new ≡ vec_capacity stack.old }
+{
+    let y = take(stack);
+    let x = take(stack);
+    settle(stack, pc, difference(base, x, y))
+}
+
+#[inline(always)]
+#[tactic(auto, using(crate::proofs::Classes::binary_by))]
+pub(crate) fn multiply(stack: &mut Vec<i64>, pc: usize, base: Base) -> Computed
+    requires two { 2 ≤ vec_len stack.old }
+    requires next { pc < usize.MAX }
+    ensures deed { Computes (binary pc (reverse stack.old.items) (λ x y. applied Op.Mul base x y)) result stack.new.items }
+    ensures room { vec_capacity stack.new ≡ vec_capacity stack.old }
+{
+    let y = take(stack);
+    let x = take(stack);
+    settle(stack, pc, product(base, x, y))
+}
+
+#[inline(always)]
+#[tactic(auto, using(crate::proofs::Classes::binary_by))]
+pub(crate) fn divide(stack: &mut Vec<i64>, pc: usize, base: Base) -> Computed
+    requires two { 2 ≤ vec_len stack.old }
+    requires next { pc < usize.MAX }
+    ensures deed { Computes (binary pc (reverse stack.old.items) (λ x y. applied Op.Div base x y)) result stack.new.items }
+    ensures room { vec_capacity stack.new ≡ vec_capacity stack.old }
+{
+    let y = take(stack);
+    let x = take(stack);
+    settle(stack, pc, quotient(base, x, y))
+}
+
+#[inline(always)]
+#[tactic(auto, using(crate::proofs::Classes::binary_by))]
+pub(crate) fn raise_to(stack: &mut Vec<i64>, pc: usize, base: Base) -> Computed
+    requires two { 2 ≤ vec_len stack.old }
+    requires next { pc < usize.MAX }
+    ensures deed { Computes (binary pc (reverse stack.old.items) (λ x y. applied Op.Pow base x y)) result stack.new.items }
+    ensures room { vec_capacity stack.new ≡ vec_capacity stack.old }
+{
+    let y = take(stack);
+    let x = take(stack);
+    settle(stack, pc, power(base, x, y))
+}
+
+#[inline(always)]
+#[tactic(auto, using(crate::proofs::Classes::binary_by))]
+pub(crate) fn reduce(stack: &mut Vec<i64>, pc: usize, base: Base) -> Computed
+    requires two { 2 ≤ vec_len stack.old }
+    requires next { pc < usize.MAX }
+    ensures deed { Computes (binary pc (reverse stack.old.items) (λ x y. applied Op.Mod base x y)) result stack.new.items }
+    ensures room { vec_capacity stack.new ≡ vec_capacity stack.old }
+{
+    let y = take(stack);
+    let x = take(stack);
+    settle(stack, pc, modulus(base, x, y))
+}
+
+#[inline(always)]
+#[tactic(auto, using(crate::proofs::Classes::binary_by))]
+pub(crate) fn remain(stack: &mut Vec<i64>, pc: usize, base: Base) -> Computed
+    requires two { 2 ≤ vec_len stack.old }
+    requires next { pc < usize.MAX }
+    ensures deed { Computes (binary pc (reverse stack.old.items) (λ x y. applied Op.Rem base x y)) result stack.new.items }
+    ensures room { vec_capacity stack.new ≡ vec_capacity stack.old }
+{
+    let y = take(stack);
+    let x = take(stack);
+    settle(stack, pc, remainder(base, x, y))
+}
+
+#[inline(always)]
+#[tactic(auto, using(crate::proofs::Classes::unary_by))]
+pub(crate) fn add_constant(stack: &mut Vec<i64>, pc: usize, value: i64, base: Base) -> Computed
+    requires one { 1 ≤ vec_len stack.old }
+    requires next { pc < usize.MAX }
+    ensures deed { Computes (unary pc (reverse stack.old.items) (λ x. applied Op.Add base x value)) result stack.new.items }
+    ensures room { vec_capacity stack.new ≡ vec_capacity stack.old }
+{
+    let x = take(stack);
+    settle(stack, pc, sum(base, x, value))
+}
+
+#[inline(always)]
+pub(crate) fn compare(stack: &mut Vec<i64>, pc: usize, relation: Relation) -> Computed
+    requires two { 2 ≤ vec_len stack.old }
+    requires next { pc < usize.MAX }
+    ensures deed { Computes (binary pc (reverse stack.old.items) (λ x y. Some (bit (is_related relation x y)))) result stack.new.items }
+    ensures room { vec_capacity stack.new ≡ vec_capacity stack.old }
+{
+    let y = take(stack);
+    let x = take(stack);
+    put(stack, bit(is_related(relation, x, y)));
+    Computed::To(pc + 1)
+}
+
+#[inline(always)]
+pub(crate) fn combine_digits(stack: &mut Vec<i64>, pc: usize, digits: Digits) -> Computed
+    requires two { 2 ≤ vec_len stack.old }
+    requires next { pc < usize.MAX }
+    ensures deed { Computes (binary pc (reverse stack.old.items) (λ x y. Some (digits_of digits x y))) result stack.new.items }
+    ensures room { vec_capacity stack.new ≡ vec_capacity stack.old }
+{
+    let y = take(stack);
+    let x = take(stack);
+    put(stack, digits_of(digits, x, y));
+    Computed::To(pc + 1)
+}
+
+#[inline(always)]
+pub(crate) fn greater(stack: &mut Vec<i64>, pc: usize) -> Computed
+    requires two { 2 ≤ vec_len stack.old }
+    requires next { pc < usize.MAX }
+    ensures deed { Computes (binary pc (reverse stack.old.items) (λ x y. Some (int_max x y))) result stack.new.items }
+    ensures room { vec_capacity stack.new ≡ vec_capacity stack.old }
+{
+    let y = take(stack);
+    let x = take(stack);
+    put(stack, x.max(y));
+    Computed::To(pc + 1)
+}
+
+#[inline(always)]
+pub(crate) fn lesser(stack: &mut Vec<i64>, pc: usize) -> Computed
+    requires two { 2 ≤ vec_len stack.old }
+    requires next { pc < usize.MAX }
+    ensures deed { Computes (binary pc (reverse stack.old.items) (λ x y. Some (int_min x y))) result stack.new.items }
+    ensures room { vec_capacity stack.new ≡ vec_capacity stack.old }
+{
+    let y = take(stack);
+    let x = take(stack);
+    put(stack, x.min(y));
+    Computed::To(pc + 1)
+}
+
+#[inline(always)]
+pub(crate) fn differ(stack: &mut Vec<i64>, pc: usize) -> Computed
+    requires two { 2 ≤ vec_len stack.old }
+    requires next { pc < usize.MAX }
+    ensures deed { Computes (binary pc (reverse stack.old.items) (λ x y. Some (bit (differ (truth x) (truth y))))) result stack.new.items }
+    ensures room { vec_capacity stack.new ≡ vec_capacity stack.old }
+{
+    let y = take(stack);
+    let x = take(stack);
+    put(stack, bit(truth(x) != truth(y)));
+    Computed::To(pc + 1)
+}
+
+#[inline(always)]
+#[tactic(auto, using(crate::proofs::Classes::unary_by))]
+pub(crate) fn negate(stack: &mut Vec<i64>, pc: usize, base: Base) -> Computed
+    requires one { 1 ≤ vec_len stack.old }
+    requires next { pc < usize.MAX }
+    ensures deed { Computes (unary pc (reverse stack.old.items) (λ x. within base (Some (pos 0 -ℤ x)))) result stack.new.items }
+    ensures room { vec_capacity stack.new ≡ vec_capacity stack.old }
+{
+    let x = take(stack);
+    settle(stack, pc, negated(base, x))
+}
+
+#[inline(always)]
+fn negated(base: Base, x: i64) -> Option<i64>
+    ensures { result ≡ within base (Some (pos 0 -ℤ x)) }
+{
+    within(base, 0i64.checked_sub(x))
+}
+
+#[inline(always)]
+fn absolute(base: Base, x: i64) -> Option<i64>
+    ensures { result ≡ within base (Some (pos (nat_abs x))) }
+{
+    if x < 0 {
+        within(base, 0i64.checked_sub(x))
+    } else {
+        within(base, Some(x))
+    }
+}
+
+#[inline(always)]
+#[tactic(auto, using(crate::proofs::Classes::unary_by))]
+pub(crate) fn make_absolute(stack: &mut Vec<i64>, pc: usize, base: Base) -> Computed
+    requires one { 1 ≤ vec_len stack.old }
+    requires next { pc < usize.MAX }
+    ensures deed { Computes (unary pc (reverse stack.old.items) (λ x. within base (Some (pos (nat_abs x))))) result stack.new.items }
+    ensures room { vec_capacity stack.new ≡ vec_capacity stack.old }
+{
+    let x = take(stack);
+    settle(stack, pc, absolute(base, x))
+}
+
+#[inline(always)]
+pub(crate) fn invert(stack: &mut Vec<i64>, pc: usize) -> Computed
+    requires one { 1 ≤ vec_len stack.old }
+    requires next { pc < usize.MAX }
+    ensures deed { Computes (unary pc (reverse stack.old.items) (λ x. Some (bit (not (truth x))))) result stack.new.items }
+    ensures room { vec_capacity stack.new ≡ vec_capacity stack.old }
+{
+    let x = take(stack);
+    put(stack, bit(!truth(x)));
+    Computed::To(pc + 1)
+}
+
+#[inline(always)]
+fn if_between(low: i64, high: i64, x: i64) -> Option<i64>
+    ensures { result ≡ if_between low high x }
+{
+    if is_between(low, x, high) {
+        Some(x)
+    } else {
+        None
+    }
+}
+
+#[inline(always)]
+#[tactic(auto, using(crate::proofs::Classes::unary_by))]
+pub(crate) fn check_range(stack: &mut Vec<i64>, pc: usize, low: i64, high: i64) -> Computed
+    requires one { 1 ≤ vec_len stack.old }
+    requires next { pc < usize.MAX }
+    ensures deed { Computes (unary pc (reverse stack.old.items) (λ x. if_between low high x)) result stack.new.items }
+    ensures room { vec_capacity stack.new ≡ vec_capacity stack.old }
+{
+    let x = take(stack);
+    settle(stack, pc, if_between(low, high, x))
+}
+
+#[inline(always)]
+pub(crate) fn push(stack: &mut Vec<i64>, pc: usize, value: i64) -> Computed
+    requires room { vec_len stack.old < vec_capacity stack.old }
+    requires next { pc < usize.MAX }
+    ensures deed { Computes (GoesOn (pc + 1) (value ∷ reverse stack.old.items)) result stack.new.items }
+    ensures room { vec_capacity stack.new ≡ vec_capacity stack.old }
+{
+    put(stack, value);
+    Computed::To(pc + 1)
+}
+
+#[inline(always)]
+pub(crate) fn push_number(stack: &mut Vec<i64>, pc: usize, value: u32) -> Computed
+    requires room { vec_len stack.old < vec_capacity stack.old }
+    requires next { pc < usize.MAX }
+    ensures deed { Computes (GoesOn (pc + 1) (pos value ∷ reverse stack.old.items)) result stack.new.items }
+    ensures room { vec_capacity stack.new ≡ vec_capacity stack.old }
+{
+    put(stack, i64::from(value));
+    Computed::To(pc + 1)
+}
+
+#[inline(always)]
+pub(crate) fn push_local(stack: &mut Vec<i64>, pc: usize, base: u64, cell: u32) -> Computed
+    requires near { base ≤ 2 ^ 62 }
+    requires room { vec_len stack.old < vec_capacity stack.old }
+    requires next { pc < usize.MAX }
+    ensures deed { Computes (GoesOn (pc + 1) (pos (base + cell) ∷ reverse stack.old.items)) result stack.new.items }
+    ensures room { vec_capacity stack.new ≡ vec_capacity stack.old }
+{
+    put(stack, (base + u64::from(cell)) as i64);
+    Computed::To(pc + 1)
+}
+
+#[inline(always)]
+pub(crate) fn pop(stack: &mut Vec<i64>, pc: usize) -> Computed
+    requires one { 1 ≤ vec_len stack.old }
+    requires next { pc < usize.MAX }
+    ensures deed { Computes (on_one (reverse stack.old.items) (λ x st. GoesOn (pc + 1) st)) result stack.new.items }
+    ensures room { vec_capacity stack.new ≡ vec_capacity stack.old }
+{
+    let _ = take(stack);
+    Computed::To(pc + 1)
+}
+
+#[inline(always)]
+pub(crate) fn double(stack: &mut Vec<i64>, pc: usize) -> Computed
+    requires one { 1 ≤ vec_len stack.old }
+    requires room { vec_len stack.old < vec_capacity stack.old }
+    requires next { pc < usize.MAX }
+    ensures deed { Computes (on_one (reverse stack.old.items) (λ x st. GoesOn (pc + 1) (x ∷ x ∷ st))) result stack.new.items }
+    ensures room { vec_capacity stack.new ≡ vec_capacity stack.old }
+{
+    let x = take(stack);
+    put(stack, x);
+    put(stack, x);
+    Computed::To(pc + 1)
+}
+
+#[inline(always)]
+pub(crate) fn exchange(stack: &mut Vec<i64>, pc: usize) -> Computed
+    requires two { 2 ≤ vec_len stack.old }
+    requires next { pc < usize.MAX }
+    ensures deed { Computes (on_two (reverse stack.old.items) (λ x y st. GoesOn (pc + 1) (x ∷ y ∷ st))) result stack.new.items }
+    ensures room { vec_capacity stack.new ≡ vec_capacity stack.old }
+{
+    let y = take(stack);
+    let x = take(stack);
+    put(stack, y);
+    put(stack, x);
+    Computed::To(pc + 1)
+}
+
+#[inline(always)]
+pub(crate) fn jump_if_false(stack: &mut Vec<i64>, pc: usize, to: u32) -> Computed
+    requires one { 1 ≤ vec_len stack.old }
+    requires next { pc < usize.MAX }
+    ensures deed { Computes (on_one (reverse stack.old.items) (λ x st. GoesOn (cond (truth x) (pc + 1) to) st)) result stack.new.items }
+    ensures room { vec_capacity stack.new ≡ vec_capacity stack.old }
+{
+    let x = take(stack);
+    if truth(x) {
+        Computed::To(pc + 1)
+    } else {
+        Computed::To(to as usize)
+    }
+}
+
+#[inline(always)]
+pub(crate) fn jump_if_true(stack: &mut Vec<i64>, pc: usize, to: u32) -> Computed
+    requires one { 1 ≤ vec_len stack.old }
+    requires next { pc < usize.MAX }
+    ensures deed { Computes (on_one (reverse stack.old.items) (λ x st. GoesOn (cond (truth x) to (pc + 1)) st)) result stack.new.items }
+    ensures room { vec_capacity stack.new ≡ vec_capacity stack.old }
+{
+    let x = take(stack);
+    if truth(x) {
+        Computed::To(to as usize)
+    } else {
+        Computed::To(pc + 1)
+    }
+}
+
+#[inline(always)]
+pub(crate) fn jump_unless(stack: &mut Vec<i64>, pc: usize, relation: Relation, to: u32) -> Computed
+    requires two { 2 ≤ vec_len stack.old }
+    requires next { pc < usize.MAX }
+    ensures deed { Computes (unless pc (reverse stack.old.items) relation to) result stack.new.items }
+    ensures room { vec_capacity stack.new ≡ vec_capacity stack.old }
+{
+    let y = take(stack);
+    let x = take(stack);
+    if is_related(relation, x, y) {
+        Computed::To(pc + 1)
+    } else {
+        Computed::To(to as usize)
+    }
+}
+
+/// The exception with that number, where it is one of 32 bits.
+pub(crate) fn reason_of(number: i64) -> Option<Reason>
+    ensures { IsReason (reason_of number) result }
+{
+    match number {
+        0 => Some(Reason::ConstraintError),
+        1 => Some(Reason::ProgramError),
+        2 => Some(Reason::StorageError),
+        3 => Some(Reason::DataError),
+        4 => Some(Reason::EndError),
+        _ => {
+            if number < 0 {
+                Some(Reason::ProgramError)
+            } else {
+                match u32::try_from(number - 5) {
+                    Ok(declared) => Some(Reason::Declared(declared)),
+                    Err(_) => None,
+                }
+            }
+        }
+    }
+}
+
+#[inline(always)]
+#[tactic(auto, using(crate::proofs::Memories::reason_far))]
+pub(crate) fn raise_again(stack: &mut Vec<i64>) -> Computed
+    requires { 1 ≤ vec_len stack.old }
+    ensures deed { ComputesOr (on_one (reverse stack.old.items) (λ n st. Fails (reason_of n) st)) result stack.old.items stack.new.items }
+    ensures room { vec_capacity stack.new ≡ vec_capacity stack.old }
+{
+    let number = take(stack);
+    match reason_of(number) {
+        Some(reason) => Computed::Failed(reason),
+        None => {
+            put(stack, number);
+            Computed::Beyond
+        }
+    }
+}
+
+#[inline(always)]
+#[tactic(auto, using(crate::proofs::Memories::unary_far))]
+pub(crate) fn flip(stack: &mut Vec<i64>, pc: usize) -> Computed
+    requires one { 1 ≤ vec_len stack.old }
+    requires next { pc < usize.MAX }
+    ensures deed { ComputesOr (unary pc (reverse stack.old.items) (λ x. Some (pos 1 -ℤ x))) result stack.old.items stack.new.items }
+    ensures room { vec_capacity stack.new ≡ vec_capacity stack.old }
+{
+    let x = take(stack);
+    match 1i64.checked_sub(x) {
+        Some(other) => {
+            put(stack, other);
+            Computed::To(pc + 1)
+        }
+        None => {
+            put(stack, x);
+            Computed::Beyond
+        }
+    }
+}
+
+#[inline(always)]
+#[tactic(auto, using(crate::proofs::Memories::unary_far))]
+pub(crate) fn select(stack: &mut Vec<i64>, pc: usize, field: u32) -> Computed
+    requires one { 1 ≤ vec_len stack.old }
+    requires next { pc < usize.MAX }
+    ensures deed { ComputesOr (unary pc (reverse stack.old.items) (λ a. Some (a +ℤ pos field))) result stack.old.items stack.new.items }
+    ensures room { vec_capacity stack.new ≡ vec_capacity stack.old }
+{
+    let address = take(stack);
+    match address.checked_add(i64::from(field)) {
+        Some(moved) => {
+            put(stack, moved);
+            Computed::To(pc + 1)
+        }
+        None => {
+            put(stack, address);
+            Computed::Beyond
+        }
+    }
+}

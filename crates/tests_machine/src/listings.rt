@@ -1,0 +1,70 @@
+use ada_base::{Items, Reason};
+use stack_code::{Around, Code, CodeSite, CodeSub, Instr, SiteKind, Unwind, listing};
+use std::alloc::{AllocError, Global};
+
+// Those instructions, and empty tables.
+fn bare(alloc: Global, list: &[Instr]) -> Result<Code, AllocError> {
+    let mut instrs = Items::new(alloc);
+    for instr in list {
+        instrs.push(*instr)?;
+    }
+    Ok(Code {
+        instrs,
+        spots: Items::new(alloc),
+        unwind: Items::new(alloc),
+        sites: Items::new(alloc),
+        subs: Items::new(alloc),
+        texts: Items::new(alloc),
+    })
+}
+
+#[test]
+fn one_line_an_instruction(rt: HostRuntime) {
+    let three = [Instr::Push(5), Instr::Pop, Instr::Halt];
+    let code = bare(rt.alloc(), &three).expect(&rt, "memory");
+    let text = listing(rt.alloc(), &code).expect(&rt, "memory");
+    assert!(rt; text.as_str() == "0 PUSH 5\n1 POP\n2 HALT\n", "{text}");
+}
+
+fn with_tables(alloc: Global) -> Result<Code, AllocError> {
+    let list = [
+        Instr::Index(-1, 4, 2),
+        Instr::Fill(3, -7),
+        Instr::CallAt(1, 2),
+        Instr::Raise(Reason::Declared(3)),
+        Instr::Next(0, 1, 4),
+    ];
+    let mut code = bare(alloc, &list)?;
+    code.unwind.push(Unwind {
+        from: 1,
+        to: 2,
+        handler: 3,
+        depth: 4,
+        nest: 5,
+    })?;
+    code.sites.push(CodeSite {
+        entry: 6,
+        frame: 7,
+        stack: 8,
+        around: Around::Sub(0),
+        kind: SiteKind::Loop,
+        leases: Items::new(alloc),
+    })?;
+    code.subs.push(CodeSub {
+        entry: 9,
+        frame: 10,
+        stack: 11,
+        takes: 12,
+        gives: true,
+    })?;
+    Ok(code)
+}
+
+#[test]
+fn lines_of_tables_follow(rt: HostRuntime) {
+    let code = with_tables(rt.alloc()).expect(&rt, "memory");
+    let text = listing(rt.alloc(), &code).expect(&rt, "memory");
+    let lines = "0 INDEX -1 4 2\n1 FILL 3 -7\n2 CALLAT 1 2\n3 RAISE 8\n4 NEXT 0 1 4\n\
+        UNWIND 1 2 3 4 5\nSITE 0 6 7 8\nSUB 0 9 10 11 12 1\n";
+    assert!(rt; text.as_str() == lines, "{text}");
+}
