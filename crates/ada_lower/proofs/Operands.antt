@@ -1,0 +1,265 @@
+-- Numbers on the stack: what instructions make of them, and names of which parts are read.
+use Rattle.std.proofs.Common.{◌≡◌, ℕ, zero, suc, ◌+◌, ◌-◌, ◌*◌, ◌<◌, ◌≤◌, ℤ, pos, ◌-ℤ◌, List, [], ◌∷◌, ◌++◌, length, slice_get, nat_eq, int_le, Option, Some, None, Bool, true, false, not, cond, ◌&&◌, refl, sym, ap, ◌∙◌, subst, le_refl, arith, inl, ⊎_elim, mul-le-mul_right, suc-mul, eqb-true}
+use Rattle.std.proofs.lemmas.Int.{ints}
+use Rattle.std.specs.Int.{int_min}
+use Rattle.ada_base.specs.Operation.{is_in_base, within}
+use Rattle.behaviours.specs.Paths.{Entity}
+use Rattle.typed_tree.specs.declared.scalars.Class.{Class}
+use Rattle.typed_tree.specs.declared.scalars.Comparison.{Comparison}
+use Rattle.typed_tree.specs.declared.expressions.Sign.{Sign}
+use Rattle.typed_tree.specs.declared.expressions.Sign.TheVariants as sign
+use Rattle.typed_tree.specs.Syntax.{Expr, Program}
+use Rattle.ada_meaning.specs.Values
+use Rattle.ada_meaning.specs.Values.{between, truth, bit, to_nat, count, compares, base_of}
+use Rattle.ada_meaning.specs.Operations.{CheckKind, OverflowCheck, Operations}
+use Rattle.ada_meaning.specs.Stored as stored
+use Rattle.ada_meaning.specs.Stored.{Stored, Cause, Left, Place}
+use Rattle.ada_meaning.specs.Meaning.{Env, Part, Passed, Returned, variable_root, constant_root}
+use Rattle.stack_code.specs.declared.code.Code.{Code}
+use Rattle.stack_code.specs.declared.instr.Instr.{Instr}
+use Rattle.ada_base.specs.Cells.{value_in}
+use Rattle.stack_code.specs.Deeds.{GoesOn, deed_of, pushed}
+use Rattle.ada_lower.specs.Driven.{Dyn, Fixed, Step, on, At}
+use Rattle.ada_lower.specs.Sights.{Emit, Level, Named, Own, Sight, Stands, Where, address_of, constant_root_of, load_at, one, own, root_of, taking, with_parameter, ◌⨟◌}
+use Rattle.ada_lower.specs.Emission
+use Rattle.ada_lower.specs.Emission.{address, emit, selected, load, load_named, binary_instr, unary_instr, compare_instr, Shape, shapes, shapes_cells}
+use Rattle.ada_lower.specs.Fits.{Free, Keeps, Ghost, Ends, place_in, Spread, Refers, Knows, Stands as StandsFor, What}
+use Rattle.ada_lower.proofs.Framework.{any, To, comes_here, comes_on, comes_goes, does_ret, does_before}
+use Rattle.ada_lower.proofs.Memory.{does_read, set_what, own_free, fit_unset, knows_keep, Extends, refers_more, holds_more, main_more}
+use Rattle.ada_lower.proofs.Standing.{stands_choose}
+use Rattle.ada_lower.proofs.Parts.{Runs, Fewer, bit_same, outcome, does_to, does_weak, does_keep, does_choice, does_pushed}
+use Rattle.ada_lower.proofs.Declared.{keeping, keep_one_more, laid_out, kept_what, among, length_in, laid_what}
+use Rattle.ada_lower.proofs.Inner.{InnerDo}
+pub use Rattle.ada_lower.proofs.Courses.{at_entry}
+use Rattle.ada_lower.proofs.Names.{root_refers, constant_root_refers, index_below, does_by, does_index, does_load, comes_address, comes_number, comes_load_at}
+use Rattle.typed_tree.specs.declared.scalars.Comparison.TheVariants as comparison
+use Rattle.ada_meaning.specs.Meaning
+use Rattle.stack_code.specs.declared.instr.Instr.TheVariants as i
+use Rattle.stack_code.specs.Deeds
+
+-- a check on a result
+abbrev pub fits_or : Bool → ℤ → Option ℤ
+fits_or b v = cond b (Some v) None
+
+-- ---- cells laid over others
+
+pub laid_nothing : (cs : List ℤ) → Values.laid cs zero [] ≡ cs
+laid_nothing [] = refl
+laid_nothing (c ∷ cs) = refl
+
+pub laid_nil : (cs : List ℤ) (n : ℕ) → Values.laid cs n [] ≡ cs
+laid_nil [] n = refl
+laid_nil (c ∷ cs) zero = refl
+laid_nil (c ∷ cs) (suc n) = ap (λ zs. c ∷ zs) (laid_nil cs n)
+
+pub laid_length : (cs : List ℤ) (n : ℕ) (vs : List ℤ) → length (Values.laid cs n vs) ≡ length cs
+laid_length [] n vs = refl
+laid_length (c ∷ cs) zero [] = refl
+laid_length (c ∷ cs) zero (v ∷ vs) = ap suc (laid_length cs zero vs)
+laid_length (c ∷ cs) (suc n) vs = ap suc (laid_length cs n vs)
+
+pub laid_next : (cs : List ℤ) (n : ℕ) (v : ℤ) (vs : List ℤ) → Values.laid (Values.laid cs (n + 1) vs) n (v ∷ []) ≡ Values.laid cs n (v ∷ vs)
+laid_next [] n v vs = refl
+laid_next (c ∷ cs) zero v vs = ap (λ zs. v ∷ zs) (laid_nothing (Values.laid cs zero vs))
+laid_next (c ∷ cs) (suc n) v vs = let e : suc n + 1 ≡ suc (n + 1) = omega arith in ap (λ m. Values.laid (Values.laid (c ∷ cs) m vs) (suc n) (v ∷ [])) e ∙ ap (λ zs. c ∷ zs) (laid_next cs n v vs)
+
+pub laid_one : (a j : ℕ) (cs : List ℤ) (n : ℕ) (v : ℤ) (w : ℕ → What) (b : ℕ) → n < length cs → cond (nat_eq (a + n) b) (Keeps v) (laid_what a j kept_what cs w b) ≡ laid_what a j kept_what (Values.laid cs n (v ∷ [])) w b
+laid_one a j [] n v w b lt = absurd (omega arith)
+laid_one a j (c ∷ cs) zero v w b lt =
+    let z : a + 0 ≡ a = omega arith in
+    ap (λ q. cond (nat_eq q b) (Keeps v) (cond (nat_eq a b) (Keeps c) (laid_what (a + 1) (j + 1) kept_what cs w b))) z ∙ same (nat_eq a b) ∙ ap (λ zs. cond (nat_eq a b) (Keeps v) (laid_what (a + 1) (j + 1) kept_what zs w b)) (sym (laid_nothing cs))
+  where
+    same : (t : Bool) → cond t (Keeps v) (cond t (Keeps c) (laid_what (a + 1) (j + 1) kept_what cs w b)) ≡ cond t (Keeps v) (laid_what (a + 1) (j + 1) kept_what cs w b)
+    same true = refl
+    same false = refl
+laid_one a j (c ∷ cs) (suc n) v w b lt =
+    let z : a + suc n ≡ a + 1 + n = omega arith in
+    ap (λ q. cond (nat_eq q b) (Keeps v) (cond (nat_eq a b) (Keeps c) (laid_what (a + 1) (j + 1) kept_what cs w b))) z
+    ∙ swap (nat_eq (a + 1 + n) b) (nat_eq a b) refl refl
+    ∙ ap (λ q. cond (nat_eq a b) (Keeps c) q) (laid_one (a + 1) (j + 1) cs n v w b (omega (arith, lt)))
+  where
+    swap : (t u : Bool) → nat_eq (a + 1 + n) b ≡ t → nat_eq a b ≡ u → cond t (Keeps v) (cond u (Keeps c) (laid_what (a + 1) (j + 1) kept_what cs w b)) ≡ cond u (Keeps c) (cond t (Keeps v) (laid_what (a + 1) (j + 1) kept_what cs w b))
+    swap true true e e' = absurd (let z : a + 1 + n ≡ b = eqb-true (a + 1 + n) b e in let z' : a ≡ b = eqb-true a b e' in omega (arith, z, z'))
+    swap true false e e' = refl
+    swap false true e e' = refl
+    swap false false e e' = refl
+
+pub laid_more : (a i j : ℕ) (cur : List ℤ) (n : ℕ) (vs : List ℤ) (w : ℕ → What) (b : ℕ) → n + length vs ≤ length cur → laid_what (a + n) i kept_what vs (laid_what a j kept_what cur w) b ≡ laid_what a j kept_what (Values.laid cur n vs) w b
+laid_more a i j cur n [] w b le = ap (λ z. laid_what a j kept_what z w b) (sym (laid_nil cur n))
+laid_more a i j cur n (v ∷ vs) w b le =
+    let z : a + n + 1 ≡ a + (n + 1) = omega arith in
+    let len : length (Values.laid cur (n + 1) vs) ≡ length cur = laid_length cur (n + 1) vs in
+    ap (λ q. cond (nat_eq (a + n) b) (Keeps v) q) (ap (λ m. laid_what m (i + 1) kept_what vs (laid_what a j kept_what cur w) b) z ∙ laid_more a (i + 1) j cur (n + 1) vs w b (omega (arith, le)))
+    ∙ laid_one a j (Values.laid cur (n + 1) vs) n v w b (omega (arith, le, len))
+    ∙ ap (λ z. laid_what a j kept_what z w b) (laid_next cur n v vs)
+
+-- the same is known of ghosts that are alike
+pub knows_alike : {limit : ℕ} {cuts : ℕ → ℕ → List ℕ} {g : Ghost} {f : Fixed} {s : Sight} {env : Env} (w : ℕ → What) → ((a : ℕ) → g.what a ≡ w a) → Knows limit cuts g f s env → Knows limit cuts (record g { what = w }) f s env
+knows_alike {limit} {g} {f} {s} {env} w e k = record {
+  most = k.most;
+  nested = k.nested;
+  plan = k.plan;
+  kept = k.kept;
+  top = k.top;
+  outside = k.outside;
+  old = k.old;
+  hidden = k.hidden;
+  beyond = λ b le. sym (e b) ∙ k.beyond b le;
+  global = λ z n q. main_more z refl more (k.global z n q);
+  one = λ b c x y p q q'. k.one b c x y p (e b ∙ q) (e c ∙ q');
+  object = λ z n q. refers_more more (k.object z n q);
+  parameter = λ j w q. holds_more f w (env.parameter j) more (k.parameter j w q);
+  item = λ j n q. refers_more more (k.item j n q);
+  constant_item = λ j n q. refers_more more (k.constant_item j n q);
+  target = λ n q. refers_more more (k.target n q);
+  handled = λ w q. holds_more f w _ more (k.handled w q);
+  free = λ n le lt. sym (e (f.base + n)) ∙ k.free n le lt;
+}
+  where
+    more : Extends g (record g { what = w })
+    more = record { place = λ z i p q. q; solid = λ b u ok q. sym (e b) ∙ q }
+
+module _ (limit : ℕ) (c : Code) (f : Fixed) (x : Ends) where
+  -- the first free cell keeps the number on the stack
+  pub does_hold : {cuts : ℕ → ℕ → List ℕ} {A : Type 0} {g : Ghost} {s : Sight} {env : Env} {q : A → Type 0} {m : Stored A} {to : A → Dyn → Step} (at_ : ℕ) (v : ℤ) (st : List ℤ) → s.scope.free < s.cells → Knows limit cuts g f s env → At c at_ (i.StoreL s.scope.free) x.entry
+      → (Knows limit cuts (set_what (f.base + s.scope.free) (Keeps v) g) f (taking 1 s) env → Runs limit c f x (set_what (f.base + s.scope.free) (Keeps v) g) q m (λ d. on f (at_ + 1) st d) to)
+      → Runs limit c f x g q m (λ d. on f at_ (v ∷ st) d) to
+  does_hold {A} {g} {s} {env} {q} {m} {to} at_ v st room k a j =
+      let free : g.what (f.base + s.scope.free) ≡ Free = k.free s.scope.free (le_refl s.scope.free) room in
+      does_keep limit c f x at_ s.scope.free v st (own_free (g.what (f.base + s.scope.free)) free) a
+      (does_weak limit c f x (λ s' d fit. fit_unset (f.base + s.scope.free) v free fit) (j (knows_keep v room k)))
+
+module _ (limit : ℕ) (cuts : ℕ → ℕ → List ℕ) (program : Program) (c : Code) (f : Fixed) (x : Ends) (calls : ℕ → ℕ → Stored (Unit {0}) → List Passed → Stored Returned) (globals : ℕ → Entity → Option Named) (mains : Entity → Bool) (epar : Sight → Expr → Type 0) (calls_do : InnerDo limit cuts program globals mains epar c f calls) where
+  abbrev pub ops : Operations {1}
+  ops = stored.noted_operations limit cuts
+
+  abbrev pub evals : Expr → Env → Stored ℤ
+  evals e env = Meaning.eval ops limit program calls e env
+
+  -- from some operands on, to a number more
+  abbrev pub Gives : Ghost → Stored ℤ → ℕ → ℕ → List ℤ → Type 0
+  Gives g m from to st = Runs limit c f x g any m (λ d. on f from st d) (λ v d. on f to (v ∷ st) d)
+
+  pub ends_at : (g : Ghost) (m : Stored ℤ) (from to to' : ℕ) (st : List ℤ) → to' ≡ to → Gives g m from to st → Gives g m from to' st
+  ends_at g m from to to' st e k = subst (λ q. Gives g m from q st) (sym e) k
+
+  -- an instruction that pushes a value
+  pub push_does : {g : Ghost} {from to : ℕ} {j : Instr} {e : Option ℕ} (v : ℤ) (st : List ℤ) → At c from j e → to ≡ from + 1 → deed_of c from (st ++ f.below) f.base f.outward j ≡ GoesOn (from + 1) (v ∷ (st ++ f.below)) → Gives g (stored.ret v) from to st
+  push_does {g} {from} {to} v st at e is = ends_at g (stored.ret v) from (from + 1) to st e (does_before limit c f x (λ d. comes_goes limit c f st (from + 1) (v ∷ st) d at is) (does_ret limit c f x v tt))
+
+  pub negate_is : (kind : CheckKind) (token : ℕ) (b : Bool) (v : ℤ) (s : stored.State) → (stored.bind (stored.checks kind token b) (λ _. stored.ret v)).does s ≡ stored.at s (outcome (fits_or b v))
+  unfolding stored.bind stored.ret stored.leaves
+  negate_is kind token true v s = refl
+  negate_is kind token false v s = refl
+
+  pub within_is : (b : _) (z : ℤ) → within b (Some z) ≡ fits_or (is_in_base b z) z
+  within_is b z = go (is_in_base b z)
+    where
+      go : (t : Bool) → (Rattle.std.specs.Prelude.if◌then◌else◌ t (Some z) None) ≡ cond t (Some z) None
+      go true = refl
+      go false = refl
+
+  pub unary_does : {g : Ghost} {q : ℕ} (sg : Sign) (token : ℕ) (class : Class) (v : ℤ) (st : List ℤ) → At c q (unary_instr sg class) x.entry
+      → Runs limit c f x g any (stored.bind (Meaning.unary_checked ops sg token class (Values.unary sg v)) (λ _. stored.ret (Values.unary sg v))) (λ d. on f q (v ∷ st) d) (λ z d. on f (q + 1) (z ∷ st) d)
+  unary_does {g} {q} sign.Minus token class v st at =
+      does_pushed limit c f x (fits_or (is_in_base (base_of class) (Values.unary sign.Minus v)) (Values.unary sign.Minus v)) (v ∷ st) st (negate_is OverflowCheck token (is_in_base (base_of class) (Values.unary sign.Minus v)) (Values.unary sign.Minus v)) at
+      (ap (λ o. pushed q o (st ++ f.below)) (ap (λ z. within (base_of class) (Some z)) (minus v) ∙ within_is (base_of class) (Values.unary sign.Minus v)))
+    where
+      minus : (v : ℤ) → pos 0 -ℤ v ≡ Values.unary sign.Minus v
+      minus v = omega (arith, ints)
+  unary_does {g} {q} sign.Abs token class v st at =
+      does_pushed limit c f x (fits_or (is_in_base (base_of class) (Values.unary sign.Abs v)) (Values.unary sign.Abs v)) (v ∷ st) st (negate_is OverflowCheck token (is_in_base (base_of class) (Values.unary sign.Abs v)) (Values.unary sign.Abs v)) at
+      (ap (λ o. pushed q o (st ++ f.below)) (within_is (base_of class) (Values.unary sign.Abs v)))
+  unary_does {g} {q} sign.Not token class v st at =
+      does_pushed limit c f x (Some (pos 1 -ℤ v)) (v ∷ st) st (negate_is OverflowCheck token true (pos 1 -ℤ v)) at refl
+
+  pub compare_deed : (q : ℕ) (r : Comparison) (u v : ℤ) (st : List ℤ) → deed_of c q (v ∷ u ∷ st) f.base f.outward (compare_instr r) ≡ GoesOn (q + 1) (bit (compares r u v) ∷ st)
+  compare_deed q comparison.Equal u v st = ap (λ b. GoesOn (q + 1) (b ∷ st)) (bit_same (compares comparison.Equal u v))
+  compare_deed q comparison.Unequal u v st = ap (λ b. GoesOn (q + 1) (b ∷ st)) (bit_same (compares comparison.Unequal u v))
+  compare_deed q comparison.Less u v st = ap (λ b. GoesOn (q + 1) (b ∷ st)) (bit_same (compares comparison.Less u v))
+  compare_deed q comparison.AtMost u v st = ap (λ b. GoesOn (q + 1) (b ∷ st)) (bit_same (compares comparison.AtMost u v))
+  compare_deed q comparison.Greater u v st = ap (λ b. GoesOn (q + 1) (b ∷ st)) (bit_same (compares comparison.Greater u v))
+  compare_deed q comparison.AtLeast u v st = ap (λ b. GoesOn (q + 1) (b ∷ st)) (bit_same (compares comparison.AtLeast u v))
+
+  -- one of two ways, each of which pushes
+  pub choice_does : {g : Ghost} {m n : Stored ℤ} (from to : ℕ) (a b : Emit) (s : Sight) (h : ℕ) (v : ℤ) (st : List ℤ) → s.scope.entry ≡ x.entry → Stands c (Rattle.ada_lower.specs.Sights.choose s.scope h (h + 1) a b) from to
+      → ((from to : ℕ) → Stands c a from to → Gives g m from to st) → ((from to : ℕ) → Stands c b from to → Gives g n from to st)
+      → Runs limit c f x g any (cond (truth v) m n) (λ d. on f from (v ∷ st) d) (λ z d. on f to (z ∷ st) d)
+  choice_does {g} {m} {n} from to a b s h v st en l k j =
+      let w = stands_choose c from to s h (h + 1) a b l in
+      does_choice limit c f x v st (at_entry en w.test)
+      (λ _. does_to limit c f x (λ z d. on f to (z ∷ st) d) (λ z d _. comes_goes limit c f (z ∷ st) to (z ∷ st) d w.jump refl) (k (from + 1) w.mid w.first))
+      (λ _. j (w.mid + 1) to w.second)
+
+  -- an optional name that is there
+  pub address_stands : (s : Sight) (h : ℕ) (o : Option Named) (n : Named) (from to : ℕ) → o ≡ Some n → Stands c (address s.scope h o) from to → Stands c (one s.scope h (address_of n)) from to
+  address_stands s h o n from to e l = subst (λ o. Stands c (address s.scope h o) from to) e l
+
+  pub load_stands : (s : Sight) (h : ℕ) (o : Option Named) (n : Named) (from to : ℕ) → o ≡ Some n → Stands c (load_named s.scope h o) from to → Stands c (load s.scope h n) from to
+  load_stands s h o n from to e l = subst (λ o. Stands c (load_named s.scope h o) from to) e l
+
+  pub reads_at : {g : Ghost} {from to : ℕ} (y : ℕ → Entity) (r : Part) (o : ℕ) (first a total : ℕ) (st : List ℤ) → r.object ≡ o → first ≤ r.offset → r.offset + 1 ≤ first + total → Spread g (y o) first total a → At c from i.Load x.entry → to ≡ from + 1
+      → Runs limit c f x g any (stored.reads (y r.object) r.offset) (λ d. on f from (pos (a + (r.offset - first)) ∷ st) d) (λ v d. on f to (v ∷ st) d)
+  reads_at {g} {from} {to} y r o first a total st is le lt spread at e =
+      let (p, access, here, stands) = spread.cell (r.offset - first) (omega (arith, le, lt)) in
+      let z : first + (r.offset - first) ≡ r.offset = omega (arith, le) in
+      subst (λ q. Runs limit c f x g any (stored.reads (y r.object) r.offset) (λ d. on f from (pos (a + (r.offset - first)) ∷ st) d) (λ v d. on f q (v ∷ st) d)) (sym e)
+      (does_read limit c f x (y r.object) r.offset (a + (r.offset - first)) p access (ap (λ u. place_in g (y u) r.offset) is ∙ ap (λ i. place_in g (y o) i) (sym z) ∙ here) stands
+      (λ v d w. Rattle.ada_lower.proofs.Names.comes_loads limit c f (a + (r.offset - first)) v (pos (a + (r.offset - first)) ∷ st) st d at refl w))
+
+  -- an address is pushed, and moved on
+  pub named_does : {A : Type 0} {g : Ghost} {q : A → Type 0} {m : Stored A} {to : A → Dyn → Step} {e : Option ℕ} (from mid : ℕ) (n : Named) (y : Entity) (first : ℕ) (st : List ℤ) (u : Refers g f n y first) → At c from (address_of n) e → mid ≡ from + 1
+      → Runs limit c f x g q m (λ d. on f mid (pos (u.address + (first - first)) ∷ st) d) to → Runs limit c f x g q m (λ d. on f from st d) to
+  named_does {A} {g} {q} {m} {to} from mid n y first st u j e k =
+      let z : u.address + (first - first) ≡ u.address = omega arith in
+      does_by limit c f x (λ t d fit. comes_address limit c f n u.address st d fit u.leads j)
+      (subst (λ p. Runs limit c f x g q m (λ d. on f p (pos u.address ∷ st) d) to) e (subst (λ b. Runs limit c f x g q m (λ d. on f mid (pos b ∷ st) d) to) z k))
+
+  -- whether the number in a cell is between that in the next one and the one on the stack
+  pub min_bits : (a b : Bool) → int_min (Deeds.bit b) (Deeds.bit a) ≡ bit (a && b)
+  min_bits true true = refl
+  min_bits true false = refl
+  min_bits false true = refl
+  min_bits false false = refl
+
+  pub comes_within : (s : Sight) (h n from to : ℕ) (u l v : ℤ) (st : List ℤ) (d : Dyn) → value_in (slice_get d.cells (f.base + n)) ≡ Some u → value_in (slice_get d.cells (f.base + (n + 1))) ≡ Some l → Stands c (Emission.within s.scope h n) from to
+      → To limit c (on f from (v ∷ st) d) (on f to (bit (between l u v) ∷ st) d)
+  comes_within s h n from to u l v st d eu el (j1, (j2, (j3, (j4, (j5, (j6, z)))))) =
+      comes_on limit c (Rattle.ada_lower.proofs.Names.comes_loads limit c f (f.base + n) u (v ∷ st) (v ∷ st) d j1 refl eu)
+      (comes_on limit c (comes_goes limit c f (u ∷ v ∷ st) (from + 1 + 1) (Deeds.bit (int_le u v) ∷ st) d j2 refl)
+      (comes_on limit c (Rattle.ada_lower.proofs.Names.comes_loads limit c f (f.base + (n + 1)) l (Deeds.bit (int_le u v) ∷ st) (Deeds.bit (int_le u v) ∷ st) d j3 refl el)
+      (comes_on limit c (Rattle.ada_lower.proofs.Names.comes_loads limit c f (f.base + n) u (l ∷ Deeds.bit (int_le u v) ∷ st) (l ∷ Deeds.bit (int_le u v) ∷ st) d j4 refl eu)
+      (comes_on limit c (comes_goes limit c f (u ∷ l ∷ Deeds.bit (int_le u v) ∷ st) (from + 1 + 1 + 1 + 1 + 1) (Deeds.bit (int_le l u) ∷ Deeds.bit (int_le u v) ∷ st) d j5 refl)
+      (subst (λ q. To limit c (on f (from + 1 + 1 + 1 + 1 + 1) (Deeds.bit (int_le l u) ∷ Deeds.bit (int_le u v) ∷ st) d) (on f q (bit (between l u v) ∷ st) d)) (sym z)
+      (comes_goes limit c f (Deeds.bit (int_le l u) ∷ Deeds.bit (int_le u v) ∷ st) (from + 1 + 1 + 1 + 1 + 1 + 1) (bit (between l u v) ∷ st) d j6 (ap (λ b. GoesOn (from + 1 + 1 + 1 + 1 + 1 + 1) (b ∷ (st ++ f.below))) (min_bits (int_le l u) (int_le u v)))))))))
+
+  pub flip_bit : (b : Bool) → pos 1 -ℤ bit b ≡ bit (not b)
+  flip_bit true = refl
+  flip_bit false = refl
+
+  pub comes_negated : (s : Sight) (h from to : ℕ) (negated b : Bool) (st : List ℤ) (d : Dyn) → Stands c (Emission.negated_code s.scope h negated) from to → To limit c (on f from (bit b ∷ st) d) (on f to (bit (cond negated (not b) b) ∷ st) d)
+  comes_negated s h from to true b st d (j, z) =
+      subst (λ q. To limit c (on f from (bit b ∷ st) d) (on f q (bit (not b) ∷ st) d)) (sym z)
+      (comes_goes limit c f (bit b ∷ st) (from + 1) (bit (not b) ∷ st) d j (ap (λ b. GoesOn (from + 1) (b ∷ (st ++ f.below))) (flip_bit b)))
+  comes_negated s h from to false b st d z = subst (λ q. To limit c (on f from (bit b ∷ st) d) (on f q (bit b ∷ st) d)) (sym z) (comes_here limit c _)
+
+  pub knows_two : {g : Ghost} {env : Env} (s : Sight) → Knows limit cuts g f (taking 1 (taking 1 s)) env → Knows limit cuts g f (taking 2 s) env
+  knows_two {g} {env} s k = record { most = k.most; nested = k.nested; plan = k.plan; kept = k.kept; top = k.top; beyond = k.beyond; global = k.global; outside = k.outside; one = k.one; old = k.old; hidden = k.hidden; object = k.object; parameter = k.parameter; item = k.item; constant_item = k.constant_item; target = k.target; handled = k.handled; free = λ n le lt. k.free n (omega (arith, le)) lt }
+
+  pub rows : (t n stride : ℕ) → t < n → t * stride + stride ≤ n * stride
+  rows t n stride lt = let b : suc t * stride ≤ n * stride = mul-le-mul_right stride lt in omega (arith, b, suc-mul t stride)
+
+  pub below_one : (n m : ℕ) → m ≤ n → 1 ≤ m → 0 < n
+  below_one n m a b = omega (arith, a, b)
+
+  pub ends_ret : {g : Ghost} (v : ℤ) (at to : ℕ) (st : List ℤ) → to ≡ at → Runs limit c f x g any (stored.ret v) (λ d. on f at (v ∷ st) d) (λ v d. on f to (v ∷ st) d)
+  ends_ret {g} v at to st e = subst (λ q. Runs limit c f x g any (stored.ret v) (λ d. on f at (v ∷ st) d) (λ v d. on f q (v ∷ st) d)) (sym e) (does_ret limit c f x {to = λ v d. on f at (v ∷ st) d} v tt)
+
+  pub fewer_kept_back : (a : ℕ) (vs : List ℤ) (g : Ghost) → ((k : ℕ) → k < length vs → g.what (a + k) ≡ Free) → Fewer limit c f x (keeping a vs g) g
+  fewer_kept_back a vs g free b y p e = ⊎_elim
+      (λ r. let (k, v, z, is) = r in absurd (let q : Free ≡ StandsFor y p = sym (free k (length_in vs k v is)) ∙ ap g.what z ∙ e in cc))
+      (λ out. inl (laid_out a 0 kept_what vs g.what b out ∙ e))
+      (among a b vs)
+
+  pub fewer_one_more : (w n : ℕ) (vs : List ℤ) (v : ℤ) (g : Ghost) → f.base + w + length vs ≡ f.base + (w + n) → Fewer limit c f x (set_what (f.base + (w + n)) (Keeps v) (keeping (f.base + w) vs g)) (keeping (f.base + w) (vs ++ (v ∷ [])) g)
+  fewer_one_more w n vs v g next b y p e = inl (ap (λ q. (set_what q (Keeps v) (keeping (f.base + w) vs g)).what b) (sym next) ∙ keep_one_more (f.base + w) vs v g b ∙ e)

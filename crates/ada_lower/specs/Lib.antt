@@ -1,0 +1,16 @@
+pub mod Asking
+pub mod Driven
+pub mod Emission
+pub mod Sights
+pub mod Fits
+pub mod Defaults
+pub mod Fitted
+pub mod Bodies
+pub mod Forks
+pub mod ForkViews
+pub mod Leases
+pub mod Outs
+pub mod FittedForks
+pub mod ProgramCode
+pub mod Outset
+pub mod Law

@@ -1,0 +1,8 @@
+-- The definition of the code that is emitted.
+pub mod Bodies
+pub mod Emission
+pub mod Emits
+pub mod Laws
+pub mod Scope
+pub mod Statements
+pub mod Tables
