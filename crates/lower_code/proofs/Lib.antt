@@ -1,0 +1,7 @@
+-- Lemmas.
+pub mod Leavings
+pub mod Levels
+pub mod Reading
+pub mod Subs
+pub mod Texts
+pub mod Written

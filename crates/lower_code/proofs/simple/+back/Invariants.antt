@@ -1,0 +1,4 @@
+use Rattle.lower_code.proofs.simple.+back.Given as goal
+
+abbrev pub decreases-back : goal.decreases-back
+decreases-back l = l.id

@@ -1,0 +1,13 @@
+//! Lowering: the code that stands for a typed program, computed.
+#![tactic(auto)]
+
+pub mod blocks;
+pub mod bodies;
+pub mod defaults;
+pub mod exits;
+pub mod loops;
+pub mod lowering;
+pub mod output;
+pub mod parallel;
+pub mod simple;
+pub mod stmts;

@@ -1,0 +1,373 @@
+//! Parallel loops (5.5) and parallel blocks (5.6.1).
+
+ghost use Rattle.std.specs.Prelude.{◌≡◌, ◌<◌, ◌+◌, ◌-◌, None, true, false, pos};
+ghost use Rattle.ada_meaning.specs.Meaning.{arms_of};
+ghost use Rattle.typed_tree.specs.Decoded.{arms_at, chunk_at, expr_at, iteration_at, optional_at, stmts_at};
+ghost use Rattle.lower_emission.specs.Emission.{chunk_code, chunk_scope, course_code, ends_code, filtered, items_code, range_scope, stepping, threaded, turn_item, turns_code};
+ghost use Rattle.typed_tree.specs.Syntax.{Parallel, ParallelFor};
+ghost use Rattle.lower_emission.specs.Statements as spec;
+ghost use Rattle.lower_emission.specs.Statements.{all};
+ghost use Rattle.lower_emission.specs.Scope.{◌⨟◌, keep, looped, one, taking, thread_scope};
+ghost use Rattle.lower_values.specs.Words.{env_of, nodes, tables, Emits, Finds};
+ghost use Rattle.stack_code.specs.declared.instr.Instr.TheVariants as i;
+
+use crate::exits::{Left, left_returns, of_arms, of_stmts};
+use crate::loops::{Through, Turns, turn};
+use crate::stmts::all;
+use lower_emission::types::{Leaving, Named};
+use lower_values::aggregates::{Components, Steps, own, stepping};
+use lower_values::iterations::{
+    Counted, all_threads, ascending, chunk_code, chunk_env, counting, course_code, ends_code,
+    first_item, thread_numbers,
+};
+use lower_values::types::{Emitter, Env, Names};
+use stack_code::{Around, Instr};
+use typed_tree::Iteration;
+
+/// A parallel loop.
+#[derive(Clone, Copy)]
+pub struct Forked {
+    pub site: u32,
+    pub chunk: u32,
+    pub iteration: u32,
+}
+
+const NO_LOOP: u64 = 4_294_967_296;
+
+/// A parallel loop.
+#[cycle(stmt)]
+#[inline(never)]
+pub fn parallel_for(env: &Env<'_>, number: u32, forked: Forked, stmts: u32, out: &mut Emitter)
+    ensures { Emits (spec.stmt (tables env.now) (env_of env.now) (ParallelFor number forked.site (chunk_at (nodes env.now) forked.chunk) (iteration_at (nodes env.now) forked.iteration) (stmts_at (nodes env.now) stmts))) out.old out.new }
+{
+    let nest = out.sum(env.nest, 1);
+    out.put(env, 0, Instr::Nest);
+    let inside = Env { nest, ..*env };
+    forking(&inside, forked, out);
+    let over = out.gap(&inside, 2);
+    thread(env, forked, stmts, out);
+    out.aim(&inside, 2, over);
+    out.put(&inside, 2, Instr::Unnest);
+    let free2 = out.sum(env.free, 2);
+    let free = out.sum(free2, 2);
+    ways_of_loop(&Env { free, ..*env }, number, stmts, out);
+    // not proved yet, so not lowered
+    out.whole = false;
+}
+
+/// The fork of a loop, with what it is asked.
+fn forking(env: &Env<'_>, forked: Forked, out: &mut Emitter)
+    ensures { Emits (chunk_code (tables env.now) (env_of env.now) 0 (chunk_at (nodes env.now) forked.chunk) ⨟ course_code (tables env.now) (taking 2 (env_of env.now)) 0 (iteration_at (nodes env.now) forked.iteration) ⨟ ends_code (taking 2 (env_of env.now)) 0 (iteration_at (nodes env.now) forked.iteration)
+        ⨟ one (env_of env.now) (0 + 1 + 1) (i.LoadL env.now.free) ⨟ one (env_of env.now) (0 + 1 + 1 + 1) (i.LoadL (env.now.free + 1)) ⨟ one (env_of env.now) (1 + 1 + 1 + 1) (i.Push (pos 0)) ⨟ one (env_of env.now) (0 + 1 + 1 + 1 + 1 + 1) (i.Fork forked.site)) out.old out.new }
+{
+    let free = out.sum(env.free, 2);
+    chunk_code(env, 0, forked.chunk, out);
+    let course = Env { free, ..*env };
+    course_code(&course, 0, forked.iteration, out);
+    ends_code(&course, 0, forked.iteration, out);
+    ask(env, forked.site, out);
+}
+
+/// The fork of a loop or block, whose chunk values are in the first free cells.
+fn ask(env: &Env<'_>, site: u32, out: &mut Emitter)
+    ensures { Emits (one (env_of env.now) (0 + 1 + 1) (i.LoadL env.now.free) ⨟ one (env_of env.now) (0 + 1 + 1 + 1) (i.LoadL (env.now.free + 1)) ⨟ one (env_of env.now) (1 + 1 + 1 + 1) (i.Push (pos 0)) ⨟ one (env_of env.now) (0 + 1 + 1 + 1 + 1 + 1) (i.Fork site)) out.old out.new }
+{
+    let free1 = out.sum(env.free, 1);
+    out.put(env, 2, Instr::LoadL(env.free));
+    out.put(env, 3, Instr::LoadL(free1));
+    out.put(env, 4, Instr::Push(0));
+    out.put(env, 5, Instr::Fork(site));
+}
+
+/// What follows a loop's fork.
+fn ways_of_loop(env: &Env<'_>, number: u32, stmts: u32, out: &mut Emitter)
+    ensures { Emits (spec.left_code (env_of env.now) number (spec.exits_of (stmts_at (nodes env.now) stmts))) out.old out.new }
+{
+    before_ways(env, out);
+    let over = out.gap(env, 0);
+    left_returns(env, out);
+    let left = Left {
+        cell: env.free,
+        number: u64::from(number),
+    };
+    of_stmts(env, left, stmts, out);
+    out.aim_false(env, 0, over);
+}
+
+/// What follows a block's fork.
+fn ways_of_block(env: &Env<'_>, arms: u32, out: &mut Emitter)
+    ensures { Emits (spec.left_code (env_of env.now) spec.no_loop (spec.arm_exits (arms_at (nodes env.now) arms))) out.old out.new }
+{
+    before_ways(env, out);
+    let over = out.gap(env, 0);
+    left_returns(env, out);
+    let left = Left {
+        cell: env.free,
+        number: NO_LOOP,
+    };
+    of_arms(env, left, arms, out);
+    out.aim_false(env, 0, over);
+}
+
+/// How a construct was left goes to the first free cell, and the value of a return to the next.
+fn before_ways(env: &Env<'_>, out: &mut Emitter)
+    ensures { Emits (keep (env_of env.now) 2 env.now.free ⨟ keep (env_of env.now) 1 (env.now.free + 1) ⨟ one (env_of env.now) 0 (i.LoadL env.now.free)) out.old out.new }
+{
+    let value = out.sum(env.free, 1);
+    out.keep(env, 2, env.free);
+    out.keep(env, 1, value);
+    out.put(env, 0, Instr::LoadL(env.free));
+}
+
+/// The threads of a parallel loop.
+#[cycle(stmt)]
+#[inline(never)]
+#[tactic(auto, unfolding(lower_emission::specs::Emission::threaded))]
+fn thread(env: &Env<'_>, forked: Forked, stmts: u32, out: &mut Emitter)
+    ensures { Emits (threaded (tables env.now) (thread_scope forked.site (env_of env.now)) 0 (chunk_at (nodes env.now) forked.chunk) (env.now.free + 1 + 1) (iteration_at (nodes env.now) forked.iteration) (λ u. all (tables env.now) u (stmts_at (nodes env.now) stmts)) ⨟ one (chunk_scope (chunk_at (nodes env.now) forked.chunk) (taking 2 (thread_scope forked.site (env_of env.now)))) 0 i.End) out.old out.new }
+{
+    let free1 = out.sum(env.free, 1);
+    let around = out.sum(free1, 1);
+    let outer = Env {
+        names: Names::Thread { outer: &env.names },
+        free: 2,
+        entry: None,
+        leaving: Leaving::ByLeave,
+        body: Around::Site(forked.site),
+        nest: 0,
+        ..*env
+    };
+    let inner = chunk_env(&outer, forked.chunk);
+    match env.typed.nodes.iteration(forked.iteration) {
+        Some(
+            Iteration::Range {
+                parameter,
+                filter,
+                ..
+            },
+        ) => range_thread(&inner, parameter, Turns { filter, stmts }, out),
+        Some(
+            Iteration::Components {
+                item,
+                constant,
+                count,
+                stride,
+                filter,
+                ..
+            },
+        ) => {
+            let through = Through {
+                item,
+                constant,
+                stride,
+            };
+            item_thread(&inner, around, count, through, Turns { filter, stmts }, out);
+        }
+        None => {
+            out.whole = false;
+        }
+    }
+    out.put(&inner, 0, Instr::End);
+}
+
+#[cycle(stmt)]
+#[inline(never)]
+fn range_thread(env: &Env<'_>, parameter: u32, turns: Turns, out: &mut Emitter)
+    ensures { Emits (turns_code (env_of env.now) 0 env.now.free (one (env_of env.now) 0 i.Turn ⨟ filtered (tables env.now) (range_scope (env_of env.now) None parameter false 0) 0 (optional_at (nodes env.now) turns.filter) (all (tables env.now) (range_scope (env_of env.now) None parameter false 0) (stmts_at (nodes env.now) turns.stmts)))) out.old out.new }
+{
+    let free = out.sum(env.free, 2);
+    let counted = Counted {
+        reverse: false,
+        first: env.free,
+    };
+    ascending(env, 0, env.free, out);
+    let over = out.gap(env, 0);
+    let enter = out.gap(env, 0);
+    let leave = out.gap(env, 0);
+    let head = out.here();
+    out.put(env, 0, Instr::Turn);
+    let names = Names::Parameter {
+        outer: &env.names,
+        number: parameter,
+        place: own(env.free),
+    };
+    turn(
+        &Env {
+            names,
+            free,
+            ..*env
+        },
+        turns,
+        out,
+    );
+    out.aim_at(env, 0, enter, head);
+    counting(env, 0, counted, head, out);
+    out.aim(env, 0, leave);
+    out.aim_false(env, 0, over);
+}
+
+#[cycle(stmt)]
+#[inline(never)]
+fn item_thread(
+    env: &Env<'_>,
+    around: u32,
+    count: u32,
+    through: Through,
+    turns: Turns,
+    out: &mut Emitter,
+)
+    ensures { Emits (items_code (env_of env.now) 0 env.now.free around through.stride count (one (env_of env.now) 0 i.Turn ⨟ filtered (tables env.now) (turn_item (env_of env.now) through.constant through.item through.stride) 0 (optional_at (nodes env.now) turns.filter) (all (tables env.now) (turn_item (env_of env.now) through.constant through.item through.stride) (stmts_at (nodes env.now) turns.stmts)))) out.old out.new }
+{
+    ascending(env, 0, env.free, out);
+    let over = out.gap(env, 0);
+    let components = Components {
+        size: through.stride,
+        count,
+    };
+    first_item(env, 0, around, components, out);
+    item_turns(env, through, turns, out);
+    out.aim_false(env, 0, over);
+}
+
+#[cycle(stmt)]
+#[inline(never)]
+fn item_turns(env: &Env<'_>, through: Through, turns: Turns, out: &mut Emitter)
+    ensures { Emits (looped (env_of env.now) 0 true (λ exit. one (env_of env.now) 0 i.Turn ⨟ filtered (tables env.now) (turn_item (env_of env.now) through.constant through.item through.stride) 0 (optional_at (nodes env.now) turns.filter) (all (tables env.now) (turn_item (env_of env.now) through.constant through.item through.stride) (stmts_at (nodes env.now) turns.stmts))) (λ head. stepping (env_of env.now) 0 (env.now.free + 1 + 1) through.stride env.now.free head)) out.old out.new }
+{
+    let free1 = out.sum(env.free, 1);
+    let free2 = out.sum(free1, 1);
+    let free = out.sum(env.free, 3);
+    let enter = out.gap(env, 0);
+    let leave = out.gap(env, 0);
+    let head = out.here();
+    out.put(env, 0, Instr::Turn);
+    let names = Names::Item {
+        outer: &env.names,
+        constant: through.constant,
+        number: through.item,
+        named: Named {
+            through: true,
+            place: own(free2),
+            cells: through.stride,
+        },
+    };
+    turn(
+        &Env {
+            names,
+            free,
+            ..*env
+        },
+        turns,
+        out,
+    );
+    out.aim_at(env, 0, enter, head);
+    let steps = Steps {
+        address: free2,
+        stride: through.stride,
+        first: env.free,
+    };
+    stepping(env, 0, steps, head, out);
+    out.aim(env, 0, leave);
+}
+
+/// A parallel block.
+#[cycle(stmt)]
+#[inline(never)]
+pub fn parallel_block(env: &Env<'_>, site: u32, count: u32, arms: u32, out: &mut Emitter)
+    ensures { Emits (spec.stmt (tables env.now) (env_of env.now) (Parallel site (optional_at (nodes env.now) count) (arms_at (nodes env.now) arms))) out.old out.new }
+{
+    let nest = out.sum(env.nest, 1);
+    out.put(env, 0, Instr::Nest);
+    let inside = Env { nest, ..*env };
+    forking_block(&inside, site, count, arms, out);
+    let over = out.gap(&inside, 2);
+    arm_thread(env, site, arms, out);
+    out.aim(&inside, 2, over);
+    out.put(&inside, 2, Instr::Unnest);
+    let free = out.sum(env.free, 2);
+    ways_of_block(&Env { free, ..*env }, arms, out);
+    // not proved yet, so not lowered
+    out.whole = false;
+}
+
+/// The fork of a block, with what it is asked.
+fn forking_block(env: &Env<'_>, site: u32, count: u32, arms: u32, out: &mut Emitter)
+    ensures { Emits (chunk_code (tables env.now) (env_of env.now) 0 (spec.chunk_by (tables env.now) (optional_at (nodes env.now) count)) ⨟ one (env_of env.now) 0 (i.Push (pos 0)) ⨟ one (env_of env.now) 1 (i.Push (pos (arms_of (arms_at (nodes env.now) arms) - 1)))
+        ⨟ one (env_of env.now) (0 + 1 + 1) (i.LoadL env.now.free) ⨟ one (env_of env.now) (0 + 1 + 1 + 1) (i.LoadL (env.now.free + 1)) ⨟ one (env_of env.now) (1 + 1 + 1 + 1) (i.Push (pos 0)) ⨟ one (env_of env.now) (0 + 1 + 1 + 1 + 1 + 1) (i.Fork site)) out.old out.new }
+{
+    block_threads(env, count, out);
+    let last = arms_count(env, arms, out).saturating_sub(1);
+    out.put(env, 0, Instr::Push(0));
+    out.put(env, 1, Instr::Push(i64::from(last)));
+    ask(env, site, out);
+}
+
+#[tactic(auto, using(crate::proofs::Reading::present_is), unfolding(lower_emission::specs::Emission::chunk_code))]
+fn block_threads(env: &Env<'_>, count: u32, out: &mut Emitter)
+    ensures { Emits (chunk_code (tables env.now) (env_of env.now) 0 (spec.chunk_by (tables env.now) (optional_at (nodes env.now) count))) out.old out.new }
+{
+    match env.typed.nodes.optional(count) {
+        None => all_threads(env, 0, out),
+        Some(_) => thread_numbers(env, 0, count, out),
+    }
+}
+
+fn arms_count(env: &Env<'_>, id: u32, out: &mut Emitter) -> u32
+    ensures { Finds (arms_of (arms_at (nodes env.now) id)) out.old result out.new }
+{
+    match env.typed.nodes.arms(id) {
+        None => 0,
+        Some(cell) => {
+            let rest = arms_count(env, cell.rest, out);
+            out.sum(rest, 1)
+        }
+    }
+}
+
+/// The threads of a block, each of which does the arms of its numbers.
+#[cycle(stmt)]
+#[inline(never)]
+fn arm_thread(env: &Env<'_>, site: u32, id: u32, out: &mut Emitter)
+    ensures { Emits (spec.arms_code (tables env.now) (spec.arm_scope (tables env.now) (env_of env.now) site) 0 (spec.arm_codes (tables env.now) (spec.arm_scope (tables env.now) (env_of env.now) site) (arms_at (nodes env.now) id)) ⨟ one (spec.arm_scope (tables env.now) (env_of env.now) site) 0 i.End) out.old out.new }
+{
+    let inner = Env {
+        names: Names::Thread { outer: &env.names },
+        free: 4,
+        entry: None,
+        leaving: Leaving::ByLeave,
+        body: Around::Site(site),
+        nest: 0,
+        ..*env
+    };
+    arms_from(&inner, 0, id, out);
+    out.put(&inner, 0, Instr::End);
+}
+
+fn in_share(env: &Env<'_>, number: u32, out: &mut Emitter)
+    ensures { Emits (spec.in_share (tables env.now) (env_of env.now) number) out.old out.new }
+{
+    out.put(env, 0, Instr::LoadL(2));
+    out.put(env, 1, Instr::Push(i64::from(number)));
+    out.put(env, 2, Instr::Le);
+    out.put(env, 1, Instr::Push(i64::from(number)));
+    out.put(env, 2, Instr::LoadL(3));
+    out.put(env, 3, Instr::Le);
+    out.put(env, 2, Instr::Min);
+}
+
+/// The arms of a share, of those from a number on.
+#[cycle(stmt)]
+#[inline(never)]
+#[tactic(auto, unfolding(lower_emission::specs::Statements::arm_codes))]
+fn arms_from(env: &Env<'_>, number: u32, id: u32, out: &mut Emitter)
+    ensures { Emits (spec.arms_code (tables env.now) (env_of env.now) number (spec.arm_codes (tables env.now) (env_of env.now) (arms_at (nodes env.now) id))) out.old out.new }
+{
+    if let Some(cell) = env.typed.nodes.arms(id) {
+        let next = out.sum(number, 1);
+        in_share(env, number, out);
+        let over = out.gap(env, 0);
+        all(env, cell.first, out);
+        out.aim_false(env, 0, over);
+        arms_from(env, next, cell.rest, out);
+    }
+}

@@ -1,0 +1,2 @@
+-- What emitting functions say.
+pub mod Words

@@ -1,0 +1,103 @@
+//! How code is emitted.
+
+ghost use Rattle.std.specs.Prelude.{◌≡◌, ◌+◌, length, slice_set};
+ghost use Rattle.lower_emission.specs.Emits.{put, gap, aimed, aimed_at, aimed_false};
+ghost use Rattle.lower_emission.specs.Scope.{keep, mark};
+ghost use Rattle.lower_values.specs.Words.{env_of, Emits, Wrote, Finds, Leaps};
+
+use crate::types::{Emitter, Env};
+use lower_emission::types::Placed;
+use stack_code::Instr;
+
+impl Emitter {
+    /// An instruction is put at the end.
+    pub fn put(&mut self, env: &Env<'_>, height: u32, instr: Instr)
+        ensures { Wrote (put (mark (env_of env.now)) height instr) self.old self.new }
+    {
+        let placed = env.placed(env.free, height, instr);
+        if self.code.push(placed).is_err() {
+            self.whole = false;
+        }
+    }
+
+    /// The top of the stack goes to a cell of the frame.
+    pub fn keep(&mut self, env: &Env<'_>, height: u32, cell: u32)
+        ensures { Emits (keep (env_of env.now) height cell) self.old self.new }
+    {
+        let above = self.sum(cell, 1);
+        let placed = env.placed(env.free.max(above), height, Instr::StoreL(cell));
+        if self.code.push(placed).is_err() {
+            self.whole = false;
+        }
+    }
+
+    /// A sum, if there is room for it.
+    pub fn sum(&mut self, number: u32, more: u32) -> u32
+        ensures { Finds (number + more) self.old result self.new }
+    {
+        match number.checked_add(more) {
+            Some(found) => found,
+            None => {
+                self.whole = false;
+                0
+            }
+        }
+    }
+
+    /// The number of what comes next.
+    pub fn here(&mut self) -> u32
+        ensures { Finds (length self.old.code) self.old result self.new }
+    {
+        match u32::try_from(self.code.len()) {
+            Ok(found) => found,
+            Err(_) => {
+                self.whole = false;
+                0
+            }
+        }
+    }
+
+    /// A jump whose aim isn't known yet is put at the end, and its number given.
+    pub fn gap(&mut self, env: &Env<'_>, height: u32) -> u32
+        ensures { Leaps (gap (mark (env_of env.now)) height) self.old result self.new }
+    {
+        let at = self.here();
+        self.put(env, height, Instr::Jump(0));
+        at
+    }
+
+    /// An instruction that stands already is replaced.
+    fn set(&mut self, at: u32, placed: Placed)
+        ensures { Wrote (λ c. slice_set c at placed) self.old self.new }
+    {
+        if (at as usize) < self.code.len() {
+            self.code.set(at as usize, placed);
+        } else {
+            self.whole = false;
+        }
+    }
+
+    /// A jump is aimed at a place.
+    pub fn aim_at(&mut self, env: &Env<'_>, height: u32, at: u32, to: u32)
+        ensures { Wrote (aimed_at (mark (env_of env.now)) height at to) self.old self.new }
+    {
+        self.set(at, env.placed(env.free, height, Instr::Jump(to)));
+    }
+
+    /// A jump is aimed at what comes next.
+    pub fn aim(&mut self, env: &Env<'_>, height: u32, at: u32)
+        ensures { Wrote (aimed (mark (env_of env.now)) height at) self.old self.new }
+    {
+        let to = self.here();
+        self.aim_at(env, height, at, to);
+    }
+
+    /// The same of a jump that is made where what is on the stack is false.
+    pub fn aim_false(&mut self, env: &Env<'_>, height: u32, at: u32)
+        ensures { Wrote (aimed_false (mark (env_of env.now)) height at) self.old self.new }
+    {
+        let to = self.here();
+        let above = self.sum(height, 1);
+        self.set(at, env.placed(env.free, above, Instr::JFalse(to)));
+    }
+}

@@ -1,0 +1,282 @@
+//! What names stand for where code is emitted.
+
+ghost use Rattle.std.specs.Prelude.{◌≡◌};
+ghost use Rattle.lower_emission.specs.Emits.{placed};
+ghost use Rattle.lower_emission.specs.Scope as scope;
+ghost use Rattle.lower_emission.specs.Scope.{mark_of};
+ghost use Rattle.lower_values.specs.Words as spec;
+ghost use Rattle.lower_values.specs.Words.{entity, env_of, Learns};
+
+use crate::types::{Emitter, Env, Names};
+use lower_emission::types::{Level, Named, Placed, Where};
+use stack_code::Instr;
+use typed_tree::Root;
+
+fn outer_where(place: Where, out: &mut Emitter) -> Where
+    ensures { Learns (scope.outer_where place) out.old result out.new }
+{
+    let level = match place.level {
+        Level::Own => Level::Around(1),
+        Level::Around(frames) => {
+            if frames == 0 {
+                Level::Around(2)
+            } else {
+                Level::Around(out.sum(frames, 1))
+            }
+        }
+        Level::Main => Level::Main,
+    };
+    Where {
+        level,
+        cell: place.cell,
+    }
+}
+
+fn moved_where(found: Option<Where>, out: &mut Emitter) -> Option<Where>
+    ensures { Learns (scope.moved_where found) out.old result out.new }
+{
+    match found {
+        None => None,
+        Some(place) => Some(outer_where(place, out)),
+    }
+}
+
+fn moved_named(found: Option<Named>, out: &mut Emitter) -> Option<Named>
+    ensures { Learns (scope.moved_named found) out.old result out.new }
+{
+    match found {
+        None => None,
+        Some(named) => Some(Named {
+            through: named.through,
+            place: outer_where(named.place, out),
+            cells: named.cells,
+        }),
+    }
+}
+
+impl<'a> Names<'a> {
+    /// The object of a number, a constant or a variable.
+    pub fn object(&self, is_constant: bool, wanted: u32, out: &mut Emitter) -> Option<Named>
+        ensures { Learns (spec.objects self.now (entity is_constant wanted)) out.old result out.new }
+    {
+        match self {
+            Names::Outset => None,
+            Names::Object {
+                outer,
+                constant,
+                object,
+                named,
+            } => {
+                if *constant == is_constant && wanted == *object {
+                    Some(*named)
+                } else {
+                    outer.object(is_constant, wanted, out)
+                }
+            }
+            Names::Thread { outer } => {
+                let found = outer.object(is_constant, wanted, out);
+                moved_named(found, out)
+            },
+            Names::Parameter { outer, .. }
+            | Names::Item { outer, .. }
+            | Names::Target { outer, .. }
+            | Names::Handled { outer, .. }
+            | Names::Exit { outer, .. } => outer.object(is_constant, wanted, out),
+        }
+    }
+
+    /// The parameter of a number.
+    pub fn parameter(&self, wanted: u32, out: &mut Emitter) -> Option<Where>
+        ensures { Learns (spec.parameters self.now wanted) out.old result out.new }
+    {
+        match self {
+            Names::Outset => None,
+            Names::Parameter {
+                outer,
+                number,
+                place,
+            } => {
+                if wanted == *number {
+                    Some(*place)
+                } else {
+                    outer.parameter(wanted, out)
+                }
+            }
+            Names::Thread { outer } => {
+                let found = outer.parameter(wanted, out);
+                moved_where(found, out)
+            },
+            Names::Object { outer, .. }
+            | Names::Item { outer, .. }
+            | Names::Target { outer, .. }
+            | Names::Handled { outer, .. }
+            | Names::Exit { outer, .. } => outer.parameter(wanted, out),
+        }
+    }
+
+    /// The item of a number, which may be assigned to.
+    pub fn item(&self, wanted: u32, out: &mut Emitter) -> Option<Named>
+        ensures { Learns (spec.items self.now wanted) out.old result out.new }
+    {
+        match self {
+            Names::Outset => None,
+            Names::Item {
+                outer,
+                constant,
+                number,
+                named,
+            } => {
+                if !*constant && wanted == *number {
+                    Some(*named)
+                } else {
+                    outer.item(wanted, out)
+                }
+            }
+            Names::Thread { outer } => {
+                let found = outer.item(wanted, out);
+                moved_named(found, out)
+            },
+            Names::Object { outer, .. }
+            | Names::Parameter { outer, .. }
+            | Names::Target { outer, .. }
+            | Names::Handled { outer, .. }
+            | Names::Exit { outer, .. } => outer.item(wanted, out),
+        }
+    }
+
+    /// The item of a number, which may not.
+    pub fn constant_item(&self, wanted: u32, out: &mut Emitter) -> Option<Named>
+        ensures { Learns (spec.constant_items self.now wanted) out.old result out.new }
+    {
+        match self {
+            Names::Outset => None,
+            Names::Item {
+                outer,
+                constant,
+                number,
+                named,
+            } => {
+                if *constant && wanted == *number {
+                    Some(*named)
+                } else {
+                    outer.constant_item(wanted, out)
+                }
+            }
+            Names::Thread { outer } => {
+                let found = outer.constant_item(wanted, out);
+                moved_named(found, out)
+            },
+            Names::Object { outer, .. }
+            | Names::Parameter { outer, .. }
+            | Names::Target { outer, .. }
+            | Names::Handled { outer, .. }
+            | Names::Exit { outer, .. } => outer.constant_item(wanted, out),
+        }
+    }
+
+    /// What `@` stands for (5.2.1).
+    pub fn target(&self, out: &mut Emitter) -> Option<Named>
+        ensures { Learns (spec.target_of self.now) out.old result out.new }
+    {
+        match self {
+            Names::Outset => None,
+            Names::Target { named, .. } => Some(*named),
+            Names::Thread { outer } => {
+                let found = outer.target(out);
+                moved_named(found, out)
+            },
+            Names::Object { outer, .. }
+            | Names::Parameter { outer, .. }
+            | Names::Item { outer, .. }
+            | Names::Handled { outer, .. }
+            | Names::Exit { outer, .. } => outer.target(out),
+        }
+    }
+
+    /// Where the number of what is handled is kept.
+    pub fn handled(&self, out: &mut Emitter) -> Option<Where>
+        ensures { Learns (spec.handled_of self.now) out.old result out.new }
+    {
+        match self {
+            Names::Outset => None,
+            Names::Handled { place, .. } => Some(*place),
+            Names::Thread { outer } => {
+                let found = outer.handled(out);
+                moved_where(found, out)
+            },
+            Names::Object { outer, .. }
+            | Names::Parameter { outer, .. }
+            | Names::Item { outer, .. }
+            | Names::Target { outer, .. }
+            | Names::Exit { outer, .. } => outer.handled(out),
+        }
+    }
+
+    /// Where the code goes that leaves a loop, in the loop's own thread.
+    pub fn exit(&self, wanted: u32) -> Option<u32>
+        ensures { result ≡ spec.exits self.now wanted }
+    {
+        match self {
+            Names::Outset | Names::Thread { .. } => None,
+            Names::Exit { outer, number, to } => {
+                if *number == wanted {
+                    Some(*to)
+                } else {
+                    outer.exit(wanted)
+                }
+            }
+            Names::Object { outer, .. }
+            | Names::Parameter { outer, .. }
+            | Names::Item { outer, .. }
+            | Names::Target { outer, .. }
+            | Names::Handled { outer, .. } => outer.exit(wanted),
+        }
+    }
+}
+
+impl<'a> Env<'a> {
+    /// What a variable's name begins with.
+    pub fn root(&self, root: Root, out: &mut Emitter) -> Option<Named>
+        ensures { Learns (scope.root_of (env_of self.now) root) out.old result out.new }
+    {
+        match root {
+            Root::Object(object) => self.names.object(false, object, out),
+            Root::Item(item) => self.names.item(item, out),
+        }
+    }
+
+    /// What a constant's name begins with.
+    pub fn constant_root(&self, root: Root, out: &mut Emitter) -> Option<Named>
+        ensures { Learns (scope.constant_root_of (env_of self.now) root) out.old result out.new }
+    {
+        match root {
+            Root::Object(object) => self.names.object(true, object, out),
+            Root::Item(item) => self.names.constant_item(item, out),
+        }
+    }
+
+    /// What the name of an array begins with that a loop goes through.
+    pub fn array_root(&self, constant: bool, root: Root, out: &mut Emitter) -> Option<Named>
+        ensures { Learns (scope.array_root_of constant (env_of self.now) root) out.old result out.new }
+    {
+        if constant {
+            self.constant_root(root, out)
+        } else {
+            self.root(root, out)
+        }
+    }
+
+    /// An instruction that needs so many cells, and what holds around it.
+    pub fn placed(&self, cells: u32, height: u32, instr: Instr) -> Placed
+        ensures { result ≡ placed (mark_of cells (env_of self.now)) height instr }
+    {
+        Placed {
+            instr,
+            height,
+            entry: self.entry,
+            body: self.body,
+            nest: self.nest,
+            cells,
+        }
+    }
+}

@@ -1,0 +1,344 @@
+//! Expressions (4.4).
+
+ghost use Rattle.std.specs.Prelude.{◌≡◌, ◌<◌, ◌+◌, Option};
+ghost use Rattle.typed_tree.specs.Decoded.{actuals_at, associations_at, as_runs, check_at, chunk_at, composite_at, part_at, expr_at, iteration_at, optional_at, reducer_at, selections_at, value_at};
+ghost use Rattle.typed_tree.specs.Syntax.{Membership};
+ghost use Rattle.lower_emission.specs.Emission as spec;
+ghost use Rattle.lower_emission.specs.Scope.{◌⨟◌, one, choose, keep, taking};
+ghost use Rattle.lower_values.specs.Words.{env_of, nodes, tables, Emits};
+ghost use Rattle.stack_code.specs.declared.instr.Instr.TheVariants as i;
+
+use crate::aggregates::composed;
+use crate::calls::call;
+use crate::instrs::{address_of, binary_instr, compare_instr, load_of, unary_instr};
+use crate::reductions::reduction;
+use crate::types::{Emitter, Env};
+use ada_base::Reason;
+use lower_emission::types::{Named, Where};
+use stack_code::Instr;
+use typed_tree::{Expr, Scalar, Selection, Value};
+
+/// What no accepted program reaches.
+pub fn lost(env: &Env<'_>, h: u32, out: &mut Emitter)
+    ensures { Emits (spec.lost (env_of env.now) h) out.old out.new }
+{
+    out.put(env, h, Instr::Raise(Reason::ProgramError));
+}
+
+/// The number on the stack is checked.
+pub fn checked(env: &Env<'_>, h: u32, scalar: Scalar, out: &mut Emitter)
+    ensures { Emits (spec.checked (env_of env.now) h scalar) out.old out.new }
+{
+    out.put(env, h, Instr::Range(scalar.low, scalar.high));
+}
+
+fn load(env: &Env<'_>, h: u32, found: Option<Named>, out: &mut Emitter)
+    ensures { Emits (spec.load_named (env_of env.now) h found) out.old out.new }
+{
+    match found {
+        None => lost(env, h, out),
+        Some(named) => {
+            out.put(env, h, load_of(named.place));
+            if named.through {
+                let h1 = out.sum(h, 1);
+                out.put(env, h1, Instr::Load);
+            }
+        }
+    }
+}
+
+fn load_where(env: &Env<'_>, h: u32, found: Option<Where>, out: &mut Emitter)
+    ensures { Emits (spec.load_where (env_of env.now) h found) out.old out.new }
+{
+    match found {
+        None => lost(env, h, out),
+        Some(place) => out.put(env, h, load_of(place)),
+    }
+}
+
+/// The address of what is named.
+pub fn address(env: &Env<'_>, h: u32, found: Option<Named>, out: &mut Emitter)
+    ensures { Emits (spec.address (env_of env.now) h found) out.old out.new }
+{
+    match found {
+        None => lost(env, h, out),
+        Some(named) => out.put(env, h, address_of(named)),
+    }
+}
+
+/// Whether a name has no selections.
+pub fn is_whole(env: &Env<'_>, id: u32) -> bool
+    ensures { result ≡ spec.is_whole (selections_at (nodes env.now) id) }
+{
+    let mut at = id;
+    while let Some(cell) = env.typed.nodes.selections(at) {
+        match env.typed.nodes.selection(cell.first) {
+            None => {
+                at = cell.rest;
+            }
+            Some(_) => {
+                return false;
+            }
+        }
+    }
+    true
+}
+
+/// Pushes the value of an expression.
+#[cycle(emit)]
+#[tactic(auto, unfolding(lower_emission::specs::Emission::emit))]
+pub fn emit(env: &Env<'_>, h: u32, id: u32, out: &mut Emitter)
+    ensures { Emits (spec.emit (tables env.now) (env_of env.now) h (expr_at (nodes env.now) id)) out.old out.new }
+{
+    match env.typed.nodes.expr(id) {
+        Expr::Static { value, .. } => out.put(env, h, Instr::Push(value)),
+        Expr::Variable {
+            root,
+            selections,
+            ..
+        } => {
+            let found = env.root(root, out);
+            part(env, h, found, selections, out);
+        }
+        Expr::Constant {
+            root,
+            selections,
+            ..
+        } => {
+            let found = env.constant_root(root, out);
+            part(env, h, found, selections, out);
+        }
+        Expr::Parameter { parameter, .. } => {
+            let found = env.names.parameter(parameter, out);
+            load_where(env, h, found, out);
+        }
+        Expr::Target { .. } => {
+            let found = env.names.target(out);
+            load(env, h, found, out);
+        }
+        Expr::Group { inside } => emit(env, h, inside, out),
+        Expr::Unary {
+            sign,
+            class,
+            operand,
+            ..
+        } => {
+            emit(env, h, operand, out);
+            let h1 = out.sum(h, 1);
+            out.put(env, h1, unary_instr(sign, class));
+        }
+        Expr::Binary {
+            op,
+            class,
+            left,
+            right,
+            ..
+        } => two(env, h, left, right, binary_instr(op, class), out),
+        Expr::AndThen { left, right } => and_then(env, h, left, right, out),
+        Expr::OrElse { left, right } => or_else(env, h, left, right, out),
+        Expr::Relation {
+            comparison,
+            left,
+            right,
+            ..
+        } => two(env, h, left, right, compare_instr(comparison), out),
+        Expr::Membership {
+            negated,
+            value,
+            low,
+            high,
+            ..
+        } => {
+            between(env, h, value, low, high, out);
+            if negated {
+                let h1 = out.sum(h, 1);
+                out.put(env, h1, Instr::Flip);
+            }
+        }
+        Expr::If {
+            condition,
+            value,
+            otherwise,
+        } => conditional(env, h, condition, value, otherwise, out),
+        Expr::Convert { check, value } => {
+            emit(env, h, value, out);
+            let h1 = out.sum(h, 1);
+            checked(env, h1, check.scalar, out);
+        }
+        Expr::Call { sub, actuals, .. } => call(env, h, sub, actuals, out),
+        Expr::Reduction { .. } => reduction(env, h, id, out),
+    }
+}
+
+#[cycle(emit)]
+#[inline(never)]
+fn part(env: &Env<'_>, h: u32, found: Option<Named>, selections: u32, out: &mut Emitter)
+    ensures { Emits (spec.part_of (env_of env.now) h found (spec.is_whole (selections_at (nodes env.now) selections)) (spec.selected (tables env.now) (env_of env.now) (h + 1) (selections_at (nodes env.now) selections))) out.old out.new }
+{
+    if is_whole(env, selections) {
+        load(env, h, found, out);
+    } else {
+        address(env, h, found, out);
+        let h1 = out.sum(h, 1);
+        selected(env, h1, selections, out);
+        out.put(env, h1, Instr::Load);
+    }
+}
+
+/// The address on the stack is moved by selections.
+#[cycle(emit)]
+#[inline(never)]
+#[tactic(auto, unfolding(lower_emission::specs::Emission::selected))]
+pub fn selected(env: &Env<'_>, h: u32, id: u32, out: &mut Emitter)
+    ensures { Emits (spec.selected (tables env.now) (env_of env.now) h (selections_at (nodes env.now) id)) out.old out.new }
+{
+    if let Some(cell) = env.typed.nodes.selections(id) {
+        match env.typed.nodes.selection(cell.first) {
+            None => selected(env, h, cell.rest, out),
+            Some(Selection::Field { offset, .. }) => {
+                out.put(env, h, Instr::Field(offset));
+                selected(env, h, cell.rest, out);
+            }
+            Some(
+                Selection::Index {
+                    index,
+                    low,
+                    high,
+                    stride,
+                    ..
+                },
+            ) => {
+                emit(env, h, index, out);
+                let h1 = out.sum(h, 1);
+                out.put(env, h1, Instr::Index(low, high, stride));
+                selected(env, h, cell.rest, out);
+            }
+        }
+    }
+}
+
+#[cycle(emit)]
+#[inline(never)]
+fn two(env: &Env<'_>, h: u32, left: u32, right: u32, instr: Instr, out: &mut Emitter)
+    ensures { Emits (spec.emit (tables env.now) (env_of env.now) h (expr_at (nodes env.now) left) ⨟ spec.emit (tables env.now) (env_of env.now) (h + 1) (expr_at (nodes env.now) right) ⨟ one (env_of env.now) (h + 1 + 1) instr) out.old out.new }
+{
+    emit(env, h, left, out);
+    let h1 = out.sum(h, 1);
+    emit(env, h1, right, out);
+    let h2 = out.sum(h1, 1);
+    out.put(env, h2, instr);
+}
+
+#[cycle(emit)]
+#[inline(never)]
+fn and_then(env: &Env<'_>, h: u32, left: u32, right: u32, out: &mut Emitter)
+    ensures { Emits (spec.emit (tables env.now) (env_of env.now) h (expr_at (nodes env.now) left) ⨟ choose (env_of env.now) h (h + 1) (spec.emit (tables env.now) (env_of env.now) h (expr_at (nodes env.now) right)) (spec.falsity (env_of env.now) h)) out.old out.new }
+{
+    let h1 = out.sum(h, 1);
+    emit(env, h, left, out);
+    let first = out.gap(env, h);
+    emit(env, h, right, out);
+    let second = out.gap(env, h);
+    out.aim_false(env, h, first);
+    out.put(env, h, Instr::Push(0));
+    out.aim(env, h1, second);
+}
+
+#[cycle(emit)]
+#[inline(never)]
+fn or_else(env: &Env<'_>, h: u32, left: u32, right: u32, out: &mut Emitter)
+    ensures { Emits (spec.emit (tables env.now) (env_of env.now) h (expr_at (nodes env.now) left) ⨟ choose (env_of env.now) h (h + 1) (spec.truth (env_of env.now) h) (spec.emit (tables env.now) (env_of env.now) h (expr_at (nodes env.now) right))) out.old out.new }
+{
+    let h1 = out.sum(h, 1);
+    emit(env, h, left, out);
+    let first = out.gap(env, h);
+    out.put(env, h, Instr::Push(1));
+    let second = out.gap(env, h);
+    out.aim_false(env, h, first);
+    emit(env, h, right, out);
+    out.aim(env, h1, second);
+}
+
+#[cycle(emit)]
+#[inline(never)]
+fn conditional(env: &Env<'_>, h: u32, condition: u32, value: u32, otherwise: u32, out: &mut Emitter)
+    ensures { Emits (spec.emit (tables env.now) (env_of env.now) h (expr_at (nodes env.now) condition) ⨟ choose (env_of env.now) h (h + 1) (spec.emit (tables env.now) (env_of env.now) h (expr_at (nodes env.now) value)) (spec.emit (tables env.now) (env_of env.now) h (expr_at (nodes env.now) otherwise))) out.old out.new }
+{
+    let h1 = out.sum(h, 1);
+    emit(env, h, condition, out);
+    let first = out.gap(env, h);
+    emit(env, h, value, out);
+    let second = out.gap(env, h);
+    out.aim_false(env, h, first);
+    emit(env, h, otherwise, out);
+    out.aim(env, h1, second);
+}
+
+/// Whether a value lies between two others.
+#[cycle(emit)]
+#[inline(never)]
+fn between(env: &Env<'_>, h: u32, value: u32, low: u32, high: u32, out: &mut Emitter)
+    ensures { Emits (spec.emit (tables env.now) (env_of env.now) h (expr_at (nodes env.now) value) ⨟ keep (env_of env.now) (h + 1) env.now.free ⨟ spec.emit (tables env.now) (taking 1 (env_of env.now)) h (expr_at (nodes env.now) low) ⨟ keep (env_of env.now) (h + 1) (env.now.free + 1) ⨟ spec.emit (tables env.now) (taking 2 (env_of env.now)) h (expr_at (nodes env.now) high) ⨟ spec.within (env_of env.now) h env.now.free) out.old out.new }
+{
+    let h1 = out.sum(h, 1);
+    let free1 = out.sum(env.free, 1);
+    let free2 = out.sum(env.free, 2);
+    emit(env, h, value, out);
+    out.keep(env, h1, env.free);
+    emit(
+        &Env {
+            free: free1,
+            ..*env
+        },
+        h,
+        low,
+        out,
+    );
+    out.keep(env, h1, free1);
+    emit(
+        &Env {
+            free: free2,
+            ..*env
+        },
+        h,
+        high,
+        out,
+    );
+    within(env, h, env.free, out);
+}
+
+fn within(env: &Env<'_>, h: u32, d: u32, out: &mut Emitter)
+    ensures { Emits (spec.within (env_of env.now) h d) out.old out.new }
+{
+    let h1 = out.sum(h, 1);
+    let h2 = out.sum(h1, 1);
+    let h3 = out.sum(h2, 1);
+    let d1 = out.sum(d, 1);
+    out.put(env, h1, Instr::LoadL(d));
+    out.put(env, h2, Instr::Ge);
+    out.put(env, h1, Instr::LoadL(d1));
+    out.put(env, h2, Instr::LoadL(d));
+    out.put(env, h3, Instr::Le);
+    out.put(env, h2, Instr::Min);
+}
+
+/// A value goes to the cells of the frame from one on.
+#[cycle(emit)]
+#[inline(never)]
+#[tactic(auto, unfolding(lower_emission::specs::Emission::put_into))]
+pub fn put_into(env: &Env<'_>, h: u32, to: u32, id: u32, out: &mut Emitter)
+    ensures { Emits (spec.put_into (tables env.now) (env_of env.now) h to (value_at (nodes env.now) id)) out.old out.new }
+{
+    match env.typed.nodes.value(id) {
+        Some(Value::Number { check, value }) => {
+            emit(env, h, value, out);
+            let h1 = out.sum(h, 1);
+            checked(env, h1, check.scalar, out);
+            out.keep(env, h1, to);
+        }
+        Some(Value::Cells { composite }) => composed(env, h, to, composite, out),
+        None => {
+            out.whole = false;
+        }
+    }
+}

@@ -1,0 +1,102 @@
+//! The instructions of operators and of what is named.
+
+ghost use Rattle.std.specs.Prelude.{◌≡◌};
+ghost use Rattle.lower_emission.specs.Emission as spec;
+ghost use Rattle.lower_emission.specs.Scope as scope;
+ghost use Rattle.ada_meaning.specs.Values.{base_of};
+
+use ada_base::{Base, Op};
+use lower_emission::types::{Level, Named, Where};
+use stack_code::Instr;
+use typed_tree::{Class, Comparison, Sign};
+
+fn base_of(class: Class) -> Base
+    ensures { result ≡ base_of class }
+{
+    match class {
+        Class::Integer(base) => base,
+        Class::Boolean => Base::Narrow,
+        Class::Universal => Base::Wide,
+    }
+}
+
+pub fn unary_instr(sign: Sign, class: Class) -> Instr
+    ensures { result ≡ spec.unary_instr sign class }
+{
+    match sign {
+        Sign::Minus => Instr::Neg(base_of(class)),
+        Sign::Abs => Instr::Abs(base_of(class)),
+        Sign::Not => Instr::Flip,
+    }
+}
+
+pub fn binary_instr(op: Op, class: Class) -> Instr
+    ensures { result ≡ spec.binary_instr op class }
+{
+    let base = base_of(class);
+    match op {
+        Op::Add => Instr::Add(base),
+        Op::Sub => Instr::Sub(base),
+        Op::Mul => Instr::Mul(base),
+        Op::Div => Instr::Div(base),
+        Op::Mod => Instr::Mod(base),
+        Op::Rem => Instr::Rem(base),
+        Op::Pow => Instr::Pow(base),
+        Op::And | Op::Min => Instr::Min,
+        Op::Or | Op::Max => Instr::Max,
+        Op::Xor => Instr::Differ,
+    }
+}
+
+pub fn compare_instr(comparison: Comparison) -> Instr
+    ensures { result ≡ spec.compare_instr comparison }
+{
+    match comparison {
+        Comparison::Equal => Instr::Eq,
+        Comparison::Unequal => Instr::Ne,
+        Comparison::Less => Instr::Lt,
+        Comparison::AtMost => Instr::Le,
+        Comparison::Greater => Instr::Gt,
+        Comparison::AtLeast => Instr::Ge,
+    }
+}
+
+pub fn load_of(place: Where) -> Instr
+    ensures { result ≡ scope.load_of place }
+{
+    match place.level {
+        Level::Own => Instr::LoadL(place.cell),
+        Level::Around(frames) => Instr::LoadO(frames, place.cell),
+        Level::Main => Instr::LoadG(place.cell),
+    }
+}
+
+pub fn store_at(place: Where) -> Instr
+    ensures { result ≡ scope.store_at place.level place.cell }
+{
+    match place.level {
+        Level::Own => Instr::StoreL(place.cell),
+        Level::Around(frames) => Instr::StoreO(frames, place.cell),
+        Level::Main => Instr::StoreG(place.cell),
+    }
+}
+
+fn address_at(place: Where) -> Instr
+    ensures { result ≡ scope.address_at place.level place.cell }
+{
+    match place.level {
+        Level::Own => Instr::Local(place.cell),
+        Level::Around(frames) => Instr::Outer(frames, place.cell),
+        Level::Main => Instr::Global(place.cell),
+    }
+}
+
+pub fn address_of(named: Named) -> Instr
+    ensures { result ≡ scope.address_of named }
+{
+    if named.through {
+        load_of(named.place)
+    } else {
+        address_at(named.place)
+    }
+}

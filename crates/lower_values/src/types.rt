@@ -1,0 +1,67 @@
+//! What is known where code is emitted, and what it is emitted into.
+
+use ada_base::Items;
+use lower_emission::types::{Leaving, Named, Placed, Where};
+use stack_code::{Around, Words};
+use typed_tree::Typed;
+
+/// What names stand for: each link adds one to those outward.
+#[derive(Clone, Copy)]
+pub enum Names<'a> {
+    Outset,
+    Object {
+        outer: &'a Names<'a>,
+        constant: bool,
+        object: u32,
+        named: Named,
+    },
+    Parameter {
+        outer: &'a Names<'a>,
+        number: u32,
+        place: Where,
+    },
+    Item {
+        outer: &'a Names<'a>,
+        constant: bool,
+        number: u32,
+        named: Named,
+    },
+    Target {
+        outer: &'a Names<'a>,
+        named: Named,
+    },
+    Handled {
+        outer: &'a Names<'a>,
+        place: Where,
+    },
+    Exit {
+        outer: &'a Names<'a>,
+        number: u32,
+        to: u32,
+    },
+    /// The threads of a construct begin: what is outward is a frame further outward.
+    Thread {
+        outer: &'a Names<'a>,
+    },
+}
+
+/// What is known where code is emitted: the program, names, the texts of the program, the first free cell of the frame, the handler,
+/// how the body is left by a return, the body, and how many constructs are begun in it.
+#[derive(Clone, Copy)]
+pub struct Env<'a> {
+    pub typed: &'a Typed,
+    pub names: Names<'a>,
+    pub texts: &'a Items<Words>,
+    pub free: u32,
+    pub entry: Option<u32>,
+    pub leaving: Leaving,
+    pub body: Around,
+    pub nest: u32,
+}
+
+/// The code that was emitted, if it is whole: if all of it had room.
+#[derive(Drop)]
+pub struct Emitter {
+    pub code: Items<Placed>,
+    pub whole: bool,
+}
