@@ -8,7 +8,7 @@ ghost use Rattle.ada_workers.specs.Tasks.{AllHome, AllFineOver, AllReturned, Sea
 ghost use Rattle.ada_workers.specs.Joins.{AllIn, LentTo, regions_of, starts_of, with_cells, BacksHome, puts_back, overs_of, IsRoom, JobsRan, Joined, Stays, EndedSo};
 
 use crate::path::{Path, Stop};
-use crate::tasks::{Back, Ready, State, run_all};
+use crate::tasks::{Back, Crew, Ready, State, TaskRooms, run_all};
 use ada_port::Pulse;
 use cell_memory::{Memory, Region, View};
 use leave_board::{Board, Seat};
@@ -154,15 +154,12 @@ fn is_short(state: State) -> bool
 
 // Runs the threads on what they are lent.
 fn run_lent<R: Threads + Sync, P: Path + Send + Drop, U: Pulse + Sync>(
-    rt: &R,
-    alloc: Global,
+    crew: Crew<'_, R, U>,
     view: &mut View<'_>,
     jobs: Vec<Job<P>>,
     rooms: Rooms<P>,
-    workers: u32,
-    pulse: &U,
 ) -> Result<(Option<u32>, Vec<Back<P>>), AllocError>
-    requires some { 0 < workers }
+    requires some { 0 < crew.workers }
     requires many { (0 < vec_len jobs) × (vec_len jobs < 2 ^ 32) }
     requires rooms { IsRoom (vec_len jobs) rooms }
     requires main { view.old.held ≡ None }
@@ -177,7 +174,7 @@ fn run_lent<R: Threads + Sync, P: Path + Send + Drop, U: Pulse + Sync>(
         board,
         mut seats,
     } = rooms;
-    let Ok(tasks) = Vec::with_capacity(alloc, jobs.len()) else {
+    let Ok(tasks) = Vec::with_capacity(crew.alloc, jobs.len()) else {
         discard(jobs);
         ready.destroy_empty();
         backs.destroy_empty();
@@ -185,9 +182,8 @@ fn run_lent<R: Threads + Sync, P: Path + Send + Drop, U: Pulse + Sync>(
         return Err(AllocError);
     };
     let ready = lend_all(view, jobs, ready);
-    let backs = run_all(
-        rt, alloc, &*view, &board, &mut seats, ready, tasks, backs, workers, pulse,
-    );
+    let rooms = TaskRooms { tasks, backs };
+    let backs = run_all(crew, &*view, &board, &mut seats, ready, rooms);
     Ok((board.close(seats), backs))
 }
 
@@ -234,7 +230,13 @@ pub fn run_construct<R: Threads + Sync, P: Path + Send + Drop, U: Pulse + Sync>(
         discard(jobs);
         return Err(NoMemory);
     };
-    let Ok((chosen, backs)) = run_lent(rt, alloc, view, jobs, rooms, workers, pulse) else {
+    let crew = Crew {
+        rt,
+        alloc,
+        workers,
+        pulse,
+    };
+    let Ok((chosen, backs)) = run_lent(crew, view, jobs, rooms) else {
         return Err(NoMemory);
     };
     let overs = put_all(view, backs, overs);

@@ -47,6 +47,22 @@ pub(crate) struct Back<P> {
     pub state: State,
 }
 
+/// By what threads are run: the threads of the system, the allocator of the paths, how many workers there are, and what is
+/// told of each beginning.
+#[derive(Drop)]
+pub(crate) struct Crew<'r, R, U> {
+    pub rt: &'r R,
+    pub alloc: Global,
+    pub workers: u32,
+    pub pulse: &'r U,
+}
+
+/// Room for the records of threads, and for what comes back.
+pub(crate) struct TaskRooms<'a, 'b, P> {
+    pub tasks: Vec<Task<'a, 'b, P>>,
+    pub backs: Vec<Back<P>>,
+}
+
 fn begin<'a, 'b, P: Path>(
     alloc: Global,
     outer: &'a View<'a>,
@@ -178,27 +194,30 @@ fn end_all<P: Path>(
 
 /// Runs threads on views of their own.
 pub(crate) fn run_all<'a, 'b, R: Threads + Sync, P: Path + Send, U: Pulse + Sync>(
-    rt: &R,
-    alloc: Global,
+    crew: Crew<'_, R, U>,
     outer: &'a View<'a>,
     board: &'b Board,
     seats: &mut Vec<Seat>,
     ready: Vec<Ready<P>>,
-    tasks: Vec<Task<'a, 'b, P>>,
-    backs: Vec<Back<P>>,
-    workers: u32,
-    pulse: &U,
+    rooms: TaskRooms<'a, 'b, P>,
 ) -> Vec<Back<P>>
-    requires some { 0 < workers }
+    requires some { 0 < crew.workers }
     requires main { outer.now.held ≡ None }
     requires home { AllHome outer.now.home ready.items }
     requires fine { AllFineOver P.runs outer.now ready.items }
     requires seats { AllOf (λ s. s ≡ fresh board.now.name) seats.old.items × (vec_len seats.old ≡ vec_len ready) }
-    requires room { (tasks.items ≡ []) × (vec_len ready ≤ vec_capacity tasks) × (vec_len ready < 2 ^ 32) }
-    requires backs { (backs.items ≡ []) × (vec_len ready ≤ vec_capacity backs) }
+    requires room { (rooms.tasks.items ≡ []) × (vec_len ready ≤ vec_capacity rooms.tasks) × (vec_len ready < 2 ^ 32) }
+    requires backs { (rooms.backs.items ≡ []) × (vec_len ready ≤ vec_capacity rooms.backs) }
     ensures returned { AllReturned P.runs outer.entry.now ready.items result.items }
     ensures seats { SeatsTell board.entry.now.name 0 result.items seats.new.items }
 {
+    let Crew {
+        rt,
+        alloc,
+        workers,
+        pulse,
+    } = crew;
+    let TaskRooms { tasks, backs } = rooms;
     let mut tasks = begin_all(alloc, outer, board, seats, ready, tasks);
     run_duties(rt, tasks.as_mut_slice(), workers, pulse);
     end_all(tasks, seats, backs)
