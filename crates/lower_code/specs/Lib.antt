@@ -1,1 +1,2 @@
 -- Definitions of lowering.
+pub mod Parts

@@ -68,6 +68,7 @@ fn is_in(mode: Mode) -> bool
 }
 
 /// A subprogram, from one of its formals on, whose cells begin at a cell.
+#[tactic(auto, using(crate::proofs::Programs::shape_cells))]
 fn with_formals(env: &Env<'_>, id: u32, cell: u32, sub: Sub, out: &mut Emitter)
     ensures { Emits (spec.sub_code (tables env.now) (spec.placed (shapes (tables env.now) (formals_at (nodes env.now) id)) cell (env_of env.now)) (sub_of (nodes env.now) sub)) out.old out.new }
 {
@@ -115,7 +116,7 @@ fn subprogram(env: &Env<'_>, number: u32, sub: Sub, out: &mut Emitter)
 }
 
 /// All subprograms.
-#[tactic(auto, using(crate::proofs::Subs::subs_step, crate::proofs::Subs::subs_end))]
+#[tactic(auto, using(crate::proofs::Programs::subs_within, crate::proofs::Programs::subs_next, crate::proofs::Programs::subs_last))]
 fn subprograms(env: &Env<'_>, out: &mut Emitter)
     ensures { Emits (spec.subs_code (tables env.now) (env_of env.now) 0 (tables env.now).subs) out.old out.new }
 {
@@ -130,6 +131,7 @@ fn subprograms(env: &Env<'_>, out: &mut Emitter)
 }
 
 /// The statements of the main procedure, and the subprograms.
+#[tactic(auto, using(crate::proofs::Programs::main_body))]
 fn behind_main(env: &Env<'_>, out: &mut Emitter)
     ensures { Emits (spec.behind_main (tables env.now) (env_of env.now)) out.old out.new }
 {

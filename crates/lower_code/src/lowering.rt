@@ -61,7 +61,6 @@ pub fn texts_of(typed: &Typed, alloc: Global) -> Result<Items<Words>, AllocError
 
 /// The instructions of a program with these texts, or None where they don't fit into memory, or where something isn't
 /// lowered yet.
-#[tactic(auto, using(crate::proofs::Written::whole_law), unfolding(lower_values::specs::Words::program_of))]
 pub fn placed_code<'a>(
     typed: &'a Typed,
     texts: &'a Items<Words>,

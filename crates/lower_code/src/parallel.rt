@@ -5,6 +5,7 @@ ghost use Rattle.ada_meaning.specs.Meaning.{arms_of};
 ghost use Rattle.typed_tree.specs.Decoded.{arms_at, chunk_at, expr_at, iteration_at, optional_at, stmts_at};
 ghost use Rattle.lower_emission.specs.Emission.{chunk_code, chunk_scope, course_code, ends_code, filtered, items_code, range_scope, stepping, threaded, turn_item, turns_code};
 ghost use Rattle.typed_tree.specs.Syntax.{Parallel, ParallelFor};
+ghost use Rattle.lower_code.specs.Parts as parts;
 ghost use Rattle.lower_emission.specs.Statements as spec;
 ghost use Rattle.lower_emission.specs.Statements.{all};
 ghost use Rattle.lower_emission.specs.Scope.{◌⨟◌, keep, looped, one, taking, thread_scope};
@@ -37,8 +38,22 @@ const NO_LOOP: u64 = 4_294_967_296;
 /// A parallel loop.
 #[cycle(stmt)]
 #[inline(never)]
+#[tactic(auto, using(crate::proofs::Parallels::loop_is))]
 pub fn parallel_for(env: &Env<'_>, number: u32, forked: Forked, stmts: u32, out: &mut Emitter)
     ensures { Emits (spec.stmt (tables env.now) (env_of env.now) (ParallelFor number forked.site (chunk_at (nodes env.now) forked.chunk) (iteration_at (nodes env.now) forked.iteration) (stmts_at (nodes env.now) stmts))) out.old out.new }
+{
+    forked_loop(env, forked, stmts, out);
+    let free2 = out.sum(env.free, 2);
+    let free = out.sum(free2, 2);
+    ways_of_loop(&Env { free, ..*env }, number, stmts, out);
+}
+
+/// A loop's fork, its threads, and the end of the construct.
+#[cycle(stmt)]
+#[inline(never)]
+#[tactic(auto, unfolding(crate::specs::Parts::forked_loop))]
+fn forked_loop(env: &Env<'_>, forked: Forked, stmts: u32, out: &mut Emitter)
+    ensures { Emits (parts.forked_loop (tables env.now) (env_of env.now) forked.site (chunk_at (nodes env.now) forked.chunk) (iteration_at (nodes env.now) forked.iteration) (λ u. all (tables env.now) u (stmts_at (nodes env.now) stmts))) out.old out.new }
 {
     let nest = out.sum(env.nest, 1);
     out.put(env, 0, Instr::Nest);
@@ -48,11 +63,6 @@ pub fn parallel_for(env: &Env<'_>, number: u32, forked: Forked, stmts: u32, out:
     thread(env, forked, stmts, out);
     out.aim(&inside, 2, over);
     out.put(&inside, 2, Instr::Unnest);
-    let free2 = out.sum(env.free, 2);
-    let free = out.sum(free2, 2);
-    ways_of_loop(&Env { free, ..*env }, number, stmts, out);
-    // not proved yet, so not lowered
-    out.whole = false;
 }
 
 /// The fork of a loop, with what it is asked.
@@ -80,8 +90,9 @@ fn ask(env: &Env<'_>, site: u32, out: &mut Emitter)
 }
 
 /// What follows a loop's fork.
+#[tactic(auto, unfolding(crate::specs::Parts::ways))]
 fn ways_of_loop(env: &Env<'_>, number: u32, stmts: u32, out: &mut Emitter)
-    ensures { Emits (spec.left_code (env_of env.now) number (spec.exits_of (stmts_at (nodes env.now) stmts))) out.old out.new }
+    ensures { Emits (parts.ways (env_of env.now) number (spec.exits_of (stmts_at (nodes env.now) stmts))) out.old out.new }
 {
     before_ways(env, out);
     let over = out.gap(env, 0);
@@ -95,8 +106,9 @@ fn ways_of_loop(env: &Env<'_>, number: u32, stmts: u32, out: &mut Emitter)
 }
 
 /// What follows a block's fork.
+#[tactic(auto, unfolding(crate::specs::Parts::ways))]
 fn ways_of_block(env: &Env<'_>, arms: u32, out: &mut Emitter)
-    ensures { Emits (spec.left_code (env_of env.now) spec.no_loop (spec.arm_exits (arms_at (nodes env.now) arms))) out.old out.new }
+    ensures { Emits (parts.ways (env_of env.now) spec.no_loop (spec.arm_exits (arms_at (nodes env.now) arms))) out.old out.new }
 {
     before_ways(env, out);
     let over = out.gap(env, 0);
@@ -273,8 +285,21 @@ fn item_turns(env: &Env<'_>, through: Through, turns: Turns, out: &mut Emitter)
 /// A parallel block.
 #[cycle(stmt)]
 #[inline(never)]
+#[tactic(auto, using(crate::proofs::Parallels::block_is))]
 pub fn parallel_block(env: &Env<'_>, site: u32, count: u32, arms: u32, out: &mut Emitter)
     ensures { Emits (spec.stmt (tables env.now) (env_of env.now) (Parallel site (optional_at (nodes env.now) count) (arms_at (nodes env.now) arms))) out.old out.new }
+{
+    forked_block(env, site, count, arms, out);
+    let free = out.sum(env.free, 2);
+    ways_of_block(&Env { free, ..*env }, arms, out);
+}
+
+/// A block's fork, its threads, and the end of the construct.
+#[cycle(stmt)]
+#[inline(never)]
+#[tactic(auto, unfolding(crate::specs::Parts::forked_block))]
+fn forked_block(env: &Env<'_>, site: u32, count: u32, arms: u32, out: &mut Emitter)
+    ensures { Emits (parts.forked_block (tables env.now) (env_of env.now) site (optional_at (nodes env.now) count) (arms_of (arms_at (nodes env.now) arms)) (spec.arms_code (tables env.now) (spec.arm_scope (tables env.now) (env_of env.now) site) 0 (spec.arm_codes (tables env.now) (spec.arm_scope (tables env.now) (env_of env.now) site) (arms_at (nodes env.now) arms)))) out.old out.new }
 {
     let nest = out.sum(env.nest, 1);
     out.put(env, 0, Instr::Nest);
@@ -284,10 +309,6 @@ pub fn parallel_block(env: &Env<'_>, site: u32, count: u32, arms: u32, out: &mut
     arm_thread(env, site, arms, out);
     out.aim(&inside, 2, over);
     out.put(&inside, 2, Instr::Unnest);
-    let free = out.sum(env.free, 2);
-    ways_of_block(&Env { free, ..*env }, arms, out);
-    // not proved yet, so not lowered
-    out.whole = false;
 }
 
 /// The fork of a block, with what it is asked.

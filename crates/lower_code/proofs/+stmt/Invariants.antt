@@ -83,3 +83,9 @@ decreases-stmts::while_loop l = 17179869184 * l.stmts + 94
 
 abbrev pub decreases-blocks::guarded : goal.decreases-blocks::guarded
 decreases-blocks::guarded l = 17179869184 * max l.stmts l.handlers + 94
+
+abbrev pub decreases-parallel::forked_loop : goal.decreases-parallel::forked_loop
+decreases-parallel::forked_loop l = 17179869184 * l.stmts + 94
+
+abbrev pub decreases-parallel::forked_block : goal.decreases-parallel::forked_block
+decreases-parallel::forked_block l = 17179869184 * l.arms + 94
