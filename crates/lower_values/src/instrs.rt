@@ -20,6 +20,7 @@ fn base_of(class: Class) -> Base
     }
 }
 
+/// The instruction of a sign or of `not`, on operands of a class (4.5.4, 4.5.6).
 pub fn unary_instr(sign: Sign, class: Class) -> Instr
     ensures { result ≡ spec.unary_instr sign class }
 {
@@ -30,6 +31,7 @@ pub fn unary_instr(sign: Sign, class: Class) -> Instr
     }
 }
 
+/// The instruction of an operator of two operands of a class (4.5.1, 4.5.3, 4.5.5, 4.5.6), and of Max and Min.
 pub fn binary_instr(op: Op, class: Class) -> Instr
     ensures { result ≡ spec.binary_instr op class }
 {
@@ -48,6 +50,7 @@ pub fn binary_instr(op: Op, class: Class) -> Instr
     }
 }
 
+/// The instruction of a comparison (4.5.2).
 pub fn compare_instr(comparison: Comparison) -> Instr
     ensures { result ≡ spec.compare_instr comparison }
 {
@@ -61,6 +64,7 @@ pub fn compare_instr(comparison: Comparison) -> Instr
     }
 }
 
+/// The instruction that loads the cell at a place: of the own frame, of one so many frames outward, or of the main one.
 pub fn load_of(place: Where) -> Instr
     ensures { result ≡ scope.load_of place }
 {
@@ -71,6 +75,7 @@ pub fn load_of(place: Where) -> Instr
     }
 }
 
+/// The instruction that stores into the cell at a place.
 pub fn store_at(place: Where) -> Instr
     ensures { result ≡ scope.store_at place.level place.cell }
 {
@@ -91,6 +96,7 @@ fn address_at(place: Where) -> Instr
     }
 }
 
+/// The instruction that gives the address of what is named: that of its cell, or what stands in that cell.
 pub fn address_of(named: Named) -> Instr
     ensures { result ≡ scope.address_of named }
 {
