@@ -15,7 +15,8 @@ use Rattle.run_reports.specs.declared.ends.RunEnd.TheVariants as run_end
 use Rattle.driver.proofs.Exact.{compiling_exact}
 use Rattle.command_words.specs.Words.{Asked, asked}
 use Rattle.command_words.specs.declared.request.Mode.TheVariants as mode
-use Rattle.ada_cmd.specs.Answer.{Answers, Wrong, Right, Unasked, AnswersFile, Unread, Read, Short, AnswersText, Refuses, Checks, Starts, Lacks, Closes, Whole, OutFailed, Lacked, EndsBy, IsFetched, Outside, RunsUnit, Untouched, setting_of}
+use Rattle.ada_meaning.specs.Programs.{by_one_worker}
+use Rattle.ada_cmd.specs.Answer.{Answers, Wrong, Right, Unasked, AnswersFile, Unread, Read, Short, AnswersText, Refuses, Checks, Starts, Lacks, Closes, Whole, OutFailed, Lacked, EndsBy, IsFetched, Outside, RunsUnit, Untouched}
 use Rattle.run_reports.specs.Says.{Says, SaysNoMemory, SaysOrLacks, number_of}
 use Rattle.ada_cmd.specs.Causes.{Asks, Cause, ShelfFails, ErrFails, MemoryFails, MayEnd, Meets}
 use Rattle.run_reports.specs.Lines.{accepted_line, ended, usage_line}
@@ -54,12 +55,12 @@ module _ (InTells OutTells : Type 0) (words : List (List ℕ)) (before now : Out
     asks_for c accepted = record { asks = asks; text = text; has = has; accepted = accepted }
 
     -- the run's outcome has the ending that the answer tells
-    may_end : (c : Compiled) (end : RunEnd) (ending : Ending) (left : Stream) → running.Runs InTells OutTells c.program (setting_of q.settings) end before.devices.input now.devices.input before.devices.out left
+    may_end : (c : Compiled) (end : RunEnd) (ending : Ending) (left : Stream) → running.Runs InTells OutTells c.program (by_one_worker q.settings.plan q.settings.turns) end before.devices.input now.devices.input before.devices.out left
         → ((o : law.Outcome) → running.EndsAs c.program q.settings.turns end o → o.ending ≡ ending) → MayEnd InTells q c before.devices ending
     may_end c end ending left runs gives = let r = runs.run in (runs.on, (runs.told, (r.outcome, (r.early, r.permitted, gives r.outcome r.ends))))
 
     run_cause : (given : Status) (c : Compiled) (vars : Bool) (end : RunEnd) (left : Stream) → IsAccepted text c → q.mode ≡ mode.Run → q.vars ≡ vars
-        → running.Runs InTells OutTells c.program (setting_of q.settings) end before.devices.input now.devices.input before.devices.out left
+        → running.Runs InTells OutTells c.program (by_one_worker q.settings.plan q.settings.turns) end before.devices.input now.devices.input before.devices.out left
         → EndsBy c vars end given left now.devices.out before.devices.err now.devices.err → Cause InTells words before now given
     run_cause given c true (run_end.Ended finals) left accepted runs_it asks_vars runs ends =
         closes_cause (λ s. Cause InTells words before now s) _ given left now.devices.out before.devices.err now.devices.err err_fault

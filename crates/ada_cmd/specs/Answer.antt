@@ -1,6 +1,6 @@
 -- The answers of the top call: what is put to out and to err, which devices failed, and the status.
 use Rattle.std.specs.Prelude.{◌≡◌, ◌⊎◌, ℕ, List, Bool, true, false, Option, Some, None, IfSome}
-use Rattle.ada_meaning.specs.Programs.{Setting}
+use Rattle.ada_meaning.specs.Programs.{by_one_worker}
 use Rattle.ada_port.specs.Ports.{Texts, Stream, Grows, GrowsByPrefix, Breaks, IsTold, Rose, fetched}
 use Rattle.driver.specs.Compile.{IsAccepted, IsFaultOf}
 use Rattle.driver.specs.Compiled.{Compiled}
@@ -52,17 +52,13 @@ EndsBy c vars run_end.ReadFault given out out' err err' = (out' ≡ out) × Says
 EndsBy c vars run_end.WriteFault given out out' err err' = (out' ≡ out) × Says status.WriteFault write_fault_line given err err'
 EndsBy c vars run_end.NoMemory given out out' err err' = (out' ≡ out) × SaysNoMemory given err err'
 
--- so far the threads of a construct are taken in order, as one worker does
-abbrev pub setting_of : Settings → Setting
-setting_of s = record { plan = s.plan; one = true; limit = s.turns }
-
 -- A unit was run under a setting, and its end was told. Where out tells what it holds, so did it as the run left it, before
 -- lines of variables.
 pub record RunsUnit (InTells OutTells : Type 0) (c : Compiled) (settings : Settings) (vars : Bool) (given : Status) (before now : Devices) : Type 0 where
   pub end : RunEnd
   pub left : Stream
   pub tells : OutTells → IsTold left
-  pub runs : Runs InTells OutTells c.program (setting_of settings) end before.input now.input before.out left
+  pub runs : Runs InTells OutTells c.program (by_one_worker settings.plan settings.turns) end before.input now.input before.out left
   pub ends : EndsBy c vars end given left now.out before.err now.err
 
 -- the text that was fetched, of what is told

@@ -2,14 +2,14 @@
 use Rattle.std.specs.Prelude.{◌≡◌, ◌⊎◌, ◌++◌, ⊤, ℕ, List, Some, None, Bool, true}
 use Rattle.ada_base.specs.declared.reason.Reason.{Reason}
 use Rattle.ada_meaning.specs.Law.{Ending, Ended, Raised, TurnsSpent, ReadFault, WriteFault, IsPermitted, IsPrefix, Outcome, outcome_of}
-use Rattle.ada_meaning.specs.Programs.{input_of, sequential}
+use Rattle.ada_meaning.specs.Programs.{by_one_worker, input_of, sequential}
 use Rattle.ada_meaning.specs.Sequential.{IsCalm}
 use Rattle.ada_port.specs.Ports.{Texts, Rose, bytes_of, fetched}
 use Rattle.driver.specs.Compile.{IsAccepted}
 use Rattle.driver.specs.Compiled.{Compiled}
 use Rattle.command_words.specs.Words.{Asked, asked}
 use Rattle.command_words.specs.declared.request.Mode.TheVariants as mode
-use Rattle.ada_cmd.specs.Answer.{Answers, Devices, Outside, IsFetched, Untouched, setting_of}
+use Rattle.ada_cmd.specs.Answer.{Answers, Devices, Outside, IsFetched, Untouched}
 use Rattle.run_reports.specs.Says.{number_of}
 use Rattle.run_reports.specs.Vars.{vars_lines}
 use Rattle.run_reports.specs.declared.status.Status.{Status}
@@ -29,7 +29,7 @@ pub record Asks (words : List (List ℕ)) (shelf : Texts) (q : Asked) (c : Compi
 -- On some input a run that is permitted under what is asked for ends so; where the input tells, that is what it tells.
 abbrev pub MayEnd : Type 0 → Asked → Compiled → Devices → Ending → Type 0
 MayEnd InTells q c before ending =
-    (on : List ℕ) × ((InTells → on ≡ bytes_of before.input) × ((o : Outcome) × ((early : Bool) × IsPermitted c.program (setting_of q.settings) on early o × (o.ending ≡ ending))))
+    (on : List ℕ) × ((InTells → on ≡ bytes_of before.input) × ((o : Outcome) × ((early : Bool) × IsPermitted c.program (by_one_worker q.settings.plan q.settings.turns) on early o × (o.ending ≡ ending))))
 
 -- the words ask for a run of an accepted text, and on some input a permitted run of it ends so
 abbrev pub HasEnding : Type 0 → List (List ℕ) → Outside → Ending → Type 0
@@ -86,7 +86,7 @@ pub record PutsVars (InTells OutTells : Type 0) (q : Asked) (c : Compiled) (befo
   pub told : InTells → on ≡ bytes_of before.input
   pub outcome : Outcome
   pub early : Bool
-  pub permitted : IsPermitted c.program (setting_of q.settings) on early outcome
+  pub permitted : IsPermitted c.program (by_one_worker q.settings.plan q.settings.turns) on early outcome
   pub ended : outcome.ending ≡ Ended
   pub written : OutTells → bytes_of now.out ≡ bytes_of before.out ++ with_vars c outcome
   pub calm : IsCalm (sequential c.program q.settings.turns (input_of on)) → outcome ≡ sequential_of q c on

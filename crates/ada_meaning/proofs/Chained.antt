@@ -11,7 +11,7 @@ use Rattle.ada_meaning.specs.Values.{result, divides, overflows, is_zero, value_
 use Rattle.ada_meaning.specs.Operations.{CheckKind, ZeroCheck, OverflowCheck, chunk_of, reduce, zero_checked, overflow_checked}
 use Rattle.ada_meaning.specs.Stored
 use Rattle.ada_base.specs.Notes.{InOrder, Schedule, ByNotes, ThreadNote, Whole, NotBegun, CutAfter}
-use Rattle.ada_meaning.specs.Stored.{State, Cause, Left, OutOfTurns, NoRoom, CutOff, Misnoted, After, Place, Thread, Team, Visit, ThreadOf, TeamOf, Stored, loose, teams, cell_at, next, next_visits, handled_visits, begun, has_room, took, Touch, slot_at}
+use Rattle.ada_meaning.specs.Stored.{State, Cause, Left, OutOfTurns, NoRoom, CutOff, Misnoted, After, Address, Thread, Team, Visit, ThreadOf, TeamOf, Stored, loose, teams, cell_at, next, next_visits, handled_visits, begun, has_room, took, Touch, slot_at}
 use Rattle.ada_meaning.specs.Touched.{Before, EachTeam, SameCells, Leaves, Chain, IsChain, touches_of, IsJoin, Rises, IsLined, JoinLaw}
 use Rattle.ada_meaning.proofs.Framed
 use Rattle.ada_meaning.proofs.Framed.{Framed, before_grown, took_same, written_left, written_right}
@@ -471,7 +471,7 @@ leaves_same s u h = record {
   others = λ a b n. cell_same s u a h.cells h.kept;
 }
 
-before_left : (s u : State) (ts : List Touch) → Leaves s u ts → (a : Place) → Before s a → Before u a
+before_left : (s u : State) (ts : List Touch) → Leaves s u ts → (a : Address) → Before s a → Before u a
 before_left s u ts h a b = before_grown s u (record { height = h.cells; kept = h.kept }) a b
 
 leaves_then : (s t u : State) (ts us : List Touch) → Leaves s t ts → Leaves t u us → Leaves s u (ts ++ us)

@@ -179,7 +179,7 @@ module _ (input : List ℕ) (b : Mode) (ls gs : List Tie) (s : State) (p : Path 
     declared = k.declared;
   }
     where
-      go : (a : Rattle.ada_meaning.specs.Stored.Place) (w : ℤ) → cell_at u a ≡ Some w → cell_at (ended Everywhere x s u) a ≡ Some w
+      go : (a : Rattle.ada_meaning.specs.Stored.Address) (w : ℤ) → cell_at u a ≡ Some w → cell_at (ended Everywhere x s u) a ≡ Some w
       go (Kept a) w e = e
       go (Stacked a) w e = e
 

@@ -12,7 +12,7 @@ use Rattle.ada_meaning.specs.Values.{result, divides, overflows, is_zero, value_
 use Rattle.ada_meaning.specs.Operations.{CheckKind, ZeroCheck, OverflowCheck, chunk_of, Operations, reduce, zero_checked, overflow_checked}
 use Rattle.ada_meaning.specs.Stored
 use Rattle.ada_base.specs.Notes.{InOrder, Schedule, ByNotes, ThreadNote, Whole, NotBegun, CutAfter}
-use Rattle.ada_meaning.specs.Stored.{State, slot_at, put_at, Cause, Left, OutOfTurns, NoRoom, CutOff, Misnoted, After, at, Place, Kept, Stacked, Touch, Stored, cell_at, next, next_touches, handled, handled_touches, begun, ended, has_room, place_of, touched, written_at, read_at, value_read, taken_from, looked, took}
+use Rattle.ada_meaning.specs.Stored.{State, slot_at, put_at, Cause, Left, OutOfTurns, NoRoom, CutOff, Misnoted, After, at, Address, Kept, Stacked, Touch, Stored, cell_at, next, next_touches, handled, handled_touches, begun, ended, has_room, place_of, touched, written_at, read_at, value_read, taken_from, looked, took}
 use Rattle.ada_meaning.specs.Touched.{Before, WrittenIn, LeavesOthers, FrameLaw, SameCells}
 use Rattle.ada_meaning.proofs.Cells.{get_left, get_within}
 use Rattle.ada_meaning.proofs.Lays.{Same, same_refl, same_trans, rest_same, put_rest, cell_same, cell_cut, put_at_other}
@@ -21,12 +21,12 @@ use Rattle.ada_meaning.proofs.Stops.{nothing}
 use Rattle.ada_meaning.proofs.Induction
 use Rattle.ada_meaning.proofs.Induction.{Relates}
 
-pub written_left : (ts us : List Touch) (a : Place) → WrittenIn ts a → WrittenIn (ts ++ us) a
+pub written_left : (ts us : List Touch) (a : Address) → WrittenIn ts a → WrittenIn (ts ++ us) a
 written_left [] us a w = absurd w
 written_left (t ∷ ts) us a (inl w) = inl w
 written_left (t ∷ ts) us a (inr w) = inr (written_left ts us a w)
 
-pub written_right : (ts us : List Touch) (a : Place) → WrittenIn us a → WrittenIn (ts ++ us) a
+pub written_right : (ts us : List Touch) (a : Address) → WrittenIn us a → WrittenIn (ts ++ us) a
 written_right [] us a w = w
 written_right (t ∷ ts) us a w = inr (written_right ts us a w)
 
@@ -44,7 +44,7 @@ grown_same s u c k = record { height = ap length c; kept = let e = ap length k i
 grown_then : (s t u : State) → Grown s t → Grown t u → Grown s u
 grown_then s t u g h = record { height = h.height ∙ g.height; kept = let a = g.kept in let b = h.kept in omega arith }
 
-pub before_grown : (s u : State) → Grown s u → (a : Place) → Before s a → Before u a
+pub before_grown : (s u : State) → Grown s u → (a : Address) → Before s a → Before u a
 before_grown s u g (Kept a) b = let k = g.kept in omega arith
 before_grown s u g (Stacked a) b = let k = g.height in omega arith
 
@@ -109,7 +109,7 @@ reads_framed x i = still (Stored.reads x i) (λ s. go s (place_of s x i))
     of_value s None = record { cells = refl; kept = refl; here = refl; everywhere = refl; frame = refl }
     of_value s (Some v) = record { cells = refl; kept = refl; here = refl; everywhere = refl; frame = refl }
 
-    go : (s : State) (a : Option Place) → SameCells s (read_at s a).state
+    go : (s : State) (a : Option Address) → SameCells s (read_at s a).state
     go s None = record { cells = refl; kept = refl; here = refl; everywhere = refl; frame = refl }
     go s (Some a) = of_value s (cell_at s a)
 
@@ -117,16 +117,16 @@ pub writes_framed : (x i : ℕ) (v : ℤ) → Framed (Stored.writes x i v)
 unfolding Stored.writes
 writes_framed x i v = record { grown = λ s. grows s (place_of s (VariableOf x) i); slots = λ s. at_slots s (place_of s (VariableOf x) i); same = λ s a b n. keeps s a (place_of s (VariableOf x) i) n }
   where
-    grows : (s : State) (o : Option Place) → Grown s (written_at s o v).state
+    grows : (s : State) (o : Option Address) → Grown s (written_at s o v).state
     grows s None = grown_refl s
     grows s (Some (Kept a)) = record { height = refl; kept = let e = length-set s.kept a v in omega arith }
     grows s (Some (Stacked a)) = record { height = length-set s.cells a v; kept = le_refl (length s.kept) }
 
-    at_slots : (s : State) (o : Option Place) → Same s (written_at s o v).state
+    at_slots : (s : State) (o : Option Address) → Same s (written_at s o v).state
     at_slots s None = same_refl s
     at_slots s (Some a) = rest_same s (put_at s a v) (put_rest s a v)
 
-    keeps : (s : State) (a : Place) (o : Option Place) → (WrittenIn (touched true o) a → ⊥) → cell_at (written_at s o v).state a ≡ cell_at s a
+    keeps : (s : State) (a : Address) (o : Option Address) → (WrittenIn (touched true o) a → ⊥) → cell_at (written_at s o v).state a ≡ cell_at s a
     keeps s a None n = refl
     keeps s a (Some b) n = put_at_other s b a v (λ e. n (inl (refl, e)))
 
@@ -170,7 +170,7 @@ bind_framed {A} {B} m k first rest = record {
     grows u (Ok x) = (rest x).grown u
     grows u (Err c) = grown_refl u
 
-    keeps : (a : Place) (u : State) (e : Result A Cause) → Before u a → (WrittenIn (next_touches u e k) a → ⊥) → cell_at (next u e k).state a ≡ cell_at u a
+    keeps : (a : Address) (u : State) (e : Result A Cause) → Before u a → (WrittenIn (next_touches u e k) a → ⊥) → cell_at (next u e k).state a ≡ cell_at u a
     keeps a u (Ok x) b n = (rest x).same u a b n
     keeps a u (Err c) b n = refl
 
@@ -208,11 +208,11 @@ handles_framed {A} m takes k first rest = record {
     grows u (Err CutOff) = grown_refl u
     grows u (Err Misnoted) = grown_refl u
 
-    keeps_taken : (a : Place) (u : State) (x : Leave) → Before u a → (c : Bool) → (WrittenIn (cond c ((k x).touches u) []) a → ⊥) → cell_at (cond c ((k x).does u) (at u (Err (Left x)))).state a ≡ cell_at u a
+    keeps_taken : (a : Address) (u : State) (x : Leave) → Before u a → (c : Bool) → (WrittenIn (cond c ((k x).touches u) []) a → ⊥) → cell_at (cond c ((k x).does u) (at u (Err (Left x)))).state a ≡ cell_at u a
     keeps_taken a u x b true n = (rest x).same u a b n
     keeps_taken a u x b false n = refl
 
-    keeps : (a : Place) (u : State) (e : Result A Cause) → Before u a → (WrittenIn (handled_touches u e takes k) a → ⊥) → cell_at (handled u e takes k).state a ≡ cell_at u a
+    keeps : (a : Address) (u : State) (e : Result A Cause) → Before u a → (WrittenIn (handled_touches u e takes k) a → ⊥) → cell_at (handled u e takes k).state a ≡ cell_at u a
     keeps a u (Ok x) b n = refl
     keeps a u (Err (Left x)) b n = keeps_taken a u x b (takes x) n
     keeps a u (Err OutOfTurns) b n = refl
@@ -231,13 +231,13 @@ apart_framed m first = record {
 }
 
 -- a cell that was there is one behind a new object too
-cell_begun : (region : Region) (x : Entity) (vs : List ℤ) (s : State) (a : Place) → Before s a → cell_at (begun region x vs s) a ≡ cell_at s a
+cell_begun : (region : Region) (x : Entity) (vs : List ℤ) (s : State) (a : Address) → Before s a → cell_at (begun region x vs s) a ≡ cell_at s a
 cell_begun Here x vs s (Kept a) b = refl
 cell_begun Here x vs s (Stacked a) b = let v = get_within s.cells a b in get_left s.cells vs a v.0 v.1 ∙ sym v.1
 cell_begun Everywhere x vs s (Kept a) b = let v = get_within s.kept a b in get_left s.kept vs a v.0 v.1 ∙ sym v.1
 cell_begun Everywhere x vs s (Stacked a) b = refl
 
-before_begun : (region : Region) (x : Entity) (vs : List ℤ) (s : State) (a : Place) → Before s a → Before (begun region x vs s) a
+before_begun : (region : Region) (x : Entity) (vs : List ℤ) (s : State) (a : Address) → Before s a → Before (begun region x vs s) a
 before_begun Here x vs s (Kept a) b = b
 before_begun Here x vs s (Stacked a) b = let e = length-append s.cells vs in omega arith
 before_begun Everywhere x vs s (Kept a) b = let e = length-append s.kept vs in omega arith
@@ -247,7 +247,7 @@ grown_ended : (region : Region) (x : Entity) (vs : List ℤ) (s u : State) → G
 grown_ended Here x vs s u g = record { height = length-take-le (length s.cells) u.cells (let e = length-append s.cells vs in let h = g.height in omega arith); kept = g.kept }
 grown_ended Everywhere x vs s u g = record { height = g.height; kept = let e = length-append s.kept vs in let h = g.kept in omega arith }
 
-cell_ended : (region : Region) (x : Entity) (s u : State) (a : Place) → Before s a → cell_at (ended region x s u) a ≡ cell_at u a
+cell_ended : (region : Region) (x : Entity) (s u : State) (a : Address) → Before s a → cell_at (ended region x s u) a ≡ cell_at u a
 cell_ended Here x s u (Kept a) b = refl
 cell_ended Here x s u (Stacked a) b = cell_cut x s u (Stacked a) b
 cell_ended Everywhere x s u a b = cell_same u (ended Everywhere x s u) a refl refl
@@ -267,7 +267,7 @@ elaborates_framed {A} region x vs m first = record { grown = λ s. grows s (has_
     grows s true = grown_ended region x vs s (m.does (begun region x vs s)).state (first.grown (begun region x vs s))
     grows s false = grown_refl s
 
-    keeps : (s : State) (a : Place) → Before s a → (c : Bool) → (WrittenIn (cond c (m.touches (begun region x vs s)) []) a → ⊥)
+    keeps : (s : State) (a : Address) → Before s a → (c : Bool) → (WrittenIn (cond c (m.touches (begun region x vs s)) []) a → ⊥)
         → cell_at (cond c (at (ended region x s (m.does (begun region x vs s)).state) (m.does (begun region x vs s)).end) (at s (Err NoRoom))).state a ≡ cell_at s a
     keeps s a b true n = cell_ended region x s (m.does (begun region x vs s)).state a b ∙ first.same (begun region x vs s) a (before_begun region x vs s a b) n ∙ cell_begun region x vs s a b
     keeps s a b false n = refl

@@ -24,7 +24,7 @@ use Rattle.behaviours.specs.Paths.{Leave, Exits, Returns, Raises, Entity, Variab
 use Rattle.ada_meaning.specs.Values.{result, truth, bit, is_in, between, to_nat, count, base_of, unary, is_zero, divides, overflows, value_or_zero, defaults, laid, zeros, image_of, handles_reason, is_chosen}
 use Rattle.ada_meaning.specs.Operations.{CheckKind, RangeCheck, IndexCheck, OverflowCheck, ZeroCheck, Cut, Sized, Operations, zero_checked, overflow_checked, operate, reduce}
 use Rattle.ada_meaning.specs.Meaning
-use Rattle.ada_meaning.specs.Meaning.{Part, Env, Back, Passed, Returned, outset, with_target, with_handled, inside, variable_root, constant_root, array_root, iterated_env, cut_of, value_cut_of, arms_of, exits, returns, raises, value_of, reason_of, has_handlers, sub_at, moved, object_layout, most_nested, most_threads, most_iterations, most_calls}
+use Rattle.ada_meaning.specs.Meaning.{ObjectPart, Env, Back, Passed, Returned, outset, with_target, with_handled, inside, variable_root, constant_root, array_root, iterated_env, cut_of, value_cut_of, arms_of, exits, returns, raises, value_of, reason_of, has_handlers, sub_at, moved, object_layout, most_nested, most_threads, most_iterations, most_calls}
 use Rattle.ada_meaning.specs.Nonblocking.{MayCall, MayReduce, KeepsExpr, KeepsOptional, KeepsSelections, KeepsActuals, KeepsValue, KeepsComposite, KeepsAssociations, KeepsIteration, KeepsChunk, KeepsPieces, KeepsDecls, Keeps, KeepsAll, KeepsAlternatives, KeepsArms, KeepsHandlers, KeepsBody, KeepsSubs, KeepsRule, nonblocking_of}
 use Rattle.typed_tree.specs.Syntax.{Expr, Static, Variable, Constant, Parameter, Target, Group, Unary, Binary, AndThen, OrElse, Relation, Membership, If, Call, Convert, Reduction, Optional, Absent, Present, Selections, Whole, Field, Index, Actuals, NoActual, In, InOut, Out, CompositeInOut, CompositeOut, Value, Number, Cells, Composite, WholeVariable, WholeConstant, WholeTarget, CompositeIf, Aggregate, Associations, NoAssociation, Association, Iteration, Range, Components, Chunk, NoChunk, Count, Each, Pieces, NoPiece, Text, Image, Padded, Decls, NoDecl, DeclareDefault, DeclareVariable, DeclareConstant, Mentions, Stmt, Null, Assign, CallProcedure, Exit, Return, ReturnValue, Raise, Reraise, IfThen, Case, Loop, For, ParallelFor, Parallel, Block, Put, Get, Stmts, End, Then, Alternatives, NoAlternative, Alternative, Arms, NoArm, Arm, Handlers, NoHandler, Handler, Body, Sub, Program}
 
@@ -239,7 +239,7 @@ module _ {ℓ κ ν} {o : Operations {ℓ}} {q : Operations {κ}} (rel : Relates
         holds Absent env h k = rel.ret h.world true
         holds (Present e) env h k = rel.bind h.world (eval e env h k) (λ v. rel.ret h.world (truth v))
 
-        pub select : (s : Selections) (env : Env) (p : Part) (h : Spot) → KeepsSelections nonblocking s h.blocking → R h.world (Meaning.select o limit program calls s env p) (Meaning.select q limit program calls' s env p)
+        pub select : (s : Selections) (env : Env) (p : ObjectPart) (h : Spot) → KeepsSelections nonblocking s h.blocking → R h.world (Meaning.select o limit program calls s env p) (Meaning.select q limit program calls' s env p)
         select Whole env p h k = rel.ret h.world p
         select (Field number offset rest) env p h k = select rest env (moved p offset) h k
         select (Index at e low high stride rest) env p h k = rel.bind h.world (eval e env h k.0) (λ i. rel.bind h.world (rel.checks h.world IndexCheck at (between low i high)) (λ _. select rest env (moved p (to_nat (i -ℤ low) * stride)) h k.1))

@@ -10,7 +10,7 @@ use Rattle.ada_meaning.specs.Stored
 use Rattle.ada_meaning.specs.declared.slots.Slot.{Slot}
 use Rattle.ada_meaning.specs.declared.slots.Variable.{Variable}
 use Rattle.ada_base.specs.Notes.{Schedule, InOrder}
-use Rattle.ada_meaning.specs.Stored.{State, Place, Kept, Stacked, slot_at, key, place_of, within, cell_at, put_at, begun, ended, filled, finals_of}
+use Rattle.ada_meaning.specs.Stored.{State, Address, Kept, Stacked, slot_at, key, place_of, within, cell_at, put_at, begun, ended, filled, finals_of}
 use Rattle.ada_meaning.proofs.Ties.{Future, Goes}
 use Rattle.behaviours.proofs.Shuffle.{instance_same}
 use Rattle.ada_meaning.proofs.Cells.{instance_refl, get_left, get_take, get_set_same, get_set_other, put_same, put_elsewhere, filled_values, part_values}
@@ -23,7 +23,7 @@ pub record Tie : Type 0 where
   pub base : ℕ
   pub cells : ℕ
 
-abbrev pub place : Tie → ℕ → Place
+abbrev pub place : Tie → ℕ → Address
 place c i = cond c.kept (Kept (c.base + i)) (Stacked (c.base + i))
 
 abbrev pub In : Tie → List Tie → Type 0
@@ -168,10 +168,10 @@ visible_same ls gs gs' s s' t g e v = record {
 }
 
 -- a cell is found in both, or in neither
-abbrev pub Found : List Tie → List Tie → ℕ → Option Place → Option Instance → Type 0
+abbrev pub Found : List Tie → List Tie → ℕ → Option Address → Option Instance → Type 0
 Found ls gs i a l = ((a ≡ None) × (l ≡ None)) ⊎ ((c : Tie) × Tied ls gs c × (i < c.cells) × (a ≡ Some (place c i)) × (l ≡ Some c.instance))
 
-found_in : (ls gs : List Tie) (i : ℕ) (f : ℕ → Place) (slot : Slot) (e : Extent Instance) (c : Tie) → Tied ls gs c → c.instance ≡ e.instance → c.cells ≡ e.cells → f (slot.address + i) ≡ place c i → slot.cells ≡ e.cells → Found ls gs i (within f slot i) (within_extent i (Some e))
+found_in : (ls gs : List Tie) (i : ℕ) (f : ℕ → Address) (slot : Slot) (e : Extent Instance) (c : Tie) → Tied ls gs c → c.instance ≡ e.instance → c.cells ≡ e.cells → f (slot.address + i) ≡ place c i → slot.cells ≡ e.cells → Found ls gs i (within f slot i) (within_extent i (Some e))
 found_in ls gs i f slot e c t same size at cells = subst (λ n. Found ls gs i (cond (nat_lt i n) (Some (f (slot.address + i))) None) (within_extent i (Some e))) (sym cells) (go (nat_lt i e.cells) refl)
   where
     go : (b : Bool) → nat_lt i e.cells ≡ b → Found ls gs i (cond b (Some (f (slot.address + i))) None) (cond b (Some e.instance) None)
@@ -193,27 +193,27 @@ found ls gs s t x i v = go (nat_eq (slot_at s.here (key x)).frame s.frame) (nat_
 
 -- places
 
-kept_inj : (a b : ℕ) → ◌≡◌ {A = Place} (Kept a) (Kept b) → a ≡ b
+kept_inj : (a b : ℕ) → ◌≡◌ {A = Address} (Kept a) (Kept b) → a ≡ b
 kept_inj a b e = cc
 
-stacked_inj : (a b : ℕ) → ◌≡◌ {A = Place} (Stacked a) (Stacked b) → a ≡ b
+stacked_inj : (a b : ℕ) → ◌≡◌ {A = Address} (Stacked a) (Stacked b) → a ≡ b
 stacked_inj a b e = cc
 
-kept-ne-stacked : (a b : ℕ) → ◌≡◌ {A = Place} (Kept a) (Stacked b) → ⊥
+kept-ne-stacked : (a b : ℕ) → ◌≡◌ {A = Address} (Kept a) (Stacked b) → ⊥
 kept-ne-stacked a b e = absurd (cc)
 
-stacked-ne-kept : (a b : ℕ) → ◌≡◌ {A = Place} (Stacked a) (Kept b) → ⊥
+stacked-ne-kept : (a b : ℕ) → ◌≡◌ {A = Address} (Stacked a) (Kept b) → ⊥
 stacked-ne-kept a b e = absurd (cc)
 
-pub place_inj : (kept : Bool) (a i j : ℕ) → ◌≡◌ {A = Place} (cond kept (Kept (a + i)) (Stacked (a + i))) (cond kept (Kept (a + j)) (Stacked (a + j))) → i ≡ j
+pub place_inj : (kept : Bool) (a i j : ℕ) → ◌≡◌ {A = Address} (cond kept (Kept (a + i)) (Stacked (a + i))) (cond kept (Kept (a + j)) (Stacked (a + j))) → i ≡ j
 place_inj true a i j e = let h = kept_inj (a + i) (a + j) e in omega arith
 place_inj false a i j e = let h = stacked_inj (a + i) (a + j) e in omega arith
 
-put_at_same : (s : State) (a : Place) (v w : ℤ) → cell_at s a ≡ Some w → cell_at (put_at s a v) a ≡ Some v
+put_at_same : (s : State) (a : Address) (v w : ℤ) → cell_at s a ≡ Some w → cell_at (put_at s a v) a ≡ Some v
 put_at_same s (Kept a) v w e = get_set_same s.kept a v w e
 put_at_same s (Stacked a) v w e = get_set_same s.cells a v w e
 
-pub put_at_other : (s : State) (a b : Place) (v : ℤ) → (a ≡ b → ⊥) → cell_at (put_at s a v) b ≡ cell_at s b
+pub put_at_other : (s : State) (a b : Address) (v : ℤ) → (a ≡ b → ⊥) → cell_at (put_at s a v) b ≡ cell_at s b
 put_at_other s (Kept a) (Kept b) v ne = get_set_other s.kept a b v (λ e. ne (ap Kept e))
 put_at_other s (Kept a) (Stacked b) v ne = refl
 put_at_other s (Stacked a) (Kept b) v ne = refl
@@ -232,30 +232,30 @@ pub record Rest (s s' : State) : Type 0 where
   pub declared : s'.declared ≡ s.declared
   pub notes : s'.notes ≡ s.notes
 
-pub put_rest : (s : State) (a : Place) (v : ℤ) → Rest s (put_at s a v)
+pub put_rest : (s : State) (a : Address) (v : ℤ) → Rest s (put_at s a v)
 put_rest s (Kept a) v = record { here = refl; everywhere = refl; frame = refl; turns = refl; taken = refl; held = refl; input = refl; output = refl; declared = refl; notes = refl }
 put_rest s (Stacked a) v = record { here = refl; everywhere = refl; frame = refl; turns = refl; taken = refl; held = refl; input = refl; output = refl; declared = refl; notes = refl }
 
 pub rest_same : (s s' : State) → Rest s s' → Same s s'
 rest_same s s' r = record { here = λ k. ap (λ z. slot_at z k) r.here; everywhere = λ k. ap (λ z. slot_at z k) r.everywhere; frame = r.frame; room = ap length r.here; everywhere_room = ap length r.everywhere }
 
-pub cell_same : (s s' : State) (a : Place) → s'.cells ≡ s.cells → s'.kept ≡ s.kept → cell_at s' a ≡ cell_at s a
+pub cell_same : (s s' : State) (a : Address) → s'.cells ≡ s.cells → s'.kept ≡ s.kept → cell_at s' a ≡ cell_at s a
 cell_same s s' (Kept a) e f = ap (λ z. slice_get z a) f
 cell_same s s' (Stacked a) e f = ap (λ z. slice_get z a) e
 
-abbrev pub Below : Place → ℕ → Type 0
+abbrev pub Below : Address → ℕ → Type 0
 Below (Kept a) n = Unit {0}
 Below (Stacked a) n = a < n
 
-pub below_from : (s : State) (a : Place) (v : ℤ) → cell_at s a ≡ Some v → Below a (length s.cells)
+pub below_from : (s : State) (a : Address) (v : ℤ) → cell_at s a ≡ Some v → Below a (length s.cells)
 below_from s (Kept a) v e = tt
 below_from s (Stacked a) v e = slice_get_within s.cells a v e
 
-pub cell_cut : (x : Entity) (s u : State) (a : Place) → Below a (length s.cells) → cell_at (ended Here x s u) a ≡ cell_at u a
+pub cell_cut : (x : Entity) (s u : State) (a : Address) → Below a (length s.cells) → cell_at (ended Here x s u) a ≡ cell_at u a
 cell_cut x s u (Kept a) b = refl
 cell_cut x s u (Stacked a) b = get_take (length s.cells) u.cells a b
 
-pub cell_more : (region : Region) (x : Entity) (vs : List ℤ) (s : State) (a : Place) (w : ℤ) → cell_at s a ≡ Some w → cell_at (begun region x vs s) a ≡ Some w
+pub cell_more : (region : Region) (x : Entity) (vs : List ℤ) (s : State) (a : Address) (w : ℤ) → cell_at s a ≡ Some w → cell_at (begun region x vs s) a ≡ Some w
 cell_more Here x vs s (Kept a) w e = e
 cell_more Here x vs s (Stacked a) w e = get_left s.cells vs a w e
 cell_more Everywhere x vs s (Kept a) w e = get_left s.kept vs a w e

@@ -11,7 +11,7 @@ use Rattle.ada_meaning.specs.Values.{result, divides, overflows, is_zero, value_
 use Rattle.ada_meaning.specs.Operations.{CheckKind, ZeroCheck, OverflowCheck, chunk_of, reduce, zero_checked, overflow_checked}
 use Rattle.ada_meaning.specs.Stored
 use Rattle.ada_base.specs.Notes.{InOrder}
-use Rattle.ada_meaning.specs.Stored.{State, Cause, Left, OutOfTurns, NoRoom, CutOff, Misnoted, After, at, Fault, Place, Kept, Stacked, Stored, Stops, cell_at, next, next_halts, next_touches, next_deeds, handled, handled_halts, handled_touches, handled_deeds, begun, ended, has_room, place_of, put_at, written_at, read_at, value_read, taken_from, took}
+use Rattle.ada_meaning.specs.Stored.{State, Cause, Left, OutOfTurns, NoRoom, CutOff, Misnoted, After, at, Outage, Address, Kept, Stacked, Stored, Stops, cell_at, next, next_halts, next_touches, next_deeds, handled, handled_halts, handled_touches, handled_deeds, begun, ended, has_room, place_of, put_at, written_at, read_at, value_read, taken_from, took}
 use Rattle.ada_meaning.specs.StoredLaw.{PlainLaw}
 use Rattle.ada_meaning.proofs.Induction
 use Rattle.ada_meaning.proofs.Induction.{Relates}
@@ -32,8 +32,8 @@ stays_then s t u h k = (k.0 ∙ h.0, k.1 ∙ h.1)
 record Alike {A : Type 0} (m n : Stored A) : Type 0 where
   pub stays : (s : State) → Stays s (m.does s).state
   pub does : (s : State) → Plain s → m.does s ≡ n.does s
-  pub into : (s : State) (f : Fault) (t : State) → Plain s → m.halts s f t → n.halts s f t
-  pub back : (s : State) (f : Fault) (t : State) → Plain s → n.halts s f t → m.halts s f t
+  pub into : (s : State) (f : Outage) (t : State) → Plain s → m.halts s f t → n.halts s f t
+  pub back : (s : State) (f : Outage) (t : State) → Plain s → n.halts s f t → m.halts s f t
   pub touches : (s : State) → Plain s → m.touches s ≡ n.touches s
   pub deeds : (s : State) → Plain s → m.deeds s ≡ n.deeds s
 
@@ -85,7 +85,7 @@ reads_alike x i = alike_same (Stored.reads x i) (λ s. go s (place_of s x i))
     of_value s None = (refl, refl)
     of_value s (Some v) = (refl, refl)
 
-    go : (s : State) (a : Option Place) → Stays s (read_at s a).state
+    go : (s : State) (a : Option Address) → Stays s (read_at s a).state
     go s None = (refl, refl)
     go s (Some a) = of_value s (cell_at s a)
 
@@ -93,7 +93,7 @@ writes_alike : (x i : ℕ) (v : ℤ) → Alike (Stored.writes x i v) (Stored.wri
 unfolding Stored.writes
 writes_alike x i v = alike_same (Stored.writes x i v) (λ s. go s (place_of s (VariableOf x) i))
   where
-    go : (s : State) (a : Option Place) → Stays s (written_at s a v).state
+    go : (s : State) (a : Option Address) → Stays s (written_at s a v).state
     go s None = (refl, refl)
     go s (Some (Kept a)) = (refl, refl)
     go s (Some (Stacked a)) = (refl, refl)
@@ -124,11 +124,11 @@ rewinds_alike n = alike_same (Stored.rewinds n) (λ s. (refl, refl))
 
 -- put together
 
-stops_into : {A : Type 0} (m n : Stored A) → Alike m n → (s : State) (f : Fault) (t : State) → Plain s → Stops m s f t → Stops n s f t
+stops_into : {A : Type 0} (m n : Stored A) → Alike m n → (s : State) (f : Outage) (t : State) → Plain s → Stops m s f t → Stops n s f t
 stops_into m n h s f t p (inl k) = inl k
 stops_into m n h s f t p (inr k) = inr (h.into s f t p k)
 
-stops_back : {A : Type 0} (m n : Stored A) → Alike m n → (s : State) (f : Fault) (t : State) → Plain s → Stops n s f t → Stops m s f t
+stops_back : {A : Type 0} (m n : Stored A) → Alike m n → (s : State) (f : Outage) (t : State) → Plain s → Stops n s f t → Stops m s f t
 stops_back m n h s f t p (inl k) = inl k
 stops_back m n h s f t p (inr k) = inr (h.back s f t p k)
 
@@ -154,11 +154,11 @@ bind_alike {A} {B} m n k l first rest = record {
     same u (Ok a) p = (rest a).does u p
     same u (Err c) p = refl
 
-    into : (f : Fault) (t u : State) (e : Result A Cause) → Plain u → next_halts u e k f t → next_halts u e l f t
+    into : (f : Outage) (t u : State) (e : Result A Cause) → Plain u → next_halts u e k f t → next_halts u e l f t
     into f t u (Ok a) p h = stops_into (k a) (l a) (rest a) u f t p h
     into f t u (Err c) p h = h
 
-    back : (f : Fault) (t u : State) (e : Result A Cause) → Plain u → next_halts u e l f t → next_halts u e k f t
+    back : (f : Outage) (t u : State) (e : Result A Cause) → Plain u → next_halts u e l f t → next_halts u e k f t
     back f t u (Ok a) p h = stops_back (k a) (l a) (rest a) u f t p h
     back f t u (Err c) p h = h
 
@@ -208,11 +208,11 @@ handles_alike {A} m n takes k l first rest = record {
     same u (Err CutOff) p = refl
     same u (Err Misnoted) p = refl
 
-    into_taken : (f : Fault) (t u : State) (x : Leave) → Plain u → (c : Bool) → cond c (Stops (k x) u f t) ⊥ → cond c (Stops (l x) u f t) ⊥
+    into_taken : (f : Outage) (t u : State) (x : Leave) → Plain u → (c : Bool) → cond c (Stops (k x) u f t) ⊥ → cond c (Stops (l x) u f t) ⊥
     into_taken f t u x p true h = stops_into (k x) (l x) (rest x) u f t p h
     into_taken f t u x p false h = h
 
-    into : (f : Fault) (t u : State) (e : Result A Cause) → Plain u → handled_halts u e takes k f t → handled_halts u e takes l f t
+    into : (f : Outage) (t u : State) (e : Result A Cause) → Plain u → handled_halts u e takes k f t → handled_halts u e takes l f t
     into f t u (Ok a) p h = h
     into f t u (Err (Left x)) p h = into_taken f t u x p (takes x) h
     into f t u (Err OutOfTurns) p h = h
@@ -220,11 +220,11 @@ handles_alike {A} m n takes k l first rest = record {
     into f t u (Err CutOff) p h = h
     into f t u (Err Misnoted) p h = h
 
-    back_taken : (f : Fault) (t u : State) (x : Leave) → Plain u → (c : Bool) → cond c (Stops (l x) u f t) ⊥ → cond c (Stops (k x) u f t) ⊥
+    back_taken : (f : Outage) (t u : State) (x : Leave) → Plain u → (c : Bool) → cond c (Stops (l x) u f t) ⊥ → cond c (Stops (k x) u f t) ⊥
     back_taken f t u x p true h = stops_back (k x) (l x) (rest x) u f t p h
     back_taken f t u x p false h = h
 
-    back : (f : Fault) (t u : State) (e : Result A Cause) → Plain u → handled_halts u e takes l f t → handled_halts u e takes k f t
+    back : (f : Outage) (t u : State) (e : Result A Cause) → Plain u → handled_halts u e takes l f t → handled_halts u e takes k f t
     back f t u (Ok a) p h = h
     back f t u (Err (Left x)) p h = back_taken f t u x p (takes x) h
     back f t u (Err OutOfTurns) p h = h

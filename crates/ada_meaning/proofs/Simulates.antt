@@ -16,7 +16,7 @@ use Rattle.ada_meaning.specs.Runs.{anything}
 use Rattle.ada_meaning.specs.Programs.{this, input_of, finals}
 use Rattle.ada_meaning.specs.Planned.{here}
 use Rattle.ada_meaning.specs.Stored
-use Rattle.ada_meaning.specs.Stored.{State, Touch, Visit, Kept, Stacked, After, at, Stored, Cause, Left, OutOfTurns, NoRoom, CutOff, Misnoted, Fault, MemoryFault, InputFault, OutputFault, Unbegun, Stops, next, next_halts, handled_halts, handled, place_of, Place, put_at, read_at, written_at, value_read, begun, ended, has_room, taken_from, finals_of}
+use Rattle.ada_meaning.specs.Stored.{State, Touch, Visit, Kept, Stacked, After, at, Stored, Cause, Left, OutOfTurns, NoRoom, CutOff, Misnoted, Outage, MemoryFault, InputFault, OutputFault, Unbegun, Stops, next, next_halts, handled_halts, handled, place_of, Address, put_at, read_at, written_at, value_read, begun, ended, has_room, taken_from, finals_of}
 use Rattle.ada_meaning.specs.Deeds.{Deed, Asked, deeds_of}
 use Rattle.ada_meaning.specs.Touched.{Before}
 use Rattle.behaviours.specs.Events
@@ -52,7 +52,7 @@ abbrev pub StopsWith : {A : Type 0} → From A → Trace Instance → Type 0
 StopsWith F tr = (y : Bool) × (q : Path Instance) × F tr y q Stopped
 
 -- what was put out, and what was about to be done
-abbrev pub Told : Fault → List ℕ → List ℕ → Trace Instance → Path Instance → (Trace Instance → Type 0) → Type 0
+abbrev pub Told : Outage → List ℕ → List ℕ → Trace Instance → Path Instance → (Trace Instance → Type 0) → Type 0
 Told MemoryFault o o' tr p stops = o' ≡ o ++ output_of tr
 Told InputFault o o' tr p stops = (o' ≡ o ++ output_of tr) × ((b : Option ℕ) × stops (tr ++ (Takes p.taken b ∷ [])))
 Told OutputFault o o' tr p stops = (passed : List ℕ) × (rest : List ℕ) × (o' ≡ o ++ (output_of tr ++ passed)) × stops (tr ++ (Puts (passed ++ rest) ∷ []))
@@ -78,7 +78,7 @@ next_log s e k = record { deeds = Stored.next_deeds s e k; touches = Stored.next
 abbrev pub handled_log : {A : Type 0} → State → Result A Cause → (Leave → Bool) → (Leave → Stored A) → Log
 handled_log s e takes k = record { deeds = Stored.handled_deeds s e takes k; touches = Stored.handled_touches s e takes k }
 
-abbrev named : Bool → Option Place → Log
+abbrev named : Bool → Option Address → Log
 named w a = record { deeds = []; touches = Stored.touched w a }
 
 pub both_none : (w : Log) → w ≡ both w none
@@ -95,11 +95,11 @@ level_refl s = record { cells = refl; kept = refl }
 pub level_trans : (s t u : State) → Level s t → Level t u → Level s u
 level_trans s t u g h = record { cells = h.cells ∙ g.cells; kept = h.kept ∙ g.kept }
 
-pub before_level : (s u : State) → Level s u → (a : Place) → Before s a → Before u a
+pub before_level : (s u : State) → Level s u → (a : Address) → Before s a → Before u a
 before_level s u g (Kept a) b = let e = g.kept in omega arith
 before_level s u g (Stacked a) b = let e = g.cells in omega arith
 
-level_put : (s : State) (a : Place) (v : ℤ) → Level s (put_at s a v)
+level_put : (s : State) (a : Address) (v : ℤ) → Level s (put_at s a v)
 level_put s (Kept a) v = record { cells = refl; kept = length-set s.kept a v }
 level_put s (Stacked a) v = record { cells = length-set s.cells a v; kept = refl }
 
@@ -126,7 +126,7 @@ has_right F [] u h = h
 has_right F (e ∷ t) u h = inr (has_right F t u h)
 
 -- the same of other ties, an earlier state and a longer trace
-pub show_more : (ls gs ls' gs' : List Tie) (s s' : State) (tr tr' : Trace Instance) → ((a : Place) → Before s' a → Before s a) → ((c : Tie) (i : ℕ) → Tied ls gs c → Before s' (place c i) → Tied ls' gs' c) → ((F : Event Instance → Type 0) → Events.Has F tr → Events.Has F tr')
+pub show_more : (ls gs ls' gs' : List Tie) (s s' : State) (tr tr' : Trace Instance) → ((a : Address) → Before s' a → Before s a) → ((c : Tie) (i : ℕ) → Tied ls gs c → Before s' (place c i) → Tied ls' gs' c) → ((F : Event Instance → Type 0) → Events.Has F tr → Events.Has F tr')
     → (ts : List Touch) → AllShow ls gs s tr ts → AllShow ls' gs' s' tr' ts
 show_more ls gs ls' gs' s s' tr tr' before tied has [] h = tt
 show_more ls gs ls' gs' s s' tr tr' before tied has (t ∷ ts) h =
@@ -171,7 +171,7 @@ module _ (input : List ℕ) where
     pub within : b.outermost ≡ false → Within ls gs ties p path m (after m trace)
 
   -- a run that is stopped, where the stored run comes to a fault
-  pub record Halted {A : Type 0} (b : Mode) (s : State) (p : Path Instance) (m : Memory) (F : From A) (f : Fault) (t : State) : Type 0 where
+  pub record Halted {A : Type 0} (b : Mode) (s : State) (p : Path Instance) (m : Memory) (F : From A) (f : Outage) (t : State) : Type 0 where
     pub trace : Trace Instance
     pub early : Bool
     pub path : Path Instance
@@ -185,7 +185,7 @@ module _ (input : List ℕ) where
   pub record Simulates {A : Type 0} (b : Mode) (m : Stored A) (g : Behaviour Instance A) : Type 0 where
     pub stops : (t : Scope Instance) (p : Path Instance) → g.runs t p [] false p Stopped
     pub does : (ls gs : List Tie) (s : State) (t : Scope Instance) (p : Path Instance) (n : Memory) → Visible ls gs s t → Has input b ls gs s p n → s.turns ≡ p.turns → Came b ls gs s p n (g.runs t p) (m.does s) (log m s)
-    pub halts : (ls gs : List Tie) (s : State) (t : Scope Instance) (p : Path Instance) (n : Memory) → Visible ls gs s t → Has input b ls gs s p n → s.turns ≡ p.turns → (f : Fault) (u : State) → m.halts s f u → Halted b s p n (g.runs t p) f u
+    pub halts : (ls gs : List Tie) (s : State) (t : Scope Instance) (p : Path Instance) (n : Memory) → Visible ls gs s t → Has input b ls gs s p n → s.turns ≡ p.turns → (f : Outage) (u : State) → m.halts s f u → Halted b s p n (g.runs t p) f u
 
   -- where what is asked of the constructs of a behaviour is so, so are the threads that the stored run begins
   abbrev pub FineFor : {A : Type 0} → (Visit → Type 0) → Mode → Stored A → Behaviour Instance A → Type 0
@@ -261,7 +261,7 @@ module _ (input : List ℕ) where
     }
 
     -- it isn't begun
-    pub halted_now : {A : Type 0} (F : From A) (f : Fault) (u : State) → Has input b ls gs s p m → F [] false p Stopped → Unbegun s f u → Halted b s p m F f u
+    pub halted_now : {A : Type 0} (F : From A) (f : Outage) (u : State) → Has input b ls gs s p m → F [] false p Stopped → Unbegun s f u → Halted b s p m F f u
     halted_now F f u h run (e, g) = subst (λ z. Halted b s p m F z u) (sym e) (subst (λ z. Halted b s p m F MemoryFault z) (sym g) here_now)
       where
         here_now : Halted b s p m F MemoryFault s
@@ -277,7 +277,7 @@ module _ (input : List ℕ) where
           within = λ e. (refl, refl, refl);
         }
 
-  told_after : (f : Fault) (o v o' : List ℕ) (front tr : Trace Instance) (p : Path Instance) (stops stops' : Trace Instance → Type 0) → v ≡ o ++ output_of front → ((w : Trace Instance) → stops w → stops' (front ++ w)) → Told f v o' tr p stops → Told f o o' (front ++ tr) p stops'
+  told_after : (f : Outage) (o v o' : List ℕ) (front tr : Trace Instance) (p : Path Instance) (stops stops' : Trace Instance → Type 0) → v ≡ o ++ output_of front → ((w : Trace Instance) → stops w → stops' (front ++ w)) → Told f v o' tr p stops → Told f o o' (front ++ tr) p stops'
   told_after f o v o' front tr p stops stops' e h told = go f told
     where
       outs : (w : List ℕ) → v ++ (output_of tr ++ w) ≡ o ++ (output_of (front ++ tr) ++ w)
@@ -286,13 +286,13 @@ module _ (input : List ℕ) where
       plain : v ++ output_of tr ≡ o ++ output_of (front ++ tr)
       plain = ap (λ z. v ++ z) (sym (append-nil (output_of tr))) ∙ outs [] ∙ ap (λ z. o ++ z) (append-nil (output_of (front ++ tr)))
 
-      go : (f : Fault) → Told f v o' tr p stops → Told f o o' (front ++ tr) p stops'
+      go : (f : Outage) → Told f v o' tr p stops → Told f o o' (front ++ tr) p stops'
       go MemoryFault t = t ∙ plain
       go InputFault (t, (b, k)) = (t ∙ plain, (b, subst stops' (sym (append_assoc front tr (Takes p.taken b ∷ []))) (h (tr ++ (Takes p.taken b ∷ [])) k)))
       go OutputFault (passed, rest, t, k) = (passed, rest, t ∙ outs passed, subst stops' (sym (append_assoc front tr (Puts (passed ++ rest) ∷ []))) (h (tr ++ (Puts (passed ++ rest) ∷ [])) k))
 
   -- a fault after a trace
-  pub halted_after : {A B : Type 0} (b : Mode) (s u t : State) (p q : Path Instance) (m n : Memory) (front : Trace Instance) (G : From A) (K : From B) (f : Fault) → n ≡ after m front → Fits m front → u.output ≡ s.output ++ output_of front
+  pub halted_after : {A B : Type 0} (b : Mode) (s u t : State) (p q : Path Instance) (m n : Memory) (front : Trace Instance) (G : From A) (K : From B) (f : Outage) → n ≡ after m front → Fits m front → u.output ≡ s.output ++ output_of front
       → (b.outermost ≡ false → (q.taken ≡ p.taken) × (q.globals ≡ p.globals)) → ((w : Trace Instance) (y : Bool) (p' : Path Instance) → G w y p' Stopped → (z : Bool) × K (front ++ w) z p' Stopped) → Halted b u q n G f t → Halted b s p m K f t
   halted_after b s u t p q m n front G K f same fits output inner runs h = record {
     trace = front ++ h.trace;
@@ -309,7 +309,7 @@ module _ (input : List ℕ) where
   -- what is done at once
 
   -- it may stop only before it begins
-  pub simulates_at : {A : Type 0} (b : Mode) (m : Stored A) (g : Behaviour Instance A) → ((s : State) (f : Fault) (u : State) → m.halts s f u → ⊥) → ((t : Scope Instance) (p : Path Instance) → g.runs t p [] false p Stopped)
+  pub simulates_at : {A : Type 0} (b : Mode) (m : Stored A) (g : Behaviour Instance A) → ((s : State) (f : Outage) (u : State) → m.halts s f u → ⊥) → ((t : Scope Instance) (p : Path Instance) → g.runs t p [] false p Stopped)
       → ((ls gs : List Tie) (s : State) (t : Scope Instance) (p : Path Instance) (n : Memory) → Visible ls gs s t → Has input b ls gs s p n → s.turns ≡ p.turns → Came b ls gs s p n (g.runs t p) (m.does s) (log m s)) → Simulates b m g
   simulates_at b m g now stops does = record {
     stops = stops;
@@ -319,7 +319,7 @@ module _ (input : List ℕ) where
 
   -- not begun, or later
   pub halted_stops : {A : Type 0} (b : Mode) (m : Stored A) (g : Behaviour Instance A) → Simulates b m g → (ls gs : List Tie) (s : State) (t : Scope Instance) (p : Path Instance) (n : Memory) → Visible ls gs s t → Has input b ls gs s p n → s.turns ≡ p.turns
-      → (f : Fault) (u : State) → Stops m s f u → Halted b s p n (g.runs t p) f u
+      → (f : Outage) (u : State) → Stops m s f u → Halted b s p n (g.runs t p) f u
   halted_stops b m g first ls gs s t p n v h e f u (inl k) = halted_now b ls gs s p n (g.runs t p) f u h (first.stops t p) k
   halted_stops b m g first ls gs s t p n v h e f u (inr k) = first.halts ls gs s t p n v h e f u k
 
@@ -427,7 +427,7 @@ module _ (input : List ℕ) where
   reads_simulates b x i cell = simulates_at b (Stored.reads x i) (Runs.reads anything x i cell) (λ s f u k. k) (λ t p. where_stops (λ l. read l i cell) (λ l t p. inr (refl, refl, refl, refl)) (find t x i) t p)
       (λ ls gs s t p n v h e. go ls gs s t p n h e (place_of s x i) (find t x i) (found ls gs s t x i v))
     where
-      go : (ls gs : List Tie) (s : State) (t : Scope Instance) (p : Path Instance) (n : Memory) → Has input b ls gs s p n → s.turns ≡ p.turns → (a : Option Place) (l : Option Instance) → Found ls gs i a l
+      go : (ls gs : List Tie) (s : State) (t : Scope Instance) (p : Path Instance) (n : Memory) → Has input b ls gs s p n → s.turns ≡ p.turns → (a : Option Address) (l : Option Instance) → Found ls gs i a l
           → Came b ls gs s p n ((Behaviours.where_found (λ l. read l i cell) l).runs t p) (read_at s a) (named false a)
       go ls gs s t p n h e a l (inl (ea, el)) =
           subst (λ z. Came b ls gs s p n ((Behaviours.where_found (λ l. read l i cell) z).runs t p) (read_at s a) (named false a)) (sym el)
@@ -446,7 +446,7 @@ module _ (input : List ℕ) where
   writes_simulates b x i v = simulates_at b (Stored.writes x i v) (Behaviours.writes x i v) (λ s f u k. k) (λ t p. where_stops (λ l. Behaviours.emits (Writes l i v)) (λ l t p. (refl, inr (refl, refl, refl))) (find t (VariableOf x) i) t p)
       (λ ls gs s t p n vis h e. go ls gs s t p n h e (place_of s (VariableOf x) i) (find t (VariableOf x) i) (found ls gs s t (VariableOf x) i vis))
     where
-      go : (ls gs : List Tie) (s : State) (t : Scope Instance) (p : Path Instance) (n : Memory) → Has input b ls gs s p n → s.turns ≡ p.turns → (a : Option Place) (l : Option Instance) → Found ls gs i a l
+      go : (ls gs : List Tie) (s : State) (t : Scope Instance) (p : Path Instance) (n : Memory) → Has input b ls gs s p n → s.turns ≡ p.turns → (a : Option Address) (l : Option Instance) → Found ls gs i a l
           → Came b ls gs s p n ((Behaviours.where_found (λ l. Behaviours.emits (Writes l i v)) l).runs t p) (written_at s a v) (named true a)
       go ls gs s t p n h e a l (inl (ea, el)) =
           subst (λ z. Came b ls gs s p n ((Behaviours.where_found (λ l. Behaviours.emits (Writes l i v)) z).runs t p) (written_at s a v) (named true a)) (sym el)
@@ -476,7 +476,7 @@ module _ (input : List ℕ) where
     halts = λ ls gs s t p n v h e f u k. fault ls gs s t p n h f u k.0 k.1.0 k.1.1 k.1.2 k.1.3;
   }
     where
-      fault : (ls gs : List Tie) (s : State) (t : Scope Instance) (p : Path Instance) (n : Memory) → Has input b ls gs s p n → (f : Fault) (u : State) → f ≡ OutputFault → (passed rest : List ℕ) → piece ≡ passed ++ rest → u ≡ record s { output = s.output ++ passed }
+      fault : (ls gs : List Tie) (s : State) (t : Scope Instance) (p : Path Instance) (n : Memory) → Has input b ls gs s p n → (f : Outage) (u : State) → f ≡ OutputFault → (passed rest : List ℕ) → piece ≡ passed ++ rest → u ≡ record s { output = s.output ++ passed }
           → Halted b s p n ((Behaviours.emits (Puts piece)).runs t p) f u
       fault ls gs s t p n h f u ef passed rest split eu =
           subst (λ z. Halted b s p n ((Behaviours.emits (Puts piece)).runs t p) z u) (sym ef)
@@ -557,7 +557,7 @@ module _ (input : List ℕ) where
           came ls gs s (record s { taken = s.taken + 1; input = rest }) t p n h e (Some c) k.0 refl refl refl refl
           (let z = k.2 in let w = h.taken in let y : s.taken + 1 ≡ min (suc p.taken) (length input) = omega arith in y) (sym k.1) refl refl refl (record { here = λ k. refl; everywhere = λ k. refl; frame = refl; room = refl; everywhere_room = refl })
 
-      fault : (ls gs : List Tie) (s : State) (t : Scope Instance) (p : Path Instance) (n : Memory) → Has input b ls gs s p n → (f : Fault) (u : State) → f ≡ InputFault → u ≡ s → Halted b s p n (Behaviours.takes.runs t p) f u
+      fault : (ls gs : List Tie) (s : State) (t : Scope Instance) (p : Path Instance) (n : Memory) → Has input b ls gs s p n → (f : Outage) (u : State) → f ≡ InputFault → u ≡ s → Halted b s p n (Behaviours.takes.runs t p) f u
       fault ls gs s t p n h f u ef eu =
           subst (λ z. Halted b s p n (Behaviours.takes.runs t p) z u) (sym ef)
           (subst (λ z. Halted b s p n (Behaviours.takes.runs t p) InputFault z) (sym eu)
@@ -597,7 +597,7 @@ module _ (input : List ℕ) where
       go ls gs s t p n v r ds (Err CutOff) eq d = came_as b ls gs s p n (g.runs t p) ((Behaviours.◌>>=◌ g l).runs t p) r (Err CutOff) ds (both ds none) (both_none ds) d d.early (inr (Stopped, refl, subst (λ z. g.runs t p d.trace d.early d.path (end_of z)) eq d.run))
       go ls gs s t p n v r ds (Err Misnoted) eq d = came_as b ls gs s p n (g.runs t p) ((Behaviours.◌>>=◌ g l).runs t p) r (Err Misnoted) ds (both ds none) (both_none ds) d d.early (inr (Stopped, refl, subst (λ z. g.runs t p d.trace d.early d.path (end_of z)) eq d.run))
 
-      later : (ls gs : List Tie) (s : State) (t : Scope Instance) (p : Path Instance) (n : Memory) → Visible ls gs s t → (r : After A) (ds : Log) (e : Result A Cause) → r.end ≡ e → Came b ls gs s p n (g.runs t p) r ds → (f : Fault) (u : State) → next_halts r.state e k f u
+      later : (ls gs : List Tie) (s : State) (t : Scope Instance) (p : Path Instance) (n : Memory) → Visible ls gs s t → (r : After A) (ds : Log) (e : Result A Cause) → r.end ≡ e → Came b ls gs s p n (g.runs t p) r ds → (f : Outage) (u : State) → next_halts r.state e k f u
           → Halted b s p n ((Behaviours.◌>>=◌ g l).runs t p) f u
       later ls gs s t p n v r ds (Ok a) eq d f u c =
           halted_after b s r.state u p d.path n (after n d.trace) d.trace ((l a).runs t d.path) ((Behaviours.◌>>=◌ g l).runs t p) f refl d.fits d.output (λ e. let w = d.within e in (w.taken, w.globals))
@@ -639,7 +639,7 @@ module _ (input : List ℕ) where
           choose true is = taken ls gs s t p n v r ds x eq is d
           choose false is = untaken ls gs s t p n r ds (Err (Left x)) eq is d
 
-      later : (ls gs : List Tie) (s : State) (t : Scope Instance) (p : Path Instance) (n : Memory) → Visible ls gs s t → (r : After A) (ds : Log) (e : Result A Cause) → r.end ≡ e → Came b ls gs s p n (g.runs t p) r ds → (f : Fault) (u : State) → handled_halts r.state e takes k f u
+      later : (ls gs : List Tie) (s : State) (t : Scope Instance) (p : Path Instance) (n : Memory) → Visible ls gs s t → (r : After A) (ds : Log) (e : Result A Cause) → r.end ≡ e → Came b ls gs s p n (g.runs t p) r ds → (f : Outage) (u : State) → handled_halts r.state e takes k f u
           → Halted b s p n ((Behaviours.handles g takes l).runs t p) f u
       later ls gs s t p n v r ds (Ok a) eq d f u c = absurd c
       later ls gs s t p n v r ds (Err OutOfTurns) eq d f u c = absurd c
@@ -689,7 +689,7 @@ module _ (input : List ℕ) where
         within = d.within;
       }
 
-      fault : (ls gs : List Tie) (s : State) (t : Scope Instance) (p : Path Instance) (n : Memory) (f : Fault) (u : State) → Halted b (record s { frame = s.frame + 1 }) p n (g.runs (apart_of t) p) f u → Halted b s p n ((Behaviours.apart g).runs t p) f (record u { frame = s.frame })
+      fault : (ls gs : List Tie) (s : State) (t : Scope Instance) (p : Path Instance) (n : Memory) (f : Outage) (u : State) → Halted b (record s { frame = s.frame + 1 }) p n (g.runs (apart_of t) p) f u → Halted b s p n ((Behaviours.apart g).runs t p) f (record u { frame = s.frame })
       fault ls gs s t p n f u d = record { trace = d.trace; early = d.early; path = d.path; run = d.run; fits = d.fits; told = d.told; taken = d.taken; finals = d.finals; within = d.within }
 
   module _ (asks : Asks Instance) (limit : ℕ) (cuts : ℕ → ℕ → List ℕ) (one : Bool) where
@@ -733,7 +733,7 @@ module _ (input : List ℕ) where
         level_ended : (u : State) → Level (begun Here x vs s) u → Level s (ended Here x s u)
         level_ended u g = record { cells = length-take-le (length s.cells) u.cells (let e = length-append s.cells vs in let k = g.cells in omega arith); kept = g.kept }
 
-        before_here : (a : Place) → Before s a → Before (begun Here x vs s) a
+        before_here : (a : Address) → Before s a → Before (begun Here x vs s) a
         before_here (Kept a) z = z
         before_here (Stacked a) z = let e = length-append s.cells vs in omega arith
 
@@ -771,7 +771,7 @@ module _ (input : List ℕ) where
       stop : (region : Region) (t : Scope Instance) (p : Path Instance) → (elaborated region x vs g).runs t p [] false p Stopped
       stop region t p = inr (refl, refl, refl, (_, refl))
 
-      halted_filled : (region : Region) (s s' u u' : State) (t : Scope Instance) (p : Path Instance) (n : Memory) (f : Fault) → s'.output ≡ s.output → u'.output ≡ u.output → u'.taken ≡ u.taken → u'.kept ≡ u.kept → u'.declared ≡ u.declared
+      halted_filled : (region : Region) (s s' u u' : State) (t : Scope Instance) (p : Path Instance) (n : Memory) (f : Outage) → s'.output ≡ s.output → u'.output ≡ u.output → u'.taken ≡ u.taken → u'.kept ≡ u.kept → u'.declared ≡ u.declared
           → (b.outermost ≡ false → (one_elaboration region (here x p) p).globals ≡ p.globals)
           → Halted b s' (one_elaboration region (here x p) p) (put_all n (here x p) 0 vs) (g.runs (declares region x (here x p) (length vs) t) (one_elaboration region (here x p) p)) f u → Halted b s p n ((elaborated region x vs g).runs t p) f u'
       halted_filled region s s' u u' t p n f before output taken kept declared same d =
@@ -807,11 +807,11 @@ module _ (input : List ℕ) where
             (first.does ls (kept input b ls gs s p n h x vs ∷ gs) (begun Everywhere x vs s) (declares Everywhere x (here x p) (length vs) t) (one_elaboration Everywhere (here x p) p) (put_all n (here x p) 0 vs) (visible_everywhere ls gs s t v x vs (here x p) room) (has_everywhere input b ls gs s p n h x vs o) e)
         does_everywhere o false room = came_at b ls gs s p n ((elaborated Everywhere x vs g).runs t p) (Err NoRoom) h e (stop Everywhere t p)
 
-        halts_here : (f : Fault) (w : State) → has_room Here x s ≡ true → (u : State) → Stops m (begun Here x vs s) f u → w ≡ ended Here x s u → Halted b s p n ((elaborated Here x vs g).runs t p) f w
+        halts_here : (f : Outage) (w : State) → has_room Here x s ≡ true → (u : State) → Stops m (begun Here x vs s) f u → w ≡ ended Here x s u → Halted b s p n ((elaborated Here x vs g).runs t p) f w
         halts_here f w room u k is = subst (λ z. Halted b s p n ((elaborated Here x vs g).runs t p) f z) (sym is) (halted_filled Here s (begun Here x vs s) u (ended Here x s u) t p n f refl refl refl refl refl (λ k. refl)
             (halted_stops b m g first (stacked input b ls gs s p n h x vs ∷ ls) gs (begun Here x vs s) (declares Here x (here x p) (length vs) t) (one_elaboration Here (here x p) p) (put_all n (here x p) 0 vs) (visible_here ls gs s t v x vs (here x p) room) (has_here input b ls gs s p n h x vs) e f u k))
 
-        halts_everywhere : b.outermost ≡ true → (f : Fault) (w : State) → has_room Everywhere x s ≡ true → (u : State) → Stops m (begun Everywhere x vs s) f u → w ≡ ended Everywhere x s u → Halted b s p n ((elaborated Everywhere x vs g).runs t p) f w
+        halts_everywhere : b.outermost ≡ true → (f : Outage) (w : State) → has_room Everywhere x s ≡ true → (u : State) → Stops m (begun Everywhere x vs s) f u → w ≡ ended Everywhere x s u → Halted b s p n ((elaborated Everywhere x vs g).runs t p) f w
         halts_everywhere o f w room u k is = subst (λ z. Halted b s p n ((elaborated Everywhere x vs g).runs t p) f z) (sym is) (halted_filled Everywhere s (begun Everywhere x vs s) u (ended Everywhere x s u) t p n f refl refl refl refl refl (λ k. absurd (true≢false (sym o ∙ k)))
             (halted_stops b m g first ls (kept input b ls gs s p n h x vs ∷ gs) (begun Everywhere x vs s) (declares Everywhere x (here x p) (length vs) t) (one_elaboration Everywhere (here x p) p) (put_all n (here x p) 0 vs) (visible_everywhere ls gs s t v x vs (here x p) room) (has_everywhere input b ls gs s p n h x vs o) e f u k))
 

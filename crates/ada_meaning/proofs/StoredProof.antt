@@ -28,7 +28,7 @@ use Rattle.ada_meaning.specs.Law.{IsPermitted, BeginsRun, EndsAs, behaviour}
 use Rattle.ada_meaning.specs.Stored
 use Rattle.ada_meaning.specs.declared.slots.Slot.{Slot}
 use Rattle.ada_base.specs.Notes.{Schedule, InOrder, ByNotes}
-use Rattle.ada_meaning.specs.Stored.{State, no_slot, slot_at, Stored, After, at, Cause, Left, OutOfTurns, NoRoom, CutOff, Misnoted, Fault, MemoryFault, InputFault, OutputFault, Stop, Goes, Fails, Computes, stored, outset, noted, noted_outset, put_out, outcome_of, handled}
+use Rattle.ada_meaning.specs.Stored.{State, no_slot, slot_at, Stored, After, at, Cause, Left, OutOfTurns, NoRoom, CutOff, Misnoted, Outage, MemoryFault, InputFault, OutputFault, Stop, Goes, Fails, Computes, stored, outset, noted, noted_outset, put_out, outcome_of, handled}
 use Rattle.ada_meaning.specs.StoredLaw.{StoredLaw, NotedLaw, StoppedLaw, NotedStoppedLaw, JournalLaw, SomeLaw, StoredSequentialLaw}
 use Rattle.ada_meaning.proofs.Induction
 use Rattle.ada_meaning.proofs.Induction.{Relates}
@@ -359,7 +359,7 @@ module _ (program : Program) (set : Setting) (slots : ℕ) (input before : List 
   begins : (tr : Trace Instance) → StopsWith ((behaviour program set).runs nothing_visible start) tr → BeginsRun program set tr
   begins tr k = record { rest = []; early = k.0; path = k.1; end = Stopped; run = subst (λ z. from z k.0 k.1 Stopped) (sym (append-nil tr)) k.2 }
 
-  permitted_fault : (f : Fault) (t : State) → Halted input b first start (empty (input_of input)) ((behaviour program set).runs nothing_visible start) f t → (t.output ≡ before ++ put_out before t) × ((early : Bool) × IsPermitted program set input early (outcome_of program before (Err (Fails f)) t))
+  permitted_fault : (f : Outage) (t : State) → Halted input b first start (empty (input_of input)) ((behaviour program set).runs nothing_visible start) f t → (t.output ≡ before ++ put_out before t) × ((early : Bool) × IsPermitted program set input early (outcome_of program before (Err (Fails f)) t))
   permitted_fault f t d = (
     followed f d.told,
     (
@@ -377,12 +377,12 @@ module _ (program : Program) (set : Setting) (slots : ℕ) (input before : List 
     ),
   )
     where
-      followed : (f : Fault) → Told f before t.output d.trace d.path (StopsWith ((behaviour program set).runs nothing_visible start)) → t.output ≡ before ++ put_out before t
+      followed : (f : Outage) → Told f before t.output d.trace d.path (StopsWith ((behaviour program set).runs nothing_visible start)) → t.output ≡ before ++ put_out before t
       followed MemoryFault k = whole before t.output (output_of d.trace) k
       followed InputFault k = whole before t.output (output_of d.trace) k.0
       followed OutputFault k = whole before t.output (output_of d.trace ++ k.0) k.2
 
-      ends : (f : Fault) → Told f before t.output d.trace d.path (StopsWith ((behaviour program set).runs nothing_visible start)) → EndsAs program set d.trace d.path Stopped (put_out before t) (Stored.ending_of (Err (Fails f)))
+      ends : (f : Outage) → Told f before t.output d.trace d.path (StopsWith ((behaviour program set).runs nothing_visible start)) → EndsAs program set d.trace d.path Stopped (put_out before t) (Stored.ending_of (Err (Fails f)))
       ends MemoryFault k = (refl, behind before t.output (output_of d.trace) k)
       ends InputFault k = (refl, behind before t.output (output_of d.trace) k.0, (k.1.0, begins (d.trace ++ (Takes d.path.taken k.1.0 ∷ [])) k.1.1))
       ends OutputFault k = (refl, (k.0, k.1, behind before t.output (output_of d.trace ++ k.0) k.2, begins (d.trace ++ (Puts (k.0 ++ k.1) ∷ [])) k.3))

@@ -4,7 +4,7 @@ use Rattle.behaviours.specs.Paths.{Instance}
 use Rattle.behaviours.specs.Events.{Reads, Writes, Recalls, Keeps, Takes, Puts, Looks, Trace, Cell, Has, Touches, WritesTo, Apart}
 use Rattle.behaviours.specs.Joins.{Share}
 use Rattle.behaviours.specs.Behaviours.{ThreadApart, ThreadsApart, asks_apart}
-use Rattle.ada_meaning.specs.Stored.{State, Place, Touch, Thread}
+use Rattle.ada_meaning.specs.Stored.{State, Address, Touch, Thread}
 use Rattle.ada_meaning.specs.Touched.{Before, WrittenIn, TouchedIn, IsAmong, IsApart, ApartLaw}
 use Rattle.ada_meaning.proofs.Lays.{Tie, place, Tied, place_inj}
 use Rattle.ada_meaning.proofs.Simulates.{Acts, AllShow}
@@ -43,10 +43,10 @@ acts_touches false l i (Looks ∷ tr) (inl h) = absurd h
 
 -- what was touched
 
-abbrev Shown : List Tie → List Tie → Trace Instance → Bool → Place → Type 0
+abbrev Shown : List Tie → List Tie → Trace Instance → Bool → Address → Type 0
 Shown ls gs tr w a = (c : Tie) × (i : ℕ) × Tied ls gs c × (i < c.cells) × (a ≡ place c i) × Has (Acts w c.instance i) tr
 
-module _ (ls gs : List Tie) (s : State) (tr : Trace Instance) (a : Place) (before : Before s a) where
+module _ (ls gs : List Tie) (s : State) (tr : Trace Instance) (a : Address) (before : Before s a) where
   show_written : (ts : List Touch) → AllShow ls gs s tr ts → WrittenIn ts a → Shown ls gs tr true a
   show_written [] h w = absurd w
   show_written (t ∷ ts) h (inr w) = show_written ts h.1 w

@@ -1,6 +1,6 @@
 -- Threads of a program without races may as well begin all at once, each with cells of its own.
 use Rattle.std.proofs.Common.{ℕ, suc, ◌<◌, ◌≤◌, List, [], ◌∷◌, ◌++◌, ◌⊎◌, inl, inr, refl, sym, subst, ap, arith}
-use Rattle.ada_meaning.specs.Stored.{State, Place, Touch, Thread, Team, Visit, ThreadOf, TeamOf, noted, noted_outset}
+use Rattle.ada_meaning.specs.Stored.{State, Address, Touch, Thread, Team, Visit, ThreadOf, TeamOf, noted, noted_outset}
 use Rattle.ada_meaning.specs.Touched.{Before, WrittenIn, TouchedIn, EachTeam, IsAmong, IsApart, IsJoin, IsLined, IsView, Leaves, Rises, touches_of, ViewLaw}
 use Rattle.behaviours.specs.Joins.{Share}
 use Rattle.ada_meaning.proofs.Framed.{before_grown}
@@ -12,12 +12,12 @@ team_both F G H f [] h k = tt
 team_both F G H f (ThreadOf t ∷ vs) h k = team_both F G H f vs h k
 team_both F G H f (TeamOf t ∷ vs) h k = (f t h.0 k.0, team_both F G H f vs h.1 k.1)
 
-written_touched : (ts : List Touch) (a : Place) → WrittenIn ts a → TouchedIn ts a
+written_touched : (ts : List Touch) (a : Address) → WrittenIn ts a → TouchedIn ts a
 written_touched [] a w = absurd w
 written_touched (t ∷ ts) a (inl w) = inl w.1
 written_touched (t ∷ ts) a (inr w) = inr (written_touched ts a w)
 
-written_append : (ts us : List Touch) (a : Place) → WrittenIn (ts ++ us) a → WrittenIn ts a ⊎ WrittenIn us a
+written_append : (ts us : List Touch) (a : Address) → WrittenIn (ts ++ us) a → WrittenIn ts a ⊎ WrittenIn us a
 written_append [] us a w = inr w
 written_append (t ∷ ts) us a (inl w) = inl (inl w)
 written_append (t ∷ ts) us a (inr w) = go (written_append ts us a w)
@@ -27,7 +27,7 @@ written_append (t ∷ ts) us a (inr w) = go (written_append ts us a w)
     go (inr h) = inr h
 
 -- one of the threads wrote it
-writer : (bs : List Thread) (a : Place) → WrittenIn (touches_of bs) a → (c : Thread) × IsAmong c bs × WrittenIn c.touches a
+writer : (bs : List Thread) (a : Address) → WrittenIn (touches_of bs) a → (c : Thread) × IsAmong c bs × WrittenIn c.touches a
 writer [] a w = absurd w
 writer (b ∷ bs) a w = go (λ z. writer bs a z) (written_append b.touches (touches_of bs) a w)
   where

@@ -10,7 +10,7 @@ use Rattle.behaviours.specs.Behaviours
 use Rattle.ada_meaning.specs.Programs.{finals}
 use Rattle.ada_meaning.specs.Stored
 use Rattle.ada_base.specs.Notes.{Schedule, InOrder, ByNotes, ThreadNote, Whole, NotBegun, CutAfter, ConstructNote}
-use Rattle.ada_meaning.specs.Stored.{State, Visit, After, at, Stored, Cause, Left, OutOfTurns, NoRoom, CutOff, Misnoted, Fault, MemoryFault, Unbegun, Stops, next, next_halts, finals_of, took, gathered, is_spent}
+use Rattle.ada_meaning.specs.Stored.{State, Visit, After, at, Stored, Cause, Left, OutOfTurns, NoRoom, CutOff, Misnoted, Outage, MemoryFault, Unbegun, Stops, next, next_halts, finals_of, took, gathered, is_spent}
 use Rattle.ada_meaning.specs.Deeds.{deeds_of}
 use Rattle.ada_meaning.proofs.Fronts.{deeds_append}
 use Rattle.behaviours.proofs.Shuffle.{fits_append, after_append, shuffle_in_order}
@@ -421,7 +421,7 @@ module _ (input : List ℕ) {A B : Type 0} (f : B → A → B) (b : Mode) (body 
       pub taken : u.taken ≡ min p.taken (length input)
       pub finals_at : (program : Program) → finals_of program u.kept u.declared ≡ finals program (after n (trace_of rans)) p.globals
 
-    abbrev Pauses : State → Memory → List Share → Fault → State → Type 0
+    abbrev Pauses : State → Memory → List Share → Outage → State → Type 0
     Pauses s n js f u = (f ≡ MemoryFault) × Paused s n js u
 
     -- before the first of them
@@ -440,13 +440,13 @@ module _ (input : List ℕ) {A B : Type 0} (f : B → A → B) (b : Mode) (body 
         first [] = inr tt
         first (j ∷ js) = inl (inl (refl, idle_idle js))
 
-    pauses_now : (js : List Share) (s w : State) (m : ℕ) (n : Memory) → Has input b ls gs s p n → turned s m ≡ w → (f : Fault) (u : State) → Unbegun w f u → Pauses s n js f u
+    pauses_now : (js : List Share) (s w : State) (m : ℕ) (n : Memory) → Has input b ls gs s p n → turned s m ≡ w → (f : Outage) (u : State) → Unbegun w f u → Pauses s n js f u
     pauses_now js s w m n h same f u k = (k.0, subst (λ z. Paused s n js z) (same ∙ sym k.1) (paused_now js s m n h))
 
     abbrev RestPauses : List Share → Type 0
-    RestPauses js = (most : ℕ) (over : Bool) (b0 : B) (s : State) (n : Memory) → Visible ls gs s t → Has input b ls gs s p n → s.notes ≡ InOrder → (fault : Fault) (u : State) → Stops (Stored.threads f body p.turns js most over b0) s fault u → Pauses s n js fault u
+    RestPauses js = (most : ℕ) (over : Bool) (b0 : B) (s : State) (n : Memory) → Visible ls gs s t → Has input b ls gs s p n → s.notes ≡ InOrder → (fault : Outage) (u : State) → Stops (Stored.threads f body p.turns js most over b0) s fault u → Pauses s n js fault u
 
-    pauses_none : (most : ℕ) (over : Bool) (b0 : B) (s : State) (n : Memory) → Has input b ls gs s p n → (fault : Fault) (u : State) → Stops (Stored.threads f body p.turns [] most over b0) s fault u → Pauses s n [] fault u
+    pauses_none : (most : ℕ) (over : Bool) (b0 : B) (s : State) (n : Memory) → Has input b ls gs s p n → (fault : Outage) (u : State) → Stops (Stored.threads f body p.turns [] most over b0) s fault u → Pauses s n [] fault u
     unfolding Stored.bind Stored.rewinds Stored.thread Stored.spent Stored.ret
     pauses_none most over b0 s n h fault u (inl k) = pauses_now [] s s s.turns n h refl fault u k
     pauses_none most over b0 s n h fault u (inr (inl (inl k))) = pauses_now [] s s s.turns n h refl fault u k
@@ -458,7 +458,7 @@ module _ (input : List ℕ) {A B : Type 0} (f : B → A → B) (b : Mode) (body 
         go true k = k
         go false k = k
 
-    module _ (j : Share) (js : List Share) (most : ℕ) (over : Bool) (b0 : B) (s : State) (n : Memory) (v : Visible ls gs s t) (h : Has input b ls gs s p n) (q : s.notes ≡ InOrder) (fault : Fault) (u : State) where
+    module _ (j : Share) (js : List Share) (most : ℕ) (over : Bool) (b0 : B) (s : State) (n : Memory) (v : Visible ls gs s t) (h : Has input b ls gs s p n) (q : s.notes ≡ InOrder) (fault : Outage) (u : State) where
       -- in this thread
       pauses_here : Stops (body j) (turned s p.turns) fault u → Pauses s n (j ∷ js) fault u
       pauses_here k = (
@@ -880,7 +880,7 @@ module _ (input : List ℕ) {A B : Type 0} (f : B → A → B) (b : Mode) (body 
             (inl (g.0, d.path, d.trace, c.trace, d.early, c.early, refl, refl, d.run, c.run)))
         whole_came u ds (Err x) d = came_as input b ls gs s p n (construct.runs t p) (whole.runs t p) (at u (Err x)) (Err x) ds (both ds none) (both_none ds) d d.early (inr (end_of (Err x), carried (List A) C x, d.run))
 
-        whole_later : (u : State) (ds : Log) (e : Result B Cause) → Built u e ds → (fault : Fault) (x : State) → next_halts u e k fault x → Halted input b s p n (whole.runs t p) fault x
+        whole_later : (u : State) (ds : Log) (e : Result B Cause) → Built u e ds → (fault : Outage) (x : State) → next_halts u e k fault x → Halted input b s p n (whole.runs t p) fault x
         whole_later u ds (Ok value) g fault x c =
             let d = g.1 in
             halted_after input b s u x p d.path n (after n d.trace) d.trace ((l g.0).runs t d.path) (whole.runs t p) fault refl d.fits d.output (λ e. let z = d.within e in (z.taken, z.globals))
@@ -888,7 +888,7 @@ module _ (input : List ℕ) {A B : Type 0} (f : B → A → B) (b : Mode) (body 
             (halted_stops input b (k (gathered_all f b0 g.0)) (l g.0) (after_sim g.0) ls d.ties u t d.path (after n d.trace) (visible_same ls gs d.ties s u t d.grows d.same v) d.has d.turns fault x (subst (λ z. Stops (k z) u fault x) g.2 c))
         whole_later u ds (Err x) g fault w c = absurd c
 
-      whole_paused : (fault : Fault) (u : State) → Pauses ls gs t p s n js fault u → Halted input b s p n (whole.runs t p) fault u
+      whole_paused : (fault : Outage) (u : State) → Pauses ls gs t p s n js fault u → Halted input b s p n (whole.runs t p) fault u
       whole_paused fault u (is, w) = subst (λ z. Halted input b s p n (whole.runs t p) z u) (sym is) (record {
         trace = trace_of ls gs t p w.rans;
         early = some_early w.rans || false;
@@ -988,7 +988,7 @@ module _ (input : List ℕ) {A B : Type 0} (f : B → A → B) (b : Mode) (body 
       unfolding Stored.bind Stored.par
       par_does = whole_came ls gs t p s n v all.state all_deeds all.end (par_built ls gs t p s n all all_deeds all.end refl all_woven)
 
-      pub par_halts : (fault : Fault) (u : State) → (Stored.bind (Stored.par f b0 js body) k).halts s fault u → Halted input b s p n (whole.runs t p) fault u
+      pub par_halts : (fault : Outage) (u : State) → (Stored.bind (Stored.par f b0 js body) k).halts s fault u → Halted input b s p n (whole.runs t p) fault u
       unfolding Stored.bind Stored.par
       par_halts fault u c = ⊎_elim
           (λ c. whole_paused ls gs t p s n fault u (pauses ls gs t p js p.turns false b0 s n v h q fault u (subst (λ z. Stops (Stored.threads f body z js z false b0) s fault u) e c)))
@@ -1044,7 +1044,7 @@ module _ (input : List ℕ) {A B : Type 0} (f : B → A → B) (b : Mode) (body 
             no : ◌≡◌ {A = Schedule} (ByNotes cs) InOrder → ⊥
             no e = absurd (cc)
 
-        noted_halts : (notes : Schedule) → s.notes ≡ notes → (fault : Fault) (u : State) → (Unbegun s fault u ⊎ (Stored.by_notes f b0 js body notes).halts s fault u) ⊎ next_halts (By notes).state (By notes).end k fault u → Halted input b s p n (whole.runs t p) fault u
+        noted_halts : (notes : Schedule) → s.notes ≡ notes → (fault : Outage) (u : State) → (Unbegun s fault u ⊎ (Stored.by_notes f b0 js body notes).halts s fault u) ⊎ next_halts (By notes).state (By notes).end k fault u → Halted input b s p n (whole.runs t p) fault u
         unfolding Stored.bind Stored.misnoted
         noted_halts InOrder is fault u c = par_halts ls gs s t p n v h e is fault u c
         noted_halts (ByNotes cs) is fault u (inl (inl c)) = halted_now input b ls gs s p n (whole.runs t p) fault u h (whole_stops t p) c

@@ -2,6 +2,7 @@
 use Rattle.std.specs.Prelude.{◌≡◌, ℕ, ℤ, pos, negsuc, List, [], ◌∷◌, Some, None, true, false}
 use Rattle.ada_base.specs.declared.operation.Op.TheVariants as op
 use Rattle.ada_base.specs.declared.reason.Reason.TheVariants as reason
+use Rattle.ada_meaning.specs.Meaning.{most_threads}
 use Rattle.typed_tree.specs.declared.scalars.Class.TheVariants as class
 use Rattle.typed_tree.specs.declared.scalars.Scalar.{Scalar}
 use Rattle.typed_tree.specs.declared.expressions.Root.TheVariants as root
@@ -32,10 +33,10 @@ holds values = record { output = []; end = Gives tt; finals = values }
 abbrev pub Cuts : Type 0
 Cuts = (cuts_of (Chunked 3) 4 10 ≡ 3 ∷ 3 ∷ 3 ∷ 1 ∷ [])
     × (cuts_of (Chunked 3) 2 10 ≡ 3 ∷ 7 ∷ [])
-    × (cuts_of (Even 3) 4096 10 ≡ 4 ∷ 3 ∷ 3 ∷ [])
-    × (cuts_of (Listed (1 ∷ 2 ∷ [])) 4096 10 ≡ 1 ∷ 2 ∷ 7 ∷ [])
-    × (cuts_of (Listed (5 ∷ 9 ∷ [])) 4096 10 ≡ 5 ∷ 5 ∷ [])
-    × (cuts_of One 4096 0 ≡ [])
+    × (cuts_of (Even 3) most_threads 10 ≡ 4 ∷ 3 ∷ 3 ∷ [])
+    × (cuts_of (Listed (1 ∷ 2 ∷ [])) most_threads 10 ≡ 1 ∷ 2 ∷ 7 ∷ [])
+    × (cuts_of (Listed (5 ∷ 9 ∷ [])) most_threads 10 ≡ 5 ∷ 5 ∷ [])
+    × (cuts_of One most_threads 0 ≡ [])
 
 -- Put_Line (Integer'Image ([parallel for I in 1 .. 100 => I]'Reduce ("+", 0)));
 

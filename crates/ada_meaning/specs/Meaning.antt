@@ -29,23 +29,23 @@ use Rattle.ada_meaning.specs.Values.{truth, bit, is_in, between, to_nat, count, 
 use Rattle.ada_meaning.specs.Operations.{RangeCheck, IndexCheck, OverflowCheck, Cut, ByPlan, Sized, chunk_of, Operations, operate, reduce}
 
 -- an object and how many cells of it come before
-pub record Part : Type 0 where
+pub record ObjectPart : Type 0 where
   pub object : ℕ
   pub offset : ℕ
 
-abbrev pub moved : Part → ℕ → Part
+abbrev pub moved : ObjectPart → ℕ → ObjectPart
 moved p n = record { object = p.object; offset = p.offset + n }
 
-abbrev pub nowhere : Part
+abbrev pub nowhere : ObjectPart
 nowhere = record { object = 0; offset = 0 }
 
 -- what names stand for that aren't objects: the values of parameters, the components that items name, the target of
 -- the assignment; the exception that is handled; and how many parallel constructs are around
 pub record Env : Type 0 where
   pub parameter : ℕ → ℤ
-  pub item : ℕ → Part
-  pub constant_item : ℕ → Part
-  pub target : Part
+  pub item : ℕ → ObjectPart
+  pub constant_item : ℕ → ObjectPart
+  pub target : ObjectPart
   pub handled : Reason
   pub nested : ℕ
 
@@ -56,11 +56,11 @@ outset n = record { parameter = λ k. pos 0; item = λ k. nowhere; constant_item
 abbrev pub with_parameter : ℕ → ℤ → Env → Env
 with_parameter k v env = record env { parameter = λ j. cond (nat_eq j k) v (env.parameter j) }
 
-abbrev pub with_item : Bool → ℕ → Part → Env → Env
+abbrev pub with_item : Bool → ℕ → ObjectPart → Env → Env
 with_item true k p env = record env { constant_item = λ j. cond (nat_eq j k) p (env.constant_item j) }
 with_item false k p env = record env { item = λ j. cond (nat_eq j k) p (env.item j) }
 
-abbrev pub with_target : Part → Env → Env
+abbrev pub with_target : ObjectPart → Env → Env
 with_target p env = record env { target = p }
 
 abbrev pub with_handled : Reason → Env → Env
@@ -69,16 +69,16 @@ with_handled r env = record env { handled = r }
 abbrev pub inside : Env → Env
 inside env = record env { nested = suc env.nested }
 
-abbrev pub variable_root : Root → Env → Part
+abbrev pub variable_root : Root → Env → ObjectPart
 variable_root (root.Object x) env = record { object = x; offset = 0 }
 variable_root (root.Item k) env = env.item k
 
-abbrev pub constant_root : Root → Env → Part
+abbrev pub constant_root : Root → Env → ObjectPart
 constant_root (root.Object x) env = record { object = x; offset = 0 }
 constant_root (root.Item k) env = env.constant_item k
 
 -- the root of an array that an iteration goes through, which may be a constant
-abbrev pub array_root : Bool → Root → Env → Part
+abbrev pub array_root : Bool → Root → Env → ObjectPart
 array_root true r env = constant_root r env
 array_root false r env = variable_root r env
 
@@ -95,7 +95,7 @@ pub record Chunking : Type 0 where
 
 -- where a parameter is copied back, the subtypes of the formal's cells, and the check of a scalar
 pub record Back : Type 0 where
-  pub part : Part
+  pub part : ObjectPart
   pub cells : List Scalar
   pub check : Option Check
 
@@ -421,7 +421,7 @@ module _ {ℓ} (ops : Operations {ℓ}) where
         ret (truth v)
 
       -- the part that selections lead to (4.1.1, 4.1.3)
-      pub select : Selections → Env → Part → Doing Part
+      pub select : Selections → Env → ObjectPart → Doing ObjectPart
       select Whole env p = ret p
       select (Field number offset rest) env p = select rest env (moved p offset)
       select (Index at e low high stride rest) env p = do

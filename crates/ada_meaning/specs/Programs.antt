@@ -1,5 +1,5 @@
 -- Programs as wholes: their runs by each reading, and what they come to.
-use Rattle.std.specs.Prelude.{ℕ, zero, suc, ℤ, length, List, [], ◌∷◌, Option, Some, None, Bool}
+use Rattle.std.specs.Prelude.{ℕ, zero, suc, ℤ, length, List, [], ◌∷◌, Option, Some, None, Bool, true}
 use Rattle.typed_tree.specs.declared.scalars.Scalar.{Scalar}
 use Rattle.typed_tree.specs.Syntax.{Program}
 use Rattle.ada_base.specs.Cuts.{Plan, cuts_of}
@@ -17,6 +17,10 @@ pub record Setting : Type 0 where
   pub plan : Plan
   pub one : Bool
   pub limit : ℕ
+
+-- one worker carries out the threads of a construct, in order
+abbrev pub by_one_worker : Plan → ℕ → Setting
+by_one_worker plan limit = record { plan = plan; one = true; limit = limit }
 
 -- the bytes of an input, and then its end
 abbrev pub input_of : List ℕ → ℕ → Option ℕ

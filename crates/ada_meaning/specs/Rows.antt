@@ -7,7 +7,7 @@ use Rattle.typed_tree.specs.declared.scalars.Class.{Class}
 use Rattle.typed_tree.specs.declared.scalars.Class.TheVariants as class
 use Rattle.typed_tree.specs.declared.scalars.Scalar.{Scalar}
 use Rattle.typed_tree.specs.declared.scalars.Check.{Check}
-use Rattle.typed_tree.specs.declared.scalars.Comparison.TheVariants as comparison
+use Rattle.ada_base.specs.declared.operation.Comparison.TheVariants as comparison
 use Rattle.typed_tree.specs.declared.expressions.Root.TheVariants as root
 use Rattle.typed_tree.specs.declared.expressions.Run.{Run}
 use Rattle.typed_tree.specs.declared.expressions.Reducer.TheVariants as reducer

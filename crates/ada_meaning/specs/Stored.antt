@@ -50,10 +50,10 @@ pub data Cause : Type 0 where
   Misnoted : Cause
 
 -- why it can't go on
-pub data Fault : Type 0 where
-  MemoryFault : Fault
-  InputFault : Fault
-  OutputFault : Fault
+pub data Outage : Type 0 where
+  MemoryFault : Outage
+  InputFault : Outage
+  OutputFault : Outage
 
 pub record After (A : Type 0) : Type 0 where
   pub state : State
@@ -63,13 +63,13 @@ abbrev pub at : {A : Type 0} → State → Result A Cause → After A
 at s e = record { state = s; end = e }
 
 -- a cell of what is visible everywhere, or one of the stack
-pub data Place : Type 0 where
-  Kept : ℕ → Place
-  Stacked : ℕ → Place
+pub data Address : Type 0 where
+  Kept : ℕ → Address
+  Stacked : ℕ → Address
 
 -- a cell that is read or written
 pub record Touch : Type 0 where
-  pub place : Place
+  pub place : Address
   pub writes : Bool
 
 -- a thread that is begun, where it begins and what it comes to, and the cells that it names; the threads of a construct, in
@@ -106,16 +106,16 @@ teams (TeamOf t ∷ vs) = TeamOf t ∷ teams vs
 -- that are begun. The first cells of a new object aren't among those named: they lie behind all that were there.
 pub record Stored (A : Type 0) : Type 1 where
   pub does : State → After A
-  pub halts : State → Fault → State → Type 0
+  pub halts : State → Outage → State → Type 0
   pub touches : State → List Touch
   pub deeds : State → List Deed
   pub visits : State → List Visit
 
 -- it isn't begun for want of memory
-abbrev pub Unbegun : State → Fault → State → Type 0
+abbrev pub Unbegun : State → Outage → State → Type 0
 Unbegun s f t = (f ≡ MemoryFault) × (t ≡ s)
 
-abbrev pub Stops : {A : Type 0} → Stored A → State → Fault → State → Type 0
+abbrev pub Stops : {A : Type 0} → Stored A → State → Outage → State → Type 0
 Stops m s f t = Unbegun s f t ⊎ m.halts s f t
 
 -- from a state to a state, and a value, at once
@@ -129,7 +129,7 @@ abbrev pub next : {A B : Type 0} → State → Result A Cause → (A → Stored 
 next s (Ok a) k = (k a).does s
 next s (Err c) k = at s (Err c)
 
-abbrev pub next_halts : {A B : Type 0} → State → Result A Cause → (A → Stored B) → Fault → State → Type 0
+abbrev pub next_halts : {A B : Type 0} → State → Result A Cause → (A → Stored B) → Outage → State → Type 0
 next_halts s (Ok a) k f t = Stops (k a) s f t
 next_halts s (Err c) k f t = ⊥
 
@@ -180,21 +180,21 @@ or_none (Some x) = x
 abbrev pub slot_at : List Slot → ℕ → Slot
 slot_at slots k = or_none (slice_get slots k)
 
-abbrev pub within : (ℕ → Place) → Slot → ℕ → Option Place
+abbrev pub within : (ℕ → Address) → Slot → ℕ → Option Address
 within f slot i = cond (nat_lt i slot.cells) (Some (f (slot.address + i))) None
 
 -- the place of a cell of an object, if it is visible and has a cell at the offset
-abbrev pub place_of : State → Entity → ℕ → Option Place
+abbrev pub place_of : State → Entity → ℕ → Option Address
 place_of s x i =
     let h = slot_at s.here (key x) in
     let e = slot_at s.everywhere (key x) in
     cond (nat_eq h.frame s.frame) (within Stacked h i) (cond (nat_eq e.frame 1) (within Kept e i) None)
 
-abbrev pub cell_at : State → Place → Option ℤ
+abbrev pub cell_at : State → Address → Option ℤ
 cell_at s (Kept a) = slice_get s.kept a
 cell_at s (Stacked a) = slice_get s.cells a
 
-abbrev pub put_at : State → Place → ℤ → State
+abbrev pub put_at : State → Address → ℤ → State
 put_at s (Kept a) v = record s { kept = set s.kept a v }
 put_at s (Stacked a) v = record s { cells = set s.cells a v }
 
@@ -206,15 +206,15 @@ abbrev pub value_read : State → Option ℤ → After ℤ
 value_read s None = none_named s
 value_read s (Some v) = at s (Ok v)
 
-abbrev pub read_at : State → Option Place → After ℤ
+abbrev pub read_at : State → Option Address → After ℤ
 read_at s None = none_named s
 read_at s (Some a) = value_read s (cell_at s a)
 
-abbrev pub written_at : State → Option Place → ℤ → After (Unit {0})
+abbrev pub written_at : State → Option Address → ℤ → After (Unit {0})
 written_at s None v = none_named s
 written_at s (Some a) v = at (put_at s a v) (Ok tt)
 
-abbrev pub touched : Bool → Option Place → List Touch
+abbrev pub touched : Bool → Option Address → List Touch
 touched writes None = []
 touched writes (Some a) = record { place = a; writes = writes } ∷ []
 
@@ -298,7 +298,7 @@ handled s (Err NoRoom) takes h = at s (Err NoRoom)
 handled s (Err CutOff) takes h = at s (Err CutOff)
 handled s (Err Misnoted) takes h = at s (Err Misnoted)
 
-abbrev pub handled_halts : {A : Type 0} → State → Result A Cause → (Leave → Bool) → (Leave → Stored A) → Fault → State → Type 0
+abbrev pub handled_halts : {A : Type 0} → State → Result A Cause → (Leave → Bool) → (Leave → Stored A) → Outage → State → Type 0
 handled_halts s (Ok a) takes h f t = ⊥
 handled_halts s (Err (Left x)) takes h f t = cond (takes x) (Stops (h x) s f t) ⊥
 handled_halts s (Err OutOfTurns) takes h f t = ⊥
@@ -600,7 +600,7 @@ module _ (limit : ℕ) (cuts : ℕ → ℕ → List ℕ) where
 -- how a part ends, by itself or not
 pub data Stop : Type 0 where
   Goes : Cause → Stop
-  Fails : Fault → Stop
+  Fails : Outage → Stop
 
 -- from one state a part comes to another with this answer
 abbrev pub Computes : {A : Type 0} → Stored A → State → Result A Stop → State → Type 0
@@ -611,7 +611,7 @@ Computes m s (Err (Fails f)) t = Stops m s f t
 -- a whole from one state goes on as a rest from another: what a loop keeps
 pub record Continues {A : Type 0} (whole : Stored A) (begun : State) (rest : Stored A) (now : State) : Type 0 where
   pub same : whole.does begun ≡ rest.does now
-  pub stops : (f : Fault) (t : State) → Stops rest now f t → Stops whole begun f t
+  pub stops : (f : Outage) (t : State) → Stops rest now f t → Stops whole begun f t
 
 -- whole programs
 

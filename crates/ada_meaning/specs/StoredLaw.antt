@@ -8,7 +8,7 @@ use Rattle.ada_meaning.specs.Deeds.{Deed, StopsBetween}
 use Rattle.ada_meaning.specs.Law
 use Rattle.ada_meaning.specs.Law.{Outcome, IsPermitted, IsPlan, EndsItself}
 use Rattle.ada_base.specs.Notes.{ConstructNote, ByNotes, Schedule, InOrder}
-use Rattle.ada_meaning.specs.Stored.{State, Stop, Fault, answered, Computes, stored, outset, noted, noted_outset, put_out, outcome_of, ending_of, comes_to}
+use Rattle.ada_meaning.specs.Stored.{State, Stop, Outage, answered, Computes, stored, outset, noted, noted_outset, put_out, outcome_of, ending_of, comes_to}
 
 -- Let a stored run come to an answer and a state, by itself or by a fault of input, output or memory. Then the output that
 -- was there is followed by what it put out, and what it comes to is permitted, with one worker and with more.
@@ -41,8 +41,8 @@ NotedStoppedLaw = (program : Program) (set : Setting) (slots : ℕ) (input befor
 abbrev pub PlainLaw : Type 0
 PlainLaw = (program : Program) (set : Setting) (s : State) → KeepsRule program → s.left ≡ None → s.notes ≡ InOrder
     → ((stored program set).does s ≡ (noted program set).does s)
-    × ((f : Fault) (t : State) → (stored program set).halts s f t → (noted program set).halts s f t)
-    × ((f : Fault) (t : State) → (noted program set).halts s f t → (stored program set).halts s f t)
+    × ((f : Outage) (t : State) → (stored program set).halts s f t → (noted program set).halts s f t)
+    × ((f : Outage) (t : State) → (noted program set).halts s f t → (stored program set).halts s f t)
     × ((stored program set).touches s ≡ (noted program set).touches s)
     × ((stored program set).deeds s ≡ (noted program set).deeds s)
 

@@ -4,7 +4,7 @@ use Rattle.ada_base.specs.declared.operation.Op.TheVariants as op
 use Rattle.ada_base.specs.declared.reason.Reason.TheVariants as reason
 use Rattle.typed_tree.specs.declared.expressions.Root.TheVariants as root
 use Rattle.typed_tree.specs.declared.expressions.Reducer.TheVariants as reducer
-use Rattle.typed_tree.specs.declared.scalars.Comparison.TheVariants as comparison
+use Rattle.ada_base.specs.declared.operation.Comparison.TheVariants as comparison
 use Rattle.typed_tree.specs.Syntax as syntax
 use Rattle.typed_tree.specs.Syntax.{Expr, Selections, Index, Present, Relation, Exit, Parameter, Binary, Variable, Reduction, Absent, Whole, Components, NoChunk, NoPiece, Text, NoDecl, DeclareVariable, Stmt, Assign, ParallelFor, Put, End, Then, Raise, Program}
 use Rattle.ada_base.specs.Cuts.{Plan, One, Even, Chunked}

@@ -7,14 +7,14 @@ use Rattle.ada_meaning.specs.Nonblocking.{KeepsRule, KeepsAll, nonblocking_of}
 use Rattle.ada_meaning.specs.Programs.{Setting}
 use Rattle.ada_meaning.specs.Law.{IsRaceFree}
 use Rattle.ada_base.specs.Notes.{Schedule, InOrder}
-use Rattle.ada_meaning.specs.Stored.{State, Place, Kept, Stacked, Touch, Thread, Team, Visit, ThreadOf, TeamOf, Stored, slot_at, cell_at, noted_operations, noted, noted_outset}
+use Rattle.ada_meaning.specs.Stored.{State, Address, Kept, Stacked, Touch, Thread, Team, Visit, ThreadOf, TeamOf, Stored, slot_at, cell_at, noted_operations, noted, noted_outset}
 
 -- the cell is there
-abbrev pub Before : State → Place → Type 0
+abbrev pub Before : State → Address → Type 0
 Before s (Kept a) = a < length s.kept
 Before s (Stacked a) = a < length s.cells
 
-abbrev pub WrittenIn : List Touch → Place → Type 0
+abbrev pub WrittenIn : List Touch → Address → Type 0
 WrittenIn [] a = ⊥
 WrittenIn (t ∷ ts) a = ((t.writes ≡ true) × (t.place ≡ a)) ⊎ WrittenIn ts a
 
@@ -26,7 +26,7 @@ EachTeam F (TeamOf t ∷ vs) = F t × EachTeam F vs
 
 -- a cell that was there and isn't written keeps its value, wherever the part comes to
 abbrev pub LeavesOthers : {A : Type 0} → Stored A → Type 0
-LeavesOthers m = (s : State) (a : Place) → Before s a → (WrittenIn (m.touches s) a → ⊥) → cell_at (m.does s).state a ≡ cell_at s a
+LeavesOthers m = (s : State) (a : Address) → Before s a → (WrittenIn (m.touches s) a → ⊥) → cell_at (m.does s).state a ≡ cell_at s a
 
 -- so it is with all statements, where so many calls more may be active
 abbrev pub FrameLaw : Type 0
@@ -35,7 +35,7 @@ FrameLaw = (program : Program) (set : Setting) (depth : ℕ) (stmts : Stmts) (en
 
 -- threads of a team
 
-abbrev pub TouchedIn : List Touch → Place → Type 0
+abbrev pub TouchedIn : List Touch → Address → Type 0
 TouchedIn [] a = ⊥
 TouchedIn (t ∷ ts) a = (t.place ≡ a) ⊎ TouchedIn ts a
 
@@ -45,7 +45,7 @@ IsAmong b (c ∷ cs) = (b ≡ c) ⊎ IsAmong b cs
 
 -- no two threads share a cell that was there before their construct and that one of them writes
 abbrev pub IsApart : Team → Type 0
-IsApart t = (b c : Thread) → IsAmong b t.threads → IsAmong c t.threads → (b.share ≡ c.share → ⊥) → (a : Place) → Before t.begun a → WrittenIn b.touches a → TouchedIn c.touches a → ⊥
+IsApart t = (b c : Thread) → IsAmong b t.threads → IsAmong c t.threads → (b.share ≡ c.share → ⊥) → (a : Address) → Before t.begun a → WrittenIn b.touches a → TouchedIn c.touches a → ⊥
 
 -- In a run by notes of a program that is free of races all teams are so.
 abbrev pub ApartLaw : Type 0
@@ -69,7 +69,7 @@ pub record Leaves (s u : State) (touches : List Touch) : Type 0 where
   pub frame : u.frame ≡ s.frame
   pub cells : length u.cells ≡ length s.cells
   pub kept : length s.kept ≤ length u.kept
-  pub others : (a : Place) → Before s a → (WrittenIn touches a → ⊥) → cell_at u a ≡ cell_at s a
+  pub others : (a : Address) → Before s a → (WrittenIn touches a → ⊥) → cell_at u a ≡ cell_at s a
 
 -- the threads go on one from the other, from a state to a state
 abbrev pub Chain : State → List Thread → State → Type 0
@@ -106,7 +106,7 @@ JoinLaw = (program : Program) (set : Setting) (s : State) → KeepsRule program 
 -- and each that it writes is in the end as it left it.
 abbrev pub IsView : Team → Type 0
 IsView t =
-    (front : List Thread) (b : Thread) (back : List Thread) → t.threads ≡ front ++ (b ∷ back) → (a : Place) → Before t.begun a
+    (front : List Thread) (b : Thread) (back : List Thread) → t.threads ≡ front ++ (b ∷ back) → (a : Address) → Before t.begun a
     → (TouchedIn b.touches a → cell_at b.begun a ≡ cell_at t.begun a) × (WrittenIn b.touches a → cell_at t.ended a ≡ cell_at b.ended a)
 
 -- So the threads of a program that is free of races may as well begin all at once, each with cells of its own.

@@ -12,8 +12,8 @@ use Rattle.ada_base.specs.Image.{image, truth_image}
 use Rattle.typed_tree.specs.declared.scalars.Class.{Class}
 use Rattle.typed_tree.specs.declared.scalars.Class.TheVariants as class
 use Rattle.typed_tree.specs.declared.scalars.Scalar.{Scalar}
-use Rattle.typed_tree.specs.declared.scalars.Comparison.{Comparison}
-use Rattle.typed_tree.specs.declared.scalars.Comparison.TheVariants as comparison
+use Rattle.ada_base.specs.declared.operation.Comparison.{Comparison}
+use Rattle.ada_base.specs.declared.operation.Comparison.TheVariants as comparison
 use Rattle.typed_tree.specs.declared.expressions.Sign.{Sign}
 use Rattle.typed_tree.specs.declared.expressions.Sign.TheVariants as sign
 use Rattle.typed_tree.specs.declared.statements.Span.{Span}

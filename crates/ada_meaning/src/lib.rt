@@ -21,6 +21,9 @@ pub use behaviours::shuffle_law;
 pub use slots::{Slot, Variable};
 use typed_tree::Typed;
 
+/// How many threads a parallel construct has where no number is asked for (5.5, 5.6.1).
+pub const MOST_THREADS: u32 = 4096;
+
 /// Laws of all programs.
 /// - stops: a program may be stopped before it begins.
 /// - fronts: wherever the trace of a run is parted, there is a run that was stopped there.

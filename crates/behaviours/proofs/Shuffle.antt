@@ -3,7 +3,7 @@ use Rattle.std.proofs.Common.{◌≡◌, ℕ, ℤ, nat_eq, List, [], ◌∷◌, 
 use mathlib.Core.Path.{fun_ext}
 use Rattle.ada_base.specs.Input.{Held}
 use Rattle.behaviours.specs.Paths.{Entity, VariableOf, ConstantOf, ThreadName, Instance, entity_eq, name_eq, instance_eq}
-use Rattle.behaviours.specs.Events.{Event, Reads, Writes, Recalls, Keeps, Takes, Puts, Looks, Trace, Place, Cell, Rest, Byte, IsAt, WritesAt, Has, Touches, WritesTo, Apart, ApartFrom, AllApart, Merge, Shuffle, in_order}
+use Rattle.behaviours.specs.Events.{Event, Reads, Writes, Recalls, Keeps, Takes, Puts, Looks, Trace, Location, Cell, Rest, Byte, IsAt, WritesAt, Has, Touches, WritesTo, Apart, ApartFrom, AllApart, Merge, Shuffle, in_order}
 use Rattle.behaviours.specs.Memory.{Memory, put, hold, step, IsRight, after, Fits, EachFits, ShuffleLaw}
 
 -- names and instances
@@ -50,12 +50,12 @@ instance_same x y e =
 -- one event
 
 -- two memories have the same at a place
-abbrev pub Alike : Memory → Memory → Place Instance → Type 0
+abbrev pub Alike : Memory → Memory → Location Instance → Type 0
 Alike m n (Cell x i) = m.cells x i ≡ n.cells x i
 Alike m n Rest = m.held ≡ n.held
 Alike m n (Byte k) = m.input k ≡ n.input k
 
-cell_same : (i j : ℕ) (x y : Instance) → (nat_eq i j && instance_eq x y) ≡ true → ◌≡◌ {A = Place Instance} (Cell x i) (Cell y j)
+cell_same : (i j : ℕ) (x y : Instance) → (nat_eq i j && instance_eq x y) ≡ true → ◌≡◌ {A = Location Instance} (Cell x i) (Cell y j)
 cell_same i j x y e = ap₂ Cell (instance_same x y (and_right (nat_eq i j) (instance_eq x y) e)) (nat_same i j (and_left (nat_eq i j) (instance_eq x y) e))
 
 pub cond_other : {A : Type 0} (b : Bool) (v w : A) → (b ≡ true → ⊥) → cond b v w ≡ w
@@ -72,17 +72,17 @@ cond_swap true false u v w ne = refl
 cond_swap false true u v w ne = refl
 cond_swap false false u v w ne = refl
 
-put_agree : (m n : Memory) (x : Instance) (i : ℕ) (v : ℤ) (y : Place Instance) → Alike m n y → Alike (put m x i v) (put n x i v) y
+put_agree : (m n : Memory) (x : Instance) (i : ℕ) (v : ℤ) (y : Location Instance) → Alike m n y → Alike (put m x i v) (put n x i v) y
 put_agree m n x i v (Cell y j) e = cond_agree (nat_eq i j && instance_eq x y) v (m.cells y j) (n.cells y j) e
 put_agree m n x i v Rest e = e
 put_agree m n x i v (Byte k) e = e
 
-hold_agree : (m n : Memory) (h : Held) (y : Place Instance) → Alike m n y → Alike (hold m h) (hold n h) y
+hold_agree : (m n : Memory) (h : Held) (y : Location Instance) → Alike m n y → Alike (hold m h) (hold n h) y
 hold_agree m n h (Cell y j) e = e
 hold_agree m n h Rest e = refl
 hold_agree m n h (Byte k) e = e
 
-step_agree : (a : Event Instance) (m n : Memory) (y : Place Instance) → Alike m n y → Alike (step m a) (step n a) y
+step_agree : (a : Event Instance) (m n : Memory) (y : Location Instance) → Alike m n y → Alike (step m a) (step n a) y
 step_agree (Reads x i v) m n y e = e
 step_agree (Writes x i v) m n y e = put_agree m n x i v y e
 step_agree (Recalls h) m n y e = e
@@ -91,7 +91,7 @@ step_agree (Takes k b) m n y e = e
 step_agree (Puts piece) m n y e = e
 step_agree Looks m n y e = e
 
-right_frame : (a : Event Instance) (m n : Memory) → ((y : Place Instance) → IsAt a y → Alike m n y) → IsRight m a → IsRight n a
+right_frame : (a : Event Instance) (m n : Memory) → ((y : Location Instance) → IsAt a y → Alike m n y) → IsRight m a → IsRight n a
 right_frame (Reads x i v) m n agree e = e ∙ agree (Cell x i) refl
 right_frame (Writes x i v) m n agree e = tt
 right_frame (Recalls h) m n agree e = e ∙ agree Rest refl
@@ -100,32 +100,32 @@ right_frame (Takes k b) m n agree e = e ∙ agree (Byte k) refl
 right_frame (Puts piece) m n agree e = tt
 right_frame Looks m n agree e = tt
 
-alike_same : (m : Memory) (y : Place Instance) → Alike m m y
+alike_same : (m : Memory) (y : Location Instance) → Alike m m y
 alike_same m (Cell y j) = refl
 alike_same m Rest = refl
 alike_same m (Byte k) = refl
 
-pub alike_flip : (m n : Memory) (y : Place Instance) → Alike m n y → Alike n m y
+pub alike_flip : (m n : Memory) (y : Location Instance) → Alike m n y → Alike n m y
 alike_flip m n (Cell y j) e = sym e
 alike_flip m n Rest e = sym e
 alike_flip m n (Byte k) e = sym e
 
-alike_on : (m n o : Memory) (y : Place Instance) → Alike m n y → Alike n o y → Alike m o y
+alike_on : (m n o : Memory) (y : Location Instance) → Alike m n y → Alike n o y → Alike m o y
 alike_on m n o (Cell y j) e f = e ∙ f
 alike_on m n o Rest e f = e ∙ f
 alike_on m n o (Byte k) e f = e ∙ f
 
-put_other : (m : Memory) (x : Instance) (i : ℕ) (v : ℤ) (y : Place Instance) → (◌≡◌ {A = Place Instance} (Cell x i) y → ⊥) → Alike (put m x i v) m y
+put_other : (m : Memory) (x : Instance) (i : ℕ) (v : ℤ) (y : Location Instance) → (◌≡◌ {A = Location Instance} (Cell x i) y → ⊥) → Alike (put m x i v) m y
 put_other m x i v (Cell y j) ne = cond_other (nat_eq i j && instance_eq x y) v (m.cells y j) (λ e. ne (cell_same i j x y e))
 put_other m x i v Rest ne = refl
 put_other m x i v (Byte k) ne = refl
 
-hold_other : (m : Memory) (h : Held) (y : Place Instance) → (◌≡◌ {A = Place Instance} Rest y → ⊥) → Alike (hold m h) m y
+hold_other : (m : Memory) (h : Held) (y : Location Instance) → (◌≡◌ {A = Location Instance} Rest y → ⊥) → Alike (hold m h) m y
 hold_other m h (Cell y j) ne = refl
 hold_other m h Rest ne = absurd (ne refl)
 hold_other m h (Byte k) ne = refl
 
-step_other : (a : Event Instance) (m : Memory) (y : Place Instance) → (WritesAt a y → ⊥) → Alike (step m a) m y
+step_other : (a : Event Instance) (m : Memory) (y : Location Instance) → (WritesAt a y → ⊥) → Alike (step m a) m y
 step_other (Reads x i v) m y ne = alike_same m y
 step_other (Writes x i v) m y ne = put_other m x i v y ne
 step_other (Recalls h) m y ne = alike_same m y
@@ -134,12 +134,12 @@ step_other (Takes k b) m y ne = alike_same m y
 step_other (Puts piece) m y ne = alike_same m y
 step_other Looks m y ne = alike_same m y
 
-put_swap : (m : Memory) (x : Instance) (i : ℕ) (v : ℤ) (y : Instance) (j : ℕ) (w : ℤ) → (◌≡◌ {A = Place Instance} (Cell x i) (Cell y j) → ⊥) → put (put m x i v) y j w ≡ put (put m y j w) x i v
+put_swap : (m : Memory) (x : Instance) (i : ℕ) (v : ℤ) (y : Instance) (j : ℕ) (w : ℤ) → (◌≡◌ {A = Location Instance} (Cell x i) (Cell y j) → ⊥) → put (put m x i v) y j w ≡ put (put m y j w) x i v
 put_swap m x i v y j w ne =
     ap (λ f. record { cells = f; held = m.held; input = m.input })
     (fun_ext (λ z. fun_ext (λ k. cond_swap (nat_eq j k && instance_eq y z) (nat_eq i k && instance_eq x z) w v (m.cells z k) (λ e f. ne (cell_same i k x z f ∙ sym (cell_same j k y z e))))))
 
-step_swap : (a b : Event Instance) (m : Memory) → ((y : Place Instance) → WritesAt a y → IsAt b y → ⊥) → step (step m a) b ≡ step (step m b) a
+step_swap : (a b : Event Instance) (m : Memory) → ((y : Location Instance) → WritesAt a y → IsAt b y → ⊥) → step (step m a) b ≡ step (step m b) a
 step_swap (Reads x i v) b m ne = refl
 step_swap (Recalls h) b m ne = refl
 step_swap (Takes k s) b m ne = refl
@@ -160,7 +160,7 @@ step_swap (Keeps g) (Takes k s) m ne = refl
 step_swap (Keeps g) (Puts piece) m ne = refl
 step_swap (Keeps g) Looks m ne = refl
 
-writes_at : (a : Event Instance) (y : Place Instance) → WritesAt a y → IsAt a y
+writes_at : (a : Event Instance) (y : Location Instance) → WritesAt a y → IsAt a y
 writes_at (Reads x i v) y h = absurd h
 writes_at (Writes x i v) y h = h
 writes_at (Recalls g) y h = absurd h
@@ -171,15 +171,15 @@ writes_at Looks y h = absurd h
 
 -- one trace
 
-pub fits_frame : (tr : Trace Instance) (m n : Memory) → ((y : Place Instance) → Touches tr y → Alike m n y) → Fits m tr → Fits n tr
+pub fits_frame : (tr : Trace Instance) (m n : Memory) → ((y : Location Instance) → Touches tr y → Alike m n y) → Fits m tr → Fits n tr
 fits_frame [] m n agree f = tt
 fits_frame (a ∷ tr) m n agree f = (right_frame a m n (λ y t. agree y (inl t)) f.0, fits_frame tr (step m a) (step n a) (λ y t. step_agree a m n y (agree y (inr t))) f.1)
 
-pub after_other : (tr : Trace Instance) (m : Memory) (y : Place Instance) → (WritesTo tr y → ⊥) → Alike (after m tr) m y
+pub after_other : (tr : Trace Instance) (m : Memory) (y : Location Instance) → (WritesTo tr y → ⊥) → Alike (after m tr) m y
 after_other [] m y ne = alike_same m y
 after_other (a ∷ tr) m y ne = alike_on (after m (a ∷ tr)) (step m a) m y (after_other tr (step m a) y (λ w. ne (inr w))) (step_other a m y (λ w. ne (inl w)))
 
-after_step : (tr : Trace Instance) (m : Memory) (a : Event Instance) → ((y : Place Instance) → WritesAt a y → Touches tr y → ⊥) → after (step m a) tr ≡ step (after m tr) a
+after_step : (tr : Trace Instance) (m : Memory) (a : Event Instance) → ((y : Location Instance) → WritesAt a y → Touches tr y → ⊥) → after (step m a) tr ≡ step (after m tr) a
 after_step [] m a ne = refl
 after_step (b ∷ tr) m a ne = ap (λ n. after n tr) (step_swap a b m (λ y w t. ne y w (inl t))) ∙ after_step tr (step m b) a (λ y w t. ne y w (inr t))
 
@@ -195,7 +195,7 @@ pub fits_split : (t u : Trace Instance) (m : Memory) → Fits m (t ++ u) → Fit
 fits_split [] u m f = (tt, f)
 fits_split (a ∷ t) u m f = let r = fits_split t u (step m a) f.1 in ((f.0, r.0), r.1)
 
-pub writes_touches : (tr : Trace Instance) (y : Place Instance) → WritesTo tr y → Touches tr y
+pub writes_touches : (tr : Trace Instance) (y : Location Instance) → WritesTo tr y → Touches tr y
 writes_touches [] y h = absurd h
 writes_touches (a ∷ tr) y (inl h) = inl (writes_at a y h)
 writes_touches (a ∷ tr) y (inr h) = inr (writes_touches tr y h)
@@ -209,7 +209,7 @@ apart_tail : (a : Event Instance) (t u : Trace Instance) → Apart (a ∷ t) u �
 apart_tail a t u p = record { forth = λ y w h. p.forth y (inr w) h; back = λ y h w. p.back y (inr h) w }
 
 -- a write of one trace changes nothing that the other looks at
-past : (a : Event Instance) (t u : Trace Instance) (m : Memory) → Apart (a ∷ t) u → (y : Place Instance) → Touches u y → Alike m (step m a) y
+past : (a : Event Instance) (t u : Trace Instance) (m : Memory) → Apart (a ∷ t) u → (y : Location Instance) → Touches u y → Alike m (step m a) y
 past a t u m p y h = alike_flip (step m a) m y (step_other a m y (λ w. p.forth y (inl w) h))
 
 -- consistent alone, so consistent together

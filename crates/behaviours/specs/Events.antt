@@ -18,10 +18,10 @@ abbrev pub Trace : Type 0 → Type 0
 Trace P = List (Event P)
 
 -- where an action is: a cell of an instance, what is held of the input, or a byte of the input, which is never written
-pub data Place (P : Type 0) : Type 0 where
-  Cell : (instance : P) (offset : ℕ) → Place P
-  Rest : Place P
-  Byte : (number : ℕ) → Place P
+pub data Location (P : Type 0) : Type 0 where
+  Cell : (instance : P) (offset : ℕ) → Location P
+  Rest : Location P
+  Byte : (number : ℕ) → Location P
 
 module _ {P : Type 0} where
   -- output of a trace
@@ -34,7 +34,7 @@ module _ {P : Type 0} where
   -- shared places
 
   -- the event is at this place; it writes there
-  abbrev pub IsAt : Event P → Place P → Type 0
+  abbrev pub IsAt : Event P → Location P → Type 0
   IsAt (Reads x i v) y = Cell x i ≡ y
   IsAt (Writes x i v) y = Cell x i ≡ y
   IsAt (Recalls h) y = Rest ≡ y
@@ -42,7 +42,7 @@ module _ {P : Type 0} where
   IsAt (Takes n b) y = Byte n ≡ y
   IsAt _ y = ⊥
 
-  abbrev pub WritesAt : Event P → Place P → Type 0
+  abbrev pub WritesAt : Event P → Location P → Type 0
   WritesAt (Writes x i v) y = Cell x i ≡ y
   WritesAt (Keeps h) y = Rest ≡ y
   WritesAt _ y = ⊥
@@ -60,16 +60,16 @@ module _ {P : Type 0} where
   Has such [] = ⊥
   Has such (e ∷ tr) = such e ⊎ Has such tr
 
-  abbrev pub Touches : Trace P → Place P → Type 0
+  abbrev pub Touches : Trace P → Location P → Type 0
   Touches tr y = Has (λ e. IsAt e y) tr
 
-  abbrev pub WritesTo : Trace P → Place P → Type 0
+  abbrev pub WritesTo : Trace P → Location P → Type 0
   WritesTo tr y = Has (λ e. WritesAt e y) tr
 
   -- no place where one of two traces writes and the other reads or writes
   pub record Apart (t u : Trace P) : Type 0 where
-    pub forth : (y : Place P) → WritesTo t y → Touches u y → ⊥
-    pub back : (y : Place P) → Touches t y → WritesTo u y → ⊥
+    pub forth : (y : Location P) → WritesTo t y → Touches u y → ⊥
+    pub back : (y : Location P) → Touches t y → WritesTo u y → ⊥
 
   abbrev pub ApartFrom : Trace P → List (Trace P) → Type 0
   ApartFrom t [] = Unit {0}

@@ -30,7 +30,7 @@ use Rattle.typed_tree.specs.declared.expressions.Reducer.TheVariants.{Operator, 
 use Rattle.ada_meaning.specs.Values.{truth, bit, is_in, between, to_nat, count, base_of, unary, is_zero, divides, overflows, result, value_or_zero, defaults, image_of, handles_reason, is_chosen, without_zeros, layout, laid, zeros}
 use Rattle.ada_meaning.specs.Operations.{CheckKind, RangeCheck, IndexCheck, OverflowCheck, ZeroCheck, ByPlan, Sized, chunk_of, Operations, operate, reduce}
 use Rattle.ada_meaning.specs.Meaning
-use Rattle.ada_meaning.specs.Meaning.{Part, Env, Course, Chunking, Back, Passed, Returned, outset, with_target, with_handled, inside, variable_root, constant_root, array_root, iterated_env, cut_of, value_cut_of, arms_of, exits, returns, raises, value_of, reason_of, has_handlers, sub_at, moved, object_layout, most_nested, most_threads, most_iterations, most_calls}
+use Rattle.ada_meaning.specs.Meaning.{ObjectPart, Env, Course, Chunking, Back, Passed, Returned, outset, with_target, with_handled, inside, variable_root, constant_root, array_root, iterated_env, cut_of, value_cut_of, arms_of, exits, returns, raises, value_of, reason_of, has_handlers, sub_at, moved, object_layout, most_nested, most_threads, most_iterations, most_calls}
 use Rattle.typed_tree.specs.Syntax.{Expr, Static, Variable, Constant, Parameter, Target, Group, Unary, Binary, AndThen, OrElse, Relation, Membership, If, Call, Convert, Reduction, Optional, Absent, Present, Selections, Whole, Field, Index, Actuals, NoActual, In, InOut, Out, CompositeInOut, CompositeOut, Value, Number, Cells, Composite, WholeVariable, WholeConstant, WholeTarget, CompositeIf, Aggregate, Associations, NoAssociation, Association, Iteration, Range, Components, Chunk, NoChunk, Count, Each, Pieces, NoPiece, Text, Image, Padded, Decls, NoDecl, DeclareDefault, DeclareVariable, DeclareConstant, Mentions, Stmt, Null, Assign, CallProcedure, Exit, Return, ReturnValue, Raise, Reraise, IfThen, Case, Loop, For, ParallelFor, Parallel, Block, Put, Get, Stmts, End, Then, Alternatives, NoAlternative, Alternative, Arms, NoArm, Arm, Handlers, NoHandler, Handler, Body, Sub, Program}
 use Rattle.check_effects.specs.Effects.{Roles, unknown, hide, is_one, selector, steps_of, root_name, name, forget, Construct, LoopOf, BlockOf, ReductionOf, Item, Holds, chunk_hidden, course_hidden, chunk_parameter, judging, iterated_hidden, InReducer, InExpr, InOptional, InSelections, InActuals, InValue, InComposite, InAssociations, InCourse, InFilter, InChunk, InPieces, InDecls, InStmt, InAll, InAlternatives, InArm, InHandlers, InBody, InThread, IsDeclared, InSub, InCallee, Selector, Any, a_distance, a_parameter, is_distance, opposite, shifted, by_distance, role}
 use Rattle.check_effects.specs.Conflicts.{Fits, Leads, Distinct, LoopsDiffer, Compared, InProgram}
@@ -312,15 +312,15 @@ module _ (program : Program) (fine : Construct → Type 0) where
       index_fits now r env h (Convert check e) v c = tt
       index_fits now r env h (Reduction at attribute by initial site chunk iteration value) v c = tt
 
-      select_leads : (now : Now) (r : Roles) (env : Env) → Suits now r env → (selections : Selections) (p q : Part) → Can (Meaning.select ops limit program calls selections env p) q → (q.object ≡ p.object) × Leads now p.offset (steps_of r selections) q.offset
-      select_leads now r env h Whole p q c = let e = of_ret c in (ap (λ (z : Part). z.object) e, ap (λ (z : Part). z.offset) e)
+      select_leads : (now : Now) (r : Roles) (env : Env) → Suits now r env → (selections : Selections) (p q : ObjectPart) → Can (Meaning.select ops limit program calls selections env p) q → (q.object ≡ p.object) × Leads now p.offset (steps_of r selections) q.offset
+      select_leads now r env h Whole p q c = let e = of_ret c in (ap (λ (z : ObjectPart). z.object) e, ap (λ (z : ObjectPart). z.offset) e)
       select_leads now r env h (Field number offset rest) p q c = select_leads now r env h rest (moved p offset) q c
       select_leads now r env h (Index at e low high stride rest) p q c =
           let a = of_bind c in let b = of_bind a.2 in
           let t = select_leads now r env h rest (moved p (to_nat (a.0 -ℤ low) * stride)) q b.2 in
           (t.0, (a.0, of_checks IndexCheck at (between low a.0 high) b.0 b.1, index_fits now r env h e a.0 a.1, t.1))
 
-      located : (now : Now) (r : Roles) (env : Env) → Suits now r env → (from : Root) (selections : Selections) (p : Part) → Can (Meaning.select ops limit program calls selections env (variable_root from env)) p → Tie now (name r from selections) p
+      located : (now : Now) (r : Roles) (env : Env) → Suits now r env → (from : Root) (selections : Selections) (p : ObjectPart) → Can (Meaning.select ops limit program calls selections env (variable_root from env)) p → Tie now (name r from selections) p
       located now r env h from selections p c =
           let a = suits_root now r env h from in
           let b = select_leads now r env h selections (variable_root from env) p c in
@@ -375,7 +375,7 @@ module _ (program : Program) (fine : Construct → Type 0) where
           subst (λ (z : Course). Suits now (course_hidden around (Components k constant at from selections number stride dimensions filter) r) (z.bound i env)) (sym e)
           (suits_item now r env constant false k (name around from selections) a.0 i number stride dimensions (found constant a.0 a.1) (subst (λ (z : Course). i < z.count) e lt) (λ _. tt) h)
         where
-          found : (constant : Bool) (p : Part) → Can (Meaning.select ops limit program calls selections start (array_root constant from start)) p → constant ≡ false → Tie now (name around from selections) p
+          found : (constant : Bool) (p : ObjectPart) → Can (Meaning.select ops limit program calls selections start (array_root constant from start)) p → constant ≡ false → Tie now (name around from selections) p
           found true p k e = absurd (true≢false e)
           found false p k e = located now around start g from selections p k
 
@@ -392,7 +392,7 @@ module _ (program : Program) (fine : Construct → Type 0) where
       own_value : (x : ℕ) (v w : ℤ) → v ≡ cond (nat_eq x x) v w
       own_value x v w = subst (λ b. v ≡ cond b v w) (sym (eq-eqb x x refl)) refl
 
-      own_item : (constant : Bool) (x : ℕ) (p : Part) (env : Env) → p.offset ≡ (cond constant ((Meaning.with_item constant x p env).constant_item x) ((Meaning.with_item constant x p env).item x)).offset
+      own_item : (constant : Bool) (x : ℕ) (p : ObjectPart) (env : Env) → p.offset ≡ (cond constant ((Meaning.with_item constant x p env).constant_item x) ((Meaning.with_item constant x p env).item x)).offset
       own_item true x p env = subst (λ b. p.offset ≡ (cond b p (env.constant_item x)).offset) (sym (eq-eqb x x refl)) refl
       own_item false x p env = subst (λ b. p.offset ≡ (cond b p (env.item x)).offset) (sym (eq-eqb x x refl)) refl
 
@@ -500,7 +500,7 @@ module _ (program : Program) (fine : Construct → Type 0) where
           base : (t : Now) → Suits t (forget s.roles) (inside s.env)
           base t = suits_forget s.now t s.roles (inside s.env) (suits_inside s.now s.roles s.env s.suits)
 
-          found : (t : Now) (constant : Bool) (p : Part) → Can (Meaning.select ops limit program calls selections (inside s.env) (array_root constant from (inside s.env))) p → constant ≡ false → Tie t (name (forget s.roles) from selections) p
+          found : (t : Now) (constant : Bool) (p : ObjectPart) → Can (Meaning.select ops limit program calls selections (inside s.env) (array_root constant from (inside s.env))) p → constant ≡ false → Tie t (name (forget s.roles) from selections) p
           found t true p g e = absurd (true≢false e)
           found t false p g e = located t (forget s.roles) (inside s.env) (base t) from selections p g
 
@@ -582,7 +582,7 @@ module _ (program : Program) (fine : Construct → Type 0) where
         holds_good Absent s k = done s true
         holds_good (Present e) s k = seq s (eval_good e s k) (λ v _. done s (truth v))
 
-        select_good : (g : Selections) (s : Scene) (p : Part) → Has s (InSelections program.subtypes s.roles g) → Fine s (Meaning.select ops limit program calls g s.env p)
+        select_good : (g : Selections) (s : Scene) (p : ObjectPart) → Has s (InSelections program.subtypes s.roles g) → Fine s (Meaning.select ops limit program calls g s.env p)
         select_good Whole s p k = done s p
         select_good (Field number offset rest) s p k = select_good rest s (moved p offset) k
         select_good (Index at e low high stride rest) s p k = seq s (eval_good e s (part program fine (λ i h. inl h) k)) (λ v _. seq s (check s IndexCheck at (between low v high)) (λ _ _. select_good rest s (moved p (to_nat (v -ℤ low) * stride)) (part program fine (λ i h. inr h) k)))

@@ -2,7 +2,7 @@
 use Rattle.std.proofs.Common.{ℕ, ◌+◌, ◌<◌, Bool, refl, sym, subst, inl, arith}
 use Rattle.typed_tree.specs.Syntax.{Program}
 use Rattle.behaviours.specs.Paths.{Entity, VariableOf, ConstantOf, Region, Everywhere, Here}
-use Rattle.ada_meaning.specs.Meaning.{Part}
+use Rattle.ada_meaning.specs.Meaning.{ObjectPart}
 use Rattle.check_effects.specs.Effects.{Named, Access, Construct, Item, Touches, Calls, Blocks, Outside, IsGlobal, Reached}
 use Rattle.behaviours.specs.Joins.{Now}
 use Rattle.check_effects.specs.Conflicts.{LiesUnder}
@@ -18,10 +18,10 @@ module _ (program : Program) (fine : Construct → Type 0) where
   pub call_into : {W : Type 0} {now : Now} {E : Allowed} {items : Item → Type 0} (at callee u : ℕ) → items (Calls at callee u) → Into program fine W now E items → CallInto now E u
   call_into at callee u h k = record { touch = λ there a n r g l. k.call at callee u there a n h r g l; reach = λ there last r. k.reach at callee u there last h r }
 
-  pub touched : {W : Type 0} {now : Now} {E : Allowed} {items : Item → Type 0} → Into program fine W now E items → (at : ℕ) (w : Bool) (n : Named) (cells : ℕ) → items (Touches at (record { writes = w; object = n.object; steps = n.steps; cells = cells })) → (p : Part) → Tie now n p → (m : ℕ) → m < cells → E.at w p.object (p.offset + m)
+  pub touched : {W : Type 0} {now : Now} {E : Allowed} {items : Item → Type 0} → Into program fine W now E items → (at : ℕ) (w : Bool) (n : Named) (cells : ℕ) → items (Touches at (record { writes = w; object = n.object; steps = n.steps; cells = cells })) → (p : ObjectPart) → Tie now n p → (m : ℕ) → m < cells → E.at w p.object (p.offset + m)
   touched {W} {now} {E} k at w n cells h p t m lt = subst (λ z. E.at w z (p.offset + m)) (sym t.0) (k.touch at (record { writes = w; object = n.object; steps = n.steps; cells = cells }) (p.offset + m) h (p.offset, m, t.1, lt, refl))
 
-  pub touched_one : {W : Type 0} {now : Now} {E : Allowed} {items : Item → Type 0} → Into program fine W now E items → (at : ℕ) (w : Bool) (n : Named) → items (Touches at (record { writes = w; object = n.object; steps = n.steps; cells = 1 })) → (p : Part) → Tie now n p → E.at w p.object p.offset
+  pub touched_one : {W : Type 0} {now : Now} {E : Allowed} {items : Item → Type 0} → Into program fine W now E items → (at : ℕ) (w : Bool) (n : Named) → items (Touches at (record { writes = w; object = n.object; steps = n.steps; cells = 1 })) → (p : ObjectPart) → Tie now n p → E.at w p.object p.offset
   touched_one {W} {now} {E} k at w n h p t = subst (λ z. E.at w z p.offset) (sym t.0) (k.touch at (record { writes = w; object = n.object; steps = n.steps; cells = 1 }) p.offset h (p.offset, 0, t.1, omega arith, omega arith))
 
   -- within the text that sees a new object

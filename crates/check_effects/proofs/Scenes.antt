@@ -9,7 +9,7 @@ use Rattle.behaviours.specs.Events.{Trace}
 use Rattle.behaviours.specs.Behaviours.{Behaviour}
 use Rattle.ada_meaning.specs.Values.{to_nat}
 use Rattle.ada_meaning.specs.Operations.{CheckKind}
-use Rattle.ada_meaning.specs.Meaning.{Part, moved, Env, outset, with_parameter, with_target, with_handled, inside, variable_root, iterated_env}
+use Rattle.ada_meaning.specs.Meaning.{ObjectPart, moved, Env, outset, with_parameter, with_target, with_handled, inside, variable_root, iterated_env}
 use Rattle.ada_meaning.specs.Meaning as meaning
 use Rattle.check_effects.specs.Effects.{Selector, At, Fixed, LoopIndex, ChunkIndex, Any, Step, FieldStep, IndexStep, ItemStep, Named, Access, Roles, unknown, other, hide, is_one, role, root_name, forgotten, forgotten_steps, forget, Construct, Item, Touches, Calls, Blocks, Holds, Outside, item_bound, iterated_hidden, IsGlobal, Reached, IsEffect}
 use Rattle.behaviours.specs.Joins.{Now}
@@ -22,7 +22,7 @@ use Rattle.check_effects.proofs.Teams.{Either}
 
 -- what a name stands for
 
-abbrev pub Tie : Now → Named → Part → Type 0
+abbrev pub Tie : Now → Named → ObjectPart → Type 0
 Tie now n p = (p.object ≡ n.object) × Leads now 0 n.steps p.offset
 
 pub record Suits (now : Now) (r : Roles) (env : Env) : Type 0 where
@@ -61,7 +61,7 @@ suits_inside now r env h = record { fit = h.fit; items = h.items; target = h.tar
 pub suits_handled : (now : Now) (r : Roles) (env : Env) (e : _) → Suits now r env → Suits now r (with_handled e env)
 suits_handled now r env e h = record { fit = h.fit; items = h.items; target = h.target }
 
-pub suits_target : (now : Now) (r : Roles) (env : Env) (n : Named) (p : Part) → Tie now n p → Suits now r env → Suits now (record r { target = n }) (with_target p env)
+pub suits_target : (now : Now) (r : Roles) (env : Env) (n : Named) (p : ObjectPart) → Tie now n p → Suits now r env → Suits now (record r { target = n }) (with_target p env)
 suits_target now r env n p t h = record { fit = h.fit; items = h.items; target = t }
 
 is_here : (o : Option ℕ) (x : ℕ) → is_one (other x o) x ≡ false
@@ -96,7 +96,7 @@ suits_iterated now r env None k h = h
 suits_iterated now r env (Some i) k h = suits_hide now r env i.parameter (i.first +ℤ pos k) h
 
 -- a component that an iteration has reached
-pub suits_item : (now : Now) (r : Roles) (env : Env) (constant judged : Bool) (k : ℕ) (n : Named) (p : Part) (i count stride dimensions : ℕ) → (constant ≡ false → Tie now n p) → i < count → (constant ≡ false → IsItem now judged (p.offset + i * stride) stride)
+pub suits_item : (now : Now) (r : Roles) (env : Env) (constant judged : Bool) (k : ℕ) (n : Named) (p : ObjectPart) (i count stride dimensions : ℕ) → (constant ≡ false → Tie now n p) → i < count → (constant ≡ false → IsItem now judged (p.offset + i * stride) stride)
     → Suits now r env → Suits now (item_bound constant judged k n count stride dimensions r) (meaning.with_item constant k (moved p (i * stride)) env)
 suits_item now r env true judged k n p i count stride dimensions t lt c h = record { fit = h.fit; items = h.items; target = h.target }
 suits_item now r env false judged k n p i count stride dimensions t lt c h = record { fit = h.fit; items = λ j. go j (nat_eq j k); target = h.target }

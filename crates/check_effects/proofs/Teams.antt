@@ -4,7 +4,7 @@ use Rattle.typed_tree.specs.declared.scalars.Scalar.{Scalar}
 use Rattle.typed_tree.specs.Syntax.{Program}
 use Rattle.behaviours.specs.Doings.{through}
 use Rattle.behaviours.specs.Paths.{VariableOf, ConstantOf, Instance, End, Path, Scope, enter, is_inside}
-use Rattle.behaviours.specs.Events.{Event, Reads, Writes, Recalls, Keeps, Takes, Puts, Looks, Trace, Place, Cell, Rest, Byte, Touches, WritesTo, Apart, Merge, Shuffle, in_order}
+use Rattle.behaviours.specs.Events.{Event, Reads, Writes, Recalls, Keeps, Takes, Puts, Looks, Trace, Location, Cell, Rest, Byte, Touches, WritesTo, Apart, Merge, Shuffle, in_order}
 use Rattle.behaviours.specs.Joins.{Site, Share, deal, Ran, EachRan, Form, traces, most_turns}
 use Rattle.behaviours.specs.Behaviours.{Behaviour, Asks, EachSafe, MayTrace, ThreadApart, ThreadsApart, asks_apart, within}
 use Rattle.behaviours.specs.Behaviours
@@ -64,12 +64,12 @@ form_each F false p rs tr e (s, j) h = shuffle_each F (traces rs) tr s h
 
 -- what an event of a trace is at
 
-abbrev AtPlace : Allowed → Scope Instance → Path Instance → Bool → Place Instance → Type 0
+abbrev AtPlace : Allowed → Scope Instance → Path Instance → Bool → Location Instance → Type 0
 AtPlace E s p w (Cell l i) = Future p l ⊎ Seen E s w l i
 AtPlace E s p w Rest = E.input
 AtPlace E s p w (Byte n) = E.input
 
-at_write : (E : Allowed) (s : Scope Instance) (p : Path Instance) (t : Trace Instance) (x : Place Instance) → Each (Okay E s p) t → WritesTo t x → AtPlace E s p true x
+at_write : (E : Allowed) (s : Scope Instance) (p : Path Instance) (t : Trace Instance) (x : Location Instance) → Each (Okay E s p) t → WritesTo t x → AtPlace E s p true x
 at_write E s p (Writes l i v ∷ t) x h (inl k) = subst (λ z. AtPlace E s p true z) k h.0
 at_write E s p (Keeps n ∷ t) x h (inl k) = subst (λ z. AtPlace E s p true z) k h.0
 at_write E s p (Reads l i v ∷ t) x h (inl k) = absurd k
@@ -80,7 +80,7 @@ at_write E s p (Looks ∷ t) x h (inl k) = absurd k
 at_write E s p (a ∷ t) x h (inr k) = at_write E s p t x h.1 k
 at_write E s p [] x h k = absurd k
 
-at_touch : (E : Allowed) (s : Scope Instance) (p : Path Instance) (t : Trace Instance) (x : Place Instance) → Each (Okay E s p) t → Touches t x → (w : Bool) × AtPlace E s p w x
+at_touch : (E : Allowed) (s : Scope Instance) (p : Path Instance) (t : Trace Instance) (x : Location Instance) → Each (Okay E s p) t → Touches t x → (w : Bool) × AtPlace E s p w x
 at_touch E s p (Writes l i v ∷ t) x h (inl k) = (true, subst (λ z. AtPlace E s p true z) k h.0)
 at_touch E s p (Keeps n ∷ t) x h (inl k) = (true, subst (λ z. AtPlace E s p true z) k h.0)
 at_touch E s p (Reads l i v ∷ t) x h (inl k) = (false, subst (λ z. AtPlace E s p false z) k h.0)
@@ -148,7 +148,7 @@ module _ (program : Program) (W : Type 0) where
         Before c d = ((c.number < d.number) × (c.first + c.size ≤ d.first)) ⊎ ((d.number < c.number) × (d.first + d.size ≤ c.first))
 
         -- a place that one thread writes isn't one that another touches
-        never : W → (s : Scope Instance) (p : Path Instance) → Lives program s p → (c d : Share) → Before c d → (x : Place Instance) (w : Bool) → AtPlace (Theirs c) s (enter c.number p) true x → AtPlace (Theirs d) s (enter d.number p) w x → ⊥
+        never : W → (s : Scope Instance) (p : Path Instance) → Lives program s p → (c d : Share) → Before c d → (x : Location Instance) (w : Bool) → AtPlace (Theirs c) s (enter c.number p) true x → AtPlace (Theirs d) s (enter d.number p) w x → ⊥
         never z s p lives c d b (Cell l n) w (inl h) (inl k) = let same = threads_apart c.number d.number p l h k in ⊎_elim (λ q. let lt = q.0 in omega arith) (λ q. let lt = q.0 in omega arith) b
         never z s p lives c d b (Cell l n) w (inl h) (inr k) = lives.old k.0 n l (seen_visible (Theirs d) s w l n k) (goes_enter c.number p l h)
         never z s p lives c d b (Cell l n) w (inr h) (inl k) = lives.old h.0 n l (seen_visible (Theirs c) s true l n h) (goes_enter d.number p l k)

@@ -6,14 +6,14 @@ use Rattle.behaviours.specs.Joins.{Share}
 use Rattle.ada_meaning.specs.Nonblocking.{KeepsRule}
 use Rattle.ada_meaning.specs.Programs.{Setting}
 use Rattle.ada_base.specs.Notes.{Schedule, InOrder}
-use Rattle.ada_meaning.specs.Stored.{State, Place, Kept, Touch, Thread, Team, key, slot_at, within, place_of, noted, noted_outset}
+use Rattle.ada_meaning.specs.Stored.{State, Address, Kept, Touch, Thread, Team, key, slot_at, within, place_of, noted, noted_outset}
 use Rattle.ada_meaning.specs.Touched.{Before, EachTeam}
 use Rattle.check_effects.specs.Effects.{Construct, Holds}
 use Rattle.check_effects.specs.Conflicts.{InProgram}
 use Rattle.check_effects.specs.Covered.{site_of, AreDistinct, IsTouched}
 
 -- the place of a cell of an object that is visible in a state, or everywhere
-abbrev pub LiesAt : State → Entity → ℕ → Place → Type 0
+abbrev pub LiesAt : State → Entity → ℕ → Address → Type 0
 LiesAt s x n a = (place_of s x n ≡ Some a) ⊎ (((slot_at s.everywhere (key x)).frame ≡ 1) × (within Kept (slot_at s.everywhere (key x)) n ≡ Some a))
 
 -- a cell that was there when the construct was come to lies under an effect of an iteration of the thread, a write under

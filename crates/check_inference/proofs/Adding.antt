@@ -13,7 +13,7 @@ use Rattle.check_inference.specs.declared.gathering.Gathered.{Gathered}
 use Rattle.check_clashes.specs.declared.effects.SiteEffects.{SiteEffects}
 use Rattle.check_clashes.specs.declared.effects.Touch.{Touch}
 use Rattle.check_inference.specs.Exact.{IsIn, effect_path, Includes, Tells, any_arm, OfThread, TellsSite}
-use Rattle.check_inference.specs.Paths.{Name, Place, is_hidden}
+use Rattle.check_inference.specs.Paths.{Name, Surroundings, is_hidden}
 use Rattle.check_inference.specs.Gather.{no_uses, nothing, with_touch, with_call, with_site, declaring}
 use Rattle.check_inference.proofs.Places.{SameName, Beside}
 
@@ -141,7 +141,7 @@ module _ (program : Program) where
     pub held : recorded ≡ true → (arm : ℕ) (k : Construct) → items arm (Holds k) → (s : SiteEffects) × IsIn s new.sites × TellsSite program k s
 
   -- exactly the items of a text that stands in that place are added
-  pub record Adds (items : Item → Type 0) (p : Place) (old new : Gathered) : Type 0 where
+  pub record Adds (items : Item → Type 0) (p : Surroundings) (old new : Gathered) : Type 0 where
     pub grows : Grows (λ arm i. (arm ≡ p.arm) × items i) p.hidden p.sites old new
 
 module _ {program : Program} where
@@ -205,36 +205,36 @@ module _ {program : Program} where
 
   -- ---- one arm
 
-  pub like : {P Q : Item → Type 0} {p : Place} {old new : Gathered} → ((i : Item) → P i → Q i) → ((i : Item) → Q i → P i) → Adds program P p old new → Adds program Q p old new
+  pub like : {P Q : Item → Type 0} {p : Surroundings} {old new : Gathered} → ((i : Item) → P i → Q i) → ((i : Item) → Q i → P i) → Adds program P p old new → Adds program Q p old new
   like to from g = record { grows = grow_like (λ arm i h. (h.0, to i h.1)) (λ arm i h. (h.0, from i h.1)) g.grows }
 
-  pub after : {P Q : Item → Type 0} {p : Place} {old middle new : Gathered} → Adds program P p old middle → Adds program Q p middle new → Adds program (λ i. P i ⊎ Q i) p old new
+  pub after : {P Q : Item → Type 0} {p : Surroundings} {old middle new : Gathered} → Adds program P p old middle → Adds program Q p middle new → Adds program (λ i. P i ⊎ Q i) p old new
   after f g = record { grows = grow_like (λ arm i h. in_either h (λ x. (x.0, inl x.1)) (λ x. (x.0, inr x.1))) (λ arm i h. in_either h.1 (λ x. inl (h.0, x)) (λ x. inr (h.0, x))) (grow_then f.grows g.grows) }
 
   -- the second one stands first in the text
-  pub before : {P Q : Item → Type 0} {p : Place} {old middle new : Gathered} → Adds program Q p old middle → Adds program P p middle new → Adds program (λ i. P i ⊎ Q i) p old new
+  pub before : {P Q : Item → Type 0} {p : Surroundings} {old middle new : Gathered} → Adds program Q p old middle → Adds program P p middle new → Adds program (λ i. P i ⊎ Q i) p old new
   before f g = like (λ i h. in_either h (λ x. inr x) (λ x. inl x)) (λ i h. in_either h (λ x. inr x) (λ x. inl x)) (after f g)
 
   -- what is said of one name in two items
-  pub pair : {P Q R : Item → Type 0} {p : Place} {old middle new : Gathered} → Adds program (λ i. P i ⊎ Q i) p old middle → Adds program R p middle new → Adds program (λ i. P i ⊎ Q i ⊎ R i) p old new
+  pub pair : {P Q R : Item → Type 0} {p : Surroundings} {old middle new : Gathered} → Adds program (λ i. P i ⊎ Q i) p old middle → Adds program R p middle new → Adds program (λ i. P i ⊎ Q i ⊎ R i) p old new
   pair f g = like (λ i h. in_either h (λ x. in_either x (λ y. inl y) (λ y. inr (inl y))) (λ x. inr (inr x))) (λ i h. in_either h (λ x. inl (inl x)) (λ x. in_either x (λ y. inl (inr y)) (λ y. inr y))) (after f g)
 
-  pub none : {P : Item → Type 0} {p : Place} {out : Gathered} → ((i : Item) → P i → ⊥) → Adds program P p out out
+  pub none : {P : Item → Type 0} {p : Surroundings} {out : Gathered} → ((i : Item) → P i → ⊥) → Adds program P p out out
   none {p = p} {out = out} h = record { grows = grow_none p.hidden p.sites out (λ arm at a x. h (Touches at a) x.1) (λ arm at callee s x. h (Calls at callee s) x.1) (λ arm k x. h (Holds k) x.1) }
 
   -- what blocks is nothing to gather
-  pub block : {p : Place} {out : Gathered} (at callee : ℕ) → Adds program (λ i. i ≡ Blocks at callee) p out out
+  pub block : {p : Surroundings} {out : Gathered} (at callee : ℕ) → Adds program (λ i. i ≡ Blocks at callee) p out out
   block {p = p} {out = out} at callee = record {
     grows = grow_none p.hidden p.sites out (λ arm there a x. no_touch there at callee a x.1) (λ arm there second s x. no_call there at second callee s x.1) (λ arm k x. no_hold at callee k x.1);
   }
 
-  pub moved : {P : Item → Type 0} {q p : Place} {old new : Gathered} → Beside q p → Adds program P q old new → Adds program P p old new
+  pub moved : {P : Item → Type 0} {q p : Surroundings} {old new : Gathered} → Beside q p → Adds program P q old new → Adds program P p old new
   moved {P = P} {q = q} {p = p} {old = old} {new = new} b g = record {
     grows = subst (λ a. Grows program (λ arm i. (arm ≡ a) × P i) p.hidden p.sites old new) b.arm
         (subst (λ h. Grows program (λ arm i. (arm ≡ q.arm) × P i) h p.sites old new) b.hidden (subst (λ s. Grows program (λ arm i. (arm ≡ q.arm) × P i) q.hidden s old new) b.sites g.grows));
   }
 
-  pub hiding : {P : Item → Type 0} (x : ℕ) (p : Place) {old new : Gathered} → Adds program P (declaring x p) old new → Adds program (λ i. P i × Outside x i) p old new
+  pub hiding : {P : Item → Type 0} (x : ℕ) (p : Surroundings) {old new : Gathered} → Adds program P (declaring x p) old new → Adds program (λ i. P i × Outside x i) p old new
   hiding x p g = record { grows = grow_like (λ arm i h. (h.0.0, (h.0.1, h.1))) (λ arm i h. ((h.0, h.1.0), h.1.1)) (grow_hiding x p.hidden g.grows) }
 
   -- ---- one item
@@ -271,17 +271,17 @@ module _ {program : Program} where
       held = λ on k c h. absurd (touch_hold at (of (Holds c) h.1).0 c (sym (of (Holds c) h.1).1));
     }
 
-  pub reads : (p : Place) (at cells : ℕ) (n : Name) (m : law.Named) (out : Gathered) → SameName n m → Adds program (λ i. i ≡ Touches at (reading m cells)) p out (with_touch p at Read n out)
+  pub reads : (p : Surroundings) (at cells : ℕ) (n : Name) (m : law.Named) (out : Gathered) → SameName n m → Adds program (λ i. i ≡ Touches at (reading m cells)) p out (with_touch p at Read n out)
   reads p at cells n m out s = record {
     grows = grow_touch (λ i. i ≡ Touches at (reading m cells)) p.arm at Read n p.hidden p.sites out (λ w inc. (reading m cells, refl, sym inc, sym (same_path n m s))) (λ i e. (reading m cells, e, refl, same_path n m s)) (is_hidden p.hidden n.object) refl;
   }
 
-  pub writes : (p : Place) (at cells : ℕ) (n : Name) (m : law.Named) (out : Gathered) → SameName n m → Adds program (λ i. i ≡ Touches at (writing m cells)) p out (with_touch p at Write n out)
+  pub writes : (p : Surroundings) (at cells : ℕ) (n : Name) (m : law.Named) (out : Gathered) → SameName n m → Adds program (λ i. i ≡ Touches at (writing m cells)) p out (with_touch p at Write n out)
   writes p at cells n m out s = record {
     grows = grow_touch (λ i. i ≡ Touches at (writing m cells)) p.arm at Write n p.hidden p.sites out (λ w inc. (writing m cells, refl, sym inc, sym (same_path n m s))) (λ i e. (writing m cells, e, refl, same_path n m s)) (is_hidden p.hidden n.object) refl;
   }
 
-  pub updates : (p : Place) (at cells : ℕ) (n : Name) (m : law.Named) (out : Gathered) → SameName n m
+  pub updates : (p : Surroundings) (at cells : ℕ) (n : Name) (m : law.Named) (out : Gathered) → SameName n m
       → Adds program (λ i. (i ≡ Touches at (reading m cells)) ⊎ (i ≡ Touches at (writing m cells))) p out (with_touch p at Update n out)
   updates p at cells n m out s = record {
     grows = grow_touch (λ i. (i ≡ Touches at (reading m cells)) ⊎ (i ≡ Touches at (writing m cells))) p.arm at Update n p.hidden p.sites out from of (is_hidden p.hidden n.object) refl;
@@ -294,7 +294,7 @@ module _ {program : Program} where
     of i (inl e) = (reading m cells, e, tt, same_path n m s)
     of i (inr e) = (writing m cells, e, tt, same_path n m s)
 
-  pub call : (p : Place) (at callee s : ℕ) (out : Gathered) → Adds program (λ i. i ≡ Calls at callee s) p out (with_call p at s out)
+  pub call : (p : Surroundings) (at callee s : ℕ) (out : Gathered) → Adds program (λ i. i ≡ Calls at callee s) p out (with_call p at s out)
   call p at callee s out = record {
     grows = record {
       touches = λ t h. inl h;
@@ -336,12 +336,12 @@ module _ {program : Program} where
     held = λ on a j h. both false on refl;
   }
 
-  pub held_site : (p : Place) (k : Construct) (site : SiteEffects) (out : Gathered) → (p.sites ≡ true → TellsSite program k site) → Adds program (λ i. i ≡ Holds k) p out (with_site p site out)
+  pub held_site : (p : Surroundings) (k : Construct) (site : SiteEffects) (out : Gathered) → (p.sites ≡ true → TellsSite program k site) → Adds program (λ i. i ≡ Holds k) p out (with_site p site out)
   held_site p k site out tells = record { grows = grow_site p.sites p.arm p.hidden k site out tells }
 
   -- ---- what is told
 
-  pub tells : {P : Item → Type 0} {p : Place} {g : Gathered} (sites : List SiteEffects) → p.hidden ≡ [] → Adds program P p (record { uses = no_uses; sites = sites }) g → Tells P any_arm g.uses
+  pub tells : {P : Item → Type 0} {p : Surroundings} {g : Gathered} (sites : List SiteEffects) → p.hidden ≡ [] → Adds program P p (record { uses = no_uses; sites = sites }) g → Tells P any_arm g.uses
   tells {p = p} sites e a = record {
     touches = λ t h asked w inc. in_either (a.grows.touches t h) (λ x. absurd x) (λ x. let y = x.1 w inc in (y.0, y.1.1, y.2, y.3));
     touched = λ at x h. let y = a.grows.touched p.arm at x (refl, h) (subst (λ ys. is_hidden ys x.object ≡ false) (sym e) (none_hidden x.object)) in (y.0, y.1, tt, y.3, y.4, y.5);

@@ -7,7 +7,7 @@ use Rattle.check_effects.specs.Effects.{Roles, Construct, Item, Holds, LoopOf, B
 use Rattle.check_inference.specs.declared.gathering.Gathered.{Gathered}
 use Rattle.check_clashes.specs.declared.effects.SiteEffects.{SiteEffects}
 use Rattle.check_inference.specs.Exact.{IsIn, Tells, any_arm, TellsSite}
-use Rattle.check_inference.specs.Paths.{Place, named, outset}
+use Rattle.check_inference.specs.Paths.{Surroundings, named, outset}
 use Rattle.check_inference.specs.Gather.{no_uses, declared, declaring, hidden_with, gather_decls, gather_stmt, gather_stmts, gather_alternatives, gather_arms, gather_numbered, gather_handlers, gather_body}
 use Rattle.check_inference.proofs.Places.{Fits, same_name, beside_below, beside_both, beside_threads, fits_course, fits_below, fits_target, fits_hidden, fits_arm, fits_judging, fits_threads, fits_outset}
 use Rattle.check_inference.proofs.Adding.{Grows, Adds, grow_like, grow_then, grow_none, in_either, after, before, none, block, like, moved, hiding, writes, call, held_site, tells, tells_arms}
@@ -46,7 +46,7 @@ module _ (program : Program) where
     from_number k arm i (suc j, e, x) = inr (j, next_back arm k j e, x)
 
   -- what is added behind declarations, for those too
-  adds_decls : (x : Decls) (p : Place) (r : Roles) (rest : Item → Type 0) (out new : Gathered) → Fits p r → Adds program rest (declared x p) (gather_decls p x out) new → Adds program (InDecls program.subtypes r x rest) p out new
+  adds_decls : (x : Decls) (p : Surroundings) (r : Roles) (rest : Item → Type 0) (out new : Gathered) → Fits p r → Adds program rest (declared x p) (gather_decls p x out) new → Adds program (InDecls program.subtypes r x rest) p out new
   unfolding hidden_with gather_decls
   adds_decls NoDecl p r rest out new f h = h
   adds_decls (DeclareDefault x more) p r rest out new f h = hiding x p (adds_decls more (declaring x p) r rest out new (fits_hidden _ p r f) h)
@@ -57,7 +57,7 @@ module _ (program : Program) where
   mutual
     unfolding gather_stmt gather_stmts gather_alternatives gather_arms gather_numbered gather_handlers
 
-    pub adds_stmt : (x : Stmt) (p : Place) (r : Roles) (out : Gathered) → Fits p r → Adds program (InStmt program.subtypes r x) p out (gather_stmt p x out)
+    pub adds_stmt : (x : Stmt) (p : Surroundings) (r : Roles) (out : Gathered) → Fits p r → Adds program (InStmt program.subtypes r x) p out (gather_stmt p x out)
     adds_stmt Null p r out f = none (λ i h. h)
     adds_stmt (Assign at from selections value) p r out f = after (writes p at (width program.subtypes value) (named p from selections) (law.name r from selections) out (same_name p r f.suits from selections))
         (after (adds_selections program selections p r _ f) (moved (record { arm = refl; hidden = refl; sites = refl }) (adds_value program value _ _ _ (fits_target from selections p r f))))
@@ -89,23 +89,23 @@ module _ (program : Program) where
     adds_stmt (Put at callee pieces line) p r out f = after (block at callee) (adds_pieces program pieces p r _ f)
     adds_stmt (Get at callee first from selections scalar) p r out f = after (block at callee) (after (writes p first 1 (named p from selections) (law.name r from selections) out (same_name p r f.suits from selections)) (adds_selections program selections p r _ f))
 
-    pub adds_stmts : (x : Stmts) (p : Place) (r : Roles) (out : Gathered) → Fits p r → Adds program (InAll program.subtypes r x) p out (gather_stmts p x out)
+    pub adds_stmts : (x : Stmts) (p : Surroundings) (r : Roles) (out : Gathered) → Fits p r → Adds program (InAll program.subtypes r x) p out (gather_stmts p x out)
     adds_stmts End p r out f = none (λ i h. h)
     adds_stmts (Then s ss) p r out f = after (adds_stmt s p r out f) (adds_stmts ss p r _ f)
 
-    pub adds_alternatives : (x : Alternatives) (p : Place) (r : Roles) (out : Gathered) → Fits p r → Adds program (InAlternatives program.subtypes r x) p out (gather_alternatives p x out)
+    pub adds_alternatives : (x : Alternatives) (p : Surroundings) (r : Roles) (out : Gathered) → Fits p r → Adds program (InAlternatives program.subtypes r x) p out (gather_alternatives p x out)
     adds_alternatives NoAlternative p r out f = none (λ i h. h)
     adds_alternatives (Alternative others choices mentions stmts rest) p r out f = after (adds_exprs program mentions p r out f) (after (adds_stmts stmts p r _ f) (adds_alternatives rest p r _ f))
 
-    pub adds_arms : (x : Arms) (p : Place) (r : Roles) (out : Gathered) → Fits p r → Adds program (λ i. (k : ℕ) × InArm program.subtypes r x k i) p out (gather_arms p x out)
+    pub adds_arms : (x : Arms) (p : Surroundings) (r : Roles) (out : Gathered) → Fits p r → Adds program (λ i. (k : ℕ) × InArm program.subtypes r x k i) p out (gather_arms p x out)
     adds_arms NoArm p r out f = none (λ i h. h.1)
     adds_arms (Arm stmts rest) p r out f = like (to_arm r stmts rest) (from_arm r stmts rest) (after (adds_stmts stmts p r out f) (adds_arms rest p r _ f))
 
-    pub adds_numbered : (x : Arms) (k : ℕ) (p : Place) (r : Roles) (out : Gathered) → Fits p r → Grows program (λ arm i. (j : ℕ) × (arm ≡ k + j) × InArm program.subtypes r x j i) p.hidden p.sites out (gather_numbered p k x out)
+    pub adds_numbered : (x : Arms) (k : ℕ) (p : Surroundings) (r : Roles) (out : Gathered) → Fits p r → Grows program (λ arm i. (j : ℕ) × (arm ≡ k + j) × InArm program.subtypes r x j i) p.hidden p.sites out (gather_numbered p k x out)
     adds_numbered NoArm k p r out f = grow_none p.hidden p.sites out (λ arm at a h. h.2) (λ arm at callee s h. h.2) (λ arm k h. h.2)
     adds_numbered (Arm stmts rest) k p r out f = grow_like (to_number r stmts rest k) (from_number r stmts rest k) (grow_then (adds_stmts stmts (record p { arm = k }) r out (fits_arm k p r f)).grows (adds_numbered rest (suc k) p r _ f))
 
-    pub adds_handlers : (x : Handlers) (p : Place) (r : Roles) (out : Gathered) → Fits p r → Adds program (InHandlers program.subtypes r x) p out (gather_handlers p x out)
+    pub adds_handlers : (x : Handlers) (p : Surroundings) (r : Roles) (out : Gathered) → Fits p r → Adds program (InHandlers program.subtypes r x) p out (gather_handlers p x out)
     adds_handlers NoHandler p r out f = none (λ i h. h)
     adds_handlers (Handler handled stmts rest) p r out f = after (adds_stmts stmts p r out f) (adds_handlers rest p r _ f)
 

@@ -15,7 +15,7 @@ use Rattle.check_effects.specs.Conflicts.{path}
 use Rattle.check_clashes.specs.declared.effects.Selector.{Selector}
 use Rattle.check_clashes.specs.declared.effects.Selector.TheVariants as selector-of
 use Rattle.check_inference.specs.Exact.{plain}
-use Rattle.check_inference.specs.Paths.{Name, Place, is_one, other, role, selector, selectors_with, item_name, root_name, named, hide, chunk_hidden, chunk_parameter, item_selector, component, with_item, below, judging, outset}
+use Rattle.check_inference.specs.Paths.{Name, Surroundings, is_one, other, role, selector, selectors_with, item_name, root_name, named, hide, chunk_hidden, chunk_parameter, item_selector, component, with_item, below, judging, outset}
 use Rattle.check_inference.specs.Gather.{iterated_hidden, threads_below}
 
 -- an object and selectors are what an object and steps make
@@ -24,7 +24,7 @@ pub record SameName (n : Name) (m : law.Named) : Type 0 where
   pub selectors : map plain n.selectors ≡ path m.steps
 
 -- a place of the walk and what names stand for there in the definition
-pub record Suits (p : Place) (r : Roles) : Type 0 where
+pub record Suits (p : Surroundings) (r : Roles) : Type 0 where
   pub loop : p.loop_parameter ≡ r.loop
   pub chunk : p.chunk_parameter ≡ r.chunk
   pub item : (k : ℕ) → SameName (item_name p.items k) (r.item k)
@@ -35,14 +35,14 @@ abbrev pub Free : Name → Type 0
 Free n = map law.forgotten (map plain n.selectors) ≡ map plain n.selectors
 
 -- outside any construct that is judged
-pub record Around (p : Place) : Type 0 where
+pub record Around (p : Surroundings) : Type 0 where
   pub loop : p.loop_parameter ≡ None
   pub chunk : p.chunk_parameter ≡ None
   pub item : (k : ℕ) → Free (item_name p.items k)
   pub target : Free p.target
 
 -- constructs are recorded only there
-pub record Fits (p : Place) (r : Roles) : Type 0 where
+pub record Fits (p : Surroundings) (r : Roles) : Type 0 where
   pub suits : Suits p r
   pub around : p.sites ≡ true → Around p
 
@@ -114,7 +114,7 @@ module _ {S T : Type 0} (f : S → T) (any : S) (by : ℕ → ℤ → S) (by' : 
 
 -- ---- names
 
-module _ (p : Place) (r : Roles) (s : Suits p r) where
+module _ (p : Surroundings) (r : Roles) (s : Suits p r) where
   same_role : (k : ℕ) (n : ℤ) → plain (role p k n) ≡ law.role r k n
   same_role k n = same_cond (is_one p.chunk_parameter k) (is_one p.loop_parameter k) n
       ∙ ap₂ (λ (a b : Bool). cond a (law.ChunkIndex n) (cond b (law.LoopIndex n) law.Any)) (same_one p.chunk_parameter k ∙ ap (λ o. law.is_one o k) s.chunk) (same_one p.loop_parameter k ∙ ap (λ o. law.is_one o k) s.loop)
@@ -159,33 +159,33 @@ same_either : (b : Bool) (n n' : Name) (m m' : law.Named) → SameName n m → S
 same_either true n n' m m' s t = s
 same_either false n n' m m' s t = t
 
-suits_item : (k : ℕ) (n : Name) (m : law.Named) (p : Place) (r : Roles) → Suits p r → SameName n m → Suits (with_item k n p) (law.with_item k m r)
+suits_item : (k : ℕ) (n : Name) (m : law.Named) (p : Surroundings) (r : Roles) → Suits p r → SameName n m → Suits (with_item k n p) (law.with_item k m r)
 unfolding item_name
 suits_item k n m p r s e = record { loop = s.loop; chunk = s.chunk; item = λ j. same_either (nat_eq j k) n (item_name p.items j) m (r.item j) e (s.item j); target = s.target }
 
-suits_hide : (k : ℕ) (p : Place) (r : Roles) → Suits p r → Suits (hide k p) (law.hide k r)
+suits_hide : (k : ℕ) (p : Surroundings) (r : Roles) → Suits p r → Suits (hide k p) (law.hide k r)
 suits_hide k p r s = record { loop = same_other k p.loop_parameter ∙ ap (law.other k) s.loop; chunk = same_other k p.chunk_parameter ∙ ap (law.other k) s.chunk; item = s.item; target = s.target }
 
-suits_target : (n : Name) (m : law.Named) (p : Place) (r : Roles) → Suits p r → SameName n m → Suits (record p { target = n }) (record r { target = m })
+suits_target : (n : Name) (m : law.Named) (p : Surroundings) (r : Roles) → Suits p r → SameName n m → Suits (record p { target = n }) (record r { target = m })
 suits_target n m p r s e = record { loop = s.loop; chunk = s.chunk; item = s.item; target = e }
 
-suits_bound : (constant judged : Bool) (k : ℕ) (at : ℕ) (from : Root) (x : Selections) (count stride dimensions : ℕ) (filter : _) (q p : Place) (around r : Roles) → Suits q around → Suits p r
+suits_bound : (constant judged : Bool) (k : ℕ) (at : ℕ) (from : Root) (x : Selections) (count stride dimensions : ℕ) (filter : _) (q p : Surroundings) (around r : Roles) → Suits q around → Suits p r
     → Suits (below q judged (Components k constant at from x count stride dimensions filter) p) (law.item_bound constant judged k (law.name around from x) count stride dimensions r)
 suits_bound true judged k at from x count stride dimensions filter q p around r t s = s
 suits_bound false judged k at from x count stride dimensions filter q p around r t s =
     suits_item k (component judged dimensions (named q from x)) (record { object = (law.name around from x).object; steps = (law.name around from x).steps ++ (ItemStep judged count stride dimensions ∷ []) }) p r s
     (same_component judged count stride dimensions (named q from x) (law.name around from x) (same_name q around t from x))
 
-suits_below : (i : Iteration) (q p : Place) (around r : Roles) → Suits q around → Suits p r → Suits (below q false i p) (law.course_hidden around i r)
+suits_below : (i : Iteration) (q p : Surroundings) (around r : Roles) → Suits q around → Suits p r → Suits (below q false i p) (law.course_hidden around i r)
 suits_below (Range k reverse low high check filter) q p around r t s = suits_hide k p r s
 suits_below (Components k constant at from x count stride dimensions filter) q p around r t s = suits_bound constant false k at from x count stride dimensions filter q p around r t s
 
-suits_chunk : (c : Chunk) (p : Place) (r : Roles) → Suits p r → Suits (chunk_hidden c p) (law.chunk_hidden c r)
+suits_chunk : (c : Chunk) (p : Surroundings) (r : Roles) → Suits p r → Suits (chunk_hidden c p) (law.chunk_hidden c r)
 suits_chunk NoChunk p r s = s
 suits_chunk (Count e) p r s = s
 suits_chunk (Each k low high check) p r s = suits_hide k p r s
 
-suits_iterated : (i : Option Iterated) (p : Place) (r : Roles) → Suits p r → Suits (iterated_hidden i p) (law.iterated_hidden i r)
+suits_iterated : (i : Option Iterated) (p : Surroundings) (r : Roles) → Suits p r → Suits (iterated_hidden i p) (law.iterated_hidden i r)
 suits_iterated None p r s = s
 suits_iterated (Some i) p r s = suits_hide i.parameter p r s
 
@@ -205,13 +205,13 @@ forgotten_path (ItemStep judged count stride dimensions ∷ ss) = ap₂ (λ (a b
 same_forgotten : (n : Name) (m : law.Named) → SameName n m → Free n → SameName n (law.forgotten_name m)
 same_forgotten n m s f = record { object = s.object; selectors = sym f ∙ ap (map law.forgotten) s.selectors ∙ sym (forgotten_path m.steps) }
 
-suits_judging : (p : Place) (r : Roles) → Suits p r → Around p → Suits (judging p) (law.forget r)
+suits_judging : (p : Surroundings) (r : Roles) → Suits p r → Around p → Suits (judging p) (law.forget r)
 suits_judging p r s a = record { loop = a.loop; chunk = a.chunk; item = λ k. same_forgotten (item_name p.items k) (r.item k) (s.item k) (a.item k); target = same_forgotten p.target r.target s.target a.target }
 
 free_append : (found more : List Selector) → map law.forgotten (map plain found) ≡ map plain found → map law.forgotten (map plain more) ≡ map plain more → map law.forgotten (map plain (found ++ more)) ≡ map plain (found ++ more)
 free_append found more f g = ap (map law.forgotten) (map-append plain found more) ∙ map-append law.forgotten (map plain found) (map plain more) ∙ ap₂ (λ (a b : List law.Selector). a ++ b) f g ∙ sym (map-append plain found more)
 
-module _ (p : Place) (a : Around p) where
+module _ (p : Surroundings) (a : Around p) where
   free_role : (k : ℕ) (n : ℤ) → law.forgotten (plain (role p k n)) ≡ plain (role p k n)
   free_role k n = subst (λ o. law.forgotten (plain (cond (is_one o k) (selector-of.Chunk n) (cond (is_one p.loop_parameter k) (selector-of.Loop n) selector-of.Any))) ≡ plain (cond (is_one o k) (selector-of.Chunk n) (cond (is_one p.loop_parameter k) (selector-of.Loop n) selector-of.Any))) (sym a.chunk)
       (subst (λ o. law.forgotten (plain (cond (is_one o k) (selector-of.Loop n) selector-of.Any)) ≡ plain (cond (is_one o k) (selector-of.Loop n) selector-of.Any)) (sym a.loop) refl)
@@ -243,51 +243,51 @@ free_either : (b : Bool) (n n' : Name) → Free n → Free n' → Free (cond b n
 free_either true n n' s t = s
 free_either false n n' s t = t
 
-around_hide : (k : ℕ) (p : Place) → Around p → Around (hide k p)
+around_hide : (k : ℕ) (p : Surroundings) → Around p → Around (hide k p)
 around_hide k p a = record { loop = ap (other k) a.loop; chunk = ap (other k) a.chunk; item = a.item; target = a.target }
 
-around_item : (k : ℕ) (n : Name) (p : Place) → Around p → Free n → Around (with_item k n p)
+around_item : (k : ℕ) (n : Name) (p : Surroundings) → Around p → Free n → Around (with_item k n p)
 unfolding item_name
 around_item k n p a f = record { loop = a.loop; chunk = a.chunk; item = λ j. free_either (nat_eq j k) n (item_name p.items j) f (a.item j); target = a.target }
 
-around_below : (i : Iteration) (q p : Place) → Around q → Around p → Around (below q false i p)
+around_below : (i : Iteration) (q p : Surroundings) → Around q → Around p → Around (below q false i p)
 around_below (Range k reverse low high check filter) q p b a = around_hide k p a
 around_below (Components k true at from x count stride dimensions filter) q p b a = a
 around_below (Components k false at from x count stride dimensions filter) q p b a = around_item k (component false dimensions (named q from x)) p a (free_component dimensions (named q from x) (free_name q b from x))
 
-around_chunk : (c : Chunk) (p : Place) → Around p → Around (chunk_hidden c p)
+around_chunk : (c : Chunk) (p : Surroundings) → Around p → Around (chunk_hidden c p)
 around_chunk NoChunk p a = a
 around_chunk (Count e) p a = a
 around_chunk (Each k low high check) p a = around_hide k p a
 
-around_iterated : (i : Option Iterated) (p : Place) → Around p → Around (iterated_hidden i p)
+around_iterated : (i : Option Iterated) (p : Surroundings) → Around p → Around (iterated_hidden i p)
 around_iterated None p a = a
 around_iterated (Some i) p a = around_hide i.parameter p a
 
 -- ---- what is recorded where, and for which arm
 
 -- the same arm, and the same is left out
-pub record Beside (q p : Place) : Type 0 where
+pub record Beside (q p : Surroundings) : Type 0 where
   pub arm : q.arm ≡ p.arm
   pub hidden : q.hidden ≡ p.hidden
   pub sites : q.sites ≡ p.sites
 
-pub beside_below : (b : Bool) (i : Iteration) (q p : Place) → Beside (below q b i p) p
+pub beside_below : (b : Bool) (i : Iteration) (q p : Surroundings) → Beside (below q b i p) p
 beside_below true (Range k reverse low high check filter) q p = record { arm = refl; hidden = refl; sites = refl }
 beside_below false (Range k reverse low high check filter) q p = record { arm = refl; hidden = refl; sites = refl }
 beside_below b (Components k true at from x count stride dimensions filter) q p = record { arm = refl; hidden = refl; sites = refl }
 beside_below b (Components k false at from x count stride dimensions filter) q p = record { arm = refl; hidden = refl; sites = refl }
 
-pub beside_chunk : (c : Chunk) (p : Place) → Beside (chunk_hidden c p) p
+pub beside_chunk : (c : Chunk) (p : Surroundings) → Beside (chunk_hidden c p) p
 beside_chunk NoChunk p = record { arm = refl; hidden = refl; sites = refl }
 beside_chunk (Count e) p = record { arm = refl; hidden = refl; sites = refl }
 beside_chunk (Each k low high check) p = record { arm = refl; hidden = refl; sites = refl }
 
-pub beside_iterated : (i : Option Iterated) (p : Place) → Beside (iterated_hidden i p) p
+pub beside_iterated : (i : Option Iterated) (p : Surroundings) → Beside (iterated_hidden i p) p
 beside_iterated None p = record { arm = refl; hidden = refl; sites = refl }
 beside_iterated (Some i) p = record { arm = refl; hidden = refl; sites = refl }
 
-pub beside_all : (a b c : Place) → Beside a b → Beside b c → Beside a c
+pub beside_all : (a b c : Surroundings) → Beside a b → Beside b c → Beside a c
 beside_all a b c h g = record { arm = h.arm ∙ g.arm; hidden = h.hidden ∙ g.hidden; sites = h.sites ∙ g.sites }
 
 -- ---- all of it
@@ -296,49 +296,49 @@ no_sites : {A : Type 0} (b : Bool) → b ≡ false → b ≡ true → A
 no_sites true e f = cc
 no_sites false e f = cc
 
-fits_both : (i : Iteration) (q p : Place) (around r : Roles) → q.sites ≡ p.sites → Fits q around → Fits p r → Fits (below q false i p) (law.course_hidden around i r)
+fits_both : (i : Iteration) (q p : Surroundings) (around r : Roles) → q.sites ≡ p.sites → Fits q around → Fits p r → Fits (below q false i p) (law.course_hidden around i r)
 fits_both i q p around r e f g = record { suits = suits_below i q p around r f.suits g.suits; around = λ on. around_below i q p (f.around (e ∙ sym (beside_below false i q p).sites ∙ on)) (g.around (sym (beside_below false i q p).sites ∙ on)) }
 
-fits_chunk : (c : Chunk) (p : Place) (r : Roles) → Fits p r → Fits (chunk_hidden c p) (law.chunk_hidden c r)
+fits_chunk : (c : Chunk) (p : Surroundings) (r : Roles) → Fits p r → Fits (chunk_hidden c p) (law.chunk_hidden c r)
 fits_chunk c p r f = record { suits = suits_chunk c p r f.suits; around = λ on. around_chunk c p (f.around (sym (beside_chunk c p).sites ∙ on)) }
 
-pub fits_course : (i : Iteration) (p : Place) (r : Roles) → Fits p r → Fits (below p false i p) (law.course_hidden r i r)
+pub fits_course : (i : Iteration) (p : Surroundings) (r : Roles) → Fits p r → Fits (below p false i p) (law.course_hidden r i r)
 fits_course i p r f = fits_both i p p r r refl f f
 
-pub fits_below : (c : Chunk) (i : Iteration) (p : Place) (r : Roles) → Fits p r → Fits (below p false i (chunk_hidden c p)) (law.course_hidden r i (law.chunk_hidden c r))
+pub fits_below : (c : Chunk) (i : Iteration) (p : Surroundings) (r : Roles) → Fits p r → Fits (below p false i (chunk_hidden c p)) (law.course_hidden r i (law.chunk_hidden c r))
 fits_below c i p r f = fits_both i p (chunk_hidden c p) r (law.chunk_hidden c r) (sym (beside_chunk c p).sites) f (fits_chunk c p r f)
 
-pub fits_iterated : (i : Option Iterated) (p : Place) (r : Roles) → Fits p r → Fits (iterated_hidden i p) (law.iterated_hidden i r)
+pub fits_iterated : (i : Option Iterated) (p : Surroundings) (r : Roles) → Fits p r → Fits (iterated_hidden i p) (law.iterated_hidden i r)
 fits_iterated i p r f = record { suits = suits_iterated i p r f.suits; around = λ on. around_iterated i p (f.around (sym (beside_iterated i p).sites ∙ on)) }
 
-pub fits_target : (from : Root) (x : Selections) (p : Place) (r : Roles) → Fits p r → Fits (record p { target = named p from x }) (record r { target = law.name r from x })
+pub fits_target : (from : Root) (x : Selections) (p : Surroundings) (r : Roles) → Fits p r → Fits (record p { target = named p from x }) (record r { target = law.name r from x })
 fits_target from x p r f = record {
   suits = suits_target (named p from x) (law.name r from x) p r f.suits (same_name p r f.suits from x);
   around = λ on. record { loop = (f.around on).loop; chunk = (f.around on).chunk; item = (f.around on).item; target = free_name p (f.around on) from x };
 }
 
-pub fits_hidden : (hidden : List ℕ) (p : Place) (r : Roles) → Fits p r → Fits (record p { hidden = hidden }) r
+pub fits_hidden : (hidden : List ℕ) (p : Surroundings) (r : Roles) → Fits p r → Fits (record p { hidden = hidden }) r
 fits_hidden hidden p r f = record {
   suits = record { loop = f.suits.loop; chunk = f.suits.chunk; item = f.suits.item; target = f.suits.target };
   around = λ on. record { loop = (f.around on).loop; chunk = (f.around on).chunk; item = (f.around on).item; target = (f.around on).target };
 }
 
-pub fits_arm : (k : ℕ) (p : Place) (r : Roles) → Fits p r → Fits (record p { arm = k }) r
+pub fits_arm : (k : ℕ) (p : Surroundings) (r : Roles) → Fits p r → Fits (record p { arm = k }) r
 fits_arm k p r f = record {
   suits = record { loop = f.suits.loop; chunk = f.suits.chunk; item = f.suits.item; target = f.suits.target };
   around = λ on. record { loop = (f.around on).loop; chunk = (f.around on).chunk; item = (f.around on).item; target = (f.around on).target };
 }
 
 -- where a construct stands, as it is judged
-pub fits_judging : (p : Place) (r : Roles) → Fits p r → p.sites ≡ true → Fits (judging p) (law.forget r)
+pub fits_judging : (p : Surroundings) (r : Roles) → Fits p r → p.sites ≡ true → Fits (judging p) (law.forget r)
 fits_judging p r f on = record { suits = suits_judging p r f.suits (f.around on); around = λ e. no_sites false refl e }
 
-suits_threads : (c : Chunk) (i : Iteration) (p : Place) (r : Roles) → Suits p r → Suits (below p true i (record p { chunk_parameter = chunk_parameter c })) (law.judging c i r)
+suits_threads : (c : Chunk) (i : Iteration) (p : Surroundings) (r : Roles) → Suits p r → Suits (below p true i (record p { chunk_parameter = chunk_parameter c })) (law.judging c i r)
 suits_threads c (Range k reverse low high check filter) p r s = record { loop = refl; chunk = same_other k (chunk_parameter c) ∙ ap (law.other k) (same_chunk c); item = s.item; target = s.target }
 suits_threads c (Components k constant at from x count stride dimensions filter) p r s = suits_bound constant true k at from x count stride dimensions filter p (record p { chunk_parameter = chunk_parameter c }) r (record r { chunk = law.chunk_parameter c }) s
     (record { loop = s.loop; chunk = same_chunk c; item = s.item; target = s.target })
 
-pub fits_threads : (c : Chunk) (i : Iteration) (p : Place) (r : Roles) → Fits p r → p.sites ≡ true → Fits (threads_below p c i) (law.judging c i (law.forget r))
+pub fits_threads : (c : Chunk) (i : Iteration) (p : Surroundings) (r : Roles) → Fits p r → p.sites ≡ true → Fits (threads_below p c i) (law.judging c i (law.forget r))
 fits_threads c i p r f on = record {
   suits = suits_threads c i (judging p) (law.forget r) (suits_judging p r f.suits (f.around on));
   around = λ e. no_sites (threads_below p c i).sites (beside_below true i (judging p) (record (judging p) { chunk_parameter = chunk_parameter c })).sites e;
@@ -353,8 +353,8 @@ fits_outset = record {
 }
 
 -- the text of an iteration
-pub beside_both : (c : Chunk) (i : Iteration) (p : Place) → Beside (below p false i (chunk_hidden c p)) p
+pub beside_both : (c : Chunk) (i : Iteration) (p : Surroundings) → Beside (below p false i (chunk_hidden c p)) p
 beside_both c i p = beside_all (below p false i (chunk_hidden c p)) (chunk_hidden c p) p (beside_below false i p (chunk_hidden c p)) (beside_chunk c p)
 
-pub beside_threads : (c : Chunk) (i : Iteration) (p : Place) → Beside (threads_below p c i) (judging p)
+pub beside_threads : (c : Chunk) (i : Iteration) (p : Surroundings) → Beside (threads_below p c i) (judging p)
 beside_threads c i p = let h = beside_below true i (judging p) (record (judging p) { chunk_parameter = chunk_parameter c }) in record { arm = h.arm; hidden = h.hidden; sites = h.sites }

@@ -22,7 +22,7 @@ pub record Bound : Type 0 where
 
 -- where a text stands: whether constructs are recorded, the arm of a block, the parameters of the construct that is
 -- judged, items with the innermost first, the target of the assignment, and the variables that are declared around
-pub record Place : Type 0 where
+pub record Surroundings : Type 0 where
   pub sites : Bool
   pub arm : ℕ
   pub loop_parameter : Option ℕ
@@ -39,7 +39,7 @@ name_of n = record { object = n.object; selectors = n.selectors.now }
 abbrev pub bound_of : Item → Bound
 bound_of i = record { item = i.item; name = name_of i.named }
 
-abbrev pub place_of : Environment → Place
+abbrev pub place_of : Environment → Surroundings
 place_of e = record {
   sites = e.sites;
   arm = e.arm;
@@ -64,18 +64,18 @@ other k None = None
 other k (Some j) = cond (nat_eq j k) None (Some j)
 
 -- what a parameter and a distance are as an index
-abbrev pub role : Place → ℕ → ℤ → Selector
+abbrev pub role : Surroundings → ℕ → ℤ → Selector
 role env k distance = cond (is_one env.chunk_parameter k) (selector-of.Chunk distance) (cond (is_one env.loop_parameter k) (selector-of.Loop distance) selector-of.Any)
 
 -- what an index is
-abbrev pub selector : Place → Expr → Selector
+abbrev pub selector : Surroundings → Expr → Selector
 selector env (Static at value literal mentions) = selector-of.Fixed value
 selector env (Parameter at k) = role env k (pos 0)
 selector env (Binary at op class e f) = by_distance selector-of.Any (role env) op e f
 selector env e = selector-of.Any
 
 -- the selectors of a path with those that a name goes on by
-unfoldable pub selectors_with : Place → Selections → List Selector → List Selector
+unfoldable pub selectors_with : Surroundings → Selections → List Selector → List Selector
 selectors_with env Whole found = found
 selectors_with env (Field number offset rest) found = selectors_with env rest (found ++ selector-of.Field number ∷ [])
 selectors_with env (Index at e low high stride rest) found = selectors_with env rest (found ++ selector env e ∷ [])
@@ -85,19 +85,19 @@ unfoldable pub item_name : List Bound → ℕ → Name
 item_name [] k = no_name
 item_name (b ∷ bs) k = cond (nat_eq k b.item) b.name (item_name bs k)
 
-abbrev pub root_name : Place → Root → Name
+abbrev pub root_name : Surroundings → Root → Name
 root_name env (root.Object x) = record { object = x; selectors = [] }
 root_name env (root.Item k) = item_name env.items k
 
 -- the path of a name
-abbrev pub named : Place → Root → Selections → Name
+abbrev pub named : Surroundings → Root → Selections → Name
 named env from selections = record { object = (root_name env from).object; selectors = selectors_with env selections (root_name env from).selectors }
 
 -- below an iteration or a chunk specification that isn't judged, where a parameter of that number is another's
-abbrev pub hide : ℕ → Place → Place
+abbrev pub hide : ℕ → Surroundings → Surroundings
 hide k env = record env { loop_parameter = other k env.loop_parameter; chunk_parameter = other k env.chunk_parameter }
 
-abbrev pub chunk_hidden : Chunk → Place → Place
+abbrev pub chunk_hidden : Chunk → Surroundings → Surroundings
 chunk_hidden NoChunk env = env
 chunk_hidden (Count e) env = env
 chunk_hidden (Each k low high check) env = hide k env
@@ -116,12 +116,12 @@ item_selector false = selector-of.Any
 abbrev pub component : Bool → ℕ → Name → Name
 component judged dimensions n = record n { selectors = n.selectors ++ replicate dimensions (item_selector judged) }
 
-abbrev pub with_item : ℕ → Name → Place → Place
+abbrev pub with_item : ℕ → Name → Surroundings → Surroundings
 with_item k n env = record env { items = record { item = k; name = n } ∷ env.items }
 
 -- where the text of an iteration stands: what it goes through stands in `around`, and its text in `env` but for the
 -- iteration's own parameter or item
-abbrev pub below : Place → Bool → Iteration → Place → Place
+abbrev pub below : Surroundings → Bool → Iteration → Surroundings → Surroundings
 below around false (Range k reverse low high check filter) env = hide k env
 below around true (Range k reverse low high check filter) env = record env { loop_parameter = Some k; chunk_parameter = other k env.chunk_parameter }
 below around judged (Components k true at from selections count stride dimensions filter) env = env
@@ -133,9 +133,9 @@ is_hidden [] x = false
 is_hidden (y ∷ ys) x = nat_eq x y || is_hidden ys x
 
 -- where a text stands whose constructs are recorded or not, and nothing is around it
-abbrev pub outset : Bool → Place
+abbrev pub outset : Bool → Surroundings
 outset sites = record { sites = sites; arm = 0; loop_parameter = None; chunk_parameter = None; items = []; target = no_name; hidden = [] }
 
 -- where a construct stands that is judged
-abbrev pub judging : Place → Place
+abbrev pub judging : Surroundings → Surroundings
 judging env = record env { sites = false; arm = 0; hidden = [] }

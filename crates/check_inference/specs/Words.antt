@@ -5,7 +5,7 @@ use Rattle.typed_tree.specs.Decoded.{chunk_at, composite_at, expr_at, iteration_
 use Rattle.check_inference.specs.declared.gathering.Gathered.{Gathered}
 use Rattle.check_clashes.specs.declared.effects.Path.{Path}
 use Rattle.check_inference.specs.declared.exprs.Reduced.{Reduced}
-use Rattle.check_inference.specs.Paths.{Name, Place, chunk_hidden, hide, other}
+use Rattle.check_inference.specs.Paths.{Name, Surroundings, chunk_hidden, hide, other}
 use Rattle.check_inference.specs.Gather.{gather_chunk, gather_composite, gather_course, gather_expr, gather_reducer, gather_reduction, gather_stmt, gather_values}
 
 -- what a path is the path of
@@ -13,11 +13,11 @@ abbrev pub path_name : Path → Name
 path_name p = record { object = p.object; selectors = p.selectors }
 
 -- below an iteration over a range
-abbrev pub ranged : Bool → ℕ → Place → Place
+abbrev pub ranged : Bool → ℕ → Surroundings → Surroundings
 ranged false k env = hide k env
 ranged true k env = record env { loop_parameter = Some k; chunk_parameter = other k env.chunk_parameter }
 
-module _ (t : Typed) (env : Place) (out : Gathered) where
+module _ (t : Typed) (env : Surroundings) (out : Gathered) where
   -- what is gathered of a part of which the rest is still to be gone through
   abbrev pub expr_left : Option ℕ → Gathered
   expr_left None = out
@@ -41,11 +41,11 @@ rest_size None = 0
 rest_size (Some k) = suc k
 
 -- what is gathered of a reduction, by the numbers of its parts
-abbrev pub reduced : Typed → Place → Reduced → Option ℕ → Gathered → Gathered
+abbrev pub reduced : Typed → Surroundings → Reduced → Option ℕ → Gathered → Gathered
 reduced t env r None out = gather_values env env false (iteration_at t.nodes r.iteration) (expr_at t.nodes r.value) (gather_course env (iteration_at t.nodes r.iteration) (gather_expr env (expr_at t.nodes r.initial) (gather_reducer env (reducer_at t.nodes r.reducer) out)))
 reduced t env r (Some site) out = gather_values env (chunk_hidden (chunk_at t.nodes r.chunk) env) false (iteration_at t.nodes r.iteration) (expr_at t.nodes r.value) (gather_course env (iteration_at t.nodes r.iteration) (gather_chunk env (chunk_at t.nodes r.chunk) (gather_expr env (expr_at t.nodes r.initial) (gather_reducer env (reducer_at t.nodes r.reducer) (gather_reduction env site (reducer_at t.nodes r.reducer) (chunk_at t.nodes r.chunk) (iteration_at t.nodes r.iteration) (expr_at t.nodes r.value) out)))))
 
 -- what is gathered of a statement of which the rest is still to be gone through
-abbrev pub stmt_left : Typed → Place → Gathered → Option ℕ → Gathered
+abbrev pub stmt_left : Typed → Surroundings → Gathered → Option ℕ → Gathered
 stmt_left t env out None = out
 stmt_left t env out (Some k) = gather_stmt env (stmt_at t.nodes k) out

@@ -7,7 +7,7 @@ use Rattle.ada_meaning.proofs.Law.{one_sequential_law}
 use Rattle.ada_meaning.specs.Law.{EachPositive, EndsItself, IsPermitted, IsPlan, IsPrefix, Outcome}
 use Rattle.ada_meaning.specs.Law as law
 use Rattle.ada_meaning.specs.Nonblocking.{KeepsRule}
-use Rattle.ada_meaning.specs.Programs.{Setting, input_of, sequential}
+use Rattle.ada_meaning.specs.Programs.{Setting, by_one_worker, input_of, sequential}
 use Rattle.ada_meaning.specs.Sequential.{IsCalm}
 use Rattle.run_plan.specs.Plans.{HasNoZero, plan_of}
 use Rattle.run_plan.specs.declared.plan.Plan as given
@@ -17,7 +17,7 @@ use Rattle.ada_meaning.specs.Stored.{Fails, MemoryFault, outset, outcome_of}
 use Rattle.ada_meaning.proofs.StoredProof.{stored_law}
 use Rattle.typed_tree.specs.Programs.{program}
 use Rattle.typed_tree.specs.Syntax.{Program}
-use Rattle.run_walk.specs.Run.{IsRun, answer_of, setting_of}
+use Rattle.run_walk.specs.Run.{IsRun, answer_of}
 use Rattle.run_parts.specs.declared.work.Work.{Work}
 use Rattle.run_store.specs.Operating.{begins_at}
 use Rattle.run_store.proofs.Getting.{some_input, told_input}
@@ -98,8 +98,8 @@ ran_comes {InTells} w r s t f j q is k d taken left = record {
             ends = ends_as (program w.typed.now) s.state.output w.limit r t f k d;
             left = λ told. left_over (outside_of t) j q some.0 left some.1 told ∙ ap (λ n. drop n some.0) (sym taken);
             output = λ told. left.put told ∙ both.0;
-            calm = calm_comes (program w.typed.now) (setting_of w) some.0 both.1.0 (outcome_of (program w.typed.now) s.state.output (answer_of r) t.state) rule sound refl both.1.1;
-            prefix = calm_begins (program w.typed.now) (setting_of w) some.0 both.1.0 (outcome_of (program w.typed.now) s.state.output (answer_of r) t.state) rule sound refl both.1.1;
+            calm = calm_comes (program w.typed.now) (by_one_worker w.plan.now w.limit) some.0 both.1.0 (outcome_of (program w.typed.now) s.state.output (answer_of r) t.state) rule sound refl both.1.1;
+            prefix = calm_begins (program w.typed.now) (by_one_worker w.plan.now w.limit) some.0 both.1.0 (outcome_of (program w.typed.now) s.state.output (answer_of r) t.state) rule sound refl both.1.1;
           },
         ),
       );
@@ -111,17 +111,14 @@ pub run_comes : {InTells OutTells : Type 0} (w : Work) (r : Result (Unit {0}) En
 run_comes {InTells} {OutTells} w r s t f p j q end is ended left same =
     subst (λ (e : RunEnd). Comes InTells OutTells w e s j q) (sym same) (ran_comes w r s t f j q is ended.1 ended.2 ended.3 (subst (λ (x : Outside). Leaves InTells OutTells x j q) ended.0 left))
 
-abbrev pub in_order : Plan → ℕ → Setting
-in_order plan limit = record { plan = plan; one = true; limit = limit }
-
 -- a run from the outset
 outset_runs : {InTells OutTells : Type 0} (w : Work) (end : RunEnd) (slots : ℕ) (i j o q : Stream) → KeepsRule (program w.typed.now) → IsPlan w.plan.now → Comes InTells OutTells w end (begins_at slots (fresh i o)) j q
-    → Runs InTells OutTells (program w.typed.now) (setting_of w) end i j o q
+    → Runs InTells OutTells (program w.typed.now) (by_one_worker w.plan.now w.limit) end i j o q
 outset_runs w end slots i j o q rule sound c =
     let run = c.run rule sound slots refl in
     record { causes = c.causes i o refl; on = run.0; told = λ told. told_input run.0 (fresh i o) told refl refl run.1.0; run = run.1.1 }
 
-pub begun_runs : {InTells OutTells : Type 0} (w : Work) (set : Setting) (end : RunEnd) (slots : ℕ) (n : Outside) (s : Image) (i j o q : Stream) → KeepsRule (program w.typed.now) → IsPlan set.plan → n ≡ fresh i o → s ≡ begins_at slots n → setting_of w ≡ set → Comes InTells OutTells w end s j q
+pub begun_runs : {InTells OutTells : Type 0} (w : Work) (set : Setting) (end : RunEnd) (slots : ℕ) (n : Outside) (s : Image) (i j o q : Stream) → KeepsRule (program w.typed.now) → IsPlan set.plan → n ≡ fresh i o → s ≡ begins_at slots n → by_one_worker w.plan.now w.limit ≡ set → Comes InTells OutTells w end s j q
     → Runs InTells OutTells (program w.typed.now) set end i j o q
 begun_runs {InTells} {OutTells} w set end slots n s i j o q rule sound new begun same c =
     let from : Comes InTells OutTells w end (begins_at slots (fresh i o)) j q = subst (λ (x : Image). Comes InTells OutTells w end x j q) (begun ∙ ap (begins_at slots) new) c in

@@ -8,8 +8,8 @@ use Rattle.ada_base.specs.declared.place.Place.{Place}
 use Rattle.ada_base.specs.declared.token.Kind.TheVariants.{End}
 use Rattle.ada_base.specs.declared.token.Token.{Token}
 use Rattle.syntax_lexer.specs.Lexed.{AreLexed}
-use Rattle.syntax_tree.specs.Faults.{Fault}
-use Rattle.syntax_tree.specs.Faults.Fault.{TooManyBytes, NoCharacter, NoToken, TooWide, TooManyTokens}
+use Rattle.syntax_tree.specs.Faults.{LexicalFault}
+use Rattle.syntax_tree.specs.Faults.LexicalFault.{TooManyBytes, NoCharacter, NoToken, TooWide, TooManyTokens}
 use Rattle.syntax_tree.specs.Parsed.{is_left_out}
 use Rattle.name_rules.specs.declared.log.Rule.{Rule}
 use Rattle.name_rules.specs.declared.log.Rule.TheVariants as rule
@@ -41,7 +41,7 @@ Tells text fault = HasNoWord fault ⊎ IsAtToken text fault
 plain : (said : Note) (place : Place) → (code_of said ≡ 4 → ⊥) → HasNoWord (complaint said place)
 plain said place h = (λ e. h (ap code_of e), refl)
 
-tells_lexical : (text : List ℕ) (f : Fault) → HasNoWord (lexical text f)
+tells_lexical : (text : List ℕ) (f : LexicalFault) → HasNoWord (lexical text f)
 tells_lexical text (TooManyBytes bytes) = plain note.LimitPassed beginning (λ e. omega (arith, e))
 tells_lexical text (NoCharacter at) = plain note.NotUtf8 (place_at text at) (λ e. omega (arith, e))
 tells_lexical text (NoToken place) = plain note.NoToken place (λ e. omega (arith, e))
@@ -75,7 +75,7 @@ not_left_out rule.NotStatic e = omega (arith, e)
 not_left_out rule.StaticRange e = omega (arith, e)
 not_left_out rule.ChunkRule e = omega (arith, e)
 not_left_out rule.ReduceRule e = omega (arith, e)
-not_left_out (rule.Limit which count) e = omega (arith, e)
+not_left_out (rule.Limit bound) e = omega (arith, e)
 
 no_word_of_clash : (place other : Place) → HasNoWord (clash_at place other)
 no_word_of_clash place other = (λ e. ten (ap code_of e), refl) where

@@ -19,7 +19,7 @@ note_of rule.NotStatic = note.NotStatic
 note_of rule.StaticRange = note.StaticRange
 note_of rule.ChunkRule = note.ChunkRule
 note_of rule.ReduceRule = note.ReductionRule
-note_of (rule.Limit which count) = note.LimitPassed
+note_of (rule.Limit bound) = note.LimitPassed
 
 abbrev pub misnamed : Tokenized → Fault → Complaint
 misnamed t f = complaint (note_of f.rule) (place_of_token t f.at)

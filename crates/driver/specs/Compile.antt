@@ -6,7 +6,7 @@ use Rattle.check_effects.specs.Conflicts.{IsStrict}
 use Rattle.syntax_lexer.specs.Lexed.{AreLexed}
 use Rattle.ada_meaning.specs.Nonblocking.{KeepsRule}
 use Rattle.check_blocking.specs.Answer.{IsFirst}
-use Rattle.syntax_tree.specs.Faults.{Fault, IsFirstFault}
+use Rattle.syntax_tree.specs.Faults.{LexicalFault, IsFirstFault}
 use Rattle.syntax_tree.specs.Parsed.{IsParsed, IsSyntaxFault, IsTooDeep}
 use Rattle.syntax_tree.specs.Syntax as syntax
 use Rattle.typed_tree.specs.Syntax as typed
@@ -27,7 +27,7 @@ use Rattle.driver.specs.declared.refusal.Refusal.TheVariants.{Refused, OutOfMemo
 abbrev pub lexing : Phase (List ℕ) Tokenized Complaint
 lexing = record {
   right = AreLexed;
-  wrong = λ text c. (fault : Fault) × IsFirstFault text fault × (c ≡ lexical text fault);
+  wrong = λ text c. (fault : LexicalFault) × IsFirstFault text fault × (c ≡ lexical text fault);
 }
 
 -- from tokens to their tree within the limit of depth; wrong is the first fault or the first token that stands too deep,

@@ -4,8 +4,8 @@ use Rattle.ada_base.specs.Place.{place_at}
 use Rattle.ada_base.specs.Tokens.{Tokenized, kind_at, place_of_token}
 use Rattle.ada_base.specs.declared.place.Place.{Place}
 use Rattle.ada_base.specs.declared.token.Kind.{Kind}
-use Rattle.syntax_tree.specs.Faults.{Fault}
-use Rattle.syntax_tree.specs.Faults.Fault.{TooManyBytes, NoCharacter, NoToken, TooWide, TooManyTokens}
+use Rattle.syntax_tree.specs.Faults.{LexicalFault}
+use Rattle.syntax_tree.specs.Faults.LexicalFault.{TooManyBytes, NoCharacter, NoToken, TooWide, TooManyTokens}
 use Rattle.syntax_tree.specs.Parsed.{is_left_out}
 use Rattle.driver.specs.declared.note.Note.{Note}
 use Rattle.driver.specs.declared.note.Note.TheVariants as note
@@ -26,7 +26,7 @@ beginning = record { line = 1; column = 1 }
 
 -- A lexical fault. The place of a byte at which no character begins counts the lines and characters before it; a text
 -- with too many bytes is blamed at its beginning.
-abbrev pub lexical : List ℕ → Fault → Complaint
+abbrev pub lexical : List ℕ → LexicalFault → Complaint
 lexical text (TooManyBytes bytes) = complaint note.LimitPassed beginning
 lexical text (NoCharacter at) = complaint note.NotUtf8 (place_at text at)
 lexical text (NoToken place) = complaint note.NoToken place

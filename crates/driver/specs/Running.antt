@@ -1,12 +1,11 @@
 -- How a unit ran: which run an answer tells of, and which devices failed.
-use Rattle.std.specs.Prelude.{◌≡◌, ℕ, List, [], ◌++◌, drop, Bool, true}
+use Rattle.std.specs.Prelude.{◌≡◌, ℕ, List, [], ◌++◌, drop, Bool}
 use Rattle.ada_meaning.specs.Law as law
 use Rattle.ada_meaning.specs.Law.{EndsItself, IsPermitted, IsPlan, IsPrefix, Outcome}
 use Rattle.ada_meaning.specs.Nonblocking.{KeepsRule}
-use Rattle.ada_meaning.specs.Programs.{Setting, input_of, sequential}
+use Rattle.ada_meaning.specs.Programs.{Setting, by_one_worker, input_of, sequential}
 use Rattle.ada_meaning.specs.Sequential.{IsCalm}
 use Rattle.ada_port.specs.Ports.{Stream, Rose, bytes_of}
-use Rattle.run_walk.specs.Run as interpreter
 use Rattle.ada_meaning.specs.Stored.{outset}
 use Rattle.typed_tree.specs.Programs.{program}
 use Rattle.typed_tree.specs.Syntax.{Program}
@@ -21,7 +20,7 @@ use Rattle.run_reports.specs.declared.ends.RunEnd.TheVariants as run_end
 
 -- so far the threads of a construct are taken in order, as one worker does
 abbrev pub setting_of : plan.Setting → Setting
-setting_of s = record { plan = plan_of s.plan; one = true; limit = s.turns }
+setting_of s = by_one_worker (plan_of s.plan) s.turns
 
 -- the answer tells how the run ended, and what its variables were where it ended normally
 abbrev pub EndsAs : Program → ℕ → RunEnd → Outcome → Type 0
@@ -67,4 +66,4 @@ faults_of input out = record { input = input.faults; output = out.faults }
 pub record Comes (InTells OutTells : Type 0) (w : Work) (end : RunEnd) (s : Image) (input out : Stream) : Type 0 where
   pub causes : (i o : Stream) → s.faults ≡ faults_of i o → Causes end i input o out
   pub run : KeepsRule (program w.typed.now) → IsPlan w.plan.now → (slots : ℕ) → s.state ≡ outset slots [] s.state.output
-      → (on : List ℕ) × (MayBe InTells on (outside_of s) × TellsOf InTells OutTells (program w.typed.now) (interpreter.setting_of w) end on (bytes_of input) s.state.output (bytes_of out))
+      → (on : List ℕ) × (MayBe InTells on (outside_of s) × TellsOf InTells OutTells (program w.typed.now) (by_one_worker w.plan.now w.limit) end on (bytes_of input) s.state.output (bytes_of out))

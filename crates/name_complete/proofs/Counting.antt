@@ -4,6 +4,8 @@ use Rattle.std.proofs.lemmas.Bool.{and_from, cases_order, eq-eqb, not-true, or_c
 use Rattle.name_rules.specs.Declarations.{cells_counted}
 use Rattle.name_rules.specs.Judging.{◌>>=◌, breaks, pure, unless}
 use Rattle.name_rules.specs.Types.{saturated}
+use Rattle.name_rules.specs.Limits.{most_cells, most_objects}
+use Rattle.name_rules.specs.declared.log.Bound.TheVariants as bound
 use Rattle.name_rules.specs.declared.log.Log.{Log}
 use Rattle.name_rules.specs.declared.log.Rule.TheVariants.{Limit}
 use Rattle.name_rules.specs.declared.log.Rule.{Rule}
@@ -22,19 +24,19 @@ quiet false true c at r s now = record { clean = λ e. absurd (faulty at r now e
 quiet false false c at r s now = record { clean = λ e. absurd (faulty at s (breaks at r now).1 e); declared = refl; cells = refl }
 
 -- one more object has room
-room-for : (n : ℕ) → n ≤ 4096 → not (n == 4096) ≡ true → n < 4096
-room-for n h e = by (cases_order n 4096)
+room-for : (n : ℕ) → n ≤ most_objects → not (n == most_objects) ≡ true → n < most_objects
+room-for n h e = by (cases_order n most_objects)
   where
-    by : (n ≡ 4096) ⊎ ((n < 4096) ⊎ (4096 < n)) → n < 4096
-    by (inl k) = absurd (true≢false (sym (eq-eqb n 4096 k) ∙ not-true (n == 4096) e))
+    by : (n ≡ most_objects) ⊎ ((n < most_objects) ⊎ (most_objects < n)) → n < most_objects
+    by (inl k) = absurd (true≢false (sym (eq-eqb n most_objects k) ∙ not-true (n == most_objects) e))
     by (inr (inl k)) = k
     by (inr (inr k)) = omega (arith, h, k)
 
-few-cells : (n all : ℕ) → n ≤ 4194304 → (nat_lt 4194304 n || nat_le all 4194304) ≡ true → nat_le all 4194304 ≡ true
-few-cells n all h e = by (or_cases (nat_lt 4194304 n) (nat_le all 4194304) e)
+few-cells : (n all : ℕ) → n ≤ most_cells → (nat_lt most_cells n || nat_le all most_cells) ≡ true → nat_le all most_cells ≡ true
+few-cells n all h e = by (or_cases (nat_lt most_cells n) (nat_le all most_cells) e)
   where
-    by : (nat_lt 4194304 n ≡ true) ⊎ (nat_le all 4194304 ≡ true) → nat_le all 4194304 ≡ true
-    by (inl k) = absurd (omega (arith, h, ltb-true 4194304 n k))
+    by : (nat_lt most_cells n ≡ true) ⊎ (nat_le all most_cells ≡ true) → nat_le all most_cells ≡ true
+    by (inl k) = absurd (omega (arith, h, ltb-true most_cells n k))
     by (inr k) = k
 
 pub s-cells_counted : (G : Type 0) (token cells : ℕ) → Sound G (λ b. b ≡ true) (cells_counted token cells)
@@ -42,13 +44,13 @@ s-cells_counted G token cells = record {
   grows = λ log. record {
     back = λ e. ((at log).clean e).1;
     counted = λ c. record {
-      objects = λ e. let q = (at log).clean e in let r = room-for log.declared (c.objects q.1) q.0.0 in subst (λ n. n ≤ 4096) (sym (at log).declared) (omega (arith, r));
-      cells = λ e. let q = (at log).clean e in subst (λ n. n ≤ 4194304) (sym (at log).cells) (leb-true (all log) 4194304 (few-cells log.cells (all log) (c.cells q.1) q.0.1));
+      objects = λ e. let q = (at log).clean e in let r = room-for log.declared (c.objects q.1) q.0.0 in subst (λ n. n ≤ most_objects) (sym (at log).declared) (omega (arith, r));
+      cells = λ e. let q = (at log).clean e in subst (λ n. n ≤ most_cells) (sym (at log).cells) (leb-true (all log) most_cells (few-cells log.cells (all log) (c.cells q.1) q.0.1));
     };
   };
   at = λ log c e g.
       let q = (at log).clean e in
-      and_from (nat_lt log.declared 4096) (nat_le (all log) 4194304) (lt-ltb log.declared 4096 (room-for log.declared (c.objects q.1) q.0.0)) (few-cells log.cells (all log) (c.cells q.1) q.0.1);
+      and_from (nat_lt log.declared most_objects) (nat_le (all log) most_cells) (lt-ltb log.declared most_objects (room-for log.declared (c.objects q.1) q.0.0)) (few-cells log.cells (all log) (c.cells q.1) q.0.1);
 }
   where
     all : Log → ℕ
@@ -57,5 +59,5 @@ s-cells_counted G token cells = record {
     start : Log → Log
     start log = record log { declared = log.declared + 1; cells = all log }
 
-    at : (log : Log) → Quiet (not (log.declared == 4096)) (nat_lt 4194304 log.cells || nat_le (all log) 4194304) (start log) (cells_counted token cells log).1
-    at log = quiet (not (log.declared == 4096)) (nat_lt 4194304 log.cells || nat_le (all log) 4194304) (nat_lt log.declared 4096 && nat_le (all log) 4194304) token (Limit 1 4097) (Limit 2 (all log)) (start log)
+    at : (log : Log) → Quiet (not (log.declared == most_objects)) (nat_lt most_cells log.cells || nat_le (all log) most_cells) (start log) (cells_counted token cells log).1
+    at log = quiet (not (log.declared == most_objects)) (nat_lt most_cells log.cells || nat_le (all log) most_cells) (nat_lt log.declared most_objects && nat_le (all log) most_cells) token (Limit bound.Objects) (Limit bound.Cells) (start log)

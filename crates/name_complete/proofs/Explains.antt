@@ -1,6 +1,7 @@
 -- Judging that finds what is asked of it, where no fault is written. No fault is taken back.
 use Rattle.std.proofs.Common.{◌≡◌, refl, sym, ap, subst, ◌∙◌, true≢false, ℕ, ◌≤◌, List, [], ◌∷◌, ◌++◌, length, Option, Some, None, Bool, true, false, if◌then◌else◌, option_map, ◌==◌}
 use Rattle.name_rules.specs.Judging.{Judging, ◌>>=◌, both, breaks, clean, fault, given, joined, pure, read, some, unless, where_clean}
+use Rattle.name_rules.specs.Limits.{most_cells, most_objects}
 use Rattle.name_rules.specs.declared.log.Fault.{Fault}
 use Rattle.name_rules.specs.declared.log.Log.{Log}
 use Rattle.name_rules.specs.declared.log.Rule.{Rule}
@@ -9,8 +10,8 @@ use Rattle.name_rules.specs.declared.log.Rule.{Rule}
 
 -- objects and cells stand at most at their limits, where no fault says otherwise
 pub record Counted (log : Log) : Type 0 where
-  pub objects : log.faults ≡ [] → log.declared ≤ 4096
-  pub cells : log.faults ≡ [] → log.cells ≤ 4194304
+  pub objects : log.faults ≡ [] → log.declared ≤ most_objects
+  pub cells : log.faults ≡ [] → log.cells ≤ most_cells
 
 pub record Grows (a b : Log) : Type 0 where
   pub back : b.faults ≡ [] → a.faults ≡ []
@@ -26,7 +27,7 @@ grows-joins a b c f g = record { back = λ e. f.back (g.back e); counted = λ x.
 pub grows-same : (a b : Log) → b.faults ≡ a.faults → b.declared ≡ a.declared → b.cells ≡ a.cells → Grows a b
 grows-same a b e f g = record {
   back = λ h. sym e ∙ h;
-  counted = λ c. record { objects = λ h. subst (λ n. n ≤ 4096) (sym f) (c.objects (sym e ∙ h)); cells = λ h. subst (λ n. n ≤ 4194304) (sym g) (c.cells (sym e ∙ h)) };
+  counted = λ c. record { objects = λ h. subst (λ n. n ≤ most_objects) (sym f) (c.objects (sym e ∙ h)); cells = λ h. subst (λ n. n ≤ most_cells) (sym g) (c.cells (sym e ∙ h)) };
 }
 
 not-empty : (fs : List Fault) (f : Fault) → fs ++ f ∷ [] ≡ [] → ⊥

@@ -19,6 +19,8 @@ use Rattle.name_rules.specs.Symbols.{symbol}
 use Rattle.name_rules.specs.TypedParts.{also_all}
 use Rattle.name_rules.specs.Types.{array_cells, cells_in, in_base, lies_in, number_of, saturated, wanted_of, written_shape}
 use Rattle.name_rules.specs.Values.{first_of, stored}
+use Rattle.name_rules.specs.Limits.{most_dimensions}
+use Rattle.name_rules.specs.declared.log.Bound.TheVariants as bound
 use Rattle.name_rules.specs.declared.log.Dimension.{Dimension}
 use Rattle.name_rules.specs.declared.log.Field.{Field}
 use Rattle.name_rules.specs.declared.log.Rule.TheVariants.{Limit, StaticRange, WrongType}
@@ -132,10 +134,10 @@ s-array_written G ds s =
 
 s-array_given : (G : Type 0) (at : ℕ) (ds : Dimensions) (s : Indicated) → Sound G (Is Any) (d.array_given at ds s)
 s-array_given G at ds s =
-    s-if G (Is Any) (nat_le (length ds.dimensions) 4) _ (fault at (Limit 4 (length ds.dimensions)))
+    s-if G (Is Any) (nat_le (length ds.dimensions) most_dimensions) _ (fault at (Limit bound.Dimensions))
     (s-bind G (Is Any) (Is Any) (d.array_written ds.dimensions s.known) _ (s-array_written G ds.dimensions s.known) (λ t.
     s-pure _ (Is Any) (option_map (indicated (also_all ds.mentions s.part)) t) (λ g. mapped Any Any (indicated (also_all ds.mentions s.part)) t g.1 (λ x h. tt))))
-    (s-fault G (Is Any) at (Limit 4 (length ds.dimensions)))
+    (s-fault G (Is Any) at (Limit bound.Dimensions))
 
 pub s-array : (G : Type 0) (names : Names) (level : Inside) (here : Context) (a : Array) → LevelSound level → (G → Clear here) → Sound G (Is Any) (d.array names level here a)
 unfolding d.array

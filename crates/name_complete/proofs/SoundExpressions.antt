@@ -12,7 +12,7 @@ use Rattle.syntax_tree.specs.declared.operators.Sign.{Sign as Signed}
 use Rattle.syntax_tree.specs.declared.operators.Sign.TheVariants as sign
 use Rattle.typed_tree.specs.Decoded.{Part}
 use Rattle.typed_tree.specs.declared.expressions.Sign.TheVariants as unary'
-use Rattle.name_rules.specs.Expressions.{Inside, added, adding, blamed, comparison_of, condition, conjoined, expr, factor, first_term, first_wanted, in_place, joined_rels, judged_alone, multiplied, multiplying, multiplying_op, rel, short_form, short_found, short_join, short_operand, short_operands, simple, term, term_form, value_for}
+use Rattle.name_rules.specs.Expressions.{Inside, added, adding, blamed, condition, conjoined, expr, factor, first_term, first_wanted, in_place, joined_rels, judged_alone, multiplied, multiplying, multiplying_op, rel, short_form, short_found, short_join, short_operand, short_operands, simple, term, term_form, value_for}
 use Rattle.name_rules.specs.Found.{Found}
 use Rattle.name_rules.specs.Judging.{Judging, joined, pure}
 use Rattle.name_rules.specs.Operators.{logical}
@@ -135,7 +135,7 @@ s-rel G names level here want (syntax.Alone s) l c w = s-simple G level here wan
 s-rel G names level here want (syntax.Compared left by at right) l c w =
     s-bind G (Is FoundOk) (Is (FoundFor want)) (simple level here wanted.Other left) _ (s-simple G level here wanted.Other left l c (λ g. tt)) (λ x.
     s-bind _ (Is FoundOk) (Is (FoundFor want)) (simple level here wanted.Other right) _ (s-simple _ level here wanted.Other right l (λ g. c g.0) (λ g. tt)) (λ y.
-    s-fits _ want _ (s-compared _ (comparison_of by) at x y (λ g. there FoundOk x g.0.1) (λ g. there FoundOk y g.1))))
+    s-fits _ want _ (s-compared _ by at x y (λ g. there FoundOk x g.0.1) (λ g. there FoundOk y g.1))))
 s-rel G names level here want (syntax.Within value negation at low high) l c w =
     s-bind G (Is FoundOk) (Is (FoundFor want)) (simple level here wanted.Other value) _ (s-simple G level here wanted.Other value l c (λ g. tt)) (λ x.
     s-bind _ (Is FoundOk) (Is (FoundFor want)) (simple level here wanted.Other low) _ (s-simple _ level here wanted.Other low l (λ g. c g.0) (λ g. tt)) (λ y.

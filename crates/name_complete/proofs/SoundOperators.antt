@@ -8,7 +8,7 @@ use Rattle.typed_tree.specs.Syntax as typed
 use Rattle.typed_tree.specs.declared.scalars.Class.TheVariants as class
 use Rattle.typed_tree.specs.declared.expressions.Sign.TheVariants as unary'
 use Rattle.typed_tree.specs.declared.expressions.Sign.{Sign}
-use Rattle.typed_tree.specs.declared.scalars.Comparison.{Comparison}
+use Rattle.ada_base.specs.declared.operation.Comparison.{Comparison}
 use Rattle.name_rules.specs.Found.{Found, scalar}
 use Rattle.name_rules.specs.Operators as o
 use Rattle.name_rules.specs.Types.{class_of, in_base, same}

@@ -13,6 +13,7 @@ use Rattle.name_rules.specs.Values as v
 use Rattle.name_rules.specs.Values.{asked, kind_of}
 use Rattle.name_rules.specs.declared.found.Found.TheVariants as known
 use Rattle.name_rules.specs.declared.found.Found.{Found as Known}
+use Rattle.name_rules.specs.declared.log.Bound.TheVariants as bound
 use Rattle.name_rules.specs.declared.log.Rule.TheVariants as rule
 use Rattle.name_rules.specs.declared.scope.Context.{Context}
 use Rattle.name_rules.specs.declared.scope.Names.{Names}
@@ -260,9 +261,9 @@ above-sound names level l = record {
 
 deep-sound : LevelSound p.deep
 deep-sound = record {
-  primary = λ G here x want c w. s-fault G (Is (FoundFor want)) (first_token.of_primary x) (Limit 5 65);
-  rest = λ G here x n i h c. s-fault G (Is RestOf) (first_token.of_primary x) (Limit 5 65);
-  name = λ G here n c. s-fault G (Is DenotedOf) (first_token.of_name n) (Limit 5 65);
+  primary = λ G here x want c w. s-fault G (Is (FoundFor want)) (first_token.of_primary x) (Limit bound.Levels);
+  rest = λ G here x n i h c. s-fault G (Is RestOf) (first_token.of_primary x) (Limit bound.Levels);
+  name = λ G here n c. s-fault G (Is DenotedOf) (first_token.of_name n) (Limit bound.Levels);
 }
 
 pub inside-sound : (names : Names) (n : ℕ) → LevelSound (inside names n)

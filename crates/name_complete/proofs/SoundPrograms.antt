@@ -16,7 +16,8 @@ use Rattle.name_rules.specs.Judging.{◌>>=◌, breaks, fault, joined, pure, som
 use Rattle.name_rules.specs.Primaries.{inside}
 use Rattle.name_rules.specs.Programs as p
 use Rattle.name_rules.specs.Programs.{Declared', Profiled, Whole}
-use Rattle.name_rules.specs.Resolved.{depth_limit, fresh, judged, typed_by, typed_where}
+use Rattle.syntax_tree.specs.Parsed.{depth_limit}
+use Rattle.name_rules.specs.Resolved.{fresh, judged, typed_by, typed_where}
 use Rattle.name_rules.specs.Scope.{declared, free, scalar_named, stands_for, subtype_named}
 use Rattle.name_rules.specs.Statements.{around, body, no_decls, stmt}
 use Rattle.name_rules.specs.Symbols.{ada_name, all_parallel_policy, all_policy, integer_io_name, known_parallel_policy, nonblocking_name, policy_name, symbol, text_io_name}

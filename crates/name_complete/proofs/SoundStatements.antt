@@ -29,6 +29,8 @@ use Rattle.name_rules.specs.declared.found.Denoted.TheVariants as denoted
 use Rattle.name_rules.specs.declared.found.Denoted.{Denoted as KnownDenoted}
 use Rattle.name_rules.specs.declared.found.Found.TheVariants as known
 use Rattle.name_rules.specs.declared.found.Place.{Place}
+use Rattle.name_rules.specs.Limits.{most_arms}
+use Rattle.name_rules.specs.declared.log.Bound.TheVariants as bound
 use Rattle.name_rules.specs.declared.log.Rule.TheVariants.{ChunkRule, Limit, NotVisible, WrongEnd, WrongType}
 use Rattle.name_rules.specs.declared.scope.Context.{Context}
 use Rattle.name_rules.specs.declared.scope.LoopName.{LoopName}
@@ -359,7 +361,7 @@ s-branches G a here made (syntax.AlsoBranch x xs) f c h =
     s-branches (G × Is Any y) a here (joined s.with_arm made y) xs f (λ g. c g.0) (λ g. joint Any Any Any s.with_arm made y (h g.0) g.1 (λ b d m n. tt)))
 
 s-arm_limit : (G : Type 0) (at n : ℕ) → Sound G Any (s.arm_limit at n)
-s-arm_limit G at n = s-any G (λ u. nat_le n 4096 ≡ true) (unless (nat_le n 4096) at (Limit 3 n)) (s-unless G (nat_le n 4096) at (Limit 3 n))
+s-arm_limit G at n = s-any G (λ u. nat_le n most_arms ≡ true) (unless (nat_le n most_arms) at (Limit bound.Arms)) (s-unless G (nat_le n most_arms) at (Limit bound.Arms))
 
 s-parallel : (G : Type 0) (a : Around) (here : Context) (at : ℕ) (e : Option Simple) (xs : Branches) → AroundSound a → (G → Clear here) → Sound G (Is Any) (s.parallel a here at e xs)
 unfolding s.parallel
@@ -391,7 +393,7 @@ around-by names n f = record { level = above-sound names (inside names n) (insid
 
 s-stmt : (names : Names) (n : ℕ) (G : Type 0) (here : Context) (x : Stmt) → (G → Clear here) → Sound G (Is Any) (stmt names n here x)
 unfolding stmt
-s-stmt names zero G here x c = s-fault G (Is Any) (first_token.of_stmt x) (Limit 5 65)
+s-stmt names zero G here x c = s-fault G (Is Any) (first_token.of_stmt x) (Limit bound.Levels)
 s-stmt names (suc n) G here x c = s-stmt_form G (around names n (stmt names n)) here x (around-by names n (λ H there y k. s-stmt names n H there y k)) c
 
 pub around-sound : (names : Names) (n : ℕ) → AroundSound (around names n (stmt names n))

@@ -13,7 +13,7 @@ ghost use Rattle.typed_parts.specs.Stack.{parts};
 
 use crate::primaries::inside;
 use crate::scene::Scene;
-use ada_base::Op;
+use ada_base::{Comparison, Op};
 use name_rules::found::Found;
 use name_rules::log::Rule;
 use name_rules::types::{Kind, Subtype, Wanted};
@@ -27,7 +27,7 @@ use name_values::types::wanted_of;
 use name_values::values::{asked, is_kind, kind_of, stored};
 use std::alloc::AllocError;
 use syntax_nodes::{Expr, Factor, Rel, Tree};
-use syntax_tree::{Additive, Comparison, Logical, Multiplicative, Sign};
+use syntax_tree::{Additive, Logical, Multiplicative, Sign};
 
 /// A factor (4.4).
 #[cycle(levels)]
@@ -203,19 +203,6 @@ pub fn simple(judge: &mut Judge, scene: Scene<'_>, want: Wanted, id: u32) -> Fin
     }
 }
 
-fn comparison_of(by: Comparison) -> typed_tree::Comparison
-    ensures { result ≡ spec.comparison_of by }
-{
-    match by {
-        Comparison::Equal => typed_tree::Comparison::Equal,
-        Comparison::Unequal => typed_tree::Comparison::Unequal,
-        Comparison::Less => typed_tree::Comparison::Less,
-        Comparison::AtMost => typed_tree::Comparison::AtMost,
-        Comparison::Greater => typed_tree::Comparison::Greater,
-        Comparison::AtLeast => typed_tree::Comparison::AtLeast,
-    }
-}
-
 fn blamed(negation: Option<u32>, at: u32) -> u32
     ensures { result ≡ spec.blamed negation at }
 {
@@ -241,7 +228,7 @@ pub fn rel(judge: &mut Judge, scene: Scene<'_>, want: Wanted, id: u32) -> Findin
         } => {
             let x = attempt!(simple(judge, scene, Wanted::Other, left));
             let y = attempt!(simple(judge, scene, Wanted::Other, right));
-            compared(judge, comparison_of(by), at, x, y)
+            compared(judge, by, at, x, y)
         }
         Rel::Within {
             value,

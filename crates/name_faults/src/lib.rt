@@ -6,7 +6,7 @@ ghost use Rattle.name_faults.specs.Least.{IsToldOf, better, least_of};
 ghost use Rattle.name_rules.specs.Resolved as spec;
 
 use ada_base::Items;
-use name_rules::log::{Fault, Rule};
+use name_rules::log::{Bound, Fault, Rule};
 
 /// The place of a rule in the order of the refusals.
 fn code(rule: Rule) -> u64
@@ -23,7 +23,13 @@ fn code(rule: Rule) -> u64
         Rule::StaticRange => 7,
         Rule::ChunkRule => 8,
         Rule::ReduceRule => 9,
-        Rule::Limit { which, .. } => 10 + u64::from(which),
+        Rule::Limit { of: Bound::Objects } => 11,
+        Rule::Limit { of: Bound::Cells } => 12,
+        Rule::Limit { of: Bound::Arms } => 13,
+        Rule::Limit {
+            of: Bound::Dimensions,
+        } => 14,
+        Rule::Limit { of: Bound::Levels } => 15,
     }
 }
 

@@ -9,6 +9,7 @@ use Rattle.name_rules.specs.Judging.{Judging, ◌>>=◌, both, breaks, clean, fa
 use Rattle.name_rules.specs.Parts.{new_parameter}
 use Rattle.name_rules.specs.Resolved.{dimension_bounds}
 use Rattle.name_rules.specs.Types.{array_cells, cells_in, extent}
+use Rattle.name_rules.specs.Limits.{most_cells}
 use Rattle.name_rules.specs.declared.log.Dimension.{Dimension}
 use Rattle.name_rules.specs.declared.log.Field.{Field}
 use Rattle.name_rules.specs.declared.log.Log.{Log}
@@ -22,7 +23,7 @@ use Rattle.name_rules.specs.declared.types.Subtype.TheVariants as subtype
 
 -- no more cells than all objects of a program may have
 abbrev pub Small : Shape → Type 0
-Small t = size t ≤ 4194304
+Small t = size t ≤ most_cells
 
 abbrev pub shape_of : Program → Subtype → Shape
 shape_of program (subtype.Scalar s) = Single

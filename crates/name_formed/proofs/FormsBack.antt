@@ -7,6 +7,8 @@ use Rattle.typed_tree.specs.declared.program.Object.{Object}
 use Rattle.name_rules.specs.Declarations.{cells_counted}
 use Rattle.name_rules.specs.Judging.{Judging, ◌>>=◌, both, fault, given, pure, some, unless}
 use Rattle.name_rules.specs.Types.{saturated}
+use Rattle.name_rules.specs.Limits.{most_cells, most_objects}
+use Rattle.name_rules.specs.declared.log.Bound.TheVariants as bound
 use Rattle.name_rules.specs.declared.log.Log.{Log}
 use Rattle.name_rules.specs.declared.log.Rule.{Rule}
 use Rattle.name_rules.specs.declared.log.Rule.TheVariants.{Limit}
@@ -59,9 +61,9 @@ pub counted_leads : (token cells : ℕ) (log : Log) → Leads log (cells_counted
 counted_leads token cells log =
     let all = saturated (log.cells + cells) in
     let now = record log { declared = log.declared + 1; cells = all } in
-    let mid = (unless (not (log.declared == 4096)) token (Limit 1 4097) now).1 in
+    let mid = (unless (not (log.declared == most_objects)) token (Limit bound.Objects) now).1 in
     leads_joined log now _ (leads_same log now refl refl (least (length log.profiles)) (least log.parameters))
-    (leads_joined now mid _ (unless_leads (not (log.declared == 4096)) token (Limit 1 4097) now) (unless_leads (nat_lt 4194304 log.cells || nat_le all 4194304) token (Limit 2 all) mid))
+    (leads_joined now mid _ (unless_leads (not (log.declared == most_objects)) token (Limit bound.Objects) now) (unless_leads (nat_lt most_cells log.cells || nat_le all most_cells) token (Limit bound.Cells) mid))
 
 pub next : (n : ℕ) → n ≤ n + 1
 next n = omega arith

@@ -21,6 +21,8 @@ use Rattle.name_rules.specs.Scope.{declared, free, hidden_where, with_entry}
 use Rattle.name_rules.specs.Symbols.{symbol}
 use Rattle.name_rules.specs.TypedParts.{also_all, exprs_of}
 use Rattle.name_rules.specs.Types.{cells_in, number_of, saturated, written_shape}
+use Rattle.name_rules.specs.Limits.{most_cells, most_dimensions, most_objects}
+use Rattle.name_rules.specs.declared.log.Bound.TheVariants as bound
 use Rattle.name_rules.specs.declared.log.Dimension.{Dimension}
 use Rattle.name_rules.specs.declared.log.Field.{Field}
 use Rattle.name_rules.specs.declared.log.Log.{Log}
@@ -61,8 +63,8 @@ both-true : (a b : Bool) → a && b ≡ true → b ≡ true
 both-true true b e = e
 both-true false b e = absurd (true≢false (sym e))
 
-few-cells : (all cells : ℕ) → nat_le (saturated (all + cells)) 4194304 ≡ true → cells ≤ 4194304
-few-cells all cells e = omega (arith, leb-true (saturated (all + cells)) 4194304 e)
+few-cells : (all cells : ℕ) → nat_le (saturated (all + cells)) most_cells ≡ true → cells ≤ most_cells
+few-cells all cells e = omega (arith, leb-true (saturated (all + cells)) most_cells e)
 
 get-seam : {A : Type 0} (xs more : List A) (x : A) → slice_get ((xs ++ x ∷ []) ++ more) (length xs) ≡ Some x
 get-seam [] more x = refl
@@ -151,11 +153,11 @@ module _ (P : Program) (L : Log) (F : Facts P L) where
 
   b-array_given : (V : Sight) (G : Type 0) (at : ℕ) (ds : Dimensions) (s : Indicated) → (G → DimensionsIn V ds) → (G → IndicatedIn V s) → Back L V G (Maybe (IndicatedIn V)) (d.array_given at ds s)
   b-array_given V G at ds s h i =
-      b-if L V G (Maybe (IndicatedIn V)) (nat_le (length ds.dimensions) 4) _ (fault at (Limit 4 (length ds.dimensions)))
+      b-if L V G (Maybe (IndicatedIn V)) (nat_le (length ds.dimensions) most_dimensions) _ (fault at (Limit bound.Dimensions))
       (b-bind L V G (Maybe Any) (Maybe (IndicatedIn V)) (d.array_written ds.dimensions s.known) _ (b-array_written V G ds.dimensions s.known) (λ t.
       b-pure L V _ (Maybe (IndicatedIn V)) (option_map (indicated (also_all ds.mentions s.part)) t)
       (λ g. mapped Any (IndicatedIn V) (indicated (also_all ds.mentions s.part)) t (any t) (λ x p. each-all (λ y. FormedExpr P V.known (as_expr y)) ds.mentions s.part (h g.old) (i g.old)))))
-      (b-fault L V G (IndicatedIn V) at (Limit 4 (length ds.dimensions)))
+      (b-fault L V G (IndicatedIn V) at (Limit bound.Dimensions))
 
   b-array : (V : Sight) (G : Type 0) (names : Names) (level : Inside) (here : Context) (a : Array) → LevelBoth level → (G → Near P L F V here) → Back L V G (Maybe (IndicatedIn V)) (d.array names level here a)
   unfolding d.array
@@ -275,7 +277,7 @@ module _ (P : Program) (L : Log) (F : Facts P L) where
   ObjectIn t n = (object_shape P n ≡ shape_of P t) × Small (shape_of P t)
 
   written-in : (names : Names) (here : Context) (token : ℕ) (s : Subtype) (n cells : ℕ) (constant : Bool) (value : Option ℤ) (log : Log) (b : Bool)
-      → NumberIn log.shapes s n → (b ≡ true → cells ≤ 4194304) → Leads ((if b then (d.object_written names here token n cells constant value >>= λ m. some m) else pure None) log).1 L
+      → NumberIn log.shapes s n → (b ≡ true → cells ≤ most_cells) → Leads ((if b then (d.object_written names here token n cells constant value >>= λ m. some m) else pure None) log).1 L
       → Maybe (ObjectIn s) ((if b then (d.object_written names here token n cells constant value >>= λ m. some m) else pure None) log).0
   written-in names here token s n cells constant value log false i c l = tt
   written-in names here token s n cells constant value log true i c l =
@@ -294,7 +296,7 @@ module _ (P : Program) (L : Log) (F : Facts P L) where
         let c = d.cells_counted token cells log in
         let m = number_of s c.1 in
         written-in names here token s m.0 cells constant value m.1 c.0 (number_in s m.0 m.1 (is_number s c.1))
-        (λ e. few-cells log.cells cells (both-true (nat_lt log.declared 4096) (nat_le (saturated (log.cells + cells)) 4194304) e)) l;
+        (λ e. few-cells log.cells cells (both-true (nat_lt log.declared most_objects) (nat_le (saturated (log.cells + cells)) most_cells) e)) l;
   }
 
   abbrev InitialIn : Sight → Initial → Type 0

@@ -12,7 +12,7 @@ use Rattle.syntax_tree.specs.declared.operators.Sign.{Sign as Signed}
 use Rattle.syntax_tree.specs.declared.operators.Sign.TheVariants as sign
 use Rattle.typed_tree.specs.Decoded.{Part}
 use Rattle.typed_tree.specs.declared.expressions.Sign.TheVariants as unary'
-use Rattle.name_rules.specs.Expressions.{Inside, added, adding, blamed, comparison_of, condition, conjoined, expr, factor, first_term, first_wanted, in_place, joined_rels, judged_alone, multiplied, multiplying, multiplying_op, rel, short_form, short_found, short_join, short_operand, short_operands, simple, term, value_for}
+use Rattle.name_rules.specs.Expressions.{Inside, added, adding, blamed, condition, conjoined, expr, factor, first_term, first_wanted, in_place, joined_rels, judged_alone, multiplied, multiplying, multiplying_op, rel, short_form, short_found, short_join, short_operand, short_operands, simple, term, value_for}
 use Rattle.name_rules.specs.Found.{Found}
 use Rattle.name_rules.specs.Judging.{fault, given, joined}
 use Rattle.name_rules.specs.Operators.{binary, joined_text, logical, not_of, plain, unary}
@@ -95,7 +95,7 @@ module _ (W : World) (V : Sight) where
   f-rel names level here want (syntax.Alone s) l r = f-simple level here want s l r
   f-rel names level here want (syntax.Compared left c at right) l r =
       f-bind W V (Finding W V) (Finding W V) (simple level here wanted.Other left) _ (f-simple level here wanted.Other left l r) (λ x p.
-      f-bind W V (Finding W V) (Finding W V) (simple level here wanted.Other right) _ (f-simple level here wanted.Other right l r) (λ y q. f-compared W V (comparison_of c) at x y p q))
+      f-bind W V (Finding W V) (Finding W V) (simple level here wanted.Other right) _ (f-simple level here wanted.Other right l r) (λ y q. f-compared W V c at x y p q))
   f-rel names level here want (syntax.Within value negation at low high) l r =
       f-bind W V (Finding W V) (Finding W V) (simple level here wanted.Other value) _ (f-simple level here wanted.Other value l r) (λ x p.
       f-bind W V (Finding W V) (Finding W V) (simple level here wanted.Other low) _ (f-simple level here wanted.Other low l r) (λ y q.

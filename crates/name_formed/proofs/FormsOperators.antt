@@ -8,7 +8,7 @@ use Rattle.typed_tree.specs.Syntax as typed
 use Rattle.typed_tree.specs.declared.expressions.Sign.TheVariants as unary'
 use Rattle.typed_tree.specs.declared.expressions.Sign.{Sign}
 use Rattle.typed_tree.specs.declared.scalars.Class.TheVariants as class
-use Rattle.typed_tree.specs.declared.scalars.Comparison.{Comparison}
+use Rattle.ada_base.specs.declared.operation.Comparison.{Comparison}
 use Rattle.name_rules.specs.Found.{Found, scalar, static, text_found, universal}
 use Rattle.name_rules.specs.Judging.{fault, pure, some}
 use Rattle.name_rules.specs.Operators.{binary, both_mentions, by_kinds, common_kind, compared, compared_at, compared_by, first_kind, joined_text, joined_texts, leaf, limit_of, logical, member, member_of, membership, negation, not_of, of_subtype, open_binary, open_form, open_of, open_power, open_two, open_unary, operand_blamed, operation, operation_by, operation_on, plain, plain_by, plain_open, plain_typed, power, power_to, signed, static_of, static_operation, static_power, static_unary, static_universal, typed_operation, unary, unary_by, unary_open, unary_typed, universal_by, universal_operation, universal_power, universal_to, within_bounds}

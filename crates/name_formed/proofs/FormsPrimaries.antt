@@ -27,6 +27,7 @@ use Rattle.name_rules.specs.declared.found.Folding.{Folding}
 use Rattle.name_rules.specs.declared.found.Found.TheVariants as known
 use Rattle.name_rules.specs.declared.found.Found.{Found as Known}
 use Rattle.name_rules.specs.declared.found.Limits.{Limits}
+use Rattle.name_rules.specs.declared.log.Bound.TheVariants as bound
 use Rattle.name_rules.specs.declared.log.Rule.TheVariants.{Limit, NotVisible, ReduceRule, Unknown, WrongType}
 use Rattle.name_rules.specs.declared.scope.Context.{Context}
 use Rattle.name_rules.specs.declared.scope.Names.{Names}
@@ -243,7 +244,7 @@ above-forms W names inside l = record {
 pub inside-forms : (W : World) (names : Names) (n : ℕ) → LevelForms W (primaries.inside names n)
 unfolding primaries.inside
 inside-forms W names zero = record {
-  primary = λ V here p want r. f-fault W V (FoundOf W V) (first_token.of_primary p) (Limit 5 65);
-  name = λ V here x r. f-fault W V (DenotedOf W V) (first_token.of_name x) (Limit 5 65);
+  primary = λ V here p want r. f-fault W V (FoundOf W V) (first_token.of_primary p) (Limit bound.Levels);
+  name = λ V here x r. f-fault W V (DenotedOf W V) (first_token.of_name x) (Limit bound.Levels);
 }
 inside-forms W names (suc n) = above-forms W names (primaries.inside names n) (inside-forms W names n)

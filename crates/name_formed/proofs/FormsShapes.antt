@@ -13,6 +13,7 @@ use Rattle.typed_tree.specs.Syntax.{Program}
 use Rattle.typed_tree.specs.declared.program.Object.{Object}
 use Rattle.name_rules.specs.Resolved.{dimension_bounds, typed_field, typed_subtype}
 use Rattle.name_rules.specs.Types.{array_cells, cells_in, cells_of_shape, extent, saturated}
+use Rattle.name_rules.specs.Limits.{most_cells}
 use Rattle.name_rules.specs.declared.log.Dimension.{Dimension}
 use Rattle.name_rules.specs.declared.log.Field.{Field}
 use Rattle.name_rules.specs.declared.log.Log.{Log}
@@ -44,7 +45,7 @@ stands n (entry.Record fs cells) h = fields-stand n fs h
 
 -- ---- counts
 
-few : (n : ℕ) → n ≤ 4194304 → saturated n ≡ n
+few : (n : ℕ) → n ≤ most_cells → saturated n ≡ n
 few n h = omega (arith, h)
 
 no-more : (n : ℕ) → saturated n ≤ n
@@ -136,7 +137,7 @@ module _ (P : Program) (L : Log) (F : Facts P L) where
 
   -- ---- fields
 
-  field-in : (before : ℕ) (fs : List Field) → FieldsLie L.shapes before fs → FieldsNumbered L.shapes fs → before + sizes (fields_of (subtype_shape P) (map typed_field fs)) ≤ 4194304
+  field-in : (before : ℕ) (fs : List Field) → FieldsLie L.shapes before fs → FieldsNumbered L.shapes fs → before + sizes (fields_of (subtype_shape P) (map typed_field fs)) ≤ most_cells
       → (i : ℕ) (f : Field) → slice_get fs i ≡ Some f → FieldIn (fields_of (subtype_shape P) (map typed_field fs)) i before f (shape_of P f.subtype)
   field-in before [] h k l i f e = absurd cc
   field-in before (g ∷ fs) h k l zero f e =
@@ -161,10 +162,10 @@ module _ (P : Program) (L : Log) (F : Facts P L) where
       is : subtype_shape P n ≡ shapes.Record parts
       is = shape-at n t e
 
-      many : sizes parts ≤ 4194304
-      many = subst (λ u. size u ≤ 4194304) is l
+      many : sizes parts ≤ most_cells
+      many = subst (λ u. size u ≤ most_cells) is l
 
-      all : 0 + sizes parts ≤ 4194304
+      all : 0 + sizes parts ≤ most_cells
       all = omega (arith, many)
 
       by : {i : ℕ} (f : Field) → FieldIn parts i 0 f (shape_of P f.subtype) → FieldAt parts i f.offset (shape_of P f.subtype) × Small (shape_of P f.subtype)
@@ -270,5 +271,5 @@ module _ (P : Program) (L : Log) (F : Facts P L) where
       same g = rw g
 
   -- it is no larger than it counts
-  pub object-small : (n : ℕ) (o : Object) (t : Subtype) → slice_get L.objects n ≡ Some o → NumberIn L.shapes t o.subtype → o.cells ≤ 4194304 → Small (shape_of P t)
-  object-small n o t e i l = subst (λ u. size u ≤ 4194304) (numbered t o.subtype i) (subst (λ k. k ≤ 4194304) (F.sound.cells F.values n o e ∙ sized o.subtype) l)
+  pub object-small : (n : ℕ) (o : Object) (t : Subtype) → slice_get L.objects n ≡ Some o → NumberIn L.shapes t o.subtype → o.cells ≤ most_cells → Small (shape_of P t)
+  object-small n o t e i l = subst (λ u. size u ≤ most_cells) (numbered t o.subtype i) (subst (λ k. k ≤ most_cells) (F.sound.cells F.values n o e ∙ sized o.subtype) l)

@@ -22,6 +22,7 @@ use Rattle.name_rules.specs.Primaries.{inside, level_above}
 use Rattle.name_rules.specs.Statements as s
 use Rattle.name_rules.specs.Statements.{Around as Judges, Selector, around, stmt}
 use Rattle.name_rules.specs.TypedParts.{left_of, nested_stmts, right_of}
+use Rattle.name_rules.specs.declared.log.Bound.TheVariants as bound
 use Rattle.name_rules.specs.declared.log.Log.{Log}
 use Rattle.name_rules.specs.declared.log.Rule.TheVariants.{Limit, NotVisible, WrongType}
 use Rattle.name_rules.specs.declared.scope.Context.{Context}
@@ -410,7 +411,7 @@ module _ (P : Program) (L : Log) (F : Facts P L) where
 
   b-stmt : (names : Names) (n : ℕ) (V : Sight) (here : Context) (x : Stmt) → Back L V (Near P L F V here) (Maybe (StmtIn V)) (stmt names n here x)
   unfolding stmt
-  b-stmt names zero V here x = b-fault L V (Near P L F V here) (StmtIn V) (first_token.of_stmt x) (Limit 5 65)
+  b-stmt names zero V here x = b-fault L V (Near P L F V here) (StmtIn V) (first_token.of_stmt x) (Limit bound.Levels)
   b-stmt names (suc n) V here x = b-stmt_form V (Near P L F V here) (around names n (stmt names n)) here x (around-by names n (λ U there y. b-stmt names n U there y)) (λ r. r)
 
   pub around-forms : (names : Names) (n : ℕ) → AroundForms (around names n (stmt names n))

@@ -7,6 +7,8 @@ use Rattle.ada_base.specs.declared.operation.Base.TheVariants.{Narrow, Wide}
 use Rattle.name_rules.specs.Declarations.{Initial, cells_counted, constant_value}
 use Rattle.name_rules.specs.Judging.{unless}
 use Rattle.name_rules.specs.Types.{in_base, lies_in, saturated, written_shape}
+use Rattle.name_rules.specs.Limits.{most_cells, most_objects}
+use Rattle.name_rules.specs.declared.log.Bound.TheVariants as bound
 use Rattle.name_rules.specs.declared.log.Dimension.{Dimension}
 use Rattle.name_rules.specs.declared.log.Log.{Log}
 use Rattle.name_rules.specs.declared.log.Rule.{Rule}
@@ -112,9 +114,9 @@ pub counted_spanning : (token cells : ℕ) (log : Log) → Spanning log (cells_c
 counted_spanning token cells log =
     let all = saturated (log.cells + cells) in
     let now = record log { declared = log.declared + 1; cells = all } in
-    let mid = (unless (not (log.declared == 4096)) token (Limit 1 4097) now).1 in
+    let mid = (unless (not (log.declared == most_objects)) token (Limit bound.Objects) now).1 in
     spanning_joined log now _ (spanning_same log now refl)
-    (spanning_joined now mid _ (unless_spanning (not (log.declared == 4096)) token (Limit 1 4097) now) (unless_spanning (nat_lt 4194304 log.cells || nat_le all 4194304) token (Limit 2 all) mid))
+    (spanning_joined now mid _ (unless_spanning (not (log.declared == most_objects)) token (Limit bound.Objects) now) (unless_spanning (nat_lt most_cells log.cells || nat_le all most_cells) token (Limit bound.Cells) mid))
 
 abbrev pub spanning : Walk
 spanning = record {

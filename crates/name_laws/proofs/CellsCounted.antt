@@ -10,6 +10,7 @@ use Rattle.typed_tree.specs.Syntax.{Subtype}
 use Rattle.typed_tree.specs.declared.program.Field.{Field}
 use Rattle.name_rules.specs.Resolved.{dimension_bounds}
 use Rattle.name_rules.specs.Types.{array_cells, extent, saturated}
+use Rattle.name_rules.specs.Limits.{most_cells}
 use Rattle.name_rules.specs.declared.log.Dimension.{Dimension}
 
 -- ---- counts that stand still
@@ -17,7 +18,7 @@ use Rattle.name_rules.specs.declared.log.Dimension.{Dimension}
 pub saturated_sum : (a b : ℕ) → saturated (saturated a + saturated b) ≡ saturated (a + b)
 saturated_sum a b = omega arith
 
-pub saturated_least : (a : ℕ) → saturated a ≤ 4194304 → saturated a ≡ a
+pub saturated_least : (a : ℕ) → saturated a ≤ most_cells → saturated a ≡ a
 saturated_least a h = omega (arith, h)
 
 no_less : (e c : ℕ) → 0 < e → c ≤ e * c

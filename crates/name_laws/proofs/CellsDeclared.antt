@@ -16,6 +16,8 @@ use Rattle.name_laws.proofs.KeepsRanges.{k-static_range}
 use Rattle.syntax_tree.specs.FirstTokens as first_token
 use Rattle.name_rules.specs.Ranges as ranges
 use Rattle.name_rules.specs.Ranges.{Static}
+use Rattle.name_rules.specs.Limits.{most_dimensions}
+use Rattle.name_rules.specs.declared.log.Bound.TheVariants as bound
 use Rattle.name_rules.specs.declared.log.Rule.TheVariants.{StaticRange, WrongType}
 use Rattle.name_rules.specs.Types.{is_integer}
 use Rattle.name_rules.specs.Values.{is_number as is_numeric, suits}
@@ -230,11 +232,11 @@ array-written ds s log vs h r =
     }
 
 array-given : (at : ℕ) (ds : Dimensions) (s : Indicated) (log : Log) → HaveValues ds.dimensions → Sound log → IsRight (length log.shapes) s.known → Leaves IsIndicated log (d.array_given at ds s log)
-array-given at ds s log vs h r = by (nat_le (length ds.dimensions) 4)
+array-given at ds s log vs h r = by (nat_le (length ds.dimensions) most_dimensions)
   where
-    by : (b : Bool) → Leaves IsIndicated log ((if b then (d.array_written ds.dimensions s.known >>= λ t. pure (option_map (indicated (also_all ds.mentions s.part)) t)) else fault at (Limit 4 (length ds.dimensions))) log)
+    by : (b : Bool) → Leaves IsIndicated log ((if b then (d.array_written ds.dimensions s.known >>= λ t. pure (option_map (indicated (also_all ds.mentions s.part)) t)) else fault at (Limit bound.Dimensions)) log)
     by true = indicated-leaves (also_all ds.mentions s.part) log (d.array_written ds.dimensions s.known log) (array-written ds.dimensions s.known log vs h r)
-    by false = fault-leaves at (Limit 4 (length ds.dimensions)) log h
+    by false = fault-leaves at (Limit bound.Dimensions) log h
 
 abbrev HaveDimensions : Option Dimensions → Type 0
 HaveDimensions None = Unit {0}

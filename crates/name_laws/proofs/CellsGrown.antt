@@ -7,6 +7,8 @@ use Rattle.name_rules.specs.Declarations.{cells_counted}
 use Rattle.name_rules.specs.Judging.{unless}
 use Rattle.name_rules.specs.Resolved.{typed_field}
 use Rattle.name_rules.specs.Types.{saturated}
+use Rattle.name_rules.specs.Limits.{most_cells, most_objects}
+use Rattle.name_rules.specs.declared.log.Bound.TheVariants as bound
 use Rattle.name_rules.specs.declared.log.Field.{Field}
 use Rattle.name_rules.specs.declared.log.Log.{Log}
 use Rattle.name_rules.specs.declared.log.Rule.{Rule}
@@ -34,8 +36,8 @@ pub counted_shapes : (token cells : ℕ) (log : Log) → (cells_counted token ce
 counted_shapes token cells log =
     let all = saturated (log.cells + cells) in
     let now = record log { declared = log.declared + 1; cells = all } in
-    let mid = (unless (not (log.declared == 4096)) token (Limit 1 4097) now).1 in
-    unless_shapes (nat_lt 4194304 log.cells || nat_le all 4194304) token (Limit 2 all) mid ∙ unless_shapes (not (log.declared == 4096)) token (Limit 1 4097) now
+    let mid = (unless (not (log.declared == most_objects)) token (Limit bound.Objects) now).1 in
+    unless_shapes (nat_lt most_cells log.cells || nat_le all most_cells) token (Limit bound.Cells) mid ∙ unless_shapes (not (log.declared == most_objects)) token (Limit bound.Objects) now
 
 abbrev pub extending : Walk
 extending = record {

@@ -15,6 +15,7 @@ use Rattle.name_rules.specs.Scope.{declared, free, hidden_where}
 use Rattle.name_rules.specs.Symbols.{symbol}
 use Rattle.name_rules.specs.Types.{cells_of_shape, cells_in, in_base, number_of, saturated}
 use Rattle.name_rules.specs.TypedParts.{also_all}
+use Rattle.name_rules.specs.Limits.{most_cells, most_objects}
 use Rattle.name_rules.specs.declared.log.Field.{Field}
 use Rattle.name_rules.specs.declared.log.Log.{Log}
 use Rattle.name_rules.specs.declared.log.Rule.TheVariants.{StaticRange}
@@ -362,8 +363,8 @@ both-true : (a b : Bool) → a && b ≡ true → b ≡ true
 both-true true b e = e
 both-true false b e = absurd (true≢false (sym e))
 
-few-cells : (all cells : ℕ) → nat_le (saturated (all + cells)) 4194304 ≡ true → cells ≤ 4194304
-few-cells all cells e = omega (arith, leb-true (saturated (all + cells)) 4194304 e)
+few-cells : (all cells : ℕ) → nat_le (saturated (all + cells)) most_cells ≡ true → cells ≤ most_cells
+few-cells all cells e = omega (arith, leb-true (saturated (all + cells)) most_cells e)
 
 pub object-sound : (names : Names) (here : Context) (token : ℕ) (s : Subtype) (constant : Bool) (value : Option ℤ) (log : Log) → Sound log → IsRight (length log.shapes) s
     → (length log.shapes ≤ length (d.new_object names here token s constant value log).1.shapes) × Sound (d.new_object names here token s constant value log).1
@@ -377,9 +378,9 @@ object-sound names here token s constant value log h r =
     let q = right_later (length log.shapes) (length m.1.shapes) s (omega (arith, k.0, j.0)) r in
     let y = extends_joined log c.1 m.1 ((k-cells_counted extending token cells).at log) ((k-number_of extending s).at c.1) in
     let count : c.0 ≡ true → AllValues m.1.shapes → cells ≡ cells_of (table_of m.1.shapes) m.0 =
-    λ e v. let few = few-cells log.cells cells (both-true (nat_lt log.declared 4096) (nat_le (saturated (log.cells + cells)) 4194304) e) in
+    λ e v. let few = few-cells log.cells cells (both-true (nat_lt log.declared most_objects) (nat_le (saturated (log.cells + cells)) most_cells) e) in
     let same : cells ≡ saturated (cells_of (table_of m.1.shapes) m.0) = cells-same log m.1 s y r ∙ number_counted s m.0 m.1 j.1 q (is_number s c.1) v in
-    same ∙ saturated_least (cells_of (table_of m.1.shapes) m.0) (subst (λ n. n ≤ 4194304) same few) in
+    same ∙ saturated_least (cells_of (table_of m.1.shapes) m.0) (subst (λ n. n ≤ most_cells) same few) in
     let x = object-written names here token m.0 cells constant value m.1 c.0 j.1 (number_within s m.0 m.1 q (is_number s c.1)) count in
     (omega (arith, k.0, j.0, x.0), x.1)
 

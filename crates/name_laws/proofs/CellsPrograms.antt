@@ -11,7 +11,8 @@ use Rattle.name_rules.specs.Declarations.{all_ids}
 use Rattle.name_rules.specs.Judging.{joined}
 use Rattle.name_rules.specs.Programs as p
 use Rattle.name_rules.specs.Programs.{Declared', Profiled}
-use Rattle.name_rules.specs.Resolved.{depth_limit, fresh, judged}
+use Rattle.syntax_tree.specs.Parsed.{depth_limit}
+use Rattle.name_rules.specs.Resolved.{fresh, judged}
 use Rattle.name_rules.specs.Scope.{free, subtype_named}
 use Rattle.name_rules.specs.Statements.{around, body, no_decls, stmt}
 use Rattle.name_rules.specs.declared.log.Log.{Log}

@@ -10,6 +10,8 @@ use Rattle.name_rules.specs.Declarations.{cells_counted}
 use Rattle.name_rules.specs.Judging.{unless}
 use Rattle.name_rules.specs.Resolved.{typed_subtype}
 use Rattle.name_rules.specs.Types.{cells_in, cells_of_shape, dimensions_of, fields_of, saturated}
+use Rattle.name_rules.specs.Limits.{most_cells, most_objects}
+use Rattle.name_rules.specs.declared.log.Bound.TheVariants as bound
 use Rattle.name_rules.specs.declared.log.Field.{Field}
 use Rattle.name_rules.specs.declared.log.Log.{Log}
 use Rattle.name_rules.specs.declared.log.Rule.{Rule}
@@ -216,9 +218,9 @@ pub counted_next : (known token cells : ℕ) (log : Log) → Next known log (cel
 counted_next known token cells log =
     let all = saturated (log.cells + cells) in
     let now = record log { declared = log.declared + 1; cells = all } in
-    let mid = (unless (not (log.declared == 4096)) token (Limit 1 4097) now).1 in
+    let mid = (unless (not (log.declared == most_objects)) token (Limit bound.Objects) now).1 in
     next_joined known log now _ (next_same known log now refl refl)
-    (next_joined known now mid _ (unless_next known (not (log.declared == 4096)) token (Limit 1 4097) now) (unless_next known (nat_lt 4194304 log.cells || nat_le all 4194304) token (Limit 2 all) mid))
+    (next_joined known now mid _ (unless_next known (not (log.declared == most_objects)) token (Limit bound.Objects) now) (unless_next known (nat_lt most_cells log.cells || nat_le all most_cells) token (Limit bound.Cells) mid))
 
 -- what is written outside of declarations
 abbrev pub minding : ℕ → Walk

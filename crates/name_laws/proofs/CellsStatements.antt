@@ -7,6 +7,7 @@ use Rattle.syntax_tree.specs.FirstTokens as first_token
 use Rattle.name_rules.specs.Iterations.{entered}
 use Rattle.name_rules.specs.Parts.{name, new_site}
 use Rattle.name_rules.specs.Primaries.{inside}
+use Rattle.name_rules.specs.declared.log.Bound.TheVariants as bound
 use Rattle.name_rules.specs.declared.log.Rule.TheVariants.{Limit}
 use Rattle.name_rules.specs.declared.log.Log.{Log}
 use Rattle.name_rules.specs.declared.scope.Context.{Context}
@@ -260,7 +261,7 @@ minds names n f = record {
 
 c-stmt : (known : ℕ) (names : Names) (n : ℕ) (here : Context) (s : Stmt) → AreRight known here.scope → Keeps (minding known) (stmt names n here s)
 unfolding stmt
-c-stmt known names zero here s right = k-fault (minding known) (first_token.of_stmt s) (Limit 5 65)
+c-stmt known names zero here s right = k-fault (minding known) (first_token.of_stmt s) (Limit bound.Levels)
 c-stmt known names (suc n) here s right = c-stmt_form known (around names n (stmt names n)) here s (minds names n (λ k there r x. c-stmt k names n there x r)) right
 
 pub minds_around : (names : Names) (n : ℕ) → Minds (around names n (stmt names n))

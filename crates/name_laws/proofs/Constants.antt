@@ -9,8 +9,11 @@ use Rattle.typed_tree.specs.declared.program.Object.{Object}
 use Rattle.typed_tree.specs.declared.scalars.Class.TheVariants as class
 use Rattle.name_rules.specs.Declarations.{cells_counted}
 use Rattle.name_rules.specs.Judging.{unless}
-use Rattle.name_rules.specs.Resolved.{depth_limit, fresh, judged, typed_subtype}
+use Rattle.syntax_tree.specs.Parsed.{depth_limit}
+use Rattle.name_rules.specs.Resolved.{fresh, judged, typed_subtype}
 use Rattle.name_rules.specs.Types.{class_of, is_integer, lies_in, saturated, typed_scalar}
+use Rattle.name_rules.specs.Limits.{most_cells, most_objects}
+use Rattle.name_rules.specs.declared.log.Bound.TheVariants as bound
 use Rattle.name_rules.specs.declared.log.Log.{Log}
 use Rattle.name_rules.specs.declared.log.Rule.{Rule}
 use Rattle.name_rules.specs.declared.log.Rule.TheVariants.{Limit}
@@ -97,9 +100,9 @@ counted-grows : (token cells : ℕ) (log : Log) → Grows log (cells_counted tok
 counted-grows token cells log =
     let all = saturated (log.cells + cells) in
     let now = record log { declared = log.declared + 1; cells = all } in
-    let mid = (unless (not (log.declared == 4096)) token (Limit 1 4097) now).1 in
+    let mid = (unless (not (log.declared == most_objects)) token (Limit bound.Objects) now).1 in
     joined-grows log now _ (alike log now refl refl)
-    (joined-grows now mid _ (unless-grows (not (log.declared == 4096)) token (Limit 1 4097) now) (unless-grows (nat_lt 4194304 log.cells || nat_le all 4194304) token (Limit 2 all) mid))
+    (joined-grows now mid _ (unless-grows (not (log.declared == most_objects)) token (Limit bound.Objects) now) (unless-grows (nat_lt most_cells log.cells || nat_le all most_cells) token (Limit bound.Cells) mid))
 
 growing : Wide
 growing = record {

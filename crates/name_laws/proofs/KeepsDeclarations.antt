@@ -7,6 +7,8 @@ use Rattle.name_rules.specs.Ranges.{both_static, static_range, two_bounds}
 use Rattle.name_rules.specs.Scope.{as_scalar, declared, free, hidden_where, subtype_named}
 use Rattle.name_rules.specs.Types.{array_cells, cells_in, in_base, lies_in, number_of, wanted_of, written_shape}
 use Rattle.name_rules.specs.Values.{first_of, stored}
+use Rattle.name_rules.specs.Limits.{most_dimensions}
+use Rattle.name_rules.specs.declared.log.Bound.TheVariants as bound
 use Rattle.name_rules.specs.declared.log.Dimension.{Dimension}
 use Rattle.name_rules.specs.declared.log.Field.{Field}
 use Rattle.name_rules.specs.declared.log.Rule.TheVariants.{Limit, StaticRange, WrongType}
@@ -96,7 +98,7 @@ k-array_written wide ds s = record {
 }
 
 pub k-array_given : (wide : Wide) (x0 : ℕ) (x1 : Dimensions) (x2 : Indicated) → Keeps wide.walk (array_given x0 x1 x2)
-k-array_given wide at ds s = k-if wide.walk (nat_le (length ds.dimensions) 4) ((array_written ds.dimensions s.known >>= λ t. pure (option_map (indicated (also_all ds.mentions s.part)) t))) (fault at (Limit 4 (length ds.dimensions))) (k-bind wide.walk (array_written ds.dimensions s.known) (λ t. pure (option_map (indicated (also_all ds.mentions s.part)) t)) (k-array_written wide ds.dimensions s.known) (λ t. k-pure wide.walk (option_map (indicated (also_all ds.mentions s.part)) t))) (k-fault wide.walk at (Limit 4 (length ds.dimensions)))
+k-array_given wide at ds s = k-if wide.walk (nat_le (length ds.dimensions) most_dimensions) ((array_written ds.dimensions s.known >>= λ t. pure (option_map (indicated (also_all ds.mentions s.part)) t))) (fault at (Limit bound.Dimensions)) (k-bind wide.walk (array_written ds.dimensions s.known) (λ t. pure (option_map (indicated (also_all ds.mentions s.part)) t)) (k-array_written wide ds.dimensions s.known) (λ t. k-pure wide.walk (option_map (indicated (also_all ds.mentions s.part)) t))) (k-fault wide.walk at (Limit bound.Dimensions))
 
 pub k-array : (wide : Wide) (x0 : Names) (x1 : Inside) (x2 : Context) (x3 : Array) → wide.walk.Takes x0 → KeepsInside wide.walk x1 → Keeps wide.walk (array x0 x1 x2 x3)
 unfolding array

@@ -26,7 +26,7 @@ use Rattle.typed_tree.specs.declared.expressions.Sign.TheVariants as unary'
 use Rattle.std.specs.Prelude.{Bool, None, Option, Some, false, if◌then◌else◌, is_some, true, ℕ}
 use Rattle.typed_tree.specs.Decoded.{Part as TypedPart}
 use Rattle.name_rules.specs.Judging.{fault, given, joined, pure}
-use Rattle.name_rules.specs.Expressions.{Inside, factor, multiplying_op, multiplying, multiplied, term_form, term, adding, added, first_wanted, first_term, in_place, simple, comparison_of, blamed, rel, conjoined, joined_rels, short_operand, short_join, short_operands, short_form, expr, condition, value_for, judged_alone}
+use Rattle.name_rules.specs.Expressions.{Inside, factor, multiplying_op, multiplying, multiplied, term_form, term, adding, added, first_wanted, first_term, in_place, simple, blamed, rel, conjoined, joined_rels, short_operand, short_join, short_operands, short_form, expr, condition, value_for, judged_alone}
 use Rattle.name_laws.proofs.Walk.{Walk, Keeps, k-pure, k-some, k-bind, k-fault, k-if, k-given}
 use Rattle.name_laws.proofs.Walked.{KeepsInside}
 use Rattle.name_laws.proofs.KeepsOperators.{k-binary, k-compared, k-joined_text, k-logical, k-membership, k-not_of, k-of_subtype, k-plain, k-power, k-unary}
@@ -109,7 +109,7 @@ k-rel walk names level here want (syntax.Compared left c at right) keeps1 keeps2
       let y = out2.0 in
       walk.joins _ _ _ ((k-simple walk level here wanted.Other left keeps2).at log)
       (walk.joins _ _ _ ((k-simple walk level here wanted.Other right keeps2).at out1.1)
-      ((k-compared walk (comparison_of c) at x y).at out2.1));
+      ((k-compared walk c at x y).at out2.1));
 }
 k-rel walk names level here want (syntax.Within value negation at low high) keeps1 keeps2 = record {
   at = λ log.

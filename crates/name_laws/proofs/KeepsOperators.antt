@@ -14,7 +14,7 @@ use Rattle.typed_tree.specs.Syntax as typed
 use Rattle.typed_tree.specs.declared.expressions.Sign.TheVariants as unary'
 use Rattle.typed_tree.specs.declared.expressions.Sign.{Sign as Unary}
 use Rattle.typed_tree.specs.declared.scalars.Class.TheVariants as class
-use Rattle.typed_tree.specs.declared.scalars.Comparison.{Comparison as TypedComparison}
+use Rattle.ada_base.specs.declared.operation.Comparison.{Comparison}
 use Rattle.std.specs.Prelude.{Bool, None, Option, Some, false, if◌then◌else◌, not, option_map, ℕ, ℤ, ◌&&◌}
 use Rattle.name_rules.specs.TypedParts.{also_all}
 use Rattle.typed_tree.specs.Decoded.{Part as TypedPart, as_expr}
@@ -163,7 +163,7 @@ pub k-logical : (walk : Walk) (x0 : Op) (x1 : ℕ) (x2 : Option Found) (x3 : Opt
 unfolding logical
 k-logical walk o at x y = k-both walk x y (λ a b. if is_kind kind.Boolean (kind_of a.known) && is_kind kind.Boolean (kind_of b.known) then operation_on o at kind.Boolean kind.Boolean a b else fault at WrongType) (λ a b. k-if walk (is_kind kind.Boolean (kind_of a.known) && is_kind kind.Boolean (kind_of b.known)) (operation_on o at kind.Boolean kind.Boolean a b) (fault at WrongType) (k-operation_on walk o at kind.Boolean kind.Boolean a b) (k-fault walk at WrongType))
 
-pub k-compared_at : (walk : Walk) (x0 : Kind) (x1 : TypedComparison) (x2 : Found) (x3 : Found) → Keeps walk (compared_at x0 x1 x2 x3)
+pub k-compared_at : (walk : Walk) (x0 : Kind) (x1 : Comparison) (x2 : Found) (x3 : Found) → Keeps walk (compared_at x0 x1 x2 x3)
 unfolding compared_at
 k-compared_at walk k c a b = record {
   at = λ log.
@@ -176,10 +176,10 @@ k-compared_at walk k c a b = record {
       ((k-both walk x y (λ e f. some (scalar (first_of a.known) kind.Boolean None (typed.Relation (class_of k) c (as_expr e) (as_expr f)))) (λ e f. k-some walk (scalar (first_of a.known) kind.Boolean None (typed.Relation (class_of k) c (as_expr e) (as_expr f))))).at out2.1));
 }
 
-pub k-compared_by : (walk : Walk) (x0 : TypedComparison) (x1 : ℕ) (x2 : Found) (x3 : Found) (x4 : Kind) → Keeps walk (compared_by x0 x1 x2 x3 x4)
+pub k-compared_by : (walk : Walk) (x0 : Comparison) (x1 : ℕ) (x2 : Found) (x3 : Found) (x4 : Kind) → Keeps walk (compared_by x0 x1 x2 x3 x4)
 k-compared_by walk c at a b k = k-if walk (suits k a.known && suits k b.known) (compared_at k c a b) (fault at WrongType) (k-compared_at walk k c a b) (k-fault walk at WrongType)
 
-pub k-compared : (walk : Walk) (x0 : TypedComparison) (x1 : ℕ) (x2 : Option Found) (x3 : Option Found) → Keeps walk (compared x0 x1 x2 x3)
+pub k-compared : (walk : Walk) (x0 : Comparison) (x1 : ℕ) (x2 : Option Found) (x3 : Option Found) → Keeps walk (compared x0 x1 x2 x3)
 unfolding compared
 k-compared walk c at x y = k-both walk x y (λ a b. compared_by c at a b (common_kind (kind_of a.known) (kind_of b.known))) (λ a b. k-compared_by walk c at a b (common_kind (kind_of a.known) (kind_of b.known)))
 

@@ -10,6 +10,7 @@ use Rattle.name_rules.specs.Symbols.{number, text}
 use Rattle.name_rules.specs.Values.{asked, composite_asked, kind_of, mentions_of, value_of}
 use Rattle.name_rules.specs.declared.found.Found.TheVariants as known
 use Rattle.name_rules.specs.declared.found.Found.{Found as Known}
+use Rattle.name_rules.specs.declared.log.Bound.TheVariants as bound
 use Rattle.name_rules.specs.declared.log.Rule.TheVariants.{Limit, NotVisible, WrongType}
 use Rattle.name_rules.specs.declared.scope.Context.{Context}
 use Rattle.name_rules.specs.declared.scope.Names.{Names}
@@ -143,9 +144,9 @@ pub k-level_above : (walk : Walk) (names : Names) (level : Inside) → walk.Take
 k-level_above walk names level t h = record { primary = λ here p want. k-primary walk names level here p want t h; name = λ here n. k-name walk names level here n t h }
 
 pub k-too_deep : (walk : Walk) (A : Type 0) (at : ℕ) → Keeps walk (too_deep {A = A} at)
-k-too_deep walk A at = k-fault walk at (Limit 5 65)
+k-too_deep walk A at = k-fault walk at (Limit bound.Levels)
 
 pub k-inside : (walk : Walk) (names : Names) (n : ℕ) → walk.Takes names → KeepsInside walk (inside names n)
 unfolding inside
-k-inside walk names zero t = record { primary = λ here p want. k-fault walk (first_token.of_primary p) (Limit 5 65); name = λ here n. k-fault walk (first_token.of_name n) (Limit 5 65) }
+k-inside walk names zero t = record { primary = λ here p want. k-fault walk (first_token.of_primary p) (Limit bound.Levels); name = λ here n. k-fault walk (first_token.of_name n) (Limit bound.Levels) }
 k-inside walk names (suc n) t = k-level_above walk names (inside names n) t (k-inside walk names n t)

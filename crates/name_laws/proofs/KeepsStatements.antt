@@ -16,6 +16,8 @@ use Rattle.name_rules.specs.declared.found.Denoted.TheVariants as denoted
 use Rattle.name_rules.specs.declared.found.Denoted.{Denoted as KnownDenoted}
 use Rattle.name_rules.specs.declared.found.Found.TheVariants as known
 use Rattle.name_rules.specs.declared.found.Place.{Place}
+use Rattle.name_rules.specs.Limits.{most_arms}
+use Rattle.name_rules.specs.declared.log.Bound.TheVariants as bound
 use Rattle.name_rules.specs.declared.log.Rule.TheVariants.{ChunkRule, Limit, NotVisible, WrongEnd, WrongType}
 use Rattle.name_rules.specs.declared.scope.Context.{Context}
 use Rattle.name_rules.specs.declared.scope.LoopName.{LoopName}
@@ -328,7 +330,7 @@ unfolding block
 k-block wide a here d b keeps1 = k-bind wide.walk (declarations a.names a.level (length here.scope) here (Some no_decls) (block_decls d)) (λ r. block_of a r.0 r.1 b) (k-declarations wide a.names a.level (length here.scope) here (Some no_decls) (block_decls d) keeps1.names keeps1.level) (λ r. k-block_of wide.walk a r.0 r.1 b keeps1)
 
 pub k-arm_limit : (walk : Walk) (x0 : ℕ) (x1 : ℕ) → Keeps walk (arm_limit x0 x1)
-k-arm_limit walk at n = k-unless walk (nat_le n 4096) at (Limit 3 n)
+k-arm_limit walk at n = k-unless walk (nat_le n most_arms) at (Limit bound.Arms)
 
 pub k-count_where : (walk : Walk) (x0 : Inside) (x1 : Context) (x2 : Option Simple) → KeepsInside walk x0 → Keeps walk (count_where x0 x1 x2)
 k-count_where walk inner here None keeps1 = k-some walk part.Nothing
@@ -369,7 +371,7 @@ k-stmt_form wide a here (syntax.ParallelBlock at e s t more) keeps1 = k-parallel
 
 pub k-stmt : (wide : Wide) (names : Names) (n : ℕ) (here : Context) (s : Stmt) → wide.walk.Takes names → Keeps wide.walk (stmt names n here s)
 unfolding stmt
-k-stmt wide names zero here s t = k-fault wide.walk (first_token.of_stmt s) (Limit 5 65)
+k-stmt wide names zero here s t = k-fault wide.walk (first_token.of_stmt s) (Limit bound.Levels)
 k-stmt wide names (suc n) here s t = k-stmt_form wide (around names n (stmt names n)) here s
     (record { names = t; level = k-level_above wide.walk names (inside names n) t (k-inside wide.walk names n t); inner = k-inside wide.walk names n t; within = λ there x. k-stmt wide names n there x t })
 

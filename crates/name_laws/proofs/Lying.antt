@@ -11,7 +11,10 @@ use Rattle.typed_tree.specs.declared.program.Object.{Object}
 use Rattle.name_rules.specs.Declarations.{cells_counted, first_room, room}
 use Rattle.name_rules.specs.Judging.{joined, unless}
 use Rattle.name_rules.specs.Programs as p
-use Rattle.name_rules.specs.Resolved.{depth_limit, fresh, judged, typed_by, typed_where}
+use Rattle.syntax_tree.specs.Parsed.{depth_limit}
+use Rattle.name_rules.specs.Resolved.{fresh, judged, typed_by, typed_where}
+use Rattle.name_rules.specs.Limits.{most_cells, most_objects}
+use Rattle.name_rules.specs.declared.log.Bound.TheVariants as bound
 use Rattle.name_rules.specs.declared.log.Fault.{Fault}
 use Rattle.name_rules.specs.Statements.{no_decls}
 use Rattle.name_rules.specs.Types.{saturated}
@@ -58,8 +61,8 @@ counted-objects : (token cells : ℕ) (log : Log) → (cells_counted token cells
 counted-objects token cells log =
     let all = saturated (log.cells + cells) in
     let now = record log { declared = log.declared + 1; cells = all } in
-    let mid = (unless (not (log.declared == 4096)) token (Limit 1 4097) now).1 in
-    unless-objects (nat_lt 4194304 log.cells || nat_le all 4194304) token (Limit 2 all) mid ∙ unless-objects (not (log.declared == 4096)) token (Limit 1 4097) now
+    let mid = (unless (not (log.declared == most_objects)) token (Limit bound.Objects) now).1 in
+    unless-objects (nat_lt most_cells log.cells || nat_le all most_cells) token (Limit bound.Cells) mid ∙ unless-objects (not (log.declared == most_objects)) token (Limit bound.Objects) now
 
 lying : ℕ → Wide
 lying subs = record {

@@ -26,6 +26,8 @@ use Rattle.name_rules.specs.Types.{array_cells, cells_in, in_base, is_integer, l
 use Rattle.name_rules.specs.Values.{asked, first_of, is_number, static_value, stored, suits, value_of}
 use Rattle.name_rules.specs.declared.found.Denoted.TheVariants as denoted
 use Rattle.name_rules.specs.declared.found.Denoted.{Denoted as KnownDenoted}
+use Rattle.name_rules.specs.Limits.{most_dimensions}
+use Rattle.name_rules.specs.declared.log.Bound.TheVariants as bound
 use Rattle.name_rules.specs.declared.log.Dimension.{Dimension}
 use Rattle.name_rules.specs.declared.log.Field.{Field}
 use Rattle.name_rules.specs.declared.log.Log.{Log}
@@ -195,9 +197,9 @@ m-array_written ds s h =
 
 m-array_given : (at : ℕ) (ds : Dimensions) (s : Indicated) → DimensionsOf ds → Makes (Maybe IndicatedOf) (d.array_given at ds s)
 m-array_given at ds s h =
-    m-if (Maybe IndicatedOf) (nat_le (length ds.dimensions) 4) _ (fault at (Limit 4 (length ds.dimensions)))
+    m-if (Maybe IndicatedOf) (nat_le (length ds.dimensions) most_dimensions) _ (fault at (Limit bound.Dimensions))
     (m-bind (Maybe IsBased) (Maybe IndicatedOf) (d.array_written ds.dimensions s.known) _ (m-array_written ds.dimensions s.known h) (λ t q.
-    m-pure (Maybe IndicatedOf) (option_map (indicated (also_all ds.mentions s.part)) t) (mapped IsBased IndicatedOf (indicated (also_all ds.mentions s.part)) t q (λ x p. p)))) (m-fault IndicatedOf at (Limit 4 (length ds.dimensions)))
+    m-pure (Maybe IndicatedOf) (option_map (indicated (also_all ds.mentions s.part)) t) (mapped IsBased IndicatedOf (indicated (also_all ds.mentions s.part)) t q (λ x p. p)))) (m-fault IndicatedOf at (Limit bound.Dimensions))
 
 m-array : (names : Names) (level : Inside) (here : Context) (a : Array) → LevelFits level → AreBased here.scope → Makes (Maybe IndicatedOf) (d.array names level here a)
 unfolding d.array

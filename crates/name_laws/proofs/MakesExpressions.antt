@@ -12,7 +12,7 @@ use Rattle.syntax_tree.specs.declared.operators.Sign.{Sign as Signed}
 use Rattle.syntax_tree.specs.declared.operators.Sign.TheVariants as sign
 use Rattle.typed_tree.specs.Decoded.{Part}
 use Rattle.typed_tree.specs.declared.expressions.Sign.TheVariants as unary'
-use Rattle.name_rules.specs.Expressions.{Inside, added, adding, blamed, comparison_of, condition, conjoined, expr, factor, first_term, first_wanted, in_place, joined_rels, judged_alone, multiplied, multiplying, multiplying_op, rel, short_form, short_found, short_join, short_operand, short_operands, simple, term, value_for}
+use Rattle.name_rules.specs.Expressions.{Inside, added, adding, blamed, condition, conjoined, expr, factor, first_term, first_wanted, in_place, joined_rels, judged_alone, multiplied, multiplying, multiplying_op, rel, short_form, short_found, short_join, short_operand, short_operands, simple, term, value_for}
 use Rattle.name_rules.specs.Found.{Found}
 use Rattle.name_rules.specs.Judging.{fault, given, joined}
 use Rattle.name_rules.specs.Operators.{binary, joined_text, logical, not_of, plain, unary}
@@ -105,7 +105,7 @@ unfolding rel
 m-rel names level here want (syntax.Alone s) l r = m-simple level here want s l r
 m-rel names level here want (syntax.Compared left c at right) l r =
     m-bind Finding Finding (simple level here wanted.Other left) _ (m-simple level here wanted.Other left l r) (λ x p.
-    m-bind Finding Finding (simple level here wanted.Other right) _ (m-simple level here wanted.Other right l r) (λ y q. m-compared (comparison_of c) at x y p q))
+    m-bind Finding Finding (simple level here wanted.Other right) _ (m-simple level here wanted.Other right l r) (λ y q. m-compared c at x y p q))
 m-rel names level here want (syntax.Within value negation at low high) l r =
     m-bind Finding Finding (simple level here wanted.Other value) _ (m-simple level here wanted.Other value l r) (λ x p.
     m-bind Finding Finding (simple level here wanted.Other low) _ (m-simple level here wanted.Other low l r) (λ y q.

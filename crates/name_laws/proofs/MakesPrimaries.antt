@@ -38,6 +38,7 @@ use Rattle.name_rules.specs.declared.found.Limits.{Limits}
 use Rattle.name_rules.specs.declared.found.Place.{Place}
 use Rattle.name_rules.specs.declared.found.Prefix.TheVariants as prefix
 use Rattle.name_rules.specs.declared.found.Prefix.{Prefix}
+use Rattle.name_rules.specs.declared.log.Bound.TheVariants as bound
 use Rattle.name_rules.specs.declared.log.Rule.TheVariants.{Limit, NotVisible, ReduceRule, Unknown, WrongType}
 use Rattle.name_rules.specs.declared.scope.Context.{Context}
 use Rattle.name_rules.specs.declared.scope.Names.{Names}
@@ -371,7 +372,7 @@ pub inside-fits : (names : Names) (n : ℕ) → LevelFits (primaries.inside name
 unfolding primaries.inside
 inside-fits names zero = record {
   keeps = k-inside spanning names zero tt;
-  primary = λ here p want r. m-fault FoundOf (first_token.of_primary p) (Limit 5 65);
-  name = λ here x r. m-fault DenotedOf (first_token.of_name x) (Limit 5 65);
+  primary = λ here p want r. m-fault FoundOf (first_token.of_primary p) (Limit bound.Levels);
+  name = λ here x r. m-fault DenotedOf (first_token.of_name x) (Limit bound.Levels);
 }
 inside-fits names (suc n) = above-fits names (primaries.inside names n) (k-inside spanning names (suc n) tt) (inside-fits names n)

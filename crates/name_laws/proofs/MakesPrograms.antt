@@ -18,7 +18,8 @@ use Rattle.name_rules.specs.Judging.{◌>>=◌, joined, pure, unless}
 use Rattle.name_rules.specs.Primaries.{inside}
 use Rattle.name_rules.specs.Programs as p
 use Rattle.name_rules.specs.Programs.{Declared', Profiled, Whole}
-use Rattle.name_rules.specs.Resolved.{depth_limit, dimension_bounds, fresh, judged, typed_subtype}
+use Rattle.syntax_tree.specs.Parsed.{depth_limit}
+use Rattle.name_rules.specs.Resolved.{dimension_bounds, fresh, judged, typed_subtype}
 use Rattle.name_rules.specs.Scope.{free, subtype_named}
 use Rattle.name_rules.specs.Statements.{around, body, no_decls, stmt}
 use Rattle.name_rules.specs.Types.{in_base}

@@ -31,6 +31,7 @@ use Rattle.name_rules.specs.declared.found.Denoted.TheVariants as denoted
 use Rattle.name_rules.specs.declared.found.Denoted.{Denoted as KnownDenoted}
 use Rattle.name_rules.specs.declared.found.Found.TheVariants as known
 use Rattle.name_rules.specs.declared.found.Place.{Place}
+use Rattle.name_rules.specs.declared.log.Bound.TheVariants as bound
 use Rattle.name_rules.specs.declared.log.Rule.TheVariants.{Limit, NotVisible, WrongType}
 use Rattle.name_rules.specs.declared.scope.Context.{Context}
 use Rattle.name_rules.specs.declared.scope.LoopName.{LoopName}
@@ -406,7 +407,7 @@ around-by names n f = record { level = level-fits names n; inner = inside-fits n
 
 m-stmt : (names : Names) (n : ℕ) (here : Context) (x : Stmt) → AreBased here.scope → Makes (Maybe StmtOf) (stmt names n here x)
 unfolding stmt
-m-stmt names zero here x r = m-fault StmtOf (first_token.of_stmt x) (Limit 5 65)
+m-stmt names zero here x r = m-fault StmtOf (first_token.of_stmt x) (Limit bound.Levels)
 m-stmt names (suc n) here x r = m-stmt_form (around names n (stmt names n)) here x (around-by names n (λ there y q. m-stmt names n there y q)) r
 
 pub around-fits : (names : Names) (n : ℕ) → AroundFits (around names n (stmt names n))

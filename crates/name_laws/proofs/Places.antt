@@ -8,6 +8,8 @@ use Rattle.name_rules.specs.Declarations.{cells_counted}
 use Rattle.name_rules.specs.Judging.{joined, unless}
 use Rattle.name_rules.specs.Programs as p
 use Rattle.name_rules.specs.Types.{saturated}
+use Rattle.name_rules.specs.Limits.{most_cells, most_objects}
+use Rattle.name_rules.specs.declared.log.Bound.TheVariants as bound
 use Rattle.name_rules.specs.declared.log.Log.{Log}
 use Rattle.name_rules.specs.declared.log.Rule.{Rule}
 use Rattle.name_rules.specs.declared.log.Rule.TheVariants.{Limit}
@@ -30,8 +32,8 @@ pub counted-profiles : (token cells : ℕ) (log : Log) → (cells_counted token 
 counted-profiles token cells log =
     let all = saturated (log.cells + cells) in
     let now = record log { declared = log.declared + 1; cells = all } in
-    let mid = (unless (not (log.declared == 4096)) token (Limit 1 4097) now).1 in
-    unless-profiles (nat_lt 4194304 log.cells || nat_le all 4194304) token (Limit 2 all) mid ∙ unless-profiles (not (log.declared == 4096)) token (Limit 1 4097) now
+    let mid = (unless (not (log.declared == most_objects)) token (Limit bound.Objects) now).1 in
+    unless-profiles (nat_lt most_cells log.cells || nat_le all most_cells) token (Limit bound.Cells) mid ∙ unless-profiles (not (log.declared == most_objects)) token (Limit bound.Objects) now
 
 -- profiles stay as they are
 abbrev pub steady : Wide

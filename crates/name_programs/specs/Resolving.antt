@@ -27,7 +27,7 @@ fault_of (told.NotStatic at) = at_rule at rule.NotStatic
 fault_of (told.StaticRange at) = at_rule at rule.StaticRange
 fault_of (told.ChunkRule at) = at_rule at rule.ChunkRule
 fault_of (told.ReduceRule at) = at_rule at rule.ReduceRule
-fault_of (told.LimitPassed which count at) = at_rule at (rule.Limit which count)
+fault_of (told.LimitPassed bound at) = at_rule at (rule.Limit bound)
 fault_of told.OutOfMemory = None
 
 -- the fault of a program that is told: the least one, and of several such the first

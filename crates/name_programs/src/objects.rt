@@ -24,7 +24,8 @@ use crate::text::Text;
 use ada_base::Items;
 use name_expressions::expressions::{expr, judged_alone};
 use name_expressions::scene::Scene;
-use name_rules::log::{Log, Rule};
+use name_rules::limits::{MOST_CELLS, MOST_OBJECTS};
+use name_rules::log::{Bound, Log, Rule};
 use name_rules::scope::{Context, Names, What};
 use name_rules::types::Subtype;
 use name_values::attempt;
@@ -98,23 +99,17 @@ pub fn cells_counted(log: &mut Log, token: u32, cells: u64) -> Result<bool, Allo
     log.cells = all;
     attempt!(unless(
         log,
-        !(declared == 4096),
+        !(declared == MOST_OBJECTS),
         token,
-        Rule::Limit {
-            which: 1,
-            count: 4097,
-        },
+        Rule::Limit { of: Bound::Objects },
     ));
     attempt!(unless(
         log,
-        4_194_304 < before || all <= 4_194_304,
+        MOST_CELLS < before || all <= MOST_CELLS,
         token,
-        Rule::Limit {
-            which: 2,
-            count: all,
-        },
+        Rule::Limit { of: Bound::Cells },
     ));
-    Ok(declared < 4096 && all <= 4_194_304)
+    Ok(declared < MOST_OBJECTS && all <= MOST_CELLS)
 }
 
 /// Writes an object of so many cells into the table of objects, and gives its number.

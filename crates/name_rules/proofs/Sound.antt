@@ -4,7 +4,7 @@ use Rattle.std.proofs.lemmas.Grind.{common_steps}
 use Rattle.ada_base.specs.declared.operation.Op.{Op}
 use Rattle.typed_tree.specs.Decoded.{Part}
 use Rattle.typed_tree.specs.Syntax.{Expr, Selections}
-use Rattle.typed_tree.specs.declared.scalars.Comparison.{Comparison}
+use Rattle.ada_base.specs.declared.operation.Comparison.{Comparison}
 use Rattle.name_rules.specs.Found.{Found}
 use Rattle.name_rules.specs.Judging.{Judging, ◌>>=◌, given, both, fault, some}
 use Rattle.name_rules.specs.Types.{same, is_integer, in_base}

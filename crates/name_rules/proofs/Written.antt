@@ -2,7 +2,7 @@
 use Rattle.std.proofs.Common.{ℕ, List, [], ◌∷◌, Option, None, pos, map}
 use Rattle.syntax_tree.specs.Syntax as s
 use Rattle.syntax_tree.specs.declared.operators.Additive.TheVariants as additive
-use Rattle.syntax_tree.specs.declared.operators.Comparison.TheVariants as comparison
+use Rattle.ada_base.specs.declared.operation.Comparison.TheVariants as comparison
 use Rattle.name_rules.specs.Resolved.{judged}
 use Rattle.name_rules.specs.declared.log.Fault.{Fault}
 use Rattle.name_rules.specs.declared.log.Rule.{Rule}

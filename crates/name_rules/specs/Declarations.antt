@@ -11,6 +11,8 @@ use Rattle.name_rules.specs.Symbols.{symbol}
 use Rattle.name_rules.specs.Types.{array_cells, cells_in, in_base, is_integer, lies_in, number_of, saturated, wanted_of, written_shape}
 use Rattle.name_rules.specs.Values.{first_of, mentions_of, static_integer, stored, value_of}
 use Rattle.name_rules.specs.declared.found.Found.{Found as Known}
+use Rattle.name_rules.specs.Limits.{most_cells, most_dimensions, most_objects}
+use Rattle.name_rules.specs.declared.log.Bound.TheVariants as bound
 use Rattle.name_rules.specs.declared.log.Dimension.{Dimension}
 use Rattle.name_rules.specs.declared.log.Field.{Field}
 use Rattle.name_rules.specs.declared.log.Rule.TheVariants.{Limit, StaticRange, WrongType}
@@ -101,8 +103,8 @@ array_written ds s = do
 -- E12: more than four dimensions, at the word `array`
 abbrev pub array_given : ℕ → Dimensions → Indicated → Judging (Option Indicated)
 array_given at ds s =
-    if nat_le (length ds.dimensions) 4 then (array_written ds.dimensions s.known >>= λ t. pure (option_map (indicated (also_all ds.mentions s.part)) t))
-    else fault at (Limit 4 (length ds.dimensions))
+    if nat_le (length ds.dimensions) most_dimensions then (array_written ds.dimensions s.known >>= λ t. pure (option_map (indicated (also_all ds.mentions s.part)) t))
+    else fault at (Limit bound.Dimensions)
 
 unfoldable pub array : Names → Inside → Context → Array → Judging (Option Indicated)
 array names level here a = do
@@ -214,9 +216,9 @@ first_room names owner = if nat_lt names.subs owner then 4 else 0
 abbrev pub cells_counted : ℕ → ℕ → Judging Bool
 cells_counted token cells = λ log.
     let all = saturated (log.cells + cells) in
-    (unless (not (log.declared == 4096)) token (Limit 1 4097) >>= λ u.
-    unless (nat_lt 4194304 log.cells || nat_le all 4194304) token (Limit 2 all) >>= λ v.
-    pure (nat_lt log.declared 4096 && nat_le all 4194304)) (record log { declared = log.declared + 1; cells = all })
+    (unless (not (log.declared == most_objects)) token (Limit bound.Objects) >>= λ u.
+    unless (nat_lt most_cells log.cells || nat_le all most_cells) token (Limit bound.Cells) >>= λ v.
+    pure (nat_lt log.declared most_objects && nat_le all most_cells)) (record log { declared = log.declared + 1; cells = all })
 
 abbrev pub object_written : Names → Context → ℕ → ℕ → ℕ → Bool → Option ℤ → Judging ℕ
 object_written names here token n cells constant value = λ log.

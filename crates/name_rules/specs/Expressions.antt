@@ -20,8 +20,7 @@ use Rattle.name_rules.specs.declared.types.Wanted.{Wanted}
 use Rattle.syntax_tree.specs.Syntax as syntax
 use Rattle.syntax_tree.specs.Syntax.{Adding, Addings, Conjuncts, Expr, Factor, Multiplying, Multiplyings, Name, Primary, Rel, Simple, Term}
 use Rattle.syntax_tree.specs.declared.operators.Additive.TheVariants as additive
-use Rattle.syntax_tree.specs.declared.operators.Comparison.TheVariants as comparison
-use Rattle.syntax_tree.specs.declared.operators.Comparison.{Comparison}
+use Rattle.ada_base.specs.declared.operation.Comparison.{Comparison}
 use Rattle.syntax_tree.specs.declared.operators.Logical.TheVariants as logical'
 use Rattle.syntax_tree.specs.declared.operators.Multiplicative.TheVariants as multiplicative
 use Rattle.syntax_tree.specs.declared.operators.Multiplicative.{Multiplicative}
@@ -31,8 +30,6 @@ use Rattle.typed_tree.specs.Decoded as part
 use Rattle.typed_tree.specs.Syntax as typed
 use Rattle.typed_tree.specs.Syntax.{Expr as TypedExpr}
 use Rattle.typed_tree.specs.declared.expressions.Sign.TheVariants as unary'
-use Rattle.typed_tree.specs.declared.scalars.Comparison.TheVariants as comparison'
-use Rattle.typed_tree.specs.declared.scalars.Comparison.{Comparison as TypedComparison}
 use Rattle.std.specs.Prelude.{Bool, None, Option, Some, false, if◌then◌else◌, is_some, option_map, true, ℕ}
 use Rattle.typed_tree.specs.Decoded.{Part as TypedPart, as_expr}
 
@@ -109,14 +106,6 @@ simple level here want (syntax.Sum s t as') = do
 
 -- ---- relations and logical operators
 
-abbrev pub comparison_of : Comparison → TypedComparison
-comparison_of comparison.Equal = comparison'.Equal
-comparison_of comparison.Unequal = comparison'.Unequal
-comparison_of comparison.Less = comparison'.Less
-comparison_of comparison.AtMost = comparison'.AtMost
-comparison_of comparison.Greater = comparison'.Greater
-comparison_of comparison.AtLeast = comparison'.AtLeast
-
 -- `not in` is blamed at `not`
 abbrev pub blamed : Option ℕ → ℕ → ℕ
 blamed None at = at
@@ -127,7 +116,7 @@ rel names level here want (syntax.Alone s) = simple level here want s
 rel names level here want (syntax.Compared left c at right) = do
   x ← simple level here wanted.Other left
   y ← simple level here wanted.Other right
-  compared (comparison_of c) at x y
+  compared c at x y
 rel names level here want (syntax.Within value negation at low high) = do
   x ← simple level here wanted.Other value
   l ← simple level here wanted.Other low

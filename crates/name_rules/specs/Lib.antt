@@ -1,4 +1,5 @@
 pub mod Found
+pub mod Limits
 pub mod Judges
 pub mod Judging
 pub mod Symbols

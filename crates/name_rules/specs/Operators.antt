@@ -20,7 +20,7 @@ use Rattle.typed_tree.specs.Syntax.{Expr as TypedExpr}
 use Rattle.typed_tree.specs.declared.expressions.Sign.TheVariants as unary'
 use Rattle.typed_tree.specs.declared.expressions.Sign.{Sign as Unary}
 use Rattle.typed_tree.specs.declared.scalars.Class.TheVariants as class
-use Rattle.typed_tree.specs.declared.scalars.Comparison.{Comparison as TypedComparison}
+use Rattle.ada_base.specs.declared.operation.Comparison.{Comparison}
 use Rattle.std.specs.Prelude.{Bool, None, Option, Some, false, if◌then◌else◌, neg_ℤ, not, option_map, pos, unsigned_abs, ℕ, ℤ, ◌&&◌}
 use Rattle.name_rules.specs.TypedParts.{also_all, exprs_of}
 use Rattle.typed_tree.specs.Decoded.{Part as TypedPart, as_expr}
@@ -204,7 +204,7 @@ logical o at x y = both x y (λ a b. if is_kind kind.Boolean (kind_of a.known) &
 
 -- ---- relations (4.5.2) take scalars of one type
 
-unfoldable pub compared_at : Kind → TypedComparison → Found → Found → Judging (Option Found)
+unfoldable pub compared_at : Kind → Comparison → Found → Found → Judging (Option Found)
 compared_at k c a b = do
   x ← asked k a
   y ← asked k b
@@ -216,10 +216,10 @@ common_kind (Some k) j = k
 common_kind None (Some k) = k
 common_kind None None = kind.Integer
 
-abbrev pub compared_by : TypedComparison → ℕ → Found → Found → Kind → Judging (Option Found)
+abbrev pub compared_by : Comparison → ℕ → Found → Found → Kind → Judging (Option Found)
 compared_by c at a b k = if suits k a.known && suits k b.known then compared_at k c a b else fault at WrongType
 
-unfoldable pub compared : TypedComparison → ℕ → Option Found → Option Found → Judging (Option Found)
+unfoldable pub compared : Comparison → ℕ → Option Found → Option Found → Judging (Option Found)
 compared c at x y = both x y (λ a b. compared_by c at a b (common_kind (kind_of a.known) (kind_of b.known)))
 
 -- ---- membership (4.5.2)

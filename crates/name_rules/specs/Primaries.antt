@@ -14,6 +14,7 @@ use Rattle.name_rules.specs.Values.{asked, composite_asked, joint, kind_of, ment
 use Rattle.name_rules.specs.declared.found.Found.TheVariants as known
 use Rattle.name_rules.specs.declared.found.Found.{Found as Known}
 use Rattle.name_rules.specs.declared.found.Limits.{Limits}
+use Rattle.name_rules.specs.declared.log.Bound.TheVariants as bound
 use Rattle.name_rules.specs.declared.log.Rule.TheVariants.{Limit, NotVisible, WrongType}
 use Rattle.name_rules.specs.declared.scope.Context.{Context}
 use Rattle.name_rules.specs.declared.scope.Names.{Names}
@@ -195,7 +196,7 @@ level_above names inside = record { primary = primary names inside; name = name 
 
 -- E12: the limit of depth, beyond which nothing is judged
 abbrev pub too_deep : {A : Type 0} → ℕ → Judging (Option A)
-too_deep at = fault at (Limit 5 65)
+too_deep at = fault at (Limit bound.Levels)
 
 abbrev pub deep : Inside
 deep = record { primary = λ here p want. too_deep (first_token.of_primary p); name = λ here n. too_deep (first_token.of_name n) }

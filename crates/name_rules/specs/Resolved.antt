@@ -1,6 +1,7 @@
 -- The faults of a program, its typed program, and the least fault.
 use Rattle.name_rules.specs.Programs.{Whole, program}
 use Rattle.name_rules.specs.Types.{typed_scalar}
+use Rattle.name_rules.specs.declared.log.Bound.TheVariants as bound
 use Rattle.name_rules.specs.declared.log.Dimension.{Dimension}
 use Rattle.name_rules.specs.declared.log.Fault.{Fault}
 use Rattle.name_rules.specs.declared.log.Field.{Field}
@@ -10,6 +11,7 @@ use Rattle.name_rules.specs.declared.log.Rule.{Rule}
 use Rattle.name_rules.specs.declared.log.Shape.TheVariants as shape
 use Rattle.name_rules.specs.declared.log.Shape.{Shape}
 use Rattle.name_rules.specs.declared.scope.Names.{Names}
+use Rattle.syntax_tree.specs.Parsed.{depth_limit}
 use Rattle.syntax_tree.specs.Syntax.{Program}
 use Rattle.typed_tree.specs.Syntax as typed
 use Rattle.typed_tree.specs.Syntax.{Program as TypedProgram, Subtype as TypedSubtype}
@@ -18,9 +20,6 @@ use Rattle.typed_tree.specs.declared.program.Field.{Field as TypedField}
 use Rattle.std.specs.Prelude.{List, None, Option, [], map, option_map, ℕ, ◌*◌, ◌+◌, ◌∷◌, ◌≡◌, ◌≤◌, ◌⊎◌}
 
 -- ---- the faults, and the typed program where there is none
-
-abbrev pub depth_limit : ℕ
-depth_limit = 64
 
 abbrev pub fresh : Log
 fresh = record { faults = []; shapes = []; objects = []; profiles = []; sites = []; exceptions = []; parameters = 0; loops = 0; declared = 0; cells = 0 }
@@ -71,7 +70,11 @@ code NotStatic = 6
 code StaticRange = 7
 code ChunkRule = 8
 code ReduceRule = 9
-code (Limit which n) = 10 + which
+code (Limit bound.Objects) = 11
+code (Limit bound.Cells) = 12
+code (Limit bound.Arms) = 13
+code (Limit bound.Dimensions) = 14
+code (Limit bound.Levels) = 15
 
 -- the token first, and then the code
 abbrev pub key : Fault → ℕ

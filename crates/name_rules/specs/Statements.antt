@@ -18,6 +18,8 @@ use Rattle.name_rules.specs.declared.found.Denoted.{Denoted as KnownDenoted}
 use Rattle.name_rules.specs.declared.found.Found.TheVariants as known
 use Rattle.name_rules.specs.declared.found.Found.{Found as Known}
 use Rattle.name_rules.specs.declared.found.Place.{Place}
+use Rattle.name_rules.specs.Limits.{most_arms}
+use Rattle.name_rules.specs.declared.log.Bound.TheVariants as bound
 use Rattle.name_rules.specs.declared.log.Rule.TheVariants.{ChunkRule, Limit, NotVisible, WrongEnd, WrongType}
 use Rattle.name_rules.specs.declared.scope.Context.{Context}
 use Rattle.name_rules.specs.declared.scope.LoopName.{LoopName}
@@ -405,7 +407,7 @@ block a here d b = declarations a.names a.level (length here.scope) here (Some n
 
 -- E12: more arms than there may be, at the word `parallel`
 abbrev pub arm_limit : ℕ → ℕ → Judging (Unit {0})
-arm_limit at n = unless (nat_le n 4096) at (Limit 3 n)
+arm_limit at n = unless (nat_le n most_arms) at (Limit bound.Arms)
 
 abbrev pub count_where : Inside → Context → Option Simple → Judging (Option TypedPart)
 count_where inner here None = some part.Nothing
@@ -456,5 +458,5 @@ abbrev pub around : Names → ℕ → Within → Around
 around names n within = record { names = names; level = level_above names (inside names n); inner = inside names n; within = within }
 
 unfoldable pub stmt : Names → ℕ → Within
-stmt names zero here s = fault (first_token.of_stmt s) (Limit 5 65)
+stmt names zero here s = fault (first_token.of_stmt s) (Limit bound.Levels)
 stmt names (suc n) here s = stmt_form (around names n (stmt names n)) here s

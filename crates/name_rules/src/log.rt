@@ -4,6 +4,17 @@ use crate::types::{Kind, Scalar, Subtype};
 use ada_base::Items;
 use typed_tree::program::{Declared, Mode, Object, Site};
 
+/// What a limit of size bounds: how many objects a program has, how many cells they have, how many arms a parallel block
+/// has, how many dimensions an array type, or how many levels of statements and brackets stand in one another.
+#[derive(Clone, Copy, Debug)]
+pub enum Bound {
+    Objects,
+    Cells,
+    Arms,
+    Dimensions,
+    Levels,
+}
+
 /// A rule that may be broken.
 #[derive(Clone, Copy)]
 pub enum Rule {
@@ -17,8 +28,8 @@ pub enum Rule {
     StaticRange,
     ChunkRule,
     ReduceRule,
-    /// A limit on objects, cells, arms, dimensions or depth, with the number that passes it.
-    Limit { which: u8, count: u64 },
+    /// A limit of size is passed.
+    Limit { of: Bound },
 }
 
 /// A rule that is broken at a token.

@@ -12,7 +12,7 @@ use Rattle.syntax_tree.specs.declared.operators.Sign.{Sign as Signed}
 use Rattle.syntax_tree.specs.declared.operators.Sign.TheVariants as sign
 use Rattle.typed_tree.specs.Decoded.{Part}
 use Rattle.typed_tree.specs.declared.expressions.Sign.TheVariants as unary'
-use Rattle.name_rules.specs.Expressions.{Inside, added, adding, blamed, comparison_of, conjoined, expr, factor, first_term, first_wanted, in_place, joined_rels, multiplied, multiplying, multiplying_op, rel, short_form, short_found, short_join, short_operand, short_operands, simple, term}
+use Rattle.name_rules.specs.Expressions.{Inside, added, adding, blamed, conjoined, expr, factor, first_term, first_wanted, in_place, joined_rels, multiplied, multiplying, multiplying_op, rel, short_form, short_found, short_join, short_operand, short_operands, simple, term}
 use Rattle.name_rules.specs.Found.{Found}
 use Rattle.name_rules.specs.Judging.{given, joined}
 use Rattle.name_rules.specs.Operators.{binary, joined_text, logical, not_of, plain, unary}
@@ -27,7 +27,7 @@ use Rattle.name_rules.specs.declared.types.Wanted.{Wanted}
 use Rattle.name_rules.specs.declared.log.Shape.{Shape}
 use Rattle.name_rules.specs.Judging.{◌>>=◌}
 use Rattle.syntax_tree.specs.declared.operators.Multiplicative.{Multiplicative}
-use Rattle.syntax_tree.specs.declared.operators.Comparison.{Comparison}
+use Rattle.ada_base.specs.declared.operation.Comparison.{Comparison}
 use Rattle.typed_tree.specs.Decoded.{as_expr}
 use Rattle.name_rules.specs.Operators.{power}
 use Rattle.std.specs.Prelude.{List, ℤ}
@@ -144,7 +144,7 @@ t-simple shapes names level here want (syntax.Sum s t as') l =
 f-rel_compared : (names : Names) (level : Inside) (here : Context) (want : Wanted) (left : Simple) (c : Comparison) (at : ℕ) (right : Simple) → Finds (Finding None) (rel names level here want (syntax.Compared left c at right))
 unfolding rel
 f-rel_compared names level here want left c at right =
-    f-then (Finding None) (simple level here wanted.Other left) _ (λ x. f-then (Finding None) (simple level here wanted.Other right) _ (λ y. f-compared (comparison_of c) at x y))
+    f-then (Finding None) (simple level here wanted.Other left) _ (λ x. f-then (Finding None) (simple level here wanted.Other right) _ (λ y. f-compared c at x y))
 
 f-rel_within : (names : Names) (level : Inside) (here : Context) (want : Wanted) (value : Simple) (negation : Option ℕ) (at : ℕ) (low high : Simple) → Finds (Finding None) (rel names level here want (syntax.Within value negation at low high))
 unfolding rel

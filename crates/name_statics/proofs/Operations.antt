@@ -29,7 +29,7 @@ use Rattle.std.specs.Prelude.{neg_ℤ, not, option_map, unsigned_abs, ◌||◌, 
 use Rattle.std.proofs.lemmas.Bool.{and_parts}
 use Rattle.typed_tree.specs.Classes.{with_class}
 use Rattle.typed_tree.specs.declared.scalars.Class.{Class}
-use Rattle.typed_tree.specs.declared.scalars.Comparison.{Comparison as TypedComparison}
+use Rattle.ada_base.specs.declared.operation.Comparison.{Comparison}
 use Rattle.name_rules.specs.Operators.{limit_of, binary, common_kind, compared, compared_at, first_kind, joined_text, joined_texts, logical, member, member_of, membership, negation, not_of, of_subtype, open_form, within_bounds}
 use Rattle.name_rules.specs.Values.{beyond, is_integer_kind, is_kind, is_scalar, is_universal, object_expr, settled, settled_by}
 use Rattle.name_rules.specs.Found.{text_found}
@@ -369,13 +369,13 @@ f-logical o at x y =
     f-both (Is None) x y _ (λ a b.
     f-if (Finding None) (is_kind kind.Boolean (kind_of a.known) && is_kind kind.Boolean (kind_of b.known)) (operation_on o at kind.Boolean kind.Boolean a b) (fault at WrongType) (λ e. f-operation_on o at kind.Boolean kind.Boolean a b) (f-fault (Is None) at WrongType))
 
-f-compared_at : (k : Kind) (c : TypedComparison) (a b : Found) → Finds (Finding None) (compared_at k c a b)
+f-compared_at : (k : Kind) (c : Comparison) (a b : Found) → Finds (Finding None) (compared_at k c a b)
 unfolding compared_at
 f-compared_at k c a b =
     f-then (Finding None) (asked k a) _ (λ x. f-then (Finding None) (asked k b) _ (λ y.
     f-both (Is None) x y _ (λ e f. f-some (Is None) _ (scalar-is (first_of a.known) kind.Boolean None (typed.Relation (class_of k) c (as_expr e) (as_expr f)) refl))))
 
-pub f-compared : (c : TypedComparison) (at : ℕ) (x y : Option Found) → Finds (Finding None) (compared c at x y)
+pub f-compared : (c : Comparison) (at : ℕ) (x y : Option Found) → Finds (Finding None) (compared c at x y)
 unfolding compared
 f-compared c at x y =
     f-both (Is None) x y _ (λ a b. let k = common_kind (kind_of a.known) (kind_of b.known) in

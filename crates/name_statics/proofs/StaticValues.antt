@@ -9,6 +9,7 @@ use Rattle.name_rules.specs.Symbols.{number}
 use Rattle.name_rules.specs.Values.{asked, composite_asked, kind_of, mentions_of, value_of}
 use Rattle.name_rules.specs.declared.found.Found.TheVariants as known
 use Rattle.name_rules.specs.declared.found.Found.{Found as Known}
+use Rattle.name_rules.specs.declared.log.Bound.TheVariants as bound
 use Rattle.name_rules.specs.declared.log.Rule.TheVariants.{Limit, NotVisible, WrongType}
 use Rattle.name_rules.specs.declared.scope.Context.{Context}
 use Rattle.name_rules.specs.declared.scope.Names.{Names}
@@ -122,7 +123,7 @@ inside-tells : (shapes : List Shape) (names : Names) (n : ℕ) → LevelTells sh
 unfolding primaries.inside
 inside-tells shapes names zero = record {
   keeps = k-inside walk names zero tt;
-  primary = λ here p want. t-of shapes (Finding (primary_value (there names here shapes) p)) _ (k-fault walk (first_token.of_primary p) (Limit 5 65)) (f-fault (Is (primary_value (there names here shapes) p)) (first_token.of_primary p) (Limit 5 65));
+  primary = λ here p want. t-of shapes (Finding (primary_value (there names here shapes) p)) _ (k-fault walk (first_token.of_primary p) (Limit bound.Levels)) (f-fault (Is (primary_value (there names here shapes) p)) (first_token.of_primary p) (Limit bound.Levels));
 }
 inside-tells shapes names (suc n) = level-tells shapes names (primaries.inside names n) (inside-tells shapes names n)
 

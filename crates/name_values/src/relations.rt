@@ -14,11 +14,11 @@ use crate::logs::{also_all, no_part, no_parts};
 use crate::operators::operation_on;
 use crate::types::class_of;
 use crate::values::{asked, first_of, is_kind, is_scalar, kind_of, suits};
-use ada_base::Op;
+use ada_base::{Comparison, Op};
 use name_rules::found::Found;
 use name_rules::log::Rule;
 use name_rules::types::{Kind, Scalar};
-use typed_tree::{Class, Comparison, Sign};
+use typed_tree::{Class, Sign};
 
 /// `not`, which takes a Boolean: WrongType at the operator.
 #[tactic(auto, unfolding(name_rules::specs::Operators::not_of))]

@@ -10,7 +10,7 @@ use Rattle.typed_tree.specs.Syntax.{Arms, NoArm, Arm, Stmts}
 use Rattle.ada_meaning.specs.Values.{count, without_zeros, is_in}
 use Rattle.ada_meaning.specs.Operations.{RangeCheck}
 use Rattle.ada_meaning.specs.Meaning as meaning
-use Rattle.ada_meaning.specs.Meaning.{arms_of, with_parameter}
+use Rattle.ada_meaning.specs.Meaning.{arms_of, with_parameter, most_threads}
 use Rattle.ada_meaning.specs.Stored.{Stored, ret, bind, leaves, checks}
 use Rattle.run_store.specs.declared.ends.End.{End}
 use Rattle.run_store.specs.declared.ends.End.TheVariants as end
@@ -67,14 +67,14 @@ filled_done out ns k is h = sym (append-nil out) ∙ ap (λ z. out ++ without_ze
 
 -- ---- chunk specifications
 
-pub few_none : (n : ℕ) → n ≡ 0 → (nat_le n 4096 ≡ true) × (0 ≡ n)
-few_none n e = (le-leb n 4096 (omega (arith, e)), sym e)
+pub few_none : (n : ℕ) → n ≡ 0 → (nat_le n most_threads ≡ true) × (0 ≡ n)
+few_none n e = (le-leb n most_threads (omega (arith, e)), sym e)
 
-pub few_some : (n last : ℕ) → n ≡ last + 1 → last < 4096 → (nat_le n 4096 ≡ true) × (last + 1 ≡ n)
-few_some n last e lt = (le-leb n 4096 (omega (arith, e, lt)), sym e)
+pub few_some : (n last : ℕ) → n ≡ last + 1 → last < most_threads → (nat_le n most_threads ≡ true) × (last + 1 ≡ n)
+few_some n last e lt = (le-leb n most_threads (omega (arith, e, lt)), sym e)
 
-pub few_many : (n last : ℕ) → n ≡ last + 1 → 4096 ≤ last → nat_le n 4096 ≡ false
-few_many n last e le = lt-leb n 4096 (omega (arith, e, le))
+pub few_many : (n last : ℕ) → n ≡ last + 1 → most_threads ≤ last → nat_le n most_threads ≡ false
+few_many n last e le = lt-leb n most_threads (omega (arith, e, le))
 
 bounds_so : (w : Work) (check : Option Check) (low high : ℤ) → bounds_hold check low high ≡ true → meaning.bounds_checked (ops w) check low high ≡ ret tt
 bounds_so w None low high e = refl
@@ -106,7 +106,7 @@ module _ (w : Work) (k : ℕ) (check : Option Check) (l h : ℤ) where
   given = ret (record { most = count l h; even = true; bound = λ j. with_parameter k (l +ℤ pos j) })
 
   abbrev few : Stored meaning.Chunking
-  few = bind (meaning.unless (ops w) (nat_le (count l h) 4096) reason.StorageError) (λ _. given)
+  few = bind (meaning.unless (ops w) (nat_le (count l h) most_threads) reason.StorageError) (λ _. given)
 
   abbrev some : Stored meaning.Chunking
   some = bind (meaning.unless (ops w) (int_le l h) reason.ProgramError) (λ _. few)
@@ -128,12 +128,12 @@ module _ (w : Work) (k : ℕ) (check : Option Check) (l h : ℤ) where
         ordered : (r : Result Chunking End) → ShowsAs chunking_of Tells few r s s → ShowsAs chunking_of Tells (each_chunk w k check l h) r s s
         ordered r g = within r (then_shows (λ a. a) chunking_of (meaning.unless (ops w) (int_le l h) reason.ProgramError) (λ _. few) s s s tt r (unless_so w s (int_le l h) reason.ProgramError f) g)
 
-        pub each_many : nat_le (count l h) 4096 ≡ false → ShowsAs chunking_of Tells (each_chunk w k check l h) (Err (end.Left (leave.Raises reason.StorageError))) s s
-        each_many m = ordered (Err (end.Left (leave.Raises reason.StorageError))) (goes_ends (λ a. a) chunking_of _ (meaning.unless (ops w) (nat_le (count l h) 4096) reason.StorageError) (λ _. given) s s s (end.Left (leave.Raises reason.StorageError)) (goes_refl _ s) (unless_not w s (nat_le (count l h) 4096) reason.StorageError m))
+        pub each_many : nat_le (count l h) most_threads ≡ false → ShowsAs chunking_of Tells (each_chunk w k check l h) (Err (end.Left (leave.Raises reason.StorageError))) s s
+        each_many m = ordered (Err (end.Left (leave.Raises reason.StorageError))) (goes_ends (λ a. a) chunking_of _ (meaning.unless (ops w) (nat_le (count l h) most_threads) reason.StorageError) (λ _. given) s s s (end.Left (leave.Raises reason.StorageError)) (goes_refl _ s) (unless_not w s (nat_le (count l h) most_threads) reason.StorageError m))
 
-        pub each_some : nat_le (count l h) 4096 ≡ true → (low : ℤ) (n : ℕ) → low ≡ l → n ≡ count l h → ShowsAs chunking_of Tells (each_chunk w k check l h) (Ok (chunking.Each k low n)) s s
+        pub each_some : nat_le (count l h) most_threads ≡ true → (low : ℤ) (n : ℕ) → low ≡ l → n ≡ count l h → ShowsAs chunking_of Tells (each_chunk w k check l h) (Ok (chunking.Each k low n)) s s
         unfolding ret
         each_some m low n p q =
             subst (λ z. ShowsAs chunking_of Tells (each_chunk w k check l h) (Ok (chunking.Each k z n)) s s) (sym p)
             (subst (λ z. ShowsAs chunking_of Tells (each_chunk w k check l h) (Ok (chunking.Each k l z)) s s) (sym q)
-            (ordered (Ok (chunking.Each k l (count l h))) (then_shows (λ a. a) chunking_of (meaning.unless (ops w) (nat_le (count l h) 4096) reason.StorageError) (λ _. given) s s s tt (Ok (chunking.Each k l (count l h))) (unless_so w s (nat_le (count l h) 4096) reason.StorageError m) (refl, stays, λ w told. refl))))
+            (ordered (Ok (chunking.Each k l (count l h))) (then_shows (λ a. a) chunking_of (meaning.unless (ops w) (nat_le (count l h) most_threads) reason.StorageError) (λ _. given) s s s tt (Ok (chunking.Each k l (count l h))) (unless_so w s (nat_le (count l h) most_threads) reason.StorageError m) (refl, stays, λ w told. refl))))

@@ -12,11 +12,9 @@ use crate::cells::placed;
 use crate::courses::bounds_hold;
 use crate::work::Work;
 use ada_base::Reason;
+use ada_meaning::MOST_THREADS;
 use run_store::{End, Env, Leave, Port, Range, Store, last_of};
 use typed_tree::Check;
-
-// threads where no number is asked for
-const MOST_THREADS: u32 = 4096;
 
 /// How many threads a loop or a reduction has: by the plan, and no more than so many; or one for each value of a chunk
 /// parameter.

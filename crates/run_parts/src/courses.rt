@@ -7,7 +7,7 @@ ghost use Rattle.run_parts.specs.Passing.{course_of};
 ghost use Rattle.run_parts.specs.Words as spec;
 
 use crate::offsets::moved;
-use run_store::{End, Env, Part, Range, count, is_in, last_of};
+use run_store::{End, Env, ObjectPart, Range, count, is_in, last_of};
 use typed_tree::Check;
 
 /// What an iteration goes through, once that is evaluated: the values of a range, or components of an array.
@@ -21,7 +21,7 @@ pub enum Course {
     Components {
         item: u32,
         constant: bool,
-        part: Part,
+        part: ObjectPart,
         count: u32,
         stride: u32,
     },

@@ -6,14 +6,14 @@ ghost use Rattle.ada_meaning.specs.Meaning as meaning;
 ghost use Rattle.run_store.specs.Environment.{part_of};
 ghost use Rattle.run_store.specs.Shows.{OrNoMemory};
 
-use run_store::{End, Part};
+use run_store::{End, ObjectPart};
 
 /// A part so many cells further on
-pub fn moved(part: Part, count: u64) -> Result<Part, End>
+pub fn moved(part: ObjectPart, count: u64) -> Result<ObjectPart, End>
     ensures { OrNoMemory (λ inner. part_of inner ≡ meaning.moved (part_of part) count) result }
 {
     match part.offset.checked_add(count) {
-        Some(offset) => Ok(Part {
+        Some(offset) => Ok(ObjectPart {
             object: part.object,
             offset,
         }),
@@ -22,7 +22,7 @@ pub fn moved(part: Part, count: u64) -> Result<Part, End>
 }
 
 /// The component of an index.
-pub fn component(part: Part, index: i64, low: i64, stride: u32) -> Result<Part, End>
+pub fn component(part: ObjectPart, index: i64, low: i64, stride: u32) -> Result<ObjectPart, End>
     ensures { OrNoMemory (λ inner. part_of inner ≡ meaning.moved (part_of part) (to_nat (index -ℤ low) * stride)) result }
 {
     let Ok(place) = u64::try_from(i128::from(index) - i128::from(low)) else {

@@ -8,7 +8,7 @@ use crate::copies::BackCells;
 use crate::held::Cells;
 use crate::work::Work;
 use ada_base::Items;
-use run_store::{End, Object, Part};
+use run_store::{End, Object, ObjectPart};
 use typed_tree::{Check, Scalar};
 
 /// The subtypes of cells: a scalar's, or those of a whole array or record.
@@ -21,7 +21,7 @@ pub enum Shape {
 /// Where a parameter is copied back (6.4.1), and the check of a scalar.
 #[derive(Clone, Copy)]
 pub struct Back {
-    pub part: Part,
+    pub part: ObjectPart,
     pub shape: Shape,
     pub check: Option<Check>,
 }

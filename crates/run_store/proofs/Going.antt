@@ -2,7 +2,7 @@
 use Rattle.std.proofs.Common.{◌≡◌, ℕ, ℤ, ◌+◌, List, Bool, true, false, cond, length, inl, inr, Result, Ok, Err, refl, sym, subst, ap, ◌∙◌}
 use Rattle.behaviours.specs.Paths as operations
 use Rattle.behaviours.specs.Paths.{Here, Everywhere}
-use Rattle.ada_meaning.specs.Stored.{State, Stored, After, Cause, Left, OutOfTurns, Fault, MemoryFault, InputFault, OutputFault, Stops, at, next, next_halts, ret, bind, elaborates, apart, begun, ended, has_room, key, slot_at}
+use Rattle.ada_meaning.specs.Stored.{State, Stored, After, Cause, Left, OutOfTurns, Outage, MemoryFault, InputFault, OutputFault, Stops, at, next, next_halts, ret, bind, elaborates, apart, begun, ended, has_room, key, slot_at}
 use Rattle.run_store.specs.declared.ends.Mark.{Mark}
 use Rattle.run_store.specs.declared.ends.Object.{Object}
 use Rattle.run_store.specs.declared.ends.End.{End}
@@ -52,7 +52,7 @@ module _ {A : Type 0} (region : operations.Region) (x : Object) (vs : List ℤ) 
   unfolding elaborates
   does_so s u e room h = rw (room, h) refl
 
-  halts_so : (s u : State) (c : Fault) → has_room region (entity_of x) s ≡ true → Stops m (begun region (entity_of x) vs s) c u → Stops (elaborates region (entity_of x) vs m) s c (ended region (entity_of x) s u)
+  halts_so : (s u : State) (c : Outage) → has_room region (entity_of x) s ≡ true → Stops m (begun region (entity_of x) vs s) c u → Stops (elaborates region (entity_of x) vs m) s c (ended region (entity_of x) s u)
   unfolding elaborates
   halts_so s u c room h = inr (room, (u, h, refl))
 
@@ -157,7 +157,7 @@ module _ {Tells : List ℕ → Outside → Type 0} where
         ok : (w : List ℕ) (e : Result A Cause) → m.does (facing w t.state) ≡ at (facing w u.state) e → (elaborates region (entity_of x) vs m).does (facing w s.state) ≡ at (facing w (cut_back region x mark u.state)) e
         ok w e h = does_so region x vs m (facing w s.state) (facing w u.state) e (has_room_facing region x s.state w ∙ b.1) (subst (λ (z : State). m.does z ≡ at (facing w u.state) e) (from w) h) ∙ ap (λ (z : State). at z e) (sym (same w))
 
-        stop : (w : List ℕ) (c : Fault) → Stops m (facing w t.state) c (facing w u.state) → Stops (elaborates region (entity_of x) vs m) (facing w s.state) c (facing w (cut_back region x mark u.state))
+        stop : (w : List ℕ) (c : Outage) → Stops m (facing w t.state) c (facing w u.state) → Stops (elaborates region (entity_of x) vs m) (facing w s.state) c (facing w (cut_back region x mark u.state))
         stop w c h = subst (λ (z : State). Stops (elaborates region (entity_of x) vs m) (facing w s.state) c z) (sym (same w)) (halts_so region x vs m (facing w s.state) (facing w u.state) c (has_room_facing region x s.state w ∙ b.1) (subst (λ (z : State). Stops m z c (facing w u.state)) (from w) h))
 
         go : (r : Result C End) → ShowsAs f Tells m r t u → ShowsAs f Tells (elaborates region (entity_of x) vs m) r s (finished region x mark u)

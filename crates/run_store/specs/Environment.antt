@@ -1,10 +1,10 @@
 -- What names stand for that aren't objects, as code holds it.
 use Rattle.ada_meaning.specs.Meaning as meaning
 use Rattle.ada_meaning.specs.Meaning.{with_parameter, with_item, with_target, with_handled}
-use Rattle.run_store.specs.declared.env.Part.{Part}
+use Rattle.run_store.specs.declared.env.ObjectPart.{ObjectPart}
 use Rattle.run_store.specs.declared.env.Env.{Env, Outset, Parameter', Item', Target', Handled', Inside'}
 
-abbrev pub part_of : Part → meaning.Part
+abbrev pub part_of : ObjectPart → meaning.ObjectPart
 part_of p = record { object = p.object; offset = p.offset }
 
 abbrev pub env_of : Env → meaning.Env

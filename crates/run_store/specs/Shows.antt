@@ -7,7 +7,7 @@ use Rattle.ada_port.specs.Counts.{Risen}
 use Rattle.run_store.specs.Outside.{Outside, Faults, Keeps}
 use Rattle.behaviours.specs.Paths as operations
 use Rattle.behaviours.specs.Paths.{Entity, VariableOf, ConstantOf, Region, Here, Everywhere}
-use Rattle.ada_meaning.specs.Stored.{State, Stored, Left, OutOfTurns, MemoryFault, InputFault, OutputFault, Fault, Stops, at, key, slot_at, begun, has_room, declares}
+use Rattle.ada_meaning.specs.Stored.{State, Stored, Left, OutOfTurns, MemoryFault, InputFault, OutputFault, Outage, Stops, at, key, slot_at, begun, has_room, declares}
 use Rattle.run_store.specs.declared.ends.Mark.{Mark}
 use Rattle.run_store.specs.declared.ends.Leave.{Leave}
 use Rattle.run_store.specs.declared.ends.Leave.TheVariants as leave
@@ -149,7 +149,7 @@ pub record Goes {A : Type 0} (Tells : List ℕ → Outside → Type 0) (whole : 
   pub faults : t.faults ≡ s.faults
   pub keeps : Keeps Tells (outside_of s) (outside_of t)
   pub same : (w : List ℕ) → Tells w (outside_of t) → whole.does (facing w s.state) ≡ rest.does (facing w t.state)
-  pub stops : (w : List ℕ) → Tells w (outside_of t) → (f : Fault) (u : State) → Stops rest (facing w t.state) f u → Stops whole (facing w s.state) f u
+  pub stops : (w : List ℕ) → Tells w (outside_of t) → (f : Outage) (u : State) → Stops rest (facing w t.state) f u → Stops whole (facing w s.state) f u
 
 -- nothing but want of memory is in the way
 abbrev pub OrNoMemory : {A : Type 0} → (A → Type 0) → Result A End → Type 0

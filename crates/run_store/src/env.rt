@@ -9,7 +9,7 @@ use typed_tree::Root;
 
 /// An object, and how many cells of it come before.
 #[derive(Clone, Copy)]
-pub struct Part {
+pub struct ObjectPart {
     pub object: u32,
     pub offset: u64,
 }
@@ -31,11 +31,11 @@ pub enum Env<'a> {
         outer: &'a Env<'a>,
         constant: bool,
         number: u32,
-        part: Part,
+        part: ObjectPart,
     },
     Target {
         outer: &'a Env<'a>,
-        part: Part,
+        part: ObjectPart,
     },
     Handled {
         outer: &'a Env<'a>,
@@ -77,11 +77,11 @@ impl<'a> Env<'a> {
     }
 
     /// The part of a variable that an item stands for.
-    pub fn item(&self, wanted: u32) -> Part
+    pub fn item(&self, wanted: u32) -> ObjectPart
         ensures { part_of result ≡ (env_of self.now).item wanted }
     {
         match self {
-            Env::Outset { .. } => Part {
+            Env::Outset { .. } => ObjectPart {
                 object: 0,
                 offset: 0,
             },
@@ -105,11 +105,11 @@ impl<'a> Env<'a> {
     }
 
     /// The part of a constant that an item stands for.
-    pub fn constant_item(&self, wanted: u32) -> Part
+    pub fn constant_item(&self, wanted: u32) -> ObjectPart
         ensures { part_of result ≡ (env_of self.now).constant_item wanted }
     {
         match self {
-            Env::Outset { .. } => Part {
+            Env::Outset { .. } => ObjectPart {
                 object: 0,
                 offset: 0,
             },
@@ -133,11 +133,11 @@ impl<'a> Env<'a> {
     }
 
     /// The target of the assignment around.
-    pub fn target(&self) -> Part
+    pub fn target(&self) -> ObjectPart
         ensures { part_of result ≡ (env_of self.now).target }
     {
         match self {
-            Env::Outset { .. } => Part {
+            Env::Outset { .. } => ObjectPart {
                 object: 0,
                 offset: 0,
             },
@@ -177,27 +177,27 @@ impl<'a> Env<'a> {
     }
 
     /// The first cell of what a variable's name begins with.
-    pub fn variable_root(&self, root: Root) -> Part
+    pub fn variable_root(&self, root: Root) -> ObjectPart
         ensures { part_of result ≡ meaning.variable_root root (env_of self.now) }
     {
         match root {
-            Root::Object(object) => Part { object, offset: 0 },
+            Root::Object(object) => ObjectPart { object, offset: 0 },
             Root::Item(item) => self.item(item),
         }
     }
 
     /// The first cell of what a constant's name begins with.
-    pub fn constant_root(&self, root: Root) -> Part
+    pub fn constant_root(&self, root: Root) -> ObjectPart
         ensures { part_of result ≡ meaning.constant_root root (env_of self.now) }
     {
         match root {
-            Root::Object(object) => Part { object, offset: 0 },
+            Root::Object(object) => ObjectPart { object, offset: 0 },
             Root::Item(item) => self.constant_item(item),
         }
     }
 
     /// The first cell of an array that an iteration goes through.
-    pub fn array_root(&self, constant: bool, root: Root) -> Part
+    pub fn array_root(&self, constant: bool, root: Root) -> ObjectPart
         ensures { part_of result ≡ meaning.array_root constant root (env_of self.now) }
     {
         if constant {

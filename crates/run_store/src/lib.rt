@@ -9,7 +9,7 @@ pub mod subtypes;
 pub mod values;
 
 pub use ends::{End, Leave, Mark, Object, Region};
-pub use env::{Env, Part};
+pub use env::{Env, ObjectPart};
 pub use outside::{Port, Ports};
 pub use store::Store;
 pub use subtypes::{cells_of, components, defaults_of};

@@ -11,8 +11,8 @@ ghost use Rattle.run_store.specs.Operating.{unary_then};
 use crate::ends::{End, Leave};
 use crate::outside::Port;
 use crate::store::Store;
-use ada_base::{Base, Op, Reason, apply, is_in_base};
-use typed_tree::{Class, Comparison, Scalar, Sign};
+use ada_base::{Base, Comparison, Op, Reason, apply, is_in_base};
+use typed_tree::{Class, Scalar, Sign};
 
 /// Whether a truth value is True.
 pub fn is_true(value: i64) -> bool

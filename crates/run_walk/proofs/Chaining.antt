@@ -10,7 +10,7 @@ use Rattle.typed_tree.specs.Decoded.{part_at, expr_at}
 use Rattle.ada_meaning.specs.Operations.{operate}
 use Rattle.typed_tree.specs.Chained.{linked, right_of, AreBelow}
 use Rattle.ada_meaning.specs.Meaning.{Env}
-use Rattle.ada_meaning.specs.Stored.{Stored, After, Fault, Stops, State, next, next_halts, bind, doings, checks}
+use Rattle.ada_meaning.specs.Stored.{Stored, After, Outage, Stops, State, next, next_halts, bind, doings, checks}
 use Rattle.run_store.specs.declared.ends.End.{End}
 use Rattle.run_store.specs.Outside.{Outside}
 use Rattle.run_store.specs.Operating.{outside_of}
@@ -31,7 +31,7 @@ module _ {Tells : List ℕ → Outside → Type 0} where
     stops = λ input told f u h. stopped input told f u h;
   }
     where
-      stopped : (input : List ℕ) → Tells input (outside_of t) → (f : Fault) (u : State) → Stops (bind n k) (facing input t.state) f u → Stops (bind m k) (facing input s.state) f u
+      stopped : (input : List ℕ) → Tells input (outside_of t) → (f : Outage) (u : State) → Stops (bind n k) (facing input t.state) f u → Stops (bind m k) (facing input s.state) f u
       stopped input told f u (inl h) = inr (inl (g.stops input told f u (inl h)))
       stopped input told f u (inr (inl h)) = inr (inl (g.stops input told f u h))
       stopped input told f u (inr (inr h)) = inr (inr (subst (λ (z : After _). next_halts z.state z.end k f u) (sym (g.same input told)) h))

@@ -35,7 +35,7 @@ module _ (w : Work) (env : Env) where
   follows_two id outer between i j (Some inner) is g h = λ calls object s. subst (λ z. (walk.select w calls z env (at_offset object outer)).does s ≡ at s (Ok (at_offset object inner))) (sym (w.are_of id (path.Two i j) is)) (g calls object (index_by j Whole) s ∙ h calls object Whole s)
 
   -- what the cell gives to which selections lead from a part
-  pub gives_there : (Tells : List ℕ → Outside → Type 0) (s : Image) (here : ℕ → Entity) (calls id object outer inner : ℕ) (p : meaning.Part) (r : Option ℤ) → at_offset object outer ≡ p → Ends id outer inner → Gives Tells (reads (here object) inner) s r → Gives Tells (bind (walk.select w calls (selections_at (nodes_of w) id) env p) (λ q. reads (here q.object) q.offset)) s r
+  pub gives_there : (Tells : List ℕ → Outside → Type 0) (s : Image) (here : ℕ → Entity) (calls id object outer inner : ℕ) (p : meaning.ObjectPart) (r : Option ℤ) → at_offset object outer ≡ p → Ends id outer inner → Gives Tells (reads (here object) inner) s r → Gives Tells (bind (walk.select w calls (selections_at (nodes_of w) id) env p) (λ q. reads (here q.object) q.offset)) s r
   unfolding bind
   gives_there Tells s here calls id object outer inner p r is e h = subst (λ p. Gives Tells (bind (walk.select w calls (selections_at (nodes_of w) id) env p) (λ q. reads (here q.object) q.offset)) s r) is (given r h)
     where

@@ -15,7 +15,7 @@ use Rattle.ada_meaning.specs.Stored.{Stored, ret, bind, leaves, writes, checks}
 use Rattle.run_store.specs.declared.ends.End.{End}
 use Rattle.run_store.specs.declared.ends.End.TheVariants as end
 use Rattle.run_store.specs.declared.ends.Leave.TheVariants as leave
-use Rattle.run_store.specs.declared.env.Part.{Part}
+use Rattle.run_store.specs.declared.env.ObjectPart.{ObjectPart}
 use Rattle.run_store.specs.declared.values.Range as code
 use Rattle.run_store.specs.Operating.{got}
 use Rattle.run_store.specs.Environment.{part_of}
@@ -37,7 +37,7 @@ bounds_so w (Some c) low high e = go (int_le low high) (is_in c.scalar low && is
     go false b e = refl
 
 module _ {Tells : List ℕ → Outside → Type 0} (w : Work) (d : ℕ) (env : Env) (s t : Image) where
-  pub index_as : (at : ℕ) (e : Expr) (low high a b : ℤ) (stride : ℕ) (rest ss : Selections) (p : meaning.Part) (r : Result Part End) → ShowsAs part_of Tells (walk.index w d at e a b stride rest env p) r s t → a ≡ low → b ≡ high → ss ≡ Index at e low high stride rest
+  pub index_as : (at : ℕ) (e : Expr) (low high a b : ℤ) (stride : ℕ) (rest ss : Selections) (p : meaning.ObjectPart) (r : Result ObjectPart End) → ShowsAs part_of Tells (walk.index w d at e a b stride rest env p) r s t → a ≡ low → b ≡ high → ss ≡ Index at e low high stride rest
       → ShowsAs part_of Tells (walk.select w d ss env p) r s t
   unfolding walk.eval walk.select
   index_as at e low high a b stride rest ss p r h k l is =
@@ -46,15 +46,15 @@ module _ {Tells : List ℕ → Outside → Type 0} (w : Work) (d : ℕ) (env : E
       (subst (λ z. ShowsAs part_of Tells (walk.index w d at e a z stride rest env p) r s t) l h))
 
   -- an index in its range, and the part behind it
-  pub index_on : (at : ℕ) (e : Expr) (low high i : ℤ) (stride : ℕ) (rest : Selections) (p inner : meaning.Part) (r : Result Part End) (u : Image) → Shows Tells (walk.eval w d e env) (Ok i) s u → between low i high ≡ true → inner ≡ moved p (to_nat (i -ℤ low) * stride)
+  pub index_on : (at : ℕ) (e : Expr) (low high i : ℤ) (stride : ℕ) (rest : Selections) (p inner : meaning.ObjectPart) (r : Result ObjectPart End) (u : Image) → Shows Tells (walk.eval w d e env) (Ok i) s u → between low i high ≡ true → inner ≡ moved p (to_nat (i -ℤ low) * stride)
       → ShowsAs part_of Tells (walk.select w d rest env inner) r u t → ShowsAs part_of Tells (walk.index w d at e low high stride rest env p) r s t
   unfolding ret
   index_on at e low high i stride rest p inner r u h within q k =
-      let on : ℤ → Stored meaning.Part = λ i. walk.select w d rest env (moved p (to_nat (i -ℤ low) * stride)) in
+      let on : ℤ → Stored meaning.ObjectPart = λ i. walk.select w d rest env (moved p (to_nat (i -ℤ low) * stride)) in
       then_shows (λ a. a) part_of (walk.eval w d e env) (λ i. bind (checks IndexCheck at (between low i high)) (λ _. on i)) s u t i r h
       (then_shows (λ a. a) part_of (checks IndexCheck at (between low i high)) (λ _. on i) u u t tt r (refl, stays, λ input told. rw within refl) (subst (λ z. ShowsAs part_of Tells (walk.select w d rest env z) r u t) q k))
 
-  pub index_ends : (at : ℕ) (e : Expr) (low high i : ℤ) (stride : ℕ) (rest : Selections) (p inner : meaning.Part) (y : End) (r : Result Part End) (u : Image) → r ≡ Err y → Shows Tells (walk.eval w d e env) (Ok i) s u → between low i high ≡ true
+  pub index_ends : (at : ℕ) (e : Expr) (low high i : ℤ) (stride : ℕ) (rest : Selections) (p inner : meaning.ObjectPart) (y : End) (r : Result ObjectPart End) (u : Image) → r ≡ Err y → Shows Tells (walk.eval w d e env) (Ok i) s u → between low i high ≡ true
       → inner ≡ moved p (to_nat (i -ℤ low) * stride) → ShowsAs part_of Tells (walk.select w d rest env inner) (Err y) u t → ShowsAs part_of Tells (walk.index w d at e low high stride rest env p) r s t
   index_ends at e low high i stride rest p inner y r u is h within q k = subst (λ z. ShowsAs part_of Tells (walk.index w d at e low high stride rest env p) z s t) (sym is) (index_on at e low high i stride rest p inner (Err y) u h within q k)
 
@@ -86,7 +86,7 @@ module _ {Tells : List ℕ → Outside → Type 0} (w : Work) (d : ℕ) (env : E
       (then_shows (λ a. a) (λ a. a) (walk.number w d check e env) (λ cs. leaves (paths.Returns (slice_get cs 0))) s t t (x ∷ []) (Err (end.Left (leave.Returns (Some z)))) (number_comes check e x t h within) (refl, stays, λ input told. rw same refl))
 
   -- a number that is stored
-  number_stored : (check : Check) (e : Expr) (v : Value) (p : meaning.Part) (x z : ℤ) (u : Image) (r : Result (Unit {0}) End) → Shows Tells (walk.eval w d e env) (Ok x) s u → is_in check.scalar x ≡ true → Shows Tells (write_all w p.object p.offset (z ∷ [])) r u t → z ≡ x → v ≡ Number check e
+  number_stored : (check : Check) (e : Expr) (v : Value) (p : meaning.ObjectPart) (x z : ℤ) (u : Image) (r : Result (Unit {0}) End) → Shows Tells (walk.eval w d e env) (Ok x) s u → is_in check.scalar x ≡ true → Shows Tells (write_all w p.object p.offset (z ∷ [])) r u t → z ≡ x → v ≡ Number check e
       → Shows Tells (walk.assigned w d v p env) r s t
   unfolding walk.cells walk.eval
   number_stored check e v p x z u r h within k same is =
@@ -95,11 +95,11 @@ module _ {Tells : List ℕ → Outside → Type 0} (w : Work) (d : ℕ) (env : E
       (then_shows (λ a. a) (λ a. a) (walk.number w d check e env) put s u t (x ∷ []) r (number_comes check e x u h within)
       (subst (λ z. Shows Tells (put (z ∷ [])) r u t) same k))
 
-  pub number_gives : (check : Check) (e : Expr) (v : Value) (p : meaning.Part) (x z : ℤ) (u : Image) → Shows Tells (walk.eval w d e env) (Ok x) s u → is_in check.scalar x ≡ true → Shows Tells (writes p.object p.offset z) (Ok tt) u t → z ≡ x → v ≡ Number check e → Shows Tells (walk.assigned w d v p env) (Ok tt) s t
+  pub number_gives : (check : Check) (e : Expr) (v : Value) (p : meaning.ObjectPart) (x z : ℤ) (u : Image) → Shows Tells (walk.eval w d e env) (Ok x) s u → is_in check.scalar x ≡ true → Shows Tells (writes p.object p.offset z) (Ok tt) u t → z ≡ x → v ≡ Number check e → Shows Tells (walk.assigned w d v p env) (Ok tt) s t
   unfolding write_all ret
   number_gives check e v p x z u h within k same is = number_stored check e v p x z u (Ok tt) h within (then_shows (λ a. a) (λ a. a) (writes p.object p.offset z) (λ _. write_all w p.object (p.offset + 1) []) u t t tt (Ok tt) k (refl, stays, λ input told. refl)) same is
 
-  pub number_ends : (check : Check) (e : Expr) (v : Value) (p : meaning.Part) (x z : ℤ) (u : Image) (y : End) (r : Result (Unit {0}) End) → r ≡ Err y → Shows Tells (walk.eval w d e env) (Ok x) s u → is_in check.scalar x ≡ true → Shows Tells (writes p.object p.offset z) (Err y) u t → z ≡ x
+  pub number_ends : (check : Check) (e : Expr) (v : Value) (p : meaning.ObjectPart) (x z : ℤ) (u : Image) (y : End) (r : Result (Unit {0}) End) → r ≡ Err y → Shows Tells (walk.eval w d e env) (Ok x) s u → is_in check.scalar x ≡ true → Shows Tells (writes p.object p.offset z) (Err y) u t → z ≡ x
       → v ≡ Number check e → Shows Tells (walk.assigned w d v p env) r s t
   unfolding write_all
   number_ends check e v p x z u y r q h within k same is =
@@ -107,7 +107,7 @@ module _ {Tells : List ℕ → Outside → Type 0} (w : Work) (d : ℕ) (env : E
       (number_stored check e v p x z u (Err y) h within (goes_ends (λ a. a) (λ a. a) (write_all w p.object p.offset (z ∷ [])) (writes p.object p.offset z) (λ _. write_all w p.object (p.offset + 1) []) u u t y (goes_refl _ u) k) same is)
 
   -- a number that was read
-  module _ (first : ℕ) (root : Root) (ss : Selections) (scalar : Scalar) (from : meaning.Part) (p : Part) (v : ℤ) (u x : Image) (e : from ≡ variable_root root env) (h : ShowsAs part_of Tells (walk.select w d ss env from) (Ok p) s u) (k : Shows Tells (got w.limit) (Ok v) u x) where
+  module _ (first : ℕ) (root : Root) (ss : Selections) (scalar : Scalar) (from : meaning.ObjectPart) (p : ObjectPart) (v : ℤ) (u x : Image) (e : from ≡ variable_root root env) (h : ShowsAs part_of Tells (walk.select w d ss env from) (Ok p) s u) (k : Shows Tells (got w.limit) (Ok v) u x) where
     get_as : (r : Result (Unit {0}) End) (y : Image) → Shows Tells (bind (checks RangeCheck first (is_in scalar v)) (λ _. writes p.object p.offset v)) r x y → Shows Tells (walk.get w d first root ss scalar env) r s y
     get_as r y l =
         then_shows part_of (λ a. a) (walk.select w d ss env (variable_root root env)) (λ p. bind (got w.limit) (λ v. bind (checks RangeCheck first (is_in scalar v)) (λ _. writes p.object p.offset v))) s u y p r

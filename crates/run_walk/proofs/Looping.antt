@@ -6,7 +6,7 @@ use Rattle.typed_tree.specs.Syntax.{Stmt, Stmts, End, Then, Optional, Iteration,
 use Rattle.typed_tree.specs.declared.expressions.Iterated.{Iterated}
 use Rattle.ada_meaning.specs.Values.{laid}
 use Rattle.ada_meaning.specs.Meaning.{Env, Course}
-use Rattle.ada_meaning.specs.Stored.{Stored, After, Left, Fault, Stops, at, State, ret, bind, spent, handles, handled, handled_halts}
+use Rattle.ada_meaning.specs.Stored.{Stored, After, Left, Outage, Stops, at, State, ret, bind, spent, handles, handled, handled_halts}
 use Rattle.ada_meaning.proofs.Computing.{through_more, through_done}
 use Rattle.run_store.specs.Outside.{Outside}
 use Rattle.run_store.specs.Shows.{Image, facing, Goes, Shows, leave_of}
@@ -122,7 +122,7 @@ run_done {Tells = Tells} whole s t w d k n first stride iterated v env cells le 
 -- ---- ways to be left
 
 module _ (m : Stored (Unit {0})) (takes : paths.Leave → Bool) (h : paths.Leave → Stored (Unit {0})) (s t : State) where
-  stops_so : (y : paths.Leave) (c : Fault) (v : State) → takes y ≡ true → m.does s ≡ at t (Err (Left y)) → Stops (h y) t c v → Stops (handles m takes h) s c v
+  stops_so : (y : paths.Leave) (c : Outage) (v : State) → takes y ≡ true → m.does s ≡ at t (Err (Left y)) → Stops (h y) t c v → Stops (handles m takes h) s c v
   unfolding handles
   stops_so y c v q k l = inr (inr (subst (λ (z : After _). handled_halts z.state z.end takes h c v) (sym k) (subst (λ b. cond b (Stops (h y) t c v) ⊥) (sym q) l)))
 

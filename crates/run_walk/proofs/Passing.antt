@@ -11,7 +11,7 @@ use Rattle.behaviours.specs.Paths.{ConstantOf}
 use Rattle.ada_meaning.specs.Values.{is_in}
 use Rattle.ada_meaning.specs.Meaning as meaning
 use Rattle.ada_meaning.specs.Meaning.{Env}
-use Rattle.ada_meaning.specs.Stored.{State, Stored, Cause, Fault, Stops, at, next, next_halts, ret, bind}
+use Rattle.ada_meaning.specs.Stored.{State, Stored, Cause, Outage, Stops, at, next, next_halts, ret, bind}
 use Rattle.run_store.specs.declared.ends.End.{End}
 use Rattle.run_store.specs.declared.ends.End.TheVariants as end
 use Rattle.run_store.specs.declared.ends.Object.TheVariants as object
@@ -36,13 +36,13 @@ actual_top (actual.CompositeOut formal at root selections subtype) = selections
 
 record Ends {A : Type 0} (m n : Stored A) : Type 0 where
   same : (s : State) → m.does s ≡ n.does s
-  stops : (s : State) (f : Fault) (t : State) → Stops n s f t → Stops m s f t
+  stops : (s : State) (f : Outage) (t : State) → Stops n s f t → Stops m s f t
 
 at_once : {B C : Type 0} (b : B) (k : B → Stored C) → Ends (k b) (bind (ret b) k)
 unfolding bind ret
 at_once b k = record { same = λ s. refl; stops = go }
   where
-    go : (s : State) (f : Fault) (t : State) → Stops (bind (ret b) k) s f t → Stops (k b) s f t
+    go : (s : State) (f : Outage) (t : State) → Stops (bind (ret b) k) s f t → Stops (k b) s f t
     go s f t (inl h) = inl h
     go s f t (inr (inl (inl h))) = inl h
     go s f t (inr (inl (inr h))) = absurd h
@@ -54,7 +54,7 @@ module _ {A B C : Type 0} (m : Stored A) (g : A → Stored B) (k : B → Stored 
   then_same s (Ok a) = (part a).same s
   then_same s (Err c) = refl
 
-  then_halts : (s : State) (e : Result A Cause) (x : Fault) (t : State) → next_halts s e g x t ⊎ next_halts (next s e g).state (next s e g).end k x t → next_halts s e f x t
+  then_halts : (s : State) (e : Result A Cause) (x : Outage) (t : State) → next_halts s e g x t ⊎ next_halts (next s e g).state (next s e g).end k x t → next_halts s e f x t
   unfolding bind
   then_halts s (Ok a) x t h = (part a).stops s x t (inr h)
   then_halts s (Err c) x t (inl h) = absurd h
@@ -64,7 +64,7 @@ module _ {A B C : Type 0} (m : Stored A) (g : A → Stored B) (k : B → Stored 
   unfolding bind
   behind = record { same = λ s. then_same (m.does s).state (m.does s).end; stops = go }
     where
-      go : (s : State) (x : Fault) (t : State) → Stops (bind (bind m g) k) s x t → Stops (bind m f) s x t
+      go : (s : State) (x : Outage) (t : State) → Stops (bind (bind m g) k) s x t → Stops (bind m f) s x t
       go s x t (inl h) = inl h
       go s x t (inr (inl (inl h))) = inl h
       go s x t (inr (inl (inr (inl h)))) = inr (inl h)

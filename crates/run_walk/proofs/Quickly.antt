@@ -18,6 +18,6 @@ module _ (Tells : List ℕ → Outside → Type 0) (w : Work) (d : ℕ) (env : E
   unary_quick at sign class operand e r h is = subst (λ z. Gives Tells (walk.eval w d z env) s r) (sym is) h
 
   -- no selection is left
-  pub places_end : {C : Type 0} (f : C → meaning.Part) (whole : Stored meaning.Part) (ss : Selections) (c : C) → SameAs Tells whole (walk.select w d ss env (f c)) s → ss ≡ Whole → GivesAs f Tells whole s (Some c)
+  pub places_end : {C : Type 0} (f : C → meaning.ObjectPart) (whole : Stored meaning.ObjectPart) (ss : Selections) (c : C) → SameAs Tells whole (walk.select w d ss env (f c)) s → ss ≡ Whole → GivesAs f Tells whole s (Some c)
   unfolding ret walk.select
   places_end f whole ss c h is = λ x told. subst (λ z. whole.does (facing x s.state) ≡ (walk.select w d z env (f c)).does (facing x s.state)) is (h x told)

@@ -7,6 +7,7 @@ use Rattle.behaviours.specs.Paths.{Everywhere}
 use Rattle.ada_meaning.specs.Meaning as meaning
 use Rattle.ada_meaning.specs.Meaning.{raises}
 use Rattle.ada_meaning.specs.Stored.{State, Stored, Computes, handles, ret}
+use Rattle.ada_meaning.specs.Programs.{by_one_worker}
 use Rattle.ada_meaning.proofs.StoredProof.{stored_law}
 use Rattle.run_store.specs.declared.ends.End.{End}
 use Rattle.run_store.specs.declared.ends.End.TheVariants as end
@@ -17,7 +18,7 @@ use Rattle.run_store.specs.Shows.{Image, facing, Shows, Answers, leave_of}
 use Rattle.run_store.proofs.Going.{stays, same_shows}
 use Rattle.run_parts.specs.declared.work.Work.{Work}
 use Rattle.run_parts.specs.Words.{nodes_of, calls_of}
-use Rattle.run_walk.specs.Run.{main, main_ended, answer_of, setting_of, IsRun}
+use Rattle.run_walk.specs.Run.{main, main_ended, answer_of, IsRun}
 use Rattle.run_walk.proofs.Looping.{handles_so, handles_not}
 use Rattle.run_walk.specs.Walk as walk
 
@@ -34,7 +35,7 @@ run_shows w r s t h = record {
   cause = h.0;
   back = h.1.back;
   permitted = λ input told rule slots begun.
-      stored_law (program w.typed.now) (setting_of w) slots input s.state.output (answer_of r) (facing input t.state) rule
+      stored_law (program w.typed.now) (by_one_worker w.plan.now w.limit) slots input s.state.output (answer_of r) (facing input t.state) rule
       (subst (λ (x : State). Computes (main w) x (answer_of r) (facing input t.state)) (ap (facing input) begun) (computes (main w) r (facing input s.state) (facing input t.state) (h.2 input told)));
 }
 

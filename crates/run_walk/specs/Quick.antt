@@ -11,5 +11,5 @@ abbrev pub SameAs : {A : Type 0} → (List ℕ → Outside → Type 0) → Store
 SameAs Tells m n s = (w : List ℕ) → Tells w (outside_of s) → m.does (facing w s.state) ≡ n.does (facing w s.state)
 
 -- the part of an object before which there are so many cells
-abbrev pub at_offset : ℕ → ℕ → meaning.Part
+abbrev pub at_offset : ℕ → ℕ → meaning.ObjectPart
 at_offset object offset = record { object = object; offset = offset }

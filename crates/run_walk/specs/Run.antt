@@ -1,8 +1,8 @@
 -- What a whole run shows.
-use Rattle.std.specs.Prelude.{◌≡◌, ℕ, List, [], ◌++◌, Bool, true, Result, Ok, Err}
+use Rattle.std.specs.Prelude.{◌≡◌, ℕ, List, [], ◌++◌, Bool, Result, Ok, Err}
 use Rattle.typed_tree.specs.Programs.{program}
 use Rattle.ada_meaning.specs.Nonblocking.{KeepsRule}
-use Rattle.ada_meaning.specs.Programs.{Setting}
+use Rattle.ada_meaning.specs.Programs.{by_one_worker}
 use Rattle.ada_meaning.specs.Law.{IsPermitted}
 use Rattle.ada_meaning.specs.Meaning as meaning
 use Rattle.ada_meaning.specs.Stored.{Stored, Stop, Goes, Fails, Left, OutOfTurns, MemoryFault, InputFault, OutputFault, outset, put_out, outcome_of}
@@ -35,9 +35,6 @@ abbrev pub answer_of : Result (Unit {0}) End → Result (Unit {0}) Stop
 answer_of (Ok u) = Ok u
 answer_of (Err e) = Err (stop_of e)
 
-abbrev pub setting_of : Work → Setting
-setting_of w = record { plan = w.plan.now; one = true; limit = w.limit }
-
 -- A run: a fault of a device is answered where its count rose and nowhere else; and an input that may be the whole one after
 -- it may have been it before. On each such input, where the program keeps the rule on blocking calls, no run had
 -- begun, and nothing had come, the output that was there is followed by what the run put out, and what the run comes to is
@@ -46,4 +43,4 @@ pub record IsRun (Tells : List ℕ → Outside → Type 0) (w : Work) (r : Resul
   pub cause : Causes r s.faults t.faults
   pub back : (input : List ℕ) → Tells input (outside_of t) → Tells input (outside_of s)
   pub permitted : (input : List ℕ) → Tells input (outside_of t) → KeepsRule (program w.typed.now) → (slots : ℕ) → s.state ≡ outset slots [] s.state.output
-      → (t.state.output ≡ s.state.output ++ put_out s.state.output t.state) × ((early : Bool) × IsPermitted (program w.typed.now) (setting_of w) input early (outcome_of (program w.typed.now) s.state.output (answer_of r) t.state))
+      → (t.state.output ≡ s.state.output ++ put_out s.state.output t.state) × ((early : Bool) × IsPermitted (program w.typed.now) (by_one_worker w.plan.now w.limit) input early (outcome_of (program w.typed.now) s.state.output (answer_of r) t.state))

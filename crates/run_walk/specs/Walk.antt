@@ -12,7 +12,7 @@ use Rattle.typed_tree.specs.Decoded.{expr_at, iteration_at, stmts_at, arms_at, v
 use Rattle.typed_tree.specs.declared.scalars.Class.{Class}
 use Rattle.typed_tree.specs.declared.scalars.Scalar.{Scalar}
 use Rattle.typed_tree.specs.declared.scalars.Check.{Check}
-use Rattle.typed_tree.specs.declared.scalars.Comparison.{Comparison}
+use Rattle.ada_base.specs.declared.operation.Comparison.{Comparison}
 use Rattle.typed_tree.specs.declared.expressions.Sign.{Sign}
 use Rattle.typed_tree.specs.declared.expressions.Root.{Root}
 use Rattle.typed_tree.specs.declared.expressions.Run.{Run}
@@ -24,7 +24,7 @@ use Rattle.typed_tree.specs.Programs.{program}
 use Rattle.ada_meaning.specs.Values.{truth, bit, compares, between, to_nat, is_in, image_of}
 use Rattle.ada_meaning.specs.Operations.{IndexCheck, RangeCheck, Sized, operate, reduce}
 use Rattle.ada_meaning.specs.Meaning as meaning
-use Rattle.ada_meaning.specs.Meaning.{Env, Part, Passed, Returned, Back, Course, Chunking, inside, variable_root, constant_root, moved, with_target, iterated_env, outset, returns, exits, value_of, sub_at}
+use Rattle.ada_meaning.specs.Meaning.{Env, ObjectPart, Passed, Returned, Back, Course, Chunking, inside, variable_root, constant_root, moved, with_target, iterated_env, outset, returns, exits, value_of, sub_at}
 use Rattle.ada_meaning.specs.Stored
 use Rattle.ada_meaning.specs.Stored.{Stored, Took, thread, par, first_of_both, after_all, doings, bind, ret, leaves, handles, apart, reads, writes, checks, puts}
 use Rattle.ada_base.specs.Image.{padded}
@@ -45,7 +45,7 @@ eval w d e env = meaning.eval (ops w) w.limit (program w.typed.now) (calls_of w 
 unfoldable pub holds : Work → ℕ → Optional → Env → Stored Bool
 holds w d e env = meaning.holds (ops w) w.limit (program w.typed.now) (calls_of w d) e env
 
-unfoldable pub select : Work → ℕ → Selections → Env → Part → Stored Part
+unfoldable pub select : Work → ℕ → Selections → Env → ObjectPart → Stored ObjectPart
 select w d ss env p = meaning.select (ops w) w.limit (program w.typed.now) (calls_of w d) ss env p
 
 unfoldable pub pass : Work → ℕ → Actuals → Env → List Passed → Stored (List Passed)
@@ -143,16 +143,16 @@ module _ (w : Work) (d : ℕ) where
 
   -- ---- selections
 
-  abbrev pub field : ℕ → Selections → Env → Part → Stored Part
+  abbrev pub field : ℕ → Selections → Env → ObjectPart → Stored ObjectPart
   field offset rest env p = select w d rest env (moved p offset)
 
-  abbrev pub index : ℕ → Expr → ℤ → ℤ → ℕ → Selections → Env → Part → Stored Part
+  abbrev pub index : ℕ → Expr → ℤ → ℤ → ℕ → Selections → Env → ObjectPart → Stored ObjectPart
   index at e low high stride rest env p =
       bind (eval w d e env) (λ i. bind (checks IndexCheck at (between low i high)) (λ _. select w d rest env (moved p (to_nat (i -ℤ low) * stride))))
 
   -- ---- what is stored
 
-  abbrev pub assigned : Value → Part → Env → Stored (Unit {0})
+  abbrev pub assigned : Value → ObjectPart → Env → Stored (Unit {0})
   assigned v p env = bind (cells w d v env) (λ cs. write_all w p.object p.offset cs)
 
   abbrev pub assign : Root → Selections → Value → Env → Stored (Unit {0})
@@ -185,7 +185,7 @@ module _ (w : Work) (d : ℕ) where
   abbrev pub in_passed : ℕ → Value → Env → Stored Passed
   in_passed formal v env = bind (cells w d v env) (λ cs. ret (record { formal = ConstantOf formal; cells = cs; back = None }))
 
-  abbrev pub back_to : Part → List Scalar → Option Check → Option Back
+  abbrev pub back_to : ObjectPart → List Scalar → Option Check → Option Back
   back_to p ss check = Some (record { part = p; cells = ss; check = check })
 
   abbrev pub in_out_passed : ℕ → ℕ → Root → Selections → Scalar → Scalar → Env → Stored Passed

@@ -16,6 +16,7 @@ use crate::courses::begin_course;
 use crate::exprs::eval;
 use crate::loops::iterate;
 use crate::stmts::exec_all;
+use ada_meaning::MOST_THREADS;
 use run_parts::{
     Chunking, Course, Work, caught, check_count, count_arms, each_chunk, either, even_sizes,
     find_arm, inside, later, loop_sizes, most_of, opened, size_at,
@@ -176,7 +177,7 @@ fn threads_of<P: Port + Drop>(
     ensures { Shows P.Tells (spec.threads_of work.now calls (optional_at (nodes_of work.now) id) (env_of env.now)) result store.old store.new }
 {
     match work.typed.nodes.optional(id) {
-        None => Ok(4096),
+        None => Ok(MOST_THREADS),
         Some(_) => {
             let value = eval(work, calls, id, env, store)?;
             let most = most_of(work, value, store)?;
@@ -199,7 +200,7 @@ pub fn begin_chunks<P: Port + Drop>(
     ensures { ShowsAs chunking_of P.Tells (spec.chunking work.now calls (chunk_at (nodes_of work.now) id) (env_of env.now)) result store.old store.new }
 {
     match work.typed.nodes.chunk(id) {
-        None => Ok(Chunking::ByPlan { most: 4096 }),
+        None => Ok(Chunking::ByPlan { most: MOST_THREADS }),
         Some(Chunk::Count { value }) => {
             let v = eval(work, calls, value, env, store)?;
             let most = most_of(work, v, store)?;

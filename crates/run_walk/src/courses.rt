@@ -13,7 +13,7 @@ use crate::exprs::{eval, holds};
 use crate::names::select;
 use ada_base::Reason;
 use run_parts::{Course, Work, bounds_hold};
-use run_store::{End, Env, Leave, Part, Port, Range, Store};
+use run_store::{End, Env, Leave, ObjectPart, Port, Range, Store};
 use typed_tree::Iteration;
 
 /// The range or array of an iteration.
@@ -33,7 +33,7 @@ pub fn begin_course<P: Port + Drop>(
         None => Ok(Course::Components {
             item: 0,
             constant: true,
-            part: Part {
+            part: ObjectPart {
                 object: 0,
                 offset: 0,
             },

@@ -13,7 +13,7 @@ use crate::exprs::eval;
 use crate::quick::{LEVELS, quick_rest};
 use ada_base::Reason;
 use run_parts::{Work, component, moved};
-use run_store::{End, Env, Leave, Part, Port, Range, Store, between};
+use run_store::{End, Env, Leave, ObjectPart, Port, Range, Store, between};
 use typed_tree::Selection;
 
 /// The part that selections lead to (4.1.1, 4.1.3).
@@ -23,9 +23,9 @@ pub fn select<P: Port + Drop>(
     calls: u32,
     id: u32,
     env: &Env<'_>,
-    part: Part,
+    part: ObjectPart,
     store: &mut Store<P>,
-) -> Result<Part, End>
+) -> Result<ObjectPart, End>
     ensures { ShowsAs part_of P.Tells (spec.select work.now calls (selections_at (nodes_of work.now) id) (env_of env.now) (part_of part)) result store.old store.new }
 {
     match quick_rest(
@@ -38,7 +38,7 @@ pub fn select<P: Port + Drop>(
         part.offset,
         &*store,
     ) {
-        Some(offset) => Ok(Part {
+        Some(offset) => Ok(ObjectPart {
             object: part.object,
             offset,
         }),
@@ -54,9 +54,9 @@ fn select_by_parts<P: Port + Drop>(
     calls: u32,
     id: u32,
     env: &Env<'_>,
-    part: Part,
+    part: ObjectPart,
     store: &mut Store<P>,
-) -> Result<Part, End>
+) -> Result<ObjectPart, End>
     ensures { ShowsAs part_of P.Tells (spec.select work.now calls (selections_at (nodes_of work.now) id) (env_of env.now) (part_of part)) result store.old store.new }
 {
     match work.typed.nodes.selections(id) {
@@ -91,9 +91,9 @@ fn select_rest<P: Port + Drop>(
     calls: u32,
     id: u32,
     env: &Env<'_>,
-    part: Part,
+    part: ObjectPart,
     store: &mut Store<P>,
-) -> Result<Part, End>
+) -> Result<ObjectPart, End>
     ensures { ShowsAs part_of P.Tells (spec.select work.now calls (selections_at (nodes_of work.now) id) (env_of env.now) (part_of part)) result store.old store.new }
 {
     store.take_room()?;
@@ -110,9 +110,9 @@ fn field<P: Port + Drop>(
     offset: u32,
     rest: u32,
     env: &Env<'_>,
-    part: Part,
+    part: ObjectPart,
     store: &mut Store<P>,
-) -> Result<Part, End>
+) -> Result<ObjectPart, End>
     ensures { ShowsAs part_of P.Tells (spec.field work.now calls offset (selections_at (nodes_of work.now) rest) (env_of env.now) (part_of part)) result store.old store.new }
 {
     let inner = moved(part, u64::from(offset))?;
@@ -131,9 +131,9 @@ fn index<P: Port + Drop>(
     stride: u32,
     rest: u32,
     env: &Env<'_>,
-    part: Part,
+    part: ObjectPart,
     store: &mut Store<P>,
-) -> Result<Part, End>
+) -> Result<ObjectPart, End>
     ensures { ShowsAs part_of P.Tells (spec.index work.now calls at (expr_at (nodes_of work.now) value) range.low range.high stride (selections_at (nodes_of work.now) rest) (env_of env.now) (part_of part)) result store.old store.new }
 {
     let _ = at;

@@ -10,11 +10,12 @@ ghost use Rattle.run_walk.specs.Walk as spec;
 ghost use Rattle.run_parts.specs.Words.{nodes_of};
 
 use crate::paths::{constant_by_path, place_by_path, variable_by_path};
+use ada_base::Comparison;
 use run_parts::Work;
 use run_store::{
     Env, Object, Port, Store, between, bit, compares, is_in, is_true, operated, unary_result,
 };
-use typed_tree::{Check, Class, Comparison, Expr, Link, Root, Selection, Sign};
+use typed_tree::{Check, Class, Expr, Link, Root, Selection, Sign};
 
 /// How many levels of operands, and how many selections of a name, are gone through before it is left to the walk. So a
 /// node is looked at a bounded number of times before the walk comes to it.

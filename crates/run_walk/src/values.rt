@@ -11,7 +11,7 @@ use crate::exprs::eval;
 use crate::names::select;
 use ada_base::{Items, Reason};
 use run_parts::{Cells, Work, further, lay, one, placed, read_whole, turned, write_all, zeros};
-use run_store::{End, Env, Leave, Object, Part, Port, Store, is_in, is_true};
+use run_store::{End, Env, Leave, Object, ObjectPart, Port, Store, is_in, is_true};
 use typed_tree::{Check, Composite, Iterated, Leaf, Root, Run, Value};
 
 /// The cells of what is stored.
@@ -385,7 +385,7 @@ fn assigned<P: Port + Drop>(
     work: &Work<'_>,
     calls: u32,
     id: u32,
-    part: Part,
+    part: ObjectPart,
     env: &Env<'_>,
     store: &mut Store<P>,
 ) -> Result<(), End>

@@ -4,12 +4,13 @@ ghost use Rattle.syntax_readers.specs.Computes.{Computes};
 ghost use Rattle.syntax_grammar.specs.Brackets as brackets;
 ghost use Rattle.syntax_grammar.specs.Expressions as reader;
 
+use ada_base::Comparison;
 use ada_base::kinds::{
     AMPERSAND, AT_LEAST, AT_MOST, EQUAL, GREATER, LESS, MINUS, MOD, PLUS, REM, REVERSE, SLASH,
     STAR, UNEQUAL,
 };
 use syntax_readers::{Cursor, Fault};
-use syntax_tree::{Additive, Comparison, Multiplicative, Sign};
+use syntax_tree::{Additive, Multiplicative, Sign};
 
 /// A multiplying operator, and its token (4.5.5).
 #[tactic(auto, unfolding(syntax_grammar::specs::Expressions::multiplying_operator))]

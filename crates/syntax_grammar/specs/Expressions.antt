@@ -6,8 +6,8 @@ use Rattle.syntax_tree.specs.Syntax as syntax
 use Rattle.syntax_tree.specs.Syntax.{Expr, Single, Joined, Conjunct, NoConjunct, Rel, Alone, Compared, Within, OfMark, Simple, Sum, Adding, Addings, NoAdding, Term, Product, Multiplying, NoMultiplying, Factor, Operand, Power, Abs, Not, Primary, Number, Text, Target, Named, Name, Part, Field, Attribute, RangeAttribute, NoPart}
 use Rattle.syntax_tree.specs.declared.operators.Logical.{Logical}
 use Rattle.syntax_tree.specs.declared.operators.Logical.TheVariants as logical
-use Rattle.syntax_tree.specs.declared.operators.Comparison.{Comparison}
-use Rattle.syntax_tree.specs.declared.operators.Comparison.TheVariants as comparison'
+use Rattle.ada_base.specs.declared.operation.Comparison.{Comparison}
+use Rattle.ada_base.specs.declared.operation.Comparison.TheVariants as comparison'
 use Rattle.syntax_tree.specs.declared.operators.Additive.{Additive}
 use Rattle.syntax_tree.specs.declared.operators.Additive.TheVariants as additive
 use Rattle.syntax_tree.specs.declared.operators.Sign.{Sign}

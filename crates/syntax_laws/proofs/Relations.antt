@@ -15,8 +15,8 @@ use Rattle.syntax_tree.specs.Syntax.{Expr, Single, Joined, Conjunct, Conjuncts, 
 use Rattle.syntax_tree.specs.Joining.{bare_identifier}
 use Rattle.syntax_tree.specs.Patterns.{words_of}
 use Rattle.syntax_tree.specs.Productions as spell
-use Rattle.syntax_tree.specs.declared.operators.Comparison.{Comparison}
-use Rattle.syntax_tree.specs.declared.operators.Comparison.TheVariants as comparison'
+use Rattle.ada_base.specs.declared.operation.Comparison.{Comparison}
+use Rattle.ada_base.specs.declared.operation.Comparison.TheVariants as comparison'
 use Rattle.syntax_tree.specs.declared.operators.Logical.{Logical}
 use Rattle.syntax_tree.specs.declared.operators.Logical.TheVariants as logical
 use Rattle.syntax_grammar.specs.Opened.{Opened}

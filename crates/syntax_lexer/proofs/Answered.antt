@@ -7,8 +7,8 @@ use Rattle.syntax_lexer.specs.declared.fault.LexFault.{LexFault}
 use Rattle.syntax_lexer.specs.declared.fault.LexFault.TheVariants.{TooBig, NotUtf8, BadToken, WideLiteral, TooLong, OutOfMemory}
 use Rattle.syntax_lexer.specs.Lexed.{AreLexed, Tells, GivesTokens, GivesFault}
 use Rattle.std.specs.Str.{chars}
-use Rattle.syntax_tree.specs.Faults.{Fault, IsFirstFault, IsReadable, KeepLimits}
-use Rattle.syntax_tree.specs.Faults.Fault.{TooManyBytes, NoCharacter, NoToken, TooWide, TooManyTokens}
+use Rattle.syntax_tree.specs.Faults.{LexicalFault, IsFirstFault, IsReadable, KeepLimits}
+use Rattle.syntax_tree.specs.Faults.LexicalFault.{TooManyBytes, NoCharacter, NoToken, TooWide, TooManyTokens}
 use Rattle.syntax_tree.specs.Tokens.{AreTokensOf}
 use Rattle.syntax_lexer.proofs.OneList.{one_list}
 use Rattle.syntax_lexer.proofs.OneFault.{one_fault, no_fault}
@@ -22,7 +22,7 @@ gives_tokens text (Err (WideLiteral at)) h items readable t k = absurd (no_fault
 gives_tokens text (Err (TooLong count at)) h items readable t k = absurd (no_fault text items (TooManyTokens count at) readable t k h)
 gives_tokens text (Err OutOfMemory) h items readable t k = refl
 
-pub gives_fault : (text : List ℕ) (r : Result Tokenized LexFault) → MatchResult r (AreLexed text) (Tells text) → (first : Fault) → IsFirstFault text first → GivesFault r first
+pub gives_fault : (text : List ℕ) (r : Result Tokenized LexFault) → MatchResult r (AreLexed text) (Tells text) → (first : LexicalFault) → IsFirstFault text first → GivesFault r first
 gives_fault text (Ok tokens) h first f = no_fault text tokens.items first h.readable h.tokens_of h.limits f
 gives_fault text (Err (TooBig bytes)) h first f = inr (ap Some (one_fault text (TooManyBytes bytes) first h f))
 gives_fault text (Err (NotUtf8 at)) h first f = inr (ap Some (one_fault text (NoCharacter at) first h f))

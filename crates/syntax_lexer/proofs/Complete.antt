@@ -12,7 +12,7 @@ use Rattle.ada_base.specs.declared.token.Kind.TheVariants.{Ident, Word, Number, 
 use Rattle.ada_base.specs.declared.token.Token.{Token}
 use Rattle.ada_base.specs.Place.{place_at}
 use Rattle.syntax_tree.specs.Faults.{IsNarrow, IsReadable, KeepLimits, Reaches, HasNoNext, IsBadToken, IsWideLiteral, IsTooLong, byte_limit, token_limit}
-use Rattle.syntax_tree.specs.Faults.Fault.{TooManyBytes, NoCharacter, NoToken, TooWide, TooManyTokens}
+use Rattle.syntax_tree.specs.Faults.LexicalFault.{TooManyBytes, NoCharacter, NoToken, TooWide, TooManyTokens}
 use Rattle.syntax_tree.specs.Gaps.{IsGap}
 use Rattle.syntax_tree.specs.Spelling.{admits_letter}
 use Rattle.syntax_tree.specs.Tokens.{Spot, start_of, after, IsNext, AreTokens}

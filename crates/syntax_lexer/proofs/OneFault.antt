@@ -10,8 +10,8 @@ use Rattle.std.proofs.lemmas.List.{take-append-drop, drop-take, length-take-le}
 use Rattle.std.proofs.lemmas.Str.{IsCharBoundary-from_take, IsUtf8-drop}
 use Rattle.ada_base.specs.declared.token.Token.{Token}
 use Rattle.ada_base.specs.Place.{place_at}
-use Rattle.syntax_tree.specs.Faults.{Fault, IsFirstFault, IsReadable, BeginsNoCharacter, KeepLimits}
-use Rattle.syntax_tree.specs.Faults.Fault.{TooManyBytes, NoCharacter, NoToken, TooWide, TooManyTokens}
+use Rattle.syntax_tree.specs.Faults.{LexicalFault, IsFirstFault, IsReadable, BeginsNoCharacter, KeepLimits}
+use Rattle.syntax_tree.specs.Faults.LexicalFault.{TooManyBytes, NoCharacter, NoToken, TooWide, TooManyTokens}
 use Rattle.syntax_tree.specs.Tokens.{AreTokensOf}
 use Rattle.syntax_lexer.proofs.OneList.{one_bad, one_wide, one_long, bad_or_wide, bad_or_long, wide_or_long, tokens_or_bad, tokens_or_wide, tokens_or_long}
 
@@ -65,7 +65,7 @@ earlier text at later below none other =
 one_character : (text : List ℕ) (m n : ℕ) → BeginsNoCharacter text m → BeginsNoCharacter text n → m ≡ n
 one_character text m n b d = ⊎_elim (λ e. e) (⊎_elim (λ less. absurd (earlier text m n less b d)) (λ more. absurd (earlier text n m more d b))) (cases_order m n)
 
-pub one_fault : (text : List ℕ) (f g : Fault) → IsFirstFault text f → IsFirstFault text g → f ≡ g
+pub one_fault : (text : List ℕ) (f g : LexicalFault) → IsFirstFault text f → IsFirstFault text g → f ≡ g
 one_fault text (TooManyBytes m) (TooManyBytes n) h k = ap TooManyBytes (h.1 ∙ sym k.1)
 one_fault text (TooManyBytes m) (NoCharacter n) h k = absurd (omega (arith, h.0, k.0))
 one_fault text (TooManyBytes m) (NoToken n) h k = absurd (omega (arith, h.0, k.0.short))
@@ -94,7 +94,7 @@ one_fault text (TooManyTokens c m) (TooManyTokens d n) h k =
     let places : m ≡ n = h.4 ∙ (ap (place_at text) (one_long (chars text) h.1 k.1 h.2 k.2) ∙ sym k.4) in
     ap (λ x. TooManyTokens x m) (h.3 ∙ sym k.3) ∙ ap (TooManyTokens d) places
 
-pub no_fault : (text : List ℕ) (items : List Token) (f : Fault) → IsReadable text → AreTokensOf text items → KeepLimits items → IsFirstFault text f → ⊥
+pub no_fault : (text : List ℕ) (items : List Token) (f : LexicalFault) → IsReadable text → AreTokensOf text items → KeepLimits items → IsFirstFault text f → ⊥
 no_fault text items (TooManyBytes m) r t k h = absurd (omega (arith, h.0, r.short))
 no_fault text items (NoCharacter m) r t k h = readable text m r.utf8 h.1
 no_fault text items (NoToken m) r t k h = tokens_or_bad (chars text) items t k h.1 h.2

@@ -4,12 +4,12 @@ use Rattle.ada_base.specs.declared.token.Token.{Token}
 use Rattle.ada_base.specs.Tokens.{Tokenized}
 use Rattle.syntax_lexer.specs.declared.fault.LexFault.{LexFault}
 use Rattle.syntax_lexer.specs.declared.fault.LexFault.TheVariants.{TooBig, NotUtf8, BadToken, WideLiteral, TooLong, OutOfMemory}
-use Rattle.syntax_tree.specs.Faults.{Fault, IsFirstFault, IsReadable, KeepLimits}
-use Rattle.syntax_tree.specs.Faults.Fault.{TooManyBytes, NoCharacter, NoToken, TooWide, TooManyTokens}
+use Rattle.syntax_tree.specs.Faults.{LexicalFault, IsFirstFault, IsReadable, KeepLimits}
+use Rattle.syntax_tree.specs.Faults.LexicalFault.{TooManyBytes, NoCharacter, NoToken, TooWide, TooManyTokens}
 use Rattle.syntax_tree.specs.Tokens.{AreTokensOf}
 
 -- the fault of the text that is told, if it is one
-abbrev pub fault_of : LexFault → Option Fault
+abbrev pub fault_of : LexFault → Option LexicalFault
 fault_of (TooBig bytes) = Some (TooManyBytes bytes)
 fault_of (NotUtf8 at) = Some (NoCharacter at)
 fault_of (BadToken at) = Some (NoToken at)
@@ -39,7 +39,7 @@ GivesTokens (Ok tokens) items = tokens.items ≡ items
 GivesTokens (Err fault) items = fault ≡ OutOfMemory
 
 -- the result is this fault, unless memory ran out
-abbrev pub GivesFault : Result Tokenized LexFault → Fault → Type 0
+abbrev pub GivesFault : Result Tokenized LexFault → LexicalFault → Type 0
 GivesFault (Ok tokens) fault = ⊥
 GivesFault (Err told) fault = (told ≡ OutOfMemory) ⊎ (fault_of told ≡ Some fault)
 
@@ -51,7 +51,7 @@ pub record HasTokens (text : List ℕ) : Type 0 where
   pub limits : KeepLimits items
 
 pub record HasFault (text : List ℕ) : Type 0 where
-  pub fault : Fault
+  pub fault : LexicalFault
   pub first : IsFirstFault text fault
 
 -- a text has tokens within the limits, or a first fault that says why not

@@ -1,7 +1,7 @@
 //! The tokens of a text.
 ghost use Rattle.std.specs.Prelude.{◌≡◌, ◌≤◌, ℕ, List, length, IfOk, IfErr, MatchResult};
 ghost use Rattle.std.specs.Str.{chars};
-ghost use Rattle.syntax_tree.specs.Faults.{byte_limit, Fault, IsFirstFault, IsReadable, KeepLimits};
+ghost use Rattle.syntax_tree.specs.Faults.{byte_limit, LexicalFault, IsFirstFault, IsReadable, KeepLimits};
 ghost use Rattle.syntax_lexer.specs.Lexed.{AreLexed, Tells, GivesTokens, GivesFault, HasAnswer};
 ghost use Rattle.syntax_tree.specs.Tokens.{AreTokensOf};
 ghost use Rattle.ada_base.specs.declared.token.Token.{Token};
@@ -82,7 +82,7 @@ pub fn lex(alloc: Global, text: &[u8]) -> Result<Tokens, LexFault>
     ensures fault { IfErr result (Tells text.now) }
     ensures all_tokens { (items : List Token) → IsReadable text.now → AreTokensOf text.now items
         → KeepLimits items → GivesTokens result items }
-    ensures all_faults { (first : Fault) → IsFirstFault text.now first → GivesFault result first }
+    ensures all_faults { (first : LexicalFault) → IsFirstFault text.now first → GivesFault result first }
 {
     judge(alloc, text)
 }
@@ -93,8 +93,8 @@ pub fn one_answer()
     ensures some { (text : List ℕ) → HasAnswer text }
     ensures tokens { (text : List ℕ) (items others : List Token) →
         AreTokensOf text items → AreTokensOf text others → items ≡ others }
-    ensures fault { (text : List ℕ) (first other : Fault) →
+    ensures fault { (text : List ℕ) (first other : LexicalFault) →
         IsFirstFault text first → IsFirstFault text other → first ≡ other }
-    ensures not_both { (text : List ℕ) (items : List Token) (first : Fault) →
+    ensures not_both { (text : List ℕ) (items : List Token) (first : LexicalFault) →
         IsReadable text → AreTokensOf text items → KeepLimits items → IsFirstFault text first → ⊥ }
 {}

@@ -8,7 +8,8 @@ ghost use Rattle.syntax_nodes.specs.Views.{of_adding, of_conjunct, of_elsif, of_
 
 use crate::tree::Tree;
 use crate::{Four, Leaf, Node, One, Three, Two};
-use syntax_tree::{Additive, Comparison, Logical, Multiplicative, Sign};
+use ada_base::Comparison;
+use syntax_tree::{Additive, Logical, Multiplicative, Sign};
 
 /// `expr` (4.4)
 #[derive(Clone, Copy)]

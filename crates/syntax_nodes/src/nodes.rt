@@ -2,7 +2,8 @@
 //! that is left out, or the end of a list. What a node holds beside the numbers of its parts is its form.
 
 use crate::lists::ListKind;
-use syntax_tree::{Additive, ClauseWord, Comparison, Logical, Mode, Multiplicative, Sign};
+use ada_base::Comparison;
+use syntax_tree::{Additive, ClauseWord, Logical, Mode, Multiplicative, Sign};
 
 /// A form without parts. A token is given by its number in the list of tokens.
 #[derive(Clone, Copy)]

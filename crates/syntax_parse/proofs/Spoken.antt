@@ -4,8 +4,8 @@ use Rattle.syntax_tree.specs.Syntax.{Expr, Single, Joined, Conjunct, conjunct, C
 use Rattle.ada_base.specs.Kinds as kind
 use Rattle.syntax_tree.specs.declared.operators.Logical.{Logical}
 use Rattle.syntax_tree.specs.declared.operators.Logical.TheVariants as logical
-use Rattle.syntax_tree.specs.declared.operators.Comparison.{Comparison}
-use Rattle.syntax_tree.specs.declared.operators.Comparison.TheVariants as comparison
+use Rattle.ada_base.specs.declared.operation.Comparison.{Comparison}
+use Rattle.ada_base.specs.declared.operation.Comparison.TheVariants as comparison
 use Rattle.syntax_tree.specs.declared.operators.Additive.{Additive}
 use Rattle.syntax_tree.specs.declared.operators.Additive.TheVariants as additive
 use Rattle.syntax_tree.specs.declared.operators.Multiplicative.{Multiplicative}

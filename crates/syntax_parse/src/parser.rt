@@ -16,11 +16,8 @@ use syntax_expressions::Parser;
 use syntax_nodes::{Parts, Tree, finish};
 use syntax_readers::{Cursor, Refusal, verdict};
 use syntax_statements::program;
-use syntax_tree::is_left_out;
+use syntax_tree::{DEPTH_LIMIT, is_left_out};
 use thiserror::Error;
-
-/// How deep a token of a program may stand.
-const DEPTH_LIMIT: u32 = 64;
 
 /// Why a list of tokens has no tree. A token is given by its number from 0; the End is one too.
 #[derive(Debug, Drop, Error)]

@@ -11,12 +11,12 @@ use Rattle.syntax_tree.specs.Spelling.{IsTokenAt}
 use Rattle.syntax_tree.specs.Tokens.{Spot, start_of, IsNext, AreNext}
 
 -- what a text may be refused for before it is parsed
-pub data Fault : Type 0 where
-  TooManyBytes : (bytes : ℕ) → Fault
-  NoCharacter : (at : ℕ) → Fault
-  NoToken : (at : Place) → Fault
-  TooWide : (at : Place) → Fault
-  TooManyTokens : (count : ℕ) (at : Place) → Fault
+pub data LexicalFault : Type 0 where
+  TooManyBytes : (bytes : ℕ) → LexicalFault
+  NoCharacter : (at : ℕ) → LexicalFault
+  NoToken : (at : Place) → LexicalFault
+  TooWide : (at : Place) → LexicalFault
+  TooManyTokens : (count : ℕ) (at : Place) → LexicalFault
 
 -- the most bytes of a text, and the most tokens before its End
 abbrev pub byte_limit : ℕ
@@ -99,7 +99,7 @@ pub record IsReadable (text : List ℕ) : Type 0 where
 
 -- The fault of a text, by the order of the checks: its bytes are counted, it is read as UTF-8, and then the
 -- tokens are judged from the first one on. The count of too many tokens includes the one that is too many.
-abbrev pub IsFirstFault : List ℕ → Fault → Type 0
+abbrev pub IsFirstFault : List ℕ → LexicalFault → Type 0
 IsFirstFault text (TooManyBytes bytes) = (byte_limit < length text) × (bytes ≡ length text)
 IsFirstFault text (NoCharacter at) = (length text ≤ byte_limit) × BeginsNoCharacter text at
 IsFirstFault text (NoToken place) =

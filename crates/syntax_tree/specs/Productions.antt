@@ -5,8 +5,8 @@ use Rattle.ada_base.specs.Kinds as kind
 use Rattle.syntax_tree.specs.Patterns.{Spelling, held, free, ◌then◌, nothing, optional_of, optional_of_after, each_of, each_of_after, inside}
 use Rattle.syntax_tree.specs.declared.operators.Logical.{Logical}
 use Rattle.syntax_tree.specs.declared.operators.Logical.TheVariants as logical
-use Rattle.syntax_tree.specs.declared.operators.Comparison.{Comparison}
-use Rattle.syntax_tree.specs.declared.operators.Comparison.TheVariants as comparison
+use Rattle.ada_base.specs.declared.operation.Comparison.{Comparison}
+use Rattle.ada_base.specs.declared.operation.Comparison.TheVariants as comparison
 use Rattle.syntax_tree.specs.declared.operators.Additive.{Additive}
 use Rattle.syntax_tree.specs.declared.operators.Additive.TheVariants as additive
 use Rattle.syntax_tree.specs.declared.operators.Multiplicative.{Multiplicative}

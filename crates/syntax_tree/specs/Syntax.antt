@@ -4,7 +4,7 @@
 -- operator with the operand after it.
 use Rattle.std.specs.Prelude.{ℕ, List, Option}
 use Rattle.syntax_tree.specs.declared.operators.Logical.{Logical}
-use Rattle.syntax_tree.specs.declared.operators.Comparison.{Comparison}
+use Rattle.ada_base.specs.declared.operation.Comparison.{Comparison}
 use Rattle.syntax_tree.specs.declared.operators.Additive.{Additive}
 use Rattle.syntax_tree.specs.declared.operators.Sign.{Sign}
 use Rattle.syntax_tree.specs.declared.operators.Multiplicative.{Multiplicative}

@@ -4,7 +4,7 @@ use Rattle.std.specs.Prelude.{List, [], ◌∷◌, Some, None}
 use Rattle.ada_base.specs.Kinds.{abs_word, ampersand, and_word, arrow, at_most, bar, close_round, close_square, comma, dots, double_star, else_word, elsif_word, equal, for_word, identifier, if_word, in_word, minus, mod_word, not_word, numeral, of_word, open_round, open_square, or_word, others_word, parallel_word, plus, point, range_word, semicolon, star, string, target, then_word, tick, xor_word}
 use Rattle.syntax_tree.specs.Syntax.{Single, Joined, conjunct, NoConjunct, AlsoConjunct, Alone, Compared, Within, OfMark, Sum, adding, NoAdding, AlsoAdding, Product, multiplying, NoMultiplying, AlsoMultiplying, Operand, Power, Abs, Not, Text, Target, Named, Group, If, Round, Square, OneValue, Reduction, elsif, NoElsif, AlsoElsif, NoExpr, AbsentExpr, name, Field, Call, Attribute, RangeAttribute, NoPart, AlsoPart, arg, NoArg, AlsoArg, Bounded, Value, Span, Others, NoChoice, AlsoChoice, Positions, PositionsOthers, FirstOthers, Associations, Chosen, Each, NoAssoc, AlsoAssoc, Unchunked, AbsentParallel, PresentParallel, InRange, OfName, CallStmt}
 use Rattle.syntax_tree.specs.declared.operators.Logical.TheVariants as logical
-use Rattle.syntax_tree.specs.declared.operators.Comparison.TheVariants as comparison
+use Rattle.ada_base.specs.declared.operation.Comparison.TheVariants as comparison
 use Rattle.syntax_tree.specs.declared.operators.Additive.TheVariants as additive
 use Rattle.syntax_tree.specs.declared.operators.Multiplicative.TheVariants as multiplicative
 use Rattle.syntax_tree.specs.declared.operators.Sign.TheVariants as sign

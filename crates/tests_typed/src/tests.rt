@@ -1,10 +1,10 @@
 use crate::readings::{digits, put_expressions, put_statements};
-use ada_base::{Base, Items, Op, Reason};
+use ada_base::{Base, Comparison, Items, Op, Reason};
 use std::alloc::AllocError;
 use typed_parts::Parts;
 use typed_tree::{
-    Check, Class, Comparison, Expr, Iterated, Leaf, Link, Nodes, Object, Root, Run, Scalar, Sign,
-    Span, Typed, eval,
+    Check, Class, Expr, Iterated, Leaf, Link, Nodes, Object, Root, Run, Scalar, Sign, Span, Typed,
+    eval,
 };
 
 const INTEGER: Class = Class::Integer(Base::Narrow);

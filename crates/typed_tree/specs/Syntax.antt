@@ -10,7 +10,7 @@ use Rattle.ada_base.specs.declared.reason.Reason.{Reason}
 use Rattle.typed_tree.specs.declared.scalars.Class.{Class}
 use Rattle.typed_tree.specs.declared.scalars.Scalar.{Scalar}
 use Rattle.typed_tree.specs.declared.scalars.Check.{Check}
-use Rattle.typed_tree.specs.declared.scalars.Comparison.{Comparison}
+use Rattle.ada_base.specs.declared.operation.Comparison.{Comparison}
 use Rattle.typed_tree.specs.declared.expressions.Sign.{Sign}
 use Rattle.typed_tree.specs.declared.expressions.Root.{Root}
 use Rattle.typed_tree.specs.declared.expressions.Run.{Run}

@@ -1,8 +1,8 @@
 //! Expressions (4.4), names of objects (4.1) and what they are made of, as nodes of a table. A part is given by its
 //! number there, which is smaller than the number of what it is a part of.
 
-use crate::scalars::{Check, Class, Comparison, Scalar};
-use ada_base::Op;
+use crate::scalars::{Check, Class, Scalar};
+use ada_base::{Comparison, Op};
 
 /// An expression of a scalar type.
 #[derive(Clone, Copy)]

@@ -30,7 +30,7 @@ pub use expressions::{
 pub use node::{Cell, Fold, Leaf, LeafCell, Link, Node};
 pub use nodes::Nodes;
 pub use program::{Bounds, Declared, Field, Formal, Mode, Object, Site, SiteKind, Sub, Subtype};
-pub use scalars::{Check, Class, Comparison, Scalar};
+pub use scalars::{Check, Class, Scalar};
 pub use statements::{Alternative, Body, Decl, Handler, Piece, Span, Stmt};
 pub use statics::eval;
 pub use typed::Typed;

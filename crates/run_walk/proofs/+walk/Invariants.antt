@@ -12,204 +12,205 @@ use Rattle.typed_tree.specs.Chained.{right_of, AreBelow}
 use Rattle.run_walk.proofs.Chaining.{Stands}
 use Rattle.run_walk.proofs.Passing.{actual_top}
 use Rattle.run_walk.specs.Walk.{eval, pass, exec_all, while_loop, while_left, for_loop, for_left, run_values, fold_left, threads_folded, share_folded, combined_onto, threads_run, share_run, share_left}
+use Rattle.run_walk.proofs.Measures.{per_call, per_node, per_stage, per_step}
 use Rattle.run_walk.proofs.+walk.Given as goal
 
 -- Calls first, then numbers of nodes, then the order in which functions that go by one node call each other.
 
 abbrev pub decreases-exprs::eval_by_parts : goal.decreases-exprs::eval_by_parts
-decreases-exprs::eval_by_parts g l = 1208925819614629174706176 * l.calls + 1099511627776 * l.id + 137438953472
+decreases-exprs::eval_by_parts g l = per_call * l.calls + per_node * l.id + 4 * per_step
 
 abbrev pub decreases-exprs::eval : goal.decreases-exprs::eval
-decreases-exprs::eval g l = 1208925819614629174706176 * l.calls + 1099511627776 * l.id + 274877906944
+decreases-exprs::eval g l = per_call * l.calls + per_node * l.id + 8 * per_step
 
 abbrev pub decreases-exprs::eval_else : goal.decreases-exprs::eval_else
-decreases-exprs::eval_else g l = 1208925819614629174706176 * l.calls + 1099511627776 * l.id + 412316860416
+decreases-exprs::eval_else g l = per_call * l.calls + per_node * l.id + 12 * per_step
 
 abbrev pub decreases-names::select_by_parts : goal.decreases-names::select_by_parts
-decreases-names::select_by_parts g l = 1208925819614629174706176 * l.calls + 1099511627776 * l.id + 137438953472
+decreases-names::select_by_parts g l = per_call * l.calls + per_node * l.id + 4 * per_step
 
 abbrev pub decreases-names::select : goal.decreases-names::select
-decreases-names::select g l = 1208925819614629174706176 * l.calls + 1099511627776 * l.id + 274877906944
+decreases-names::select g l = per_call * l.calls + per_node * l.id + 8 * per_step
 
 abbrev pub decreases-names::select_rest : goal.decreases-names::select_rest
-decreases-names::select_rest g l = 1208925819614629174706176 * l.calls + 1099511627776 * l.id + 412316860416
+decreases-names::select_rest g l = per_call * l.calls + per_node * l.id + 12 * per_step
 
 abbrev pub decreases-exprs::holds : goal.decreases-exprs::holds
-decreases-exprs::holds g l = 1208925819614629174706176 * l.calls + 1099511627776 * l.id + 412316860416
+decreases-exprs::holds g l = per_call * l.calls + per_node * l.id + 12 * per_step
 
 abbrev pub decreases-actuals::pass : goal.decreases-actuals::pass
-decreases-actuals::pass g l = 1208925819614629174706176 * l.calls + 1099511627776 * l.id + 274877906944
+decreases-actuals::pass g l = per_call * l.calls + per_node * l.id + 8 * per_step
 
 abbrev pub decreases-actuals::evaluated : goal.decreases-actuals::evaluated
-decreases-actuals::evaluated g l = 1208925819614629174706176 * l.calls + 1099511627776 * actual_top l.actual + 687194767360
+decreases-actuals::evaluated g l = per_call * l.calls + per_node * actual_top l.actual + 20 * per_step
 
 abbrev pub decreases-actuals::passed_in : goal.decreases-actuals::passed_in
-decreases-actuals::passed_in g l = 1208925819614629174706176 * l.calls + 1099511627776 * l.value + 549755813888
+decreases-actuals::passed_in g l = per_call * l.calls + per_node * l.value + 16 * per_step
 
 abbrev pub decreases-actuals::passed_in_out : goal.decreases-actuals::passed_in_out
-decreases-actuals::passed_in_out g l = 1208925819614629174706176 * l.calls + 1099511627776 * l.selections + 549755813888
+decreases-actuals::passed_in_out g l = per_call * l.calls + per_node * l.selections + 16 * per_step
 
 abbrev pub decreases-actuals::passed_out : goal.decreases-actuals::passed_out
-decreases-actuals::passed_out g l = 1208925819614629174706176 * l.calls + 1099511627776 * l.selections + 549755813888
+decreases-actuals::passed_out g l = per_call * l.calls + per_node * l.selections + 16 * per_step
 
 abbrev pub decreases-actuals::passed_whole : goal.decreases-actuals::passed_whole
-decreases-actuals::passed_whole g l = 1208925819614629174706176 * l.calls + 1099511627776 * l.selections + 549755813888
+decreases-actuals::passed_whole g l = per_call * l.calls + per_node * l.selections + 16 * per_step
 
 abbrev pub decreases-values::cells : goal.decreases-values::cells
-decreases-values::cells g l = 1208925819614629174706176 * l.calls + 1099511627776 * l.id + 274877906944
+decreases-values::cells g l = per_call * l.calls + per_node * l.id + 8 * per_step
 
 abbrev pub decreases-values::composite : goal.decreases-values::composite
-decreases-values::composite g l = 1208925819614629174706176 * l.calls + 1099511627776 * l.id + 274877906944
+decreases-values::composite g l = per_call * l.calls + per_node * l.id + 8 * per_step
 
 abbrev pub decreases-values::composite_else : goal.decreases-values::composite_else
-decreases-values::composite_else g l = 1208925819614629174706176 * l.calls + 1099511627776 * l.id + 412316860416
+decreases-values::composite_else g l = per_call * l.calls + per_node * l.id + 12 * per_step
 
 abbrev pub decreases-values::associated : goal.decreases-values::associated
-decreases-values::associated g l = 1208925819614629174706176 * l.calls + 1099511627776 * l.id + 274877906944
+decreases-values::associated g l = per_call * l.calls + per_node * l.id + 8 * per_step
 
 abbrev pub decreases-values::associated_rest : goal.decreases-values::associated_rest
-decreases-values::associated_rest g l = 1208925819614629174706176 * l.calls + 1099511627776 * l.id + 412316860416
+decreases-values::associated_rest g l = per_call * l.calls + per_node * l.id + 12 * per_step
 
 abbrev pub decreases-courses::begin_course : goal.decreases-courses::begin_course
-decreases-courses::begin_course g l = 1208925819614629174706176 * l.calls + 1099511627776 * l.id + 274877906944
+decreases-courses::begin_course g l = per_call * l.calls + per_node * l.id + 8 * per_step
 
 abbrev pub decreases-courses::filtered : goal.decreases-courses::filtered
-decreases-courses::filtered g l = 1208925819614629174706176 * l.calls + 1099511627776 * l.id + 274877906944
+decreases-courses::filtered g l = per_call * l.calls + per_node * l.id + 8 * per_step
 
 abbrev pub decreases-values::assigned : goal.decreases-values::assigned
-decreases-values::assigned g l = 1208925819614629174706176 * l.calls + 1099511627776 * l.id + 274877906944
+decreases-values::assigned g l = per_call * l.calls + per_node * l.id + 8 * per_step
 
 abbrev pub decreases-bodies::body : goal.decreases-bodies::body
-decreases-bodies::body g l = 1208925819614629174706176 * l.calls + 1099511627776 * l.id + 858993459200
+decreases-bodies::body g l = per_call * l.calls + per_node * l.id + 25 * per_step
 
 abbrev pub decreases-stmts::exec : goal.decreases-stmts::exec
-decreases-stmts::exec g l = 1208925819614629174706176 * l.calls + 1099511627776 * l.id + 274877906944
+decreases-stmts::exec g l = per_call * l.calls + per_node * l.id + 8 * per_step
 
 abbrev pub decreases-stmts::exec_all : goal.decreases-stmts::exec_all
-decreases-stmts::exec_all g l = 1208925819614629174706176 * l.calls + 1099511627776 * l.id + 274877906944
+decreases-stmts::exec_all g l = per_call * l.calls + per_node * l.id + 8 * per_step
 
 abbrev pub decreases-stmts::exec_else : goal.decreases-stmts::exec_else
-decreases-stmts::exec_else g l = 1208925819614629174706176 * l.calls + 1099511627776 * l.id + 412316860416
+decreases-stmts::exec_else g l = per_call * l.calls + per_node * l.id + 12 * per_step
 
 abbrev pub decreases-exprs::variable : goal.decreases-exprs::variable
-decreases-exprs::variable g l = 1208925819614629174706176 * l.calls + 1099511627776 * l.selections + 549755813888
+decreases-exprs::variable g l = per_call * l.calls + per_node * l.selections + 16 * per_step
 
 abbrev pub decreases-exprs::constant : goal.decreases-exprs::constant
-decreases-exprs::constant g l = 1208925819614629174706176 * l.calls + 1099511627776 * l.selections + 549755813888
+decreases-exprs::constant g l = per_call * l.calls + per_node * l.selections + 16 * per_step
 
 abbrev pub decreases-exprs::unary : goal.decreases-exprs::unary
-decreases-exprs::unary g l = 1208925819614629174706176 * l.calls + 1099511627776 * l.operand + 549755813888
+decreases-exprs::unary g l = per_call * l.calls + per_node * l.operand + 16 * per_step
 
 abbrev pub decreases-exprs::relation : goal.decreases-exprs::relation
-decreases-exprs::relation g l = 1208925819614629174706176 * l.calls + 1099511627776 * (max l.left l.right) + 549755813888
+decreases-exprs::relation g l = per_call * l.calls + per_node * (max l.left l.right) + 16 * per_step
 
 abbrev pub decreases-exprs::membership : goal.decreases-exprs::membership
-decreases-exprs::membership g l = 1208925819614629174706176 * l.calls + 1099511627776 * (max l.value (max l.low l.high)) + 549755813888
+decreases-exprs::membership g l = per_call * l.calls + per_node * (max l.value (max l.low l.high)) + 16 * per_step
 
 abbrev pub decreases-exprs::conditional : goal.decreases-exprs::conditional
-decreases-exprs::conditional g l = 1208925819614629174706176 * l.calls + 1099511627776 * (max l.condition (max l.value l.otherwise)) + 549755813888
+decreases-exprs::conditional g l = per_call * l.calls + per_node * (max l.condition (max l.value l.otherwise)) + 16 * per_step
 
 abbrev pub decreases-exprs::converted : goal.decreases-exprs::converted
-decreases-exprs::converted g l = 1208925819614629174706176 * l.calls + 1099511627776 * l.value + 549755813888
+decreases-exprs::converted g l = per_call * l.calls + per_node * l.value + 16 * per_step
 
 abbrev pub decreases-names::field : goal.decreases-names::field
-decreases-names::field g l = 1208925819614629174706176 * l.calls + 1099511627776 * l.rest + 549755813888
+decreases-names::field g l = per_call * l.calls + per_node * l.rest + 16 * per_step
 
 abbrev pub decreases-names::index : goal.decreases-names::index
-decreases-names::index g l = 1208925819614629174706176 * l.calls + 1099511627776 * (max l.value l.rest) + 549755813888
+decreases-names::index g l = per_call * l.calls + per_node * (max l.value l.rest) + 16 * per_step
 
 abbrev pub decreases-exprs::call_function : goal.decreases-exprs::call_function
-decreases-exprs::call_function g l = 1208925819614629174706176 * l.calls + 1099511627776 * l.actuals + 549755813888
+decreases-exprs::call_function g l = per_call * l.calls + per_node * l.actuals + 16 * per_step
 
 abbrev pub decreases-values::number : goal.decreases-values::number
-decreases-values::number g l = 1208925819614629174706176 * l.calls + 1099511627776 * l.value + 549755813888
+decreases-values::number g l = per_call * l.calls + per_node * l.value + 16 * per_step
 
 abbrev pub decreases-values::whole_variable : goal.decreases-values::whole_variable
-decreases-values::whole_variable g l = 1208925819614629174706176 * l.calls + 1099511627776 * l.selections + 549755813888
+decreases-values::whole_variable g l = per_call * l.calls + per_node * l.selections + 16 * per_step
 
 abbrev pub decreases-values::whole_constant : goal.decreases-values::whole_constant
-decreases-values::whole_constant g l = 1208925819614629174706176 * l.calls + 1099511627776 * l.selections + 549755813888
+decreases-values::whole_constant g l = per_call * l.calls + per_node * l.selections + 16 * per_step
 
 abbrev pub decreases-values::composite_if : goal.decreases-values::composite_if
-decreases-values::composite_if g l = 1208925819614629174706176 * l.calls + 1099511627776 * (max l.condition (max l.value l.otherwise)) + 549755813888
+decreases-values::composite_if g l = per_call * l.calls + per_node * (max l.condition (max l.value l.otherwise)) + 16 * per_step
 
 abbrev pub decreases-values::assign : goal.decreases-values::assign
-decreases-values::assign g l = 1208925819614629174706176 * l.calls + 1099511627776 * (max l.selections l.value) + 549755813888
+decreases-values::assign g l = per_call * l.calls + per_node * (max l.selections l.value) + 16 * per_step
 
 abbrev pub decreases-values::run_values : goal.decreases-values::run_values
-decreases-values::run_values g l = 1208925819614629174706176 * l.calls + 1099511627776 * l.value + 412316860416
+decreases-values::run_values g l = per_call * l.calls + per_node * l.value + 12 * per_step
 
 abbrev pub decreases-values::given : goal.decreases-values::given
-decreases-values::given g l = 1208925819614629174706176 * l.calls + 1099511627776 * l.value + 343597383680
+decreases-values::given g l = per_call * l.calls + per_node * l.value + 10 * per_step
 
 abbrev pub decreases-values::runs_values : goal.decreases-values::runs_values
-decreases-values::runs_values g l = 1208925819614629174706176 * l.calls + 1099511627776 * l.value + 446676598784 + 2 * l.runs
+decreases-values::runs_values g l = per_call * l.calls + per_node * l.value + 13 * per_step + 2 * l.runs
 
 abbrev pub decreases-values::runs_rest : goal.decreases-values::runs_rest
-decreases-values::runs_rest g l = 1208925819614629174706176 * l.calls + 1099511627776 * l.value + 446676598784 + 2 * l.runs + 1
+decreases-values::runs_rest g l = per_call * l.calls + per_node * l.value + 13 * per_step + 2 * l.runs + 1
 
 abbrev pub decreases-bodies::block : goal.decreases-bodies::block
-decreases-bodies::block g l = 1208925819614629174706176 * l.calls + 1099511627776 * (max l.decls (max l.stmts l.handlers)) + 687194767360 + 2 * l.decls
+decreases-bodies::block g l = per_call * l.calls + per_node * (max l.decls (max l.stmts l.handlers)) + 20 * per_step + 2 * l.decls
 
 abbrev pub decreases-bodies::block_rest : goal.decreases-bodies::block_rest
-decreases-bodies::block_rest g l = 1208925819614629174706176 * l.calls + 1099511627776 * (max l.decls (max l.stmts l.handlers)) + 687194767360 + 2 * l.decls + 1
+decreases-bodies::block_rest g l = per_call * l.calls + per_node * (max l.decls (max l.stmts l.handlers)) + 20 * per_step + 2 * l.decls + 1
 
 abbrev pub decreases-bodies::guarded : goal.decreases-bodies::guarded
-decreases-bodies::guarded g l = 1208925819614629174706176 * l.calls + 1099511627776 * (max l.stmts l.handlers) + 549755813888
+decreases-bodies::guarded g l = per_call * l.calls + per_node * (max l.stmts l.handlers) + 16 * per_step
 
 abbrev pub decreases-stmts::call_procedure : goal.decreases-stmts::call_procedure
-decreases-stmts::call_procedure g l = 1208925819614629174706176 * l.calls + 1099511627776 * l.actuals + 549755813888
+decreases-stmts::call_procedure g l = per_call * l.calls + per_node * l.actuals + 16 * per_step
 
 abbrev pub decreases-stmts::exit_when : goal.decreases-stmts::exit_when
-decreases-stmts::exit_when g l = 1208925819614629174706176 * l.calls + 1099511627776 * l.condition + 549755813888
+decreases-stmts::exit_when g l = per_call * l.calls + per_node * l.condition + 16 * per_step
 
 abbrev pub decreases-stmts::return_value : goal.decreases-stmts::return_value
-decreases-stmts::return_value g l = 1208925819614629174706176 * l.calls + 1099511627776 * l.value + 549755813888
+decreases-stmts::return_value g l = per_call * l.calls + per_node * l.value + 16 * per_step
 
 abbrev pub decreases-stmts::branch : goal.decreases-stmts::branch
-decreases-stmts::branch g l = 1208925819614629174706176 * l.calls + 1099511627776 * (max l.condition (max l.stmts l.otherwise)) + 549755813888
+decreases-stmts::branch g l = per_call * l.calls + per_node * (max l.condition (max l.stmts l.otherwise)) + 16 * per_step
 
 abbrev pub decreases-stmts::chosen : goal.decreases-stmts::chosen
-decreases-stmts::chosen g l = 1208925819614629174706176 * l.calls + 1099511627776 * (max l.value l.alternatives) + 549755813888
+decreases-stmts::chosen g l = per_call * l.calls + per_node * (max l.value l.alternatives) + 16 * per_step
 
 abbrev pub decreases-loops::while_stmt : goal.decreases-loops::while_stmt
-decreases-loops::while_stmt g l = 1208925819614629174706176 * l.calls + 1099511627776 * (max l.condition l.stmts) + 687194767360
+decreases-loops::while_stmt g l = per_call * l.calls + per_node * (max l.condition l.stmts) + 20 * per_step
 
 abbrev pub decreases-loops::while_loop : goal.decreases-loops::while_loop
-decreases-loops::while_loop g l = 1208925819614629174706176 * l.calls + 1099511627776 * (max l.condition l.stmts) + 549755813888
+decreases-loops::while_loop g l = per_call * l.calls + per_node * (max l.condition l.stmts) + 16 * per_step
 
 abbrev pub decreases-loops::for_stmt : goal.decreases-loops::for_stmt
-decreases-loops::for_stmt g l = 1208925819614629174706176 * l.calls + 1099511627776 * (max l.iteration l.stmts) + 755914244096
+decreases-loops::for_stmt g l = per_call * l.calls + per_node * (max l.iteration l.stmts) + 22 * per_step
 
 abbrev pub decreases-loops::for_loop : goal.decreases-loops::for_loop
-decreases-loops::for_loop g l = 1208925819614629174706176 * l.calls + 1099511627776 * (max l.iteration l.stmts) + 687194767360
+decreases-loops::for_loop g l = per_call * l.calls + per_node * (max l.iteration l.stmts) + 20 * per_step
 
 abbrev pub decreases-loops::iterate : goal.decreases-loops::iterate
-decreases-loops::iterate g l = 1208925819614629174706176 * l.calls + 1099511627776 * (max l.iteration l.stmts) + 549755813888
+decreases-loops::iterate g l = per_call * l.calls + per_node * (max l.iteration l.stmts) + 16 * per_step
 
 abbrev pub decreases-calls::call : goal.decreases-calls::call
-decreases-calls::call g l = 1208925819614629174706176 * l.calls
+decreases-calls::call g l = per_call * l.calls
 
 abbrev pub decreases-calls::called : goal.decreases-calls::called
-decreases-calls::called g l = 1208925819614629174706176 * l.calls + 608004684669466821263360
+decreases-calls::called g l = per_call * l.calls + 515 * per_stage
 
 abbrev pub decreases-calls::with_formals : goal.decreases-calls::with_formals
-decreases-calls::with_formals g l = 1208925819614629174706176 * l.calls + 606824093048749409959936 + length l.rest.now
+decreases-calls::with_formals g l = per_call * l.calls + 514 * per_stage + length l.rest.now
 
 abbrev pub decreases-calls::carried_out : goal.decreases-calls::carried_out
-decreases-calls::carried_out g l = 1208925819614629174706176 * l.calls + 605643501428031998656512
+decreases-calls::carried_out g l = per_call * l.calls + 513 * per_stage
 
 abbrev pub decreases-scalars::call_scalars : goal.decreases-scalars::call_scalars
-decreases-scalars::call_scalars g l = 1208925819614629174706176 * l.calls
+decreases-scalars::call_scalars g l = per_call * l.calls
 
 abbrev pub decreases-scalars::called : goal.decreases-scalars::called
-decreases-scalars::called g l = 1208925819614629174706176 * l.calls + 608004684669466821263360
+decreases-scalars::called g l = per_call * l.calls + 515 * per_stage
 
 abbrev pub decreases-scalars::with_scalars : goal.decreases-scalars::with_scalars
-decreases-scalars::with_scalars g l = 1208925819614629174706176 * l.calls + 606824093048749409959936 + length l.rest.now
+decreases-scalars::with_scalars g l = per_call * l.calls + 514 * per_stage + length l.rest.now
 
 abbrev pub decreases-calls::function_value : goal.decreases-calls::function_value
-decreases-calls::function_value g l = 1208925819614629174706176 * l.calls + 604462909807314587353088
+decreases-calls::function_value g l = per_call * l.calls + 512 * per_stage
 
 -- ---- loops: the whole goes on as what is left
 
@@ -250,81 +251,81 @@ invariant-values::run_values-loop-k g l =
 -- ---- output and input
 
 abbrev pub decreases-texts::put : goal.decreases-texts::put
-decreases-texts::put g l = 1208925819614629174706176 * l.calls + 1099511627776 * l.pieces + 549755813888
+decreases-texts::put g l = per_call * l.calls + per_node * l.pieces + 16 * per_step
 
 abbrev pub decreases-texts::written : goal.decreases-texts::written
-decreases-texts::written g l = 1208925819614629174706176 * l.calls + 1099511627776 * l.id + 274877906944
+decreases-texts::written g l = per_call * l.calls + per_node * l.id + 8 * per_step
 
 abbrev pub decreases-texts::written_rest : goal.decreases-texts::written_rest
-decreases-texts::written_rest g l = 1208925819614629174706176 * l.calls + 1099511627776 * l.id + 412316860416
+decreases-texts::written_rest g l = per_call * l.calls + per_node * l.id + 12 * per_step
 
 abbrev pub decreases-texts::text : goal.decreases-texts::text
-decreases-texts::text g l = 1208925819614629174706176 * l.calls + 1099511627776 * l.rest + 549755813888
+decreases-texts::text g l = per_call * l.calls + per_node * l.rest + 16 * per_step
 
 abbrev pub decreases-texts::image : goal.decreases-texts::image
-decreases-texts::image g l = 1208925819614629174706176 * l.calls + 1099511627776 * (max l.value l.rest) + 549755813888
+decreases-texts::image g l = per_call * l.calls + per_node * (max l.value l.rest) + 16 * per_step
 
 abbrev pub decreases-texts::field : goal.decreases-texts::field
-decreases-texts::field g l = 1208925819614629174706176 * l.calls + 1099511627776 * (max l.value (max l.width l.rest)) + 549755813888
+decreases-texts::field g l = per_call * l.calls + per_node * (max l.value (max l.width l.rest)) + 16 * per_step
 
 abbrev pub decreases-texts::get : goal.decreases-texts::get
-decreases-texts::get g l = 1208925819614629174706176 * l.calls + 1099511627776 * l.selections + 549755813888
+decreases-texts::get g l = per_call * l.calls + per_node * l.selections + 16 * per_step
 
 -- ---- reductions
 
 abbrev pub decreases-folds::reduction : goal.decreases-folds::reduction
-decreases-folds::reduction g l = 1208925819614629174706176 * l.calls + 1099511627776 * (max l.initial (max l.by.iteration l.by.value)) + 755914244096
+decreases-folds::reduction g l = per_call * l.calls + per_node * (max l.initial (max l.by.iteration l.by.value)) + 22 * per_step
 
 abbrev pub decreases-folds::fold_all : goal.decreases-folds::fold_all
-decreases-folds::fold_all g l = 1208925819614629174706176 * l.calls + 1099511627776 * (max l.by.iteration l.by.value) + 721554505728
+decreases-folds::fold_all g l = per_call * l.calls + per_node * (max l.by.iteration l.by.value) + 21 * per_step
 
 abbrev pub decreases-folds::fold_iterations : goal.decreases-folds::fold_iterations
-decreases-folds::fold_iterations g l = 1208925819614629174706176 * l.calls + 1099511627776 * (max l.by.iteration l.by.value) + 687194767360
+decreases-folds::fold_iterations g l = per_call * l.calls + per_node * (max l.by.iteration l.by.value) + 20 * per_step
 
 abbrev pub decreases-folds::fold_one : goal.decreases-folds::fold_one
-decreases-folds::fold_one g l = 1208925819614629174706176 * l.calls + 1099511627776 * (max l.by.iteration l.by.value) + 618475290624
+decreases-folds::fold_one g l = per_call * l.calls + per_node * (max l.by.iteration l.by.value) + 18 * per_step
 
 abbrev pub decreases-folds::iterated_value : goal.decreases-folds::iterated_value
-decreases-folds::iterated_value g l = 1208925819614629174706176 * l.calls + 1099511627776 * (max l.by.iteration l.by.value) + 549755813888
+decreases-folds::iterated_value g l = per_call * l.calls + per_node * (max l.by.iteration l.by.value) + 16 * per_step
 
 abbrev pub decreases-folds::reduced : goal.decreases-folds::reduced
-decreases-folds::reduced g l = 1208925819614629174706176 * l.calls + 137438953472
+decreases-folds::reduced g l = per_call * l.calls + 4 * per_step
 
 abbrev pub decreases-folds::parallel_reduction : goal.decreases-folds::parallel_reduction
-decreases-folds::parallel_reduction g l = 1208925819614629174706176 * l.calls + 1099511627776 * (max l.initial (max l.chunk (max l.by.iteration l.by.value))) + 996432412672
+decreases-folds::parallel_reduction g l = per_call * l.calls + per_node * (max l.initial (max l.chunk (max l.by.iteration l.by.value))) + 29 * per_step
 
 abbrev pub decreases-folds::chunked_fold : goal.decreases-folds::chunked_fold
-decreases-folds::chunked_fold g l = 1208925819614629174706176 * l.calls + 1099511627776 * (max l.by.iteration l.by.value) + 962072674304
+decreases-folds::chunked_fold g l = per_call * l.calls + per_node * (max l.by.iteration l.by.value) + 28 * per_step
 
 abbrev pub decreases-folds::dealt_fold : goal.decreases-folds::dealt_fold
-decreases-folds::dealt_fold g l = 1208925819614629174706176 * l.calls + 1099511627776 * (max l.by.iteration l.by.value) + 927712935936
+decreases-folds::dealt_fold g l = per_call * l.calls + per_node * (max l.by.iteration l.by.value) + 27 * per_step
 
 abbrev pub decreases-folds::fold_threads : goal.decreases-folds::fold_threads
-decreases-folds::fold_threads g l = 1208925819614629174706176 * l.calls + 1099511627776 * (max l.by.iteration l.by.value) + 893353197568
+decreases-folds::fold_threads g l = per_call * l.calls + per_node * (max l.by.iteration l.by.value) + 26 * per_step
 
 abbrev pub decreases-folds::fold_thread : goal.decreases-folds::fold_thread
-decreases-folds::fold_thread g l = 1208925819614629174706176 * l.calls + 1099511627776 * (max l.by.iteration l.by.value) + 858993459200
+decreases-folds::fold_thread g l = per_call * l.calls + per_node * (max l.by.iteration l.by.value) + 25 * per_step
 
 abbrev pub decreases-folds::fold_share : goal.decreases-folds::fold_share
-decreases-folds::fold_share g l = 1208925819614629174706176 * l.calls + 1099511627776 * (max l.by.iteration l.by.value) + 824633720832
+decreases-folds::fold_share g l = per_call * l.calls + per_node * (max l.by.iteration l.by.value) + 24 * per_step
 
 abbrev pub decreases-folds::combined : goal.decreases-folds::combined
-decreases-folds::combined g l = 1208925819614629174706176 * l.calls + 206158430208
+decreases-folds::combined g l = per_call * l.calls + 6 * per_step
 
 abbrev pub decreases-folds::combined_onto : goal.decreases-folds::combined_onto
-decreases-folds::combined_onto g l = 1208925819614629174706176 * l.calls + 171798691840
+decreases-folds::combined_onto g l = per_call * l.calls + 5 * per_step
 
 abbrev pub decreases-folds::reduced_by_call : goal.decreases-folds::reduced_by_call
-decreases-folds::reduced_by_call g l = 1208925819614629174706176 * l.calls + 68719476736
+decreases-folds::reduced_by_call g l = per_call * l.calls + 2 * per_step
 
 abbrev pub decreases-folds::combined_by_call : goal.decreases-folds::combined_by_call
-decreases-folds::combined_by_call g l = 1208925819614629174706176 * l.calls + 68719476736
+decreases-folds::combined_by_call g l = per_call * l.calls + 2 * per_step
 
 abbrev pub decreases-folds::combined_two : goal.decreases-folds::combined_two
-decreases-folds::combined_two g l = 1208925819614629174706176 * l.calls + 137438953472
+decreases-folds::combined_two g l = per_call * l.calls + 4 * per_step
 
 abbrev pub decreases-calls::call_checked : goal.decreases-calls::call_checked
-decreases-calls::call_checked g l = 1208925819614629174706176 * l.calls
+decreases-calls::call_checked g l = per_call * l.calls
 
 abbrev pub invariant-folds::fold_iterations-loop-i : goal.invariant-folds::fold_iterations-loop-i
 invariant-folds::fold_iterations-loop-i g l =
@@ -350,37 +351,37 @@ decreases-folds::combined_onto-loop-value g l = length l.values - l.k
 -- ---- parallel loops and blocks
 
 abbrev pub decreases-constructs::parallel_for : goal.decreases-constructs::parallel_for
-decreases-constructs::parallel_for g l = 1208925819614629174706176 * l.calls + 1099511627776 * (max l.chunk (max l.iteration l.stmts)) + 996432412672
+decreases-constructs::parallel_for g l = per_call * l.calls + per_node * (max l.chunk (max l.iteration l.stmts)) + 29 * per_step
 
 abbrev pub decreases-constructs::chunked_loop : goal.decreases-constructs::chunked_loop
-decreases-constructs::chunked_loop g l = 1208925819614629174706176 * l.calls + 1099511627776 * (max l.iteration l.stmts) + 962072674304
+decreases-constructs::chunked_loop g l = per_call * l.calls + per_node * (max l.iteration l.stmts) + 28 * per_step
 
 abbrev pub decreases-constructs::dealt_loop : goal.decreases-constructs::dealt_loop
-decreases-constructs::dealt_loop g l = 1208925819614629174706176 * l.calls + 1099511627776 * (max l.iteration l.stmts) + 927712935936
+decreases-constructs::dealt_loop g l = per_call * l.calls + per_node * (max l.iteration l.stmts) + 27 * per_step
 
 abbrev pub decreases-constructs::parallel_block : goal.decreases-constructs::parallel_block
-decreases-constructs::parallel_block g l = 1208925819614629174706176 * l.calls + 1099511627776 * (max l.count l.arms) + 996432412672
+decreases-constructs::parallel_block g l = per_call * l.calls + per_node * (max l.count l.arms) + 29 * per_step
 
 abbrev pub decreases-constructs::dealt_arms : goal.decreases-constructs::dealt_arms
-decreases-constructs::dealt_arms g l = 1208925819614629174706176 * l.calls + 1099511627776 * l.arms + 927712935936
+decreases-constructs::dealt_arms g l = per_call * l.calls + per_node * l.arms + 27 * per_step
 
 abbrev pub decreases-constructs::threads_of : goal.decreases-constructs::threads_of
-decreases-constructs::threads_of g l = 1208925819614629174706176 * l.calls + 1099511627776 * l.id + 412316860416
+decreases-constructs::threads_of g l = per_call * l.calls + per_node * l.id + 12 * per_step
 
 abbrev pub decreases-constructs::begin_chunks : goal.decreases-constructs::begin_chunks
-decreases-constructs::begin_chunks g l = 1208925819614629174706176 * l.calls + 1099511627776 * l.id + 274877906944
+decreases-constructs::begin_chunks g l = per_call * l.calls + per_node * l.id + 8 * per_step
 
 abbrev pub decreases-constructs::run_threads : goal.decreases-constructs::run_threads
-decreases-constructs::run_threads g l = 1208925819614629174706176 * l.calls + 1099511627776 * task_top l.task + 893353197568
+decreases-constructs::run_threads g l = per_call * l.calls + per_node * task_top l.task + 26 * per_step
 
 abbrev pub decreases-constructs::run_thread : goal.decreases-constructs::run_thread
-decreases-constructs::run_thread g l = 1208925819614629174706176 * l.calls + 1099511627776 * task_top l.task + 858993459200
+decreases-constructs::run_thread g l = per_call * l.calls + per_node * task_top l.task + 25 * per_step
 
 abbrev pub decreases-constructs::run_share : goal.decreases-constructs::run_share
-decreases-constructs::run_share g l = 1208925819614629174706176 * l.calls + 1099511627776 * task_top l.task + 824633720832
+decreases-constructs::run_share g l = per_call * l.calls + per_node * task_top l.task + 24 * per_step
 
 abbrev pub decreases-constructs::run_turn : goal.decreases-constructs::run_turn
-decreases-constructs::run_turn g l = 1208925819614629174706176 * l.calls + 1099511627776 * task_top l.task + 790273982464
+decreases-constructs::run_turn g l = per_call * l.calls + per_node * task_top l.task + 23 * per_step
 
 abbrev pub invariant-constructs::run_threads-loop-size : goal.invariant-constructs::run_threads-loop-size
 invariant-constructs::run_threads-loop-size g l =
@@ -398,16 +399,16 @@ invariant-constructs::run_share-loop-i g l =
 -- ---- operators
 
 abbrev pub decreases-chains::operators : goal.decreases-chains::operators
-decreases-chains::operators g l = 1208925819614629174706176 * l.calls + 1099511627776 * (max l.left (right_of l.last)) + 549755813888
+decreases-chains::operators g l = per_call * l.calls + per_node * (max l.left (right_of l.last)) + 16 * per_step
 
 abbrev pub decreases-chains::operator : goal.decreases-chains::operator
-decreases-chains::operator g l = 1208925819614629174706176 * l.calls + 1099511627776 * right_of l.link + 412316860416
+decreases-chains::operator g l = per_call * l.calls + per_node * right_of l.link + 12 * per_step
 
 abbrev pub decreases-chains::operand : goal.decreases-chains::operand
-decreases-chains::operand g l = 1208925819614629174706176 * l.calls + 1099511627776 * l.id + 412316860416
+decreases-chains::operand g l = per_call * l.calls + per_node * l.id + 12 * per_step
 
 abbrev pub decreases-chains::chain : goal.decreases-chains::chain
-decreases-chains::chain g l = 1208925819614629174706176 * l.calls + 1099511627776 * l.id + 343597383680
+decreases-chains::chain g l = per_call * l.calls + per_node * l.id + 10 * per_step
 
 abbrev pub invariant-chains::chain-loop-link : goal.invariant-chains::chain-loop-link
 invariant-chains::chain-loop-link g l = record {

@@ -7,9 +7,9 @@ ghost use Rattle.typed_tree.specs.Latest.{fifth, fourth, pop, second, third, top
 ghost use Rattle.typed_parts.specs.Stack.{parts};
 
 use crate::parts::Parts;
-use ada_base::Op;
+use ada_base::{Comparison, Op};
 use std::alloc::AllocError;
-use typed_tree::{Check, Class, Comparison, Expr, Node, Root, Scalar, Sign};
+use typed_tree::{Check, Class, Expr, Node, Root, Scalar, Sign};
 
 impl Parts {
     /// A static expression (4.9) with its first token, its value, and whether it is one number literal. Joined of the

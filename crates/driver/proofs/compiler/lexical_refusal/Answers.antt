@@ -1,5 +1,5 @@
 use Rattle.std.proofs.Common.{refl}
-use Rattle.syntax_tree.specs.Faults.Fault.{TooManyBytes, NoCharacter, NoToken, TooWide, TooManyTokens}
+use Rattle.syntax_tree.specs.Faults.LexicalFault.{TooManyBytes, NoCharacter, NoToken, TooWide, TooManyTokens}
 use Rattle.driver.specs.Compile.{lexing}
 use Rattle.driver.specs.Complaints.{lexical}
 use Rattle.driver.proofs.Steps.{refuses}
