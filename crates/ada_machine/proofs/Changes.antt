@@ -1,5 +1,5 @@
 -- What is done to a machine, as what is done to its state.
-use Rattle.std.proofs.Common.{◌≡◌, ℕ, ◌+◌, ◌-◌, ◌≤◌, ℤ, pos, List, ◌∷◌, ◌++◌, length, reverse, take, drop, Some, None, sym, ap, ◌∙◌, arith}
+use Rattle.std.proofs.Common.{◌≡◌, ℕ, ◌+◌, ◌-◌, ◌≤◌, ℤ, pos, List, [], ◌∷◌, ◌++◌, length, reverse, take, drop, Some, None, sym, ap, ◌∙◌, arith}
 use Rattle.std.proofs.Math.Seq.{drop-append_seam}
 use Rattle.std.proofs.lemmas.List.{reverse-append, length-reverse, length-drop, take-append-drop}
 use Rattle.ada_base.specs.declared.reason.Reason.{Reason}
@@ -19,8 +19,8 @@ pub failed_by : (s : State) (r : Reason) (st st' : List ℤ) → st' ≡ st → 
 failed_by s r st st' e = ap (λ st. failed r st s) e
 
 pub handled_by : (s : State) (u : Unwind) (r : Reason) (st mid : List ℤ) → st ≡ pos (reason_number r) ∷ mid → mid ≡ cut (s.floor + u.depth) s.stack
-    → record s { pc = u.handler; stack = st; nest = u.nest; nested = s.nested - (s.nest - u.nest); raising = None } ≡ handled u r s
-handled_by s u r st mid e f = ap (λ st. record s { pc = u.handler; stack = st; nest = u.nest; nested = s.nested - (s.nest - u.nest); raising = None }) (e ∙ ap (λ st. pos (reason_number r) ∷ st) f)
+    → record s { pc = u.handler; stack = st; nest = u.nest; kept = []; nested = s.nested - (s.nest - u.nest); raising = None } ≡ handled u r s
+handled_by s u r st mid e f = ap (λ st. record s { pc = u.handler; stack = st; nest = u.nest; kept = []; nested = s.nested - (s.nest - u.nest); raising = None }) (e ∙ ap (λ st. pos (reason_number r) ∷ st) f)
 
 pub ended_by : (s : State) (f : Frame) (fs : List Frame) (to : ℕ) (st : List ℤ) (cells : List Cell) → st ≡ cut s.floor s.stack → cells ≡ take f.top s.cells
     → record s { pc = to; stack = st; floor = f.floor; nest = f.nest; kept = f.kept; base = f.base; waiting = fs; calls = s.calls - 1; nested = s.nested - s.nest; cells = cells } ≡ ended f fs to (cut s.floor s.stack) s

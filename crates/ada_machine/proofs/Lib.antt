@@ -12,4 +12,5 @@ pub mod Memories
 pub mod Outcomes
 pub mod Readies
 pub mod Steps
+pub mod Viewing
 pub mod Walks

@@ -1,3 +1,4 @@
 pub mod Places
 pub mod Played
 pub mod States
+pub mod Viewed

@@ -1,4 +1,4 @@
-ghost use Rattle.std.specs.Prelude.{◌≡◌, ◌++◌, ◌≤◌, ℕ, pos, List, length, take, drop, true, false, IsSome, Some, OnOk, OnErr};
+ghost use Rattle.std.specs.Prelude.{◌≡◌, ◌++◌, ◌≤◌, ℕ, pos, List, length, take, drop, IsSome, Some, OnOk, OnErr};
 ghost use Rattle.ada_base.specs.Cells.{Cell, seen, written, zeros};
 ghost use Rattle.ada_machine.specs.Places.{Stays};
 
@@ -49,35 +49,4 @@ pub trait Cells {
         requires there { base ≤ length (cells self.old) }
         ensures cells { cells self.new ≡ take base (cells self.old) }
         ensures stays { Stays floor whole place self.old self.new };
-}
-
-/// Whether a path is asked to pause.
-pub trait Halt {
-    ghost Plain: { Type 0 };
-
-    ghost kept: { Self → Plain };
-
-    ghost told: { Self → Type 0 };
-
-    /// Answers true only where it is told so, which it stays.
-    fn asked(&mut self) -> bool
-        ensures kept { kept self.new ≡ kept self.old }
-        ensures stays { told self.old → told self.new }
-        ensures told { result ≡ true → told self.new };
-}
-
-/// Never asks.
-#[derive(Drop)]
-pub struct Never;
-
-impl Halt for Never {
-    ghost Plain = { Unit {0} };
-
-    ghost kept = { λ _. tt };
-
-    ghost told = { λ _. ⊥ };
-
-    fn asked(&mut self) -> bool {
-        false
-    }
 }

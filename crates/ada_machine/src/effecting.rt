@@ -9,12 +9,13 @@ ghost use Rattle.stack_code.specs.Looks.{looks_of, kept_looks};
 ghost use Rattle.ada_machine.specs.States.{state_of, Ready, Steps, LooksBy};
 
 use crate::calls::{enter, enter_at, return_to};
-use crate::cells::{Cells, Halt};
+use crate::cells::Cells;
 use crate::effects::{begin_construct, begin_turn, end_construct, fail};
 use crate::lines::{add_image, add_padded, add_truth, add_words, ask, give_line};
 use crate::machine::{Machine, Stop, Went};
 use crate::operands::{put, take};
 use ada_base::Reason;
+use leave_board::Halt;
 use stack_code::{Code, CodeSub, Instr, Io, Leave};
 
 // Calls and constructs that may be active (13.7).

@@ -95,6 +95,7 @@ pub(crate) fn handle(m: &mut Machine, entry: Unwind, reason: Reason)
     put(&mut m.stack, number_of(reason));
     m.nested -= m.nest - entry.nest;
     m.nest = entry.nest;
+    m.kept.clear();
     m.pc = entry.handler as usize;
     m.raising = None;
 }

@@ -117,8 +117,11 @@ fn component(address: i64, low: i64, index: i64, size: u32) -> Option<i64>
 // Where the component with an index stands; or the index is outside, or the address isn't in 64 bits.
 #[derive(Clone, Copy)]
 pub enum Placed {
+    /// There.
     At(i64),
+    /// The index isn't between the least and the greatest.
     Outside,
+    /// The address isn't in 64 bits.
     Beyond,
 }
 

@@ -12,9 +12,13 @@ use stack_code::{Digits, Relation};
 /// instruction asks for more than operands and cells.
 #[derive(Clone, Copy)]
 pub enum Computed {
+    /// It goes on at that instruction.
     To(usize),
+    /// It raises that exception.
     Failed(Reason),
+    /// A number isn't in 64 bits, or a copy would overwrite what it has yet to read; nothing was changed.
     Beyond,
+    /// It asks for more, and nothing was changed.
     Other,
 }
 
@@ -155,9 +159,9 @@ fn value_or_zero(value: Option<i64>) -> i64
     }
 }
 
-/// The operation, or None where it raises Constraint_Error.
+/// The operation on any two numbers that it takes, or None where it raises Constraint_Error (4.5).
 #[inline(always)]
-fn applied(op: Op, base: Base, x: i64, y: i64) -> Option<i64>
+pub fn applied(op: Op, base: Base, x: i64, y: i64) -> Option<i64>
     requires { AreOperands op x y }
     ensures { result ≡ applied op base x y }
 {

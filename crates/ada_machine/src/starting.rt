@@ -17,7 +17,9 @@ use std::alloc::{AllocError, Global};
 /// Where a body begins, and the greatest height of its operand stack.
 #[derive(Clone, Copy)]
 pub struct Begin {
+    /// Its first instruction.
     pub entry: u32,
+    /// The height, in numbers.
     pub most: u32,
 }
 
@@ -46,8 +48,11 @@ fn begin_of(code: &Code, body: Around) -> Begin
 /// What a path has begun already: turns, active calls, and active constructs.
 #[derive(Clone, Copy, Debug)]
 pub struct Counts {
+    /// The turns that were begun.
     pub turns: u64,
+    /// The active calls, at most 1,000.
     pub calls: u32,
+    /// The active constructs, at most 16.
     pub nested: u32,
 }
 

@@ -9,13 +9,14 @@ ghost use Rattle.stack_code.specs.Looks.{looks_of, raise_looks};
 ghost use Rattle.ada_machine.specs.States.{state_of, Ready, Steps, Unwinds, StopsAt, ReadyAfter, LooksBy, Unlooked, TookLooks};
 
 use crate::calls::unwind_to;
-use crate::cells::{Cells, Halt};
+use crate::cells::Cells;
 use crate::computing::compute;
 use crate::effecting::{effect, turn};
 use crate::effects::handle;
 use crate::machine::{Machine, Stop, Went};
 use crate::operands::Computed;
 use ada_base::Reason;
+use leave_board::Halt;
 use stack_code::{Code, Instr, Leave, Unwind};
 
 #[inline(always)]

@@ -155,11 +155,13 @@ abbrev pub entry_of : List Unwind → ℕ → Option Unwind
 entry_of [] q = None
 entry_of (u ∷ us) q = cond (nat_lt q u.from) (entry_of us q) (cond (nat_lt q u.to) (Some u) (entry_of us q))
 
+-- the handler begins; accumulators that were to be combined are gone
 abbrev pub handled : Unwind → Reason → State → State
 handled u r s = record s {
   pc = u.handler;
   stack = pos (reason_number r) ∷ cut (s.floor + u.depth) s.stack;
   nest = u.nest;
+  kept = [];
   nested = s.nested - (s.nest - u.nest);
   raising = None;
 }

@@ -7,9 +7,13 @@ use crate::instr::Instr;
 /// What may follow an instruction in its body: the next one, another, either of the two, or none.
 #[derive(Clone, Copy, Debug)]
 pub enum Flow {
+    /// The next one follows.
     On,
+    /// That one follows.
     To(u32),
+    /// That one follows, or the next.
     Branch(u32),
+    /// None does.
     Ends,
 }
 
