@@ -14,4 +14,4 @@ pub use construct::{Finished, Job, NoMemory, Over, run_construct};
 pub use notes::ThreadNote;
 pub use path::{Halt, Path, Stop};
 pub use tasks::State;
-pub use threads::{Frame, Thread, run_in_order, run_threads};
+pub use threads::{Frame, Thread, enter, leave, run_in_order, run_threads};

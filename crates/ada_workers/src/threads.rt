@@ -82,8 +82,8 @@ fn prepared<P: Path + Drop>(
     Ok(jobs)
 }
 
-// Begins a frame on the view itself.
-fn enter(view: &mut View<'_>, frame: Frame) -> Result<(), AllocError>
+/// Begins a frame on the view itself. An Err is want of memory.
+pub fn enter(view: &mut View<'_>, frame: Frame) -> Result<(), AllocError>
     requires there { OwnThere view.old }
     requires fits { frame.more + 4 < 2 ^ 32 }
     ensures ok { IfOk result (λ _. Entered view.old frame view.new) }
@@ -99,8 +99,8 @@ fn enter(view: &mut View<'_>, frame: Frame) -> Result<(), AllocError>
     Ok(())
 }
 
-// Takes off what stands after the first `many` cells.
-fn leave(view: &mut View<'_>, many: u64)
+/// Takes off what stands after the first `many` cells. It takes no memory.
+pub fn leave(view: &mut View<'_>, many: u64)
     requires { Leaves many view.old }
     ensures { Leaving many view.old view.new }
 {

@@ -1,0 +1,4 @@
+mod Products
+mod Folding
+mod Listed
+mod Reassociation
