@@ -8,9 +8,9 @@ use Rattle.typed_tree.specs.Syntax.{Expr, Actuals, NoActual, In, InOut, Out, Com
 use Rattle.ada_meaning.specs.Values
 use Rattle.ada_meaning.specs.Operations.{RangeCheck, Operations}
 use Rattle.ada_meaning.specs.Stored as stored
-use Rattle.ada_meaning.specs.Stored.{Stored, Place}
+use Rattle.ada_meaning.specs.Stored.{Stored, Address}
 use Rattle.ada_meaning.specs.Meaning
-use Rattle.ada_meaning.specs.Meaning.{Env, Part, Back, Passed, Returned, variable_root}
+use Rattle.ada_meaning.specs.Meaning.{Env, ObjectPart, Back, Passed, Returned, variable_root}
 use Rattle.stack_code.specs.declared.code.Code.{Code}
 use Rattle.stack_code.specs.declared.instr.Instr.{Instr}
 use Rattle.stack_code.specs.declared.instr.Instr.TheVariants as i
@@ -37,7 +37,7 @@ use Rattle.ada_lower.proofs.Expressions.{at_entry, fewer_one_more, selected_does
 use Rattle.ada_lower.proofs.Expressions.{value_into, spread_part}
 
 -- one that is copied back
-abbrev pub sent_back : ℕ → Part → ℕ → List ℤ → List Scalar → Option Check → Sent
+abbrev pub sent_back : ℕ → ObjectPart → ℕ → List ℤ → List Scalar → Option Check → Sent
 sent_back formal p a cs ss o = record { passed = record { formal = VariableOf formal; cells = cs; back = Some (record { part = p; cells = ss; check = o }) }; ahead = pos a ∷ [] }
 
 abbrev pub sent_const : ℕ → List ℤ → Sent
@@ -48,13 +48,13 @@ abbrev pub AreTargets : Program → Ghost → Actuals → List Sent → Type 0
 AreTargets program g NoActual ps = ps ≡ []
 AreTargets program g (In formal value rest) ps = (cs : List ℤ) × (qs : List Sent) × (ps ≡ sent_const formal cs ∷ qs) × AreTargets program g rest qs
 AreTargets program g (InOut formal at r selections inner outer rest) ps =
-    (p : Part) × (a : ℕ) × (v : ℤ) × (qs : List Sent) × (ps ≡ sent_back formal p a (v ∷ []) (inner ∷ []) (Some (record { at = at; scalar = outer })) ∷ qs) × Spread g (VariableOf p.object) p.offset 1 a × AreTargets program g rest qs
+    (p : ObjectPart) × (a : ℕ) × (v : ℤ) × (qs : List Sent) × (ps ≡ sent_back formal p a (v ∷ []) (inner ∷ []) (Some (record { at = at; scalar = outer })) ∷ qs) × Spread g (VariableOf p.object) p.offset 1 a × AreTargets program g rest qs
 AreTargets program g (Out formal at r selections inner outer rest) ps =
-    (p : Part) × (a : ℕ) × (v : ℤ) × (qs : List Sent) × (ps ≡ sent_back formal p a (v ∷ []) (inner ∷ []) (Some (record { at = at; scalar = outer })) ∷ qs) × Spread g (VariableOf p.object) p.offset 1 a × AreTargets program g rest qs
+    (p : ObjectPart) × (a : ℕ) × (v : ℤ) × (qs : List Sent) × (ps ≡ sent_back formal p a (v ∷ []) (inner ∷ []) (Some (record { at = at; scalar = outer })) ∷ qs) × Spread g (VariableOf p.object) p.offset 1 a × AreTargets program g rest qs
 AreTargets program g (CompositeInOut formal at r selections subtype rest) ps =
-    (p : Part) × (a : ℕ) × (cs : List ℤ) × (qs : List Sent) × (ps ≡ sent_back formal p a cs (Values.layout program.subtypes subtype) None ∷ qs) × Spread g (VariableOf p.object) p.offset (Emission.cells_of program subtype) a × AreTargets program g rest qs
+    (p : ObjectPart) × (a : ℕ) × (cs : List ℤ) × (qs : List Sent) × (ps ≡ sent_back formal p a cs (Values.layout program.subtypes subtype) None ∷ qs) × Spread g (VariableOf p.object) p.offset (Emission.cells_of program subtype) a × AreTargets program g rest qs
 AreTargets program g (CompositeOut formal at r selections subtype rest) ps =
-    (p : Part) × (a : ℕ) × (cs : List ℤ) × (qs : List Sent) × (ps ≡ sent_back formal p a cs (Values.layout program.subtypes subtype) None ∷ qs) × Spread g (VariableOf p.object) p.offset (Emission.cells_of program subtype) a × AreTargets program g rest qs
+    (p : ObjectPart) × (a : ℕ) × (cs : List ℤ) × (qs : List Sent) × (ps ≡ sent_back formal p a cs (Values.layout program.subtypes subtype) None ∷ qs) × Spread g (VariableOf p.object) p.offset (Emission.cells_of program subtype) a × AreTargets program g rest qs
 
 -- ---- ghosts
 
@@ -118,13 +118,13 @@ module _ (limit : ℕ) (cuts : ℕ → ℕ → List ℕ) (program : Program) (c 
       (λ t d' w'. (d', fit_alike (keeping (f.base + w) (vs ++ (v ∷ [])) g).what (λ a. (ap (λ p. (set_what p (Keeps v) (keeping (f.base + w) vs g)).what a) (sym next)) ∙ keep_one_more (f.base + w) vs v g a) w', comes_here limit c (on f (at_ + 1) st d'))) k)
 
   -- a target's name is evaluated, to its address
-  part_does : {B : Type 0} {g : Ghost} {env : Env} {q : B → Type 0} {goal : B → Dyn → Step} (r : Root) (selections : Selections) (from m1 m2 many : ℕ) (s : Sight) (h h1 a : ℕ) (vs st : List ℤ) (then : Part → Stored B)
+  part_does : {B : Type 0} {g : Ghost} {env : Env} {q : B → Type 0} {goal : B → Dyn → Step} (r : Root) (selections : Selections) (from m1 m2 many : ℕ) (s : Sight) (h h1 a : ℕ) (vs st : List ℤ) (then : ObjectPart → Stored B)
       → Knows limit cuts g f s env → Stage g env s a vs → s.scope.entry ≡ x.entry → Reached (root_of s.scope r) selections many → FittedSelections program globals mains epar s selections
       → Stands c (Emission.address s.scope h (root_of s.scope r)) from m1 → Stands c (selected program s.scope h1 selections) m1 m2
-      → ((p : Part) (b : ℕ) → Spread g (VariableOf p.object) p.offset many b → Doing limit c f x (keeping a vs g) g q (then p) (λ d. on f m2 (pos b ∷ st) d) goal)
+      → ((p : ObjectPart) (b : ℕ) → Spread g (VariableOf p.object) p.offset many b → Doing limit c f x (keeping a vs g) g q (then p) (λ d. on f m2 (pos b ∷ st) d) goal)
       → Doing limit c f x (keeping a vs g) g q (stored.bind (Meaning.select ops limit program calls selections env (variable_root r env)) then) (λ d. on f from st d) goal
   part_does {g = g} {env = env} r selections from m1 m2 many s h h1 a vs st then k stage' en (m, e, reach) ws l1 l3 go =
-      let o : Part = variable_root r env in
+      let o : ObjectPart = variable_root r env in
       let u : Refers g f m (VariableOf o.object) o.offset = root_refers r m k e in
       let (j1, z1) = address_stands limit cuts program c f x calls globals mains epar calls_do s h (root_of s.scope r) m from m1 e l1 in
       does_seq limit c f x stage'.weak (λ ts al. al)
@@ -338,7 +338,7 @@ ext_backs {g} a ps vss cells bs free = record {
       (backs_cases a ps vss cells g.what b bs);
 }
 
-pub stands_backs : (g : Ghost) (a : ℕ) (ps : List Sent) (vss : List (List ℤ)) (cells : List Cell) → Backs a ps vss cells → (b : ℕ) (z : Access) (p : Place) → backs a ps vss g.what b ≡ StandsFor z p → g.what b ≡ StandsFor z p
+pub stands_backs : (g : Ghost) (a : ℕ) (ps : List Sent) (vss : List (List ℤ)) (cells : List Cell) → Backs a ps vss cells → (b : ℕ) (z : Access) (p : Address) → backs a ps vss g.what b ≡ StandsFor z p → g.what b ≡ StandsFor z p
 stands_backs g a ps vss cells bs b z p e = ⊎_elim
     (λ r. sym r ∙ e)
     (λ t. let (v, q, k, y, l) = t in absurd (let w : Keeps v ≡ StandsFor z p = sym q ∙ e in cc))
@@ -356,12 +356,12 @@ module _ (limit : ℕ) (cuts : ℕ → ℕ → List ℕ) (program : Program) (c 
       ∙ ap (λ o. driven limit c (with_cells (where_mine o (set d.cells a (Mine v))) (state_of f q st [] None d) (λ s. done limit (GoesOn (q + 1) (rest ++ f.below)) s)) d.world) z)
 
   abbrev Unique : Ghost → Type 0
-  Unique G = (a b : ℕ) (z w : Access) (pl : Place) → G.what a ≡ StandsFor z pl → G.what b ≡ StandsFor w pl → a ≡ b
+  Unique G = (a b : ℕ) (z w : Access) (pl : Address) → G.what a ≡ StandsFor z pl → G.what b ≡ StandsFor w pl → a ≡ b
 
   abbrev Copies : Ghost → Option Back → List ℤ → ℕ → ℕ → Type 0
   Copies G o vs from to = Runs limit c f x G any (Meaning.copied_back ops' limit program calls o vs) (λ d. on f from [] d) (λ _ d. on f to [] d)
 
-  scalar_back : (G : Ghost) (s : Sight) (F from to b : ℕ) (p : Part) (ss : List Scalar) (k : Check) (vs : List ℤ) → s.scope.entry ≡ x.entry → length vs ≡ 1 → Unique G → Spread G (VariableOf p.object) p.offset 1 b → G.what (f.base + F) ≡ Keeps (pos b)
+  scalar_back : (G : Ghost) (s : Sight) (F from to b : ℕ) (p : ObjectPart) (ss : List Scalar) (k : Check) (vs : List ℤ) → s.scope.entry ≡ x.entry → length vs ≡ 1 → Unique G → Spread G (VariableOf p.object) p.offset 1 b → G.what (f.base + F) ≡ Keeps (pos b)
       → ((i : ℕ) (v : ℤ) → slice_get vs i ≡ Some v → G.what (f.base + (F + 1) + i) ≡ Keeps v)
       → Stands c (one s.scope 0 (i.LoadL F) ⨟ one s.scope 1 (i.LoadL (F + 1)) ⨟ Emission.checked s.scope 2 k.scalar ⨟ one s.scope 2 i.Store) from to
       → Copies G (Some (record { part = p; cells = ss; check = Some k })) vs from to
@@ -384,7 +384,7 @@ module _ (limit : ℕ) (cuts : ℕ → ℕ → List ℕ) (program : Program) (c 
       (stores b v u (v ∷ pos b ∷ []) [] d j4 refl mine)))
       (λ _ _. does_ret limit c f x {to = λ _ d. on f to [] d} tt tt))))
 
-  whole_back : (G : Ghost) (s : Sight) (F from to b n : ℕ) (p : Part) (ss : List Scalar) (vs : List ℤ) → s.scope.entry ≡ x.entry → length vs ≡ n → Unique G → Spread G (VariableOf p.object) p.offset n b → G.what (f.base + F) ≡ Keeps (pos b)
+  whole_back : (G : Ghost) (s : Sight) (F from to b n : ℕ) (p : ObjectPart) (ss : List Scalar) (vs : List ℤ) → s.scope.entry ≡ x.entry → length vs ≡ n → Unique G → Spread G (VariableOf p.object) p.offset n b → G.what (f.base + F) ≡ Keeps (pos b)
       → ((i : ℕ) (v : ℤ) → slice_get vs i ≡ Some v → G.what (f.base + (F + 1) + i) ≡ Keeps v)
       → Stands c (one s.scope 0 (i.LoadL F) ⨟ one s.scope 1 (i.Local (F + 1)) ⨟ one s.scope 2 (i.Copy n)) from to
       → Copies G (Some (record { part = p; cells = ss; check = None })) vs from to

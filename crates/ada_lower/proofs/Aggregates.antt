@@ -6,8 +6,8 @@ use Rattle.ada_meaning.specs.Values
 use Rattle.ada_meaning.specs.Values.{between, truth, bit, to_nat, count, compares, base_of}
 use Rattle.ada_meaning.specs.Operations.{RangeCheck, Operations}
 use Rattle.ada_meaning.specs.Stored as stored
-use Rattle.ada_meaning.specs.Stored.{Stored, Cause, Left, Place}
-use Rattle.ada_meaning.specs.Meaning.{Env, Part, Passed, Returned, variable_root, constant_root}
+use Rattle.ada_meaning.specs.Stored.{Stored, Cause, Left, Address}
+use Rattle.ada_meaning.specs.Meaning.{Env, ObjectPart, Passed, Returned, variable_root, constant_root}
 use Rattle.stack_code.specs.declared.code.Code.{Code}
 use Rattle.ada_base.specs.Cells.{Mine}
 use Rattle.stack_code.specs.Deeds.{GoesOn}

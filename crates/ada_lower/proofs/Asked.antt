@@ -17,7 +17,7 @@ use Rattle.stack_code.specs.Machine.{after}
 use Rattle.ada_lower.specs.Asking.{Reads, Read, at, next, taken_from, reading, got}
 use Rattle.ada_lower.specs.Driven.{Dyn, Fixed, On, on, thrown, state_of, given_got, after_got, At}
 use Rattle.ada_lower.specs.Fits.{Ghost, Fit, Ends, Lands}
-use Rattle.ada_lower.proofs.Framework.{any, To, itself, comes_here, comes_on, comes_as, comes_thrown}
+use Rattle.ada_lower.proofs.Framework.{any, To, itself, comes_here, comes_on, comes_as, comes_thrown, leads_on}
 use Rattle.ada_lower.proofs.Memory.{right_same}
 use Rattle.ada_lower.proofs.Parts.{Runs}
 
@@ -147,6 +147,7 @@ module _ (limit : ℕ) (cuts : ℕ → ℕ → List ℕ) where
       most = most;
       agrees = record { turns = refl; left = w.agrees.left; taken = refl; held = refl; input = refl; output = w.agrees.output; notes = w.agrees.notes };
       plan = w.plan;
+      order = w.order;
       cells = λ a. right_same (g.what a) s (onto s t) (slice_get d.cells a) refl refl (w.cells a);
     }
 
@@ -172,13 +173,13 @@ module _ (limit : ℕ) (cuts : ℕ → ℕ → List ℕ) where
             dyn = with_reads t d;
             fit = fit;
             grows = more;
-            comes = comes_on limit c comes (subst (λ o. To limit c (On (record { state = after o (gave.Numbers (v ∷ [])) (state_of f q st [] None (with_reads t d)); world = (with_reads t d).world })) (on f (q + 1) (v ∷ st) (with_reads t d))) (sym (itself refl a)) (comes_here limit c (on f (q + 1) (v ∷ st) (with_reads t d))));
+            comes = leads_on limit c (comes _) (subst (λ o. To limit c (On (record { state = after o (gave.Numbers (v ∷ [])) (state_of f q st [] None (with_reads t d)); world = (with_reads t d).world })) (on f (q + 1) (v ∷ st) (with_reads t d))) (sym (itself refl a)) (comes_here limit c (on f (q + 1) (v ∷ st) (with_reads t d))) _);
           },
         )
         go s d t (Err (Some r)) comes fit more = record {
           dyn = with_reads t d;
           fit = fit;
           grows = more;
-          comes = comes_on limit c comes (subst (λ o. To limit c (On (record { state = after o (gave.Left (leave.Raise r)) (state_of f q st [] None (with_reads t d)); world = (with_reads t d).world })) (thrown r x.entry f (with_reads t d))) (sym (itself refl a)) (comes_thrown limit c f st r (with_reads t d) a));
+          comes = leads_on limit c (comes _) (subst (λ o. To limit c (On (record { state = after o (gave.Left (leave.Raise r)) (state_of f q st [] None (with_reads t d)); world = (with_reads t d).world })) (thrown r x.entry f (with_reads t d))) (sym (itself refl a)) (comes_thrown limit c f st r (with_reads t d) a) _);
         }
-        go s d t (Err None) comes fit more = record { dyn = with_reads t d; fit = fit; grows = more; comes = comes }
+        go s d t (Err None) comes fit more = record { dyn = with_reads t d; fit = fit; grows = more; comes = comes _ }

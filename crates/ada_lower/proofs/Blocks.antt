@@ -9,7 +9,7 @@ use Rattle.behaviours.specs.Paths.{Entity, Here}
 use Rattle.typed_tree.specs.declared.statements.Span.{Span}
 use Rattle.ada_meaning.specs.Values.{bit, between, is_equal, reason_eq, has_reason, is_chosen}
 use Rattle.ada_meaning.specs.Stored as stored
-use Rattle.ada_meaning.specs.Stored.{Stored, Cause, Left, OutOfTurns, NoRoom, CutOff, Misnoted, Place, Touch, key}
+use Rattle.ada_meaning.specs.Stored.{Stored, Cause, Left, OutOfTurns, NoRoom, CutOff, Misnoted, Address, Touch, key}
 use Rattle.stack_code.specs.declared.code.Code.{Code}
 use Rattle.stack_code.specs.declared.instr.Instr.TheVariants as i
 use Rattle.ada_base.specs.Cells.{value_in}
@@ -20,7 +20,7 @@ use Rattle.stack_code.specs.Machine.{Cut}
 use Rattle.ada_lower.specs.Driven.{Dyn, Fixed, Step, on, halt, looked}
 use Rattle.ada_lower.specs.Sights.{Emit, Sight, Stands, choose, one}
 use Rattle.ada_lower.specs.Emission
-use Rattle.ada_lower.specs.Fits.{What, Free, Keeps, Access, Full, Right, Ghost, Agrees, Fit, Ends, left_by, Land, Lands, Does, allows, Allows, Stands as StandsFor}
+use Rattle.ada_lower.specs.Fits.{What, Free, Keeps, Access, Full, Right, Ghost, Agrees, Fit, Ends, left_by, Land, Lands, Does, allows, Allows, Stands as StandsFor, Asks}
 use Rattle.ada_lower.proofs.Framework.{any, To, Doing, comes_here, comes_on, comes_goes}
 use Rattle.ada_lower.proofs.Memory.{right_same, at_same}
 use Rattle.ada_lower.proofs.Standing.{Choice, stands_assoc3, stands_choose, stands_seq}
@@ -40,6 +40,7 @@ fit_unkept a vs g {s} {d} free w = record {
   most = w.most;
   agrees = w.agrees;
   plan = w.plan;
+  order = w.order;
   cells = λ b. ⊎_elim
       (λ r. let (k, v, e, is) = r in subst (λ b. Right (g.what b) s (slice_get d.cells b)) e
       (subst (λ z. Right z s (slice_get d.cells (a + k))) (sym (free k (length_in vs k v is)))
@@ -55,7 +56,7 @@ module _ (limit : ℕ) (c : Code) (f : Fixed) (x : Ends) where
       (λ out. inl (laid_out a 0 kept_what vs g.what b out ∙ (sym (laid_out a len Rattle.ada_lower.proofs.Declared.stacked_what vs g.what b out) ∙ e)))
       (among a b vs)
     where
-      full : {q : Place} (z : Access) (p : Place) → StandsFor Full q ≡ StandsFor z p → (t : Bool) → allows z t ≡ true
+      full : {q : Address} (z : Access) (p : Address) → StandsFor Full q ≡ StandsFor z p → (t : Bool) → allows z t ≡ true
       full Full p e t = refl
       full Rattle.ada_lower.specs.Fits.Barred p e t = let z : Full ≡ Rattle.ada_lower.specs.Fits.Barred = cc in absurd cc
       full Rattle.ada_lower.specs.Fits.Readable p e t = let z : Full ≡ Rattle.ada_lower.specs.Fits.Readable = cc in absurd cc
@@ -76,18 +77,18 @@ module _ (limit : ℕ) (c : Code) (f : Fixed) (x : Ends) where
       back s d fit slots t (Err OutOfTurns) l = record { dyn = l.dyn; fit = fit_ended y a vs (record g { what = wh }) s t slots free' fit.here (fresh' s d fit) l.fit; comes = l.comes; grows = l.grows }
       back s d fit slots t (Err CutOff) l = record { dyn = l.dyn; fit = fit_ended y a vs (record g { what = wh }) s t slots free' fit.here (fresh' s d fit) l.fit; comes = l.comes; grows = l.grows }
       back s d fit slots t (Err NoRoom) l = tt
-      back s d fit slots t (Err Misnoted) l = tt
+      back s d fit slots t (Err Misnoted) (un, l) = (un, record { dyn = l.dyn; fit = fit_ended y a vs (record g { what = wh }) s t slots free' fit.here (fresh' s d fit) l.fit; comes = l.comes; grows = l.grows })
 
-      go : (s : stored.State) (d : Dyn) → Fit (keeping a vs g) s d → (b : Bool) → nat_lt (key y) (length s.here) ≡ b → Allows (keeping a vs g) (cond (nat_lt (key y) (length s.here)) (m.touches (stored.begun Here y vs s)) [])
+      go : (s : stored.State) (d : Dyn) → Fit (keeping a vs g) s d → (b : Bool) → nat_lt (key y) (length s.here) ≡ b → Asks f (keeping a vs g) (cond (nat_lt (key y) (length s.here)) (m.touches (stored.begun Here y vs s)) []) (cond (nat_lt (key y) (length s.here)) (m.visits (stored.begun Here y vs s)) [])
           → (let r = m.does (stored.begun Here y vs s) in let z = cond (nat_lt (key y) (length s.here)) (stored.at (stored.ended Here y s r.state) r.end) (stored.at s (Err NoRoom)) in Lands limit c f x q (record g { what = wh }) (from d) s.turns to z.state z.end)
       go s d fit true e al =
           let slots : key y < length g.here = subst (λ h. key y < length h) fit.here (ltb-true (key y) (length s.here) e) in
           let r = m.does (stored.begun Here y vs s) in
-          let al' : Allows (keeping a vs g) (m.touches (stored.begun Here y vs s)) = subst (λ b. Allows (keeping a vs g) (cond b (m.touches (stored.begun Here y vs s)) [])) e al in
+          let al' : Asks f (keeping a vs g) (m.touches (stored.begun Here y vs s)) (m.visits (stored.begun Here y vs s)) = subst (λ b. Asks f (keeping a vs g) (cond b (m.touches (stored.begun Here y vs s)) []) (cond b (m.visits (stored.begun Here y vs s)) [])) e al in
           subst (λ b. let z = cond b (stored.at (stored.ended Here y s r.state) r.end) (stored.at s (Err NoRoom)) in Lands limit c f x q (record g { what = wh }) (from d) s.turns to z.state z.end) (sym e)
           (back s d fit slots r.state r.end
           ((k (length s.cells) (fresh_of (fit_unkept a vs g free fit)) slots).by (stored.begun Here y vs s) d (fit_having y a vs g fit)
-          (allows_fewer limit c f x (keeping a vs g) (having y (length s.cells) a vs g) (m.touches (stored.begun Here y vs s)) (fewer_kept y (length s.cells) a vs g) al')))
+          (allows_fewer limit c f x (keeping a vs g) (having y (length s.cells) a vs g) (m.touches (stored.begun Here y vs s)) (fewer_kept y (length s.cells) a vs g) al'.0, al'.1)))
       go s d fit false e al =
           let r = m.does (stored.begun Here y vs s) in
           subst (λ b. let z = cond b (stored.at (stored.ended Here y s r.state) r.end) (stored.at s (Err NoRoom)) in Lands limit c f x q (record g { what = wh }) (from d) s.turns to z.state z.end) (sym e) tt
@@ -104,8 +105,8 @@ module _ (limit : ℕ) (c : Code) (f : Fixed) (x : Ends) where
   does_look {g} p = record { by = λ s d fit al. subst (λ o. let r = stored.looked s o in Lands limit c f x any g (looked f d.left d p) s.turns (λ _ d. p d) r.state r.end) fit.agrees.left (go s d fit d.left (sym fit.agrees.left)) }
     where
       go : (s : stored.State) (d : Dyn) → Fit g s d → (o : Option ℕ) → s.left ≡ o → (let r = stored.looked s o in Lands limit c f x any g (looked f o d p) s.turns (λ _ d. p d) r.state r.end)
-      go s d fit None e = (tt, record { dyn = d; fit = fit; comes = comes_here limit c (p d); grows = le_refl s.turns })
-      go s d fit (Some zero) e = record { dyn = d; fit = fit; comes = comes_here limit c (halt f Cut d); grows = le_refl s.turns }
+      go s d fit None e = (tt, record { dyn = d; fit = fit; comes = comes_here limit c (p d) _; grows = le_refl s.turns })
+      go s d fit (Some zero) e = record { dyn = d; fit = fit; comes = comes_here limit c (halt f Cut d) _; grows = le_refl s.turns }
       go s d fit (Some (suc n)) e = (
         tt,
         record {
@@ -120,9 +121,10 @@ module _ (limit : ℕ) (c : Code) (f : Fixed) (x : Ends) where
             most = fit.most;
             agrees = record { turns = fit.agrees.turns; left = refl; taken = fit.agrees.taken; held = fit.agrees.held; input = fit.agrees.input; output = fit.agrees.output; notes = fit.agrees.notes };
             plan = fit.plan;
+            order = fit.order;
             cells = λ a. right_same (g.what a) s _ (slice_get d.cells a) refl refl (fit.cells a);
           };
-          comes = comes_here limit c (p (record d { left = Some n }));
+          comes = comes_here limit c (p (record d { left = Some n })) _;
           grows = le_refl s.turns;
         },
       )

@@ -11,7 +11,7 @@ use Rattle.typed_tree.specs.declared.scalars.Scalar.{Scalar}
 use Rattle.typed_tree.specs.Syntax.{Expr, Stmt, Block, Sub, Program}
 use Rattle.ada_meaning.specs.Operations.{Operations}
 use Rattle.ada_meaning.specs.Stored as stored
-use Rattle.ada_meaning.specs.Stored.{Stored, Cause, Left, Place, Kept, Stacked, slot_at, key, within}
+use Rattle.ada_meaning.specs.Stored.{Stored, Cause, Left, Address, Kept, Stacked, slot_at, key, within}
 use Rattle.ada_meaning.specs.Meaning
 use Rattle.ada_meaning.specs.Meaning.{Env, Back, Passed, Returned, sub_at}
 use Rattle.stack_code.specs.declared.code.Code.{Code}
@@ -20,7 +20,8 @@ use Rattle.stack_code.specs.declared.instr.Instr.{Instr}
 use Rattle.stack_code.specs.declared.instr.Instr.TheVariants as i
 use Rattle.stack_code.specs.Deeds.{called_at}
 use Rattle.stack_code.specs.Machine.{State, Went, Goes, done, turned, entered_at, failed}
-use Rattle.ada_lower.specs.Driven.{Dyn, Fixed, Step, on, state_of, driven, thrown, cut_to, At}
+use Rattle.ada_lower.specs.Driven.{Dyn, Fixed, Step, on, state_of, driven, thrown, cut_to, At, Alike}
+use Rattle.ada_lower.proofs.Alike.{alike}
 use Rattle.ada_lower.specs.Sights.{Amid, Named, Sight, Stands, with_object}
 use Rattle.ada_lower.specs.Emission.{Shape, lead, shapes, shapes_cells, stmt, returning, returning_value}
 use Rattle.ada_lower.specs.Fits.{What, Other, Free, Keeps, Access, Ghost, Ends, left_by, place_in, Spread, Refers, AtMain, Knows, Stands as StandsFor}
@@ -141,7 +142,7 @@ module _ (limit : ℕ) (cuts : ℕ → ℕ → List ℕ) (program : Program) (c 
     abbrev f' : Fixed
     f' = inner f q n st g.top
 
-    is_inside : (a : ℕ) (x : Access) (p : Place) → g.what a ≡ StandsFor x p → a < g.top
+    is_inside : (a : ℕ) (x : Access) (p : Address) → g.what a ≡ StandsFor x p → a < g.top
     is_inside a x p e = go (nat_lt a g.top) refl
       where
         go : (b : Bool) → nat_lt a g.top ≡ b → a < g.top
@@ -157,7 +158,7 @@ module _ (limit : ℕ) (cuts : ℕ → ℕ → List ℕ) (program : Program) (c 
     what_beyond : (a : ℕ) → g.top + (top - g.top) ≤ a → B.what a ≡ Other
     what_beyond a le = ap (λ b. cond b (g.what a) (cond (nat_lt a (g.top + (top - g.top))) Free Other)) (le-ltb a g.top (omega (arith, le))) ∙ ap (λ b. cond b Free Other) (le-ltb a (g.top + (top - g.top)) le)
 
-    stood_before : (a : ℕ) (x : Access) (p : Place) → B.what a ≡ StandsFor x p → g.what a ≡ StandsFor x p
+    stood_before : (a : ℕ) (x : Access) (p : Address) → B.what a ≡ StandsFor x p → g.what a ≡ StandsFor x p
     stood_before a x p e = go (nat_lt a g.top) (nat_lt a (g.top + (top - g.top))) e
       where
         go : (b b' : Bool) → cond b (g.what a) (cond b' Free Other) ≡ StandsFor x p → g.what a ≡ StandsFor x p
@@ -274,6 +275,7 @@ module _ (limit : ℕ) (cuts : ℕ → ℕ → List ℕ) (program : Program) (c 
         flat = refl;
         kept = refl;
         texts = same_texts;
+        threads = λ n here. absurd (subst (λ ns. Amid n ns) out here);
         away = λ n z here q e at d. absurd (subst (λ ns. Amid n ns) out here);
         exits = λ j p e d. absurd (none-some p (sym (exits j) ∙ e));
         returns = λ t a b w d. returns_go f q n st top unit.result t a b (subst (λ o. Stands c (returning t.scope 0 o) a b) leaving w) d;
@@ -298,7 +300,7 @@ module _ (limit : ℕ) (cuts : ℕ → ℕ → List ℕ) (program : Program) (c 
 
   -- ---- calls
 
-  module _ (same_texts : texts ≡ c.texts) (stood : AllStand program globals mains texts text frames epar par c) (pars : (f : Fixed) (depth : ℕ) (all : (f' : Fixed) → f'.calls ≡ f.calls → CallsDo limit cuts program globals mains c f' (Meaning.call ops limit program depth)) → ForksDo limit cuts program globals mains epar par c f (Meaning.call ops limit program depth) (all f refl)) where
+  module _ (same_texts : texts ≡ c.texts) (stood : AllStand program globals mains texts text frames epar par c) (asked : Option Program) (pars : (f : Fixed) → f.asked ≡ asked → (depth : ℕ) (all : (f' : Fixed) → Alike f' f → CallsDo limit cuts program globals mains c f' (Meaning.call ops limit program depth)) → ForksDo limit cuts program globals mains epar par c f (Meaning.call ops limit program depth) (all f (alike f))) where
     call_went : CodeSub → ℕ → State → Went
     call_went is n s = cond (nat_lt s.calls 1000) (Goes (entered_at is n s)) (Goes (failed reason.StorageError s.stack s))
 
@@ -335,10 +337,10 @@ module _ (limit : ℕ) (cuts : ℕ → ℕ → List ℕ) (program : Program) (c 
         ∙ sym (laid_out (f.base + n) 0 kept_what vs (within_call (f.base + n + frame) g).what a out))
         (among (f.base + n) a vs))
 
-    call_once : {g : Ghost} {env : Env} (depth : ℕ) (f : Fixed) → f.calls + suc depth ≡ 1000 → (x : Ends) (s : Sight) (sub n q : ℕ) (st : List ℤ) (ps : List Sent) (u : Callable program globals mains s sub) → ((f' : Fixed) → f'.calls ≡ f.calls + 1 → CallsDo limit cuts program globals mains c f' (Meaning.call ops limit program depth))
+    call_once : {g : Ghost} {env : Env} (depth : ℕ) (f : Fixed) → f.asked ≡ asked → f.calls + suc depth ≡ 1000 → (x : Ends) (s : Sight) (sub n q : ℕ) (st : List ℤ) (ps : List Sent) (u : Callable program globals mains s sub) → ((f' : Fixed) → f'.calls ≡ f.calls + 1 → f'.asked ≡ f.asked → CallsDo limit cuts program globals mains c f' (Meaning.call ops limit program depth))
         → Knows limit cuts g f s env → n + length (flat ps) ≡ s.scope.free → s.scope.free ≤ s.cells → AreSuited (shapes program u.unit.formals) ps → ((k : ℕ) → k < length (flat ps) → g.what (f.base + n + k) ≡ Free) → At c q (i.CallAt (sub + 1) n) x.entry
         → Also limit c f x {A = Returned} (keeping (f.base + n) (flat ps) g) (record g { what = aheads (f.base + n) ps g.what }) (λ r d. Backs (f.base + n) ps r.cells d.cells) (Meaning.call ops limit program (suc depth) env.nested sub (stored.ret tt) (all_passed ps)) (λ d. on f q st d) (λ r d. on f (q + 1) (given u.unit.result r.value ++ st) d)
-    call_once {g} {env} depth f many x s sub n q st ps u calls k whole room suited free at =
+    call_once {g} {env} depth f same_asked many x s sub n q st ps u calls k whole room suited free at =
         let b = stood sub u.unit u.is in
         let hs : List Shape = shapes program u.unit.formals in
         let vs : List ℤ = flat ps in
@@ -365,17 +367,17 @@ module _ (limit : ℕ) (cuts : ℕ → ℕ → List ℕ) (program : Program) (c 
         (also_alike limit c f' (called_ends limit c x g.top) (keeping (f.base + n + 0) vs B).what (args_alike g f n frame vs (omega (arith, whole, room, top)))
         (formals_do {A = Returned} {q = λ r d. Backs (f.base + n + 0) ps r.cells d.cells} f' (called_ends limit c x g.top) hs ps 0 (outer_scope program globals mains texts text frames sub u.unit cells) B base (omega (arith, len)) (let e = b.enough in omega (arith, e, enough)) (b.fresh cells) suited
         (λ i lt. free_call g f s env k sub n q st u frame here room (length vs) whole free i lt)
-        (λ B' k'. body_does f x q n st g.top (Meaning.call ops limit program depth) u.unit t env.nested b.is.entry b.to ps (f.base + n + 0) (spread_all f' hs ps 0 (f.base + n + 0) refl suited (b.backs cells) k') (record { called = calls f' refl; forked = (pars f' depth calls).forked }) (pars f' depth calls).parallel k' refl refl (λ m. refl) refl same_texts (b.fitted cells enough) (b.stands cells enough))))))))
+        (λ B' k'. body_does f x q n st g.top (Meaning.call ops limit program depth) u.unit t env.nested b.is.entry b.to ps (f.base + n + 0) (spread_all f' hs ps 0 (f.base + n + 0) refl suited (b.backs cells) k') (record { called = calls f' refl refl; forked = (pars f' same_asked depth (λ f'' e. calls f'' e.0 e.1)).forked }) (pars f' same_asked depth (λ f'' e. calls f'' e.0 e.1)).parallel k' refl refl (λ m. refl) refl same_texts (b.fitted cells enough) (b.stands cells enough))))))))
 
-    pub call_do : (depth : ℕ) (f : Fixed) → f.calls + depth ≡ 1000 → CallsDo limit cuts program globals mains c f (Meaning.call ops limit program depth)
-    call_do zero f many = record {
+    pub call_do : (depth : ℕ) (f : Fixed) → f.asked ≡ asked → f.calls + depth ≡ 1000 → CallsDo limit cuts program globals mains c f (Meaning.call ops limit program depth)
+    call_do zero f same_asked many = record {
       by = λ {g} x s sub n q st ps u k whole room suited free at.
           let b = stood sub u.unit u.is in
           also_seq limit c f x {h = keeping (f.base + n) (flat ps) g} (λ t d w. fit_aheads (f.base + n) ps _ free w) (λ ts al. al) (does_turned limit c f x cuts st (call_went b.is n) (call_led b.is sub n q f st b.here) k.most at) (λ _ _.
           also_weak limit c f x (λ t d w. fit_aheads (f.base + n) ps _ free w)
           (also_raised limit c f x reason.StorageError (λ t. raise_is reason.StorageError t) (λ d. full_goes b.is n f st d (omega (arith, many)) at)));
     }
-    call_do (suc depth) f many = record {
+    call_do (suc depth) f same_asked many = record {
       by = λ x s sub n q st ps u k whole room suited free at.
-          call_once depth f many x s sub n q st ps u (λ f' e. call_do depth f' (omega (arith, many, e))) k whole room suited free at;
+          call_once depth f same_asked many x s sub n q st ps u (λ f' e a. call_do depth f' (a ∙ same_asked) (omega (arith, many, e))) k whole room suited free at;
     }

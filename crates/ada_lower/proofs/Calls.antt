@@ -4,7 +4,7 @@ use Rattle.std.proofs.Math.Seq.{drop-append_seam}
 use Rattle.ada_base.specs.declared.reason.Reason.{Reason}
 use Rattle.behaviours.specs.Paths.{Exits, Returns, Raises, Entity}
 use Rattle.ada_meaning.specs.Stored as stored
-use Rattle.ada_meaning.specs.Stored.{Stored, Cause, Left, OutOfTurns, NoRoom, CutOff, Misnoted, Place, Kept, Stacked, Touch, slot_at, key, within}
+use Rattle.ada_meaning.specs.Stored.{Stored, Cause, Left, OutOfTurns, NoRoom, CutOff, Misnoted, Address, Kept, Stacked, Touch, slot_at, key, within}
 use Rattle.ada_meaning.specs.Meaning.{Env, Passed, Returned}
 use Rattle.ada_meaning.proofs.Cells.{get_left, get_right, get_take}
 use Rattle.stack_code.specs.declared.code.Code.{Code}
@@ -15,7 +15,7 @@ use Rattle.stack_code.specs.Machine.{Frame, State, cut}
 use Rattle.ada_lower.specs.Driven.{Dyn, Fixed, Step, On, on, state_of, thrown, cut_to, At}
 use Rattle.ada_lower.specs.Sights.{Named, Sight}
 use Rattle.ada_lower.specs.Fits.{What, Other, Free, Right, Ghost, Fit, Ends, Knows, Stands as StandsFor}
-use Rattle.ada_lower.proofs.Framework.{To, comes_on, comes_as, comes_thrown}
+use Rattle.ada_lower.proofs.Framework.{To, comes_on, comes_as, comes_thrown, leads_on}
 use Rattle.ada_lower.proofs.Memory.{right_same}
 use Rattle.ada_lower.proofs.Parts.{Fewer, allows_fewer}
 use Rattle.ada_lower.proofs.Declared.{get_of, keeping}
@@ -30,7 +30,7 @@ abbrev pub waiter : Fixed → ℕ → ℕ → Frame
 waiter f q top = record { at = q; to = q + 1; floor = length f.below; base = f.base; nest = f.nest; kept = f.kept; top = top }
 
 abbrev pub inner : Fixed → ℕ → ℕ → List ℤ → ℕ → Fixed
-inner f q n st top = record { below = st ++ f.below; nest = 0; kept = []; base = f.base + n; outward = f.outward; waiting = waiter f q top ∷ f.waiting; calls = f.calls + 1; nested = f.nested }
+inner f q n st top = record { below = st ++ f.below; nest = 0; kept = []; base = f.base + n; outward = f.outward; waiting = waiter f q top ∷ f.waiting; calls = f.calls + 1; nested = f.nested; asked = f.asked }
 
 -- with cells up to there
 abbrev pub grown : ℕ → Dyn → Dyn
@@ -77,6 +77,7 @@ fit_grown {g} {s} {d} top w =
       most = w.most;
       agrees = record { turns = w.agrees.turns; left = w.agrees.left; taken = w.agrees.taken; held = w.agrees.held; input = w.agrees.input; output = w.agrees.output; notes = w.agrees.notes };
       plan = w.plan;
+      order = w.order;
       cells = λ a. go a (nat_lt a g.top) (nat_lt a (g.top + (top - g.top))) refl refl;
     }
   where
@@ -99,7 +100,7 @@ fit_grown {g} {s} {d} top w =
     go a false false e e' = tt
 
 -- where it has ended
-fit_cut : {g h : Ghost} {s : stored.State} {d : Dyn} (top n : ℕ) → ((a : ℕ) → g.top ≤ a → g.what a ≡ Other) → h.here ≡ g.here → (h.everywhere ≡ g.everywhere) × (h.declared ≡ g.declared) → h.top ≡ g.top + (top - g.top) → h.least ≡ g.least → h.most ≡ g.most → h.plan ≡ g.plan
+fit_cut : {g h : Ghost} {s : stored.State} {d : Dyn} (top n : ℕ) → ((a : ℕ) → g.top ≤ a → g.what a ≡ Other) → h.here ≡ g.here → (h.everywhere ≡ g.everywhere) × (h.declared ≡ g.declared) → h.top ≡ g.top + (top - g.top) → h.least ≡ g.least → h.most ≡ g.most → (h.plan ≡ g.plan) × (h.ordered ≡ g.ordered)
     → ((a : ℕ) → a < g.top → h.what a ≡ g.what a) → Fit h s d → Fit g (record s { frame = g.frame }) (cut_to g.top d)
 fit_cut {g} {h} {s} {d} top n beyond e1 e2 e3 e4 e5 e6 same w =
     let len : length d.cells ≡ g.top + (top - g.top) = w.top ∙ e3 in
@@ -112,7 +113,8 @@ fit_cut {g} {h} {s} {d} top n beyond e1 e2 e3 e4 e5 e6 same w =
       least = subst (λ n. n ≤ s.turns) e4 w.least;
       most = subst (λ n. s.turns ≤ n) e5 w.most;
       agrees = record { turns = w.agrees.turns; left = w.agrees.left; taken = w.agrees.taken; held = w.agrees.held; input = w.agrees.input; output = w.agrees.output; notes = w.agrees.notes };
-      plan = w.plan ∙ e6;
+      plan = w.plan ∙ e6.0;
+      order = λ o. w.order (e6.1 ∙ o);
       cells = λ a. go a (nat_lt a g.top) refl;
     }
   where
@@ -179,25 +181,25 @@ module _ (limit : ℕ) (c : Code) where
     unfolding stored.apart
     also_apart {A} {g} {p} {p'} {m} {from} {after} {q} n top st wh w2 at beyond same keep k = record {
       by = λ s d fit al. go s d fit (m.does (record s { frame = s.frame + 1 })).state (m.does (record s { frame = s.frame + 1 })).end
-          (k.by (record s { frame = s.frame + 1 }) (grown top d) (fit_grown top fit) (allows_fewer limit c f x g (within_call top g) (m.touches (record s { frame = s.frame + 1 })) (fewer_within top g) al));
+          (k.by (record s { frame = s.frame + 1 }) (grown top d) (fit_grown top fit) (allows_fewer limit c f x g (within_call top g) (m.touches (record s { frame = s.frame + 1 })) (fewer_within top g) al.0, al.1));
     }
       where
         h : Ghost
         h = record (within_call top g) { what = wh }
 
         fit_back : (s : stored.State) (d : Dyn) → Fit g s d → (t : stored.State) (d' : Dyn) → Fit h t d' → Fit (record g { what = w2 }) (record t { frame = s.frame }) (cut_to g.top d')
-        fit_back s d fit t d' w = subst (λ z. Fit (record g { what = w2 }) (record t { frame = z }) (cut_to g.top d')) (sym fit.frame) (fit_cut {g = record g { what = w2 }} {h = h} top n beyond refl (refl, refl) refl refl refl refl same w)
+        fit_back s d fit t d' w = subst (λ z. Fit (record g { what = w2 }) (record t { frame = z }) (cut_to g.top d')) (sym fit.frame) (fit_cut {g = record g { what = w2 }} {h = h} top n beyond refl (refl, refl) refl refl refl (refl, refl) same w)
 
         go : (s : stored.State) (d : Dyn) → Fit g s d → (t : stored.State) (e : Result A Cause) → LandsAlso limit c (inner f q n st g.top) (called_ends x g.top) p h (from (grown top d)) s.turns (λ a d. after a (cut_to g.top d)) t e
             → LandsAlso limit c f x p' (record g { what = w2 }) (from (grown top d)) s.turns after (record t { frame = s.frame }) e
         go s d fit t (Ok a) (l, ok) = (record { dyn = cut_to g.top l.dyn; fit = fit_back s d fit t l.dyn l.fit; comes = l.comes; grows = l.grows }, keep a l.dyn ok)
         go s d fit t (Err (Left (Exits m))) l = record { dyn = cut_to g.top l.dyn; fit = fit_back s d fit t l.dyn l.fit; comes = l.comes; grows = l.grows }
         go s d fit t (Err (Left (Returns v))) l = record { dyn = cut_to g.top l.dyn; fit = fit_back s d fit t l.dyn l.fit; comes = l.comes; grows = l.grows }
-        go s d fit t (Err (Left (Raises r))) l = record { dyn = cut_to g.top l.dyn; fit = fit_back s d fit t l.dyn l.fit; comes = comes_on limit c l.comes (comes_through n f st g.top r l.dyn at); grows = l.grows }
+        go s d fit t (Err (Left (Raises r))) l = record { dyn = cut_to g.top l.dyn; fit = fit_back s d fit t l.dyn l.fit; comes = leads_on limit c l.comes (comes_through n f st g.top r l.dyn at _); grows = l.grows }
         go s d fit t (Err OutOfTurns) l = record { dyn = cut_to g.top l.dyn; fit = fit_back s d fit t l.dyn l.fit; comes = l.comes; grows = l.grows }
         go s d fit t (Err CutOff) l = record { dyn = cut_to g.top l.dyn; fit = fit_back s d fit t l.dyn l.fit; comes = l.comes; grows = l.grows }
         go s d fit t (Err NoRoom) l = tt
-        go s d fit t (Err Misnoted) l = tt
+        go s d fit t (Err Misnoted) (un, l) = (un, record { dyn = cut_to g.top l.dyn; fit = fit_back s d fit t l.dyn l.fit; comes = l.comes; grows = l.grows })
 
 -- ---- calls of any depth
 

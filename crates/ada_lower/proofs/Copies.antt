@@ -4,7 +4,7 @@ use Rattle.behaviours.specs.Paths.{Entity, VariableOf}
 use Rattle.typed_tree.specs.declared.scalars.Scalar.{Scalar}
 use Rattle.ada_meaning.specs.Operations.{Operations}
 use Rattle.ada_meaning.specs.Stored as stored
-use Rattle.ada_meaning.specs.Stored.{Stored, Place, Touch, cell_at, place_of, read_at, touched}
+use Rattle.ada_meaning.specs.Stored.{Stored, Address, Touch, cell_at, place_of, read_at, touched}
 use Rattle.ada_meaning.specs.Meaning
 use Rattle.stack_code.specs.declared.code.Code.{Code}
 use Rattle.stack_code.specs.declared.instr.Instr.TheVariants as i
@@ -12,8 +12,8 @@ use Rattle.ada_base.specs.Cells.{Cell, Mine, value_in, where_mine}
 use Rattle.stack_code.specs.Deeds.{Deed, GoesOn, loads_all, stores_all}
 use Rattle.stack_code.specs.Machine.{State, done, with_value, with_cells}
 use Rattle.ada_lower.specs.Driven.{World, Dyn, Fixed, Step, on, state_of, driven, At}
-use Rattle.ada_lower.specs.Fits.{Keeps, Access, Ghost, Fit, Ends, Lands, Allows, place_in, Spread, allows, Stands as StandsFor}
-use Rattle.ada_lower.proofs.Framework.{any, To, Doing, comes_here, comes_as, lands_from, allows_split, does_ret, does_bind}
+use Rattle.ada_lower.specs.Fits.{Keeps, Access, Ghost, Fit, Ends, Lands, Allows, place_in, Spread, allows, Stands as StandsFor, Asks}
+use Rattle.ada_lower.proofs.Framework.{any, To, Doing, comes_here, comes_as, lands_from, allows_split, does_ret, does_bind, asks_split}
 use Rattle.ada_lower.proofs.Names.{does_by}
 use Rattle.ada_lower.proofs.Memory.{does_write, number_seen, place_fits, cell_seen, bears_value, IsOwn, set_what, fit_set, fit_alike, what_other}
 use Rattle.ada_lower.proofs.Parts.{Fewer, allows_fewer}
@@ -35,7 +35,7 @@ module _ (limit : ℕ) (cuts : ℕ → ℕ → List ℕ) (c : Code) (f : Fixed) 
     pub is : (Meaning.read_all ops y o so_far ss).does s ≡ stored.at s (Ok (so_far ++ values))
     pub there : AreThere d.cells a values
 
-  read_one : (y : Entity) (o : ℕ) (p : Place) (v : ℤ) (s : stored.State) (k : ℤ → Stored (List ℤ)) → place_of s y o ≡ Some p → cell_at s p ≡ Some v → (stored.bind (stored.reads y o) k).does s ≡ (k v).does s
+  read_one : (y : Entity) (o : ℕ) (p : Address) (v : ℤ) (s : stored.State) (k : ℤ → Stored (List ℤ)) → place_of s y o ≡ Some p → cell_at s p ≡ Some v → (stored.bind (stored.reads y o) k).does s ≡ (k v).does s
   unfolding stored.bind stored.reads
   read_one y o p v s k e e' =
       ap (λ q. let r = read_at s q in stored.next r.state r.end k) e ∙ ap (λ q. let r = stored.value_read s q in stored.next r.state r.end k) e' ∙ same ((k v).does s)
@@ -43,7 +43,7 @@ module _ (limit : ℕ) (cuts : ℕ → ℕ → List ℕ) (c : Code) (f : Fixed) 
       same : (r : stored.After (List ℤ)) → stored.at r.state r.end ≡ r
       same r = refl
 
-  read_touch : (g : Ghost) (y : Entity) (o : ℕ) (p : Place) (v : ℤ) (s : stored.State) (k : ℤ → Stored (List ℤ)) → place_of s y o ≡ Some p → cell_at s p ≡ Some v → Allows g ((stored.bind (stored.reads y o) k).touches s)
+  read_touch : (g : Ghost) (y : Entity) (o : ℕ) (p : Address) (v : ℤ) (s : stored.State) (k : ℤ → Stored (List ℤ)) → place_of s y o ≡ Some p → cell_at s p ≡ Some v → Allows g ((stored.bind (stored.reads y o) k).touches s)
       → Allows g (touched false (Some p)) × Allows g ((k v).touches s)
   unfolding stored.bind stored.reads
   read_touch g y o p v s k e e' al =
@@ -74,7 +74,7 @@ module _ (limit : ℕ) (cuts : ℕ → ℕ → List ℕ) (c : Code) (f : Fixed) 
         there = (bears_value access v (slice_get d.cells a) may bears, more.there);
       }
     where
-      rest : Spread g y o total a → (i : ℕ) → suc i < total → (pl : Place) × (access : Access) × (place_in g y (o + 1 + i) ≡ Some pl) × (g.what (a + 1 + i) ≡ StandsFor access pl)
+      rest : Spread g y o total a → (i : ℕ) → suc i < total → (pl : Address) × (access : Access) × (place_in g y (o + 1 + i) ≡ Some pl) × (g.what (a + 1 + i) ≡ StandsFor access pl)
       rest w i lt =
           let (pl, access, here, is) = w.cell (suc i) lt in
           let e : o + 1 + i ≡ o + suc i = omega arith in
@@ -111,8 +111,8 @@ module _ (limit : ℕ) (cuts : ℕ → ℕ → List ℕ) (c : Code) (f : Fixed) 
   unfolding stored.bind
   does_copy {B} {g} {j} {q} {goal} y o a b total at_ ss n st then len le spread own at k = record {
     by = λ s d fit al.
-        let (a1, a2) = allows_split limit c f x g ((Meaning.read_all ops y o [] ss).touches s) _ al in
-        let r = all_read {g = g} y o a total ss [] s d (omega (arith, len, le)) spread fit a1 in
+        let (a1, a2) = asks_split limit c f x g ((Meaning.read_all ops y o [] ss).touches s) _ ((Meaning.read_all ops y o [] ss).visits s) _ al in
+        let r = all_read {g = g} y o a total ss [] s d (omega (arith, len, le)) spread fit a1.0 in
         let vs : List ℤ = r.values in
         let many : length vs ≡ n = r.many ∙ len in
         let (d', fit', is, same) = stores_done {g = g} {t = s} vs b at_ (pos a ∷ pos b ∷ st) (GoesOn (at_ + 1) (st ++ f.below)) d (λ i lt. own i (omega (arith, lt, many))) fit in
@@ -123,8 +123,8 @@ module _ (limit : ℕ) (cuts : ℕ → ℕ → List ℕ) (c : Code) (f : Fixed) 
         ∙ ap (λ w. driven limit c w d.world) is
         ∙ ap (λ w. Rattle.ada_lower.specs.Driven.On (record { state = state_of f (at_ + 1) st [] None d'; world = w })) (sym same)) in
         subst (λ e. let u = stored.next e.state e.end then in Lands limit c f x q j (on f at_ (pos a ∷ pos b ∷ st) d) s.turns goal u.state u.end) (sym r.is)
-        (lands_from limit c f x q goal _ _ goes (le_refl s.turns) (λ t d w. w)
-        ((k vs many).by s d' fit' (allows_fewer limit c f x g (keeping b vs g) ((then vs).touches s) (fewer_copied b vs g) (subst (λ e. Allows g (stored.next_touches e.state e.end then)) r.is a2))));
+        (lands_from limit c f x q goal _ _ (goes _) (le_refl s.turns) (λ t d w. w)
+        ((k vs many).by s d' fit' (let a3 : Asks f g ((then vs).touches s) ((then vs).visits s) = subst (λ e. Asks f g (stored.next_touches e.state e.end then) (stored.next_visits e.state e.end then)) r.is a2 in (allows_fewer limit c f x g (keeping b vs g) ((then vs).touches s) (fewer_copied b vs g) a3.0, a3.1))));
   }
     where
       fewer_copied : (a : ℕ) (vs : List ℤ) (g : Ghost) → Fewer limit c f x g (keeping a vs g)
@@ -144,7 +144,7 @@ module _ (limit : ℕ) (cuts : ℕ → ℕ → List ℕ) (c : Code) (f : Fixed) 
 
   -- what is stored is written
   stored_all : {g : Ghost} (y o a total at_ : ℕ) (vs : List ℤ) (st rest : List ℤ) → length vs ≤ total → Spread g (VariableOf y) o total a
-      → ((a b : ℕ) (z w : Access) (pl : Place) → g.what a ≡ StandsFor z pl → g.what b ≡ StandsFor w pl → a ≡ b)
+      → ((a b : ℕ) (z w : Access) (pl : Address) → g.what a ≡ StandsFor z pl → g.what b ≡ StandsFor w pl → a ≡ b)
       → Doing limit c f x g g any (Meaning.write_all ops y o vs) (λ d. driven limit c (done limit (stores_all vs (pos a) (GoesOn (at_ + 1) (rest ++ f.below))) (state_of f at_ st [] None d)) d.world) (λ _ d. on f (at_ + 1) rest d)
   stored_all y o a total at_ [] st rest le spread one = does_ret limit c f x {to = λ _ d. on f (at_ + 1) rest d} tt tt
   stored_all {g} y o a total at_ (v ∷ vs) st rest le spread one =
@@ -160,7 +160,7 @@ module _ (limit : ℕ) (cuts : ℕ → ℕ → List ℕ) (c : Code) (f : Fixed) 
       (comes_here limit c _)))
       (λ _ _. stored_all y (o + 1) (a + 1) (total - 1) at_ vs st rest (omega (arith, le)) (record { cell = λ i lt. more spread i (omega (arith, lt)) }) one)
     where
-      more : Spread g (VariableOf y) o total a → (i : ℕ) → suc i < total → (pl : Place) × (access : Access) × (place_in g (VariableOf y) (o + 1 + i) ≡ Some pl) × (g.what (a + 1 + i) ≡ StandsFor access pl)
+      more : Spread g (VariableOf y) o total a → (i : ℕ) → suc i < total → (pl : Address) × (access : Access) × (place_in g (VariableOf y) (o + 1 + i) ≡ Some pl) × (g.what (a + 1 + i) ≡ StandsFor access pl)
       more w i lt =
           let (pl, access, here, is) = w.cell (suc i) lt in
           let e : o + 1 + i ≡ o + suc i = omega arith in
@@ -169,7 +169,7 @@ module _ (limit : ℕ) (cuts : ℕ → ℕ → List ℕ) (c : Code) (f : Fixed) 
 
   -- a copy to the cells of an object, of numbers that are kept
   pub does_copy_to : {g : Ghost} (y o a b total at_ : ℕ) (vs : List ℤ) (n : ℕ) (st : List ℤ) → length vs ≡ n → n ≤ total → Spread g (VariableOf y) o total a
-      → ((a b : ℕ) (z w : Access) (pl : Place) → g.what a ≡ StandsFor z pl → g.what b ≡ StandsFor w pl → a ≡ b)
+      → ((a b : ℕ) (z w : Access) (pl : Address) → g.what a ≡ StandsFor z pl → g.what b ≡ StandsFor w pl → a ≡ b)
       → ((k : ℕ) (v : ℤ) → slice_get vs k ≡ Some v → g.what (b + k) ≡ Keeps v) → At c at_ (i.Copy n) x.entry
       → Doing limit c f x g g any (Meaning.write_all ops y o vs) (λ d. on f at_ (pos b ∷ pos a ∷ st) d) (λ _ d. on f (at_ + 1) st d)
   does_copy_to {g} y o a b total at_ vs n st len le spread one kept at =

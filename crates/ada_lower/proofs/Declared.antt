@@ -5,7 +5,7 @@ use Rattle.std.proofs.lemmas.Option.{none-some}
 use Rattle.behaviours.specs.Paths.{Entity, Here, entity_eq}
 use Rattle.ada_meaning.specs.declared.slots.Slot.{Slot}
 use Rattle.ada_meaning.specs.Stored as stored
-use Rattle.ada_meaning.specs.Stored.{Stored, Cause, Left, OutOfTurns, NoRoom, CutOff, Misnoted, Place, Kept, Stacked, Touch, cell_at, slot_at, key, within}
+use Rattle.ada_meaning.specs.Stored.{Stored, Cause, Left, OutOfTurns, NoRoom, CutOff, Misnoted, Address, Kept, Stacked, Touch, cell_at, slot_at, key, within}
 use Rattle.ada_meaning.specs.Meaning.{Env}
 use Rattle.ada_meaning.proofs.Cells.{slot_bound, slot_other, key_other, entity_same, some_same, get_left, get_right, get_take}
 use Rattle.ada_base.specs.Cells.{Cell}
@@ -97,7 +97,7 @@ pub fresh_of : {g : Ghost} {s : stored.State} {d : Dyn} → Fit g s d → Fresh 
 fresh_of {g} {s} {d} w a x b e = let (v, cell, bears) = subst (λ z. Right z s (slice_get d.cells a)) e (w.cells a) in length_in s.cells b v cell
 
 module _ (y : Entity) (a : ℕ) (vs : List ℤ) (g : Ghost) where
-  cells_begun : (s : stored.State) (p : Place) (v : ℤ) → cell_at s p ≡ Some v → cell_at (stored.begun Here y vs s) p ≡ Some v
+  cells_begun : (s : stored.State) (p : Address) (v : ℤ) → cell_at s p ≡ Some v → cell_at (stored.begun Here y vs s) p ≡ Some v
   cells_begun s (Kept b) v e = e
   cells_begun s (Stacked b) v e = get_left s.cells vs b v e
 
@@ -119,6 +119,7 @@ module _ (y : Entity) (a : ℕ) (vs : List ℤ) (g : Ghost) where
     most = w.most;
     agrees = record { turns = w.agrees.turns; left = w.agrees.left; taken = w.agrees.taken; held = w.agrees.held; input = w.agrees.input; output = w.agrees.output; notes = w.agrees.notes };
     plan = w.plan;
+    order = w.order;
     cells = λ b. ⊎_elim
         (λ r. let (k, v, e, is) = r in subst (λ b. Right ((having y (length s.cells) a vs g).what b) (stored.begun Here y vs s) (slice_get d.cells b)) e
         (subst (λ z. Right z (stored.begun Here y vs s) (slice_get d.cells (a + k))) (sym (laid_in a (length s.cells) stacked_what vs g.what k v is))
@@ -131,7 +132,7 @@ module _ (y : Entity) (a : ℕ) (vs : List ℤ) (g : Ghost) where
   abbrev pub AllFree : Type 0
   AllFree = (k : ℕ) → k < length vs → g.what (a + k) ≡ Free
 
-  cells_ended : (s t : stored.State) (p : Place) (v : ℤ) → ((b : ℕ) → p ≡ Stacked b → b < length s.cells) → cell_at t p ≡ Some v → cell_at (stored.ended Here y s t) p ≡ Some v
+  cells_ended : (s t : stored.State) (p : Address) (v : ℤ) → ((b : ℕ) → p ≡ Stacked b → b < length s.cells) → cell_at t p ≡ Some v → cell_at (stored.ended Here y s t) p ≡ Some v
   cells_ended s t (Kept b) v old e = e
   cells_ended s t (Stacked b) v old e = get_take (length s.cells) t.cells b (old b refl) ∙ e
 
@@ -153,6 +154,7 @@ module _ (y : Entity) (a : ℕ) (vs : List ℤ) (g : Ghost) where
     most = w.most;
     agrees = record { turns = w.agrees.turns; left = w.agrees.left; taken = w.agrees.taken; held = w.agrees.held; input = w.agrees.input; output = w.agrees.output; notes = w.agrees.notes };
     plan = w.plan;
+    order = w.order;
     cells = λ b. ⊎_elim
         (λ r. let (k, v, e, is) = r in subst (λ b. Right (g.what b) (stored.ended Here y s t) (slice_get d'.cells b)) e
         (subst (λ z. Right z (stored.ended Here y s t) (slice_get d'.cells (a + k))) (sym (free k (length_in vs k v is)))
@@ -162,13 +164,13 @@ module _ (y : Entity) (a : ℕ) (vs : List ℤ) (g : Ghost) where
         (among a b vs);
   }
 
-  fewer_having : (len : ℕ) (b : ℕ) (x : Access) (p : Place) → (having y len a vs g).what b ≡ Stands x p → (g.what b ≡ Stands x p) ⊎ ((t : Bool) → Rattle.ada_lower.specs.Fits.allows x t ≡ true)
+  fewer_having : (len : ℕ) (b : ℕ) (x : Access) (p : Address) → (having y len a vs g).what b ≡ Stands x p → (g.what b ≡ Stands x p) ⊎ ((t : Bool) → Rattle.ada_lower.specs.Fits.allows x t ≡ true)
   fewer_having len b x p e = ⊎_elim
       (λ r. let (k, v, z, is) = r in inr (full x p (sym (laid_in a len stacked_what vs g.what k v is) ∙ ap (laid_what a len stacked_what vs g.what) z ∙ e)))
       (λ out. inl (sym (laid_out a len stacked_what vs g.what b out) ∙ e))
       (among a b vs)
     where
-      full : {q : Place} (x : Access) (p : Place) → Stands Full q ≡ Stands x p → (t : Bool) → Rattle.ada_lower.specs.Fits.allows x t ≡ true
+      full : {q : Address} (x : Access) (p : Address) → Stands Full q ≡ Stands x p → (t : Bool) → Rattle.ada_lower.specs.Fits.allows x t ≡ true
       full Full p e t = refl
       full Barred p e t = let z : Full ≡ Barred = cc in absurd cc
       full Readable p e t = let z : Full ≡ Readable = cc in absurd cc
@@ -227,13 +229,13 @@ knows_having_at {limit} {g} {f} {s} {env} o y len vs below room loose' slots new
             free : (j : ℕ) (v : ℤ) → slice_get vs j ≡ Some v → g.what (a + j) ≡ Free
             free j v is = loose' j (length_in vs j v is)
 
-    in_place : (b j : ℕ) (v : ℤ) (x : Access) (p : Place) → a + j ≡ b → slice_get vs j ≡ Some v → h.what b ≡ Stands x p → p ≡ Stacked (len + j)
+    in_place : (b j : ℕ) (v : ℤ) (x : Access) (p : Address) → a + j ≡ b → slice_get vs j ≡ Some v → h.what b ≡ Stands x p → p ≡ Stacked (len + j)
     in_place b j v x p z is e = let q : Stands Full (Stacked (len + j)) ≡ Stands x p = sym (laid_in a len stacked_what vs g.what j v is) ∙ ap h.what z ∙ e in cc
 
     stacked_same : (m n : ℕ) → Stacked m ≡ Stacked n → m ≡ n
     stacked_same m n e = cc
 
-    one' : (b c : ℕ) (x z : Access) (p : Place) → h.what b ≡ Stands x p → h.what c ≡ Stands z p → b ≡ c
+    one' : (b c : ℕ) (x z : Access) (p : Address) → h.what b ≡ Stands x p → h.what c ≡ Stands z p → b ≡ c
     one' b c x z p eb ec = ⊎_elim
         (λ r. let (j, v, zb, is) = r in ⊎_elim
         (λ r'. let (j', v', zc, is') = r' in
@@ -325,7 +327,7 @@ knows_kept {limit} {g} {f} {s} {env} o vs below room free k = record {
     a : ℕ
     a = f.base + o
 
-    stands : (b : ℕ) (x : Access) (p : Place) → (keeping a vs g).what b ≡ Stands x p → g.what b ≡ Stands x p
+    stands : (b : ℕ) (x : Access) (p : Address) → (keeping a vs g).what b ≡ Stands x p → g.what b ≡ Stands x p
     stands b x p e = ⊎_elim
         (λ r. let (j, v, z, is) = r in absurd (let q : Keeps v ≡ Stands x p = sym (laid_in a 0 kept_what vs g.what j v is) ∙ ap (keeping a vs g).what z ∙ e in cc))
         (λ out. sym (laid_out a 0 kept_what vs g.what b out) ∙ e)

@@ -19,9 +19,9 @@ use Rattle.typed_tree.specs.declared.expressions.Sign.TheVariants as sign
 use Rattle.typed_tree.specs.Syntax.{Expr, Static, Variable, Constant, Parameter, Target, Group, Unary, Binary, AndThen, OrElse, Relation, Membership, If, Call, Convert, Reduction, Optional, Absent, Present, Selections, Whole, Field, Index, Actuals, NoActual, In, InOut, Out, CompositeInOut, CompositeOut, Value, Number, Cells, Composite, WholeVariable, WholeConstant, WholeTarget, CompositeIf, Aggregate, Associations, NoAssociation, Association, Iteration, Range, Components, Chunk, NoChunk, Count, Each, Program}
 use Rattle.ada_meaning.specs.Operations.{CheckKind, RangeCheck, IndexCheck, OverflowCheck, ZeroCheck, Operations, operate, reduce}
 use Rattle.ada_meaning.specs.Stored as stored
-use Rattle.ada_meaning.specs.Stored.{Stored, Cause, Left, OutOfTurns, NoRoom, CutOff, Misnoted, Place}
+use Rattle.ada_meaning.specs.Stored.{Stored, Cause, Left, OutOfTurns, NoRoom, CutOff, Misnoted, Address}
 use Rattle.ada_meaning.specs.Meaning
-use Rattle.ada_meaning.specs.Meaning.{Env, Part, Passed, Returned, inside}
+use Rattle.ada_meaning.specs.Meaning.{Env, ObjectPart, Passed, Returned, inside}
 use Rattle.ada_lower.proofs.ForkLeaves.{only_ret, only_leaves, only_bind, only_look, only_turn, only_handles}
 use Rattle.ada_lower.proofs.JoinLeaves.{only_noted}
 
@@ -123,7 +123,7 @@ module _ (may : Leave → Type 0) where
         value s None l e = subst may (leave_is e) (raises reason.ProgramError)
         value s (Some v) l e = absurd (ok_left e)
 
-        go : (s : stored.State) (p : Option Place) (l : Leave) → (stored.read_at s p).end ≡ Err (Left l) → may l
+        go : (s : stored.State) (p : Option Address) (l : Leave) → (stored.read_at s p).end ≡ Err (Left l) → may l
         go s None l e = value s None l e
         go s (Some a) l e = value s (stored.cell_at s a) l e
 
@@ -131,7 +131,7 @@ module _ (may : Leave → Type 0) where
     unfolding stored.writes
     c_writes y i v = record { by = λ s l e. go s (stored.place_of s (VariableOf y) i) l e }
       where
-        go : (s : stored.State) (p : Option Place) (l : Leave) → (stored.written_at s p v).end ≡ Err (Left l) → may l
+        go : (s : stored.State) (p : Option Address) (l : Leave) → (stored.written_at s p v).end ≡ Err (Left l) → may l
         go s None l e = subst may (leave_is e) (raises reason.ProgramError)
         go s (Some a) l e = absurd (ok_left e)
 
@@ -254,7 +254,7 @@ module _ (may : Leave → Type 0) where
           c_holds Absent env = c_ret true
           c_holds (Present e) env = c_bind (c_eval e env) (λ v. c_ret _)
 
-          pub c_select : (z : Selections) (env : Env) (p : Part) → Closed may (Meaning.select ops limit program calls z env p)
+          pub c_select : (z : Selections) (env : Env) (p : ObjectPart) → Closed may (Meaning.select ops limit program calls z env p)
           c_select Whole env p = c_ret p
           c_select (Field number offset rest) env p = c_select rest env _
           c_select (Index at e low high stride rest) env p = c_bind (c_eval e env) (λ i. c_bind (c_checks IndexCheck at _) (λ _. c_select rest env _))

@@ -9,8 +9,8 @@ use Rattle.ada_meaning.specs.Values
 use Rattle.ada_meaning.specs.Values.{between, truth, bit, to_nat, count, compares, base_of}
 use Rattle.ada_meaning.specs.Operations.{IndexCheck, RangeCheck, Operations, operate, reduce}
 use Rattle.ada_meaning.specs.Stored as stored
-use Rattle.ada_meaning.specs.Stored.{Stored, Cause, Left, Place}
-use Rattle.ada_meaning.specs.Meaning.{Env, Part, Passed, Returned, variable_root, constant_root}
+use Rattle.ada_meaning.specs.Stored.{Stored, Cause, Left, Address}
+use Rattle.ada_meaning.specs.Meaning.{Env, ObjectPart, Passed, Returned, variable_root, constant_root}
 use Rattle.stack_code.specs.declared.code.Code.{Code}
 use Rattle.ada_base.specs.Cells.{value_in}
 use Rattle.stack_code.specs.Deeds.{GoesOn}
@@ -198,7 +198,7 @@ module _ (limit : ℕ) (cuts : ℕ → ℕ → List ℕ) (program : Program) (c 
       subst (λ n. Runs limit c f x g any (reduce stored.doings stored.checks by token (Meaning.fold_call ops limit program calls by n) a v) (λ d. on f from (v ∷ a ∷ st) d) (λ b d. on f to (b ∷ st) d)) (sym ne)
       (reduced_here by token from to s h a v st k en w l)
 
-  item_nested : (constant : Bool) (p : ℕ) (o : Part) (env : Env) → env.nested ≡ (Meaning.with_item constant p o env).nested
+  item_nested : (constant : Bool) (p : ℕ) (o : ObjectPart) (env : Env) → env.nested ≡ (Meaning.with_item constant p o env).nested
   item_nested true p o env = refl
   item_nested false p o env = refl
 
@@ -252,7 +252,7 @@ module _ (limit : ℕ) (cuts : ℕ → ℕ → List ℕ) (program : Program) (c 
         does_returned limit c f x (λ p. stored.reads (VariableOf p.object) p.offset) (variable_root r env)
         (does_load limit c f x s h n (VariableOf (variable_root r env).object) (variable_root r env).offset st en some (root_refers r n k e) (load_stands limit cuts program c f x calls globals mains epar calls_do s h (root_of s.scope r) n from to e l))
     valued B (Variable at r selections scalar) from to {g} {env} s h st k en ((n, e, reach), w) l =
-        let o : Part = variable_root r env in
+        let o : ObjectPart = variable_root r env in
         let u : Refers g f n (VariableOf o.object) o.offset = root_refers r n k e in
         let (m1, l1, l2) = stands_seq c from to (Emission.address s.scope h (root_of s.scope r)) (selected program s.scope (h + 1) selections ⨟ one s.scope (h + 1) i.Load) l in
         let (m2, l3, (j, z)) = stands_seq c m1 to (selected program s.scope (h + 1) selections) (one s.scope (h + 1) i.Load) l2 in
@@ -264,7 +264,7 @@ module _ (limit : ℕ) (cuts : ℕ → ℕ → List ℕ) (program : Program) (c 
         does_returned limit c f x (λ p. stored.reads (ConstantOf p.object) p.offset) (constant_root r env)
         (does_load limit c f x s h n (ConstantOf (constant_root r env).object) (constant_root r env).offset st en some (constant_root_refers r n k e) (load_stands limit cuts program c f x calls globals mains epar calls_do s h (constant_root_of s.scope r) n from to e l))
     valued B (Constant at r selections scalar) from to {g} {env} s h st k en ((n, e, reach), w) l =
-        let o : Part = constant_root r env in
+        let o : ObjectPart = constant_root r env in
         let u : Refers g f n (ConstantOf o.object) o.offset = constant_root_refers r n k e in
         let (m1, l1, l2) = stands_seq c from to (Emission.address s.scope h (constant_root_of s.scope r)) (selected program s.scope (h + 1) selections ⨟ one s.scope (h + 1) i.Load) l in
         let (m2, l3, (j, z)) = stands_seq c m1 to (selected program s.scope (h + 1) selections) (one s.scope (h + 1) i.Load) l2 in
@@ -313,7 +313,7 @@ module _ (limit : ℕ) (cuts : ℕ → ℕ → List ℕ) (program : Program) (c 
     valued B (Reduction at attribute by initial None chunk (Components p constant a r selections zero stride dimensions filter) value) from to {g} {env} s h st k en (wi, room, (n, e, reach), ws, wf, wv, wb) l =
         let many : Emit = none in
         let rest : Emit = Emission.keep s.scope (h + 1 + 1) s.scope.free ⨟ many in
-        let o : Part = Meaning.array_root constant r env in
+        let o : ObjectPart = Meaning.array_root constant r env in
         let room1 : s.scope.free < s.cells = omega (arith, room) in
         let free1 : g.what (f.base + s.scope.free) ≡ Free = k.free s.scope.free (le_refl s.scope.free) room1 in
         let v : Refers g f n (named_entity constant o.object) o.offset = array_refers constant r n k e in
@@ -337,7 +337,7 @@ module _ (limit : ℕ) (cuts : ℕ → ℕ → List ℕ) (program : Program) (c 
         let many : Emit = cond (nat_eq (suc number) 0) none turns in
         let rest : Emit = Emission.keep s.scope (h + 1 + 1) s.scope.free ⨟ many in
         let some : nat_eq (suc number) 0 ≡ false = ne_eqb (suc number) 0 (λ e. omega (arith, e)) in
-        let o : Part = Meaning.array_root constant r env in
+        let o : ObjectPart = Meaning.array_root constant r env in
         let v : Refers g f n (named_entity constant o.object) o.offset = array_refers constant r n k e in
         let (m0, l0, l') = stands_seq c from to (emit program s.scope h initial) (Emission.iterated program s.scope (h + 1) None (Components p constant a r selections (suc number) stride dimensions filter) (λ t. emit program t (h + 1) value ⨟ Emission.folding t h by)) l in
         let (m1, l1, l2) = stands_seq c m0 to (Emission.address s.scope (h + 1) (Emission.array_root_of constant s.scope r)) (selected program s.scope (h + 1 + 1) selections ⨟ rest) (stands_assoc3 c m0 to (Emission.address s.scope (h + 1) (Emission.array_root_of constant s.scope r)) (selected program s.scope (h + 1 + 1) selections) (Emission.keep s.scope (h + 1 + 1) s.scope.free) many l') in
@@ -396,7 +396,7 @@ module _ (limit : ℕ) (cuts : ℕ → ℕ → List ℕ) (program : Program) (c 
     component_done B (Number check e) = (λ B from to g env s h st k en w l. valued B e from to {g = g} {env = env} s h st k en w l)
     component_done B (Cells value) = (λ B g j env q goal s h t n st room en from to then w l go. composed_into value B g j env q goal s h t n st room en from to then w l go)
 
-    picked : (B : Type 0) → (t : Selections) (from to : ℕ) {g : Ghost} {env : Env} (s : Sight) (h : ℕ) (st : List ℤ) (p : Part) (a first total n m : ℕ) → Knows limit cuts g f s env → s.scope.entry ≡ x.entry → FittedSelections program globals mains epar s t → Reaches n t m
+    picked : (B : Type 0) → (t : Selections) (from to : ℕ) {g : Ghost} {env : Env} (s : Sight) (h : ℕ) (st : List ℤ) (p : ObjectPart) (a first total n m : ℕ) → Knows limit cuts g f s env → s.scope.entry ≡ x.entry → FittedSelections program globals mains epar s t → Reaches n t m
         → first ≤ p.offset → p.offset + n ≤ first + total → Stands c (selected program s.scope h t) from to
         → Runs limit c f x g (λ r. (r.object ≡ p.object) × (first ≤ r.offset) × (r.offset + m ≤ first + total)) (Meaning.select ops limit program calls t env p)
         (λ d. on f from (pos (a + (p.offset - first)) ∷ st) d) (λ r d. on f to (pos (a + (r.offset - first)) ∷ st) d)
@@ -437,12 +437,20 @@ module _ (limit : ℕ) (cuts : ℕ → ℕ → List ℕ) (program : Program) (c 
         → Doing limit c f x (keeping (f.base + t) cur g) j q (stored.bind (Meaning.associated ops limit program calls as' env cur) then) (λ d. on f from st d) goal
     associations_into NoAssociation B g j env q goal s h t n st room en from to cur then len w l go =
         does_returned limit c f x then cur (subst (λ p. Doing limit c f x (keeping (f.base + t) cur g) j q (then cur) (λ d. on f p st d) goal) l (go cur len))
-    associations_into (Association runs None mentions value rest) B g j env q goal s h t n st room en from to cur then len (w, we, wr) l go =
+    -- what gives no component isn't evaluated
+    associations_into (Association [] None mentions value rest) B g j env q goal s h t n st room en from to cur then len w l go =
+        let comp : ℕ → Emit = (λ n. Emission.put_into program s.scope h (t + n) value) in
+        let (m, l1, l2) = stands_seq c from to (Emission.fillings s.scope h t (Emission.width program value) (Emission.is_plain value) comp []) (Emission.associated program s.scope h t rest) l in
+        does_assoc limit c f x _ _ then
+        (does_returned limit c f x (λ cs. stored.bind (Meaning.associated ops limit program calls rest env cs) then) cur
+        (subst (λ p. Doing limit c f x (keeping (f.base + t) cur g) j q (stored.bind (Meaning.associated ops limit program calls rest env cur) then) (λ d. on f p st d) goal) l1
+        (associations_into rest B g j env q goal s h t n st room en m to cur then len w l2 go)))
+    associations_into (Association (r ∷ rs) None mentions value rest) B g j env q goal s h t n st room en from to cur then len (w, we, wr) l go =
         let comp : ℕ → Emit = (λ n. Emission.put_into program s.scope h (t + n) value) in
         let val : Stored (List ℤ) = stored.bind (stored.ret (tt {0})) (λ _. Meaning.cells ops limit program calls value env) in
-        let (m, l1, l2) = stands_seq c from to (Emission.fillings s.scope h t (Emission.width program value) (Emission.is_plain value) comp runs) (Emission.associated program s.scope h t rest) l in
+        let (m, l1, l2) = stands_seq c from to (Emission.fillings s.scope h t (Emission.width program value) (Emission.is_plain value) comp (r ∷ rs)) (Emission.associated program s.scope h t rest) l in
         does_assoc limit c f x _ _ then
-        (all_runs limit cuts program c f x calls globals mains epar comp val s h t n (Emission.width program value) st (Emission.is_plain value) (λ p. s_value limit cuts program calls value p env) (each_plain limit cuts program c f x calls globals mains epar value (value_into value) env s h t (Emission.width program value) st en we) room runs from m cur _ len w l1 (λ cs clen.
+        (all_runs limit cuts program c f x calls globals mains epar comp val s h t n (Emission.width program value) st (Emission.is_plain value) (λ p. s_value limit cuts program calls value p env) (each_plain limit cuts program c f x calls globals mains epar value (value_into value) env s h t (Emission.width program value) st en we) room (r ∷ rs) from m cur _ len w l1 (λ cs clen.
         associations_into rest B g j env q goal s h t n st room en m to cs then clen wr l2 go))
     associations_into (Association runs (Some i') mentions value rest) B g j env q goal s h t n st room en from to cur then len (some, w, we, wr) l go =
         let code : Emit = Emission.component program (iterated_sight s i'.parameter).scope h (s.scope.free + 1 + 1) value in
@@ -457,7 +465,7 @@ module _ (limit : ℕ) (cuts : ℕ → ℕ → List ℕ) (program : Program) (c 
         → FittedComposite program globals mains epar s n co → Stands c (Emission.composed program s.scope h t co) from to → Then g j q goal t n to st then
         → Doing limit c f x g j q (stored.bind (Meaning.composite ops limit program calls co env) then) (λ d. on f from st d) goal
     composed_into (WholeVariable at r selections subtype) B g j env q goal s h t n st room en from to then (size, (m, e, reach), ws) (jl, l) go =
-        let o : Part = variable_root r env in
+        let o : ObjectPart = variable_root r env in
         let u : Refers g f m (VariableOf o.object) o.offset = root_refers r m room.knows e in
         let (m1, l1, l2) = stands_seq c (from + 1) to (Emission.address s.scope (h + 1) (root_of s.scope r)) (selected program s.scope (h + 1 + 1) selections ⨟ one s.scope (h + 1 + 1) (i.Copy (Emission.cells_of program subtype))) l in
         let (m2, l3, (jc, z)) = stands_seq c m1 to (selected program s.scope (h + 1 + 1) selections) (one s.scope (h + 1 + 1) (i.Copy (Emission.cells_of program subtype))) l2 in
@@ -472,7 +480,7 @@ module _ (limit : ℕ) (cuts : ℕ → ℕ → List ℕ) (program : Program) (c 
         does_copy limit cuts c f x (VariableOf p.object) p.offset (u.address + (p.offset - o.offset)) (f.base + t) n m2 (Values.layout program.subtypes subtype) n st then size (le_refl n) part room.own (at_entry en (subst (λ z. At c m2 (i.Copy z) s.scope.entry) size jc)) (λ vs len.
         subst (λ p. Doing limit c f x (keeping (f.base + t) vs g) j q (then vs) (λ d. on f p st d) goal) z (go vs len)))))
     composed_into (WholeConstant at r selections subtype) B g j env q goal s h t n st room en from to then (size, (m, e, reach), ws) (jl, l) go =
-        let o : Part = constant_root r env in
+        let o : ObjectPart = constant_root r env in
         let u : Refers g f m (ConstantOf o.object) o.offset = constant_root_refers r m room.knows e in
         let (m1, l1, l2) = stands_seq c (from + 1) to (Emission.address s.scope (h + 1) (constant_root_of s.scope r)) (selected program s.scope (h + 1 + 1) selections ⨟ one s.scope (h + 1 + 1) (i.Copy (Emission.cells_of program subtype))) l in
         let (m2, l3, (jc, z)) = stands_seq c m1 to (selected program s.scope (h + 1 + 1) selections) (one s.scope (h + 1 + 1) (i.Copy (Emission.cells_of program subtype))) l2 in
@@ -487,7 +495,7 @@ module _ (limit : ℕ) (cuts : ℕ → ℕ → List ℕ) (program : Program) (c 
         does_copy limit cuts c f x (ConstantOf p.object) p.offset (u.address + (p.offset - o.offset)) (f.base + t) n m2 (Values.layout program.subtypes subtype) n st then size (le_refl n) part room.own (at_entry en (subst (λ z. At c m2 (i.Copy z) s.scope.entry) size jc)) (λ vs len.
         subst (λ p. Doing limit c f x (keeping (f.base + t) vs g) j q (then vs) (λ d. on f p st d) goal) z (go vs len)))))
     composed_into (WholeTarget at subtype) B g j env q goal s h t n st room en from to then (size, m, e, some) (jl, l) go =
-        let o : Part = env.target in
+        let o : ObjectPart = env.target in
         let u : Refers g f m (VariableOf o.object) o.offset = room.knows.target m e in
         let (m1, l1, (jc, z)) = stands_seq c (from + 1) to (Emission.address s.scope (h + 1) s.scope.target) (one s.scope (h + 1 + 1) (i.Copy (Emission.cells_of program subtype))) l in
         let (j1, z1) = address_stands limit cuts program c f x calls globals mains epar calls_do s (h + 1) s.scope.target m (from + 1) m1 e l1 in
@@ -518,7 +526,7 @@ module _ (limit : ℕ) (cuts : ℕ → ℕ → List ℕ) (program : Program) (c 
   turn_does by nested token filter value from to s h a st ne k en wf wb wv l =
       fold_does (Unit {0}) by nested token filter value from to s h a st ne k en wf wb (λ from to l. valued (Unit {0}) value from to s (h + 1) (a ∷ st) k en wv l) l
 
-  pub selected_does : (t : Selections) (from to : ℕ) {g : Ghost} {env : Env} (s : Sight) (h : ℕ) (st : List ℤ) (p : Part) (a first total n m : ℕ) → Knows limit cuts g f s env → s.scope.entry ≡ x.entry → FittedSelections program globals mains epar s t → Reaches n t m
+  pub selected_does : (t : Selections) (from to : ℕ) {g : Ghost} {env : Env} (s : Sight) (h : ℕ) (st : List ℤ) (p : ObjectPart) (a first total n m : ℕ) → Knows limit cuts g f s env → s.scope.entry ≡ x.entry → FittedSelections program globals mains epar s t → Reaches n t m
       → first ≤ p.offset → p.offset + n ≤ first + total → Stands c (selected program s.scope h t) from to
       → Runs limit c f x g (λ r. (r.object ≡ p.object) × (first ≤ r.offset) × (r.offset + m ≤ first + total)) (Meaning.select ops limit program calls t env p)
       (λ d. on f from (pos (a + (p.offset - first)) ∷ st) d) (λ r d. on f to (pos (a + (r.offset - first)) ∷ st) d)

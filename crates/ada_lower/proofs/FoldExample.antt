@@ -23,7 +23,7 @@ use Rattle.stack_code.specs.declared.instr.Instr.TheVariants as i
 use Rattle.stack_code.specs.Machine.{Done}
 use Rattle.ada_lower.specs.Driven.{on, off}
 use Rattle.ada_lower.specs.Sights.{Named, Own, Main, Placed, Sight, listed}
-use Rattle.ada_lower.specs.FittedForks.{FittedForks, FittedReductions, Within}
+use Rattle.ada_lower.specs.FittedForks.{FittedForks, FittedReductions, Within, unleased}
 use Rattle.lower_emission.specs.Bodies.{program_code}
 use Rattle.lower_emission.specs.Tables.{instrs_from, unwinds_from}
 use Rattle.ada_lower.specs.ProgramCode.{main_names, IsCodeOf}
@@ -34,6 +34,7 @@ use Rattle.ada_lower.proofs.ForkExample.{forks_at, fork_found}
 use Rattle.ada_lower.proofs.Main.{outermost, first_dyn, main_ends}
 use Rattle.ada_lower.proofs.Mains.{Ending}
 use Rattle.ada_lower.proofs.Whole.{whole_does}
+use Rattle.ada_lower.proofs.Lent.{not_lending}
 
 abbrev narrow : Class
 narrow = class.Integer base.Narrow
@@ -104,18 +105,18 @@ array = record { through = false; place = record { level = Main; cell = 0 }; cel
 abbrev item : Named
 item = record { through = true; place = record { level = Own; cell = 4 }; cells = 1 }
 
-fitted : MainFitted program (main_names program text) none_main [] text frames (FittedReductions program (main_names program text) none_main code 1) (FittedForks program (main_names program text) none_main code 1) sight
+fitted : MainFitted program (main_names program text) none_main [] text frames (FittedReductions program (main_names program text) none_main unleased code 1) (FittedForks program (main_names program text) none_main unleased code 1) sight
 unfolding Rattle.ada_lower.specs.Emission.emit Rattle.ada_lower.specs.Emission.stmt Rattle.ada_lower.specs.Emission.back_code Rattle.ada_lower.specs.Emission.piece_values
 fitted = (
   refl,
   omega arith,
   (omega arith, (refl, tt)),
   ((
-    (site 0 kind.Loop, (refl, refl, omega arith, sited 0 refl), omega arith, refl, omega arith, tt, (array, refl, omega arith), tt, tt, (tt, tt), tt, ((item, refl, omega arith, tt, (omega arith, tt)), tt)),
+    (site 0 kind.Loop, (refl, refl, omega arith, sited 0 refl), tt, omega arith, refl, omega arith, tt, (array, refl, omega arith), tt, [], (λ m h. h), tt, (tt, tt), tt, ((item, refl, omega arith, tt, (omega arith, tt)), tt)),
     (
-      (omega arith, ((site 1 sums, (refl, refl, omega arith, sited 1 refl), omega arith, refl, omega arith, tt, tt, (array, refl, omega arith), tt, tt, ((item, refl, omega arith), tt)), tt)),
+      (omega arith, ((site 1 sums, (refl, refl, omega arith, sited 1 refl), tt, omega arith, refl, omega arith, tt, tt, (array, refl, omega arith), tt, tt, ((item, refl, omega arith), tt)), tt)),
       (
-        (omega arith, ((site 2 sums, (refl, refl, omega arith, sited 2 refl), refl, omega arith, tt, tt, tt, tt, tt, (record { level = Own; cell = 2 }, refl)), tt)),
+        (omega arith, ((site 2 sums, (refl, refl, omega arith, sited 2 refl), tt, refl, omega arith, tt, tt, tt, tt, tt, (record { level = Own; cell = 2 }, refl)), tt)),
         tt,
       ),
     ),
@@ -123,6 +124,6 @@ fitted = (
 )
 
 pub comes : (limit : ℕ) (cuts : ℕ → ℕ → List ℕ) (within : Within cuts) (slots : ℕ) (input before : List ℕ) (notes : Schedule) → let r = (Meaning.main (stored.noted_operations limit cuts) limit program).does (stored.noted_outset slots input before notes) in
-    Ending limit code outermost main_ends (0 ∷ []) (on outermost 0 [] (first_dyn notes cuts 12 input before)) 0 (λ d. off (Done None) d) r.state r.end
+    Ending limit code (outermost None) main_ends (0 ∷ []) (on (outermost None) 0 [] (first_dyn notes cuts 12 input before)) 0 (λ d. off (Done None) d) r.state r.end
 comes limit cuts within slots input before notes =
-    whole_does limit cuts within program code none_main [] text frames slots 12 1 (λ n sub e. absurd (none-some sub e)) refl is_code (λ k unit sub e. absurd (none-some unit e)) fitted input before notes
+    whole_does None unleased limit cuts (not_lending limit cuts unleased) within program code (main_names program text) none_main [] text frames slots 12 1 (λ n sub e. absurd (none-some sub e)) refl is_code (record { same = λ k unit e q. absurd (none-some unit e) }) (λ k unit sub e. absurd (none-some unit e)) fitted input before notes tt

@@ -16,7 +16,7 @@ use Rattle.stack_code.specs.declared.path.Asked.{Asked}
 use Rattle.stack_code.specs.Deeds
 use Rattle.stack_code.specs.Deeds.{GoesOn, is_related}
 use Rattle.behaviours.specs.Paths.{Entity}
-use Rattle.ada_lower.specs.Driven.{Dyn, Fixed, on, At}
+use Rattle.ada_lower.specs.Driven.{Dyn, Fixed, on, At, Alike}
 use Rattle.ada_lower.specs.Sights.{Emit, Named, Sight, Stands, one, taking, thread_sight, when_, ◌⨟◌}
 use Rattle.ada_lower.specs.Fits.{Keeps, Fit, Ghost, Knows}
 use Rattle.ada_lower.specs.Forks.{threaded, thread_ends, done_so, ThreadDoes}
@@ -31,7 +31,7 @@ use Rattle.ada_lower.proofs.Loops.{first_at, last_at}
 use Rattle.ada_lower.proofs.ForkLeft.{truth_of_bit}
 use Rattle.ada_lower.proofs.ForkLoops.{first_of, last_of, base_ghost, turns_ghost, enters_so, leaves_so, allows_so, free_again, knows_turns}
 
-module _ (limit : ℕ) (cuts : ℕ → ℕ → List ℕ) (program : Program) (c : Code) (f : Fixed) (calls : ℕ → ℕ → Stored (Unit {0}) → List Passed → Stored Returned) (globals : ℕ → Entity → Option Named) (mains : Entity → Bool) (epar : Sight → Expr → Type 0) (calls_all : (f' : Fixed) → f'.calls ≡ f.calls → InnerDo limit cuts program globals mains epar c f' calls) (t : Sight) (en : t.scope.entry ≡ None) where
+module _ (limit : ℕ) (cuts : ℕ → ℕ → List ℕ) (program : Program) (c : Code) (f : Fixed) (calls : ℕ → ℕ → Stored (Unit {0}) → List Passed → Stored Returned) (globals : ℕ → Entity → Option Named) (mains : Entity → Bool) (epar : Sight → Expr → Type 0) (calls_all : (f' : Fixed) → Alike f' f → InnerDo limit cuts program globals mains epar c f' calls) (t : Sight) (en : t.scope.entry ≡ None) where
   -- the code of an arm does it; beyond the last nothing is done
   abbrev pub ArmDoes : Ghost → Option Emit → Stored (Unit {0}) → Type 0
   ArmDoes g None m = (p : ℕ) → Runs limit c f thread_ends g any m (λ d. on f p [] d) (λ _ d. on f p [] d)
@@ -141,7 +141,7 @@ share_above first zero k le = and_false (int_le (pos k) (pos 0)) (int_le (pos 1)
 share_above first (suc m) k le = and_false (int_le (pos k) (pos 0 +ℤ pos first +ℤ pos m)) (int_le (pos 0 +ℤ pos first) (pos k)) (λ a b. omega (arith, ints, a, le))
 
 -- a thread of a block
-pub block_thread : (limit : ℕ) (cuts : ℕ → ℕ → List ℕ) (program : Program) (c : Code) (f : Fixed) (calls : ℕ → ℕ → Stored (Unit {0}) → List Passed → Stored Returned) (globals : ℕ → Entity → Option Named) (mains : Entity → Bool) (epar : Sight → Expr → Type 0) (calls_all : (f' : Fixed) → f'.calls ≡ f.calls → InnerDo limit cuts program globals mains epar c f' calls) (g : Ghost) (s : Sight) (env : Env) (kn : Knows limit cuts g f s env)
+pub block_thread : (limit : ℕ) (cuts : ℕ → ℕ → List ℕ) (program : Program) (c : Code) (f : Fixed) (calls : ℕ → ℕ → Stored (Unit {0}) → List Passed → Stored Returned) (globals : ℕ → Entity → Option Named) (mains : Entity → Bool) (epar : Sight → Expr → Type 0) (calls_all : (f' : Fixed) → Alike f' f → InnerDo limit cuts program globals mains epar c f' calls) (g : Ghost) (s : Sight) (env : Env) (kn : Knows limit cuts g f s env)
     (site : ℕ) (cs : CodeSite) (four : 4 ≤ cs.frame) (last cl ch : ℤ) (j : Share) (may : Leave → Type 0) (es : List Emit) (acts : ℕ → Stored (Unit {0})) (to : ℕ)
     → (let t = taking 2 (taking 2 (thread_sight site cs.frame s)) in Stands c (arms_code program t.scope 0 es ⨟ one t.scope 0 i.End) cs.entry to)
     → (let t = taking 2 (taking 2 (thread_sight site cs.frame s)) in (gi : Ghost) (k : ℕ) → Knows limit cuts gi (threaded f g.top) t env → ArmDoes limit cuts program c (threaded f g.top) calls globals mains epar calls_all t refl gi (slice_get es k) (acts k))
@@ -158,6 +158,7 @@ block_thread limit cuts program c f calls globals mains epar calls_all g s env k
     record {
       ghost = gt;
       after = gb;
+      ordered = refl;
       may_leave = ml;
       enters = enters_so limit cuts program c f calls globals mains epar calls_all g s env kn site cs four q j;
       leaves = leaves_so limit cuts program c f calls globals mains epar calls_all g s env kn site cs four q j;

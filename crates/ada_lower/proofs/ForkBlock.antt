@@ -12,14 +12,15 @@ use Rattle.ada_meaning.specs.Meaning
 use Rattle.ada_meaning.specs.Meaning.{Env, Passed, Returned, inside}
 use Rattle.stack_code.specs.declared.code.Code.{Code}
 use Rattle.stack_code.specs.declared.code.CodeSite.{CodeSite}
-use Rattle.stack_code.specs.declared.code.SiteKind.TheVariants as kind
+use Rattle.stack_code.specs.declared.code.SiteKind.TheVariants as site_kind
 use Rattle.stack_code.specs.declared.instr.Instr.TheVariants as i
 use Rattle.stack_code.specs.declared.path.Asked.{Asked}
 use Rattle.stack_code.specs.declared.path.Gave.TheVariants as gave
 use Rattle.stack_code.specs.Deeds
 use Rattle.stack_code.specs.Deeds.{many, can_fork}
 use Rattle.behaviours.specs.Paths.{Entity}
-use Rattle.ada_lower.specs.Driven.{Dyn, Fixed, on, thrown, sizes_for, answer_of}
+use Rattle.ada_lower.specs.Driven.{Dyn, Fixed, on, thrown, sizes_for, answer_of, Alike}
+use Rattle.ada_lower.proofs.Alike.{alike}
 use Rattle.ada_lower.specs.Sights.{nested_sight, Emit, Named, Sight, Stands, one, taking, thread_sight, ◌⨟◌}
 use Rattle.ada_lower.specs.Emission.{exiting}
 use Rattle.ada_lower.specs.Fits.{Ghost, Ends, Knows}
@@ -42,6 +43,10 @@ use Rattle.ada_lower.proofs.ForkFor.{every_one, stands_behind, blocked_does}
 use Rattle.ada_lower.proofs.ForkRange.{knows_nested, knows_forked}
 use Rattle.ada_lower.proofs.ForkChunks.{number_does, two_kept}
 use Rattle.ada_lower.proofs.ForkArms.{ArmDoes, block_thread}
+use Rattle.ada_lower.proofs.ForkFine.{Lends}
+use Rattle.ada_lower.specs.ForkViews.{view_ghost, no_free, Apart}
+use Rattle.ada_lower.proofs.ForkSights.{knows_view}
+use Rattle.behaviours.specs.Joins.{deal}
 
 -- no loop has that number
 abbrev pub no_loop : ℕ
@@ -50,11 +55,11 @@ no_loop = 4294967296
 many_arms : (n : ℕ) → 1 ≤ n → many (pos 0) (pos (n - 1)) ≡ n
 many_arms n le = ap Deeds.natural (let z : pos (n - 1) +ℤ pos 1 -ℤ pos 0 ≡ pos (n - 1 + 1) = omega (arith, ints) in z) ∙ (let z : n - 1 + 1 ≡ n = omega (arith, le) in z)
 
-module _ (limit : ℕ) (cuts : ℕ → ℕ → List ℕ) (program : Program) (c : Code) (f : Fixed) (calls : ℕ → ℕ → Stored (Unit {0}) → List Passed → Stored Returned) (globals : ℕ → Entity → Option Named) (mains : Entity → Bool) (epar : Sight → Expr → Type 0) (calls_all : (f' : Fixed) → f'.calls ≡ f.calls → InnerDo limit cuts program globals mains epar c f' calls)
+module _ (limit : ℕ) (cuts : ℕ → ℕ → List ℕ) (program : Program) (c : Code) (f : Fixed) (calls : ℕ → ℕ → Stored (Unit {0}) → List Passed → Stored Returned) (globals : ℕ → Entity → Option Named) (mains : Entity → Bool) (epar : Sight → Expr → Type 0) (calls_all : (f' : Fixed) → Alike f' f → InnerDo limit cuts program globals mains epar c f' calls)
     (x : Ends) (g : Ghost) (env : Env) (s : Sight) (kn : Knows limit cuts g f s env) (su : Suits limit c f x s) (kept : f.kept ≡ []) (nested : f.nested ≡ env.nested) (room : s.scope.free + 3 < s.cells)
-    (loops : List ℕ) (exits_to : (n from to : ℕ) → In n loops → Stands c (exiting (taking 2 s).scope n (s.scope.exits n)) from to → (d : Dyn) → To limit c (on f from [] d) (x.exits n d))
+    (all loops : List ℕ) (among : (n : ℕ) → In n loops → In n all) (exits_to : (n from to : ℕ) → In n loops → Stands c (exiting (taking 2 s).scope n (s.scope.exits n)) from to → (d : Dyn) → To limit c (on f from [] d) (x.exits n d))
     (cs : CodeSite) (site : ℕ) (site_at : slice_get c.sites site ≡ Some cs) (four : 4 ≤ cs.frame) (entry : (qf : ℕ) → slice_get c.instrs qf ≡ Some (i.Fork site) → cs.entry ≡ qf + 1 + 1)
-    (count : Optional) (es : List Emit) (some_arms : 1 ≤ length es) (few_arms : length es ≤ 4611686018427387904) (kind : cs.kind ≡ kind.Block (length es)) (acts : ℕ → Stored (Unit {0})) where
+    (count : Optional) (es : List Emit) (some_arms : 1 ≤ length es) (few_arms : length es ≤ 4611686018427387904) (kind : cs.kind ≡ site_kind.Block (length es)) (acts : ℕ → Stored (Unit {0})) where
   abbrev oper : Operations {1}
   oper = stored.noted_operations limit cuts
 
@@ -83,17 +88,18 @@ module _ (limit : ℕ) (cuts : ℕ → ℕ → List ℕ) (program : Program) (c 
   tb = arms_code program t.scope 0 es ⨟ one t.scope 0 i.End
 
   abbrev rest : Emit
-  rest = one r.scope 0 (i.Push (pos 0)) ⨟ one r.scope 1 (i.Push (pos (length es - 1))) ⨟ fork_code r.scope 0 2 site s.scope.free (one r.scope 4 (i.Push (pos 0))) tb ⨟ one r.scope 2 i.Unnest ⨟ left_code (taking 2 s).scope no_loop loops
+  rest = one r.scope 0 (i.Push (pos 0)) ⨟ one r.scope 1 (i.Push (pos (length es - 1))) ⨟ fork_code r.scope 0 2 (site_kind.Block (length es)) site s.scope.free (one r.scope 4 (i.Push (pos 0))) tb ⨟ one r.scope 2 i.Unnest ⨟ left_code (taking 2 s).scope no_loop all
 
-  module _ (arms : (f' : Fixed) (fc : f'.calls ≡ f.calls) (top : ℕ) (is : f' ≡ threaded (nested_in f) top) (gi : Ghost) (k : ℕ) → Knows limit cuts gi f' t (inside env) → ArmDoes limit cuts program c f' calls globals mains epar (λ f'' e. calls_all f'' (e ∙ fc)) t refl gi (slice_get es k) (acts k))
-      (leaves_so : (first size : ℕ) (w : stored.State) (l : Leave) → ((through stored.doings first size tt (λ k (_ : Unit {0}). acts k)).does w).end ≡ Err (stored.Left l) → BlockLeaves l) where
+  module _ (arms : (f' : Fixed) (fc : Alike f' f) (top : ℕ) (is : f' ≡ threaded (nested_in f) top) (gi : Ghost) (k : ℕ) → Knows limit cuts gi f' t (inside env) → ArmDoes limit cuts program c f' calls globals mains epar (λ f'' e. calls_all f'' (e.0 ∙ fc.0, e.1 ∙ fc.1)) t refl gi (slice_get es k) (acts k))
+      (leaves_so : (first size : ℕ) (w : stored.State) (l : Leave) → ((through stored.doings first size tt (λ k (_ : Unit {0}). acts k)).does w).end ≡ Err (stored.Left l) → BlockLeaves l)
+      (lends : (ch : ℤ) (gg : Ghost) → Knows limit cuts gg (nested_in f) (taking 2 s) (inside env) → Lends (nested_in f) gg cs (Deeds.asked site (pos 0) (pos (length es - 1)) (pos 1) ch (pos 0)) (Meaning.block_site site) (deal 0 0 (sizes_for gg.plan cs.kind (Deeds.asked site (pos 0) (pos (length es - 1)) (pos 1) ch (pos 0))))) where
     numbered : (ch : ℤ) (from to : ℕ) → nat_le 1 (many (pos 1) ch) ≡ true → nat_le (many (pos 1) ch) 4096 ≡ true → Stands c rest from to
         → Runs limit c f x (g1 (pos 1) ch) any (dealt (many (pos 1) ch)) (λ d. on fi from [] d) (λ _ d. on f to [] d)
     numbered ch from to some few (ja, (jb, r1)) =
         let last : ℤ = pos (length es - 1) in
         let q : Asked = Deeds.asked site (pos 0) last (pos 1) ch (pos 0) in
         let gg : Ghost = g1 (pos 1) ch in
-        let (m4, (jd0, (jd1, (jp, (jf, lb)))), (ju, ll)) = stands_seq c (from + 1 + 1) to (fork_code r.scope 0 2 site s.scope.free (one r.scope 4 (i.Push (pos 0))) tb) (one r.scope 2 i.Unnest ⨟ left_code (taking 2 s).scope no_loop loops) r1 in
+        let (m4, (jd0, (jd1, (jp, (jf, lb)))), (ju, ll)) = stands_seq c (from + 1 + 1) to (fork_code r.scope 0 2 (site_kind.Block (length es)) site s.scope.free (one r.scope 4 (i.Push (pos 0))) tb) (one r.scope 2 i.Unnest ⨟ left_code (taking 2 s).scope no_loop all) r1 in
         let (jj, bd) = stands_behind c (from + 1 + 1 + 1 + 1 + 1 + 1) m4 r.scope 2 tb lb in
         does_by limit c f x (λ w d z.
         comes_on limit c (comes_goes limit c fi [] (from + 1) (pos 0 ∷ []) d ja refl)
@@ -101,13 +107,16 @@ module _ (limit : ℕ) (cuts : ℕ → ℕ → List ℕ) (program : Program) (c 
         (comes_on limit c (comes_kept limit cuts c fi s.scope.free (pos 1) (last ∷ pos 0 ∷ []) d z (first_at limit cuts c f x s.scope.free (pos 1) ch g) jd0)
         (comes_on limit c (comes_kept limit cuts c fi (s.scope.free + 1) ch (pos 1 ∷ last ∷ pos 0 ∷ []) d z (last_at limit cuts c f x s.scope.free (pos 1) ch g) jd1)
         (comes_goes limit c fi (ch ∷ pos 1 ∷ last ∷ pos 0 ∷ []) (from + 1 + 1 + 1 + 1 + 1) (pos 0 ∷ ch ∷ pos 1 ∷ last ∷ pos 0 ∷ []) d jp refl)))))
-        (blocked_does limit cuts program c f calls globals mains epar calls_all x gg env (taking 2 s) (kn1 (pos 1) ch) (suits_as (taking 2 s) s refl refl refl refl (λ n. refl) su) (omega (arith, room)) kept loops loops (λ n h. h) exits_to
+        (blocked_does limit cuts program c f calls globals mains epar calls_all x gg env (taking 2 s) (kn1 (pos 1) ch) (suits_as (taking 2 s) s refl refl refl refl refl (λ n. refl) su) (omega (arith, room)) kept all loops among exits_to
         no_loop (from + 1 + 1 + 1 + 1 + 1) m4 to (at_entry su.entry jj) (at_entry su.entry ju) ll gg (λ a y z e. inl e) (λ w d z. z) BlockLeaves (λ w m. m.0)
         cs site (pos 0) last (pos 1) ch site_at (at_entry su.entry jf) (λ vs. ap (λ kd. answer_of c kd q (gave.Numbers vs)) kind) some few (Meaning.block_site site)
         (λ j i. acts i) (Sized (evens (length es) (min (many (pos 1) ch) (length es))))
         (sym (ap (λ kd. sizes_for gg.plan kd q) kind ∙ ap (λ n. evens n (min (many (pos 1) ch) n)) (many_arms (length es) some_arms)))
         (λ j. Unit {0}) (every_one _) (λ j _. block_thread limit cuts program c fi calls globals mains epar calls_all gg (taking 2 s) (inside env) (knows_forked ((kn1 (pos 1) ch))) site cs four last (pos 1) ch j BlockLeaves es acts m4
-        (subst (λ a. Stands c tb a m4) (sym (entry (from + 1 + 1 + 1 + 1 + 1) (itself refl jf))) bd) (λ gi k kk. arms (threaded fi gg.top) refl gg.top refl gi k kk) (λ w l e. leaves_so j.first j.size w l e))
+        (subst (λ a. Stands c tb a m4) (sym (entry (from + 1 + 1 + 1 + 1 + 1) (itself refl jf))) bd) (λ gi k kk. arms (threaded fi gg.top) (alike f) gg.top refl gi k kk) (λ w l e. leaves_so j.first j.size w l e))
+        (knows_forked (kn1 (pos 1) ch)) (lends ch gg (knows_forked (kn1 (pos 1) ch)))
+        (λ owner apart j _. block_thread limit cuts program c fi calls globals mains epar calls_all (view_ghost owner j.number gg) (no_free (taking 2 s)) (inside env) (knows_view owner j.number (knows_forked (kn1 (pos 1) ch)) apart) site cs four last (pos 1) ch j BlockLeaves es acts m4
+        (subst (λ a. Stands c tb a m4) (sym (entry (from + 1 + 1 + 1 + 1 + 1) (itself refl jf))) bd) (λ gi k kk. arms (threaded fi gg.top) (alike f) gg.top refl gi k kk) (λ w l e. leaves_so j.first j.size w l e))
         (ap (λ n. nat_le n 4611686018427387904 && (nat_le 1 (many (pos 1) ch) && nat_le (many (pos 1) ch) 4096)) (many_arms (length es) some_arms)
         ∙ ap₂ (λ a b. a && b) (le-leb (length es) 4611686018427387904 few_arms) (ap₂ (λ t u. t && u) some few))
         (λ w m. m.1))
@@ -119,7 +128,7 @@ module _ (limit : ℕ) (cuts : ℕ → ℕ → List ℕ) (program : Program) (c 
 
     follows : (ch : ℤ) (from to : ℕ) → nat_le 1 (many (pos 1) ch) ≡ true → nat_le (many (pos 1) ch) 4096 ≡ true → Stands c rest from to
         → Runs limit c fi x (g1 (pos 1) ch) any (dealt (many (pos 1) ch)) (λ d. on fi from [] d) (λ _ d. on f to [] d)
-    follows ch from to some few l = does_inside limit c fi x f refl left_as_back (numbered ch from to some few l)
+    follows ch from to some few l = does_inside limit c fi x f refl refl left_as_back (numbered ch from to some few l)
 
     counted : (o : Optional) → FittedCount program globals mains epar r o → (from to : ℕ) → Stands c (chunk_code program r.scope 0 (chunk_by program o) ⨟ rest) from to
         → Runs limit c fi x g any (stored.bind (Meaning.threads_of oper limit program calls o (inside env)) dealt) (λ d. on fi from [] d) (λ _ d. on f to [] d)
@@ -144,10 +153,10 @@ module _ (limit : ℕ) (cuts : ℕ → ℕ → List ℕ) (program : Program) (c 
 
     -- a parallel block
     pub block_does : FittedCount program globals mains epar r count → (from to : ℕ) → Stands c (one s.scope 0 i.Nest ⨟ chunk_code program r.scope 0 (chunk_by program count) ⨟ rest) from to
-        → Acts limit cuts program c f calls globals mains epar (calls_all f refl) x g (stored.bind (Meaning.opened oper env) (λ _. stored.bind (Meaning.threads_of oper limit program calls count (inside env)) dealt)) from to
+        → Acts limit cuts program c f calls globals mains epar (calls_all f (alike f)) x g (stored.bind (Meaning.opened oper env) (λ _. stored.bind (Meaning.threads_of oper limit program calls count (inside env)) dealt)) from to
     block_does w from to (jn, l) =
         does_bind limit c f x (does_opened limit c f x cuts env [] nested (at_entry su.entry jn)) (λ _ _.
-        does_inside limit c f x fi refl (left_as_nested limit c f x) (counted count w (from + 1) to l))
+        does_inside limit c f x fi refl refl (left_as_nested limit c f x) (counted count w (from + 1) to l))
 
 -- what the statement does
 pub block_is : (limit : ℕ) (cuts : ℕ → ℕ → List ℕ) (program : Program) (calls : ℕ → ℕ → Stored (Unit {0}) → List Passed → Stored Returned) (site : ℕ) (count : Optional) (arms : Rattle.typed_tree.specs.Syntax.Arms) (n : ℕ) (env : Env) → Meaning.arms_of arms ≡ n

@@ -18,7 +18,8 @@ use Rattle.ada_base.specs.declared.reason.Reason.{Reason}
 use Rattle.stack_code.specs.Deeds
 use Rattle.stack_code.specs.Deeds.{GoesOn}
 use Rattle.behaviours.specs.Paths.{Entity}
-use Rattle.ada_lower.specs.Driven.{Dyn, Fixed, Step, on, thrown, At}
+use Rattle.ada_lower.specs.Driven.{Dyn, Fixed, Step, on, thrown, At, Alike}
+use Rattle.ada_lower.proofs.Alike.{alike}
 use Rattle.ada_lower.specs.Sights.{Emit, Named, Sight, Stands, one, taking, when_, ◌⨟◌}
 use Rattle.ada_lower.specs.Emission
 use Rattle.ada_lower.specs.Emission.{emit}
@@ -40,7 +41,7 @@ use Rattle.ada_meaning.specs.Operations.{RangeCheck}
 use Rattle.ada_lower.proofs.ForkRange.{Chunks, to_nat_same}
 
 -- the expressions of a chunk specification
-module _ (limit : ℕ) (cuts : ℕ → ℕ → List ℕ) (program : Program) (c : Code) (f : Fixed) (calls : ℕ → ℕ → Stored (Unit {0}) → List Passed → Stored Returned) (globals : ℕ → Entity → Option Named) (mains : Entity → Bool) (epar : Sight → Expr → Type 0) (calls_all : (f' : Fixed) → f'.calls ≡ f.calls → InnerDo limit cuts program globals mains epar c f' calls)
+module _ (limit : ℕ) (cuts : ℕ → ℕ → List ℕ) (program : Program) (c : Code) (f : Fixed) (calls : ℕ → ℕ → Stored (Unit {0}) → List Passed → Stored Returned) (globals : ℕ → Entity → Option Named) (mains : Entity → Bool) (epar : Sight → Expr → Type 0) (calls_all : (f' : Fixed) → Alike f' f → InnerDo limit cuts program globals mains epar c f' calls)
     (x : Ends) (g : Ghost) (env : Env) (s : Sight) (kn : Knows limit cuts g f s env) (en : s.scope.entry ≡ x.entry) (room : s.scope.free + 1 < s.cells) (ht : ℕ) (stk : List ℤ) (R : Type 0) where
   abbrev oper : Operations {1}
   oper = stored.noted_operations limit cuts
@@ -152,7 +153,7 @@ module _ (limit : ℕ) (cuts : ℕ → ℕ → List ℕ) (program : Program) (c 
       let (m1, le, (j3, (j4, (j5, lr)))) = stands_seq c (from + 1 + 1) to (emit program (taking 1 s).scope ht e) (one s.scope (ht + 1) (i.Push (pos 4096)) ⨟ one s.scope (ht + 1 + 1) i.Min ⨟ Emission.keep s.scope (ht + 1) (s.scope.free + 1) ⨟ Emission.raise_above s.scope ht s.scope.free) l2 in
       does_before limit c f x (λ d. comes_goes limit c f stk (from + 1) (pos 1 ∷ stk) d j1 refl)
       (does_keep limit c f x (from + 1) s.scope.free (pos 1) stk (own_free (g.what (f.base + s.scope.free)) free1) (at_entry en j2)
-      (does_seq limit c f x (λ st d z. fit_unset (f.base + s.scope.free) (pos 1) free1 z) (λ ts al. al) (value_does limit cuts program c f x calls globals mains epar (calls_all f refl) e (from + 1 + 1) m1 (taking 1 s) ht stk (knows_env (knows_keep (pos 1) room1 kn)) en w le) (λ v _.
+      (does_seq limit c f x (λ st d z. fit_unset (f.base + s.scope.free) (pos 1) free1 z) (λ ts al. al) (value_does limit cuts program c f x calls globals mains epar (calls_all f (alike f)) e (from + 1 + 1) m1 (taking 1 s) ht stk (knows_env (knows_keep (pos 1) room1 kn)) en w le) (λ v _.
       does_before limit c f x (λ d. comes_on limit c (comes_goes limit c f (v ∷ stk) (m1 + 1) (pos 4096 ∷ v ∷ stk) d j3 refl) (comes_goes limit c f (pos 4096 ∷ v ∷ stk) (m1 + 1 + 1) (int_min v (pos 4096) ∷ stk) d j4 refl))
       (two_kept (pos 1) (int_min v (pos 4096)) (m1 + 1 + 1) (at_entry en j5)
       (as_ v (bounds (pos 1) (int_min v (pos 4096))) (λ d. on f (m1 + 1 + 1 + 1) stk d) (tests v (m1 + 1 + 1 + 1) lr (int_lt (pos 0) v) refl))))))
@@ -292,10 +293,10 @@ module _ (limit : ℕ) (cuts : ℕ → ℕ → List ℕ) (program : Program) (c 
         let (m1, l1, (j1, r1)) = stands_seq c from to (emit program s.scope ht low) (Emission.keep s.scope (ht + 1) s.scope.free ⨟ emit program (taking 1 s).scope ht high ⨟ Emission.keep s.scope (ht + 1) (s.scope.free + 1) ⨟ rest) l in
         let (m2, l2, (j2, r2)) = stands_seq c (m1 + 1) to (emit program (taking 1 s).scope ht high) (Emission.keep s.scope (ht + 1) (s.scope.free + 1) ⨟ rest) r1 in
         does_assoc limit c f x _ _ then
-        (does_bind limit c f x (value_does limit cuts program c f x calls globals mains epar (calls_all f refl) low from m1 s ht stk (knows_in kn) en wl l1) (λ u _.
+        (does_bind limit c f x (value_does limit cuts program c f x calls globals mains epar (calls_all f (alike f)) low from m1 s ht stk (knows_in kn) en wl l1) (λ u _.
         does_keep limit c f x m1 s.scope.free u stk (own_free (g.what (f.base + s.scope.free)) free1) (at_entry en j1)
         (does_assoc limit c f x _ _ then
-        (does_seq limit c f x (λ st d z. fit_unset (f.base + s.scope.free) u free1 z) (λ ts al. al) (value_does limit cuts program c f x calls globals mains epar (calls_all f refl) high (m1 + 1) m2 (taking 1 s) ht stk (knows_in (knows_keep u room1 kn)) en wh l2) (λ v _.
+        (does_seq limit c f x (λ st d z. fit_unset (f.base + s.scope.free) u free1 z) (λ ts al. al) (value_does limit cuts program c f x calls globals mains epar (calls_all f (alike f)) high (m1 + 1) m2 (taking 1 s) ht stk (knows_in (knows_keep u room1 kn)) en wh l2) (λ v _.
         two_kept u v m2 (at_entry en j2) (ranged u v (m2 + 1) to r2 k))))))
       where
         knows_in : {h : Ghost} {w : Sight} → Knows limit cuts h f w env → Knows limit cuts h f w env

@@ -15,7 +15,8 @@ use Rattle.stack_code.specs.declared.code.CodeSite.{CodeSite}
 use Rattle.stack_code.specs.declared.code.SiteKind.TheVariants as kind
 use Rattle.stack_code.specs.declared.instr.Instr.{Instr}
 use Rattle.stack_code.specs.declared.instr.Instr.TheVariants as i
-use Rattle.ada_lower.specs.Driven.{Fixed, At}
+use Rattle.ada_lower.specs.Driven.{Fixed, At, Alike}
+use Rattle.ada_lower.proofs.Alike.{alike}
 use Rattle.ada_lower.specs.Sights.{Emit, Lies, Placed, Scope, Sight, Stands, listed, none}
 use Rattle.ada_lower.specs.Fits.{Ghost, Ends, Knows}
 use Rattle.ada_lower.specs.Bodies.{main_scope}
@@ -30,6 +31,8 @@ use Rattle.ada_lower.proofs.Example.{number, none_there, none_main, text, no_thr
 use Rattle.ada_lower.proofs.ForkLeft.{In, MayLeave}
 use Rattle.ada_lower.proofs.ForkWhole.{parallel_loop_does}
 use Rattle.ada_lower.proofs.ForkLeaves.{only_ret, only_through, only_iterate}
+use Rattle.ada_lower.proofs.Lent.{unasked}
+use Rattle.ada_lower.proofs.ForkInside.{nested_in}
 
 -- ---- where a site's forks stand, by a look at the code
 
@@ -130,9 +133,9 @@ unfolding Rattle.ada_lower.specs.Emission.emit Rattle.ada_lower.specs.Emission.s
 stands = lies_at code refl 0 (listed looping 0) (length (listed looping 0)) refl (λ k. (let z : 0 + k ≡ k = omega arith in ap (λ q. slice_get code.instrs q) z)) refl
 
 -- in any state that fits
-module _ (limit : ℕ) (cuts : ℕ → ℕ → List ℕ) (f : Fixed) (calls : ℕ → ℕ → Stored (Unit {0}) → List Passed → Stored Returned) (calls_all : (f' : Fixed) → f'.calls ≡ f.calls → InnerDo limit cuts program none_there none_main no_threads code f' calls)
-    (x : Ends) (g : Ghost) (env : Env) (kn : Knows limit cuts g f sight env) (su : Suits limit code f x sight) (kept : f.kept ≡ []) (nested : f.nested ≡ env.nested) (plan : g.plan ≡ cuts) where
-  turn_does : (f' : Fixed) (fc : f'.calls ≡ f.calls) (g' : Ghost) (env' : Env) (a b : ℕ) → b ≡ a
+module _ (limit : ℕ) (cuts : ℕ → ℕ → List ℕ) (f : Fixed) (calls : ℕ → ℕ → Stored (Unit {0}) → List Passed → Stored Returned) (calls_all : (f' : Fixed) → Alike f' f → InnerDo limit cuts program none_there none_main no_threads code f' calls)
+    (x : Ends) (g : Ghost) (env : Env) (kn : Knows limit cuts g f sight env) (su : Suits limit code f x sight) (kept : f.kept ≡ []) (nested : f.nested ≡ env.nested) (plan : g.plan ≡ cuts) (not_asked : f.asked ≡ None) where
+  turn_does : (f' : Fixed) (fc : Alike f' f) (g' : Ghost) (env' : Env) (a b : ℕ) → b ≡ a
       → Acts limit cuts program code f' calls none_there none_main no_threads (calls_all f' fc) thread_ends g' (stored.bind (Meaning.holds (stored.noted_operations limit cuts) limit program calls Absent env') (λ z. cond z (stored.ret (tt {0})) (stored.ret (tt {0})))) a b
   turn_does f' fc g' env' a b e = does_returned limit code f' thread_ends (λ z. cond z (stored.ret (tt {0})) (stored.ret (tt {0}))) true
       (subst (λ q. Runs limit code f' thread_ends g' any (stored.ret (tt {0})) (λ d. on f' a [] d) (λ _ d. on f' q [] d)) (sym e) (does_ret limit code f' thread_ends {to = λ _ d. on f' a [] d} tt tt))
@@ -141,7 +144,7 @@ module _ (limit : ℕ) (cuts : ℕ → ℕ → List ℕ) (f : Fixed) (calls : �
   leaves_so first size envs = only_through (MayLeave 0 []) (λ i _. Meaning.iterate (stored.noted_operations limit cuts) (Meaning.holds (stored.noted_operations limit cuts) limit program calls Absent (envs i)) (stored.ret (tt {0})))
       (λ i a. only_iterate (MayLeave 0 []) limit cuts (stored.ret true) (stored.ret tt) (only_ret (MayLeave 0 []) true) (only_ret (MayLeave 0 []) (tt {0}))) first size tt
 
-  pub loop_does : Acts limit cuts program code f calls none_there none_main no_threads (calls_all f refl) x g (Meaning.exec (stored.noted_operations limit cuts) limit program calls (ParallelFor 0 0 NoChunk it End) env) 0 (length (listed looping 0))
+  pub loop_does : Acts limit cuts program code f calls none_there none_main no_threads (calls_all f (alike f)) x g (Meaning.exec (stored.noted_operations limit cuts) limit program calls (ParallelFor 0 0 NoChunk it End) env) 0 (length (listed looping 0))
   unfolding Rattle.ada_lower.specs.Emission.emit
   loop_does = parallel_loop_does limit cuts program code f calls none_there none_main no_threads calls_all x g env sight kn su kept nested plan (omega arith) 0 [] [] (λ n h. h) (λ n from to h l d. absurd h) NoChunk site 0 refl refl (omega arith) sited
-      0 (number 1) (number 4) None Absent (λ e. stored.ret tt) nothing (λ f' fc top is g' env' a b k l. turn_does f' fc g' env' a b l) leaves_so tt tt tt 0 (length (listed looping 0)) stands
+      0 (number 1) (number 4) None Absent (λ e. stored.ret tt) nothing (λ f' fc top is g' env' a b k l. turn_does f' fc g' env' a b l) leaves_so (λ k cl ch l u told gg kk. unasked (nested_in f) not_asked) tt tt tt 0 (length (listed looping 0)) stands

@@ -1,10 +1,11 @@
 -- Frames of threads: what their cells stand for, and what is known of the names around.
 use Rattle.std.proofs.Common.{◌≡◌, ℕ, zero, suc, ◌+◌, ◌-◌, ◌<◌, ◌≤◌, ℤ, pos, ◌+ℤ◌, List, [], ◌∷◌, ◌++◌, length, take, slice_get, nat_eq, nat_lt, Option, Some, None, Bool, true, false, cond, refl, sym, ap, ap₂, ◌∙◌, subst, arith, inl, inr, ⊎_elim, eqb-true, ltb-true, ltb-false, length-append}
 use Rattle.std.proofs.lemmas.Bool.{eqb-false}
+use Rattle.ada_base.specs.Notes.{InOrder}
 use Rattle.behaviours.specs.Joins.{Share}
 use Rattle.behaviours.specs.Paths.{Entity, VariableOf, ConstantOf}
 use Rattle.ada_meaning.specs.Stored as stored
-use Rattle.ada_meaning.specs.Stored.{Place, Touch}
+use Rattle.ada_meaning.specs.Stored.{Address, Touch}
 use Rattle.ada_meaning.specs.Meaning.{Env}
 use Rattle.ada_meaning.proofs.Cells.{get_left, get_right, get_take, some_same}
 use Rattle.stack_code.specs.declared.path.Asked.{Asked}
@@ -71,7 +72,7 @@ length_thread frame q j le =
 -- ---- the ghost of a thread: what is around, and free cells on top
 
 abbrev pub frame_ghost : Ghost → ℕ → Ghost
-frame_ghost g n = record g { top = g.top + n; what = λ a. cond (nat_lt a g.top) (g.what a) (cond (nat_lt a (g.top + n)) Free Other) }
+frame_ghost g n = record g { ordered = true; top = g.top + n; what = λ a. cond (nat_lt a g.top) (g.what a) (cond (nat_lt a (g.top + n)) Free Other) }
 
 lt_of : (a b : ℕ) → a < b → nat_lt a b ≡ true
 lt_of a b lt = go (nat_lt a b) refl
@@ -97,7 +98,7 @@ pub frame_other : (g : Ghost) (n a : ℕ) → g.top + n ≤ a → (frame_ghost g
 frame_other g n a ge = ap₂ (λ b b'. cond b (g.what a) (cond b' Free Other)) (ge_of a g.top (omega (arith, ge))) (ge_of a (g.top + n) ge)
 
 -- what stands for something does so below
-pub frame_stands : (g : Ghost) (n a : ℕ) (x : Access) (p : Place) → (frame_ghost g n).what a ≡ StandsFor x p → g.what a ≡ StandsFor x p
+pub frame_stands : (g : Ghost) (n a : ℕ) (x : Access) (p : Address) → (frame_ghost g n).what a ≡ StandsFor x p → g.what a ≡ StandsFor x p
 frame_stands g n a x p e = go (nat_lt a g.top) (nat_lt a (g.top + n)) e
   where
     go : (b b' : Bool) → cond b (g.what a) (cond b' Free Other) ≡ StandsFor x p → g.what a ≡ StandsFor x p
@@ -109,8 +110,8 @@ pub frame_allows : (g : Ghost) (n : ℕ) (ts : List Touch) → Allows g ts → A
 frame_allows g n [] al = tt
 frame_allows g n (t ∷ ts) al = (λ a x e. al.0 a x (frame_stands g n a x t.place e), frame_allows g n ts al.1)
 
-pub fit_framed : {g : Ghost} {s : stored.State} {d : Dyn} (ns : List Cell) → AllMine ns → Fit g s d → Fit (frame_ghost g (length ns)) s (record d { cells = d.cells ++ ns })
-fit_framed {g} {s} {d} ns mine w = record {
+pub fit_framed : {g : Ghost} {s : stored.State} {d : Dyn} (ns : List Cell) → AllMine ns → s.notes ≡ InOrder → Fit g s d → Fit (frame_ghost g (length ns)) s (record d { cells = d.cells ++ ns })
+fit_framed {g} {s} {d} ns mine order w = record {
   here = w.here;
   everywhere = w.everywhere;
   declared = w.declared;
@@ -120,6 +121,7 @@ fit_framed {g} {s} {d} ns mine w = record {
   top = length-append d.cells ns ∙ ap (λ n. n + length ns) w.top;
   agrees = record { turns = w.agrees.turns; left = w.agrees.left; taken = w.agrees.taken; held = w.agrees.held; input = w.agrees.input; output = w.agrees.output; notes = w.agrees.notes };
   plan = w.plan;
+  order = λ o. order;
   cells = λ a. go a (nat_lt a g.top) (nat_lt a (g.top + length ns)) refl refl;
 }
   where
@@ -149,6 +151,7 @@ fit_known {g} {s} {d} a v is w = record {
   most = w.most;
   agrees = w.agrees;
   plan = w.plan;
+  order = w.order;
   cells = λ b. ⊎_elim
       (λ e. subst (λ b. Right ((set_what a (Keeps v) g).what b) s (slice_get d.cells b)) e (subst (λ w. Right w s (slice_get d.cells a)) (sym (what_same g a (Keeps v))) is))
       (λ ne. subst (λ w. Right w s (slice_get d.cells b)) (sym (what_other g a b (Keeps v) ne)) (w.cells b))
@@ -156,7 +159,7 @@ fit_known {g} {s} {d} a v is w = record {
 }
 
 -- where it has ended
-pub fit_unframed : {g h : Ghost} {s : stored.State} {d : Dyn} (n : ℕ) → ((a : ℕ) → g.top ≤ a → g.what a ≡ Other) → h.here ≡ g.here → (h.everywhere ≡ g.everywhere) × (h.declared ≡ g.declared) → h.frame ≡ g.frame → h.top ≡ g.top + n → h.least ≡ g.least → h.most ≡ g.most → h.plan ≡ g.plan
+pub fit_unframed : {g h : Ghost} {s : stored.State} {d : Dyn} (n : ℕ) → ((a : ℕ) → g.top ≤ a → g.what a ≡ Other) → h.here ≡ g.here → (h.everywhere ≡ g.everywhere) × (h.declared ≡ g.declared) → h.frame ≡ g.frame → h.top ≡ g.top + n → h.least ≡ g.least → h.most ≡ g.most → (h.plan ≡ g.plan) × (h.ordered ≡ true)
     → ((a : ℕ) → a < g.top → h.what a ≡ g.what a) → Fit h s d → Fit g s (cut_to g.top d)
 fit_unframed {g} {h} {s} {d} n beyond e1 e2 e3 e4 e5 e6 e7 same w =
     let len : length d.cells ≡ g.top + n = w.top ∙ e4 in
@@ -169,7 +172,8 @@ fit_unframed {g} {h} {s} {d} n beyond e1 e2 e3 e4 e5 e6 e7 same w =
       least = subst (λ n. n ≤ s.turns) e5 w.least;
       most = subst (λ n. s.turns ≤ n) e6 w.most;
       agrees = record { turns = w.agrees.turns; left = w.agrees.left; taken = w.agrees.taken; held = w.agrees.held; input = w.agrees.input; output = w.agrees.output; notes = w.agrees.notes };
-      plan = w.plan ∙ e7;
+      plan = w.plan ∙ e7.0;
+      order = λ o. w.order e7.1;
       cells = λ a. go a (nat_lt a g.top) refl;
     }
   where
@@ -213,7 +217,7 @@ module _ {limit : ℕ} {cuts : ℕ → ℕ → List ℕ} {g : Ghost} {f : Fixed}
   leads_out true w b (a, is, num) = (a, is_out w.level w.cell a is, number_out a (pos b) num)
   leads_out false w b is = is_out w.level w.cell b is
 
-  stands_out : (a : ℕ) (x : Access) (p : Place) → g.what a ≡ StandsFor x p → g'.what a ≡ StandsFor x p
+  stands_out : (a : ℕ) (x : Access) (p : Address) → g.what a ≡ StandsFor x p → g'.what a ≡ StandsFor x p
   stands_out a x p e = solid a (StandsFor x p) e (λ z. let y : StandsFor x p ≡ Other = z in cc)
 
   refers_out : (m : Named) (x : Entity) (first : ℕ) → Refers g f m x first → Refers g' f' (outer_named m) x first

@@ -8,7 +8,7 @@ use Rattle.stack_code.specs.declared.path.Asked.{Asked}
 use Rattle.stack_code.specs.declared.path.Gave.{Gave}
 use Rattle.stack_code.specs.declared.path.Leave.{Leave}
 use Rattle.stack_code.specs.Machine.{Stop, Done, Left, Spent, Cut, Asks, Constructs, Stuck, Astray}
-use Rattle.ada_lower.specs.Driven.{Dyn, Path, Final, Step, On, Off, Forks, Forked, thread_ended, thread_went, in_order, none_left, noted_ended, noted_went, by_thread_note, chosen_threads, by_note, by_notes, fits_chosen, fits_whole, fits_cut, or_else, with_turns, with_left, with_notes, cut_to, thread_at, answer_of, answering, at_site, fork, fork_ended, after_fork, halted, onward, goes, Finally, Comes}
+use Rattle.ada_lower.specs.Driven.{Dyn, Path, Final, Step, On, Off, Forks, Forked, thread_ended, thread_went, in_order, none_left, noted_ended, noted_went, by_thread_note, chosen_threads, by_note, by_notes, fits_chosen, fits_whole, fits_cut, or_else, with_turns, with_left, with_notes, cut_to, thread_at, answer_of, answering, at_site, fork, fork_ended, after_fork, halted, onward, goes, drive, Finally, Fine, Along, Safe, Comes}
 
 none_some : {A : Type 0} {a : A} → ◌≡◌ {A = Option A} None (Some a) → ⊥
 none_some e = cc
@@ -122,6 +122,35 @@ module _ (limit : ℕ) (c : Code) where
   pub off_ends : (e : Final) → Finally limit c (Off e) e
   off_ends e = (0, refl)
 
-  -- a fork, of which the threads came to this with so many steps
-  pub comes_fork : (n : ℕ) (q : Asked) (p : Path) (r : Forked) → ((m : ℕ) → n ≤ m → fork c (λ x. goes limit c m x) q p ≡ Some r) → Comes limit c (Forks q p) (fork_ended c r p)
-  comes_fork n q p r is = record { to = λ e (m, ends). (suc (n + m), ap (λ o. after_fork limit c o p (λ x. goes limit c (n + m) x)) (is (n + m) (omega arith)) ∙ goes_by m (n + m) _ e (omega arith) ends) }
+  some_is : {A : Type 0} {a b : A} → ◌≡◌ {A = Option A} (Some a) (Some b) → a ≡ b
+  some_is e = cc
+
+  -- what the threads of a fork come to is one
+  fork_once : (n m : ℕ) (q : Asked) (p : Path) (r r' : Forked) → ((m : ℕ) → n ≤ m → fork c (λ x. goes limit c m x) q p ≡ Some r) → fork c (λ x. goes limit c m x) q p ≡ Some r' → r ≡ r'
+  fork_once n m q p r r' is e =
+      some_is (sym (is (n + m) (omega arith)) ∙ site_more (λ x. goes limit c m x) (λ x. goes limit c (n + m) x) (λ x f z. goes_by m (n + m) x f (omega arith) z) (slice_get c.sites q.site) q p r' e)
+
+  -- a fork that is fine, of which the threads came to this with so many steps
+  pub comes_fork : (n : ℕ) (q : Asked) (p : Path) (r : Forked) (asked : Bool) → (asked ≡ true → Fine limit c q p) → ((m : ℕ) → n ≤ m → fork c (λ x. goes limit c m x) q p ≡ Some r) → Comes limit c asked (Forks q p) (fork_ended c r p)
+  comes_fork n q p r asked fine is = record {
+    to = λ e (m, ends). (suc (n + m), ap (λ o. after_fork limit c o p (λ x. goes limit c (n + m) x)) (is (n + m) (omega arith)) ∙ goes_by m (n + m) _ e (omega arith) ends);
+    safe = safe;
+  }
+    where
+      safe : Safe limit c asked (fork_ended c r p) → (k : ℕ) → Along limit c asked k (Forks q p)
+      safe s zero = tt
+      safe s (suc k) = (fine, λ m r' e. subst (λ r. Along limit c asked k (fork_ended c r p)) (fork_once n m q p r r' is e) (s k))
+
+  -- where the forks of a path are fine, so are those of what it goes on as
+  pub safe_drives : (asked : Bool) (p : Path) → Safe limit c asked (On p) → Safe limit c asked (drive limit c p)
+  safe_drives asked p s n = s (suc n)
+
+  pub safe_forks : (q : Asked) (p : Path) → Safe limit c true (Forks q p) → Fine limit c q p
+  safe_forks q p s = (s 1).0 refl
+
+  pub safe_forked : (asked : Bool) (m : ℕ) (q : Asked) (p : Path) (r : Forked) → fork c (λ x. goes limit c m x) q p ≡ Some r → Safe limit c asked (Forks q p) → Safe limit c asked (fork_ended c r p)
+  safe_forked asked m q p r is s n = (s (suc n)).1 m r is
+
+  pub safe_off : (asked : Bool) (e : Final) → Safe limit c asked (Off e)
+  safe_off asked e zero = tt
+  safe_off asked e (suc n) = tt

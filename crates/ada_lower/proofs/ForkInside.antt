@@ -1,5 +1,5 @@
 -- Constructs that are begun and ended in a body: what is inside runs with one more, and is left as the body is.
-use Rattle.std.proofs.Common.{◌≡◌, ℕ, zero, suc, ◌+◌, ◌-◌, ℤ, List, [], ◌∷◌, nat_lt, Option, Some, None, Result, Ok, Err, Bool, true, false, cond, refl, sym, ap, ap₂, ◌∙◌, subst, arith}
+use Rattle.std.proofs.Common.{◌≡◌, ℕ, zero, suc, ◌+◌, ◌-◌, ℤ, List, [], ◌∷◌, nat_lt, Option, Some, None, Result, Ok, Err, Bool, true, false, cond, refl, sym, ap, ap₂, ◌∙◌, subst, arith, is_some}
 use Rattle.behaviours.specs.Paths.{Leave, Exits, Returns, Raises}
 use Rattle.ada_base.specs.declared.reason.Reason.{Reason}
 use Rattle.ada_base.specs.declared.reason.Reason.TheVariants as reason
@@ -9,10 +9,11 @@ use Rattle.ada_meaning.specs.Meaning
 use Rattle.ada_meaning.specs.Meaning.{Env}
 use Rattle.stack_code.specs.declared.code.Code.{Code}
 use Rattle.stack_code.specs.declared.instr.Instr.TheVariants as i
-use Rattle.stack_code.specs.Machine.{Frame, Spent, Cut, Goes, look_by, nesting}
+use Rattle.stack_code.specs.Machine.{Frame, Spent, Cut, Astray, Goes, look_by, nesting, Stop}
 use Rattle.ada_lower.specs.Driven.{Dyn, Fixed, Step, On, on, halt, state_of, driven, thrown, looked, passed_on, At}
-use Rattle.ada_lower.specs.Fits.{Ghost, Allows, Fit, Ends, left_by, Land, Lands}
-use Rattle.ada_lower.proofs.Framework.{To, Doing, comes_here, comes_on, comes_as, comes_thrown, does_bind, does_before, lands_from, allows_split}
+use Rattle.ada_lower.specs.Teams.{AreSound}
+use Rattle.ada_lower.specs.Fits.{Ghost, Allows, Fit, Ends, left_by, Land, Lands, Asks}
+use Rattle.ada_lower.proofs.Framework.{To, Doing, comes_here, comes_on, comes_as, comes_thrown, does_bind, does_before, lands_from, allows_split, asks_split, leads_on, none_sound}
 use Rattle.ada_lower.proofs.Parts.{Runs, does_is}
 use Rattle.ada_lower.proofs.Blocks.{does_look}
 use Rattle.ada_lower.proofs.ForkSteps.{keeping, MayEnd}
@@ -46,17 +47,23 @@ module _ (limit : ℕ) (c : Code) (f : Fixed) (x : Ends) where
   pub left_as_nested : LeftAs limit c (nested_in f) f x
   left_as_nested l d = left_as_kept f.kept refl l d
 
+  asked_moved : (f' : Fixed) {h : Ghost} {from : Step} {n : ℕ} {s : stored.State} {to : Dyn → Step} → f'.asked ≡ f.asked → Land limit c (is_some f'.asked) h from n s to → Land limit c (is_some f.asked) h from n s to
+  asked_moved f' {h} {from} {n} {s} {to} whose l = subst (λ o. Land limit c (is_some o) h from n s to) whose l
+
+  clipped_moved : (f' : Fixed) {h : Ghost} {from : Step} {n : ℕ} {s : stored.State} (x : Stop) → f'.asked ≡ f.asked → f'.waiting ≡ f.waiting → Land limit c (is_some f'.asked) h from n s (λ d. halt f' x d) → Land limit c (is_some f.asked) h from n s (λ d. halt f x d)
+  clipped_moved f' {h} {from} {n} {s} x whose ws l = subst (λ ws. Land limit c (is_some f.asked) h from n s (λ d. Rattle.ada_lower.specs.Driven.off x (Rattle.ada_lower.specs.Driven.clip ws d))) ws (asked_moved f' whose l)
+
   -- what is done inside
-  pub does_inside : {A : Type 0} {g h : Ghost} {q : A → Type 0} {m : Stored A} {from : Dyn → Step} {to : A → Dyn → Step} (f' : Fixed) → f'.waiting ≡ f.waiting → LeftAs limit c f' f x → Doing limit c f' x g h q m from to → Doing limit c f x g h q m from to
-  does_inside {A} {g} {h} {q} {m} {from} {to} f' ws past j = record { by = λ s d fit al. go s d (m.does s).state (m.does s).end (j.by s d fit al) }
+  pub does_inside : {A : Type 0} {g h : Ghost} {q : A → Type 0} {m : Stored A} {from : Dyn → Step} {to : A → Dyn → Step} (f' : Fixed) → f'.asked ≡ f.asked → f'.waiting ≡ f.waiting → LeftAs limit c f' f x → Doing limit c f' x g h q m from to → Doing limit c f x g h q m from to
+  does_inside {A} {g} {h} {q} {m} {from} {to} f' whose ws past j = record { by = λ s d fit al. go s d (m.does s).state (m.does s).end (j.by s d fit (al.0, subst (λ p. AreSound p (m.visits s)) (sym whose) al.1)) }
     where
       go : (s : stored.State) (d : Dyn) (t : stored.State) (e : Result A Cause) → Lands limit c f' x q h (from d) s.turns to t e → Lands limit c f x q h (from d) s.turns to t e
-      go s d t (Ok a) l = l
-      go s d t (Err (stored.Left w)) l = record { dyn = l.dyn; fit = l.fit; comes = comes_on limit c l.comes (past w l.dyn); grows = l.grows }
-      go s d t (Err OutOfTurns) l = record { dyn = l.dyn; fit = l.fit; comes = subst (λ ws. To limit c (from d) (Rattle.ada_lower.specs.Driven.off Spent (Rattle.ada_lower.specs.Driven.clip ws l.dyn))) ws l.comes; grows = l.grows }
-      go s d t (Err CutOff) l = record { dyn = l.dyn; fit = l.fit; comes = subst (λ ws. To limit c (from d) (Rattle.ada_lower.specs.Driven.off Cut (Rattle.ada_lower.specs.Driven.clip ws l.dyn))) ws l.comes; grows = l.grows }
+      go s d t (Ok a) (ok, l) = (ok, asked_moved f' whose l)
+      go s d t (Err (stored.Left w)) k = let l = asked_moved f' whose k in record { dyn = l.dyn; fit = l.fit; comes = leads_on limit c l.comes (past w l.dyn _); grows = l.grows }
+      go s d t (Err OutOfTurns) l = clipped_moved f' Spent whose ws l
+      go s d t (Err CutOff) l = clipped_moved f' Cut whose ws l
       go s d t (Err NoRoom) l = tt
-      go s d t (Err Misnoted) l = tt
+      go s d t (Err Misnoted) (un, l) = (un, clipped_moved f' Astray whose ws l)
 
   -- ---- a construct is begun
 
@@ -104,9 +111,9 @@ module _ (limit : ℕ) (c : Code) (f : Fixed) (x : Ends) where
 
   -- a part that is done inside, and what code does where it is ended or left: by one in whose ways it may be
   pub record Inside {A : Type 0} (may : Leave → Type 0) (f' : Fixed) (y : Ends) (g h : Ghost) (q : A → Type 0) (m : Stored A) (from : Dyn → Step) (to : A → Dyn → Step) : Type 0 where
-    pub by : (s : stored.State) (d : Dyn) → Fit g s d → Allows g (m.touches s) → (let r = m.does s in Lands limit c f' y q h (from d) s.turns to r.state r.end × MayEnd may r.end)
+    pub by : (s : stored.State) (d : Dyn) → Fit g s d → Asks f g (m.touches s) (m.visits s) → (let r = m.does s in Lands limit c f' y q h (from d) s.turns to r.state r.end × MayEnd may r.end)
 
-  pub does_caught : {A : Type 0} {g h j : Ghost} {q : A → Type 0} {p : A → Type 0} {m : Stored A} {takes : Leave → Bool} {k : Leave → Stored A} {from : Dyn → Step} {mid to : A → Dyn → Step} (may : Leave → Type 0) (f' : Fixed) (y : Ends) → f'.waiting ≡ f.waiting
+  pub does_caught : {A : Type 0} {g h j : Ghost} {q : A → Type 0} {p : A → Type 0} {m : Stored A} {takes : Leave → Bool} {k : Leave → Stored A} {from : Dyn → Step} {mid to : A → Dyn → Step} (may : Leave → Type 0) (f' : Fixed) (y : Ends) → f'.asked ≡ f.asked → f'.waiting ≡ f.waiting
       → ((ts : List Touch) → Allows g ts → Allows h ts) → ((s : stored.State) (d : Dyn) → Fit h s d → Fit j s d)
       → Inside may f' y g h q m from mid
       → ((a : A) → q a → Doing limit c f x h j p (stored.ret a) (mid a) to)
@@ -114,39 +121,39 @@ module _ (limit : ℕ) (c : Code) (f : Fixed) (x : Ends) where
       → ((l : Leave) → takes l ≡ false → may l → Doing limit c f x h j p (stored.leaves l) (λ d. left_by f' y l d) to)
       → Doing limit c f x g j p (stored.handles m takes k) from to
   unfolding stored.handles stored.ret stored.leaves
-  does_caught {A} {g} {h} {j} {q} {p} {m} {takes} {k} {from} {mid} {to} may f' y ws few weak w ok holds fails = record {
+  does_caught {A} {g} {h} {j} {q} {p} {m} {takes} {k} {from} {mid} {to} may f' y whose ws few weak w ok holds fails = record {
     by = λ s d fit al.
-        let (ax, ay) = allows_split limit c f x g (m.touches s) (stored.handled_touches (m.does s).state (m.does s).end takes k) al in
+        let (ax, ay) = asks_split limit c f x g (m.touches s) (stored.handled_touches (m.does s).state (m.does s).end takes k) (m.visits s) (stored.handled_visits (m.does s).state (m.does s).end takes k) al in
         go s d (m.does s).state (m.does s).end ay (w.by s d fit ax);
   }
     where
-      left : (s : stored.State) (d : Dyn) (t : stored.State) (l : Leave) (b : Bool) → takes l ≡ b → may l → Allows g (cond b ((k l).touches t) []) → Land limit c h (from d) s.turns t (λ d. left_by f' y l d)
+      left : (s : stored.State) (d : Dyn) (t : stored.State) (l : Leave) (b : Bool) → takes l ≡ b → may l → Asks f g (cond b ((k l).touches t) []) (cond b ((k l).visits t) []) → Land limit c (is_some f.asked) h (from d) s.turns t (λ d. left_by f' y l d)
           → (let r = cond b ((k l).does t) (stored.at t (Err (stored.Left l))) in Lands limit c f x p j (from d) s.turns to r.state r.end)
-      left s d t l true e ml al z = lands_from limit c f x p to ((k l).does t).state ((k l).does t).end z.comes z.grows (λ s d fit. fit) ((holds l e ml).by t z.dyn z.fit (few ((k l).touches t) al))
-      left s d t l false e ml al z = lands_from limit c f x p to t (Err (stored.Left l)) z.comes z.grows (λ s d fit. fit) ((fails l e ml).by t z.dyn z.fit tt)
+      left s d t l true e ml al z = lands_from limit c f x p to ((k l).does t).state ((k l).does t).end z.comes z.grows (λ s d fit. fit) ((holds l e ml).by t z.dyn z.fit (few ((k l).touches t) al.0, al.1))
+      left s d t l false e ml al z = lands_from limit c f x p to t (Err (stored.Left l)) z.comes z.grows (λ s d fit. fit) ((fails l e ml).by t z.dyn z.fit (tt, none_sound limit c f x f.asked))
 
-      go : (s : stored.State) (d : Dyn) (t : stored.State) (e : Result A Cause) → Allows g (stored.handled_touches t e takes k) → Lands limit c f' y q h (from d) s.turns mid t e × MayEnd may e
+      go : (s : stored.State) (d : Dyn) (t : stored.State) (e : Result A Cause) → Asks f g (stored.handled_touches t e takes k) (stored.handled_visits t e takes k) → Lands limit c f' y q h (from d) s.turns mid t e × MayEnd may e
           → (let r = stored.handled t e takes k in Lands limit c f x p j (from d) s.turns to r.state r.end)
-      go s d t (Ok a) al (l, u) = lands_from limit c f x p to t (Ok a) l.1.comes l.1.grows (λ s d fit. fit) ((ok a l.0).by t l.1.dyn l.1.fit tt)
-      go s d t (Err (stored.Left z)) al (l, u) = left s d t z (takes z) refl u al l
-      go s d t (Err OutOfTurns) al (l, u) = record { dyn = l.dyn; fit = weak _ _ l.fit; comes = subst (λ ws. To limit c (from d) (Rattle.ada_lower.specs.Driven.off Spent (Rattle.ada_lower.specs.Driven.clip ws l.dyn))) ws l.comes; grows = l.grows }
-      go s d t (Err CutOff) al (l, u) = record { dyn = l.dyn; fit = weak _ _ l.fit; comes = subst (λ ws. To limit c (from d) (Rattle.ada_lower.specs.Driven.off Cut (Rattle.ada_lower.specs.Driven.clip ws l.dyn))) ws l.comes; grows = l.grows }
+      go s d t (Ok a) al ((told, k), u) = let l = asked_moved f' whose k in lands_from limit c f x p to t (Ok a) l.comes l.grows (λ s d fit. fit) ((ok a told).by t l.dyn l.fit (tt, none_sound limit c f x f.asked))
+      go s d t (Err (stored.Left z)) al (l, u) = left s d t z (takes z) refl u al (asked_moved f' whose l)
+      go s d t (Err OutOfTurns) al (k, u) = let l = clipped_moved f' Spent whose ws k in record { dyn = l.dyn; fit = weak _ _ l.fit; comes = l.comes; grows = l.grows }
+      go s d t (Err CutOff) al (k, u) = let l = clipped_moved f' Cut whose ws k in record { dyn = l.dyn; fit = weak _ _ l.fit; comes = l.comes; grows = l.grows }
       go s d t (Err NoRoom) al l = tt
-      go s d t (Err Misnoted) al l = tt
+      go s d t (Err Misnoted) al ((un, k), u) = let l = clipped_moved f' Astray whose ws k in (un, record { dyn = l.dyn; fit = weak _ _ l.fit; comes = l.comes; grows = l.grows })
 
   -- the same where nothing is handled
-  pub does_left : {A : Type 0} {g h j : Ghost} {q : A → Type 0} {p : A → Type 0} {m : Stored A} {from : Dyn → Step} {mid to : A → Dyn → Step} (may : Leave → Type 0) (f' : Fixed) (y : Ends) → f'.waiting ≡ f.waiting → ((s : stored.State) (d : Dyn) → Fit h s d → Fit j s d)
+  pub does_left : {A : Type 0} {g h j : Ghost} {q : A → Type 0} {p : A → Type 0} {m : Stored A} {from : Dyn → Step} {mid to : A → Dyn → Step} (may : Leave → Type 0) (f' : Fixed) (y : Ends) → f'.asked ≡ f.asked → f'.waiting ≡ f.waiting → ((s : stored.State) (d : Dyn) → Fit h s d → Fit j s d)
       → Inside may f' y g h q m from mid
       → ((a : A) → q a → Doing limit c f x h j p (stored.ret a) (mid a) to)
       → ((l : Leave) → may l → Doing limit c f x h j p (stored.leaves l) (λ d. left_by f' y l d) to)
       → Doing limit c f x g j p m from to
   unfolding stored.ret stored.leaves
-  does_left {A} {g} {h} {j} {q} {p} {m} {from} {mid} {to} may f' y ws weak w ok leave = record { by = λ s d fit al. go s d (m.does s).state (m.does s).end (w.by s d fit al) }
+  does_left {A} {g} {h} {j} {q} {p} {m} {from} {mid} {to} may f' y whose ws weak w ok leave = record { by = λ s d fit al. go s d (m.does s).state (m.does s).end (w.by s d fit al) }
     where
       go : (s : stored.State) (d : Dyn) (t : stored.State) (e : Result A Cause) → Lands limit c f' y q h (from d) s.turns mid t e × MayEnd may e → Lands limit c f x p j (from d) s.turns to t e
-      go s d t (Ok a) (l, u) = lands_from limit c f x p to t (Ok a) l.1.comes l.1.grows (λ s d fit. fit) ((ok a l.0).by t l.1.dyn l.1.fit tt)
-      go s d t (Err (stored.Left z)) (l, u) = lands_from limit c f x p to t (Err (stored.Left z)) l.comes l.grows (λ s d fit. fit) ((leave z u).by t l.dyn l.fit tt)
-      go s d t (Err OutOfTurns) (l, u) = record { dyn = l.dyn; fit = weak _ _ l.fit; comes = subst (λ ws. To limit c (from d) (Rattle.ada_lower.specs.Driven.off Spent (Rattle.ada_lower.specs.Driven.clip ws l.dyn))) ws l.comes; grows = l.grows }
-      go s d t (Err CutOff) (l, u) = record { dyn = l.dyn; fit = weak _ _ l.fit; comes = subst (λ ws. To limit c (from d) (Rattle.ada_lower.specs.Driven.off Cut (Rattle.ada_lower.specs.Driven.clip ws l.dyn))) ws l.comes; grows = l.grows }
+      go s d t (Ok a) ((told, k), u) = let l = asked_moved f' whose k in lands_from limit c f x p to t (Ok a) l.comes l.grows (λ s d fit. fit) ((ok a told).by t l.dyn l.fit (tt, none_sound limit c f x f.asked))
+      go s d t (Err (stored.Left z)) (k, u) = let l = asked_moved f' whose k in lands_from limit c f x p to t (Err (stored.Left z)) l.comes l.grows (λ s d fit. fit) ((leave z u).by t l.dyn l.fit (tt, none_sound limit c f x f.asked))
+      go s d t (Err OutOfTurns) (k, u) = let l = clipped_moved f' Spent whose ws k in record { dyn = l.dyn; fit = weak _ _ l.fit; comes = l.comes; grows = l.grows }
+      go s d t (Err CutOff) (k, u) = let l = clipped_moved f' Cut whose ws k in record { dyn = l.dyn; fit = weak _ _ l.fit; comes = l.comes; grows = l.grows }
       go s d t (Err NoRoom) l = tt
-      go s d t (Err Misnoted) l = tt
+      go s d t (Err Misnoted) ((un, k), u) = let l = clipped_moved f' Astray whose ws k in (un, record { dyn = l.dyn; fit = weak _ _ l.fit; comes = l.comes; grows = l.grows })

@@ -11,7 +11,7 @@ use Rattle.ada_meaning.specs.Values.{between, to_nat}
 use Rattle.ada_meaning.specs.Stored as stored
 use Rattle.ada_meaning.specs.Stored.{Stored}
 use Rattle.ada_meaning.specs.Meaning
-use Rattle.ada_meaning.specs.Meaning.{Env, Part, Passed, Returned, Chunking}
+use Rattle.ada_meaning.specs.Meaning.{Env, ObjectPart, Passed, Returned, Chunking}
 use Rattle.stack_code.specs.declared.code.Code.{Code}
 use Rattle.stack_code.specs.declared.code.CodeSite.{CodeSite}
 use Rattle.stack_code.specs.declared.instr.Instr.{Instr}
@@ -20,9 +20,10 @@ use Rattle.stack_code.specs.declared.path.Asked.{Asked}
 use Rattle.ada_base.specs.Cells.{Mine}
 use Rattle.stack_code.specs.Deeds
 use Rattle.stack_code.specs.Deeds.{GoesOn, pushed}
-use Rattle.ada_lower.specs.Driven.{Dyn, Fixed, on, At}
+use Rattle.ada_lower.specs.Driven.{Dyn, Fixed, on, At, Alike}
+use Rattle.ada_lower.proofs.Alike.{alike}
 use Rattle.ada_lower.specs.Sights.{Around, Emit, chunk_sight, Named, Sight, Stands, looped, one, own, taking, thread_sight, when_, ◌⨟◌}
-use Rattle.ada_lower.specs.Fits.{What, Free, Keeps, Ghost, Fit, Right, Ends, Holds, Knows, Refers, Spread, place_in, Access, Stands as StandsFor}
+use Rattle.ada_lower.specs.Fits.{What, Free, Keeps, Ghost, Fit, Right, Ends, Holds, Knows, Refers, Spread, place_in, Access, Stands as StandsFor, IsNumber}
 use Rattle.ada_lower.specs.Forks.{threaded, thread_ends, done_so, ThreadDoes}
 use Rattle.ada_lower.specs.Emission
 use Rattle.ada_lower.specs.Emission.{items_code}
@@ -159,9 +160,9 @@ module _ (limit : ℕ) (cuts : ℕ → ℕ → List ℕ) (c : Code) (f : Fixed) 
 
 -- ---- threads
 
-module _ (limit : ℕ) (cuts : ℕ → ℕ → List ℕ) (program : Program) (c : Code) (f : Fixed) (calls : ℕ → ℕ → Stored (Unit {0}) → List Passed → Stored Returned) (globals : ℕ → Entity → Option Named) (mains : Entity → Bool) (epar : Sight → Expr → Type 0) (calls_all : (f' : Fixed) → f'.calls ≡ f.calls → InnerDo limit cuts program globals mains epar c f' calls) where
+module _ (limit : ℕ) (cuts : ℕ → ℕ → List ℕ) (program : Program) (c : Code) (f : Fixed) (calls : ℕ → ℕ → Stored (Unit {0}) → List Passed → Stored Returned) (globals : ℕ → Entity → Option Named) (mains : Entity → Bool) (epar : Sight → Expr → Type 0) (calls_all : (f' : Fixed) → Alike f' f → InnerDo limit cuts program globals mains epar c f' calls) where
   module _ (g : Ghost) (s : Sight) (env : Env) (kn : Knows limit cuts g f s env) (site : ℕ) (cs : CodeSite) (four : 4 ≤ cs.frame) (five : 5 ≤ cs.frame) (count stride : ℕ) (cl ch initial : ℤ) (j : Share) (inside : j.first + j.size ≤ count)
-      (around a0 : ℕ) (held : g.what (f.base + around) ≡ Keeps (pos a0)) (lower : around < s.cells) where
+      (around a0 : ℕ) (held : IsNumber (g.what (f.base + around)) (pos a0)) (lower : around < s.cells) where
     abbrev pub asking : Asked
     asking = Deeds.asked site (pos 1) (pos count) cl ch initial
 
@@ -217,14 +218,14 @@ module _ (limit : ℕ) (cuts : ℕ → ℕ → List ℕ) (program : Program) (c 
         go false ge = absurd (let z : What.Other ≡ StandsFor access p = sym (kn.beyond b (ltb-false b g.top ge)) ∙ e in cc)
 
     -- the address of the array around is loaded
-    around_kept : entering.what (f.base + around) ≡ Keeps (pos a0)
+    around_kept : IsNumber (entering.what (f.base + around)) (pos a0)
     around_kept =
         let U : ℤ = first_of (pos 1 +ℤ pos j.first) j.size in
         let V : ℤ = last_of (pos 1 +ℤ pos j.first) j.size in
         let top : g.top ≡ f.base + s.cells = kn.top in
-        what_other (set_what (g.top + 2) (Keeps U) base) (g.top + 3) (f.base + around) (Keeps V) (λ e. omega (arith, e, top, lower))
+        subst (λ w. IsNumber w (pos a0)) (sym (what_other (set_what (g.top + 2) (Keeps U) base) (g.top + 3) (f.base + around) (Keeps V) (λ e. omega (arith, e, top, lower))
         ∙ what_other base (g.top + 2) (f.base + around) (Keeps U) (λ e. omega (arith, e, top, lower))
-        ∙ base_below limit cuts program c f calls globals mains epar calls_all g s env kn site cs four asking j (f.base + around) (omega (arith, top, lower)) ∙ held
+        ∙ base_below limit cuts program c f calls globals mains epar calls_all g s env kn site cs four asking j (f.base + around) (omega (arith, top, lower)))) held
 
     le_more : (u : ℤ) (m : ℕ) → int_le u (u +ℤ pos m) ≡ true
     le_more u m = go (int_le u (u +ℤ pos m)) refl
@@ -251,7 +252,7 @@ module _ (limit : ℕ) (cuts : ℕ → ℕ → List ℕ) (program : Program) (c 
       where
         go : (n : ℕ) → j.first + n ≤ count
             → ((k : ℕ) (b : A) (head mid : ℕ) → k < count → Stands c body head mid → Runs limit c fx thread_ends (item_ghost limit cuts c fx thread_ends (a0 + k * stride) (pos 1 +ℤ pos k) (last_of first n) base) any (turn k b) (λ d. on fx head (stack b) d) (λ b d. on fx mid (stack b) d))
-            → (counts_at limit cuts c fx thread_ends 2 (first_of first n) (last_of first n) base).what (f.base + around) ≡ Keeps (pos a0)
+            → IsNumber ((counts_at limit cuts c fx thread_ends 2 (first_of first n) (last_of first n) base).what (f.base + around)) (pos a0)
             → At c (from + 1 + 1 + 1) (i.JFalse to) t1.scope.entry
             → Stands c (one t1.scope h (i.LoadO 1 around) ⨟ one t1.scope (h + 1) (i.LoadL 2) ⨟ one t1.scope (h + 1 + 1) (i.Index (pos 1) (pos count) stride) ⨟ Emission.keep t1.scope (h + 1) 4 ⨟ looped t1.scope h true (λ exit. body) (λ head. Emission.stepping t1.scope h 4 stride 2 head)) (from + 1 + 1 + 1 + 1) to
             → Doing limit c fx thread_ends (counts_at limit cuts c fx thread_ends 2 (first_of first n) (last_of first n) base) base any (through stored.doings j.first n b0 turn) (λ d. on fx (from + 1 + 1 + 1) (Values.bit (int_le (first_of first n) (last_of first n)) ∷ stack b0) d) (λ b d. on fx to (stack b) d)
@@ -272,7 +273,7 @@ module _ (limit : ℕ) (cuts : ℕ → ℕ → List ℕ) (program : Program) (c 
             does_by limit c fx thread_ends (λ st d w. comes_on limit c
             (comes_goes limit c fx (Values.bit (int_le first last) ∷ stack b0) p (stack b0) d test
             (ap (λ b. GoesOn (cond b p to) (stack b0 ++ fx.below)) (truth_same (Values.bit (int_le first last)) ∙ (truth_bit limit cuts c fx (int_le first last) ∙ le_more first m))))
-            (comes_on limit c (comes_number limit c fx (record { level = Around 1; cell = around }) (pos a0) (stack b0) d w (f.base + around, (f.base, refl, refl), inl kept) jo)
+            (comes_on limit c (comes_number limit c fx (record { level = Around 1; cell = around }) (pos a0) (stack b0) d w (f.base + around, (f.base, refl, refl), kept) jo)
             (comes_on limit c (comes_kept limit cuts c fx 2 first (pos a0 ∷ stack b0) d w (first_at limit cuts c fx thread_ends 2 first last base) ji)
             (comes_goes limit c fx (first ∷ pos a0 ∷ stack b0) (p + 1 + 1 + 1) (pos a1 ∷ stack b0) d jx
             (ap (λ b. pushed (p + 1 + 1) (cond b (Some (pos a0 +ℤ ((first -ℤ pos 1) *ℤ pos stride))) None) (stack b0 ++ fx.below)) e
@@ -287,7 +288,7 @@ module _ (limit : ℕ) (cuts : ℕ → ℕ → List ℕ) (program : Program) (c 
 
     -- ---- by what is done in each turn
 
-    module _ (p : ℕ) (constant : Bool) (q : Part) (part : Spread g (named_entity constant q.object) q.offset (count * stride) a0) (chunk : Chunk) (k : Chunking) (told : Chunks chunk cl ch k) (idx : ℕ) (at_ : Numbered chunk idx j.number) where
+    module _ (p : ℕ) (constant : Bool) (q : ObjectPart) (part : Spread g (named_entity constant q.object) q.offset (count * stride) a0) (chunk : Chunk) (k : Chunking) (told : Chunks chunk cl ch k) (idx : ℕ) (at_ : Numbered chunk idx j.number) where
       abbrev pub item_env : ℕ → Env
       item_env i = Meaning.with_item constant p (Meaning.moved q (i * stride)) (k.bound idx env)
 
@@ -344,6 +345,7 @@ module _ (limit : ℕ) (cuts : ℕ → ℕ → List ℕ) (program : Program) (c 
           record {
             ghost = entering;
             after = base;
+            ordered = refl;
             enters = enters_so limit cuts program c f calls globals mains epar calls_all g s env kn site cs four asking j;
             leaves = leaves_so limit cuts program c f calls globals mains epar calls_all g s env kn site cs four asking j;
             allows = allows_so limit cuts program c f calls globals mains epar calls_all g s env kn site cs four asking j;
@@ -358,7 +360,7 @@ module _ (limit : ℕ) (cuts : ℕ → ℕ → List ℕ) (program : Program) (c 
       pub items_thread : (may : paths.Leave → Type 0) (tests : Env → Stored Bool) (does : Env → Stored (Unit {0})) (body : Emit) (to : ℕ)
           → (let t1 = chunk_sight chunk (taking 2 t) in Stands c (items_code t1.scope 0 2 around stride count (one t1.scope 0 i.Turn ⨟ body) ⨟ one t1.scope 0 i.End) cs.entry to)
           → ((g' : Ghost) (env' : Env) (a b : ℕ) → Knows limit cuts g' fx (component_sight t chunk constant p stride) env' → Stands c body a b
-          → Acts limit cuts program c fx calls globals mains epar (calls_all fx refl) thread_ends g' (stored.bind (tests env') (λ z. cond z (does env') (stored.ret tt))) a b)
+          → Acts limit cuts program c fx calls globals mains epar (calls_all fx (alike f)) thread_ends g' (stored.bind (tests env') (λ z. cond z (does env') (stored.ret tt))) a b)
           → ((st : stored.State) (l : paths.Leave) → ((through stored.doings j.first j.size tt (λ i (_ : Unit {0}). Meaning.iterate (stored.noted_operations limit cuts) (tests (item_env i)) (does (item_env i)))).does st).end ≡ Err (stored.Left l) → may l)
           → ThreadDoes limit c may g f cs asking (λ (z : Unit {0}). None) j (through stored.doings j.first j.size tt (λ i _. Meaning.iterate (stored.noted_operations limit cuts) (tests (item_env i)) (does (item_env i))))
       items_thread may tests does body to l step ml =
@@ -367,12 +369,13 @@ module _ (limit : ℕ) (cuts : ℕ → ℕ → List ℕ) (program : Program) (c 
           record {
             ghost = entering;
             after = base;
+            ordered = refl;
             enters = enters_so limit cuts program c f calls globals mains epar calls_all g s env kn site cs four asking j;
             leaves = leaves_so limit cuts program c f calls globals mains epar calls_all g s env kn site cs four asking j;
             allows = allows_so limit cuts program c f calls globals mains epar calls_all g s env kn site cs four asking j;
             may_leave = ml;
             does = does_to limit c fx thread_ends (done_so {A = Unit {0}} (λ a. None)) (λ a d u. comes_as limit c fx [] d at refl)
                 (items_code_does (λ a. []) t1 0 (one t1.scope 0 i.Turn ⨟ body) cs.entry m (λ i _. Meaning.iterate (stored.noted_operations limit cuts) (tests (item_env i)) (does (item_env i))) (chunk_entry chunk (taking 2 t)) l1
-                (λ i a head mid lt (turn_at, b). iterate_does limit cuts program c fx calls globals mains epar (calls_all fx refl) (tests (item_env i)) (does (item_env i)) thread_ends head mid kn.most (at_none (chunk_entry chunk (taking 2 t)) turn_at)
+                (λ i a head mid lt (turn_at, b). iterate_does limit cuts program c fx calls globals mains epar (calls_all fx (alike f)) (tests (item_env i)) (does (item_env i)) thread_ends head mid kn.most (at_none (chunk_entry chunk (taking 2 t)) turn_at)
                 (step (it_ghost i) (item_env i) (head + 1) mid (turn_knows chunk told at_ i lt) b)) tt);
           }

@@ -1,6 +1,6 @@
 -- Parallel reductions by functions, up to where the accumulators wait to be combined: the first is on the stack, and the
 -- others are kept.
-use Rattle.std.proofs.Common.{arith, ◌-◌, ◌≡◌, ℕ, ◌+◌, ℤ, nat_le, List, [], ◌∷◌, ◌++◌, slice_get, Option, Some, None, Result, Ok, Err, true, ◌&&◌, refl, sym, ap, ap₂, ◌∙◌, subst}
+use Rattle.std.proofs.Common.{arith, ◌-◌, ◌≡◌, ℕ, ◌+◌, ℤ, nat_le, List, [], ◌∷◌, ◌++◌, slice_get, Option, Some, None, Result, Ok, Err, true, ◌&&◌, refl, sym, ap, ap₂, ◌∙◌, subst, is_some}
 use Rattle.ada_base.specs.declared.reason.Reason.TheVariants as reason
 use Rattle.behaviours.specs.Doings.{onto}
 use Rattle.behaviours.specs.Joins.{Site, Share, deal}
@@ -9,7 +9,7 @@ use Rattle.ada_meaning.specs.Operations.{Operations}
 use Rattle.ada_meaning.specs.Stored as stored
 use Rattle.ada_meaning.specs.Stored.{Stored, Cause, OutOfTurns, NoRoom, CutOff, Misnoted}
 use Rattle.ada_meaning.specs.Meaning
-use Rattle.ada_meaning.specs.Meaning.{most_iterations}
+use Rattle.ada_meaning.specs.Meaning.{most_iterations, Env}
 use Rattle.stack_code.specs.declared.code.Code.{Code}
 use Rattle.stack_code.specs.declared.code.CodeSite.{CodeSite}
 use Rattle.stack_code.specs.declared.instr.Instr.TheVariants as i
@@ -17,14 +17,17 @@ use Rattle.stack_code.specs.declared.path.Asked.{Asked}
 use Rattle.stack_code.specs.declared.path.Gave.TheVariants as gave
 use Rattle.stack_code.specs.Deeds.{can_fork, asked, many}
 use Rattle.ada_lower.specs.Driven.{Dyn, Fixed, Step, on, sizes_for, answer_of, fork_end, state_of, combined_by, At}
-use Rattle.ada_lower.specs.Fits.{Ghost, Allows, Ends, left_by, Land, Lands}
+use Rattle.ada_lower.specs.Fits.{Ghost, Allows, Ends, left_by, Land, Lands, Asks, Knows}
 use Rattle.ada_lower.specs.Forks.{ThreadDoes}
-use Rattle.ada_lower.proofs.Framework.{comes_as, any, To, comes_here, comes_on, comes_goes, does_bind}
+use Rattle.ada_lower.proofs.Framework.{comes_as, any, To, comes_here, comes_on, comes_goes, does_bind, leads_on}
 use Rattle.ada_lower.proofs.Parts.{Runs}
 use Rattle.ada_lower.proofs.ForkSteps.{keeping, fork_ends, MayEnd, operands, comes_too_many, resumes, fork_lands}
 use Rattle.ada_lower.proofs.ForkInside.{nested_in, left_as_kept, left_as_nested, does_unless}
-use Rattle.ada_lower.proofs.ForkFor.{Every, all_do}
+use Rattle.ada_lower.proofs.ForkFor.{Every, all_do, every_among}
 use Rattle.ada_lower.proofs.ForkReduce.{OnlyRaises}
+use Rattle.ada_lower.proofs.ForkFine.{Lends, views_of}
+use Rattle.ada_lower.specs.ForkViews.{view_ghost, Apart}
+use Rattle.ada_lower.specs.Sights.{Sight}
 
 module _ (limit : ℕ) (c : Code) (f : Fixed) where
   -- a construct ends, and its accumulators stay
@@ -58,7 +61,9 @@ module _ (limit : ℕ) (cuts : ℕ → ℕ → List ℕ) (c : Code) (f : Fixed) 
 
   module _ (given_all : (vs : List ℤ) → answer_of c cs.kind q (gave.Numbers vs) ≡ combined_by c None initial vs)
       (some : nat_le 1 (many chunk last_chunk) ≡ true) (few_threads : nat_le (many chunk last_chunk) 4096 ≡ true)
-      (team : Site) (body : Share → Stored ℤ) (ok : Share → Type 0) (threads : (j : Share) → ok j → ThreadDoes limit c OnlyRaises h fi cs q (λ a. Some a) j (body j)) where
+      (team : Site) (body : Share → Stored ℤ) (ok : Share → Type 0) (threads : (j : Share) → ok j → ThreadDoes limit c OnlyRaises h fi cs q (λ a. Some a) j (body j))
+      {sh : Sight} {eh : Env} (knows : Knows limit cuts h fi sh eh) (lends : Lends fi h cs q team (deal 0 0 (sizes_for h.plan cs.kind q)))
+      (seen : (owner : ℕ → Option ℕ) → Apart h owner → (j : Share) → ok j → ThreadDoes limit c OnlyRaises (view_ghost owner j.number h) fi cs q (λ a. Some a) j (body j)) where
     first_comes : (a : ℤ) (more : List ℤ) (d0 d : Dyn) → To limit c (fork_end c (Ok (gave.Numbers (a ∷ more))) d (state_of fi qf st [] None d0)) (on (keeping more f) (past + 1) (a ∷ st) d)
     first_comes a more d0 d =
         subst (λ y. To limit c y (on (keeping more f) (past + 1) (a ∷ st) d)) (sym (resumes limit c fi st (gave.Numbers (a ∷ more)) d0 d fork))
@@ -82,12 +87,14 @@ module _ (limit : ℕ) (cuts : ℕ → ℕ → List ℕ) (c : Code) (f : Fixed) 
             let r = (stored.noted_team team stored.after_all [] js body).does s in
             after s d r.state r.end (subst (λ z. let r = (stored.noted_team team stored.after_all [] z body).does s in Lands limit c (keeping [] fi) (fork_ends fi qf st x.entry) any h (from_fork d) s.turns with_accumulators r.state r.end × MayEnd OnlyRaises r.end) (sym dealt)
             (fork_lands limit c fi h cs site first last chunk last_chunk initial OnlyRaises {A = ℤ} (λ a. Some a) {B = List ℤ} (λ b vs. b ≡ vs) stored.after_all folds team body
-            st with_accumulators fork site_at can answers d (all_do limit c fi h cs q qf st d OnlyRaises {A = ℤ} (λ a. Some a) body ok threads (deal 0 0 (sizes_for h.plan cs.kind q)) oks)
-            s w [] refl (subst (λ z. Allows h ((stored.noted_team team stored.after_all [] z body).touches s)) dealt al)));
+            st with_accumulators fork site_at can answers d knows
+            (views_of limit c fi h cs q qf st d OnlyRaises {A = ℤ} (λ a. Some a) {B = List ℤ} stored.after_all body team (deal 0 0 (sizes_for h.plan cs.kind q)) lends (λ owner apart j among. seen owner apart j (every_among ok (deal 0 0 (sizes_for h.plan cs.kind q)) j oks among)))
+            (all_do limit c fi h cs q qf st d OnlyRaises {A = ℤ} (λ a. Some a) body ok threads (deal 0 0 (sizes_for h.plan cs.kind q)) oks)
+            s w [] refl (subst (λ z. Asks f h ((stored.noted_team team stored.after_all [] z body).touches s) ((stored.noted_team team stored.after_all [] z body).visits s)) dealt al)));
       }
         where
-          left : (s : stored.State) (d : Dyn) (t : stored.State) (l : Leave) → OnlyRaises l → Land limit c h (from_fork d) s.turns t (λ d. left_by (keeping [] fi) (fork_ends fi qf st x.entry) l d) → Land limit c h (from_fork d) s.turns t (λ d. left_by f x l d)
-          left s d t (Raises r) m l = record { dyn = l.dyn; fit = l.fit; grows = l.grows; comes = comes_on limit c l.comes (left_as_kept limit c f x [] kept (Raises r) l.dyn) }
+          left : (s : stored.State) (d : Dyn) (t : stored.State) (l : Leave) → OnlyRaises l → Land limit c (is_some f.asked) h (from_fork d) s.turns t (λ d. left_by (keeping [] fi) (fork_ends fi qf st x.entry) l d) → Land limit c (is_some f.asked) h (from_fork d) s.turns t (λ d. left_by f x l d)
+          left s d t (Raises r) m l = record { dyn = l.dyn; fit = l.fit; grows = l.grows; comes = leads_on limit c l.comes (left_as_kept limit c f x [] kept (Raises r) l.dyn _) }
           left s d t (Exits n) m l = absurd m
           left s d t (Returns v) m l = absurd m
 
@@ -97,7 +104,7 @@ module _ (limit : ℕ) (cuts : ℕ → ℕ → List ℕ) (c : Code) (f : Fixed) 
           after s d t (Err OutOfTurns) (l, m) = l
           after s d t (Err CutOff) (l, m) = l
           after s d t (Err NoRoom) l = tt
-          after s d t (Err Misnoted) l = tt
+          after s d t (Err Misnoted) (l, m) = l
 
       abbrev oper : Operations {1}
       oper = stored.noted_operations limit cuts

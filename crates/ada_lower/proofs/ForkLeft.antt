@@ -16,7 +16,7 @@ use Rattle.stack_code.specs.Deeds.{GoesOn, is_related}
 use Rattle.stack_code.specs.declared.operators.Relation.TheVariants.{Equal}
 use Rattle.stack_code.specs.Machine.{left_as}
 use Rattle.behaviours.specs.Paths.{Entity}
-use Rattle.ada_lower.specs.Driven.{Dyn, Fixed, on, At}
+use Rattle.ada_lower.specs.Driven.{Dyn, Fixed, on, At, Alike}
 use Rattle.ada_lower.specs.Sights.{Emit, Named, Sight, Stands, choose, none, one, when_, ◌⨟◌}
 use Rattle.ada_lower.specs.Emission
 use Rattle.ada_lower.specs.Emission.{returning, returning_value, exiting}
@@ -58,7 +58,7 @@ pub truth_of_bit : (b : Bool) → Deeds.truth (Deeds.bit b) ≡ b
 truth_of_bit true = refl
 truth_of_bit false = refl
 
-module _ (limit : ℕ) (cuts : ℕ → ℕ → List ℕ) (program : Program) (c : Code) (f : Fixed) (calls : ℕ → ℕ → Stored (Unit {0}) → List Passed → Stored Returned) (globals : ℕ → Entity → Option Named) (mains : Entity → Bool) (epar : Sight → Expr → Type 0) (calls_all : (f' : Fixed) → f'.calls ≡ f.calls → InnerDo limit cuts program globals mains epar c f' calls)
+module _ (limit : ℕ) (cuts : ℕ → ℕ → List ℕ) (program : Program) (c : Code) (f : Fixed) (calls : ℕ → ℕ → Stored (Unit {0}) → List Passed → Stored Returned) (globals : ℕ → Entity → Option Named) (mains : Entity → Bool) (epar : Sight → Expr → Type 0) (calls_all : (f' : Fixed) → Alike f' f → InnerDo limit cuts program globals mains epar c f' calls)
     (x : Ends) (g : Ghost) (env : Env) (s : Sight) (kn : Knows limit cuts g f s env) (su : Suits limit c f x s) (room : s.scope.free + 1 < s.cells)
     (all loops : List ℕ) (within : (n : ℕ) → In n loops → In n all) (exits_to : (n from to : ℕ) → In n loops → Stands c (exiting s.scope n (s.scope.exits n)) from to → (d : Dyn) → To limit c (on f from [] d) (x.exits n d)) where
   -- the two numbers are kept

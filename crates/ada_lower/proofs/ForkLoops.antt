@@ -2,6 +2,7 @@
 use Rattle.std.proofs.Common.{◌≡◌, ℕ, zero, suc, ◌+◌, ◌-◌, ◌<◌, ◌≤◌, ℤ, pos, ◌+ℤ◌, int_le, List, [], ◌∷◌, ◌++◌, slice_get, nat_eq, Option, Some, None, Err, Bool, true, false, cond, refl, sym, ap, ◌∙◌, subst, arith}
 use Rattle.std.proofs.lemmas.Int.{ints}
 use Rattle.behaviours.specs.Doings.{through}
+use Rattle.ada_base.specs.Notes.{InOrder}
 use Rattle.behaviours.specs.Joins.{Share}
 use Rattle.behaviours.specs.Paths as paths
 use Rattle.typed_tree.specs.Syntax.{Expr, Program}
@@ -17,7 +18,7 @@ use Rattle.stack_code.specs.declared.path.Asked.{Asked}
 use Rattle.ada_base.specs.Cells.{Cell, Mine, zeros}
 use Rattle.stack_code.specs.Deeds.{GoesOn}
 use Rattle.behaviours.specs.Paths.{Entity}
-use Rattle.ada_lower.specs.Driven.{Dyn, Fixed, Step, on, off, span_cells, thread_cells, At}
+use Rattle.ada_lower.specs.Driven.{Dyn, Fixed, Step, on, off, span_cells, thread_cells, At, Alike}
 use Rattle.ada_lower.specs.Sights.{Emit, Named, Sight, Stands, looped, one, taking, thread_sight, when_, ◌⨟◌}
 use Rattle.ada_lower.specs.Fits.{Keeps, Ghost, Fit, Allows, Knows, Stands as StandsFor}
 use Rattle.ada_lower.specs.Forks.{threaded, thread_ends, framed, done_so, ThreadDoes}
@@ -58,7 +59,7 @@ span_last : (u : ℤ) (n : ℕ) (xs : List Cell) → slice_get (span_cells u n x
 span_last u zero xs = refl
 span_last u (suc n) xs = refl
 
-module _ (limit : ℕ) (cuts : ℕ → ℕ → List ℕ) (program : Program) (c : Code) (f : Fixed) (calls : ℕ → ℕ → Stored (Unit {0}) → List Passed → Stored Returned) (globals : ℕ → Entity → Option Named) (mains : Entity → Bool) (epar : Sight → Expr → Type 0) (calls_all : (f' : Fixed) → f'.calls ≡ f.calls → InnerDo limit cuts program globals mains epar c f' calls) where
+module _ (limit : ℕ) (cuts : ℕ → ℕ → List ℕ) (program : Program) (c : Code) (f : Fixed) (calls : ℕ → ℕ → Stored (Unit {0}) → List Passed → Stored Returned) (globals : ℕ → Entity → Option Named) (mains : Entity → Bool) (epar : Sight → Expr → Type 0) (calls_all : (f' : Fixed) → Alike f' f → InnerDo limit cuts program globals mains epar c f' calls) where
   module _ (g : Ghost) (s : Sight) (env : Env) (kn : Knows limit cuts g f s env) (site : ℕ) (cs : CodeSite) (four : 4 ≤ cs.frame) (q : Asked) (j : Share) where
     abbrev pub f1 : Fixed
     f1 = threaded f g.top
@@ -83,9 +84,9 @@ module _ (limit : ℕ) (cuts : ℕ → ℕ → List ℕ) (program : Program) (c 
     abbrev frame_cells : List Cell
     frame_cells = thread_cells cs.frame q j
 
-    pub enters_so : (st : stored.State) (d : Dyn) → Fit g st d → Fit turns_ghost st (framed cs q j d)
-    enters_so st d w =
-        let w0 : Fit (frame_ghost g cs.frame) st (framed cs q j d) = subst (λ n. Fit (frame_ghost g n) st (framed cs q j d)) (length_thread cs.frame q j four) (fit_framed frame_cells (mine_thread cs.frame q j) w) in
+    pub enters_so : (st : stored.State) (d : Dyn) → st.notes ≡ InOrder → Fit g st d → Fit turns_ghost st (framed cs q j d)
+    enters_so st d order w =
+        let w0 : Fit (frame_ghost g cs.frame) st (framed cs q j d) = subst (λ n. Fit (frame_ghost g n) st (framed cs q j d)) (length_thread cs.frame q j four) (fit_framed frame_cells (mine_thread cs.frame q j) order w) in
         fit_known (g.top + (2 + 1)) (last_of u j.size) (cell 3 (Mine (last_of u j.size)) (span_last u j.size (zeros (cs.frame - 4))))
         (fit_known (g.top + 2) (first_of u j.size) (cell 2 (Mine (first_of u j.size)) (span_first u j.size (zeros (cs.frame - 4))))
         (fit_known (g.top + 1) q.initial (cell 1 (Mine q.initial) refl)
@@ -104,7 +105,7 @@ module _ (limit : ℕ) (cuts : ℕ → ℕ → List ℕ) (program : Program) (c 
         ∙ frame_below g cs.frame a lt
 
     pub leaves_so : (st : stored.State) (d : Dyn) → Fit base_ghost st d → Fit g st (Rattle.ada_lower.specs.Driven.cut_to g.top d)
-    leaves_so st d w = fit_unframed cs.frame kn.beyond refl (refl, refl) refl refl refl refl refl base_below w
+    leaves_so st d w = fit_unframed cs.frame kn.beyond refl (refl, refl) refl refl refl refl (refl, refl) base_below w
 
     pub allows_so : (ts : List Touch) → Allows g ts → Allows turns_ghost ts
     allows_so ts al =
@@ -191,6 +192,7 @@ module _ (limit : ℕ) (cuts : ℕ → ℕ → List ℕ) (program : Program) (c 
           record {
             ghost = turns_ghost;
             after = base_ghost;
+            ordered = refl;
             enters = enters_so;
             leaves = leaves_so;
             allows = allows_so;
@@ -215,6 +217,7 @@ module _ (limit : ℕ) (cuts : ℕ → ℕ → List ℕ) (program : Program) (c 
           record {
             ghost = turns_ghost;
             after = base_ghost;
+            ordered = refl;
             enters = enters_so;
             leaves = leaves_so;
             allows = allows_so;

@@ -3,7 +3,7 @@ use Rattle.std.proofs.Common.{◌≡◌, ℕ, ◌+◌, ◌-◌, ◌*◌, ◌<◌
 use Rattle.std.proofs.lemmas.Int.{ints}
 use Rattle.ada_base.specs.declared.reason.Reason.TheVariants as reason
 use Rattle.behaviours.specs.Doings.{through}
-use Rattle.behaviours.specs.Joins.{Site}
+use Rattle.behaviours.specs.Joins.{Site, deal}
 use Rattle.behaviours.specs.Paths.{Leave, Exits, Returns, Raises, Entity}
 use Rattle.typed_tree.specs.declared.expressions.Root.{Root}
 use Rattle.typed_tree.specs.Syntax.{Expr, Optional, Iteration, Components, Chunk, NoChunk, Count, Each, Selections, Program}
@@ -11,7 +11,7 @@ use Rattle.ada_meaning.specs.Operations.{chunk_of, Operations}
 use Rattle.ada_meaning.specs.Stored as stored
 use Rattle.ada_meaning.specs.Stored.{Stored}
 use Rattle.ada_meaning.specs.Meaning
-use Rattle.ada_meaning.specs.Meaning.{Env, Part, Passed, Returned, Chunking, Course, inside, most_iterations, cut_of}
+use Rattle.ada_meaning.specs.Meaning.{Env, ObjectPart, Passed, Returned, Chunking, Course, inside, most_iterations, cut_of}
 use Rattle.stack_code.specs.declared.code.Code.{Code}
 use Rattle.stack_code.specs.declared.code.CodeSite.{CodeSite}
 use Rattle.stack_code.specs.declared.instr.Instr.TheVariants as i
@@ -19,7 +19,8 @@ use Rattle.stack_code.specs.declared.path.Asked.{Asked}
 use Rattle.stack_code.specs.declared.path.Gave.TheVariants as gave
 use Rattle.stack_code.specs.Deeds
 use Rattle.stack_code.specs.Deeds.{many, natural}
-use Rattle.ada_lower.specs.Driven.{Dyn, Fixed, Step, on, thrown, sizes_for, answer_of}
+use Rattle.ada_lower.specs.Driven.{Dyn, Fixed, Step, on, thrown, sizes_for, answer_of, Alike}
+use Rattle.ada_lower.proofs.Alike.{alike}
 use Rattle.ada_lower.specs.Sights.{Emit, Named, Scope, Sight, Stands, array_root_of, chunk_sight, nested_sight, one, taking, thread_sight, turn_sight, ◌⨟◌}
 use Rattle.ada_lower.specs.Emission
 use Rattle.ada_lower.specs.Emission.{selected, exiting, loop_kind, parallel_for, chunk_code, course_code, ends_code, fork_code, left_code, filtered}
@@ -48,6 +49,9 @@ use Rattle.ada_lower.proofs.ForkRange.{Chunks, numbered, plain_kind, knows_forke
 use Rattle.ada_lower.proofs.ForkDeals.{loop_shares}
 use Rattle.ada_lower.proofs.ForkItems.{items_thread}
 use Rattle.ada_lower.proofs.ForkChunks.{chunk_does}
+use Rattle.ada_lower.proofs.ForkFine.{Lends}
+use Rattle.ada_lower.specs.ForkViews.{view_ghost, no_free, Apart}
+use Rattle.ada_lower.proofs.ForkSights.{knows_view, number_view, spread_view}
 
 pub many_is : (count : ℕ) → many (pos 1) (pos count) ≡ count
 many_is count = let z : pos count +ℤ pos 1 -ℤ pos 1 ≡ pos count = omega (arith, ints) in ap natural z
@@ -69,19 +73,19 @@ module _ (limit : ℕ) (cuts : ℕ → ℕ → List ℕ) (program : Program) (c 
     {g : Ghost} {env : Env} (s : Sight) (kn : Knows limit cuts g f s env) (en : s.scope.entry ≡ x.entry) (room : s.scope.free < s.cells) (h : ℕ) (st : List ℤ)
     (p : ℕ) (constant : Bool) (at : ℕ) (r : Root) (selections : Selections) (count stride dimensions : ℕ) (filter : Optional) where
   -- where it is
-  abbrev pub Placed : Ghost → Part → ℕ → Type 0
+  abbrev pub Placed : Ghost → ObjectPart → ℕ → Type 0
   Placed g q a = Spread g (named_entity constant q.object) q.offset (count * stride) a
 
-  abbrev pub course_of : Part → Course
+  abbrev pub course_of : ObjectPart → Course
   course_of q = record { count = count; bound = λ i. Meaning.with_item constant p (Meaning.moved q (i * stride)) }
 
   pub array_does : {R : Type 0} {n : Named} (from to : ℕ) (then : Course → Stored R) (goal : R → Dyn → Step) → array_root_of constant s.scope r ≡ Some n → Reaches n.cells selections (count * stride) → FittedSelections program globals mains epar s selections
       → Stands c (course_code program s.scope h (Components p constant at r selections count stride dimensions filter)) from to
-      → ((q : Part) (a : ℕ) → Placed (set_what (f.base + s.scope.free) (Keeps (pos a)) g) q a → Doing limit c f x (set_what (f.base + s.scope.free) (Keeps (pos a)) g) g any (then (course_of q)) (λ d. on f to st d) goal)
+      → ((q : ObjectPart) (a : ℕ) → Placed (set_what (f.base + s.scope.free) (Keeps (pos a)) g) q a → Doing limit c f x (set_what (f.base + s.scope.free) (Keeps (pos a)) g) g any (then (course_of q)) (λ d. on f to st d) goal)
       → Runs limit c f x g any (stored.bind (Meaning.course (stored.noted_operations limit cuts) limit program calls (Components p constant at r selections count stride dimensions filter) env) then) (λ d. on f from st d) goal
   unfolding Rattle.ada_lower.specs.Emission.emit
   array_does {R} {n} from to then goal e reach ws l go =
-      let o : Part = Meaning.array_root constant r env in
+      let o : ObjectPart = Meaning.array_root constant r env in
       let free1 : g.what (f.base + s.scope.free) ≡ Free = kn.free s.scope.free (le_refl s.scope.free) room in
       let v : Refers g f n (named_entity constant o.object) o.offset = array_refers constant r n kn e in
       let (m1, l1, l2) = stands_seq c from to (Emission.address s.scope h (array_root_of constant s.scope r)) (selected program s.scope (h + 1) selections ⨟ Emission.keep s.scope (h + 1) s.scope.free) l in
@@ -97,7 +101,7 @@ module _ (limit : ℕ) (cuts : ℕ → ℕ → List ℕ) (program : Program) (c 
       (subst (λ z. Doing limit c f x (set_what (f.base + s.scope.free) (Keeps (pos a)) g) g any (then (course_of q)) (λ d. on f z st d) goal) z
       (go q a (spread_more (free_extends g (f.base + s.scope.free) (Keeps (pos a)) free1) part))))))
 
-module _ (limit : ℕ) (cuts : ℕ → ℕ → List ℕ) (within : Within cuts) (program : Program) (c : Code) (f : Fixed) (calls : ℕ → ℕ → Stored (Unit {0}) → List Passed → Stored Returned) (globals : ℕ → Entity → Option Named) (mains : Entity → Bool) (epar : Sight → Expr → Type 0) (calls_all : (f' : Fixed) → f'.calls ≡ f.calls → InnerDo limit cuts program globals mains epar c f' calls) where
+module _ (limit : ℕ) (cuts : ℕ → ℕ → List ℕ) (within : Within cuts) (program : Program) (c : Code) (f : Fixed) (calls : ℕ → ℕ → Stored (Unit {0}) → List Passed → Stored Returned) (globals : ℕ → Entity → Option Named) (mains : Entity → Bool) (epar : Sight → Expr → Type 0) (calls_all : (f' : Fixed) → Alike f' f → InnerDo limit cuts program globals mains epar c f' calls) where
   abbrev oper : Operations {1}
   oper = stored.noted_operations limit cuts
 
@@ -141,10 +145,10 @@ module _ (limit : ℕ) (cuts : ℕ → ℕ → List ℕ) (within : Within cuts) 
         back (Returns v) = comes_here limit c (x.returns v d)
         back (Raises r) = subst (λ y. To limit c (thrown r x.entry f d) y) (sym (raises_same limit c f x r d)) (comes_here limit c (thrown r x.entry f d))
 
-    abbrev course_with : Part → Course
+    abbrev course_with : ObjectPart → Course
     course_with q = record { count = count; bound = λ i. Meaning.with_item constant p (Meaning.moved q (i * stride)) }
 
-    abbrev team_of : Chunking → Part → Site
+    abbrev team_of : Chunking → ObjectPart → Site
     team_of k q = Meaning.site_at site chunk it (cut_of k count) k (course_with q) (inside env)
 
     abbrev after_course : Chunking → Course → Stored (Unit {0})
@@ -154,12 +158,14 @@ module _ (limit : ℕ) (cuts : ℕ → ℕ → List ℕ) (within : Within cuts) 
     kept_below : (cl ch : ℤ) (a n : ℕ) (v : ℤ) → n < s.scope.free + 2 → (g1 cl ch).what (f.base + n) ≡ Keeps v → (g2 cl ch a).what (f.base + n) ≡ Keeps v
     kept_below cl ch a n v lt e = what_other (g1 cl ch) (f.base + (s.scope.free + 2)) (f.base + n) (Keeps (pos a)) (λ z. omega (arith, z, lt)) ∙ e
 
-    module _ (step : (f' : Fixed) (fc : f'.calls ≡ f.calls) (top : ℕ) (is : f' ≡ threaded (nested_in f) top) (g' : Ghost) (env' : Env) (a b : ℕ) → Knows limit cuts g' f' turn env' → Stands c (filtered program turn.scope 0 filter (body turn.scope)) a b
+    module _ (step : (f' : Fixed) (fc : Alike f' f) (top : ℕ) (is : f' ≡ threaded (nested_in f) top) (g' : Ghost) (env' : Env) (a b : ℕ) → Knows limit cuts g' f' turn env' → Stands c (filtered program turn.scope 0 filter (body turn.scope)) a b
         → Acts limit cuts program c f' calls globals mains epar (calls_all f' fc) thread_ends g' (stored.bind (tests env') (λ z. cond z (does env') (stored.ret tt))) a b)
-        (leaves_so : (first size : ℕ) (envs : ℕ → Env) (st : stored.State) (l : Leave) → ((through stored.doings first size tt (λ i (_ : Unit {0}). Meaning.iterate oper (tests (envs i)) (does (envs i)))).does st).end ≡ Err (stored.Left l) → MayLeave number loops l) where
+        (leaves_so : (first size : ℕ) (envs : ℕ → Env) (st : stored.State) (l : Leave) → ((through stored.doings first size tt (λ i (_ : Unit {0}). Meaning.iterate oper (tests (envs i)) (does (envs i)))).does st).end ≡ Err (stored.Left l) → MayLeave number loops l)
+        (lends : (k : Chunking) (cl ch : ℤ) (q : ObjectPart) (a0 : ℕ) → Chunks chunk cl ch k → (gg : Ghost) → Knows limit cuts gg (nested_in f) (taking 2 (taking 2 s)) (inside env) → Spread gg (named_entity constant q.object) q.offset (count * stride) a0
+        → Lends (nested_in f) gg cs (Deeds.asked site (pos 1) (pos count) cl ch (pos 0)) (team_of k q) (deal 0 0 (sizes_for gg.plan cs.kind (Deeds.asked site (pos 1) (pos count) cl ch (pos 0))))) where
       -- from the array on
-      ranged : (k : Chunking) (cl ch : ℤ) (q : Part) (a0 : ℕ) → Spread (g2 cl ch a0) (named_entity constant q.object) q.offset (count * stride) a0 → Chunks chunk cl ch k → nat_le 1 (many cl ch) ≡ true → nat_le (many cl ch) 4096 ≡ true → (m2 to : ℕ)
-          → Stands c (ends_code (taking 2 r).scope 0 it ⨟ fork_code r.scope 0 2 site s.scope.free (one r.scope 4 (i.Push (pos 0)))
+      ranged : (k : Chunking) (cl ch : ℤ) (q : ObjectPart) (a0 : ℕ) → Spread (g2 cl ch a0) (named_entity constant q.object) q.offset (count * stride) a0 → Chunks chunk cl ch k → nat_le 1 (many cl ch) ≡ true → nat_le (many cl ch) 4096 ≡ true → (m2 to : ℕ)
+          → Stands c (ends_code (taking 2 r).scope 0 it ⨟ fork_code r.scope 0 2 (loop_kind chunk) site s.scope.free (one r.scope 4 (i.Push (pos 0)))
           (let t = thread_sight site cs.frame (taking 2 (taking 2 s)) in Emission.threaded program t.scope 0 chunk (s.scope.free + 1 + 1) it body ⨟ one (chunk_sight chunk (taking 2 t)).scope 0 i.End)
           ⨟ one r.scope 2 i.Unnest ⨟ left_code (taking 2 (taking 2 s)).scope number all) m2 to
           → Doing limit c f x (g2 cl ch a0) (g2 cl ch a0) any (after_course k (course_with q)) (λ d. on fi m2 [] d) (λ _ d. on f to [] d)
@@ -168,7 +174,7 @@ module _ (limit : ℕ) (cuts : ℕ → ℕ → List ℕ) (within : Within cuts) 
           let s4 : Sight = taking 2 (taking 2 s) in
           let t : Sight = thread_sight site cs.frame s4 in
           let tb : Emit = Emission.threaded program t.scope 0 chunk (s.scope.free + 1 + 1) it body ⨟ one (chunk_sight chunk (taking 2 t)).scope 0 i.End in
-          let fc : Emit = fork_code r.scope 0 2 site s.scope.free (one r.scope 4 (i.Push (pos 0))) tb in
+          let fc : Emit = fork_code r.scope 0 2 (loop_kind chunk) site s.scope.free (one r.scope 4 (i.Push (pos 0))) tb in
           let (m3, (je1, (je2, ze)), r3) = stands_seq c m2 to (ends_code (taking 2 r).scope 0 it) (fc ⨟ one r.scope 2 i.Unnest ⨟ left_code s4.scope number all) st in
           let (m4, (jd0, (jd1, (jp, (jf, lb)))), (ju, ll)) = stands_seq c m3 to fc (one r.scope 2 i.Unnest ⨟ left_code s4.scope number all) r3 in
           let (jj, bd) = stands_behind c (m3 + 1 + 1 + 1 + 1) m4 r.scope 2 tb lb in
@@ -188,7 +194,7 @@ module _ (limit : ℕ) (cuts : ℕ → ℕ → List ℕ) (within : Within cuts) 
           (subst (λ n. Doing limit c f x gg gg any (stored.bind (Meaning.unless oper (nat_le n most_iterations) reason.StorageError)
           (λ _. stored.handles (stored.noted_loops limit cuts (team_of k q) (cut_of k count) (λ j i. Meaning.iterate oper (tests ((course_with q).bound i (k.bound j (inside env)))) (does ((course_with q).bound i (k.bound j (inside env)))))) (Meaning.exits number) (λ _. stored.ret tt)))
           (λ d. on fi (m3 + 1 + 1 + 1) (pos 0 ∷ ch ∷ cl ∷ u ∷ l ∷ []) d) goal) (many_is count)
-          (forked_does limit cuts program c f calls globals mains epar calls_all x gg env s4 (kn2 cl ch a0) (suits_as s4 s refl refl refl refl (λ n. refl) su) (omega (arith, room)) kept all loops among exits_to
+          (forked_does limit cuts program c f calls globals mains epar calls_all x gg env s4 (kn2 cl ch a0) (suits_as s4 s refl refl refl refl refl (λ n. refl) su) (omega (arith, room)) kept all loops among exits_to
           number (m3 + 1 + 1 + 1) m4 to (at_entry su.entry jj) (at_entry su.entry ju) ll gg (λ a y z e. inl e) (λ stt d w. w) (MayLeave number loops) (λ w m. m)
           cs site l u cl ch site_at (at_entry su.entry jf)
           (λ vs. ap (λ kd. answer_of c kd asking (gave.Numbers vs)) kind ∙ plain_kind c chunk asking vs) some few (team_of k q)
@@ -197,9 +203,15 @@ module _ (limit : ℕ) (cuts : ℕ → ℕ → List ℕ) (within : Within cuts) 
           (sizes_same limit cuts chunk cl ch count k site told ∙ ap₂ (λ pl kd. sizes_for pl kd asking) (sym plan) (sym kind))
           (λ j. j.first + j.size ≤ asking.count) (loop_shares cuts gg.plan within plan chunk asking cs.kind kind)
           (λ j inn. items_thread limit cuts program c fi calls globals mains epar calls_all gg s4 (inside env) (knows_forked (kn2 cl ch a0)) site cs four five count stride cl ch (pos 0) j (let z = many_is count in omega (arith, inn, z)) (s.scope.free + 1 + 1) a0
-          (ap (λ n. gg.what (f.base + n)) same_cell ∙ what_same (g1 cl ch) (f.base + (s.scope.free + 2)) (Keeps (pos a0))) (omega (arith, room)) p constant q part chunk k told (chunk_of (cut_of k count) j.number) (numbered chunk cl ch k count j.number told) (MayLeave number loops) tests does
+          (inl (ap (λ n. gg.what (f.base + n)) same_cell ∙ what_same (g1 cl ch) (f.base + (s.scope.free + 2)) (Keeps (pos a0)))) (omega (arith, room)) p constant q part chunk k told (chunk_of (cut_of k count) j.number) (numbered chunk cl ch k count j.number told) (MayLeave number loops) tests does
           (filtered program turn.scope 0 filter (body turn.scope)) m4 (subst (λ z. Stands c tb z m4) (sym (entry (m3 + 1 + 1 + 1) (itself refl jf))) bd)
-          (λ g' env' a b kk ss. step (threaded fi gg.top) refl gg.top refl g' env' a b kk ss)
+          (λ g' env' a b kk ss. step (threaded fi gg.top) (alike f) gg.top refl g' env' a b kk ss)
+          (λ stt w e. leaves_so j.first j.size _ stt w e))
+          (knows_forked (kn2 cl ch a0)) (lends k cl ch q a0 told gg (knows_forked (kn2 cl ch a0)) part)
+          (λ owner apart j inn. items_thread limit cuts program c fi calls globals mains epar calls_all (view_ghost owner j.number gg) (no_free s4) (inside env) (knows_view owner j.number (knows_forked (kn2 cl ch a0)) apart) site cs four five count stride cl ch (pos 0) j (let z = many_is count in omega (arith, inn, z)) (s.scope.free + 1 + 1) a0
+          (number_view owner j.number (knows_forked (kn2 cl ch a0)) apart (f.base + (s.scope.free + 1 + 1)) (pos a0) (inl (ap (λ n. gg.what (f.base + n)) same_cell ∙ what_same (g1 cl ch) (f.base + (s.scope.free + 2)) (Keeps (pos a0))))) (omega (arith, room)) p constant q (spread_view owner j.number (knows_forked (kn2 cl ch a0)) apart (named_entity constant q.object) q.offset (count * stride) a0 part) chunk k told (chunk_of (cut_of k count) j.number) (numbered chunk cl ch k count j.number told) (MayLeave number loops) tests does
+          (filtered program turn.scope 0 filter (body turn.scope)) m4 (subst (λ z. Stands c tb z m4) (sym (entry (m3 + 1 + 1 + 1) (itself refl jf))) bd)
+          (λ g' env' a b kk ss. step (threaded fi gg.top) (alike f) gg.top refl g' env' a b kk ss)
           (λ stt w e. leaves_so j.first j.size _ stt w e))))
 
       abbrev pub parallel : Stored (Unit {0})
@@ -207,21 +219,21 @@ module _ (limit : ℕ) (cuts : ℕ → ℕ → List ℕ) (within : Within cuts) 
 
       -- a parallel loop over components
       pub parallel_of_does : {e : Named} → FittedChunk program globals mains epar r chunk → array_root_of constant (taking 2 r).scope root ≡ Some e → Reaches e.cells selections (count * stride) → FittedSelections program globals mains epar (taking 2 r) selections → (from to : ℕ)
-          → Stands c (parallel_for program s.scope number site chunk it all body) from to → Acts limit cuts program c f calls globals mains epar (calls_all f refl) x g parallel from to
+          → Stands c (parallel_for program s.scope number site chunk it all body) from to → Acts limit cuts program c f calls globals mains epar (calls_all f (alike f)) x g parallel from to
       unfolding Rattle.ada_lower.specs.Emission.emit Rattle.ada_lower.specs.Emission.stmt
       parallel_of_does wc is reach ws from to (jn, st) =
           let s4 : Sight = taking 2 (taking 2 s) in
           let t : Sight = thread_sight site cs.frame s4 in
           let tb : Emit = Emission.threaded program t.scope 0 chunk (s.scope.free + 1 + 1) it body ⨟ one (chunk_sight chunk (taking 2 t)).scope 0 i.End in
-          let rest : Emit = ends_code (taking 2 r).scope 0 it ⨟ fork_code r.scope 0 2 site s.scope.free (one r.scope 4 (i.Push (pos 0))) tb ⨟ one r.scope 2 i.Unnest ⨟ left_code s4.scope number all in
+          let rest : Emit = ends_code (taking 2 r).scope 0 it ⨟ fork_code r.scope 0 2 (loop_kind chunk) site s.scope.free (one r.scope 4 (i.Push (pos 0))) tb ⨟ one r.scope 2 i.Unnest ⨟ left_code s4.scope number all in
           let goal : Unit {0} → Dyn → Step = λ _ d. on f to [] d in
           let (m1, lc, r1) = stands_seq c (from + 1) to (chunk_code program r.scope 0 chunk) (course_code program (taking 2 r).scope 0 it ⨟ rest) st in
           let (m2, lr, r2) = stands_seq c m1 to (course_code program (taking 2 r).scope 0 it) rest r1 in
           does_bind limit c f x (does_opened limit c f x cuts env [] nested (at_entry su.entry jn)) (λ _ _.
-          does_inside limit c f x fi refl (left_as_nested limit c f x)
+          does_inside limit c f x fi refl refl (left_as_nested limit c f x)
           (chunk_does limit cuts program c fi calls globals mains epar calls_all x g (inside env) r (knows_nested (knows_forked kn)) su.entry (omega (arith, room)) 0 [] (Unit {0}) chunk (from + 1) m1 lc wc
           (λ k. stored.bind (Meaning.course oper limit program calls it (inside env)) (λ co. after_course k co)) goal (λ k cl ch told some few.
-          array_does limit cuts program c fi x calls globals mains epar (calls_all fi refl) (taking 2 r) (knows_nested (knows_forked (kn1 cl ch))) su.entry (omega (arith, room)) 0 [] p constant at root selections count stride dimensions filter
+          array_does limit cuts program c fi x calls globals mains epar (calls_all fi (alike f)) (taking 2 r) (knows_nested (knows_forked (kn1 cl ch))) su.entry (omega (arith, room)) 0 [] p constant at root selections count stride dimensions filter
           m1 m2 (λ co. after_course k co) goal is reach ws lr (λ q a0 part.
           does_weak limit c fi x (λ stt d w. fit_unset (f.base + (s.scope.free + 2)) (pos a0) ((kn1 cl ch).free (s.scope.free + 2) (le_refl (s.scope.free + 2)) (omega (arith, room))) w)
-          (does_inside limit c fi x f refl left_as_back (ranged k cl ch q a0 part told some few m2 to r2))))))
+          (does_inside limit c fi x f refl refl left_as_back (ranged k cl ch q a0 part told some few m2 to r2))))))

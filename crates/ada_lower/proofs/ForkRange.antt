@@ -1,7 +1,7 @@
 -- Parallel loops over ranges, whole.
 use Rattle.std.proofs.Common.{◌≡◌, ℕ, ◌+◌, ◌<◌, ◌≤◌, ℤ, pos, negsuc, ◌+ℤ◌, ◌-ℤ◌, nat_le, List, [], ◌∷◌, slice_get, Option, Some, None, Err, Bool, true, false, cond, refl, sym, ap, ap₂, ◌∙◌, subst, arith, inl}
 use Rattle.behaviours.specs.Doings.{through}
-use Rattle.behaviours.specs.Joins.{Site, Share}
+use Rattle.behaviours.specs.Joins.{Site, Share, deal}
 use Rattle.behaviours.specs.Paths.{Leave, Exits, Returns, Raises, Entity, VariableOf, ConstantOf}
 use Rattle.ada_base.specs.declared.reason.Reason.TheVariants as reason
 use Rattle.ada_lower.specs.Fits
@@ -19,7 +19,8 @@ use Rattle.stack_code.specs.declared.instr.Instr.TheVariants as i
 use Rattle.stack_code.specs.declared.path.Asked.{Asked}
 use Rattle.stack_code.specs.declared.path.Gave.TheVariants as gave
 use Rattle.stack_code.specs.Deeds.{many, natural}
-use Rattle.ada_lower.specs.Driven.{Dyn, Fixed, Step, on, thrown, sizes_for, answer_of}
+use Rattle.ada_lower.specs.Driven.{Dyn, Fixed, Step, on, thrown, sizes_for, answer_of, Alike}
+use Rattle.ada_lower.proofs.Alike.{alike}
 use Rattle.ada_lower.specs.Sights.{nested_sight, Emit, Named, Scope, Sight, Stands, Where, chunk_sight, none, one, own, range_sight, taking, thread_sight, turn_sight, with_parameter, ◌⨟◌}
 use Rattle.ada_lower.specs.Emission
 use Rattle.ada_lower.specs.Emission.{emit, exiting, filtered}
@@ -41,6 +42,9 @@ use Rattle.ada_lower.proofs.ForkInside.{nested_in, raises_same, LeftAs, left_as_
 use Rattle.ada_lower.proofs.ForkLeft.{In, MayLeave}
 use Rattle.ada_lower.proofs.ForkLoops.{turn_ghost, knows_turn, first_kept, chunk_kept, loop_thread, fold_thread}
 use Rattle.ada_lower.proofs.ForkFor.{every_one, stands_behind, forked_does}
+use Rattle.ada_lower.proofs.ForkFine.{Lends}
+use Rattle.ada_lower.specs.ForkViews.{view_ghost, no_free}
+use Rattle.ada_lower.proofs.ForkSights.{knows_view}
 
 -- ---- what is known where a construct is begun
 
@@ -115,7 +119,7 @@ plain_kind c NoChunk q vs = refl
 plain_kind c (Count e) q vs = refl
 plain_kind c (Each k low high check) q vs = refl
 
-module _ (limit : ℕ) (cuts : ℕ → ℕ → List ℕ) (program : Program) (c : Code) (f : Fixed) (calls : ℕ → ℕ → Stored (Unit {0}) → List Passed → Stored Returned) (globals : ℕ → Entity → Option Named) (mains : Entity → Bool) (epar : Sight → Expr → Type 0) (calls_all : (f' : Fixed) → f'.calls ≡ f.calls → InnerDo limit cuts program globals mains epar c f' calls) where
+module _ (limit : ℕ) (cuts : ℕ → ℕ → List ℕ) (program : Program) (c : Code) (f : Fixed) (calls : ℕ → ℕ → Stored (Unit {0}) → List Passed → Stored Returned) (globals : ℕ → Entity → Option Named) (mains : Entity → Bool) (epar : Sight → Expr → Type 0) (calls_all : (f' : Fixed) → Alike f' f → InnerDo limit cuts program globals mains epar c f' calls) where
   abbrev ops : Operations {1}
   ops = stored.noted_operations limit cuts
 
@@ -166,15 +170,15 @@ module _ (limit : ℕ) (cuts : ℕ → ℕ → List ℕ) (program : Program) (c 
     -- a thread's turns, by what is done in one
     pub range_thread : (may : Leave → Type 0) (tests : Env → Stored Bool) (does : Env → Stored (Unit {0})) (body : Emit) (to : ℕ) → (let t1 = chunk_sight chunk (taking 2 t) in Stands c (Emission.turns_code t1.scope 0 2 (one t1.scope 0 i.Turn ⨟ body) ⨟ one t1.scope 0 i.End) cs.entry to)
         → ((g' : Ghost) (env' : Env) (a b : ℕ) → Knows limit cuts g' (threaded f g.top) (range_sight (chunk_sight chunk (taking 2 t)) None p false 0) env' → Stands c body a b
-        → Acts limit cuts program c (threaded f g.top) calls globals mains epar (calls_all (threaded f g.top) refl) thread_ends g' (stored.bind (tests env') (λ z. cond z (does env') (stored.ret tt))) a b)
+        → Acts limit cuts program c (threaded f g.top) calls globals mains epar (calls_all (threaded f g.top) (alike f)) thread_ends g' (stored.bind (tests env') (λ z. cond z (does env') (stored.ret tt))) a b)
         → ((st : stored.State) (l : Leave) → ((through stored.doings j.first j.size tt (λ i (_ : Unit {0}). Meaning.iterate ops (tests (turn_env i)) (does (turn_env i)))).does st).end ≡ Err (stored.Left l) → may l)
         → ThreadDoes limit c may g f cs asking (λ (z : Unit {0}). None) j (through stored.doings j.first j.size tt (λ i _. Meaning.iterate ops (tests (turn_env i)) (does (turn_env i))))
     range_thread may tests does body to l step ml =
         loop_thread limit cuts program c f calls globals mains epar calls_all g s env kn site cs four asking j may (chunk_sight chunk (taking 2 t)) (one (chunk_sight chunk (taking 2 t)).scope 0 i.Turn ⨟ body) (chunk_entry chunk (taking 2 t)) to (λ i _. Meaning.iterate ops (tests (turn_env i)) (does (turn_env i))) l
-        (λ i a head mid (at, b). iterate_does limit cuts program c (threaded f g.top) calls globals mains epar (calls_all (threaded f g.top) refl) (tests (turn_env i)) (does (turn_env i)) thread_ends head mid kn.most (at_entry (chunk_entry chunk (taking 2 t)) at) (step (gi i) (turn_env i) (head + 1) mid (turn_knows chunk told at_ i) b))
+        (λ i a head mid (at, b). iterate_does limit cuts program c (threaded f g.top) calls globals mains epar (calls_all (threaded f g.top) (alike f)) (tests (turn_env i)) (does (turn_env i)) thread_ends head mid kn.most (at_entry (chunk_entry chunk (taking 2 t)) at) (step (gi i) (turn_env i) (head + 1) mid (turn_knows chunk told at_ i) b))
         ml
 
-module _ (limit : ℕ) (cuts : ℕ → ℕ → List ℕ) (program : Program) (c : Code) (f : Fixed) (calls : ℕ → ℕ → Stored (Unit {0}) → List Passed → Stored Returned) (globals : ℕ → Entity → Option Named) (mains : Entity → Bool) (epar : Sight → Expr → Type 0) (calls_all : (f' : Fixed) → f'.calls ≡ f.calls → InnerDo limit cuts program globals mains epar c f' calls) where
+module _ (limit : ℕ) (cuts : ℕ → ℕ → List ℕ) (program : Program) (c : Code) (f : Fixed) (calls : ℕ → ℕ → Stored (Unit {0}) → List Passed → Stored Returned) (globals : ℕ → Entity → Option Named) (mains : Entity → Bool) (epar : Sight → Expr → Type 0) (calls_all : (f' : Fixed) → Alike f' f → InnerDo limit cuts program globals mains epar c f' calls) where
   abbrev oper : Operations {1}
   oper = stored.noted_operations limit cuts
 
@@ -235,12 +239,14 @@ module _ (limit : ℕ) (cuts : ℕ → ℕ → List ℕ) (program : Program) (c 
         what_other (set_what (f.base + (s.scope.free + 2)) (Keeps l) (g1 cl ch)) (f.base + (s.scope.free + 2 + 1)) (f.base + n) (Keeps u) (λ z. omega (arith, z, lt))
         ∙ what_other (g1 cl ch) (f.base + (s.scope.free + 2)) (f.base + n) (Keeps l) (λ z. omega (arith, z, lt)) ∙ e
 
-    module _ (step : (f' : Fixed) (fc : f'.calls ≡ f.calls) (top : ℕ) (is : f' ≡ threaded (nested_in f) top) (g' : Ghost) (env' : Env) (a b : ℕ) → Knows limit cuts g' f' turn env' → Stands c (filtered program turn.scope 0 filter (body turn.scope)) a b
+    module _ (step : (f' : Fixed) (fc : Alike f' f) (top : ℕ) (is : f' ≡ threaded (nested_in f) top) (g' : Ghost) (env' : Env) (a b : ℕ) → Knows limit cuts g' f' turn env' → Stands c (filtered program turn.scope 0 filter (body turn.scope)) a b
         → Acts limit cuts program c f' calls globals mains epar (calls_all f' fc) thread_ends g' (stored.bind (tests env') (λ z. cond z (does env') (stored.ret tt))) a b)
-        (leaves_so : (first size : ℕ) (envs : ℕ → Env) (st : stored.State) (l : Leave) → ((through stored.doings first size tt (λ i (_ : Unit {0}). Meaning.iterate oper (tests (envs i)) (does (envs i)))).does st).end ≡ Err (stored.Left l) → MayLeave number loops l) where
+        (leaves_so : (first size : ℕ) (envs : ℕ → Env) (st : stored.State) (l : Leave) → ((through stored.doings first size tt (λ i (_ : Unit {0}). Meaning.iterate oper (tests (envs i)) (does (envs i)))).does st).end ≡ Err (stored.Left l) → MayLeave number loops l)
+        (lends : (k : Chunking) (cl ch l u : ℤ) → Chunks chunk cl ch k → (gg : Ghost) → Knows limit cuts gg (nested_in f) (taking 2 (taking 2 s)) (inside env)
+        → Lends (nested_in f) gg cs (Rattle.stack_code.specs.Deeds.asked site l u cl ch (pos 0)) (team_of k l u) (deal 0 0 (sizes_for gg.plan cs.kind (Rattle.stack_code.specs.Deeds.asked site l u cl ch (pos 0))))) where
       -- from the two ranges on
       ranged : (k : Chunking) (cl ch l u : ℤ) → Chunks chunk cl ch k → nat_le 1 (many cl ch) ≡ true → nat_le (many cl ch) 4096 ≡ true → (m2 to : ℕ)
-          → Stands c (ends_code (taking 2 r).scope 0 it ⨟ fork_code r.scope 0 2 site s.scope.free (one r.scope 4 (i.Push (pos 0)))
+          → Stands c (ends_code (taking 2 r).scope 0 it ⨟ fork_code r.scope 0 2 (loop_kind chunk) site s.scope.free (one r.scope 4 (i.Push (pos 0)))
           (let t = thread_sight site cs.frame (taking 2 (taking 2 s)) in Emission.threaded program t.scope 0 chunk (s.scope.free + 1 + 1) it body ⨟ one (chunk_sight chunk (taking 2 t)).scope 0 i.End)
           ⨟ one r.scope 2 i.Unnest ⨟ left_code (taking 2 (taking 2 s)).scope number all) m2 to
           → Doing limit c f x (g2 cl ch l u) (g2 cl ch l u) any (after_course k (record { count = Values.count l u; bound = λ i. Meaning.with_parameter p (cond false (u -ℤ pos i) (l +ℤ pos i)) })) (λ d. on fi m2 [] d) (λ _ d. on f to [] d)
@@ -249,7 +255,7 @@ module _ (limit : ℕ) (cuts : ℕ → ℕ → List ℕ) (program : Program) (c 
           let s4 : Sight = taking 2 (taking 2 s) in
           let t : Sight = thread_sight site cs.frame s4 in
           let tb : Emit = Emission.threaded program t.scope 0 chunk (s.scope.free + 1 + 1) it body ⨟ one (chunk_sight chunk (taking 2 t)).scope 0 i.End in
-          let fc : Emit = fork_code r.scope 0 2 site s.scope.free (one r.scope 4 (i.Push (pos 0))) tb in
+          let fc : Emit = fork_code r.scope 0 2 (loop_kind chunk) site s.scope.free (one r.scope 4 (i.Push (pos 0))) tb in
           let (m3, (je1, (je2, ze)), r3) = stands_seq c m2 to (ends_code (taking 2 r).scope 0 it) (fc ⨟ one r.scope 2 i.Unnest ⨟ left_code s4.scope number all) st in
           let (m4, (jd0, (jd1, (jp, (jf, lb)))), (ju, ll)) = stands_seq c m3 to fc (one r.scope 2 i.Unnest ⨟ left_code s4.scope number all) r3 in
           let (jj, bd) = stands_behind c (m3 + 1 + 1 + 1 + 1) m4 r.scope 2 tb lb in
@@ -266,7 +272,7 @@ module _ (limit : ℕ) (cuts : ℕ → ℕ → List ℕ) (program : Program) (c 
           (subst (λ n. Doing limit c f x gg gg any (stored.bind (Meaning.unless oper (nat_le n most_iterations) reason.StorageError)
           (λ _. stored.handles (stored.noted_loops limit cuts (team_of k l u) (cut_of k (Values.count l u)) (λ j i. Meaning.iterate oper (tests (Meaning.with_parameter p (l +ℤ pos i) (k.bound j (inside env)))) (does (Meaning.with_parameter p (l +ℤ pos i) (k.bound j (inside env)))))) (Meaning.exits number) (λ _. stored.ret tt)))
           (λ d. on fi (m3 + 1 + 1 + 1) (pos 0 ∷ ch ∷ cl ∷ u ∷ l ∷ []) d) goal) (to_nat_same (u +ℤ pos 1 -ℤ l))
-          (forked_does limit cuts program c f calls globals mains epar calls_all x gg env s4 (kn2 cl ch l u) (suits_as s4 s refl refl refl refl (λ n. refl) su) (omega (arith, room)) kept all loops within exits_to
+          (forked_does limit cuts program c f calls globals mains epar calls_all x gg env s4 (kn2 cl ch l u) (suits_as s4 s refl refl refl refl refl (λ n. refl) su) (omega (arith, room)) kept all loops within exits_to
           number (m3 + 1 + 1 + 1) m4 to (at_entry su.entry jj) (at_entry su.entry ju) ll gg (λ a y z e. inl e) (λ stt d w. w) (MayLeave number loops) (λ w m. m)
           cs site l u cl ch site_at (at_entry su.entry jf)
           (λ vs. ap (λ kd. answer_of c kd q (gave.Numbers vs)) kind ∙ plain_kind c chunk q vs) some few (team_of k l u)
@@ -275,7 +281,12 @@ module _ (limit : ℕ) (cuts : ℕ → ℕ → List ℕ) (program : Program) (c 
           (sizes_same limit cuts chunk cl ch l u k site told ∙ ap₂ (λ pl kd. sizes_for pl kd q) (sym plan) (sym kind))
           (λ j. Unit {0}) (every_one _) (λ j _. range_thread limit cuts program c fi calls globals mains epar calls_all gg s4 (inside env) (knows_forked ((kn2 cl ch l u))) site cs four p l u cl ch (pos 0) chunk k told (chunk_of (cut_of k (Values.count l u)) j.number) j (numbered chunk cl ch k (Values.count l u) j.number told) (MayLeave number loops) tests does
           (filtered program turn.scope 0 filter (body turn.scope)) m4 (subst (λ z. Stands c tb z m4) (sym (entry (m3 + 1 + 1 + 1) (itself refl jf))) bd)
-          (λ g' env' a b kk ss. step (threaded fi gg.top) refl gg.top refl g' env' a b kk ss)
+          (λ g' env' a b kk ss. step (threaded fi gg.top) (alike f) gg.top refl g' env' a b kk ss)
+          (λ stt w e. leaves_so j.first j.size _ stt w e))
+          (knows_forked (kn2 cl ch l u)) (lends k cl ch l u told gg (knows_forked (kn2 cl ch l u)))
+          (λ owner apart j _. range_thread limit cuts program c fi calls globals mains epar calls_all (view_ghost owner j.number gg) (no_free s4) (inside env) (knows_view owner j.number (knows_forked (kn2 cl ch l u)) apart) site cs four p l u cl ch (pos 0) chunk k told (chunk_of (cut_of k (Values.count l u)) j.number) j (numbered chunk cl ch k (Values.count l u) j.number told) (MayLeave number loops) tests does
+          (filtered program turn.scope 0 filter (body turn.scope)) m4 (subst (λ z. Stands c tb z m4) (sym (entry (m3 + 1 + 1 + 1) (itself refl jf))) bd)
+          (λ g' env' a b kk ss. step (threaded fi gg.top) (alike f) gg.top refl g' env' a b kk ss)
           (λ stt w e. leaves_so j.first j.size _ stt w e))))
 
       -- what the code of a chunk specification does
@@ -289,24 +300,24 @@ module _ (limit : ℕ) (cuts : ℕ → ℕ → List ℕ) (program : Program) (c 
 
       -- a parallel loop over a range
       pub parallel_for_does : ChunkLaw → Fitted program globals mains epar (taking 2 r) low → Fitted program globals mains epar (taking 1 (taking 2 r)) high → (from to : ℕ) → Stands c (parallel_for program s.scope number site chunk it all body) from to
-          → Acts limit cuts program c f calls globals mains epar (calls_all f refl) x g parallel from to
+          → Acts limit cuts program c f calls globals mains epar (calls_all f (alike f)) x g parallel from to
       unfolding Rattle.ada_lower.specs.Emission.emit Rattle.ada_lower.specs.Emission.stmt
       parallel_for_does chunks wl wh from to (jn, st) =
           let s4 : Sight = taking 2 (taking 2 s) in
           let t : Sight = thread_sight site cs.frame s4 in
           let tb : Emit = Emission.threaded program t.scope 0 chunk (s.scope.free + 1 + 1) it body ⨟ one (chunk_sight chunk (taking 2 t)).scope 0 i.End in
-          let rest : Emit = ends_code (taking 2 r).scope 0 it ⨟ fork_code r.scope 0 2 site s.scope.free (one r.scope 4 (i.Push (pos 0))) tb ⨟ one r.scope 2 i.Unnest ⨟ left_code s4.scope number all in
+          let rest : Emit = ends_code (taking 2 r).scope 0 it ⨟ fork_code r.scope 0 2 (loop_kind chunk) site s.scope.free (one r.scope 4 (i.Push (pos 0))) tb ⨟ one r.scope 2 i.Unnest ⨟ left_code s4.scope number all in
           let goal : Unit {0} → Dyn → Step = λ _ d. on f to [] d in
           let (m1, lc, r1) = stands_seq c (from + 1) to (chunk_code program r.scope 0 chunk) (course_code program (taking 2 r).scope 0 it ⨟ rest) st in
           let (m2, lr, r2) = stands_seq c m1 to (course_code program (taking 2 r).scope 0 it) rest r1 in
           does_bind limit c f x (does_opened limit c f x cuts env [] nested (at_entry su.entry jn)) (λ _ _.
-          does_inside limit c f x fi refl (left_as_nested limit c f x)
+          does_inside limit c f x fi refl refl (left_as_nested limit c f x)
           (chunks (from + 1) m1 lc (λ k. stored.bind (Meaning.course oper limit program calls it (inside env)) (λ co. after_course k co)) goal (λ k cl ch told some few.
           let follows : (l u : ℤ) → Doing limit c fi x (g2 cl ch l u) (g1 cl ch) any (after_course k (record { count = Values.count l u; bound = λ i. Meaning.with_parameter p (cond false (u -ℤ pos i) (l +ℤ pos i)) })) (λ d. on fi m2 [] d) goal
           = λ l u. does_weak limit c fi x (λ stt d w. fit_uncount limit cuts c f (taking 2 s) l u (omega (arith, room)) (kn1 cl ch) stt d w)
-          (does_inside limit c fi x f refl left_as_back (ranged k cl ch l u told some few m2 to r2)) in
+          (does_inside limit c fi x f refl refl left_as_back (ranged k cl ch l u told some few m2 to r2)) in
           course_by limit cuts c fi x (taking 2 r) 0 p false (emit program (taking 2 r).scope 0 low) (emit program (taking 1 (taking 2 r)).scope 0 high) (Meaning.eval oper limit program calls low (inside env)) (Meaning.eval oper limit program calls high (inside env)) check (Emission.bounds_code (taking 2 r).scope 0 (s.scope.free + 2) check) none m1 m2 [] (λ co. after_course k co) (λ from to l. (to, l, refl)) (knows_nested (knows_forked ((kn1 cl ch)))) su.entry (omega (arith, room))
-          (λ from to l. value_does limit cuts program c fi x calls globals mains epar (calls_all fi refl) low from to (taking 2 r) 0 [] (knows_nested (knows_forked ((kn1 cl ch)))) su.entry wl l) (λ from to g' k' l. value_does limit cuts program c fi x calls globals mains epar (calls_all fi refl) high from to (taking 1 (taking 2 r)) 0 [] k' su.entry wh l) lr
+          (λ from to l. value_does limit cuts program c fi x calls globals mains epar (calls_all fi (alike f)) low from to (taking 2 r) 0 [] (knows_nested (knows_forked ((kn1 cl ch)))) su.entry wl l) (λ from to g' k' l. value_does limit cuts program c fi x calls globals mains epar (calls_all fi (alike f)) high from to (taking 1 (taking 2 r)) 0 [] k' su.entry wh l) lr
           (λ l u e. follows l u)
           (λ l u start e z. subst (λ a. Doing limit c fi x (g2 cl ch l u) (g1 cl ch) any (after_course k (record { count = Values.count l u; bound = λ i. Meaning.with_parameter p (cond false (u -ℤ pos i) (l +ℤ pos i)) })) (λ d. on fi a [] d) goal) z (follows l u)))))
 

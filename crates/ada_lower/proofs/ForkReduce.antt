@@ -1,5 +1,5 @@
 -- Parallel reductions by operators: the fork, the accumulators combined from the left, and what is behind.
-use Rattle.std.proofs.Common.{◌≡◌, ℕ, zero, suc, ◌+◌, ℤ, pos, negsuc, nat_le, List, [], ◌∷◌, ◌++◌, slice_get, Option, Some, None, Result, Ok, Err, Bool, true, false, ◌&&◌, refl, sym, ap, ap₂, ◌∙◌, subst}
+use Rattle.std.proofs.Common.{◌≡◌, ℕ, zero, suc, ◌+◌, ℤ, pos, negsuc, nat_le, List, [], ◌∷◌, ◌++◌, slice_get, Option, Some, None, Result, Ok, Err, Bool, true, false, ◌&&◌, refl, sym, ap, ap₂, ◌∙◌, subst, is_some}
 use Rattle.ada_base.specs.declared.operation.Op.{Op}
 use Rattle.ada_base.specs.declared.operation.Op.TheVariants as op
 use Rattle.ada_base.specs.declared.reason.Reason.TheVariants as reason
@@ -13,7 +13,7 @@ use Rattle.ada_meaning.specs.Operations.{Operations, operate}
 use Rattle.ada_meaning.specs.Stored as stored
 use Rattle.ada_meaning.specs.Stored.{Stored, Cause, OutOfTurns, NoRoom, CutOff, Misnoted}
 use Rattle.ada_meaning.specs.Meaning
-use Rattle.ada_meaning.specs.Meaning.{most_iterations}
+use Rattle.ada_meaning.specs.Meaning.{most_iterations, Env}
 use Rattle.stack_code.specs.declared.code.Code.{Code}
 use Rattle.stack_code.specs.declared.code.CodeSite.{CodeSite}
 use Rattle.stack_code.specs.declared.instr.Instr.TheVariants as i
@@ -25,13 +25,16 @@ use Rattle.stack_code.specs.Deeds
 use Rattle.stack_code.specs.Deeds.{can_fork, asked, many}
 use Rattle.ada_lower.specs.Driven
 use Rattle.ada_lower.specs.Driven.{Dyn, Fixed, Step, on, thrown, sizes_for, answer_of, fork_end, state_of, op_applied, onto_by, combined_by, At}
-use Rattle.ada_lower.specs.Fits.{Ghost, Allows, Ends, left_by, Land, Lands}
+use Rattle.ada_lower.specs.Fits.{Ghost, Allows, Ends, left_by, Land, Lands, Asks, Knows}
 use Rattle.ada_lower.specs.Forks.{ThreadDoes}
-use Rattle.ada_lower.proofs.Framework.{any, To, comes_here, comes_on, comes_goes, does_bind, allows_split}
+use Rattle.ada_lower.proofs.Framework.{any, To, comes_here, comes_on, comes_goes, does_bind, allows_split, asks_split, leads_on}
 use Rattle.ada_lower.proofs.Parts.{Runs, made, outcome, operate_is, bit_same, truth_same}
 use Rattle.ada_lower.proofs.ForkSteps.{keeping, fork_ends, MayEnd, operands, comes_too_many, comes_left, resumes, fork_lands}
 use Rattle.ada_lower.proofs.ForkInside.{nested_in, left_as_kept, left_as_nested, does_unless, comes_unnest}
-use Rattle.ada_lower.proofs.ForkFor.{Every, all_do}
+use Rattle.ada_lower.proofs.ForkFor.{Every, all_do, every_among}
+use Rattle.ada_lower.proofs.ForkFine.{Lends, views_of}
+use Rattle.ada_lower.specs.ForkViews.{view_ghost, Apart}
+use Rattle.ada_lower.specs.Sights.{Sight}
 
 -- ---- the operator that combines is the language's
 
@@ -133,7 +136,9 @@ module _ (limit : ℕ) (cuts : ℕ → ℕ → List ℕ) (c : Code) (f : Fixed) 
 
   module _ (folded : (vs : List ℤ) → answer_of c cs.kind q (gave.Numbers vs) ≡ combined_by c (Some (record { op = o; base = base_of class })) initial vs)
       (some : nat_le 1 (many chunk last_chunk) ≡ true) (few_threads : nat_le (many chunk last_chunk) 4096 ≡ true)
-      (team : Site) (body : Share → Stored ℤ) (ok : Share → Type 0) (threads : (j : Share) → ok j → ThreadDoes limit c OnlyRaises h fi cs q (λ a. Some a) j (body j)) where
+      (team : Site) (body : Share → Stored ℤ) (ok : Share → Type 0) (threads : (j : Share) → ok j → ThreadDoes limit c OnlyRaises h fi cs q (λ a. Some a) j (body j))
+      {sh : Sight} {eh : Env} (knows : Knows limit cuts h fi sh eh) (lends : Lends fi h cs q team (deal 0 0 (sizes_for h.plan cs.kind q)))
+      (seen : (owner : ℕ → Option ℕ) → Apart h owner → (j : Share) → ok j → ThreadDoes limit c OnlyRaises (view_ghost owner j.number h) fi cs q (λ a. Some a) j (body j)) where
     result_is : (vs : List ℤ) (s : stored.State) → (result vs).does s ≡ stored.at s (outcome (combined_result o class initial vs))
     unfolding stored.ret
     result_is [] s = refl
@@ -143,26 +148,26 @@ module _ (limit : ℕ) (cuts : ℕ → ℕ → List ℕ) (c : Code) (f : Fixed) 
     Ended s d t e = Lands limit c f x any h (from_fork d) s.turns to_end t e
 
     -- the result is on the stack, or Constraint_Error is raised
-    ends : (s : stored.State) (d : Dyn) (t : stored.State) (vs : List ℤ) → Land limit c h (from_fork d) s.turns t (answered vs) → (e : Option ℤ) → combined_result o class initial vs ≡ e → Ended s d t (outcome e)
+    ends : (s : stored.State) (d : Dyn) (t : stored.State) (vs : List ℤ) → Land limit c (is_some f.asked) h (from_fork d) s.turns t (answered vs) → (e : Option ℤ) → combined_result o class initial vs ≡ e → Ended s d t (outcome e)
     ends s d t vs l (Some v) is = (
       tt,
       record {
         dyn = l.dyn;
         fit = l.fit;
         grows = l.grows;
-        comes = comes_on limit c l.comes
+        comes = leads_on limit c l.comes
             (subst (λ y. To limit c (fork_end c (Ok y) l.dyn (state_of fi qf st [] None l.dyn)) (to_end v l.dyn)) (sym (folded vs ∙ combined_gave c o class initial vs ∙ ap gave_so is))
             (subst (λ y. To limit c y (to_end v l.dyn)) (sym (resumes limit c fi st (gave.Numbers (v ∷ [])) l.dyn l.dyn fork))
-            (comes_on limit c (comes_goes limit c (keeping [] fi) (v ∷ st) past (v ∷ st) l.dyn jump refl) (comes_unnest limit c f x (v ∷ st) l.dyn kept unnest))));
+            (comes_on limit c (comes_goes limit c (keeping [] fi) (v ∷ st) past (v ∷ st) l.dyn jump refl) (comes_unnest limit c f x (v ∷ st) l.dyn kept unnest))) _);
       },
     )
     ends s d t vs l None is = record {
       dyn = l.dyn;
       fit = l.fit;
       grows = l.grows;
-      comes = comes_on limit c l.comes
+      comes = leads_on limit c l.comes
           (subst (λ y. To limit c (fork_end c (Ok y) l.dyn (state_of fi qf st [] None l.dyn)) (thrown reason.ConstraintError x.entry f l.dyn)) (sym (folded vs ∙ combined_gave c o class initial vs ∙ ap gave_so is))
-          (comes_on limit c (comes_left limit c fi st (Raises reason.ConstraintError) l.dyn l.dyn fork) (left_as_kept limit c f x [] kept (Raises reason.ConstraintError) l.dyn)));
+          (comes_on limit c (comes_left limit c fi st (Raises reason.ConstraintError) l.dyn l.dyn fork) (left_as_kept limit c f x [] kept (Raises reason.ConstraintError) l.dyn)) _);
     }
 
     folds : (b vs : List ℤ) (a : ℤ) → b ≡ vs → stored.after_all b a ≡ vs ++ (a ∷ [])
@@ -179,16 +184,18 @@ module _ (limit : ℕ) (cuts : ℕ → ℕ → List ℕ) (c : Code) (f : Fixed) 
       unfolding stored.bind
       combined_does can = record {
         by = λ s d w al.
-            let (a1, a2) = allows_split limit c f x h ((stored.noted_team team stored.after_all [] js body).touches s) _ al in
+            let (a1, a2) = asks_split limit c f x h ((stored.noted_team team stored.after_all [] js body).touches s) _ ((stored.noted_team team stored.after_all [] js body).visits s) _ al in
             let r = (stored.noted_team team stored.after_all [] js body).does s in
             after s d r.state r.end (subst (λ z. let r = (stored.noted_team team stored.after_all [] z body).does s in Lands limit c (keeping [] fi) (fork_ends fi qf st x.entry) any h (from_fork d) s.turns answered r.state r.end × MayEnd OnlyRaises r.end) (sym dealt)
             (fork_lands limit c fi h cs site first last chunk last_chunk initial OnlyRaises {A = ℤ} (λ a. Some a) {B = List ℤ} (λ b vs. b ≡ vs) stored.after_all folds team body
-            st answered fork site_at can answers d (all_do limit c fi h cs q qf st d OnlyRaises {A = ℤ} (λ a. Some a) body ok threads (deal 0 0 (sizes_for h.plan cs.kind q)) oks)
-            s w [] refl (subst (λ z. Allows h ((stored.noted_team team stored.after_all [] z body).touches s)) dealt a1)));
+            st answered fork site_at can answers d knows
+            (views_of limit c fi h cs q qf st d OnlyRaises {A = ℤ} (λ a. Some a) {B = List ℤ} stored.after_all body team (deal 0 0 (sizes_for h.plan cs.kind q)) lends (λ owner apart j among. seen owner apart j (every_among ok (deal 0 0 (sizes_for h.plan cs.kind q)) j oks among)))
+            (all_do limit c fi h cs q qf st d OnlyRaises {A = ℤ} (λ a. Some a) body ok threads (deal 0 0 (sizes_for h.plan cs.kind q)) oks)
+            s w [] refl (subst (λ z. Asks f h ((stored.noted_team team stored.after_all [] z body).touches s) ((stored.noted_team team stored.after_all [] z body).visits s)) dealt a1)));
       }
         where
-          left : (s : stored.State) (d : Dyn) (t : stored.State) (l : Leave) → OnlyRaises l → Land limit c h (from_fork d) s.turns t (λ d. left_by (keeping [] fi) (fork_ends fi qf st x.entry) l d) → Land limit c h (from_fork d) s.turns t (λ d. left_by f x l d)
-          left s d t (Raises r) m l = record { dyn = l.dyn; fit = l.fit; grows = l.grows; comes = comes_on limit c l.comes (left_as_kept limit c f x [] kept (Raises r) l.dyn) }
+          left : (s : stored.State) (d : Dyn) (t : stored.State) (l : Leave) → OnlyRaises l → Land limit c (is_some f.asked) h (from_fork d) s.turns t (λ d. left_by (keeping [] fi) (fork_ends fi qf st x.entry) l d) → Land limit c (is_some f.asked) h (from_fork d) s.turns t (λ d. left_by f x l d)
+          left s d t (Raises r) m l = record { dyn = l.dyn; fit = l.fit; grows = l.grows; comes = leads_on limit c l.comes (left_as_kept limit c f x [] kept (Raises r) l.dyn _) }
           left s d t (Exits n) m l = absurd m
           left s d t (Returns v) m l = absurd m
 
@@ -199,7 +206,7 @@ module _ (limit : ℕ) (cuts : ℕ → ℕ → List ℕ) (c : Code) (f : Fixed) 
           after s d t (Err OutOfTurns) (l, m) = l
           after s d t (Err CutOff) (l, m) = l
           after s d t (Err NoRoom) l = tt
-          after s d t (Err Misnoted) l = tt
+          after s d t (Err Misnoted) (l, m) = l
 
       abbrev oper : Operations {1}
       oper = stored.noted_operations limit cuts

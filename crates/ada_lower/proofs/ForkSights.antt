@@ -2,13 +2,13 @@
 use Rattle.std.proofs.Common.{◌≡◌, ℕ, zero, suc, ◌+◌, ℤ, pos, List, [], ◌∷◌, length, slice_get, nat_eq, Option, Some, None, Bool, true, false, cond, refl, sym, ap, ap₂, ◌∙◌, subst, arith, ◌⊎◌, inl, inr}
 use Rattle.behaviours.specs.Paths.{Entity, VariableOf, ConstantOf}
 use Rattle.ada_meaning.specs.Stored as stored
-use Rattle.ada_meaning.specs.Stored.{Touch, Place}
+use Rattle.ada_meaning.specs.Stored.{Touch, Address}
 use Rattle.ada_meaning.specs.Meaning.{Env}
 use Rattle.ada_meaning.proofs.Cells.{some_same}
 use Rattle.ada_base.specs.Cells.{Cell, Gone, Seen, Mine, value_in}
 use Rattle.ada_lower.specs.Driven.{Dyn, Fixed}
 use Rattle.ada_lower.specs.Sights.{Named, Sight, Where}
-use Rattle.ada_lower.specs.Fits.{What, Other, Free, Keeps, Shows, Access, Barred, Readable, Full, Bears, Right, allows, Allowed, Allows, Ghost, Fit, IsNumber, Leads, Refers, Knows, Stands as StandsFor}
+use Rattle.ada_lower.specs.Fits.{What, Other, Free, Keeps, Shows, Access, Barred, Readable, Full, Bears, Right, allows, Allowed, Allows, Ghost, Fit, IsNumber, Leads, Refers, Knows, Stands as StandsFor, Spread}
 use Rattle.ada_lower.specs.ForkViews.{access_by, lesser, view_what, view_cell, viewed, view_of, view_ghost, no_free, TouchFits, TouchesFit, Apart}
 use Rattle.ada_lower.proofs.Memory.{at_same}
 
@@ -82,6 +82,7 @@ module _ (owner : ℕ → Option ℕ) (j : ℕ) where
     least = w.least;
     most = w.most;
     plan = w.plan;
+    order = w.order;
     top = length_viewed (λ a. access_by (owner a) j) 0 d.cells ∙ w.top;
     agrees = record { turns = w.agrees.turns; left = w.agrees.left; taken = w.agrees.taken; held = w.agrees.held; input = w.agrees.input; output = w.agrees.output; notes = w.agrees.notes };
     cells = λ a. right_view (λ a. access_by (owner a) j) s d.cells a (g.what a) (w.cells a);
@@ -89,14 +90,14 @@ module _ (owner : ℕ → Option ℕ) (j : ℕ) where
 
   -- and what is known of names
   module _ {limit : ℕ} {cuts : ℕ → ℕ → List ℕ} {g : Ghost} {f : Fixed} {s : Sight} {env : Env} (k : Knows limit cuts g f s env) (apart : Apart g owner) where
-    number_view : (a : ℕ) (v : ℤ) → IsNumber (g.what a) v → IsNumber ((view_ghost owner j g).what a) v
+    pub number_view : (a : ℕ) (v : ℤ) → IsNumber (g.what a) v → IsNumber ((view_ghost owner j g).what a) v
     number_view a v (inl e) = inr (ap₂ (λ o w. view_what (access_by o j) w) (apart.keeps a v e) e)
     number_view a v (inr e) = inr (ap₂ (λ o w. view_what (access_by o j) w) (apart.shows a v e) e)
 
-    stands_view : (a : ℕ) (x : Access) (p : Place) → g.what a ≡ StandsFor x p → (view_ghost owner j g).what a ≡ StandsFor (lesser x (access_by (owner a) j)) p
+    pub stands_view : (a : ℕ) (x : Access) (p : Address) → g.what a ≡ StandsFor x p → (view_ghost owner j g).what a ≡ StandsFor (lesser x (access_by (owner a) j)) p
     stands_view a x p e = ap (λ w. view_what (access_by (owner a) j) w) e
 
-    stood : (y : Access) (w : What) (x : Access) (p : Place) → view_what y w ≡ StandsFor x p → (z : Access) × (w ≡ StandsFor z p)
+    stood : (y : Access) (w : What) (x : Access) (p : Address) → view_what y w ≡ StandsFor x p → (z : Access) × (w ≡ StandsFor z p)
     stood y Other x p e = absurd (let h : Other ≡ StandsFor x p = e in cc)
     stood y Free x p e = absurd (let h : Other ≡ StandsFor x p = e in cc)
     stood Barred (Keeps v) x p e = absurd (let h : Other ≡ StandsFor x p = e in cc)
@@ -110,6 +111,9 @@ module _ (owner : ℕ → Option ℕ) (j : ℕ) where
     leads_view : (t : Bool) (w : Where) (b : ℕ) → Leads t g f w b → Leads t (view_ghost owner j g) f w b
     leads_view true w b (a, is, num) = (a, is, number_view a (pos b) num)
     leads_view false w b is = is
+
+    pub spread_view : (x : Entity) (first count address : ℕ) → Spread g x first count address → Spread (view_ghost owner j g) x first count address
+    spread_view x first count address r = record { cell = λ i lt. let (p, y, e, z) = r.cell i lt in (p, lesser y (access_by (owner (address + i)) j), e, stands_view (address + i) y p z) }
 
     refers_view : (n : Named) (x : Entity) (first : ℕ) → Refers g f n x first → Refers (view_ghost owner j g) f n x first
     refers_view n x first r = record {
@@ -142,14 +146,21 @@ module _ (owner : ℕ → Option ℕ) (j : ℕ) where
 
     -- ---- what it touches is allowed
 
-    allowed_view : (t : Touch) → TouchFits g owner j t → Allowed (view_ghost owner j g) t
-    allowed_view t fits a x e =
+    -- what may be done by both may be done by the lesser
+    allows_lesser : (x y : Access) (b : Bool) → allows x b ≡ true → allows y b ≡ true → allows (lesser x y) b ≡ true
+    allows_lesser Barred y b e e' = e
+    allows_lesser Readable Barred b e e' = e'
+    allows_lesser Readable Readable b e e' = e
+    allows_lesser Readable Full b e e' = e
+    allows_lesser Full y b e e' = e'
+
+    allowed_view : (t : Touch) → Allowed g t → TouchFits g owner j t → Allowed (view_ghost owner j g) t
+    allowed_view t may fits a x e =
         let (z, h) = stood (access_by (owner a) j) (g.what a) x t.place e in
-        let full : z ≡ Full = apart.full a z t.place h in
         let (own, other) = fits a z h in
         let same : StandsFor (lesser z (access_by (owner a) j)) t.place ≡ StandsFor x t.place = sym (stands_view a z t.place h) ∙ e in
         let is : lesser z (access_by (owner a) j) ≡ x = cc in
-        subst (λ x. allows x t.writes ≡ true) (ap (λ z. lesser z (access_by (owner a) j)) (sym full) ∙ is) (go t.writes (owner a) own other)
+        subst (λ x. allows x t.writes ≡ true) is (allows_lesser z (access_by (owner a) j) t.writes (may a z h) (go t.writes (owner a) own other))
       where
         here : (l : ℕ) → l ≡ j → access_by (Some l) j ≡ Full
         here l e = ap (λ b. cond b Full Barred) (ap (λ m. nat_eq m j) e ∙ at_same j)
@@ -160,6 +171,6 @@ module _ (owner : ℕ → Option ℕ) (j : ℕ) where
         go false None own other = refl
         go false (Some l) own other = ap (λ y. allows y false) (here l (other refl l refl))
 
-    pub allows_view : (ts : List Touch) → TouchesFit g owner j ts → Allows (view_ghost owner j g) ts
-    allows_view [] fits = tt
-    allows_view (t ∷ ts) fits = (allowed_view t fits.0, allows_view ts fits.1)
+    pub allows_view : (ts : List Touch) → Allows g ts → TouchesFit g owner j ts → Allows (view_ghost owner j g) ts
+    allows_view [] al fits = tt
+    allows_view (t ∷ ts) al fits = (allowed_view t al.0 fits.0, allows_view ts al.1 fits.1)

@@ -1,6 +1,6 @@
 -- Parallel reductions by any reducer, over ranges and over the components of an array, by what is done in a turn and what
 -- combines the accumulators.
-use Rattle.std.proofs.Common.{◌≡◌, ℕ, suc, ◌+◌, ◌*◌, ◌<◌, ◌≤◌, ℤ, pos, ◌+ℤ◌, ◌-ℤ◌, nat_le, List, [], ◌∷◌, slice_get, Option, Some, Err, Bool, true, false, cond, refl, sym, ap, ap₂, ◌∙◌, subst, le_refl, arith}
+use Rattle.std.proofs.Common.{◌≡◌, ℕ, suc, ◌+◌, ◌*◌, ◌<◌, ◌≤◌, ℤ, pos, ◌+ℤ◌, ◌-ℤ◌, nat_le, List, [], ◌∷◌, slice_get, Option, Some, Err, Bool, true, false, cond, refl, sym, ap, ap₂, ◌∙◌, subst, le_refl, arith, inl}
 use Rattle.ada_base.specs.declared.reason.Reason.TheVariants as reason
 use Rattle.behaviours.specs.Doings.{through, folded}
 use Rattle.behaviours.specs.Joins.{Site, Share, deal}
@@ -14,14 +14,15 @@ use Rattle.ada_meaning.specs.Operations.{chunk_of, Operations, reduce}
 use Rattle.ada_meaning.specs.Stored as stored
 use Rattle.ada_meaning.specs.Stored.{Stored}
 use Rattle.ada_meaning.specs.Meaning
-use Rattle.ada_meaning.specs.Meaning.{Env, Part, Passed, Returned, Chunking, Course, inside, most_iterations, value_cut_of}
+use Rattle.ada_meaning.specs.Meaning.{Env, ObjectPart, Passed, Returned, Chunking, Course, inside, most_iterations, value_cut_of}
 use Rattle.stack_code.specs.declared.code.Code.{Code}
 use Rattle.stack_code.specs.declared.code.CodeSite.{CodeSite}
 use Rattle.stack_code.specs.declared.instr.Instr.TheVariants as i
 use Rattle.stack_code.specs.declared.path.Asked.{Asked}
 use Rattle.stack_code.specs.Deeds
 use Rattle.stack_code.specs.Deeds.{many}
-use Rattle.ada_lower.specs.Driven.{Dyn, Fixed, Step, on, thrown, sizes_for, At}
+use Rattle.ada_lower.specs.Driven.{Dyn, Fixed, Step, on, thrown, sizes_for, At, Alike}
+use Rattle.ada_lower.proofs.Alike.{alike}
 use Rattle.ada_lower.specs.Sights.{Emit, Named, Scope, Sight, Stands, array_root_of, chunk_sight, nested_sight, none, one, taking, thread_sight, turn_sight, ◌⨟◌}
 use Rattle.ada_lower.specs.Emission
 use Rattle.ada_lower.specs.Emission.{emit, reduction_kind, chunk_code, course_code, ends_code, fork_code, filtered, combined}
@@ -48,6 +49,9 @@ use Rattle.ada_lower.proofs.ForkItems.{fold_items_thread}
 use Rattle.ada_lower.proofs.ForkChunks.{chunk_does}
 use Rattle.ada_lower.proofs.ForkOf.{many_is, knows_two, array_does}
 use Rattle.ada_lower.proofs.ForkReduce.{OnlyRaises}
+use Rattle.ada_lower.proofs.ForkFine.{Lends}
+use Rattle.ada_lower.specs.ForkViews.{view_ghost, no_free, Apart}
+use Rattle.ada_lower.proofs.ForkSights.{knows_view, number_view, spread_view}
 
 -- it is dealt alike
 sizes_same : (limit : ℕ) (cuts : ℕ → ℕ → List ℕ) (by : Reducer) (chunk : Chunk) (first last l u initial : ℤ) (count : ℕ) (k : Chunking) (site : ℕ) → many l u ≡ count → Chunks chunk first last k
@@ -57,12 +61,12 @@ sizes_same limit cuts by (Count z) first last l u initial count k site same e = 
 sizes_same limit cuts by (Each n low high check) first last l u initial count k site same e =
     ap (λ k. stored.sizes_of limit cuts (value_cut_of k count)) e ∙ ap (λ n. Values.without_zeros (Rattle.ada_base.specs.Cuts.evens n (many first last))) (sym same)
 
-numbered : (chunk : Chunk) (first last : ℤ) (k : Chunking) (n j : ℕ) → Chunks chunk first last k → Numbered chunk (chunk_of (value_cut_of k n) j) j
+pub numbered : (chunk : Chunk) (first last : ℤ) (k : Chunking) (n j : ℕ) → Chunks chunk first last k → Numbered chunk (chunk_of (value_cut_of k n) j) j
 numbered NoChunk first last k n j e = tt
 numbered (Count z) first last k n j e = tt
 numbered (Each kc low high check) first last k n j e = ap (λ k. chunk_of (value_cut_of k n) j) e
 
-module _ (limit : ℕ) (cuts : ℕ → ℕ → List ℕ) (program : Program) (c : Code) (f : Fixed) (calls : ℕ → ℕ → Stored (Unit {0}) → List Passed → Stored Returned) (globals : ℕ → Entity → Option Named) (mains : Entity → Bool) (epar : Sight → Expr → Type 0) (calls_all : (f' : Fixed) → f'.calls ≡ f.calls → InnerDo limit cuts program globals mains epar c f' calls)
+module _ (limit : ℕ) (cuts : ℕ → ℕ → List ℕ) (program : Program) (c : Code) (f : Fixed) (calls : ℕ → ℕ → Stored (Unit {0}) → List Passed → Stored Returned) (globals : ℕ → Entity → Option Named) (mains : Entity → Bool) (epar : Sight → Expr → Type 0) (calls_all : (f' : Fixed) → Alike f' f → InnerDo limit cuts program globals mains epar c f' calls)
     (x : Ends) (g : Ghost) (env : Env) (s : Sight) (kn : Knows limit cuts g f s env) (en : s.scope.entry ≡ x.entry) (room : s.scope.free + 3 < s.cells) (ht : ℕ) (st : List ℤ)
     (chunk : Chunk) (by : Reducer) (attribute : ℕ) (cs : CodeSite) (site : ℕ) (site_at : slice_get c.sites site ≡ Some cs) (kind : cs.kind ≡ reduction_kind by chunk) (four : 4 ≤ cs.frame) (entry : (qf : ℕ) → slice_get c.instrs qf ≡ Some (i.Fork site) → cs.entry ≡ qf + 1 + 1)
     (initial : Expr) (values : Env → Stored (Option ℤ)) where
@@ -125,6 +129,8 @@ module _ (limit : ℕ) (cuts : ℕ → ℕ → List ℕ) (program : Program) (c 
   abbrev pub Finish : Type 1
   Finish = (gg : Ghost) → Knows limit cuts gg f s5 env → (l u cl ch start : ℤ) (qf past to : ℕ) → At c (qf + 1) (i.Jump past) x.entry → At c past i.Unnest x.entry → Stands c (combined s.scope (ht + 1) by) (past + 1) to → At c qf (i.Fork site) x.entry
       → nat_le 1 (many cl ch) ≡ true → nat_le (many cl ch) 4096 ≡ true → (team : Site) (body : Share → Stored ℤ) (ok : Share → Type 0) → ((j : Share) → ok j → ThreadDoes limit c OnlyRaises gg fi cs (Deeds.asked site l u cl ch start) (λ a. Some a) j (body j))
+      → Lends fi gg cs (Deeds.asked site l u cl ch start) team (deal 0 0 (sizes_for gg.plan cs.kind (Deeds.asked site l u cl ch start)))
+      → ((owner : ℕ → Option ℕ) → Apart gg owner → (j : Share) → ok j → ThreadDoes limit c OnlyRaises (view_ghost owner j.number gg) fi cs (Deeds.asked site l u cl ch start) (λ a. Some a) j (body j))
       → (js : List Share) → js ≡ deal 0 0 (sizes_for gg.plan cs.kind (Deeds.asked site l u cl ch start)) → Every ok (deal 0 0 (sizes_for gg.plan cs.kind (Deeds.asked site l u cl ch start)))
       → Runs limit c f x gg any (stored.bind (Meaning.unless oper (nat_le (many l u) most_iterations) reason.StorageError) (λ _. stored.bind (stored.noted_team team stored.after_all [] js body) (λ accs. stored.combined limit cuts start accs combining)))
       (λ d. on fi qf (operands limit c fi l u cl ch start st) d) (λ v d. on f to (v ∷ st) d)
@@ -133,12 +139,14 @@ module _ (limit : ℕ) (cuts : ℕ → ℕ → List ℕ) (program : Program) (c 
     -- from the first and the last on the stack on
     core : (it : Iteration) (co : Course) (l u : ℤ) → many l u ≡ co.count → (gg : Ghost) → Knows limit cuts gg f s5 env → gg.plan ≡ cuts → (start cl ch : ℤ) (k : Chunking) → Chunks chunk cl ch k → nat_le 1 (many cl ch) ≡ true → nat_le (many cl ch) 4096 ≡ true
         → gg.what (f.base + s.scope.free) ≡ Keeps start → gg.what (f.base + s1.scope.free) ≡ Keeps cl → gg.what (f.base + (s1.scope.free + 1)) ≡ Keeps ch → (tb : Emit) (m3 to : ℕ)
-        → Stands c (fork_code r.scope ht (ht + 1) site (s.scope.free + 1) (one r.scope (ht + 1 + 1 + 1 + 1) (i.LoadL s.scope.free)) tb ⨟ one r.scope (ht + 1) i.Unnest ⨟ combined s.scope (ht + 1) by) m3 to
+        → Stands c (fork_code r.scope ht (ht + 1) (reduction_kind by chunk) site (s.scope.free + 1) (one r.scope (ht + 1 + 1 + 1 + 1) (i.LoadL s.scope.free)) tb ⨟ one r.scope (ht + 1) i.Unnest ⨟ combined s.scope (ht + 1) by) m3 to
         → (ok : Share → Type 0) → Every ok (deal 0 0 (sizes_for gg.plan cs.kind (Deeds.asked site l u cl ch start)))
         → ((m4 : ℕ) → Stands c tb cs.entry m4 → (j : Share) → ok j → ThreadDoes limit c OnlyRaises gg fi cs (Deeds.asked site l u cl ch start) (λ z. Some z) j (thread_of co start k j))
+        → Lends fi gg cs (Deeds.asked site l u cl ch start) (Meaning.site_at site chunk it (value_cut_of k co.count) k co (inside env)) (deal 0 0 (sizes_for gg.plan cs.kind (Deeds.asked site l u cl ch start)))
+        → ((m4 : ℕ) → Stands c tb cs.entry m4 → (owner : ℕ → Option ℕ) → Apart gg owner → (j : Share) → ok j → ThreadDoes limit c OnlyRaises (view_ghost owner j.number gg) fi cs (Deeds.asked site l u cl ch start) (λ z. Some z) j (thread_of co start k j))
         → Runs limit c f x gg any (after_course it start k co) (λ d. on fi m3 (u ∷ l ∷ st) d) (λ v d. on f to (v ∷ st) d)
-    core it co l u counted gg kg plan start cl ch k told some few e0 e1 e2 tb m3 to stands ok oks threads =
-        let (m4, (jd0, (jd1, (jp, (jf, lb)))), (ju, lz)) = stands_seq c m3 to (fork_code r.scope ht (ht + 1) site (s.scope.free + 1) (one r.scope (ht + 1 + 1 + 1 + 1) (i.LoadL s.scope.free)) tb) (one r.scope (ht + 1) i.Unnest ⨟ combined s.scope (ht + 1) by) stands in
+    core it co l u counted gg kg plan start cl ch k told some few e0 e1 e2 tb m3 to stands ok oks threads lends seen =
+        let (m4, (jd0, (jd1, (jp, (jf, lb)))), (ju, lz)) = stands_seq c m3 to (fork_code r.scope ht (ht + 1) (reduction_kind by chunk) site (s.scope.free + 1) (one r.scope (ht + 1 + 1 + 1 + 1) (i.LoadL s.scope.free)) tb) (one r.scope (ht + 1) i.Unnest ⨟ combined s.scope (ht + 1) by) stands in
         let (jj, bd) = stands_behind c (m3 + 1 + 1 + 1 + 1) m4 r.scope (ht + 1) tb lb in
         let q : Asked = Deeds.asked site l u cl ch start in
         does_by limit c f x (λ w d z.
@@ -150,6 +158,7 @@ module _ (limit : ℕ) (cuts : ℕ → ℕ → List ℕ) (program : Program) (c 
         (λ accs. stored.combined limit cuts start accs combining))) (λ d. on fi (m3 + 1 + 1 + 1) (start ∷ ch ∷ cl ∷ u ∷ l ∷ st) d) (λ v d. on f to (v ∷ st) d)) counted
         (finish gg kg l u cl ch start (m3 + 1 + 1 + 1) m4 to (at_entry en jj) (at_entry en ju) lz (at_entry en jf) some few (Meaning.site_at site chunk it (value_cut_of k co.count) k co (inside env)) (thread_of co start k) ok
         (threads m4 (subst (λ a. Stands c tb a m4) (sym (entry (m3 + 1 + 1 + 1) (itself refl jf))) bd))
+        lends (seen m4 (subst (λ a. Stands c tb a m4) (sym (entry (m3 + 1 + 1 + 1) (itself refl jf))) bd))
         (deal 0 0 (stored.sizes_of limit cuts (value_cut_of k co.count)))
         (ap (deal 0 0) (sizes_same limit cuts by chunk cl ch l u start co.count k site counted told ∙ ap₂ (λ pl kd. sizes_for pl kd q) (sym plan) (sym kind))) oks))
 
@@ -167,11 +176,11 @@ module _ (limit : ℕ) (cuts : ℕ → ℕ → List ℕ) (program : Program) (c 
         let free1 = kn.free s.scope.free (le_refl s.scope.free) (let z : s.scope.free < s.cells = omega (arith, room) in z) in
         let (m0, li, (jk, (jn, r0))) = stands_seq c from to (emit program s.scope ht initial) (Emission.keep s.scope (ht + 1) s.scope.free ⨟ one s.scope ht i.Nest ⨟ chunk_code program r.scope ht chunk ⨟ rest) stands in
         let (m1, lc, r1) = stands_seq c (m0 + 1 + 1) to (chunk_code program r.scope ht chunk) rest r0 in
-        does_bind limit c f x (value_does limit cuts program c f x calls globals mains epar (calls_all f refl) initial from m0 s ht st kn en wi li) (λ start _.
+        does_bind limit c f x (value_does limit cuts program c f x calls globals mains epar (calls_all f (alike f)) initial from m0 s ht st kn en wi li) (λ start _.
         does_keep limit c f x m0 s.scope.free start st (own_free (g.what (f.base + s.scope.free)) free1) (at_entry en jk)
         (does_weak limit c f x (λ w d z. fit_unset (f.base + s.scope.free) start free1 z)
         (does_bind limit c f x (does_opened limit c f x cuts env st kn.nested (at_entry en jn)) (λ _ _.
-        does_inside limit c f x fi refl (left_as_nested limit c f x)
+        does_inside limit c f x fi refl refl (left_as_nested limit c f x)
         (chunk_does limit cuts program c fi calls globals mains epar calls_all x (g0 start) (inside env) r (knows_nested (knows_forked (kn0 start))) en (omega (arith, room)) ht st ℤ chunk (m0 + 1 + 1) m1 lc wc
         (λ k. stored.bind (Meaning.course oper limit program calls it (inside env)) (λ co. after_course it start k co)) goal (λ k cl ch told some few. go start cl ch k m1 told some few r1))))))
 
@@ -206,16 +215,18 @@ module _ (limit : ℕ) (cuts : ℕ → ℕ → List ℕ) (program : Program) (c 
       tb = one t1.scope 0 (i.LoadL 1) ⨟ Emission.turns_code t1.scope 1 2 (one t1.scope 1 i.Turn ⨟ value turn.scope) ⨟ one t1.scope 1 i.EndV
 
       abbrev tail_code : Emit
-      tail_code = ends_code (taking 2 r).scope ht it ⨟ fork_code r.scope ht (ht + 1) site (s.scope.free + 1) (one r.scope (ht + 1 + 1 + 1 + 1) (i.LoadL s.scope.free)) tb ⨟ one r.scope (ht + 1) i.Unnest ⨟ combined s.scope (ht + 1) by
+      tail_code = ends_code (taking 2 r).scope ht it ⨟ fork_code r.scope ht (ht + 1) (reduction_kind by chunk) site (s.scope.free + 1) (one r.scope (ht + 1 + 1 + 1 + 1) (i.LoadL s.scope.free)) tb ⨟ one r.scope (ht + 1) i.Unnest ⨟ combined s.scope (ht + 1) by
 
-      module _ (step : (f' : Fixed) (fc : f'.calls ≡ f.calls) → f'.nested ≡ f.nested + 1 → (g' : Ghost) (env' : Env) (a : ℤ) (head mid : ℕ) → Knows limit cuts g' f' turn env' → Stands c (one t1.scope 1 i.Turn ⨟ value turn.scope) head mid
+      module _ (step : (f' : Fixed) (fc : Alike f' f) → f'.nested ≡ f.nested + 1 → (g' : Ghost) (env' : Env) (a : ℤ) (head mid : ℕ) → Knows limit cuts g' f' turn env' → Stands c (one t1.scope 1 i.Turn ⨟ value turn.scope) head mid
           → Runs limit c f' thread_ends g' any (turning env' a) (λ d. on f' head (a ∷ []) d) (λ b d. on f' mid (b ∷ []) d))
-          (leaves_so : (first size : ℕ) (start : ℤ) (envs : ℕ → Env) (w : stored.State) (l : Leave) → ((through stored.doings first size start (λ i a. turning (envs i) a)).does w).end ≡ Err (stored.Left l) → OnlyRaises l) where
+          (leaves_so : (first size : ℕ) (start : ℤ) (envs : ℕ → Env) (w : stored.State) (l : Leave) → ((through stored.doings first size start (λ i a. turning (envs i) a)).does w).end ≡ Err (stored.Left l) → OnlyRaises l)
+          (lends : (start cl ch l u : ℤ) (k : Chunking) → Chunks chunk cl ch k → (gg : Ghost) → Knows limit cuts gg (nested_in f) s5 (inside env)
+          → Lends (nested_in f) gg cs (Deeds.asked site l u cl ch start) (Meaning.site_at site chunk it (value_cut_of k (Values.count l u)) k (course_of l u) (inside env)) (deal 0 0 (sizes_for gg.plan cs.kind (Deeds.asked site l u cl ch start)))) where
         ranged : (start cl ch l u : ℤ) (k : Chunking) → Chunks chunk cl ch k → nat_le 1 (many cl ch) ≡ true → nat_le (many cl ch) 4096 ≡ true → (m2 to : ℕ) → Stands c tail_code m2 to
             → Runs limit c f x (g2 start cl ch l u) any (after_course it start k (course_of l u)) (λ d. on fi m2 st d) (λ v d. on f to (v ∷ st) d)
         unfolding Rattle.ada_lower.specs.Emission.emit
         ranged start cl ch l u k told some few m2 to stands =
-            let rest : Emit = fork_code r.scope ht (ht + 1) site (s.scope.free + 1) (one r.scope (ht + 1 + 1 + 1 + 1) (i.LoadL s.scope.free)) tb ⨟ one r.scope (ht + 1) i.Unnest ⨟ combined s.scope (ht + 1) by in
+            let rest : Emit = fork_code r.scope ht (ht + 1) (reduction_kind by chunk) site (s.scope.free + 1) (one r.scope (ht + 1 + 1 + 1 + 1) (i.LoadL s.scope.free)) tb ⨟ one r.scope (ht + 1) i.Unnest ⨟ combined s.scope (ht + 1) by in
             let (m3, (je1, (je2, ze)), r3) = stands_seq c m2 to (ends_code (taking 2 r).scope ht it) rest stands in
             let gg : Ghost = g2 start cl ch l u in
             does_by limit c f x (λ w d z.
@@ -229,7 +240,12 @@ module _ (limit : ℕ) (cuts : ℕ → ℕ → List ℕ) (program : Program) (c 
             tb m3 to r3 (λ j. Unit {0}) (every_one (deal 0 0 (sizes_for gg.plan cs.kind (Deeds.asked site l u cl ch start))))
             (λ m4 bd j _. fold_range_thread limit cuts program c fi calls globals mains epar calls_all gg s5 (inside env) (knows_forked (kn2 start cl ch l u)) site cs four p l u cl ch start chunk k told (chunk_of (value_cut_of k (Values.count l u)) j.number) j
             (numbered chunk cl ch k (Values.count l u) j.number told) OnlyRaises turning (value turn.scope) m4 bd
-            (λ g' env' a head mid kk ss. step (threaded fi gg.top) refl refl g' env' a head mid kk ss)
+            (λ g' env' a head mid kk ss. step (threaded fi gg.top) (alike f) refl g' env' a head mid kk ss)
+            (λ w e h. leaves_so j.first j.size start _ w e h))
+            (lends start cl ch l u k told gg (knows_forked (kn2 start cl ch l u)))
+            (λ m4 bd owner apart j _. fold_range_thread limit cuts program c fi calls globals mains epar calls_all (view_ghost owner j.number gg) (no_free s5) (inside env) (knows_view owner j.number (knows_forked (kn2 start cl ch l u)) apart) site cs four p l u cl ch start chunk k told (chunk_of (value_cut_of k (Values.count l u)) j.number) j
+            (numbered chunk cl ch k (Values.count l u) j.number told) OnlyRaises turning (value turn.scope) m4 bd
+            (λ g' env' a head mid kk ss. step (threaded fi gg.top) (alike f) refl g' env' a head mid kk ss)
             (λ w e h. leaves_so j.first j.size start _ w e h)))
 
         pub range_reduction_does : Fitted program globals mains epar s initial → FittedChunk program globals mains epar r chunk → Fitted program globals mains epar (taking 2 r) low → Fitted program globals mains epar (taking 1 (taking 2 r)) high → (from to : ℕ)
@@ -242,9 +258,9 @@ module _ (limit : ℕ) (cuts : ℕ → ℕ → List ℕ) (program : Program) (c 
             let goal : ℤ → Dyn → Step = λ v d. on f to (v ∷ st) d in
             let follows : (l u : ℤ) → Doing limit c fi x (g2 start cl ch l u) (g1 start cl ch) any (after_course it start k (course_of l u)) (λ d. on fi m2 st d) goal
             = λ l u. does_weak limit c fi x (λ w d z. fit_uncount limit cuts c f (taking 2 s1) l u (omega (arith, room4)) (kn1 start cl ch) w d z)
-            (does_inside limit c fi x f refl left_as_back (ranged start cl ch l u k told some few m2 to r2)) in
+            (does_inside limit c fi x f refl refl left_as_back (ranged start cl ch l u k told some few m2 to r2)) in
             course_by limit cuts c fi x (taking 2 r) ht p false (emit program (taking 2 r).scope ht low) (emit program (taking 1 (taking 2 r)).scope ht high) (Meaning.eval oper limit program calls low (inside env)) (Meaning.eval oper limit program calls high (inside env)) check (Emission.bounds_code (taking 2 r).scope ht (s1.scope.free + 2) check) none m1 m2 st (λ co. after_course it start k co) (λ from to l. (to, l, refl)) (knows_nested (knows_forked ((kn1 start cl ch)))) en (omega (arith, room4))
-            (λ from to l. value_does limit cuts program c fi x calls globals mains epar (calls_all fi refl) low from to (taking 2 r) ht st (knows_nested (knows_forked ((kn1 start cl ch)))) en wl l) (λ from to g' k' l. value_does limit cuts program c fi x calls globals mains epar (calls_all fi refl) high from to (taking 1 (taking 2 r)) ht st k' en wh l) lr
+            (λ from to l. value_does limit cuts program c fi x calls globals mains epar (calls_all fi (alike f)) low from to (taking 2 r) ht st (knows_nested (knows_forked ((kn1 start cl ch)))) en wl l) (λ from to g' k' l. value_does limit cuts program c fi x calls globals mains epar (calls_all fi (alike f)) high from to (taking 1 (taking 2 r)) ht st k' en wh l) lr
             (λ l u e. follows l u)
             (λ l u begin e z. subst (λ a. Doing limit c fi x (g2 start cl ch l u) (g1 start cl ch) any (after_course it start k (course_of l u)) (λ d. on fi a st d) goal) z (follows l u)))
 
@@ -260,7 +276,7 @@ module _ (limit : ℕ) (cuts : ℕ → ℕ → List ℕ) (program : Program) (c 
       abbrev pub item_value : Scope → Emit
       item_value u = filtered program u 1 filter (value0 u)
 
-      abbrev course_with : Part → Course
+      abbrev course_with : ObjectPart → Course
       course_with q = record { count = count; bound = λ i. Meaning.with_item constant p (Meaning.moved q (i * stride)) }
 
       abbrev ga : ℤ → ℤ → ℤ → ℕ → Ghost
@@ -277,15 +293,17 @@ module _ (limit : ℕ) (cuts : ℕ → ℕ → List ℕ) (program : Program) (c 
       tbi = one t1.scope 0 (i.LoadL 1) ⨟ Emission.items_code t1.scope 1 2 (s.scope.free + 1 + 1 + 1) stride count (one t1.scope 1 i.Turn ⨟ item_value item_turn.scope) ⨟ one t1.scope 1 i.EndV
 
       abbrev tail_items : Emit
-      tail_items = ends_code (taking 2 r).scope ht its ⨟ fork_code r.scope ht (ht + 1) site (s.scope.free + 1) (one r.scope (ht + 1 + 1 + 1 + 1) (i.LoadL s.scope.free)) tbi ⨟ one r.scope (ht + 1) i.Unnest ⨟ combined s.scope (ht + 1) by
+      tail_items = ends_code (taking 2 r).scope ht its ⨟ fork_code r.scope ht (ht + 1) (reduction_kind by chunk) site (s.scope.free + 1) (one r.scope (ht + 1 + 1 + 1 + 1) (i.LoadL s.scope.free)) tbi ⨟ one r.scope (ht + 1) i.Unnest ⨟ combined s.scope (ht + 1) by
 
-      module _ (step : (f' : Fixed) (fc : f'.calls ≡ f.calls) → f'.nested ≡ f.nested + 1 → (g' : Ghost) (env' : Env) (a : ℤ) (head mid : ℕ) → Knows limit cuts g' f' item_turn env' → Stands c (one t1.scope 1 i.Turn ⨟ item_value item_turn.scope) head mid
+      module _ (step : (f' : Fixed) (fc : Alike f' f) → f'.nested ≡ f.nested + 1 → (g' : Ghost) (env' : Env) (a : ℤ) (head mid : ℕ) → Knows limit cuts g' f' item_turn env' → Stands c (one t1.scope 1 i.Turn ⨟ item_value item_turn.scope) head mid
           → Runs limit c f' thread_ends g' any (turning env' a) (λ d. on f' head (a ∷ []) d) (λ b d. on f' mid (b ∷ []) d))
-          (leaves_so : (first size : ℕ) (start : ℤ) (envs : ℕ → Env) (w : stored.State) (l : Leave) → ((through stored.doings first size start (λ i a. turning (envs i) a)).does w).end ≡ Err (stored.Left l) → OnlyRaises l) where
-        listed_on : (start cl ch : ℤ) (q : Part) (a0 : ℕ) → Spread (ga start cl ch a0) (named_entity constant q.object) q.offset (count * stride) a0 → (k : Chunking) → Chunks chunk cl ch k → nat_le 1 (many cl ch) ≡ true → nat_le (many cl ch) 4096 ≡ true → (m2 to : ℕ) → Stands c tail_items m2 to
+          (leaves_so : (first size : ℕ) (start : ℤ) (envs : ℕ → Env) (w : stored.State) (l : Leave) → ((through stored.doings first size start (λ i a. turning (envs i) a)).does w).end ≡ Err (stored.Left l) → OnlyRaises l)
+          (lends : (start cl ch : ℤ) (q : ObjectPart) (a0 : ℕ) (k : Chunking) → Chunks chunk cl ch k → (gg : Ghost) → Knows limit cuts gg (nested_in f) s5 (inside env) → Spread gg (named_entity constant q.object) q.offset (count * stride) a0
+          → Lends (nested_in f) gg cs (Deeds.asked site (pos 1) (pos count) cl ch start) (Meaning.site_at site chunk its (value_cut_of k count) k (course_with q) (inside env)) (deal 0 0 (sizes_for gg.plan cs.kind (Deeds.asked site (pos 1) (pos count) cl ch start)))) where
+        listed_on : (start cl ch : ℤ) (q : ObjectPart) (a0 : ℕ) → Spread (ga start cl ch a0) (named_entity constant q.object) q.offset (count * stride) a0 → (k : Chunking) → Chunks chunk cl ch k → nat_le 1 (many cl ch) ≡ true → nat_le (many cl ch) 4096 ≡ true → (m2 to : ℕ) → Stands c tail_items m2 to
             → Runs limit c f x (ga start cl ch a0) any (after_course its start k (course_with q)) (λ d. on fi m2 st d) (λ v d. on f to (v ∷ st) d)
         listed_on start cl ch q a0 part k told some few m2 to stands =
-            let rest : Emit = fork_code r.scope ht (ht + 1) site (s.scope.free + 1) (one r.scope (ht + 1 + 1 + 1 + 1) (i.LoadL s.scope.free)) tbi ⨟ one r.scope (ht + 1) i.Unnest ⨟ combined s.scope (ht + 1) by in
+            let rest : Emit = fork_code r.scope ht (ht + 1) (reduction_kind by chunk) site (s.scope.free + 1) (one r.scope (ht + 1 + 1 + 1 + 1) (i.LoadL s.scope.free)) tbi ⨟ one r.scope (ht + 1) i.Unnest ⨟ combined s.scope (ht + 1) by in
             let (m3, (je1, (je2, ze)), r3) = stands_seq c m2 to (ends_code (taking 2 r).scope ht its) rest stands in
             let gg : Ghost = ga start cl ch a0 in
             let same_cell : s.scope.free + 1 + 1 + 1 ≡ s1.scope.free + 2 = omega arith in
@@ -299,9 +317,15 @@ module _ (limit : ℕ) (cuts : ℕ → ℕ → List ℕ) (program : Program) (c 
             (kept_under start cl ch a0 (s1.scope.free + 1) ch (omega arith) (last_at limit cuts c f x s1.scope.free cl ch (g0 start)))
             tbi m3 to r3 (λ j. j.first + j.size ≤ many (pos 1) (pos count)) (fold_shares cuts gg.plan within kn.plan by chunk (Deeds.asked site (pos 1) (pos count) cl ch start) cs.kind kind)
             (λ m4 bd j inn. fold_items_thread limit cuts program c fi calls globals mains epar calls_all gg s5 (inside env) (knows_forked (kna start cl ch a0)) site cs four five count stride cl ch start j (let z = many_is count in omega (arith, inn, z)) (s.scope.free + 1 + 1 + 1) a0
-            (ap (λ n. gg.what (f.base + n)) same_cell ∙ what_same (g1 start cl ch) (f.base + (s1.scope.free + 2)) (Keeps (pos a0))) (omega (arith, room)) p constant q part chunk k told (chunk_of (value_cut_of k count) j.number)
+            (inl (ap (λ n. gg.what (f.base + n)) same_cell ∙ what_same (g1 start cl ch) (f.base + (s1.scope.free + 2)) (Keeps (pos a0)))) (omega (arith, room)) p constant q part chunk k told (chunk_of (value_cut_of k count) j.number)
             (numbered chunk cl ch k count j.number told) OnlyRaises turning (item_value item_turn.scope) m4 bd
-            (λ g' env' a head mid kk ss. step (threaded fi gg.top) refl refl g' env' a head mid kk ss)
+            (λ g' env' a head mid kk ss. step (threaded fi gg.top) (alike f) refl g' env' a head mid kk ss)
+            (λ w e h. leaves_so j.first j.size start _ w e h))
+            (lends start cl ch q a0 k told gg (knows_forked (kna start cl ch a0)) part)
+            (λ m4 bd owner apart j inn. fold_items_thread limit cuts program c fi calls globals mains epar calls_all (view_ghost owner j.number gg) (no_free s5) (inside env) (knows_view owner j.number (knows_forked (kna start cl ch a0)) apart) site cs four five count stride cl ch start j (let z = many_is count in omega (arith, inn, z)) (s.scope.free + 1 + 1 + 1) a0
+            (number_view owner j.number (knows_forked (kna start cl ch a0)) apart (f.base + (s.scope.free + 1 + 1 + 1)) (pos a0) (inl (ap (λ n. gg.what (f.base + n)) same_cell ∙ what_same (g1 start cl ch) (f.base + (s1.scope.free + 2)) (Keeps (pos a0))))) (omega (arith, room)) p constant q (spread_view owner j.number (knows_forked (kna start cl ch a0)) apart (named_entity constant q.object) q.offset (count * stride) a0 part) chunk k told (chunk_of (value_cut_of k count) j.number)
+            (numbered chunk cl ch k count j.number told) OnlyRaises turning (item_value item_turn.scope) m4 bd
+            (λ g' env' a head mid kk ss. step (threaded fi gg.top) (alike f) refl g' env' a head mid kk ss)
             (λ w e h. leaves_so j.first j.size start _ w e h)))
 
         pub items_reduction_does : {e : Named} → Fitted program globals mains epar s initial → FittedChunk program globals mains epar r chunk → array_root_of constant (taking 2 r).scope root ≡ Some e → Reaches e.cells selections (count * stride) → FittedSelections program globals mains epar (taking 2 r) selections → (from to : ℕ)
@@ -311,7 +335,7 @@ module _ (limit : ℕ) (cuts : ℕ → ℕ → List ℕ) (program : Program) (c 
             begun_does its wi wc (course_code program (taking 2 r).scope ht its ⨟ tail_items) from to stands (λ start cl ch k m1 told some few r1.
             let (m2, lr, r2) = stands_seq c m1 to (course_code program (taking 2 r).scope ht its) tail_items r1 in
             let goal : ℤ → Dyn → Step = λ v d. on f to (v ∷ st) d in
-            array_does limit cuts program c fi x calls globals mains epar (calls_all fi refl) (taking 2 r) (knows_nested (knows_forked (kn1 start cl ch))) en (omega (arith, room)) ht st p constant at root selections count stride dimensions filter
+            array_does limit cuts program c fi x calls globals mains epar (calls_all fi (alike f)) (taking 2 r) (knows_nested (knows_forked (kn1 start cl ch))) en (omega (arith, room)) ht st p constant at root selections count stride dimensions filter
             m1 m2 (λ co. after_course its start k co) goal is reach ws lr (λ q a0 part.
             does_weak limit c fi x (λ w d z. fit_unset (f.base + (s1.scope.free + 2)) (pos a0) ((kn1 start cl ch).free (s1.scope.free + 2) (le_refl (s1.scope.free + 2)) (omega (arith, room))) z)
-            (does_inside limit c fi x f refl left_as_back (listed_on start cl ch q a0 part k told some few m2 to r2))))
+            (does_inside limit c fi x f refl refl left_as_back (listed_on start cl ch q a0 part k told some few m2 to r2))))

@@ -1,8 +1,9 @@
 -- The fork's instruction.
-use Rattle.std.proofs.Common.{◌≡◌, ℕ, ◌+◌, ◌≤◌, ℤ, List, [], ◌∷◌, ◌++◌, length, slice_get, Option, Some, None, Result, Ok, Err, true, false, cond, refl, sym, ap, ◌∙◌, subst}
+use Rattle.std.proofs.Common.{◌≡◌, ℕ, ◌+◌, ◌≤◌, ℤ, List, [], ◌∷◌, ◌++◌, length, slice_get, Option, Some, None, Result, Ok, Err, true, false, cond, refl, sym, ap, ◌∙◌, subst, is_some, Bool, true≢false}
 use Rattle.behaviours.specs.Joins.{Site, Share, deal}
 use Rattle.behaviours.specs.Paths as paths
 use Rattle.ada_base.specs.declared.reason.Reason.TheVariants as reason
+use Rattle.typed_tree.specs.Syntax.{Program}
 use Rattle.ada_meaning.specs.Stored as stored
 use Rattle.ada_meaning.specs.Stored.{Stored, Cause, OutOfTurns, NoRoom, CutOff, Misnoted}
 use Rattle.stack_code.specs.declared.code.Code.{Code}
@@ -18,13 +19,17 @@ use Rattle.stack_code.specs.declared.path.Leave.TheVariants as leave
 use Rattle.stack_code.specs.Deeds.{Forks as AsksFork, Fails, can_fork, asked, many}
 use Rattle.stack_code.specs.Machine.{Stop, Done, Left, Spent, Cut, Astray, left_as, done, resumed, after}
 use Rattle.ada_lower.specs.Driven
-use Rattle.ada_lower.specs.Driven.{Dyn, Fixed, Path, Final, Step, On, Off, Forks, Forked, off, on, at, path, state_of, goes, fork, at_site, answering, answer_of, with_answer, fork_end, fork_ended, with_dyn, sizes_for, gathered, thrown, At, driven, Finally, Comes}
-use Rattle.ada_lower.specs.Fits.{Ghost, Allows, Fit, Ends, left_by, Lands}
+use Rattle.ada_lower.specs.Driven.{Dyn, Fixed, Path, Final, Step, On, Off, Forks, Forked, off, on, at, path, state_of, goes, fork, at_site, answering, answer_of, with_answer, fork_end, fork_ended, with_dyn, sizes_for, gathered, thrown, At, driven, Finally, Comes, Fine, IsFine}
+use Rattle.ada_lower.specs.Fits.{Ghost, Allows, Fit, Ends, left_by, Lands, Asks, Knows}
 use Rattle.ada_lower.specs.Forks.{machine_leave, Reaches}
-use Rattle.ada_lower.proofs.Framework.{any, To, itself, comes_here, comes_on, comes_as, comes_fails, comes_thrown}
+use Rattle.ada_lower.proofs.Framework.{any, To, itself, comes_here, comes_on, comes_as, comes_fails, comes_thrown, leads_on}
 use Rattle.ada_lower.proofs.ForkFuel.{comes_fork}
 use Rattle.ada_lower.proofs.ForkThreads.{AllDo, reaches_by}
 use Rattle.ada_lower.proofs.ForkPar.{machine_by, team_reaches}
+use Rattle.ada_lower.specs.Sights.{Sight}
+use Rattle.ada_meaning.specs.Meaning.{Env}
+use Rattle.ada_lower.proofs.ForkFine.{Views, is_fine}
+use Rattle.ada_meaning.proofs.Cells.{some_same}
 
 -- with those accumulators kept
 abbrev pub keeping : List ℤ → Fixed → Fixed
@@ -86,11 +91,12 @@ module _ (limit : ℕ) (c : Code) (f : Fixed) where
     -- what a fork comes to, with where it goes on with the accumulators
     pub fork_lands : {q : ℕ} {e : Option ℕ} (st : List ℤ) (to : B → Dyn → Step) → At c q (i.Fork site) e → slice_get c.sites site ≡ Some cs → can_fork (many first last) (many chunk last_chunk) ≡ true
         → ((b : B) (vs : List ℤ) (d0 d : Dyn) → shows b vs → To limit c (fork_end c (Ok (answer_of c cs.kind asks (gave.Numbers vs))) d (state_of f q st [] None d0)) (to b d))
-        → (d0 : Dyn) → AllDo limit c f g cs asks q st d0 may value body shares → (s : stored.State) → Fit g s d0 → (b : B) → shows b [] → Allows g ((stored.noted_team team fold b shares body).touches s)
+        → (d0 : Dyn) → {lim : ℕ} {planned : ℕ → ℕ → List ℕ} {sc : Sight} {env : Env} → Knows lim planned g f sc env → Views limit c f g cs asks q st d0 may value fold body team shares
+        → AllDo limit c f g cs asks q st d0 may value body shares → (s : stored.State) → Fit g s d0 → (b : B) → shows b [] → Asks f g ((stored.noted_team team fold b shares body).touches s) ((stored.noted_team team fold b shares body).visits s)
         → (let r = (stored.noted_team team fold b shares body).does s in Lands limit c (keeping [] f) (fork_ends f q st e) any g (on f q (operands first last chunk last_chunk initial st) d0) s.turns to r.state r.end × MayEnd may r.end)
-    fork_lands {q} {e} st to a site_at can answers d0 ws s fit b sh al =
+    fork_lands {q} {e} st to a site_at can answers d0 kn views ws s fit b sh al =
         let r = (stored.noted_team team fold b shares body).does s in
-        go r.state r.end (reaches_by may shows g (machine_by limit c f g cs asks q st d0 may value shows fold folds body d0.world.notes shares d0) whole s.turns 0 _ _ same
+        go r.state r.end (λ room on. fine room f.asked refl on) (reaches_by may shows g (machine_by limit c f g cs asks q st d0 may value shows fold folds body d0.world.notes shares d0) whole s.turns 0 _ _ same
         (team_reaches limit c f g cs asks q st d0 may value shows fold folds body team shares ws s d0 b fit sh al))
       where
         -- before the answer is made of it
@@ -102,11 +108,18 @@ module _ (limit : ℕ) (c : Code) (f : Fixed) where
             ap (λ top. Driven.by_notes (λ x. goes limit c m x) (λ d j. Driven.thread_at c top cs asks (at f q st d0) d j) top d0.world.notes (deal 0 0 (sizes_for d0.world.plan cs.kind asks)) d0) fit.top
             ∙ ap (λ p. Driven.by_notes (λ x. goes limit c m x) (λ d j. Driven.thread_at c g.top cs asks (at f q st d0) d j) g.top d0.world.notes (deal 0 0 (sizes_for p cs.kind asks)) d0) fit.plan
 
-        begins : {h : Forked} {n : ℕ} → ((m : ℕ) → n ≤ m → whole m ≡ Some h)
-            → To limit c (on f q (operands first last chunk last_chunk initial st) d0) (fork_end c (with_answer c (answer_of c cs.kind asks) h.how) h.dyn (state_of f q st [] None d0))
-        begins {h} {n} is =
-            comes_on limit c (comes_forks first last chunk last_chunk initial st d0 a can)
-            (comes_fork limit c n asks (at f q st d0) (record { dyn = h.dyn; how = with_answer c (answer_of c cs.kind asks) h.how })
+        -- the fork is fine, where there is room
+        fine : (let r = (stored.noted_team team fold b shares body).does s in (r.end ≡ Err NoRoom → ⊥) → (o : Option Program) → f.asked ≡ o → is_some o ≡ true → Fine limit c asks (at f q st d0))
+        fine room None is on = absurd (true≢false (sym on))
+        fine room (Some p) is on = λ other e.
+            subst (λ z. IsFine limit c z asks (at f q st d0) d0.world.notes) (some_same cs other (sym site_at ∙ e))
+            (is_fine limit c f g cs asks q st d0 may value fold body team shares kn views p is s fit (ap (λ plan. deal 0 0 (sizes_for plan cs.kind asks)) (sym fit.plan)) b d0.world.notes refl al.1 al.0 room)
+
+        begins : {h : Forked} {n : ℕ} → (is_some f.asked ≡ true → Fine limit c asks (at f q st d0)) → ((m : ℕ) → n ≤ m → whole m ≡ Some h)
+            → Comes limit c (is_some f.asked) (on f q (operands first last chunk last_chunk initial st) d0) (fork_end c (with_answer c (answer_of c cs.kind asks) h.how) h.dyn (state_of f q st [] None d0))
+        begins {h} {n} fine is =
+            leads_on limit c (comes_forks first last chunk last_chunk initial st d0 a can _)
+            (comes_fork limit c n asks (at f q st d0) (record { dyn = h.dyn; how = with_answer c (answer_of c cs.kind asks) h.how }) (is_some f.asked) fine
             (λ m le. ap (λ o. at_site c o (λ x. goes limit c m x) asks (at f q st d0)) site_at ∙ ap (λ o. answering c (answer_of c cs.kind asks) o) (is m le)))
 
         told_left : (k : SiteKind) (l : Leave) → answer_of c k asks (gave.Left l) ≡ gave.Left l
@@ -116,9 +129,9 @@ module _ (limit : ℕ) (c : Code) (f : Fixed) where
         told_left (kind.Reduction by) l = refl
         told_left (kind.ChunkReduction by) l = refl
 
-        go : (t : stored.State) (x : Result B Cause) → Reaches may shows g whole s.turns t x
+        go : (t : stored.State) (x : Result B Cause) → ((x ≡ Err NoRoom → ⊥) → is_some f.asked ≡ true → Fine limit c asks (at f q st d0)) → Reaches may shows g whole s.turns t x
             → Lands limit c (keeping [] f) (fork_ends f q st e) any g (on f q (operands first last chunk last_chunk initial st) d0) s.turns to t x × MayEnd may x
-        go t (Ok b) r =
+        go t (Ok b) fine r =
             let (vs, is, sh) = r.told in (
               (
                 tt,
@@ -126,39 +139,50 @@ module _ (limit : ℕ) (c : Code) (f : Fixed) where
                   dyn = r.forked.dyn;
                   fit = r.fit;
                   grows = r.grows;
-                  comes = comes_on limit c (begins r.is) (subst (λ h. To limit c (fork_end c (with_answer c (answer_of c cs.kind asks) h) r.forked.dyn (state_of f q st [] None d0)) (to b r.forked.dyn)) (sym is) (answers b vs d0 r.forked.dyn sh));
+                  comes = leads_on limit c (begins (fine (λ z. let y : ◌≡◌ {A = Result B Cause} (Ok b) (Err NoRoom) = z in cc)) r.is) (subst (λ h. To limit c (fork_end c (with_answer c (answer_of c cs.kind asks) h) r.forked.dyn (state_of f q st [] None d0)) (to b r.forked.dyn)) (sym is) (answers b vs d0 r.forked.dyn sh) _);
                 },
               ),
               tt,
             )
-        go t (Err (stored.Left l)) r = (
+        go t (Err (stored.Left l)) fine r = (
           record {
             dyn = r.forked.dyn;
             fit = r.fit;
             grows = r.grows;
-            comes = comes_on limit c (begins r.is) (subst (λ h. To limit c (fork_end c (with_answer c (answer_of c cs.kind asks) h) r.forked.dyn (state_of f q st [] None d0)) (left_by (keeping [] f) (fork_ends f q st e) l r.forked.dyn)) (sym r.told.0)
+            comes = leads_on limit c (begins (fine (λ z. let y : ◌≡◌ {A = Result B Cause} (Err (stored.Left l)) (Err NoRoom) = z in cc)) r.is) (subst (λ h. To limit c (fork_end c (with_answer c (answer_of c cs.kind asks) h) r.forked.dyn (state_of f q st [] None d0)) (left_by (keeping [] f) (fork_ends f q st e) l r.forked.dyn)) (sym r.told.0)
                 (subst (λ y. To limit c (fork_end c (Ok y) r.forked.dyn (state_of f q st [] None d0)) (left_by (keeping [] f) (fork_ends f q st e) l r.forked.dyn)) (sym (told_left cs.kind (machine_leave l)))
-                (comes_left st l d0 r.forked.dyn a)));
+                (comes_left st l d0 r.forked.dyn a)) _);
           },
           r.told.1,
         )
-        go t (Err OutOfTurns) r = (
+        go t (Err OutOfTurns) fine r = (
           record {
             dyn = r.forked.dyn;
             fit = r.fit;
             grows = r.grows;
-            comes = subst (λ h. To limit c (on f q (operands first last chunk last_chunk initial st) d0) (fork_end c (with_answer c (answer_of c cs.kind asks) h) r.forked.dyn (state_of f q st [] None d0))) r.told (begins r.is);
+            comes = subst (λ h. Comes limit c (is_some f.asked) (on f q (operands first last chunk last_chunk initial st) d0) (fork_end c (with_answer c (answer_of c cs.kind asks) h) r.forked.dyn (state_of f q st [] None d0))) r.told (begins (fine (λ z. let y : ◌≡◌ {A = Result B Cause} (Err OutOfTurns) (Err NoRoom) = z in cc)) r.is);
           },
           tt,
         )
-        go t (Err CutOff) r = (
+        go t (Err CutOff) fine r = (
           record {
             dyn = r.forked.dyn;
             fit = r.fit;
             grows = r.grows;
-            comes = subst (λ h. To limit c (on f q (operands first last chunk last_chunk initial st) d0) (fork_end c (with_answer c (answer_of c cs.kind asks) h) r.forked.dyn (state_of f q st [] None d0))) r.told (begins r.is);
+            comes = subst (λ h. Comes limit c (is_some f.asked) (on f q (operands first last chunk last_chunk initial st) d0) (fork_end c (with_answer c (answer_of c cs.kind asks) h) r.forked.dyn (state_of f q st [] None d0))) r.told (begins (fine (λ z. let y : ◌≡◌ {A = Result B Cause} (Err CutOff) (Err NoRoom) = z in cc)) r.is);
           },
           tt,
         )
-        go t (Err NoRoom) r = (tt, tt)
-        go t (Err Misnoted) r = (tt, tt)
+        go t (Err NoRoom) fine r = (tt, tt)
+        go t (Err Misnoted) fine (un, r) = (
+          (
+            un,
+            record {
+              dyn = r.forked.dyn;
+              fit = r.fit;
+              grows = r.grows;
+              comes = subst (λ h. Comes limit c (is_some f.asked) (on f q (operands first last chunk last_chunk initial st) d0) (fork_end c (with_answer c (answer_of c cs.kind asks) h) r.forked.dyn (state_of f q st [] None d0))) r.told (begins (fine (λ z. let y : ◌≡◌ {A = Result B Cause} (Err Misnoted) (Err NoRoom) = z in cc)) r.is);
+            },
+          ),
+          tt,
+        )

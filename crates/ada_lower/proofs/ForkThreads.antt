@@ -1,9 +1,9 @@
 -- Threads in order, and by notes, come to what those of the stored run come to.
-use Rattle.std.proofs.Common.{◌≡◌, ℕ, ◌+◌, ◌≤◌, max, ℤ, List, [], ◌∷◌, Option, Some, Result, Ok, Err, Bool, true, false, ◌||◌, refl, sym, ap, ap₂, ◌∙◌, subst, le_trans, arith}
+use Rattle.std.proofs.Common.{◌≡◌, ℕ, ◌+◌, ◌≤◌, max, ℤ, List, [], ◌∷◌, Option, Some, Result, Ok, Err, Bool, true, false, ◌||◌, refl, sym, ap, ap₂, ◌∙◌, subst, le_trans, arith, is_some}
 use Rattle.behaviours.specs.Joins.{Share}
 use Rattle.behaviours.specs.Paths as paths
 use Rattle.ada_meaning.specs.Stored as stored
-use Rattle.ada_base.specs.Notes.{Schedule}
+use Rattle.ada_base.specs.Notes.{Schedule, InOrder}
 use Rattle.ada_meaning.specs.Stored.{Stored, Cause, OutOfTurns, NoRoom, CutOff, Misnoted, Touch}
 use Rattle.stack_code.specs.declared.code.Code.{Code}
 use Rattle.stack_code.specs.declared.code.CodeSite.{CodeSite}
@@ -12,9 +12,9 @@ use Rattle.stack_code.specs.declared.path.Gave.{Gave}
 use Rattle.stack_code.specs.declared.path.Gave.TheVariants as gave
 use Rattle.stack_code.specs.Machine.{Stop, Done, Left, Spent, Cut}
 use Rattle.ada_lower.specs.Driven.{Dyn, Fixed, Path, Final, Step, On, Forked, off, on, at, Finally, goes, thread_at, thread_went, in_order, cut_to, with_turns, gathered}
-use Rattle.ada_lower.specs.Fits.{Ghost, Allows, Fit, left_by, Land, Lands}
+use Rattle.ada_lower.specs.Fits.{Ghost, Allows, Fit, left_by, Land, Lands, Asks}
 use Rattle.ada_lower.specs.Forks.{threaded, thread_ends, machine_leave, framed, done_so, ThreadDoes, Reach, Reaches}
-use Rattle.ada_lower.proofs.Framework.{allows_split}
+use Rattle.ada_lower.proofs.Framework.{allows_split, asks_split}
 use Rattle.ada_lower.proofs.Memory.{right_same}
 use Rattle.ada_lower.proofs.ForkFuel.{goes_by, off_ends}
 
@@ -25,8 +25,8 @@ moved n l ns s = record s { turns = n; left = l; notes = ns }
 abbrev pub dyn_moved : ℕ → Option ℕ → Schedule → Dyn → Dyn
 dyn_moved n l ns d = record d { turns = n; left = l; world = record d.world { notes = ns } }
 
-pub fit_moved : {g : Ghost} {s : stored.State} {d : Dyn} (n : ℕ) (l : Option ℕ) (ns : Schedule) → g.least ≤ n → n ≤ g.most → Fit g s d → Fit g (moved n l ns s) (dyn_moved n l ns d)
-fit_moved {g} {s} {d} n l ns low high w = record {
+pub fit_moved : {g : Ghost} {s : stored.State} {d : Dyn} (n : ℕ) (l : Option ℕ) (ns : Schedule) → (g.ordered ≡ true → ns ≡ InOrder) → g.least ≤ n → n ≤ g.most → Fit g s d → Fit g (moved n l ns s) (dyn_moved n l ns d)
+fit_moved {g} {s} {d} n l ns order low high w = record {
   here = w.here;
   everywhere = w.everywhere;
   declared = w.declared;
@@ -36,6 +36,7 @@ fit_moved {g} {s} {d} n l ns low high w = record {
   most = high;
   agrees = record { turns = refl; left = refl; taken = w.agrees.taken; held = w.agrees.held; input = w.agrees.input; output = w.agrees.output; notes = refl };
   plan = w.plan;
+  order = order;
   cells = λ a. right_same (g.what a) s (moved n l ns s) _ refl refl (w.cells a);
 }
 
@@ -51,6 +52,7 @@ fit_turned {g} {s} {d} n low high w = record {
   most = high;
   agrees = record { turns = refl; left = w.agrees.left; taken = w.agrees.taken; held = w.agrees.held; input = w.agrees.input; output = w.agrees.output; notes = w.agrees.notes };
   plan = w.plan;
+  order = w.order;
   cells = λ a. right_same (g.what a) s (record s { turns = n }) _ refl refl (w.cells a);
 }
 
@@ -66,7 +68,7 @@ reaches_by may shows g F F' turns n t e same r = go e r
     go (Err OutOfTurns) r = reach r
     go (Err CutOff) r = reach r
     go (Err NoRoom) r = tt
-    go (Err Misnoted) r = tt
+    go (Err Misnoted) (un, r) = (un, reach r)
 
 or_false : (b : Bool) → b || false ≡ b
 or_false true = refl
@@ -90,6 +92,7 @@ module _ (limit : ℕ) (c : Code) (f : Fixed) (g : Ghost) (site : CodeSite) (q :
     pub is : goes limit c steps (On (start d j)) ≡ Some (record { how = how; dyn = dyn })
     pub fit : Fit g t (cut_to g.top dyn)
     pub grows : turns ≤ t.turns
+    pub order : t.notes ≡ InOrder
 
   module _ (may : paths.Leave → Type 0) {A : Type 0} (value : A → Option ℤ) where
     abbrev pub Endings : Dyn → Share → ℕ → stored.State → Result A Cause → Type 0
@@ -98,15 +101,15 @@ module _ (limit : ℕ) (c : Code) (f : Fixed) (g : Ghost) (site : CodeSite) (q :
     Endings d j turns t (Err OutOfTurns) = Ending d j turns t Spent
     Endings d j turns t (Err CutOff) = Ending d j turns t Cut
     Endings d j turns t (Err NoRoom) = Unit {0}
-    Endings d j turns t (Err Misnoted) = Unit {0}
+    Endings d j turns t (Err Misnoted) = ⊥
 
-    pub thread_ends_so : (j : Share) (m : Stored A) → ThreadDoes limit c may g f site q value j m → (s : stored.State) (d : Dyn) → Fit g s d → Allows g (m.touches s) → (let r = m.does s in Endings d j s.turns r.state r.end)
-    thread_ends_so j m w s d fit al = go (m.does s).state (m.does s).end (w.may_leave s) (w.does.by s (framed site q j d) (w.enters s d fit) (w.allows (m.touches s) al))
+    pub thread_ends_so : (j : Share) (m : Stored A) → ThreadDoes limit c may g f site q value j m → (s : stored.State) (d : Dyn) → s.notes ≡ InOrder → Fit g s d → Asks f g (m.touches s) (m.visits s) → (let r = m.does s in Endings d j s.turns r.state r.end)
+    thread_ends_so j m w s d order fit al = go (m.does s).state (m.does s).end (w.may_leave s) (w.does.by s (framed site q j d) (w.enters s d order fit) (w.allows (m.touches s) al.0, al.1))
       where
-        ending : {t : stored.State} {how : Stop} {to : Dyn → Step} → ((d : Dyn) → to d ≡ off how d) → Land limit c w.after (on (threaded f g.top) site.entry [] (framed site q j d)) s.turns t to → Ending d j s.turns t how
+        ending : {t : stored.State} {how : Stop} {to : Dyn → Step} → ((d : Dyn) → to d ≡ off how d) → Land limit c (is_some f.asked) w.after (on (threaded f g.top) site.entry [] (framed site q j d)) s.turns t to → Ending d j s.turns t how
         ending {t} {how} {to} is l =
             let (n, z) = l.comes.to (record { how = how; dyn = l.dyn }) (subst (λ x. Finally limit c x (record { how = how; dyn = l.dyn })) (sym (is l.dyn)) (off_ends limit c (record { how = how; dyn = l.dyn }))) in
-            record { dyn = l.dyn; steps = n; is = z; fit = w.leaves t l.dyn l.fit; grows = l.grows }
+            record { dyn = l.dyn; steps = n; is = z; fit = w.leaves t l.dyn l.fit; grows = l.grows; order = l.fit.order w.ordered }
 
         left : (l : paths.Leave) (d : Dyn) → left_by (threaded f g.top) thread_ends l d ≡ off (Left (machine_leave l)) d
         left (paths.Exits n) d = refl
@@ -119,7 +122,7 @@ module _ (limit : ℕ) (c : Code) (f : Fixed) (g : Ghost) (site : CodeSite) (q :
         go t (Err OutOfTurns) m l = ending (λ d. refl) l
         go t (Err CutOff) m l = ending (λ d. refl) l
         go t (Err NoRoom) m l = tt
-        go t (Err Misnoted) m l = tt
+        go t (Err Misnoted) m (un, l) = un (l.fit.order w.ordered)
 
     abbrev pub AllDo : (Share → Stored A) → List Share → Type 0
     AllDo body [] = Unit {0}
@@ -130,21 +133,21 @@ module _ (limit : ℕ) (c : Code) (f : Fixed) (g : Ghost) (site : CodeSite) (q :
       machine js d most over vs m = in_order (λ x. goes limit c m x) start g.top from js d most over vs
 
       abbrev pub GoesOn : List Share → Type 0
-      GoesOn js = (s : stored.State) (d : Dyn) (most : ℕ) (over : Bool) (b : B) (vs : List ℤ) → Fit g s d → from ≤ most → most ≤ g.most → shows b vs
-          → Allows g ((stored.threads fold body from js most over b).touches s)
+      GoesOn js = (s : stored.State) (d : Dyn) (most : ℕ) (over : Bool) (b : B) (vs : List ℤ) → s.notes ≡ InOrder → Fit g s d → from ≤ most → most ≤ g.most → shows b vs
+          → Asks f g ((stored.threads fold body from js most over b).touches s) ((stored.threads fold body from js most over b).visits s)
           → (let r = (stored.threads fold body from js most over b).does s in Reaches may shows g (machine js d most over vs) from r.state r.end)
 
       pub in_order_reaches : (js : List Share) → AllDo body js → GoesOn js
       unfolding stored.bind stored.rewinds stored.thread stored.spent stored.ret
-      in_order_reaches [] al s d most over b vs fit lo hi sh alw = go over
+      in_order_reaches [] al s d most over b vs order fit lo hi sh alw = go over
         where
           go : (o : Bool) → (let r = (stored.threads fold body from [] most o b).does s in Reaches may shows g (machine [] d most o vs) from r.state r.end)
           go true = record { forked = record { dyn = with_turns most d; how = Err Spent }; steps = 0; is = λ m le. refl; told = refl; fit = fit_turned most (le_trans low lo) hi fit; grows = lo }
           go false = record { forked = record { dyn = with_turns most d; how = Ok (gave.Numbers vs) }; steps = 0; is = λ m le. refl; told = (vs, refl, sh); fit = fit_turned most (le_trans low lo) hi fit; grows = lo }
-      in_order_reaches (j ∷ js) (w, ws) s d most over b vs fit lo hi sh alw =
-          let (a1, a2) = allows_split limit c f thread_ends g ((body j).touches (record s { turns = from })) _ alw in
+      in_order_reaches (j ∷ js) (w, ws) s d most over b vs order fit lo hi sh alw =
+          let (a1, a2) = asks_split limit c f thread_ends g ((body j).touches (record s { turns = from })) _ ((body j).visits (record s { turns = from })) _ alw in
           go (in_order_reaches js ws) ((body j).does (record s { turns = from })).state ((body j).does (record s { turns = from })).end a2
-          (thread_ends_so j (body j) w (record s { turns = from }) (with_turns from d) (fit_turned from low high fit) a1)
+          (thread_ends_so j (body j) w (record s { turns = from }) (with_turns from d) order (fit_turned from low high fit) a1)
         where
           -- the machine's construct where this thread has ended
           run_on : {how : Stop} {t : stored.State} (z : Ending (with_turns from d) j from t how) (m : ℕ) → z.steps ≤ m
@@ -170,19 +173,19 @@ module _ (limit : ℕ) (c : Code) (f : Fixed) (g : Ghost) (site : CodeSite) (q :
           }
 
           go : GoesOn js → (t : stored.State) (e : Result A Cause)
-              → Allows g (let u = stored.took most t e in stored.next_touches u.state u.end (λ k. stored.threads fold body from js k.most (over || stored.is_spent k.value) (stored.gathered fold b k.value)))
+              → (let u = stored.took most t e in Asks f g (stored.next_touches u.state u.end (λ k. stored.threads fold body from js k.most (over || stored.is_spent k.value) (stored.gathered fold b k.value))) (stored.next_visits u.state u.end (λ k. stored.threads fold body from js k.most (over || stored.is_spent k.value) (stored.gathered fold b k.value))))
               → Endings (with_turns from d) j from t e
               → (let u = stored.took most t e in let r = stored.next u.state u.end (λ k. stored.threads fold body from js k.most (over || stored.is_spent k.value) (stored.gathered fold b k.value)) in
               Reaches may shows g (machine (j ∷ js) d most over vs) from r.state r.end)
           go ih_ t (Ok a) al2 z =
-              let ih = ih_ t (cut_to g.top z.dyn) (max most t.turns) (over || false) (fold b a) (gathered vs (value a)) z.fit (omega (arith, lo)) (more t z.fit.least z.fit.most) (folds b vs a sh) al2 in
+              let ih = ih_ t (cut_to g.top z.dyn) (max most t.turns) (over || false) (fold b a) (gathered vs (value a)) z.order z.fit (omega (arith, lo)) (more t z.fit.least z.fit.most) (folds b vs a sh) al2 in
               reaches_by may shows g (machine js (cut_to g.top z.dyn) (max most t.turns) (over || false) (gathered vs (value a))) (machine (j ∷ js) d most over vs) from z.steps _ _
               (λ m le. run_on z m le ∙ ap₂ (λ n o. machine js (cut_to g.top z.dyn) (max most n) o (gathered vs (value a)) m) (turns_same z) (sym (or_false over))) ih
           go ih_ t (Err OutOfTurns) al2 z =
-              let ih = ih_ t (cut_to g.top z.dyn) (max most t.turns) (over || true) b vs z.fit (omega (arith, lo)) (more t z.fit.least z.fit.most) sh al2 in
+              let ih = ih_ t (cut_to g.top z.dyn) (max most t.turns) (over || true) b vs z.order z.fit (omega (arith, lo)) (more t z.fit.least z.fit.most) sh al2 in
               reaches_by may shows g (machine js (cut_to g.top z.dyn) (max most t.turns) (over || true) vs) (machine (j ∷ js) d most over vs) from z.steps _ _
               (λ m le. run_on z m le ∙ ap₂ (λ n o. machine js (cut_to g.top z.dyn) (max most n) o vs m) (turns_same z) (sym (or_true over))) ih
           go ih_ t (Err (stored.Left l)) al2 z = stops z.0 (Ok (gave.Left (machine_leave l))) _ (λ m. refl) (refl, z.1)
           go ih_ t (Err CutOff) al2 z = stops z (Err Cut) _ (λ m. refl) refl
           go ih_ t (Err NoRoom) al2 z = tt
-          go ih_ t (Err Misnoted) al2 z = tt
+          go ih_ t (Err Misnoted) al2 z = absurd z

@@ -11,6 +11,8 @@ use Rattle.behaviours.specs.Paths.{VariableOf, ConstantOf}
 use Rattle.typed_tree.specs.Syntax.{Optional, Absent, Present, Actuals, NoActual, In, InOut, Out, CompositeInOut, CompositeOut, Number, Cells, Pieces, NoPiece, Text, Image, Padded, Decls, NoDecl, DeclareDefault, DeclareVariable, DeclareConstant, Mentions, Iteration, Chunk, Stmt, Null, Assign, CallProcedure, Exit, Return, ReturnValue, Raise, Reraise, IfThen, Case, Loop, For, ParallelFor, Parallel, Block, Put, Get, Stmts, End, Then, Alternatives, NoAlternative, Alternative, Handled, Others, Reasons, Handlers, NoHandler, Handler, Arms, NoArm, Arm, Sub, Subtype, OfScalar, Array, Record, Program}
 use Rattle.ada_meaning.specs.Values.{components}
 use Rattle.ada_meaning.specs.Meaning.{object_layout, arms_of}
+use Rattle.stack_code.specs.declared.code.Around.{Around as Body}
+use Rattle.stack_code.specs.declared.code.Around.TheVariants as body
 use Rattle.stack_code.specs.declared.code.Code.{Code}
 use Rattle.stack_code.specs.declared.instr.Instr.TheVariants as i
 use Rattle.stack_code.specs.Stands.{IsForward}
@@ -18,7 +20,7 @@ use Rattle.lower_emission.specs.Emits.{Emit}
 use Rattle.lower_emission.specs.Scope.{Scope, own, taking, with_exit, with_entry, with_target, with_handled, nested, thread_scope, store_at, none, one, root_of}
 use Rattle.lower_emission.specs.Bodies as code
 use Rattle.ada_lower.specs.Sights.{Level, Own, Around, Main, Where, Named, Leaving, ByEnd, ByReturn, ByValue, ByLeave}
-use Rattle.ada_lower.specs.Emission.{emit, selected, passed, put_into, composed, filtered, iterated, chunk_code, course_code, threaded, lost, checked, address, is_whole, chunk_scope, ends_code, cells_of, passing, composite_width, width, no_handler, is_end, assigned, in_span, chosen, has_reason, handled_by, returning, returning_value, exiting, handled_target, image_instr, send_instr, piece_texts, field_defaults, default_of, defaults_within, defaulted, subtype_or_none, object_here, exits_of, arm_exits, left_by, exit_code, exits_code, left_returns, left_code, no_loop, declared, back_one, back_cells, parallel_for, in_share, arms_code, chunk_by, arm_scope, parallel_block, back_code, piece_values, stmt, all, cases, handling, arm_codes, Shape, shapes}
+use Rattle.ada_lower.specs.Emission.{emit, selected, passed, put_into, composed, filtered, iterated, chunk_code, course_code, threaded, lost, checked, address, is_whole, chunk_scope, ends_code, cells_of, passing, composite_width, width, no_handler, is_end, assigned, in_span, chosen, has_reason, handled_by, returning, returning_value, exiting, away, handled_target, image_instr, send_instr, piece_texts, field_defaults, default_of, defaults_within, defaulted, subtype_or_none, object_here, exits_of, arm_exits, left_by, exit_code, exits_code, left_returns, left_code, no_loop, declared, back_one, back_cells, parallel_for, in_share, arms_code, chunk_by, arm_scope, parallel_block, back_code, piece_values, stmt, all, cases, handling, arm_codes, Shape, shapes}
 use Rattle.ada_lower.specs.ProgramCode.{IsCodeOf}
 use Rattle.ada_lower.proofs.Forward.{Also, Fore}
 use Rattle.ada_lower.proofs.ForwardCode.{Nowhere, forward_code}
@@ -30,8 +32,12 @@ module _ (l t : ℕ → Type 0) (s : Scope) (k : Known l s) where
   fore_store h (Around j) n = ((λ n z. absurd z), k.0)
   fore_store h Main n = ((λ n z. absurd z), k.0)
 
+  fore_away : (loop : ℕ) (b : Body) → Fore l t (away s loop b)
+  fore_away loop (body.Sub j) = ((λ n z. absurd z), k.0)
+  fore_away loop (body.Site j) = ((λ n z. absurd z), k.0)
+
   fore_exiting : (loop : ℕ) (o : Option ℕ) → s.exits loop ≡ o → Fore l t (exiting s loop o)
-  fore_exiting loop None e = ((λ n z. absurd z), k.0)
+  fore_exiting loop None e = fore_away loop s.body
   fore_exiting loop (Some to) e = ((λ n z. inr (known n z, aimed n z)), k.0)
     where
       known : (n : ℕ) → n ≡ to → l n

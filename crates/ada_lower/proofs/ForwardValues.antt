@@ -5,8 +5,8 @@ use Rattle.ada_meaning.proofs.Cells.{some_same}
 use Rattle.ada_base.specs.declared.operation.Op.{Op}
 use Rattle.ada_base.specs.declared.operation.Op.TheVariants as op
 use Rattle.typed_tree.specs.declared.scalars.Class.{Class}
-use Rattle.typed_tree.specs.declared.scalars.Comparison.{Comparison}
-use Rattle.typed_tree.specs.declared.scalars.Comparison.TheVariants as comparison
+use Rattle.ada_base.specs.declared.operation.Comparison.{Comparison}
+use Rattle.ada_base.specs.declared.operation.Comparison.TheVariants as comparison
 use Rattle.typed_tree.specs.declared.scalars.Check.{Check}
 use Rattle.typed_tree.specs.declared.expressions.Run.{Run}
 use Rattle.typed_tree.specs.declared.expressions.Sign.{Sign}

@@ -25,7 +25,7 @@ use Rattle.typed_tree.specs.declared.expressions.Root.{Root}
 use Rattle.ada_base.specs.Cells.{Mine, where_mine}
 use Rattle.stack_code.specs.Deeds.{Stores}
 use Rattle.stack_code.specs.Machine.{done, with_cells}
-use Rattle.ada_meaning.specs.Meaning.{Part}
+use Rattle.ada_meaning.specs.Meaning.{ObjectPart}
 use Rattle.ada_lower.specs.Driven.{state_of, driven}
 use Rattle.ada_lower.specs.Fits.{Refers}
 use Rattle.ada_lower.proofs.Framework.{comes_as}
@@ -54,7 +54,7 @@ pub array_refers : {limit : ℕ} {cuts : ℕ → ℕ → List ℕ} {f : Fixed} {
 array_refers true r n k e = constant_root_refers r n k e
 array_refers false r n k e = root_refers r n k e
 
-pub knows_item : {limit : ℕ} {cuts : ℕ → ℕ → List ℕ} {f : Fixed} {g : Ghost} {s : Sight} {env : Env} (constant : Bool) (j : ℕ) (n : Named) (p : Part) → Knows limit cuts g f s env → Refers g f n (named_entity constant p.object) p.offset → Knows limit cuts g f (with_item constant j n s) (Meaning.with_item constant j p env)
+pub knows_item : {limit : ℕ} {cuts : ℕ → ℕ → List ℕ} {f : Fixed} {g : Ghost} {s : Sight} {env : Env} (constant : Bool) (j : ℕ) (n : Named) (p : ObjectPart) → Knows limit cuts g f s env → Refers g f n (named_entity constant p.object) p.offset → Knows limit cuts g f (with_item constant j n s) (Meaning.with_item constant j p env)
 knows_item {limit} {f} {g} {s} {env} true j n p k r = record {
   most = k.most;
   nested = k.nested;
@@ -216,7 +216,7 @@ module _ (limit : ℕ) (cuts : ℕ → ℕ → List ℕ) (c : Code) (f : Fixed) 
       (items_does stack z s kn room stride a0 head mid h turn j1 j2 j3 j4 m (suc k) b' (omega (arith, ints, is)) (λ i e le. b i e (omega (arith, le)))))
 
   -- turns over items that carry a number on
-  pub items_folds : {g : Ghost} {env : Env} (x : Ends) (s : Sight) (height p : ℕ) (constant : Bool) (stride count : ℕ) (y : Entity) (first total address off at_ to : ℕ) (st : List ℤ) (code : Emit) (q : Part) (turns : ℕ → ℤ → Stored ℤ)
+  pub items_folds : {g : Ghost} {env : Env} (x : Ends) (s : Sight) (height p : ℕ) (constant : Bool) (stride count : ℕ) (y : Entity) (first total address off at_ to : ℕ) (st : List ℤ) (code : Emit) (q : ObjectPart) (turns : ℕ → ℤ → Stored ℤ)
       → Knows limit cuts g f s env → s.scope.entry ≡ x.entry → s.scope.free + 1 + 1 < s.cells → Spread g y first total address → q.offset ≡ first + off → off + suc count * stride ≤ total → named_entity constant q.object ≡ y
       → Stands c (Emission.keep s.scope (height + 1) s.scope.free ⨟ one s.scope height (i.Push (pos 1)) ⨟ Emission.keep s.scope (height + 1) (s.scope.free + 1) ⨟ one s.scope height (i.Push (pos (suc count))) ⨟ Emission.keep s.scope (height + 1) (s.scope.free + 1 + 1)
       ⨟ looped s.scope height true (λ exit. code) (λ head. one s.scope height (i.LoadL s.scope.free) ⨟ one s.scope (height + 1) (i.Field stride) ⨟ Emission.keep s.scope (height + 1) s.scope.free ⨟ one s.scope height (i.Next (s.scope.free + 1) (s.scope.free + 1 + 1) head))) at_ to

@@ -2,7 +2,10 @@
 use Rattle.std.proofs.Common.{◌≡◌, ℕ, ◌+◌, ◌*◌, ◌<◌, ℤ, pos, negsuc, ◌+ℤ◌, ◌-ℤ◌, int_le, List, [], ◌∷◌, ◌++◌, Option, Some, None, Bool, true, false, cond, ◌&&◌, refl, sym, ap, ap₂, ◌∙◌, subst, arith}
 use Rattle.std.proofs.lemmas.Int.{ints}
 use Rattle.ada_meaning.specs.Values.{between, to_nat, count}
-use Rattle.ada_lower.specs.Leases.{At, Fixed, LoopIndex, ChunkIndex, Any, Step, FieldStep, IndexStep, ItemStep, Now, LoopFits, IsItem, Leads, Place, All, Loop, ByChunk, Lease, with_place, lease_of, InLease, Tells, NoItem}
+use Rattle.behaviours.specs.Joins.{Now}
+use Rattle.check_effects.specs.Effects.{At, Fixed, LoopIndex, ChunkIndex, Any, Step, FieldStep, IndexStep, ItemStep}
+use Rattle.check_effects.specs.Conflicts.{LoopFits, IsItem, Leads}
+use Rattle.lower_emission.specs.Leases.{Place, All, Loop, ByChunk, Lease, with_place, lease_of, InLease, Tells, NoItem}
 use Rattle.ada_lower.proofs.Names.{index_below}
 
 -- ---- the base is moved

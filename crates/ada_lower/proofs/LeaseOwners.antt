@@ -3,12 +3,12 @@ use Rattle.std.proofs.Common.{◌≡◌, ℕ, List, [], ◌∷◌, slice_get, na
 use Rattle.std.proofs.lemmas.Bool.{eqb-false}
 use Rattle.behaviours.specs.Paths.{Entity, VariableOf, ConstantOf}
 use Rattle.ada_meaning.specs.Stored as stored
-use Rattle.ada_meaning.specs.Stored.{Touch, Place}
+use Rattle.ada_meaning.specs.Stored.{Touch, Address}
 use Rattle.ada_lower.specs.Driven.{Dyn}
 use Rattle.ada_lower.specs.Fits.{Access, Ghost, Fit, Right, Stands as StandsFor}
 use Rattle.ada_lower.specs.ForkViews.{TouchesFit, There, Owned, TouchedAs, AllCovered}
 
-module _ (g : Ghost) (owner : ℕ → Option ℕ) (Lies : Entity → ℕ → Place → Type 0) (Has : (thread object offset : ℕ) → Type 0) (Under : (thread : ℕ) → (writes : Bool) → (object offset : ℕ) → Type 0) (by : Owned g owner Lies Has Under) where
+module _ (g : Ghost) (owner : ℕ → Option ℕ) (Lies : Entity → ℕ → Address → Type 0) (Has : (thread object offset : ℕ) → Type 0) (Under : (thread : ℕ) → (writes : Bool) → (object offset : ℕ) → Type 0) (by : Owned g owner Lies Has Under) where
   variable_is : (x y : ℕ) → ◌≡◌ {A = Entity} (VariableOf x) (VariableOf y) → x ≡ y
   variable_is x y e = cc
 
@@ -35,7 +35,7 @@ module _ (g : Ghost) (owner : ℕ → Option ℕ) (Lies : Entity → ℕ → Pla
         absurd (let z : ◌≡◌ {A = Entity} (VariableOf x') (ConstantOf x) = same in cc)),
   )
 
-  there : (s : stored.State) (d : Dyn) (a : ℕ) (y : Access) (p : Place) → Fit g s d → g.what a ≡ StandsFor y p → There s p
+  there : (s : stored.State) (d : Dyn) (a : ℕ) (y : Access) (p : Address) → Fit g s d → g.what a ≡ StandsFor y p → There s p
   there s d a y p w e = let (v, cell, b) = subst (λ z. Right z s (slice_get d.cells a)) e (w.cells a) in (v, cell)
 
   pub touches_fit : (s : stored.State) (d : Dyn) → Fit g s d → (j : ℕ) (ts : List Touch) → AllCovered g owner Lies Has Under s j ts → TouchesFit g owner j ts

@@ -1,17 +1,17 @@
 -- Turns, and parts whose leaves are handled.
-use Rattle.std.proofs.Common.{◌≡◌, ℕ, zero, suc, ◌+◌, ◌<◌, ℤ, List, [], slice_get, nat_lt, Option, Some, None, Result, Ok, Err, Bool, true, false, cond, refl, sym, ap, ap₂, ◌∙◌, subst, le_refl, arith, inl, ltb-true}
+use Rattle.std.proofs.Common.{◌≡◌, ℕ, zero, suc, ◌+◌, ◌<◌, ℤ, List, [], slice_get, nat_lt, Option, Some, None, Result, Ok, Err, Bool, true, false, cond, refl, sym, ap, ap₂, ◌∙◌, subst, le_refl, arith, inl, ltb-true, is_some}
 use Rattle.behaviours.specs.Paths.{Leave}
 use Rattle.ada_meaning.specs.Operations.{Operations}
 use Rattle.ada_meaning.specs.Stored as stored
-use Rattle.ada_meaning.specs.Stored.{Stored, Cause, Left, OutOfTurns, NoRoom, CutOff, Misnoted, Place, Touch}
+use Rattle.ada_meaning.specs.Stored.{Stored, Cause, Left, OutOfTurns, NoRoom, CutOff, Misnoted, Address, Touch}
 use Rattle.ada_meaning.specs.Meaning
 use Rattle.stack_code.specs.declared.code.Code.{Code}
 use Rattle.stack_code.specs.declared.instr.Instr.{Instr}
 use Rattle.stack_code.specs.declared.instr.Instr.TheVariants as i
 use Rattle.stack_code.specs.Machine.{State, Went, Spent, Goes, Stops, turned, on as machine_on}
 use Rattle.ada_lower.specs.Driven.{Dyn, Fixed, Step, halt, on, state_of, driven, At}
-use Rattle.ada_lower.specs.Fits.{Ghost, Agrees, Fit, Ends, left_by, Land, Lands, Allows}
-use Rattle.ada_lower.proofs.Framework.{any, To, Doing, comes_here, comes_on, comes_as, led, lands_from, land_from, allows_split}
+use Rattle.ada_lower.specs.Fits.{Ghost, Agrees, Fit, Ends, left_by, Land, Lands, Allows, Asks}
+use Rattle.ada_lower.proofs.Framework.{any, To, Doing, comes_here, comes_on, comes_as, led, lands_from, land_from, allows_split, asks_split, leads_on}
 use Rattle.ada_lower.proofs.Parts.{Runs, allows_fewer}
 use Rattle.ada_lower.proofs.Memory.{right_same}
 
@@ -54,9 +54,10 @@ module _ (limit : ℕ) (c : Code) (f : Fixed) (x : Ends) (cuts : ℕ → ℕ →
           most = (let lt : s.turns < limit = ltb-true s.turns limit e in omega (arith, lt, most));
           agrees = record { turns = refl; left = refl; taken = fit.agrees.taken; held = fit.agrees.held; input = fit.agrees.input; output = fit.agrees.output; notes = fit.agrees.notes };
           plan = fit.plan;
+          order = fit.order;
           cells = λ a. right_same (g.what a) s _ (slice_get d.cells a) refl refl (fit.cells a);
         };
-        comes = comes_as limit c f st (counted s.turns o d) j (k true e);
+        comes = comes_as limit c f st (counted s.turns o d) j (k true e) _;
         grows = omega arith;
       },
     )
@@ -72,9 +73,10 @@ module _ (limit : ℕ) (c : Code) (f : Fixed) (x : Ends) (cuts : ℕ → ℕ →
         most = fit.most;
         agrees = record { turns = refl; left = refl; taken = fit.agrees.taken; held = fit.agrees.held; input = fit.agrees.input; output = fit.agrees.output; notes = fit.agrees.notes };
         plan = fit.plan;
+        order = fit.order;
         cells = λ a. right_same (g.what a) s _ (slice_get d.cells a) refl refl (fit.cells a);
       };
-      comes = comes_as limit c f st (counted s.turns o d) j (k false e);
+      comes = comes_as limit c f st (counted s.turns o d) j (k false e) _;
       grows = le_refl s.turns;
     }
 
@@ -101,9 +103,10 @@ module _ (limit : ℕ) (c : Code) (f : Fixed) (x : Ends) (cuts : ℕ → ℕ →
         most = fit.most;
         agrees = record { turns = refl; left = sym e; taken = fit.agrees.taken; held = fit.agrees.held; input = fit.agrees.input; output = fit.agrees.output; notes = fit.agrees.notes };
         plan = fit.plan;
+        order = fit.order;
         cells = fit.cells;
       };
-      comes = comes_as limit c f st (counted s.turns (Some 0) d) j (deed (counted s.turns (Some 0) d));
+      comes = comes_as limit c f st (counted s.turns (Some 0) d) j (deed (counted s.turns (Some 0) d)) _;
       grows = le_refl s.turns;
     }
     turn_by (Some (suc n)) e = turn_on (Some (suc n)) (Some n) (nat_lt s.turns limit) refl (λ b eb. taken (Some (suc n)) (Some n) b eb (deed (counted s.turns (Some (suc n)) d)))
@@ -147,22 +150,22 @@ module _ (limit : ℕ) (c : Code) (f : Fixed) (x : Ends) (cuts : ℕ → ℕ →
   unfolding stored.bind
   does_turn_then {A} {g} {h} {p} {m} {to} {q} st most j weak k = record {
     by = λ s d fit al.
-        let (ax, ay) = allows_split limit c f x g ((Meaning.turned ops).touches s) (stored.next_touches ((Meaning.turned ops).does s).state ((Meaning.turned ops).does s).end (λ _. m)) al in
+        let (ax, ay) = asks_split limit c f x g ((Meaning.turned ops).touches s) (stored.next_touches ((Meaning.turned ops).does s).state ((Meaning.turned ops).does s).end (λ _. m)) ((Meaning.turned ops).visits s) (stored.next_visits ((Meaning.turned ops).does s).state ((Meaning.turned ops).does s).end (λ _. m)) al in
         go s d fit ((Meaning.turned ops).does s).state ((Meaning.turned ops).does s).end ay (turned_is s) ((does_turn st most j).by s d fit ax);
   }
     where
-      go : (s : stored.State) (d : Dyn) → Fit g s d → (t : stored.State) (e : Result (Unit {0}) Cause) → Allows g (stored.next_touches t e (λ _. m)) → Counts s t e → Lands limit c f x any g (on f q st d) s.turns (λ _ d. on f (q + 1) st d) t e
+      go : (s : stored.State) (d : Dyn) → Fit g s d → (t : stored.State) (e : Result (Unit {0}) Cause) → Asks f g (stored.next_touches t e (λ _. m)) (stored.next_visits t e (λ _. m)) → Counts s t e → Lands limit c f x any g (on f q st d) s.turns (λ _ d. on f (q + 1) st d) t e
           → (let r = stored.next t e (λ _. m) in Lands limit c f x p h (on f q st d) s.turns to r.state r.end)
       go s d fit t (Ok u) al n l =
           let w = l.1.fit in
           lands_from limit c f x p to (m.does t).state (m.does t).end l.1.comes l.1.grows (λ s d fit. fit)
-          (k.by t l.1.dyn (record { here = w.here; everywhere = w.everywhere; declared = w.declared; frame = w.frame; top = w.top; least = (let b = fit.least in omega (arith, b, n)); most = w.most; agrees = w.agrees; plan = w.plan; cells = w.cells })
-          (allows_fewer limit c f x g (more_turns g) (m.touches t) (λ a y p e. inl e) al))
-      go s d fit t (Err (Left y)) al n l = land_from limit c f x (comes_here limit c (on f q st d)) (le_refl s.turns) weak l
-      go s d fit t (Err OutOfTurns) al n l = land_from limit c f x (comes_here limit c (on f q st d)) (le_refl s.turns) weak l
-      go s d fit t (Err CutOff) al n l = land_from limit c f x (comes_here limit c (on f q st d)) (le_refl s.turns) weak l
+          (k.by t l.1.dyn (record { here = w.here; everywhere = w.everywhere; declared = w.declared; frame = w.frame; top = w.top; least = (let b = fit.least in omega (arith, b, n)); most = w.most; agrees = w.agrees; plan = w.plan; order = w.order; cells = w.cells })
+          (allows_fewer limit c f x g (more_turns g) (m.touches t) (λ a y p e. inl e) al.0, al.1))
+      go s d fit t (Err (Left y)) al n l = land_from limit c f x (comes_here limit c (on f q st d) _) (le_refl s.turns) weak l
+      go s d fit t (Err OutOfTurns) al n l = land_from limit c f x (comes_here limit c (on f q st d) _) (le_refl s.turns) weak l
+      go s d fit t (Err CutOff) al n l = land_from limit c f x (comes_here limit c (on f q st d) _) (le_refl s.turns) weak l
       go s d fit t (Err NoRoom) al n l = tt
-      go s d fit t (Err Misnoted) al n l = tt
+      go s d fit t (Err Misnoted) al n (un, l) = (un, land_from limit c f x (comes_here limit c (on f q st d) _) (le_refl s.turns) weak l)
 
   -- leaves that are handled
   pub does_handles : {A : Type 0} {g j : Ghost} {q : A → Type 0} {m : Stored A} {takes : Leave → Bool} {h : Leave → Stored A} {from : Dyn → Step} {to : A → Dyn → Step} (y : Ends) → ((ts : List Touch) → Allows g ts → Allows j ts) → Doing limit c f y g j q m from to
@@ -171,19 +174,19 @@ module _ (limit : ℕ) (c : Code) (f : Fixed) (x : Ends) (cuts : ℕ → ℕ →
       → Doing limit c f x g j q (stored.handles m takes h) from to
   unfolding stored.handles
   does_handles {A} {g} {j} {q} {m} {takes} {h} {from} {to} y few i k past = record {
-    by = λ s d fit al. let (ax, ay) = allows_split limit c f x g (m.touches s) (stored.handled_touches (m.does s).state (m.does s).end takes h) al in go s d (m.does s).state (m.does s).end ay (i.by s d fit ax);
+    by = λ s d fit al. let (ax, ay) = asks_split limit c f x g (m.touches s) (stored.handled_touches (m.does s).state (m.does s).end takes h) (m.visits s) (stored.handled_visits (m.does s).state (m.does s).end takes h) al in go s d (m.does s).state (m.does s).end ay (i.by s d fit ax);
   }
     where
-      left : (s : stored.State) (d : Dyn) (t : stored.State) (l : Leave) (b : Bool) → takes l ≡ b → Allows g (cond b ((h l).touches t) []) → Land limit c j (from d) s.turns t (λ d. left_by f y l d)
+      left : (s : stored.State) (d : Dyn) (t : stored.State) (l : Leave) (b : Bool) → takes l ≡ b → Asks f g (cond b ((h l).touches t) []) (cond b ((h l).visits t) []) → Land limit c (is_some f.asked) j (from d) s.turns t (λ d. left_by f y l d)
           → (let r = cond b ((h l).does t) (stored.at t (Err (Left l))) in Lands limit c f x q j (from d) s.turns to r.state r.end)
-      left s d t l true e al w = lands_from limit c f x q to _ _ w.comes w.grows (λ s d fit. fit) ((k l e).by t w.dyn w.fit (few ((h l).touches t) al))
-      left s d t l false e al w = record { dyn = w.dyn; fit = w.fit; comes = comes_on limit c w.comes (past l e w.dyn); grows = w.grows }
+      left s d t l true e al w = lands_from limit c f x q to _ _ w.comes w.grows (λ s d fit. fit) ((k l e).by t w.dyn w.fit (few ((h l).touches t) al.0, al.1))
+      left s d t l false e al w = record { dyn = w.dyn; fit = w.fit; comes = leads_on limit c w.comes (past l e w.dyn _); grows = w.grows }
 
-      go : (s : stored.State) (d : Dyn) (t : stored.State) (e : Result A Cause) → Allows g (stored.handled_touches t e takes h) → Lands limit c f y q j (from d) s.turns to t e
+      go : (s : stored.State) (d : Dyn) (t : stored.State) (e : Result A Cause) → Asks f g (stored.handled_touches t e takes h) (stored.handled_visits t e takes h) → Lands limit c f y q j (from d) s.turns to t e
           → (let r = stored.handled t e takes h in Lands limit c f x q j (from d) s.turns to r.state r.end)
       go s d t (Ok a) al l = l
       go s d t (Err (Left w)) al l = left s d t w (takes w) refl al l
       go s d t (Err OutOfTurns) al l = l
       go s d t (Err CutOff) al l = l
       go s d t (Err NoRoom) al l = tt
-      go s d t (Err Misnoted) al l = tt
+      go s d t (Err Misnoted) al l = l

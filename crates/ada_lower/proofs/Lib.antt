@@ -17,7 +17,7 @@ mod Operands
 mod Doubled
 mod Plain
 mod Defaults
-mod Grounded
+pub mod Grounded
 mod Turnings
 mod Aggregates
 mod Inner
@@ -28,7 +28,7 @@ mod Suits
 mod Texts
 mod Statements
 mod ForkLaws
-mod ForkFuel
+pub mod ForkFuel
 mod ForkThreads
 mod ForkNotes
 mod ForkPar
@@ -44,7 +44,10 @@ mod ForkItems
 mod ForkChunks
 mod ForkOf
 mod ForkSights
+mod Alike
 mod ForkApart
+mod ForkFine
+mod Lent
 mod ForkReduce
 mod ForkKept
 mod ForkSites
@@ -56,17 +59,24 @@ mod LeaseOwners
 mod Bodies
 mod Main
 mod Listed
-mod ProgramStands
+pub mod ProgramStands
 mod Forward
 mod ForwardCode
 mod ForwardValues
 mod ForwardStatements
+mod Heights
+mod HeightsTables
+mod HeightsScopes
+mod HeightsValues
+mod HeightsStatements
+mod HeightsPrograms
+mod NamedCode
+mod CodeTables
 mod ForkLeaves
 mod JoinLeaves
 mod Reading
 mod Copied
 mod Aggregated
-mod Sound
 mod EvalLeaves
 mod ExecLeaves
 mod ForkDoes
@@ -78,3 +88,8 @@ mod ForkExample
 mod WholeExample
 mod FoldExample
 mod WholeLaws
+mod OnePlace
+mod Leasing
+mod RangesLent
+mod WholeSafe
+mod AllFine

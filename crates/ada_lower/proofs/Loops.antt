@@ -28,7 +28,7 @@ module _ (limit : ℕ) (cuts : ℕ → ℕ → List ℕ) (c : Code) (f : Fixed) 
   ops = stored.noted_operations limit cuts
 
   fit_least : (k : ℕ) (g : Ghost) (s : stored.State) (d : Dyn) → g.least ≤ k → Fit (least_at k g) s d → Fit g s d
-  fit_least k g s d le w = record { here = w.here; everywhere = w.everywhere; declared = w.declared; frame = w.frame; top = w.top; least = le_trans le w.least; most = w.most; agrees = w.agrees; plan = w.plan; cells = w.cells }
+  fit_least k g s d le w = record { here = w.here; everywhere = w.everywhere; declared = w.declared; frame = w.frame; top = w.top; least = le_trans le w.least; most = w.most; agrees = w.agrees; plan = w.plan; order = w.order; cells = w.cells }
 
   allows_least : (k j : ℕ) (g : Ghost) (ts : List Touch) → Allows (least_at k g) ts → Allows (least_at j g) ts
   allows_least k j g ts al = allows_fewer limit c f x (least_at k g) (least_at j g) ts (λ a y p e. inl e) al
@@ -61,7 +61,7 @@ module _ (limit : ℕ) (cuts : ℕ → ℕ → List ℕ) (c : Code) (f : Fixed) 
   pub last_at : (n : ℕ) (u v : ℤ) (g : Ghost) → (counts_at n u v g).what (f.base + (n + 1)) ≡ Keeps v
   last_at n u v g = what_same (set_what (f.base + n) (Keeps u) g) (f.base + (n + 1)) (Keeps v)
 
-  pub fit_what : {g h : Ghost} {s : stored.State} {d : Dyn} → g.here ≡ h.here → (g.everywhere ≡ h.everywhere) × (g.declared ≡ h.declared) → g.frame ≡ h.frame → g.top ≡ h.top → g.least ≡ h.least → g.most ≡ h.most → g.plan ≡ h.plan → ((a : ℕ) → g.what a ≡ h.what a) → Fit g s d → Fit h s d
+  pub fit_what : {g h : Ghost} {s : stored.State} {d : Dyn} → g.here ≡ h.here → (g.everywhere ≡ h.everywhere) × (g.declared ≡ h.declared) → g.frame ≡ h.frame → g.top ≡ h.top → g.least ≡ h.least → g.most ≡ h.most → (g.plan ≡ h.plan) × (g.ordered ≡ h.ordered) → ((a : ℕ) → g.what a ≡ h.what a) → Fit g s d → Fit h s d
   fit_what {g} {h} {s} {d} e0 e1 e2 e3 e4 e5 e6 e w = record {
     here = w.here ∙ e0;
     everywhere = w.everywhere ∙ e1.0;
@@ -71,14 +71,15 @@ module _ (limit : ℕ) (cuts : ℕ → ℕ → List ℕ) (c : Code) (f : Fixed) 
     least = subst (λ n. n ≤ s.turns) e4 w.least;
     most = subst (λ n. s.turns ≤ n) e5 w.most;
     agrees = w.agrees;
-    plan = w.plan ∙ e6;
+    plan = w.plan ∙ e6.0;
+    order = λ o. w.order (e6.1 ∙ o);
     cells = λ a. subst (λ z. Right z s (slice_get d.cells a)) (e a) (w.cells a);
   }
 
   -- the one cell has another number
   fit_first : (g : Ghost) {s : stored.State} {d : Dyn} (n : ℕ) (u v u' : ℤ) → Fit (counts_at n u v g) s d → Fit (counts_at n u' v g) s (record d { cells = set d.cells (f.base + n) (Mine u') })
   fit_first g {s} {d} n u v u' w =
-      fit_what refl (refl, refl) refl refl refl refl refl same (fit_set (f.base + n) u' (own_keeps ((counts_at n u v g).what (f.base + n)) u (first_at n u v g)) w)
+      fit_what refl (refl, refl) refl refl refl refl (refl, refl) same (fit_set (f.base + n) u' (own_keeps ((counts_at n u v g).what (f.base + n)) u (first_at n u v g)) w)
     where
       same : (a : ℕ) → (set_what (f.base + n) (Keeps u') (counts_at n u v g)).what a ≡ (counts_at n u' v g).what a
       same a = ⊎_elim
@@ -88,7 +89,7 @@ module _ (limit : ℕ) (cuts : ℕ → ℕ → List ℕ) (c : Code) (f : Fixed) 
 
   fit_last : (g : Ghost) {s : stored.State} {d : Dyn} (n : ℕ) (u v v' : ℤ) → Fit (counts_at n u v g) s d → Fit (counts_at n u v' g) s (record d { cells = set d.cells (f.base + (n + 1)) (Mine v') })
   fit_last g {s} {d} n u v v' w =
-      fit_what refl (refl, refl) refl refl refl refl refl same (fit_set (f.base + (n + 1)) v' (own_keeps ((counts_at n u v g).what (f.base + (n + 1))) v (last_at n u v g)) w)
+      fit_what refl (refl, refl) refl refl refl refl (refl, refl) same (fit_set (f.base + (n + 1)) v' (own_keeps ((counts_at n u v g).what (f.base + (n + 1))) v (last_at n u v g)) w)
     where
       same : (a : ℕ) → (set_what (f.base + (n + 1)) (Keeps v') (counts_at n u v g)).what a ≡ (counts_at n u v' g).what a
       same a = ⊎_elim

@@ -1,21 +1,22 @@
 -- Objects of the main procedure, which are visible everywhere, in cells of its frame.
-use Rattle.std.proofs.Common.{◌≡◌, ℕ, zero, suc, ◌+◌, ◌<◌, ◌≤◌, ℤ, List, [], ◌∷◌, ◌++◌, length, set, slice_get, nat_eq, nat_lt, Option, Some, None, Result, Ok, Err, Bool, true, false, cond, refl, sym, ap, ◌∙◌, subst, le_refl, arith, ◌⊎◌, inl, inr, ⊎_elim, true≢false, lt-ltb, ltb-true}
+use Rattle.std.proofs.Common.{◌≡◌, ℕ, zero, suc, ◌+◌, ◌<◌, ◌≤◌, ℤ, List, [], ◌∷◌, ◌++◌, length, set, slice_get, nat_eq, nat_lt, Option, Some, None, Result, Ok, Err, Bool, true, false, cond, refl, sym, ap, ◌∙◌, subst, le_refl, arith, ◌⊎◌, inl, inr, ⊎_elim, true≢false, lt-ltb, ltb-true, is_some}
 use Rattle.std.proofs.lemmas.Bool.{ne_eqb}
 use Rattle.std.proofs.lemmas.Option.{none-some}
 use Rattle.behaviours.specs.Paths.{Entity, VariableOf, ConstantOf, Everywhere, entity_eq}
 use Rattle.ada_meaning.specs.declared.slots.Slot.{Slot}
 use Rattle.ada_meaning.specs.declared.slots.Variable.{Variable}
 use Rattle.ada_meaning.specs.Stored as stored
-use Rattle.ada_meaning.specs.Stored.{Stored, Cause, Left, OutOfTurns, NoRoom, CutOff, Misnoted, Place, Kept, Stacked, Touch, declares, cell_at, slot_at, key, within}
+use Rattle.ada_meaning.specs.Stored.{Stored, Cause, Left, OutOfTurns, NoRoom, CutOff, Misnoted, Address, Kept, Stacked, Touch, declares, cell_at, slot_at, key, within}
 use Rattle.ada_meaning.specs.Meaning.{Env}
 use Rattle.ada_meaning.proofs.Cells.{slot_bound, slot_other, key_other, entity_same, some_same, get_left, get_right}
 use Rattle.stack_code.specs.declared.code.Code.{Code}
 use Rattle.ada_base.specs.Cells.{Cell, Mine}
-use Rattle.ada_lower.specs.Driven.{Dyn, Fixed, Step, on}
+use Rattle.ada_lower.specs.Driven.{Dyn, Fixed, Step, on, Comes}
 use Rattle.ada_lower.specs.Sights.{Named, Sight}
 use Rattle.ada_lower.specs.Bodies.{main_named, main_object}
+use Rattle.ada_lower.specs.Teams.{AreSound}
 use Rattle.ada_lower.specs.Fits.{Access, Barred, Readable, Full, What, Other, Free, Keeps, Shows, Stands, Right, allows, Ghost, Allows, Fit, Ends, Lands, place_in, Refers, AtMain, Knows}
-use Rattle.ada_lower.proofs.Framework.{any, To, Doing, comes_here, lands_from}
+use Rattle.ada_lower.proofs.Framework.{any, To, Doing, comes_here, lands_from, sound_split, sound_join, none_sound}
 use Rattle.ada_lower.proofs.Memory.{set_what, own_free, fit_set, fit_alike, what_other, right_same, at_or_not, IsSolid, Extends, refers_more, holds_more, main_more}
 use Rattle.ada_lower.proofs.Declared.{laid_what, laid_out, laid_in, kept_what, among, keeping, keep_more, length_in, get_of}
 use Rattle.ada_lower.proofs.Blocks.{fit_unkept}
@@ -38,7 +39,7 @@ pub fresh_kept_of : {g : Ghost} {s : stored.State} {d : Dyn} → Fit g s d → F
 fresh_kept_of {g} {s} {d} w a x b e = let (v, cell, bears) = subst (λ z. Right z s (slice_get d.cells a)) e (w.cells a) in length_in s.kept b v cell
 
 module _ (y : Entity) (a : ℕ) (vs : List ℤ) (g : Ghost) where
-  cells_begun : (s : stored.State) (p : Place) (v : ℤ) → cell_at s p ≡ Some v → cell_at (stored.begun Everywhere y vs s) p ≡ Some v
+  cells_begun : (s : stored.State) (p : Address) (v : ℤ) → cell_at s p ≡ Some v → cell_at (stored.begun Everywhere y vs s) p ≡ Some v
   cells_begun s (Kept b) v e = get_left s.kept vs b v e
   cells_begun s (Stacked b) v e = e
 
@@ -60,6 +61,7 @@ module _ (y : Entity) (a : ℕ) (vs : List ℤ) (g : Ghost) where
     most = w.most;
     agrees = record { turns = w.agrees.turns; left = w.agrees.left; taken = w.agrees.taken; held = w.agrees.held; input = w.agrees.input; output = w.agrees.output; notes = w.agrees.notes };
     plan = w.plan;
+    order = w.order;
     cells = λ b. ⊎_elim
         (λ r. let (k, v, e, is) = r in subst (λ b. Right ((holding y (length s.kept) a vs g).what b) (stored.begun Everywhere y vs s) (slice_get d.cells b)) e
         (subst (λ z. Right z (stored.begun Everywhere y vs s) (slice_get d.cells (a + k))) (sym (laid_in a (length s.kept) everywhere_what vs g.what k v is))
@@ -122,13 +124,13 @@ knows_holding {limit} {g} {f} {s} {env} y len vs base room none_here slots new f
             loose (Shows v) ok e = cc
             loose (Stands x p) ok e = cc
 
-    in_place : (b j : ℕ) (v : ℤ) (x : Access) (p : Place) → a + j ≡ b → slice_get vs j ≡ Some v → h.what b ≡ Stands x p → p ≡ Kept (len + j)
+    in_place : (b j : ℕ) (v : ℤ) (x : Access) (p : Address) → a + j ≡ b → slice_get vs j ≡ Some v → h.what b ≡ Stands x p → p ≡ Kept (len + j)
     in_place b j v x p z is e = let q : Stands Full (Kept (len + j)) ≡ Stands x p = sym (laid_in a len everywhere_what vs g.what j v is) ∙ ap h.what z ∙ e in cc
 
     kept_same : (m n : ℕ) → Kept m ≡ Kept n → m ≡ n
     kept_same m n e = cc
 
-    one' : (b c : ℕ) (x z : Access) (p : Place) → h.what b ≡ Stands x p → h.what c ≡ Stands z p → b ≡ c
+    one' : (b c : ℕ) (x z : Access) (p : Address) → h.what b ≡ Stands x p → h.what c ≡ Stands z p → b ≡ c
     one' b c x z p eb ec = ⊎_elim
         (λ r. let (j, v, zb, is) = r in ⊎_elim
         (λ r'. let (j', v', zc, is') = r' in
@@ -204,7 +206,7 @@ get_last [] x (suc k) v e = absurd (none-some v e)
 get_last (y ∷ xs) x zero v e = inl e
 get_last (y ∷ xs) x (suc k) v e = ⊎_elim (λ l. inl l) (λ r. inr (ap suc r.0, r.1)) (get_last xs x k v e)
 
-still : (y : Entity) (len a : ℕ) (vs : List ℤ) (g : Ghost) (b : ℕ) (p : Place) → ((k : ℕ) → k < length vs → g.what (a + k) ≡ Free) → g.what b ≡ Stands Full p → (holding y len a vs g).what b ≡ Stands Full p
+still : (y : Entity) (len a : ℕ) (vs : List ℤ) (g : Ghost) (b : ℕ) (p : Address) → ((k : ℕ) → k < length vs → g.what (a + k) ≡ Free) → g.what b ≡ Stands Full p → (holding y len a vs g).what b ≡ Stands Full p
 still y len a vs g b p free e = ⊎_elim
     (λ r. let (j, v, z, is) = r in absurd (let q : Free ≡ Stands Full p = sym (free j (length_in vs j v is)) ∙ ap g.what z ∙ e in cc))
     (λ out. laid_out a len everywhere_what vs g.what b out ∙ e)
@@ -226,7 +228,7 @@ final_variable x len a p vs g ps same many free w k v e = ⊎_elim
 
 -- all that stands for cells of the stored run may be written
 abbrev pub AllFull : Ghost → Type 0
-AllFull g = (a : ℕ) (x : Access) (p : Place) → g.what a ≡ Stands x p → (b : Bool) → allows x b ≡ true
+AllFull g = (a : ℕ) (x : Access) (p : Address) → g.what a ≡ Stands x p → (b : Bool) → allows x b ≡ true
 
 pub allows_all : (g : Ghost) → AllFull g → (ts : List Touch) → Allows g ts
 allows_all g w [] = tt
@@ -238,7 +240,7 @@ full_holding y len a vs g w b z p e = ⊎_elim
     (λ out. w b z p (sym (laid_out a len everywhere_what vs g.what b out) ∙ e))
     (among a b vs)
   where
-    full : {q : Place} (z : Access) (p : Place) → Stands Full q ≡ Stands z p → (t : Bool) → allows z t ≡ true
+    full : {q : Address} (z : Access) (p : Address) → Stands Full q ≡ Stands z p → (t : Bool) → allows z t ≡ true
     full Full p e t = refl
     full Barred p e t = let z : Full ≡ Barred = cc in absurd cc
     full Readable p e t = let z : Full ≡ Readable = cc in absurd cc
@@ -291,15 +293,16 @@ module _ (limit : ℕ) (c : Code) (f : Fixed) (x : Ends) where
     most = w.most;
     agrees = record { turns = w.agrees.turns; left = w.agrees.left; taken = w.agrees.taken; held = w.agrees.held; input = w.agrees.input; output = w.agrees.output; notes = w.agrees.notes };
     plan = w.plan;
+    order = w.order;
     cells = λ b. right_same (h.what b) t (stored.ended Everywhere y s t) (slice_get d.cells b) refl refl (w.cells b);
   }
 
   -- a new object that is visible everywhere, whose first values stand in its cells
-  pub elaborates_main : (g : Ghost) (m : Stored (Unit {0})) (from : Step) (to : Dyn → Step) (ps : List ℕ) (y : Entity) (a : ℕ) (vs : List ℤ) (s : stored.State) (d : Dyn) → Final g ps → Fit (keeping a vs g) s d
-      → (key y < length g.everywhere → Fit (holding y (length s.kept) a vs g) (stored.begun Everywhere y vs s) d → (let r = m.does (stored.begun Everywhere y vs s) in Ending ps from s.turns to r.state r.end))
+  pub elaborates_main : (g : Ghost) (m : Stored (Unit {0})) (from : Step) (to : Dyn → Step) (ps : List ℕ) (y : Entity) (a : ℕ) (vs : List ℤ) (s : stored.State) (d : Dyn) → Final g ps → Fit (keeping a vs g) s d → AreSound f.asked ((stored.elaborates Everywhere y vs m).visits s)
+      → (key y < length g.everywhere → Fit (holding y (length s.kept) a vs g) (stored.begun Everywhere y vs s) d → AreSound f.asked (m.visits (stored.begun Everywhere y vs s)) → (let r = m.does (stored.begun Everywhere y vs s) in Ending ps from s.turns to r.state r.end))
       → (let r = (stored.elaborates Everywhere y vs m).does s in Ending ps from s.turns to r.state r.end)
   unfolding stored.elaborates
-  elaborates_main g m from to ps y a vs s d final fit k = go (nat_lt (key y) (length s.everywhere)) refl
+  elaborates_main g m from to ps y a vs s d final fit sound k = go (nat_lt (key y) (length s.everywhere)) refl
     where
       over : Ghost → Ghost
       over h = record h { everywhere = set h.everywhere (key y) (slot_at s.everywhere (key y)) }
@@ -310,7 +313,7 @@ module _ (limit : ℕ) (c : Code) (f : Fixed) (x : Ends) where
       back t (Err OutOfTurns) (h, w, l) = (over h, w, record { dyn = l.dyn; fit = fit_over y s t h l.fit; comes = l.comes; grows = l.grows })
       back t (Err CutOff) (h, w, l) = (over h, w, record { dyn = l.dyn; fit = fit_over y s t h l.fit; comes = l.comes; grows = l.grows })
       back t (Err NoRoom) (h, w, l) = (over h, w, tt)
-      back t (Err Misnoted) (h, w, l) = (over h, w, tt)
+      back t (Err Misnoted) (h, w, (un, l)) = (over h, w, (un, record { dyn = l.dyn; fit = fit_over y s t h l.fit; comes = l.comes; grows = l.grows }))
 
       go : (b : Bool) → nat_lt (key y) (length s.everywhere) ≡ b
           → (let r = m.does (stored.begun Everywhere y vs s) in let z = cond (nat_lt (key y) (length s.everywhere)) (stored.at (stored.ended Everywhere y s r.state) r.end) (stored.at s (Err NoRoom)) in Ending ps from s.turns to z.state z.end)
@@ -318,13 +321,13 @@ module _ (limit : ℕ) (c : Code) (f : Fixed) (x : Ends) where
           let slots : key y < length g.everywhere = subst (λ h. key y < length h) fit.everywhere (ltb-true (key y) (length s.everywhere) e) in
           let r = m.does (stored.begun Everywhere y vs s) in
           subst (λ b. let z = cond b (stored.at (stored.ended Everywhere y s r.state) r.end) (stored.at s (Err NoRoom)) in Ending ps from s.turns to z.state z.end) (sym e)
-          (back r.state r.end (k slots (fit_holding y a vs g fit)))
+          (back r.state r.end (k slots (fit_holding y a vs g fit) (subst (λ b. AreSound f.asked (cond b (m.visits (stored.begun Everywhere y vs s)) [])) e sound)))
       go false e =
           let r = m.does (stored.begun Everywhere y vs s) in
           subst (λ b. let z = cond b (stored.at (stored.ended Everywhere y s r.state) r.end) (stored.at s (Err NoRoom)) in Ending ps from s.turns to z.state z.end) (sym e) (g, final, tt)
 
   -- what comes before
-  pub ending_from : {from from' : Step} {n m : ℕ} (to : Dyn → Step) (ps : List ℕ) (t : stored.State) (e : Result (Unit {0}) Cause) → To limit c from from' → n ≤ m → Ending ps from' m to t e → Ending ps from n to t e
+  pub ending_from : {from from' : Step} {n m : ℕ} (to : Dyn → Step) (ps : List ℕ) (t : stored.State) (e : Result (Unit {0}) Cause) → Comes limit c (is_some f.asked) from from' → n ≤ m → Ending ps from' m to t e → Ending ps from n to t e
   ending_from to ps t e z le (h, w, l) = (h, w, lands_from limit c f x any (λ _ d. to d) t e z le (λ s d fit. fit) l)
 
   -- values that are known go on in their cells
@@ -336,26 +339,31 @@ module _ (limit : ℕ) (c : Code) (f : Fixed) (x : Ends) where
       record {
         dyn = d;
         fit = fit_unkept a cs g (λ k lt. free k (omega (arith, lt, len))) fit;
-        comes = subst (λ z. To limit c (on f mid [] d) (on f z [] (patch a cs d))) same (subst (λ e. To limit c (on f mid [] d) (on f mid [] e)) (sym (patch_kept a cs g fit)) (comes_here limit c (on f mid [] d)));
+        comes = subst (λ z. To limit c (on f mid [] d) (on f z [] (patch a cs d))) same (subst (λ e. To limit c (on f mid [] d) (on f mid [] e)) (sym (patch_kept a cs g fit)) (comes_here limit c (on f mid [] d))) _;
         grows = le_refl s.turns;
       },
     );
   }
 
   -- values, and then a part that begins with them in their cells
-  pub values_main : (g : Ghost) (from : ℕ) (to : Dyn → Step) (ps : List ℕ) (n a q : ℕ) (m : Stored (List ℤ)) (k : List ℤ → Stored (Unit {0})) (s : stored.State) (d : Dyn) → Final g ps → AllFull g → ((k : ℕ) → k < n → g.what (a + k) ≡ Free) → Fit g s d
+  pub values_main : (g : Ghost) (from : ℕ) (to : Dyn → Step) (ps : List ℕ) (n a q : ℕ) (m : Stored (List ℤ)) (k : List ℤ → Stored (Unit {0})) (s : stored.State) (d : Dyn) → Final g ps → AllFull g → ((k : ℕ) → k < n → g.what (a + k) ≡ Free) → Fit g s d → AreSound f.asked ((stored.bind m k).visits s)
       → (((cs : List ℤ) (mid : ℕ) → length cs ≡ n → mid ≡ q → Doing limit c f x (keeping a cs g) g (λ cs. length cs ≡ n) (stored.ret cs) (λ d. on f mid [] d) (λ cs d. on f q [] (patch a cs d))) → Doing limit c f x g g (λ cs. length cs ≡ n) (stored.bind m stored.ret) (λ d. on f from [] d) (λ cs d. on f q [] (patch a cs d)))
-      → ((cs : List ℤ) (t : stored.State) (e : Dyn) → length cs ≡ n → Fit (keeping a cs g) t e → (let r = (k cs).does t in Ending ps (on f q [] e) t.turns to r.state r.end))
+      → ((cs : List ℤ) (t : stored.State) (e : Dyn) → length cs ≡ n → Fit (keeping a cs g) t e → AreSound f.asked ((k cs).visits t) → (let r = (k cs).does t in Ending ps (on f q [] e) t.turns to r.state r.end))
       → (let r = (stored.bind m k).does s in Ending ps (on f from [] d) s.turns to r.state r.end)
   unfolding stored.bind stored.ret
-  values_main g from to ps n a q m k s d final full free fit into then =
-      go (m.does s).state (m.does s).end ((into (λ cs mid len same. kept_lands n a q mid cs len same free)).by s d fit (allows_all g full ((stored.bind m stored.ret).touches s)))
+  values_main g from to ps n a q m k s d final full free fit sound into then =
+      let (first, rest) = sound_split limit c f x f.asked (m.visits s) (stored.next_visits (m.does s).state (m.does s).end k) sound in
+      go (m.does s).state (m.does s).end rest ((into (λ cs mid len same. kept_lands n a q mid cs len same free)).by s d fit (allows_all g full ((stored.bind m stored.ret).touches s), sound_join limit c f x f.asked (m.visits s) _ first (none_after (m.does s).state (m.does s).end)))
     where
-      go : (t : stored.State) (e : Result (List ℤ) Cause) → (let r = stored.next t e stored.ret in Lands limit c f x (λ cs. length cs ≡ n) g (on f from [] d) s.turns (λ cs d. on f q [] (patch a cs d)) r.state r.end)
+      none_after : (t : stored.State) (e : Result (List ℤ) Cause) → AreSound f.asked (stored.next_visits t e stored.ret)
+      none_after t (Ok cs) = none_sound limit c f x f.asked
+      none_after t (Err e) = none_sound limit c f x f.asked
+
+      go : (t : stored.State) (e : Result (List ℤ) Cause) → AreSound f.asked (stored.next_visits t e k) → (let r = stored.next t e stored.ret in Lands limit c f x (λ cs. length cs ≡ n) g (on f from [] d) s.turns (λ cs d. on f q [] (patch a cs d)) r.state r.end)
           → (let r = stored.next t e k in Ending ps (on f from [] d) s.turns to r.state r.end)
-      go t (Ok cs) (len, l) = ending_from to ps ((k cs).does t).state ((k cs).does t).end l.comes l.grows (then cs t (patch a cs l.dyn) len (fit_patch a cs g (λ k lt. free k (omega (arith, lt, len))) l.fit))
-      go t (Err (Left z)) l = (g, final, l)
-      go t (Err OutOfTurns) l = (g, final, l)
-      go t (Err CutOff) l = (g, final, l)
-      go t (Err NoRoom) l = (g, final, tt)
-      go t (Err Misnoted) l = (g, final, tt)
+      go t (Ok cs) sound (len, l) = ending_from to ps ((k cs).does t).state ((k cs).does t).end l.comes l.grows (then cs t (patch a cs l.dyn) len (fit_patch a cs g (λ k lt. free k (omega (arith, lt, len))) l.fit) sound)
+      go t (Err (Left z)) sound l = (g, final, l)
+      go t (Err OutOfTurns) sound l = (g, final, l)
+      go t (Err CutOff) sound l = (g, final, l)
+      go t (Err NoRoom) sound l = (g, final, tt)
+      go t (Err Misnoted) sound l = (g, final, l)

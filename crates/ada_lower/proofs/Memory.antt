@@ -3,7 +3,7 @@ use Rattle.std.proofs.Common.{◌≡◌, ℕ, ◌+◌, ◌<◌, ◌≤◌, ℤ, 
 use Rattle.std.proofs.lemmas.Bool.{eqb-false, ne_eqb}
 use Rattle.behaviours.specs.Paths.{Entity, VariableOf}
 use Rattle.ada_meaning.specs.Stored as stored
-use Rattle.ada_meaning.specs.Stored.{Stored, Place, Kept, Stacked, Touch, cell_at, put_at, place_of, read_at, written_at, touched, slot_at, key, within}
+use Rattle.ada_meaning.specs.Stored.{Stored, Address, Kept, Stacked, Touch, cell_at, put_at, place_of, read_at, written_at, touched, slot_at, key, within}
 use Rattle.ada_meaning.specs.Meaning.{Env}
 use Rattle.ada_meaning.proofs.Cells.{get_set_same, get_set_other}
 use Rattle.stack_code.specs.declared.code.Code.{Code}
@@ -19,31 +19,31 @@ use Rattle.ada_lower.proofs.Framework.{any, To, Doing}
 pub place_fits : {g : Ghost} {s : stored.State} {d : Dyn} (x : Entity) (i : ℕ) → Fit g s d → place_of s x i ≡ place_in g x i
 place_fits {g} {s} x i fit = rw (fit.here, fit.everywhere, fit.frame) refl
 
-put_same : (s : stored.State) (p : Place) (v w : ℤ) → cell_at s p ≡ Some w → cell_at (put_at s p v) p ≡ Some v
+put_same : (s : stored.State) (p : Address) (v w : ℤ) → cell_at s p ≡ Some w → cell_at (put_at s p v) p ≡ Some v
 put_same s (Kept a) v w e = get_set_same s.kept a v w e
 put_same s (Stacked a) v w e = get_set_same s.cells a v w e
 
-put_other : (s : stored.State) (p q : Place) (v : ℤ) → (p ≡ q → ⊥) → cell_at (put_at s p v) q ≡ cell_at s q
+put_other : (s : stored.State) (p q : Address) (v : ℤ) → (p ≡ q → ⊥) → cell_at (put_at s p v) q ≡ cell_at s q
 put_other s (Kept a) (Kept b) v ne = get_set_other s.kept a b v (λ e. ne (ap Kept e))
 put_other s (Kept a) (Stacked b) v ne = refl
 put_other s (Stacked a) (Kept b) v ne = refl
 put_other s (Stacked a) (Stacked b) v ne = get_set_other s.cells a b v (λ e. ne (ap Stacked e))
 
-put_agrees : (s : stored.State) (p : Place) (v : ℤ) (d : Dyn) (cells : List Cell) → Agrees s d → Agrees (put_at s p v) (record d { cells = cells })
+put_agrees : (s : stored.State) (p : Address) (v : ℤ) (d : Dyn) (cells : List Cell) → Agrees s d → Agrees (put_at s p v) (record d { cells = cells })
 put_agrees s (Kept a) v d cells x = record { turns = x.turns; left = x.left; taken = x.taken; held = x.held; input = x.input; output = x.output; notes = x.notes }
 put_agrees s (Stacked a) v d cells x = record { turns = x.turns; left = x.left; taken = x.taken; held = x.held; input = x.input; output = x.output; notes = x.notes }
 
-put_here : (s : stored.State) (p : Place) (v : ℤ) → ((put_at s p v).here ≡ s.here) × ((put_at s p v).everywhere ≡ s.everywhere) × ((put_at s p v).frame ≡ s.frame) × ((put_at s p v).turns ≡ s.turns)
+put_here : (s : stored.State) (p : Address) (v : ℤ) → ((put_at s p v).here ≡ s.here) × ((put_at s p v).everywhere ≡ s.everywhere) × ((put_at s p v).frame ≡ s.frame) × ((put_at s p v).turns ≡ s.turns)
 put_here s (Kept a) v = (refl, refl, refl, refl)
 put_here s (Stacked a) v = (refl, refl, refl, refl)
 
-put_declared : (s : stored.State) (p : Place) (v : ℤ) → (put_at s p v).declared ≡ s.declared
+put_declared : (s : stored.State) (p : Address) (v : ℤ) → (put_at s p v).declared ≡ s.declared
 put_declared s (Kept a) v = refl
 put_declared s (Stacked a) v = refl
 
 -- ---- states with the same cells
 
-cell_same : (s t : stored.State) (p : Place) → s.cells ≡ t.cells → s.kept ≡ t.kept → cell_at s p ≡ cell_at t p
+cell_same : (s t : stored.State) (p : Address) → s.cells ≡ t.cells → s.kept ≡ t.kept → cell_at s p ≡ cell_at t p
 cell_same s t (Kept a) e k = ap (λ xs. slice_get xs a) k
 cell_same s t (Stacked a) e k = ap (λ xs. slice_get xs a) e
 
@@ -73,7 +73,7 @@ pub number_seen : (w : What) (v : ℤ) (s : stored.State) (o : Option Cell) → 
 number_seen w v s o (inl e) r = value_mine v o (subst (λ w. Right w s o) e r)
 number_seen w v s o (inr e) r = subst (λ w. Right w s o) e r
 
-pub cell_seen : (g : Ghost) (a : ℕ) (x : Access) (p : Place) (s : stored.State) (d : Dyn) → Fit g s d → g.what a ≡ Stands x p → Right (Stands x p) s (slice_get d.cells a)
+pub cell_seen : (g : Ghost) (a : ℕ) (x : Access) (p : Address) (s : stored.State) (d : Dyn) → Fit g s d → g.what a ≡ Stands x p → Right (Stands x p) s (slice_get d.cells a)
 cell_seen g a x p s d fit e = subst (λ w. Right w s (slice_get d.cells a)) e (fit.cells a)
 
 -- ---- what a cell is of, changed at one
@@ -124,6 +124,7 @@ fit_set {g} {s} {d} a v own fit = record {
   most = fit.most;
   agrees = record { turns = fit.agrees.turns; left = fit.agrees.left; taken = fit.agrees.taken; held = fit.agrees.held; input = fit.agrees.input; output = fit.agrees.output; notes = fit.agrees.notes };
   plan = fit.plan;
+  order = fit.order;
   cells = λ b. ⊎_elim
       (λ e. subst (λ b. Right ((set_what a (Keeps v) g).what b) s (slice_get (set d.cells a (Mine v)) b)) e
       (subst (λ w. Right w s (slice_get (set d.cells a (Mine v)) a)) (sym (what_same g a (Keeps v)))
@@ -145,6 +146,7 @@ fit_unset {g} {s} {d} a v free fit = record {
   most = fit.most;
   agrees = fit.agrees;
   plan = fit.plan;
+  order = fit.order;
   cells = λ b. ⊎_elim
       (λ e. subst (λ b. Right (g.what b) s (slice_get d.cells b)) e
       (subst (λ w. Right w s (slice_get d.cells a)) (sym free)
@@ -163,7 +165,7 @@ IsSolid (Shows v) = Unit {0}
 IsSolid (Stands x p) = Unit {0}
 
 pub record Extends (g h : Ghost) : Type 0 where
-  pub place : (x : Entity) (i : ℕ) (p : Place) → place_in g x i ≡ Some p → place_in h x i ≡ Some p
+  pub place : (x : Entity) (i : ℕ) (p : Address) → place_in g x i ≡ Some p → place_in h x i ≡ Some p
   pub solid : (a : ℕ) (w : What) → IsSolid w → g.what a ≡ w → h.what a ≡ w
 
 pub number_more : {g h : Ghost} {a : ℕ} {v : ℤ} → Extends g h → IsNumber (g.what a) v → IsNumber (h.what a) v
@@ -200,7 +202,7 @@ free_extends g a w free = record {
     loose (Shows v) ok e = cc
     loose (Stands x p) ok e = cc
 
-keeps_stands : (v : ℤ) (x : Access) (p : Place) → Keeps v ≡ Stands x p → ⊥
+keeps_stands : (v : ℤ) (x : Access) (p : Address) → Keeps v ≡ Stands x p → ⊥
 keeps_stands v x p e = cc
 
 -- the first free cell is taken, and holds a number
@@ -230,7 +232,7 @@ knows_keep {limit} {g} {f} {s} {env} v room k =
       free = λ n le lt. what_other g a (f.base + n) (Keeps v) (λ z. omega (arith, z, le)) ∙ k.free n (omega (arith, le)) lt;
     }
   where
-    back : (b : ℕ) (x : Access) (p : Place) → (set_what (f.base + s.scope.free) (Keeps v) g).what b ≡ Stands x p → g.what b ≡ Stands x p
+    back : (b : ℕ) (x : Access) (p : Address) → (set_what (f.base + s.scope.free) (Keeps v) g).what b ≡ Stands x p → g.what b ≡ Stands x p
     back b x p h = ⊎_elim
         (λ e. absurd (keeps_stands v x p (sym (what_same g (f.base + s.scope.free) (Keeps v)) ∙ ap (set_what (f.base + s.scope.free) (Keeps v) g).what e ∙ h)))
         (λ ne. sym (what_other g (f.base + s.scope.free) b (Keeps v) ne) ∙ h)
@@ -239,21 +241,25 @@ knows_keep {limit} {g} {f} {s} {env} v room k =
 -- ---- parts that read and write
 
 module _ (limit : ℕ) (c : Code) (f : Fixed) (x : Ends) where
-  pub does_read : {g : Ghost} {from : Dyn → Step} {to : ℤ → Dyn → Step} (y : Entity) (i a : ℕ) (p : Place) (access : Access) → place_in g y i ≡ Some p → g.what a ≡ Stands access p
+  pub does_read : {g : Ghost} {from : Dyn → Step} {to : ℤ → Dyn → Step} (y : Entity) (i a : ℕ) (p : Address) (access : Access) → place_in g y i ≡ Some p → g.what a ≡ Stands access p
       → ((v : ℤ) (d : Dyn) → value_in (slice_get d.cells a) ≡ Some v → To limit c (from d) (to v d)) → Doing limit c f x g g any (stored.reads y i) from to
   unfolding stored.reads
   does_read {g} {from} {to} y i a p access here stands k = record {
     by = λ s d fit al.
         let at : place_of s y i ≡ Some p = place_fits y i fit ∙ here in
         let (v, cell, bears) = cell_seen g a access p s d fit stands in
-        let may : allows access false ≡ true = (subst (λ o. Allows g (touched false o)) at al).0 a access stands in
+        let may : allows access false ≡ true = (subst (λ o. Allows g (touched false o)) at al.0).0 a access stands in
         let z : value_in (slice_get d.cells a) ≡ Some v = bears_value access v (slice_get d.cells a) may bears in
         subst (λ o. let r = read_at s o in Lands limit c f x any g (from d) s.turns to r.state r.end) (sym at)
         (subst (λ o. let r = stored.value_read s o in Lands limit c f x any g (from d) s.turns to r.state r.end) (sym cell)
-        (tt, record { dyn = d; fit = fit; comes = k v d z; grows = le_refl s.turns }));
+        (tt, record { dyn = d; fit = fit; comes = k v d z _; grows = le_refl s.turns }));
   }
 
-  fit_put : {g : Ghost} {s : stored.State} {d : Dyn} (a : ℕ) (p : Place) (v u : ℤ) → ((b : ℕ) (y : Access) → g.what b ≡ Stands y p → a ≡ b) → g.what a ≡ Stands Full p → cell_at s p ≡ Some u → slice_get d.cells a ≡ Some (Mine u) → Fit g s d
+  put_notes : (s : stored.State) (p : Address) (v : ℤ) → (put_at s p v).notes ≡ s.notes
+  put_notes s (stored.Kept a) v = refl
+  put_notes s (stored.Stacked a) v = refl
+
+  fit_put : {g : Ghost} {s : stored.State} {d : Dyn} (a : ℕ) (p : Address) (v u : ℤ) → ((b : ℕ) (y : Access) → g.what b ≡ Stands y p → a ≡ b) → g.what a ≡ Stands Full p → cell_at s p ≡ Some u → slice_get d.cells a ≡ Some (Mine u) → Fit g s d
       → Fit g (put_at s p v) (record d { cells = set d.cells a (Mine v) })
   fit_put {g} {s} {d} a p v u one stands was is fit =
       let (h0, h1, h2, h3) = put_here s p v in
@@ -267,6 +273,7 @@ module _ (limit : ℕ) (c : Code) (f : Fixed) (x : Ends) where
         most = subst (λ n. n ≤ g.most) (sym h3) fit.most;
         agrees = put_agrees s p v d (set d.cells a (Mine v)) fit.agrees;
         plan = fit.plan;
+        order = λ o. put_notes s p v ∙ fit.order o;
         cells = λ b. ⊎_elim
             (λ e. subst (λ b. Right (g.what b) (put_at s p v) (slice_get (set d.cells a (Mine v)) b)) e
             (subst (λ w. Right w (put_at s p v) (slice_get (set d.cells a (Mine v)) a)) (sym stands) (v, put_same s p v u was, get_set_same d.cells a (Mine v) (Mine u) is)))
@@ -281,18 +288,18 @@ module _ (limit : ℕ) (c : Code) (f : Fixed) (x : Ends) where
       apart b ne (Shows z) e r = r
       apart b ne (Stands y q) e (z, cell, bears) = (z, put_other s p q v (λ same. ne (one b y (e ∙ ap (Stands y) (sym same)))) ∙ cell, bears)
 
-  pub does_write : {g : Ghost} {from to : Dyn → Step} (y i a : ℕ) (v : ℤ) (p : Place) (access : Access) → place_in g (VariableOf y) i ≡ Some p → g.what a ≡ Stands access p → ((b : ℕ) (z : Access) → g.what b ≡ Stands z p → a ≡ b)
+  pub does_write : {g : Ghost} {from to : Dyn → Step} (y i a : ℕ) (v : ℤ) (p : Address) (access : Access) → place_in g (VariableOf y) i ≡ Some p → g.what a ≡ Stands access p → ((b : ℕ) (z : Access) → g.what b ≡ Stands z p → a ≡ b)
       → ((u : ℤ) (d : Dyn) → slice_get d.cells a ≡ Some (Mine u) → To limit c (from d) (to (record d { cells = set d.cells a (Mine v) }))) → Doing limit c f x g g any (stored.writes y i v) from (λ _. to)
   unfolding stored.writes
   does_write {g} {from} {to} y i a v p access here stands one k = record {
     by = λ s d fit al.
         let at : place_of s (VariableOf y) i ≡ Some p = place_fits (VariableOf y) i fit ∙ here in
         let (u, cell, bears) = cell_seen g a access p s d fit stands in
-        let may : allows access true ≡ true = (subst (λ o. Allows g (touched true o)) at al).0 a access stands in
+        let may : allows access true ≡ true = (subst (λ o. Allows g (touched true o)) at al.0).0 a access stands in
         let z : slice_get d.cells a ≡ Some (Mine u) = bears_mine access u (slice_get d.cells a) may bears in
         let (h0, h1, h2, h3) = put_here s p v in
         subst (λ o. let r = written_at s o v in Lands limit c f x any g (from d) s.turns (λ _. to) r.state r.end) (sym at)
-        (tt, record { dyn = record d { cells = set d.cells a (Mine v) }; fit = fit_put a p v u one (full access may stands) cell z fit; comes = k u d z; grows = le_of s (put_at s p v) h3 });
+        (tt, record { dyn = record d { cells = set d.cells a (Mine v) }; fit = fit_put a p v u one (full access may stands) cell z fit; comes = k u d z _; grows = le_of s (put_at s p v) h3 });
   }
     where
       full : (z : Access) → allows z true ≡ true → g.what a ≡ Stands z p → g.what a ≡ Stands Full p
@@ -315,5 +322,6 @@ fit_alike {g} {s} {d} w e k = record {
   most = k.most;
   agrees = k.agrees;
   plan = k.plan;
+  order = k.order;
   cells = λ a. subst (λ z. Right z s (slice_get d.cells a)) (e a) (k.cells a);
 }

@@ -8,7 +8,7 @@ use Rattle.typed_tree.specs.declared.expressions.Root.TheVariants as root
 use Rattle.ada_meaning.specs.Values.{between, to_nat, count}
 use Rattle.ada_meaning.specs.Operations.{CheckKind}
 use Rattle.ada_meaning.specs.Stored as stored
-use Rattle.ada_meaning.specs.Stored.{Stored, Cause, Left, Place}
+use Rattle.ada_meaning.specs.Stored.{Stored, Cause, Left, Address}
 use Rattle.ada_meaning.specs.Meaning.{Env, variable_root, constant_root}
 use Rattle.stack_code.specs.declared.code.Code.{Code}
 use Rattle.stack_code.specs.declared.instr.Instr.{Instr}
@@ -123,7 +123,7 @@ module _ (limit : ℕ) (c : Code) (f : Fixed) where
         let e' : r.address + 0 ≡ r.address = omega arith in
         go n.through p access (subst (λ i. place_in g y i ≡ Some p) e here) (subst (λ a. g.what a ≡ StandsFor access p) e' is) r.leads l
       where
-        go : (t : Bool) (p : Place) (access : Access) → place_in g y first ≡ Some p → g.what r.address ≡ StandsFor access p → Leads t g f n.place r.address
+        go : (t : Bool) (p : Address) (access : Access) → place_in g y first ≡ Some p → g.what r.address ≡ StandsFor access p → Leads t g f n.place r.address
             → Stands c (load_by t s.scope h n.place) from to
             → Runs limit c f x g any (stored.reads y first) (λ d. on f from st d) (λ v d. on f to (v ∷ st) d)
         go true p access here is l (first_, (second, e)) =

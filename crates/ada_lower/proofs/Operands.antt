@@ -5,7 +5,7 @@ use Rattle.std.specs.Int.{int_min}
 use Rattle.ada_base.specs.Operation.{is_in_base, within}
 use Rattle.behaviours.specs.Paths.{Entity}
 use Rattle.typed_tree.specs.declared.scalars.Class.{Class}
-use Rattle.typed_tree.specs.declared.scalars.Comparison.{Comparison}
+use Rattle.ada_base.specs.declared.operation.Comparison.{Comparison}
 use Rattle.typed_tree.specs.declared.expressions.Sign.{Sign}
 use Rattle.typed_tree.specs.declared.expressions.Sign.TheVariants as sign
 use Rattle.typed_tree.specs.Syntax.{Expr, Program}
@@ -13,8 +13,8 @@ use Rattle.ada_meaning.specs.Values
 use Rattle.ada_meaning.specs.Values.{between, truth, bit, to_nat, count, compares, base_of}
 use Rattle.ada_meaning.specs.Operations.{CheckKind, OverflowCheck, Operations}
 use Rattle.ada_meaning.specs.Stored as stored
-use Rattle.ada_meaning.specs.Stored.{Stored, Cause, Left, Place}
-use Rattle.ada_meaning.specs.Meaning.{Env, Part, Passed, Returned, variable_root, constant_root}
+use Rattle.ada_meaning.specs.Stored.{Stored, Cause, Left, Address}
+use Rattle.ada_meaning.specs.Meaning.{Env, ObjectPart, Passed, Returned, variable_root, constant_root}
 use Rattle.stack_code.specs.declared.code.Code.{Code}
 use Rattle.stack_code.specs.declared.instr.Instr.{Instr}
 use Rattle.ada_base.specs.Cells.{value_in}
@@ -32,7 +32,7 @@ use Rattle.ada_lower.proofs.Declared.{keeping, keep_one_more, laid_out, kept_wha
 use Rattle.ada_lower.proofs.Inner.{InnerDo}
 pub use Rattle.ada_lower.proofs.Courses.{at_entry}
 use Rattle.ada_lower.proofs.Names.{root_refers, constant_root_refers, index_below, does_by, does_index, does_load, comes_address, comes_number, comes_load_at}
-use Rattle.typed_tree.specs.declared.scalars.Comparison.TheVariants as comparison
+use Rattle.ada_base.specs.declared.operation.Comparison.TheVariants as comparison
 use Rattle.ada_meaning.specs.Meaning
 use Rattle.stack_code.specs.declared.instr.Instr.TheVariants as i
 use Rattle.stack_code.specs.Deeds
@@ -198,7 +198,7 @@ module _ (limit : ℕ) (cuts : ℕ → ℕ → List ℕ) (program : Program) (c 
   pub load_stands : (s : Sight) (h : ℕ) (o : Option Named) (n : Named) (from to : ℕ) → o ≡ Some n → Stands c (load_named s.scope h o) from to → Stands c (load s.scope h n) from to
   load_stands s h o n from to e l = subst (λ o. Stands c (load_named s.scope h o) from to) e l
 
-  pub reads_at : {g : Ghost} {from to : ℕ} (y : ℕ → Entity) (r : Part) (o : ℕ) (first a total : ℕ) (st : List ℤ) → r.object ≡ o → first ≤ r.offset → r.offset + 1 ≤ first + total → Spread g (y o) first total a → At c from i.Load x.entry → to ≡ from + 1
+  pub reads_at : {g : Ghost} {from to : ℕ} (y : ℕ → Entity) (r : ObjectPart) (o : ℕ) (first a total : ℕ) (st : List ℤ) → r.object ≡ o → first ≤ r.offset → r.offset + 1 ≤ first + total → Spread g (y o) first total a → At c from i.Load x.entry → to ≡ from + 1
       → Runs limit c f x g any (stored.reads (y r.object) r.offset) (λ d. on f from (pos (a + (r.offset - first)) ∷ st) d) (λ v d. on f to (v ∷ st) d)
   reads_at {g} {from} {to} y r o first a total st is le lt spread at e =
       let (p, access, here, stands) = spread.cell (r.offset - first) (omega (arith, le, lt)) in

@@ -22,7 +22,7 @@ use Rattle.stack_code.specs.Machine
 use Rattle.ada_lower.specs.Driven.{Dyn, Fixed, Step, on, state_of, driven, At}
 use Rattle.ada_lower.specs.Emission.{binary_instr}
 use Rattle.ada_lower.specs.Fits.{Keeps, Stands as StandsFor, allows, Ghost, Allows, Fit, Ends, left_by, Lands}
-use Rattle.ada_lower.proofs.Framework.{any, To, Doing, comes_here, comes_on, comes_as, comes_goes, comes_fails, does_before, lands_from}
+use Rattle.ada_lower.proofs.Framework.{any, To, Doing, comes_here, comes_on, comes_as, comes_goes, comes_fails, does_before, lands_from, leads_on}
 use Rattle.ada_lower.proofs.Memory.{set_what, IsOwn, fit_set, what_other, what_same, at_or_not}
 
 -- ---- numbers
@@ -128,8 +128,8 @@ module _ (limit : ℕ) (c : Code) (f : Fixed) (x : Ends) where
   does_is {A} {g} {q} {m} {from} {to} e is k = record { by = λ s d fit al. subst (λ r. Lands limit c f x q g (from d) s.turns to r.state r.end) (sym (is s)) (go e k s d fit) }
     where
       go : (e : Result A Cause) → Comes_so q from to e → (s : stored.State) (d : Dyn) → Fit g s d → Lands limit c f x q g (from d) s.turns to s e
-      go (Ok a) k s d fit = (k.0, record { dyn = d; fit = fit; comes = k.1 d; grows = le_refl s.turns })
-      go (Err (Left l)) k s d fit = record { dyn = d; fit = fit; comes = k d; grows = le_refl s.turns }
+      go (Ok a) k s d fit = (k.0, record { dyn = d; fit = fit; comes = k.1 d _; grows = le_refl s.turns })
+      go (Err (Left l)) k s d fit = record { dyn = d; fit = fit; comes = k d _; grows = le_refl s.turns }
       go (Err OutOfTurns) k s d fit = absurd k
       go (Err CutOff) k s d fit = absurd k
       go (Err NoRoom) k s d fit = absurd k
@@ -157,16 +157,16 @@ module _ (limit : ℕ) (c : Code) (f : Fixed) (x : Ends) where
   does_to {A} {g} {h} {q} {m} {from} {to} to' k j = record { by = λ s d fit al. go s.turns (from d) (m.does s).state (m.does s).end (j.by s d fit al) }
     where
       go : (n : ℕ) (p : Step) (t : stored.State) (e : Result A Cause) → Lands limit c f x q h p n to t e → Lands limit c f x q h p n to' t e
-      go n p t (Ok a) l = (l.0, record { dyn = l.1.dyn; fit = l.1.fit; comes = comes_on limit c l.1.comes (k a l.1.dyn l.0); grows = l.1.grows })
+      go n p t (Ok a) l = (l.0, record { dyn = l.1.dyn; fit = l.1.fit; comes = leads_on limit c l.1.comes (k a l.1.dyn l.0 _); grows = l.1.grows })
       go n p t (Err (Left y)) l = l
       go n p t (Err OutOfTurns) l = l
       go n p t (Err CutOff) l = l
       go n p t (Err NoRoom) l = tt
-      go n p t (Err Misnoted) l = tt
+      go n p t (Err Misnoted) l = l
 
   -- less is asked of what fits in the end
   pub does_weak : {A : Type 0} {g h h' : Ghost} {q : A → Type 0} {m : Stored A} {from : Dyn → Step} {to : A → Dyn → Step} → ((s : stored.State) (d : Dyn) → Fit h s d → Fit h' s d) → Doing limit c f x g h q m from to → Doing limit c f x g h' q m from to
-  does_weak {A} {g} {h} {h'} {q} {m} {from} {to} w j = record { by = λ s d fit al. lands_from limit c f x q to _ _ (comes_here limit c (from d)) (le_refl s.turns) w (j.by s d fit al) }
+  does_weak {A} {g} {h} {h'} {q} {m} {from} {to} w j = record { by = λ s d fit al. lands_from limit c f x q to _ _ (comes_here limit c (from d) _) (le_refl s.turns) w (j.by s d fit al) }
 
   -- the same values, of which something else is told
   pub does_tell : {A : Type 0} {g h : Ghost} {p q : A → Type 0} {m : Stored A} {from : Dyn → Step} {to : A → Dyn → Step} → ((a : A) → p a → q a) → Doing limit c f x g h p m from to → Doing limit c f x g h q m from to
@@ -178,7 +178,7 @@ module _ (limit : ℕ) (c : Code) (f : Fixed) (x : Ends) where
       go n o t (Err OutOfTurns) l = l
       go n o t (Err CutOff) l = l
       go n o t (Err NoRoom) l = tt
-      go n o t (Err Misnoted) l = tt
+      go n o t (Err Misnoted) l = l
 
   -- what stands for cells of the stored run did so before
   abbrev pub Fewer : Ghost → Ghost → Type 0
@@ -194,7 +194,7 @@ module _ (limit : ℕ) (c : Code) (f : Fixed) (x : Ends) where
   does_first {A} {g} {g'} {h} {q} {m} {from} {from'} {to} few k j = record {
     by = λ s d fit al.
         let (d', fit', comes) = k s d fit in
-        lands_from limit c f x q to _ _ comes (le_refl s.turns) (λ s d fit. fit) (j.by s d' fit' (allows_fewer g g' (m.touches s) few al));
+        lands_from limit c f x q to _ _ (comes _) (le_refl s.turns) (λ s d fit. fit) (j.by s d' fit' (allows_fewer g g' (m.touches s) few al.0, al.1));
   }
 
   fewer_keeps : (g : Ghost) (a : ℕ) (v : ℤ) → Fewer g (set_what a (Keeps v) g)

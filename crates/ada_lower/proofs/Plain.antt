@@ -7,14 +7,14 @@ use Rattle.typed_tree.specs.Syntax.{Expr, Static, Variable, Constant, Parameter,
 use Rattle.ada_meaning.specs.Operations.{CheckKind, RangeCheck, Operations}
 use Rattle.ada_meaning.specs.Values
 use Rattle.ada_meaning.specs.Stored as stored
-use Rattle.ada_meaning.specs.Stored.{Stored, Cause, Place, Touch}
+use Rattle.ada_meaning.specs.Stored.{Stored, Cause, Address, Touch}
 use Rattle.ada_meaning.specs.Meaning
-use Rattle.ada_meaning.specs.Meaning.{Env, Part, Passed, Returned}
+use Rattle.ada_meaning.specs.Meaning.{Env, ObjectPart, Passed, Returned}
 use Rattle.stack_code.specs.declared.code.Code.{Code}
 use Rattle.ada_lower.specs.Driven.{Dyn, Fixed, Step}
 use Rattle.ada_lower.specs.Emission.{is_whole, is_plain_expr, is_plain, is_plain_composite, are_plain}
-use Rattle.ada_lower.specs.Fits.{Ghost, Ends, Lands, Allows}
-use Rattle.ada_lower.proofs.Framework.{Doing, does_assoc, allows_split}
+use Rattle.ada_lower.specs.Fits.{Ghost, Ends, Lands, Allows, Asks}
+use Rattle.ada_lower.proofs.Framework.{Doing, does_assoc, allows_split, asks_split, asks_join, none_sound}
 use Rattle.ada_lower.proofs.Operands.{laid_nil}
 use Rattle.ada_lower.proofs.Doubled.{many, laid_append}
 
@@ -47,7 +47,7 @@ s_reads y i = record { by = λ s. go s (stored.place_of s y i) }
     value s None = refl
     value s (Some v) = refl
 
-    go : (s : stored.State) (p : Option Place) → (stored.read_at s p).state ≡ s
+    go : (s : stored.State) (p : Option Address) → (stored.read_at s p).state ≡ s
     go s None = refl
     go s (Some a) = value s (stored.cell_at s a)
 
@@ -77,7 +77,7 @@ module _ (limit : ℕ) (cuts : ℕ → ℕ → List ℕ) where
 
   module _ (program : Program) (calls : ℕ → ℕ → Stored (Unit {0}) → List Passed → Stored Returned) where
     -- a whole object is where it is
-    s_select : (z : Selections) → is_whole z ≡ true → (env : Env) (p : Part) → Steady (Meaning.select ops limit program calls z env p)
+    s_select : (z : Selections) → is_whole z ≡ true → (env : Env) (p : ObjectPart) → Steady (Meaning.select ops limit program calls z env p)
     s_select Whole e env p = s_ret p
     s_select (Field number offset rest) e env p = absurd (let z : false ≡ true = e in cc)
     s_select (Index at e' low high stride rest) e env p = absurd (let z : false ≡ true = e in cc)
@@ -142,25 +142,21 @@ module _ (limit : ℕ) (cuts : ℕ → ℕ → List ℕ) where
       ∙ run_again m s cs is n (k + 1) (first + stride) stride (Values.laid cur first cs)
 
 module _ (limit : ℕ) (cuts : ℕ → ℕ → List ℕ) (c : Code) (f : Fixed) (x : Ends) where
-  allows_both : (g : Ghost) (xs ys : List Touch) → Allows g xs → Allows g ys → Allows g (xs ++ ys)
-  allows_both g [] ys a b = b
-  allows_both g (t ∷ xs) ys a b = (a.0, allows_both g xs ys a.1 b)
-
   -- what follows a value that leaves the state as it was
   abbrev Alike : {B : Type 0} → Ghost → Stored B → Stored B → stored.State → Type 0
-  Alike g a b s = (a.does s ≡ b.does s) × (Allows g (a.touches s) → Allows g (b.touches s))
+  Alike g a b s = (a.does s ≡ b.does s) × (Asks f g (a.touches s) (a.visits s) → Asks f g (b.touches s) (b.visits s))
 
   does_alike : {A B : Type 0} {g j : Ghost} {q : B → Type 0} {from : Dyn → Step} {goal : B → Dyn → Step} (m : Stored A) (k k' : A → Stored B) → ((s : stored.State) (a : A) → m.does s ≡ stored.at s (Ok a) → Alike g (k a) (k' a) s) → Steady m
       → Doing limit c f x g j q (stored.bind m k') from goal → Doing limit c f x g j q (stored.bind m k) from goal
   unfolding stored.bind
   does_alike {A} {B} {g} {j} {q} {from} {goal} m k k' same steady h = record {
     by = λ s d fit al.
-        let (a1, a2) = allows_split limit c f x g (m.touches s) _ al in
+        let (a1, a2) = asks_split limit c f x g (m.touches s) _ (m.visits s) _ al in
         let t : stored.State = (m.does s).state in
         let is : t ≡ s = steady.by s in
         let at_t : m.does t ≡ m.does s = ap m.does is in
         subst (λ r. Lands limit c f x q j (from d) s.turns goal r.state r.end) (sym (ends t (m.does s).end (at_t ∙ as_is (m.does s))))
-        (h.by s d fit (allows_both g (m.touches s) _ a1 (touches t (m.does s).end (at_t ∙ as_is (m.does s)) a2)));
+        (h.by s d fit (asks_join limit c f x g (m.touches s) _ (m.visits s) _ a1 (touches t (m.does s).end (at_t ∙ as_is (m.does s)) a2)));
   }
     where
       as_is : (r : stored.After A) → r ≡ stored.at r.state r.end
@@ -170,9 +166,9 @@ module _ (limit : ℕ) (cuts : ℕ → ℕ → List ℕ) (c : Code) (f : Fixed) 
       ends t (Ok a) is = (same t a is).0
       ends t (Err z) is = refl
 
-      touches : (t : stored.State) (e : Result A Cause) → m.does t ≡ stored.at t e → Allows g (stored.next_touches t e k) → Allows g (stored.next_touches t e k')
+      touches : (t : stored.State) (e : Result A Cause) → m.does t ≡ stored.at t e → Asks f g (stored.next_touches t e k) (stored.next_visits t e k) → Asks f g (stored.next_touches t e k') (stored.next_visits t e k')
       touches t (Ok a) is al = (same t a is).1 al
-      touches t (Err z) is al = tt
+      touches t (Err z) is al = (tt, none_sound limit c f x f.asked)
 
   -- a run of such values is as one value that is copied
   pub does_again : {B : Type 0} {g j : Ghost} {q : B → Type 0} {from : Dyn → Step} {goal : B → Dyn → Step} (m : Stored (List ℤ)) → Steady m → (k n first stride : ℕ) (cur : List ℤ) (then : List ℤ → Stored B)
@@ -190,5 +186,5 @@ module _ (limit : ℕ) (cuts : ℕ → ℕ → List ℕ) (c : Code) (f : Fixed) 
       same s cs is =
           let e : (rest cs).does s ≡ stored.at s (Ok (copies limit cuts (suc n) first stride cs cur)) = run_again limit cuts m s cs is n (k + 1) (first + stride) stride (Values.laid cur first cs) in (
             ap (λ r. stored.next r.state r.end then) e,
-            λ al. subst (λ r. Allows g (stored.next_touches r.state r.end then)) e (allows_split limit c f x g ((rest cs).touches s) _ al).1,
+            λ al. subst (λ r. Asks f g (stored.next_touches r.state r.end then) (stored.next_visits r.state r.end then)) e (asks_split limit c f x g ((rest cs).touches s) _ ((rest cs).visits s) _ al).1,
           )

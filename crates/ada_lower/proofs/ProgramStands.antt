@@ -1,5 +1,5 @@
 -- A program's code has the main procedure's code and that of each subprogram, where they are listed.
-use Rattle.std.proofs.Common.{◌≡◌, ℕ, zero, suc, ◌+◌, List, [], ◌∷◌, length, Some, Bool, refl, sym, ap, ◌∙◌, subst, arith}
+use Rattle.std.proofs.Common.{◌≡◌, ℕ, zero, suc, ◌+◌, List, [], ◌∷◌, length, Option, Some, Bool, refl, sym, ap, ◌∙◌, subst, arith}
 use Rattle.std.proofs.lemmas.Option.{none-some}
 use Rattle.behaviours.specs.Paths.{Entity, VariableOf, ConstantOf}
 use Rattle.typed_tree.specs.Syntax.{Expr, Stmt, Sub, Program, Decls, NoDecl, DeclareDefault, DeclareVariable, DeclareConstant, Mentions}
@@ -10,10 +10,10 @@ use Rattle.stack_code.specs.declared.code.Code.{Code}
 use Rattle.stack_code.specs.declared.instr.Instr.TheVariants as i
 use Rattle.lower_emission.specs.Scope as scope
 use Rattle.lower_emission.specs.Bodies as code
-use Rattle.ada_lower.specs.Sights.{Emit, Scope, Sight, Stands, listed, one, ◌⨟◌}
+use Rattle.ada_lower.specs.Sights.{Emit, Lies, Named, Scope, Sight, Stands, listed, one, ◌⨟◌}
 use Rattle.ada_lower.specs.Emission.{put_into, width, defaulted, Shape, lead, shapes, shapes_cells, stmt}
 use Rattle.ada_lower.specs.Bodies.{formal_named, objects, leaving_of, sub_scope, sub_code, AllStand, main_scope, main_declared, main_body, main_code}
-use Rattle.ada_lower.specs.ProgramCode.{behind, main_halts, main_end, sub_place, behind_main, sub_entry, main_names, IsCodeOf, AllFit}
+use Rattle.ada_lower.specs.ProgramCode.{behind, main_halts, main_end, sub_place, behind_main, sub_entry, AreNamed, IsCodeOf, AllFit}
 use Rattle.ada_lower.proofs.Standing.{lies_end, stands_seq, stands_join}
 use Rattle.ada_lower.proofs.Listed.{stands_listed}
 
@@ -32,11 +32,11 @@ module _ (program : Program) where
   behind_is (DeclareConstant x initial more) s = behind_is more (code.main_object s (ConstantOf x) (width program initial))
   behind_is (Mentions es more) s = behind_is more s
 
-  module _ (mains : Entity → Bool) (texts : List (List ℕ)) (text : List ℕ → ℕ) (frames : ℕ → ℕ) where
-    sub_scope_same : (k : ℕ) (unit : Sub) (cells : ℕ) → ◌≡◌ {A = Scope} (code.sub_scope program (behind_main program text) k unit) (sub_scope program (main_names program text) mains texts text frames k unit cells).scope
+  module _ (globals : ℕ → Entity → Option Named) (mains : Entity → Bool) (texts : List (List ℕ)) (text : List ℕ → ℕ) (frames : ℕ → ℕ) where
+    pub sub_scope_same : (k : ℕ) (unit : Sub) (cells : ℕ) → ◌≡◌ {A = Scope} (code.sub_scope program (record (behind_main program text) { object = globals k }) k unit) (sub_scope program globals mains texts text frames k unit cells).scope
     sub_scope_same k unit cells =
         let hs : List Shape = shapes program unit.formals in
-        ap (λ t. code.placed hs 0 (record t { free = shapes_cells hs; leaving = leaving_of unit.result; body = around.Sub (k + 1) })) (behind_is program.body.decls (code.main_scope text))
+        ap (λ t. code.placed hs 0 (record t { object = globals k; free = shapes_cells hs; leaving = leaving_of unit.result; body = around.Sub (k + 1) })) (behind_is program.body.decls (code.main_scope text))
         ∙ sym (placed_same hs 0 _)
 
     module _ (c : Code) where
@@ -45,15 +45,15 @@ module _ (program : Program) where
       pub record MainStands (s : Scope) (decls : Decls) (from to : ℕ) : Type 0 where
         pub mid : ℕ
         pub place : mid ≡ main_end program s decls from
-        pub main : Stands c (main_declared program (main_names program text) mains texts text frames s decls (λ t. stmt program t (main_body program (main_names program text) mains texts text frames)) ⨟ one s 0 i.Halt) from mid
+        pub main : Stands c (main_declared program globals mains texts text frames s decls (λ t. stmt program t (main_body program globals mains texts text frames)) ⨟ one s 0 i.Halt) from mid
         pub subs : Stands c (code.subs_code program (behind program s decls) 0 program.subs) mid to
 
       -- a part in front
       behind_part : (s t : Scope) (decls more : Decls) (a : Emit) (from to : ℕ) → s.entry ≡ t.entry → behind program s decls ≡ behind program t more → ((q : ℕ) → main_end program s decls q ≡ main_end program t more (q + length (listed a q)))
-          → main_declared program (main_names program text) mains texts text frames s decls (λ t. stmt program t (main_body program (main_names program text) mains texts text frames)) ≡ (a ⨟ main_declared program (main_names program text) mains texts text frames t more (λ t. stmt program t (main_body program (main_names program text) mains texts text frames)))
+          → main_declared program globals mains texts text frames s decls (λ t. stmt program t (main_body program globals mains texts text frames)) ≡ (a ⨟ main_declared program globals mains texts text frames t more (λ t. stmt program t (main_body program globals mains texts text frames)))
           → (m : ℕ) → Stands c a from m → MainStands t more m to → MainStands s decls from to
       behind_part s t decls more a from to entry scopes ends parts m l w =
-          let md : Emit = main_declared program (main_names program text) mains texts text frames t more (λ t. stmt program t (main_body program (main_names program text) mains texts text frames)) in
+          let md : Emit = main_declared program globals mains texts text frames t more (λ t. stmt program t (main_body program globals mains texts text frames)) in
           let (n, l1, (halt, z)) = stands_seq c m w.mid md (one t 0 i.Halt) w.main in
           record {
             mid = w.mid;
@@ -101,7 +101,7 @@ module _ (program : Program) where
           let (end, w) = subs_stand t more (n + 1) k (from + length (listed a from)) to unit e (subst (λ q. Stands c (code.subs_code program t (n + 1) more) q to) (lies_end c from (listed a from) m l1) l2) in
           (end, subst (λ j. Stands c (code.sub_code program (code.sub_scope program t j unit) unit) (sub_place program t (n + 1) more k (from + length (listed a from))) end) z w)
 
-      module _ (is : IsCodeOf program text c) where
+      module _ (is : IsCodeOf program text c) (named : AreNamed program text globals) where
         whole : MainStands (code.main_scope text) program.body.decls 0 (length (listed (code.program_code program text) 0))
         whole = main_stands program.body.decls (code.main_scope text) 0 (length (listed (code.program_code program text) 0)) (stands_listed c (code.program_code program text) is.lists)
 
@@ -109,22 +109,23 @@ module _ (program : Program) where
         pub main_to : ℕ
         main_to = whole.mid
 
-        pub main_there : (cells : ℕ) → Stands c (main_code program (main_names program text) mains texts text frames (main_scope program (main_names program text) mains texts text frames cells).scope) 0 main_to
+        pub main_there : (cells : ℕ) → Stands c (main_code program globals mains texts text frames (main_scope program globals mains texts text frames cells).scope) 0 main_to
         unfolding main_to
         main_there cells = whole.main
 
-        sub_there : (k : ℕ) (unit : Sub) → sub_at program.subs k ≡ Some unit → (end : ℕ) × ((cells : ℕ) → Stands c (sub_code program (main_names program text) mains texts text frames (sub_scope program (main_names program text) mains texts text frames k unit cells).scope unit) (sub_entry program text k) end)
+        sub_there : (k : ℕ) (unit : Sub) → sub_at program.subs k ≡ Some unit → (end : ℕ) × ((cells : ℕ) → Stands c (sub_code program globals mains texts text frames (sub_scope program globals mains texts text frames k unit cells).scope unit) (sub_entry program text k) end)
         sub_there k unit e =
             let l = subst (λ q. Stands c (code.subs_code program (behind_main program text) 0 program.subs) q (length (listed (code.program_code program text) 0))) whole.place whole.subs in
             let (end, w) = subs_stand (behind_main program text) program.subs 0 k (main_end program (code.main_scope text) program.body.decls 0) (length (listed (code.program_code program text) 0)) unit e l in
             let z : 0 + k ≡ k = omega arith in (
               end,
               λ cells. subst (λ s. Stands c (code.sub_code program s unit) (sub_entry program text k) end) (sub_scope_same k unit cells)
-                  (subst (λ j. Stands c (code.sub_code program (code.sub_scope program (behind_main program text) j unit) unit) (sub_entry program text k) end) z w),
+                  (subst (λ ps. Lies c (sub_entry program text k) ps end) (named.same k unit e (sub_entry program text k))
+                  (subst (λ j. Stands c (code.sub_code program (code.sub_scope program (behind_main program text) j unit) unit) (sub_entry program text k) end) z w)),
             )
 
         -- every subprogram stands in the code
-        pub all_stand : (epar : Sight → Expr → Type 0) (par : Sight → Stmt → Type 0) → AllFit program text mains texts frames epar par c → AllStand program (main_names program text) mains texts text frames epar par c
+        pub all_stand : (epar : Sight → Expr → Type 0) (par : Sight → Stmt → Type 0) → AllFit program text globals mains texts frames epar par c → AllStand program globals mains texts text frames epar par c
         all_stand epar par fit k unit e =
             let (sub, at, entry, enough) = is.subs k unit e in
             let (end, w) = sub_there k unit e in
@@ -136,6 +137,6 @@ module _ (program : Program) where
               enough = enough;
               fresh = f.fresh;
               backs = f.backs;
-              stands = λ cells le. subst (λ q. Stands c (sub_code program (main_names program text) mains texts text frames (sub_scope program (main_names program text) mains texts text frames k unit cells).scope unit) q end) (sym entry) (w cells);
+              stands = λ cells le. subst (λ q. Stands c (sub_code program globals mains texts text frames (sub_scope program globals mains texts text frames k unit cells).scope unit) q end) (sym entry) (w cells);
               fitted = f.fitted;
             }

@@ -1,6 +1,6 @@
 -- Actual parameters in the cells of a call's frame: ahead of the cells of a formal that is copied back stands the address of
 -- its target.
-use Rattle.std.proofs.Common.{◌≡◌, ℕ, zero, suc, ◌+◌, ◌<◌, ◌≤◌, ℤ, List, [], ◌∷◌, ◌++◌, length, take, slice_get, nat_eq, nat_lt, Option, Some, None, Result, Ok, Err, Bool, true, false, cond, refl, sym, ap, ◌∙◌, subst, le_refl, le_trans, arith, ◌⊎◌, inl, inr, ⊎_elim, ltb-true, append_assoc, append-nil, length-append}
+use Rattle.std.proofs.Common.{◌≡◌, ℕ, zero, suc, ◌+◌, ◌<◌, ◌≤◌, ℤ, List, [], ◌∷◌, ◌++◌, length, take, slice_get, nat_eq, nat_lt, Option, Some, None, Result, Ok, Err, Bool, true, false, cond, refl, sym, ap, ◌∙◌, subst, le_refl, le_trans, arith, ◌⊎◌, inl, inr, ⊎_elim, ltb-true, append_assoc, append-nil, length-append, is_some}
 use Rattle.ada_base.specs.declared.reason.Reason.{Reason}
 use Rattle.behaviours.specs.Paths.{Entity, Here, Raises}
 use Rattle.ada_meaning.specs.Operations.{Operations}
@@ -12,10 +12,10 @@ use Rattle.ada_meaning.proofs.Cells.{some_same, get_take}
 use Rattle.typed_tree.specs.Syntax.{Program}
 use Rattle.stack_code.specs.declared.code.Code.{Code}
 use Rattle.ada_base.specs.Cells.{Cell, Mine, value_in}
-use Rattle.ada_lower.specs.Driven.{Dyn, Fixed, Step, thrown}
+use Rattle.ada_lower.specs.Driven.{Dyn, Fixed, Step, thrown, Comes}
 use Rattle.ada_lower.specs.Emission.{Shape, lead, shapes_cells}
-use Rattle.ada_lower.specs.Fits.{What, Free, Keeps, Access, Right, Ghost, Fit, Ends, Land, Lands, Spread, Allows, Stands as StandsFor}
-use Rattle.ada_lower.proofs.Framework.{any, To, Doing, comes_here, comes_on, land_from, lands_from, allows_split}
+use Rattle.ada_lower.specs.Fits.{What, Free, Keeps, Access, Right, Ghost, Fit, Ends, Land, Lands, Spread, Allows, Stands as StandsFor, Asks}
+use Rattle.ada_lower.proofs.Framework.{any, To, Doing, comes_here, comes_on, land_from, lands_from, allows_split, asks_split, leads_on}
 use Rattle.ada_lower.proofs.Memory.{fit_alike}
 use Rattle.ada_lower.proofs.Parts.{allows_fewer}
 use Rattle.ada_lower.proofs.Declared.{keeping, having, laid_what, laid_out, laid_in, kept_what, among, length_in, Fresh, fresh_of, fit_having, fit_ended}
@@ -146,6 +146,7 @@ fit_unaheads a ps g {s} {d} free w = record {
   most = w.most;
   agrees = w.agrees;
   plan = w.plan;
+  order = w.order;
   cells = λ b. ⊎_elim
       (λ e. subst (λ z. Right z s (slice_get d.cells b)) e (w.cells b))
       (λ r. let (v, e, k, z, l) = r in subst (λ y. Right y s (slice_get d.cells b)) (sym (ap g.what (sym z) ∙ free k l)) (v, subst (λ y. Right y s (slice_get d.cells b)) e (w.cells b)))
@@ -194,6 +195,7 @@ fit_aheads a ps g {s} {d} free w = record {
   most = w.most;
   agrees = w.agrees;
   plan = w.plan;
+  order = w.order;
   cells = λ b. right_aheads a ps g.what s (slice_get d.cells b) b free (w.cells b);
 }
 
@@ -252,6 +254,7 @@ fit_backs a ps vss g {s} {d} free bs w = record {
   most = w.most;
   agrees = w.agrees;
   plan = w.plan;
+  order = w.order;
   cells = λ b. right_backs a ps vss g.what s d.cells b free bs (w.cells b);
 }
 
@@ -297,6 +300,7 @@ fit_unbacks a ps vss cells g {s} {d} bs free w = record {
   most = w.most;
   agrees = w.agrees;
   plan = w.plan;
+  order = w.order;
   cells = λ b. ⊎_elim
       (λ e. subst (λ z. Right z s (slice_get d.cells b)) e (w.cells b))
       (λ r. let (v, e, k, z, l) = r in subst (λ y. Right y s (slice_get d.cells b)) (sym (ap g.what (sym z) ∙ free k l)) (v, subst (λ y. Right y s (slice_get d.cells b)) e (w.cells b)))
@@ -326,15 +330,15 @@ backs_cut top a (p ∷ ps) (vs ∷ vss) cells le (here, bs) =
 
 module _ (limit : ℕ) (c : Code) (f : Fixed) (x : Ends) where
   abbrev pub LandsAlso : {A : Type 0} → (A → Dyn → Type 0) → Ghost → Step → ℕ → (A → Dyn → Step) → stored.State → Result A Cause → Type 0
-  LandsAlso q g from turns to s (Ok a) = (l : Land limit c g from turns s (to a)) × q a l.dyn
+  LandsAlso q g from turns to s (Ok a) = (l : Land limit c (is_some f.asked) g from turns s (to a)) × q a l.dyn
   LandsAlso q g from turns to s (Err e) = Lands limit c f x any g from turns to s (Err e)
 
   pub record Also {A : Type 0} (g h : Ghost) (q : A → Dyn → Type 0) (m : Stored A) (from : Dyn → Step) (to : A → Dyn → Step) : Type 0 where
-    pub by : (s : stored.State) (d : Dyn) → Fit g s d → Allows g (m.touches s) → (let r = m.does s in LandsAlso q h (from d) s.turns to r.state r.end)
+    pub by : (s : stored.State) (d : Dyn) → Fit g s d → Asks f g (m.touches s) (m.visits s) → (let r = m.does s in LandsAlso q h (from d) s.turns to r.state r.end)
 
-  pub also_from : {A : Type 0} {g h : Ghost} {from from' : Step} {n m : ℕ} (q : A → Dyn → Type 0) (to : A → Dyn → Step) (s : stored.State) (e : Result A Cause) → To limit c from from' → n ≤ m → ((s : stored.State) (d : Dyn) → Fit g s d → Fit h s d)
+  pub also_from : {A : Type 0} {g h : Ghost} {from from' : Step} {n m : ℕ} (q : A → Dyn → Type 0) (to : A → Dyn → Step) (s : stored.State) (e : Result A Cause) → Comes limit c (is_some f.asked) from from' → n ≤ m → ((s : stored.State) (d : Dyn) → Fit g s d → Fit h s d)
       → LandsAlso q g from' m to s e → LandsAlso q h from n to s e
-  also_from q to s (Ok a) k le w (l, ok) = (record { dyn = l.dyn; fit = w s l.dyn l.fit; comes = comes_on limit c k l.comes; grows = le_trans le l.grows }, ok)
+  also_from q to s (Ok a) k le w (l, ok) = (record { dyn = l.dyn; fit = w s l.dyn l.fit; comes = leads_on limit c k l.comes; grows = le_trans le l.grows }, ok)
   also_from q to s (Err e) k le w l = lands_from limit c f x any to s (Err e) k le w l
 
   pub also_seq : {A B : Type 0} {g h j : Ghost} {p : A → Type 0} {q : B → Dyn → Type 0} {m : Stored A} {k : A → Stored B} {from : Dyn → Step} {mid : A → Dyn → Step} {to : B → Dyn → Step}
@@ -342,17 +346,17 @@ module _ (limit : ℕ) (c : Code) (f : Fixed) (x : Ends) where
       → Doing limit c f x g h p m from mid → ((a : A) → p a → Also h j q (k a) (mid a) to) → Also g j q (stored.bind m k) from to
   unfolding stored.bind
   also_seq {A} {B} {g} {h} {j} {p} {q} {m} {k} {from} {mid} {to} weak few i n = record {
-    by = λ s d fit al. let (ax, ay) = allows_split limit c f x g (m.touches s) (stored.next_touches (m.does s).state (m.does s).end k) al in go s d (m.does s).state (m.does s).end ay (i.by s d fit ax);
+    by = λ s d fit al. let (ax, ay) = asks_split limit c f x g (m.touches s) (stored.next_touches (m.does s).state (m.does s).end k) (m.visits s) (stored.next_visits (m.does s).state (m.does s).end k) al in go s d (m.does s).state (m.does s).end ay (i.by s d fit ax);
   }
     where
-      go : (s : stored.State) (d : Dyn) (t : stored.State) (e : Result A Cause) → Allows g (stored.next_touches t e k) → Lands limit c f x p h (from d) s.turns mid t e
+      go : (s : stored.State) (d : Dyn) (t : stored.State) (e : Result A Cause) → Asks f g (stored.next_touches t e k) (stored.next_visits t e k) → Lands limit c f x p h (from d) s.turns mid t e
           → (let r = stored.next t e k in LandsAlso q j (from d) s.turns to r.state r.end)
-      go s d t (Ok a) al l = also_from q to ((k a).does t).state ((k a).does t).end l.1.comes l.1.grows (λ s d fit. fit) ((n a l.0).by t l.1.dyn l.1.fit (few ((k a).touches t) al))
-      go s d t (Err (Left y)) al l = land_from limit c f x (comes_here limit c (from d)) (le_refl s.turns) weak l
-      go s d t (Err OutOfTurns) al l = land_from limit c f x (comes_here limit c (from d)) (le_refl s.turns) weak l
-      go s d t (Err CutOff) al l = land_from limit c f x (comes_here limit c (from d)) (le_refl s.turns) weak l
+      go s d t (Ok a) al l = also_from q to ((k a).does t).state ((k a).does t).end l.1.comes l.1.grows (λ s d fit. fit) ((n a l.0).by t l.1.dyn l.1.fit (few ((k a).touches t) al.0, al.1))
+      go s d t (Err (Left y)) al l = land_from limit c f x (comes_here limit c (from d) _) (le_refl s.turns) weak l
+      go s d t (Err OutOfTurns) al l = land_from limit c f x (comes_here limit c (from d) _) (le_refl s.turns) weak l
+      go s d t (Err CutOff) al l = land_from limit c f x (comes_here limit c (from d) _) (le_refl s.turns) weak l
       go s d t (Err NoRoom) al l = tt
-      go s d t (Err Misnoted) al l = tt
+      go s d t (Err Misnoted) al (un, l) = (un, land_from limit c f x (comes_here limit c (from d) _) (le_refl s.turns) weak l)
 
   -- and what goes on with that
   pub also_then : {A B : Type 0} {g h j : Ghost} {p : A → Dyn → Type 0} {q : B → Type 0} {m : Stored A} {k : A → Stored B} {from : Dyn → Step} {mid : A → Dyn → Step} {to : B → Dyn → Step}
@@ -361,36 +365,36 @@ module _ (limit : ℕ) (c : Code) (f : Fixed) (x : Ends) where
       → Doing limit c f x g j q (stored.bind m k) from to
   unfolding stored.bind
   also_then {A} {B} {g} {h} {j} {p} {q} {m} {k} {from} {mid} {to} weak i n = record {
-    by = λ s d fit al. let (ax, ay) = allows_split limit c f x g (m.touches s) (stored.next_touches (m.does s).state (m.does s).end k) al in go s d (m.does s).state (m.does s).end ay (i.by s d fit ax);
+    by = λ s d fit al. let (ax, ay) = asks_split limit c f x g (m.touches s) (stored.next_touches (m.does s).state (m.does s).end k) (m.visits s) (stored.next_visits (m.does s).state (m.does s).end k) al in go s d (m.does s).state (m.does s).end ay (i.by s d fit ax);
   }
     where
-      go : (s : stored.State) (d : Dyn) (t : stored.State) (e : Result A Cause) → Allows g (stored.next_touches t e k) → LandsAlso p h (from d) s.turns mid t e
+      go : (s : stored.State) (d : Dyn) (t : stored.State) (e : Result A Cause) → Asks f g (stored.next_touches t e k) (stored.next_visits t e k) → LandsAlso p h (from d) s.turns mid t e
           → (let r = stored.next t e k in Lands limit c f x q j (from d) s.turns to r.state r.end)
       go s d t (Ok a) al (l, ok) =
           let (h', fit', few, does) = n a t l.dyn l.fit ok in
-          lands_from limit c f x q to ((k a).does t).state ((k a).does t).end l.comes l.grows (λ s d fit. fit) (does.by t l.dyn fit' (few ((k a).touches t) al))
-      go s d t (Err (Left y)) al l = land_from limit c f x (comes_here limit c (from d)) (le_refl s.turns) weak l
-      go s d t (Err OutOfTurns) al l = land_from limit c f x (comes_here limit c (from d)) (le_refl s.turns) weak l
-      go s d t (Err CutOff) al l = land_from limit c f x (comes_here limit c (from d)) (le_refl s.turns) weak l
+          lands_from limit c f x q to ((k a).does t).state ((k a).does t).end l.comes l.grows (λ s d fit. fit) (does.by t l.dyn fit' (few ((k a).touches t) al.0, al.1))
+      go s d t (Err (Left y)) al l = land_from limit c f x (comes_here limit c (from d) _) (le_refl s.turns) weak l
+      go s d t (Err OutOfTurns) al l = land_from limit c f x (comes_here limit c (from d) _) (le_refl s.turns) weak l
+      go s d t (Err CutOff) al l = land_from limit c f x (comes_here limit c (from d) _) (le_refl s.turns) weak l
       go s d t (Err NoRoom) al l = tt
-      go s d t (Err Misnoted) al l = tt
+      go s d t (Err Misnoted) al (un, l) = (un, land_from limit c f x (comes_here limit c (from d) _) (le_refl s.turns) weak l)
 
   pub also_returned : {A B : Type 0} {g h : Ghost} {q : B → Dyn → Type 0} {from : Dyn → Step} {to : B → Dyn → Step} (k : A → Stored B) (a : A) → Also g h q (k a) from to → Also g h q (stored.bind (stored.ret a) k) from to
   unfolding stored.bind stored.ret
   also_returned k a j = record { by = λ s d fit al. j.by s d fit al }
 
   pub also_by : {A : Type 0} {g h : Ghost} {q : A → Dyn → Type 0} {m : Stored A} {from from' : Dyn → Step} {to : A → Dyn → Step} → ((s : stored.State) (d : Dyn) → Fit g s d → To limit c (from d) (from' d)) → Also g h q m from' to → Also g h q m from to
-  also_by {q = q} {to = to} k j = record { by = λ s d fit al. also_from q to _ _ (k s d fit) (le_refl s.turns) (λ s d fit. fit) (j.by s d fit al) }
+  also_by {q = q} {to = to} k j = record { by = λ s d fit al. also_from q to _ _ (k s d fit _) (le_refl s.turns) (λ s d fit. fit) (j.by s d fit al) }
 
   pub also_weak : {A : Type 0} {g h h' : Ghost} {q : A → Dyn → Type 0} {m : Stored A} {from : Dyn → Step} {to : A → Dyn → Step} → ((s : stored.State) (d : Dyn) → Fit h s d → Fit h' s d) → Also g h q m from to → Also g h' q m from to
-  also_weak {q = q} {from = from} {to = to} w j = record { by = λ s d fit al. also_from q to _ _ (comes_here limit c (from d)) (le_refl s.turns) w (j.by s d fit al) }
+  also_weak {q = q} {from = from} {to = to} w j = record { by = λ s d fit al. also_from q to _ _ (comes_here limit c (from d) _) (le_refl s.turns) w (j.by s d fit al) }
 
   -- ghosts that are alike
   pub also_alike : {A : Type 0} {g h : Ghost} {q : A → Dyn → Type 0} {m : Stored A} {from : Dyn → Step} {to : A → Dyn → Step} (w : ℕ → What) → ((a : ℕ) → g.what a ≡ w a) → Also (record g { what = w }) h q m from to → Also g h q m from to
-  also_alike {g = g} {m = m} w e j = record { by = λ s d fit al. j.by s d (fit_alike w e fit) (allows_fewer limit c f x g (record g { what = w }) (m.touches s) (λ b y p r. inl (e b ∙ r)) al) }
+  also_alike {g = g} {m = m} w e j = record { by = λ s d fit al. j.by s d (fit_alike w e fit) (allows_fewer limit c f x g (record g { what = w }) (m.touches s) (λ b y p r. inl (e b ∙ r)) al.0, al.1) }
 
   pub also_raised : {A : Type 0} {g : Ghost} {q : A → Dyn → Type 0} {m : Stored A} {from : Dyn → Step} {to : A → Dyn → Step} (r : Reason) → ((s : stored.State) → m.does s ≡ stored.at s (Err (Left (Raises r)))) → ((d : Dyn) → To limit c (from d) (thrown r x.entry f d)) → Also g g q m from to
-  also_raised {A} {g} {q} {m} {from} {to} r is k = record { by = λ s d fit al. subst (λ e. LandsAlso q g (from d) s.turns to e.state e.end) (sym (is s)) (record { dyn = d; fit = fit; comes = k d; grows = le_refl s.turns }) }
+  also_raised {A} {g} {q} {m} {from} {to} r is k = record { by = λ s d fit al. subst (λ e. LandsAlso q g (from d) s.turns to e.state e.end) (sym (is s)) (record { dyn = d; fit = fit; comes = k d _; grows = le_refl s.turns }) }
 
   -- a new object, whose first values stand in its cells, for as long as a part goes on
   pub also_elaborates : {A : Type 0} {g : Ghost} {q : A → Dyn → Type 0} {m : Stored A} {from : Dyn → Step} {to : A → Dyn → Step} (y : Entity) (a : ℕ) (vs : List ℤ) → ((k : ℕ) → k < length vs → g.what (a + k) ≡ Free) → (wh : ℕ → What) → ((k : ℕ) → k < length vs → wh (a + k) ≡ Free) → ((b : ℕ) (z : Access) (n : ℕ) → wh b ≡ StandsFor z (Rattle.ada_meaning.specs.Stored.Stacked n) → g.what b ≡ StandsFor z (Rattle.ada_meaning.specs.Stored.Stacked n))
@@ -409,18 +413,18 @@ module _ (limit : ℕ) (c : Code) (f : Fixed) (x : Ends) where
       back s d fit slots t (Err OutOfTurns) l = record { dyn = l.dyn; fit = fit_ended y a vs (record g { what = wh }) s t slots free' fit.here (fresh' s d fit) l.fit; comes = l.comes; grows = l.grows }
       back s d fit slots t (Err CutOff) l = record { dyn = l.dyn; fit = fit_ended y a vs (record g { what = wh }) s t slots free' fit.here (fresh' s d fit) l.fit; comes = l.comes; grows = l.grows }
       back s d fit slots t (Err NoRoom) l = tt
-      back s d fit slots t (Err Misnoted) l = tt
+      back s d fit slots t (Err Misnoted) (un, l) = (un, record { dyn = l.dyn; fit = fit_ended y a vs (record g { what = wh }) s t slots free' fit.here (fresh' s d fit) l.fit; comes = l.comes; grows = l.grows })
 
-      go : (s : stored.State) (d : Dyn) → Fit (keeping a vs g) s d → (b : Bool) → nat_lt (key y) (length s.here) ≡ b → Allows (keeping a vs g) (cond (nat_lt (key y) (length s.here)) (m.touches (stored.begun Here y vs s)) [])
+      go : (s : stored.State) (d : Dyn) → Fit (keeping a vs g) s d → (b : Bool) → nat_lt (key y) (length s.here) ≡ b → Asks f (keeping a vs g) (cond (nat_lt (key y) (length s.here)) (m.touches (stored.begun Here y vs s)) []) (cond (nat_lt (key y) (length s.here)) (m.visits (stored.begun Here y vs s)) [])
           → (let r = m.does (stored.begun Here y vs s) in let z = cond (nat_lt (key y) (length s.here)) (stored.at (stored.ended Here y s r.state) r.end) (stored.at s (Err NoRoom)) in LandsAlso q (record g { what = wh }) (from d) s.turns to z.state z.end)
       go s d fit true e al =
           let slots : key y < length g.here = subst (λ h. key y < length h) fit.here (ltb-true (key y) (length s.here) e) in
           let r = m.does (stored.begun Here y vs s) in
-          let al' : Allows (keeping a vs g) (m.touches (stored.begun Here y vs s)) = subst (λ b. Allows (keeping a vs g) (cond b (m.touches (stored.begun Here y vs s)) [])) e al in
+          let al' : Asks f (keeping a vs g) (m.touches (stored.begun Here y vs s)) (m.visits (stored.begun Here y vs s)) = subst (λ b. Asks f (keeping a vs g) (cond b (m.touches (stored.begun Here y vs s)) []) (cond b (m.visits (stored.begun Here y vs s)) [])) e al in
           subst (λ b. let z = cond b (stored.at (stored.ended Here y s r.state) r.end) (stored.at s (Err NoRoom)) in LandsAlso q (record g { what = wh }) (from d) s.turns to z.state z.end) (sym e)
           (back s d fit slots r.state r.end
           ((k (length s.cells) (fresh_of (fit_unkept a vs g free fit)) slots).by (stored.begun Here y vs s) d (fit_having y a vs g fit)
-          (allows_fewer limit c f x (keeping a vs g) (having y (length s.cells) a vs g) (m.touches (stored.begun Here y vs s)) (fewer_kept limit c f x y (length s.cells) a vs g) al')))
+          (allows_fewer limit c f x (keeping a vs g) (having y (length s.cells) a vs g) (m.touches (stored.begun Here y vs s)) (fewer_kept limit c f x y (length s.cells) a vs g) al'.0, al'.1)))
       go s d fit false e al =
           let r = m.does (stored.begun Here y vs s) in
           subst (λ b. let z = cond b (stored.at (stored.ended Here y s r.state) r.end) (stored.at s (Err NoRoom)) in LandsAlso q (record g { what = wh }) (from d) s.turns to z.state z.end) (sym e) tt
@@ -473,7 +477,7 @@ module _ (limit : ℕ) (cuts : ℕ → ℕ → List ℕ) (program : Program) (c 
     by = λ s d fit al.
         let m : Stored (List (List ℤ)) = Meaning.back_cells ops limit program (all_passed ps) [] in
         let k : (List (List ℤ) → Stored Returned) = (λ vss. stored.ret (record { value = v; cells = vss })) in
-        let (vss, is, here) = back_read {g = g} ps a [] s d spread fit (bind_first g m k s al) in
+        let (vss, is, here) = back_read {g = g} ps a [] s d spread fit (bind_first g m k s al.0) in
         subst (λ r. LandsAlso limit c f x {A = Returned} (λ r d. Backs a ps r.cells d.cells) g (to v d) s.turns (λ r d. to r.value d) r.state r.end) (sym (bind_is m k s vss is ∙ ret_is (record { value = v; cells = vss }) s))
-        (record { dyn = d; fit = fit; comes = comes_here limit c (to v d); grows = le_refl s.turns }, here);
+        (record { dyn = d; fit = fit; comes = comes_here limit c (to v d) _; grows = le_refl s.turns }, here);
   }

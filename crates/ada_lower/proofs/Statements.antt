@@ -14,9 +14,9 @@ use Rattle.ada_meaning.specs.Values
 use Rattle.ada_meaning.specs.Values.{truth}
 use Rattle.ada_meaning.specs.Operations.{RangeCheck, Operations}
 use Rattle.ada_meaning.specs.Stored as stored
-use Rattle.ada_meaning.specs.Stored.{Stored, Cause, Left, OutOfTurns, Place, Touch}
+use Rattle.ada_meaning.specs.Stored.{Stored, Cause, Left, OutOfTurns, Address, Touch}
 use Rattle.ada_meaning.specs.Meaning
-use Rattle.ada_meaning.specs.Meaning.{Env, Part, Passed, Returned, variable_root, constant_root}
+use Rattle.ada_meaning.specs.Meaning.{Env, ObjectPart, Passed, Returned, variable_root, constant_root}
 use Rattle.ada_meaning.proofs.Cells.{some_same}
 use Rattle.stack_code.specs.declared.code.Code.{Code}
 use Rattle.stack_code.specs.declared.instr.Instr.TheVariants as i
@@ -27,7 +27,7 @@ use Rattle.ada_lower.specs.Driven.{Dyn, Fixed, Step, On, on, path, thrown, unnes
 use Rattle.lower_emission.specs.Scope as scope
 use Rattle.ada_lower.specs.Sights.{Amid, Around, ByEnd, ByLeave, ByReturn, ByValue, Emit, Known, Leaving, Level, Main, Named, Own, Scope, Sight, Stands, Where, address_of, choose, guarded, item_sight, load_at, load_of, looped, none, object_here, one, own, passing, range_sight, root_of, store_at, taking, when_, with_entry, with_exit, with_handled, with_item, with_object, with_parameter, with_target, ◌⨟◌}
 use Rattle.ada_lower.specs.Emission
-use Rattle.ada_lower.specs.Emission.{emit, selected, stmt, all, exiting, returning, returning_value, handled_target, Shape, shapes, shapes_cells}
+use Rattle.ada_lower.specs.Emission.{emit, selected, stmt, all, away, exiting, returning, returning_value, handled_target, Shape, shapes, shapes_cells}
 use Rattle.ada_lower.specs.Fits.{What, Free, Keeps, Access, Ghost, Allows, Fit, Ends, left_by, place_in, IsAt, Leads, Spread, Refers, Holds, Knows, Stands as StandsFor}
 use Rattle.ada_lower.specs.Fitted.{Reached, Reaches, Fitted, FittedTarget, FittedSelections, FittedOptional, FittedValue, FittedComposite, FittedDecls, FittedStmt, FittedAll, FittedAlternatives, FittedHandlers}
 use Rattle.ada_lower.proofs.Expressions.{composed_does, at_entry, does_hold, fewer_kept_back, value_does, selected_does, address_stands, named_does}
@@ -82,7 +82,7 @@ module _ (limit : ℕ) (cuts : ℕ → ℕ → List ℕ) (program : Program) (c 
         )
 
     -- one cell is written
-    writes_does : {g : Ghost} {from : Dyn → Step} {to : Dyn → Step} (y o a : ℕ) (v : ℤ) (p : Place) (access : Access) → ((a b : ℕ) (z w : Access) (pl : Place) → g.what a ≡ StandsFor z pl → g.what b ≡ StandsFor w pl → a ≡ b)
+    writes_does : {g : Ghost} {from : Dyn → Step} {to : Dyn → Step} (y o a : ℕ) (v : ℤ) (p : Address) (access : Access) → ((a b : ℕ) (z w : Access) (pl : Address) → g.what a ≡ StandsFor z pl → g.what b ≡ StandsFor w pl → a ≡ b)
         → place_in g (VariableOf y) o ≡ Some p → g.what a ≡ StandsFor access p
         → ((u : ℤ) (d : Dyn) → slice_get d.cells a ≡ Some (Mine u) → To limit c (from d) (to (record d { cells = set d.cells a (Mine v) }))) → Runs limit c f x g any (Meaning.write_all ops y o (v ∷ [])) from (λ _. to)
     writes_does {g} {from} {to} y o a v p access one here stands k =
@@ -98,7 +98,7 @@ module _ (limit : ℕ) (cuts : ℕ → ℕ → List ℕ) (program : Program) (c 
     assign_whole : (at : ℕ) (r : Root) (check : Check) (e : Expr) (from to : ℕ) {g : Ghost} {env : Env} (s : Sight) (n : Named) → Knows limit cuts g f s env → s.scope.entry ≡ x.entry → root_of s.scope r ≡ Some n → n.through ≡ false → 1 ≤ n.cells → Fitted program globals mains epar (with_target n s) e
         → Stands c (value_of check e (with_target n s).scope 0 ⨟ one s.scope 1 (store_at n.place.level n.place.cell)) from to → Acts x g (assigning at r Whole check e env) from to
     assign_whole at r check e from to {g} {env} s n k en is direct some w l =
-        let o : Part = variable_root r env in
+        let o : ObjectPart = variable_root r env in
         let u : Refers g f n (VariableOf o.object) o.offset = root_refers r n k is in
         let (p, access, here, stands) = u.spread.cell 0 (omega (arith, some)) in
         let z : u.address + 0 ≡ u.address = omega arith in
@@ -121,7 +121,7 @@ module _ (limit : ℕ) (cuts : ℕ → ℕ → List ℕ) (program : Program) (c 
         → Stands c (one s.scope 0 (address_of n) ⨟ selected program s.scope 1 selections ⨟ one s.scope 1 i.Dup ⨟ Emission.keep s.scope 2 s.scope.free ⨟ value_of check e (part_sight s).scope 1 ⨟ one s.scope 2 i.Store) from to
         → Acts x g (assigning at r selections check e env) from to
     assign_part at r selections check e from to {g} {env} s n k en is reach ws (room, we) (j1, l2) =
-        let o : Part = variable_root r env in
+        let o : ObjectPart = variable_root r env in
         let u : Refers g f n (VariableOf o.object) o.offset = root_refers r n k is in
         let t : Sight = part_sight s in
         let stores : Emit = one s.scope 2 i.Store in
@@ -138,7 +138,7 @@ module _ (limit : ℕ) (cuts : ℕ → ℕ → List ℕ) (program : Program) (c 
         let here' : place_in g (VariableOf p.object) p.offset ≡ Some pl = ap (λ z. place_in g (VariableOf z) p.offset) at_.0 ∙ ap (λ z. place_in g (VariableOf o.object) z) (sym y) ∙ here in
         does_before limit c f x (λ d. comes_goes limit c f (pos a ∷ []) (m2 + 1) (pos a ∷ pos a ∷ []) d dup refl)
         (does_hold limit c f x (m2 + 1) (pos a) (pos a ∷ []) room k (at_entry en keep) (λ k1.
-        let away : (b : ℕ) (z : Access) (q : Place) → g.what b ≡ StandsFor z q → g1.what b ≡ StandsFor z q = (λ b z q e. (free_extends g (f.base + s.scope.free) (Keeps (pos a)) (k.free s.scope.free (le_refl s.scope.free) room)).solid b (StandsFor z q) tt e) in
+        let away : (b : ℕ) (z : Access) (q : Address) → g.what b ≡ StandsFor z q → g1.what b ≡ StandsFor z q = (λ b z q e. (free_extends g (f.base + s.scope.free) (Keeps (pos a)) (k.free s.scope.free (le_refl s.scope.free) room)).solid b (StandsFor z q) tt e) in
         let refers : Refers g1 f (record { through = true; place = own s.scope.free; cells = 1 }) (VariableOf p.object) p.offset = record {
           address = a;
           leads = (f.base + s.scope.free, refl, inl (what_same g (f.base + s.scope.free) (Keeps (pos a))));
@@ -170,7 +170,7 @@ module _ (limit : ℕ) (cuts : ℕ → ℕ → List ℕ) (program : Program) (c 
         ⨟ one s.scope 0 (i.LoadL s.scope.free) ⨟ one s.scope 1 (i.Local (s.scope.free + 1)) ⨟ one s.scope 2 (i.Copy n)) from to
         → Acts x g (stored.bind (Meaning.select ops limit program calls selections env (variable_root r env)) (λ p. stored.bind (Meaning.composite ops limit program calls value (Meaning.with_target p env)) (λ cs. Meaning.write_all ops p.object p.offset cs))) from to
     assign_cells at r selections value n from to {g} {env} s k en ((m, is, reach), ws, room, we) l =
-        let o : Part = variable_root r env in
+        let o : ObjectPart = variable_root r env in
         let u : Refers g f m (VariableOf o.object) o.offset = root_refers r m k is in
         let t : Sight = with_target (record { through = true; place = own s.scope.free; cells = n }) (taking n (taking 1 s)) in
         let end_ : Emit = one s.scope 0 (i.LoadL s.scope.free) ⨟ one s.scope 1 (i.Local (s.scope.free + 1)) ⨟ one s.scope 2 (i.Copy n) in
@@ -188,7 +188,7 @@ module _ (limit : ℕ) (cuts : ℕ → ℕ → List ℕ) (program : Program) (c 
         let b : ℕ = f.base + (s.scope.free + 1) in
         let g1 : Ghost = set_what (f.base + s.scope.free) (Keeps (pos a)) g in
         let part : Spread g (VariableOf p.object) p.offset n a = spread_of p o u.spread at_.0 at_.1 at_.2 in
-        let away : (b : ℕ) (z : Access) (q : Place) → g.what b ≡ StandsFor z q → g1.what b ≡ StandsFor z q = (λ b z q e. (free_extends g (f.base + s.scope.free) (Keeps (pos a)) (k.free s.scope.free (le_refl s.scope.free) some)).solid b (StandsFor z q) tt e) in
+        let away : (b : ℕ) (z : Access) (q : Address) → g.what b ≡ StandsFor z q → g1.what b ≡ StandsFor z q = (λ b z q e. (free_extends g (f.base + s.scope.free) (Keeps (pos a)) (k.free s.scope.free (le_refl s.scope.free) some)).solid b (StandsFor z q) tt e) in
         let part1 : Spread g1 (VariableOf p.object) p.offset n a = record { cell = λ i lt. let (pl, access, here, stands) = part.cell i lt in (pl, access, here, away (a + i) access pl stands) } in
         let refers : Refers g1 f (record { through = true; place = own s.scope.free; cells = n }) (VariableOf p.object) p.offset = record {
           address = a;
@@ -231,7 +231,7 @@ module _ (limit : ℕ) (cuts : ℕ → ℕ → List ℕ) (program : Program) (c 
         (λ i v e. laid_in b 0 kept_what cs g1.what i v e)
         (at_entry en copy))))))))
       where
-        spread_of : {total a : ℕ} (p o : Part) → Spread g (VariableOf o.object) o.offset total a → p.object ≡ o.object → o.offset ≤ p.offset → p.offset + n ≤ o.offset + total → Spread g (VariableOf p.object) p.offset n (a + (p.offset - o.offset))
+        spread_of : {total a : ℕ} (p o : ObjectPart) → Spread g (VariableOf o.object) o.offset total a → p.object ≡ o.object → o.offset ≤ p.offset → p.offset + n ≤ o.offset + total → Spread g (VariableOf p.object) p.offset n (a + (p.offset - o.offset))
         spread_of {total} {a} p o w e le lt = record {
           cell = λ i il.
               let (pl, access, here, is) = w.cell (p.offset - o.offset + i) (omega (arith, il, le, lt)) in
@@ -256,6 +256,7 @@ module _ (limit : ℕ) (cuts : ℕ → ℕ → List ℕ) (program : Program) (c 
     flat = w.flat;
     kept = w.kept;
     texts = w.texts;
+    threads = w.threads;
     away = λ n none' here q en at d. go' n (nat_eq number n) none' here q en at d;
     exits = λ n to e d. go n to (nat_eq number n) e d;
     returns = w.returns;
@@ -278,7 +279,9 @@ module _ (limit : ℕ) (cuts : ℕ → ℕ → List ℕ) (program : Program) (c 
 
   pub exits_known : {x : Ends} {s : Sight} (n from to : ℕ) → Suits limit c f x s → Known s n → Stands c (exiting s.scope n (s.scope.exits n)) from to → (d : Dyn) → To limit c (on f from [] d) (x.exits n d)
   exits_known {x} {s} n from to u (inl (q, e)) l d = exit_goes n from to q u e l d
-  exits_known {x} {s} n from to u (inr (e, here)) l d = u.away n e here from s.scope.entry (subst (λ o. Stands c (exiting s.scope n o) from to) e l).0 d
+  exits_known {x} {s} n from to u (inr (e, here)) l d =
+      let (site, is) = u.threads n here in
+      u.away n e here from s.scope.entry (subst (λ b. Stands c (away s.scope n b) from to) is (subst (λ o. Stands c (exiting s.scope n o) from to) e l)).0 d
 
   exits_does : {g j : Ghost} {m : Stored (Unit {0})} {from : Dyn → Step} → ((ts : List Touch) → Allows g ts → Allows j ts) → (x : Ends) (number exit to : ℕ) → At c exit (i.Jump to) x.entry → Doing limit c f (leaving_loop number exit x) g j any m from (λ _ d. on f to [] d)
       → Doing limit c f x g j any (stored.handles m (Meaning.exits number) (λ _. stored.ret (tt {0}))) from (λ _ d. on f to [] d)
@@ -342,7 +345,7 @@ module _ (limit : ℕ) (cuts : ℕ → ℕ → List ℕ) (program : Program) (c 
 
   handles_ret : {g : Ghost} (x : Ends) (number to : ℕ) → Acts x g (stored.handles (stored.ret tt) (Meaning.exits number) (λ _. stored.ret tt)) to to
   unfolding stored.handles stored.ret
-  handles_ret x number to = record { by = λ s d fit al. (tt, record { dyn = d; fit = fit; comes = comes_here limit c (on f to [] d); grows = le_refl s.turns }) }
+  handles_ret x number to = record { by = λ s d fit al. (tt, record { dyn = d; fit = fit; comes = comes_here limit c (on f to [] d) _; grows = le_refl s.turns }) }
 
   -- no turn is made
   for_none : {g j : Ghost} → ((s : stored.State) (d : Dyn) → Fit g s d → Fit j s d) → (x : Ends) (number to : ℕ) (body : ℕ → Stored (Unit {0})) (n : ℕ) → n ≡ 0
@@ -383,7 +386,7 @@ module _ (limit : ℕ) (cuts : ℕ → ℕ → List ℕ) (program : Program) (c 
       (λ i _. iterate_does _ _ y (start + 1 + 1) o.mid k.most (at_entry u.entry o.turn.0)
       (body (start + 1) _ _ (start + 1 + 1 + 1) o.mid
       (knows_exit number (start + 1) (knows_parameter limit cuts c f p (own (Emission.first_parameter reverse s.scope.free)) (cond reverse (h -ℤ pos i) (l +ℤ pos i)) (knows_counts limit cuts c f s _ _ room k) (holds_count reverse i)))
-      (exit_suits number (start + 1) (suits_as (with_parameter p (own (Emission.first_parameter reverse s.scope.free)) (taking 2 s)) s refl refl refl refl (λ n. refl) u)) o.turn.1))
+      (exit_suits number (start + 1) (suits_as (with_parameter p (own (Emission.first_parameter reverse s.scope.free)) (taking 2 s)) s refl refl refl refl refl (λ n. refl) u)) o.turn.1))
       m 0 tt is))))))
     where
       holds_count : (reverse : Bool) (i : ℕ) → Holds (counts_at limit cuts c f x s.scope.free (first_value limit cuts c f x reverse l i) (last_value limit cuts c f x reverse h i) g) f (own (Emission.first_parameter reverse s.scope.free)) (cond reverse (h -ℤ pos i) (l +ℤ pos i))
@@ -442,7 +445,7 @@ module _ (limit : ℕ) (cuts : ℕ → ℕ → List ℕ) (program : Program) (c 
       (does_elaborates limit c f x (VariableOf y) (f.base + s.scope.free) vs free (λ len fresh slots.
       decls_does more m1 to x t code m body
       (subst (λ n. Knows limit cuts (having (VariableOf y) len (f.base + s.scope.free) vs g) f (object_here s (VariableOf y) n) env) n (knows_having (VariableOf y) len vs (omega (arith, room, n)) slots new fresh k))
-      (suits_as t s refl refl refl refl (λ n. refl) u) w l2 j))
+      (suits_as t s refl refl refl refl refl (λ n. refl) u) w l2 j))
   decls_does (DeclareVariable y initial more) from to {g} {env} x s code m body k u (new, room, wi, w) l j =
       let n : ℕ = Emission.width program initial in
       let t : Sight = object_here s (VariableOf y) n in
@@ -450,7 +453,7 @@ module _ (limit : ℕ) (cuts : ℕ → ℕ → List ℕ) (program : Program) (c 
       does_elaborates limit c f x (VariableOf y) (f.base + s.scope.free) cs (λ i lt. free_at n room k i (omega (arith, lt, len))) (λ at_ fresh slots.
       decls_does more mid to x t code m body
       (subst (λ n. Knows limit cuts (having (VariableOf y) at_ (f.base + s.scope.free) cs g) f (object_here s (VariableOf y) n) env) len (knows_having (VariableOf y) at_ cs (omega (arith, room, len)) slots new fresh k))
-      (suits_as t s refl refl refl refl (λ n. refl) u) w l2 j))
+      (suits_as t s refl refl refl refl refl (λ n. refl) u) w l2 j))
   decls_does (DeclareConstant y initial more) from to {g} {env} x s code m body k u (new, room, wi, w) l j =
       let n : ℕ = Emission.width program initial in
       let t : Sight = object_here s (ConstantOf y) n in
@@ -458,7 +461,7 @@ module _ (limit : ℕ) (cuts : ℕ → ℕ → List ℕ) (program : Program) (c 
       does_elaborates limit c f x (ConstantOf y) (f.base + s.scope.free) cs (λ i lt. free_at n room k i (omega (arith, lt, len))) (λ at_ fresh slots.
       decls_does more mid to x t code m body
       (subst (λ n. Knows limit cuts (having (ConstantOf y) at_ (f.base + s.scope.free) cs g) f (object_here s (ConstantOf y) n) env) len (knows_having (ConstantOf y) at_ cs (omega (arith, room, len)) slots new fresh k))
-      (suits_as t s refl refl refl refl (λ n. refl) u) w l2 j))
+      (suits_as t s refl refl refl refl refl (λ n. refl) u) w l2 j))
 
   truth_is : {x : Ends} {g : Ghost} {from : Dyn → Step} {to : ℕ} (m n : Stored (Unit {0})) (b : Bool) → Runs limit c f x g any (cond (truth (Values.bit b)) m n) from (λ _ d. on f to [] d) → Runs limit c f x g any (cond b m n) from (λ _ d. on f to [] d)
   truth_is {x} {g} {from} {to} m n b k = subst (λ t. Runs limit c f x g any (cond t m n) from (λ _ d. on f to [] d)) (truth_bit limit cuts c f b) k
@@ -482,8 +485,10 @@ module _ (limit : ℕ) (cuts : ℕ → ℕ → List ℕ) (program : Program) (c 
       does_by limit c f x (λ t d fit. comes_reason limit c f s k from m1 r rs d (number_seen (g.what (f.base + k)) (pos (reason_number r)) t (slice_get d.cells (f.base + k)) (inl is) (fit.cells (f.base + k))) l1)
       (ways x s a b m1 to (Values.has_reason rs r) en l2 j j')
 
-  unnested_same : f.nest ≡ 0 → unnested f ≡ f
-  unnested_same e = let z : f.nested - (f.nest - 0) ≡ f.nested = omega (arith, e) in ap₂ (λ n m. record f { nest = n; nested = m }) (sym e) z
+  unnested_same : f.nest ≡ 0 → f.kept ≡ [] → unnested f ≡ f
+  unnested_same e k =
+      let z : f.nested - (f.nest - 0) ≡ f.nested = omega (arith, e) in
+      ap (λ vs. record f { nest = 0; kept = vs; nested = f.nested - (f.nest - 0) }) (sym k) ∙ ap₂ (λ n m. record f { nest = n; nested = m }) (sym e) z
 
   -- a part with handlers: the reason goes to a cell of its own
   guarded_does : {g : Ghost} {env : Env} {m : Stored (Unit {0})} {h : Reason → Stored (Unit {0})} (x : Ends) (t : Sight) (code : Emit) (body : ℕ → Emit) (from to : ℕ) → Knows limit cuts g f t env → Suits limit c f x t → t.scope.free < t.cells
@@ -504,7 +509,7 @@ module _ (limit : ℕ) (cuts : ℕ → ℕ → List ℕ) (program : Program) (c 
       taken o (Returns v) e = absurd (true≢false (sym e))
       taken o (Raises r) e =
           does_bind limit c f x (does_look limit c f x (λ d. on (unnested f) (from + 1) (pos (reason_number r) ∷ []) d)) (λ _ _.
-          subst (λ z. Runs limit c f x g any (h r) (λ d. on z (from + 1) (pos (reason_number r) ∷ []) d) (λ _ d. on f to [] d)) (sym (unnested_same u.flat))
+          subst (λ z. Runs limit c f x g any (h r) (λ d. on z (from + 1) (pos (reason_number r) ∷ []) d) (λ _ d. on f to [] d)) (sym (unnested_same u.flat u.kept))
           (does_before limit c f x (λ d. comes_goes limit c f (pos (reason_number r) ∷ []) (o.mid + 1) (pos (reason_number r) ∷ []) d o.caught refl)
           (does_hold limit c f x (o.mid + 1) (pos (reason_number r)) [] room k (at_entry u.entry o.handler.0) (λ k1.
           j' r _ (o.mid + 1 + 1) to (what_same g (f.base + t.scope.free) (Keeps (pos (reason_number r)))) k1 o.handler.1))))
@@ -525,7 +530,7 @@ module _ (limit : ℕ) (cuts : ℕ → ℕ → List ℕ) (program : Program) (c 
   abbrev items_emit : Sight → ℕ → ℕ → Bool → ℕ → Optional → (Scope → Emit) → Emit
   items_emit s number p constant stride filter code = looped s.scope 0 true (λ exit. item_emit s number p constant stride filter code exit) (λ head. step_emit s stride head)
 
-  items_loop : {g : Ghost} {env : Env} (x : Ends) (s : Sight) (number p : ℕ) (constant : Bool) (stride count : ℕ) (filter : Optional) (y : Entity) (first total address off at_ to : ℕ) (code : Scope → Emit) (q : Part) (tests : Env → Stored Bool) (does : Env → Stored (Unit {0}))
+  items_loop : {g : Ghost} {env : Env} (x : Ends) (s : Sight) (number p : ℕ) (constant : Bool) (stride count : ℕ) (filter : Optional) (y : Entity) (first total address off at_ to : ℕ) (code : Scope → Emit) (q : ObjectPart) (tests : Env → Stored Bool) (does : Env → Stored (Unit {0}))
       → Knows limit cuts g f s env → Suits limit c f x s → s.scope.free + 1 + 1 < s.cells → Spread g y first total address → q.offset ≡ first + off → off + suc count * stride ≤ total → named_entity constant q.object ≡ y
       → Stands c (Emission.keep s.scope 1 s.scope.free ⨟ one s.scope 0 (i.Push (pos 1)) ⨟ Emission.keep s.scope 1 (s.scope.free + 1) ⨟ one s.scope 0 (i.Push (pos (suc count))) ⨟ Emission.keep s.scope 1 (s.scope.free + 1 + 1) ⨟ items_emit s number p constant stride filter code) at_ to
       → ((exit : ℕ) (env' : Env) (g' : Ghost) (from to : ℕ) → Knows limit cuts g' f (item_sight s (Some number) constant p stride exit) env' → Suits limit c f (leaving_loop number exit x) (item_sight s (Some number) constant p stride exit)
@@ -559,8 +564,8 @@ module _ (limit : ℕ) (cuts : ℕ → ℕ → List ℕ) (program : Program) (c 
       suits_turn exit = exit_suits number exit (suits_item constant)
         where
           suits_item : (b : Bool) → Suits limit c f x (with_item b p (record { through = true; place = own s.scope.free; cells = stride }) (taking 3 s))
-          suits_item true = suits_as _ s refl refl refl refl (λ n. refl) u
-          suits_item false = suits_as _ s refl refl refl refl (λ n. refl) u
+          suits_item true = suits_as _ s refl refl refl refl refl (λ n. refl) u
+          suits_item false = suits_as _ s refl refl refl refl refl (λ n. refl) u
 
       in_range : (i j : ℕ) → i ≤ count → j < stride → off + i * stride + j < total
       in_range i j le lt = let b : suc i * stride ≤ suc count * stride = mul-le-mul_right stride (let l : suc i ≤ suc count = omega (arith, le) in l) in omega (arith, b, suc-mul i stride, lt, fits)
@@ -676,7 +681,7 @@ module _ (limit : ℕ) (cuts : ℕ → ℕ → List ℕ) (program : Program) (c 
           let (m1, l1, (j, l2)) = stands_seq c from to (emit program s.scope 0 e) (Emission.keep s.scope 1 s.scope.free ⨟ Emission.cases program (taking 1 s).scope s.scope.free alternatives) l in
           does_bind limit c f x (value_does limit cuts program c f x calls globals mains epar calls_do e from m1 s 0 [] k u.entry we l1) (λ v _.
           does_hold limit c f x m1 v [] room k (at_entry u.entry j) (λ k1.
-          cases_does alternatives (m1 + 1) to x (taking 1 s) s.scope.free v (what_same g (f.base + s.scope.free) (Keeps v)) k1 (suits_as (taking 1 s) s refl refl refl refl (λ n. refl) u) w l2))
+          cases_does alternatives (m1 + 1) to x (taking 1 s) s.scope.free v (what_same g (f.base + s.scope.free) (Keeps v)) k1 (suits_as (taking 1 s) s refl refl refl refl refl (λ n. refl) u) w l2))
       stmt_does (For number (Range p reverse low high check filter) stmts) from to {g} {env} x s k u (room, wl, wh, w) l =
           course_does limit cuts c f x s 0 p reverse (emit program s.scope 0 low) (emit program (taking 1 s).scope 0 high) (Meaning.eval ops limit program calls low env) (Meaning.eval ops limit program calls high env) check (loop_emit s number p reverse filter (λ t. all program t stmts)) from to [] _ k u.entry room
           (λ from to l. value_does limit cuts program c f x calls globals mains epar calls_do low from to s 0 [] k u.entry wl l) (λ from to g' k' l. value_does limit cuts program c f x calls globals mains epar calls_do high from to (taking 1 s) 0 [] k' u.entry wh l) l
@@ -685,9 +690,9 @@ module _ (limit : ℕ) (cuts : ℕ → ℕ → List ℕ) (program : Program) (c 
           (λ exit env' g' from to k' u' at'. filtered_does (leaving_loop number exit x) filter (all program (range_sight s (Some number) p reverse exit).scope stmts) from to (range_sight s (Some number) p reverse exit) 0 k' u'.entry (w exit).0 at'
           (λ from at''. all_does stmts from to (leaving_loop number exit x) (range_sight s (Some number) p reverse exit) k' u' (w exit).1 at'')))
       stmt_does (For number (Components p constant at r selections zero stride dimensions filter) stmts) from to {g} {env} x s k u (room, (n, e, reach), ws, w) l =
-          let o : Part = Meaning.array_root constant r env in
+          let o : ObjectPart = Meaning.array_root constant r env in
           let v : Refers g f n (named_entity constant o.object) o.offset = array_refers constant r n k e in
-          let turn : Part → ℕ → Stored (Unit {0}) = (λ q j. Meaning.iterate ops (Meaning.filtered ops limit program calls (Components p constant at r selections 0 stride dimensions filter) (Meaning.with_item constant p (Meaning.moved q (j * stride)) env)) (executes stmts (Meaning.with_item constant p (Meaning.moved q (j * stride)) env))) in
+          let turn : ObjectPart → ℕ → Stored (Unit {0}) = (λ q j. Meaning.iterate ops (Meaning.filtered ops limit program calls (Components p constant at r selections 0 stride dimensions filter) (Meaning.with_item constant p (Meaning.moved q (j * stride)) env)) (executes stmts (Meaning.with_item constant p (Meaning.moved q (j * stride)) env))) in
           let rest : Emit = Emission.keep s.scope 1 s.scope.free ⨟ none in
           let free1 : g.what (f.base + s.scope.free) ≡ Free = k.free s.scope.free (le_refl s.scope.free) (omega (arith, room)) in
           let (m1, l1, l2) = stands_seq c from to (Emission.address s.scope 0 (Emission.array_root_of constant s.scope r)) (selected program s.scope 1 selections ⨟ rest) (stands_assoc3 c from to (Emission.address s.scope 0 (Emission.array_root_of constant s.scope r)) (selected program s.scope 1 selections) (Emission.keep s.scope 1 s.scope.free) none l) in
@@ -701,7 +706,7 @@ module _ (limit : ℕ) (cuts : ℕ → ℕ → List ℕ) (program : Program) (c 
           (subst (λ q'. Doing limit c f x (set_what (f.base + s.scope.free) (Keeps (pos (v.address + (q.offset - o.offset)))) g) g any (stored.handles (through stored.doings 0 0 tt (λ j _. turn q j)) (Meaning.exits number) (λ _. stored.ret tt)) (λ d. on f q' [] d) (λ _ d. on f to [] d)) z2
           (for_none (λ t d w. fit_unset (f.base + s.scope.free) (pos (v.address + (q.offset - o.offset))) free1 w) x number to (turn q) 0 refl)))))
       stmt_does (For number (Components p constant at r selections (suc count) stride dimensions filter) stmts) from to {g} {env} x s k u (room, (n, e, reach), ws, w) l =
-          let o : Part = Meaning.array_root constant r env in
+          let o : ObjectPart = Meaning.array_root constant r env in
           let v : Refers g f n (named_entity constant o.object) o.offset = array_refers constant r n k e in
           let turns : Emit = one s.scope 0 (i.Push (pos 1)) ⨟ Emission.keep s.scope 1 (s.scope.free + 1) ⨟ one s.scope 0 (i.Push (pos (suc count))) ⨟ Emission.keep s.scope 1 (s.scope.free + 1 + 1) ⨟ items_emit s number p constant stride filter (λ t. all program t stmts) in
           let many : Emit = cond (nat_eq (suc count) 0) none turns in
@@ -729,8 +734,8 @@ module _ (limit : ℕ) (cuts : ℕ → ℕ → List ℕ) (program : Program) (c 
           guarded_does x t (Emission.handled_by handled (all program t'.scope first) (Emission.handling program t'.scope t.scope.free rest) t'.scope t.scope.free) (λ h. all program (with_entry h t).scope stmts) from' to k' u' room l'
           (λ h from to l. all_does stmts from to (entered h x) (with_entry h t) (knows_entry h k') (suits_entry h u') (w0 h) l)
           (λ r g1 from to is k1 l. handled_does x handled (all program t'.scope first) (Emission.handling program t'.scope t.scope.free rest) t' t.scope.free from to r u'.entry is l
-          (λ from to l. all_does first from to x t' (knows_handled (own t.scope.free) r k1 (f.base + t.scope.free, refl, inl is)) (suits_as t' t refl refl refl refl (λ n. refl) u') w1 l)
-          (λ from to l. handlers_does rest from to env x t' t.scope.free r is (knows_handled (own t.scope.free) r k1 (f.base + t.scope.free, refl, inl is)) (suits_as t' t refl refl refl refl (λ n. refl) u') w2 l)))
+          (λ from to l. all_does first from to x t' (knows_handled (own t.scope.free) r k1 (f.base + t.scope.free, refl, inl is)) (suits_as t' t refl refl refl refl refl (λ n. refl) u') w1 l)
+          (λ from to l. handlers_does rest from to env x t' t.scope.free r is (knows_handled (own t.scope.free) r k1 (f.base + t.scope.free, refl, inl is)) (suits_as t' t refl refl refl refl refl (λ n. refl) u') w2 l)))
       stmt_does (Put at callee pieces line) from to {g} {env} x s k u (room, w) l =
           let (m1, l1, l2) = stands_seq c from to (Emission.piece_values program s.scope pieces) (Emission.piece_texts s.scope s.scope.free pieces ⨟ one s.scope 0 (Emission.send_instr line)) l in
           let (m2, l3, (j, z)) = stands_seq c m1 to (Emission.piece_texts s.scope s.scope.free pieces) (one s.scope 0 (Emission.send_instr line)) l2 in
@@ -745,7 +750,7 @@ module _ (limit : ℕ) (cuts : ℕ → ℕ → List ℕ) (program : Program) (c 
           (subst (λ q. Runs limit c f x g any (stored.puts (cond line (Emission.bytes_of pieces us ++ (10 ∷ [])) (Emission.bytes_of pieces us))) (λ d. On (path f m2 [] (Emission.bytes_of pieces us) None d)) (λ _ d. on f q [] d)) (sym z)
           (sends_does limit cuts program c f calls globals mains epar calls_do x m2 line (Emission.bytes_of pieces us) (at_entry u.entry j))))
       stmt_does (Get at callee first r selections scalar) from to {g} {env} x s k u ((n, is, reach), ws) l =
-          let o : Part = variable_root r env in
+          let o : ObjectPart = variable_root r env in
           let v : Refers g f n (VariableOf o.object) o.offset = root_refers r n k is in
           let last : Emit = one s.scope 1 i.Get ⨟ Emission.checked s.scope 2 scalar ⨟ one s.scope 2 i.Store in
           let (m1, l1, l2) = stands_seq c from to (Emission.address s.scope 0 (root_of s.scope r)) (selected program s.scope 1 selections ⨟ last) l in

@@ -3,8 +3,9 @@ use Rattle.std.proofs.Common.{◌≡◌, ℕ, ◌+◌, ◌-◌, ℤ, pos, List, 
 use Rattle.ada_base.specs.declared.reason.Reason.{Reason}
 use Rattle.behaviours.specs.Paths.{VariableOf}
 use Rattle.ada_meaning.specs.Meaning
-use Rattle.ada_meaning.specs.Meaning.{Env, Part, Passed, Returned, variable_root, constant_root}
+use Rattle.ada_meaning.specs.Meaning.{Env, ObjectPart, Passed, Returned, variable_root, constant_root}
 use Rattle.ada_meaning.proofs.Cells.{some_same}
+use Rattle.stack_code.specs.declared.code.Around.TheVariants.{Site}
 use Rattle.stack_code.specs.declared.code.Code.{Code}
 use Rattle.stack_code.specs.declared.instr.Instr.TheVariants as i
 use Rattle.stack_code.specs.Deeds.{GoesOn, Stores, deed_of, store_to, store_of_frame}
@@ -28,6 +29,8 @@ pub record Suits (limit : ℕ) (c : Code) (f : Fixed) (x : Ends) (s : Sight) : T
   pub flat : f.nest ≡ 0
   pub texts : s.texts ≡ c.texts
   pub exits : (n to : ℕ) → s.scope.exits n ≡ Some to → (d : Dyn) → To limit c (on f to [] d) (x.exits n d)
+  -- only threads have loops around
+  pub threads : (n : ℕ) → Amid n s.outside → (site : ℕ) × (s.scope.body ≡ Site site)
   pub away : (n : ℕ) → s.scope.exits n ≡ None → Amid n s.outside → (q : ℕ) (e : Option ℕ) → At c q (i.Exit n) e → (d : Dyn) → To limit c (on f q [] d) (x.exits n d)
   pub returns : (t : Sight) (from to : ℕ) → Stands c (returning t.scope 0 s.scope.leaving) from to → (d : Dyn) → To limit c (on f from [] d) (x.returns None d)
   pub gives : (t : Sight) (from to : ℕ) (v : ℤ) → Stands c (returning_value t.scope s.scope.leaving) from to → (d : Dyn) → To limit c (on f from (v ∷ []) d) (x.returns (Some v) d)
@@ -39,12 +42,13 @@ module _ (limit : ℕ) (c : Code) (f : Fixed) where
   store_deed q Main n a v st e = ap (λ z. store_to q (v ∷ st) (pos z)) (sym e)
 
 -- a scope in which bodies are left to the same places
-pub suits_as : {limit : ℕ} {c : Code} {f : Fixed} {x : Ends} (t s : Sight) → t.texts ≡ s.texts → t.scope.entry ≡ s.scope.entry → t.scope.leaving ≡ s.scope.leaving → t.outside ≡ s.outside → ((n : ℕ) → t.scope.exits n ≡ s.scope.exits n) → Suits limit c f x s → Suits limit c f x t
-suits_as {limit} {c} t s z e e' o e'' w = record {
+pub suits_as : {limit : ℕ} {c : Code} {f : Fixed} {x : Ends} (t s : Sight) → t.texts ≡ s.texts → t.scope.entry ≡ s.scope.entry → t.scope.leaving ≡ s.scope.leaving → t.outside ≡ s.outside → t.scope.body ≡ s.scope.body → ((n : ℕ) → t.scope.exits n ≡ s.scope.exits n) → Suits limit c f x s → Suits limit c f x t
+suits_as {limit} {c} t s z e e' o eb e'' w = record {
   entry = e ∙ w.entry;
   flat = w.flat;
   kept = w.kept;
   texts = z ∙ w.texts;
+  threads = λ n here. let (site, is) = w.threads n (subst (λ ns. Amid n ns) o here) in (site, eb ∙ is);
   away = λ n none' here q en at d. w.away n (sym (e'' n) ∙ none') (subst (λ ns. Amid n ns) o here) q en at d;
   exits = λ n to e d. w.exits n to (sym (e'' n) ∙ e) d;
   returns = λ z from to l d. w.returns z from to (subst (λ o. Stands c (returning z.scope 0 o) from to) e' l) d;
@@ -56,9 +60,9 @@ abbrev pub entered : ℕ → Ends → Ends
 entered h x = record x { entry = Some h }
 
 pub suits_entry : {limit : ℕ} {c : Code} {f : Fixed} {x : Ends} {s : Sight} (h : ℕ) → Suits limit c f x s → Suits limit c f (entered h x) (with_entry h s)
-suits_entry h w = record { entry = refl; flat = w.flat; kept = w.kept; away = w.away; texts = w.texts; exits = w.exits; returns = w.returns; gives = w.gives }
+suits_entry h w = record { entry = refl; flat = w.flat; kept = w.kept; threads = w.threads; away = w.away; texts = w.texts; exits = w.exits; returns = w.returns; gives = w.gives }
 
-pub knows_target : {limit : ℕ} {cuts : ℕ → ℕ → List ℕ} {g : Ghost} {f : Fixed} {s : Sight} {env : Env} (n : Named) (p : Part) → Knows limit cuts g f s env → Refers g f n (VariableOf p.object) p.offset → Knows limit cuts g f (with_target n s) (Meaning.with_target p env)
+pub knows_target : {limit : ℕ} {cuts : ℕ → ℕ → List ℕ} {g : Ghost} {f : Fixed} {s : Sight} {env : Env} (n : Named) (p : ObjectPart) → Knows limit cuts g f s env → Refers g f n (VariableOf p.object) p.offset → Knows limit cuts g f (with_target n s) (Meaning.with_target p env)
 knows_target {limit} {g} {f} {s} {env} n p k r = record {
   most = k.most;
   nested = k.nested;

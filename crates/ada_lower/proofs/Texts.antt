@@ -9,9 +9,9 @@ use Rattle.ada_meaning.specs.Values
 use Rattle.ada_meaning.specs.Values.{truth}
 use Rattle.ada_meaning.specs.Operations.{Operations}
 use Rattle.ada_meaning.specs.Stored as stored
-use Rattle.ada_meaning.specs.Stored.{Stored, Cause, Left, OutOfTurns, Place, Touch}
+use Rattle.ada_meaning.specs.Stored.{Stored, Cause, Left, OutOfTurns, Address, Touch}
 use Rattle.ada_meaning.specs.Meaning
-use Rattle.ada_meaning.specs.Meaning.{Env, Part, Passed, Returned, variable_root, constant_root}
+use Rattle.ada_meaning.specs.Meaning.{Env, ObjectPart, Passed, Returned, variable_root, constant_root}
 use Rattle.stack_code.specs.declared.code.Code.{Code}
 use Rattle.stack_code.specs.declared.instr.Instr.{Instr}
 use Rattle.stack_code.specs.declared.instr.Instr.TheVariants as i
@@ -128,9 +128,10 @@ module _ (limit : ℕ) (cuts : ℕ → ℕ → List ℕ) (program : Program) (c 
           most = fit.most;
           agrees = record { turns = fit.agrees.turns; left = fit.agrees.left; taken = fit.agrees.taken; held = fit.agrees.held; input = fit.agrees.input; output = ap₂ (λ a b. a ++ b) fit.agrees.output (same feed); notes = fit.agrees.notes };
           plan = fit.plan;
+          order = fit.order;
           cells = λ a. right_same (g.what a) s _ (slice_get d.cells a) refl refl (fit.cells a);
         };
-        comes = send_goes feed line d at;
+        comes = send_goes feed line d at _;
         grows = le_refl s.turns;
       },
     );

@@ -1,7 +1,7 @@
 -- A loop through the components of a run: the parameter, its last value and the address of the component are in three cells.
 use Rattle.std.proofs.Common.{◌≡◌, ℕ, suc, ◌+◌, ◌<◌, ◌≤◌, ℤ, pos, ◌+ℤ◌, List, ◌∷◌, length, set, slice_get, nat_eq, Option, Some, Bool, true, false, cond, refl, sym, ap, ◌∙◌, subst, le_refl, arith, inl, inr, ⊎_elim}
 use Rattle.ada_meaning.specs.Stored as stored
-use Rattle.ada_meaning.specs.Stored.{Place}
+use Rattle.ada_meaning.specs.Stored.{Address}
 use Rattle.ada_meaning.specs.Meaning.{Env}
 use Rattle.stack_code.specs.declared.code.Code.{Code}
 use Rattle.stack_code.specs.declared.instr.Instr.TheVariants as i
@@ -102,7 +102,7 @@ module _ (limit : ℕ) (cuts : ℕ → ℕ → List ℕ) (c : Code) (f : Fixed) 
         (fit_unset (f.base + n) u (what_other g (f.base + (n + 1 + 1)) (f.base + n) (Keeps (pos a)) (λ e. omega (arith, e)) ∙ free n (le_refl n) (omega arith))
         (fit_unset (f.base + (n + 1)) v (what_other h (f.base + n) (f.base + (n + 1)) (Keeps u) (λ e. omega (arith, e)) ∙ what_other g (f.base + (n + 1 + 1)) (f.base + (n + 1)) (Keeps (pos a)) (λ e. omega (arith, e)) ∙ free (n + 1) (omega arith) (omega arith)) w))
 
-    loose : (p b : ℕ) (v : ℤ) (h : Ghost) (y : Access) (pl : Place) → g.what p ≡ Free → (h.what b ≡ StandsFor y pl) → g.what b ≡ StandsFor y pl → (set_what p (Keeps v) h).what b ≡ StandsFor y pl
+    loose : (p b : ℕ) (v : ℤ) (h : Ghost) (y : Access) (pl : Address) → g.what p ≡ Free → (h.what b ≡ StandsFor y pl) → g.what b ≡ StandsFor y pl → (set_what p (Keeps v) h).what b ≡ StandsFor y pl
     loose p b v h y pl is e e' = ⊎_elim
         (λ same. absurd (let q : Free ≡ StandsFor y pl = sym is ∙ ap g.what same ∙ e' in cc))
         (λ ne. what_other h p b (Keeps v) ne ∙ e)

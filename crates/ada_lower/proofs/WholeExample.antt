@@ -16,7 +16,7 @@ use Rattle.stack_code.specs.declared.instr.Instr.TheVariants as i
 use Rattle.stack_code.specs.Machine.{Done}
 use Rattle.ada_lower.specs.Driven.{on, off}
 use Rattle.ada_lower.specs.Sights.{Placed, Sight, listed}
-use Rattle.ada_lower.specs.FittedForks.{FittedForks, FittedReductions, Within}
+use Rattle.ada_lower.specs.FittedForks.{FittedForks, FittedReductions, Within, unleased}
 use Rattle.lower_emission.specs.Bodies.{program_code}
 use Rattle.lower_emission.specs.Tables.{instrs_from, unwinds_from}
 use Rattle.ada_lower.specs.ProgramCode.{main_names, IsCodeOf}
@@ -27,6 +27,7 @@ use Rattle.ada_lower.proofs.ForkExample.{forks_at, fork_found}
 use Rattle.ada_lower.proofs.Main.{outermost, first_dyn, main_ends}
 use Rattle.ada_lower.proofs.Mains.{Ending}
 use Rattle.ada_lower.proofs.Whole.{whole_does}
+use Rattle.ada_lower.proofs.Lent.{not_lending}
 
 abbrev inner : Stmt
 inner = ParallelFor 2 1 NoChunk (Range 1 false (number 1) (number 4) None Absent) (Then (Exit 0 Absent) End)
@@ -71,7 +72,7 @@ sited n e qf h = go (first (forks_at n instrs 0)) (subst (λ ps. In (0 + qf) ps)
 is_code : IsCodeOf program text code
 is_code = record { lists = record { instrs = refl; unwind = refl }; subs = λ k unit e. absurd (none-some unit e) }
 
-fitted : MainFitted program (main_names program text) none_main [] text frames (FittedReductions program (main_names program text) none_main code 2) (FittedForks program (main_names program text) none_main code 2) sight
+fitted : MainFitted program (main_names program text) none_main [] text frames (FittedReductions program (main_names program text) none_main unleased code 2) (FittedForks program (main_names program text) none_main unleased code 2) sight
 unfolding Rattle.ada_lower.specs.Emission.emit Rattle.ada_lower.specs.Emission.stmt Rattle.ada_lower.specs.Emission.back_code Rattle.ada_lower.specs.Emission.piece_values
 fitted = (
   (
@@ -80,11 +81,14 @@ fitted = (
       (
         site 0 kind.Loop,
         (refl, refl, omega arith, sited 0 refl),
+        tt,
         refl,
         omega arith,
         tt,
         tt,
         tt,
+        0 ∷ [],
+        (λ m h. h),
         (inl (to, refl), tt),
         ((inr (inr (inl refl)), tt), tt),
         tt,
@@ -92,11 +96,14 @@ fitted = (
           (
             site 1 kind.Loop,
             (refl, refl, omega arith, sited 1 refl),
+            tt,
             refl,
             omega arith,
             tt,
             tt,
             tt,
+            0 ∷ [],
+            (λ m h. h),
             (inr (refl, inr (inl refl)), tt),
             (inr (inl refl), tt),
             tt,
@@ -108,10 +115,10 @@ fitted = (
       tt,
     )),
   ),
-  ((site 2 (kind.Block 2), (refl, refl, omega arith, sited 2 refl), refl, omega arith, omega arith, omega arith, tt, tt, (λ h. h), ((tt, tt), ((tt, tt), tt)), ((tt, tt), ((tt, tt), tt))), tt),
+  ((site 2 (kind.Block 2), (refl, refl, omega arith, sited 2 refl), tt, refl, omega arith, omega arith, omega arith, tt, [], (λ m h. h), tt, (λ h. h), ((tt, tt), ((tt, tt), tt)), ((tt, tt), ((tt, tt), tt))), tt),
 )
 
 pub comes : (limit : ℕ) (cuts : ℕ → ℕ → List ℕ) (within : Within cuts) (slots : ℕ) (input before : List ℕ) (notes : Schedule) → let r = (Meaning.main (stored.noted_operations limit cuts) limit program).does (stored.noted_outset slots input before notes) in
-    Ending limit code outermost main_ends [] (on outermost 0 [] (first_dyn notes cuts 12 input before)) 0 (λ d. off (Done None) d) r.state r.end
+    Ending limit code (outermost None) main_ends [] (on (outermost None) 0 [] (first_dyn notes cuts 12 input before)) 0 (λ d. off (Done None) d) r.state r.end
 comes limit cuts within slots input before notes =
-    whole_does limit cuts within program code none_main [] text frames slots 12 2 (λ n sub e. absurd (none-some sub e)) refl is_code (λ k unit sub e. absurd (none-some unit e)) fitted input before notes
+    whole_does None unleased limit cuts (not_lending limit cuts unleased) within program code (main_names program text) none_main [] text frames slots 12 2 (λ n sub e. absurd (none-some sub e)) refl is_code (record { same = λ k unit e q. absurd (none-some unit e) }) (λ k unit sub e. absurd (none-some unit e)) fitted input before notes tt

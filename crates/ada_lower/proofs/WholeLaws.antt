@@ -1,16 +1,27 @@
 -- The laws of whole programs.
-use Rattle.ada_lower.specs.Law.{WholeLaw, ValueLaw, ForwardLaw}
+use Rattle.std.proofs.Common.{None}
+use Rattle.ada_lower.specs.Law.{WholeLaw, ValueLaw, ForwardLaw, ValidLaw, TablesLaw}
+use Rattle.ada_lower.specs.FittedForks.{unleased}
+use Rattle.ada_lower.proofs.Lent.{not_lending}
 use Rattle.ada_lower.proofs.Whole.{whole_does, whole_gives}
 use Rattle.ada_lower.proofs.ForwardStatements.{program_forward}
+use Rattle.ada_lower.proofs.HeightsPrograms.{valid_code}
+use Rattle.ada_lower.proofs.CodeTables.{code_is, tables_are}
 
 pub whole_law : WholeLaw
-whole_law limit cuts within program c mains texts text frames slots frame depth low input before notes =
-    let (h, w, l) = whole_does limit cuts within program c mains texts text frames slots frame depth low.closed low.same_texts low.code low.subs low.main input before notes in
+whole_law limit cuts within program c globals mains texts text frames slots frame depth low input before notes =
+    let (h, w, l) = whole_does None unleased limit cuts (not_lending limit cuts unleased) within program c globals mains texts text frames slots frame depth low.closed low.same_texts low.code low.named low.subs low.main input before notes tt in
     (h, l)
 
 pub value_law : ValueLaw
-value_law limit cuts within program c mains texts text frames slots frame depth low input before notes e =
-    whole_gives limit cuts within program c mains texts text frames slots frame depth low.closed low.same_texts low.code low.subs low.main input before notes e
+value_law limit cuts within program c globals mains texts text frames slots frame depth low input before notes e =
+    whole_gives None unleased limit cuts (not_lending limit cuts unleased) within program c globals mains texts text frames slots frame depth low.closed low.same_texts low.code low.named low.subs low.main input before notes tt e
 
 pub forward_law : ForwardLaw
 forward_law program text c is = program_forward program text c is
+
+pub valid_law : ValidLaw
+valid_law program text c is tables ready filled = valid_code program text c is tables ready filled
+
+pub tables_law : TablesLaw
+tables_law program leases sited forked leased = (code_is program leases, tables_are program leases sited forked leased)

@@ -7,6 +7,7 @@ use Rattle.ada_base.specs.declared.operation.Op.{Op}
 use Rattle.ada_base.specs.declared.operation.Op.TheVariants as op
 use Rattle.ada_base.specs.declared.reason.Reason.TheVariants as reason
 use Rattle.behaviours.specs.Joins.{Share, deal}
+use Rattle.typed_tree.specs.Syntax.{Program}
 use Rattle.ada_meaning.specs.Values.{without_zeros}
 use Rattle.ada_base.specs.Notes.{ThreadNote, Whole, NotBegun, CutAfter, ConstructNote, Schedule, InOrder, ByNotes}
 use Rattle.stack_code.specs.declared.code.CodeSite.{CodeSite}
@@ -18,6 +19,8 @@ use Rattle.stack_code.specs.declared.path.Gave.{Gave}
 use Rattle.stack_code.specs.Deeds.{applied, bit, truth, differ}
 use Rattle.ada_base.specs.declared.reason.Reason.{Reason}
 use Rattle.ada_base.specs.Input.{Held}
+use Rattle.ada_lower.specs.Views.{access_by, viewed}
+use Rattle.ada_lower.specs.Lending.{Owns}
 use Rattle.ada_lower.specs.Asking.{Reads, Read, got}
 use Rattle.stack_code.specs.declared.instr.Instr.{Instr}
 use Rattle.stack_code.specs.declared.instr.Instr.TheVariants.{Jump}
@@ -29,7 +32,7 @@ use Rattle.stack_code.specs.declared.path.Leave.{Leave}
 use Rattle.stack_code.specs.declared.path.Leave.TheVariants as leave
 use Rattle.stack_code.specs.Listing.{reason_number}
 use Rattle.ada_base.specs.Cells.{Cell, Mine, zeros}
-use Rattle.stack_code.specs.Machine.{Frame, State, Stop, Done, Left, Spent, Cut, Asks, Constructs, Astray, Went, Goes, Stops, entry_of, ended, step, resumed, begun, sees}
+use Rattle.stack_code.specs.Machine.{Frame, State, Stop, Done, Left, Spent, Cut, Asks, Constructs, Stuck, Astray, Went, Goes, Stops, entry_of, ended, step, resumed, begun, sees}
 
 -- input and output
 pub record World : Type 0 where
@@ -57,6 +60,12 @@ pub record Fixed : Type 0 where
   pub waiting : List Frame
   pub calls : ℕ
   pub nested : ℕ
+  -- the program whose threads are asked to run well on their views, if they are
+  pub asked : Option Program
+
+-- as many calls are active, and the same is asked
+abbrev pub Alike : Fixed → Fixed → Type 0
+Alike f g = (f.calls ≡ g.calls) × (f.asked ≡ g.asked)
 
 pub record Path : Type 0 where
   pub state : State
@@ -158,6 +167,12 @@ with_notes n d = record d { world = record d.world { notes = n } }
 abbrev pub gathered : List ℤ → Option ℤ → List ℤ
 gathered vs None = vs
 gathered vs (Some v) = vs ++ (v ∷ [])
+
+-- the chosen thread, where those before it aren't begun and it goes to its end
+abbrev pub alone : ℕ → List Share → List ThreadNote → Option Share
+alone chosen (j ∷ js) (Whole ∷ ns) = cond (nat_eq j.number chosen) (Some j) None
+alone chosen (j ∷ js) (NotBegun ∷ ns) = cond (nat_eq j.number chosen) None (alone chosen js ns)
+alone chosen js ns = None
 
 module _ (run : Step → Option Final) (start : Dyn → Share → Path) (top : ℕ) where
   -- a thread's end: the next ones go on, or the construct is left
@@ -370,14 +385,56 @@ module _ (limit : ℕ) (c : Code) where
   abbrev pub Finally : Step → Final → Type 0
   Finally x e = (n : ℕ) × (goes n x ≡ Some e)
 
-  -- what the one comes to, the other does
-  pub record Comes (x y : Step) : Type 0 where
+  -- a thread went well: it touched no cell that it hasn't
+  abbrev pub WentWell : Stop → Type 0
+  WentWell (Done v) = Unit {0}
+  WentWell (Left l) = Unit {0}
+  WentWell Spent = Unit {0}
+  WentWell Cut = Unit {0}
+  WentWell x = ⊥
+
+  module _ (site : CodeSite) (q : Asked) (p : Path) where
+    abbrev pub shares_at : List Share
+    shares_at = deal 0 0 (sizes_for p.world.plan site.kind q)
+
+    -- where a thread begins on its view, by who has each cell
+    abbrev pub seen_at : (ℕ → Option ℕ) → Share → Dyn
+    seen_at owner j = record (with_notes InOrder (with_left None (raw_of p.state p.world))) { cells = viewed (λ a. access_by (owner a) j.number) 0 p.state.cells }
+
+    -- it comes to an end there, and goes well
+    abbrev pub RunsWell : (ℕ → Option ℕ) → Share → Type 0
+    RunsWell owner j = (e : Final) × Finally (On (thread_at c (length p.state.cells) site q p (seen_at owner j) j)) e × WentWell e.how
+
+    -- the thread that the next note chooses so goes well on its view, whoever of those that are lent a cell has it
+    abbrev pub IsFine : Schedule → Type 0
+    IsFine InOrder = Unit {0}
+    IsFine (ByNotes []) = Unit {0}
+    IsFine (ByNotes (n ∷ ns)) = (chosen : ℕ) (j : Share) → n.chosen ≡ Some chosen → alone chosen shares_at n.threads ≡ Some j → (owner : ℕ → Option ℕ) → Owns site q (sees p.state) shares_at owner → RunsWell owner j
+
+  -- what is asked of an outermost fork
+  abbrev pub Fine : Asked → Path → Type 0
+  Fine q p = (site : CodeSite) → slice_get c.sites q.site ≡ Some site → IsFine site q p p.world.notes
+
+  -- within so many steps each fork that a path comes to is fine, where that is asked
+  abbrev pub Along : (asked : Bool) → ℕ → Step → Type 0
+  Along asked zero x = Unit {0}
+  Along asked (suc n) (Off e) = Unit {0}
+  Along asked (suc n) (On p) = Along asked n (drive p)
+  Along asked (suc n) (Forks q p) = (asked ≡ true → Fine q p) × ((m : ℕ) (r : Forked) → fork c (goes m) q p ≡ Some r → Along asked n (fork_ended c r p))
+
+  -- each fork that it comes to
+  abbrev pub Safe : (asked : Bool) → Step → Type 0
+  Safe asked x = (n : ℕ) → Along asked n x
+
+  -- what the one comes to, the other does; where the forks of the one are fine, those of the other are
+  pub record Comes (asked : Bool) (x y : Step) : Type 0 where
     pub to : (e : Final) → Finally y e → Finally x e
+    pub safe : Safe asked y → Safe asked x
 
 -- ---- raises
 
 abbrev pub unnested : Fixed → Fixed
-unnested f = record f { nest = 0; nested = f.nested - (f.nest - 0) }
+unnested f = record f { nest = 0; kept = []; nested = f.nested - (f.nest - 0) }
 
 abbrev pub looked : Fixed → Option ℕ → Dyn → (Dyn → Step) → Step
 looked f None d k = k d

@@ -1,19 +1,15 @@
 -- What the law says of the code of a typed program beside what is emitted.
-use Rattle.std.specs.Prelude.{◌≡◌, ℕ, ◌+◌, ℤ, nat_eq, List, [], ◌∷◌, ◌++◌, Option, Some, None, cond, slice_get}
+use Rattle.std.specs.Prelude.{◌≡◌, ℕ, ◌+◌, ℤ, nat_eq, List, [], ◌∷◌, ◌++◌, Some, cond, slice_get}
 use Rattle.ada_base.specs.Image.{padded}
-use Rattle.ada_meaning.specs.Values.{base_of, image_of}
-use Rattle.typed_tree.specs.declared.expressions.Reducer.{Reducer}
-use Rattle.typed_tree.specs.declared.expressions.Reducer.TheVariants.{Operator, Function}
-use Rattle.typed_tree.specs.Syntax.{Chunk, NoChunk, Count, Each, Pieces, NoPiece, Text, Image, Padded}
+use Rattle.ada_meaning.specs.Values.{image_of}
+use Rattle.typed_tree.specs.Syntax.{Pieces, NoPiece, Text, Image, Padded}
 use Rattle.stack_code.specs.declared.code.Code.{Code}
 use Rattle.stack_code.specs.declared.code.CodeSite.{CodeSite}
 use Rattle.stack_code.specs.declared.code.SiteKind.{SiteKind}
-use Rattle.stack_code.specs.declared.code.SiteKind.TheVariants as kind
-use Rattle.stack_code.specs.declared.code.Reducer as site
 pub use Rattle.lower_emission.specs.Scope.{keep, array_root_of, thread_scope}
-pub use Rattle.lower_emission.specs.Emission.{lost, checked, load_by, load, load_named, load_where, address, is_whole, part_of, unary_instr, binary_instr, compare_instr, falsity, truth, within, negated_code, Shape, lead, shape_by, shapes, shapes_cells, formal_cell, formals_or_none, first_parameter, leaving_by, range_scope, item_scope, counting, bounds_code, ascending, stepping, folding, combined, is_plain_expr, doubled, filling, fillings, iterated_scope, turning, turnings, chunk_scope, raise_above, raise_beyond, ends_code, fork_code, turns_code, items_code, turn_item, turn_range, turn_component, cells_of, formals_in, formal_of, passing, composite_width, width}
+pub use Rattle.lower_emission.specs.Emission.{lost, checked, load_by, load, load_named, load_where, address, is_whole, part_of, unary_instr, binary_instr, compare_instr, falsity, truth, within, negated_code, Shape, lead, shape_by, shapes, shapes_cells, formal_cell, formals_or_none, first_parameter, leaving_by, range_scope, item_scope, counting, bounds_code, ascending, stepping, folding, combined, is_plain_expr, doubled, filling, fillings, iterated_scope, turning, turnings, chunk_scope, loop_kind, folded_by, reduction_kind, raise_above, raise_beyond, ends_code, fork_code, turns_code, items_code, turn_item, turn_range, turn_component, cells_of, formals_in, formal_of, passing, composite_width, width}
 unfoldable pub use Rattle.lower_emission.specs.Emission.{is_plain, is_plain_composite, are_plain, emit, selected, passed, put_into, composed, associated, component, filtered, iterated, chunk_code, course_code, threaded}
-pub use Rattle.lower_emission.specs.Statements.{no_handler, is_end, assigned, in_span, chosen, has_reason, handled_by, returning, returning_value, exiting, handled_target, image_instr, send_instr, width_of, piece_texts, object_here, stmt_exits, exits_of, case_exits, arm_exits, handler_exits, left_by, exit_code, exits_code, left_returns, left_code, no_loop, field_defaults, default_of, defaults_within, subtype_or_none, defaulted, declared, back_one, back_cells, parallel_for, in_share, arms_code, chunk_by, arm_scope, parallel_block}
+pub use Rattle.lower_emission.specs.Statements.{no_handler, is_end, assigned, in_span, chosen, has_reason, handled_by, returning, returning_value, away, exiting, handled_target, image_instr, send_instr, width_of, piece_texts, object_here, stmt_exits, exits_of, case_exits, arm_exits, handler_exits, left_by, exit_code, exits_code, left_returns, left_code, no_loop, field_defaults, default_of, defaults_within, subtype_or_none, defaulted, declared, back_one, back_cells, parallel_for, in_share, arms_code, chunk_by, arm_scope, parallel_block}
 unfoldable pub use Rattle.lower_emission.specs.Statements.{back_code, piece_values, stmt, all, cases, handling, arm_codes}
 
 -- what pieces put out, with these values
@@ -30,26 +26,6 @@ piece_cells NoPiece = 0
 piece_cells (Text bytes rest) = piece_cells rest
 piece_cells (Image class e rest) = 1 + piece_cells rest
 piece_cells (Padded class e width rest) = 1 + piece_cells rest
-
--- ---- what a construct's site is
-
-abbrev pub loop_kind : Chunk → SiteKind
-loop_kind NoChunk = kind.Loop
-loop_kind (Count e) = kind.Loop
-loop_kind (Each k low high check) = kind.ChunkLoop
-
-abbrev pub folded_by : Reducer → Option site.Reducer
-folded_by (Operator at op class) = Some (record { op = op; base = base_of class })
-folded_by (Function at sub accumulator value) = None
-
-abbrev pub reduction_kind : Reducer → Chunk → SiteKind
-reduction_kind by NoChunk = kind.Reduction (folded_by by)
-reduction_kind by (Count e) = kind.Reduction (folded_by by)
-reduction_kind by (Each k low high check) = kind.ChunkReduction (folded_by by)
-
-abbrev pub others : ℕ → List ℕ → List ℕ
-others number [] = []
-others number (n ∷ ns) = cond (nat_eq number n) (others number ns) (n ∷ others number ns)
 
 -- ---- what the code of a site must have: it stands two behind each fork that names it
 abbrev pub SiteStands : Code → (site fork : ℕ) → SiteKind → (frame : ℕ) → CodeSite → Type 0

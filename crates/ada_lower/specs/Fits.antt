@@ -1,25 +1,22 @@
 -- When a state of the machine fits one of the stored run, and what code does with a part of the program.
-use Rattle.std.specs.Prelude.{◌≡◌, ℕ, ◌+◌, ◌-◌, ◌<◌, ◌≤◌, ℤ, pos, List, [], ◌∷◌, length, slice_get, nat_eq, cond, ◌⊎◌, Bool, true, false, Option, Some, None, Result, Ok, Err}
+use Rattle.std.specs.Prelude.{◌≡◌, ℕ, ◌+◌, ◌-◌, ◌<◌, ◌≤◌, ℤ, pos, List, [], ◌∷◌, length, slice_get, nat_eq, cond, ◌⊎◌, Bool, true, false, Option, Some, None, is_some, Result, Ok, Err}
 use Rattle.behaviours.specs.Paths.{Leave, Exits, Returns, Raises, Entity, VariableOf, ConstantOf}
 use Rattle.ada_meaning.specs.declared.slots.Slot.{Slot}
 use Rattle.ada_meaning.specs.declared.slots.Variable.{Variable}
 use Rattle.ada_meaning.specs.Stored as stored
-use Rattle.ada_meaning.specs.Stored.{After, Stored, Cause, Left, OutOfTurns, NoRoom, CutOff, Misnoted, Place, Kept, Stacked, Touch, cell_at, slot_at, within, key}
+use Rattle.ada_meaning.specs.Stored.{After, Stored, Cause, Left, OutOfTurns, NoRoom, CutOff, Misnoted, Address, Kept, Stacked, Touch, Visit, cell_at, slot_at, within, key}
 use Rattle.ada_meaning.specs.Meaning.{Env}
 use Rattle.stack_code.specs.declared.code.Code.{Code}
 use Rattle.stack_code.specs.Listing.{reason_number}
+use Rattle.ada_base.specs.Notes.{InOrder}
 use Rattle.ada_base.specs.Cells.{Cell, Mine, value_in}
-use Rattle.stack_code.specs.Machine.{Spent, Cut, outward_of}
+use Rattle.stack_code.specs.Machine.{Spent, Cut, Astray, outward_of}
 use Rattle.ada_lower.specs.Driven.{Dyn, Fixed, Step, Comes, halt, thrown}
 use Rattle.ada_lower.specs.Sights.{Around, Level, Main, Named, Own, Sight, Where}
+use Rattle.ada_lower.specs.Teams.{AreSound}
+pub use Rattle.ada_lower.specs.Views.{Access, Barred, Readable, Full}
 
 -- ---- memory
-
--- what may be done with a cell of the stored run: nothing, as other threads have it; it may be read; or written too
-pub data Access : Type 0 where
-  Barred : Access
-  Readable : Access
-  Full : Access
 
 -- what a cell of the machine stands for: nothing that is asked for; nothing, and it may be written; a number that is kept
 -- there, in an own cell or another one; a cell of the stored run
@@ -28,7 +25,7 @@ pub data What : Type 0 where
   Free : What
   Keeps : ℤ → What
   Shows : ℤ → What
-  Stands : Access → Place → What
+  Stands : Access → Address → What
 
 abbrev pub Bears : Access → ℤ → Option Cell → Type 0
 Bears Barred v o = Unit {0}
@@ -60,6 +57,8 @@ pub record Ghost : Type 0 where
   pub most : ℕ
   -- the plan
   pub plan : ℕ → ℕ → List ℕ
+  -- whether constructs are run in order, as they are in threads
+  pub ordered : Bool
   pub what : ℕ → What
 
 -- each cell that is touched may be
@@ -69,6 +68,10 @@ Allowed g t = (a : ℕ) (x : Access) → g.what a ≡ Stands x t.place → allow
 abbrev pub Allows : Ghost → List Touch → Type 0
 Allows g [] = Unit {0}
 Allows g (t ∷ ts) = Allowed g t × Allows g ts
+
+-- each cell that is touched may be, and the teams that are begun are sound
+abbrev pub Asks : Fixed → Ghost → List Touch → List Visit → Type 0
+Asks f g ts vs = Allows g ts × AreSound f.asked vs
 
 pub record Agrees (s : stored.State) (d : Dyn) : Type 0 where
   pub turns : d.turns ≡ s.turns
@@ -89,6 +92,7 @@ pub record Fit (g : Ghost) (s : stored.State) (d : Dyn) : Type 0 where
   pub most : s.turns ≤ g.most
   pub agrees : Agrees s d
   pub plan : d.world.plan ≡ g.plan
+  pub order : g.ordered ≡ true → s.notes ≡ InOrder
   pub cells : (a : ℕ) → Right (g.what a) s (slice_get d.cells a)
 
 -- ---- what code does
@@ -106,29 +110,29 @@ left_by f x (Raises r) d = thrown r x.entry f d
 
 module _ (limit : ℕ) (c : Code) where
   -- from a step to one that fits
-  pub record Land (g : Ghost) (from : Step) (turns : ℕ) (s : stored.State) (to : Dyn → Step) : Type 0 where
+  pub record Land (asked : Bool) (g : Ghost) (from : Step) (turns : ℕ) (s : stored.State) (to : Dyn → Step) : Type 0 where
     pub dyn : Dyn
     pub fit : Fit g s dyn
-    pub comes : Comes limit c from (to dyn)
+    pub comes : Comes limit c asked from (to dyn)
     pub grows : turns ≤ s.turns
 
   module _ (f : Fixed) (x : Ends) where
-    -- that the tables of slots are full is excluded where programs begin, and that a note doesn't fit where they are noted
+    -- that the tables of slots are full is excluded where programs begin
     abbrev pub Lands : {A : Type 0} → (A → Type 0) → Ghost → Step → ℕ → (A → Dyn → Step) → stored.State → Result A Cause → Type 0
-    Lands q g from turns to s (Ok a) = q a × Land g from turns s (to a)
-    Lands q g from turns to s (Err (Left l)) = Land g from turns s (λ d. left_by f x l d)
-    Lands q g from turns to s (Err OutOfTurns) = Land g from turns s (λ d. halt f Spent d)
-    Lands q g from turns to s (Err CutOff) = Land g from turns s (λ d. halt f Cut d)
+    Lands q g from turns to s (Ok a) = q a × Land (is_some f.asked) g from turns s (to a)
+    Lands q g from turns to s (Err (Left l)) = Land (is_some f.asked) g from turns s (λ d. left_by f x l d)
+    Lands q g from turns to s (Err OutOfTurns) = Land (is_some f.asked) g from turns s (λ d. halt f Spent d)
+    Lands q g from turns to s (Err CutOff) = Land (is_some f.asked) g from turns s (λ d. halt f Cut d)
     Lands q g from turns to s (Err NoRoom) = Unit {0}
-    Lands q g from turns to s (Err Misnoted) = Unit {0}
+    Lands q g from turns to s (Err Misnoted) = (s.notes ≡ InOrder → ⊥) × Land (is_some f.asked) g from turns s (λ d. halt f Astray d)
 
     -- code does a part: from where the one ghost fits to where the other does
     pub record Does {A : Type 0} (g h : Ghost) (q : A → Type 0) (m : Stored A) (from : Dyn → Step) (to : A → Dyn → Step) : Type 0 where
-      pub by : (s : stored.State) (d : Dyn) → Fit g s d → Allows g (m.touches s) → (let r = m.does s in Lands q h (from d) s.turns to r.state r.end)
+      pub by : (s : stored.State) (d : Dyn) → Fit g s d → Asks f g (m.touches s) (m.visits s) → (let r = m.does s in Lands q h (from d) s.turns to r.state r.end)
 
 -- ---- names
 
-abbrev pub place_in : Ghost → Entity → ℕ → Option Place
+abbrev pub place_in : Ghost → Entity → ℕ → Option Address
 place_in g x i =
     let h = slot_at g.here (key x) in
     let e = slot_at g.everywhere (key x) in
@@ -150,7 +154,7 @@ Leads false g f w b = IsAt f w.level w.cell b
 
 -- so many cells of an object, from one on, stand at an address
 pub record Spread (g : Ghost) (x : Entity) (first count address : ℕ) : Type 0 where
-  pub cell : (i : ℕ) → i < count → (pl : Place) × (access : Access) × (place_in g x (first + i) ≡ Some pl) × (g.what (address + i) ≡ Stands access pl)
+  pub cell : (i : ℕ) → i < count → (pl : Address) × (access : Access) × (place_in g x (first + i) ≡ Some pl) × (g.what (address + i) ≡ Stands access pl)
 
 pub record Refers (g : Ghost) (f : Fixed) (n : Named) (x : Entity) (first : ℕ) : Type 0 where
   pub address : ℕ
@@ -163,7 +167,7 @@ Holds g f w v = (a : ℕ) × IsAt f w.level w.cell a × IsNumber (g.what a) v
 -- an object of the main procedure has its cells in the main frame
 abbrev pub AtMain : Ghost → Named → Entity → Type 0
 AtMain g n y = (m : ℕ) × (n ≡ record { through = false; place = record { level = Main; cell = m }; cells = n.cells }) × ((slot_at g.everywhere (key y)).frame ≡ 1)
-    × ((i : ℕ) → i < n.cells → (pl : Place) × (access : Access) × (within Kept (slot_at g.everywhere (key y)) i ≡ Some pl) × (g.what (m + i) ≡ Stands access pl))
+    × ((i : ℕ) → i < n.cells → (pl : Address) × (access : Access) × (within Kept (slot_at g.everywhere (key y)) i ≡ Some pl) × (g.what (m + i) ≡ Stands access pl))
 
 -- what the scope says of names
 pub record Knows (limit : ℕ) (cuts : ℕ → ℕ → List ℕ) (g : Ghost) (f : Fixed) (s : Sight) (env : Env) : Type 0 where
@@ -172,7 +176,7 @@ pub record Knows (limit : ℕ) (cuts : ℕ → ℕ → List ℕ) (g : Ghost) (f 
   pub plan : g.plan ≡ cuts
   -- no accumulators wait
   pub kept : f.kept ≡ []
-  pub one : (a b : ℕ) (x y : Access) (pl : Place) → g.what a ≡ Stands x pl → g.what b ≡ Stands y pl → a ≡ b
+  pub one : (a b : ℕ) (x y : Access) (pl : Address) → g.what a ≡ Stands x pl → g.what b ≡ Stands y pl → a ≡ b
   pub old : (k : ℕ) → (slot_at g.here k).frame ≤ g.frame
   pub hidden : (x : Entity) (i : ℕ) → s.seen x ≡ false → place_in g x i ≡ None
   pub global : (x : Entity) (n : Named) → s.global x ≡ Some n → AtMain g n x

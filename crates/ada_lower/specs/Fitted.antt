@@ -95,7 +95,8 @@ module _ (program : Program) (globals : ℕ → Entity → Option Named) (mains 
 
       pub FittedAssociations : Sight → ℕ → Associations → Type 0
       FittedAssociations s n NoAssociation = Unit {0}
-      FittedAssociations s n (Association runs None mentions value rest) = FittedRuns n (width program value) runs × FittedValue s (width program value) value × FittedAssociations s n rest
+      FittedAssociations s n (Association [] None mentions value rest) = FittedAssociations s n rest
+      FittedAssociations s n (Association (r ∷ rs) None mentions value rest) = FittedRuns n (width program value) (r ∷ rs) × FittedValue s (width program value) value × FittedAssociations s n rest
       FittedAssociations s n (Association runs (Some i) mentions value rest) =
           (s.scope.free + 1 + 1 < s.cells) × FittedRuns n (width program value) runs × FittedComponent (iterated_sight s i.parameter) value × FittedAssociations s n rest
 

@@ -1,17 +1,13 @@
 -- What a thread has on its view: the cells that are leased to it, those that are to read, and not those of other threads.
 use Rattle.std.specs.Prelude.{◌≡◌, ℕ, suc, nat_eq, ℤ, List, [], ◌∷◌, Option, Some, None, Bool, true, false, cond}
 use Rattle.behaviours.specs.Paths.{Entity, VariableOf, ConstantOf}
-use Rattle.ada_meaning.specs.Stored.{State, Touch, Place, cell_at}
+use Rattle.ada_meaning.specs.Stored.{State, Touch, Address, cell_at}
 use Rattle.ada_base.specs.Cells.{Cell, Gone, Seen, Mine}
+pub use Rattle.ada_lower.specs.Views.{access_by, view_cell, viewed}
 use Rattle.ada_lower.specs.Driven.{Dyn}
 use Rattle.lower_emission.specs.Scope.{at_free}
 use Rattle.ada_lower.specs.Sights.{Sight}
 use Rattle.ada_lower.specs.Fits.{What, Other, Free, Keeps, Shows, Stands, Access, Barred, Readable, Full, Ghost}
-
--- of a cell by who has it
-abbrev pub access_by : Option ℕ → ℕ → Access
-access_by None j = Readable
-access_by (Some l) j = cond (nat_eq l j) Full Barred
 
 -- the view has no more than the memory
 abbrev pub lesser : Access → Access → Access
@@ -30,18 +26,6 @@ view_what Barred (Shows v) = Other
 view_what Readable (Shows v) = Shows v
 view_what Full (Shows v) = Shows v
 view_what y (Stands x p) = Stands (lesser x y) p
-
-abbrev pub view_cell : Access → Cell → Cell
-view_cell Barred z = Gone
-view_cell y Gone = Gone
-view_cell Readable (Seen v) = Seen v
-view_cell Readable (Mine v) = Seen v
-view_cell Full z = z
-
--- cells from an address on
-abbrev pub viewed : (ℕ → Access) → ℕ → List Cell → List Cell
-viewed y a [] = []
-viewed y a (z ∷ zs) = view_cell (y a) z ∷ viewed y (suc a) zs
 
 -- by who has each cell, the view of a thread
 module _ (owner : ℕ → Option ℕ) (j : ℕ) where
@@ -67,24 +51,22 @@ TouchesFit g owner j (t ∷ ts) = TouchFits g owner j t × TouchesFit g owner j 
 pub record Apart (g : Ghost) (owner : ℕ → Option ℕ) : Type 0 where
   pub keeps : (a : ℕ) (v : ℤ) → g.what a ≡ Keeps v → owner a ≡ None
   pub shows : (a : ℕ) (v : ℤ) → g.what a ≡ Shows v → owner a ≡ None
-  -- the path around has all cells
-  pub full : (a : ℕ) (x : Access) (p : _) → g.what a ≡ Stands x p → x ≡ Full
 
 -- ---- who has a cell, by what threads are granted
 
 -- a cell is there
-abbrev pub There : State → Place → Type 0
+abbrev pub There : State → Address → Type 0
 There s p = (v : ℤ) × (cell_at s p ≡ Some v)
 
 -- Lies: where the cells of objects lie; Has: the cells of a variable that a thread is granted, in some iteration of its own;
 -- Under: those that lie under its effects, of reads or of writes
-module _ (g : Ghost) (owner : ℕ → Option ℕ) (Lies : Entity → ℕ → Place → Type 0) (Has : (thread object offset : ℕ) → Type 0) (Under : (thread : ℕ) → (writes : Bool) → (object offset : ℕ) → Type 0) where
+module _ (g : Ghost) (owner : ℕ → Option ℕ) (Lies : Entity → ℕ → Address → Type 0) (Has : (thread object offset : ℕ) → Type 0) (Under : (thread : ℕ) → (writes : Bool) → (object offset : ℕ) → Type 0) where
   pub record Owned : Type 0 where
     -- a cell is had by a thread just where it is granted
-    pub granted : (a l : ℕ) → owner a ≡ Some l → (x n : ℕ) × (y : Access) × (p : Place) × (g.what a ≡ Stands y p) × Lies (VariableOf x) n p × Has l x n
-    pub owned : (a l x n : ℕ) (y : Access) (p : Place) → g.what a ≡ Stands y p → Lies (VariableOf x) n p → Has l x n → owner a ≡ Some l
+    pub granted : (a l : ℕ) → owner a ≡ Some l → (x n : ℕ) × (y : Access) × (p : Address) × (g.what a ≡ Stands y p) × Lies (VariableOf x) n p × Has l x n
+    pub owned : (a l x n : ℕ) (y : Access) (p : Address) → g.what a ≡ Stands y p → Lies (VariableOf x) n p → Has l x n → owner a ≡ Some l
     -- a place is of one cell of one object
-    pub one : (x y : Entity) (m n : ℕ) (p : Place) → Lies x m p → Lies y n p → (x ≡ y) × (m ≡ n)
+    pub one : (x y : Entity) (m n : ℕ) (p : Address) → Lies x m p → Lies y n p → (x ≡ y) × (m ≡ n)
     -- what is written is granted, and what one thread is granted lies under no effect of another
     pub writes : (j x n : ℕ) → Under j true x n → Has j x n
     pub apart : (l j : ℕ) → (l ≡ j → ⊥) → (b : Bool) (x n : ℕ) → Has l x n → Under j b x n → ⊥

@@ -2,15 +2,22 @@
 //! contract is what is proved.
 #![tactic(auto)]
 
-ghost use Rattle.ada_lower.specs.Law.{ForwardLaw, ValueLaw, WholeLaw};
+ghost use Rattle.ada_lower.specs.Law.{ForwardLaw, TablesLaw, ValidLaw, ValueLaw, ViewLaw, WholeLaw};
 
 /// Laws of all programs with their code, as `IsLowered` of `specs/Law.antt` says; the run is that by notes (9.5, 5.5), with
 /// its threads on one memory.
 /// - whole: the machine on the code lands where the run ends.
 /// - value: where the run gives a value, the machine is done, with the same output, turns and variables.
+/// - view: on the code of an accepted program whose constructs go through ranges or are blocks, threads of each outermost
+///   construct go well on the cells that the leases of its site lend them.
 /// - forward: the code is forward, so the machine comes to an end.
+/// - valid: the code is valid, with tables as `HasTables` of `specs/HasTables.antt` says, so the machine never goes astray.
+/// - tables: the whole code of a program, by its definition, has those tables.
 pub fn laws()
     ensures whole { WholeLaw }
     ensures value { ValueLaw }
+    ensures view { ViewLaw }
     ensures forward { ForwardLaw }
+    ensures valid { ValidLaw }
+    ensures tables { TablesLaw }
 {}

@@ -1,8 +1,10 @@
 -- Lemmas.
+pub mod Gathered
 pub mod Leavings
 pub mod Levels
 pub mod Parallels
 pub mod Programs
 pub mod Reading
+pub mod Starting
 pub mod Subs
 pub mod Texts

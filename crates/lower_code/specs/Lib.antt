@@ -1,2 +1,5 @@
 -- Definitions of lowering.
+pub mod Gathered
+pub mod Lowered
 pub mod Parts
+pub mod Starts

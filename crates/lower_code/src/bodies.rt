@@ -1,6 +1,6 @@
 //! Bodies (6): the main procedure, and behind it the subprograms.
 
-ghost use Rattle.std.specs.Prelude.{◌≡◌, ◌<◌, ◌+◌, ℕ, length};
+ghost use Rattle.std.specs.Prelude.{◌≡◌, ◌<◌, ◌+◌, ◌∷◌, [], ℕ, length};
 ghost use Rattle.ada_meaning.specs.Meaning.{object_layout};
 ghost use Rattle.behaviours.specs.Paths.{VariableOf};
 ghost use Rattle.typed_tree.specs.Decoded.{decls_at, value_at};
@@ -8,15 +8,20 @@ ghost use Rattle.typed_tree.specs.Programs.{formals_at, sub_of};
 ghost use Rattle.lower_emission.specs.Bodies as spec;
 ghost use Rattle.lower_emission.specs.Emission as emission;
 ghost use Rattle.lower_emission.specs.Emission.{put_into, shapes, width};
-ghost use Rattle.typed_tree.specs.Syntax.{Program};
+ghost use Rattle.typed_tree.specs.Syntax.{NoDecl, Program};
 ghost use Rattle.lower_emission.specs.Statements.{defaulted};
-ghost use Rattle.lower_emission.specs.Scope.{◌⨟◌, taking};
+ghost use Rattle.lower_emission.specs.Emits.{written};
+ghost use Rattle.lower_emission.specs.Programs as programs;
+ghost use Rattle.lower_emission.specs.Scope.{◌⨟◌, none, taking};
+ghost use Rattle.lower_code.specs.Starts as starts;
+ghost use Rattle.lower_code.specs.Starts.{Begins};
 ghost use Rattle.lower_values.specs.Words.{env_of, entity, nodes, tables, Emits};
 
 use crate::blocks::{block, body as main_body};
 use crate::defaults::defaulted;
-use ada_base::Reason;
-use lower_emission::types::{Leaving, Level, Named, Where};
+use ada_base::{Items, Reason};
+use lower_emission::types::{Leaving, Level, Named, Need, Where};
+use lower_tables::bodies::Start;
 use lower_values::aggregates::own;
 use lower_values::cells::{cells_from, object_cells, width};
 use lower_values::exprs::put_into;
@@ -115,13 +120,40 @@ fn subprogram(env: &Env<'_>, number: u32, sub: Sub, out: &mut Emitter)
     with_formals(&inner, sub.formals, 0, sub, out);
 }
 
+/// A subprogram begins at what comes next.
+fn start(env: &Env<'_>, sub: Sub, out: &mut Emitter, subs: &mut Items<Start>)
+    ensures { Begins none (λ c. starts.sub_start (tables env.now) (sub_of (nodes env.now) sub) c ∷ []) out.old out.new subs.old subs.new }
+{
+    let cells = cells_from(env, sub.formals, out);
+    let entry = out.here();
+    let need = Need { cells, height: 0 };
+    let begun = Start {
+        entry,
+        need,
+        gives: has_result(sub.result),
+    };
+    if subs.push(begun).is_err() {
+        out.whole = false;
+    }
+}
+
+fn has_result(given: Option<Scalar>) -> bool
+    ensures { result ≡ programs.has_result given }
+{
+    match given {
+        None => false,
+        Some(_) => true,
+    }
+}
+
 /// All subprograms.
-#[tactic(auto, using(crate::proofs::Programs::subs_within, crate::proofs::Programs::subs_next, crate::proofs::Programs::subs_last))]
-fn subprograms(env: &Env<'_>, out: &mut Emitter)
-    ensures { Emits (spec.subs_code (tables env.now) (env_of env.now) 0 (tables env.now).subs) out.old out.new }
+#[tactic(auto, using(crate::proofs::Programs::subs_within, crate::proofs::Programs::subs_last, crate::proofs::Starting::starts_last))]
+fn subprograms(env: &Env<'_>, out: &mut Emitter, subs: &mut Items<Start>)
+    ensures { Begins (spec.subs_code (tables env.now) (env_of env.now) 0 (tables env.now).subs) (λ c. starts.subs_starts (tables env.now) (env_of env.now) 0 (tables env.now).subs c) out.old out.new subs.old subs.new }
 {
     let mut number = 0;
     while let Some(sub) = env.typed.sub(number) {
+        start(env, sub, out, subs);
         subprogram(env, number, sub, out);
         number = out.sum(number, 1);
         if !out.whole {
@@ -132,8 +164,8 @@ fn subprograms(env: &Env<'_>, out: &mut Emitter)
 
 /// The statements of the main procedure, and the subprograms.
 #[tactic(auto, using(crate::proofs::Programs::main_body))]
-fn behind_main(env: &Env<'_>, out: &mut Emitter)
-    ensures { Emits (spec.behind_main (tables env.now) (env_of env.now)) out.old out.new }
+fn behind_main(env: &Env<'_>, out: &mut Emitter, subs: &mut Items<Start>)
+    ensures { Begins (spec.behind_main (tables env.now) (env_of env.now)) (λ c. starts.main_starts (tables env.now) (env_of env.now) NoDecl c) out.old out.new subs.old subs.new }
 {
     match env.typed.nodes.body(env.typed.body) {
         None => {
@@ -142,7 +174,7 @@ fn behind_main(env: &Env<'_>, out: &mut Emitter)
         Some(parts) => {
             main_body(env, parts.stmts, parts.handlers, out);
             out.put(env, 0, Instr::Halt);
-            subprograms(env, out);
+            subprograms(env, out, subs);
         }
     }
 }
@@ -150,28 +182,28 @@ fn behind_main(env: &Env<'_>, out: &mut Emitter)
 /// The main procedure, from one of its declarations on.
 #[cycle(main)]
 #[inline(never)]
-pub fn main_declared(env: &Env<'_>, id: u32, out: &mut Emitter)
-    ensures { Emits (spec.main_declared (tables env.now) (env_of env.now) (decls_at (nodes env.now) id) (spec.behind_main (tables env.now))) out.old out.new }
+pub fn main_declared(env: &Env<'_>, id: u32, out: &mut Emitter, subs: &mut Items<Start>)
+    ensures { Begins (spec.main_declared (tables env.now) (env_of env.now) (decls_at (nodes env.now) id) (spec.behind_main (tables env.now))) (λ c. starts.main_starts (tables env.now) (env_of env.now) (decls_at (nodes env.now) id) c) out.old out.new subs.old subs.new }
 {
     match env.typed.nodes.decls(id) {
-        None => behind_main(env, out),
+        None => behind_main(env, out, subs),
         Some(cell) => match env.typed.nodes.decl(cell.first) {
-            None | Some(Decl::Mentions { .. }) => main_declared(env, cell.rest, out),
+            None | Some(Decl::Mentions { .. }) => main_declared(env, cell.rest, out, subs),
             Some(Decl::Variable { object, initial }) => {
                 let declared = Declared {
                     constant: false,
                     object,
                 };
-                declare(env, declared, initial, cell.rest, out);
+                declare(env, declared, initial, cell.rest, out, subs);
             }
             Some(Decl::Constant { object, initial }) => {
                 let declared = Declared {
                     constant: true,
                     object,
                 };
-                declare(env, declared, initial, cell.rest, out);
+                declare(env, declared, initial, cell.rest, out, subs);
             }
-            Some(Decl::Default { object }) => declare_default(env, object, cell.rest, out),
+            Some(Decl::Default { object }) => declare_default(env, object, cell.rest, out, subs),
         },
     }
 }
@@ -185,8 +217,15 @@ struct Declared {
 
 #[cycle(main)]
 #[inline(never)]
-fn declare(env: &Env<'_>, declared: Declared, initial: u32, rest: u32, out: &mut Emitter)
-    ensures { Emits (put_into (tables env.now) (taking (width (tables env.now) (value_at (nodes env.now) initial)) (env_of env.now)) 0 env.now.free (value_at (nodes env.now) initial) ⨟ spec.main_declared (tables env.now) (spec.main_object (env_of env.now) (entity declared.constant declared.object) (width (tables env.now) (value_at (nodes env.now) initial))) (decls_at (nodes env.now) rest) (spec.behind_main (tables env.now))) out.old out.new }
+fn declare(
+    env: &Env<'_>,
+    declared: Declared,
+    initial: u32,
+    rest: u32,
+    out: &mut Emitter,
+    subs: &mut Items<Start>,
+)
+    ensures { Begins (put_into (tables env.now) (taking (width (tables env.now) (value_at (nodes env.now) initial)) (env_of env.now)) 0 env.now.free (value_at (nodes env.now) initial) ⨟ spec.main_declared (tables env.now) (spec.main_object (env_of env.now) (entity declared.constant declared.object) (width (tables env.now) (value_at (nodes env.now) initial))) (decls_at (nodes env.now) rest) (spec.behind_main (tables env.now))) (λ c. starts.main_starts (tables env.now) (spec.main_object (env_of env.now) (entity declared.constant declared.object) (width (tables env.now) (value_at (nodes env.now) initial))) (decls_at (nodes env.now) rest) (written (put_into (tables env.now) (taking (width (tables env.now) (value_at (nodes env.now) initial)) (env_of env.now)) 0 env.now.free (value_at (nodes env.now) initial)) c)) out.old out.new subs.old subs.new }
 {
     let cells = width(env, initial, out);
     let free = out.sum(env.free, cells);
@@ -205,13 +244,20 @@ fn declare(env: &Env<'_>, declared: Declared, initial: u32, rest: u32, out: &mut
         },
         rest,
         out,
+        subs,
     );
 }
 
 #[cycle(main)]
 #[inline(never)]
-fn declare_default(env: &Env<'_>, object: u32, rest: u32, out: &mut Emitter)
-    ensures { Emits (defaulted (tables env.now) (env_of env.now) env.now.free object ⨟ spec.main_declared (tables env.now) (spec.main_object (env_of env.now) (VariableOf object) (length (object_layout (tables env.now) object))) (decls_at (nodes env.now) rest) (spec.behind_main (tables env.now))) out.old out.new }
+fn declare_default(
+    env: &Env<'_>,
+    object: u32,
+    rest: u32,
+    out: &mut Emitter,
+    subs: &mut Items<Start>,
+)
+    ensures { Begins (defaulted (tables env.now) (env_of env.now) env.now.free object ⨟ spec.main_declared (tables env.now) (spec.main_object (env_of env.now) (VariableOf object) (length (object_layout (tables env.now) object))) (decls_at (nodes env.now) rest) (spec.behind_main (tables env.now))) (λ c. starts.main_starts (tables env.now) (spec.main_object (env_of env.now) (VariableOf object) (length (object_layout (tables env.now) object))) (decls_at (nodes env.now) rest) (written (defaulted (tables env.now) (env_of env.now) env.now.free object) c)) out.old out.new subs.old subs.new }
 {
     let cells = object_cells(env, object, out);
     let free = out.sum(env.free, cells);
@@ -230,6 +276,7 @@ fn declare_default(env: &Env<'_>, object: u32, rest: u32, out: &mut Emitter)
         },
         rest,
         out,
+        subs,
     );
 }
 

@@ -5,6 +5,7 @@ pub mod blocks;
 pub mod bodies;
 pub mod defaults;
 pub mod exits;
+pub mod gathering;
 pub mod loops;
 pub mod lowering;
 pub mod output;

@@ -1,77 +1,61 @@
 //! The code of a whole program.
 
-ghost use Rattle.std.specs.Prelude.{◌≡◌, IfSome};
+ghost use Rattle.std.specs.Prelude.{◌≡◌, ◌∷◌, [], false, get_or, map, IfOk, IfSome};
 ghost use Rattle.lower_emission.specs.Bodies.{program_code};
 ghost use Rattle.lower_emission.specs.Emits.{listed};
-ghost use Rattle.lower_values.specs.Words.{place, program_of};
+ghost use Rattle.lower_emission.specs.Programs as spec;
+ghost use Rattle.lower_emission.specs.Texts.{place};
+ghost use Rattle.lower_tables.specs.Bodies as tables;
+ghost use Rattle.lower_code.specs.Lowered as lowered;
+ghost use Rattle.lower_values.specs.Words.{program_of};
 
 use crate::bodies::main_declared;
-use crate::output::is_text;
+use crate::gathering::texts_of;
 use ada_base::Items;
 use lower_emission::laws;
-use lower_emission::types::{Leaving, Placed};
+use lower_emission::types::{Leaving, Need, Placed};
+use lower_tables::bodies::{Start, sites_of, subs_of};
+use lower_tables::{instrs_of, spots_of, unwinds_of};
+use lower_values::texts::Texts;
 use lower_values::types::{Emitter, Env, Names};
-use stack_code::{Around, Words};
+use stack_code::{Around, Code, Lease};
 use std::alloc::{AllocError, Global};
-use typed_tree::{Leaf, Piece, Typed};
+use typed_tree::Typed;
 
-/// The bytes of a text piece.
-fn bytes_of(typed: &Typed, id: u32, alloc: Global) -> Result<Words, AllocError> {
-    let mut found = Items::new(alloc);
-    let mut at = id;
-    while let Some(cell) = typed.nodes.leaf(at) {
-        if let Leaf::Byte(byte) = cell.leaf {
-            found.push(byte)?;
-        }
-        at = cell.rest;
-    }
-    Ok(found)
+/// The instructions of a program as they are listed, and its subprograms as they begin.
+#[derive(Drop)]
+pub struct Laid {
+    pub code: Items<Placed>,
+    pub subs: Items<Start>,
 }
 
-fn is_known(typed: &Typed, texts: &Items<Words>, bytes: u32) -> bool {
-    for text in texts.as_slice() {
-        if is_text(typed, text.as_slice(), bytes) {
-            return true;
-        }
+/// The main procedure, as it begins.
+fn main_start() -> Start
+    ensures { result ≡ record { entry = 0; need = spec.at_least 0; gives = false } }
+{
+    let need = Need {
+        cells: 0,
+        height: 0,
+    };
+    Start {
+        entry: 0,
+        need,
+        gives: false,
     }
-    false
 }
 
-/// The greatest number of a body's node: all nodes of a program have lower ones.
-fn last_node(typed: &Typed) -> u32 {
-    let mut last = typed.body;
-    for sub in typed.subs.as_slice() {
-        last = last.max(sub.body);
-    }
-    last
-}
-
-/// The texts of a program, each once. An Err is want of memory.
-pub fn texts_of(typed: &Typed, alloc: Global) -> Result<Items<Words>, AllocError> {
-    let mut texts = Items::new(alloc);
-    for id in 0..last_node(typed) {
-        if let Some(Piece::Text { bytes }) = typed.nodes.piece(id) {
-            if !is_known(typed, &texts, bytes) {
-                texts.push(bytes_of(typed, bytes, alloc)?)?;
-            }
-        }
-    }
-    Ok(texts)
-}
-
-/// The instructions of a program with these texts, or None where they don't fit into memory, or where something isn't
-/// lowered yet.
-pub fn placed_code<'a>(
-    typed: &'a Typed,
-    texts: &'a Items<Words>,
-    alloc: Global,
-) -> Option<Items<Placed>>
-    ensures { IfSome result (λ code. code ≡ listed (program_code (program_of typed.now) (λ bytes. place texts.now bytes)) 0) }
+/// The instructions and subprograms of a program with these texts, or None where they don't fit into memory.
+fn laid_out<'a>(typed: &'a Typed, texts: &'a Texts, alloc: Global) -> Option<Laid>
+    ensures { IfSome result (λ laid. lowered.Lays (program_of typed.now) texts.now laid) }
 {
     let mut out = Emitter {
         code: Items::new(alloc),
         whole: true,
     };
+    let mut subs = Items::new(alloc);
+    if subs.push(main_start()).is_err() {
+        return None;
+    }
     let env = Env {
         typed,
         names: Names::Outset,
@@ -83,7 +67,60 @@ pub fn placed_code<'a>(
         nest: 0,
     };
     let parts = typed.nodes.body(typed.body)?;
-    main_declared(&env, parts.decls, &mut out);
+    main_declared(&env, parts.decls, &mut out, &mut subs);
     laws();
-    if out.whole { Some(out.code) } else { None }
+    if out.whole {
+        Some(Laid {
+            code: out.code,
+            subs,
+        })
+    } else {
+        None
+    }
+}
+
+/// The code that was laid out, with its tables.
+#[tactic(auto, using(crate::proofs::Starting::sites_of_typed))]
+fn tabled(
+    typed: &Typed,
+    laid: Laid,
+    texts: Texts,
+    leases: Items<Items<Lease>>,
+    alloc: Global,
+) -> Result<Code, AllocError>
+    ensures { IfOk result (λ code. code ≡ lowered.tabled (program_of typed.now) laid texts leases) }
+{
+    let Laid { code, subs: starts } = laid;
+    let subs = subs_of(code.as_slice(), starts, alloc)?;
+    let instrs = instrs_of(code.as_slice(), alloc)?;
+    let spots = spots_of(code.as_slice(), alloc)?;
+    let unwind = unwinds_of(code.as_slice(), alloc)?;
+    let sites = sites_of(code.as_slice(), leases, typed.sites.len(), alloc)?;
+    Ok(Code {
+        instrs,
+        spots,
+        unwind,
+        sites,
+        subs,
+        texts: texts.into_list(),
+    })
+}
+
+/// The code of a program, with the leases of each of its parallel constructs in the order of their numbers. An Err is
+/// want of memory, also where a number of the code is beyond 32 bits.
+#[tactic(auto, using(crate::proofs::Starting::lowered_by))]
+pub fn lower(typed: &Typed, leases: Items<Items<Lease>>, alloc: Global) -> Result<Code, AllocError>
+    ensures { IfOk result (λ code. code ≡ spec.code_of (program_of typed.now) (λ site. get_or leases site [])) }
+{
+    laws();
+    let Some(texts) = texts_of(typed, alloc) else {
+        return Err(AllocError);
+    };
+    let Some(laid) = laid_out(typed, &texts, alloc) else {
+        return Err(AllocError);
+    };
+    match tabled(typed, laid, texts, leases, alloc) {
+        Ok(code) => Ok(code),
+        Err(_) => Err(AllocError),
+    }
 }

@@ -1,7 +1,6 @@
 //! Output (A.10).
 
-ghost use Rattle.std.specs.Prelude.{◌≡◌, ◌<◌, ◌+◌, nat_eq};
-ghost use Rattle.std.specs.Cmp.Lexicographic.{pointwise};
+ghost use Rattle.std.specs.Prelude.{◌≡◌, ◌<◌, ◌+◌};
 ghost use Rattle.typed_tree.specs.Decoded.{as_bytes, expr_at, part_at, pieces_at};
 ghost use Rattle.lower_emission.specs.Emission.{emit};
 ghost use Rattle.lower_emission.specs.Statements as spec;
@@ -9,9 +8,10 @@ ghost use Rattle.lower_emission.specs.Scope.{◌⨟◌, keep, one, taking};
 ghost use Rattle.lower_values.specs.Words.{env_of, nodes, place, tables, Emits, Finds, Learns};
 
 use lower_values::exprs::emit;
+use lower_values::texts::bytes_of;
 use lower_values::types::{Emitter, Env};
 use stack_code::Instr;
-use typed_tree::{Class, Expr, Leaf, Piece, Typed};
+use typed_tree::{Class, Expr, Piece};
 
 /// A line, or a part of one, is put out.
 pub fn put_line(env: &Env<'_>, pieces: u32, line: bool, out: &mut Emitter)
@@ -113,47 +113,19 @@ fn texts(env: &Env<'_>, d: u32, id: u32, out: &mut Emitter)
     }
 }
 
-/// Whether a text has the bytes of a piece.
-#[tactic(auto, using(crate::proofs::Texts::same_step, crate::proofs::Texts::same_other, crate::proofs::Texts::same_short, crate::proofs::Texts::same_more, crate::proofs::Texts::same_end))]
-pub fn is_text(typed: &Typed, text: &[u8], id: u32) -> bool
-    ensures { result ≡ pointwise nat_eq text.now (as_bytes (part_at typed.now.nodes id)) }
-{
-    let mut at = id;
-    let mut from = 0;
-    while let Some(cell) = typed.nodes.leaf(at) {
-        if let Leaf::Byte(byte) = cell.leaf {
-            match text.get(from) {
-                None => return false,
-                Some(found) => {
-                    if *found != byte {
-                        return false;
-                    }
-                    from += 1;
-                }
-            }
-        }
-        at = cell.rest;
-    }
-    match text.get(from) {
-        None => true,
-        Some(_) => false,
-    }
-}
-
 /// The number of the text of a piece.
-#[tactic(auto, using(crate::proofs::Texts::place_step, crate::proofs::Texts::place_here, crate::proofs::Texts::place_end))]
 fn text_number(env: &Env<'_>, bytes: u32, out: &mut Emitter) -> u32
     ensures { Finds (place env.now.texts.now (as_bytes (part_at (nodes env.now) bytes))) out.old result out.new }
 {
-    let mut number = 0;
-    while let Some(text) = env.texts.get(number as usize) {
-        if is_text(env.typed, text.as_slice(), bytes) {
-            return number;
-        }
-        number = out.sum(number, 1);
-        if !out.whole {
-            return 0;
+    let found = match bytes_of(env.typed, bytes, env.texts.alloc()) {
+        Ok(text) => env.texts.place(&text),
+        Err(error) => Err(error),
+    };
+    match found {
+        Ok(number) => number,
+        Err(_) => {
+            out.whole = false;
+            0
         }
     }
-    number
 }

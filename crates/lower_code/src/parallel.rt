@@ -3,13 +3,14 @@
 ghost use Rattle.std.specs.Prelude.{◌≡◌, ◌<◌, ◌+◌, ◌-◌, None, true, false, pos};
 ghost use Rattle.ada_meaning.specs.Meaning.{arms_of};
 ghost use Rattle.typed_tree.specs.Decoded.{arms_at, chunk_at, expr_at, iteration_at, optional_at, stmts_at};
-ghost use Rattle.lower_emission.specs.Emission.{chunk_code, chunk_scope, course_code, ends_code, filtered, items_code, range_scope, stepping, threaded, turn_item, turns_code};
+ghost use Rattle.lower_emission.specs.Emission.{chunk_code, chunk_scope, course_code, ends_code, filtered, items_code, loop_kind, range_scope, stepping, threaded, turn_item, turns_code};
 ghost use Rattle.typed_tree.specs.Syntax.{Parallel, ParallelFor};
 ghost use Rattle.lower_code.specs.Parts as parts;
 ghost use Rattle.lower_emission.specs.Statements as spec;
 ghost use Rattle.lower_emission.specs.Statements.{all};
-ghost use Rattle.lower_emission.specs.Scope.{◌⨟◌, keep, looped, one, taking, thread_scope};
+ghost use Rattle.lower_emission.specs.Scope.{◌⨟◌, forks, keep, looped, one, taking, thread_scope};
 ghost use Rattle.lower_values.specs.Words.{env_of, nodes, tables, Emits, Finds};
+ghost use Rattle.stack_code.specs.declared.code.SiteKind.TheVariants as site_kind;
 ghost use Rattle.stack_code.specs.declared.instr.Instr.TheVariants as i;
 
 use crate::exits::{Left, left_returns, of_arms, of_stmts};
@@ -21,8 +22,9 @@ use lower_values::iterations::{
     Counted, all_threads, ascending, chunk_code, chunk_env, counting, course_code, ends_code,
     first_item, thread_numbers,
 };
+use lower_values::kinds::loop_kind;
 use lower_values::types::{Emitter, Env, Names};
-use stack_code::{Around, Instr};
+use stack_code::{Around, Instr, SiteKind};
 use typed_tree::Iteration;
 
 /// A parallel loop.
@@ -68,25 +70,26 @@ fn forked_loop(env: &Env<'_>, forked: Forked, stmts: u32, out: &mut Emitter)
 /// The fork of a loop, with what it is asked.
 fn forking(env: &Env<'_>, forked: Forked, out: &mut Emitter)
     ensures { Emits (chunk_code (tables env.now) (env_of env.now) 0 (chunk_at (nodes env.now) forked.chunk) ⨟ course_code (tables env.now) (taking 2 (env_of env.now)) 0 (iteration_at (nodes env.now) forked.iteration) ⨟ ends_code (taking 2 (env_of env.now)) 0 (iteration_at (nodes env.now) forked.iteration)
-        ⨟ one (env_of env.now) (0 + 1 + 1) (i.LoadL env.now.free) ⨟ one (env_of env.now) (0 + 1 + 1 + 1) (i.LoadL (env.now.free + 1)) ⨟ one (env_of env.now) (1 + 1 + 1 + 1) (i.Push (pos 0)) ⨟ one (env_of env.now) (0 + 1 + 1 + 1 + 1 + 1) (i.Fork forked.site)) out.old out.new }
+        ⨟ one (env_of env.now) (0 + 1 + 1) (i.LoadL env.now.free) ⨟ one (env_of env.now) (0 + 1 + 1 + 1) (i.LoadL (env.now.free + 1)) ⨟ one (env_of env.now) (1 + 1 + 1 + 1) (i.Push (pos 0)) ⨟ forks (env_of env.now) (0 + 1 + 1 + 1 + 1 + 1) (loop_kind (chunk_at (nodes env.now) forked.chunk)) forked.site) out.old out.new }
 {
     let free = out.sum(env.free, 2);
     chunk_code(env, 0, forked.chunk, out);
     let course = Env { free, ..*env };
     course_code(&course, 0, forked.iteration, out);
     ends_code(&course, 0, forked.iteration, out);
-    ask(env, forked.site, out);
+    let kind = loop_kind(env.typed, forked.chunk);
+    ask(env, kind, forked.site, out);
 }
 
 /// The fork of a loop or block, whose chunk values are in the first free cells.
-fn ask(env: &Env<'_>, site: u32, out: &mut Emitter)
-    ensures { Emits (one (env_of env.now) (0 + 1 + 1) (i.LoadL env.now.free) ⨟ one (env_of env.now) (0 + 1 + 1 + 1) (i.LoadL (env.now.free + 1)) ⨟ one (env_of env.now) (1 + 1 + 1 + 1) (i.Push (pos 0)) ⨟ one (env_of env.now) (0 + 1 + 1 + 1 + 1 + 1) (i.Fork site)) out.old out.new }
+fn ask(env: &Env<'_>, kind: SiteKind, site: u32, out: &mut Emitter)
+    ensures { Emits (one (env_of env.now) (0 + 1 + 1) (i.LoadL env.now.free) ⨟ one (env_of env.now) (0 + 1 + 1 + 1) (i.LoadL (env.now.free + 1)) ⨟ one (env_of env.now) (1 + 1 + 1 + 1) (i.Push (pos 0)) ⨟ forks (env_of env.now) (0 + 1 + 1 + 1 + 1 + 1) kind site) out.old out.new }
 {
     let free1 = out.sum(env.free, 1);
     out.put(env, 2, Instr::LoadL(env.free));
     out.put(env, 3, Instr::LoadL(free1));
     out.put(env, 4, Instr::Push(0));
-    out.put(env, 5, Instr::Fork(site));
+    out.fork(env, 5, kind, site);
 }
 
 /// What follows a loop's fork.
@@ -312,15 +315,16 @@ fn forked_block(env: &Env<'_>, site: u32, count: u32, arms: u32, out: &mut Emitt
 }
 
 /// The fork of a block, with what it is asked.
-fn forking_block(env: &Env<'_>, site: u32, count: u32, arms: u32, out: &mut Emitter)
-    ensures { Emits (chunk_code (tables env.now) (env_of env.now) 0 (spec.chunk_by (tables env.now) (optional_at (nodes env.now) count)) ⨟ one (env_of env.now) 0 (i.Push (pos 0)) ⨟ one (env_of env.now) 1 (i.Push (pos (arms_of (arms_at (nodes env.now) arms) - 1)))
-        ⨟ one (env_of env.now) (0 + 1 + 1) (i.LoadL env.now.free) ⨟ one (env_of env.now) (0 + 1 + 1 + 1) (i.LoadL (env.now.free + 1)) ⨟ one (env_of env.now) (1 + 1 + 1 + 1) (i.Push (pos 0)) ⨟ one (env_of env.now) (0 + 1 + 1 + 1 + 1 + 1) (i.Fork site)) out.old out.new }
+fn forking_block(env: &Env<'_>, site: u32, threads: u32, arms: u32, out: &mut Emitter)
+    ensures { Emits (chunk_code (tables env.now) (env_of env.now) 0 (spec.chunk_by (tables env.now) (optional_at (nodes env.now) threads)) ⨟ one (env_of env.now) 0 (i.Push (pos 0)) ⨟ one (env_of env.now) 1 (i.Push (pos (arms_of (arms_at (nodes env.now) arms) - 1)))
+        ⨟ one (env_of env.now) (0 + 1 + 1) (i.LoadL env.now.free) ⨟ one (env_of env.now) (0 + 1 + 1 + 1) (i.LoadL (env.now.free + 1)) ⨟ one (env_of env.now) (1 + 1 + 1 + 1) (i.Push (pos 0)) ⨟ forks (env_of env.now) (0 + 1 + 1 + 1 + 1 + 1) (site_kind.Block (arms_of (arms_at (nodes env.now) arms))) site) out.old out.new }
 {
-    block_threads(env, count, out);
-    let last = arms_count(env, arms, out).saturating_sub(1);
+    block_threads(env, threads, out);
+    let count = arms_count(env, arms, out);
+    let last = count.saturating_sub(1);
     out.put(env, 0, Instr::Push(0));
     out.put(env, 1, Instr::Push(i64::from(last)));
-    ask(env, site, out);
+    ask(env, SiteKind::Block(count), site, out);
 }
 
 #[tactic(auto, using(crate::proofs::Reading::present_is), unfolding(lower_emission::specs::Emission::chunk_code))]

@@ -20,7 +20,7 @@ use lower_values::cells::{cells_of, composite_width};
 use lower_values::exprs::{address, checked, emit, is_whole, lost, selected};
 use lower_values::instrs::{address_of, load_of, store_at};
 use lower_values::types::{Emitter, Env, Names};
-use stack_code::Instr;
+use stack_code::{Around, Instr};
 use typed_tree::{Actual, Check, Scalar, Value};
 
 /// A scalar is assigned to a part of what is named.
@@ -212,12 +212,22 @@ fn back_cells(env: &Env<'_>, from: u32, subtype: u32, out: &mut Emitter)
     out.put(env, 2, Instr::Copy(cells));
 }
 
+/// A loop is left that isn't in the own body.
+fn away(env: &Env<'_>, number: u32, out: &mut Emitter)
+    ensures { Emits (spec.away (env_of env.now) number (env_of env.now).body) out.old out.new }
+{
+    match env.body {
+        Around::Sub(_) => lost(env, 0, out),
+        Around::Site(_) => out.put(env, 0, Instr::Exit(number)),
+    }
+}
+
 /// A loop is left.
 pub fn exiting(env: &Env<'_>, number: u32, out: &mut Emitter)
     ensures { Emits (spec.exiting (env_of env.now) number ((env_of env.now).exits number)) out.old out.new }
 {
     match env.names.exit(number) {
-        None => out.put(env, 0, Instr::Exit(number)),
+        None => away(env, number, out),
         Some(to) => out.put(env, 0, Instr::Jump(to)),
     }
 }

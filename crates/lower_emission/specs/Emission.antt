@@ -7,8 +7,8 @@ use Rattle.behaviours.specs.Paths.{Entity, VariableOf, ConstantOf, entity_eq}
 use Rattle.typed_tree.specs.declared.scalars.Class.{Class}
 use Rattle.typed_tree.specs.declared.scalars.Scalar.{Scalar}
 use Rattle.typed_tree.specs.declared.scalars.Check.{Check}
-use Rattle.typed_tree.specs.declared.scalars.Comparison.TheVariants as comparison
-use Rattle.typed_tree.specs.declared.scalars.Comparison.{Comparison}
+use Rattle.ada_base.specs.declared.operation.Comparison.TheVariants as comparison
+use Rattle.ada_base.specs.declared.operation.Comparison.{Comparison}
 use Rattle.typed_tree.specs.declared.expressions.Sign.{Sign}
 use Rattle.typed_tree.specs.declared.expressions.Sign.TheVariants as sign
 use Rattle.typed_tree.specs.declared.expressions.Run.{Run}
@@ -19,13 +19,16 @@ use Rattle.typed_tree.specs.declared.program.Mode.{Mode}
 use Rattle.typed_tree.specs.declared.program.Mode.TheVariants as mode
 use Rattle.typed_tree.specs.Syntax.{Expr, Static, Variable, Constant, Parameter, Target, Group, Unary, Binary, AndThen, OrElse, Relation, Membership, If, Call, Convert, Reduction, Optional, Absent, Present, Selections, Whole, Field, Index, Actuals, NoActual, In, InOut, Out, CompositeInOut, CompositeOut, Value, Number, Cells, Composite, WholeVariable, WholeConstant, WholeTarget, CompositeIf, Aggregate, Associations, NoAssociation, Association, Iteration, Range, Components, Chunk, NoChunk, Count, Each, Sub, Program}
 use Rattle.ada_meaning.specs.Values.{layout, base_of}
-use Rattle.ada_meaning.specs.Meaning.{object_layout}
+use Rattle.ada_meaning.specs.Meaning.{object_layout, most_threads}
+use Rattle.stack_code.specs.declared.code.Reducer as site
+use Rattle.stack_code.specs.declared.code.SiteKind.{SiteKind}
+use Rattle.stack_code.specs.declared.code.SiteKind.TheVariants as kind
 use Rattle.stack_code.specs.declared.instr.Instr.{Instr}
 use Rattle.stack_code.specs.declared.instr.Instr.TheVariants as i
 use Rattle.lower_emission.specs.declared.types.Where.{Where}
 use Rattle.lower_emission.specs.declared.types.Named.{Named}
 use Rattle.lower_emission.specs.Emits.{Emit}
-use Rattle.lower_emission.specs.Scope.{Scope, own, taking, nested, thread_scope, with_parameter, with_item, with_exit, root_of, constant_root_of, array_root_of, none, one, keep, ◌⨟◌, choose, when_, looped, aside, load_of, address_of}
+use Rattle.lower_emission.specs.Scope.{Scope, own, taking, nested, thread_scope, with_parameter, with_item, with_exit, root_of, constant_root_of, array_root_of, none, one, keep, forks, ◌⨟◌, choose, when_, looped, aside, load_of, address_of}
 
 -- what no accepted program reaches
 abbrev pub lost : Scope → ℕ → Emit
@@ -264,16 +267,32 @@ raise_above s h d = one s h (i.LoadL d) ⨟ one s (h + 1) (i.LoadL (d + 1)) ⨟ 
 
 -- raises where there are more chunks than 4096
 abbrev pub raise_beyond : Scope → ℕ → Emit
-raise_beyond s h = one s h (i.LoadL s.free) ⨟ one s (h + 1) (i.Field 4096) ⨟ one s (h + 1) (i.LoadL (s.free + 1)) ⨟ one s (h + 1 + 1) i.Le ⨟ when_ s h (one s h (i.Raise reason.StorageError))
+raise_beyond s h = one s h (i.LoadL s.free) ⨟ one s (h + 1) (i.Field most_threads) ⨟ one s (h + 1) (i.LoadL (s.free + 1)) ⨟ one s (h + 1 + 1) i.Le ⨟ when_ s h (one s h (i.Raise reason.StorageError))
 
 -- the first and the last: loop values, or positions in an array
 abbrev pub ends_code : Scope → ℕ → Iteration → Emit
 ends_code s h (Range k reverse low high check filter) = one s h (i.LoadL s.free) ⨟ one s (h + 1) (i.LoadL (s.free + 1))
 ends_code s h (Components k constant at r selections count stride dimensions filter) = one s h (i.Push (pos 1)) ⨟ one s (h + 1) (i.Push (pos count))
 
+-- what a construct is
+
+abbrev pub loop_kind : Chunk → SiteKind
+loop_kind NoChunk = kind.Loop
+loop_kind (Count e) = kind.Loop
+loop_kind (Each k low high check) = kind.ChunkLoop
+
+abbrev pub folded_by : Reducer → Option site.Reducer
+folded_by (Operator at op class) = Some (record { op = op; base = base_of class })
+folded_by (Function at sub accumulator value) = None
+
+abbrev pub reduction_kind : Reducer → Chunk → SiteKind
+reduction_kind by NoChunk = kind.Reduction (folded_by by)
+reduction_kind by (Count e) = kind.Reduction (folded_by by)
+reduction_kind by (Each k low high check) = kind.ChunkReduction (folded_by by)
+
 -- The threads' code stands two behind the fork; `left` is what the fork leaves on the stack.
-abbrev pub fork_code : Scope → (h left : ℕ) → (site d : ℕ) → (initial body : Emit) → Emit
-fork_code s h left site d initial body = one s (h + 1 + 1) (i.LoadL d) ⨟ one s (h + 1 + 1 + 1) (i.LoadL (d + 1)) ⨟ initial ⨟ one s (h + 1 + 1 + 1 + 1 + 1) (i.Fork site) ⨟ aside s left body
+abbrev pub fork_code : Scope → (h left : ℕ) → (what : SiteKind) → (site d : ℕ) → (initial body : Emit) → Emit
+fork_code s h left what site d initial body = one s (h + 1 + 1) (i.LoadL d) ⨟ one s (h + 1 + 1 + 1) (i.LoadL (d + 1)) ⨟ initial ⨟ forks s (h + 1 + 1 + 1 + 1 + 1) what site ⨟ aside s left body
 
 -- ---- threads: cell 0 has the chunk value, cell 1 the initial value, cells 2 and 3 the first and the last loop value or
 -- position
@@ -352,7 +371,7 @@ module _ (program : Program) where
     emit s h (Reduction at attribute by initial (Some site) chunk iteration value) =
         emit s h initial ⨟ keep s (h + 1) s.free ⨟ one s h i.Nest
         ⨟ chunk_code (nested (taking 1 s)) h chunk ⨟ course_code (taking 2 (nested (taking 1 s))) h iteration ⨟ ends_code (taking 2 (nested (taking 1 s))) h iteration
-        ⨟ fork_code (nested (taking 1 s)) h (h + 1) site (s.free + 1) (one (nested (taking 1 s)) (h + 1 + 1 + 1 + 1) (i.LoadL s.free))
+        ⨟ fork_code (nested (taking 1 s)) h (h + 1) (reduction_kind by chunk) site (s.free + 1) (one (nested (taking 1 s)) (h + 1 + 1 + 1 + 1) (i.LoadL s.free))
         (one (chunk_scope chunk (taking 2 (thread_scope site s))) 0 (i.LoadL 1)
         ⨟ threaded (thread_scope site s) 1 chunk (s.free + 1 + 1 + 1) iteration (λ u. emit u 1 value ⨟ folding u 0 by)
         ⨟ one (chunk_scope chunk (taking 2 (thread_scope site s))) 1 i.EndV)
@@ -430,8 +449,8 @@ module _ (program : Program) where
 
     -- from a cell on the first and the last chunk value, or the numbers of so many threads
     pub chunk_code : Scope → ℕ → Chunk → Emit
-    chunk_code s h NoChunk = one s h (i.Push (pos 1)) ⨟ keep s (h + 1) s.free ⨟ one s h (i.Push (pos 4096)) ⨟ keep s (h + 1) (s.free + 1)
-    chunk_code s h (Count e) = one s h (i.Push (pos 1)) ⨟ keep s (h + 1) s.free ⨟ emit (taking 1 s) h e ⨟ one s (h + 1) (i.Push (pos 4096)) ⨟ one s (h + 1 + 1) i.Min ⨟ keep s (h + 1) (s.free + 1) ⨟ raise_above s h s.free
+    chunk_code s h NoChunk = one s h (i.Push (pos 1)) ⨟ keep s (h + 1) s.free ⨟ one s h (i.Push (pos most_threads)) ⨟ keep s (h + 1) (s.free + 1)
+    chunk_code s h (Count e) = one s h (i.Push (pos 1)) ⨟ keep s (h + 1) s.free ⨟ emit (taking 1 s) h e ⨟ one s (h + 1) (i.Push (pos most_threads)) ⨟ one s (h + 1 + 1) i.Min ⨟ keep s (h + 1) (s.free + 1) ⨟ raise_above s h s.free
     chunk_code s h (Each k low high check) =
         emit s h low ⨟ keep s (h + 1) s.free ⨟ emit (taking 1 s) h high ⨟ keep s (h + 1) (s.free + 1)
         ⨟ raise_above s h s.free ⨟ bounds_code s h s.free check

@@ -23,7 +23,7 @@ pub data Emit : Type 0 where
   Aside : Mark → (height : ℕ) → Emit → Emit
 
 abbrev pub placed : Mark → ℕ → Instr → Placed
-placed m h i = record { instr = i; height = h; entry = m.entry; body = m.body; nest = m.nest; cells = m.cells }
+placed m h i = record { instr = i; height = h; entry = m.entry; body = m.body; nest = m.nest; cells = m.cells; kind = m.kind }
 
 -- ---- where it stands
 

@@ -3,6 +3,9 @@ pub mod Bodies
 pub mod Emission
 pub mod Emits
 pub mod Laws
+pub mod Programs
+pub mod Leases
 pub mod Scope
 pub mod Statements
 pub mod Tables
+pub mod Texts

@@ -5,8 +5,10 @@ use Rattle.typed_tree.specs.declared.expressions.Root.{Root}
 use Rattle.typed_tree.specs.declared.expressions.Root.TheVariants as root
 use Rattle.stack_code.specs.declared.code.Around as body
 use Rattle.stack_code.specs.declared.code.Around.TheVariants.{Site}
+use Rattle.stack_code.specs.declared.code.SiteKind.{SiteKind}
+use Rattle.stack_code.specs.declared.code.SiteKind.TheVariants as kind
 use Rattle.stack_code.specs.declared.instr.Instr.{Instr}
-use Rattle.stack_code.specs.declared.instr.Instr.TheVariants.{Local, Outer, Global, LoadL, LoadO, LoadG, StoreL, StoreO, StoreG}
+use Rattle.stack_code.specs.declared.instr.Instr.TheVariants.{Fork, Local, Outer, Global, LoadL, LoadO, LoadG, StoreL, StoreO, StoreG}
 use Rattle.lower_emission.specs.declared.types.Where.{Where}
 use Rattle.lower_emission.specs.declared.types.Named.{Named}
 use Rattle.lower_emission.specs.declared.types.Mark.{Mark}
@@ -125,7 +127,7 @@ thread_scope number s = record {
 
 -- around an instruction that needs so many cells
 abbrev pub mark_of : ℕ → Scope → Mark
-mark_of cells s = record { body = s.body; nest = s.nest; entry = s.entry; cells = cells }
+mark_of cells s = record { body = s.body; nest = s.nest; entry = s.entry; cells = cells; kind = kind.Loop }
 
 abbrev pub mark : Scope → Mark
 mark s = mark_of s.free s
@@ -139,6 +141,10 @@ one s h i = emits.One (mark s) h i
 -- a cell of the frame is written
 abbrev pub keep : Scope → ℕ → ℕ → Emit
 keep s h n = emits.One (mark_of (max s.free (n + 1)) s) h (StoreL n)
+
+-- a construct is begun
+abbrev pub forks : Scope → ℕ → SiteKind → (site : ℕ) → Emit
+forks s h k site = emits.One (record (mark s) { kind = k }) h (Fork site)
 
 infixr 30 ◌⨟◌
 abbrev pub ◌⨟◌ : Emit → Emit → Emit

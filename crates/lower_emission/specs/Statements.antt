@@ -13,6 +13,9 @@ use Rattle.typed_tree.specs.Syntax as syntax
 use Rattle.typed_tree.specs.Syntax.{Expr, Static, Optional, Absent, Present, Selections, Actuals, NoActual, In, InOut, Out, CompositeInOut, CompositeOut, Number, Cells, Pieces, NoPiece, Text, Image, Padded, Decls, NoDecl, DeclareDefault, DeclareVariable, DeclareConstant, Mentions, Iteration, Chunk, Stmt, Null, Assign, CallProcedure, Exit, Return, ReturnValue, Raise, Reraise, IfThen, Case, Loop, For, ParallelFor, Parallel, Block, Put, Get, Stmts, End, Then, Alternatives, NoAlternative, Alternative, Handled, Others, Reasons, Handlers, NoHandler, Handler, Arms, NoArm, Arm, Subtype, Program}
 use Rattle.ada_meaning.specs.Values.{components, to_nat}
 use Rattle.ada_meaning.specs.Meaning.{object_layout, arms_of}
+use Rattle.stack_code.specs.declared.code.Around.{Around}
+use Rattle.stack_code.specs.declared.code.Around.TheVariants.{Sub, Site}
+use Rattle.stack_code.specs.declared.code.SiteKind.TheVariants as kind
 use Rattle.stack_code.specs.declared.instr.Instr.{Instr}
 use Rattle.stack_code.specs.declared.instr.Instr.TheVariants as i
 use Rattle.stack_code.specs.Listing.{reason_number}
@@ -22,7 +25,7 @@ use Rattle.lower_emission.specs.declared.types.Leaving.{Leaving}
 use Rattle.lower_emission.specs.declared.types.Leaving.TheVariants.{ByReturn, ByValue, ByEnd, ByLeave}
 use Rattle.lower_emission.specs.Emits.{Emit}
 use Rattle.lower_emission.specs.Scope.{Scope, own, taking, nested, thread_scope, with_object, with_target, with_handled, with_exit, with_entry, root_of, none, one, keep, ◌⨟◌, choose, when_, looped, guarded, load_of, store_at, address_of}
-use Rattle.lower_emission.specs.Emission.{lost, checked, address, is_whole, formal_of, passed, passing, cells_of, emit, selected, put_into, composed, composite_width, width, doubled, iterated, chunk_code, course_code, ends_code, fork_code, threaded, chunk_scope}
+use Rattle.lower_emission.specs.Emission.{lost, checked, address, is_whole, formal_of, passed, passing, cells_of, emit, selected, put_into, composed, composite_width, width, doubled, iterated, chunk_code, course_code, ends_code, loop_kind, fork_code, threaded, chunk_scope}
 
 abbrev pub no_handler : Handlers → Bool
 no_handler NoHandler = true
@@ -74,8 +77,13 @@ returning_value s ByValue = one s 1 i.RetV
 returning_value s ByEnd = one s 1 i.Halt
 returning_value s ByLeave = one s 1 i.LeaveV
 
+-- an exit of a loop that isn't in the own body leaves the construct that holds the thread; outside threads no exit does
+abbrev pub away : Scope → ℕ → Around → Emit
+away s loop (Sub k) = lost s 0
+away s loop (Site k) = one s 0 (i.Exit loop)
+
 abbrev pub exiting : Scope → ℕ → Option ℕ → Emit
-exiting s loop None = one s 0 (i.Exit loop)
+exiting s loop None = away s loop s.body
 exiting s loop (Some to) = one s 0 (i.Jump to)
 
 abbrev pub handled_target : Scope → Option Where → Emit
@@ -227,7 +235,7 @@ module _ (program : Program) where
   abbrev pub parallel_for : Scope → (number site : ℕ) → Chunk → Iteration → (loops : List ℕ) → (Scope → Emit) → Emit
   parallel_for s number site chunk iteration loops body =
       one s 0 i.Nest ⨟ chunk_code program (nested s) 0 chunk ⨟ course_code program (taking 2 (nested s)) 0 iteration ⨟ ends_code (taking 2 (nested s)) 0 iteration
-      ⨟ fork_code (nested s) 0 2 site s.free (one (nested s) (1 + 1 + 1 + 1) (i.Push (pos 0)))
+      ⨟ fork_code (nested s) 0 2 (loop_kind chunk) site s.free (one (nested s) (1 + 1 + 1 + 1) (i.Push (pos 0)))
       (threaded program (thread_scope site s) 0 chunk (s.free + 1 + 1) iteration body ⨟ one (chunk_scope chunk (taking 2 (thread_scope site s))) 0 i.End)
       ⨟ one (nested s) 2 i.Unnest ⨟ left_code (taking 2 (taking 2 s)) number loops
 
@@ -251,7 +259,7 @@ module _ (program : Program) where
   abbrev pub parallel_block : Scope → (site : ℕ) → Optional → (count : ℕ) → (loops : List ℕ) → (arms : Emit) → Emit
   parallel_block s site threads count loops arms =
       one s 0 i.Nest ⨟ chunk_code program (nested s) 0 (chunk_by threads) ⨟ one (nested s) 0 (i.Push (pos 0)) ⨟ one (nested s) 1 (i.Push (pos (count - 1)))
-      ⨟ fork_code (nested s) 0 2 site s.free (one (nested s) (1 + 1 + 1 + 1) (i.Push (pos 0))) (arms ⨟ one (arm_scope s site) 0 i.End)
+      ⨟ fork_code (nested s) 0 2 (kind.Block count) site s.free (one (nested s) (1 + 1 + 1 + 1) (i.Push (pos 0))) (arms ⨟ one (arm_scope s site) 0 i.End)
       ⨟ one (nested s) 2 i.Unnest ⨟ left_code (taking 2 s) no_loop loops
 
   unfoldable mutual

@@ -1,2 +1,4 @@
 -- Lemmas.
+pub mod Each
+pub mod Grown
 pub mod Steps

@@ -10,10 +10,10 @@ use Rattle.stack_code.specs.declared.instr.Instr.{Instr}
 use Rattle.lower_emission.specs.declared.types.Placed.{Placed}
 use Rattle.lower_emission.specs.Tables.{instrs_from, resolved, spots_from, spot_of, begun_by, stretch, is_entry, unwinds_from, unwind_at, begins}
 
-drop_at : {X : Type 0} (xs : List X) (k : ℕ) (x : X) → slice_get xs k ≡ Some x → drop k xs ≡ x ∷ drop (k + 1) xs
+pub drop_at : {X : Type 0} (xs : List X) (k : ℕ) (x : X) → slice_get xs k ≡ Some x → drop k xs ≡ x ∷ drop (k + 1) xs
 drop_at xs k x e = drop_more xs k x (slice_get_within xs k x e) ∙ ap (λ z. z ∷ drop (k + 1) xs) (get_or_from_slice_get xs k x x e)
 
-none_past : {X : Type 0} (xs : List X) (k : ℕ) → slice_get xs k ≡ None → drop k xs ≡ []
+pub none_past : {X : Type 0} (xs : List X) (k : ℕ) → slice_get xs k ≡ None → drop k xs ≡ []
 none_past xs k e = elim (slice_get_cases xs k).1 [ inl (x, l, f, g) ↦ absurd (some_none (sym f ∙ e)) | inr (l, f) ↦ drop_of_length-le xs l ]
   where
     some_none : {X : Type 0} {x : X} → Some x ≡ None → ⊥

@@ -4,6 +4,8 @@
 ghost use Rattle.std.specs.Prelude.{◌≡◌, ◌+◌, ◌<◌, ◌++◌, ◌∷◌, [], None, Some, cond, drop, slice_get, IfOk, OnOk, IfSome};
 ghost use Rattle.lower_emission.specs.Tables as spec;
 
+pub mod bodies;
+
 use ada_base::Items;
 use lower_emission::types::Placed;
 use stack_code::{Instr, Spot, Unwind};

@@ -1,2 +1,3 @@
 -- Lemmas.
 pub mod Reading
+pub mod Found

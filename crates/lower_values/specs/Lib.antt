@@ -1,2 +1,3 @@
 -- What emitting functions say.
+pub mod Texts
 pub mod Words

@@ -1,12 +1,12 @@
 -- What functions say of what they emit.
 use Rattle.std.specs.Prelude.{◌≡◌, ℕ, ◌+◌, List, [], ◌∷◌, None, Some, Option, Bool, true, false, cond, not, ◌&&◌, length, IsTrue, nat_eq}
-use Rattle.std.specs.Cmp.Lexicographic.{pointwise}
 use Rattle.behaviours.specs.Paths.{Entity, VariableOf, ConstantOf, entity_eq}
 use Rattle.lower_emission.specs.declared.types.Named.{Named}
 use Rattle.lower_emission.specs.declared.types.Where.{Where}
 use Rattle.lower_emission.specs.declared.types.Placed.{Placed}
 use Rattle.lower_emission.specs.Emits.{Emit, written}
 use Rattle.lower_emission.specs.Scope.{Scope, moved_named, moved_where}
+pub use Rattle.lower_emission.specs.Texts.{place}
 use Rattle.lower_values.specs.declared.types.Names.{Names, Outset, Object', Parameter', Item', Target', Handled', Exit', Thread'}
 use Rattle.lower_values.specs.declared.types.Env.{Env}
 use Rattle.lower_values.specs.declared.types.Emitter.{Emitter}
@@ -89,11 +89,6 @@ exits (Target' p outer named) j = exits outer j
 exits (Handled' p outer w) j = exits outer j
 exits (Exit' p outer number to) j = cond (nat_eq number j) (Some to) (exits outer j)
 exits (Thread' p outer) j = None
-
--- the place of a text among texts, or their number where it isn't among them
-abbrev pub place : List (List ℕ) → List ℕ → ℕ
-place [] bytes = 0
-place (t ∷ ts) bytes = cond (pointwise nat_eq t bytes) 0 (place ts bytes + 1)
 
 abbrev pub env_of : Env → Scope
 env_of e = record {

@@ -2,12 +2,12 @@
 
 ghost use Rattle.std.specs.Prelude.{◌≡◌, ◌+◌, length, slice_set};
 ghost use Rattle.lower_emission.specs.Emits.{put, gap, aimed, aimed_at, aimed_false};
-ghost use Rattle.lower_emission.specs.Scope.{keep, mark};
+ghost use Rattle.lower_emission.specs.Scope.{forks, keep, mark};
 ghost use Rattle.lower_values.specs.Words.{env_of, Emits, Wrote, Finds, Leaps};
 
 use crate::types::{Emitter, Env};
 use lower_emission::types::Placed;
-use stack_code::Instr;
+use stack_code::{Instr, SiteKind};
 
 impl Emitter {
     /// An instruction is put at the end.
@@ -27,6 +27,19 @@ impl Emitter {
         let above = self.sum(cell, 1);
         let placed = env.placed(env.free.max(above), height, Instr::StoreL(cell));
         if self.code.push(placed).is_err() {
+            self.whole = false;
+        }
+    }
+
+    /// A construct is begun.
+    pub fn fork(&mut self, env: &Env<'_>, height: u32, kind: SiteKind, site: u32)
+        ensures { Emits (forks (env_of env.now) height kind site) self.old self.new }
+    {
+        let fork = Placed {
+            kind,
+            ..env.placed(env.free, height, Instr::Fork(site))
+        };
+        if self.code.push(fork).is_err() {
             self.whole = false;
         }
     }

@@ -9,7 +9,7 @@ ghost use Rattle.lower_values.specs.Words.{entity, env_of, Learns};
 
 use crate::types::{Emitter, Env, Names};
 use lower_emission::types::{Level, Named, Placed, Where};
-use stack_code::Instr;
+use stack_code::{Instr, SiteKind};
 use typed_tree::Root;
 
 fn outer_where(place: Where, out: &mut Emitter) -> Where
@@ -277,6 +277,7 @@ impl<'a> Env<'a> {
             body: self.body,
             nest: self.nest,
             cells,
+            kind: SiteKind::Loop,
         }
     }
 }

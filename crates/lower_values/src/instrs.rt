@@ -5,12 +5,12 @@ ghost use Rattle.lower_emission.specs.Emission as spec;
 ghost use Rattle.lower_emission.specs.Scope as scope;
 ghost use Rattle.ada_meaning.specs.Values.{base_of};
 
-use ada_base::{Base, Op};
+use ada_base::{Base, Comparison, Op};
 use lower_emission::types::{Level, Named, Where};
 use stack_code::Instr;
-use typed_tree::{Class, Comparison, Sign};
+use typed_tree::{Class, Sign};
 
-fn base_of(class: Class) -> Base
+pub(crate) fn base_of(class: Class) -> Base
     ensures { result ≡ base_of class }
 {
     match class {

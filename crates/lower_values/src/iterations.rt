@@ -3,6 +3,7 @@
 ghost use Rattle.std.specs.Prelude.{◌≡◌, ◌<◌, ◌+◌, pos, cond, nat_eq};
 ghost use Rattle.typed_tree.specs.Decoded.{check_at, chunk_at, expr_at, iteration_at, selections_at};
 ghost use Rattle.typed_tree.specs.Syntax.{Count};
+ghost use Rattle.ada_meaning.specs.Meaning.{most_threads};
 ghost use Rattle.lower_emission.specs.Emission as spec;
 ghost use Rattle.lower_emission.specs.Scope.{◌⨟◌, array_root_of, keep, one, taking};
 ghost use Rattle.lower_values.specs.Words.{env_of, nodes, tables, Emits, Finds};
@@ -188,7 +189,7 @@ pub fn thread_numbers(env: &Env<'_>, h: u32, count: u32, out: &mut Emitter)
 
 /// The numbers of 4096 threads go to the first free cells.
 pub fn all_threads(env: &Env<'_>, h: u32, out: &mut Emitter)
-    ensures { Emits (one (env_of env.now) h (i.Push (pos 1)) ⨟ keep (env_of env.now) (h + 1) env.now.free ⨟ one (env_of env.now) h (i.Push (pos 4096)) ⨟ keep (env_of env.now) (h + 1) (env.now.free + 1)) out.old out.new }
+    ensures { Emits (one (env_of env.now) h (i.Push (pos 1)) ⨟ keep (env_of env.now) (h + 1) env.now.free ⨟ one (env_of env.now) h (i.Push (pos most_threads)) ⨟ keep (env_of env.now) (h + 1) (env.now.free + 1)) out.old out.new }
 {
     let h1 = out.sum(h, 1);
     let free1 = out.sum(env.free, 1);

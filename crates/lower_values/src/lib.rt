@@ -9,5 +9,7 @@ pub mod env;
 pub mod exprs;
 pub mod instrs;
 pub mod iterations;
+pub mod kinds;
 pub mod reductions;
+pub mod texts;
 pub mod types;

@@ -4,7 +4,7 @@ ghost use Rattle.std.specs.Prelude.{◌≡◌, ◌<◌, ◌+◌, None, Some, tru
 ghost use Rattle.typed_tree.specs.Decoded.{check_at, chunk_at, expr_at, iteration_at, optional_at, reducer_at, selections_at};
 ghost use Rattle.typed_tree.specs.Syntax.{Reduction};
 ghost use Rattle.lower_emission.specs.Emission as spec;
-ghost use Rattle.lower_emission.specs.Scope.{◌⨟◌, looped, nested, one, keep, taking, thread_scope};
+ghost use Rattle.lower_emission.specs.Scope.{◌⨟◌, forks, looped, nested, one, keep, taking, thread_scope};
 ghost use Rattle.lower_values.specs.Words.{env_of, nodes, tables, Emits};
 ghost use Rattle.stack_code.specs.declared.instr.Instr.TheVariants as i;
 
@@ -15,9 +15,10 @@ use crate::iterations::{
     Array, Counted, array_address, ascending, bounds, bounds_code, chunk_code, chunk_env, counting,
     course_code, ends_code, first_item, first_parameter, positions,
 };
+use crate::kinds::reduction_kind;
 use crate::types::{Emitter, Env, Names};
 use lower_emission::types::{Leaving, Named};
-use stack_code::{Around, Instr};
+use stack_code::{Around, Instr, SiteKind};
 use typed_tree::{Expr, Iteration, Reducer};
 
 /// What is folded, and by what.
@@ -323,6 +324,7 @@ fn fork(env: &Env<'_>, h: u32, parallel: Parallel, forked: Forked, fold: Fold, o
     let inside = Env { free, nest, ..*env };
     let question = Question {
         site: parallel.site,
+        kind: reduction_kind(env.typed, fold.by, forked.chunk),
         initial: env.free,
     };
     forking(&inside, h, forked, question, out);
@@ -338,7 +340,7 @@ fn fork(env: &Env<'_>, h: u32, parallel: Parallel, forked: Forked, fold: Fold, o
 #[inline(never)]
 fn forking(env: &Env<'_>, h: u32, forked: Forked, question: Question, out: &mut Emitter)
     ensures { Emits (spec.chunk_code (tables env.now) (env_of env.now) h (chunk_at (nodes env.now) forked.chunk) ⨟ spec.course_code (tables env.now) (taking 2 (env_of env.now)) h (iteration_at (nodes env.now) forked.iteration) ⨟ spec.ends_code (taking 2 (env_of env.now)) h (iteration_at (nodes env.now) forked.iteration)
-        ⨟ one (env_of env.now) (h + 1 + 1) (i.LoadL env.now.free) ⨟ one (env_of env.now) (h + 1 + 1 + 1) (i.LoadL (env.now.free + 1)) ⨟ one (env_of env.now) (h + 1 + 1 + 1 + 1) (i.LoadL question.initial) ⨟ one (env_of env.now) (h + 1 + 1 + 1 + 1 + 1) (i.Fork question.site)) out.old out.new }
+        ⨟ one (env_of env.now) (h + 1 + 1) (i.LoadL env.now.free) ⨟ one (env_of env.now) (h + 1 + 1 + 1) (i.LoadL (env.now.free + 1)) ⨟ one (env_of env.now) (h + 1 + 1 + 1 + 1) (i.LoadL question.initial) ⨟ forks (env_of env.now) (h + 1 + 1 + 1 + 1 + 1) question.kind question.site) out.old out.new }
 {
     let free = out.sum(env.free, 2);
     chunk_code(env, h, forked.chunk, out);
@@ -362,15 +364,16 @@ fn combined(env: &Env<'_>, h: u32, by: Reducer, out: &mut Emitter)
     }
 }
 
-/// A fork's site, and the cell of the initial value.
+/// A fork's site, what it begins, and the cell of the initial value.
 #[derive(Clone, Copy)]
 struct Question {
     site: u32,
+    kind: SiteKind,
     initial: u32,
 }
 
 fn ask(env: &Env<'_>, h: u32, question: Question, out: &mut Emitter)
-    ensures { Emits (one (env_of env.now) (h + 1 + 1) (i.LoadL env.now.free) ⨟ one (env_of env.now) (h + 1 + 1 + 1) (i.LoadL (env.now.free + 1)) ⨟ one (env_of env.now) (h + 1 + 1 + 1 + 1) (i.LoadL question.initial) ⨟ one (env_of env.now) (h + 1 + 1 + 1 + 1 + 1) (i.Fork question.site)) out.old out.new }
+    ensures { Emits (one (env_of env.now) (h + 1 + 1) (i.LoadL env.now.free) ⨟ one (env_of env.now) (h + 1 + 1 + 1) (i.LoadL (env.now.free + 1)) ⨟ one (env_of env.now) (h + 1 + 1 + 1 + 1) (i.LoadL question.initial) ⨟ forks (env_of env.now) (h + 1 + 1 + 1 + 1 + 1) question.kind question.site) out.old out.new }
 {
     let h1 = out.sum(h, 1);
     let h2 = out.sum(h1, 1);
@@ -381,7 +384,7 @@ fn ask(env: &Env<'_>, h: u32, question: Question, out: &mut Emitter)
     out.put(env, h2, Instr::LoadL(env.free));
     out.put(env, h3, Instr::LoadL(free1));
     out.put(env, h4, Instr::LoadL(question.initial));
-    out.put(env, h5, Instr::Fork(question.site));
+    out.fork(env, h5, question.kind, question.site);
 }
 
 /// The threads of a parallel reduction.

@@ -1,8 +1,9 @@
 //! What is known where code is emitted, and what it is emitted into.
 
+use crate::texts::Texts;
 use ada_base::Items;
 use lower_emission::types::{Leaving, Named, Placed, Where};
-use stack_code::{Around, Words};
+use stack_code::Around;
 use typed_tree::Typed;
 
 /// What names stand for: each link adds one to those outward.
@@ -51,7 +52,7 @@ pub enum Names<'a> {
 pub struct Env<'a> {
     pub typed: &'a Typed,
     pub names: Names<'a>,
-    pub texts: &'a Items<Words>,
+    pub texts: &'a Texts,
     pub free: u32,
     pub entry: Option<u32>,
     pub leaving: Leaving,

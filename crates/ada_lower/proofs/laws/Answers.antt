@@ -1,5 +1,6 @@
 use Rattle.ada_lower.proofs.laws.Goals as goal
-use Rattle.ada_lower.proofs.WholeLaws.{whole_law, value_law, forward_law}
+use Rattle.ada_lower.proofs.WholeLaws.{whole_law, value_law, forward_law, valid_law, tables_law}
+use Rattle.ada_lower.proofs.WholeSafe.{view_law}
 
 pub returns-clause-whole : goal.returns-clause-whole
 returns-clause-whole c = whole_law
@@ -7,5 +8,14 @@ returns-clause-whole c = whole_law
 pub returns-clause-value : goal.returns-clause-value
 returns-clause-value c = value_law
 
+pub returns-clause-view : goal.returns-clause-view
+returns-clause-view c = view_law
+
 pub returns-clause-forward : goal.returns-clause-forward
 returns-clause-forward c = forward_law
+
+pub returns-clause-valid : goal.returns-clause-valid
+returns-clause-valid c = valid_law
+
+pub returns-clause-tables : goal.returns-clause-tables
+returns-clause-tables c = tables_law

@@ -1,0 +1,244 @@
+-- What the threads of a construct touch stays within what its leases lend them, where it goes through a range or is a block.
+use Rattle.std.proofs.Common.{◌≡◌, ℕ, zero, suc, ◌+◌, ◌-◌, ◌*◌, ◌<◌, ◌≤◌, ℤ, pos, ◌+ℤ◌, nat_eq, List, [], ◌∷◌, slice_get, length, Option, Some, None, ◌⊎◌, inl, inr, Bool, true, false, refl, sym, ap, ap₂, ◌∙◌, subst, arith, true≢false, eqb-true}
+use Rattle.std.proofs.lemmas.Bool.{eqb-false}
+use Rattle.std.proofs.lemmas.Option.{slice_get_within}
+use Rattle.behaviours.specs.Paths.{Entity, VariableOf, ConstantOf}
+use Rattle.behaviours.specs.Joins.{Now, Share, Site, deal}
+use Rattle.typed_tree.specs.Syntax.{Program}
+use Rattle.ada_meaning.specs.Stored as stored
+use Rattle.ada_meaning.specs.Stored.{Address, Kept, Stacked, Touch, Thread, Team, cell_at, place_of, slot_at, within, key}
+use Rattle.ada_meaning.specs.Touched.{Before, IsAmong}
+use Rattle.ada_meaning.specs.Meaning.{Env}
+use Rattle.ada_meaning.proofs.Cells.{some_same}
+use Rattle.check_effects.specs.Effects.{Access, Construct, Holds}
+use Rattle.check_effects.specs.Conflicts.{InProgram, IsThreadEffect, LiesUnder, Leads, IsClean}
+use Rattle.check_effects.specs.Covered.{arm_of, site_of, AreDistinct, Under, IsTouched, AreApart}
+use Rattle.check_effects.specs.Touching.{LiesAt, AllTouchesCovered, AllThreadsCovered}
+use Rattle.check_effects.proofs.Races.{shares_apart}
+use Rattle.stack_code.specs.declared.code.CodeSite.{CodeSite}
+use Rattle.stack_code.specs.declared.code.Step as code_step
+use Rattle.stack_code.specs.declared.code.Lease as code
+use Rattle.stack_code.specs.declared.path.Asked.{Asked}
+use Rattle.stack_code.specs.Machine.{outward_of}
+use Rattle.lower_emission.specs.Leases.{All, Loop, ByChunk, InPlaces, InLease, frame_of, step_of, steps_of}
+use Rattle.lower_emission.specs.Leases as leases
+use Rattle.ada_lower.specs.Driven.{Dyn, Fixed}
+use Rattle.ada_lower.specs.Sights.{Around, Level, Main, Named, Own, Sight}
+use Rattle.ada_lower.specs.Fits.{What, Keeps, Shows, Access as Right, Ghost, Fit, Knows, IsAt, Refers, place_in, Stands as StandsFor}
+use Rattle.ada_lower.specs.Lending.{Among, StepsTo, frame_at, IsOfArm, chunk_at, LiesIn, IsLent, Owns}
+use Rattle.ada_lower.specs.Leased.{IsLease, AreLeased}
+use Rattle.ada_lower.specs.Teams.{IsSound, OnePlace}
+use Rattle.ada_lower.specs.ForkViews.{TouchFits, TouchesFit, Apart}
+use Rattle.ada_lower.proofs.ForkFine.{Lends}
+use Rattle.ada_lower.proofs.LeaseGeometry.{leads_in, in_leads}
+use Rattle.ada_lower.proofs.Memory.{place_fits}
+
+-- ---- steps
+
+steps_up : (v ch : ℤ) (ss : List code_step.Step) (b n o : ℕ) → StepsTo v ch ss n o → StepsTo v ch ss (b + n) (b + o)
+steps_up v ch [] b n o e = ap (λ m. b + m) e
+steps_up v ch (code_step.TheVariants.All count size ∷ ss) b n o (i, lt, h) = (i, lt, subst (λ m. StepsTo v ch ss m (b + o)) (let z : b + (n + i * size) ≡ b + n + i * size = omega arith in z) (steps_up v ch ss b (n + i * size) o h))
+steps_up v ch (code_step.TheVariants.Loop low count size ∷ ss) b n o (i, lt, e, h) = (i, lt, e, subst (λ m. StepsTo v ch ss m (b + o)) (let z : b + (n + i * size) ≡ b + n + i * size = omega arith in z) (steps_up v ch ss b (n + i * size) o h))
+steps_up v ch (code_step.TheVariants.Chunk low count size ∷ ss) b n o (i, lt, e, h) = (i, lt, e, subst (λ m. StepsTo v ch ss m (b + o)) (let z : b + (n + i * size) ≡ b + n + i * size = omega arith in z) (steps_up v ch ss b (n + i * size) o h))
+
+steps_down : (v ch : ℤ) (ss : List code_step.Step) (b n o : ℕ) → StepsTo v ch ss (b + n) o → (p : ℕ) × StepsTo v ch ss n p × (o ≡ b + p)
+steps_down v ch [] b n o e = (n, refl, e)
+steps_down v ch (code_step.TheVariants.All count size ∷ ss) b n o (i, lt, h) =
+    let (p, k, e) = steps_down v ch ss b (n + i * size) o (subst (λ m. StepsTo v ch ss m o) (let z : b + n + i * size ≡ b + (n + i * size) = omega arith in z) h) in (p, (i, lt, k), e)
+steps_down v ch (code_step.TheVariants.Loop low count size ∷ ss) b n o (i, lt, q, h) =
+    let (p, k, e) = steps_down v ch ss b (n + i * size) o (subst (λ m. StepsTo v ch ss m o) (let z : b + n + i * size ≡ b + (n + i * size) = omega arith in z) h) in (p, (i, lt, q, k), e)
+steps_down v ch (code_step.TheVariants.Chunk low count size ∷ ss) b n o (i, lt, q, h) =
+    let (p, k, e) = steps_down v ch ss b (n + i * size) o (subst (λ m. StepsTo v ch ss m o) (let z : b + n + i * size ≡ b + (n + i * size) = omega arith in z) h) in (p, (i, lt, q, k), e)
+
+places_steps : (v ch : ℤ) (ps : List leases.Place) (n o : ℕ) → InPlaces v ch ps n o → StepsTo v ch (steps_of ps) n o
+places_steps v ch [] n o h = h
+places_steps v ch (All count size ∷ ps) n o (i, lt, h) = (i, lt, places_steps v ch ps (n + i * size) o h)
+places_steps v ch (Loop low count size ∷ ps) n o (i, lt, e, h) = (i, lt, e, places_steps v ch ps (n + i * size) o h)
+places_steps v ch (ByChunk low count size ∷ ps) n o (i, lt, e, h) = (i, lt, e, places_steps v ch ps (n + i * size) o h)
+
+steps_places : (v ch : ℤ) (ps : List leases.Place) (n o : ℕ) → StepsTo v ch (steps_of ps) n o → InPlaces v ch ps n o
+steps_places v ch [] n o h = h
+steps_places v ch (All count size ∷ ps) n o (i, lt, h) = (i, lt, steps_places v ch ps (n + i * size) o h)
+steps_places v ch (Loop low count size ∷ ps) n o (i, lt, e, h) = (i, lt, e, steps_places v ch ps (n + i * size) o h)
+steps_places v ch (ByChunk low count size ∷ ps) n o (i, lt, e, h) = (i, lt, e, steps_places v ch ps (n + i * size) o h)
+
+-- where a cell at a level is
+framed : (f : Fixed) (l : Level) (n a : ℕ) → IsAt f l n a → (b : ℕ) × (frame_at (f.base ∷ outward_of f.waiting f.outward) (frame_of l) ≡ Some b) × (a ≡ b + n)
+framed f Own n a e = (f.base, refl, e)
+framed f (Around k) n a (b, is, e) = (b, is, e)
+framed f Main n a e = (0, refl, (let z : n ≡ 0 + n = omega arith in e ∙ z))
+
+-- ---- cells that are lent
+
+module _ {limit : ℕ} {cuts : ℕ → ℕ → List ℕ} {f : Fixed} {g : Ghost} {s : Sight} {env : Env} (kn : Knows limit cuts g f s env) (program : Program) (site : ℕ) (cs : CodeSite) (are : AreLeased program s.scope.object s.global s.main site cs) (q : Asked) where
+  abbrev frames : List ℕ
+  frames = f.base ∷ outward_of f.waiting f.outward
+
+  -- an object that is named directly has its cells from an address on
+  addressed : (x : Entity) (m : Named) → s.scope.object x ≡ Some m → m.through ≡ false → (a : ℕ) × IsAt f m.place.level m.place.cell a × ((i : ℕ) → i < m.cells → (pl : Address) × (y : Right) × (place_in g x i ≡ Some pl) × (g.what (a + i) ≡ StandsFor y pl))
+  addressed x m e direct =
+      let r = kn.object x m e in
+      (r.address, subst (λ t. Rattle.ada_lower.specs.Fits.Leads t g f m.place r.address) direct r.leads, λ i lt. let (pl, y, p, w) = r.spread.cell i lt in (pl, y, (let z : i ≡ 0 + i = omega arith in ap (λ j. place_in g x j) z ∙ p), w))
+
+  -- a cell that is lent is of an object
+  lent_stands : (l : code.Lease) → Among l cs.leases → (j i a : ℕ) → LiesIn cs q frames l j i a → (pl : Address) × (y : Right) × (g.what a ≡ StandsFor y pl)
+  lent_stands l amid j i a (base, at_, (o, r, h, lt, e)) =
+      let (x, m, here, direct, frame, in_) = are.inside l amid in
+      let (address, is, cell) = addressed (VariableOf x) m here direct in
+      let (b, at', e') = framed f m.place.level m.place.cell address is in
+      let same : base ≡ b = some_same base b (sym at_ ∙ ap (λ k. frame_at frames k) frame ∙ at') in
+      let (o', h', e'') = steps_down (q.first +ℤ pos i) (chunk_at cs.kind q j) l.steps base l.base o h in
+      let (n, here', small) = in_ (q.first +ℤ pos i) (chunk_at cs.kind q j) o' r h' lt in
+      let (pl, y, p, w) = cell n small in
+      let at_cell : address + n ≡ a = omega (arith, e, e', e'', here', same) in
+      (pl, y, ap g.what (sym at_cell) ∙ w)
+
+  module _ (shares : List Share) (owner : ℕ → Option ℕ) (owns : Owns cs q frames shares owner) where
+    owned_stands : (a n : ℕ) → owner a ≡ Some n → (pl : Address) × (y : Right) × (g.what a ≡ StandsFor y pl)
+    owned_stands a n e = let (j, among, num, (i, lo, hi, (l, amid, arm, lies))) = owns.lent a n e in lent_stands l amid j.number i a lies
+
+    none_of : (a : ℕ) (w : What) → g.what a ≡ w → ((pl : Address) (y : Right) → w ≡ StandsFor y pl → ⊥) → owner a ≡ None
+    none_of a w e un = go (owner a) refl
+      where
+        go : (o : Option ℕ) → owner a ≡ o → o ≡ None
+        go None is = refl
+        go (Some n) is = let (pl, y, h) = owned_stands a n is in absurd (un pl y (sym e ∙ h))
+
+    pub is_apart : Apart g owner
+    is_apart = record {
+      keeps = λ a v e. none_of a (Keeps v) e (λ pl y z. let h : Keeps v ≡ StandsFor y pl = z in cc);
+      shows = λ a v e. none_of a (Shows v) e (λ pl y z. let h : Shows v ≡ StandsFor y pl = z in cc);
+    }
+
+    -- ---- a team of its threads
+
+    module _ (t : Team) (tells : (j i : ℕ) → ((t.site.now j i).loop ≡ Some (q.first +ℤ pos i)) × ((t.site.now j i).chunk ≡ chunk_at cs.kind q j)) (k : Construct) (held : InProgram program (Holds k)) (num : site_of k ≡ site) (clean : IsClean program k)
+        (distinct : AreDistinct t.site.now) (one : OnePlace t) {d : Dyn} (fit : Fit g t.begun d) (parted : (c b : Share) → Among c shares → Among b shares → (c.number ≡ b.number → ⊥) → AreApart c b) where
+      abbrev value : ℕ → ℤ
+      value i = q.first +ℤ pos i
+
+      abbrev chunk : ℕ → ℤ
+      chunk j = chunk_at cs.kind q j
+
+      -- a cell under what is accessed, and its place
+      record CellAt (x n a : ℕ) : Type 0 where
+        pub place : Address
+        pub right : Right
+        pub here : place_in g (VariableOf x) n ≡ Some place
+        pub everywhere : (slot_at g.everywhere (key (VariableOf x))).frame ≡ 1 → within Kept (slot_at g.everywhere (key (VariableOf x))) n ≡ Some place
+        pub stands : g.what a ≡ StandsFor right place
+
+      cell_at_of : (a : Access) (l : code.Lease) (z : IsLease program s.scope.object s.global s.main a l) (address : ℕ) → IsAt f z.named.place.level z.named.place.cell address → (n : ℕ) → n < z.named.cells
+          → ((i : ℕ) → i < z.named.cells → (pl : Address) × (y : Right) × (place_in g (VariableOf a.object) i ≡ Some pl) × (g.what (address + i) ≡ StandsFor y pl)) → CellAt a.object n (address + n)
+      cell_at_of a l z address is n small cell = let (pl, y, p, w) = cell n small in record { place = pl; right = y; here = p; everywhere = λ e. at_main pl y w (s.main (VariableOf a.object)) refl e; stands = w }
+        where
+          at_main : (pl : Address) (y : Right) → g.what (address + n) ≡ StandsFor y pl → (b : Bool) → s.main (VariableOf a.object) ≡ b → (slot_at g.everywhere (key (VariableOf a.object))).frame ≡ 1 → within Kept (slot_at g.everywhere (key (VariableOf a.object))) n ≡ Some pl
+          at_main pl y w false e f1 = absurd (kn.outside (VariableOf a.object) e f1)
+          at_main pl y w true e f1 =
+              let (m, as_main, there, cells) = kn.global (VariableOf a.object) z.named (z.everywhere e) in
+              let (pl', y', p', w') = cells n small in
+              let at_m : address ≡ m = subst (λ (v : Named). IsAt f v.place.level v.place.cell address) as_main is in
+              let same : StandsFor y' pl' ≡ StandsFor y pl = sym w' ∙ ap (λ z. g.what (z + n)) (sym at_m) ∙ w in
+              p' ∙ ap Some (let h : pl' ≡ pl = (let h' : StandsFor y' pl' ≡ StandsFor y pl = same in cc) in h)
+
+      -- what is accessed in an iteration is lent to its thread
+      lease_cell : (j i : ℕ) (a : Access) (l : code.Lease) (z : IsLease program s.scope.object s.global s.main a l) (n : ℕ) → LiesUnder (t.site.now j i) a n → (c : ℕ) × LiesIn cs q frames l j i c × CellAt a.object n c
+      lease_cell j i a l z n (o, r, leads, lt, e) =
+          let (address, is, cell) = addressed (VariableOf a.object) z.named z.here z.direct in
+          let (b, at', e') = framed f z.named.place.level z.named.place.cell address is in
+          let led : InLease (value i) (chunk j) (Some z.way) o = subst (λ w. InLease (value i) (chunk j) w o) z.is (leads_in (t.site.now j i) (value i) (chunk j) true (tells j i) a.steps z.plain 0 o leads) in
+          let up : StepsTo (value i) (chunk j) l.steps (b + z.named.place.cell + z.way.base) (b + z.named.place.cell + o) = subst (λ ss. StepsTo (value i) (chunk j) ss (b + z.named.place.cell + z.way.base) (b + z.named.place.cell + o)) (sym z.steps) (steps_up (value i) (chunk j) (steps_of z.way.places) (b + z.named.place.cell) z.way.base o (places_steps (value i) (chunk j) z.way.places z.way.base o led)) in
+          let from : b + z.named.place.cell + z.way.base ≡ b + l.base = (let w = z.base in omega (arith, w)) in (
+            address + n,
+            (b, ap (λ k. frame_at frames k) z.frame ∙ at', (b + z.named.place.cell + o, r, subst (λ m. StepsTo (value i) (chunk j) l.steps m (b + z.named.place.cell + o)) from up, (let w = z.run in omega (arith, lt, w)), omega (arith, e, e'))),
+            cell_at_of a l z address is n (z.within (t.site.now j i) n (o, r, leads, lt, e)) cell,
+          )
+
+      -- and what is lent to a thread is accessed in an iteration of its own
+      lent_under : (c : Share) (a : ℕ) → IsLent cs q frames c a → (x : ℕ) × (n : ℕ) × Under program k t.site.now c true x n × CellAt x n a
+      lent_under c a (i, lo, hi, (l, amid, arm, (base, at_, (o, r, h, lt, e)))) =
+          let (x, z, effects) = are.leased k held num l amid in
+          let (at, effect, writes) = effects c.number i arm in
+          let (address, is, cell) = addressed (VariableOf x.object) z.named z.here z.direct in
+          let (b, at', e') = framed f z.named.place.level z.named.place.cell address is in
+          let same : base ≡ b = some_same base b (sym at_ ∙ ap (λ k. frame_at frames k) z.frame ∙ at') in
+          let (o1, h1, e1) = steps_down (value i) (chunk c.number) l.steps base l.base o h in
+          let (o2, h2, e2) = steps_down (value i) (chunk c.number) l.steps z.named.place.cell z.way.base o1 (subst (λ m. StepsTo (value i) (chunk c.number) l.steps m o1) z.base h1) in
+          let led : InLease (value i) (chunk c.number) (Some z.way) o2 = steps_places (value i) (chunk c.number) z.way.places z.way.base o2 (subst (λ ss. StepsTo (value i) (chunk c.number) ss z.way.base o2) z.steps h2) in
+          let leads = in_leads (t.site.now c.number i) (value i) (chunk c.number) true (tells c.number i) x.steps z.plain 0 o2 (subst (λ w. InLease (value i) (chunk c.number) w o2) (sym z.is) led) in
+          let under : LiesUnder (t.site.now c.number i) x (o2 + r) = (o2, r, leads, (let w = z.run in omega (arith, lt, w)), refl) in
+          let here : address + (o2 + r) ≡ a = omega (arith, e, e', e1, e2, same) in
+          (x.object, o2 + r, (i, lo, hi, (at, x, effect, writes, refl, under)), subst (λ a. CellAt x.object (o2 + r) a) here (cell_at_of x l z address is (o2 + r) (z.within (t.site.now c.number i) (o2 + r) under) cell))
+
+      -- who has a cell that a thread touches is that thread
+      only_own : (b : Share) → Among b shares → (writes : Bool) (x : Entity) (n : ℕ) (pl : Address) (a : ℕ) (y : Right) → g.what a ≡ StandsFor y pl → LiesAt t.begun x n pl → IsTouched program k t.site.now b writes x n → (m : ℕ) → owner a ≡ Some m → m ≡ b.number
+      only_own b among_b writes x n pl a y e lies touched m own =
+          let (c, among_c, is_c, lent) = owns.lent a m own in
+          let (x', n', under, z) = lent_under c a lent in
+          let same : z.place ≡ pl = (let h : StandsFor z.right z.place ≡ StandsFor y pl = sym z.stands ∙ e in cc) in
+          let (is, at) = one (VariableOf x') x n' n pl (inl (place_fits (VariableOf x') n' fit ∙ z.here ∙ ap Some same)) lies in
+          sym is_c ∙ go x touched c among_c (λ v w. subst (λ n. Under program k t.site.now c true v n) at (subst (λ v. Under program k t.site.now c true v n') w under)) is (nat_eq c.number b.number) refl
+        where
+          go : (x : Entity) → IsTouched program k t.site.now b writes x n → (c : Share) → Among c shares → {x' : ℕ} → ((v : ℕ) → x' ≡ v → Under program k t.site.now c true v n) → VariableOf x' ≡ x → (z : Bool) → nat_eq c.number b.number ≡ z → c.number ≡ b.number
+          go x touched c among_c under is true e = eqb-true c.number b.number e
+          go (VariableOf v) touched c among_c {x'} under is false e =
+              let off_ : c.number ≡ b.number → ⊥ = eqb-false c.number b.number e in
+              absurd (shares_apart program k clean t.site.now distinct c b off_ (parted c b among_c among_b off_) writes v n (under v (let h : ◌≡◌ {A = Entity} (VariableOf x') (VariableOf v) = is in cc)) touched)
+          go (ConstantOf v) touched c among_c {x'} under is false e = absurd (let h : ◌≡◌ {A = Entity} (VariableOf x') (ConstantOf v) = is in cc)
+
+      before : (pl : Address) (v : ℤ) → cell_at t.begun pl ≡ Some v → Before t.begun pl
+      before (Kept a) v e = slice_get_within t.begun.kept a v e
+      before (Stacked a) v e = slice_get_within t.begun.cells a v e
+
+      there : (a : ℕ) (y : Right) (pl : Address) → g.what a ≡ StandsFor y pl → Before t.begun pl
+      there a y pl e = let (v, cell, bears) = subst (λ w. Rattle.ada_lower.specs.Fits.Right w t.begun (slice_get d.cells a)) e (fit.cells a) in before pl v cell
+
+      -- a write is of an own cell
+      own_write : (b : Share) → Among b shares → (x n : ℕ) (pl : Address) (a : ℕ) (y : Right) → g.what a ≡ StandsFor y pl → LiesAt t.begun (VariableOf x) n pl → Under program k t.site.now b true x n → owner a ≡ Some b.number
+      own_write b among_b x n pl a y e lies (i, lo, hi, (at, u, effect, writes, obj, under)) =
+          let (l, amid, arm, z) = are.granted k held num b.number i at u effect writes in
+          let (c, lies_in, cell) = lease_cell b.number i u l z n under in
+          let place_is : cell.place ≡ pl = ends (subst (λ v. LiesAt t.begun (VariableOf v) n pl) (sym obj) lies) cell in
+          let same : c ≡ a = kn.one c a cell.right y pl (cell.stands ∙ ap (λ p. StandsFor cell.right p) place_is) e in
+          let lent : IsLent cs q frames b a = (i, lo, hi, (l, amid, arm, subst (λ a. LiesIn cs q frames l b.number i a) same lies_in)) in
+          go lent (owner a) refl
+        where
+          ends : {x c : ℕ} → LiesAt t.begun (VariableOf x) n pl → (cell : CellAt x n c) → cell.place ≡ pl
+          ends {x} (inl h) cell = some_same cell.place pl (sym cell.here ∙ sym (place_fits (VariableOf x) n fit) ∙ h)
+          ends {x} (inr (f1, h)) cell =
+              let f1' : (slot_at g.everywhere (key (VariableOf x))).frame ≡ 1 = subst (λ es. (slot_at es (key (VariableOf x))).frame ≡ 1) fit.everywhere f1 in
+              let h' : within Kept (slot_at g.everywhere (key (VariableOf x))) n ≡ Some pl = subst (λ es. within Kept (slot_at es (key (VariableOf x))) n ≡ Some pl) fit.everywhere h in
+              some_same cell.place pl (sym (cell.everywhere f1') ∙ h')
+
+          go : IsLent cs q frames b a → (o : Option ℕ) → owner a ≡ o → o ≡ Some b.number
+          go lent None is = absurd (owns.all a b among_b lent is)
+          go lent (Some m) is = ap Some (only_own b among_b true (VariableOf x) n pl a y e lies (i, lo, hi, (at, u, effect, writes, obj, under)) m is)
+
+      touch_fits : (b : Share) → Among b shares → (w : Touch) → (Before t.begun w.place → (x : Entity) × (n : ℕ) × LiesAt t.begun x n w.place × IsTouched program k t.site.now b w.writes x n) → TouchFits g owner b.number w
+      touch_fits b among_b w covered a y e = let (x, n, lies, touched) = covered (there a y w.place e) in ((λ wr. go n x lies touched wr), (λ rd l own. only_own b among_b w.writes x n w.place a y e lies touched l own))
+        where
+          go : (n : ℕ) (x : Entity) → LiesAt t.begun x n w.place → IsTouched program k t.site.now b w.writes x n → w.writes ≡ true → owner a ≡ Some b.number
+          go n (VariableOf x) lies touched wr = own_write b among_b x n w.place a y e lies (subst (λ z. Under program k t.site.now b z x n) wr touched)
+          go n (ConstantOf x) lies touched wr = absurd (true≢false (sym wr ∙ touched))
+
+      touches_fit : (b : Share) → Among b shares → (ws : List Touch) → AllTouchesCovered program k t b ws → TouchesFit g owner b.number ws
+      touches_fit b among_b [] c = tt
+      touches_fit b among_b (w ∷ ws) c = (touch_fits b among_b w c.0, touches_fit b among_b ws c.1)
+
+      pub thread_fits : (bs : List Thread) → AllThreadsCovered program k t bs → (b : Thread) → IsAmong b bs → Among b.share shares → TouchesFit g owner b.share.number b.touches
+      thread_fits [] c b amid among_b = absurd amid
+      thread_fits (e ∷ bs) c b (inl is) among_b = touches_fit b.share among_b b.touches (subst (λ z. AllTouchesCovered program k t z.share z.touches) (sym is) c.0)
+      thread_fits (e ∷ bs) c b (inr amid) among_b = thread_fits bs c.1 b amid among_b
+
+-- the threads of a construct touch no cell that another one is lent
+pub lends_by : {limit : ℕ} {cuts : ℕ → ℕ → List ℕ} {f : Fixed} {g : Ghost} {s : Sight} {env : Env} → Knows limit cuts g f s env → (program : Program) → f.asked ≡ Some program → (site : ℕ) (cs : CodeSite) → AreLeased program s.scope.object s.global s.main site cs → (q : Asked) (team : Site) → team.number ≡ site
+    → ((j i : ℕ) → ((team.now j i).loop ≡ Some (q.first +ℤ pos i)) × ((team.now j i).chunk ≡ chunk_at cs.kind q j)) → (shares : List Share) → ((c b : Share) → Among c shares → Among b shares → (c.number ≡ b.number → ⊥) → AreApart c b)
+    → Lends f g cs q team shares
+lends_by {f = f} {g = g} kn program fa site cs are q team num tells shares parted = λ owner owns p is s d fit. (
+  is_apart kn program site cs are q shares owner owns,
+  λ t b at_ begun sound amid among_b.
+      let same : program ≡ p = some_same program p (sym fa ∙ is) in
+      let (clean, one, (k, held, number, distinct, covered)) = subst (λ p. IsSound p t) (sym same) sound in
+      thread_fits kn program site cs are q shares owner owns t (λ j i. subst (λ (z : Site). ((z.now j i).loop ≡ Some (q.first +ℤ pos i)) × ((z.now j i).chunk ≡ chunk_at cs.kind q j)) (sym at_) (tells j i)) k held (number ∙ ap (λ (z : Site). z.number) at_ ∙ num) (clean k held) distinct one
+      (subst (λ z. Fit g z d) (sym begun) fit) parted t.threads covered b amid among_b,
+)

@@ -1,0 +1,175 @@
+-- The whole code of a program has room for what it keeps, and its subprograms see those of the main procedure's objects that
+-- they name. So a program that is formed and in scope fits its code.
+use Rattle.std.proofs.Common.{◌≡◌, ◌≤◌, ℕ, zero, suc, ◌+◌, List, [], ◌∷◌, length, slice_get, Option, Some, None, Bool, cond, refl, sym, ap, ◌∙◌, subst, arith}
+use Rattle.std.proofs.lemmas.Option.{none-some}
+use Rattle.behaviours.specs.Paths.{Entity, VariableOf, ConstantOf}
+use Rattle.typed_tree.specs.Syntax.{Block, Decls, NoDecl, DeclareDefault, DeclareVariable, DeclareConstant, Mentions, Sub, Program}
+use Rattle.ada_meaning.specs.Meaning.{object_layout, sub_at}
+use Rattle.ada_meaning.proofs.Cells.{some_same}
+use Rattle.stack_code.specs.declared.code.Around.{Around}
+use Rattle.stack_code.specs.declared.code.Around.TheVariants as body
+use Rattle.stack_code.specs.declared.code.Code.{Code}
+use Rattle.stack_code.specs.declared.code.CodeSub.{CodeSub}
+use Rattle.stack_code.specs.declared.code.Lease.{Lease}
+use Rattle.lower_emission.specs.declared.types.Placed.{Placed}
+use Rattle.lower_emission.specs.Emits.{Emit, listed}
+use Rattle.lower_emission.specs.Bodies as code
+use Rattle.lower_emission.specs.Programs as programs
+use Rattle.lower_emission.specs.Programs.{at_least, behind_main, code_of, code_sub, code_subs, needed, placed_code, text_in}
+use Rattle.ada_lower.specs.Sights.{Named, Scope}
+use Rattle.ada_lower.specs.Emission.{defaulted, put_into, shapes, shapes_cells, stmt, width}
+use Rattle.ada_lower.specs.ProgramCode.{AreNamed, IsCodeOf}
+use Rattle.lower_emission.specs.Texts.{stmt_texts}
+use Rattle.lower_formed.specs.Tables.{HasRows, HasSite, IsTabled}
+use Rattle.lower_formed.proofs.Strings.{Stands, main_stands, sub_stands, t_stmt}
+use Rattle.lower_formed.specs.Law.{LoweredLaw, frame_of, least_need}
+use Rattle.lower_formed.specs.Scopes.{IsScoped, ScopedAll, ScopedHandlers, handling, outset, sub_around}
+use Rattle.lower_formed.specs.Rooms.{AreFrames, HasRoom, frames_of, seen_names}
+use Rattle.lower_formed.proofs.Alike.{Alike, Both}
+use Rattle.lower_formed.proofs.AlikeStatements.{a_main, a_stmt, a_sub}
+use Rattle.lower_formed.proofs.FitsPrograms.{lowered}
+use Rattle.lower_formed.proofs.Placed.{Anywhere, Each, HasRoom', Same, each_both, each_left, each_right, needed_grows, needed_more, needs_enough, roomy_so, same_listed}
+
+both_same : (T : ℕ → ℕ → Type 0) → ((n : ℕ) → T n n) → (o : Option ℕ) → Both T o o
+both_same T r None = tt
+both_same T r (Some n) = r n
+
+module _ (program : Program) where
+  -- ---- parts of the whole code
+
+  module _ (P : Placed → Type 0) where
+    main_left : (decls : Decls) (s : Scope) (q : ℕ) → Each P (listed (code.main_declared program s decls (λ t. code.behind_main program t)) q) → Each P (listed (code.main_declared program s decls (λ t. stmt program t (Block NoDecl program.body.stmts program.body.handlers))) q)
+    main_left NoDecl s q h = each_left P (listed (stmt program s (Block NoDecl program.body.stmts program.body.handlers)) q) _ (each_left P (listed (programs.main_halts program s) q) _ h)
+    main_left (DeclareDefault x more) s q h =
+        let a = listed (defaulted program s s.free x) q in
+        each_both P a _ (each_left P a _ h) (main_left more (code.main_object s (VariableOf x) (length (object_layout program x))) (q + length a) (each_right P a _ h))
+    main_left (DeclareVariable x initial more) s q h =
+        let a = listed (put_into program (Rattle.lower_emission.specs.Scope.taking (width program initial) s) 0 s.free initial) q in
+        each_both P a _ (each_left P a _ h) (main_left more (code.main_object s (VariableOf x) (width program initial)) (q + length a) (each_right P a _ h))
+    main_left (DeclareConstant x initial more) s q h =
+        let a = listed (put_into program (Rattle.lower_emission.specs.Scope.taking (width program initial) s) 0 s.free initial) q in
+        each_both P a _ (each_left P a _ h) (main_left more (code.main_object s (ConstantOf x) (width program initial)) (q + length a) (each_right P a _ h))
+    main_left (Mentions es more) s q h = main_left more s q h
+
+    main_right : (decls : Decls) (s : Scope) (q : ℕ) → Each P (listed (code.main_declared program s decls (λ t. code.behind_main program t)) q) → (r : ℕ) × Each P (listed (code.subs_code program (programs.behind program s decls) 0 program.subs) r)
+    main_right NoDecl s q h = (q + length (listed (programs.main_halts program s) q), each_right P (listed (programs.main_halts program s) q) _ h)
+    main_right (DeclareDefault x more) s q h = let a = listed (defaulted program s s.free x) q in main_right more (code.main_object s (VariableOf x) (length (object_layout program x))) (q + length a) (each_right P a _ h)
+    main_right (DeclareVariable x initial more) s q h =
+        let a = listed (put_into program (Rattle.lower_emission.specs.Scope.taking (width program initial) s) 0 s.free initial) q in main_right more (code.main_object s (VariableOf x) (width program initial)) (q + length a) (each_right P a _ h)
+    main_right (DeclareConstant x initial more) s q h =
+        let a = listed (put_into program (Rattle.lower_emission.specs.Scope.taking (width program initial) s) 0 s.free initial) q in main_right more (code.main_object s (ConstantOf x) (width program initial)) (q + length a) (each_right P a _ h)
+    main_right (Mentions es more) s q h = main_right more s q h
+
+    sub_part : (t : Scope) (subs : List Sub) (n k q : ℕ) (unit : Sub) → sub_at subs k ≡ Some unit → Each P (listed (code.subs_code program t n subs) q) → (r : ℕ) × Each P (listed (code.sub_code program (code.sub_scope program t (n + k) unit) unit) r)
+    sub_part t [] n k q unit e h = absurd (none-some unit e)
+    sub_part t (u ∷ more) n zero q unit e h =
+        let z : n ≡ n + 0 = omega arith in
+        (q, subst (λ j. Each P (listed (code.sub_code program (code.sub_scope program t j unit) unit) q)) z (subst (λ u. Each P (listed (code.sub_code program (code.sub_scope program t n u) u) q)) (some_same u unit e) (each_left P (listed (code.sub_code program (code.sub_scope program t n u) u) q) _ h)))
+    sub_part t (u ∷ more) n (suc k) q unit e h =
+        let a = listed (code.sub_code program (code.sub_scope program t n u) u) q in
+        let (r, w) = sub_part t more (n + 1) k (q + length a) unit e (each_right P a _ h) in
+        let z : n + 1 + k ≡ n + suc k = omega arith in
+        (r, subst (λ j. Each P (listed (code.sub_code program (code.sub_scope program t j unit) unit) r)) z w)
+
+  -- ---- names and rooms
+
+  module _ (text : List ℕ → ℕ) (shown : ℕ → Entity → Bool) (scoped : IsScoped program shown) where
+    abbrev names : Entity → Option Named
+    names = (behind_main program text).object
+
+    abbrev globals : ℕ → Entity → Option Named
+    globals = seen_names shown names
+
+    -- the code of a subprogram, with all of the main procedure's objects and with those that it sees
+    abbrev whole_sub : ℕ → Sub → Emit
+    whole_sub k unit = code.sub_code program (code.sub_scope program (behind_main program text) k unit) unit
+
+    abbrev seen_sub : ℕ → Sub → Emit
+    seen_sub k unit = code.sub_code program (code.sub_scope program (record (behind_main program text) { object = globals k }) k unit) unit
+
+    abbrev main_part : Emit
+    main_part = code.main_declared program (code.main_scope text) program.body.decls (λ t. stmt program t (Block NoDecl program.body.stmts program.body.handlers))
+
+    sub_alike : (T : ℕ → ℕ → Type 0) → ((n : ℕ) → T n n) → (k : ℕ) (unit : Sub) → sub_at program.subs k ≡ Some unit
+        → Alike T (whole_sub k unit) (seen_sub k unit)
+    sub_alike T r k unit e =
+        let t : Scope = behind_main program text in
+        a_sub T program shown (sub_around program (shown k)) k unit t (globals k) t.exits t.entry
+        ((λ y q. sym (ap (λ b. cond b (names y) None) q)), (λ n. both_same T r (t.exits n)), both_same T r t.entry) (scoped.subs k unit e)
+
+    pub are_named : AreNamed program text globals
+    are_named = record { same = λ k unit e q. same_listed (whole_sub k unit) (seen_sub k unit) (sub_alike Same (λ n. refl) k unit e) q }
+
+    main_alike : Alike Anywhere main_part main_part
+    main_alike =
+        a_main Anywhere program shown outset (code.main_scope text) (λ y. None) (λ n. None) None program.body.decls _ _ (λ v. ScopedAll program shown v program.body.stmts × ScopedHandlers program shown (handling v) program.body.handlers)
+        ((λ y q. refl), (λ n. tt), tt) scoped.main (λ u t o xs en k q. a_stmt Anywhere program shown u t o xs en (Block NoDecl program.body.stmts program.body.handlers) k q)
+
+    pub has_room : (room : Around → ℕ) → Each (HasRoom' room) (listed (code.program_code program text) 0) → HasRoom program text globals room
+    has_room room h = record {
+      main = roomy_so room main_part main_part main_alike 0 (main_left (HasRoom' room) program.body.decls (code.main_scope text) 0 h);
+      subs = λ k unit e.
+          let (r, w) = main_right (HasRoom' room) program.body.decls (code.main_scope text) 0 h in
+          let (q, x) = sub_part (HasRoom' room) (behind_main program text) program.subs 0 k r unit e w in
+          let z : 0 + k ≡ k = omega arith in
+          roomy_so room (whole_sub k unit) (seen_sub k unit) (sub_alike Anywhere (λ n. tt) k unit e) q (subst (λ j. Each (HasRoom' room) (listed (code.sub_code program (code.sub_scope program (behind_main program text) j unit) unit) q)) z x);
+    }
+
+  -- ---- the table of subprograms
+
+  sub_row : (text : List ℕ → ℕ) (c : List Placed) (subs : List Sub) (n k : ℕ) (unit : Sub) → sub_at subs k ≡ Some unit → slice_get (code_subs program text c n subs) k ≡ Some (code_sub program text c (n + k) unit)
+  sub_row text c [] n k unit e = absurd (none-some unit e)
+  sub_row text c (u ∷ more) n zero unit e = let z : n ≡ n + 0 = omega arith in ap (λ j. Some (code_sub program text c j u)) z ∙ ap (λ u. Some (code_sub program text c (n + 0) u)) (some_same u unit e)
+  sub_row text c (u ∷ more) n (suc k) unit e = let z : n + 1 + k ≡ n + suc k = omega arith in sub_row text c more (n + 1) k unit e ∙ ap (λ j. Some (code_sub program text c j unit)) z
+
+  row_sub : (text : List ℕ → ℕ) (c : List Placed) (subs : List Sub) (n k : ℕ) (is : CodeSub) → slice_get (code_subs program text c n subs) k ≡ Some is → (unit : Sub) × (is ≡ code_sub program text c (n + k) unit)
+  row_sub text c [] n k is e = absurd (none-some is e)
+  row_sub text c (u ∷ more) n zero is e = let z : n ≡ n + 0 = omega arith in (u, sym (some_same (code_sub program text c n u) is e) ∙ ap (λ j. code_sub program text c j u) z)
+  row_sub text c (u ∷ more) n (suc k) is e = let z : n + 1 + k ≡ n + suc k = omega arith in let (unit, w) = row_sub text c more (n + 1) k is e in (unit, w ∙ ap (λ j. code_sub program text c j unit) z)
+
+  later : (x : CodeSub) (xs : List CodeSub) (k : ℕ) → slice_get (x ∷ xs) (k + 1) ≡ slice_get xs k
+  later x xs k = let z : k + 1 ≡ suc k = omega arith in ap (λ j. slice_get (x ∷ xs) j) z
+
+  module _ (leases : ℕ → List Lease) where
+    abbrev ps : List Placed
+    ps = placed_code program
+
+    pub is_code : IsCodeOf program (text_in program) (code_of program leases)
+    is_code = record {
+      lists = record { instrs = refl; unwind = refl };
+      subs = λ k unit e.
+          let z : 0 + k ≡ k = omega arith in
+          let row : CodeSub = code_sub program (text_in program) ps k unit in (
+            row,
+            later _ (code_subs program (text_in program) ps 0 program.subs) k ∙ sub_row (text_in program) ps program.subs 0 k unit e ∙ ap (λ j. Some (code_sub program (text_in program) ps j unit)) z,
+            refl,
+            (let g : shapes_cells (shapes program unit.formals) ≤ (needed (body.Sub (k + 1)) (at_least (shapes_cells (shapes program unit.formals))) ps).cells = needed_grows (body.Sub (k + 1)) (at_least (shapes_cells (shapes program unit.formals))) ps in omega (arith, g)),
+          );
+    }
+
+    pub are_frames : AreFrames (code_of program leases) (frame_of program) (frame_of program (body.Sub 0))
+    are_frames = record {
+      main = omega arith;
+      subs = λ k is e.
+          let (unit, w) = row_sub (text_in program) ps program.subs 0 k is (sym (later _ (code_subs program (text_in program) ps 0 program.subs) k) ∙ e) in
+          let z : 0 + k ≡ k = omega arith in
+          let same : is.frame ≡ (needed (body.Sub (k + 1)) (at_least (shapes_cells (shapes program unit.formals))) ps).cells + 1 = ap (λ i. i.frame) w ∙ ap (λ j. (needed (body.Sub (j + 1)) (at_least (shapes_cells (shapes program unit.formals))) ps).cells + 1) z in
+          let y = needed_more (body.Sub (k + 1)) (at_least 0) (at_least (shapes_cells (shapes program unit.formals))) ps (omega arith) in
+          omega (arith, same, y);
+    }
+
+-- strings stand in the code's table
+is_tabled : (program : Program) (leases : ℕ → List Lease) (frames : ℕ → ℕ) (depth : ℕ) → HasRows program (code_of program leases) frames depth → IsTabled program (text_in program) (code_of program leases) frames depth
+unfolding stmt_texts
+is_tabled program leases frames depth rows = record {
+  main = t_stmt (Stands program) (HasSite (code_of program leases) frames) depth (Block program.body.decls program.body.stmts program.body.handlers) (λ bytes o. main_stands program bytes o) rows.main;
+  subs = λ k unit e. t_stmt (Stands program) (HasSite (code_of program leases) frames) depth (Block unit.body.decls unit.body.stmts unit.body.handlers) (λ bytes o. sub_stands program k unit bytes e o) (rows.subs k unit e);
+}
+
+pub lowered_law : LoweredLaw
+lowered_law program shown leases depth formed filled scoped stays rows =
+    let tabled = is_tabled program leases (frames_of (frame_of program)) depth rows in
+    let c : Code = code_of program leases in
+    let text = text_in program in
+    lowered program text c shown depth formed filled scoped (frame_of program) tabled stays.0 (stays.1, stays.2) (is_code program leases) (are_named program text shown scoped)
+    (has_room program text shown scoped (frame_of program) (needs_enough least_need (placed_code program))) (frame_of program (body.Sub 0)) (are_frames program leases)

@@ -1,0 +1,349 @@
+-- Expressions, values, aggregates and actual parameters that are formed and in scope fit their code.
+use Rattle.std.proofs.Common.{◌≡◌, ℕ, zero, suc, ◌+◌, ◌≤◌, List, [], ◌∷◌, Option, Some, None, Bool, true, false, cond, refl, sym, ap, ◌∙◌, subst, arith}
+use Rattle.behaviours.specs.Paths.{Entity, ConstantOf}
+use Rattle.typed_tree.specs.declared.expressions.Reducer.{Reducer}
+use Rattle.typed_tree.specs.declared.expressions.Reducer.TheVariants.{Operator, Function}
+use Rattle.typed_tree.specs.declared.expressions.Root.{Root}
+use Rattle.typed_tree.specs.declared.expressions.Run.{Run}
+use Rattle.typed_tree.specs.declared.scalars.Check.{Check}
+use Rattle.typed_tree.specs.declared.program.Formal.{Formal}
+use Rattle.typed_tree.specs.Syntax.{Expr, Static, Variable, Constant, Parameter, Target, Group, Unary, Binary, AndThen, OrElse, Relation, Membership, If, Call, Convert, Reduction, Optional, Absent, Present, Selections, Whole, Field, Index, Actuals, NoActual, In, InOut, Out, CompositeInOut, CompositeOut, Value, Number, Cells, Composite, WholeVariable, WholeConstant, WholeTarget, CompositeIf, Aggregate, Associations, NoAssociation, Association, Range, Components, Chunk, NoChunk, Count, Each, Sub, Program}
+use Rattle.ada_meaning.specs.Meaning.{sub_at}
+use Rattle.ada_meaning.specs.Formed.{FormedActuals, FormedAssociations, FormedChunk, FormedComposite, FormedExpr, FormedOptional, FormedSelections, FormedValue, Known, Spans, SpansConstant}
+use Rattle.stack_code.specs.declared.code.Around as body
+use Rattle.stack_code.specs.declared.code.Around.TheVariants.{Site}
+use Rattle.stack_code.specs.declared.code.Code.{Code}
+use Rattle.stack_code.specs.declared.code.SiteKind.{SiteKind}
+use Rattle.lower_emission.specs.Emits.{Emit}
+use Rattle.lower_emission.specs.Scope.{none}
+use Rattle.ada_lower.specs.Sights.{Named, Scope, Sight, chunk_sight, constant_root_of, item_sight, iterated_sight, nested_sight, passing, range_sight, root_of, taking, thread_sight, turn_sight}
+use Rattle.ada_lower.specs.Emission.{Shape, associated, chunk_code, component, composed, composite_width, emit, filtered, folding, formals_in, is_plain, passed, put_into, selected, shapes, shapes_cells, width}
+use Rattle.ada_lower.specs.Fitted.{Callable, Fitted, FittedAssociations, FittedComponent, FittedComposite, FittedFold, FittedIn, FittedOptional, FittedRuns, FittedSelections, FittedValue}
+use Rattle.ada_lower.specs.FittedForks.{unleased, FittedChunk, FittedReductions}
+use Rattle.lower_formed.specs.Scopes as scopes
+use Rattle.lower_formed.specs.Scopes.{Around, ArraySeen, Called, ConstantSeen, IsFolded, LieWithin, ScopedAssociations, ScopedChunk, ScopedComposite, ScopedExpr, ScopedIn, ScopedIteration, ScopedOptional, ScopedReducer, ScopedSelections, ScopedValue, VariableSeen, with_chunk, with_parameter}
+use Rattle.lower_formed.specs.Tables.{HasSite, TabledActuals, TabledAssociations, TabledChunk, TabledComposite, TabledExpr, TabledOptional, TabledSelections, TabledValue}
+use Rattle.lower_formed.specs.Rooms.{Roomy}
+use Rattle.lower_formed.proofs.Formals.{AreApart, Behind, behind_none, behind_one, formals_are, formals_at, here_is}
+use Rattle.lower_formed.proofs.Room.{composed_room, part_room, passed_room}
+use Rattle.lower_formed.proofs.Sees.{Sees, sees_chunk, sees_iterated, sees_nested, sees_range, sees_taking, sees_thread}
+use Rattle.lower_formed.proofs.Walks.{Through, chunk_free, filled_room, kept, positive, reached_constant, reached_variable, through, turned_room}
+
+-- a value that is given so many cells has them
+mutual
+  pub width_is : (program : Program) (shown : ℕ → Entity → Bool) (v : Around) (n : ℕ) (x : Value) → ScopedValue program shown v n x → width program x ≡ n
+  width_is program shown v n (Number check e) p = sym p.0
+  width_is program shown v n (Cells c) p = composite_is program shown v n c p
+
+  pub composite_is : (program : Program) (shown : ℕ → Entity → Bool) (v : Around) (n : ℕ) (c : Composite) → ScopedComposite program shown v n c → composite_width program c ≡ n
+  composite_is program shown v n (WholeVariable at r selections subtype) p = p.0
+  composite_is program shown v n (WholeConstant at r selections subtype) p = p.0
+  composite_is program shown v n (WholeTarget at subtype) p = p.0
+  composite_is program shown v n (CompositeIf condition value otherwise) p = composite_is program shown v n value p.1
+  composite_is program shown v n (Aggregate at size associations) p = p.0
+
+module _ (program : Program) (globals : ℕ → Entity → Option Named) (mains : Entity → Bool) (c : Code) (T : List ℕ → Type 0) (frames : ℕ → ℕ) (room : body.Around → ℕ)
+    (threads : (n : ℕ) → room (Site n) ≡ frames n) (apart : (k : ℕ) (unit : Sub) → sub_at program.subs k ≡ Some unit → AreApart (shapes program unit.formals))
+    (names : Entity → Option Named) (shown : ℕ → Entity → Bool) (shows : (sub : ℕ) (y : Entity) (n : Named) → globals sub y ≡ Some n → (shown sub y ≡ true) × (names y ≡ Some n)) where
+  abbrev pub S : Known → Around → Sight → Type 0
+  S = Sees program names mains T frames room
+
+  abbrev pub R : Emit → Type 0
+  R = Roomy room
+
+  abbrev pub Fold : ℕ → Sight → Expr → Type 0
+  Fold n = FittedReductions program globals mains unleased c n
+
+  abbrev pub Row : ℕ → SiteKind → ℕ → Type 0
+  Row = HasSite c frames
+
+  pub runs_fit : (n m : ℕ) (rs : List Run) → LieWithin n m rs → FittedRuns program globals mains n m rs
+  runs_fit n m [] h = tt
+  runs_fit n m (r ∷ rs) h = (h.1, runs_fit n m rs h.2)
+
+  abbrev pub callable : {w : Known} {v : Around} {i : Sight} (sub : ℕ) → S w v i → (u : Called program shown v sub) → Callable program globals mains i sub
+  callable sub k u = record { unit = u.unit; is = u.is; outer = λ y n e. let (seen, is) = shows sub y n e in k.global y n (u.may y seen) is; main = k.main }
+
+  -- the cells of a call's formals
+  pub passing_free : (i : Sight) (sub : ℕ) (unit : Sub) → sub_at program.subs sub ≡ Some unit → i.scope.free + shapes_cells (shapes program unit.formals) ≡ (passing program sub i).scope.free
+  passing_free i sub unit is = ap (λ fs. i.scope.free + shapes_cells (shapes program fs)) (sym (formals_are program sub unit is))
+
+  pub reducer_fits : (w : Known) (v : Around) (i : Sight) (h : ℕ) (by : Reducer) → S w v i → ScopedReducer program shown v by → R (folding i.scope h by) → FittedFold program globals mains i by
+  reducer_fits w v i h (Operator at op class) k p m = tt
+  reducer_fits w v i h (Function at sub accumulator value) k p m =
+      let u = p.0 in
+      let x = p.2.0 in
+      let y = p.2.1 in
+      let ex = p.2.3 in
+      let ey = p.2.4 in
+      let fs : shapes program u.unit.formals ≡ record { formal = ConstantOf x; back = false; cells = 1 } ∷ record { formal = ConstantOf y; back = false; cells = 1 } ∷ [] =
+      ap (shapes program) p.2.2 ∙ ap (λ n. record { formal = ConstantOf x; back = false; cells = n } ∷ record { formal = ConstantOf y; back = false; cells = scopes.object_cells program y } ∷ []) ex
+      ∙ ap (λ n. record { formal = ConstantOf x; back = false; cells = 1 } ∷ record { formal = ConstantOf y; back = false; cells = n } ∷ []) ey in
+      let at : Rattle.ada_meaning.specs.Meaning.formals_of program.subs sub ≡ scopes.formal_of x Rattle.typed_tree.specs.declared.program.Mode.TheVariants.In ∷ scopes.formal_of y Rattle.typed_tree.specs.declared.program.Mode.TheVariants.In ∷ [] = formals_at program.subs sub u.unit u.is ∙ p.2.2 in
+      let lt = kept i.scope.free (i.scope.free + 1) (room i.scope.body) i.cells m.0 k.enough in (
+        callable sub k u,
+        p.1,
+        omega (arith, lt),
+        fs ∙ sym (ap (λ fs. record { formal = ConstantOf (Rattle.ada_meaning.specs.Meaning.formal_at fs 0); back = false; cells = 1 } ∷ record { formal = ConstantOf (Rattle.ada_meaning.specs.Meaning.formal_at fs 1); back = false; cells = 1 } ∷ []) at),
+      )
+
+  -- a reducer is known wherever the same subprograms may be called
+  pub reducer_as : (v u : Around) (by : Reducer) → ((y : Entity) → u.outer y ≡ v.outer y) → ScopedReducer program shown v by → ScopedReducer program shown u by
+  reducer_as v u (Operator at op class) same p = tt
+  reducer_as v u (Function at sub accumulator value) same p = (record { unit = p.0.unit; is = p.0.is; may = λ y e. same y ∙ p.0.may y e }, p.1, p.2)
+
+  pub room_where : (b : Bool) (a : Emit) → b ≡ false → R (cond b none a) → R a
+  room_where true a e m = absurd (let z : true ≡ false = e in cc)
+  room_where false a e m = m
+
+  pub filtered_body : (s : Scope) (h : ℕ) (filter : Optional) (b : Emit) → R (filtered program s h filter b) → R b
+  unfolding filtered
+  filtered_body s h Absent b m = m
+  filtered_body s h (Present e) b m = m.1.1
+
+  pub thread_room : (site : ℕ) {of : SiteKind} {least : ℕ} (h : Row site of least) → room (Site site) ≤ h.row.frame
+  thread_room site h = let z = threads site in let y = h.frame in omega (arith, z, y)
+
+  pub sited : (i : Sight) {w : Known} {v : Around} → S w v i → (site : ℕ) {of : SiteKind} {least : ℕ} (h : Row site of least) → i.frames site ≡ h.row.frame
+  sited i k site h = k.rows site ∙ h.frame
+
+  -- the sight of a turn over a range in a thread
+  pub turn_sees : {w : Known} {v : Around} {i : Sight} (site cells : ℕ) (chunk : Chunk) (p : ℕ) (low high : Expr) (check : Option Check) (filter : Optional) → room (Site site) ≤ cells → 4 ≤ cells → S w v i
+      → S w (with_parameter p (with_chunk chunk v)) (turn_sight (thread_sight site cells i) chunk (Range p false low high check filter))
+  turn_sees {w} {v} {i} site cells chunk p low high check filter le four k =
+      let t : Sight = thread_sight site cells i in
+      let e : (chunk_sight chunk (taking 2 t)).scope.free ≡ 2 = chunk_free chunk (taking 2 t).scope in
+      sees_range program names mains T frames room None p false 0 (omega (arith, e, four))
+      (sees_chunk program names mains T frames room chunk (sees_taking program names mains T frames room 2 (omega (arith, four)) (sees_thread program names mains T frames room site cells le k)))
+
+  pub item_turn_sees : {w : Known} {v v' : Around} {i : Sight} (site cells : ℕ) (chunk : Chunk) (p : ℕ) (constant : Bool) (at : ℕ) (r : Root) (x : Selections) (number stride dimensions : ℕ) (filter : Optional) (does : Known → Type 0)
+      → (g : Through program names mains T frames room w v' p constant r x number stride filter does) → room (Site site) ≤ cells → 5 ≤ cells → S w v i
+      → S g.inner (with_chunk chunk v) (turn_sight (thread_sight site cells i) chunk (Components p constant at r x number stride dimensions filter))
+  item_turn_sees {w} {v} {v'} {i} site cells chunk p constant at r x number stride dimensions filter does g le five k =
+      let t : Sight = thread_sight site cells i in
+      let e : (chunk_sight chunk (taking 2 t)).scope.free ≡ 2 = chunk_free chunk (taking 2 t).scope in
+      g.turn (with_chunk chunk v) (chunk_sight chunk (taking 2 t)) (omega (arith, e, five))
+      (sees_chunk program names mains T frames room chunk (sees_taking program names mains T frames room 2 (omega (arith, five)) (sees_thread program names mains T frames room site cells le k)))
+
+  mutual
+    unfolding emit
+
+    pub fits : (n : ℕ) (i : Sight) (w : Known) (v : Around) (h : ℕ) (e : Expr) → S w v i → FormedExpr program w e → ScopedExpr program shown v e → TabledExpr T Row n e → R (emit program i.scope h e) → Fitted program globals mains (Fold n) i e
+    fits n i w v h (Static at value literal mentions) k f p t m = tt
+    fits n i w v h (Variable at r x scalar) k f p t m = (reached_variable program names mains T frames room r x 1 k f.0 p.0, fits_selections n i w v (h + 1) x k f.1 p.1 t (part_room program room i.scope i.scope h (root_of i.scope r) x m))
+    fits n i w v h (Constant at r x scalar) k f p t m = (reached_constant program names mains T frames room r x 1 k f.0 p.0, fits_selections n i w v (h + 1) x k f.1 p.1 t (part_room program room i.scope i.scope h (constant_root_of i.scope r) x m))
+    fits n i w v h (Parameter at j) k f p t m = k.parameter j p
+    fits n i w v h (Target at scalar) k f p t m = let (j, e, one) = p in let (o, is, le) = k.target j e in (o, is, omega (arith, one, le))
+    fits n i w v h (Group e) k f p t m = fits n i w v h e k f p t m
+    fits n i w v h (Unary at sign class e) k f p t m = fits n i w v h e k f.1 p t m.0
+    fits n i w v h (Binary at op class e g) k f p t m = (fits n i w v h e k f.1 p.0 t.0 m.0, fits n i w v (h + 1) g k f.2 p.1 t.1 m.1.0)
+    fits n i w v h (AndThen e g) k f p t m = (fits n i w v h e k f.0 p.0 t.0 m.0, fits n i w v h g k f.1 p.1 t.1 m.1.1)
+    fits n i w v h (OrElse e g) k f p t m = (fits n i w v h e k f.0 p.0 t.0 m.0, fits n i w v h g k f.1 p.1 t.1 m.1.2)
+    fits n i w v h (Relation class comparison e g) k f p t m = (fits n i w v h e k f.1 p.0 t.0 m.0, fits n i w v (h + 1) g k f.2 p.1 t.1 m.1.0)
+    fits n i w v h (Membership class negated e low high) k f p t m =
+        let lt = kept i.scope.free (i.scope.free + 1) (room i.scope.body) i.cells m.1.1.1.0 k.enough in (
+          lt,
+          fits n i w v h e k f.1 p.0 t.0 m.0,
+          fits n (taking 1 i) w v h low (sees_taking program names mains T frames room 1 (omega (arith, lt)) k) f.2 p.1 t.1 m.1.1.0,
+          fits n (taking 2 i) w v h high (sees_taking program names mains T frames room 2 (omega (arith, lt)) k) f.3 p.2 t.2 m.1.1.1.1.0,
+        )
+    fits n i w v h (If condition value otherwise) k f p t m = (fits n i w v h condition k f.0 p.0 t.0 m.0, fits n i w v h value k f.1 p.1 t.1 m.1.1, fits n i w v h otherwise k f.2 p.2 t.2 m.1.2)
+    fits n i w v h (Call at callee sub actuals) k f p t m =
+        let u = p.0 in
+        let whole = passing_free i sub u.unit u.is in
+        let le : (passing program sub i).scope.free ≤ room i.scope.body = passed_room program room (passing program sub i).scope h sub i.scope.free actuals m.0 (λ e.
+        let none : u.unit.formals ≡ [] = subst (λ x. ScopedIn program shown v u.unit.formals x) e p.2 in
+        let z : i.scope.free + shapes_cells (shapes program u.unit.formals) ≡ i.scope.free + 0 = ap (λ fs. i.scope.free + shapes_cells (shapes program fs)) none in
+        let y = m.1 in omega (arith, z, y, whole)) in
+        let enough = k.enough in (
+          callable sub k u,
+          p.1,
+          whole,
+          omega (arith, le, enough),
+          fits_in n (passing program sub i) w v h sub i.scope.free 0 u.unit.formals actuals (sees_taking program names mains T frames room _ (omega (arith, le, enough)) k) f.1 p.2 t m.0
+              (subst (λ fs. Behind (shapes program fs) i.scope.free 0 (shapes program u.unit.formals)) (sym (formals_are program sub u.unit u.is)) (behind_none (shapes program u.unit.formals) i.scope.free (apart sub u.unit u.is))),
+        )
+    fits n i w v h (Convert check e) k f p t m = fits n i w v h e k f p t m.0
+    fits n i w v h (Reduction at attribute by initial None chunk (Range p reverse low high check filter) value) k f q t m =
+        let (ql, qh, qf, qv) = q.4 in
+        let lt = kept i.scope.free (i.scope.free + 1) (room i.scope.body) i.cells m.1.1.1.1.0 k.enough in
+        let sees : S w (with_parameter p v) (range_sight i None p reverse 0) = sees_range program names mains T frames room None p reverse 0 (omega (arith, lt)) k in
+        let turn = m.1.1.1.1.1.1.1.1.1 0 in
+        let same : with_chunk chunk v ≡ v = ap (λ c. with_chunk c v) q.3 in
+        let body = filtered_body (range_sight i None p reverse 0).scope (h + 1) filter _ turn.1 in (
+          fits n i w v h initial k f.1 q.0 t.0 m.0,
+          lt,
+          fits n i w v (h + 1) low k f.3.0 ql t.1.0 m.1.0,
+          fits n (taking 1 i) w v (h + 1) high (sees_taking program names mains T frames room 1 (omega (arith, lt)) k) f.3.1 qh t.1.1 m.1.1.1.0,
+          fits_optional n (range_sight i None p reverse 0) w (with_parameter p v) (h + 1) filter _ sees f.3.2 (subst (λ u. ScopedOptional program shown (with_parameter p u) filter) same qf) t.1.2 turn.1,
+          fits n (range_sight i None p reverse 0) w (with_parameter p v) (h + 1) value sees f.3.3 (subst (λ u. ScopedExpr program shown (with_parameter p u) value) same qv) t.2 body.0,
+          reducer_fits w (with_parameter p v) (range_sight i None p reverse 0) h by sees (reducer_as v (with_parameter p v) by (λ y. refl) q.2) body.1,
+        )
+    fits n i w v h (Reduction at attribute by initial None chunk (Components p constant a r x number stride dimensions filter) value) k f q t m =
+        let (some, seen, qs, qf, qv) = q.4 in
+        let g = through program names mains T frames room p constant a r x number stride dimensions filter (λ w. FormedExpr program w value) f.3 seen in
+        let walk = room_where (Rattle.std.specs.Prelude.nat_eq number 0) _ (positive number some) m.1.1 in
+        let lt = kept i.scope.free (i.scope.free + 1 + 1) (room i.scope.body) i.cells walk.1.1.1.0 k.enough in
+        let there : Sight = item_sight i None constant p stride 0 in
+        let sees : S g.inner v there = g.item v i None 0 (omega (arith, lt)) k in
+        let turn = walk.1.1.1.1.1 0 in
+        let same : with_chunk chunk v ≡ v = ap (λ c. with_chunk c v) q.3 in
+        let body = filtered_body there.scope (h + 1) filter _ turn.1 in (
+          fits n i w v h initial k f.1 q.0 t.0 m.0,
+          lt,
+          g.reached i k,
+          fits_selections n i w v (h + 1 + 1) x k g.selections qs t.1.0 m.1.0.1.0,
+          fits_optional n there g.inner v (h + 1) filter _ sees g.filter (subst (λ u. ScopedOptional program shown u filter) same qf) t.1.1 turn.1,
+          fits n there g.inner v (h + 1) value sees g.does_so (subst (λ u. ScopedExpr program shown u value) same qv) t.2 body.0,
+          reducer_fits g.inner v there h by sees q.2 body.1,
+        )
+    fits zero i w v h (Reduction at attribute by initial (Some site) chunk iteration value) k f q t m = absurd t
+    fits (suc n) i w v h (Reduction at attribute (Function token sub accumulator operand) initial (Some site) chunk iteration value) k f q t m = absurd q.3
+    fits (suc n) i w v h (Reduction at attribute (Operator token op class) initial (Some site) chunk (Range p true low high check filter) value) k f q t m = absurd (let z : true ≡ false = q.3 in cc)
+    fits (suc n) i w v h (Reduction at attribute (Operator token op class) initial (Some site) chunk (Range p false low high check filter) value) k f q t m =
+        let (ql, qh, qf, qv) = q.4 in
+        let row = t.0 in
+        let lt = kept (i.scope.free + 1 + 2) (i.scope.free + 1 + 2 + 1) (room i.scope.body) i.cells m.1.1.1.1.0.1.1.1.0 k.enough in
+        let k1 = sees_nested program names mains T frames room (sees_taking program names mains T frames room 1 (omega (arith, lt)) k) in
+        let k2 = sees_taking program names mains T frames room 2 (omega (arith, lt)) k1 in
+        let k3 = sees_taking program names mains T frames room 1 (omega (arith, lt)) k2 in
+        let there : Sight = turn_sight (thread_sight site row.row.frame (taking 2 (taking 2 (taking 1 i)))) chunk (Range p false low high check filter) in
+        let sees : S w (with_parameter p (with_chunk chunk v)) there = turn_sees site row.row.frame chunk p low high check filter (thread_room site row) row.enough k in
+        let turn = m.1.1.1.1.1.1.0.1.1.1.1.1.1.0.1.1.1 0 in
+        let body = filtered_body there.scope 1 filter _ turn.1 in (
+          row.row,
+          (row.is, sited i k site row, row.enough, row.entry),
+          tt,
+          row.kind,
+          omega (arith, lt),
+          fits n i w v h initial k f.1 q.0 t.1 m.0,
+          fits_chunk n (nested_sight (taking 1 i)) w v h chunk k1 f.2 q.1 t.2 m.1.1.1.0,
+          fits n (taking 2 (nested_sight (taking 1 i))) w v h low k2 f.3.0 ql t.3.0 m.1.1.1.1.0.0,
+          fits n (taking 1 (taking 2 (nested_sight (taking 1 i)))) w v h high k3 f.3.1 qh t.3.1 m.1.1.1.1.0.1.1.0,
+          fits_optional n there w (with_parameter p (with_chunk chunk v)) 1 filter _ sees f.3.2 qf t.3.2 turn.1,
+          fits n there w (with_parameter p (with_chunk chunk v)) 1 value sees f.3.3 qv t.4 body.0,
+        )
+    fits (suc n) i w v h (Reduction at attribute (Operator token op class) initial (Some site) chunk (Components p constant a r x number stride dimensions filter) value) k f q t m =
+        let (some, seen, qs, qf, qv) = q.4 in
+        let row = t.0 in
+        let g = through program names mains T frames room p constant a r x number stride dimensions filter (λ w. FormedExpr program w value) f.3 seen in
+        let lt = kept (i.scope.free + 1 + 2) (i.scope.free + 1 + 2) (room i.scope.body) i.cells m.1.1.1.1.0.1.1 k.enough in
+        let k1 = sees_nested program names mains T frames room (sees_taking program names mains T frames room 1 (omega (arith, lt)) k) in
+        let k2 = sees_taking program names mains T frames room 2 (omega (arith, lt)) k1 in
+        let there : Sight = turn_sight (thread_sight site row.row.frame (taking 2 (taking 2 (taking 1 i)))) chunk (Components p constant a r x number stride dimensions filter) in
+        let sees : S g.inner (with_chunk chunk v) there = item_turn_sees site row.row.frame chunk p constant a r x number stride dimensions filter (λ w. FormedExpr program w value) g (thread_room site row) row.enough k in
+        let turn = m.1.1.1.1.1.1.0.1.1.1.1.1.1.0.1.1.1.1.1.1.1 0 in
+        let body = filtered_body there.scope 1 filter _ turn.1 in
+        let enough = row.enough in (
+          row.row,
+          (row.is, sited i k site row, omega (arith, enough), row.entry),
+          tt,
+          row.enough,
+          row.kind,
+          omega (arith, lt),
+          fits n i w v h initial k f.1 q.0 t.1 m.0,
+          fits_chunk n (nested_sight (taking 1 i)) w v h chunk k1 f.2 q.1 t.2 m.1.1.1.0,
+          g.reached (taking 2 (nested_sight (taking 1 i))) k2,
+          fits_selections n (taking 2 (nested_sight (taking 1 i))) w v (h + 1) x k2 g.selections qs t.3.0 m.1.1.1.1.0.1.0,
+          fits_optional n there g.inner (with_chunk chunk v) 1 filter _ sees g.filter qf t.3.1 turn.1,
+          fits n there g.inner (with_chunk chunk v) 1 value sees g.does_so qv t.4 body.0,
+        )
+
+    pub fits_chunk : (n : ℕ) (i : Sight) (w : Known) (v : Around) (h : ℕ) (x : Chunk) → S w v i → FormedChunk program w x → ScopedChunk program shown v x → TabledChunk T Row n x → R (chunk_code program i.scope h x) → FittedChunk program globals mains (Fold n) i x
+    fits_chunk n i w v h NoChunk k f p t m = tt
+    fits_chunk n i w v h (Count e) k f p t m =
+        let lt = kept i.scope.free i.scope.free (room i.scope.body) i.cells m.1.0 k.enough in
+        fits n (taking 1 i) w v h e (sees_taking program names mains T frames room 1 (omega (arith, lt)) k) f p t m.1.1.0
+    fits_chunk n i w v h (Each p low high check) k f q t m =
+        let lt = kept i.scope.free i.scope.free (room i.scope.body) i.cells m.1.0 k.enough in
+        (fits n i w v h low k f.0 q.0 t.0 m.0, fits n (taking 1 i) w v h high (sees_taking program names mains T frames room 1 (omega (arith, lt)) k) f.1 q.1 t.1 m.1.1.0)
+
+    pub fits_optional : (n : ℕ) (i : Sight) (w : Known) (v : Around) (h : ℕ) (o : Optional) (b : Emit) → S w v i → FormedOptional program w o → ScopedOptional program shown v o → TabledOptional T Row n o → R (filtered program i.scope h o b) → FittedOptional program globals mains (Fold n) i o
+    fits_optional n i w v h Absent b k f p t m = tt
+    fits_optional n i w v h (Present e) b k f p t m = fits n i w v h e k f p t m.0
+
+    pub fits_selections : (n : ℕ) (i : Sight) (w : Known) (v : Around) (h : ℕ) (x : Selections) → S w v i → FormedSelections program w x → ScopedSelections program shown v x → TabledSelections T Row n x → R (selected program i.scope h x) → FittedSelections program globals mains (Fold n) i x
+    fits_selections n i w v h Whole k f p t m = tt
+    fits_selections n i w v h (Field number offset rest) k f p t m = fits_selections n i w v h rest k f p t m.1
+    fits_selections n i w v h (Index at e low high stride rest) k f p t m = (fits n i w v h e k f.0 p.0 t.0 m.0, fits_selections n i w v h rest k f.1 p.1 t.1 m.1.1)
+
+    pub fits_in : (n : ℕ) (i : Sight) (w : Known) (v : Around) (h sub base from : ℕ) (fs : List Formal) (x : Actuals) → S w v i → FormedActuals program w x → ScopedIn program shown v fs x → TabledActuals T Row n x → R (passed program i.scope h sub base x)
+        → Behind (shapes program (formals_in program sub)) base from (shapes program fs) → FittedIn program globals mains (Fold n) i sub base from (shapes program fs) x
+    fits_in n i w v h sub base from fs NoActual k f p t m b = ap (shapes program) p
+    fits_in n i w v h sub base from fs (In x (Number check e) rest) k f p t m b =
+        let (gs, is, (one, pe), pr) = p in
+        let all = shapes program (formals_in program sub) in
+        let me : Shape = record { formal = ConstantOf x; back = false; cells = scopes.object_cells program x } in
+        let b' : Behind all base from (me ∷ shapes program gs) = subst (λ hs. Behind all base from hs) (ap (shapes program) is) b in (
+          shapes program gs,
+          ap (shapes program) is ∙ ap (λ n. record { formal = ConstantOf x; back = false; cells = n } ∷ shapes program gs) one,
+          here_is all base from me (shapes program gs) b',
+          fits n i w v h e k f.0 pe t.0 m.0.0,
+          fits_in n i w v h sub base (from + 1) gs rest k f.1 pr t.1 m.1 (behind_one all base from (from + 1) me (shapes program gs) (omega (arith, one)) b'),
+        )
+    fits_in n i w v h sub base from fs (In x (Cells c) rest) k f p t m b =
+        let (gs, is, pe, pr) = p in
+        let all = shapes program (formals_in program sub) in
+        let cells = scopes.object_cells program x in
+        let me : Shape = record { formal = ConstantOf x; back = false; cells = cells } in
+        let b' : Behind all base from (me ∷ shapes program gs) = subst (λ hs. Behind all base from hs) (ap (shapes program) is) b in (
+          shapes program gs,
+          cells,
+          ap (shapes program) is,
+          here_is all base from me (shapes program gs) b',
+          fits_composite n i w v h _ cells c k f.0 pe t.0 m.0,
+          fits_in n i w v h sub base (from + cells) gs rest k f.1 pr t.1 m.1 (behind_one all base from (from + cells) me (shapes program gs) (omega arith) b'),
+        )
+    fits_in n i w v h sub base from fs (InOut x at r selections inner outer rest) k f p t m b = absurd p
+    fits_in n i w v h sub base from fs (Out x at r selections inner outer rest) k f p t m b = absurd p
+    fits_in n i w v h sub base from fs (CompositeInOut x at r selections subtype rest) k f p t m b = absurd p
+    fits_in n i w v h sub base from fs (CompositeOut x at r selections subtype rest) k f p t m b = absurd p
+
+    pub fits_value : (n : ℕ) (i : Sight) (w : Known) (v : Around) (h to cells : ℕ) (x : Value) → S w v i → FormedValue program w x → ScopedValue program shown v cells x → TabledValue T Row n x → R (put_into program i.scope h to x) → FittedValue program globals mains (Fold n) i cells x
+    fits_value n i w v h to cells (Number check e) k f p t m = (p.0, fits n i w v h e k f p.1 t m.0)
+    fits_value n i w v h to cells (Cells c) k f p t m = fits_composite n i w v h to cells c k f p t m
+
+    pub fits_composite : (n : ℕ) (i : Sight) (w : Known) (v : Around) (h to cells : ℕ) (x : Composite) → S w v i → FormedComposite program w x → ScopedComposite program shown v cells x → TabledComposite T Row n x → R (composed program i.scope h to x) → FittedComposite program globals mains (Fold n) i cells x
+    fits_composite n i w v h to cells (WholeVariable at r x subtype) k f p t m =
+        (p.0, reached_variable program names mains T frames room r x cells k (subst (λ n. Spans program w r x n) p.0 f.0) p.1, fits_selections n i w v (h + 1 + 1) x k f.1 p.2 t m.1.1.0)
+    fits_composite n i w v h to cells (WholeConstant at r x subtype) k f p t m =
+        (p.0, reached_constant program names mains T frames room r x cells k (subst (λ n. SpansConstant program w r x n) p.0 f.0) p.1, fits_selections n i w v (h + 1 + 1) x k f.1 p.2 t m.1.1.0)
+    fits_composite n i w v h to cells (WholeTarget at subtype) k f p t m = let (o, is, le) = k.target cells p.1 in (p.0, o, is, le)
+    fits_composite n i w v h to cells (CompositeIf condition value otherwise) k f p t m =
+        (fits n i w v h condition k f.0 p.0 t.0 m.0, fits_composite n i w v h to cells value k f.1 p.1 t.1 m.1.1, fits_composite n i w v h to cells otherwise k f.2 p.2 t.2 m.1.2)
+    fits_composite n i w v h to cells (Aggregate at size associations) k f p t m = (p.0, fits_associations n i w v h to cells associations k f p.1 t m.1.1)
+
+    pub fits_associations : (n : ℕ) (i : Sight) (w : Known) (v : Around) (h to cells : ℕ) (x : Associations) → S w v i → FormedAssociations program w x → ScopedAssociations program shown v cells x → TabledAssociations T Row n x → R (associated program i.scope h to x)
+        → FittedAssociations program globals mains (Fold n) i cells x
+    fits_associations n i w v h to cells NoAssociation k f p t m = tt
+    fits_associations n i w v h to cells (Association [] None mentions value rest) k f p t m = fits_associations n i w v h to cells rest k f.2 p.2 t.1 m.1
+    fits_associations n i w v h to cells (Association (r ∷ rs) None mentions value rest) k f p t m =
+        let (size, lie, pv) = p.1 in
+        let e = width_is program shown v size value pv in
+        let (at, mv) = filled_room room i.scope h to (width program value) (is_plain value) (λ n. put_into program i.scope h (to + n) value) r rs lie.0 m.0 in (
+          runs_fit cells (width program value) (r ∷ rs) (subst (λ m. LieWithin cells m (r ∷ rs)) (sym e) lie),
+          fits_value n i w v h (to + at) (width program value) value k f.1 (subst (λ m. ScopedValue program shown v m value) (sym e) pv) t.0 mv,
+          fits_associations n i w v h to cells rest k f.2 p.2 t.1 m.1,
+        )
+    fits_associations n i w v h to cells (Association [] (Some x) mentions value rest) k f p t m = absurd p.0
+    fits_associations n i w v h to cells (Association (r ∷ rs) (Some x) mentions value rest) k f p t m =
+        let (size, lie, pv) = p.1 in
+        let e = width_is program shown (with_parameter x.parameter v) size value pv in
+        let turning = turned_room room i.scope h to x.first _ r rs lie.0 m.0 in
+        let lt = kept i.scope.free (i.scope.free + 1 + 1) (room i.scope.body) i.cells turning.1.1.1.1.1.0 k.enough in
+        let turn = turning.1.1.1.1.1.1.1 0 in (
+          lt,
+          runs_fit cells (width program value) (r ∷ rs) (subst (λ m. LieWithin cells m (r ∷ rs)) (sym e) lie),
+          fits_component n (iterated_sight i x.parameter) w (with_parameter x.parameter v) h _ size value (sees_iterated program names mains T frames room x.parameter (omega (arith, lt)) k) f.1 pv t.0 turn.1,
+          fits_associations n i w v h to cells rest k f.2 p.2 t.1 m.1,
+        )
+
+    pub fits_component : (n : ℕ) (i : Sight) (w : Known) (v : Around) (h at cells : ℕ) (x : Value) → S w v i → FormedValue program w x → ScopedValue program shown v cells x → TabledValue T Row n x → R (component program i.scope h at x) → FittedComponent program globals mains (Fold n) i x
+    fits_component n i w v h at cells (Number check e) k f p t m = fits n i w v (h + 1) e k f p.1 t m.1.0
+    fits_component n i w v h at cells (Cells c) k f p t m =
+        let e = composite_is program shown v cells c p in
+        let le = composed_room program room (taking (composite_width program c) i).scope h i.scope.free c m.0 in
+        let enough = k.enough in (
+          omega (arith, le, enough),
+          fits_composite n (taking (composite_width program c) i) w v h i.scope.free (composite_width program c) c (sees_taking program names mains T frames room (composite_width program c) (omega (arith, le, enough)) k) f (subst (λ n. ScopedComposite program shown v n c) (sym e) p) t m.0,
+        )

@@ -1,0 +1,16 @@
+mod Sees
+mod Reaching
+mod Room
+mod Formals
+mod Walks
+mod FitsValues
+mod Exits
+mod FitsStatements
+mod FitsPrograms
+mod Alike
+mod AlikeValues
+mod AlikeStatements
+mod Placed
+mod Codes
+mod Strings
+mod Readies

@@ -1,0 +1,94 @@
+-- Names reach their parts, arrays that are gone through too; and the cells that code keeps are in the frame.
+use Rattle.std.proofs.Common.{◌≡◌, ℤ, ℕ, zero, suc, ◌+◌, ◌*◌, ◌<◌, ◌≤◌, max, nat_eq, List, ◌∷◌, Option, Bool, true, false, cond, refl, ap, ◌∙◌, subst, arith}
+use Rattle.std.proofs.lemmas.Bool.{ne_eqb}
+use Rattle.std.proofs.Math.Nat.{le-max_right}
+use Rattle.behaviours.specs.Paths.{Entity}
+use Rattle.typed_tree.specs.declared.expressions.Root.{Root}
+use Rattle.typed_tree.specs.declared.expressions.Run.{Run}
+use Rattle.typed_tree.specs.Syntax.{Optional, Selections, Components, Chunk, NoChunk, Count, Each, Program}
+use Rattle.ada_meaning.specs.Formed.{FormedIteration, FormedOptional, FormedSelections, Known, Spans, SpansConstant, with_constant, with_shape}
+use Rattle.ada_meaning.specs.Shapes.{size}
+use Rattle.stack_code.specs.declared.code.Around as body
+use Rattle.lower_emission.specs.Emits.{Emit}
+use Rattle.lower_emission.specs.Scope.{Scope, none, ◌⨟◌}
+use Rattle.ada_lower.specs.Sights.{Named, Sight, array_root_of, constant_root_of, item_sight, root_of}
+use Rattle.ada_lower.specs.Emission.{chunk_scope, doubled, filling, fillings, turn_item, turning, turnings}
+use Rattle.ada_lower.specs.Fitted.{Reached}
+use Rattle.lower_formed.specs.Scopes.{Around, ArraySeen, ConstantSeen, VariableSeen}
+use Rattle.lower_formed.specs.Rooms.{Roomy}
+use Rattle.lower_formed.proofs.Reaching.{components_in, reaches}
+use Rattle.lower_formed.proofs.Sees.{Sees, constant_seen, sees_constant_item, sees_constant_turn_item, sees_item, sees_turn_item, variable_seen}
+
+-- a cell that is kept is one of the frame
+pub kept : (free n room cells : ℕ) → max free (n + 1) ≤ room → room ≤ cells → n < cells
+kept free n room cells m le = let z = le-max_right free (n + 1) in omega (arith, z, m, le)
+
+pub positive : (n : ℕ) → 1 ≤ n → nat_eq n 0 ≡ false
+positive zero le = absurd (omega (arith, le))
+positive (suc n) le = ne_eqb (suc n) 0 (λ e. omega (arith, e))
+
+pub chunk_free : (chunk : Chunk) (s : Scope) → (chunk_scope chunk s).free ≡ s.free
+chunk_free NoChunk s = refl
+chunk_free (Count e) s = refl
+chunk_free (Each k low high check) s = refl
+
+-- the code of a value that one component at least is given
+pub filled_room : (room : body.Around → ℕ) (s : Scope) (h t size : ℕ) (plain : Bool) (value : ℕ → Emit) (r : Run) (rs : List Run) → 1 ≤ r.count → Roomy room (fillings s h t size plain value (r ∷ rs)) → (n : ℕ) × Roomy room (value n)
+filled_room room s h t size plain value r rs le m = (r.first, by _ r.count le m.0)
+  where
+    by : (b : Bool) (count : ℕ) → 1 ≤ count → Roomy room (cond b (value r.first ⨟ doubled s h (t + r.first) size r.count 1 r.count) (filling value count r.first r.stride)) → Roomy room (value r.first)
+    by true count le m = m.0
+    by false zero le m = absurd (omega (arith, le))
+    by false (suc count) le m = m.0
+
+pub turned_room : (room : body.Around → ℕ) (s : Scope) (h t : ℕ) (low : ℤ) (component : Emit) (r : Run) (rs : List Run) → 1 ≤ r.count → Roomy room (turnings s h t low component (r ∷ rs)) → Roomy room (turning s h t low component r.count r.first r.stride)
+turned_room room s h t low component r rs le m = subst (λ b. Roomy room (cond b none (turning s h t low component r.count r.first r.stride))) (positive r.count le) m.0
+
+module _ (program : Program) (names : Entity → Option Named) (mains : Entity → Bool) (T : List ℕ → Type 0) (frames : ℕ → ℕ) (room : body.Around → ℕ) where
+  abbrev S : Known → Around → Sight → Type 0
+  S = Sees program names mains T frames room
+
+  pub reached_variable : {w : Known} {v : Around} {i : Sight} (r : Root) (x : Selections) (m : ℕ) → S w v i → Spans program w r x m → VariableSeen v r → Reached (root_of i.scope r) x m
+  reached_variable r x m k f seen =
+      let (n, is, le) = variable_seen program names mains T frames room r f.1.0 k f.1.1 seen in
+      (n, is, reaches x f.1.0 f.0 n.cells m f.1.2 le f.2)
+
+  pub reached_constant : {w : Known} {v : Around} {i : Sight} (r : Root) (x : Selections) (m : ℕ) → S w v i → SpansConstant program w r x m → ConstantSeen v r → Reached (constant_root_of i.scope r) x m
+  reached_constant r x m k f seen =
+      let (n, is, le) = constant_seen program names mains T frames room r f.1.0 k f.1.1 seen in
+      (n, is, reaches x f.1.0 f.0 n.cells m f.1.2 le f.2)
+
+  -- an array that is gone through, with what is known where its components are named
+  pub record Through (w : Known) (v : Around) (k : ℕ) (constant : Bool) (from : Root) (x : Selections) (number stride : ℕ) (passes : Optional) (does : Known → Type 0) : Type 0 where
+    pub reached : (i : Sight) → S w v i → Reached (array_root_of constant i.scope from) x (number * stride)
+    pub selections : FormedSelections program w x
+    pub inner : Known
+    pub filter : FormedOptional program inner passes
+    pub does_so : does inner
+    pub item : (u : Around) (i : Sight) (label : Option ℕ) (exit : ℕ) → i.scope.free + 3 ≤ i.cells → S w u i → S inner u (item_sight i label constant k stride exit)
+    pub turn : (u : Around) (i : Sight) → i.scope.free + 3 ≤ i.cells → S w u i → S inner u (record i { scope = turn_item i.scope constant k stride })
+
+  pub through : {w : Known} {v : Around} (k : ℕ) (constant : Bool) (at : ℕ) (from : Root) (x : Selections) (number stride dimensions : ℕ) (passes : Optional) (does : Known → Type 0)
+      → FormedIteration program w (Components k constant at from x number stride dimensions passes) does → ArraySeen constant v from → Through w v k constant from x number stride passes does
+  through {w = w} k true at from x number stride dimensions passes does f seen =
+      let few : number * stride ≡ size f.1.0 = ap (λ n. number * n) f.1.4 ∙ components_in f.1.0 dimensions number f.1.1 f.1.3 in
+      record {
+        reached = λ i k. reached_constant from x (number * stride) k (f.1.0, f.1.2, omega (arith, few)) seen;
+        selections = f.0;
+        inner = with_constant k f.1.1 w;
+        filter = f.1.5;
+        does_so = f.1.6;
+        item = λ u i label exit r s. sees_constant_item program names mains T frames room label k stride exit f.1.1 f.1.4 r s;
+        turn = λ u i r s. sees_constant_turn_item program names mains T frames room k stride f.1.1 f.1.4 r s;
+      }
+  through {w = w} k false at from x number stride dimensions passes does f seen =
+      let few : number * stride ≡ size f.1.0 = ap (λ n. number * n) f.1.4 ∙ components_in f.1.0 dimensions number f.1.1 f.1.3 in
+      record {
+        reached = λ i k. reached_variable from x (number * stride) k (f.1.0, f.1.2, omega (arith, few)) seen;
+        selections = f.0;
+        inner = with_shape k f.1.1 w;
+        filter = f.1.5;
+        does_so = f.1.6;
+        item = λ u i label exit r s. sees_item program names mains T frames room label k stride exit f.1.1 f.1.4 r s;
+        turn = λ u i r s. sees_turn_item program names mains T frames room k stride f.1.1 f.1.4 r s;
+      }

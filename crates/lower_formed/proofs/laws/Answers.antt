@@ -1,0 +1,5 @@
+use Rattle.lower_formed.proofs.Codes.{lowered_law}
+use Rattle.lower_formed.proofs.laws.Goals as goal
+
+pub returns : goal.returns
+returns c = record { lowered = lowered_law }

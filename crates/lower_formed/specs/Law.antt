@@ -1,0 +1,37 @@
+-- Every program that is formed and in scope fits its code.
+use Rattle.std.specs.Prelude.{ℕ, List, Bool}
+use Rattle.behaviours.specs.Paths.{Entity}
+use Rattle.typed_tree.specs.Syntax.{Program}
+use Rattle.ada_meaning.specs.Formed.{IsFormed}
+use Rattle.stack_code.specs.declared.code.Around.{Around}
+use Rattle.stack_code.specs.declared.code.Around.TheVariants.{Sub, Site}
+use Rattle.stack_code.specs.declared.code.Lease.{Lease}
+use Rattle.lower_emission.specs.declared.types.Need.{Need}
+use Rattle.lower_emission.specs.Programs.{at_least, behind_main, code_of, needed, placed_code, text_in}
+use Rattle.ada_lower.specs.Defaults.{NoneEmpty}
+use Rattle.ada_lower.specs.Outs.{AllClosed, OutAll, OutHandlers}
+use Rattle.ada_lower.specs.Law.{IsLowered}
+use Rattle.lower_formed.specs.Scopes.{IsScoped, behind, outset}
+use Rattle.lower_formed.specs.Tables.{HasRows}
+use Rattle.lower_formed.specs.Rooms.{frames_of, seen_names}
+
+-- what a body's instructions need of its frame; the first four cells of a thread's are given
+abbrev pub least_need : Around → Need
+least_need (Sub k) = at_least 0
+least_need (Site n) = at_least 4
+
+abbrev pub frame_of : Program → Around → ℕ
+frame_of program b = (needed b (least_need b) (placed_code program)).cells
+
+-- no exit leaves a body, that of the main procedure included
+abbrev pub StaysIn : Program → Type 0
+StaysIn program = AllClosed program × OutAll (λ n. ⊥) program.body.stmts × OutHandlers (λ n. ⊥) program.body.handlers
+
+-- Of each program that names have formed and put in scope, no exit of which leaves a body and none of whose arrays is empty,
+-- the code fits, where each parallel construct has its row in the code's table: so the laws of code hold of it.
+abbrev pub LoweredLaw : Type 0
+LoweredLaw = (program : Program) (shown : ℕ → Entity → Bool) (leases : ℕ → List Lease) (depth : ℕ)
+    → IsFormed program → NoneEmpty program.subtypes → IsScoped program shown → StaysIn program
+    → HasRows program (code_of program leases) (frames_of (frame_of program)) depth
+    → IsLowered program (code_of program leases) (seen_names shown (behind_main program (text_in program)).object) (behind outset program.body.decls).taken
+    (code_of program leases).texts (text_in program) (frames_of (frame_of program)) (frame_of program (Sub 0)) depth

@@ -1,0 +1,4 @@
+pub mod Scopes
+pub mod Tables
+pub mod Rooms
+pub mod Law
