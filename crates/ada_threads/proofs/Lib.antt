@@ -1,0 +1,5 @@
+mod Onward
+mod Sizes
+mod Onto
+mod Stopping
+mod Clipping

@@ -1,0 +1,13 @@
+pub mod Alike
+pub mod Touched
+pub mod Bounded
+pub mod Silent
+pub mod Nesting
+pub mod Touching
+pub mod Looking
+pub mod Threads
+pub mod Noting
+pub mod Starting
+pub mod Constructing
+pub mod Hushed
+pub mod Law
