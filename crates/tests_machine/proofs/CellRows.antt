@@ -27,6 +27,8 @@ reads =
     row i.Load (negsuc 0 ∷ []) Neither ∷
     row (i.LoadL 1) [] (Onward 8 (pos 14 ∷ []) five) ∷
     row (i.LoadO 1 0) [] (Onward 8 (pos 11 ∷ []) five) ∷
+    row (i.Outer 1 3) (pos 99 ∷ []) (Onward 8 (pos 4 ∷ pos 99 ∷ []) five) ∷
+    row (i.Outer 2 3) (pos 99 ∷ []) Neither ∷
     row (i.LoadG 3) [] (Onward 8 (pos 13 ∷ []) five) ∷
     row (i.Item (pos 1) (pos 4) 3) (pos 2 ∷ pos 0 ∷ []) (Onward 8 (pos 13 ∷ []) five) ∷
     row (i.Item (pos 1) (pos 4) 3) (pos 5 ∷ pos 0 ∷ []) (Raised ConstraintError [] five) ∷

@@ -94,6 +94,13 @@ others =
     row i.Ge (pos 4 ∷ pos 3 ∷ []) (Some (pos 0 ∷ [])) ∷
     row i.Not (pos 0 ∷ []) (Some (pos 1 ∷ [])) ∷
     row i.Not (negsuc 0 ∷ []) (Some (pos 0 ∷ [])) ∷
+    row i.And (pos 5 ∷ pos 3 ∷ pos 99 ∷ []) (Some (pos 1 ∷ pos 99 ∷ [])) ∷
+    row i.And (pos 6 ∷ negsuc 3 ∷ []) (Some (pos 4 ∷ [])) ∷
+    row i.And (negsuc 0 ∷ negsuc 9223372036854775807 ∷ []) (Some (negsuc 9223372036854775807 ∷ [])) ∷
+    row i.Or (pos 5 ∷ pos 3 ∷ pos 99 ∷ []) (Some (pos 7 ∷ pos 99 ∷ [])) ∷
+    row i.Or (pos 1 ∷ negsuc 3 ∷ []) (Some (negsuc 2 ∷ [])) ∷
+    row i.Xor (pos 5 ∷ pos 3 ∷ pos 99 ∷ []) (Some (pos 6 ∷ pos 99 ∷ [])) ∷
+    row i.Xor (pos 1 ∷ negsuc 0 ∷ []) (Some (negsuc 1 ∷ [])) ∷
     row i.Flip (pos 0 ∷ []) (Some (pos 1 ∷ [])) ∷
     row i.Flip (pos 1 ∷ []) (Some (pos 0 ∷ [])) ∷
     row i.Differ (pos 1 ∷ pos 0 ∷ []) (Some (pos 1 ∷ [])) ∷
