@@ -1,6 +1,6 @@
 -- The machine reads no notes between forks; so where all its forks are fine by any further notes, at an outermost fork each
 -- thread goes well on its view.
-use Rattle.std.proofs.Common.{◌≡◌, ℕ, suc, ◌+◌, ◌≤◌, ℤ, List, [], ◌∷◌, nat_eq, slice_get, Option, Some, None, Result, Ok, Err, Bool, true, false, cond, refl, sym, ap, ◌∙◌, subst, arith, le_refl, ◌⊎◌, inl, inr}
+use Rattle.std.proofs.Common.{◌≡◌, ℕ, suc, ◌+◌, ◌≤◌, ℤ, List, [], ◌∷◌, nat_eq, slice_get, Option, Some, None, Result, Ok, Err, Bool, true, false, cond, refl, sym, ap, ◌∙◌, subst, arith, le_refl, inl, inr}
 use Rattle.std.proofs.lemmas.Bool.{ne_eqb, eq-eqb}
 use Rattle.ada_base.specs.Notes.{ThreadNote, Whole, NotBegun, ConstructNote, Schedule, ByNotes}
 use Rattle.ada_base.specs.declared.reason.Reason.{Reason}
@@ -10,8 +10,8 @@ use Rattle.stack_code.specs.declared.code.CodeSite.{CodeSite}
 use Rattle.stack_code.specs.declared.path.Asked.{Asked}
 use Rattle.stack_code.specs.declared.path.Io.TheVariants as io
 use Rattle.stack_code.specs.Machine.{Frame, State, Stop, Done, Left, Spent, Cut, Asks, Constructs, Stuck, Astray, Went, Goes, Stops, sees, step}
-use Rattle.ada_lower.specs.Asking.{Reads, Read, got}
-use Rattle.ada_lower.specs.Driven.{World, Dyn, Path, Final, Step, On, Off, Forks, Forked, clip, cut_to, drive, driven, answered, after_got, given_got, alone, sizes_for, shares_at, RunsWell, IsFine, Fine, Safe, with_notes, fork, fork_ended, goes}
+use Rattle.ada_lower.specs.Asking.{Reads, got}
+use Rattle.ada_lower.specs.Driven.{World, Dyn, Path, Step, On, Off, Forks, Forked, clip, cut_to, drive, driven, answered, given_got, alone, sizes_for, shares_at, RunsWell, Safe, with_notes, fork, fork_ended, goes}
 use Rattle.ada_lower.specs.Lending.{Among, Owns}
 use Rattle.ada_lower.proofs.ForkFuel.{safe_drives, safe_forks, safe_forked}
 

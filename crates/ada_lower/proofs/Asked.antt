@@ -17,7 +17,7 @@ use Rattle.stack_code.specs.Machine.{after}
 use Rattle.ada_lower.specs.Asking.{Reads, Read, at, next, taken_from, reading, got}
 use Rattle.ada_lower.specs.Driven.{Dyn, Fixed, On, on, thrown, state_of, given_got, after_got, At}
 use Rattle.ada_lower.specs.Fits.{Ghost, Fit, Ends, Lands}
-use Rattle.ada_lower.proofs.Framework.{any, To, itself, comes_here, comes_on, comes_as, comes_thrown, leads_on}
+use Rattle.ada_lower.proofs.Framework.{any, To, itself, comes_here, comes_as, comes_thrown, leads_on}
 use Rattle.ada_lower.proofs.Memory.{right_same}
 use Rattle.ada_lower.proofs.Parts.{Runs}
 

@@ -15,7 +15,7 @@ use Rattle.stack_code.specs.Machine.{Frame, State, cut}
 use Rattle.ada_lower.specs.Driven.{Dyn, Fixed, Step, On, on, state_of, thrown, cut_to, At}
 use Rattle.ada_lower.specs.Sights.{Named, Sight}
 use Rattle.ada_lower.specs.Fits.{What, Other, Free, Right, Ghost, Fit, Ends, Knows, Stands as StandsFor}
-use Rattle.ada_lower.proofs.Framework.{To, comes_on, comes_as, comes_thrown, leads_on}
+use Rattle.ada_lower.proofs.Framework.{To, comes_as, comes_thrown, leads_on}
 use Rattle.ada_lower.proofs.Memory.{right_same}
 use Rattle.ada_lower.proofs.Parts.{Fewer, allows_fewer}
 use Rattle.ada_lower.proofs.Declared.{get_of, keeping}

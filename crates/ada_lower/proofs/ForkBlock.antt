@@ -44,7 +44,7 @@ use Rattle.ada_lower.proofs.ForkRange.{knows_nested, knows_forked}
 use Rattle.ada_lower.proofs.ForkChunks.{number_does, two_kept}
 use Rattle.ada_lower.proofs.ForkArms.{ArmDoes, block_thread}
 use Rattle.ada_lower.proofs.ForkFine.{Lends}
-use Rattle.ada_lower.specs.ForkViews.{view_ghost, no_free, Apart}
+use Rattle.ada_lower.specs.ForkViews.{view_ghost, no_free}
 use Rattle.ada_lower.proofs.ForkSights.{knows_view}
 use Rattle.behaviours.specs.Joins.{deal}
 

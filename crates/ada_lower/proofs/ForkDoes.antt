@@ -1,5 +1,5 @@
 -- What parallel loops and blocks do, in one another: the mutual theorem's cases.
-use Rattle.std.proofs.Common.{nat_eq, cond, ◌≡◌, ℕ, zero, suc, ◌-◌, ◌≤◌, pos, List, [], ◌∷◌, length, slice_get, Option, Some, None, Bool, true, false, refl, sym, ap, ◌∙◌, subst, ◌⊎◌, inl, inr, ⊎_elim}
+use Rattle.std.proofs.Common.{◌≡◌, ℕ, zero, suc, ◌-◌, ◌≤◌, pos, List, [], ◌∷◌, length, slice_get, Option, Some, None, Bool, true, false, refl, sym, ap, ◌∙◌, subst, ◌⊎◌, inr, ⊎_elim}
 use Rattle.std.proofs.lemmas.Bool.{ne_eqb}
 use Rattle.behaviours.specs.Paths.{Leave, Exits, Returns, Raises, Entity}
 use Rattle.typed_tree.specs.Syntax.{Optional, Range, Components, Chunk, NoChunk, Count, Each, Null, Assign, CallProcedure, Exit, Return, ReturnValue, Raise, Reraise, IfThen, Case, Loop, For, ParallelFor, Parallel, Block, Put, Get, Arms, NoArm, Arm, Program}

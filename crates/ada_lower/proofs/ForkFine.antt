@@ -1,5 +1,5 @@
 -- At an outermost fork each thread goes well on its view, as the stored run's thread does.
-use Rattle.std.proofs.Common.{◌≡◌, ℕ, ℤ, List, [], ◌∷◌, ◌++◌, length, nat_eq, Option, Some, None, Result, Ok, Err, inl, inr, max, Bool, true, false, cond, refl, sym, ap, ◌∙◌, subst}
+use Rattle.std.proofs.Common.{◌≡◌, ℕ, ℤ, List, [], ◌∷◌, nat_eq, Option, Some, None, Result, Ok, Err, inl, inr, max, Bool, true, false, cond, refl, sym, ap, ◌∙◌, subst}
 use Rattle.ada_base.specs.Notes.{ThreadNote, Whole, NotBegun, CutAfter, ConstructNote, Schedule, InOrder, ByNotes}
 use Rattle.behaviours.specs.Joins.{Site, Share}
 use Rattle.behaviours.specs.Paths as paths
@@ -19,7 +19,7 @@ use Rattle.ada_lower.specs.Fits.{Ghost, Allows, Fit, Knows}
 use Rattle.ada_lower.specs.Forks.{ThreadDoes, thread_ends}
 use Rattle.ada_lower.specs.ForkViews.{view_of, view_ghost, TouchesFit, Apart}
 use Rattle.ada_lower.proofs.Framework.{sound_split, allows_split}
-use Rattle.ada_lower.proofs.ForkThreads.{moved, dyn_moved, fit_moved, Ending, Endings}
+use Rattle.ada_lower.proofs.ForkThreads.{moved, dyn_moved, fit_moved, Endings}
 use Rattle.ada_lower.proofs.ForkApart.{view_ends_so}
 
 -- ---- the thread that is chosen alone, in the stored run

@@ -20,11 +20,11 @@ use Rattle.behaviours.specs.Paths.{Entity}
 use Rattle.ada_lower.specs.Driven.{Dyn, Fixed, Step, on, thrown, sizes_for, answer_of, fork_end, state_of, At, Alike}
 use Rattle.ada_lower.specs.Sights.{Emit, Scope, Named, Sight, Stands, aside, listed}
 use Rattle.ada_lower.specs.Emission.{exiting}
-use Rattle.ada_lower.specs.Fits.{Ghost, Allows, Fit, Ends, left_by, Lands, Knows, Asks}
+use Rattle.ada_lower.specs.Fits.{Ghost, Fit, Ends, left_by, Lands, Knows, Asks}
 use Rattle.ada_lower.specs.Forks.{ThreadDoes}
 use Rattle.ada_lower.specs.Emission.{left_code}
 use Rattle.ada_lower.proofs.Inner.{InnerDo}
-use Rattle.ada_lower.proofs.Framework.{any, To, Doing, comes_here, comes_on, comes_goes, does_before, does_returned, allows_split, asks_split}
+use Rattle.ada_lower.proofs.Framework.{any, To, Doing, comes_here, comes_on, comes_goes, does_before, does_returned, asks_split}
 use Rattle.ada_lower.proofs.Standing.{lies_end}
 use Rattle.ada_lower.proofs.Parts.{does_is, does_first, Fewer}
 use Rattle.ada_lower.proofs.Statements.{Suits}

@@ -13,7 +13,7 @@ use Rattle.stack_code.specs.Machine.{Frame, Spent, Cut, Astray, Goes, look_by, n
 use Rattle.ada_lower.specs.Driven.{Dyn, Fixed, Step, On, on, halt, state_of, driven, thrown, looked, passed_on, At}
 use Rattle.ada_lower.specs.Teams.{AreSound}
 use Rattle.ada_lower.specs.Fits.{Ghost, Allows, Fit, Ends, left_by, Land, Lands, Asks}
-use Rattle.ada_lower.proofs.Framework.{To, Doing, comes_here, comes_on, comes_as, comes_thrown, does_bind, does_before, lands_from, allows_split, asks_split, leads_on, none_sound}
+use Rattle.ada_lower.proofs.Framework.{To, Doing, comes_here, comes_on, comes_as, comes_thrown, does_bind, does_before, lands_from, asks_split, leads_on, none_sound}
 use Rattle.ada_lower.proofs.Parts.{Runs, does_is}
 use Rattle.ada_lower.proofs.Blocks.{does_look}
 use Rattle.ada_lower.proofs.ForkSteps.{keeping, MayEnd}

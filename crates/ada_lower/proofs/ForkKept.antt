@@ -17,7 +17,7 @@ use Rattle.stack_code.specs.declared.path.Asked.{Asked}
 use Rattle.stack_code.specs.declared.path.Gave.TheVariants as gave
 use Rattle.stack_code.specs.Deeds.{can_fork, asked, many}
 use Rattle.ada_lower.specs.Driven.{Dyn, Fixed, Step, on, sizes_for, answer_of, fork_end, state_of, combined_by, At}
-use Rattle.ada_lower.specs.Fits.{Ghost, Allows, Ends, left_by, Land, Lands, Asks, Knows}
+use Rattle.ada_lower.specs.Fits.{Ghost, Ends, left_by, Land, Lands, Asks, Knows}
 use Rattle.ada_lower.specs.Forks.{ThreadDoes}
 use Rattle.ada_lower.proofs.Framework.{comes_as, any, To, comes_here, comes_on, comes_goes, does_bind, leads_on}
 use Rattle.ada_lower.proofs.Parts.{Runs}

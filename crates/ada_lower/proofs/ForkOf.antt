@@ -50,7 +50,7 @@ use Rattle.ada_lower.proofs.ForkDeals.{loop_shares}
 use Rattle.ada_lower.proofs.ForkItems.{items_thread}
 use Rattle.ada_lower.proofs.ForkChunks.{chunk_does}
 use Rattle.ada_lower.proofs.ForkFine.{Lends}
-use Rattle.ada_lower.specs.ForkViews.{view_ghost, no_free, Apart}
+use Rattle.ada_lower.specs.ForkViews.{view_ghost, no_free}
 use Rattle.ada_lower.proofs.ForkSights.{knows_view, number_view, spread_view}
 
 pub many_is : (count : ℕ) → many (pos 1) (pos count) ≡ count

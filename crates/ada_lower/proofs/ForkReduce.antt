@@ -25,9 +25,9 @@ use Rattle.stack_code.specs.Deeds
 use Rattle.stack_code.specs.Deeds.{can_fork, asked, many}
 use Rattle.ada_lower.specs.Driven
 use Rattle.ada_lower.specs.Driven.{Dyn, Fixed, Step, on, thrown, sizes_for, answer_of, fork_end, state_of, op_applied, onto_by, combined_by, At}
-use Rattle.ada_lower.specs.Fits.{Ghost, Allows, Ends, left_by, Land, Lands, Asks, Knows}
+use Rattle.ada_lower.specs.Fits.{Ghost, Ends, left_by, Land, Lands, Asks, Knows}
 use Rattle.ada_lower.specs.Forks.{ThreadDoes}
-use Rattle.ada_lower.proofs.Framework.{any, To, comes_here, comes_on, comes_goes, does_bind, allows_split, asks_split, leads_on}
+use Rattle.ada_lower.proofs.Framework.{any, To, comes_here, comes_on, comes_goes, does_bind, asks_split, leads_on}
 use Rattle.ada_lower.proofs.Parts.{Runs, made, outcome, operate_is, bit_same, truth_same}
 use Rattle.ada_lower.proofs.ForkSteps.{keeping, fork_ends, MayEnd, operands, comes_too_many, comes_left, resumes, fork_lands}
 use Rattle.ada_lower.proofs.ForkInside.{nested_in, left_as_kept, left_as_nested, does_unless, comes_unnest}

@@ -1,5 +1,5 @@
 -- The fork's instruction.
-use Rattle.std.proofs.Common.{◌≡◌, ℕ, ◌+◌, ◌≤◌, ℤ, List, [], ◌∷◌, ◌++◌, length, slice_get, Option, Some, None, Result, Ok, Err, true, false, cond, refl, sym, ap, ◌∙◌, subst, is_some, Bool, true≢false}
+use Rattle.std.proofs.Common.{◌≡◌, ℕ, ◌+◌, ◌≤◌, ℤ, List, [], ◌∷◌, ◌++◌, length, slice_get, Option, Some, None, Result, Ok, Err, true, false, cond, refl, sym, ap, ◌∙◌, subst, is_some, true≢false}
 use Rattle.behaviours.specs.Joins.{Site, Share, deal}
 use Rattle.behaviours.specs.Paths as paths
 use Rattle.ada_base.specs.declared.reason.Reason.TheVariants as reason
@@ -20,9 +20,9 @@ use Rattle.stack_code.specs.Deeds.{Forks as AsksFork, Fails, can_fork, asked, ma
 use Rattle.stack_code.specs.Machine.{Stop, Done, Left, Spent, Cut, Astray, left_as, done, resumed, after}
 use Rattle.ada_lower.specs.Driven
 use Rattle.ada_lower.specs.Driven.{Dyn, Fixed, Path, Final, Step, On, Off, Forks, Forked, off, on, at, path, state_of, goes, fork, at_site, answering, answer_of, with_answer, fork_end, fork_ended, with_dyn, sizes_for, gathered, thrown, At, driven, Finally, Comes, Fine, IsFine}
-use Rattle.ada_lower.specs.Fits.{Ghost, Allows, Fit, Ends, left_by, Lands, Asks, Knows}
+use Rattle.ada_lower.specs.Fits.{Ghost, Fit, Ends, left_by, Lands, Asks, Knows}
 use Rattle.ada_lower.specs.Forks.{machine_leave, Reaches}
-use Rattle.ada_lower.proofs.Framework.{any, To, itself, comes_here, comes_on, comes_as, comes_fails, comes_thrown, leads_on}
+use Rattle.ada_lower.proofs.Framework.{any, To, itself, comes_here, comes_as, comes_fails, comes_thrown, leads_on}
 use Rattle.ada_lower.proofs.ForkFuel.{comes_fork}
 use Rattle.ada_lower.proofs.ForkThreads.{AllDo, reaches_by}
 use Rattle.ada_lower.proofs.ForkPar.{machine_by, team_reaches}

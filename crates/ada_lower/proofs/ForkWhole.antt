@@ -1,5 +1,5 @@
 -- Parallel loops and reductions over ranges, as statements and expressions are.
-use Rattle.std.proofs.Common.{◌≡◌, ℕ, ◌+◌, ◌<◌, ◌≤◌, List, [], slice_get, Option, Some, Err, Bool, false, cond, refl, arith, ℤ, pos, ◌-ℤ◌, ◌+ℤ◌}
+use Rattle.std.proofs.Common.{◌≡◌, ℕ, ◌+◌, ◌<◌, ◌≤◌, List, [], slice_get, Option, Some, Err, Bool, false, cond, arith, ℤ, pos, ◌-ℤ◌, ◌+ℤ◌}
 use Rattle.behaviours.specs.Doings.{through}
 use Rattle.behaviours.specs.Paths.{Leave}
 use Rattle.typed_tree.specs.declared.scalars.Check.{Check}

@@ -1,18 +1,17 @@
 -- What the threads of a construct touch stays within what its leases lend them, where it goes through a range or is a block.
-use Rattle.std.proofs.Common.{◌≡◌, ℕ, zero, suc, ◌+◌, ◌-◌, ◌*◌, ◌<◌, ◌≤◌, ℤ, pos, ◌+ℤ◌, nat_eq, List, [], ◌∷◌, slice_get, length, Option, Some, None, ◌⊎◌, inl, inr, Bool, true, false, refl, sym, ap, ap₂, ◌∙◌, subst, arith, true≢false, eqb-true}
+use Rattle.std.proofs.Common.{◌≡◌, ℕ, ◌+◌, ◌*◌, ◌<◌, ℤ, pos, ◌+ℤ◌, nat_eq, List, [], ◌∷◌, slice_get, Option, Some, None, inl, inr, Bool, true, false, refl, sym, ap, ◌∙◌, subst, arith, true≢false, eqb-true}
 use Rattle.std.proofs.lemmas.Bool.{eqb-false}
 use Rattle.std.proofs.lemmas.Option.{slice_get_within}
 use Rattle.behaviours.specs.Paths.{Entity, VariableOf, ConstantOf}
-use Rattle.behaviours.specs.Joins.{Now, Share, Site, deal}
+use Rattle.behaviours.specs.Joins.{Share, Site}
 use Rattle.typed_tree.specs.Syntax.{Program}
-use Rattle.ada_meaning.specs.Stored as stored
-use Rattle.ada_meaning.specs.Stored.{Address, Kept, Stacked, Touch, Thread, Team, cell_at, place_of, slot_at, within, key}
+use Rattle.ada_meaning.specs.Stored.{Address, Kept, Stacked, Touch, Thread, Team, cell_at, slot_at, within, key}
 use Rattle.ada_meaning.specs.Touched.{Before, IsAmong}
 use Rattle.ada_meaning.specs.Meaning.{Env}
 use Rattle.ada_meaning.proofs.Cells.{some_same}
 use Rattle.check_effects.specs.Effects.{Access, Construct, Holds}
-use Rattle.check_effects.specs.Conflicts.{InProgram, IsThreadEffect, LiesUnder, Leads, IsClean}
-use Rattle.check_effects.specs.Covered.{arm_of, site_of, AreDistinct, Under, IsTouched, AreApart}
+use Rattle.check_effects.specs.Conflicts.{InProgram, LiesUnder, IsClean}
+use Rattle.check_effects.specs.Covered.{site_of, AreDistinct, Under, IsTouched, AreApart}
 use Rattle.check_effects.specs.Touching.{LiesAt, AllTouchesCovered, AllThreadsCovered}
 use Rattle.check_effects.proofs.Races.{shares_apart}
 use Rattle.stack_code.specs.declared.code.CodeSite.{CodeSite}
@@ -25,7 +24,7 @@ use Rattle.lower_emission.specs.Leases as leases
 use Rattle.ada_lower.specs.Driven.{Dyn, Fixed}
 use Rattle.ada_lower.specs.Sights.{Around, Level, Main, Named, Own, Sight}
 use Rattle.ada_lower.specs.Fits.{What, Keeps, Shows, Access as Right, Ghost, Fit, Knows, IsAt, Refers, place_in, Stands as StandsFor}
-use Rattle.ada_lower.specs.Lending.{Among, StepsTo, frame_at, IsOfArm, chunk_at, LiesIn, IsLent, Owns}
+use Rattle.ada_lower.specs.Lending.{Among, StepsTo, frame_at, chunk_at, LiesIn, IsLent, Owns}
 use Rattle.ada_lower.specs.Leased.{IsLease, AreLeased}
 use Rattle.ada_lower.specs.Teams.{IsSound, OnePlace}
 use Rattle.ada_lower.specs.ForkViews.{TouchFits, TouchesFit, Apart}

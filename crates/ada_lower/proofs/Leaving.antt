@@ -11,7 +11,7 @@ use Rattle.stack_code.specs.declared.instr.Instr.TheVariants as i
 use Rattle.stack_code.specs.Machine.{State, Went, Spent, Goes, Stops, turned, on as machine_on}
 use Rattle.ada_lower.specs.Driven.{Dyn, Fixed, Step, halt, on, state_of, driven, At}
 use Rattle.ada_lower.specs.Fits.{Ghost, Agrees, Fit, Ends, left_by, Land, Lands, Allows, Asks}
-use Rattle.ada_lower.proofs.Framework.{any, To, Doing, comes_here, comes_on, comes_as, led, lands_from, land_from, allows_split, asks_split, leads_on}
+use Rattle.ada_lower.proofs.Framework.{any, To, Doing, comes_here, comes_as, led, lands_from, land_from, asks_split, leads_on}
 use Rattle.ada_lower.proofs.Parts.{Runs, allows_fewer}
 use Rattle.ada_lower.proofs.Memory.{right_same}
 

@@ -7,7 +7,6 @@ use Rattle.typed_tree.specs.Syntax.{Expr, Optional, Range, Components, Selection
 use Rattle.ada_meaning.specs.Values
 use Rattle.ada_meaning.specs.Meaning
 use Rattle.ada_meaning.specs.Meaning.{Env, Chunking, ObjectPart, inside, cut_of, value_cut_of}
-use Rattle.stack_code.specs.declared.code.Code.{Code}
 use Rattle.stack_code.specs.declared.code.CodeSite.{CodeSite}
 use Rattle.stack_code.specs.Deeds.{asked}
 use Rattle.ada_lower.specs.Driven.{Fixed, sizes_for}

@@ -28,7 +28,7 @@ use Rattle.ada_lower.specs.Fits.{Other, Free, Access, Right, Ghost, Fit, Allows,
 use Rattle.ada_lower.specs.Fitted.{FittedValue}
 pub use Rattle.ada_lower.specs.Outset.{outermost, first_dyn, main_ends}
 use Rattle.ada_lower.specs.Bodies.{main_object, main_scope, main_declared, positions, FittedMain, main_body, main_code, MainFitted, AllStand}
-use Rattle.ada_lower.proofs.Framework.{any, To, comes_on, comes_as, leads_on, sound_split}
+use Rattle.ada_lower.proofs.Framework.{any, To, comes_as, leads_on, sound_split}
 use Rattle.ada_lower.proofs.Standing.{stands_seq}
 use Rattle.ada_lower.proofs.Parts.{Runs}
 use Rattle.ada_lower.proofs.Mains.{holding, knows_holding, fresh_kept_of, Final, final_on, final_variable, final_constant, AllFull, allows_all, full_holding, Ending, elaborates_main, ending_from, values_main}

@@ -22,7 +22,7 @@ use Rattle.stack_code.specs.Machine
 use Rattle.ada_lower.specs.Driven.{Dyn, Fixed, Step, on, state_of, driven, At}
 use Rattle.ada_lower.specs.Emission.{binary_instr}
 use Rattle.ada_lower.specs.Fits.{Keeps, Stands as StandsFor, allows, Ghost, Allows, Fit, Ends, left_by, Lands}
-use Rattle.ada_lower.proofs.Framework.{any, To, Doing, comes_here, comes_on, comes_as, comes_goes, comes_fails, does_before, lands_from, leads_on}
+use Rattle.ada_lower.proofs.Framework.{any, To, Doing, comes_here, comes_as, comes_goes, comes_fails, does_before, lands_from, leads_on}
 use Rattle.ada_lower.proofs.Memory.{set_what, IsOwn, fit_set, what_other, what_same, at_or_not}
 
 -- ---- numbers

@@ -13,8 +13,8 @@ use Rattle.ada_meaning.specs.Meaning.{Env, ObjectPart, Passed, Returned}
 use Rattle.stack_code.specs.declared.code.Code.{Code}
 use Rattle.ada_lower.specs.Driven.{Dyn, Fixed, Step}
 use Rattle.ada_lower.specs.Emission.{is_whole, is_plain_expr, is_plain, is_plain_composite, are_plain}
-use Rattle.ada_lower.specs.Fits.{Ghost, Ends, Lands, Allows, Asks}
-use Rattle.ada_lower.proofs.Framework.{Doing, does_assoc, allows_split, asks_split, asks_join, none_sound}
+use Rattle.ada_lower.specs.Fits.{Ghost, Ends, Lands, Asks}
+use Rattle.ada_lower.proofs.Framework.{Doing, does_assoc, asks_split, asks_join, none_sound}
 use Rattle.ada_lower.proofs.Operands.{laid_nil}
 use Rattle.ada_lower.proofs.Doubled.{many, laid_append}
 

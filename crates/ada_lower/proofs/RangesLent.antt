@@ -1,8 +1,8 @@
 -- Where leases are those of what threads may write, constructs over ranges, blocks and reductions over ranges lend as they should.
-use Rattle.std.proofs.Common.{◌≡◌, ℕ, suc, ◌+◌, ◌-◌, ◌≤◌, ℤ, pos, ◌+ℤ◌, ◌-ℤ◌, nat_eq, List, [], ◌∷◌, Option, Some, None, inl, inr, Bool, true, false, cond, refl, sym, ap, ap₂, ◌∙◌, subst, arith, le_refl, le_trans}
+use Rattle.std.proofs.Common.{◌≡◌, ℕ, suc, ◌+◌, ◌-◌, ◌≤◌, ℤ, pos, ◌+ℤ◌, List, [], ◌∷◌, Some, inl, inr, cond, refl, sym, ap, ◌∙◌, subst, arith, le_refl}
 use Rattle.std.proofs.lemmas.Bool.{eq-eqb}
 use Rattle.std.proofs.lemmas.Int.{ints}
-use Rattle.behaviours.specs.Joins.{Share, Site, deal}
+use Rattle.behaviours.specs.Joins.{Share, deal}
 use Rattle.typed_tree.specs.declared.expressions.Reducer.{Reducer}
 use Rattle.typed_tree.specs.Syntax.{Chunk, NoChunk, Count, Each, Program}
 use Rattle.ada_meaning.specs.Values
@@ -10,8 +10,7 @@ use Rattle.ada_meaning.specs.Operations.{chunk_of}
 use Rattle.ada_meaning.specs.Meaning
 use Rattle.ada_meaning.specs.Meaning.{Env, Chunking, cut_of, value_cut_of}
 use Rattle.check_effects.specs.Covered.{AreApart}
-use Rattle.stack_code.specs.declared.code.SiteKind.TheVariants as kind
-use Rattle.stack_code.specs.Deeds.{asked, many}
+use Rattle.stack_code.specs.Deeds.{asked}
 use Rattle.ada_lower.specs.Driven.{sizes_for}
 use Rattle.ada_lower.specs.Emission.{loop_kind, reduction_kind}
 use Rattle.ada_lower.specs.Lending.{Among, chunk_at}
@@ -19,7 +18,7 @@ use Rattle.ada_lower.specs.Leased.{leased_ranges}
 use Rattle.ada_lower.proofs.ForkRange.{Chunks, Numbered, numbered}
 use Rattle.ada_lower.proofs.ForkSites as sites
 use Rattle.ada_lower.proofs.Leasing.{lends_by}
-use Rattle.ada_lower.proofs.Lent.{Lending, ranged}
+use Rattle.ada_lower.proofs.Lent.{Lending}
 
 -- ---- shares that are dealt are apart
 

@@ -15,7 +15,7 @@ use Rattle.ada_base.specs.Cells.{Cell, Mine, value_in}
 use Rattle.ada_lower.specs.Driven.{Dyn, Fixed, Step, thrown, Comes}
 use Rattle.ada_lower.specs.Emission.{Shape, lead, shapes_cells}
 use Rattle.ada_lower.specs.Fits.{What, Free, Keeps, Access, Right, Ghost, Fit, Ends, Land, Lands, Spread, Allows, Stands as StandsFor, Asks}
-use Rattle.ada_lower.proofs.Framework.{any, To, Doing, comes_here, comes_on, land_from, lands_from, allows_split, asks_split, leads_on}
+use Rattle.ada_lower.proofs.Framework.{any, To, Doing, comes_here, land_from, lands_from, allows_split, asks_split, leads_on}
 use Rattle.ada_lower.proofs.Memory.{fit_alike}
 use Rattle.ada_lower.proofs.Parts.{allows_fewer}
 use Rattle.ada_lower.proofs.Declared.{keeping, having, laid_what, laid_out, laid_in, kept_what, among, length_in, Fresh, fresh_of, fit_having, fit_ended}

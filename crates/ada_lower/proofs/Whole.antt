@@ -1,6 +1,6 @@
 -- The code of a program does what its noted stored run does, in order and by any notes: the main procedure begins at its first
 -- instruction, and each subprogram where it is listed.
-use Rattle.std.proofs.Common.{◌≡◌, ℕ, pos, List, [], replicate, Option, None, Ok, Bool, refl}
+use Rattle.std.proofs.Common.{◌≡◌, ℕ, pos, List, [], replicate, Option, None, Ok, Bool}
 use Rattle.behaviours.specs.Paths.{Entity}
 use Rattle.typed_tree.specs.Syntax.{Expr, Stmt, Program}
 use Rattle.ada_meaning.specs.Operations.{Operations}

@@ -1,6 +1,5 @@
 -- On the code of an accepted program each outermost fork is fine, where leases are as they should be.
 use Rattle.std.proofs.Common.{◌≡◌, ℕ, List, [], ◌∷◌, Option, Some, None, Result, Ok, Err, Bool, true, refl}
-use Rattle.behaviours.specs.Paths as paths
 use Rattle.behaviours.specs.Paths.{Entity, Exits, Returns, Raises}
 use Rattle.ada_base.specs.Cuts.{cuts_of}
 use Rattle.ada_base.specs.Notes.{Schedule, InOrder}
@@ -12,14 +11,13 @@ use Rattle.ada_meaning.specs.Touched.{EachTeam}
 use Rattle.ada_meaning.specs.Meaning
 use Rattle.ada_meaning.proofs.Unblocked.{blocked_law}
 use Rattle.check_effects.specs.Accepted.{IsAccepted}
-use Rattle.check_effects.specs.Conflicts.{AllClean}
 use Rattle.check_effects.specs.Touching.{IsTeamCovered}
 use Rattle.check_effects.proofs.Accepting.{accept_law}
 use Rattle.check_effects.proofs.Touching.{touch_law}
 use Rattle.stack_code.specs.declared.code.Code.{Code}
 use Rattle.stack_code.specs.declared.code.CodeSite.{CodeSite}
 use Rattle.stack_code.specs.Machine.{Done}
-use Rattle.ada_lower.specs.Driven.{Dyn, Step, Safe, on, off}
+use Rattle.ada_lower.specs.Driven.{Step, Safe, on, off}
 use Rattle.ada_lower.specs.Sights.{Named, Sight}
 use Rattle.ada_lower.specs.Fits.{Ghost, Lands}
 use Rattle.ada_lower.specs.Teams.{AreSound, IsSound, OnePlace}

@@ -32,7 +32,7 @@ use Rattle.stack_code.specs.declared.path.Leave.{Leave}
 use Rattle.stack_code.specs.declared.path.Leave.TheVariants as leave
 use Rattle.stack_code.specs.Listing.{reason_number}
 use Rattle.ada_base.specs.Cells.{Cell, Mine, zeros}
-use Rattle.stack_code.specs.Machine.{Frame, State, Stop, Done, Left, Spent, Cut, Asks, Constructs, Stuck, Astray, Went, Goes, Stops, entry_of, ended, step, resumed, begun, sees}
+use Rattle.stack_code.specs.Machine.{Frame, State, Stop, Done, Left, Spent, Cut, Asks, Constructs, Astray, Went, Goes, Stops, entry_of, ended, step, resumed, begun, sees}
 
 -- input and output
 pub record World : Type 0 where

@@ -1,5 +1,5 @@
 -- What the law says of the code of a typed program beside what is emitted.
-use Rattle.std.specs.Prelude.{◌≡◌, ℕ, ◌+◌, ℤ, nat_eq, List, [], ◌∷◌, ◌++◌, Some, cond, slice_get}
+use Rattle.std.specs.Prelude.{◌≡◌, ℕ, ◌+◌, ℤ, List, [], ◌∷◌, ◌++◌, Some, slice_get}
 use Rattle.ada_base.specs.Image.{padded}
 use Rattle.ada_meaning.specs.Values.{image_of}
 use Rattle.typed_tree.specs.Syntax.{Pieces, NoPiece, Text, Image, Padded}

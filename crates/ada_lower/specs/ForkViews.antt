@@ -1,8 +1,7 @@
 -- What a thread has on its view: the cells that are leased to it, those that are to read, and not those of other threads.
-use Rattle.std.specs.Prelude.{◌≡◌, ℕ, suc, nat_eq, ℤ, List, [], ◌∷◌, Option, Some, None, Bool, true, false, cond}
+use Rattle.std.specs.Prelude.{◌≡◌, ℕ, ℤ, List, [], ◌∷◌, Option, Some, None, Bool, true, false}
 use Rattle.behaviours.specs.Paths.{Entity, VariableOf, ConstantOf}
 use Rattle.ada_meaning.specs.Stored.{State, Touch, Address, cell_at}
-use Rattle.ada_base.specs.Cells.{Cell, Gone, Seen, Mine}
 pub use Rattle.ada_lower.specs.Views.{access_by, view_cell, viewed}
 use Rattle.ada_lower.specs.Driven.{Dyn}
 use Rattle.lower_emission.specs.Scope.{at_free}

@@ -1,5 +1,5 @@
 -- What a view shows of a memory: cells that are lent to its thread, cells to read, and not those that other threads have.
-use Rattle.std.specs.Prelude.{ℕ, suc, nat_eq, ℤ, List, [], ◌∷◌, Option, Some, None, cond}
+use Rattle.std.specs.Prelude.{ℕ, suc, nat_eq, List, [], ◌∷◌, Option, Some, None, cond}
 use Rattle.ada_base.specs.Cells.{Cell, Gone, Seen, Mine}
 
 -- what may be done with a cell: nothing, as other threads have it; it may be read; or written too

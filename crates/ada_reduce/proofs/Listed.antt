@@ -1,5 +1,5 @@
 -- The listed operators: what makes their folds the same however values are cut.
-use Rattle.std.proofs.Common.{◌≡◌, ℕ, ℤ, pos, ◌+ℤ◌, ◌*ℤ◌, List, [], ◌∷◌, ◌++◌, Some, None, cond, Bool, true, false, refl, sym, subst, ap, ◌∙◌, arith}
+use Rattle.std.proofs.Common.{◌≡◌, ℕ, ℤ, pos, ◌+ℤ◌, ◌*ℤ◌, List, [], ◌∷◌, ◌++◌, Some, cond, Bool, true, false, refl, sym, subst, ap, ◌∙◌, arith}
 use Rattle.std.specs.Prelude.{◌-ℤ◌, int_lt}
 use Rattle.std.proofs.Math.IntN.{+ℤ_assoc, +ℤ_comm, +ℤ_idl, +ℤ_idr, *ℤ_comm, *ℤ-one, one}
 use Rattle.std.proofs.lemmas.Int.{ints, clamps}
@@ -16,7 +16,7 @@ use Rattle.ada_meaning.specs.Sequential.{IsListed, HasNoPartialOverflow, total, 
 use Rattle.ada_meaning.proofs.Folds.{over}
 use Rattle.ada_reduce.specs.Folds.{IsTaken}
 use Rattle.ada_reduce.proofs.Products.{times_assoc}
-use Rattle.ada_reduce.proofs.Folding.{within_some, bit_in, bits_to}
+use Rattle.ada_reduce.proofs.Folding.{within_some, bits_to}
 
 -- what a step puts together, and whether that fits
 pub record Listed (o : Op) (class : Class) (initial : ℤ) : Type 0 where

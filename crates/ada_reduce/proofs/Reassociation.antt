@@ -1,5 +1,5 @@
 -- Folds of chunks, put together, are the fold of the whole.
-use Rattle.std.proofs.Common.{◌≡◌, ℕ, ℤ, List, [], ◌∷◌, ◌++◌, Option, Some, None, true, refl, sym, subst, ap, ◌∙◌, append_assoc, append-nil}
+use Rattle.std.proofs.Common.{◌≡◌, ℕ, ℤ, List, [], ◌∷◌, ◌++◌, Some, true, refl, sym, subst, ap, ◌∙◌, append_assoc, append-nil}
 use Rattle.ada_base.specs.declared.operation.Op.{Op}
 use Rattle.ada_base.specs.Operation.{result_of}
 use Rattle.typed_tree.specs.declared.scalars.Class.{Class}

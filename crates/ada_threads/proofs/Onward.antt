@@ -1,6 +1,5 @@
 -- From a path that comes to an end, what it comes to on the way does too.
-use Rattle.std.proofs.Common.{◌≡◌, ℕ, zero, suc, ◌+◌, ℤ, Bool, false, List, [], ◌∷◌, length, slice_get, Option, Some, None, Result, Ok, Err, refl, sym, ◌∙◌, ap, subst}
-use Rattle.std.specs.Prelude.{max}
+use Rattle.std.proofs.Common.{◌≡◌, ℕ, zero, suc, ℤ, Bool, false, List, [], ◌∷◌, length, slice_get, Option, Some, None, Result, Ok, Err, refl, sym, subst}
 use Rattle.behaviours.specs.Joins.{Share, deal}
 use Rattle.ada_base.specs.Cuts.{Plan}
 use Rattle.ada_workers.specs.Paths.{Fine}
@@ -8,10 +7,9 @@ use Rattle.stack_code.specs.declared.code.Code.{Code}
 use Rattle.stack_code.specs.declared.code.CodeSite.{CodeSite}
 use Rattle.stack_code.specs.declared.path.Asked.{Asked}
 use Rattle.stack_code.specs.declared.path.Gave.{Gave}
-use Rattle.stack_code.specs.declared.path.Leave.{Leave}
 use Rattle.stack_code.specs.Machine.{State, Stop, Done, Left, Spent, Cut, Asks, Constructs, Stuck, Astray, Went, Goes, Stops, step, going, run}
 use Rattle.stack_code.specs.Machine as machine
-use Rattle.ada_lower.specs.Driven.{World, Dyn, Path, Final, Step, On, Off, Forks, Forked, cut_to, raw_of, sizes_for, with_turns, thread_ended, thread_went, in_order, gathered, thread_at, answer_of, with_answer, answering, at_site, fork_ended, driven, answered, after_fork}
+use Rattle.ada_lower.specs.Driven.{World, Dyn, Path, Final, On, Off, Forks, Forked, cut_to, raw_of, sizes_for, with_turns, thread_ended, thread_went, in_order, thread_at, answer_of, with_answer, answering, at_site, fork_ended, driven, answered, after_fork}
 use Rattle.machine_paths.specs.Silent.{unasked, silently, Quietly, AsksNothing, Orders}
 use Rattle.machine_paths.specs.Threads.{quiet, ending}
 use Rattle.ada_threads.specs.Going.{FineHow}

@@ -1,14 +1,12 @@
 -- Where the machine stopped, as steps of a path whose looks are counted or not.
-use Rattle.std.proofs.Common.{◌≡◌, ℕ, ◌+◌, List, [], ◌∷◌, Option, Some, None, arith, refl, sym, ap, subst}
+use Rattle.std.proofs.Common.{◌≡◌, ℕ, ◌+◌, List, Option, Some, None, arith, refl, sym, ap, subst}
 use Rattle.ada_base.specs.Cells.{Cell}
 use Rattle.ada_base.specs.Cuts.{Plan}
 use Rattle.stack_code.specs.declared.code.Code.{Code}
-use Rattle.stack_code.specs.declared.path.Asked.{Asked}
-use Rattle.stack_code.specs.declared.path.Leave.{Leave}
 use Rattle.stack_code.specs.Machine.{State, Stop, Done, Left, Spent, Cut, Constructs, Stops}
 use Rattle.stack_code.specs.Machine as machine
-use Rattle.stack_code.specs.Looks.{counting, Looks, Looks_to}
-use Rattle.ada_lower.specs.Driven.{World, Path, Dyn, Final, Step, On, Off, Forks, answered, dyn_of}
+use Rattle.stack_code.specs.Looks.{counting, Looks_to}
+use Rattle.ada_lower.specs.Driven.{World, Dyn, Final, Step, On, Off, answered, dyn_of}
 use Rattle.ada_machine.specs.States.{state_of, frames_of}
 use Rattle.ada_machine.specs.declared.machine.Machine.{Machine}
 use Rattle.machine_paths.specs.Silent.{Quietly, Leads, AsksNothing}

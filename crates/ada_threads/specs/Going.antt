@@ -1,12 +1,12 @@
 -- What a thread's machine comes to, with the constructs inside it run in order.
-use Rattle.std.specs.Prelude.{◌≡◌, ℕ, ◌+◌, Result, Ok, Err, List, [], ◌∷◌, take, Option, Some, None}
+use Rattle.std.specs.Prelude.{ℕ, ◌+◌, Result, Ok, Err, List, [], ◌∷◌, take, Option, Some, None}
 use Rattle.ada_base.specs.Cells.{Cell}
 use Rattle.ada_base.specs.Cuts.{Plan}
 use Rattle.ada_workers.specs.Paths.{Fine}
 use Rattle.stack_code.specs.declared.code.Code.{Code}
 use Rattle.stack_code.specs.declared.path.Gave.{Gave}
 use Rattle.stack_code.specs.Machine.{Frame, State, Stop}
-use Rattle.ada_lower.specs.Driven.{World, Path, Dyn, Final, Step, On}
+use Rattle.ada_lower.specs.Driven.{Path, Final, Step}
 use Rattle.machine_paths.specs.Silent.{Quietly}
 use Rattle.machine_paths.specs.Threads.{quiet, ending}
 

@@ -1,6 +1,6 @@
 -- Programs in scope are ready for their code: their calls name subprograms that are there, and their values have their cells.
-use Rattle.std.proofs.Common.{◌≡◌, ◌⊎◌, inl, inr, ℕ, zero, suc, ◌+◌, ◌≤◌, List, [], ◌∷◌, length, nat_eq, Option, Some, None, Bool, true, false, cond, refl, sym, ap, ◌∙◌, subst, arith, eqb-true}
-use Rattle.behaviours.specs.Paths.{Entity, VariableOf, ConstantOf, entity_eq}
+use Rattle.std.proofs.Common.{◌≡◌, ◌⊎◌, inl, inr, ℕ, suc, ◌+◌, ◌≤◌, List, [], ◌∷◌, nat_eq, Some, Bool, true, false, cond, refl, sym, ap, ◌∙◌, subst, arith, eqb-true}
+use Rattle.behaviours.specs.Paths.{Entity, VariableOf, ConstantOf}
 use Rattle.typed_tree.specs.declared.scalars.Scalar.{Scalar}
 use Rattle.typed_tree.specs.declared.expressions.Run.{Run}
 use Rattle.typed_tree.specs.declared.expressions.Reducer.{Reducer}
@@ -11,8 +11,8 @@ use Rattle.typed_tree.specs.declared.program.Mode.TheVariants as mode
 use Rattle.typed_tree.specs.Syntax.{Expr, Static, Variable, Constant, Parameter, Target, Group, Unary, Binary, AndThen, OrElse, Relation, Membership, If, Call, Convert, Reduction, Optional, Absent, Present, Selections, Whole, Field, Index, Actuals, NoActual, In, InOut, Out, CompositeInOut, CompositeOut, Value, Number, Cells, Composite, WholeVariable, WholeConstant, WholeTarget, CompositeIf, Aggregate, Associations, NoAssociation, Association, Iteration, Range, Components, Chunk, NoChunk, Count, Each, Pieces, NoPiece, Text, Image, Padded, Decls, NoDecl, DeclareDefault, DeclareVariable, DeclareConstant, Mentions, Stmt, Null, Assign, CallProcedure, Exit, Return, ReturnValue, Raise, Reraise, IfThen, Case, Loop, For, ParallelFor, Parallel, Block, Put, Get, Stmts, End, Then, Alternatives, NoAlternative, Alternative, Arms, NoArm, Arm, Handlers, NoHandler, Handler, Sub, Program}
 use Rattle.ada_meaning.specs.Meaning.{sub_at}
 use Rattle.lower_emission.specs.Programs.{has_result}
-use Rattle.ada_lower.specs.Emission.{formal_cell, formals_in, lead, shapes, shapes_cells, composite_width, width}
-use Rattle.ada_lower.specs.Ready.{RunsIn, Calls, ReadyReducer, ReadyExpr, ReadyOptional, ReadySelections, ReadyActuals, ReadyValue, ReadyComposite, ReadyAssociations, ReadyIteration, ReadyChunk, ReadyPieces, ReadyDecls, ReadyStmt, ReadyAll, ReadyAlternatives, ReadyArms, ReadyHandlers, ReadyBody, ReadySubs, IsReady}
+use Rattle.ada_lower.specs.Emission.{formal_cell, formals_in, shapes, shapes_cells, composite_width, width}
+use Rattle.ada_lower.specs.Ready.{RunsIn, Calls, ReadyReducer, ReadyExpr, ReadyOptional, ReadySelections, ReadyActuals, ReadyValue, ReadyComposite, ReadyAssociations, ReadyIteration, ReadyChunk, ReadyPieces, ReadyDecls, ReadyStmt, ReadyAll, ReadyAlternatives, ReadyArms, ReadyHandlers, ReadySubs, IsReady}
 use Rattle.lower_formed.specs.Scopes.{Around, Called, LieWithin, ScopedReducer, ScopedExpr, ScopedOptional, ScopedSelections, ScopedIn, ScopedActuals, ScopedValue, ScopedComposite, ScopedAssociations, ScopedIteration, ScopedChunk, ScopedPieces, ScopedDecls, ScopedMain, ScopedStmt, ScopedAll, ScopedAlternatives, ScopedArms, ScopedHandlers, IsScoped, formal_of, handling, object_cells, outset, with_chunk, with_index, with_object, with_outer, with_parameter, with_target}
 use Rattle.lower_formed.proofs.Formals.{entity_refl, formals_are}
 use Rattle.lower_formed.proofs.FitsValues.{composite_is, width_is}

@@ -1,7 +1,7 @@
-use Rattle.std.proofs.Common.{pos, rules, sym, ap, subst, ◌∙◌, ◌≡◌, get_or, None, Some}
+use Rattle.std.proofs.Common.{pos, rules, sym, ap, subst, ◌∙◌, get_or, Some}
 use Rattle.std.proofs.lemmas.Int.{to_z-of_z}
 use mir.Syntax.{w64}
-use mir.Val.{SFits, to_z, of_z}
+use mir.Val.{SFits, to_z}
 use Rattle.ada_base.specs.Operation.{result_of, CanApply}
 use Rattle.ada_reduce.specs.Folds.{fold_of, IsTaken}
 use Rattle.ada_reduce.proofs.Folding.{can_apply, taken_at, taken_on, fold_on, fold_off}

@@ -1,8 +1,8 @@
-use Rattle.std.proofs.Common.{pos, rules, sym, ap, subst, ◌∙◌, ◌≡◌, get_or, None, Some, [], ◌∷◌}
+use Rattle.std.proofs.Common.{pos, rules, sym, ap, ◌∙◌, get_or, Some, [], ◌∷◌}
 use Rattle.std.proofs.lemmas.Int.{to_z-of_z}
 use Rattle.std.proofs.Math.ListN.{drop_of_length-le}
 use mir.Syntax.{w64}
-use mir.Val.{SFits, to_z, of_z}
+use mir.Val.{SFits, to_z}
 use Rattle.stack_code.specs.declared.path.Gave.TheVariants as gave
 use Rattle.ada_lower.specs.Driven.{combine_by, onto_by, raised_or}
 use Rattle.ada_threads.proofs.Onto.{onto_on, onto_off}
