@@ -5,7 +5,7 @@ use Rattle.typed_tree.specs.Syntax.{Expr, Sub, Present}
 use Rattle.typed_tree.specs.declared.typed.Typed.{Typed}
 use Rattle.typed_tree.specs.declared.program.Sub as tree-sub
 use Rattle.typed_tree.specs.Programs.{program, sub_of}
-use Rattle.typed_tree.specs.Decoded.{Part, as_expr, as_optional, AnExpr}
+use Rattle.typed_tree.specs.Decoded.{TypedPart, as_expr, as_optional, AnExpr}
 use Rattle.ada_meaning.specs.Nonblocking.{nonblocking_of}
 use Rattle.check_calls.specs.Words.{rule_of}
 
@@ -27,6 +27,6 @@ unfolding rule_of
 rule_some t s sub e = sym (nonblocking_at (program t).subs s ∙ ap of_found e)
 
 -- an expression that is there
-pub present_is : (p : Part) (e : Expr) → as_optional p ≡ Present e → as_expr p ≡ e
+pub present_is : (p : TypedPart) (e : Expr) → as_optional p ≡ Present e → as_expr p ≡ e
 present_is (AnExpr x) e h = cc
 present_is _ e h = cc

@@ -1,7 +1,7 @@
 -- The variables of a list of declarations, cell by cell.
 use Rattle.std.proofs.Common.{◌≡◌, ℕ, List, Option, Some, None, refl, ap, ◌∙◌}
 use Rattle.ada_base.specs.Tokens.{Tokenized}
-use Rattle.typed_tree.specs.Decoded.{Part, as_decl, as_decls, decls_at, part_at}
+use Rattle.typed_tree.specs.Decoded.{TypedPart, as_decl, as_decls, decls_at, part_at}
 use Rattle.typed_tree.specs.Syntax.{Program, Decls}
 use Rattle.typed_tree.specs.Viewed.{decl_of, decls_of}
 use Rattle.typed_tree.specs.declared.node.Cell.{Cell}
@@ -11,7 +11,7 @@ use Rattle.typed_tree.specs.declared.statements.Decl.TheVariants as decl
 use Rattle.driver.specs.Compiled.{also_final, declared_variable, finals_behind}
 use Rattle.run_reports.specs.declared.ends.Final.{Final}
 
-also_is : (t : Tokenized) (p : Program) (done : List Final) (at : ℕ → Part) (d : Option Decl) (rest : Decls) → finals_behind t p done (decl_of at d rest) ≡ finals_behind t p (also_final t p done (declared_variable d)) rest
+also_is : (t : Tokenized) (p : Program) (done : List Final) (at : ℕ → TypedPart) (d : Option Decl) (rest : Decls) → finals_behind t p done (decl_of at d rest) ≡ finals_behind t p (also_final t p done (declared_variable d)) rest
 also_is t p done at None rest = refl
 also_is t p done at (Some (decl.Default x)) rest = refl
 also_is t p done at (Some (decl.Variable x initial)) rest = refl

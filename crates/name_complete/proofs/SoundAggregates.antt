@@ -4,7 +4,7 @@ use Rattle.syntax_tree.specs.FirstTokens as first_token
 use Rattle.syntax_tree.specs.Syntax as syntax
 use Rattle.syntax_tree.specs.Syntax.{Assoc, Assocs, Choice, Choices, Expr, Exprs, OptionalExpr}
 use Rattle.typed_tree.specs.Decoded as part
-use Rattle.typed_tree.specs.Decoded.{Part}
+use Rattle.typed_tree.specs.Decoded.{TypedPart}
 use Rattle.typed_tree.specs.declared.expressions.Iterated.{Iterated}
 use Rattle.typed_tree.specs.declared.expressions.Run.{Run}
 use Rattle.name_rules.specs.Aggregates as a
@@ -41,19 +41,19 @@ use Rattle.name_complete.proofs.SoundRanges.{s-chosen_span, s-chosen_value, s-st
 
 -- ---- an aggregate of a record
 
-s-field_value : (G : Type 0) (names : Names) (level : Inside) (here : Context) (made : Option Part) (f : Field) (e : Expr) → LevelSound level → (G → Clear here) → (G → Is Any made) → Sound G (Is Any) (a.field_value names level here made f e)
+s-field_value : (G : Type 0) (names : Names) (level : Inside) (here : Context) (made : Option TypedPart) (f : Field) (e : Expr) → LevelSound level → (G → Clear here) → (G → Is Any made) → Sound G (Is Any) (a.field_value names level here made f e)
 unfolding a.field_value
 s-field_value G names level here made f e l c h =
     s-bind G (Is Any) (Is Any) (value_for names level here f.subtype e) _ (s-value_for G names level here f.subtype e l c) (λ v.
     s-bind _ Any (Is Any) (read (λ log. a.field_run log f)) _ (s-read _ Any (λ log. a.field_run log f) (λ log g. tt)) (λ r.
     s-pure _ (Is Any) (joined (a.with_value (r ∷ []) None part.Nothing) made v) (λ g. joint Any Any Any (a.with_value (r ∷ []) None part.Nothing) made v (h g.0.0) g.0.1 (λ x y m n. tt))))
 
-s-fields_value : (G : Type 0) (names : Names) (level : Inside) (here : Context) (made : Option Part) (fs : List Field) (e : Expr) → LevelSound level → (G → Clear here) → (G → Is Any made) → Sound G (Is Any) (a.fields_value names level here made fs e)
+s-fields_value : (G : Type 0) (names : Names) (level : Inside) (here : Context) (made : Option TypedPart) (fs : List Field) (e : Expr) → LevelSound level → (G → Clear here) → (G → Is Any made) → Sound G (Is Any) (a.fields_value names level here made fs e)
 s-fields_value G names level here made [] e l c h = s-pure G (Is Any) made h
 s-fields_value G names level here made (f ∷ fs) e l c h =
     s-bind G (Is Any) (Is Any) (a.field_value names level here made f e) _ (s-field_value G names level here made f e l c h) (λ x. s-fields_value (G × Is Any x) names level here x fs e l (λ g. c g.0) (λ g. g.1))
 
-s-some_fields : (G : Type 0) (names : Names) (level : Inside) (here : Context) (made : Option Part) (fs : List Field) (e : Expr) → LevelSound level → (G → Clear here) → (G → Is Any made) → Sound G (Is Any) (a.some_fields names level here made fs e)
+s-some_fields : (G : Type 0) (names : Names) (level : Inside) (here : Context) (made : Option TypedPart) (fs : List Field) (e : Expr) → LevelSound level → (G → Clear here) → (G → Is Any made) → Sound G (Is Any) (a.some_fields names level here made fs e)
 s-some_fields G names level here made [] e l c h = s-bind G Any (Is Any) (judged_alone names level here e) _ (s-judged_alone G names level here e l) (λ u. s-pure _ (Is Any) made (λ g. h g.0))
 s-some_fields G names level here made (f ∷ fs) e l c h = s-fields_value G names level here made (f ∷ fs) e l c h
 
@@ -118,7 +118,7 @@ s-filled G bracket cells f h =
 
 -- ---- an aggregate of an array
 
-abbrev RestThere : Option (Option Part) → Type 0
+abbrev RestThere : Option (Option TypedPart) → Type 0
 RestThere None = Unit {0}
 RestThere (Some v) = Is Any v
 
@@ -127,17 +127,17 @@ pub record PlacingOf (d : Dimension) (p : Placing) : Type 0 where
   pub placed : AllWithin d p.ranges → Is Any p.done
   pub rest : RestThere p.rest
 
-with-runs : (i : Option Iterated) (ms : Part) (rs : Option (List Run)) (made v : Option Part) → Is Any rs → Is Any made → Is Any v → Is Any (a.with_runs i ms rs made v)
+with-runs : (i : Option Iterated) (ms : TypedPart) (rs : Option (List Run)) (made v : Option TypedPart) → Is Any rs → Is Any made → Is Any v → Is Any (a.with_runs i ms rs made v)
 with-runs i ms None made v h j k = h
 with-runs i ms (Some rs) made v h j k = joint Any Any Any (a.with_value rs i ms) made v j k (λ x y m n. tt)
 
-with-ranges : (d : Dimension) (apart : ℕ) (i : Option Iterated) (ms : Part) (p : Placing) (rs : List (ℤ × ℤ)) (v : Option Part) → PlacingOf d p → Is Any v → PlacingOf d (a.with_ranges d apart i ms p rs v)
+with-ranges : (d : Dimension) (apart : ℕ) (i : Option Iterated) (ms : TypedPart) (p : Placing) (rs : List (ℤ × ℤ)) (v : Option TypedPart) → PlacingOf d p → Is Any v → PlacingOf d (a.with_ranges d apart i ms p rs v)
 with-ranges d apart i ms p rs v h k = record {
   placed = λ w. let x = each-both _ p.ranges rs w in with-runs i ms (runs_of d apart rs) p.done v (runs-there d apart rs x.1) (h.placed x.0) k;
   rest = h.rest;
 }
 
-with-rest : (d : Dimension) (p : Placing) (v : Option Part) → PlacingOf d p → Is Any v → PlacingOf d (a.with_rest p v)
+with-rest : (d : Dimension) (p : Placing) (v : Option TypedPart) → PlacingOf d p → Is Any v → PlacingOf d (a.with_rest p v)
 with-rest d p v h k = record { placed = h.placed; rest = k }
 
 -- a value of the dimensions behind the first
@@ -160,7 +160,7 @@ s-array_choices G level here k alone last made (syntax.AlsoChoice x xs) l c h =
 s-of_index_type : (G : Type 0) (k : Kind) (first : ℕ) (r : Static) → Sound G (Is Any) (a.of_index_type k first r)
 s-of_index_type G k first r = s-if G (Is Any) (same r.known.kind k) _ (fault first WrongType) (s-some G Any r (λ g. tt)) (s-fault G (Is Any) first WrongType)
 
-chosen-given : (d : Dimension) (apart : ℕ) (p : Placing) (r : Option Choosing') (v : Option Part) → PlacingOf d p → Is Any r → Is Any v → PlacingOf d (a.chosen_given d apart p r v)
+chosen-given : (d : Dimension) (apart : ℕ) (p : Placing) (r : Option Choosing') (v : Option TypedPart) → PlacingOf d p → Is Any r → Is Any v → PlacingOf d (a.chosen_given d apart p r v)
 chosen-given d apart p None v h i k = absurd i
 chosen-given d apart p (Some c) v h i k = by c.rest
   where
@@ -168,7 +168,7 @@ chosen-given d apart p (Some c) v h i k = by c.rest
     by true = with-rest d p v h k
     by false = with-ranges d apart None c.mentions p c.ranges v h k
 
-iterated-given : (d : Dimension) (apart n : ℕ) (p : Placing) (r : Option Static) (v : Option Part) → PlacingOf d p → Is Any r → Is Any v → PlacingOf d (a.iterated_given d apart n p r v)
+iterated-given : (d : Dimension) (apart n : ℕ) (p : Placing) (r : Option Static) (v : Option TypedPart) → PlacingOf d p → Is Any r → Is Any v → PlacingOf d (a.iterated_given d apart n p r v)
 iterated-given d apart n p None v h i k = absurd i
 iterated-given d apart n p (Some r) v h i k = with-ranges d apart (Some (record { parameter = n; first = r.known.low })) r.part p ((r.known.low, r.known.high) ∷ []) v h k
 
@@ -215,11 +215,11 @@ s-array_placed G names level here component d apart (ByPosition es o) l m c =
     s-array_rest _ here component d o p m (λ g. c g.0) (λ g. g.1))
 s-array_placed G names level here component d apart (ByAssociation xs) l m c = s-array_assocs G names level here component d apart a.nothing_placed xs l m c (λ g. record { placed = λ w. tt; rest = tt })
 
-s-covered_alone : (G : Type 0) (bracket cells : ℕ) (made : Option Part) (os : List (ℤ × ℤ)) → (G → Is Any made) → Sound G (Is Any) (a.covered_alone bracket cells made os)
+s-covered_alone : (G : Type 0) (bracket cells : ℕ) (made : Option TypedPart) (os : List (ℤ × ℤ)) → (G → Is Any made) → Sound G (Is Any) (a.covered_alone bracket cells made os)
 s-covered_alone G bracket cells made os h =
     s-if G (Is Any) (length os == 0) _ (fault bracket StaticRange) (s-pure G (Is Any) (option_map (a.aggregate_part bracket cells) made) (λ g. mapped Any Any (a.aggregate_part bracket cells) made (h g) (λ x k. tt))) (s-fault G (Is Any) bracket StaticRange)
 
-s-covered : (G : Type 0) (bracket : ℕ) (d : Dimension) (apart cells : ℕ) (p : Placing) (x : Option (List (ℤ × ℤ))) (v : Option (Option Part)) → gaps_of d.low d.high p.ranges ≡ x → (G → PlacingOf d p) → (G → RestThere v) → Sound G (Is Any) (a.covered bracket d apart cells p x v)
+s-covered : (G : Type 0) (bracket : ℕ) (d : Dimension) (apart cells : ℕ) (p : Placing) (x : Option (List (ℤ × ℤ))) (v : Option (Option TypedPart)) → gaps_of d.low d.high p.ranges ≡ x → (G → PlacingOf d p) → (G → RestThere v) → Sound G (Is Any) (a.covered bracket d apart cells p x v)
 s-covered G bracket d apart cells p None v e h i = s-fault G (Is Any) bracket StaticRange
 s-covered G bracket d apart cells p (Some os) None e h i = s-covered_alone G bracket cells p.done os (λ g. (h g).placed (gaps-within d p.ranges os e).0)
 s-covered G bracket d apart cells p (Some os) (Some v) e h i =
@@ -238,7 +238,7 @@ s-no_aggregate G names level here e l c =
     s-bind G (Is (FoundFor wanted.Other)) (Is Any) (expr names level here wanted.Other e) _ (s-expr G names level here wanted.Other e l c (λ g. tt)) (λ x.
     s-given _ (FoundFor wanted.Other) Any x (λ f. fault (first_token.of_expr e) WrongType) (λ g. g.1) (λ f. s-fault _ (Is Any) (first_token.of_expr e) WrongType))
 
-inner-there : (f : Known) (x : Part) → IsRest f → Is Any (a.inner_value f x)
+inner-there : (f : Known) (x : TypedPart) → IsRest f → Is Any (a.inner_value f x)
 inner-there (known.Rest first) x h = tt
 inner-there (known.Universal first z alone) x h = absurd h
 inner-there (known.Open first l) x h = absurd h
@@ -296,7 +296,7 @@ s-placeless G names level here R bracket ps l =
 
 -- ---- aggregates
 
-s-composite : (G : Type 0) (names : Names) (level : Inside) (here : Context) (bracket n i : ℕ) (R : Found → Type 0) (made : Part → Found) (log : Log) (ps : Contents) → LevelSound level → (G → Clear here) → ((x : Part) → R (made x))
+s-composite : (G : Type 0) (names : Names) (level : Inside) (here : Context) (bracket n i : ℕ) (R : Found → Type 0) (made : TypedPart → Found) (log : Log) (ps : Contents) → LevelSound level → (G → Clear here) → ((x : TypedPart) → R (made x))
     → Sound G (Is R) (a.composite_at names level here bracket n i log (shape_in log n) ps >>= λ c. pure (option_map made c))
 s-composite G names level here bracket n i R made log ps l c f =
     s-bind G (Is Any) (Is R) (a.composite_at names level here bracket n i log (shape_in log n) ps) _ (s-composite_at G names level here bracket n i log (shape_in log n) ps l c) (λ x.

@@ -3,7 +3,7 @@ use Rattle.std.proofs.Common.{◌&&◌, ℕ, ℤ, pos, List, [], ◌∷◌, leng
 use Rattle.std.specs.Prelude.{int_le}
 use Rattle.ada_base.specs.declared.operation.Op.TheVariants as op
 use Rattle.ada_base.specs.declared.operation.Op.{Op}
-use Rattle.typed_tree.specs.Decoded.{Part, as_expr}
+use Rattle.typed_tree.specs.Decoded.{TypedPart, as_expr}
 use Rattle.name_rules.specs.Expressions.{Inside}
 use Rattle.name_rules.specs.Found.{Denoted, Found, denote}
 use Rattle.name_rules.specs.Judging.{◌>>=◌, fault, given, read}
@@ -12,7 +12,7 @@ use Rattle.name_rules.specs.Values.{asked, first_of, is_number}
 use Rattle.name_rules.specs.declared.found.Denoted.TheVariants as denoted
 use Rattle.name_rules.specs.declared.found.Denoted.{Denoted as KnownDenoted}
 use Rattle.name_rules.specs.declared.found.Found.TheVariants as known
-use Rattle.name_rules.specs.declared.found.Place.{Place}
+use Rattle.name_rules.specs.declared.found.ObjectName.{ObjectName}
 use Rattle.name_rules.specs.declared.log.Dimension.{Dimension}
 use Rattle.name_rules.specs.declared.log.Rule.TheVariants as rule
 use Rattle.name_rules.specs.declared.scope.Context.{Context}
@@ -51,39 +51,39 @@ s-scalar_bound G first s attribute'.First = s-some G DenotedOf _ (λ g. tt)
 s-scalar_bound G first s attribute'.Last = s-some G DenotedOf _ (λ g. tt)
 s-scalar_bound G first s x = wrong G first
 
-s-dimension_bound : (G : Type 0) (first : ℕ) (ms : Part) (x : Attribute) (d : Dimension) → Sound G (Is DenotedOf) (a.dimension_bound first ms x d)
+s-dimension_bound : (G : Type 0) (first : ℕ) (ms : TypedPart) (x : Attribute) (d : Dimension) → Sound G (Is DenotedOf) (a.dimension_bound first ms x d)
 s-dimension_bound G first ms attribute'.First d = s-some G DenotedOf _ (λ g. tt)
 s-dimension_bound G first ms attribute'.Last d = s-some G DenotedOf _ (λ g. tt)
 s-dimension_bound G first ms attribute'.Length d = s-some G DenotedOf _ (λ g. tt)
 s-dimension_bound G first ms attribute'.Range d = s-some G DenotedOf _ (λ g. tt)
 s-dimension_bound G first ms x d = wrong G first
 
-s-bound_in : (G : Type 0) (first : ℕ) (ms : Part) (x : Attribute) (d : Option Dimension) → Sound G (Is DenotedOf) (a.bound_in first ms x d)
+s-bound_in : (G : Type 0) (first : ℕ) (ms : TypedPart) (x : Attribute) (d : Option Dimension) → Sound G (Is DenotedOf) (a.bound_in first ms x d)
 s-bound_in G first ms x None = wrong G first
 s-bound_in G first ms x (Some d) = s-dimension_bound G first ms x d
 
-s-bound_of : (G : Type 0) (first : ℕ) (p : Prefix) (y : Part) (x : Attribute) → Sound G (Is DenotedOf) (read (λ log. slice_get (a.dimensions_in log (a.prefix_subtype p)) 0) >>= a.bound_in first (a.mentioned p y) x)
+s-bound_of : (G : Type 0) (first : ℕ) (p : Prefix) (y : TypedPart) (x : Attribute) → Sound G (Is DenotedOf) (read (λ log. slice_get (a.dimensions_in log (a.prefix_subtype p)) 0) >>= a.bound_in first (a.mentioned p y) x)
 s-bound_of G first p y x = s-bind G Any (Is DenotedOf) (read (λ log. slice_get (a.dimensions_in log (a.prefix_subtype p)) 0)) _ (s-read G Any (λ log. slice_get (a.dimensions_in log (a.prefix_subtype p)) 0) (λ log g. tt)) (λ d. s-bound_in _ first (a.mentioned p y) x d)
 
-s-bound_alone : (G : Type 0) (first : ℕ) (p : Prefix) (y : Part) (x : Attribute) → Sound G (Is DenotedOf) (a.bound_alone first p y x)
+s-bound_alone : (G : Type 0) (first : ℕ) (p : Prefix) (y : TypedPart) (x : Attribute) → Sound G (Is DenotedOf) (a.bound_alone first p y x)
 s-bound_alone G first (prefix.Type (subtype.Scalar s)) y x = s-scalar_bound G first s x
 s-bound_alone G first p y x = s-bound_of G first p y x
 
-s-dimension_at : (G : Type 0) (first : ℕ) (ms : Part) (x : Attribute) (ds : List Dimension) (at : ℕ) (z : ℤ) → Sound G (Is DenotedOf) (a.dimension_at first ms x ds at z)
+s-dimension_at : (G : Type 0) (first : ℕ) (ms : TypedPart) (x : Attribute) (ds : List Dimension) (at : ℕ) (z : ℤ) → Sound G (Is DenotedOf) (a.dimension_at first ms x ds at z)
 s-dimension_at G first ms x ds at z = s-if G (Is DenotedOf) (int_le (pos 1) z && int_le z (pos (length ds))) _ _ (s-bound_in G first ms x _) (s-fault G (Is DenotedOf) at rule.StaticRange)
 
-s-dimension_given : (G : Type 0) (first : ℕ) (ms : Part) (x : Attribute) (ds : List Dimension) (f : Found) → Sound G (Is DenotedOf) (a.dimension_given first ms x ds f)
+s-dimension_given : (G : Type 0) (first : ℕ) (ms : TypedPart) (x : Attribute) (ds : List Dimension) (f : Found) → Sound G (Is DenotedOf) (a.dimension_given first ms x ds f)
 s-dimension_given G first ms x ds f =
     s-if G (Is DenotedOf) (is_number f.known) _ _
     (s-bind G (Is Any) (Is DenotedOf) (v.static_of_kind (v.own_kind f.known) f) _ (s-static_of_kind G (v.own_kind f.known) f) (λ w. s-given _ Any DenotedOf w _ (λ g. g.1) (λ z. s-dimension_at _ first (also_all ms (v.mentions_of f)) x ds (first_of f.known) z)))
     (wrong G (first_of f.known))
 
-s-one_dimension : (G : Type 0) (first bracket : ℕ) (ms : Part) (x : Attribute) (ds : List Dimension) (ns : List (Option ℕ)) (fs : List Found) → Sound G (Is DenotedOf) (a.one_dimension first bracket ms x ds ns fs)
+s-one_dimension : (G : Type 0) (first bracket : ℕ) (ms : TypedPart) (x : Attribute) (ds : List Dimension) (ns : List (Option ℕ)) (fs : List Found) → Sound G (Is DenotedOf) (a.one_dimension first bracket ms x ds ns fs)
 s-one_dimension G first bracket ms x ds (None ∷ []) (f ∷ []) = s-dimension_given G first ms x ds f
 s-one_dimension G first bracket ms x ds (Some name ∷ []) fs = wrong G name
 s-one_dimension G first bracket ms x ds ns fs = wrong G bracket
 
-pub s-bound_with : (G : Type 0) (names : Names) (inside : Inside) (here : Context) (first : ℕ) (ms : Part) (x : Attribute) (bracket : ℕ) (as' : Args) (ds : List Dimension) → LevelSound inside → (G → Clear here)
+pub s-bound_with : (G : Type 0) (names : Names) (inside : Inside) (here : Context) (first : ℕ) (ms : TypedPart) (x : Attribute) (bracket : ℕ) (as' : Args) (ds : List Dimension) → LevelSound inside → (G → Clear here)
     → Sound G (Is DenotedOf) (a.bound_with names inside here first ms x bracket as' ds)
 s-bound_with G names inside here first ms x bracket as' [] l c = wrong G first
 s-bound_with G names inside here first ms x bracket as' (d ∷ ds) l c =
@@ -138,7 +138,7 @@ s-scalar_with G names inside here first s attribute'.Succ bracket as' l c = s-st
 s-scalar_with G names inside here first s attribute'.Pred bracket as' l c = s-stepped G names inside here first s op.Sub bracket as' l c
 s-scalar_with G names inside here first s x bracket as' l c = s-scalar_other G names inside here first s x as' l
 
-s-object_image : (G : Type 0) (first : ℕ) (p : Place) (x : Part) (s : Subtype) → Sound G (Is DenotedOf) (a.object_image first p x s)
+s-object_image : (G : Type 0) (first : ℕ) (p : ObjectName) (x : TypedPart) (s : Subtype) → Sound G (Is DenotedOf) (a.object_image first p x s)
 s-object_image G first p x (subtype.Scalar s) = s-one_given G s.kind (a.image_text first s.kind) (record { known = known.Object p; part = x }) (λ e. tt)
 s-object_image G first p x (subtype.Composite n) = wrong G first
 
@@ -148,18 +148,18 @@ s-reduced_alone : (G : Type 0) (first at : ℕ) (b : Bool) → Sound G (Is Denot
 s-reduced_alone G first at true = wrong G first
 s-reduced_alone G first at false = s-fault G (Is DenotedOf) at rule.ReduceRule
 
-s-other_alone : (G : Type 0) (first : ℕ) (p : Prefix) (y : Part) (at : ℕ) (x : Attribute)
+s-other_alone : (G : Type 0) (first : ℕ) (p : Prefix) (y : TypedPart) (at : ℕ) (x : Attribute)
     → Sound G (Is DenotedOf) (if a.is_bound x then a.bound_alone first p y x else if a.is_reduction x then (read (λ log. a.is_array_object log p) >>= a.reduced_alone first at) else fault first rule.WrongType)
 s-other_alone G first p y at x =
     s-if G (Is DenotedOf) (a.is_bound x) _ _ (s-bound_alone G first p y x)
     (s-if G (Is DenotedOf) (a.is_reduction x) _ _ (s-bind G Any (Is DenotedOf) (read (λ log. a.is_array_object log p)) _ (s-read G Any (λ log. a.is_array_object log p) (λ log g. tt)) (λ b. s-reduced_alone _ first at b)) (wrong G first))
 
-s-alone_at : (G : Type 0) (first : ℕ) (p : Prefix) (y : Part) (at : ℕ) (x : Attribute) → Sound G (Is DenotedOf) (a.alone first p y at x)
+s-alone_at : (G : Type 0) (first : ℕ) (p : Prefix) (y : TypedPart) (at : ℕ) (x : Attribute) → Sound G (Is DenotedOf) (a.alone first p y at x)
 s-alone_at G first (prefix.Object p) y at attribute'.Image = s-object_image G first p y p.subtype
 s-alone_at G first (prefix.Parameter s) y at attribute'.Image = s-one_given G s.kind (a.image_text first s.kind) (parameter_found first s y) (λ e. tt)
 s-alone_at G first p y at x = s-other_alone G first p y at x
 
-s-settled_form : (G : Type 0) (d : KnownDenoted) (x : Part) → (G → DenotedOk d) → Sound G (Is DenotedOf) (a.settled_form d x)
+s-settled_form : (G : Type 0) (d : KnownDenoted) (x : TypedPart) → (G → DenotedOk d) → Sound G (Is DenotedOf) (a.settled_form d x)
 s-settled_form G (denoted.Attribute first p at y) x h = s-alone_at G first p x at y
 s-settled_form G d x h = s-some G DenotedOf (denote d x) h
 

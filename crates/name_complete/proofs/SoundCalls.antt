@@ -4,7 +4,7 @@ use Rattle.std.specs.Prelude.{not, ◌||◌, is_some}
 use Rattle.syntax_tree.specs.FirstTokens as first_token
 use Rattle.syntax_tree.specs.Syntax as syntax
 use Rattle.typed_tree.specs.Decoded as part
-use Rattle.typed_tree.specs.Decoded.{Part}
+use Rattle.typed_tree.specs.Decoded.{TypedPart}
 use Rattle.typed_tree.specs.Syntax as typed
 use Rattle.name_rules.specs.Expressions.{Inside, expr, judged_alone, value_for}
 use Rattle.name_rules.specs.Found.{Found}
@@ -15,7 +15,7 @@ use Rattle.name_rules.specs.Values as v
 use Rattle.name_rules.specs.Values.{first_of, is_number}
 use Rattle.name_rules.specs.declared.found.Found.TheVariants as known
 use Rattle.name_rules.specs.declared.found.Found.{Found as Known}
-use Rattle.name_rules.specs.declared.found.Place.{Place}
+use Rattle.name_rules.specs.declared.found.ObjectName.{ObjectName}
 use Rattle.name_rules.specs.declared.log.Rule.TheVariants as rule
 use Rattle.name_rules.specs.declared.scope.Context.{Context}
 use Rattle.name_rules.specs.declared.scope.Names.{Names}
@@ -44,12 +44,12 @@ wrong G at = s-fault G (Is DenotedOf) at rule.WrongType
 
 -- ---- actual parameters
 
-s-place_given : (G : Type 0) (t : Taken) (p : Place) (ss : Selections) (s u : Subtype) → Sound G (Is Any) (a.place_given t p ss s u)
+s-place_given : (G : Type 0) (t : Taken) (p : ObjectName) (ss : Selections) (s u : Subtype) → Sound G (Is Any) (a.place_given t p ss s u)
 s-place_given G t p ss (subtype.Scalar s) (subtype.Scalar u) = s-if G (Is Any) (same s.kind u.kind) _ _ (ok G _) (no G p.first rule.WrongType)
 s-place_given G t p ss (subtype.Composite n) (subtype.Composite m) = s-if G (Is Any) (n == m) _ _ (ok G _) (no G p.first rule.WrongType)
 s-place_given G t p ss s u = no G p.first rule.WrongType
 
-s-variable_form : (G : Type 0) (t : Taken) (f : Known) (x : Part) → Sound G (Is Any) (a.variable_form t f x)
+s-variable_form : (G : Type 0) (t : Taken) (f : Known) (x : TypedPart) → Sound G (Is Any) (a.variable_form t f x)
 s-variable_form G t (known.Object p) x = s-if G (Is Any) p.variable _ _ (s-place_given G t p (selections_of x) t.subtype p.subtype) (no G p.first rule.WrongType)
 s-variable_form G t f x = no G _ rule.WrongType
 
@@ -80,7 +80,7 @@ abbrev Reached : List Taken → Option ℕ → Type 0
 Reached ts None = Unit {0}
 Reached ts (Some i) = Is Any (slice_get ts i)
 
-abbrev Filled : Option ℕ → Option Part → Type 0
+abbrev Filled : Option ℕ → Option TypedPart → Type 0
 Filled None x = Unit {0}
 Filled (Some i) x = Is Any x
 
@@ -120,7 +120,7 @@ unfolding a.actual_for
 s-actual G names inside here ts None e l c h = s-bind G Any (Filled None) (judged_alone names inside here e) _ (s-judged_alone G names inside here e l) (λ u. s-pure _ (Filled None) None (λ g. tt))
 s-actual G names inside here ts (Some i) e l c h = s-weaken G (Is Any) (Filled (Some i)) (a.actual_for names inside here (slice_get ts i) e) (s-actual_for G names inside here (slice_get ts i) e l c h) (λ x g q. q)
 
-filled-in : (i : Option ℕ) (made x : Option Part) → Is Any made → Filled i x → Is Any (a.with_actual i made x)
+filled-in : (i : Option ℕ) (made x : Option TypedPart) → Is Any made → Filled i x → Is Any (a.with_actual i made x)
 filled-in None made x h k = h
 filled-in (Some i) made x h k = joint Any Any Any also made x h k (λ a b p q. tt)
 
@@ -145,7 +145,7 @@ s-complete : (G : Type 0) (at count : ℕ) (late : Option ℕ) (d : Calling) →
 s-complete G at count (Some late) d h = no G late rule.WrongType
 s-complete G at count None d h = s-if G (Is Any) (d.count == count) _ _ (s-pure G (Is Any) d.actuals h) (no G at rule.WrongType)
 
-call-ok : (first last n : ℕ) (s : Option Scalar) (xs : Part) → DenotedOf (a.call_given first last n s xs)
+call-ok : (first last n : ℕ) (s : Option Scalar) (xs : TypedPart) → DenotedOf (a.call_given first last n s xs)
 call-ok first last n None xs = tt
 call-ok first last n (Some s) xs = tt
 

@@ -6,7 +6,7 @@ use Rattle.syntax_tree.specs.FirstTokens as first_token
 use Rattle.syntax_tree.specs.Syntax as syntax
 use Rattle.syntax_tree.specs.Syntax.{Array, Comp, Decl, Definition, Expr, Ids, Indic, ObjectType, Range}
 use Rattle.typed_tree.specs.Decoded as part
-use Rattle.typed_tree.specs.Decoded.{Part}
+use Rattle.typed_tree.specs.Decoded.{TypedPart}
 use Rattle.name_rules.specs.Declarations as d
 use Rattle.name_rules.specs.Declarations.{Building, Dimensions, Indicated, Initial, all_ids, indicated}
 use Rattle.name_rules.specs.Expressions.{Inside, expr, judged_alone}
@@ -185,7 +185,7 @@ s-components G names level start b [] l h = s-pure G BuildingOf b h
 s-components G names level start b (c ∷ cs) l h =
     s-bind G BuildingOf BuildingOf (d.component names level start b c) _ (s-component G names level start b c l h) (λ e. s-components (G × BuildingOf e) names level start e cs l (λ g. g.1))
 
-s-record_written : (G : Type 0) (cells : ℕ) (ms : Part) (fs : List Field) → Sound G (Is Any) (d.record_written cells ms fs)
+s-record_written : (G : Type 0) (cells : ℕ) (ms : TypedPart) (fs : List Field) → Sound G (Is Any) (d.record_written cells ms fs)
 s-record_written G cells ms fs =
     s-bind G Any (Is Any) (written_shape (shape.Record fs cells)) _ (s-written_shape G (shape.Record fs cells)) (λ n. s-some _ Any (indicated ms (subtype.Composite n)) (λ g. tt))
 
@@ -229,7 +229,7 @@ s-defined G names level here token (syntax.RecordType x xs) l c = s-record_of G 
 
 -- ---- objects
 
-pub record DeclaringOf (r : Context × Option Part) : Type 0 where
+pub record DeclaringOf (r : Context × Option TypedPart) : Type 0 where
   pub around : Clear r.0
   pub decls : Is Any r.1
 
@@ -262,7 +262,7 @@ s-valued_constant G first true (Some s) (Some e) = s-pure G Any tt (λ g. tt)
 s-valued_constant G first true None e = s-pure G Any tt (λ g. tt)
 s-valued_constant G first false s e = s-pure G Any tt (λ g. tt)
 
-object-ended : (names : Names) (here : Context) (token : ℕ) (f : Option ℕ) (constant : Bool) (s : Indicated) (v : Initial) (made : Option Part) (n : Option ℕ) → Clear here → Is Any made → Is Any n → DeclaringOf (d.object_ended names here token f constant s v made n)
+object-ended : (names : Names) (here : Context) (token : ℕ) (f : Option ℕ) (constant : Bool) (s : Indicated) (v : Initial) (made : Option TypedPart) (n : Option ℕ) → Clear here → Is Any made → Is Any n → DeclaringOf (d.object_ended names here token f constant s v made n)
 object-ended names here token f constant s v made None c h i = absurd i
 object-ended names here token f constant s v made (Some n) c h i = record {
   around = clear-ended names here f (Some (what.Object n s.known (not constant) (d.constant_value constant s.known v))) c tt;
@@ -274,7 +274,7 @@ s-without G names here token f never =
     s-never G G Any DeclaringOf (d.cells_counted token 0 >>= λ b. pure (d.ended_name names here f None, None))
     (s-bind G (λ b. b ≡ true) Any (d.cells_counted token 0) _ (s-cells_counted G token 0) (λ b. s-pure _ Any (d.ended_name names here f None, None) (λ g. tt))) never
 
-s-one_object : (G : Type 0) (names : Names) (here : Context) (token : ℕ) (f : Option ℕ) (constant : Bool) (made : Option Part) (s : Option Indicated) (v : Option Initial)
+s-one_object : (G : Type 0) (names : Names) (here : Context) (token : ℕ) (f : Option ℕ) (constant : Bool) (made : Option TypedPart) (s : Option Indicated) (v : Option Initial)
     → (G → Clear here) → (G → Is Any made) → (G → Is Any s) → (G → Is Any v) → Sound G DeclaringOf (d.one_object names here token f constant made s v)
 s-one_object G names here token f constant made (Some s) (Some v) c h i j =
     let x = d.new_object names here token s.known constant (d.constant_value constant s.known v) in
@@ -287,7 +287,7 @@ s-typed_object : (G : Type 0) (names : Names) (level : Inside) (here : Context) 
 s-typed_object G names level here (syntax.Indicated i) l c = s-indic G names level here i l c
 s-typed_object G names level here (syntax.Anonymous a) l c = s-array G names level here a l c
 
-s-each_object : (G : Type 0) (names : Names) (level : Inside) (inner here : Context) (constant : Bool) (first : ℕ) (t : ObjectType) (e : Option Expr) (made : Option Part) (is : List ℕ) (fs : List (Option ℕ))
+s-each_object : (G : Type 0) (names : Names) (level : Inside) (inner here : Context) (constant : Bool) (first : ℕ) (t : ObjectType) (e : Option Expr) (made : Option TypedPart) (is : List ℕ) (fs : List (Option ℕ))
     → LevelSound level → (G → Clear inner) → (G → Clear here) → (G → Is Any made) → Sound G DeclaringOf (d.each_object names level inner here constant first t e made is fs)
 s-each_object G names level inner here constant first t e made [] fs l i c h = s-pure G DeclaringOf (here, made) (λ g. record { around = c g; decls = h g })
 s-each_object G names level inner here constant first t e made (x ∷ is) [] l i c h = s-pure G DeclaringOf (here, made) (λ g. record { around = c g; decls = h g })
@@ -298,7 +298,7 @@ s-each_object G names level inner here constant first t e made (x ∷ is) (f ∷
     s-bind _ DeclaringOf DeclaringOf (d.one_object names here x f constant made s v) _ (s-one_object _ names here x f constant made s v (λ g. c g.0.0.0) (λ g. h g.0.0.0) (λ g. g.0.0.1) (λ g. g.0.1)) (λ y.
     s-each_object ((((G × Is Any s) × Is Any v) × Any u) × DeclaringOf y) names level inner y.0 constant first t e y.1 is fs l (λ g. i g.0.0.0.0) (λ g. g.1.around) (λ g. g.1.decls)))))
 
-s-objects : (G : Type 0) (names : Names) (level : Inside) (start : ℕ) (here : Context) (made : Option Part) (is : Ids) (constant : Bool) (t : ObjectType) (e : Option Expr)
+s-objects : (G : Type 0) (names : Names) (level : Inside) (start : ℕ) (here : Context) (made : Option TypedPart) (is : Ids) (constant : Bool) (t : ObjectType) (e : Option Expr)
     → LevelSound level → (G → Clear here) → (G → Is Any made) → Sound G DeclaringOf (d.objects names level start here made is constant t e)
 unfolding d.objects
 s-objects G names level start here made is constant t e l c h =
@@ -311,7 +311,7 @@ clear-all : (names : Names) (here : Context) (w : Option What) (fs : List (Optio
 clear-all names here w [] c n = c
 clear-all names here w (f ∷ fs) c n = clear-all names (d.ended_name names here f w) w fs (clear-ended names here f w c n) n
 
-s-numbers : (G : Type 0) (names : Names) (level : Inside) (start : ℕ) (here : Context) (made : Option Part) (is : Ids) (e : Expr)
+s-numbers : (G : Type 0) (names : Names) (level : Inside) (start : ℕ) (here : Context) (made : Option TypedPart) (is : Ids) (e : Expr)
     → LevelSound level → (G → Clear here) → (G → Is Any made) → Sound G DeclaringOf (d.numbers names level start here made is e)
 unfolding d.numbers
 s-numbers G names level start here made is e l c h =
@@ -335,13 +335,13 @@ s-each_exception G names here (t ∷ ts) (f ∷ fs) c =
 
 -- ---- declarations
 
-one-type : (names : Names) (here : Context) (made : Option Part) (f : Option ℕ) (s : Option Indicated) → Clear here → Is Any made → Is Any s → DeclaringOf (d.one_type names here made f s)
+one-type : (names : Names) (here : Context) (made : Option TypedPart) (f : Option ℕ) (s : Option Indicated) → Clear here → Is Any made → Is Any s → DeclaringOf (d.one_type names here made f s)
 one-type names here made f s c h i = record {
   around = clear-ended names here f (option_map (λ t. what.Type t.known) s) c (mapped Any NotBroken (λ t. what.Type t.known) s i (λ t k. tt));
   decls = joint Any Any Any d.and_type made s h i (λ a b m n. tt);
 }
 
-pub s-declaration : (G : Type 0) (names : Names) (level : Inside) (start : ℕ) (here : Context) (made : Option Part) (x : Decl)
+pub s-declaration : (G : Type 0) (names : Names) (level : Inside) (start : ℕ) (here : Context) (made : Option TypedPart) (x : Decl)
     → LevelSound level → (G → Clear here) → (G → Is Any made) → Sound G DeclaringOf (d.declaration names level start here made x)
 unfolding d.declaration
 s-declaration G names level start here made (syntax.ObjectDecl is constant t e) l c h = s-objects G names level start here made is (is_some constant) t e l c h
@@ -359,7 +359,7 @@ s-declaration G names level start here made (syntax.SubtypeDecl at token i) l c 
     s-bind _ (Is Any) DeclaringOf (d.indic names level (hidden_where names here token f) i) _ (s-indic _ names level (hidden_where names here token f) i l (λ g. clear-hidden names here token f (c g.0))) (λ s.
     s-pure _ DeclaringOf (d.one_type names (hidden_where names here token f) made f s) (λ g. one-type names (hidden_where names here token f) made f s (clear-hidden names here token f (c g.0.0)) (h g.0.0) g.1)))
 
-pub s-declarations : (G : Type 0) (names : Names) (level : Inside) (start : ℕ) (here : Context) (made : Option Part) (ds : List Decl)
+pub s-declarations : (G : Type 0) (names : Names) (level : Inside) (start : ℕ) (here : Context) (made : Option TypedPart) (ds : List Decl)
     → LevelSound level → (G → Clear here) → (G → Is Any made) → Sound G DeclaringOf (d.declarations names level start here made ds)
 s-declarations G names level start here made [] l c h = s-pure G DeclaringOf (here, made) (λ g. record { around = c g; decls = h g })
 s-declarations G names level start here made (x ∷ ds) l c h =

@@ -10,7 +10,7 @@ use Rattle.syntax_tree.specs.declared.operators.Additive.TheVariants as additive
 use Rattle.syntax_tree.specs.declared.operators.Logical.TheVariants as logical'
 use Rattle.syntax_tree.specs.declared.operators.Sign.{Sign as Signed}
 use Rattle.syntax_tree.specs.declared.operators.Sign.TheVariants as sign
-use Rattle.typed_tree.specs.Decoded.{Part}
+use Rattle.typed_tree.specs.Decoded.{TypedPart}
 use Rattle.typed_tree.specs.declared.expressions.Sign.TheVariants as unary'
 use Rattle.name_rules.specs.Expressions.{Inside, added, adding, blamed, condition, conjoined, expr, factor, first_term, first_wanted, in_place, joined_rels, judged_alone, multiplied, multiplying, multiplying_op, rel, short_form, short_found, short_join, short_operand, short_operands, simple, term, term_form, value_for}
 use Rattle.name_rules.specs.Found.{Found}
@@ -166,7 +166,7 @@ s-short_operand G names level here at r l c =
     s-bind G (Is FoundOk) (Is Any) (rel names level here wanted.Other r) _ (s-rel G names level here wanted.Other r l c (λ g. tt)) (λ x.
     s-given _ FoundOk Any x _ (λ g. g.1) (λ f. s-if _ (Is Any) (is_kind kind.Boolean (kind_of f.known)) _ _ (s-asked _ kind.Boolean f) (no _ at WrongType)))
 
-s-short_operands : (G : Type 0) (names : Names) (level : Inside) (here : Context) (all : Bool) (x : Option Part) (cs : Conjuncts) → LevelSound level → (G → Clear here) → (G → Is Any x) → Sound G (Is Any) (short_operands names level here all x cs)
+s-short_operands : (G : Type 0) (names : Names) (level : Inside) (here : Context) (all : Bool) (x : Option TypedPart) (cs : Conjuncts) → LevelSound level → (G → Clear here) → (G → Is Any x) → Sound G (Is Any) (short_operands names level here all x cs)
 s-short_operands G names level here all x syntax.NoConjunct l c h = s-pure G (Is Any) x h
 s-short_operands G names level here all x (syntax.AlsoConjunct (syntax.conjunct at r) cs) l c h =
     s-bind G (Is Any) (Is Any) (short_operand names level here at r) _ (s-short_operand G names level here at r l c) (λ y.

@@ -3,7 +3,7 @@ use Rattle.std.proofs.Common.{◌≡◌, sym, ap, ◌∙◌, true≢false, ℕ, 
 use Rattle.std.specs.Prelude.{not, ◌||◌, is_some}
 use Rattle.syntax_tree.specs.Syntax as syntax
 use Rattle.typed_tree.specs.Decoded as part
-use Rattle.typed_tree.specs.Decoded.{Part}
+use Rattle.typed_tree.specs.Decoded.{TypedPart}
 use Rattle.name_rules.specs.Expressions.{Inside, expr, simple}
 use Rattle.name_rules.specs.Found.{Denoted, Found}
 use Rattle.name_rules.specs.Judging.{Judging, ◌>>=◌, both, breaks, given, joined, pure, unless}
@@ -13,7 +13,7 @@ use Rattle.name_rules.specs.TypedParts.{selections_of}
 use Rattle.name_rules.specs.declared.found.Denoted.TheVariants as denoted
 use Rattle.name_rules.specs.declared.found.Denoted.{Denoted as KnownDenoted}
 use Rattle.name_rules.specs.declared.found.Found.TheVariants as known
-use Rattle.name_rules.specs.declared.found.Place.{Place}
+use Rattle.name_rules.specs.declared.found.ObjectName.{ObjectName}
 use Rattle.name_rules.specs.declared.log.Log.{Log}
 use Rattle.name_rules.specs.declared.log.Rule.TheVariants as rule
 use Rattle.name_rules.specs.declared.scope.Context.{Context}
@@ -84,12 +84,12 @@ array-item : (n : ℕ) (v : Bool) (t : Option Shape) → is_array t ≡ true →
 array-item n v (Some (shape.Array ds c k cells)) h = tt
 array-item n v t h = differ (sym h)
 
-s-over_place : (G : Type 0) (n token : ℕ) (f : OptionalExpr) (p : Place) (ss : Selections) → Sound G WalkedOf (i.over_place n token f p ss)
+s-over_place : (G : Type 0) (n token : ℕ) (f : OptionalExpr) (p : ObjectName) (ss : Selections) → Sound G WalkedOf (i.over_place n token f p ss)
 s-over_place G n token f p ss = s-logged G WalkedOf (λ log. if is_array (array_shape log p.subtype) then pure (i.array_walked log n token f p ss (array_shape log p.subtype)) else (breaks p.first rule.WrongType >>= λ u. pure (i.no_array token f))) (λ log.
     s-test G WalkedOf (is_array (array_shape log p.subtype)) _ _ (s-pure _ WalkedOf (i.array_walked log n token f p ss (array_shape log p.subtype)) (λ g. (tt, array-item n p.variable (array_shape log p.subtype) g.1)))
     (s-broken _ WalkedOf p.first rule.WrongType (i.no_array token f)))
 
-s-over_form : (G : Type 0) (n token : ℕ) (f : OptionalExpr) (d : KnownDenoted) (x : Part) → Sound G WalkedOf (i.over_form n token f d x)
+s-over_form : (G : Type 0) (n token : ℕ) (f : OptionalExpr) (d : KnownDenoted) (x : TypedPart) → Sound G WalkedOf (i.over_form n token f d x)
 s-over_form G n token f (denoted.Value (known.Object p)) x = s-over_place G n token f p (selections_of x)
 s-over_form G n token f d x = s-broken G WalkedOf _ rule.WrongType (i.no_array token f)
 

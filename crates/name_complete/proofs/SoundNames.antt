@@ -1,7 +1,7 @@
 -- What is judged without a fault is found: names.
 use Rattle.std.proofs.Common.{refl, ℕ, List, [], ◌∷◌, length, Option, Some, None, ◌==◌, ◌+◌, drop, slice_get}
 use Rattle.syntax_tree.specs.Syntax as syntax
-use Rattle.typed_tree.specs.Decoded.{Part}
+use Rattle.typed_tree.specs.Decoded.{TypedPart}
 use Rattle.name_rules.specs.Expressions.{Inside, expr}
 use Rattle.name_rules.specs.Found.{Denoted, Found}
 use Rattle.name_rules.specs.Judging.{fault, given}
@@ -11,7 +11,7 @@ use Rattle.name_rules.specs.Values.{asked, first_of}
 use Rattle.name_rules.specs.declared.found.Denoted.TheVariants as denoted
 use Rattle.name_rules.specs.declared.found.Denoted.{Denoted as KnownDenoted}
 use Rattle.name_rules.specs.declared.found.Found.TheVariants as known
-use Rattle.name_rules.specs.declared.found.Place.{Place}
+use Rattle.name_rules.specs.declared.found.ObjectName.{ObjectName}
 use Rattle.name_rules.specs.declared.log.Dimension.{Dimension}
 use Rattle.name_rules.specs.declared.log.Rule.TheVariants as rule
 use Rattle.name_rules.specs.declared.scope.Context.{Context}
@@ -45,18 +45,18 @@ wrong G at = s-fault G (Is DenotedOf) at rule.WrongType
 
 -- ---- components
 
-s-field_from : (G : Type 0) (names : Names) (p : Place) (ss : Part) (at i : ℕ) (fs : List Field) → Sound G (Is DenotedOf) (n.field_from names p ss at i fs)
+s-field_from : (G : Type 0) (names : Names) (p : ObjectName) (ss : TypedPart) (at i : ℕ) (fs : List Field) → Sound G (Is DenotedOf) (n.field_from names p ss at i fs)
 s-field_from G names p ss at i [] = s-fault G (Is DenotedOf) at rule.Unknown
 s-field_from G names p ss at i (f ∷ fs) = s-if G (Is DenotedOf) (f.symbol == symbol names at) _ _ (s-some G DenotedOf _ (λ g. tt)) (s-field_from G names p ss at (i + 1) fs)
 
-s-field_in : (G : Type 0) (names : Names) (p : Place) (ss : Part) (at : ℕ) (t : Option Shape) → Sound G (Is DenotedOf) (n.field_in names p ss at t)
+s-field_in : (G : Type 0) (names : Names) (p : ObjectName) (ss : TypedPart) (at : ℕ) (t : Option Shape) → Sound G (Is DenotedOf) (n.field_in names p ss at t)
 s-field_in G names p ss at t = s-if G (Is DenotedOf) (n.is_record t) _ _ (s-field_from G names p ss at 0 (fields_of t)) (wrong G p.first)
 
-s-field_of : (G : Type 0) (names : Names) (p : Place) (ss : Part) (at : ℕ) (s : Subtype) → Sound G (Is DenotedOf) (n.field_of names p ss at s)
+s-field_of : (G : Type 0) (names : Names) (p : ObjectName) (ss : TypedPart) (at : ℕ) (s : Subtype) → Sound G (Is DenotedOf) (n.field_of names p ss at s)
 s-field_of G names p ss at (subtype.Composite m) = s-logged G (Is DenotedOf) (λ log. n.field_in names p ss at (shape_in log m)) (λ log. s-field_in G names p ss at (shape_in log m))
 s-field_of G names p ss at (subtype.Scalar s) = wrong G p.first
 
-s-field_form : (G : Type 0) (names : Names) (here : Context) (at : ℕ) (d : KnownDenoted) (x : Part) → Sound G (Is DenotedOf) (n.field_form names here at d x)
+s-field_form : (G : Type 0) (names : Names) (here : Context) (at : ℕ) (d : KnownDenoted) (x : TypedPart) → Sound G (Is DenotedOf) (n.field_form names here at d x)
 s-field_form G names here at (denoted.Package first library) x = s-selected G names here first library at
 s-field_form G names here at (denoted.Value (known.Object p)) x = s-field_of G names p x at p.subtype
 s-field_form G names here at d x = wrong G _
@@ -80,12 +80,12 @@ s-wrong_call G names inside here first as' l = s-where_clean G Any DenotedOf (n.
 
 -- ---- indexes
 
-s-index_in : (G : Type 0) (d : Option Dimension) (apart : ℕ) (done : Option Part) (f : Found) → (G → Is Any done) → Sound G (Is Any) (n.index_in d apart done f)
+s-index_in : (G : Type 0) (d : Option Dimension) (apart : ℕ) (done : Option TypedPart) (f : Found) → (G → Is Any done) → Sound G (Is Any) (n.index_in d apart done f)
 s-index_in G None apart done f h = s-pure G (Is Any) done h
 s-index_in G (Some d) apart done f h =
     s-bind G (Is Any) (Is Any) (asked d.kind f) _ (s-asked G d.kind f) (λ e. s-pure _ (Is Any) _ (λ g. joint Any Any Any (n.selected_by (first_of f.known) d apart) done e (h g.0) g.1 (λ a b i j. tt)))
 
-s-index_where : (G : Type 0) (d : Option Dimension) (apart : ℕ) (done : Option Part) (x : Option Found) → (G → Is Any done) → (G → Is FoundOk x) → Sound G (Is Any) (n.index_where d apart done x)
+s-index_where : (G : Type 0) (d : Option Dimension) (apart : ℕ) (done : Option TypedPart) (x : Option Found) → (G → Is Any done) → (G → Is FoundOk x) → Sound G (Is Any) (n.index_where d apart done x)
 s-index_where G d apart made None h i = s-pure G (Is Any) None i
 s-index_where G d apart made (Some f) h i = s-index_in G d apart made f h
 
@@ -93,33 +93,33 @@ s-unnamed : (G : Type 0) {A : Type 0} (name : Option ℕ) (x : Option A) → (G 
 s-unnamed G None x h = s-pure G (Is Any) x h
 s-unnamed G (Some name) x h = no G name rule.WrongType
 
-s-index : (G : Type 0) (names : Names) (inside : Inside) (here : Context) (ds : List Dimension) (cells : ℕ) (done : Option Part) (a : Arg) → LevelSound inside → (G → Clear here) → (G → Is Any done) → Sound G (Is Any) (n.index names inside here ds cells done a)
+s-index : (G : Type 0) (names : Names) (inside : Inside) (here : Context) (ds : List Dimension) (cells : ℕ) (done : Option TypedPart) (a : Arg) → LevelSound inside → (G → Clear here) → (G → Is Any done) → Sound G (Is Any) (n.index names inside here ds cells done a)
 unfolding n.index
 s-index G names inside here ds cells done (syntax.arg name e) l c h =
     s-bind G (Is FoundOk) (Is Any) (expr names inside here wanted.Other e) _ (s-expr G names inside here wanted.Other e l c (λ g. tt)) (λ x.
     s-bind _ (Is Any) (Is Any) (n.index_where (slice_get ds 0) (stride ds cells) done x) _ (s-index_where _ (slice_get ds 0) (stride ds cells) done x (λ g. h g.0) (λ g. g.1)) (λ s.
     s-unnamed _ name s (λ g. g.1)))
 
-s-indexes : (G : Type 0) (names : Names) (inside : Inside) (here : Context) (ds : List Dimension) (cells : ℕ) (done : Option Part) (as' : Args) → LevelSound inside → (G → Clear here) → (G → Is Any done) → Sound G (Is Any) (n.indexes names inside here ds cells done as')
+s-indexes : (G : Type 0) (names : Names) (inside : Inside) (here : Context) (ds : List Dimension) (cells : ℕ) (done : Option TypedPart) (as' : Args) → LevelSound inside → (G → Clear here) → (G → Is Any done) → Sound G (Is Any) (n.indexes names inside here ds cells done as')
 s-indexes G names inside here ds cells done syntax.NoArg l c h = s-pure G (Is Any) done h
 s-indexes G names inside here ds cells done (syntax.AlsoArg a as') l c h =
     s-bind G (Is Any) (Is Any) (n.index names inside here ds cells done a) _ (s-index G names inside here ds cells done a l c h) (λ s. s-indexes _ names inside here (drop 1 ds) cells s as' l (λ g. c g.0) (λ g. g.1))
 
-s-indexed : (G : Type 0) (p : Place) (bracket wanted given : ℕ) (s : Option Subtype) (ss : Part) → Sound G (Is DenotedOf) (n.indexed p bracket wanted given s ss)
+s-indexed : (G : Type 0) (p : ObjectName) (bracket wanted given : ℕ) (s : Option Subtype) (ss : TypedPart) → Sound G (Is DenotedOf) (n.indexed p bracket wanted given s ss)
 s-indexed G p bracket wanted given None ss = wrong G p.first
 s-indexed G p bracket wanted given (Some t) ss = s-if G (Is DenotedOf) (wanted == given) _ _ (s-some G DenotedOf _ (λ g. tt)) (wrong G bracket)
 
-s-index_shape : (G : Type 0) (names : Names) (inside : Inside) (here : Context) (p : Place) (ss : Part) (bracket : ℕ) (as' : Args) (t : Option Shape) (cells : ℕ) → LevelSound inside → (G → Clear here)
+s-index_shape : (G : Type 0) (names : Names) (inside : Inside) (here : Context) (p : ObjectName) (ss : TypedPart) (bracket : ℕ) (as' : Args) (t : Option Shape) (cells : ℕ) → LevelSound inside → (G → Clear here)
     → Sound G (Is DenotedOf) (n.index_shape names inside here p ss bracket as' t cells)
 s-index_shape G names inside here p ss bracket as' t cells l c =
     s-where_clean G (Is Any) DenotedOf (n.indexes names inside here (dimensions_of t) cells (Some ss) as') _ (s-indexes G names inside here (dimensions_of t) cells (Some ss) as' l c (λ g. tt)) (λ r.
     s-given _ Any DenotedOf r _ (λ g. g.1) (λ x. s-indexed _ p bracket (length (dimensions_of t)) (n.count as') (component_of t) x))
 
-s-array_call : (G : Type 0) (names : Names) (inside : Inside) (here : Context) (p : Place) (ss : Part) (bracket : ℕ) (as' : Args) (t : Option Shape) (cells : ℕ) → LevelSound inside → (G → Clear here)
+s-array_call : (G : Type 0) (names : Names) (inside : Inside) (here : Context) (p : ObjectName) (ss : TypedPart) (bracket : ℕ) (as' : Args) (t : Option Shape) (cells : ℕ) → LevelSound inside → (G → Clear here)
     → Sound G (Is DenotedOf) (n.array_call names inside here p ss bracket as' t cells)
 s-array_call G names inside here p ss bracket as' t cells l c = s-if G (Is DenotedOf) (n.is_array t) _ _ (s-index_shape G names inside here p ss bracket as' t cells l c) (s-wrong_call G names inside here p.first as' l)
 
-pub s-object_call : (G : Type 0) (names : Names) (inside : Inside) (here : Context) (p : Place) (ss : Part) (bracket : ℕ) (as' : Args) (s : Subtype) → LevelSound inside → (G → Clear here)
+pub s-object_call : (G : Type 0) (names : Names) (inside : Inside) (here : Context) (p : ObjectName) (ss : TypedPart) (bracket : ℕ) (as' : Args) (s : Subtype) → LevelSound inside → (G → Clear here)
     → Sound G (Is DenotedOf) (n.object_call names inside here p ss bracket as' s)
 unfolding n.object_call
 s-object_call G names inside here p ss bracket as' (subtype.Composite m) l c =

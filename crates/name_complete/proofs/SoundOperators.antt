@@ -3,7 +3,7 @@ use Rattle.std.proofs.Common.{◌≡◌, refl, sym, subst, ◌∙◌, ℕ, ℤ, 
 use Rattle.std.specs.Prelude.{not}
 use Rattle.ada_base.specs.declared.operation.Op.{Op}
 use Rattle.ada_base.specs.declared.operation.Op.TheVariants as op
-use Rattle.typed_tree.specs.Decoded.{Part, as_expr}
+use Rattle.typed_tree.specs.Decoded.{TypedPart, as_expr}
 use Rattle.typed_tree.specs.Syntax as typed
 use Rattle.typed_tree.specs.declared.scalars.Class.TheVariants as class
 use Rattle.typed_tree.specs.declared.expressions.Sign.TheVariants as unary'
@@ -25,7 +25,7 @@ use Rattle.name_complete.proofs.Facts.{FoundFor, FoundOk}
 use Rattle.name_complete.proofs.SoundValues.{s-asked, s-fitting}
 
 -- a number without a type is universal, and waits for one
-open-form : (f : Known) (x : Part) → is_number f ≡ true → kind_of f ≡ None → Is Any (o.open_form f x)
+open-form : (f : Known) (x : TypedPart) → is_number f ≡ true → kind_of f ≡ None → Is Any (o.open_form f x)
 open-form (known.Universal first z alone) x h e = tt
 open-form (known.Open first l) x h e = tt
 open-form (known.Static first k z) x h e = absurd cc
@@ -53,12 +53,12 @@ second-true false b e = differ (sym e)
 
 -- ---- static results
 
-pub s-static_of : (G : Type 0) (first : ℕ) (k : Kind) (ms : Part) (z : Option ℤ) → Sound G (Is FoundOk) (o.static_of first k ms z)
+pub s-static_of : (G : Type 0) (first : ℕ) (k : Kind) (ms : TypedPart) (z : Option ℤ) → Sound G (Is FoundOk) (o.static_of first k ms z)
 unfolding o.static_of
 s-static_of G first k ms None = s-fault G (Is FoundOk) first StaticRange
 s-static_of G first k ms (Some z) = s-if G (Is FoundOk) (in_base k z) _ _ (s-some G FoundOk _ (λ g. tt)) (s-fault G (Is FoundOk) first StaticRange)
 
-pub s-static_universal : (G : Type 0) (first : ℕ) (ms : Part) (z : Option ℤ) → Sound G (Is FoundOk) (o.static_universal first ms z)
+pub s-static_universal : (G : Type 0) (first : ℕ) (ms : TypedPart) (z : Option ℤ) → Sound G (Is FoundOk) (o.static_universal first ms z)
 unfolding o.static_universal
 s-static_universal G first ms None = s-fault G (Is FoundOk) first StaticRange
 s-static_universal G first ms (Some z) = s-some G FoundOk _ (λ g. tt)
@@ -200,7 +200,7 @@ s-not_of G at x h = s-given G Any FoundOk x _ h (λ a. s-if _ (Is FoundOk) (is_k
 
 -- ---- strings, logical operators, relations, membership
 
-s-joined_texts : (G : Type 0) (at : ℕ) (j : Known) (ps : Part) (k : Known) (qs : Part) → Sound G (Is (FoundFor wanted.Text)) (o.joined_texts at j ps k qs)
+s-joined_texts : (G : Type 0) (at : ℕ) (j : Known) (ps : TypedPart) (k : Known) (qs : TypedPart) → Sound G (Is (FoundFor wanted.Text)) (o.joined_texts at j ps k qs)
 s-joined_texts G at (known.Text first) ps (known.Text second) qs = s-some G (FoundFor wanted.Text) _ (λ g. tt)
 s-joined_texts G at j ps k qs = s-fault G (Is (FoundFor wanted.Text)) at WrongType
 

@@ -4,7 +4,7 @@ use Rattle.syntax_tree.specs.FirstTokens as first_token
 use Rattle.syntax_tree.specs.Syntax as syntax
 use Rattle.syntax_tree.specs.Syntax.{Args, Expr}
 use Rattle.typed_tree.specs.Decoded as part
-use Rattle.typed_tree.specs.Decoded.{Part}
+use Rattle.typed_tree.specs.Decoded.{TypedPart}
 use Rattle.typed_tree.specs.Syntax as typed
 use Rattle.typed_tree.specs.Syntax.{Selections}
 use Rattle.name_rules.specs.Expressions.{Inside, expr, judged_alone}
@@ -18,7 +18,7 @@ use Rattle.name_rules.specs.Types.{same, typed_scalar}
 use Rattle.name_rules.specs.Values.{asked, first_of, literal, mentions_of, static_of_kind, suits}
 use Rattle.name_rules.specs.declared.found.Found.TheVariants as known
 use Rattle.name_rules.specs.declared.found.Found.{Found as Known}
-use Rattle.name_rules.specs.declared.found.Place.{Place}
+use Rattle.name_rules.specs.declared.found.ObjectName.{ObjectName}
 use Rattle.name_rules.specs.declared.found.Put.TheVariants as put
 use Rattle.name_rules.specs.declared.found.Put.{Put}
 use Rattle.name_rules.specs.declared.found.Reach.{Reach}
@@ -40,7 +40,7 @@ s-no_name G (Some name) = s-breaks G Any name Unknown
 
 -- ---- strings
 
-s-text_only : (G : Type 0) (f : Known) (x : Part) → Sound G (Is Any) (o.text_only f x)
+s-text_only : (G : Type 0) (f : Known) (x : TypedPart) → Sound G (Is Any) (o.text_only f x)
 s-text_only G (known.Text first) x = s-some G Any x (λ g. tt)
 s-text_only G f x = s-fault G (Is Any) (first_of f) WrongType
 
@@ -142,13 +142,13 @@ s-put_of_text G at first last reach more f =
     s-if G (Is DenotedOf) reach.text_io (o.text_call at first last false more f) _ (s-text_call G at first last false more f)
     (s-if G (Is DenotedOf) reach.expanded (fault (first_of f.known) WrongType) (fault first NotVisible) (s-fault G (Is DenotedOf) (first_of f.known) WrongType) (s-fault G (Is DenotedOf) first NotVisible))
 
-s-get_place : (G : Type 0) (first last : ℕ) (p : Place) (ss : Selections) (s : Subtype) → Sound G (Is DenotedOf) (o.get_place first last p ss s)
+s-get_place : (G : Type 0) (first last : ℕ) (p : ObjectName) (ss : Selections) (s : Subtype) → Sound G (Is DenotedOf) (o.get_place first last p ss s)
 s-get_place G first last p ss (subtype.Scalar s) =
     let x = o.done_by first (typed.Get first last p.first p.root ss (typed_scalar s)) in
     s-if G (Is DenotedOf) (p.variable && same s.kind kind.Integer) (some x) (fault p.first WrongType) (s-some G DenotedOf x (λ g. tt)) (s-fault G (Is DenotedOf) p.first WrongType)
 s-get_place G first last p ss (subtype.Composite n) = s-fault G (Is DenotedOf) p.first WrongType
 
-s-get_of : (G : Type 0) (first last : ℕ) (f : Known) (x : Part) → Sound G (Is DenotedOf) (o.get_of first last f x)
+s-get_of : (G : Type 0) (first last : ℕ) (f : Known) (x : TypedPart) → Sound G (Is DenotedOf) (o.get_of first last f x)
 s-get_of G first last (known.Object p) x = s-get_place G first last p (selections_of x) p.subtype
 s-get_of G first last f x = s-fault G (Is DenotedOf) (first_of f) WrongType
 

@@ -3,7 +3,7 @@ use Rattle.std.proofs.Common.{◌≡◌, refl, sym, ℕ, ℤ, zero, suc, List, [
 use Rattle.syntax_tree.specs.FirstTokens as first_token
 use Rattle.syntax_tree.specs.Syntax as syntax
 use Rattle.typed_tree.specs.Decoded as part
-use Rattle.typed_tree.specs.Decoded.{Part, as_expr}
+use Rattle.typed_tree.specs.Decoded.{TypedPart, as_expr}
 use Rattle.typed_tree.specs.Syntax as typed
 use Rattle.name_rules.specs.Expressions.{Inside, expr, condition}
 use Rattle.name_rules.specs.Found.{Found}
@@ -68,7 +68,7 @@ plain-ok want (known.Rest first) n h = h
 plain-ok want (known.Text first) n h = n h
 plain-ok want k n h = tt
 
-also-choice : (want : Wanted) (w : Option Waiting) (x : Option Part) (y : Option Found) → (TextFit want → ⊥) → Is WaitingOf w → Is Any x → Is (FoundFor want) y → Is WaitingOf (p.also_choice w x y)
+also-choice : (want : Wanted) (w : Option Waiting) (x : Option TypedPart) (y : Option Found) → (TextFit want → ⊥) → Is WaitingOf w → Is Any x → Is (FoundFor want) y → Is WaitingOf (p.also_choice w x y)
 also-choice want None x y n h i j = h
 also-choice want (Some w) None y n h i j = i
 also-choice want (Some w) (Some x) None n h i j = j
@@ -89,7 +89,7 @@ s-alternatives G names level here want done (syntax.AlsoElsif (syntax.elsif at a
     s-bind G (Is WaitingOf) (Is WaitingOf) (p.alternative names level here want done a b) _ (s-alternative G names level here want done a b l c w n h) (λ d.
     s-alternatives _ names level here want d es l (λ g. c g.0) (λ g. w g.0) n (λ g. g.1))
 
-s-scalar_ifs : (G : Type 0) (k : Kind) (fs : List Known) (ps : Part) (o : Option Part) → (G → Is Any o) → Sound G (Is Any) (p.scalar_ifs k fs ps o)
+s-scalar_ifs : (G : Type 0) (k : Kind) (fs : List Known) (ps : TypedPart) (o : Option TypedPart) → (G → Is Any o) → Sound G (Is Any) (p.scalar_ifs k fs ps o)
 s-scalar_ifs G k [] ps o h = s-pure G (Is Any) o h
 s-scalar_ifs G k (f ∷ fs) ps o h =
     s-bind G (Is Any) (Is Any) (asked k (record { known = f; part = right_of (left_of ps) })) _ (s-asked G k (record { known = f; part = right_of (left_of ps) })) (λ w.
@@ -102,7 +102,7 @@ s-scalar_if G bracket k w f =
     s-bind _ (Is Any) (Is FoundOk) (p.scalar_ifs k w.known w.part o) _ (s-scalar_ifs _ k w.known w.part o (λ g. g.1)) (λ e.
     s-pure _ (Is FoundOk) _ (λ g. mapped Any FoundOk (with_known (known.Scalar bracket k None)) e g.1 (λ x i. tt))))
 
-s-composite_ifs : (G : Type 0) (n : ℕ) (fs : List Known) (ps : Part) (o : Option Part) → (G → Is Any o) → Sound G (Is Any) (p.composite_ifs n fs ps o)
+s-composite_ifs : (G : Type 0) (n : ℕ) (fs : List Known) (ps : TypedPart) (o : Option TypedPart) → (G → Is Any o) → Sound G (Is Any) (p.composite_ifs n fs ps o)
 s-composite_ifs G n [] ps o h = s-pure G (Is Any) o h
 s-composite_ifs G n (f ∷ fs) ps o h =
     s-bind G (Is Any) (Is Any) (composite_asked n (record { known = f; part = right_of (left_of ps) })) _ (s-composite_asked G n (record { known = f; part = right_of (left_of ps) })) (λ w.
@@ -120,7 +120,7 @@ none-of : (t : Subtype) → kind_in (place_scalar t) ≡ None → number_of_comp
 none-of (subtype.Scalar s) e f = absurd cc
 none-of (subtype.Composite n) e f = absurd cc
 
-open-other : (f : Known) (x : Part) → Fit wanted.Other f → kind_of f ≡ None → composite_in f ≡ None → Is Any (open_form f x)
+open-other : (f : Known) (x : TypedPart) → Fit wanted.Other f → kind_of f ≡ None → composite_in f ≡ None → Is Any (open_form f x)
 open-other (known.Universal first z alone) x h e d = tt
 open-other (known.Open first l) x h e d = tt
 open-other (known.Static first k z) x h e d = absurd cc
@@ -134,7 +134,7 @@ open-found : (f : Found) → FoundOk f → kind_of f.known ≡ None → composit
 unfolding open_of
 open-found f h e d = open-other f.known f.part h e d
 
-open-ifs : (fs : List Known) (ps : Part) (o : Option (Limits × Part)) → AllOk fs → Untyped fs → Scalars fs → Is Any o → Is Any (p.open_ifs fs ps o)
+open-ifs : (fs : List Known) (ps : TypedPart) (o : Option (Limits × TypedPart)) → AllOk fs → Untyped fs → Scalars fs → Is Any o → Is Any (p.open_ifs fs ps o)
 open-ifs [] ps o h e d i = i
 open-ifs (f ∷ fs) ps o h e d i =
     let x : Found = record { known = f; part = right_of (left_of ps) } in
@@ -198,7 +198,7 @@ s-grouped_by G want bracket f (Some k) (Some z) h = s-some G (FoundFor want) (st
 s-grouped_by G want bracket f (Some k) None h = s-grouped_scalar G want bracket f (Some k) (composite_in f.known) h
 s-grouped_by G want bracket f None z h = s-grouped_scalar G want bracket f None (composite_in f.known) h
 
-s-grouped_form : (G : Type 0) (want : Wanted) (bracket : ℕ) (k : Known) (x : Part) → (G → Fit want k) → Sound G (Is (FoundFor want)) (p.grouped_form bracket k x)
+s-grouped_form : (G : Type 0) (want : Wanted) (bracket : ℕ) (k : Known) (x : TypedPart) → (G → Fit want k) → Sound G (Is (FoundFor want)) (p.grouped_form bracket k x)
 s-grouped_form G want bracket (known.Universal first z alone) x h = s-some G (FoundFor want) _ (λ g. tt)
 s-grouped_form G want bracket (known.Open first l) x h = s-some G (FoundFor want) _ (λ g. tt)
 s-grouped_form G want bracket (known.Text first) x h = s-some G (FoundFor want) (with_known (known.Text bracket) x) h

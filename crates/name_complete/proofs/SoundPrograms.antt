@@ -6,7 +6,7 @@ use Rattle.syntax_tree.specs.declared.operators.ClauseWord.{ClauseWord}
 use Rattle.syntax_tree.specs.declared.operators.ClauseWord.TheVariants as word
 use Rattle.syntax_tree.specs.declared.operators.Mode.{Mode as FormalMode}
 use Rattle.syntax_tree.specs.declared.operators.Mode.TheVariants as mode'
-use Rattle.typed_tree.specs.Decoded.{Part}
+use Rattle.typed_tree.specs.Decoded.{TypedPart}
 use Rattle.typed_tree.specs.Syntax as typed
 use Rattle.typed_tree.specs.Syntax.{Sub as TypedSub}
 use Rattle.typed_tree.specs.declared.program.Mode.{Mode}
@@ -260,7 +260,7 @@ s-with_body G names n blocking name q a ds b last c h =
     s-bind _ Any (Is Any) (p.end_name names name last) _ (s-end_name _ names name last) (λ u.
     s-pure _ (Is Any) (joined (p.sub_where q z) q.number x) (λ g. joint Any Any Any (p.sub_where q z) q.number x (h g.0.0.0.0) g.0.1 (λ m d i j. tt))))))
 
-s-valueless : (G : Type 0) (names : Names) (n : ℕ) (here : Context) (e : Expr) → (G → ⊥) → Sound G {A = Option Part} (Is Any) (judged_alone names (inside names n) here e >>= λ u. pure None)
+s-valueless : (G : Type 0) (names : Names) (n : ℕ) (here : Context) (e : Expr) → (G → ⊥) → Sound G {A = Option TypedPart} (Is Any) (judged_alone names (inside names n) here e >>= λ u. pure None)
 s-valueless G names n here e never =
     let x = judged_alone names (inside names n) here e in
     s-never G G Any (Is Any) (x >>= λ u. pure None) (s-bind G Any Any x _ (s-judged_alone G names (inside names n) here e (inside-sound names n)) (λ u. s-pure _ Any None (λ g. tt))) never

@@ -4,7 +4,7 @@ use Rattle.std.specs.Prelude.{not, int_le}
 use Rattle.syntax_tree.specs.FirstTokens as first_token
 use Rattle.syntax_tree.specs.Syntax as syntax
 use Rattle.typed_tree.specs.Decoded as part
-use Rattle.typed_tree.specs.Decoded.{Part}
+use Rattle.typed_tree.specs.Decoded.{TypedPart}
 use Rattle.name_rules.specs.Expressions.{Inside, simple}
 use Rattle.name_rules.specs.Found.{Found}
 use Rattle.name_rules.specs.Judging.{Judging, given, joined}
@@ -65,7 +65,7 @@ s-checked_range : (G : Type 0) (first : ℕ) (s : Scalar) (a z : Found) → Soun
 unfolding r.checked_range
 s-checked_range G first s a z = s-bind G (Is Any) (Is Any) (r.bounds_of s.kind a z) _ (s-bounds_of G s.kind a z) (λ x. s-pure _ (Is Any) _ (λ g. mapped Any Any (r.bounded_by first s (Some s) a z) x g.1 (λ y i. tt)))
 
-s-named_range : (G : Type 0) (d : KnownDenoted) (x : Part) → Sound G (Is Any) (r.named_range d x)
+s-named_range : (G : Type 0) (d : KnownDenoted) (x : TypedPart) → Sound G (Is Any) (r.named_range d x)
 s-named_range G (denoted.Range first d) x = ok G (r.whole_range first d.kind d.low d.high x)
 s-named_range G (denoted.Type first (subtype.Scalar s)) x = ok G (r.whole_range first s.kind s.low s.high part.Nothing)
 s-named_range G d x = no G _ rule.WrongType
@@ -121,7 +121,7 @@ s-static_bounds G first must_hold want a z = s-static_by G first must_hold a z (
 s-static_scalar : (G : Type 0) (first : ℕ) (s : Scalar) → Sound G (Is Any) (r.static_scalar first s)
 s-static_scalar G first s = s-if G (Is Any) (is_integer s.kind) _ _ (ok G _) (no G first rule.WrongType)
 
-s-static_name : (G : Type 0) (first : ℕ) (d : KnownDenoted) (x : Part) → Sound G (Is Any) (r.static_name first d x)
+s-static_name : (G : Type 0) (first : ℕ) (d : KnownDenoted) (x : TypedPart) → Sound G (Is Any) (r.static_name first d x)
 s-static_name G first (denoted.Range at d) x = ok G _
 s-static_name G first (denoted.Type at (subtype.Scalar s)) x = s-static_scalar G first s
 s-static_name G first d x = no G _ rule.WrongType

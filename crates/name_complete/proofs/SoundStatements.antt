@@ -5,7 +5,7 @@ use Rattle.syntax_tree.specs.FirstTokens as first_token
 use Rattle.syntax_tree.specs.Syntax as syntax
 use Rattle.syntax_tree.specs.Syntax.{Alt, Alts, Arms, Body, Branches, Declare, Expr, Handler, Handlers, Iter, MoreStmts, Name, OptionalParallel, OptionalStmts, Pack, Scheme, Simple, Stmt, Stmts}
 use Rattle.typed_tree.specs.Decoded as part
-use Rattle.typed_tree.specs.Decoded.{Part}
+use Rattle.typed_tree.specs.Decoded.{TypedPart}
 use Rattle.typed_tree.specs.Latest.{turned}
 use Rattle.typed_tree.specs.Syntax as typed
 use Rattle.typed_tree.specs.Syntax.{Selections, Handled as TypedHandled}
@@ -28,7 +28,7 @@ use Rattle.name_rules.specs.Values.{first_of, is_scalar, settled_found, stored}
 use Rattle.name_rules.specs.declared.found.Denoted.TheVariants as denoted
 use Rattle.name_rules.specs.declared.found.Denoted.{Denoted as KnownDenoted}
 use Rattle.name_rules.specs.declared.found.Found.TheVariants as known
-use Rattle.name_rules.specs.declared.found.Place.{Place}
+use Rattle.name_rules.specs.declared.found.ObjectName.{ObjectName}
 use Rattle.name_rules.specs.Limits.{most_arms}
 use Rattle.name_rules.specs.declared.log.Bound.TheVariants as bound
 use Rattle.name_rules.specs.declared.log.Rule.TheVariants.{ChunkRule, Limit, NotVisible, WrongEnd, WrongType}
@@ -59,7 +59,7 @@ pub record AroundSound (a : Around) : Type 1 where
   pub inner : LevelSound a.inner
   pub within : (G : Type 0) (here : Context) (x : Stmt) → (G → Clear here) → Sound G (Is Any) (a.within here x)
 
-s-stmts_from : (G : Type 0) (a : Around) (here : Context) (made : Option Part) (x : MoreStmts) → AroundSound a → (G → Clear here) → (G → Is Any made) → Sound G (Is Any) (s.stmts_from a here made x)
+s-stmts_from : (G : Type 0) (a : Around) (here : Context) (made : Option TypedPart) (x : MoreStmts) → AroundSound a → (G → Clear here) → (G → Is Any made) → Sound G (Is Any) (s.stmts_from a here made x)
 s-stmts_from G a here made syntax.NoStmt f c h = s-pure G (Is Any) made h
 s-stmts_from G a here made (syntax.AlsoStmt x xs) f c h =
     s-bind G (Is Any) (Is Any) (a.within here x) _ (f.within G here x c) (λ y.
@@ -73,18 +73,18 @@ s-stmts G a here (syntax.stmts x xs) f c =
 
 -- ---- assignments
 
-clear-target : (here : Context) (p : Place) → Clear here → Clear (s.with_target here (target.Of p.subtype))
+clear-target : (here : Context) (p : ObjectName) → Clear here → Clear (s.with_target here (target.Of p.subtype))
 clear-target here p c = record { scope = c.scope; target = tt; returns = c.returns }
 
-s-stored_place : (G : Type 0) (p : Place) (ss : Selections) (at : ℕ) (f : Found) → Sound G (Is Any) (s.stored_place p ss at f)
+s-stored_place : (G : Type 0) (p : ObjectName) (ss : Selections) (at : ℕ) (f : Found) → Sound G (Is Any) (s.stored_place p ss at f)
 s-stored_place G p ss at f =
     s-bind G (Is Any) (Is Any) (stored p.subtype at f) _ (s-stored G p.subtype at f) (λ v. s-pure _ (Is Any) (option_map (s.assigned p ss) v) (λ g. mapped Any Any (s.assigned p ss) v g.1 (λ x k. tt)))
 
-s-assigned_place : (G : Type 0) (p : Place) (ss : Selections) (at : ℕ) (x : Option Found) → (G → Is Any x) → Sound G (Is Any) (s.assigned_place p ss at x)
+s-assigned_place : (G : Type 0) (p : ObjectName) (ss : Selections) (at : ℕ) (x : Option Found) → (G → Is Any x) → Sound G (Is Any) (s.assigned_place p ss at x)
 s-assigned_place G p ss at x h =
     s-if G (Is Any) (not p.variable) (fault p.first WrongType) (given x (s.stored_place p ss at)) (s-fault G (Is Any) p.first WrongType) (s-given G Any Any x (s.stored_place p ss at) h (λ f. s-stored_place _ p ss at f))
 
-s-assign_place : (G : Type 0) (names : Names) (level : Inside) (here : Context) (p : Place) (ss : Selections) (e : Expr) → LevelSound level → (G → Clear here) → Sound G (Is Any) (s.assign_place names level here p ss e)
+s-assign_place : (G : Type 0) (names : Names) (level : Inside) (here : Context) (p : ObjectName) (ss : Selections) (e : Expr) → LevelSound level → (G → Clear here) → Sound G (Is Any) (s.assign_place names level here p ss e)
 unfolding s.assign_place
 s-assign_place G names level here p ss e l c =
     let there = s.with_target here (target.Of p.subtype) in
@@ -97,7 +97,7 @@ s-assign_other : (G : Type 0) (names : Names) (level : Inside) (here : Context) 
 s-assign_other G names level here e first l =
     s-where_clean G Any Any (s.assigned_alone names level here e) (λ u. fault first WrongType) (s-judged_alone G names level (s.with_target here target.Faulty) e l) (λ u. s-fault _ (Is Any) first WrongType)
 
-s-assign_form : (G : Type 0) (names : Names) (level : Inside) (here : Context) (e : Expr) (d : KnownDenoted) (x : Part) → LevelSound level → (G → Clear here) → Sound G (Is Any) (s.assign_form names level here e d x)
+s-assign_form : (G : Type 0) (names : Names) (level : Inside) (here : Context) (e : Expr) (d : KnownDenoted) (x : TypedPart) → LevelSound level → (G → Clear here) → Sound G (Is Any) (s.assign_form names level here e d x)
 s-assign_form G names level here e (denoted.Value (known.Object p)) x l c = s-assign_place G names level here p (selections_of x) e l c
 s-assign_form G names level here e d x l c = s-assign_other G names level here e (denoted_first d) l
 
@@ -113,7 +113,7 @@ s-assign G names level here n e l c =
 
 -- ---- calls of procedures
 
-s-as_statement : (G : Type 0) (d : KnownDenoted) (x : Part) → Sound G (Is Any) (s.as_statement d x)
+s-as_statement : (G : Type 0) (d : KnownDenoted) (x : TypedPart) → Sound G (Is Any) (s.as_statement d x)
 s-as_statement G (denoted.Done first) x = s-some G Any x (λ g. tt)
 s-as_statement G d x = s-fault G (Is Any) (denoted_first d) WrongType
 
@@ -182,11 +182,11 @@ s-raise_from G names here at (Some p) c =
 
 -- ---- if statements
 
-with-elsif-if : (made c ss : Option Part) → Is Any made → Is Any c → Is Any ss → Is Any (s.with_elsif_if made c ss)
+with-elsif-if : (made c ss : Option TypedPart) → Is Any made → Is Any c → Is Any ss → Is Any (s.with_elsif_if made c ss)
 with-elsif-if made None ss g h i = h
 with-elsif-if made (Some c) ss g h i = joint Any Any Any (s.with_elsif c) made ss g i (λ a b m n. tt)
 
-s-elsifs : (G : Type 0) (a : Around) (here : Context) (made : Option Part) (x : Arms) → AroundSound a → (G → Clear here) → (G → Is Any made) → Sound G (Is Any) (s.elsifs a here made x)
+s-elsifs : (G : Type 0) (a : Around) (here : Context) (made : Option TypedPart) (x : Arms) → AroundSound a → (G → Clear here) → (G → Is Any made) → Sound G (Is Any) (s.elsifs a here made x)
 s-elsifs G a here made syntax.NoArm f c h = s-pure G (Is Any) made h
 s-elsifs G a here made (syntax.AlsoArm (syntax.arm at e x) xs) f c h =
     s-bind G (Is Any) (Is Any) (condition a.names a.level here e) _ (s-condition G a.names a.level here e f.level c) (λ y.
@@ -209,14 +209,14 @@ s-if_stmt G a here e x more o f c =
 
 -- ---- case statements
 
-abbrev CasesOf : Covering × Option Part → Type 0
+abbrev CasesOf : Covering × Option TypedPart → Type 0
 CasesOf r = Is Any r.1
 
-also-alternative : (d : Choosing) (made ss : Option Part) → Is Any made → Is Any ss → Is Any (s.also_alternative d made ss)
+also-alternative : (d : Choosing) (made ss : Option TypedPart) → Is Any made → Is Any ss → Is Any (s.also_alternative d made ss)
 unfolding s.also_alternative
 also-alternative d made ss g h = joint Any Any Any (s.with_alternative d) made ss g h (λ a b m n. tt)
 
-s-alternative : (G : Type 0) (a : Around) (here : Context) (kind : Option Kind) (last : Bool) (y : Covering) (made : Option Part) (x : Alt) → AroundSound a → (G → Clear here) → (G → Is Any made) → Sound G CasesOf (s.alternative a here kind last y made x)
+s-alternative : (G : Type 0) (a : Around) (here : Context) (kind : Option Kind) (last : Bool) (y : Covering) (made : Option TypedPart) (x : Alt) → AroundSound a → (G → Clear here) → (G → Is Any made) → Sound G CasesOf (s.alternative a here kind last y made x)
 unfolding s.alternative
 s-alternative G a here kind last y made (syntax.alt at x ys t) f c h =
     let j = case_choices a.level here kind (length ys == 0) last y s.no_choosing (x ∷ ys) in
@@ -224,7 +224,7 @@ s-alternative G a here kind last y made (syntax.alt at x ys t) f c h =
     s-bind _ (Is Any) CasesOf (s.stmts a here t) _ (s-stmts _ a here t f (λ g. c g.0)) (λ ss.
     s-pure _ CasesOf (r.0, s.also_alternative r.1 made ss) (λ g. also-alternative r.1 made ss (h g.0.0) g.1)))
 
-s-alts : (G : Type 0) (a : Around) (here : Context) (kind : Option Kind) (y : Covering) (made : Option Part) (xs : Alts) → AroundSound a → (G → Clear here) → (G → Is Any made) → Sound G CasesOf (s.alts a here kind y made xs)
+s-alts : (G : Type 0) (a : Around) (here : Context) (kind : Option Kind) (y : Covering) (made : Option TypedPart) (xs : Alts) → AroundSound a → (G → Clear here) → (G → Is Any made) → Sound G CasesOf (s.alts a here kind y made xs)
 s-alts G a here kind y made syntax.NoAlt f c h = s-pure G CasesOf (y, made) h
 s-alts G a here kind y made (syntax.AlsoAlt x xs) f c h =
     s-bind G CasesOf CasesOf (s.alternative a here kind (s.is_last xs) y made x) _ (s-alternative G a here kind (s.is_last xs) y made x f c h) (λ r. s-alts (G × CasesOf r) a here kind r.0 r.1 xs f (λ g. c g.0) (λ g. g.1))
@@ -275,7 +275,7 @@ s-loop_entered G a here p i f c =
     s-bind G (λ e. EnteredOf e.0 × (e.1 ≡ true)) EnteredOf (clean x) _ (s-clean G EnteredOf x (s-entered G a.names a.level a.inner here site.Loop p i f.level f.inner c)) (λ e.
     s-bind _ Any EnteredOf (s.backwards_rule e.1 e.0.construct e.0.reverse) _ (s-backwards_rule _ e.1 e.0.construct e.0.reverse) (λ u. s-pure _ EnteredOf e.0 (λ g. g.0.1.0)))
 
-s-for_made : (G : Type 0) (n : ℕ) (x : Option ℕ) (y : Option Part) (i ss : Part) → (G → Is Any y) → Sound G (Is Any) (s.for_made n x y i ss)
+s-for_made : (G : Type 0) (n : ℕ) (x : Option ℕ) (y : Option TypedPart) (i ss : TypedPart) → (G → Is Any y) → Sound G (Is Any) (s.for_made n x y i ss)
 s-for_made G n None y i ss h = s-some G Any (s.for_part n i ss) (λ g. tt)
 s-for_made G n (Some x) y i ss h = s-pure G (Is Any) (option_map (s.parallel_part n x i ss) y) (λ g. mapped Any Any (s.parallel_part n x i ss) y (h g) (λ z k. tt))
 
@@ -310,27 +310,27 @@ s-loop_stmt G a here label by x last name f c =
 clear-handler : (here : Context) → Clear here → Clear (s.in_handler_of here)
 clear-handler here c = record { scope = c.scope; target = c.target; returns = c.returns }
 
-abbrev HandlingOf : List Reason × Option Part → Type 0
+abbrev HandlingOf : List Reason × Option TypedPart → Type 0
 HandlingOf r = Is Any r.1
 
-with-handler-if : (made : Option Part) (h : Option TypedHandled) (ss : Option Part) → Is Any made → Is Any h → Is Any ss → Is Any (s.with_handler_if made h ss)
+with-handler-if : (made : Option TypedPart) (h : Option TypedHandled) (ss : Option TypedPart) → Is Any made → Is Any h → Is Any ss → Is Any (s.with_handler_if made h ss)
 with-handler-if made None ss g h i = h
 with-handler-if made (Some x) ss g h i = joint Any Any Any (s.with_handler x) made ss g i (λ a b m n. tt)
 
-s-handler : (G : Type 0) (a : Around) (here : Context) (last : Bool) (names-seen : List Reason) (made : Option Part) (x : Handler) → AroundSound a → (G → Clear here) → (G → Is Any made) → Sound G HandlingOf (s.handler a here last names-seen made x)
+s-handler : (G : Type 0) (a : Around) (here : Context) (last : Bool) (names-seen : List Reason) (made : Option TypedPart) (x : Handler) → AroundSound a → (G → Clear here) → (G → Is Any made) → Sound G HandlingOf (s.handler a here last names-seen made x)
 unfolding s.handler
 s-handler G a here last names-seen made (syntax.handler at x t) f c h =
     s-bind G HandledOf HandlingOf (handled_by a.names here names-seen last x) _ (s-handled_by G a.names here names-seen last x c) (λ y.
     s-bind _ (Is Any) HandlingOf (s.stmts a (s.in_handler_of here) t) _ (s-stmts _ a (s.in_handler_of here) t f (λ g. clear-handler here (c g.0))) (λ ss.
     s-pure _ HandlingOf (y.0, s.with_handler_if made y.1 ss) (λ g. with-handler-if made y.1 ss (h g.0.0) g.0.1 g.1)))
 
-s-handlers : (G : Type 0) (a : Around) (here : Context) (names-seen : List Reason) (made : Option Part) (hs : Handlers) → AroundSound a → (G → Clear here) → (G → Is Any made) → Sound G (Is Any) (s.handlers a here names-seen made hs)
+s-handlers : (G : Type 0) (a : Around) (here : Context) (names-seen : List Reason) (made : Option TypedPart) (hs : Handlers) → AroundSound a → (G → Clear here) → (G → Is Any made) → Sound G (Is Any) (s.handlers a here names-seen made hs)
 s-handlers G a here names-seen made syntax.NoHandler f c h = s-pure G (Is Any) made h
 s-handlers G a here names-seen made (syntax.AlsoHandler x hs) f c h =
     s-bind G HandlingOf (Is Any) (s.handler a here (s.is_last_handler hs) names-seen made x) _ (s-handler G a here (s.is_last_handler hs) names-seen made x f c h) (λ y.
     s-handlers (G × HandlingOf y) a here y.0 y.1 hs f (λ g. c g.0) (λ g. g.1))
 
-pub s-body : (G : Type 0) (a : Around) (here : Context) (ds : Option Part) (b : Body) → AroundSound a → (G → Clear here) → (G → Is Any ds) → Sound G (Is Any) (s.body a here ds b)
+pub s-body : (G : Type 0) (a : Around) (here : Context) (ds : Option TypedPart) (b : Body) → AroundSound a → (G → Clear here) → (G → Is Any ds) → Sound G (Is Any) (s.body a here ds b)
 unfolding s.body
 s-body G a here ds (syntax.body x hs) f c h =
     s-bind G (Is Any) (Is Any) (s.stmts a here x) _ (s-stmts G a here x f c) (λ ss.
@@ -354,7 +354,7 @@ s-count_where : (G : Type 0) (inner : Inside) (here : Context) (e : Option Simpl
 s-count_where G inner here None l c = s-some G Any part.Nothing (λ g. tt)
 s-count_where G inner here (Some e) l c = s-chunk_count G inner here e l c
 
-s-branches : (G : Type 0) (a : Around) (here : Context) (made : Option Part) (xs : Branches) → AroundSound a → (G → Clear here) → (G → Is Any made) → Sound G (Is Any) (s.branches a here made xs)
+s-branches : (G : Type 0) (a : Around) (here : Context) (made : Option TypedPart) (xs : Branches) → AroundSound a → (G → Clear here) → (G → Is Any made) → Sound G (Is Any) (s.branches a here made xs)
 s-branches G a here made syntax.NoBranch f c h = s-pure G (Is Any) made h
 s-branches G a here made (syntax.AlsoBranch x xs) f c h =
     s-bind G (Is Any) (Is Any) (s.stmts a here x) _ (s-stmts G a here x f c) (λ y.

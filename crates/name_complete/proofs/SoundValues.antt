@@ -1,6 +1,6 @@
 -- What is judged without a fault is found: values.
 use Rattle.std.proofs.Common.{◌≡◌, ℕ, ℤ, Option, Some, None, Bool, true, ◌==◌}
-use Rattle.typed_tree.specs.Decoded.{Part, as_expr}
+use Rattle.typed_tree.specs.Decoded.{TypedPart, as_expr}
 use Rattle.typed_tree.specs.Decoded as part
 use Rattle.typed_tree.specs.Syntax.{Expr, Selections}
 use Rattle.typed_tree.specs.Syntax as typed
@@ -12,14 +12,14 @@ use Rattle.name_rules.specs.Values as v
 use Rattle.name_rules.specs.declared.found.Found.TheVariants as known
 use Rattle.name_rules.specs.declared.found.Found.{Found as Known}
 use Rattle.name_rules.specs.declared.found.Limits.{Limits}
-use Rattle.name_rules.specs.declared.found.Place.{Place}
+use Rattle.name_rules.specs.declared.found.ObjectName.{ObjectName}
 use Rattle.name_rules.specs.declared.log.Rule.TheVariants.{StaticRange, WrongType, NotStatic}
 use Rattle.name_rules.specs.declared.types.Kind.{Kind}
 use Rattle.name_rules.specs.declared.types.Subtype.TheVariants as subtype
 use Rattle.name_rules.specs.declared.types.Subtype.{Subtype}
 use Rattle.name_complete.proofs.Explains.{Any, Is, Sound, ok, no, s-bind, s-given, s-if, s-pure, s-unless}
 
-pub s-valued : (G : Type 0) (k : Kind) (first : ℕ) (z : ℤ) (b : Bool) (ms : Part) → Sound G (Is Any) (v.valued k first z b ms)
+pub s-valued : (G : Type 0) (k : Kind) (first : ℕ) (z : ℤ) (b : Bool) (ms : TypedPart) → Sound G (Is Any) (v.valued k first z b ms)
 unfolding v.valued
 s-valued G k first z b ms = s-if G (Is Any) (in_base k z) _ _ (ok G _) (no G first StaticRange)
 
@@ -35,11 +35,11 @@ s-settled : (G : Type 0) (k : Kind) (l : Limits) (e : Expr) → Sound G (Is Any)
 unfolding v.settled
 s-settled G k l e = s-settled_by G k e (v.beyond k l)
 
-s-place_asked : (G : Type 0) (k : Kind) (p : Place) (ss : Selections) (s : Subtype) → Sound G (Is Any) (v.place_asked k p ss s)
+s-place_asked : (G : Type 0) (k : Kind) (p : ObjectName) (ss : Selections) (s : Subtype) → Sound G (Is Any) (v.place_asked k p ss s)
 s-place_asked G k p ss (subtype.Scalar s) = s-if G (Is Any) (same s.kind k) _ _ (ok G _) (no G p.first WrongType)
 s-place_asked G k p ss (subtype.Composite n) = no G p.first WrongType
 
-s-asked_form : (G : Type 0) (k : Kind) (f : Known) (x : Part) → Sound G (Is Any) (v.asked_form k f x)
+s-asked_form : (G : Type 0) (k : Kind) (f : Known) (x : TypedPart) → Sound G (Is Any) (v.asked_form k f x)
 s-asked_form G k (known.Universal first z alone) x = s-if G (Is Any) (is_integer k) _ _ (s-valued G k first z alone x) (no G first WrongType)
 s-asked_form G k (known.Open first l) x = s-if G (Is Any) (is_integer k) _ _ (s-settled G k l (as_expr x)) (no G first WrongType)
 s-asked_form G k (known.Static first j z) x = s-if G (Is Any) (same j k) _ _ (ok G _) (no G first WrongType)
@@ -77,11 +77,11 @@ pub s-static_integer : (G : Type 0) (f : Known) → Sound G (Is Any) (v.static_i
 unfolding v.static_integer
 s-static_integer G f = s-if G (Is Any) (v.is_number f) _ _ (s-static_value G (v.first_of f) (v.value_of f)) (no G (v.first_of f) WrongType)
 
-s-whole_of : (G : Type 0) (n : ℕ) (p : Place) (ss : Selections) (s : Subtype) → Sound G (Is Any) (v.whole_of n p ss s)
+s-whole_of : (G : Type 0) (n : ℕ) (p : ObjectName) (ss : Selections) (s : Subtype) → Sound G (Is Any) (v.whole_of n p ss s)
 s-whole_of G n p ss (subtype.Scalar s) = no G p.first WrongType
 s-whole_of G n p ss (subtype.Composite m) = s-if G (Is Any) (n == m) _ _ (ok G _) (no G p.first WrongType)
 
-s-composite_form : (G : Type 0) (n : ℕ) (f : Known) (x : Part) → Sound G (Is Any) (v.composite_form n f x)
+s-composite_form : (G : Type 0) (n : ℕ) (f : Known) (x : TypedPart) → Sound G (Is Any) (v.composite_form n f x)
 s-composite_form G n (known.Composite first m) x = s-if G (Is Any) (n == m) _ _ (ok G _) (no G first WrongType)
 s-composite_form G n (known.Object p) x = s-whole_of G n p (selections_of x) p.subtype
 s-composite_form G n (known.Universal first z alone) x = no G first WrongType

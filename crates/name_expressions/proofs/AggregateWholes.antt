@@ -3,7 +3,7 @@ use Rattle.std.proofs.Common.{◌≡◌, ◌≢◌, refl, sym, ap, ◌∙◌, �
 use Rattle.std.specs.Prelude.{◌==◌, ◌*◌, ◌+ℤ◌, pos, ◌∷◌, [], if◌then◌else◌, option_map}
 use Rattle.syntax_tree.specs.Syntax as syntax
 use Rattle.syntax_tree.specs.Syntax.{Assoc, Assocs, Exprs, OptionalExpr}
-use Rattle.typed_tree.specs.Decoded.{Nothing, Part}
+use Rattle.typed_tree.specs.Decoded.{Nothing, TypedPart}
 use Rattle.typed_tree.specs.Latest.{pop, top}
 use Rattle.name_expressions.specs.Filled.{filled}
 use Rattle.name_expressions.specs.Placed.{placed}
@@ -22,12 +22,12 @@ use Rattle.name_rules.specs.declared.log.Log.{Log}
 use Rattle.name_rules.specs.declared.log.Rule.TheVariants.{StaticRange}
 use Rattle.name_rules.specs.declared.scope.Context.{Context}
 use Rattle.name_rules.specs.declared.scope.Names.{Names}
-use Rattle.syntax_nodes.specs.Parts.{Part as TreePart, the_expr, the_exprs}
+use Rattle.syntax_nodes.specs.Parts.{TreePart, the_expr, the_exprs}
 use Rattle.syntax_nodes.specs.Views.{optional_expr}
 
 -- ---- one dimension of an array
 
-abbrev covered : ℕ → Dimension → ℕ → spec.Placing → Judging (Option Part)
+abbrev covered : ℕ → Dimension → ℕ → spec.Placing → Judging (Option TypedPart)
 covered bracket d apart p = spec.covered bracket d apart (extent d * apart) p (spec.gaps_of d.low d.high p.ranges) p.rest
 
 pub dimension_gone : (names : Names) (level : Inside) (here : Context) (bracket : ℕ) (component : spec.Component) (d : Dimension) (apart : ℕ) (ps : spec.Contents) (log now : Log) (p : spec.Placing) (m n : ℕ)
@@ -61,7 +61,7 @@ pub record_gone : (names : Names) (level : Inside) (here : Context) (fs : List F
     → where_clean (spec.record_parts names level here fs ps) (spec.filled bracket cells) log ≡ (None, now)
 record_gone names level here fs bracket cells ps log now f m n e h i j = faulty (spec.record_parts names level here fs ps) (spec.filled bracket cells) log now f m n e h i j
 
-pub record_whole : (names : Names) (level : Inside) (here : Context) (fs : List Field) (bracket cells : ℕ) (ps : spec.Contents) (log now : Log) (x : Option Part) (left : List Field) (over incomplete : Bool) (m n : ℕ)
+pub record_whole : (names : Names) (level : Inside) (here : Context) (fs : List Field) (bracket cells : ℕ) (ps : spec.Contents) (log now : Log) (x : Option TypedPart) (left : List Field) (over incomplete : Bool) (m n : ℕ)
     → spec.record_parts names level here fs ps log ≡ (spec.filling x left over, now) → m ≡ length log.faults → n ≡ length now.faults → n ≡ m → incomplete ≡ (over || not (length left == 0))
     → where_clean (spec.record_parts names level here fs ps) (spec.filled bracket cells) log ≡ (if incomplete then fault bracket StaticRange else pure (option_map (spec.aggregate_part bracket cells) x)) now
 record_whole names level here fs bracket cells ps log now x left over incomplete m n e h i j k =
@@ -106,7 +106,7 @@ all_alone names level here at first second more others log a b c e f g =
 
 -- ---- two values by position, and those behind them
 
-pub two_placed : (here : Context) (component : spec.Component) (d : Dimension) (apart : ℕ) (at : ℕ → TreePart) (first n : ℕ) (more : ℕ) (log a b : Log) (p q r : Placing) (s t u v w : List Part) (x y z : ℤ) (f g : Bool)
+pub two_placed : (here : Context) (component : spec.Component) (d : Dimension) (apart : ℕ) (at : ℕ → TreePart) (first n : ℕ) (more : ℕ) (log a b : Log) (p q r : Placing) (s t u v w : List TypedPart) (x y z : ℤ) (f g : Bool)
     → x ≡ d.low → y ≡ d.low +ℤ pos 1 → z ≡ (d.low +ℤ pos 1) +ℤ pos 1
     → component here (the_expr (at first)) log ≡ (part_if f (top t), a) → pop t ≡ s
     → spec.with_ranges d apart None Nothing (placed p (pop t)) ((x, x) ∷ []) (part_if f (top t)) ≡ placed q u
@@ -116,12 +116,12 @@ pub two_placed : (here : Context) (component : spec.Component) (d : Dimension) (
 two_placed here component d apart at first n more log a b p q r s t u v w x y z f g xs ys zs e k l h i j =
     let first' : spec.with_ranges d apart None Nothing (placed p s) ((d.low, d.low) ∷ []) (part_if f (top t)) ≡ placed q u =
     ap (λ (o : ℤ). spec.with_ranges d apart None Nothing (placed p s) ((o, o) ∷ []) (part_if f (top t))) (sym xs)
-    ∙ (ap (λ (o : List Part). spec.with_ranges d apart None Nothing (placed p o) ((x, x) ∷ []) (part_if f (top t))) (sym k) ∙ l) in
+    ∙ (ap (λ (o : List TypedPart). spec.with_ranges d apart None Nothing (placed p o) ((x, x) ∷ []) (part_if f (top t))) (sym k) ∙ l) in
     let second' : spec.with_ranges d apart None Nothing (placed q u) ((d.low +ℤ pos 1, d.low +ℤ pos 1) ∷ []) (part_if g (top v)) ≡ placed r w =
     ap (λ (o : ℤ). spec.with_ranges d apart None Nothing (placed q u) ((o, o) ∷ []) (part_if g (top v))) (sym ys)
-    ∙ (ap (λ (o : List Part). spec.with_ranges d apart None Nothing (placed q o) ((y, y) ∷ []) (part_if g (top v))) (sym i) ∙ j) in
-    ap (λ (o : Option Part × Log). spec.array_values here component d apart (d.low +ℤ pos 1) (spec.with_ranges d apart None Nothing (placed p s) ((d.low, d.low) ∷ []) o.0) (syntax.AlsoExpr (the_expr (at n)) (the_exprs (at more))) o.1) e
+    ∙ (ap (λ (o : List TypedPart). spec.with_ranges d apart None Nothing (placed q o) ((y, y) ∷ []) (part_if g (top v))) (sym i) ∙ j) in
+    ap (λ (o : Option TypedPart × Log). spec.array_values here component d apart (d.low +ℤ pos 1) (spec.with_ranges d apart None Nothing (placed p s) ((d.low, d.low) ∷ []) o.0) (syntax.AlsoExpr (the_expr (at n)) (the_exprs (at more))) o.1) e
     ∙ (ap (λ (o : spec.Placing). spec.array_values here component d apart (d.low +ℤ pos 1) o (syntax.AlsoExpr (the_expr (at n)) (the_exprs (at more))) a) first'
-    ∙ (ap (λ (o : Option Part × Log). spec.array_values here component d apart ((d.low +ℤ pos 1) +ℤ pos 1) (spec.with_ranges d apart None Nothing (placed q u) ((d.low +ℤ pos 1, d.low +ℤ pos 1) ∷ []) o.0) (the_exprs (at more)) o.1) h
+    ∙ (ap (λ (o : Option TypedPart × Log). spec.array_values here component d apart ((d.low +ℤ pos 1) +ℤ pos 1) (spec.with_ranges d apart None Nothing (placed q u) ((d.low +ℤ pos 1, d.low +ℤ pos 1) ∷ []) o.0) (the_exprs (at more)) o.1) h
     ∙ (ap (λ (o : spec.Placing). spec.array_values here component d apart ((d.low +ℤ pos 1) +ℤ pos 1) o (the_exprs (at more)) b) second'
     ∙ ap (λ (o : ℤ). spec.array_values here component d apart o (placed r w) (the_exprs (at more)) b) (sym zs))))

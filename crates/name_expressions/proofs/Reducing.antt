@@ -7,12 +7,12 @@ use Rattle.name_expressions.specs.Reducing.{reduced_from, reduced_two, two_of}
 use Rattle.name_rules.specs.Expressions.{Inside}
 use Rattle.name_rules.specs.Parts.{array_reduced}
 use Rattle.name_rules.specs.declared.found.Attribute.{Attribute}
-use Rattle.name_rules.specs.declared.found.Place.{Place}
+use Rattle.name_rules.specs.declared.found.ObjectName.{ObjectName}
 use Rattle.name_rules.specs.declared.log.Log.{Log}
 use Rattle.name_rules.specs.declared.scope.Context.{Context}
 use Rattle.name_rules.specs.declared.scope.Names.{Names}
 
-pub reduced_same : (names : Names) (inside : Inside) (here : Context) (p : Place) (ss : Selections) (at : ℕ) (a : Attribute) (bracket : ℕ) (as' : Args) (log : Log)
+pub reduced_same : (names : Names) (inside : Inside) (here : Context) (p : ObjectName) (ss : Selections) (at : ℕ) (a : Attribute) (bracket : ℕ) (as' : Args) (log : Log)
     → array_reduced names inside here p ss at a bracket as' log ≡ reduced_two names inside here p ss at a bracket as' (two_of as') log
 unfolding reduced_from
 reduced_same names inside here p ss at a bracket syntax.NoArg log = refl

@@ -2,17 +2,17 @@
 use Rattle.std.proofs.Common.{◌≡◌, ◌≢◌, refl, sym, ap, ◌∙◌, ℕ, Bool, true, false, ◌⊎◌, inl, inr, length, List, Option, Some, None, Result}
 use Rattle.std.proofs.lemmas.Bool.{eq-eqb, ne_eqb}
 use Rattle.std.specs.Prelude.{OnOk, if◌then◌else◌, ◌==◌}
-use Rattle.typed_tree.specs.Decoded.{Part}
+use Rattle.typed_tree.specs.Decoded.{TypedPart}
 use Rattle.name_rules.specs.Found.{With}
 use Rattle.name_rules.specs.Judges.{Gives, Judges}
 use Rattle.name_rules.specs.Judging.{Judging, given, pure, where_clean}
 use Rattle.name_rules.specs.declared.log.Log.{Log}
 
 -- what judges one thing judges another that is the same
-pub judges_so : {K E : Type 0} (x y : Option (With K) × Log) (r s : List Part) (result : Result (Option K) E) (log : Log) (now : List Part) → x ≡ y → r ≡ s → Judges y s result log now → Judges x r result log now
+pub judges_so : {K E : Type 0} (x y : Option (With K) × Log) (r s : List TypedPart) (result : Result (Option K) E) (log : Log) (now : List TypedPart) → x ≡ y → r ≡ s → Judges y s result log now → Judges x r result log now
 judges_so x y r s result log now e h j = rw (e, h) j
 
-pub gives_so : {E : Type 0} (x y : Option Part × Log) (r s : List Part) (result : Result Bool E) (log : Log) (now : List Part) → x ≡ y → r ≡ s → Gives y s result log now → Gives x r result log now
+pub gives_so : {E : Type 0} (x y : Option TypedPart × Log) (r s : List TypedPart) (result : Result Bool E) (log : Log) (now : List TypedPart) → x ≡ y → r ≡ s → Gives y s result log now → Gives x r result log now
 gives_so x y r s result log now e h j = rw (e, h) j
 
 pub ok_so : {A B E : Type 0} (result : Result (Unit {0}) E) (x y z : A) (q r s : B) → x ≡ y → r ≡ s → OnOk result ((y ≡ z) × (q ≡ s)) → OnOk result ((x ≡ z) × (q ≡ r))

@@ -4,6 +4,7 @@ pub mod Conditionals
 pub mod Contents
 pub mod Filled
 pub mod Gaps
+pub mod Opened
 pub mod Placed
 pub mod Primaries
 pub mod Putting

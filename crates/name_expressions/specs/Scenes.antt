@@ -5,7 +5,7 @@ use Rattle.name_rules.specs.Expressions.{Inside}
 use Rattle.name_rules.specs.Primaries.{inside}
 use Rattle.name_rules.specs.declared.scope.Context.{Context}
 use Rattle.name_rules.specs.declared.scope.Names.{Names}
-use Rattle.syntax_nodes.specs.Parts.{Part}
+use Rattle.syntax_nodes.specs.Parts.{TreePart}
 use Rattle.syntax_nodes.specs.Tables.{part_at}
 
 -- what a rule says at a place of the text
@@ -21,5 +21,5 @@ abbrev pub below : Scene → Inside
 below scene = inside scene.names.now scene.levels
 
 -- what a number of the text stands for
-abbrev pub node_at : Scene → ℕ → Part
+abbrev pub node_at : Scene → ℕ → TreePart
 node_at scene id = part_at scene.tree.now.nodes id

@@ -13,13 +13,13 @@ ghost use Rattle.name_values.specs.Operands.{founds};
 ghost use Rattle.typed_parts.specs.Stack.{parts};
 
 use ada_base::{Items, Op};
-use name_rules::found::{Attribute, Denoted, Found, Place, Prefix};
+use name_rules::found::{Attribute, Denoted, Found, ObjectName, Prefix};
 use name_rules::log::{Dimension, Log, Rule};
 use name_rules::types::{Kind, Scalar, Subtype};
 use name_values::arrays::dimensions_of;
 use name_values::attempt;
 use name_values::judge::Judge;
-use name_values::logs::{also_all, cleared};
+use name_values::logs::{also_all, cleared, none_of_two};
 use name_values::names::{denoted_first, dimension_at, wrong_name};
 use name_values::putting::static_of_kind;
 use name_values::symbols::{
@@ -419,8 +419,7 @@ fn two_given(
     attempt!(judge.out.swap());
     let y = attempt!(asked(judge, kind, right));
     if !x || !y {
-        judge.out.leave_out();
-        return Ok(None);
+        return none_of_two(judge);
     }
     attempt!(judge.out.binary(first, op, class_of(kind)));
     Ok(Some(Denoted::Value(Found::Scalar {
@@ -458,7 +457,11 @@ pub fn two_named(
     }
 }
 
-fn object_image(judge: &mut Judge, first: u32, place: Place) -> Result<Option<Denoted>, AllocError>
+fn object_image(
+    judge: &mut Judge,
+    first: u32,
+    place: ObjectName,
+) -> Result<Option<Denoted>, AllocError>
     ensures { JudgesOn (pop (parts judge.old.out)) (spec.object_image first place (top (parts judge.old.out)) place.subtype) judge.old result judge.new }
 {
     match place.subtype {

@@ -1,4 +1,5 @@
 //! Ranges (3.5): their bounds are a pair of parts.
+#![tactic(auto, unfolding(crate::specs::Opened::ranges))]
 
 ghost use Rattle.std.specs.Prelude.{◌≡◌};
 ghost use Rattle.name_rules.specs.Judges.{Says, found};
@@ -18,11 +19,13 @@ use name_rules::log::{Log, Rule};
 use name_rules::types::{Kind, Scalar, Subtype, Wanted};
 use name_values::attempt;
 use name_values::judge::{Giving, Judge};
-use name_values::logs::{breaks, cleared};
+use name_values::logs::{breaks, cleared, none_of_two};
 use name_values::names::denoted_first;
 use name_values::relations::common_kind;
 use name_values::types::{base_of, lies_in};
-use name_values::values::{asked, first_of, is_scalar, kind_of, literal, suits, value_of};
+use name_values::values::{
+    asked, asked_before, first_of, is_scalar, kind_of, literal, suits, value_of,
+};
 use std::alloc::AllocError;
 use syntax_nodes::Range;
 
@@ -35,13 +38,10 @@ fn no_range(judge: &mut Judge, at: u32, rule: Rule) -> Result<Option<Bounded>, A
 }
 
 /// Two bounds, the latest parts, take a type, and are a pair then.
-#[tactic(auto, unfolding(name_rules::specs::Ranges::bounds_of))]
 pub fn bounds_of(judge: &mut Judge, kind: Kind, low: Found, high: Found) -> Giving
     ensures { GivesTwo (spec.bounds_of kind) (found low) (found high) judge.old result judge.new }
 {
-    attempt!(judge.out.swap());
-    let x = attempt!(asked(judge, kind, low));
-    attempt!(judge.out.swap());
+    let x = attempt!(asked_before(judge, kind, low));
     let y = attempt!(asked(judge, kind, high));
     if !x || !y {
         judge.out.leave_out();
@@ -77,7 +77,6 @@ pub fn narrowed(scalar: Scalar, low: Option<i128>, high: Option<i128>) -> Scalar
 
 /// Two bounds of their own type: WrongType at the first token of one that is no scalar, or of another type than the
 /// first.
-#[tactic(auto, unfolding(name_rules::specs::Ranges::own_bounds))]
 pub fn own_bounds(
     judge: &mut Judge,
     first: u32,
@@ -106,7 +105,6 @@ pub fn own_bounds(
 }
 
 /// Two bounds of a subtype, which are checked against it.
-#[tactic(auto, unfolding(name_rules::specs::Ranges::checked_range))]
 pub fn checked_range(
     judge: &mut Judge,
     first: u32,
@@ -184,7 +182,6 @@ pub fn scalar_type(log: &mut Log, denoted: Denoted) -> Result<Option<Scalar>, Al
 
 /// A range (3.5).
 #[cycle(levels)]
-#[tactic(auto, unfolding(name_rules::specs::Ranges::range, name_rules::specs::Ranges::two_bounds))]
 pub fn range(judge: &mut Judge, scene: Scene<'_>, id: u32) -> Result<Option<Bounded>, AllocError>
     ensures { Judges (said_at scene.entry spec.range (the_range (node_at scene.entry id))) judge.old result judge.new }
 {
@@ -193,8 +190,7 @@ pub fn range(judge: &mut Judge, scene: Scene<'_>, id: u32) -> Result<Option<Boun
             let x = attempt!(simple(judge, scene, Wanted::Other, low));
             let y = attempt!(simple(judge, scene, Wanted::Other, high));
             let (Some(x), Some(y)) = (x, y) else {
-                judge.out.leave_out();
-                return Ok(None);
+                return none_of_two(judge);
             };
             own_bounds(judge, syntax_first_tokens::of_simple(scene.tree, low), x, y)
         }
@@ -214,8 +210,7 @@ pub fn range(judge: &mut Judge, scene: Scene<'_>, id: u32) -> Result<Option<Boun
             let x = attempt!(simple(judge, scene, Wanted::Other, low));
             let y = attempt!(simple(judge, scene, Wanted::Other, high));
             let (Some(scalar), Some(x), Some(y)) = (scalar, x, y) else {
-                judge.out.leave_out();
-                return Ok(None);
+                return none_of_two(judge);
             };
             checked_range(
                 judge,

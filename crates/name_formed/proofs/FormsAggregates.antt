@@ -7,7 +7,7 @@ use Rattle.syntax_tree.specs.Syntax.{Assoc, Assocs, Choice, Choices, Expr, Exprs
 use Rattle.ada_meaning.specs.Formed.{FormedAssociations, FormedValue, composite_width}
 use Rattle.ada_meaning.specs.Shapes.{size, subtype_shape}
 use Rattle.typed_tree.specs.Decoded as part
-use Rattle.typed_tree.specs.Decoded.{Part, as_association, as_associations, as_composite, as_value}
+use Rattle.typed_tree.specs.Decoded.{TypedPart, as_association, as_associations, as_composite, as_value}
 use Rattle.typed_tree.specs.Latest.{turned}
 use Rattle.typed_tree.specs.Syntax.{Associations}
 use Rattle.typed_tree.specs.declared.expressions.Iterated.{Iterated}
@@ -46,47 +46,47 @@ use Rattle.name_formed.proofs.FormsValues.{exprs-formed}
 module _ (W : World) (V : Sight) where
   -- ---- associations
 
-  abbrev IsAssociation : Part → Type 0
+  abbrev IsAssociation : TypedPart → Type 0
   IsAssociation p = (as' : Associations) → FormedAssociations W.program V.known as' → FormedAssociations W.program V.known (as_association p as')
 
-  abbrev AssociationsOf : Part → Type 0
+  abbrev AssociationsOf : TypedPart → Type 0
   AssociationsOf x = Each IsAssociation x
 
-  associations-list : (x : Part) → AssociationsOf x → FormedAssociations W.program V.known (as_associations x)
+  associations-list : (x : TypedPart) → AssociationsOf x → FormedAssociations W.program V.known (as_associations x)
   associations-list (part.Cons p q) h = h.0 (as_associations q) (associations-list q h.1)
   associations-list x h = tt
 
   -- a composite value of as many cells as are asked for
-  abbrev MadeOf : (ℕ → Type 0) → Part → Type 0
+  abbrev MadeOf : (ℕ → Type 0) → TypedPart → Type 0
   MadeOf P x = CompositeOf W V x × P (composite_width W.program.subtypes (as_composite x))
 
   -- a value that is formed
-  abbrev ItemOf : Part → Type 0
+  abbrev ItemOf : TypedPart → Type 0
   ItemOf x = FormedValue W.program V.known (as_value x)
 
-  aggregate-part : (P : ℕ → Type 0) (bracket cells : ℕ) (made : Part) → P cells → AssociationsOf made → MadeOf P (aggregate_part bracket cells made)
+  aggregate-part : (P : ℕ → Type 0) (bracket cells : ℕ) (made : TypedPart) → P cells → AssociationsOf made → MadeOf P (aggregate_part bracket cells made)
   aggregate-part P bracket cells made c h = (associations-list (turned made) (each-turned IsAssociation made h), c)
 
-  some-aggregate : (P : ℕ → Type 0) (bracket cells : ℕ) (made : Option Part) → P cells → Maybe AssociationsOf made → Maybe (MadeOf P) (option_map (aggregate_part bracket cells) made)
+  some-aggregate : (P : ℕ → Type 0) (bracket cells : ℕ) (made : Option TypedPart) → P cells → Maybe AssociationsOf made → Maybe (MadeOf P) (option_map (aggregate_part bracket cells) made)
   some-aggregate P bracket cells made c h = mapped AssociationsOf (MadeOf P) (aggregate_part bracket cells) made h (λ x q. aggregate-part P bracket cells x c q)
 
-  with-value : (rs : List Run) (i : Option Iterated) (ms made v : Part) → MentionsOf W V ms → AssociationsOf made → ItemOf v → AssociationsOf (with_value rs i ms made v)
+  with-value : (rs : List Run) (i : Option Iterated) (ms made v : TypedPart) → MentionsOf W V ms → AssociationsOf made → ItemOf v → AssociationsOf (with_value rs i ms made v)
   with-value rs i ms made v m g h = ((λ as' r. (exprs-formed W V ms m, h, r)), g)
 
   -- ---- records
 
-  f-field_value : (names : Names) (level : Inside) (here : Context) (made : Option Part) (f : Field) (e : Expr) → LevelForms W level → Around W V here → Maybe AssociationsOf made → Forms W V (Maybe AssociationsOf) (field_value names level here made f e)
+  f-field_value : (names : Names) (level : Inside) (here : Context) (made : Option TypedPart) (f : Field) (e : Expr) → LevelForms W level → Around W V here → Maybe AssociationsOf made → Forms W V (Maybe AssociationsOf) (field_value names level here made f e)
   unfolding field_value
   f-field_value names level here made f e l r g =
       f-bind W V (Maybe (ValueOf W V f.subtype)) (Maybe AssociationsOf) (value_for names level here f.subtype e) _ (f-value_for W V names level here f.subtype e l r) (λ v q.
       f-bind W V Any (Maybe AssociationsOf) (read (λ log. field_run log f)) _ (f-read W V Any (λ log. field_run log f) (λ log h. tt)) (λ x s.
       f-pure W V (Maybe AssociationsOf) (joined (with_value (x ∷ []) None part.Nothing) made v) (joint AssociationsOf (ValueOf W V f.subtype) AssociationsOf (with_value (x ∷ []) None part.Nothing) made v g q (λ a b m n. with-value (x ∷ []) None part.Nothing a b tt m n.0))))
 
-  f-fields_value : (names : Names) (level : Inside) (here : Context) (made : Option Part) (fs : List Field) (e : Expr) → LevelForms W level → Around W V here → Maybe AssociationsOf made → Forms W V (Maybe AssociationsOf) (fields_value names level here made fs e)
+  f-fields_value : (names : Names) (level : Inside) (here : Context) (made : Option TypedPart) (fs : List Field) (e : Expr) → LevelForms W level → Around W V here → Maybe AssociationsOf made → Forms W V (Maybe AssociationsOf) (fields_value names level here made fs e)
   f-fields_value names level here made [] e l r g = f-pure W V (Maybe AssociationsOf) made g
   f-fields_value names level here made (f ∷ fs) e l r g = f-bind W V (Maybe AssociationsOf) (Maybe AssociationsOf) (field_value names level here made f e) _ (f-field_value names level here made f e l r g) (λ a q. f-fields_value names level here a fs e l r q)
 
-  f-some_fields : (names : Names) (level : Inside) (here : Context) (made : Option Part) (fs : List Field) (e : Expr) → LevelForms W level → Around W V here → Maybe AssociationsOf made → Forms W V (Maybe AssociationsOf) (some_fields names level here made fs e)
+  f-some_fields : (names : Names) (level : Inside) (here : Context) (made : Option TypedPart) (fs : List Field) (e : Expr) → LevelForms W level → Around W V here → Maybe AssociationsOf made → Forms W V (Maybe AssociationsOf) (some_fields names level here made fs e)
   f-some_fields names level here made [] e l r g = f-bind W V Any (Maybe AssociationsOf) (judged_alone names level here e) _ (f-judged_alone W V names level here e l r) (λ u q. f-pure W V (Maybe AssociationsOf) made g)
   f-some_fields names level here made (f ∷ fs) e l r g = f-fields_value names level here made (f ∷ fs) e l r g
 
@@ -144,28 +144,28 @@ module _ (W : World) (V : Sight) where
 
   -- ---- arrays
 
-  abbrev RestOf : Option (Option Part) → Type 0
+  abbrev RestOf : Option (Option TypedPart) → Type 0
   RestOf None = Unit {0}
   RestOf (Some v) = Maybe ItemOf v
 
   abbrev PlacingOf : Placing → Type 0
   PlacingOf p = Maybe AssociationsOf p.done × RestOf p.rest
 
-  with-runs : (i : Option Iterated) (ms : Part) (rs : Option (List Run)) (before v : Option Part) → MentionsOf W V ms → Maybe AssociationsOf before → Maybe ItemOf v → Maybe AssociationsOf (with_runs i ms rs before v)
+  with-runs : (i : Option Iterated) (ms : TypedPart) (rs : Option (List Run)) (before v : Option TypedPart) → MentionsOf W V ms → Maybe AssociationsOf before → Maybe ItemOf v → Maybe AssociationsOf (with_runs i ms rs before v)
   with-runs i ms None before v m g h = tt
   with-runs i ms (Some rs) before v m g h = joint AssociationsOf ItemOf AssociationsOf (with_value rs i ms) before v g h (λ a b s t. with-value rs i ms a b m s t)
 
-  with-ranges : (d : Dimension) (apart : ℕ) (i : Option Iterated) (ms : Part) (p : Placing) (rs : List (ℤ × ℤ)) (v : Option Part) → MentionsOf W V ms → PlacingOf p → Maybe ItemOf v → PlacingOf (with_ranges d apart i ms p rs v)
+  with-ranges : (d : Dimension) (apart : ℕ) (i : Option Iterated) (ms : TypedPart) (p : Placing) (rs : List (ℤ × ℤ)) (v : Option TypedPart) → MentionsOf W V ms → PlacingOf p → Maybe ItemOf v → PlacingOf (with_ranges d apart i ms p rs v)
   with-ranges d apart i ms p rs v m g h = (with-runs i ms (runs_of d apart rs) p.done v m g.0 h, g.1)
 
-  iterated-given : (d : Dimension) (apart n : ℕ) (p : Placing) (s : Option Static) (v : Option Part) → Maybe (StaticOf W V) s → PlacingOf p → Maybe ItemOf v → PlacingOf (iterated_given d apart n p s v)
+  iterated-given : (d : Dimension) (apart n : ℕ) (p : Placing) (s : Option Static) (v : Option TypedPart) → Maybe (StaticOf W V) s → PlacingOf p → Maybe ItemOf v → PlacingOf (iterated_given d apart n p s v)
   iterated-given d apart n p None v m g h = (tt, g.1)
   iterated-given d apart n p (Some r) v m g h = with-ranges d apart (Some (record { parameter = n; first = r.known.low })) r.part p ((r.known.low, r.known.high) ∷ []) v m g h
 
   abbrev ChoosingOf : Choosing' → Type 0
   ChoosingOf c = MentionsOf W V c.mentions
 
-  chosen-given : (d : Dimension) (apart : ℕ) (p : Placing) (c : Option Choosing') (v : Option Part) → Maybe ChoosingOf c → PlacingOf p → Maybe ItemOf v → PlacingOf (chosen_given d apart p c v)
+  chosen-given : (d : Dimension) (apart : ℕ) (p : Placing) (c : Option Choosing') (v : Option TypedPart) → Maybe ChoosingOf c → PlacingOf p → Maybe ItemOf v → PlacingOf (chosen_given d apart p c v)
   chosen-given d apart p None v m g h = (tt, g.1)
   chosen-given d apart p (Some c) v m g h = by c.rest
     where
@@ -234,11 +234,11 @@ module _ (W : World) (V : Sight) where
       f-bind W V PlacingOf PlacingOf (array_values here component d apart d.low nothing_placed es) (array_rest here component o) (f-array_values here component d apart d.low nothing_placed es r forms (tt, tt)) (λ p q. f-array_rest here component o p r forms q)
   f-array_placed names level here component d apart (ByAssociation as') l r forms = f-array_assocs names level here component d apart nothing_placed as' l r forms (tt, tt)
 
-  f-covered_alone : (P : ℕ → Type 0) (bracket cells : ℕ) (made : Option Part) (os : List (ℤ × ℤ)) → P cells → Maybe AssociationsOf made → Forms W V (Maybe (MadeOf P)) (covered_alone bracket cells made os)
+  f-covered_alone : (P : ℕ → Type 0) (bracket cells : ℕ) (made : Option TypedPart) (os : List (ℤ × ℤ)) → P cells → Maybe AssociationsOf made → Forms W V (Maybe (MadeOf P)) (covered_alone bracket cells made os)
   f-covered_alone P bracket cells made os c g =
       f-if W V (Maybe (MadeOf P)) (length os == 0) _ (fault bracket StaticRange) (f-pure W V (Maybe (MadeOf P)) (option_map (aggregate_part bracket cells) made) (some-aggregate P bracket cells made c g)) (f-fault W V (MadeOf P) bracket StaticRange)
 
-  f-covered : (P : ℕ → Type 0) (bracket : ℕ) (d : Dimension) (apart cells : ℕ) (p : Placing) (os : Option (List (ℤ × ℤ))) (v : Option (Option Part)) → P cells → PlacingOf p → RestOf v → Forms W V (Maybe (MadeOf P)) (covered bracket d apart cells p os v)
+  f-covered : (P : ℕ → Type 0) (bracket : ℕ) (d : Dimension) (apart cells : ℕ) (p : Placing) (os : Option (List (ℤ × ℤ))) (v : Option (Option TypedPart)) → P cells → PlacingOf p → RestOf v → Forms W V (Maybe (MadeOf P)) (covered bracket d apart cells p os v)
   f-covered P bracket d apart cells p None v c g h = f-fault W V (MadeOf P) bracket StaticRange
   f-covered P bracket d apart cells p (Some os) None c g h = f-covered_alone P bracket cells p.done os c g.0
   f-covered P bracket d apart cells p (Some os) (Some v) c g h =
@@ -255,7 +255,7 @@ module _ (W : World) (V : Sight) where
   f-no_aggregate names level here e l r =
       f-bind W V (Finding W V) (Maybe ItemOf) (expr names level here wanted.Other e) _ (f-expr W V names level here wanted.Other e l r) (λ x q. f-given W V (FoundOf W V) ItemOf x _ q (λ f s. f-fault W V ItemOf (first_token.of_expr e) WrongType))
 
-  inner-value : (f : Known) (x : Part) → KnownOf W V f x → Maybe ItemOf (inner_value f x)
+  inner-value : (f : Known) (x : TypedPart) → KnownOf W V f x → Maybe ItemOf (inner_value f x)
   inner-value (known.Rest first) x h = h
   inner-value f x h = tt
 
@@ -267,7 +267,7 @@ module _ (W : World) (V : Sight) where
   f-component_value : (names : Names) (level : Inside) (here : Context) (s : Subtype) (e : Expr) → LevelForms W level → Around W V here → Forms W V (Maybe ItemOf) (value_for names level here s e)
   f-component_value names level here s e l r = f-weaken W V (Maybe (ValueOf W V s)) (Maybe ItemOf) (value_for names level here s e) (f-value_for W V names level here s e l r) by
     where
-      by : (v : Option Part) → Maybe (ValueOf W V s) v → Maybe ItemOf v
+      by : (v : Option TypedPart) → Maybe (ValueOf W V s) v → Maybe ItemOf v
       by None h = tt
       by (Some v) h = h.0
 
@@ -297,7 +297,7 @@ module _ (W : World) (V : Sight) where
 
   -- ---- aggregates
 
-  f-composite_found : (P : ℕ → Type 0) (names : Names) (level : Inside) (here : Context) (bracket n i : ℕ) (log : Log) (t : Option Shape) (ps : Contents) (make : Part → Found) → ((x : Part) → MadeOf P x → FoundOf W V (make x)) → LevelForms W level → Around W V here → CellsOf P i log t
+  f-composite_found : (P : ℕ → Type 0) (names : Names) (level : Inside) (here : Context) (bracket n i : ℕ) (log : Log) (t : Option Shape) (ps : Contents) (make : TypedPart → Found) → ((x : TypedPart) → MadeOf P x → FoundOf W V (make x)) → LevelForms W level → Around W V here → CellsOf P i log t
       → Forms W V (Finding W V) (composite_at names level here bracket n i log t ps >>= λ c. pure (option_map make c))
   f-composite_found P names level here bracket n i log t ps make f l r c =
       f-bind W V (Maybe (MadeOf P)) (Finding W V) (composite_at names level here bracket n i log t ps) _ (f-composite_at P names level here bracket n i log t ps l r c) (λ x q. f-pure W V (Finding W V) (option_map make x) (mapped (MadeOf P) (FoundOf W V) make x q f))

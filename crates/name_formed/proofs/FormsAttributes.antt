@@ -7,7 +7,7 @@ use Rattle.syntax_tree.specs.Syntax.{Args}
 use Rattle.ada_meaning.specs.Formed.{FormedExpr}
 use Rattle.typed_tree.specs.Indexes.{indexes_in}
 use Rattle.typed_tree.specs.Decoded as part
-use Rattle.typed_tree.specs.Decoded.{Part, as_expr}
+use Rattle.typed_tree.specs.Decoded.{TypedPart, as_expr}
 use Rattle.typed_tree.specs.Syntax.{Expr as TypedExpr}
 use Rattle.name_rules.specs.Attributes.{alone, attribute_found, bound_alone, bound_in, bound_with, dimension_at, dimension_bound, dimension_given, dimensions_in, extreme, first_named, image_text, is_array_object, is_bound, is_reduction, mentioned, object_image, one_argument, one_dimension, one_given, one_named, prefix_of, prefix_subtype, reduced_alone, scalar_bound, scalar_with, settled_attribute, settled_form, step, stepped, two_arguments_of, two_given, two_named}
 use Rattle.name_rules.specs.Calls.{arg_names, operands}
@@ -24,7 +24,7 @@ use Rattle.name_rules.specs.declared.found.Attribute.{Attribute}
 use Rattle.name_rules.specs.declared.found.Denoted.TheVariants as denoted
 use Rattle.name_rules.specs.declared.found.Denoted.{Denoted as KnownDenoted}
 use Rattle.name_rules.specs.declared.found.Found.TheVariants as known
-use Rattle.name_rules.specs.declared.found.Place.{Place}
+use Rattle.name_rules.specs.declared.found.ObjectName.{ObjectName}
 use Rattle.name_rules.specs.declared.found.Prefix.TheVariants as prefix
 use Rattle.name_rules.specs.declared.found.Prefix.{Prefix}
 use Rattle.name_rules.specs.declared.log.Dimension.{Dimension}
@@ -43,7 +43,7 @@ use Rattle.name_formed.proofs.FormsNames.{f-wrong_call}
 use Rattle.name_formed.proofs.FormsValues.{StaticValue, f-asked, f-static_of_kind, indexes-formed, is-settled, path-whole, static-mentions}
 
 module _ (W : World) (V : Sight) where
-  prefix-formed : (k : KnownDenoted) (x : Part) → DenotesOf W V k x → PrefixOf W V (prefix_of k) x
+  prefix-formed : (k : KnownDenoted) (x : TypedPart) → DenotesOf W V k x → PrefixOf W V (prefix_of k) x
   prefix-formed (denoted.Value (known.Object p)) x h = h
   prefix-formed (denoted.Type first t) x h = h
   prefix-formed (denoted.Parameter first s) x h = h
@@ -61,19 +61,19 @@ module _ (W : World) (V : Sight) where
   f-scalar_bound first s attribute'.Last = f-some W V (DenotedOf W V) (value_denoted (static first s.kind s.high part.Nothing)) tt
   f-scalar_bound first s a = f-fault W V (DenotedOf W V) first WrongType
 
-  f-dimension_bound : (first : ℕ) (ms : Part) (a : Attribute) (d : Dimension) → MentionsOf W V ms → Forms W V (Maybe (DenotedOf W V)) (dimension_bound first ms a d)
+  f-dimension_bound : (first : ℕ) (ms : TypedPart) (a : Attribute) (d : Dimension) → MentionsOf W V ms → Forms W V (Maybe (DenotedOf W V)) (dimension_bound first ms a d)
   f-dimension_bound first ms attribute'.First d h = f-some W V (DenotedOf W V) (value_denoted (static first d.kind d.low ms)) h
   f-dimension_bound first ms attribute'.Last d h = f-some W V (DenotedOf W V) (value_denoted (static first d.kind d.high ms)) h
   f-dimension_bound first ms attribute'.Length d h = f-some W V (DenotedOf W V) (value_denoted (universal first (pos (extent d)) false ms)) h
   f-dimension_bound first ms attribute'.Range d h = f-some W V (DenotedOf W V) (denote (denoted.Range first d) ms) h
   f-dimension_bound first ms a d h = f-fault W V (DenotedOf W V) first WrongType
 
-  f-bound_in : (first : ℕ) (ms : Part) (a : Attribute) (d : Option Dimension) → MentionsOf W V ms → Forms W V (Maybe (DenotedOf W V)) (bound_in first ms a d)
+  f-bound_in : (first : ℕ) (ms : TypedPart) (a : Attribute) (d : Option Dimension) → MentionsOf W V ms → Forms W V (Maybe (DenotedOf W V)) (bound_in first ms a d)
   f-bound_in first ms a None h = f-fault W V (DenotedOf W V) first WrongType
   f-bound_in first ms a (Some d) h = f-dimension_bound first ms a d h
 
   -- the indexes in the prefix are formed
-  pub mentioned-formed : (p : Prefix) (x : Part) → PrefixOf W V p x → MentionsOf W V (mentioned p x)
+  pub mentioned-formed : (p : Prefix) (x : TypedPart) → PrefixOf W V p x → MentionsOf W V (mentioned p x)
   unfolding indexes_in
   mentioned-formed (prefix.Object p) x h = indexes-formed W V (selections_of x) (path-whole W V h.whole (shape_of W.program p.subtype) x h.path).1
   mentioned-formed (prefix.Parameter s) x h = tt
@@ -81,20 +81,20 @@ module _ (W : World) (V : Sight) where
   mentioned-formed (prefix.Function n) x h = tt
   mentioned-formed prefix.Other x h = tt
 
-  f-bound_by : (first : ℕ) (p : Prefix) (x : Part) (a : Attribute) → PrefixOf W V p x → Forms W V (Maybe (DenotedOf W V)) (read (λ log. slice_get (dimensions_in log (prefix_subtype p)) 0) >>= bound_in first (mentioned p x) a)
+  f-bound_by : (first : ℕ) (p : Prefix) (x : TypedPart) (a : Attribute) → PrefixOf W V p x → Forms W V (Maybe (DenotedOf W V)) (read (λ log. slice_get (dimensions_in log (prefix_subtype p)) 0) >>= bound_in first (mentioned p x) a)
   f-bound_by first p x a h =
       f-bind W V Any (Maybe (DenotedOf W V)) (read (λ log. slice_get (dimensions_in log (prefix_subtype p)) 0)) (bound_in first (mentioned p x) a) (f-read W V Any (λ log. slice_get (dimensions_in log (prefix_subtype p)) 0) (λ log g. tt)) (λ d q.
       f-bound_in first (mentioned p x) a d (mentioned-formed p x h))
 
-  f-bound_alone : (first : ℕ) (p : Prefix) (x : Part) (a : Attribute) → PrefixOf W V p x → Forms W V (Maybe (DenotedOf W V)) (bound_alone first p x a)
+  f-bound_alone : (first : ℕ) (p : Prefix) (x : TypedPart) (a : Attribute) → PrefixOf W V p x → Forms W V (Maybe (DenotedOf W V)) (bound_alone first p x a)
   f-bound_alone first (prefix.Type (subtype.Scalar s)) x a h = f-scalar_bound first s a
   f-bound_alone first p x a h = f-bound_by first p x a h
 
-  f-dimension_at : (first : ℕ) (ms : Part) (a : Attribute) (ds : List Dimension) (at : ℕ) (z : ℤ) → MentionsOf W V ms → Forms W V (Maybe (DenotedOf W V)) (dimension_at first ms a ds at z)
+  f-dimension_at : (first : ℕ) (ms : TypedPart) (a : Attribute) (ds : List Dimension) (at : ℕ) (z : ℤ) → MentionsOf W V ms → Forms W V (Maybe (DenotedOf W V)) (dimension_at first ms a ds at z)
   f-dimension_at first ms a ds at z h =
       f-if W V (Maybe (DenotedOf W V)) (int_le (pos 1) z && int_le z (pos (length ds))) (bound_in first ms a (slice_get ds (unsigned_abs z - 1))) (fault at StaticRange) (f-bound_in first ms a (slice_get ds (unsigned_abs z - 1)) h) (f-fault W V (DenotedOf W V) at StaticRange)
 
-  f-dimension_given : (first : ℕ) (ms : Part) (a : Attribute) (ds : List Dimension) (f : Found) → MentionsOf W V ms → FoundOf W V f → Forms W V (Maybe (DenotedOf W V)) (dimension_given first ms a ds f)
+  f-dimension_given : (first : ℕ) (ms : TypedPart) (a : Attribute) (ds : List Dimension) (f : Found) → MentionsOf W V ms → FoundOf W V f → Forms W V (Maybe (DenotedOf W V)) (dimension_given first ms a ds f)
   f-dimension_given first ms a ds f h g =
       f-if W V (Maybe (DenotedOf W V)) (is_number f.known) _ (fault (first_of f.known) WrongType)
       (f-bind W V (Maybe (StaticValue W V f)) (Maybe (DenotedOf W V)) (static_of_kind (own_kind f.known) f) _ (f-static_of_kind W V (own_kind f.known) f g) (λ v q.
@@ -102,12 +102,12 @@ module _ (W : World) (V : Sight) where
       f-dimension_at first (also_all ms (mentions_of f)) a ds (first_of f.known) z (each-all (ExprOf W V) ms (mentions_of f) h (static-mentions W V f.known f.part z g s)))))
       (f-fault W V (DenotedOf W V) (first_of f.known) WrongType)
 
-  f-one_dimension : (first bracket : ℕ) (ms : Part) (a : Attribute) (ds : List Dimension) (ns : List (Option ℕ)) (fs : List Found) → MentionsOf W V ms → AllFound W V fs → Forms W V (Maybe (DenotedOf W V)) (one_dimension first bracket ms a ds ns fs)
+  f-one_dimension : (first bracket : ℕ) (ms : TypedPart) (a : Attribute) (ds : List Dimension) (ns : List (Option ℕ)) (fs : List Found) → MentionsOf W V ms → AllFound W V fs → Forms W V (Maybe (DenotedOf W V)) (one_dimension first bracket ms a ds ns fs)
   f-one_dimension first bracket ms a ds (None ∷ []) (f ∷ []) h g = f-dimension_given first ms a ds f h g.0
   f-one_dimension first bracket ms a ds (Some name ∷ []) fs h g = f-fault W V (DenotedOf W V) name WrongType
   f-one_dimension first bracket ms a ds ns fs h g = f-fault W V (DenotedOf W V) bracket WrongType
 
-  pub f-bound_with : (names : Names) (inside : Inside) (here : Context) (first : ℕ) (ms : Part) (a : Attribute) (bracket : ℕ) (as' : Args) (ds : List Dimension) → LevelForms W inside → Around W V here → MentionsOf W V ms
+  pub f-bound_with : (names : Names) (inside : Inside) (here : Context) (first : ℕ) (ms : TypedPart) (a : Attribute) (bracket : ℕ) (as' : Args) (ds : List Dimension) → LevelForms W inside → Around W V here → MentionsOf W V ms
       → Forms W V (Maybe (DenotedOf W V)) (bound_with names inside here first ms a bracket as' ds)
   f-bound_with names inside here first ms a bracket as' [] l r h = f-fault W V (DenotedOf W V) first WrongType
   f-bound_with names inside here first ms a bracket as' (d ∷ ds) l r h =
@@ -180,7 +180,7 @@ module _ (W : World) (V : Sight) where
   f-scalar_with names inside here first s attribute'.Pred bracket as' l r = f-stepped names inside here first s op.Sub bracket as' l r
   f-scalar_with names inside here first s a bracket as' l r = f-bound_called names inside here first s a as' l r
 
-  f-object_image : (first : ℕ) (p : Place) (x : Part) (t : Subtype) → PrefixOf W V (prefix.Object p) x → Forms W V (Maybe (DenotedOf W V)) (object_image first p x t)
+  f-object_image : (first : ℕ) (p : ObjectName) (x : TypedPart) (t : Subtype) → PrefixOf W V (prefix.Object p) x → Forms W V (Maybe (DenotedOf W V)) (object_image first p x t)
   f-object_image first p x (subtype.Scalar s) h = f-one_given s.kind (image_text first s.kind) (record { known = known.Object p; part = x }) (takes-image first s.kind) h
   f-object_image first p x (subtype.Composite n) h = f-fault W V (DenotedOf W V) first WrongType
 
@@ -190,19 +190,19 @@ module _ (W : World) (V : Sight) where
   f-reduced_alone first at true = f-fault W V (DenotedOf W V) first WrongType
   f-reduced_alone first at false = f-fault W V (DenotedOf W V) at ReduceRule
 
-  f-others_alone : (first : ℕ) (p : Prefix) (x : Part) (at : ℕ) (a : Attribute) → PrefixOf W V p x
+  f-others_alone : (first : ℕ) (p : Prefix) (x : TypedPart) (at : ℕ) (a : Attribute) → PrefixOf W V p x
       → Forms W V (Maybe (DenotedOf W V)) (if is_bound a then bound_alone first p x a else if is_reduction a then (read (λ log. is_array_object log p) >>= reduced_alone first at) else fault first WrongType)
   f-others_alone first p x at a h =
       f-if W V (Maybe (DenotedOf W V)) (is_bound a) (bound_alone first p x a) _ (f-bound_alone first p x a h)
       (f-if W V (Maybe (DenotedOf W V)) (is_reduction a) (read (λ log. is_array_object log p) >>= reduced_alone first at) (fault first WrongType)
       (f-bind W V Any (Maybe (DenotedOf W V)) (read (λ log. is_array_object log p)) (reduced_alone first at) (f-read W V Any (λ log. is_array_object log p) (λ log g. tt)) (λ b q. f-reduced_alone first at b)) (f-fault W V (DenotedOf W V) first WrongType))
 
-  f-alone : (first : ℕ) (p : Prefix) (x : Part) (at : ℕ) (a : Attribute) → PrefixOf W V p x → Forms W V (Maybe (DenotedOf W V)) (alone first p x at a)
+  f-alone : (first : ℕ) (p : Prefix) (x : TypedPart) (at : ℕ) (a : Attribute) → PrefixOf W V p x → Forms W V (Maybe (DenotedOf W V)) (alone first p x at a)
   f-alone first (prefix.Object p) x at attribute'.Image h = f-object_image first p x p.subtype h
   f-alone first (prefix.Parameter s) x at attribute'.Image h = f-one_given s.kind (image_text first s.kind) (parameter_found first s x) (takes-image first s.kind) h
   f-alone first p x at a h = f-others_alone first p x at a h
 
-  f-settled_form : (k : KnownDenoted) (x : Part) → DenotesOf W V k x → Forms W V (Maybe (DenotedOf W V)) (settled_form k x)
+  f-settled_form : (k : KnownDenoted) (x : TypedPart) → DenotesOf W V k x → Forms W V (Maybe (DenotedOf W V)) (settled_form k x)
   f-settled_form (denoted.Attribute first p at a) x h = f-alone first p x at a h
   f-settled_form k x h = f-some W V (DenotedOf W V) (denote k x) h
 

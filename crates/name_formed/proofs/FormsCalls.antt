@@ -7,7 +7,7 @@ use Rattle.syntax_tree.specs.FirstTokens as first_token
 use Rattle.syntax_tree.specs.Syntax as syntax
 use Rattle.syntax_tree.specs.Syntax.{Arg, Args, Expr}
 use Rattle.typed_tree.specs.Decoded as part
-use Rattle.typed_tree.specs.Decoded.{Part, as_actual, as_actuals, as_value}
+use Rattle.typed_tree.specs.Decoded.{TypedPart, as_actual, as_actuals, as_value}
 use Rattle.typed_tree.specs.Latest.{turned}
 use Rattle.typed_tree.specs.Syntax as typed
 use Rattle.typed_tree.specs.Syntax.{Actuals}
@@ -22,7 +22,7 @@ use Rattle.name_rules.specs.Types.{is_integer, same, typed_scalar, wanted_of}
 use Rattle.name_rules.specs.Values.{first_of, is_number, settled_found}
 use Rattle.name_rules.specs.declared.found.Found.TheVariants as known
 use Rattle.name_rules.specs.declared.found.Found.{Found as Known}
-use Rattle.name_rules.specs.declared.found.Place.{Place}
+use Rattle.name_rules.specs.declared.found.ObjectName.{ObjectName}
 use Rattle.name_rules.specs.declared.log.Rule.TheVariants.{Twice, Unknown, WrongType}
 use Rattle.name_rules.specs.declared.log.Taken.{Taken}
 use Rattle.name_rules.specs.declared.scope.Context.{Context}
@@ -40,31 +40,31 @@ use Rattle.name_formed.proofs.FormsValues.{VariableOf, all-cells, as-variable, f
 module _ (W : World) (V : Sight) where
   -- ---- actual parameters
 
-  abbrev pub IsActual : Part → Type 0
+  abbrev pub IsActual : TypedPart → Type 0
   IsActual p = (as' : Actuals) → FormedActuals W.program V.known as' → FormedActuals W.program V.known (as_actual p as')
 
-  actuals-list : (x : Part) → Each IsActual x → FormedActuals W.program V.known (as_actuals x)
+  actuals-list : (x : TypedPart) → Each IsActual x → FormedActuals W.program V.known (as_actuals x)
   actuals-list (part.Cons p q) h = h.0 (as_actuals q) (actuals-list q h.1)
   actuals-list x h = tt
 
-  actuals-fit : (x : Part) → Each IsActual x → FormedActuals W.program V.known (as_actuals (turned x))
+  actuals-fit : (x : TypedPart) → Each IsActual x → FormedActuals W.program V.known (as_actuals (turned x))
   actuals-fit x h = actuals-list (turned x) (each-turned IsActual x h)
 
-  scalar-actual : (t : Taken) (s : Scalar) (p : Place) (x : Part) (u : Scalar) → Spans W.program V.known p.root (selections_of x) 1 → FormedSelections W.program V.known (selections_of x) → IsActual (scalar_actual t s p (selections_of x) u)
+  scalar-actual : (t : Taken) (s : Scalar) (p : ObjectName) (x : TypedPart) (u : Scalar) → Spans W.program V.known p.root (selections_of x) 1 → FormedSelections W.program V.known (selections_of x) → IsActual (scalar_actual t s p (selections_of x) u)
   scalar-actual t s p x u h g as' r = by (is_out t.mode)
     where
       by : (b : Bool) → FormedActuals W.program V.known (as_actual (part.AnActual (if b then typed.Out t.object p.first p.root (selections_of x) (typed_scalar s) (typed_scalar u) else typed.InOut t.object p.first p.root (selections_of x) (typed_scalar s) (typed_scalar u))) as')
       by true = (h, g, r)
       by false = (h, g, r)
 
-  composite-actual : (t : Taken) (p : Place) (x : Part) (n : ℕ) → Spans W.program V.known p.root (selections_of x) (cells_of W.program.subtypes n) → FormedSelections W.program V.known (selections_of x) → IsActual (composite_actual t p (selections_of x) n)
+  composite-actual : (t : Taken) (p : ObjectName) (x : TypedPart) (n : ℕ) → Spans W.program V.known p.root (selections_of x) (cells_of W.program.subtypes n) → FormedSelections W.program V.known (selections_of x) → IsActual (composite_actual t p (selections_of x) n)
   composite-actual t p x n h g as' r = by (is_out t.mode)
     where
       by : (b : Bool) → FormedActuals W.program V.known (as_actual (part.AnActual (if b then typed.CompositeOut t.object p.first p.root (selections_of x) n else typed.CompositeInOut t.object p.first p.root (selections_of x) n)) as')
       by true = (h, g, r)
       by false = (h, g, r)
 
-  f-place_given : (t : Taken) (p : Place) (x : Part) (s u : Subtype) → p.subtype ≡ u → VariableOf W V p x → Forms W V (Maybe IsActual) (place_given t p (selections_of x) s u)
+  f-place_given : (t : Taken) (p : ObjectName) (x : TypedPart) (s u : Subtype) → p.subtype ≡ u → VariableOf W V p x → Forms W V (Maybe IsActual) (place_given t p (selections_of x) s u)
   f-place_given t p x (subtype.Scalar s) (subtype.Scalar u) e h =
       f-if W V (Maybe IsActual) (same s.kind u.kind) (some (scalar_actual t s p (selections_of x) u)) (fault p.first WrongType) (f-some W V IsActual (scalar_actual t s p (selections_of x) u) (scalar-actual t s p x u (shape_of W.program p.subtype, h.0, one-cell W p u e) h.1)) (f-fault W V IsActual p.first WrongType)
   f-place_given t p x (subtype.Composite n) (subtype.Composite m) e h =
@@ -73,7 +73,7 @@ module _ (W : World) (V : Sight) where
   f-place_given t p x (subtype.Scalar s) (subtype.Composite m) e h = f-fault W V IsActual p.first WrongType
   f-place_given t p x (subtype.Composite n) (subtype.Scalar u) e h = f-fault W V IsActual p.first WrongType
 
-  f-variable_form : (t : Taken) (f : Known) (x : Part) → KnownOf W V f x → Forms W V (Maybe IsActual) (variable_form t f x)
+  f-variable_form : (t : Taken) (f : Known) (x : TypedPart) → KnownOf W V f x → Forms W V (Maybe IsActual) (variable_form t f x)
   f-variable_form t (known.Object p) x h = f-test W V (Maybe IsActual) p.variable (place_given t p (selections_of x) t.subtype p.subtype) (fault p.first WrongType) (λ q. f-place_given t p x t.subtype p.subtype refl (as-variable W V p x h q)) (f-fault W V IsActual p.first WrongType)
   f-variable_form t f x h = f-fault W V IsActual (first_of f) WrongType
 
@@ -98,7 +98,7 @@ module _ (W : World) (V : Sight) where
   abbrev CallingOf : Calling → Type 0
   CallingOf c = Maybe (Each IsActual) c.actuals
 
-  with-actual : (i : Option ℕ) (made x : Option Part) → Maybe (Each IsActual) made → Maybe IsActual x → Maybe (Each IsActual) (with_actual i made x)
+  with-actual : (i : Option ℕ) (made x : Option TypedPart) → Maybe (Each IsActual) made → Maybe IsActual x → Maybe (Each IsActual) (with_actual i made x)
   with-actual None made x g h = g
   with-actual (Some i) made x g h = joint (Each IsActual) IsActual (Each IsActual) also made x g h (λ a b p q. (q, p))
 
@@ -133,7 +133,7 @@ module _ (W : World) (V : Sight) where
   f-complete at count (Some late) c g = f-fault W V (Each IsActual) late WrongType
   f-complete at count None c g = f-if W V (Maybe (Each IsActual)) (c.count == count) (pure c.actuals) (fault at WrongType) (f-pure W V (Maybe (Each IsActual)) c.actuals g) (f-fault W V (Each IsActual) at WrongType)
 
-  call-given : (first last n : ℕ) (s : Option Scalar) (xs : Part) → n < V.known.declared → Each IsActual xs → DenotedOf W V (call_given first last n s xs)
+  call-given : (first last n : ℕ) (s : Option Scalar) (xs : TypedPart) → n < V.known.declared → Each IsActual xs → DenotedOf W V (call_given first last n s xs)
   call-given first last n None xs d h = (d, actuals-fit xs h)
   call-given first last n (Some s) xs d h = (d, actuals-fit xs h)
 

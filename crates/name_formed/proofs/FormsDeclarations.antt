@@ -7,7 +7,7 @@ use Rattle.ada_meaning.specs.Shapes.{object_shape}
 use Rattle.syntax_tree.specs.Syntax as syntax
 use Rattle.syntax_tree.specs.Syntax.{Array, Comp, Decl, Definition, Expr, Ids, Indic, ObjectType, Range}
 use Rattle.typed_tree.specs.Decoded as part
-use Rattle.typed_tree.specs.Decoded.{Part, as_decl, as_decls, as_expr, as_exprs, as_value}
+use Rattle.typed_tree.specs.Decoded.{TypedPart, as_decl, as_decls, as_expr, as_exprs, as_value}
 use Rattle.typed_tree.specs.Latest.{turned}
 use Rattle.typed_tree.specs.Syntax.{Decls, Program}
 use Rattle.typed_tree.specs.declared.program.Object.{Object}
@@ -128,7 +128,7 @@ module _ (P : Program) (L : Log) (F : Facts P L) where
 
   -- ---- subtypes
 
-  abbrev pub MentionsIn : Sight → Part → Type 0
+  abbrev pub MentionsIn : Sight → TypedPart → Type 0
   MentionsIn V x = Each (λ y. FormedExpr P V.known (as_expr y)) x
 
   abbrev IndicatedIn : Sight → Indicated → Type 0
@@ -208,7 +208,7 @@ module _ (P : Program) (L : Log) (F : Facts P L) where
   b-components V G names level start b (c ∷ cs) l h =
       b-bind L V G (BuildingIn V) (BuildingIn V) (d.component names level start b c) _ (b-component V G names level start b c l h) (λ e. b-components V (And G (BuildingIn V e)) names level start e cs l (λ g. g.new))
 
-  b-record_written : (V : Sight) (G : Type 0) (cells : ℕ) (ms : Part) (fs : List Field) → (G → MentionsIn V ms) → Back L V G (Maybe (IndicatedIn V)) (d.record_written cells ms fs)
+  b-record_written : (V : Sight) (G : Type 0) (cells : ℕ) (ms : TypedPart) (fs : List Field) → (G → MentionsIn V ms) → Back L V G (Maybe (IndicatedIn V)) (d.record_written cells ms fs)
   b-record_written V G cells ms fs h =
       b-bind L V G Any (Maybe (IndicatedIn V)) (written_shape (entry.Record fs cells)) _ (b-any L V G (written_shape (entry.Record fs cells)) (k-written_shape leading (entry.Record fs cells))) (λ n.
       b-some L V _ (IndicatedIn V) (indicated ms (subtype.Composite n)) (λ g. h g.old))
@@ -233,40 +233,40 @@ module _ (P : Program) (L : Log) (F : Facts P L) where
 
   -- ---- what is elaborated
 
-  abbrev IsDecl : Sight → Part → Type 0
+  abbrev IsDecl : Sight → TypedPart → Type 0
   IsDecl V p = (ds : Decls) → FormedDecls P V.known ds → FormedDecls P V.known (as_decl p ds)
 
-  abbrev pub DeclsIn : Sight → Part → Type 0
+  abbrev pub DeclsIn : Sight → TypedPart → Type 0
   DeclsIn V x = Each (IsDecl V) x
 
-  decls-list : (V : Sight) (x : Part) → DeclsIn V x → FormedDecls P V.known (as_decls x)
+  decls-list : (V : Sight) (x : TypedPart) → DeclsIn V x → FormedDecls P V.known (as_decls x)
   decls-list V (part.Cons p q) h = h.0 (as_decls q) (decls-list V q h.1)
   decls-list V x h = tt
 
-  pub decls-formed : (V : Sight) (x : Part) → DeclsIn V x → FormedDecls P V.known (as_decls (turned x))
+  pub decls-formed : (V : Sight) (x : TypedPart) → DeclsIn V x → FormedDecls P V.known (as_decls (turned x))
   decls-formed V x h = decls-list V (turned x) (each-turned (IsDecl V) x h)
 
-  exprs-list : (V : Sight) (x : Part) → MentionsIn V x → FormedExprs P V.known (as_exprs x)
+  exprs-list : (V : Sight) (x : TypedPart) → MentionsIn V x → FormedExprs P V.known (as_exprs x)
   exprs-list V (part.Cons p q) h = (h.0, exprs-list V q h.1)
   exprs-list V x h = tt
 
-  pub exprs-formed : (V : Sight) (x : Part) → MentionsIn V x → FormedExprs P V.known (exprs_of x)
+  pub exprs-formed : (V : Sight) (x : TypedPart) → MentionsIn V x → FormedExprs P V.known (exprs_of x)
   exprs-formed V x h = exprs-list V (turned x) (each-turned (λ y. FormedExpr P V.known (as_expr y)) x h)
 
-  pub record DeclaringIn (V : Sight) (r : Context × Option Part) : Type 0 where
+  pub record DeclaringIn (V : Sight) (r : Context × Option TypedPart) : Type 0 where
     pub around : Near P L F V r.0
     pub decls : Maybe (DeclsIn V) r.1
 
-  with-mentions : (V : Sight) (made ms : Part) → DeclsIn V made → MentionsIn V ms → DeclsIn V (d.with_mentions made ms)
+  with-mentions : (V : Sight) (made ms : TypedPart) → DeclsIn V made → MentionsIn V ms → DeclsIn V (d.with_mentions made ms)
   with-mentions V made part.Nothing h i = h
   with-mentions V made ms h i = ((λ ds r. (exprs-formed V ms i, r)), h)
 
   -- ---- objects
 
-  abbrev ValueIn : Sight → Part → Type 0
+  abbrev ValueIn : Sight → TypedPart → Type 0
   ValueIn V x = FormedValue P V.known (as_value x)
 
-  with-object : (V : Sight) (made : Part) (constant : Bool) (n : ℕ) (v : Option Part) → DeclsIn V made → Maybe (ValueIn V) v → DeclsIn V (d.with_object made constant n v)
+  with-object : (V : Sight) (made : TypedPart) (constant : Bool) (n : ℕ) (v : Option TypedPart) → DeclsIn V made → Maybe (ValueIn V) v → DeclsIn V (d.with_object made constant n v)
   with-object V made true n (Some v) g h = ((λ ds r. (h, r)), g)
   with-object V made true n None g h = g
   with-object V made false n None g h = ((λ ds r. r), g)
@@ -306,7 +306,7 @@ module _ (P : Program) (L : Log) (F : Facts P L) where
   b-initial V G names level here s e b r =
       b-lift P L F V G (Maybe (InitialIn V)) (d.initial names level here s e) (k.k-initial leading.walk names level here s e tt b.keeps) (λ log l g. f-initial (now P L F log l) V names level here s e (b.forms (now P L F log l)) (r g log l))
 
-  object-ended : (V : Sight) (names : Names) (here : Context) (token : ℕ) (f : Option ℕ) (constant : Bool) (s : Indicated) (v : Initial) (made : Option Part) (n : Option ℕ)
+  object-ended : (V : Sight) (names : Names) (here : Context) (token : ℕ) (f : Option ℕ) (constant : Bool) (s : Indicated) (v : Initial) (made : Option TypedPart) (n : Option ℕ)
       → Near P L F V here → IndicatedIn V s → InitialIn V v → Maybe (DeclsIn V) made → Maybe (ObjectIn s.known) n → DeclaringIn V (d.object_ended names here token f constant s v made n)
   object-ended V names here token f constant s v made None r i j g o = record { around = near-ended V names here f None r tt; decls = tt }
   object-ended V names here token f constant s v made (Some n) r i j g o = record {
@@ -320,7 +320,7 @@ module _ (P : Program) (L : Log) (F : Facts P L) where
       b-bind L V G Any (DeclaringIn V) (d.cells_counted token 0) _ (b-any L V G (d.cells_counted token 0) (k.k-cells_counted leading.walk token 0)) (λ b.
       b-pure L V _ (DeclaringIn V) (d.ended_name names here f None, None) (λ g. record { around = near-ended V names here f None (r g.old) tt; decls = tt }))
 
-  b-one_object : (V : Sight) (G : Type 0) (names : Names) (here : Context) (token : ℕ) (f : Option ℕ) (constant : Bool) (made : Option Part) (s : Option Indicated) (v : Option Initial)
+  b-one_object : (V : Sight) (G : Type 0) (names : Names) (here : Context) (token : ℕ) (f : Option ℕ) (constant : Bool) (made : Option TypedPart) (s : Option Indicated) (v : Option Initial)
       → (G → Near P L F V here) → (G → Maybe (DeclsIn V) made) → (G → Maybe (IndicatedIn V) s) → (G → Maybe (InitialIn V) v) → Back L V G (DeclaringIn V) (d.one_object names here token f constant made s v)
   b-one_object V G names here token f constant made (Some s) (Some v) r g i j =
       let x = d.new_object names here token s.known constant (d.constant_value constant s.known v) in
@@ -333,7 +333,7 @@ module _ (P : Program) (L : Log) (F : Facts P L) where
   b-typed_object V G names level here (syntax.Indicated i) l r = b-indic V G names level here i l r
   b-typed_object V G names level here (syntax.Anonymous a) l r = b-array V G names level here a l r
 
-  b-each_object : (V : Sight) (G : Type 0) (names : Names) (level : Inside) (inner here : Context) (constant : Bool) (first : ℕ) (t : ObjectType) (e : Option Expr) (made : Option Part) (is : List ℕ) (fs : List (Option ℕ))
+  b-each_object : (V : Sight) (G : Type 0) (names : Names) (level : Inside) (inner here : Context) (constant : Bool) (first : ℕ) (t : ObjectType) (e : Option Expr) (made : Option TypedPart) (is : List ℕ) (fs : List (Option ℕ))
       → LevelBoth level → (G → Near P L F V inner) → (G → Near P L F V here) → (G → Maybe (DeclsIn V) made) → Back L V G (DeclaringIn V) (d.each_object names level inner here constant first t e made is fs)
   b-each_object V G names level inner here constant first t e made [] fs l i r g = b-pure L V G (DeclaringIn V) (here, made) (λ h. record { around = r h; decls = g h })
   b-each_object V G names level inner here constant first t e made (x ∷ is) [] l i r g = b-pure L V G (DeclaringIn V) (here, made) (λ h. record { around = r h; decls = g h })
@@ -344,7 +344,7 @@ module _ (P : Program) (L : Log) (F : Facts P L) where
       b-bind L V _ (DeclaringIn V) (DeclaringIn V) (d.one_object names here x f constant made s v) _ (b-one_object V _ names here x f constant made s v (λ h. r h.old.old.old) (λ h. g h.old.old.old) (λ h. h.old.old.new) (λ h. h.old.new)) (λ y.
       b-each_object V (And (And (And (And G (Maybe (IndicatedIn V) s)) (Maybe (InitialIn V) v)) (Any u)) (DeclaringIn V y)) names level inner y.0 constant first t e y.1 is fs l (λ h. i h.old.old.old.old) (λ h. h.new.around) (λ h. h.new.decls)))))
 
-  b-objects : (V : Sight) (G : Type 0) (names : Names) (level : Inside) (start : ℕ) (here : Context) (made : Option Part) (is : Ids) (constant : Bool) (t : ObjectType) (e : Option Expr)
+  b-objects : (V : Sight) (G : Type 0) (names : Names) (level : Inside) (start : ℕ) (here : Context) (made : Option TypedPart) (is : Ids) (constant : Bool) (t : ObjectType) (e : Option Expr)
       → LevelBoth level → (G → Near P L F V here) → (G → Maybe (DeclsIn V) made) → Back L V G (DeclaringIn V) (d.objects names level start here made is constant t e)
   unfolding d.objects
   b-objects V G names level start here made is constant t e l r g =
@@ -364,10 +364,10 @@ module _ (P : Program) (L : Log) (F : Facts P L) where
   abbrev NumberIn' : Sight → Option Found × Option ℤ → Type 0
   NumberIn' V y = Maybe (λ z. MentionsIn V (d.found_mentions y.0)) y.1
 
-  number-decls : (V : Sight) (x : Option Found) (v : Option ℤ) (made : Option Part) → Maybe (λ z. MentionsIn V (d.found_mentions x)) v → Maybe (DeclsIn V) made → Maybe (DeclsIn V) (joined (d.and_mentions (d.found_mentions x)) made v)
+  number-decls : (V : Sight) (x : Option Found) (v : Option ℤ) (made : Option TypedPart) → Maybe (λ z. MentionsIn V (d.found_mentions x)) v → Maybe (DeclsIn V) made → Maybe (DeclsIn V) (joined (d.and_mentions (d.found_mentions x)) made v)
   number-decls V x v made h g = joint (DeclsIn V) (λ z. MentionsIn V (d.found_mentions x)) (DeclsIn V) (d.and_mentions (d.found_mentions x)) made v g h (λ ds z m n. with-mentions V ds (d.found_mentions x) m n)
 
-  b-numbers : (V : Sight) (G : Type 0) (names : Names) (level : Inside) (start : ℕ) (here : Context) (made : Option Part) (is : Ids) (e : Expr)
+  b-numbers : (V : Sight) (G : Type 0) (names : Names) (level : Inside) (start : ℕ) (here : Context) (made : Option TypedPart) (is : Ids) (e : Expr)
       → LevelBoth level → (G → Near P L F V here) → (G → Maybe (DeclsIn V) made) → Back L V G (DeclaringIn V) (d.numbers names level start here made is e)
   unfolding d.numbers
   b-numbers V G names level start here made is e l r g =
@@ -394,13 +394,13 @@ module _ (P : Program) (L : Log) (F : Facts P L) where
   type-what V None = tt
   type-what V (Some s) = λ log l. tt
 
-  one-type : (V : Sight) (names : Names) (here : Context) (made : Option Part) (f : Option ℕ) (s : Option Indicated) → Near P L F V here → Maybe (DeclsIn V) made → Maybe (IndicatedIn V) s → DeclaringIn V (d.one_type names here made f s)
+  one-type : (V : Sight) (names : Names) (here : Context) (made : Option TypedPart) (f : Option ℕ) (s : Option Indicated) → Near P L F V here → Maybe (DeclsIn V) made → Maybe (IndicatedIn V) s → DeclaringIn V (d.one_type names here made f s)
   one-type V names here made f s r g h = record {
     around = near-ended V names here f (option_map (λ t. what.Type t.known) s) r (type-what V s);
     decls = joint (DeclsIn V) (IndicatedIn V) (DeclsIn V) d.and_type made s g h (λ ds t m n. with-mentions V ds t.part m n);
   }
 
-  pub b-declaration : (V : Sight) (G : Type 0) (names : Names) (level : Inside) (start : ℕ) (here : Context) (made : Option Part) (x : Decl)
+  pub b-declaration : (V : Sight) (G : Type 0) (names : Names) (level : Inside) (start : ℕ) (here : Context) (made : Option TypedPart) (x : Decl)
       → LevelBoth level → (G → Near P L F V here) → (G → Maybe (DeclsIn V) made) → Back L V G (DeclaringIn V) (d.declaration names level start here made x)
   unfolding d.declaration
   b-declaration V G names level start here made (syntax.ObjectDecl is constant t e) l r g = b-objects V G names level start here made is (is_some constant) t e l r g
@@ -418,7 +418,7 @@ module _ (P : Program) (L : Log) (F : Facts P L) where
       b-bind L V _ (Maybe (IndicatedIn V)) (DeclaringIn V) (d.indic names level (hidden_where names here token f) i) _ (b-indic V _ names level (hidden_where names here token f) i l (λ h. near-hidden V names here token f (r h.old))) (λ s.
       b-pure L V _ (DeclaringIn V) (d.one_type names (hidden_where names here token f) made f s) (λ h. one-type V names (hidden_where names here token f) made f s (near-hidden V names here token f (r h.old.old)) (g h.old.old) h.new)))
 
-  pub b-declarations : (V : Sight) (G : Type 0) (names : Names) (level : Inside) (start : ℕ) (here : Context) (made : Option Part) (ds : List Decl)
+  pub b-declarations : (V : Sight) (G : Type 0) (names : Names) (level : Inside) (start : ℕ) (here : Context) (made : Option TypedPart) (ds : List Decl)
       → LevelBoth level → (G → Near P L F V here) → (G → Maybe (DeclsIn V) made) → Back L V G (DeclaringIn V) (d.declarations names level start here made ds)
   b-declarations V G names level start here made [] l r g = b-pure L V G (DeclaringIn V) (here, made) (λ h. record { around = r h; decls = g h })
   b-declarations V G names level start here made (x ∷ ds) l r g =

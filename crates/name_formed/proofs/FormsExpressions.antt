@@ -10,7 +10,7 @@ use Rattle.syntax_tree.specs.declared.operators.Additive.TheVariants as additive
 use Rattle.syntax_tree.specs.declared.operators.Logical.TheVariants as logical'
 use Rattle.syntax_tree.specs.declared.operators.Sign.{Sign as Signed}
 use Rattle.syntax_tree.specs.declared.operators.Sign.TheVariants as sign
-use Rattle.typed_tree.specs.Decoded.{Part}
+use Rattle.typed_tree.specs.Decoded.{TypedPart}
 use Rattle.typed_tree.specs.declared.expressions.Sign.TheVariants as unary'
 use Rattle.name_rules.specs.Expressions.{Inside, added, adding, blamed, condition, conjoined, expr, factor, first_term, first_wanted, in_place, joined_rels, judged_alone, multiplied, multiplying, multiplying_op, rel, short_form, short_found, short_join, short_operand, short_operands, simple, term, value_for}
 use Rattle.name_rules.specs.Found.{Found}
@@ -116,7 +116,7 @@ module _ (W : World) (V : Sight) where
       f-bind W V (Finding W V) (Finding W V) (rel names level here wanted.Other second) _ (f-rel names level here wanted.Other second l r) (λ y q.
       f-bind W V (Finding W V) (Finding W V) (logical o at x y) _ (f-logical W V o at x y p q) (λ z s. f-conjoined names level here o z more l r s)))
 
-  abbrev Condition : Option Part → Type 0
+  abbrev Condition : Option TypedPart → Type 0
   Condition = Maybe (ExprOf W V)
 
   f-short_operand : (names : Names) (level : Inside) (here : Context) (at : ℕ) (c : Rel) → LevelForms W level → Around W V here → Forms W V Condition (short_operand names level here at c)
@@ -124,11 +124,11 @@ module _ (W : World) (V : Sight) where
       f-bind W V (Finding W V) Condition (rel names level here wanted.Other c) _ (f-rel names level here wanted.Other c l r) (λ x q.
       f-given W V (FoundOf W V) (ExprOf W V) x _ q (λ f s. f-if W V Condition (is_kind kind.Boolean (kind_of f.known)) (asked kind.Boolean f) (fault at WrongType) (f-asked W V kind.Boolean f s) (f-fault W V (ExprOf W V) at WrongType)))
 
-  short-join : (all : Bool) (x y : Part) → ExprOf W V x → ExprOf W V y → ExprOf W V (short_join all x y)
+  short-join : (all : Bool) (x y : TypedPart) → ExprOf W V x → ExprOf W V y → ExprOf W V (short_join all x y)
   short-join true x y g h = (g, h)
   short-join false x y g h = (g, h)
 
-  f-short_operands : (names : Names) (level : Inside) (here : Context) (all : Bool) (x : Option Part) (cs : Conjuncts) → LevelForms W level → Around W V here → Condition x → Forms W V Condition (short_operands names level here all x cs)
+  f-short_operands : (names : Names) (level : Inside) (here : Context) (all : Bool) (x : Option TypedPart) (cs : Conjuncts) → LevelForms W level → Around W V here → Condition x → Forms W V Condition (short_operands names level here all x cs)
   f-short_operands names level here all x syntax.NoConjunct l r h = f-pure W V Condition x h
   f-short_operands names level here all x (syntax.AlsoConjunct (syntax.conjunct at c) cs) l r h =
       f-bind W V Condition Condition (short_operand names level here at c) _ (f-short_operand names level here at c l r) (λ y q.

@@ -3,7 +3,7 @@ use Rattle.std.proofs.Common.{◌≡◌, ℕ, ℤ, ◌<◌, ◌≤◌, List, [],
 use Rattle.ada_meaning.specs.Formed.{FormedChunk, FormedComposite, FormedExpr, FormedIteration, FormedOptional, FormedPieces, FormedSelections, FormedStmt, FormedValue, IsSettled, Known as Around', Selects, composite_width, constant_shape, root_shape, width}
 use Rattle.ada_meaning.specs.Shapes.{Shape, object_shape, size, subtype_shape}
 use Rattle.typed_tree.specs.Classes.{with_class}
-use Rattle.typed_tree.specs.Decoded.{Part, Nothing, Cons, LeafCons, as_chunk, as_composite, as_expr, as_iteration, as_optional, as_piece, as_selections, as_stmt, as_value}
+use Rattle.typed_tree.specs.Decoded.{TypedPart, Nothing, Cons, LeafCons, as_chunk, as_composite, as_expr, as_iteration, as_optional, as_piece, as_selections, as_stmt, as_value}
 use Rattle.typed_tree.specs.Latest.{onto, turned}
 use Rattle.typed_tree.specs.Syntax.{Expr as TypedExpr, Pieces}
 use Rattle.typed_tree.specs.declared.expressions.Root.{Root}
@@ -16,7 +16,7 @@ use Rattle.name_rules.specs.declared.found.Denoted.TheVariants as denoted
 use Rattle.name_rules.specs.declared.found.Denoted.{Denoted as KnownDenoted}
 use Rattle.name_rules.specs.declared.found.Found.TheVariants as known
 use Rattle.name_rules.specs.declared.found.Found.{Found as Known}
-use Rattle.name_rules.specs.declared.found.Place.{Place}
+use Rattle.name_rules.specs.declared.found.ObjectName.{ObjectName}
 use Rattle.name_rules.specs.declared.found.Prefix.{Prefix}
 use Rattle.name_rules.specs.declared.found.Prefix.TheVariants as prefix
 use Rattle.name_rules.specs.declared.scope.Context.{Context}
@@ -32,42 +32,42 @@ use Rattle.name_formed.proofs.Forms.{Forms, Maybe, Sight, Small, World, shape_of
 
 -- ---- lists that grow: each item is as is asked
 
-abbrev pub Each : (Part → Type 0) → Part → Type 0
+abbrev pub Each : (TypedPart → Type 0) → TypedPart → Type 0
 Each Q (Cons p q) = Q p × Each Q q
 Each Q (LeafCons l q) = Each Q q
 Each Q p = Unit {0}
 
-pub each-onto : (Q : Part → Type 0) (p rest : Part) → Each Q p → Each Q rest → Each Q (onto p rest)
+pub each-onto : (Q : TypedPart → Type 0) (p rest : TypedPart) → Each Q p → Each Q rest → Each Q (onto p rest)
 each-onto Q (Cons p q) rest h k = each-onto Q q (Cons p rest) h.1 (h.0, k)
 each-onto Q (LeafCons l q) rest h k = each-onto Q q (LeafCons l rest) h k
 each-onto Q p rest h k = k
 
-pub each-turned : (Q : Part → Type 0) (p : Part) → Each Q p → Each Q (turned p)
+pub each-turned : (Q : TypedPart → Type 0) (p : TypedPart) → Each Q p → Each Q (turned p)
 unfolding turned
 each-turned Q p h = each-onto Q p Nothing h tt
 
-pub each-all : (Q : Part → Type 0) (done more : Part) → Each Q done → Each Q more → Each Q (also_all done more)
+pub each-all : (Q : TypedPart → Type 0) (done more : TypedPart) → Each Q done → Each Q more → Each Q (also_all done more)
 unfolding also_all
 each-all Q done more h k = each-onto Q (turned more) done (each-turned Q more k) h
 
 -- ---- expressions
 
-abbrev pub ExprOf : World → Sight → Part → Type 0
+abbrev pub ExprOf : World → Sight → TypedPart → Type 0
 ExprOf W V x = FormedExpr W.program V.known (as_expr x)
 
 -- a universal expression is formed once it takes a class
 abbrev pub OpenOf : World → Sight → TypedExpr → Type 0
 OpenOf W V e = (c : Class) → IsSettled c → FormedExpr W.program V.known (with_class c e)
 
-abbrev pub MentionsOf : World → Sight → Part → Type 0
+abbrev pub MentionsOf : World → Sight → TypedPart → Type 0
 MentionsOf W V x = Each (ExprOf W V) x
 
 -- ---- names
 
 -- selections that lead from one shape to another, before those behind them
-abbrev pub PathOf : World → Sight → Shape → Shape → Part → Type 0
+abbrev pub PathOf : World → Sight → Shape → Shape → TypedPart → Type 0
 PathOf W V t u x =
-    (r : Part) (v : Shape) → Selects (as_selections r) u v → FormedSelections W.program V.known (as_selections r)
+    (r : TypedPart) (v : Shape) → Selects (as_selections r) u v → FormedSelections W.program V.known (as_selections r)
     → Selects (as_selections (onto x r)) t v × FormedSelections W.program V.known (as_selections (onto x r))
 
 abbrev pub RootOf : World → Sight → Bool → Root → Shape → Type 0
@@ -75,32 +75,32 @@ RootOf W V true r t = root_shape W.program V.known r ≡ Some t
 RootOf W V false r t = constant_shape W.program V.known r ≡ Some t
 
 -- the name of an object or of a part of one, where it stands in what is known
-pub record Placed (W : World) (w : Around') (p : Place) (x : Part) : Type 0 where
+pub record Placed (W : World) (w : Around') (p : ObjectName) (x : TypedPart) : Type 0 where
   pub whole : Shape
   pub root : RootOf W (record { known = w; bound = 0 }) p.variable p.root whole
   pub path : PathOf W (record { known = w; bound = 0 }) whole (shape_of W.program p.subtype) x
   pub small : Small (shape_of W.program p.subtype)
   pub static : (z : ℤ) → p.value ≡ Some z → MentionsOf W (record { known = w; bound = 0 }) x
 
-abbrev pub PlaceOf : World → Sight → Place → Part → Type 0
+abbrev pub PlaceOf : World → Sight → ObjectName → TypedPart → Type 0
 PlaceOf W V p x = Placed W V.known p x
 
 -- ---- values
 
-abbrev pub CompositeOf : World → Sight → Part → Type 0
+abbrev pub CompositeOf : World → Sight → TypedPart → Type 0
 CompositeOf W V x = FormedComposite W.program V.known (as_composite x)
 
 -- of no more cells than its subtype has
-abbrev pub WideOf : World → Sight → ℕ → Part → Type 0
+abbrev pub WideOf : World → Sight → ℕ → TypedPart → Type 0
 WideOf W V n x = CompositeOf W V x × (composite_width W.program.subtypes (as_composite x) ≤ size (subtype_shape W.program n))
 
-abbrev pub ValueOf : World → Sight → Subtype → Part → Type 0
+abbrev pub ValueOf : World → Sight → Subtype → TypedPart → Type 0
 ValueOf W V t x = FormedValue W.program V.known (as_value x) × (width W.program.subtypes (as_value x) ≤ size (shape_of W.program t))
 
-abbrev pub IsPiece : World → Sight → Part → Type 0
+abbrev pub IsPiece : World → Sight → TypedPart → Type 0
 IsPiece W V p = (ps : Pieces) → FormedPieces W.program V.known ps → FormedPieces W.program V.known (as_piece p ps)
 
-abbrev pub KnownOf : World → Sight → Known → Part → Type 0
+abbrev pub KnownOf : World → Sight → Known → TypedPart → Type 0
 KnownOf W V (known.Universal first z alone) x = MentionsOf W V x
 KnownOf W V (known.Open first l) x = OpenOf W V (as_expr x)
 KnownOf W V (known.Static first k z) x = MentionsOf W V x
@@ -118,12 +118,12 @@ Finding W V = Maybe (FoundOf W V)
 
 -- ---- what names denote
 
-abbrev pub PrefixOf : World → Sight → Prefix → Part → Type 0
+abbrev pub PrefixOf : World → Sight → Prefix → TypedPart → Type 0
 PrefixOf W V (prefix.Object p) x = PlaceOf W V p x
 PrefixOf W V (prefix.Parameter s) x = ExprOf W V x
 PrefixOf W V p x = Unit {0}
 
-abbrev pub DenotesOf : World → Sight → KnownDenoted → Part → Type 0
+abbrev pub DenotesOf : World → Sight → KnownDenoted → TypedPart → Type 0
 DenotesOf W V (denoted.Value f) x = KnownOf W V f x
 DenotesOf W V (denoted.Parameter first s) x = ExprOf W V x
 DenotesOf W V (denoted.Sub first last n) x = n < V.known.declared
@@ -138,13 +138,13 @@ DenotedOf W V d = DenotesOf W V d.known d.part
 -- ---- iterations
 
 -- an iteration from around it to around its body
-abbrev pub IterationOf : World → Sight → Sight → Part → Type 0
+abbrev pub IterationOf : World → Sight → Sight → TypedPart → Type 0
 IterationOf W V U x = FormedIteration W.program V.known (as_iteration x) (λ w. w ≡ U.known)
 
-abbrev pub ChunkOf : World → Sight → Part → Type 0
+abbrev pub ChunkOf : World → Sight → TypedPart → Type 0
 ChunkOf W V x = FormedChunk W.program V.known (as_chunk x)
 
-abbrev pub FilterOf : World → Sight → Part → Type 0
+abbrev pub FilterOf : World → Sight → TypedPart → Type 0
 FilterOf W V x = FormedOptional W.program V.known (as_optional x)
 
 -- ---- what is declared around a text

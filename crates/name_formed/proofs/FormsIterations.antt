@@ -6,7 +6,7 @@ use Rattle.ada_meaning.specs.Shapes.{ComponentAt, Shape, subtype_shape}
 use Rattle.syntax_tree.specs.Syntax as syntax
 use Rattle.syntax_tree.specs.Syntax.{Iter, OptionalExpr, OptionalParallel, Parallel, Simple}
 use Rattle.typed_tree.specs.Decoded as part
-use Rattle.typed_tree.specs.Decoded.{Part, as_iteration, as_optional}
+use Rattle.typed_tree.specs.Decoded.{TypedPart, as_iteration, as_optional}
 use Rattle.typed_tree.specs.Syntax as typed
 use Rattle.typed_tree.specs.Syntax.{Iteration, Optional}
 use Rattle.typed_tree.specs.declared.program.SiteKind.{SiteKind}
@@ -25,7 +25,7 @@ use Rattle.name_rules.specs.Values.{any_integer}
 use Rattle.name_rules.specs.declared.found.Denoted.TheVariants as denoted
 use Rattle.name_rules.specs.declared.found.Denoted.{Denoted as KnownDenoted}
 use Rattle.name_rules.specs.declared.found.Found.TheVariants as known
-use Rattle.name_rules.specs.declared.found.Place.{Place}
+use Rattle.name_rules.specs.declared.found.ObjectName.{ObjectName}
 use Rattle.name_rules.specs.declared.log.Dimension.{Dimension}
 use Rattle.name_rules.specs.declared.log.Log.{Log}
 use Rattle.name_rules.specs.declared.log.Rule.TheVariants.{Twice, WrongType}
@@ -207,7 +207,7 @@ module _ (W : World) (V : Sight) where
   no-walk m token f l = record { known = V.known; made = tt; entry = tt; around = λ here h. around-later W V.known V.bound m here l h }
 
   -- an item of a component's shape
-  pub item-walk : (p : Place) (x : Part) (n m token : ℕ) (f : OptionalExpr) (k : ℕ) (ds : List Dimension) (c : Subtype) (one cells : ℕ) → V.bound ≤ n → suc n ≤ m → PlaceOf W V p x → p.subtype ≡ subtype.Composite k → HasDimensions W.program k ds c one cells
+  pub item-walk : (p : ObjectName) (x : TypedPart) (n m token : ℕ) (f : OptionalExpr) (k : ℕ) (ds : List Dimension) (c : Subtype) (one cells : ℕ) → V.bound ≤ n → suc n ≤ m → PlaceOf W V p x → p.subtype ≡ subtype.Composite k → HasDimensions W.program k ds c one cells
       → (b : Bool) → p.variable ≡ b
       → WalkedOf W V m (record { made = Some (part.AnIteration (typed.Components n (not b) p.first p.root (selections_of x) (cells / one) one (length ds) typed.Absent)); token = token; entry = what.Item n c b; filter = f; reverse = None })
   item-walk p x n m token f k ds c one cells l g h e d true v =
@@ -242,7 +242,7 @@ module _ (W : World) (V : Sight) where
       far : (a b c d : ℕ) → a ≤ b → b ≤ c → c ≤ d → a ≤ d
       far a b c d i j k = omega (arith, i, j, k)
 
-  w-over_shape : (p : Place) (x : Part) (n b token : ℕ) (f : OptionalExpr) (k : ℕ) (log : Log) (t : Option Entry') → V.bound ≤ n → suc n ≤ b → PlaceOf W V p x → p.subtype ≡ subtype.Composite k
+  w-over_shape : (p : ObjectName) (x : TypedPart) (n b token : ℕ) (f : OptionalExpr) (k : ℕ) (log : Log) (t : Option Entry') → V.bound ≤ n → suc n ≤ b → PlaceOf W V p x → p.subtype ≡ subtype.Composite k
       → ((ds : List Dimension) (c : Subtype) (j cells : ℕ) → t ≡ Some (entry'.Array ds c j cells) → HasDimensions W.program k ds c (cells_in log c) cells)
       → Walks W b (WalkedOf W V) (if is_array t then pure (array_walked log n token f p (selections_of x) t) else (breaks p.first WrongType >>= λ u. pure (no_array token f)))
   w-over_shape p x n b token f k log (Some (entry'.Array ds c j cells)) l g h e d =
@@ -263,10 +263,10 @@ module _ (W : World) (V : Sight) where
       far : (a b c : ℕ) → a ≤ b → suc b ≤ c → a ≤ c
       far a b c i j = omega (arith, i, j)
 
-  small-at : (p : Place) (x : Part) (k : ℕ) → PlaceOf W V p x → p.subtype ≡ subtype.Composite k → Small (subtype_shape W.program k)
+  small-at : (p : ObjectName) (x : TypedPart) (k : ℕ) → PlaceOf W V p x → p.subtype ≡ subtype.Composite k → Small (subtype_shape W.program k)
   small-at p x k h e = subst (λ t. Small (shape_of W.program t)) e h.small
 
-  w-over_place : (p : Place) (x : Part) (n b token : ℕ) (f : OptionalExpr) (t : Subtype) → p.subtype ≡ t → V.bound ≤ n → suc n ≤ b → PlaceOf W V p x → Walks W b (WalkedOf W V) (over_place n token f p (selections_of x))
+  w-over_place : (p : ObjectName) (x : TypedPart) (n b token : ℕ) (f : OptionalExpr) (t : Subtype) → p.subtype ≡ t → V.bound ≤ n → suc n ≤ b → PlaceOf W V p x → Walks W b (WalkedOf W V) (over_place n token f p (selections_of x))
   w-over_place p x n b token f (subtype.Composite k) e l g h =
       subst (λ u. Walks W b (WalkedOf W V) (λ log. (if is_array (array_shape log u) then pure (array_walked log n token f p (selections_of x) (array_shape log u)) else (breaks p.first WrongType >>= λ y. pure (no_array token f))) log)) (sym e)
       (record { at = λ log i j. (w-over_shape p x n b token f k log (shape_in log k) l g h e (λ ds c q cells d. W.dimensions log i k ds c q cells d (small-at p x k h e))).at log i j })
@@ -280,7 +280,7 @@ module _ (W : World) (V : Sight) where
   before : (a b c : ℕ) → a ≤ b → suc b ≤ c → a ≤ c
   before a b c i j = omega (arith, i, j)
 
-  w-over_form : (n b token : ℕ) (f : OptionalExpr) (k : KnownDenoted) (x : Part) → V.bound ≤ n → suc n ≤ b → DenotesOf W V k x → Walks W b (WalkedOf W V) (over_form n token f k x)
+  w-over_form : (n b token : ℕ) (f : OptionalExpr) (k : KnownDenoted) (x : TypedPart) → V.bound ≤ n → suc n ≤ b → DenotesOf W V k x → Walks W b (WalkedOf W V) (over_form n token f k x)
   w-over_form n b token f (denoted.Value (known.Object p)) x l g h = w-over_place p x n b token f p.subtype refl l g h
   w-over_form n b token f k x l g h = w-no_place b (denoted_first k) token f (before V.bound n b l g)
 
@@ -311,11 +311,11 @@ module _ (W : World) (V : Sight) where
 
   -- ---- what is judged before the body
 
-  pub filter-of : (x : Part) → ExprOf W V x → FilterOf W V x
+  pub filter-of : (x : TypedPart) → ExprOf W V x → FilterOf W V x
   filter-of (part.AnExpr e) h = h
   filter-of x h = tt
 
-  pub some-filter : (x : Option Part) → Maybe (ExprOf W V) x → Maybe (FilterOf W V) x
+  pub some-filter : (x : Option TypedPart) → Maybe (ExprOf W V) x → Maybe (FilterOf W V) x
   some-filter None h = tt
   some-filter (Some x) h = filter-of x h
 

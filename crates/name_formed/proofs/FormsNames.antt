@@ -6,7 +6,7 @@ use Rattle.ada_meaning.specs.Shapes as shapes
 use Rattle.syntax_tree.specs.Syntax as syntax
 use Rattle.syntax_tree.specs.Syntax.{Arg, Args}
 use Rattle.typed_tree.specs.Decoded as part
-use Rattle.typed_tree.specs.Decoded.{Part, Cons, as_expr, as_selections}
+use Rattle.typed_tree.specs.Decoded.{TypedPart, Cons, as_expr, as_selections}
 use Rattle.typed_tree.specs.Syntax as typed
 use Rattle.name_rules.specs.Expressions.{Inside, expr, judged_alone}
 use Rattle.name_rules.specs.Found.{Denoted, Found, denote}
@@ -21,7 +21,7 @@ use Rattle.name_rules.specs.Values.{asked, first_of}
 use Rattle.name_rules.specs.declared.found.Denoted.TheVariants as denoted
 use Rattle.name_rules.specs.declared.found.Denoted.{Denoted as KnownDenoted}
 use Rattle.name_rules.specs.declared.found.Found.TheVariants as known
-use Rattle.name_rules.specs.declared.found.Place.{Place}
+use Rattle.name_rules.specs.declared.found.ObjectName.{ObjectName}
 use Rattle.name_rules.specs.declared.log.Dimension.{Dimension}
 use Rattle.name_rules.specs.declared.log.Field.{Field}
 use Rattle.name_rules.specs.declared.log.Log.{Log}
@@ -57,15 +57,15 @@ module _ (W : World) (V : Sight) where
   -- ---- one selection more
 
   -- a selection leads from one shape to another, before those behind it
-  abbrev StepOf : shapes.Shape → shapes.Shape → Part → Type 0
+  abbrev StepOf : shapes.Shape → shapes.Shape → TypedPart → Type 0
   StepOf t u item =
-      (r : Part) (v : shapes.Shape) → Selects (as_selections r) u v → FormedSelections W.program V.known (as_selections r)
+      (r : TypedPart) (v : shapes.Shape) → Selects (as_selections r) u v → FormedSelections W.program V.known (as_selections r)
       → Selects (as_selections (Cons item r)) t v × FormedSelections W.program V.known (as_selections (Cons item r))
 
-  path-more : (whole t u : shapes.Shape) (ss item : Part) → PathOf W V whole t ss → StepOf t u item → PathOf W V whole u (also ss item)
+  path-more : (whole t u : shapes.Shape) (ss item : TypedPart) → PathOf W V whole t ss → StepOf t u item → PathOf W V whole u (also ss item)
   path-more whole t u ss item h step r v s f = let k = step r v s f in h (Cons item r) v k.0 k.1
 
-  part-of : (p : Place) (ss x : Part) (u : Subtype) (h : PlaceOf W V p ss) → PathOf W V h.whole (shape_of W.program u) x → Small (shape_of W.program u) → DenotedOf W V (denote (part_place p u) x)
+  part-of : (p : ObjectName) (ss x : TypedPart) (u : Subtype) (h : PlaceOf W V p ss) → PathOf W V h.whole (shape_of W.program u) x → Small (shape_of W.program u) → DenotedOf W V (denote (part_place p u) x)
   part-of p ss x u h path small = record { whole = h.whole; root = h.root; path = path; small = small; static = λ z e. absurd cc }
 
   -- ---- selected components
@@ -76,7 +76,7 @@ module _ (W : World) (V : Sight) where
   field-step : (us : Shapes) (i : ℕ) (f : Field) → FieldAt us i f.offset (shape_of W.program f.subtype) → StepOf (shapes.Record us) (shape_of W.program f.subtype) (part.ASelection (typed.Field i f.offset))
   field-step us i f h r v s g = ((shape_of W.program f.subtype, h, s), g)
 
-  f-field_from : (names : Names) (p : Place) (ss : Part) (at i : ℕ) (us : Shapes) (fs : List Field) (h : PlaceOf W V p ss) → shape_of W.program p.subtype ≡ shapes.Record us → AreFields us i fs
+  f-field_from : (names : Names) (p : ObjectName) (ss : TypedPart) (at i : ℕ) (us : Shapes) (fs : List Field) (h : PlaceOf W V p ss) → shape_of W.program p.subtype ≡ shapes.Record us → AreFields us i fs
       → Forms W V (Maybe (DenotedOf W V)) (field_from names p ss at i fs)
   f-field_from names p ss at i us [] h e k = f-fault W V (DenotedOf W V) at Unknown
   f-field_from names p ss at i us (f ∷ fs) h e k =
@@ -99,7 +99,7 @@ module _ (W : World) (V : Sight) where
       later : AreFields us (i + 1) fs
       later j g d = let x = k (suc j) g d in (subst (λ n. FieldAt us n g.offset (shape_of W.program g.subtype)) (moved j) x.0, x.1)
 
-  f-field_in : (names : Names) (p : Place) (ss : Part) (at n : ℕ) (t : Option Entry) → PlaceOf W V p ss → p.subtype ≡ subtype.Composite n → ((fs : List Field) (cells : ℕ) → t ≡ Some (entry.Record fs cells) → HasFields W.program n fs)
+  f-field_in : (names : Names) (p : ObjectName) (ss : TypedPart) (at n : ℕ) (t : Option Entry) → PlaceOf W V p ss → p.subtype ≡ subtype.Composite n → ((fs : List Field) (cells : ℕ) → t ≡ Some (entry.Record fs cells) → HasFields W.program n fs)
       → Forms W V (Maybe (DenotedOf W V)) (field_in names p ss at t)
   f-field_in names p ss at n (Some (entry.Record fs cells)) h e k =
       let x = k fs cells refl in
@@ -111,15 +111,15 @@ module _ (W : World) (V : Sight) where
   f-field_in names p ss at n (Some (entry.Array ds c m cells)) h e k = f-fault W V (DenotedOf W V) p.first WrongType
   f-field_in names p ss at n None h e k = f-fault W V (DenotedOf W V) p.first WrongType
 
-  small-at : (p : Place) (ss : Part) (n : ℕ) → PlaceOf W V p ss → p.subtype ≡ subtype.Composite n → Small (subtype_shape W.program n)
+  small-at : (p : ObjectName) (ss : TypedPart) (n : ℕ) → PlaceOf W V p ss → p.subtype ≡ subtype.Composite n → Small (subtype_shape W.program n)
   small-at p ss n h e = subst (λ t. Small (shape_of W.program t)) e h.small
 
-  f-field_of : (names : Names) (p : Place) (ss : Part) (at : ℕ) (t : Subtype) → PlaceOf W V p ss → p.subtype ≡ t → Forms W V (Maybe (DenotedOf W V)) (field_of names p ss at t)
+  f-field_of : (names : Names) (p : ObjectName) (ss : TypedPart) (at : ℕ) (t : Subtype) → PlaceOf W V p ss → p.subtype ≡ t → Forms W V (Maybe (DenotedOf W V)) (field_of names p ss at t)
   f-field_of names p ss at (subtype.Composite n) h e =
       record { at = λ log g l. (f-field_in names p ss at n (shape_in log n) h e (λ fs cells d. W.fields log g n fs cells d (small-at p ss n h e))).at log g l }
   f-field_of names p ss at (subtype.Scalar s) h e = f-fault W V (DenotedOf W V) p.first WrongType
 
-  f-field_form : (names : Names) (here : Context) (at : ℕ) (k : KnownDenoted) (x : Part) → DenotesOf W V k x → Forms W V (Maybe (DenotedOf W V)) (field_form names here at k x)
+  f-field_form : (names : Names) (here : Context) (at : ℕ) (k : KnownDenoted) (x : TypedPart) → DenotesOf W V k x → Forms W V (Maybe (DenotedOf W V)) (field_form names here at k x)
   f-field_form names here at (denoted.Package first library) x h = f-selected W V names here first library at
   f-field_form names here at (denoted.Value (known.Object p)) x h = f-field_of names p x at p.subtype h refl
   f-field_form names here at k x h = f-fault W V (DenotedOf W V) (denoted_first k) WrongType
@@ -131,26 +131,26 @@ module _ (W : World) (V : Sight) where
   -- ---- indexed components
 
   -- what an index leaves of dimensions
-  abbrev LeadsOf : shapes.Shape → Subtype → List Dimension → Part → Type 0
+  abbrev LeadsOf : shapes.Shape → Subtype → List Dimension → TypedPart → Type 0
   LeadsOf whole c ds x = PathOf W V whole (array_of (map dimension_bounds ds) (shape_of W.program c)) x
 
-  index-step : (at apart : ℕ) (d : Dimension) (t : shapes.Shape) (e : Part) → apart ≡ size t → ExprOf W V e → StepOf (shapes.Dimension d.low d.high t) t (part.ASelection (typed.Index at (as_expr e) d.low d.high apart))
+  index-step : (at apart : ℕ) (d : Dimension) (t : shapes.Shape) (e : TypedPart) → apart ≡ size t → ExprOf W V e → StepOf (shapes.Dimension d.low d.high t) t (part.ASelection (typed.Index at (as_expr e) d.low d.high apart))
   index-step at apart d t e g h r v s f = ((refl, refl, g, s), (h, f))
 
-  selected-by : (whole : shapes.Shape) (c : Subtype) (at : ℕ) (d : Dimension) (ds : List Dimension) (apart : ℕ) (ss e : Part) → apart ≡ size (array_of (map dimension_bounds ds) (shape_of W.program c)) → LeadsOf whole c (d ∷ ds) ss → ExprOf W V e
+  selected-by : (whole : shapes.Shape) (c : Subtype) (at : ℕ) (d : Dimension) (ds : List Dimension) (apart : ℕ) (ss e : TypedPart) → apart ≡ size (array_of (map dimension_bounds ds) (shape_of W.program c)) → LeadsOf whole c (d ∷ ds) ss → ExprOf W V e
       → LeadsOf whole c ds (selected_by at d apart ss e)
   selected-by whole c at d ds apart ss e g h k =
       let t = array_of (map dimension_bounds ds) (shape_of W.program c) in
       path-more whole (shapes.Dimension d.low d.high t) t ss (part.ASelection (typed.Index at (as_expr e) d.low d.high apart)) h (index-step at apart d t e g k)
 
-  f-index_in : (whole : shapes.Shape) (c : Subtype) (d : Dimension) (ds : List Dimension) (apart : ℕ) (made : Option Part) (f : Found) → apart ≡ size (array_of (map dimension_bounds ds) (shape_of W.program c))
+  f-index_in : (whole : shapes.Shape) (c : Subtype) (d : Dimension) (ds : List Dimension) (apart : ℕ) (made : Option TypedPart) (f : Found) → apart ≡ size (array_of (map dimension_bounds ds) (shape_of W.program c))
       → Maybe (LeadsOf whole c (d ∷ ds)) made → FoundOf W V f → Forms W V (Maybe (LeadsOf whole c ds)) (index_in (Some d) apart made f)
   f-index_in whole c d ds apart made f i g h =
       f-bind W V (Maybe (ExprOf W V)) (Maybe (LeadsOf whole c ds)) (asked d.kind f) _ (f-asked W V d.kind f h) (λ e q.
       f-pure W V (Maybe (LeadsOf whole c ds)) (joined (selected_by (first_of f.known) d apart) made e)
       (joint (LeadsOf whole c (d ∷ ds)) (ExprOf W V) (LeadsOf whole c ds) (selected_by (first_of f.known) d apart) made e g q (λ x y s t. selected-by whole c (first_of f.known) d ds apart x y i s t)))
 
-  f-index_where : (whole : shapes.Shape) (c : Subtype) (ds : List Dimension) (cells : ℕ) (made : Option Part) (x : Option Found) → AreStrides ds cells (shape_of W.program c)
+  f-index_where : (whole : shapes.Shape) (c : Subtype) (ds : List Dimension) (cells : ℕ) (made : Option TypedPart) (x : Option Found) → AreStrides ds cells (shape_of W.program c)
       → Maybe (LeadsOf whole c ds) made → Finding W V x → Forms W V (Maybe (LeadsOf whole c (drop 1 ds))) (index_where (slice_get ds 0) (stride ds cells) made x)
   f-index_where whole c ds cells made None i g h = f-none W V (LeadsOf whole c (drop 1 ds))
   f-index_where whole c [] cells made (Some f) i g h = f-pure W V (Maybe (LeadsOf whole c [])) made g
@@ -160,7 +160,7 @@ module _ (W : World) (V : Sight) where
   f-unnamed Q None x h = f-pure W V (Maybe Q) x h
   f-unnamed Q (Some n) x h = f-fault W V Q n WrongType
 
-  f-index : (names : Names) (inside : Inside) (here : Context) (whole : shapes.Shape) (c : Subtype) (ds : List Dimension) (cells : ℕ) (made : Option Part) (a : Arg) → LevelForms W inside → Around W V here → AreStrides ds cells (shape_of W.program c)
+  f-index : (names : Names) (inside : Inside) (here : Context) (whole : shapes.Shape) (c : Subtype) (ds : List Dimension) (cells : ℕ) (made : Option TypedPart) (a : Arg) → LevelForms W inside → Around W V here → AreStrides ds cells (shape_of W.program c)
       → Maybe (LeadsOf whole c ds) made → Forms W V (Maybe (LeadsOf whole c (drop 1 ds))) (index names inside here ds cells made a)
   unfolding index
   f-index names inside here whole c ds cells made (syntax.arg name e) l r i g =
@@ -172,14 +172,14 @@ module _ (W : World) (V : Sight) where
   later-strides (d ∷ ds) cells t h = h.1
 
   -- as many indexes as dimensions lead to a component
-  abbrev AllOf : shapes.Shape → Subtype → List Dimension → ℕ → Part → Type 0
+  abbrev AllOf : shapes.Shape → Subtype → List Dimension → ℕ → TypedPart → Type 0
   AllOf whole c ds n x = n ≡ length ds → PathOf W V whole (shape_of W.program c) x
 
-  none-left : (whole : shapes.Shape) (c : Subtype) (ds : List Dimension) (x : Part) → LeadsOf whole c ds x → AllOf whole c ds 0 x
+  none-left : (whole : shapes.Shape) (c : Subtype) (ds : List Dimension) (x : TypedPart) → LeadsOf whole c ds x → AllOf whole c ds 0 x
   none-left whole c [] x h e = h
   none-left whole c (d ∷ ds) x h e = absurd cc
 
-  one-more : (whole : shapes.Shape) (c : Subtype) (ds : List Dimension) (n : ℕ) (x : Part) → AllOf whole c (drop 1 ds) n x → AllOf whole c ds (n + 1) x
+  one-more : (whole : shapes.Shape) (c : Subtype) (ds : List Dimension) (n : ℕ) (x : TypedPart) → AllOf whole c (drop 1 ds) n x → AllOf whole c ds (n + 1) x
   one-more whole c [] n x h e = absurd (no n e)
     where
       no : (n : ℕ) → n + 1 ≡ 0 → ⊥
@@ -193,7 +193,7 @@ module _ (W : World) (V : Sight) where
   maybe-map Q R None f h = tt
   maybe-map Q R (Some a) f h = f a h
 
-  f-indexes : (names : Names) (inside : Inside) (here : Context) (whole : shapes.Shape) (c : Subtype) (ds : List Dimension) (cells : ℕ) (made : Option Part) (as' : Args) → LevelForms W inside → Around W V here → AreStrides ds cells (shape_of W.program c)
+  f-indexes : (names : Names) (inside : Inside) (here : Context) (whole : shapes.Shape) (c : Subtype) (ds : List Dimension) (cells : ℕ) (made : Option TypedPart) (as' : Args) → LevelForms W inside → Around W V here → AreStrides ds cells (shape_of W.program c)
       → Maybe (LeadsOf whole c ds) made → Forms W V (Maybe (AllOf whole c ds (count as'))) (indexes names inside here ds cells made as')
   f-indexes names inside here whole c ds cells made syntax.NoArg l r i g = f-pure W V (Maybe (AllOf whole c ds 0)) made (maybe-map (LeadsOf whole c ds) (AllOf whole c ds 0) made (none-left whole c ds) g)
   f-indexes names inside here whole c ds cells made (syntax.AlsoArg a as') l r i g =
@@ -202,19 +202,19 @@ module _ (W : World) (V : Sight) where
       (f-indexes names inside here whole c (drop 1 ds) cells s as' l r (later-strides ds cells (shape_of W.program c) i) q)
       (λ x. maybe-map (AllOf whole c (drop 1 ds) (count as')) (AllOf whole c ds (count as' + 1)) x (one-more whole c ds (count as'))))
 
-  f-indexed : (p : Place) (ss : Part) (bracket : ℕ) (given : ℕ) (ds : List Dimension) (c : Subtype) (x : Part) (h : PlaceOf W V p ss) → Small (shape_of W.program c) → AllOf h.whole c ds given x
+  f-indexed : (p : ObjectName) (ss : TypedPart) (bracket : ℕ) (given : ℕ) (ds : List Dimension) (c : Subtype) (x : TypedPart) (h : PlaceOf W V p ss) → Small (shape_of W.program c) → AllOf h.whole c ds given x
       → Forms W V (Maybe (DenotedOf W V)) (indexed p bracket (length ds) given (Some c) x)
   f-indexed p ss bracket given ds c x h small g =
       f-test W V (Maybe (DenotedOf W V)) (length ds == given) _ (fault bracket WrongType) (λ q. f-some W V (DenotedOf W V) (denote (part_place p c) x) (part-of p ss x c h (g (sym (eqb-true (length ds) given q))) small)) (f-fault W V (DenotedOf W V) bracket WrongType)
 
-  f-index_shape : (names : Names) (inside : Inside) (here : Context) (p : Place) (ss : Part) (bracket : ℕ) (as' : Args) (n : ℕ) (ds : List Dimension) (c : Subtype) (k one cells : ℕ) → LevelForms W inside → Around W V here → PlaceOf W V p ss → p.subtype ≡ subtype.Composite n
+  f-index_shape : (names : Names) (inside : Inside) (here : Context) (p : ObjectName) (ss : TypedPart) (bracket : ℕ) (as' : Args) (n : ℕ) (ds : List Dimension) (c : Subtype) (k one cells : ℕ) → LevelForms W inside → Around W V here → PlaceOf W V p ss → p.subtype ≡ subtype.Composite n
       → HasDimensions W.program n ds c one cells → Forms W V (Maybe (DenotedOf W V)) (index_shape names inside here p ss bracket as' (Some (entry.Array ds c k cells)) one)
   f-index_shape names inside here p ss bracket as' n ds c k one cells l r h e x =
       f-where_clean W V (Maybe (AllOf h.whole c ds (count as'))) (DenotedOf W V) (indexes names inside here ds one (Some ss) as') _
       (f-indexes names inside here h.whole c ds one (Some ss) as' l r x.strides (subst (λ t. PathOf W V h.whole t ss) (ap (shape_of W.program) e ∙ x.shape) h.path)) (λ y q.
       f-given W V (AllOf h.whole c ds (count as')) (DenotedOf W V) y _ q (λ z s. f-indexed p ss bracket (count as') ds c z h x.small s))
 
-  f-array_call : (names : Names) (inside : Inside) (here : Context) (p : Place) (ss : Part) (bracket : ℕ) (as' : Args) (n : ℕ) (log : Log) (t : Option Entry) → LevelForms W inside → Around W V here → PlaceOf W V p ss → p.subtype ≡ subtype.Composite n
+  f-array_call : (names : Names) (inside : Inside) (here : Context) (p : ObjectName) (ss : TypedPart) (bracket : ℕ) (as' : Args) (n : ℕ) (log : Log) (t : Option Entry) → LevelForms W inside → Around W V here → PlaceOf W V p ss → p.subtype ≡ subtype.Composite n
       → ((ds : List Dimension) (c : Subtype) (k cells : ℕ) → t ≡ Some (entry.Array ds c k cells) → HasDimensions W.program n ds c (cells_in log c) cells)
       → Forms W V (Maybe (DenotedOf W V)) (array_call names inside here p ss bracket as' t (component_cells log (component_of t)))
   f-array_call names inside here p ss bracket as' n log (Some (entry.Array ds c k cells)) l r h e x = f-index_shape names inside here p ss bracket as' n ds c k (cells_in log c) cells l r h e (x ds c k cells refl)
@@ -222,7 +222,7 @@ module _ (W : World) (V : Sight) where
   f-array_call names inside here p ss bracket as' n log (Some (entry.Scalar s)) l r h e x = f-wrong_call names inside here p.first as' l r
   f-array_call names inside here p ss bracket as' n log None l r h e x = f-wrong_call names inside here p.first as' l r
 
-  pub f-object_call : (names : Names) (inside : Inside) (here : Context) (p : Place) (ss : Part) (bracket : ℕ) (as' : Args) (t : Subtype) → LevelForms W inside → Around W V here → PlaceOf W V p ss → p.subtype ≡ t
+  pub f-object_call : (names : Names) (inside : Inside) (here : Context) (p : ObjectName) (ss : TypedPart) (bracket : ℕ) (as' : Args) (t : Subtype) → LevelForms W inside → Around W V here → PlaceOf W V p ss → p.subtype ≡ t
       → Forms W V (Maybe (DenotedOf W V)) (object_call names inside here p ss bracket as' t)
   unfolding object_call
   f-object_call names inside here p ss bracket as' (subtype.Composite n) l r h e =

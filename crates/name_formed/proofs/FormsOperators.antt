@@ -3,7 +3,7 @@ use Rattle.std.proofs.Common.{◌≡◌, refl, ℕ, ℤ, Option, Some, None, Boo
 use Rattle.std.specs.Prelude.{not}
 use Rattle.ada_base.specs.declared.operation.Op.{Op}
 use Rattle.ada_base.specs.declared.operation.Op.TheVariants as op
-use Rattle.typed_tree.specs.Decoded.{Part, as_expr}
+use Rattle.typed_tree.specs.Decoded.{TypedPart, as_expr}
 use Rattle.typed_tree.specs.Syntax as typed
 use Rattle.typed_tree.specs.declared.expressions.Sign.TheVariants as unary'
 use Rattle.typed_tree.specs.declared.expressions.Sign.{Sign}
@@ -29,12 +29,12 @@ use Rattle.name_formed.proofs.FormsValues.{class-settled, exprs-formed, f-asked,
 module _ (W : World) (V : Sight) where
   -- ---- static results
 
-  f-static_of : (first : ℕ) (k : Kind) (ms : Part) (z : Option ℤ) → MentionsOf W V ms → Forms W V (Maybe (FoundOf W V)) (static_of first k ms z)
+  f-static_of : (first : ℕ) (k : Kind) (ms : TypedPart) (z : Option ℤ) → MentionsOf W V ms → Forms W V (Maybe (FoundOf W V)) (static_of first k ms z)
   unfolding static_of
   f-static_of first k ms None h = f-fault W V (FoundOf W V) first StaticRange
   f-static_of first k ms (Some z) h = f-if W V (Maybe (FoundOf W V)) (in_base k z) (some (static first k z ms)) (fault first StaticRange) (f-some W V (FoundOf W V) (static first k z ms) h) (f-fault W V (FoundOf W V) first StaticRange)
 
-  f-static_universal : (first : ℕ) (ms : Part) (z : Option ℤ) → MentionsOf W V ms → Forms W V (Maybe (FoundOf W V)) (static_universal first ms z)
+  f-static_universal : (first : ℕ) (ms : TypedPart) (z : Option ℤ) → MentionsOf W V ms → Forms W V (Maybe (FoundOf W V)) (static_universal first ms z)
   unfolding static_universal
   f-static_universal first ms None h = f-fault W V (FoundOf W V) first StaticRange
   f-static_universal first ms (Some z) h = f-some W V (FoundOf W V) (universal first z false ms) h
@@ -71,13 +71,13 @@ module _ (W : World) (V : Sight) where
   -- ---- on universal values
 
   -- a part that waits for its type
-  abbrev pub WaitsOf : Limits × Part → Type 0
+  abbrev pub WaitsOf : Limits × TypedPart → Type 0
   WaitsOf x = OpenOf W V (as_expr x.1)
 
-  leaf-open : (first : ℕ) (z : ℤ) (x : Part) → MentionsOf W V x → OpenOf W V (leaf first z x)
+  leaf-open : (first : ℕ) (z : ℤ) (x : TypedPart) → MentionsOf W V x → OpenOf W V (leaf first z x)
   leaf-open first z x h c i = exprs-formed W V x h
 
-  open-form : (f : Known) (x : Part) → KnownOf W V f x → Maybe WaitsOf (open_form f x)
+  open-form : (f : Known) (x : TypedPart) → KnownOf W V f x → Maybe WaitsOf (open_form f x)
   open-form (known.Universal first z alone) x h = leaf-open first z x h
   open-form (known.Open first l) x h = h
   open-form f x h = tt
@@ -86,7 +86,7 @@ module _ (W : World) (V : Sight) where
   unfolding open_of
   open-found f h = open-form f.known f.part h
 
-  open-two : (o : Op) (at first : ℕ) (x y : Limits × Part) → WaitsOf x → WaitsOf y → FoundOf W V (open_two o at first x y)
+  open-two : (o : Op) (at first : ℕ) (x y : Limits × TypedPart) → WaitsOf x → WaitsOf y → FoundOf W V (open_two o at first x y)
   open-two o at first x y g h c i = (class-settled c class.Universal i, g c i, h c i)
 
   f-open_binary : (o : Op) (at : ℕ) (a b : Found) → FoundOf W V a → FoundOf W V b → Maybe (FoundOf W V) (open_binary o at a b)
@@ -120,7 +120,7 @@ module _ (W : World) (V : Sight) where
 
   -- ---- powers
 
-  open-power : (at first : ℕ) (n : Part) (x : Limits × Part) → ExprOf W V n → WaitsOf x → FoundOf W V (open_power at first n x)
+  open-power : (at first : ℕ) (n : TypedPart) (x : Limits × TypedPart) → ExprOf W V n → WaitsOf x → FoundOf W V (open_power at first n x)
   open-power at first n x g h c i = (class-settled c class.Universal i, h c i, formed-class W V c (as_expr n) g)
 
   f-universal_power : (at : ℕ) (a b : Found) → FoundOf W V a → FoundOf W V b → Forms W V (Maybe (FoundOf W V)) (universal_power at a b)
@@ -207,7 +207,7 @@ module _ (W : World) (V : Sight) where
 
   -- ---- strings, logical operators, relations, membership
 
-  f-joined_texts : (at : ℕ) (j : Known) (ps : Part) (k : Known) (qs : Part) → KnownOf W V j ps → KnownOf W V k qs → Forms W V (Maybe (FoundOf W V)) (joined_texts at j ps k qs)
+  f-joined_texts : (at : ℕ) (j : Known) (ps : TypedPart) (k : Known) (qs : TypedPart) → KnownOf W V j ps → KnownOf W V k qs → Forms W V (Maybe (FoundOf W V)) (joined_texts at j ps k qs)
   f-joined_texts at (known.Text first) ps (known.Text second) qs g h = f-some W V (FoundOf W V) (text_found first (also_all ps qs)) (each-all (IsPiece W V) ps qs g h)
   f-joined_texts at j ps k qs g h = f-fault W V (FoundOf W V) at WrongType
 

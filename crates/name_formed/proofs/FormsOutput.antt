@@ -6,7 +6,7 @@ use Rattle.syntax_tree.specs.FirstTokens as first_token
 use Rattle.syntax_tree.specs.Syntax as syntax
 use Rattle.syntax_tree.specs.Syntax.{Args, Expr}
 use Rattle.typed_tree.specs.Decoded as part
-use Rattle.typed_tree.specs.Decoded.{Part}
+use Rattle.typed_tree.specs.Decoded.{TypedPart}
 use Rattle.typed_tree.specs.Syntax as typed
 use Rattle.name_rules.specs.Expressions.{Inside, expr, judged_alone}
 use Rattle.name_rules.specs.Found.{Found}
@@ -19,7 +19,7 @@ use Rattle.name_rules.specs.Types.{same, typed_scalar}
 use Rattle.name_rules.specs.Values.{asked, first_of, literal, mentions_of, static_of_kind, suits}
 use Rattle.name_rules.specs.declared.found.Found.TheVariants as known
 use Rattle.name_rules.specs.declared.found.Found.{Found as Known}
-use Rattle.name_rules.specs.declared.found.Place.{Place}
+use Rattle.name_rules.specs.declared.found.ObjectName.{ObjectName}
 use Rattle.name_rules.specs.declared.found.Put.TheVariants as put
 use Rattle.name_rules.specs.declared.found.Put.{Put}
 use Rattle.name_rules.specs.declared.found.Reach.{Reach}
@@ -42,10 +42,10 @@ module _ (W : World) (V : Sight) where
 
   -- ---- strings
 
-  abbrev TextOf : Part → Type 0
+  abbrev TextOf : TypedPart → Type 0
   TextOf x = Each (IsPiece W V) x
 
-  f-text_only : (f : Known) (x : Part) → KnownOf W V f x → Forms W V (Maybe TextOf) (text_only f x)
+  f-text_only : (f : Known) (x : TypedPart) → KnownOf W V f x → Forms W V (Maybe TextOf) (text_only f x)
   f-text_only (known.Text first) x h = f-some W V TextOf x h
   f-text_only f x h = f-fault W V TextOf (first_of f) WrongType
 
@@ -61,7 +61,7 @@ module _ (W : World) (V : Sight) where
 
   -- ---- numbers
 
-  abbrev NumberOf : Part → Type 0
+  abbrev NumberOf : TypedPart → Type 0
   NumberOf = ExprOf W V
 
   f-in_width : (f : Found) (z : ℤ) → FoundOf W V f → StaticValue W V f z → Forms W V (Maybe NumberOf) (in_width f z)
@@ -134,14 +134,14 @@ module _ (W : World) (V : Sight) where
       f-if W V (Maybe (DenotedOf W V)) reach.text_io (text_call at first last false more f) _ (f-text_call at first last false more f h)
       (f-if W V (Maybe (DenotedOf W V)) reach.expanded (fault (first_of f.known) WrongType) (fault first NotVisible) (f-fault W V (DenotedOf W V) (first_of f.known) WrongType) (f-fault W V (DenotedOf W V) first NotVisible))
 
-  f-get_place : (first last : ℕ) (p : Place) (x : Part) (s : Subtype) → p.subtype ≡ s → PlaceOf W V p x → Forms W V (Maybe (DenotedOf W V)) (get_place first last p (selections_of x) s)
+  f-get_place : (first last : ℕ) (p : ObjectName) (x : TypedPart) (s : Subtype) → p.subtype ≡ s → PlaceOf W V p x → Forms W V (Maybe (DenotedOf W V)) (get_place first last p (selections_of x) s)
   f-get_place first last p x (subtype.Scalar s) e h =
       f-test W V (Maybe (DenotedOf W V)) (p.variable && same s.kind kind.Integer) (some (done_by first (typed.Get first last p.first p.root (selections_of x) (typed_scalar s)))) (fault p.first WrongType)
       (λ q. let y = as-variable W V p x h (and_parts p.variable (same s.kind kind.Integer) q).0 in
       f-some W V (DenotedOf W V) (done_by first (typed.Get first last p.first p.root (selections_of x) (typed_scalar s))) ((shape_of W.program p.subtype, y.0, one-cell W p s e), y.1)) (f-fault W V (DenotedOf W V) p.first WrongType)
   f-get_place first last p x (subtype.Composite n) e h = f-fault W V (DenotedOf W V) p.first WrongType
 
-  f-get_of : (first last : ℕ) (f : Known) (x : Part) → KnownOf W V f x → Forms W V (Maybe (DenotedOf W V)) (get_of first last f x)
+  f-get_of : (first last : ℕ) (f : Known) (x : TypedPart) → KnownOf W V f x → Forms W V (Maybe (DenotedOf W V)) (get_of first last f x)
   f-get_of first last (known.Object p) x h = f-get_place first last p x p.subtype refl h
   f-get_of first last f x h = f-fault W V (DenotedOf W V) (first_of f) WrongType
 

@@ -2,9 +2,9 @@
 use Rattle.std.proofs.Common.{◌≡◌, refl, sym, ap, subst, ◌∙◌, true≢false, ◌≤◌, nat_lt, length, slice_get, arith, ℕ, suc, List, Option, Some, None, Bool, true, false, option_map}
 use Rattle.std.specs.Prelude.{not, ◌/◌}
 use Rattle.syntax_tree.specs.Syntax as syntax
-use Rattle.syntax_tree.specs.Syntax.{Args, Expr, Name, Parts}
+use Rattle.syntax_tree.specs.Syntax.{Args, Expr, Name, NameParts}
 use Rattle.typed_tree.specs.Decoded as part
-use Rattle.typed_tree.specs.Decoded.{Part}
+use Rattle.typed_tree.specs.Decoded.{TypedPart}
 use Rattle.typed_tree.specs.Syntax as typed
 use Rattle.typed_tree.specs.declared.program.SiteKind.TheVariants as site
 use Rattle.name_rules.specs.Attributes.{attribute_at, bound_with, dimensions_in, is_array_object, is_bound, is_reduction, mentioned, prefix_subtype, settled_attribute}
@@ -24,7 +24,7 @@ use Rattle.name_rules.specs.declared.found.Denoted.TheVariants as denoted
 use Rattle.name_rules.specs.declared.found.Denoted.{Denoted as KnownDenoted}
 use Rattle.name_rules.specs.declared.found.Folding.{Folding}
 use Rattle.name_rules.specs.declared.found.Found.TheVariants as known
-use Rattle.name_rules.specs.declared.found.Place.{Place}
+use Rattle.name_rules.specs.declared.found.ObjectName.{ObjectName}
 use Rattle.name_rules.specs.declared.found.Prefix.TheVariants as prefix
 use Rattle.name_rules.specs.declared.found.Prefix.{Prefix}
 use Rattle.name_rules.specs.declared.log.Rule.TheVariants.{ReduceRule, WrongType}
@@ -57,16 +57,16 @@ module _ (W : World) (V : Sight) where
   -- ---- attributes with what stands in brackets behind them
 
   -- an object of an array type
-  abbrev IsArrayAt : Place → Type 0
+  abbrev IsArrayAt : ObjectName → Type 0
   IsArrayAt p = (k : ℕ) × (ds : List Dimension) × (c : Subtype) × (j : ℕ) × (cells : ℕ) × (p.subtype ≡ subtype.Composite k) × (slice_get W.shapes k ≡ Some (shape.Array ds c j cells))
 
-  array-of : (p : Place) (k : ℕ) (t : Option Shape) → p.subtype ≡ subtype.Composite k → slice_get W.shapes k ≡ t → nat_lt 0 (length (dimensions_of t)) ≡ true → IsArrayAt p
+  array-of : (p : ObjectName) (k : ℕ) (t : Option Shape) → p.subtype ≡ subtype.Composite k → slice_get W.shapes k ≡ t → nat_lt 0 (length (dimensions_of t)) ≡ true → IsArrayAt p
   array-of p k (Some (shape.Array ds c j cells)) e g h = (k, ds, c, j, cells, e, g)
   array-of p k (Some (shape.Record fs cells)) e g h = absurd (true≢false (sym h))
   array-of p k (Some (shape.Scalar s)) e g h = absurd (true≢false (sym h))
   array-of p k None e g h = absurd (true≢false (sym h))
 
-  array-in : (log : Log) → log.shapes ≡ W.shapes → (p : Place) (t : Subtype) → p.subtype ≡ t → nat_lt 0 (length (dimensions_in log (Some t))) ≡ true → IsArrayAt p
+  array-in : (log : Log) → log.shapes ≡ W.shapes → (p : ObjectName) (t : Subtype) → p.subtype ≡ t → nat_lt 0 (length (dimensions_in log (Some t))) ≡ true → IsArrayAt p
   array-in log g p (subtype.Composite k) e h = array-of p k (shape_in log k) e (ap (λ s. slice_get s k) (sym g)) h
   array-in log g p (subtype.Scalar s) e h = absurd (true≢false (sym h))
 
@@ -78,17 +78,17 @@ module _ (W : World) (V : Sight) where
   until a b c i j = omega (arith, i, j)
 
   -- what the iteration over an array is, whose item is of the component's shape
-  abbrev ThroughOf : Place → Part → ℕ → ℕ → List Dimension → Subtype → ℕ → Iteration → Type 0
+  abbrev ThroughOf : ObjectName → TypedPart → ℕ → ℕ → List Dimension → Subtype → ℕ → Iteration → Type 0
   ThroughOf p x n k ds c cells i =
       (one : ℕ) × HasDimensions W.program k ds c one cells × (i ≡ typed.Components n (not p.variable) p.first p.root (selections_of x) (cells / one) one (length ds) typed.Absent)
 
-  shape-at : (p : Place) (k : ℕ) → p.subtype ≡ subtype.Composite k → (log : Log) → array_shape log p.subtype ≡ shape_in log k
+  shape-at : (p : ObjectName) (k : ℕ) → p.subtype ≡ subtype.Composite k → (log : Log) → array_shape log p.subtype ≡ shape_in log k
   shape-at p k e log = ap (array_shape log) e
 
   entry-at : (k : ℕ) (ds : List Dimension) (c : Subtype) (j cells : ℕ) (log : Log) → log.shapes ≡ W.shapes → slice_get W.shapes k ≡ Some (shape.Array ds c j cells) → shape_in log k ≡ Some (shape.Array ds c j cells)
   entry-at k ds c j cells log g h = ap (λ s. slice_get s k) g ∙ h
 
-  through-of : (p : Place) (x : Part) (n k : ℕ) (ds : List Dimension) (c : Subtype) (j cells : ℕ) → PlaceOf W V p x → p.subtype ≡ subtype.Composite k → slice_get W.shapes k ≡ Some (shape.Array ds c j cells)
+  through-of : (p : ObjectName) (x : TypedPart) (n k : ℕ) (ds : List Dimension) (c : Subtype) (j cells : ℕ) → PlaceOf W V p x → p.subtype ≡ subtype.Composite k → slice_get W.shapes k ≡ Some (shape.Array ds c j cells)
       → (log : Log) → log.shapes ≡ W.shapes → ThroughOf p x n k ds c cells (through log p (selections_of x) (array_shape log p.subtype) n typed.Absent)
   through-of p x n k ds c j cells h e g log i =
       let t = entry-at k ds c j cells log i g in
@@ -98,7 +98,7 @@ module _ (W : World) (V : Sight) where
   item-found : (first n : ℕ) (v : Bool) (c : Subtype) (U : Sight) → WhatOf W U (what.Item n c v) → FoundOf W U (item_found first n v (Some c))
   item-found first n v c U h = whole-place W U (item first n c v) h.1 h.2
 
-  f-array_reduction : (names : Names) (inside : Inside) (here : Context) (p : Place) (x : Part) (at : ℕ) (a : Attribute) (r v : Expr) → LevelForms W inside → Around W V here → PlaceOf W V p x → IsArrayAt p
+  f-array_reduction : (names : Names) (inside : Inside) (here : Context) (p : ObjectName) (x : TypedPart) (at : ℕ) (a : Attribute) (r v : Expr) → LevelForms W inside → Around W V here → PlaceOf W V p x → IsArrayAt p
       → Forms W V (Maybe (DenotedOf W V)) (array_reduction names inside here p (selections_of x) at a r v)
   f-array_reduction names inside here p x at a r v l b h y =
       let k = y.0 in let ds = y.1 in let c = y.2 in let cells = y.4 in
@@ -122,7 +122,7 @@ module _ (W : World) (V : Sight) where
       far4' : (m2 m3 m4 m5 m6 : ℕ) → m2 ≤ m3 → m3 ≤ m4 → m4 ≤ m5 → m5 ≤ m6 → m2 ≤ m6
       far4' m2 m3 m4 m5 m6 i j k l = omega (arith, i, j, k, l)
 
-      reduced : (p : Place) (x : Part) (n m k : ℕ) (ds : List Dimension) (c : Subtype) (cells : ℕ) (i : Iteration) (d : Option Subtype) (g : Going) (f : Folding) (o : Found) → PlaceOf W V p x → p.subtype ≡ subtype.Composite k
+      reduced : (p : ObjectName) (x : TypedPart) (n m k : ℕ) (ds : List Dimension) (c : Subtype) (cells : ℕ) (i : Iteration) (d : Option Subtype) (g : Going) (f : Folding) (o : Found) → PlaceOf W V p x → p.subtype ≡ subtype.Composite k
           → V.bound ≤ n → suc n ≤ m → ThroughOf p x n k ds c cells i → d ≡ Some c → FoldingOf W V f → FoundOf W V o → Forms W (sight V.known m) (Finding W V) (folded_by g part.Nothing (part.AnIteration i) f (item_found p.first n p.variable d) o)
       reduced p x n m k ds c cells i d g f o h e s t q u j v =
           let w = item-walk W V p x n m n syntax.AbsentExpr k ds c q.0 cells s t h e q.1 p.variable refl in
@@ -134,7 +134,7 @@ module _ (W : World) (V : Sight) where
   f-wrong_arguments : (names : Names) (inside : Inside) (here : Context) (bracket : ℕ) (as' : Args) → LevelForms W inside → Around W V here → Forms W V (Maybe (DenotedOf W V)) (wrong_arguments names inside here bracket as')
   f-wrong_arguments names inside here bracket as' l r = f-where_clean W V Any (DenotedOf W V) (args_alone names inside here as') (λ u. fault bracket WrongType) (f-args_alone W V names inside here as' l r) (λ u q. f-fault W V (DenotedOf W V) bracket WrongType)
 
-  f-array_reduced : (names : Names) (inside : Inside) (here : Context) (p : Place) (x : Part) (at : ℕ) (a : Attribute) (bracket : ℕ) (as' : Args) → LevelForms W inside → Around W V here → PlaceOf W V p x → IsArrayAt p
+  f-array_reduced : (names : Names) (inside : Inside) (here : Context) (p : ObjectName) (x : TypedPart) (at : ℕ) (a : Attribute) (bracket : ℕ) (as' : Args) → LevelForms W inside → Around W V here → PlaceOf W V p x → IsArrayAt p
       → Forms W V (Maybe (DenotedOf W V)) (array_reduced names inside here p (selections_of x) at a bracket as')
   f-array_reduced names inside here p x at a bracket (syntax.AlsoArg (syntax.arg None r) (syntax.AlsoArg (syntax.arg None v) syntax.NoArg)) l b h y = f-array_reduction names inside here p x at a r v l b h y
   f-array_reduced names inside here p x at a bracket as' l b h y = f-wrong_arguments names inside here bracket as' l b
@@ -158,23 +158,23 @@ module _ (W : World) (V : Sight) where
   array-where log g (prefix.Function n) = tt
   array-where log g prefix.Other = tt
 
-  f-reduced_with : (names : Names) (inside : Inside) (here : Context) (first : ℕ) (p : Prefix) (x : Part) (at : ℕ) (a : Attribute) (bracket : ℕ) (as' : Args) (b : Bool) → LevelForms W inside → Around W V here → PrefixOf W V p x → ArrayWhere p b
+  f-reduced_with : (names : Names) (inside : Inside) (here : Context) (first : ℕ) (p : Prefix) (x : TypedPart) (at : ℕ) (a : Attribute) (bracket : ℕ) (as' : Args) (b : Bool) → LevelForms W inside → Around W V here → PrefixOf W V p x → ArrayWhere p b
       → Forms W V (Maybe (DenotedOf W V)) (reduced_with names inside here first p x at a bracket as' b)
   f-reduced_with names inside here first (prefix.Object p) x at a bracket as' true l r h y = f-array_reduced names inside here p x at a bracket as' l r h y
   f-reduced_with names inside here first p x at a bracket as' b l r h y = f-no_array names inside here at as' l r
 
-  f-of_array : (names : Names) (inside : Inside) (here : Context) (first : ℕ) (p : Prefix) (x : Part) (at : ℕ) (a : Attribute) (bracket : ℕ) (as' : Args) → LevelForms W inside → Around W V here → PrefixOf W V p x → Forms W V (Maybe (DenotedOf W V)) (of_array names inside here first p x at a bracket as')
+  f-of_array : (names : Names) (inside : Inside) (here : Context) (first : ℕ) (p : Prefix) (x : TypedPart) (at : ℕ) (a : Attribute) (bracket : ℕ) (as' : Args) → LevelForms W inside → Around W V here → PrefixOf W V p x → Forms W V (Maybe (DenotedOf W V)) (of_array names inside here first p x at a bracket as')
   f-of_array names inside here first p x at a bracket as' l r h =
       f-if W V (Maybe (DenotedOf W V)) (is_bound a) (read (λ log. dimensions_in log (prefix_subtype p)) >>= bound_with names inside here first (mentioned p x) a bracket as') (wrong_call names inside here first as')
       (f-bind W V Any (Maybe (DenotedOf W V)) (read (λ log. dimensions_in log (prefix_subtype p))) (bound_with names inside here first (mentioned p x) a bracket as') (f-read W V Any (λ log. dimensions_in log (prefix_subtype p)) (λ log g. tt)) (λ ds q.
       f-bound_with W V names inside here first (mentioned p x) a bracket as' ds l r (mentioned-formed W V p x h)))
       (f-wrong_call W V names inside here first as' l r)
 
-  f-other_with : (names : Names) (inside : Inside) (here : Context) (first : ℕ) (p : Prefix) (x : Part) (at : ℕ) (a : Attribute) (bracket : ℕ) (as' : Args) → LevelForms W inside → Around W V here → PrefixOf W V p x → Forms W V (Maybe (DenotedOf W V)) (other_with names inside here first p x at a bracket as')
+  f-other_with : (names : Names) (inside : Inside) (here : Context) (first : ℕ) (p : Prefix) (x : TypedPart) (at : ℕ) (a : Attribute) (bracket : ℕ) (as' : Args) → LevelForms W inside → Around W V here → PrefixOf W V p x → Forms W V (Maybe (DenotedOf W V)) (other_with names inside here first p x at a bracket as')
   f-other_with names inside here first (prefix.Type (subtype.Scalar s)) x at a bracket as' l r h = f-scalar_with W V names inside here first s a bracket as' l r
   f-other_with names inside here first p x at a bracket as' l r h = f-of_array names inside here first p x at a bracket as' l r h
 
-  f-attribute_with : (names : Names) (inside : Inside) (here : Context) (first : ℕ) (p : Prefix) (x : Part) (at : ℕ) (a : Attribute) (bracket : ℕ) (as' : Args) → LevelForms W inside → Around W V here → PrefixOf W V p x → Forms W V (Maybe (DenotedOf W V)) (attribute_with names inside here first p x at a bracket as')
+  f-attribute_with : (names : Names) (inside : Inside) (here : Context) (first : ℕ) (p : Prefix) (x : TypedPart) (at : ℕ) (a : Attribute) (bracket : ℕ) (as' : Args) → LevelForms W inside → Around W V here → PrefixOf W V p x → Forms W V (Maybe (DenotedOf W V)) (attribute_with names inside here first p x at a bracket as')
   f-attribute_with names inside here first p x at a bracket as' l r h =
       f-if W V (Maybe (DenotedOf W V)) (is_reduction a) (read (λ log. is_array_object log p) >>= reduced_with names inside here first p x at a bracket as') (other_with names inside here first p x at a bracket as')
       (f-bind W V (ArrayWhere p) (Maybe (DenotedOf W V)) (read (λ log. is_array_object log p)) (reduced_with names inside here first p x at a bracket as') (f-read W V (ArrayWhere p) (λ log. is_array_object log p) (λ log g. array-where log g p)) (λ b q. f-reduced_with names inside here first p x at a bracket as' b l r h q))
@@ -182,7 +182,7 @@ module _ (W : World) (V : Sight) where
 
   -- ---- whole names
 
-  f-call_form : (names : Names) (inside : Inside) (here : Context) (bracket : ℕ) (as' : Args) (k : KnownDenoted) (x : Part) → LevelForms W inside → Around W V here → DenotesOf W V k x → Forms W V (Maybe (DenotedOf W V)) (call_form names inside here bracket as' k x)
+  f-call_form : (names : Names) (inside : Inside) (here : Context) (bracket : ℕ) (as' : Args) (k : KnownDenoted) (x : TypedPart) → LevelForms W inside → Around W V here → DenotesOf W V k x → Forms W V (Maybe (DenotedOf W V)) (call_form names inside here bracket as' k x)
   f-call_form names inside here bracket as' (denoted.Value (known.Object p)) x l r h = f-object_call W V names inside here p x bracket as' p.subtype l r h refl
   f-call_form names inside here bracket as' (denoted.Type first s) x l r h = f-conversion W V names inside here bracket first s as' l r
   f-call_form names inside here bracket as' (denoted.Sub first last n) x l r h = f-sub_call W V names inside here bracket first last n as' l r h
@@ -190,7 +190,7 @@ module _ (W : World) (V : Sight) where
   f-call_form names inside here bracket as' (denoted.Attribute first p at a) x l r h = f-attribute_with names inside here first p x at a bracket as' l r h
   f-call_form names inside here bracket as' k x l r h = f-wrong_call W V names inside here (denoted_first k) as' l r
 
-  f-part_of : (names : Names) (inside : Inside) (here : Context) (x : syntax.Part) (d : Denoted) → LevelForms W inside → Around W V here → DenotedOf W V d → Forms W V (Maybe (DenotedOf W V)) (part_of names inside here x d)
+  f-part_of : (names : Names) (inside : Inside) (here : Context) (x : syntax.NamePart) (d : Denoted) → LevelForms W inside → Around W V here → DenotedOf W V d → Forms W V (Maybe (DenotedOf W V)) (part_of names inside here x d)
   unfolding part_of call
   f-part_of names inside here (syntax.Field at) d l r h = f-bind W V (Maybe (DenotedOf W V)) (Maybe (DenotedOf W V)) (settled_attribute d) _ (f-settled_attribute W V d h) (λ x q. f-given W V (DenotedOf W V) (DenotedOf W V) x (field names here at) q (λ e s. f-field W V names here at e s))
   f-part_of names inside here (syntax.Call bracket a as') d l r h = f-call_form names inside here bracket (syntax.AlsoArg a as') d.known d.part l r h
@@ -199,15 +199,15 @@ module _ (W : World) (V : Sight) where
   f-part_of names inside here (syntax.RangeAttribute at) d l r h =
       f-bind W V (Maybe (DenotedOf W V)) (Maybe (DenotedOf W V)) (settled_attribute d) _ (f-settled_attribute W V d h) (λ x q. f-given W V (DenotedOf W V) (DenotedOf W V) x _ q (λ e s. f-attribute_found W V e at (Some attribute'.Range) s))
 
-  f-part_alone : (names : Names) (inside : Inside) (here : Context) (x : syntax.Part) → LevelForms W inside → Around W V here → Forms W V (Maybe (DenotedOf W V)) (part_alone names inside here x)
+  f-part_alone : (names : Names) (inside : Inside) (here : Context) (x : syntax.NamePart) → LevelForms W inside → Around W V here → Forms W V (Maybe (DenotedOf W V)) (part_alone names inside here x)
   f-part_alone names inside here (syntax.Call bracket a as') l r = f-bind W V Any (Maybe (DenotedOf W V)) (args_alone names inside here (syntax.AlsoArg a as')) _ (f-args_alone W V names inside here (syntax.AlsoArg a as') l r) (λ u q. f-none W V (DenotedOf W V))
   f-part_alone names inside here x l r = f-none W V (DenotedOf W V)
 
-  f-next_part : (names : Names) (inside : Inside) (here : Context) (d : Option Denoted) (x : syntax.Part) → LevelForms W inside → Around W V here → Maybe (DenotedOf W V) d → Forms W V (Maybe (DenotedOf W V)) (next_part names inside here d x)
+  f-next_part : (names : Names) (inside : Inside) (here : Context) (d : Option Denoted) (x : syntax.NamePart) → LevelForms W inside → Around W V here → Maybe (DenotedOf W V) d → Forms W V (Maybe (DenotedOf W V)) (next_part names inside here d x)
   f-next_part names inside here None x l r h = f-part_alone names inside here x l r
   f-next_part names inside here (Some d) x l r h = f-part_of names inside here x d l r h
 
-  f-parts : (names : Names) (inside : Inside) (here : Context) (d : Option Denoted) (ps : Parts) → LevelForms W inside → Around W V here → Maybe (DenotedOf W V) d → Forms W V (Maybe (DenotedOf W V)) (parts names inside here d ps)
+  f-parts : (names : Names) (inside : Inside) (here : Context) (d : Option Denoted) (ps : NameParts) → LevelForms W inside → Around W V here → Maybe (DenotedOf W V) d → Forms W V (Maybe (DenotedOf W V)) (parts names inside here d ps)
   f-parts names inside here d syntax.NoPart l r h = f-pure W V (Maybe (DenotedOf W V)) d h
   f-parts names inside here d (syntax.AlsoPart x ps) l r h = f-bind W V (Maybe (DenotedOf W V)) (Maybe (DenotedOf W V)) (next_part names inside here d x) _ (f-next_part names inside here d x l r h) (λ e q. f-parts names inside here e ps l r q)
 
@@ -217,7 +217,7 @@ module _ (W : World) (V : Sight) where
       f-bind W V (Maybe (DenotedOf W V)) (Maybe (DenotedOf W V)) (stands_for names here first) _ (f-stands_for W V names here first r) (λ d q.
       f-bind W V (Maybe (DenotedOf W V)) (Maybe (DenotedOf W V)) (parts names inside here d ps) _ (f-parts names inside here d ps l r q) (λ e s. f-given W V (DenotedOf W V) (DenotedOf W V) e settled_attribute s (λ x t. f-settled_attribute W V x t)))
 
-  f-valued_form : (names : Names) (inside : Inside) (here : Context) (k : KnownDenoted) (x : Part) → LevelForms W inside → Around W V here → DenotesOf W V k x → Forms W V (Maybe (DenotedOf W V)) (valued_form names inside here k x)
+  f-valued_form : (names : Names) (inside : Inside) (here : Context) (k : KnownDenoted) (x : TypedPart) → LevelForms W inside → Around W V here → DenotesOf W V k x → Forms W V (Maybe (DenotedOf W V)) (valued_form names inside here k x)
   f-valued_form names inside here (denoted.Sub first last n) x l r h = f-sub_call W V names inside here first first last n syntax.NoArg l r h
   f-valued_form names inside here (denoted.Io first last p reach) x l r h = f-io_call W V names inside here first first last p reach syntax.NoArg l r
   f-valued_form names inside here k x l r h = f-some W V (DenotedOf W V) (denote k x) h
@@ -226,7 +226,7 @@ module _ (W : World) (V : Sight) where
   unfolding valued_by
   f-valued_by names inside here d l r h = f-valued_form names inside here d.known d.part l r h
 
-  f-value_form : (k : KnownDenoted) (x : Part) → DenotesOf W V k x → Forms W V (Finding W V) (value_form k x)
+  f-value_form : (k : KnownDenoted) (x : TypedPart) → DenotesOf W V k x → Forms W V (Finding W V) (value_form k x)
   f-value_form (denoted.Value f) x h = f-some W V (FoundOf W V) (record { known = f; part = x }) h
   f-value_form (denoted.Parameter first s) x h = f-some W V (FoundOf W V) (parameter_found first s x) h
   f-value_form k x h = f-fault W V (FoundOf W V) (denoted_first k) WrongType

@@ -5,7 +5,7 @@ use Rattle.syntax_tree.specs.FirstTokens as first_token
 use Rattle.syntax_tree.specs.Syntax as syntax
 use Rattle.syntax_tree.specs.Syntax.{Elsifs, Expr, Iter, OptionalParallel, Primary}
 use Rattle.typed_tree.specs.Decoded as part
-use Rattle.typed_tree.specs.Decoded.{Part, as_composite, as_expr}
+use Rattle.typed_tree.specs.Decoded.{TypedPart, as_composite, as_expr}
 use Rattle.typed_tree.specs.Syntax as typed
 use Rattle.typed_tree.specs.declared.program.SiteKind.TheVariants as site
 use Rattle.name_rules.specs.Aggregates.{ByPosition, contents}
@@ -56,14 +56,14 @@ use Rattle.name_formed.proofs.FormsValues.{f-asked, f-composite_asked, of-cells,
 module _ (W : World) (V : Sight) where
   -- ---- conditional expressions
 
-  abbrev Waits : List Known → Part → Type 0
+  abbrev Waits : List Known → TypedPart → Type 0
   Waits [] ps = Unit {0}
   Waits (f ∷ fs) ps = ExprOf W V (left_of (left_of ps)) × (KnownOf W V) f (right_of (left_of ps)) × Waits fs (right_of ps)
 
   abbrev WaitingOf : Waiting → Type 0
   WaitingOf w = Waits w.known w.part
 
-  also-choice : (w : Option Waiting) (x : Option Part) (f : Option Found) → Maybe WaitingOf w → Maybe (ExprOf W V) x → Finding W V f → Maybe WaitingOf (also_choice w x f)
+  also-choice : (w : Option Waiting) (x : Option TypedPart) (f : Option Found) → Maybe WaitingOf w → Maybe (ExprOf W V) x → Finding W V f → Maybe WaitingOf (also_choice w x f)
   also-choice None x f g h i = tt
   also-choice (Some w) None f g h i = tt
   also-choice (Some w) (Some x) None g h i = tt
@@ -79,7 +79,7 @@ module _ (W : World) (V : Sight) where
   f-alternatives names level here want made syntax.NoElsif l r g = f-pure W V (Maybe WaitingOf) made g
   f-alternatives names level here want made (syntax.AlsoElsif (syntax.elsif at c v) es) l r g = f-bind W V (Maybe WaitingOf) (Maybe WaitingOf) (alternative names level here want made c v) _ (f-alternative names level here want made c v l r g) (λ d q. f-alternatives names level here want d es l r q)
 
-  f-scalar_ifs : (k : Kind) (fs : List Known) (ps : Part) (o : Option Part) → Waits fs ps → Maybe (ExprOf W V) o → Forms W V (Maybe (ExprOf W V)) (scalar_ifs k fs ps o)
+  f-scalar_ifs : (k : Kind) (fs : List Known) (ps : TypedPart) (o : Option TypedPart) → Waits fs ps → Maybe (ExprOf W V) o → Forms W V (Maybe (ExprOf W V)) (scalar_ifs k fs ps o)
   f-scalar_ifs k [] ps o g h = f-pure W V (Maybe (ExprOf W V)) o h
   f-scalar_ifs k (f ∷ fs) ps o g h =
       f-bind W V (Maybe (ExprOf W V)) (Maybe (ExprOf W V)) (asked k (record { known = f; part = right_of (left_of ps) })) _ (f-asked W V k (record { known = f; part = right_of (left_of ps) }) g.1) (λ v q.
@@ -95,7 +95,7 @@ module _ (W : World) (V : Sight) where
   both-wide : (a b c : ℕ) → a ≤ c → b ≤ c → max a b ≤ c
   both-wide a b c h k = omega (arith, h, k)
 
-  f-composite_ifs : (n : ℕ) (fs : List Known) (ps : Part) (o : Option Part) → Waits fs ps → Maybe (WideOf W V n) o → Forms W V (Maybe (WideOf W V n)) (composite_ifs n fs ps o)
+  f-composite_ifs : (n : ℕ) (fs : List Known) (ps : TypedPart) (o : Option TypedPart) → Waits fs ps → Maybe (WideOf W V n) o → Forms W V (Maybe (WideOf W V n)) (composite_ifs n fs ps o)
   f-composite_ifs n [] ps o g h = f-pure W V (Maybe (WideOf W V n)) o h
   f-composite_ifs n (f ∷ fs) ps o g h =
       f-bind W V (Maybe (WideOf W V n)) (Maybe (WideOf W V n)) (composite_asked n (record { known = f; part = right_of (left_of ps) })) _ (f-composite_asked W V n (record { known = f; part = right_of (left_of ps) }) g.1) (λ v q.
@@ -108,10 +108,10 @@ module _ (W : World) (V : Sight) where
       f-bind W V (Maybe (WideOf W V n)) (Finding W V) (composite_ifs n w.known w.part o) _ (f-composite_ifs n w.known w.part o g q) (λ c s.
       f-pure W V (Finding W V) (option_map (with_known (known.Composite bracket n)) c) (mapped (WideOf W V n) (FoundOf W V) (with_known (known.Composite bracket n)) c s (λ x t. t))))
 
-  open-part : (c : Part) (v o : Limits × Part) → ExprOf W V c → WaitsOf W V v → WaitsOf W V o → WaitsOf W V (open_part c v o)
+  open-part : (c : TypedPart) (v o : Limits × TypedPart) → ExprOf W V c → WaitsOf W V v → WaitsOf W V o → WaitsOf W V (open_part c v o)
   open-part c v o g h i d k = (g, h d k, i d k)
 
-  open-ifs : (fs : List Known) (ps : Part) (o : Option (Limits × Part)) → Waits fs ps → Maybe (WaitsOf W V) o → Maybe (WaitsOf W V) (open_ifs fs ps o)
+  open-ifs : (fs : List Known) (ps : TypedPart) (o : Option (Limits × TypedPart)) → Waits fs ps → Maybe (WaitsOf W V) o → Maybe (WaitsOf W V) (open_ifs fs ps o)
   open-ifs [] ps o g h = h
   open-ifs (f ∷ fs) ps o g h =
       open-ifs fs (right_of ps) (joined (open_part (left_of (left_of ps))) (open_of (record { known = f; part = right_of (left_of ps) })) o) g.2
@@ -143,7 +143,7 @@ module _ (W : World) (V : Sight) where
   f-grouped_by bracket f (Some k) None e g h = f-grouped_scalar bracket f (Some k) (composite_in f.known) h
   f-grouped_by bracket f None z e g h = f-grouped_scalar bracket f None (composite_in f.known) h
 
-  f-grouped_form : (bracket : ℕ) (f : Known) (x : Part) → KnownOf W V f x → Forms W V (Finding W V) (grouped_form bracket f x)
+  f-grouped_form : (bracket : ℕ) (f : Known) (x : TypedPart) → KnownOf W V f x → Forms W V (Finding W V) (grouped_form bracket f x)
   f-grouped_form bracket (known.Universal first z alone) x h = f-some W V (FoundOf W V) (with_known (known.Universal bracket z false) x) h
   f-grouped_form bracket (known.Open first l) x h = f-some W V (FoundOf W V) (opened bracket l (typed.Group (as_expr x))) h
   f-grouped_form bracket (known.Text first) x h = f-some W V (FoundOf W V) (with_known (known.Text bracket) x) h

@@ -6,7 +6,7 @@ use Rattle.syntax_tree.specs.Syntax as syntax
 use Rattle.syntax_tree.specs.Syntax.{Aspect, Body, Clause, Decl, Expr, Formal, Formals, Main, Pack, Program, Sub, Unit'}
 use Rattle.syntax_tree.specs.declared.operators.ClauseWord.{ClauseWord}
 use Rattle.syntax_tree.specs.declared.operators.ClauseWord.TheVariants as word
-use Rattle.typed_tree.specs.Decoded.{Part, as_body}
+use Rattle.typed_tree.specs.Decoded.{TypedPart, as_body}
 use Rattle.typed_tree.specs.Syntax as typed
 use Rattle.typed_tree.specs.Syntax.{Sub as TypedSub}
 use Rattle.typed_tree.specs.declared.program.Mode.{Mode}
@@ -194,7 +194,7 @@ module _ (P : typed.Program) (L : Log) (F : Facts P L) where
       b-pure L V _ (Maybe (SubIn V)) (joined (p.sub_where q z) q.number y)
       (λ g. joint Any (BodyIn P L F V) (SubIn V) (p.sub_where q z) q.number y (any q.number) g.old.new (λ m c s t. record { decls = t.decls; stmts = t.stmts; handlers = t.handlers }))))))
 
-  abbrev ReturnedIn : Sight → Part → Type 0
+  abbrev ReturnedIn : Sight → TypedPart → Type 0
   ReturnedIn V v = FormedAll P V.known (as_body (p.returned_body v)).stmts
 
   b-result_value : (V : Sight) (G : Type 0) (names : Names) (n : ℕ) (here : Context) (e : Expr) (r : Returns) → (G → Near P L F V here) → Back L V G (Maybe (ReturnedIn V)) (p.result_value names (inside names n) here e r)
@@ -203,7 +203,7 @@ module _ (P : typed.Program) (L : Log) (F : Facts P L) where
       (λ log l g. let m = f-value_for (now P L F log l) V names (inside names n) here (subtype.Scalar s) e (inside-forms (now P L F log l) names n) (h g log l) in
       record { at = λ mid i b. let x = m.at mid i b in (x.0, x.1, value-returned (now P L F log l) (value_for names (inside names n) here (subtype.Scalar s) e mid).0 x.2) })
     where
-      value-returned : (W : World) (v : Option Part) → Maybe (ValueOf W V (subtype.Scalar s)) v → Maybe (λ x. FormedAll W.program V.known (as_body (p.returned_body x)).stmts) v
+      value-returned : (W : World) (v : Option TypedPart) → Maybe (ValueOf W V (subtype.Scalar s)) v → Maybe (λ x. FormedAll W.program V.known (as_body (p.returned_body x)).stmts) v
       value-returned W None i = tt
       value-returned W (Some x) i = (i.0, tt)
   b-result_value V G names n here e returns.Nothing h =
@@ -211,7 +211,7 @@ module _ (P : typed.Program) (L : Log) (F : Facts P L) where
   b-result_value V G names n here e returns.Faulty h =
       b-bind L V G Any (Maybe (ReturnedIn V)) (judged_alone names (inside names n) here e) _ (b-any L V G (judged_alone names (inside names n) here e) (k-judged_alone leading.walk names (inside names n) here e tt (k-inside leading.walk names n tt))) (λ u. b-none L V _ (ReturnedIn V))
 
-  sub-returned : (V : Sight) (q : Profiled) (z : Bool) (v : Option Part) → Maybe (ReturnedIn V) v → Maybe (SubIn V) (joined (p.sub_where q z) q.number (option_map p.returned_body v))
+  sub-returned : (V : Sight) (q : Profiled) (z : Bool) (v : Option TypedPart) → Maybe (ReturnedIn V) v → Maybe (SubIn V) (joined (p.sub_where q z) q.number (option_map p.returned_body v))
   sub-returned V q z None h = joint Any (λ x. ⊥) (SubIn V) (p.sub_where q z) q.number None (any q.number) tt (λ m c s t. absurd t)
   sub-returned V q z (Some v) h = joint Any (λ x. x ≡ p.returned_body v) (SubIn V) (p.sub_where q z) q.number (Some (p.returned_body v)) (any q.number) refl
       (λ m c s t. subst (λ x. SubIn V (p.sub_where q z m x)) (sym t) (record { decls = tt; stmts = h; handlers = tt }))
@@ -320,7 +320,7 @@ module _ (P : typed.Program) (L : Log) (F : Facts P L) where
     pub body : FormedBody P (length w.subs) w.body
     pub subs : FormedSubs P 0 w.subs
 
-  whole-in : (z s : Bool) (x : Option Part) (ss : Option (List TypedSub)) (log : Log) → Maybe (BodyIn P L F (place (length log.profiles))) x → Maybe (FormedSubs P 0) ss → AreNumbered ss log → Maybe WholeIn (joined (p.whole z s) x ss)
+  whole-in : (z s : Bool) (x : Option TypedPart) (ss : Option (List TypedSub)) (log : Log) → Maybe (BodyIn P L F (place (length log.profiles))) x → Maybe (FormedSubs P 0) ss → AreNumbered ss log → Maybe WholeIn (joined (p.whole z s) x ss)
   whole-in z s None ss log h i e = tt
   whole-in z s (Some x) None log h i e = tt
   whole-in z s (Some x) (Some ss) log h i e = record { body = subst (λ m. FormedBody P m (as_body x)) (sym e) (record { decls = h.decls; stmts = h.stmts; handlers = h.handlers }); subs = i }

@@ -6,7 +6,7 @@ use Rattle.syntax_tree.specs.FirstTokens as first_token
 use Rattle.syntax_tree.specs.Syntax as syntax
 use Rattle.syntax_tree.specs.Syntax.{Range, Simple}
 use Rattle.typed_tree.specs.Decoded as part
-use Rattle.typed_tree.specs.Decoded.{Part}
+use Rattle.typed_tree.specs.Decoded.{TypedPart}
 use Rattle.name_rules.specs.Expressions.{Inside, simple}
 use Rattle.name_rules.specs.Found.{Bounded, Denoted, Found}
 use Rattle.name_rules.specs.Judging.{fault, given, joined, pure, some}
@@ -34,7 +34,7 @@ module _ (W : World) (V : Sight) where
   -- ---- ranges
 
   -- two bounds
-  abbrev pub RangeOf : Part → Type 0
+  abbrev pub RangeOf : TypedPart → Type 0
   RangeOf p = FormedExpr W.program V.known (low_of p) × FormedExpr W.program V.known (high_of p)
 
   abbrev pub BoundedOf : Bounded → Type 0
@@ -72,10 +72,10 @@ module _ (W : World) (V : Sight) where
   f-checked_range first s a z g h =
       f-bind W V (Maybe RangeOf) (Maybe BoundedOf) (bounds_of s.kind a z) _ (f-bounds_of s.kind a z g h) (λ x q. f-pure W V (Maybe BoundedOf) (option_map (bounded_by first s (Some s) a z) x) (mapped RangeOf BoundedOf (bounded_by first s (Some s) a z) x q (λ y t. t)))
 
-  whole-range : (first : ℕ) (k : Kind) (low high : ℤ) (ms : Part) → MentionsOf W V ms → BoundedOf (whole_range first k low high ms)
+  whole-range : (first : ℕ) (k : Kind) (low high : ℤ) (ms : TypedPart) → MentionsOf W V ms → BoundedOf (whole_range first k low high ms)
   whole-range first k low high ms h = (exprs-formed W V ms h, exprs-formed W V part.Nothing tt)
 
-  f-named_range : (k : KnownDenoted) (x : Part) → DenotesOf W V k x → Forms W V (Maybe BoundedOf) (named_range k x)
+  f-named_range : (k : KnownDenoted) (x : TypedPart) → DenotesOf W V k x → Forms W V (Maybe BoundedOf) (named_range k x)
   f-named_range (denoted.Range first d) x h = f-some W V BoundedOf (whole_range first d.kind d.low d.high x) (whole-range first d.kind d.low d.high x h)
   f-named_range (denoted.Type first (subtype.Scalar s)) x h = f-some W V BoundedOf (whole_range first s.kind s.low s.high part.Nothing) (whole-range first s.kind s.low s.high part.Nothing tt)
   f-named_range k x h = f-fault W V BoundedOf (denoted_first k) WrongType
@@ -150,7 +150,7 @@ module _ (W : World) (V : Sight) where
       let x : Static = record { known = record { kind = s.kind; low = s.low; high = s.high }; part = part.Nothing } in
       f-if W V (Maybe StaticOf) (is_integer s.kind) (some x) (fault first WrongType) (f-some W V StaticOf x tt) (f-fault W V StaticOf first WrongType)
 
-  f-static_name : (first : ℕ) (k : KnownDenoted) (x : Part) → DenotesOf W V k x → Forms W V (Maybe StaticOf) (static_name first k x)
+  f-static_name : (first : ℕ) (k : KnownDenoted) (x : TypedPart) → DenotesOf W V k x → Forms W V (Maybe StaticOf) (static_name first k x)
   f-static_name first (denoted.Range at e) x h = f-some W V StaticOf (record { known = e; part = x }) h
   f-static_name first (denoted.Type at (subtype.Scalar s)) x h = f-static_scalar first s
   f-static_name first k x h = f-fault W V StaticOf (denoted_first k) WrongType

@@ -22,7 +22,7 @@ use Rattle.ada_meaning.specs.Shapes.{Shape, object_shape}
 use Rattle.typed_tree.specs.declared.expressions.Root.TheVariants as root
 use Rattle.name_laws.proofs.Lookups.{hiding_law}
 use Rattle.name_laws.specs.Hiding.{HasNone, IsLast}
-use Rattle.name_rules.specs.declared.found.Place.{Place}
+use Rattle.name_rules.specs.declared.found.ObjectName.{ObjectName}
 use Rattle.name_formed.proofs.Forms.{Any, Forms, Maybe, Sight, Small, World, f-bind, f-fault, f-given, f-if, f-none, f-some, shape_of}
 use Rattle.name_formed.proofs.FormsFound.{AreOf, Around, DenotedOf, DenotesOf, PlaceOf, RootOf, WhatOf}
 
@@ -65,7 +65,7 @@ module _ (W : World) (V : Sight) where
   -- ---- identifiers
 
   -- an object or an item stands for all of itself
-  pub whole-place : (p : Place) → RootOf W V p.variable p.root (shape_of W.program p.subtype) → Small (shape_of W.program p.subtype) → PlaceOf W V p part.Nothing
+  pub whole-place : (p : ObjectName) → RootOf W V p.variable p.root (shape_of W.program p.subtype) → Small (shape_of W.program p.subtype) → PlaceOf W V p part.Nothing
   whole-place p g h = record { whole = shape_of W.program p.subtype; root = g; path = λ r u s f. (s, f); small = h; static = λ z e. tt }
 
   object-root : (n : ℕ) (t : Shape) (v : Bool) → object_shape W.program n ≡ t → RootOf W V v (root.Object n) t

@@ -7,7 +7,7 @@ use Rattle.syntax_tree.specs.FirstTokens as first_token
 use Rattle.syntax_tree.specs.Syntax as syntax
 use Rattle.syntax_tree.specs.Syntax.{Choice, Expr, Name}
 use Rattle.typed_tree.specs.Decoded as part
-use Rattle.typed_tree.specs.Decoded.{Part, as_stmt}
+use Rattle.typed_tree.specs.Decoded.{TypedPart, as_stmt}
 use Rattle.typed_tree.specs.Latest.{turned}
 use Rattle.name_rules.specs.Cases as cases
 use Rattle.name_rules.specs.Cases.{Choosing, Covering}
@@ -25,7 +25,7 @@ use Rattle.name_rules.specs.Values.{first_of, is_scalar, settled_found, stored}
 use Rattle.name_rules.specs.declared.found.Denoted.TheVariants as denoted
 use Rattle.name_rules.specs.declared.found.Denoted.{Denoted as KnownDenoted}
 use Rattle.name_rules.specs.declared.found.Found.TheVariants as known
-use Rattle.name_rules.specs.declared.found.Place.{Place}
+use Rattle.name_rules.specs.declared.found.ObjectName.{ObjectName}
 use Rattle.name_rules.specs.declared.log.Rule.TheVariants.{StaticRange, WrongType}
 use Rattle.name_rules.specs.declared.scope.Context.{Context}
 use Rattle.name_rules.specs.declared.scope.Entry.{Entry}
@@ -46,7 +46,7 @@ use Rattle.name_formed.proofs.FormsRanges.{f-chosen_span, f-chosen_value}
 use Rattle.name_formed.proofs.FormsValues.{f-settled_found, f-stored}
 
 module _ (W : World) (V : Sight) where
-  abbrev StmtOf : Part → Type 0
+  abbrev StmtOf : TypedPart → Type 0
   StmtOf x = FormedStmt W.program V.known (as_stmt x)
 
   -- ---- assignments
@@ -81,7 +81,7 @@ module _ (W : World) (V : Sight) where
   seen : (u : Shape) {A : Type 0} (Q : A → Type 0) (p : Judging A) → Forms W (aimed u) Q p → Forms W V Q p
   seen u Q p m = record { at = m.at }
 
-  whole-path : (t u : Shape) (x : Part) → PathOf W V t u x → Selects (selections_of x) t u × FormedSelections W.program V.known (selections_of x)
+  whole-path : (t u : Shape) (x : TypedPart) → PathOf W V t u x → Selects (selections_of x) t u × FormedSelections W.program V.known (selections_of x)
   unfolding turned
   whole-path t u x h = h part.Nothing u refl tt
 
@@ -89,7 +89,7 @@ module _ (W : World) (V : Sight) where
   root-at true r t e h = h
   root-at false r t e h = absurd cc
 
-  f-stored_place : (p : Place) (x : Part) (at : ℕ) (f : Found) → PlaceOf W V p x → p.variable ≡ true → FoundOf W (aimed (shape_of W.program p.subtype)) f → Forms W V (Maybe StmtOf) (s.stored_place p (selections_of x) at f)
+  f-stored_place : (p : ObjectName) (x : TypedPart) (at : ℕ) (f : Found) → PlaceOf W V p x → p.variable ≡ true → FoundOf W (aimed (shape_of W.program p.subtype)) f → Forms W V (Maybe StmtOf) (s.stored_place p (selections_of x) at f)
   f-stored_place p x at f h e g =
       let u = shape_of W.program p.subtype in
       let q = whole-path h.whole u x h.path in
@@ -97,14 +97,14 @@ module _ (W : World) (V : Sight) where
       (λ v k. f-pure W V (Maybe StmtOf) (option_map (s.assigned p (selections_of x)) v)
       (mapped (ValueOf W (aimed u) p.subtype) StmtOf (s.assigned p (selections_of x)) v k (λ y t. ((u, (h.whole, root-at p.variable p.root h.whole e h.root, q.0), t.1, t.0), q.1))))
 
-  f-assigned_place : (p : Place) (x : Part) (at : ℕ) (f : Option Found) → PlaceOf W V p x → Finding W (aimed (shape_of W.program p.subtype)) f → Forms W V (Maybe StmtOf) (s.assigned_place p (selections_of x) at f)
+  f-assigned_place : (p : ObjectName) (x : TypedPart) (at : ℕ) (f : Option Found) → PlaceOf W V p x → Finding W (aimed (shape_of W.program p.subtype)) f → Forms W V (Maybe StmtOf) (s.assigned_place p (selections_of x) at f)
   f-assigned_place p x at f h g = by p.variable refl
     where
       by : (b : Bool) → p.variable ≡ b → Forms W V (Maybe StmtOf) (if not b then fault p.first WrongType else given f (s.stored_place p (selections_of x) at))
       by true e = f-given W V (FoundOf W (aimed (shape_of W.program p.subtype))) StmtOf f (s.stored_place p (selections_of x) at) g (λ y q. f-stored_place p x at y h e q)
       by false e = f-fault W V StmtOf p.first WrongType
 
-  f-assign_place : (names : Names) (level : Inside) (here : Context) (p : Place) (x : Part) (e : Expr) → LevelForms W level → Around W V here → PlaceOf W V p x → Forms W V (Maybe StmtOf) (s.assign_place names level here p (selections_of x) e)
+  f-assign_place : (names : Names) (level : Inside) (here : Context) (p : ObjectName) (x : TypedPart) (e : Expr) → LevelForms W level → Around W V here → PlaceOf W V p x → Forms W V (Maybe StmtOf) (s.assign_place names level here p (selections_of x) e)
   unfolding s.assign_place
   f-assign_place names level here p x e l r h =
       let u = shape_of W.program p.subtype in
@@ -119,7 +119,7 @@ module _ (W : World) (V : Sight) where
   f-assign_other : (names : Names) (level : Inside) (here : Context) (e : Expr) (first : ℕ) → LevelForms W level → Around W V here → Forms W V (Maybe StmtOf) (s.assign_other names level here e first)
   f-assign_other names level here e first l r = f-where_clean W V Any StmtOf (s.assigned_alone names level here e) (λ u. fault first WrongType) (f-assigned_alone names level here e l r) (λ u q. f-fault W V StmtOf first WrongType)
 
-  f-assign_form : (names : Names) (level : Inside) (here : Context) (e : Expr) (k : KnownDenoted) (x : Part) → LevelForms W level → Around W V here → DenotesOf W V k x → Forms W V (Maybe StmtOf) (s.assign_form names level here e k x)
+  f-assign_form : (names : Names) (level : Inside) (here : Context) (e : Expr) (k : KnownDenoted) (x : TypedPart) → LevelForms W level → Around W V here → DenotesOf W V k x → Forms W V (Maybe StmtOf) (s.assign_form names level here e k x)
   f-assign_form names level here e (denoted.Value (known.Object p)) x l r h = f-assign_place names level here p x e l r h
   f-assign_form names level here e k x l r h = f-assign_other names level here e (denoted_first k) l r
 
@@ -132,7 +132,7 @@ module _ (W : World) (V : Sight) where
 
   -- ---- calls of procedures
 
-  f-as_statement : (k : KnownDenoted) (x : Part) → DenotesOf W V k x → Forms W V (Maybe StmtOf) (s.as_statement k x)
+  f-as_statement : (k : KnownDenoted) (x : TypedPart) → DenotesOf W V k x → Forms W V (Maybe StmtOf) (s.as_statement k x)
   f-as_statement (denoted.Done first) x h = f-some W V StmtOf x h
   f-as_statement k x h = f-fault W V StmtOf (denoted_first k) WrongType
 

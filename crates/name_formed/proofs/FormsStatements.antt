@@ -6,7 +6,7 @@ use Rattle.syntax_tree.specs.FirstTokens as first_token
 use Rattle.syntax_tree.specs.Syntax as syntax
 use Rattle.syntax_tree.specs.Syntax.{Alt, Alts, Arms, Body, Branches, Declare, Expr, Handler, Handlers, Iter, MoreStmts, Name, OptionalParallel, OptionalStmts, Pack, Scheme, Simple, Stmt, Stmts}
 use Rattle.typed_tree.specs.Decoded as part
-use Rattle.typed_tree.specs.Decoded.{Part, as_alternative, as_alternatives, as_arms, as_body, as_chunk, as_expr, as_handler, as_handlers, as_iteration, as_optional, as_stmt, as_stmts}
+use Rattle.typed_tree.specs.Decoded.{TypedPart, as_alternative, as_alternatives, as_arms, as_body, as_chunk, as_expr, as_handler, as_handlers, as_iteration, as_optional, as_stmt, as_stmts}
 use Rattle.typed_tree.specs.Latest.{turned}
 use Rattle.typed_tree.specs.Syntax as typed
 use Rattle.typed_tree.specs.Syntax.{Alternatives, Program, Handlers as TypedHandlers, Handled as TypedHandled}
@@ -53,40 +53,40 @@ use Rattle.name_formed.proofs.FormsValues.{iteration-map}
 module _ (P : Program) (L : Log) (F : Facts P L) where
   -- ---- lists
 
-  abbrev pub ExprIn : Sight → Part → Type 0
+  abbrev pub ExprIn : Sight → TypedPart → Type 0
   ExprIn V x = FormedExpr P V.known (as_expr x)
 
-  abbrev pub FilterIn : Sight → Part → Type 0
+  abbrev pub FilterIn : Sight → TypedPart → Type 0
   FilterIn V x = FormedOptional P V.known (as_optional x)
 
-  abbrev pub StmtIn : Sight → Part → Type 0
+  abbrev pub StmtIn : Sight → TypedPart → Type 0
   StmtIn V x = FormedStmt P V.known (as_stmt x)
 
-  abbrev pub StmtsIn : Sight → Part → Type 0
+  abbrev pub StmtsIn : Sight → TypedPart → Type 0
   StmtsIn V x = FormedAll P V.known (as_stmts x)
 
-  stmts-list : (V : Sight) (x : Part) → Each (StmtIn V) x → StmtsIn V x
+  stmts-list : (V : Sight) (x : TypedPart) → Each (StmtIn V) x → StmtsIn V x
   stmts-list V (part.Cons p q) h = (h.0, stmts-list V q h.1)
   stmts-list V x h = tt
 
-  stmts-formed : (V : Sight) (x : Part) → Each (StmtIn V) x → StmtsIn V (turned x)
+  stmts-formed : (V : Sight) (x : TypedPart) → Each (StmtIn V) x → StmtsIn V (turned x)
   stmts-formed V x h = stmts-list V (turned x) (each-turned (StmtIn V) x h)
 
-  abbrev IsAlternative : Sight → Part → Type 0
+  abbrev IsAlternative : Sight → TypedPart → Type 0
   IsAlternative V p = (as' : Alternatives) → FormedAlternatives P V.known as' → FormedAlternatives P V.known (as_alternative p as')
 
-  alternatives-list : (V : Sight) (x : Part) → Each (IsAlternative V) x → FormedAlternatives P V.known (as_alternatives x)
+  alternatives-list : (V : Sight) (x : TypedPart) → Each (IsAlternative V) x → FormedAlternatives P V.known (as_alternatives x)
   alternatives-list V (part.Cons p q) h = h.0 (as_alternatives q) (alternatives-list V q h.1)
   alternatives-list V x h = tt
 
-  abbrev IsHandler : Sight → Part → Type 0
+  abbrev IsHandler : Sight → TypedPart → Type 0
   IsHandler V p = (hs : TypedHandlers) → FormedHandlers P V.known hs → FormedHandlers P V.known (as_handler p hs)
 
-  handlers-list : (V : Sight) (x : Part) → Each (IsHandler V) x → FormedHandlers P V.known (as_handlers x)
+  handlers-list : (V : Sight) (x : TypedPart) → Each (IsHandler V) x → FormedHandlers P V.known (as_handlers x)
   handlers-list V (part.Cons p q) h = h.0 (as_handlers q) (handlers-list V q h.1)
   handlers-list V x h = tt
 
-  arms-list : (V : Sight) (x : Part) → Each (StmtsIn V) x → FormedArms P V.known (as_arms x)
+  arms-list : (V : Sight) (x : TypedPart) → Each (StmtsIn V) x → FormedArms P V.known (as_arms x)
   arms-list V (part.Cons p q) h = (h.0, arms-list V q h.1)
   arms-list V x h = tt
 
@@ -98,7 +98,7 @@ module _ (P : Program) (L : Log) (F : Facts P L) where
     pub inner : (W : World) → LevelForms W a.inner
     pub within : (V : Sight) (here : Context) (x : Stmt) → Back L V (Near P L F V here) (Maybe (StmtIn V)) (a.within here x)
 
-  b-stmts_from : (V : Sight) (G : Type 0) (a : Judges) (here : Context) (made : Option Part) (x : MoreStmts) → AroundForms a → (G → Near P L F V here) → (G → Maybe (Each (StmtIn V)) made)
+  b-stmts_from : (V : Sight) (G : Type 0) (a : Judges) (here : Context) (made : Option TypedPart) (x : MoreStmts) → AroundForms a → (G → Near P L F V here) → (G → Maybe (Each (StmtIn V)) made)
       → Back L V G (Maybe (Each (StmtIn V))) (s.stmts_from a here made x)
   b-stmts_from V G a here made syntax.NoStmt f r g = b-pure L V G (Maybe (Each (StmtIn V))) made g
   b-stmts_from V G a here made (syntax.AlsoStmt x xs) f r g =
@@ -117,11 +117,11 @@ module _ (P : Program) (L : Log) (F : Facts P L) where
   b-condition V G a here e f r =
       b-lift P L F V G (Maybe (ExprIn V)) (condition a.names a.level here e) (k-condition leading.walk a.names a.level here e tt f.keeps.level) (λ log l g. f-condition (now P L F log l) V a.names a.level here e (f.level (now P L F log l)) (r g log l))
 
-  filter-of : (V : Sight) (x : Part) → ExprIn V x → FilterIn V x
+  filter-of : (V : Sight) (x : TypedPart) → ExprIn V x → FilterIn V x
   filter-of V (part.AnExpr e) h = h
   filter-of V x h = tt
 
-  filter-some : (V : Sight) (x : Option Part) → Maybe (ExprIn V) x → Maybe (FilterIn V) x
+  filter-some : (V : Sight) (x : Option TypedPart) → Maybe (ExprIn V) x → Maybe (FilterIn V) x
   filter-some V None h = tt
   filter-some V (Some x) h = filter-of V x h
 
@@ -176,14 +176,14 @@ module _ (P : Program) (L : Log) (F : Facts P L) where
   -- ---- if statements
 
   -- a condition with its statements
-  abbrev IsBranch : Sight → Part → Type 0
+  abbrev IsBranch : Sight → TypedPart → Type 0
   IsBranch V p = FormedExpr P V.known (as_expr (left_of p)) × StmtsIn V (right_of p)
 
-  with-elsif-if : (V : Sight) (made c ss : Option Part) → Maybe (Each (IsBranch V)) made → Maybe (ExprIn V) c → Maybe (StmtsIn V) ss → Maybe (Each (IsBranch V)) (s.with_elsif_if made c ss)
+  with-elsif-if : (V : Sight) (made c ss : Option TypedPart) → Maybe (Each (IsBranch V)) made → Maybe (ExprIn V) c → Maybe (StmtsIn V) ss → Maybe (Each (IsBranch V)) (s.with_elsif_if made c ss)
   with-elsif-if V made None ss g h i = tt
   with-elsif-if V made (Some c) ss g h i = joint (Each (IsBranch V)) (StmtsIn V) (Each (IsBranch V)) (s.with_elsif c) made ss g i (λ a b m n. ((h, n), m))
 
-  b-elsifs : (V : Sight) (G : Type 0) (a : Judges) (here : Context) (made : Option Part) (x : Arms) → AroundForms a → (G → Near P L F V here) → (G → Maybe (Each (IsBranch V)) made) → Back L V G (Maybe (Each (IsBranch V))) (s.elsifs a here made x)
+  b-elsifs : (V : Sight) (G : Type 0) (a : Judges) (here : Context) (made : Option TypedPart) (x : Arms) → AroundForms a → (G → Near P L F V here) → (G → Maybe (Each (IsBranch V)) made) → Back L V G (Maybe (Each (IsBranch V))) (s.elsifs a here made x)
   b-elsifs V G a here made syntax.NoArm f r g = b-pure L V G (Maybe (Each (IsBranch V))) made g
   b-elsifs V G a here made (syntax.AlsoArm (syntax.arm at e x) xs) f r g =
       b-bind L V G (Maybe (ExprIn V)) (Maybe (Each (IsBranch V))) (condition a.names a.level here e) _ (b-condition V G a here e f r) (λ c.
@@ -194,7 +194,7 @@ module _ (P : Program) (L : Log) (F : Facts P L) where
   b-otherwise_where V G a here syntax.AbsentStmts f r = b-some L V G (StmtsIn V) s.no_stmts (λ g. tt)
   b-otherwise_where V G a here (syntax.PresentStmts x) f r = b-stmts V G a here x f r
 
-  nested-formed : (V : Sight) (xs o : Part) → Each (IsBranch V) xs → StmtsIn V o → StmtsIn V (nested_stmts xs o)
+  nested-formed : (V : Sight) (xs o : TypedPart) → Each (IsBranch V) xs → StmtsIn V o → StmtsIn V (nested_stmts xs o)
   unfolding nested_stmts
   nested-formed V (part.Cons p rest) o h g = nested-formed V rest (part.Cons (part.AStmt (typed.IfThen (as_expr (left_of p)) (as_stmts (right_of p)) (as_stmts o))) part.Nothing) h.1 ((h.0.0, h.0.1, g), tt)
   nested-formed V x o h g = g
@@ -211,17 +211,17 @@ module _ (P : Program) (L : Log) (F : Facts P L) where
 
   -- ---- case statements
 
-  abbrev CasesIn : Sight → Covering × Option Part → Type 0
+  abbrev CasesIn : Sight → Covering × Option TypedPart → Type 0
   CasesIn V r = Maybe (Each (IsAlternative V)) r.1
 
   abbrev ChoicesIn : Sight → Covering × Choosing → Type 0
   ChoicesIn V r = Each (ExprIn V) r.1.mentions
 
-  also-alternative : (V : Sight) (d : Choosing) (made ss : Option Part) → Each (ExprIn V) d.mentions → Maybe (Each (IsAlternative V)) made → Maybe (StmtsIn V) ss → Maybe (Each (IsAlternative V)) (s.also_alternative d made ss)
+  also-alternative : (V : Sight) (d : Choosing) (made ss : Option TypedPart) → Each (ExprIn V) d.mentions → Maybe (Each (IsAlternative V)) made → Maybe (StmtsIn V) ss → Maybe (Each (IsAlternative V)) (s.also_alternative d made ss)
   unfolding s.also_alternative
   also-alternative V d made ss e g h = joint (Each (IsAlternative V)) (StmtsIn V) (Each (IsAlternative V)) (s.with_alternative d) made ss g h (λ a b m n. ((λ as' r. (exprs-formed P L F V d.mentions e, n, r)), m))
 
-  b-alternative : (V : Sight) (G : Type 0) (a : Judges) (here : Context) (kind : Option Kind) (last : Bool) (c : Covering) (made : Option Part) (x : Alt) → AroundForms a → (G → Near P L F V here) → (G → Maybe (Each (IsAlternative V)) made)
+  b-alternative : (V : Sight) (G : Type 0) (a : Judges) (here : Context) (kind : Option Kind) (last : Bool) (c : Covering) (made : Option TypedPart) (x : Alt) → AroundForms a → (G → Near P L F V here) → (G → Maybe (Each (IsAlternative V)) made)
       → Back L V G (CasesIn V) (s.alternative a here kind last c made x)
   unfolding s.alternative
   b-alternative V G a here kind last c made (syntax.alt at x ys t) f r g =
@@ -231,7 +231,7 @@ module _ (P : Program) (L : Log) (F : Facts P L) where
       b-bind L V _ (Maybe (StmtsIn V)) (CasesIn V) (s.stmts a here t) _ (b-stmts V _ a here t f (λ h. r h.old)) (λ ss.
       b-pure L V _ (CasesIn V) (y.0, s.also_alternative y.1 made ss) (λ h. also-alternative V y.1 made ss h.old.new (g h.old.old) h.new)))
 
-  b-alts : (V : Sight) (G : Type 0) (a : Judges) (here : Context) (kind : Option Kind) (c : Covering) (made : Option Part) (xs : Alts) → AroundForms a → (G → Near P L F V here) → (G → Maybe (Each (IsAlternative V)) made)
+  b-alts : (V : Sight) (G : Type 0) (a : Judges) (here : Context) (kind : Option Kind) (c : Covering) (made : Option TypedPart) (xs : Alts) → AroundForms a → (G → Near P L F V here) → (G → Maybe (Each (IsAlternative V)) made)
       → Back L V G (CasesIn V) (s.alts a here kind c made xs)
   b-alts V G a here kind c made syntax.NoAlt f r g = b-pure L V G (CasesIn V) (c, made) g
   b-alts V G a here kind c made (syntax.AlsoAlt x xs) f r g =
@@ -258,13 +258,13 @@ module _ (P : Program) (L : Log) (F : Facts P L) where
   near-loop : (V : Sight) (a : Judges) (here : Context) (label : Option ℕ) (n : ℕ) → Near P L F V here → Near P L F V (s.in_loop a.names here label n)
   near-loop V a here label n r log l = let x = r log l in record { scope = x.scope; target = x.target }
 
-  for-made : (V U : Sight) (n : ℕ) (site : Option ℕ) (c : Option Part) (i ss : Part) (log : Log) → Maybe (λ x. FormedChunk P V.known (as_chunk x)) c → FormedIteration P V.known (as_iteration i) (λ w. w ≡ U.known) → StmtsIn U ss
+  for-made : (V U : Sight) (n : ℕ) (site : Option ℕ) (c : Option TypedPart) (i ss : TypedPart) (log : Log) → Maybe (λ x. FormedChunk P V.known (as_chunk x)) c → FormedIteration P V.known (as_iteration i) (λ w. w ≡ U.known) → StmtsIn U ss
       → Maybe (StmtIn V) (s.for_made n site c i ss log).0
   for-made V U n None c i ss log g h j = iteration-map P V.known (as_iteration i) (λ w. w ≡ U.known) (λ w. FormedAll P w (as_stmts ss)) h (λ w e. subst (λ v. FormedAll P v (as_stmts ss)) (sym e) j)
   for-made V U n (Some k) None i ss log g h j = tt
   for-made V U n (Some k) (Some c) i ss log g h j = (g, iteration-map P V.known (as_iteration i) (λ w. w ≡ U.known) (λ w. FormedAll P w (as_stmts ss)) h (λ w e. subst (λ v. FormedAll P v (as_stmts ss)) (sym e) j))
 
-  both-made : (V U : Sight) (n : ℕ) (site : Option ℕ) (c : Option Part) (i ss : Option Part) (log : Log) → Maybe (λ x. FormedChunk P V.known (as_chunk x)) c → Maybe (λ x. FormedIteration P V.known (as_iteration x) (λ w. w ≡ U.known)) i → Maybe (StmtsIn U) ss
+  both-made : (V U : Sight) (n : ℕ) (site : Option ℕ) (c : Option TypedPart) (i ss : Option TypedPart) (log : Log) → Maybe (λ x. FormedChunk P V.known (as_chunk x)) c → Maybe (λ x. FormedIteration P V.known (as_iteration x) (λ w. w ≡ U.known)) i → Maybe (StmtsIn U) ss
       → Maybe (StmtIn V) (both i ss (s.for_made n site c) log).0
   both-made V U n site c None ss log g h j = tt
   both-made V U n site c (Some i) None log g h j = tt
@@ -314,14 +314,14 @@ module _ (P : Program) (L : Log) (F : Facts P L) where
   near-handler : (V : Sight) (here : Context) → Near P L F V here → Near P L F V (s.in_handler_of here)
   near-handler V here r log l = let x = r log l in record { scope = x.scope; target = x.target }
 
-  abbrev HandlingIn : Sight → List Reason × Option Part → Type 0
+  abbrev HandlingIn : Sight → List Reason × Option TypedPart → Type 0
   HandlingIn V r = Maybe (Each (IsHandler V)) r.1
 
-  with-handler-if : (V : Sight) (made : Option Part) (h : Option TypedHandled) (ss : Option Part) → Maybe (Each (IsHandler V)) made → Maybe (StmtsIn V) ss → Maybe (Each (IsHandler V)) (s.with_handler_if made h ss)
+  with-handler-if : (V : Sight) (made : Option TypedPart) (h : Option TypedHandled) (ss : Option TypedPart) → Maybe (Each (IsHandler V)) made → Maybe (StmtsIn V) ss → Maybe (Each (IsHandler V)) (s.with_handler_if made h ss)
   with-handler-if V made None ss g i = tt
   with-handler-if V made (Some h) ss g i = joint (Each (IsHandler V)) (StmtsIn V) (Each (IsHandler V)) (s.with_handler h) made ss g i (λ a b m n. ((λ hs r. (n, r)), m))
 
-  b-handler : (V : Sight) (G : Type 0) (a : Judges) (here : Context) (last : Bool) (names-seen : List Reason) (made : Option Part) (h : Handler) → AroundForms a → (G → Near P L F V here) → (G → Maybe (Each (IsHandler V)) made)
+  b-handler : (V : Sight) (G : Type 0) (a : Judges) (here : Context) (last : Bool) (names-seen : List Reason) (made : Option TypedPart) (h : Handler) → AroundForms a → (G → Near P L F V here) → (G → Maybe (Each (IsHandler V)) made)
       → Back L V G (HandlingIn V) (s.handler a here last names-seen made h)
   unfolding s.handler
   b-handler V G a here last names-seen made (syntax.handler at h x) f r g =
@@ -329,19 +329,19 @@ module _ (P : Program) (L : Log) (F : Facts P L) where
       b-bind L V _ (Maybe (StmtsIn V)) (HandlingIn V) (s.stmts a (s.in_handler_of here) x) _ (b-stmts V _ a (s.in_handler_of here) x f (λ t. near-handler V here (r t.old))) (λ ss.
       b-pure L V _ (HandlingIn V) (y.0, s.with_handler_if made y.1 ss) (λ t. with-handler-if V made y.1 ss (g t.old.old) t.new)))
 
-  b-handlers : (V : Sight) (G : Type 0) (a : Judges) (here : Context) (names-seen : List Reason) (made : Option Part) (hs : Handlers) → AroundForms a → (G → Near P L F V here) → (G → Maybe (Each (IsHandler V)) made)
+  b-handlers : (V : Sight) (G : Type 0) (a : Judges) (here : Context) (names-seen : List Reason) (made : Option TypedPart) (hs : Handlers) → AroundForms a → (G → Near P L F V here) → (G → Maybe (Each (IsHandler V)) made)
       → Back L V G (Maybe (Each (IsHandler V))) (s.handlers a here names-seen made hs)
   b-handlers V G a here names-seen made syntax.NoHandler f r g = b-pure L V G (Maybe (Each (IsHandler V))) made g
   b-handlers V G a here names-seen made (syntax.AlsoHandler h hs) f r g =
       b-bind L V G (HandlingIn V) (Maybe (Each (IsHandler V))) (s.handler a here (s.is_last_handler hs) names-seen made h) _ (b-handler V G a here (s.is_last_handler hs) names-seen made h f r g) (λ y.
       b-handlers V (And G (HandlingIn V y)) a here y.0 y.1 hs f (λ t. r t.old) (λ t. t.new))
 
-  pub record BodyIn (V : Sight) (x : Part) : Type 0 where
+  pub record BodyIn (V : Sight) (x : TypedPart) : Type 0 where
     pub decls : FormedDecls P V.known (as_body x).decls
     pub stmts : FormedAll P V.known (as_body x).stmts
     pub handlers : FormedHandlers P V.known (as_body x).handlers
 
-  pub b-body : (V : Sight) (G : Type 0) (a : Judges) (here : Context) (ds : Option Part) (b : Body) → AroundForms a → (G → Near P L F V here) → (G → Maybe (DeclsIn P L F V) ds) → Back L V G (Maybe (BodyIn V)) (s.body a here ds b)
+  pub b-body : (V : Sight) (G : Type 0) (a : Judges) (here : Context) (ds : Option TypedPart) (b : Body) → AroundForms a → (G → Near P L F V here) → (G → Maybe (DeclsIn P L F V) ds) → Back L V G (Maybe (BodyIn V)) (s.body a here ds b)
   unfolding s.body
   b-body V G a here ds (syntax.body x hs) f r g =
       b-bind L V G (Maybe (StmtsIn V)) (Maybe (BodyIn V)) (s.stmts a here x) _ (b-stmts V G a here x f r) (λ ss.
@@ -350,7 +350,7 @@ module _ (P : Program) (L : Log) (F : Facts P L) where
       b-pure L V _ (Maybe (BodyIn V)) (joined (s.body_part d) ss xs) (λ t. joint (StmtsIn V) (Each (IsHandler V)) (BodyIn V) (s.body_part d) ss xs t.old.old.new t.old.new
       (λ b c m n. record { decls = decls-formed P L F V d t.new; stmts = m; handlers = handlers-list V (turned c) (each-turned (IsHandler V) c n) })))))
 
-  block-of : (V : Sight) (x : Part) → BodyIn V x → StmtIn V (s.block_part x)
+  block-of : (V : Sight) (x : TypedPart) → BodyIn V x → StmtIn V (s.block_part x)
   block-of V x h = (h.decls, h.stmts, h.handlers)
 
   b-block : (V : Sight) (G : Type 0) (a : Judges) (here : Context) (d : Option Declare) (b : Body) → AroundForms a → (G → Near P L F V here) → Back L V G (Maybe (StmtIn V)) (s.block a here d b)
@@ -372,7 +372,7 @@ module _ (P : Program) (L : Log) (F : Facts P L) where
       let m = b-lift P L F V G (Maybe (ExprIn V)) (chunk_count a.inner here e) (k-chunk_count leading.walk a.inner here e f.keeps.inner) (λ log l g. f-chunk_count (now P L F log l) V a.inner here e (f.inner (now P L F log l)) (r g log l)) in
       record { keeps = m.keeps; at = λ log l b g. filter-some V (chunk_count a.inner here e log).0 (m.at log l b g) }
 
-  b-branches : (V : Sight) (G : Type 0) (a : Judges) (here : Context) (made : Option Part) (xs : Branches) → AroundForms a → (G → Near P L F V here) → (G → Maybe (Each (StmtsIn V)) made) → Back L V G (Maybe (Each (StmtsIn V))) (s.branches a here made xs)
+  b-branches : (V : Sight) (G : Type 0) (a : Judges) (here : Context) (made : Option TypedPart) (xs : Branches) → AroundForms a → (G → Near P L F V here) → (G → Maybe (Each (StmtsIn V)) made) → Back L V G (Maybe (Each (StmtsIn V))) (s.branches a here made xs)
   b-branches V G a here made syntax.NoBranch f r g = b-pure L V G (Maybe (Each (StmtsIn V))) made g
   b-branches V G a here made (syntax.AlsoBranch x xs) f r g =
       b-bind L V G (Maybe (StmtsIn V)) (Maybe (Each (StmtsIn V))) (s.stmts a here x) _ (b-stmts V G a here x f r) (λ y.

@@ -5,7 +5,7 @@ use Rattle.ada_meaning.specs.Formed as formed
 use Rattle.ada_meaning.specs.Shapes.{Shape, cells_of, size, subtype_shape}
 use Rattle.typed_tree.specs.Classes.{class_or, with_class}
 use Rattle.typed_tree.specs.Decoded as part
-use Rattle.typed_tree.specs.Decoded.{Part, Nothing, Cons, as_composite, as_expr, as_exprs, as_pieces}
+use Rattle.typed_tree.specs.Decoded.{TypedPart, Nothing, Cons, as_composite, as_expr, as_exprs, as_pieces}
 use Rattle.typed_tree.specs.Indexes.{indexes_from, indexes_in}
 use Rattle.typed_tree.specs.Latest.{turned}
 use Rattle.typed_tree.specs.Syntax as typed
@@ -21,7 +21,7 @@ use Rattle.name_rules.specs.Values.{any_integer, any_scalar, asked, asked_form, 
 use Rattle.name_rules.specs.declared.found.Found.TheVariants as known
 use Rattle.name_rules.specs.declared.found.Found.{Found as Known}
 use Rattle.name_rules.specs.declared.found.Limits.{Limits}
-use Rattle.name_rules.specs.declared.found.Place.{Place}
+use Rattle.name_rules.specs.declared.found.ObjectName.{ObjectName}
 use Rattle.name_rules.specs.declared.log.Rule.TheVariants.{NotStatic, StaticRange, WrongType}
 use Rattle.name_rules.specs.declared.types.Kind.{Kind}
 use Rattle.name_rules.specs.declared.types.Kind.TheVariants as kind
@@ -94,10 +94,10 @@ least : (n : ℕ) → n ≤ n
 least n = omega arith
 
 -- an object has the cells of its subtype
-pub one-cell : (W : World) (p : Place) (s : Scalar) → p.subtype ≡ subtype.Scalar s → 1 ≤ size (shape_of W.program p.subtype)
+pub one-cell : (W : World) (p : ObjectName) (s : Scalar) → p.subtype ≡ subtype.Scalar s → 1 ≤ size (shape_of W.program p.subtype)
 one-cell W p s e = subst (λ n. 1 ≤ n) (sym (ap (λ t. size (shape_of W.program t)) e)) (least 1)
 
-pub all-cells : (W : World) (p : Place) (n : ℕ) → p.subtype ≡ subtype.Composite n → cells_of W.program.subtypes n ≤ size (shape_of W.program p.subtype)
+pub all-cells : (W : World) (p : ObjectName) (n : ℕ) → p.subtype ≡ subtype.Composite n → cells_of W.program.subtypes n ≤ size (shape_of W.program p.subtype)
 all-cells W p n e =
     subst (λ t. cells_of W.program.subtypes n ≤ size t) (sym (ap (shape_of W.program) e)) (subst (λ c. c ≤ size (subtype_shape W.program n)) (sym (W.counted n)) (least (size (subtype_shape W.program n))))
 
@@ -107,45 +107,45 @@ module _ (W : World) (V : Sight) where
 
   -- ---- lists that grow
 
-  exprs-list : (x : Part) → MentionsOf W V x → FormedExprs W.program V.known (as_exprs x)
+  exprs-list : (x : TypedPart) → MentionsOf W V x → FormedExprs W.program V.known (as_exprs x)
   exprs-list (Cons p q) h = (h.0, exprs-list q h.1)
   exprs-list x h = tt
 
-  pub exprs-formed : (x : Part) → MentionsOf W V x → FormedExprs W.program V.known (exprs_of x)
+  pub exprs-formed : (x : TypedPart) → MentionsOf W V x → FormedExprs W.program V.known (exprs_of x)
   exprs-formed x h = exprs-list (turned x) (each-turned (ExprOf W V) x h)
 
-  pieces-list : (x : Part) → Each (IsPiece W V) x → FormedPieces W.program V.known (as_pieces x)
+  pieces-list : (x : TypedPart) → Each (IsPiece W V) x → FormedPieces W.program V.known (as_pieces x)
   pieces-list (Cons p q) h = h.0 (as_pieces q) (pieces-list q h.1)
   pieces-list x h = tt
 
-  pub pieces-formed : (x : Part) → Each (IsPiece W V) x → FormedPieces W.program V.known (as_pieces (turned x))
+  pub pieces-formed : (x : TypedPart) → Each (IsPiece W V) x → FormedPieces W.program V.known (as_pieces (turned x))
   pieces-formed x h = pieces-list (turned x) (each-turned (IsPiece W V) x h)
 
   -- ---- names
 
   -- a place is named as what it is
-  abbrev pub NamedOf : Place → Part → Type 0
+  abbrev pub NamedOf : ObjectName → TypedPart → Type 0
   NamedOf p x = NamesConstant W.program V.known p.root (selections_of x) (shape_of W.program p.subtype) × FormedSelections W.program V.known (selections_of x)
 
-  abbrev pub VariableOf : Place → Part → Type 0
+  abbrev pub VariableOf : ObjectName → TypedPart → Type 0
   VariableOf p x = Names W.program V.known p.root (selections_of x) (shape_of W.program p.subtype) × FormedSelections W.program V.known (selections_of x)
 
-  pub path-whole : (t u : Shape) (x : Part) → PathOf W V t u x → Selects (selections_of x) t u × FormedSelections W.program V.known (selections_of x)
+  pub path-whole : (t u : Shape) (x : TypedPart) → PathOf W V t u x → Selects (selections_of x) t u × FormedSelections W.program V.known (selections_of x)
   unfolding turned
   path-whole t u x h = h Nothing u refl tt
 
-  pub as-variable : (p : Place) (x : Part) → PlaceOf W V p x → p.variable ≡ true → VariableOf p x
+  pub as-variable : (p : ObjectName) (x : TypedPart) → PlaceOf W V p x → p.variable ≡ true → VariableOf p x
   as-variable p x h e =
       let y = path-whole h.whole (shape_of W.program p.subtype) x h.path in
       ((h.whole, subst (λ b. RootOf W V b p.root h.whole) e h.root, y.0), y.1)
 
-  pub as-constant : (p : Place) (x : Part) → PlaceOf W V p x → p.variable ≡ false → NamedOf p x
+  pub as-constant : (p : ObjectName) (x : TypedPart) → PlaceOf W V p x → p.variable ≡ false → NamedOf p x
   as-constant p x h e =
       let y = path-whole h.whole (shape_of W.program p.subtype) x h.path in
       ((h.whole, subst (λ b. RootOf W V b p.root h.whole) e h.root, y.0), y.1)
 
   -- indexes in a name
-  indexes-on : (x : Part) (ss : Selections) → MentionsOf W V x → FormedSelections W.program V.known ss → MentionsOf W V (indexes_from x ss)
+  indexes-on : (x : TypedPart) (ss : Selections) → MentionsOf W V x → FormedSelections W.program V.known ss → MentionsOf W V (indexes_from x ss)
   indexes-on x typed.Whole g h = g
   indexes-on x (typed.Field number offset ss) g h = indexes-on x ss g h
   indexes-on x (typed.Index at e low high stride ss) g h = indexes-on (Cons (part.AnExpr e) x) ss (h.0, g) h.1
@@ -155,7 +155,7 @@ module _ (W : World) (V : Sight) where
   indexes-formed ss h = indexes-on Nothing ss tt h
 
   -- what a static expression mentions
-  pub static-mentions : (f : Known) (x : Part) (z : ℤ) → KnownOf W V f x → value_of f ≡ Some z → MentionsOf W V (mentions_of (record { known = f; part = x }))
+  pub static-mentions : (f : Known) (x : TypedPart) (z : ℤ) → KnownOf W V f x → value_of f ≡ Some z → MentionsOf W V (mentions_of (record { known = f; part = x }))
   static-mentions (known.Universal first y alone) x z h e = h
   static-mentions (known.Static first k y) x z h e = h
   static-mentions (known.Object p) x z h e = tt
@@ -166,7 +166,7 @@ module _ (W : World) (V : Sight) where
   static-mentions (known.Text first) x z h e = absurd cc
 
   -- the same of its part itself
-  pub static-part : (f : Known) (x : Part) (z : ℤ) → KnownOf W V f x → value_of f ≡ Some z → MentionsOf W V x
+  pub static-part : (f : Known) (x : TypedPart) (z : ℤ) → KnownOf W V f x → value_of f ≡ Some z → MentionsOf W V x
   static-part (known.Universal first y alone) x z h e = h
   static-part (known.Static first k y) x z h e = h
   static-part (known.Object p) x z h e = h.static z e
@@ -178,10 +178,10 @@ module _ (W : World) (V : Sight) where
 
   -- ---- an expression whose place asks for a type
 
-  literal-formed : (first : ℕ) (z : ℤ) (alone : Bool) (x : Part) → MentionsOf W V x → ExprOf W V (literal first z alone x)
+  literal-formed : (first : ℕ) (z : ℤ) (alone : Bool) (x : TypedPart) → MentionsOf W V x → ExprOf W V (literal first z alone x)
   literal-formed first z alone x h = exprs-formed x h
 
-  f-valued : (k : Kind) (first : ℕ) (z : ℤ) (alone : Bool) (x : Part) → MentionsOf W V x → Forms W V (Maybe (ExprOf W V)) (valued k first z alone x)
+  f-valued : (k : Kind) (first : ℕ) (z : ℤ) (alone : Bool) (x : TypedPart) → MentionsOf W V x → Forms W V (Maybe (ExprOf W V)) (valued k first z alone x)
   unfolding valued
   f-valued k first z alone x h = f-if W V (Maybe (ExprOf W V)) (in_base k z) (some (literal first z alone x)) (fault first StaticRange) (f-some W V (ExprOf W V) (literal first z alone x) (literal-formed first z alone x h)) (f-fault W V (ExprOf W V) first StaticRange)
 
@@ -197,7 +197,7 @@ module _ (W : World) (V : Sight) where
   unfolding settled
   f-settled k l e h = f-settled_by k e (beyond k l) h
 
-  object-formed : (p : Place) (x : Part) (s : Scalar) (v : Option ℤ) → p.subtype ≡ subtype.Scalar s → p.value ≡ v → PlaceOf W V p x → ExprOf W V (object_value p (selections_of x) s v)
+  object-formed : (p : ObjectName) (x : TypedPart) (s : Scalar) (v : Option ℤ) → p.subtype ≡ subtype.Scalar s → p.value ≡ v → PlaceOf W V p x → ExprOf W V (object_value p (selections_of x) s v)
   unfolding turned
   object-formed p x s (Some z) e v h = tt
   object-formed p x s None e v h = by p.variable refl
@@ -212,14 +212,14 @@ module _ (W : World) (V : Sight) where
       by true e = let y = as-variable p x h e in ((shape_of W.program p.subtype, y.0, one), y.1)
       by false e = let y = as-constant p x h e in ((shape_of W.program p.subtype, y.0, one), y.1)
 
-  f-place_asked : (k : Kind) (p : Place) (x : Part) (s : Subtype) → p.subtype ≡ s → PlaceOf W V p x → Forms W V (Maybe (ExprOf W V)) (place_asked k p (selections_of x) s)
+  f-place_asked : (k : Kind) (p : ObjectName) (x : TypedPart) (s : Subtype) → p.subtype ≡ s → PlaceOf W V p x → Forms W V (Maybe (ExprOf W V)) (place_asked k p (selections_of x) s)
   f-place_asked k p x (subtype.Scalar s) e h =
       f-if W V (Maybe (ExprOf W V)) (same s.kind k) (some (object_value p (selections_of x) s p.value)) (fault p.first WrongType)
       (f-some W V (ExprOf W V) (object_value p (selections_of x) s p.value) (object-formed p x s p.value e refl h))
       (f-fault W V (ExprOf W V) p.first WrongType)
   f-place_asked k p x (subtype.Composite n) e h = f-fault W V (ExprOf W V) p.first WrongType
 
-  f-asked_form : (k : Kind) (f : Known) (x : Part) → KnownOf W V f x → Forms W V (Maybe (ExprOf W V)) (asked_form k f x)
+  f-asked_form : (k : Kind) (f : Known) (x : TypedPart) → KnownOf W V f x → Forms W V (Maybe (ExprOf W V)) (asked_form k f x)
   f-asked_form k (known.Universal first z alone) x h = f-if W V (Maybe (ExprOf W V)) (is_integer k) (valued k first z alone x) (fault first WrongType) (f-valued k first z alone x h) (f-fault W V (ExprOf W V) first WrongType)
   f-asked_form k (known.Open first l) x h = f-if W V (Maybe (ExprOf W V)) (is_integer k) (settled k l (as_expr x)) (fault first WrongType) (f-settled k l (as_expr x) h) (f-fault W V (ExprOf W V) first WrongType)
   f-asked_form k (known.Static first j z) x h =
@@ -274,7 +274,7 @@ module _ (W : World) (V : Sight) where
   pub of-cells : (n : ℕ) → cells_of W.program.subtypes n ≤ size (subtype_shape W.program n)
   of-cells n = subst (λ c. c ≤ size (subtype_shape W.program n)) (sym (W.counted n)) (least (size (subtype_shape W.program n)))
 
-  f-whole_of : (n : ℕ) (p : Place) (x : Part) (s : Subtype) → p.subtype ≡ s → PlaceOf W V p x → Forms W V (Maybe (WideOf W V n)) (whole_of n p (selections_of x) s)
+  f-whole_of : (n : ℕ) (p : ObjectName) (x : TypedPart) (s : Subtype) → p.subtype ≡ s → PlaceOf W V p x → Forms W V (Maybe (WideOf W V n)) (whole_of n p (selections_of x) s)
   f-whole_of n p x (subtype.Scalar s) e h = f-fault W V (WideOf W V n) p.first WrongType
   f-whole_of n p x (subtype.Composite m) e h =
       f-test W V (Maybe (WideOf W V n)) (n == m) (some (part.AComposite (whole_object p (selections_of x) m p.variable))) (fault p.first WrongType)
@@ -293,7 +293,7 @@ module _ (W : World) (V : Sight) where
       by true e q = let y = as-variable p x h e in (((shape_of W.program p.subtype, y.0, wide), y.1), same-wide q)
       by false e q = let y = as-constant p x h e in (((shape_of W.program p.subtype, y.0, wide), y.1), same-wide q)
 
-  f-composite_form : (n : ℕ) (f : Known) (x : Part) → KnownOf W V f x → Forms W V (Maybe (WideOf W V n)) (composite_form n f x)
+  f-composite_form : (n : ℕ) (f : Known) (x : TypedPart) → KnownOf W V f x → Forms W V (Maybe (WideOf W V n)) (composite_form n f x)
   f-composite_form n (known.Composite first m) x h =
       f-test W V (Maybe (WideOf W V n)) (n == m) (some x) (fault first WrongType) (λ q. f-some W V (WideOf W V n) x (subst (λ k. WideOf W V k x) (sym (eqb-true n m q)) h)) (f-fault W V (WideOf W V n) first WrongType)
   f-composite_form n (known.Object p) x h = f-whole_of n p x p.subtype refl h

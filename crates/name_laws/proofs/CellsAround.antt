@@ -18,7 +18,7 @@ use Rattle.name_rules.specs.Types.{component_of}
 use Rattle.name_rules.specs.declared.found.Denoted.TheVariants as denoted
 use Rattle.name_rules.specs.declared.found.Denoted.{Denoted as Known}
 use Rattle.name_rules.specs.declared.found.Found.TheVariants as known
-use Rattle.name_rules.specs.declared.found.Place.{Place}
+use Rattle.name_rules.specs.declared.found.ObjectName.{ObjectName}
 use Rattle.name_rules.specs.declared.log.Log.{Log}
 use Rattle.name_rules.specs.declared.log.Rule.TheVariants.{WrongType}
 use Rattle.name_rules.specs.declared.scope.Context.{Context}
@@ -38,7 +38,7 @@ over-right : (n m token : ℕ) (f : OptionalExpr) (d : Option Denoted) (log : Lo
 over-right n m token f None log = tt
 over-right n m token f (Some d) log = by d.known
   where
-    over : (p : Place) (x : Selections) (b : Bool) → IsRightWhat n ((if b then pure (i.array_walked log m token f p x (array_shape log p.subtype)) else (breaks p.first WrongType >>= λ u. pure (i.no_array token f))) log).0.entry
+    over : (p : ObjectName) (x : Selections) (b : Bool) → IsRightWhat n ((if b then pure (i.array_walked log m token f p x (array_shape log p.subtype)) else (breaks p.first WrongType >>= λ u. pure (i.no_array token f))) log).0.entry
     over p x true = item-right n m p.variable (component_of (array_shape log p.subtype))
     over p x false = tt
 

@@ -5,7 +5,7 @@ use Rattle.ada_base.specs.declared.reason.Reason.TheVariants as reason
 use Rattle.syntax_tree.specs.Syntax as syntax
 use Rattle.syntax_tree.specs.Syntax.{Array, Indic}
 use Rattle.typed_tree.specs.Decoded as part
-use Rattle.typed_tree.specs.Decoded.{Part}
+use Rattle.typed_tree.specs.Decoded.{TypedPart}
 use Rattle.name_rules.specs.Declarations as d
 use Rattle.name_rules.specs.Declarations.{Dimensions, Indicated, indicated}
 use Rattle.name_rules.specs.Expressions.{Inside}
@@ -157,7 +157,7 @@ subtype-right n names here token h log = by (stands_for names here token log).0 
     by None h log = tt
     by (Some x) h log = type-right n token x.known h log
 
-mapped : (n : ℕ) (x : Part) (s : Option Subtype) → IsRightOne n s → IsIndicated n (option_map (indicated x) s)
+mapped : (n : ℕ) (x : TypedPart) (s : Option Subtype) → IsRightOne n s → IsIndicated n (option_map (indicated x) s)
 mapped n x None h = tt
 mapped n x (Some s) h = h
 
@@ -206,7 +206,7 @@ now log p k h = (k.at log).at (omega arith) h
 pub next-leaves : {A : Type 0} (Q : ℕ → A → Type 0) (log mid : Log) (r : A × Log) → length log.shapes ≤ length mid.shapes → Leaves Q mid r → Leaves Q log r
 next-leaves Q log mid r l h = record { longer = omega (arith, l, h.longer); sound = h.sound; right = h.right }
 
-indicated-leaves : (x : Part) (log : Log) (r : Option Subtype × Log) → Leaves IsRightOne log r → Leaves IsIndicated log (option_map (indicated x) r.0, r.1)
+indicated-leaves : (x : TypedPart) (log : Log) (r : Option Subtype × Log) → Leaves IsRightOne log r → Leaves IsIndicated log (option_map (indicated x) r.0, r.1)
 indicated-leaves x log r h = record { longer = h.longer; sound = h.sound; right = mapped (length r.1.shapes) x r.0 h.right }
 
 none-leaves : (log : Log) → Sound log → Leaves IsIndicated log (None, log)
@@ -311,7 +311,7 @@ s-static_checked first t a z =
     s-if (is_integer t.kind) (both_static t.kind a z >>= λ v. given v g) (fault first WrongType)
     (s-bind (both_static t.kind a z) (λ v. given v g) (λ v. s-given v g (λ r. s-checked first t a z r))) (s-fault first WrongType)
 
-name-span : (n first : ℕ) (k : Known) (x : Part) → IsRightly n k → Spans (ranges.static_name first k x)
+name-span : (n first : ℕ) (k : Known) (x : TypedPart) → IsRightly n k → Spans (ranges.static_name first k x)
 name-span n first (denoted.Range at d) x h = record { at = λ log. h }
 name-span n first (denoted.Type at (subtype.Scalar s)) x h = by (is_integer s.kind)
   where

@@ -5,7 +5,7 @@ use Rattle.ada_base.specs.declared.reason.Reason.TheVariants as reason
 use Rattle.syntax_tree.specs.Syntax as syntax
 use Rattle.syntax_tree.specs.Syntax.{Comp, Decl, Definition, Expr, Ids, ObjectType, Simple}
 use Rattle.typed_tree.specs.Decoded as part
-use Rattle.typed_tree.specs.Decoded.{Part}
+use Rattle.typed_tree.specs.Decoded.{TypedPart}
 use Rattle.name_rules.specs.Declarations as d
 use Rattle.name_rules.specs.Declarations.{Building, Indicated, Initial, all_ids, indicated}
 use Rattle.name_rules.specs.Expressions.{Inside, expr}
@@ -311,7 +311,7 @@ record-leaves names level here x xs log keeps h r =
 
 -- ---- types
 
-own-right : (n token first last : ℕ) (x : Part) (a z : Option ℤ) (log : Log) → IsIndicated n (option_map (indicated x) (both a z (d.own_type token first last) log).0)
+own-right : (n token first last : ℕ) (x : TypedPart) (a z : Option ℤ) (log : Log) → IsIndicated n (option_map (indicated x) (both a z (d.own_type token first last) log).0)
 own-right n token first last x None z log = tt
 own-right n token first last x (Some a) None log = tt
 own-right n token first last x (Some a) (Some z) log = by (in_base (kind.Own token) a && in_base (kind.Own token) z && int_le a z) (last-true (in_base (kind.Own token) a) (in_base (kind.Own token) z) (int_le a z)) (unless (int_le a z) first StaticRange (unless (in_base (kind.Own token) z) last StaticRange (unless (in_base (kind.Own token) a) first StaticRange log).1).1).1
@@ -384,7 +384,7 @@ object-sound names here token s constant value log h r =
     let x = object-written names here token m.0 cells constant value m.1 c.0 j.1 (number_within s m.0 m.1 q (is_number s c.1)) count in
     (omega (arith, k.0, j.0, x.0), x.1)
 
-object-ended : (n : ℕ) (names : Names) (here : Context) (token : ℕ) (f : Option ℕ) (constant : Bool) (s : Indicated) (v : Initial) (made : Option Part) (m : Option ℕ) → AreRight n here.scope
+object-ended : (n : ℕ) (names : Names) (here : Context) (token : ℕ) (f : Option ℕ) (constant : Bool) (s : Indicated) (v : Initial) (made : Option TypedPart) (m : Option ℕ) → AreRight n here.scope
     → AreRight n (d.object_ended names here token f constant s v made m).0.scope
 object-ended n names here token f constant s v made None h = ended-right n names here f None h tt
 object-ended n names here token f constant s v made (Some m) h = ended-right n names here f (Some (what.Object m s.known (not constant) (d.constant_value constant s.known v))) h tt
@@ -395,7 +395,7 @@ counted-leaves names here f token x log h r =
     let k = now log (d.cells_counted token 0) (k-cells_counted (minding 0) token 0) h in
     record { longer = k.0; sound = k.1; right = ended-right _ names here f None (are_later _ _ here.scope k.0 r) tt }
 
-one-object : (names : Names) (here : Context) (token : ℕ) (f : Option ℕ) (constant : Bool) (made : Option Part) (s : Option Indicated) (v : Option Initial) (log : Log) → Sound log → AreRight (length log.shapes) here.scope → IsIndicated (length log.shapes) s
+one-object : (names : Names) (here : Context) (token : ℕ) (f : Option ℕ) (constant : Bool) (made : Option TypedPart) (s : Option Indicated) (v : Option Initial) (log : Log) → Sound log → AreRight (length log.shapes) here.scope → IsIndicated (length log.shapes) s
     → Leaves IsAround log (d.one_object names here token f constant made s v log)
 one-object names here token f constant made (Some s) (Some v) log h r i =
     let x = d.new_object names here token s.known constant (d.constant_value constant s.known v) log in
@@ -414,7 +414,7 @@ typed-leaves names level here (syntax.Anonymous a) log keeps h r = array-leaves 
 pub around-leaves : {B : Type 0} (here : Context) (x : B) (log : Log) → Sound log → AreRight (length log.shapes) here.scope → Leaves IsAround log ((here, x), log)
 around-leaves here x log h r = record { longer = omega arith; sound = h; right = r }
 
-each-object : (names : Names) (level : Inside) (inner here : Context) (constant : Bool) (first : ℕ) (t : ObjectType) (e : Option Expr) (made : Option Part) (is : List ℕ) (fs : List (Option ℕ)) (log : Log)
+each-object : (names : Names) (level : Inside) (inner here : Context) (constant : Bool) (first : ℕ) (t : ObjectType) (e : Option Expr) (made : Option TypedPart) (is : List ℕ) (fs : List (Option ℕ)) (log : Log)
     → KeepsBoth level → Sound log → AreRight (length log.shapes) inner.scope → AreRight (length log.shapes) here.scope
     → Leaves IsAround log (d.each_object names level inner here constant first t e made is fs log)
 each-object names level inner here constant first t e made [] fs log keeps h i r = around-leaves here made log h r
@@ -434,7 +434,7 @@ each-object names level inner here constant first t e made (x ∷ is) (f ∷ fs)
     next-leaves IsAround log o.1 (d.each_object names level inner o.0.0 constant first t e o.0.1 is fs o.1) z
     (each-object names level inner o.0.0 constant first t e o.0.1 is fs o.1 keeps y.sound (are_later _ _ inner.scope z i) y.right)
 
-objects-leaves : (names : Names) (level : Inside) (start : ℕ) (here : Context) (made : Option Part) (is : Ids) (constant : Bool) (t : ObjectType) (e : Option Expr) (log : Log)
+objects-leaves : (names : Names) (level : Inside) (start : ℕ) (here : Context) (made : Option TypedPart) (is : Ids) (constant : Bool) (t : ObjectType) (e : Option Expr) (log : Log)
     → KeepsBoth level → Sound log → AreRight (length log.shapes) here.scope → Leaves IsAround log (d.objects names level start here made is constant t e log)
 unfolding d.objects
 objects-leaves names level start here made is constant t e log keeps h r =
@@ -454,7 +454,7 @@ number-right : (n : ℕ) (v : Option ℤ) → IsRightMaybe n (option_map what.Nu
 number-right n None = tt
 number-right n (Some z) = tt
 
-numbers-leaves : (names : Names) (level : Inside) (start : ℕ) (here : Context) (made : Option Part) (is : Ids) (e : Expr) (log : Log)
+numbers-leaves : (names : Names) (level : Inside) (start : ℕ) (here : Context) (made : Option TypedPart) (is : Ids) (e : Expr) (log : Log)
     → KeepsBoth level → Sound log → AreRight (length log.shapes) here.scope → Leaves IsAround log (d.numbers names level start here made is e log)
 unfolding d.numbers
 numbers-leaves names level start here made is e log keeps h r =
@@ -476,7 +476,7 @@ each-exception n names here (t ∷ ts) (f ∷ fs) log h =
     let w = Some (what.Exception (reason.Declared x.0)) in
     each-exception n names (d.ended_name names here f w) ts fs x.1 (ended-right n names here f w h tt)
 
-exceptions-leaves : (names : Names) (start : ℕ) (here : Context) (made : Option Part) (is : Ids) (log : Log) → Sound log → AreRight (length log.shapes) here.scope
+exceptions-leaves : (names : Names) (start : ℕ) (here : Context) (made : Option TypedPart) (is : Ids) (log : Log) → Sound log → AreRight (length log.shapes) here.scope
     → (let r = d.begun_names names start here [] (all_ids is) log in let c = d.each_exception names r.0.0 (all_ids is) r.0.1 r.1 in Leaves IsAround log ((c.0, made), c.1))
 exceptions-leaves names start here made is log h r =
     let x = d.begun_names names start here [] (all_ids is) log in
@@ -492,7 +492,7 @@ type-what : (n : ℕ) (s : Option Indicated) → IsIndicated n s → IsRightMayb
 type-what n None h = tt
 type-what n (Some s) h = h
 
-type-leaves : (names : Names) (here : Context) (made : Option Part) (f : Option ℕ) (log : Log) (s : Option Indicated × Log) → AreRight (length log.shapes) here.scope → Leaves IsIndicated log s
+type-leaves : (names : Names) (here : Context) (made : Option TypedPart) (f : Option ℕ) (log : Log) (s : Option Indicated × Log) → AreRight (length log.shapes) here.scope → Leaves IsIndicated log s
     → Leaves IsAround log (d.one_type names here made f s.0, s.1)
 type-leaves names here made f log s r h = record {
   longer = h.longer;
@@ -500,7 +500,7 @@ type-leaves names here made f log s r h = record {
   right = ended-right _ names here f (option_map (λ t. what.Type t.known) s.0) (are_later _ _ here.scope h.longer r) (type-what _ s.0 h.right);
 }
 
-pub declaration-leaves : (names : Names) (level : Inside) (start : ℕ) (here : Context) (made : Option Part) (x : Decl) (log : Log)
+pub declaration-leaves : (names : Names) (level : Inside) (start : ℕ) (here : Context) (made : Option TypedPart) (x : Decl) (log : Log)
     → KeepsBoth level → Sound log → AreRight (length log.shapes) here.scope → Leaves IsAround log (d.declaration names level start here made x log)
 unfolding d.declaration
 declaration-leaves names level start here made (syntax.ObjectDecl is constant t e) log keeps h r = objects-leaves names level start here made is (is_some constant) t e log keeps h r
@@ -523,7 +523,7 @@ declaration-leaves names level start here made (syntax.SubtypeDecl at token i) l
     next-leaves IsAround log f.1 (d.one_type names c made f.0 s.0, s.1) k.0
     (type-leaves names c made f.0 f.1 s a (record { longer = j.0; sound = j.1; right = indic-right _ names level c i (are_later _ _ c.scope j.0 a) f.1 }))
 
-pub declarations-leaves : (names : Names) (level : Inside) (start : ℕ) (here : Context) (made : Option Part) (ds : List Decl) (log : Log)
+pub declarations-leaves : (names : Names) (level : Inside) (start : ℕ) (here : Context) (made : Option TypedPart) (ds : List Decl) (log : Log)
     → KeepsBoth level → Sound log → AreRight (length log.shapes) here.scope → Leaves IsAround log (d.declarations names level start here made ds log)
 declarations-leaves names level start here made [] log keeps h r = around-leaves here made log h r
 declarations-leaves names level start here made (x ∷ ds) log keeps h r =

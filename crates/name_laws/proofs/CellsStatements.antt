@@ -20,7 +20,7 @@ use Rattle.typed_tree.specs.Decoded as part
 use Rattle.typed_tree.specs.Syntax as typed
 use Rattle.typed_tree.specs.declared.program.SiteKind.TheVariants as site
 use Rattle.std.specs.Prelude.{Bool, List, None, Option, Some, [], false, length, option_map, suc, zero, ℕ, ◌==◌, ◌∷◌}
-use Rattle.typed_tree.specs.Decoded.{Part as TypedPart}
+use Rattle.typed_tree.specs.Decoded.{TypedPart}
 use Rattle.typed_tree.specs.Latest.{turned}
 use Rattle.name_rules.specs.Judging.{clean, given, joined, pure}
 use Rattle.name_rules.specs.Statements.{Around, with_stmt, no_stmts, stmts_from, stmts, with_elsif_if, elsifs, otherwise_where, if_stmt_made, if_stmt, is_last, no_choosing, alternative, alts, selector, selector_kind, case_stmt, loop_ends, new_loop, in_loop, for_made, loop_entered, for_loop, loop_part, optional_parallel, loop_with, loop_by, loop_stmt, in_handler_of, is_last_handler, handler, handlers, block_part, body_made, body, no_decls, block_decls, block_of, block, count_where, with_arm, branches, branch_count, in_threads, parallel, stmt_form, around, stmt}

@@ -12,7 +12,7 @@ use Rattle.name_rules.specs.declared.found.Attribute.{Attribute}
 use Rattle.name_rules.specs.declared.found.Denoted.TheVariants as denoted
 use Rattle.name_rules.specs.declared.found.Denoted.{Denoted as KnownDenoted}
 use Rattle.name_rules.specs.declared.found.Found.TheVariants as known
-use Rattle.name_rules.specs.declared.found.Place.{Place}
+use Rattle.name_rules.specs.declared.found.ObjectName.{ObjectName}
 use Rattle.name_rules.specs.declared.found.Prefix.TheVariants as prefix
 use Rattle.name_rules.specs.declared.found.Prefix.{Prefix}
 use Rattle.name_rules.specs.declared.log.Dimension.{Dimension}
@@ -28,7 +28,7 @@ use Rattle.typed_tree.specs.Decoded as part
 use Rattle.typed_tree.specs.Syntax.{Expr as TypedExpr}
 use Rattle.std.specs.Prelude.{Bool, List, None, Option, Some, [], false, if◌then◌else◌, int_le, length, option_map, pos, slice_get, true, unsigned_abs, ℕ, ℤ, ◌&&◌, ◌-◌, ◌∷◌}
 use Rattle.name_rules.specs.TypedParts.{also_all}
-use Rattle.typed_tree.specs.Decoded.{Part as TypedPart, as_expr}
+use Rattle.typed_tree.specs.Decoded.{TypedPart, as_expr}
 use Rattle.name_rules.specs.Judging.{◌>>=◌, fault, given, pure, read}
 use Rattle.name_rules.specs.Attributes.{prefix_of, attribute_found, scalar_bound, dimension_bound, mentioned, prefix_subtype, dimensions_in, bound_in, bound_alone, dimension_at, dimension_given, one_dimension, bound_with, first_named, one_given, two_given, one_named, two_named, one_argument, two_arguments_of, image_text, extreme, step, stepped, scalar_with, object_image, is_bound, is_reduction, reduced_alone, is_array_object, alone, settled_form, settled_attribute}
 use Rattle.name_laws.proofs.CellsCounted.{HaveValues}
@@ -124,7 +124,7 @@ e-scalar_with m0 names inside here first s attribute'.Succ bracket as' = e-stepp
 e-scalar_with m0 names inside here first s attribute'.Pred bracket as' = e-stepped m0 names inside here first s op.Sub bracket as'
 e-scalar_with m0 names inside here first s a bracket as' = e-bind m0 (scalar_bound first s a) (λ d. given d (λ x. wrong_call names inside here first as')) (λ d. e-given m0 d (λ x. wrong_call names inside here first as') (λ x. e-wrong_call m0 names inside here first as'))
 
-e-object_image : (m0 first : ℕ) (p : Place) (x : TypedPart) (t : Subtype) → Ends m0 (object_image first p x t)
+e-object_image : (m0 first : ℕ) (p : ObjectName) (x : TypedPart) (t : Subtype) → Ends m0 (object_image first p x t)
 e-object_image m0 first p x (subtype.Scalar s) = e-one_given m0 s.kind (image_text first s.kind) (record { known = known.Object p; part = x }) (λ y. tt)
 e-object_image m0 first p x (subtype.Composite n) = e-fault m0 first WrongType
 

@@ -11,7 +11,7 @@ use Rattle.name_rules.specs.declared.types.Subtype.TheVariants as subtype
 use Rattle.name_rules.specs.declared.types.Subtype.{Subtype}
 use Rattle.syntax_tree.specs.Syntax.{Args}
 use Rattle.std.specs.Prelude.{List, None, Option, Some, [], if◌then◌else◌, length, ℕ, ◌∷◌}
-use Rattle.typed_tree.specs.Decoded.{Part as TypedPart}
+use Rattle.typed_tree.specs.Decoded.{TypedPart}
 use Rattle.name_rules.specs.Judging.{◌>>=◌, fault, given, read, some, where_clean}
 use Rattle.name_rules.specs.Calls.{takes_in, gives_in, profile_in, arguments, complete, begun_call, call_given, sub_call, operands, arg_names, conversion_of, converted, one_operand, scalar_conversion, conversion}
 use Rattle.name_laws.proofs.CellsDeclared.{Ends, IsRightly, e-bind, e-fault, e-given, e-if, e-some, e-where_clean}

@@ -5,7 +5,7 @@ use Rattle.name_rules.specs.Types.{same, typed_scalar}
 use Rattle.name_rules.specs.Values.{first_of}
 use Rattle.name_rules.specs.declared.found.Found.TheVariants as known
 use Rattle.name_rules.specs.declared.found.Found.{Found as Known}
-use Rattle.name_rules.specs.declared.found.Place.{Place}
+use Rattle.name_rules.specs.declared.found.ObjectName.{ObjectName}
 use Rattle.name_rules.specs.declared.found.Put.TheVariants as put
 use Rattle.name_rules.specs.declared.found.Put.{Put}
 use Rattle.name_rules.specs.declared.found.Reach.{Reach}
@@ -22,7 +22,7 @@ use Rattle.typed_tree.specs.Syntax as typed
 use Rattle.typed_tree.specs.Syntax.{Selections}
 use Rattle.std.specs.Prelude.{Bool, Option, false, if◌then◌else◌, nat_le, option_map, true, ℕ, ◌&&◌}
 use Rattle.name_rules.specs.TypedParts.{selections_of}
-use Rattle.typed_tree.specs.Decoded.{Part as TypedPart}
+use Rattle.typed_tree.specs.Decoded.{TypedPart}
 use Rattle.name_rules.specs.Judging.{◌>>=◌, fault, given, joined, pure, some}
 use Rattle.name_rules.specs.Output.{done_by, no_name, text_only, alone_given, put_text, text_call, Putting, put_number, width_or, put_complete, is_text, judged_arguments, put_of_text, get_place, get_of, put_by, by_procedure, without_arguments, io_call}
 use Rattle.name_laws.proofs.CellsDeclared.{Ends, e-bind, e-fault, e-given, e-if, e-joined, e-map, e-some, e-where_clean}
@@ -36,7 +36,7 @@ e-put_complete m0 at first last p = e-if m0 (nat_le p.count 2) (pure (joined (pu
 pub e-put_of_text : (m0 : ℕ) (x0 : ℕ) (x1 : ℕ) (x2 : ℕ) (x3 : Reach) (x4 : Args) (x5 : Found) → Ends m0 (put_of_text x0 x1 x2 x3 x4 x5)
 e-put_of_text m0 at first last reach more f = e-if m0 (reach.text_io) (text_call at first last false more f) (if reach.expanded then fault (first_of f.known) WrongType else fault first NotVisible) (e-text_call m0 at first last false more f) (e-if m0 (reach.expanded) (fault (first_of f.known) WrongType) (fault first NotVisible) (e-fault m0 (first_of f.known) WrongType) (e-fault m0 first NotVisible))
 
-pub e-get_place : (m0 : ℕ) (x0 : ℕ) (x1 : ℕ) (x2 : Place) (x3 : Selections) (x4 : Subtype) → Ends m0 (get_place x0 x1 x2 x3 x4)
+pub e-get_place : (m0 : ℕ) (x0 : ℕ) (x1 : ℕ) (x2 : ObjectName) (x3 : Selections) (x4 : Subtype) → Ends m0 (get_place x0 x1 x2 x3 x4)
 e-get_place m0 first last p ss (subtype.Scalar s) = e-if m0 (p.variable && same s.kind kind.Integer) (some (done_by first (typed.Get first last p.first p.root ss (typed_scalar s)))) (fault p.first WrongType) (e-some m0 (done_by first (typed.Get first last p.first p.root ss (typed_scalar s))) tt) (e-fault m0 p.first WrongType)
 e-get_place m0 first last p ss (subtype.Composite n) = e-fault m0 p.first WrongType
 

@@ -12,7 +12,7 @@ use Rattle.name_rules.specs.declared.found.Attribute.{Attribute}
 use Rattle.name_rules.specs.declared.found.Denoted.TheVariants as denoted
 use Rattle.name_rules.specs.declared.found.Denoted.{Denoted as KnownDenoted}
 use Rattle.name_rules.specs.declared.found.Found.TheVariants as known
-use Rattle.name_rules.specs.declared.found.Place.{Place}
+use Rattle.name_rules.specs.declared.found.ObjectName.{ObjectName}
 use Rattle.name_rules.specs.declared.found.Prefix.TheVariants as prefix
 use Rattle.name_rules.specs.declared.found.Prefix.{Prefix}
 use Rattle.name_rules.specs.declared.log.Rule.TheVariants.{ReduceRule, WrongType}
@@ -21,13 +21,13 @@ use Rattle.name_rules.specs.declared.scope.Names.{Names}
 use Rattle.name_rules.specs.declared.types.Subtype.TheVariants as subtype
 use Rattle.name_rules.specs.declared.types.Wanted.TheVariants as wanted
 use Rattle.syntax_tree.specs.Syntax as syntax
-use Rattle.syntax_tree.specs.Syntax.{Args, Name, Part, Parts}
+use Rattle.syntax_tree.specs.Syntax.{Args, Name, NamePart, NameParts}
 use Rattle.typed_tree.specs.Decoded as part
 use Rattle.typed_tree.specs.Syntax as typed
 use Rattle.typed_tree.specs.Syntax.{Selections}
 use Rattle.std.specs.Prelude.{if◌then◌else◌, Bool, None, Option, Some, false, true, ℕ}
 use Rattle.name_rules.specs.TypedParts.{selections_of}
-use Rattle.typed_tree.specs.Decoded.{Part as TypedPart}
+use Rattle.typed_tree.specs.Decoded.{TypedPart}
 use Rattle.name_rules.specs.Judging.{◌>>=◌, both, fault, given, read}
 use Rattle.name_rules.specs.Parts.{new_parameter, site_where, array_shape, through, is_parallel, item_found, array_reduced, reduced_with, of_array, other_with, attribute_with, call_form, call, part_of, next_part, parts, name}
 use Rattle.name_laws.proofs.CellsDeclared.{Ends, Named, NamesRight, e-fault, e-given, e-map, e-where_clean, now, stands-named}
@@ -45,7 +45,7 @@ use Rattle.name_rules.specs.Primaries as primaries
 use Rattle.name_rules.specs.declared.log.Log.{Log}
 use Rattle.std.proofs.Common.{length}
 
-e-array_reduced : (m0 : ℕ) (names : Names) (inside : Inside) (here : Context) (p : Place) (x : Selections) (at : ℕ) (a : Attribute) (bracket : ℕ) (as' : Args) (log : Log) → Named m0 (array_reduced names inside here p x at a bracket as' log).0
+e-array_reduced : (m0 : ℕ) (names : Names) (inside : Inside) (here : Context) (p : ObjectName) (x : Selections) (at : ℕ) (a : Attribute) (bracket : ℕ) (as' : Args) (log : Log) → Named m0 (array_reduced names inside here p x at a bracket as' log).0
 e-array_reduced m0 names inside here p x at a bracket (syntax.AlsoArg (syntax.arg None r) (syntax.AlsoArg (syntax.arg None v) syntax.NoArg)) log =
     let o1 = site_where here p.first (is_parallel a) log in
     let o2 = new_parameter o1.1 in
@@ -87,19 +87,19 @@ e-call m0 names inside here bracket as' (denoted.Io first last p r) x log h = (e
 e-call m0 names inside here bracket as' (denoted.Attribute first p at a) x log h = e-attribute_with m0 names inside here first p x at a bracket as' log h
 e-call m0 names inside here bracket as' d x log h = (e-wrong_call m0 names inside here (denoted_first d) as').at log
 
-e-part_of : (m0 : ℕ) (names : Names) (inside : Inside) (here : Context) (x : Part) (d : Denoted) (log : Log) → Sound log → Named m0 (part_of names inside here x d log).0
+e-part_of : (m0 : ℕ) (names : Names) (inside : Inside) (here : Context) (x : NamePart) (d : Denoted) (log : Log) → Sound log → Named m0 (part_of names inside here x d log).0
 unfolding part_of call
 e-part_of m0 names inside here (syntax.Field at) d log h = let e = settled_attribute d log in (e-given m0 e.0 (field names here at) (λ z. e-field m0 names here at z)).at e.1
 e-part_of m0 names inside here (syntax.Call bracket a as') d log h = e-call m0 names inside here bracket (syntax.AlsoArg a as') d.known d.part log h
 e-part_of m0 names inside here (syntax.Attribute at) d log h = let e = settled_attribute d log in (e-given m0 e.0 (λ y. attribute_found y at (attribute_at (symbol names at))) (λ y. e-attribute_found m0 y at (attribute_at (symbol names at)))).at e.1
 e-part_of m0 names inside here (syntax.RangeAttribute at) d log h = let e = settled_attribute d log in (e-given m0 e.0 (λ y. attribute_found y at (Some attribute'.Range)) (λ y. e-attribute_found m0 y at (Some attribute'.Range))).at e.1
 
-e-next_part : (m0 : ℕ) (names : Names) (inside : Inside) (here : Context) (d : Option Denoted) (x : Part) (log : Log) → Sound log → Named m0 (next_part names inside here d x log).0
+e-next_part : (m0 : ℕ) (names : Names) (inside : Inside) (here : Context) (d : Option Denoted) (x : NamePart) (log : Log) → Sound log → Named m0 (next_part names inside here d x log).0
 e-next_part m0 names inside here None (syntax.Call bracket a as') log h = tt
 e-next_part m0 names inside here None x log h = tt
 e-next_part m0 names inside here (Some d) x log h = e-part_of m0 names inside here x d log h
 
-e-parts : (m0 : ℕ) (names : Names) (inside : Inside) (here : Context) (d : Option Denoted) (ps : Parts) (log : Log) → KeepsInside (minding 0) inside → Named m0 d → Sound log → Named m0 (parts names inside here d ps log).0
+e-parts : (m0 : ℕ) (names : Names) (inside : Inside) (here : Context) (d : Option Denoted) (ps : NameParts) (log : Log) → KeepsInside (minding 0) inside → Named m0 d → Sound log → Named m0 (parts names inside here d ps log).0
 e-parts m0 names inside here d syntax.NoPart log keeps r h = r
 e-parts m0 names inside here d (syntax.AlsoPart x ps) log keeps r h =
     let e = next_part names inside here d x log in

@@ -24,7 +24,7 @@ use Rattle.syntax_tree.specs.Syntax as syntax
 use Rattle.syntax_tree.specs.Syntax.{Assoc, Assocs, Choice, Choices, Expr, Exprs, OptionalExpr}
 use Rattle.typed_tree.specs.Decoded as part
 use Rattle.std.specs.Prelude.{Bool, List, None, Option, Some, [], drop, false, if◌then◌else◌, length, not, option_map, pos, true, ℕ, ℤ, ◌&&◌, ◌*◌, ◌++◌, ◌+ℤ◌, ◌+◌, ◌==◌, ◌||◌, ◌∷◌}
-use Rattle.typed_tree.specs.Decoded.{Part as TypedPart}
+use Rattle.typed_tree.specs.Decoded.{TypedPart}
 use Rattle.name_rules.specs.Judging.{◌>>=◌, breaks, fault, given, joined, pure, some, unless, where_clean}
 use Rattle.name_rules.specs.Aggregates.{Contents, ByPosition, ByAssociation, aggregate_part, field_run, field_value, fields_value, some_fields, Filling, filling, by_position, has_symbol, without, one_field, named_field, first_of_choice, value_choice, field_choice, field_choices, is_alone, record_assoc, is_final, record_assocs, record_values, record_rest, record_parts, filled, runs_of, with_runs, Placing, with_ranges, with_rest, nothing_placed, Component, Choosing', also_chosen, as_rest, array_choice, array_choices, index_what, of_index_type, array_assoc, array_assocs, array_values, array_rest, array_placed, gaps_of, covered_alone, covered, dimension_of, no_aggregate, inner_value, inner_aggregate, is_last, component_at, array_at, array_of, composite_at, exprs_alone, optional_alone, assoc_value, assocs_alone, contents_alone, composite_found, rest_found, aggregate}
 use Rattle.name_laws.proofs.Walk.{Walk, Keeps, k-pure, k-some, k-bind, k-fault, k-breaks, k-unless, k-read, k-if, k-given, k-where_clean}

@@ -12,7 +12,7 @@ use Rattle.name_rules.specs.declared.found.Attribute.{Attribute}
 use Rattle.name_rules.specs.declared.found.Denoted.TheVariants as denoted
 use Rattle.name_rules.specs.declared.found.Denoted.{Denoted as KnownDenoted}
 use Rattle.name_rules.specs.declared.found.Found.TheVariants as known
-use Rattle.name_rules.specs.declared.found.Place.{Place}
+use Rattle.name_rules.specs.declared.found.ObjectName.{ObjectName}
 use Rattle.name_rules.specs.declared.found.Prefix.TheVariants as prefix
 use Rattle.name_rules.specs.declared.found.Prefix.{Prefix}
 use Rattle.name_rules.specs.declared.log.Dimension.{Dimension}
@@ -28,7 +28,7 @@ use Rattle.typed_tree.specs.Decoded as part
 use Rattle.typed_tree.specs.Syntax.{Expr as TypedExpr}
 use Rattle.std.specs.Prelude.{Bool, List, None, Option, Some, [], false, if◌then◌else◌, int_le, length, option_map, pos, slice_get, true, unsigned_abs, ℕ, ℤ, ◌&&◌, ◌-◌, ◌∷◌}
 use Rattle.name_rules.specs.TypedParts.{also_all}
-use Rattle.typed_tree.specs.Decoded.{Part as TypedPart, as_expr}
+use Rattle.typed_tree.specs.Decoded.{TypedPart, as_expr}
 use Rattle.name_rules.specs.Judging.{◌>>=◌, fault, given, pure, read}
 use Rattle.name_rules.specs.Attributes.{prefix_of, attribute_found, scalar_bound, dimension_bound, mentioned, prefix_subtype, dimensions_in, bound_in, bound_alone, dimension_at, dimension_given, one_dimension, bound_with, first_named, one_given, two_given, one_named, two_named, one_argument, two_arguments_of, image_text, extreme, step, stepped, scalar_with, object_image, is_bound, is_reduction, reduced_alone, is_array_object, alone, settled_form, settled_attribute}
 use Rattle.name_laws.proofs.Walk.{Walk, Keeps, k-pure, k-some, k-bind, k-fault, k-read, k-if, k-given, k-where_clean}
@@ -117,7 +117,7 @@ k-scalar_with walk names inside here first s attribute'.Succ bracket as' keeps1 
 k-scalar_with walk names inside here first s attribute'.Pred bracket as' keeps1 keeps2 = k-stepped walk names inside here first s op.Sub bracket as' keeps1 keeps2
 k-scalar_with walk names inside here first s a bracket as' keeps1 keeps2 = k-bind walk (scalar_bound first s a) (λ d. given d (λ x. wrong_call names inside here first as')) (k-scalar_bound walk first s a) (λ d. k-given walk d (λ x. wrong_call names inside here first as') (λ x. k-wrong_call walk names inside here first as' keeps1 keeps2))
 
-pub k-object_image : (walk : Walk) (x0 : ℕ) (x1 : Place) (x2 : TypedPart) (x3 : Subtype) → Keeps walk (object_image x0 x1 x2 x3)
+pub k-object_image : (walk : Walk) (x0 : ℕ) (x1 : ObjectName) (x2 : TypedPart) (x3 : Subtype) → Keeps walk (object_image x0 x1 x2 x3)
 k-object_image walk first p x (subtype.Scalar s) = k-one_given walk s.kind (image_text first s.kind) (record { known = known.Object p; part = x })
 k-object_image walk first p x (subtype.Composite n) = k-fault walk first WrongType
 

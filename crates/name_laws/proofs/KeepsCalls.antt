@@ -9,7 +9,7 @@ use Rattle.name_rules.specs.Types.{is_integer, same, wanted_of}
 use Rattle.name_rules.specs.Values.{first_of, is_number, settled_found}
 use Rattle.name_rules.specs.declared.found.Found.TheVariants as known
 use Rattle.name_rules.specs.declared.found.Found.{Found as Known}
-use Rattle.name_rules.specs.declared.found.Place.{Place}
+use Rattle.name_rules.specs.declared.found.ObjectName.{ObjectName}
 use Rattle.name_rules.specs.declared.log.Rule.TheVariants.{Twice, Unknown, WrongType}
 use Rattle.name_rules.specs.declared.log.Taken.{Taken}
 use Rattle.name_rules.specs.declared.scope.Context.{Context}
@@ -28,7 +28,7 @@ use Rattle.typed_tree.specs.declared.program.Mode.{Mode}
 use Rattle.std.specs.List.{list_any, position}
 use Rattle.std.specs.Prelude.{Bool, List, None, Option, Some, [], false, if◌then◌else◌, length, nat_lt, not, true, ℕ, ◌==◌, ◌∷◌}
 use Rattle.name_rules.specs.TypedParts.{selections_of}
-use Rattle.typed_tree.specs.Decoded.{Part as TypedPart}
+use Rattle.typed_tree.specs.Decoded.{TypedPart}
 use Rattle.name_rules.specs.Judging.{◌>>=◌, fault, given, pure, read, some, where_clean}
 use Rattle.name_rules.specs.Calls.{takes_in, gives_in, profile_in, scalar_actual, composite_actual, place_given, variable_form, variable_given, actual_by, actual_for, found_or_unknown, parameter_of, given_once, Calling, taken_at, argument_form, argument, arguments, complete, begun_call, call_given, sub_call, with_operand, operands, arg_names, conversion_of, converted, one_operand, scalar_conversion, conversion}
 use Rattle.name_laws.proofs.Walk.{Walk, Keeps, k-pure, k-some, k-bind, k-fault, k-unless, k-read, k-if, k-given, k-where_clean}
@@ -37,7 +37,7 @@ use Rattle.name_laws.proofs.KeepsExpressions.{k-expr, k-judged_alone, k-value_fo
 use Rattle.name_laws.proofs.KeepsNames.{k-wrong_call}
 use Rattle.name_laws.proofs.KeepsValues.{k-settled_found}
 
-pub k-place_given : (walk : Walk) (x0 : Taken) (x1 : Place) (x2 : Selections) (x3 : Subtype) (x4 : Subtype) → Keeps walk (place_given x0 x1 x2 x3 x4)
+pub k-place_given : (walk : Walk) (x0 : Taken) (x1 : ObjectName) (x2 : Selections) (x3 : Subtype) (x4 : Subtype) → Keeps walk (place_given x0 x1 x2 x3 x4)
 k-place_given walk t p ss (subtype.Scalar s) (subtype.Scalar u) = k-if walk (same s.kind u.kind) (some (scalar_actual t s p ss u)) (fault p.first WrongType) (k-some walk (scalar_actual t s p ss u)) (k-fault walk p.first WrongType)
 k-place_given walk t p ss (subtype.Composite n) (subtype.Composite m) = k-if walk (n == m) (some (composite_actual t p ss n)) (fault p.first WrongType) (k-some walk (composite_actual t p ss n)) (k-fault walk p.first WrongType)
 k-place_given walk t p ss _ _ = k-fault walk p.first WrongType

@@ -26,7 +26,7 @@ use Rattle.syntax_tree.specs.Syntax.{Array, Comp, Decl, Definition, Expr, Ids, I
 use Rattle.typed_tree.specs.Decoded as part
 use Rattle.std.specs.Prelude.{Bool, List, None, Option, Some, [], false, if◌then◌else◌, int_le, is_some, length, nat_le, option_map, true, ℕ, ℤ, ◌&&◌, ◌++◌, ◌∷◌}
 use Rattle.name_rules.specs.TypedParts.{also_all}
-use Rattle.typed_tree.specs.Decoded.{Part as TypedPart}
+use Rattle.typed_tree.specs.Decoded.{TypedPart}
 use Rattle.name_rules.specs.Judging.{◌>>=◌, both, fault, given, joined, pure, read, some, unless}
 use Rattle.name_rules.specs.declared.log.Log.{Log}
 use Rattle.name_laws.proofs.Fitting.{Fits, IsNumber, is_number, fits_constant}

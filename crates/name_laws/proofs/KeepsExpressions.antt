@@ -24,7 +24,7 @@ use Rattle.syntax_tree.specs.declared.operators.Sign.TheVariants as sign
 use Rattle.syntax_tree.specs.declared.operators.Sign.{Sign}
 use Rattle.typed_tree.specs.declared.expressions.Sign.TheVariants as unary'
 use Rattle.std.specs.Prelude.{Bool, None, Option, Some, false, if◌then◌else◌, is_some, true, ℕ}
-use Rattle.typed_tree.specs.Decoded.{Part as TypedPart}
+use Rattle.typed_tree.specs.Decoded.{TypedPart}
 use Rattle.name_rules.specs.Judging.{fault, given, joined, pure}
 use Rattle.name_rules.specs.Expressions.{Inside, factor, multiplying_op, multiplying, multiplied, term_form, term, adding, added, first_wanted, first_term, in_place, simple, blamed, rel, conjoined, joined_rels, short_operand, short_join, short_operands, short_form, expr, condition, value_for, judged_alone}
 use Rattle.name_laws.proofs.Walk.{Walk, Keeps, k-pure, k-some, k-bind, k-fault, k-if, k-given}

@@ -14,7 +14,7 @@ use Rattle.name_rules.specs.declared.found.Denoted.TheVariants as denoted
 use Rattle.name_rules.specs.declared.found.Denoted.{Denoted as KnownDenoted}
 use Rattle.name_rules.specs.declared.found.Folding.{Folding}
 use Rattle.name_rules.specs.declared.found.Found.TheVariants as known
-use Rattle.name_rules.specs.declared.found.Place.{Place}
+use Rattle.name_rules.specs.declared.found.ObjectName.{ObjectName}
 use Rattle.name_rules.specs.declared.log.Rule.TheVariants.{ChunkRule, ReduceRule, Twice, Unknown, WrongType}
 use Rattle.name_rules.specs.declared.scope.Context.{Context}
 use Rattle.name_rules.specs.declared.scope.Names.{Names}
@@ -27,7 +27,7 @@ use Rattle.typed_tree.specs.declared.program.SiteKind.{SiteKind}
 use Rattle.std.specs.Prelude.{Bool, None, Option, Some, is_some, length, not, option_map, ℕ, ◌||◌}
 use Rattle.typed_tree.specs.Decoded as part
 use Rattle.name_rules.specs.TypedParts.{selections_of}
-use Rattle.typed_tree.specs.Decoded.{Part as TypedPart}
+use Rattle.typed_tree.specs.Decoded.{TypedPart}
 use Rattle.name_rules.specs.Judging.{◌>>=◌, Judging, both, breaks, given, pure, unless}
 use Rattle.name_rules.specs.Iterations.{Chunked, counted, chunk_count, chunked_by, Walked, array_walked, no_array, over_place, over_form, over_denoted, walked, with_chunk, with_walked, filter_where, Entered, in_construct, entered_with, parallel_at, entered, is_reduce, reverse_rule, only_reduce_rules, sequence_given, sequence_folded, sequence_rules, sequence}
 use Rattle.name_laws.proofs.Walk.{Walk, Keeps, k-pure, k-some, k-bind, k-breaks, k-unless, k-if, k-given, k-both}
@@ -54,7 +54,7 @@ k-chunked_by walk inner here (syntax.Chunked at index r) keeps1 = record {
       ((k-new_parameter walk).at out1.1);
 }
 
-pub k-over_place : (walk : Walk) (x0 : ℕ) (x1 : ℕ) (x2 : OptionalExpr) (x3 : Place) (x4 : Selections) → Keeps walk (over_place x0 x1 x2 x3 x4)
+pub k-over_place : (walk : Walk) (x0 : ℕ) (x1 : ℕ) (x2 : OptionalExpr) (x3 : ObjectName) (x4 : Selections) → Keeps walk (over_place x0 x1 x2 x3 x4)
 k-over_place walk n token f p ss = (record { at = λ log. (k-if walk (is_array (array_shape log p.subtype)) (pure (array_walked log n token f p ss (array_shape log p.subtype))) ((breaks p.first WrongType >>= λ u. pure (no_array token f))) (k-pure walk (array_walked log n token f p ss (array_shape log p.subtype))) (k-bind walk (breaks p.first WrongType) (λ u. pure (no_array token f)) (k-breaks walk p.first WrongType) (λ u. k-pure walk (no_array token f)))).at log })
 
 pub k-over_form : (walk : Walk) (x0 : ℕ) (x1 : ℕ) (x2 : OptionalExpr) (x3 : KnownDenoted) (x4 : TypedPart) → Keeps walk (over_form x0 x1 x2 x3 x4)

@@ -9,7 +9,7 @@ use Rattle.name_rules.specs.Values.{asked, first_of}
 use Rattle.name_rules.specs.declared.found.Denoted.TheVariants as denoted
 use Rattle.name_rules.specs.declared.found.Denoted.{Denoted as KnownDenoted}
 use Rattle.name_rules.specs.declared.found.Found.TheVariants as known
-use Rattle.name_rules.specs.declared.found.Place.{Place}
+use Rattle.name_rules.specs.declared.found.ObjectName.{ObjectName}
 use Rattle.name_rules.specs.declared.log.Dimension.{Dimension}
 use Rattle.name_rules.specs.declared.log.Field.{Field}
 use Rattle.name_rules.specs.declared.log.Rule.TheVariants.{Unknown, WrongType}
@@ -25,7 +25,7 @@ use Rattle.typed_tree.specs.Decoded as part
 use Rattle.std.specs.Prelude.{List, None, Option, Some, [], drop, length, slice_get, ℕ, ◌+◌, ◌==◌, ◌∷◌}
 use Rattle.typed_tree.specs.Syntax as typed
 use Rattle.name_rules.specs.TypedParts.{also}
-use Rattle.typed_tree.specs.Decoded.{Part as TypedPart}
+use Rattle.typed_tree.specs.Decoded.{TypedPart}
 use Rattle.name_rules.specs.Judging.{fault, given, joined, pure, some}
 use Rattle.name_rules.specs.Names.{denoted_first, part_place, field_from, is_record, is_array, field_in, field_of, field_form, field, is_string, arg_alone, args_alone, wrong_call, count, selected_by, index_in, index_where, unnamed, index, indexes, indexed, component_cells, index_shape, array_call, object_call, field_of_pack, pack_from, as_exception, exception}
 use Rattle.name_laws.proofs.Walk.{Walk, Keeps, k-pure, k-some, k-bind, k-fault, k-if, k-given, k-where_clean}
@@ -34,14 +34,14 @@ use Rattle.name_laws.proofs.KeepsExpressions.{k-expr, k-judged_alone}
 use Rattle.name_laws.proofs.KeepsScope.{k-selected, k-stands_for}
 use Rattle.name_laws.proofs.KeepsValues.{k-asked}
 
-pub k-field_from : (walk : Walk) (x0 : Names) (x1 : Place) (x2 : TypedPart) (x3 : ℕ) (x4 : ℕ) (x5 : List Field) → walk.Takes x0 → Keeps walk (field_from x0 x1 x2 x3 x4 x5)
+pub k-field_from : (walk : Walk) (x0 : Names) (x1 : ObjectName) (x2 : TypedPart) (x3 : ℕ) (x4 : ℕ) (x5 : List Field) → walk.Takes x0 → Keeps walk (field_from x0 x1 x2 x3 x4 x5)
 k-field_from walk names p ss at i [] keeps1 = k-fault walk at Unknown
 k-field_from walk names p ss at i (f ∷ fs) keeps1 = k-if walk (f.symbol == symbol names at) (some (denote (part_place p f.subtype) (also ss (part.ASelection (typed.Field i f.offset))))) (field_from names p ss at (i + 1) fs) (k-some walk (denote (part_place p f.subtype) (also ss (part.ASelection (typed.Field i f.offset))))) (k-field_from walk names p ss at (i + 1) fs keeps1)
 
-pub k-field_in : (walk : Walk) (x0 : Names) (x1 : Place) (x2 : TypedPart) (x3 : ℕ) (x4 : Option Shape) → walk.Takes x0 → Keeps walk (field_in x0 x1 x2 x3 x4)
+pub k-field_in : (walk : Walk) (x0 : Names) (x1 : ObjectName) (x2 : TypedPart) (x3 : ℕ) (x4 : Option Shape) → walk.Takes x0 → Keeps walk (field_in x0 x1 x2 x3 x4)
 k-field_in walk names p ss at t keeps1 = k-if walk (is_record t) (field_from names p ss at 0 (fields_of t)) (fault p.first WrongType) (k-field_from walk names p ss at 0 (fields_of t) keeps1) (k-fault walk p.first WrongType)
 
-pub k-field_of : (walk : Walk) (x0 : Names) (x1 : Place) (x2 : TypedPart) (x3 : ℕ) (x4 : Subtype) → walk.Takes x0 → Keeps walk (field_of x0 x1 x2 x3 x4)
+pub k-field_of : (walk : Walk) (x0 : Names) (x1 : ObjectName) (x2 : TypedPart) (x3 : ℕ) (x4 : Subtype) → walk.Takes x0 → Keeps walk (field_of x0 x1 x2 x3 x4)
 k-field_of walk names p ss at (subtype.Composite n) keeps1 = (record { at = λ log. (k-field_in walk names p ss at (shape_in log n) keeps1).at log })
 k-field_of walk names p ss at (subtype.Scalar s) keeps1 = k-fault walk p.first WrongType
 
@@ -94,17 +94,17 @@ pub k-indexes : (walk : Walk) (x0 : Names) (x1 : Inside) (x2 : Context) (x3 : Li
 k-indexes walk names inside here ds cells made syntax.NoArg keeps1 keeps2 = k-pure walk made
 k-indexes walk names inside here ds cells made (syntax.AlsoArg a as') keeps1 keeps2 = k-bind walk (index names inside here ds cells made a) (λ s. indexes names inside here (drop 1 ds) cells s as') (k-index walk names inside here ds cells made a keeps1 keeps2) (λ s. k-indexes walk names inside here (drop 1 ds) cells s as' keeps1 keeps2)
 
-pub k-indexed : (walk : Walk) (x0 : Place) (x1 : ℕ) (x2 : ℕ) (x3 : ℕ) (x4 : Option Subtype) (x5 : TypedPart) → Keeps walk (indexed x0 x1 x2 x3 x4 x5)
+pub k-indexed : (walk : Walk) (x0 : ObjectName) (x1 : ℕ) (x2 : ℕ) (x3 : ℕ) (x4 : Option Subtype) (x5 : TypedPart) → Keeps walk (indexed x0 x1 x2 x3 x4 x5)
 k-indexed walk p bracket wanted given None ss = k-fault walk p.first WrongType
 k-indexed walk p bracket wanted given (Some c) ss = k-if walk (wanted == given) (some (denote (part_place p c) ss)) (fault bracket WrongType) (k-some walk (denote (part_place p c) ss)) (k-fault walk bracket WrongType)
 
-pub k-index_shape : (walk : Walk) (x0 : Names) (x1 : Inside) (x2 : Context) (x3 : Place) (x4 : TypedPart) (x5 : ℕ) (x6 : Args) (x7 : Option Shape) (x8 : ℕ) → walk.Takes x0 → KeepsInside walk x1 → Keeps walk (index_shape x0 x1 x2 x3 x4 x5 x6 x7 x8)
+pub k-index_shape : (walk : Walk) (x0 : Names) (x1 : Inside) (x2 : Context) (x3 : ObjectName) (x4 : TypedPart) (x5 : ℕ) (x6 : Args) (x7 : Option Shape) (x8 : ℕ) → walk.Takes x0 → KeepsInside walk x1 → Keeps walk (index_shape x0 x1 x2 x3 x4 x5 x6 x7 x8)
 k-index_shape walk names inside here p ss bracket as' t cells keeps1 keeps2 = k-where_clean walk (indexes names inside here (dimensions_of t) cells (Some ss) as') (λ r. given r (indexed p bracket (length (dimensions_of t)) (count as') (component_of t))) (k-indexes walk names inside here (dimensions_of t) cells (Some ss) as' keeps1 keeps2) (λ r. k-given walk r (indexed p bracket (length (dimensions_of t)) (count as') (component_of t)) (λ z1. k-indexed walk p bracket (length (dimensions_of t)) (count as') (component_of t) z1))
 
-pub k-array_call : (walk : Walk) (x0 : Names) (x1 : Inside) (x2 : Context) (x3 : Place) (x4 : TypedPart) (x5 : ℕ) (x6 : Args) (x7 : Option Shape) (x8 : ℕ) → walk.Takes x0 → KeepsInside walk x1 → Keeps walk (array_call x0 x1 x2 x3 x4 x5 x6 x7 x8)
+pub k-array_call : (walk : Walk) (x0 : Names) (x1 : Inside) (x2 : Context) (x3 : ObjectName) (x4 : TypedPart) (x5 : ℕ) (x6 : Args) (x7 : Option Shape) (x8 : ℕ) → walk.Takes x0 → KeepsInside walk x1 → Keeps walk (array_call x0 x1 x2 x3 x4 x5 x6 x7 x8)
 k-array_call walk names inside here p ss bracket as' t cells keeps1 keeps2 = k-if walk (is_array t) (index_shape names inside here p ss bracket as' t cells) (wrong_call names inside here p.first as') (k-index_shape walk names inside here p ss bracket as' t cells keeps1 keeps2) (k-wrong_call walk names inside here p.first as' keeps1 keeps2)
 
-pub k-object_call : (walk : Walk) (x0 : Names) (x1 : Inside) (x2 : Context) (x3 : Place) (x4 : TypedPart) (x5 : ℕ) (x6 : Args) (x7 : Subtype) → walk.Takes x0 → KeepsInside walk x1 → Keeps walk (object_call x0 x1 x2 x3 x4 x5 x6 x7)
+pub k-object_call : (walk : Walk) (x0 : Names) (x1 : Inside) (x2 : Context) (x3 : ObjectName) (x4 : TypedPart) (x5 : ℕ) (x6 : Args) (x7 : Subtype) → walk.Takes x0 → KeepsInside walk x1 → Keeps walk (object_call x0 x1 x2 x3 x4 x5 x6 x7)
 unfolding object_call
 k-object_call walk names inside here p ss bracket as' (subtype.Composite n) keeps1 keeps2 = (record { at = λ log. (k-array_call walk names inside here p ss bracket as' (shape_in log n) (component_cells log (component_of (shape_in log n))) keeps1 keeps2).at log })
 k-object_call walk names inside here p ss bracket as' (subtype.Scalar s) keeps1 keeps2 = k-wrong_call walk names inside here p.first as' keeps1 keeps2

@@ -17,7 +17,7 @@ use Rattle.typed_tree.specs.declared.scalars.Class.TheVariants as class
 use Rattle.ada_base.specs.declared.operation.Comparison.{Comparison}
 use Rattle.std.specs.Prelude.{Bool, None, Option, Some, false, if◌then◌else◌, not, option_map, ℕ, ℤ, ◌&&◌}
 use Rattle.name_rules.specs.TypedParts.{also_all}
-use Rattle.typed_tree.specs.Decoded.{Part as TypedPart, as_expr}
+use Rattle.typed_tree.specs.Decoded.{TypedPart, as_expr}
 use Rattle.name_rules.specs.Judging.{◌>>=◌, both, fault, given, pure, some}
 use Rattle.name_rules.specs.Operators.{static_of, static_universal, both_mentions, static_operation, operation_on, operation_by, typed_operation, open_of, open_binary, universal_by, universal_operation, by_kinds, operand_blamed, operation, binary, open_power, universal_power, static_power, universal_to, power_to, power, signed, static_unary, unary_typed, open_unary, unary_open, unary_by, unary, plain_typed, plain_open, plain_by, plain, negation, not_of, joined_texts, joined_text, logical, compared_at, common_kind, compared_by, compared, member, within_bounds, first_kind, member_of, membership, limit_of, of_subtype}
 use Rattle.name_laws.proofs.Walk.{Walk, Keeps, k-pure, k-some, k-bind, k-fault, k-if, k-given, k-both}

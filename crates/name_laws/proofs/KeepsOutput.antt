@@ -7,7 +7,7 @@ use Rattle.name_rules.specs.Types.{same, typed_scalar}
 use Rattle.name_rules.specs.Values.{asked, first_of, literal, mentions_of, static_of_kind, suits}
 use Rattle.name_rules.specs.declared.found.Found.TheVariants as known
 use Rattle.name_rules.specs.declared.found.Found.{Found as Known}
-use Rattle.name_rules.specs.declared.found.Place.{Place}
+use Rattle.name_rules.specs.declared.found.ObjectName.{ObjectName}
 use Rattle.name_rules.specs.declared.found.Put.TheVariants as put
 use Rattle.name_rules.specs.declared.found.Put.{Put}
 use Rattle.name_rules.specs.declared.found.Reach.{Reach}
@@ -24,7 +24,7 @@ use Rattle.typed_tree.specs.Syntax as typed
 use Rattle.typed_tree.specs.Syntax.{Selections}
 use Rattle.std.specs.Prelude.{Bool, None, Option, Some, false, if◌then◌else◌, int_le, nat_le, not, option_map, pos, true, ℕ, ℤ, ◌&&◌, ◌==◌}
 use Rattle.name_rules.specs.TypedParts.{selections_of}
-use Rattle.typed_tree.specs.Decoded.{Part as TypedPart}
+use Rattle.typed_tree.specs.Decoded.{TypedPart}
 use Rattle.name_rules.specs.Judging.{◌>>=◌, breaks, fault, given, joined, pure, some, unless}
 use Rattle.name_rules.specs.Output.{done_by, no_name, text_only, others_alone, alone_given, put_text, text_call, in_width, width_of, Putting, item_of, width_argument, with_count, put_argument, put_arguments, put_number, width_or, put_complete, is_text, is_number_put, nothing_put, judged_arguments, put_of_text, get_place, get_of, put_by, by_procedure, without_arguments, io_call}
 use Rattle.name_laws.proofs.Walk.{Walk, Keeps, k-pure, k-some, k-bind, k-fault, k-breaks, k-unless, k-if, k-given, k-where_clean}
@@ -94,7 +94,7 @@ k-judged_arguments walk names inside here reach p more x keeps1 keeps2 = k-if wa
 pub k-put_of_text : (walk : Walk) (x0 : ℕ) (x1 : ℕ) (x2 : ℕ) (x3 : Reach) (x4 : Args) (x5 : Found) → Keeps walk (put_of_text x0 x1 x2 x3 x4 x5)
 k-put_of_text walk at first last reach more f = k-if walk (reach.text_io) (text_call at first last false more f) (if reach.expanded then fault (first_of f.known) WrongType else fault first NotVisible) (k-text_call walk at first last false more f) (k-if walk (reach.expanded) (fault (first_of f.known) WrongType) (fault first NotVisible) (k-fault walk (first_of f.known) WrongType) (k-fault walk first NotVisible))
 
-pub k-get_place : (walk : Walk) (x0 : ℕ) (x1 : ℕ) (x2 : Place) (x3 : Selections) (x4 : Subtype) → Keeps walk (get_place x0 x1 x2 x3 x4)
+pub k-get_place : (walk : Walk) (x0 : ℕ) (x1 : ℕ) (x2 : ObjectName) (x3 : Selections) (x4 : Subtype) → Keeps walk (get_place x0 x1 x2 x3 x4)
 k-get_place walk first last p ss (subtype.Scalar s) = k-if walk (p.variable && same s.kind kind.Integer) (some (done_by first (typed.Get first last p.first p.root ss (typed_scalar s)))) (fault p.first WrongType) (k-some walk (done_by first (typed.Get first last p.first p.root ss (typed_scalar s)))) (k-fault walk p.first WrongType)
 k-get_place walk first last p ss (subtype.Composite n) = k-fault walk p.first WrongType
 

@@ -12,7 +12,7 @@ use Rattle.name_rules.specs.declared.found.Attribute.{Attribute}
 use Rattle.name_rules.specs.declared.found.Denoted.TheVariants as denoted
 use Rattle.name_rules.specs.declared.found.Denoted.{Denoted as KnownDenoted}
 use Rattle.name_rules.specs.declared.found.Found.TheVariants as known
-use Rattle.name_rules.specs.declared.found.Place.{Place}
+use Rattle.name_rules.specs.declared.found.ObjectName.{ObjectName}
 use Rattle.name_rules.specs.declared.found.Prefix.TheVariants as prefix
 use Rattle.name_rules.specs.declared.found.Prefix.{Prefix}
 use Rattle.name_rules.specs.declared.log.Rule.TheVariants.{ReduceRule, WrongType}
@@ -21,7 +21,7 @@ use Rattle.name_rules.specs.declared.scope.Names.{Names}
 use Rattle.name_rules.specs.declared.types.Subtype.TheVariants as subtype
 use Rattle.name_rules.specs.declared.types.Wanted.TheVariants as wanted
 use Rattle.syntax_tree.specs.Syntax as syntax
-use Rattle.syntax_tree.specs.Syntax.{Args, Expr, Name, Part, Parts}
+use Rattle.syntax_tree.specs.Syntax.{Args, Expr, Name, NamePart, NameParts}
 use Rattle.typed_tree.specs.Decoded as part
 use Rattle.typed_tree.specs.Syntax as typed
 use Rattle.typed_tree.specs.Syntax.{Selections}
@@ -29,7 +29,7 @@ use Rattle.typed_tree.specs.declared.program.SiteKind.TheVariants as site
 use Rattle.typed_tree.specs.declared.program.SiteKind.{SiteKind}
 use Rattle.std.specs.Prelude.{Bool, None, Option, Some, false, true, ℕ}
 use Rattle.name_rules.specs.TypedParts.{selections_of}
-use Rattle.typed_tree.specs.Decoded.{Part as TypedPart}
+use Rattle.typed_tree.specs.Decoded.{TypedPart}
 use Rattle.name_rules.specs.Judging.{◌>>=◌, fault, given, pure, read}
 use Rattle.name_rules.specs.Parts.{new_parameter, new_site, site_where, array_shape, through, is_parallel, item_found, array_reduction, wrong_arguments, array_reduced, reduced_with, of_array, other_with, attribute_with, call_form, call, part_of, part_alone, next_part, parts, name, valued_form, valued_by, value_form, value_named}
 use Rattle.name_laws.proofs.Walk.{Walk, Keeps, k-pure, k-some, k-bind, k-fault, k-read, k-if, k-given, k-both, k-where_clean}
@@ -52,7 +52,7 @@ pub k-site_where : (walk : Walk) (x0 : Context) (x1 : ℕ) (x2 : Bool) → Keeps
 k-site_where walk here at false = k-pure walk None
 k-site_where walk here at true = k-bind walk (new_site here at site.Reduction) (λ n. pure (Some n)) (k-new_site walk here at site.Reduction) (λ n. k-pure walk (Some n))
 
-pub k-array_reduction : (walk : Walk) (x0 : Names) (x1 : Inside) (x2 : Context) (x3 : Place) (x4 : Selections) (x5 : ℕ) (x6 : Attribute) (x7 : Expr) (x8 : Expr) → walk.Takes x0 → KeepsInside walk x1 → Keeps walk (array_reduction x0 x1 x2 x3 x4 x5 x6 x7 x8)
+pub k-array_reduction : (walk : Walk) (x0 : Names) (x1 : Inside) (x2 : Context) (x3 : ObjectName) (x4 : Selections) (x5 : ℕ) (x6 : Attribute) (x7 : Expr) (x8 : Expr) → walk.Takes x0 → KeepsInside walk x1 → Keeps walk (array_reduction x0 x1 x2 x3 x4 x5 x6 x7 x8)
 k-array_reduction walk names inside here p ss at a r v keeps1 keeps2 = record {
   at = λ log.
       let out1 = site_where here p.first (is_parallel a) log in
@@ -79,7 +79,7 @@ k-array_reduction walk names inside here p ss at a r v keeps1 keeps2 = record {
 pub k-wrong_arguments : (walk : Walk) (x0 : Names) (x1 : Inside) (x2 : Context) (x3 : ℕ) (x4 : Args) → walk.Takes x0 → KeepsInside walk x1 → Keeps walk (wrong_arguments x0 x1 x2 x3 x4)
 k-wrong_arguments walk names inside here bracket as' keeps1 keeps2 = k-where_clean walk (args_alone names inside here as') (λ u. fault bracket WrongType) (k-args_alone walk names inside here as' keeps1 keeps2) (λ u. k-fault walk bracket WrongType)
 
-pub k-array_reduced : (walk : Walk) (x0 : Names) (x1 : Inside) (x2 : Context) (x3 : Place) (x4 : Selections) (x5 : ℕ) (x6 : Attribute) (x7 : ℕ) (x8 : Args) → walk.Takes x0 → KeepsInside walk x1 → Keeps walk (array_reduced x0 x1 x2 x3 x4 x5 x6 x7 x8)
+pub k-array_reduced : (walk : Walk) (x0 : Names) (x1 : Inside) (x2 : Context) (x3 : ObjectName) (x4 : Selections) (x5 : ℕ) (x6 : Attribute) (x7 : ℕ) (x8 : Args) → walk.Takes x0 → KeepsInside walk x1 → Keeps walk (array_reduced x0 x1 x2 x3 x4 x5 x6 x7 x8)
 k-array_reduced walk names inside here p ss at a bracket (syntax.AlsoArg (syntax.arg None r) (syntax.AlsoArg (syntax.arg None v) syntax.NoArg)) keeps1 keeps2 = k-array_reduction walk names inside here p ss at a r v keeps1 keeps2
 k-array_reduced walk names inside here p ss at a bracket as' keeps1 keeps2 = k-wrong_arguments walk names inside here bracket as' keeps1 keeps2
 
@@ -109,22 +109,22 @@ pub k-call : (walk : Walk) (x0 : Names) (x1 : Inside) (x2 : Context) (x3 : ℕ) 
 unfolding call
 k-call walk names inside here bracket as' d keeps1 keeps2 = k-call_form walk names inside here bracket as' d.known d.part keeps1 keeps2
 
-pub k-part_of : (walk : Walk) (x0 : Names) (x1 : Inside) (x2 : Context) (x3 : Part) (x4 : Denoted) → walk.Takes x0 → KeepsInside walk x1 → Keeps walk (part_of x0 x1 x2 x3 x4)
+pub k-part_of : (walk : Walk) (x0 : Names) (x1 : Inside) (x2 : Context) (x3 : NamePart) (x4 : Denoted) → walk.Takes x0 → KeepsInside walk x1 → Keeps walk (part_of x0 x1 x2 x3 x4)
 unfolding part_of
 k-part_of walk names inside here (syntax.Field at) d keeps1 keeps2 = k-bind walk (settled_attribute d) (λ x. given x (field names here at)) (k-settled_attribute walk d) (λ x. k-given walk x (field names here at) (λ z1. k-field walk names here at z1 keeps1))
 k-part_of walk names inside here (syntax.Call bracket a as') d keeps1 keeps2 = k-call walk names inside here bracket (syntax.AlsoArg a as') d keeps1 keeps2
 k-part_of walk names inside here (syntax.Attribute at) d keeps1 keeps2 = k-bind walk (settled_attribute d) (λ x. given x (λ e. attribute_found e at (attribute_at (symbol names at)))) (k-settled_attribute walk d) (λ x. k-given walk x (λ e. attribute_found e at (attribute_at (symbol names at))) (λ e. k-attribute_found walk e at (attribute_at (symbol names at))))
 k-part_of walk names inside here (syntax.RangeAttribute at) d keeps1 keeps2 = k-bind walk (settled_attribute d) (λ x. given x (λ e. attribute_found e at (Some attribute'.Range))) (k-settled_attribute walk d) (λ x. k-given walk x (λ e. attribute_found e at (Some attribute'.Range)) (λ e. k-attribute_found walk e at (Some attribute'.Range)))
 
-pub k-part_alone : (walk : Walk) (x0 : Names) (x1 : Inside) (x2 : Context) (x3 : Part) → walk.Takes x0 → KeepsInside walk x1 → Keeps walk (part_alone x0 x1 x2 x3)
+pub k-part_alone : (walk : Walk) (x0 : Names) (x1 : Inside) (x2 : Context) (x3 : NamePart) → walk.Takes x0 → KeepsInside walk x1 → Keeps walk (part_alone x0 x1 x2 x3)
 k-part_alone walk names inside here (syntax.Call bracket a as') keeps1 keeps2 = k-bind walk (args_alone names inside here (syntax.AlsoArg a as')) (λ u. pure None) (k-args_alone walk names inside here (syntax.AlsoArg a as') keeps1 keeps2) (λ u. k-pure walk None)
 k-part_alone walk names inside here _ keeps1 keeps2 = k-pure walk None
 
-pub k-next_part : (walk : Walk) (x0 : Names) (x1 : Inside) (x2 : Context) (x3 : Option Denoted) (x4 : Part) → walk.Takes x0 → KeepsInside walk x1 → Keeps walk (next_part x0 x1 x2 x3 x4)
+pub k-next_part : (walk : Walk) (x0 : Names) (x1 : Inside) (x2 : Context) (x3 : Option Denoted) (x4 : NamePart) → walk.Takes x0 → KeepsInside walk x1 → Keeps walk (next_part x0 x1 x2 x3 x4)
 k-next_part walk names inside here None p keeps1 keeps2 = k-part_alone walk names inside here p keeps1 keeps2
 k-next_part walk names inside here (Some d) p keeps1 keeps2 = k-part_of walk names inside here p d keeps1 keeps2
 
-pub k-parts : (walk : Walk) (x0 : Names) (x1 : Inside) (x2 : Context) (x3 : Option Denoted) (x4 : Parts) → walk.Takes x0 → KeepsInside walk x1 → Keeps walk (parts x0 x1 x2 x3 x4)
+pub k-parts : (walk : Walk) (x0 : Names) (x1 : Inside) (x2 : Context) (x3 : Option Denoted) (x4 : NameParts) → walk.Takes x0 → KeepsInside walk x1 → Keeps walk (parts x0 x1 x2 x3 x4)
 k-parts walk names inside here d syntax.NoPart keeps1 keeps2 = k-pure walk d
 k-parts walk names inside here d (syntax.AlsoPart p ps) keeps1 keeps2 = k-bind walk (next_part names inside here d p) (λ e. parts names inside here e ps) (k-next_part walk names inside here d p keeps1 keeps2) (λ e. k-parts walk names inside here e ps keeps1 keeps2)
 

@@ -25,7 +25,7 @@ use Rattle.typed_tree.specs.Decoded as part
 use Rattle.typed_tree.specs.Syntax as typed
 use Rattle.std.specs.Prelude.{List, None, Option, Some, [], false, option_map, suc, true, zero, ℕ, ℤ, ◌∷◌}
 use Rattle.name_rules.specs.TypedParts.{left_of, right_of, also}
-use Rattle.typed_tree.specs.Decoded.{Part as TypedPart, as_expr}
+use Rattle.typed_tree.specs.Decoded.{TypedPart, as_expr}
 use Rattle.name_rules.specs.Judging.{given, joined, pure, some}
 use Rattle.name_rules.specs.Primaries.{composite_in, Waiting, alternative, alternatives, common, common_composite, if_part, with_known, scalar_ifs, scalar_if, composite_part, composite_ifs, composite_if, open_ifs, open_if, conditional, no_text, if_expr, grouped_scalar, grouped_by, grouped_form, grouped, target_found, target_at, text_at, primary, level_above, too_deep, inside}
 use Rattle.name_laws.proofs.Walk.{Walk, Keeps, k-pure, k-some, k-bind, k-fault, k-given, k-both}

@@ -19,7 +19,7 @@ use Rattle.syntax_tree.specs.Syntax as syntax
 use Rattle.syntax_tree.specs.Syntax.{Range, Simple}
 use Rattle.typed_tree.specs.Decoded as part
 use Rattle.std.specs.Prelude.{Bool, None, Option, Some, if◌then◌else◌, int_le, not, option_map, ℕ, ℤ, ◌&&◌}
-use Rattle.typed_tree.specs.Decoded.{Part as TypedPart}
+use Rattle.typed_tree.specs.Decoded.{TypedPart}
 use Rattle.name_rules.specs.Judging.{◌>>=◌, Judging, both, fault, given, pure, some}
 use Rattle.name_rules.specs.Ranges.{two_bounds, bounds_of, of_one_type, bounded_by, own_range, own_bounds, checked_range, whole_range, named_range, scalar_type, range, both_static, dimension, of_static, spanned, inside_subtype, checked_span, preferred, static_by, static_bounds, static_scalar, static_name, static_checked, static_range, one_value, two_values, values_of, range_values, chosen_value, chosen_span}
 use Rattle.name_laws.proofs.Walk.{Walk, Keeps, k-pure, k-some, k-bind, k-fault, k-unless, k-if, k-given, k-both}

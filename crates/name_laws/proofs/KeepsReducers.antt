@@ -25,11 +25,11 @@ use Rattle.name_rules.specs.declared.types.Scalar.{Scalar}
 use Rattle.name_rules.specs.declared.types.Subtype.TheVariants as subtype
 use Rattle.name_rules.specs.declared.types.Subtype.{Subtype}
 use Rattle.syntax_tree.specs.Syntax as syntax
-use Rattle.syntax_tree.specs.Syntax.{Expr, Parts, Primary}
+use Rattle.syntax_tree.specs.Syntax.{Expr, NameParts, Primary}
 use Rattle.typed_tree.specs.declared.expressions.Reducer.TheVariants as reducer'
 use Rattle.typed_tree.specs.declared.expressions.Reducer.{Reducer}
 use Rattle.std.specs.Prelude.{List, None, Option, Some, [], if◌then◌else◌, is_some, not, ℕ, ◌&&◌, ◌||◌, ◌∷◌}
-use Rattle.typed_tree.specs.Decoded.{Part as TypedPart}
+use Rattle.typed_tree.specs.Decoded.{TypedPart}
 use Rattle.name_rules.specs.Judging.{fault, given, joined, read, some}
 use Rattle.name_rules.specs.Reducers.{operators, operator_named, operator_reducer, extreme_of, function_given, function_of, no_reducer, extreme_name, attribute_reducer, name_reducer, reducer_by, reducer_of, reduction, reduced, open_reduction, is_logical, of_kind, numeric, by_operator, by_subtypes, by_function, folded_by}
 use Rattle.name_laws.proofs.Walk.{Walk, Keeps, k-pure, k-some, k-bind, k-fault, k-read, k-if, k-given, k-both, k-where_clean}
@@ -61,7 +61,7 @@ pub k-attribute_reducer : (walk : Walk) (x0 : Names) (x1 : Inside) (x2 : Context
 k-attribute_reducer walk names inside here e first None keeps1 keeps2 = k-no_reducer walk names inside here e keeps1 keeps2
 k-attribute_reducer walk names inside here e first (Some o) keeps1 keeps2 = k-bind walk (stands_for names here first) (λ d. given d (λ x. extreme_of first o x.known)) (k-stands_for walk names here first keeps1) (λ d. k-given walk d (λ x. extreme_of first o x.known) (λ x. k-extreme_of walk first o x.known))
 
-pub k-name_reducer : (walk : Walk) (x0 : Names) (x1 : Inside) (x2 : Context) (x3 : Expr) (x4 : ℕ) (x5 : Parts) → walk.Takes x0 → KeepsInside walk x1 → Keeps walk (name_reducer x0 x1 x2 x3 x4 x5)
+pub k-name_reducer : (walk : Walk) (x0 : Names) (x1 : Inside) (x2 : Context) (x3 : Expr) (x4 : ℕ) (x5 : NameParts) → walk.Takes x0 → KeepsInside walk x1 → Keeps walk (name_reducer x0 x1 x2 x3 x4 x5)
 k-name_reducer walk names inside here e first syntax.NoPart keeps1 keeps2 = k-bind walk (stands_for names here first) (λ d. given d (λ x. function_of first x.known)) (k-stands_for walk names here first keeps1) (λ d. k-given walk d (λ x. function_of first x.known) (λ x. k-function_of walk first x.known))
 k-name_reducer walk names inside here e first (syntax.AlsoPart (syntax.Attribute at) syntax.NoPart) keeps1 keeps2 = k-attribute_reducer walk names inside here e first (extreme_name names at) keeps1 keeps2
 k-name_reducer walk names inside here e first ps keeps1 keeps2 = k-no_reducer walk names inside here e keeps1 keeps2

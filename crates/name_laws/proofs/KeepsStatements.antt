@@ -15,7 +15,7 @@ use Rattle.name_rules.specs.Values.{first_of, is_scalar, settled_found, stored}
 use Rattle.name_rules.specs.declared.found.Denoted.TheVariants as denoted
 use Rattle.name_rules.specs.declared.found.Denoted.{Denoted as KnownDenoted}
 use Rattle.name_rules.specs.declared.found.Found.TheVariants as known
-use Rattle.name_rules.specs.declared.found.Place.{Place}
+use Rattle.name_rules.specs.declared.found.ObjectName.{ObjectName}
 use Rattle.name_rules.specs.Limits.{most_arms}
 use Rattle.name_rules.specs.declared.log.Bound.TheVariants as bound
 use Rattle.name_rules.specs.declared.log.Rule.TheVariants.{ChunkRule, Limit, NotVisible, WrongEnd, WrongType}
@@ -37,7 +37,7 @@ use Rattle.typed_tree.specs.Syntax.{Selections}
 use Rattle.typed_tree.specs.declared.program.SiteKind.TheVariants as site
 use Rattle.std.specs.Prelude.{Bool, List, None, Option, Some, [], false, length, nat_le, not, option_map, suc, true, zero, ℕ, ◌-◌, ◌==◌, ◌∷◌}
 use Rattle.name_rules.specs.TypedParts.{selections_of}
-use Rattle.typed_tree.specs.Decoded.{Part as TypedPart}
+use Rattle.typed_tree.specs.Decoded.{TypedPart}
 use Rattle.typed_tree.specs.Latest.{turned}
 use Rattle.name_rules.specs.Judging.{◌>>=◌, clean, fault, given, joined, pure, some}
 use Rattle.name_rules.specs.Statements.{Around, with_stmt, no_stmts, stmts_from, stmts, with_target, assigned, stored_place, assigned_place, assign_place, assigned_alone, assign_other, assign_form, assign_to, assign, as_statement, call_stmt, condition_where, innermost, loop_named, loop_or, exited, exit_from, returned, value_at, value_of_nothing, return_value, return_alone, return_from, raised, raise_from, with_elsif_if, elsifs, otherwise_where, if_stmt_part, if_stmt_made, if_stmt, is_last, no_choosing, alternative, alts, selecting, Selector, selector_of, selector, closed_where, selector_kind, case_stmt, loop_ends, new_loop, in_loop, backwards_rule, for_part, parallel_part, for_made, loop_entered, for_loop, loop_part, optional_parallel, loop_with, loop_by, loop_stmt, in_handler_of, is_last_handler, handler, handlers, body_part, block_part, body_made, body, no_decls, block_decls, block_of, block, arm_limit, count_where, with_arm, branches, branch_count, in_threads, parallel, stmt_form, around, stmt}
@@ -60,13 +60,13 @@ pub k-stmts : (walk : Walk) (x0 : Around) (x1 : Context) (x2 : Stmts) → KeepsA
 unfolding stmts
 k-stmts walk a here (syntax.stmts s ss) keeps1 = k-bind walk (stmts_from a here (Some no_stmts) (syntax.AlsoStmt s ss)) (λ x. pure (option_map turned x)) (k-stmts_from walk a here (Some no_stmts) (syntax.AlsoStmt s ss) keeps1) (λ x. k-pure walk (option_map turned x))
 
-pub k-stored_place : (walk : Walk) (x0 : Place) (x1 : Selections) (x2 : ℕ) (x3 : Found) → Keeps walk (stored_place x0 x1 x2 x3)
+pub k-stored_place : (walk : Walk) (x0 : ObjectName) (x1 : Selections) (x2 : ℕ) (x3 : Found) → Keeps walk (stored_place x0 x1 x2 x3)
 k-stored_place walk p ss at f = k-bind walk (stored p.subtype at f) (λ v. pure (option_map (assigned p ss) v)) (k-stored walk p.subtype at f) (λ v. k-pure walk (option_map (assigned p ss) v))
 
-pub k-assigned_place : (walk : Walk) (x0 : Place) (x1 : Selections) (x2 : ℕ) (x3 : Option Found) → Keeps walk (assigned_place x0 x1 x2 x3)
+pub k-assigned_place : (walk : Walk) (x0 : ObjectName) (x1 : Selections) (x2 : ℕ) (x3 : Option Found) → Keeps walk (assigned_place x0 x1 x2 x3)
 k-assigned_place walk p ss at x = k-if walk (not p.variable) (fault p.first WrongType) (given x (stored_place p ss at)) (k-fault walk p.first WrongType) (k-given walk x (stored_place p ss at) (λ z1. k-stored_place walk p ss at z1))
 
-pub k-assign_place : (walk : Walk) (x0 : Names) (x1 : Inside) (x2 : Context) (x3 : Place) (x4 : Selections) (x5 : Expr) → walk.Takes x0 → KeepsInside walk x1 → Keeps walk (assign_place x0 x1 x2 x3 x4 x5)
+pub k-assign_place : (walk : Walk) (x0 : Names) (x1 : Inside) (x2 : Context) (x3 : ObjectName) (x4 : Selections) (x5 : Expr) → walk.Takes x0 → KeepsInside walk x1 → Keeps walk (assign_place x0 x1 x2 x3 x4 x5)
 unfolding assign_place
 k-assign_place walk names level here p ss e keeps1 keeps2 = k-where_clean walk (expr names level (with_target here (target.Of p.subtype)) (wanted_of p.subtype) e) (assigned_place p ss (first_token.of_expr e - 1)) (k-expr walk names level (with_target here (target.Of p.subtype)) (wanted_of p.subtype) e keeps1 keeps2) (λ z1. k-assigned_place walk p ss (first_token.of_expr e - 1) z1)
 

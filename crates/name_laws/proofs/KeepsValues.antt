@@ -4,7 +4,7 @@ use Rattle.name_rules.specs.Types.{check_at, class_of, in_base, is_integer, same
 use Rattle.name_rules.specs.declared.found.Found.TheVariants as known
 use Rattle.name_rules.specs.declared.found.Found.{Found as Known}
 use Rattle.name_rules.specs.declared.found.Limits.{Limits}
-use Rattle.name_rules.specs.declared.found.Place.{Place}
+use Rattle.name_rules.specs.declared.found.ObjectName.{ObjectName}
 use Rattle.name_rules.specs.declared.log.Rule.TheVariants.{NotStatic, StaticRange, WrongType}
 use Rattle.name_rules.specs.declared.types.Kind.{Kind}
 use Rattle.name_rules.specs.declared.types.Subtype.TheVariants as subtype
@@ -15,7 +15,7 @@ use Rattle.typed_tree.specs.Syntax.{Composite, Selections, Expr as TypedExpr}
 use Rattle.typed_tree.specs.Classes.{with_class}
 use Rattle.std.specs.Prelude.{Bool, None, Option, Some, false, ℕ, ℤ, ◌==◌}
 use Rattle.name_rules.specs.TypedParts.{selections_of}
-use Rattle.typed_tree.specs.Decoded.{Part as TypedPart, as_expr}
+use Rattle.typed_tree.specs.Decoded.{TypedPart, as_expr}
 use Rattle.name_rules.specs.Judging.{fault, given, pure, some, unless}
 use Rattle.name_rules.specs.Values.{first_of, value_of, is_number, is_scalar, literal, valued, fitting, beyond, settled_by, settled, object_value, place_asked, asked_form, asked, own_kind, settled_found, any_integer, any_scalar, static_value, static_of_kind, static_integer, whole_object, whole_of, composite_form, composite_asked, stored}
 use Rattle.name_laws.proofs.Walk.{Walk, Keeps, k-pure, k-some, k-bind, k-fault, k-unless, k-if, k-given}
@@ -36,7 +36,7 @@ pub k-settled : (walk : Walk) (x0 : Kind) (x1 : Limits) (x2 : TypedExpr) → Kee
 unfolding settled
 k-settled walk k l e = k-settled_by walk k e (beyond k l)
 
-pub k-place_asked : (walk : Walk) (x0 : Kind) (x1 : Place) (x2 : Selections) (x3 : Subtype) → Keeps walk (place_asked x0 x1 x2 x3)
+pub k-place_asked : (walk : Walk) (x0 : Kind) (x1 : ObjectName) (x2 : Selections) (x3 : Subtype) → Keeps walk (place_asked x0 x1 x2 x3)
 k-place_asked walk k p ss (subtype.Scalar s) = k-if walk (same s.kind k) (some (object_value p ss s p.value)) (fault p.first WrongType) (k-some walk (object_value p ss s p.value)) (k-fault walk p.first WrongType)
 k-place_asked walk k p ss (subtype.Composite n) = k-fault walk p.first WrongType
 
@@ -76,7 +76,7 @@ pub k-static_integer : (walk : Walk) (x0 : Known) → Keeps walk (static_integer
 unfolding static_integer
 k-static_integer walk f = k-if walk (is_number f) (static_value (first_of f) (value_of f)) (fault (first_of f) WrongType) (k-static_value walk (first_of f) (value_of f)) (k-fault walk (first_of f) WrongType)
 
-pub k-whole_of : (walk : Walk) (x0 : ℕ) (x1 : Place) (x2 : Selections) (x3 : Subtype) → Keeps walk (whole_of x0 x1 x2 x3)
+pub k-whole_of : (walk : Walk) (x0 : ℕ) (x1 : ObjectName) (x2 : Selections) (x3 : Subtype) → Keeps walk (whole_of x0 x1 x2 x3)
 k-whole_of walk n p ss (subtype.Scalar s) = k-fault walk p.first WrongType
 k-whole_of walk n p ss (subtype.Composite m) = k-if walk (n == m) (some (part.AComposite (whole_object p ss m p.variable))) (fault p.first WrongType) (k-some walk (part.AComposite (whole_object p ss m p.variable))) (k-fault walk p.first WrongType)
 

@@ -3,7 +3,7 @@ use Rattle.std.proofs.Common.{◌≡◌, ℕ, ◌+◌, nat_eq, nat_le, nat_lt, L
 use Rattle.std.specs.Prelude.{not, option_map, ◌||◌}
 use Rattle.syntax_tree.specs.Syntax as syntax
 use Rattle.syntax_tree.specs.Syntax.{Main, Program, Unit'}
-use Rattle.typed_tree.specs.Decoded.{Part}
+use Rattle.typed_tree.specs.Decoded.{TypedPart}
 use Rattle.typed_tree.specs.Layout.{LieFrom, after, first_cell}
 use Rattle.typed_tree.specs.Syntax as typed
 use Rattle.typed_tree.specs.Syntax.{Sub as TypedSub}
@@ -117,7 +117,7 @@ subs_of : Option p.Whole → List TypedSub
 subs_of None = []
 subs_of (Some w) = w.subs
 
-whole-subs : (z s : Bool) (x : Option Part) (ss : Option (List TypedSub)) (k : ℕ) (w : p.Whole) → HasLength ss k → joined (p.whole z s) x ss ≡ Some w → length w.subs ≡ k
+whole-subs : (z s : Bool) (x : Option TypedPart) (ss : Option (List TypedSub)) (k : ℕ) (w : p.Whole) → HasLength ss k → joined (p.whole z s) x ss ≡ Some w → length w.subs ≡ k
 unfolding HasLength subs_of
 whole-subs z s (Some x) (Some ss) k w h e = ap (λ o. length (subs_of o)) (sym e) ∙ h
 whole-subs z s (Some x) None k w h e = absurd cc

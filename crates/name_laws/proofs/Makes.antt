@@ -1,6 +1,6 @@
 -- Judging that finds what is as is asked, where the bounds of the array types of the table are in their base ranges.
 use Rattle.std.proofs.Common.{◌≡◌, refl, ℕ, Option, Some, None, Bool, true, false, if◌then◌else◌, option_map}
-use Rattle.typed_tree.specs.Decoded.{Part, Nothing, Cons, LeafCons}
+use Rattle.typed_tree.specs.Decoded.{TypedPart, Nothing, Cons, LeafCons}
 use Rattle.typed_tree.specs.Latest.{onto, turned}
 use Rattle.name_rules.specs.Judging.{Judging, ◌>>=◌, both, breaks, clean, fault, given, joined, pure, read, some, unless, where_clean}
 use Rattle.name_rules.specs.TypedParts.{also_all}
@@ -82,20 +82,20 @@ m-where_clean Q R p f m n =
 
 -- ---- lists that grow: each item is as is asked
 
-abbrev pub Each : (Part → Type 0) → Part → Type 0
+abbrev pub Each : (TypedPart → Type 0) → TypedPart → Type 0
 Each Q (Cons p q) = Q p × Each Q q
 Each Q (LeafCons l q) = Each Q q
 Each Q p = Unit {0}
 
-pub each-onto : (Q : Part → Type 0) (p rest : Part) → Each Q p → Each Q rest → Each Q (onto p rest)
+pub each-onto : (Q : TypedPart → Type 0) (p rest : TypedPart) → Each Q p → Each Q rest → Each Q (onto p rest)
 each-onto Q (Cons p q) rest h k = each-onto Q q (Cons p rest) h.1 (h.0, k)
 each-onto Q (LeafCons l q) rest h k = each-onto Q q (LeafCons l rest) h k
 each-onto Q p rest h k = k
 
-pub each-turned : (Q : Part → Type 0) (p : Part) → Each Q p → Each Q (turned p)
+pub each-turned : (Q : TypedPart → Type 0) (p : TypedPart) → Each Q p → Each Q (turned p)
 unfolding turned
 each-turned Q p h = each-onto Q p Nothing h tt
 
-pub each-all : (Q : Part → Type 0) (done more : Part) → Each Q done → Each Q more → Each Q (also_all done more)
+pub each-all : (Q : TypedPart → Type 0) (done more : TypedPart) → Each Q done → Each Q more → Each Q (also_all done more)
 unfolding also_all
 each-all Q done more h k = each-onto Q (turned more) done (each-turned Q more k) h

@@ -5,7 +5,7 @@ use Rattle.syntax_tree.specs.FirstTokens as first_token
 use Rattle.syntax_tree.specs.Syntax as syntax
 use Rattle.syntax_tree.specs.Syntax.{Assoc, Assocs, Expr, Exprs, OptionalExpr}
 use Rattle.typed_tree.specs.Decoded as part
-use Rattle.typed_tree.specs.Decoded.{Part, as_association, as_associations}
+use Rattle.typed_tree.specs.Decoded.{TypedPart, as_association, as_associations}
 use Rattle.typed_tree.specs.Latest.{turned}
 use Rattle.typed_tree.specs.Syntax.{Associations}
 use Rattle.typed_tree.specs.declared.expressions.Iterated.{Iterated}
@@ -47,39 +47,39 @@ use Rattle.name_laws.specs.Classes.{AssociationsFit}
 
 -- ---- associations
 
-abbrev IsAssociation : Part → Type 0
+abbrev IsAssociation : TypedPart → Type 0
 IsAssociation p = (as' : Associations) → AssociationsFit as' → AssociationsFit (as_association p as')
 
-abbrev AssociationsOf : Part → Type 0
+abbrev AssociationsOf : TypedPart → Type 0
 AssociationsOf x = Each IsAssociation x
 
-associations-list : (x : Part) → AssociationsOf x → AssociationsFit (as_associations x)
+associations-list : (x : TypedPart) → AssociationsOf x → AssociationsFit (as_associations x)
 associations-list (part.Cons p q) h = h.0 (as_associations q) (associations-list q h.1)
 associations-list x h = tt
 
-aggregate-part : (bracket cells : ℕ) (made : Part) → AssociationsOf made → CompositeOf (aggregate_part bracket cells made)
+aggregate-part : (bracket cells : ℕ) (made : TypedPart) → AssociationsOf made → CompositeOf (aggregate_part bracket cells made)
 aggregate-part bracket cells made h = associations-list (turned made) (each-turned IsAssociation made h)
 
-some-aggregate : (bracket cells : ℕ) (made : Option Part) → Maybe AssociationsOf made → Maybe CompositeOf (option_map (aggregate_part bracket cells) made)
+some-aggregate : (bracket cells : ℕ) (made : Option TypedPart) → Maybe AssociationsOf made → Maybe CompositeOf (option_map (aggregate_part bracket cells) made)
 some-aggregate bracket cells made h = mapped AssociationsOf CompositeOf (aggregate_part bracket cells) made h (aggregate-part bracket cells)
 
-with-value : (rs : List Run) (i : Option Iterated) (ms made v : Part) → AssociationsOf made → ValueOf v → AssociationsOf (with_value rs i ms made v)
+with-value : (rs : List Run) (i : Option Iterated) (ms made v : TypedPart) → AssociationsOf made → ValueOf v → AssociationsOf (with_value rs i ms made v)
 with-value rs i ms made v g h = ((λ as' r. (h, r)), g)
 
 -- ---- records
 
-m-field_value : (names : Names) (level : Inside) (here : Context) (made : Option Part) (f : Field) (e : Expr) → LevelFits level → AreBased here.scope → Maybe AssociationsOf made → Makes (Maybe AssociationsOf) (field_value names level here made f e)
+m-field_value : (names : Names) (level : Inside) (here : Context) (made : Option TypedPart) (f : Field) (e : Expr) → LevelFits level → AreBased here.scope → Maybe AssociationsOf made → Makes (Maybe AssociationsOf) (field_value names level here made f e)
 unfolding field_value
 m-field_value names level here made f e l r g =
     m-bind (Maybe ValueOf) (Maybe AssociationsOf) (value_for names level here f.subtype e) _ (m-value_for names level here f.subtype e l r) (λ v q.
     m-bind Any (Maybe AssociationsOf) (read (λ log. field_run log f)) _ (m-read Any (λ log. field_run log f) (λ log h. tt)) (λ x s.
     m-pure (Maybe AssociationsOf) (joined (with_value (x ∷ []) None part.Nothing) made v) (joint AssociationsOf ValueOf AssociationsOf (with_value (x ∷ []) None part.Nothing) made v g q (with-value (x ∷ []) None part.Nothing))))
 
-m-fields_value : (names : Names) (level : Inside) (here : Context) (made : Option Part) (fs : List Field) (e : Expr) → LevelFits level → AreBased here.scope → Maybe AssociationsOf made → Makes (Maybe AssociationsOf) (fields_value names level here made fs e)
+m-fields_value : (names : Names) (level : Inside) (here : Context) (made : Option TypedPart) (fs : List Field) (e : Expr) → LevelFits level → AreBased here.scope → Maybe AssociationsOf made → Makes (Maybe AssociationsOf) (fields_value names level here made fs e)
 m-fields_value names level here made [] e l r g = m-pure (Maybe AssociationsOf) made g
 m-fields_value names level here made (f ∷ fs) e l r g = m-bind (Maybe AssociationsOf) (Maybe AssociationsOf) (field_value names level here made f e) _ (m-field_value names level here made f e l r g) (λ a q. m-fields_value names level here a fs e l r q)
 
-m-some_fields : (names : Names) (level : Inside) (here : Context) (made : Option Part) (fs : List Field) (e : Expr) → LevelFits level → AreBased here.scope → Maybe AssociationsOf made → Makes (Maybe AssociationsOf) (some_fields names level here made fs e)
+m-some_fields : (names : Names) (level : Inside) (here : Context) (made : Option TypedPart) (fs : List Field) (e : Expr) → LevelFits level → AreBased here.scope → Maybe AssociationsOf made → Makes (Maybe AssociationsOf) (some_fields names level here made fs e)
 m-some_fields names level here made [] e l r g = m-bind Any (Maybe AssociationsOf) (judged_alone names level here e) _ (m-judged_alone names level here e l r) (λ u q. m-pure (Maybe AssociationsOf) made g)
 m-some_fields names level here made (f ∷ fs) e l r g = m-fields_value names level here made (f ∷ fs) e l r g
 
@@ -118,25 +118,25 @@ m-filled bracket cells f g = m-if (Maybe CompositeOf) (f.over || not (length f.l
 
 -- ---- arrays
 
-abbrev RestOf : Option (Option Part) → Type 0
+abbrev RestOf : Option (Option TypedPart) → Type 0
 RestOf None = Unit {0}
 RestOf (Some v) = Maybe ValueOf v
 
 abbrev PlacingOf : Placing → Type 0
 PlacingOf p = Maybe AssociationsOf p.done × RestOf p.rest
 
-with-runs : (i : Option Iterated) (ms : Part) (rs : Option (List Run)) (before v : Option Part) → Maybe AssociationsOf before → Maybe ValueOf v → Maybe AssociationsOf (with_runs i ms rs before v)
+with-runs : (i : Option Iterated) (ms : TypedPart) (rs : Option (List Run)) (before v : Option TypedPart) → Maybe AssociationsOf before → Maybe ValueOf v → Maybe AssociationsOf (with_runs i ms rs before v)
 with-runs i ms None before v g h = tt
 with-runs i ms (Some rs) before v g h = joint AssociationsOf ValueOf AssociationsOf (with_value rs i ms) before v g h (with-value rs i ms)
 
-with-ranges : (d : Dimension) (apart : ℕ) (i : Option Iterated) (ms : Part) (p : Placing) (rs : List (ℤ × ℤ)) (v : Option Part) → PlacingOf p → Maybe ValueOf v → PlacingOf (with_ranges d apart i ms p rs v)
+with-ranges : (d : Dimension) (apart : ℕ) (i : Option Iterated) (ms : TypedPart) (p : Placing) (rs : List (ℤ × ℤ)) (v : Option TypedPart) → PlacingOf p → Maybe ValueOf v → PlacingOf (with_ranges d apart i ms p rs v)
 with-ranges d apart i ms p rs v g h = (with-runs i ms (runs_of d apart rs) p.done v g.0 h, g.1)
 
-iterated-given : (d : Dimension) (apart n : ℕ) (p : Placing) (s : Option Static) (v : Option Part) → PlacingOf p → Maybe ValueOf v → PlacingOf (iterated_given d apart n p s v)
+iterated-given : (d : Dimension) (apart n : ℕ) (p : Placing) (s : Option Static) (v : Option TypedPart) → PlacingOf p → Maybe ValueOf v → PlacingOf (iterated_given d apart n p s v)
 iterated-given d apart n p None v g h = (tt, g.1)
 iterated-given d apart n p (Some r) v g h = with-ranges d apart (Some (record { parameter = n; first = r.known.low })) r.part p ((r.known.low, r.known.high) ∷ []) v g h
 
-chosen-given : (d : Dimension) (apart : ℕ) (p : Placing) (c : Option Choosing') (v : Option Part) → PlacingOf p → Maybe ValueOf v → PlacingOf (chosen_given d apart p c v)
+chosen-given : (d : Dimension) (apart : ℕ) (p : Placing) (c : Option Choosing') (v : Option TypedPart) → PlacingOf p → Maybe ValueOf v → PlacingOf (chosen_given d apart p c v)
 chosen-given d apart p None v g h = (tt, g.1)
 chosen-given d apart p (Some c) v g h = by c.rest
   where
@@ -189,11 +189,11 @@ m-array_placed names level here component d apart (ByPosition es o) l r fits =
     m-bind PlacingOf PlacingOf (array_values here component d apart d.low nothing_placed es) (array_rest here component o) (m-array_values here component d apart d.low nothing_placed es r fits (tt, tt)) (λ p q. m-array_rest here component o p r fits q)
 m-array_placed names level here component d apart (ByAssociation as') l r fits = m-array_assocs names level here component d apart nothing_placed as' l r fits (tt, tt)
 
-m-covered_alone : (bracket cells : ℕ) (made : Option Part) (os : List (ℤ × ℤ)) → Maybe AssociationsOf made → Makes (Maybe CompositeOf) (covered_alone bracket cells made os)
+m-covered_alone : (bracket cells : ℕ) (made : Option TypedPart) (os : List (ℤ × ℤ)) → Maybe AssociationsOf made → Makes (Maybe CompositeOf) (covered_alone bracket cells made os)
 m-covered_alone bracket cells made os g =
     m-if (Maybe CompositeOf) (length os == 0) _ (fault bracket StaticRange) (m-pure (Maybe CompositeOf) (option_map (aggregate_part bracket cells) made) (some-aggregate bracket cells made g)) (m-fault CompositeOf bracket StaticRange)
 
-m-covered : (bracket : ℕ) (d : Dimension) (apart cells : ℕ) (p : Placing) (os : Option (List (ℤ × ℤ))) (v : Option (Option Part)) → PlacingOf p → RestOf v → Makes (Maybe CompositeOf) (covered bracket d apart cells p os v)
+m-covered : (bracket : ℕ) (d : Dimension) (apart cells : ℕ) (p : Placing) (os : Option (List (ℤ × ℤ))) (v : Option (Option TypedPart)) → PlacingOf p → RestOf v → Makes (Maybe CompositeOf) (covered bracket d apart cells p os v)
 m-covered bracket d apart cells p None v g h = m-fault CompositeOf bracket StaticRange
 m-covered bracket d apart cells p (Some os) None g h = m-covered_alone bracket cells p.done os g.0
 m-covered bracket d apart cells p (Some os) (Some v) g h =
@@ -210,7 +210,7 @@ m-no_aggregate : (names : Names) (level : Inside) (here : Context) (e : Expr) �
 m-no_aggregate names level here e l r =
     m-bind Finding (Maybe ValueOf) (expr names level here wanted.Other e) _ (m-expr names level here wanted.Other e l r) (λ x q. m-given FoundOf ValueOf x _ q (λ f s. m-fault ValueOf (first_token.of_expr e) WrongType))
 
-inner-value : (f : Known) (x : Part) → KnownOf f x → Maybe ValueOf (inner_value f x)
+inner-value : (f : Known) (x : TypedPart) → KnownOf f x → Maybe ValueOf (inner_value f x)
 inner-value (known.Rest first) x h = h
 inner-value f x h = tt
 
@@ -240,7 +240,7 @@ m-composite_at names level here bracket n i log t ps l r =
 
 -- ---- aggregates
 
-m-composite_found : (names : Names) (level : Inside) (here : Context) (bracket n i : ℕ) (log : Log) (t : Option Shape) (ps : Contents) (make : Part → Found) → ((x : Part) → CompositeOf x → FoundOf (make x)) → LevelFits level → AreBased here.scope
+m-composite_found : (names : Names) (level : Inside) (here : Context) (bracket n i : ℕ) (log : Log) (t : Option Shape) (ps : Contents) (make : TypedPart → Found) → ((x : TypedPart) → CompositeOf x → FoundOf (make x)) → LevelFits level → AreBased here.scope
     → Makes Finding (composite_at names level here bracket n i log t ps >>= λ c. pure (option_map make c))
 m-composite_found names level here bracket n i log t ps make f l r =
     m-bind (Maybe CompositeOf) Finding (composite_at names level here bracket n i log t ps) _ (m-composite_at names level here bracket n i log t ps l r) (λ c q. m-pure Finding (option_map make c) (mapped CompositeOf FoundOf make c q f))

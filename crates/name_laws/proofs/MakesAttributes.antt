@@ -5,7 +5,7 @@ use Rattle.ada_base.specs.declared.operation.Op.TheVariants as op
 use Rattle.ada_base.specs.declared.operation.Op.{Op}
 use Rattle.syntax_tree.specs.Syntax.{Args}
 use Rattle.typed_tree.specs.Decoded as part
-use Rattle.typed_tree.specs.Decoded.{Part, as_expr}
+use Rattle.typed_tree.specs.Decoded.{TypedPart, as_expr}
 use Rattle.typed_tree.specs.Syntax.{Expr as TypedExpr}
 use Rattle.name_rules.specs.Attributes.{alone, attribute_found, bound_alone, bound_in, bound_with, dimension_at, dimension_bound, dimension_given, dimensions_in, extreme, first_named, image_text, is_array_object, is_bound, is_reduction, mentioned, object_image, one_argument, one_dimension, one_given, one_named, prefix_of, prefix_subtype, reduced_alone, scalar_bound, scalar_with, settled_attribute, settled_form, step, stepped, two_arguments_of, two_given, two_named}
 use Rattle.name_rules.specs.Calls.{arg_names, operands}
@@ -22,7 +22,7 @@ use Rattle.name_rules.specs.declared.found.Attribute.{Attribute}
 use Rattle.name_rules.specs.declared.found.Denoted.TheVariants as denoted
 use Rattle.name_rules.specs.declared.found.Denoted.{Denoted as KnownDenoted}
 use Rattle.name_rules.specs.declared.found.Found.TheVariants as known
-use Rattle.name_rules.specs.declared.found.Place.{Place}
+use Rattle.name_rules.specs.declared.found.ObjectName.{ObjectName}
 use Rattle.name_rules.specs.declared.found.Prefix.TheVariants as prefix
 use Rattle.name_rules.specs.declared.found.Prefix.{Prefix}
 use Rattle.name_rules.specs.declared.log.Dimension.{Dimension}
@@ -48,7 +48,7 @@ use Rattle.name_laws.proofs.MakesValues.{AskedOf, FoundOf, SpanOf, has-value, is
 use Rattle.name_laws.specs.Based.{AreBased, AreSpans, ArraysBased, IsSpan}
 use Rattle.name_laws.specs.Classes.{ExprFits}
 
-prefix-fits : (k : KnownDenoted) (x : Part) → DenotesOf k x → PrefixOf (prefix_of k) x
+prefix-fits : (k : KnownDenoted) (x : TypedPart) → DenotesOf k x → PrefixOf (prefix_of k) x
 prefix-fits (denoted.Value (known.Object p)) x h = h
 prefix-fits (denoted.Type first t) x h = h
 prefix-fits (denoted.Parameter first s) x h = h
@@ -66,14 +66,14 @@ m-scalar_bound first s attribute'.First h = m-some DenotedOf (value_denoted (sta
 m-scalar_bound first s attribute'.Last h = m-some DenotedOf (value_denoted (static first s.kind s.high part.Nothing)) h.last
 m-scalar_bound first s a h = m-fault DenotedOf first WrongType
 
-m-dimension_bound : (first : ℕ) (ms : Part) (a : Attribute) (d : Dimension) → IsSpan d.kind d.low d.high → Makes (Maybe DenotedOf) (dimension_bound first ms a d)
+m-dimension_bound : (first : ℕ) (ms : TypedPart) (a : Attribute) (d : Dimension) → IsSpan d.kind d.low d.high → Makes (Maybe DenotedOf) (dimension_bound first ms a d)
 m-dimension_bound first ms attribute'.First d h = m-some DenotedOf (value_denoted (static first d.kind d.low ms)) h.first
 m-dimension_bound first ms attribute'.Last d h = m-some DenotedOf (value_denoted (static first d.kind d.high ms)) h.last
 m-dimension_bound first ms attribute'.Length d h = m-some DenotedOf (value_denoted (universal first (pos (extent d)) false ms)) tt
 m-dimension_bound first ms attribute'.Range d h = m-some DenotedOf (denote (denoted.Range first d) ms) h
 m-dimension_bound first ms a d h = m-fault DenotedOf first WrongType
 
-m-bound_in : (first : ℕ) (ms : Part) (a : Attribute) (ds : List Dimension) (i : ℕ) → AreSpans ds → Makes (Maybe DenotedOf) (bound_in first ms a (slice_get ds i))
+m-bound_in : (first : ℕ) (ms : TypedPart) (a : Attribute) (ds : List Dimension) (i : ℕ) → AreSpans ds → Makes (Maybe DenotedOf) (bound_in first ms a (slice_get ds i))
 m-bound_in first ms a [] i h = m-fault DenotedOf first WrongType
 m-bound_in first ms a (d ∷ ds) zero h = m-dimension_bound first ms a d h.0
 m-bound_in first ms a (d ∷ ds) (suc i) h = m-bound_in first ms a ds i h.1
@@ -92,18 +92,18 @@ spans-in log None h = tt
 spans-in log (Some (subtype.Scalar s)) h = tt
 spans-in log (Some (subtype.Composite m)) h = spans-at log m h
 
-m-bound_by : (first : ℕ) (p : Prefix) (x : Part) (a : Attribute) → Makes (Maybe DenotedOf) (read (λ log. slice_get (dimensions_in log (prefix_subtype p)) 0) >>= bound_in first (mentioned p x) a)
+m-bound_by : (first : ℕ) (p : Prefix) (x : TypedPart) (a : Attribute) → Makes (Maybe DenotedOf) (read (λ log. slice_get (dimensions_in log (prefix_subtype p)) 0) >>= bound_in first (mentioned p x) a)
 m-bound_by first p x a = record { at = λ log h. (m-bound_in first (mentioned p x) a (dimensions_in log (prefix_subtype p)) 0 (spans-in log (prefix_subtype p) h)).at log h }
 
-m-bound_alone : (first : ℕ) (p : Prefix) (x : Part) (a : Attribute) → PrefixOf p x → Makes (Maybe DenotedOf) (bound_alone first p x a)
+m-bound_alone : (first : ℕ) (p : Prefix) (x : TypedPart) (a : Attribute) → PrefixOf p x → Makes (Maybe DenotedOf) (bound_alone first p x a)
 m-bound_alone first (prefix.Type (subtype.Scalar s)) x a h = m-scalar_bound first s a h
 m-bound_alone first p x a h = m-bound_by first p x a
 
-m-dimension_at : (first : ℕ) (ms : Part) (a : Attribute) (ds : List Dimension) (at : ℕ) (z : ℤ) → AreSpans ds → Makes (Maybe DenotedOf) (dimension_at first ms a ds at z)
+m-dimension_at : (first : ℕ) (ms : TypedPart) (a : Attribute) (ds : List Dimension) (at : ℕ) (z : ℤ) → AreSpans ds → Makes (Maybe DenotedOf) (dimension_at first ms a ds at z)
 m-dimension_at first ms a ds at z h =
     m-if (Maybe DenotedOf) (int_le (pos 1) z && int_le z (pos (length ds))) (bound_in first ms a (slice_get ds (unsigned_abs z - 1))) (fault at StaticRange) (m-bound_in first ms a ds (unsigned_abs z - 1) h) (m-fault DenotedOf at StaticRange)
 
-m-dimension_given : (first : ℕ) (ms : Part) (a : Attribute) (ds : List Dimension) (f : Found) → AreSpans ds → Makes (Maybe DenotedOf) (dimension_given first ms a ds f)
+m-dimension_given : (first : ℕ) (ms : TypedPart) (a : Attribute) (ds : List Dimension) (f : Found) → AreSpans ds → Makes (Maybe DenotedOf) (dimension_given first ms a ds f)
 m-dimension_given first ms a ds f h =
     m-if (Maybe DenotedOf) (is_number f.known) _ (fault (first_of f.known) WrongType)
     (m-bind Any (Maybe DenotedOf) (static_of_kind (own_kind f.known) f) _ (m-kept (static_of_kind (own_kind f.known) f) (k-static_of_kind spanning (own_kind f.known) f)) (λ v q.
@@ -114,12 +114,12 @@ m-dimension_given first ms a ds f h =
     any None = tt
     any (Some z) = tt
 
-m-one_dimension : (first bracket : ℕ) (ms : Part) (a : Attribute) (ds : List Dimension) (ns : List (Option ℕ)) (fs : List Found) → AreSpans ds → Makes (Maybe DenotedOf) (one_dimension first bracket ms a ds ns fs)
+m-one_dimension : (first bracket : ℕ) (ms : TypedPart) (a : Attribute) (ds : List Dimension) (ns : List (Option ℕ)) (fs : List Found) → AreSpans ds → Makes (Maybe DenotedOf) (one_dimension first bracket ms a ds ns fs)
 m-one_dimension first bracket ms a ds (None ∷ []) (f ∷ []) h = m-dimension_given first ms a ds f h
 m-one_dimension first bracket ms a ds (Some name ∷ []) fs h = m-fault DenotedOf name WrongType
 m-one_dimension first bracket ms a ds ns fs h = m-fault DenotedOf bracket WrongType
 
-pub m-bound_with : (names : Names) (inside : Inside) (here : Context) (first : ℕ) (ms : Part) (a : Attribute) (bracket : ℕ) (as' : Args) (ds : List Dimension) → LevelFits inside → AreBased here.scope → AreSpans ds
+pub m-bound_with : (names : Names) (inside : Inside) (here : Context) (first : ℕ) (ms : TypedPart) (a : Attribute) (bracket : ℕ) (as' : Args) (ds : List Dimension) → LevelFits inside → AreBased here.scope → AreSpans ds
     → Makes (Maybe DenotedOf) (bound_with names inside here first ms a bracket as' ds)
 m-bound_with names inside here first ms a bracket as' [] l r h = m-fault DenotedOf first WrongType
 m-bound_with names inside here first ms a bracket as' (d ∷ ds) l r h =
@@ -197,7 +197,7 @@ m-scalar_with names inside here first s attribute'.Succ bracket as' l r h = m-st
 m-scalar_with names inside here first s attribute'.Pred bracket as' l r h = m-stepped names inside here first s op.Sub bracket as' l r
 m-scalar_with names inside here first s a bracket as' l r h = m-bound_called names inside here first s a as' l h
 
-m-object_image : (first : ℕ) (p : Place) (x : Part) (t : Subtype) → PrefixOf (prefix.Object p) x → Makes (Maybe DenotedOf) (object_image first p x t)
+m-object_image : (first : ℕ) (p : ObjectName) (x : TypedPart) (t : Subtype) → PrefixOf (prefix.Object p) x → Makes (Maybe DenotedOf) (object_image first p x t)
 m-object_image first p x (subtype.Scalar s) h = m-one_given s.kind (image_text first s.kind) (record { known = known.Object p; part = x }) (takes-image first s.kind) h
 m-object_image first p x (subtype.Composite n) h = m-fault DenotedOf first WrongType
 
@@ -207,19 +207,19 @@ m-reduced_alone : (first at : ℕ) (b : Bool) → Makes (Maybe DenotedOf) (reduc
 m-reduced_alone first at true = m-fault DenotedOf first WrongType
 m-reduced_alone first at false = m-fault DenotedOf at ReduceRule
 
-m-others_alone : (first : ℕ) (p : Prefix) (x : Part) (at : ℕ) (a : Attribute) → PrefixOf p x
+m-others_alone : (first : ℕ) (p : Prefix) (x : TypedPart) (at : ℕ) (a : Attribute) → PrefixOf p x
     → Makes (Maybe DenotedOf) (if is_bound a then bound_alone first p x a else if is_reduction a then (read (λ log. is_array_object log p) >>= reduced_alone first at) else fault first WrongType)
 m-others_alone first p x at a h =
     m-if (Maybe DenotedOf) (is_bound a) (bound_alone first p x a) _ (m-bound_alone first p x a h)
     (m-if (Maybe DenotedOf) (is_reduction a) (read (λ log. is_array_object log p) >>= reduced_alone first at) (fault first WrongType)
     (m-bind Any (Maybe DenotedOf) (read (λ log. is_array_object log p)) (reduced_alone first at) (m-read Any (λ log. is_array_object log p) (λ log g. tt)) (λ b q. m-reduced_alone first at b)) (m-fault DenotedOf first WrongType))
 
-m-alone : (first : ℕ) (p : Prefix) (x : Part) (at : ℕ) (a : Attribute) → PrefixOf p x → Makes (Maybe DenotedOf) (alone first p x at a)
+m-alone : (first : ℕ) (p : Prefix) (x : TypedPart) (at : ℕ) (a : Attribute) → PrefixOf p x → Makes (Maybe DenotedOf) (alone first p x at a)
 m-alone first (prefix.Object p) x at attribute'.Image h = m-object_image first p x p.subtype h
 m-alone first (prefix.Parameter s) x at attribute'.Image h = m-one_given s.kind (image_text first s.kind) (parameter_found first s x) (takes-image first s.kind) (h (class_of s.kind))
 m-alone first p x at a h = m-others_alone first p x at a h
 
-m-settled_form : (k : KnownDenoted) (x : Part) → DenotesOf k x → Makes (Maybe DenotedOf) (settled_form k x)
+m-settled_form : (k : KnownDenoted) (x : TypedPart) → DenotesOf k x → Makes (Maybe DenotedOf) (settled_form k x)
 m-settled_form (denoted.Attribute first p at a) x h = m-alone first p x at a h
 m-settled_form k x h = m-some DenotedOf (denote k x) h
 

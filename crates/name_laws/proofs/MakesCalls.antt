@@ -5,7 +5,7 @@ use Rattle.syntax_tree.specs.FirstTokens as first_token
 use Rattle.syntax_tree.specs.Syntax as syntax
 use Rattle.syntax_tree.specs.Syntax.{Arg, Args, Expr}
 use Rattle.typed_tree.specs.Decoded as part
-use Rattle.typed_tree.specs.Decoded.{Part, as_actual, as_actuals, as_value}
+use Rattle.typed_tree.specs.Decoded.{TypedPart, as_actual, as_actuals, as_value}
 use Rattle.typed_tree.specs.Latest.{turned}
 use Rattle.typed_tree.specs.Syntax as typed
 use Rattle.typed_tree.specs.Syntax.{Actuals, Selections}
@@ -20,7 +20,7 @@ use Rattle.name_rules.specs.Types.{is_integer, same, typed_scalar, wanted_of}
 use Rattle.name_rules.specs.Values.{first_of, is_number, settled_found}
 use Rattle.name_rules.specs.declared.found.Found.TheVariants as known
 use Rattle.name_rules.specs.declared.found.Found.{Found as Known}
-use Rattle.name_rules.specs.declared.found.Place.{Place}
+use Rattle.name_rules.specs.declared.found.ObjectName.{ObjectName}
 use Rattle.name_rules.specs.declared.log.Rule.TheVariants.{WrongType}
 use Rattle.name_rules.specs.declared.log.Taken.{Taken}
 use Rattle.name_rules.specs.declared.scope.Context.{Context}
@@ -41,36 +41,36 @@ use Rattle.name_laws.specs.Classes.{ActualsFit, SelectionsFit}
 
 -- ---- actual parameters
 
-abbrev pub IsActual : Part → Type 0
+abbrev pub IsActual : TypedPart → Type 0
 IsActual p = (as' : Actuals) → ActualsFit as' → ActualsFit (as_actual p as')
 
-actuals-list : (x : Part) → Each IsActual x → ActualsFit (as_actuals x)
+actuals-list : (x : TypedPart) → Each IsActual x → ActualsFit (as_actuals x)
 actuals-list (part.Cons p q) h = h.0 (as_actuals q) (actuals-list q h.1)
 actuals-list x h = tt
 
-actuals-fit : (x : Part) → Each IsActual x → ActualsFit (as_actuals (turned x))
+actuals-fit : (x : TypedPart) → Each IsActual x → ActualsFit (as_actuals (turned x))
 actuals-fit x h = actuals-list (turned x) (each-turned IsActual x h)
 
-scalar-actual : (t : Taken) (s : Scalar) (p : Place) (ss : Selections) (u : Scalar) → SelectionsFit ss → IsActual (scalar_actual t s p ss u)
+scalar-actual : (t : Taken) (s : Scalar) (p : ObjectName) (ss : Selections) (u : Scalar) → SelectionsFit ss → IsActual (scalar_actual t s p ss u)
 scalar-actual t s p ss u h as' r = by (is_out t.mode)
   where
     by : (b : Bool) → ActualsFit (as_actual (part.AnActual (if b then typed.Out t.object p.first p.root ss (typed_scalar s) (typed_scalar u) else typed.InOut t.object p.first p.root ss (typed_scalar s) (typed_scalar u))) as')
     by true = (h, r)
     by false = (h, r)
 
-composite-actual : (t : Taken) (p : Place) (ss : Selections) (n : ℕ) → SelectionsFit ss → IsActual (composite_actual t p ss n)
+composite-actual : (t : Taken) (p : ObjectName) (ss : Selections) (n : ℕ) → SelectionsFit ss → IsActual (composite_actual t p ss n)
 composite-actual t p ss n h as' r = by (is_out t.mode)
   where
     by : (b : Bool) → ActualsFit (as_actual (part.AnActual (if b then typed.CompositeOut t.object p.first p.root ss n else typed.CompositeInOut t.object p.first p.root ss n)) as')
     by true = (h, r)
     by false = (h, r)
 
-m-place_given : (t : Taken) (p : Place) (ss : Selections) (s u : Subtype) → SelectionsFit ss → Makes (Maybe IsActual) (place_given t p ss s u)
+m-place_given : (t : Taken) (p : ObjectName) (ss : Selections) (s u : Subtype) → SelectionsFit ss → Makes (Maybe IsActual) (place_given t p ss s u)
 m-place_given t p ss (subtype.Scalar s) (subtype.Scalar u) h = m-if (Maybe IsActual) (same s.kind u.kind) (some (scalar_actual t s p ss u)) (fault p.first WrongType) (m-some IsActual (scalar_actual t s p ss u) (scalar-actual t s p ss u h)) (m-fault IsActual p.first WrongType)
 m-place_given t p ss (subtype.Composite n) (subtype.Composite m) h = m-if (Maybe IsActual) (n == m) (some (composite_actual t p ss n)) (fault p.first WrongType) (m-some IsActual (composite_actual t p ss n) (composite-actual t p ss n h)) (m-fault IsActual p.first WrongType)
 m-place_given t p ss s u h = m-fault IsActual p.first WrongType
 
-m-variable_form : (t : Taken) (f : Known) (x : Part) → KnownOf f x → Makes (Maybe IsActual) (variable_form t f x)
+m-variable_form : (t : Taken) (f : Known) (x : TypedPart) → KnownOf f x → Makes (Maybe IsActual) (variable_form t f x)
 m-variable_form t (known.Object p) x h = m-if (Maybe IsActual) p.variable (place_given t p (selections_of x) t.subtype p.subtype) (fault p.first WrongType) (m-place_given t p (selections_of x) t.subtype p.subtype (selections-fit x h.1)) (m-fault IsActual p.first WrongType)
 m-variable_form t f x h = m-fault IsActual (first_of f) WrongType
 
@@ -95,7 +95,7 @@ m-actual_for names inside here (Some t) e l r = m-actual_by names inside here t 
 abbrev CallingOf : Calling → Type 0
 CallingOf c = Maybe (Each IsActual) c.actuals
 
-with-actual : (i : Option ℕ) (made x : Option Part) → Maybe (Each IsActual) made → Maybe IsActual x → Maybe (Each IsActual) (with_actual i made x)
+with-actual : (i : Option ℕ) (made x : Option TypedPart) → Maybe (Each IsActual) made → Maybe IsActual x → Maybe (Each IsActual) (with_actual i made x)
 with-actual None made x g h = g
 with-actual (Some i) made x g h = joint (Each IsActual) IsActual (Each IsActual) also made x g h (λ a b p q. (q, p))
 
@@ -117,7 +117,7 @@ m-complete : (at count : ℕ) (late : Option ℕ) (c : Calling) → CallingOf c 
 m-complete at count (Some late) c g = m-fault (Each IsActual) late WrongType
 m-complete at count None c g = m-if (Maybe (Each IsActual)) (c.count == count) (pure c.actuals) (fault at WrongType) (m-pure (Maybe (Each IsActual)) c.actuals g) (m-fault (Each IsActual) at WrongType)
 
-call-given : (first last n : ℕ) (s : Option Scalar) (xs : Part) → Each IsActual xs → DenotedOf (call_given first last n s xs)
+call-given : (first last n : ℕ) (s : Option Scalar) (xs : TypedPart) → Each IsActual xs → DenotedOf (call_given first last n s xs)
 call-given first last n None xs h = actuals-fit xs h
 call-given first last n (Some s) xs h = actuals-fit xs h
 

@@ -7,7 +7,7 @@ use Rattle.syntax_tree.specs.FirstTokens as first_token
 use Rattle.syntax_tree.specs.Syntax as syntax
 use Rattle.syntax_tree.specs.Syntax.{Array, Comp, Decl, Definition, Expr, Ids, Indic, ObjectType, Range}
 use Rattle.typed_tree.specs.Decoded as part
-use Rattle.typed_tree.specs.Decoded.{Part, as_decl, as_decls}
+use Rattle.typed_tree.specs.Decoded.{TypedPart, as_decl, as_decls}
 use Rattle.typed_tree.specs.Latest.{turned}
 use Rattle.typed_tree.specs.Syntax.{Decls}
 use Rattle.name_rules.specs.Declarations as d
@@ -102,7 +102,7 @@ PairOf k r = (in_base k r.0 ≡ true) × (in_base k r.1 ≡ true)
 static-pair : (k : Kind) (a z : Found) (log : Log) → FoundOf a → FoundOf z → Maybe (PairOf k) (both_static k a z log).0
 static-pair k a z log g h = by (asked k a log).0 refl (asked k z (asked k a log).1).0 refl (value_of a.known) refl (value_of z.known) refl (asked k z (asked k a log).1).1
   where
-    by : (x : Option Part) → (asked k a log).0 ≡ x → (y : Option Part) → (asked k z (asked k a log).1).0 ≡ y → (u : Option ℤ) → value_of a.known ≡ u → (v : Option ℤ) → value_of z.known ≡ v → (end : Log)
+    by : (x : Option TypedPart) → (asked k a log).0 ≡ x → (y : Option TypedPart) → (asked k z (asked k a log).1).0 ≡ y → (u : Option ℤ) → value_of a.known ≡ u → (v : Option ℤ) → value_of z.known ≡ v → (end : Log)
         → Maybe (PairOf k) (both x y (λ e f. static_value (first_of a.known) u >>= λ i. static_value (first_of z.known) v >>= λ j. both i j (λ i j. some (i, j))) end).0
     by None p y q u s v t end = tt
     by (Some x) p None q u s v t end = tt
@@ -151,7 +151,7 @@ m-static_scalar first s h =
     let x : Static = record { known = record { kind = s.kind; low = s.low; high = s.high }; part = part.Nothing } in
     m-if (Maybe StaticOf) (is_integer s.kind) (some x) (fault first WrongType) (m-some StaticOf x h) (m-fault StaticOf first WrongType)
 
-m-static_name : (first : ℕ) (k : KnownDenoted) (x : Part) → DenotesOf k x → Makes (Maybe StaticOf) (ranges.static_name first k x)
+m-static_name : (first : ℕ) (k : KnownDenoted) (x : TypedPart) → DenotesOf k x → Makes (Maybe StaticOf) (ranges.static_name first k x)
 m-static_name first (denoted.Range at e) x h = m-some StaticOf (record { known = e; part = x }) h
 m-static_name first (denoted.Type at (subtype.Scalar s)) x h = m-static_scalar first s h
 m-static_name first k x h = m-fault StaticOf (denoted_first k) WrongType
@@ -267,7 +267,7 @@ m-components : (names : Names) (level : Inside) (start : ℕ) (b : Building) (cs
 m-components names level start b [] l h = m-pure BuildingOf b h
 m-components names level start b (c ∷ cs) l h = m-bind BuildingOf BuildingOf (d.component names level start b c) _ (m-component names level start b c l h) (λ e q. m-components names level start e cs l q)
 
-m-record_written : (cells : ℕ) (ms : Part) (fs : List Field) → Makes (Maybe IndicatedOf) (d.record_written cells ms fs)
+m-record_written : (cells : ℕ) (ms : TypedPart) (fs : List Field) → Makes (Maybe IndicatedOf) (d.record_written cells ms fs)
 m-record_written cells ms fs =
     m-bind Any (Maybe IndicatedOf) (written_shape (shape.Record fs cells)) _ (record { at = λ log g. (shape_more log.shapes (shape.Record fs cells) (λ ds c k n e. absurd cc) g, tt) }) (λ n q. m-some IndicatedOf (indicated ms (subtype.Composite n)) tt)
 
@@ -314,21 +314,21 @@ m-defined names level here token (syntax.RecordType c cs) l r = m-record_of name
 
 -- ---- objects
 
-abbrev pub IsDecl : Part → Type 0
+abbrev pub IsDecl : TypedPart → Type 0
 IsDecl p = (ds : Decls) → DeclsFit ds → DeclsFit (as_decl p ds)
 
-abbrev pub DeclsOf : Part → Type 0
+abbrev pub DeclsOf : TypedPart → Type 0
 DeclsOf x = Each IsDecl x
 
-decls-list : (x : Part) → DeclsOf x → DeclsFit (as_decls x)
+decls-list : (x : TypedPart) → DeclsOf x → DeclsFit (as_decls x)
 decls-list (part.Cons p q) h = h.0 (as_decls q) (decls-list q h.1)
 decls-list x h = tt
 
-pub decls-fit : (x : Part) → DeclsOf x → DeclsFit (as_decls (turned x))
+pub decls-fit : (x : TypedPart) → DeclsOf x → DeclsFit (as_decls (turned x))
 decls-fit x h = decls-list (turned x) (each-turned IsDecl x h)
 
 -- what is around those behind, and the declarations so far
-abbrev pub DeclaringOf : Context × Option Part → Type 0
+abbrev pub DeclaringOf : Context × Option TypedPart → Type 0
 DeclaringOf r = AreBased r.0.scope × Maybe DeclsOf r.1
 
 object-kept : (names : Names) (here : Context) (token n cells : ℕ) (constant : Bool) (value : Option ℤ) (b : Bool) → Makes Any (if b then (d.object_written names here token n cells constant value >>= λ m. some m) else pure None)
@@ -354,17 +354,17 @@ m-initial names level here (Some s) (Some e) l r =
     m-bind (Maybe ValueOf) (Maybe InitialOf) (given x (stored s.known (first_token.of_expr e))) _ (m-given FoundOf ValueOf x (stored s.known (first_token.of_expr e)) q (λ f p. m-stored s.known (first_token.of_expr e) f p)) (λ v p.
     m-pure (Maybe InitialOf) (joined d.initial_value v x) (joint ValueOf FoundOf InitialOf d.initial_value v x p q (λ a b g h. g))))
 
-with-mentions : (made ms : Part) → DeclsOf made → DeclsOf (d.with_mentions made ms)
+with-mentions : (made ms : TypedPart) → DeclsOf made → DeclsOf (d.with_mentions made ms)
 with-mentions made part.Nothing h = h
 with-mentions made ms h = ((λ ds r. r), h)
 
-with-object : (made : Part) (constant : Bool) (n : ℕ) (v : Option Part) → DeclsOf made → Maybe ValueOf v → DeclsOf (d.with_object made constant n v)
+with-object : (made : TypedPart) (constant : Bool) (n : ℕ) (v : Option TypedPart) → DeclsOf made → Maybe ValueOf v → DeclsOf (d.with_object made constant n v)
 with-object made true n (Some v) g h = ((λ ds r. (h, r)), g)
 with-object made true n None g h = g
 with-object made false n None g h = ((λ ds r. r), g)
 with-object made false n (Some v) g h = ((λ ds r. (h, r)), g)
 
-object-ended : (names : Names) (here : Context) (token : ℕ) (f : Option ℕ) (constant : Bool) (s : Indicated) (v : Initial) (made : Option Part) (n : Option ℕ) → AreBased here.scope → IndicatedOf s → InitialOf v → Maybe DeclsOf made
+object-ended : (names : Names) (here : Context) (token : ℕ) (f : Option ℕ) (constant : Bool) (s : Indicated) (v : Initial) (made : Option TypedPart) (n : Option ℕ) → AreBased here.scope → IndicatedOf s → InitialOf v → Maybe DeclsOf made
     → DeclaringOf (d.object_ended names here token f constant s v made n)
 object-ended names here token f constant s v made None h i j g = (ended-based names here f None h tt, tt)
 object-ended names here token f constant s v made (Some n) h i j g = (
@@ -375,7 +375,7 @@ object-ended names here token f constant s v made (Some n) h i j g = (
 m-broken : (names : Names) (here : Context) (token : ℕ) (f : Option ℕ) → AreBased here.scope → Makes DeclaringOf (d.cells_counted token 0 >>= λ b. pure (d.ended_name names here f None, None))
 m-broken names here token f h = m-bind Any DeclaringOf (d.cells_counted token 0) _ (m-kept (d.cells_counted token 0) (k-cells_counted spanning token 0)) (λ b q. m-pure DeclaringOf (d.ended_name names here f None, None) (ended-based names here f None h tt, tt))
 
-m-one_object : (names : Names) (here : Context) (token : ℕ) (f : Option ℕ) (constant : Bool) (made : Option Part) (s : Option Indicated) (v : Option Initial) → AreBased here.scope → Maybe DeclsOf made → Maybe IndicatedOf s → Maybe InitialOf v
+m-one_object : (names : Names) (here : Context) (token : ℕ) (f : Option ℕ) (constant : Bool) (made : Option TypedPart) (s : Option Indicated) (v : Option Initial) → AreBased here.scope → Maybe DeclsOf made → Maybe IndicatedOf s → Maybe InitialOf v
     → Makes DeclaringOf (d.one_object names here token f constant made s v)
 m-one_object names here token f constant made (Some s) (Some v) h g i j =
     m-bind Any DeclaringOf (d.new_object names here token s.known constant (d.constant_value constant s.known v)) _ (m-new_object names here token s.known constant (d.constant_value constant s.known v)) (λ n q.
@@ -387,7 +387,7 @@ m-typed_object : (names : Names) (level : Inside) (here : Context) (t : ObjectTy
 m-typed_object names level here (syntax.Indicated i) l r = m-indic names level here i l r
 m-typed_object names level here (syntax.Anonymous a) l r = m-array names level here a l r
 
-m-each_object : (names : Names) (level : Inside) (inner here : Context) (constant : Bool) (first : ℕ) (t : ObjectType) (e : Option Expr) (made : Option Part) (is : List ℕ) (fs : List (Option ℕ)) → LevelFits level → AreBased inner.scope → AreBased here.scope → Maybe DeclsOf made
+m-each_object : (names : Names) (level : Inside) (inner here : Context) (constant : Bool) (first : ℕ) (t : ObjectType) (e : Option Expr) (made : Option TypedPart) (is : List ℕ) (fs : List (Option ℕ)) → LevelFits level → AreBased inner.scope → AreBased here.scope → Maybe DeclsOf made
     → Makes DeclaringOf (d.each_object names level inner here constant first t e made is fs)
 m-each_object names level inner here constant first t e made (i ∷ is) (f ∷ fs) l q r g =
     m-bind (Maybe IndicatedOf) DeclaringOf (d.typed_object names level inner t) _ (m-typed_object names level inner t l q) (λ s p1.
@@ -397,7 +397,7 @@ m-each_object names level inner here constant first t e made (i ∷ is) (f ∷ f
 m-each_object names level inner here constant first t e made [] fs l q r g = m-pure DeclaringOf (here, made) (r, g)
 m-each_object names level inner here constant first t e made (i ∷ is) [] l q r g = m-pure DeclaringOf (here, made) (r, g)
 
-m-objects : (names : Names) (level : Inside) (start : ℕ) (here : Context) (made : Option Part) (is : Ids) (constant : Bool) (t : ObjectType) (e : Option Expr) → LevelFits level → AreBased here.scope → Maybe DeclsOf made
+m-objects : (names : Names) (level : Inside) (start : ℕ) (here : Context) (made : Option TypedPart) (is : Ids) (constant : Bool) (t : ObjectType) (e : Option Expr) → LevelFits level → AreBased here.scope → Maybe DeclsOf made
     → Makes DeclaringOf (d.objects names level start here made is constant t e)
 unfolding d.objects
 m-objects names level start here made is constant t e l r g =
@@ -409,7 +409,7 @@ all-ended : (names : Names) (here : Context) (w : Option What) (fs : List (Optio
 all-ended names here w [] h k = h
 all-ended names here w (f ∷ fs) h k = all-ended names (d.ended_name names here f w) w fs (ended-based names here f w h k) k
 
-m-numbers : (names : Names) (level : Inside) (start : ℕ) (here : Context) (made : Option Part) (is : Ids) (e : Expr) → LevelFits level → AreBased here.scope → Maybe DeclsOf made → Makes DeclaringOf (d.numbers names level start here made is e)
+m-numbers : (names : Names) (level : Inside) (start : ℕ) (here : Context) (made : Option TypedPart) (is : Ids) (e : Expr) → LevelFits level → AreBased here.scope → Maybe DeclsOf made → Makes DeclaringOf (d.numbers names level start here made is e)
 unfolding d.numbers
 m-numbers names level start here made is e l r g =
     m-bind BegunOf DeclaringOf (d.begun_names names start here [] (all_ids is)) _ (m-begun_names names start here [] (all_ids is) r) (λ x q.
@@ -430,13 +430,13 @@ m-each_exception names here (t ∷ ts) [] h = m-pure AroundOf here h
 
 -- ---- declarations
 
-one-type : (names : Names) (here : Context) (made : Option Part) (f : Option ℕ) (s : Option Indicated) → AreBased here.scope → Maybe DeclsOf made → Maybe IndicatedOf s → DeclaringOf (d.one_type names here made f s)
+one-type : (names : Names) (here : Context) (made : Option TypedPart) (f : Option ℕ) (s : Option Indicated) → AreBased here.scope → Maybe DeclsOf made → Maybe IndicatedOf s → DeclaringOf (d.one_type names here made f s)
 one-type names here made f s h g i = (
   ended-based names here f (option_map (λ t. what.Type t.known) s) h (mapped IndicatedOf IsBasedWhat (λ t. what.Type t.known) s i (λ x k. k)),
   joint DeclsOf IndicatedOf DeclsOf d.and_type made s g i (λ a b m n. with-mentions a b.part m),
 )
 
-pub m-declaration : (names : Names) (level : Inside) (start : ℕ) (here : Context) (made : Option Part) (x : Decl) → LevelFits level → AreBased here.scope → Maybe DeclsOf made → Makes DeclaringOf (d.declaration names level start here made x)
+pub m-declaration : (names : Names) (level : Inside) (start : ℕ) (here : Context) (made : Option TypedPart) (x : Decl) → LevelFits level → AreBased here.scope → Maybe DeclsOf made → Makes DeclaringOf (d.declaration names level start here made x)
 unfolding d.declaration
 m-declaration names level start here made (syntax.ObjectDecl is constant t e) l r g = m-objects names level start here made is (is_some constant) t e l r g
 m-declaration names level start here made (syntax.NumberDecl is at e) l r g = m-numbers names level start here made is e l r g
@@ -452,6 +452,6 @@ m-declaration names level start here made (syntax.SubtypeDecl at token i) l r g 
     m-bind (Maybe IndicatedOf) DeclaringOf (d.indic names level (hidden_where names here token f) i) _ (m-indic names level (hidden_where names here token f) i l (hidden-based names here token f r)) (λ s p.
     m-pure DeclaringOf (d.one_type names (hidden_where names here token f) made f s) (one-type names (hidden_where names here token f) made f s (hidden-based names here token f r) g p)))
 
-pub m-declarations : (names : Names) (level : Inside) (start : ℕ) (here : Context) (made : Option Part) (ds : List Decl) → LevelFits level → AreBased here.scope → Maybe DeclsOf made → Makes DeclaringOf (d.declarations names level start here made ds)
+pub m-declarations : (names : Names) (level : Inside) (start : ℕ) (here : Context) (made : Option TypedPart) (ds : List Decl) → LevelFits level → AreBased here.scope → Maybe DeclsOf made → Makes DeclaringOf (d.declarations names level start here made ds)
 m-declarations names level start here made [] l r g = m-pure DeclaringOf (here, made) (r, g)
 m-declarations names level start here made (x ∷ xs) l r g = m-bind DeclaringOf DeclaringOf (d.declaration names level start here made x) _ (m-declaration names level start here made x l r g) (λ y q. m-declarations names level start y.0 y.1 xs l q.0 q.1)

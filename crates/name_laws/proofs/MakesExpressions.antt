@@ -10,7 +10,7 @@ use Rattle.syntax_tree.specs.declared.operators.Additive.TheVariants as additive
 use Rattle.syntax_tree.specs.declared.operators.Logical.TheVariants as logical'
 use Rattle.syntax_tree.specs.declared.operators.Sign.{Sign as Signed}
 use Rattle.syntax_tree.specs.declared.operators.Sign.TheVariants as sign
-use Rattle.typed_tree.specs.Decoded.{Part}
+use Rattle.typed_tree.specs.Decoded.{TypedPart}
 use Rattle.typed_tree.specs.declared.expressions.Sign.TheVariants as unary'
 use Rattle.name_rules.specs.Expressions.{Inside, added, adding, blamed, condition, conjoined, expr, factor, first_term, first_wanted, in_place, joined_rels, judged_alone, multiplied, multiplying, multiplying_op, rel, short_form, short_found, short_join, short_operand, short_operands, simple, term, value_for}
 use Rattle.name_rules.specs.Found.{Found}
@@ -126,7 +126,7 @@ m-joined_rels names level here o first at second more l r =
     m-bind Finding Finding (rel names level here wanted.Other second) _ (m-rel names level here wanted.Other second l r) (λ y q.
     m-bind Finding Finding (logical o at x y) _ (m-logical o at x y p q) (λ z s. m-conjoined names level here o z more l r s)))
 
-abbrev Condition : Option Part → Type 0
+abbrev Condition : Option TypedPart → Type 0
 Condition = Maybe (AskedOf kind.Boolean)
 
 m-short_operand : (names : Names) (level : Inside) (here : Context) (at : ℕ) (c : Rel) → LevelFits level → AreBased here.scope → Makes Condition (short_operand names level here at c)
@@ -134,11 +134,11 @@ m-short_operand names level here at c l r =
     m-bind Finding Condition (rel names level here wanted.Other c) _ (m-rel names level here wanted.Other c l r) (λ x q.
     m-given FoundOf (AskedOf kind.Boolean) x _ q (λ f s. m-if Condition (is_kind kind.Boolean (kind_of f.known)) (asked kind.Boolean f) (fault at WrongType) (m-asked kind.Boolean f s) (m-fault (AskedOf kind.Boolean) at WrongType)))
 
-short-join : (all : Bool) (x y : Part) → AskedOf kind.Boolean x → AskedOf kind.Boolean y → AskedOf kind.Boolean (short_join all x y)
+short-join : (all : Bool) (x y : TypedPart) → AskedOf kind.Boolean x → AskedOf kind.Boolean y → AskedOf kind.Boolean (short_join all x y)
 short-join true x y g h = (g, h)
 short-join false x y g h = (g, h)
 
-m-short_operands : (names : Names) (level : Inside) (here : Context) (all : Bool) (x : Option Part) (cs : Conjuncts) → LevelFits level → AreBased here.scope → Condition x → Makes Condition (short_operands names level here all x cs)
+m-short_operands : (names : Names) (level : Inside) (here : Context) (all : Bool) (x : Option TypedPart) (cs : Conjuncts) → LevelFits level → AreBased here.scope → Condition x → Makes Condition (short_operands names level here all x cs)
 m-short_operands names level here all x syntax.NoConjunct l r h = m-pure Condition x h
 m-short_operands names level here all x (syntax.AlsoConjunct (syntax.conjunct at c) cs) l r h =
     m-bind Condition Condition (short_operand names level here at c) _ (m-short_operand names level here at c l r) (λ y q.

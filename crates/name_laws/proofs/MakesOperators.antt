@@ -5,7 +5,7 @@ use Rattle.ada_base.specs.Operation.{is_in_base}
 use Rattle.ada_base.specs.declared.operation.Base.TheVariants.{Narrow, Wide}
 use Rattle.ada_base.specs.declared.operation.Op.{Op}
 use Rattle.ada_base.specs.declared.operation.Op.TheVariants as op
-use Rattle.typed_tree.specs.Decoded.{Part, as_expr}
+use Rattle.typed_tree.specs.Decoded.{TypedPart, as_expr}
 use Rattle.typed_tree.specs.Syntax as typed
 use Rattle.typed_tree.specs.Syntax.{Expr as TypedExpr}
 use Rattle.typed_tree.specs.declared.expressions.Sign.TheVariants as unary'
@@ -33,12 +33,12 @@ use Rattle.name_laws.specs.Classes.{ExprFits, exponent}
 
 -- ---- static results
 
-m-static_of : (first : ℕ) (k : Kind) (ms : Part) (z : Option ℤ) → Makes (Maybe FoundOf) (static_of first k ms z)
+m-static_of : (first : ℕ) (k : Kind) (ms : TypedPart) (z : Option ℤ) → Makes (Maybe FoundOf) (static_of first k ms z)
 unfolding static_of
 m-static_of first k ms None = m-fault FoundOf first StaticRange
 m-static_of first k ms (Some z) = m-test (Maybe FoundOf) (in_base k z) (some (static first k z ms)) (fault first StaticRange) (λ e. m-some FoundOf (static first k z ms) e) (m-fault FoundOf first StaticRange)
 
-m-static_universal : (first : ℕ) (ms : Part) (z : Option ℤ) → Makes (Maybe FoundOf) (static_universal first ms z)
+m-static_universal : (first : ℕ) (ms : TypedPart) (z : Option ℤ) → Makes (Maybe FoundOf) (static_universal first ms z)
 unfolding static_universal
 m-static_universal first ms None = m-fault FoundOf first StaticRange
 m-static_universal first ms (Some z) = m-some FoundOf (universal first z false ms) tt
@@ -80,14 +80,14 @@ m-typed_operation o at k j a b p g h = m-operation_by o at k j a b (value_of a.k
 -- ---- on universal values
 
 -- a part that waits for its type
-abbrev pub OpenOf : Limits × Part → Type 0
+abbrev pub OpenOf : Limits × TypedPart → Type 0
 OpenOf x = IsOpen x.0 (as_expr x.1)
 
 none-if : (b : Bool) (first : ℕ) → (if b then None else Some first) ≡ None → b ≡ true
 none-if true first e = refl
 none-if false first e = absurd cc
 
-leaf-wide : (first : ℕ) (z : ℤ) (ms : Part) (b : Bool) → is_in_base Wide z ≡ b → b ≡ true → is_in_base Wide (if b then z else pos 0) ≡ true
+leaf-wide : (first : ℕ) (z : ℤ) (ms : TypedPart) (b : Bool) → is_in_base Wide z ≡ b → b ≡ true → is_in_base Wide (if b then z else pos 0) ≡ true
 leaf-wide first z ms true e h = e
 leaf-wide first z ms false e h = refl
 
@@ -95,12 +95,12 @@ leaf-narrow : (z : ℤ) (b : Bool) → is_in_base Narrow z ≡ true → is_in_ba
 leaf-narrow z true h = h
 leaf-narrow z false h = refl
 
-leaf-open : (first : ℕ) (z : ℤ) (x : Part) → IsOpen (leaf_limits first z) (leaf first z x)
+leaf-open : (first : ℕ) (z : ℤ) (x : TypedPart) → IsOpen (leaf_limits first z) (leaf first z x)
 leaf-open first z x kind.Boolean i e = absurd cc
 leaf-open first z x kind.Integer i e = leaf-narrow z (is_in_base Wide z) (none-if (is_in_base Narrow z) first e)
 leaf-open first z x (kind.Own n) i e = leaf-wide first z x (is_in_base Wide z) refl (none-if (is_in_base Wide z) first e)
 
-open-form : (f : Known) (x : Part) → KnownOf f x → Maybe OpenOf (open_form f x)
+open-form : (f : Known) (x : TypedPart) → KnownOf f x → Maybe OpenOf (open_form f x)
 open-form (known.Universal first z alone) x h = leaf-open first z x
 open-form (known.Open first l) x h = h
 open-form f x h = tt
@@ -118,7 +118,7 @@ joint-none (kind.Own n) l m e = sooner-none l.wide m.wide e
 joint-none kind.Boolean l m e = sooner-none l.narrow m.narrow e
 joint-none kind.Integer l m e = sooner-none l.narrow m.narrow e
 
-open-two : (o : Op) (at first : ℕ) (x y : Limits × Part) → OpenOf x → OpenOf y → FoundOf (open_two o at first x y)
+open-two : (o : Op) (at first : ℕ) (x y : Limits × TypedPart) → OpenOf x → OpenOf y → FoundOf (open_two o at first x y)
 open-two o at first x y g h k i e = let n = joint-none k x.0 y.0 e in (is-typed k, g k i n.0, inl (h k i n.1))
 
 m-open_binary : (o : Op) (at : ℕ) (a b : Found) → FoundOf a → FoundOf b → Maybe FoundOf (open_binary o at a b)
@@ -152,7 +152,7 @@ m-binary o at x y g h = m-both FoundOf FoundOf FoundOf x y (operation o at) g h 
 
 -- ---- powers
 
-open-power : (at first : ℕ) (n : Part) (x : Limits × Part) → AskedOf kind.Integer n → OpenOf x → FoundOf (open_power at first n x)
+open-power : (at first : ℕ) (n : TypedPart) (x : Limits × TypedPart) → AskedOf kind.Integer n → OpenOf x → FoundOf (open_power at first n x)
 open-power at first n x g h k i e = (is-typed k, h k i e, inr (refl, subst (λ y. ExprFits exponent y) (sym (with-same (class_of k) exponent (as_expr n) g)) g))
 
 m-universal_power : (at : ℕ) (a b : Found) → FoundOf a → FoundOf b → Makes (Maybe FoundOf) (universal_power at a b)
@@ -239,7 +239,7 @@ m-not_of at x g = m-given FoundOf FoundOf x _ g (λ a p.
 
 -- ---- strings, logical operators, relations, membership
 
-m-joined_texts : (at : ℕ) (j : Known) (ps : Part) (k : Known) (qs : Part) → KnownOf j ps → KnownOf k qs → Makes (Maybe FoundOf) (joined_texts at j ps k qs)
+m-joined_texts : (at : ℕ) (j : Known) (ps : TypedPart) (k : Known) (qs : TypedPart) → KnownOf j ps → KnownOf k qs → Makes (Maybe FoundOf) (joined_texts at j ps k qs)
 m-joined_texts at (known.Text first) ps (known.Text second) qs g h = m-some FoundOf (text_found first (also_all ps qs)) (each-all IsPiece ps qs g h)
 m-joined_texts at j ps k qs g h = m-fault FoundOf at WrongType
 

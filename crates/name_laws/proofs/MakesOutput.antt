@@ -6,7 +6,7 @@ use Rattle.syntax_tree.specs.FirstTokens as first_token
 use Rattle.syntax_tree.specs.Syntax as syntax
 use Rattle.syntax_tree.specs.Syntax.{Args, Expr}
 use Rattle.typed_tree.specs.Decoded as part
-use Rattle.typed_tree.specs.Decoded.{Part}
+use Rattle.typed_tree.specs.Decoded.{TypedPart}
 use Rattle.typed_tree.specs.Syntax as typed
 use Rattle.typed_tree.specs.Syntax.{Selections}
 use Rattle.name_rules.specs.Expressions.{Inside, expr, judged_alone}
@@ -20,7 +20,7 @@ use Rattle.name_rules.specs.Types.{in_base, same, typed_scalar}
 use Rattle.name_rules.specs.Values.{asked, first_of, literal, mentions_of, static_of_kind, suits}
 use Rattle.name_rules.specs.declared.found.Found.TheVariants as known
 use Rattle.name_rules.specs.declared.found.Found.{Found as Known}
-use Rattle.name_rules.specs.declared.found.Place.{Place}
+use Rattle.name_rules.specs.declared.found.ObjectName.{ObjectName}
 use Rattle.name_rules.specs.declared.found.Put.TheVariants as put
 use Rattle.name_rules.specs.declared.found.Put.{Put}
 use Rattle.name_rules.specs.declared.found.Reach.{Reach}
@@ -43,10 +43,10 @@ use Rattle.name_laws.specs.Classes.{SelectionsFit}
 
 -- ---- strings
 
-abbrev TextOf : Part → Type 0
+abbrev TextOf : TypedPart → Type 0
 TextOf x = Each IsPiece x
 
-m-text_only : (f : Known) (x : Part) → KnownOf f x → Makes (Maybe TextOf) (text_only f x)
+m-text_only : (f : Known) (x : TypedPart) → KnownOf f x → Makes (Maybe TextOf) (text_only f x)
 m-text_only (known.Text first) x h = m-some TextOf x h
 m-text_only f x h = m-fault TextOf (first_of f) WrongType
 
@@ -62,7 +62,7 @@ m-text_call at first last line more f h =
 
 -- ---- numbers
 
-abbrev NumberOf : Part → Type 0
+abbrev NumberOf : TypedPart → Type 0
 NumberOf = AskedOf kind.Integer
 
 few : (z : ℤ) → (int_le (pos 0) z && int_le z (pos 255)) ≡ true → in_base kind.Integer z ≡ true
@@ -137,12 +137,12 @@ m-put_of_text at first last reach more f h =
     m-if (Maybe DenotedOf) reach.text_io (text_call at first last false more f) _ (m-text_call at first last false more f h)
     (m-if (Maybe DenotedOf) reach.expanded (fault (first_of f.known) WrongType) (fault first NotVisible) (m-fault DenotedOf (first_of f.known) WrongType) (m-fault DenotedOf first NotVisible))
 
-m-get_place : (first last : ℕ) (p : Place) (ss : Selections) (s : Subtype) → SelectionsFit ss → Makes (Maybe DenotedOf) (get_place first last p ss s)
+m-get_place : (first last : ℕ) (p : ObjectName) (ss : Selections) (s : Subtype) → SelectionsFit ss → Makes (Maybe DenotedOf) (get_place first last p ss s)
 m-get_place first last p ss (subtype.Scalar s) h =
     m-if (Maybe DenotedOf) (p.variable && same s.kind kind.Integer) (some (done_by first (typed.Get first last p.first p.root ss (typed_scalar s)))) (fault p.first WrongType) (m-some DenotedOf (done_by first (typed.Get first last p.first p.root ss (typed_scalar s))) h) (m-fault DenotedOf p.first WrongType)
 m-get_place first last p ss (subtype.Composite n) h = m-fault DenotedOf p.first WrongType
 
-m-get_of : (first last : ℕ) (f : Known) (x : Part) → KnownOf f x → Makes (Maybe DenotedOf) (get_of first last f x)
+m-get_of : (first last : ℕ) (f : Known) (x : TypedPart) → KnownOf f x → Makes (Maybe DenotedOf) (get_of first last f x)
 m-get_of first last (known.Object p) x h = m-get_place first last p (selections_of x) p.subtype (selections-fit x h.1)
 m-get_of first last f x h = m-fault DenotedOf (first_of f) WrongType
 

@@ -3,9 +3,9 @@ use Rattle.std.proofs.Common.{◌≡◌, refl, ℕ, ℤ, zero, suc, List, [], �
 use Rattle.std.specs.Prelude.{is_some, not, ◌||◌}
 use Rattle.syntax_tree.specs.FirstTokens as first_token
 use Rattle.syntax_tree.specs.Syntax as syntax
-use Rattle.syntax_tree.specs.Syntax.{Args, Elsifs, Expr, Iter, Name, OptionalParallel, Parts, Primary}
+use Rattle.syntax_tree.specs.Syntax.{Args, Elsifs, Expr, Iter, Name, OptionalParallel, NameParts, Primary}
 use Rattle.typed_tree.specs.Decoded as part
-use Rattle.typed_tree.specs.Decoded.{Part, as_expr}
+use Rattle.typed_tree.specs.Decoded.{TypedPart, as_expr}
 use Rattle.typed_tree.specs.Syntax as typed
 use Rattle.typed_tree.specs.Syntax.{Selections}
 use Rattle.typed_tree.specs.declared.program.SiteKind.TheVariants as site
@@ -35,7 +35,7 @@ use Rattle.name_rules.specs.declared.found.Folding.{Folding}
 use Rattle.name_rules.specs.declared.found.Found.TheVariants as known
 use Rattle.name_rules.specs.declared.found.Found.{Found as Known}
 use Rattle.name_rules.specs.declared.found.Limits.{Limits}
-use Rattle.name_rules.specs.declared.found.Place.{Place}
+use Rattle.name_rules.specs.declared.found.ObjectName.{ObjectName}
 use Rattle.name_rules.specs.declared.found.Prefix.TheVariants as prefix
 use Rattle.name_rules.specs.declared.found.Prefix.{Prefix}
 use Rattle.name_rules.specs.declared.log.Bound.TheVariants as bound
@@ -78,7 +78,7 @@ item-fits : (first n : ℕ) (v : Bool) (s : Option Subtype) → FoundOf (item_fo
 item-fits first n v None = (none-based (subtype.Composite 0), tt)
 item-fits first n v (Some s) = (none-based s, tt)
 
-m-array_reduction : (names : Names) (inside : Inside) (here : Context) (p : Place) (ss : Selections) (at : ℕ) (a : Attribute) (r v : Expr) → LevelFits inside → AreBased here.scope → SelectionsFit ss → Makes (Maybe DenotedOf) (array_reduction names inside here p ss at a r v)
+m-array_reduction : (names : Names) (inside : Inside) (here : Context) (p : ObjectName) (ss : Selections) (at : ℕ) (a : Attribute) (r v : Expr) → LevelFits inside → AreBased here.scope → SelectionsFit ss → Makes (Maybe DenotedOf) (array_reduction names inside here p ss at a r v)
 m-array_reduction names inside here p ss at a r v l b h =
     m-bind Any (Maybe DenotedOf) (site_where here p.first (is_parallel a)) _ (m-kept (site_where here p.first (is_parallel a)) (k-site_where spanning here p.first (is_parallel a))) (λ construct q1.
     m-bind Any (Maybe DenotedOf) new_parameter _ (m-kept new_parameter (k-new_parameter spanning)) (λ n q2.
@@ -99,29 +99,29 @@ m-array_reduction names inside here p ss at a r v l b h =
 m-wrong_arguments : (names : Names) (inside : Inside) (here : Context) (bracket : ℕ) (as' : Args) → LevelFits inside → Makes (Maybe DenotedOf) (wrong_arguments names inside here bracket as')
 m-wrong_arguments names inside here bracket as' l = m-where_clean Any DenotedOf (args_alone names inside here as') (λ u. fault bracket WrongType) (m-kept (args_alone names inside here as') (k-args_alone spanning names inside here as' tt l.keeps)) (λ u q. m-fault DenotedOf bracket WrongType)
 
-m-array_reduced : (names : Names) (inside : Inside) (here : Context) (p : Place) (ss : Selections) (at : ℕ) (a : Attribute) (bracket : ℕ) (as' : Args) → LevelFits inside → AreBased here.scope → SelectionsFit ss → Makes (Maybe DenotedOf) (array_reduced names inside here p ss at a bracket as')
+m-array_reduced : (names : Names) (inside : Inside) (here : Context) (p : ObjectName) (ss : Selections) (at : ℕ) (a : Attribute) (bracket : ℕ) (as' : Args) → LevelFits inside → AreBased here.scope → SelectionsFit ss → Makes (Maybe DenotedOf) (array_reduced names inside here p ss at a bracket as')
 m-array_reduced names inside here p ss at a bracket (syntax.AlsoArg (syntax.arg None r) (syntax.AlsoArg (syntax.arg None v) syntax.NoArg)) l b h = m-array_reduction names inside here p ss at a r v l b h
 m-array_reduced names inside here p ss at a bracket as' l b h = m-wrong_arguments names inside here bracket as' l
 
 m-no_array : (names : Names) (inside : Inside) (here : Context) (at : ℕ) (as' : Args) → LevelFits inside → Makes (Maybe DenotedOf) (where_clean (args_alone names inside here as') (λ u. fault at ReduceRule))
 m-no_array names inside here at as' l = m-where_clean Any DenotedOf (args_alone names inside here as') (λ u. fault at ReduceRule) (m-kept (args_alone names inside here as') (k-args_alone spanning names inside here as' tt l.keeps)) (λ u q. m-fault DenotedOf at ReduceRule)
 
-m-reduced_with : (names : Names) (inside : Inside) (here : Context) (first : ℕ) (p : Prefix) (x : Part) (at : ℕ) (a : Attribute) (bracket : ℕ) (as' : Args) (b : Bool) → LevelFits inside → AreBased here.scope → PrefixOf p x
+m-reduced_with : (names : Names) (inside : Inside) (here : Context) (first : ℕ) (p : Prefix) (x : TypedPart) (at : ℕ) (a : Attribute) (bracket : ℕ) (as' : Args) (b : Bool) → LevelFits inside → AreBased here.scope → PrefixOf p x
     → Makes (Maybe DenotedOf) (reduced_with names inside here first p x at a bracket as' b)
 m-reduced_with names inside here first (prefix.Object p) x at a bracket as' true l r h = m-array_reduced names inside here p (selections_of x) at a bracket as' l r (selections-fit x h.1)
 m-reduced_with names inside here first p x at a bracket as' b l r h = m-no_array names inside here at as' l
 
-m-of_array : (names : Names) (inside : Inside) (here : Context) (first : ℕ) (p : Prefix) (x : Part) (at : ℕ) (a : Attribute) (bracket : ℕ) (as' : Args) → LevelFits inside → AreBased here.scope → Makes (Maybe DenotedOf) (of_array names inside here first p x at a bracket as')
+m-of_array : (names : Names) (inside : Inside) (here : Context) (first : ℕ) (p : Prefix) (x : TypedPart) (at : ℕ) (a : Attribute) (bracket : ℕ) (as' : Args) → LevelFits inside → AreBased here.scope → Makes (Maybe DenotedOf) (of_array names inside here first p x at a bracket as')
 m-of_array names inside here first p x at a bracket as' l r =
     m-if (Maybe DenotedOf) (is_bound a) (read (λ log. dimensions_in log (prefix_subtype p)) >>= bound_with names inside here first (mentioned p x) a bracket as') (wrong_call names inside here first as')
     (record { at = λ log h. (m-bound_with names inside here first (mentioned p x) a bracket as' (dimensions_in log (prefix_subtype p)) l r (spans-in log (prefix_subtype p) h)).at log h })
     (m-wrong_call names inside here first as' l)
 
-m-other_with : (names : Names) (inside : Inside) (here : Context) (first : ℕ) (p : Prefix) (x : Part) (at : ℕ) (a : Attribute) (bracket : ℕ) (as' : Args) → LevelFits inside → AreBased here.scope → PrefixOf p x → Makes (Maybe DenotedOf) (other_with names inside here first p x at a bracket as')
+m-other_with : (names : Names) (inside : Inside) (here : Context) (first : ℕ) (p : Prefix) (x : TypedPart) (at : ℕ) (a : Attribute) (bracket : ℕ) (as' : Args) → LevelFits inside → AreBased here.scope → PrefixOf p x → Makes (Maybe DenotedOf) (other_with names inside here first p x at a bracket as')
 m-other_with names inside here first (prefix.Type (subtype.Scalar s)) x at a bracket as' l r h = m-scalar_with names inside here first s a bracket as' l r h
 m-other_with names inside here first p x at a bracket as' l r h = m-of_array names inside here first p x at a bracket as' l r
 
-m-attribute_with : (names : Names) (inside : Inside) (here : Context) (first : ℕ) (p : Prefix) (x : Part) (at : ℕ) (a : Attribute) (bracket : ℕ) (as' : Args) → LevelFits inside → AreBased here.scope → PrefixOf p x → Makes (Maybe DenotedOf) (attribute_with names inside here first p x at a bracket as')
+m-attribute_with : (names : Names) (inside : Inside) (here : Context) (first : ℕ) (p : Prefix) (x : TypedPart) (at : ℕ) (a : Attribute) (bracket : ℕ) (as' : Args) → LevelFits inside → AreBased here.scope → PrefixOf p x → Makes (Maybe DenotedOf) (attribute_with names inside here first p x at a bracket as')
 m-attribute_with names inside here first p x at a bracket as' l r h =
     m-if (Maybe DenotedOf) (is_reduction a) (read (λ log. is_array_object log p) >>= reduced_with names inside here first p x at a bracket as') (other_with names inside here first p x at a bracket as')
     (m-bind Any (Maybe DenotedOf) (read (λ log. is_array_object log p)) (reduced_with names inside here first p x at a bracket as') (m-read Any (λ log. is_array_object log p) (λ log g. tt)) (λ b q. m-reduced_with names inside here first p x at a bracket as' b l r h))
@@ -129,7 +129,7 @@ m-attribute_with names inside here first p x at a bracket as' l r h =
 
 -- ---- whole names
 
-m-call_form : (names : Names) (inside : Inside) (here : Context) (bracket : ℕ) (as' : Args) (k : KnownDenoted) (x : Part) → LevelFits inside → AreBased here.scope → DenotesOf k x → Makes (Maybe DenotedOf) (call_form names inside here bracket as' k x)
+m-call_form : (names : Names) (inside : Inside) (here : Context) (bracket : ℕ) (as' : Args) (k : KnownDenoted) (x : TypedPart) → LevelFits inside → AreBased here.scope → DenotesOf k x → Makes (Maybe DenotedOf) (call_form names inside here bracket as' k x)
 m-call_form names inside here bracket as' (denoted.Value (known.Object p)) x l r h = m-object_call names inside here p x bracket as' p.subtype l r h.1
 m-call_form names inside here bracket as' (denoted.Type first s) x l r h = m-conversion names inside here bracket first s as' l r
 m-call_form names inside here bracket as' (denoted.Sub first last n) x l r h = m-sub_call names inside here bracket first last n as' l r
@@ -137,7 +137,7 @@ m-call_form names inside here bracket as' (denoted.Io first last p reach) x l r 
 m-call_form names inside here bracket as' (denoted.Attribute first p at a) x l r h = m-attribute_with names inside here first p x at a bracket as' l r h
 m-call_form names inside here bracket as' k x l r h = m-wrong_call names inside here (denoted_first k) as' l
 
-m-part_of : (names : Names) (inside : Inside) (here : Context) (x : syntax.Part) (d : Denoted) → LevelFits inside → AreBased here.scope → DenotedOf d → Makes (Maybe DenotedOf) (part_of names inside here x d)
+m-part_of : (names : Names) (inside : Inside) (here : Context) (x : syntax.NamePart) (d : Denoted) → LevelFits inside → AreBased here.scope → DenotedOf d → Makes (Maybe DenotedOf) (part_of names inside here x d)
 unfolding part_of call
 m-part_of names inside here (syntax.Field at) d l r h = m-bind (Maybe DenotedOf) (Maybe DenotedOf) (settled_attribute d) _ (m-settled_attribute d h) (λ x q. m-given DenotedOf DenotedOf x (field names here at) q (λ e s. m-field names here at e s))
 m-part_of names inside here (syntax.Call bracket a as') d l r h = m-call_form names inside here bracket (syntax.AlsoArg a as') d.known d.part l r h
@@ -146,15 +146,15 @@ m-part_of names inside here (syntax.Attribute at) d l r h =
 m-part_of names inside here (syntax.RangeAttribute at) d l r h =
     m-bind (Maybe DenotedOf) (Maybe DenotedOf) (settled_attribute d) _ (m-settled_attribute d h) (λ x q. m-given DenotedOf DenotedOf x _ q (λ e s. m-attribute_found e at (Some attribute'.Range) s))
 
-m-part_alone : (names : Names) (inside : Inside) (here : Context) (x : syntax.Part) → LevelFits inside → Makes (Maybe DenotedOf) (part_alone names inside here x)
+m-part_alone : (names : Names) (inside : Inside) (here : Context) (x : syntax.NamePart) → LevelFits inside → Makes (Maybe DenotedOf) (part_alone names inside here x)
 m-part_alone names inside here (syntax.Call bracket a as') l = m-bind Any (Maybe DenotedOf) (args_alone names inside here (syntax.AlsoArg a as')) _ (m-kept (args_alone names inside here (syntax.AlsoArg a as')) (k-args_alone spanning names inside here (syntax.AlsoArg a as') tt l.keeps)) (λ u q. m-none DenotedOf)
 m-part_alone names inside here x l = m-none DenotedOf
 
-m-next_part : (names : Names) (inside : Inside) (here : Context) (d : Option Denoted) (x : syntax.Part) → LevelFits inside → AreBased here.scope → Maybe DenotedOf d → Makes (Maybe DenotedOf) (next_part names inside here d x)
+m-next_part : (names : Names) (inside : Inside) (here : Context) (d : Option Denoted) (x : syntax.NamePart) → LevelFits inside → AreBased here.scope → Maybe DenotedOf d → Makes (Maybe DenotedOf) (next_part names inside here d x)
 m-next_part names inside here None x l r h = m-part_alone names inside here x l
 m-next_part names inside here (Some d) x l r h = m-part_of names inside here x d l r h
 
-m-parts : (names : Names) (inside : Inside) (here : Context) (d : Option Denoted) (ps : Parts) → LevelFits inside → AreBased here.scope → Maybe DenotedOf d → Makes (Maybe DenotedOf) (parts names inside here d ps)
+m-parts : (names : Names) (inside : Inside) (here : Context) (d : Option Denoted) (ps : NameParts) → LevelFits inside → AreBased here.scope → Maybe DenotedOf d → Makes (Maybe DenotedOf) (parts names inside here d ps)
 m-parts names inside here d syntax.NoPart l r h = m-pure (Maybe DenotedOf) d h
 m-parts names inside here d (syntax.AlsoPart x ps) l r h = m-bind (Maybe DenotedOf) (Maybe DenotedOf) (next_part names inside here d x) _ (m-next_part names inside here d x l r h) (λ e q. m-parts names inside here e ps l r q)
 
@@ -164,7 +164,7 @@ m-name names inside here (syntax.name first ps) l r =
     m-bind (Maybe DenotedOf) (Maybe DenotedOf) (stands_for names here first) _ (m-stands_for names here first r) (λ d q.
     m-bind (Maybe DenotedOf) (Maybe DenotedOf) (parts names inside here d ps) _ (m-parts names inside here d ps l r q) (λ e s. m-given DenotedOf DenotedOf e settled_attribute s (λ x t. m-settled_attribute x t)))
 
-m-valued_form : (names : Names) (inside : Inside) (here : Context) (k : KnownDenoted) (x : Part) → LevelFits inside → AreBased here.scope → DenotesOf k x → Makes (Maybe DenotedOf) (valued_form names inside here k x)
+m-valued_form : (names : Names) (inside : Inside) (here : Context) (k : KnownDenoted) (x : TypedPart) → LevelFits inside → AreBased here.scope → DenotesOf k x → Makes (Maybe DenotedOf) (valued_form names inside here k x)
 m-valued_form names inside here (denoted.Sub first last n) x l r h = m-sub_call names inside here first first last n syntax.NoArg l r
 m-valued_form names inside here (denoted.Io first last p reach) x l r h = m-io_call names inside here first first last p reach syntax.NoArg l r
 m-valued_form names inside here k x l r h = m-some DenotedOf (denote k x) h
@@ -173,7 +173,7 @@ pub m-valued_by : (names : Names) (inside : Inside) (here : Context) (d : Denote
 unfolding valued_by
 m-valued_by names inside here d l r h = m-valued_form names inside here d.known d.part l r h
 
-m-value_form : (k : KnownDenoted) (x : Part) → DenotesOf k x → Makes Finding (value_form k x)
+m-value_form : (k : KnownDenoted) (x : TypedPart) → DenotesOf k x → Makes Finding (value_form k x)
 m-value_form (denoted.Value f) x h = m-some FoundOf (record { known = f; part = x }) h
 m-value_form (denoted.Parameter first s) x h = m-some FoundOf (parameter_found first s x) (h _)
 m-value_form k x h = m-fault FoundOf (denoted_first k) WrongType
@@ -187,14 +187,14 @@ m-value_named names inside here x l r =
 
 -- ---- conditional expressions
 
-abbrev Waits : List Known → Part → Type 0
+abbrev Waits : List Known → TypedPart → Type 0
 Waits [] ps = Unit {0}
 Waits (f ∷ fs) ps = ExprFits class.Boolean (as_expr (left_of (left_of ps))) × KnownOf f (right_of (left_of ps)) × Waits fs (right_of ps)
 
 abbrev WaitingOf : Waiting → Type 0
 WaitingOf w = Waits w.known w.part
 
-also-choice : (w : Option Waiting) (x : Option Part) (f : Option Found) → Maybe WaitingOf w → Maybe (AskedOf kind.Boolean) x → Finding f → Maybe WaitingOf (also_choice w x f)
+also-choice : (w : Option Waiting) (x : Option TypedPart) (f : Option Found) → Maybe WaitingOf w → Maybe (AskedOf kind.Boolean) x → Finding f → Maybe WaitingOf (also_choice w x f)
 also-choice None x f g h i = tt
 also-choice (Some w) None f g h i = tt
 also-choice (Some w) (Some x) None g h i = tt
@@ -210,7 +210,7 @@ m-alternatives : (names : Names) (level : Inside) (here : Context) (want : Wante
 m-alternatives names level here want made syntax.NoElsif l r g = m-pure (Maybe WaitingOf) made g
 m-alternatives names level here want made (syntax.AlsoElsif (syntax.elsif at c v) es) l r g = m-bind (Maybe WaitingOf) (Maybe WaitingOf) (alternative names level here want made c v) _ (m-alternative names level here want made c v l r g) (λ d q. m-alternatives names level here want d es l r q)
 
-m-scalar_ifs : (k : Kind) (fs : List Known) (ps : Part) (o : Option Part) → Waits fs ps → Maybe (AskedOf k) o → Makes (Maybe (AskedOf k)) (scalar_ifs k fs ps o)
+m-scalar_ifs : (k : Kind) (fs : List Known) (ps : TypedPart) (o : Option TypedPart) → Waits fs ps → Maybe (AskedOf k) o → Makes (Maybe (AskedOf k)) (scalar_ifs k fs ps o)
 m-scalar_ifs k [] ps o g h = m-pure (Maybe (AskedOf k)) o h
 m-scalar_ifs k (f ∷ fs) ps o g h =
     m-bind (Maybe (AskedOf k)) (Maybe (AskedOf k)) (asked k (record { known = f; part = right_of (left_of ps) })) _ (m-asked k (record { known = f; part = right_of (left_of ps) }) g.1) (λ v q.
@@ -223,7 +223,7 @@ m-scalar_if bracket k w f g h =
     m-bind (Maybe (AskedOf k)) Finding (scalar_ifs k w.known w.part o) _ (m-scalar_ifs k w.known w.part o g q) (λ e s.
     m-pure Finding (option_map (with_known (known.Scalar bracket k None)) e) (mapped (AskedOf k) FoundOf (with_known (known.Scalar bracket k None)) e s (λ x t. t))))
 
-m-composite_ifs : (n : ℕ) (fs : List Known) (ps : Part) (o : Option Part) → Waits fs ps → Maybe CompositeOf o → Makes (Maybe CompositeOf) (composite_ifs n fs ps o)
+m-composite_ifs : (n : ℕ) (fs : List Known) (ps : TypedPart) (o : Option TypedPart) → Waits fs ps → Maybe CompositeOf o → Makes (Maybe CompositeOf) (composite_ifs n fs ps o)
 m-composite_ifs n [] ps o g h = m-pure (Maybe CompositeOf) o h
 m-composite_ifs n (f ∷ fs) ps o g h =
     m-bind (Maybe CompositeOf) (Maybe CompositeOf) (composite_asked n (record { known = f; part = right_of (left_of ps) })) _ (m-composite_asked n (record { known = f; part = right_of (left_of ps) }) g.1) (λ v q.
@@ -236,10 +236,10 @@ m-composite_if bracket n w f g h =
     m-bind (Maybe CompositeOf) Finding (composite_ifs n w.known w.part o) _ (m-composite_ifs n w.known w.part o g q) (λ c s.
     m-pure Finding (option_map (with_known (known.Composite bracket n)) c) (mapped CompositeOf FoundOf (with_known (known.Composite bracket n)) c s (λ x t. t))))
 
-open-part : (c : Part) (v o : Limits × Part) → ExprFits class.Boolean (as_expr c) → OpenOf v → OpenOf o → OpenOf (open_part c v o)
+open-part : (c : TypedPart) (v o : Limits × TypedPart) → ExprFits class.Boolean (as_expr c) → OpenOf v → OpenOf o → OpenOf (open_part c v o)
 open-part c v o g h i k s e = let n = joint-none k v.0 o.0 e in (g, h k s n.0, i k s n.1)
 
-open-ifs : (fs : List Known) (ps : Part) (o : Option (Limits × Part)) → Waits fs ps → Maybe OpenOf o → Maybe OpenOf (open_ifs fs ps o)
+open-ifs : (fs : List Known) (ps : TypedPart) (o : Option (Limits × TypedPart)) → Waits fs ps → Maybe OpenOf o → Maybe OpenOf (open_ifs fs ps o)
 open-ifs [] ps o g h = h
 open-ifs (f ∷ fs) ps o g h =
     open-ifs fs (right_of ps) (joined (open_part (left_of (left_of ps))) (open_of (record { known = f; part = right_of (left_of ps) })) o) g.2
@@ -266,7 +266,7 @@ m-grouped_scalar bracket f (Some k) n h = m-bind (Maybe (AskedOf k)) Finding (as
 m-grouped_scalar bracket f None (Some n) h = m-bind (Maybe CompositeOf) Finding (composite_asked n f) _ (m-composite_asked n f h) (λ c q. m-pure Finding (option_map (with_known (known.Composite bracket n)) c) (mapped CompositeOf FoundOf (with_known (known.Composite bracket n)) c q (λ x s. s)))
 m-grouped_scalar bracket f None None h = m-none FoundOf
 
-pub based-value : (f : Known) (x : Part) (k : Kind) (z : ℤ) → KnownOf f x → kind_of f ≡ Some k → value_of f ≡ Some z → in_base k z ≡ true
+pub based-value : (f : Known) (x : TypedPart) (k : Kind) (z : ℤ) → KnownOf f x → kind_of f ≡ Some k → value_of f ≡ Some z → in_base k z ≡ true
 based-value (known.Universal first y alone) x k z h e g = absurd cc
 based-value (known.Open first l) x k z h e g = absurd cc
 based-value (known.Static first j y) x k z h e g = static-value j y k z h e g
@@ -284,7 +284,7 @@ m-grouped_by bracket f (Some k) (Some z) e g h = m-some FoundOf (static bracket 
 m-grouped_by bracket f (Some k) None e g h = m-grouped_scalar bracket f (Some k) (composite_in f.known) h
 m-grouped_by bracket f None z e g h = m-grouped_scalar bracket f None (composite_in f.known) h
 
-m-grouped_form : (bracket : ℕ) (f : Known) (x : Part) → KnownOf f x → Makes Finding (grouped_form bracket f x)
+m-grouped_form : (bracket : ℕ) (f : Known) (x : TypedPart) → KnownOf f x → Makes Finding (grouped_form bracket f x)
 m-grouped_form bracket (known.Universal first z alone) x h = m-some FoundOf (with_known (known.Universal bracket z false) x) tt
 m-grouped_form bracket (known.Open first l) x h = m-some FoundOf (opened bracket l (typed.Group (as_expr x))) h
 m-grouped_form bracket (known.Text first) x h = m-some FoundOf (with_known (known.Text bracket) x) h

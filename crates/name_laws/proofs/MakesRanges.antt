@@ -5,7 +5,7 @@ use Rattle.syntax_tree.specs.FirstTokens as first_token
 use Rattle.syntax_tree.specs.Syntax as syntax
 use Rattle.syntax_tree.specs.Syntax.{Iter, OptionalExpr, OptionalParallel, Parallel, Range, Simple}
 use Rattle.typed_tree.specs.Decoded as part
-use Rattle.typed_tree.specs.Decoded.{Part, as_iteration, as_optional}
+use Rattle.typed_tree.specs.Decoded.{TypedPart, as_iteration, as_optional}
 use Rattle.typed_tree.specs.Syntax as typed
 use Rattle.typed_tree.specs.Syntax.{Iteration, Optional, Selections}
 use Rattle.typed_tree.specs.declared.program.SiteKind.{SiteKind}
@@ -27,7 +27,7 @@ use Rattle.name_rules.specs.Values.{any_integer, asked, first_of, is_scalar, kin
 use Rattle.name_rules.specs.declared.found.Denoted.TheVariants as denoted
 use Rattle.name_rules.specs.declared.found.Denoted.{Denoted as KnownDenoted}
 use Rattle.name_rules.specs.declared.found.Found.TheVariants as known
-use Rattle.name_rules.specs.declared.found.Place.{Place}
+use Rattle.name_rules.specs.declared.found.ObjectName.{ObjectName}
 use Rattle.name_rules.specs.declared.log.Log.{Log}
 use Rattle.name_rules.specs.declared.log.Rule.TheVariants.{Twice, WrongType}
 use Rattle.name_rules.specs.declared.log.Shape.{Shape}
@@ -55,7 +55,7 @@ use Rattle.name_laws.specs.Classes.{ExprFits, IterationFits, OptionalFits, Selec
 -- ---- ranges
 
 -- two bounds of one class
-abbrev pub RangeOf : Part → Type 0
+abbrev pub RangeOf : TypedPart → Type 0
 RangeOf p = (d : Class) × ExprFits d (low_of p) × ExprFits d (high_of p)
 
 abbrev pub BoundedOf : Bounded → Type 0
@@ -93,10 +93,10 @@ unfolding checked_range
 m-checked_range first s a z g h =
     m-bind (Maybe RangeOf) (Maybe BoundedOf) (bounds_of s.kind a z) _ (m-bounds_of s.kind a z g h) (λ x q. m-pure (Maybe BoundedOf) (option_map (bounded_by first s (Some s) a z) x) (mapped RangeOf BoundedOf (bounded_by first s (Some s) a z) x q (λ y t. t)))
 
-whole-range : (first : ℕ) (k : Kind) (low high : ℤ) (ms : Part) → IsSpan k low high → BoundedOf (whole_range first k low high ms)
+whole-range : (first : ℕ) (k : Kind) (low high : ℤ) (ms : TypedPart) → IsSpan k low high → BoundedOf (whole_range first k low high ms)
 whole-range first k low high ms h = (class_of k, has-value k low h.first, has-value k high h.last)
 
-m-named_range : (k : KnownDenoted) (x : Part) → DenotesOf k x → Makes (Maybe BoundedOf) (named_range k x)
+m-named_range : (k : KnownDenoted) (x : TypedPart) → DenotesOf k x → Makes (Maybe BoundedOf) (named_range k x)
 m-named_range (denoted.Range first d) x h = m-some BoundedOf (whole_range first d.kind d.low d.high x) (whole-range first d.kind d.low d.high x h)
 m-named_range (denoted.Type first (subtype.Scalar s)) x h = m-some BoundedOf (whole_range first s.kind s.low s.high part.Nothing) (whole-range first s.kind s.low s.high part.Nothing h)
 m-named_range k x h = m-fault BoundedOf (denoted_first k) WrongType
@@ -157,10 +157,10 @@ item-based : (n : ℕ) (v : Bool) (t : Option Subtype) → IsBasedWhat (item_wha
 item-based n v None = tt
 item-based n v (Some s) = tt
 
-pub through-fits : (log : Log) (p : Place) (ss : Selections) (t : Option Shape) (n : ℕ) → SelectionsFit ss → IterationOf (part.AnIteration (through log p ss t n typed.Absent))
+pub through-fits : (log : Log) (p : ObjectName) (ss : Selections) (t : Option Shape) (n : ℕ) → SelectionsFit ss → IterationOf (part.AnIteration (through log p ss t n typed.Absent))
 through-fits log p ss t n h = (h, tt)
 
-m-over_place : (n token : ℕ) (f : OptionalExpr) (p : Place) (ss : Selections) → SelectionsFit ss → Makes WalkedOf (over_place n token f p ss)
+m-over_place : (n token : ℕ) (f : OptionalExpr) (p : ObjectName) (ss : Selections) → SelectionsFit ss → Makes WalkedOf (over_place n token f p ss)
 m-over_place n token f p ss h = record {
   at = λ log g.
       (m-if WalkedOf (is_array (array_shape log p.subtype)) (pure (array_walked log n token f p ss (array_shape log p.subtype))) _
@@ -171,7 +171,7 @@ m-over_place n token f p ss h = record {
 m-no_place : (at token : ℕ) (f : OptionalExpr) → Makes WalkedOf (breaks at WrongType >>= λ u. pure (no_array token f))
 m-no_place at token f = m-bind Any WalkedOf (breaks at WrongType) _ (m-breaks at WrongType) (λ u q. m-pure WalkedOf (no_array token f) (tt, tt))
 
-m-over_form : (n token : ℕ) (f : OptionalExpr) (k : KnownDenoted) (x : Part) → DenotesOf k x → Makes WalkedOf (over_form n token f k x)
+m-over_form : (n token : ℕ) (f : OptionalExpr) (k : KnownDenoted) (x : TypedPart) → DenotesOf k x → Makes WalkedOf (over_form n token f k x)
 m-over_form n token f (denoted.Value (known.Object p)) x h = m-over_place n token f p (selections_of x) (selections-fit x h.1)
 m-over_form n token f k x h = m-no_place (denoted_first k) token f
 
@@ -206,14 +206,14 @@ m-with_walked names here start w g h =
     m-pure AroundOf (with_entry here (symbol names w.token) w.entry) (are-based here.scope (entry (symbol names w.token) w.entry ∷ []) h (g, tt)))
 
 -- a condition that may be left out
-abbrev pub FilterOf : Part → Type 0
+abbrev pub FilterOf : TypedPart → Type 0
 FilterOf x = OptionalFits class.Boolean (as_optional x)
 
-pub filter-of : (x : Part) → AskedOf kind.Boolean x → FilterOf x
+pub filter-of : (x : TypedPart) → AskedOf kind.Boolean x → FilterOf x
 filter-of (part.AnExpr e) h = h
 filter-of x h = tt
 
-pub some-filter : (x : Option Part) → Maybe (AskedOf kind.Boolean) x → Maybe FilterOf x
+pub some-filter : (x : Option TypedPart) → Maybe (AskedOf kind.Boolean) x → Maybe FilterOf x
 some-filter None h = tt
 some-filter (Some x) h = filter-of x h
 

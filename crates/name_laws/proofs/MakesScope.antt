@@ -3,7 +3,7 @@ use Rattle.std.proofs.Common.{refl, sym, subst, ◌⊎◌, inl, inr, ℕ, List, 
 use Rattle.std.specs.Prelude.{not, ◌||◌}
 use Rattle.ada_base.specs.declared.reason.Reason.TheVariants as reason
 use Rattle.typed_tree.specs.Decoded as part
-use Rattle.typed_tree.specs.Decoded.{Part, as_expr, as_stmt}
+use Rattle.typed_tree.specs.Decoded.{TypedPart, as_expr, as_stmt}
 use Rattle.typed_tree.specs.declared.scalars.Class.{Class}
 use Rattle.name_rules.specs.Found.{Denoted, denote}
 use Rattle.name_rules.specs.Judging.{fault}
@@ -33,13 +33,13 @@ use Rattle.name_laws.specs.Hiding.{HasNone, IsLast}
 
 -- ---- what is asked of what a name denotes
 
-abbrev pub PrefixOf : Prefix → Part → Type 0
+abbrev pub PrefixOf : Prefix → TypedPart → Type 0
 PrefixOf (prefix.Object p) x = HasBased p.subtype p.value × Each IsSelection x
 PrefixOf (prefix.Parameter s) x = (c : Class) → ExprFits c (as_expr x)
 PrefixOf (prefix.Type t) x = IsBased t
 PrefixOf p x = Unit {0}
 
-abbrev pub DenotesOf : KnownDenoted → Part → Type 0
+abbrev pub DenotesOf : KnownDenoted → TypedPart → Type 0
 DenotesOf (denoted.Value f) x = KnownOf f x
 DenotesOf (denoted.Parameter first s) x = (c : Class) → ExprFits c (as_expr x)
 DenotesOf (denoted.Type first t) x = IsBased t
@@ -116,7 +116,7 @@ m-stands_for names here token h = by (hiding_law.either (symbol names token) her
 
 -- ---- names of subtypes
 
-m-as_type : (token : ℕ) (k : KnownDenoted) (x : Part) → DenotesOf k x → Makes (Maybe IsBased) (as_type token k)
+m-as_type : (token : ℕ) (k : KnownDenoted) (x : TypedPart) → DenotesOf k x → Makes (Maybe IsBased) (as_type token k)
 m-as_type token (denoted.Type first t) x h = m-some IsBased t h
 m-as_type token k x h = m-fault IsBased token WrongType
 

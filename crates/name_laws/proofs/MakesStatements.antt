@@ -6,7 +6,7 @@ use Rattle.syntax_tree.specs.FirstTokens as first_token
 use Rattle.syntax_tree.specs.Syntax as syntax
 use Rattle.syntax_tree.specs.Syntax.{Alt, Alts, Arms, Body, Branches, Declare, Expr, Handler, Handlers, Iter, MoreStmts, Name, OptionalParallel, OptionalStmts, Pack, Scheme, Simple, Stmt, Stmts}
 use Rattle.typed_tree.specs.Decoded as part
-use Rattle.typed_tree.specs.Decoded.{Part, as_alternative, as_alternatives, as_arms, as_body, as_expr, as_handler, as_handlers, as_optional, as_stmt, as_stmts}
+use Rattle.typed_tree.specs.Decoded.{TypedPart, as_alternative, as_alternatives, as_arms, as_body, as_expr, as_handler, as_handlers, as_optional, as_stmt, as_stmts}
 use Rattle.typed_tree.specs.Latest.{turned}
 use Rattle.typed_tree.specs.Syntax as typed
 use Rattle.typed_tree.specs.Syntax.{Alternatives, Selections, Handlers as TypedHandlers, Handled as TypedHandled}
@@ -30,7 +30,7 @@ use Rattle.name_rules.specs.Values.{first_of, is_scalar, settled_found, stored}
 use Rattle.name_rules.specs.declared.found.Denoted.TheVariants as denoted
 use Rattle.name_rules.specs.declared.found.Denoted.{Denoted as KnownDenoted}
 use Rattle.name_rules.specs.declared.found.Found.TheVariants as known
-use Rattle.name_rules.specs.declared.found.Place.{Place}
+use Rattle.name_rules.specs.declared.found.ObjectName.{ObjectName}
 use Rattle.name_rules.specs.declared.log.Bound.TheVariants as bound
 use Rattle.name_rules.specs.declared.log.Rule.TheVariants.{Limit, NotVisible, WrongType}
 use Rattle.name_rules.specs.declared.scope.Context.{Context}
@@ -63,34 +63,34 @@ use Rattle.name_laws.specs.Classes.{AlternativesFit, ArmsFit, BodyFits, ExprFits
 
 -- ---- lists
 
-abbrev pub StmtOf : Part → Type 0
+abbrev pub StmtOf : TypedPart → Type 0
 StmtOf x = StmtFits (as_stmt x)
 
-abbrev pub StmtsOf : Part → Type 0
+abbrev pub StmtsOf : TypedPart → Type 0
 StmtsOf x = StmtsFit (as_stmts x)
 
-stmts-list : (x : Part) → Each StmtOf x → StmtsOf x
+stmts-list : (x : TypedPart) → Each StmtOf x → StmtsOf x
 stmts-list (part.Cons p q) h = (h.0, stmts-list q h.1)
 stmts-list x h = tt
 
-stmts-fit : (x : Part) → Each StmtOf x → StmtsOf (turned x)
+stmts-fit : (x : TypedPart) → Each StmtOf x → StmtsOf (turned x)
 stmts-fit x h = stmts-list (turned x) (each-turned StmtOf x h)
 
-abbrev IsAlternative : Part → Type 0
+abbrev IsAlternative : TypedPart → Type 0
 IsAlternative p = (as' : Alternatives) → AlternativesFit as' → AlternativesFit (as_alternative p as')
 
-alternatives-list : (x : Part) → Each IsAlternative x → AlternativesFit (as_alternatives x)
+alternatives-list : (x : TypedPart) → Each IsAlternative x → AlternativesFit (as_alternatives x)
 alternatives-list (part.Cons p q) h = h.0 (as_alternatives q) (alternatives-list q h.1)
 alternatives-list x h = tt
 
-abbrev IsHandler : Part → Type 0
+abbrev IsHandler : TypedPart → Type 0
 IsHandler p = (hs : TypedHandlers) → HandlersFit hs → HandlersFit (as_handler p hs)
 
-handlers-list : (x : Part) → Each IsHandler x → HandlersFit (as_handlers x)
+handlers-list : (x : TypedPart) → Each IsHandler x → HandlersFit (as_handlers x)
 handlers-list (part.Cons p q) h = h.0 (as_handlers q) (handlers-list q h.1)
 handlers-list x h = tt
 
-arms-list : (x : Part) → Each StmtsOf x → ArmsFit (as_arms x)
+arms-list : (x : TypedPart) → Each StmtsOf x → ArmsFit (as_arms x)
 arms-list (part.Cons p q) h = (h.0, arms-list q h.1)
 arms-list x h = tt
 
@@ -101,7 +101,7 @@ pub record AroundFits (a : Around) : Type 0 where
   pub inner : LevelFits a.inner
   pub within : (here : Context) (x : Stmt) → AreBased here.scope → Makes (Maybe StmtOf) (a.within here x)
 
-m-stmts_from : (a : Around) (here : Context) (made : Option Part) (x : MoreStmts) → AroundFits a → AreBased here.scope → Maybe (Each StmtOf) made → Makes (Maybe (Each StmtOf)) (s.stmts_from a here made x)
+m-stmts_from : (a : Around) (here : Context) (made : Option TypedPart) (x : MoreStmts) → AroundFits a → AreBased here.scope → Maybe (Each StmtOf) made → Makes (Maybe (Each StmtOf)) (s.stmts_from a here made x)
 m-stmts_from a here made syntax.NoStmt f r g = m-pure (Maybe (Each StmtOf)) made g
 m-stmts_from a here made (syntax.AlsoStmt x xs) f r g =
     m-bind (Maybe StmtOf) (Maybe (Each StmtOf)) (a.within here x) _ (f.within here x r) (λ y q. m-stmts_from a here (joined s.with_stmt made y) xs f r (joint (Each StmtOf) StmtOf (Each StmtOf) s.with_stmt made y g q (λ b c m n. (n, m))))
@@ -114,14 +114,14 @@ m-stmts a here (syntax.stmts x xs) f r =
 
 -- ---- assignments and calls
 
-m-stored_place : (p : Place) (ss : Selections) (at : ℕ) (f : Found) → SelectionsFit ss → FoundOf f → Makes (Maybe StmtOf) (s.stored_place p ss at f)
+m-stored_place : (p : ObjectName) (ss : Selections) (at : ℕ) (f : Found) → SelectionsFit ss → FoundOf f → Makes (Maybe StmtOf) (s.stored_place p ss at f)
 m-stored_place p ss at f h g =
     m-bind (Maybe ValueOf) (Maybe StmtOf) (stored p.subtype at f) _ (m-stored p.subtype at f g) (λ v q. m-pure (Maybe StmtOf) (option_map (s.assigned p ss) v) (mapped ValueOf StmtOf (s.assigned p ss) v q (λ x t. (h, t))))
 
-m-assigned_place : (p : Place) (ss : Selections) (at : ℕ) (x : Option Found) → SelectionsFit ss → Finding x → Makes (Maybe StmtOf) (s.assigned_place p ss at x)
+m-assigned_place : (p : ObjectName) (ss : Selections) (at : ℕ) (x : Option Found) → SelectionsFit ss → Finding x → Makes (Maybe StmtOf) (s.assigned_place p ss at x)
 m-assigned_place p ss at x h g = m-if (Maybe StmtOf) (not p.variable) (fault p.first WrongType) (given x (s.stored_place p ss at)) (m-fault StmtOf p.first WrongType) (m-given FoundOf StmtOf x (s.stored_place p ss at) g (λ f q. m-stored_place p ss at f h q))
 
-m-assign_place : (names : Names) (level : Inside) (here : Context) (p : Place) (ss : Selections) (e : Expr) → LevelFits level → AreBased here.scope → SelectionsFit ss → Makes (Maybe StmtOf) (s.assign_place names level here p ss e)
+m-assign_place : (names : Names) (level : Inside) (here : Context) (p : ObjectName) (ss : Selections) (e : Expr) → LevelFits level → AreBased here.scope → SelectionsFit ss → Makes (Maybe StmtOf) (s.assign_place names level here p ss e)
 unfolding s.assign_place
 m-assign_place names level here p ss e l r h =
     let there = s.with_target here (target.Of p.subtype) in
@@ -133,7 +133,7 @@ m-assigned_alone names level here e l r = m-judged_alone names level (s.with_tar
 m-assign_other : (names : Names) (level : Inside) (here : Context) (e : Expr) (first : ℕ) → LevelFits level → AreBased here.scope → Makes (Maybe StmtOf) (s.assign_other names level here e first)
 m-assign_other names level here e first l r = m-where_clean Any StmtOf (s.assigned_alone names level here e) (λ u. fault first WrongType) (m-assigned_alone names level here e l r) (λ u q. m-fault StmtOf first WrongType)
 
-m-assign_form : (names : Names) (level : Inside) (here : Context) (e : Expr) (k : KnownDenoted) (x : Part) → LevelFits level → AreBased here.scope → DenotesOf k x → Makes (Maybe StmtOf) (s.assign_form names level here e k x)
+m-assign_form : (names : Names) (level : Inside) (here : Context) (e : Expr) (k : KnownDenoted) (x : TypedPart) → LevelFits level → AreBased here.scope → DenotesOf k x → Makes (Maybe StmtOf) (s.assign_form names level here e k x)
 m-assign_form names level here e (denoted.Value (known.Object p)) x l r h = m-assign_place names level here p (selections_of x) e l r (selections-fit x h.1)
 m-assign_form names level here e k x l r h = m-assign_other names level here e (denoted_first k) l r
 
@@ -144,7 +144,7 @@ m-assign_to names level here e (Some d) l r h = m-assign_form names level here e
 m-assign : (names : Names) (level : Inside) (here : Context) (n : Name) (e : Expr) → LevelFits level → AreBased here.scope → Makes (Maybe StmtOf) (s.assign names level here n e)
 m-assign names level here n e l r = m-bind (Maybe DenotedOf) (Maybe StmtOf) (level.name here n) (s.assign_to names level here e) (l.name here n r) (λ d q. m-assign_to names level here e d l r q)
 
-m-as_statement : (k : KnownDenoted) (x : Part) → DenotesOf k x → Makes (Maybe StmtOf) (s.as_statement k x)
+m-as_statement : (k : KnownDenoted) (x : TypedPart) → DenotesOf k x → Makes (Maybe StmtOf) (s.as_statement k x)
 m-as_statement (denoted.Done first) x h = m-some StmtOf x h
 m-as_statement k x h = m-fault StmtOf (denoted_first k) WrongType
 
@@ -201,14 +201,14 @@ m-raise_from names here at (Some p) =
 -- ---- if statements
 
 -- a condition with its statements
-abbrev IsBranch : Part → Type 0
+abbrev IsBranch : TypedPart → Type 0
 IsBranch p = ExprFits class.Boolean (as_expr (left_of p)) × StmtsOf (right_of p)
 
-with-elsif-if : (made c ss : Option Part) → Maybe (Each IsBranch) made → Maybe (AskedOf kind.Boolean) c → Maybe StmtsOf ss → Maybe (Each IsBranch) (s.with_elsif_if made c ss)
+with-elsif-if : (made c ss : Option TypedPart) → Maybe (Each IsBranch) made → Maybe (AskedOf kind.Boolean) c → Maybe StmtsOf ss → Maybe (Each IsBranch) (s.with_elsif_if made c ss)
 with-elsif-if made None ss g h i = tt
 with-elsif-if made (Some c) ss g h i = joint (Each IsBranch) StmtsOf (Each IsBranch) (s.with_elsif c) made ss g i (λ a b m n. ((h, n), m))
 
-m-elsifs : (a : Around) (here : Context) (made : Option Part) (x : Arms) → AroundFits a → AreBased here.scope → Maybe (Each IsBranch) made → Makes (Maybe (Each IsBranch)) (s.elsifs a here made x)
+m-elsifs : (a : Around) (here : Context) (made : Option TypedPart) (x : Arms) → AroundFits a → AreBased here.scope → Maybe (Each IsBranch) made → Makes (Maybe (Each IsBranch)) (s.elsifs a here made x)
 m-elsifs a here made syntax.NoArm f r g = m-pure (Maybe (Each IsBranch)) made g
 m-elsifs a here made (syntax.AlsoArm (syntax.arm at e x) xs) f r g =
     m-bind (Maybe (AskedOf kind.Boolean)) (Maybe (Each IsBranch)) (condition a.names a.level here e) _ (m-condition a.names a.level here e f.level r) (λ c q.
@@ -218,7 +218,7 @@ m-otherwise_where : (a : Around) (here : Context) (o : OptionalStmts) → Around
 m-otherwise_where a here syntax.AbsentStmts f r = m-some StmtsOf s.no_stmts tt
 m-otherwise_where a here (syntax.PresentStmts x) f r = m-stmts a here x f r
 
-nested-fit : (xs o : Part) → Each IsBranch xs → StmtsOf o → StmtsOf (nested_stmts xs o)
+nested-fit : (xs o : TypedPart) → Each IsBranch xs → StmtsOf o → StmtsOf (nested_stmts xs o)
 unfolding nested_stmts
 nested-fit (part.Cons p rest) o h g = nested-fit rest (part.Cons (part.AStmt (typed.IfThen (as_expr (left_of p)) (as_stmts (right_of p)) (as_stmts o))) part.Nothing) h.1 ((h.0.0, h.0.1, g), tt)
 nested-fit x o h g = g
@@ -235,24 +235,24 @@ m-if_stmt a here e x more o f r =
 
 -- ---- case statements
 
-abbrev AlternativesOf : Part → Type 0
+abbrev AlternativesOf : TypedPart → Type 0
 AlternativesOf x = Each IsAlternative x
 
-abbrev CasesOf : Covering × Option Part → Type 0
+abbrev CasesOf : Covering × Option TypedPart → Type 0
 CasesOf r = Maybe AlternativesOf r.1
 
-also-alternative : (d : Choosing) (made ss : Option Part) → Maybe AlternativesOf made → Maybe StmtsOf ss → Maybe AlternativesOf (s.also_alternative d made ss)
+also-alternative : (d : Choosing) (made ss : Option TypedPart) → Maybe AlternativesOf made → Maybe StmtsOf ss → Maybe AlternativesOf (s.also_alternative d made ss)
 unfolding s.also_alternative
 also-alternative d made ss g h = joint AlternativesOf StmtsOf AlternativesOf (s.with_alternative d) made ss g h (λ a b m n. ((λ as' r. (n, r)), m))
 
-m-alternative : (a : Around) (here : Context) (k : Option Kind) (last : Bool) (c : Covering) (made : Option Part) (x : Alt) → AroundFits a → AreBased here.scope → Maybe AlternativesOf made → Makes CasesOf (s.alternative a here k last c made x)
+m-alternative : (a : Around) (here : Context) (k : Option Kind) (last : Bool) (c : Covering) (made : Option TypedPart) (x : Alt) → AroundFits a → AreBased here.scope → Maybe AlternativesOf made → Makes CasesOf (s.alternative a here k last c made x)
 unfolding s.alternative
 m-alternative a here k last c made (syntax.alt at x ys t) f r g =
     let j = case_choices a.level here k (length ys == 0) last c s.no_choosing (x ∷ ys) in
     m-bind Any CasesOf j _ (m-kept j (k-case_choices spanning a.level here k (length ys == 0) last c s.no_choosing (x ∷ ys) f.level.keeps)) (λ y q.
     m-bind (Maybe StmtsOf) CasesOf (s.stmts a here t) _ (m-stmts a here t f r) (λ ss p. m-pure CasesOf (y.0, s.also_alternative y.1 made ss) (also-alternative y.1 made ss g p)))
 
-m-alts : (a : Around) (here : Context) (k : Option Kind) (c : Covering) (made : Option Part) (xs : Alts) → AroundFits a → AreBased here.scope → Maybe AlternativesOf made → Makes CasesOf (s.alts a here k c made xs)
+m-alts : (a : Around) (here : Context) (k : Option Kind) (c : Covering) (made : Option TypedPart) (xs : Alts) → AroundFits a → AreBased here.scope → Maybe AlternativesOf made → Makes CasesOf (s.alts a here k c made xs)
 m-alts a here k c made syntax.NoAlt f r g = m-pure CasesOf (c, made) g
 m-alts a here k c made (syntax.AlsoAlt x xs) f r g = m-bind CasesOf CasesOf (s.alternative a here k (s.is_last xs) c made x) _ (m-alternative a here k (s.is_last xs) c made x f r g) (λ y q. m-alts a here k y.0 y.1 xs f r q)
 
@@ -283,7 +283,7 @@ m-loop_entered a here p i f r =
     m-bind (λ e. EnteredOf e.0) EnteredOf (clean (entered a.names a.level a.inner here site.Loop p i)) _ (record { at = (m-entered a.names a.level a.inner here site.Loop p i f.level f.inner r).at }) (λ e q.
     m-bind Any EnteredOf (s.backwards_rule e.1 e.0.construct e.0.reverse) _ (m-kept (s.backwards_rule e.1 e.0.construct e.0.reverse) (k-backwards_rule spanning e.1 e.0.construct e.0.reverse)) (λ u t. m-pure EnteredOf e.0 q))
 
-m-for_made : (n : ℕ) (k : Option ℕ) (c : Option Part) (i ss : Part) → Maybe ChunkOf c → IterationOf i → StmtsOf ss → Makes (Maybe StmtOf) (s.for_made n k c i ss)
+m-for_made : (n : ℕ) (k : Option ℕ) (c : Option TypedPart) (i ss : TypedPart) → Maybe ChunkOf c → IterationOf i → StmtsOf ss → Makes (Maybe StmtOf) (s.for_made n k c i ss)
 m-for_made n None c i ss g h j = m-some StmtOf (s.for_part n i ss) (h, j)
 m-for_made n (Some k) c i ss g h j = m-pure (Maybe StmtOf) (option_map (s.parallel_part n k i ss) c) (mapped ChunkOf StmtOf (s.parallel_part n k i ss) c g (λ x t. (t, h, j)))
 
@@ -315,30 +315,30 @@ m-loop_stmt a here label by x last name f r =
 
 -- ---- bodies and blocks
 
-abbrev HandlersOf : Part → Type 0
+abbrev HandlersOf : TypedPart → Type 0
 HandlersOf x = Each IsHandler x
 
-abbrev HandlingOf : List Reason × Option Part → Type 0
+abbrev HandlingOf : List Reason × Option TypedPart → Type 0
 HandlingOf r = Maybe HandlersOf r.1
 
-with-handler-if : (made : Option Part) (h : Option TypedHandled) (ss : Option Part) → Maybe HandlersOf made → Maybe StmtsOf ss → Maybe HandlersOf (s.with_handler_if made h ss)
+with-handler-if : (made : Option TypedPart) (h : Option TypedHandled) (ss : Option TypedPart) → Maybe HandlersOf made → Maybe StmtsOf ss → Maybe HandlersOf (s.with_handler_if made h ss)
 with-handler-if made None ss g i = tt
 with-handler-if made (Some h) ss g i = joint HandlersOf StmtsOf HandlersOf (s.with_handler h) made ss g i (λ a b m n. ((λ hs r. (n, r)), m))
 
-m-handler : (a : Around) (here : Context) (last : Bool) (seen : List Reason) (made : Option Part) (h : Handler) → AroundFits a → AreBased here.scope → Maybe HandlersOf made → Makes HandlingOf (s.handler a here last seen made h)
+m-handler : (a : Around) (here : Context) (last : Bool) (seen : List Reason) (made : Option TypedPart) (h : Handler) → AroundFits a → AreBased here.scope → Maybe HandlersOf made → Makes HandlingOf (s.handler a here last seen made h)
 unfolding s.handler
 m-handler a here last seen made (syntax.handler at h x) f r g =
     m-bind Any HandlingOf (handled_by a.names here seen last h) _ (m-kept (handled_by a.names here seen last h) (k-handled_by spanning a.names here seen last h tt)) (λ y q.
     m-bind (Maybe StmtsOf) HandlingOf (s.stmts a (s.in_handler_of here) x) _ (m-stmts a (s.in_handler_of here) x f r) (λ ss t. m-pure HandlingOf (y.0, s.with_handler_if made y.1 ss) (with-handler-if made y.1 ss g t)))
 
-m-handlers : (a : Around) (here : Context) (seen : List Reason) (made : Option Part) (hs : Handlers) → AroundFits a → AreBased here.scope → Maybe HandlersOf made → Makes (Maybe HandlersOf) (s.handlers a here seen made hs)
+m-handlers : (a : Around) (here : Context) (seen : List Reason) (made : Option TypedPart) (hs : Handlers) → AroundFits a → AreBased here.scope → Maybe HandlersOf made → Makes (Maybe HandlersOf) (s.handlers a here seen made hs)
 m-handlers a here seen made syntax.NoHandler f r g = m-pure (Maybe HandlersOf) made g
 m-handlers a here seen made (syntax.AlsoHandler h hs) f r g = m-bind HandlingOf (Maybe HandlersOf) (s.handler a here (s.is_last_handler hs) seen made h) _ (m-handler a here (s.is_last_handler hs) seen made h f r g) (λ y q. m-handlers a here y.0 y.1 hs f r q)
 
-abbrev pub BodyOf : Part → Type 0
+abbrev pub BodyOf : TypedPart → Type 0
 BodyOf x = BodyFits (as_body x)
 
-pub m-body : (a : Around) (here : Context) (ds : Option Part) (b : Body) → AroundFits a → AreBased here.scope → Maybe DeclsOf ds → Makes (Maybe BodyOf) (s.body a here ds b)
+pub m-body : (a : Around) (here : Context) (ds : Option TypedPart) (b : Body) → AroundFits a → AreBased here.scope → Maybe DeclsOf ds → Makes (Maybe BodyOf) (s.body a here ds b)
 unfolding s.body
 m-body a here ds (syntax.body x hs) f r g =
     m-bind (Maybe StmtsOf) (Maybe BodyOf) (s.stmts a here x) _ (m-stmts a here x f r) (λ ss q.
@@ -355,10 +355,10 @@ m-block a here d b f r =
 -- ---- parallel blocks
 
 -- an expression that may be left out
-abbrev CountOf : Part → Type 0
+abbrev CountOf : TypedPart → Type 0
 CountOf x = (d : Class) × OptionalFits d (as_optional x)
 
-count-of : (x : Part) → ExprOf x → CountOf x
+count-of : (x : TypedPart) → ExprOf x → CountOf x
 count-of (part.AnExpr e) h = h
 count-of x h = (class.Boolean, tt)
 
@@ -366,11 +366,11 @@ m-count_where : (a : Around) (here : Context) (e : Option Simple) → AroundFits
 m-count_where a here None f r = m-some CountOf part.Nothing (class.Boolean, tt)
 m-count_where a here (Some e) f r = record { at = λ log h. let m = (m-chunk_count a.inner here e f.inner r).at log h in (m.0, by (chunk_count a.inner here e log).0 m.1) }
   where
-    by : (x : Option Part) → Maybe ExprOf x → Maybe CountOf x
+    by : (x : Option TypedPart) → Maybe ExprOf x → Maybe CountOf x
     by None h = tt
     by (Some x) h = count-of x h
 
-m-branches : (a : Around) (here : Context) (made : Option Part) (xs : Branches) → AroundFits a → AreBased here.scope → Maybe (Each StmtsOf) made → Makes (Maybe (Each StmtsOf)) (s.branches a here made xs)
+m-branches : (a : Around) (here : Context) (made : Option TypedPart) (xs : Branches) → AroundFits a → AreBased here.scope → Maybe (Each StmtsOf) made → Makes (Maybe (Each StmtsOf)) (s.branches a here made xs)
 m-branches a here made syntax.NoBranch f r g = m-pure (Maybe (Each StmtsOf)) made g
 m-branches a here made (syntax.AlsoBranch x xs) f r g =
     m-bind (Maybe StmtsOf) (Maybe (Each StmtsOf)) (s.stmts a here x) _ (m-stmts a here x f r) (λ y q. m-branches a here (joined s.with_arm made y) xs f r (joint (Each StmtsOf) StmtsOf (Each StmtsOf) s.with_arm made y g q (λ b c m n. (n, m))))

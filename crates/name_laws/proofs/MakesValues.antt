@@ -3,7 +3,7 @@ use Rattle.std.proofs.Common.{◌≡◌, refl, sym, ap, subst, ◌∙◌, ◌⊎
 use Rattle.ada_base.specs.declared.operation.Op.TheVariants as op
 use Rattle.typed_tree.specs.Classes.{class_or, with_class}
 use Rattle.typed_tree.specs.Decoded as part
-use Rattle.typed_tree.specs.Decoded.{Part, Cons, as_composite, as_expr, as_piece, as_pieces, as_selection, as_selections, as_value}
+use Rattle.typed_tree.specs.Decoded.{TypedPart, Cons, as_composite, as_expr, as_piece, as_pieces, as_selection, as_selections, as_value}
 use Rattle.typed_tree.specs.Latest.{turned}
 use Rattle.typed_tree.specs.Syntax as typed
 use Rattle.typed_tree.specs.Syntax.{Expr as TypedExpr, Pieces, Selections}
@@ -18,7 +18,7 @@ use Rattle.name_rules.specs.Values.{any_integer, any_scalar, asked, asked_form, 
 use Rattle.name_rules.specs.declared.found.Found.TheVariants as known
 use Rattle.name_rules.specs.declared.found.Found.{Found as Known}
 use Rattle.name_rules.specs.declared.found.Limits.{Limits}
-use Rattle.name_rules.specs.declared.found.Place.{Place}
+use Rattle.name_rules.specs.declared.found.ObjectName.{ObjectName}
 use Rattle.name_rules.specs.declared.log.Rule.TheVariants.{StaticRange, WrongType}
 use Rattle.name_rules.specs.declared.types.Kind.{Kind}
 use Rattle.name_rules.specs.declared.types.Kind.TheVariants as kind
@@ -36,13 +36,13 @@ use Rattle.name_laws.specs.Classes.{CompositeFits, ExprFits, exponent, HasValue,
 abbrev pub IsOpen : Limits → TypedExpr → Type 0
 IsOpen l e = (k : Kind) → is_integer k ≡ true → beyond k l ≡ None → ExprFits (class_of k) (with_class (class_of k) e)
 
-abbrev pub IsSelection : Part → Type 0
+abbrev pub IsSelection : TypedPart → Type 0
 IsSelection p = (ss : Selections) → SelectionsFit ss → SelectionsFit (as_selection p ss)
 
-abbrev pub IsPiece : Part → Type 0
+abbrev pub IsPiece : TypedPart → Type 0
 IsPiece p = (ps : Pieces) → PiecesFit ps → PiecesFit (as_piece p ps)
 
-abbrev pub KnownOf : Known → Part → Type 0
+abbrev pub KnownOf : Known → TypedPart → Type 0
 KnownOf (known.Universal first z alone) x = Unit {0}
 KnownOf (known.Open first l) x = IsOpen l (as_expr x)
 KnownOf (known.Static first k z) x = in_base k z ≡ true
@@ -56,16 +56,16 @@ abbrev pub FoundOf : Found → Type 0
 FoundOf f = KnownOf f.known f.part
 
 -- an expression of a type, of any type, a composite, a value
-abbrev pub AskedOf : Kind → Part → Type 0
+abbrev pub AskedOf : Kind → TypedPart → Type 0
 AskedOf k x = ExprFits (class_of k) (as_expr x)
 
-abbrev pub ExprOf : Part → Type 0
+abbrev pub ExprOf : TypedPart → Type 0
 ExprOf x = (d : Class) × ExprFits d (as_expr x)
 
-abbrev pub CompositeOf : Part → Type 0
+abbrev pub CompositeOf : TypedPart → Type 0
 CompositeOf x = CompositeFits (as_composite x)
 
-abbrev pub ValueOf : Part → Type 0
+abbrev pub ValueOf : TypedPart → Type 0
 ValueOf x = ValueFits (as_value x)
 
 abbrev pub SpanOf : Scalar → Type 0
@@ -130,23 +130,23 @@ with-same c d (typed.Convert check e) h = refl
 
 -- ---- lists that grow
 
-selections-list : (x : Part) → Each IsSelection x → SelectionsFit (as_selections x)
+selections-list : (x : TypedPart) → Each IsSelection x → SelectionsFit (as_selections x)
 selections-list (Cons p q) h = h.0 (as_selections q) (selections-list q h.1)
 selections-list x h = tt
 
-pub selections-fit : (x : Part) → Each IsSelection x → SelectionsFit (selections_of x)
+pub selections-fit : (x : TypedPart) → Each IsSelection x → SelectionsFit (selections_of x)
 selections-fit x h = selections-list (turned x) (each-turned IsSelection x h)
 
-pieces-list : (x : Part) → Each IsPiece x → PiecesFit (as_pieces x)
+pieces-list : (x : TypedPart) → Each IsPiece x → PiecesFit (as_pieces x)
 pieces-list (Cons p q) h = h.0 (as_pieces q) (pieces-list q h.1)
 pieces-list x h = tt
 
-pub pieces-fit : (x : Part) → Each IsPiece x → PiecesFit (as_pieces (turned x))
+pub pieces-fit : (x : TypedPart) → Each IsPiece x → PiecesFit (as_pieces (turned x))
 pieces-fit x h = pieces-list (turned x) (each-turned IsPiece x h)
 
 -- ---- an expression whose place asks for a type
 
-m-valued : (k : Kind) (first : ℕ) (z : ℤ) (alone : Bool) (x : Part) → Makes (Maybe (AskedOf k)) (valued k first z alone x)
+m-valued : (k : Kind) (first : ℕ) (z : ℤ) (alone : Bool) (x : TypedPart) → Makes (Maybe (AskedOf k)) (valued k first z alone x)
 unfolding valued
 m-valued k first z alone x = m-test (Maybe (AskedOf k)) (in_base k z) (some (literal first z alone x)) (fault first StaticRange) (λ e. m-some (AskedOf k) (literal first z alone x) (has-value k z e)) (m-fault (AskedOf k) first StaticRange)
 
@@ -158,7 +158,7 @@ m-settled : (k : Kind) (l : Limits) (e : TypedExpr) → is_integer k ≡ true �
 unfolding settled
 m-settled k l e i h = m-settled_by k e (beyond k l) (h k i)
 
-object-fits : (k : Kind) (p : Place) (ss : Selections) (s : Scalar) (v : Option ℤ) → SelectionsFit ss → ((z : ℤ) → v ≡ Some z → in_base k z ≡ true) → AskedOf k (object_value p ss s v)
+object-fits : (k : Kind) (p : ObjectName) (ss : Selections) (s : Scalar) (v : Option ℤ) → SelectionsFit ss → ((z : ℤ) → v ≡ Some z → in_base k z ≡ true) → AskedOf k (object_value p ss s v)
 object-fits k p ss s (Some z) h m = has-value k z (m z refl)
 object-fits k p ss s None h m = by p.variable
   where
@@ -166,7 +166,7 @@ object-fits k p ss s None h m = by p.variable
     by true = h
     by false = h
 
-m-place_asked : (k : Kind) (p : Place) (x : Part) (s : Subtype) → p.subtype ≡ s → HasBased p.subtype p.value → Each IsSelection x → Makes (Maybe (AskedOf k)) (place_asked k p (selections_of x) s)
+m-place_asked : (k : Kind) (p : ObjectName) (x : TypedPart) (s : Subtype) → p.subtype ≡ s → HasBased p.subtype p.value → Each IsSelection x → Makes (Maybe (AskedOf k)) (place_asked k p (selections_of x) s)
 m-place_asked k p x (subtype.Scalar s) e h i =
     m-test (Maybe (AskedOf k)) (same s.kind k) (some (object_value p (selections_of x) s p.value)) (fault p.first WrongType)
     (λ q. m-some (AskedOf k) (object_value p (selections_of x) s p.value)
@@ -174,7 +174,7 @@ m-place_asked k p x (subtype.Scalar s) e h i =
     (m-fault (AskedOf k) p.first WrongType)
 m-place_asked k p x (subtype.Composite n) e h i = m-fault (AskedOf k) p.first WrongType
 
-m-asked_form : (k : Kind) (f : Known) (x : Part) → KnownOf f x → Makes (Maybe (AskedOf k)) (asked_form k f x)
+m-asked_form : (k : Kind) (f : Known) (x : TypedPart) → KnownOf f x → Makes (Maybe (AskedOf k)) (asked_form k f x)
 m-asked_form k (known.Universal first z alone) x h = m-if (Maybe (AskedOf k)) (is_integer k) (valued k first z alone x) (fault first WrongType) (m-valued k first z alone x) (m-fault (AskedOf k) first WrongType)
 m-asked_form k (known.Open first l) x h = m-test (Maybe (AskedOf k)) (is_integer k) (settled k l (as_expr x)) (fault first WrongType) (λ i. m-settled k l (as_expr x) i h) (m-fault (AskedOf k) first WrongType)
 m-asked_form k (known.Static first j z) x h =
@@ -189,7 +189,7 @@ pub m-asked : (k : Kind) (f : Found) → FoundOf f → Makes (Maybe (AskedOf k))
 unfolding asked
 m-asked k f h = m-asked_form k f.known f.part h
 
-pub some-expr : (k : Kind) (x : Option Part) → Maybe (AskedOf k) x → Maybe ExprOf x
+pub some-expr : (k : Kind) (x : Option TypedPart) → Maybe (AskedOf k) x → Maybe ExprOf x
 some-expr k None h = tt
 some-expr k (Some x) h = (class_of k, h)
 
@@ -207,7 +207,7 @@ m-any_scalar f h = m-if (Maybe ExprOf) (is_scalar f.known) (settled_found f) (fa
 
 -- ---- what is stored
 
-m-whole_of : (n : ℕ) (p : Place) (ss : Selections) (s : Subtype) → SelectionsFit ss → Makes (Maybe CompositeOf) (whole_of n p ss s)
+m-whole_of : (n : ℕ) (p : ObjectName) (ss : Selections) (s : Subtype) → SelectionsFit ss → Makes (Maybe CompositeOf) (whole_of n p ss s)
 m-whole_of n p ss (subtype.Scalar s) h = m-fault CompositeOf p.first WrongType
 m-whole_of n p ss (subtype.Composite m) h =
     m-if (Maybe CompositeOf) (n == m) (some (part.AComposite (whole_object p ss m p.variable))) (fault p.first WrongType)
@@ -217,7 +217,7 @@ m-whole_of n p ss (subtype.Composite m) h =
     by true = h
     by false = h
 
-m-composite_form : (n : ℕ) (f : Known) (x : Part) → KnownOf f x → Makes (Maybe CompositeOf) (composite_form n f x)
+m-composite_form : (n : ℕ) (f : Known) (x : TypedPart) → KnownOf f x → Makes (Maybe CompositeOf) (composite_form n f x)
 m-composite_form n (known.Composite first m) x h = m-if (Maybe CompositeOf) (n == m) (some x) (fault first WrongType) (m-some CompositeOf x h) (m-fault CompositeOf first WrongType)
 m-composite_form n (known.Object p) x h = m-whole_of n p (selections_of x) p.subtype (selections-fit x h.1)
 m-composite_form n f x h = m-fault CompositeOf (first_of f) WrongType

@@ -5,7 +5,7 @@ use Rattle.syntax_tree.specs.Syntax as syntax
 use Rattle.syntax_tree.specs.Syntax.{Clause, Decl, Formal, Formals, Pack, Sub, Unit'}
 use Rattle.syntax_tree.specs.declared.operators.ClauseWord.{ClauseWord}
 use Rattle.syntax_tree.specs.declared.operators.ClauseWord.TheVariants as word
-use Rattle.typed_tree.specs.Decoded.{Part}
+use Rattle.typed_tree.specs.Decoded.{TypedPart}
 use Rattle.typed_tree.specs.declared.program.Mode.{Mode}
 use Rattle.name_rules.specs.Declarations as d
 use Rattle.name_rules.specs.Expressions.{Inside}
@@ -121,7 +121,7 @@ own-last names name n here outer e = record { before = here.scope; after = []; s
 
 visible : (names : Names) (start : ℕ) (here : Context) (name : ℕ) (result : Option ℕ) (fs : Option Formals) (log : Log) (n : ℕ)
     → (p.profile names start here name result fs log).0.number ≡ Some n
-    → (level : Inside) (place : ℕ) (made : Option Part) (ds : List Decl) (later : Log)
+    → (level : Inside) (place : ℕ) (made : Option TypedPart) (ds : List Decl) (later : Log)
     → NoneNamed names (symbol names name) (formal_names fs) → NoneNamed names (symbol names name) (all_declared ds)
     → lookup (symbol names name) (around_body names level place (p.profile names start here name result fs log).0 made ds later).scope ≡ Some (what.Sub n)
 visible names start here name result fs log n e level place made ds later h k =

@@ -4,7 +4,7 @@ use Rattle.std.proofs.lemmas.List.{append_assoc, append-nil}
 use Rattle.ada_base.specs.declared.reason.Reason.TheVariants as reason
 use Rattle.syntax_tree.specs.Syntax as syntax
 use Rattle.syntax_tree.specs.Syntax.{Decl, Expr, ObjectType}
-use Rattle.typed_tree.specs.Decoded.{Part}
+use Rattle.typed_tree.specs.Decoded.{TypedPart}
 use Rattle.name_rules.specs.Declarations as d
 use Rattle.name_rules.specs.Declarations.{Indicated, Initial}
 use Rattle.name_rules.specs.Expressions.{Inside}
@@ -124,18 +124,18 @@ behind-begun names start here there ts log a =
 
 -- ---- objects
 
-object-ended : (names : Names) (here : Context) (token : ℕ) (f : Option ℕ) (constant : Bool) (s : Indicated) (v : Initial) (made : Option Part) (n : Option ℕ)
+object-ended : (names : Names) (here : Context) (token : ℕ) (f : Option ℕ) (constant : Bool) (s : Indicated) (v : Initial) (made : Option TypedPart) (n : Option ℕ)
     → AddsWhere (IsOther names f) here (d.object_ended names here token f constant s v made n).0
 object-ended names here token f constant s v made None = adds-ended names here f _
 object-ended names here token f constant s v made (Some n) = adds-ended names here f _
 
-one-object : (names : Names) (here : Context) (token : ℕ) (f : Option ℕ) (constant : Bool) (made : Option Part) (s : Option Indicated) (v : Option Initial) (log : Log)
+one-object : (names : Names) (here : Context) (token : ℕ) (f : Option ℕ) (constant : Bool) (made : Option TypedPart) (s : Option Indicated) (v : Option Initial) (log : Log)
     → AddsWhere (IsOther names f) here (d.one_object names here token f constant made s v log).0.0
 one-object names here token f constant made (Some s) (Some v) log = object-ended names here token f constant s v made _
 one-object names here token f constant made (Some s) None log = adds-ended names here f _
 one-object names here token f constant made None v log = adds-ended names here f _
 
-each-object : (names : Names) (level : Inside) (inner here : Context) (constant : Bool) (first : ℕ) (t : ObjectType) (e : Option Expr) (made : Option Part) (is : List ℕ) (fs : List (Option ℕ)) (log : Log)
+each-object : (names : Names) (level : Inside) (inner here : Context) (constant : Bool) (first : ℕ) (t : ObjectType) (e : Option Expr) (made : Option TypedPart) (is : List ℕ) (fs : List (Option ℕ)) (log : Log)
     → AddsWhere (AreOthers names fs) here (d.each_object names level inner here constant first t e made is fs log).0.0
 each-object names level inner here constant first t e made [] fs log = adds-none _ here
 each-object names level inner here constant first t e made (i ∷ is) [] log = adds-none _ here
@@ -185,7 +185,7 @@ one-type names start here token w log =
 
 -- ---- declarations
 
-pub one-declaration : (names : Names) (level : Inside) (start : ℕ) (here : Context) (made : Option Part) (x : Decl) (log : Log)
+pub one-declaration : (names : Names) (level : Inside) (start : ℕ) (here : Context) (made : Option TypedPart) (x : Decl) (log : Log)
     → AddsWhere (λ name. NoneNamed names name (declares x)) here (d.declaration names level start here made x log).0.0
 unfolding d.declaration d.objects d.numbers
 one-declaration names level start here made (syntax.ObjectDecl is constant t e) log =
@@ -208,7 +208,7 @@ pub named-right : (names : Names) (name : ℕ) (a b : List ℕ) → NoneNamed na
 named-right names name [] b h = h
 named-right names name (t ∷ a) b h = named-right names name a b h.1
 
-pub all-declarations : (names : Names) (level : Inside) (start : ℕ) (here : Context) (made : Option Part) (ds : List Decl) (log : Log)
+pub all-declarations : (names : Names) (level : Inside) (start : ℕ) (here : Context) (made : Option TypedPart) (ds : List Decl) (log : Log)
     → AddsWhere (λ name. NoneNamed names name (all_declared ds)) here (d.declarations names level start here made ds log).0.0
 all-declarations names level start here made [] log = adds-none _ here
 all-declarations names level start here made (x ∷ ds) log =

@@ -6,7 +6,7 @@ use Rattle.ada_base.specs.declared.operation.Op.{Op}
 use Rattle.typed_tree.specs.declared.expressions.Sign.TheVariants as sign
 use Rattle.typed_tree.specs.declared.expressions.Sign.{Sign}
 use Rattle.std.specs.Prelude.{neg_ℤ, option_map, pos, unsigned_abs}
-use Rattle.typed_tree.specs.Decoded.{Part as TypedPart, as_expr}
+use Rattle.typed_tree.specs.Decoded.{TypedPart, as_expr}
 use Rattle.name_rules.specs.Found.{Found, opened, scalar, static, universal}
 use Rattle.name_rules.specs.Judging.{Judging, both, fault, given, joined, pure, some}
 use Rattle.name_rules.specs.Operators.{both_mentions, by_kinds, open_binary, open_of, open_power, open_two, open_unary, operand_blamed, operation, operation_by, operation_on, plain, plain_by, plain_open, plain_typed, power, power_to, signed, static_of, static_operation, static_power, static_universal, typed_operation, unary, unary_by, unary_open, unary_typed, universal_by, universal_operation, universal_power, universal_to}
@@ -16,7 +16,7 @@ use Rattle.name_rules.specs.TypedParts.{exprs_of, selections_of}
 use Rattle.name_rules.specs.declared.found.Found.TheVariants as known
 use Rattle.name_rules.specs.declared.found.Found.{Found as Known}
 use Rattle.name_rules.specs.declared.found.Limits.{Limits}
-use Rattle.name_rules.specs.declared.found.Place.{Place}
+use Rattle.name_rules.specs.declared.found.ObjectName.{ObjectName}
 use Rattle.name_rules.specs.declared.log.Log.{Log}
 use Rattle.name_rules.specs.declared.log.Rule.{Rule}
 use Rattle.name_rules.specs.declared.log.Rule.TheVariants.{StaticRange, WrongType}
@@ -296,7 +296,7 @@ g-valued : (k : Kind) (first : ℕ) (z : ℤ) (alone : Bool) (ms : TypedPart) �
 unfolding valued
 g-valued k first z alone ms = g-if (Kept k z) (in_base k z) (some (literal first z alone ms)) (fault first StaticRange) (λ r. g-some (Kept k z) (literal first z alone ms) (of-literal k first z alone ms r)) (g-fault (Kept k z) first StaticRange)
 
-g-place : (k : Kind) (p : Place) (ss : Selections) (s : Subtype) (z : ℤ) → p.value ≡ Some z → p.subtype ≡ s → InBase (known.Object p) → Gives (Kept k z) (place_asked k p ss s)
+g-place : (k : Kind) (p : ObjectName) (ss : Selections) (s : Subtype) (z : ℤ) → p.value ≡ Some z → p.subtype ≡ s → InBase (known.Object p) → Gives (Kept k z) (place_asked k p ss s)
 g-place k p ss (subtype.Composite n) z v e h = g-fault (Kept k z) p.first WrongType
 g-place k p ss (subtype.Scalar s) z v e h =
     g-if (Kept k z) (same s.kind k) (some (object_value p ss s p.value)) (fault p.first WrongType)

@@ -1,7 +1,7 @@
 -- Base ranges (3.5, 3.5.4): the bounds of a scalar subtype and of a dimension, and the value of a static constant, lie in
 -- the base range of their type.
 use Rattle.syntax_tree.specs.Syntax.{Expr}
-use Rattle.typed_tree.specs.Decoded.{Part as TypedPart}
+use Rattle.typed_tree.specs.Decoded.{TypedPart}
 use Rattle.name_laws.specs.Statics.{InBase, IsKept}
 use Rattle.name_rules.specs.Expressions.{expr}
 use Rattle.name_rules.specs.Found.{Found}

@@ -12,7 +12,7 @@ use Rattle.name_rules.specs.declared.scope.Names.{Names}
 use Rattle.name_rules.specs.declared.scope.What.{What}
 use Rattle.syntax_tree.specs.Syntax as syntax
 use Rattle.syntax_tree.specs.Syntax.{Decl}
-use Rattle.typed_tree.specs.Decoded.{Part}
+use Rattle.typed_tree.specs.Decoded.{TypedPart}
 use Rattle.std.specs.Prelude.{List, Option, Some, [], ℕ, ◌++◌, ◌∷◌, ◌≡◌, ◌⊎◌}
 
 -- ---- declarations of a name
@@ -71,7 +71,7 @@ pub record Adds (names : Names) (tokens : List ℕ) (here there : Context) : Typ
 
 -- Declarations add declarations of their own identifiers alone; another name stands behind them for what it stood for before.
 pub record ScopeLaw : Type 0 where
-  pub adds : (names : Names) (level : Inside) (start : ℕ) (here : Context) (done : Option Part) (ds : List Decl) (log : Log)
+  pub adds : (names : Names) (level : Inside) (start : ℕ) (here : Context) (done : Option TypedPart) (ds : List Decl) (log : Log)
       → Adds names (all_declared ds) here (declarations names level start here done ds log).0.0
   pub kept : (names : Names) (tokens : List ℕ) (here there : Context) → Adds names tokens here there
       → (token : ℕ) → NoneNamed names (symbol names token) tokens → stands_for names there token ≡ stands_for names here token

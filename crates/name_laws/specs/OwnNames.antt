@@ -12,7 +12,7 @@ use Rattle.name_rules.specs.declared.scope.Names.{Names}
 use Rattle.name_rules.specs.declared.scope.What.TheVariants as what
 use Rattle.syntax_tree.specs.Syntax as syntax
 use Rattle.syntax_tree.specs.Syntax.{Clause, Decl, Formal, Formals, Main, Program, Sub, Unit'}
-use Rattle.typed_tree.specs.Decoded.{Part}
+use Rattle.typed_tree.specs.Decoded.{TypedPart}
 use Rattle.typed_tree.specs.Syntax.{Sub as TypedSub}
 use Rattle.std.specs.Prelude.{Bool, List, None, Option, Some, [], length, ℕ, ◌++◌, ◌∷◌, ◌≡◌}
 use Rattle.name_laws.specs.Hiding.{HasNone, IsLast, NoneNamed, all_declared, declares}
@@ -29,7 +29,7 @@ formal_names None = []
 formal_names (Some f) = formals_named (f.first ∷ f.more)
 
 -- what is around the statements of a body, or around the value of an expression function, which has no declarations
-abbrev pub around_body : Names → Inside → ℕ → Profiled → Option Part → List Decl → Log → Context
+abbrev pub around_body : Names → Inside → ℕ → Profiled → Option TypedPart → List Decl → Log → Context
 around_body names level start p done ds log = (declarations names level start p.inner done ds log).0.0
 
 -- the subprograms so far are as many as the profiles that were written
@@ -45,7 +45,7 @@ pub record OwnNameLaw : Type 0 where
       → IsLast (symbol names name) (what.Sub n) (profile names start here name result fs log).0.outer.scope
   pub visible : (names : Names) (start : ℕ) (here : Context) (name : ℕ) (result : Option ℕ) (fs : Option Formals) (log : Log) (n : ℕ)
       → (profile names start here name result fs log).0.number ≡ Some n
-      → (level : Inside) (place : ℕ) (done : Option Part) (ds : List Decl) (later : Log)
+      → (level : Inside) (place : ℕ) (done : Option TypedPart) (ds : List Decl) (later : Log)
       → NoneNamed names (symbol names name) (formal_names fs) → NoneNamed names (symbol names name) (all_declared ds)
       → (token : ℕ) → symbol names token ≡ symbol names name
       → stands_for names (around_body names level place (profile names start here name result fs log).0 done ds later) token ≡ named (denoted.Sub token token n)

@@ -4,7 +4,7 @@ use Rattle.ada_base.specs.Operation.{unbounded}
 use Rattle.ada_base.specs.declared.operation.Op.TheVariants as op
 use Rattle.ada_base.specs.declared.operation.Op.{Op}
 use Rattle.typed_tree.specs.Decoded as part
-use Rattle.typed_tree.specs.Decoded.{Part as TypedPart}
+use Rattle.typed_tree.specs.Decoded.{TypedPart}
 use Rattle.typed_tree.specs.Syntax as typed
 use Rattle.typed_tree.specs.Syntax.{Exprs as TypedExprs}
 use Rattle.typed_tree.specs.declared.expressions.Sign.TheVariants as sign

@@ -1,17 +1,17 @@
 -- What a declaration mentions is elaborated where it is any.
 use Rattle.std.proofs.Common.{◌≡◌, refl, true, false}
-use Rattle.typed_tree.specs.Decoded.{Part, Nothing, Cons, LeafCons, AnExpr, ASelection, AnActual, AValue, AComposite, AnAssociation, AnIteration, AChunk, AReducer, ACheck, AScalar, APiece, ADecl, AStmt, AnAlternative, AHandler, ABody}
+use Rattle.typed_tree.specs.Decoded.{TypedPart, Nothing, Cons, LeafCons, AnExpr, ASelection, AnActual, AValue, AComposite, AnAssociation, AnIteration, AChunk, AReducer, ACheck, AScalar, APiece, ADecl, AStmt, AnAlternative, AHandler, ABody}
 use Rattle.typed_tree.specs.Syntax as typed
 use Rattle.typed_tree.specs.Latest.{turned}
 use Rattle.name_rules.specs.Declarations.{with_mentions}
 use Rattle.name_rules.specs.TypedParts.{also, also_all, exprs_of}
 use Rattle.typed_parts.specs.Looks.{is_nothing}
 
-pub also_none : (p : Part) → also_all p Nothing ≡ p
+pub also_none : (p : TypedPart) → also_all p Nothing ≡ p
 unfolding also_all turned
 also_none p = refl
 
-pub unmentioned : (done p : Part) → is_nothing p ≡ true → with_mentions done p ≡ done
+pub unmentioned : (done p : TypedPart) → is_nothing p ≡ true → with_mentions done p ≡ done
 unmentioned done Nothing e = refl
 unmentioned done (Cons a b) e = absurd (cc)
 unmentioned done (LeafCons a b) e = absurd (cc)
@@ -33,7 +33,7 @@ unmentioned done (AnAlternative a) e = absurd (cc)
 unmentioned done (AHandler a) e = absurd (cc)
 unmentioned done (ABody a) e = absurd (cc)
 
-pub mentioned : (done p : Part) → is_nothing p ≡ false → with_mentions done p ≡ also done (ADecl (typed.Mentions (exprs_of p)))
+pub mentioned : (done p : TypedPart) → is_nothing p ≡ false → with_mentions done p ≡ also done (ADecl (typed.Mentions (exprs_of p)))
 mentioned done Nothing e = absurd (cc)
 mentioned done (Cons a b) e = refl
 mentioned done (LeafCons a b) e = refl

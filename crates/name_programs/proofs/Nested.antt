@@ -1,12 +1,12 @@
 -- The conditions and statements behind the first of an if statement, one after another.
 use Rattle.std.proofs.Common.{◌≡◌, refl, ℕ, ◌<◌, true, false, arith}
-use Rattle.typed_tree.specs.Decoded.{Part, Cons, Nothing, LeafCons, AnExpr, ASelection, AnActual, AValue, AComposite, AnAssociation, AnIteration, AChunk, AReducer, ACheck, AScalar, APiece, ADecl, AStmt, AnAlternative, AHandler, ABody}
+use Rattle.typed_tree.specs.Decoded.{TypedPart, Cons, Nothing, LeafCons, AnExpr, ASelection, AnActual, AValue, AComposite, AnAssociation, AnIteration, AChunk, AReducer, ACheck, AScalar, APiece, ADecl, AStmt, AnAlternative, AHandler, ABody}
 use Rattle.typed_tree.specs.Latest.{first_of, rest_of}
 use Rattle.name_rules.specs.TypedParts.{nested_stmts}
 use Rattle.name_programs.specs.Nested.{items_in, nested_once}
 use Rattle.typed_parts.specs.Lists.{has_item}
 
-pub nested_more : (p o : Part) → has_item p ≡ true → nested_stmts p o ≡ nested_stmts (rest_of p) (nested_once (first_of p) o)
+pub nested_more : (p o : TypedPart) → has_item p ≡ true → nested_stmts p o ≡ nested_stmts (rest_of p) (nested_once (first_of p) o)
 unfolding nested_stmts
 nested_more (Cons p q) o e = refl
 nested_more Nothing o e = absurd (cc)
@@ -29,7 +29,7 @@ nested_more (AnAlternative x) o e = absurd (cc)
 nested_more (AHandler x) o e = absurd (cc)
 nested_more (ABody x) o e = absurd (cc)
 
-pub nested_none : (p o : Part) → has_item p ≡ false → nested_stmts p o ≡ o
+pub nested_none : (p o : TypedPart) → has_item p ≡ false → nested_stmts p o ≡ o
 unfolding nested_stmts
 nested_none (Cons p q) o e = absurd (cc)
 nested_none Nothing o e = refl
@@ -52,7 +52,7 @@ nested_none (AnAlternative x) o e = refl
 nested_none (AHandler x) o e = refl
 nested_none (ABody x) o e = refl
 
-pub nested_less : (p : Part) → has_item p ≡ true → items_in (rest_of p) < items_in p
+pub nested_less : (p : TypedPart) → has_item p ≡ true → items_in (rest_of p) < items_in p
 nested_less (Cons p q) e = omega arith
 nested_less Nothing e = absurd (cc)
 nested_less (LeafCons l q) e = absurd (cc)

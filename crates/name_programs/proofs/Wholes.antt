@@ -2,7 +2,7 @@
 use Rattle.std.proofs.Common.{◌≡◌, refl, sym, ℕ, ◌+◌, Bool, true, false, List, [], ◌∷◌, ◌++◌, Option, Some, None, length}
 use Rattle.std.specs.Prelude.{◌&&◌}
 use Rattle.syntax_tree.specs.Syntax.{Aspect, Body, Formals, Main, Unit'}
-use Rattle.typed_tree.specs.Decoded.{Part, Nothing}
+use Rattle.typed_tree.specs.Decoded.{TypedPart, Nothing}
 use Rattle.typed_tree.specs.Latest.{pop, top}
 use Rattle.name_programs.specs.Forms.{declared_so, profiled, subs_if, whole_by}
 use Rattle.name_programs.specs.declared.programs.Sound.{Sound}
@@ -33,7 +33,7 @@ pub profile_is : (names : Names) (start : ℕ) (here : Context) (name : ℕ) (re
 unfolding profile
 profile_is names start here name result fs l0 l1 l2 l3 l4 inner outer found gives one number e1 e2 e3 e4 = rw e1 (rw e2 (rw e3 (rw e4 refl)))
 
-pub main_is : (names : Names) (n : ℕ) (here : Context) (m : Main) (s z : Bool) (l0 l1 l2 l3 l4 : Log) (d : Declared') (b : Option Part)
+pub main_is : (names : Names) (n : ℕ) (here : Context) (m : Main) (s z : Bool) (l0 l1 l2 l3 l4 : Log) (d : Declared') (b : Option TypedPart)
     → aspect names here false m.aspect l0 ≡ (z, l1)
     → units names n z (length here.scope) (record { here = here; decls = Some no_decls; subs = Some [] }) m.units l1 ≡ (d, l2)
     → body (around names n (stmt names n)) d.here d.decls m.body l2 ≡ (b, l3)
@@ -62,7 +62,7 @@ profile_so names start here name result fs l0 l1 l2 l3 l4 inner outer copy insid
     let p = profile_is names start here name result fs l0 l1 l2 l3 l4 inner outer found gives one number e5 e2 e3 e4 in
     rw hi (rw ht (rw hg (rw hr (rw hb (rw ho p)))))
 
-pub main_so : (names : Names) (n : ℕ) (here there : Context) (m : Main) (s z : Bool) (l0 l1 l2 l3 l4 : Log) (at defined : ℕ) (a : Option Aspect) (us : List Unit') (b : Body) (last : Option ℕ) (start up : ℕ) (sound : Sound) (hs0 hs : List Head) (rest ps0 ps1 ps2 : List Part) (held given : Bool)
+pub main_so : (names : Names) (n : ℕ) (here there : Context) (m : Main) (s z : Bool) (l0 l1 l2 l3 l4 : Log) (at defined : ℕ) (a : Option Aspect) (us : List Unit') (b : Body) (last : Option ℕ) (start up : ℕ) (sound : Sound) (hs0 hs : List Head) (rest ps0 ps1 ps2 : List TypedPart) (held given : Bool)
     → m ≡ record { at = at; defined = defined; aspect = a; units = us; body = b; last_name = last }
     → up ≡ n + 1
     → start ≡ length here.scope

@@ -1,6 +1,6 @@
 -- One step of what is judged item by item, and what is judged of one kind of declaration.
 use Rattle.syntax_tree.specs.Syntax.{Definition, Ids, Indic, Range}
-use Rattle.typed_tree.specs.Decoded.{Part}
+use Rattle.typed_tree.specs.Decoded.{TypedPart}
 use Rattle.typed_tree.specs.declared.program.Object.{Object}
 use Rattle.name_rules.specs.Declarations.{Declaring, Dimensions, all_ids, also_dimension, begun_names, cells_counted, defined, each_exception, ended_name, indic, one_type}
 use Rattle.name_rules.specs.Expressions.{Inside}
@@ -31,19 +31,19 @@ room_behind first owner o = if o.owner == owner then first + o.cells else first
 abbrev pub no_object : Names → Context → ℕ → Option ℕ → Declaring
 no_object names here token f = cells_counted token 0 >>= λ b. pure (ended_name names here f None, None)
 
-abbrev pub exceptions : Names → ℕ → Context → Option Part → Ids → Declaring
+abbrev pub exceptions : Names → ℕ → Context → Option TypedPart → Ids → Declaring
 exceptions names start here done is = do
   r ← begun_names names start here [] (all_ids is)
   c ← each_exception names r.0 (all_ids is) r.1
   pure (c, done)
 
-abbrev pub declared_type : Names → Inside → ℕ → Context → Option Part → ℕ → Definition → Declaring
+abbrev pub declared_type : Names → Inside → ℕ → Context → Option TypedPart → ℕ → Definition → Declaring
 declared_type names level start here done token d = do
   f ← free names start here token
   s ← defined names level (hidden_where names here token f) token d
   pure (one_type names (hidden_where names here token f) done f s)
 
-abbrev pub declared_subtype : Names → Inside → ℕ → Context → Option Part → ℕ → Indic → Declaring
+abbrev pub declared_subtype : Names → Inside → ℕ → Context → Option TypedPart → ℕ → Indic → Declaring
 declared_subtype names level start here done token i = do
   f ← free names start here token
   s ← indic names level (hidden_where names here token f) i

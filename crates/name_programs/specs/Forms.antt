@@ -1,6 +1,6 @@
 -- What functions ensure that judge subprograms and programs, unless memory fails.
 use Rattle.std.specs.Prelude.{◌≡◌, List, Bool, true, false, Option, Some, None, Result, Ok, Err, ℕ, map, option_map}
-use Rattle.typed_tree.specs.Decoded.{Part, as_body}
+use Rattle.typed_tree.specs.Decoded.{TypedPart, as_body}
 use Rattle.typed_tree.specs.Syntax.{Sub as TypedSub}
 use Rattle.typed_tree.specs.Latest.{top, pop, second}
 use Rattle.name_programs.specs.declared.profiles.Profiled.{Profiled as Found}
@@ -39,45 +39,45 @@ Profiles outcome (Ok p) outer log = outcome ≡ (profiled outer p, log)
 Profiles outcome (Err e) outer log = Unit {0}
 
 -- a subprogram of what it takes and gives, and of its body
-abbrev pub sub_of : List Taken → Option Scalar → Bool → Part → TypedSub
+abbrev pub sub_of : List Taken → Option Scalar → Bool → TypedPart → TypedSub
 sub_of ts s z b = record { formals = map typed_formal ts; result = option_map typed_scalar s; nonblocking = z; body = as_body b }
 
-abbrev pub sub_if : List Taken → Option Scalar → Option Bool → Part → Option TypedSub
+abbrev pub sub_if : List Taken → Option Scalar → Option Bool → TypedPart → Option TypedSub
 sub_if ts s None b = None
 sub_if ts s (Some z) b = Some (sub_of ts s z b)
 
 -- it judges a subprogram so, and leaves its body
-abbrev pub Bodies : {E : Type 0} → List Taken → Option Scalar → Option TypedSub × Log → List Part → Result (Option Bool) E → Log → List Part → Type 0
+abbrev pub Bodies : {E : Type 0} → List Taken → Option Scalar → Option TypedSub × Log → List TypedPart → Result (Option Bool) E → Log → List TypedPart → Type 0
 Bodies ts s outcome rest (Ok z) log now = (outcome ≡ (sub_if ts s z (top now), log)) × (pop now ≡ rest)
 Bodies ts s outcome rest (Err e) log now = Unit {0}
 
 -- a subprogram, if there is one
-abbrev pub headed_if : Option Head → Part → Part → Option TypedSub
+abbrev pub headed_if : Option Head → TypedPart → TypedPart → Option TypedSub
 headed_if None f b = None
 headed_if (Some h) f b = Some (headed h f b)
 
 -- it judges a subprogram so, and leaves the list of its formal parameters and its body
-abbrev pub Subprograms : {E : Type 0} → (Context × Option TypedSub) × Log → List Part → Result (Option Head) E → Context → Log → List Part → Type 0
+abbrev pub Subprograms : {E : Type 0} → (Context × Option TypedSub) × Log → List TypedPart → Result (Option Head) E → Context → Log → List TypedPart → Type 0
 Subprograms outcome rest (Ok h) here log now = (outcome ≡ ((here, headed_if h (second now) (top now)), log)) × (pop (pop now) ≡ rest)
 Subprograms outcome rest (Err e) here log now = Unit {0}
 
-abbrev pub subs_if : Bool → List Head → List Part → Option (List TypedSub)
+abbrev pub subs_if : Bool → List Head → List TypedPart → Option (List TypedSub)
 subs_if true hs ps = Some (subs_of hs ps)
 subs_if false hs ps = None
 
 -- the declarative part of the main procedure so far: what is elaborated is the latest part, and before it are those of
 -- the subprograms
-abbrev pub declared_so : Context → Sound → List Head → List Part → Declared'
+abbrev pub declared_so : Context → Sound → List Head → List TypedPart → Declared'
 declared_so here s hs ps = record { here = here; decls = part_if s.decls (top ps); subs = subs_if s.subs hs (pop ps) }
 
-abbrev pub Units : {E : Type 0} → Declared' × Log → Result Sound E → Context → List Head → Log → List Part → Type 0
+abbrev pub Units : {E : Type 0} → Declared' × Log → Result Sound E → Context → List Head → Log → List TypedPart → Type 0
 Units outcome (Ok s) here hs log now = outcome ≡ (declared_so here s hs now, log)
 Units outcome (Err e) here hs log now = Unit {0}
 
 -- what a program is made of, of its latest parts
-abbrev pub whole_by : Bool → List Head → Bool → Bool → List Part → Option Whole
+abbrev pub whole_by : Bool → List Head → Bool → Bool → List TypedPart → Option Whole
 whole_by true hs z strict ps = Some (whole_of hs z strict ps)
 whole_by false hs z strict ps = None
 
-abbrev pub whole_if : Judged → List Part → Option Whole
+abbrev pub whole_if : Judged → List TypedPart → Option Whole
 whole_if j ps = whole_by j.whole j.heads j.nonblocking j.strict ps

@@ -2,7 +2,7 @@
 use Rattle.std.proofs.Common.{ℕ, ◌+◌, ◌≤◌, length, Option, Some, None, ℤ, Bool, true, false, if◌then◌else◌, arith}
 use Rattle.std.proofs.lemmas.Grind.{common_steps}
 use Rattle.ada_base.specs.declared.operation.Op.{Op}
-use Rattle.typed_tree.specs.Decoded.{Part}
+use Rattle.typed_tree.specs.Decoded.{TypedPart}
 use Rattle.typed_tree.specs.Syntax.{Expr, Selections}
 use Rattle.ada_base.specs.declared.operation.Comparison.{Comparison}
 use Rattle.name_rules.specs.Found.{Found}
@@ -13,7 +13,7 @@ use Rattle.name_rules.specs.Operators as o
 use Rattle.name_rules.specs.declared.found.Found.{Found as Known}
 use Rattle.name_rules.specs.declared.found.Found.TheVariants as known
 use Rattle.name_rules.specs.declared.found.Limits.{Limits}
-use Rattle.name_rules.specs.declared.found.Place.{Place}
+use Rattle.name_rules.specs.declared.found.ObjectName.{ObjectName}
 use Rattle.name_rules.specs.declared.log.Log.{Log}
 use Rattle.name_rules.specs.declared.log.Rule.{Rule}
 use Rattle.name_rules.specs.declared.types.Kind.{Kind}
@@ -64,7 +64,7 @@ sound-both p q f h k m = record { says = λ log. both-at (p log).0 (q (p log).1)
 
 -- ---- values
 
-pub sound-valued : (k : Kind) (first : ℕ) (z : ℤ) (b : Bool) (ms : Part) → Sound (v.valued k first z b ms)
+pub sound-valued : (k : Kind) (first : ℕ) (z : ℤ) (b : Bool) (ms : TypedPart) → Sound (v.valued k first z b ms)
 unfolding v.valued
 sound-valued k first z b ms = sound-if (in_base k z) _ _ (sound-some _) (sound-fault _ first _)
 
@@ -76,11 +76,11 @@ pub sound-settled : (k : Kind) (l : Limits) (e : Expr) → Sound (v.settled k l 
 unfolding v.settled
 sound-settled k l e = settled-by k e (v.beyond k l)
 
-place_asked : (k : Kind) (p : Place) (ss : Selections) (s : Subtype) → Sound (v.place_asked k p ss s)
+place_asked : (k : Kind) (p : ObjectName) (ss : Selections) (s : Subtype) → Sound (v.place_asked k p ss s)
 place_asked k p ss (subtype.Scalar s) = sound-if (same s.kind k) _ _ (sound-some _) (sound-fault _ p.first _)
 place_asked k p ss (subtype.Composite n) = sound-fault _ p.first _
 
-asked-form : (k : Kind) (f : Known) (x : Part) → Sound (v.asked_form k f x)
+asked-form : (k : Kind) (f : Known) (x : TypedPart) → Sound (v.asked_form k f x)
 asked-form k (known.Universal first z alone) x = sound-if (is_integer k) _ _ (sound-valued k first z alone _) (sound-fault _ first _)
 asked-form k (known.Open first l) x = sound-if (is_integer k) _ _ (sound-settled k l _) (sound-fault _ first _)
 asked-form k (known.Static first j z) x = sound-if (same j k) _ _ (sound-some _) (sound-fault _ first _)
@@ -104,12 +104,12 @@ pub sound-compared_at : (k : Kind) (c : Comparison) (a b : Found) → Sound (o.c
 unfolding o.compared_at
 sound-compared_at k c a b = sound-both (v.asked k a) (v.asked k b) _ (sound-asked k a) (sound-asked k b) (λ m n. sound-some _)
 
-pub sound-static_of : (first : ℕ) (k : Kind) (ms : Part) (z : Option ℤ) → Sound (o.static_of first k ms z)
+pub sound-static_of : (first : ℕ) (k : Kind) (ms : TypedPart) (z : Option ℤ) → Sound (o.static_of first k ms z)
 unfolding o.static_of
 sound-static_of first k ms None = sound-fault _ first _
 sound-static_of first k ms (Some z) = sound-if (in_base k z) _ _ (sound-some _) (sound-fault _ first _)
 
-pub sound-static_universal : (first : ℕ) (ms : Part) (z : Option ℤ) → Sound (o.static_universal first ms z)
+pub sound-static_universal : (first : ℕ) (ms : TypedPart) (z : Option ℤ) → Sound (o.static_universal first ms z)
 unfolding o.static_universal
 sound-static_universal first ms None = sound-fault _ first _
 sound-static_universal first ms (Some z) = sound-some _

@@ -36,7 +36,7 @@ use Rattle.typed_tree.specs.declared.expressions.Run.{Run}
 use Rattle.std.specs.List.{list_all, list_any}
 use Rattle.std.specs.Prelude.{Bool, List, None, Option, Some, [], drop, false, if◌then◌else◌, int_le, int_lt, length, not, option_map, pos, true, unsigned_abs, ℕ, ℤ, ◌&&◌, ◌*◌, ◌++◌, ◌+ℤ◌, ◌+◌, ◌-ℤ◌, ◌==◌, ◌||◌, ◌∷◌}
 use Rattle.name_rules.specs.TypedParts.{also, also_all, exprs_of}
-use Rattle.typed_tree.specs.Decoded.{Part as TypedPart, as_associations}
+use Rattle.typed_tree.specs.Decoded.{TypedPart, as_associations}
 use Rattle.typed_tree.specs.Latest.{turned}
 
 -- ---- what stands in an aggregate's brackets

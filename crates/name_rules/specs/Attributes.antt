@@ -15,7 +15,7 @@ use Rattle.name_rules.specs.declared.found.Attribute.{Attribute}
 use Rattle.name_rules.specs.declared.found.Denoted.TheVariants as denoted
 use Rattle.name_rules.specs.declared.found.Denoted.{Denoted as KnownDenoted}
 use Rattle.name_rules.specs.declared.found.Found.TheVariants as known
-use Rattle.name_rules.specs.declared.found.Place.{Place}
+use Rattle.name_rules.specs.declared.found.ObjectName.{ObjectName}
 use Rattle.name_rules.specs.declared.found.Prefix.TheVariants as prefix
 use Rattle.name_rules.specs.declared.found.Prefix.{Prefix}
 use Rattle.name_rules.specs.declared.log.Dimension.{Dimension}
@@ -34,7 +34,7 @@ use Rattle.typed_tree.specs.Syntax.{Expr as TypedExpr}
 use Rattle.typed_tree.specs.Indexes.{indexes_in}
 use Rattle.std.specs.Prelude.{Bool, List, None, Option, Some, [], false, if◌then◌else◌, int_le, length, nat_lt, option_map, pos, slice_get, true, unsigned_abs, ℕ, ℤ, ◌&&◌, ◌-◌, ◌==◌, ◌∷◌}
 use Rattle.name_rules.specs.TypedParts.{also, also_all, selections_of}
-use Rattle.typed_tree.specs.Decoded.{Part as TypedPart, as_expr}
+use Rattle.typed_tree.specs.Decoded.{TypedPart, as_expr}
 
 -- ---- which attribute
 
@@ -171,7 +171,7 @@ scalar_with names inside here first s attribute'.Pred bracket as' = stepped name
 scalar_with names inside here first s a bracket as' = scalar_bound first s a >>= λ d. given d (λ x. wrong_call names inside here first as')
 
 -- `X'Image` of a scalar object
-abbrev pub object_image : ℕ → Place → TypedPart → Subtype → Judging (Option Denoted)
+abbrev pub object_image : ℕ → ObjectName → TypedPart → Subtype → Judging (Option Denoted)
 object_image first p x (subtype.Scalar s) = one_given s.kind (image_text first s.kind) (record { known = known.Object p; part = x })
 object_image first p x (subtype.Composite n) = fault first WrongType
 

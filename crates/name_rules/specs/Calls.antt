@@ -11,7 +11,7 @@ use Rattle.name_rules.specs.Values.{first_of, is_number, settled_found}
 use Rattle.name_rules.specs.declared.found.Denoted.TheVariants as denoted
 use Rattle.name_rules.specs.declared.found.Found.TheVariants as known
 use Rattle.name_rules.specs.declared.found.Found.{Found as Known}
-use Rattle.name_rules.specs.declared.found.Place.{Place}
+use Rattle.name_rules.specs.declared.found.ObjectName.{ObjectName}
 use Rattle.name_rules.specs.declared.log.Log.{Log}
 use Rattle.name_rules.specs.declared.log.Profile.{Profile}
 use Rattle.name_rules.specs.declared.log.Rule.TheVariants.{Twice, Unknown, WrongType}
@@ -32,7 +32,7 @@ use Rattle.typed_tree.specs.declared.program.Mode.{Mode}
 use Rattle.std.specs.List.{list_any, position}
 use Rattle.std.specs.Prelude.{Bool, List, None, Option, Some, [], false, if◌then◌else◌, is_some, length, nat_lt, not, slice_get, true, ℕ, ◌++◌, ◌+◌, ◌==◌, ◌||◌, ◌∷◌}
 use Rattle.name_rules.specs.TypedParts.{also, selections_of}
-use Rattle.typed_tree.specs.Decoded.{Part as TypedPart, as_expr, as_actuals}
+use Rattle.typed_tree.specs.Decoded.{TypedPart, as_expr, as_actuals}
 use Rattle.typed_tree.specs.Latest.{turned}
 
 -- ---- actual parameters (6.4.1)
@@ -52,16 +52,16 @@ abbrev pub is_out : Mode → Bool
 is_out mode.Out = true
 is_out _ = false
 
-abbrev pub scalar_actual : Taken → Scalar → Place → Selections → Scalar → TypedPart
+abbrev pub scalar_actual : Taken → Scalar → ObjectName → Selections → Scalar → TypedPart
 scalar_actual t s p ss u =
     part.AnActual (if is_out t.mode then typed.Out t.object p.first p.root ss (typed_scalar s) (typed_scalar u)
     else typed.InOut t.object p.first p.root ss (typed_scalar s) (typed_scalar u))
 
-abbrev pub composite_actual : Taken → Place → Selections → ℕ → TypedPart
+abbrev pub composite_actual : Taken → ObjectName → Selections → ℕ → TypedPart
 composite_actual t p ss n =
     part.AnActual (if is_out t.mode then typed.CompositeOut t.object p.first p.root ss n else typed.CompositeInOut t.object p.first p.root ss n)
 
-abbrev pub place_given : Taken → Place → Selections → Subtype → Subtype → Judging (Option TypedPart)
+abbrev pub place_given : Taken → ObjectName → Selections → Subtype → Subtype → Judging (Option TypedPart)
 place_given t p ss (subtype.Scalar s) (subtype.Scalar u) = if same s.kind u.kind then some (scalar_actual t s p ss u) else fault p.first WrongType
 place_given t p ss (subtype.Composite n) (subtype.Composite m) = if n == m then some (composite_actual t p ss n) else fault p.first WrongType
 place_given t p ss _ _ = fault p.first WrongType

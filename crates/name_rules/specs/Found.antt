@@ -11,7 +11,7 @@ use Rattle.name_rules.specs.declared.types.Scalar.{Scalar}
 use Rattle.typed_tree.specs.Decoded as part
 use Rattle.typed_tree.specs.Syntax.{Composite, Expr as TypedExpr}
 use Rattle.std.specs.Prelude.{Bool, Option, Some, ℕ, ℤ}
-use Rattle.typed_tree.specs.Decoded.{Part as TypedPart}
+use Rattle.typed_tree.specs.Decoded.{TypedPart}
 
 -- what is known of something, and its part of the typed program
 pub record With (K : Type 0) : Type 0 where

@@ -18,7 +18,7 @@ use Rattle.name_rules.specs.declared.found.Denoted.TheVariants as denoted
 use Rattle.name_rules.specs.declared.found.Denoted.{Denoted as KnownDenoted}
 use Rattle.name_rules.specs.declared.found.Folding.{Folding}
 use Rattle.name_rules.specs.declared.found.Found.TheVariants as known
-use Rattle.name_rules.specs.declared.found.Place.{Place}
+use Rattle.name_rules.specs.declared.found.ObjectName.{ObjectName}
 use Rattle.name_rules.specs.declared.log.Log.{Log}
 use Rattle.name_rules.specs.declared.log.Rule.TheVariants.{ChunkRule, ReduceRule, Twice, Unknown, WrongType}
 use Rattle.name_rules.specs.declared.log.Rule.{Rule}
@@ -40,7 +40,7 @@ use Rattle.std.specs.List.{list_all}
 use Rattle.std.specs.Prelude.{Bool, None, Option, Some, drop, false, if◌then◌else◌, is_some, length, not, option_map, true, ℕ, ◌+◌, ◌||◌}
 use Rattle.typed_tree.specs.Decoded as part
 use Rattle.name_rules.specs.TypedParts.{low_of, high_of, selections_of}
-use Rattle.typed_tree.specs.Decoded.{Part as TypedPart, as_expr, as_optional, as_iteration}
+use Rattle.typed_tree.specs.Decoded.{TypedPart, as_expr, as_optional, as_iteration}
 
 -- ---- parameters
 
@@ -102,14 +102,14 @@ abbrev pub item_what : ℕ → Bool → Option Subtype → What
 item_what n v None = what.Broken
 item_what n v (Some s) = what.Item n s v
 
-abbrev pub array_walked : Log → ℕ → ℕ → OptionalExpr → Place → Selections → Option Shape → Walked
+abbrev pub array_walked : Log → ℕ → ℕ → OptionalExpr → ObjectName → Selections → Option Shape → Walked
 array_walked log n token f p ss t = record { made = Some (part.AnIteration (through log p ss t n typed.Absent)); token = token; entry = item_what n p.variable (component_of t); filter = f; reverse = None }
 
 abbrev pub no_array : ℕ → OptionalExpr → Walked
 no_array token f = record { made = None; token = token; entry = what.Broken; filter = f; reverse = None }
 
 -- E06: the name after `of` is no array object, at its first token
-abbrev pub over_place : ℕ → ℕ → OptionalExpr → Place → Selections → Judging Walked
+abbrev pub over_place : ℕ → ℕ → OptionalExpr → ObjectName → Selections → Judging Walked
 over_place n token f p ss = λ log.
     (if is_array (array_shape log p.subtype) then pure (array_walked log n token f p ss (array_shape log p.subtype))
     else (breaks p.first WrongType >>= λ u. pure (no_array token f))) log

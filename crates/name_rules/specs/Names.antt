@@ -11,7 +11,7 @@ use Rattle.name_rules.specs.Values.{asked, first_of}
 use Rattle.name_rules.specs.declared.found.Denoted.TheVariants as denoted
 use Rattle.name_rules.specs.declared.found.Denoted.{Denoted as KnownDenoted}
 use Rattle.name_rules.specs.declared.found.Found.TheVariants as known
-use Rattle.name_rules.specs.declared.found.Place.{Place}
+use Rattle.name_rules.specs.declared.found.ObjectName.{ObjectName}
 use Rattle.name_rules.specs.declared.log.Dimension.{Dimension}
 use Rattle.name_rules.specs.declared.log.Field.{Field}
 use Rattle.name_rules.specs.declared.log.Log.{Log}
@@ -29,7 +29,7 @@ use Rattle.typed_tree.specs.Decoded as part
 use Rattle.std.specs.Prelude.{Bool, List, None, Option, Some, [], drop, false, if◌then◌else◌, length, slice_get, true, ℕ, ◌+◌, ◌==◌, ◌∷◌}
 use Rattle.typed_tree.specs.Syntax as typed
 use Rattle.name_rules.specs.TypedParts.{also}
-use Rattle.typed_tree.specs.Decoded.{Part as TypedPart, as_expr}
+use Rattle.typed_tree.specs.Decoded.{TypedPart, as_expr}
 
 abbrev pub denoted_first : KnownDenoted → ℕ
 denoted_first (denoted.Value f) = first_of f
@@ -46,11 +46,11 @@ denoted_first (denoted.Range first d) = first
 -- ---- selected components (4.1.3) and expanded names
 
 -- a part of an object is no static constant
-abbrev pub part_place : Place → Subtype → KnownDenoted
+abbrev pub part_place : ObjectName → Subtype → KnownDenoted
 part_place p t = denoted.Value (known.Object (record p { subtype = t; value = None }))
 
 -- E05 Unknown: a component that the record doesn't have
-abbrev pub field_from : Names → Place → TypedPart → ℕ → ℕ → List Field → Judging (Option Denoted)
+abbrev pub field_from : Names → ObjectName → TypedPart → ℕ → ℕ → List Field → Judging (Option Denoted)
 field_from names p ss at i [] = fault at Unknown
 field_from names p ss at i (f ∷ fs) =
     if f.symbol == symbol names at then some (denote (part_place p f.subtype) (also ss (part.ASelection (typed.Field i f.offset)))) else field_from names p ss at (i + 1) fs
@@ -63,11 +63,11 @@ abbrev pub is_array : Option Shape → Bool
 is_array (Some (shape.Array ds c n cells)) = true
 is_array _ = false
 
-abbrev pub field_in : Names → Place → TypedPart → ℕ → Option Shape → Judging (Option Denoted)
+abbrev pub field_in : Names → ObjectName → TypedPart → ℕ → Option Shape → Judging (Option Denoted)
 field_in names p ss at t = if is_record t then field_from names p ss at 0 (fields_of t) else fault p.first WrongType
 
 -- a point after an object that is no record is a wrong type at the name's first token
-abbrev pub field_of : Names → Place → TypedPart → ℕ → Subtype → Judging (Option Denoted)
+abbrev pub field_of : Names → ObjectName → TypedPart → ℕ → Subtype → Judging (Option Denoted)
 field_of names p ss at (subtype.Composite n) = λ log. field_in names p ss at (shape_in log n) log
 field_of names p ss at (subtype.Scalar s) = fault p.first WrongType
 
@@ -131,7 +131,7 @@ indexes names inside here ds cells done syntax.NoArg = pure done
 indexes names inside here ds cells done (syntax.AlsoArg a as') = index names inside here ds cells done a >>= λ s. indexes names inside here (drop 1 ds) cells s as'
 
 -- E06: wrong number of indexes, at the opening bracket
-abbrev pub indexed : Place → ℕ → ℕ → ℕ → Option Subtype → TypedPart → Judging (Option Denoted)
+abbrev pub indexed : ObjectName → ℕ → ℕ → ℕ → Option Subtype → TypedPart → Judging (Option Denoted)
 indexed p bracket wanted given None ss = fault p.first WrongType
 indexed p bracket wanted given (Some c) ss = if wanted == given then some (denote (part_place p c) ss) else fault bracket WrongType
 
@@ -139,17 +139,17 @@ abbrev pub component_cells : Log → Option Subtype → ℕ
 component_cells log None = 1
 component_cells log (Some s) = cells_in log s
 
-abbrev pub index_shape : Names → Inside → Context → Place → TypedPart → ℕ → Args → Option Shape → ℕ → Judging (Option Denoted)
+abbrev pub index_shape : Names → Inside → Context → ObjectName → TypedPart → ℕ → Args → Option Shape → ℕ → Judging (Option Denoted)
 index_shape names inside here p ss bracket as' t cells =
     where_clean (indexes names inside here (dimensions_of t) cells (Some ss) as')
     (λ r. given r (indexed p bracket (length (dimensions_of t)) (count as') (component_of t)))
 
 -- a bracket after a scalar or record is a wrong type at the name's first token
-abbrev pub array_call : Names → Inside → Context → Place → TypedPart → ℕ → Args → Option Shape → ℕ → Judging (Option Denoted)
+abbrev pub array_call : Names → Inside → Context → ObjectName → TypedPart → ℕ → Args → Option Shape → ℕ → Judging (Option Denoted)
 array_call names inside here p ss bracket as' t cells =
     if is_array t then index_shape names inside here p ss bracket as' t cells else wrong_call names inside here p.first as'
 
-unfoldable pub object_call : Names → Inside → Context → Place → TypedPart → ℕ → Args → Subtype → Judging (Option Denoted)
+unfoldable pub object_call : Names → Inside → Context → ObjectName → TypedPart → ℕ → Args → Subtype → Judging (Option Denoted)
 object_call names inside here p ss bracket as' (subtype.Composite n) = λ log. array_call names inside here p ss bracket as' (shape_in log n) (component_cells log (component_of (shape_in log n))) log
 object_call names inside here p ss bracket as' (subtype.Scalar s) = wrong_call names inside here p.first as'
 

@@ -23,7 +23,7 @@ use Rattle.typed_tree.specs.declared.scalars.Class.TheVariants as class
 use Rattle.ada_base.specs.declared.operation.Comparison.{Comparison}
 use Rattle.std.specs.Prelude.{Bool, None, Option, Some, false, if◌then◌else◌, neg_ℤ, not, option_map, pos, unsigned_abs, ℕ, ℤ, ◌&&◌}
 use Rattle.name_rules.specs.TypedParts.{also_all, exprs_of}
-use Rattle.typed_tree.specs.Decoded.{Part as TypedPart, as_expr}
+use Rattle.typed_tree.specs.Decoded.{TypedPart, as_expr}
 
 -- ---- static results: E07 StaticRange where there is none in the base range, or in 128 bits
 

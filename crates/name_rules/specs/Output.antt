@@ -10,7 +10,7 @@ use Rattle.name_rules.specs.Values.{asked, first_of, literal, mentions_of, stati
 use Rattle.name_rules.specs.declared.found.Denoted.TheVariants as denoted
 use Rattle.name_rules.specs.declared.found.Found.TheVariants as known
 use Rattle.name_rules.specs.declared.found.Found.{Found as Known}
-use Rattle.name_rules.specs.declared.found.Place.{Place}
+use Rattle.name_rules.specs.declared.found.ObjectName.{ObjectName}
 use Rattle.name_rules.specs.declared.found.Put.TheVariants as put
 use Rattle.name_rules.specs.declared.found.Put.{Put}
 use Rattle.name_rules.specs.declared.found.Reach.{Reach}
@@ -29,7 +29,7 @@ use Rattle.typed_tree.specs.Syntax.{Selections, Stmt as TypedStmt}
 use Rattle.typed_tree.specs.declared.scalars.Class.TheVariants as class
 use Rattle.std.specs.Prelude.{Bool, None, Option, Some, false, if◌then◌else◌, int_le, nat_le, not, option_map, pos, true, ℕ, ℤ, ◌&&◌, ◌+◌, ◌==◌}
 use Rattle.name_rules.specs.TypedParts.{selections_of}
-use Rattle.typed_tree.specs.Decoded.{Part as TypedPart, as_expr, as_pieces}
+use Rattle.typed_tree.specs.Decoded.{TypedPart, as_expr, as_pieces}
 use Rattle.typed_tree.specs.Latest.{turned}
 
 abbrev pub done_by : ℕ → TypedStmt → Denoted
@@ -153,7 +153,7 @@ put_of_text at first last reach more f =
     if reach.expanded then fault (first_of f.known) WrongType else fault first NotVisible
 
 -- Get takes a variable of type Integer
-abbrev pub get_place : ℕ → ℕ → Place → Selections → Subtype → Judging (Option Denoted)
+abbrev pub get_place : ℕ → ℕ → ObjectName → Selections → Subtype → Judging (Option Denoted)
 get_place first last p ss (subtype.Scalar s) = if p.variable && same s.kind kind.Integer then some (done_by first (typed.Get first last p.first p.root ss (typed_scalar s))) else fault p.first WrongType
 get_place first last p ss (subtype.Composite n) = fault p.first WrongType
 

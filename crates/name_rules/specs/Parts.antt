@@ -15,7 +15,7 @@ use Rattle.name_rules.specs.declared.found.Attribute.{Attribute}
 use Rattle.name_rules.specs.declared.found.Denoted.TheVariants as denoted
 use Rattle.name_rules.specs.declared.found.Denoted.{Denoted as KnownDenoted}
 use Rattle.name_rules.specs.declared.found.Found.TheVariants as known
-use Rattle.name_rules.specs.declared.found.Place.{Place}
+use Rattle.name_rules.specs.declared.found.ObjectName.{ObjectName}
 use Rattle.name_rules.specs.declared.found.Prefix.TheVariants as prefix
 use Rattle.name_rules.specs.declared.found.Prefix.{Prefix}
 use Rattle.name_rules.specs.declared.log.Log.{Log}
@@ -27,7 +27,7 @@ use Rattle.name_rules.specs.declared.types.Subtype.TheVariants as subtype
 use Rattle.name_rules.specs.declared.types.Subtype.{Subtype}
 use Rattle.name_rules.specs.declared.types.Wanted.TheVariants as wanted
 use Rattle.syntax_tree.specs.Syntax as syntax
-use Rattle.syntax_tree.specs.Syntax.{Args, Expr, Name, Part, Parts}
+use Rattle.syntax_tree.specs.Syntax.{Args, Expr, Name, NamePart, NameParts}
 use Rattle.typed_tree.specs.Decoded as part
 use Rattle.typed_tree.specs.Syntax as typed
 use Rattle.typed_tree.specs.Syntax.{Iteration, Optional, Selections}
@@ -35,7 +35,7 @@ use Rattle.typed_tree.specs.declared.program.SiteKind.TheVariants as site
 use Rattle.typed_tree.specs.declared.program.SiteKind.{SiteKind}
 use Rattle.std.specs.Prelude.{Bool, None, Option, Some, [], false, if◌then◌else◌, length, not, option_map, true, ℕ, ◌++◌, ◌+◌, ◌/◌, ◌∷◌}
 use Rattle.name_rules.specs.TypedParts.{selections_of}
-use Rattle.typed_tree.specs.Decoded.{Part as TypedPart}
+use Rattle.typed_tree.specs.Decoded.{TypedPart}
 
 -- ---- numbers of constructs and of parameters, in the order of the text
 
@@ -57,7 +57,7 @@ array_shape log (subtype.Scalar s) = None
 array_shape log (subtype.Composite n) = shape_in log n
 
 -- going through the components of an array
-abbrev pub through : Log → Place → Selections → Option Shape → ℕ → Optional → Iteration
+abbrev pub through : Log → ObjectName → Selections → Option Shape → ℕ → Optional → Iteration
 through log p ss t n f =
     typed.Components n (not p.variable) p.first p.root ss (cells_of_shape t / component_cells log (component_of t)) (component_cells log (component_of t)) (length (dimensions_of t)) f
 
@@ -72,7 +72,7 @@ item_subtype (Some s) = s
 abbrev pub item_found : ℕ → ℕ → Bool → Option Subtype → Found
 item_found first n v s = record { known = known.Object (item first n (item_subtype s) v); part = part.Nothing }
 
-abbrev pub array_reduction : Names → Inside → Context → Place → Selections → ℕ → Attribute → Expr → Expr → Judging (Option Denoted)
+abbrev pub array_reduction : Names → Inside → Context → ObjectName → Selections → ℕ → Attribute → Expr → Expr → Judging (Option Denoted)
 array_reduction names inside here p ss at a r v = do
   construct ← site_where here p.first (is_parallel a)
   n ← new_parameter
@@ -87,7 +87,7 @@ array_reduction names inside here p ss at a r v = do
 abbrev pub wrong_arguments : Names → Inside → Context → ℕ → Args → Judging (Option Denoted)
 wrong_arguments names inside here bracket as' = where_clean (args_alone names inside here as') (λ u. fault bracket WrongType)
 
-abbrev pub array_reduced : Names → Inside → Context → Place → Selections → ℕ → Attribute → ℕ → Args → Judging (Option Denoted)
+abbrev pub array_reduced : Names → Inside → Context → ObjectName → Selections → ℕ → Attribute → ℕ → Args → Judging (Option Denoted)
 array_reduced names inside here p ss at a bracket (syntax.AlsoArg (syntax.arg None r) (syntax.AlsoArg (syntax.arg None v) syntax.NoArg)) = array_reduction names inside here p ss at a r v
 array_reduced names inside here p ss at a bracket as' = wrong_arguments names inside here bracket as'
 
@@ -126,22 +126,22 @@ unfoldable pub call : Names → Inside → Context → ℕ → Args → Denoted 
 call names inside here bracket as' d = call_form names inside here bracket as' d.known d.part
 
 -- a function's name before a point or a tick is a call of it, which has no parts and no attributes
-unfoldable pub part_of : Names → Inside → Context → Part → Denoted → Judging (Option Denoted)
+unfoldable pub part_of : Names → Inside → Context → NamePart → Denoted → Judging (Option Denoted)
 part_of names inside here (syntax.Field at) d = settled_attribute d >>= λ x. given x (field names here at)
 part_of names inside here (syntax.Call bracket a as') d = call names inside here bracket (syntax.AlsoArg a as') d
 part_of names inside here (syntax.Attribute at) d = settled_attribute d >>= λ x. given x (λ e. attribute_found e at (attribute_at (symbol names at)))
 part_of names inside here (syntax.RangeAttribute at) d = settled_attribute d >>= λ x. given x (λ e. attribute_found e at (Some attribute'.Range))
 
 -- the parts behind one with a fault are judged for their arguments alone
-abbrev pub part_alone : Names → Inside → Context → Part → Judging (Option Denoted)
+abbrev pub part_alone : Names → Inside → Context → NamePart → Judging (Option Denoted)
 part_alone names inside here (syntax.Call bracket a as') = args_alone names inside here (syntax.AlsoArg a as') >>= λ u. pure None
 part_alone names inside here _ = pure None
 
-abbrev pub next_part : Names → Inside → Context → Option Denoted → Part → Judging (Option Denoted)
+abbrev pub next_part : Names → Inside → Context → Option Denoted → NamePart → Judging (Option Denoted)
 next_part names inside here None p = part_alone names inside here p
 next_part names inside here (Some d) p = part_of names inside here p d
 
-abbrev pub parts : Names → Inside → Context → Option Denoted → Parts → Judging (Option Denoted)
+abbrev pub parts : Names → Inside → Context → Option Denoted → NameParts → Judging (Option Denoted)
 parts names inside here d syntax.NoPart = pure d
 parts names inside here d (syntax.AlsoPart p ps) = next_part names inside here d p >>= λ e. parts names inside here e ps
 

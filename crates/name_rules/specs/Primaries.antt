@@ -31,7 +31,7 @@ use Rattle.typed_tree.specs.Decoded as part
 use Rattle.typed_tree.specs.Syntax as typed
 use Rattle.std.specs.Prelude.{List, None, Option, Some, [], false, option_map, suc, true, zero, ℕ, ℤ, ◌∷◌}
 use Rattle.name_rules.specs.TypedParts.{pair, left_of, right_of, also}
-use Rattle.typed_tree.specs.Decoded.{Part as TypedPart, as_expr}
+use Rattle.typed_tree.specs.Decoded.{TypedPart, as_expr}
 
 -- ---- conditional expressions: conditions and values as they were found, the last first, wait for their type
 

@@ -38,7 +38,7 @@ use Rattle.typed_tree.specs.declared.program.Formal.{Formal as TypedFormal}
 use Rattle.typed_tree.specs.declared.program.Mode.TheVariants as mode
 use Rattle.typed_tree.specs.declared.program.Mode.{Mode}
 use Rattle.std.specs.Prelude.{Bool, List, None, Option, Some, [], drop, false, if◌then◌else◌, int_le, length, map, not, option_map, pos, true, ℕ, ℤ, ◌&&◌, ◌++◌, ◌+◌, ◌-◌, ◌==◌, ◌||◌, ◌∷◌}
-use Rattle.typed_tree.specs.Decoded.{Part as TypedPart, as_body}
+use Rattle.typed_tree.specs.Decoded.{TypedPart, as_body}
 
 -- ---- the policy (2.8)
 

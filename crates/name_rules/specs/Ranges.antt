@@ -22,7 +22,7 @@ use Rattle.syntax_tree.specs.Syntax.{Range, Simple}
 use Rattle.typed_tree.specs.Decoded as part
 use Rattle.std.specs.Prelude.{Bool, None, Option, Some, false, if◌then◌else◌, int_le, not, option_map, ℕ, ℤ, ◌&&◌}
 use Rattle.name_rules.specs.TypedParts.{pair}
-use Rattle.typed_tree.specs.Decoded.{Part as TypedPart}
+use Rattle.typed_tree.specs.Decoded.{TypedPart}
 
 -- two bounds, each for itself
 unfoldable pub two_bounds : Inside → Context → Simple → Simple → Judging (Option Found × Option Found)

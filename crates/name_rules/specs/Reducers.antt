@@ -29,14 +29,14 @@ use Rattle.name_rules.specs.declared.types.Scalar.{Scalar}
 use Rattle.name_rules.specs.declared.types.Subtype.TheVariants as subtype
 use Rattle.name_rules.specs.declared.types.Subtype.{Subtype}
 use Rattle.syntax_tree.specs.Syntax as syntax
-use Rattle.syntax_tree.specs.Syntax.{Expr, Parts, Primary}
+use Rattle.syntax_tree.specs.Syntax.{Expr, NameParts, Primary}
 use Rattle.typed_tree.specs.Syntax as typed
 use Rattle.typed_tree.specs.Syntax.{Expr as TypedExpr}
 use Rattle.typed_tree.specs.declared.expressions.Reducer.TheVariants as reducer'
 use Rattle.typed_tree.specs.declared.expressions.Reducer.{Reducer}
 use Rattle.typed_tree.specs.declared.scalars.Class.TheVariants as class
 use Rattle.std.specs.Prelude.{Bool, List, None, Option, Some, [], bytes_eq, codes, false, if◌then◌else◌, is_some, not, true, ℕ, ◌&&◌, ◌==◌, ◌||◌, ◌∷◌}
-use Rattle.typed_tree.specs.Decoded.{Part as TypedPart, as_expr, as_iteration, as_chunk}
+use Rattle.typed_tree.specs.Decoded.{TypedPart, as_expr, as_iteration, as_chunk}
 
 -- ---- the reducer
 
@@ -77,7 +77,7 @@ abbrev pub attribute_reducer : Names → Inside → Context → Expr → ℕ →
 attribute_reducer names inside here e first None = no_reducer names inside here e
 attribute_reducer names inside here e first (Some o) = stands_for names here first >>= λ d. given d (λ x. extreme_of first o x.known)
 
-abbrev pub name_reducer : Names → Inside → Context → Expr → ℕ → Parts → Judging (Option Folding)
+abbrev pub name_reducer : Names → Inside → Context → Expr → ℕ → NameParts → Judging (Option Folding)
 name_reducer names inside here e first syntax.NoPart = stands_for names here first >>= λ d. given d (λ x. function_of first x.known)
 name_reducer names inside here e first (syntax.AlsoPart (syntax.Attribute at) syntax.NoPart) = attribute_reducer names inside here e first (extreme_name names at)
 name_reducer names inside here e first ps = no_reducer names inside here e

@@ -7,7 +7,7 @@ use Rattle.name_rules.specs.Symbols.{ada_name, boolean_name, constraint_error_na
 use Rattle.name_rules.specs.declared.found.Denoted.TheVariants as denoted
 use Rattle.name_rules.specs.declared.found.Denoted.{Denoted as KnownDenoted}
 use Rattle.name_rules.specs.declared.found.Found.TheVariants as known
-use Rattle.name_rules.specs.declared.found.Place.{Place}
+use Rattle.name_rules.specs.declared.found.ObjectName.{ObjectName}
 use Rattle.name_rules.specs.declared.found.Put.TheVariants as put
 use Rattle.name_rules.specs.declared.found.Put.{Put}
 use Rattle.name_rules.specs.declared.found.Reach.{Reach}
@@ -129,10 +129,10 @@ undeclared here token name =
 
 -- ---- an identifier
 
-abbrev pub object : ℕ → ℕ → Subtype → Bool → Option ℤ → Place
+abbrev pub object : ℕ → ℕ → Subtype → Bool → Option ℤ → ObjectName
 object token n s v z = record { first = token; root = root.Object n; subtype = s; variable = v; value = z }
 
-abbrev pub item : ℕ → ℕ → Subtype → Bool → Place
+abbrev pub item : ℕ → ℕ → Subtype → Bool → ObjectName
 item token n s v = record { first = token; root = root.Item n; subtype = s; variable = v; value = None }
 
 abbrev pub bit : Bool → ℤ

@@ -17,7 +17,7 @@ use Rattle.name_rules.specs.declared.found.Denoted.TheVariants as denoted
 use Rattle.name_rules.specs.declared.found.Denoted.{Denoted as KnownDenoted}
 use Rattle.name_rules.specs.declared.found.Found.TheVariants as known
 use Rattle.name_rules.specs.declared.found.Found.{Found as Known}
-use Rattle.name_rules.specs.declared.found.Place.{Place}
+use Rattle.name_rules.specs.declared.found.ObjectName.{ObjectName}
 use Rattle.name_rules.specs.Limits.{most_arms}
 use Rattle.name_rules.specs.declared.log.Bound.TheVariants as bound
 use Rattle.name_rules.specs.declared.log.Rule.TheVariants.{ChunkRule, Limit, NotVisible, WrongEnd, WrongType}
@@ -41,7 +41,7 @@ use Rattle.typed_tree.specs.declared.program.SiteKind.TheVariants as site
 use Rattle.std.specs.List.{find}
 use Rattle.std.specs.Prelude.{Bool, List, None, Option, Some, [], false, if◌then◌else◌, length, nat_le, not, option_map, reverse, slice_get, suc, true, zero, ℕ, ◌++◌, ◌+◌, ◌-◌, ◌==◌, ◌∷◌}
 use Rattle.name_rules.specs.TypedParts.{pair, also, exprs_of, selections_of, nested_stmts}
-use Rattle.typed_tree.specs.Decoded.{Part as TypedPart, as_expr, as_optional, as_iteration, as_chunk, as_decls, as_stmts, as_alternatives, as_arms, as_handlers, as_body}
+use Rattle.typed_tree.specs.Decoded.{TypedPart, as_expr, as_optional, as_iteration, as_chunk, as_decls, as_stmts, as_alternatives, as_arms, as_handlers, as_body}
 use Rattle.typed_tree.specs.Latest.{turned}
 
 -- how the statements in a statement are judged
@@ -73,17 +73,17 @@ stmts a here (syntax.stmts s ss) = stmts_from a here (Some no_stmts) (syntax.Als
 abbrev pub with_target : Context → Target → Context
 with_target here t = record here { target = t }
 
-abbrev pub assigned : Place → Selections → TypedPart → TypedPart
+abbrev pub assigned : ObjectName → Selections → TypedPart → TypedPart
 assigned p ss v = part.AStmt (typed.Assign p.first p.root ss (part.as_value v))
 
 -- E06: assignment to what is no variable, at its first token; `:=` stands directly before the value
-abbrev pub stored_place : Place → Selections → ℕ → Found → Judging (Option TypedPart)
+abbrev pub stored_place : ObjectName → Selections → ℕ → Found → Judging (Option TypedPart)
 stored_place p ss at f = stored p.subtype at f >>= λ v. pure (option_map (assigned p ss) v)
 
-abbrev pub assigned_place : Place → Selections → ℕ → Option Found → Judging (Option TypedPart)
+abbrev pub assigned_place : ObjectName → Selections → ℕ → Option Found → Judging (Option TypedPart)
 assigned_place p ss at x = if not p.variable then fault p.first WrongType else given x (stored_place p ss at)
 
-unfoldable pub assign_place : Names → Inside → Context → Place → Selections → Expr → Judging (Option TypedPart)
+unfoldable pub assign_place : Names → Inside → Context → ObjectName → Selections → Expr → Judging (Option TypedPart)
 assign_place names level here p ss e =
     where_clean (expr names level (with_target here (target.Of p.subtype)) (wanted_of p.subtype) e) (assigned_place p ss (first_token.of_expr e - 1))
 

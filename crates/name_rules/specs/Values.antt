@@ -7,7 +7,7 @@ use Rattle.name_rules.specs.Types.{check_at, class_of, in_base, is_integer, same
 use Rattle.name_rules.specs.declared.found.Found.TheVariants as known
 use Rattle.name_rules.specs.declared.found.Found.{Found as Known}
 use Rattle.name_rules.specs.declared.found.Limits.{Limits}
-use Rattle.name_rules.specs.declared.found.Place.{Place}
+use Rattle.name_rules.specs.declared.found.ObjectName.{ObjectName}
 use Rattle.name_rules.specs.declared.log.Rule.TheVariants.{NotStatic, StaticRange, WrongType}
 use Rattle.name_rules.specs.declared.types.Kind.TheVariants as kind
 use Rattle.name_rules.specs.declared.types.Kind.{Kind}
@@ -20,7 +20,7 @@ use Rattle.typed_tree.specs.Syntax.{Composite, Selections, Expr as TypedExpr}
 use Rattle.typed_tree.specs.Classes.{with_class}
 use Rattle.std.specs.Prelude.{Bool, None, Option, Some, false, if◌then◌else◌, int_le, is_some, negsuc, option_map, pos, true, ℕ, ℤ, ◌&&◌, ◌==◌, ◌||◌}
 use Rattle.name_rules.specs.TypedParts.{exprs_of, selections_of}
-use Rattle.typed_tree.specs.Decoded.{Part as TypedPart, as_expr}
+use Rattle.typed_tree.specs.Decoded.{TypedPart, as_expr}
 
 -- ---- what is known of an expression
 
@@ -142,15 +142,15 @@ settled k l e = settled_by k e (beyond k l)
 
 -- ---- an expression whose place asks for a type
 
-abbrev pub object_expr : Place → Selections → Scalar → Bool → TypedExpr
+abbrev pub object_expr : ObjectName → Selections → Scalar → Bool → TypedExpr
 object_expr p ss s true = typed.Variable p.first p.root ss (typed_scalar s)
 object_expr p ss s false = typed.Constant p.first p.root ss (typed_scalar s)
 
-abbrev pub object_value : Place → Selections → Scalar → Option ℤ → TypedPart
+abbrev pub object_value : ObjectName → Selections → Scalar → Option ℤ → TypedPart
 object_value p ss s (Some z) = literal p.first z false part.Nothing
 object_value p ss s None = part.AnExpr (object_expr p ss s p.variable)
 
-abbrev pub place_asked : Kind → Place → Selections → Subtype → Judging (Option TypedPart)
+abbrev pub place_asked : Kind → ObjectName → Selections → Subtype → Judging (Option TypedPart)
 place_asked k p ss (subtype.Scalar s) = if same s.kind k then some (object_value p ss s p.value) else fault p.first WrongType
 place_asked k p ss (subtype.Composite n) = fault p.first WrongType
 
@@ -203,11 +203,11 @@ static_integer f = if is_number f then static_value (first_of f) (value_of f) el
 
 -- ---- a value that is stored in a place of a subtype
 
-abbrev pub whole_object : Place → Selections → ℕ → Bool → Composite
+abbrev pub whole_object : ObjectName → Selections → ℕ → Bool → Composite
 whole_object p ss n true = typed.WholeVariable p.first p.root ss n
 whole_object p ss n false = typed.WholeConstant p.first p.root ss n
 
-abbrev pub whole_of : ℕ → Place → Selections → Subtype → Judging (Option TypedPart)
+abbrev pub whole_of : ℕ → ObjectName → Selections → Subtype → Judging (Option TypedPart)
 whole_of n p ss (subtype.Scalar s) = fault p.first WrongType
 whole_of n p ss (subtype.Composite m) = if n == m then some (part.AComposite (whole_object p ss m p.variable)) else fault p.first WrongType
 

@@ -8,7 +8,7 @@ use typed_tree::expressions::Root;
 /// The name of an object or of a part of one (4.1): its first token, what it stands for, whether it is a variable,
 /// and the value of a static constant. Its part is its selections.
 #[derive(Clone, Copy)]
-pub struct Place {
+pub struct ObjectName {
     pub first: u32,
     pub root: Root,
     pub subtype: Subtype,
@@ -45,7 +45,7 @@ pub enum Found {
         value: i64,
     },
     /// The name of an object.
-    Object(Place),
+    Object(ObjectName),
     /// Another expression of a scalar type, with its nominal subtype where it is a name.
     Scalar {
         first: u32,
@@ -86,7 +86,7 @@ pub enum Attribute {
 /// What stands before the tick of an attribute.
 #[derive(Clone, Copy)]
 pub enum Prefix {
-    Object(Place),
+    Object(ObjectName),
     Parameter(Scalar),
     Type(Subtype),
     Function(u32),

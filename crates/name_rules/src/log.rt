@@ -4,14 +4,18 @@ use crate::types::{Kind, Scalar, Subtype};
 use ada_base::Items;
 use typed_tree::program::{Declared, Mode, Object, Site};
 
-/// What a limit of size bounds: how many objects a program has, how many cells they have, how many arms a parallel block
-/// has, how many dimensions an array type, or how many levels of statements and brackets stand in one another.
+/// What a limit of size bounds.
 #[derive(Clone, Copy, Debug)]
 pub enum Bound {
+    /// How many objects a program has.
     Objects,
+    /// How many cells the objects of a program have together.
     Cells,
+    /// How many arms a parallel block has (5.6.1).
     Arms,
+    /// How many dimensions an array type has (3.6).
     Dimensions,
+    /// How many levels of statements and brackets stand in one another.
     Levels,
 }
 

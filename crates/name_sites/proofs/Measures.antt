@@ -1,12 +1,12 @@
 -- What is counted of what is judged: the sites in the part-measure of the typed program that it holds, and whether those part-measure of
 -- it that wait for the rest of a list add what they hold to the rest.
 use Rattle.std.proofs.Common.{List, None, Option, Some, [], ℕ, ◌+◌, ◌∷◌, ◌≤◌}
-use Rattle.typed_tree.specs.Decoded.{Part, Cons, LeafCons, AnExpr, ASelection, AnActual, AValue, AComposite, AnAssociation, AnIteration, AChunk, APiece, ADecl, AStmt, AnAlternative, AHandler, ABody}
+use Rattle.typed_tree.specs.Decoded.{TypedPart, Cons, LeafCons, AnExpr, ASelection, AnActual, AValue, AComposite, AnAssociation, AnIteration, AChunk, APiece, ADecl, AStmt, AnAlternative, AHandler, ABody}
 use Rattle.typed_tree.specs.Syntax.{Actuals, Alternatives, Associations, Decls, Handlers, NoActual, NoAlternative, NoAssociation, NoDecl, NoHandler, NoPiece, Pieces, Selections, Whole}
 use Rattle.name_rules.specs.Found.{With}
 use Rattle.name_sites.specs.Sites.{in_actuals, in_alternatives, in_associations, in_body, in_chunk, in_composite, in_decls, in_expr, in_handlers, in_iteration, in_pieces, in_selections, in_stmt, in_value}
 
-abbrev pub part-size : ℕ → Part → ℕ
+abbrev pub part-size : ℕ → TypedPart → ℕ
 part-size s (Cons p q) = part-size s p + part-size s q
 part-size s (LeafCons l q) = part-size s q
 part-size s (AnExpr e) = in_expr s e
@@ -26,7 +26,7 @@ part-size s (ABody b) = in_body s b
 part-size s p = 0
 
 -- what waits for the rest of a list adds what it holds to the rest
-abbrev pub Formed : ℕ → Part → Type 0
+abbrev pub Formed : ℕ → TypedPart → Type 0
 Formed s (Cons p q) = Formed s p × Formed s q
 Formed s (LeafCons l q) = Formed s q
 Formed s (ASelection f) = (r : Selections) → in_selections s (f r) ≤ in_selections s (f Whole) + in_selections s r
@@ -43,7 +43,7 @@ pub record Measure (A : Type 0) : Type 1 where
   pub size : A → ℕ
   pub Whole : A → Type 0
 
-abbrev pub part-measure : ℕ → Measure Part
+abbrev pub part-measure : ℕ → Measure TypedPart
 part-measure s = record { size = λ p. part-size s p; Whole = λ p. Formed s p }
 
 abbrev pub with-part : {K : Type 0} → ℕ → Measure (With K)
@@ -60,7 +60,7 @@ OptionWhole m (Some a) = m.Whole a
 abbrev pub option-of : {A : Type 0} → Measure A → Measure (Option A)
 option-of m = record { size = λ x. option-size m x; Whole = λ x. OptionWhole m x }
 
-abbrev pub maybe-part : ℕ → Measure (Option Part)
+abbrev pub maybe-part : ℕ → Measure (Option TypedPart)
 maybe-part s = option-of (part-measure s)
 
 abbrev pub maybe-known : {K : Type 0} → ℕ → Measure (Option (With K))

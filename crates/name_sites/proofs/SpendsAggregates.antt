@@ -29,7 +29,7 @@ use Rattle.typed_tree.specs.Decoded as part
 use Rattle.typed_tree.specs.declared.expressions.Iterated.{Iterated}
 use Rattle.typed_tree.specs.declared.expressions.Run.{Run}
 use Rattle.std.specs.Prelude.{Bool, List, None, Option, Some, [], drop, false, length, not, option_map, pos, true, ℕ, ℤ, ◌&&◌, ◌*◌, ◌+ℤ◌, ◌+◌, ◌==◌, ◌||◌, ◌∷◌}
-use Rattle.typed_tree.specs.Decoded.{Part as TypedPart}
+use Rattle.typed_tree.specs.Decoded.{TypedPart}
 use Rattle.typed_tree.specs.Latest.{turned}
 use Rattle.name_rules.specs.Aggregates.{ByAssociation, ByPosition, Choosing', Component, Contents, Filling, Placing, aggregate, aggregate_part, also_chosen, array_assoc, array_assocs, array_at, array_choice, array_choices, array_of, array_placed, array_rest, array_values, as_rest, broken_placing, by_position, chosen_given, component_at, composite_at, composite_found, contents_alone, covered, covered_alone, dimension_of, field_choices, field_run, field_value, fields_value, filled, filling, gaps_of, index_what, inner_aggregate, inner_value, is_alone, is_final, is_last, iterated_given, no_aggregate, nothing_placed, of_index_type, record_assoc, record_assocs, record_parts, record_rest, record_values, rest_found, runs_of, some_fields, with_ranges, with_rest, with_runs, with_value}
 use Rattle.std.proofs.Common.{arith}

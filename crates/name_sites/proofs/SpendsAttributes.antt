@@ -14,7 +14,7 @@ use Rattle.name_rules.specs.declared.found.Attribute.{Attribute}
 use Rattle.name_rules.specs.declared.found.Denoted.TheVariants as denoted
 use Rattle.name_rules.specs.declared.found.Denoted.{Denoted as KnownDenoted}
 use Rattle.name_rules.specs.declared.found.Found.TheVariants as known
-use Rattle.name_rules.specs.declared.found.Place.{Place}
+use Rattle.name_rules.specs.declared.found.ObjectName.{ObjectName}
 use Rattle.name_rules.specs.declared.found.Prefix.TheVariants as prefix
 use Rattle.name_rules.specs.declared.found.Prefix.{Prefix}
 use Rattle.name_rules.specs.declared.log.Dimension.{Dimension}
@@ -31,7 +31,7 @@ use Rattle.typed_tree.specs.Syntax as typed
 use Rattle.typed_tree.specs.Syntax.{Expr as TypedExpr}
 use Rattle.std.specs.Prelude.{Bool, List, None, Option, Some, [], false, if◌then◌else◌, int_le, length, option_map, pos, slice_get, true, unsigned_abs, ℕ, ℤ, ◌&&◌, ◌+◌, ◌-◌, ◌∷◌}
 use Rattle.name_rules.specs.TypedParts.{also, also_all, selections_of}
-use Rattle.typed_tree.specs.Decoded.{Part as TypedPart, as_expr}
+use Rattle.typed_tree.specs.Decoded.{TypedPart, as_expr}
 use Rattle.name_rules.specs.Attributes.{alone, attribute_found, bound_alone, bound_in, bound_with, dimension_at, dimension_bound, dimension_given, dimensions_in, extreme, first_named, image_text, is_array_object, is_bound, is_reduction, mentioned, object_image, one_argument, one_dimension, one_given, one_named, prefix_of, prefix_subtype, reduced_alone, scalar_bound, scalar_with, settled_attribute, settled_form, step, stepped, two_arguments_of, two_given, two_named}
 use Rattle.std.proofs.Common.{arith}
 use Rattle.name_laws.proofs.KeepsAttributes.{k-scalar_bound}
@@ -205,7 +205,7 @@ s-scalar_with which names inside here first s a bracket as' h1 =
     s-given-any which (with-part which) _ d _ (λ x.
     s-le which (maybe-known which) _ _ _ (s-wrong_call which names inside here first as' h1) (omega arith)))
 
-pub s-object_image : (which : ℕ) (x0 : ℕ) (x1 : Place) (x2 : TypedPart) (x3 : Subtype) → (part-measure which).Whole x2 → Spends which (maybe-known which) (part-size which x2) (object_image x0 x1 x2 x3)
+pub s-object_image : (which : ℕ) (x0 : ℕ) (x1 : ObjectName) (x2 : TypedPart) (x3 : Subtype) → (part-measure which).Whole x2 → Spends which (maybe-known which) (part-size which x2) (object_image x0 x1 x2 x3)
 s-object_image which first p x (subtype.Scalar s) h2 =
     s-le which (maybe-known which) _ _ _ (s-one_given which s.kind (image_text first s.kind) (record { known = known.Object p; part = x }) (λ item. let made1 = z-image_text which first s.kind item tt in
     (made1.0, omega (arith, made1.1))) h2) (omega arith)

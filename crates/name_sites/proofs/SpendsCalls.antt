@@ -9,7 +9,7 @@ use Rattle.name_rules.specs.Values.{first_of, is_number, settled_found}
 use Rattle.name_rules.specs.declared.found.Denoted.TheVariants as denoted
 use Rattle.name_rules.specs.declared.found.Found.TheVariants as known
 use Rattle.name_rules.specs.declared.found.Found.{Found as Known}
-use Rattle.name_rules.specs.declared.found.Place.{Place}
+use Rattle.name_rules.specs.declared.found.ObjectName.{ObjectName}
 use Rattle.name_rules.specs.declared.log.Rule.TheVariants.{WrongType}
 use Rattle.name_rules.specs.declared.log.Taken.{Taken}
 use Rattle.name_rules.specs.declared.scope.Context.{Context}
@@ -27,7 +27,7 @@ use Rattle.typed_tree.specs.declared.program.Mode.TheVariants as mode
 use Rattle.typed_tree.specs.declared.program.Mode.{Mode}
 use Rattle.std.specs.Prelude.{Bool, List, None, Option, Some, [], false, if◌then◌else◌, is_some, length, true, ℕ, ◌+◌, ◌==◌, ◌||◌, ◌∷◌}
 use Rattle.name_rules.specs.TypedParts.{also, selections_of}
-use Rattle.typed_tree.specs.Decoded.{Part as TypedPart, as_actuals, as_expr}
+use Rattle.typed_tree.specs.Decoded.{TypedPart, as_actuals, as_expr}
 use Rattle.typed_tree.specs.Latest.{turned}
 use Rattle.name_rules.specs.Calls.{Calling, actual_by, actual_for, also_taken, arg_names, argument, argument_form, arguments, begun_call, call_given, complete, composite_actual, conversion, conversion_of, converted, given_once, gives_in, is_out, late_at, one_operand, operands, parameter_of, place_given, profile_in, scalar_actual, scalar_conversion, sub_call, taken_at, takes_in, variable_form, variable_given, with_actual, with_operand}
 use Rattle.std.proofs.Common.{arith}
@@ -45,21 +45,21 @@ use Rattle.name_sites.proofs.Records.{SpendsInside, calling-of, list-sum, list-w
 use Rattle.name_sites.proofs.Spends.{Holds, Spends, h-joined, s-bind, s-fault, s-given, s-if, s-le, s-pure, s-some, s-then, s-where_clean}
 use Rattle.name_sites.specs.Sites.{in_selections}
 
-pub z-scalar_actual : (which : ℕ) (t : Taken) (s : Scalar) (p : Place) (ss : Selections) (u : Scalar) → Unit {0} → Holds (part-measure which) (in_selections which ss) (scalar_actual t s p ss u)
+pub z-scalar_actual : (which : ℕ) (t : Taken) (s : Scalar) (p : ObjectName) (ss : Selections) (u : Scalar) → Unit {0} → Holds (part-measure which) (in_selections which ss) (scalar_actual t s p ss u)
 z-scalar_actual which t s p ss u h = by (is_out t.mode)
   where
     by : (b : Bool) → Holds (part-measure which) (in_selections which ss) (part.AnActual (if b then typed.Out t.object p.first p.root ss (typed_scalar s) (typed_scalar u) else typed.InOut t.object p.first p.root ss (typed_scalar s) (typed_scalar u)))
     by true = ((λ r. omega arith), omega arith)
     by false = ((λ r. omega arith), omega arith)
 
-pub z-composite_actual : (which : ℕ) (t : Taken) (p : Place) (ss : Selections) (n : ℕ) → Unit {0} → Holds (part-measure which) (in_selections which ss) (composite_actual t p ss n)
+pub z-composite_actual : (which : ℕ) (t : Taken) (p : ObjectName) (ss : Selections) (n : ℕ) → Unit {0} → Holds (part-measure which) (in_selections which ss) (composite_actual t p ss n)
 z-composite_actual which t p ss n h = by (is_out t.mode)
   where
     by : (b : Bool) → Holds (part-measure which) (in_selections which ss) (part.AnActual (if b then typed.CompositeOut t.object p.first p.root ss n else typed.CompositeInOut t.object p.first p.root ss n))
     by true = ((λ r. omega arith), omega arith)
     by false = ((λ r. omega arith), omega arith)
 
-pub s-place_given : (which : ℕ) (x0 : Taken) (x1 : Place) (x2 : Selections) (x3 : Subtype) (x4 : Subtype) → (counted-by (λ x. in_selections which x)).Whole x2 → Spends which (maybe-part which) (in_selections which x2) (place_given x0 x1 x2 x3 x4)
+pub s-place_given : (which : ℕ) (x0 : Taken) (x1 : ObjectName) (x2 : Selections) (x3 : Subtype) (x4 : Subtype) → (counted-by (λ x. in_selections which x)).Whole x2 → Spends which (maybe-part which) (in_selections which x2) (place_given x0 x1 x2 x3 x4)
 s-place_given which t p ss (subtype.Scalar s) (subtype.Scalar u) h2 =
     s-if which (maybe-part which) _ (same s.kind u.kind) (some (scalar_actual t s p ss u)) (fault p.first WrongType)
     (s-some which (part-measure which) _ (scalar_actual t s p ss u) (let made1 = z-scalar_actual which t s p ss u h2 in

@@ -8,7 +8,7 @@ use Rattle.name_rules.specs.declared.types.Kind.{Kind}
 use Rattle.syntax_tree.specs.Syntax as syntax
 use Rattle.syntax_tree.specs.Syntax.{Choice}
 use Rattle.std.specs.Prelude.{Bool, List, None, Option, Some, [], int_le, not, true, ℕ, ℤ, ◌&&◌, ◌+◌, ◌∷◌}
-use Rattle.typed_tree.specs.Decoded.{Part as TypedPart}
+use Rattle.typed_tree.specs.Decoded.{TypedPart}
 use Rattle.name_rules.specs.Cases.{Choosing, Covering, also_covered, also_mentioned, as_faulty, case_choice, case_choices, covered_by, maybe_covered, overlaps, with_others, with_span}
 use Rattle.std.proofs.Common.{arith}
 use Rattle.name_laws.proofs.Walk.{k-unless}

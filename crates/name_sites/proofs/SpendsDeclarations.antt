@@ -26,7 +26,7 @@ use Rattle.syntax_tree.specs.Syntax.{Array, Comp, Decl, Definition, Expr, Ids, I
 use Rattle.typed_tree.specs.Decoded as part
 use Rattle.std.specs.Prelude.{Bool, List, None, Option, Some, [], false, is_some, length, nat_le, option_map, true, ℕ, ℤ, ◌+◌, ◌∷◌}
 use Rattle.name_rules.specs.TypedParts.{also_all}
-use Rattle.typed_tree.specs.Decoded.{Part as TypedPart}
+use Rattle.typed_tree.specs.Decoded.{TypedPart}
 use Rattle.name_rules.specs.Declarations.{Building, Dimensions, Indicated, Initial, all_ended, all_ids, also_dimension, also_field, and_mentions, and_type, array, array_given, array_written, begun_names, cells_counted, component, components, constant_value, declaration, declarations, defined, dimensions_from, each_exception, each_object, ended_name, first_or, found_mentions, indic, indic_bounds, indic_range, indicated, indicated_mentions, initial, initial_value, new_object, no_initial, numbers, object_ended, objects, one_object, one_type, own_type, own_type_of, record_of, record_written, static_number, typed_object, valued_constant, with_field, with_fields, with_mentions, with_object, without_fields}
 use Rattle.std.proofs.Common.{arith}
 use Rattle.name_laws.proofs.Fitting.{fits_constant}

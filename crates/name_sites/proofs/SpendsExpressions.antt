@@ -26,7 +26,7 @@ use Rattle.syntax_tree.specs.declared.operators.Sign.{Sign}
 use Rattle.typed_tree.specs.Syntax.{Expr as TypedExpr}
 use Rattle.typed_tree.specs.declared.expressions.Sign.TheVariants as unary'
 use Rattle.std.specs.Prelude.{Bool, None, Option, Some, false, is_some, option_map, true, ℕ, ◌+◌}
-use Rattle.typed_tree.specs.Decoded.{Part as TypedPart, as_expr}
+use Rattle.typed_tree.specs.Decoded.{TypedPart, as_expr}
 use Rattle.name_rules.specs.Expressions.{Inside, added, adding, blamed, condition, conjoined, expr, factor, first_term, first_wanted, in_place, joined_rels, multiplied, multiplying, multiplying_op, rel, short_by, short_form, short_found, short_join, short_operand, short_operands, simple, term, term_form, value_for}
 use Rattle.std.proofs.Common.{arith}
 use Rattle.name_laws.proofs.KeepsScope.{k-scalar_named}

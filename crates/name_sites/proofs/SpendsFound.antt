@@ -5,7 +5,7 @@ use Rattle.name_rules.specs.declared.types.Kind.{Kind}
 use Rattle.name_rules.specs.declared.types.Scalar.{Scalar}
 use Rattle.typed_tree.specs.Syntax.{Composite, Expr as TypedExpr}
 use Rattle.std.specs.Prelude.{Bool, Option, ℕ, ℤ}
-use Rattle.typed_tree.specs.Decoded.{Part as TypedPart}
+use Rattle.typed_tree.specs.Decoded.{TypedPart}
 use Rattle.name_rules.specs.Found.{Found, composite, denote, opened, parameter_found, rest, scalar, static, text_found, universal, value_denoted}
 use Rattle.std.proofs.Common.{arith}
 use Rattle.name_sites.proofs.Measures.{counted-by, part-measure, part-size, with-part}

@@ -13,7 +13,7 @@ use Rattle.name_rules.specs.declared.found.Denoted.TheVariants as denoted
 use Rattle.name_rules.specs.declared.found.Denoted.{Denoted as KnownDenoted}
 use Rattle.name_rules.specs.declared.found.Folding.{Folding}
 use Rattle.name_rules.specs.declared.found.Found.TheVariants as known
-use Rattle.name_rules.specs.declared.found.Place.{Place}
+use Rattle.name_rules.specs.declared.found.ObjectName.{ObjectName}
 use Rattle.name_rules.specs.declared.log.Log.{Log}
 use Rattle.name_rules.specs.declared.log.Rule.TheVariants.{ReduceRule, Unknown, WrongType}
 use Rattle.name_rules.specs.declared.log.Shape.{Shape}
@@ -29,7 +29,7 @@ use Rattle.typed_tree.specs.declared.program.SiteKind.{SiteKind}
 use Rattle.std.specs.Prelude.{Bool, None, Option, Some, if◌then◌else◌, is_some, length, not, option_map, ℕ, ◌+◌, ◌||◌}
 use Rattle.typed_tree.specs.Decoded as part
 use Rattle.name_rules.specs.TypedParts.{selections_of}
-use Rattle.typed_tree.specs.Decoded.{Part as TypedPart, as_iteration, as_optional}
+use Rattle.typed_tree.specs.Decoded.{TypedPart, as_iteration, as_optional}
 use Rattle.name_rules.specs.Iterations.{Chunked, Entered, array_walked, chunk_count, chunked_by, counted, each_chunk, entered, entered_with, filter_where, filtered, in_construct, is_reduce, no_array, only_reduce_rules, over_denoted, over_form, over_place, parallel_at, parameter_what, range_made, reverse_rule, sequence, sequence_folded, sequence_given, sequence_rules, walked, with_chunk, with_walked}
 use Rattle.std.proofs.Common.{arith}
 use Rattle.name_rules.specs.TypedParts.{left_of, right_of}
@@ -83,7 +83,7 @@ z-range_made which n backwards b h = (tt, omega (arith, n-expr which (left_of b.
 pub z-filtered : (which : ℕ) (x0 : TypedPart) (x1 : TypedPart) → (part-measure which).Whole x0 → (part-measure which).Whole x1 → Holds (part-measure which) (part-size which x0 + part-size which x1) (filtered x0 x1)
 z-filtered which i f h0 h1 = (tt, omega (arith, n-with_filter which (as_iteration i) (as_optional f), n-iteration which i, n-optional which f))
 
-pub z-array_walked : (which : ℕ) (x0 : Log) (x1 : ℕ) (x2 : ℕ) (x3 : OptionalExpr) (x4 : Place) (x5 : Selections) (x6 : Option Shape) → (counted-by (λ x. in_selections which x)).Whole x5 → Holds (walked-of which) (in_selections which x5) (array_walked x0 x1 x2 x3 x4 x5 x6)
+pub z-array_walked : (which : ℕ) (x0 : Log) (x1 : ℕ) (x2 : ℕ) (x3 : OptionalExpr) (x4 : ObjectName) (x5 : Selections) (x6 : Option Shape) → (counted-by (λ x. in_selections which x)).Whole x5 → Holds (walked-of which) (in_selections which x5) (array_walked x0 x1 x2 x3 x4 x5 x6)
 z-array_walked which log n token f p ss t h5 =
     let made1 = z-through which log p ss t n typed.Absent h5 tt in
     (tt, omega (arith, made1.1))
@@ -91,7 +91,7 @@ z-array_walked which log n token f p ss t h5 =
 pub z-no_array : (which : ℕ) (x0 : ℕ) (x1 : OptionalExpr) → Holds (walked-of which) 0 (no_array x0 x1)
 z-no_array which token f = (tt, omega arith)
 
-pub s-over_place : (which : ℕ) (x0 : ℕ) (x1 : ℕ) (x2 : OptionalExpr) (x3 : Place) (x4 : Selections) → (counted-by (λ x. in_selections which x)).Whole x4 → Spends which (walked-of which) (in_selections which x4) (over_place x0 x1 x2 x3 x4)
+pub s-over_place : (which : ℕ) (x0 : ℕ) (x1 : ℕ) (x2 : OptionalExpr) (x3 : ObjectName) (x4 : Selections) → (counted-by (λ x. in_selections which x)).Whole x4 → Spends which (walked-of which) (in_selections which x4) (over_place x0 x1 x2 x3 x4)
 s-over_place which n token f p ss h4 =
     s-log which (walked-of which) _ (λ log. if is_array (array_shape log p.subtype) then pure (array_walked log n token f p ss (array_shape log p.subtype)) else (breaks p.first WrongType) >>= λ u. pure (no_array token f)) (λ log. s-if which (walked-of which) _ (is_array (array_shape log p.subtype)) (pure (array_walked log n token f p ss (array_shape log p.subtype))) ((breaks p.first WrongType) >>= λ u. pure (no_array token f))
     (s-pure which (walked-of which) _ (array_walked log n token f p ss (array_shape log p.subtype)) (let made1 = z-array_walked which log n token f p ss (array_shape log p.subtype) h4 in

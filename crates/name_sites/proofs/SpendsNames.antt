@@ -8,7 +8,7 @@ use Rattle.name_rules.specs.Values.{asked, first_of}
 use Rattle.name_rules.specs.declared.found.Denoted.TheVariants as denoted
 use Rattle.name_rules.specs.declared.found.Denoted.{Denoted as KnownDenoted}
 use Rattle.name_rules.specs.declared.found.Found.TheVariants as known
-use Rattle.name_rules.specs.declared.found.Place.{Place}
+use Rattle.name_rules.specs.declared.found.ObjectName.{ObjectName}
 use Rattle.name_rules.specs.declared.log.Dimension.{Dimension}
 use Rattle.name_rules.specs.declared.log.Field.{Field}
 use Rattle.name_rules.specs.declared.log.Rule.TheVariants.{Unknown, WrongType}
@@ -24,7 +24,7 @@ use Rattle.typed_tree.specs.Decoded as part
 use Rattle.std.specs.Prelude.{List, None, Option, Some, [], drop, length, slice_get, ℕ, ◌+◌, ◌==◌, ◌∷◌}
 use Rattle.typed_tree.specs.Syntax as typed
 use Rattle.name_rules.specs.TypedParts.{also}
-use Rattle.typed_tree.specs.Decoded.{Part as TypedPart}
+use Rattle.typed_tree.specs.Decoded.{TypedPart}
 use Rattle.name_rules.specs.Names.{args_alone, array_call, component_cells, count, denoted_first, field, field_form, field_from, field_in, field_of, field_of_pack, index, index_in, index_shape, index_where, indexed, indexes, is_array, is_record, object_call, pack_from, part_place, selected_by, unnamed, wrong_call}
 use Rattle.std.proofs.Common.{arith}
 use Rattle.name_laws.proofs.KeepsNames.{k-args_alone}
@@ -38,7 +38,7 @@ use Rattle.name_sites.proofs.Parts.{n-expr}
 use Rattle.name_sites.proofs.Records.{SpendsInside}
 use Rattle.name_sites.proofs.Spends.{Holds, Spends, h-joined, s-bind, s-fault, s-given, s-given-any, s-if, s-le, s-log, s-pure, s-some, s-where_clean, s-where_clean-any}
 
-pub s-field_from : (which : ℕ) (x0 : Names) (x1 : Place) (x2 : TypedPart) (x3 : ℕ) (x4 : ℕ) (x5 : List Field) → (part-measure which).Whole x2 → Spends which (maybe-known which) (part-size which x2) (field_from x0 x1 x2 x3 x4 x5)
+pub s-field_from : (which : ℕ) (x0 : Names) (x1 : ObjectName) (x2 : TypedPart) (x3 : ℕ) (x4 : ℕ) (x5 : List Field) → (part-measure which).Whole x2 → Spends which (maybe-known which) (part-size which x2) (field_from x0 x1 x2 x3 x4 x5)
 s-field_from which names p ss at i [] h2 = s-fault which (with-part which) _ at Unknown
 s-field_from which names p ss at i (f ∷ fs) h2 =
     s-if which (maybe-known which) _ (f.symbol == symbol names at) (some (denote (part_place p f.subtype) (also ss (part.ASelection (typed.Field i f.offset))))) (field_from names p ss at (i + 1) fs)
@@ -46,13 +46,13 @@ s-field_from which names p ss at i (f ∷ fs) h2 =
     (made1.0, omega (arith, made1.1))))
     (s-le which (maybe-known which) _ _ _ (s-field_from which names p ss at (i + 1) fs h2) (omega arith))
 
-pub s-field_in : (which : ℕ) (x0 : Names) (x1 : Place) (x2 : TypedPart) (x3 : ℕ) (x4 : Option Shape) → (part-measure which).Whole x2 → Spends which (maybe-known which) (part-size which x2) (field_in x0 x1 x2 x3 x4)
+pub s-field_in : (which : ℕ) (x0 : Names) (x1 : ObjectName) (x2 : TypedPart) (x3 : ℕ) (x4 : Option Shape) → (part-measure which).Whole x2 → Spends which (maybe-known which) (part-size which x2) (field_in x0 x1 x2 x3 x4)
 s-field_in which names p ss at t h2 =
     s-if which (maybe-known which) _ (is_record t) (field_from names p ss at 0 (fields_of t)) (fault p.first WrongType)
     (s-le which (maybe-known which) _ _ _ (s-field_from which names p ss at 0 (fields_of t) h2) (omega arith))
     (s-fault which (with-part which) _ p.first WrongType)
 
-pub s-field_of : (which : ℕ) (x0 : Names) (x1 : Place) (x2 : TypedPart) (x3 : ℕ) (x4 : Subtype) → (part-measure which).Whole x2 → Spends which (maybe-known which) (part-size which x2) (field_of x0 x1 x2 x3 x4)
+pub s-field_of : (which : ℕ) (x0 : Names) (x1 : ObjectName) (x2 : TypedPart) (x3 : ℕ) (x4 : Subtype) → (part-measure which).Whole x2 → Spends which (maybe-known which) (part-size which x2) (field_of x0 x1 x2 x3 x4)
 s-field_of which names p ss at (subtype.Composite n) h2 = s-log which (maybe-known which) _ (λ log. field_in names p ss at (shape_in log n)) (λ log. s-le which (maybe-known which) _ _ _ (s-field_in which names p ss at (shape_in log n) h2) (omega arith))
 s-field_of which names p ss at (subtype.Scalar s) h2 = s-fault which (with-part which) _ p.first WrongType
 
@@ -103,7 +103,7 @@ s-indexes which names inside here ds cells made (syntax.AlsoArg a as') h1 h5 =
     s-bind which (maybe-part which) (maybe-part which) ((maybe-part which).size made) 0 _ (index names inside here ds cells made a) _ (s-le which (maybe-part which) _ _ _ (s-index which names inside here ds cells made a h1 h5) (omega arith)) (omega arith) (λ s held1.
     s-le which (maybe-part which) _ _ _ (s-indexes which names inside here (drop 1 ds) cells s as' h1 held1) (omega arith))
 
-pub s-indexed : (which : ℕ) (x0 : Place) (x1 : ℕ) (x2 : ℕ) (x3 : ℕ) (x4 : Option Subtype) (x5 : TypedPart) → (part-measure which).Whole x5 → Spends which (maybe-known which) (part-size which x5) (indexed x0 x1 x2 x3 x4 x5)
+pub s-indexed : (which : ℕ) (x0 : ObjectName) (x1 : ℕ) (x2 : ℕ) (x3 : ℕ) (x4 : Option Subtype) (x5 : TypedPart) → (part-measure which).Whole x5 → Spends which (maybe-known which) (part-size which x5) (indexed x0 x1 x2 x3 x4 x5)
 s-indexed which p bracket wanted given None ss h5 = s-fault which (with-part which) _ p.first WrongType
 s-indexed which p bracket wanted given (Some c) ss h5 =
     s-if which (maybe-known which) _ (wanted == given) (some (denote (part_place p c) ss)) (fault bracket WrongType)
@@ -111,19 +111,19 @@ s-indexed which p bracket wanted given (Some c) ss h5 =
     (made1.0, omega (arith, made1.1))))
     (s-fault which (with-part which) _ bracket WrongType)
 
-pub s-index_shape : (which : ℕ) (x0 : Names) (x1 : Inside) (x2 : Context) (x3 : Place) (x4 : TypedPart) (x5 : ℕ) (x6 : Args) (x7 : Option Shape) (x8 : ℕ) → SpendsInside which x1 → (part-measure which).Whole x4 → Spends which (maybe-known which) (part-size which x4) (index_shape x0 x1 x2 x3 x4 x5 x6 x7 x8)
+pub s-index_shape : (which : ℕ) (x0 : Names) (x1 : Inside) (x2 : Context) (x3 : ObjectName) (x4 : TypedPart) (x5 : ℕ) (x6 : Args) (x7 : Option Shape) (x8 : ℕ) → SpendsInside which x1 → (part-measure which).Whole x4 → Spends which (maybe-known which) (part-size which x4) (index_shape x0 x1 x2 x3 x4 x5 x6 x7 x8)
 s-index_shape which names inside here p ss bracket as' t cells h1 h4 =
     s-where_clean which (maybe-part which) (with-part which) (part-size which ss) 0 _ (indexes names inside here (dimensions_of t) cells (Some ss) as') _ (s-le which (maybe-part which) _ _ _ (s-indexes which names inside here (dimensions_of t) cells (Some ss) as' h1 h4) (omega arith)) (omega arith) (λ r held1.
     s-given which (part-measure which) (with-part which) 0 _ r _ held1 (omega arith) (λ item held2.
     s-le which (maybe-known which) _ _ _ (s-indexed which p bracket (length (dimensions_of t)) (count as') (component_of t) item held2) (omega arith)))
 
-pub s-array_call : (which : ℕ) (x0 : Names) (x1 : Inside) (x2 : Context) (x3 : Place) (x4 : TypedPart) (x5 : ℕ) (x6 : Args) (x7 : Option Shape) (x8 : ℕ) → SpendsInside which x1 → (part-measure which).Whole x4 → Spends which (maybe-known which) (part-size which x4) (array_call x0 x1 x2 x3 x4 x5 x6 x7 x8)
+pub s-array_call : (which : ℕ) (x0 : Names) (x1 : Inside) (x2 : Context) (x3 : ObjectName) (x4 : TypedPart) (x5 : ℕ) (x6 : Args) (x7 : Option Shape) (x8 : ℕ) → SpendsInside which x1 → (part-measure which).Whole x4 → Spends which (maybe-known which) (part-size which x4) (array_call x0 x1 x2 x3 x4 x5 x6 x7 x8)
 s-array_call which names inside here p ss bracket as' t cells h1 h4 =
     s-if which (maybe-known which) _ (is_array t) (index_shape names inside here p ss bracket as' t cells) (wrong_call names inside here p.first as')
     (s-le which (maybe-known which) _ _ _ (s-index_shape which names inside here p ss bracket as' t cells h1 h4) (omega arith))
     (s-le which (maybe-known which) _ _ _ (s-wrong_call which names inside here p.first as' h1) (omega arith))
 
-pub s-object_call : (which : ℕ) (x0 : Names) (x1 : Inside) (x2 : Context) (x3 : Place) (x4 : TypedPart) (x5 : ℕ) (x6 : Args) (x7 : Subtype) → SpendsInside which x1 → (part-measure which).Whole x4 → Spends which (maybe-known which) (part-size which x4) (object_call x0 x1 x2 x3 x4 x5 x6 x7)
+pub s-object_call : (which : ℕ) (x0 : Names) (x1 : Inside) (x2 : Context) (x3 : ObjectName) (x4 : TypedPart) (x5 : ℕ) (x6 : Args) (x7 : Subtype) → SpendsInside which x1 → (part-measure which).Whole x4 → Spends which (maybe-known which) (part-size which x4) (object_call x0 x1 x2 x3 x4 x5 x6 x7)
 unfolding object_call
 s-object_call which names inside here p ss bracket as' (subtype.Composite n) h1 h4 = s-log which (maybe-known which) _ (λ log. array_call names inside here p ss bracket as' (shape_in log n) (component_cells log (component_of (shape_in log n)))) (λ log. s-le which (maybe-known which) _ _ _ (s-array_call which names inside here p ss bracket as' (shape_in log n) (component_cells log (component_of (shape_in log n))) h1 h4) (omega arith))
 s-object_call which names inside here p ss bracket as' (subtype.Scalar s) h1 h4 = s-le which (maybe-known which) _ _ _ (s-wrong_call which names inside here p.first as' h1) (omega arith)

@@ -20,7 +20,7 @@ use Rattle.typed_tree.specs.declared.scalars.Class.TheVariants as class
 use Rattle.ada_base.specs.declared.operation.Comparison.{Comparison}
 use Rattle.std.specs.Prelude.{Bool, None, Option, Some, false, if◌then◌else◌, not, option_map, ℕ, ℤ, ◌&&◌, ◌+◌}
 use Rattle.name_rules.specs.TypedParts.{also_all}
-use Rattle.typed_tree.specs.Decoded.{Part as TypedPart, as_expr}
+use Rattle.typed_tree.specs.Decoded.{TypedPart, as_expr}
 use Rattle.name_rules.specs.Operators.{binary, both_mentions, by_kinds, common_kind, compared, compared_at, compared_by, first_kind, joined_text, joined_texts, leaf, limit_of, logical, member, member_of, membership, negation, not_of, of_subtype, open_binary, open_form, open_of, open_power, open_two, open_unary, operand_blamed, operation, operation_by, operation_on, plain, plain_by, plain_open, plain_typed, power, power_to, signed, static_of, static_operation, static_power, static_unary, static_universal, typed_operation, unary, unary_by, unary_open, unary_typed, universal_by, universal_operation, universal_power, universal_to, within_bounds}
 use Rattle.std.proofs.Common.{arith}
 use Rattle.name_laws.proofs.KeepsValues.{k-fitting}

@@ -10,7 +10,7 @@ use Rattle.name_rules.specs.Values.{asked, first_of, literal, mentions_of, stati
 use Rattle.name_rules.specs.declared.found.Denoted.TheVariants as denoted
 use Rattle.name_rules.specs.declared.found.Found.TheVariants as known
 use Rattle.name_rules.specs.declared.found.Found.{Found as Known}
-use Rattle.name_rules.specs.declared.found.Place.{Place}
+use Rattle.name_rules.specs.declared.found.ObjectName.{ObjectName}
 use Rattle.name_rules.specs.declared.found.Put.TheVariants as put
 use Rattle.name_rules.specs.declared.found.Put.{Put}
 use Rattle.name_rules.specs.declared.found.Reach.{Reach}
@@ -29,7 +29,7 @@ use Rattle.typed_tree.specs.Syntax.{Selections, Stmt as TypedStmt}
 use Rattle.typed_tree.specs.declared.scalars.Class.TheVariants as class
 use Rattle.std.specs.Prelude.{Bool, None, Option, Some, false, if◌then◌else◌, int_le, nat_le, not, option_map, pos, true, ℕ, ℤ, ◌&&◌, ◌+◌, ◌==◌, ◌≡◌}
 use Rattle.name_rules.specs.TypedParts.{selections_of}
-use Rattle.typed_tree.specs.Decoded.{Part as TypedPart, as_expr, as_pieces}
+use Rattle.typed_tree.specs.Decoded.{TypedPart, as_expr, as_pieces}
 use Rattle.typed_tree.specs.Latest.{turned}
 use Rattle.name_rules.specs.Output.{Putting, alone_given, by_procedure, done_by, get_of, get_place, in_width, io_call, is_number_put, is_text, item_of, judged_arguments, no_name, nothing_put, others_alone, put_argument, put_arguments, put_by, put_complete, put_number, put_of_text, put_text, text_call, text_only, width_argument, width_of, width_or, with_count, with_width, without_arguments}
 use Rattle.std.proofs.Common.{ap, arith, refl}
@@ -186,7 +186,7 @@ s-put_of_text which at first last reach more f h5 =
     (s-fault which (with-part which) _ (first_of f.known) WrongType)
     (s-fault which (with-part which) _ first NotVisible))
 
-pub s-get_place : (which : ℕ) (x0 : ℕ) (x1 : ℕ) (x2 : Place) (x3 : Selections) (x4 : Subtype) → (counted-by (λ x. in_selections which x)).Whole x3 → Spends which (maybe-known which) (in_selections which x3) (get_place x0 x1 x2 x3 x4)
+pub s-get_place : (which : ℕ) (x0 : ℕ) (x1 : ℕ) (x2 : ObjectName) (x3 : Selections) (x4 : Subtype) → (counted-by (λ x. in_selections which x)).Whole x3 → Spends which (maybe-known which) (in_selections which x3) (get_place x0 x1 x2 x3 x4)
 s-get_place which first last p ss (subtype.Scalar s) h3 =
     s-if which (maybe-known which) _ (p.variable && same s.kind kind.Integer) (some (done_by first (typed.Get first last p.first p.root ss (typed_scalar s)))) (fault p.first WrongType)
     (s-some which (with-part which) _ (done_by first (typed.Get first last p.first p.root ss (typed_scalar s))) (let made1 = z-done_by which first (typed.Get first last p.first p.root ss (typed_scalar s)) tt in

@@ -13,7 +13,7 @@ use Rattle.name_rules.specs.declared.found.Attribute.{Attribute}
 use Rattle.name_rules.specs.declared.found.Denoted.TheVariants as denoted
 use Rattle.name_rules.specs.declared.found.Denoted.{Denoted as KnownDenoted}
 use Rattle.name_rules.specs.declared.found.Found.TheVariants as known
-use Rattle.name_rules.specs.declared.found.Place.{Place}
+use Rattle.name_rules.specs.declared.found.ObjectName.{ObjectName}
 use Rattle.name_rules.specs.declared.found.Prefix.TheVariants as prefix
 use Rattle.name_rules.specs.declared.found.Prefix.{Prefix}
 use Rattle.name_rules.specs.declared.log.Log.{Log}
@@ -25,14 +25,14 @@ use Rattle.name_rules.specs.declared.types.Subtype.TheVariants as subtype
 use Rattle.name_rules.specs.declared.types.Subtype.{Subtype}
 use Rattle.name_rules.specs.declared.types.Wanted.TheVariants as wanted
 use Rattle.syntax_tree.specs.Syntax as syntax
-use Rattle.syntax_tree.specs.Syntax.{Args, Expr, Name, Part, Parts}
+use Rattle.syntax_tree.specs.Syntax.{Args, Expr, Name, NamePart, NameParts}
 use Rattle.typed_tree.specs.Decoded as part
 use Rattle.typed_tree.specs.Syntax as typed
 use Rattle.typed_tree.specs.Syntax.{Optional, Selections}
 use Rattle.typed_tree.specs.declared.program.SiteKind.TheVariants as site
 use Rattle.std.specs.Prelude.{Bool, None, Option, Some, false, option_map, true, ℕ, ◌+◌}
 use Rattle.name_rules.specs.TypedParts.{selections_of}
-use Rattle.typed_tree.specs.Decoded.{Part as TypedPart}
+use Rattle.typed_tree.specs.Decoded.{TypedPart}
 use Rattle.name_rules.specs.Parts.{array_reduced, array_reduction, array_shape, attribute_with, call, call_form, is_parallel, item_found, name, new_parameter, new_site, next_part, of_array, other_with, part_alone, part_of, parts, reduced_with, site_where, through, value_form, value_named, valued_by, valued_form, wrong_arguments}
 use Rattle.std.proofs.Common.{arith}
 use Rattle.name_laws.proofs.KeepsNames.{k-args_alone}
@@ -60,13 +60,13 @@ s-site_where which here at true =
     s-bind which (counted-by (λ x. in_number which x)) (site-of which) 0 0 _ (new_site here at site.Reduction) _ (s-le which (counted-by (λ x. in_number which x)) _ _ _ (s-new_site which here at site.Reduction) (omega arith)) (omega arith) (λ n held1.
     s-pure which (site-of which) _ (Some n) (held1, omega arith))
 
-pub z-through : (which : ℕ) (x0 : Log) (x1 : Place) (x2 : Selections) (x3 : Option Shape) (x4 : ℕ) (x5 : Optional) → (counted-by (λ x. in_selections which x)).Whole x2 → (counted-by (λ x. in_optional which x)).Whole x5 → Holds (counted-by (λ x. in_iteration which x)) (in_selections which x2 + in_optional which x5) (through x0 x1 x2 x3 x4 x5)
+pub z-through : (which : ℕ) (x0 : Log) (x1 : ObjectName) (x2 : Selections) (x3 : Option Shape) (x4 : ℕ) (x5 : Optional) → (counted-by (λ x. in_selections which x)).Whole x2 → (counted-by (λ x. in_optional which x)).Whole x5 → Holds (counted-by (λ x. in_iteration which x)) (in_selections which x2 + in_optional which x5) (through x0 x1 x2 x3 x4 x5)
 z-through which log p ss t n f h2 h5 = (tt, omega arith)
 
 pub z-item_found : (which : ℕ) (x0 : ℕ) (x1 : ℕ) (x2 : Bool) (x3 : Option Subtype) → Holds (with-part which) 0 (item_found x0 x1 x2 x3)
 z-item_found which first n v s = (tt, omega arith)
 
-pub s-array_reduction : (which : ℕ) (x0 : Names) (x1 : Inside) (x2 : Context) (x3 : Place) (x4 : Selections) (x5 : ℕ) (x6 : Attribute) (x7 : Expr) (x8 : Expr) → SpendsInside which x1 → (counted-by (λ x. in_selections which x)).Whole x4 → Spends which (maybe-known which) (in_selections which x4) (array_reduction x0 x1 x2 x3 x4 x5 x6 x7 x8)
+pub s-array_reduction : (which : ℕ) (x0 : Names) (x1 : Inside) (x2 : Context) (x3 : ObjectName) (x4 : Selections) (x5 : ℕ) (x6 : Attribute) (x7 : Expr) (x8 : Expr) → SpendsInside which x1 → (counted-by (λ x. in_selections which x)).Whole x4 → Spends which (maybe-known which) (in_selections which x4) (array_reduction x0 x1 x2 x3 x4 x5 x6 x7 x8)
 s-array_reduction which names inside here p ss at a r v h1 h4 =
     s-bind which (site-of which) (maybe-known which) 0 (in_selections which ss) _ (site_where here p.first (is_parallel a)) _ (s-le which (site-of which) _ _ _ (s-site_where which here p.first (is_parallel a)) (omega arith)) (omega arith) (λ construct held1.
     s-then which (maybe-known which) _ new_parameter _ (k-new_parameter leaving) (λ n.
@@ -87,7 +87,7 @@ s-wrong_arguments which names inside here bracket as' h1 =
     s-where_clean-any which (with-part which) _ (args_alone names inside here as') _ (k-args_alone leaving names inside here as' tt h1.keeps) (λ u.
     s-fault which (with-part which) _ bracket WrongType)
 
-pub s-array_reduced : (which : ℕ) (x0 : Names) (x1 : Inside) (x2 : Context) (x3 : Place) (x4 : Selections) (x5 : ℕ) (x6 : Attribute) (x7 : ℕ) (x8 : Args) → SpendsInside which x1 → (counted-by (λ x. in_selections which x)).Whole x4 → Spends which (maybe-known which) (in_selections which x4) (array_reduced x0 x1 x2 x3 x4 x5 x6 x7 x8)
+pub s-array_reduced : (which : ℕ) (x0 : Names) (x1 : Inside) (x2 : Context) (x3 : ObjectName) (x4 : Selections) (x5 : ℕ) (x6 : Attribute) (x7 : ℕ) (x8 : Args) → SpendsInside which x1 → (counted-by (λ x. in_selections which x)).Whole x4 → Spends which (maybe-known which) (in_selections which x4) (array_reduced x0 x1 x2 x3 x4 x5 x6 x7 x8)
 s-array_reduced which names inside here p ss at a bracket (syntax.AlsoArg (syntax.arg None r) (syntax.AlsoArg (syntax.arg None v) syntax.NoArg)) h1 h4 = s-le which (maybe-known which) _ _ _ (s-array_reduction which names inside here p ss at a r v h1 h4) (omega arith)
 s-array_reduced which names inside here p ss at a bracket as' h1 h4 = s-le which (maybe-known which) _ _ _ (s-wrong_arguments which names inside here bracket as' h1) (omega arith)
 
@@ -128,7 +128,7 @@ pub s-call : (which : ℕ) (x0 : Names) (x1 : Inside) (x2 : Context) (x3 : ℕ) 
 unfolding call
 s-call which names inside here bracket as' d h1 h5 = s-le which (maybe-known which) _ _ _ (s-call_form which names inside here bracket as' d.known d.part h1 h5) (omega arith)
 
-pub s-part_of : (which : ℕ) (x0 : Names) (x1 : Inside) (x2 : Context) (x3 : Part) (x4 : Denoted) → SpendsInside which x1 → (with-part which).Whole x4 → Spends which (maybe-known which) (part-size which x4.part) (part_of x0 x1 x2 x3 x4)
+pub s-part_of : (which : ℕ) (x0 : Names) (x1 : Inside) (x2 : Context) (x3 : NamePart) (x4 : Denoted) → SpendsInside which x1 → (with-part which).Whole x4 → Spends which (maybe-known which) (part-size which x4.part) (part_of x0 x1 x2 x3 x4)
 unfolding part_of
 s-part_of which names inside here (syntax.Field at) d h1 h4 =
     s-bind which (maybe-known which) (maybe-known which) (part-size which d.part) 0 _ (settled_attribute d) _ (s-le which (maybe-known which) _ _ _ (s-settled_attribute which d h4) (omega arith)) (omega arith) (λ x held1.
@@ -144,17 +144,17 @@ s-part_of which names inside here (syntax.RangeAttribute at) d h1 h4 =
     s-given which (with-part which) (with-part which) 0 _ x _ held1 (omega arith) (λ e held2.
     s-le which (maybe-known which) _ _ _ (s-attribute_found which e at (Some attribute'.Range) held2) (omega arith)))
 
-pub s-part_alone : (which : ℕ) (x0 : Names) (x1 : Inside) (x2 : Context) (x3 : Part) → SpendsInside which x1 → Spends which (maybe-known which) 0 (part_alone x0 x1 x2 x3)
+pub s-part_alone : (which : ℕ) (x0 : Names) (x1 : Inside) (x2 : Context) (x3 : NamePart) → SpendsInside which x1 → Spends which (maybe-known which) 0 (part_alone x0 x1 x2 x3)
 s-part_alone which names inside here (syntax.Call bracket a as') h1 =
     s-then which (maybe-known which) _ (args_alone names inside here (syntax.AlsoArg a as')) _ (k-args_alone leaving names inside here (syntax.AlsoArg a as') tt h1.keeps) (λ u.
     s-pure which (maybe-known which) _ None (tt, omega arith))
 s-part_alone which names inside here any1 h1 = s-pure which (maybe-known which) _ None (tt, omega arith)
 
-pub s-next_part : (which : ℕ) (x0 : Names) (x1 : Inside) (x2 : Context) (x3 : Option Denoted) (x4 : Part) → SpendsInside which x1 → (maybe-known which).Whole x3 → Spends which (maybe-known which) ((maybe-known which).size x3) (next_part x0 x1 x2 x3 x4)
+pub s-next_part : (which : ℕ) (x0 : Names) (x1 : Inside) (x2 : Context) (x3 : Option Denoted) (x4 : NamePart) → SpendsInside which x1 → (maybe-known which).Whole x3 → Spends which (maybe-known which) ((maybe-known which).size x3) (next_part x0 x1 x2 x3 x4)
 s-next_part which names inside here None p h1 h3 = s-le which (maybe-known which) _ _ _ (s-part_alone which names inside here p h1) (omega arith)
 s-next_part which names inside here (Some d) p h1 h3 = s-le which (maybe-known which) _ _ _ (s-part_of which names inside here p d h1 h3) (omega arith)
 
-pub s-parts : (which : ℕ) (x0 : Names) (x1 : Inside) (x2 : Context) (x3 : Option Denoted) (x4 : Parts) → SpendsInside which x1 → (maybe-known which).Whole x3 → Spends which (maybe-known which) ((maybe-known which).size x3) (parts x0 x1 x2 x3 x4)
+pub s-parts : (which : ℕ) (x0 : Names) (x1 : Inside) (x2 : Context) (x3 : Option Denoted) (x4 : NameParts) → SpendsInside which x1 → (maybe-known which).Whole x3 → Spends which (maybe-known which) ((maybe-known which).size x3) (parts x0 x1 x2 x3 x4)
 s-parts which names inside here d syntax.NoPart h1 h3 = s-pure which (maybe-known which) _ d (h3, omega arith)
 s-parts which names inside here d (syntax.AlsoPart p ps) h1 h3 =
     s-bind which (maybe-known which) (maybe-known which) ((maybe-known which).size d) 0 _ (next_part names inside here d p) _ (s-le which (maybe-known which) _ _ _ (s-next_part which names inside here d p h1 h3) (omega arith)) (omega arith) (λ e held1.

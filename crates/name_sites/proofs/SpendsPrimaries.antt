@@ -30,7 +30,7 @@ use Rattle.typed_tree.specs.Decoded as part
 use Rattle.typed_tree.specs.Syntax as typed
 use Rattle.std.specs.Prelude.{List, None, Option, Some, [], false, option_map, suc, true, zero, ℕ, ℤ, ◌+◌, ◌∷◌}
 use Rattle.name_rules.specs.TypedParts.{also, left_of, right_of}
-use Rattle.typed_tree.specs.Decoded.{Part as TypedPart, as_expr}
+use Rattle.typed_tree.specs.Decoded.{TypedPart, as_expr}
 use Rattle.name_rules.specs.Primaries.{Waiting, also_choice, also_waiting, alternative, alternatives, common, common_composite, composite_if, composite_ifs, composite_in, composite_part, conditional, grouped, grouped_by, grouped_form, grouped_scalar, if_expr, if_part, inside, level_above, no_text, open_if, open_ifs, open_part, primary, scalar_if, scalar_ifs, target_at, target_found, text_at, with_known}
 use Rattle.std.proofs.Common.{arith}
 use Rattle.name_laws.proofs.KeepsPrimaries.{k-inside, k-level_above}

@@ -14,7 +14,7 @@ use Rattle.syntax_tree.specs.Syntax as syntax
 use Rattle.syntax_tree.specs.Syntax.{Aspect, Body, Decl, Expr, Main, Program, Sub, Unit'}
 use Rattle.typed_tree.specs.Syntax.{Sub as TypedSub}
 use Rattle.std.specs.Prelude.{Bool, List, None, Option, Some, [], false, length, option_map, ℕ, ◌+◌, ◌-◌, ◌∷◌}
-use Rattle.typed_tree.specs.Decoded.{Part as TypedPart}
+use Rattle.typed_tree.specs.Decoded.{TypedPart}
 use Rattle.name_rules.specs.Programs.{Declared', Profiled, also_sub, aspect, clauses, end_name, level_of, main, outermost, policy, profile, program, result_value, returned_body, sub_where, subprogram, typed_sub, unit_of, units, whole, with_body, with_value_of}
 use Rattle.std.proofs.Common.{arith}
 use Rattle.name_laws.proofs.KeepsExpressions.{k-judged_alone}

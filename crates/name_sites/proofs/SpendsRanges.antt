@@ -21,7 +21,7 @@ use Rattle.syntax_tree.specs.Syntax as syntax
 use Rattle.syntax_tree.specs.Syntax.{Range, Simple}
 use Rattle.typed_tree.specs.Decoded as part
 use Rattle.std.specs.Prelude.{Bool, None, Option, Some, false, if◌then◌else◌, int_le, not, option_map, ℕ, ℤ, ◌&&◌, ◌+◌}
-use Rattle.typed_tree.specs.Decoded.{Part as TypedPart}
+use Rattle.typed_tree.specs.Decoded.{TypedPart}
 use Rattle.name_rules.specs.Ranges.{both_static, bounded_by, bounds_of, checked_range, checked_span, chosen_span, chosen_value, dimension, inside_subtype, named_range, of_one_type, of_static, one_value, own_bounds, own_range, preferred, range, range_part, range_values, scalar_type, spanned, static_bounds, static_by, static_checked, static_name, static_range, static_scalar, two_bounds, two_values, values_of, whole_range}
 use Rattle.std.proofs.Common.{arith}
 use Rattle.name_laws.proofs.KeepsRanges.{k-both_static, k-inside_subtype, k-scalar_type}

@@ -21,7 +21,7 @@ use Rattle.typed_tree.specs.declared.expressions.Reducer.TheVariants as reducer'
 use Rattle.typed_tree.specs.declared.expressions.Reducer.{Reducer}
 use Rattle.typed_tree.specs.declared.scalars.Class.TheVariants as class
 use Rattle.std.specs.Prelude.{List, None, Option, Some, [], if◌then◌else◌, is_some, not, ℕ, ◌&&◌, ◌+◌, ◌||◌, ◌∷◌}
-use Rattle.typed_tree.specs.Decoded.{Part as TypedPart}
+use Rattle.typed_tree.specs.Decoded.{TypedPart}
 use Rattle.name_rules.specs.Reducers.{by_function, by_operator, by_subtypes, folded_by, is_logical, numeric, of_kind, open_reduction, reduced, reduction}
 use Rattle.std.proofs.Common.{arith}
 use Rattle.name_laws.proofs.Walk.{k-read}

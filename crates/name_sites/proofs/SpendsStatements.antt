@@ -15,7 +15,7 @@ use Rattle.name_rules.specs.Values.{first_of, is_scalar, settled_found, stored}
 use Rattle.name_rules.specs.declared.found.Denoted.TheVariants as denoted
 use Rattle.name_rules.specs.declared.found.Denoted.{Denoted as KnownDenoted}
 use Rattle.name_rules.specs.declared.found.Found.TheVariants as known
-use Rattle.name_rules.specs.declared.found.Place.{Place}
+use Rattle.name_rules.specs.declared.found.ObjectName.{ObjectName}
 use Rattle.name_rules.specs.declared.log.Bound.TheVariants as bound
 use Rattle.name_rules.specs.declared.log.Rule.TheVariants.{Limit, NotVisible, WrongType}
 use Rattle.name_rules.specs.declared.scope.Context.{Context}
@@ -35,7 +35,7 @@ use Rattle.typed_tree.specs.Syntax.{Handled as TypedHandled, Selections}
 use Rattle.typed_tree.specs.declared.program.SiteKind.TheVariants as site
 use Rattle.std.specs.Prelude.{Bool, List, None, Option, Some, [], false, length, not, option_map, suc, zero, ℕ, ◌+◌, ◌-◌, ◌==◌, ◌∷◌}
 use Rattle.name_rules.specs.TypedParts.{nested_stmts, selections_of}
-use Rattle.typed_tree.specs.Decoded.{Part as TypedPart}
+use Rattle.typed_tree.specs.Decoded.{TypedPart}
 use Rattle.typed_tree.specs.Latest.{turned}
 use Rattle.name_rules.specs.Statements.{Around, Selector, also_alternative, alternative, alts, arm_limit, arms_part, around, as_statement, assign, assign_form, assign_other, assign_place, assign_to, assigned, assigned_alone, assigned_place, backwards_rule, block, block_decls, block_of, block_part, body, body_made, body_part, branch_count, branches, call_stmt, case_part, case_stmt, closed_where, condition_where, count_where, elsifs, exit_from, exit_part, exited, for_loop, for_made, for_part, handler, handlers, if_stmt, if_stmt_made, if_stmt_part, in_handler_of, in_loop, in_threads, innermost, is_last, is_last_handler, loop_by, loop_ends, loop_entered, loop_part, loop_stmt, loop_with, new_loop, no_choosing, no_decls, no_stmts, optional_parallel, otherwise_where, parallel, parallel_part, raise_from, raised, return_alone, return_from, return_value, returned, selecting, selector, selector_kind, selector_of, stmt, stmt_form, stmts, stmts_from, stored_place, value_at, value_of_nothing, with_alternative, with_arm, with_elsif, with_elsif_if, with_handler, with_handler_if, with_stmt, with_target}
 use Rattle.std.proofs.Common.{arith}
@@ -75,24 +75,24 @@ s-stmts which a here (syntax.stmts s ss) h0 =
     s-pure which (maybe-part which) _ (option_map turned x) (let made3 = h-map (part-measure which) (part-measure which) 0 turned x held1 (λ item held2. (w-turned which item held2, omega (arith, n-turned which item))) in
     (made3.0, omega (arith, made3.1))))
 
-pub z-assigned : (which : ℕ) (x0 : Place) (x1 : Selections) (x2 : TypedPart) → (counted-by (λ x. in_selections which x)).Whole x1 → (part-measure which).Whole x2 → Holds (part-measure which) (in_selections which x1 + part-size which x2) (assigned x0 x1 x2)
+pub z-assigned : (which : ℕ) (x0 : ObjectName) (x1 : Selections) (x2 : TypedPart) → (counted-by (λ x. in_selections which x)).Whole x1 → (part-measure which).Whole x2 → Holds (part-measure which) (in_selections which x1 + part-size which x2) (assigned x0 x1 x2)
 z-assigned which p ss v h1 h2 = (tt, omega (arith, n-value which v))
 
-pub s-stored_place : (which : ℕ) (x0 : Place) (x1 : Selections) (x2 : ℕ) (x3 : Found) → (counted-by (λ x. in_selections which x)).Whole x1 → (with-part which).Whole x3 → Spends which (maybe-part which) (in_selections which x1 + part-size which x3.part) (stored_place x0 x1 x2 x3)
+pub s-stored_place : (which : ℕ) (x0 : ObjectName) (x1 : Selections) (x2 : ℕ) (x3 : Found) → (counted-by (λ x. in_selections which x)).Whole x1 → (with-part which).Whole x3 → Spends which (maybe-part which) (in_selections which x1 + part-size which x3.part) (stored_place x0 x1 x2 x3)
 s-stored_place which p ss at f h1 h3 =
     s-bind which (maybe-part which) (maybe-part which) (part-size which f.part) (in_selections which ss) _ (stored p.subtype at f) _ (s-le which (maybe-part which) _ _ _ (s-stored which p.subtype at f h3) (omega arith)) (omega arith) (λ v held1.
     s-pure which (maybe-part which) _ (option_map (assigned p ss) v) (let made4 = h-map (part-measure which) (part-measure which) (in_selections which ss) (assigned p ss) v held1 (λ item held2. let made3 = z-assigned which p ss item h1 held2 in
     (made3.0, omega (arith, made3.1))) in
     (made4.0, omega (arith, made4.1))))
 
-pub s-assigned_place : (which : ℕ) (x0 : Place) (x1 : Selections) (x2 : ℕ) (x3 : Option Found) → (counted-by (λ x. in_selections which x)).Whole x1 → (maybe-known which).Whole x3 → Spends which (maybe-part which) (in_selections which x1 + (maybe-known which).size x3) (assigned_place x0 x1 x2 x3)
+pub s-assigned_place : (which : ℕ) (x0 : ObjectName) (x1 : Selections) (x2 : ℕ) (x3 : Option Found) → (counted-by (λ x. in_selections which x)).Whole x1 → (maybe-known which).Whole x3 → Spends which (maybe-part which) (in_selections which x1 + (maybe-known which).size x3) (assigned_place x0 x1 x2 x3)
 s-assigned_place which p ss at x h1 h3 =
     s-if which (maybe-part which) _ (not p.variable) (fault p.first WrongType) (given x (stored_place p ss at))
     (s-fault which (part-measure which) _ p.first WrongType)
     (s-given which (with-part which) (part-measure which) (in_selections which ss) _ x _ h3 (omega arith) (λ item held1.
     s-le which (maybe-part which) _ _ _ (s-stored_place which p ss at item h1 held1) (omega arith)))
 
-pub s-assign_place : (which : ℕ) (x0 : Names) (x1 : Inside) (x2 : Context) (x3 : Place) (x4 : Selections) (x5 : Expr) → SpendsInside which x1 → (counted-by (λ x. in_selections which x)).Whole x4 → Spends which (maybe-part which) (in_selections which x4) (assign_place x0 x1 x2 x3 x4 x5)
+pub s-assign_place : (which : ℕ) (x0 : Names) (x1 : Inside) (x2 : Context) (x3 : ObjectName) (x4 : Selections) (x5 : Expr) → SpendsInside which x1 → (counted-by (λ x. in_selections which x)).Whole x4 → Spends which (maybe-part which) (in_selections which x4) (assign_place x0 x1 x2 x3 x4 x5)
 unfolding assign_place
 s-assign_place which names level here p ss e h1 h4 =
     s-where_clean which (maybe-known which) (part-measure which) 0 (in_selections which ss) _ (expr names level (with_target here (target.Of p.subtype)) (wanted_of p.subtype) e) _ (s-le which (maybe-known which) _ _ _ (s-expr which names level (with_target here (target.Of p.subtype)) (wanted_of p.subtype) e h1) (omega arith)) (omega arith) (λ out held1.

@@ -5,7 +5,7 @@ use Rattle.name_rules.specs.Types.{check_at, class_of, in_base, is_integer, same
 use Rattle.name_rules.specs.declared.found.Found.TheVariants as known
 use Rattle.name_rules.specs.declared.found.Found.{Found as Known}
 use Rattle.name_rules.specs.declared.found.Limits.{Limits}
-use Rattle.name_rules.specs.declared.found.Place.{Place}
+use Rattle.name_rules.specs.declared.found.ObjectName.{ObjectName}
 use Rattle.name_rules.specs.declared.log.Rule.TheVariants.{StaticRange, WrongType}
 use Rattle.name_rules.specs.declared.types.Kind.{Kind}
 use Rattle.name_rules.specs.declared.types.Scalar.{Scalar}
@@ -17,7 +17,7 @@ use Rattle.typed_tree.specs.Syntax.{Composite, Expr as TypedExpr, Selections}
 use Rattle.typed_tree.specs.Classes.{with_class}
 use Rattle.std.specs.Prelude.{Bool, None, Option, Some, false, true, ℕ, ℤ, ◌==◌}
 use Rattle.name_rules.specs.TypedParts.{selections_of}
-use Rattle.typed_tree.specs.Decoded.{Part as TypedPart, as_expr}
+use Rattle.typed_tree.specs.Decoded.{TypedPart, as_expr}
 use Rattle.name_rules.specs.Values.{any_integer, any_scalar, asked, asked_form, beyond, composite_asked, composite_form, first_of, is_number, is_scalar, literal, mentions_in, mentions_of, object_expr, object_value, own_kind, place_asked, settled, settled_by, settled_found, stored, valued, whole_object, whole_of}
 use Rattle.std.proofs.Common.{arith}
 use Rattle.name_sites.proofs.Measures.{counted-by, maybe-part, part-measure, part-size, with-part}
@@ -53,11 +53,11 @@ pub s-settled : (which : ℕ) (x0 : Kind) (x1 : Limits) (x2 : TypedExpr) → (co
 unfolding settled
 s-settled which k l e h2 = s-le which (maybe-part which) _ _ _ (s-settled_by which k e (beyond k l) h2) (omega arith)
 
-pub z-object_expr : (which : ℕ) (x0 : Place) (x1 : Selections) (x2 : Scalar) (x3 : Bool) → (counted-by (λ x. in_selections which x)).Whole x1 → Holds (counted-by (λ x. in_expr which x)) (in_selections which x1) (object_expr x0 x1 x2 x3)
+pub z-object_expr : (which : ℕ) (x0 : ObjectName) (x1 : Selections) (x2 : Scalar) (x3 : Bool) → (counted-by (λ x. in_selections which x)).Whole x1 → Holds (counted-by (λ x. in_expr which x)) (in_selections which x1) (object_expr x0 x1 x2 x3)
 z-object_expr which p ss s true h1 = (tt, omega arith)
 z-object_expr which p ss s false h1 = (tt, omega arith)
 
-pub z-object_value : (which : ℕ) (x0 : Place) (x1 : Selections) (x2 : Scalar) (x3 : Option ℤ) → (counted-by (λ x. in_selections which x)).Whole x1 → Holds (part-measure which) (in_selections which x1) (object_value x0 x1 x2 x3)
+pub z-object_value : (which : ℕ) (x0 : ObjectName) (x1 : Selections) (x2 : Scalar) (x3 : Option ℤ) → (counted-by (λ x. in_selections which x)).Whole x1 → Holds (part-measure which) (in_selections which x1) (object_value x0 x1 x2 x3)
 z-object_value which p ss s (Some z) h1 =
     let made1 = z-literal which p.first z false part.Nothing tt in
     (made1.0, omega (arith, made1.1))
@@ -65,7 +65,7 @@ z-object_value which p ss s None h1 =
     let made1 = z-object_expr which p ss s p.variable h1 in
     (tt, omega (arith, made1.1))
 
-pub s-place_asked : (which : ℕ) (x0 : Kind) (x1 : Place) (x2 : Selections) (x3 : Subtype) → (counted-by (λ x. in_selections which x)).Whole x2 → Spends which (maybe-part which) (in_selections which x2) (place_asked x0 x1 x2 x3)
+pub s-place_asked : (which : ℕ) (x0 : Kind) (x1 : ObjectName) (x2 : Selections) (x3 : Subtype) → (counted-by (λ x. in_selections which x)).Whole x2 → Spends which (maybe-part which) (in_selections which x2) (place_asked x0 x1 x2 x3)
 s-place_asked which k p ss (subtype.Scalar s) h2 =
     s-if which (maybe-part which) _ (same s.kind k) (some (object_value p ss s p.value)) (fault p.first WrongType)
     (s-some which (part-measure which) _ (object_value p ss s p.value) (let made1 = z-object_value which p ss s p.value h2 in
@@ -116,11 +116,11 @@ s-any_scalar which f h0 =
     (s-le which (maybe-part which) _ _ _ (s-settled_found which f h0) (omega arith))
     (s-fault which (part-measure which) _ (first_of f.known) WrongType)
 
-pub z-whole_object : (which : ℕ) (x0 : Place) (x1 : Selections) (x2 : ℕ) (x3 : Bool) → (counted-by (λ x. in_selections which x)).Whole x1 → Holds (counted-by (λ x. in_composite which x)) (in_selections which x1) (whole_object x0 x1 x2 x3)
+pub z-whole_object : (which : ℕ) (x0 : ObjectName) (x1 : Selections) (x2 : ℕ) (x3 : Bool) → (counted-by (λ x. in_selections which x)).Whole x1 → Holds (counted-by (λ x. in_composite which x)) (in_selections which x1) (whole_object x0 x1 x2 x3)
 z-whole_object which p ss n true h1 = (tt, omega arith)
 z-whole_object which p ss n false h1 = (tt, omega arith)
 
-pub s-whole_of : (which : ℕ) (x0 : ℕ) (x1 : Place) (x2 : Selections) (x3 : Subtype) → (counted-by (λ x. in_selections which x)).Whole x2 → Spends which (maybe-part which) (in_selections which x2) (whole_of x0 x1 x2 x3)
+pub s-whole_of : (which : ℕ) (x0 : ℕ) (x1 : ObjectName) (x2 : Selections) (x3 : Subtype) → (counted-by (λ x. in_selections which x)).Whole x2 → Spends which (maybe-part which) (in_selections which x2) (whole_of x0 x1 x2 x3)
 s-whole_of which n p ss (subtype.Scalar s) h2 = s-fault which (part-measure which) _ p.first WrongType
 s-whole_of which n p ss (subtype.Composite m) h2 =
     s-if which (maybe-part which) _ (n == m) (some (part.AComposite (whole_object p ss m p.variable))) (fault p.first WrongType)

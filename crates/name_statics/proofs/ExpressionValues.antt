@@ -10,7 +10,7 @@ use Rattle.syntax_tree.specs.declared.operators.Additive.TheVariants as additive
 use Rattle.syntax_tree.specs.declared.operators.Logical.TheVariants as logical'
 use Rattle.syntax_tree.specs.declared.operators.Sign.{Sign as Signed}
 use Rattle.syntax_tree.specs.declared.operators.Sign.TheVariants as sign
-use Rattle.typed_tree.specs.Decoded.{Part}
+use Rattle.typed_tree.specs.Decoded.{TypedPart}
 use Rattle.typed_tree.specs.declared.expressions.Sign.TheVariants as unary'
 use Rattle.name_rules.specs.Expressions.{Inside, added, adding, blamed, conjoined, expr, factor, first_term, first_wanted, in_place, joined_rels, multiplied, multiplying, multiplying_op, rel, short_form, short_found, short_join, short_operand, short_operands, simple, term}
 use Rattle.name_rules.specs.Found.{Found}
@@ -175,24 +175,24 @@ f-joined_rels names level here o first at second more =
     f-then (Finding None) (rel names level here wanted.Other first) _ (λ x. f-then (Finding None) (rel names level here wanted.Other second) _ (λ y.
     f-bind (Finding None) (Finding None) (logical o at x y) _ (f-logical o at x y) (λ z q. f-conjoined names level here o z more q)))
 
-abbrev Unvalued : Part → Type 0
+abbrev Unvalued : TypedPart → Type 0
 Unvalued x = static_in (as_expr x) ≡ None
 
-short-join : (all : Bool) (x y : Part) → Unvalued (short_join all x y)
+short-join : (all : Bool) (x y : TypedPart) → Unvalued (short_join all x y)
 short-join true x y = refl
 short-join false x y = refl
 
-short-more : (all : Bool) (x y : Option Part) → Maybe Unvalued (joined (short_join all) x y)
+short-more : (all : Bool) (x y : Option TypedPart) → Maybe Unvalued (joined (short_join all) x y)
 short-more all None y = tt
 short-more all (Some x) None = tt
 short-more all (Some x) (Some y) = short-join all x y
 
-f-short_more : (names : Names) (level : Inside) (here : Context) (all : Bool) (x : Option Part) (cs : Conjuncts) → Maybe Unvalued x → Finds (Maybe Unvalued) (short_operands names level here all x cs)
+f-short_more : (names : Names) (level : Inside) (here : Context) (all : Bool) (x : Option TypedPart) (cs : Conjuncts) → Maybe Unvalued x → Finds (Maybe Unvalued) (short_operands names level here all x cs)
 f-short_more names level here all x syntax.NoConjunct h = f-pure (Maybe Unvalued) x h
 f-short_more names level here all x (syntax.AlsoConjunct (syntax.conjunct at c) cs) h =
     f-then (Maybe Unvalued) (short_operand names level here at c) _ (λ y. f-short_more names level here all (joined (short_join all) x y) cs (short-more all x y))
 
-f-short_operands : (names : Names) (level : Inside) (here : Context) (all : Bool) (x : Option Part) (at : ℕ) (c : Rel) (cs : Conjuncts) → Finds (Maybe Unvalued) (short_operands names level here all x (syntax.AlsoConjunct (syntax.conjunct at c) cs))
+f-short_operands : (names : Names) (level : Inside) (here : Context) (all : Bool) (x : Option TypedPart) (at : ℕ) (c : Rel) (cs : Conjuncts) → Finds (Maybe Unvalued) (short_operands names level here all x (syntax.AlsoConjunct (syntax.conjunct at c) cs))
 f-short_operands names level here all x at c cs =
     f-then (Maybe Unvalued) (short_operand names level here at c) _ (λ y. f-short_more names level here all (joined (short_join all) x y) cs (short-more all x y))
 
@@ -202,7 +202,7 @@ f-short_form names level here all first at second more =
     f-bind (Maybe Unvalued) (Finding None) (short_operands names level here all x (syntax.AlsoConjunct (syntax.conjunct at second) more)) _ (f-short_operands names level here all x at second more) (λ z q.
     f-pure (Finding None) (option_map (short_found (first_token.of_rel first)) z) (found z q)))
   where
-    found : (z : Option Part) → Maybe Unvalued z → Finding None (option_map (short_found (first_token.of_rel first)) z)
+    found : (z : Option TypedPart) → Maybe Unvalued z → Finding None (option_map (short_found (first_token.of_rel first)) z)
     found None q = tt
     found (Some e) q = record { value = λ t. refl; bare = q }
 

@@ -1,7 +1,7 @@
 -- Judging that finds what is as is asked: whatever was written before, or where the arrays and records are those of a table.
 use Rattle.std.proofs.Common.{◌≡◌, refl, ℕ, ℤ, List, Option, Some, None, Bool, true, false, if◌then◌else◌, option_map}
 use Rattle.typed_tree.specs.Classes.{with_class}
-use Rattle.typed_tree.specs.Decoded.{Part, as_expr}
+use Rattle.typed_tree.specs.Decoded.{TypedPart, as_expr}
 use Rattle.typed_tree.specs.declared.scalars.Class.{Class}
 use Rattle.name_rules.specs.Found.{Denoted, Found}
 use Rattle.name_rules.specs.Judging.{Judging, ◌>>=◌, both, clean, fault, given, joined, pure, some, where_clean}
@@ -26,7 +26,7 @@ Maybe Q None = Unit {0}
 Maybe Q (Some a) = Q a
 
 -- what isn't static leaves no value, whatever type it takes
-abbrev pub Bare : Known → Part → Type 0
+abbrev pub Bare : Known → TypedPart → Type 0
 Bare (known.Open first l) x = (c : Class) → static_in (with_class c (as_expr x)) ≡ None
 Bare (known.Scalar first k n) x = static_in (as_expr x) ≡ None
 Bare f x = Unit {0}
@@ -48,7 +48,7 @@ meant (denoted.Attribute first (prefix.Object p) at a) = OfObject a p.subtype
 meant (denoted.Attribute first (prefix.Type t) at a) = OfType a t
 meant d = Value None
 
-abbrev pub BareName : KnownDenoted → Part → Type 0
+abbrev pub BareName : KnownDenoted → TypedPart → Type 0
 BareName (denoted.Value f) x = Bare f x
 BareName (denoted.Parameter first s) x = static_in (as_expr x) ≡ None
 BareName d x = Unit {0}

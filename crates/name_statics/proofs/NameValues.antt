@@ -11,7 +11,7 @@ use Rattle.name_rules.specs.declared.types.Wanted.TheVariants as wanted
 use Rattle.name_rules.specs.declared.scope.What.TheVariants as what
 use Rattle.std.proofs.Common.{◌≡◌, refl, sym, subst, ℕ, List, [], ◌∷◌, Option, Some, None, ◌&&◌, ℤ, Bool, true, false, option_map, pos, length, if◌then◌else◌, ◌-◌, int_le, slice_get, ◌==◌, ◌+◌}
 use Rattle.std.specs.Prelude.{unsigned_abs, Bool, None, Option, Some, [], false, if◌then◌else◌, length, option_map, true, ℕ, ◌+◌, ◌∷◌}
-use Rattle.typed_tree.specs.Decoded.{Part, as_chunk, as_expr, as_iteration, as_actual, as_actuals, as_value, as_stmt, Part as TypedPart}
+use Rattle.typed_tree.specs.Decoded.{TypedPart, as_chunk, as_expr, as_iteration, as_actual, as_actuals, as_value, as_stmt}
 use Rattle.name_rules.specs.Calls.{arg_names, operands, with_operand}
 use Rattle.name_rules.specs.Found.{Found, Denoted, denote, parameter_found, static, value_denoted, universal}
 use Rattle.name_rules.specs.Judging.{fault, read, ◌>>=◌, given, where_clean, some, Judging}
@@ -22,8 +22,8 @@ use Rattle.name_rules.specs.declared.log.Rule.TheVariants.{ReduceRule, NotVisibl
 use Rattle.name_rules.specs.declared.types.Kind.{Kind}
 use Rattle.name_rules.specs.declared.types.Scalar.{Scalar}
 use Rattle.name_rules.specs.declared.types.Subtype.{Subtype}
-use Rattle.syntax_tree.specs.Syntax.{Args, Elsifs, Expr, Iter, Name, OptionalParallel, Parts, Primary, Arg}
-use Rattle.syntax_tree.specs.Syntax.{Part as NamePart}
+use Rattle.syntax_tree.specs.Syntax.{Args, Elsifs, Expr, Iter, Name, OptionalParallel, NameParts, Primary, Arg}
+use Rattle.syntax_tree.specs.Syntax.{NamePart}
 use Rattle.typed_tree.specs.Syntax.{Selections, Expr as TypedExpr, Actuals, Iteration, Optional}
 use Rattle.name_rules.specs.Attributes.{attribute_at, bound_with, dimensions_in, is_array_object, is_bound, is_reduction, mentioned, settled_attribute, alone, attribute_found, bound_alone, bound_in, dimension_at, dimension_bound, dimension_given, one_dimension, prefix_of, reduced_alone, scalar_bound, scalar_with, settled_form}
 use Rattle.name_rules.specs.Expressions.{Inside, expr}
@@ -35,7 +35,7 @@ use Rattle.name_rules.specs.TypedParts.{selections_of, also_all, also}
 use Rattle.name_rules.specs.declared.found.Attribute.{Attribute}
 use Rattle.name_rules.specs.declared.found.Denoted.{Denoted as KnownDenoted}
 use Rattle.name_rules.specs.declared.found.Found.{Found as Known}
-use Rattle.name_rules.specs.declared.found.Place.{Place}
+use Rattle.name_rules.specs.declared.found.ObjectName.{ObjectName}
 use Rattle.name_rules.specs.declared.found.Prefix.{Prefix}
 use Rattle.name_rules.specs.declared.scope.Context.{Context}
 use Rattle.name_rules.specs.declared.scope.Names.{Names}
@@ -87,14 +87,14 @@ f-stands_for names here token = f-stands here token (symbol names token) (lookup
 
 -- ---- attributes of a dimension and of a scalar subtype
 
-f-dimension_bound : (first : ℕ) (ms : Part) (a : Attribute) (d : Dimension) → Finds (Naming (Value (bound a (Some d)))) (dimension_bound first ms a d)
+f-dimension_bound : (first : ℕ) (ms : TypedPart) (a : Attribute) (d : Dimension) → Finds (Naming (Value (bound a (Some d)))) (dimension_bound first ms a d)
 f-dimension_bound first ms attribute'.First d = f-some (Means (Value (Some d.low))) (value_denoted (static first d.kind d.low ms)) (record { meaning = refl; bare = tt })
 f-dimension_bound first ms attribute'.Last d = f-some (Means (Value (Some d.high))) (value_denoted (static first d.kind d.high ms)) (record { meaning = refl; bare = tt })
 f-dimension_bound first ms attribute'.Length d = f-some (Means (Value (Some (pos (extent d))))) (value_denoted (universal first (pos (extent d)) false ms)) (record { meaning = refl; bare = tt })
 f-dimension_bound first ms attribute'.Range d = f-some (Means nothing) (denote (denoted.Range first d) ms) (record { meaning = refl; bare = tt })
 f-dimension_bound first ms a d = f-fault (Means nothing) first WrongType
 
-f-bound_in : (first : ℕ) (ms : Part) (a : Attribute) (d : Option Dimension) → Finds (Naming (Value (bound a d))) (bound_in first ms a d)
+f-bound_in : (first : ℕ) (ms : TypedPart) (a : Attribute) (d : Option Dimension) → Finds (Naming (Value (bound a d))) (bound_in first ms a d)
 f-bound_in first ms a None = f-fault (Means (Value (bound a None))) first WrongType
 f-bound_in first ms a (Some d) = f-dimension_bound first ms a d
 
@@ -104,7 +104,7 @@ f-scalar_bound first s attribute'.Last = f-some (Means (Value (Some s.high))) (v
 f-scalar_bound first s a = f-fault (Means nothing) first WrongType
 
 -- without a dimension, that of the first
-t-first_dimension : (shapes : List Shape) (first : ℕ) (ms : Part) (a : Attribute) (t : Subtype)
+t-first_dimension : (shapes : List Shape) (first : ℕ) (ms : TypedPart) (a : Attribute) (t : Subtype)
     → Tells shapes (Naming (Value (bound a (slice_get (dimensions shapes t) 0)))) (read (λ log. slice_get (dimensions_in log (Some t)) 0) >>= bound_in first ms a)
 t-first_dimension shapes first ms a t =
     t-at shapes (Naming (Value (bound a (slice_get (dimensions shapes t) 0)))) _ (k-bind walk (read (λ log. slice_get (dimensions_in log (Some t)) 0)) (bound_in first ms a) (k-read walk (λ log. slice_get (dimensions_in log (Some t)) 0)) (λ d. k-bound_in walk first ms a d))
@@ -114,25 +114,25 @@ f-reduced_alone : (Q : Denoted → Type 0) (first at : ℕ) (b : Bool) → Finds
 f-reduced_alone Q first at true = f-fault Q first WrongType
 f-reduced_alone Q first at false = f-fault Q at ReduceRule
 
-abbrev alone_by : ℕ → Prefix → Part → ℕ → Attribute → Judging (Option Denoted)
+abbrev alone_by : ℕ → Prefix → TypedPart → ℕ → Attribute → Judging (Option Denoted)
 alone_by first p x at a = if is_bound a then bound_alone first p x a else if is_reduction a then (read (λ log. is_array_object log p) >>= reduced_alone first at) else fault first WrongType
 
-t-alone_by : (shapes : List Shape) (Q : Denoted → Type 0) (first : ℕ) (p : Prefix) (x : Part) (at : ℕ) (a : Attribute) → Tells shapes (Maybe Q) (bound_alone first p x a) → Tells shapes (Maybe Q) (alone_by first p x at a)
+t-alone_by : (shapes : List Shape) (Q : Denoted → Type 0) (first : ℕ) (p : Prefix) (x : TypedPart) (at : ℕ) (a : Attribute) → Tells shapes (Maybe Q) (bound_alone first p x a) → Tells shapes (Maybe Q) (alone_by first p x at a)
 t-alone_by shapes Q first p x at a m =
     t-if shapes (Maybe Q) (is_bound a) (bound_alone first p x a) _ (λ e. m)
     (t-of shapes (Maybe Q) _ (k-if walk (is_reduction a) _ (fault first WrongType) (k-bind walk (read (λ log. is_array_object log p)) (reduced_alone first at) (k-read walk (λ log. is_array_object log p)) (λ b. k-reduced_alone walk first at b)) (k-fault walk first WrongType))
     (f-if (Maybe Q) (is_reduction a) _ (fault first WrongType) (λ e. f-then (Maybe Q) (read (λ log. is_array_object log p)) (reduced_alone first at) (λ b. f-reduced_alone Q first at b)) (f-fault Q first WrongType)))
 
 -- what is no array and no scalar subtype has no bounds
-t-no_bound : (shapes : List Shape) (Q : Denoted → Type 0) (first : ℕ) (ms : Part) (a : Attribute) → Tells shapes (Maybe Q) (read (λ log. slice_get (dimensions_in log None) 0) >>= bound_in first ms a)
+t-no_bound : (shapes : List Shape) (Q : Denoted → Type 0) (first : ℕ) (ms : TypedPart) (a : Attribute) → Tells shapes (Maybe Q) (read (λ log. slice_get (dimensions_in log None) 0) >>= bound_in first ms a)
 t-no_bound shapes Q first ms a =
     t-of shapes (Maybe Q) _ (k-bind walk (read (λ log. slice_get (dimensions_in log None) 0)) (bound_in first ms a) (k-read walk (λ log. slice_get (dimensions_in log None) 0)) (λ d. k-bound_in walk first ms a d)) (record { at = λ log. tt })
 
-t-object_alone : (shapes : List Shape) (first : ℕ) (p : Place) (x : Part) (at : ℕ) (a : Attribute) → Tells shapes (Naming (Value (bound a (slice_get (dimensions shapes p.subtype) 0)))) (alone first (prefix.Object p) x at a)
+t-object_alone : (shapes : List Shape) (first : ℕ) (p : ObjectName) (x : TypedPart) (at : ℕ) (a : Attribute) → Tells shapes (Naming (Value (bound a (slice_get (dimensions shapes p.subtype) 0)))) (alone first (prefix.Object p) x at a)
 t-object_alone shapes first p x at attribute'.Image = t-of shapes (Naming nothing) _ (k-alone walk first (prefix.Object p) x at attribute'.Image) (f-object_image first p x p.subtype)
 t-object_alone shapes first p x at a = t-alone_by shapes (Means (Value (bound a (slice_get (dimensions shapes p.subtype) 0)))) first (prefix.Object p) x at a (t-first_dimension shapes first (mentioned (prefix.Object p) x) a p.subtype)
 
-t-parameter_alone : (shapes : List Shape) (first : ℕ) (s : Scalar) (x : Part) (at : ℕ) (a : Attribute) → Tells shapes (Naming nothing) (alone first (prefix.Parameter s) x at a)
+t-parameter_alone : (shapes : List Shape) (first : ℕ) (s : Scalar) (x : TypedPart) (at : ℕ) (a : Attribute) → Tells shapes (Naming nothing) (alone first (prefix.Parameter s) x at a)
 t-parameter_alone shapes first s x at attribute'.Image = t-of shapes (Naming nothing) _ (k-alone walk first (prefix.Parameter s) x at attribute'.Image) (f-parameter_image first s (parameter_found first s x))
 t-parameter_alone shapes first s x at a = t-alone_by shapes (Means nothing) first (prefix.Parameter s) x at a (t-no_bound shapes (Means nothing) first (mentioned (prefix.Parameter s) x) a)
 
@@ -140,7 +140,7 @@ value-settled : (shapes : List Shape) (f : Known) → meant (denoted.Value f) �
 value-settled shapes (known.Object p) = refl
 value-settled shapes f = refl
 
-t-settled_form : (shapes : List Shape) (k : KnownDenoted) (x : Part) → BareName k x → Tells shapes (Naming (settled shapes (meant k))) (settled_form k x)
+t-settled_form : (shapes : List Shape) (k : KnownDenoted) (x : TypedPart) → BareName k x → Tells shapes (Naming (settled shapes (meant k))) (settled_form k x)
 t-settled_form shapes (denoted.Attribute first (prefix.Object p) at a) x b = t-object_alone shapes first p x at a
 t-settled_form shapes (denoted.Attribute first (prefix.Parameter s) at a) x b = t-parameter_alone shapes first s x at a
 t-settled_form shapes (denoted.Attribute first (prefix.Type (subtype.Scalar s)) at a) x b =
@@ -158,7 +158,7 @@ t-settled shapes d s h = subst (λ z. Tells shapes (Naming (settled shapes z)) (
 
 -- ---- selected components
 
-f-field_from : (names : Names) (p : Place) (ss : Part) (at i : ℕ) (fs : List Field) → Finds (Naming (component (field_named (symbol names at) fs))) (field_from names p ss at i fs)
+f-field_from : (names : Names) (p : ObjectName) (ss : TypedPart) (at i : ℕ) (fs : List Field) → Finds (Naming (component (field_named (symbol names at) fs))) (field_from names p ss at i fs)
 f-field_from names p ss at i [] = f-fault (Means nothing) at Unknown
 f-field_from names p ss at i (f ∷ fs) = by (f.symbol == symbol names at) (f-field_from names p ss at (i + 1) fs)
   where
@@ -167,17 +167,17 @@ f-field_from names p ss at i (f ∷ fs) = by (f.symbol == symbol names at) (f-fi
     by true m = f-some (Means (Object f.subtype None)) _ (record { meaning = refl; bare = tt })
     by false m = m
 
-f-field_in : (names : Names) (p : Place) (ss : Part) (at : ℕ) (t : Option Shape) → Finds (Naming (component (field_named (symbol names at) (fields_of t)))) (field_in names p ss at t)
+f-field_in : (names : Names) (p : ObjectName) (ss : TypedPart) (at : ℕ) (t : Option Shape) → Finds (Naming (component (field_named (symbol names at) (fields_of t)))) (field_in names p ss at t)
 f-field_in names p ss at t =
     f-if (Naming (component (field_named (symbol names at) (fields_of t)))) (is_record t) (field_from names p ss at 0 (fields_of t)) (fault p.first WrongType) (λ e. f-field_from names p ss at 0 (fields_of t)) (f-fault (Means (component (field_named (symbol names at) (fields_of t)))) p.first WrongType)
 
-t-field_of : (shapes : List Shape) (names : Names) (here : Context) (p : Place) (ss : Part) (at : ℕ) (t : Subtype) (v : Option ℤ) → Tells shapes (Naming (after_point (there names here shapes) at (Object t v))) (field_of names p ss at t)
+t-field_of : (shapes : List Shape) (names : Names) (here : Context) (p : ObjectName) (ss : TypedPart) (at : ℕ) (t : Subtype) (v : Option ℤ) → Tells shapes (Naming (after_point (there names here shapes) at (Object t v))) (field_of names p ss at t)
 t-field_of shapes names here p ss at (subtype.Scalar s) v = t-of shapes (Naming nothing) _ (k-field_of walk names p ss at (subtype.Scalar s) tt) (f-fault (Means nothing) p.first WrongType)
 t-field_of shapes names here p ss at (subtype.Composite n) v =
     t-at shapes (Naming (component (field_named (symbol names at) (fields_of (slice_get shapes n))))) _ (k-field_of walk names p ss at (subtype.Composite n) tt)
     (λ log h. subst (λ fs. Naming (component (field_named (symbol names at) fs)) (field_in names p ss at (shape_in log n) log).0) (same_fields shapes log.shapes n h) ((f-field_in names p ss at (shape_in log n)).at log))
 
-t-field_form : (shapes : List Shape) (names : Names) (here : Context) (at : ℕ) (k : KnownDenoted) (x : Part) → Tells shapes (Naming (after_point (there names here shapes) at (meant k))) (field_form names here at k x)
+t-field_form : (shapes : List Shape) (names : Names) (here : Context) (at : ℕ) (k : KnownDenoted) (x : TypedPart) → Tells shapes (Naming (after_point (there names here shapes) at (meant k))) (field_form names here at k x)
 t-field_form shapes names here at (denoted.Package first library) x = t-of shapes (Naming nothing) _ (k-selected walk names here first library at tt) (f-selected names here first library at)
 t-field_form shapes names here at (denoted.Value (known.Object p)) x = t-field_of shapes names here p x at p.subtype p.value
 t-field_form shapes names here at k x = t-of shapes (Naming (after_point (there names here shapes) at (meant k))) _ (k-fault walk (denoted_first k) WrongType) (f-fault (Means (after_point (there names here shapes) at (meant k))) (denoted_first k) WrongType)
@@ -197,18 +197,18 @@ t-field shapes names here at s d h =
 
 -- ---- indexed components
 
-f-indexed : (p : Place) (bracket wanted given : ℕ) (c : Option Subtype) (ss : Part) → Finds (Naming (component c)) (indexed p bracket wanted given c ss)
+f-indexed : (p : ObjectName) (bracket wanted given : ℕ) (c : Option Subtype) (ss : TypedPart) → Finds (Naming (component c)) (indexed p bracket wanted given c ss)
 f-indexed p bracket wanted given None ss = f-fault (Means nothing) p.first WrongType
 f-indexed p bracket wanted given (Some c) ss =
     f-if (Naming (Object c None)) (wanted == given) (some (denote (part_place p c) ss)) (fault bracket WrongType) (λ e. f-some (Means (Object c None)) (denote (part_place p c) ss) (record { meaning = refl; bare = tt })) (f-fault (Means (Object c None)) bracket WrongType)
 
-f-array_call : (names : Names) (inside : Inside) (here : Context) (p : Place) (ss : Part) (bracket : ℕ) (as' : Args) (t : Option Shape) (cells : ℕ) → Finds (Naming (component (component_of t))) (array_call names inside here p ss bracket as' t cells)
+f-array_call : (names : Names) (inside : Inside) (here : Context) (p : ObjectName) (ss : TypedPart) (bracket : ℕ) (as' : Args) (t : Option Shape) (cells : ℕ) → Finds (Naming (component (component_of t))) (array_call names inside here p ss bracket as' t cells)
 f-array_call names inside here p ss bracket as' t cells =
     f-if (Naming (component (component_of t))) (is_array t) (index_shape names inside here p ss bracket as' t cells) (wrong_call names inside here p.first as')
     (λ e. f-where_clean (Means (component (component_of t))) _ _ (λ r. f-given (Means (component (component_of t))) r _ (λ y. f-indexed p bracket (length (dimensions_of t)) (count as') (component_of t) y)))
     (f-wrong_call (Means (component (component_of t))) names inside here p.first as')
 
-t-object_call : (shapes : List Shape) (names : Names) (inside : Inside) (here : Context) (p : Place) (ss : Part) (bracket : ℕ) (as' : Args) (t : Subtype) (w v : Option ℤ) → LevelTells shapes names inside
+t-object_call : (shapes : List Shape) (names : Names) (inside : Inside) (here : Context) (p : ObjectName) (ss : TypedPart) (bracket : ℕ) (as' : Args) (t : Subtype) (w v : Option ℤ) → LevelTells shapes names inside
     → Tells shapes (Naming (after_bracket (there names here shapes) w (Object t v))) (object_call names inside here p ss bracket as' t)
 unfolding object_call
 t-object_call shapes names inside here p ss bracket as' (subtype.Scalar s) w v l = t-of shapes (Naming nothing) _ (k-wrong_call walk names inside here p.first as' tt l.keeps) (f-wrong_call (Means nothing) names inside here p.first as')
@@ -243,7 +243,7 @@ f-static_of_kind : (k : Kind) (f : Found) → Finds (Maybe (Valued f)) (static_o
 unfolding static_of_kind
 f-static_of_kind k f = f-then (Maybe (Valued f)) (asked k f) _ (λ e. f-given (Valued f) e _ (λ x. f-static_value f (first_of f.known) (value_of f.known) refl))
 
-f-dimension_at : (first : ℕ) (ms : Part) (a : Attribute) (ds : List Dimension) (at : ℕ) (z : ℤ) → Finds (Naming (Value (bound a (dimension ds (Some z))))) (dimension_at first ms a ds at z)
+f-dimension_at : (first : ℕ) (ms : TypedPart) (a : Attribute) (ds : List Dimension) (at : ℕ) (z : ℤ) → Finds (Naming (Value (bound a (dimension ds (Some z))))) (dimension_at first ms a ds at z)
 f-dimension_at first ms a ds at z =
     let Q = Means (Value (bound a (dimension ds (Some z)))) in
     f-if (Maybe Q) (int_le (pos 1) z && int_le z (pos (length ds))) (bound_in first ms a (slice_get ds (unsigned_abs z - 1))) (fault at StaticRange)
@@ -251,7 +251,7 @@ f-dimension_at first ms a ds at z =
     subst (λ (b : Bool). Finds (Naming (Value (bound a (if b then slice_get ds (unsigned_abs z - 1) else None)))) (bound_in first ms a (slice_get ds (unsigned_abs z - 1)))) (sym low) (f-bound_in first ms a (slice_get ds (unsigned_abs z - 1))))
     (f-fault Q at StaticRange)
 
-f-dimension_given : (first : ℕ) (ms : Part) (a : Attribute) (ds : List Dimension) (f : Found) (v : Option ℤ) → Is v f → Finds (Naming (Value (bound a (dimension ds v)))) (dimension_given first ms a ds f)
+f-dimension_given : (first : ℕ) (ms : TypedPart) (a : Attribute) (ds : List Dimension) (f : Found) (v : Option ℤ) → Is v f → Finds (Naming (Value (bound a (dimension ds v)))) (dimension_given first ms a ds f)
 f-dimension_given first ms a ds f v h =
     let Q = Means (Value (bound a (dimension ds v))) in
     f-if (Maybe Q) (is_number f.known) _ (fault (first_of f.known) WrongType)
@@ -263,13 +263,13 @@ f-dimension_given first ms a ds f v h =
     found e (Some z) q =
         subst (λ x. Finds (Naming (Value (bound a (dimension ds x)))) (dimension_at first (also_all ms (mentions_of f)) a ds (first_of f.known) z)) (sym q ∙ h.value (number-scalar f.known e)) (f-dimension_at first (also_all ms (mentions_of f)) a ds (first_of f.known) z)
 
-f-one_dimension : (first bracket : ℕ) (ms : Part) (a : Attribute) (ds : List Dimension) (fs : List Found) (v : Option ℤ) → One v fs → Finds (Naming (Value (bound a (dimension ds v)))) (one_dimension first bracket ms a ds (None ∷ []) fs)
+f-one_dimension : (first bracket : ℕ) (ms : TypedPart) (a : Attribute) (ds : List Dimension) (fs : List Found) (v : Option ℤ) → One v fs → Finds (Naming (Value (bound a (dimension ds v)))) (one_dimension first bracket ms a ds (None ∷ []) fs)
 f-one_dimension first bracket ms a ds (f ∷ []) v h = f-dimension_given first ms a ds f v h
 f-one_dimension first bracket ms a ds [] v h = absurd h
 f-one_dimension first bracket ms a ds (f ∷ g ∷ fs) v h = absurd h
 
 abbrev BoundsWith : List Shape → Names → Inside → Context → ℕ → Args → Option ℤ → Type 0
-BoundsWith shapes names inside here bracket as' v = (first : ℕ) (ms : Part) (a : Attribute) (ds : List Dimension) → Tells shapes (Naming (Value (bound a (dimension ds v)))) (bound_with names inside here first ms a bracket as' ds)
+BoundsWith shapes names inside here bracket as' v = (first : ℕ) (ms : TypedPart) (a : Attribute) (ds : List Dimension) → Tells shapes (Naming (Value (bound a (dimension ds v)))) (bound_with names inside here first ms a bracket as' ds)
 
 t-bound_with : (shapes : List Shape) (names : Names) (inside : Inside) (here : Context) (bracket : ℕ) (e : Expr) → LevelTells shapes names inside → BoundsWith shapes names inside here bracket (syntax.AlsoArg (syntax.arg None e) syntax.NoArg) (expr_value (there names here shapes) e)
 t-bound_with shapes names inside here bracket e l first ms a [] =
@@ -282,7 +282,7 @@ t-bound_with shapes names inside here bracket e l first ms a (d ∷ ds) =
     t-given shapes (One v) Q fs (one_dimension first bracket ms a (d ∷ ds) (None ∷ [])) q (λ gs s. t-of shapes (Maybe Q) _ (k-one_dimension walk first bracket ms a (d ∷ ds) (None ∷ []) gs) (f-one_dimension first bracket ms a (d ∷ ds) gs v s)))
 
 -- other arguments are none
-f-wrong_dimension : (Q : Denoted → Type 0) (names : Names) (inside : Inside) (here : Context) (first : ℕ) (ms : Part) (a : Attribute) (bracket : ℕ) (as' : Args) (ds : List Dimension)
+f-wrong_dimension : (Q : Denoted → Type 0) (names : Names) (inside : Inside) (here : Context) (first : ℕ) (ms : TypedPart) (a : Attribute) (bracket : ℕ) (as' : Args) (ds : List Dimension)
     → ((fs : List Found) → Finds (Maybe Q) (one_dimension first bracket ms a ds (arg_names as') fs)) → Finds (Maybe Q) (bound_with names inside here first ms a bracket as' ds)
 f-wrong_dimension Q names inside here first ms a bracket as' [] m = f-fault Q first WrongType
 f-wrong_dimension Q names inside here first ms a bracket as' (d ∷ ds) m = f-where_clean Q (operands names inside here (Some []) as') _ (λ fs. f-given Q fs _ m)
@@ -304,7 +304,7 @@ t-many_bounds shapes names inside here bracket m n e f more l first ms a ds =
     many None fs = f-fault (Means (Value (bound a (dimension ds None)))) bracket WrongType
     many (Some t) fs = f-fault (Means (Value (bound a (dimension ds None)))) bracket WrongType
 
-t-of_array : (shapes : List Shape) (names : Names) (inside : Inside) (here : Context) (first : ℕ) (ms : Part) (a : Attribute) (bracket : ℕ) (as' : Args) (t : Subtype) (v : Option ℤ) → LevelTells shapes names inside → BoundsWith shapes names inside here bracket as' v
+t-of_array : (shapes : List Shape) (names : Names) (inside : Inside) (here : Context) (first : ℕ) (ms : TypedPart) (a : Attribute) (bracket : ℕ) (as' : Args) (t : Subtype) (v : Option ℤ) → LevelTells shapes names inside → BoundsWith shapes names inside here bracket as' v
     → Tells shapes (Naming (Value (bound a (dimension (dimensions shapes t) v)))) (if is_bound a then (read (λ log. dimensions_in log (Some t)) >>= bound_with names inside here first ms a bracket as') else wrong_call names inside here first as')
 t-of_array shapes names inside here first ms a bracket as' t v l m =
     let Q = Means (Value (bound a (dimension (dimensions shapes t) v))) in
@@ -318,7 +318,7 @@ t-of_array shapes names inside here first ms a bracket as' t v l m =
 
 -- ---- reductions of arrays
 
-f-array_reduction : (names : Names) (inside : Inside) (here : Context) (p : Place) (ss : Selections) (at : ℕ) (a : Attribute) (r v : Expr) → Finds (Naming nothing) (array_reduction names inside here p ss at a r v)
+f-array_reduction : (names : Names) (inside : Inside) (here : Context) (p : ObjectName) (ss : Selections) (at : ℕ) (a : Attribute) (r v : Expr) → Finds (Naming nothing) (array_reduction names inside here p ss at a r v)
 f-array_reduction names inside here p ss at a r v =
     f-then (Naming nothing) (site_where here p.first (is_parallel a)) _ (λ construct.
     f-then (Naming nothing) new_parameter _ (λ n.
@@ -335,20 +335,20 @@ f-array_reduction names inside here p ss at a r v =
 f-wrong_arguments : (names : Names) (inside : Inside) (here : Context) (bracket : ℕ) (as' : Args) → Finds (Naming nothing) (wrong_arguments names inside here bracket as')
 f-wrong_arguments names inside here bracket as' = f-where_clean (Means nothing) (args_alone names inside here as') _ (λ u. f-fault (Means nothing) bracket WrongType)
 
-f-array_reduced : (names : Names) (inside : Inside) (here : Context) (p : Place) (ss : Selections) (at : ℕ) (a : Attribute) (bracket : ℕ) (as' : Args) → Finds (Naming nothing) (array_reduced names inside here p ss at a bracket as')
+f-array_reduced : (names : Names) (inside : Inside) (here : Context) (p : ObjectName) (ss : Selections) (at : ℕ) (a : Attribute) (bracket : ℕ) (as' : Args) → Finds (Naming nothing) (array_reduced names inside here p ss at a bracket as')
 f-array_reduced names inside here p ss at a bracket (syntax.AlsoArg (syntax.arg None r) (syntax.AlsoArg (syntax.arg None v) syntax.NoArg)) = f-array_reduction names inside here p ss at a r v
 f-array_reduced names inside here p ss at a bracket as' = f-wrong_arguments names inside here bracket as'
 
 f-no_reduction : (Q : Denoted → Type 0) (names : Names) (inside : Inside) (here : Context) (at : ℕ) (as' : Args) → Finds (Maybe Q) (where_clean (args_alone names inside here as') (λ u. fault at ReduceRule))
 f-no_reduction Q names inside here at as' = f-where_clean Q (args_alone names inside here as') _ (λ u. f-fault Q at ReduceRule)
 
-f-reduced_object : (names : Names) (inside : Inside) (here : Context) (first : ℕ) (p : Place) (x : Part) (at : ℕ) (a : Attribute) (bracket : ℕ) (as' : Args) (b : Bool) → Finds (Naming nothing) (reduced_with names inside here first (prefix.Object p) x at a bracket as' b)
+f-reduced_object : (names : Names) (inside : Inside) (here : Context) (first : ℕ) (p : ObjectName) (x : TypedPart) (at : ℕ) (a : Attribute) (bracket : ℕ) (as' : Args) (b : Bool) → Finds (Naming nothing) (reduced_with names inside here first (prefix.Object p) x at a bracket as' b)
 f-reduced_object names inside here first p x at a bracket as' true = f-array_reduced names inside here p (selections_of x) at a bracket as'
 f-reduced_object names inside here first p x at a bracket as' false = f-no_reduction (Means nothing) names inside here at as'
 
 -- ---- attributes with a bracket
 
-t-object_with : (shapes : List Shape) (names : Names) (inside : Inside) (here : Context) (first : ℕ) (p : Place) (x : Part) (at : ℕ) (a : Attribute) (bracket : ℕ) (as' : Args) (v : Option ℤ) → LevelTells shapes names inside → BoundsWith shapes names inside here bracket as' v
+t-object_with : (shapes : List Shape) (names : Names) (inside : Inside) (here : Context) (first : ℕ) (p : ObjectName) (x : TypedPart) (at : ℕ) (a : Attribute) (bracket : ℕ) (as' : Args) (v : Option ℤ) → LevelTells shapes names inside → BoundsWith shapes names inside here bracket as' v
     → Tells shapes (Naming (Value (bound a (dimension (dimensions shapes p.subtype) v)))) (attribute_with names inside here first (prefix.Object p) x at a bracket as')
 t-object_with shapes names inside here first p x at attribute'.Reduce bracket as' v l m =
     t-of shapes (Naming nothing) _ (k-attribute_with walk names inside here first (prefix.Object p) x at attribute'.Reduce bracket as' tt l.keeps)
@@ -358,7 +358,7 @@ t-object_with shapes names inside here first p x at attribute'.ParallelReduce br
     (f-then (Naming nothing) (read (λ log. is_array_object log (prefix.Object p))) _ (λ b. f-reduced_object names inside here first p x at attribute'.ParallelReduce bracket as' b))
 t-object_with shapes names inside here first p x at a bracket as' v l m = t-of_array shapes names inside here first (mentioned (prefix.Object p) x) a bracket as' p.subtype v l m
 
-t-array_with : (shapes : List Shape) (names : Names) (inside : Inside) (here : Context) (first n : ℕ) (x : Part) (at : ℕ) (a : Attribute) (bracket : ℕ) (as' : Args) (v : Option ℤ) → LevelTells shapes names inside → BoundsWith shapes names inside here bracket as' v
+t-array_with : (shapes : List Shape) (names : Names) (inside : Inside) (here : Context) (first n : ℕ) (x : TypedPart) (at : ℕ) (a : Attribute) (bracket : ℕ) (as' : Args) (v : Option ℤ) → LevelTells shapes names inside → BoundsWith shapes names inside here bracket as' v
     → Tells shapes (Naming (Value (bound a (dimension (dimensions shapes (subtype.Composite n)) v)))) (attribute_with names inside here first (prefix.Type (subtype.Composite n)) x at a bracket as')
 t-array_with shapes names inside here first n x at attribute'.Reduce bracket as' v l m =
     t-of shapes (Naming nothing) _ (k-attribute_with walk names inside here first (prefix.Type (subtype.Composite n)) x at attribute'.Reduce bracket as' tt l.keeps)
@@ -368,17 +368,17 @@ t-array_with shapes names inside here first n x at attribute'.ParallelReduce bra
     (f-then (Naming nothing) (read (λ log. is_array_object log (prefix.Type (subtype.Composite n)))) _ (λ b. f-no_reduction (Means nothing) names inside here at as'))
 t-array_with shapes names inside here first n x at a bracket as' v l m = t-of_array shapes names inside here first part.Nothing a bracket as' (subtype.Composite n) v l m
 
-f-scalar_type_with : (names : Names) (inside : Inside) (here : Context) (first : ℕ) (s : Scalar) (x : Part) (at : ℕ) (a : Attribute) (bracket : ℕ) (as' : Args) → Finds (Naming nothing) (attribute_with names inside here first (prefix.Type (subtype.Scalar s)) x at a bracket as')
+f-scalar_type_with : (names : Names) (inside : Inside) (here : Context) (first : ℕ) (s : Scalar) (x : TypedPart) (at : ℕ) (a : Attribute) (bracket : ℕ) (as' : Args) → Finds (Naming nothing) (attribute_with names inside here first (prefix.Type (subtype.Scalar s)) x at a bracket as')
 f-scalar_type_with names inside here first s x at a bracket as' =
     f-if (Naming nothing) (is_reduction a) _ (scalar_with names inside here first s a bracket as')
     (λ e. f-then (Naming nothing) (read (λ log. is_array_object log (prefix.Type (subtype.Scalar s)))) _ (λ b. f-no_reduction (Means nothing) names inside here at as'))
     (f-scalar_with names inside here first s a bracket as')
 
-f-other_with : (names : Names) (inside : Inside) (here : Context) (first : ℕ) (ms : Part) (a : Attribute) (bracket : ℕ) (as' : Args) → Finds (Naming nothing) (if is_bound a then (read (λ log. dimensions_in log None) >>= bound_with names inside here first ms a bracket as') else wrong_call names inside here first as')
+f-other_with : (names : Names) (inside : Inside) (here : Context) (first : ℕ) (ms : TypedPart) (a : Attribute) (bracket : ℕ) (as' : Args) → Finds (Naming nothing) (if is_bound a then (read (λ log. dimensions_in log None) >>= bound_with names inside here first ms a bracket as') else wrong_call names inside here first as')
 f-other_with names inside here first ms a bracket as' =
     f-if (Naming nothing) (is_bound a) _ (wrong_call names inside here first as') (λ e. record { at = λ log. tt }) (f-wrong_call (Means nothing) names inside here first as')
 
-f-nothing_with : (names : Names) (inside : Inside) (here : Context) (first : ℕ) (p : Prefix) (x : Part) (at : ℕ) (a : Attribute) (bracket : ℕ) (as' : Args)
+f-nothing_with : (names : Names) (inside : Inside) (here : Context) (first : ℕ) (p : Prefix) (x : TypedPart) (at : ℕ) (a : Attribute) (bracket : ℕ) (as' : Args)
     → ((b : Bool) → Finds (Naming nothing) (reduced_with names inside here first p x at a bracket as' b)) → Finds (Naming nothing) (other_with names inside here first p x at a bracket as')
     → Finds (Naming nothing) (attribute_with names inside here first p x at a bracket as')
 f-nothing_with names inside here first p x at a bracket as' m n =
@@ -386,7 +386,7 @@ f-nothing_with names inside here first p x at a bracket as' m n =
 
 -- ---- what follows an identifier
 
-t-call_form : (shapes : List Shape) (names : Names) (inside : Inside) (here : Context) (bracket : ℕ) (as' : Args) (v : Option ℤ) (k : KnownDenoted) (x : Part) → LevelTells shapes names inside → BoundsWith shapes names inside here bracket as' v
+t-call_form : (shapes : List Shape) (names : Names) (inside : Inside) (here : Context) (bracket : ℕ) (as' : Args) (v : Option ℤ) (k : KnownDenoted) (x : TypedPart) → LevelTells shapes names inside → BoundsWith shapes names inside here bracket as' v
     → Tells shapes (Naming (after_bracket (there names here shapes) v (meant k))) (call_form names inside here bracket as' k x)
 t-call_form shapes names inside here bracket as' v (denoted.Value (known.Object p)) x l m = t-object_call shapes names inside here p x bracket as' p.subtype v p.value l
 t-call_form shapes names inside here bracket as' v (denoted.Type first t) x l m = t-of shapes (Naming nothing) _ (k-conversion walk names inside here bracket first t as' tt l.keeps) (f-conversion names inside here bracket first t as')
@@ -470,7 +470,7 @@ t-next_part shapes names inside here None p s l h =
     t-of shapes (Naming (after_part (there names here shapes) s p)) _ (k-part_alone walk names inside here p tt l.keeps) (f-part_alone (Means (after_part (there names here shapes) s p)) names inside here p)
 t-next_part shapes names inside here (Some d) p s l h = t-part_of shapes names inside here p d s l h
 
-t-parts : (shapes : List Shape) (names : Names) (inside : Inside) (here : Context) (d : Option Denoted) (ps : Parts) (s : Standing) → LevelTells shapes names inside → Naming s d → Tells shapes (Naming (after_parts (there names here shapes) s ps)) (parts names inside here d ps)
+t-parts : (shapes : List Shape) (names : Names) (inside : Inside) (here : Context) (d : Option Denoted) (ps : NameParts) (s : Standing) → LevelTells shapes names inside → Naming s d → Tells shapes (Naming (after_parts (there names here shapes) s ps)) (parts names inside here d ps)
 t-parts shapes names inside here d syntax.NoPart s l h = t-pure shapes (Naming s) d h
 t-parts shapes names inside here d (syntax.AlsoPart p ps) s l h =
     let a = there names here shapes in
@@ -490,7 +490,7 @@ t-name shapes names inside here (syntax.name first ps) l =
     t-bind shapes (Naming t) (Naming (settled shapes t)) (parts names inside here d ps) _ (t-parts shapes names inside here d ps s l q) (λ e r.
     t-given shapes (Means t) (Means (settled shapes t)) e settled_attribute r (λ f u. t-settled shapes f t u)))
 
-t-valued_form : (shapes : List Shape) (names : Names) (inside : Inside) (here : Context) (k : KnownDenoted) (x : Part) → LevelTells shapes names inside → BareName k x → Tells shapes (Naming (meant k)) (valued_form names inside here k x)
+t-valued_form : (shapes : List Shape) (names : Names) (inside : Inside) (here : Context) (k : KnownDenoted) (x : TypedPart) → LevelTells shapes names inside → BareName k x → Tells shapes (Naming (meant k)) (valued_form names inside here k x)
 t-valued_form shapes names inside here (denoted.Sub first last n) x l b = t-of shapes (Naming nothing) _ (k-sub_call walk names inside here first first last n syntax.NoArg tt l.keeps) (f-sub_call names inside here first first last n syntax.NoArg)
 t-valued_form shapes names inside here (denoted.Io first last p r) x l b = t-of shapes (Naming nothing) _ (k-io_call walk names inside here first first last p r syntax.NoArg tt l.keeps) (f-io_call names inside here first first last p r syntax.NoArg)
 t-valued_form shapes names inside here k x l b = t-pure shapes (Naming (meant k)) (Some (denote k x)) (record { meaning = refl; bare = b })
@@ -503,7 +503,7 @@ value-meant : (f : Known) → value_of f ≡ value_in (meant (denoted.Value f))
 value-meant (known.Object p) = refl
 value-meant f = refl
 
-f-value_form : (k : KnownDenoted) (x : Part) → BareName k x → Finds (Finding (value_in (meant k))) (value_form k x)
+f-value_form : (k : KnownDenoted) (x : TypedPart) → BareName k x → Finds (Finding (value_in (meant k))) (value_form k x)
 f-value_form (denoted.Value f) x b = f-some (Is (value_in (meant (denoted.Value f)))) (record { known = f; part = x }) (record { value = λ e. value-meant f; bare = b })
 f-value_form (denoted.Parameter first s) x b = f-some (Is None) (parameter_found first s x) (record { value = λ e. refl; bare = b })
 f-value_form k x b = f-fault (Is (value_in (meant k))) (denoted_first k) WrongType

@@ -4,7 +4,7 @@ use Rattle.ada_base.specs.declared.operation.Op.TheVariants as op
 use Rattle.ada_base.specs.declared.operation.Op.{Op}
 use Rattle.typed_tree.specs.declared.expressions.Sign.TheVariants as sign
 use Rattle.typed_tree.specs.declared.expressions.Sign.{Sign}
-use Rattle.typed_tree.specs.Decoded.{Part as TypedPart, as_expr}
+use Rattle.typed_tree.specs.Decoded.{TypedPart, as_expr}
 use Rattle.name_rules.specs.Found.{Found, opened, scalar, static, universal}
 use Rattle.name_rules.specs.Judging.{Judging, fault, pure, some}
 use Rattle.name_rules.specs.Operators.{both_mentions, by_kinds, open_binary, open_of, open_power, open_two, open_unary, operand_blamed, operation, operation_by, operation_on, plain, plain_by, plain_open, plain_typed, power, power_to, signed, static_of, static_operation, static_power, static_universal, typed_operation, unary, unary_by, unary_open, unary_typed, universal_by, universal_operation, universal_power, universal_to}
@@ -14,7 +14,7 @@ use Rattle.name_rules.specs.TypedParts.{selections_of}
 use Rattle.name_rules.specs.declared.found.Found.TheVariants as known
 use Rattle.name_rules.specs.declared.found.Found.{Found as Known}
 use Rattle.name_rules.specs.declared.found.Limits.{Limits}
-use Rattle.name_rules.specs.declared.found.Place.{Place}
+use Rattle.name_rules.specs.declared.found.ObjectName.{ObjectName}
 use Rattle.name_rules.specs.declared.log.Rule.TheVariants.{StaticRange, WrongType}
 use Rattle.name_rules.specs.declared.types.Kind.TheVariants as kind
 use Rattle.name_rules.specs.declared.types.Kind.{Kind}
@@ -215,7 +215,7 @@ f-power at x y v w p q = f-both-of (Is v) (Is w) (Is (computed op.Pow v w)) x y 
 abbrev pub Leaves : Option ℤ → TypedPart → Type 0
 Leaves v x = static_in (as_expr x) ≡ v
 
-object-left : (p : Place) (ss : Selections) (s : Scalar) (v : Option ℤ) → Leaves v (object_value p ss s v)
+object-left : (p : ObjectName) (ss : Selections) (s : Scalar) (v : Option ℤ) → Leaves v (object_value p ss s v)
 object-left p ss s (Some z) = refl
 object-left p ss s None = by p.variable
   where
@@ -223,7 +223,7 @@ object-left p ss s None = by p.variable
     by true = refl
     by false = refl
 
-f-place_asked : (k : Kind) (p : Place) (ss : Selections) (s : Subtype) (v : Option ℤ) → (is_some (kind_in (place_scalar s)) ≡ true → p.value ≡ v) → Finds (Maybe (Leaves v)) (place_asked k p ss s)
+f-place_asked : (k : Kind) (p : ObjectName) (ss : Selections) (s : Subtype) (v : Option ℤ) → (is_some (kind_in (place_scalar s)) ≡ true → p.value ≡ v) → Finds (Maybe (Leaves v)) (place_asked k p ss s)
 f-place_asked k p ss (subtype.Composite n) v h = f-fault (Leaves v) p.first WrongType
 f-place_asked k p ss (subtype.Scalar s) v h =
     f-if (Maybe (Leaves v)) (same s.kind k) (some (object_value p ss s p.value)) (fault p.first WrongType)

@@ -23,7 +23,7 @@ use Rattle.syntax_tree.specs.Syntax as syntax
 use Rattle.syntax_tree.specs.Syntax.{Elsifs, Expr, Primary}
 use Rattle.typed_tree.specs.Syntax as typed
 use Rattle.std.specs.Prelude.{List, None, Option, Some, false, suc, true, zero, ℕ, ℤ}
-use Rattle.typed_tree.specs.Decoded.{Part as TypedPart, as_expr}
+use Rattle.typed_tree.specs.Decoded.{TypedPart, as_expr}
 use Rattle.std.proofs.Common.{◌≡◌, refl, sym, subst, true≢false}
 use Rattle.std.specs.Prelude.{is_some}
 use Rattle.name_rules.specs.Primaries as primaries
@@ -45,7 +45,7 @@ use Rattle.name_rules.specs.Judging.{joined}
 use Rattle.name_rules.specs.TypedParts.{selections_of}
 use Rattle.name_rules.specs.Types.{check_at, same, wanted_of}
 use Rattle.name_rules.specs.Values.{asked_form, first_of, is_number, kind_in, object_value, place_asked, place_scalar, static_integer, static_value, stored}
-use Rattle.name_rules.specs.declared.found.Place.{Place}
+use Rattle.name_rules.specs.declared.found.ObjectName.{ObjectName}
 use Rattle.name_rules.specs.declared.log.Rule.TheVariants.{NotStatic}
 use Rattle.name_rules.specs.declared.types.Scalar.{Scalar}
 use Rattle.name_laws.proofs.KeepsValues.{k-stored}
@@ -161,7 +161,7 @@ f-scalar_asked k f = by f.known f.part
     Scalars : Known → TypedPart → Type 0
     Scalars g x = is_scalar g ≡ true
 
-    object : (p : Place) (ss : Selections) (s : Subtype) → Finds (Maybe (λ x. is_some (kind_in (place_scalar s)) ≡ true)) (place_asked k p ss s)
+    object : (p : ObjectName) (ss : Selections) (s : Subtype) → Finds (Maybe (λ x. is_some (kind_in (place_scalar s)) ≡ true)) (place_asked k p ss s)
     object p ss (subtype.Scalar s) = f-if (Maybe (λ x. is_some (kind_in (place_scalar (subtype.Scalar s))) ≡ true)) (same s.kind k) (some (object_value p ss s p.value)) (fault p.first WrongType) (λ e. f-some (λ x. is_some (kind_in (place_scalar (subtype.Scalar s))) ≡ true) (object_value p ss s p.value) refl) (f-fault (λ x. is_some (kind_in (place_scalar (subtype.Scalar s))) ≡ true) p.first WrongType)
     object p ss (subtype.Composite m) = f-fault (λ x. is_some (kind_in (place_scalar (subtype.Composite m))) ≡ true) p.first WrongType
 

@@ -19,7 +19,7 @@ use Rattle.ada_base.specs.declared.reason.Reason.TheVariants as reason
 use Rattle.std.proofs.Common.{◌≡◌, refl, ℕ, List, [], ◌∷◌, Option, Some, None, ◌&&◌, Bool, true, false, option_map, pos, if◌then◌else◌, ◌==◌, nat_le, length}
 use Rattle.std.specs.Prelude.{is_some, not, ◌||◌, Bool, Option, false, if◌then◌else◌, nat_le, option_map, true, ℕ, ◌&&◌}
 use Rattle.ada_base.specs.declared.operation.Op.{Op}
-use Rattle.typed_tree.specs.Decoded.{Part, as_chunk, as_expr, as_iteration, as_actual, as_actuals, as_value, as_stmt, Part as TypedPart}
+use Rattle.typed_tree.specs.Decoded.{TypedPart, as_chunk, as_expr, as_iteration, as_actual, as_actuals, as_value, as_stmt}
 use Rattle.typed_tree.specs.declared.expressions.Reducer.{Reducer}
 use Rattle.name_rules.specs.Calls.{gives_in, profile_in, takes_in, arg_names, operands, arguments, begun_call, call_given, complete, conversion, conversion_of, converted, one_operand, sub_call}
 use Rattle.name_rules.specs.Found.{Found, scalar, Denoted, denote, opened, value_denoted}
@@ -36,7 +36,7 @@ use Rattle.name_rules.specs.declared.log.Taken.{Taken}
 use Rattle.name_rules.specs.declared.types.Kind.{Kind}
 use Rattle.name_rules.specs.declared.types.Scalar.{Scalar}
 use Rattle.name_rules.specs.declared.types.Subtype.{Subtype}
-use Rattle.syntax_tree.specs.Syntax.{Args, Elsifs, Expr, Iter, Name, OptionalParallel, Parts, Primary, Arg}
+use Rattle.syntax_tree.specs.Syntax.{Args, Elsifs, Expr, Iter, Name, OptionalParallel, NameParts, Primary, Arg}
 use Rattle.typed_tree.specs.Syntax.{Selections, Expr as TypedExpr, Actuals}
 use Rattle.name_rules.specs.Attributes.{attribute_at, extreme, first_named, image_text, object_image, one_argument, one_given, one_named, scalar_bound, scalar_with, step, stepped, two_arguments_of, two_given, two_named}
 use Rattle.name_rules.specs.Expressions.{Inside, condition, expr}
@@ -49,7 +49,7 @@ use Rattle.name_rules.specs.Symbols.{symbol, ada_name, data_error_name, end_erro
 use Rattle.name_rules.specs.TypedParts.{left_of, right_of, selections_of}
 use Rattle.name_rules.specs.declared.found.Attribute.{Attribute}
 use Rattle.name_rules.specs.declared.found.Found.{Found as Known}
-use Rattle.name_rules.specs.declared.found.Place.{Place}
+use Rattle.name_rules.specs.declared.found.ObjectName.{ObjectName}
 use Rattle.name_rules.specs.declared.scope.Context.{Context}
 use Rattle.name_rules.specs.declared.scope.Names.{Names}
 use Rattle.name_rules.specs.declared.types.Wanted.{Wanted}
@@ -77,7 +77,7 @@ f-wrong_call Q names inside here first as' = f-where_clean Q (args_alone names i
 scalar-means : (first : ℕ) (k : Kind) (n : Option Scalar) (e : TypedExpr) → static_in e ≡ None → Means nothing (value_denoted (scalar first k n e))
 scalar-means first k n e h = record { meaning = refl; bare = h }
 
-done-means : (first : ℕ) (x : Part) → Means nothing (denote (denoted.Done first) x)
+done-means : (first : ℕ) (x : TypedPart) → Means nothing (denote (denoted.Done first) x)
 done-means first x = record { meaning = refl; bare = tt }
 
 -- ---- predefined names
@@ -117,7 +117,7 @@ f-selected names here first library token =
 
 -- ---- calls and conversions
 
-call-given : (first last n : ℕ) (s : Option Scalar) (xs : Part) → Means nothing (call_given first last n s xs)
+call-given : (first last n : ℕ) (s : Option Scalar) (xs : TypedPart) → Means nothing (call_given first last n s xs)
 call-given first last n None xs = done-means first _
 call-given first last n (Some s) xs = scalar-means first s.kind (Some s) (typed.Call first last n (as_actuals (turned xs))) refl
 
@@ -164,12 +164,12 @@ f-put_of_text at first last reach more f =
     f-if (Naming nothing) reach.text_io (text_call at first last false more f) _ (λ e. f-text_call at first last false more f)
     (f-if (Naming nothing) reach.expanded (fault (first_of f.known) WrongType) (fault first NotVisible) (λ e. f-fault (Means nothing) (first_of f.known) WrongType) (f-fault (Means nothing) first NotVisible))
 
-f-get_place : (first last : ℕ) (p : Place) (ss : Selections) (t : Subtype) → Finds (Naming nothing) (get_place first last p ss t)
+f-get_place : (first last : ℕ) (p : ObjectName) (ss : Selections) (t : Subtype) → Finds (Naming nothing) (get_place first last p ss t)
 f-get_place first last p ss (subtype.Scalar s) =
     f-if (Naming nothing) (p.variable && same s.kind kind.Integer) _ (fault p.first WrongType) (λ e. f-some (Means nothing) _ (done-means first _)) (f-fault (Means nothing) p.first WrongType)
 f-get_place first last p ss (subtype.Composite n) = f-fault (Means nothing) p.first WrongType
 
-f-get_of : (first last : ℕ) (f : Known) (x : Part) → Finds (Naming nothing) (get_of first last f x)
+f-get_of : (first last : ℕ) (f : Known) (x : TypedPart) → Finds (Naming nothing) (get_of first last f x)
 f-get_of first last (known.Object p) x = f-get_place first last p (selections_of x) p.subtype
 f-get_of first last f x = f-fault (Means nothing) (first_of f) WrongType
 
@@ -250,7 +250,7 @@ f-scalar_with names inside here first s attribute'.Range bracket as' = f-bound_c
 f-scalar_with names inside here first s attribute'.Reduce bracket as' = f-bound_called names inside here first s attribute'.Reduce as'
 f-scalar_with names inside here first s attribute'.ParallelReduce bracket as' = f-bound_called names inside here first s attribute'.ParallelReduce as'
 
-pub f-object_image : (first : ℕ) (p : Place) (x : Part) (t : Subtype) → Finds (Naming nothing) (object_image first p x t)
+pub f-object_image : (first : ℕ) (p : ObjectName) (x : TypedPart) (t : Subtype) → Finds (Naming nothing) (object_image first p x t)
 f-object_image first p x (subtype.Scalar s) = f-one_given s.kind (image_text first s.kind) (record { known = known.Object p; part = x }) (λ y. image-means first s.kind y)
 f-object_image first p x (subtype.Composite n) = f-fault (Means nothing) first WrongType
 
@@ -270,37 +270,37 @@ plain-scalar first k n e h = record { is = scalar-is first k n e h; unnamed = re
 plain-open : (first : ℕ) (l : Limits) (e : TypedExpr) → ((c : Class) → static_in (with_class c e) ≡ None) → Plain (opened first l e)
 plain-open first l e h = record { is = open-is first l e h; unnamed = refl }
 
-f-reduced : (g : Going) (c i : Part) (k j : Kind) (r : Reducer) (x v : Found) → Finds (Maybe Plain) (reduced g c i k j r x v)
+f-reduced : (g : Going) (c i : TypedPart) (k j : Kind) (r : Reducer) (x v : Found) → Finds (Maybe Plain) (reduced g c i k j r x v)
 unfolding reduced
 f-reduced g c i k j r x v =
     f-then (Maybe Plain) (asked k x) _ (λ e. f-then (Maybe Plain) (asked j v) _ (λ f.
     f-both Plain e f _ (λ value initial. f-some Plain _ (plain-scalar g.at j None (reduction g c i r value initial) refl))))
 
-f-of_kind : (g : Going) (c i : Part) (at : ℕ) (o : Op) (k : Kind) (x v : Found) → Finds (Maybe Plain) (of_kind g c i at o k x v)
+f-of_kind : (g : Going) (c i : TypedPart) (at : ℕ) (o : Op) (k : Kind) (x v : Found) → Finds (Maybe Plain) (of_kind g c i at o k x v)
 f-of_kind g c i at o k x v = f-if (Maybe Plain) (suits k x.known && suits k v.known) _ (fault at ReduceRule) (λ e. f-reduced g c i k k (reducer'.Operator at o (class_of k)) x v) (f-fault Plain at ReduceRule)
 
-f-numeric : (g : Going) (c i : Part) (at : ℕ) (o : Op) (x v : Found) (k j : Option Kind) → Finds (Maybe Plain) (numeric g c i at o x v k j)
+f-numeric : (g : Going) (c i : TypedPart) (at : ℕ) (o : Op) (x v : Found) (k j : Option Kind) → Finds (Maybe Plain) (numeric g c i at o x v k j)
 f-numeric g c i at o x v None None = f-pure (Maybe Plain) _ (paired Plain (open_reduction g c i at o) (open_of x) (open_of v) (λ a b. plain-open g.at (joint a.0 b.0) (reduction g c i (reducer'.Operator at o class.Universal) a.1 b.1) (λ d. refl)))
 f-numeric g c i at o x v (Some k) j = f-of_kind g c i at o k x v
 f-numeric g c i at o x v None (Some k) = f-of_kind g c i at o k x v
 
-f-by_operator : (g : Going) (c i : Part) (at : ℕ) (o : Op) (x v : Found) → Finds (Maybe Plain) (by_operator g c i at o x v)
+f-by_operator : (g : Going) (c i : TypedPart) (at : ℕ) (o : Op) (x v : Found) → Finds (Maybe Plain) (by_operator g c i at o x v)
 f-by_operator g c i at o x v =
     f-if (Maybe Plain) (is_logical o) (of_kind g c i at o kind.Boolean x v) _ (λ e. f-of_kind g c i at o kind.Boolean x v)
     (f-if (Maybe Plain) (is_number x.known && is_number v.known) (numeric g c i at o x v (kind_of x.known) (kind_of v.known)) (fault at ReduceRule) (λ e. f-numeric g c i at o x v (kind_of x.known) (kind_of v.known)) (f-fault Plain at ReduceRule))
 
-f-by_subtypes : (g : Going) (c i : Part) (at n : ℕ) (result : Kind) (s t : Subtype) (x v : Found) → Finds (Maybe Plain) (by_subtypes g c i at n result s t x v)
+f-by_subtypes : (g : Going) (c i : TypedPart) (at n : ℕ) (result : Kind) (s t : Subtype) (x v : Found) → Finds (Maybe Plain) (by_subtypes g c i at n result s t x v)
 f-by_subtypes g c i at n result (subtype.Scalar a) (subtype.Scalar b) x v =
     f-if (Maybe Plain) (same result a.kind && suits b.kind x.known && suits a.kind v.known && (not (is_some g.site) || same a.kind b.kind)) _ (fault at ReduceRule)
     (λ e. f-reduced g c i b.kind a.kind (reducer'.Function at n (typed_scalar a) (typed_scalar b)) x v) (f-fault Plain at ReduceRule)
 f-by_subtypes g c i at n result (subtype.Scalar a) (subtype.Composite m) x v = f-fault Plain at ReduceRule
 f-by_subtypes g c i at n result (subtype.Composite m) t x v = f-fault Plain at ReduceRule
 
-f-by_function : (g : Going) (c i : Part) (at n : ℕ) (ts : List Taken) (s : Option Scalar) (x v : Found) → Finds (Maybe Plain) (by_function g c i at n ts s x v)
+f-by_function : (g : Going) (c i : TypedPart) (at n : ℕ) (ts : List Taken) (s : Option Scalar) (x v : Found) → Finds (Maybe Plain) (by_function g c i at n ts s x v)
 f-by_function g c i at n (a ∷ b ∷ []) (Some s) x v = f-by_subtypes g c i at n s.kind a.subtype b.subtype x v
 f-by_function g c i at n ts s x v = f-fault Plain at ReduceRule
 
-pub f-folded_by : (g : Going) (c i : Part) (f : Folding) (x v : Found) → Finds (Maybe Plain) (folded_by g c i f x v)
+pub f-folded_by : (g : Going) (c i : TypedPart) (f : Folding) (x v : Found) → Finds (Maybe Plain) (folded_by g c i f x v)
 unfolding folded_by
 f-folded_by g c i (folding.Operator at o) x v = f-by_operator g c i at o x v
 f-folded_by g c i (folding.Extreme at o s) x v = f-of_kind g c i at o s.kind x v
@@ -357,7 +357,7 @@ AreSeveral (f ∷ fs) = Unit {0}
 abbrev Several : Waiting → Type 0
 Several w = AreSeveral w.known
 
-also-several : (w : Option Waiting) (x : Option Part) (f : Option Found) → Maybe Several (also_choice w x f)
+also-several : (w : Option Waiting) (x : Option TypedPart) (f : Option Found) → Maybe Several (also_choice w x f)
 also-several None x f = tt
 also-several (Some w) None f = tt
 also-several (Some w) (Some x) None = tt
@@ -373,13 +373,13 @@ f-alternatives names level here want made syntax.NoElsif h = f-pure (Maybe Sever
 f-alternatives names level here want made (syntax.AlsoElsif (syntax.elsif at c v) es) h =
     f-bind (Maybe Several) (Maybe Several) (alternative names level here want made c v) _ (f-alternative names level here want made c v) (λ d q. f-alternatives names level here want d es q)
 
-f-scalar_ifs : (k : Kind) (fs : List Known) (ps : Part) (o : Option Part) → Maybe (Leaves None) o → Finds (Maybe (Leaves None)) (scalar_ifs k fs ps o)
+f-scalar_ifs : (k : Kind) (fs : List Known) (ps : TypedPart) (o : Option TypedPart) → Maybe (Leaves None) o → Finds (Maybe (Leaves None)) (scalar_ifs k fs ps o)
 f-scalar_ifs k [] ps o h = f-pure (Maybe (Leaves None)) o h
 f-scalar_ifs k (f ∷ fs) ps o h =
     f-then (Maybe (Leaves None)) (asked k (record { known = f; part = right_of (left_of ps) })) _ (λ v.
     f-scalar_ifs k fs (right_of ps) (joined (if_part (left_of (left_of ps))) v o) (paired (Leaves None) (if_part (left_of (left_of ps))) v o (λ a b. refl)))
 
-f-some_ifs : (k : Kind) (fs : List Known) (ps : Part) (o : Option Part) → AreSeveral fs → Finds (Maybe (Leaves None)) (scalar_ifs k fs ps o)
+f-some_ifs : (k : Kind) (fs : List Known) (ps : TypedPart) (o : Option TypedPart) → AreSeveral fs → Finds (Maybe (Leaves None)) (scalar_ifs k fs ps o)
 f-some_ifs k [] ps o h = absurd h
 f-some_ifs k (f ∷ fs) ps o h =
     f-then (Maybe (Leaves None)) (asked k (record { known = f; part = right_of (left_of ps) })) _ (λ v.
@@ -391,7 +391,7 @@ f-scalar_if bracket k w f h =
     f-then (Finding None) (asked k f) _ (λ o.
     f-bind (Maybe (Leaves None)) (Finding None) (scalar_ifs k w.known w.part o) _ (f-some_ifs k w.known w.part o h) (λ e q. f-pure (Finding None) _ (with-part e q)))
   where
-    with-part : (e : Option Part) → Maybe (Leaves None) e → Finding None (option_map (with_known (known.Scalar bracket k None)) e)
+    with-part : (e : Option TypedPart) → Maybe (Leaves None) e → Finding None (option_map (with_known (known.Scalar bracket k None)) e)
     with-part None q = tt
     with-part (Some x) q = record { value = λ t. refl; bare = q }
 
@@ -401,22 +401,22 @@ f-composite_if bracket n w f =
     f-then (Finding None) (composite_asked n f) _ (λ o. f-then (Finding None) (composite_ifs n w.known w.part o) _ (λ c.
     f-pure (Finding None) _ (mapped (Is None) (with_known (known.Composite bracket n)) c (λ x. record { value = λ t. refl; bare = tt }))))
 
-abbrev OpenBare : Limits × Part → Type 0
+abbrev OpenBare : Limits × TypedPart → Type 0
 OpenBare o = (c : Class) → static_in (with_class c (as_expr o.1)) ≡ None
 
-open-more : (fs : List Known) (ps : Part) (o : Option (Limits × Part)) → Maybe OpenBare o → Maybe OpenBare (open_ifs fs ps o)
+open-more : (fs : List Known) (ps : TypedPart) (o : Option (Limits × TypedPart)) → Maybe OpenBare o → Maybe OpenBare (open_ifs fs ps o)
 open-more [] ps o h = h
 open-more (f ∷ fs) ps o h =
     open-more fs (right_of ps) (joined (open_part (left_of (left_of ps))) (open_of (record { known = f; part = right_of (left_of ps) })) o)
     (paired OpenBare (open_part (left_of (left_of ps))) (open_of (record { known = f; part = right_of (left_of ps) })) o (λ a b c. refl))
 
-open-some : (fs : List Known) (ps : Part) (o : Option (Limits × Part)) → AreSeveral fs → Maybe OpenBare (open_ifs fs ps o)
+open-some : (fs : List Known) (ps : TypedPart) (o : Option (Limits × TypedPart)) → AreSeveral fs → Maybe OpenBare (open_ifs fs ps o)
 open-some [] ps o h = absurd h
 open-some (f ∷ fs) ps o h =
     open-more fs (right_of ps) (joined (open_part (left_of (left_of ps))) (open_of (record { known = f; part = right_of (left_of ps) })) o)
     (paired OpenBare (open_part (left_of (left_of ps))) (open_of (record { known = f; part = right_of (left_of ps) })) o (λ a b c. refl))
 
-open-found : (bracket : ℕ) (o : Option (Limits × Part)) → Maybe OpenBare o → Finding None (option_map (open_if bracket) o)
+open-found : (bracket : ℕ) (o : Option (Limits × TypedPart)) → Maybe OpenBare o → Finding None (option_map (open_if bracket) o)
 open-found bracket None h = tt
 open-found bracket (Some o) h = record { value = λ t. refl; bare = h }
 

@@ -1,6 +1,6 @@
 -- Static values are those of whole expressions (4.9).
 use Rattle.syntax_tree.specs.Syntax.{Expr, Simple}
-use Rattle.typed_tree.specs.Decoded.{Part as TypedPart, as_expr}
+use Rattle.typed_tree.specs.Decoded.{TypedPart, as_expr}
 use Rattle.typed_tree.specs.Syntax as typed
 use Rattle.typed_tree.specs.Syntax.{Expr as TypedExpr}
 use Rattle.name_rules.specs.Declarations.{Initial, indicated, initial, static_number}

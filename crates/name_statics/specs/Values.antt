@@ -21,7 +21,7 @@ use Rattle.name_rules.specs.declared.types.Scalar.{Scalar}
 use Rattle.name_rules.specs.declared.types.Subtype.TheVariants as subtype
 use Rattle.name_rules.specs.declared.types.Subtype.{Subtype}
 use Rattle.syntax_tree.specs.Syntax as syntax
-use Rattle.syntax_tree.specs.Syntax.{Addings, Expr, Factor, Multiplyings, Name, Part, Parts, Primary, Rel, Simple, Term}
+use Rattle.syntax_tree.specs.Syntax.{Addings, Expr, Factor, Multiplyings, Name, NamePart, NameParts, Primary, Rel, Simple, Term}
 use Rattle.syntax_tree.specs.declared.operators.Additive.TheVariants as additive
 use Rattle.syntax_tree.specs.declared.operators.Sign.TheVariants as sign
 use Rattle.syntax_tree.specs.declared.operators.Sign.{Sign}
@@ -173,11 +173,11 @@ abbrev mutual
   pub name_value : Around → Name → Option ℤ
   name_value a (syntax.name first ps) = value_in (alone a.shapes (after_parts a (declared (lookup (symbol a.names first) a.scope)) ps))
 
-  pub after_parts : Around → Standing → Parts → Standing
+  pub after_parts : Around → Standing → NameParts → Standing
   after_parts a s syntax.NoPart = s
   after_parts a s (syntax.AlsoPart p ps) = after_parts a (after_part a s p) ps
 
-  pub after_part : Around → Standing → Part → Standing
+  pub after_part : Around → Standing → NamePart → Standing
   after_part a s (syntax.Field at) = after_point a at s
   after_part a s (syntax.Call bracket (syntax.arg None e) syntax.NoArg) = after_bracket a (expr_value a e) s
   after_part a s (syntax.Call bracket e es) = after_bracket a None s

@@ -1,6 +1,6 @@
 -- The values of two static bounds, by what takes a type without its part.
 use Rattle.std.proofs.Common.{◌≡◌, refl, sym, ◌∙◌, ℤ, Option, Some, None}
-use Rattle.typed_tree.specs.Decoded.{Part}
+use Rattle.typed_tree.specs.Decoded.{TypedPart}
 use Rattle.typed_tree.specs.declared.statements.Span.{Span}
 use Rattle.name_rules.specs.Judging.{given, some}
 use Rattle.name_rules.specs.Ranges.{both_static}
@@ -19,7 +19,7 @@ given-ends : (o : Option Span) (log : Log) → given o (λ p. some (p.low, p.hig
 given-ends None log = refl
 given-ends (Some p) log = refl
 
-pub static_taken : (k : Kind) (f g : Known) (x y : Part) (log : Log)
+pub static_taken : (k : Kind) (f g : Known) (x y : TypedPart) (log : Log)
     → both_static k (record { known = f; part = x }) (record { known = g; part = y }) log ≡ (ends_of (span_taken k f g log).0, (span_taken k f g log).1)
 static_taken k f g x y log =
     let r = both_static k (record { known = f; part = x }) (record { known = g; part = y }) log in

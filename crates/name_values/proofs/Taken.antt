@@ -1,6 +1,6 @@
 -- What judges static values without their parts judges as the rules do.
 use Rattle.std.proofs.Common.{◌≡◌, refl, sym, ℕ, ℤ, Bool, true, false, not, ◌&&◌, Option, Some, None, is_some, if◌then◌else◌}
-use Rattle.typed_tree.specs.Decoded.{Part, as_expr}
+use Rattle.typed_tree.specs.Decoded.{TypedPart, as_expr}
 use Rattle.typed_tree.specs.Syntax.{Expr, Selections}
 use Rattle.name_rules.specs.Judging.{Judging, both, fault, given, pure, some, ◌>>=◌}
 use Rattle.name_rules.specs.Ranges.{both_static, checked_span, preferred, spanned, static_bounds, static_checked}
@@ -9,7 +9,7 @@ use Rattle.name_rules.specs.TypedParts.{selections_of}
 use Rattle.name_rules.specs.Values.{asked, beyond, first_of, is_number, place_asked, settled, settled_by, static_of_kind, static_value, suits, value_of, valued}
 use Rattle.name_rules.specs.declared.found.Found.TheVariants as known
 use Rattle.name_rules.specs.declared.found.Found.{Found as Known}
-use Rattle.name_rules.specs.declared.found.Place.{Place}
+use Rattle.name_rules.specs.declared.found.ObjectName.{ObjectName}
 use Rattle.name_rules.specs.declared.log.Log.{Log}
 use Rattle.name_rules.specs.declared.log.Rule.{Rule}
 use Rattle.name_rules.specs.declared.log.Rule.TheVariants.{StaticRange, WrongType}
@@ -21,21 +21,21 @@ use Rattle.name_values.specs.Statics.{or_breaks, place_takes, span_of, span_take
 
 -- ---- what is judged of an expression that is asked for a type
 
-record Alike (o : Option Part) (l : Log) (b : Bool) (m : Log) : Type 0 where
+record Alike (o : Option TypedPart) (l : Log) (b : Bool) (m : Log) : Type 0 where
   is : is_some o ≡ b
   log : l ≡ m
 
-abbrev AlikeAt : Option Part × Log → Bool × Log → Type 0
+abbrev AlikeAt : Option TypedPart × Log → Bool × Log → Type 0
 AlikeAt p q = Alike p.0 p.1 q.0 q.1
 
-alike-if : (b : Bool) (a : Part) (at : ℕ) (r : Rule) (log : Log) → AlikeAt ((if b then some a else fault at r) log) (or_breaks b at r log)
+alike-if : (b : Bool) (a : TypedPart) (at : ℕ) (r : Rule) (log : Log) → AlikeAt ((if b then some a else fault at r) log) (or_breaks b at r log)
 alike-if true a at r log = record { is = refl; log = refl }
 alike-if false a at r log = record { is = refl; log = refl }
 
 alike-not : (at : ℕ) (r : Rule) (log : Log) → AlikeAt (fault at r log) (or_breaks false at r log)
 alike-not at r log = record { is = refl; log = refl }
 
-alike-integer : (b c : Bool) (a : Part) (at : ℕ) (r s : Rule) (log : Log)
+alike-integer : (b c : Bool) (a : TypedPart) (at : ℕ) (r s : Rule) (log : Log)
     → AlikeAt ((if b then (if c then some a else fault at r) else fault at s) log) ((if b then or_breaks c at r else or_breaks false at s) log)
 alike-integer true c a at r s log = alike-if c a at r log
 alike-integer false c a at r s log = alike-not at s log
@@ -49,11 +49,11 @@ alike-open : (b : Bool) (k : Kind) (e : Expr) (o : Option ℕ) (at : ℕ) (s : R
 alike-open true k e o at s log = alike-settled k e o log
 alike-open false k e o at s log = alike-not at s log
 
-alike-place : (k : Kind) (p : Place) (ss : Selections) (s : Subtype) (log : Log) → AlikeAt (place_asked k p ss s log) (place_takes k p s log)
+alike-place : (k : Kind) (p : ObjectName) (ss : Selections) (s : Subtype) (log : Log) → AlikeAt (place_asked k p ss s log) (place_takes k p s log)
 alike-place k p ss (subtype.Scalar s) log = alike-if (same s.kind k) _ p.first WrongType log
 alike-place k p ss (subtype.Composite n) log = alike-not p.first WrongType log
 
-alike : (k : Kind) (f : Known) (x : Part) (log : Log) → AlikeAt (asked k (record { known = f; part = x }) log) (takes k f log)
+alike : (k : Kind) (f : Known) (x : TypedPart) (log : Log) → AlikeAt (asked k (record { known = f; part = x }) log) (takes k f log)
 unfolding asked takes valued settled
 alike k (known.Universal first z alone) x log = alike-integer (is_integer k) (in_base k z) _ first StaticRange WrongType log
 alike k (known.Open first l) x log = alike-open (is_integer k) k (as_expr x) (beyond k l) first WrongType log
@@ -86,12 +86,12 @@ value-in k (known.Text first) log e = refl
 
 -- ---- one static value
 
-one-step : (o : Option Part) (l : Log) (b : Bool) (m : Log) (at : ℕ) (u w : Option ℤ) → Alike o l b m → (b ≡ true → w ≡ u)
+one-step : (o : Option TypedPart) (l : Log) (b : Bool) (m : Log) (at : ℕ) (u w : Option ℤ) → Alike o l b m → (b ≡ true → w ≡ u)
     → given o (λ x. static_value at u) l ≡ (if b then static_value at w else pure None) m
 one-step None l b m at u w a h = rw (sym a.is, a.log) refl
 one-step (Some x) l b m at u w a h = rw (h (sym a.is), sym a.is, a.log) refl
 
-pub one_taken : (k : Kind) (f : Known) (x : Part) (log : Log) → static_of_kind k (record { known = f; part = x }) log ≡ value_taken k f log
+pub one_taken : (k : Kind) (f : Known) (x : TypedPart) (log : Log) → static_of_kind k (record { known = f; part = x }) log ≡ value_taken k f log
 unfolding static_of_kind value_taken
 one_taken k f x log =
     let r = asked k (record { known = f; part = x }) log in
@@ -108,7 +108,7 @@ two-values m n None (Some j) next log = refl
 two-values m n (Some i) None next log = refl
 two-values m n (Some i) (Some j) next log = refl
 
-two-step : {A : Type 0} (o p : Option Part) (l : Log) (b c : Bool) (k : Log) (m n : ℕ) (u v w t : Option ℤ) (next : ℤ × ℤ → Judging (Option A))
+two-step : {A : Type 0} (o p : Option TypedPart) (l : Log) (b c : Bool) (k : Log) (m n : ℕ) (u v w t : Option ℤ) (next : ℤ × ℤ → Judging (Option A))
     → is_some o ≡ b → Alike p l c k → (b ≡ true → w ≡ u) → (c ≡ true → t ≡ v)
     → (both o p (λ e f. static_value m u >>= λ i. static_value n v >>= λ j. both i j (λ x y. some (x, y))) >>= λ s. given s next) l
     ≡ ((if b then (if c then (static_value m w >>= λ i. static_value n t >>= λ j. pure (span_of i j)) else pure None) else pure None) >>= λ s. given s (λ p. next (p.low, p.high))) k
@@ -117,7 +117,7 @@ two-step (Some x) None l b c k m n u v w t next e a h g = rw (sym e, sym a.is, a
 two-step (Some x) (Some y) l b c k m n u v w t next e a h g =
     rw (h (sym e), g (sym a.is), sym e, sym a.is, a.log) (two-values m n u v next k)
 
-pub both-taken : {A : Type 0} (k : Kind) (f g : Known) (x y : Part) (next : ℤ × ℤ → Judging (Option A)) (log : Log)
+pub both-taken : {A : Type 0} (k : Kind) (f g : Known) (x y : TypedPart) (next : ℤ × ℤ → Judging (Option A)) (log : Log)
     → (both_static k (record { known = f; part = x }) (record { known = g; part = y }) >>= λ s. given s next) log
     ≡ (span_taken k f g >>= λ s. given s (λ p. next (p.low, p.high))) log
 unfolding span_taken
@@ -138,7 +138,7 @@ if-first : {A : Type 0} (b : Bool) (p q s : Judging A) (log : Log) → p log ≡
 if-first true p q s log e = e
 if-first false p q s log e = refl
 
-pub bounds_taken : (first : ℕ) (must : Bool) (want : Option Kind) (f g : Known) (x y : Part) (log : Log)
+pub bounds_taken : (first : ℕ) (must : Bool) (want : Option Kind) (f g : Known) (x y : TypedPart) (log : Log)
     → static_bounds first must want (record { known = f; part = x }) (record { known = g; part = y }) log
     ≡ (if not (is_number f) then fault (first_of f) WrongType else
     if not (suits (preferred want f g) f && suits (preferred want f g) g) then fault (first_of g) WrongType else
@@ -149,7 +149,7 @@ bounds_taken first must want f g x y log =
     if-alike (not (is_number f)) _ _ _ log (if-alike (not (suits k f && suits k g)) _ _ _ log
     (both-taken k f g x y (spanned first must k (record { known = f; part = x }) (record { known = g; part = y })) log))
 
-pub checked_taken : (first : ℕ) (must : Bool) (t : Scalar) (f g : Known) (x y : Part) (log : Log)
+pub checked_taken : (first : ℕ) (must : Bool) (t : Scalar) (f g : Known) (x y : TypedPart) (log : Log)
     → static_checked first must t (record { known = f; part = x }) (record { known = g; part = y }) log
     ≡ (if is_integer t.kind then (span_taken t.kind f g >>= λ s. given s (λ p. checked_span first must t (record { known = f; part = x }) (record { known = g; part = y }) (p.low, p.high)))
     else fault first WrongType) log

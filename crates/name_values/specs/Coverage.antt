@@ -2,7 +2,7 @@
 use Rattle.std.specs.Prelude.{◌≡◌, ℕ, Bool, true, false, List, [], Option, Some, None, Result, Ok, Err, option_map, reverse}
 use Rattle.ada_base.specs.declared.reason.Reason.{Reason}
 use Rattle.syntax_tree.specs.Syntax.{Pack}
-use Rattle.typed_tree.specs.Decoded.{Part, as_reasons}
+use Rattle.typed_tree.specs.Decoded.{TypedPart, as_reasons}
 use Rattle.typed_tree.specs.Syntax as typed
 use Rattle.typed_tree.specs.Latest.{top, pop}
 use Rattle.name_rules.specs.Cases as cases
@@ -22,11 +22,11 @@ use Rattle.name_values.specs.declared.handled.Handling.{Handling}
 abbrev pub as_covering : Covering → cases.Covering
 as_covering c = record { ranges = reverse c.ranges; faulty = c.faulty; others = c.others }
 
-abbrev pub as_choosing : Choosing → Part → cases.Choosing
+abbrev pub as_choosing : Choosing → TypedPart → cases.Choosing
 as_choosing d p = record { spans = d.spans; others = d.others; mentions = p }
 
 -- it judges choices so, and leaves what they mention
-abbrev pub Covers : {E : Type 0} → (cases.Covering × cases.Choosing) × Log → List Part → Result (Unit {0}) E → Log → Covering → Choosing → List Part → Type 0
+abbrev pub Covers : {E : Type 0} → (cases.Covering × cases.Choosing) × Log → List TypedPart → Result (Unit {0}) E → Log → Covering → Choosing → List TypedPart → Type 0
 Covers outcome rest (Ok u) log c d now = (outcome ≡ ((as_covering c, as_choosing d (top now)), log)) × (pop now ≡ rest)
 Covers outcome rest (Err e) log c d now = Unit {0}
 
@@ -53,12 +53,12 @@ named_next names here n p = exception names here p >>= λ r. cases.named_once n 
 abbrev pub these_handled : Names → Context → List Reason → List Pack → Judging (List Reason × Option typed.Handled)
 these_handled names here seen ps = cases.named_reasons names here (record { seen = seen; named = Some [] }) ps >>= λ n. pure (n.seen, option_map typed.Reasons n.named)
 
-abbrev pub handled_of : Handling → Part → Option typed.Handled
+abbrev pub handled_of : Handling → TypedPart → Option typed.Handled
 handled_of handling.Faulty p = None
 handled_of handling.Others p = Some typed.Others
 handled_of handling.Reasons p = Some (typed.Reasons (as_reasons p))
 
 -- it judges so what a handler handles, and leaves its exceptions
-abbrev pub Handles : {E : Type 0} → (List Reason × Option typed.Handled) × Log → List Part → Result Handling E → Log → List Reason → List Part → Type 0
+abbrev pub Handles : {E : Type 0} → (List Reason × Option typed.Handled) × Log → List TypedPart → Result Handling E → Log → List Reason → List TypedPart → Type 0
 Handles outcome rest (Ok h) log seen now = (outcome ≡ ((reverse seen, handled_of h (top now)), log)) × (pop now ≡ rest)
 Handles outcome rest (Err e) log seen now = Unit {0}

@@ -1,6 +1,6 @@
 -- Static values (4.9) that take a type, without their parts; and the values of choices (3.8.1).
 use Rattle.std.specs.Prelude.{◌≡◌, ℕ, ℤ, Bool, true, false, List, Option, Some, None, Result, Ok, Err, if◌then◌else◌, option_map, ◌&&◌}
-use Rattle.typed_tree.specs.Decoded.{Part}
+use Rattle.typed_tree.specs.Decoded.{TypedPart}
 use Rattle.typed_tree.specs.declared.statements.Span.{Span}
 use Rattle.typed_tree.specs.Latest.{top, pop}
 use Rattle.name_rules.specs.Found.{Found}
@@ -11,7 +11,7 @@ use Rattle.name_rules.specs.Types.{in_base, is_integer, lies_in, same}
 use Rattle.name_rules.specs.Values.{beyond, first_of, static_value}
 use Rattle.name_rules.specs.declared.found.Found.TheVariants as known
 use Rattle.name_rules.specs.declared.found.Found.{Found as Known}
-use Rattle.name_rules.specs.declared.found.Place.{Place}
+use Rattle.name_rules.specs.declared.found.ObjectName.{ObjectName}
 use Rattle.name_rules.specs.declared.log.Log.{Log}
 use Rattle.name_rules.specs.declared.log.Rule.TheVariants.{StaticRange, WrongType}
 use Rattle.name_rules.specs.declared.log.Rule.{Rule}
@@ -27,7 +27,7 @@ abbrev pub or_breaks : Bool → ℕ → Rule → Judging Bool
 or_breaks true at r = pure true
 or_breaks false at r = breaks at r >>= λ u. pure false
 
-abbrev pub place_takes : Kind → Place → Subtype → Judging Bool
+abbrev pub place_takes : Kind → ObjectName → Subtype → Judging Bool
 place_takes k p (subtype.Scalar s) = or_breaks (same s.kind k) p.first WrongType
 place_takes k p (subtype.Composite n) = or_breaks false p.first WrongType
 
@@ -82,6 +82,6 @@ abbrev pub as_span : Chosen → ranges.Span'
 as_span c = record { at = c.at; low = c.low; high = c.high }
 
 -- it judges the values of a choice so, and leaves what they mention
-abbrev pub Chooses : {E : Type 0} → Option ranges.Chosen × Log → List Part → Result (Option Chosen) E → Log → List Part → Type 0
+abbrev pub Chooses : {E : Type 0} → Option ranges.Chosen × Log → List TypedPart → Result (Option Chosen) E → Log → List TypedPart → Type 0
 Chooses outcome rest (Ok r) log now = (outcome ≡ (found_of (option_map as_span r) (top now), log)) × (pop now ≡ rest)
 Chooses outcome rest (Err e) log now = Unit {0}

@@ -13,10 +13,10 @@ ghost use Rattle.typed_parts.specs.Stack.{parts};
 
 use crate::exact::{exact, signed};
 use crate::judge::{Finding, Judge};
-use crate::logs::{also_all, no_part, no_parts};
+use crate::logs::{also_all, no_part, no_parts, none_of_two};
 use crate::types::{class_of, in_base, same};
 use crate::values::{
-    asked, first_of, fitting, is_number, kind_of, literal, mentions, suits, value_of,
+    asked, asked_before, first_of, fitting, is_number, kind_of, literal, mentions, suits, value_of,
 };
 use ada_base::Op;
 use name_rules::found::{Found, Limits};
@@ -113,13 +113,10 @@ pub fn operation_on(
 ) -> Finding
     ensures { JudgesTwo (spec.operation_on op at left_kind right_kind) (found left) (found right) judge.old result judge.new }
 {
-    attempt!(judge.out.swap());
-    let x = attempt!(asked(judge, left_kind, left));
-    attempt!(judge.out.swap());
+    let x = attempt!(asked_before(judge, left_kind, left));
     let y = attempt!(asked(judge, right_kind, right));
     if !x || !y {
-        judge.out.leave_out();
-        return Ok(None);
+        return none_of_two(judge);
     }
     attempt!(judge.out.binary(at, op, class_of(left_kind)));
     Ok(Some(Found::Scalar {
@@ -210,17 +207,25 @@ pub fn open_of(out: &mut Parts, given: Found) -> Result<Option<Limits>, AllocErr
     }
 }
 
+/// A universal expression, in place of the part before the latest, which stays.
+pub fn open_before(out: &mut Parts, given: Found) -> Result<Option<Limits>, AllocError>
+    ensures opens { Opens (spec.open_of (found given (second (parts out.old)))) (pop (pop (parts out.old))) result (pop (parts out.new)) }
+    ensures stays { OnOk result (top (parts out.new) ≡ top (parts out.old)) }
+{
+    attempt!(out.swap());
+    let limits = attempt!(open_of(out, given));
+    attempt!(out.swap());
+    Ok(limits)
+}
+
 #[tactic(auto, unfolding(name_rules::specs::Operators::open_binary))]
 fn open_binary(judge: &mut Judge, op: Op, at: u32, left: Found, right: Found) -> Finding
     ensures { JudgesTwo (λ x y. pure (spec.open_binary op at x y)) (found left) (found right) judge.old result judge.new }
 {
-    attempt!(judge.out.swap());
-    let x = attempt!(open_of(&mut judge.out, left));
-    attempt!(judge.out.swap());
+    let x = attempt!(open_before(&mut judge.out, left));
     let y = attempt!(open_of(&mut judge.out, right));
     let (Some(x), Some(y)) = (x, y) else {
-        judge.out.leave_out();
-        return Ok(None);
+        return none_of_two(judge);
     };
     attempt!(judge.out.binary(at, op, Class::Universal));
     Ok(Some(Found::Open {
@@ -284,8 +289,7 @@ pub fn binary(
     ensures { JudgesTwo (spec.binary op at) (found_of left) (found_of right) judge.old result judge.new }
 {
     let (Some(left), Some(right)) = (left, right) else {
-        judge.out.leave_out();
-        return Ok(None);
+        return none_of_two(judge);
     };
     operation(judge, op, at, left, right)
 }
@@ -295,15 +299,10 @@ fn universal_power(judge: &mut Judge, at: u32, base: Found, exponent: Found) -> 
     ensures { JudgesTwo (spec.universal_power at) (found base) (found exponent) judge.old result judge.new }
 {
     if !attempt!(asked(judge, Kind::Integer, exponent)) {
-        judge.out.leave_out();
-        return Ok(None);
+        return none_of_two(judge);
     }
-    attempt!(judge.out.swap());
-    let x = attempt!(open_of(&mut judge.out, base));
-    attempt!(judge.out.swap());
-    let Some(limits) = x else {
-        judge.out.leave_out();
-        return Ok(None);
+    let Some(limits) = attempt!(open_before(&mut judge.out, base)) else {
+        return none_of_two(judge);
     };
     attempt!(judge.out.binary(at, Op::Pow, Class::Universal));
     Ok(Some(Found::Open {
@@ -357,8 +356,7 @@ pub fn power(judge: &mut Judge, at: u32, base: Option<Found>, exponent: Option<F
     ensures { JudgesTwo (spec.power at) (found_of base) (found_of exponent) judge.old result judge.new }
 {
     let (Some(base), Some(exponent)) = (base, exponent) else {
-        judge.out.leave_out();
-        return Ok(None);
+        return none_of_two(judge);
     };
     if is_number(base) && suits(Kind::Integer, exponent) {
         power_to(judge, at, base, exponent)

@@ -18,10 +18,10 @@ ghost use Rattle.typed_parts.specs.Stack.{parts};
 use crate::actuals::gives_in;
 use crate::judge::{Finding, Judge};
 use crate::logs::{breaks, no_part};
-use crate::operators::{joint, open_of};
+use crate::operators::{joint, open_before, open_of};
 use crate::symbols::{MAX, MIN, symbol};
 use crate::types::{class_of, same, typed_scalar};
-use crate::values::{asked, is_number, kind_of, suits};
+use crate::values::{asked, asked_before, is_number, kind_of, suits};
 use ada_base::Op;
 use name_rules::found::{Denoted, Folding, Found, Going};
 use name_rules::log::{Log, Rule, Taken};
@@ -155,9 +155,7 @@ fn reduced(
 ) -> Finding
     ensures { JudgesOn (pop (pop (pop (pop (parts judge.old.out))))) (spec.reduced going (fourth (parts judge.old.out)) (third (parts judge.old.out)) kind own by (found value (second (parts judge.old.out))) (found initial (top (parts judge.old.out)))) judge.old result judge.new }
 {
-    attempt!(judge.out.swap());
-    let x = attempt!(asked(judge, kind, value));
-    attempt!(judge.out.swap());
+    let x = attempt!(asked_before(judge, kind, value));
     let v = attempt!(asked(judge, own, initial));
     if !x || !v {
         not_reduced(&mut judge.out);
@@ -181,9 +179,7 @@ fn open_reduction(
 ) -> Finding
     ensures { JudgesOn (pop (pop (pop (pop (parts judge.old.out))))) (pure (joined (spec.open_reduction going (fourth (parts judge.old.out)) (third (parts judge.old.out)) at op) (operators.open_of (found value (second (parts judge.old.out)))) (operators.open_of (found initial (top (parts judge.old.out)))))) judge.old result judge.new }
 {
-    attempt!(judge.out.swap());
-    let x = attempt!(open_of(&mut judge.out, value));
-    attempt!(judge.out.swap());
+    let x = attempt!(open_before(&mut judge.out, value));
     let v = attempt!(open_of(&mut judge.out, initial));
     let (Some(x), Some(v)) = (x, v) else {
         not_reduced(&mut judge.out);

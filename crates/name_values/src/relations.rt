@@ -10,10 +10,10 @@ ghost use Rattle.typed_tree.specs.Latest.{pop, second};
 ghost use Rattle.typed_parts.specs.Stack.{parts};
 
 use crate::judge::{Finding, Judge};
-use crate::logs::{also_all, no_part, no_parts};
+use crate::logs::{also_all, no_part, no_parts, none_of_two};
 use crate::operators::operation_on;
 use crate::types::class_of;
-use crate::values::{asked, first_of, is_kind, is_scalar, kind_of, suits};
+use crate::values::{asked, asked_before, first_of, is_kind, is_scalar, kind_of, suits};
 use ada_base::{Comparison, Op};
 use name_rules::found::Found;
 use name_rules::log::Rule;
@@ -48,8 +48,7 @@ pub fn joined_text(judge: &mut Judge, at: u32, left: Option<Found>, right: Optio
     ensures { JudgesTwo (spec.joined_text at) (found_of left) (found_of right) judge.old result judge.new }
 {
     let (Some(left), Some(right)) = (left, right) else {
-        judge.out.leave_out();
-        return Ok(None);
+        return none_of_two(judge);
     };
     match (left, right) {
         (Found::Text { first }, Found::Text { .. }) => {
@@ -72,8 +71,7 @@ pub fn logical(
     ensures { JudgesTwo (spec.logical op at) (found_of left) (found_of right) judge.old result judge.new }
 {
     let (Some(left), Some(right)) = (left, right) else {
-        judge.out.leave_out();
-        return Ok(None);
+        return none_of_two(judge);
     };
     if is_kind(Kind::Boolean, kind_of(left)) && is_kind(Kind::Boolean, kind_of(right)) {
         operation_on(judge, op, at, Kind::Boolean, Kind::Boolean, left, right)
@@ -92,13 +90,10 @@ fn compared_at(
 ) -> Finding
     ensures { JudgesTwo (spec.compared_at kind comparison) (found left) (found right) judge.old result judge.new }
 {
-    attempt!(judge.out.swap());
-    let x = attempt!(asked(judge, kind, left));
-    attempt!(judge.out.swap());
+    let x = attempt!(asked_before(judge, kind, left));
     let y = attempt!(asked(judge, kind, right));
     if !x || !y {
-        judge.out.leave_out();
-        return Ok(None);
+        return none_of_two(judge);
     }
     attempt!(judge.out.relation(class_of(kind), comparison));
     Ok(Some(Found::Scalar {
@@ -133,8 +128,7 @@ pub fn compared(
     ensures { JudgesTwo (spec.compared comparison at) (found_of left) (found_of right) judge.old result judge.new }
 {
     let (Some(left), Some(right)) = (left, right) else {
-        judge.out.leave_out();
-        return Ok(None);
+        return none_of_two(judge);
     };
     let kind = common_kind(kind_of(left), kind_of(right));
     if suits(kind, left) && suits(kind, right) {
@@ -145,7 +139,7 @@ pub fn compared(
 }
 
 /// Writes that a rule is broken, in place of the three latest parts.
-fn none_of_three(judge: &mut Judge, at: u32, rule: Rule) -> Finding
+fn no_three_parts(judge: &mut Judge, at: u32, rule: Rule) -> Finding
     ensures { JudgesOn (pop (pop (pop (parts judge.old.out)))) (fault at rule) judge.old result judge.new }
 {
     judge.out.leave_out();
@@ -164,7 +158,7 @@ fn within_bounds(
     ensures { JudgesThree (spec.within_bounds at negated kind) (found value) (found low) (found high) judge.old result judge.new }
 {
     if !suits(kind, value) {
-        return none_of_three(judge, at, Rule::WrongType);
+        return no_three_parts(judge, at, Rule::WrongType);
     }
     attempt!(judge.out.rotate());
     let x = attempt!(asked(judge, kind, value));
@@ -174,8 +168,7 @@ fn within_bounds(
     let h = attempt!(asked(judge, kind, high));
     if !x || !l || !h {
         judge.out.leave_out();
-        judge.out.leave_out();
-        return Ok(None);
+        return none_of_two(judge);
     }
     attempt!(judge.out.membership(class_of(kind), negated));
     Ok(Some(Found::Scalar {
@@ -205,13 +198,13 @@ fn member_of(
     ensures { JudgesThree (spec.member_of at negated) (found value) (found low) (found high) judge.old result judge.new }
 {
     if !is_scalar(value) {
-        return none_of_three(judge, at, Rule::WrongType);
+        return no_three_parts(judge, at, Rule::WrongType);
     }
     if !is_scalar(low) {
-        return none_of_three(judge, first_of(low), Rule::WrongType);
+        return no_three_parts(judge, first_of(low), Rule::WrongType);
     }
     if !is_scalar(high) {
-        return none_of_three(judge, first_of(high), Rule::WrongType);
+        return no_three_parts(judge, first_of(high), Rule::WrongType);
     }
     let kind = common_kind(first_kind(kind_of(value), kind_of(low)), kind_of(high));
     within_bounds(judge, at, negated, kind, value, low, high)
@@ -232,8 +225,7 @@ pub fn membership(
 {
     let (Some(value), Some(low), Some(high)) = (value, low, high) else {
         judge.out.leave_out();
-        judge.out.leave_out();
-        return Ok(None);
+        return none_of_two(judge);
     };
     member_of(judge, at, negated, value, low, high)
 }

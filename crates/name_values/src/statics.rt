@@ -12,13 +12,13 @@ ghost use Rattle.typed_tree.specs.Latest.{pop, second, top};
 ghost use Rattle.typed_parts.specs.Stack.{parts};
 
 use crate::judge::Judge;
-use crate::logs::breaks;
+use crate::logs::{breaks, none_of_two};
 use crate::names::denoted_first;
 use crate::operators::both_mentions;
 use crate::relations::common_kind;
 use crate::types::{in_base, is_integer, lies_in, same};
 use crate::values::{beyond, first_of, is_number, kind_of, mentions, static_value, suits};
-use name_rules::found::{Denoted, Found, Place};
+use name_rules::found::{Denoted, Found, ObjectName};
 use name_rules::log::{Dimension, Log, Rule};
 use name_rules::types::{Kind, Scalar, Subtype};
 use std::alloc::AllocError;
@@ -43,7 +43,7 @@ fn or_breaks(log: &mut Log, holds: bool, at: u32, rule: Rule) -> Result<bool, Al
     Ok(false)
 }
 
-fn place_takes(log: &mut Log, kind: Kind, place: Place) -> Result<bool, AllocError>
+fn place_takes(log: &mut Log, kind: Kind, place: ObjectName) -> Result<bool, AllocError>
     ensures { Says (statics.place_takes kind place place.subtype log.old) result log.new }
 {
     match place.subtype {
@@ -242,8 +242,7 @@ fn inside_span(
     if holds_both(scalar, span) {
         return spanned(judge, first, must_hold, scalar.kind, low, high, span);
     }
-    judge.out.leave_out();
-    Ok(None)
+    none_of_two(judge)
 }
 
 /// A dimension of bounds of a subtype, the latest parts: StaticRange where it must have a value and has none, and else at

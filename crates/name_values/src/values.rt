@@ -2,9 +2,9 @@
 
 ghost use Rattle.std.specs.Prelude.{◌≡◌, ◌∷◌, OnOk};
 ghost use Rattle.typed_tree.specs.Decoded.{as_expr};
-ghost use Rattle.typed_tree.specs.Latest.{pop, top};
+ghost use Rattle.typed_tree.specs.Latest.{pop, second, top};
 ghost use Rattle.name_rules.specs.Judges.{Says, found};
-ghost use Rattle.name_values.specs.Judged.{GivesOn, GivesOne};
+ghost use Rattle.name_values.specs.Judged.{GivesBefore, GivesOn, GivesOne};
 ghost use Rattle.name_rules.specs.TypedParts.{selections_of};
 ghost use Rattle.name_rules.specs.Values as spec;
 ghost use Rattle.typed_parts.specs.Stack.{parts};
@@ -12,7 +12,7 @@ ghost use Rattle.typed_parts.specs.Stack.{parts};
 use crate::judge::{Giving, Judge};
 use crate::logs::{breaks, cleared, not_given};
 use crate::types::{check_at, class_of, in_base, is_integer, same, typed_scalar};
-use name_rules::found::{Found, Limits, Place};
+use name_rules::found::{Found, Limits, ObjectName};
 use name_rules::log::{Log, Rule};
 use name_rules::types::{Kind, Scalar, Subtype};
 use std::alloc::AllocError;
@@ -202,7 +202,7 @@ fn settled(judge: &mut Judge, kind: Kind, limits: Limits) -> Giving
     }
 }
 
-fn object_value(out: &mut Parts, place: Place, scalar: Scalar) -> Result<(), AllocError>
+fn object_value(out: &mut Parts, place: ObjectName, scalar: Scalar) -> Result<(), AllocError>
     ensures { OnOk result (parts out.new ≡ spec.object_value place (selections_of (top (parts out.old))) scalar place.value ∷ pop (parts out.old)) }
 {
     if let Some(value) = place.value {
@@ -217,7 +217,7 @@ fn object_value(out: &mut Parts, place: Place, scalar: Scalar) -> Result<(), All
     }
 }
 
-fn place_asked(judge: &mut Judge, kind: Kind, place: Place) -> Giving
+fn place_asked(judge: &mut Judge, kind: Kind, place: ObjectName) -> Giving
     ensures { GivesOn (pop (parts judge.old.out)) (spec.place_asked kind place (selections_of (top (parts judge.old.out))) place.subtype) judge.old result judge.new }
 {
     match place.subtype {
@@ -288,6 +288,16 @@ pub fn asked(judge: &mut Judge, kind: Kind, given: Found) -> Giving
     }
 }
 
+/// An expression whose place asks for a type, in place of the part before the latest, which stays; as `asked`.
+pub fn asked_before(judge: &mut Judge, kind: Kind, given: Found) -> Giving
+    ensures { GivesBefore (spec.asked kind (found given (second (parts judge.old.out)))) judge.old result judge.new }
+{
+    attempt!(judge.out.swap());
+    let given = attempt!(asked(judge, kind, given));
+    attempt!(judge.out.swap());
+    Ok(given)
+}
+
 /// An expression whose place asks for no type takes its own.
 #[tactic(auto, unfolding(name_rules::specs::Values::settled_found))]
 pub fn settled_found(judge: &mut Judge, given: Found) -> Giving
@@ -350,7 +360,7 @@ pub fn static_integer(log: &mut Log, given: Found) -> Result<Option<i128>, Alloc
     }
 }
 
-fn whole_of(judge: &mut Judge, number: u32, place: Place) -> Giving
+fn whole_of(judge: &mut Judge, number: u32, place: ObjectName) -> Giving
     ensures { GivesOn (pop (parts judge.old.out)) (spec.whole_of number place (selections_of (top (parts judge.old.out))) place.subtype) judge.old result judge.new }
 {
     match place.subtype {

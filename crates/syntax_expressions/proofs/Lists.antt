@@ -1,6 +1,6 @@
 -- Chains by their kinds.
 use Rattle.std.proofs.Common.{◌≡◌, refl}
-use Rattle.syntax_nodes.specs.Parts.{Part, Nothing, IsClosed}
+use Rattle.syntax_nodes.specs.Parts.{TreePart, Nothing, IsClosed}
 use Rattle.syntax_nodes.specs.Tables.{also_value}
 use Rattle.syntax_expressions.specs.Chains as chains
 use Rattle.syntax_expressions.specs.declared.chains.Chain.{Chain}
@@ -31,7 +31,7 @@ chain_none chain.Choices = refl
 chain_none chain.Assocs = refl
 chain_none chain.Elsifs = refl
 
-pub chain_also : (c : Chain) (b a : Part) → chains.so_far c (also_value (chains.kind_of c) b a) ≡ chains.with_item c (chains.so_far c b) (chains.the_item c a)
+pub chain_also : (c : Chain) (b a : TreePart) → chains.so_far c (also_value (chains.kind_of c) b a) ≡ chains.with_item c (chains.so_far c b) (chains.the_item c a)
 chain_also chain.NameParts b a = refl
 chain_also chain.Multiplyings b a = refl
 chain_also chain.Addings b a = refl
@@ -41,7 +41,7 @@ chain_also chain.Choices b a = refl
 chain_also chain.Assocs b a = refl
 chain_also chain.Elsifs b a = refl
 
-pub chain_closed : (c : Chain) (q p : Part) → IsClosed (chains.kind_of c) q p → chains.the c q ≡ chains.so_far c p
+pub chain_closed : (c : Chain) (q p : TreePart) → IsClosed (chains.kind_of c) q p → chains.the c q ≡ chains.so_far c p
 chain_closed chain.NameParts q p h = h
 chain_closed chain.Multiplyings q p h = h
 chain_closed chain.Addings q p h = h

@@ -2,23 +2,23 @@
 use Rattle.std.proofs.Common.{◌≡◌, ℕ, suc, ◌+◌, ◌-◌, ◌<◌, ◌≤◌, Bool, true, false, if◌then◌else◌, sym, ap, ◌∙◌, arith, rules, List, [], ◌∷◌, Err}
 use Rattle.ada_base.specs.Symbols.{Symbol, next_kind, is_member}
 use Rattle.syntax_readers.specs.Readers.{Answer, Found, Refused, TooDeep, read_on, symbol, ◌>>=◌, ◌>>◌, by_next}
-use Rattle.syntax_readers.specs.declared.fault.Fault.{Fault}
-use Rattle.syntax_readers.specs.declared.fault.Fault.TheVariants as fault
+use Rattle.syntax_readers.specs.declared.failure.Failure.{Failure}
+use Rattle.syntax_readers.specs.declared.failure.Failure.TheVariants as failure
 use Rattle.ada_base.specs.Kinds as kind
 use Rattle.syntax_tree.specs.Syntax.{Expr, Many, Positions}
 use Rattle.syntax_tree.specs.Joining.{exprs_and}
 use Rattle.syntax_grammar.specs.Opened.{Opened}
 use Rattle.syntax_grammar.specs.Expressions.{expr}
 use Rattle.syntax_grammar.specs.Brackets.{positions_for, position_others}
-use Rattle.syntax_nodes.specs.Parts.{Part, the_expr, the_exprs, the_many, open_exprs, IsPart, IsExpr}
+use Rattle.syntax_nodes.specs.Parts.{TreePart, the_expr, the_exprs, the_many, open_exprs, IsPart, IsExpr}
 use Rattle.syntax_nodes.specs.Rooted.{top, pop, second, third}
 use Rattle.syntax_expressions.specs.Reading.{Reads}
 
 -- these parts, read on at most so many times
-abbrev pub read_from : Opened → ℕ → List Part → List Symbol → Answer Many × List Symbol
+abbrev pub read_from : Opened → ℕ → List TreePart → List Symbol → Answer Many × List Symbol
 read_from inner n ps ts = positions_for inner n (the_expr (third ps)) (the_expr (second ps)) (open_exprs (top ps)) ts
 
-module _ (inner : Opened) (end turn : ℕ) (ps : List Part) (ts : List Symbol) where
+module _ (inner : Opened) (end turn : ℕ) (ps : List TreePart) (ts : List Symbol) where
   abbrev after_comma : List Symbol → Answer Many × List Symbol
   after_comma = by_next (kind.others_word ∷ []) (position_others inner (the_expr (third ps)) (the_expr (second ps)) (open_exprs (top ps)))
       (expr inner >>= λ e. positions_for inner (end - (turn + 1)) (the_expr (third ps)) (the_expr (second ps)) (exprs_and (open_exprs (top ps)) e))
@@ -44,7 +44,7 @@ module _ (inner : Opened) (end turn : ℕ) (ps : List Part) (ts : List Symbol) w
     after = this_turn lt ∙ ap one_turn on ∙ ap (λ x. read_on x.0 (λ _. after_comma) x.1) taken
 
     -- `others` follows
-    pub positions_others : is_member (kind.others_word ∷ []) (next_kind us) ≡ true → (now : List Part) → pop now ≡ pop ps → the_exprs (top now) ≡ open_exprs (top ps)
+    pub positions_others : is_member (kind.others_word ∷ []) (next_kind us) ≡ true → (now : List TreePart) → pop now ≡ pop ps → the_exprs (top now) ≡ open_exprs (top ps)
         → read_from inner (end - turn) ps ts ≡ position_others inner (the_expr (third now)) (the_expr (second now)) (the_exprs (top now)) us
     positions_others found now back whole =
         after ∙ ap (λ b. if b then position_others inner (the_expr (third ps)) (the_expr (second ps)) (open_exprs (top ps)) us else (expr inner >>= λ e. positions_for inner (end - (turn + 1)) (the_expr (third ps)) (the_expr (second ps)) (exprs_and (open_exprs (top ps)) e)) us) found
@@ -59,7 +59,7 @@ module _ (inner : Opened) (end turn : ℕ) (ps : List Part) (ts : List Symbol) w
       next x e = after ∙ ap (λ b. if b then position_others inner (the_expr (third ps)) (the_expr (second ps)) (open_exprs (top ps)) us else behind (expr inner us)) other ∙ ap behind e
 
       -- another expression follows
-      pub positions_next : (vs : List Symbol) (read now : List Part) (also : Part) → expr inner us ≡ (Found (the_expr (top read)), vs) → pop read ≡ ps → open_exprs also ≡ exprs_and (open_exprs (second read)) (the_expr (top read))
+      pub positions_next : (vs : List Symbol) (read now : List TreePart) (also : TreePart) → expr inner us ≡ (Found (the_expr (top read)), vs) → pop read ≡ ps → open_exprs also ≡ exprs_and (open_exprs (second read)) (the_expr (top read))
           → now ≡ also ∷ pop (pop read) → read_from inner (end - turn) ps ts ≡ read_from inner (end - (turn + 1)) now vs
       positions_next vs read now also found back e h =
           next (Found (the_expr (top read)), vs) found
@@ -68,11 +68,11 @@ module _ (inner : Opened) (end turn : ℕ) (ps : List Part) (ts : List Symbol) w
           ∙ ap (λ z. read_from inner (end - (turn + 1)) z vs) (sym h)
 
       -- its fault is the loop's
-      pub positions_fault : (b d : List Part) (vs : List Symbol) (qs qs' : List Part) (whole : Answer Many × List Symbol) → read_from inner (end - turn) ps ts ≡ whole
-          → (f : Fault) → Reads {U = Unit {0}} the_expr IsExpr b (expr inner us) (Err f) vs qs → Reads {U = Unit {0}} the_many IsPart d whole (Err f) vs qs'
-      positions_fault b d vs qs qs' whole w fault.Unexpected h = sym w ∙ next (Refused, vs) h
-      positions_fault b d vs qs qs' whole w fault.TooDeep h = sym w ∙ next (TooDeep, vs) h
-      positions_fault b d vs qs qs' whole w fault.OutOfMemory h = tt
+      pub positions_fault : (b d : List TreePart) (vs : List Symbol) (qs qs' : List TreePart) (whole : Answer Many × List Symbol) → read_from inner (end - turn) ps ts ≡ whole
+          → (f : Failure) → Reads {U = Unit {0}} the_expr IsExpr b (expr inner us) (Err f) vs qs → Reads {U = Unit {0}} the_many IsPart d whole (Err f) vs qs'
+      positions_fault b d vs qs qs' whole w failure.Unexpected h = sym w ∙ next (Refused, vs) h
+      positions_fault b d vs qs qs' whole w failure.TooDeep h = sym w ∙ next (TooDeep, vs) h
+      positions_fault b d vs qs qs' whole w failure.OutOfMemory h = tt
 
 -- a kind that is not this one
 pub not_member : (k x : ℕ) → (x ≡ k → ⊥) → is_member (k ∷ []) x ≡ false

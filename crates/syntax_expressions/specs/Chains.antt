@@ -8,7 +8,7 @@ use Rattle.syntax_tree.specs.Joining.{parts_and, multiplyings_and, addings_and, 
 use Rattle.syntax_grammar.specs.Opened.{Opened}
 use Rattle.syntax_grammar.specs.Expressions as reader
 use Rattle.syntax_grammar.specs.Brackets as brackets
-use Rattle.syntax_nodes.specs.Parts.{Part, the_part, the_multiplying, the_adding, the_conjunct, the_arg, the_choice, the_assoc, the_elsif, the_parts, the_multiplyings, the_addings, the_conjuncts, the_args, the_choices, the_assocs, the_elsifs, open_parts, open_multiplyings, open_addings, open_conjuncts, open_args, open_choices, open_assocs, open_elsifs}
+use Rattle.syntax_nodes.specs.Parts.{TreePart, the_part, the_multiplying, the_adding, the_conjunct, the_arg, the_choice, the_assoc, the_elsif, the_parts, the_multiplyings, the_addings, the_conjuncts, the_args, the_choices, the_assocs, the_elsifs, open_parts, open_multiplyings, open_addings, open_conjuncts, open_args, open_choices, open_assocs, open_elsifs}
 use Rattle.syntax_nodes.specs.declared.lists.ListKind.{ListKind}
 use Rattle.syntax_nodes.specs.declared.lists.ListKind.TheVariants as list
 use Rattle.syntax_tree.specs.declared.operators.Logical.{Logical}
@@ -44,7 +44,7 @@ kind_of chain.Assocs = list.Assocs
 kind_of chain.Elsifs = list.Elsifs
 
 abbrev pub Item : Chain → Type 0
-Item chain.NameParts = syntax.Part
+Item chain.NameParts = syntax.NamePart
 Item chain.Multiplyings = syntax.Multiplying
 Item chain.Addings = syntax.Adding
 Item (chain.Conjuncts operator) = syntax.Conjunct
@@ -54,7 +54,7 @@ Item chain.Assocs = syntax.Assoc
 Item chain.Elsifs = syntax.Elsif
 
 abbrev pub Value : Chain → Type 0
-Value chain.NameParts = syntax.Parts
+Value chain.NameParts = syntax.NameParts
 Value chain.Multiplyings = syntax.Multiplyings
 Value chain.Addings = syntax.Addings
 Value (chain.Conjuncts operator) = syntax.Conjuncts
@@ -63,7 +63,7 @@ Value chain.Choices = syntax.Choices
 Value chain.Assocs = syntax.Assocs
 Value chain.Elsifs = syntax.Elsifs
 
-abbrev pub the_item : (c : Chain) → Part → Item c
+abbrev pub the_item : (c : Chain) → TreePart → Item c
 the_item chain.NameParts = the_part
 the_item chain.Multiplyings = the_multiplying
 the_item chain.Addings = the_adding
@@ -74,7 +74,7 @@ the_item chain.Assocs = the_assoc
 the_item chain.Elsifs = the_elsif
 
 -- a list that is whole, and one that grows
-abbrev pub the : (c : Chain) → Part → Value c
+abbrev pub the : (c : Chain) → TreePart → Value c
 the chain.NameParts = the_parts
 the chain.Multiplyings = the_multiplyings
 the chain.Addings = the_addings
@@ -84,7 +84,7 @@ the chain.Choices = the_choices
 the chain.Assocs = the_assocs
 the chain.Elsifs = the_elsifs
 
-abbrev pub so_far : (c : Chain) → Part → Value c
+abbrev pub so_far : (c : Chain) → TreePart → Value c
 so_far chain.NameParts = open_parts
 so_far chain.Multiplyings = open_multiplyings
 so_far chain.Addings = open_addings

@@ -18,11 +18,11 @@ use ada_base::kinds::{ARROW, BAR, COMMA, DOTS, FOR, IDENTIFIER, IN, OTHERS};
 use syntax_nodes::{
     Four, Leaf, ListKind, Three, Two, also, close, four, leaf, nothing, three, two,
 };
-use syntax_readers::Fault;
+use syntax_readers::Failure;
 
 /// `others` as a choice (3.8.1).
 #[tactic(auto, unfolding(syntax_grammar::specs::Brackets::others_choice))]
-pub fn others_choice(parser: &mut Parser<'_>) -> Result<(), Fault>
+pub fn others_choice(parser: &mut Parser<'_>) -> Result<(), Failure>
     ensures { Reads the_choice IsPart (parts parser.old.out) (brackets.others_choice parser.old.tokens) result parser.new.tokens (parts parser.new.out) }
 {
     let at = parser.tokens.take(OTHERS)?;
@@ -32,7 +32,7 @@ pub fn others_choice(parser: &mut Parser<'_>) -> Result<(), Fault>
 /// A choice, after its first sum.
 #[cycle(levels)]
 #[tactic(auto, unfolding(syntax_grammar::specs::Brackets::choice_from))]
-pub fn choice_from(parser: &mut Parser<'_>, levels: u32) -> Result<(), Fault>
+pub fn choice_from(parser: &mut Parser<'_>, levels: u32) -> Result<(), Failure>
     requires { IsSimple (top (parts parser.old.out)) }
     ensures { Reads the_choice IsPart (pop (parts parser.old.out)) (brackets.choice_from (level.levels levels) (the_simple (top (parts parser.old.out))) parser.old.tokens) result parser.new.tokens (parts parser.new.out) }
 {
@@ -47,7 +47,7 @@ pub fn choice_from(parser: &mut Parser<'_>, levels: u32) -> Result<(), Fault>
 /// A choice (3.8.1).
 #[cycle(levels)]
 #[tactic(auto, unfolding(syntax_grammar::specs::Brackets::choice))]
-pub fn choice(parser: &mut Parser<'_>, levels: u32) -> Result<(), Fault>
+pub fn choice(parser: &mut Parser<'_>, levels: u32) -> Result<(), Failure>
     ensures { Reads the_choice IsPart (parts parser.old.out) (brackets.choice (level.levels levels) parser.old.tokens) result parser.new.tokens (parts parser.new.out) }
 {
     if parser.tokens.peek() == OTHERS {
@@ -61,7 +61,7 @@ pub fn choice(parser: &mut Parser<'_>, levels: u32) -> Result<(), Fault>
 /// A bar and a choice.
 #[cycle(levels)]
 #[tactic(auto, unfolding(syntax_grammar::specs::Brackets::next_choice))]
-pub fn next_choice(parser: &mut Parser<'_>, levels: u32) -> Result<(), Fault>
+pub fn next_choice(parser: &mut Parser<'_>, levels: u32) -> Result<(), Failure>
     ensures { Reads the_choice IsPart (parts parser.old.out) (brackets.next_choice (level.levels levels) parser.old.tokens) result parser.new.tokens (parts parser.new.out) }
 {
     parser.tokens.take(BAR)?;
@@ -71,7 +71,7 @@ pub fn next_choice(parser: &mut Parser<'_>, levels: u32) -> Result<(), Fault>
 /// An association, after its first choice (4.3.3).
 #[cycle(levels)]
 #[tactic(auto, unfolding(syntax_grammar::specs::Brackets::chosen))]
-pub fn chosen(parser: &mut Parser<'_>, levels: u32) -> Result<(), Fault>
+pub fn chosen(parser: &mut Parser<'_>, levels: u32) -> Result<(), Failure>
     ensures { Reads the_assoc IsPart (pop (parts parser.old.out)) (brackets.chosen (level.levels levels) (the_choice (top (parts parser.old.out))) parser.old.tokens) result parser.new.tokens (parts parser.new.out) }
 {
     list(parser, levels, Chain::Choices)?;
@@ -82,7 +82,7 @@ pub fn chosen(parser: &mut Parser<'_>, levels: u32) -> Result<(), Fault>
 /// An iterated association (4.3.3).
 #[cycle(levels)]
 #[tactic(auto, unfolding(syntax_grammar::specs::Brackets::each))]
-pub fn each(parser: &mut Parser<'_>, levels: u32) -> Result<(), Fault>
+pub fn each(parser: &mut Parser<'_>, levels: u32) -> Result<(), Failure>
     ensures { Reads the_assoc IsPart (parts parser.old.out) (brackets.each (level.levels levels) parser.old.tokens) result parser.new.tokens (parts parser.new.out) }
 {
     let at = parser.tokens.take(FOR)?;
@@ -96,7 +96,7 @@ pub fn each(parser: &mut Parser<'_>, levels: u32) -> Result<(), Fault>
 /// An association (4.3.3).
 #[cycle(levels)]
 #[tactic(auto, unfolding(syntax_grammar::specs::Brackets::assoc))]
-pub fn assoc(parser: &mut Parser<'_>, levels: u32) -> Result<(), Fault>
+pub fn assoc(parser: &mut Parser<'_>, levels: u32) -> Result<(), Failure>
     ensures { Reads the_assoc IsPart (parts parser.old.out) (brackets.assoc (level.levels levels) parser.old.tokens) result parser.new.tokens (parts parser.new.out) }
 {
     if parser.tokens.peek() == FOR {
@@ -110,7 +110,7 @@ pub fn assoc(parser: &mut Parser<'_>, levels: u32) -> Result<(), Fault>
 /// A comma and an association.
 #[cycle(levels)]
 #[tactic(auto, unfolding(syntax_grammar::specs::Brackets::next_assoc))]
-pub fn next_assoc(parser: &mut Parser<'_>, levels: u32) -> Result<(), Fault>
+pub fn next_assoc(parser: &mut Parser<'_>, levels: u32) -> Result<(), Failure>
     ensures { Reads the_assoc IsPart (parts parser.old.out) (brackets.next_assoc (level.levels levels) parser.old.tokens) result parser.new.tokens (parts parser.new.out) }
 {
     parser.tokens.take(COMMA)?;
@@ -120,7 +120,7 @@ pub fn next_assoc(parser: &mut Parser<'_>, levels: u32) -> Result<(), Fault>
 /// Associations, after the first.
 #[cycle(levels)]
 #[tactic(auto, unfolding(syntax_grammar::specs::Brackets::assocs_from))]
-pub fn assocs_from(parser: &mut Parser<'_>, levels: u32) -> Result<(), Fault>
+pub fn assocs_from(parser: &mut Parser<'_>, levels: u32) -> Result<(), Failure>
     ensures { Reads the_many IsPart (pop (parts parser.old.out)) (brackets.assocs_from (level.levels levels) (the_assoc (top (parts parser.old.out))) parser.old.tokens) result parser.new.tokens (parts parser.new.out) }
 {
     list(parser, levels, Chain::Assocs)?;
@@ -130,7 +130,7 @@ pub fn assocs_from(parser: &mut Parser<'_>, levels: u32) -> Result<(), Fault>
 /// The value of the others, after one expression (4.3.3).
 #[cycle(levels)]
 #[tactic(auto, unfolding(syntax_grammar::specs::Brackets::first_others))]
-pub fn first_others(parser: &mut Parser<'_>, levels: u32) -> Result<(), Fault>
+pub fn first_others(parser: &mut Parser<'_>, levels: u32) -> Result<(), Failure>
     ensures { Reads the_many IsPart (pop (parts parser.old.out)) (brackets.first_others (level.levels levels) (the_expr (top (parts parser.old.out))) parser.old.tokens) result parser.new.tokens (parts parser.new.out) }
 {
     let at = parser.tokens.take(OTHERS)?;
@@ -141,7 +141,7 @@ pub fn first_others(parser: &mut Parser<'_>, levels: u32) -> Result<(), Fault>
 /// The value of the others, after two expressions and a list of more.
 #[cycle(levels)]
 #[tactic(auto, unfolding(syntax_grammar::specs::Brackets::position_others))]
-pub fn position_others(parser: &mut Parser<'_>, levels: u32) -> Result<(), Fault>
+pub fn position_others(parser: &mut Parser<'_>, levels: u32) -> Result<(), Failure>
     ensures { Reads the_many IsPart (pop (pop (pop (parts parser.old.out)))) (brackets.position_others (level.levels levels) (the_expr (third (parts parser.old.out))) (the_expr (second (parts parser.old.out))) (the_exprs (top (parts parser.old.out))) parser.old.tokens) result parser.new.tokens (parts parser.new.out) }
 {
     let at = parser.tokens.take(OTHERS)?;
@@ -151,7 +151,7 @@ pub fn position_others(parser: &mut Parser<'_>, levels: u32) -> Result<(), Fault
 
 /// The expressions of an aggregate, after the first two and a list that grows.
 #[cycle(levels)]
-pub fn positions(parser: &mut Parser<'_>, levels: u32) -> Result<(), Fault>
+pub fn positions(parser: &mut Parser<'_>, levels: u32) -> Result<(), Failure>
     ensures { Reads the_many IsPart (pop (pop (pop (parts parser.old.out)))) (brackets.positions_for (level.levels levels) (length parser.old.tokens) (the_expr (third (parts parser.old.out))) (the_expr (second (parts parser.old.out))) (open_exprs (top (parts parser.old.out))) parser.old.tokens) result parser.new.tokens (parts parser.new.out) }
 {
     for _turn in 0..parser.tokens.left() {
@@ -172,7 +172,7 @@ pub fn positions(parser: &mut Parser<'_>, levels: u32) -> Result<(), Fault>
 /// The parts of an aggregate, after its first expression.
 #[cycle(levels)]
 #[tactic(auto, unfolding(syntax_grammar::specs::Brackets::positions_from, syntax_grammar::specs::Brackets::positions))]
-pub fn positions_from(parser: &mut Parser<'_>, levels: u32) -> Result<(), Fault>
+pub fn positions_from(parser: &mut Parser<'_>, levels: u32) -> Result<(), Failure>
     ensures { Reads the_many IsPart (pop (parts parser.old.out)) (brackets.positions_from (level.levels levels) (the_expr (top (parts parser.old.out))) parser.old.tokens) result parser.new.tokens (parts parser.new.out) }
 {
     parser.tokens.take(COMMA)?;
@@ -187,7 +187,7 @@ pub fn positions_from(parser: &mut Parser<'_>, levels: u32) -> Result<(), Fault>
 /// What stands in brackets, after its first choice.
 #[cycle(levels)]
 #[tactic(auto, unfolding(syntax_grammar::specs::Brackets::inside_choice))]
-pub fn inside_choice(parser: &mut Parser<'_>, levels: u32) -> Result<(), Fault>
+pub fn inside_choice(parser: &mut Parser<'_>, levels: u32) -> Result<(), Failure>
     ensures { Reads many_inside IsPart (pop (parts parser.old.out)) (brackets.inside_choice (level.levels levels) (the_choice (top (parts parser.old.out))) parser.old.tokens) result parser.new.tokens (parts parser.new.out) }
 {
     chosen(parser, levels)?;
@@ -197,7 +197,7 @@ pub fn inside_choice(parser: &mut Parser<'_>, levels: u32) -> Result<(), Fault>
 /// What stands in brackets, after its first expression: whether that is all.
 #[cycle(levels)]
 #[tactic(auto, unfolding(syntax_grammar::specs::Brackets::inside_expr))]
-pub fn inside_expr(parser: &mut Parser<'_>, levels: u32) -> Result<bool, Fault>
+pub fn inside_expr(parser: &mut Parser<'_>, levels: u32) -> Result<bool, Failure>
     ensures { ReadsForm inside_form AnyForm (pop (parts parser.old.out)) (brackets.inside_expr (level.levels levels) (the_expr (top (parts parser.old.out))) parser.old.tokens) result parser.new.tokens (parts parser.new.out) }
 {
     if parser.tokens.peek() != COMMA {
@@ -210,7 +210,7 @@ pub fn inside_expr(parser: &mut Parser<'_>, levels: u32) -> Result<bool, Fault>
 /// What stands in brackets, after its first sum: whether it is an expression alone.
 #[cycle(levels)]
 #[tactic(auto, unfolding(syntax_grammar::specs::Brackets::inside_simple))]
-pub fn inside_simple(parser: &mut Parser<'_>, levels: u32) -> Result<bool, Fault>
+pub fn inside_simple(parser: &mut Parser<'_>, levels: u32) -> Result<bool, Failure>
     requires { IsSimple (top (parts parser.old.out)) }
     ensures { ReadsForm inside_form AnyForm (pop (parts parser.old.out)) (brackets.inside_simple (level.levels levels) (the_simple (top (parts parser.old.out))) parser.old.tokens) result parser.new.tokens (parts parser.new.out) }
 {
@@ -231,7 +231,7 @@ pub fn inside_simple(parser: &mut Parser<'_>, levels: u32) -> Result<bool, Fault
 /// What stands in brackets and begins with neither `if` nor `for`: whether it is an expression alone.
 #[cycle(levels)]
 #[tactic(auto, unfolding(syntax_grammar::specs::Brackets::inside))]
-pub fn inside(parser: &mut Parser<'_>, levels: u32) -> Result<bool, Fault>
+pub fn inside(parser: &mut Parser<'_>, levels: u32) -> Result<bool, Failure>
     ensures { ReadsForm inside_form AnyForm (parts parser.old.out) (brackets.inside (level.levels levels) parser.old.tokens) result parser.new.tokens (parts parser.new.out) }
 {
     if parser.tokens.peek() == OTHERS {
@@ -246,7 +246,7 @@ pub fn inside(parser: &mut Parser<'_>, levels: u32) -> Result<bool, Fault>
 /// Associations, of which the first is iterated.
 #[cycle(levels)]
 #[tactic(auto, unfolding(syntax_grammar::specs::Brackets::each_and_more))]
-pub fn each_and_more(parser: &mut Parser<'_>, levels: u32) -> Result<(), Fault>
+pub fn each_and_more(parser: &mut Parser<'_>, levels: u32) -> Result<(), Failure>
     ensures { Reads many_inside IsPart (parts parser.old.out) (brackets.each_and_more (level.levels levels) parser.old.tokens) result parser.new.tokens (parts parser.new.out) }
 {
     each(parser, levels)?;
@@ -254,7 +254,7 @@ pub fn each_and_more(parser: &mut Parser<'_>, levels: u32) -> Result<(), Fault>
 }
 
 /// Joins expressions after the first two, where no more follow.
-pub fn positions_end(parser: &mut Parser<'_>) -> Result<(), Fault>
+pub fn positions_end(parser: &mut Parser<'_>) -> Result<(), Failure>
     ensures { Reads the_many IsPart (pop (pop (pop (parts parser.old.out)))) (Found (syntax.Positions (the_expr (third (parts parser.old.out))) (the_expr (second (parts parser.old.out))) (open_exprs (top (parts parser.old.out)))), parser.old.tokens) result parser.new.tokens (parts parser.new.out) }
 {
     close(&mut parser.out, ListKind::Exprs)?;

@@ -13,12 +13,12 @@ use crate::expressions::expr;
 use crate::parser::Parser;
 use ada_base::kinds::{CLOSE_ROUND, ELSE, ELSIF, FOR, IF, OPEN_ROUND, THEN};
 use syntax_nodes::{Four, One, Two, four, one, two};
-use syntax_readers::Fault;
+use syntax_readers::Failure;
 
 /// `then`, and the expression after it.
 #[cycle(levels)]
 #[tactic(auto, unfolding(syntax_grammar::specs::Brackets::then_value))]
-pub fn then_value(parser: &mut Parser<'_>, levels: u32) -> Result<(), Fault>
+pub fn then_value(parser: &mut Parser<'_>, levels: u32) -> Result<(), Failure>
     ensures { Reads the_expr IsExpr (parts parser.old.out) (brackets.then_value (level.levels levels) parser.old.tokens) result parser.new.tokens (parts parser.new.out) }
 {
     parser.tokens.take(THEN)?;
@@ -28,7 +28,7 @@ pub fn then_value(parser: &mut Parser<'_>, levels: u32) -> Result<(), Fault>
 /// `else`, and the expression after it.
 #[cycle(levels)]
 #[tactic(auto, unfolding(syntax_grammar::specs::Brackets::else_value))]
-pub fn else_value(parser: &mut Parser<'_>, levels: u32) -> Result<(), Fault>
+pub fn else_value(parser: &mut Parser<'_>, levels: u32) -> Result<(), Failure>
     ensures { Reads the_expr IsExpr (parts parser.old.out) (brackets.else_value (level.levels levels) parser.old.tokens) result parser.new.tokens (parts parser.new.out) }
 {
     parser.tokens.take(ELSE)?;
@@ -38,7 +38,7 @@ pub fn else_value(parser: &mut Parser<'_>, levels: u32) -> Result<(), Fault>
 /// An `elsif` part of a conditional expression (4.5.7).
 #[cycle(levels)]
 #[tactic(auto, unfolding(syntax_grammar::specs::Brackets::next_elsif))]
-pub fn next_elsif(parser: &mut Parser<'_>, levels: u32) -> Result<(), Fault>
+pub fn next_elsif(parser: &mut Parser<'_>, levels: u32) -> Result<(), Failure>
     ensures { Reads the_elsif IsPart (parts parser.old.out) (brackets.next_elsif (level.levels levels) parser.old.tokens) result parser.new.tokens (parts parser.new.out) }
 {
     let at = parser.tokens.take(ELSIF)?;
@@ -50,7 +50,7 @@ pub fn next_elsif(parser: &mut Parser<'_>, levels: u32) -> Result<(), Fault>
 /// A conditional expression after its bracket (4.5.7).
 #[cycle(levels)]
 #[tactic(auto, unfolding(syntax_grammar::specs::Brackets::if_expr))]
-pub fn if_expr(parser: &mut Parser<'_>, levels: u32, bracket: u32) -> Result<(), Fault>
+pub fn if_expr(parser: &mut Parser<'_>, levels: u32, bracket: u32) -> Result<(), Failure>
     ensures { Reads the_primary IsPrimary (parts parser.old.out) (brackets.if_expr (level.levels levels) bracket parser.old.tokens) result parser.new.tokens (parts parser.new.out) }
 {
     let at = parser.tokens.take(IF)?;
@@ -64,7 +64,7 @@ pub fn if_expr(parser: &mut Parser<'_>, levels: u32, bracket: u32) -> Result<(),
 /// What stands in round brackets.
 #[cycle(levels)]
 #[tactic(auto, unfolding(syntax_grammar::specs::Brackets::round_inside))]
-pub fn round_inside(parser: &mut Parser<'_>, levels: u32, bracket: u32) -> Result<(), Fault>
+pub fn round_inside(parser: &mut Parser<'_>, levels: u32, bracket: u32) -> Result<(), Failure>
     ensures { Reads the_primary IsPrimary (parts parser.old.out) (brackets.round_inside (level.levels levels) bracket parser.old.tokens) result parser.new.tokens (parts parser.new.out) }
 {
     match parser.tokens.peek() {
@@ -86,7 +86,7 @@ pub fn round_inside(parser: &mut Parser<'_>, levels: u32, bracket: u32) -> Resul
 /// A primary in round brackets (4.4).
 #[cycle(levels)]
 #[tactic(auto, unfolding(syntax_grammar::specs::Brackets::round))]
-pub fn round_opened(parser: &mut Parser<'_>, levels: u32) -> Result<(), Fault>
+pub fn round_opened(parser: &mut Parser<'_>, levels: u32) -> Result<(), Failure>
     ensures { Reads the_primary IsPrimary (parts parser.old.out) (brackets.round (level.levels levels) parser.old.tokens) result parser.new.tokens (parts parser.new.out) }
 {
     let bracket = parser.tokens.take(OPEN_ROUND)?;

@@ -20,7 +20,7 @@ use ada_base::kinds::{
     STAR, THEN, TICK, XOR,
 };
 use syntax_nodes::{ListKind, also, close, nothing};
-use syntax_readers::Fault;
+use syntax_readers::Failure;
 use syntax_tree::Logical;
 
 /// What a list is of.
@@ -79,7 +79,7 @@ fn goes(chain: Chain, kind: u16) -> bool
 
 /// The next relation of a chain, with its operator.
 #[cycle(levels)]
-fn joined_item(parser: &mut Parser<'_>, levels: u32, operator: Logical) -> Result<(), Fault>
+fn joined_item(parser: &mut Parser<'_>, levels: u32, operator: Logical) -> Result<(), Failure>
     ensures { Reads the_conjunct IsPart (parts parser.old.out) (chains.conjunct (level.levels levels) operator parser.old.tokens) result parser.new.tokens (parts parser.new.out) }
 {
     match operator {
@@ -93,7 +93,7 @@ fn joined_item(parser: &mut Parser<'_>, levels: u32, operator: Logical) -> Resul
 
 /// The next item of a chain.
 #[cycle(levels)]
-fn item(parser: &mut Parser<'_>, levels: u32, chain: Chain) -> Result<(), Fault>
+fn item(parser: &mut Parser<'_>, levels: u32, chain: Chain) -> Result<(), Failure>
     ensures { Reads (chains.the_item chain) IsPart (parts parser.old.out) (chains.item (level.levels levels) chain parser.old.tokens) result parser.new.tokens (parts parser.new.out) }
 {
     match chain {
@@ -110,7 +110,7 @@ fn item(parser: &mut Parser<'_>, levels: u32, chain: Chain) -> Result<(), Fault>
 
 /// The next item of a chain, behind those before it.
 #[cycle(levels)]
-fn link(parser: &mut Parser<'_>, levels: u32, chain: Chain) -> Result<(), Fault>
+fn link(parser: &mut Parser<'_>, levels: u32, chain: Chain) -> Result<(), Failure>
     ensures { Reads (chains.so_far chain) IsPart (pop (parts parser.old.out)) (chains.link (level.levels levels) chain (chains.so_far chain (top (parts parser.old.out))) parser.old.tokens) result parser.new.tokens (parts parser.new.out) }
 {
     item(parser, levels, chain)?;
@@ -119,7 +119,7 @@ fn link(parser: &mut Parser<'_>, levels: u32, chain: Chain) -> Result<(), Fault>
 
 /// All further items of a chain.
 #[cycle(levels)]
-fn follow(parser: &mut Parser<'_>, levels: u32, chain: Chain) -> Result<(), Fault>
+fn follow(parser: &mut Parser<'_>, levels: u32, chain: Chain) -> Result<(), Failure>
     ensures { Reads (chains.so_far chain) IsPart (pop (parts parser.old.out)) (loop (chains.goes chain) (chains.link (level.levels levels) chain) (chains.so_far chain (top (parts parser.old.out))) parser.old.tokens) result parser.new.tokens (parts parser.new.out) }
 {
     for _turn in 0..parser.tokens.left() {
@@ -133,7 +133,7 @@ fn follow(parser: &mut Parser<'_>, levels: u32, chain: Chain) -> Result<(), Faul
 
 /// The list of the items of a chain.
 #[cycle(levels)]
-pub fn list(parser: &mut Parser<'_>, levels: u32, chain: Chain) -> Result<(), Fault>
+pub fn list(parser: &mut Parser<'_>, levels: u32, chain: Chain) -> Result<(), Failure>
     ensures { Reads (chains.the chain) IsPart (parts parser.old.out) (chains.items (level.levels levels) chain parser.old.tokens) result parser.new.tokens (parts parser.new.out) }
 {
     nothing(&mut parser.out)?;

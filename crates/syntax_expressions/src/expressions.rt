@@ -19,13 +19,13 @@ use ada_base::kinds::{
     STRING, TARGET, THEN, TICK, UNEQUAL, XOR,
 };
 use syntax_nodes::{Leaf, One, Three, Two, bare, leaf, leave_out, one, three, two};
-use syntax_readers::Fault;
+use syntax_readers::Failure;
 use syntax_tree::Logical;
 
 /// What follows in a name (4.1).
 #[cycle(levels)]
 #[tactic(auto, unfolding(syntax_grammar::specs::Expressions::part))]
-pub fn part(parser: &mut Parser<'_>, levels: u32) -> Result<(), Fault>
+pub fn part(parser: &mut Parser<'_>, levels: u32) -> Result<(), Failure>
     ensures { Reads the_part IsPart (parts parser.old.out) (reader.part (level.levels levels) parser.old.tokens) result parser.new.tokens (parts parser.new.out) }
 {
     match parser.tokens.peek() {
@@ -51,7 +51,7 @@ pub fn part(parser: &mut Parser<'_>, levels: u32) -> Result<(), Fault>
 /// A name (4.1).
 #[cycle(levels)]
 #[tactic(auto, unfolding(syntax_grammar::specs::Expressions::name))]
-pub fn name(parser: &mut Parser<'_>, levels: u32) -> Result<(), Fault>
+pub fn name(parser: &mut Parser<'_>, levels: u32) -> Result<(), Failure>
     ensures { Reads the_name IsName (parts parser.old.out) (reader.name (level.levels levels) parser.old.tokens) result parser.new.tokens (parts parser.new.out) }
 {
     let at = parser.tokens.take(IDENTIFIER)?;
@@ -67,7 +67,7 @@ pub fn name(parser: &mut Parser<'_>, levels: u32) -> Result<(), Fault>
 /// A primary (4.4).
 #[cycle(levels)]
 #[tactic(auto, unfolding(syntax_grammar::specs::Expressions::primary))]
-pub fn primary(parser: &mut Parser<'_>, levels: u32) -> Result<(), Fault>
+pub fn primary(parser: &mut Parser<'_>, levels: u32) -> Result<(), Failure>
     ensures { Reads the_primary IsPrimary (parts parser.old.out) (reader.primary (level.levels levels) parser.old.tokens) result parser.new.tokens (parts parser.new.out) }
 {
     match parser.tokens.peek() {
@@ -92,7 +92,7 @@ pub fn primary(parser: &mut Parser<'_>, levels: u32) -> Result<(), Fault>
 /// A factor (4.4).
 #[cycle(levels)]
 #[tactic(auto, unfolding(syntax_grammar::specs::Expressions::factor))]
-pub fn factor(parser: &mut Parser<'_>, levels: u32) -> Result<(), Fault>
+pub fn factor(parser: &mut Parser<'_>, levels: u32) -> Result<(), Failure>
     ensures { Reads the_factor IsFactor (parts parser.old.out) (reader.factor (level.levels levels) parser.old.tokens) result parser.new.tokens (parts parser.new.out) }
 {
     match parser.tokens.peek() {
@@ -122,7 +122,7 @@ pub fn factor(parser: &mut Parser<'_>, levels: u32) -> Result<(), Fault>
 /// A multiplying operator and its factor (4.5.5).
 #[cycle(levels)]
 #[tactic(auto, unfolding(syntax_grammar::specs::Expressions::multiplied))]
-pub fn multiplied(parser: &mut Parser<'_>, levels: u32) -> Result<(), Fault>
+pub fn multiplied(parser: &mut Parser<'_>, levels: u32) -> Result<(), Failure>
     ensures { Reads the_multiplying IsPart (parts parser.old.out) (reader.multiplied (level.levels levels) parser.old.tokens) result parser.new.tokens (parts parser.new.out) }
 {
     let (by, at) = multiplying_operator(&mut parser.tokens)?;
@@ -133,7 +133,7 @@ pub fn multiplied(parser: &mut Parser<'_>, levels: u32) -> Result<(), Fault>
 /// A term (4.4).
 #[cycle(levels)]
 #[tactic(auto, unfolding(syntax_grammar::specs::Expressions::term))]
-pub fn term(parser: &mut Parser<'_>, levels: u32) -> Result<(), Fault>
+pub fn term(parser: &mut Parser<'_>, levels: u32) -> Result<(), Failure>
     ensures { Reads the_term IsTerm (parts parser.old.out) (reader.term (level.levels levels) parser.old.tokens) result parser.new.tokens (parts parser.new.out) }
 {
     factor(parser, levels)?;
@@ -149,7 +149,7 @@ pub fn term(parser: &mut Parser<'_>, levels: u32) -> Result<(), Fault>
 /// An adding operator and its term (4.5.3).
 #[cycle(levels)]
 #[tactic(auto, unfolding(syntax_grammar::specs::Expressions::added))]
-pub fn added(parser: &mut Parser<'_>, levels: u32) -> Result<(), Fault>
+pub fn added(parser: &mut Parser<'_>, levels: u32) -> Result<(), Failure>
     ensures { Reads the_adding IsPart (parts parser.old.out) (reader.added (level.levels levels) parser.old.tokens) result parser.new.tokens (parts parser.new.out) }
 {
     let (by, at) = adding_operator(&mut parser.tokens)?;
@@ -160,7 +160,7 @@ pub fn added(parser: &mut Parser<'_>, levels: u32) -> Result<(), Fault>
 /// A sum with a sign before it (4.5.4).
 #[cycle(levels)]
 #[tactic(auto, unfolding(syntax_grammar::specs::Expressions::signed))]
-pub fn signed(parser: &mut Parser<'_>, levels: u32) -> Result<(), Fault>
+pub fn signed(parser: &mut Parser<'_>, levels: u32) -> Result<(), Failure>
     ensures { Reads the_simple IsSimple (parts parser.old.out) (reader.signed (level.levels levels) parser.old.tokens) result parser.new.tokens (parts parser.new.out) }
 {
     let sign = sign(&mut parser.tokens)?;
@@ -172,7 +172,7 @@ pub fn signed(parser: &mut Parser<'_>, levels: u32) -> Result<(), Fault>
 /// A sum, the simple expression of 4.4.
 #[cycle(levels)]
 #[tactic(auto, unfolding(syntax_grammar::specs::Expressions::simple))]
-pub fn simple(parser: &mut Parser<'_>, levels: u32) -> Result<(), Fault>
+pub fn simple(parser: &mut Parser<'_>, levels: u32) -> Result<(), Failure>
     ensures { Reads the_simple IsSimple (parts parser.old.out) (reader.simple (level.levels levels) parser.old.tokens) result parser.new.tokens (parts parser.new.out) }
 {
     match parser.tokens.peek() {
@@ -193,7 +193,7 @@ pub fn simple(parser: &mut Parser<'_>, levels: u32) -> Result<(), Fault>
 /// The dots between two bounds, and the bound after them.
 #[cycle(levels)]
 #[tactic(auto, unfolding(syntax_grammar::specs::Expressions::upper_bound))]
-pub fn upper_bound(parser: &mut Parser<'_>, levels: u32) -> Result<(), Fault>
+pub fn upper_bound(parser: &mut Parser<'_>, levels: u32) -> Result<(), Failure>
     ensures { Reads the_simple IsSimple (parts parser.old.out) (reader.upper_bound (level.levels levels) parser.old.tokens) result parser.new.tokens (parts parser.new.out) }
 {
     parser.tokens.take(DOTS)?;
@@ -208,7 +208,7 @@ pub fn within(
     levels: u32,
     negation: Option<u32>,
     at: u32,
-) -> Result<(), Fault>
+) -> Result<(), Failure>
     ensures { Reads the_rel IsRel (pop (parts parser.old.out)) (reader.within (level.levels levels) (the_simple (top (parts parser.old.out))) negation at parser.old.tokens) result parser.new.tokens (parts parser.new.out) }
 {
     simple(parser, levels)?;
@@ -221,14 +221,14 @@ pub fn within(
             leave_out(&mut parser.out);
             one(&mut parser.out, One::OfMark(negation, at, mark))
         }
-        None => Err(Fault::Unexpected),
+        None => Err(Failure::Unexpected),
     }
 }
 
 /// A relation, after its first sum (4.4).
 #[cycle(levels)]
 #[tactic(auto, unfolding(syntax_grammar::specs::Expressions::rel_from))]
-pub fn rel_from(parser: &mut Parser<'_>, levels: u32) -> Result<(), Fault>
+pub fn rel_from(parser: &mut Parser<'_>, levels: u32) -> Result<(), Failure>
     requires { IsSimple (top (parts parser.old.out)) }
     ensures { Reads the_rel IsRel (pop (parts parser.old.out)) (reader.rel_from (level.levels levels) (the_simple (top (parts parser.old.out))) parser.old.tokens) result parser.new.tokens (parts parser.new.out) }
 {
@@ -254,7 +254,7 @@ pub fn rel_from(parser: &mut Parser<'_>, levels: u32) -> Result<(), Fault>
 /// A relation (4.4).
 #[cycle(levels)]
 #[tactic(auto, unfolding(syntax_grammar::specs::Expressions::rel))]
-pub fn rel(parser: &mut Parser<'_>, levels: u32) -> Result<(), Fault>
+pub fn rel(parser: &mut Parser<'_>, levels: u32) -> Result<(), Failure>
     ensures { Reads the_rel IsRel (parts parser.old.out) (reader.rel (level.levels levels) parser.old.tokens) result parser.new.tokens (parts parser.new.out) }
 {
     simple(parser, levels)?;
@@ -264,7 +264,7 @@ pub fn rel(parser: &mut Parser<'_>, levels: u32) -> Result<(), Fault>
 /// The relation after a logical operator that is at this token.
 #[cycle(levels)]
 #[tactic(auto, unfolding(syntax_grammar::specs::Expressions::conjoined))]
-pub fn conjoined(parser: &mut Parser<'_>, levels: u32, at: u32) -> Result<(), Fault>
+pub fn conjoined(parser: &mut Parser<'_>, levels: u32, at: u32) -> Result<(), Failure>
     ensures { Reads the_conjunct IsPart (parts parser.old.out) (reader.conjoined (level.levels levels) at parser.old.tokens) result parser.new.tokens (parts parser.new.out) }
 {
     rel(parser, levels)?;
@@ -274,7 +274,7 @@ pub fn conjoined(parser: &mut Parser<'_>, levels: u32, at: u32) -> Result<(), Fa
 /// A logical operator of one word and its relation.
 #[cycle(levels)]
 #[tactic(auto, unfolding(syntax_grammar::specs::Expressions::conjunct))]
-pub fn conjunct(parser: &mut Parser<'_>, levels: u32, word: u16) -> Result<(), Fault>
+pub fn conjunct(parser: &mut Parser<'_>, levels: u32, word: u16) -> Result<(), Failure>
     ensures { Reads the_conjunct IsPart (parts parser.old.out) (reader.conjunct (level.levels levels) word parser.old.tokens) result parser.new.tokens (parts parser.new.out) }
 {
     let at = parser.tokens.take(word)?;
@@ -289,7 +289,7 @@ pub fn short_conjunct(
     levels: u32,
     word: u16,
     second: u16,
-) -> Result<(), Fault>
+) -> Result<(), Failure>
     ensures { Reads the_conjunct IsPart (parts parser.old.out) (reader.short_conjunct (level.levels levels) word second parser.old.tokens) result parser.new.tokens (parts parser.new.out) }
 {
     let at = parser.tokens.take(word)?;
@@ -300,7 +300,12 @@ pub fn short_conjunct(
 /// Relations with one operator between them, after the first relation and the first operator.
 #[cycle(levels)]
 #[tactic(auto, unfolding(syntax_grammar::specs::Expressions::joined))]
-pub fn joined(parser: &mut Parser<'_>, levels: u32, operator: Logical, at: u32) -> Result<(), Fault>
+pub fn joined(
+    parser: &mut Parser<'_>,
+    levels: u32,
+    operator: Logical,
+    at: u32,
+) -> Result<(), Failure>
     ensures { Reads the_expr IsExpr (pop (parts parser.old.out)) (reader.joined (level.levels levels) operator (the_rel (top (parts parser.old.out))) at (chains.operator_kinds operator) (chains.conjunct (level.levels levels) operator) parser.old.tokens) result parser.new.tokens (parts parser.new.out) }
 {
     rel(parser, levels)?;
@@ -311,7 +316,7 @@ pub fn joined(parser: &mut Parser<'_>, levels: u32, operator: Logical, at: u32) 
 /// Relations, after the first and the first `and`.
 #[cycle(levels)]
 #[tactic(auto, unfolding(syntax_grammar::specs::Expressions::after_and))]
-pub fn after_and(parser: &mut Parser<'_>, levels: u32, at: u32) -> Result<(), Fault>
+pub fn after_and(parser: &mut Parser<'_>, levels: u32, at: u32) -> Result<(), Failure>
     ensures { Reads the_expr IsExpr (pop (parts parser.old.out)) (reader.after_and (level.levels levels) (the_rel (top (parts parser.old.out))) at parser.old.tokens) result parser.new.tokens (parts parser.new.out) }
 {
     if parser.tokens.peek() == THEN {
@@ -325,7 +330,7 @@ pub fn after_and(parser: &mut Parser<'_>, levels: u32, at: u32) -> Result<(), Fa
 /// Relations, after the first and the first `or`.
 #[cycle(levels)]
 #[tactic(auto, unfolding(syntax_grammar::specs::Expressions::after_or))]
-pub fn after_or(parser: &mut Parser<'_>, levels: u32, at: u32) -> Result<(), Fault>
+pub fn after_or(parser: &mut Parser<'_>, levels: u32, at: u32) -> Result<(), Failure>
     ensures { Reads the_expr IsExpr (pop (parts parser.old.out)) (reader.after_or (level.levels levels) (the_rel (top (parts parser.old.out))) at parser.old.tokens) result parser.new.tokens (parts parser.new.out) }
 {
     if parser.tokens.peek() == ELSE {
@@ -339,7 +344,7 @@ pub fn after_or(parser: &mut Parser<'_>, levels: u32, at: u32) -> Result<(), Fau
 /// An expression, after its first relation (4.4).
 #[cycle(levels)]
 #[tactic(auto, unfolding(syntax_grammar::specs::Expressions::expr_from))]
-pub fn expr_from(parser: &mut Parser<'_>, levels: u32) -> Result<(), Fault>
+pub fn expr_from(parser: &mut Parser<'_>, levels: u32) -> Result<(), Failure>
     requires { IsRel (top (parts parser.old.out)) }
     ensures { Reads the_expr IsExpr (pop (parts parser.old.out)) (reader.expr_from (level.levels levels) (the_rel (top (parts parser.old.out))) parser.old.tokens) result parser.new.tokens (parts parser.new.out) }
 {
@@ -363,7 +368,7 @@ pub fn expr_from(parser: &mut Parser<'_>, levels: u32) -> Result<(), Fault>
 /// An expression (4.4).
 #[cycle(levels)]
 #[tactic(auto, unfolding(syntax_grammar::specs::Expressions::expr))]
-pub fn expr(parser: &mut Parser<'_>, levels: u32) -> Result<(), Fault>
+pub fn expr(parser: &mut Parser<'_>, levels: u32) -> Result<(), Failure>
     ensures { Reads the_expr IsExpr (parts parser.old.out) (reader.expr (level.levels levels) parser.old.tokens) result parser.new.tokens (parts parser.new.out) }
 {
     rel(parser, levels)?;

@@ -15,12 +15,12 @@ use crate::parser::Parser;
 use crate::ranges::range;
 use ada_base::kinds::{CLOSE_ROUND, IDENTIFIER, IN, OF, OPEN_ROUND, PARALLEL, WHEN};
 use syntax_nodes::{Leaf, One, Parts, Two, bare, leaf, leave_out, nothing, one, two};
-use syntax_readers::Fault;
+use syntax_readers::Failure;
 
 /// `when` and a condition, if they are there (5.5): whether they are.
 #[cycle(levels)]
 #[tactic(auto, unfolding(syntax_grammar::specs::Brackets::filter))]
-pub fn filter(parser: &mut Parser<'_>, levels: u32) -> Result<bool, Fault>
+pub fn filter(parser: &mut Parser<'_>, levels: u32) -> Result<bool, Failure>
     ensures { ReadsForm told_expr HasFilter (parts parser.old.out) (brackets.filter (level.levels levels) parser.old.tokens) result parser.new.tokens (parts parser.new.out) }
 {
     if parser.tokens.peek() == WHEN {
@@ -36,7 +36,7 @@ pub fn filter(parser: &mut Parser<'_>, levels: u32) -> Result<bool, Fault>
 /// An iteration over an array, after its parameter (5.5.2).
 #[cycle(levels)]
 #[tactic(auto, unfolding(syntax_grammar::specs::Brackets::iter_of))]
-pub fn iter_of(parser: &mut Parser<'_>, levels: u32, item: u32) -> Result<(), Fault>
+pub fn iter_of(parser: &mut Parser<'_>, levels: u32, item: u32) -> Result<(), Failure>
     ensures { Reads the_iter IsNoRange (parts parser.old.out) (brackets.iter_of (level.levels levels) item parser.old.tokens) result parser.new.tokens (parts parser.new.out) }
 {
     parser.tokens.take(OF)?;
@@ -48,7 +48,7 @@ pub fn iter_of(parser: &mut Parser<'_>, levels: u32, item: u32) -> Result<(), Fa
 /// An iteration over a range, after its parameter (5.5). Without `reverse` and filter the range is the part, and the answer the parameter.
 #[cycle(levels)]
 #[tactic(auto, unfolding(syntax_grammar::specs::Brackets::iter_in))]
-pub fn iter_in(parser: &mut Parser<'_>, levels: u32, index: u32) -> Result<Option<u32>, Fault>
+pub fn iter_in(parser: &mut Parser<'_>, levels: u32, index: u32) -> Result<Option<u32>, Failure>
     ensures { ReadsForm iter_form EachForm (parts parser.old.out) (brackets.iter_in (level.levels levels) index parser.old.tokens) result parser.new.tokens (parts parser.new.out) }
 {
     parser.tokens.take(IN)?;
@@ -66,7 +66,7 @@ pub fn iter_in(parser: &mut Parser<'_>, levels: u32, index: u32) -> Result<Optio
 /// An iteration (5.5, 5.5.2). Over a range without `reverse` and filter the range is the part, and the answer the parameter.
 #[cycle(levels)]
 #[tactic(auto, unfolding(syntax_grammar::specs::Brackets::iter))]
-pub fn iter_begun(parser: &mut Parser<'_>, levels: u32) -> Result<Option<u32>, Fault>
+pub fn iter_begun(parser: &mut Parser<'_>, levels: u32) -> Result<Option<u32>, Failure>
     ensures { ReadsForm iter_form EachForm (parts parser.old.out) (brackets.iter (level.levels levels) parser.old.tokens) result parser.new.tokens (parts parser.new.out) }
 {
     let index = parser.tokens.take(IDENTIFIER)?;
@@ -79,7 +79,7 @@ pub fn iter_begun(parser: &mut Parser<'_>, levels: u32) -> Result<Option<u32>, F
 }
 
 /// Joins an iteration that was begun.
-pub fn iter_joined(out: &mut Parts, begun: Option<u32>) -> Result<(), Fault>
+pub fn iter_joined(out: &mut Parts, begun: Option<u32>) -> Result<(), Failure>
     ensures { JoinsIter begun result (parts out.new) (parts out.old) }
 {
     match begun {
@@ -92,7 +92,7 @@ pub fn iter_joined(out: &mut Parts, begun: Option<u32>) -> Result<(), Fault>
 }
 
 /// An iteration (5.5, 5.5.2).
-pub fn iter(parser: &mut Parser<'_>, levels: u32) -> Result<(), Fault>
+pub fn iter(parser: &mut Parser<'_>, levels: u32) -> Result<(), Failure>
     ensures { Reads the_iter IsPart (parts parser.old.out) (brackets.iter (level.levels levels) parser.old.tokens) result parser.new.tokens (parts parser.new.out) }
 {
     let begun = iter_begun(parser, levels)?;
@@ -102,7 +102,7 @@ pub fn iter(parser: &mut Parser<'_>, levels: u32) -> Result<(), Fault>
 /// A chunk specification over a range, after its parameter (5.5).
 #[cycle(levels)]
 #[tactic(auto, unfolding(syntax_grammar::specs::Brackets::chunk_in))]
-pub fn chunk_in(parser: &mut Parser<'_>, levels: u32, at: u32, index: u32) -> Result<(), Fault>
+pub fn chunk_in(parser: &mut Parser<'_>, levels: u32, at: u32, index: u32) -> Result<(), Failure>
     ensures { Reads the_parallel IsRangeChunk (parts parser.old.out) (brackets.chunk_in (level.levels levels) at index parser.old.tokens) result parser.new.tokens (parts parser.new.out) }
 {
     parser.tokens.take(IN)?;
@@ -113,7 +113,7 @@ pub fn chunk_in(parser: &mut Parser<'_>, levels: u32, at: u32, index: u32) -> Re
 /// A chunk specification, after its first sum: whether the sum is all, and then the part.
 #[cycle(levels)]
 #[tactic(auto, unfolding(syntax_grammar::specs::Brackets::chunk_from))]
-pub fn chunk_from(parser: &mut Parser<'_>, levels: u32, at: u32) -> Result<bool, Fault>
+pub fn chunk_from(parser: &mut Parser<'_>, levels: u32, at: u32) -> Result<bool, Failure>
     requires { IsSimple (top (parts parser.old.out)) }
     ensures { ReadsForm (chunk_form at) ChunkForm (pop (parts parser.old.out)) (brackets.chunk_from (level.levels levels) at (the_simple (top (parts parser.old.out))) parser.old.tokens) result parser.new.tokens (parts parser.new.out) }
 {
@@ -126,14 +126,14 @@ pub fn chunk_from(parser: &mut Parser<'_>, levels: u32, at: u32) -> Result<bool,
             chunk_in(parser, levels, at, index)?;
             Ok(false)
         }
-        None => Err(Fault::Unexpected),
+        None => Err(Failure::Unexpected),
     }
 }
 
 /// A chunk specification in its brackets (5.5): whether it is a sum alone, and then the sum is the part.
 #[cycle(levels)]
 #[tactic(auto, unfolding(syntax_grammar::specs::Brackets::chunk))]
-pub fn chunk_opened(parser: &mut Parser<'_>, levels: u32, at: u32) -> Result<bool, Fault>
+pub fn chunk_opened(parser: &mut Parser<'_>, levels: u32, at: u32) -> Result<bool, Failure>
     ensures { ReadsForm (chunk_form at) ChunkForm (parts parser.old.out) (brackets.chunk (level.levels levels) at parser.old.tokens) result parser.new.tokens (parts parser.new.out) }
 {
     parser.tokens.take(OPEN_ROUND)?;
@@ -146,7 +146,7 @@ pub fn chunk_opened(parser: &mut Parser<'_>, levels: u32, at: u32) -> Result<boo
 /// `parallel` with a chunk specification or without one (5.5).
 #[cycle(levels)]
 #[tactic(auto, unfolding(syntax_grammar::specs::Brackets::parallel))]
-pub fn parallel(parser: &mut Parser<'_>, levels: u32) -> Result<(), Fault>
+pub fn parallel(parser: &mut Parser<'_>, levels: u32) -> Result<(), Failure>
     ensures { Reads the_parallel IsParallel (parts parser.old.out) (brackets.parallel (level.levels levels) parser.old.tokens) result parser.new.tokens (parts parser.new.out) }
 {
     let at = parser.tokens.take(PARALLEL)?;

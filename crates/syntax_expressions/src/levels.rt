@@ -13,7 +13,7 @@ use crate::parser::Parser;
 use crate::ranges::call_opened;
 use crate::squares::square_opened;
 use ada_base::kinds::{OPEN_ROUND, OPEN_SQUARE};
-use syntax_readers::{Cursor, Fault};
+use syntax_readers::{Cursor, Failure};
 
 /// Whether the next token is of this kind.
 pub fn opens(tokens: &Cursor<'_>, kind: u16) -> bool
@@ -23,23 +23,23 @@ pub fn opens(tokens: &Cursor<'_>, kind: u16) -> bool
 }
 
 /// The levels that are left below a token which opens one. Where none is left the fault says whether it does.
-pub fn below(levels: u32, opens: bool) -> Result<u32, Fault>
+pub fn below(levels: u32, opens: bool) -> Result<u32, Failure>
     ensures { LeavesLevels opens levels result }
 {
     if levels > 0 {
         return Ok(levels - 1);
     }
     if opens {
-        Err(Fault::TooDeep)
+        Err(Failure::TooDeep)
     } else {
-        Err(Fault::Unexpected)
+        Err(Failure::Unexpected)
     }
 }
 
 /// A primary that begins with a round bracket.
 #[cycle(levels)]
 #[tactic(auto, unfolding(syntax_grammar::specs::Levels::levels))]
-pub fn round(parser: &mut Parser<'_>, levels: u32) -> Result<(), Fault>
+pub fn round(parser: &mut Parser<'_>, levels: u32) -> Result<(), Failure>
     ensures { Reads the_primary IsPrimary (parts parser.old.out) (((level.levels levels).round) parser.old.tokens) result parser.new.tokens (parts parser.new.out) }
 {
     let inner = below(levels, opens(&parser.tokens, OPEN_ROUND))?;
@@ -49,7 +49,7 @@ pub fn round(parser: &mut Parser<'_>, levels: u32) -> Result<(), Fault>
 /// A primary that begins with a square bracket.
 #[cycle(levels)]
 #[tactic(auto, unfolding(syntax_grammar::specs::Levels::levels))]
-pub fn square(parser: &mut Parser<'_>, levels: u32) -> Result<(), Fault>
+pub fn square(parser: &mut Parser<'_>, levels: u32) -> Result<(), Failure>
     ensures { Reads the_primary IsPrimary (parts parser.old.out) (((level.levels levels).square) parser.old.tokens) result parser.new.tokens (parts parser.new.out) }
 {
     let inner = below(levels, opens(&parser.tokens, OPEN_SQUARE))?;
@@ -59,7 +59,7 @@ pub fn square(parser: &mut Parser<'_>, levels: u32) -> Result<(), Fault>
 /// The round brackets of a call, an index or a conversion.
 #[cycle(levels)]
 #[tactic(auto, unfolding(syntax_grammar::specs::Levels::levels))]
-pub fn call(parser: &mut Parser<'_>, levels: u32) -> Result<(), Fault>
+pub fn call(parser: &mut Parser<'_>, levels: u32) -> Result<(), Failure>
     ensures { Reads the_part IsPart (parts parser.old.out) (((level.levels levels).call) parser.old.tokens) result parser.new.tokens (parts parser.new.out) }
 {
     let inner = below(levels, opens(&parser.tokens, OPEN_ROUND))?;
@@ -69,7 +69,7 @@ pub fn call(parser: &mut Parser<'_>, levels: u32) -> Result<(), Fault>
 /// A chunk specification in its brackets, after the token of `parallel`: whether it is a sum alone, and then the sum is the part.
 #[cycle(levels)]
 #[tactic(auto, unfolding(syntax_grammar::specs::Levels::levels))]
-pub fn chunk(parser: &mut Parser<'_>, levels: u32, at: u32) -> Result<bool, Fault>
+pub fn chunk(parser: &mut Parser<'_>, levels: u32, at: u32) -> Result<bool, Failure>
     ensures { ReadsForm (chunk_form at) ChunkForm (parts parser.old.out) (((level.levels levels).chunk) at parser.old.tokens) result parser.new.tokens (parts parser.new.out) }
 {
     let inner = below(levels, opens(&parser.tokens, OPEN_ROUND))?;

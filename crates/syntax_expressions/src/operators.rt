@@ -9,12 +9,12 @@ use ada_base::kinds::{
     AMPERSAND, AT_LEAST, AT_MOST, EQUAL, GREATER, LESS, MINUS, MOD, PLUS, REM, REVERSE, SLASH,
     STAR, UNEQUAL,
 };
-use syntax_readers::{Cursor, Fault};
+use syntax_readers::{Cursor, Failure};
 use syntax_tree::{Additive, Multiplicative, Sign};
 
 /// A multiplying operator, and its token (4.5.5).
 #[tactic(auto, unfolding(syntax_grammar::specs::Expressions::multiplying_operator))]
-pub fn multiplying_operator(tokens: &mut Cursor<'_>) -> Result<(Multiplicative, u32), Fault>
+pub fn multiplying_operator(tokens: &mut Cursor<'_>) -> Result<(Multiplicative, u32), Failure>
     ensures { Computes (reader.multiplying_operator tokens.old) result tokens.new }
 {
     match tokens.peek() {
@@ -27,7 +27,7 @@ pub fn multiplying_operator(tokens: &mut Cursor<'_>) -> Result<(Multiplicative, 
 
 /// A binary adding operator, and its token (4.5.3).
 #[tactic(auto, unfolding(syntax_grammar::specs::Expressions::adding_operator))]
-pub fn adding_operator(tokens: &mut Cursor<'_>) -> Result<(Additive, u32), Fault>
+pub fn adding_operator(tokens: &mut Cursor<'_>) -> Result<(Additive, u32), Failure>
     ensures { Computes (reader.adding_operator tokens.old) result tokens.new }
 {
     match tokens.peek() {
@@ -39,7 +39,7 @@ pub fn adding_operator(tokens: &mut Cursor<'_>) -> Result<(Additive, u32), Fault
 
 /// The sign before a sum, with its token (4.5.4).
 #[tactic(auto, unfolding(syntax_grammar::specs::Expressions::sign))]
-pub fn sign(tokens: &mut Cursor<'_>) -> Result<Sign, Fault>
+pub fn sign(tokens: &mut Cursor<'_>) -> Result<Sign, Failure>
     ensures { Computes (reader.sign tokens.old) result tokens.new }
 {
     if tokens.peek() == PLUS {
@@ -51,7 +51,7 @@ pub fn sign(tokens: &mut Cursor<'_>) -> Result<Sign, Fault>
 
 /// A relational operator, and its token (4.5.2).
 #[tactic(auto, unfolding(syntax_grammar::specs::Expressions::comparison))]
-pub fn comparison(tokens: &mut Cursor<'_>) -> Result<(Comparison, u32), Fault>
+pub fn comparison(tokens: &mut Cursor<'_>) -> Result<(Comparison, u32), Failure>
     ensures { Computes (reader.comparison tokens.old) result tokens.new }
 {
     match tokens.peek() {
@@ -66,7 +66,7 @@ pub fn comparison(tokens: &mut Cursor<'_>) -> Result<(Comparison, u32), Fault>
 
 /// The token of `reverse`, if it is there (5.5).
 #[tactic(auto, unfolding(syntax_grammar::specs::Brackets::reversed))]
-pub fn reversed(tokens: &mut Cursor<'_>) -> Result<Option<u32>, Fault>
+pub fn reversed(tokens: &mut Cursor<'_>) -> Result<Option<u32>, Failure>
     ensures { Computes (brackets.reversed tokens.old) result tokens.new }
 {
     if tokens.peek() == REVERSE {

@@ -20,12 +20,12 @@ use ada_base::kinds::{
     CLOSE_ROUND, CLOSE_SQUARE, COMMA, FOR, IDENTIFIER, OPEN_ROUND, OPEN_SQUARE, PARALLEL, TICK,
 };
 use syntax_nodes::{One, Parts, Three, Two, leave_out, nothing, one, swap, three, two};
-use syntax_readers::Fault;
+use syntax_readers::Failure;
 
 /// A reduction, after the closing bracket of its values (4.5.10).
 #[cycle(levels)]
 #[tactic(auto, unfolding(syntax_grammar::specs::Brackets::reduction))]
-pub fn reduction(parser: &mut Parser<'_>, levels: u32, bracket: u32, at: u32) -> Result<(), Fault>
+pub fn reduction(parser: &mut Parser<'_>, levels: u32, bracket: u32, at: u32) -> Result<(), Failure>
     ensures { Reads the_primary IsPrimary (pop (pop (pop (parts parser.old.out)))) (brackets.reduction (level.levels levels) bracket (optional_parallel (third (parts parser.old.out))) at (the_iter (second (parts parser.old.out))) (the_expr (top (parts parser.old.out))) parser.old.tokens) result parser.new.tokens (parts parser.new.out) }
 {
     three(&mut parser.out, Three::Values(at))?;
@@ -40,7 +40,7 @@ pub fn reduction(parser: &mut Parser<'_>, levels: u32, bracket: u32, at: u32) ->
 }
 
 /// Joins values that are an association: nothing, the range and the value.
-pub fn each_joined(out: &mut Parts, at: u32, index: u32) -> Result<(), Fault>
+pub fn each_joined(out: &mut Parts, at: u32, index: u32) -> Result<(), Failure>
     ensures { Joins result (parts out.new) (OfAssoc (syntax.Each at index (the_range (second (parts out.old))) (the_expr (top (parts out.old)))) ∷ pop (pop (pop (parts out.old)))) }
 {
     two(out, Two::Each(at, index))?;
@@ -50,7 +50,7 @@ pub fn each_joined(out: &mut Parts, at: u32, index: u32) -> Result<(), Fault>
 }
 
 /// Joins the iteration of values that could have been an association: nothing, the range and the value.
-pub fn range_joined(out: &mut Parts, index: u32) -> Result<(), Fault>
+pub fn range_joined(out: &mut Parts, index: u32) -> Result<(), Failure>
     ensures { JoinsRange index result (parts out.new) (parts out.old) }
 {
     swap(out)?;
@@ -68,7 +68,7 @@ pub fn each_end(
     bracket: u32,
     at: u32,
     index: u32,
-) -> Result<(), Fault>
+) -> Result<(), Failure>
     requires { optional_parallel (third (parts parser.old.out)) ≡ AbsentParallel }
     ensures { Reads the_primary IsPrimary (pop (pop (pop (parts parser.old.out)))) (brackets.each_end (level.levels levels) bracket at (iter_form (Some index) (second (parts parser.old.out))) (the_expr (top (parts parser.old.out))) parser.old.tokens) result parser.new.tokens (parts parser.new.out) }
 {
@@ -93,7 +93,12 @@ pub fn each_end(
 /// Values that are those of a reduction.
 #[cycle(levels)]
 #[tactic(auto, unfolding(syntax_grammar::specs::Brackets::values_end))]
-pub fn values_end(parser: &mut Parser<'_>, levels: u32, bracket: u32, at: u32) -> Result<(), Fault>
+pub fn values_end(
+    parser: &mut Parser<'_>,
+    levels: u32,
+    bracket: u32,
+    at: u32,
+) -> Result<(), Failure>
     requires { is_each (optional_parallel (third (parts parser.old.out))) (the_iter (second (parts parser.old.out))) ≡ false }
     ensures { Reads the_primary IsPrimary (pop (pop (pop (parts parser.old.out)))) (brackets.values_end (level.levels levels) bracket (optional_parallel (third (parts parser.old.out))) at (the_iter (second (parts parser.old.out))) (the_expr (top (parts parser.old.out))) parser.old.tokens) result parser.new.tokens (parts parser.new.out) }
 {
@@ -109,7 +114,7 @@ pub fn values_from(
     levels: u32,
     bracket: u32,
     parallel: bool,
-) -> Result<(), Fault>
+) -> Result<(), Failure>
     requires { HasParallel parallel (top (parts parser.old.out)) }
     ensures { Reads the_primary IsPrimary (pop (parts parser.old.out)) (brackets.values_from (level.levels levels) bracket (optional_parallel (top (parts parser.old.out))) parser.old.tokens) result parser.new.tokens (parts parser.new.out) }
 {
@@ -129,7 +134,7 @@ pub fn values_from(
 /// What stands in square brackets and begins with `parallel` or `for`.
 #[cycle(levels)]
 #[tactic(auto, unfolding(syntax_grammar::specs::Brackets::values))]
-pub fn values(parser: &mut Parser<'_>, levels: u32, bracket: u32) -> Result<(), Fault>
+pub fn values(parser: &mut Parser<'_>, levels: u32, bracket: u32) -> Result<(), Failure>
     ensures { Reads the_primary IsPrimary (parts parser.old.out) (brackets.values (level.levels levels) bracket parser.old.tokens) result parser.new.tokens (parts parser.new.out) }
 {
     if parser.tokens.peek() == PARALLEL {
@@ -144,7 +149,7 @@ pub fn values(parser: &mut Parser<'_>, levels: u32, bracket: u32) -> Result<(), 
 /// What else stands in square brackets.
 #[cycle(levels)]
 #[tactic(auto, unfolding(syntax_grammar::specs::Brackets::square_inside))]
-pub fn square_inside(parser: &mut Parser<'_>, levels: u32, bracket: u32) -> Result<(), Fault>
+pub fn square_inside(parser: &mut Parser<'_>, levels: u32, bracket: u32) -> Result<(), Failure>
     ensures { Reads the_primary IsPrimary (parts parser.old.out) (brackets.square_inside (level.levels levels) bracket parser.old.tokens) result parser.new.tokens (parts parser.new.out) }
 {
     let alone = inside(parser, levels)?;
@@ -159,7 +164,7 @@ pub fn square_inside(parser: &mut Parser<'_>, levels: u32, bracket: u32) -> Resu
 /// A primary in square brackets (4.3.3, 4.5.10).
 #[cycle(levels)]
 #[tactic(auto, unfolding(syntax_grammar::specs::Brackets::square))]
-pub fn square_opened(parser: &mut Parser<'_>, levels: u32) -> Result<(), Fault>
+pub fn square_opened(parser: &mut Parser<'_>, levels: u32) -> Result<(), Failure>
     ensures { Reads the_primary IsPrimary (parts parser.old.out) (brackets.square (level.levels levels) parser.old.tokens) result parser.new.tokens (parts parser.new.out) }
 {
     let bracket = parser.tokens.take(OPEN_SQUARE)?;

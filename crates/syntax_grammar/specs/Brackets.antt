@@ -4,7 +4,7 @@ use Rattle.std.specs.Prelude.{ℕ, zero, suc, [], ◌∷◌, Option, Some, None,
 use Rattle.syntax_readers.specs.Readers.{Reader, ◌>>=◌, ◌>>◌, pure, symbol, by_next, given}
 use Rattle.ada_base.specs.Kinds as kind
 use Rattle.syntax_tree.specs.Syntax as syntax
-use Rattle.syntax_tree.specs.Syntax.{Expr, Simple, Primary, If, Square, Reduction, Elsif, Elsifs, NoElsif, Exprs, NoExpr, OptionalExpr, AbsentExpr, PresentExpr, Name, Part, Call, Arg, Args, NoArg, Range, Bounded, Whole, Constrained, Choice, Value, Span, Others, Choices, NoChoice, Many, Positions, PositionsOthers, FirstOthers, Associations, Assoc, Chosen, Each, Assocs, NoAssoc, Parallel, Unchunked, Counted, Chunked, OptionalParallel, AbsentParallel, PresentParallel, Iter, InRange, OfName}
+use Rattle.syntax_tree.specs.Syntax.{Expr, Simple, Primary, If, Square, Reduction, Elsif, Elsifs, NoElsif, Exprs, NoExpr, OptionalExpr, AbsentExpr, PresentExpr, Name, NamePart, Call, Arg, Args, NoArg, Range, Bounded, Whole, Constrained, Choice, Value, Span, Others, Choices, NoChoice, Many, Positions, PositionsOthers, FirstOthers, Associations, Assoc, Chosen, Each, Assocs, NoAssoc, Parallel, Unchunked, Counted, Chunked, OptionalParallel, AbsentParallel, PresentParallel, Iter, InRange, OfName}
 use Rattle.syntax_tree.specs.Joining.{args_and, elsifs_and, exprs_and, choices_and, assocs_and, bare_name, bare_identifier, expr_identifier}
 use Rattle.syntax_grammar.specs.Expressions.{name, simple, upper_bound, rel_from, expr_from, expr}
 use Rattle.syntax_grammar.specs.Read.{Inside, OneInside, ManyInside, in_round, in_square, is_each, each_of}
@@ -55,7 +55,7 @@ module _ (inner : Opened) where
   unfoldable pub more_args : Reader Args
   more_args = grown args_and NoArg (kind.comma ∷ []) next_arg
 
-  unfoldable pub call : Reader Part
+  unfoldable pub call : Reader NamePart
   call = symbol kind.open_round >>= λ b. arg >>= λ a. more_args >>= λ more. symbol kind.close_round >> pure (Call b a more)
 
   -- ---- associations

@@ -3,7 +3,7 @@ use Rattle.std.specs.Prelude.{ℕ, List, [], ◌∷◌, Option, Some, None}
 use Rattle.syntax_readers.specs.Readers.{Reader, ◌>>=◌, ◌>>◌, ◌<$>◌, pure, symbol, by_next, given}
 use Rattle.ada_base.specs.Kinds as kind
 use Rattle.syntax_tree.specs.Syntax as syntax
-use Rattle.syntax_tree.specs.Syntax.{Expr, Single, Joined, Conjunct, NoConjunct, Rel, Alone, Compared, Within, OfMark, Simple, Sum, Adding, Addings, NoAdding, Term, Product, Multiplying, NoMultiplying, Factor, Operand, Power, Abs, Not, Primary, Number, Text, Target, Named, Name, Part, Field, Attribute, RangeAttribute, NoPart}
+use Rattle.syntax_tree.specs.Syntax.{Expr, Single, Joined, Conjunct, NoConjunct, Rel, Alone, Compared, Within, OfMark, Simple, Sum, Adding, Addings, NoAdding, Term, Product, Multiplying, NoMultiplying, Factor, Operand, Power, Abs, Not, Primary, Number, Text, Target, Named, Name, NamePart, Field, Attribute, RangeAttribute, NoPart}
 use Rattle.syntax_tree.specs.declared.operators.Logical.{Logical}
 use Rattle.syntax_tree.specs.declared.operators.Logical.TheVariants as logical
 use Rattle.ada_base.specs.declared.operation.Comparison.{Comparison}
@@ -60,7 +60,7 @@ comparison =
 module _ (inner : Opened) where
   -- ---- names
 
-  unfoldable pub part : Reader Part
+  unfoldable pub part : Reader NamePart
   part =
       by_next (kind.point ∷ []) (symbol kind.point >> (symbol kind.identifier >>= λ at. pure (Field at)))
       (by_next (kind.tick ∷ [])

@@ -7,7 +7,7 @@ use Rattle.syntax_readers.proofs.Forms.{to_right}
 use Rattle.syntax_readers.proofs.Samples.{sample_as, sample_leaf, sample_free, sample_none, sample_both, kind_is, first_held, first_free, begins_held, begins_free, sample_of}
 use Rattle.ada_base.specs.Kinds as kind
 use Rattle.syntax_tree.specs.Syntax as syntax
-use Rattle.syntax_tree.specs.Syntax.{Expr, Simple, Primary, Number, Text, Target, Named, Group, If, Round, Square, OneValue, Reduction, Part, Field, Call, Attribute, RangeAttribute, NoArg, Parallel, Unchunked, Counted, Chunked}
+use Rattle.syntax_tree.specs.Syntax.{Expr, Simple, Primary, Number, Text, Target, Named, Group, If, Round, Square, OneValue, Reduction, NamePart, Field, Call, Attribute, RangeAttribute, NoArg, Parallel, Unchunked, Counted, Chunked}
 use Rattle.syntax_tree.specs.Productions as spell
 use Rattle.syntax_grammar.specs.Levels.{levels}
 use Rattle.syntax_laws.proofs.Words.{Words}
@@ -55,7 +55,7 @@ module _ (limit depth : ℕ) (over : limit < suc depth) where
   square_first (If b at c v m o) w l = absurd l
   square_first (Round b m) w l = absurd l
 
-  call_first : (x : Part) (w : Word) → CallWords depth x w → BeginsTooDeep limit (kind.open_round ∷ []) w
+  call_first : (x : NamePart) (w : Word) → CallWords depth x w → BeginsTooDeep limit (kind.open_round ∷ []) w
   unfolding spell.expr
   call_first (Call b a more) w l = first_is kind.open_round b w refl l
   call_first (Field n) w l = absurd l

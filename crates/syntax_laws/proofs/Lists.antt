@@ -5,7 +5,7 @@ use Rattle.ada_base.specs.Languages.{Empty, ◌⋅◌}
 use Rattle.syntax_readers.proofs.Chains.{Listed, Grows}
 use Rattle.syntax_readers.proofs.Forms.{to_right, to_left}
 use Rattle.ada_base.specs.Kinds as kind
-use Rattle.syntax_tree.specs.Syntax.{Parts, Part, NoPart, AlsoPart, Multiplyings, Multiplying, NoMultiplying, AlsoMultiplying, Addings, Adding, NoAdding, AlsoAdding, Conjuncts, Conjunct, NoConjunct, AlsoConjunct, Elsifs, Elsif, NoElsif, AlsoElsif, Exprs, Expr, NoExpr, AlsoExpr, Args, Arg, NoArg, AlsoArg, Choices, Choice, NoChoice, AlsoChoice, Assocs, Assoc, NoAssoc, AlsoAssoc, MoreStmts, Stmt, NoStmt, AlsoStmt, Arms, Arm, NoArm, AlsoArm, Alts, Alt, NoAlt, AlsoAlt, Branches, Stmts, NoBranch, AlsoBranch, Handlers, Handler, NoHandler, AlsoHandler}
+use Rattle.syntax_tree.specs.Syntax.{NameParts, NamePart, NoPart, AlsoPart, Multiplyings, Multiplying, NoMultiplying, AlsoMultiplying, Addings, Adding, NoAdding, AlsoAdding, Conjuncts, Conjunct, NoConjunct, AlsoConjunct, Elsifs, Elsif, NoElsif, AlsoElsif, Exprs, Expr, NoExpr, AlsoExpr, Args, Arg, NoArg, AlsoArg, Choices, Choice, NoChoice, AlsoChoice, Assocs, Assoc, NoAssoc, AlsoAssoc, MoreStmts, Stmt, NoStmt, AlsoStmt, Arms, Arm, NoArm, AlsoArm, Alts, Alt, NoAlt, AlsoAlt, Branches, Stmts, NoBranch, AlsoBranch, Handlers, Handler, NoHandler, AlsoHandler}
 use Rattle.syntax_tree.specs.Joining.{parts_and, multiplyings_and, addings_and, conjuncts_and, elsifs_and, exprs_and, args_and, choices_and, assocs_and, stmts_and, arms_and, alts_and, branches_and, handlers_and}
 use Rattle.syntax_tree.specs.Productions as spell
 use Rattle.syntax_tree.specs.declared.operators.Logical.{Logical}
@@ -13,15 +13,15 @@ use Rattle.syntax_laws.proofs.Words.{Words, After}
 
 -- ---- parts
 
-abbrev pub append_parts : Parts → Parts → Parts
+abbrev pub append_parts : NameParts → NameParts → NameParts
 append_parts NoPart l = l
 append_parts (AlsoPart x xs) l = AlsoPart x (append_parts xs l)
 
-parts-end : (l : Parts) → append_parts l NoPart ≡ l
+parts-end : (l : NameParts) → append_parts l NoPart ≡ l
 parts-end NoPart = refl
 parts-end (AlsoPart x xs) = ap (AlsoPart x) (parts-end xs)
 
-parts-more : (l : Parts) (b : Part) (m : Parts) → append_parts l (AlsoPart b m) ≡ append_parts (parts_and l b) m
+parts-more : (l : NameParts) (b : NamePart) (m : NameParts) → append_parts l (AlsoPart b m) ≡ append_parts (parts_and l b) m
 parts-more NoPart b m = refl
 parts-more (AlsoPart x xs) b m = ap (AlsoPart x) (parts-more xs b m)
 
@@ -31,7 +31,7 @@ parts_grow = record { at_front = λ l. refl; at_end = parts-end; at_more = parts
 pub parts_listed : (depth : ℕ) → Listed NoPart AlsoPart (Words spell.part depth) (Words spell.parts depth)
 unfolding spell.expr
 parts_listed depth = record { at_none = λ w e. e; at_more = λ x xs w l. l; parts = parts } where
-  parts : (xs : Parts) (w : Word) → Words spell.parts depth xs w → ((xs ≡ NoPart) × Empty w) ⊎ ((x : Part) × (ys : Parts) × (xs ≡ AlsoPart x ys) × (Words spell.part depth x ⋅ Words spell.parts depth ys) w)
+  parts : (xs : NameParts) (w : Word) → Words spell.parts depth xs w → ((xs ≡ NoPart) × Empty w) ⊎ ((x : NamePart) × (ys : NameParts) × (xs ≡ AlsoPart x ys) × (Words spell.part depth x ⋅ Words spell.parts depth ys) w)
   parts NoPart w e = inl (refl, e)
   parts (AlsoPart x xs) w l = inr (x, xs, refl, l)
 

@@ -12,7 +12,7 @@ use Rattle.syntax_readers.proofs.Chains.{items}
 use Rattle.syntax_readers.proofs.Forms.{from, to_left, to_right, without_before, at_second, form, keep, skip, lead, last}
 use Rattle.ada_base.specs.Kinds as kind
 use Rattle.syntax_tree.specs.Syntax as syntax
-use Rattle.syntax_tree.specs.Syntax.{Expr, Simple, Primary, Number, Text, Target, Named, Group, If, Round, Square, OneValue, Reduction, Elsif, Elsifs, Part, Field, Call, Attribute, RangeAttribute, Arg, Args, Many, Positions, PositionsOthers, FirstOthers, Associations, Assoc, Chosen, Each, Parallel, Unchunked, Counted, Chunked}
+use Rattle.syntax_tree.specs.Syntax.{Expr, Simple, Primary, Number, Text, Target, Named, Group, If, Round, Square, OneValue, Reduction, Elsif, Elsifs, NamePart, Field, Call, Attribute, RangeAttribute, Arg, Args, Many, Positions, PositionsOthers, FirstOthers, Associations, Assoc, Chosen, Each, Parallel, Unchunked, Counted, Chunked}
 use Rattle.syntax_tree.specs.Joining.{bare_identifier}
 use Rattle.syntax_tree.specs.Productions as spell
 use Rattle.syntax_grammar.specs.Opened.{Opened}
@@ -55,16 +55,16 @@ module _ (limit depth : ℕ) (deeper : suc depth ≤ limit) (inner : Opened) (be
 
   -- ---- calls
 
-  abbrev CallCases : Part → Language
+  abbrev CallCases : NamePart → Language
   CallCases =
       Image (λ (b : ℕ × (Arg × (Args × Unit {0}))). Call b.0 b.1.0 b.1.1.0)
       (λ b. Leaf D kind.open_round b.0 ⋅ (Words spell.arg' D b.1.0 ⋅ (Words spell.args D b.1.1.0 ⋅ Quoted D kind.close_round)))
 
-  join_call : (x : Part) (w : Word) → CallCases x w → CallWords depth x w
+  join_call : (x : NamePart) (w : Word) → CallCases x w → CallWords depth x w
   unfolding spell.expr
   join_call = form (CallWords depth) (λ b w l. at_second {L = Leaf D kind.open_round b.0} (λ v m. to_left m) l)
 
-  split_call : (x : Part) (w : Word) → CallWords depth x w → CallCases x w
+  split_call : (x : NamePart) (w : Word) → CallWords depth x w → CallCases x w
   unfolding spell.expr
   split_call (Call b f m) w l = ((b, (f, (m, tt))), refl, at_second {L = Leaf D kind.open_round b} (λ v k. to_right k) l)
   split_call (Field at) w l = absurd l

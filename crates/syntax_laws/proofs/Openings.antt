@@ -5,14 +5,14 @@ use Rattle.ada_base.specs.Languages.{Language}
 use Rattle.syntax_readers.specs.Sets.{Sets, one_kind}
 use Rattle.syntax_readers.specs.Exact.{Rule}
 use Rattle.ada_base.specs.Kinds as kind
-use Rattle.syntax_tree.specs.Syntax.{Primary, Group, If, Round, Square, OneValue, Reduction, Part, Call, Parallel, Counted, Chunked}
+use Rattle.syntax_tree.specs.Syntax.{Primary, Group, If, Round, Square, OneValue, Reduction, NamePart, Call, Parallel, Counted, Chunked}
 use Rattle.syntax_tree.specs.Patterns.{words_of, free, ◌then◌}
 use Rattle.syntax_tree.specs.Productions as spell
 use Rattle.syntax_grammar.specs.Opened.{Opened}
 use Rattle.syntax_grammar.specs.Expressions.{part_kinds, multiplying_kinds, adding_kinds, comparison_kinds}
 use Rattle.syntax_laws.proofs.Words.{Words}
 
-abbrev pub CallWords : ℕ → Part → Language
+abbrev pub CallWords : ℕ → NamePart → Language
 CallWords depth (Call b first more) = Words spell.part depth (Call b first more)
 CallWords depth _ = λ w. ⊥
 

@@ -10,7 +10,7 @@ use Rattle.syntax_readers.proofs.Chains.{items, begun}
 use Rattle.syntax_readers.proofs.Forms.{from, none_before, without_before, without_after, either, form, keep, skip, lead}
 use Rattle.ada_base.specs.Kinds as kind
 use Rattle.syntax_tree.specs.Syntax as syntax
-use Rattle.syntax_tree.specs.Syntax.{Simple, Sum, Adding, Addings, Term, Product, Multiplying, Factor, Operand, Power, Abs, Not, Primary, Number, Text, Target, Named, Group, If, Round, Square, OneValue, Reduction, Name, Part, Field, Call, Attribute, RangeAttribute}
+use Rattle.syntax_tree.specs.Syntax.{Simple, Sum, Adding, Addings, Term, Product, Multiplying, Factor, Operand, Power, Abs, Not, Primary, Number, Text, Target, Named, Group, If, Round, Square, OneValue, Reduction, Name, NamePart, Field, Call, Attribute, RangeAttribute}
 use Rattle.syntax_tree.specs.Productions as spell
 use Rattle.syntax_tree.specs.declared.operators.Additive.{Additive}
 use Rattle.syntax_tree.specs.declared.operators.Additive.TheVariants as additive
@@ -31,26 +31,26 @@ module _ (limit depth : ℕ) (within : depth ≤ limit) (inner : Opened) (below 
 
   -- ---- names
 
-  call_words : (x : Part) (w : Word) → CallWords depth x w → Words spell.part depth x w
+  call_words : (x : NamePart) (w : Word) → CallWords depth x w → Words spell.part depth x w
   call_words (Call b f m) w l = l
   call_words (Field at) w l = absurd l
   call_words (Attribute at) w l = absurd l
   call_words (RangeAttribute at) w l = absurd l
 
-  abbrev PartCases : Part → Language
+  abbrev PartCases : NamePart → Language
   PartCases =
       Or (Image Field (λ at. Quoted depth kind.point ⋅ Leaf depth kind.identifier at))
       (Or (Then (Leaf depth kind.tick) (λ _. Or (Image Attribute (Leaf depth kind.identifier)) (Image RangeAttribute (Leaf depth kind.range_word))))
       (CallWords depth))
 
-  join_part : (x : Part) (w : Word) → PartCases x w → Words spell.part depth x w
+  join_part : (x : NamePart) (w : Word) → PartCases x w → Words spell.part depth x w
   unfolding spell.expr
   join_part x w (inl (at, eq, l)) = from (Words spell.part depth) eq l
   join_part x w (inr (inl (n, u, v, e, i, inl (at, eq, j)))) = from (Words spell.part depth) eq (u, v, e, (n, i), j)
   join_part x w (inr (inl (n, u, v, e, i, inr (at, eq, j)))) = from (Words spell.part depth) eq (u, v, e, (n, i), j)
   join_part x w (inr (inr l)) = call_words x w l
 
-  split_part : (x : Part) (w : Word) → Words spell.part depth x w → PartCases x w
+  split_part : (x : NamePart) (w : Word) → Words spell.part depth x w → PartCases x w
   unfolding spell.expr
   split_part (Field at) w l = inl (at, refl, l)
   split_part (Attribute at) w (u, v, e, (n, i), j) = inr (inl (n, u, v, e, i, inl (at, refl, j)))
@@ -72,7 +72,7 @@ module _ (limit depth : ℕ) (within : depth ≤ limit) (inner : Opened) (below 
   rule_name =
       is name_sets (Words spell.name' depth) (keep (one kind.identifier) (λ n. begun part_kinds (parts_listed depth) parts_grow rule_part refl refl refl refl (syntax.name n)) refl)
       (form (Words spell.name' depth) (λ b w l. l)) split refl where
-        split : (x : Name) (w : Word) → Words spell.name' depth x w → Image (λ (b : ℕ × syntax.Parts). syntax.name b.0 b.1) (λ b. Leaf depth kind.identifier b.0 ⋅ Words spell.parts depth b.1) x w
+        split : (x : Name) (w : Word) → Words spell.name' depth x w → Image (λ (b : ℕ × syntax.NameParts). syntax.name b.0 b.1) (λ b. Leaf depth kind.identifier b.0 ⋅ Words spell.parts depth b.1) x w
         split (syntax.name n ps) w l = ((n, ps), refl, l)
 
   -- ---- primaries and factors

@@ -4,15 +4,15 @@ use Rattle.std.proofs.lemmas.List.{append_assoc, append-nil}
 use Rattle.syntax_tree.specs.Syntax as syntax
 use Rattle.syntax_tree.specs.Joining as joining
 use Rattle.syntax_nodes.specs.Parts as parts
-use Rattle.syntax_nodes.specs.Parts.{Part, Items, NoItem, AlsoItem, items_of, open_items, onto, list_of, list_upto, IsClosed}
+use Rattle.syntax_nodes.specs.Parts.{TreePart, Items, NoItem, AlsoItem, items_of, open_items, onto, list_of, list_upto, IsClosed}
 use Rattle.syntax_nodes.specs.declared.lists.ListKind.{ListKind}
 use Rattle.syntax_nodes.specs.declared.lists.ListKind.TheVariants as list'
 
-all-onto : {A : Type 0} (the : Part → A) (xs ys : Items) → list_of the (onto xs ys) ≡ list_upto the xs ++ list_of the ys
+all-onto : {A : Type 0} (the : TreePart → A) (xs ys : Items) → list_of the (onto xs ys) ≡ list_upto the xs ++ list_of the ys
 all-onto the NoItem ys = refl
 all-onto the (AlsoItem x xs) ys = all-onto the xs (AlsoItem x ys) ∙ sym (append_assoc (list_upto the xs) (the x ∷ []) (list_of the ys))
 
-all-closed : {A : Type 0} (the : Part → A) (xs : Items) → list_of the (onto xs NoItem) ≡ list_upto the xs
+all-closed : {A : Type 0} (the : TreePart → A) (xs : Items) → list_of the (onto xs NoItem) ≡ list_upto the xs
 all-closed the xs = all-onto the xs NoItem ∙ append-nil (list_upto the xs)
 
 abbrev conjuncts-plus : syntax.Conjuncts → syntax.Conjuncts → syntax.Conjuncts
@@ -110,15 +110,15 @@ exprs-onto (AlsoItem x xs) ys = exprs-onto xs (AlsoItem x ys) ∙ sym (exprs-and
 exprs-closed : (xs : Items) → parts.exprs_of (onto xs NoItem) ≡ parts.exprs_upto xs
 exprs-closed xs = exprs-onto xs NoItem ∙ exprs-none (parts.exprs_upto xs)
 
-abbrev parts-plus : syntax.Parts → syntax.Parts → syntax.Parts
+abbrev parts-plus : syntax.NameParts → syntax.NameParts → syntax.NameParts
 parts-plus syntax.NoPart ys = ys
 parts-plus (syntax.AlsoPart x xs) ys = syntax.AlsoPart x (parts-plus xs ys)
 
-parts-none : (xs : syntax.Parts) → parts-plus xs syntax.NoPart ≡ xs
+parts-none : (xs : syntax.NameParts) → parts-plus xs syntax.NoPart ≡ xs
 parts-none syntax.NoPart = refl
 parts-none (syntax.AlsoPart x xs) = ap (syntax.AlsoPart x) (parts-none xs)
 
-parts-and : (xs : syntax.Parts) (x : syntax.Part) (ys : syntax.Parts) → parts-plus (joining.parts_and xs x) ys ≡ parts-plus xs (syntax.AlsoPart x ys)
+parts-and : (xs : syntax.NameParts) (x : syntax.NamePart) (ys : syntax.NameParts) → parts-plus (joining.parts_and xs x) ys ≡ parts-plus xs (syntax.AlsoPart x ys)
 parts-and syntax.NoPart x ys = refl
 parts-and (syntax.AlsoPart y xs) x ys = ap (syntax.AlsoPart y) (parts-and xs x ys)
 
@@ -281,7 +281,7 @@ handlers-onto (AlsoItem x xs) ys = handlers-onto xs (AlsoItem x ys) ∙ sym (han
 handlers-closed : (xs : Items) → parts.handlers_of (onto xs NoItem) ≡ parts.handlers_upto xs
 handlers-closed xs = handlers-onto xs NoItem ∙ handlers-none (parts.handlers_upto xs)
 
-pub is_closed : (k : ListKind) (q p : Part) → items_of q ≡ onto (open_items k p) NoItem → IsClosed k q p
+pub is_closed : (k : ListKind) (q p : TreePart) → items_of q ≡ onto (open_items k p) NoItem → IsClosed k q p
 is_closed list'.Conjuncts q p e = ap parts.conjuncts_of e ∙ conjuncts-closed (open_items list'.Conjuncts p)
 is_closed list'.Addings q p e = ap parts.addings_of e ∙ addings-closed (open_items list'.Addings p)
 is_closed list'.Multiplyings q p e = ap parts.multiplyings_of e ∙ multiplyings-closed (open_items list'.Multiplyings p)

@@ -7,15 +7,15 @@ use Rattle.std.proofs.Math.ListN.{get_or-append}
 use Rattle.std.proofs.Math.Seq.{get_or-append_seam}
 use Rattle.syntax_nodes.specs.declared.nodes.Node.{Node}
 use Rattle.syntax_nodes.specs.declared.nodes.Node.TheVariants as node
-use Rattle.syntax_nodes.specs.Parts.{Part, Nothing}
+use Rattle.syntax_nodes.specs.Parts.{TreePart, Nothing}
 use Rattle.syntax_nodes.specs.Tables.{of_node, among, parts_from, part_at, NodeBelow, OrderedFrom, IsOrdered}
 
 -- the same below a number
-abbrev pub Agree : ℕ → (ℕ → Part) → (ℕ → Part) → Type 0
+abbrev pub Agree : ℕ → (ℕ → TreePart) → (ℕ → TreePart) → Type 0
 Agree k f g = (j : ℕ) → j < k → f j ≡ g j
 
 -- what a node stands for depends on its parts alone
-pub node_agrees : (k : ℕ) (f g : ℕ → Part) → Agree k f g → (n : Node) → NodeBelow k n → of_node f n ≡ of_node g n
+pub node_agrees : (k : ℕ) (f g : ℕ → TreePart) → Agree k f g → (n : Node) → NodeBelow k n → of_node f n ≡ of_node g n
 node_agrees k f g e node.Nothing b = refl
 node_agrees k f g e (node.Leaf x) b = refl
 node_agrees k f g e (node.One x p) b = rw (e p b) refl
@@ -25,15 +25,15 @@ node_agrees k f g e (node.Four x s r q p) b = rw (e s b.0, e r b.1, e q b.2, e p
 node_agrees k f g e (node.Also x q p) b = rw (e q b.0, e p b.1) refl
 node_agrees k f g e (node.Cell q p) b = rw (e q b.0, e p b.1) refl
 
-parts_from-append : (ns ms : List Node) (ps : List Part) → parts_from ps (ns ++ ms) ≡ parts_from (parts_from ps ns) ms
+parts_from-append : (ns ms : List Node) (ps : List TreePart) → parts_from ps (ns ++ ms) ≡ parts_from (parts_from ps ns) ms
 parts_from-append [] ms ps = refl
 parts_from-append (n ∷ ns) ms ps = parts_from-append ns ms _
 
-parts_from-length : (ns : List Node) (ps : List Part) → length (parts_from ps ns) ≡ length ps + length ns
+parts_from-length : (ns : List Node) (ps : List TreePart) → length (parts_from ps ns) ≡ length ps + length ns
 parts_from-length [] ps = omega arith
 parts_from-length (n ∷ ns) ps = omega (arith, parts_from-length ns (ps ++ of_node (among ps) n ∷ []), length-append ps (of_node (among ps) n ∷ []))
 
-parts_from-kept : (ns : List Node) (ps : List Part) (k : ℕ) → k < length ps → among (parts_from ps ns) k ≡ among ps k
+parts_from-kept : (ns : List Node) (ps : List TreePart) (k : ℕ) → k < length ps → among (parts_from ps ns) k ≡ among ps k
 parts_from-kept [] ps k h = refl
 parts_from-kept (n ∷ ns) ps k h =
     parts_from-kept ns (ps ++ of_node (among ps) n ∷ []) k (omega (arith, length-append ps (of_node (among ps) n ∷ [])))

@@ -2,12 +2,12 @@
 use Rattle.std.proofs.Common.{◌≡◌, refl, sym, ◌∙◌, ap, subst, ℕ, zero, suc, ◌≤◌, ◌+◌, ◌-◌, get_or, List, [], ◌∷◌, ◌++◌, length, arith}
 use Rattle.std.proofs.lemmas.List.{length-append}
 use Rattle.syntax_nodes.specs.declared.nodes.Node.{Node}
-use Rattle.syntax_nodes.specs.Parts.{Part}
+use Rattle.syntax_nodes.specs.Parts.{TreePart}
 use Rattle.syntax_nodes.specs.Tables.{of_node, part_at, NodeBelow, OrderedFrom, IsOrdered}
 use Rattle.syntax_nodes.specs.Rooted.{stack, stacked, top, AllBelow, Fit}
 use Rattle.syntax_nodes.proofs.Reading.{part_stable, part_last, part_zero}
 
-stacked-snoc : (at : ℕ → Part) (rs : List ℕ) (r : ℕ) (s : List Part) → stacked at (rs ++ r ∷ []) s ≡ at r ∷ stacked at rs s
+stacked-snoc : (at : ℕ → TreePart) (rs : List ℕ) (r : ℕ) (s : List TreePart) → stacked at (rs ++ r ∷ []) s ≡ at r ∷ stacked at rs s
 stacked-snoc at [] r s = refl
 stacked-snoc at (q ∷ rs) r s = stacked-snoc at rs r (at q ∷ s)
 
@@ -65,7 +65,7 @@ fit-more ns n rs b f = record {
   below = below-more (length ns) (length (ns ++ n ∷ [])) rs (omega (arith, length-snoc ns n)) f.below;
 }
 
-stacked-more : (ns : List Node) (n : Node) (rs : List ℕ) (s : List Part) → AllBelow (length ns) rs → stacked (part_at (ns ++ n ∷ [])) rs s ≡ stacked (part_at ns) rs s
+stacked-more : (ns : List Node) (n : Node) (rs : List ℕ) (s : List TreePart) → AllBelow (length ns) rs → stacked (part_at (ns ++ n ∷ [])) rs s ≡ stacked (part_at ns) rs s
 stacked-more ns n [] s h = refl
 stacked-more ns n (r ∷ rs) s h = rw (part_stable ns (n ∷ []) r h.0) (stacked-more ns n rs (part_at ns r ∷ s) h.1)
 
@@ -78,7 +78,7 @@ add-is ns n k e = (rw e (part_last ns n), omega (arith, e, length-snoc ns n))
 
 -- ---- the latest root
 
-stacked-last : (at : ℕ → Part) (rs : List ℕ) (s : List Part) (n : ℕ) → length rs ≡ suc n → top (stacked at rs s) ≡ at (get_or rs n 0)
+stacked-last : (at : ℕ → TreePart) (rs : List ℕ) (s : List TreePart) (n : ℕ) → length rs ≡ suc n → top (stacked at rs s) ≡ at (get_or rs n 0)
 stacked-last at [] s n e = let k : ⊥ = omega (arith, e) in absurd k
 stacked-last at (r ∷ []) s zero e = refl
 stacked-last at (r ∷ []) s (suc n) e = let k : ⊥ = omega (arith, e) in absurd k

@@ -2,7 +2,7 @@
 use Rattle.std.proofs.Common.{◌≡◌, refl, sym, subst, ℕ, zero, suc, ◌+◌, List, Option, Some, None, arith}
 use Rattle.std.specs.Prelude.{slice_get}
 use Rattle.syntax_tree.specs.Joining.{bare_identifier, bare_name, expr_identifier}
-use Rattle.syntax_nodes.specs.Parts.{Part, Nothing, the_expr, the_simple}
+use Rattle.syntax_nodes.specs.Parts.{TreePart, Nothing, the_expr, the_simple}
 use Rattle.syntax_nodes.specs.Tables.{part_at, of_node}
 use Rattle.syntax_nodes.specs.Rooted.{Fit}
 use Rattle.syntax_nodes.proofs.Reading.{part_zero, part_read, part_none}
@@ -14,10 +14,10 @@ use Rattle.syntax_nodes.specs.declared.nodes.Two.TheVariants as two
 use Rattle.syntax_nodes.specs.declared.nodes.Three.TheVariants as three
 use Rattle.syntax_nodes.specs.declared.nodes.Four.TheVariants as four
 
-abbrev IsSame : Part → Type 0
+abbrev IsSame : TreePart → Type 0
 IsSame p = expr_identifier (the_expr p) ≡ bare_identifier (the_simple p)
 
-same_node : (at : ℕ → Part) (n : Node) → IsSame (of_node at n)
+same_node : (at : ℕ → TreePart) (n : Node) → IsSame (of_node at n)
 unfolding bare_identifier bare_name expr_identifier
 same_node at node.Nothing = refl
 same_node at (node.Also k b a) = refl

@@ -1,7 +1,7 @@
 -- What forms make of their parts.
 use Rattle.std.specs.Prelude.{ℕ, Option, Some}
 use Rattle.syntax_tree.specs.Syntax as syntax
-use Rattle.syntax_nodes.specs.Parts.{Part, OfToken, OfExpr, OfConjunct, OfRel, OfSimple, OfAdding, OfTerm, OfMultiplying, OfFactor, OfPrimary, OfElsif, OfName, OfNamePart, OfArg, OfRange, OfChoice, OfMany, OfAssoc, OfParallel, OfIter, OfValues, OfIds, OfIndic, OfArray, OfComp, OfDefinition, OfDecl, OfFormal, OfFormals, OfPack, OfDeclare, OfScheme, OfHandled, OfStmt, OfStmts, OfArm, OfAlt, OfBody, OfHandler, OfAspect, OfBracketed, OfImplementation, OfSub, OfPolicy, OfClause, OfMain, OfProgram, Values, Bracketed, Implementation, maybe_aspect, maybe_declare, maybe_expr, maybe_formals, maybe_pack, maybe_parallel, maybe_policy, maybe_scheme, maybe_simple, maybe_token, optional_expr, optional_parallel, optional_stmts, the_addings, the_alt, the_alts, the_arg, the_args, the_arms, the_assoc, the_assocs, the_body, the_bracketed, the_branches, the_choice, the_choice_list, the_choices, the_clauses, the_comp, the_comps, the_conjuncts, the_decls, the_definition, the_elsifs, the_expr, the_exprs, the_factor, the_formal, the_formal_list, the_handled, the_handlers, the_ids, the_implementation, the_indic, the_iter, the_main, the_many, the_more_stmts, the_multiplyings, the_name, the_object_type, the_pack, the_packs, the_parts, the_primary, the_range, the_ranges, the_rel, the_simple, the_stmt, the_stmts, the_term, the_tokens, the_units, the_values}
+use Rattle.syntax_nodes.specs.Parts.{TreePart, OfToken, OfExpr, OfConjunct, OfRel, OfSimple, OfAdding, OfTerm, OfMultiplying, OfFactor, OfPrimary, OfElsif, OfName, OfNamePart, OfArg, OfRange, OfChoice, OfMany, OfAssoc, OfParallel, OfIter, OfValues, OfIds, OfIndic, OfArray, OfComp, OfDefinition, OfDecl, OfFormal, OfFormals, OfPack, OfDeclare, OfScheme, OfHandled, OfStmt, OfStmts, OfArm, OfAlt, OfBody, OfHandler, OfAspect, OfBracketed, OfImplementation, OfSub, OfPolicy, OfClause, OfMain, OfProgram, Values, Bracketed, Implementation, maybe_aspect, maybe_declare, maybe_expr, maybe_formals, maybe_pack, maybe_parallel, maybe_policy, maybe_scheme, maybe_simple, maybe_token, optional_expr, optional_parallel, optional_stmts, the_addings, the_alt, the_alts, the_arg, the_args, the_arms, the_assoc, the_assocs, the_body, the_bracketed, the_branches, the_choice, the_choice_list, the_choices, the_clauses, the_comp, the_comps, the_conjuncts, the_decls, the_definition, the_elsifs, the_expr, the_exprs, the_factor, the_formal, the_formal_list, the_handled, the_handlers, the_ids, the_implementation, the_indic, the_iter, the_main, the_many, the_more_stmts, the_multiplyings, the_name, the_object_type, the_pack, the_packs, the_parts, the_primary, the_range, the_ranges, the_rel, the_simple, the_stmt, the_stmts, the_term, the_tokens, the_units, the_values}
 use Rattle.syntax_nodes.specs.declared.nodes.Leaf.{Leaf}
 use Rattle.syntax_nodes.specs.declared.nodes.Leaf.TheVariants as leaf
 use Rattle.syntax_nodes.specs.declared.nodes.One.{One}
@@ -25,7 +25,7 @@ function at defined parameters result aspect i = syntax.Function at defined para
 abbrev pub expr_function : ℕ → ℕ → Option syntax.Formals → ℕ → Bracketed → Option syntax.Aspect → syntax.Sub
 expr_function at defined parameters result v aspect = syntax.ExprFunction at defined parameters result v.bracket v.value aspect
 
-abbrev pub value_leaf : Leaf → Part
+abbrev pub value_leaf : Leaf → TreePart
 value_leaf (leaf.Token at) = OfToken at
 value_leaf (leaf.Number at) = OfPrimary (syntax.Number at)
 value_leaf (leaf.Text at) = OfPrimary (syntax.Text at)
@@ -42,7 +42,7 @@ value_leaf (leaf.Null at) = OfStmt (syntax.Null at)
 value_leaf (leaf.Aspect at mark value) = OfAspect (record { at = at; mark = mark; value = value })
 value_leaf (leaf.Policy at mark policy) = OfPolicy (record { at = at; mark = mark; policy = policy })
 
-abbrev pub value_one : One → Part → Part
+abbrev pub value_one : One → TreePart → TreePart
 value_one (one.Conjunct at) a = OfConjunct (syntax.conjunct at (the_rel a))
 value_one (one.OfMark negation at mark) a = OfRel (syntax.OfMark (the_simple a) negation at mark)
 value_one (one.Adding by at) a = OfAdding (syntax.adding by at (the_term a))
@@ -71,7 +71,7 @@ value_one (one.Return at) a = OfStmt (syntax.Return at (maybe_expr a))
 value_one (one.Raise at) a = OfStmt (syntax.Raise at (maybe_pack a))
 value_one (one.Bracketed bracket) a = OfBracketed (record { bracket = bracket; value = the_expr a })
 
-abbrev pub value_two : Two → Part → Part → Part
+abbrev pub value_two : Two → TreePart → TreePart → TreePart
 value_two (two.Compared by at) b a = OfRel (syntax.Compared (the_simple b) by at (the_simple a))
 value_two (two.Sum sign) b a = OfSimple (syntax.Sum sign (the_term b) (the_addings a))
 value_two two.Product b a = OfTerm (syntax.Product (the_factor b) (the_multiplyings a))
@@ -102,7 +102,7 @@ value_two (two.Handler at) b a = OfHandler (syntax.handler at (the_handled b) (t
 value_two (two.Implementation last_name) b a = OfImplementation (record { decls = the_decls b; body = the_body a; last_name = last_name })
 value_two (two.Clause word at) b a = OfClause (record { at = at; word = word; first = the_pack b; more = the_packs a })
 
-abbrev pub value_three : Three → Part → Part → Part → Part
+abbrev pub value_three : Three → TreePart → TreePart → TreePart → TreePart
 value_three (three.Joined by at) c b a = OfExpr (syntax.Joined by (the_rel c) at (the_rel b) (the_conjuncts a))
 value_three (three.Within negation at) c b a = OfRel (syntax.Within (the_simple c) negation at (the_simple b) (the_simple a))
 value_three (three.Values at) c b a = OfValues (record { parallel = optional_parallel c; at = at; iter = the_iter b; value = the_expr a })
@@ -119,7 +119,7 @@ value_three (three.Function at defined result_mark) c b a = OfSub (function at d
 value_three (three.ExprFunction at defined result_mark) c b a = OfSub (expr_function at defined (maybe_formals c) result_mark (the_bracketed b) (maybe_aspect a))
 value_three three.Program c b a = OfProgram (record { policy = maybe_policy c; clauses = the_clauses b; main = the_main a })
 
-abbrev pub value_four : Four → Part → Part → Part → Part → Part
+abbrev pub value_four : Four → TreePart → TreePart → TreePart → TreePart → TreePart
 value_four (four.If bracket at) d c b a = OfPrimary (syntax.If bracket at (the_expr d) (the_expr c) (the_elsifs b) (the_expr a))
 value_four (four.PositionsOthers at) d c b a = OfMany (syntax.PositionsOthers (the_expr d) (the_expr c) (the_exprs b) at (the_expr a))
 value_four (four.IfStmt at) d c b a = OfStmt (syntax.IfStmt at (the_expr d) (the_stmts c) (the_arms b) (optional_stmts a))

@@ -13,7 +13,7 @@ use crate::parts::Parts;
 use crate::rooting::{hold, put, taken};
 use ada_base::Items;
 use std::alloc::Global;
-use syntax_readers::Fault;
+use syntax_readers::Failure;
 
 /// A table with no part.
 #[tactic(auto, using(crate::proofs::Stacks::fit_none))]
@@ -28,7 +28,7 @@ pub fn begin(alloc: Global) -> Parts
 
 /// A part that is left out, or a list without items.
 #[tactic(auto, unfolding(crate::specs::Stack::parts), using(crate::proofs::Reading::part_zero))]
-pub fn nothing(out: &mut Parts) -> Result<(), Fault>
+pub fn nothing(out: &mut Parts) -> Result<(), Failure>
     ensures { Joins result (parts out.new) (Nothing ∷ parts out.old) }
 {
     hold(&out.nodes, &mut out.roots, 0)?;
@@ -37,7 +37,7 @@ pub fn nothing(out: &mut Parts) -> Result<(), Fault>
 
 /// A part of nothing.
 #[tactic(auto, unfolding(crate::specs::Stack::parts))]
-pub fn leaf(out: &mut Parts, form: Leaf) -> Result<(), Fault>
+pub fn leaf(out: &mut Parts, form: Leaf) -> Result<(), Failure>
     ensures { Joins result (parts out.new) (value_leaf form ∷ parts out.old) }
 {
     put(&mut out.nodes, &mut out.roots, Node::Leaf(form))?;
@@ -46,7 +46,7 @@ pub fn leaf(out: &mut Parts, form: Leaf) -> Result<(), Fault>
 
 /// A part of the latest one.
 #[tactic(auto, unfolding(crate::specs::Stack::parts))]
-pub fn one(out: &mut Parts, form: One) -> Result<(), Fault>
+pub fn one(out: &mut Parts, form: One) -> Result<(), Failure>
     ensures { Joins result (parts out.new) (value_one form (top (parts out.old)) ∷ pop (parts out.old)) }
 {
     let last = taken(&out.nodes, &mut out.roots);
@@ -56,7 +56,7 @@ pub fn one(out: &mut Parts, form: One) -> Result<(), Fault>
 
 /// A part of the latest two.
 #[tactic(auto, unfolding(crate::specs::Stack::parts))]
-pub fn two(out: &mut Parts, form: Two) -> Result<(), Fault>
+pub fn two(out: &mut Parts, form: Two) -> Result<(), Failure>
     ensures { Joins result (parts out.new) (value_two form (second (parts out.old)) (top (parts out.old)) ∷ pop (pop (parts out.old))) }
 {
     let last = taken(&out.nodes, &mut out.roots);
@@ -71,7 +71,7 @@ pub fn two(out: &mut Parts, form: Two) -> Result<(), Fault>
 
 /// A part of the latest three.
 #[tactic(auto, unfolding(crate::specs::Stack::parts))]
-pub fn three(out: &mut Parts, form: Three) -> Result<(), Fault>
+pub fn three(out: &mut Parts, form: Three) -> Result<(), Failure>
     ensures { Joins result (parts out.new) (value_three form (third (parts out.old)) (second (parts out.old)) (top (parts out.old)) ∷ pop (pop (pop (parts out.old)))) }
 {
     let last = taken(&out.nodes, &mut out.roots);
@@ -87,7 +87,7 @@ pub fn three(out: &mut Parts, form: Three) -> Result<(), Fault>
 
 /// A part of the latest four.
 #[tactic(auto, unfolding(crate::specs::Stack::parts))]
-pub fn four(out: &mut Parts, form: Four) -> Result<(), Fault>
+pub fn four(out: &mut Parts, form: Four) -> Result<(), Failure>
     ensures { Joins result (parts out.new) (value_four form (fourth (parts out.old)) (third (parts out.old)) (second (parts out.old)) (top (parts out.old)) ∷ pop (pop (pop (pop (parts out.old))))) }
 {
     let last = taken(&out.nodes, &mut out.roots);
@@ -104,7 +104,7 @@ pub fn four(out: &mut Parts, form: Four) -> Result<(), Fault>
 
 /// The latest part goes behind the list before it.
 #[tactic(auto, unfolding(crate::specs::Stack::parts))]
-pub fn also(out: &mut Parts, kind: ListKind) -> Result<(), Fault>
+pub fn also(out: &mut Parts, kind: ListKind) -> Result<(), Failure>
     ensures { Joins result (parts out.new) (also_value kind (second (parts out.old)) (top (parts out.old)) ∷ pop (pop (parts out.old))) }
 {
     let item = taken(&out.nodes, &mut out.roots);
@@ -119,7 +119,7 @@ pub fn also(out: &mut Parts, kind: ListKind) -> Result<(), Fault>
 
 /// The part below the latest one goes before the items of the latest, which is a closed list.
 #[tactic(auto, unfolding(crate::specs::Stack::parts))]
-pub fn before(out: &mut Parts) -> Result<(), Fault>
+pub fn before(out: &mut Parts) -> Result<(), Failure>
     ensures { Joins result (parts out.new) (cell_value (second (parts out.old)) (top (parts out.old)) ∷ pop (pop (parts out.old))) }
 {
     let list = taken(&out.nodes, &mut out.roots);
@@ -138,7 +138,7 @@ pub fn leave_out(out: &mut Parts)
 
 /// The latest two parts change places.
 #[tactic(auto, unfolding(crate::specs::Stack::parts))]
-pub fn swap(out: &mut Parts) -> Result<(), Fault>
+pub fn swap(out: &mut Parts) -> Result<(), Failure>
     ensures { Joins result (parts out.new) (second (parts out.old) ∷ top (parts out.old) ∷ pop (pop (parts out.old))) }
 {
     let last = taken(&out.nodes, &mut out.roots);

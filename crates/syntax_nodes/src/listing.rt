@@ -12,7 +12,7 @@ use crate::parts::Parts;
 use crate::rooting::{add, hold, node, taken};
 use ada_base::Items;
 use std::alloc::AllocError;
-use syntax_readers::Fault;
+use syntax_readers::Failure;
 
 /// Where a list is closed: what still grows, and what is closed.
 #[derive(Clone, Copy)]
@@ -75,7 +75,7 @@ fn closed(
 
 /// The latest part is a list of this kind that grew; it is whole.
 #[tactic(auto, unfolding(crate::specs::Stack::parts), using(crate::proofs::Items::is_closed))]
-pub fn close(out: &mut Parts, kind: ListKind) -> Result<(), Fault>
+pub fn close(out: &mut Parts, kind: ListKind) -> Result<(), Failure>
     ensures { Closes result kind (parts out.new) (parts out.old) }
 {
     let grown = taken(&out.nodes, &mut out.roots);

@@ -13,7 +13,7 @@ use crate::nodes::{Cell, Leaf, Node, One, Two};
 use crate::parts::Parts;
 use crate::rooting::{hold, node, taken};
 use ada_base::Items;
-use syntax_readers::Fault;
+use syntax_readers::Failure;
 use syntax_tree::Sign;
 
 /// The first cell of a list, if it has an item.
@@ -152,7 +152,7 @@ pub fn bare(out: &Parts) -> Option<u32>
 
 /// Whether the latest part, read as a sum, is a name. It is then taken as that name.
 #[tactic(auto, unfolding(crate::specs::Stack::parts))]
-pub fn take_name(out: &mut Parts) -> Result<bool, Fault>
+pub fn take_name(out: &mut Parts) -> Result<bool, Failure>
     ensures { TakesName result (parts out.new) (parts out.old) }
 {
     let root = taken(&out.nodes, &mut out.roots);

@@ -1,6 +1,6 @@
 -- What a program spells can be told apart where a space stands between two tokens, rule by rule.
 use Rattle.std.proofs.Common.{◌≡◌, ℕ, map, length, [], ◌++◌, ◌∷◌, true, List, Option, Some, None, refl, sym, ap, ◌∙◌, subst}
-use Rattle.syntax_tree.specs.Syntax.{Expr, Single, Joined, Conjunct, conjunct, Conjuncts, NoConjunct, AlsoConjunct, Rel, Alone, Compared, Within, OfMark, Simple, Sum, Adding, adding, Addings, NoAdding, AlsoAdding, Term, Product, Multiplying, multiplying, Multiplyings, NoMultiplying, AlsoMultiplying, Factor, Operand, Power, Abs, Not, Primary, Number, Text, Target, Named, Group, If, Round, Square, OneValue, Reduction, Elsif, elsif, Elsifs, NoElsif, AlsoElsif, Exprs, NoExpr, AlsoExpr, OptionalExpr, AbsentExpr, PresentExpr, Name, name, Part, Field, Call, Attribute, RangeAttribute, Parts, NoPart, AlsoPart, Arg, arg, Args, NoArg, AlsoArg, Range, Bounded, Whole, Constrained, Choice, Value, Span, Others, Choices, NoChoice, AlsoChoice, Many, Positions, PositionsOthers, FirstOthers, Associations, Assoc, Chosen, Each, Assocs, NoAssoc, AlsoAssoc, Parallel, Unchunked, Counted, Chunked, OptionalParallel, AbsentParallel, PresentParallel, Iter, InRange, OfName, Ids, Indic, Mark, RangeMark, Array, Comp, ObjectType, Indicated, Anonymous, Definition, RangeType, ArrayType, RecordType, Decl, ObjectDecl, NumberDecl, ExceptionDecl, TypeDecl, SubtypeDecl, Formal, Formals, Pack, Declare, Scheme, While, For, Handled, AnyOther, These, Stmt, Null, Assign, CallStmt, Exit, Return, Raise, IfStmt, Case, Loop, Block, ParallelBlock, Stmts, stmts, MoreStmts, NoStmt, AlsoStmt, OptionalStmts, AbsentStmts, PresentStmts, Arm, arm, Arms, NoArm, AlsoArm, Alt, alt, Alts, NoAlt, AlsoAlt, Branches, NoBranch, AlsoBranch, Body, body, Handler, handler, Handlers, NoHandler, AlsoHandler, Aspect, Sub, Procedure, Function, ExprFunction, Unit', DeclUnit, SubUnit, Policy, Clause, Main, Program}
+use Rattle.syntax_tree.specs.Syntax.{Expr, Single, Joined, Conjunct, conjunct, Conjuncts, NoConjunct, AlsoConjunct, Rel, Alone, Compared, Within, OfMark, Simple, Sum, Adding, adding, Addings, NoAdding, AlsoAdding, Term, Product, Multiplying, multiplying, Multiplyings, NoMultiplying, AlsoMultiplying, Factor, Operand, Power, Abs, Not, Primary, Number, Text, Target, Named, Group, If, Round, Square, OneValue, Reduction, Elsif, elsif, Elsifs, NoElsif, AlsoElsif, Exprs, NoExpr, AlsoExpr, OptionalExpr, AbsentExpr, PresentExpr, Name, name, NamePart, Field, Call, Attribute, RangeAttribute, NameParts, NoPart, AlsoPart, Arg, arg, Args, NoArg, AlsoArg, Range, Bounded, Whole, Constrained, Choice, Value, Span, Others, Choices, NoChoice, AlsoChoice, Many, Positions, PositionsOthers, FirstOthers, Associations, Assoc, Chosen, Each, Assocs, NoAssoc, AlsoAssoc, Parallel, Unchunked, Counted, Chunked, OptionalParallel, AbsentParallel, PresentParallel, Iter, InRange, OfName, Ids, Indic, Mark, RangeMark, Array, Comp, ObjectType, Indicated, Anonymous, Definition, RangeType, ArrayType, RecordType, Decl, ObjectDecl, NumberDecl, ExceptionDecl, TypeDecl, SubtypeDecl, Formal, Formals, Pack, Declare, Scheme, While, For, Handled, AnyOther, These, Stmt, Null, Assign, CallStmt, Exit, Return, Raise, IfStmt, Case, Loop, Block, ParallelBlock, Stmts, stmts, MoreStmts, NoStmt, AlsoStmt, OptionalStmts, AbsentStmts, PresentStmts, Arm, arm, Arms, NoArm, AlsoArm, Alt, alt, Alts, NoAlt, AlsoAlt, Branches, NoBranch, AlsoBranch, Body, body, Handler, handler, Handlers, NoHandler, AlsoHandler, Aspect, Sub, Procedure, Function, ExprFunction, Unit', DeclUnit, SubUnit, Policy, Clause, Main, Program}
 use Rattle.ada_base.specs.Kinds as kind
 use Rattle.syntax_tree.specs.declared.operators.Logical.{Logical}
 use Rattle.syntax_tree.specs.declared.operators.Logical.TheVariants as logical
@@ -138,13 +138,13 @@ mutual
   pub says-name : (x : Name) → Says (spelled.name' x)
   says-name (name first ps) = and (token kind.identifier first refl) (says-parts ps)
 
-  pub says-part : (x : Part) → Says (spelled.part x)
+  pub says-part : (x : NamePart) → Says (spelled.part x)
   says-part (Field n) = and (plain kind.point refl) (token kind.identifier n refl)
   says-part (Call bracket first more) = deeper (and (token kind.open_round bracket refl) (and (and (says-arg first) (says-args more)) (plain kind.close_round refl)))
   says-part (Attribute n) = ticked kind.identifier n refl
   says-part (RangeAttribute n) = ticked kind.range_word n refl
 
-  pub says-parts : (x : Parts) → Says (spelled.parts x)
+  pub says-parts : (x : NameParts) → Says (spelled.parts x)
   says-parts NoPart = empty
   says-parts (AlsoPart p ps) = and (says-part p) (says-parts ps)
 

@@ -3,7 +3,7 @@ use Rattle.std.specs.Prelude.{◌≡◌, ℕ, List, true, false, Result, Ok, Err
 use Rattle.ada_base.specs.Tokens.{kind_at}
 use Rattle.ada_base.specs.declared.token.Token.{Token}
 use Rattle.syntax_readers.specs.Verdicts.{RightVerdict}
-use Rattle.syntax_readers.specs.declared.fault.Refusal.{Refusal}
+use Rattle.syntax_readers.specs.declared.failure.Refusal.{Refusal}
 use Rattle.syntax_tree.specs.Grammar.{ProgramWords}
 use Rattle.syntax_tree.specs.Parsed.{IsParsed, IsSyntaxFault, IsTooDeep, depth_limit, is_left_out}
 use Rattle.syntax_tree.specs.Syntax.{Program}

@@ -4,10 +4,10 @@ use Rattle.ada_base.specs.Symbols.{Symbol}
 use Rattle.syntax_readers.specs.Readers.{Answer, Found, Refused, TooDeep}
 use Rattle.ada_base.specs.Languages.{Language}
 use Rattle.ada_base.specs.Derivations.{DerivesWithin, IsUnexpected, IsFirstTooDeep}
-use Rattle.syntax_readers.specs.declared.fault.Fault.{Fault}
-use Rattle.syntax_readers.specs.declared.fault.Fault.TheVariants as fault
-use Rattle.syntax_readers.specs.declared.fault.Refusal.{Refusal}
-use Rattle.syntax_readers.specs.declared.fault.Refusal.TheVariants as refusal
+use Rattle.syntax_readers.specs.declared.failure.Failure.{Failure}
+use Rattle.syntax_readers.specs.declared.failure.Failure.TheVariants as failure
+use Rattle.syntax_readers.specs.declared.failure.Refusal.{Refusal}
+use Rattle.syntax_readers.specs.declared.failure.Refusal.TheVariants as refusal
 
 -- the number of the next symbol, and at the end how many kinds there are
 abbrev pub place_in : List ℕ → List Symbol → ℕ
@@ -15,12 +15,12 @@ place_in ks [] = length ks
 place_in ks (t ∷ ts) = t.number
 
 -- what a reader's answer and the symbols that it left say of the whole list
-abbrev pub verdict_of : {A : Type 0} → List ℕ → Result A Fault → List Symbol → Result A Refusal
+abbrev pub verdict_of : {A : Type 0} → List ℕ → Result A Failure → List Symbol → Result A Refusal
 verdict_of ks (Ok a) [] = Ok a
 verdict_of ks (Ok a) (t ∷ ts) = Err (refusal.Unexpected t.number)
-verdict_of ks (Err fault.Unexpected) ts = Err (refusal.Unexpected (place_in ks ts))
-verdict_of ks (Err fault.TooDeep) ts = Err (refusal.TooDeep (place_in ks ts))
-verdict_of ks (Err fault.OutOfMemory) ts = Err refusal.OutOfMemory
+verdict_of ks (Err failure.Unexpected) ts = Err (refusal.Unexpected (place_in ks ts))
+verdict_of ks (Err failure.TooDeep) ts = Err (refusal.TooDeep (place_in ks ts))
+verdict_of ks (Err failure.OutOfMemory) ts = Err refusal.OutOfMemory
 
 -- an answer for a whole list is right: a tree within the limit exactly where there is one, and else the place of
 -- the first fault or of the first token that is too deep, whichever comes first

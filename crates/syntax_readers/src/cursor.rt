@@ -7,7 +7,7 @@ ghost use Rattle.syntax_readers.specs.Readers as reader;
 ghost use Rattle.syntax_readers.specs.Verdicts.{place_in};
 ghost use Rattle.ada_base.specs.Symbols.{numbered, next_kind};
 
-use crate::fault::Fault;
+use crate::failure::Failure;
 use ada_base::{Token, kind_number};
 use std::marker::Model;
 
@@ -72,7 +72,7 @@ impl<'a> Cursor<'a> {
     }
 
     /// Takes a token of this kind and gives its number, or is at fault before another one.
-    pub fn take(&mut self, kind: u16) -> Result<u32, Fault>
+    pub fn take(&mut self, kind: u16) -> Result<u32, Failure>
         ensures { Computes (reader.symbol kind self.old) result self.new }
     {
         if self.at < self.tokens.len() && kind_number(self.tokens[self.at].kind) == kind {
@@ -80,7 +80,7 @@ impl<'a> Cursor<'a> {
             self.at += 1;
             Ok(number)
         } else {
-            Err(Fault::Unexpected)
+            Err(Failure::Unexpected)
         }
     }
 }

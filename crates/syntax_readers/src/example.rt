@@ -9,7 +9,7 @@ ghost use Rattle.syntax_readers.specs.Computes.{Computes};
 ghost use Rattle.syntax_readers.specs.Verdicts.{RightVerdict};
 
 use crate::cursor::Cursor;
-use crate::fault::{Fault, Refusal, verdict};
+use crate::failure::{Failure, Refusal, verdict};
 use ada_base::kinds::{CLOSE_ROUND, COMMA, DOTS, NUMERAL, OPEN_ROUND};
 use ada_base::{Items, Token};
 use std::alloc::Global;
@@ -31,7 +31,7 @@ pub enum Range {
 /// A value, where so many brackets may still open.
 #[cycle(brackets)]
 #[tactic(auto, unfolding(crate::specs::ExampleReaders::value_of))]
-fn read_value(tokens: &mut Cursor<'_>, levels: u32) -> Result<Value, Fault>
+fn read_value(tokens: &mut Cursor<'_>, levels: u32) -> Result<Value, Failure>
     ensures reads { Computes (reader.value levels tokens.old) result tokens.new }
     ensures brackets { IfOk result (λ v. v.brackets ≤ levels) }
 {
@@ -49,15 +49,15 @@ fn read_value(tokens: &mut Cursor<'_>, levels: u32) -> Result<Value, Fault>
 /// A value in a bracket, where so many may still open.
 #[cycle(brackets)]
 #[tactic(auto, unfolding(crate::specs::ExampleReaders::bracket))]
-fn read_bracket(tokens: &mut Cursor<'_>, levels: u32) -> Result<Value, Fault>
+fn read_bracket(tokens: &mut Cursor<'_>, levels: u32) -> Result<Value, Failure>
     ensures reads { Computes (reader.bracket levels tokens.old) result tokens.new }
     ensures brackets { IfOk result (λ v. v.brackets ≤ levels) }
 {
     if levels == 0 {
         if tokens.peek() == OPEN_ROUND {
-            return Err(Fault::TooDeep);
+            return Err(Failure::TooDeep);
         }
-        return Err(Fault::Unexpected);
+        return Err(Failure::Unexpected);
     }
     read_inside(tokens, levels - 1)
 }
@@ -65,7 +65,7 @@ fn read_bracket(tokens: &mut Cursor<'_>, levels: u32) -> Result<Value, Fault>
 /// A value in a bracket, where so many may still open in that.
 #[cycle(brackets)]
 #[tactic(auto, unfolding(crate::specs::ExampleReaders::bracket_of))]
-fn read_inside(tokens: &mut Cursor<'_>, levels: u32) -> Result<Value, Fault>
+fn read_inside(tokens: &mut Cursor<'_>, levels: u32) -> Result<Value, Failure>
     requires { levels < 2 ^ 32 - 1 }
     ensures reads { Computes (reader.bracket_of (reader.value levels) tokens.old) result tokens.new }
     ensures brackets { IfOk result (λ v. v.brackets ≤ levels + 1) }
@@ -80,7 +80,7 @@ fn read_inside(tokens: &mut Cursor<'_>, levels: u32) -> Result<Value, Fault>
 }
 
 #[tactic(auto, unfolding(crate::specs::ExampleReaders::range))]
-fn read_range(tokens: &mut Cursor<'_>, levels: u32) -> Result<Range, Fault>
+fn read_range(tokens: &mut Cursor<'_>, levels: u32) -> Result<Range, Failure>
     ensures { Computes (reader.range levels tokens.old) result tokens.new }
 {
     let low = read_value(tokens, levels)?;
@@ -93,7 +93,7 @@ fn read_range(tokens: &mut Cursor<'_>, levels: u32) -> Result<Range, Fault>
 }
 
 #[tactic(auto, unfolding(crate::specs::ExampleReaders::more_range))]
-fn read_next_range(tokens: &mut Cursor<'_>, levels: u32) -> Result<Range, Fault>
+fn read_next_range(tokens: &mut Cursor<'_>, levels: u32) -> Result<Range, Failure>
     ensures { Computes (reader.more_range levels tokens.old) result tokens.new }
 {
     tokens.take(COMMA)?;
@@ -101,7 +101,7 @@ fn read_next_range(tokens: &mut Cursor<'_>, levels: u32) -> Result<Range, Fault>
 }
 
 #[tactic(auto, unfolding(crate::specs::ExampleReaders::ranges))]
-fn read_ranges(alloc: Global, tokens: &mut Cursor<'_>, levels: u32) -> Result<Items<Range>, Fault>
+fn read_ranges(alloc: Global, tokens: &mut Cursor<'_>, levels: u32) -> Result<Items<Range>, Failure>
     ensures { Computes (reader.ranges levels tokens.old) result tokens.new }
 {
     let mut found = Items::new(alloc);
@@ -115,7 +115,7 @@ fn read_ranges(alloc: Global, tokens: &mut Cursor<'_>, levels: u32) -> Result<It
     Ok(found)
 }
 
-/// The ranges of a list of tokens in which no more than `limit` brackets are open anywhere, or the first fault.
+/// The ranges of a list of tokens in which no more than `limit` brackets are open anywhere, or the first failure.
 pub fn parse(alloc: Global, all: &[Token], limit: u32) -> Result<Items<Range>, Refusal>
     requires { length all.now < 2 ^ 32 }
     ensures { RightVerdict limit spec.ranges (kinds all.now) result }

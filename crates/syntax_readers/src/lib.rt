@@ -8,7 +8,7 @@
 
 pub mod cursor;
 pub mod example;
-pub mod fault;
+pub mod failure;
 
 pub use cursor::Cursor;
-pub use fault::{Fault, Refusal, verdict};
+pub use failure::{Failure, Refusal, verdict};

@@ -1,6 +1,6 @@
 -- Chains by their kinds.
 use Rattle.std.proofs.Common.{◌≡◌, refl, ℕ}
-use Rattle.syntax_nodes.specs.Parts.{Part, Nothing, IsClosed}
+use Rattle.syntax_nodes.specs.Parts.{TreePart, Nothing, IsClosed}
 use Rattle.syntax_nodes.specs.Tables.{also_value}
 use Rattle.syntax_statements.specs.Chains as chains
 use Rattle.syntax_statements.specs.declared.chains.Chain.{Chain}
@@ -47,7 +47,7 @@ chain_none chain.Packs = refl
 chain_none chain.Units = refl
 chain_none chain.Clauses = refl
 
-pub chain_also : (c : Chain) (b a : Part) → chains.so_far c (also_value (chains.kind_of c) b a) ≡ chains.with_item c (chains.so_far c b) (chains.the_item c a)
+pub chain_also : (c : Chain) (b a : TreePart) → chains.so_far c (also_value (chains.kind_of c) b a) ≡ chains.with_item c (chains.so_far c b) (chains.the_item c a)
 chain_also chain.Identifiers b a = refl
 chain_also chain.Names b a = refl
 chain_also chain.Formals b a = refl
@@ -65,7 +65,7 @@ chain_also chain.Packs b a = refl
 chain_also chain.Units b a = refl
 chain_also chain.Clauses b a = refl
 
-pub chain_closed : (c : Chain) (q p : Part) → IsClosed (chains.kind_of c) q p → chains.the c q ≡ chains.so_far c p
+pub chain_closed : (c : Chain) (q p : TreePart) → IsClosed (chains.kind_of c) q p → chains.the c q ≡ chains.so_far c p
 chain_closed chain.Identifiers q p h = h
 chain_closed chain.Names q p h = h
 chain_closed chain.Formals q p h = h

@@ -10,7 +10,7 @@ use Rattle.syntax_grammar.specs.Levels as level
 use Rattle.syntax_grammar.specs.Declarations as declarations
 use Rattle.syntax_grammar.specs.Statements as statements
 use Rattle.syntax_grammar.specs.Units as units
-use Rattle.syntax_nodes.specs.Parts.{Part, open_alts, open_arms, open_branches, open_choice_list, open_clauses, open_comps, open_decls, open_formal_list, open_handlers, open_more_stmts, open_packs, open_ranges, open_tokens, open_units, the_alt, the_alts, the_arm, the_arms, the_branches, the_choice, the_choice_list, the_clause, the_clauses, the_comp, the_comps, the_decl, the_decls, the_formal, the_formal_list, the_handler, the_handlers, the_more_stmts, the_pack, the_packs, the_range, the_ranges, the_stmt, the_stmts, the_token, the_tokens, the_unit, the_units}
+use Rattle.syntax_nodes.specs.Parts.{TreePart, open_alts, open_arms, open_branches, open_choice_list, open_clauses, open_comps, open_decls, open_formal_list, open_handlers, open_more_stmts, open_packs, open_ranges, open_tokens, open_units, the_alt, the_alts, the_arm, the_arms, the_branches, the_choice, the_choice_list, the_clause, the_clauses, the_comp, the_comps, the_decl, the_decls, the_formal, the_formal_list, the_handler, the_handlers, the_more_stmts, the_pack, the_packs, the_range, the_ranges, the_stmt, the_stmts, the_token, the_tokens, the_unit, the_units}
 use Rattle.syntax_nodes.specs.declared.lists.ListKind.{ListKind}
 use Rattle.syntax_nodes.specs.declared.lists.ListKind.TheVariants as list
 use Rattle.syntax_statements.specs.declared.chains.Chain.{Chain}
@@ -71,7 +71,7 @@ Value chain.Packs = List syntax.Pack
 Value chain.Units = List syntax.Unit'
 Value chain.Clauses = List syntax.Clause
 
-abbrev pub the_item : (c : Chain) → Part → Item c
+abbrev pub the_item : (c : Chain) → TreePart → Item c
 the_item chain.Identifiers = the_token
 the_item chain.Names = the_token
 the_item chain.Formals = the_formal
@@ -90,7 +90,7 @@ the_item chain.Units = the_unit
 the_item chain.Clauses = the_clause
 
 -- a list that is whole, and one that grows
-abbrev pub the : (c : Chain) → Part → Value c
+abbrev pub the : (c : Chain) → TreePart → Value c
 the chain.Identifiers = the_tokens
 the chain.Names = the_tokens
 the chain.Formals = the_formal_list
@@ -108,7 +108,7 @@ the chain.Packs = the_packs
 the chain.Units = the_units
 the chain.Clauses = the_clauses
 
-abbrev pub so_far : (c : Chain) → Part → Value c
+abbrev pub so_far : (c : Chain) → TreePart → Value c
 so_far chain.Identifiers = open_tokens
 so_far chain.Names = open_tokens
 so_far chain.Formals = open_formal_list

@@ -15,12 +15,12 @@ use ada_base::kinds::{AND, ARROW, BAR, EXCEPTION, OTHERS, THEN, WHEN};
 use syntax_expressions::Parser;
 use syntax_nodes::rooting::{put, taken};
 use syntax_nodes::{Leaf, Node, Parts, Two, leaf, nothing, two};
-use syntax_readers::Fault;
+use syntax_readers::Failure;
 
 /// A sequence of statements (5.1).
 #[cycle(list)]
 #[tactic(auto, unfolding(syntax_grammar::specs::Statements::stmts))]
-pub fn stmts(parser: &mut Parser<'_>, levels: u32) -> Result<(), Fault>
+pub fn stmts(parser: &mut Parser<'_>, levels: u32) -> Result<(), Failure>
     ensures { Reads the_stmts IsStmts (parts parser.old.out) (statements.stmts levels (statements.stmt levels) parser.old.tokens) result parser.new.tokens (parts parser.new.out) }
 {
     stmt(parser, levels)?;
@@ -31,7 +31,7 @@ pub fn stmts(parser: &mut Parser<'_>, levels: u32) -> Result<(), Fault>
 /// `then`, and the statements after it.
 #[cycle(list)]
 #[tactic(auto, unfolding(syntax_grammar::specs::Statements::then_stmts))]
-pub fn then_stmts(parser: &mut Parser<'_>, levels: u32) -> Result<(), Fault>
+pub fn then_stmts(parser: &mut Parser<'_>, levels: u32) -> Result<(), Failure>
     ensures { Reads the_stmts IsStmts (parts parser.old.out) (statements.then_stmts levels (statements.stmt levels) parser.old.tokens) result parser.new.tokens (parts parser.new.out) }
 {
     parser.tokens.take(THEN)?;
@@ -41,7 +41,7 @@ pub fn then_stmts(parser: &mut Parser<'_>, levels: u32) -> Result<(), Fault>
 /// `=>`, and the statements after it.
 #[cycle(list)]
 #[tactic(auto, unfolding(syntax_grammar::specs::Statements::arrow_stmts))]
-pub fn arrow_stmts(parser: &mut Parser<'_>, levels: u32) -> Result<(), Fault>
+pub fn arrow_stmts(parser: &mut Parser<'_>, levels: u32) -> Result<(), Failure>
     ensures { Reads the_stmts IsStmts (parts parser.old.out) (statements.arrow_stmts levels (statements.stmt levels) parser.old.tokens) result parser.new.tokens (parts parser.new.out) }
 {
     parser.tokens.take(ARROW)?;
@@ -51,7 +51,7 @@ pub fn arrow_stmts(parser: &mut Parser<'_>, levels: u32) -> Result<(), Fault>
 /// `and`, and the statements after it.
 #[cycle(list)]
 #[tactic(auto, unfolding(syntax_grammar::specs::Statements::and_stmts))]
-pub fn and_stmts(parser: &mut Parser<'_>, levels: u32) -> Result<(), Fault>
+pub fn and_stmts(parser: &mut Parser<'_>, levels: u32) -> Result<(), Failure>
     ensures { Reads the_stmts IsStmts (parts parser.old.out) (statements.and_stmts levels (statements.stmt levels) parser.old.tokens) result parser.new.tokens (parts parser.new.out) }
 {
     parser.tokens.take(AND)?;
@@ -61,7 +61,7 @@ pub fn and_stmts(parser: &mut Parser<'_>, levels: u32) -> Result<(), Fault>
 /// A bar and the name of an exception.
 #[cycle(list)]
 #[tactic(auto, unfolding(syntax_grammar::specs::Statements::next_exception))]
-pub fn next_exception(parser: &mut Parser<'_>, levels: u32) -> Result<(), Fault>
+pub fn next_exception(parser: &mut Parser<'_>, levels: u32) -> Result<(), Failure>
     ensures { Reads the_pack IsPack (parts parser.old.out) (statements.next_exception parser.old.tokens) result parser.new.tokens (parts parser.new.out) }
 {
     parser.tokens.take(BAR)?;
@@ -71,7 +71,7 @@ pub fn next_exception(parser: &mut Parser<'_>, levels: u32) -> Result<(), Fault>
 /// What a handler handles (11.2).
 #[cycle(list)]
 #[tactic(auto, unfolding(syntax_grammar::specs::Statements::handled))]
-pub fn handled(parser: &mut Parser<'_>, levels: u32) -> Result<(), Fault>
+pub fn handled(parser: &mut Parser<'_>, levels: u32) -> Result<(), Failure>
     ensures { Reads the_handled IsPart (parts parser.old.out) (statements.handled parser.old.tokens) result parser.new.tokens (parts parser.new.out) }
 {
     if parser.tokens.peek() == OTHERS {
@@ -86,7 +86,7 @@ pub fn handled(parser: &mut Parser<'_>, levels: u32) -> Result<(), Fault>
 /// A handler (11.2).
 #[cycle(list)]
 #[tactic(auto, unfolding(syntax_grammar::specs::Statements::handler))]
-pub fn handler(parser: &mut Parser<'_>, levels: u32) -> Result<(), Fault>
+pub fn handler(parser: &mut Parser<'_>, levels: u32) -> Result<(), Failure>
     ensures { Reads the_handler IsPart (parts parser.old.out) (statements.handler levels (statements.stmt levels) parser.old.tokens) result parser.new.tokens (parts parser.new.out) }
 {
     let at = parser.tokens.take(WHEN)?;
@@ -97,7 +97,7 @@ pub fn handler(parser: &mut Parser<'_>, levels: u32) -> Result<(), Fault>
 
 /// The latest part is a whole list, and the part below it goes before its items.
 #[tactic(auto, unfolding(syntax_nodes::specs::Stack::parts))]
-pub fn before(out: &mut Parts) -> Result<(), Fault>
+pub fn before(out: &mut Parts) -> Result<(), Failure>
     ensures { Joins result (parts out.new) (cell_value (second (parts out.old)) (top (parts out.old)) ∷ pop (pop (parts out.old))) }
 {
     let list = taken(&out.nodes, &mut out.roots);
@@ -109,7 +109,7 @@ pub fn before(out: &mut Parts) -> Result<(), Fault>
 /// The handlers of a body (11.2).
 #[cycle(list)]
 #[tactic(auto, unfolding(syntax_grammar::specs::Statements::handlers))]
-pub fn handlers(parser: &mut Parser<'_>, levels: u32) -> Result<(), Fault>
+pub fn handlers(parser: &mut Parser<'_>, levels: u32) -> Result<(), Failure>
     ensures { Reads the_handlers IsPart (parts parser.old.out) (statements.handlers levels (statements.stmt levels) parser.old.tokens) result parser.new.tokens (parts parser.new.out) }
 {
     parser.tokens.take(EXCEPTION)?;
@@ -121,7 +121,7 @@ pub fn handlers(parser: &mut Parser<'_>, levels: u32) -> Result<(), Fault>
 /// A body: a handled sequence of statements (11.2).
 #[cycle(list)]
 #[tactic(auto, unfolding(syntax_grammar::specs::Statements::body))]
-pub fn body(parser: &mut Parser<'_>, levels: u32) -> Result<(), Fault>
+pub fn body(parser: &mut Parser<'_>, levels: u32) -> Result<(), Failure>
     ensures { Reads the_body IsPart (parts parser.old.out) (statements.body levels (statements.stmt levels) parser.old.tokens) result parser.new.tokens (parts parser.new.out) }
 {
     stmts(parser, levels)?;

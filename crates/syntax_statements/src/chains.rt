@@ -21,7 +21,7 @@ use ada_base::kinds::{
 };
 use syntax_expressions::{Parser, next_choice};
 use syntax_nodes::{ListKind, also, close, nothing};
-use syntax_readers::Fault;
+use syntax_readers::Failure;
 
 /// What a list is of.
 #[derive(Clone, Copy)]
@@ -104,7 +104,7 @@ fn goes(chain: Chain, kind: u16) -> bool
 
 /// The next item of a chain.
 #[cycle(list)]
-fn item(parser: &mut Parser<'_>, levels: u32, chain: Chain) -> Result<(), Fault>
+fn item(parser: &mut Parser<'_>, levels: u32, chain: Chain) -> Result<(), Failure>
     ensures { Reads (chains.the_item chain) IsPart (parts parser.old.out) (chains.item levels chain parser.old.tokens) result parser.new.tokens (parts parser.new.out) }
 {
     match chain {
@@ -129,7 +129,7 @@ fn item(parser: &mut Parser<'_>, levels: u32, chain: Chain) -> Result<(), Fault>
 
 /// The next item of a chain, behind those before it.
 #[cycle(list)]
-fn link(parser: &mut Parser<'_>, levels: u32, chain: Chain) -> Result<(), Fault>
+fn link(parser: &mut Parser<'_>, levels: u32, chain: Chain) -> Result<(), Failure>
     ensures { Reads (chains.so_far chain) IsPart (pop (parts parser.old.out)) (chains.link levels chain (chains.so_far chain (top (parts parser.old.out))) parser.old.tokens) result parser.new.tokens (parts parser.new.out) }
 {
     item(parser, levels, chain)?;
@@ -138,7 +138,7 @@ fn link(parser: &mut Parser<'_>, levels: u32, chain: Chain) -> Result<(), Fault>
 
 /// All further items of a chain.
 #[cycle(list)]
-fn follow(parser: &mut Parser<'_>, levels: u32, chain: Chain) -> Result<(), Fault>
+fn follow(parser: &mut Parser<'_>, levels: u32, chain: Chain) -> Result<(), Failure>
     ensures { Reads (chains.so_far chain) IsPart (pop (parts parser.old.out)) (loop (chains.goes chain) (chains.link levels chain) (chains.so_far chain (top (parts parser.old.out))) parser.old.tokens) result parser.new.tokens (parts parser.new.out) }
 {
     for _turn in 0..parser.tokens.left() {
@@ -152,7 +152,7 @@ fn follow(parser: &mut Parser<'_>, levels: u32, chain: Chain) -> Result<(), Faul
 
 /// The list of the items of a chain.
 #[cycle(list)]
-pub fn list(parser: &mut Parser<'_>, levels: u32, chain: Chain) -> Result<(), Fault>
+pub fn list(parser: &mut Parser<'_>, levels: u32, chain: Chain) -> Result<(), Failure>
     ensures { Reads (chains.the chain) IsPart (parts parser.old.out) (chains.items levels chain parser.old.tokens) result parser.new.tokens (parts parser.new.out) }
 {
     nothing(&mut parser.out)?;

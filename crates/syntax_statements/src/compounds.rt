@@ -19,12 +19,12 @@ use ada_base::kinds::{
 };
 use syntax_expressions::{Parser, below, choice, expr, name};
 use syntax_nodes::{Four, One, Three, Two, bare, four, leave_out, nothing, one, three, two};
-use syntax_readers::Fault;
+use syntax_readers::Failure;
 
 /// An `elsif` part (5.3).
 #[cycle(list)]
 #[tactic(auto, unfolding(syntax_grammar::specs::Statements::arm))]
-pub fn arm(parser: &mut Parser<'_>, levels: u32) -> Result<(), Fault>
+pub fn arm(parser: &mut Parser<'_>, levels: u32) -> Result<(), Failure>
     ensures { Reads the_arm IsPart (parts parser.old.out) (statements.arm levels (statements.stmt levels) parser.old.tokens) result parser.new.tokens (parts parser.new.out) }
 {
     let at = parser.tokens.take(ELSIF)?;
@@ -36,7 +36,7 @@ pub fn arm(parser: &mut Parser<'_>, levels: u32) -> Result<(), Fault>
 /// The statements after `else`, if they are there (5.3).
 #[cycle(list)]
 #[tactic(auto, unfolding(syntax_grammar::specs::Statements::otherwise))]
-pub fn otherwise(parser: &mut Parser<'_>, levels: u32) -> Result<(), Fault>
+pub fn otherwise(parser: &mut Parser<'_>, levels: u32) -> Result<(), Failure>
     ensures { Reads optional_stmts IsPart (parts parser.old.out) (statements.otherwise levels (statements.stmt levels) parser.old.tokens) result parser.new.tokens (parts parser.new.out) }
 {
     if parser.tokens.peek() == ELSE {
@@ -50,7 +50,7 @@ pub fn otherwise(parser: &mut Parser<'_>, levels: u32) -> Result<(), Fault>
 /// An if statement (5.3).
 #[cycle(list)]
 #[tactic(auto, unfolding(syntax_grammar::specs::Statements::conditional))]
-pub fn conditional(parser: &mut Parser<'_>, levels: u32) -> Result<(), Fault>
+pub fn conditional(parser: &mut Parser<'_>, levels: u32) -> Result<(), Failure>
     ensures { Reads the_stmt IsPart (parts parser.old.out) (statements.conditional levels (statements.stmt levels) parser.old.tokens) result parser.new.tokens (parts parser.new.out) }
 {
     let at = parser.tokens.take(IF)?;
@@ -65,7 +65,7 @@ pub fn conditional(parser: &mut Parser<'_>, levels: u32) -> Result<(), Fault>
 /// An alternative of a case statement (5.4).
 #[cycle(list)]
 #[tactic(auto, unfolding(syntax_grammar::specs::Statements::alt))]
-pub fn alt(parser: &mut Parser<'_>, levels: u32) -> Result<(), Fault>
+pub fn alt(parser: &mut Parser<'_>, levels: u32) -> Result<(), Failure>
     ensures { Reads the_alt IsPart (parts parser.old.out) (statements.alt levels (statements.stmt levels) parser.old.tokens) result parser.new.tokens (parts parser.new.out) }
 {
     let at = parser.tokens.take(WHEN)?;
@@ -78,7 +78,7 @@ pub fn alt(parser: &mut Parser<'_>, levels: u32) -> Result<(), Fault>
 /// A case statement (5.4).
 #[cycle(list)]
 #[tactic(auto, unfolding(syntax_grammar::specs::Statements::selection))]
-pub fn selection(parser: &mut Parser<'_>, levels: u32) -> Result<(), Fault>
+pub fn selection(parser: &mut Parser<'_>, levels: u32) -> Result<(), Failure>
     ensures { Reads the_stmt IsPart (parts parser.old.out) (statements.selection levels (statements.stmt levels) parser.old.tokens) result parser.new.tokens (parts parser.new.out) }
 {
     let at = parser.tokens.take(CASE)?;
@@ -93,7 +93,7 @@ pub fn selection(parser: &mut Parser<'_>, levels: u32) -> Result<(), Fault>
 /// A statement, after the name with which it begins.
 #[cycle(list)]
 #[tactic(auto, unfolding(syntax_grammar::specs::Statements::named_from, syntax_tree::specs::Joining::bare_identifier, syntax_tree::specs::Joining::bare_name))]
-pub fn named_from(parser: &mut Parser<'_>, levels: u32) -> Result<(), Fault>
+pub fn named_from(parser: &mut Parser<'_>, levels: u32) -> Result<(), Failure>
     requires { IsName (top (parts parser.old.out)) }
     ensures { Reads the_stmt IsPart (pop (parts parser.old.out)) (statements.named_from levels (statements.stmt levels) (the_name (top (parts parser.old.out))) parser.old.tokens) result parser.new.tokens (parts parser.new.out) }
 {
@@ -108,7 +108,7 @@ pub fn named_from(parser: &mut Parser<'_>, levels: u32) -> Result<(), Fault>
                 leave_out(&mut parser.out);
                 labelled(parser, levels, label)
             }
-            None => Err(Fault::Unexpected),
+            None => Err(Failure::Unexpected),
         },
     }
 }
@@ -116,7 +116,7 @@ pub fn named_from(parser: &mut Parser<'_>, levels: u32) -> Result<(), Fault>
 /// A statement that begins with a name.
 #[cycle(list)]
 #[tactic(auto, unfolding(syntax_grammar::specs::Statements::named))]
-pub fn named(parser: &mut Parser<'_>, levels: u32) -> Result<(), Fault>
+pub fn named(parser: &mut Parser<'_>, levels: u32) -> Result<(), Failure>
     ensures { Reads the_stmt IsPart (parts parser.old.out) (statements.named levels (statements.stmt levels) parser.old.tokens) result parser.new.tokens (parts parser.new.out) }
 {
     name(parser, levels)?;
@@ -126,7 +126,7 @@ pub fn named(parser: &mut Parser<'_>, levels: u32) -> Result<(), Fault>
 /// A statement with others in it (5.1).
 #[cycle(list)]
 #[tactic(auto, unfolding(syntax_grammar::specs::Statements::compound))]
-pub fn compound(parser: &mut Parser<'_>, levels: u32) -> Result<(), Fault>
+pub fn compound(parser: &mut Parser<'_>, levels: u32) -> Result<(), Failure>
     ensures { Reads the_stmt IsPart (parts parser.old.out) (statements.compound levels (statements.stmt levels) parser.old.tokens) result parser.new.tokens (parts parser.new.out) }
 {
     match parser.tokens.peek() {
@@ -158,7 +158,7 @@ pub fn compound(parser: &mut Parser<'_>, levels: u32) -> Result<(), Fault>
 /// A statement (5.1).
 #[cycle(list)]
 #[tactic(auto, unfolding(syntax_grammar::specs::Statements::open_stmt))]
-pub fn stmt_opened(parser: &mut Parser<'_>, levels: u32) -> Result<(), Fault>
+pub fn stmt_opened(parser: &mut Parser<'_>, levels: u32) -> Result<(), Failure>
     ensures { Reads the_stmt IsPart (parts parser.old.out) (statements.open_stmt levels (statements.stmt levels) parser.old.tokens) result parser.new.tokens (parts parser.new.out) }
 {
     match parser.tokens.peek() {
@@ -195,7 +195,7 @@ pub fn begins_stmt(kind: u16) -> bool
 /// A statement, where so many levels may still open.
 #[cycle(list)]
 #[tactic(auto, unfolding(syntax_grammar::specs::Statements::stmt))]
-pub fn stmt(parser: &mut Parser<'_>, levels: u32) -> Result<(), Fault>
+pub fn stmt(parser: &mut Parser<'_>, levels: u32) -> Result<(), Failure>
     ensures { Reads the_stmt IsPart (parts parser.old.out) (statements.stmt levels parser.old.tokens) result parser.new.tokens (parts parser.new.out) }
 {
     let inner = below(levels, begins_stmt(parser.tokens.peek()))?;

@@ -16,12 +16,12 @@ use ada_base::kinds::{
 };
 use syntax_expressions::{Parser, below, expr, opens};
 use syntax_nodes::{One, Three, Two, nothing, one, three, two};
-use syntax_readers::{Cursor, Fault};
+use syntax_readers::{Cursor, Failure};
 use syntax_tree::Mode;
 
 /// A mode that begins with `in` (6.1).
 #[tactic(auto, unfolding(syntax_grammar::specs::Declarations::in_mode))]
-pub fn in_mode(tokens: &mut Cursor<'_>) -> Result<Option<Mode>, Fault>
+pub fn in_mode(tokens: &mut Cursor<'_>) -> Result<Option<Mode>, Failure>
     ensures { Computes (declarations.in_mode tokens.old) result tokens.new }
 {
     let at = tokens.take(IN)?;
@@ -35,7 +35,7 @@ pub fn in_mode(tokens: &mut Cursor<'_>) -> Result<Option<Mode>, Fault>
 
 /// The mode `out` (6.1).
 #[tactic(auto, unfolding(syntax_grammar::specs::Declarations::out_mode))]
-pub fn out_mode(tokens: &mut Cursor<'_>) -> Result<Option<Mode>, Fault>
+pub fn out_mode(tokens: &mut Cursor<'_>) -> Result<Option<Mode>, Failure>
     ensures { Computes (declarations.out_mode tokens.old) result tokens.new }
 {
     let at = tokens.take(OUT)?;
@@ -44,7 +44,7 @@ pub fn out_mode(tokens: &mut Cursor<'_>) -> Result<Option<Mode>, Fault>
 
 /// A mode, if there is one (6.1).
 #[tactic(auto, unfolding(syntax_grammar::specs::Declarations::mode))]
-pub fn mode(tokens: &mut Cursor<'_>) -> Result<Option<Mode>, Fault>
+pub fn mode(tokens: &mut Cursor<'_>) -> Result<Option<Mode>, Failure>
     ensures { Computes (declarations.mode tokens.old) result tokens.new }
 {
     match tokens.peek() {
@@ -57,7 +57,7 @@ pub fn mode(tokens: &mut Cursor<'_>) -> Result<Option<Mode>, Fault>
 /// A parameter specification (6.1).
 #[cycle(list)]
 #[tactic(auto, unfolding(syntax_grammar::specs::Declarations::formal))]
-pub fn formal(parser: &mut Parser<'_>, levels: u32) -> Result<(), Fault>
+pub fn formal(parser: &mut Parser<'_>, levels: u32) -> Result<(), Failure>
     ensures { Reads the_formal IsPart (parts parser.old.out) (declarations.formal parser.old.tokens) result parser.new.tokens (parts parser.new.out) }
 {
     ids(parser, levels)?;
@@ -70,7 +70,7 @@ pub fn formal(parser: &mut Parser<'_>, levels: u32) -> Result<(), Fault>
 /// A semicolon and a parameter specification.
 #[cycle(list)]
 #[tactic(auto, unfolding(syntax_grammar::specs::Declarations::next_formal))]
-pub fn next_formal(parser: &mut Parser<'_>, levels: u32) -> Result<(), Fault>
+pub fn next_formal(parser: &mut Parser<'_>, levels: u32) -> Result<(), Failure>
     ensures { Reads the_formal IsPart (parts parser.old.out) (declarations.next_formal parser.old.tokens) result parser.new.tokens (parts parser.new.out) }
 {
     parser.tokens.take(SEMICOLON)?;
@@ -80,7 +80,7 @@ pub fn next_formal(parser: &mut Parser<'_>, levels: u32) -> Result<(), Fault>
 /// A formal part (6.1).
 #[cycle(list)]
 #[tactic(auto, unfolding(syntax_grammar::specs::Declarations::open_formals))]
-pub fn formals_opened(parser: &mut Parser<'_>, levels: u32) -> Result<(), Fault>
+pub fn formals_opened(parser: &mut Parser<'_>, levels: u32) -> Result<(), Failure>
     ensures { Reads the_formals IsFormals (parts parser.old.out) (declarations.open_formals parser.old.tokens) result parser.new.tokens (parts parser.new.out) }
 {
     let bracket = parser.tokens.take(OPEN_ROUND)?;
@@ -93,7 +93,7 @@ pub fn formals_opened(parser: &mut Parser<'_>, levels: u32) -> Result<(), Fault>
 /// A formal part, where so many levels may still open.
 #[cycle(list)]
 #[tactic(auto, unfolding(syntax_grammar::specs::Declarations::formals))]
-pub fn formals(parser: &mut Parser<'_>, levels: u32) -> Result<(), Fault>
+pub fn formals(parser: &mut Parser<'_>, levels: u32) -> Result<(), Failure>
     ensures { Reads the_formals IsFormals (parts parser.old.out) (declarations.formals levels parser.old.tokens) result parser.new.tokens (parts parser.new.out) }
 {
     let inner = below(levels, opens(&parser.tokens, OPEN_ROUND))?;
@@ -103,7 +103,7 @@ pub fn formals(parser: &mut Parser<'_>, levels: u32) -> Result<(), Fault>
 /// A formal part, if there is one.
 #[cycle(list)]
 #[tactic(auto, unfolding(syntax_grammar::specs::Declarations::maybe_formals))]
-pub fn optional_formals(parser: &mut Parser<'_>, levels: u32) -> Result<(), Fault>
+pub fn optional_formals(parser: &mut Parser<'_>, levels: u32) -> Result<(), Failure>
     ensures { Reads maybe_formals IsPart (parts parser.old.out) (declarations.maybe_formals levels parser.old.tokens) result parser.new.tokens (parts parser.new.out) }
 {
     if parser.tokens.peek() == OPEN_ROUND {
@@ -116,7 +116,7 @@ pub fn optional_formals(parser: &mut Parser<'_>, levels: u32) -> Result<(), Faul
 /// The type of an object (3.3.1).
 #[cycle(list)]
 #[tactic(auto, unfolding(syntax_grammar::specs::Declarations::object_type))]
-pub fn object_type(parser: &mut Parser<'_>, levels: u32) -> Result<(), Fault>
+pub fn object_type(parser: &mut Parser<'_>, levels: u32) -> Result<(), Failure>
     ensures { Reads the_object_type IsPart (parts parser.old.out) (declarations.object_type levels parser.old.tokens) result parser.new.tokens (parts parser.new.out) }
 {
     if parser.tokens.peek() == ARRAY {
@@ -128,7 +128,7 @@ pub fn object_type(parser: &mut Parser<'_>, levels: u32) -> Result<(), Fault>
 
 /// The value of an object, if there is one (3.3.1).
 #[tactic(auto, unfolding(syntax_grammar::specs::Declarations::initial))]
-pub fn initial(parser: &mut Parser<'_>, levels: u32) -> Result<(), Fault>
+pub fn initial(parser: &mut Parser<'_>, levels: u32) -> Result<(), Failure>
     ensures { Reads maybe_expr IsPart (parts parser.old.out) (declarations.initial levels parser.old.tokens) result parser.new.tokens (parts parser.new.out) }
 {
     if parser.tokens.peek() == ASSIGN {
@@ -142,7 +142,7 @@ pub fn initial(parser: &mut Parser<'_>, levels: u32) -> Result<(), Fault>
 /// An object declaration, after its names, the colon and `constant` (3.3.1).
 #[cycle(list)]
 #[tactic(auto, unfolding(syntax_grammar::specs::Declarations::object))]
-pub fn object(parser: &mut Parser<'_>, levels: u32, constant: Option<u32>) -> Result<(), Fault>
+pub fn object(parser: &mut Parser<'_>, levels: u32, constant: Option<u32>) -> Result<(), Failure>
     ensures { Reads the_decl IsDecl (pop (parts parser.old.out)) (declarations.object levels (the_ids (top (parts parser.old.out))) constant parser.old.tokens) result parser.new.tokens (parts parser.new.out) }
 {
     object_type(parser, levels)?;
@@ -153,7 +153,7 @@ pub fn object(parser: &mut Parser<'_>, levels: u32, constant: Option<u32>) -> Re
 
 /// A number declaration, after its names, the colon and the token `at` of `constant` (3.3.2).
 #[tactic(auto, unfolding(syntax_grammar::specs::Declarations::number))]
-pub fn number(parser: &mut Parser<'_>, levels: u32, at: u32) -> Result<(), Fault>
+pub fn number(parser: &mut Parser<'_>, levels: u32, at: u32) -> Result<(), Failure>
     ensures { Reads the_decl IsDecl (pop (parts parser.old.out)) (declarations.number levels (the_ids (top (parts parser.old.out))) at parser.old.tokens) result parser.new.tokens (parts parser.new.out) }
 {
     parser.tokens.take(ASSIGN)?;
@@ -165,7 +165,7 @@ pub fn number(parser: &mut Parser<'_>, levels: u32, at: u32) -> Result<(), Fault
 /// A declaration with `constant`, after its names and the colon.
 #[cycle(list)]
 #[tactic(auto, unfolding(syntax_grammar::specs::Declarations::constant))]
-pub fn constant(parser: &mut Parser<'_>, levels: u32) -> Result<(), Fault>
+pub fn constant(parser: &mut Parser<'_>, levels: u32) -> Result<(), Failure>
     ensures { Reads the_decl IsDecl (pop (parts parser.old.out)) (declarations.constant levels (the_ids (top (parts parser.old.out))) parser.old.tokens) result parser.new.tokens (parts parser.new.out) }
 {
     let at = parser.tokens.take(CONSTANT)?;
@@ -178,7 +178,7 @@ pub fn constant(parser: &mut Parser<'_>, levels: u32) -> Result<(), Fault>
 
 /// An exception declaration, after its names and the colon (11.1).
 #[tactic(auto, unfolding(syntax_grammar::specs::Declarations::exception))]
-pub fn exception(parser: &mut Parser<'_>, levels: u32) -> Result<(), Fault>
+pub fn exception(parser: &mut Parser<'_>, levels: u32) -> Result<(), Failure>
     ensures { Reads the_decl IsDecl (pop (parts parser.old.out)) (declarations.exception levels (the_ids (top (parts parser.old.out))) parser.old.tokens) result parser.new.tokens (parts parser.new.out) }
 {
     parser.tokens.take(EXCEPTION)?;
@@ -189,7 +189,7 @@ pub fn exception(parser: &mut Parser<'_>, levels: u32) -> Result<(), Fault>
 /// A declaration, after its names and the colon.
 #[cycle(list)]
 #[tactic(auto, unfolding(syntax_grammar::specs::Declarations::named_decl))]
-pub fn named_decl(parser: &mut Parser<'_>, levels: u32) -> Result<(), Fault>
+pub fn named_decl(parser: &mut Parser<'_>, levels: u32) -> Result<(), Failure>
     ensures { Reads the_decl IsDecl (pop (parts parser.old.out)) (declarations.named_decl levels (the_ids (top (parts parser.old.out))) parser.old.tokens) result parser.new.tokens (parts parser.new.out) }
 {
     match parser.tokens.peek() {
@@ -202,7 +202,7 @@ pub fn named_decl(parser: &mut Parser<'_>, levels: u32) -> Result<(), Fault>
 /// A declaration that begins with names.
 #[cycle(list)]
 #[tactic(auto, unfolding(syntax_grammar::specs::Declarations::names_decl))]
-pub fn names_decl(parser: &mut Parser<'_>, levels: u32) -> Result<(), Fault>
+pub fn names_decl(parser: &mut Parser<'_>, levels: u32) -> Result<(), Failure>
     ensures { Reads the_decl IsDecl (parts parser.old.out) (declarations.names_decl levels parser.old.tokens) result parser.new.tokens (parts parser.new.out) }
 {
     ids(parser, levels)?;
@@ -213,7 +213,7 @@ pub fn names_decl(parser: &mut Parser<'_>, levels: u32) -> Result<(), Fault>
 /// A declaration (3.1).
 #[cycle(list)]
 #[tactic(auto, unfolding(syntax_grammar::specs::Declarations::decl))]
-pub fn decl(parser: &mut Parser<'_>, levels: u32) -> Result<(), Fault>
+pub fn decl(parser: &mut Parser<'_>, levels: u32) -> Result<(), Failure>
     ensures { Reads the_decl IsDecl (parts parser.old.out) (declarations.decl levels parser.old.tokens) result parser.new.tokens (parts parser.new.out) }
 {
     match parser.tokens.peek() {

@@ -12,11 +12,11 @@ use crate::names::{join_identifier, maybe_identifier};
 use ada_base::kinds::{COLON, END, FOR, LOOP, PARALLEL, SEMICOLON, WHILE};
 use syntax_expressions::{Parser, expr, iter, parallel};
 use syntax_nodes::{Four, Leaf, One, Two, four, leaf, nothing, one, two};
-use syntax_readers::Fault;
+use syntax_readers::Failure;
 
 /// The end of a loop: the token of `end`, and the identifier after it or nothing (5.5).
 #[tactic(auto, unfolding(syntax_grammar::specs::Statements::loop_end))]
-pub fn loop_end(parser: &mut Parser<'_>) -> Result<u32, Fault>
+pub fn loop_end(parser: &mut Parser<'_>) -> Result<u32, Failure>
     ensures { ReadsForm loop_ended AnyToken (parts parser.old.out) (statements.loop_end parser.old.tokens) result parser.new.tokens (parts parser.new.out) }
 {
     let last = parser.tokens.take(END)?;
@@ -30,7 +30,7 @@ pub fn loop_end(parser: &mut Parser<'_>) -> Result<u32, Fault>
 /// A loop, after its label and its iteration scheme (5.5).
 #[cycle(list)]
 #[tactic(auto, unfolding(syntax_grammar::specs::Statements::loop_from))]
-pub fn loop_from(parser: &mut Parser<'_>, levels: u32) -> Result<(), Fault>
+pub fn loop_from(parser: &mut Parser<'_>, levels: u32) -> Result<(), Failure>
     ensures { Reads the_stmt IsPart (pop (pop (parts parser.old.out))) (statements.loop_from levels (statements.stmt levels) (maybe_token (second (parts parser.old.out))) (maybe_scheme (top (parts parser.old.out))) parser.old.tokens) result parser.new.tokens (parts parser.new.out) }
 {
     let at = parser.tokens.take(LOOP)?;
@@ -42,7 +42,7 @@ pub fn loop_from(parser: &mut Parser<'_>, levels: u32) -> Result<(), Fault>
 /// A loop with `while`, after its label (5.5).
 #[cycle(list)]
 #[tactic(auto, unfolding(syntax_grammar::specs::Statements::while_from))]
-pub fn while_from(parser: &mut Parser<'_>, levels: u32) -> Result<(), Fault>
+pub fn while_from(parser: &mut Parser<'_>, levels: u32) -> Result<(), Failure>
     ensures { Reads the_stmt IsPart (pop (parts parser.old.out)) (statements.while_from levels (statements.stmt levels) (maybe_token (top (parts parser.old.out))) parser.old.tokens) result parser.new.tokens (parts parser.new.out) }
 {
     let at = parser.tokens.take(WHILE)?;
@@ -54,7 +54,7 @@ pub fn while_from(parser: &mut Parser<'_>, levels: u32) -> Result<(), Fault>
 /// A loop with `for`, after its label and `parallel` (5.5).
 #[cycle(list)]
 #[tactic(auto, unfolding(syntax_grammar::specs::Statements::for_from))]
-pub fn for_from(parser: &mut Parser<'_>, levels: u32) -> Result<(), Fault>
+pub fn for_from(parser: &mut Parser<'_>, levels: u32) -> Result<(), Failure>
     ensures { Reads the_stmt IsPart (pop (pop (parts parser.old.out))) (statements.for_from levels (statements.stmt levels) (maybe_token (second (parts parser.old.out))) (maybe_parallel (top (parts parser.old.out))) parser.old.tokens) result parser.new.tokens (parts parser.new.out) }
 {
     let at = parser.tokens.take(FOR)?;
@@ -66,7 +66,7 @@ pub fn for_from(parser: &mut Parser<'_>, levels: u32) -> Result<(), Fault>
 /// A loop, after its label (5.5).
 #[cycle(list)]
 #[tactic(auto, unfolding(syntax_grammar::specs::Statements::labelled))]
-pub fn labelled(parser: &mut Parser<'_>, levels: u32, label: u32) -> Result<(), Fault>
+pub fn labelled(parser: &mut Parser<'_>, levels: u32, label: u32) -> Result<(), Failure>
     ensures { Reads the_stmt IsPart (parts parser.old.out) (statements.labelled levels (statements.stmt levels) label parser.old.tokens) result parser.new.tokens (parts parser.new.out) }
 {
     leaf(&mut parser.out, Leaf::Token(label))?;

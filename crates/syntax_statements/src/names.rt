@@ -12,11 +12,11 @@ use crate::chains::{Chain, list};
 use ada_base::kinds::{COMMA, IDENTIFIER, POINT};
 use syntax_expressions::Parser;
 use syntax_nodes::{Leaf, One, Parts, leaf, nothing, one};
-use syntax_readers::{Cursor, Fault};
+use syntax_readers::{Cursor, Failure};
 
 /// A comma and an identifier.
 #[tactic(auto, unfolding(syntax_grammar::specs::Declarations::next_identifier))]
-pub fn next_identifier(parser: &mut Parser<'_>) -> Result<(), Fault>
+pub fn next_identifier(parser: &mut Parser<'_>) -> Result<(), Failure>
     ensures { Reads the_token IsPart (parts parser.old.out) (declarations.next_identifier parser.old.tokens) result parser.new.tokens (parts parser.new.out) }
 {
     parser.tokens.take(COMMA)?;
@@ -27,7 +27,7 @@ pub fn next_identifier(parser: &mut Parser<'_>) -> Result<(), Fault>
 /// Defining identifiers (3.3.1).
 #[cycle(list)]
 #[tactic(auto, unfolding(syntax_grammar::specs::Declarations::ids))]
-pub fn ids(parser: &mut Parser<'_>, levels: u32) -> Result<(), Fault>
+pub fn ids(parser: &mut Parser<'_>, levels: u32) -> Result<(), Failure>
     ensures { Reads the_ids IsPart (parts parser.old.out) (declarations.ids parser.old.tokens) result parser.new.tokens (parts parser.new.out) }
 {
     let first = parser.tokens.take(IDENTIFIER)?;
@@ -37,7 +37,7 @@ pub fn ids(parser: &mut Parser<'_>, levels: u32) -> Result<(), Fault>
 
 /// A point and an identifier.
 #[tactic(auto, unfolding(syntax_grammar::specs::Statements::next_name))]
-pub fn next_name(parser: &mut Parser<'_>) -> Result<(), Fault>
+pub fn next_name(parser: &mut Parser<'_>) -> Result<(), Failure>
     ensures { Reads the_token IsPart (parts parser.old.out) (statements.next_name parser.old.tokens) result parser.new.tokens (parts parser.new.out) }
 {
     parser.tokens.take(POINT)?;
@@ -48,7 +48,7 @@ pub fn next_name(parser: &mut Parser<'_>) -> Result<(), Fault>
 /// The name of a package or an exception (4.1.3).
 #[cycle(list)]
 #[tactic(auto, unfolding(syntax_grammar::specs::Statements::pack))]
-pub fn pack(parser: &mut Parser<'_>, levels: u32) -> Result<(), Fault>
+pub fn pack(parser: &mut Parser<'_>, levels: u32) -> Result<(), Failure>
     ensures { Reads the_pack IsPack (parts parser.old.out) (statements.pack parser.old.tokens) result parser.new.tokens (parts parser.new.out) }
 {
     let first = parser.tokens.take(IDENTIFIER)?;
@@ -58,7 +58,7 @@ pub fn pack(parser: &mut Parser<'_>, levels: u32) -> Result<(), Fault>
 
 /// An identifier, if there is one.
 #[tactic(auto, unfolding(syntax_grammar::specs::Statements::maybe_identifier))]
-pub fn maybe_identifier(tokens: &mut Cursor<'_>) -> Result<Option<u32>, Fault>
+pub fn maybe_identifier(tokens: &mut Cursor<'_>) -> Result<Option<u32>, Failure>
     ensures { Computes (statements.maybe_identifier tokens.old) result tokens.new }
 {
     if tokens.peek() == IDENTIFIER {
@@ -69,7 +69,7 @@ pub fn maybe_identifier(tokens: &mut Cursor<'_>) -> Result<Option<u32>, Fault>
 }
 
 /// A token or nothing.
-pub fn join_identifier(out: &mut Parts, name: Option<u32>) -> Result<(), Fault>
+pub fn join_identifier(out: &mut Parts, name: Option<u32>) -> Result<(), Failure>
     ensures { JoinsToken name result (parts out.new) (parts out.old) }
 {
     match name {

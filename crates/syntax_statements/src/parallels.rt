@@ -14,12 +14,12 @@ use crate::statements::closing;
 use ada_base::kinds::{BEGIN, DECLARE, DO, END, FOR, PARALLEL, SEMICOLON};
 use syntax_expressions::{Parser, chunk};
 use syntax_nodes::{Four, Leaf, One, Parts, Two, four, leaf, nothing, one, swap, two};
-use syntax_readers::Fault;
+use syntax_readers::Failure;
 
 /// A block, after its declarations or nothing (5.6).
 #[cycle(list)]
 #[tactic(auto, unfolding(syntax_grammar::specs::Statements::block_from))]
-pub fn block_from(parser: &mut Parser<'_>, levels: u32) -> Result<(), Fault>
+pub fn block_from(parser: &mut Parser<'_>, levels: u32) -> Result<(), Failure>
     ensures { Reads the_stmt IsPart (pop (parts parser.old.out)) (statements.block_from levels (statements.stmt levels) (maybe_declare (top (parts parser.old.out))) parser.old.tokens) result parser.new.tokens (parts parser.new.out) }
 {
     let at = parser.tokens.take(BEGIN)?;
@@ -32,7 +32,7 @@ pub fn block_from(parser: &mut Parser<'_>, levels: u32) -> Result<(), Fault>
 /// A block with declarations (5.6).
 #[cycle(list)]
 #[tactic(auto, unfolding(syntax_grammar::specs::Statements::declaring))]
-pub fn declaring(parser: &mut Parser<'_>, levels: u32) -> Result<(), Fault>
+pub fn declaring(parser: &mut Parser<'_>, levels: u32) -> Result<(), Failure>
     ensures { Reads the_stmt IsPart (parts parser.old.out) (statements.declaring levels (statements.stmt levels) parser.old.tokens) result parser.new.tokens (parts parser.new.out) }
 {
     let at = parser.tokens.take(DECLARE)?;
@@ -44,7 +44,7 @@ pub fn declaring(parser: &mut Parser<'_>, levels: u32) -> Result<(), Fault>
 /// A parallel block, after its number of chunks or nothing (5.6.1).
 #[cycle(list)]
 #[tactic(auto, unfolding(syntax_grammar::specs::Statements::do_from))]
-pub fn do_from(parser: &mut Parser<'_>, levels: u32, at: u32) -> Result<(), Fault>
+pub fn do_from(parser: &mut Parser<'_>, levels: u32, at: u32) -> Result<(), Failure>
     ensures { Reads the_stmt IsPart (pop (parts parser.old.out)) (statements.do_from levels (statements.stmt levels) at (maybe_simple (top (parts parser.old.out))) parser.old.tokens) result parser.new.tokens (parts parser.new.out) }
 {
     parser.tokens.take(DO)?;
@@ -56,7 +56,7 @@ pub fn do_from(parser: &mut Parser<'_>, levels: u32, at: u32) -> Result<(), Faul
 }
 
 /// A loop without label, and its chunk specification, which was a sum alone where it is `counted`.
-pub fn join_parallel(out: &mut Parts, at: u32, counted: bool) -> Result<(), Fault>
+pub fn join_parallel(out: &mut Parts, at: u32, counted: bool) -> Result<(), Failure>
     requires { ChunkForm counted (top (parts out.old)) }
     ensures { JoinsParallel at counted result (parts out.new) (parts out.old) }
 {
@@ -77,7 +77,7 @@ pub fn chunked_from(
     levels: u32,
     at: u32,
     counted: bool,
-) -> Result<(), Fault>
+) -> Result<(), Failure>
     requires { ChunkForm counted (top (parts parser.old.out)) }
     ensures { Reads the_stmt IsPart (pop (parts parser.old.out)) (statements.chunked_from levels (statements.stmt levels) at (chunk_form at counted (top (parts parser.old.out))) parser.old.tokens) result parser.new.tokens (parts parser.new.out) }
 {
@@ -88,14 +88,14 @@ pub fn chunked_from(
     if counted {
         do_from(parser, levels, at)
     } else {
-        Err(Fault::Unexpected)
+        Err(Failure::Unexpected)
     }
 }
 
 /// A parallel construct, after `parallel` (5.5, 5.6.1).
 #[cycle(list)]
 #[tactic(auto, unfolding(syntax_grammar::specs::Statements::parallel_from))]
-pub fn parallel_from(parser: &mut Parser<'_>, levels: u32, at: u32) -> Result<(), Fault>
+pub fn parallel_from(parser: &mut Parser<'_>, levels: u32, at: u32) -> Result<(), Failure>
     ensures { Reads the_stmt IsPart (parts parser.old.out) (statements.parallel_from levels (statements.stmt levels) at parser.old.tokens) result parser.new.tokens (parts parser.new.out) }
 {
     match parser.tokens.peek() {
@@ -118,7 +118,7 @@ pub fn parallel_from(parser: &mut Parser<'_>, levels: u32, at: u32) -> Result<()
 /// A parallel construct (5.5, 5.6.1).
 #[cycle(list)]
 #[tactic(auto, unfolding(syntax_grammar::specs::Statements::parallel_stmt))]
-pub fn parallel_stmt(parser: &mut Parser<'_>, levels: u32) -> Result<(), Fault>
+pub fn parallel_stmt(parser: &mut Parser<'_>, levels: u32) -> Result<(), Failure>
     ensures { Reads the_stmt IsPart (parts parser.old.out) (statements.parallel_stmt levels (statements.stmt levels) parser.old.tokens) result parser.new.tokens (parts parser.new.out) }
 {
     let at = parser.tokens.take(PARALLEL)?;

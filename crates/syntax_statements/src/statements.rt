@@ -11,11 +11,11 @@ use crate::names::{maybe_identifier, pack};
 use ada_base::kinds::{ASSIGN, END, EXIT, NULL, RAISE, RETURN, SEMICOLON};
 use syntax_expressions::{Parser, expr, filter};
 use syntax_nodes::{Leaf, One, Two, leaf, nothing, one, two};
-use syntax_readers::{Cursor, Fault};
+use syntax_readers::{Cursor, Failure};
 
 /// The end of a compound statement that repeats its first word.
 #[tactic(auto, unfolding(syntax_grammar::specs::Statements::closing))]
-pub fn closing(tokens: &mut Cursor<'_>, word: u16) -> Result<u32, Fault>
+pub fn closing(tokens: &mut Cursor<'_>, word: u16) -> Result<u32, Failure>
     ensures { Computes (statements.closing word tokens.old) result tokens.new }
 {
     tokens.take(END)?;
@@ -25,7 +25,7 @@ pub fn closing(tokens: &mut Cursor<'_>, word: u16) -> Result<u32, Fault>
 
 /// A null statement (5.1).
 #[tactic(auto, unfolding(syntax_grammar::specs::Statements::null))]
-pub fn null(parser: &mut Parser<'_>) -> Result<(), Fault>
+pub fn null(parser: &mut Parser<'_>) -> Result<(), Failure>
     ensures { Reads the_stmt IsPart (parts parser.old.out) (statements.null parser.old.tokens) result parser.new.tokens (parts parser.new.out) }
 {
     let at = parser.tokens.take(NULL)?;
@@ -36,7 +36,7 @@ pub fn null(parser: &mut Parser<'_>) -> Result<(), Fault>
 /// A raise statement, after `raise` (11.3).
 #[cycle(list)]
 #[tactic(auto, unfolding(syntax_grammar::specs::Statements::raise_from))]
-pub fn raise_from(parser: &mut Parser<'_>, levels: u32, at: u32) -> Result<(), Fault>
+pub fn raise_from(parser: &mut Parser<'_>, levels: u32, at: u32) -> Result<(), Failure>
     ensures { Reads the_stmt IsPart (parts parser.old.out) (statements.raise_from at parser.old.tokens) result parser.new.tokens (parts parser.new.out) }
 {
     if parser.tokens.peek() == SEMICOLON {
@@ -52,7 +52,7 @@ pub fn raise_from(parser: &mut Parser<'_>, levels: u32, at: u32) -> Result<(), F
 /// A raise statement (11.3).
 #[cycle(list)]
 #[tactic(auto, unfolding(syntax_grammar::specs::Statements::raise))]
-pub fn raise(parser: &mut Parser<'_>, levels: u32) -> Result<(), Fault>
+pub fn raise(parser: &mut Parser<'_>, levels: u32) -> Result<(), Failure>
     ensures { Reads the_stmt IsPart (parts parser.old.out) (statements.raise parser.old.tokens) result parser.new.tokens (parts parser.new.out) }
 {
     let at = parser.tokens.take(RAISE)?;
@@ -61,7 +61,7 @@ pub fn raise(parser: &mut Parser<'_>, levels: u32) -> Result<(), Fault>
 
 /// An exit statement (5.7).
 #[tactic(auto, unfolding(syntax_grammar::specs::Statements::exit))]
-pub fn exit(parser: &mut Parser<'_>, levels: u32) -> Result<(), Fault>
+pub fn exit(parser: &mut Parser<'_>, levels: u32) -> Result<(), Failure>
     ensures { Reads the_stmt IsPart (parts parser.old.out) (statements.exit levels parser.old.tokens) result parser.new.tokens (parts parser.new.out) }
 {
     let at = parser.tokens.take(EXIT)?;
@@ -73,7 +73,7 @@ pub fn exit(parser: &mut Parser<'_>, levels: u32) -> Result<(), Fault>
 
 /// A return statement, after `return` (6.5).
 #[tactic(auto, unfolding(syntax_grammar::specs::Statements::return_from))]
-pub fn return_from(parser: &mut Parser<'_>, levels: u32, at: u32) -> Result<(), Fault>
+pub fn return_from(parser: &mut Parser<'_>, levels: u32, at: u32) -> Result<(), Failure>
     ensures { Reads the_stmt IsPart (parts parser.old.out) (statements.return_from levels at parser.old.tokens) result parser.new.tokens (parts parser.new.out) }
 {
     if parser.tokens.peek() == SEMICOLON {
@@ -88,7 +88,7 @@ pub fn return_from(parser: &mut Parser<'_>, levels: u32, at: u32) -> Result<(), 
 
 /// A return statement (6.5).
 #[tactic(auto, using(crate::proofs::Returns::return_is))]
-pub fn returning(parser: &mut Parser<'_>, levels: u32) -> Result<(), Fault>
+pub fn returning(parser: &mut Parser<'_>, levels: u32) -> Result<(), Failure>
     ensures { Reads the_stmt IsPart (parts parser.old.out) (statements.return levels parser.old.tokens) result parser.new.tokens (parts parser.new.out) }
 {
     let at = parser.tokens.take(RETURN)?;
@@ -97,7 +97,7 @@ pub fn returning(parser: &mut Parser<'_>, levels: u32) -> Result<(), Fault>
 
 /// An assignment, after its target (5.2).
 #[tactic(auto, unfolding(syntax_grammar::specs::Statements::assigned))]
-pub fn assigned(parser: &mut Parser<'_>, levels: u32) -> Result<(), Fault>
+pub fn assigned(parser: &mut Parser<'_>, levels: u32) -> Result<(), Failure>
     ensures { Reads the_stmt IsPart (pop (parts parser.old.out)) (statements.assigned levels (the_name (top (parts parser.old.out))) parser.old.tokens) result parser.new.tokens (parts parser.new.out) }
 {
     parser.tokens.take(ASSIGN)?;

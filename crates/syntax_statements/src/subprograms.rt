@@ -20,11 +20,11 @@ use ada_base::kinds::{
 };
 use syntax_expressions::{Parser, below, expr, opens};
 use syntax_nodes::{One, Three, Two, nothing, one, three, two};
-use syntax_readers::Fault;
+use syntax_readers::Failure;
 
 /// The expression of an expression function in its brackets (6.8).
 #[tactic(auto, unfolding(syntax_grammar::specs::Units::open_value))]
-pub fn value_opened(parser: &mut Parser<'_>, levels: u32) -> Result<(), Fault>
+pub fn value_opened(parser: &mut Parser<'_>, levels: u32) -> Result<(), Failure>
     ensures { Reads valued_of IsPart (parts parser.old.out) (units.open_value levels parser.old.tokens) result parser.new.tokens (parts parser.new.out) }
 {
     let bracket = parser.tokens.take(OPEN_ROUND)?;
@@ -35,7 +35,7 @@ pub fn value_opened(parser: &mut Parser<'_>, levels: u32) -> Result<(), Fault>
 
 /// The expression of an expression function in its brackets, where so many levels may still open.
 #[tactic(auto, unfolding(syntax_grammar::specs::Units::function_value))]
-pub fn function_value(parser: &mut Parser<'_>, levels: u32) -> Result<(), Fault>
+pub fn function_value(parser: &mut Parser<'_>, levels: u32) -> Result<(), Failure>
     ensures { Reads valued_of IsPart (parts parser.old.out) (units.function_value levels parser.old.tokens) result parser.new.tokens (parts parser.new.out) }
 {
     let inner = below(levels, opens(&parser.tokens, OPEN_ROUND))?;
@@ -45,7 +45,7 @@ pub fn function_value(parser: &mut Parser<'_>, levels: u32) -> Result<(), Fault>
 /// A subprogram from `begin` on: its body, and the identifier after `end` (6.3).
 #[cycle(list)]
 #[tactic(auto, unfolding(syntax_grammar::specs::Units::ended))]
-pub fn ended(parser: &mut Parser<'_>, levels: u32) -> Result<Option<u32>, Fault>
+pub fn ended(parser: &mut Parser<'_>, levels: u32) -> Result<Option<u32>, Failure>
     ensures { ReadsForm ended_of AnyName (parts parser.old.out) (units.ended levels parser.old.tokens) result parser.new.tokens (parts parser.new.out) }
 {
     parser.tokens.take(BEGIN)?;
@@ -64,7 +64,7 @@ pub fn procedure_is(
     levels: u32,
     at: u32,
     defined: u32,
-) -> Result<(), Fault>
+) -> Result<(), Failure>
     ensures { Reads the_sub IsSub (pop (pop (parts parser.old.out))) (units.procedure_is levels at defined (maybe_formals (second (parts parser.old.out))) (maybe_aspect (top (parts parser.old.out))) parser.old.tokens) result parser.new.tokens (parts parser.new.out) }
 {
     parser.tokens.take(IS)?;
@@ -77,7 +77,7 @@ pub fn procedure_is(
 /// A procedure (6.3).
 #[cycle(list)]
 #[tactic(auto, unfolding(syntax_grammar::specs::Units::procedure))]
-pub fn procedure(parser: &mut Parser<'_>, levels: u32) -> Result<(), Fault>
+pub fn procedure(parser: &mut Parser<'_>, levels: u32) -> Result<(), Failure>
     ensures { Reads the_sub IsSub (parts parser.old.out) (units.procedure levels parser.old.tokens) result parser.new.tokens (parts parser.new.out) }
 {
     let at = parser.tokens.take(PROCEDURE)?;
@@ -96,7 +96,7 @@ pub fn function_body(
     at: u32,
     defined: u32,
     result_mark: u32,
-) -> Result<(), Fault>
+) -> Result<(), Failure>
     ensures { Reads the_sub IsSub (pop (pop (parts parser.old.out))) (units.function_body levels at defined (maybe_formals (second (parts parser.old.out))) result_mark (maybe_aspect (top (parts parser.old.out))) parser.old.tokens) result parser.new.tokens (parts parser.new.out) }
 {
     list(parser, levels, Chain::Decls)?;
@@ -113,7 +113,7 @@ pub fn expression_function(
     at: u32,
     defined: u32,
     result_mark: u32,
-) -> Result<(), Fault>
+) -> Result<(), Failure>
     ensures { Reads the_sub IsSub (pop (parts parser.old.out)) (units.expression_function levels at defined (maybe_formals (top (parts parser.old.out))) result_mark parser.old.tokens) result parser.new.tokens (parts parser.new.out) }
 {
     function_value(parser, levels)?;
@@ -134,7 +134,7 @@ pub fn function_from(
     at: u32,
     defined: u32,
     result_mark: u32,
-) -> Result<(), Fault>
+) -> Result<(), Failure>
     ensures { Reads the_sub IsSub (pop (parts parser.old.out)) (units.function_from levels at defined (maybe_formals (top (parts parser.old.out))) result_mark parser.old.tokens) result parser.new.tokens (parts parser.new.out) }
 {
     if parser.tokens.peek() == WITH {
@@ -154,7 +154,7 @@ pub fn function_from(
 /// A function (6.3, 6.8).
 #[cycle(list)]
 #[tactic(auto, unfolding(syntax_grammar::specs::Units::function))]
-pub fn function(parser: &mut Parser<'_>, levels: u32) -> Result<(), Fault>
+pub fn function(parser: &mut Parser<'_>, levels: u32) -> Result<(), Failure>
     ensures { Reads the_sub IsSub (parts parser.old.out) (units.function levels parser.old.tokens) result parser.new.tokens (parts parser.new.out) }
 {
     let at = parser.tokens.take(FUNCTION)?;
@@ -168,7 +168,7 @@ pub fn function(parser: &mut Parser<'_>, levels: u32) -> Result<(), Fault>
 /// A subprogram (6.3).
 #[cycle(list)]
 #[tactic(auto, unfolding(syntax_grammar::specs::Units::open_sub))]
-pub fn sub_opened(parser: &mut Parser<'_>, levels: u32) -> Result<(), Fault>
+pub fn sub_opened(parser: &mut Parser<'_>, levels: u32) -> Result<(), Failure>
     ensures { Reads the_sub IsSub (parts parser.old.out) (units.open_sub levels parser.old.tokens) result parser.new.tokens (parts parser.new.out) }
 {
     if parser.tokens.peek() == PROCEDURE {
@@ -188,7 +188,7 @@ pub fn begins_sub(kind: u16) -> bool
 /// A subprogram, where so many levels may still open.
 #[cycle(list)]
 #[tactic(auto, unfolding(syntax_grammar::specs::Units::sub))]
-pub fn sub(parser: &mut Parser<'_>, levels: u32) -> Result<(), Fault>
+pub fn sub(parser: &mut Parser<'_>, levels: u32) -> Result<(), Failure>
     ensures { Reads the_sub IsSub (parts parser.old.out) (units.sub levels parser.old.tokens) result parser.new.tokens (parts parser.new.out) }
 {
     let inner = below(levels, begins_sub(parser.tokens.peek()))?;

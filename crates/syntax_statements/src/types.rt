@@ -14,11 +14,11 @@ use ada_base::kinds::{
 };
 use syntax_expressions::{Parser, below, constraint, opens, range};
 use syntax_nodes::{Leaf, One, Three, Two, leaf, one, three, two};
-use syntax_readers::Fault;
+use syntax_readers::Failure;
 
 /// A comma and a range.
 #[tactic(auto, unfolding(syntax_grammar::specs::Declarations::next_index))]
-pub fn next_index(parser: &mut Parser<'_>, levels: u32) -> Result<(), Fault>
+pub fn next_index(parser: &mut Parser<'_>, levels: u32) -> Result<(), Failure>
     ensures { Reads the_range IsPart (parts parser.old.out) (declarations.next_index levels parser.old.tokens) result parser.new.tokens (parts parser.new.out) }
 {
     parser.tokens.take(COMMA)?;
@@ -28,7 +28,7 @@ pub fn next_index(parser: &mut Parser<'_>, levels: u32) -> Result<(), Fault>
 /// The index ranges of an array (3.6): the first, and the list of the others.
 #[cycle(list)]
 #[tactic(auto, unfolding(syntax_grammar::specs::Declarations::open_indexes))]
-pub fn indexes_opened(parser: &mut Parser<'_>, levels: u32) -> Result<(), Fault>
+pub fn indexes_opened(parser: &mut Parser<'_>, levels: u32) -> Result<(), Failure>
     ensures { ReadsTwo indexes_of (parts parser.old.out) (declarations.open_indexes levels parser.old.tokens) result parser.new.tokens (parts parser.new.out) }
 {
     parser.tokens.take(OPEN_ROUND)?;
@@ -41,7 +41,7 @@ pub fn indexes_opened(parser: &mut Parser<'_>, levels: u32) -> Result<(), Fault>
 /// The index ranges of an array, where so many levels may still open.
 #[cycle(list)]
 #[tactic(auto, unfolding(syntax_grammar::specs::Declarations::indexes))]
-pub fn indexes(parser: &mut Parser<'_>, levels: u32) -> Result<(), Fault>
+pub fn indexes(parser: &mut Parser<'_>, levels: u32) -> Result<(), Failure>
     ensures { ReadsTwo indexes_of (parts parser.old.out) (declarations.indexes levels parser.old.tokens) result parser.new.tokens (parts parser.new.out) }
 {
     let inner = below(levels, opens(&parser.tokens, OPEN_ROUND))?;
@@ -50,7 +50,7 @@ pub fn indexes(parser: &mut Parser<'_>, levels: u32) -> Result<(), Fault>
 
 /// A subtype indication, after its mark (3.2.2).
 #[tactic(auto, unfolding(syntax_grammar::specs::Declarations::indic_from))]
-pub fn indic_from(parser: &mut Parser<'_>, levels: u32, mark: u32) -> Result<(), Fault>
+pub fn indic_from(parser: &mut Parser<'_>, levels: u32, mark: u32) -> Result<(), Failure>
     ensures { Reads the_indic IsIndic (parts parser.old.out) (declarations.indic_from levels mark parser.old.tokens) result parser.new.tokens (parts parser.new.out) }
 {
     if parser.tokens.peek() == RANGE {
@@ -63,7 +63,7 @@ pub fn indic_from(parser: &mut Parser<'_>, levels: u32, mark: u32) -> Result<(),
 
 /// A subtype indication (3.2.2).
 #[tactic(auto, unfolding(syntax_grammar::specs::Declarations::indic))]
-pub fn indic(parser: &mut Parser<'_>, levels: u32) -> Result<(), Fault>
+pub fn indic(parser: &mut Parser<'_>, levels: u32) -> Result<(), Failure>
     ensures { Reads the_indic IsIndic (parts parser.old.out) (declarations.indic levels parser.old.tokens) result parser.new.tokens (parts parser.new.out) }
 {
     let mark = parser.tokens.take(IDENTIFIER)?;
@@ -73,7 +73,7 @@ pub fn indic(parser: &mut Parser<'_>, levels: u32) -> Result<(), Fault>
 /// An array type definition (3.6).
 #[cycle(list)]
 #[tactic(auto, unfolding(syntax_grammar::specs::Declarations::array))]
-pub fn array(parser: &mut Parser<'_>, levels: u32) -> Result<(), Fault>
+pub fn array(parser: &mut Parser<'_>, levels: u32) -> Result<(), Failure>
     ensures { Reads the_array IsArray (parts parser.old.out) (declarations.array levels parser.old.tokens) result parser.new.tokens (parts parser.new.out) }
 {
     let at = parser.tokens.take(ARRAY)?;
@@ -86,7 +86,7 @@ pub fn array(parser: &mut Parser<'_>, levels: u32) -> Result<(), Fault>
 /// A component declaration (3.8).
 #[cycle(list)]
 #[tactic(auto, unfolding(syntax_grammar::specs::Declarations::comp))]
-pub fn comp(parser: &mut Parser<'_>, levels: u32) -> Result<(), Fault>
+pub fn comp(parser: &mut Parser<'_>, levels: u32) -> Result<(), Failure>
     ensures { Reads the_comp IsPart (parts parser.old.out) (declarations.comp levels parser.old.tokens) result parser.new.tokens (parts parser.new.out) }
 {
     ids(parser, levels)?;
@@ -99,7 +99,7 @@ pub fn comp(parser: &mut Parser<'_>, levels: u32) -> Result<(), Fault>
 /// A record type definition (3.8).
 #[cycle(list)]
 #[tactic(auto, unfolding(syntax_grammar::specs::Declarations::record_type))]
-pub fn record_type(parser: &mut Parser<'_>, levels: u32) -> Result<(), Fault>
+pub fn record_type(parser: &mut Parser<'_>, levels: u32) -> Result<(), Failure>
     ensures { Reads the_definition IsPart (parts parser.old.out) (declarations.record_type levels parser.old.tokens) result parser.new.tokens (parts parser.new.out) }
 {
     parser.tokens.take(RECORD)?;
@@ -113,7 +113,7 @@ pub fn record_type(parser: &mut Parser<'_>, levels: u32) -> Result<(), Fault>
 /// A type definition (3.2.1).
 #[cycle(list)]
 #[tactic(auto, unfolding(syntax_grammar::specs::Declarations::definition))]
-pub fn definition(parser: &mut Parser<'_>, levels: u32) -> Result<(), Fault>
+pub fn definition(parser: &mut Parser<'_>, levels: u32) -> Result<(), Failure>
     ensures { Reads the_definition IsPart (parts parser.old.out) (declarations.definition levels parser.old.tokens) result parser.new.tokens (parts parser.new.out) }
 {
     match parser.tokens.peek() {
@@ -129,7 +129,7 @@ pub fn definition(parser: &mut Parser<'_>, levels: u32) -> Result<(), Fault>
 /// A type declaration (3.2.1).
 #[cycle(list)]
 #[tactic(auto, unfolding(syntax_grammar::specs::Declarations::type_decl))]
-pub fn type_decl(parser: &mut Parser<'_>, levels: u32) -> Result<(), Fault>
+pub fn type_decl(parser: &mut Parser<'_>, levels: u32) -> Result<(), Failure>
     ensures { Reads the_decl IsDecl (parts parser.old.out) (declarations.type_decl levels parser.old.tokens) result parser.new.tokens (parts parser.new.out) }
 {
     let at = parser.tokens.take(TYPE)?;
@@ -142,7 +142,7 @@ pub fn type_decl(parser: &mut Parser<'_>, levels: u32) -> Result<(), Fault>
 
 /// A subtype declaration (3.2.2).
 #[tactic(auto, unfolding(syntax_grammar::specs::Declarations::subtype_decl))]
-pub fn subtype_decl(parser: &mut Parser<'_>, levels: u32) -> Result<(), Fault>
+pub fn subtype_decl(parser: &mut Parser<'_>, levels: u32) -> Result<(), Failure>
     ensures { Reads the_decl IsDecl (parts parser.old.out) (declarations.subtype_decl levels parser.old.tokens) result parser.new.tokens (parts parser.new.out) }
 {
     let at = parser.tokens.take(SUBTYPE)?;

@@ -16,12 +16,12 @@ use ada_base::kinds::{
 };
 use syntax_expressions::{Parser, below, opens};
 use syntax_nodes::{Four, Leaf, Three, Two, four, leaf, nothing, three, two};
-use syntax_readers::{Cursor, Fault};
+use syntax_readers::{Cursor, Failure};
 use syntax_tree::ClauseWord;
 
 /// The name of a policy in its brackets.
 #[tactic(auto, unfolding(syntax_grammar::specs::Units::open_policy_name))]
-pub fn policy_opened(tokens: &mut Cursor<'_>) -> Result<u32, Fault>
+pub fn policy_opened(tokens: &mut Cursor<'_>) -> Result<u32, Failure>
     ensures { Computes (units.open_policy_name tokens.old) result tokens.new }
 {
     tokens.take(OPEN_ROUND)?;
@@ -32,7 +32,7 @@ pub fn policy_opened(tokens: &mut Cursor<'_>) -> Result<u32, Fault>
 
 /// The name of a policy in its brackets, where so many levels may still open.
 #[tactic(auto, unfolding(syntax_grammar::specs::Units::policy_name))]
-pub fn policy_name(tokens: &mut Cursor<'_>, levels: u32) -> Result<u32, Fault>
+pub fn policy_name(tokens: &mut Cursor<'_>, levels: u32) -> Result<u32, Failure>
     ensures { Computes (units.policy_name levels tokens.old) result tokens.new }
 {
     below(levels, opens(tokens, OPEN_ROUND))?;
@@ -41,7 +41,7 @@ pub fn policy_name(tokens: &mut Cursor<'_>, levels: u32) -> Result<u32, Fault>
 
 /// A policy pragma (2.8).
 #[tactic(auto, unfolding(syntax_grammar::specs::Units::policy))]
-pub fn policy(parser: &mut Parser<'_>, levels: u32) -> Result<(), Fault>
+pub fn policy(parser: &mut Parser<'_>, levels: u32) -> Result<(), Failure>
     ensures { Reads the_policy IsPolicy (parts parser.old.out) (units.policy levels parser.old.tokens) result parser.new.tokens (parts parser.new.out) }
 {
     let at = parser.tokens.take(PRAGMA)?;
@@ -53,7 +53,7 @@ pub fn policy(parser: &mut Parser<'_>, levels: u32) -> Result<(), Fault>
 
 /// A policy pragma, if there is one.
 #[tactic(auto, unfolding(syntax_grammar::specs::Units::maybe_policy))]
-pub fn optional_policy(parser: &mut Parser<'_>, levels: u32) -> Result<(), Fault>
+pub fn optional_policy(parser: &mut Parser<'_>, levels: u32) -> Result<(), Failure>
     ensures { Reads maybe_policy IsPart (parts parser.old.out) (units.maybe_policy levels parser.old.tokens) result parser.new.tokens (parts parser.new.out) }
 {
     if parser.tokens.peek() == PRAGMA {
@@ -65,7 +65,7 @@ pub fn optional_policy(parser: &mut Parser<'_>, levels: u32) -> Result<(), Fault
 
 /// The word of a context clause, and its token (8.4, 10.1.2).
 #[tactic(auto, unfolding(syntax_grammar::specs::Units::clause_word))]
-pub fn clause_word(tokens: &mut Cursor<'_>) -> Result<(ClauseWord, u32), Fault>
+pub fn clause_word(tokens: &mut Cursor<'_>) -> Result<(ClauseWord, u32), Failure>
     ensures { Computes (units.clause_word tokens.old) result tokens.new }
 {
     if tokens.peek() == WITH {
@@ -80,7 +80,7 @@ pub fn clause_word(tokens: &mut Cursor<'_>) -> Result<(ClauseWord, u32), Fault>
 /// A comma and the name of a package.
 #[cycle(list)]
 #[tactic(auto, unfolding(syntax_grammar::specs::Units::next_pack))]
-pub fn next_pack(parser: &mut Parser<'_>, levels: u32) -> Result<(), Fault>
+pub fn next_pack(parser: &mut Parser<'_>, levels: u32) -> Result<(), Failure>
     ensures { Reads the_pack IsPack (parts parser.old.out) (units.next_pack parser.old.tokens) result parser.new.tokens (parts parser.new.out) }
 {
     parser.tokens.take(COMMA)?;
@@ -90,7 +90,7 @@ pub fn next_pack(parser: &mut Parser<'_>, levels: u32) -> Result<(), Fault>
 /// A context clause (10.1.2).
 #[cycle(list)]
 #[tactic(auto, unfolding(syntax_grammar::specs::Units::clause))]
-pub fn clause(parser: &mut Parser<'_>, levels: u32) -> Result<(), Fault>
+pub fn clause(parser: &mut Parser<'_>, levels: u32) -> Result<(), Failure>
     ensures { Reads the_clause IsPart (parts parser.old.out) (units.clause parser.old.tokens) result parser.new.tokens (parts parser.new.out) }
 {
     let (word, at) = clause_word(&mut parser.tokens)?;
@@ -102,7 +102,7 @@ pub fn clause(parser: &mut Parser<'_>, levels: u32) -> Result<(), Fault>
 
 /// The value of an aspect, if there is one.
 #[tactic(auto, unfolding(syntax_grammar::specs::Units::aspect_value))]
-pub fn aspect_value(tokens: &mut Cursor<'_>) -> Result<Option<u32>, Fault>
+pub fn aspect_value(tokens: &mut Cursor<'_>) -> Result<Option<u32>, Failure>
     ensures { Computes (units.aspect_value tokens.old) result tokens.new }
 {
     if tokens.peek() == ARROW {
@@ -116,7 +116,7 @@ pub fn aspect_value(tokens: &mut Cursor<'_>) -> Result<Option<u32>, Fault>
 
 /// An aspect specification (13.1.1).
 #[tactic(auto, unfolding(syntax_grammar::specs::Units::aspect))]
-pub fn aspect(parser: &mut Parser<'_>) -> Result<(), Fault>
+pub fn aspect(parser: &mut Parser<'_>) -> Result<(), Failure>
     ensures { Reads the_aspect IsAspect (parts parser.old.out) (units.aspect parser.old.tokens) result parser.new.tokens (parts parser.new.out) }
 {
     let at = parser.tokens.take(WITH)?;
@@ -127,7 +127,7 @@ pub fn aspect(parser: &mut Parser<'_>) -> Result<(), Fault>
 
 /// An aspect specification, if there is one.
 #[tactic(auto, unfolding(syntax_grammar::specs::Units::maybe_aspect))]
-pub fn optional_aspect(parser: &mut Parser<'_>) -> Result<(), Fault>
+pub fn optional_aspect(parser: &mut Parser<'_>) -> Result<(), Failure>
     ensures { Reads maybe_aspect IsPart (parts parser.old.out) (units.maybe_aspect parser.old.tokens) result parser.new.tokens (parts parser.new.out) }
 {
     if parser.tokens.peek() == WITH {
@@ -140,7 +140,7 @@ pub fn optional_aspect(parser: &mut Parser<'_>) -> Result<(), Fault>
 /// A declaration or a subprogram.
 #[cycle(list)]
 #[tactic(auto, unfolding(syntax_grammar::specs::Units::unit))]
-pub fn unit(parser: &mut Parser<'_>, levels: u32) -> Result<(), Fault>
+pub fn unit(parser: &mut Parser<'_>, levels: u32) -> Result<(), Failure>
     ensures { Reads the_unit IsPart (parts parser.old.out) (units.unit levels parser.old.tokens) result parser.new.tokens (parts parser.new.out) }
 {
     if begins_sub(parser.tokens.peek()) {
@@ -152,7 +152,7 @@ pub fn unit(parser: &mut Parser<'_>, levels: u32) -> Result<(), Fault>
 
 /// The main procedure, after its aspect (10.2).
 #[tactic(auto, unfolding(syntax_grammar::specs::Units::main_is))]
-pub fn main_is(parser: &mut Parser<'_>, levels: u32, at: u32, defined: u32) -> Result<(), Fault>
+pub fn main_is(parser: &mut Parser<'_>, levels: u32, at: u32, defined: u32) -> Result<(), Failure>
     ensures { Reads the_main IsPart (pop (parts parser.old.out)) (units.main_is levels at defined (maybe_aspect (top (parts parser.old.out))) parser.old.tokens) result parser.new.tokens (parts parser.new.out) }
 {
     parser.tokens.take(IS)?;
@@ -164,7 +164,7 @@ pub fn main_is(parser: &mut Parser<'_>, levels: u32, at: u32, defined: u32) -> R
 
 /// The main procedure (10.2).
 #[tactic(auto, unfolding(syntax_grammar::specs::Units::main))]
-pub fn main_procedure(parser: &mut Parser<'_>, levels: u32) -> Result<(), Fault>
+pub fn main_procedure(parser: &mut Parser<'_>, levels: u32) -> Result<(), Failure>
     ensures { Reads the_main IsPart (parts parser.old.out) (units.main levels parser.old.tokens) result parser.new.tokens (parts parser.new.out) }
 {
     let at = parser.tokens.take(PROCEDURE)?;
@@ -175,7 +175,7 @@ pub fn main_procedure(parser: &mut Parser<'_>, levels: u32) -> Result<(), Fault>
 
 /// A program (10.1).
 #[tactic(auto, unfolding(syntax_grammar::specs::Units::program))]
-pub fn program(parser: &mut Parser<'_>, levels: u32) -> Result<(), Fault>
+pub fn program(parser: &mut Parser<'_>, levels: u32) -> Result<(), Failure>
     ensures { Reads the_program IsPart (parts parser.old.out) (units.program levels parser.old.tokens) result parser.new.tokens (parts parser.new.out) }
 {
     optional_policy(parser, levels)?;

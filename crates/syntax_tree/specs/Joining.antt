@@ -3,7 +3,7 @@
 -- A list grows at its end: `args_and xs x` is `xs` with `x` behind it. A list that is no type of its own grows by
 -- `list_and`. A part with a first item and more is joined by its constructor once the list of the others is whole.
 use Rattle.std.specs.Prelude.{ℕ, List, [], ◌∷◌, ◌++◌, Option, Some, None}
-use Rattle.syntax_tree.specs.Syntax.{Conjuncts, Conjunct, NoConjunct, AlsoConjunct, Addings, Adding, NoAdding, AlsoAdding, Multiplyings, Multiplying, NoMultiplying, AlsoMultiplying, Elsifs, Elsif, NoElsif, AlsoElsif, Exprs, Expr, NoExpr, AlsoExpr, Parts, Part, NoPart, AlsoPart, Args, Arg, NoArg, AlsoArg, Choices, Choice, NoChoice, AlsoChoice, Assocs, Assoc, NoAssoc, AlsoAssoc, MoreStmts, Stmt, NoStmt, AlsoStmt, Arms, Arm, NoArm, AlsoArm, Alts, Alt, NoAlt, AlsoAlt, Branches, Stmts, NoBranch, AlsoBranch, Handlers, Handler, NoHandler, AlsoHandler, Single, Rel, Alone, Simple, Sum, Term, Product, Factor, Operand, Primary, Named, Name, name}
+use Rattle.syntax_tree.specs.Syntax.{Conjuncts, Conjunct, NoConjunct, AlsoConjunct, Addings, Adding, NoAdding, AlsoAdding, Multiplyings, Multiplying, NoMultiplying, AlsoMultiplying, Elsifs, Elsif, NoElsif, AlsoElsif, Exprs, Expr, NoExpr, AlsoExpr, NameParts, NamePart, NoPart, AlsoPart, Args, Arg, NoArg, AlsoArg, Choices, Choice, NoChoice, AlsoChoice, Assocs, Assoc, NoAssoc, AlsoAssoc, MoreStmts, Stmt, NoStmt, AlsoStmt, Arms, Arm, NoArm, AlsoArm, Alts, Alt, NoAlt, AlsoAlt, Branches, Stmts, NoBranch, AlsoBranch, Handlers, Handler, NoHandler, AlsoHandler, Single, Rel, Alone, Simple, Sum, Term, Product, Factor, Operand, Primary, Named, Name, name}
 
 -- ---- lists
 
@@ -30,7 +30,7 @@ abbrev pub exprs_and : Exprs → Expr → Exprs
 exprs_and NoExpr x = AlsoExpr x NoExpr
 exprs_and (AlsoExpr y ys) x = AlsoExpr y (exprs_and ys x)
 
-abbrev pub parts_and : Parts → Part → Parts
+abbrev pub parts_and : NameParts → NamePart → NameParts
 parts_and NoPart x = AlsoPart x NoPart
 parts_and (AlsoPart y ys) x = AlsoPart y (parts_and ys x)
 

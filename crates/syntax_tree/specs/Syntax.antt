@@ -101,17 +101,17 @@ mutual
 
   -- name = id {"." id | "(" arg {"," arg} ")" | "'" (id | "range")} .
   pub data Name : Type 0 where
-    name : (first : ℕ) → Parts → Name
+    name : (first : ℕ) → NameParts → Name
 
-  pub data Part : Type 0 where
-    Field : (at : ℕ) → Part
-    Call : (bracket : ℕ) (first : Arg) (more : Args) → Part
-    Attribute : (at : ℕ) → Part
-    RangeAttribute : (at : ℕ) → Part
+  pub data NamePart : Type 0 where
+    Field : (at : ℕ) → NamePart
+    Call : (bracket : ℕ) (first : Arg) (more : Args) → NamePart
+    Attribute : (at : ℕ) → NamePart
+    RangeAttribute : (at : ℕ) → NamePart
 
-  pub data Parts : Type 0 where
-    NoPart : Parts
-    AlsoPart : Part → Parts → Parts
+  pub data NameParts : Type 0 where
+    NoPart : NameParts
+    AlsoPart : NamePart → NameParts → NameParts
 
   -- arg = [id "=>"] expr .
   pub data Arg : Type 0 where

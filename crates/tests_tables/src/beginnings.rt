@@ -4,7 +4,7 @@ use syntax_nodes::{
     Four, Leaf, ListKind, One, Parts, Three, Tree, Two, also, bare, begin, close, finish, four,
     leaf, leave_out, nothing, one, swap, take_name, three, two,
 };
-use syntax_readers::Fault;
+use syntax_readers::Failure;
 use syntax_tree::{Additive, Sign};
 
 /// A call that joins parts.
@@ -21,7 +21,7 @@ enum Step {
     LeaveOut,
 }
 
-fn join(out: &mut Parts, step: &Step) -> Result<(), Fault> {
+fn join(out: &mut Parts, step: &Step) -> Result<(), Failure> {
     match step {
         Step::Nothing => nothing(out),
         Step::Leaf(form) => leaf(out, *form),
@@ -39,7 +39,7 @@ fn join(out: &mut Parts, step: &Step) -> Result<(), Fault> {
     }
 }
 
-fn join_all(out: &mut Parts, steps: &[Step]) -> Result<(), Fault> {
+fn join_all(out: &mut Parts, steps: &[Step]) -> Result<(), Failure> {
     for step in steps {
         join(out, step)?;
     }
@@ -67,7 +67,7 @@ const BACK: &[Step] = &[
 ];
 
 /// `procedure Main is begin null; null; .. end Main;` with so many statements; the tokens of the nth are 4 + 2n on.
-fn statements(alloc: Global, count: u32) -> Result<Tree, Fault> {
+fn statements(alloc: Global, count: u32) -> Result<Tree, Failure> {
     let mut out = begin(alloc);
     join_all(&mut out, FRONT)?;
     for n in 1..count {
@@ -171,7 +171,7 @@ fn is_named(
     steps: &[Step],
     identifier: Option<u32>,
     name: bool,
-) -> Result<bool, Fault> {
+) -> Result<bool, Failure> {
     let mut out = begin(alloc);
     join_all(&mut out, steps)?;
     let found = bare(&out);

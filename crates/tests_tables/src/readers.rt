@@ -1,7 +1,7 @@
 use ada_base::{Items, Kind, Span, Token};
 use std::alloc::AllocError;
 use syntax_readers::example::{Range, parse};
-use syntax_readers::fault::Refusal;
+use syntax_readers::failure::Refusal;
 
 fn token(sign: u8) -> Token {
     let kind = match sign {

@@ -6,7 +6,7 @@ use Rattle.std.proofs.lemmas.Option.{slice_get_within}
 use Rattle.typed_tree.specs.declared.node.Leaf.{Leaf}
 use Rattle.typed_tree.specs.declared.node.Node.{Node}
 use Rattle.typed_tree.specs.declared.node.Node.TheVariants as node
-use Rattle.typed_tree.specs.Decoded.{Part, Nothing, Cons, LeafCons, of_node, part_at}
+use Rattle.typed_tree.specs.Decoded.{TypedPart, Nothing, Cons, LeafCons, of_node, part_at}
 use Rattle.typed_tree.specs.Ordered.{NodeBelow, IsOrdered}
 use Rattle.typed_tree.specs.Written.{put, last}
 use Rattle.typed_tree.proofs.Reading.{part_stable, part_below, part_last, part_none, part_read}
@@ -20,7 +20,7 @@ table ns rs = record { nodes = ns; roots = rs }
 length_end : (ns : List Node) (n : Node) → length (ns ++ n ∷ []) ≡ suc (length ns)
 length_end ns n = omega (arith, length-append ns (n ∷ []))
 
-stacked_end : (at : ℕ → Part) (rs : List ℕ) (r : ℕ) (s : List Part) → stacked at (rs ++ r ∷ []) s ≡ at r ∷ stacked at rs s
+stacked_end : (at : ℕ → TypedPart) (rs : List ℕ) (r : ℕ) (s : List TypedPart) → stacked at (rs ++ r ∷ []) s ≡ at r ∷ stacked at rs s
 stacked_end at [] r s = refl
 stacked_end at (q ∷ rs) r s = stacked_end at rs r (at q ∷ s)
 
@@ -82,7 +82,7 @@ taken ns (q ∷ rs) rest r t is e f =
     let all : parts t ≡ part_at ns r ∷ parts (table ns rest) = ap parts (sym is) ∙ (ap (λ x. parts (table ns x)) e ∙ parts_end ns rest r) in
     (rw all refl, rw all refl, (below_front (length ns) rest r (subst (AllBelow (length ns)) e f.below)).1, ap (λ x. x.nodes) is)
 
-stacked_more : (ns : List Node) (n : Node) (rs : List ℕ) (s : List Part) → AllBelow (length ns) rs → stacked (part_at (ns ++ n ∷ [])) rs s ≡ stacked (part_at ns) rs s
+stacked_more : (ns : List Node) (n : Node) (rs : List ℕ) (s : List TypedPart) → AllBelow (length ns) rs → stacked (part_at (ns ++ n ∷ [])) rs s ≡ stacked (part_at ns) rs s
 stacked_more ns n [] s h = refl
 stacked_more ns n (r ∷ rs) s h = rw (part_stable ns (n ∷ []) r h.0) (stacked_more ns n rs (part_at ns r ∷ s) h.1)
 

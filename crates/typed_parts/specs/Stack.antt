@@ -2,7 +2,7 @@
 use Rattle.std.specs.Prelude.{ℕ, ◌≡◌, ◌<◌, ◌≤◌, List, [], ◌∷◌, ◌++◌, length, slice_get, Some}
 use Rattle.typed_tree.specs.declared.node.Node.TheVariants as node
 use Rattle.typed_tree.specs.declared.node.Node.{Node}
-use Rattle.typed_tree.specs.Decoded.{Part, part_at}
+use Rattle.typed_tree.specs.Decoded.{TypedPart, part_at}
 use Rattle.typed_tree.specs.Ordered.{IsOrdered}
 
 -- a table of nodes, and the numbers of the parts that are being joined, the latest last
@@ -10,16 +10,16 @@ pub record Table : Type 0 where
   pub nodes : List Node
   pub roots : List ℕ
 
-abbrev pub stacked : (ℕ → Part) → List ℕ → List Part → List Part
+abbrev pub stacked : (ℕ → TypedPart) → List ℕ → List TypedPart → List TypedPart
 stacked at [] s = s
 stacked at (r ∷ rs) s = stacked at rs (at r ∷ s)
 
 -- what the parts of these numbers are, the latest first
-unfoldable pub parts_in : List Node → List ℕ → List Part
+unfoldable pub parts_in : List Node → List ℕ → List TypedPart
 parts_in nodes roots = stacked (part_at nodes) roots []
 
 -- the parts that are being joined, the latest first
-abbrev pub parts : Table → List Part
+abbrev pub parts : Table → List TypedPart
 parts t = parts_in t.nodes t.roots
 
 -- the last of some numbers, with those before it, or 0 where there is none

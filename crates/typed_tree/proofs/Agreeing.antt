@@ -32,14 +32,14 @@ use Rattle.typed_tree.specs.declared.node.Fold as tree-fold
 use Rattle.typed_tree.specs.declared.node.Fold.TheVariants as fold
 use Rattle.typed_tree.specs.declared.node.Node.TheVariants as node
 use Rattle.typed_tree.specs.declared.node.Node.{Node}
-use Rattle.typed_tree.specs.Decoded.{Part, AnExpr, ASelection, AnActual, AValue, AComposite, AnAssociation, AnIteration, AChunk, AReducer, APiece, ADecl, AStmt, AnAlternative, AHandler, ABody, of_expr, of_selection, of_actual, of_value, of_composite, of_association, of_iteration, of_chunk, of_fold, of_piece, of_decl, of_stmt, of_alternative, of_handler, of_body, of_node}
+use Rattle.typed_tree.specs.Decoded.{TypedPart, AnExpr, ASelection, AnActual, AValue, AComposite, AnAssociation, AnIteration, AChunk, AReducer, APiece, ADecl, AStmt, AnAlternative, AHandler, ABody, of_expr, of_selection, of_actual, of_value, of_composite, of_association, of_iteration, of_chunk, of_fold, of_piece, of_decl, of_stmt, of_alternative, of_handler, of_body, of_node}
 use Rattle.typed_tree.specs.Ordered.{ExprBelow, SelectionBelow, ActualBelow, ValueBelow, CompositeBelow, AssociationBelow, IterationBelow, ChunkBelow, FoldBelow, PieceBelow, DeclBelow, StmtBelow, AlternativeBelow, HandlerBelow, BodyBelow, NodeBelow}
 
 -- the same below a number
-abbrev pub Agree : ℕ → (ℕ → Part) → (ℕ → Part) → Type 0
+abbrev pub Agree : ℕ → (ℕ → TypedPart) → (ℕ → TypedPart) → Type 0
 Agree k p q = (j : ℕ) → j < k → p j ≡ q j
 
-pub expr_agrees : (k : ℕ) (p q : ℕ → Part) → Agree k p q → (x : tree.Expr) → ExprBelow k x → of_expr p x ≡ of_expr q x
+pub expr_agrees : (k : ℕ) (p q : ℕ → TypedPart) → Agree k p q → (x : tree.Expr) → ExprBelow k x → of_expr p x ≡ of_expr q x
 expr_agrees k p q same (expr.Static n z literal mentions) h = rw (same mentions h)
 expr_agrees k p q same (expr.Variable n root selections scalar) h = rw (same selections h)
 expr_agrees k p q same (expr.Constant n root selections scalar) h = rw (same selections h)
@@ -57,55 +57,55 @@ expr_agrees k p q same (expr.Call n callee sub actuals) h = rw (same actuals h)
 expr_agrees k p q same (expr.Convert check e) h = rw (same e h)
 expr_agrees k p q same (expr.Reduction n attribute by initial site chunk iteration e) h = rw (same by h.0, same initial h.1, same chunk h.2, same iteration h.3, same e h.4)
 
-pub selection_agrees : (k : ℕ) (p q : ℕ → Part) → Agree k p q → (x : tree-selection.Selection) → SelectionBelow k x → (rest : Selections) → of_selection p x rest ≡ of_selection q x rest
+pub selection_agrees : (k : ℕ) (p q : ℕ → TypedPart) → Agree k p q → (x : tree-selection.Selection) → SelectionBelow k x → (rest : Selections) → of_selection p x rest ≡ of_selection q x rest
 selection_agrees k p q same (selection.Field number offset) h rest = refl
 selection_agrees k p q same (selection.Index n e low high stride) h rest = rw (same e h)
 
-pub actual_agrees : (k : ℕ) (p q : ℕ → Part) → Agree k p q → (x : tree-actual.Actual) → ActualBelow k x → (rest : Actuals) → of_actual p x rest ≡ of_actual q x rest
+pub actual_agrees : (k : ℕ) (p q : ℕ → TypedPart) → Agree k p q → (x : tree-actual.Actual) → ActualBelow k x → (rest : Actuals) → of_actual p x rest ≡ of_actual q x rest
 actual_agrees k p q same (actual.In formal v) h rest = rw (same v h)
 actual_agrees k p q same (actual.InOut formal n root selections inner outer) h rest = rw (same selections h.0, same inner h.1, same outer h.2)
 actual_agrees k p q same (actual.Out formal n root selections inner outer) h rest = rw (same selections h.0, same inner h.1, same outer h.2)
 actual_agrees k p q same (actual.CompositeInOut formal n root selections subtype) h rest = rw (same selections h)
 actual_agrees k p q same (actual.CompositeOut formal n root selections subtype) h rest = rw (same selections h)
 
-pub value_agrees : (k : ℕ) (p q : ℕ → Part) → Agree k p q → (x : tree-value.Value) → ValueBelow k x → of_value p x ≡ of_value q x
+pub value_agrees : (k : ℕ) (p q : ℕ → TypedPart) → Agree k p q → (x : tree-value.Value) → ValueBelow k x → of_value p x ≡ of_value q x
 value_agrees k p q same (value.Number check e) h = rw (same e h)
 value_agrees k p q same (value.Cells c) h = rw (same c h)
 
-pub composite_agrees : (k : ℕ) (p q : ℕ → Part) → Agree k p q → (x : tree-composite.Composite) → CompositeBelow k x → of_composite p x ≡ of_composite q x
+pub composite_agrees : (k : ℕ) (p q : ℕ → TypedPart) → Agree k p q → (x : tree-composite.Composite) → CompositeBelow k x → of_composite p x ≡ of_composite q x
 composite_agrees k p q same (composite.WholeVariable n root selections subtype) h = rw (same selections h)
 composite_agrees k p q same (composite.WholeConstant n root selections subtype) h = rw (same selections h)
 composite_agrees k p q same (composite.WholeTarget n subtype) h = refl
 composite_agrees k p q same (composite.If c v w) h = rw (same c h.0, same v h.1, same w h.2)
 composite_agrees k p q same (composite.Aggregate n cells associations) h = rw (same associations h)
 
-pub association_agrees : (k : ℕ) (p q : ℕ → Part) → Agree k p q → (x : tree-association.Association) → AssociationBelow k x → (rest : Associations) → of_association p x rest ≡ of_association q x rest
+pub association_agrees : (k : ℕ) (p q : ℕ → TypedPart) → Agree k p q → (x : tree-association.Association) → AssociationBelow k x → (rest : Associations) → of_association p x rest ≡ of_association q x rest
 association_agrees k p q same a h rest = rw (same a.runs h.0, same a.mentions h.1, same a.value h.2)
 
-pub iteration_agrees : (k : ℕ) (p q : ℕ → Part) → Agree k p q → (x : tree-iteration.Iteration) → IterationBelow k x → of_iteration p x ≡ of_iteration q x
+pub iteration_agrees : (k : ℕ) (p q : ℕ → TypedPart) → Agree k p q → (x : tree-iteration.Iteration) → IterationBelow k x → of_iteration p x ≡ of_iteration q x
 iteration_agrees k p q same (iteration.Range k2 reverse low high check filter) h = rw (same low h.0, same high h.1, same check h.2, same filter h.3)
 iteration_agrees k p q same (iteration.Components item constant n root selections count stride dimensions filter) h = rw (same selections h.0, same filter h.1)
 
-pub chunk_agrees : (k : ℕ) (p q : ℕ → Part) → Agree k p q → (x : tree-chunk.Chunk) → ChunkBelow k x → of_chunk p x ≡ of_chunk q x
+pub chunk_agrees : (k : ℕ) (p q : ℕ → TypedPart) → Agree k p q → (x : tree-chunk.Chunk) → ChunkBelow k x → of_chunk p x ≡ of_chunk q x
 chunk_agrees k p q same (chunk.Count e) h = rw (same e h)
 chunk_agrees k p q same (chunk.Each k2 low high check) h = rw (same low h.0, same high h.1, same check h.2)
 
-pub fold_agrees : (k : ℕ) (p q : ℕ → Part) → Agree k p q → (x : tree-fold.Fold) → FoldBelow k x → of_fold p x ≡ of_fold q x
+pub fold_agrees : (k : ℕ) (p q : ℕ → TypedPart) → Agree k p q → (x : tree-fold.Fold) → FoldBelow k x → of_fold p x ≡ of_fold q x
 fold_agrees k p q same (fold.Operator n op class) h = refl
 fold_agrees k p q same (fold.Function n sub accumulator v) h = rw (same accumulator h.0, same v h.1)
 
-pub piece_agrees : (k : ℕ) (p q : ℕ → Part) → Agree k p q → (x : tree-piece.Piece) → PieceBelow k x → (rest : Pieces) → of_piece p x rest ≡ of_piece q x rest
+pub piece_agrees : (k : ℕ) (p q : ℕ → TypedPart) → Agree k p q → (x : tree-piece.Piece) → PieceBelow k x → (rest : Pieces) → of_piece p x rest ≡ of_piece q x rest
 piece_agrees k p q same (piece.Text bytes) h rest = rw (same bytes h)
 piece_agrees k p q same (piece.Image class e) h rest = rw (same e h)
 piece_agrees k p q same (piece.Padded class e width) h rest = rw (same e h.0, same width h.1)
 
-pub decl_agrees : (k : ℕ) (p q : ℕ → Part) → Agree k p q → (x : tree-decl.Decl) → DeclBelow k x → (rest : Decls) → of_decl p x rest ≡ of_decl q x rest
+pub decl_agrees : (k : ℕ) (p q : ℕ → TypedPart) → Agree k p q → (x : tree-decl.Decl) → DeclBelow k x → (rest : Decls) → of_decl p x rest ≡ of_decl q x rest
 decl_agrees k p q same (decl.Default object) h rest = refl
 decl_agrees k p q same (decl.Variable object initial) h rest = rw (same initial h)
 decl_agrees k p q same (decl.Constant object initial) h rest = rw (same initial h)
 decl_agrees k p q same (decl.Mentions es) h rest = rw (same es h)
 
-pub stmt_agrees : (k : ℕ) (p q : ℕ → Part) → Agree k p q → (x : tree-stmt.Stmt) → StmtBelow k x → of_stmt p x ≡ of_stmt q x
+pub stmt_agrees : (k : ℕ) (p q : ℕ → TypedPart) → Agree k p q → (x : tree-stmt.Stmt) → StmtBelow k x → of_stmt p x ≡ of_stmt q x
 stmt_agrees k p q same stmt.Null h = refl
 stmt_agrees k p q same (stmt.Assign n root selections v) h = rw (same selections h.0, same v h.1)
 stmt_agrees k p q same (stmt.Call n callee sub actuals) h = rw (same actuals h)
@@ -124,17 +124,17 @@ stmt_agrees k p q same (stmt.Block decls stmts handlers) h = rw (same decls h.0,
 stmt_agrees k p q same (stmt.Put n callee pieces line) h = rw (same pieces h)
 stmt_agrees k p q same (stmt.Get n callee first root selections scalar) h = rw (same selections h)
 
-pub alternative_agrees : (k : ℕ) (p q : ℕ → Part) → Agree k p q → (x : tree-alternative.Alternative) → AlternativeBelow k x → (rest : Alternatives) → of_alternative p x rest ≡ of_alternative q x rest
+pub alternative_agrees : (k : ℕ) (p q : ℕ → TypedPart) → Agree k p q → (x : tree-alternative.Alternative) → AlternativeBelow k x → (rest : Alternatives) → of_alternative p x rest ≡ of_alternative q x rest
 alternative_agrees k p q same a h rest = rw (same a.choices h.0, same a.mentions h.1, same a.stmts h.2)
 
-pub handler_agrees : (k : ℕ) (p q : ℕ → Part) → Agree k p q → (x : tree-handler.Handler) → HandlerBelow k x → (rest : Handlers) → of_handler p x rest ≡ of_handler q x rest
+pub handler_agrees : (k : ℕ) (p q : ℕ → TypedPart) → Agree k p q → (x : tree-handler.Handler) → HandlerBelow k x → (rest : Handlers) → of_handler p x rest ≡ of_handler q x rest
 handler_agrees k p q same (handler.Others stmts) h rest = rw (same stmts h)
 handler_agrees k p q same (handler.Reasons reasons stmts) h rest = rw (same reasons h.0, same stmts h.1)
 
-pub body_agrees : (k : ℕ) (p q : ℕ → Part) → Agree k p q → (x : tree-body.Body) → BodyBelow k x → of_body p x ≡ of_body q x
+pub body_agrees : (k : ℕ) (p q : ℕ → TypedPart) → Agree k p q → (x : tree-body.Body) → BodyBelow k x → of_body p x ≡ of_body q x
 body_agrees k p q same b h = rw (same b.decls h.0, same b.stmts h.1, same b.handlers h.2)
 
-pub node_agrees : (k : ℕ) (p q : ℕ → Part) → Agree k p q → (n : Node) → NodeBelow k n → of_node p n ≡ of_node q n
+pub node_agrees : (k : ℕ) (p q : ℕ → TypedPart) → Agree k p q → (n : Node) → NodeBelow k n → of_node p n ≡ of_node q n
 node_agrees k p q same node.End h = refl
 node_agrees k p q same (node.Cell first rest) h = rw (same first h.0, same rest h.1)
 node_agrees k p q same (node.Leaf leaf rest) h = rw (same rest h)

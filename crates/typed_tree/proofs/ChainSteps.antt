@@ -7,11 +7,11 @@ use Rattle.std.proofs.Math.ListN.{drop_of_length-le}
 use Rattle.typed_tree.specs.declared.node.Link.{Link}
 use Rattle.typed_tree.specs.declared.node.Node.{Node}
 use Rattle.typed_tree.specs.Syntax.{Expr}
-use Rattle.typed_tree.specs.Decoded.{Part, part_at, expr_at}
+use Rattle.typed_tree.specs.Decoded.{TypedPart, part_at, expr_at}
 use Rattle.typed_tree.specs.Chained.{applied, linked, right_of, AreBelow}
 
 -- the operator that is applied first
-pub linked_end : (ls : List Link) (at : ℕ → Part) (l : Link) (e : Expr) → linked at (ls ++ l ∷ []) e ≡ linked at ls (applied at l e)
+pub linked_end : (ls : List Link) (at : ℕ → TypedPart) (l : Link) (e : Expr) → linked at (ls ++ l ∷ []) e ≡ linked at ls (applied at l e)
 linked_end [] at l e = refl
 linked_end (m ∷ ls) at l e = ap (λ x. applied at m x) (linked_end ls at l e)
 

@@ -6,19 +6,19 @@ use Rattle.std.proofs.lemmas.Option.{slice_get_within}
 use Rattle.std.proofs.Math.ListN.{get_or-append}
 use Rattle.std.proofs.Math.Seq.{get_or-append_seam}
 use Rattle.typed_tree.specs.declared.node.Node.{Node}
-use Rattle.typed_tree.specs.Decoded.{Part, Nothing, of_node, among, parts_from, part_at}
+use Rattle.typed_tree.specs.Decoded.{TypedPart, Nothing, of_node, among, parts_from, part_at}
 use Rattle.typed_tree.specs.Ordered.{NodeBelow, OrderedFrom, IsOrdered}
 use Rattle.typed_tree.proofs.Agreeing.{Agree, node_agrees}
 
-parts_from-append : (ns ms : List Node) (ps : List Part) → parts_from ps (ns ++ ms) ≡ parts_from (parts_from ps ns) ms
+parts_from-append : (ns ms : List Node) (ps : List TypedPart) → parts_from ps (ns ++ ms) ≡ parts_from (parts_from ps ns) ms
 parts_from-append [] ms ps = refl
 parts_from-append (n ∷ ns) ms ps = parts_from-append ns ms _
 
-parts_from-length : (ns : List Node) (ps : List Part) → length (parts_from ps ns) ≡ length ps + length ns
+parts_from-length : (ns : List Node) (ps : List TypedPart) → length (parts_from ps ns) ≡ length ps + length ns
 parts_from-length [] ps = omega arith
 parts_from-length (n ∷ ns) ps = omega (arith, parts_from-length ns (ps ++ of_node (among ps) n ∷ []), length-append ps (of_node (among ps) n ∷ []))
 
-parts_from-kept : (ns : List Node) (ps : List Part) (k : ℕ) → k < length ps → among (parts_from ps ns) k ≡ among ps k
+parts_from-kept : (ns : List Node) (ps : List TypedPart) (k : ℕ) → k < length ps → among (parts_from ps ns) k ≡ among ps k
 parts_from-kept [] ps k h = refl
 parts_from-kept (n ∷ ns) ps k h =
     parts_from-kept ns (ps ++ of_node (among ps) n ∷ []) k (omega (arith, length-append ps (of_node (among ps) n ∷ [])))

@@ -3,10 +3,10 @@ use Rattle.std.specs.Prelude.{ℕ, ◌<◌, Bool, true, false, List, [], ◌∷�
 use Rattle.typed_tree.specs.declared.node.Link.{Link}
 use Rattle.typed_tree.specs.declared.node.Link.TheVariants as link
 use Rattle.typed_tree.specs.Syntax.{Expr, Binary, AndThen, OrElse}
-use Rattle.typed_tree.specs.Decoded.{Part, as_expr}
+use Rattle.typed_tree.specs.Decoded.{TypedPart, as_expr}
 
 -- an operator with its left operand
-abbrev pub applied : (ℕ → Part) → Link → Expr → Expr
+abbrev pub applied : (ℕ → TypedPart) → Link → Expr → Expr
 applied at (link.Operator n op class right) e = Binary n op class e (as_expr (at right))
 applied at (link.AndThen right) e = AndThen e (as_expr (at right))
 applied at (link.OrElse right) e = OrElse e (as_expr (at right))
@@ -24,7 +24,7 @@ right_of (link.AndThen right) = right
 right_of (link.OrElse right) = right
 
 -- operators over an expression, the one that is applied first last
-abbrev pub linked : (ℕ → Part) → List Link → Expr → Expr
+abbrev pub linked : (ℕ → TypedPart) → List Link → Expr → Expr
 linked at [] e = e
 linked at (l ∷ ls) e = applied at l (linked at ls e)
 

@@ -49,145 +49,145 @@ use Rattle.typed_tree.specs.declared.node.Node.TheVariants as node
 use Rattle.typed_tree.specs.Syntax.{Expr, Static, Variable, Constant, Parameter, Target, Group, Unary, Binary, AndThen, OrElse, Relation, Membership, If, Call, Convert, Reduction, Exprs, NoExpr, AlsoExpr, Optional, Absent, Present, Selections, Whole, Field, Index, Actuals, NoActual, In, InOut, Out, CompositeInOut, CompositeOut, Value, Number, Cells, Composite, WholeVariable, WholeConstant, WholeTarget, CompositeIf, Aggregate, Associations, NoAssociation, Association, Iteration, Range, Components, Chunk, NoChunk, Count, Each, Pieces, NoPiece, Text, Image, Padded, Others, Reasons, Decls, NoDecl, DeclareDefault, DeclareVariable, DeclareConstant, Mentions, Stmt, Null, Assign, CallProcedure, Exit, Return, ReturnValue, Raise, Reraise, IfThen, Case, Loop, For, ParallelFor, Parallel, Block, Put, Get, Stmts, End, Then, Alternatives, NoAlternative, Alternative, Arms, NoArm, Arm, Handlers, NoHandler, Handler, Body}
 
 -- what a node stands for
-pub data Part : Type 0 where
-  Nothing : Part
-  Cons : Part → Part → Part
-  LeafCons : Leaf → Part → Part
-  AnExpr : Expr → Part
-  ASelection : (Selections → Selections) → Part
-  AnActual : (Actuals → Actuals) → Part
-  AValue : Value → Part
-  AComposite : Composite → Part
-  AnAssociation : (Associations → Associations) → Part
-  AnIteration : Iteration → Part
-  AChunk : Chunk → Part
-  AReducer : Reducer → Part
-  ACheck : Check → Part
-  AScalar : Scalar → Part
-  APiece : (Pieces → Pieces) → Part
-  ADecl : (Decls → Decls) → Part
-  AStmt : Stmt → Part
-  AnAlternative : (Alternatives → Alternatives) → Part
-  AHandler : (Handlers → Handlers) → Part
-  ABody : Body → Part
+pub data TypedPart : Type 0 where
+  Nothing : TypedPart
+  Cons : TypedPart → TypedPart → TypedPart
+  LeafCons : Leaf → TypedPart → TypedPart
+  AnExpr : Expr → TypedPart
+  ASelection : (Selections → Selections) → TypedPart
+  AnActual : (Actuals → Actuals) → TypedPart
+  AValue : Value → TypedPart
+  AComposite : Composite → TypedPart
+  AnAssociation : (Associations → Associations) → TypedPart
+  AnIteration : Iteration → TypedPart
+  AChunk : Chunk → TypedPart
+  AReducer : Reducer → TypedPart
+  ACheck : Check → TypedPart
+  AScalar : Scalar → TypedPart
+  APiece : (Pieces → Pieces) → TypedPart
+  ADecl : (Decls → Decls) → TypedPart
+  AStmt : Stmt → TypedPart
+  AnAlternative : (Alternatives → Alternatives) → TypedPart
+  AHandler : (Handlers → Handlers) → TypedPart
+  ABody : Body → TypedPart
 
 -- parts as what they are taken for
 
-abbrev pub as_expr : Part → Expr
+abbrev pub as_expr : TypedPart → Expr
 as_expr (AnExpr e) = e
 as_expr p = Parameter 0 0
 
-abbrev pub as_optional : Part → Optional
+abbrev pub as_optional : TypedPart → Optional
 as_optional (AnExpr e) = Present e
 as_optional p = Absent
 
-abbrev pub as_exprs : Part → Exprs
+abbrev pub as_exprs : TypedPart → Exprs
 as_exprs (Cons p q) = AlsoExpr (as_expr p) (as_exprs q)
 as_exprs p = NoExpr
 
-abbrev pub as_selection : Part → Selections → Selections
+abbrev pub as_selection : TypedPart → Selections → Selections
 as_selection (ASelection f) = f
 as_selection p = λ rest. rest
 
-abbrev pub as_selections : Part → Selections
+abbrev pub as_selections : TypedPart → Selections
 as_selections (Cons p q) = as_selection p (as_selections q)
 as_selections p = Whole
 
-abbrev pub as_actual : Part → Actuals → Actuals
+abbrev pub as_actual : TypedPart → Actuals → Actuals
 as_actual (AnActual f) = f
 as_actual p = λ rest. rest
 
-abbrev pub as_actuals : Part → Actuals
+abbrev pub as_actuals : TypedPart → Actuals
 as_actuals (Cons p q) = as_actual p (as_actuals q)
 as_actuals p = NoActual
 
-abbrev pub as_composite : Part → Composite
+abbrev pub as_composite : TypedPart → Composite
 as_composite (AComposite c) = c
 as_composite p = WholeTarget 0 0
 
-abbrev pub as_value : Part → Value
+abbrev pub as_value : TypedPart → Value
 as_value (AValue v) = v
 as_value p = Cells (Aggregate 0 0 NoAssociation)
 
-abbrev pub as_association : Part → Associations → Associations
+abbrev pub as_association : TypedPart → Associations → Associations
 as_association (AnAssociation f) = f
 as_association p = λ rest. rest
 
-abbrev pub as_associations : Part → Associations
+abbrev pub as_associations : TypedPart → Associations
 as_associations (Cons p q) = as_association p (as_associations q)
 as_associations p = NoAssociation
 
-abbrev pub as_iteration : Part → Iteration
+abbrev pub as_iteration : TypedPart → Iteration
 as_iteration (AnIteration i) = i
 as_iteration p = Components 0 true 0 (root.Object 0) Whole 0 0 0 Absent
 
-abbrev pub as_chunk : Part → Chunk
+abbrev pub as_chunk : TypedPart → Chunk
 as_chunk (AChunk c) = c
 as_chunk p = NoChunk
 
-abbrev pub as_reducer : Part → Reducer
+abbrev pub as_reducer : TypedPart → Reducer
 as_reducer (AReducer r) = r
 as_reducer p = reducer.Operator 0 op.Add class.Boolean
 
-abbrev pub as_check : Part → Option Check
+abbrev pub as_check : TypedPart → Option Check
 as_check (ACheck c) = Some c
 as_check p = None
 
-abbrev pub as_scalar : Part → Scalar
+abbrev pub as_scalar : TypedPart → Scalar
 as_scalar (AScalar s) = s
 as_scalar p = record { class = class.Boolean; low = pos 0; high = pos 1 }
 
-abbrev pub as_piece : Part → Pieces → Pieces
+abbrev pub as_piece : TypedPart → Pieces → Pieces
 as_piece (APiece f) = f
 as_piece p = λ rest. rest
 
-abbrev pub as_pieces : Part → Pieces
+abbrev pub as_pieces : TypedPart → Pieces
 as_pieces (Cons p q) = as_piece p (as_pieces q)
 as_pieces p = NoPiece
 
-abbrev pub as_decl : Part → Decls → Decls
+abbrev pub as_decl : TypedPart → Decls → Decls
 as_decl (ADecl f) = f
 as_decl p = λ rest. rest
 
-abbrev pub as_decls : Part → Decls
+abbrev pub as_decls : TypedPart → Decls
 as_decls (Cons p q) = as_decl p (as_decls q)
 as_decls p = NoDecl
 
-abbrev pub as_stmt : Part → Stmt
+abbrev pub as_stmt : TypedPart → Stmt
 as_stmt (AStmt s) = s
 as_stmt p = Null
 
-abbrev pub as_stmts : Part → Stmts
+abbrev pub as_stmts : TypedPart → Stmts
 as_stmts (Cons p q) = Then (as_stmt p) (as_stmts q)
 as_stmts p = End
 
-abbrev pub as_alternative : Part → Alternatives → Alternatives
+abbrev pub as_alternative : TypedPart → Alternatives → Alternatives
 as_alternative (AnAlternative f) = f
 as_alternative p = λ rest. rest
 
-abbrev pub as_alternatives : Part → Alternatives
+abbrev pub as_alternatives : TypedPart → Alternatives
 as_alternatives (Cons p q) = as_alternative p (as_alternatives q)
 as_alternatives p = NoAlternative
 
-abbrev pub as_arms : Part → Arms
+abbrev pub as_arms : TypedPart → Arms
 as_arms (Cons p q) = Arm (as_stmts p) (as_arms q)
 as_arms p = NoArm
 
-abbrev pub as_handler : Part → Handlers → Handlers
+abbrev pub as_handler : TypedPart → Handlers → Handlers
 as_handler (AHandler f) = f
 as_handler p = λ rest. rest
 
-abbrev pub as_handlers : Part → Handlers
+abbrev pub as_handlers : TypedPart → Handlers
 as_handlers (Cons p q) = as_handler p (as_handlers q)
 as_handlers p = NoHandler
 
-abbrev pub as_body : Part → Body
+abbrev pub as_body : TypedPart → Body
 as_body (ABody b) = b
 as_body p = record { decls = NoDecl; stmts = End; handlers = NoHandler }
 
 -- lists of items that have no parts; one of another kind is passed over
 
-abbrev pub as_leaves : Part → List Leaf
+abbrev pub as_leaves : TypedPart → List Leaf
 as_leaves (LeafCons l p) = l ∷ as_leaves p
 as_leaves p = []
 
@@ -196,7 +196,7 @@ bytes_in [] = []
 bytes_in (leaf.Byte x ∷ ls) = x ∷ bytes_in ls
 bytes_in (l ∷ ls) = bytes_in ls
 
-abbrev pub as_bytes : Part → List ℕ
+abbrev pub as_bytes : TypedPart → List ℕ
 as_bytes p = bytes_in (as_leaves p)
 
 abbrev pub runs_in : List Leaf → List Run
@@ -204,7 +204,7 @@ runs_in [] = []
 runs_in (leaf.Run x ∷ ls) = x ∷ runs_in ls
 runs_in (l ∷ ls) = runs_in ls
 
-abbrev pub as_runs : Part → List Run
+abbrev pub as_runs : TypedPart → List Run
 as_runs p = runs_in (as_leaves p)
 
 abbrev pub spans_in : List Leaf → List Span
@@ -212,7 +212,7 @@ spans_in [] = []
 spans_in (leaf.Span x ∷ ls) = x ∷ spans_in ls
 spans_in (l ∷ ls) = spans_in ls
 
-abbrev pub as_spans : Part → List Span
+abbrev pub as_spans : TypedPart → List Span
 as_spans p = spans_in (as_leaves p)
 
 abbrev pub reasons_in : List Leaf → List Reason
@@ -220,7 +220,7 @@ reasons_in [] = []
 reasons_in (leaf.Reason x ∷ ls) = x ∷ reasons_in ls
 reasons_in (l ∷ ls) = reasons_in ls
 
-abbrev pub as_reasons : Part → List Reason
+abbrev pub as_reasons : TypedPart → List Reason
 as_reasons p = reasons_in (as_leaves p)
 
 abbrev pub bounds_in : List Leaf → List Bounds
@@ -228,7 +228,7 @@ bounds_in [] = []
 bounds_in (leaf.Bounds x ∷ ls) = x ∷ bounds_in ls
 bounds_in (l ∷ ls) = bounds_in ls
 
-abbrev pub as_bounds : Part → List Bounds
+abbrev pub as_bounds : TypedPart → List Bounds
 as_bounds p = bounds_in (as_leaves p)
 
 abbrev pub fields_in : List Leaf → List tree-field.Field
@@ -236,7 +236,7 @@ fields_in [] = []
 fields_in (leaf.Field x ∷ ls) = x ∷ fields_in ls
 fields_in (l ∷ ls) = fields_in ls
 
-abbrev pub as_fields : Part → List tree-field.Field
+abbrev pub as_fields : TypedPart → List tree-field.Field
 as_fields p = fields_in (as_leaves p)
 
 abbrev pub formals_in : List Leaf → List Formal
@@ -244,12 +244,12 @@ formals_in [] = []
 formals_in (leaf.Formal x ∷ ls) = x ∷ formals_in ls
 formals_in (l ∷ ls) = formals_in ls
 
-abbrev pub as_formals : Part → List Formal
+abbrev pub as_formals : TypedPart → List Formal
 as_formals p = formals_in (as_leaves p)
 
 -- what a node stands for, where `at` is what the nodes before it stand for
 
-abbrev pub of_expr : (ℕ → Part) → tree.Expr → Expr
+abbrev pub of_expr : (ℕ → TypedPart) → tree.Expr → Expr
 of_expr at (expr.Static n z literal mentions) = Static n z literal (as_exprs (at mentions))
 of_expr at (expr.Variable n root selections scalar) = Variable n root (as_selections (at selections)) scalar
 of_expr at (expr.Constant n root selections scalar) = Constant n root (as_selections (at selections)) scalar
@@ -267,55 +267,55 @@ of_expr at (expr.Call n callee sub actuals) = Call n callee sub (as_actuals (at 
 of_expr at (expr.Convert check e) = Convert check (as_expr (at e))
 of_expr at (expr.Reduction n attribute by initial site chunk iteration e) = Reduction n attribute (as_reducer (at by)) (as_expr (at initial)) site (as_chunk (at chunk)) (as_iteration (at iteration)) (as_expr (at e))
 
-abbrev pub of_selection : (ℕ → Part) → tree-selection.Selection → Selections → Selections
+abbrev pub of_selection : (ℕ → TypedPart) → tree-selection.Selection → Selections → Selections
 of_selection at (selection.Field number offset) = Field number offset
 of_selection at (selection.Index n e low high stride) = Index n (as_expr (at e)) low high stride
 
-abbrev pub of_actual : (ℕ → Part) → tree-actual.Actual → Actuals → Actuals
+abbrev pub of_actual : (ℕ → TypedPart) → tree-actual.Actual → Actuals → Actuals
 of_actual at (actual.In formal v) = In formal (as_value (at v))
 of_actual at (actual.InOut formal n root selections inner outer) = InOut formal n root (as_selections (at selections)) (as_scalar (at inner)) (as_scalar (at outer))
 of_actual at (actual.Out formal n root selections inner outer) = Out formal n root (as_selections (at selections)) (as_scalar (at inner)) (as_scalar (at outer))
 of_actual at (actual.CompositeInOut formal n root selections subtype) = CompositeInOut formal n root (as_selections (at selections)) subtype
 of_actual at (actual.CompositeOut formal n root selections subtype) = CompositeOut formal n root (as_selections (at selections)) subtype
 
-abbrev pub of_value : (ℕ → Part) → tree-value.Value → Value
+abbrev pub of_value : (ℕ → TypedPart) → tree-value.Value → Value
 of_value at (value.Number check e) = Number check (as_expr (at e))
 of_value at (value.Cells c) = Cells (as_composite (at c))
 
-abbrev pub of_composite : (ℕ → Part) → tree-composite.Composite → Composite
+abbrev pub of_composite : (ℕ → TypedPart) → tree-composite.Composite → Composite
 of_composite at (composite.WholeVariable n root selections subtype) = WholeVariable n root (as_selections (at selections)) subtype
 of_composite at (composite.WholeConstant n root selections subtype) = WholeConstant n root (as_selections (at selections)) subtype
 of_composite at (composite.WholeTarget n subtype) = WholeTarget n subtype
 of_composite at (composite.If c v w) = CompositeIf (as_expr (at c)) (as_composite (at v)) (as_composite (at w))
 of_composite at (composite.Aggregate n cells associations) = Aggregate n cells (as_associations (at associations))
 
-abbrev pub of_association : (ℕ → Part) → tree-association.Association → Associations → Associations
+abbrev pub of_association : (ℕ → TypedPart) → tree-association.Association → Associations → Associations
 of_association at a = Association (as_runs (at a.runs)) a.iterated (as_exprs (at a.mentions)) (as_value (at a.value))
 
-abbrev pub of_iteration : (ℕ → Part) → tree-iteration.Iteration → Iteration
+abbrev pub of_iteration : (ℕ → TypedPart) → tree-iteration.Iteration → Iteration
 of_iteration at (iteration.Range k reverse low high check filter) = Range k reverse (as_expr (at low)) (as_expr (at high)) (as_check (at check)) (as_optional (at filter))
 of_iteration at (iteration.Components item constant n root selections count stride dimensions filter) = Components item constant n root (as_selections (at selections)) count stride dimensions (as_optional (at filter))
 
-abbrev pub of_chunk : (ℕ → Part) → tree-chunk.Chunk → Chunk
+abbrev pub of_chunk : (ℕ → TypedPart) → tree-chunk.Chunk → Chunk
 of_chunk at (chunk.Count e) = Count (as_expr (at e))
 of_chunk at (chunk.Each k low high check) = Each k (as_expr (at low)) (as_expr (at high)) (as_check (at check))
 
-abbrev pub of_fold : (ℕ → Part) → tree-fold.Fold → Reducer
+abbrev pub of_fold : (ℕ → TypedPart) → tree-fold.Fold → Reducer
 of_fold at (fold.Operator n op class) = reducer.Operator n op class
 of_fold at (fold.Function n sub accumulator v) = reducer.Function n sub (as_scalar (at accumulator)) (as_scalar (at v))
 
-abbrev pub of_piece : (ℕ → Part) → tree-piece.Piece → Pieces → Pieces
+abbrev pub of_piece : (ℕ → TypedPart) → tree-piece.Piece → Pieces → Pieces
 of_piece at (piece.Text bytes) = Text (as_bytes (at bytes))
 of_piece at (piece.Image class e) = Image class (as_expr (at e))
 of_piece at (piece.Padded class e width) = Padded class (as_expr (at e)) (as_expr (at width))
 
-abbrev pub of_decl : (ℕ → Part) → tree-decl.Decl → Decls → Decls
+abbrev pub of_decl : (ℕ → TypedPart) → tree-decl.Decl → Decls → Decls
 of_decl at (decl.Default object) = DeclareDefault object
 of_decl at (decl.Variable object initial) = DeclareVariable object (as_value (at initial))
 of_decl at (decl.Constant object initial) = DeclareConstant object (as_value (at initial))
 of_decl at (decl.Mentions es) = Mentions (as_exprs (at es))
 
-abbrev pub of_stmt : (ℕ → Part) → tree-stmt.Stmt → Stmt
+abbrev pub of_stmt : (ℕ → TypedPart) → tree-stmt.Stmt → Stmt
 of_stmt at stmt.Null = Null
 of_stmt at (stmt.Assign n root selections v) = Assign n root (as_selections (at selections)) (as_value (at v))
 of_stmt at (stmt.Call n callee sub actuals) = CallProcedure n callee sub (as_actuals (at actuals))
@@ -334,17 +334,17 @@ of_stmt at (stmt.Block decls stmts handlers) = Block (as_decls (at decls)) (as_s
 of_stmt at (stmt.Put n callee pieces line) = Put n callee (as_pieces (at pieces)) line
 of_stmt at (stmt.Get n callee first root selections scalar) = Get n callee first root (as_selections (at selections)) scalar
 
-abbrev pub of_alternative : (ℕ → Part) → tree-alternative.Alternative → Alternatives → Alternatives
+abbrev pub of_alternative : (ℕ → TypedPart) → tree-alternative.Alternative → Alternatives → Alternatives
 of_alternative at a = Alternative a.others (as_spans (at a.choices)) (as_exprs (at a.mentions)) (as_stmts (at a.stmts))
 
-abbrev pub of_handler : (ℕ → Part) → tree-handler.Handler → Handlers → Handlers
+abbrev pub of_handler : (ℕ → TypedPart) → tree-handler.Handler → Handlers → Handlers
 of_handler at (handler.Others stmts) = Handler Others (as_stmts (at stmts))
 of_handler at (handler.Reasons reasons stmts) = Handler (Reasons (as_reasons (at reasons))) (as_stmts (at stmts))
 
-abbrev pub of_body : (ℕ → Part) → tree-body.Body → Body
+abbrev pub of_body : (ℕ → TypedPart) → tree-body.Body → Body
 of_body at b = record { decls = as_decls (at b.decls); stmts = as_stmts (at b.stmts); handlers = as_handlers (at b.handlers) }
 
-abbrev pub of_node : (ℕ → Part) → Node → Part
+abbrev pub of_node : (ℕ → TypedPart) → Node → TypedPart
 of_node at node.End = Nothing
 of_node at (node.Cell first rest) = Cons (at first) (at rest)
 of_node at (node.Leaf leaf rest) = LeafCons leaf (at rest)
@@ -369,14 +369,14 @@ of_node at (node.Body b) = ABody (of_body at b)
 -- what the numbers of a table stand for
 
 -- the part of a number among parts
-abbrev pub among : List Part → ℕ → Part
+abbrev pub among : List TypedPart → ℕ → TypedPart
 among parts k = get_or parts k Nothing
 
-abbrev pub parts_from : List Part → List Node → List Part
+abbrev pub parts_from : List TypedPart → List Node → List TypedPart
 parts_from parts [] = parts
 parts_from parts (n ∷ ns) = parts_from (parts ++ of_node (among parts) n ∷ []) ns
 
-unfoldable pub part_at : List Node → ℕ → Part
+unfoldable pub part_at : List Node → ℕ → TypedPart
 part_at nodes k = among (parts_from [] nodes) k
 
 abbrev pub expr_at : List Node → ℕ → Expr

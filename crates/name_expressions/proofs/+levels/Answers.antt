@@ -2,7 +2,7 @@ use Rattle.std.proofs.Common.{◌≡◌, refl, sym, ap, ◌∙◌, List, Option,
 use Rattle.std.specs.Int.{w128}
 use Rattle.syntax_tree.specs.Syntax as syntax
 use Rattle.syntax_tree.specs.Syntax.{Expr}
-use Rattle.typed_tree.specs.Decoded.{Part}
+use Rattle.typed_tree.specs.Decoded.{TypedPart}
 use Rattle.typed_tree.specs.Latest.{pop, top}
 use Rattle.name_expressions.specs.Filled.{counted}
 use Rattle.name_expressions.specs.Placed.{placed}
@@ -61,7 +61,7 @@ array_aggregates::array_positions-returns-in_ok-position_given-in-Some t c =
     (two_placed c.args.scene.here.now (rows.component c.args.scene.names.now (inside c.args.scene.names.now c.args.scene.levels) c.args.row) c.args.row.dimension c.args.row.apart (part_at c.args.scene.tree.now.nodes) c.args.first c.in-Some.second c.args.more c.args.judge.now.log c.component.new.judge.log c.component-in-Some.new.judge.log c.args.placing.now c.position_given.new.placing c.position_given-in-Some.new.placing (parts c.args.judge.now.out) (parts c.component.new.judge.out) (parts c.position_given.new.out) (parts c.component-in-Some.new.judge.out) (parts c.position_given-in-Some.new.out) _ _ _ c.in_ok-given.given c.in_ok-given-in-Some.given
     (wide low f a b c.from-low.ensures) (wide_next low f a b c.from-low.ensures) (wide_second low f a b c.from-low.ensures)
     c.in_ok-given.ensures.0 c.in_ok-given.ensures.1 c.in_ok-position_given.ensures.0 c.in_ok-given-in-Some.ensures.0 c.in_ok-given-in-Some.ensures.1 c.in_ok-position_given-in-Some.ensures.0)
-    (sym (c.in_ok-position_given-in-Some.ensures.1 ∙ (ap (λ (s : List Part). pop (pop s)) c.in_ok-given-in-Some.ensures.1 ∙ (c.in_ok-position_given.ensures.1 ∙ ap (λ (s : List Part). pop (pop s)) c.in_ok-given.ensures.1))))
+    (sym (c.in_ok-position_given-in-Some.ensures.1 ∙ (ap (λ (s : List TypedPart). pop (pop s)) c.in_ok-given-in-Some.ensures.1 ∙ (c.in_ok-position_given.ensures.1 ∙ ap (λ (s : List TypedPart). pop (pop s)) c.in_ok-given.ensures.1))))
     c.array_values-in-Some.ensures)
 
 pub array_aggregates::named_array-returns-then-len-before : goal.array_aggregates::named_array-returns-then-len-before
@@ -90,7 +90,7 @@ pub attributes::bound_with-returns-then-len-before : goal.attributes::bound_with
 attributes::bound_with-returns-then-len-before t c = (
   bound_gone c.args.scene.names.now (inside c.args.scene.names.now c.args.scene.levels) c.args.scene.here.now c.args.first (top (parts c.args.judge.now.out)) c.args.attribute c.args.bracket (syntax.AlsoArg (the_arg (part_at c.args.scene.tree.now.nodes c.args.arg)) (the_args (part_at c.args.scene.tree.now.nodes c.args.more))) c.args.dimensions.now c.args.judge.now.log c.all_operands.new.judge.log c.new-found.result c.all_operands.new.found (top (parts c.nothing.new.self)) (top (parts c.all_operands.new.judge.out)) c.in_ok-all.all c.len-before.result c.len.result
       (search rules) c.new-found.ensures c.in_ok-all.ensures.0 c.len-before.ensures c.len.ensures c.then-len-before.either,
-  ap pop c.leave_out.ensures ∙ (ap pop c.in_ok-all.ensures.1 ∙ ap (λ (s : List Part). pop (pop s)) c.in_ok-nothing.ensures),
+  ap pop c.leave_out.ensures ∙ (ap pop c.in_ok-all.ensures.1 ∙ ap (λ (s : List TypedPart). pop (pop s)) c.in_ok-nothing.ensures),
 )
 
 pub attributes::bound_with-returns : goal.attributes::bound_with-returns
@@ -180,7 +180,7 @@ output::io_given-returns-then-len-before t c = rw c.arg-given.ensures.is (
 
 pub output::io_given-returns : goal.output::io_given-returns
 output::io_given-returns t c = rw c.arg-given.ensures.is (judges_so _ _ _ _ _ _ _
-    (procedure_whole _ _ _ _ _ _ _ _ _ _ _ _ _ _ _ _ _ _ c.in_ok-no_formal.ensures c.in_ok-x.ensures.0 (sym c.is_number_put.ensures ∙ c.if-is_number_put.false) c.in_ok-others_alone.ensures.0 c.len-before.ensures c.len.ensures c.if-len-before.false ∙ ap (λ (s : List Part). by_procedure c.args.at c.args.first c.args.last c.args.reach (the_args (part_at c.args.scene.tree.now.nodes c.args.more)) c.args.put (found_of c.in_ok-x.x (top s), nothing_put 1 None) c.others_alone.new.judge.log) (sym c.in_ok-others_alone.ensures.1))
+    (procedure_whole _ _ _ _ _ _ _ _ _ _ _ _ _ _ _ _ _ _ c.in_ok-no_formal.ensures c.in_ok-x.ensures.0 (sym c.is_number_put.ensures ∙ c.if-is_number_put.false) c.in_ok-others_alone.ensures.0 c.len-before.ensures c.len.ensures c.if-len-before.false ∙ ap (λ (s : List TypedPart). by_procedure c.args.at c.args.first c.args.last c.args.reach (the_args (part_at c.args.scene.tree.now.nodes c.args.more)) c.args.put (found_of c.in_ok-x.x (top s), nothing_put 1 None) c.others_alone.new.judge.log) (sym c.in_ok-others_alone.ensures.1))
     (sym (ap pop c.in_ok-others_alone.ensures.1 ∙ c.in_ok-x.ensures.1)) c.by_procedure.ensures)
 
 pub primaries::inside-returns-then-scene-eq0 : goal.primaries::inside-returns-then-scene-eq0

@@ -10,7 +10,7 @@ use std::alloc::AllocError;
 
 /// Why a reader stopped. The cursor then stands at the token where it did.
 #[derive(Debug, Drop)]
-pub enum Fault {
+pub enum Failure {
     /// No text goes on with that token.
     Unexpected,
     /// The token stands too deep.
@@ -19,13 +19,13 @@ pub enum Fault {
     OutOfMemory,
 }
 
-impl From<AllocError> for Fault {
-    ghost use Rattle.syntax_readers.specs.declared.fault.Fault.TheVariants.{OutOfMemory};
+impl From<AllocError> for Failure {
+    ghost use Rattle.syntax_readers.specs.declared.failure.Failure.TheVariants.{OutOfMemory};
 
-    ghost from_gives = { λ _ fault. fault ≡ OutOfMemory };
+    ghost from_gives = { λ _ failure. failure ≡ OutOfMemory };
 
-    fn from(_error: AllocError) -> Fault {
-        Fault::OutOfMemory
+    fn from(_error: AllocError) -> Failure {
+        Failure::OutOfMemory
     }
 }
 
@@ -46,7 +46,7 @@ pub enum Refusal {
 pub fn verdict<T: Drop>(
     all: &[Token],
     tokens: &Cursor<'_>,
-    answer: Result<T, Fault>,
+    answer: Result<T, Failure>,
 ) -> Result<T, Refusal>
     requires { length all.now < 2 ^ 32 }
     ensures { result ≡ verdict_of (kinds all.now) answer tokens.now }
@@ -60,8 +60,8 @@ pub fn verdict<T: Drop>(
                 Err(Refusal::Unexpected(place))
             }
         }
-        Err(Fault::Unexpected) => Err(Refusal::Unexpected(place)),
-        Err(Fault::TooDeep) => Err(Refusal::TooDeep(place)),
-        Err(Fault::OutOfMemory) => Err(Refusal::OutOfMemory),
+        Err(Failure::Unexpected) => Err(Refusal::Unexpected(place)),
+        Err(Failure::TooDeep) => Err(Refusal::TooDeep(place)),
+        Err(Failure::OutOfMemory) => Err(Refusal::OutOfMemory),
     }
 }
