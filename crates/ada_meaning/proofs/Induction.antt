@@ -12,7 +12,6 @@ use Rattle.typed_tree.specs.declared.scalars.Check.{Check}
 use Rattle.typed_tree.specs.declared.expressions.Sign.{Sign}
 use Rattle.typed_tree.specs.declared.expressions.Sign.TheVariants as sign
 use Rattle.typed_tree.specs.declared.expressions.Run.{Run}
-use Rattle.typed_tree.specs.declared.expressions.Iterated.{Iterated}
 use Rattle.typed_tree.specs.declared.expressions.Reducer.{Reducer}
 use Rattle.typed_tree.specs.declared.expressions.Reducer.TheVariants.{Operator, Function}
 use Rattle.ada_base.specs.Cuts.{evens}
@@ -23,6 +22,7 @@ use Rattle.behaviours.specs.Joins.{Site}
 use Rattle.behaviours.specs.Paths.{Leave, Exits, Returns, Raises, Entity, VariableOf, ConstantOf, Region, Everywhere, Here}
 use Rattle.ada_meaning.specs.Values.{result, truth, bit, is_in, between, to_nat, count, base_of, unary, is_zero, divides, overflows, value_or_zero, defaults, laid, zeros, image_of, handles_reason, is_chosen}
 use Rattle.ada_meaning.specs.Operations.{CheckKind, RangeCheck, IndexCheck, OverflowCheck, ZeroCheck, Cut, Sized, Operations, zero_checked, overflow_checked, operate, reduce}
+use Rattle.ada_meaning.specs.Turns.{takes_turns}
 use Rattle.ada_meaning.specs.Meaning
 use Rattle.ada_meaning.specs.Meaning.{ObjectPart, Env, Back, Passed, Returned, outset, with_target, with_handled, inside, variable_root, constant_root, array_root, iterated_env, cut_of, value_cut_of, arms_of, exits, returns, raises, value_of, reason_of, has_handlers, sub_at, moved, object_layout, most_nested, most_threads, most_iterations, most_calls}
 use Rattle.ada_meaning.specs.Nonblocking.{MayCall, MayReduce, KeepsExpr, KeepsOptional, KeepsSelections, KeepsActuals, KeepsValue, KeepsComposite, KeepsAssociations, KeepsIteration, KeepsChunk, KeepsPieces, KeepsDecls, Keeps, KeepsAll, KeepsAlternatives, KeepsArms, KeepsHandlers, KeepsBody, KeepsSubs, KeepsRule, nonblocking_of}
@@ -129,9 +129,8 @@ module _ {ℓ κ ν} {o : Operations {ℓ}} {q : Operations {κ}} (rel : Relates
   all_runs w [] so_far r = rel.ret w so_far
   all_runs w (run ∷ runs) so_far r = rel.bind w (one_run w 0 run.count run.first run.stride so_far r) (λ cs. all_runs w runs cs r)
 
-  iterated : (w : World) (i : Option Iterated) → R w (Meaning.iterated_turn o i) (Meaning.iterated_turn q i)
-  iterated w None = rel.ret w tt
-  iterated w (Some i) = turned w
+  value_turns : (w : World) (turns : Bool) → R w (Meaning.value_turn o turns) (Meaning.value_turn q turns)
+  value_turns w turns = choose w turns (turned w) (rel.ret w tt)
 
   whiles : (w : World) (n : ℕ) {t : o.Doing Bool} {u : q.Doing Bool} {b : o.Doing (Unit {0})} {c : q.Doing (Unit {0})} → R w t u → R w b c → R w (Meaning.while_loop o n t b) (Meaning.while_loop q n u c)
   whiles w zero r s = rel.spent w
@@ -266,7 +265,7 @@ module _ {ℓ κ ν} {o : Operations {ℓ}} {q : Operations {κ}} (rel : Relates
         pub associated : (a : Associations) (env : Env) (so_far : List ℤ) (h : Spot) → KeepsAssociations nonblocking a h.blocking → R h.world (Meaning.associated o limit program calls a env so_far) (Meaning.associated q limit program calls' a env so_far)
         associated NoAssociation env so_far h k = rel.ret h.world so_far
         associated (Association runs i mentions value rest) env so_far h k =
-            rel.bind h.world (all_runs h.world runs so_far (λ n. rel.bind h.world (iterated h.world i) (λ _. cells value (iterated_env i n env) h k.1))) (λ cs. associated rest env cs h k.2)
+            rel.bind h.world (all_runs h.world runs so_far (λ n. rel.bind h.world (value_turns h.world (takes_turns runs i value)) (λ _. cells value (iterated_env i n env) h k.1))) (λ cs. associated rest env cs h k.2)
 
         pub course : (i : Iteration) (env : Env) (h : Spot) → KeepsIteration nonblocking i h.blocking → R h.world (Meaning.course o limit program calls i env) (Meaning.course q limit program calls' i env)
         course (Range x reverse low high c filter) env h k = rel.bind h.world (eval low env h k.0) (λ l. rel.bind h.world (eval high env h k.1) (λ u. rel.bind h.world (bounds h.world c l u) (λ _. rel.ret h.world _)))

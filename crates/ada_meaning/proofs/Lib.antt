@@ -23,6 +23,7 @@ pub mod Plain
 pub mod PlanLaw
 pub mod Prefixes
 pub mod Quiet
+pub mod Recorded
 pub mod Segments
 pub mod SeqLaw
 pub mod Shapes

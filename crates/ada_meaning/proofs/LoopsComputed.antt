@@ -1,7 +1,7 @@
 -- The rows of loops, parallel constructs, arrays and records, computed.
 use Rattle.std.proofs.Common.{refl}
 use Rattle.std.specs.Fmt.{digits}
-use Rattle.ada_meaning.specs.LoopRows.{Cuts, Hundred, Arms, Squares, Multiplies, Bounded, Joined, Cases, Columns, Shifts, PlannedAdds, AllRaise}
+use Rattle.ada_meaning.specs.LoopRows.{Cuts, Hundred, Arms, Squares, Multiplies, Bounded, Joined, Cases, Columns, Shifts, PlannedAdds, AllRaise, Filled}
 
 pub cuts : Cuts
 unfolding digits
@@ -50,3 +50,7 @@ planned_adds = refl
 pub all_raise : AllRaise
 unfolding digits
 all_raise = refl
+
+pub filled : Filled
+unfolding digits
+filled = (refl, refl, refl, refl, refl)

@@ -17,7 +17,7 @@ use Rattle.ada_meaning.specs.Programs.{this, input_of, finals}
 use Rattle.ada_meaning.specs.Planned.{here}
 use Rattle.ada_meaning.specs.Stored
 use Rattle.ada_meaning.specs.Stored.{State, Touch, Visit, Kept, Stacked, After, at, Stored, Cause, Left, OutOfTurns, NoRoom, CutOff, Misnoted, Outage, MemoryFault, InputFault, OutputFault, Unbegun, Stops, next, next_halts, handled_halts, handled, place_of, Address, put_at, read_at, written_at, value_read, begun, ended, has_room, taken_from, finals_of}
-use Rattle.ada_meaning.specs.Deeds.{Deed, Asked, deeds_of}
+use Rattle.ada_meaning.specs.Deeds.{Deed, Asked, PutOut, deeds_of}
 use Rattle.ada_meaning.specs.Touched.{Before}
 use Rattle.behaviours.specs.Events
 use Rattle.std.proofs.lemmas.List.{length-take-le, length-append}
@@ -470,8 +470,8 @@ module _ (input : List ℕ) where
   unfolding Stored.puts
   puts_simulates b o piece = record {
     stops = λ t p. (refl, inr (refl, refl, refl));
-    does = λ ls gs s t p n v h e. came_event b ls gs s (record s { output = s.output ++ piece }) p p n ((Behaviours.emits (Puts piece)).runs t p) tt (Puts piece) (tt, tt) (refl, inl (refl, refl, inl refl))
-        (has_moved input b ls gs s p n h (record s { output = s.output ++ piece }) p n refl refl refl refl refl refl (λ x f. f) refl (le_refl p.elaborations) refl h.taken h.rest h.held)
+    does = λ ls gs s t p n v h e. came_event b ls gs s (record s { output = s.output ++ piece; done = Stored.also_done (PutOut piece) s.done }) p p n ((Behaviours.emits (Puts piece)).runs t p) tt (Puts piece) (tt, tt) (refl, inl (refl, refl, inl refl))
+        (has_moved input b ls gs s p n h (record s { output = s.output ++ piece; done = Stored.also_done (PutOut piece) s.done }) p n refl refl refl refl refl refl (λ x f. f) refl (le_refl p.elaborations) refl h.taken h.rest h.held)
         (record { here = λ k. refl; everywhere = λ k. refl; frame = refl; room = refl; everywhere_room = refl }) e (ap (λ z. s.output ++ z) (sym (append-nil piece))) (λ k. absurd (true≢false (sym o ∙ k))) [] (λ k. absurd (true≢false (sym o ∙ k))) (λ k. tt);
     halts = λ ls gs s t p n v h e f u k. fault ls gs s t p n h f u k.0 k.1.0 k.1.1 k.1.2 k.1.3;
   }
@@ -551,10 +551,11 @@ module _ (input : List ℕ) where
       go : (ls gs : List Tie) (s : State) (t : Scope Instance) (p : Path Instance) (n : Memory) → Has input b ls gs s p n → s.turns ≡ p.turns → (left : List ℕ) → s.input ≡ left → Came b ls gs s p n (Behaviours.takes.runs t p) (taken_from s left) (record { deeds = Asked ∷ []; touches = [] })
       go ls gs s t p n h e [] is =
           let k = input_none input p.taken (sym is ∙ h.rest) in
-          came ls gs s s t p n h e None k.0 refl refl refl refl (h.taken ∙ (let z = k.2 in let y : min p.taken (length input) ≡ min (suc p.taken) (length input) = omega arith in y)) (is ∙ sym k.1) refl refl refl (same_refl s)
+          came ls gs s (record s { done = Stored.also_done Asked s.done }) t p n h e None k.0 refl refl refl refl (h.taken ∙ (let z = k.2 in let y : min p.taken (length input) ≡ min (suc p.taken) (length input) = omega arith in y)) (is ∙ sym k.1) refl refl refl
+          (record { here = λ k. refl; everywhere = λ k. refl; frame = refl; room = refl; everywhere_room = refl })
       go ls gs s t p n h e (c ∷ rest) is =
           let k = input_some input p.taken c rest (sym is ∙ h.rest) in
-          came ls gs s (record s { taken = s.taken + 1; input = rest }) t p n h e (Some c) k.0 refl refl refl refl
+          came ls gs s (record s { taken = s.taken + 1; input = rest; done = Stored.also_done Asked s.done }) t p n h e (Some c) k.0 refl refl refl refl
           (let z = k.2 in let w = h.taken in let y : s.taken + 1 ≡ min (suc p.taken) (length input) = omega arith in y) (sym k.1) refl refl refl (record { here = λ k. refl; everywhere = λ k. refl; frame = refl; room = refl; everywhere_room = refl })
 
       fault : (ls gs : List Tie) (s : State) (t : Scope Instance) (p : Path Instance) (n : Memory) → Has input b ls gs s p n → (f : Outage) (u : State) → f ≡ InputFault → u ≡ s → Halted b s p n (Behaviours.takes.runs t p) f u

@@ -252,8 +252,12 @@ behind before out rest e = ap (drop (length before)) e ∙ drop-append_seam befo
 whole : (before out rest : List ℕ) → out ≡ before ++ rest → out ≡ before ++ drop (length before) out
 whole before out rest e = e ∙ ap (λ z. before ++ z) (sym (behind before out rest e))
 
-pub visible_outset : (slots : ℕ) (input before : List ℕ) (notes : Schedule) → Visible [] [] (noted_outset slots input before notes) nothing_visible
-visible_outset slots input before notes = record {
+-- where a program begins, whether what it does outside is kept or not
+abbrev pub outset_keeping : ℕ → List ℕ → List ℕ → Schedule → Option (List Deed) → State
+outset_keeping slots input before notes so_far = record (outset slots input before) { notes = notes; done = so_far }
+
+pub visible_outset : (slots : ℕ) (input before : List ℕ) (notes : Schedule) (so_far : Option (List Deed)) → Visible [] [] (outset_keeping slots input before notes so_far) nothing_visible
+visible_outset slots input before notes so_far = record {
   here = λ x. ap (λ (z : Slot). nat_eq z.frame 1) (slot_none slots (Stored.key x));
   everywhere = λ x. ap (λ (z : Slot). nat_eq z.frame 1) (slot_none slots (Stored.key x));
   low = λ k. subst (λ (z : Slot). z.frame ≤ 1) (sym (slot_none slots k)) (omega arith);
@@ -263,8 +267,8 @@ none_tied : (c : Tie) → Tied [] [] c → ⊥
 none_tied c (inl t) = t
 none_tied c (inr t) = t
 
-pub has_outset : (b : Mode) (slots : ℕ) (input before : List ℕ) (notes : Schedule) → b.outermost ≡ true → (b.ordered ≡ true → notes ≡ InOrder) → Has input b [] [] (noted_outset slots input before notes) start (empty (input_of input))
-has_outset b slots input before notes main_path ordered = record {
+pub has_outset : (b : Mode) (slots : ℕ) (input before : List ℕ) (notes : Schedule) (so_far : Option (List Deed)) → b.outermost ≡ true → (b.ordered ≡ true → notes ≡ InOrder) → Has input b [] [] (outset_keeping slots input before notes so_far) start (empty (input_of input))
+has_outset b slots input before notes so_far main_path ordered = record {
   one = λ c d t. absurd (none_tied c t);
   apart = λ c d i j t. absurd (none_tied c t);
   right = λ c i t. absurd (none_tied c t);
@@ -318,19 +322,19 @@ only_raises r (Err (Left y)) t x e = go (raises y) refl e
     go false is e = absurd (no (ap (λ (z : After (Unit {0})). z.end) e))
 
 -- a whole program in order or by notes
-module _ (program : Program) (set : Setting) (slots : ℕ) (input before : List ℕ) (notes : Schedule) (b : Mode) (main_path : b.outermost ≡ true) (ordered : b.ordered ≡ true → notes ≡ InOrder) (inside : Stored (Unit {0}))
+module _ (program : Program) (set : Setting) (slots : ℕ) (input before : List ℕ) (notes : Schedule) (so_far : Option (List Deed)) (b : Mode) (main_path : b.outermost ≡ true) (ordered : b.ordered ≡ true → notes ≡ InOrder) (inside : Stored (Unit {0}))
     (sim : Simulates input b (Stored.handles inside (λ how. not (raises how)) (λ how. Stored.ret tt)) (behaviour program set)) where
   abbrev whole_run : Stored (Unit {0})
   whole_run = Stored.handles inside (λ how. not (raises how)) (λ how. Stored.ret tt)
 
   abbrev first : State
-  first = noted_outset slots input before notes
+  first = outset_keeping slots input before notes so_far
 
   abbrev from : Trace Instance → Bool → Path Instance → End (Unit {0}) → Type 0
   from tr y p e = (behaviour program set).runs nothing_visible start tr y p e
 
   came : Came input b [] [] first start (empty (input_of input)) ((behaviour program set).runs nothing_visible start) (whole_run.does first) (log whole_run first)
-  came = sim.does [] [] first nothing_visible start (empty (input_of input)) (visible_outset slots input before notes) (has_outset b slots input before notes main_path ordered) refl
+  came = sim.does [] [] first nothing_visible start (empty (input_of input)) (visible_outset slots input before notes so_far) (has_outset b slots input before notes so_far main_path ordered) refl
 
   stops_between : KeepsRule program → (front back : List Deed) → whole_run.deeds first ≡ front ++ back → StopsBetween program set input front back
   stops_between keeps front back e = between program set keeps input came.trace came.early came.path (end_of (whole_run.does first).end) came.run came.fits front back (came.deeds ∙ e)
@@ -400,7 +404,7 @@ module _ (program : Program) (set : Setting) (slots : ℕ) (input before : List 
       by (Raises r) c = permitted_end t (Err (Left (Raises r))) (Err (Goes (Left (Raises r)))) (subst (λ z. Came input b [] [] first start (empty (input_of input)) ((behaviour program set).runs nothing_visible start) z (log whole_run first)) c came) (λ tr p end e o. (e, o))
       by (Exits n) c = absurd (true≢false (sym (only_raises (inside.does first) (inside.does first).end t (Exits n) c)))
       by (Returns v) c = absurd (true≢false (sym (only_raises (inside.does first) (inside.does first).end t (Returns v) c)))
-  permitted (Err (Fails f)) t c = permitted_fault f t (halted_stops input b whole_run (behaviour program set) sim [] [] first nothing_visible start (empty (input_of input)) (visible_outset slots input before notes) (has_outset b slots input before notes main_path ordered) refl f t c)
+  permitted (Err (Fails f)) t c = permitted_fault f t (halted_stops input b whole_run (behaviour program set) sim [] [] first nothing_visible start (empty (input_of input)) (visible_outset slots input before notes so_far) (has_outset b slots input before notes so_far main_path ordered) refl f t c)
 
 module _ (program : Program) (set : Setting) (slots : ℕ) (input before : List ℕ) (keeps : KeepsRule program) where
   abbrev in_order_mode : Mode
@@ -409,26 +413,26 @@ module _ (program : Program) (set : Setting) (slots : ℕ) (input before : List 
   stored_permitted : (answer : Result (Unit {0}) Stop) (t : State) → Computes (stored program set) (outset slots input before) answer t → (t.output ≡ before ++ put_out before t) × ((early : Bool) × IsPermitted program set input early (outcome_of program before answer t))
   stored_permitted answer t c =
       let ops = stores input asks_at_once set.limit (cuts_of set.plan) set.one in
-      permitted program set slots input before InOrder in_order_mode refl (λ e. refl) (exec_body ops set.limit program (call ops set.limit program most_calls) program.body Everywhere (Meaning.outset 0))
+      permitted program set slots input before InOrder None in_order_mode refl (λ e. refl) (exec_body ops set.limit program (call ops set.limit program most_calls) program.body Everywhere (Meaning.outset 0))
       (program_simulates input asks_at_once set.limit (cuts_of set.plan) set.one program keeps) answer t c
 
   noted_permitted : (notes : Schedule) → (set.one ≡ true → notes ≡ InOrder) → (answer : Result (Unit {0}) Stop) (t : State) → Computes (noted program set) (noted_outset slots input before notes) answer t
       → (t.output ≡ before ++ put_out before t) × ((early : Bool) × IsPermitted program set input early (outcome_of program before answer t))
   noted_permitted schedule alone answer t c =
       let ops = notes input asks_at_once set.limit (cuts_of set.plan) set.one in
-      permitted program set slots input before schedule (by_notes input asks_at_once set.limit (cuts_of set.plan) set.one true) refl alone (exec_body ops set.limit program (call ops set.limit program most_calls) program.body Everywhere (Meaning.outset 0))
+      permitted program set slots input before schedule (Some []) (by_notes input asks_at_once set.limit (cuts_of set.plan) set.one true) refl alone (exec_body ops set.limit program (call ops set.limit program most_calls) program.body Everywhere (Meaning.outset 0))
       (noted_program_simulates input asks_at_once set.limit (cuts_of set.plan) set.one program keeps) answer t c
 
   stored_between : (front back : List Deed) → (stored program set).deeds (outset slots input before) ≡ front ++ back → StopsBetween program set input front back
   stored_between front back e =
       let ops = stores input asks_at_once set.limit (cuts_of set.plan) set.one in
-      stops_between program set slots input before InOrder in_order_mode refl (λ e. refl) (exec_body ops set.limit program (call ops set.limit program most_calls) program.body Everywhere (Meaning.outset 0))
+      stops_between program set slots input before InOrder None in_order_mode refl (λ e. refl) (exec_body ops set.limit program (call ops set.limit program most_calls) program.body Everywhere (Meaning.outset 0))
       (program_simulates input asks_at_once set.limit (cuts_of set.plan) set.one program keeps) keeps front back e
 
   noted_between : (notes : Schedule) → (set.one ≡ true → notes ≡ InOrder) → (front back : List Deed) → (noted program set).deeds (noted_outset slots input before notes) ≡ front ++ back → StopsBetween program set input front back
   noted_between schedule alone front back e =
       let ops = notes input asks_at_once set.limit (cuts_of set.plan) set.one in
-      stops_between program set slots input before schedule (by_notes input asks_at_once set.limit (cuts_of set.plan) set.one true) refl alone (exec_body ops set.limit program (call ops set.limit program most_calls) program.body Everywhere (Meaning.outset 0))
+      stops_between program set slots input before schedule (Some []) (by_notes input asks_at_once set.limit (cuts_of set.plan) set.one true) refl alone (exec_body ops set.limit program (call ops set.limit program most_calls) program.body Everywhere (Meaning.outset 0))
       (noted_program_simulates input asks_at_once set.limit (cuts_of set.plan) set.one program keeps) keeps front back e
 
 pub stored_law : StoredLaw

@@ -313,4 +313,4 @@ pub program_visits : (program : Program) (set : Setting) (slots : ℕ) (input be
 program_visits program set slots input before schedule asks F law keeps alone safe =
     let b = by_notes input asks set.limit (cuts_of set.plan) set.one true in
     each_team F ((noted program set).visits (noted_outset slots input before schedule))
-    ((program_seen input asks set.limit (cuts_of set.plan) set.one F law program keeps).fine [] [] (noted_outset slots input before schedule) nothing_visible start (empty (input_of input)) (visible_outset slots input before schedule) (has_outset b slots input before schedule refl alone) refl safe)
+    ((program_seen input asks set.limit (cuts_of set.plan) set.one F law program keeps).fine [] [] (noted_outset slots input before schedule) nothing_visible start (empty (input_of input)) (visible_outset slots input before schedule (Some [])) (has_outset b slots input before schedule (Some []) refl alone) refl safe)

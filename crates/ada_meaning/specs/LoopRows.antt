@@ -7,12 +7,13 @@ use Rattle.typed_tree.specs.declared.scalars.Class.TheVariants as class
 use Rattle.typed_tree.specs.declared.scalars.Scalar.{Scalar}
 use Rattle.typed_tree.specs.declared.expressions.Root.TheVariants as root
 use Rattle.typed_tree.specs.declared.expressions.Reducer.TheVariants as reducer
+use Rattle.typed_tree.specs.declared.expressions.Run.{Run}
 use Rattle.typed_tree.specs.declared.program.Mode.TheVariants as mode
 use Rattle.typed_tree.specs.Syntax as syntax
-use Rattle.typed_tree.specs.Syntax.{Subtype, Expr, Constant, Parameter, Binary, Call, Reduction, NoExpr, Absent, Selections, Whole, Field, Index, NoActual, In, Value, Cells, Aggregate, NoAssociation, Association, Range, Components, NoChunk, NoPiece, Text, Image, NoDecl, DeclareVariable, Assign, Case, NoAlternative, Alternative, Raise, For, ParallelFor, Parallel, Block, Put, Stmts, End, Then, NoArm, Arm, NoHandler, Handler, ReturnValue, Program, Variable}
+use Rattle.typed_tree.specs.Syntax.{Subtype, Expr, Constant, Parameter, Binary, Call, Reduction, NoExpr, Absent, Selections, Whole, Field, Index, NoActual, In, Value, Cells, Aggregate, NoAssociation, Association, Range, Components, NoChunk, NoPiece, Text, Image, NoDecl, DeclareVariable, Assign, Case, NoAlternative, Alternative, Raise, For, ParallelFor, Parallel, Block, Put, Stmts, End, Then, NoArm, Arm, NoHandler, Handler, ReturnValue, Program, Variable, Associations}
 use Rattle.ada_base.specs.Cuts.{Plan, One, Even, Chunked, Listed, cuts_of}
-use Rattle.behaviours.specs.Paths.{Raises, Gives, Leaves}
-use Rattle.ada_meaning.specs.Programs.{Answer, answer_of, planned}
+use Rattle.behaviours.specs.Paths.{Raises, Gives, Leaves, Spent}
+use Rattle.ada_meaning.specs.Programs.{Answer, answer_of, planned, sequential}
 use Rattle.ada_meaning.specs.Rows.{integers, integer, number, variable, sum, stored, assign, put_image, object_of, made_of, many_turns, no_input, upto, array_of, filled_with, indexed, component, formal, adds}
 
 -- under a plan, without input
@@ -188,3 +189,42 @@ all_raise = statements (Then (Block NoDecl (Then (ParallelFor 0 0 NoChunk (upto 
 
 abbrev pub AllRaise : Type 0
 AllRaise = under (Even 8) all_raise ≡ writes (99 ∷ 10 ∷ [])
+
+-- X : Integer := 4; A : array (1 .. 3) of Integer := (1 | 3 => X + 1, others => X); with (1 .. 3 => X + 1), and with
+-- (2 => X + 1, others => X): within the turns that they take, and within one fewer
+
+abbrev filled : Associations → Program
+filled given = made_of (array_of 3 ∷ []) (object_of 0 1 ∷ object_of 1 3 ∷ []) []
+    (DeclareVariable 0 (stored (number (pos 4))) (DeclareVariable 1 (Cells (Aggregate 0 3 given)) NoDecl)) End
+
+abbrev part : ℕ → ℕ → Run
+part first count = record { first = first; count = count; stride = 1 }
+
+abbrev given : List Run → Expr → Associations → Associations
+given runs e rest = Association runs None NoExpr (stored e) rest
+
+abbrev more : Expr
+more = sum (variable 0) (number (pos 1))
+
+abbrev apart : Program
+apart = filled (given (part 0 1 ∷ part 2 1 ∷ []) more (given (part 1 1 ∷ []) (variable 0) NoAssociation))
+
+abbrev together : Program
+together = filled (given (part 0 3 ∷ []) more NoAssociation)
+
+abbrev single : Program
+single = filled (given (part 1 1 ∷ []) more (given (part 0 1 ∷ part 2 1 ∷ []) (variable 0) NoAssociation))
+
+abbrev within : ℕ → Program → Answer
+within turns program = answer_of program (sequential program turns no_input)
+
+-- X has its value by then
+abbrev is_spent : Answer
+is_spent = record { output = []; end = Spent; finals = (pos 4 ∷ []) ∷ [] }
+
+abbrev pub Filled : Type 0
+Filled = (within 1 apart ≡ is_spent)
+    × (within 2 apart ≡ holds ((pos 4 ∷ []) ∷ (pos 5 ∷ pos 4 ∷ pos 5 ∷ []) ∷ []))
+    × (within 2 together ≡ is_spent)
+    × (within 3 together ≡ holds ((pos 4 ∷ []) ∷ (pos 5 ∷ pos 5 ∷ pos 5 ∷ []) ∷ []))
+    × (within 0 single ≡ holds ((pos 4 ∷ []) ∷ (pos 4 ∷ pos 5 ∷ pos 4 ∷ []) ∷ []))

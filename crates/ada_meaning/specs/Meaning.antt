@@ -26,6 +26,7 @@ use Rattle.behaviours.specs.Doings.{through, folded}
 use Rattle.behaviours.specs.Paths.{Leave, Exits, Returns, Raises, Entity, VariableOf, ConstantOf, Region, Everywhere, Here}
 use Rattle.behaviours.specs.Joins.{Now, Site}
 use Rattle.ada_meaning.specs.Values.{truth, bit, is_in, between, to_nat, count, base_of, unary, compares, is_chosen, handles_reason, without_zeros, layout, defaults, laid, zeros, image_of}
+use Rattle.ada_meaning.specs.Turns.{takes_turns}
 use Rattle.ada_meaning.specs.Operations.{RangeCheck, IndexCheck, OverflowCheck, Cut, ByPlan, Sized, chunk_of, Operations, operate, reduce}
 
 -- an object and how many cells of it come before
@@ -283,10 +284,9 @@ module _ {ℓ} (ops : Operations {ℓ}) where
     cs ← run_values 0 r.count r.first r.stride value so_far
     runs_values rs value cs
 
-  -- a value of an iterated association takes a turn
-  abbrev pub iterated_turn : Option Iterated → Doing (Unit {0})
-  iterated_turn None = ret tt
-  iterated_turn (Some i) = turned
+  -- what comes before each evaluation of an association's value
+  abbrev pub value_turn : Bool → Doing (Unit {0})
+  value_turn turns = cond turns turned (ret tt)
 
   -- loops (5.5)
 
@@ -477,7 +477,7 @@ module _ {ℓ} (ops : Operations {ℓ}) where
       pub associated : Associations → Env → List ℤ → Doing (List ℤ)
       associated NoAssociation env so_far = ret so_far
       associated (Association runs iterated mentions value rest) env so_far = do
-        cs ← runs_values runs (λ k. iterated_turn iterated >>= λ _. cells value (iterated_env iterated k env)) so_far
+        cs ← runs_values runs (λ k. value_turn (takes_turns runs iterated value) >>= λ _. cells value (iterated_env iterated k env)) so_far
         associated rest env cs
 
       -- the range or array of an iteration, evaluated once (5.5, 5.5.2)

@@ -39,6 +39,8 @@ pub record State : Type 0 where
   -- the looks that may still be passed, if they have a bound; and the notes that are left
   pub left : Option ℕ
   pub notes : Schedule
+  -- what was asked of the input and put out so far, in order, where that is kept
+  pub done : Option (List Deed)
 
 -- how a part ends without a value, by itself: it is left, its turns are spent, the tables have no room for an object, no
 -- more looks may be passed, or a note doesn't fit
@@ -329,10 +331,15 @@ handles m takes h = record {
 
 -- output and input
 
+-- a list of deeds, where it is kept, with one more
+abbrev pub also_done : Deed → Option (List Deed) → Option (List Deed)
+also_done d None = None
+also_done d (Some ds) = Some (ds ++ (d ∷ []))
+
 -- of a piece that isn't put out whole a part may have passed
 unfoldable pub puts : List ℕ → Stored (Unit {0})
 puts piece = record {
-  does = λ s. at (record s { output = s.output ++ piece }) (Ok tt);
+  does = λ s. at (record s { output = s.output ++ piece; done = also_done (PutOut piece) s.done }) (Ok tt);
   halts = λ s f t. (f ≡ OutputFault) × ((passed : List ℕ) × (rest : List ℕ) × (piece ≡ passed ++ rest) × (t ≡ record s { output = s.output ++ passed }));
   touches = λ s. [];
   deeds = λ s. PutOut piece ∷ [];
@@ -346,8 +353,8 @@ unfoldable pub keeps : Held → Stored (Unit {0})
 keeps h = steps (λ s. at (record s { held = h }) (Ok tt))
 
 abbrev pub taken_from : State → List ℕ → After (Option ℕ)
-taken_from s [] = at s (Ok None)
-taken_from s (b ∷ rest) = at (record s { taken = s.taken + 1; input = rest }) (Ok (Some b))
+taken_from s [] = at (record s { done = also_done Asked s.done }) (Ok None)
+taken_from s (b ∷ rest) = at (record s { taken = s.taken + 1; input = rest; done = also_done Asked s.done }) (Ok (Some b))
 
 unfoldable pub takes : Stored (Option ℕ)
 takes = record { does = λ s. taken_from s s.input; halts = λ s f t. (f ≡ InputFault) × (t ≡ s); touches = λ s. []; deeds = λ s. Asked ∷ []; visits = λ s. [] }
@@ -631,14 +638,15 @@ outset slots input before = record {
   declared = [];
   left = None;
   notes = InOrder;
+  done = None;
 }
 
 abbrev pub stored : Program → Setting → Stored (Unit {0})
 stored program set = main (operations set.limit (cuts_of set.plan)) set.limit program
 
--- where a program begins that is run by notes
+-- where a program begins that is run by notes; what it does outside is kept
 abbrev pub noted_outset : ℕ → List ℕ → List ℕ → Schedule → State
-noted_outset slots input before notes = record (outset slots input before) { notes = notes }
+noted_outset slots input before notes = record (outset slots input before) { notes = notes; done = Some [] }
 
 abbrev pub noted : Program → Setting → Stored (Unit {0})
 noted program set = main (noted_operations set.limit (cuts_of set.plan)) set.limit program

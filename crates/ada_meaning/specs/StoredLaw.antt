@@ -1,5 +1,5 @@
 -- What is said of stored runs.
-use Rattle.std.specs.Prelude.{◌≡◌, ◌++◌, ℕ, List, [], None, Result, Bool, true, false}
+use Rattle.std.specs.Prelude.{◌≡◌, ◌++◌, ℕ, List, [], None, Some, Result, Bool, true, false}
 use Rattle.typed_tree.specs.Syntax.{Program}
 use Rattle.ada_meaning.specs.Nonblocking.{KeepsRule}
 use Rattle.ada_meaning.specs.Sequential.{IsCalm}
@@ -45,6 +45,11 @@ PlainLaw = (program : Program) (set : Setting) (s : State) → KeepsRule program
     × ((f : Outage) (t : State) → (noted program set).halts s f t → (stored program set).halts s f t)
     × ((stored program set).touches s ≡ (noted program set).touches s)
     × ((stored program set).deeds s ≡ (noted program set).deeds s)
+
+-- Where a run by notes keeps what it does outside, it keeps all of that, in order.
+abbrev pub DoneLaw : Type 0
+DoneLaw = (program : Program) (set : Setting) (s : State) (ds : List Deed) → KeepsRule program → s.done ≡ Some ds
+    → ((noted program set).does s).state.done ≡ Some (ds ++ (noted program set).deeds s)
 
 -- a run by these notes that ended by itself, in which each note was used, and what it came to
 abbrev pub IsNoted : Program → Setting → ℕ → List ℕ → List ConstructNote → Outcome → Type 0

@@ -129,6 +129,7 @@ at_fault = record {
   declared = record { object = 0; address = 0; cells = 1 } ∷ [];
   left = None;
   notes = InOrder;
+  done = None;
 }
 
 abbrev pub FaultRow : Type 0

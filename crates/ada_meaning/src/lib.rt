@@ -1,6 +1,6 @@
 //! What programs mean: the definitions of their runs (chapters 3 to 6, 9 and 11), and the laws of these definitions.
-//! Every function here has no body: its contract is what is proved. `stored` has the laws of a run over a state that code
-//! can hold.
+//! The functions of this module and of `stored` have no body: their contracts are what is proved. `stored` has the laws of
+//! a run over a state that code can hold; `turns` reads off a program which values take turns.
 #![tactic(auto)]
 
 ghost use Rattle.ada_meaning.specs.Blocked.{BlockedLaw};
@@ -9,16 +9,18 @@ ghost use Rattle.typed_tree.specs.Programs.{program};
 ghost use Rattle.ada_meaning.specs.Deeds.{PrefixLaw};
 ghost use Rattle.ada_meaning.specs.Law.{StopsLaw, AloneLaw, AtOnceLaw, SilentLaw, ComesToSequential, OnlyLaw, OneLaw, SequentialLaw, OneSequentialLaw, OperatorLaw, SubtypeLaw, MoreWorkersLaw};
 ghost use Rattle.ada_meaning.specs.Rows.{Adds, Overflows, Divisions, Reductions, Dealt, Find, Raised, Gotten, Turns, Doubled, Kept, Left, Passed, Padded', PartialOverflow, NoChunks, Filtered, Spends, Nested, Escapes, Calm, Sums};
-ghost use Rattle.ada_meaning.specs.LoopRows.{Cuts, Hundred, Arms, Squares, Multiplies, Bounded, Joined, Cases, Columns, Shifts, PlannedAdds, AllRaise};
+ghost use Rattle.ada_meaning.specs.LoopRows.{Cuts, Hundred, Arms, Squares, Multiplies, Bounded, Joined, Cases, Columns, Shifts, PlannedAdds, AllRaise, Filled};
 ghost use Rattle.ada_meaning.specs.BlockedRows.{BlockedRows};
 ghost use Rattle.ada_meaning.specs.LookRows.{LookRows};
 ghost use Rattle.ada_meaning.specs.CallRows.{Downs, Begins, NotCopied, NoReturn, Reraised, Elaborated, Combines};
 
 pub mod slots;
 pub mod stored;
+pub mod turns;
 
 pub use behaviours::shuffle_law;
 pub use slots::{Slot, Variable};
+pub use turns::takes_turns;
 use typed_tree::Typed;
 
 /// How many threads a parallel construct has where no number is asked for (5.5, 5.6.1).
@@ -105,6 +107,7 @@ pub fn loop_rows()
     ensures shifts { Shifts }
     ensures planned_adds { PlannedAdds }
     ensures all_raise { AllRaise }
+    ensures filled { Filled }
 {}
 
 /// Programs with calls, copying (6.4.1) and exceptions (11.4) come to what is said of them in `specs/CallRows.antt`.

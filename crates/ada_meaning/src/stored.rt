@@ -1,6 +1,6 @@
 //! The stored run: a program's run in order under a plan, over a state that code can hold; and what is said of it.
 
-ghost use Rattle.ada_meaning.specs.StoredLaw.{StoredLaw, NotedLaw, StoppedLaw, NotedStoppedLaw, PlainLaw, JournalLaw, SomeLaw, StoredSequentialLaw};
+ghost use Rattle.ada_meaning.specs.StoredLaw.{StoredLaw, NotedLaw, StoppedLaw, NotedStoppedLaw, PlainLaw, DoneLaw, JournalLaw, SomeLaw, StoredSequentialLaw};
 ghost use Rattle.ada_meaning.specs.Touched.{FrameLaw, ApartLaw, JoinLaw, ViewLaw};
 ghost use Rattle.ada_meaning.specs.StoredRows.{StoredRows, NotedRows, ChosenRows, CutRows, DeedsRow, TeamsRow, FaultRow, WriteFaultRow, Soaks};
 
@@ -18,6 +18,7 @@ ghost use Rattle.ada_meaning.specs.StoredRows.{StoredRows, NotedRows, ChosenRows
 /// - view: where a program has no races, each cell that was there and that a thread touches is, where the thread begins, as
 ///   it was before the construct, and each that it writes is behind the construct as it left it.
 /// - plain: with notes in order and no bound of looks a run by notes is the stored run.
+/// - done: where a run by notes keeps what it does outside, it keeps all of that, in order.
 /// - journal: what a run by notes comes to that ends by itself and uses each of them is permitted with more workers than one.
 /// - some: so is what it comes to where nothing fails.
 /// - stored_sequential: where the sequential run is calm, a stored run that ends by itself comes to the same.
@@ -31,6 +32,7 @@ pub fn laws()
     ensures join { JoinLaw }
     ensures view { ViewLaw }
     ensures plain { PlainLaw }
+    ensures done { DoneLaw }
     ensures journal { JournalLaw }
     ensures some { SomeLaw }
     ensures stored_sequential { StoredSequentialLaw }

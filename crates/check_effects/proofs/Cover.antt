@@ -24,11 +24,11 @@ use Rattle.typed_tree.specs.declared.expressions.Sign.{Sign}
 use Rattle.typed_tree.specs.declared.expressions.Sign.TheVariants as sign
 use Rattle.typed_tree.specs.declared.expressions.Root.{Root}
 use Rattle.typed_tree.specs.declared.expressions.Run.{Run}
-use Rattle.typed_tree.specs.declared.expressions.Iterated.{Iterated}
 use Rattle.typed_tree.specs.declared.expressions.Reducer.{Reducer}
 use Rattle.typed_tree.specs.declared.expressions.Reducer.TheVariants.{Operator, Function}
 use Rattle.ada_meaning.specs.Values.{truth, bit, is_in, between, to_nat, count, base_of, unary, is_zero, divides, overflows, result, value_or_zero, defaults, image_of, handles_reason, is_chosen, without_zeros, layout, laid, zeros}
 use Rattle.ada_meaning.specs.Operations.{CheckKind, RangeCheck, IndexCheck, OverflowCheck, ZeroCheck, ByPlan, Sized, chunk_of, Operations, operate, reduce}
+use Rattle.ada_meaning.specs.Turns.{takes_turns}
 use Rattle.ada_meaning.specs.Meaning
 use Rattle.ada_meaning.specs.Meaning.{ObjectPart, Env, Course, Chunking, Back, Passed, Returned, outset, with_target, with_handled, inside, variable_root, constant_root, array_root, iterated_env, cut_of, value_cut_of, arms_of, exits, returns, raises, value_of, reason_of, has_handlers, sub_at, moved, object_layout, most_nested, most_threads, most_iterations, most_calls}
 use Rattle.typed_tree.specs.Syntax.{Expr, Static, Variable, Constant, Parameter, Target, Group, Unary, Binary, AndThen, OrElse, Relation, Membership, If, Call, Convert, Reduction, Optional, Absent, Present, Selections, Whole, Field, Index, Actuals, NoActual, In, InOut, Out, CompositeInOut, CompositeOut, Value, Number, Cells, Composite, WholeVariable, WholeConstant, WholeTarget, CompositeIf, Aggregate, Associations, NoAssociation, Association, Iteration, Range, Components, Chunk, NoChunk, Count, Each, Pieces, NoPiece, Text, Image, Padded, Decls, NoDecl, DeclareDefault, DeclareVariable, DeclareConstant, Mentions, Stmt, Null, Assign, CallProcedure, Exit, Return, ReturnValue, Raise, Reraise, IfThen, Case, Loop, For, ParallelFor, Parallel, Block, Put, Get, Stmts, End, Then, Alternatives, NoAlternative, Alternative, Arms, NoArm, Arm, Handlers, NoHandler, Handler, Body, Sub, Program}
@@ -178,9 +178,8 @@ module _ (program : Program) (fine : Construct → Type 0) where
     runs_length [] so_far f cs c = ap length (of_ret c)
     runs_length (run ∷ runs) so_far f cs c = let a = of_bind c in runs_length runs a.0 f cs a.2 ∙ run_length 0 run.count run.first run.stride so_far f a.0 a.1
 
-    iterated : (s : Scene) (i : Option Iterated) → Fine s (Meaning.iterated_turn ops i)
-    iterated s None = done s tt
-    iterated s (Some i) = turned s
+    value_turns : (s : Scene) (turns : Bool) → Fine s (Meaning.value_turn ops turns)
+    value_turns s turns = choose s turns (turned s) (done s tt)
 
     whiles : (s : Scene) (n : ℕ) {t : Behaviour Instance Bool} {b : Behaviour Instance (Unit {0})} → Fine s t → Fine s b → Fine s (Meaning.while_loop ops n t b)
     whiles s zero g h = spent_good program s.asks s.allowed
@@ -620,7 +619,7 @@ module _ (program : Program) (fine : Construct → Type 0) where
         associated_good : (a : Associations) (so_far : List ℤ) (s : Scene) → Has s (InAssociations program.subtypes s.roles a) → Fine s (Meaning.associated ops limit program calls a s.env so_far)
         associated_good NoAssociation so_far s k = done s so_far
         associated_good (Association runs i mentions value rest) so_far s k =
-            seq s (all_runs s runs so_far (λ n. seq s (iterated s i) (λ _ _. cells_good value (naming s (iterated_hidden i s.roles) (iterated_env i n s.env) (suits_iterated s.now s.roles s.env i n s.suits)) (part program fine (λ i h. inr (inl h)) k)))) (λ cs _.
+            seq s (all_runs s runs so_far (λ n. seq s (value_turns s (takes_turns runs i value)) (λ _ _. cells_good value (naming s (iterated_hidden i s.roles) (iterated_env i n s.env) (suits_iterated s.now s.roles s.env i n s.suits)) (part program fine (λ i h. inr (inl h)) k)))) (λ cs _.
             associated_good rest cs s (part program fine (λ i h. inr (inr h)) k))
 
         course_good : (it : Iteration) (s : Scene) → Has s (InCourse program.subtypes s.roles it) → Fine s (Meaning.course ops limit program calls it s.env)

@@ -11,6 +11,7 @@ use Rattle.ada_io.specs.Gets.{Last, Open, AtEnd, Broken, Gave, EndsHeld, ReaderS
 use Rattle.std.specs.Io.KnownBytes.{Appends, Consumes, IsAtEnd}
 use Rattle.ada_port.specs.declared.ports.Failed.{Failed}
 use Rattle.ada_port.specs.Ports.{Stream, IsTold, bytes_of, bytes_told, Puts}
+use Rattle.ada_meaning.specs.Deeds.{Deed}
 use Rattle.ada_meaning.specs.Stored.{State, Stored, Computes}
 use Rattle.run_store.specs.Outside.{Outside, Faults, HasGot, HasPut, GetCauses, Keeps, MayBe, Follows, Came, Leaves, put_of, opened}
 use Rattle.run_store.specs.Shows.{Image, Shows, Answers, Causes, outside_of, facing}
@@ -190,8 +191,8 @@ rest_of Open after more h none = tt
 rest_of AtEnd after more h none = none h
 rest_of Broken after more h none = tt
 
-pub get_shows : {Tells : List ℕ → Outside → Type 0} (limit left : ℕ) (s : Image) (o : Outside) (r : Got) → s.state.taken ≡ length s.state.input → s.state.turns + left ≡ limit → HasGot Tells left r (outside_of s) o → Shows Tells (got limit) (number_of r.end) s (read_to s r o)
-get_shows {Tells = Tells} limit left s o r counted e h = (causes_as r.end s.faults o.faults h.cause, h.keeps, λ w told. shown w (h.follows w told) h.came)
+pub get_shows : {Tells : List ℕ → Outside → Type 0} (limit left : ℕ) (s : Image) (o : Outside) (r : Got) → s.state.done ≡ None → s.state.taken ≡ length s.state.input → s.state.turns + left ≡ limit → HasGot Tells left r (outside_of s) o → Shows Tells (got limit) (number_of r.end) s (read_to s r o)
+get_shows {Tells = Tells} limit left s o r unkept counted e h = (causes_as r.end s.faults o.faults h.cause, h.keeps, λ w told. shown w (h.follows w told) h.came)
   where
     shown : (w : List ℕ) → Follows w o → Came left r (outside_of s) o → Answers (λ a. a) (got limit) (number_of r.end) (facing w s.state) (facing w (read_to s r o).state)
     shown w f c =
@@ -202,7 +203,8 @@ get_shows {Tells = Tells} limit left s o r counted e h = (causes_as r.end s.faul
         let over : drop (length o.came) w ≡ f.more = ap (drop (length o.came)) f.whole ∙ drop-append_seam o.came f.more in
         let taken : s.state.taken + r.came ≡ length o.came = ap (λ n. n + r.came) counted ∙ ap (λ n. length s.state.input + n) g.came ∙ sym (length-append s.state.input g.bytes) ∙ ap length (sym g.log) in
         let ends : IsRest 0 (cuts_of One) (last_of r.end g.ended) f.more = rest_of (last_of r.end g.ended) o.held f.more g.ends f.none in
-        let c = stored_get limit (cuts_of One) c.old c.new before after left r g (facing w s.state) f.more refl e front ends in
+        let c = stored_get limit (cuts_of One) c.old c.new before after left r g (facing w s.state) f.more unkept refl e front ends in
+        let c = subst (λ (o' : Option (List Deed)). Computes (got limit) (facing w s.state) (end_of 0 (cuts_of One) r.end) (record (s.state) { held = o.held; input = f.more; turns = s.state.turns + r.took; taken = s.state.taken + r.came; done = o' })) (sym unkept) c in
         let d = subst (λ bs. Computes (got limit) (facing w s.state) (end_of 0 (cuts_of One) r.end) (record (s.state) { held = o.held; input = f.more; turns = s.state.turns + r.took; taken = s.state.taken + r.came; output = bs })) (sym h.put) c in
         let d = subst (λ bs. Computes (got limit) (facing w s.state) (end_of 0 (cuts_of One) r.end) (record (s.state) { held = o.held; input = bs; turns = s.state.turns + r.took; taken = s.state.taken + r.came; output = o.put })) (sym over) d in
         let d = subst (λ n. Computes (got limit) (facing w s.state) (end_of 0 (cuts_of One) r.end) (record (s.state) { held = o.held; input = drop (length o.came) w; turns = s.state.turns + r.took; taken = n; output = o.put })) taken d in

@@ -1,5 +1,5 @@
 -- A Get of the plain reading is the one of a stored run.
-use Rattle.std.proofs.Common.{◌≡◌, ℕ, zero, suc, ◌+◌, ◌-◌, ◌≤◌, nat_lt, List, [], ◌∷◌, ◌++◌, Result, Ok, Err, true, false, ℤ, refl, sym, ap, subst, ◌∙◌, inl, inr, arith}
+use Rattle.std.proofs.Common.{◌≡◌, ℕ, zero, suc, ◌+◌, ◌-◌, ◌≤◌, nat_lt, List, [], ◌∷◌, ◌++◌, Option, None, Result, Ok, Err, true, false, ℤ, refl, sym, ap, subst, ◌∙◌, inl, inr, arith}
 use Rattle.std.proofs.lemmas.Bool.{lt-ltb, lt-leb}
 use Rattle.std.proofs.lemmas.List.{append-nil}
 use Rattle.ada_base.specs.Input.{Held}
@@ -8,6 +8,7 @@ use Rattle.ada_base.proofs.Readings
 use Rattle.ada_base.proofs.Readings.{Relates}
 use Rattle.behaviours.specs.Paths.{Raises}
 use Rattle.ada_meaning.specs.Meaning
+use Rattle.ada_meaning.specs.Deeds.{Deed}
 use Rattle.ada_meaning.specs.Stored
 use Rattle.ada_meaning.specs.Stored.{State, Stored, Left, OutOfTurns, InputFault, Goes, Fails, Stops, next_halts, Computes}
 use Rattle.ada_io.specs.declared.input.GetEnd.{GetEnd}
@@ -26,9 +27,9 @@ bytes_of End later = []
 bytes_of Fault later = later
 
 module _ (limit : ℕ) (cuts : ℕ → ℕ → List ℕ) where
-  -- the state of a stored run in which a plain one is read
+  -- the state of a stored run, which doesn't keep what it does outside, in which a plain one is read
   abbrev pub around : State → List ℕ → Plain.State → State
-  around base later p = record base { held = p.held; input = bytes_of p.feed later; turns = limit - p.turns; taken = p.taken }
+  around base later p = record base { held = p.held; input = bytes_of p.feed later; turns = limit - p.turns; taken = p.taken; done = None }
 
   abbrev Ends : {A : Type 0} → Stored A → State → Result A Plain.Stop → State → Type 0
   Ends q s (Ok a) t = q.does s ≡ Stored.at t (Ok a)
@@ -90,7 +91,7 @@ module _ (limit : ℕ) (cuts : ℕ → ℕ → List ℕ) where
   turn_same base later p n e h =
       let yes : nat_lt (limit - p.turns) limit ≡ true = lt-ltb (limit - p.turns) limit (omega arith) in
       let one : limit - p.turns + 1 ≡ limit - n = omega arith in
-      rw yes (ap (λ k. Stored.at (record base { held = p.held; input = bytes_of p.feed later; turns = k; taken = p.taken }) (Ok tt)) one)
+      rw yes (ap (λ k. Stored.at (record base { held = p.held; input = bytes_of p.feed later; turns = k; taken = p.taken; done = None }) (Ok tt)) one)
 
   spent_same : (base : State) (later : List ℕ) (p : Plain.State) → p.turns ≡ 0 → (Stored.turn limit).does (around base later p) ≡ Stored.at (around base later p) (Err OutOfTurns)
   unfolding Stored.turn
@@ -168,18 +169,18 @@ module _ (limit : ℕ) (cuts : ℕ → ℕ → List ℕ) where
   rest_bytes AtEnd later = bytes-append later End later ∙ append-nil later
   rest_bytes Broken later = refl
 
-  abbrev put : State → Held → List ℕ → ℕ → ℕ → State
-  put s h bytes turns taken = record s { held = h; input = bytes; turns = turns; taken = taken }
+  abbrev pub put : State → Held → List ℕ → ℕ → ℕ → State
+  put s h bytes turns taken = record s { held = h; input = bytes; turns = turns; taken = taken; done = None }
 
   put_same : (s : State) (h k : Held) (bs cs : List ℕ) (m n taken : ℕ) → h ≡ k → bs ≡ cs → m ≡ n → put s h bs m taken ≡ put s k cs n taken
   put_same s h k bs cs m n taken d e f = ap (λ x. put s x bs m taken) d ∙ ap (λ x. put s k x m taken) e ∙ ap (λ x. put s k cs x taken) f
 
   -- the law: what the code's Get gives is what the stored run's does
-  pub stored_get : (old new : Stream) (before after : ReaderState) (turns : ℕ) (result : Got) (g : Gets old new before after turns result) (s : State) (later : List ℕ) → s.held ≡ before.held → s.turns + turns ≡ limit
+  pub stored_get : (old new : Stream) (before after : ReaderState) (turns : ℕ) (result : Got) (g : Gets old new before after turns result) (s : State) (later : List ℕ) → s.done ≡ None → s.held ≡ before.held → s.turns + turns ≡ limit
       → s.input ≡ g.bytes ++ later → IsRest (last_of result.end g.ended) later
       → Computes (Meaning.got (Stored.operations limit cuts) limit) s (end_of result.end)
-      (record s { held = after.held; input = later; turns = s.turns + result.took; taken = s.taken + result.came })
-  stored_get old new before after turns result g s later e f i r =
+      (put s after.held later (s.turns + result.took) (s.taken + result.came))
+  stored_get old new before after turns result g s later d e f i r =
       let q = Meaning.got (Stored.operations limit cuts) limit in
       let last = last_of result.end g.ended in
       let more = more_of last later in
@@ -188,7 +189,7 @@ module _ (limit : ℕ) (cuts : ℕ → ℕ → List ℕ) where
       let whole = enough limit p within ∙ g.same more (follows last later r) s.taken in
       let ends = got_same.same s later p within in
       let moved = subst (λ (x : Plain.After ℤ). Ends q (around s later p) x.answer (around s later x.state)) whole ends in
-      let begun : around s later p ≡ s = put_same s before.held s.held _ s.input _ s.turns s.taken (sym e) (bytes-append g.bytes more later ∙ ap (λ bs. g.bytes ++ bs) (rest_bytes last later) ∙ sym i) (omega arith) in
+      let begun : around s later p ≡ s = put_same s before.held s.held _ s.input _ s.turns s.taken (sym e) (bytes-append g.bytes more later ∙ ap (λ bs. g.bytes ++ bs) (rest_bytes last later) ∙ sym i) (omega arith) ∙ ap (λ (o : Option (List Deed)). record s { done = o }) (sym d) in
       let few : result.took ≤ turns = g.within in
       let over : around s later (plainly after.held more (turns - result.took) (s.taken + result.came)) ≡ put s after.held later (s.turns + result.took) (s.taken + result.came) = put_same s after.held after.held _ later _ _ _ refl (rest_bytes last later) (omega arith) in
       computed q s (put s after.held later (s.turns + result.took) (s.taken + result.came)) result.end

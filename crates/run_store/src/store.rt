@@ -40,7 +40,7 @@ impl<P: Port + Drop> Model for Store<P> {
 
     ghost Value = { Image };
 
-    ghost view = { λ s. record { state = record { cells = s.cells; kept = s.kept; here = s.here; everywhere = s.everywhere; frame = s.frame; turns = s.turns; taken = length (P.outside s.port).came; held = (P.outside s.port).held; input = (P.outside s.port).came; output = (P.outside s.port).put; declared = s.declared; left = None; notes = InOrder }; coming = (P.outside s.port).coming; faults = (P.outside s.port).faults } };
+    ghost view = { λ s. record { state = record { cells = s.cells; kept = s.kept; here = s.here; everywhere = s.everywhere; frame = s.frame; turns = s.turns; taken = length (P.outside s.port).came; held = (P.outside s.port).held; input = (P.outside s.port).came; output = (P.outside s.port).put; declared = s.declared; left = None; notes = InOrder; done = None }; coming = (P.outside s.port).coming; faults = (P.outside s.port).faults } };
 }
 
 /// The slot at a key, or none.

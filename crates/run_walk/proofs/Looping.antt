@@ -97,27 +97,27 @@ while_begins {Tells = Tells} s w d e ss env = let q : suc w.limit - 0 ≡ suc w.
 
 -- ---- components of an aggregate
 
-module _ {Tells : List ℕ → Outside → Type 0} (whole : Stored (List ℤ)) (s t u : Image) (w : Work) (d k n first stride : ℕ) (iterated : Option Iterated) (v : Value) (env : Env) (cells : List ℤ) (lt : k < n) (g : Goes Tells whole s (walk.run_values w d k (n - k) first stride iterated v env cells) t) where
-  run_more : Goes Tells whole s (bind (walk.given w d iterated k v env) (λ cs. walk.run_values w d (k + 1) (n - (k + 1)) (first + stride) stride iterated v env (laid cells first cs))) t
+module _ {Tells : List ℕ → Outside → Type 0} (whole : Stored (List ℤ)) (s t u : Image) (w : Work) (d k n first stride : ℕ) (turns : Bool) (iterated : Option Iterated) (v : Value) (env : Env) (cells : List ℤ) (lt : k < n) (g : Goes Tells whole s (walk.run_values w d k (n - k) first stride turns iterated v env cells) t) where
+  run_more : Goes Tells whole s (bind (walk.given w d turns iterated k v env) (λ cs. walk.run_values w d (k + 1) (n - (k + 1)) (first + stride) stride turns iterated v env (laid cells first cs))) t
   unfolding walk.run_values
-  run_more = let e : n - k ≡ suc (n - (k + 1)) = omega arith in subst (λ z. Goes Tells whole s (walk.run_values w d k z first stride iterated v env cells) t) e g
+  run_more = let e : n - k ≡ suc (n - (k + 1)) = omega arith in subst (λ z. Goes Tells whole s (walk.run_values w d k z first stride turns iterated v env cells) t) e g
 
-  pub run_step : (cs more : List ℤ) (next : ℕ) → Shows Tells (walk.given w d iterated k v env) (Ok cs) t u → more ≡ laid cells first cs → next ≡ first + stride → Goes Tells whole s (walk.run_values w d (k + 1) (n - (k + 1)) next stride iterated v env more) u
+  pub run_step : (cs more : List ℤ) (next : ℕ) → Shows Tells (walk.given w d turns iterated k v env) (Ok cs) t u → more ≡ laid cells first cs → next ≡ first + stride → Goes Tells whole s (walk.run_values w d (k + 1) (n - (k + 1)) next stride turns iterated v env more) u
   run_step cs more next h p q =
-      subst (λ z. Goes Tells whole s (walk.run_values w d (k + 1) (n - (k + 1)) z stride iterated v env more) u) (sym q) (subst (λ z. Goes Tells whole s (walk.run_values w d (k + 1) (n - (k + 1)) (first + stride) stride iterated v env z) u) (sym p)
-      (goes_then (λ a. a) (λ a. a) whole (walk.given w d iterated k v env) (λ cs. walk.run_values w d (k + 1) (n - (k + 1)) (first + stride) stride iterated v env (laid cells first cs)) s t u cs run_more h))
+      subst (λ z. Goes Tells whole s (walk.run_values w d (k + 1) (n - (k + 1)) z stride turns iterated v env more) u) (sym q) (subst (λ z. Goes Tells whole s (walk.run_values w d (k + 1) (n - (k + 1)) (first + stride) stride turns iterated v env z) u) (sym p)
+      (goes_then (λ a. a) (λ a. a) whole (walk.given w d turns iterated k v env) (λ cs. walk.run_values w d (k + 1) (n - (k + 1)) (first + stride) stride turns iterated v env (laid cells first cs)) s t u cs run_more h))
 
-  pub run_ends : (e : ends.End) (r : Result (List ℤ) ends.End) → r ≡ Err e → Shows Tells (walk.given w d iterated k v env) (Err e) t u → Shows Tells whole r s u
+  pub run_ends : (e : ends.End) (r : Result (List ℤ) ends.End) → r ≡ Err e → Shows Tells (walk.given w d turns iterated k v env) (Err e) t u → Shows Tells whole r s u
   run_ends e r q h =
-      subst (λ z. Shows Tells whole z s u) (sym q) (goes_ends (λ a. a) (λ a. a) whole (walk.given w d iterated k v env) (λ cs. walk.run_values w d (k + 1) (n - (k + 1)) (first + stride) stride iterated v env (laid cells first cs)) s t u e run_more h)
+      subst (λ z. Shows Tells whole z s u) (sym q) (goes_ends (λ a. a) (λ a. a) whole (walk.given w d turns iterated k v env) (λ cs. walk.run_values w d (k + 1) (n - (k + 1)) (first + stride) stride turns iterated v env (laid cells first cs)) s t u e run_more h)
 
-pub run_begins : {Tells : List ℕ → Outside → Type 0} (s : Image) (w : Work) (d n first stride : ℕ) (iterated : Option Iterated) (v : Value) (env : Env) (out : List ℤ) → Goes Tells (walk.run_values w d 0 n first stride iterated v env out) s (walk.run_values w d 0 (n - 0) first stride iterated v env out) s
-run_begins {Tells = Tells} s w d n first stride iterated v env out = let q : n - 0 ≡ n = omega arith in subst (λ z. Goes Tells (walk.run_values w d 0 n first stride iterated v env out) s (walk.run_values w d 0 z first stride iterated v env out) s) (sym q) (goes_refl _ s)
+pub run_begins : {Tells : List ℕ → Outside → Type 0} (s : Image) (w : Work) (d n first stride : ℕ) (turns : Bool) (iterated : Option Iterated) (v : Value) (env : Env) (out : List ℤ) → Goes Tells (walk.run_values w d 0 n first stride turns iterated v env out) s (walk.run_values w d 0 (n - 0) first stride turns iterated v env out) s
+run_begins {Tells = Tells} s w d n first stride turns iterated v env out = let q : n - 0 ≡ n = omega arith in subst (λ z. Goes Tells (walk.run_values w d 0 n first stride turns iterated v env out) s (walk.run_values w d 0 z first stride turns iterated v env out) s) (sym q) (goes_refl _ s)
 
-pub run_done : {Tells : List ℕ → Outside → Type 0} (whole : Stored (List ℤ)) (s t : Image) (w : Work) (d k n first stride : ℕ) (iterated : Option Iterated) (v : Value) (env : Env) (cells : List ℤ) → n ≤ k → Goes Tells whole s (walk.run_values w d k (n - k) first stride iterated v env cells) t → Shows Tells whole (Ok cells) s t
+pub run_done : {Tells : List ℕ → Outside → Type 0} (whole : Stored (List ℤ)) (s t : Image) (w : Work) (d k n first stride : ℕ) (turns : Bool) (iterated : Option Iterated) (v : Value) (env : Env) (cells : List ℤ) → n ≤ k → Goes Tells whole s (walk.run_values w d k (n - k) first stride turns iterated v env cells) t → Shows Tells whole (Ok cells) s t
 unfolding walk.run_values
-run_done {Tells = Tells} whole s t w d k n first stride iterated v env cells le g =
-    let e : n - k ≡ 0 = omega arith in goes_gives (λ a. a) whole cells s t (subst (λ z. Goes Tells whole s (walk.run_values w d k z first stride iterated v env cells) t) e g)
+run_done {Tells = Tells} whole s t w d k n first stride turns iterated v env cells le g =
+    let e : n - k ≡ 0 = omega arith in goes_gives (λ a. a) whole cells s t (subst (λ z. Goes Tells whole s (walk.run_values w d k z first stride turns iterated v env cells) t) e g)
 
 -- ---- ways to be left
 

@@ -25,6 +25,7 @@ use Rattle.ada_meaning.specs.Values.{truth, bit, compares, between, to_nat, is_i
 use Rattle.ada_meaning.specs.Operations.{IndexCheck, RangeCheck, Sized, operate, reduce}
 use Rattle.ada_meaning.specs.Meaning as meaning
 use Rattle.ada_meaning.specs.Meaning.{Env, ObjectPart, Passed, Returned, Back, Course, Chunking, inside, variable_root, constant_root, moved, with_target, iterated_env, outset, returns, exits, value_of, sub_at}
+use Rattle.ada_meaning.specs.Turns.{takes_turns}
 use Rattle.ada_meaning.specs.Stored
 use Rattle.ada_meaning.specs.Stored.{Stored, Took, thread, par, first_of_both, after_all, doings, bind, ret, leaves, handles, apart, reads, writes, checks, puts}
 use Rattle.ada_base.specs.Image.{padded}
@@ -170,15 +171,22 @@ module _ (w : Work) (d : ℕ) where
   abbrev pub composite_if : Expr → Composite → Composite → Env → Stored (List ℤ)
   composite_if c e f env = bind (eval w d c env) (λ x. cond (truth x) (composite w d e env) (composite w d f env))
 
-  -- the cells of one component of an association
-  abbrev pub given : Option Iterated → ℕ → Value → Env → Stored (List ℤ)
-  given iterated k v env = bind (meaning.iterated_turn (ops w) iterated) (λ _. cells w d v (iterated_env iterated k env))
+  -- the cells of one component of an association, with its turn and without
+  abbrev pub placed_value : Option Iterated → ℕ → Value → Env → Stored (List ℤ)
+  placed_value iterated k v env = cells w d v (iterated_env iterated k env)
 
-  unfoldable pub run_values : ℕ → ℕ → ℕ → ℕ → Option Iterated → Value → Env → List ℤ → Stored (List ℤ)
-  run_values k n first stride iterated v env so_far = meaning.run_values (ops w) k n first stride (λ k. given iterated k v env) so_far
+  abbrev pub given : Bool → Option Iterated → ℕ → Value → Env → Stored (List ℤ)
+  given turns iterated k v env = bind (meaning.value_turn (ops w) turns) (λ _. placed_value iterated k v env)
 
-  unfoldable pub runs_values : List Run → Option Iterated → Value → Env → List ℤ → Stored (List ℤ)
-  runs_values rs iterated v env so_far = meaning.runs_values (ops w) rs (λ k. given iterated k v env) so_far
+  unfoldable pub run_values : ℕ → ℕ → ℕ → ℕ → Bool → Option Iterated → Value → Env → List ℤ → Stored (List ℤ)
+  run_values k n first stride turns iterated v env so_far = meaning.run_values (ops w) k n first stride (λ k. given turns iterated k v env) so_far
+
+  unfoldable pub runs_values : List Run → Bool → Option Iterated → Value → Env → List ℤ → Stored (List ℤ)
+  runs_values rs turns iterated v env so_far = meaning.runs_values (ops w) rs (λ k. given turns iterated k v env) so_far
+
+  -- the cells of the components of an association
+  unfoldable pub association_values : List Run → Option Iterated → Value → Env → List ℤ → Stored (List ℤ)
+  association_values rs iterated v env so_far = runs_values rs (takes_turns rs iterated v) iterated v env so_far
 
   -- ---- actual parameters, each evaluated, read and checked
 

@@ -10,9 +10,10 @@ ghost use Rattle.run_parts.specs.Words.{nodes_of};
 use crate::exprs::eval;
 use crate::names::select;
 use ada_base::{Items, Reason};
+use ada_meaning::takes_turns;
 use run_parts::{Cells, Work, further, lay, one, placed, read_whole, turned, write_all, zeros};
 use run_store::{End, Env, Leave, Object, ObjectPart, Port, Store, is_in, is_true};
-use typed_tree::{Check, Composite, Iterated, Leaf, Root, Run, Value};
+use typed_tree::{Association, Check, Composite, Iterated, Leaf, Root, Run, Value};
 
 /// The cells of what is stored.
 #[cycle(walk)]
@@ -214,7 +215,7 @@ fn composite_else<P: Port + Drop>(
 /// The components that associations give, from left to right, laid over cells (4.3).
 #[cycle(walk)]
 #[inline(never)]
-#[tactic(auto, unfolding(ada_meaning::specs::Stored::bind, ada_meaning::specs::Stored::ret, ada_meaning::specs::Stored::leaves, ada_meaning::specs::Stored::spent, ada_meaning::specs::Stored::handles, crate::specs::Walk::associated, crate::specs::Walk::runs_values, crate::specs::Walk::cells))]
+#[tactic(auto, unfolding(ada_meaning::specs::Stored::bind, ada_meaning::specs::Stored::ret, ada_meaning::specs::Stored::leaves, ada_meaning::specs::Stored::spent, ada_meaning::specs::Stored::handles, crate::specs::Walk::associated, crate::specs::Walk::association_values, crate::specs::Walk::runs_values, crate::specs::Walk::cells))]
 fn associated<P: Port + Drop>(
     work: &Work<'_>,
     calls: u32,
@@ -233,21 +234,35 @@ fn associated<P: Port + Drop>(
                 Ok(all)
             }
             Some(association) => {
-                let more = runs_values(
-                    work,
-                    calls,
-                    association.runs,
-                    association.iterated,
-                    association.value,
-                    env,
-                    out,
-                    store,
-                )?;
+                let more = association_values(work, calls, association, env, out, store)?;
                 let all = associated_rest(work, calls, cell.rest, env, more, store)?;
                 Ok(all)
             }
         },
     }
+}
+
+// the components that one association gives
+#[cycle(walk)]
+#[inline(never)]
+#[tactic(auto, unfolding(crate::specs::Walk::association_values))]
+fn association_values<P: Port + Drop>(
+    work: &Work<'_>,
+    calls: u32,
+    association: Association,
+    env: &Env<'_>,
+    out: Items<i64>,
+    store: &mut Store<P>,
+) -> Result<Items<i64>, End>
+    ensures { Shows P.Tells (spec.association_values work.now calls (runs_in (leaves_at (nodes_of work.now) association.runs)) association.iterated (value_at (nodes_of work.now) association.value) (env_of env.now) out) result store.old store.new }
+{
+    let turns = takes_turns(&work.typed.nodes, association);
+    let each = PerComponent {
+        turns,
+        iterated: association.iterated,
+        value: association.value,
+    };
+    runs_values(work, calls, association.runs, each, env, out, store)
 }
 
 // the components of the associations behind one, one frame deeper
@@ -268,6 +283,14 @@ fn associated_rest<P: Port + Drop>(
     all
 }
 
+/// How a component of an association gets its value (4.3.3): whether that takes a turn, the parameter, and the value.
+#[derive(Clone, Copy)]
+struct PerComponent {
+    turns: bool,
+    iterated: Option<Iterated>,
+    value: u32,
+}
+
 #[cycle(walk)]
 #[inline(never)]
 #[tactic(auto, unfolding(ada_meaning::specs::Stored::bind, ada_meaning::specs::Stored::ret, ada_meaning::specs::Stored::leaves, ada_meaning::specs::Stored::spent, ada_meaning::specs::Stored::handles, crate::specs::Walk::runs_values, crate::specs::Walk::run_values))]
@@ -275,24 +298,23 @@ fn runs_values<P: Port + Drop>(
     work: &Work<'_>,
     calls: u32,
     runs: u32,
-    iterated: Option<Iterated>,
-    value: u32,
+    each: PerComponent,
     env: &Env<'_>,
     out: Items<i64>,
     store: &mut Store<P>,
 ) -> Result<Items<i64>, End>
-    ensures { Shows P.Tells (spec.runs_values work.now calls (runs_in (leaves_at (nodes_of work.now) runs)) iterated (value_at (nodes_of work.now) value) (env_of env.now) out) result store.old store.new }
+    ensures { Shows P.Tells (spec.runs_values work.now calls (runs_in (leaves_at (nodes_of work.now) runs)) each.turns each.iterated (value_at (nodes_of work.now) each.value) (env_of env.now) out) result store.old store.new }
 {
     match work.typed.nodes.leaf(runs) {
         None => Ok(out),
         Some(cell) => match cell.leaf {
             Leaf::Run(run) => {
-                let more = run_values(work, calls, run, iterated, value, env, out, store)?;
-                let all = runs_rest(work, calls, cell.rest, iterated, value, env, more, store)?;
+                let more = run_values(work, calls, run, each, env, out, store)?;
+                let all = runs_rest(work, calls, cell.rest, each, env, more, store)?;
                 Ok(all)
             }
             _ => {
-                let all = runs_rest(work, calls, cell.rest, iterated, value, env, out, store)?;
+                let all = runs_rest(work, calls, cell.rest, each, env, out, store)?;
                 Ok(all)
             }
         },
@@ -305,16 +327,15 @@ fn runs_rest<P: Port + Drop>(
     work: &Work<'_>,
     calls: u32,
     runs: u32,
-    iterated: Option<Iterated>,
-    value: u32,
+    each: PerComponent,
     env: &Env<'_>,
     out: Items<i64>,
     store: &mut Store<P>,
 ) -> Result<Items<i64>, End>
-    ensures { Shows P.Tells (spec.runs_values work.now calls (runs_in (leaves_at (nodes_of work.now) runs)) iterated (value_at (nodes_of work.now) value) (env_of env.now) out) result store.old store.new }
+    ensures { Shows P.Tells (spec.runs_values work.now calls (runs_in (leaves_at (nodes_of work.now) runs)) each.turns each.iterated (value_at (nodes_of work.now) each.value) (env_of env.now) out) result store.old store.new }
 {
     store.take_room()?;
-    let all = runs_values(work, calls, runs, iterated, value, env, out, store);
+    let all = runs_values(work, calls, runs, each, env, out, store);
     store.give_room();
     all
 }
@@ -325,18 +346,17 @@ fn run_values<P: Port + Drop>(
     work: &Work<'_>,
     calls: u32,
     run: Run,
-    iterated: Option<Iterated>,
-    value: u32,
+    each: PerComponent,
     env: &Env<'_>,
     out: Items<i64>,
     store: &mut Store<P>,
 ) -> Result<Items<i64>, End>
-    ensures { Shows P.Tells (spec.run_values work.now calls 0 run.count run.first run.stride iterated (value_at (nodes_of work.now) value) (env_of env.now) out) result store.old store.new }
+    ensures { Shows P.Tells (spec.run_values work.now calls 0 run.count run.first run.stride each.turns each.iterated (value_at (nodes_of work.now) each.value) (env_of env.now) out) result store.old store.new }
 {
     let mut cells = out;
     let mut first = run.first as u64;
     for k in 0..run.count as u64 {
-        let values = given(work, calls, iterated, k, value, env, store)?;
+        let values = given(work, calls, each, k, env, store)?;
         lay(&mut cells, first, values.as_slice());
         first = further(first, run.stride)?;
     }
@@ -350,28 +370,49 @@ fn run_values<P: Port + Drop>(
 fn given<P: Port + Drop>(
     work: &Work<'_>,
     calls: u32,
-    iterated: Option<Iterated>,
+    each: PerComponent,
     index: u64,
-    value: u32,
     env: &Env<'_>,
     store: &mut Store<P>,
 ) -> Result<Cells, End>
-    ensures { Shows P.Tells (spec.given work.now calls iterated index (value_at (nodes_of work.now) value) (env_of env.now)) result store.old store.new }
+    ensures { Shows P.Tells (spec.given work.now calls each.turns each.iterated index (value_at (nodes_of work.now) each.value) (env_of env.now)) result store.old store.new }
 {
-    match iterated {
+    if each.turns {
+        turned(work, store)?;
+        let values = placed_value(work, calls, each, index, env, store)?;
+        Ok(values)
+    } else {
+        let values = placed_value(work, calls, each, index, env, store)?;
+        Ok(values)
+    }
+}
+
+// the same where the turn has been taken
+#[cycle(walk)]
+#[inline(never)]
+fn placed_value<P: Port + Drop>(
+    work: &Work<'_>,
+    calls: u32,
+    each: PerComponent,
+    index: u64,
+    env: &Env<'_>,
+    store: &mut Store<P>,
+) -> Result<Cells, End>
+    ensures { Shows P.Tells (spec.placed_value work.now calls each.iterated index (value_at (nodes_of work.now) each.value) (env_of env.now)) result store.old store.new }
+{
+    match each.iterated {
         None => {
-            let values = cells(work, calls, value, env, store)?;
+            let values = cells(work, calls, each.value, env, store)?;
             Ok(values)
         }
         Some(iterated) => {
-            turned(work, store)?;
             let place = placed(iterated.first, index)?;
             let inner = Env::Parameter {
                 number: iterated.parameter,
                 value: place,
                 outer: &*env,
             };
-            let values = cells(work, calls, value, &inner, store)?;
+            let values = cells(work, calls, each.value, &inner, store)?;
             Ok(values)
         }
     }

@@ -36,3 +36,6 @@ returns-clause-planned_adds c = LoopsComputed.planned_adds
 
 pub returns-clause-all_raise : goal.returns-clause-all_raise
 returns-clause-all_raise c = LoopsComputed.all_raise
+
+pub returns-clause-filled : goal.returns-clause-filled
+returns-clause-filled c = LoopsComputed.filled

@@ -110,19 +110,19 @@ pub stmts::chosen-returns-in_ok-exec_all-in-Some : goal.stmts::chosen-returns-in
 stmts::chosen-returns-in_ok-exec_all-in-Some g t c = chosen_some c.args.work.now c.args.calls (env_of c.args.env.now) (expr_at (nodes_of c.args.work.now) c.args.value) (alternatives_at (nodes_of c.args.work.now) c.args.alternatives) c.in_ok-v.v c.args.store.now c.eval.new.store c.in_ok-v.ensures (stmts_at (nodes_of c.args.work.now) c.in-Some.stmts) (Ok tt) c.exec_all.new.store (search rules) (search rules)
 
 pub values::run_values-loop-k-init : goal.values::run_values-loop-k-init
-values::run_values-loop-k-init g t c = run_begins c.args.store.now c.args.work.now c.args.calls c.args.run.count c.args.run.first c.args.run.stride c.args.iterated (value_at (nodes_of c.args.work.now) c.args.value) (env_of c.args.env.now) c.args.out
+values::run_values-loop-k-init g t c = run_begins c.args.store.now c.args.work.now c.args.calls c.args.run.count c.args.run.first c.args.run.stride c.args.each.turns c.args.each.iterated (value_at (nodes_of c.args.work.now) c.args.each.value) (env_of c.args.env.now) c.args.out
 
 pub values::run_values-returns-in_err-values : goal.values::run_values-returns-in_err-values
-values::run_values-returns-in_err-values g t c = run_ends (run_values c.args.work.now c.args.calls 0 c.args.run.count c.args.run.first c.args.run.stride c.args.iterated (value_at (nodes_of c.args.work.now) c.args.value) (env_of c.args.env.now) c.args.out) c.args.store.now c.loop-k.store c.given.new.store c.args.work.now c.args.calls c.loop-k.k c.args.run.count c.loop-k.first c.args.run.stride c.args.iterated (value_at (nodes_of c.args.work.now) c.args.value) (env_of c.args.env.now) c.loop-k.cells (omega arith) c.loop-k.invariant c.in_err-values.field-0.0 _ (search rules) c.in_err-values.ensures
+values::run_values-returns-in_err-values g t c = run_ends (run_values c.args.work.now c.args.calls 0 c.args.run.count c.args.run.first c.args.run.stride c.args.each.turns c.args.each.iterated (value_at (nodes_of c.args.work.now) c.args.each.value) (env_of c.args.env.now) c.args.out) c.args.store.now c.loop-k.store c.given.new.store c.args.work.now c.args.calls c.loop-k.k c.args.run.count c.loop-k.first c.args.run.stride c.args.each.turns c.args.each.iterated (value_at (nodes_of c.args.work.now) c.args.each.value) (env_of c.args.env.now) c.loop-k.cells (omega arith) c.loop-k.invariant c.in_err-values.field-0.0 _ (search rules) c.in_err-values.ensures
 
 pub values::run_values-loop-k-preserved : goal.values::run_values-loop-k-preserved
-values::run_values-loop-k-preserved g t c = run_step (run_values c.args.work.now c.args.calls 0 c.args.run.count c.args.run.first c.args.run.stride c.args.iterated (value_at (nodes_of c.args.work.now) c.args.value) (env_of c.args.env.now) c.args.out) c.args.store.now c.loop-k.store c.given.new.store c.args.work.now c.args.calls c.loop-k.k c.args.run.count c.loop-k.first c.args.run.stride c.args.iterated (value_at (nodes_of c.args.work.now) c.args.value) (env_of c.args.env.now) c.loop-k.cells (omega arith) c.loop-k.invariant c.in_ok-values.values c.lay.new.out c.in_ok-first.first c.in_ok-values.ensures (search rules) (search rules)
+values::run_values-loop-k-preserved g t c = run_step (run_values c.args.work.now c.args.calls 0 c.args.run.count c.args.run.first c.args.run.stride c.args.each.turns c.args.each.iterated (value_at (nodes_of c.args.work.now) c.args.each.value) (env_of c.args.env.now) c.args.out) c.args.store.now c.loop-k.store c.given.new.store c.args.work.now c.args.calls c.loop-k.k c.args.run.count c.loop-k.first c.args.run.stride c.args.each.turns c.args.each.iterated (value_at (nodes_of c.args.work.now) c.args.each.value) (env_of c.args.env.now) c.loop-k.cells (omega arith) c.loop-k.invariant c.in_ok-values.values c.lay.new.out c.in_ok-first.first c.in_ok-values.ensures (search rules) (search rules)
 
 pub values::run_values-returns : goal.values::run_values-returns
-values::run_values-returns g t c = run_done (run_values c.args.work.now c.args.calls 0 c.args.run.count c.args.run.first c.args.run.stride c.args.iterated (value_at (nodes_of c.args.work.now) c.args.value) (env_of c.args.env.now) c.args.out) c.args.store.now c.loop-k.store c.args.work.now c.args.calls c.loop-k.k c.args.run.count c.loop-k.first c.args.run.stride c.args.iterated (value_at (nodes_of c.args.work.now) c.args.value) (env_of c.args.env.now) c.loop-k.cells (omega arith) c.loop-k.invariant
+values::run_values-returns g t c = run_done (run_values c.args.work.now c.args.calls 0 c.args.run.count c.args.run.first c.args.run.stride c.args.each.turns c.args.each.iterated (value_at (nodes_of c.args.work.now) c.args.each.value) (env_of c.args.env.now) c.args.out) c.args.store.now c.loop-k.store c.args.work.now c.args.calls c.loop-k.k c.args.run.count c.loop-k.first c.args.run.stride c.args.each.turns c.args.each.iterated (value_at (nodes_of c.args.work.now) c.args.each.value) (env_of c.args.env.now) c.loop-k.cells (omega arith) c.loop-k.invariant
 
 pub values::run_values-returns-in_err-first : goal.values::run_values-returns-in_err-first
-values::run_values-returns-in_err-first g t c = next_fails (λ next. next ≡ c.loop-k.first + c.args.run.stride) (run_values c.args.work.now c.args.calls 0 c.args.run.count c.args.run.first c.args.run.stride c.args.iterated (value_at (nodes_of c.args.work.now) c.args.value) (env_of c.args.env.now) c.args.out) (run_values c.args.work.now c.args.calls (c.loop-k.k + 1) (c.args.run.count - (c.loop-k.k + 1)) (c.loop-k.first + c.args.run.stride) c.args.run.stride c.args.iterated (value_at (nodes_of c.args.work.now) c.args.value) (env_of c.args.env.now) c.lay.new.out) c.args.store.now c.given.new.store _ c.in_err-first.field-0.0 (search rules) c.in_err-first.ensures (run_step (run_values c.args.work.now c.args.calls 0 c.args.run.count c.args.run.first c.args.run.stride c.args.iterated (value_at (nodes_of c.args.work.now) c.args.value) (env_of c.args.env.now) c.args.out) c.args.store.now c.loop-k.store c.given.new.store c.args.work.now c.args.calls c.loop-k.k c.args.run.count c.loop-k.first c.args.run.stride c.args.iterated (value_at (nodes_of c.args.work.now) c.args.value) (env_of c.args.env.now) c.loop-k.cells (omega arith) c.loop-k.invariant c.in_ok-values.values c.lay.new.out (c.loop-k.first + c.args.run.stride) c.in_ok-values.ensures (search rules) refl)
+values::run_values-returns-in_err-first g t c = next_fails (λ next. next ≡ c.loop-k.first + c.args.run.stride) (run_values c.args.work.now c.args.calls 0 c.args.run.count c.args.run.first c.args.run.stride c.args.each.turns c.args.each.iterated (value_at (nodes_of c.args.work.now) c.args.each.value) (env_of c.args.env.now) c.args.out) (run_values c.args.work.now c.args.calls (c.loop-k.k + 1) (c.args.run.count - (c.loop-k.k + 1)) (c.loop-k.first + c.args.run.stride) c.args.run.stride c.args.each.turns c.args.each.iterated (value_at (nodes_of c.args.work.now) c.args.each.value) (env_of c.args.env.now) c.lay.new.out) c.args.store.now c.given.new.store _ c.in_err-first.field-0.0 (search rules) c.in_err-first.ensures (run_step (run_values c.args.work.now c.args.calls 0 c.args.run.count c.args.run.first c.args.run.stride c.args.each.turns c.args.each.iterated (value_at (nodes_of c.args.work.now) c.args.each.value) (env_of c.args.env.now) c.args.out) c.args.store.now c.loop-k.store c.given.new.store c.args.work.now c.args.calls c.loop-k.k c.args.run.count c.loop-k.first c.args.run.stride c.args.each.turns c.args.each.iterated (value_at (nodes_of c.args.work.now) c.args.each.value) (env_of c.args.env.now) c.loop-k.cells (omega arith) c.loop-k.invariant c.in_ok-values.values c.lay.new.out (c.loop-k.first + c.args.run.stride) c.in_ok-values.ensures (search rules) refl)
 
 pub names::select_by_parts-returns-in-Some-Index : goal.names::select_by_parts-returns-in-Some-Index
 names::select_by_parts-returns-in-Some-Index g t c = index_as c.args.work.now c.args.calls (env_of c.args.env.now) c.args.store.now c.index.new.store c.in-Some-Index.at (expr_at (nodes_of c.args.work.now) c.in-Some-Index.value) c.in-Some-Index.low c.in-Some-Index.high _ _ c.in-Some-Index.stride (selections_at (nodes_of c.args.work.now) c.in-Some.cell.rest) (selections_at (nodes_of c.args.work.now) c.args.id) (part_of c.args.part) c.index.result c.index.ensures (search rules) (search rules) (search rules)

@@ -138,16 +138,22 @@ abbrev pub decreases-values::assign : goal.decreases-values::assign
 decreases-values::assign g l = per_call * l.calls + per_node * (max l.selections l.value) + 16 * per_step
 
 abbrev pub decreases-values::run_values : goal.decreases-values::run_values
-decreases-values::run_values g l = per_call * l.calls + per_node * l.value + 12 * per_step
+decreases-values::run_values g l = per_call * l.calls + per_node * l.each.value + 12 * per_step
 
 abbrev pub decreases-values::given : goal.decreases-values::given
-decreases-values::given g l = per_call * l.calls + per_node * l.value + 10 * per_step
+decreases-values::given g l = per_call * l.calls + per_node * l.each.value + 10 * per_step
+
+abbrev pub decreases-values::placed_value : goal.decreases-values::placed_value
+decreases-values::placed_value g l = per_call * l.calls + per_node * l.each.value + 9 * per_step
 
 abbrev pub decreases-values::runs_values : goal.decreases-values::runs_values
-decreases-values::runs_values g l = per_call * l.calls + per_node * l.value + 13 * per_step + 2 * l.runs
+decreases-values::runs_values g l = per_call * l.calls + per_node * l.each.value + 13 * per_step + 2 * l.runs
+
+abbrev pub decreases-values::association_values : goal.decreases-values::association_values
+decreases-values::association_values g l = per_call * l.calls + per_node * l.association.value + 14 * per_step + 2 * l.association.runs
 
 abbrev pub decreases-values::runs_rest : goal.decreases-values::runs_rest
-decreases-values::runs_rest g l = per_call * l.calls + per_node * l.value + 13 * per_step + 2 * l.runs + 1
+decreases-values::runs_rest g l = per_call * l.calls + per_node * l.each.value + 13 * per_step + 2 * l.runs + 1
 
 abbrev pub decreases-bodies::block : goal.decreases-bodies::block
 decreases-bodies::block g l = per_call * l.calls + per_node * (max l.decls (max l.stmts l.handlers)) + 20 * per_step + 2 * l.decls
@@ -245,8 +251,8 @@ invariant-loops::for_loop-loop-i g l = record {
 
 abbrev pub invariant-values::run_values-loop-k : goal.invariant-values::run_values-loop-k
 invariant-values::run_values-loop-k g l =
-    Goes g.P.Port.Tells (run_values l.work l.calls 0 l.run.count l.run.first l.run.stride l.iterated (value_at (nodes_of l.work) l.value) (env_of l.env) l.fn.out) l.fn.store
-    (run_values l.work l.calls l.k (l.run.count - l.k) l.first l.run.stride l.iterated (value_at (nodes_of l.work) l.value) (env_of l.env) l.cells) l.store
+    Goes g.P.Port.Tells (run_values l.work l.calls 0 l.run.count l.run.first l.run.stride l.each.turns l.each.iterated (value_at (nodes_of l.work) l.each.value) (env_of l.env) l.fn.out) l.fn.store
+    (run_values l.work l.calls l.k (l.run.count - l.k) l.first l.run.stride l.each.turns l.each.iterated (value_at (nodes_of l.work) l.each.value) (env_of l.env) l.cells) l.store
 
 -- ---- output and input
 

@@ -3,6 +3,7 @@ use Rattle.ada_meaning.proofs.Chained.{join_law}
 use Rattle.ada_meaning.proofs.Framed.{frame_law}
 use Rattle.ada_meaning.proofs.TeamsApart.{apart_law}
 use Rattle.ada_meaning.proofs.Plain.{plain_law}
+use Rattle.ada_meaning.proofs.Recorded.{done_law}
 use Rattle.ada_meaning.proofs.Views.{view_law}
 use Rattle.ada_meaning.proofs.StoredProof.{stored_law, noted_law, stopped_law, noted_stopped_law, journal_law, some_law, stored_sequential_law}
 
@@ -32,6 +33,9 @@ returns-clause-view c = view_law
 
 pub returns-clause-plain : goal.returns-clause-plain
 returns-clause-plain c = plain_law
+
+pub returns-clause-done : goal.returns-clause-done
+returns-clause-done c = done_law
 
 pub returns-clause-journal : goal.returns-clause-journal
 returns-clause-journal c = journal_law
